@@ -1,0 +1,12 @@
+pub mod Words
+pub mod Values
+pub mod Faults
+pub mod Grammar
+pub mod Machine
+pub mod Reading
+pub mod Line
+pub mod SaidBy
+pub mod Print
+pub mod Expand
+pub mod Valid
+pub mod Live

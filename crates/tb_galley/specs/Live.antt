@@ -1,0 +1,30 @@
+-- The items that the program serves so far.
+use Rattle.std.specs.Prelude.{Bool, true, false, IsTrue}
+use Rattle.std.specs.List.{list_all}
+use Rattle.tb_galley.specs.declared.ItemKind.{ItemKind}
+use Rattle.tb_galley.specs.declared.ItemKind.TheVariants as items
+use Rattle.tb_galley.specs.declared.Galley.{Galley}
+
+-- an item without footnotes, floats, marginal notes and changes of columns
+abbrev pub is_live_item : ItemKind → Bool
+is_live_item (items.Hbox name h d) = true
+is_live_item (items.Rule name h d) = true
+is_live_item (items.Skip g) = true
+is_live_item (items.Kern w) = true
+is_live_item (items.Penalty p) = true
+is_live_item (items.Mark name) = true
+is_live_item (items.Note name) = true
+is_live_item (items.Foot ls) = false
+is_live_item (items.Float f vert) = false
+is_live_item (items.Margin m vert) = false
+is_live_item items.NewPage = true
+is_live_item items.ClearPage = true
+is_live_item (items.PageBreak n) = true
+is_live_item (items.NoPageBreak n) = true
+is_live_item items.OneColumn = false
+is_live_item items.TwoColumn = false
+is_live_item (items.Suppress area) = false
+
+-- all items of the galley are of these kinds
+pub record HasLiveItems (g : Galley) : Type 0 where
+  pub live : IsTrue (list_all (λ n. is_live_item n.kind) g.items)

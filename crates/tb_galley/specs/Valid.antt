@@ -1,0 +1,99 @@
+-- Galleys whose values lie in their ranges.
+use Rattle.std.specs.Prelude.{ℕ, ◌+◌, ℤ, pos, neg_ℤ, Bool, true, false, ◌&&◌, ◌||◌, ◌==◌, nat_le, nat_lt, IsTrue, List, [], ◌∷◌, ◌++◌, length, Option, Some, None}
+use Rattle.std.specs.List.{list_all}
+use Rattle.tb_scaled.specs.Scaled.{max_dimen}
+use Rattle.tb_node.specs.Names.{is_name, is_between}
+use Rattle.tb_node.specs.declared.Float.{Float}
+use Rattle.tb_node.specs.declared.Margin.{Margin}
+use Rattle.tb_param.specs.declared.Params.{Params}
+use Rattle.tb_param.specs.declared.ParamFault.{ParamFault}
+use Rattle.tb_param.specs.Fields.{value_of}
+use Rattle.tb_param.specs.Table.{rows, value_fault, is_within, is_dimen, is_glue}
+use Rattle.tb_galley.specs.declared.Leaf.{Leaf}
+use Rattle.tb_galley.specs.declared.LeafKind.{LeafKind}
+use Rattle.tb_galley.specs.declared.LeafKind.TheVariants as leaves
+use Rattle.tb_galley.specs.declared.Item.{Item}
+use Rattle.tb_galley.specs.declared.ItemKind.{ItemKind}
+use Rattle.tb_galley.specs.declared.ItemKind.TheVariants as items
+use Rattle.tb_galley.specs.declared.Galley.{Galley}
+
+-- a height or depth: from 0 to the greatest dimension
+abbrev pub is_size : ℤ → Bool
+is_size v = is_within (pos 0) max_dimen v
+
+abbrev pub is_no_fault : Option ParamFault → Bool
+is_no_fault None = true
+is_no_fault (Some e) = false
+
+-- each parameter lies in the range of its row
+unfoldable pub are_params : Params → Bool
+are_params p = list_all (λ r. is_no_fault (value_fault r.form (value_of r.field p))) rows
+
+abbrev pub is_leaf : LeafKind → Bool
+is_leaf (leaves.Hbox name h d) = is_name name && is_size h && is_size d
+is_leaf (leaves.Rule name h d) = is_name name && is_size h && is_size d
+is_leaf (leaves.Skip g) = is_glue g
+is_leaf (leaves.Kern w) = is_dimen w
+is_leaf (leaves.Penalty p) = is_within (neg_ℤ (pos 10000)) (pos 10000) p
+
+abbrev pub is_float : Float → Bool
+is_float f = is_name f.name && is_between 1 26 f.class && (f.places.h || f.places.t || f.places.b || f.places.p) && is_size f.height
+
+abbrev pub is_margin : Margin → Bool
+is_margin m = is_name m.name && is_size m.left_height && is_size m.left_depth && is_size m.right_height && is_size m.right_depth
+
+-- an item on its line; a float and a note have the line of their item
+abbrev pub is_item : ℕ → ItemKind → Bool
+is_item n (items.Hbox name h d) = is_name name && is_size h && is_size d
+is_item n (items.Rule name h d) = is_name name && is_size h && is_size d
+is_item n (items.Skip g) = is_glue g
+is_item n (items.Kern w) = is_dimen w
+is_item n (items.Penalty p) = is_within (neg_ℤ (pos 10000)) (pos 10000) p
+is_item n (items.Mark name) = is_name name
+is_item n (items.Note name) = is_name name
+is_item n (items.Foot ls) = list_all (λ l. is_leaf l.kind) ls
+is_item n (items.Float f vert) = (f.line == n) && is_float f
+is_item n (items.Margin m vert) = (m.line == n) && is_margin m
+is_item n items.NewPage = true
+is_item n items.ClearPage = true
+is_item n (items.PageBreak k) = nat_le k 4
+is_item n (items.NoPageBreak k) = nat_le k 4
+is_item n items.OneColumn = true
+is_item n items.TwoColumn = true
+is_item n (items.Suppress area) = true
+
+-- how many lines of items an item counts for
+abbrev pub weight_of : ItemKind → ℕ
+weight_of (items.Foot ls) = length ls + 2
+weight_of _ = 1
+
+abbrev pub weight : List Item → ℕ
+weight [] = 0
+weight (n ∷ ns) = weight_of n.kind + weight ns
+
+-- the lines that must rise: those of boxes, rules, floats and notes, and of what stands in feet
+abbrev pub leaf_lines : List Leaf → List ℕ
+leaf_lines [] = []
+leaf_lines (l ∷ ls) = l.line ∷ leaf_lines ls
+
+abbrev pub lines_of_item : ℕ → ItemKind → List ℕ
+lines_of_item n (items.Hbox name h d) = n ∷ []
+lines_of_item n (items.Rule name h d) = n ∷ []
+lines_of_item n (items.Foot ls) = leaf_lines ls
+lines_of_item n (items.Float f vert) = n ∷ []
+lines_of_item n (items.Margin m vert) = n ∷ []
+lines_of_item n _ = []
+
+abbrev pub named_lines : List Item → List ℕ
+named_lines [] = []
+named_lines (n ∷ ns) = lines_of_item n.line n.kind ++ named_lines ns
+
+abbrev pub rise_from : ℕ → List ℕ → Bool
+rise_from n [] = true
+rise_from n (m ∷ ms) = nat_lt n m && rise_from m ms
+
+pub record IsValid (g : Galley) : Type 0 where
+  pub params : IsTrue (are_params g.params)
+  pub items : IsTrue (list_all (λ n. is_item n.line n.kind) g.items)
+  pub count : IsTrue (nat_le (weight g.items) 100000)
+  pub lines : IsTrue (rise_from 0 (named_lines g.items ++ g.end_line ∷ []))

@@ -1,0 +1,4 @@
+mod Rows
+pub mod AddLemmas
+pub mod NameMade
+pub mod Weights

@@ -1,0 +1,9 @@
+pub mod NameField
+pub mod NodeView
+pub mod Shape
+pub mod Plain
+pub mod Sums
+pub mod Names
+pub mod Add
+pub mod Small
+pub mod Fit

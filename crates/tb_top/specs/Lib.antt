@@ -1,0 +1,5 @@
+pub mod Run
+pub mod Report
+pub mod Generate
+pub mod Laws
+pub mod Paginated
