@@ -3,3 +3,5 @@ pub mod Report
 pub mod Generate
 pub mod Laws
 pub mod Paginated
+pub mod Search
+pub mod PlainRun
