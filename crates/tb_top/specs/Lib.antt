@@ -3,3 +3,4 @@ pub mod Report
 pub mod Generate
 pub mod Laws
 pub mod Paginated
+pub mod Firings
