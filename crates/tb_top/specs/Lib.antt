@@ -5,3 +5,4 @@ pub mod Laws
 pub mod Paginated
 pub mod Search
 pub mod PlainRun
+pub mod Firings

@@ -1,6 +1,10 @@
 //! From a galley to its report.
 #![tactic(auto)]
 
+mod laws;
+
+pub use laws::runs_are_defined;
+
 /// What `paginate` writes of a run: its report, or nothing.
 #[derive(Clone, Copy, Debug, PartialEq, Eq)]
 pub enum View {
