@@ -1,12 +1,11 @@
-//! The lines of a column's head, of warnings and of the end.
+//! The line of a column.
 ghost use Rattle.std.specs.Prelude.{◌≡◌, ◌++◌, ◌∷◌, [], ℤ, pos, codes, OnOk};
 ghost use Rattle.std.specs.Fmt.{signed_decimal};
-ghost use Rattle.tb_report.specs.Lines.{and_number, and_count, and_text, line, order_text, ratio_text, sign_text, over_text, set_text, kind_text, warn_line};
+ghost use Rattle.tb_report.specs.Lines.{and_number, and_count, and_text, line, order_text, ratio_text, sign_text, over_text, set_text, kind_text};
 
-use crate::writing::{end_line, put, put_amount, put_count, put_field, put_line, put_measure, put_named, put_text, put_total};
+use crate::writing::{end_line, put, put_amount, put_measure, put_text, put_total};
 use std::alloc::AllocError;
-use tb_column::{ColumnKind, Warn};
-use tb_node::Name;
+use tb_column::ColumnKind;
 use tb_pack::{Set, Sign};
 use tb_scaled::Order;
 use tb_text::put_number;
@@ -99,33 +98,4 @@ fn put_head(out: &mut Vec<u8>, number: u64, kind: ColumnKind, set: &Set) -> Resu
     put_total(out, b"column", number)?;
     put_text(out, kind_text(kind))?;
     end_column(out, set)
-}
-
-// A line of a word, a name and an amount.
-fn put_by(out: &mut Vec<u8>, word: &[u8], name: &Name, by: i64) -> Result<(), AllocError>
-    ensures { OnOk result (out.new.items ≡ out.old.items ++ line (word.now ++ name.now ++ and_number by)) }
-{
-    put_named(out, word, name.as_bytes())?;
-    put_amount(out, by)?;
-    end_line(out)
-}
-
-// A line of a word and a count.
-fn put_number_line(out: &mut Vec<u8>, word: &[u8], count: u64) -> Result<(), AllocError>
-    ensures { OnOk result (out.new.items ≡ out.old.items ++ line (word.now ++ and_count count)) }
-{
-    put_total(out, word, count)?;
-    end_line(out)
-}
-
-/// Writes the line of a warning.
-pub(crate) fn put_warning(out: &mut Vec<u8>, warning: &Warn) -> Result<(), AllocError>
-    ensures { OnOk result (out.new.items ≡ out.old.items ++ warn_line warning.now) }
-{
-    match warning {
-        Warn::Large { name, by } => put_by(out, b"warn large ", name, *by),
-        Warn::Ht { name } => put_line(out, b"warn ht ", name.as_bytes()),
-        Warn::Moved { name, shift } => put_by(out, b"warn moved ", name, *shift),
-        Warn::Floats { page } => put_number_line(out, b"warn floats", *page),
-    }
 }
