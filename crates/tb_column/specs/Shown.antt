@@ -1,6 +1,6 @@
 -- Columns, pages and events as the definitions see them, in a store that holds their lists.
 use Rattle.std.specs.Prelude.{ℕ, List, map}
-use Rattle.tb_pool.specs.Lists.{Lists, list_at}
+use Rattle.tb_pool.specs.Lists.{Lists, IsLive, list_at}
 use Rattle.tb_node.specs.declared.Node.{Node}
 use Rattle.tb_node.specs.Plain.{PlainNode, plain_of}
 use Rattle.tb_column.specs.declared.Column.{Column}
@@ -28,3 +28,13 @@ sheet_shown store (sheets.Two tops at left right) = two (nodes_shown store tops)
 abbrev pub sent_shown : Lists Node → Sent → PlainSent
 sent_shown store (events.Warn w) = warned w
 sent_shown store (events.Ship page sheet) = shipped page (sheet_shown store sheet)
+
+-- all lists of a page are live, and of an event those of its page
+abbrev pub IsLiveSheet : Lists Node → Sheet → Type 0
+IsLiveSheet store (sheets.One c) = IsLive store c.list
+IsLiveSheet store (sheets.Wide c) = IsLive store c.list
+IsLiveSheet store (sheets.Two tops at left right) = IsLive store tops × IsLive store left.list × IsLive store right.list
+
+abbrev pub IsLiveSent : Lists Node → Sent → Type 0
+IsLiveSent store (events.Warn w) = Unit {0}
+IsLiveSent store (events.Ship page sheet) = IsLiveSheet store sheet
