@@ -2,6 +2,7 @@
 #![tactic(auto)]
 
 mod laws;
+mod search;
 
 pub use laws::runs_are_defined;
 
