@@ -1,5 +1,5 @@
 -- Counts over a list that is joined of two.
-use Rattle.std.proofs.Common.{◌≡◌, refl, ◌∙◌, ap, sym, ℕ, ◌+◌, Bool, List, [], ◌∷◌, ◌++◌, add_assoc, zero-add}
+use Rattle.std.proofs.Common.{◌≡◌, ◌∙◌, ap, sym, ◌+◌, Bool, List, [], ◌∷◌, ◌++◌, add_assoc, zero-add}
 use Rattle.tb_node.specs.Plain.{PlainKind, PlainNode}
 use Rattle.tb_report.specs.Totals.{one_if, count_kinds, is_item_box, is_float_box}
 
