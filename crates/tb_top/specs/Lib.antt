@@ -6,3 +6,5 @@ pub mod Paginated
 pub mod Search
 pub mod PlainRun
 pub mod Firings
+pub mod PlainNodes
+pub mod Turning

@@ -2,6 +2,9 @@
 #![tactic(auto)]
 
 mod laws;
+mod limits;
+mod page_lists;
+mod routine;
 mod search;
 
 pub use laws::runs_are_defined;
