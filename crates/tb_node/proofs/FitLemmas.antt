@@ -1,11 +1,10 @@
 -- Lists of at most 2^23 nodes, each amount of which is in the range of its kind, have sums that fit.
-use Rattle.std.proofs.Common.{◌≡◌, refl, ◌∙◌, ap, sym, subst, ℕ, suc, ◌*◌, ◌≤◌, ◌<◌, ℤ, pos, neg_ℤ, ◌+ℤ◌, ◌-ℤ◌, ◌≤ℤ◌, List, [], ◌∷◌, ◌++◌, length, map, length-append, arith}
+use Rattle.std.proofs.Common.{◌≡◌, ap, sym, subst, ℕ, suc, ◌*◌, ◌≤◌, ℤ, pos, neg_ℤ, ◌+ℤ◌, ◌-ℤ◌, ◌≤ℤ◌, List, [], ◌∷◌, ◌++◌, length, map, length-append, append-nil, arith}
 use Rattle.std.specs.Prelude.{All}
 use Rattle.std.proofs.lemmas.Int.{ints}
 use Rattle.std.proofs.lemmas.List.{length-map}
 use Rattle.std.proofs.lemmas.List.Elements.{All-nil, All-cons, All-head, All-tail, All-map}
 use Rattle.tb_pool.specs.Lists.{Lists, list_at}
-use Rattle.tb_scaled.specs.declared.Glue.{Glue}
 use Rattle.tb_scaled.specs.declared.Order.{Order}
 use Rattle.tb_scaled.specs.declared.Order.TheVariants.{Normal, Fil, Fill, Filll}
 use Rattle.tb_scaled.specs.Scaled.{min_ℤ}
@@ -160,3 +159,7 @@ pub list_sums_fit : (store : Lists Node) (l : ℕ) (limit : ℤ) → pos 0 ≤�
 list_sums_fit store l limit low h few = sums_fit limit (shapes store l) low (summable (list_at store l) h few)
 
 pub ruleset list_fits = (list_nodes_fit, list_sums_fit)
+
+-- the sums of the whole of a list are those of a prefix
+pub whole_fits : (limit : ℤ) (ns : List Shape) → SumsFit limit ns → IsSmall (sums_of limit ns)
+whole_fits limit ns h = h ns [] (append-nil ns)

@@ -1,5 +1,5 @@
 -- A walk of a list that adds it up.
-use Rattle.std.proofs.Common.{◌≡◌, refl, ◌∙◌, ap, sym, subst, ℕ, ℤ, pos, ◌-ℤ◌, ◌≤ℤ◌, List, [], ◌∷◌, ◌++◌, append_assoc, append-nil, arith}
+use Rattle.std.proofs.Common.{◌≡◌, refl, ◌∙◌, ap, sym, subst, ℤ, pos, ◌-ℤ◌, ◌≤ℤ◌, List, [], ◌∷◌, ◌++◌, append_assoc, append-nil, arith}
 use Rattle.std.proofs.lemmas.Int.{ints}
 use Rattle.tb_scaled.specs.Scaled.{min_ℤ}
 use Rattle.tb_node.specs.declared.Sums.{Sums}

@@ -86,7 +86,9 @@ fn are_name_bytes(bytes: &[u8]) -> bool
 fn is_alphanumeric(byte: u8) -> bool
     ensures { result ≡ is_alphanumeric byte }
 {
-    (b'0' <= byte && byte <= b'9') || (b'A' <= byte && byte <= b'Z') || (b'a' <= byte && byte <= b'z')
+    (b'0' <= byte && byte <= b'9')
+        || (b'A' <= byte && byte <= b'Z')
+        || (b'a' <= byte && byte <= b'z')
 }
 
 fn is_name_byte(byte: u8) -> bool

@@ -1,9 +1,6 @@
-use Rattle.std.proofs.Common.{◌≡◌, ◌∙◌, ap, map, FitsSigned, w64, rules}
+use Rattle.std.proofs.Common.{◌∙◌, FitsSigned, w64}
 use Rattle.std.proofs.lemmas.Int.{to_z-of_z}
-use Rattle.tb_node.specs.Plain.{shape_of}
-use Rattle.tb_node.specs.Fit.{shapes}
-use Rattle.tb_node.proofs.FitLemmas.{nodes_fit}
-use Rattle.tb_node.proofs.SumLemmas.{Summing, begins, so_far_fits, next_fits, goes_on, ends}
+use Rattle.tb_node.proofs.SumLemmas.{begins, so_far_fits, next_fits, goes_on, ends}
 use Rattle.tb_node.proofs.list_sums.Goals as goal
 
 pub loop-n-init : goal.loop-n-init
