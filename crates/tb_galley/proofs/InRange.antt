@@ -1,36 +1,33 @@
 -- What a line says lies in its ranges: the test of each field implies its range.
-use Rattle.std.proofs.Common.{◌≡◌, ℕ, ◌≤◌, ◌<◌, ◌+◌, ℤ, pos, negsuc, Bool, true, false, not, ◌||◌, ◌&&◌, ◌==◌, nat_lt, nat_le, nat_abs, min, List, [], ◌∷◌, Option, Some, None, Result, Ok, Err, IfOk, if◌then◌else◌, refl, ap, sym, subst, ◌∙◌, arith, IsTrue}
-use Rattle.std.specs.Prelude.{int_lt, bytes_eq, codes}
+use Rattle.std.proofs.Common.{◌≡◌, ℕ, ◌≤◌, ℤ, pos, negsuc, Bool, true, false, not, ◌||◌, ◌&&◌, ◌==◌, nat_lt, nat_le, nat_abs, List, [], ◌∷◌, Option, Some, None, Result, Ok, Err, IfOk, if◌then◌else◌, refl, arith}
+use Rattle.std.specs.Prelude.{int_lt, codes}
 use Rattle.std.specs.List.{list_all, list_any}
 use Rattle.std.proofs.lemmas.Bool.Decides.{nat_tests}
 use Rattle.std.proofs.lemmas.Int.{ints}
 use Rattle.tb_scaled.specs.declared.Order.{Order}
 use Rattle.tb_scaled.specs.declared.Order.TheVariants.{Normal}
-use Rattle.tb_scaled.specs.declared.Glue.{Glue}
-use Rattle.tb_scaled.specs.Scaled.{max_dimen}
 use Rattle.tb_node.specs.Names.{is_name, is_between}
 use Rattle.tb_node.specs.declared.Places.{Places}
 use Rattle.tb_node.specs.declared.Float.{Float}
 use Rattle.tb_node.specs.declared.Margin.{Margin}
 use Rattle.tb_text.specs.declared.TextFault.{TextFault}
 use Rattle.tb_text.specs.declared.TextFault.TheVariants.{BadNumber, BadUnit, Dimension}
-use Rattle.tb_text.specs.Numbers.{has_no_digit, has_unit, in_points, whole_of, is_scaled, NumberPart, number_part, integer_of, dimension_of, dimension_by, stretch_of, stretch_by, stretch_by_order, points_order, scaled_order, with_order, within_dimen, signed, fraction_of_field}
+use Rattle.tb_text.specs.Numbers.{has_no_digit, has_unit, in_points, whole_of, is_scaled, NumberPart, number_part, integer_of, dimension_of, dimension_by, stretch_by_order, points_order, scaled_order, with_order, within_dimen, signed, fraction_of_field}
 use Rattle.tb_param.specs.Table.{is_within, is_dimen, is_glue}
 use Rattle.tb_galley.specs.declared.Cause.{Cause}
 use Rattle.tb_galley.specs.declared.Cause.TheVariants as causes
 use Rattle.tb_galley.specs.declared.fields.At.{At}
-use Rattle.tb_galley.specs.Values.{Slot, name_slot, dimension_slot, least_slot, range_slot, stretch_slot, fraction_slot, word_slot, places_slot, slot_cause, cause_of_read, cause_unless, are_places, is_place_byte}
-use Rattle.tb_galley.specs.Grammar.{read_or, places_at, has_byte, glue_from}
-use Rattle.tb_galley.specs.Reading.{Left, ◌>>=◌, at_fault, settled, next_left, field_read, dimension_in, integer_in, stretch_in, fraction_in, name_left, dimension_left, stretch_left, least_left, range_left, choice_left, word_left, places_left, sized_left, float_left, margin_left, glue_left, stretch_part, plus_part, shrink_part, minus_part, minus_next, next_is_by, is_end, mapped, finished, end_left, fraction_left, value_left}
-use Rattle.tb_galley.specs.Valid.{is_size, is_leaf, is_float, is_margin, is_item}
+use Rattle.tb_galley.specs.Values.{Slot, name_slot, dimension_slot, least_slot, range_slot, stretch_slot, fraction_slot, places_slot, slot_cause, cause_of_read, cause_unless, are_places, is_place_byte}
+use Rattle.tb_galley.specs.Grammar.{read_or, places_at, has_byte}
+use Rattle.tb_galley.specs.Reading.{Left, ◌>>=◌, at_fault, settled, next_left, field_read, dimension_in, integer_in, stretch_in, fraction_in, name_left, dimension_left, stretch_left, least_left, range_left, choice_left, places_left, sized_left, float_left, margin_left, glue_left, stretch_part, plus_part, shrink_part, minus_part, minus_next, next_is_by, is_end, mapped, fraction_left, value_left}
+use Rattle.tb_galley.specs.Valid.{is_size, is_float, is_margin}
 use Rattle.tb_param.specs.declared.table.Form.{Form}
 use Rattle.tb_param.specs.declared.table.Form.TheVariants as forms
-use Rattle.tb_param.specs.declared.Value.{Value}
 use Rattle.tb_param.specs.declared.Value.TheVariants as values
 use Rattle.tb_param.specs.declared.Choice.TheVariants.{Flush, Ragged, On, Off}
 use Rattle.tb_param.specs.Table.{out_of_range}
 use Rattle.tb_param.specs.Ranges.{is_no_fault}
-use Rattle.tb_param.proofs.RangeLemmas.{fits, stays_in_range}
+use Rattle.tb_param.proofs.RangeLemmas.{fits}
 
 -- ---- what holds of each value that is read
 

@@ -1,5 +1,5 @@
 -- What a line says suits its word and its place, and lies in its ranges.
-use Rattle.std.proofs.Common.{◌≡◌, ℕ, ◌+◌, Bool, true, false, ◌&&◌, ◌||◌, ◌==◌, nat_lt, nat_le, nat_abs, length, List, [], ◌∷◌, Option, Some, None, Result, Ok, Err, IfOk, if◌then◌else◌, refl, ap, sym, subst, ◌∙◌, ◌⊎◌, inl, inr, arith, pos, negsuc}
+use Rattle.std.proofs.Common.{◌≡◌, ℕ, Bool, true, false, ◌||◌, ◌==◌, nat_lt, nat_abs, length, List, [], ◌∷◌, Option, Some, None, Result, Ok, Err, IfOk, if◌then◌else◌, refl, subst, ◌⊎◌, inl, inr, arith, pos, negsuc}
 use Rattle.std.specs.Prelude.{bytes_eq, codes}
 use Rattle.std.specs.List.{list_all, list_any}
 use Rattle.std.proofs.lemmas.Bool.Decides.{nat_tests}
@@ -12,7 +12,6 @@ use Rattle.tb_param.specs.Ranges.{are_params}
 use Rattle.tb_param.specs.Fields.{with_value}
 use Rattle.tb_param.specs.Table.{Row, row_of, is_within, is_dimen, is_glue}
 use Rattle.tb_param.proofs.RangeLemmas.{fits, stays_in_range}
-use Rattle.tb_galley.specs.declared.Cause.{Cause}
 use Rattle.tb_galley.specs.declared.Cause.TheVariants as causes
 use Rattle.tb_galley.specs.declared.Content.{Content}
 use Rattle.tb_galley.specs.declared.Content.TheVariants as contents
@@ -21,10 +20,10 @@ use Rattle.tb_galley.specs.declared.ItemKind.TheVariants as items
 use Rattle.tb_galley.specs.declared.LeafKind.{LeafKind}
 use Rattle.tb_galley.specs.declared.LeafKind.TheVariants as leaves
 use Rattle.tb_galley.specs.declared.fields.At.{At}
-use Rattle.tb_galley.specs.Words.{LineWord, header, setting, hbox, rule, skip, kern, penalty, mark, note, foot, endfoot, float, margin, newpage, clearpage, pagebreak, nopagebreak, onecolumn, twocolumn, suppressfloats, end, Phase, Line, line_at, content_at, Spelled, line_words, word_in, word_of, first_field, other_fields, is_leaf_word}
+use Rattle.tb_galley.specs.Words.{LineWord, header, setting, hbox, rule, skip, kern, penalty, mark, note, foot, endfoot, float, margin, newpage, clearpage, pagebreak, nopagebreak, onecolumn, twocolumn, suppressfloats, end, Phase, Line, line_at, content_at, Spelled, line_words, word_in, word_of, is_leaf_word}
 use Rattle.tb_galley.specs.Faults.{is_printable, place_causes, item_causes, missing_cause}
 use Rattle.tb_galley.specs.Grammar.{item_kind}
-use Rattle.tb_galley.specs.Reading.{Left, ◌>>=◌, at_fault, settled, next_left, choice_left, word_left, name_left, dimension_left, range_left, sized_left, glue_left, float_left, margin_left, area_left, value_left, set_by, set_left, mapped, end_left, finished, content_left}
+use Rattle.tb_galley.specs.Reading.{Left, at_fault, settled, next_left, word_left, name_left, dimension_left, range_left, sized_left, glue_left, float_left, margin_left, area_left, value_left, set_by, set_left, mapped, end_left, finished, content_left}
 use Rattle.tb_galley.specs.Line.{first_of, Said, said, worded_left, content_line, content_lines, line_left}
 use Rattle.tb_galley.specs.Valid.{is_leaf, is_item, weight_of, lines_of_item}
 use Rattle.tb_galley.specs.Live.{is_live_item}
