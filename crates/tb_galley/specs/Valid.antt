@@ -5,7 +5,7 @@ use Rattle.tb_scaled.specs.Scaled.{max_dimen}
 use Rattle.tb_node.specs.Names.{is_name, is_between}
 use Rattle.tb_node.specs.declared.Float.{Float}
 use Rattle.tb_node.specs.declared.Margin.{Margin}
-pub use Rattle.tb_param.specs.Ranges.{are_params}
+unfoldable pub use Rattle.tb_param.specs.Ranges.{are_params}
 use Rattle.tb_param.specs.Table.{is_within, is_dimen, is_glue}
 use Rattle.tb_galley.specs.declared.Leaf.{Leaf}
 use Rattle.tb_galley.specs.declared.LeafKind.{LeafKind}
