@@ -89,13 +89,13 @@ module _ (held : ℕ → List Node) where
       → Printing s ns w' old now' rest
   goes_on s ns w w' old now now' n rest p at at_top written passes =
       let wrote : now' ≡ now ++ matter_line (matter_of n.kind) (top_after s (map shape_of p.before)) =
-          written ∙ ap (λ t. now ++ matter_line (matter_of n.kind) t) (at_top s (map shape_of p.before) p.passed) in
+      written ∙ ap (λ t. now ++ matter_line (matter_of n.kind) t) (at_top s (map shape_of p.before) p.passed) in
       let passed : HasPassed w' s (map shape_of p.before ++ shape_of n ∷ []) = passes s (map shape_of p.before) p.passed in
       let plains = map (plain_of held) p.before in
       let left = map (plain_of held) rest in
       let top : top_after s (map node_shape plains) ≡ top_after s (map shape_of p.before) = ap (top_after s) (shapes-held p.before) in
       let its_line : node_line (plain_kind held n.kind) (top_after s (map node_shape plains)) ≡ matter_line (matter_of n.kind) (top_after s (map shape_of p.before)) =
-          node_line-held n.kind (top_after s (map node_shape plains)) ∙ ap (matter_line (matter_of n.kind)) top in
+      node_line-held n.kind (top_after s (map node_shape plains)) ∙ ap (matter_line (matter_of n.kind)) top in
       record {
         before = p.before ++ n ∷ [];
         whole = append_assoc p.before (n ∷ []) rest ∙ p.whole;

@@ -52,7 +52,12 @@ impl Totals {
         match sheet {
             Sheet::One(column) => self.count_list(store, column.list),
             Sheet::Wide(column) => self.count_list(store, column.list),
-            Sheet::Two { tops, left, right, .. } => {
+            Sheet::Two {
+                tops,
+                left,
+                right,
+                ..
+            } => {
                 self.count_list(store, *tops);
                 self.count_list(store, left.list);
                 self.count_list(store, right.list);
@@ -90,7 +95,10 @@ fn is_item_box(node: &Node) -> bool
     ensures { result ≡ is_item_box (plain (matter_of node.now.kind)) }
 {
     match &node.kind {
-        Kind::Hbox { what: What::Text(_), .. } => true,
+        Kind::Hbox {
+            what: What::Text(_),
+            ..
+        } => true,
         Kind::Rule { name: Some(_), .. } => true,
         _ => false,
     }
@@ -100,7 +108,10 @@ fn is_float_box(node: &Node) -> bool
     ensures { result ≡ is_float_box (plain (matter_of node.now.kind)) }
 {
     match &node.kind {
-        Kind::Hbox { what: What::Float { .. }, .. } => true,
+        Kind::Hbox {
+            what: What::Float { .. },
+            ..
+        } => true,
         _ => false,
     }
 }

@@ -60,7 +60,12 @@ fn end_totals(out: &mut Vec<u8>, t: &Totals) -> Result<(), AllocError>
 /// the line of the totals.
 ///
 /// It fails only where there is no memory for the text.
-pub fn end_text(alloc: Global, store: &Lists<Node>, left: ListId, t: &Totals) -> Result<Vec<u8>, AllocError>
+pub fn end_text(
+    alloc: Global,
+    store: &Lists<Node>,
+    left: ListId,
+    t: &Totals,
+) -> Result<Vec<u8>, AllocError>
     requires { IsLive store.now left }
     ensures { IfOk result (λ text. text.items ≡ end_lines (nodes_shown store.now left) t.now) }
 {

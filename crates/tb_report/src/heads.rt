@@ -92,7 +92,12 @@ fn end_natural(out: &mut Vec<u8>, set: &Set) -> Result<(), AllocError>
 }
 
 // The line of a column, which is the first or the second of its page.
-pub(crate) fn put_head(out: &mut Vec<u8>, number: u64, kind: ColumnKind, set: &Set) -> Result<(), AllocError>
+pub(crate) fn put_head(
+    out: &mut Vec<u8>,
+    number: u64,
+    kind: ColumnKind,
+    set: &Set,
+) -> Result<(), AllocError>
     ensures { OnOk result (out.new.items ≡ out.old.items ++ line (codes "column" ++ and_count number ++ and_text (kind_text kind) ++ codes " height" ++ and_number set.now.height ++ codes " natural" ++ and_number set.now.natural ++ codes " set " ++ set_text set.now)) }
 {
     put_total(out, b"column", number)?;

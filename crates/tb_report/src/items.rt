@@ -55,7 +55,13 @@ fn end_sizes(out: &mut Vec<u8>, height: i64, depth: i64) -> Result<(), AllocErro
 }
 
 // A line of a text, a top, a height and a depth.
-fn put_sized(out: &mut Vec<u8>, text: &[u8], top: i128, height: i64, depth: i64) -> Result<(), AllocError>
+fn put_sized(
+    out: &mut Vec<u8>,
+    text: &[u8],
+    top: i128,
+    height: i64,
+    depth: i64,
+) -> Result<(), AllocError>
     ensures { OnOk result (out.new.items ≡ out.old.items ++ line (text.now ++ and_number top ++ and_number height ++ and_number depth)) }
 {
     put(out, text)?;
@@ -63,14 +69,28 @@ fn put_sized(out: &mut Vec<u8>, text: &[u8], top: i128, height: i64, depth: i64)
 }
 
 // The line of a box or a rule that came from an item.
-fn put_item(out: &mut Vec<u8>, word: &[u8], name: &Name, top: i128, height: i64, depth: i64) -> Result<(), AllocError>
+fn put_item(
+    out: &mut Vec<u8>,
+    word: &[u8],
+    name: &Name,
+    top: i128,
+    height: i64,
+    depth: i64,
+) -> Result<(), AllocError>
     ensures { OnOk result (out.new.items ≡ out.old.items ++ line (word.now ++ name.now ++ and_number top ++ and_number height ++ and_number depth)) }
 {
     put_named(out, word, name.as_bytes())?;
     end_box(out, top, height, depth)
 }
 
-fn put_float(out: &mut Vec<u8>, name: &Name, class: u8, place: Where, top: i128, height: i64) -> Result<(), AllocError>
+fn put_float(
+    out: &mut Vec<u8>,
+    name: &Name,
+    class: u8,
+    place: Where,
+    top: i128,
+    height: i64,
+) -> Result<(), AllocError>
     ensures { OnOk result (out.new.items ≡ out.old.items ++ line (codes "float " ++ name.now ++ and_count class ++ and_text (where_text place) ++ and_number top ++ and_number height)) }
 {
     put_named(out, b"float ", name.as_bytes())?;
@@ -89,7 +109,13 @@ fn put_place(out: &mut Vec<u8>, place: Where, top: i128, height: i64) -> Result<
 }
 
 // A word, the name of a marginal note, its side and by how much it is moved.
-fn put_moved(out: &mut Vec<u8>, word: &[u8], name: &Name, side: Side, shift: i64) -> Result<(), AllocError>
+fn put_moved(
+    out: &mut Vec<u8>,
+    word: &[u8],
+    name: &Name,
+    side: Side,
+    shift: i64,
+) -> Result<(), AllocError>
     ensures { OnOk result (out.new.items ≡ out.old.items ++ (word.now ++ name.now ++ and_text (side_text side) ++ and_number shift)) }
 {
     put_named(out, word, name.as_bytes())?;
@@ -98,7 +124,16 @@ fn put_moved(out: &mut Vec<u8>, word: &[u8], name: &Name, side: Side, shift: i64
 }
 
 // The line of a marginal note's box, after this word.
-fn put_noted(out: &mut Vec<u8>, word: &[u8], name: &Name, side: Side, shift: i64, top: i128, height: i64, depth: i64) -> Result<(), AllocError>
+fn put_noted(
+    out: &mut Vec<u8>,
+    word: &[u8],
+    name: &Name,
+    side: Side,
+    shift: i64,
+    top: i128,
+    height: i64,
+    depth: i64,
+) -> Result<(), AllocError>
     ensures { OnOk result (out.new.items ≡ out.old.items ++ line (word.now ++ name.now ++ and_text (side_text side) ++ and_number shift ++ and_number top ++ and_number height ++ and_number depth)) }
 {
     put_moved(out, word, name, side, shift)?;
@@ -113,18 +148,42 @@ fn put_at(out: &mut Vec<u8>, word: &[u8], name: &Name, top: i128) -> Result<(), 
     end_at(out, top)
 }
 
-fn put_box(out: &mut Vec<u8>, what: &What, top: i128, height: i64, depth: i64) -> Result<(), AllocError>
+fn put_box(
+    out: &mut Vec<u8>,
+    what: &What,
+    top: i128,
+    height: i64,
+    depth: i64,
+) -> Result<(), AllocError>
     ensures { OnOk result (out.new.items ≡ out.old.items ++ box_line what.now top height depth) }
 {
     match what {
         What::Text(name) => put_item(out, b"box ", name, top, height, depth),
         What::Blank => Ok(()),
-        What::Float { name, class, place, .. } => put_float(out, name, *class, *place, top, height),
-        What::Margin { name, side, shift, height, depth, .. } => put_noted(out, b"margin ", name, *side, *shift, top, *height, *depth),
+        What::Float {
+            name,
+            class,
+            place,
+            ..
+        } => put_float(out, name, *class, *place, top, height),
+        What::Margin {
+            name,
+            side,
+            shift,
+            height,
+            depth,
+            ..
+        } => put_noted(out, b"margin ", name, *side, *shift, top, *height, *depth),
     }
 }
 
-fn put_rule(out: &mut Vec<u8>, name: &Option<Name>, top: i128, height: i64, depth: i64) -> Result<(), AllocError>
+fn put_rule(
+    out: &mut Vec<u8>,
+    name: &Option<Name>,
+    top: i128,
+    height: i64,
+    depth: i64,
+) -> Result<(), AllocError>
     ensures { OnOk result (out.new.items ≡ out.old.items ++ rule_line name.now top height depth) }
 {
     match name {
@@ -138,8 +197,16 @@ pub(crate) fn put_node(out: &mut Vec<u8>, node: &Node, top: i128) -> Result<(), 
     ensures { OnOk result (out.new.items ≡ out.old.items ++ matter_line (matter_of node.now.kind) top) }
 {
     match &node.kind {
-        Kind::Hbox { what, height, depth } => put_box(out, what, top, *height, *depth),
-        Kind::Rule { name, height, depth } => put_rule(out, name, top, *height, *depth),
+        Kind::Hbox {
+            what,
+            height,
+            depth,
+        } => put_box(out, what, top, *height, *depth),
+        Kind::Rule {
+            name,
+            height,
+            depth,
+        } => put_rule(out, name, top, *height, *depth),
         Kind::Mark(name) => put_at(out, b"mark ", name, top),
         Kind::Note(name) => put_at(out, b"note ", name, top),
         Kind::Skip(_) => Ok(()),

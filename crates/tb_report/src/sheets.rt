@@ -19,7 +19,12 @@ use tb_pool::{ListId, Lists};
 use tb_scaled::Order;
 
 // The lines of a list's nodes, whose glue is set like this.
-fn put_items(out: &mut Vec<u8>, store: &Lists<Node>, list: ListId, set: Set) -> Result<(), AllocError>
+fn put_items(
+    out: &mut Vec<u8>,
+    store: &Lists<Node>,
+    list: ListId,
+    set: Set,
+) -> Result<(), AllocError>
     requires list { IsPrintableList store.now list }
     requires share { set.den ≢ pos 0 }
     ensures { OnOk result (out.new.items ≡ out.old.items ++ item_lines set [] (nodes_shown store.now list)) }
@@ -33,7 +38,12 @@ fn put_items(out: &mut Vec<u8>, store: &Lists<Node>, list: ListId, set: Set) -> 
 }
 
 // A column is the first or the second of its page.
-fn put_column(out: &mut Vec<u8>, store: &Lists<Node>, number: u64, column: &Column) -> Result<(), AllocError>
+fn put_column(
+    out: &mut Vec<u8>,
+    store: &Lists<Node>,
+    number: u64,
+    column: &Column,
+) -> Result<(), AllocError>
     requires { IsPrintable store.now column.now }
     ensures { OnOk result (out.new.items ≡ out.old.items ++ column_lines number (column_shown store.now column.now)) }
 {
@@ -75,7 +85,12 @@ fn put_pair(out: &mut Vec<u8>, page: u64, at: i64) -> Result<(), AllocError>
     end_line(out)
 }
 
-fn put_columns(out: &mut Vec<u8>, store: &Lists<Node>, left: &Column, right: &Column) -> Result<(), AllocError>
+fn put_columns(
+    out: &mut Vec<u8>,
+    store: &Lists<Node>,
+    left: &Column,
+    right: &Column,
+) -> Result<(), AllocError>
     requires left { IsPrintable store.now left.now }
     requires right { IsPrintable store.now right.now }
     ensures { OnOk result (out.new.items ≡ out.old.items ++ (column_lines 1 (column_shown store.now left.now) ++ column_lines 2 (column_shown store.now right.now))) }
@@ -84,7 +99,12 @@ fn put_columns(out: &mut Vec<u8>, store: &Lists<Node>, left: &Column, right: &Co
     put_column(out, store, 2, right)
 }
 
-fn put_sheet(out: &mut Vec<u8>, store: &Lists<Node>, page: u64, sheet: &Sheet) -> Result<(), AllocError>
+fn put_sheet(
+    out: &mut Vec<u8>,
+    store: &Lists<Node>,
+    page: u64,
+    sheet: &Sheet,
+) -> Result<(), AllocError>
     requires { IsPrintableSheet store.now sheet.now }
     ensures { OnOk result (out.new.items ≡ out.old.items ++ sheet_lines page (sheet_shown store.now sheet.now)) }
 {
@@ -97,7 +117,12 @@ fn put_sheet(out: &mut Vec<u8>, store: &Lists<Node>, page: u64, sheet: &Sheet) -
             put_page(out, page, b" wide")?;
             put_column(out, store, 1, column)
         }
-        Sheet::Two { tops, at, left, right } => {
+        Sheet::Two {
+            tops,
+            at,
+            left,
+            right,
+        } => {
             put_pair(out, page, *at)?;
             put_items(out, store, *tops, unset())?;
             put_columns(out, store, left, right)

@@ -13,6 +13,6 @@ returns c =
     let front = simp to_z-of_z at c.in_ok-put_field.ensures in
     let back = simp to_z-of_z at c.end_sizes.ensures in
     on_joined c.end_sizes.result c.args.out.now.items c.put_field.new.out.items c.end_sizes.new.out.items
-        (and_number c.args.top) (line (and_number c.args.height ++ and_number c.args.depth))
-        (line (and_number c.args.top ++ and_number c.args.height ++ and_number c.args.depth))
-        (simp append_assoc) front back
+    (and_number c.args.top) (line (and_number c.args.height ++ and_number c.args.depth))
+    (line (and_number c.args.top ++ and_number c.args.height ++ and_number c.args.depth))
+    (simp append_assoc) front back

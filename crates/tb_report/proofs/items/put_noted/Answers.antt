@@ -14,6 +14,6 @@ returns c =
     let front = simp to_z-of_z at c.in_ok-put_moved.ensures in
     let back = simp to_z-of_z at c.end_box.ensures in
     on_joined c.end_box.result c.args.out.now.items c.put_moved.new.out.items c.end_box.new.out.items
-        (c.args.word.now ++ c.args.name.now ++ and_text (side_text c.args.side) ++ and_number c.args.shift) (line (and_number c.args.top ++ and_number c.args.height ++ and_number c.args.depth))
-        (line (c.args.word.now ++ c.args.name.now ++ and_text (side_text c.args.side) ++ and_number c.args.shift ++ and_number c.args.top ++ and_number c.args.height ++ and_number c.args.depth))
-        (line-three (c.args.word.now ++ c.args.name.now ++ and_text (side_text c.args.side) ++ and_number c.args.shift) (and_number c.args.top) (and_number c.args.height) (and_number c.args.depth) (10 ∷ [])) front back
+    (c.args.word.now ++ c.args.name.now ++ and_text (side_text c.args.side) ++ and_number c.args.shift) (line (and_number c.args.top ++ and_number c.args.height ++ and_number c.args.depth))
+    (line (c.args.word.now ++ c.args.name.now ++ and_text (side_text c.args.side) ++ and_number c.args.shift ++ and_number c.args.top ++ and_number c.args.height ++ and_number c.args.depth))
+    (line-three (c.args.word.now ++ c.args.name.now ++ and_text (side_text c.args.side) ++ and_number c.args.shift) (and_number c.args.top) (and_number c.args.height) (and_number c.args.depth) (10 ∷ [])) front back

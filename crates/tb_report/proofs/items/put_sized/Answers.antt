@@ -12,6 +12,6 @@ returns c =
     let d : FitsSigned w64 c.args.depth = c.ranges.depth in
     let back = simp to_z-of_z at c.end_box.ensures in
     on_joined c.end_box.result c.args.out.now.items c.put.new.out.items c.end_box.new.out.items
-        c.args.text.now (line (and_number c.args.top ++ and_number c.args.height ++ and_number c.args.depth))
-        (line (c.args.text.now ++ and_number c.args.top ++ and_number c.args.height ++ and_number c.args.depth))
-        (line-three c.args.text.now (and_number c.args.top) (and_number c.args.height) (and_number c.args.depth) (10 ∷ [])) (search rules) back
+    c.args.text.now (line (and_number c.args.top ++ and_number c.args.height ++ and_number c.args.depth))
+    (line (c.args.text.now ++ and_number c.args.top ++ and_number c.args.height ++ and_number c.args.depth))
+    (line-three c.args.text.now (and_number c.args.top) (and_number c.args.height) (and_number c.args.depth) (10 ∷ [])) (search rules) back
