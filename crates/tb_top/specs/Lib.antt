@@ -3,3 +3,7 @@ pub mod Report
 pub mod Generate
 pub mod Laws
 pub mod Paginated
+pub mod Status
+pub mod Answer
+pub mod Outcome
+pub mod Refusal
