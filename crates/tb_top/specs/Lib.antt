@@ -7,3 +7,4 @@ pub mod Status
 pub mod Answer
 pub mod Outcome
 pub mod Refusal
+pub mod Rows

@@ -7,10 +7,12 @@
 mod input;
 mod paginate_stub;
 mod refusal;
+mod rows;
 mod status;
 mod top;
 
 pub use paginate_stub::paginate;
+pub use rows::check_rows;
 pub use status::Status;
 pub use tb_report::Totals;
 pub use top::run;
