@@ -9,6 +9,7 @@ mod laws;
 mod paginate_stub;
 mod refusal;
 mod rows;
+mod search;
 mod status;
 mod top;
 
