@@ -6,3 +6,4 @@ pub mod FindLemmas
 pub mod StoreLemmas
 pub mod PruneLemmas
 pub mod PlacesLemmas
+pub mod LegalLemmas

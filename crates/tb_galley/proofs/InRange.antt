@@ -1,40 +1,37 @@
 -- What a line says lies in its ranges: the test of each field implies its range.
-use Rattle.std.proofs.Common.{◌≡◌, ℕ, ◌≤◌, ◌<◌, ◌+◌, ℤ, pos, negsuc, Bool, true, false, not, ◌||◌, ◌&&◌, ◌==◌, nat_lt, nat_le, nat_abs, min, List, [], ◌∷◌, Option, Some, None, Result, Ok, Err, IfOk, if◌then◌else◌, refl, ap, sym, subst, ◌∙◌, arith, IsTrue}
-use Rattle.std.specs.Prelude.{int_lt, bytes_eq, codes}
+use Rattle.std.proofs.Common.{◌≡◌, ℕ, ◌≤◌, ℤ, pos, negsuc, Bool, true, false, not, ◌||◌, ◌&&◌, ◌==◌, nat_lt, nat_le, nat_abs, List, [], ◌∷◌, Option, Some, None, Result, Ok, Err, IfOk, if◌then◌else◌, refl, arith}
+use Rattle.std.specs.Prelude.{int_lt, codes}
 use Rattle.std.specs.List.{list_all, list_any}
 use Rattle.std.proofs.lemmas.Bool.Decides.{nat_tests}
 use Rattle.std.proofs.lemmas.Int.{ints}
 use Rattle.tb_scaled.specs.declared.Order.{Order}
 use Rattle.tb_scaled.specs.declared.Order.TheVariants.{Normal}
-use Rattle.tb_scaled.specs.declared.Glue.{Glue}
-use Rattle.tb_scaled.specs.Scaled.{max_dimen}
 use Rattle.tb_node.specs.Names.{is_name, is_between}
 use Rattle.tb_node.specs.declared.Places.{Places}
 use Rattle.tb_node.specs.declared.Float.{Float}
 use Rattle.tb_node.specs.declared.Margin.{Margin}
 use Rattle.tb_text.specs.declared.TextFault.{TextFault}
 use Rattle.tb_text.specs.declared.TextFault.TheVariants.{BadNumber, BadUnit, Dimension}
-use Rattle.tb_text.specs.Numbers.{has_no_digit, has_unit, in_points, whole_of, is_scaled, NumberPart, number_part, integer_of, dimension_of, dimension_by, stretch_of, stretch_by, stretch_by_order, points_order, scaled_order, with_order, within_dimen, signed, fraction_of_field}
+use Rattle.tb_text.specs.Numbers.{has_no_digit, has_unit, in_points, whole_of, is_scaled, NumberPart, number_part, integer_of, dimension_of, dimension_by, stretch_by_order, points_order, scaled_order, with_order, within_dimen, signed, fraction_of_field}
 use Rattle.tb_param.specs.Table.{is_within, is_dimen, is_glue}
 use Rattle.tb_galley.specs.declared.Cause.{Cause}
 use Rattle.tb_galley.specs.declared.Cause.TheVariants as causes
 use Rattle.tb_galley.specs.declared.fields.At.{At}
-use Rattle.tb_galley.specs.Values.{Slot, name_slot, dimension_slot, least_slot, range_slot, stretch_slot, fraction_slot, word_slot, places_slot, slot_cause, cause_of_read, cause_unless, are_places, is_place_byte}
-use Rattle.tb_galley.specs.Grammar.{read_or, places_at, has_byte, glue_from}
-use Rattle.tb_galley.specs.Reading.{Left, ◌>>=◌, at_fault, settled, next_left, field_read, dimension_in, integer_in, stretch_in, fraction_in, name_left, dimension_left, stretch_left, least_left, range_left, choice_left, word_left, places_left, sized_left, float_left, margin_left, glue_left, stretch_part, plus_part, shrink_part, minus_part, minus_next, next_is_by, is_end, mapped, finished, end_left, fraction_left, value_left}
-use Rattle.tb_galley.specs.Valid.{is_size, is_leaf, is_float, is_margin, is_item}
+use Rattle.tb_galley.specs.Values.{Slot, name_slot, dimension_slot, least_slot, range_slot, stretch_slot, fraction_slot, places_slot, slot_cause, cause_of_read, cause_unless, are_places, is_place_byte}
+use Rattle.tb_galley.specs.Grammar.{read_or, places_at, has_byte}
+use Rattle.tb_galley.specs.Reading.{Left, ◌>>=◌, at_fault, settled, next_left, field_read, dimension_in, integer_in, stretch_in, fraction_in, name_left, dimension_left, stretch_left, least_left, range_left, choice_left, places_left, sized_left, float_left, margin_left, glue_left, stretch_part, plus_part, shrink_part, minus_part, minus_next, next_is_by, is_end, mapped, fraction_left, value_left}
+use Rattle.tb_galley.specs.Valid.{is_size, is_float, is_margin}
 use Rattle.tb_param.specs.declared.table.Form.{Form}
 use Rattle.tb_param.specs.declared.table.Form.TheVariants as forms
-use Rattle.tb_param.specs.declared.Value.{Value}
 use Rattle.tb_param.specs.declared.Value.TheVariants as values
 use Rattle.tb_param.specs.declared.Choice.TheVariants.{Flush, Ragged, On, Off}
 use Rattle.tb_param.specs.Table.{out_of_range}
 use Rattle.tb_param.specs.Ranges.{is_no_fault}
-use Rattle.tb_param.proofs.RangeLemmas.{fits, stays_in_range}
+use Rattle.tb_param.proofs.RangeLemmas.{fits}
 
 -- ---- what holds of each value that is read
 
-bind_has : {A B : Type 0} (P : B → Type 0) (r : Result A At) (k : A → Result B At) → ((x : A) → IfOk (k x) P) → IfOk (r >>= k) P
+pub bind_has : {A B : Type 0} (P : B → Type 0) (r : Result A At) (k : A → Result B At) → ((x : A) → IfOk (k x) P) → IfOk (r >>= k) P
 bind_has P (Ok x) k h = h x
 bind_has P (Err e) k h = tt
 
@@ -50,19 +47,19 @@ left_of : (a b : Bool) → (a && b) ≡ true → a ≡ true
 left_of true b h = refl
 left_of false b h = h
 
-then_has : {A B : Type 0} (P : A → Type 0) (Q : B → Type 0) (r : Result A At) (k : A → Result B At) → IfOk r P → ((x : A) → P x → IfOk (k x) Q) → IfOk (r >>= k) Q
+pub then_has : {A B : Type 0} (P : A → Type 0) (Q : B → Type 0) (r : Result A At) (k : A → Result B At) → IfOk r P → ((x : A) → P x → IfOk (k x) Q) → IfOk (r >>= k) Q
 then_has P Q (Ok x) k h f = f x h
 then_has P Q (Err e) k h f = tt
 
-mapped_has : {X Y : Type 0} (P : Y → Type 0) (f : X → Y) (r : Result (X × Left) At) → IfOk r (λ x. P (f x.0)) → IfOk (mapped f r) (λ y. P y.0)
+pub mapped_has : {X Y : Type 0} (P : Y → Type 0) (f : X → Y) (r : Result (X × Left) At) → IfOk r (λ x. P (f x.0)) → IfOk (mapped f r) (λ y. P y.0)
 mapped_has P f (Ok x) h = h
 mapped_has P f (Err e) h = tt
 
-has_more : {X : Type 0} (P Q : X → Type 0) (r : Result X At) → ((x : X) → P x → Q x) → IfOk r P → IfOk r Q
+pub has_more : {X : Type 0} (P Q : X → Type 0) (r : Result X At) → ((x : X) → P x → Q x) → IfOk r P → IfOk r Q
 has_more P Q (Ok x) f h = f x h
 has_more P Q (Err e) f h = tt
 
-settled_has : {X : Type 0} (P : X → Type 0) (n : ℕ) (o : Option Cause) (x : X) → (o ≡ None → P x) → IfOk (settled n o x) P
+pub settled_has : {X : Type 0} (P : X → Type 0) (n : ℕ) (o : Option Cause) (x : X) → (o ≡ None → P x) → IfOk (settled n o x) P
 settled_has P n None x h = h refl
 settled_has P n (Some c) x h = tt
 
@@ -130,15 +127,15 @@ stretch_dimen f =
 
 -- ---- fields, from the left
 
-always : {X : Type 0} {P : X → Type 0} → ((x : X) → P x) → (r : Result X At) → IfOk r P
+pub always : {X : Type 0} {P : X → Type 0} → ((x : X) → P x) → (r : Result X At) → IfOk r P
 always h (Ok x) = h x
 always h (Err e) = tt
 
-name_has : (l : Left) → IfOk (name_left l) (λ x. is_name x.0 ≡ true)
+pub name_has : (l : Left) → IfOk (name_left l) (λ x. is_name x.0 ≡ true)
 unfolding name_left
 name_has l = field_has (λ f. is_name f ≡ true) name_slot (λ f. f) (λ f h. unless_none (is_name f) causes.BadName h) l
 
-dimension_has : (l : Left) → IfOk (dimension_left l) (λ x. is_dimen x.0 ≡ true)
+pub dimension_has : (l : Left) → IfOk (dimension_left l) (λ x. is_dimen x.0 ≡ true)
 unfolding dimension_left
 dimension_has l = field_has (λ v. is_dimen v ≡ true) dimension_slot dimension_in (λ f h. dimension_dimen f) l
 
@@ -155,7 +152,7 @@ least_has low c l =
     field_has (λ v. is_within low (pos 1073741823) v ≡ true) (least_slot low c) dimension_in
         (λ f h. least_dimen low (dimension_in f) (read_none (pos 0) (λ v. not (int_lt v low)) c (dimension_of f) h) (dimension_dimen f)) l
 
-range_has : (low high : ℤ) (c : Cause) (l : Left) → IfOk (range_left low high c l) (λ x. is_within low high x.0 ≡ true)
+pub range_has : (low high : ℤ) (c : Cause) (l : Left) → IfOk (range_left low high c l) (λ x. is_within low high x.0 ≡ true)
 unfolding range_left
 range_has low high c l =
     field_has (λ v. is_within low high v ≡ true) (range_slot low high c) integer_in
@@ -217,7 +214,7 @@ minus_has : (c : Cause) (l : Left) (t : Bool) → IfOk (minus_part c l t) (λ x.
 minus_has c l true = refl
 minus_has c l false = minus_next_has c l (next_is_by (codes "minus") l.fields)
 
-glue_has : (c : Cause) (l : Left) → IfOk (glue_left c l) (λ x. is_glue x.0 ≡ true)
+pub glue_has : (c : Cause) (l : Left) → IfOk (glue_left c l) (λ x. is_glue x.0 ≡ true)
 unfolding glue_left stretch_part shrink_part
 glue_has c l =
     then_has (λ w. is_dimen w.0 ≡ true) (λ x. is_glue x.0 ≡ true) (dimension_left l) _ (dimension_has l)
@@ -225,10 +222,10 @@ glue_has c l =
     (λ s in_s. then_has (λ z. is_dimen z.0 ≡ true) (λ x. is_glue x.0 ≡ true) (minus_part c s.1 (is_end s.1.fields)) _ (minus_has c s.1 (is_end s.1.fields))
     (λ z in_z. glue_dimens w.0 s.0.0 z.0 in_w in_s in_z)))
 
-abbrev is_sized : List ℕ × ℤ × ℤ → Bool
+abbrev pub is_sized : List ℕ × ℤ × ℤ → Bool
 is_sized s = is_name s.0 && is_size s.1 && is_size s.2
 
-sized_has : (l : Left) → IfOk (sized_left l) (λ x. is_sized x.0 ≡ true)
+pub sized_has : (l : Left) → IfOk (sized_left l) (λ x. is_sized x.0 ≡ true)
 unfolding sized_left
 sized_has l =
     then_has (λ n. is_name n.0 ≡ true) (λ x. is_sized x.0 ≡ true) (name_left l) _ (name_has l)
@@ -242,17 +239,17 @@ class_between : (v : ℤ) → is_within (pos 1) (pos 26) v ≡ true → is_betwe
 class_between (pos n) h = grind (arith, nat_tests)
 class_between (negsuc n) h = cc
 
-degree_at_most : (v : ℤ) → is_within (pos 0) (pos 4) v ≡ true → nat_le (nat_abs v) 4 ≡ true
+pub degree_at_most : (v : ℤ) → is_within (pos 0) (pos 4) v ≡ true → nat_le (nat_abs v) 4 ≡ true
 degree_at_most (pos n) h = grind (arith, nat_tests)
 degree_at_most (negsuc n) h = cc
 
 same_number : (n : ℕ) → (n == n) ≡ true
 same_number n = grind (arith, nat_tests)
 
-abbrev is_float_at : ℕ → Float × Bool → Bool
+abbrev pub is_float_at : ℕ → Float × Bool → Bool
 is_float_at line f = (f.0.line == line) && is_float f.0
 
-float_has : (line : ℕ) (l : Left) → IfOk (float_left line l) (λ x. is_float_at line x.0 ≡ true)
+pub float_has : (line : ℕ) (l : Left) → IfOk (float_left line l) (λ x. is_float_at line x.0 ≡ true)
 unfolding float_left
 float_has line l =
     then_has (λ n. is_name n.0 ≡ true) (λ x. is_float_at line x.0 ≡ true) (name_left l) _ (name_has l)
@@ -265,10 +262,10 @@ float_has line l =
         (both (is_name n.0 && is_between 1 26 (nat_abs c.0) && has_place p.0.0) (is_size h.0)
             (both (is_name n.0 && is_between 1 26 (nat_abs c.0)) (has_place p.0.0) (both (is_name n.0) (is_between 1 26 (nat_abs c.0)) in_n (class_between c.0 in_c)) in_p) in_h)))))))
 
-abbrev is_margin_at : ℕ → Margin × Bool → Bool
+abbrev pub is_margin_at : ℕ → Margin × Bool → Bool
 is_margin_at line m = (m.0.line == line) && is_margin m.0
 
-margin_has : (line : ℕ) (l : Left) → IfOk (margin_left line l) (λ x. is_margin_at line x.0 ≡ true)
+pub margin_has : (line : ℕ) (l : Left) → IfOk (margin_left line l) (λ x. is_margin_at line x.0 ≡ true)
 unfolding margin_left
 margin_has line l =
     then_has (λ s. is_sized s.0 ≡ true) (λ x. is_margin_at line x.0 ≡ true) (sized_left l) _ (sized_has l)
@@ -291,7 +288,7 @@ switch_word : (b : Bool) → fits forms.Switch (values.Word (if b then On else O
 switch_word true = refl
 switch_word false = refl
 
-value_has : (form : Form) (l : Left) → IfOk (value_left form l) (λ x. fits form x.0 ≡ true)
+pub value_has : (form : Form) (l : Left) → IfOk (value_left form l) (λ x. fits form x.0 ≡ true)
 unfolding value_left
 value_has (forms.Int low high) l =
     mapped_has (λ v. fits (forms.Int low high) v ≡ true) (λ n. values.Int n) (range_left low high causes.Parameter l)

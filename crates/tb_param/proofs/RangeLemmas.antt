@@ -1,12 +1,12 @@
 -- Parameters stay in their ranges where one is set to a value in its row's range.
-use Rattle.std.proofs.Common.{◌≡◌, ℕ, zero, suc, ℤ, pos, negsuc, Bool, true, false, not, ◌&&◌, List, [], ◌∷◌, map, set, Option, Some, None, Result, Ok, Err, bytes_eq, if◌then◌else◌, refl, ap, subst, sym, ◌∙◌}
+use Rattle.std.proofs.Common.{◌≡◌, ℕ, zero, suc, ℤ, pos, negsuc, Bool, true, false, ◌&&◌, List, [], ◌∷◌, map, set, Option, Some, None, Ok, bytes_eq, if◌then◌else◌, refl, ap, subst, sym, ◌∙◌}
 use Rattle.tb_param.specs.declared.params.Params.{Params}
 use Rattle.tb_param.specs.declared.ParamFault.{ParamFault}
 use Rattle.tb_param.specs.declared.Value.{Value}
 use Rattle.tb_param.specs.declared.Value.TheVariants as kinds
 use Rattle.tb_param.specs.declared.table.Form.{Form}
 use Rattle.tb_param.specs.declared.table.Form.TheVariants as forms
-use Rattle.tb_param.specs.Fields.{value_of, with_value}
+use Rattle.tb_param.specs.Fields.{with_value}
 use Rattle.tb_param.specs.Values.{amount_of, glue_of, choice_of}
 use Rattle.tb_param.specs.Table.{Row, rows, row_in, row_of, value_fault, set_unless, set_by, set_to}
 use Rattle.tb_param.specs.Defaults.{default_params}

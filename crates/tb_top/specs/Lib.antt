@@ -8,3 +8,8 @@ pub mod PlainRun
 pub mod Firings
 pub mod PlainNodes
 pub mod Turning
+pub mod Status
+pub mod Answer
+pub mod Outcome
+pub mod Refusal
+pub mod Rows
