@@ -45,15 +45,20 @@ pub record IsReady (r : Routine) : Type 0 where
   pub few : length (waiting_of r) ≤ 4194304
   pub page : 1 ≤ r.page
 
+-- a limit on pages, firings or nodes
+pub record IsLimit (z : ℤ) : Type 0 where
+  pub low : pos 0 ≤ℤ z
+  pub high : z ≤ℤ pos 4194304
+
 -- the parameters that a run without footnotes, floats and notes looks at lie in their ranges
 pub record AreRunnable (p : Params) : Type 0 where
   pub textheight : IsExtent p.textheight
   pub topskip : IsExtent p.topskip
   pub maxdepth : IsExtent p.maxdepth
   pub splitmaxdepth : IsExtent p.splitmaxdepth
-  pub maxdeadcycles : p.maxdeadcycles ≤ℤ pos 1000000
-  pub maxpages : p.maxpages ≤ℤ pos 1000000
-  pub maxnodes : p.maxnodes ≤ℤ pos 4194304
+  pub maxdeadcycles : IsLimit p.maxdeadcycles
+  pub maxpages : IsLimit p.maxpages
+  pub maxnodes : IsLimit p.maxnodes
 
 -- ---- what a turn shows
 
