@@ -96,15 +96,15 @@ limit-few p n false r e = few p.maxnodes r.maxnodes.high e
     few : (m : ℤ) → m ≤ℤ pos 4194304 → int_lt m (pos n) ≡ false → n ≤ 4194304
     few m h k = grind (arith, ints, h, k)
 
-ready-by : (q : Routine) (o : Option Ending) → IfNone o (length (waiting_of q) ≤ 4194304) → HasLists q → AreServed (waiting_of q) → 1 ≤ q.page → IfNone o (IsReady q)
-ready-by q None few lists served page = record { lists = lists; served = served; few = few; page = page }
-ready-by q (Some e) few lists served page = tt
+ready-by : (q : Routine) (o : Option Ending) → IfNone o (length (waiting_of q) ≤ 4194304) → HasLists q → AreServed (waiting_of q) → 1 ≤ q.page → q.page ≤ 4194305 → IfNone o (IsReady q)
+ready-by q None few lists served page pages = record { lists = lists; served = served; few = few; page = page; pages = pages }
+ready-by q (Some e) few lists served page pages = tt
 
 -- where the run goes on, the routine is ready for its next turn
-pub ready-after : (p : Params) (q : Routine) (limit : Option Ending) → AreRunnable p → limit ≡ over_limit p (length (waiting_of q)) → HasLists q → AreServed (waiting_of q) → 1 ≤ q.page → IfNone limit (IsReady q)
-ready-after p q limit r over lists served page =
+pub ready-after : (p : Params) (q : Routine) (limit : Option Ending) → AreRunnable p → limit ≡ over_limit p (length (waiting_of q)) → HasLists q → AreServed (waiting_of q) → 1 ≤ q.page → q.page ≤ 4194305 → IfNone limit (IsReady q)
+ready-after p q limit r over lists served page pages =
     subst (λ o. IfNone o (IsReady q)) (sym over)
-    (ready-by q (over_limit p (length (waiting_of q))) (limit-few p (length (waiting_of q)) (int_lt p.maxnodes (pos (length (waiting_of q)))) r refl) lists served page)
+    (ready-by q (over_limit p (length (waiting_of q))) (limit-few p (length (waiting_of q)) (int_lt p.maxnodes (pos (length (waiting_of q)))) r refl) lists served page pages)
 
 -- the body's list ends with the closing glue, and the waiting list is as before
 pub record Closed (p : Params) (old new : Lists Node) (waiting body : ℕ) : Type 0 where
@@ -144,3 +144,7 @@ pub closed-few : (p : Params) (old new : Lists Node) (waiting : ℕ) (column : C
 closed-few p old new waiting column body few closed is =
     let n = length-map (list_at new column.list) (plain_of (list_at new)) ∙ ap (λ l. length (list_at new l)) is ∙ ap length closed.body_is ∙ closed-length p (list_at old body) in
     omega (arith, few, n)
+
+-- a page that may be shipped is not past the limit
+pub page-within : (n : ℕ) (limit : ℤ) → limit ≤ℤ pos 4194304 → int_lt limit (pos n) ≡ false → n + 1 ≤ 4194305
+page-within n limit h e = grind (arith, ints, h, e)

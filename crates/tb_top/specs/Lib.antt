@@ -13,3 +13,5 @@ pub mod Answer
 pub mod Outcome
 pub mod Refusal
 pub mod Rows
+pub mod ItemNodes
+pub mod Written

@@ -44,6 +44,7 @@ pub record IsReady (r : Routine) : Type 0 where
   pub served : AreServed (waiting_of r)
   pub few : length (waiting_of r) ≤ 4194304
   pub page : 1 ≤ r.page
+  pub pages : r.page ≤ 4194305
 
 -- a limit on pages, firings or nodes
 pub record IsLimit (z : ℤ) : Type 0 where
@@ -87,6 +88,11 @@ turn_shown p r t = shown_by p r (sent_by r.store t.sent) t.ending
 -- the ending where more than `maxnodes` nodes wait
 abbrev pub over_limit : Params → ℕ → Option Ending
 over_limit p n = if int_lt p.maxnodes (pos n) then Some (endings.NodeLimit n) else None
+
+-- how many pages or warnings a turn sends
+abbrev pub sent_count : Option Sent → ℕ
+sent_count None = 0
+sent_count (Some s) = 1
 
 -- how many nodes a page has
 abbrev pub node_total : PlainSent → ℕ

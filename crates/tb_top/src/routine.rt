@@ -7,18 +7,23 @@ ghost use Rattle.tb_node.specs.Fit.{shapes, NodesFit};
 ghost use Rattle.tb_break.specs.Prune.{pruned_list};
 ghost use Rattle.tb_column.specs.Shown.{sent_shown, IsLiveSent};
 ghost use Rattle.tb_report.specs.Printable.{IsPrintableSent};
-ghost use Rattle.tb_output.specs.Clear.{cleared_front};
+ghost use Rattle.tb_galley.specs.Expand.{expanded};
+ghost use Rattle.tb_galley.specs.Valid.{IsValid};
+ghost use Rattle.tb_galley.specs.Live.{HasLiveItems};
+ghost use Rattle.tb_output.specs.State.{first_state};
 ghost use Rattle.tb_top.specs.Run.{step};
 ghost use Rattle.tb_top.specs.PlainRun.{step_shown, plain_page, plain_clear};
 ghost use Rattle.tb_top.specs.PlainNodes.{plain_nodes, AreServed, front_penalty, with_spent_front};
-ghost use Rattle.tb_top.specs.Turning.{waiting_of, body_of, HasLists, SameCounts, IsReady, AreRunnable, state_of, turn_shown, over_limit, node_total};
+ghost use Rattle.tb_top.specs.Turning.{waiting_of, body_of, HasLists, SameCounts, IsReady, AreRunnable, state_of, turn_shown, over_limit, sent_count, node_total};
 
+use crate::expanding::expand;
 use crate::limits::{exceeds, is_below};
 use crate::page_lists::{shorten, spend_break};
 use crate::search::page_best;
-use std::alloc::AllocError;
+use std::alloc::{AllocError, Global};
 use tb_break::{find, prune};
 use tb_column::{Sent, Sheet, make_column};
+use tb_galley::Galley;
 use tb_node::Node;
 use tb_param::Params;
 use tb_pool::{ListId, Lists};
@@ -72,6 +77,26 @@ fn ends(ending: Ending) -> Turn
 }
 
 impl Routine {
+    /// All nodes of a galley wait for its first page.
+    pub fn new(alloc: Global, galley: &Galley) -> Result<Self, AllocError>
+        requires valid { IsValid galley.now }
+        requires live { HasLiveItems galley.now }
+        ensures state { IfOk result (λ r. state_of galley.now.params r ≡ first_state galley.now.params (expanded galley.now)) }
+        ensures ready { IfOk result IsReady }
+    {
+        let mut store = Lists::new(alloc);
+        let waiting = store.add_list()?;
+        let body = store.add_list()?;
+        expand(&mut store, waiting, galley)?;
+        Ok(Routine {
+            store,
+            waiting,
+            body,
+            page: 1,
+            dead_cycles: 0,
+        })
+    }
+
     /// Makes the next page of what waits, and fires it: the page is shipped, or its penalty asks for something else
     /// (TeX: The Program §994, §1012; ltoutput.dtx, \output).
     ///
@@ -84,6 +109,7 @@ impl Routine {
         ensures step { IfOk result (λ t. turn_shown p.now self.new t ≡ step_shown (step p.now (state_of p.now self.old))) }
         ensures ready { IfOk result (λ t. IfNone t.ending (IsReady self.new)) }
         ensures lists { OnOk result (HasLists self.new) }
+        ensures counted { IfOk result (λ t. self.new.page ≡ self.old.page + sent_count t.sent) }
 
         ensures printable { IfOk result (λ t. IfSome t.sent (IsPrintableSent self.new.store)) }
         ensures live { IfOk result (λ t. IfSome t.sent (IsLiveSent self.new.store)) }
@@ -163,10 +189,12 @@ impl Routine {
         requires few { length (body_of self.old) ≤ 4194305 }
         requires waiting { AreServed (waiting_of self.old) }
         requires page { 1 ≤ self.old.page }
+        requires pages { self.old.page ≤ 4194305 }
 
         ensures step { IfOk result (λ t. turn_shown p.now self.new t ≡ plain_page p.now (plain_nodes (body_of self.old)) (plain_nodes (waiting_of self.old)) self.old.page) }
         ensures ready { IfOk result (λ t. IfNone t.ending (IsReady self.new)) }
         ensures lists { OnOk result (HasLists self.new) }
+        ensures counted { IfOk result (λ t. self.new.page ≡ self.old.page + sent_count t.sent) }
 
         ensures printable { IfOk result (λ t. IfSome t.sent (IsPrintableSent self.new.store)) }
         ensures live { IfOk result (λ t. IfSome t.sent (IsLiveSent self.new.store)) }
@@ -198,11 +226,13 @@ impl Routine {
         requires few { length (body_of self.old) ≤ 4194305 }
         requires waiting { AreServed (waiting_of self.old) }
         requires page { 1 ≤ self.old.page }
+        requires pages { self.old.page ≤ 4194305 }
 
         ensures step { turn_shown p.now self.new result ≡ plain_clear p.now (plain_nodes (body_of self.old)) (plain_nodes (waiting_of self.old)) self.old.page self.old.dead_cycles }
         ensures ready { IfNone result.ending (IsReady self.new) }
         ensures lists { HasLists self.new }
         ensures sent { result.sent ≡ None }
+        ensures page { self.new.page ≡ self.old.page }
     {
         let front = find(&self.store, self.body, 0, p.splitmaxdepth).index;
         self.put_back(front);

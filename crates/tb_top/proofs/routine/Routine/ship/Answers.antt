@@ -6,7 +6,7 @@ use Rattle.tb_top.specs.PlainNodes.{AreServed}
 use Rattle.tb_top.specs.Turning.{HasLists}
 use Rattle.tb_top.specs.declared.routine.Routine.{Routine}
 use Rattle.tb_top.proofs.RoutineLemmas.{extent-signed, served-append, served-apart, served-closed, served-nodes, served-all, closed-length, limit-signed}
-use Rattle.tb_top.proofs.TurnShown.{refused-shown, page-shown, ready-after, Closed, closed-lists, closed-printable, closed-few}
+use Rattle.tb_top.proofs.TurnShown.{refused-shown, page-shown, ready-after, page-within, closed-lists, closed-printable, closed-few}
 use Rattle.tb_top.proofs.routine.Routine.ship.Goals as goal
 
 pub make_column-requires-clause-body : goal.make_column-requires-clause-body
@@ -38,9 +38,11 @@ returns-clause-step c =
 
 pub returns-clause-ready : goal.returns-clause-ready
 returns-clause-ready c =
+    let limit : FitsSigned w64 c.args.p.now.maxpages = limit-signed c.args.p.now.maxpages c.requires.params.maxpages in
+    let exceeds = simp to_z-of_z at c.exceeds.ensures in
     let closed = closed-lists c.args.p.now c.args.self.now.store c.make_column.new.store c.args.self.now.waiting c.args.self.now.body c.requires.lists.waiting c.requires.lists.apart c.in_ok-column.ensures.lists in
     let q : Routine = record { store = c.make_column.new.store; waiting = c.args.self.now.waiting; body = c.args.self.now.body; page = c.args.self.now.page + 1; dead_cycles = 0 } in
-    ready-after c.args.p.now q c.node_limit-ending.result c.requires.params c.node_limit-ending.ensures (record { waiting = closed.waiting_live; body = closed.body_live; apart = c.requires.lists.apart }) (subst AreServed (sym closed.waiting_is) c.requires.waiting) (omega arith)
+    ready-after c.args.p.now q c.node_limit-ending.result c.requires.params c.node_limit-ending.ensures (record { waiting = closed.waiting_live; body = closed.body_live; apart = c.requires.lists.apart }) (subst AreServed (sym closed.waiting_is) c.requires.waiting) (omega arith) (page-within c.args.self.now.page c.args.p.now.maxpages c.requires.params.maxpages.high (sym exceeds ∙ c.if-exceeds.false))
 
 pub returns-clause-lists : goal.returns-clause-lists
 returns-clause-lists c =

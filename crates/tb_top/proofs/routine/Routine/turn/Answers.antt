@@ -1,8 +1,8 @@
-use Rattle.std.proofs.Common.{◌≡◌, ◌∙◌, sym, subst, FitsSigned, w64, rules, arith}
+use Rattle.std.proofs.Common.{◌≡◌, ◌∙◌, sym, subst, ℕ, ◌+◌, FitsSigned, w64, rules, arith}
 use Rattle.std.proofs.lemmas.Int.{to_z-of_z}
 use Rattle.std.specs.Prelude.{IfOk}
 use Rattle.tb_top.specs.PlainRun.{Shown}
-use Rattle.tb_top.specs.Turning.{turn_shown}
+use Rattle.tb_top.specs.Turning.{turn_shown, sent_count}
 use Rattle.tb_top.proofs.RoutineLemmas.{extent-signed, limit-signed, served-fit, served-sums}
 use Rattle.tb_top.proofs.WholeTurn.{begun-served, begun-few, turn-done, break-within, turn-dead, cut-body, cut-few, cut-rest, turn-ships, turn-clears}
 use Rattle.tb_top.proofs.routine.Routine.turn.Goals as goal
@@ -140,3 +140,8 @@ returns-clause-step c =
     let below = simp to_z-of_z at c.is_below.ensures in
     let test = simp to_z-of_z at c.if-penalty-ge-EJECT_PENALTY.false in
     c.clear.ensures.step ∙ sym (turn-clears c.args.p.now c.args.self.now c.begin_page.new.self c.requires.ready c.requires.params waits c.begin_page.ensures.counts c.page_best.result c.in-Some.best best c.in-Some.is c.cut_page-penalty.new.self c.cut_page-penalty.ensures.body c.cut_page-penalty.ensures.waiting c.cut_page-penalty.ensures.counts c.cut_page-penalty.result c.cut_page-penalty.ensures.penalty (sym below ∙ c.if-not-is_below.false) test)
+
+pub returns-then-penalty-ge-EJECT_PENALTY-clause-counted : goal.returns-then-penalty-ge-EJECT_PENALTY-clause-counted
+returns-then-penalty-ge-EJECT_PENALTY-clause-counted c =
+    let page = c.cut_page-penalty.ensures.counts.page ∙ c.begin_page.ensures.counts.page in
+    subst (λ (n : ℕ). IfOk c.ship.result (λ t. c.ship.new.self.page ≡ n + sent_count t.sent)) page c.ship.ensures.counted
