@@ -1,7 +1,7 @@
 use Rattle.std.proofs.Common.{◌∙◌, FitsSigned, w64}
 use Rattle.std.proofs.lemmas.Int.{to_z-of_z}
 use Rattle.tb_node.proofs.SumLemmas.{begins, so_far_fits, next_fits, goes_on, ends}
-use Rattle.tb_node.proofs.list_sums.Goals as goal
+use Rattle.tb_node.proofs.summing.list_sums.Goals as goal
 
 pub loop-n-init : goal.loop-n-init
 loop-n-init c =

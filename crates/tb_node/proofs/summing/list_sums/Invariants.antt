@@ -2,7 +2,7 @@ use Rattle.std.proofs.Common.{map}
 use Rattle.tb_node.specs.Plain.{shape_of}
 use Rattle.tb_node.specs.Fit.{shapes}
 use Rattle.tb_node.proofs.SumLemmas.{Summing}
-use Rattle.tb_node.proofs.list_sums.Given as goal
+use Rattle.tb_node.proofs.summing.list_sums.Given as goal
 
 abbrev pub invariant-loop-n : goal.invariant-loop-n
 invariant-loop-n l = record {
