@@ -11,8 +11,8 @@ use Rattle.tb_param.specs.Ranges.{are_params}
 use Rattle.tb_param.specs.Fields.{with_value}
 use Rattle.tb_param.proofs.RangeLemmas.{defaults_are_in_range}
 use Rattle.tb_galley.specs.declared.Cause.TheVariants as causes
-use Rattle.tb_galley.specs.declared.Content.{Content}
-use Rattle.tb_galley.specs.declared.Content.TheVariants as contents
+use Rattle.tb_galley.specs.declared.contents.Content.{Content}
+use Rattle.tb_galley.specs.declared.contents.Content.TheVariants as contents
 use Rattle.tb_galley.specs.declared.Fault.{Fault}
 use Rattle.tb_galley.specs.declared.Galley.{Galley}
 use Rattle.tb_galley.specs.declared.Item.{Item}

@@ -13,8 +13,8 @@ use Rattle.tb_param.specs.Fields.{with_value}
 use Rattle.tb_param.specs.Table.{Row, row_of, is_within, is_dimen, is_glue}
 use Rattle.tb_param.proofs.RangeLemmas.{fits, stays_in_range}
 use Rattle.tb_galley.specs.declared.Cause.TheVariants as causes
-use Rattle.tb_galley.specs.declared.Content.{Content}
-use Rattle.tb_galley.specs.declared.Content.TheVariants as contents
+use Rattle.tb_galley.specs.declared.contents.Content.{Content}
+use Rattle.tb_galley.specs.declared.contents.Content.TheVariants as contents
 use Rattle.tb_galley.specs.declared.ItemKind.{ItemKind}
 use Rattle.tb_galley.specs.declared.ItemKind.TheVariants as items
 use Rattle.tb_galley.specs.declared.LeafKind.{LeafKind}
