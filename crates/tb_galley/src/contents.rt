@@ -29,7 +29,18 @@ fn float(line: u32, fields: &mut Fields<'_>) -> Result<(Float, bool), At>
     let (places, bang) = fields.places()?;
     let height = fields.dimension_from(0, Cause::Dimension)?;
     let vert = fields.choice(b"par", b"vert", Cause::UnknownWord)?;
-    Ok((Float { line, name, class: class as u8, wide, places, bang, height }, vert))
+    Ok((
+        Float {
+            line,
+            name,
+            class: class as u8,
+            wide,
+            places,
+            bang,
+            height,
+        },
+        vert,
+    ))
 }
 
 #[tactic(auto, unfolding(crate::specs::Reading::margin_left))]
@@ -40,7 +51,17 @@ fn margin(line: u32, fields: &mut Fields<'_>) -> Result<(Margin, bool), At>
     let right_height = fields.dimension_from(0, Cause::Dimension)?;
     let right_depth = fields.dimension_from(0, Cause::Dimension)?;
     let vert = fields.choice(b"par", b"vert", Cause::UnknownWord)?;
-    Ok((Margin { line, name, left_height, left_depth, right_height, right_depth }, vert))
+    Ok((
+        Margin {
+            line,
+            name,
+            left_height,
+            left_depth,
+            right_height,
+            right_depth,
+        },
+        vert,
+    ))
 }
 
 #[tactic(auto, unfolding(crate::specs::Reading::area_left))]
@@ -59,7 +80,11 @@ fn value(form: Form, fields: &mut Fields<'_>) -> Result<Value, At>
     ensures { Gives result (left_of fields.new) (value_left form (left_of fields.old)) }
 {
     match form {
-        Form::Int { low, high } => Ok(Value::Int(fields.integer_within(low, high, Cause::Parameter)?)),
+        Form::Int { low, high } => Ok(Value::Int(fields.integer_within(
+            low,
+            high,
+            Cause::Parameter,
+        )?)),
         Form::Dim { low } => Ok(Value::Dim(fields.dimension_from(low, Cause::Parameter)?)),
         Form::Frac => Ok(Value::Frac(fields.fraction()?)),
         Form::Skip => Ok(Value::Skip(fields.glue(Cause::WrongForm)?)),
@@ -80,7 +105,10 @@ fn set(fields: &mut Fields<'_>) -> Result<Content, At>
 {
     let number = fields.number;
     let Some((_, field, form)) = row(fields.next()?) else {
-        return Err(At { field: number, cause: Cause::UnknownParameter });
+        return Err(At {
+            field: number,
+            cause: Cause::UnknownParameter,
+        });
     };
     let value = value(form, fields)?;
     Ok(Content::Set { field, value })
@@ -99,11 +127,19 @@ pub fn read_content(line: u32, word: Word, fields: &mut Fields<'_>) -> Result<Co
         Word::Setting => set(fields),
         Word::Hbox => {
             let (name, height, depth) = fields.sized()?;
-            Ok(Content::Plain(LeafKind::Hbox { name, height, depth }))
+            Ok(Content::Plain(LeafKind::Hbox {
+                name,
+                height,
+                depth,
+            }))
         }
         Word::Rule => {
             let (name, height, depth) = fields.sized()?;
-            Ok(Content::Plain(LeafKind::Rule { name, height, depth }))
+            Ok(Content::Plain(LeafKind::Rule {
+                name,
+                height,
+                depth,
+            }))
         }
         Word::Skip => Ok(Content::Plain(LeafKind::Skip(fields.glue(Cause::UnknownWord)?))),
         Word::Kern => Ok(Content::Plain(LeafKind::Kern(fields.dimension()?))),

@@ -42,11 +42,17 @@ impl Draft {
             }
             Content::Plain(kind) => match &mut self.foot {
                 Some(foot) => foot.leaves.push(Leaf { line, kind }),
-                None => self.items.push(Item { line, kind: item_kind(kind) }),
+                None => self.items.push(Item {
+                    line,
+                    kind: item_kind(kind),
+                }),
             },
             Content::Item(kind) => self.add_item(line, kind),
             Content::Foot => {
-                self.foot = Some(OpenFoot { line, leaves: Leaves::new(alloc) });
+                self.foot = Some(OpenFoot {
+                    line,
+                    leaves: Leaves::new(alloc),
+                });
                 Ok(())
             }
             Content::Endfoot => match self.foot.take() {
@@ -65,8 +71,24 @@ fn item_kind(leaf: LeafKind) -> ItemKind
     ensures { result ≡ item_kind leaf }
 {
     match leaf {
-        LeafKind::Hbox { name, height, depth } => ItemKind::Hbox { name, height, depth },
-        LeafKind::Rule { name, height, depth } => ItemKind::Rule { name, height, depth },
+        LeafKind::Hbox {
+            name,
+            height,
+            depth,
+        } => ItemKind::Hbox {
+            name,
+            height,
+            depth,
+        },
+        LeafKind::Rule {
+            name,
+            height,
+            depth,
+        } => ItemKind::Rule {
+            name,
+            height,
+            depth,
+        },
         LeafKind::Skip(glue) => ItemKind::Skip(glue),
         LeafKind::Kern(width) => ItemKind::Kern(width),
         LeafKind::Penalty(penalty) => ItemKind::Penalty(penalty),
