@@ -41,8 +41,8 @@ pub closed_sized : (p : Params) (ns : List Node) → pos 0 ≤ℤ p.maxdepth →
 closed_sized p ns low sized =
     All-append IsSizedNode ns _ sized
     (All-cons IsSizedNode (made_node (kinds.Skip (closing_by p.bottom (limited_depth p.maxdepth (map shape_of ns))))) []
-        (kept_width p.maxdepth (last_depth (map shape_of ns)) low (last_depth_extent (map shape_of ns) (All-map IsSized shape_of ns sized)), small_stretch (is_ragged p.bottom), nothing)
-        (All-nil IsSizedNode))
+    (kept_width p.maxdepth (last_depth (map shape_of ns)) low (last_depth_extent (map shape_of ns) (All-map IsSized shape_of ns sized)), small_stretch (is_ragged p.bottom), nothing)
+    (All-nil IsSizedNode))
 
 kern_above : IsDimension (negsuc 196607)
 kern_above = record { low = omega (arith, ints); high = omega (arith, ints) }
@@ -74,8 +74,12 @@ module _ (p : Params) (store : Lists Node) (body : ℕ) (notes : Option ℕ) (lo
 
   short : length (column_list p store body notes) ≤ 8388608
   short =
-      omega (arith, length-append (list_at store body ++ notes_list p.skipfootins store notes) (made_node (kinds.Skip (closing_by p.bottom (limited_depth p.maxdepth (map shape_of (list_at store body ++ notes_list p.skipfootins store notes))))) ∷ []),
-          length-append (list_at store body) (notes_list p.skipfootins store notes), notes_few p.skipfootins store notes)
+      omega (
+        arith,
+        length-append (list_at store body ++ notes_list p.skipfootins store notes) (made_node (kinds.Skip (closing_by p.bottom (limited_depth p.maxdepth (map shape_of (list_at store body ++ notes_list p.skipfootins store notes))))) ∷ []),
+        length-append (list_at store body) (notes_list p.skipfootins store notes),
+        notes_few p.skipfootins store notes,
+      )
 
   -- the amounts and the sums of the column fit
   pub column_nodes_fit : NodesFit (map shape_of (column_list p store body notes))
