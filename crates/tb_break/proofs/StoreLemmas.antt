@@ -42,9 +42,9 @@ module _ {T : Type 0} where
 
   live-insert : (m : FinMap nat_cmp (List T)) (l : ℕ) (xs : List T) (q : ℕ) → IsSome (get m q) → IsSome (get (insert m l xs) q)
   live-insert m l xs q live = elim (cases_eq q l) [
-      | inl e ↦ ap (λ k. is_some (get (insert m l xs) k)) e ∙ ap (λ (o : Option (List T)). is_some o) (get-insert_same m l xs)
-      | inr ne ↦ ap (λ (o : Option (List T)). is_some o) (get-insert_other m l xs q ne) ∙ live
-    ]
+    | inl e ↦ ap (λ k. is_some (get (insert m l xs) k)) e ∙ ap (λ (o : Option (List T)). is_some o) (get-insert_same m l xs)
+    | inr ne ↦ ap (λ (o : Option (List T)). is_some o) (get-insert_other m l xs q ne) ∙ live
+  ]
 
   -- a list was cut, and its rest is another: what each list is then
   pub live-parted : (old now : Lists T) (l rest : ℕ) (xs ys : List T) → now.lists ≡ insert (with_list old l xs) rest ys → (q : ℕ) → IsLive old q → IsLive now q

@@ -2,7 +2,7 @@
 
 ghost use Rattle.std.specs.Prelude.{◌≡◌, ◌≢◌, ◌<◌, [], pos, All, IfOk};
 ghost use Rattle.tb_pool.specs.Lists.{IsLive, list_at};
-ghost use Rattle.tb_node.specs.Fit.{IsSizedNode, IsExtent};
+ghost use Rattle.tb_node.specs.Fit.{IsSizedNode, IsExtent, IsDimension, IsPenalty};
 
 use super::*;
 use std::alloc::{AllocError, Global};
@@ -63,7 +63,13 @@ fn no_glue() -> Node
 fn five() -> [Node; 5]
     ensures { All IsSizedNode result }
 {
-    [make_box(10, 2), no_glue(), make_box(12, 0), no_glue(), make_box(12, 0)]
+    [
+        make_box(10, 2),
+        no_glue(),
+        make_box(12, 0),
+        no_glue(),
+        make_box(12, 0),
+    ]
 }
 
 #[test]
@@ -77,4 +83,129 @@ fn splits_at_the_later_of_equal_costs(rt: HostRuntime) -> Result<(), Fail> {
     assert_eq!(rt; (split.index, split.cost), (3, 100000));
     assert_eq!(rt; (s.store.len(s.list), s.store.len(s.rest)), (3, 2));
     Ok(())
+}
+
+fn make_glue(width: i64) -> Node
+    requires { IsDimension width }
+    ensures { IsSizedNode result }
+{
+    make_node(Kind::Skip(fixed(width)))
+}
+
+fn make_penalty(penalty: i64) -> Node
+    requires { IsPenalty penalty }
+    ensures { IsSizedNode result }
+{
+    make_node(Kind::Pen(penalty))
+}
+
+fn make_note() -> Node
+    ensures { IsSizedNode result }
+{
+    match name_of(b"n") {
+        Some(name) => make_node(Kind::Note(name)),
+        None => make_node(Kind::Whatsit),
+    }
+}
+
+fn page_top() -> [Node; 4]
+    ensures { All IsSizedNode result }
+{
+    [make_glue(5), make_penalty(0), make_note(), make_box(10, 0)]
+}
+
+// What a node is, and its line and its first amount.
+fn told(n: &Node) -> (char, u32, i64) {
+    match n.kind {
+        Kind::Hbox { height, .. } => ('b', n.line, height),
+        Kind::Skip(g) => ('g', n.line, g.width),
+        Kind::Note(_) => ('n', n.line, 0),
+        _ => ('?', n.line, 0),
+    }
+}
+
+#[test]
+fn prunes_up_to_the_box(rt: HostRuntime) -> Result<(), Fail> {
+    let mut s = make_stored(rt.alloc(), &page_top())?;
+    prune(&mut s.store, s.list, 12);
+    let mut k = 0;
+    for n in s.store.iter(s.list) {
+        let want = [('n', 7, 0), ('g', 7, 2), ('b', 7, 10)];
+        assert!(rt; k < want.len());
+        assert_eq!(rt; told(n), want[k], "at {k}");
+        k += 1;
+    }
+    assert_eq!(rt; k, 3);
+    Ok(())
+}
+
+#[test]
+fn legal_places(rt: HostRuntime) -> Result<(), Fail> {
+    let nodes = [
+        make_box(1, 0),
+        make_glue(1),
+        make_glue(1),
+        make_node(Kind::Kern(1)),
+        make_glue(1),
+        make_penalty(10000),
+        make_penalty(50),
+        make_note(),
+        make_node(Kind::Kern(1)),
+    ];
+    let s = make_stored(rt.alloc(), &nodes)?;
+    let want = [
+        None,
+        Some(0),
+        None,
+        Some(0),
+        None,
+        None,
+        Some(50),
+        None,
+        None,
+        Some(-10000),
+        None,
+    ];
+    for (index, penalty) in want.iter().enumerate() {
+        assert_eq!(rt; legal(&s.store, s.list, index), *penalty, "at {index}");
+    }
+    Ok(())
+}
+
+#[test]
+fn costs(rt: HostRuntime) {
+    let sums = Sums {
+        total: 20,
+        depth: 0,
+        stretch: [5, 0, 0, 0],
+        shrink: 0,
+    };
+    assert_eq!(rt; cost(&sums, 30, 0, 0), (800, 800));
+    assert_eq!(rt; cost(&sums, 30, 0, 20000), (800, 1073741823));
+    assert_eq!(rt; cost(&sums, 30, -10000, 0), (800, -10000));
+    assert_eq!(rt; cost(&sums, 19, 0, 0), (1073741823, 1073741823));
+}
+
+#[test]
+fn a_scan_keeps_the_last_of_least_cost(rt: HostRuntime) {
+    let mut scan = new_scan(0);
+    scan.add(&make_box(12, 0));
+    assert!(rt; scan.offer(1, 0, 30, 0).champion);
+    scan.add(&make_box(12, 0));
+    let second = scan.offer(3, 0, 30, 0);
+    assert_eq!(rt;
+        (second.badness, second.cost, second.champion, second.stop),
+        (10000, 100000, true, false)
+    );
+    scan.add(&make_box(12, 0));
+    let last = scan.offer(5, 0, 30, 0);
+    assert_eq!(rt;
+        (last.cost, last.champion, last.stop),
+        (1073741823, false, true)
+    );
+    let Some(best) = scan.best() else {
+        assert!(rt; false);
+        return;
+    };
+    assert_eq!(rt; (best.index, best.cost, best.size), (3, 100000, 24));
 }
