@@ -1,11 +1,9 @@
 -- What holds of the ends after a refusal and its line, and which answer the input decides.
-use Rattle.std.proofs.Common.{◌≡◌, ◌≢◌, ◌⊎◌, ℕ, ◌<◌, ◌≤◌, List, [], ◌++◌, length, refl, sym, ◌∙◌, ap, inl, inr, arith, append-nil, length-append, Bool, true, false, nat_lt, Option, None, Some, Result, Ok, Err}
+use Rattle.std.proofs.Common.{◌≡◌, ◌≢◌, ℕ, ◌≤◌, List, [], ◌++◌, length, refl, sym, ◌∙◌, ap, inl, inr, arith, append-nil, length-append, Bool, true, false, nat_lt, Option, None, Some, Ok}
 use Rattle.std.proofs.lemmas.Bool.Decides.{nat_tests}
-use Rattle.std.specs.Io.KnownBytes.{Consumes, IsAtEnd}
 use Rattle.tb_io.specs.Held.{AppendsPrefix}
 use Rattle.tb_io.proofs.Appended.{prefix_whole}
 use Rattle.tb_galley.specs.declared.Cause.{Cause}
-use Rattle.tb_galley.specs.declared.Fault.{Fault}
 use Rattle.tb_galley.specs.declared.Galley.{Galley}
 use Rattle.tb_galley.specs.declared.GalleyFault.{GalleyFault}
 use Rattle.tb_galley.specs.declared.GalleyFault.TheVariants as unread
@@ -22,8 +20,8 @@ use Rattle.tb_top.specs.declared.status.Status.{Status}
 use Rattle.tb_top.specs.declared.status.Status.TheVariants as answers
 use Rattle.tb_top.specs.Run.{End, done, pool_full, dead_cycles, page_limit, node_limit, run_of}
 use Rattle.tb_top.specs.Paginated.{end_fault, EndsWith, Refuses}
-use Rattle.tb_top.specs.Answer.{answer_at, line_at, answer_for_cause, answer_to, report_to, line_to, err_line}
-use Rattle.tb_top.specs.Outcome.{Ends, ErrEnd, Gives, Decided, CutOff, Leaves, TellsLine, Says, Refused, WantsMemory, Outcome, IsAnswer}
+use Rattle.tb_top.specs.Answer.{answer_at, line_at, answer_for_cause, answer_to, report_to, err_line}
+use Rattle.tb_top.specs.Outcome.{Ends, ErrEnd, Gives, Decided, CutOff, Leaves, TellsLine, Says, Outcome, IsAnswer}
 use Rattle.tb_top.specs.Refusal.{galley_status, page_status, input_status, refusal_status, page_text}
 
 -- ---- a run that was refused
@@ -127,7 +125,7 @@ answer_to-long a b is also = rw (is, also) refl
 
 -- what was read and what was left have one answer
 answer_to-read : (long : Bool) (input rest : List ℕ) → nat_lt input_limit (length input) ≡ long → (length input ≤ input_limit → rest ≡ []) → answer_to input ≡ answer_to (input ++ rest)
-answer_to-read true input rest is ended = 
+answer_to-read true input rest is ended =
     let long : nat_lt input_limit (length (input ++ rest)) ≡ true = simp length-append (grind (arith, nat_tests)) in
     answer_to-long input (input ++ rest) is long
 answer_to-read false input rest is ended =

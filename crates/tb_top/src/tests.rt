@@ -23,7 +23,11 @@ struct Failing<'a> {
     lines: &'a [u64],
 }
 
-const NONE: Failing<'static> = Failing { reads: &[], writes: &[], lines: &[] };
+const NONE: Failing<'static> = Failing {
+    reads: &[],
+    writes: &[],
+    lines: &[],
+};
 
 // Runs on an input that is read by pieces of 50 bytes.
 fn run_on(alloc: Global, input: &[u8], failing: &Failing<'_>) -> Result<Left, Fail> {
@@ -47,22 +51,50 @@ fn rows_have_their_answers(rt: HostRuntime) -> Result<(), Fail> {
 }
 
 // An input of 125 bytes: four reads, the last at its end.
-const INPUT: &[u8] = b"galley 1\nset textheight 30\nset topskip 10\nset maxdepth 0\nset bottom flush\nbox a 12 0\nglue 0\nbox b 12 0\nglue 0\nbox c 12 0\nend\n";
-const REPORT: &[u8] = b"report 1\npage 1 one\ncolumn 1 text height 30 natural 24 set none\nbox a 0 12 0\nbox b 12 12 0\npage 2 one\ncolumn 1 text height 30 natural 12 set stretch fil 18/65536\nbox c 0 12 0\nend pages 2 boxes 3 floats 0 warnings 0\n";
+const INPUT: &[u8] =
+    b"galley 1\nset textheight 30\nset topskip 10\nset maxdepth 0\nset bottom flush\nbox a 12 0\nglue 0\nbox b 12 0\nglue 0\nbox c 12 0\nend\n";
+
+const REPORT: &[u8] =
+    b"report 1\npage 1 one\ncolumn 1 text height 30 natural 24 set none\nbox a 0 12 0\nbox b 12 12 0\npage 2 one\ncolumn 1 text height 30 natural 12 set stretch fil 18/65536\nbox c 0 12 0\nend pages 2 boxes 3 floats 0 warnings 0\n";
 
 #[test]
 fn each_failing_call_is_answered(rt: HostRuntime) -> Result<(), Fail> {
     let alloc = rt.alloc();
     for call in 1..=4 {
-        let left = run_on(alloc, INPUT, &Failing { reads: &[call], ..NONE })?;
+        let left = run_on(
+            alloc,
+            INPUT,
+            &Failing {
+                reads: &[call],
+                ..NONE
+            },
+        )?;
         assert_eq!(rt; left.status, 8, "at read {call}");
         assert_eq!(rt; left.out.held(), b"".as_slice());
         assert_eq!(rt; left.err.held(), b"galley_pages: read fault\n".as_slice());
     }
-    assert_eq!(rt; run_on(alloc, INPUT, &Failing { reads: &[5], ..NONE })?.status, 0);
+    assert_eq!(rt;
+        run_on(
+            alloc,
+            INPUT,
+            &Failing {
+                reads: &[5],
+                ..NONE
+            }
+        )?
+        .status,
+        0
+    );
     let mut failed = 0;
     for call in 1..=9 {
-        let left = run_on(alloc, INPUT, &Failing { writes: &[call], ..NONE })?;
+        let left = run_on(
+            alloc,
+            INPUT,
+            &Failing {
+                writes: &[call],
+                ..NONE
+            },
+        )?;
         assert!(rt; REPORT.starts_with(left.out.held()), "at write {call}");
         if left.status == 0 {
             assert_eq!(rt; left.err.held(), b"".as_slice());
@@ -86,17 +118,36 @@ fn words_long_input_and_a_failing_err(rt: HostRuntime) -> Result<(), Fail> {
     let mut source = MemSource::new(INPUT.to_vec(alloc)?, 1, Vec::new(alloc));
     let mut out = MemSink::new(alloc, Vec::new(alloc));
     let mut err = MemSink::new(alloc, Vec::new(alloc));
-    assert_eq!(rt; run(alloc, &words, &mut source, &mut out, &mut err), Status::Words);
+    assert_eq!(rt;
+        run(alloc, &words, &mut source, &mut out, &mut err),
+        Status::Words
+    );
     assert_eq!(rt; err.held(), b"galley_pages: words refused\n".as_slice());
     // The name alone is accepted, and nothing of the input was taken before.
-    assert_eq!(rt; run(alloc, &words[..1], &mut source, &mut out, &mut err), Status::Done);
+    assert_eq!(rt;
+        run(alloc, &words[..1], &mut source, &mut out, &mut err),
+        Status::Done
+    );
     assert_eq!(rt; out.held(), REPORT);
     let long = vec![in alloc; b'\n'; 8388609]?;
     let mut source = MemSource::new(long, 1 << 20, Vec::new(alloc));
     let mut err = MemSink::new(alloc, Vec::new(alloc));
-    assert_eq!(rt; run(alloc, &[], &mut source, &mut out, &mut err), Status::Range);
-    assert_eq!(rt; err.held(), b"galley_pages: line 0 field 0: InputSize\n".as_slice());
-    let silent = run_on(alloc, b"", &Failing { lines: &[1], ..NONE })?;
+    assert_eq!(rt;
+        run(alloc, &[], &mut source, &mut out, &mut err),
+        Status::Range
+    );
+    assert_eq!(rt;
+        err.held(),
+        b"galley_pages: line 0 field 0: InputSize\n".as_slice()
+    );
+    let silent = run_on(
+        alloc,
+        b"",
+        &Failing {
+            lines: &[1],
+            ..NONE
+        },
+    )?;
     assert_eq!(rt; silent.status, 3);
     assert_eq!(rt; silent.err.held(), b"".as_slice());
     Ok(())
