@@ -3,6 +3,9 @@ pub mod Report
 pub mod Generate
 pub mod Laws
 pub mod Paginated
+pub mod Search
+pub mod PlainRun
+pub mod Firings
 pub mod Status
 pub mod Answer
 pub mod Outcome

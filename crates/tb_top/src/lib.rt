@@ -5,12 +5,15 @@
 #![tactic(auto)]
 
 mod input;
+mod laws;
 mod paginate_stub;
 mod refusal;
 mod rows;
+mod search;
 mod status;
 mod top;
 
+pub use laws::runs_are_defined;
 pub use paginate_stub::paginate;
 pub use rows::check_rows;
 pub use status::Status;
