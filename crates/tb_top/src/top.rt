@@ -1,7 +1,7 @@
 //! The top call.
 ghost use Rattle.std.specs.Prelude.{◌≡◌, ◌<◌, ◌≤◌, ◌⊎◌, ◌^◌, length, Some};
 ghost use Rattle.tb_io.specs.Faults.{Rose};
-ghost use Rattle.tb_top.specs.Outcome.{Outcome, Leaves, IsAnswer, Says};
+ghost use Rattle.tb_top.specs.Outcome.{Outcome, StandsAfter, IsAnswer, Says};
 ghost use Rattle.tb_top.specs.Refusal.{served_status, served_line, refusal_status, refusal_line};
 
 use crate::input::read_input;
@@ -65,7 +65,7 @@ fn serve<S: Source, K: Sink>(
     source: &mut S,
     out: &mut K,
 ) -> Result<(), Refusal>
-    ensures left { Leaves (served_status result)
+    ensures stands { StandsAfter (served_status result)
         (record {
           left_before = S.left source.old;
           left_after = S.left source.new;
