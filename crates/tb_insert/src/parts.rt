@@ -17,7 +17,14 @@ use tb_node::{Insertion, Node, Sums};
 use tb_pool::Lists;
 
 // What becomes of an insertion of a class that is not split, on a page with these sums.
-fn label_of(store: &Lists<Node>, i: &Insertion, class: &Class, goal: i128, height: i64, s: &Sums) -> Part
+fn label_of(
+    store: &Lists<Node>,
+    i: &Insertion,
+    class: &Class,
+    goal: i128,
+    height: i64,
+    s: &Sums,
+) -> Part
     requires inner { InnerFits store.now i.now }
     requires factor { IsAmount class.now.factor }
     requires goal { IsWithin (2 ^ 115) goal }
