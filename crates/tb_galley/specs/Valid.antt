@@ -1,14 +1,12 @@
 -- Galleys whose values lie in their ranges.
-use Rattle.std.specs.Prelude.{ℕ, ◌+◌, ℤ, pos, neg_ℤ, Bool, true, false, ◌&&◌, ◌||◌, ◌==◌, nat_le, nat_lt, IsTrue, List, [], ◌∷◌, ◌++◌, length, Option, Some, None}
+use Rattle.std.specs.Prelude.{ℕ, ◌+◌, ℤ, pos, neg_ℤ, Bool, true, ◌&&◌, ◌||◌, ◌==◌, nat_le, nat_lt, IsTrue, List, [], ◌∷◌, ◌++◌, length}
 use Rattle.std.specs.List.{list_all}
 use Rattle.tb_scaled.specs.Scaled.{max_dimen}
 use Rattle.tb_node.specs.Names.{is_name, is_between}
 use Rattle.tb_node.specs.declared.Float.{Float}
 use Rattle.tb_node.specs.declared.Margin.{Margin}
-use Rattle.tb_param.specs.declared.Params.{Params}
-use Rattle.tb_param.specs.declared.ParamFault.{ParamFault}
-use Rattle.tb_param.specs.Fields.{value_of}
-use Rattle.tb_param.specs.Table.{rows, value_fault, is_within, is_dimen, is_glue}
+unfoldable pub use Rattle.tb_param.specs.Ranges.{are_params}
+use Rattle.tb_param.specs.Table.{is_within, is_dimen, is_glue}
 use Rattle.tb_galley.specs.declared.Leaf.{Leaf}
 use Rattle.tb_galley.specs.declared.LeafKind.{LeafKind}
 use Rattle.tb_galley.specs.declared.LeafKind.TheVariants as leaves
@@ -20,14 +18,6 @@ use Rattle.tb_galley.specs.declared.Galley.{Galley}
 -- a height or depth: from 0 to the greatest dimension
 abbrev pub is_size : ℤ → Bool
 is_size v = is_within (pos 0) max_dimen v
-
-abbrev pub is_no_fault : Option ParamFault → Bool
-is_no_fault None = true
-is_no_fault (Some e) = false
-
--- each parameter lies in the range of its row
-unfoldable pub are_params : Params → Bool
-are_params p = list_all (λ r. is_no_fault (value_fault r.form (value_of r.field p))) rows
 
 abbrev pub is_leaf : LeafKind → Bool
 is_leaf (leaves.Hbox name h d) = is_name name && is_size h && is_size d

@@ -1,7 +1,7 @@
 //! The nodes of a vertical list, and their sums.
 #![tactic(auto)]
 
-ghost use Rattle.std.specs.Prelude.{◌≡◌, ℕ, ◌<◌, ◌≤◌, ◌+ℤ◌, ◌-ℤ◌, ◌+◌, ◌++◌, ◌∷◌, [], pos, length, map, slice_index_or, slice_get, take, EachIndex, Some, None, true, if◌then◌else◌};
+ghost use Rattle.std.specs.Prelude.{◌≡◌, ℕ, ◌<◌, ◌≤◌, ◌≤ℤ◌, ◌+ℤ◌, ◌-ℤ◌, ◌+◌, ◌++◌, ◌∷◌, [], pos, length, map, slice_index_or, slice_get, take, EachIndex, Some, None, true, if◌then◌else◌};
 ghost use Rattle.std.specs.List.{list_all};
 ghost use Rattle.tb_node.specs.Names.{is_name, is_alphanumeric, is_name_byte};
 ghost use Rattle.tb_node.specs.Add.{limited, limited_to, order_index, more_at, stretch_with, added_node, stretched_sums};
@@ -9,6 +9,8 @@ ghost use Rattle.tb_node.specs.Plain.{shape_of};
 ghost use Rattle.tb_pool.specs.Lists.{IsLive, list_at, with_list};
 ghost use Rattle.tb_node.specs.declared.Node.{Node};
 ghost use Rattle.tb_node.specs.Shape.{box, glue, kern, penalty, other};
+ghost use Rattle.tb_node.specs.Fit.{shapes, NodesFit, SumsFit};
+ghost use Rattle.tb_node.specs.Sums.{sums_of};
 ghost use Rattle.tb_node.specs.Small.{IsAmount, AreAmounts, IsSmall, IsSmallShape};
 
 use std::marker::Model;
@@ -84,7 +86,9 @@ fn are_name_bytes(bytes: &[u8]) -> bool
 fn is_alphanumeric(byte: u8) -> bool
     ensures { result ≡ is_alphanumeric byte }
 {
-    (b'0' <= byte && byte <= b'9') || (b'A' <= byte && byte <= b'Z') || (b'a' <= byte && byte <= b'z')
+    (b'0' <= byte && byte <= b'9')
+        || (b'A' <= byte && byte <= b'Z')
+        || (b'a' <= byte && byte <= b'z')
 }
 
 fn is_name_byte(byte: u8) -> bool
@@ -358,4 +362,25 @@ pub fn stretch_sums(s: &mut Sums, g: Glue)
 {
     raise(&mut s.stretch, order_place(g.order), g.stretch);
     s.shrink = sum_of(s.shrink, g.shrink);
+}
+
+/// The sums of a list of the store under a depth limit.
+pub fn list_sums(store: &Lists<Node>, l: ListId, max_depth: i64) -> Sums
+    requires live { IsLive store.now l }
+    requires low { pos 0 ≤ℤ max_depth }
+    requires limit { IsAmount max_depth }
+    requires nodes { NodesFit (shapes store.now l) }
+    requires sums { SumsFit max_depth (shapes store.now l) }
+    ensures { result ≡ sums_of max_depth (shapes store.now l) }
+{
+    let mut sums = Sums {
+        total: 0,
+        depth: 0,
+        stretch: [0; 4],
+        shrink: 0,
+    };
+    for n in store.iter(l) {
+        add(&mut sums, n, max_depth);
+    }
+    sums
 }
