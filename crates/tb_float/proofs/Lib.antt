@@ -1,3 +1,7 @@
 pub mod ListLemmas
 pub mod MoveLemmas
 pub mod SlotLemmas
+pub mod PartLemmas
+pub mod ShelfLemmas
+pub mod SoundLemmas
+pub mod PoolLemmas

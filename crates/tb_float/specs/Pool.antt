@@ -54,6 +54,15 @@ without_entries parts.Bottom v = record v { lists = record v.lists { bottom = []
 without_entries parts.Deferred v = record v { lists = record v.lists { deferred = [] }; marks = [] }
 without_entries parts.Double v = record v { lists = record v.lists { double = [] } }
 
+-- no entry of the list is marked
+abbrev pub without_marks : Part → FloatPool → FloatPool
+without_marks parts.Current v = v
+without_marks parts.Here v = v
+without_marks parts.Top v = v
+without_marks parts.Bottom v = v
+without_marks parts.Deferred v = record v { marks = replicate (length v.marks) false }
+without_marks parts.Double v = v
+
 -- a float goes from its place to the end of another list, and loses its mark
 abbrev pub moved_float : Part → ℕ → Part → Float → FloatPool → FloatPool
 moved_float from k to f v = with_floats_after to (f ∷ []) (without_entry from k v)

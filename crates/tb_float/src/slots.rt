@@ -158,8 +158,8 @@ fn is_of_class(entry: Entry, class: u8) -> bool
 }
 
 /// The height that an entry adds to the sum of its list's floats: a note adds none.
-pub(crate) fn entry_height(entry: Entry) -> i64
-    ensures { result ≡ total_height (float_before entry []) }
+pub(crate) fn entry_height(entry: &Entry) -> i64
+    ensures { result ≡ total_height (float_before entry.now []) }
 {
     match entry {
         Entry::Float(f) => f.height,
