@@ -5,3 +5,4 @@ pub mod PartLemmas
 pub mod ShelfLemmas
 pub mod SoundLemmas
 pub mod PoolLemmas
+pub mod MarkLemmas

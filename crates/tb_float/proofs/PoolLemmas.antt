@@ -2,26 +2,28 @@
 use Rattle.std.proofs.Common.{◌≡◌, ◌≢◌, ℕ, ◌+◌, ◌<◌, ◌≤◌, List, [], ◌∷◌, ◌++◌, length, Bool, true, false, Some, slice_get, refl, sym, ap, ◌∙◌, subst, arith}
 use Rattle.std.specs.Prelude.{ℤ, pos, ◌+ℤ◌, ◌-ℤ◌}
 use Rattle.std.proofs.lemmas.Int.{ints}
-use Rattle.std.proofs.lemmas.List.{map-append, length-append}
-use Rattle.std.proofs.lemmas.Option.{slice_get_within}
+use Rattle.std.proofs.lemmas.List.{map-append, length-append, length-map}
+use Rattle.std.proofs.lemmas.Option.{slice_get_within, same_Some}
 use Rattle.std.specs.FinMap.{insert}
 use Rattle.tb_pool.specs.Lists.{Lists, with_list, list_at}
 use Rattle.tb_float.specs.declared.Part.{Part}
 use Rattle.tb_float.specs.declared.Part.TheVariants as parts
 use Rattle.tb_float.specs.declared.Entry.{Entry}
+use Rattle.tb_float.specs.declared.Entry.TheVariants as entries
+use Rattle.tb_node.specs.declared.Float.{Float}
 use Rattle.tb_float.specs.declared.shelves.Shelves.{Shelves}
 use Rattle.tb_float.specs.declared.heights.Heights.{Heights}
 use Rattle.tb_float.specs.SlotView.{SlotView}
-use Rattle.tb_float.specs.Lists.{live_count, float_before, without_place}
+use Rattle.tb_float.specs.Lists.{live_count, entries_of, float_before, without_place}
 use Rattle.tb_float.specs.Pool.{FloatPool, with_current, with_floats_after, with_floats_before, without_entry, without_entries}
-use Rattle.tb_float.specs.Ranges.{IsSized}
+use Rattle.tb_float.specs.Ranges.{IsSized, IsRoom}
 use Rattle.tb_float.specs.Rooms.{total_height}
 use Rattle.tb_float.specs.Heights.{height_of, with_height}
-use Rattle.tb_float.specs.Stored.{shelf_of, slots_of, seen_pool, seen_lists, entries_in, floats_in, slot_count, is_float, unmarked_slot, IsSlotOf, AreSlotsOf, IsStored}
+use Rattle.tb_float.specs.Stored.{shelf_of, slots_of, seen_pool, seen_lists, entries_in, floats_in, marks_in, slot_count, is_float, unmarked_slot, IsSlotOf, AreSlotsOf, IsStored}
 use Rattle.tb_float.proofs.ListLemmas.{length-without_place}
 use Rattle.tb_float.proofs.PartLemmas.{put, put-other}
-use Rattle.tb_float.proofs.SlotLemmas.{slots-append, slots-without, slot-there, slots-bare, entries-bare, marks-bare, AreBare, floats_in-append, total_height-append, total-without}
-use Rattle.tb_float.proofs.SoundLemmas.{written, Written, count-put, live_count-seen, seen-after, seen-before, seen-without, seen-emptied}
+use Rattle.tb_float.proofs.SlotLemmas.{slot-of_entry, length-floats_in, slots-append, slots-without, slot-there, slots-bare, entries-bare, marks-bare, AreBare, floats_in-append, total_height-append, total-without}
+use Rattle.tb_float.proofs.SoundLemmas.{written, Written, entries_of-seen, count-put, live_count-seen, seen-after, seen-before, seen-without, seen-emptied}
 
 -- a pool that is stored, and what is seen of it
 pub record IsPool (new : Lists SlotView) (sh : Shelves) (h : Heights) (size : ℕ) (v : FloatPool) : Type 0 where
@@ -155,3 +157,31 @@ rewritten store new sh h size p xs stored e spare slots same_length same_sum =
     let places = stored.places in
     subst (λ (g : Heights). Written new sh g size (put p xs (slots_of store sh))) (same-height p h)
     (written store new sh h size p xs (height_of h p) stored e slots (stored.sound.heights_are p ∙ sym same_sum) (omega arith) (omega arith))
+
+-- the float that is seen at a place stands there
+pub float-there : (at : Part → List SlotView) (p : Part) (k : ℕ) (f : Float) → AreSlotsOf p (at p) → slice_get (entries_of p (seen_lists at)) k ≡ Some (entries.Float f)
+    → (s : SlotView) × (slice_get (at p) k ≡ Some s) × (s.entry ≡ entries.Float f)
+float-there at p k f h e = slot-of_entry (at p) k (entries.Float f) (sym (ap (λ es. slice_get es k) (entries_of-seen p at h)) ∙ e)
+
+-- an entry adds a room to a sum
+pub entry-is_room : (e : Entry) → IsSized e → IsRoom (total_height (float_before e []))
+entry-is_room (entries.Float f) h = let low = h.low in let high = h.high in record { low = omega (arith, ints); high = omega (arith, ints) }
+entry-is_room (entries.Left m) h = record { low = omega (arith, ints); high = omega (arith, ints) }
+entry-is_room (entries.Right m) h = record { low = omega (arith, ints); high = omega (arith, ints) }
+
+-- the sums after one fell and another rose
+pub sums-moved : (h h1 h2 : Heights) (from to : Part) (r z : ℤ) → r ≡ z → h1 ≡ with_height from (height_of h from -ℤ r) h → h2 ≡ with_height to (height_of h1 to +ℤ r) h1
+    → h2 ≡ with_height to (height_of (with_height from (height_of h from -ℤ z) h) to +ℤ z) (with_height from (height_of h from -ℤ z) h)
+sums-moved h h1 h2 from to r z same e1 e2 =
+    e2 ∙ ap (λ g. with_height to (height_of g to +ℤ r) g) e1
+    ∙ ap (λ w. with_height to (height_of (with_height from (height_of h from -ℤ w) h) to +ℤ w) (with_height from (height_of h from -ℤ w) h)) same
+
+-- the slot at a place holds the float that is seen there
+pub float-is : (at : Part → List SlotView) (p : Part) (k : ℕ) (f : Float) (s : SlotView) → AreSlotsOf p (at p) → slice_get (entries_of p (seen_lists at)) k ≡ Some (entries.Float f) → slice_get (at p) k ≡ Some s → s.entry ≡ entries.Float f
+float-is at p k f s h e got =
+    let there = float-there at p k f h e in
+    ap (λ r. r.entry) (same_Some s there.0 (sym got ∙ there.1)) ∙ there.2
+
+-- each deferred float has its mark
+pub marks-shown : (at : Part → List SlotView) → AreSlotsOf parts.Deferred (at parts.Deferred) → length (marks_in (at parts.Deferred)) ≡ length (floats_in (at parts.Deferred))
+marks-shown at h = length-map (at parts.Deferred) (λ s. s.marked) ∙ sym (length-floats_in parts.Deferred (at parts.Deferred) refl h)

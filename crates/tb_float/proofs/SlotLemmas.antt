@@ -196,3 +196,10 @@ entries-unmarked (s ∷ ss) = ap (λ es. s.entry ∷ es) (entries-unmarked ss)
 pub marks-unmarked : (ss : List SlotView) → marks_in (map unmarked_slot ss) ≡ replicate (length (marks_in ss)) false
 marks-unmarked [] = refl
 marks-unmarked (s ∷ ss) = ap (λ ms. false ∷ ms) (marks-unmarked ss)
+
+-- ---- an entry that is seen stands in a slot
+
+pub slot-of_entry : (ss : List SlotView) (k : ℕ) (e : Entry) → slice_get (entries_in ss) k ≡ Some e → (s : SlotView) × (slice_get ss k ≡ Some s) × (s.entry ≡ e)
+slot-of_entry [] k e h = cc
+slot-of_entry (s ∷ ss) zero e h = (s, refl, grind arith)
+slot-of_entry (s ∷ ss) (suc k) e h = slot-of_entry ss k e h

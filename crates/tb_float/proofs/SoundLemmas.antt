@@ -52,7 +52,7 @@ height-same parts.Bottom z h = refl
 height-same parts.Deferred z h = refl
 height-same parts.Double z h = refl
 
-height-other : (p q : Part) (z : ℤ) (h : Heights) → q ≢ p → height_of (with_height p z h) q ≡ height_of h q
+pub height-other : (p q : Part) (z : ℤ) (h : Heights) → q ≢ p → height_of (with_height p z h) q ≡ height_of h q
 height-other parts.Current parts.Current z h ne = absurd (ne refl)
 height-other parts.Current parts.Here z h ne = refl
 height-other parts.Current parts.Top z h ne = refl
