@@ -64,7 +64,7 @@ lasting_there ns k n e = sym (ap ends_lasting (node_before ns k n e) ∙ ends_wi
 if_true : {X : Type 0} (t : Bool) (x y : X) → t ≡ true → (if t then x else y) ≡ x
 if_true t x y e = ap (λ b. if b then x else y) e
 
-le_true : (k n : ℕ) → k ≤ n → nat_le k n ≡ true
+pub le_true : (k n : ℕ) → k ≤ n → nat_le k n ≡ true
 le_true k n h = grind (arith, nat_tests)
 
 -- the place before a node

@@ -12,7 +12,12 @@ use tb_galley::Galley;
 use tb_io::Sink;
 use tb_report::Totals;
 
-pub fn paginate<K: Sink>(_alloc: Global, galley: &Galley, view: View, out: &mut K) -> Result<Totals, PageFault>
+pub fn paginate<K: Sink>(
+    _alloc: Global,
+    galley: &Galley,
+    view: View,
+    out: &mut K,
+) -> Result<Totals, PageFault>
     requires valid { IsValid galley.now }
     requires live { HasLiveItems galley.now }
     ensures done { IfOk result (Paginates view (run_of galley.now) (K.held out.old) (K.held out.new)) }
