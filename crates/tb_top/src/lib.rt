@@ -4,9 +4,14 @@
 //! [`paginate`] and writes their report, or says on `err` why not.
 #![tactic(auto)]
 
+mod expanding;
 mod input;
 mod laws;
-mod paginate_stub;
+mod limits;
+mod page_lists;
+mod pages;
+mod routine;
+
 mod refusal;
 mod rows;
 mod search;
@@ -14,7 +19,7 @@ mod status;
 mod top;
 
 pub use laws::runs_are_defined;
-pub use paginate_stub::paginate;
+pub use pages::paginate;
 pub use rows::check_rows;
 pub use status::Status;
 pub use tb_report::Totals;
