@@ -1,21 +1,20 @@
 -- The best place is the last of least cost, in words of places.
-use Rattle.std.proofs.Common.{◌≡◌, refl, sym, subst, ◌∙◌, ap, ◌⊎◌, inl, inr, ℕ, zero, suc, ◌+◌, ◌<◌, ◌≤◌, ℤ, pos, Bool, true, false, List, [], ◌∷◌, ◌++◌, length, take, drop, filter, cond, Option, None, Some, append_assoc, length-append, arith}
+use Rattle.std.proofs.Common.{◌≡◌, refl, sym, subst, ◌∙◌, ap, ◌⊎◌, inl, inr, ℕ, suc, ◌<◌, ◌≤◌, ℤ, pos, Bool, true, false, List, [], ◌∷◌, ◌++◌, length, take, drop, filter, cond, Option, None, Some, append_assoc, length-append, arith}
 use Rattle.std.specs.Prelude.{int_le, int_lt, nat_le, ◌+ℤ◌, ◌≤ℤ◌, ◌<ℤ◌, ◌||◌, MatchOption, if◌then◌else◌}
-use Rattle.std.specs.List.{AllByRecursion, All}
+use Rattle.std.specs.List.{AllByRecursion}
 use Rattle.std.proofs.lemmas.Int.{ints}
 use Rattle.std.proofs.lemmas.Bool.{cases_eq, true≢false}
 use Rattle.std.proofs.lemmas.List.Elements.{All-from_recursion}
 use Rattle.tb_scaled.specs.Scaled.{min_ℤ, awful_bad, eject_penalty}
 use Rattle.tb_node.specs.Shape.{Shape, box, glue, kern, penalty, other}
 use Rattle.tb_node.specs.Sums.{sums_of}
-use Rattle.tb_break.specs.declared.Found.{Found}
 use Rattle.tb_break.specs.declared.Best.{Best}
 use Rattle.tb_break.specs.Legal.{last_or, ends_lasting, begins_with_glue, split_penalty, legal_at}
-use Rattle.tb_break.specs.Cost.{page_badness, cost_of_badness}
+use Rattle.tb_break.specs.Cost.{page_badness}
 use Rattle.tb_break.specs.Best.{Breakpoint, best_or, least_cost, up_to_stop, is_stop}
-use Rattle.tb_break.specs.Split.{breakpoint_at, split_places, with_place, end_place, split_place, place_kind, found_at, split_of}
-use Rattle.tb_break.specs.Scan.{Offered, best_among, best_of, least_so_far}
-use Rattle.tb_break.specs.LastLeast.{cost_at, stops_at, IsReached, IsLastLeast, IsLastOfLeast}
+use Rattle.tb_break.specs.Split.{breakpoint_at, split_places, with_place, end_place, found_at, split_of}
+use Rattle.tb_break.specs.Scan.{Offered, best_of, least_so_far}
+use Rattle.tb_break.specs.LastLeast.{IsLastLeast, IsLastOfLeast}
 use Rattle.tb_break.proofs.ScanLemmas.{cost_at_most}
 use Rattle.tb_break.proofs.LegalLemmas.{le_true}
 

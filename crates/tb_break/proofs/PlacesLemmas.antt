@@ -1,11 +1,11 @@
 -- What holds of each legal place holds of the best.
-use Rattle.std.proofs.Common.{◌≡◌, refl, sym, subst, ◌∙◌, ap, ℕ, suc, ◌+◌, ◌≤◌, ℤ, Bool, true, false, List, [], ◌∷◌, ◌++◌, length, filter, cond, Option, None, Some, length-append, arith}
+use Rattle.std.proofs.Common.{ℕ, ◌+◌, ◌≤◌, ℤ, Bool, true, false, List, [], ◌∷◌, ◌++◌, length, filter, cond, Option, None, Some, length-append, arith}
 use Rattle.std.specs.Prelude.{int_le}
 use Rattle.std.specs.List.{AllByRecursion}
 use Rattle.tb_node.specs.Shape.{Shape}
 use Rattle.tb_break.specs.Legal.{last_or, split_penalty}
 use Rattle.tb_break.specs.Best.{Breakpoint, best_or, least_cost, up_to_stop, is_stop}
-use Rattle.tb_break.specs.Split.{breakpoint_at, split_places, with_place, end_place, split_place}
+use Rattle.tb_break.specs.Split.{split_places, with_place, end_place, split_place}
 
 module _ {X : Type 0} (P : X → Type 0) where
   filter-tested : (t : Bool) (x : X) (ys : List X) → P x → AllByRecursion P ys → AllByRecursion P (cond t (x ∷ ys) ys)

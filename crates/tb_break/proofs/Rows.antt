@@ -1,5 +1,5 @@
 -- Worked values of the definitions.
-use Rattle.std.proofs.Common.{◌≡◌, refl, ℕ, ℤ, pos, neg_ℤ, List, [], ◌∷◌, map, Option, None, Some}
+use Rattle.std.proofs.Common.{◌≡◌, refl, ℤ, pos, neg_ℤ, List, [], ◌∷◌, map, None, Some}
 use Rattle.std.specs.Prelude.{codes}
 use Rattle.tb_scaled.specs.Glue.{fixed_glue}
 use Rattle.tb_scaled.specs.Scaled.{awful_bad, badness_of}

@@ -1,8 +1,8 @@
-use Rattle.std.proofs.Common.{◌≡◌, ◌≤ℤ◌, pos, [], ◌∷◌, arith, ℤ}
+use Rattle.std.proofs.Common.{◌≤ℤ◌, pos, [], ◌∷◌, arith}
 use Rattle.std.proofs.lemmas.Int.{ints}
 use Rattle.std.proofs.lemmas.List.Elements.{All-from_recursion}
 use Rattle.tb_node.specs.Plain.{shape_of}
-use Rattle.tb_node.specs.Fit.{IsSized, IsSummable}
+use Rattle.tb_node.specs.Fit.{IsSized}
 use Rattle.tb_node.proofs.FitLemmas.{sized-fits}
 use Rattle.tb_break.proofs.ScanLemmas.{stands-fits}
 use Rattle.tb_break.proofs.tests.a_scan_keeps_the_last_of_least_cost.Goals as goal

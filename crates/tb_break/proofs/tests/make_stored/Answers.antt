@@ -1,4 +1,4 @@
-use Rattle.std.proofs.Common.{◌≡◌, ◌∙◌, ap, sym, ◌++◌, ◌∷◌, [], take, arith}
+use Rattle.std.proofs.Common.{◌∙◌, ap, sym, ◌++◌, ◌∷◌, [], take, arith}
 use Rattle.std.proofs.lemmas.List.{take_more}
 use Rattle.tb_pool.proofs.MapLemmas.{list_steps}
 use Rattle.tb_break.proofs.StoreLemmas.{list-with_list}

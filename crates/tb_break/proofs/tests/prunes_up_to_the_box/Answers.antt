@@ -1,4 +1,4 @@
-use Rattle.std.proofs.Common.{◌≡◌, sym, subst, All}
+use Rattle.std.proofs.Common.{sym, subst, All}
 use Rattle.tb_node.specs.Fit.{IsSizedNode}
 use Rattle.tb_node.proofs.FitLemmas.{list_nodes_fit}
 use Rattle.tb_break.proofs.StoreLemmas.{live-with_list}

@@ -1,4 +1,4 @@
-use Rattle.std.proofs.Common.{◌≡◌, ◌≤◌, ap, sym, subst, length, pos, All, arith}
+use Rattle.std.proofs.Common.{◌≤◌, ap, sym, subst, length, pos, All, arith}
 use Rattle.std.proofs.lemmas.Int.{ints}
 use Rattle.tb_pool.specs.Lists.{list_at}
 use Rattle.tb_node.specs.Fit.{IsSizedNode}
