@@ -8,6 +8,7 @@ ghost use Rattle.tb_node.specs.Small.{IsAmount};
 ghost use Rattle.tb_break.specs.Legal.{begins_with_glue};
 ghost use Rattle.tb_break.specs.Finding.{shapes, NodesFit, SumsFit, scan_after, found_after, stops_after};
 ghost use Rattle.tb_break.specs.Split.{split_of};
+ghost use Rattle.tb_break.specs.LastLeast.{IsLastLeast};
 
 use crate::places::kind_of;
 use crate::{EJECT_PENALTY, Found, PlaceKind, Scan, is_glue, is_lasting, new_scan, place_penalty};
@@ -72,6 +73,7 @@ pub fn split(store: &mut Lists<Node>, l: ListId, height: i64, max_depth: i64, re
     requires nodes { NodesFit (shapes store.old l) }
     requires sums { SumsFit max_depth (shapes store.old l) }
     ensures found { result ≡ split_of height max_depth (shapes store.old l) }
+    ensures last_least { IsLastLeast height max_depth (shapes store.old l) result }
     ensures within { result.index ≤ length (list_at store.old l) }
     ensures parted { store.new.lists ≡ insert (with_list store.old l (take result.index (list_at store.old l))) rest (drop result.index (list_at store.old l)) }
     ensures spare { store.new.spare ≡ store.old.spare }

@@ -36,7 +36,8 @@ get-emptied m old body (Some l) xs can = get-insert_other (insert m body xs) l [
 pub list-emptied : (old now : Lists Node) (body : ℕ) (notes : Option ℕ) (xs : List Node) → CanJoin old body notes → now.lists ≡ emptied notes (with_list old body xs) → list_at now body ≡ xs
 list-emptied old now body notes xs can e = ap (λ (m : FinMap nat_cmp (List Node)). unwrap_or (get m body) []) e ∙ ap (λ (o : Option (List Node)). unwrap_or o []) (get-emptied old.lists old body notes xs can)
 
-live-emptied : (old now : Lists Node) (body : ℕ) (notes : Option ℕ) (xs : List Node) → CanJoin old body notes → now.lists ≡ emptied notes (with_list old body xs) → IsLive now body
+-- the text's list stays live
+pub live-emptied : (old now : Lists Node) (body : ℕ) (notes : Option ℕ) (xs : List Node) → CanJoin old body notes → now.lists ≡ emptied notes (with_list old body xs) → IsLive now body
 live-emptied old now body notes xs can e = ap (λ (m : FinMap nat_cmp (List Node)). is_some (get m body)) e ∙ ap (λ (o : Option (List Node)). is_some o) (get-emptied old.lists old body notes xs can)
 
 -- the text's list is changed again

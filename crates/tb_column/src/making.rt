@@ -1,4 +1,4 @@
-//! Makes columns of the lists that they hold.
+//! Makes a text column of the lists of its text and of its footnotes.
 ghost use Rattle.std.specs.Prelude.{◌≡◌, ◌+◌, ◌<◌, ◌≤◌, ◌≤ℤ◌, ◌≢◌, ℤ, pos, neg_ℤ, map, ◌++◌, ◌∷◌, [], OnOk, OnErr, IfOk};
 ghost use Rattle.tb_pool.specs.Lists.{IsLive, list_at, with_list};
 ghost use Rattle.tb_node.specs.Small.{IsAmount};
@@ -16,6 +16,15 @@ use tb_pack::pack;
 use tb_param::{Choice, Params};
 use tb_pool::{ListId, Lists};
 use tb_scaled::{Glue, Order};
+
+// The rule above footnotes stands between two kerns, and takes no room with them (LaTeX's \footnoterule: 3, 0.4 and
+// 2.6 points).
+const KERN_ABOVE: i64 = -196_608;
+const RULE_HEIGHT: i64 = 26_214;
+const KERN_BELOW: i64 = 170_394;
+
+// The stretch of the glue at a ragged bottom is as small as LaTeX's (\raggedbottom: 0.0001fil).
+const RAGGED_STRETCH: i64 = 7;
 
 // A node that no galley item gives.
 fn made_node(kind: Kind) -> Node
@@ -44,17 +53,17 @@ fn push_rule(store: &mut Lists<Node>, l: ListId, skip: Glue)
     ensures spare { store.new.spare + 4 ≡ store.old.spare }
 {
     push_made(store, l, Kind::Skip(skip));
-    push_made(store, l, Kind::Kern(-196_608));
+    push_made(store, l, Kind::Kern(KERN_ABOVE));
     push_made(
         store,
         l,
         Kind::Rule {
             name: None,
-            height: 26_214,
+            height: RULE_HEIGHT,
             depth: 0,
         },
     );
-    push_made(store, l, Kind::Kern(170_394));
+    push_made(store, l, Kind::Kern(KERN_BELOW));
 }
 
 fn is_ragged(bottom: Choice) -> bool
@@ -73,20 +82,12 @@ fn closing_glue(bottom: Choice, depth: i64) -> Glue
     requires { IsAmount depth }
     ensures { result ≡ closing_by bottom depth }
 {
-    if is_ragged(bottom) {
-        Glue {
-            width: -depth,
-            stretch: 7,
-            order: Order::Fil,
-            shrink: 0,
-        }
-    } else {
-        Glue {
-            width: -depth,
-            stretch: 0,
-            order: Order::Normal,
-            shrink: 0,
-        }
+    let ragged = is_ragged(bottom);
+    Glue {
+        width: -depth,
+        stretch: if ragged { RAGGED_STRETCH } else { 0 },
+        order: if ragged { Order::Fil } else { Order::Normal },
+        shrink: 0,
     }
 }
 

@@ -67,7 +67,7 @@ settled_has P n (Some c) x h = tt
 field_has : {X : Type 0} (P : X → Type 0) (s : Slot) (value : List ℕ → X) → ((f : List ℕ) → slot_cause s f ≡ None → P (value f)) → (l : Left) → IfOk (field_read s value l) (λ x. P x.0)
 field_has P s value good l =
     bind_has (λ y. P y.0) (next_left l) (λ x. settled l.number (slot_cause s x.0) (value x.0, x.1))
-        (λ x. settled_has (λ y. P y.0) l.number (slot_cause s x.0) (value x.0, x.1) (good x.0))
+    (λ x. settled_has (λ y. P y.0) l.number (slot_cause s x.0) (value x.0, x.1) (good x.0))
 
 -- ---- the tests of slots
 
@@ -102,8 +102,8 @@ within_read negative n = within_by negative n (nat_lt 1073741823 n) refl
 part_read : (n : NumberPart) → is_dimen (read_or (pos 0) (dimension_by n)) ≡ true
 part_read n =
     if_read is_dimen (pos 0) (has_no_digit n) (Err BadNumber) _ refl
-        (if_read is_dimen (pos 0) (has_unit n (codes "pt")) _ _ (within_read n.negative (in_points n))
-            (if_read is_dimen (pos 0) (is_scaled n) _ (Err BadUnit) (within_read n.negative (whole_of n)) refl))
+    (if_read is_dimen (pos 0) (has_unit n (codes "pt")) _ _ (within_read n.negative (in_points n))
+    (if_read is_dimen (pos 0) (is_scaled n) _ (Err BadUnit) (within_read n.negative (whole_of n)) refl))
 
 dimension_dimen : (f : List ℕ) → is_dimen (dimension_in f) ≡ true
 dimension_dimen f = part_read (number_part f)
@@ -123,7 +123,7 @@ by_order n None None = ordered_read Normal (dimension_by n) (part_read n)
 stretch_dimen : (f : List ℕ) → is_dimen_pair (stretch_in f) ≡ true
 stretch_dimen f =
     if_read is_dimen_pair (pos 0, Normal) (has_no_digit (number_part f)) (Err BadNumber) _ refl
-        (by_order (number_part f) (points_order (number_part f)) (scaled_order (number_part f)))
+    (by_order (number_part f) (points_order (number_part f)) (scaled_order (number_part f)))
 
 -- ---- fields, from the left
 
@@ -150,19 +150,19 @@ least_has : (low : ℤ) (c : Cause) (l : Left) → IfOk (least_left low c l) (λ
 unfolding least_left
 least_has low c l =
     field_has (λ v. is_within low (pos 1073741823) v ≡ true) (least_slot low c) dimension_in
-        (λ f h. least_dimen low (dimension_in f) (read_none (pos 0) (λ v. not (int_lt v low)) c (dimension_of f) h) (dimension_dimen f)) l
+    (λ f h. least_dimen low (dimension_in f) (read_none (pos 0) (λ v. not (int_lt v low)) c (dimension_of f) h) (dimension_dimen f)) l
 
 pub range_has : (low high : ℤ) (c : Cause) (l : Left) → IfOk (range_left low high c l) (λ x. is_within low high x.0 ≡ true)
 unfolding range_left
 range_has low high c l =
     field_has (λ v. is_within low high v ≡ true) (range_slot low high c) integer_in
-        (λ f h. read_none (pos 0) (is_within low high) c (integer_of f) h) l
+    (λ f h. read_none (pos 0) (is_within low high) c (integer_of f) h) l
 
 fraction_has : (l : Left) → IfOk (fraction_left l) (λ x. is_within (pos 0) (pos 65536) x.0 ≡ true)
 unfolding fraction_left
 fraction_has l =
     field_has (λ v. is_within (pos 0) (pos 65536) v ≡ true) fraction_slot fraction_in
-        (λ f h. read_none (pos 0) (is_within (pos 0) (pos 65536)) causes.Parameter (fraction_of_field f) h) l
+    (λ f h. read_none (pos 0) (is_within (pos 0) (pos 65536)) causes.Parameter (fraction_of_field f) h) l
 
 -- ---- places
 
@@ -190,7 +190,7 @@ places_some : (bs : List ℕ) → list_all is_place_byte bs ≡ true → list_an
 places_some [] h k = cc
 places_some (b ∷ bs) h k =
     some_place (b == 104) (b == 116) (b == 98) (b == 112) (b == 33) (has_byte 104 bs) (has_byte 116 bs) (has_byte 98 bs) (has_byte 112 bs) (list_any (λ c. not (c == 33)) bs)
-        (left_of (is_place_byte b) (list_all is_place_byte bs) h) k (λ (m : list_any (λ c. not (c == 33)) bs ≡ true). places_some bs (right_of (is_place_byte b) (list_all is_place_byte bs) h) m)
+    (left_of (is_place_byte b) (list_all is_place_byte bs) h) k (λ (m : list_any (λ c. not (c == 33)) bs ≡ true). places_some bs (right_of (is_place_byte b) (list_all is_place_byte bs) h) m)
 
 places_has : (l : Left) → IfOk (places_left l) (λ x. has_place x.0.0 ≡ true)
 unfolding places_left
@@ -259,8 +259,8 @@ float_has line l =
     (λ p in_p. then_has (λ h. is_size h.0 ≡ true) (λ x. is_float_at line x.0 ≡ true) (least_left (pos 0) causes.Dimension p.1) _ (least_has (pos 0) causes.Dimension p.1)
     (λ h in_h. bind_has (λ x. is_float_at line x.0 ≡ true) (choice_left (codes "par") (codes "vert") causes.UnknownWord h.1) _
     (λ v. both (line == line) _ (same_number line)
-        (both (is_name n.0 && is_between 1 26 (nat_abs c.0) && has_place p.0.0) (is_size h.0)
-            (both (is_name n.0 && is_between 1 26 (nat_abs c.0)) (has_place p.0.0) (both (is_name n.0) (is_between 1 26 (nat_abs c.0)) in_n (class_between c.0 in_c)) in_p) in_h)))))))
+    (both (is_name n.0 && is_between 1 26 (nat_abs c.0) && has_place p.0.0) (is_size h.0)
+    (both (is_name n.0 && is_between 1 26 (nat_abs c.0)) (has_place p.0.0) (both (is_name n.0) (is_between 1 26 (nat_abs c.0)) in_n (class_between c.0 in_c)) in_p) in_h)))))))
 
 abbrev pub is_margin_at : ℕ → Margin × Bool → Bool
 is_margin_at line m = (m.0.line == line) && is_margin m.0
@@ -292,19 +292,19 @@ pub value_has : (form : Form) (l : Left) → IfOk (value_left form l) (λ x. fit
 unfolding value_left
 value_has (forms.Int low high) l =
     mapped_has (λ v. fits (forms.Int low high) v ≡ true) (λ n. values.Int n) (range_left low high causes.Parameter l)
-        (has_more (λ x. is_within low high x.0 ≡ true) (λ x. fits (forms.Int low high) (values.Int x.0) ≡ true) (range_left low high causes.Parameter l) (λ x h. if_fits (is_within low high x.0) h) (range_has low high causes.Parameter l))
+    (has_more (λ x. is_within low high x.0 ≡ true) (λ x. fits (forms.Int low high) (values.Int x.0) ≡ true) (range_left low high causes.Parameter l) (λ x h. if_fits (is_within low high x.0) h) (range_has low high causes.Parameter l))
 value_has (forms.Dim low) l =
     mapped_has (λ v. fits (forms.Dim low) v ≡ true) (λ n. values.Dim n) (least_left low causes.Parameter l)
-        (has_more (λ x. is_within low (pos 1073741823) x.0 ≡ true) (λ x. fits (forms.Dim low) (values.Dim x.0) ≡ true) (least_left low causes.Parameter l) (λ x h. if_fits (is_within low (pos 1073741823) x.0) h) (least_has low causes.Parameter l))
+    (has_more (λ x. is_within low (pos 1073741823) x.0 ≡ true) (λ x. fits (forms.Dim low) (values.Dim x.0) ≡ true) (least_left low causes.Parameter l) (λ x h. if_fits (is_within low (pos 1073741823) x.0) h) (least_has low causes.Parameter l))
 value_has forms.Frac l =
     mapped_has (λ v. fits forms.Frac v ≡ true) (λ n. values.Frac n) (fraction_left l)
-        (has_more (λ x. is_within (pos 0) (pos 65536) x.0 ≡ true) (λ x. fits forms.Frac (values.Frac x.0) ≡ true) (fraction_left l) (λ x h. if_fits (is_within (pos 0) (pos 65536) x.0) h) (fraction_has l))
+    (has_more (λ x. is_within (pos 0) (pos 65536) x.0 ≡ true) (λ x. fits forms.Frac (values.Frac x.0) ≡ true) (fraction_left l) (λ x h. if_fits (is_within (pos 0) (pos 65536) x.0) h) (fraction_has l))
 value_has forms.Skip l =
     mapped_has (λ v. fits forms.Skip v ≡ true) (λ g. values.Skip g) (glue_left causes.WrongForm l)
-        (has_more (λ x. is_glue x.0 ≡ true) (λ x. fits forms.Skip (values.Skip x.0) ≡ true) (glue_left causes.WrongForm l) (λ x h. if_fits (is_glue x.0) h) (glue_has causes.WrongForm l))
+    (has_more (λ x. is_glue x.0 ≡ true) (λ x. fits forms.Skip (values.Skip x.0) ≡ true) (glue_left causes.WrongForm l) (λ x h. if_fits (is_glue x.0) h) (glue_has causes.WrongForm l))
 value_has forms.Bottom l =
     mapped_has (λ v. fits forms.Bottom v ≡ true) (λ b. values.Word (if b then Flush else Ragged)) (choice_left (codes "ragged") (codes "flush") causes.WrongForm l)
-        (always (λ x. bottom_word x.0) (choice_left (codes "ragged") (codes "flush") causes.WrongForm l))
+    (always (λ x. bottom_word x.0) (choice_left (codes "ragged") (codes "flush") causes.WrongForm l))
 value_has forms.Switch l =
     mapped_has (λ v. fits forms.Switch v ≡ true) (λ b. values.Word (if b then On else Off)) (choice_left (codes "off") (codes "on") causes.WrongForm l)
-        (always (λ x. switch_word x.0) (choice_left (codes "off") (codes "on") causes.WrongForm l))
+    (always (λ x. switch_word x.0) (choice_left (codes "off") (codes "on") causes.WrongForm l))

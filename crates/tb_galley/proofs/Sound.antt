@@ -11,8 +11,8 @@ use Rattle.tb_param.specs.Ranges.{are_params}
 use Rattle.tb_param.specs.Fields.{with_value}
 use Rattle.tb_param.proofs.RangeLemmas.{defaults_are_in_range}
 use Rattle.tb_galley.specs.declared.Cause.TheVariants as causes
-use Rattle.tb_galley.specs.declared.Content.{Content}
-use Rattle.tb_galley.specs.declared.Content.TheVariants as contents
+use Rattle.tb_galley.specs.declared.contents.Content.{Content}
+use Rattle.tb_galley.specs.declared.contents.Content.TheVariants as contents
 use Rattle.tb_galley.specs.declared.Fault.{Fault}
 use Rattle.tb_galley.specs.declared.Galley.{Galley}
 use Rattle.tb_galley.specs.declared.Item.{Item}
@@ -134,8 +134,16 @@ later_line ended n e = omega arith
 
 past_line : (n : ℕ) (p : Phase) (c : ℕ) (d : Draft) → Sound n p c d → Sound (n + 1) p c d
 past_line n p c d s = record {
-  params = s.params; items = s.items; leaves = s.leaves; live = s.live; live_foot = s.live_foot; weight = s.weight; count = s.count; phase = s.phase;
-  lines = rises_later_from 0 (lines_so_far d) (last_line p n d.end_line) (last_line p (n + 1) d.end_line) s.lines (later_line p n d.end_line) }
+  params = s.params;
+  items = s.items;
+  leaves = s.leaves;
+  live = s.live;
+  live_foot = s.live_foot;
+  weight = s.weight;
+  count = s.count;
+  phase = s.phase;
+  lines = rises_later_from 0 (lines_so_far d) (last_line p n d.end_line) (last_line p (n + 1) d.end_line) s.lines (later_line p n d.end_line);
+}
 
 -- ---- the header and the sets
 
@@ -188,8 +196,9 @@ item_line n c ps is e k fits good live one named p next s =
       count = fits;
       phase = refl;
       lines =
-        subst (λ ns. Rises ns (n + 1 + 1)) (sym (nothing_more (named_lines (is ++ i ∷ [])) ∙ named-append is i))
-            (more_lines (named_lines is) (lines_of_item (n + 1) k) (n + 1) (n + 1 + 1) named (omega arith) before) }
+          subst (λ ns. Rises ns (n + 1 + 1)) (sym (nothing_more (named_lines (is ++ i ∷ [])) ∙ named-append is i))
+          (more_lines (named_lines is) (lines_of_item (n + 1) k) (n + 1) (n + 1 + 1) named (omega arith) before);
+    }
 
 -- a line of an open foot
 leaf_line : (n c : ℕ) (ps : Params) (is : List Item) (o : OpenFoot) (e : ℕ) (k : LeafKind) → c + 1 ≤ 100000 → is_leaf k ≡ true → Sound n in_foot c (drafted ps is (Some o) e)
@@ -208,8 +217,9 @@ leaf_line n c ps is o e k fits good s =
       count = fits;
       phase = refl;
       lines =
-        subst (λ ns. Rises ns (n + 1 + 1)) (append_assoc (named_lines is) (leaf_lines o.leaves) ((n + 1) ∷ []) ∙ ap (λ ns. named_lines is ++ ns) (sym (leaf_lines-append o.leaves l)))
-            (rises_more_from 0 (named_lines is ++ leaf_lines o.leaves) (n + 1) (n + 1 + 1) s.lines (omega arith)) }
+          subst (λ ns. Rises ns (n + 1 + 1)) (append_assoc (named_lines is) (leaf_lines o.leaves) ((n + 1) ∷ []) ∙ ap (λ ns. named_lines is ++ ns) (sym (leaf_lines-append o.leaves l)))
+          (rises_more_from 0 (named_lines is ++ leaf_lines o.leaves) (n + 1) (n + 1 + 1) s.lines (omega arith));
+    }
 
 foot_line : (n c : ℕ) (ps : Params) (is : List Item) (e : ℕ) → c + 1 ≤ 100000 → is_served foot ≡ true → (p : Phase) → last_line p n e ≡ n + 1 → Sound n p c (drafted ps is None e)
     → Sound (n + 1) in_foot (c + 1) (with_content (drafted ps is None e) (n + 1) contents.Foot)
@@ -224,7 +234,8 @@ foot_line n c ps is e fits served p next s =
       weight = omega arith;
       count = fits;
       phase = refl;
-      lines = rises_later_from 0 (named_lines is ++ []) (last_line p n e) (n + 1 + 1) s.lines (omega arith) }
+      lines = rises_later_from 0 (named_lines is ++ []) (last_line p n e) (n + 1 + 1) s.lines (omega arith);
+    }
 
 endfoot_line : (n c : ℕ) (ps : Params) (is : List Item) (o : OpenFoot) (e : ℕ) → c + 1 ≤ 100000 → Sound n in_foot c (drafted ps is (Some o) e)
     → Sound (n + 1) among_items (c + 1) (with_foot (drafted ps is (Some o) e) (Some o))
@@ -242,14 +253,23 @@ endfoot_line n c ps is o e fits s =
       count = fits;
       phase = refl;
       lines =
-        subst (λ ns. Rises ns (n + 1 + 1)) (sym (nothing_more (named_lines (is ++ i ∷ [])) ∙ named-append is i))
-            (rises_later_from 0 (named_lines is ++ leaf_lines o.leaves) (n + 1) (n + 1 + 1) s.lines (omega arith)) }
+          subst (λ ns. Rises ns (n + 1 + 1)) (sym (nothing_more (named_lines (is ++ i ∷ [])) ∙ named-append is i))
+          (rises_later_from 0 (named_lines is ++ leaf_lines o.leaves) (n + 1) (n + 1 + 1) s.lines (omega arith));
+    }
 
 end_line : (n c : ℕ) (ps : Params) (is : List Item) (e : ℕ) (p : Phase) → last_line p n e ≡ n + 1 → Sound n p c (drafted ps is None e)
     → Sound (n + 1) ended c (drafted ps is None (n + 1))
 end_line n c ps is e p next s = record {
-  params = s.params; items = s.items; leaves = s.leaves; live = s.live; live_foot = s.live_foot; weight = s.weight; count = s.count; phase = refl;
-  lines = subst (λ a. Rises (named_lines is ++ []) a) next s.lines }
+  params = s.params;
+  items = s.items;
+  leaves = s.leaves;
+  live = s.live;
+  live_foot = s.live_foot;
+  weight = s.weight;
+  count = s.count;
+  phase = refl;
+  lines = subst (λ a. Rises (named_lines is ++ []) a) next s.lines;
+}
 
 -- ---- each content, in each phase
 
@@ -372,7 +392,7 @@ fixed_word : (p : Phase) (c : ℕ) (v w : LineWord) (P : LineWord → Type 0) �
     → (first_of (place_causes p (Some v)) ≡ None → first_of (item_causes c (Some v)) ≡ None → is_served v ≡ true → P v) → P w
 fixed_word p c v w P same place fits served f =
     subst P (sym same)
-        (f (subst (λ x. first_of (place_causes p (Some x)) ≡ None) same place) (subst (λ x. first_of (item_causes c (Some x)) ≡ None) same fits) (subst (λ x. is_served x ≡ true) same served))
+    (f (subst (λ x. first_of (place_causes p (Some x)) ≡ None) same place) (subst (λ x. first_of (item_causes c (Some x)) ≡ None) same fits) (subst (λ x. is_served x ≡ true) same served))
 
 content_steps : (n : ℕ) (p : Phase) (c : ℕ) (d : Draft) (w : LineWord) (k : Content) → first_of (place_causes p (Some w)) ≡ None → first_of (item_causes c (Some w)) ≡ None → is_served w ≡ true → Suits (n + 1) w k
     → Sound n p c d → Steps n p c w (with_content d (n + 1) k)
@@ -384,10 +404,10 @@ content_steps n p c d w (contents.Plain k) place fits served good s = leaf_steps
 content_steps n p c d w (contents.Item k) place fits served good s = single_steps n p c d w k place fits served good s
 content_steps n p c d w contents.Foot place fits served good s =
     fixed_word p c foot w (λ v. Steps n p c v (with_content d (n + 1) contents.Foot)) good place fits served
-        (λ pl fi se. foot_steps n c d.params d.items d.end_line (items_left c (nat_le 100000 c) refl fi) se p d.foot pl s)
+    (λ pl fi se. foot_steps n c d.params d.items d.end_line (items_left c (nat_le 100000 c) refl fi) se p d.foot pl s)
 content_steps n p c d w contents.Endfoot place fits served good s =
     fixed_word p c endfoot w (λ v. Steps n p c v (with_foot d d.foot)) good place fits served
-        (λ pl fi se. endfoot_steps n c d.params d.items d.end_line (items_left c (nat_le 100000 c) refl fi) p d.foot pl s)
+    (λ pl fi se. endfoot_steps n c d.params d.items d.end_line (items_left c (nat_le 100000 c) refl fi) p d.foot pl s)
 content_steps n p c d w contents.End place fits served good s =
     fixed_word p c end w (λ v. Steps n p c v (record d { end_line = n + 1 })) good place fits served (λ pl fi se. end_steps n c d.params d.items d.end_line p d.foot pl s)
 
@@ -406,7 +426,7 @@ said_sound s (Ok None) none sound said =
     subst (λ o. SoundBy o (record s { lines = s.lines + 1 })) (sym none) (past_line s.lines s.phase s.count s.draft sound)
 said_sound s (Ok (Some w)) none sound said =
     subst (λ o. SoundBy o (past_said s (Some w))) (sym none)
-        (content_steps s.lines s.phase s.count s.draft w.word w.content said.place said.items said.served said.suits sound)
+    (content_steps s.lines s.phase s.count s.draft w.word w.content said.place said.items said.served said.suits sound)
 said_sound s (Err e) none sound said = tt
 
 first_sound : (s : State) (bytes : List ℕ) (o : Option Fault) → s.first ≡ o → SoundBy o s → IsSoundReader (said_first s bytes o)
@@ -419,7 +439,16 @@ lines_sound s (bytes ∷ lines) sound = lines_sound (take_said s bytes) lines (f
 
 start_sound : IsSoundReader start
 start_sound = record {
-  params = defaults_are_in_range; items = refl; leaves = refl; live = refl; live_foot = refl; weight = omega arith; count = omega arith; phase = refl; lines = refl }
+  params = defaults_are_in_range;
+  items = refl;
+  leaves = refl;
+  live = refl;
+  live_foot = refl;
+  weight = omega arith;
+  count = omega arith;
+  phase = refl;
+  lines = refl;
+}
 
 -- the galley that a reader gives
 pub record IsServed (g : Galley) : Type 0 where
@@ -435,8 +464,10 @@ ended_galley n c ps is None e s =
         params = s.params;
         items = s.items;
         count = few;
-        lines = subst (λ ns. Rises ns e) (nothing_more (named_lines is)) s.lines };
-      live = record { live = s.live } }
+        lines = subst (λ ns. Rises ns e) (nothing_more (named_lines is)) s.lines;
+      };
+      live = record { live = s.live };
+    }
 ended_galley n c ps is (Some o) e s = cc
 
 end_served : (s : State) (p : Phase) → Sound s.lines p s.count s.draft → IfOk (end_by s (end_causes p)) IsServed

@@ -13,8 +13,8 @@ use Rattle.tb_param.specs.Fields.{with_value}
 use Rattle.tb_param.specs.Table.{Row, row_of, is_within, is_dimen, is_glue}
 use Rattle.tb_param.proofs.RangeLemmas.{fits, stays_in_range}
 use Rattle.tb_galley.specs.declared.Cause.TheVariants as causes
-use Rattle.tb_galley.specs.declared.Content.{Content}
-use Rattle.tb_galley.specs.declared.Content.TheVariants as contents
+use Rattle.tb_galley.specs.declared.contents.Content.{Content}
+use Rattle.tb_galley.specs.declared.contents.Content.TheVariants as contents
 use Rattle.tb_galley.specs.declared.ItemKind.{ItemKind}
 use Rattle.tb_galley.specs.declared.ItemKind.TheVariants as items
 use Rattle.tb_galley.specs.declared.LeafKind.{LeafKind}
@@ -133,8 +133,8 @@ set_suits : (n m : ℕ) (l : Left) (name : List ℕ) (o : Option Row) → row_of
 set_suits n m l name None found = tt
 set_suits n m l name (Some r) found =
     mapped_has (λ c. Suits n setting c) (λ v. contents.Set r.field v) (value_left r.form l)
-        (has_more (λ x. fits r.form x.0 ≡ true) (λ x. Suits n setting (contents.Set r.field x.0)) (value_left r.form l)
-            (λ x good. (refl, λ p h. stays_in_range name r x.0 p found good h)) (value_has r.form l))
+    (has_more (λ x. fits r.form x.0 ≡ true) (λ x. Suits n setting (contents.Set r.field x.0)) (value_left r.form l)
+    (λ x good. (refl, λ p h. stays_in_range name r x.0 p found good h)) (value_has r.form l))
 
 -- content that is made of what is read, where it suits wherever the reading is in its range
 made_has : {X : Type 0} (n : ℕ) (w : LineWord) (P : X → Type 0) (k : X → Content) (r : Result (X × Left) At) → IfOk r (λ x. P x.0) → ((x : X) → P x → Suits n w (k x))
@@ -191,18 +191,18 @@ worded_suits : (p : Phase) (count : ℕ) (l : Line) (o : Option LineWord) → wo
 worded_suits p count l None found place fits = tt
 worded_suits p count l (Some w) found place fits =
     said_has (SaidSuits p count l.number) w (finished (content_left l.number w (record { number = 2; missing = missing_cause w; fields = l.fields })))
-        (has_more (λ c. Suits l.number w c) (λ c. SaidSuits p count l.number (record { word = w; content = c })) (finished (content_left l.number w (record { number = 2; missing = missing_cause w; fields = l.fields })))
-            (λ c h. record { place = place; items = fits; suits = h; served = found_served l.head w found })
-            (finished_has (λ c. Suits l.number w c) (content_left l.number w (record { number = 2; missing = missing_cause w; fields = l.fields })) (content_suits l.number w (record { number = 2; missing = missing_cause w; fields = l.fields }))))
+    (has_more (λ c. Suits l.number w c) (λ c. SaidSuits p count l.number (record { word = w; content = c })) (finished (content_left l.number w (record { number = 2; missing = missing_cause w; fields = l.fields })))
+    (λ c h. record { place = place; items = fits; suits = h; served = found_served l.head w found })
+    (finished_has (λ c. Suits l.number w c) (content_left l.number w (record { number = 2; missing = missing_cause w; fields = l.fields })) (content_suits l.number w (record { number = 2; missing = missing_cause w; fields = l.fields }))))
 
 content_line_suits : (p : Phase) (count : ℕ) (l : Line) → word_of l.head ≡ l.word → IfOk (content_line p count l) (IfSaid (SaidSuits p count l.number))
 unfolding content_line
 content_line_suits p count l found =
     bind_has (IfSaid (SaidSuits p count l.number)) (if list_all is_printable l.head then Ok (tt {0}) else at_fault 1 causes.NotAscii) _
     (λ a. then_has (λ x. first_of (place_causes p l.word) ≡ None) (IfSaid (SaidSuits p count l.number)) (settled 1 (first_of (place_causes p l.word)) (tt {0})) _
-        (settled_has (λ x. first_of (place_causes p l.word) ≡ None) 1 (first_of (place_causes p l.word)) (tt {0}) (λ e. e))
+    (settled_has (λ x. first_of (place_causes p l.word) ≡ None) 1 (first_of (place_causes p l.word)) (tt {0}) (λ e. e))
     (λ x place. then_has (λ y. first_of (item_causes count l.word) ≡ None) (IfSaid (SaidSuits p count l.number)) (settled 1 (first_of (item_causes count l.word)) (tt {0})) _
-        (settled_has (λ y. first_of (item_causes count l.word) ≡ None) 1 (first_of (item_causes count l.word)) (tt {0}) (λ e. e))
+    (settled_has (λ y. first_of (item_causes count l.word) ≡ None) 1 (first_of (item_causes count l.word)) (tt {0}) (λ e. e))
     (λ y fits. worded_suits p count l l.word found place fits)))
 
 lines_suit : (p : Phase) (count n : ℕ) (fs : List (List ℕ)) (t : Bool) → IfOk (content_lines p count (if t then [] else line_at n fs ∷ [])) (IfSaid (SaidSuits p count n))

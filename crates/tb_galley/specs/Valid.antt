@@ -19,6 +19,7 @@ use Rattle.tb_galley.specs.declared.Galley.{Galley}
 abbrev pub is_size : ℤ → Bool
 is_size v = is_within (pos 0) max_dimen v
 
+-- what stands in a footnote has its amounts in their ranges
 abbrev pub is_leaf : LeafKind → Bool
 is_leaf (leaves.Hbox name h d) = is_name name && is_size h && is_size d
 is_leaf (leaves.Rule name h d) = is_name name && is_size h && is_size d
@@ -26,9 +27,11 @@ is_leaf (leaves.Skip g) = is_glue g
 is_leaf (leaves.Kern w) = is_dimen w
 is_leaf (leaves.Penalty p) = is_within (neg_ℤ (pos 10000)) (pos 10000) p
 
+-- a float has a name, a class from 1 to 26, a place that is not `!` alone, and a height
 abbrev pub is_float : Float → Bool
 is_float f = is_name f.name && is_between 1 26 f.class && (f.places.h || f.places.t || f.places.b || f.places.p) && is_size f.height
 
+-- a marginal note has a name and the sizes of two boxes
 abbrev pub is_margin : Margin → Bool
 is_margin m = is_name m.name && is_size m.left_height && is_size m.left_depth && is_size m.right_height && is_size m.right_depth
 
@@ -57,6 +60,7 @@ abbrev pub weight_of : ItemKind → ℕ
 weight_of (items.Foot ls) = length ls + 2
 weight_of _ = 1
 
+-- how many lines of items all count for
 abbrev pub weight : List Item → ℕ
 weight [] = 0
 weight (n ∷ ns) = weight_of n.kind + weight ns
@@ -66,6 +70,7 @@ abbrev pub leaf_lines : List Leaf → List ℕ
 leaf_lines [] = []
 leaf_lines (l ∷ ls) = l.line ∷ leaf_lines ls
 
+-- the lines of an item that must rise
 abbrev pub lines_of_item : ℕ → ItemKind → List ℕ
 lines_of_item n (items.Hbox name h d) = n ∷ []
 lines_of_item n (items.Rule name h d) = n ∷ []
@@ -74,14 +79,17 @@ lines_of_item n (items.Float f vert) = n ∷ []
 lines_of_item n (items.Margin m vert) = n ∷ []
 lines_of_item n _ = []
 
+-- the same of all items in order
 abbrev pub named_lines : List Item → List ℕ
 named_lines [] = []
 named_lines (n ∷ ns) = lines_of_item n.line n.kind ++ named_lines ns
 
+-- each number is greater than the one before it
 abbrev pub rise_from : ℕ → List ℕ → Bool
 rise_from n [] = true
 rise_from n (m ∷ ms) = nat_lt n m && rise_from m ms
 
+-- all values lie in their ranges, the items are not too many, and the lines rise
 pub record IsValid (g : Galley) : Type 0 where
   pub params : IsTrue (are_params g.params)
   pub items : IsTrue (list_all (λ n. is_item n.line n.kind) g.items)

@@ -106,51 +106,136 @@ switch_fits (kinds.Frac n) h = cc
 switch_fits (kinds.Word c) h = h
 
 rows_fit : AllRows FitsPlace rows
-rows_fit =
-    (dim_fits (pos 1),
-    (dim_fits (pos 1),
-    (dim_fits (pos 0),
-    (dim_fits (pos 0),
-    (bottom_fits,
-    (int_fits (pos 0) (pos 1000),
-    (int_fits (pos 0) (pos 1000),
-    (int_fits (pos 0) (pos 1000),
-    (int_fits (pos 0) (pos 1000),
-    (frac_fits,
-    (frac_fits,
-    (frac_fits,
-    (frac_fits,
-    (frac_fits,
-    (frac_fits,
-    (skip_fits,
-    (skip_fits,
-    (skip_fits,
-    (skip_fits,
-    (skip_fits,
-    (skip_fits,
-    (skip_fits,
-    (skip_fits,
-    (skip_fits,
-    (skip_fits,
-    (skip_fits,
-    (skip_fits,
-    (dim_fits (pos 0),
-    (dim_fits (pos 0),
-    (dim_fits (pos 0),
-    (int_fits (negsuc 99999) (pos 100000),
-    (dim_fits (pos 0),
-    (dim_fits (pos 0),
-    (int_fits (negsuc 99999) (pos 100000),
-    (int_fits (negsuc 9998) (pos 10000),
-    (skip_fits,
-    (dim_fits (pos 0),
-    (switch_fits,
-    (switch_fits,
-    (int_fits (pos 2) (pos 4096),
-    (int_fits (pos 1) (pos 1000000),
-    (int_fits (pos 1) (pos 1000000),
-    (int_fits (pos 100) (pos 4194304),
-    tt)))))))))))))))))))))))))))))))))))))))))))
+rows_fit = (
+  dim_fits (pos 1),
+  (
+    dim_fits (pos 1),
+    (
+      dim_fits (pos 0),
+      (
+        dim_fits (pos 0),
+        (
+          bottom_fits,
+          (
+            int_fits (pos 0) (pos 1000),
+            (
+              int_fits (pos 0) (pos 1000),
+              (
+                int_fits (pos 0) (pos 1000),
+                (
+                  int_fits (pos 0) (pos 1000),
+                  (
+                    frac_fits,
+                    (
+                      frac_fits,
+                      (
+                        frac_fits,
+                        (
+                          frac_fits,
+                          (
+                            frac_fits,
+                            (
+                              frac_fits,
+                              (
+                                skip_fits,
+                                (
+                                  skip_fits,
+                                  (
+                                    skip_fits,
+                                    (
+                                      skip_fits,
+                                      (
+                                        skip_fits,
+                                        (
+                                          skip_fits,
+                                          (
+                                            skip_fits,
+                                            (
+                                              skip_fits,
+                                              (
+                                                skip_fits,
+                                                (
+                                                  skip_fits,
+                                                  (
+                                                    skip_fits,
+                                                    (
+                                                      skip_fits,
+                                                      (
+                                                        dim_fits (pos 0),
+                                                        (
+                                                          dim_fits (pos 0),
+                                                          (
+                                                            dim_fits (pos 0),
+                                                            (
+                                                              int_fits (negsuc 99999) (pos 100000),
+                                                              (
+                                                                dim_fits (pos 0),
+                                                                (
+                                                                  dim_fits (pos 0),
+                                                                  (
+                                                                    int_fits (negsuc 99999) (pos 100000),
+                                                                    (
+                                                                      int_fits (negsuc 9998) (pos 10000),
+                                                                      (
+                                                                        skip_fits,
+                                                                        (
+                                                                          dim_fits (pos 0),
+                                                                          (
+                                                                            switch_fits,
+                                                                            (
+                                                                              switch_fits,
+                                                                              (
+                                                                                int_fits (pos 2) (pos 4096),
+                                                                                (
+                                                                                  int_fits (pos 1) (pos 1000000),
+                                                                                  (
+                                                                                    int_fits (pos 1) (pos 1000000),
+                                                                                    (
+                                                                                      int_fits (pos 100) (pos 4194304),
+                                                                                      tt,
+                                                                                    ),
+                                                                                  ),
+                                                                                ),
+                                                                              ),
+                                                                            ),
+                                                                          ),
+                                                                        ),
+                                                                      ),
+                                                                    ),
+                                                                  ),
+                                                                ),
+                                                              ),
+                                                            ),
+                                                          ),
+                                                        ),
+                                                      ),
+                                                    ),
+                                                  ),
+                                                ),
+                                              ),
+                                            ),
+                                          ),
+                                        ),
+                                      ),
+                                    ),
+                                  ),
+                                ),
+                              ),
+                            ),
+                          ),
+                        ),
+                      ),
+                    ),
+                  ),
+                ),
+              ),
+            ),
+          ),
+        ),
+      ),
+    ),
+  ),
+)
 
 row_in_by : (P : Row → Type 0) (q : Row) (qs : List Row) (name : List ℕ) (r : Row) → P q → (row_in qs name ≡ Some r → P r)
     → (t : Bool) → (if t then Some q else row_in qs name) ≡ Some r → P r

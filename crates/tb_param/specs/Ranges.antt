@@ -6,6 +6,7 @@ use Rattle.tb_param.specs.declared.ParamFault.{ParamFault}
 use Rattle.tb_param.specs.Fields.{value_of}
 use Rattle.tb_param.specs.Table.{Row, rows, value_fault}
 
+-- nothing is wrong
 abbrev pub is_no_fault : Option ParamFault → Bool
 is_no_fault None = true
 is_no_fault (Some e) = false

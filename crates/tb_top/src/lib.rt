@@ -50,3 +50,6 @@ pub enum PageFault {
     /// There was no memory.
     Memory,
 }
+
+#[cfg(test)]
+mod tests;

@@ -1,5 +1,6 @@
 use Rattle.std.proofs.Common.{sym}
-use Rattle.tb_column.proofs.StoreLemmas.{get-with_list, live-get, joined}
+use Rattle.tb_pool.proofs.CallerLemmas.{live_other}
+use Rattle.tb_column.proofs.StoreLemmas.{joined}
 use Rattle.tb_column.specs.TextList.{rule_above}
 use Rattle.tb_column.proofs.ColumnLemmas.{joined_none}
 use Rattle.tb_column.proofs.making.join_notes.Goals as goal
@@ -7,7 +8,7 @@ use Rattle.tb_column.proofs.making.join_notes.Goals as goal
 pub append-requires-clause-second_live : goal.append-requires-clause-second_live
 append-requires-clause-second_live c =
     let can = rw c.in-Some.is at c.requires.notes in
-    live-get c.args.store.now c.push_rule.new.store c.in-Some.notes (get-with_list c.args.store.now c.push_rule.new.store c.args.body c.in-Some.notes _ c.push_rule.ensures.lists (λ e. can.apart (sym e))) can.live
+    live_other c.args.store.now c.push_rule.new.store c.args.body _ c.in-Some.notes (λ e. can.apart (sym e)) c.push_rule.ensures.lists can.live
 
 pub returns-in-Some-clause-lists : goal.returns-in-Some-clause-lists
 returns-in-Some-clause-lists c =
