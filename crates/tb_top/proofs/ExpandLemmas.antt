@@ -90,9 +90,10 @@ box-served t h d v = (size-extent h (and-second t (is_size h) (and-first (t && i
 
 glue-served : (g : Glue) → IsTrue (is_glue g) → IsServed (kinds.Skip g)
 glue-served g v = (
-    dimen-dimension g.width (and-first (is_dimen g.width) (is_dimen g.stretch) (and-first (is_dimen g.width && is_dimen g.stretch) (is_dimen g.shrink) v)),
-    dimen-dimension g.stretch (and-second (is_dimen g.width) (is_dimen g.stretch) (and-first (is_dimen g.width && is_dimen g.stretch) (is_dimen g.shrink) v)),
-    dimen-dimension g.shrink (and-second (is_dimen g.width && is_dimen g.stretch) (is_dimen g.shrink) v))
+  dimen-dimension g.width (and-first (is_dimen g.width) (is_dimen g.stretch) (and-first (is_dimen g.width && is_dimen g.stretch) (is_dimen g.shrink) v)),
+  dimen-dimension g.stretch (and-second (is_dimen g.width) (is_dimen g.stretch) (and-first (is_dimen g.width && is_dimen g.stretch) (is_dimen g.shrink) v)),
+  dimen-dimension g.shrink (and-second (is_dimen g.width && is_dimen g.stretch) (is_dimen g.shrink) v),
+)
 
 penalty-served : (q : ℤ) → IsTrue (is_within (neg_ℤ (pos 10000)) (pos 10000) q) → IsBreakPenalty q
 penalty-served q v = record { low = grind (arith, ints, v); high = grind (arith, ints, v) }
@@ -149,8 +150,8 @@ items-served : (ns : List Item) → IsTrue (list_all (λ (n : Item). is_item n.l
 items-served [] v = tt
 items-served (n ∷ ns) v =
     served-append (nodes_on n.line (made_kinds n.kind)) (item_list ns)
-        (item-served n.line n.kind (and-first (is_item n.line n.kind) (list_all (λ (m : Item). is_item m.line m.kind) ns) v))
-        (items-served ns (and-second (is_item n.line n.kind) (list_all (λ (m : Item). is_item m.line m.kind) ns) v))
+    (item-served n.line n.kind (and-first (is_item n.line n.kind) (list_all (λ (m : Item). is_item m.line m.kind) ns) v))
+    (items-served ns (and-second (is_item n.line n.kind) (list_all (λ (m : Item). is_item m.line m.kind) ns) v))
 
 pub galley-served : (g : Galley) → IsValid g → AreServed (galley_list g)
 galley-served g v = served-append (item_list g.items) (nodes_on g.end_line clear_kinds) (items-served g.items v.items) (clear-nodes-served g.end_line)

@@ -248,7 +248,7 @@ report-is r = append_assoc header (all_lines event_lines r.events) (closing_line
 
 begins-by : (p : Params) (v : View) (s : State) (old now : Option (List ℕ)) (t : Bool) → int_lt p.maxnodes (pos (held_count s)) ≡ t → 1 ≤ s.page → Appends old now (viewed v header)
     → (let whole : Run = (if t then record { events = []; records = []; end = node_limit (held_count s) } else run_from p (suc (firings_left p s)) s) in
-       (t ≡ false → Going p v s old now no_totals whole) × (t ≡ true → Closing v (node_limit (held_count s)) old now no_totals whole))
+    (t ≡ false → Going p v s old now no_totals whole) × (t ≡ true → Closing v (node_limit (held_count s)) old now no_totals whole))
 begins-by p v s old now true e page a =
     let whole : Run = record { events = []; records = []; end = node_limit (held_count s) } in
     ((λ k. cc), (λ k. record { written = header; appended = a; text = report-is whole; end = refl; totals = refl }))

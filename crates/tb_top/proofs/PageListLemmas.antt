@@ -41,13 +41,15 @@ module _ {T : Type 0} where
       let front : take (n - 1) (list_at s l) ≡ take (n - 1) (list_at a l) = ap (take (n - 1)) at_s ∙ take-take-less (n - 1) n (list_at a l) (omega arith) in
       let count : length (list_at t l) ≡ n - 1 = ap length at_t ∙ length-take-le (n - 1) (list_at s l) (omega arith) in
       let most = h.most in
-      let enough = h.enough in
-      (record {
-        live = live-with_list s t l (take (n - 1) (list_at s l)) rest;
-        lists = with_list-twice a s t l (take n (list_at a l)) (take (n - 1) (list_at s l)) h.lists rest ∙ ap (with_list a l) (front ∙ ap (λ i. take i (list_at a l)) (sym count));
-        most = omega arith;
-        enough = omega arith;
-      }, omega arith)
+      let enough = h.enough in (
+        record {
+          live = live-with_list s t l (take (n - 1) (list_at s l)) rest;
+          lists = with_list-twice a s t l (take n (list_at a l)) (take (n - 1) (list_at s l)) h.lists rest ∙ ap (with_list a l) (front ∙ ap (λ i. take i (list_at a l)) (sym count));
+          most = omega arith;
+          enough = omega arith;
+        },
+        omega arith,
+      )
 
   pub short-enough : (a s : Lists T) (l k : ℕ) → Shortened a s l k → length (list_at s l) ≤ k → s.lists ≡ with_list a l (take k (list_at a l))
   short-enough a s l k h less = h.lists ∙ ap (with_list a l) (ap (λ n. take n (list_at a l)) same ∙ take_min k (list_at a l))

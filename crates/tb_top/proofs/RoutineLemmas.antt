@@ -215,10 +215,14 @@ ragged-dimension true = record { low = omega (arith, ints); high = omega (arith,
 ragged-dimension false = record { low = omega (arith, ints); high = omega (arith, ints) }
 
 pub served-closed : (p : Params) (ns : List Node) → AreRunnable p → AreServed ns → AreServed (closed_list p ns)
-served-closed p ns r s = served-append ns _ s ((
+served-closed p ns r s = served-append ns _ s (
+  (
     back-dimension (limited_depth p.maxdepth (map shape_of ns)) (depth-extent (last_depth (map shape_of ns)) p.maxdepth (last_depth_extent (map shape_of ns) (All-map IsSized shape_of ns (served-sized ns s))) r.maxdepth),
     ragged-dimension (is_ragged p.bottom),
-    record { low = omega (arith, ints); high = omega (arith, ints) }), tt)
+    record { low = omega (arith, ints); high = omega (arith, ints) },
+  ),
+  tt,
+)
 
 -- ---- the conditions of calls on a list of served nodes
 

@@ -255,7 +255,7 @@ pub legal-costs : (goal limit : ℤ) (before rest : List Shape) → Costs (legal
 legal-costs goal limit before [] = tt
 legal-costs goal limit before (n ∷ rest) =
     costs-with goal limit before (legal_penalty before (n ∷ rest)) (legal_places goal limit (before ++ n ∷ []) rest)
-        (λ q e. low-penalty (ends_lasting before) (begins_with_glue rest) n q (sym (legal_is before n rest) ∙ e)) (legal-costs goal limit (before ++ n ∷ []) rest)
+    (λ q e. low-penalty (ends_lasting before) (begins_with_glue rest) n q (sym (legal_is before n rest) ∙ e)) (legal-costs goal limit (before ++ n ∷ []) rest)
 
 costs-up_to-by : (b : Breakpoint) (later : List Breakpoint) (t : Bool) → b.cost ≤ℤ awful_bad → Costs later → Costs (if t then b ∷ [] else b ∷ later)
 costs-up_to-by b later true h k = (h, tt)

@@ -43,8 +43,16 @@ fn put_item(store: &mut Lists<Node>, l: ListId, line: u32, kind: &ItemKind)
     ensures { store.new.lists ≡ with_list store.old l (list_at store.old l ++ nodes_on line (made_kinds kind.now)) }
 {
     match kind {
-        ItemKind::Hbox { name, height, depth } => put_box(store, l, line, What::Text(*name), *height, *depth),
-        ItemKind::Rule { name, height, depth } => put(
+        ItemKind::Hbox {
+            name,
+            height,
+            depth,
+        } => put_box(store, l, line, What::Text(*name), *height, *depth),
+        ItemKind::Rule {
+            name,
+            height,
+            depth,
+        } => put(
             store,
             l,
             line,
@@ -62,7 +70,12 @@ fn put_item(store: &mut Lists<Node>, l: ListId, line: u32, kind: &ItemKind)
         ItemKind::NewPage => put_page_end(store, l, line),
         ItemKind::ClearPage => put_clear(store, l, line),
         ItemKind::PageBreak(strength) => put(store, l, line, Kind::Pen(-break_strength(*strength))),
-        ItemKind::NoPageBreak(strength) => put(store, l, line, Kind::Pen(break_strength(*strength))),
+        ItemKind::NoPageBreak(strength) => put(
+            store,
+            l,
+            line,
+            Kind::Pen(break_strength(*strength)),
+        ),
         ItemKind::Foot(_) => {}
         ItemKind::Float { .. } => {}
         ItemKind::Margin { .. } => {}

@@ -10,9 +10,8 @@ mod laws;
 mod limits;
 mod page_lists;
 mod pages;
-mod routine;
-
 mod refusal;
+mod routine;
 mod rows;
 mod search;
 mod status;

@@ -39,7 +39,12 @@ impl From<AllocError> for PageFault {
 /// (`DeadCycles`), too many pages would be shipped (`PageLimit`), or too many nodes wait at the start or after a firing
 /// (`NodeLimit`). Its text up to there is written then. After `WriteFault`, which comes only where `out` failed and never
 /// at a silent view, and after `Memory` a prefix of the run's text is written.
-pub fn paginate<K: Sink>(alloc: Global, galley: &Galley, view: View, out: &mut K) -> Result<Totals, PageFault>
+pub fn paginate<K: Sink>(
+    alloc: Global,
+    galley: &Galley,
+    view: View,
+    out: &mut K,
+) -> Result<Totals, PageFault>
     requires valid { IsValid galley.now }
     requires live { HasLiveItems galley.now }
 

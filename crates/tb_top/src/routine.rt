@@ -47,15 +47,9 @@ pub(crate) struct Routine {
 pub(crate) enum Ending {
     /// Nothing fires any more; what waits is left on the page.
     Done,
-    DeadCycles {
-        count: u64,
-    },
-    PageLimit {
-        pages: u64,
-    },
-    NodeLimit {
-        count: u64,
-    },
+    DeadCycles { count: u64 },
+    PageLimit { pages: u64 },
+    NodeLimit { count: u64 },
 }
 
 /// What a turn sends, and how the run ends with it, if it does.

@@ -49,7 +49,7 @@ pub returns-in_err-send-clause-refused : goal.returns-in_err-send-clause-refused
 returns-in_err-send-clause-refused g c =
     let p = err_from_is_err_and c.from_residual-in_err-send.result c.from_residual-in_err-send.ensures.1 in
     rw (p.1, p.2) (refuses-cut c.args.view (run_of c.args.galley.now) _ _ _ _ _ c.in_err-send.ensures.shown.cause
-        (turn-cut c.args.galley.now.params c.args.view (state_of c.args.galley.now.params c.firing.routine) _ _ c.firing.totals (run_of c.args.galley.now) c.firing.invariant.going c.turn.new.self c.in_ok-turn.turn c.in_ok-turn.ensures.step _ c.in_err-send.ensures.shown.part))
+    (turn-cut c.args.galley.now.params c.args.view (state_of c.args.galley.now.params c.firing.routine) _ _ c.firing.totals (run_of c.args.galley.now) c.firing.invariant.going c.turn.new.self c.in_ok-turn.turn c.in_ok-turn.ensures.step _ c.in_err-send.ensures.shown.part))
 
 pub returns-in-Some-ending-clause-done : goal.returns-in-Some-ending-clause-done
 returns-in-Some-ending-clause-done g c =
