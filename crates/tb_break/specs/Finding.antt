@@ -1,11 +1,7 @@
 -- Finding the split place in one pass: what a node tells of the place before it.
-use Rattle.std.specs.Prelude.{◌≡◌, ℕ, ℤ, pos, ◌+ℤ◌, Bool, false, true, List, [], ◌∷◌, ◌++◌, map, Option, None, Some, int_le, int_lt, if◌then◌else◌}
+use Rattle.std.specs.Prelude.{ℕ, ℤ, pos, ◌+ℤ◌, Bool, false, true, Option, None, Some, int_le, int_lt, if◌then◌else◌}
 use Rattle.tb_scaled.specs.Scaled.{inf_penalty}
-use Rattle.tb_pool.specs.Lists.{Lists, list_at}
-use Rattle.tb_node.specs.declared.Node.{Node}
-use Rattle.tb_node.specs.declared.Sums.{Sums}
 use Rattle.tb_node.specs.Shape.{Shape, box, glue, kern, penalty, other}
-use Rattle.tb_node.specs.Plain.{shape_of}
 pub use Rattle.tb_node.specs.Fit.{shapes, NodesFit, SumsFit}
 use Rattle.tb_break.specs.declared.PlaceKind.{PlaceKind}
 use Rattle.tb_break.specs.declared.PlaceKind.TheVariants.{Skip, Kern, Penalty, Last}
