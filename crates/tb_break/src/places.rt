@@ -88,6 +88,7 @@ pub fn place_penalty(n: &Node, lasting: bool, glue_next: bool) -> Option<i64>
     penalty_before(n, lasting, glue_next)
 }
 
+// The same, and no amount of the node need be small.
 fn penalty_before(n: &Node, lasting: bool, glue_next: bool) -> Option<i64>
     ensures { result ≡ penalty_by lasting glue_next (shape_of n.now) }
 {
@@ -105,6 +106,7 @@ fn penalty_before(n: &Node, lasting: bool, glue_next: bool) -> Option<i64>
     }
 }
 
+// No penalty, where the place is legal.
 fn zero_if(test: bool) -> Option<i64>
     ensures { result ≡ (if test then Some (pos 0) else None) }
 {

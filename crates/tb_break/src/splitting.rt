@@ -123,12 +123,14 @@ fn visit(
     offer.stop
 }
 
+// The later place where it is a champion.
 fn found_if(champion: bool, later: Found, earlier: Found) -> Found
     ensures { result ≡ (if champion then later else earlier) }
 {
     if champion { later } else { earlier }
 }
 
+// The total and the depth.
 fn height_and_depth(sums: &Sums) -> i64
     requires total { IsAmount sums.now.total }
     requires depth { IsAmount sums.now.depth }
