@@ -20,7 +20,9 @@ use tb_scaled::{Glue, Order};
 // The rule above footnotes stands between two kerns, and takes no room with them (LaTeX's \footnoterule: 3, 0.4 and
 // 2.6 points).
 const KERN_ABOVE: i64 = -196_608;
+
 const RULE_HEIGHT: i64 = 26_214;
+
 const KERN_BELOW: i64 = 170_394;
 
 // The stretch of the glue at a ragged bottom is as small as LaTeX's (\raggedbottom: 0.0001fil).

@@ -46,11 +46,17 @@ fn writes_a_page_and_the_end(rt: HostRuntime) -> Result<(), Fail> {
         sheet: Sheet::One(column(&store, l, 30)),
     };
     let lines = sent_text(rt.alloc(), &store, &page)?;
-    assert_eq!(rt; lines.as_slice(), b"page 1 one\ncolumn 1 text height 30 natural 10 set stretch fil 20/65536\nnote n 0\nbox a 0 10 0\n".as_slice());
+    assert_eq!(rt;
+        lines.as_slice(),
+        b"page 1 one\ncolumn 1 text height 30 natural 10 set stretch fil 20/65536\nnote n 0\nbox a 0 10 0\n".as_slice()
+    );
     let mut totals = Totals::new();
     totals.count(&store, &page);
     let end = end_text(rt.alloc(), &store, l, &totals)?;
-    assert_eq!(rt; end.as_slice(), b"left note n\nend pages 1 boxes 1 floats 0 warnings 0\n".as_slice());
+    assert_eq!(rt;
+        end.as_slice(),
+        b"left note n\nend pages 1 boxes 1 floats 0 warnings 0\n".as_slice()
+    );
     Ok(())
 }
 
@@ -59,9 +65,15 @@ fn writes_warnings(rt: HostRuntime) -> Result<(), Fail> {
     let name = name_of(b"F").ok_or("no name")?;
     let store = Lists::new(rt.alloc());
     let rows = [
-        (Warn::Large { name, by: 50 }, b"warn large F 50\n".as_slice()),
+        (
+            Warn::Large { name, by: 50 },
+            b"warn large F 50\n".as_slice(),
+        ),
         (Warn::Ht { name }, b"warn ht F\n".as_slice()),
-        (Warn::Moved { name, shift: 6 }, b"warn moved F 6\n".as_slice()),
+        (
+            Warn::Moved { name, shift: 6 },
+            b"warn moved F 6\n".as_slice(),
+        ),
         (Warn::Floats { page: 1 }, b"warn floats 1\n".as_slice()),
     ];
     for (warning, line) in rows {
