@@ -211,7 +211,7 @@ pub record Started (s : Lists Node) (w b : ℕ) (ns : List Node) : Type 0 where
   pub nodes : list_at s w ≡ ns
 
 pub second-apart : (s t : Lists Node) (w b : ℕ) → t.lists ≡ with_list s w [] → get t.lists b ≡ None → w ≢ b
-second-apart s t w b first fresh same = cc (get-insert_same s.lists w [], first, fresh, same, ap (get t.lists) same)
+second-apart s t w b first fresh same = cc (get-insert_same s.lists w [], first, fresh, ap (get t.lists) same)
 
 pub second-live : (s t u : Lists Node) (w b : ℕ) → t.lists ≡ with_list s w [] → get t.lists b ≡ None → u.lists ≡ with_list t b [] → IsLive u w
 second-live s t u w b first fresh second =

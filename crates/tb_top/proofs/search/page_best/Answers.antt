@@ -42,7 +42,7 @@ returns-then-stops_at c =
     let place = c.place_penalty-place.ensures.value ∙ ap (λ b. penalty_by c.loop-n.lasting b (shape_of c.in-Some.n.now)) glue in
     let stop = simp to_z-of_z at c.stops_at.ensures.stop in
     let scan = simp to_z-of_z at c.stops_at.ensures.scan in
-    c.best.ensures ∙ stops_here c.args.goal c.args.max_depth _ c.loop-n.scan c.loop-n.index c.loop-n.lasting (shape_of c.in-Some.n.now) _ g c.stops_at.new.scan c.place_penalty-place.result place (is_legal _ c.place_penalty-place.ensures.legal) (sym stop ∙ c.if-stops_at.true) scan
+    c.best.ensures.value ∙ stops_here c.args.goal c.args.max_depth _ c.loop-n.scan c.loop-n.index c.loop-n.lasting (shape_of c.in-Some.n.now) _ g c.stops_at.new.scan c.place_penalty-place.result place (is_legal _ c.place_penalty-place.ensures.legal) (sym stop ∙ c.if-stops_at.true) scan
 
 pub add-requires-clause-node : goal.add-requires-clause-node
 add-requires-clause-node c =
