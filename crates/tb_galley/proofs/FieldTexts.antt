@@ -16,6 +16,7 @@ use Rattle.tb_galley.specs.Reading.{Left, ◌>>=◌, at_fault, settled, finished
 use Rattle.tb_galley.specs.Line.{first_of, Said, said, worded_left, content_line, content_lines, line_left}
 use Rattle.tb_galley.specs.Machine.{State, next_phase, count_with, past_said, said_unless, take_said}
 use Rattle.tb_galley.proofs.Slots.{first_at, settle, reads, left}
+use Rattle.tb_galley.proofs.Conjunctions.{both}
 
 -- ---- fields and lines
 
@@ -73,10 +74,6 @@ fields_of-line f (s ∷ ss) [] text fit = absurd fit
 fields_of-line f (s ∷ ss) (g ∷ gs) text fit =
     fields_of-first f (g ++ tail_text gs) (all_more is_printable is_mark printable_mark f text.printable) text.some
     ∙ ap (λ ps. f ∷ ps) (fields_of-line g ss gs fit.0.text fit.1)
-
-both : (a b : Bool) → a ≡ true → b ≡ true → (a && b) ≡ true
-both true b h k = k
-both false b h k = h
 
 tail_clean : (ss : List Slot) (fs : List (List ℕ)) → AllFit ss fs → list_all is_line_byte (tail_text fs) ≡ true
 tail_clean [] [] fit = refl

@@ -27,7 +27,8 @@ use Rattle.tb_galley.specs.Faults.{is_printable}
 use Rattle.tb_galley.specs.Grammar.{read_or, content_of, value_by, set_content}
 use Rattle.tb_galley.specs.Print.{and_number, glue_text, choice_text, value_text}
 use Rattle.tb_galley.proofs.FieldTexts.{IsText, IsFit, AllFit, tail_text, tail_length, nothing_more}
-use Rattle.tb_galley.proofs.KindTexts.{ReadsAs, glue_fields, glue_is, glue_fit, glue_short, glue_back, least_fit, range_fit, joined_text, dimension_read, integer_read, dimen_length, within_small, read_none, read_back}
+use Rattle.tb_galley.proofs.SlotTexts.{ReadsAs, glue_fields, glue_is, glue_fit, glue_short, glue_back, least_fit, range_fit, joined_text, dimension_read, integer_read, dimen_length, within_small, read_none, read_back}
+use Rattle.tb_galley.proofs.Conjunctions.{left_of, right_of}
 
 choice_field : Choice → List ℕ
 choice_field choices.Flush = codes "flush"
@@ -68,14 +69,6 @@ in_range false h = cc
 
 at_most : (a b : ℕ) → nat_le a b ≡ true → a ≤ b
 at_most a b h = grind (arith, nat_tests)
-
-left_of : (a b : Bool) → (a && b) ≡ true → a ≡ true
-left_of true b h = refl
-left_of false b h = h
-
-right_of : (a b : Bool) → (a && b) ≡ true → b ≡ true
-right_of true b h = h
-right_of false b h = cc
 
 pub record FormBack (form : Form) (v : Value) : Type 0 where
   pub fit : AllFit (form_slots (value_fields v) form) (value_fields v)
