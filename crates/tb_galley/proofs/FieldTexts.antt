@@ -1,5 +1,5 @@
 -- A line that is made of fields is read back.
-use Rattle.std.proofs.Common.{◌≡◌, ℕ, ◌+◌, ◌<◌, ◌≤◌, Bool, true, false, not, ◌&&◌, ◌||◌, ◌==◌, nat_lt, nat_le, List, [], ◌∷◌, ◌++◌, length, Option, Some, None, Result, Ok, Err, if◌then◌else◌, refl, ap, sym, subst, ◌∙◌, arith, length-append}
+use Rattle.std.proofs.Common.{◌≡◌, ℕ, ◌+◌, ◌<◌, ◌≤◌, Bool, true, false, not, ◌&&◌, nat_lt, List, [], ◌∷◌, ◌++◌, length, Option, Some, None, Ok, if◌then◌else◌, refl, ap, ◌∙◌, arith, length-append}
 use Rattle.std.specs.List.{list_all}
 use Rattle.std.proofs.lemmas.Bool.Decides.{nat_tests}
 use Rattle.std.proofs.lemmas.List.Folds.{list_all-append}
@@ -7,15 +7,14 @@ use Rattle.tb_text.specs.Lines.{fields_of, is_skipped, is_mark, begins_with}
 use Rattle.tb_text.proofs.LineTexts.{fields_of-first, fields_of-last, is_line_byte}
 use Rattle.tb_galley.specs.declared.Cause.{Cause}
 use Rattle.tb_galley.specs.declared.Cause.TheVariants as causes
-use Rattle.tb_galley.specs.declared.fields.At.{At}
-use Rattle.tb_galley.specs.Words.{LineWord, Phase, Line, line_at, content_at, word_of, is_item_word}
+use Rattle.tb_galley.specs.Words.{LineWord, Phase, line_at, content_at, word_of}
 use Rattle.tb_galley.specs.Values.{Slot, slot_cause, word_slots}
 use Rattle.tb_galley.specs.Faults.{is_printable, cause_if, causes_in, ascii_causes, value_causes, missing_cause, place_causes, item_causes}
 use Rattle.tb_galley.specs.Grammar.{Draft, with_content, content_of}
-use Rattle.tb_galley.specs.Reading.{Left, ◌>>=◌, at_fault, settled, finished, content_left}
-use Rattle.tb_galley.specs.Line.{first_of, Said, said, worded_left, content_line, content_lines, line_left}
-use Rattle.tb_galley.specs.Machine.{State, next_phase, count_with, past_said, said_unless, take_said}
-use Rattle.tb_galley.proofs.Slots.{first_at, settle, reads, left}
+use Rattle.tb_galley.specs.Reading.{◌>>=◌, at_fault, settled}
+use Rattle.tb_galley.specs.Line.{first_of, said, worded_left, content_line, content_lines, line_left}
+use Rattle.tb_galley.specs.Machine.{State, next_phase, count_with, said_unless, take_said}
+use Rattle.tb_galley.proofs.Slots.{first_at, settle, reads}
 use Rattle.tb_galley.proofs.Conjunctions.{both}
 
 -- ---- fields and lines

@@ -1,39 +1,31 @@
 -- Each kind of line of the canonical text is read back.
-use Rattle.std.proofs.Common.{◌≡◌, ℕ, suc, ◌+◌, ◌<◌, ◌≤◌, ◌^◌, ℤ, pos, negsuc, nat_abs, Bool, true, false, not, ◌&&◌, ◌||◌, ◌==◌, nat_lt, nat_le, List, [], ◌∷◌, ◌++◌, length, Option, Some, None, Result, Ok, Err, if◌then◌else◌, refl, ap, sym, subst, ◌∙◌, arith, append_assoc, length-append}
-use Rattle.std.specs.Prelude.{codes, decimal, int_lt, bytes_eq}
+use Rattle.std.proofs.Common.{◌≡◌, ℕ, ◌<◌, ◌≤◌, ℤ, pos, negsuc, nat_abs, Bool, true, false, ◌&&◌, ◌||◌, ◌==◌, nat_le, List, [], ◌∷◌, ◌++◌, length, Some, None, if◌then◌else◌, refl, ap, sym, ◌∙◌, arith, append_assoc}
+use Rattle.std.specs.Prelude.{codes, decimal, bytes_eq}
 use Rattle.std.specs.Fmt.{signed_decimal}
-use Rattle.std.specs.List.{list_all, list_any}
+use Rattle.std.specs.List.{list_all}
 use Rattle.std.proofs.lemmas.Bool.Decides.{nat_tests}
-use Rattle.std.proofs.lemmas.Int.{ints}
-use Rattle.tb_scaled.specs.declared.Order.{Order}
-use Rattle.tb_scaled.specs.declared.Order.TheVariants as orders
-use Rattle.tb_scaled.specs.declared.Glue.{Glue}
-use Rattle.tb_node.specs.Names.{is_name, is_name_byte, is_alphanumeric, is_between}
+use Rattle.tb_node.specs.Names.{is_name, is_between}
 use Rattle.tb_node.specs.declared.Area.{Area}
 use Rattle.tb_node.specs.declared.Area.TheVariants as areas
 use Rattle.tb_node.specs.declared.Places.{Places}
 use Rattle.tb_node.specs.declared.Float.{Float}
 use Rattle.tb_node.specs.declared.Margin.{Margin}
-use Rattle.tb_text.specs.declared.TextFault.{TextFault}
-use Rattle.tb_text.specs.Numbers.{is_digit, integer_of, dimension_of, stretch_of, fraction_of_field}
-use Rattle.tb_text.proofs.NumberTexts.{integer_back, dimension_back, stretch_back, fraction_back, unit_of, number_passes, number_some, number_short}
-use Rattle.tb_param.specs.Table.{is_within, is_dimen, is_glue}
-use Rattle.tb_galley.specs.declared.Cause.{Cause}
+use Rattle.tb_text.specs.Numbers.{integer_of, dimension_of}
+use Rattle.tb_param.specs.Table.{is_within}
 use Rattle.tb_galley.specs.declared.Cause.TheVariants as causes
-use Rattle.tb_galley.specs.declared.contents.Content.{Content}
 use Rattle.tb_galley.specs.declared.contents.Content.TheVariants as contents
 use Rattle.tb_galley.specs.declared.ItemKind.{ItemKind}
 use Rattle.tb_galley.specs.declared.ItemKind.TheVariants as items
 use Rattle.tb_galley.specs.declared.LeafKind.{LeafKind}
 use Rattle.tb_galley.specs.declared.LeafKind.TheVariants as leaves
-use Rattle.tb_galley.specs.Words.{LineWord, header, setting, hbox, rule, skip, kern, penalty, mark, note, foot, endfoot, float, margin, newpage, clearpage, pagebreak, nopagebreak, onecolumn, twocolumn, suppressfloats, end}
-use Rattle.tb_galley.specs.Values.{Slot, name_slot, parameter_slot, dimension_slot, least_slot, range_slot, stretch_slot, fraction_slot, word_slot, places_slot, seen_slot, slot_cause, cause_of_read, cause_unless, word_slots, is_place_byte, are_places}
+use Rattle.tb_galley.specs.Words.{LineWord, hbox, rule, skip, kern, penalty, mark, note, foot, float, margin, newpage, clearpage, pagebreak, nopagebreak, onecolumn, twocolumn, suppressfloats}
+use Rattle.tb_galley.specs.Values.{name_slot, least_slot, range_slot, word_slot, word_slots, are_places}
 use Rattle.tb_galley.specs.Faults.{is_printable}
-use Rattle.tb_galley.specs.Grammar.{read_or, content_of, places_at, has_byte, float_at, margin_at, glue_from}
-use Rattle.tb_galley.specs.Print.{and_number, and_text, ended_line, unit_text, plus_text, minus_text, glue_text, places_text, text_if, sized_text, box_text, leaf_text, paragraph_text, wide_text, float_text, pair_text, sides_text, margin_text, area_text, item_text}
+use Rattle.tb_galley.specs.Grammar.{read_or, content_of, places_at, has_byte}
+use Rattle.tb_galley.specs.Print.{and_number, and_text, ended_line, places_text, text_if, sized_text, leaf_text, paragraph_text, wide_text, float_text, margin_text, item_text}
 use Rattle.tb_galley.specs.Valid.{is_size, is_leaf, is_float, is_margin, is_item}
-use Rattle.tb_galley.proofs.FieldTexts.{IsText, IsFit, AllFit, tail_text, tail_length, nothing_more}
-use Rattle.tb_galley.proofs.SlotTexts.{ReadsAs, IsNameText, within_small, dimen_small, dimension_fit, size_fit, range_fit, name_text, name_fit, spelling, dimension_read, integer_read, size_small, dimen_length, glue_fields, glue_is, word_text, glue_fit, glue_short, glue_back}
+use Rattle.tb_galley.proofs.FieldTexts.{IsFit, AllFit, tail_text, tail_length, nothing_more}
+use Rattle.tb_galley.proofs.SlotTexts.{ReadsAs, within_small, dimen_small, dimension_fit, size_fit, range_fit, name_text, name_fit, spelling, dimension_read, integer_read, size_small, dimen_length, glue_fields, glue_is, word_text, glue_fit, glue_short, glue_back}
 use Rattle.tb_galley.proofs.Conjunctions.{left_of, right_of}
 
 -- ---- boxes, rules, glue, kerns and penalties
@@ -83,7 +75,8 @@ sized_back name h d good =
       fit = (name_fit name named, (size_fit h high, (size_fit d deep, tt)));
       short = omega (arith, (name_text name named).short);
       height = dimension_read h (size_small h high);
-      depth = dimension_read d (size_small d deep) }
+      depth = dimension_read d (size_small d deep);
+    }
 
 pub leaf_back : (k : LeafKind) → is_leaf k ≡ true → ReadsAs (leaf_word k) (leaf_fields k) (λ n. contents.Plain k)
 leaf_back (leaves.Hbox name h d) good =
@@ -258,7 +251,7 @@ six w a b c d e f =
 in_turn : (w a b c d e f : List ℕ) → ((w ++ ((a ++ b) ++ c)) ++ (d ++ e)) ++ f ≡ (((((w ++ a) ++ b) ++ c) ++ d) ++ e) ++ f
 in_turn w a b c d e f =
     ap (λ t. t ++ f)
-        (sym (append_assoc (w ++ ((a ++ b) ++ c)) d e) ∙ ap (λ t. (t ++ d) ++ e) (sym (append_assoc w (a ++ b) c) ∙ ap (λ t. t ++ c) (sym (append_assoc w a b))))
+    (sym (append_assoc (w ++ ((a ++ b) ++ c)) d e) ∙ ap (λ t. (t ++ d) ++ e) (sym (append_assoc w (a ++ b) c) ∙ ap (λ t. t ++ c) (sym (append_assoc w a b))))
 
 float_is : (f : Float) (vert : Bool) → float_text f ++ paragraph_text vert ≡ codes "float" ++ tail_text (float_fields f vert)
 float_is f vert =
@@ -348,13 +341,22 @@ float_back f vert good =
     let a : length (signed_decimal (pos f.class)) ≤ 11 = dimen_length (pos f.class) (omega arith) in
     let b : length (signed_decimal f.height) ≤ 11 = dimen_length f.height (size_small f.height high) in
     record {
-      fit =
-        (name_fit f.name named,
-        (range_fit (pos 1) (pos 26) causes.Class (pos f.class) (omega arith) (omega arith) classed,
-        (wide.fit,
-        (record { text = record { printable = places.printable; some = places.some }; slot = ap (λ t. if t then None else Some causes.BadPlace) places.ok },
-        (size_fit f.height high,
-        (paragraph.fit, tt))))));
+      fit = (
+        name_fit f.name named,
+        (
+          range_fit (pos 1) (pos 26) causes.Class (pos f.class) (omega arith) (omega arith) classed,
+          (
+            wide.fit,
+            (
+              record { text = record { printable = places.printable; some = places.some }; slot = ap (λ t. if t then None else Some causes.BadPlace) places.ok },
+              (
+                size_fit f.height high,
+                (paragraph.fit, tt),
+              ),
+            ),
+          ),
+        ),
+      );
       short = omega (arith, (name_text f.name named).short, wide.short, places.short, paragraph.short);
       content = λ n. (λ i. contents.Item (items.Float (record {
         line = n;
@@ -363,7 +365,9 @@ float_back f vert good =
         wide = wide.read i;
         places = places.at i;
         bang = places.banged i;
-        height = dimension_read f.height (size_small f.height high) i }) (paragraph.read i))) }
+        height = dimension_read f.height (size_small f.height high) i;
+      }) (paragraph.read i)));
+    }
 
 margin_back : (m : Margin) (vert : Bool) → is_margin m ≡ true → ReadsAs margin (margin_fields m vert) (λ n. contents.Item (items.Margin (record m { line = n }) vert))
 margin_back m vert good =
@@ -371,10 +375,10 @@ margin_back m vert good =
     let fourth : is_size m.right_depth ≡ true = right_of (is_name m.name && is_size m.left_height && is_size m.left_depth && is_size m.right_height) (is_size m.right_depth) good in
     let third : is_size m.right_height ≡ true = right_of (is_name m.name && is_size m.left_height && is_size m.left_depth) (is_size m.right_height) front in
     let named : is_name m.name ≡ true =
-        left_of (is_name m.name) (is_size m.left_height)
-            (left_of (is_name m.name && is_size m.left_height) (is_size m.left_depth) (left_of (is_name m.name && is_size m.left_height && is_size m.left_depth) (is_size m.right_height) front)) in
+    left_of (is_name m.name) (is_size m.left_height)
+    (left_of (is_name m.name && is_size m.left_height) (is_size m.left_depth) (left_of (is_name m.name && is_size m.left_height && is_size m.left_depth) (is_size m.right_height) front)) in
     let sized : SizedBack m.name m.left_height m.left_depth =
-        sized_back m.name m.left_height m.left_depth (left_of (is_name m.name && is_size m.left_height && is_size m.left_depth) (is_size m.right_height) front) in
+    sized_back m.name m.left_height m.left_depth (left_of (is_name m.name && is_size m.left_height && is_size m.left_depth) (is_size m.right_height) front) in
     let paragraph : ChoiceBack (codes "par") (codes "vert") vert (paragraph_field vert) = paragraph_back vert in
     let a : length (signed_decimal m.right_height) ≤ 11 = dimen_length m.right_height (size_small m.right_height third) in
     let b : length (signed_decimal m.right_depth) ≤ 11 = dimen_length m.right_depth (size_small m.right_depth fourth) in
@@ -387,7 +391,9 @@ margin_back m vert good =
         left_height = sized.height i;
         left_depth = sized.depth i;
         right_height = dimension_read m.right_height (size_small m.right_height third) i;
-        right_depth = dimension_read m.right_depth (size_small m.right_depth fourth) i }) (paragraph.read i))) }
+        right_depth = dimension_read m.right_depth (size_small m.right_depth fourth) i;
+      }) (paragraph.read i)));
+    }
 
 degree_back : (w : LineWord) (make : ℕ → ItemKind) (k : ℕ) → nat_le k 4 ≡ true → AllFit (word_slots (decimal k ∷ []) w) (decimal k ∷ [])
     → ((n : ℕ) → content_of n (decimal k ∷ []) w ≡ contents.Item (make (nat_abs (read_or (pos 0) (integer_of (decimal k)))))) → ReadsAs w (decimal k ∷ []) (λ n. contents.Item (make k))

@@ -1,23 +1,18 @@
 -- The canonical text of a valid galley whose items are served is read as the galley itself, but for its line numbers.
-use Rattle.std.proofs.Common.{◌≡◌, ℕ, suc, ◌+◌, ◌<◌, ◌≤◌, Bool, true, false, not, ◌&&◌, nat_lt, nat_le, List, [], ◌∷◌, ◌++◌, length, map, Option, Some, None, Result, Ok, Err, if◌then◌else◌, refl, ap, sym, subst, ◌∙◌, arith, append_assoc}
+use Rattle.std.proofs.Common.{◌≡◌, ℕ, ◌+◌, ◌≤◌, true, false, nat_lt, nat_le, List, [], ◌∷◌, ◌++◌, length, map, None, Ok, Err, if◌then◌else◌, refl, ap, sym, ◌∙◌, arith, append_assoc}
 use Rattle.std.specs.Prelude.{codes}
-use Rattle.std.specs.List.{list_all, fold}
+use Rattle.std.specs.List.{list_all}
 use Rattle.std.proofs.lemmas.Bool.Decides.{nat_tests}
-use Rattle.std.proofs.lemmas.List.Sums.{fold-append}
-use Rattle.std.proofs.lemmas.List.Folds.{list_all-append}
-use Rattle.tb_text.specs.Lines.{lines_of, begins_with}
-use Rattle.tb_text.proofs.LineTexts.{is_line_byte, joined_lines, lines_of-joined}
+use Rattle.tb_text.specs.Lines.{lines_of}
+use Rattle.tb_text.proofs.LineTexts.{joined_lines, lines_of-joined}
 use Rattle.tb_param.specs.declared.params.Params.{Params}
-use Rattle.tb_param.specs.declared.Value.{Value}
-use Rattle.tb_param.specs.Fields.{value_of, with_value}
+use Rattle.tb_param.specs.Fields.{value_of}
 use Rattle.tb_param.specs.Defaults.{default_params}
-use Rattle.tb_param.specs.Table.{Row, rows, row_of, value_fault}
-use Rattle.tb_param.specs.Ranges.{are_params, is_no_fault}
+use Rattle.tb_param.specs.Table.{Row, rows}
+use Rattle.tb_param.specs.Ranges.{are_params}
 use Rattle.tb_param.proofs.AllSet.{all_set}
-use Rattle.tb_param.proofs.RangeLemmas.{AllRows, fits}
 use Rattle.tb_param.proofs.RowNames.{rows_found}
 use Rattle.tb_galley.specs.declared.Cause.TheVariants as causes
-use Rattle.tb_galley.specs.declared.contents.Content.{Content}
 use Rattle.tb_galley.specs.declared.contents.Content.TheVariants as contents
 use Rattle.tb_galley.specs.declared.Galley.{Galley}
 use Rattle.tb_galley.specs.declared.Item.{Item}
@@ -26,23 +21,20 @@ use Rattle.tb_galley.specs.declared.ItemKind.TheVariants as items
 use Rattle.tb_galley.specs.declared.Leaf.{Leaf}
 use Rattle.tb_galley.specs.declared.LeafKind.{LeafKind}
 use Rattle.tb_galley.specs.declared.LeafKind.TheVariants as leaves
-use Rattle.tb_galley.specs.Words.{LineWord, header, setting, hbox, rule, skip, kern, penalty, foot, endfoot, end, Phase, at_start, among_sets, among_items, in_foot, ended, word_of, is_item_word, is_leaf_word}
-use Rattle.tb_galley.specs.Values.{word_slots}
-use Rattle.tb_galley.specs.Faults.{fault, is_printable, place_causes, item_causes, cause_if}
-use Rattle.tb_galley.specs.Grammar.{OpenFoot, Draft, item_kind, with_content, with_item, with_plain, empty_draft, galley_of, content_of, grammar, spelled, input_limit}
-use Rattle.tb_galley.specs.Line.{first_of}
-use Rattle.tb_galley.specs.Machine.{State, next_phase, count_with, start, take_said, verdict}
-use Rattle.tb_galley.specs.Print.{ended_line, value_text, set_lines, leaf_text, leaf_lines, item_text, item_lines, printed}
-use Rattle.tb_galley.specs.Valid.{is_leaf, is_item, weight_of, weight, IsValid}
-use Rattle.tb_galley.specs.Live.{is_live_item, HasLiveItems}
+use Rattle.tb_galley.specs.Words.{header, end, Phase, at_start, among_sets, among_items, ended}
+use Rattle.tb_galley.specs.Faults.{fault}
+use Rattle.tb_galley.specs.Grammar.{empty_draft, grammar, spelled, input_limit}
+use Rattle.tb_galley.specs.Machine.{start, verdict}
+use Rattle.tb_galley.specs.Print.{ended_line, set_lines, leaf_text, leaf_lines, item_text, item_lines, printed}
+use Rattle.tb_galley.specs.Valid.{weight_of, weight, IsValid}
+use Rattle.tb_galley.specs.Live.{HasLiveItems}
 use Rattle.tb_galley.specs.ReadBack.{unnumbered_leaf, unnumbered_kind, unnumbered_item, unnumbered, ReadsBack}
-use Rattle.tb_galley.proofs.Suited.{is_served, is_single_word}
 use Rattle.tb_galley.proofs.Sound.{drafted}
 use Rattle.tb_galley.proofs.SameStep.{left_exact}
-use Rattle.tb_galley.proofs.FieldTexts.{IsText, AllFit, IsWord, tail_text, tail_length, line_clean, state, step_back, nothing_more}
-use Rattle.tb_galley.proofs.SlotTexts.{ReadsAs, spelling}
-use Rattle.tb_galley.proofs.KindTexts.{leaf_word, leaf_fields, leaf_is, leaf_back, is_single, item_word, item_fields, item_line, item_is, on_line_kind, item_back}
-use Rattle.tb_galley.proofs.ValueTexts.{value_fields, value_is, is_plain_row, set_back}
+use Rattle.tb_galley.proofs.FieldTexts.{tail_text}
+use Rattle.tb_galley.proofs.SlotTexts.{spelling}
+use Rattle.tb_galley.proofs.KindTexts.{leaf_word, leaf_fields, leaf_is, item_is}
+use Rattle.tb_galley.proofs.ValueTexts.{value_fields, value_is}
 use Rattle.tb_galley.proofs.PrintRuns.{Runs, then_lines, to_state, word_runs, set_text, plain_rows, is_in_range, set_all, sets_run, numbered_leaves, numbered_kind, numbered_items, leaf_line, kind_lines, takes_items, leaf_texts, item_state, item_texts, phase_past_items, items_run}
 
 -- ---- the canonical text by its lines
@@ -98,9 +90,9 @@ canonical_text g =
     ∙ ap (λ t. t ++ codes "end\n") (append_assoc (codes "galley 1\n") (joined_lines (map (set_text g.params) rows)) (joined_lines (item_texts g.items)))
     ∙ append_assoc (codes "galley 1\n") (joined_lines (map (set_text g.params) rows) ++ joined_lines (item_texts g.items)) (codes "end\n")
     ∙ ap (λ t. codes "galley 1\n" ++ t)
-        (append_assoc (joined_lines (map (set_text g.params) rows)) (joined_lines (item_texts g.items)) (codes "end\n")
-        ∙ ap (λ t. joined_lines (map (set_text g.params) rows) ++ t) (sym (joined_lines-append (item_texts g.items) (codes "end" ∷ [])))
-        ∙ sym (joined_lines-append (map (set_text g.params) rows) (item_texts g.items ++ codes "end" ∷ [])))
+    (append_assoc (joined_lines (map (set_text g.params) rows)) (joined_lines (item_texts g.items)) (codes "end\n")
+    ∙ ap (λ t. joined_lines (map (set_text g.params) rows) ++ t) (sym (joined_lines-append (item_texts g.items) (codes "end" ∷ [])))
+    ∙ sym (joined_lines-append (map (set_text g.params) rows) (item_texts g.items ++ codes "end" ∷ [])))
 
 -- ---- the law
 
@@ -132,20 +124,20 @@ galley_runs g valid live =
     let few : nat_le (weight g.items) 100000 ≡ true = valid.count in
     let at_end : ℕ = 1 + length rows + weight g.items in
     let sets : Runs (item_state 1 among_sets 0 default_params 0 []) (map (set_text g.params) rows) (item_state (1 + length rows) among_sets 0 g.params 0 []) =
-        to_state (item_state 1 among_sets 0 default_params 0 []) (item_state (1 + length rows) among_sets 0 (set_all g.params default_params rows) 0 []) (item_state (1 + length rows) among_sets 0 g.params 0 []) (map (set_text g.params) rows)
-            (ap (λ ps. item_state (1 + length rows) among_sets 0 ps 0 []) (all_set g.params default_params))
-            (sets_run g.params default_params 1 rows rows_found plain_rows (params_in_range g.params valid.params)) in
+    to_state (item_state 1 among_sets 0 default_params 0 []) (item_state (1 + length rows) among_sets 0 (set_all g.params default_params rows) 0 []) (item_state (1 + length rows) among_sets 0 g.params 0 []) (map (set_text g.params) rows)
+    (ap (λ ps. item_state (1 + length rows) among_sets 0 ps 0 []) (all_set g.params default_params))
+    (sets_run g.params default_params 1 rows rows_found plain_rows (params_in_range g.params valid.params)) in
     let inner : Runs (item_state (1 + length rows) among_sets 0 g.params 0 []) (item_texts g.items) (item_state (1 + length rows + weight g.items) (phase_past_items among_sets g.items) (0 + weight g.items) g.params 0 (numbered_items (1 + length rows + 1) g.items)) =
-        items_run (1 + length rows) among_sets 0 g.params 0 [] g.items refl (few_items (weight g.items) few) valid.items live.live in
+    items_run (1 + length rows) among_sets 0 g.params 0 [] g.items refl (few_items (weight g.items) few) valid.items live.live in
     let last : Runs (item_state (1 + length rows + weight g.items) (phase_past_items among_sets g.items) (0 + weight g.items) g.params 0 (numbered_items (1 + length rows + 1) g.items)) (codes "end" ∷ [])
-            (item_state (1 + length rows + weight g.items + 1) ended (0 + weight g.items) g.params (1 + length rows + weight g.items + 1) (numbered_items (1 + length rows + 1) g.items)) =
-        end_runs (1 + length rows + weight g.items) (phase_past_items among_sets g.items) (0 + weight g.items) g.params 0 (numbered_items (1 + length rows + 1) g.items) (still_takes g.items) in
+    (item_state (1 + length rows + weight g.items + 1) ended (0 + weight g.items) g.params (1 + length rows + weight g.items + 1) (numbered_items (1 + length rows + 1) g.items)) =
+    end_runs (1 + length rows + weight g.items) (phase_past_items among_sets g.items) (0 + weight g.items) g.params 0 (numbered_items (1 + length rows + 1) g.items) (still_takes g.items) in
     then_lines start (item_state 1 among_sets 0 default_params 0 []) (item_state (1 + length rows + weight g.items + 1) ended (0 + weight g.items) g.params (1 + length rows + weight g.items + 1) (numbered_items (1 + length rows + 1) g.items))
-        (codes "galley 1" ∷ []) (map (set_text g.params) rows ++ (item_texts g.items ++ codes "end" ∷ [])) header_runs
-        (then_lines (item_state 1 among_sets 0 default_params 0 []) (item_state (1 + length rows) among_sets 0 g.params 0 []) (item_state (1 + length rows + weight g.items + 1) ended (0 + weight g.items) g.params (1 + length rows + weight g.items + 1) (numbered_items (1 + length rows + 1) g.items))
-            (map (set_text g.params) rows) (item_texts g.items ++ codes "end" ∷ []) sets
-            (then_lines (item_state (1 + length rows) among_sets 0 g.params 0 []) (item_state (1 + length rows + weight g.items) (phase_past_items among_sets g.items) (0 + weight g.items) g.params 0 (numbered_items (1 + length rows + 1) g.items))
-                (item_state (1 + length rows + weight g.items + 1) ended (0 + weight g.items) g.params (1 + length rows + weight g.items + 1) (numbered_items (1 + length rows + 1) g.items)) (item_texts g.items) (codes "end" ∷ []) inner last))
+    (codes "galley 1" ∷ []) (map (set_text g.params) rows ++ (item_texts g.items ++ codes "end" ∷ [])) header_runs
+    (then_lines (item_state 1 among_sets 0 default_params 0 []) (item_state (1 + length rows) among_sets 0 g.params 0 []) (item_state (1 + length rows + weight g.items + 1) ended (0 + weight g.items) g.params (1 + length rows + weight g.items + 1) (numbered_items (1 + length rows + 1) g.items))
+    (map (set_text g.params) rows) (item_texts g.items ++ codes "end" ∷ []) sets
+    (then_lines (item_state (1 + length rows) among_sets 0 g.params 0 []) (item_state (1 + length rows + weight g.items) (phase_past_items among_sets g.items) (0 + weight g.items) g.params 0 (numbered_items (1 + length rows + 1) g.items))
+    (item_state (1 + length rows + weight g.items + 1) ended (0 + weight g.items) g.params (1 + length rows + weight g.items + 1) (numbered_items (1 + length rows + 1) g.items)) (item_texts g.items) (codes "end" ∷ []) inner last))
 
 -- ---- line numbers apart
 

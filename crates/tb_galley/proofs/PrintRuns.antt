@@ -1,48 +1,40 @@
 -- The lines of the canonical text take the reader to the galley.
-use Rattle.std.proofs.Common.{◌≡◌, ℕ, suc, ◌+◌, ◌<◌, ◌≤◌, Bool, true, false, not, ◌&&◌, nat_lt, nat_le, List, [], ◌∷◌, ◌++◌, length, map, Option, Some, None, Result, Ok, Err, if◌then◌else◌, refl, ap, sym, subst, ◌∙◌, arith, append_assoc}
+use Rattle.std.proofs.Common.{◌≡◌, ℕ, ◌+◌, ◌≤◌, Bool, true, false, ◌&&◌, nat_le, List, [], ◌∷◌, ◌++◌, length, map, Some, None, refl, ap, sym, ◌∙◌, arith, append_assoc}
 use Rattle.std.specs.Prelude.{codes}
 use Rattle.std.specs.List.{list_all, fold}
 use Rattle.std.proofs.lemmas.Bool.Decides.{nat_tests}
 use Rattle.std.proofs.lemmas.List.Sums.{fold-append}
 use Rattle.std.proofs.lemmas.List.Folds.{list_all-append}
-use Rattle.tb_text.specs.Lines.{lines_of, begins_with}
-use Rattle.tb_text.proofs.LineTexts.{is_line_byte, joined_lines, lines_of-joined}
+use Rattle.tb_text.specs.Lines.{begins_with}
+use Rattle.tb_text.proofs.LineTexts.{is_line_byte}
 use Rattle.tb_param.specs.declared.params.Params.{Params}
-use Rattle.tb_param.specs.declared.Value.{Value}
 use Rattle.tb_param.specs.Fields.{value_of, with_value}
-use Rattle.tb_param.specs.Defaults.{default_params}
 use Rattle.tb_param.specs.Table.{Row, rows, row_of, value_fault}
-use Rattle.tb_param.specs.Ranges.{are_params, is_no_fault}
-use Rattle.tb_param.proofs.AllSet.{all_set}
+use Rattle.tb_param.specs.Ranges.{is_no_fault}
 use Rattle.tb_param.proofs.RangeLemmas.{AllRows, fits}
-use Rattle.tb_param.proofs.RowNames.{rows_found}
 use Rattle.tb_galley.specs.declared.Cause.TheVariants as causes
 use Rattle.tb_galley.specs.declared.contents.Content.{Content}
 use Rattle.tb_galley.specs.declared.contents.Content.TheVariants as contents
-use Rattle.tb_galley.specs.declared.Galley.{Galley}
 use Rattle.tb_galley.specs.declared.Item.{Item}
 use Rattle.tb_galley.specs.declared.ItemKind.{ItemKind}
 use Rattle.tb_galley.specs.declared.ItemKind.TheVariants as items
 use Rattle.tb_galley.specs.declared.Leaf.{Leaf}
 use Rattle.tb_galley.specs.declared.LeafKind.{LeafKind}
 use Rattle.tb_galley.specs.declared.LeafKind.TheVariants as leaves
-use Rattle.tb_galley.specs.Words.{LineWord, header, setting, hbox, rule, skip, kern, penalty, foot, endfoot, end, Phase, at_start, among_sets, among_items, in_foot, ended, word_of, is_item_word, is_leaf_word}
+use Rattle.tb_galley.specs.Words.{LineWord, header, setting, foot, endfoot, Phase, at_start, among_sets, among_items, in_foot, ended, word_of, is_item_word}
 use Rattle.tb_galley.specs.Values.{word_slots}
-use Rattle.tb_galley.specs.Faults.{fault, is_printable, place_causes, item_causes, cause_if}
-use Rattle.tb_galley.specs.Grammar.{OpenFoot, Draft, item_kind, with_content, with_item, with_plain, empty_draft, galley_of, content_of, grammar, spelled, input_limit}
+use Rattle.tb_galley.specs.Faults.{place_causes, item_causes, cause_if}
+use Rattle.tb_galley.specs.Grammar.{Draft, item_kind, with_content}
 use Rattle.tb_galley.specs.Line.{first_of}
-use Rattle.tb_galley.specs.Machine.{State, next_phase, count_with, start, take_said, verdict}
-use Rattle.tb_galley.specs.Print.{ended_line, value_text, set_lines, leaf_text, leaf_lines, item_text, item_lines, printed}
-use Rattle.tb_galley.specs.Valid.{is_leaf, is_item, weight_of, weight, IsValid}
-use Rattle.tb_galley.specs.Live.{is_live_item, HasLiveItems}
-use Rattle.tb_galley.specs.ReadBack.{unnumbered_leaf, unnumbered_kind, unnumbered_item, unnumbered, ReadsBack}
-use Rattle.tb_galley.proofs.Suited.{is_served, is_single_word}
+use Rattle.tb_galley.specs.Machine.{State, next_phase, count_with, take_said}
+use Rattle.tb_galley.specs.Valid.{is_leaf, is_item, weight_of, weight}
+use Rattle.tb_galley.specs.Live.{is_live_item}
+use Rattle.tb_galley.proofs.Suited.{is_served}
 use Rattle.tb_galley.proofs.Sound.{drafted}
-use Rattle.tb_galley.proofs.SameStep.{left_exact}
-use Rattle.tb_galley.proofs.FieldTexts.{IsText, AllFit, IsWord, tail_text, tail_length, line_clean, state, step_back, nothing_more}
+use Rattle.tb_galley.proofs.FieldTexts.{IsText, IsWord, tail_text, line_clean, state, step_back}
 use Rattle.tb_galley.proofs.SlotTexts.{ReadsAs, spelling}
-use Rattle.tb_galley.proofs.KindTexts.{leaf_word, leaf_fields, leaf_is, leaf_back, is_single, item_word, item_fields, item_line, item_is, on_line_kind, item_back}
-use Rattle.tb_galley.proofs.ValueTexts.{value_fields, value_is, is_plain_row, set_back}
+use Rattle.tb_galley.proofs.KindTexts.{leaf_word, leaf_fields, leaf_back, is_single, item_word, item_fields, item_line, on_line_kind, item_back}
+use Rattle.tb_galley.proofs.ValueTexts.{value_fields, is_plain_row, set_back}
 use Rattle.tb_galley.proofs.Conjunctions.{both, left_of, right_of}
 
 -- ---- words that are served are read
@@ -85,8 +77,9 @@ pub then_lines : (s t u : State) (xs ys : List (List ℕ)) → Runs s xs t → R
 then_lines s t u xs ys front back = record {
   ends = fold-append take_said s xs ys ∙ ap (λ r. fold take_said r ys) front.ends ∙ back.ends;
   clean =
-    list_all-append (λ l. list_all is_line_byte l) xs ys
-    ∙ both (list_all (λ l. list_all is_line_byte l) xs) (list_all (λ l. list_all is_line_byte l) ys) front.clean back.clean }
+      list_all-append (λ l. list_all is_line_byte l) xs ys
+      ∙ both (list_all (λ l. list_all is_line_byte l) xs) (list_all (λ l. list_all is_line_byte l) ys) front.clean back.clean;
+}
 
 pub to_state : (s t u : State) (ls : List (List ℕ)) → t ≡ u → Runs s ls t → Runs s ls u
 to_state s t u ls same run = record { ends = run.ends ∙ same; clean = run.clean }
@@ -97,9 +90,10 @@ pub word_runs : (n : ℕ) (p : Phase) (c : ℕ) (d : Draft) (w : LineWord) (fs :
     → Runs (state n p c d) ((spelling w ++ tail_text fs) ∷ []) (state (n + 1) (next_phase p (Some w)) (count_with c (Some w)) (with_content d (n + 1) (says (n + 1))))
 word_runs n p c d w fs says served reads place fits = record {
   ends =
-    step_back n p c d (spelling w) w fs (served_word w served) reads.fit reads.short place fits
-    ∙ ap (λ k. state (n + 1) (next_phase p (Some w)) (count_with c (Some w)) (with_content d (n + 1) k)) (reads.content (n + 1));
-  clean = ap (λ t. t && true) (line_clean (spelling w) (word_slots fs w) fs (word_text w) reads.fit) }
+      step_back n p c d (spelling w) w fs (served_word w served) reads.fit reads.short place fits
+      ∙ ap (λ k. state (n + 1) (next_phase p (Some w)) (count_with c (Some w)) (with_content d (n + 1) k)) (reads.content (n + 1));
+  clean = ap (λ t. t && true) (line_clean (spelling w) (word_slots fs w) fs (word_text w) reads.fit);
+}
 
 -- ---- sets
 
@@ -121,14 +115,14 @@ unfolding set_text
 sets_run g p n [] named plain good = to_state (state n among_sets 0 (drafted p [] None 0)) (state n among_sets 0 (drafted p [] None 0)) (state (n + 0) among_sets 0 (drafted p [] None 0)) [] (ap (λ m. state m among_sets 0 (drafted p [] None 0)) (omega arith)) (no_lines (state n among_sets 0 (drafted p [] None 0)))
 sets_run g p n (r ∷ rs) named plain good =
     let reads : ReadsAs setting (r.name ∷ value_fields (value_of r.field g)) (λ m. contents.Set r.field (value_of r.field g)) =
-        set_back r (value_of r.field g) named.0 (left_of (is_plain_row r) (list_all is_plain_row rs) plain) (left_of (is_in_range g r) (list_all (is_in_range g) rs) good) in
+    set_back r (value_of r.field g) named.0 (left_of (is_plain_row r) (list_all is_plain_row rs) plain) (left_of (is_in_range g r) (list_all (is_in_range g) rs) good) in
     let q : Params = with_value r.field (value_of r.field g) p in
     then_lines (state n among_sets 0 (drafted p [] None 0)) (state (n + 1) among_sets 0 (drafted q [] None 0)) (state (n + length (r ∷ rs)) among_sets 0 (drafted (set_all g p (r ∷ rs)) [] None 0))
-        (set_text g r ∷ []) (map (set_text g) rs)
-        (word_runs n among_sets 0 (drafted p [] None 0) setting (r.name ∷ value_fields (value_of r.field g)) (λ m. contents.Set r.field (value_of r.field g)) refl reads refl refl)
-        (to_state (state (n + 1) among_sets 0 (drafted q [] None 0)) (state (n + 1 + length rs) among_sets 0 (drafted (set_all g q rs) [] None 0)) (state (n + length (r ∷ rs)) among_sets 0 (drafted (set_all g p (r ∷ rs)) [] None 0)) (map (set_text g) rs)
-            (ap (λ m. state m among_sets 0 (drafted (set_all g q rs) [] None 0)) (omega arith))
-            (sets_run g q (n + 1) rs named.1 (right_of (is_plain_row r) (list_all is_plain_row rs) plain) (right_of (is_in_range g r) (list_all (is_in_range g) rs) good)))
+    (set_text g r ∷ []) (map (set_text g) rs)
+    (word_runs n among_sets 0 (drafted p [] None 0) setting (r.name ∷ value_fields (value_of r.field g)) (λ m. contents.Set r.field (value_of r.field g)) refl reads refl refl)
+    (to_state (state (n + 1) among_sets 0 (drafted q [] None 0)) (state (n + 1 + length rs) among_sets 0 (drafted (set_all g q rs) [] None 0)) (state (n + length (r ∷ rs)) among_sets 0 (drafted (set_all g p (r ∷ rs)) [] None 0)) (map (set_text g) rs)
+    (ap (λ m. state m among_sets 0 (drafted (set_all g q rs) [] None 0)) (omega arith))
+    (sets_run g q (n + 1) rs named.1 (right_of (is_plain_row r) (list_all is_plain_row rs) plain) (right_of (is_in_range g r) (list_all (is_in_range g) rs) good)))
 
 -- ---- items
 
@@ -213,8 +207,8 @@ goes_runs : (n : ℕ) (p q : Phase) (c : ℕ) (d : Draft) (w : LineWord) (fs : L
     → Runs (state n p c d) ((spelling w ++ tail_text fs) ∷ []) (state (n + 1) q (c + 1) (with_content d (n + 1) (says (n + 1))))
 goes_runs n p q c d w fs says few served reads goes =
     to_state (state n p c d) (state (n + 1) (next_phase p (Some w)) (count_with c (Some w)) (with_content d (n + 1) (says (n + 1)))) (state (n + 1) q (c + 1) (with_content d (n + 1) (says (n + 1)))) ((spelling w ++ tail_text fs) ∷ [])
-        (λ i. state (n + 1) (goes.next i) (goes.count i) (with_content d (n + 1) (says (n + 1))))
-        (word_runs n p c d w fs says served reads goes.place (count_fits c w few))
+    (λ i. state (n + 1) (goes.next i) (goes.count i) (with_content d (n + 1) (says (n + 1))))
+    (word_runs n p c d w fs says served reads goes.place (count_fits c w few))
 
 leaf_served : (k : LeafKind) → is_served (leaf_word k) ≡ true
 leaf_served (leaves.Hbox name h d) = refl
@@ -253,19 +247,19 @@ leaves_run : (n c : ℕ) (ps : Params) (before : List Item) (e line : ℕ) (so_f
 unfolding numbered_leaves
 leaves_run n c ps before e line so_far [] few good =
     to_state (foot_state n c ps before e line so_far) (foot_state n c ps before e line so_far) (foot_state (n + 0) (c + 0) ps before e line (so_far ++ [])) []
-        (same_foot n (n + 0) c (c + 0) ps before e line so_far (so_far ++ []) (omega arith) (omega arith) (sym (no_more so_far)))
-        (no_lines (foot_state n c ps before e line so_far))
+    (same_foot n (n + 0) c (c + 0) ps before e line so_far (so_far ++ []) (omega arith) (omega arith) (sym (no_more so_far)))
+    (no_lines (foot_state n c ps before e line so_far))
 leaves_run n c ps before e line so_far (l ∷ ls) few good =
     let leaf : Leaf = record { line = n + 1; kind = l.kind } in
     then_lines (foot_state n c ps before e line so_far) (foot_state (n + 1) (c + 1) ps before e line (so_far ++ leaf ∷ []))
-        (foot_state (n + length (l ∷ ls)) (c + length (l ∷ ls)) ps before e line (so_far ++ leaf ∷ numbered_leaves (n + 1 + 1) ls)) (leaf_line l.kind ∷ []) (leaf_texts ls)
-        (leaf_run n c ps before e line so_far l.kind (omega arith) (left_of (is_leaf l.kind) (list_all (λ (m : Leaf). is_leaf m.kind) ls) good))
-        (to_state (foot_state (n + 1) (c + 1) ps before e line (so_far ++ leaf ∷ []))
-            (foot_state (n + 1 + length ls) (c + 1 + length ls) ps before e line ((so_far ++ leaf ∷ []) ++ numbered_leaves (n + 1 + 1) ls))
-            (foot_state (n + length (l ∷ ls)) (c + length (l ∷ ls)) ps before e line (so_far ++ leaf ∷ numbered_leaves (n + 1 + 1) ls)) (leaf_texts ls)
-            (same_foot (n + 1 + length ls) (n + length (l ∷ ls)) (c + 1 + length ls) (c + length (l ∷ ls)) ps before e line ((so_far ++ leaf ∷ []) ++ numbered_leaves (n + 1 + 1) ls) (so_far ++ leaf ∷ numbered_leaves (n + 1 + 1) ls)
-                (omega arith) (omega arith) (append_assoc so_far (leaf ∷ []) (numbered_leaves (n + 1 + 1) ls)))
-            (leaves_run (n + 1) (c + 1) ps before e line (so_far ++ leaf ∷ []) ls (omega arith) (right_of (is_leaf l.kind) (list_all (λ (m : Leaf). is_leaf m.kind) ls) good)))
+    (foot_state (n + length (l ∷ ls)) (c + length (l ∷ ls)) ps before e line (so_far ++ leaf ∷ numbered_leaves (n + 1 + 1) ls)) (leaf_line l.kind ∷ []) (leaf_texts ls)
+    (leaf_run n c ps before e line so_far l.kind (omega arith) (left_of (is_leaf l.kind) (list_all (λ (m : Leaf). is_leaf m.kind) ls) good))
+    (to_state (foot_state (n + 1) (c + 1) ps before e line (so_far ++ leaf ∷ []))
+    (foot_state (n + 1 + length ls) (c + 1 + length ls) ps before e line ((so_far ++ leaf ∷ []) ++ numbered_leaves (n + 1 + 1) ls))
+    (foot_state (n + length (l ∷ ls)) (c + length (l ∷ ls)) ps before e line (so_far ++ leaf ∷ numbered_leaves (n + 1 + 1) ls)) (leaf_texts ls)
+    (same_foot (n + 1 + length ls) (n + length (l ∷ ls)) (c + 1 + length ls) (c + length (l ∷ ls)) ps before e line ((so_far ++ leaf ∷ []) ++ numbered_leaves (n + 1 + 1) ls) (so_far ++ leaf ∷ numbered_leaves (n + 1 + 1) ls)
+    (omega arith) (omega arith) (append_assoc so_far (leaf ∷ []) (numbered_leaves (n + 1 + 1) ls)))
+    (leaves_run (n + 1) (c + 1) ps before e line (so_far ++ leaf ∷ []) ls (omega arith) (right_of (is_leaf l.kind) (list_all (λ (m : Leaf). is_leaf m.kind) ls) good)))
 
 endfoot_served : (ls : List Leaf) → is_live_item (items.Foot ls) ≡ true → is_served endfoot ≡ true
 endfoot_served ls live = live
@@ -276,19 +270,19 @@ unfolding kind_lines numbered_kind
 foot_run n p c ps e before ls takes few good live =
     let after : List Item = before ++ record { line = n + 1; kind = items.Foot (numbered_leaves (n + 1 + 1) ls) } ∷ [] in
     let opened : Runs (item_state n p c ps e before) (codes "foot" ∷ []) (foot_state (n + 1) (c + 1) ps before e (n + 1) []) =
-        goes_runs n p in_foot c (drafted ps before None e) foot [] (λ m. contents.Foot) (omega arith) live (record { fit = tt; short = omega arith; content = λ m. refl }) (foot_goes p c takes) in
+    goes_runs n p in_foot c (drafted ps before None e) foot [] (λ m. contents.Foot) (omega arith) live (record { fit = tt; short = omega arith; content = λ m. refl }) (foot_goes p c takes) in
     let inner : Runs (foot_state (n + 1) (c + 1) ps before e (n + 1) []) (leaf_texts ls) (foot_state (n + 1 + length ls) (c + 1 + length ls) ps before e (n + 1) (numbered_leaves (n + 1 + 1) ls)) =
-        leaves_run (n + 1) (c + 1) ps before e (n + 1) [] ls (omega arith) good in
+    leaves_run (n + 1) (c + 1) ps before e (n + 1) [] ls (omega arith) good in
     let closed : Runs (foot_state (n + 1 + length ls) (c + 1 + length ls) ps before e (n + 1) (numbered_leaves (n + 1 + 1) ls)) (codes "endfoot" ∷ []) (item_state (n + 1 + length ls + 1) among_items (c + 1 + length ls + 1) ps e after) =
-        goes_runs (n + 1 + length ls) in_foot among_items (c + 1 + length ls) (drafted ps before (Some (record { line = n + 1; leaves = numbered_leaves (n + 1 + 1) ls })) e) endfoot [] (λ m. contents.Endfoot) (omega arith) (endfoot_served ls live)
-            (record { fit = tt; short = omega arith; content = λ m. refl }) (record { place = refl; next = refl; count = refl }) in
+    goes_runs (n + 1 + length ls) in_foot among_items (c + 1 + length ls) (drafted ps before (Some (record { line = n + 1; leaves = numbered_leaves (n + 1 + 1) ls })) e) endfoot [] (λ m. contents.Endfoot) (omega arith) (endfoot_served ls live)
+    (record { fit = tt; short = omega arith; content = λ m. refl }) (record { place = refl; next = refl; count = refl }) in
     to_state (item_state n p c ps e before) (item_state (n + 1 + length ls + 1) among_items (c + 1 + length ls + 1) ps e after) (item_state (n + (length ls + 2)) among_items (c + (length ls + 2)) ps e after)
-        (codes "foot" ∷ (leaf_texts ls ++ codes "endfoot" ∷ []))
-        (same_items (n + 1 + length ls + 1) (n + (length ls + 2)) among_items (c + 1 + length ls + 1) (c + (length ls + 2)) ps e after after (omega arith) (omega arith) refl)
-        (then_lines (item_state n p c ps e before) (foot_state (n + 1) (c + 1) ps before e (n + 1) []) (item_state (n + 1 + length ls + 1) among_items (c + 1 + length ls + 1) ps e after)
-            (codes "foot" ∷ []) (leaf_texts ls ++ codes "endfoot" ∷ []) opened
-            (then_lines (foot_state (n + 1) (c + 1) ps before e (n + 1) []) (foot_state (n + 1 + length ls) (c + 1 + length ls) ps before e (n + 1) (numbered_leaves (n + 1 + 1) ls)) (item_state (n + 1 + length ls + 1) among_items (c + 1 + length ls + 1) ps e after)
-                (leaf_texts ls) (codes "endfoot" ∷ []) inner closed))
+    (codes "foot" ∷ (leaf_texts ls ++ codes "endfoot" ∷ []))
+    (same_items (n + 1 + length ls + 1) (n + (length ls + 2)) among_items (c + 1 + length ls + 1) (c + (length ls + 2)) ps e after after (omega arith) (omega arith) refl)
+    (then_lines (item_state n p c ps e before) (foot_state (n + 1) (c + 1) ps before e (n + 1) []) (item_state (n + 1 + length ls + 1) among_items (c + 1 + length ls + 1) ps e after)
+    (codes "foot" ∷ []) (leaf_texts ls ++ codes "endfoot" ∷ []) opened
+    (then_lines (foot_state (n + 1) (c + 1) ps before e (n + 1) []) (foot_state (n + 1 + length ls) (c + 1 + length ls) ps before e (n + 1) (numbered_leaves (n + 1 + 1) ls)) (item_state (n + 1 + length ls + 1) among_items (c + 1 + length ls + 1) ps e after)
+    (leaf_texts ls) (codes "endfoot" ∷ []) inner closed))
 
 -- ---- items
 
@@ -328,23 +322,23 @@ pub items_run : (n : ℕ) (p : Phase) (c : ℕ) (ps : Params) (e : ℕ) (before 
 unfolding numbered_items
 items_run n p c ps e before [] takes few good live =
     to_state (item_state n p c ps e before) (item_state n p c ps e before) (item_state (n + 0) p (c + 0) ps e (before ++ [])) []
-        (same_items n (n + 0) p c (c + 0) ps e before (before ++ []) (omega arith) (omega arith) (sym (no_more before)))
-        (no_lines (item_state n p c ps e before))
+    (same_items n (n + 0) p c (c + 0) ps e before (before ++ []) (omega arith) (omega arith) (sym (no_more before)))
+    (no_lines (item_state n p c ps e before))
 items_run n p c ps e before (i ∷ is) takes few good live =
     let k : ℕ = weight_of i.kind in
     let item : Item = record { line = n + 1; kind = numbered_kind (n + 1) i.kind } in
     then_lines (item_state n p c ps e before) (item_state (n + weight_of i.kind) among_items (c + weight_of i.kind) ps e (before ++ item ∷ []))
-        (item_state (n + weight (i ∷ is)) among_items (c + weight (i ∷ is)) ps e (before ++ item ∷ numbered_items (n + 1 + weight_of i.kind) is)) (kind_lines i.kind) (item_texts is)
-        (item_run n p c ps e before i.line i.kind takes (omega arith)
-            (left_of (is_item i.line i.kind) (list_all (λ (j : Item). is_item j.line j.kind) is) good) (left_of (is_live_item i.kind) (list_all (λ (j : Item). is_live_item j.kind) is) live))
-        (to_state (item_state (n + weight_of i.kind) among_items (c + weight_of i.kind) ps e (before ++ item ∷ []))
-            (item_state (n + weight_of i.kind + weight is) (phase_past_items among_items is) (c + weight_of i.kind + weight is) ps e ((before ++ item ∷ []) ++ numbered_items (n + weight_of i.kind + 1) is))
-            (item_state (n + weight (i ∷ is)) among_items (c + weight (i ∷ is)) ps e (before ++ item ∷ numbered_items (n + 1 + weight_of i.kind) is)) (item_texts is)
-            (ap (λ ph. item_state (n + weight_of i.kind + weight is) ph (c + weight_of i.kind + weight is) ps e ((before ++ item ∷ []) ++ numbered_items (n + weight_of i.kind + 1) is)) (still_items is)
-            ∙ same_items (n + weight_of i.kind + weight is) (n + weight (i ∷ is)) among_items (c + weight_of i.kind + weight is) (c + weight (i ∷ is)) ps e ((before ++ item ∷ []) ++ numbered_items (n + weight_of i.kind + 1) is) (before ++ item ∷ numbered_items (n + 1 + weight_of i.kind) is)
-                (omega arith) (omega arith) (append_assoc before (item ∷ []) (numbered_items (n + weight_of i.kind + 1) is) ∙ ap (λ m. before ++ item ∷ numbered_items m is) (omega arith)))
-            (items_run (n + weight_of i.kind) among_items (c + weight_of i.kind) ps e (before ++ item ∷ []) is refl (omega arith)
-                (right_of (is_item i.line i.kind) (list_all (λ (j : Item). is_item j.line j.kind) is) good) (right_of (is_live_item i.kind) (list_all (λ (j : Item). is_live_item j.kind) is) live)))
+    (item_state (n + weight (i ∷ is)) among_items (c + weight (i ∷ is)) ps e (before ++ item ∷ numbered_items (n + 1 + weight_of i.kind) is)) (kind_lines i.kind) (item_texts is)
+    (item_run n p c ps e before i.line i.kind takes (omega arith)
+    (left_of (is_item i.line i.kind) (list_all (λ (j : Item). is_item j.line j.kind) is) good) (left_of (is_live_item i.kind) (list_all (λ (j : Item). is_live_item j.kind) is) live))
+    (to_state (item_state (n + weight_of i.kind) among_items (c + weight_of i.kind) ps e (before ++ item ∷ []))
+    (item_state (n + weight_of i.kind + weight is) (phase_past_items among_items is) (c + weight_of i.kind + weight is) ps e ((before ++ item ∷ []) ++ numbered_items (n + weight_of i.kind + 1) is))
+    (item_state (n + weight (i ∷ is)) among_items (c + weight (i ∷ is)) ps e (before ++ item ∷ numbered_items (n + 1 + weight_of i.kind) is)) (item_texts is)
+    (ap (λ ph. item_state (n + weight_of i.kind + weight is) ph (c + weight_of i.kind + weight is) ps e ((before ++ item ∷ []) ++ numbered_items (n + weight_of i.kind + 1) is)) (still_items is)
+    ∙ same_items (n + weight_of i.kind + weight is) (n + weight (i ∷ is)) among_items (c + weight_of i.kind + weight is) (c + weight (i ∷ is)) ps e ((before ++ item ∷ []) ++ numbered_items (n + weight_of i.kind + 1) is) (before ++ item ∷ numbered_items (n + 1 + weight_of i.kind) is)
+    (omega arith) (omega arith) (append_assoc before (item ∷ []) (numbered_items (n + weight_of i.kind + 1) is) ∙ ap (λ m. before ++ item ∷ numbered_items m is) (omega arith)))
+    (items_run (n + weight_of i.kind) among_items (c + weight_of i.kind) ps e (before ++ item ∷ []) is refl (omega arith)
+    (right_of (is_item i.line i.kind) (list_all (λ (j : Item). is_item j.line j.kind) is) good) (right_of (is_live_item i.kind) (list_all (λ (j : Item). is_live_item j.kind) is) live)))
   where
     still_items : (is : List Item) → phase_past_items among_items is ≡ among_items
     still_items [] = refl

@@ -1,37 +1,26 @@
 -- What is written of numbers, names and glue fits its slots and is read back.
-use Rattle.std.proofs.Common.{◌≡◌, ℕ, suc, ◌+◌, ◌<◌, ◌≤◌, ◌^◌, ℤ, pos, negsuc, nat_abs, Bool, true, false, not, ◌&&◌, ◌||◌, ◌==◌, nat_lt, nat_le, List, [], ◌∷◌, ◌++◌, length, Option, Some, None, Result, Ok, Err, if◌then◌else◌, refl, ap, sym, subst, ◌∙◌, arith, append_assoc, length-append}
-use Rattle.std.specs.Prelude.{codes, decimal, int_lt, bytes_eq}
+use Rattle.std.proofs.Common.{◌≡◌, ℕ, suc, ◌<◌, ◌≤◌, ℤ, pos, negsuc, nat_abs, Bool, true, false, not, ◌&&◌, ◌||◌, nat_le, List, [], ◌∷◌, ◌++◌, length, Some, None, Result, Ok, if◌then◌else◌, refl, ap, sym, ◌∙◌, arith, append_assoc, length-append}
+use Rattle.std.specs.Prelude.{codes, int_lt}
 use Rattle.std.specs.Fmt.{signed_decimal}
-use Rattle.std.specs.List.{list_all, list_any}
+use Rattle.std.specs.List.{list_all}
 use Rattle.std.proofs.lemmas.Bool.Decides.{nat_tests}
-use Rattle.std.proofs.lemmas.Int.{ints}
 use Rattle.tb_scaled.specs.declared.Order.{Order}
 use Rattle.tb_scaled.specs.declared.Order.TheVariants as orders
 use Rattle.tb_scaled.specs.declared.Glue.{Glue}
-use Rattle.tb_node.specs.Names.{is_name, is_name_byte, is_alphanumeric, is_between}
-use Rattle.tb_node.specs.declared.Area.{Area}
-use Rattle.tb_node.specs.declared.Area.TheVariants as areas
-use Rattle.tb_node.specs.declared.Places.{Places}
-use Rattle.tb_node.specs.declared.Float.{Float}
-use Rattle.tb_node.specs.declared.Margin.{Margin}
+use Rattle.tb_node.specs.Names.{is_name, is_name_byte, is_alphanumeric}
 use Rattle.tb_text.specs.declared.TextFault.{TextFault}
-use Rattle.tb_text.specs.Numbers.{is_digit, integer_of, dimension_of, stretch_of, fraction_of_field}
-use Rattle.tb_text.proofs.NumberTexts.{integer_back, dimension_back, stretch_back, fraction_back, unit_of, number_passes, number_some, number_short}
+use Rattle.tb_text.specs.Numbers.{is_digit, integer_of, dimension_of, stretch_of}
+use Rattle.tb_text.proofs.NumberTexts.{integer_back, dimension_back, stretch_back, unit_of, number_passes, number_some, number_short}
 use Rattle.tb_param.specs.Table.{is_within, is_dimen, is_glue}
 use Rattle.tb_galley.specs.declared.Cause.{Cause}
 use Rattle.tb_galley.specs.declared.Cause.TheVariants as causes
 use Rattle.tb_galley.specs.declared.contents.Content.{Content}
-use Rattle.tb_galley.specs.declared.contents.Content.TheVariants as contents
-use Rattle.tb_galley.specs.declared.ItemKind.{ItemKind}
-use Rattle.tb_galley.specs.declared.ItemKind.TheVariants as items
-use Rattle.tb_galley.specs.declared.LeafKind.{LeafKind}
-use Rattle.tb_galley.specs.declared.LeafKind.TheVariants as leaves
 use Rattle.tb_galley.specs.Words.{LineWord, header, setting, hbox, rule, skip, kern, penalty, mark, note, foot, endfoot, float, margin, newpage, clearpage, pagebreak, nopagebreak, onecolumn, twocolumn, suppressfloats, end}
-use Rattle.tb_galley.specs.Values.{Slot, name_slot, parameter_slot, dimension_slot, least_slot, range_slot, stretch_slot, fraction_slot, word_slot, places_slot, seen_slot, slot_cause, cause_of_read, cause_unless, word_slots, is_place_byte, are_places}
+use Rattle.tb_galley.specs.Values.{name_slot, dimension_slot, least_slot, range_slot, stretch_slot, seen_slot, cause_of_read, word_slots}
 use Rattle.tb_galley.specs.Faults.{is_printable}
-use Rattle.tb_galley.specs.Grammar.{read_or, content_of, places_at, has_byte, float_at, margin_at, glue_from}
-use Rattle.tb_galley.specs.Print.{and_number, and_text, ended_line, unit_text, plus_text, minus_text, glue_text, places_text, text_if, sized_text, box_text, leaf_text, paragraph_text, wide_text, float_text, pair_text, sides_text, margin_text, area_text, item_text}
-use Rattle.tb_galley.specs.Valid.{is_size, is_leaf, is_float, is_margin, is_item}
+use Rattle.tb_galley.specs.Grammar.{read_or, content_of, glue_from}
+use Rattle.tb_galley.specs.Print.{and_number, unit_text, minus_text, glue_text}
+use Rattle.tb_galley.specs.Valid.{is_size}
 use Rattle.tb_galley.proofs.FieldTexts.{IsText, IsFit, AllFit, tail_text, tail_length, nothing_more}
 use Rattle.tb_galley.proofs.Conjunctions.{left_of, right_of}
 
@@ -73,14 +62,16 @@ read_back d r v h = ap (λ a. read_or d a) h
 pub dimension_fit : (z : ℤ) → is_dimen z ≡ true → IsFit dimension_slot (signed_decimal z)
 dimension_fit z h = record {
   text = number_text z (let small : nat_abs z ≤ 1073741823 = dimen_small z h in omega arith);
-  slot = read_none (λ v. true) causes.Dimension (dimension_of (signed_decimal z)) z (dimension_back z (dimen_small z h)) refl }
+  slot = read_none (λ v. true) causes.Dimension (dimension_of (signed_decimal z)) z (dimension_back z (dimen_small z h)) refl;
+}
 
 pub least_fit : (low : ℤ) (c : Cause) (z : ℤ) → nat_abs low ≤ 1073741823 → is_within low (pos 1073741823) z ≡ true → IsFit (least_slot low c) (signed_decimal z)
 least_fit low c z k h =
     let small : nat_abs z ≤ 1073741823 = within_small low (pos 1073741823) z 1073741823 k (omega arith) h in
     record {
       text = number_text z (omega arith);
-      slot = read_none (λ v. not (int_lt v low)) c (dimension_of (signed_decimal z)) z (dimension_back z small) (not_below low (pos 1073741823) z h) }
+      slot = read_none (λ v. not (int_lt v low)) c (dimension_of (signed_decimal z)) z (dimension_back z small) (not_below low (pos 1073741823) z h);
+    }
 
 pub size_fit : (z : ℤ) → is_size z ≡ true → IsFit (least_slot (pos 0) causes.Dimension) (signed_decimal z)
 size_fit z h = least_fit (pos 0) causes.Dimension z (omega arith) h
@@ -90,7 +81,8 @@ range_fit low high c z k l h =
     let small : nat_abs z ≤ 1073741823 = within_small low high z 1073741823 k l h in
     record {
       text = number_text z (omega arith);
-      slot = read_none (λ v. not (int_lt v low || int_lt high v)) c (integer_of (signed_decimal z)) z (integer_back z (omega arith)) h }
+      slot = read_none (λ v. not (int_lt v low || int_lt high v)) c (integer_of (signed_decimal z)) z (integer_back z (omega arith)) h;
+    }
 
 -- ---- texts in their slots
 
@@ -105,7 +97,8 @@ joined_text z unit h k =
     let number : IsText (signed_decimal z) = number_text z h in
     record {
       printable = all_append (signed_decimal z) unit number.printable k;
-      some = let more : 0 < length (signed_decimal z) = number.some in omega (arith, length-append (signed_decimal z) unit) }
+      some = let more : 0 < length (signed_decimal z) = number.some in omega (arith, length-append (signed_decimal z) unit);
+    }
 
 unit_printable : (o : Order) → list_all is_printable (unit_of o) ≡ true
 unit_printable orders.Normal = refl
@@ -118,7 +111,8 @@ stretch_fit z o h =
     let small : nat_abs z ≤ 1073741823 = dimen_small z h in
     record {
       text = joined_text z (unit_of o) (omega arith) (unit_printable o);
-      slot = read_none (λ v. true) causes.Dimension (stretch_of (signed_decimal z ++ unit_of o)) (z, o) (stretch_back z o small) refl }
+      slot = read_none (λ v. true) causes.Dimension (stretch_of (signed_decimal z ++ unit_of o)) (z, o) (stretch_back z o small) refl;
+    }
 
 name_byte_printable : (b : ℕ) → is_name_byte b ≡ true → is_printable b ≡ true
 name_byte_printable b h = grind (arith, nat_tests)
@@ -144,10 +138,12 @@ name_text (b ∷ bs) h =
     record {
       text = record {
         printable =
-          ap (λ t. t && list_all is_printable bs) (first_printable b (left_of (is_alphanumeric b) (list_all is_name_byte bs) front))
-          ∙ names_printable bs (right_of (is_alphanumeric b) (list_all is_name_byte bs) front);
-        some = omega arith };
-      short = short_name (length bs) few }
+            ap (λ t. t && list_all is_printable bs) (first_printable b (left_of (is_alphanumeric b) (list_all is_name_byte bs) front))
+            ∙ names_printable bs (right_of (is_alphanumeric b) (list_all is_name_byte bs) front);
+        some = omega arith;
+      };
+      short = short_name (length bs) few;
+    }
   where
     short_name : (k : ℕ) → nat_le k 62 ≡ true → suc k ≤ 63
     short_name k h = grind (arith, nat_tests)
@@ -220,19 +216,26 @@ glue_is g =
     ap (λ u. and_number g.width ++ (codes " plus" ++ and_number g.stretch ++ u) ++ minus_text g.shrink) (same_unit g.order)
     ∙ ap (λ t. 32 ∷ t) (append_assoc (signed_decimal g.width) (codes " plus" ++ and_number g.stretch ++ unit_of g.order) (minus_text g.shrink))
     ∙ ap (λ z. 32 ∷ (signed_decimal g.width ++ 32 ∷ (codes "plus" ++ 32 ∷ ((signed_decimal g.stretch ++ unit_of g.order) ++ 32 ∷ (codes "minus" ++ 32 ∷ z)))))
-        (sym (nothing_more (signed_decimal g.shrink)))
+    (sym (nothing_more (signed_decimal g.shrink)))
 
 pub word_text : (f : List ℕ) → list_all is_printable f ≡ true → 0 < length f → IsText f
 word_text f h k = record { printable = h; some = k }
 
 pub glue_fit : (g : Glue) → is_glue g ≡ true → AllFit (dimension_slot ∷ seen_slot ∷ stretch_slot ∷ seen_slot ∷ dimension_slot ∷ []) (glue_fields g)
 glue_fit g h =
-    let front : (is_dimen g.width && is_dimen g.stretch) ≡ true = left_of (is_dimen g.width && is_dimen g.stretch) (is_dimen g.shrink) h in
-    (dimension_fit g.width (left_of (is_dimen g.width) (is_dimen g.stretch) front),
-    (record { text = word_text (codes "plus") refl (omega arith); slot = refl },
-    (stretch_fit g.stretch g.order (right_of (is_dimen g.width) (is_dimen g.stretch) front),
-    (record { text = word_text (codes "minus") refl (omega arith); slot = refl },
-    (dimension_fit g.shrink (right_of (is_dimen g.width && is_dimen g.stretch) (is_dimen g.shrink) h), tt)))))
+    let front : (is_dimen g.width && is_dimen g.stretch) ≡ true = left_of (is_dimen g.width && is_dimen g.stretch) (is_dimen g.shrink) h in (
+      dimension_fit g.width (left_of (is_dimen g.width) (is_dimen g.stretch) front),
+      (
+        record { text = word_text (codes "plus") refl (omega arith); slot = refl },
+        (
+          stretch_fit g.stretch g.order (right_of (is_dimen g.width) (is_dimen g.stretch) front),
+          (
+            record { text = word_text (codes "minus") refl (omega arith); slot = refl },
+            (dimension_fit g.shrink (right_of (is_dimen g.width && is_dimen g.stretch) (is_dimen g.shrink) h), tt),
+          ),
+        ),
+      ),
+    )
 
 pub glue_short : (g : Glue) → is_glue g ≡ true → tail_length (glue_fields g) ≤ 60
 glue_short g h =
@@ -248,6 +251,6 @@ glue_back g h =
     let front : (is_dimen g.width && is_dimen g.stretch) ≡ true = left_of (is_dimen g.width && is_dimen g.stretch) (is_dimen g.shrink) h in
     let w : read_or (pos 0) (dimension_of (signed_decimal g.width)) ≡ g.width = dimension_read g.width (dimen_small g.width (left_of (is_dimen g.width) (is_dimen g.stretch) front)) in
     let s : read_or (pos 0, orders.Normal) (stretch_of (signed_decimal g.stretch ++ unit_of g.order)) ≡ (g.stretch, g.order) =
-        read_back (pos 0, orders.Normal) (stretch_of (signed_decimal g.stretch ++ unit_of g.order)) (g.stretch, g.order) (stretch_back g.stretch g.order (dimen_small g.stretch (right_of (is_dimen g.width) (is_dimen g.stretch) front))) in
+    read_back (pos 0, orders.Normal) (stretch_of (signed_decimal g.stretch ++ unit_of g.order)) (g.stretch, g.order) (stretch_back g.stretch g.order (dimen_small g.stretch (right_of (is_dimen g.width) (is_dimen g.stretch) front))) in
     let z : read_or (pos 0) (dimension_of (signed_decimal g.shrink)) ≡ g.shrink = dimension_read g.shrink (dimen_small g.shrink (right_of (is_dimen g.width && is_dimen g.stretch) (is_dimen g.shrink) h)) in
     (λ i. glue_from (w i) (s i) (z i))

@@ -1,15 +1,13 @@
 -- The value of a parameter is read back.
-use Rattle.std.proofs.Common.{◌≡◌, ℕ, ◌+◌, ◌<◌, ◌≤◌, ℤ, pos, negsuc, nat_abs, Bool, true, false, not, ◌&&◌, ◌||◌, nat_lt, nat_le, List, [], ◌∷◌, ◌++◌, length, Option, Some, None, Result, Ok, Err, if◌then◌else◌, refl, ap, sym, subst, ◌∙◌, arith, append_assoc, length-append}
-use Rattle.std.specs.Prelude.{codes, int_lt, bytes_eq}
+use Rattle.std.proofs.Common.{◌≡◌, ℕ, ◌<◌, ◌≤◌, ℤ, pos, negsuc, nat_abs, Bool, true, false, not, ◌&&◌, ◌||◌, nat_lt, nat_le, List, [], ◌∷◌, ◌++◌, length, Some, Ok, refl, ap, sym, subst, ◌∙◌, arith, length-append}
+use Rattle.std.specs.Prelude.{codes, int_lt}
 use Rattle.std.specs.Fmt.{signed_decimal}
 use Rattle.std.specs.List.{list_all}
 use Rattle.std.proofs.lemmas.Bool.Decides.{nat_tests}
-use Rattle.tb_scaled.specs.declared.Glue.{Glue}
-use Rattle.tb_text.specs.Numbers.{integer_of, dimension_of, fraction_of_field}
-use Rattle.tb_text.proofs.NumberTexts.{integer_back, dimension_back, fraction_back, number_short}
+use Rattle.tb_text.specs.Numbers.{fraction_of_field}
+use Rattle.tb_text.proofs.NumberTexts.{fraction_back}
 use Rattle.tb_param.specs.declared.Choice.{Choice}
 use Rattle.tb_param.specs.declared.Choice.TheVariants as choices
-use Rattle.tb_param.specs.declared.ParamFault.{ParamFault}
 use Rattle.tb_param.specs.declared.Value.{Value}
 use Rattle.tb_param.specs.declared.Value.TheVariants as values
 use Rattle.tb_param.specs.declared.table.Form.{Form}
@@ -17,16 +15,14 @@ use Rattle.tb_param.specs.declared.table.Form.TheVariants as forms
 use Rattle.tb_param.specs.Table.{Row, row_of, is_within, is_glue, out_of_range}
 use Rattle.tb_param.specs.Ranges.{is_no_fault}
 use Rattle.tb_param.proofs.RangeLemmas.{fits}
-use Rattle.tb_galley.specs.declared.Cause.{Cause}
 use Rattle.tb_galley.specs.declared.Cause.TheVariants as causes
-use Rattle.tb_galley.specs.declared.contents.Content.{Content}
 use Rattle.tb_galley.specs.declared.contents.Content.TheVariants as contents
-use Rattle.tb_galley.specs.Words.{LineWord, setting}
-use Rattle.tb_galley.specs.Values.{Slot, parameter_slot, fraction_slot, word_slot, slot_cause, cause_of_read, row_cause, form_slots, row_slots}
+use Rattle.tb_galley.specs.Words.{setting}
+use Rattle.tb_galley.specs.Values.{parameter_slot, row_cause, form_slots, row_slots}
 use Rattle.tb_galley.specs.Faults.{is_printable}
-use Rattle.tb_galley.specs.Grammar.{read_or, content_of, value_by, set_content}
-use Rattle.tb_galley.specs.Print.{and_number, glue_text, choice_text, value_text}
-use Rattle.tb_galley.proofs.FieldTexts.{IsText, IsFit, AllFit, tail_text, tail_length, nothing_more}
+use Rattle.tb_galley.specs.Grammar.{value_by, set_content}
+use Rattle.tb_galley.specs.Print.{value_text}
+use Rattle.tb_galley.proofs.FieldTexts.{IsText, AllFit, tail_text, tail_length, nothing_more}
 use Rattle.tb_galley.proofs.SlotTexts.{ReadsAs, glue_fields, glue_is, glue_fit, glue_short, glue_back, least_fit, range_fit, joined_text, dimension_read, integer_read, dimen_length, within_small, read_none, read_back}
 use Rattle.tb_galley.proofs.Conjunctions.{left_of, right_of}
 
@@ -100,11 +96,16 @@ frac_back (pos n) good =
     let a : length (signed_decimal (pos n)) ≤ 11 = dimen_length (pos n) (omega arith) in
     let back : fraction_of_field (signed_decimal (pos n) ++ codes "/65536") ≡ Ok (pos n) = fraction_back n (omega arith) in
     record {
-      fit = (record {
-        text = joined_text (pos n) (codes "/65536") (omega arith) refl;
-        slot = read_none (λ v. not (int_lt v (pos 0) || int_lt (pos 65536) v)) causes.Parameter (fraction_of_field (signed_decimal (pos n) ++ codes "/65536")) (pos n) back good }, tt);
+      fit = (
+        record {
+          text = joined_text (pos n) (codes "/65536") (omega arith) refl;
+          slot = read_none (λ v. not (int_lt v (pos 0) || int_lt (pos 65536) v)) causes.Parameter (fraction_of_field (signed_decimal (pos n) ++ codes "/65536")) (pos n) back good;
+        },
+        tt,
+      );
       short = omega (arith, length-append (signed_decimal (pos n)) (codes "/65536"));
-      read = λ name. ap (λ z. values.Frac z) (read_back (pos 0) (fraction_of_field (signed_decimal (pos n) ++ codes "/65536")) (pos n) back) }
+      read = λ name. ap (λ z. values.Frac z) (read_back (pos 0) (fraction_of_field (signed_decimal (pos n) ++ codes "/65536")) (pos n) back);
+    }
 
 pub value_back : (form : Form) (v : Value) → is_plain_form form ≡ true → fits form v ≡ true → FormBack form v
 unfolding value_fields choice_field
@@ -136,8 +137,10 @@ set_back r v found plain good =
     let back : FormBack r.form v = value_back r.form v (right_of (nat_le (length r.name) 30) (is_plain_form r.form) formed) good in
     let text : IsText r.name = record {
       printable = left_of (list_all is_printable r.name) (nat_lt 0 (length r.name)) named;
-      some = some_bytes (length r.name) (right_of (list_all is_printable r.name) (nat_lt 0 (length r.name)) named) } in
+      some = some_bytes (length r.name) (right_of (list_all is_printable r.name) (nat_lt 0 (length r.name)) named);
+    } in
     record {
       fit = subst (λ o. AllFit (parameter_slot ∷ row_slots (value_fields v) o) (r.name ∷ value_fields v)) (sym found) (record { text = text; slot = ap row_cause found }, back.fit);
       short = omega (arith, back.short);
-      content = λ n. ap (λ o. set_content (r.name ∷ value_fields v) o) found ∙ ap (λ x. contents.Set r.field x) (back.read r.name) }
+      content = λ n. ap (λ o. set_content (r.name ∷ value_fields v) o) found ∙ ap (λ x. contents.Set r.field x) (back.read r.name);
+    }

@@ -1,5 +1,5 @@
 -- The canonical text of a galley is read as the galley itself.
-use Rattle.std.specs.Prelude.{◌≡◌, ℕ, List, map, Ok}
+use Rattle.std.specs.Prelude.{◌≡◌, map, Ok}
 use Rattle.tb_galley.specs.declared.Leaf.{Leaf}
 use Rattle.tb_galley.specs.declared.Item.{Item}
 use Rattle.tb_galley.specs.declared.ItemKind.{ItemKind}

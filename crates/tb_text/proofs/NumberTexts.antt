@@ -1,5 +1,5 @@
 -- A number that is written in decimal is read back.
-use Rattle.std.proofs.Common.{◌≡◌, ℕ, zero, suc, ◌+◌, ◌-◌, ◌*◌, ◌/◌, ◌%◌, ◌^◌, ◌<◌, ◌≤◌, min, ℤ, pos, negsuc, neg_ℤ, nat_abs, Bool, true, false, not, ◌&&◌, ◌||◌, ◌==◌, nat_lt, List, [], ◌∷◌, ◌++◌, length, take, drop, map, Option, Some, None, Result, Ok, Err, if◌then◌else◌, refl, ap, sym, subst, ◌∙◌, arith}
+use Rattle.std.proofs.Common.{◌≡◌, ℕ, suc, ◌+◌, ◌-◌, ◌*◌, ◌/◌, ◌%◌, ◌^◌, ◌<◌, ◌≤◌, min, ℤ, pos, negsuc, nat_abs, Bool, true, false, ◌&&◌, ◌||◌, ◌==◌, nat_lt, List, [], ◌∷◌, ◌++◌, length, take, drop, Ok, Err, if◌then◌else◌, refl, ap, sym, ◌∙◌, arith}
 use Rattle.std.specs.Prelude.{codes, decimal}
 use Rattle.std.specs.Fmt.{signed_decimal}
 use Rattle.std.specs.List.{list_all, prefix_len}
@@ -7,12 +7,10 @@ use Rattle.std.specs.Int.Digits.{number_from_digits_after}
 use Rattle.std.proofs.lemmas.Fmt.{decimal_by_steps, length-decimal-le}
 use Rattle.std.proofs.Math.Seq.{take-append_seam, drop-append_seam}
 use Rattle.std.proofs.lemmas.Bool.Decides.{nat_tests}
-use Rattle.std.proofs.lemmas.Int.{ints}
 use Rattle.tb_scaled.specs.declared.Order.{Order}
 use Rattle.tb_scaled.specs.declared.Order.TheVariants.{Normal, Fil, Fill, Filll}
-use Rattle.tb_text.specs.declared.TextFault.{TextFault}
-use Rattle.tb_text.specs.declared.TextFault.TheVariants.{BadNumber, BadUnit, Dimension}
-use Rattle.tb_text.specs.Numbers.{is_digit, NumberPart, digits_at, past_digits, after_whole, unsigned_part, number_part, digit_values, number_of, amount_limit, signed, capped, integer_by, integer_of, within_dimen, with_order, dimension_by, dimension_of, stretch_by, stretch_of, fraction_by, fraction_of_field, is_signed}
+use Rattle.tb_text.specs.declared.TextFault.TheVariants.{BadNumber, Dimension}
+use Rattle.tb_text.specs.Numbers.{is_digit, after_whole, unsigned_part, number_part, digit_values, number_of, amount_limit, signed, capped, integer_by, integer_of, within_dimen, with_order, dimension_by, dimension_of, stretch_by, stretch_of, fraction_by, fraction_of_field, is_signed}
 
 -- ---- the digits of a number
 
@@ -47,7 +45,8 @@ more_digits : (n : ℕ) (ds : List ℕ) → 10 ≤ n → IsNumeralOf (n / 10) ds
 more_digits n ds h front = record {
   digits = digits-push ds (48 + n % 10) front.digits (digit_of (n % 10) (omega arith));
   value = omega (arith, after-push 0 ds (48 + n % 10), front.value);
-  some = length-push ds (48 + n % 10) }
+  some = length-push ds (48 + n % 10);
+}
 
 pub decimal_numeral : (n : ℕ) → n < 2 ^ 64 → IsNumeralOf n (decimal n)
 decimal_numeral n h = decimal_by_steps IsNumeralOf one_digit more_digits n h
