@@ -1,6 +1,6 @@
 -- The places of a list by their number.
-use Rattle.std.proofs.Common.{◌≡◌, refl, sym, ◌∙◌, ap, ℕ, zero, suc, ◌+◌, ◌<◌, ◌≤◌, Bool, true, false, List, [], ◌∷◌, ◌++◌, length, take, drop, map, slice_get, Option, None, Some, arith}
-use Rattle.std.specs.Prelude.{ℤ, not, nat_le, nat_eq, if◌then◌else◌}
+use Rattle.std.proofs.Common.{◌≡◌, refl, sym, ◌∙◌, ap, ℕ, zero, suc, ◌<◌, ◌≤◌, Bool, true, List, [], ◌∷◌, ◌++◌, length, take, drop, map, slice_get, None, Some, arith}
+use Rattle.std.specs.Prelude.{not, nat_le, nat_eq, if◌then◌else◌}
 use Rattle.std.proofs.lemmas.Bool.Decides.{nat_tests}
 use Rattle.std.proofs.lemmas.List.{length-map}
 use Rattle.tb_scaled.specs.Scaled.{eject_penalty}
@@ -64,7 +64,7 @@ lasting_there ns k n e = sym (ap ends_lasting (node_before ns k n e) ∙ ends_wi
 if_true : {X : Type 0} (t : Bool) (x y : X) → t ≡ true → (if t then x else y) ≡ x
 if_true t x y e = ap (λ b. if b then x else y) e
 
-le_true : (k n : ℕ) → k ≤ n → nat_le k n ≡ true
+pub le_true : (k n : ℕ) → k ≤ n → nat_le k n ≡ true
 le_true k n h = grind (arith, nat_tests)
 
 -- the place before a node

@@ -7,3 +7,4 @@ pub mod StoreLemmas
 pub mod PruneLemmas
 pub mod PlacesLemmas
 pub mod LegalLemmas
+pub mod LastLemmas

@@ -1,15 +1,15 @@
 -- Pruning in place, node by node.
-use Rattle.std.proofs.Common.{◌≡◌, refl, sym, subst, ◌∙◌, ap, ℕ, zero, suc, ◌+◌, ◌<◌, ◌≤◌, ℤ, Bool, true, false, List, [], ◌∷◌, ◌++◌, length, map, Option, None, Some, append_assoc, length-append, arith}
+use Rattle.std.proofs.Common.{◌≡◌, refl, sym, subst, ◌∙◌, ap, ℕ, suc, ◌+◌, ◌<◌, ◌≤◌, ℤ, true, false, List, [], ◌∷◌, ◌++◌, length, map, Option, None, Some, append_assoc, length-append, arith}
 use Rattle.std.proofs.lemmas.List.{append-nil, same_from_push, nil_from_length}
 use Rattle.std.specs.Prelude.{not}
 use Rattle.tb_scaled.specs.declared.Glue.{Glue}
-use Rattle.tb_pool.specs.Lists.{Lists, IsLive, list_at, with_list}
+use Rattle.tb_pool.specs.Lists.{Lists, list_at, with_list}
 use Rattle.tb_pool.specs.declared.ListId.{ListId}
 use Rattle.tb_node.specs.declared.Node.{Node}
 use Rattle.tb_node.specs.declared.Kind.{Kind}
 use Rattle.tb_node.specs.declared.Kind.TheVariants as kinds
 use Rattle.tb_node.specs.Shape.{Shape, box, glue, kern, penalty, other, is_discardable, is_box}
-use Rattle.tb_node.specs.Plain.{Leaf, PlainNode, leaf_shape, node_shape, shape_of, leaf_of, plain_of, plain_kind, matter_of, matter_shape, kind_shape, shape_of_kind, skip, plain}
+use Rattle.tb_node.specs.Plain.{leaf_shape, node_shape, shape_of, leaf_of, plain_of, plain_kind, matter_of, matter_shape, kind_shape, shape_of_kind, skip, plain}
 use Rattle.tb_node.specs.Small.{IsSmallShape}
 use Rattle.tb_break.specs.Finding.{NodesFit}
 use Rattle.tb_break.specs.Prune.{pruned_at, pruned_by, pruned_list, pruned_leaves, pruned_nodes, glue_before, top_glue}

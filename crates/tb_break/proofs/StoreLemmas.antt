@@ -1,6 +1,6 @@
 -- A store of which one list was changed.
-use Rattle.std.proofs.Common.{◌≡◌, ℕ, List, [], ◌∷◌, slice_get, Option, Some, None, IsSome, is_some, unwrap_or, refl, sym, ap, ◌∙◌}
-use Rattle.std.proofs.lemmas.Bool.{true≢false}
+use Rattle.std.proofs.Common.{◌≡◌, ◌≢◌, inl, inr, ℕ, List, [], ◌∷◌, slice_get, Option, Some, None, IsSome, is_some, unwrap_or, refl, sym, ap, ◌∙◌}
+use Rattle.std.proofs.lemmas.Bool.{true≢false, cases_eq}
 use Rattle.std.specs.FinMap.{FinMap, get, insert}
 use Rattle.std.specs.Ordering.{nat_cmp}
 use Rattle.tb_pool.specs.Lists.{Lists, IsLive, list_at, with_list}
@@ -39,3 +39,23 @@ module _ {T : Type 0} where
     where
       same : (y x : T) → Some y ≡ Some x → y ≡ x
       same y x e = cc
+
+  live-insert : (m : FinMap nat_cmp (List T)) (l : ℕ) (xs : List T) (q : ℕ) → IsSome (get m q) → IsSome (get (insert m l xs) q)
+  live-insert m l xs q live = elim (cases_eq q l) [
+    | inl e ↦ ap (λ k. is_some (get (insert m l xs) k)) e ∙ ap (λ (o : Option (List T)). is_some o) (get-insert_same m l xs)
+    | inr ne ↦ ap (λ (o : Option (List T)). is_some o) (get-insert_other m l xs q ne) ∙ live
+  ]
+
+  -- a list was cut, and its rest is another: what each list is then
+  pub live-parted : (old now : Lists T) (l rest : ℕ) (xs ys : List T) → now.lists ≡ insert (with_list old l xs) rest ys → (q : ℕ) → IsLive old q → IsLive now q
+  live-parted old now l rest xs ys e q live = ap (λ (m : FinMap nat_cmp (List T)). is_some (get m q)) e ∙ live-insert (with_list old l xs) rest ys q (live-insert old.lists l xs q live)
+
+  pub front-parted : (old now : Lists T) (l rest : ℕ) (xs ys : List T) → l ≢ rest → now.lists ≡ insert (with_list old l xs) rest ys → list_at now l ≡ xs
+  front-parted old now l rest xs ys apart e =
+      ap (λ (m : FinMap nat_cmp (List T)). unwrap_or (get m l) []) e
+      ∙ ap (λ (o : Option (List T)). unwrap_or o []) (get-insert_other (with_list old l xs) rest ys l apart ∙ get-insert_same old.lists l xs)
+
+  pub rest-parted : (old now : Lists T) (l rest : ℕ) (xs ys : List T) → now.lists ≡ insert (with_list old l xs) rest ys → list_at now rest ≡ ys
+  rest-parted old now l rest xs ys e =
+      ap (λ (m : FinMap nat_cmp (List T)). unwrap_or (get m rest) []) e
+      ∙ ap (λ (o : Option (List T)). unwrap_or o []) (get-insert_same (with_list old l xs) rest ys)

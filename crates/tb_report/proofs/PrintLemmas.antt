@@ -6,11 +6,12 @@ use Rattle.tb_node.specs.declared.Kind.TheVariants as kinds
 use Rattle.tb_node.specs.Shape.{Shape}
 use Rattle.tb_node.specs.Small.{IsSmallShape}
 use Rattle.tb_node.specs.Fit.{NodesFit, SumsFit}
-use Rattle.tb_node.specs.Plain.{plain_kind, kind_shape, node_shape, shape_of_kind, shape_of, plain_of, matter_of}
+use Rattle.tb_node.specs.Plain.{plain_kind, node_shape, shape_of, plain_of, matter_of}
 use Rattle.tb_pack.specs.declared.Set.{Set}
 use Rattle.tb_pack.specs.Pack.{top_after}
 use Rattle.tb_pack.specs.Walk.{Walked, walked_past, HasPassed}
 use Rattle.tb_pack.proofs.WalkLemmas.{next_natural_fits, next_glue_fits}
+use Rattle.tb_column.proofs.ColumnLemmas.{shapes-held}
 use Rattle.tb_report.specs.Lines.{matter_line, node_line, item_lines}
 
 module _ (held : ℕ → List Node) where
@@ -26,22 +27,6 @@ module _ (held : ℕ → List Node) where
   node_line-held (kinds.Mark name) top = refl
   node_line-held (kinds.Note name) top = refl
   node_line-held kinds.Whatsit top = refl
-
-  kind_shape-held : (k : Kind) → kind_shape (plain_kind held k) ≡ shape_of_kind k
-  kind_shape-held (kinds.Ins i) = refl
-  kind_shape-held (kinds.Act a) = refl
-  kind_shape-held (kinds.Hbox what h d) = refl
-  kind_shape-held (kinds.Rule name h d) = refl
-  kind_shape-held (kinds.Skip g) = refl
-  kind_shape-held (kinds.Kern w) = refl
-  kind_shape-held (kinds.Pen p) = refl
-  kind_shape-held (kinds.Mark name) = refl
-  kind_shape-held (kinds.Note name) = refl
-  kind_shape-held kinds.Whatsit = refl
-
-  shapes-held : (ns : List Node) → map node_shape (map (plain_of held) ns) ≡ map shape_of ns
-  shapes-held [] = refl
-  shapes-held (n ∷ ns) = λ i. kind_shape-held n.kind i ∷ shapes-held ns i
 
   map-end : (ns : List Node) (n : Node) → map (plain_of held) (ns ++ n ∷ []) ≡ map (plain_of held) ns ++ plain_of held n ∷ []
   map-end [] n = refl
@@ -93,7 +78,7 @@ module _ (held : ℕ → List Node) where
       let passed : HasPassed w' s (map shape_of p.before ++ shape_of n ∷ []) = passes s (map shape_of p.before) p.passed in
       let plains = map (plain_of held) p.before in
       let left = map (plain_of held) rest in
-      let top : top_after s (map node_shape plains) ≡ top_after s (map shape_of p.before) = ap (top_after s) (shapes-held p.before) in
+      let top : top_after s (map node_shape plains) ≡ top_after s (map shape_of p.before) = ap (top_after s) (shapes-held held p.before) in
       let its_line : node_line (plain_kind held n.kind) (top_after s (map node_shape plains)) ≡ matter_line (matter_of n.kind) (top_after s (map shape_of p.before)) =
       node_line-held n.kind (top_after s (map node_shape plains)) ∙ ap (matter_line (matter_of n.kind)) top in
       record {

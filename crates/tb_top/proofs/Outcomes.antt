@@ -1,11 +1,9 @@
 -- What holds of the ends after a refusal and its line, and which answer the input decides.
-use Rattle.std.proofs.Common.{◌≡◌, ◌≢◌, ◌⊎◌, ℕ, ◌<◌, ◌≤◌, List, [], ◌++◌, length, refl, sym, ◌∙◌, ap, inl, inr, arith, append-nil, length-append, Bool, true, false, nat_lt, Option, None, Some, Result, Ok, Err}
+use Rattle.std.proofs.Common.{◌≡◌, ◌≢◌, ℕ, ◌≤◌, List, [], ◌++◌, length, refl, sym, ◌∙◌, ap, inl, inr, arith, append-nil, length-append, Bool, true, false, nat_lt, Option, None, Some, Ok}
 use Rattle.std.proofs.lemmas.Bool.Decides.{nat_tests}
-use Rattle.std.specs.Io.KnownBytes.{Consumes, IsAtEnd}
 use Rattle.tb_io.specs.Held.{AppendsPrefix}
 use Rattle.tb_io.proofs.Appended.{prefix_whole}
 use Rattle.tb_galley.specs.declared.Cause.{Cause}
-use Rattle.tb_galley.specs.declared.Fault.{Fault}
 use Rattle.tb_galley.specs.declared.Galley.{Galley}
 use Rattle.tb_galley.specs.declared.GalleyFault.{GalleyFault}
 use Rattle.tb_galley.specs.declared.GalleyFault.TheVariants as unread
@@ -22,8 +20,8 @@ use Rattle.tb_top.specs.declared.status.Status.{Status}
 use Rattle.tb_top.specs.declared.status.Status.TheVariants as answers
 use Rattle.tb_top.specs.Run.{End, done, pool_full, dead_cycles, page_limit, node_limit, run_of}
 use Rattle.tb_top.specs.Paginated.{end_fault, EndsWith, Refuses}
-use Rattle.tb_top.specs.Answer.{answer_at, line_at, answer_for_cause, answer_to, report_to, line_to, err_line}
-use Rattle.tb_top.specs.Outcome.{Ends, ErrEnd, Gives, Decided, CutOff, Leaves, TellsLine, Says, Refused, WantsMemory, Outcome, IsAnswer}
+use Rattle.tb_top.specs.Answer.{answer_at, line_at, answer_for_cause, answer_to, report_to, err_line}
+use Rattle.tb_top.specs.Outcome.{Ends, ErrEnd, Gives, Decided, CutOff, StandsAfter, TellsLine, Says, Outcome, IsAnswer}
 use Rattle.tb_top.specs.Refusal.{galley_status, page_status, input_status, refusal_status, page_text}
 
 -- ---- a run that was refused
@@ -57,7 +55,7 @@ module _ (e : Ends) (input : List ℕ) (g : Galley) (read : Gives e.left_before 
   cut_off part = record { input = input; read = read; galley = rw is refl; written = part }
 
   -- what stands after a refusal of `paginate`
-  pub left_by_pages : (f : PageFault) → Refuses Report (run_of g) e.held_before e.held_after f → Leaves (page_status f) e (err_line (page_text f))
+  pub left_by_pages : (f : PageFault) → Refuses Report (run_of g) e.held_before e.held_after f → StandsAfter (page_status f) e (err_line (page_text f))
   left_by_pages (pages.PoolFull line live) r = decided (pages.PoolFull line live) r
   left_by_pages (pages.DeadCycles n) r = decided (pages.DeadCycles n) r
   left_by_pages (pages.PageLimit n) r = decided (pages.PageLimit n) r
@@ -99,9 +97,9 @@ prefix_told line err (inl all) = prefix_whole err.told_before err.told_after lin
 prefix_told line err (inr part) = part.1
 
 -- a refusal whose line was told
-stays : (status : Status) (e : Ends) (line : List ℕ) (err : ErrEnd) → status ≢ answers.Done → Leaves status e line → TellsLine line err → Outcome status e err
+stays : (status : Status) (e : Ends) (line : List ℕ) (err : ErrEnd) → status ≢ answers.Done → StandsAfter status e line → TellsLine line err → Outcome status e err
 stays answers.Done e line err ne left told = absurd (ne refl)
-stays answers.Memory e line err ne left told = record { refusal = answers.Memory; refused = ne; line = line; left = left; told = prefix_told line err told }
+stays answers.Memory e line err ne left told = record { refusal = answers.Memory; refused = ne; line = line; stands = left; told = prefix_told line err told }
 stays answers.Words e line err ne left told = (line, left, told)
 stays answers.Syntax e line err ne left told = (line, left, told)
 stays answers.Range e line err ne left told = (line, left, told)
@@ -113,10 +111,10 @@ stays answers.WriteFault e line err ne left told = (line, left, told)
 stays answers.NodeLimit e line err ne left told = (line, left, told)
 
 -- the outcome of a refusal, whatever became of its line
-pub Outcome-said : (status answer : Status) (e : Ends) (line : List ℕ) (err : ErrEnd) → status ≢ answers.Done → Leaves status e line → Says status line answer err → Outcome answer e err
+pub Outcome-said : (status answer : Status) (e : Ends) (line : List ℕ) (err : ErrEnd) → status ≢ answers.Done → StandsAfter status e line → Says status line answer err → Outcome answer e err
 Outcome-said status answer e line err ne left (inl same) = rw (same.0) (stays status e line err ne left same.1)
 Outcome-said status answer e line err ne left (inr want) =
-    rw (want.0) (record { refusal = status; refused = ne; line = line; left = left; told = want.1 })
+    rw (want.0) (record { refusal = status; refused = ne; line = line; stands = left; told = want.1 })
 
 -- ---- the answer that the input decides
 
@@ -127,7 +125,7 @@ answer_to-long a b is also = rw (is, also) refl
 
 -- what was read and what was left have one answer
 answer_to-read : (long : Bool) (input rest : List ℕ) → nat_lt input_limit (length input) ≡ long → (length input ≤ input_limit → rest ≡ []) → answer_to input ≡ answer_to (input ++ rest)
-answer_to-read true input rest is ended = 
+answer_to-read true input rest is ended =
     let long : nat_lt input_limit (length (input ++ rest)) ≡ true = simp length-append (grind (arith, nat_tests)) in
     answer_to-long input (input ++ rest) is long
 answer_to-read false input rest is ended =
@@ -147,19 +145,19 @@ IsAnswer-memory None = tt
 IsAnswer-memory (Some xs) = inr refl
 
 -- where the words are accepted and neither the source nor out failed
-IsAnswer-left : (status : Status) (e : Ends) (line : List ℕ) → (status ≡ answers.Words → ⊥) → (status ≡ answers.ReadFault → ⊥) → (status ≡ answers.WriteFault → ⊥) → Leaves status e line → IsAnswer status e.left_before
-IsAnswer-left answers.Words e line w r k left = absurd (w refl)
-IsAnswer-left answers.ReadFault e line w r k left = absurd (r refl)
-IsAnswer-left answers.WriteFault e line w r k left = absurd (k refl)
-IsAnswer-left answers.Memory e line w r k left = IsAnswer-memory e.left_before
-IsAnswer-left answers.Done e line w r k left = IsAnswer-given answers.Done e.left_before e.left_after left.input left.read left.answered
-IsAnswer-left answers.Syntax e line w r k left = IsAnswer-given answers.Syntax e.left_before e.left_after left.input left.read left.answered
-IsAnswer-left answers.Range e line w r k left = IsAnswer-given answers.Range e.left_before e.left_after left.input left.read left.answered
-IsAnswer-left answers.PoolFull e line w r k left = IsAnswer-given answers.PoolFull e.left_before e.left_after left.input left.read left.answered
-IsAnswer-left answers.DeadCycles e line w r k left = IsAnswer-given answers.DeadCycles e.left_before e.left_after left.input left.read left.answered
-IsAnswer-left answers.PageLimit e line w r k left = IsAnswer-given answers.PageLimit e.left_before e.left_after left.input left.read left.answered
-IsAnswer-left answers.NodeLimit e line w r k left = IsAnswer-given answers.NodeLimit e.left_before e.left_after left.input left.read left.answered
+IsAnswer-stands : (status : Status) (e : Ends) (line : List ℕ) → (status ≡ answers.Words → ⊥) → (status ≡ answers.ReadFault → ⊥) → (status ≡ answers.WriteFault → ⊥) → StandsAfter status e line → IsAnswer status e.left_before
+IsAnswer-stands answers.Words e line w r k left = absurd (w refl)
+IsAnswer-stands answers.ReadFault e line w r k left = absurd (r refl)
+IsAnswer-stands answers.WriteFault e line w r k left = absurd (k refl)
+IsAnswer-stands answers.Memory e line w r k left = IsAnswer-memory e.left_before
+IsAnswer-stands answers.Done e line w r k left = IsAnswer-given answers.Done e.left_before e.left_after left.input left.read left.answered
+IsAnswer-stands answers.Syntax e line w r k left = IsAnswer-given answers.Syntax e.left_before e.left_after left.input left.read left.answered
+IsAnswer-stands answers.Range e line w r k left = IsAnswer-given answers.Range e.left_before e.left_after left.input left.read left.answered
+IsAnswer-stands answers.PoolFull e line w r k left = IsAnswer-given answers.PoolFull e.left_before e.left_after left.input left.read left.answered
+IsAnswer-stands answers.DeadCycles e line w r k left = IsAnswer-given answers.DeadCycles e.left_before e.left_after left.input left.read left.answered
+IsAnswer-stands answers.PageLimit e line w r k left = IsAnswer-given answers.PageLimit e.left_before e.left_after left.input left.read left.answered
+IsAnswer-stands answers.NodeLimit e line w r k left = IsAnswer-given answers.NodeLimit e.left_before e.left_after left.input left.read left.answered
 
-pub IsAnswer-said : (status answer : Status) (e : Ends) (line : List ℕ) (err : ErrEnd) → (status ≡ answers.Words → ⊥) → (status ≡ answers.ReadFault → ⊥) → (status ≡ answers.WriteFault → ⊥) → Leaves status e line → Says status line answer err → IsAnswer answer e.left_before
-IsAnswer-said status answer e line err w r k left (inl same) = rw (same.0) (IsAnswer-left status e line w r k left)
+pub IsAnswer-said : (status answer : Status) (e : Ends) (line : List ℕ) (err : ErrEnd) → (status ≡ answers.Words → ⊥) → (status ≡ answers.ReadFault → ⊥) → (status ≡ answers.WriteFault → ⊥) → StandsAfter status e line → Says status line answer err → IsAnswer answer e.left_before
+IsAnswer-said status answer e line err w r k left (inl same) = rw (same.0) (IsAnswer-stands status e line w r k left)
 IsAnswer-said status answer e line err w r k left (inr want) = rw (want.0) (IsAnswer-memory e.left_before)

@@ -140,8 +140,8 @@ module _ (goal limit : ℤ) (terms : List PlainNode → Terms) (bare : (ns : Lis
   at-place : (before : List PlainNode) (l : ℕ) (m : Matter) (rest : List PlainNode) (w : Reach) (b : Breakpoint) → Reaches (before ++ node l m ∷ []) rest w → b.place ≡ length before
       → (t : Bool) → is_stop b ≡ t
       → (let v : Reach = (if t then stopped_at before (node l m) rest b else also_reached (tried l b) w) in
-         (breakpoints v.reached ≡ (if t then b ∷ [] else (b ∷ up_to_stop (places_after before l m rest)))) × (v.fires ≡ (if t then true else has_stop (places_after before l m rest)))
-         × (v.passed ++ v.beyond ≡ before ++ node l m ∷ rest) × (v.fires ≡ false → v.beyond ≡ []) × PlacesWithin (length v.passed) (breakpoints v.reached) × (length before ≤ length v.passed) × OnlyTries v.reached)
+      (breakpoints v.reached ≡ (if t then b ∷ [] else (b ∷ up_to_stop (places_after before l m rest)))) × (v.fires ≡ (if t then true else has_stop (places_after before l m rest)))
+      × (v.passed ++ v.beyond ≡ before ++ node l m ∷ rest) × (v.fires ≡ false → v.beyond ≡ []) × PlacesWithin (length v.passed) (breakpoints v.reached) × (length before ≤ length v.passed) × OnlyTries v.reached)
   at-place before l m rest w b r at true e = (refl, refl, refl, (λ k. absurd (contradiction k)), (let le : b.place ≤ length before = omega arith in le, tt), omega arith, tt)
     where
       contradiction : true ≡ false → ⊥
@@ -154,8 +154,8 @@ module _ (goal limit : ℤ) (terms : List PlainNode → Terms) (bare : (ns : Lis
   reach-option : (before : List PlainNode) (l : ℕ) (m : Matter) (rest : List PlainNode) (w : Reach) → AllPlain before → Reaches (before ++ node l m ∷ []) rest w
       → (o : Option ℤ) → (bs : List Breakpoint) → bs ≡ with_place o (place_here goal limit (shapes_of before)) (places_after before l m rest)
       → (let v : Reach = reach_at limit terms before (node l m) rest w o in
-         (breakpoints v.reached ≡ up_to_stop bs) × (v.fires ≡ has_stop bs)
-         × (v.passed ++ v.beyond ≡ before ++ node l m ∷ rest) × (v.fires ≡ false → v.beyond ≡ []) × PlacesWithin (length v.passed) (breakpoints v.reached) × (length before ≤ length v.passed) × OnlyTries v.reached)
+      (breakpoints v.reached ≡ up_to_stop bs) × (v.fires ≡ has_stop bs)
+      × (v.passed ++ v.beyond ≡ before ++ node l m ∷ rest) × (v.fires ≡ false → v.beyond ≡ []) × PlacesWithin (length v.passed) (breakpoints v.reached) × (length before ≤ length v.passed) × OnlyTries v.reached)
   reach-option before l m rest w h r None bs e =
       let p = passed_by before l m rest w r bs e in
       (r.places ∙ p.0, r.fires ∙ p.1, r.whole ∙ append_assoc before (node l m ∷ []) rest, r.ended, r.within, longer_by before (node l m) (length w.passed) r.longer, r.tries)
@@ -177,7 +177,7 @@ module _ (goal limit : ℤ) (terms : List PlainNode → Terms) (bare : (ns : Lis
       let later = reach_from limit terms (before ++ node l m ∷ []) rest in
       let o = legal_penalty (shapes_of before) (shapes_of (node l m ∷ without_acts rest)) in
       let v = reach-option before l m rest later h r o (legal_places goal limit (shapes_of before) (shapes_of (node l m ∷ rest)))
-          (ap (λ (xs : List PlainNode). with_place (legal_penalty (shapes_of before) (shapes_of (node l m ∷ xs))) (place_here goal limit (shapes_of before)) (places_after before l m rest)) (sym (plain-acts rest j))) in
+      (ap (λ (xs : List PlainNode). with_place (legal_penalty (shapes_of before) (shapes_of (node l m ∷ xs))) (place_here goal limit (shapes_of before)) (places_after before l m rest)) (sym (plain-acts rest j))) in
       record { places = v.0; fires = v.1; whole = v.2; ended = v.3; within = v.4; longer = v.5; tries = v.6 }
   reach-by before l (ins i) rest h k j r = absurd k
   reach-by before l (act a) rest h k j r = absurd k

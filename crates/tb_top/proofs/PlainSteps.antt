@@ -149,8 +149,8 @@ module _ (p : Params) (waiting : List PlainNode) (page dead : ℕ) (f : Fired) (
   clear-served h q is =
       subst (λ w. Served w [] (plain_state p (cleared_front p body ++ rest) page (dead + 1)))
       (sym (ap (out p (plain_state p waiting page dead)) (bare-is h)
-        ∙ ap (λ w. waiting_again bare (next_goal p f.penalty w)) (if-work p (int_le eject_penalty f.penalty) (ordinary p body begins_with) _ q ∙ then-work p (is_int f.penalty clear_penalty) (clear p body begins_with) _ is)
-        ∙ ap (waiting_again bare) (goal-is p f.penalty (clear p body begins_with) (clears f.penalty is) refl)))
+      ∙ ap (λ w. waiting_again bare (next_goal p f.penalty w)) (if-work p (int_le eject_penalty f.penalty) (ordinary p body begins_with) _ q ∙ then-work p (is_int f.penalty clear_penalty) (clear p body begins_with) _ is)
+      ∙ ap (waiting_again bare) (goal-is p f.penalty (clear p body begins_with) (clears f.penalty is) refl)))
       (record { served = refl; sent = refl; state = refl })
     where
       clears : (n : ℤ) → is_int n clear_penalty ≡ true → int_le (negsuc 10000) n ≡ true
@@ -373,7 +373,7 @@ module _ (p : Params) (ns : List PlainNode) (w : Reach) (tame : AllTame ns) (bar
     by-penalty true e = by-limit (int_lt p.maxpages (pos page)) refl (ap (int_le eject_penalty) penalty-is ∙ e)
     by-penalty false e =
         served-shown p es rs (out p state fired) quiet [] (cleared_front p body ++ with_spent_break rest) page (dead + 1) front-plain
-            (clear-served p waiting page dead fired body (with_spent_break rest) firing-is (ap (int_le eject_penalty) penalty-is ∙ e) (ap (λ q. is_int q clear_penalty) penalty-is ∙ is-clear (penalty_at rest) (tame-penalty rest (tame-drop (page_break w).place ns tame)) e))
+        (clear-served p waiting page dead fired body (with_spent_break rest) firing-is (ap (int_le eject_penalty) penalty-is ∙ e) (ap (λ q. is_int q clear_penalty) penalty-is ∙ is-clear (penalty_at rest) (tame-penalty rest (tame-drop (page_break w).place ns tame)) e))
 
     by-cycles : (t : Bool) → int_lt (pos dead) p.maxdeadcycles ≡ t
         → step_shown (if t then after_firing p es rs (out p state fired) else ends es rs (dead_cycles dead)) ≡ (if t then plain_firing p body rest page dead else last [] (dead_cycles dead))

@@ -255,7 +255,7 @@ pub legal-costs : (goal limit : ℤ) (before rest : List Shape) → Costs (legal
 legal-costs goal limit before [] = tt
 legal-costs goal limit before (n ∷ rest) =
     costs-with goal limit before (legal_penalty before (n ∷ rest)) (legal_places goal limit (before ++ n ∷ []) rest)
-        (λ q e. low-penalty (ends_lasting before) (begins_with_glue rest) n q (sym (legal_is before n rest) ∙ e)) (legal-costs goal limit (before ++ n ∷ []) rest)
+    (λ q e. low-penalty (ends_lasting before) (begins_with_glue rest) n q (sym (legal_is before n rest) ∙ e)) (legal-costs goal limit (before ++ n ∷ []) rest)
 
 costs-up_to-by : (b : Breakpoint) (later : List Breakpoint) (t : Bool) → b.cost ≤ℤ awful_bad → Costs later → Costs (if t then b ∷ [] else b ∷ later)
 costs-up_to-by b later true h k = (h, tt)
@@ -298,3 +298,33 @@ within-filter n c (b ∷ bs) h = within-filter-by n b (at_most c bs) (int_le b.c
 
 pub best-within : (n : ℕ) (d : Breakpoint) (bs : List Breakpoint) → d.place ≤ n → PlacesWithin n bs → (best_or d bs).place ≤ n
 best-within n d bs h k = last-within n d (at_most (least_cost bs) bs) h (within-filter n (least_cost bs) bs k)
+
+within-with : (n : ℕ) (o : Option ℤ) (at : ℤ → Breakpoint) (later : List Breakpoint) → ((q : ℤ) → (at q).place ≤ n) → PlacesWithin n later → PlacesWithin n (with_place o at later)
+within-with n None at later h k = k
+within-with n (Some q) at later h k = (h q, k)
+
+legal-within : (goal limit : ℤ) (n : ℕ) (before rest : List Shape) → length before + length rest ≤ n → PlacesWithin n (legal_places goal limit before rest)
+legal-within goal limit n before [] h = tt
+legal-within goal limit n before (m ∷ rest) h =
+    let longer = length-append before (m ∷ []) in
+    within-with n (legal_penalty before (m ∷ rest)) (place_here goal limit before) (legal_places goal limit (before ++ m ∷ []) rest) (λ q. (let k : length before ≤ n = omega arith in k)) (legal-within goal limit n (before ++ m ∷ []) rest (omega arith))
+
+within-up_to-by : (n : ℕ) (b : Breakpoint) (later : List Breakpoint) (t : Bool) → b.place ≤ n → PlacesWithin n later → PlacesWithin n (if t then b ∷ [] else b ∷ later)
+within-up_to-by n b later true h k = (h, tt)
+within-up_to-by n b later false h k = (h, k)
+
+within-up_to : (n : ℕ) (bs : List Breakpoint) → PlacesWithin n bs → PlacesWithin n (up_to_stop bs)
+within-up_to n [] h = tt
+within-up_to n (b ∷ bs) h = within-up_to-by n b (up_to_stop bs) (is_stop b) h.0 (within-up_to n bs h.1)
+
+-- the break is a place of the list
+pub best-index : (goal limit : ℤ) (ns : List Shape) (best : Best) → page_best goal limit ns ≡ Some best → best.index ≤ length ns
+unfolding page_best
+best-index goal limit ns best e = by_stop (has_stop (legal_places goal limit [] ns)) refl
+  where
+    by_stop : (t : Bool) → has_stop (legal_places goal limit [] ns) ≡ t → best.index ≤ length ns
+    by_stop true h =
+        let d = place_here goal limit [] (pos 0) in
+        let same : best_of (best_or d (up_to_stop (legal_places goal limit [] ns))) ≡ best = let k = sym (best-stop d (legal_places goal limit [] ns) h (legal-costs goal limit [] ns)) ∙ e in cc in
+        subst (λ (b : Best). b.index ≤ length ns) same (best-within (length ns) d (up_to_stop (legal_places goal limit [] ns)) (omega arith) (within-up_to (length ns) (legal_places goal limit [] ns) (legal-within goal limit (length ns) [] ns (omega arith))))
+    by_stop false h = let k = sym (best-none (legal_places goal limit [] ns) h) ∙ e in cc

@@ -1,5 +1,5 @@
 -- The worked rows, computed from the definitions.
-use Rattle.std.proofs.Common.{◌≡◌, refl, ℕ, ◌<◌, List, [], length, nat_lt, true, arith}
+use Rattle.std.proofs.Common.{◌≡◌, refl, ℕ, List, [], length, nat_lt, true, arith}
 use Rattle.std.proofs.lemmas.Bool.Decides.{nat_tests}
 use Rattle.std.specs.Fmt.{digits}
 use Rattle.std.specs.Prelude.{codes}

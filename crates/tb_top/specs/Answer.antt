@@ -7,7 +7,7 @@ use Rattle.tb_galley.specs.CauseText.{cause_name, is_range_cause}
 use Rattle.tb_galley.specs.Grammar.{grammar}
 use Rattle.tb_top.specs.declared.status.Status.{Status}
 use Rattle.tb_top.specs.declared.status.Status.TheVariants as answers
-use Rattle.tb_top.specs.Run.{Run, End, done, pool_full, dead_cycles, page_limit, node_limit, run_of}
+use Rattle.tb_top.specs.Run.{End, done, pool_full, dead_cycles, page_limit, node_limit, run_of}
 use Rattle.tb_top.specs.Report.{report}
 
 -- ---- the answer
@@ -24,6 +24,7 @@ answer_at (dead_cycles n) = answers.DeadCycles
 answer_at (page_limit n) = answers.PageLimit
 answer_at (node_limit n) = answers.NodeLimit
 
+-- for a galley by the end of its run, and else for its fault
 abbrev pub answer_for : Result Galley Fault → Status
 answer_for (Ok g) = answer_at (run_of g).end
 answer_for (Err f) = answer_for_cause f.cause
@@ -34,6 +35,7 @@ answer_to input = answer_for (grammar input)
 
 -- ---- the report
 
+-- of a galley's run, or nothing
 abbrev pub report_for : Result Galley Fault → List ℕ
 report_for (Ok g) = report (run_of g)
 report_for (Err f) = []
@@ -76,6 +78,7 @@ line_at (dead_cycles n) = err_line (dead_cycles_text n)
 line_at (page_limit n) = err_line (page_limit_text n)
 line_at (node_limit n) = err_line (node_limit_text n)
 
+-- for a galley by the end of its run, and else for its fault
 abbrev pub line_for : Result Galley Fault → List ℕ
 line_for (Ok g) = line_at (run_of g).end
 line_for (Err f) = err_line (fault_text f)
@@ -86,14 +89,18 @@ line_to input = line_for (grammar input)
 
 -- ---- the lines of the answers that the input does not decide
 
+-- words after the program's name
 abbrev pub words_line : List ℕ
 words_line = err_line (codes "words refused")
 
+-- the source failed
 abbrev pub read_fault_line : List ℕ
 read_fault_line = err_line (codes "read fault")
 
+-- the sink of the report failed
 abbrev pub write_fault_line : List ℕ
 write_fault_line = err_line (codes "write fault")
 
+-- there was no memory
 abbrev pub memory_line : List ℕ
 memory_line = err_line (codes "out of memory")

@@ -29,7 +29,7 @@ pub record Gives (left_before left_after : Option (List ℕ)) (input : List ℕ)
   pub given : Consumes left_before left_after input
   pub ended : length input ≤ input_limit → IsAtEnd left_after
 
--- ---- what an answer leaves at the source and at out, and the line that it has on err
+-- ---- what stands at the source and at out after an answer, and the line that it has on err
 
 -- what was read decides the answer and the line, and out grew by its report
 pub record Decided (answer : Status) (e : Ends) (line : List ℕ) : Type 0 where
@@ -46,18 +46,19 @@ pub record CutOff (e : Ends) : Type 0 where
   pub galley : IsOk (grammar input)
   pub written : AppendsPrefix e.held_before e.held_after (report_to input)
 
-abbrev pub Leaves : Status → Ends → List ℕ → Type 0
-Leaves answers.Words e line = Keeps e.left_before e.left_after × Keeps e.held_before e.held_after × (line ≡ words_line)
-Leaves answers.ReadFault e line = Keeps e.held_before e.held_after × (line ≡ read_fault_line)
-Leaves answers.WriteFault e line = CutOff e × (line ≡ write_fault_line)
-Leaves answers.Memory e line = (Keeps e.held_before e.held_after ⊎ CutOff e) × (line ≡ memory_line)
-Leaves answers.Done e line = Decided answers.Done e line
-Leaves answers.Syntax e line = Decided answers.Syntax e line
-Leaves answers.Range e line = Decided answers.Range e line
-Leaves answers.PoolFull e line = Decided answers.PoolFull e line
-Leaves answers.DeadCycles e line = Decided answers.DeadCycles e line
-Leaves answers.PageLimit e line = Decided answers.PageLimit e line
-Leaves answers.NodeLimit e line = Decided answers.NodeLimit e line
+-- after each answer; the last argument is its line on err
+abbrev pub StandsAfter : Status → Ends → List ℕ → Type 0
+StandsAfter answers.Words e line = Keeps e.left_before e.left_after × Keeps e.held_before e.held_after × (line ≡ words_line)
+StandsAfter answers.ReadFault e line = Keeps e.held_before e.held_after × (line ≡ read_fault_line)
+StandsAfter answers.WriteFault e line = CutOff e × (line ≡ write_fault_line)
+StandsAfter answers.Memory e line = (Keeps e.held_before e.held_after ⊎ CutOff e) × (line ≡ memory_line)
+StandsAfter answers.Done e line = Decided answers.Done e line
+StandsAfter answers.Syntax e line = Decided answers.Syntax e line
+StandsAfter answers.Range e line = Decided answers.Range e line
+StandsAfter answers.PoolFull e line = Decided answers.PoolFull e line
+StandsAfter answers.DeadCycles e line = Decided answers.DeadCycles e line
+StandsAfter answers.PageLimit e line = Decided answers.PageLimit e line
+StandsAfter answers.NodeLimit e line = Decided answers.NodeLimit e line
 
 -- ---- what a run leaves at all three ends
 
@@ -72,18 +73,19 @@ Says refusal line answer err =
 
 -- a refusal, whose line was told
 abbrev pub Refused : Status → Ends → ErrEnd → Type 0
-Refused answer e err = (line : List ℕ) × Leaves answer e line × TellsLine line err
+Refused answer e err = (line : List ℕ) × StandsAfter answer e line × TellsLine line err
 
 -- memory was wanted, first or for telling another refusal: err grew by a prefix of the line of that refusal
 pub record WantsMemory (e : Ends) (err : ErrEnd) : Type 0 where
   pub refusal : Status
   pub refused : refusal ≢ answers.Done
   pub line : List ℕ
-  pub left : Leaves refusal e line
+  pub stands : StandsAfter refusal e line
   pub told : AppendsPrefix err.told_before err.told_after line
 
+-- after each answer: what was read, what out holds, and what err was told
 abbrev pub Outcome : Status → Ends → ErrEnd → Type 0
-Outcome answers.Done e err = Leaves answers.Done e [] × Keeps err.told_before err.told_after
+Outcome answers.Done e err = StandsAfter answers.Done e [] × Keeps err.told_before err.told_after
 Outcome answers.Memory e err = WantsMemory e err
 Outcome answers.Words e err = Refused answers.Words e err
 Outcome answers.Syntax e err = Refused answers.Syntax e err

@@ -14,10 +14,12 @@ use Rattle.tb_top.specs.Answer.{answer_for_cause, err_line, fault_text, pool_ful
 
 -- ---- the answer
 
+-- where there is no galley
 abbrev pub galley_status : GalleyFault → Status
 galley_status (unread.At f) = answer_for_cause f.cause
 galley_status unread.Memory = answers.Memory
 
+-- where the pages stopped
 abbrev pub page_status : PageFault → Status
 page_status (pages.PoolFull line live) = answers.PoolFull
 page_status (pages.DeadCycles n) = answers.DeadCycles
@@ -26,10 +28,12 @@ page_status (pages.NodeLimit n) = answers.NodeLimit
 page_status pages.WriteFault = answers.WriteFault
 page_status pages.Memory = answers.Memory
 
+-- where the input was not read
 abbrev pub input_status : InputFault → Status
 input_status inputs.Failed = answers.ReadFault
 input_status inputs.Memory = answers.Memory
 
+-- by the step that refused
 abbrev pub refusal_status : Refusal → Status
 refusal_status refusals.Words = answers.Words
 refusal_status (refusals.Input f) = input_status f
@@ -38,10 +42,12 @@ refusal_status (refusals.Pages f) = page_status f
 
 -- ---- the line on err
 
+-- where there is no galley
 abbrev pub galley_text : GalleyFault → List ℕ
 galley_text (unread.At f) = fault_text f
 galley_text unread.Memory = codes "out of memory"
 
+-- where the pages stopped
 abbrev pub page_text : PageFault → List ℕ
 page_text (pages.PoolFull line live) = pool_full_text line live
 page_text (pages.DeadCycles n) = dead_cycles_text n
@@ -50,25 +56,30 @@ page_text (pages.NodeLimit n) = node_limit_text n
 page_text pages.WriteFault = codes "write fault"
 page_text pages.Memory = codes "out of memory"
 
+-- where the input was not read
 abbrev pub input_text : InputFault → List ℕ
 input_text inputs.Failed = codes "read fault"
 input_text inputs.Memory = codes "out of memory"
 
+-- by the step that refused
 abbrev pub refusal_text : Refusal → List ℕ
 refusal_text refusals.Words = codes "words refused"
 refusal_text (refusals.Input f) = input_text f
 refusal_text (refusals.Galley f) = galley_text f
 refusal_text (refusals.Pages f) = page_text f
 
+-- its whole line
 abbrev pub refusal_line : Refusal → List ℕ
 refusal_line r = err_line (refusal_text r)
 
 -- ---- of a run before it tells
 
+-- the answer of a run that was served, or refused
 abbrev pub served_status : {T : Type 0} → Result T Refusal → Status
 served_status (Ok v) = answers.Done
 served_status (Err r) = refusal_status r
 
+-- its line; a run that was served has none
 abbrev pub served_line : {T : Type 0} → Result T Refusal → List ℕ
 served_line (Ok v) = []
 served_line (Err r) = refusal_line r

@@ -11,6 +11,7 @@ pub record Replies (input : List ℕ) (answer : Status) (report line : List ℕ)
   pub reported : report_to input ≡ report
   pub told : line_to input ≡ line
 
+-- each input with what the definitions give
 pub record WorkedRows : Type 0 where
   -- three boxes and two stretchable glues fill one page
   pub three_boxes_fill_a_page : Replies (codes "galley 1\nset textheight 30\nset topskip 10\nset maxdepth 0\nbox a 10 0\nglue 0 plus 5\nbox b 10 0\nglue 0 plus 5\nbox c 10 0\nend\n") Done (codes "report 1\npage 1 one\ncolumn 1 text height 30 natural 30 set none\nbox a 0 10 0\nbox b 10 10 0\nbox c 20 10 0\nend pages 1 boxes 3 floats 0 warnings 0\n") []

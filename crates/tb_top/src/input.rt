@@ -10,7 +10,9 @@ use tb_io::Source;
 /// Why the input was not read.
 #[derive(Clone, Copy, Debug, PartialEq, Eq)]
 pub enum InputFault {
+    /// The source failed.
     Failed,
+    /// There was no memory for what was read.
     Memory,
 }
 

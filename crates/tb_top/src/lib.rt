@@ -4,17 +4,21 @@
 //! [`paginate`] and writes their report, or says on `err` why not.
 #![tactic(auto)]
 
+mod expanding;
 mod input;
 mod laws;
-mod paginate_stub;
+mod limits;
+mod page_lists;
+mod pages;
 mod refusal;
+mod routine;
 mod rows;
 mod search;
 mod status;
 mod top;
 
 pub use laws::runs_are_defined;
-pub use paginate_stub::paginate;
+pub use pages::paginate;
 pub use rows::check_rows;
 pub use status::Status;
 pub use tb_report::Totals;
@@ -45,3 +49,6 @@ pub enum PageFault {
     /// There was no memory.
     Memory,
 }
+
+#[cfg(test)]
+mod tests;

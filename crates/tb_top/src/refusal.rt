@@ -13,9 +13,13 @@ use tb_text::put_number;
 /// Why a run was refused, with what the line on `err` shows of it.
 #[derive(Drop)]
 pub enum Refusal {
+    /// There are words after the program's name.
     Words,
+    /// The input was not read.
     Input(InputFault),
+    /// What was read is no galley.
     Galley(GalleyFault),
+    /// The pages stopped before their end.
     Pages(PageFault),
 }
 

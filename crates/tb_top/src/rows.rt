@@ -5,5 +5,4 @@ ghost use Rattle.tb_top.specs.Rows.{WorkedRows};
 /// of each galley the answer, the report and the line on `err`.
 pub fn check_rows()
     ensures { WorkedRows }
-{
-}
+{}

@@ -1,7 +1,7 @@
 //! The search for a page's break.
 
-ghost use Rattle.std.specs.Prelude.{◌≡◌, ◌<ℤ◌, ◌≤ℤ◌, pos, map, drop, length, IfSome};
-ghost use Rattle.tb_pool.specs.Lists.{IsLive};
+ghost use Rattle.std.specs.Prelude.{◌≡◌, ◌<ℤ◌, ◌≤ℤ◌, ◌≤◌, pos, map, drop, length, IfSome};
+ghost use Rattle.tb_pool.specs.Lists.{IsLive, list_at};
 ghost use Rattle.tb_node.specs.Small.{IsAmount};
 ghost use Rattle.tb_node.specs.Plain.{shape_of};
 ghost use Rattle.tb_node.specs.Fit.{shapes, NodesFit, SumsFit};
@@ -18,6 +18,7 @@ use tb_pool::{Iter, ListId, Lists};
 /// (TeX: The Program §1005).
 pub(crate) fn page_best(store: &Lists<Node>, l: ListId, goal: i64, max_depth: i64) -> Option<Best>
     requires live { IsLive store.now l }
+    requires few { length (list_at store.now l) ≤ 8388608 }
     requires goal { IsAmount goal }
     requires low { pos 0 ≤ℤ max_depth }
     requires limit { IsAmount max_depth }

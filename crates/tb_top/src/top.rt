@@ -1,7 +1,7 @@
 //! The top call.
 ghost use Rattle.std.specs.Prelude.{◌≡◌, ◌<◌, ◌≤◌, ◌⊎◌, ◌^◌, length, Some};
 ghost use Rattle.tb_io.specs.Faults.{Rose};
-ghost use Rattle.tb_top.specs.Outcome.{Outcome, Leaves, IsAnswer, Says};
+ghost use Rattle.tb_top.specs.Outcome.{Outcome, StandsAfter, IsAnswer, Says};
 ghost use Rattle.tb_top.specs.Refusal.{served_status, served_line, refusal_status, refusal_line};
 
 use crate::input::read_input;
@@ -28,11 +28,17 @@ pub fn run<S: Source, K: Sink, E: Sink>(
     // What was read, and what stands at the ends.
     ensures outcome { Outcome result
         (record {
-            left_before = S.left source.old; left_after = S.left source.new;
-            held_before = K.held out.old; held_after = K.held out.new })
+          left_before = S.left source.old;
+          left_after = S.left source.new;
+          held_before = K.held out.old;
+          held_after = K.held out.new;
+        })
         (record {
-            told_before = E.held err.old; told_after = E.held err.new;
-            faults_before = E.faults err.old; faults_after = E.faults err.new }) }
+          told_before = E.held err.old;
+          told_after = E.held err.new;
+          faults_before = E.faults err.old;
+          faults_after = E.faults err.new;
+        }) }
 
     // When each refusal comes that the input does not decide.
     ensures words { result ≡ Status.Words → 1 < length words.now }
@@ -59,10 +65,13 @@ fn serve<S: Source, K: Sink>(
     source: &mut S,
     out: &mut K,
 ) -> Result<(), Refusal>
-    ensures left { Leaves (served_status result)
+    ensures stands { StandsAfter (served_status result)
         (record {
-            left_before = S.left source.old; left_after = S.left source.new;
-            held_before = K.held out.old; held_after = K.held out.new })
+          left_before = S.left source.old;
+          left_after = S.left source.new;
+          held_before = K.held out.old;
+          held_after = K.held out.new;
+        })
         (served_line result) }
     ensures words { served_status result ≡ Status.Words → 1 < length words.now }
     ensures refused { 1 < length words.now → served_status result ≡ Status.Words }
@@ -82,8 +91,11 @@ fn serve<S: Source, K: Sink>(
 fn tell<E: Sink>(alloc: Global, refusal: &Refusal, err: &mut E) -> Status
     ensures { Says (refusal_status refusal.now) (refusal_line refusal.now) result
         (record {
-            told_before = E.held err.old; told_after = E.held err.new;
-            faults_before = E.faults err.old; faults_after = E.faults err.new }) }
+          told_before = E.held err.old;
+          told_after = E.held err.new;
+          faults_before = E.faults err.old;
+          faults_after = E.faults err.new;
+        }) }
 {
     let Ok(line) = refusal.line(alloc) else {
         return Status::Memory;

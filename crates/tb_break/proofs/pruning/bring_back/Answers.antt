@@ -1,6 +1,4 @@
-use Rattle.std.proofs.Common.{◌≡◌, ◌∙◌, ◌<◌, ◌++◌, ap, sym, refl, List, length, take, ◌-◌, arith}
-use Rattle.tb_pool.specs.Lists.{list_at}
-use Rattle.tb_node.specs.declared.Node.{Node}
+use Rattle.std.proofs.Common.{◌<◌, refl, length, arith}
 use Rattle.tb_break.proofs.StoreLemmas.{live-with_list, with_list-same}
 use Rattle.tb_break.proofs.PruneLemmas.{starts_back, comes_back, all_back, some_left}
 use Rattle.tb_break.proofs.pruning.bring_back.Goals as goal

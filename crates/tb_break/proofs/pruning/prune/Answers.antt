@@ -1,9 +1,9 @@
-use Rattle.std.proofs.Common.{◌≡◌, ◌∙◌, ◌+◌, ◌≤◌, ◌<◌, ap, sym, refl, List, ◌∷◌, length, FitsSigned, w64, arith, length-append}
+use Rattle.std.proofs.Common.{◌∙◌, ap, sym, length, FitsSigned, w64, arith, length-append}
 use Rattle.std.proofs.lemmas.Int.{to_z-of_z}
 use Rattle.tb_pool.specs.Lists.{list_at}
 use Rattle.tb_break.specs.Turning.{before_box, from_box}
 use Rattle.tb_break.proofs.StoreLemmas.{list-with_list, live-with_list}
-use Rattle.tb_break.proofs.PruneLemmas.{Pruned, prunes, first_fits, parts-length}
+use Rattle.tb_break.proofs.PruneLemmas.{prunes, first_fits, parts-length}
 use Rattle.tb_break.proofs.pruning.prune.Goals as goal
 
 pub put_top_glue-requires-clause-live : goal.put_top_glue-requires-clause-live

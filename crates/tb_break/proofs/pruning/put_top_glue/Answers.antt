@@ -1,7 +1,6 @@
-use Rattle.std.proofs.Common.{◌≡◌, ◌∙◌, ap, sym, refl, length, FitsSigned, w64, arith, List, [], ◌∷◌}
+use Rattle.std.proofs.Common.{◌∙◌, ap, sym, refl, length, FitsSigned, w64, arith, ◌∷◌}
 use Rattle.std.proofs.lemmas.Int.{to_z-of_z}
 use Rattle.tb_pool.specs.Lists.{list_at, with_list}
-use Rattle.tb_node.specs.Plain.{shape_of}
 use Rattle.tb_break.specs.Turning.{topped, with_front}
 use Rattle.tb_break.proofs.StoreLemmas.{list-with_list, with_list-same, none_first, some_first}
 use Rattle.tb_break.proofs.pruning.put_top_glue.Goals as goal

@@ -1,4 +1,4 @@
-use Rattle.std.proofs.Common.{◌≡◌, ◌∙◌, ◌+◌, ◌<◌, ◌≤◌, ap, sym, refl, length, arith}
+use Rattle.std.proofs.Common.{◌∙◌, ◌+◌, ◌<◌, sym, refl, length, arith}
 use Rattle.tb_pool.specs.Lists.{list_at}
 use Rattle.tb_break.proofs.StoreLemmas.{live-with_list, with_list-same}
 use Rattle.tb_break.proofs.PruneLemmas.{Turning, begins, turns, stops, ends}

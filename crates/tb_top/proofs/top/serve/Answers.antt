@@ -2,13 +2,7 @@ use Rattle.std.proofs.lemmas.Result.{err_from_is_err_and}
 use Rattle.tb_top.proofs.Outcomes.{left_by_pages}
 use Rattle.tb_top.proofs.top.serve.Goals as goal
 
-pub paginate-requires-clause-valid : goal.paginate-requires-clause-valid
-paginate-requires-clause-valid g c = ?
-
-pub paginate-requires-clause-live : goal.paginate-requires-clause-live
-paginate-requires-clause-live g c = ?
-
-pub returns-in_err-paginate-clause-left : goal.returns-in_err-paginate-clause-left
-returns-in_err-paginate-clause-left g c =
+pub returns-in_err-paginate-clause-stands : goal.returns-in_err-paginate-clause-stands
+returns-in_err-paginate-clause-stands g c =
     let p = err_from_is_err_and c.from_residual-in_err-paginate.result c.from_residual-in_err-paginate.ensures.1 in
-    rw (p.1, p.2) (left_by_pages _ _ _ c.in_ok-input.ensures.read (rw (c.deref.ensures.value) at c.in_ok-galley.ensures) _ c.in_err-paginate.ensures.refused)
+    rw (p.1, p.2) (left_by_pages _ _ _ c.in_ok-input.ensures.read (rw (c.deref.ensures.value) at c.in_ok-galley.ensures.grammar) _ c.in_err-paginate.ensures.refused)

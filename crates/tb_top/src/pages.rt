@@ -1,0 +1,135 @@
+//! From a galley to the text of its run.
+
+ghost use Rattle.std.specs.Prelude.{◌≡◌, ◌≢◌, ◌≤◌, Err, OnOk, IfOk, IfErr, IfSome};
+ghost use Rattle.tb_io.specs.Faults.{Rose};
+ghost use Rattle.tb_galley.specs.Valid.{IsValid};
+ghost use Rattle.tb_galley.specs.Live.{HasLiveItems};
+ghost use Rattle.tb_column.specs.Shown.{IsLiveSent};
+ghost use Rattle.tb_report.specs.Printable.{IsPrintableSent};
+ghost use Rattle.tb_report.specs.Totals.{AreCounts};
+ghost use Rattle.tb_top.specs.Run.{run_of};
+ghost use Rattle.tb_top.specs.Paginated.{Paginates, Refuses};
+ghost use Rattle.tb_top.specs.Turning.{HasLists, sent_by};
+ghost use Rattle.tb_top.specs.Written.{Shows, all_sent_lines, with_all, EndsWell, StopsWith};
+
+use crate::routine::{Ending, Routine};
+use crate::{PageFault, View};
+use std::alloc::{AllocError, Global};
+use tb_column::Sent;
+use tb_galley::Galley;
+use tb_io::{Sink, SinkFault, write_all};
+use tb_node::Node;
+use tb_pool::Lists;
+use tb_report::{HEADER, Totals, end_text, sent_text};
+
+impl From<AllocError> for PageFault {
+    ghost use Rattle.tb_top.specs.declared.PageFault.TheVariants.{Memory};
+
+    ghost from_gives = { λ _ e. e ≡ Memory };
+
+    fn from(_: AllocError) -> Self {
+        PageFault::Memory
+    }
+}
+
+/// Makes the pages of a galley and writes what a view shows of the run, piece by piece: the report, or nothing. Answers
+/// what was shipped.
+///
+/// The run ends well where nothing fires any more, or is refused: the page fired too often without a page shipped
+/// (`DeadCycles`), too many pages would be shipped (`PageLimit`), or too many nodes wait at the start or after a firing
+/// (`NodeLimit`). Its text up to there is written then. After `WriteFault`, which comes only where `out` failed and never
+/// at a silent view, and after `Memory` a prefix of the run's text is written.
+pub fn paginate<K: Sink>(
+    alloc: Global,
+    galley: &Galley,
+    view: View,
+    out: &mut K,
+) -> Result<Totals, PageFault>
+    requires valid { IsValid galley.now }
+    requires live { HasLiveItems galley.now }
+
+    ensures done { IfOk result (Paginates view (run_of galley.now) (K.held out.old) (K.held out.new)) }
+    ensures refused { IfErr result (Refuses view (run_of galley.now) (K.held out.old) (K.held out.new)) }
+
+    ensures cause { result ≡ Err PageFault.WriteFault → Rose (K.faults out.old) (K.faults out.new) }
+    ensures silent { view ≡ View.Silent → result ≢ Err PageFault.WriteFault }
+    ensures later { K.faults out.old ≤ K.faults out.new }
+{
+    show(view, HEADER, out)?;
+    let p = &galley.params;
+    let mut routine = Routine::new(alloc, galley)?;
+    let mut totals = Totals::new();
+    if let Some(ending) = routine.node_limit(p) {
+        return finish(alloc, &routine, view, &totals, ending, out);
+    }
+    'firing: loop {
+        let turn = routine.turn(p)?;
+        send(alloc, &routine.store, turn.sent, view, &mut totals, out)?;
+        if let Some(ending) = turn.ending {
+            return finish(alloc, &routine, view, &totals, ending, out);
+        }
+    }
+}
+
+// Writes bytes of the report, where the view shows them.
+fn show<K: Sink>(view: View, bytes: &[u8], out: &mut K) -> Result<(), PageFault>
+    ensures { Shows view (K.held out.old) (K.held out.new) (K.faults out.old) (K.faults out.new) bytes.now result }
+{
+    match view {
+        View::Silent => Ok(()),
+        View::Report => match write_all(out, bytes) {
+            Ok(()) => Ok(()),
+            Err(SinkFault::Failed) => Err(PageFault::WriteFault),
+            Err(SinkFault::Memory) => Err(PageFault::Memory),
+        },
+    }
+}
+
+// Counts what the routine sends, and writes its lines.
+fn send<K: Sink>(
+    alloc: Global,
+    store: &Lists<Node>,
+    sent: Option<Sent>,
+    view: View,
+    totals: &mut Totals,
+    out: &mut K,
+) -> Result<(), PageFault>
+    requires printable { IfSome sent (IsPrintableSent store.now) }
+    requires live { IfSome sent (IsLiveSent store.now) }
+    requires room { AreCounts (with_all (sent_by store.now sent) totals.old) }
+    ensures shown { Shows view (K.held out.old) (K.held out.new) (K.faults out.old) (K.faults out.new) (all_sent_lines (sent_by store.now sent)) result }
+    ensures counted { OnOk result (totals.new ≡ with_all (sent_by store.now sent) totals.old) }
+{
+    let Some(sent) = sent else {
+        return Ok(());
+    };
+    totals.count(store, &sent);
+    let text = sent_text(alloc, store, &sent)?;
+    show(view, &text, out)
+}
+
+// The end of a run: the lines of what is left and the last line, where it ends well, or its refusal.
+fn finish<K: Sink>(
+    alloc: Global,
+    routine: &Routine,
+    view: View,
+    totals: &Totals,
+    ending: Ending,
+    out: &mut K,
+) -> Result<Totals, PageFault>
+    requires { HasLists routine.now }
+    ensures done { IfOk result (EndsWell view routine.now totals.now ending (K.held out.old) (K.held out.new)) }
+    ensures refused { IfErr result (StopsWith view routine.now totals.now ending (K.held out.old) (K.held out.new) (K.faults out.old) (K.faults out.new)) }
+    ensures later { K.faults out.old ≤ K.faults out.new }
+{
+    match ending {
+        Ending::Done => {
+            let text = end_text(alloc, &routine.store, routine.waiting, totals)?;
+            show(view, &text, out)?;
+            Ok(*totals)
+        }
+        Ending::DeadCycles { count } => Err(PageFault::DeadCycles { count }),
+        Ending::PageLimit { pages } => Err(PageFault::PageLimit { pages }),
+        Ending::NodeLimit { count } => Err(PageFault::NodeLimit { count }),
+    }
+}
