@@ -59,7 +59,7 @@ unmarked-after parts.Deferred fs v same e =
     marked-append v.marks (replicate (length fs) false) v.lists.deferred fs same ∙ ap (λ hs. hs ++ marked_among (replicate (length fs) false) fs) e ∙ marked-false (length fs) fs
 unmarked-after parts.Double fs v same e = e
 
-length-replicate_false : (n : ℕ) → length (replicate n false) ≡ n
+pub length-replicate_false : (n : ℕ) → length (replicate n false) ≡ n
 length-replicate_false zero = refl
 length-replicate_false (suc n) = omega (arith, length-replicate_false n)
 

@@ -106,3 +106,23 @@ module _ {V : Type 0} where
         was = got;
         taken = rw (without_place-parts, f3, f2, f1) (taken-map s0.lists from one front back u apart no_one);
       }
+
+  joined-map : (m : FinMap nat_cmp (List V)) (front back : ℕ) (all : List V) → front ≢ back
+      → insert (insert (insert (insert m front all) back []) back all) front [] ≡ insert (insert m front []) back all
+  joined-map m front back all apart = same_from_get _ _ (λ q. grind (arith, list_steps))
+
+  -- two joins put all of one list before another
+  pub joined-lists : (s0 s1 s2 : Lists V) (front back : ℕ) → front ≢ back
+      → s1.lists ≡ insert (with_list s0 front (list_at s0 front ++ list_at s0 back)) back []
+      → s2.lists ≡ insert (with_list s1 back (list_at s1 back ++ list_at s1 front)) front []
+      → s2.lists ≡ insert (with_list s0 front []) back (list_at s0 front ++ list_at s0 back)
+  joined-lists s0 s1 s2 front back apart e1 e2 =
+      let all = list_at s0 front ++ list_at s0 back in
+      let back1 : list_at s1 back ≡ [] = list-second _ s1 back _ e1 in
+      let front1 : list_at s1 front ≡ all = grind (arith, list_steps) in
+      let f2 : s2.lists ≡ insert (insert s1.lists back all) front [] = e2 ∙ ap (λ ts. insert (insert s1.lists back ts) front []) (ap (λ ts. ts ++ list_at s1 front) back1 ∙ front1) in
+      rw (f2, e1) (joined-map s0.lists front back all apart)
+
+  -- both lists live on after the first of the joins
+  pub live-joined : (s0 s1 : Lists V) (front back q : ℕ) (xs : List V) → s1.lists ≡ insert (with_list s0 front xs) back [] → IsLive s0 q → IsLive s1 q
+  live-joined s0 s1 front back q xs e is = grind (arith, list_steps)

@@ -1,6 +1,7 @@
 -- What each call leaves of the pool.
-use Rattle.std.proofs.Common.{◌≡◌, ◌≢◌, ℕ, ◌+◌, ◌<◌, ◌≤◌, List, [], ◌∷◌, ◌++◌, length, Bool, true, false, Some, slice_get, refl, sym, ap, ◌∙◌, subst, arith}
-use Rattle.std.specs.Prelude.{ℤ, pos, ◌+ℤ◌, ◌-ℤ◌}
+use Rattle.std.proofs.Common.{◌≡◌, ◌≢◌, ℕ, ◌+◌, ◌<◌, ◌≤◌, List, [], ◌∷◌, ◌++◌, length, map, drop, replicate, Bool, true, false, Some, slice_get, refl, sym, ap, ◌∙◌, subst, arith}
+use Rattle.std.specs.Prelude.{ℤ, pos, ◌+ℤ◌, ◌-ℤ◌, slice_set}
+use Rattle.std.proofs.Math.ListN.{length-set}
 use Rattle.std.proofs.lemmas.Int.{ints}
 use Rattle.std.proofs.lemmas.List.{map-append, length-append, length-map}
 use Rattle.std.proofs.lemmas.Option.{slice_get_within, same_Some}
@@ -14,16 +15,17 @@ use Rattle.tb_node.specs.declared.Float.{Float}
 use Rattle.tb_float.specs.declared.shelves.Shelves.{Shelves}
 use Rattle.tb_float.specs.declared.heights.Heights.{Heights}
 use Rattle.tb_float.specs.SlotView.{SlotView}
-use Rattle.tb_float.specs.Lists.{live_count, entries_of, float_before, without_place}
-use Rattle.tb_float.specs.Pool.{FloatPool, with_current, with_floats_after, with_floats_before, without_entry, without_entries}
-use Rattle.tb_float.specs.Ranges.{IsSized, IsRoom}
+use Rattle.tb_float.specs.Lists.{live_count, entries_of, floats_of, float_entries, float_before, floats_among, without_place}
+use Rattle.tb_float.specs.Pool.{FloatPool, without_marks, joined_before, with_float_at, with_mark, with_current, with_floats_after, with_floats_before, without_entry, without_entries}
+use Rattle.tb_float.specs.Ranges.{IsSized, IsRoom, IsHeight}
 use Rattle.tb_float.specs.Rooms.{total_height}
 use Rattle.tb_float.specs.Heights.{height_of, with_height}
 use Rattle.tb_float.specs.Stored.{shelf_of, slots_of, seen_pool, seen_lists, entries_in, floats_in, marks_in, slot_count, is_float, unmarked_slot, IsSlotOf, AreSlotsOf, IsStored}
 use Rattle.tb_float.proofs.ListLemmas.{length-without_place}
 use Rattle.tb_float.proofs.PartLemmas.{put, put-other}
-use Rattle.tb_float.proofs.SlotLemmas.{slot-of_entry, length-floats_in, slots-append, slots-without, slot-there, slots-bare, entries-bare, marks-bare, AreBare, floats_in-append, total_height-append, total-without}
-use Rattle.tb_float.proofs.SoundLemmas.{written, Written, entries_of-seen, count-put, live_count-seen, seen-after, seen-before, seen-without, seen-emptied}
+use Rattle.tb_float.proofs.SlotLemmas.{slot-of_entry, bare-shown, slots-unmarked, slots-set, floats_in-unmarked, marks-unmarked, marks-none, total-set, entries-set_same, length-floats_in, slots-append, slots-without, slot-there, slots-bare, entries-bare, marks-bare, AreBare, floats_in-append, total_height-append, total-without}
+use Rattle.tb_float.proofs.MarkLemmas.{length-replicate_false}
+use Rattle.tb_float.proofs.SoundLemmas.{written, Written, entries_of-seen, floats_of-seen, seen-set, marks_in-set, map-set, count-put, live_count-seen, seen-after, seen-before, seen-without, seen-emptied}
 
 -- a pool that is stored, and what is seen of it
 pub record IsPool (new : Lists SlotView) (sh : Shelves) (h : Heights) (size : ℕ) (v : FloatPool) : Type 0 where
@@ -185,3 +187,100 @@ float-is at p k f s h e got =
 -- each deferred float has its mark
 pub marks-shown : (at : Part → List SlotView) → AreSlotsOf parts.Deferred (at parts.Deferred) → length (marks_in (at parts.Deferred)) ≡ length (floats_in (at parts.Deferred))
 marks-shown at h = length-map (at parts.Deferred) (λ s. s.marked) ∙ sym (length-floats_in parts.Deferred (at parts.Deferred) refl h)
+
+-- ---- marks that were taken away
+
+pub lists-without_marks : (p : Part) (v : FloatPool) → (without_marks p v).lists ≡ v.lists
+lists-without_marks parts.Current v = refl
+lists-without_marks parts.Here v = refl
+lists-without_marks parts.Top v = refl
+lists-without_marks parts.Bottom v = refl
+lists-without_marks parts.Deferred v = refl
+lists-without_marks parts.Double v = refl
+
+-- what joins another list loses its marks, whether they were taken away before or not
+pub joined-without_marks : (from to : Part) (v : FloatPool) → joined_before from to (without_marks from v) ≡ joined_before from to v
+joined-without_marks parts.Current to v = refl
+joined-without_marks parts.Here to v = refl
+joined-without_marks parts.Top to v = refl
+joined-without_marks parts.Bottom to v = refl
+joined-without_marks parts.Deferred to v = refl
+joined-without_marks parts.Double to v = refl
+
+marks-replicated : (ms : List Bool) (n : ℕ) → ms ≡ replicate n false → ms ≡ replicate (length ms) false
+marks-replicated ms n e = let same : length ms ≡ n = ap length e ∙ length-replicate_false n in e ∙ ap (λ m. replicate m false) (sym same)
+
+marks-gone : (p : Part) (at : Part → List SlotView) (n : ℕ) (v : FloatPool) → AreSlotsOf p (at p) → seen_pool at n ≡ without_marks p v → marks_in (at p) ≡ replicate (length (at p)) false
+marks-gone parts.Current at n v h e = marks-none parts.Current (at parts.Current) refl h
+marks-gone parts.Here at n v h e = marks-none parts.Here (at parts.Here) refl h
+marks-gone parts.Top at n v h e = marks-none parts.Top (at parts.Top) refl h
+marks-gone parts.Bottom at n v h e = marks-none parts.Bottom (at parts.Bottom) refl h
+marks-gone parts.Deferred at n v h e =
+    marks-replicated (marks_in (at parts.Deferred)) (length v.marks) (ap (λ w. w.marks) e) ∙ ap (λ m. replicate m false) (length-map (at parts.Deferred) (λ s. s.marked))
+marks-gone parts.Double at n v h e = marks-none parts.Double (at parts.Double) refl h
+
+-- the slots of a list that shows floats alone and has lost its marks are bare
+pub bare-list : (p : Part) (at : Part → List SlotView) (n : ℕ) (v : FloatPool) → AreSlotsOf p (at p) → seen_pool at n ≡ without_marks p v → entries_of p v.lists ≡ float_entries (floats_of p v.lists) → AreBare (at p)
+bare-list p at n v h seen floats =
+    let lists : seen_lists at ≡ v.lists = ap (λ w. w.lists) seen ∙ lists-without_marks p v in
+    let ents : entries_in (at p) ≡ float_entries (floats_in (at p)) =
+        sym (entries_of-seen p at h) ∙ ap (entries_of p) lists ∙ floats ∙ ap (λ l. float_entries (floats_of p l)) (sym lists) ∙ ap float_entries (floats_of-seen p at) in
+    bare-shown (at p) ents (marks-gone p at n v h seen)
+
+pub unmarked-store : (store new : Lists SlotView) (sh : Shelves) (h : Heights) (size : ℕ) → IsStored store sh h size
+    → new.lists ≡ with_list store sh.deferred (map unmarked_slot (list_at store sh.deferred)) → new.spare ≡ store.spare → IsPool new sh h size (without_marks parts.Deferred (seen_pool (slots_of store sh) size))
+unmarked-store store new sh h size stored e spare =
+    let at = slots_of store sh in
+    let xs = map unmarked_slot (at parts.Deferred) in
+    let w = rewritten store new sh h size parts.Deferred xs stored e spare (slots-unmarked parts.Deferred (at parts.Deferred) (stored.sound.slots parts.Deferred)) (length-map (at parts.Deferred) unmarked_slot) (ap total_height (floats_in-unmarked (at parts.Deferred))) in
+    record {
+      stored = w.stored;
+      seen = ap (λ a. seen_pool a size) w.slots ∙ (λ i. record (seen_pool at size) { lists = record (seen_lists at) { deferred = floats_in-unmarked (at parts.Deferred) i }; marks = marks-unmarked (at parts.Deferred) i });
+    }
+
+-- ---- another entry at a place
+
+pub without-first : (ss : List SlotView) → without_place 0 ss ≡ drop 1 ss
+without-first [] = refl
+without-first (s ∷ ss) = refl
+
+-- a float's places were set
+pub places-set : (store new : Lists SlotView) (sh : Shelves) (h : Heights) (size : ℕ) (p : Part) (k : ℕ) (s : SlotView) (f g : Float) → IsStored store sh h size
+    → slice_get (slots_of store sh p) k ≡ Some s → s.entry ≡ entries.Float f → g.height ≡ f.height
+    → new.lists ≡ with_list store (shelf_of sh p) (slice_set (slots_of store sh p) k (record { entry = entries.Float g; marked = s.marked })) → new.spare ≡ store.spare
+    → IsPool new sh h size (with_float_at p k g (seen_pool (slots_of store sh) size))
+places-set store new sh h size p k s f g stored there is same e spare =
+    let at = slots_of store sh in
+    let u : SlotView = record { entry = entries.Float g; marked = s.marked } in
+    let slots = stored.sound.slots p in
+    let old = slot-there p k (at p) s slots there in
+    let sized : IsSized s.entry = old.sized in
+    let tall : IsHeight f.height = subst IsSized is sized in
+    let new_slot : IsSlotOf p u = record { sized = subst IsHeight (sym same) tall; float = λ n. refl; unmarked = old.unmarked } in
+    let sum : total_height (float_before (entries.Float g) []) ≡ total_height (float_before s.entry []) = ap (λ z. z +ℤ pos 0) same ∙ ap (λ d. total_height (float_before d [])) (sym is) in
+    let w = rewritten store new sh h size p (slice_set (at p) k u) stored e spare (slots-set p k (at p) u slots new_slot) (length-set (at p) k u) (total-set k (at p) s (entries.Float g) s.marked there sum) in
+    record {
+      stored = w.stored;
+      seen = ap (λ a. seen_pool a size) w.slots ∙ seen-set p at k g s.marked size slots (marks_in-set k (at p) s (entries.Float g) there);
+    }
+
+-- a deferred float was marked
+pub mark-set : (store new : Lists SlotView) (sh : Shelves) (h : Heights) (size : ℕ) (k : ℕ) (s : SlotView) → IsStored store sh h size
+    → slice_get (slots_of store sh parts.Deferred) k ≡ Some s
+    → new.lists ≡ with_list store sh.deferred (slice_set (slots_of store sh parts.Deferred) k (record { entry = s.entry; marked = true })) → new.spare ≡ store.spare
+    → IsPool new sh h size (with_mark k (seen_pool (slots_of store sh) size))
+mark-set store new sh h size k s stored there e spare =
+    let at = slots_of store sh in
+    let u : SlotView = record { entry = s.entry; marked = true } in
+    let slots = stored.sound.slots parts.Deferred in
+    let old = slot-there parts.Deferred k (at parts.Deferred) s slots there in
+    let new_slot : IsSlotOf parts.Deferred u = record { sized = old.sized; float = old.float; unmarked = λ n. cc } in
+    let same = entries-set_same k (at parts.Deferred) s true there in
+    let w = rewritten store new sh h size parts.Deferred (slice_set (at parts.Deferred) k u) stored e spare (slots-set parts.Deferred k (at parts.Deferred) u slots new_slot) (length-set (at parts.Deferred) k u) (total-set k (at parts.Deferred) s s.entry true there refl) in
+    record {
+      stored = w.stored;
+      seen = ap (λ a. seen_pool a size) w.slots ∙ (λ i. record (seen_pool at size) { lists = record (seen_lists at) { deferred = floats_among (same i) }; marks = map-set {X = SlotView} (λ r. r.marked) k (at parts.Deferred) u i });
+    }
+
+pub same-float : (f g : Float) → entries.Float f ≡ entries.Float g → f ≡ g
+same-float f g e = cc

@@ -3,6 +3,7 @@ use Rattle.std.proofs.Common.{◌≡◌, ◌≢◌, ℕ, zero, suc, ◌+◌, ◌
 use Rattle.std.specs.Prelude.{ℤ, pos, ◌+ℤ◌, ◌-ℤ◌, ◌≤ℤ◌, slice_set}
 use Rattle.std.proofs.lemmas.Int.{ints}
 use Rattle.std.proofs.lemmas.List.{map-append}
+use Rattle.std.proofs.lemmas.Option.{same_Some}
 use Rattle.tb_scaled.specs.Scaled.{max_dimen}
 use Rattle.tb_node.specs.declared.Float.{Float}
 use Rattle.tb_float.specs.declared.Part.{Part}
@@ -203,3 +204,33 @@ pub slot-of_entry : (ss : List SlotView) (k : ℕ) (e : Entry) → slice_get (en
 slot-of_entry [] k e h = cc
 slot-of_entry (s ∷ ss) zero e h = (s, refl, grind arith)
 slot-of_entry (s ∷ ss) (suc k) e h = slot-of_entry ss k e h
+
+-- the float of a slot is seen at the slot's place, where no notes stand
+pub float-at_slot : (p : Part) (k : ℕ) (ss : List SlotView) (s : SlotView) (f : Float) → holds_notes p ≡ false → AreSlotsOf p ss → slice_get ss k ≡ Some s → s.entry ≡ entries.Float f → slice_get (floats_in ss) k ≡ Some f
+float-at_slot p k [] s f no_notes h e is = cc
+float-at_slot p zero (t ∷ ss) s f no_notes h e is =
+    let same : t.entry ≡ entries.Float f = ap (λ r. r.entry) (same_Some t s e) ∙ is in
+    ap (λ d. slice_get (float_before d (floats_in ss)) 0) same
+float-at_slot p (suc k) (t ∷ ss) s f no_notes h e is = by_entry t.entry (h.0.float no_notes) ∙ float-at_slot p k ss s f no_notes h.1 e is
+  where
+    by_entry : (d : Entry) → is_float d ≡ true → slice_get (float_before d (floats_in ss)) (suc k) ≡ slice_get (floats_in ss) k
+    by_entry (entries.Float g) yes_float = refl
+    by_entry (entries.Left m) yes_float = cc
+    by_entry (entries.Right m) yes_float = cc
+
+-- another entry of the same height at a place
+pub total-set : (k : ℕ) (ss : List SlotView) (s : SlotView) (e : Entry) (m : Bool) → slice_get ss k ≡ Some s → total_height (float_before e []) ≡ total_height (float_before s.entry [])
+    → total_height (floats_in (slice_set ss k (record { entry = e; marked = m }))) ≡ total_height (floats_in ss)
+total-set k [] s e m h same = refl
+total-set zero (t ∷ ss) s e m h same =
+    let is : t ≡ s = same_Some t s h in
+    let before = ap (λ (r : SlotView). total_height (float_before r.entry [])) is in
+    omega (arith, ints, entry-taken e (floats_in ss), entry-taken t.entry (floats_in ss))
+total-set (suc k) (t ∷ ss) s e m h same =
+    omega (arith, ints, total-set k ss s e m h same, entry-taken t.entry (floats_in (slice_set ss k (record { entry = e; marked = m }))), entry-taken t.entry (floats_in ss))
+
+-- the same entry at a place, marked or not
+pub entries-set_same : (k : ℕ) (ss : List SlotView) (s : SlotView) (m : Bool) → slice_get ss k ≡ Some s → entries_in (slice_set ss k (record { entry = s.entry; marked = m })) ≡ entries_in ss
+entries-set_same k [] s m h = refl
+entries-set_same zero (t ∷ ss) s m h = ap (λ (r : SlotView). r.entry ∷ entries_in ss) (sym (same_Some t s h))
+entries-set_same (suc k) (t ∷ ss) s m h = ap (λ es. t.entry ∷ es) (entries-set_same k ss s m h)

@@ -225,7 +225,7 @@ seen-emptied parts.Bottom at n = refl
 seen-emptied parts.Deferred at n = refl
 seen-emptied parts.Double at n = refl
 
-map-set : {X Y : Type 0} (f : X → Y) (k : ℕ) (xs : List X) (x : X) → map f (slice_set xs k x) ≡ slice_set (map f xs) k (f x)
+pub map-set : {X Y : Type 0} (f : X → Y) (k : ℕ) (xs : List X) (x : X) → map f (slice_set xs k x) ≡ slice_set (map f xs) k (f x)
 map-set f k [] x = refl
 map-set f zero (y ∷ xs) x = refl
 map-set f (suc k) (y ∷ xs) x = ap (λ zs. f y ∷ zs) (map-set f k xs x)

@@ -50,9 +50,9 @@ impl Pool {
     fn unmark(&mut self, p: Part)
         ensures { self.new ≡ without_marks p self.old }
     {
-        if !matches!(p, Part::Deferred) {
+        let Part::Deferred = p else {
             return;
-        }
+        };
         unmark_all(&mut self.store, self.shelves.deferred);
     }
 
