@@ -2,3 +2,5 @@ mod Rows
 pub mod AddLemmas
 pub mod NameMade
 pub mod Weights
+pub mod FitLemmas
+pub mod SumLemmas

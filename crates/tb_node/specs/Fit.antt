@@ -1,9 +1,10 @@
 -- When the sums of a list fit: what a call asks of a list that it adds up.
-use Rattle.std.specs.Prelude.{◌≡◌, ℕ, ℤ, List, ◌∷◌, ◌++◌, map}
+use Rattle.std.specs.Prelude.{◌≡◌, ℕ, ◌≤◌, ℤ, pos, neg_ℤ, ◌≤ℤ◌, List, ◌∷◌, ◌++◌, length, map, All}
 use Rattle.tb_pool.specs.Lists.{Lists, list_at}
+use Rattle.tb_scaled.specs.Scaled.{max_dimen}
 use Rattle.tb_node.specs.declared.Node.{Node}
-use Rattle.tb_node.specs.Shape.{Shape}
-use Rattle.tb_node.specs.Plain.{shape_of}
+use Rattle.tb_node.specs.Shape.{Shape, box, glue, kern, penalty, other}
+use Rattle.tb_node.specs.Plain.{shape_of, PlainNode, node_shape, Leaf, leaf_shape}
 use Rattle.tb_node.specs.Sums.{sums_of}
 use Rattle.tb_node.specs.Small.{IsSmall, IsSmallShape}
 
@@ -18,3 +19,41 @@ NodesFit ns = (before : List Shape) (n : Shape) (rest : List Shape) → before +
 -- the sums of each prefix fit
 abbrev pub SumsFit : ℤ → List Shape → Type 0
 SumsFit limit ns = (before rest : List Shape) → before ++ rest ≡ ns → IsSmall (sums_of limit before)
+
+-- a dimension: at most the greatest one in absolute value
+pub record IsDimension (z : ℤ) : Type 0 where
+  pub low : neg_ℤ max_dimen ≤ℤ z
+  pub high : z ≤ℤ max_dimen
+
+-- a height or a depth: a dimension that is not below 0
+pub record IsExtent (z : ℤ) : Type 0 where
+  pub low : pos 0 ≤ℤ z
+  pub high : z ≤ℤ max_dimen
+
+-- a penalty: at most 2^30 in absolute value
+pub record IsPenalty (p : ℤ) : Type 0 where
+  pub low : neg_ℤ (pos 1073741824) ≤ℤ p
+  pub high : p ≤ℤ pos 1073741824
+
+-- each amount of a node is in the range of its kind
+abbrev pub IsSized : Shape → Type 0
+IsSized (box h d) = IsExtent h × IsExtent d
+IsSized (glue g) = IsDimension g.width × IsDimension g.stretch × IsDimension g.shrink
+IsSized (kern w) = IsDimension w
+IsSized (penalty p) = IsPenalty p
+IsSized other = Unit {0}
+
+-- the same of a node of the store, of a plain node and of a node of an insertion's list
+abbrev pub IsSizedNode : Node → Type 0
+IsSizedNode n = IsSized (shape_of n)
+
+abbrev pub IsSizedPlain : PlainNode → Type 0
+IsSizedPlain n = IsSized (node_shape n)
+
+abbrev pub IsSizedLeaf : Leaf → Type 0
+IsSizedLeaf n = IsSized (leaf_shape n)
+
+-- a list that can be summed: each node is sized, and there are at most 2^23
+pub record IsSummable (ns : List Shape) : Type 0 where
+  pub sized : All IsSized ns
+  pub few : length ns ≤ 8388608

@@ -1,21 +1,18 @@
-//! The nodes of a vertical list, and their sums.
+//! The nodes of a vertical list, and their sums. All sizes are in scaled points.
 #![tactic(auto)]
 
-ghost use Rattle.std.specs.Prelude.{◌≡◌, ℕ, ◌<◌, ◌≤◌, ◌+ℤ◌, ◌-ℤ◌, ◌+◌, ◌++◌, ◌∷◌, [], pos, length, map, slice_index_or, slice_get, take, EachIndex, Some, None, true, if◌then◌else◌};
-ghost use Rattle.std.specs.List.{list_all};
-ghost use Rattle.tb_node.specs.Names.{is_name, is_alphanumeric, is_name_byte};
-ghost use Rattle.tb_node.specs.Add.{limited, limited_to, order_index, more_at, stretch_with, added_node, stretched_sums};
-ghost use Rattle.tb_node.specs.Plain.{shape_of};
-ghost use Rattle.tb_pool.specs.Lists.{IsLive, list_at, with_list};
-ghost use Rattle.tb_node.specs.declared.Node.{Node};
-ghost use Rattle.tb_node.specs.Shape.{box, glue, kern, penalty, other};
-ghost use Rattle.tb_node.specs.Small.{IsAmount, AreAmounts, IsSmall, IsSmallShape};
+mod names;
+mod summing;
+#[cfg(test)]
+mod tests;
 
+pub use names::name_of;
 use std::marker::Model;
-use tb_pool::{ListId, Lists};
-use tb_scaled::{Glue, Order};
+pub use summing::{add, list_sums, stretch_sums};
+use tb_pool::ListId;
+use tb_scaled::Glue;
 
-/// A name of 1 to 63 bytes.
+/// A name of 1 to 63 bytes: letters, digits, `.`, `_` and `-`, the first a letter or a digit.
 #[derive(Clone, Copy)]
 pub struct Name {
     len: usize,
@@ -42,7 +39,7 @@ impl Model for Name {
 impl Name {
     ghost use Rattle.std.specs.Prelude.{◌≡◌};
 
-    /// Its bytes.
+    /// The bytes of the name.
     pub fn as_bytes(&self) -> &[u8]
         ensures { result.now ≡ self.now }
     {
@@ -50,175 +47,207 @@ impl Name {
     }
 }
 
-/// The name of these bytes, where they are one.
-pub fn name_of(bytes: &[u8]) -> Option<Name>
-    ensures { result ≡ if is_name bytes.now then Some bytes.now else None }
-{
-    if !is_name(bytes) {
-        return None;
-    }
-    let mut name = [0; 63];
-    name[..bytes.len()].copy_from_slice(bytes);
-    Some(Name {
-        len: bytes.len(),
-        bytes: name,
-    })
-}
-
-fn is_name(bytes: &[u8]) -> bool
-    ensures value { result ≡ is_name bytes.now }
-    ensures length { result ≡ true → (0 < length bytes.now) × (length bytes.now ≤ 63) }
-{
-    match bytes {
-        [] => false,
-        [first, rest @ ..] => is_alphanumeric(*first) && are_name_bytes(rest) && rest.len() <= 62,
-    }
-}
-
-fn are_name_bytes(bytes: &[u8]) -> bool
-    ensures { result ≡ list_all is_name_byte bytes.now }
-{
-    bytes.iter().all(|b| is_name_byte(*b))
-}
-
-fn is_alphanumeric(byte: u8) -> bool
-    ensures { result ≡ is_alphanumeric byte }
-{
-    (b'0' <= byte && byte <= b'9') || (b'A' <= byte && byte <= b'Z') || (b'a' <= byte && byte <= b'z')
-}
-
-fn is_name_byte(byte: u8) -> bool
-    ensures { result ≡ is_name_byte byte }
-{
-    is_alphanumeric(byte) || byte == b'.' || byte == b'_' || byte == b'-'
-}
-
 /// The side on which a marginal note stands.
 #[derive(Clone, Copy)]
 pub enum Side {
+    /// Left of the column.
     Left,
+    /// Right of the column.
     Right,
 }
 
-/// Where a float stands or goes.
+/// Where a float stands on a page, or the list that it goes to.
 #[derive(Clone, Copy)]
 pub enum Where {
+    /// In the text, where it came.
     Here,
+    /// At the top of a column.
     Top,
+    /// At the bottom of a column.
     Bottom,
+    /// In a column of floats.
     Page,
+    /// Above two columns, or alone on a page of their width.
     Double,
+    /// On no page yet.
     Deferred,
 }
 
 /// What a box holds.
 #[derive(Clone, Copy)]
 pub enum What {
+    /// A line of text, or another box of the galley.
     Text(Name),
+    /// Nothing.
     Blank,
+    /// A float.
     Float {
+        /// The float's name.
         name: Name,
+        /// Its class.
         class: u8,
+        /// Where it stands.
         place: Where,
+        /// The line of the float in the galley.
         item: u32,
     },
+    /// A marginal note.
     Margin {
+        /// The note's name.
         name: Name,
+        /// The side that it stands on.
         side: Side,
+        /// By how much it was moved down.
         shift: i64,
+        /// The height of the note's own box.
         height: i64,
+        /// The depth of the note's own box.
         depth: i64,
+        /// The line of the note in the galley.
         item: u32,
     },
 }
 
-/// An insertion, with the list of its material.
+/// An insertion, with the list of its material (TeX: The Program §140).
 #[derive(Clone, Copy)]
 pub struct Insertion {
+    /// Its class.
     pub class: u8,
+    /// The list of its material, which holds no insertion and no act.
     pub list: ListId,
+    /// The height plus the depth of its list.
     pub height: i64,
+    /// The depth limit of its list's front where it is split.
     pub split_depth: i64,
+    /// The top skip of the rest where it is split.
     pub split_top: i64,
+    /// The penalty for an insertion that floats to a later page.
     pub floating: i64,
 }
 
-/// The areas that floats can be kept out of.
+/// The areas that floats can be kept out of on a page.
 #[derive(Clone, Copy)]
 pub enum Area {
+    /// The top and the bottom.
     All,
+    /// The top.
     Top,
+    /// The bottom.
     Bottom,
 }
 
-/// Where a float may go.
+/// The places that a float may go to.
 #[derive(Clone, Copy)]
 pub struct Places {
+    /// In the text.
     pub h: bool,
+    /// At the top of a column, or above two columns.
     pub t: bool,
+    /// At the bottom of a column.
     pub b: bool,
+    /// In a column of floats.
     pub p: bool,
 }
 
 /// A float as the galley gives it.
 #[derive(Clone, Copy)]
 pub struct Float {
+    /// Its line in the galley.
     pub line: u32,
+    /// Its name.
     pub name: Name,
+    /// Its class, 1 to 26; floats of one class keep their order.
     pub class: u8,
+    /// Whether it is as wide as two columns.
     pub wide: bool,
+    /// Where it may go.
     pub places: Places,
+    /// Whether it overrides the limits of the areas.
     pub bang: bool,
+    /// Its height; its depth is 0.
     pub height: i64,
 }
 
-/// A marginal note as the galley gives it.
+/// A marginal note as the galley gives it: one box for each side.
 #[derive(Clone, Copy)]
 pub struct Margin {
+    /// Its line in the galley.
     pub line: u32,
+    /// Its name.
     pub name: Name,
+    /// The height of the left box.
     pub left_height: i64,
+    /// The depth of the left box.
     pub left_depth: i64,
+    /// The height of the right box.
     pub right_height: i64,
+    /// The depth of the right box.
     pub right_depth: i64,
 }
 
 /// What the output routine does when the page builder reaches it.
 #[derive(Clone, Copy)]
 pub enum Act {
+    /// Takes a float into the pool.
     Take(Float),
+    /// Takes a marginal note into the pool.
     TakeMargin(Margin),
+    /// Keeps floats out of an area of this page.
     Suppress(Area),
-    Columns { two: bool },
+    /// Changes to one column or to two.
+    Columns {
+        /// Whether there are two.
+        two: bool,
+    },
 }
 
 /// The kinds of node.
 #[derive(Clone, Copy)]
 pub enum Kind {
+    /// A box. Its height and depth are not below 0.
     Hbox {
+        /// What it holds.
         what: What,
+        /// Its height.
         height: i64,
+        /// Its depth.
         depth: i64,
     },
+    /// A rule. Its height and depth are not below 0. One that the output routine makes has no name.
     Rule {
+        /// The name of a rule of the galley.
         name: Option<Name>,
+        /// Its height.
         height: i64,
+        /// Its depth.
         depth: i64,
     },
+    /// Glue.
     Skip(Glue),
+    /// A kern of this width.
     Kern(i64),
+    /// A penalty.
     Pen(i64),
+    /// A mark.
     Mark(Name),
+    /// A note, which takes no room and shows where it came to stand.
     Note(Name),
+    /// A node that takes no room and shows nothing.
     Whatsit,
+    /// An insertion.
     Ins(Insertion),
+    /// An act of the output routine.
     Act(Act),
 }
 
-/// A node of a vertical list, with the line of its galley item.
+/// A node of a vertical list (TeX: The Program §133).
+///
+/// Each amount in it is at most 1073741823 in absolute value, but an insertion's height and a marginal note's shift.
 #[derive(Clone, Copy)]
 pub struct Node {
+    /// The line of its galley item; 0 for a node that the output routine makes.
     pub line: u32,
+    /// Its kind, with what it holds.
     pub kind: Kind,
 }
 
@@ -232,130 +261,15 @@ impl Model for Node {
     ghost inverse = { λ v. record { line = v.line; kind = v.kind } };
 }
 
-/// The sums of a list's nodes.
+/// The sums of a list's nodes under a depth limit (TeX: The Program §982).
 #[derive(Clone, Copy)]
 pub struct Sums {
+    /// The natural size of the list without its depth.
     pub total: i64,
+    /// The depth of the last box or rule, where no glue and no kern follows it, and at most the limit.
     pub depth: i64,
+    /// The stretch of each order: normal, fil, fill, filll.
     pub stretch: [i64; 4],
+    /// The shrink.
     pub shrink: i64,
-}
-
-// The depth, but no more than the limit.
-fn kept_depth(max_depth: i64, depth: i64) -> i64
-    ensures value { result ≡ limited_to max_depth depth }
-    ensures small { IsAmount max_depth → IsAmount depth → IsAmount result }
-{
-    if max_depth < depth { max_depth } else { depth }
-}
-
-// A total with the depth before it and the room of a node, less the depth that is kept.
-fn laid(total: i64, depth: i64, room: i64, kept: i64) -> i64
-    requires total { IsAmount total }
-    requires depth { IsAmount depth }
-    requires room { IsAmount room }
-    requires kept { IsAmount kept }
-    ensures { result ≡ (total +ℤ depth +ℤ room) -ℤ kept }
-{
-    total + depth + room - kept
-}
-
-// The room and the new depth go into the total; what is deeper than the limit counts at once.
-fn lay(s: &mut Sums, room: i64, depth: i64, max_depth: i64)
-    requires small { IsSmall s.old }
-    requires room { IsAmount room }
-    requires depth { IsAmount depth }
-    requires limit { IsAmount max_depth }
-    ensures { s.new ≡ record s.old { total = limited max_depth (s.old.total +ℤ s.old.depth +ℤ room) depth; depth = limited_to max_depth depth } }
-{
-    let kept = kept_depth(max_depth, depth);
-    s.total = laid(s.total, s.depth, room, kept);
-    s.depth = kept;
-}
-
-// One more amount, where both are small.
-fn sum_of(a: i64, b: i64) -> i64
-    requires a { IsAmount a }
-    requires b { IsAmount b }
-    ensures { result ≡ a +ℤ b }
-{
-    a + b
-}
-
-// The place of an order among the amounts.
-fn order_place(o: Order) -> usize
-    ensures value { result ≡ order_index o }
-    ensures small { result < 4 }
-{
-    match o {
-        Order::Normal => 0,
-        Order::Fil => 1,
-        Order::Fill => 2,
-        Order::Filll => 3,
-    }
-}
-
-// The amount at a place with more.
-fn raise(amounts: &mut [i64; 4], k: usize, v: i64)
-    requires place { k < 4 }
-    requires small { IsAmount (slice_index_or amounts.old k (pos 0)) }
-    requires more { IsAmount v }
-    ensures { amounts.new ≡ more_at k v amounts.old }
-{
-    amounts[k] = sum_of(amounts[k], v);
-}
-
-fn lay_box(s: &mut Sums, height: i64, depth: i64, max_depth: i64)
-    requires small { IsSmall s.old }
-    requires height { IsAmount height }
-    requires depth { IsAmount depth }
-    requires room { IsAmount (height +ℤ depth) }
-    requires limit { IsAmount max_depth }
-    ensures { s.new ≡ added_node max_depth s.old (box height depth) }
-{
-    let room = sum_of(height, depth);
-    lay(s, room, depth, max_depth);
-}
-
-/// Adds a node to the sums of a list that it follows.
-pub fn add(s: &mut Sums, n: &Node, max_depth: i64)
-    requires small { IsSmall s.old }
-    requires node { IsSmallShape (shape_of n.now) }
-    requires limit { IsAmount max_depth }
-    ensures { s.new ≡ added_node max_depth s.old (shape_of n.now) }
-{
-    match n.kind {
-        Kind::Hbox { height, depth, .. } => lay_box(s, height, depth, max_depth),
-        Kind::Rule { height, depth, .. } => lay_box(s, height, depth, max_depth),
-        Kind::Skip(g) => lay_glue(s, g, max_depth),
-        Kind::Kern(w) => lay(s, w, 0, max_depth),
-        Kind::Pen(_) => lay(s, 0, s.depth, max_depth),
-        Kind::Mark(_) => lay(s, 0, s.depth, max_depth),
-        Kind::Note(_) => lay(s, 0, s.depth, max_depth),
-        Kind::Whatsit => lay(s, 0, s.depth, max_depth),
-        Kind::Ins(_) => lay(s, 0, s.depth, max_depth),
-        Kind::Act(_) => lay(s, 0, s.depth, max_depth),
-    }
-}
-
-fn lay_glue(s: &mut Sums, g: Glue, max_depth: i64)
-    requires small { IsSmall s.old }
-    requires node { IsSmallShape (glue g) }
-    requires limit { IsAmount max_depth }
-    ensures { s.new ≡ added_node max_depth s.old (glue g) }
-{
-    lay(s, g.width, 0, max_depth);
-    stretch_sums(s, g);
-}
-
-/// Adds the stretch and the shrink of glue to the sums, and not its width.
-pub fn stretch_sums(s: &mut Sums, g: Glue)
-    requires stretch { AreAmounts s.old.stretch }
-    requires shrink { IsAmount s.old.shrink }
-    requires more { IsAmount g.stretch }
-    requires less { IsAmount g.shrink }
-    ensures { s.new ≡ stretched_sums s.old g }
-{
-    raise(&mut s.stretch, order_place(g.order), g.stretch);
-    s.shrink = sum_of(s.shrink, g.shrink);
 }

@@ -1,29 +1,56 @@
-//! Scaled dimensions, glue and badness.
+//! Arithmetic on dimensions in scaled points (65536 to a point), glue and badness.
 #![tactic(auto)]
 
-ghost use Rattle.std.specs.Prelude.{◌≡◌, ◌<◌, ◌≤◌, ◌≤ℤ◌, pos, length, slice_index, EachIndex};
-ghost use Rattle.tb_scaled.specs.Scaled.{badness_of, cubed_ratio, rounded_decimals};
-ghost use Rattle.tb_scaled.specs.Glue.{fixed_glue};
+ghost use Rattle.std.specs.Prelude.{◌≡◌, ◌<◌, ◌≤◌, ◌≤ℤ◌, ◌<ℤ◌, neg_ℤ, pos, length, slice_index, EachIndex, int_div};
+ghost use Rattle.tb_scaled.specs.Amount.{IsAmount};
+ghost use Rattle.tb_scaled.specs.Scaled.{badness_of, cubed_ratio, rounded_decimals, fraction_of};
+ghost use Rattle.tb_scaled.specs.Glue.{fixed_glue, negated_glue};
 
-/// The orders of infinity of stretch.
+/// The greatest dimension, in scaled points: 2^30 - 1 (TeX: The Program §421).
+pub const MAX_DIMEN: i64 = 1_073_741_823;
+
+/// The cost of a break behind which the page is overfull: no page is worse (TeX: The Program §833).
+pub const AWFUL_BAD: i64 = 1_073_741_823;
+
+/// The badness of what cannot stretch so far (TeX: The Program §108).
+pub const INF_BAD: i64 = 10_000;
+
+/// A penalty that is not below this forbids a break (TeX: The Program §157).
+pub const INF_PENALTY: i64 = 10_000;
+
+/// A penalty that is not above this forces a break (TeX: The Program §157).
+pub const EJECT_PENALTY: i64 = -10_000;
+
+/// The cost of a break that leaves the page underfull beyond measure (TeX: The Program §974).
+pub const DEPLORABLE: i64 = 100_000;
+
+/// The orders of infinity of stretch (TeX: The Program §150).
 #[derive(Clone, Copy, Debug, PartialEq, Eq)]
 pub enum Order {
+    /// Finite.
     Normal,
+    /// Stretches before all that is finite.
     Fil,
+    /// Stretches before all `Fil`.
     Fill,
+    /// Stretches before all `Fill`.
     Filll,
 }
 
-/// Glue: its natural width, its stretch of one order, and its shrink.
+/// Glue (TeX: The Program §150). All amounts are in scaled points; shrink is always finite.
 #[derive(Clone, Copy, Debug, PartialEq, Eq)]
 pub struct Glue {
+    /// Its natural width.
     pub width: i64,
+    /// Its stretch, of one order.
     pub stretch: i64,
+    /// The order of its stretch.
     pub order: Order,
+    /// Its shrink.
     pub shrink: i64,
 }
 
-/// Glue that neither stretches nor shrinks.
+/// Glue of a width, in scaled points, that neither stretches nor shrinks.
 pub fn fixed(width: i64) -> Glue
     ensures { result ≡ fixed_glue width }
 {
@@ -35,9 +62,30 @@ pub fn fixed(width: i64) -> Glue
     }
 }
 
-const INF_BAD: i64 = 10000;
+/// The glue with its width, stretch and shrink negated; the order is kept.
+pub fn negate(g: Glue) -> Glue
+    requires width { IsAmount g.width }
+    requires stretch { IsAmount g.stretch }
+    requires shrink { IsAmount g.shrink }
+    ensures { result ≡ negated_glue g }
+{
+    Glue {
+        width: negated(g.width),
+        stretch: negated(g.stretch),
+        order: g.order,
+        shrink: negated(g.shrink),
+    }
+}
 
-/// The badness of setting a total `s` of stretch or shrink to the amount `t`.
+fn negated(amount: i64) -> i64
+    requires { IsAmount amount }
+    ensures { result ≡ neg_ℤ amount }
+{
+    -amount
+}
+
+/// The badness of setting glue with a total `s` of stretch or shrink to the amount `t`, both in scaled points: about 100
+/// times the cube of `t / s`, and at most 10000 (TeX: The Program §108).
 #[tactic(auto, unfolding(crate::specs::Scaled::badness_of))]
 pub fn badness(t: i64, s: i64) -> i64
     requires { pos 0 ≤ℤ t }
@@ -76,7 +124,7 @@ fn cubed(ratio: i64) -> i64
     (cube + 131072) / 262144
 }
 
-/// Rounds a decimal fraction, whose digits after the point these are, to 65536ths.
+/// The decimal fraction with these digits after the point, from 0 to 9 each, rounded to 65536ths (TeX: The Program §102).
 pub fn round_decimals(digits: &[u8]) -> i64
     requires few { length digits.now ≤ 17 }
     requires values { EachIndex digits.now (λ k. slice_index digits.now k < 10) }
@@ -89,4 +137,61 @@ pub fn round_decimals(digits: &[u8]) -> i64
         doubled = (doubled + u32::from(digits[k]) * 131_072) / 10;
     }
     i64::from((doubled + 1) / 2)
+}
+
+/// The quotient of a dimension by a number, truncated toward zero (TeX: The Program §106).
+pub fn x_over_n(x: i64, n: i64) -> i64
+    requires { pos 0 <ℤ n }
+    ensures { result ≡ int_div x n }
+{
+    x / n
+}
+
+/// The share `f / 65536` of a dimension, truncated toward zero.
+pub fn frac(f: i64, v: i64) -> i64
+    requires low { pos 0 ≤ℤ f }
+    requires high { f ≤ℤ pos 65536 }
+    requires above { neg_ℤ (pos 70368744177664) <ℤ v }
+    requires below { v <ℤ pos 70368744177664 }
+    ensures { result ≡ fraction_of f v }
+{
+    v * f / 65536
+}
+
+#[cfg(test)]
+mod tests {
+    use super::*;
+
+    #[test]
+    fn computes_the_worked_values(rt: HostRuntime) {
+        assert_eq!(rt; round_decimals(&[7]), 45875);
+        assert_eq!(rt; round_decimals(&[0, 0, 0, 1]), 7);
+        assert_eq!(rt; badness(10, 5), 800);
+        assert_eq!(rt; x_over_n(-7, 2), -3);
+        assert_eq!(rt; frac(45875, 100), 69);
+        assert_eq!(rt;
+            fixed(10),
+            Glue {
+                width: 10,
+                stretch: 0,
+                order: Order::Normal,
+                shrink: 0
+            }
+        );
+        let fills = Glue {
+            width: 1,
+            stretch: 65536,
+            order: Order::Fil,
+            shrink: 2,
+        };
+        assert_eq!(rt;
+            negate(fills),
+            Glue {
+                width: -1,
+                stretch: -65536,
+                order: Order::Fil,
+                shrink: -2
+            }
+        );
+    }
 }

@@ -1,0 +1,32 @@
+-- What callers use of a store of lists after a call: the list that was changed, and each other list.
+use Rattle.std.proofs.Common.{◌≡◌, ◌≢◌, refl, sym, ap, subst, ◌∙◌, ℕ, ◌+◌, List, [], ◌∷◌, ◌++◌, length, length-append, unwrap_or, IsSome}
+use Rattle.std.specs.Prelude.{All}
+use Rattle.std.specs.FinMap.{get}
+use Rattle.std.proofs.lemmas.List.Elements.{All-push}
+use Rattle.tb_pool.specs.Lists.{Lists, IsLive, list_at, with_list}
+use Rattle.tb_pool.proofs.MapLemmas.{get-insert_same, get-insert_other}
+
+-- one list was changed: it has its new values and is live, and every other id has what it had
+module _ {T : Type 0} (s t : Lists T) (l : ℕ) (xs : List T) where
+  pub list_same : t.lists ≡ with_list s l xs → list_at t l ≡ xs
+  list_same e = ap (λ m. unwrap_or (get m l) []) e ∙ ap (λ o. unwrap_or o []) (get-insert_same s.lists l xs)
+
+  pub live_same : t.lists ≡ with_list s l xs → IsLive t l
+  live_same e = let some = ap (λ m. get m l) e ∙ get-insert_same s.lists l xs in subst IsSome (sym some) refl
+
+  pub get_other : (q : ℕ) → q ≢ l → t.lists ≡ with_list s l xs → get t.lists q ≡ get s.lists q
+  get_other q ne e = ap (λ m. get m q) e ∙ get-insert_other s.lists l xs q ne
+
+  pub list_other : (q : ℕ) → q ≢ l → t.lists ≡ with_list s l xs → list_at t q ≡ list_at s q
+  list_other q ne e = ap (λ o. unwrap_or o []) (get_other q ne e)
+
+  pub live_other : (q : ℕ) → q ≢ l → t.lists ≡ with_list s l xs → IsLive s q → IsLive t q
+  live_other q ne e live = subst IsSome (sym (get_other q ne e)) live
+
+-- a value was put at the end of a list
+module _ {T : Type 0} (s t : Lists T) (l : ℕ) (x : T) where
+  pub length-pushed : t.lists ≡ with_list s l (list_at s l ++ x ∷ []) → length (list_at t l) ≡ length (list_at s l) + 1
+  length-pushed e = ap length (list_same s t l (list_at s l ++ x ∷ []) e) ∙ length-append (list_at s l) (x ∷ [])
+
+  pub All-pushed : (P : T → Type 0) → t.lists ≡ with_list s l (list_at s l ++ x ∷ []) → All P (list_at s l) → P x → All P (list_at t l)
+  All-pushed P e h p = subst (All P) (sym (list_same s t l (list_at s l ++ x ∷ []) e)) (All-push P (list_at s l) x h p)

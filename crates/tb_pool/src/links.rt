@@ -1,0 +1,72 @@
+//! The nodes of the lists, and the links between them.
+
+ghost use Rattle.std.specs.Prelude.{◌≡◌, ◌-◌, ◌<◌, ℕ, List, None, Some, slice_index};
+ghost use Rattle.slab.specs.Slab.{ContainsKey};
+ghost use Rattle.tb_pool.specs.Chain.{IsLinked, IsPath, HasPath, IsEnds};
+
+use crate::{Ends, Node};
+use slab::Slab;
+use std::mem;
+
+// Puts a value where there is none.
+pub fn fill<T>(place: &mut Option<T>, v: T)
+    requires { place.old ≡ None }
+    ensures { place.new ≡ Some v }
+{
+    match mem::replace(place, Some(v)) {
+        None => {}
+        Some(_) => unreachable!(),
+    }
+}
+
+// Links the last node of a list to the first of another, where each has one.
+pub fn link<T>(nodes: &mut Slab<Node<T>>, front: Ends, back: Ends)
+    requires last_there { 0 < front.len → ContainsKey nodes.old front.last }
+    requires first_there { 0 < back.len → ContainsKey nodes.old back.first }
+    ensures { IsLinked nodes.old nodes.new front back }
+{
+    if front.len == 0 || back.len == 0 {
+        return;
+    }
+    nodes[front.last].next = back.first;
+    nodes[back.first].prev = front.last;
+}
+
+// The key of the node at place k of a list, by the nearer end.
+pub fn key_at<T>(nodes: &Slab<Node<T>>, ends: Ends, k: usize) -> usize
+    requires within { k < ends.len }
+    requires path { HasPath nodes.now ends }
+    ensures { (ks : List ℕ) → IsPath nodes.now ks → IsEnds ends ks → result ≡ slice_index ks k }
+{
+    if k < ends.len / 2 {
+        key_forward(nodes, ends, k)
+    } else {
+        key_backward(nodes, ends, ends.len - 1 - k)
+    }
+}
+
+// The key of the node that is k after the first.
+fn key_forward<T>(nodes: &Slab<Node<T>>, ends: Ends, k: usize) -> usize
+    requires within { k < ends.len }
+    requires path { HasPath nodes.now ends }
+    ensures { (ks : List ℕ) → IsPath nodes.now ks → IsEnds ends ks → result ≡ slice_index ks k }
+{
+    let mut key = ends.first;
+    for _step in 0..k {
+        key = nodes[key].next;
+    }
+    key
+}
+
+// The key of the node that is k before the last.
+fn key_backward<T>(nodes: &Slab<Node<T>>, ends: Ends, k: usize) -> usize
+    requires within { k < ends.len }
+    requires path { HasPath nodes.now ends }
+    ensures { (ks : List ℕ) → IsPath nodes.now ks → IsEnds ends ks → result ≡ slice_index ks (ends.len - 1 - k) }
+{
+    let mut key = ends.last;
+    for _step in 0..k {
+        key = nodes[key].prev;
+    }
+    key
+}

@@ -1,0 +1,37 @@
+//! Values moved between lists.
+
+use crate::Lists;
+use std::test::Fail;
+
+#[tactic(auto, using(crate::proofs::MapLemmas::list_steps))]
+#[test]
+fn moves_values_between_lists(rt: HostRuntime) -> Result<(), Fail> {
+    let mut lists = Lists::new(rt.alloc());
+    let a = lists.add_list()?;
+    let b = lists.add_list()?;
+    assert_ne!(rt; a, b);
+    lists.reserve(3)?;
+    assert_eq!(rt; lists.spare(), 3);
+    lists.push_back(a, 2u64);
+    lists.push_front(a, 1);
+    lists.push_back(b, 3);
+    assert_eq!(rt; lists.pop_front(a), Some(1));
+    lists.push_back(a, 4);
+    lists.append(a, b);
+    assert_eq!(rt; lists.len(a), 3);
+    lists.cut(a, 1, b);
+    assert_eq!(rt; lists.get(b, 0).copied(), Some(4));
+    assert_eq!(rt; lists.get(b, 2).copied(), None);
+    assert_eq!(rt; lists.replace(b, 1, 5), 3);
+    let mut sum = 0u64;
+    for v in lists.iter(b) {
+        sum = sum.wrapping_mul(10).wrapping_add(*v);
+    }
+    assert_eq!(rt; sum, 45);
+    assert_eq!(rt; lists.pop_back(b), Some(5));
+    assert_eq!(rt; lists.pop_back(b), Some(4));
+    assert_eq!(rt; lists.pop_back(b), None);
+    lists.close(b);
+    assert_eq!(rt; lists.spare(), 2);
+    Ok(())
+}
