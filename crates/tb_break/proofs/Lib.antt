@@ -3,3 +3,8 @@ pub mod BestLemmas
 pub mod EmptyLemmas
 pub mod ScanLemmas
 pub mod FindLemmas
+pub mod StoreLemmas
+pub mod PruneLemmas
+pub mod PlacesLemmas
+pub mod LegalLemmas
+pub mod LastLemmas

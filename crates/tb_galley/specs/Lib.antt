@@ -10,3 +10,4 @@ pub mod Print
 pub mod Expand
 pub mod Valid
 pub mod Live
+pub mod CauseText

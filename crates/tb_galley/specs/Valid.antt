@@ -1,14 +1,12 @@
 -- Galleys whose values lie in their ranges.
-use Rattle.std.specs.Prelude.{ℕ, ◌+◌, ℤ, pos, neg_ℤ, Bool, true, false, ◌&&◌, ◌||◌, ◌==◌, nat_le, nat_lt, IsTrue, List, [], ◌∷◌, ◌++◌, length, Option, Some, None}
+use Rattle.std.specs.Prelude.{ℕ, ◌+◌, ℤ, pos, neg_ℤ, Bool, true, ◌&&◌, ◌||◌, ◌==◌, nat_le, nat_lt, IsTrue, List, [], ◌∷◌, ◌++◌, length}
 use Rattle.std.specs.List.{list_all}
 use Rattle.tb_scaled.specs.Scaled.{max_dimen}
 use Rattle.tb_node.specs.Names.{is_name, is_between}
 use Rattle.tb_node.specs.declared.Float.{Float}
 use Rattle.tb_node.specs.declared.Margin.{Margin}
-use Rattle.tb_param.specs.declared.Params.{Params}
-use Rattle.tb_param.specs.declared.ParamFault.{ParamFault}
-use Rattle.tb_param.specs.Fields.{value_of}
-use Rattle.tb_param.specs.Table.{rows, value_fault, is_within, is_dimen, is_glue}
+unfoldable pub use Rattle.tb_param.specs.Ranges.{are_params}
+use Rattle.tb_param.specs.Table.{is_within, is_dimen, is_glue}
 use Rattle.tb_galley.specs.declared.Leaf.{Leaf}
 use Rattle.tb_galley.specs.declared.LeafKind.{LeafKind}
 use Rattle.tb_galley.specs.declared.LeafKind.TheVariants as leaves
@@ -21,14 +19,7 @@ use Rattle.tb_galley.specs.declared.Galley.{Galley}
 abbrev pub is_size : ℤ → Bool
 is_size v = is_within (pos 0) max_dimen v
 
-abbrev pub is_no_fault : Option ParamFault → Bool
-is_no_fault None = true
-is_no_fault (Some e) = false
-
--- each parameter lies in the range of its row
-unfoldable pub are_params : Params → Bool
-are_params p = list_all (λ r. is_no_fault (value_fault r.form (value_of r.field p))) rows
-
+-- what stands in a footnote has its amounts in their ranges
 abbrev pub is_leaf : LeafKind → Bool
 is_leaf (leaves.Hbox name h d) = is_name name && is_size h && is_size d
 is_leaf (leaves.Rule name h d) = is_name name && is_size h && is_size d
@@ -36,9 +27,11 @@ is_leaf (leaves.Skip g) = is_glue g
 is_leaf (leaves.Kern w) = is_dimen w
 is_leaf (leaves.Penalty p) = is_within (neg_ℤ (pos 10000)) (pos 10000) p
 
+-- a float has a name, a class from 1 to 26, a place that is not `!` alone, and a height
 abbrev pub is_float : Float → Bool
 is_float f = is_name f.name && is_between 1 26 f.class && (f.places.h || f.places.t || f.places.b || f.places.p) && is_size f.height
 
+-- a marginal note has a name and the sizes of two boxes
 abbrev pub is_margin : Margin → Bool
 is_margin m = is_name m.name && is_size m.left_height && is_size m.left_depth && is_size m.right_height && is_size m.right_depth
 
@@ -67,6 +60,7 @@ abbrev pub weight_of : ItemKind → ℕ
 weight_of (items.Foot ls) = length ls + 2
 weight_of _ = 1
 
+-- how many lines of items all count for
 abbrev pub weight : List Item → ℕ
 weight [] = 0
 weight (n ∷ ns) = weight_of n.kind + weight ns
@@ -76,6 +70,7 @@ abbrev pub leaf_lines : List Leaf → List ℕ
 leaf_lines [] = []
 leaf_lines (l ∷ ls) = l.line ∷ leaf_lines ls
 
+-- the lines of an item that must rise
 abbrev pub lines_of_item : ℕ → ItemKind → List ℕ
 lines_of_item n (items.Hbox name h d) = n ∷ []
 lines_of_item n (items.Rule name h d) = n ∷ []
@@ -84,14 +79,17 @@ lines_of_item n (items.Float f vert) = n ∷ []
 lines_of_item n (items.Margin m vert) = n ∷ []
 lines_of_item n _ = []
 
+-- the same of all items in order
 abbrev pub named_lines : List Item → List ℕ
 named_lines [] = []
 named_lines (n ∷ ns) = lines_of_item n.line n.kind ++ named_lines ns
 
+-- each number is greater than the one before it
 abbrev pub rise_from : ℕ → List ℕ → Bool
 rise_from n [] = true
 rise_from n (m ∷ ms) = nat_lt n m && rise_from m ms
 
+-- all values lie in their ranges, the items are not too many, and the lines rise
 pub record IsValid (g : Galley) : Type 0 where
   pub params : IsTrue (are_params g.params)
   pub items : IsTrue (list_all (λ n. is_item n.line n.kind) g.items)

@@ -3,3 +3,11 @@ pub mod Report
 pub mod Generate
 pub mod Laws
 pub mod Paginated
+pub mod Search
+pub mod PlainRun
+pub mod Firings
+pub mod Status
+pub mod Answer
+pub mod Outcome
+pub mod Refusal
+pub mod Rows

@@ -1,10 +1,31 @@
 //! From a galley to its report.
+//!
+//! [`run`] is the whole program over any ends: it reads a galley, makes its pages by
+//! [`paginate`] and writes their report, or says on `err` why not.
 #![tactic(auto)]
+
+mod input;
+mod laws;
+mod paginate_stub;
+mod refusal;
+mod rows;
+mod search;
+mod status;
+mod top;
+
+pub use laws::runs_are_defined;
+pub use paginate_stub::paginate;
+pub use rows::check_rows;
+pub use status::Status;
+pub use tb_report::Totals;
+pub use top::run;
 
 /// What `paginate` writes of a run: its report, or nothing.
 #[derive(Clone, Copy, Debug, PartialEq, Eq)]
 pub enum View {
+    /// The report: the header, the warnings and the pages, and what is left at the end.
     Report,
+    /// Nothing, for callers that want the totals alone.
     Silent,
 }
 
@@ -17,10 +38,13 @@ pub enum PageFault {
     DeadCycles { count: u64 },
     /// A page was to be shipped after so many pages.
     PageLimit { pages: u64 },
-    /// More nodes than `maxnodes` were held.
+    /// More nodes than `maxnodes` were held: so many.
     NodeLimit { count: u64 },
     /// The sink failed.
     WriteFault,
     /// There was no memory.
     Memory,
 }
+
+#[cfg(test)]
+mod tests;

@@ -1,0 +1,162 @@
+//! The top of a page: what vanishes there, and the glue before the first box.
+
+ghost use Rattle.std.specs.Prelude.{◌≡◌, ◌<◌, ◌≤◌, ◌+◌, ◌-ℤ◌, ℕ, List, [], ◌∷◌, ◌++◌, pos, length, Some, None, false};
+ghost use Rattle.tb_scaled.specs.Scaled.{max_ℤ};
+ghost use Rattle.tb_scaled.specs.Glue.{fixed_glue};
+ghost use Rattle.tb_pool.specs.Lists.{IsLive, list_at, with_list};
+ghost use Rattle.tb_node.specs.declared.Node.{Node as NodeOf};
+ghost use Rattle.tb_node.specs.Small.{IsAmount, IsSmallShape};
+ghost use Rattle.tb_node.specs.Plain.{shape_of};
+ghost use Rattle.tb_node.specs.Shape.{is_box};
+ghost use Rattle.tb_break.specs.Finding.{shapes, NodesFit};
+ghost use Rattle.tb_break.specs.Prune.{glue_before, pruned_list};
+ghost use Rattle.tb_break.specs.Turning.{before_box, from_box, turned, turned_at, moved, moved_at, top_at, topped};
+
+use crate::is_lasting;
+use tb_node::{Kind, Node};
+use tb_pool::{ListId, Lists};
+use tb_scaled::fixed;
+
+/// Prunes a list for the top of a page.
+pub fn prune(store: &mut Lists<Node>, l: ListId, top_skip: i64)
+    requires live { IsLive store.old l }
+    requires room { 0 < store.old.spare }
+    requires top_skip { IsAmount top_skip }
+    requires nodes { NodesFit (shapes store.old l) }
+    ensures pruned { store.new.lists ≡ with_list store.old l (pruned_list top_skip (list_at store.old l)) }
+    ensures places { store.new.spare + length (list_at store.new l) ≡ store.old.spare + length (list_at store.old l) }
+    ensures spare { store.old.spare ≤ store.new.spare + 1 }
+{
+    let kept = set_aside(store, l);
+    put_top_glue(store, l, top_skip);
+    bring_back(store, l, kept);
+}
+
+// Takes off what stands before the first box or rule; what does not vanish goes to the list's end. Answers how much.
+fn set_aside(store: &mut Lists<Node>, l: ListId) -> usize
+    requires { IsLive store.old l }
+    ensures turned { store.new.lists ≡ with_list store.old l (from_box (list_at store.old l) ++ before_box (list_at store.old l)) }
+    ensures count { result ≡ length (before_box (list_at store.old l)) }
+    ensures places { store.new.spare + length (list_at store.new l) ≡ store.old.spare + length (list_at store.old l) }
+{
+    let mut kept = 0;
+    for _turn in 0..store.len(l) {
+        let Some(more) = turn(store, l) else {
+            return kept;
+        };
+        kept += more;
+    }
+    kept
+}
+
+// Takes off the first node, where it is no box or rule. Answers how many nodes went to the list's end.
+fn turn(store: &mut Lists<Node>, l: ListId) -> Option<usize>
+    requires { IsLive store.old l }
+    ensures turned { store.new.lists ≡ with_list store.old l (turned (list_at store.old l)) }
+    ensures moved { result ≡ moved (list_at store.old l) }
+    ensures places { store.new.spare + length (list_at store.new l) ≡ store.old.spare + length (list_at store.old l) }
+{
+    let Some(n) = store.pop_front(l) else {
+        return None;
+    };
+    if is_box(&n) {
+        store.push_front(l, n);
+        return None;
+    }
+    Some(keep(store, l, n))
+}
+
+// Puts a node that stands before the first box at the list's end, unless it vanishes. Answers how many nodes it put there.
+fn keep(store: &mut Lists<Node>, l: ListId, n: Node) -> usize
+    requires live { IsLive store.old l }
+    requires room { 0 < store.old.spare }
+    requires other { is_box (shape_of n) ≡ false }
+    ensures turned { store.new.lists ≡ with_list store.old l (turned_at (shape_of n) n (list_at store.old l)) }
+    ensures moved { Some result ≡ moved_at (shape_of n) }
+    ensures places { store.new.spare + length (list_at store.new l) ≡ store.old.spare + length (list_at store.old l) }
+{
+    if is_lasting(&n) {
+        store.push_back(l, n);
+        return 1;
+    }
+    0
+}
+
+fn is_box(n: &Node) -> bool
+    ensures { result ≡ is_box (shape_of n.now) }
+{
+    matches!(n.kind, Kind::Hbox { .. } | Kind::Rule { .. })
+}
+
+// Puts the top glue before the first node, where that is a box or rule.
+fn put_top_glue(store: &mut Lists<Node>, l: ListId, top_skip: i64)
+    requires live { IsLive store.old l }
+    requires room { 0 < store.old.spare }
+    requires top_skip { IsAmount top_skip }
+    requires nodes { (n : NodeOf) (ns : List NodeOf) → list_at store.old l ≡ n ∷ ns → IsSmallShape (shape_of n) }
+    ensures topped { store.new.lists ≡ with_list store.old l (topped top_skip (list_at store.old l)) }
+    ensures places { store.new.spare + length (list_at store.new l) ≡ store.old.spare + length (list_at store.old l) }
+{
+    let Some(first) = store.get(l, 0) else {
+        return;
+    };
+    let Some(glue) = top_node(first, top_skip) else {
+        return;
+    };
+    store.push_front(l, glue);
+}
+
+// The top glue before a node, where that is a box or rule.
+fn top_node(n: &Node, top_skip: i64) -> Option<Node>
+    requires top_skip { IsAmount top_skip }
+    requires node { IsSmallShape (shape_of n.now) }
+    ensures { result ≡ top_at top_skip (shape_of n.now) n.now }
+{
+    match n.kind {
+        Kind::Hbox { height, .. } => Some(make_glue(n, room_above(top_skip, height))),
+        Kind::Rule { height, .. } => Some(make_glue(n, room_above(top_skip, height))),
+        Kind::Skip(_) => None,
+        Kind::Kern(_) => None,
+        Kind::Pen(_) => None,
+        Kind::Mark(_) => None,
+        Kind::Note(_) => None,
+        Kind::Whatsit => None,
+        Kind::Ins(_) => None,
+        Kind::Act(_) => None,
+    }
+}
+
+fn room_above(top_skip: i64, height: i64) -> i64
+    requires top_skip { IsAmount top_skip }
+    requires height { IsAmount height }
+    ensures { result ≡ max_ℤ (top_skip -ℤ height) (pos 0) }
+{
+    if top_skip < height {
+        0
+    } else {
+        top_skip - height
+    }
+}
+
+fn make_glue(n: &Node, width: i64) -> Node
+    ensures { result ≡ glue_before n.now (fixed_glue width) }
+{
+    Node {
+        line: n.line,
+        kind: Kind::Skip(fixed(width)),
+    }
+}
+
+// Brings the last nodes back to the list's front, in their order.
+fn bring_back(store: &mut Lists<Node>, l: ListId, count: usize)
+    requires { IsLive store.old l }
+    ensures moved { (front aside : List NodeOf) → list_at store.old l ≡ front ++ aside → length aside ≡ count → store.new.lists ≡ with_list store.old l (aside ++ front) }
+    ensures spare { store.new.spare ≡ store.old.spare }
+{
+    for _turn in 0..count {
+        let Some(n) = store.pop_back(l) else {
+            return;
+        };
+        store.push_front(l, n);
+    }
+}

@@ -1,0 +1,3 @@
+pub mod StoreLemmas
+pub mod ColumnLemmas
+pub mod FitsColumn

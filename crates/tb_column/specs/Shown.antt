@@ -1,0 +1,40 @@
+-- Columns, pages and events as the definitions see them, in a store that holds their lists.
+use Rattle.std.specs.Prelude.{ℕ, List, map}
+use Rattle.tb_pool.specs.Lists.{Lists, IsLive, list_at}
+use Rattle.tb_node.specs.declared.Node.{Node}
+use Rattle.tb_node.specs.Plain.{PlainNode, plain_of}
+use Rattle.tb_column.specs.declared.Column.{Column}
+use Rattle.tb_column.specs.declared.Sheet.{Sheet}
+use Rattle.tb_column.specs.declared.Sheet.TheVariants as sheets
+use Rattle.tb_column.specs.declared.Sent.{Sent}
+use Rattle.tb_column.specs.declared.Sent.TheVariants as events
+use Rattle.tb_column.specs.Column.{PlainColumn, PlainSheet, one, wide, two, PlainSent, warned, shipped}
+
+-- the nodes of a list, where each insertion carries its own list
+abbrev pub nodes_shown : Lists Node → ℕ → List PlainNode
+nodes_shown store l = map (plain_of (list_at store)) (list_at store l)
+
+-- a column with the nodes of its list
+abbrev pub column_shown : Lists Node → Column → PlainColumn
+column_shown store c = record { kind = c.kind; nodes = nodes_shown store c.list; set = c.set }
+
+-- a page with its columns, and the wide floats above two of them
+abbrev pub sheet_shown : Lists Node → Sheet → PlainSheet
+sheet_shown store (sheets.One c) = one (column_shown store c)
+sheet_shown store (sheets.Wide c) = wide (column_shown store c)
+sheet_shown store (sheets.Two tops at left right) = two (nodes_shown store tops) at (column_shown store left) (column_shown store right)
+
+-- a warning, or a page under its number
+abbrev pub sent_shown : Lists Node → Sent → PlainSent
+sent_shown store (events.Warn w) = warned w
+sent_shown store (events.Ship page sheet) = shipped page (sheet_shown store sheet)
+
+-- all lists of a page are live, and of an event those of its page
+abbrev pub IsLiveSheet : Lists Node → Sheet → Type 0
+IsLiveSheet store (sheets.One c) = IsLive store c.list
+IsLiveSheet store (sheets.Wide c) = IsLive store c.list
+IsLiveSheet store (sheets.Two tops at left right) = IsLive store tops × IsLive store left.list × IsLive store right.list
+
+abbrev pub IsLiveSent : Lists Node → Sent → Type 0
+IsLiveSent store (events.Warn w) = Unit {0}
+IsLiveSent store (events.Ship page sheet) = IsLiveSheet store sheet

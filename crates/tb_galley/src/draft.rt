@@ -1,0 +1,96 @@
+//! A galley in the making.
+ghost use Rattle.std.specs.Prelude.{◌≡◌, OnOk};
+ghost use Rattle.tb_galley.specs.Grammar.{with_content, with_item, item_kind};
+
+use crate::contents::Content;
+use crate::{Item, ItemKind, Items, Leaf, LeafKind, Leaves};
+use std::alloc::{AllocError, Global};
+use tb_param::Params;
+
+/// A foot that is open: its line and its leaves so far.
+#[derive(Drop)]
+pub struct OpenFoot {
+    pub line: u32,
+    pub leaves: Leaves,
+}
+
+/// What the content lines so far give.
+#[derive(Drop)]
+pub struct Draft {
+    pub params: Params,
+    pub items: Items,
+    pub foot: Option<OpenFoot>,
+    pub end_line: u32,
+}
+
+impl Draft {
+    fn add_item(&mut self, line: u32, kind: ItemKind) -> Result<(), AllocError>
+        ensures { OnOk result (self.new ≡ with_item self.old line kind) }
+    {
+        self.items.push(Item { line, kind })
+    }
+
+    // Adds what a line says.
+    pub fn add(&mut self, alloc: Global, line: u32, content: Content) -> Result<(), AllocError>
+        ensures { OnOk result (self.new ≡ with_content self.old line content) }
+    {
+        match content {
+            Content::Header => Ok(()),
+            Content::Set { field, value } => {
+                self.params.put(field, value);
+                Ok(())
+            }
+            Content::Plain(kind) => match &mut self.foot {
+                Some(foot) => foot.leaves.push(Leaf { line, kind }),
+                None => self.items.push(Item {
+                    line,
+                    kind: item_kind(kind),
+                }),
+            },
+            Content::Item(kind) => self.add_item(line, kind),
+            Content::Foot => {
+                self.foot = Some(OpenFoot {
+                    line,
+                    leaves: Leaves::new(alloc),
+                });
+                Ok(())
+            }
+            Content::Endfoot => match self.foot.take() {
+                Some(foot) => self.add_item(foot.line, ItemKind::Foot(foot.leaves)),
+                None => Ok(()),
+            },
+            Content::End => {
+                self.end_line = line;
+                Ok(())
+            }
+        }
+    }
+}
+
+fn item_kind(leaf: LeafKind) -> ItemKind
+    ensures { result ≡ item_kind leaf }
+{
+    match leaf {
+        LeafKind::Hbox {
+            name,
+            height,
+            depth,
+        } => ItemKind::Hbox {
+            name,
+            height,
+            depth,
+        },
+        LeafKind::Rule {
+            name,
+            height,
+            depth,
+        } => ItemKind::Rule {
+            name,
+            height,
+            depth,
+        },
+        LeafKind::Skip(glue) => ItemKind::Skip(glue),
+        LeafKind::Kern(width) => ItemKind::Kern(width),
+        LeafKind::Penalty(penalty) => ItemKind::Penalty(penalty),
+    }
+}

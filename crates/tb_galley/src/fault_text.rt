@@ -1,0 +1,55 @@
+//! The texts of causes, and their kinds.
+ghost use Rattle.std.specs.Prelude.{◌≡◌};
+ghost use Rattle.tb_galley.specs.CauseText.{cause_name, is_range_cause};
+
+use crate::Cause;
+
+/// The name of the cause, as the line on err gives it: `line L field F: CAUSE`.
+pub fn cause_text(cause: Cause) -> &'static [u8]
+    ensures { result.now ≡ cause_name cause }
+{
+    match cause {
+        Cause::InputSize => b"InputSize",
+        Cause::LineLength => b"LineLength",
+        Cause::NotAscii => b"NotAscii",
+        Cause::NoHeader => b"NoHeader",
+        Cause::AfterEnd => b"AfterEnd",
+        Cause::UnknownWord => b"UnknownWord",
+        Cause::SetAfterItem => b"SetAfterItem",
+        Cause::NestedFoot => b"NestedFoot",
+        Cause::NotInFoot => b"NotInFoot",
+        Cause::StrayEndfoot => b"StrayEndfoot",
+        Cause::UnclosedFoot => b"UnclosedFoot",
+        Cause::Items => b"Items",
+        Cause::MissingField => b"MissingField",
+        Cause::ExtraField => b"ExtraField",
+        Cause::UnknownParameter => b"UnknownParameter",
+        Cause::WrongForm => b"WrongForm",
+        Cause::BadNumber => b"BadNumber",
+        Cause::BadUnit => b"BadUnit",
+        Cause::BadName => b"BadName",
+        Cause::BadPlace => b"BadPlace",
+        Cause::Dimension => b"Dimension",
+        Cause::Penalty => b"Penalty",
+        Cause::Class => b"Class",
+        Cause::Parameter => b"Parameter",
+        Cause::NoEnd => b"NoEnd",
+    }
+}
+
+/// Whether the fault is one of range: something too long, too many or out of its range. Every other fault is one of
+/// syntax.
+pub fn is_range_cause(cause: Cause) -> bool
+    ensures { result ≡ is_range_cause cause }
+{
+    matches!(
+        cause,
+        Cause::InputSize
+            | Cause::LineLength
+            | Cause::Items
+            | Cause::Dimension
+            | Cause::Penalty
+            | Cause::Class
+            | Cause::Parameter
+    )
+}

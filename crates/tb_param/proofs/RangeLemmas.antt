@@ -1,0 +1,276 @@
+-- Parameters stay in their ranges where one is set to a value in its row's range.
+use Rattle.std.proofs.Common.{◌≡◌, ℕ, zero, suc, ℤ, pos, negsuc, Bool, true, false, ◌&&◌, List, [], ◌∷◌, map, set, Option, Some, None, Ok, bytes_eq, if◌then◌else◌, refl, ap, subst, sym, ◌∙◌}
+use Rattle.tb_param.specs.declared.params.Params.{Params}
+use Rattle.tb_param.specs.declared.ParamFault.{ParamFault}
+use Rattle.tb_param.specs.declared.Value.{Value}
+use Rattle.tb_param.specs.declared.Value.TheVariants as kinds
+use Rattle.tb_param.specs.declared.table.Form.{Form}
+use Rattle.tb_param.specs.declared.table.Form.TheVariants as forms
+use Rattle.tb_param.specs.Fields.{with_value}
+use Rattle.tb_param.specs.Values.{amount_of, glue_of, choice_of}
+use Rattle.tb_param.specs.Table.{Row, rows, row_in, row_of, value_fault, set_unless, set_by, set_to}
+use Rattle.tb_param.specs.Defaults.{default_params}
+use Rattle.tb_param.specs.Ranges.{is_no_fault, are_params}
+use Rattle.tb_param.proofs.AllSet.{values, place, shaped, one_set}
+
+-- whether a value lies in the range of a form
+abbrev pub fits : Form → Value → Bool
+fits f v = is_no_fault (value_fault f v)
+
+-- whether each value fits the form in its place
+abbrev fits_all : List Form → List Value → Bool
+fits_all [] vs = true
+fits_all (f ∷ fs) [] = true
+fits_all (f ∷ fs) (v ∷ vs) = fits f v && fits_all fs vs
+
+abbrev fits_at : List Form → ℕ → Value → Bool
+fits_at [] k v = true
+fits_at (f ∷ fs) zero v = fits f v
+fits_at (f ∷ fs) (suc k) v = fits_at fs k v
+
+both : (a b : Bool) → a ≡ true → b ≡ true → (a && b) ≡ true
+both true b h k = k
+both false b h k = h
+
+right_of : (a b : Bool) → (a && b) ≡ true → b ≡ true
+right_of true b h = h
+right_of false b h = cc
+
+left_of : (a b : Bool) → (a && b) ≡ true → a ≡ true
+left_of true b h = refl
+left_of false b h = h
+
+set_fits : (fs : List Form) (vs : List Value) (k : ℕ) (v : Value) → fits_at fs k v ≡ true → fits_all fs vs ≡ true → fits_all fs (set vs k v) ≡ true
+set_fits [] vs k v h all = refl
+set_fits (f ∷ fs) [] k v h all = refl
+set_fits (f ∷ fs) (w ∷ vs) zero v h all = both (fits f v) (fits_all fs vs) h (right_of (fits f w) (fits_all fs vs) all)
+set_fits (f ∷ fs) (w ∷ vs) (suc k) v h all =
+    both (fits f w) (fits_all fs (set vs k v)) (left_of (fits f w) (fits_all fs vs) all) (set_fits fs vs k v h (right_of (fits f w) (fits_all fs vs) all))
+
+abbrev row_forms : List Form
+row_forms = map (λ (r : Row). r.form) rows
+
+as_fits : (p : Params) → are_params p ≡ fits_all row_forms (values p)
+unfolding are_params
+as_fits p = refl
+
+-- ---- a value that fits a row fits the place of its parameter
+
+abbrev FitsPlace : Row → Type 0
+FitsPlace r = (v : Value) → fits r.form v ≡ true → fits_at row_forms (place r.field) (shaped r.field v) ≡ true
+
+abbrev AllRows : (Row → Type 0) → List Row → Type 0
+AllRows P [] = Unit {0}
+AllRows P (r ∷ rs) = P r × AllRows P rs
+
+int_fits : (low high : ℤ) (v : Value) → fits (forms.Int low high) v ≡ true → fits (forms.Int low high) (kinds.Int (amount_of v)) ≡ true
+int_fits low high (kinds.Int n) h = h
+int_fits low high (kinds.Dim n) h = cc
+int_fits low high (kinds.Skip g) h = cc
+int_fits low high (kinds.Frac n) h = cc
+int_fits low high (kinds.Word c) h = cc
+
+dim_fits : (low : ℤ) (v : Value) → fits (forms.Dim low) v ≡ true → fits (forms.Dim low) (kinds.Dim (amount_of v)) ≡ true
+dim_fits low (kinds.Int n) h = cc
+dim_fits low (kinds.Dim n) h = h
+dim_fits low (kinds.Skip g) h = cc
+dim_fits low (kinds.Frac n) h = cc
+dim_fits low (kinds.Word c) h = cc
+
+frac_fits : (v : Value) → fits forms.Frac v ≡ true → fits forms.Frac (kinds.Frac (amount_of v)) ≡ true
+frac_fits (kinds.Int n) h = cc
+frac_fits (kinds.Dim n) h = cc
+frac_fits (kinds.Skip g) h = cc
+frac_fits (kinds.Frac n) h = h
+frac_fits (kinds.Word c) h = cc
+
+skip_fits : (v : Value) → fits forms.Skip v ≡ true → fits forms.Skip (kinds.Skip (glue_of v)) ≡ true
+skip_fits (kinds.Int n) h = cc
+skip_fits (kinds.Dim n) h = cc
+skip_fits (kinds.Skip g) h = h
+skip_fits (kinds.Frac n) h = cc
+skip_fits (kinds.Word c) h = cc
+
+bottom_fits : (v : Value) → fits forms.Bottom v ≡ true → fits forms.Bottom (kinds.Word (choice_of v)) ≡ true
+bottom_fits (kinds.Int n) h = cc
+bottom_fits (kinds.Dim n) h = cc
+bottom_fits (kinds.Skip g) h = cc
+bottom_fits (kinds.Frac n) h = cc
+bottom_fits (kinds.Word c) h = h
+
+switch_fits : (v : Value) → fits forms.Switch v ≡ true → fits forms.Switch (kinds.Word (choice_of v)) ≡ true
+switch_fits (kinds.Int n) h = cc
+switch_fits (kinds.Dim n) h = cc
+switch_fits (kinds.Skip g) h = cc
+switch_fits (kinds.Frac n) h = cc
+switch_fits (kinds.Word c) h = h
+
+rows_fit : AllRows FitsPlace rows
+rows_fit = (
+  dim_fits (pos 1),
+  (
+    dim_fits (pos 1),
+    (
+      dim_fits (pos 0),
+      (
+        dim_fits (pos 0),
+        (
+          bottom_fits,
+          (
+            int_fits (pos 0) (pos 1000),
+            (
+              int_fits (pos 0) (pos 1000),
+              (
+                int_fits (pos 0) (pos 1000),
+                (
+                  int_fits (pos 0) (pos 1000),
+                  (
+                    frac_fits,
+                    (
+                      frac_fits,
+                      (
+                        frac_fits,
+                        (
+                          frac_fits,
+                          (
+                            frac_fits,
+                            (
+                              frac_fits,
+                              (
+                                skip_fits,
+                                (
+                                  skip_fits,
+                                  (
+                                    skip_fits,
+                                    (
+                                      skip_fits,
+                                      (
+                                        skip_fits,
+                                        (
+                                          skip_fits,
+                                          (
+                                            skip_fits,
+                                            (
+                                              skip_fits,
+                                              (
+                                                skip_fits,
+                                                (
+                                                  skip_fits,
+                                                  (
+                                                    skip_fits,
+                                                    (
+                                                      skip_fits,
+                                                      (
+                                                        dim_fits (pos 0),
+                                                        (
+                                                          dim_fits (pos 0),
+                                                          (
+                                                            dim_fits (pos 0),
+                                                            (
+                                                              int_fits (negsuc 99999) (pos 100000),
+                                                              (
+                                                                dim_fits (pos 0),
+                                                                (
+                                                                  dim_fits (pos 0),
+                                                                  (
+                                                                    int_fits (negsuc 99999) (pos 100000),
+                                                                    (
+                                                                      int_fits (negsuc 9998) (pos 10000),
+                                                                      (
+                                                                        skip_fits,
+                                                                        (
+                                                                          dim_fits (pos 0),
+                                                                          (
+                                                                            switch_fits,
+                                                                            (
+                                                                              switch_fits,
+                                                                              (
+                                                                                int_fits (pos 2) (pos 4096),
+                                                                                (
+                                                                                  int_fits (pos 1) (pos 1000000),
+                                                                                  (
+                                                                                    int_fits (pos 1) (pos 1000000),
+                                                                                    (
+                                                                                      int_fits (pos 100) (pos 4194304),
+                                                                                      tt,
+                                                                                    ),
+                                                                                  ),
+                                                                                ),
+                                                                              ),
+                                                                            ),
+                                                                          ),
+                                                                        ),
+                                                                      ),
+                                                                    ),
+                                                                  ),
+                                                                ),
+                                                              ),
+                                                            ),
+                                                          ),
+                                                        ),
+                                                      ),
+                                                    ),
+                                                  ),
+                                                ),
+                                              ),
+                                            ),
+                                          ),
+                                        ),
+                                      ),
+                                    ),
+                                  ),
+                                ),
+                              ),
+                            ),
+                          ),
+                        ),
+                      ),
+                    ),
+                  ),
+                ),
+              ),
+            ),
+          ),
+        ),
+      ),
+    ),
+  ),
+)
+
+row_in_by : (P : Row → Type 0) (q : Row) (qs : List Row) (name : List ℕ) (r : Row) → P q → (row_in qs name ≡ Some r → P r)
+    → (t : Bool) → (if t then Some q else row_in qs name) ≡ Some r → P r
+row_in_by P q qs name r here later true h = let e : q ≡ r = cc in subst P e here
+row_in_by P q qs name r here later false h = later h
+
+-- what holds of all rows holds of the one of a name
+row_in_has : (P : Row → Type 0) (rs : List Row) (name : List ℕ) (r : Row) → AllRows P rs → row_in rs name ≡ Some r → P r
+row_in_has P [] name r all h = cc
+row_in_has P (q ∷ qs) name r all h =
+    row_in_by P q qs name r all.0 (λ (e : row_in qs name ≡ Some r). row_in_has P qs name r all.1 e) (bytes_eq q.name name) h
+
+-- setting a parameter to a value in its row's range keeps all in their ranges
+pub stays_in_range : (name : List ℕ) (r : Row) (v : Value) (p : Params) → row_of name ≡ Some r → fits r.form v ≡ true → are_params p ≡ true → are_params (with_value r.field v p) ≡ true
+unfolding row_of
+stays_in_range name r v p found good h =
+    as_fits (with_value r.field v p)
+    ∙ ap (λ vs. fits_all row_forms vs) (one_set r.field v p)
+    ∙ set_fits row_forms (values p) (place r.field) (shaped r.field v) (row_in_has FitsPlace rows name r rows_fit found v good) (sym (as_fits p) ∙ h)
+
+unless_in_range : (name : List ℕ) (r : Row) (v : Value) (p q : Params) → row_of name ≡ Some r → (o : Option ParamFault) → o ≡ value_fault r.form v → set_unless o r v p ≡ Ok q → are_params p ≡ true → are_params q ≡ true
+unless_in_range name r v p q found None e h all =
+    let same : with_value r.field v p ≡ q = cc in
+    subst (λ (x : Params). are_params x ≡ true) same (stays_in_range name r v p found (ap is_no_fault (sym e)) all)
+unless_in_range name r v p q found (Some e) f h all = cc
+
+by_in_range : (name : List ℕ) (v : Value) (p q : Params) (o : Option Row) → row_of name ≡ o → set_by v p o ≡ Ok q → are_params p ≡ true → are_params q ≡ true
+by_in_range name v p q None found h all = cc
+by_in_range name v p q (Some r) found h all = unless_in_range name r v p q found (value_fault r.form v) refl h all
+
+-- so does `set`
+pub set_in_range : (name : List ℕ) (v : Value) (p q : Params) → set_to name v p ≡ Ok q → are_params p ≡ true → are_params q ≡ true
+set_in_range name v p q h all = by_in_range name v p q (row_of name) refl h all
+
+-- the defaults lie in their ranges
+pub defaults_are_in_range : are_params default_params ≡ true
+unfolding are_params default_params
+defaults_are_in_range = refl

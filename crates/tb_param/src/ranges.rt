@@ -1,0 +1,48 @@
+//! The ranges of the forms of parameters.
+ghost use Rattle.std.specs.Prelude.{◌≡◌};
+ghost use Rattle.tb_param.specs.Table.{value_fault, is_within, is_dimen, is_glue, out_of_range};
+
+use crate::{Choice, Form, ParamFault, Value};
+use tb_scaled::Glue;
+
+// The greatest dimension, in scaled points (TeX: The Program §421).
+const MAX_DIMENSION: i64 = 1_073_741_823;
+
+fn is_within(low: i64, high: i64, value: i64) -> bool
+    ensures { result ≡ is_within low high value }
+{
+    low <= value && value <= high
+}
+
+fn is_dimension(value: i64) -> bool
+    ensures { result ≡ is_dimen value }
+{
+    is_within(-MAX_DIMENSION, MAX_DIMENSION, value)
+}
+
+fn is_glue(glue: Glue) -> bool
+    ensures { result ≡ is_glue glue }
+{
+    is_dimension(glue.width) && is_dimension(glue.stretch) && is_dimension(glue.shrink)
+}
+
+fn out_of_range(ok: bool) -> Option<ParamFault>
+    ensures { result ≡ out_of_range ok }
+{
+    if ok { None } else { Some(ParamFault::Range) }
+}
+
+// What is wrong with a value in a parameter of this form.
+pub fn value_fault(form: Form, value: Value) -> Option<ParamFault>
+    ensures { result ≡ value_fault form value }
+{
+    match (form, value) {
+        (Form::Int { low, high }, Value::Int(n)) => out_of_range(is_within(low, high, n)),
+        (Form::Dim { low }, Value::Dim(n)) => out_of_range(is_within(low, MAX_DIMENSION, n)),
+        (Form::Frac, Value::Frac(n)) => out_of_range(is_within(0, 65536, n)),
+        (Form::Skip, Value::Skip(g)) => out_of_range(is_glue(g)),
+        (Form::Bottom, Value::Word(c)) => out_of_range(matches!(c, Choice::Flush | Choice::Ragged)),
+        (Form::Switch, Value::Word(c)) => out_of_range(matches!(c, Choice::On | Choice::Off)),
+        _ => Some(ParamFault::WrongForm),
+    }
+}

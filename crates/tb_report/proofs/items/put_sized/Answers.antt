@@ -1,0 +1,17 @@
+use Rattle.std.proofs.Common.{rules, ◌++◌, ◌∷◌, [], FitsSigned, w64}
+use Rattle.std.specs.Int.{w128}
+use Rattle.std.proofs.lemmas.Int.{to_z-of_z}
+use Rattle.tb_report.specs.Lines.{and_number, line}
+use Rattle.tb_report.proofs.Joined.{on_joined, line-three}
+use Rattle.tb_report.proofs.items.put_sized.Goals as goal
+
+pub returns : goal.returns
+returns c =
+    let t : FitsSigned w128 c.args.top = c.ranges.top in
+    let h : FitsSigned w64 c.args.height = c.ranges.height in
+    let d : FitsSigned w64 c.args.depth = c.ranges.depth in
+    let back = simp to_z-of_z at c.end_box.ensures in
+    on_joined c.end_box.result c.args.out.now.items c.put.new.out.items c.end_box.new.out.items
+    c.args.text.now (line (and_number c.args.top ++ and_number c.args.height ++ and_number c.args.depth))
+    (line (c.args.text.now ++ and_number c.args.top ++ and_number c.args.height ++ and_number c.args.depth))
+    (line-three c.args.text.now (and_number c.args.top) (and_number c.args.height) (and_number c.args.depth) (10 ∷ [])) (search rules) back

@@ -1,0 +1,219 @@
+//! The line of a node.
+ghost use Rattle.std.specs.Prelude.{◌≡◌, ◌++◌, ◌∷◌, [], ℤ, pos, codes, OnOk, Some, None};
+ghost use Rattle.tb_node.specs.Plain.{matter_of};
+ghost use Rattle.tb_report.specs.Lines.{and_number, and_count, and_text, line, where_text, side_text, box_line, rule_line, matter_line};
+
+use crate::writing::{end_line, put, put_amount, put_count, put_field, put_named, put_text};
+use std::alloc::AllocError;
+use tb_node::{Kind, Name, Node, Side, What, Where};
+
+fn where_text(place: Where) -> &'static [u8]
+    ensures { result.now ≡ where_text place }
+{
+    match place {
+        Where::Here => b"here",
+        Where::Top => b"top",
+        Where::Bottom => b"bottom",
+        Where::Page => b"page",
+        Where::Double => b"wide",
+        Where::Deferred => b"deferred",
+    }
+}
+
+fn side_text(side: Side) -> &'static [u8]
+    ensures { result.now ≡ side_text side }
+{
+    match side {
+        Side::Left => b"left",
+        Side::Right => b"right",
+    }
+}
+
+// A top and the end of the line.
+fn end_at(out: &mut Vec<u8>, top: i128) -> Result<(), AllocError>
+    ensures { OnOk result (out.new.items ≡ out.old.items ++ line (and_number top)) }
+{
+    put_field(out, top)?;
+    end_line(out)
+}
+
+// A top, a height and a depth, and the end of the line.
+fn end_box(out: &mut Vec<u8>, top: i128, height: i64, depth: i64) -> Result<(), AllocError>
+    ensures { OnOk result (out.new.items ≡ out.old.items ++ line (and_number top ++ and_number height ++ and_number depth)) }
+{
+    put_field(out, top)?;
+    end_sizes(out, height, depth)
+}
+
+// A height and a depth, and the end of the line.
+fn end_sizes(out: &mut Vec<u8>, height: i64, depth: i64) -> Result<(), AllocError>
+    ensures { OnOk result (out.new.items ≡ out.old.items ++ line (and_number height ++ and_number depth)) }
+{
+    put_amount(out, height)?;
+    put_amount(out, depth)?;
+    end_line(out)
+}
+
+// A line of a text, a top, a height and a depth.
+fn put_sized(
+    out: &mut Vec<u8>,
+    text: &[u8],
+    top: i128,
+    height: i64,
+    depth: i64,
+) -> Result<(), AllocError>
+    ensures { OnOk result (out.new.items ≡ out.old.items ++ line (text.now ++ and_number top ++ and_number height ++ and_number depth)) }
+{
+    put(out, text)?;
+    end_box(out, top, height, depth)
+}
+
+// The line of a box or a rule that came from an item.
+fn put_item(
+    out: &mut Vec<u8>,
+    word: &[u8],
+    name: &Name,
+    top: i128,
+    height: i64,
+    depth: i64,
+) -> Result<(), AllocError>
+    ensures { OnOk result (out.new.items ≡ out.old.items ++ line (word.now ++ name.now ++ and_number top ++ and_number height ++ and_number depth)) }
+{
+    put_named(out, word, name.as_bytes())?;
+    end_box(out, top, height, depth)
+}
+
+fn put_float(
+    out: &mut Vec<u8>,
+    name: &Name,
+    class: u8,
+    place: Where,
+    top: i128,
+    height: i64,
+) -> Result<(), AllocError>
+    ensures { OnOk result (out.new.items ≡ out.old.items ++ line (codes "float " ++ name.now ++ and_count class ++ and_text (where_text place) ++ and_number top ++ and_number height)) }
+{
+    put_named(out, b"float ", name.as_bytes())?;
+    put_count(out, u64::from(class))?;
+    put_place(out, place, top, height)
+}
+
+// Where a float stands, its top and its height, and the end of the line.
+fn put_place(out: &mut Vec<u8>, place: Where, top: i128, height: i64) -> Result<(), AllocError>
+    ensures { OnOk result (out.new.items ≡ out.old.items ++ line (and_text (where_text place) ++ and_number top ++ and_number height)) }
+{
+    put_text(out, where_text(place))?;
+    put_field(out, top)?;
+    put_amount(out, height)?;
+    end_line(out)
+}
+
+// A word, the name of a marginal note, its side and by how much it is moved.
+fn put_moved(
+    out: &mut Vec<u8>,
+    word: &[u8],
+    name: &Name,
+    side: Side,
+    shift: i64,
+) -> Result<(), AllocError>
+    ensures { OnOk result (out.new.items ≡ out.old.items ++ (word.now ++ name.now ++ and_text (side_text side) ++ and_number shift)) }
+{
+    put_named(out, word, name.as_bytes())?;
+    put_text(out, side_text(side))?;
+    put_amount(out, shift)
+}
+
+// The line of a marginal note's box, after this word.
+fn put_noted(
+    out: &mut Vec<u8>,
+    word: &[u8],
+    name: &Name,
+    side: Side,
+    shift: i64,
+    top: i128,
+    height: i64,
+    depth: i64,
+) -> Result<(), AllocError>
+    ensures { OnOk result (out.new.items ≡ out.old.items ++ line (word.now ++ name.now ++ and_text (side_text side) ++ and_number shift ++ and_number top ++ and_number height ++ and_number depth)) }
+{
+    put_moved(out, word, name, side, shift)?;
+    end_box(out, top, height, depth)
+}
+
+// A line of a word, a name and a top.
+fn put_at(out: &mut Vec<u8>, word: &[u8], name: &Name, top: i128) -> Result<(), AllocError>
+    ensures { OnOk result (out.new.items ≡ out.old.items ++ line (word.now ++ name.now ++ and_number top)) }
+{
+    put_named(out, word, name.as_bytes())?;
+    end_at(out, top)
+}
+
+fn put_box(
+    out: &mut Vec<u8>,
+    what: &What,
+    top: i128,
+    height: i64,
+    depth: i64,
+) -> Result<(), AllocError>
+    ensures { OnOk result (out.new.items ≡ out.old.items ++ box_line what.now top height depth) }
+{
+    match what {
+        What::Text(name) => put_item(out, b"box ", name, top, height, depth),
+        What::Blank => Ok(()),
+        What::Float {
+            name,
+            class,
+            place,
+            ..
+        } => put_float(out, name, *class, *place, top, height),
+        What::Margin {
+            name,
+            side,
+            shift,
+            height,
+            depth,
+            ..
+        } => put_noted(out, b"margin ", name, *side, *shift, top, *height, *depth),
+    }
+}
+
+fn put_rule(
+    out: &mut Vec<u8>,
+    name: &Option<Name>,
+    top: i128,
+    height: i64,
+    depth: i64,
+) -> Result<(), AllocError>
+    ensures { OnOk result (out.new.items ≡ out.old.items ++ rule_line name.now top height depth) }
+{
+    match name {
+        Some(name) => put_item(out, b"rule ", name, top, height, depth),
+        None => put_sized(out, b"footrule", top, height, depth),
+    }
+}
+
+/// Writes the line of a node whose top stands at this many scaled points; most kinds have none.
+pub(crate) fn put_node(out: &mut Vec<u8>, node: &Node, top: i128) -> Result<(), AllocError>
+    ensures { OnOk result (out.new.items ≡ out.old.items ++ matter_line (matter_of node.now.kind) top) }
+{
+    match &node.kind {
+        Kind::Hbox {
+            what,
+            height,
+            depth,
+        } => put_box(out, what, top, *height, *depth),
+        Kind::Rule {
+            name,
+            height,
+            depth,
+        } => put_rule(out, name, top, *height, *depth),
+        Kind::Mark(name) => put_at(out, b"mark ", name, top),
+        Kind::Note(name) => put_at(out, b"note ", name, top),
+        Kind::Skip(_) => Ok(()),
+        Kind::Kern(_) => Ok(()),
+        Kind::Pen(_) => Ok(()),
+        Kind::Whatsit => Ok(()),
+        Kind::Ins(_) => Ok(()),
+        Kind::Act(_) => Ok(()),
+    }
+}

@@ -1,0 +1,148 @@
+//! The lines of a page.
+ghost use Rattle.std.specs.Prelude.{◌≡◌, ◌≢◌, ◌++◌, ◌∷◌, [], ℤ, pos, map, codes, OnOk, IfOk};
+ghost use Rattle.tb_pool.specs.Lists.{IsLive, list_at};
+ghost use Rattle.tb_node.specs.Plain.{matter_of, shape_of, plain_of};
+ghost use Rattle.tb_node.specs.Fit.{shapes};
+ghost use Rattle.tb_column.specs.Shown.{nodes_shown, column_shown, sheet_shown, sent_shown};
+ghost use Rattle.tb_report.specs.Printable.{IsPrintableList, IsPrintable, IsPrintableSheet, IsPrintableSent};
+ghost use Rattle.tb_report.specs.Lines.{and_number, and_count, line, item_lines, column_lines, unset, sheet_lines, sent_lines};
+
+use crate::heads::put_head;
+use crate::items::put_node;
+use crate::warnings::put_warning;
+use crate::writing::{end_line, put, put_measure, put_total};
+use std::alloc::{AllocError, Global};
+use tb_column::{Column, Sent, Sheet};
+use tb_node::Node;
+use tb_pack::{Set, Sign, Tops};
+use tb_pool::{ListId, Lists};
+use tb_scaled::Order;
+
+// The lines of a list's nodes, whose glue is set like this.
+fn put_items(
+    out: &mut Vec<u8>,
+    store: &Lists<Node>,
+    list: ListId,
+    set: Set,
+) -> Result<(), AllocError>
+    requires list { IsPrintableList store.now list }
+    requires share { set.den ≢ pos 0 }
+    ensures { OnOk result (out.new.items ≡ out.old.items ++ item_lines set [] (nodes_shown store.now list)) }
+{
+    let mut tops = Tops::new(set);
+    for node in store.iter(list) {
+        put_node(out, node, tops.top())?;
+        tops.pass(node);
+    }
+    Ok(())
+}
+
+// A column is the first or the second of its page.
+fn put_column(
+    out: &mut Vec<u8>,
+    store: &Lists<Node>,
+    number: u64,
+    column: &Column,
+) -> Result<(), AllocError>
+    requires { IsPrintable store.now column.now }
+    ensures { OnOk result (out.new.items ≡ out.old.items ++ column_lines number (column_shown store.now column.now)) }
+{
+    put_head(out, number, column.kind, &column.set)?;
+    put_items(out, store, column.list, column.set)
+}
+
+// The set of a list that keeps its natural size.
+fn unset() -> Set
+    ensures { result ≡ unset }
+{
+    Set {
+        height: 0,
+        natural: 0,
+        sign: Sign::None,
+        order: Order::Normal,
+        num: 0,
+        den: 1,
+        depth: 0,
+        over: 0,
+    }
+}
+
+// The first line of a page.
+fn put_page(out: &mut Vec<u8>, page: u64, form: &[u8]) -> Result<(), AllocError>
+    ensures { OnOk result (out.new.items ≡ out.old.items ++ line (codes "page" ++ and_count page ++ form.now)) }
+{
+    put_total(out, b"page", page)?;
+    put(out, form)?;
+    end_line(out)
+}
+
+// The first line of a page of two columns, which begin at this many scaled points.
+fn put_pair(out: &mut Vec<u8>, page: u64, at: i64) -> Result<(), AllocError>
+    ensures { OnOk result (out.new.items ≡ out.old.items ++ line (codes "page" ++ and_count page ++ codes " two at" ++ and_number at)) }
+{
+    put_total(out, b"page", page)?;
+    put_measure(out, b" two at", at)?;
+    end_line(out)
+}
+
+fn put_columns(
+    out: &mut Vec<u8>,
+    store: &Lists<Node>,
+    left: &Column,
+    right: &Column,
+) -> Result<(), AllocError>
+    requires left { IsPrintable store.now left.now }
+    requires right { IsPrintable store.now right.now }
+    ensures { OnOk result (out.new.items ≡ out.old.items ++ (column_lines 1 (column_shown store.now left.now) ++ column_lines 2 (column_shown store.now right.now))) }
+{
+    put_column(out, store, 1, left)?;
+    put_column(out, store, 2, right)
+}
+
+fn put_sheet(
+    out: &mut Vec<u8>,
+    store: &Lists<Node>,
+    page: u64,
+    sheet: &Sheet,
+) -> Result<(), AllocError>
+    requires { IsPrintableSheet store.now sheet.now }
+    ensures { OnOk result (out.new.items ≡ out.old.items ++ sheet_lines page (sheet_shown store.now sheet.now)) }
+{
+    match sheet {
+        Sheet::One(column) => {
+            put_page(out, page, b" one")?;
+            put_column(out, store, 1, column)
+        }
+        Sheet::Wide(column) => {
+            put_page(out, page, b" wide")?;
+            put_column(out, store, 1, column)
+        }
+        Sheet::Two {
+            tops,
+            at,
+            left,
+            right,
+        } => {
+            put_pair(out, page, *at)?;
+            put_items(out, store, *tops, unset())?;
+            put_columns(out, store, left, right)
+        }
+    }
+}
+
+/// The lines of what the output routine sends out, in one piece: a warning's line, or those of a page.
+///
+/// A page has its own line, and for each column a line with its height, its natural height and how its glue is set, and
+/// one for each box, rule, float, note and mark with its top, all in scaled points. It fails only where there is no
+/// memory for the text.
+pub fn sent_text(alloc: Global, store: &Lists<Node>, s: &Sent) -> Result<Vec<u8>, AllocError>
+    requires { IsPrintableSent store.now s.now }
+    ensures { IfOk result (λ text. text.items ≡ sent_lines (sent_shown store.now s.now)) }
+{
+    let mut out = Vec::new(alloc);
+    match s {
+        Sent::Warn(warning) => put_warning(&mut out, warning)?,
+        Sent::Ship { page, sheet } => put_sheet(&mut out, store, *page, sheet)?,
+    }
+    Ok(out)
+}

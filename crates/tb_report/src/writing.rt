@@ -1,0 +1,82 @@
+//! Fields of a report line, written at the end of a text.
+ghost use Rattle.std.specs.Prelude.{◌≡◌, ◌++◌, ◌∷◌, [], pos, OnOk};
+ghost use Rattle.tb_report.specs.Lines.{and_number, and_count, and_text, line};
+
+use std::alloc::AllocError;
+use tb_text::put_number;
+
+// Bytes as they are.
+pub(crate) fn put(out: &mut Vec<u8>, text: &[u8]) -> Result<(), AllocError>
+    ensures { OnOk result (out.new.items ≡ out.old.items ++ text.now) }
+{
+    out.extend_from_slice(text)
+}
+
+// A space and a text.
+pub(crate) fn put_text(out: &mut Vec<u8>, text: &[u8]) -> Result<(), AllocError>
+    ensures { OnOk result (out.new.items ≡ out.old.items ++ and_text text.now) }
+{
+    put(out, b" ")?;
+    put(out, text)
+}
+
+// A space and a number.
+pub(crate) fn put_field(out: &mut Vec<u8>, number: i128) -> Result<(), AllocError>
+    ensures { OnOk result (out.new.items ≡ out.old.items ++ and_number number) }
+{
+    put(out, b" ")?;
+    put_number(out, number)
+}
+
+// A space and an amount in scaled points.
+pub(crate) fn put_amount(out: &mut Vec<u8>, amount: i64) -> Result<(), AllocError>
+    ensures { OnOk result (out.new.items ≡ out.old.items ++ and_number amount) }
+{
+    put_field(out, i128::from(amount))
+}
+
+// A space and a count.
+pub(crate) fn put_count(out: &mut Vec<u8>, count: u64) -> Result<(), AllocError>
+    ensures { OnOk result (out.new.items ≡ out.old.items ++ and_count count) }
+{
+    put_field(out, i128::from(count))
+}
+
+// A word and the count after it.
+pub(crate) fn put_total(out: &mut Vec<u8>, word: &[u8], count: u64) -> Result<(), AllocError>
+    ensures { OnOk result (out.new.items ≡ out.old.items ++ (word.now ++ and_count count)) }
+{
+    put(out, word)?;
+    put_count(out, count)
+}
+
+// A word and the amount after it.
+pub(crate) fn put_measure(out: &mut Vec<u8>, word: &[u8], amount: i64) -> Result<(), AllocError>
+    ensures { OnOk result (out.new.items ≡ out.old.items ++ (word.now ++ and_number amount)) }
+{
+    put(out, word)?;
+    put_amount(out, amount)
+}
+
+// A word and what follows it.
+pub(crate) fn put_named(out: &mut Vec<u8>, word: &[u8], name: &[u8]) -> Result<(), AllocError>
+    ensures { OnOk result (out.new.items ≡ out.old.items ++ (word.now ++ name.now)) }
+{
+    put(out, word)?;
+    put(out, name)
+}
+
+// The end of a line.
+pub(crate) fn end_line(out: &mut Vec<u8>) -> Result<(), AllocError>
+    ensures { OnOk result (out.new.items ≡ out.old.items ++ 10 ∷ []) }
+{
+    put(out, b"\n")
+}
+
+// A line of a word and what follows it.
+pub(crate) fn put_line(out: &mut Vec<u8>, word: &[u8], name: &[u8]) -> Result<(), AllocError>
+    ensures { OnOk result (out.new.items ≡ out.old.items ++ line (word.now ++ name.now)) }
+{
+    put_named(out, word, name)?;
+    end_line(out)
+}

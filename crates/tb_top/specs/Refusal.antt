@@ -1,0 +1,85 @@
+-- The answer and the line of each refusal.
+use Rattle.std.specs.Prelude.{ℕ, List, [], codes, Result, Ok, Err}
+use Rattle.tb_galley.specs.declared.GalleyFault.{GalleyFault}
+use Rattle.tb_galley.specs.declared.GalleyFault.TheVariants as unread
+use Rattle.tb_top.specs.declared.PageFault.{PageFault}
+use Rattle.tb_top.specs.declared.PageFault.TheVariants as pages
+use Rattle.tb_top.specs.declared.input.InputFault.{InputFault}
+use Rattle.tb_top.specs.declared.input.InputFault.TheVariants as inputs
+use Rattle.tb_top.specs.declared.refusal.Refusal.{Refusal}
+use Rattle.tb_top.specs.declared.refusal.Refusal.TheVariants as refusals
+use Rattle.tb_top.specs.declared.status.Status.{Status}
+use Rattle.tb_top.specs.declared.status.Status.TheVariants as answers
+use Rattle.tb_top.specs.Answer.{answer_for_cause, err_line, fault_text, pool_full_text, dead_cycles_text, page_limit_text, node_limit_text}
+
+-- ---- the answer
+
+-- where there is no galley
+abbrev pub galley_status : GalleyFault → Status
+galley_status (unread.At f) = answer_for_cause f.cause
+galley_status unread.Memory = answers.Memory
+
+-- where the pages stopped
+abbrev pub page_status : PageFault → Status
+page_status (pages.PoolFull line live) = answers.PoolFull
+page_status (pages.DeadCycles n) = answers.DeadCycles
+page_status (pages.PageLimit n) = answers.PageLimit
+page_status (pages.NodeLimit n) = answers.NodeLimit
+page_status pages.WriteFault = answers.WriteFault
+page_status pages.Memory = answers.Memory
+
+-- where the input was not read
+abbrev pub input_status : InputFault → Status
+input_status inputs.Failed = answers.ReadFault
+input_status inputs.Memory = answers.Memory
+
+-- by the step that refused
+abbrev pub refusal_status : Refusal → Status
+refusal_status refusals.Words = answers.Words
+refusal_status (refusals.Input f) = input_status f
+refusal_status (refusals.Galley f) = galley_status f
+refusal_status (refusals.Pages f) = page_status f
+
+-- ---- the line on err
+
+-- where there is no galley
+abbrev pub galley_text : GalleyFault → List ℕ
+galley_text (unread.At f) = fault_text f
+galley_text unread.Memory = codes "out of memory"
+
+-- where the pages stopped
+abbrev pub page_text : PageFault → List ℕ
+page_text (pages.PoolFull line live) = pool_full_text line live
+page_text (pages.DeadCycles n) = dead_cycles_text n
+page_text (pages.PageLimit n) = page_limit_text n
+page_text (pages.NodeLimit n) = node_limit_text n
+page_text pages.WriteFault = codes "write fault"
+page_text pages.Memory = codes "out of memory"
+
+-- where the input was not read
+abbrev pub input_text : InputFault → List ℕ
+input_text inputs.Failed = codes "read fault"
+input_text inputs.Memory = codes "out of memory"
+
+-- by the step that refused
+abbrev pub refusal_text : Refusal → List ℕ
+refusal_text refusals.Words = codes "words refused"
+refusal_text (refusals.Input f) = input_text f
+refusal_text (refusals.Galley f) = galley_text f
+refusal_text (refusals.Pages f) = page_text f
+
+-- its whole line
+abbrev pub refusal_line : Refusal → List ℕ
+refusal_line r = err_line (refusal_text r)
+
+-- ---- of a run before it tells
+
+-- the answer of a run that was served, or refused
+abbrev pub served_status : {T : Type 0} → Result T Refusal → Status
+served_status (Ok v) = answers.Done
+served_status (Err r) = refusal_status r
+
+-- its line; a run that was served has none
+abbrev pub served_line : {T : Type 0} → Result T Refusal → List ℕ
+served_line (Ok v) = []
+served_line (Err r) = refusal_line r

@@ -1,0 +1,55 @@
+-- Worked rows: inputs with their answers, reports and lines on err.
+use Rattle.std.specs.Prelude.{◌≡◌, ℕ, ◌<◌, List, [], length, codes}
+use Rattle.tb_galley.specs.Grammar.{input_limit}
+use Rattle.tb_top.specs.declared.status.Status.{Status}
+use Rattle.tb_top.specs.declared.status.Status.TheVariants.{Done, Syntax, Range, DeadCycles, PageLimit, NodeLimit}
+use Rattle.tb_top.specs.Answer.{answer_to, report_to, line_to}
+
+-- the input has this answer, this report and this line on err
+pub record Replies (input : List ℕ) (answer : Status) (report line : List ℕ) : Type 0 where
+  pub answered : answer_to input ≡ answer
+  pub reported : report_to input ≡ report
+  pub told : line_to input ≡ line
+
+-- each input with what the definitions give
+pub record WorkedRows : Type 0 where
+  -- three boxes and two stretchable glues fill one page
+  pub three_boxes_fill_a_page : Replies (codes "galley 1\nset textheight 30\nset topskip 10\nset maxdepth 0\nbox a 10 0\nglue 0 plus 5\nbox b 10 0\nglue 0 plus 5\nbox c 10 0\nend\n") Done (codes "report 1\npage 1 one\ncolumn 1 text height 30 natural 30 set none\nbox a 0 10 0\nbox b 10 10 0\nbox c 20 10 0\nend pages 1 boxes 3 floats 0 warnings 0\n") []
+  -- the same with a carriage return before each line feed
+  pub carriage_returns : Replies (codes "galley 1\r\nset textheight 30\r\nset topskip 10\r\nset maxdepth 0\r\nbox a 10 0\r\nglue 0 plus 5\r\nbox b 10 0\r\nglue 0 plus 5\r\nbox c 10 0\r\nend\r\n") Done (codes "report 1\npage 1 one\ncolumn 1 text height 30 natural 30 set none\nbox a 0 10 0\nbox b 10 10 0\nbox c 20 10 0\nend pages 1 boxes 3 floats 0 warnings 0\n") []
+  -- nothing is shipped
+  pub empty_galley : Replies (codes "galley 1\nend\n") Done (codes "report 1\nend pages 0 boxes 0 floats 0 warnings 0\n") []
+  -- of two breaks of equal cost the later one is taken
+  pub later_of_equal_costs : Replies (codes "galley 1\nset textheight 30\nset topskip 10\nset maxdepth 0\nset baselineskip 0\nset bottom flush\nset skipfootins 0\nset footsplittop 10\nset intextsep 0\nset textfloatsep 0\nset floatsep 0\nset fptop 0\nset fpsep 0\nset fpbot 0\nset dbltextfloatsep 0\nbox a 12 0\nglue 0\nbox b 12 0\nglue 0\nbox c 12 0\nend\n") Done (codes "report 1\npage 1 one\ncolumn 1 text height 30 natural 24 set none\nbox a 0 12 0\nbox b 12 12 0\npage 2 one\ncolumn 1 text height 30 natural 12 set stretch fil 18/65536\nbox c 0 12 0\nend pages 2 boxes 3 floats 0 warnings 0\n") []
+  -- the same with fewer parameters set
+  pub bare_prelude : Replies (codes "galley 1\nset textheight 30\nset topskip 10\nset maxdepth 0\nset bottom flush\nbox a 12 0\nglue 0\nbox b 12 0\nglue 0\nbox c 12 0\nend\n") Done (codes "report 1\npage 1 one\ncolumn 1 text height 30 natural 24 set none\nbox a 0 12 0\nbox b 12 12 0\npage 2 one\ncolumn 1 text height 30 natural 12 set stretch fil 18/65536\nbox c 0 12 0\nend pages 2 boxes 3 floats 0 warnings 0\n") []
+  -- a box that is too high stands alone
+  pub overfull_box : Replies (codes "galley 1\nset textheight 30\nset topskip 10\nset maxdepth 0\nset baselineskip 0\nset bottom flush\nset skipfootins 0\nset footsplittop 10\nset intextsep 0\nset textfloatsep 0\nset floatsep 0\nset fptop 0\nset fpsep 0\nset fpbot 0\nset dbltextfloatsep 0\nbox a 50 0\nglue 0\nbox b 10 0\nend\n") Done (codes "report 1\npage 1 one\ncolumn 1 text height 30 natural 50 set none overfull 20\nbox a 0 50 0\npage 2 one\ncolumn 1 text height 30 natural 10 set stretch fil 20/65536\nbox b 0 10 0\nend pages 2 boxes 2 floats 0 warnings 0\n") []
+  -- a penalty of 10000 is no break
+  pub forbidden_break : Replies (codes "galley 1\nset textheight 30\nset topskip 10\nset maxdepth 0\nset baselineskip 0\nset bottom flush\nset skipfootins 0\nset footsplittop 10\nset intextsep 0\nset textfloatsep 0\nset floatsep 0\nset fptop 0\nset fpsep 0\nset fpbot 0\nset dbltextfloatsep 0\nbox a 20 0\npenalty 10000\nglue 0\nbox b 20 0\nend\n") Done (codes "report 1\npage 1 one\ncolumn 1 text height 30 natural 40 set none overfull 10\nbox a 0 20 0\nbox b 20 20 0\nend pages 1 boxes 2 floats 0 warnings 0\n") []
+  -- a kern before glue is the break
+  pub kern_before_glue : Replies (codes "galley 1\nset textheight 30\nset topskip 10\nset maxdepth 0\nset baselineskip 0\nset bottom flush\nset skipfootins 0\nset footsplittop 10\nset intextsep 0\nset textfloatsep 0\nset floatsep 0\nset fptop 0\nset fpsep 0\nset fpbot 0\nset dbltextfloatsep 0\nbox a 20 0\nkern 0\nglue 0\nbox b 20 0\nend\n") Done (codes "report 1\npage 1 one\ncolumn 1 text height 30 natural 20 set none\nbox a 0 20 0\npage 2 one\ncolumn 1 text height 30 natural 20 set stretch fil 10/65536\nbox b 0 20 0\nend pages 2 boxes 2 floats 0 warnings 0\n") []
+  -- a kern before a box is none
+  pub kern_without_glue : Replies (codes "galley 1\nset textheight 30\nset topskip 10\nset maxdepth 0\nset baselineskip 0\nset bottom flush\nset skipfootins 0\nset footsplittop 10\nset intextsep 0\nset textfloatsep 0\nset floatsep 0\nset fptop 0\nset fpsep 0\nset fpbot 0\nset dbltextfloatsep 0\nbox a 20 0\nkern 0\nbox b 20 0\nend\n") Done (codes "report 1\npage 1 one\ncolumn 1 text height 30 natural 40 set none overfull 10\nbox a 0 20 0\nbox b 20 20 0\nend pages 1 boxes 2 floats 0 warnings 0\n") []
+  -- a note stands above the first box
+  pub note_before_the_first_box : Replies (codes "galley 1\nset textheight 30\nset topskip 10\nset maxdepth 0\nset baselineskip 0\nset bottom flush\nset skipfootins 0\nset footsplittop 10\nset intextsep 0\nset textfloatsep 0\nset floatsep 0\nset fptop 0\nset fpsep 0\nset fpbot 0\nset dbltextfloatsep 0\nnote n\nbox a 10 0\nend\n") Done (codes "report 1\npage 1 one\ncolumn 1 text height 30 natural 10 set stretch fil 20/65536\nnote n 0\nbox a 0 10 0\nend pages 1 boxes 1 floats 0 warnings 0\n") []
+  -- the top skip glue alone fills the page
+  pub topskip_above_textheight : Replies (codes "galley 1\nset textheight 30\nset topskip 10\nset maxdepth 0\nset baselineskip 0\nset bottom flush\nset skipfootins 0\nset footsplittop 10\nset intextsep 0\nset textfloatsep 0\nset floatsep 0\nset fptop 0\nset fpsep 0\nset fpbot 0\nset dbltextfloatsep 0\nset topskip 40\nbox a 10 0\nend\n") Done (codes "report 1\npage 1 one\ncolumn 1 text height 30 natural 40 set none overfull 10\nbox a 30 10 0\npage 2 one\ncolumn 1 text height 30 natural 0 set none\nend pages 2 boxes 1 floats 0 warnings 0\n") []
+  -- a box line lacks its depth
+  pub box_without_depth : Replies (codes "galley 1\nbox a 10\nend\n") Syntax [] (codes "galley_pages: line 2 field 4: MissingField\n")
+  -- two clears without a page
+  pub clears_without_a_page : Replies (codes "galley 1\nset textheight 30\nset topskip 10\nset maxdepth 0\nset baselineskip 0\nset bottom flush\nset skipfootins 0\nset footsplittop 10\nset intextsep 0\nset textfloatsep 0\nset floatsep 0\nset fptop 0\nset fpsep 0\nset fpbot 0\nset dbltextfloatsep 0\nset maxdeadcycles 1\nclearpage\nend\n") DeadCycles (codes "report 1\n") (codes "galley_pages: dead cycles 1\n")
+  -- a note after the last page is left
+  pub note_left : Replies (codes "galley 1\nset textheight 30\nset topskip 10\nset maxdepth 0\nset baselineskip 0\nset bottom flush\nset skipfootins 0\nset footsplittop 10\nset intextsep 0\nset textfloatsep 0\nset floatsep 0\nset fptop 0\nset fpsep 0\nset fpbot 0\nset dbltextfloatsep 0\nbox a 10 0\nnewpage\nnote n\nend\n") Done (codes "report 1\npage 1 one\ncolumn 1 text height 30 natural 10 set stretch fil 20/65536\nbox a 0 10 0\nleft note n\nend pages 1 boxes 1 floats 0 warnings 0\n") []
+  -- a rule and a mark
+  pub rule_and_mark : Replies (codes "galley 1\nset textheight 30\nset topskip 10\nset maxdepth 0\nset baselineskip 0\nset bottom flush\nset skipfootins 0\nset footsplittop 10\nset intextsep 0\nset textfloatsep 0\nset floatsep 0\nset fptop 0\nset fpsep 0\nset fpbot 0\nset dbltextfloatsep 0\nrule r 10 0\nmark m\nend\n") Done (codes "report 1\npage 1 one\ncolumn 1 text height 30 natural 10 set stretch fil 20/65536\nrule r 0 10 0\nmark m 10\nend pages 1 boxes 1 floats 0 warnings 0\n") []
+  -- the input ends without `end`
+  pub without_end : Replies (codes "galley 1\nbox a 1 0\n") Syntax [] (codes "galley_pages: line 3 field 0: NoEnd\n")
+  -- a height past the greatest dimension
+  pub too_large : Replies (codes "galley 1\nbox a 1073741824 0\nend\n") Range [] (codes "galley_pages: line 2 field 3: Dimension\n")
+  -- a second page where one is allowed
+  pub page_limit : Replies (codes "galley 1\nset textheight 30\nset topskip 10\nset maxdepth 0\nset baselineskip 0\nset bottom flush\nset skipfootins 0\nset footsplittop 10\nset intextsep 0\nset textfloatsep 0\nset floatsep 0\nset fptop 0\nset fpsep 0\nset fpbot 0\nset dbltextfloatsep 0\nset maxpages 1\nbox a 12 0\nglue 0\nbox b 12 0\nglue 0\nbox c 12 0\nend\n") PageLimit (codes "report 1\npage 1 one\ncolumn 1 text height 30 natural 24 set none\nbox a 0 12 0\nbox b 12 12 0\n") (codes "galley_pages: page limit 1\n")
+  -- more nodes than are allowed
+  pub node_limit : Replies (codes "galley 1\nset textheight 30\nset topskip 10\nset maxdepth 0\nset baselineskip 0\nset bottom flush\nset skipfootins 0\nset footsplittop 10\nset intextsep 0\nset textfloatsep 0\nset floatsep 0\nset fptop 0\nset fpsep 0\nset fpbot 0\nset dbltextfloatsep 0\nset maxnodes 100\nglue 0\nglue 0\nglue 0\nglue 0\nglue 0\nglue 0\nglue 0\nglue 0\nglue 0\nglue 0\nglue 0\nglue 0\nglue 0\nglue 0\nglue 0\nglue 0\nglue 0\nglue 0\nglue 0\nglue 0\nglue 0\nglue 0\nglue 0\nglue 0\nglue 0\nglue 0\nglue 0\nglue 0\nglue 0\nglue 0\nglue 0\nglue 0\nglue 0\nglue 0\nglue 0\nglue 0\nglue 0\nglue 0\nglue 0\nglue 0\nglue 0\nglue 0\nglue 0\nglue 0\nglue 0\nglue 0\nglue 0\nglue 0\nglue 0\nglue 0\nglue 0\nglue 0\nglue 0\nglue 0\nglue 0\nglue 0\nglue 0\nglue 0\nglue 0\nglue 0\nglue 0\nglue 0\nglue 0\nglue 0\nglue 0\nglue 0\nglue 0\nglue 0\nglue 0\nglue 0\nglue 0\nglue 0\nglue 0\nglue 0\nglue 0\nglue 0\nglue 0\nglue 0\nglue 0\nglue 0\nglue 0\nglue 0\nglue 0\nglue 0\nglue 0\nglue 0\nglue 0\nglue 0\nglue 0\nglue 0\nglue 0\nglue 0\nglue 0\nglue 0\nglue 0\nglue 0\nglue 0\nglue 0\nglue 0\nglue 0\nglue 0\nend\n") NodeLimit (codes "report 1\n") (codes "galley_pages: node limit at 106\n")
+  -- more bytes than a galley may have
+  pub too_long : (input : List ℕ) → input_limit < length input → Replies input Range [] (codes "galley_pages: line 0 field 0: InputSize\n")

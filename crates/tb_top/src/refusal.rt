@@ -1,0 +1,163 @@
+//! Why a run was refused, until its line is written.
+ghost use Rattle.std.specs.Prelude.{◌≡◌, ◌++◌, decimal, IfOk, OnOk};
+ghost use Rattle.tb_top.specs.Answer.{answer_for_cause, fault_text, pool_full_text};
+ghost use Rattle.tb_top.specs.Refusal.{refusal_status, galley_status, page_status, input_status, refusal_text, galley_text, page_text, input_text, refusal_line};
+ghost use Rattle.tb_top.specs.declared.refusal.Refusal.TheVariants.{Input, Galley, Pages};
+
+use crate::input::InputFault;
+use crate::{PageFault, Status};
+use std::alloc::{AllocError, Global};
+use tb_galley::{Cause, Fault, GalleyFault, cause_text, is_range_cause};
+use tb_text::put_number;
+
+/// Why a run was refused, with what the line on `err` shows of it.
+#[derive(Drop)]
+pub enum Refusal {
+    /// There are words after the program's name.
+    Words,
+    /// The input was not read.
+    Input(InputFault),
+    /// What was read is no galley.
+    Galley(GalleyFault),
+    /// The pages stopped before their end.
+    Pages(PageFault),
+}
+
+impl From<InputFault> for Refusal {
+    ghost from_gives = { λ fault e. e ≡ Input fault };
+
+    fn from(fault: InputFault) -> Self {
+        Refusal::Input(fault)
+    }
+}
+
+impl From<GalleyFault> for Refusal {
+    ghost from_gives = { λ fault e. e ≡ Galley fault };
+
+    fn from(fault: GalleyFault) -> Self {
+        Refusal::Galley(fault)
+    }
+}
+
+impl From<PageFault> for Refusal {
+    ghost from_gives = { λ fault e. e ≡ Pages fault };
+
+    fn from(fault: PageFault) -> Self {
+        Refusal::Pages(fault)
+    }
+}
+
+impl Refusal {
+    /// The answer of the run.
+    pub fn status(&self) -> Status
+        ensures { result ≡ refusal_status self.now }
+    {
+        match self {
+            Refusal::Words => Status::Words,
+            Refusal::Input(fault) => input_status(*fault),
+            Refusal::Galley(GalleyFault::At(fault)) => cause_status(fault.cause),
+            Refusal::Galley(GalleyFault::Memory) => Status::Memory,
+            Refusal::Pages(fault) => page_status(*fault),
+        }
+    }
+
+    /// Its line on `err`, with the line feed.
+    pub fn line(&self, alloc: Global) -> Result<Vec<u8>, AllocError>
+        ensures { IfOk result (λ line. line.items ≡ refusal_line self.now) }
+    {
+        let mut line = b"galley_pages: ".to_vec(alloc)?;
+        self.put_text(&mut line)?;
+        line.extend_from_slice(b"\n")?;
+        Ok(line)
+    }
+
+    fn put_text(&self, line: &mut Vec<u8>) -> Result<(), AllocError>
+        ensures { OnOk result (line.new.items ≡ line.old.items ++ refusal_text self.now) }
+    {
+        match self {
+            Refusal::Words => line.extend_from_slice(b"words refused"),
+            Refusal::Input(fault) => line.extend_from_slice(input_text(*fault)),
+            Refusal::Galley(GalleyFault::At(fault)) => put_fault(line, fault),
+            Refusal::Galley(GalleyFault::Memory) => line.extend_from_slice(b"out of memory"),
+            Refusal::Pages(fault) => put_page_fault(line, *fault),
+        }
+    }
+}
+
+fn input_status(fault: InputFault) -> Status
+    ensures { result ≡ input_status fault }
+{
+    match fault {
+        InputFault::Failed => Status::ReadFault,
+        InputFault::Memory => Status::Memory,
+    }
+}
+
+fn input_text(fault: InputFault) -> &'static [u8]
+    ensures { result.now ≡ input_text fault }
+{
+    match fault {
+        InputFault::Failed => b"read fault",
+        InputFault::Memory => b"out of memory",
+    }
+}
+
+fn cause_status(cause: Cause) -> Status
+    ensures { result ≡ answer_for_cause cause }
+{
+    if is_range_cause(cause) {
+        Status::Range
+    } else {
+        Status::Syntax
+    }
+}
+
+fn page_status(fault: PageFault) -> Status
+    ensures { result ≡ page_status fault }
+{
+    match fault {
+        PageFault::PoolFull { .. } => Status::PoolFull,
+        PageFault::DeadCycles { .. } => Status::DeadCycles,
+        PageFault::PageLimit { .. } => Status::PageLimit,
+        PageFault::NodeLimit { .. } => Status::NodeLimit,
+        PageFault::WriteFault => Status::WriteFault,
+        PageFault::Memory => Status::Memory,
+    }
+}
+
+// Some words, and a number after them.
+fn put_counted(line: &mut Vec<u8>, words: &[u8], number: u64) -> Result<(), AllocError>
+    ensures { OnOk result (line.new.items ≡ line.old.items ++ (words.now ++ decimal number)) }
+{
+    line.extend_from_slice(words)?;
+    put_number(line, i128::from(number))
+}
+
+fn put_fault(line: &mut Vec<u8>, fault: &Fault) -> Result<(), AllocError>
+    ensures { OnOk result (line.new.items ≡ line.old.items ++ fault_text fault.now) }
+{
+    put_counted(line, b"line ", u64::from(fault.line))?;
+    put_counted(line, b" field ", u64::from(fault.field))?;
+    line.extend_from_slice(b": ")?;
+    line.extend_from_slice(cause_text(fault.cause))
+}
+
+fn put_pool_full(line: &mut Vec<u8>, at: u32, live: u64) -> Result<(), AllocError>
+    ensures { OnOk result (line.new.items ≡ line.old.items ++ pool_full_text at live) }
+{
+    put_counted(line, b"line ", u64::from(at))?;
+    put_counted(line, b": float pool full at ", live)
+}
+
+fn put_page_fault(line: &mut Vec<u8>, fault: PageFault) -> Result<(), AllocError>
+    ensures { OnOk result (line.new.items ≡ line.old.items ++ page_text fault) }
+{
+    match fault {
+        PageFault::PoolFull { line: at, live } => put_pool_full(line, at, live),
+        PageFault::DeadCycles { count } => put_counted(line, b"dead cycles ", count),
+        PageFault::PageLimit { pages } => put_counted(line, b"page limit ", pages),
+        PageFault::NodeLimit { count } => put_counted(line, b"node limit at ", count),
+        PageFault::WriteFault => line.extend_from_slice(b"write fault"),
+        PageFault::Memory => line.extend_from_slice(b"out of memory"),
+    }
+}

@@ -1,0 +1,8 @@
+//! Worked rows of the definitions.
+ghost use Rattle.tb_top.specs.Rows.{WorkedRows};
+
+/// The definitions against which [`run`](crate::run) is proved give the worked rows: from the bytes
+/// of each galley the answer, the report and the line on `err`.
+pub fn check_rows()
+    ensures { WorkedRows }
+{}

@@ -1,0 +1,51 @@
+//! The answers of `run`, and their exit statuses.
+ghost use Rattle.std.specs.Prelude.{◌≡◌};
+ghost use Rattle.tb_top.specs.Status.{code_of};
+
+/// How a run ended. Each answer but `Done` has one line on `err`.
+#[derive(Clone, Copy, Debug, PartialEq, Eq)]
+pub enum Status {
+    /// The input was read to its end, is a galley, and its report was written.
+    Done,
+    /// The words after the program's name are refused. Nothing was read.
+    Words,
+    /// The galley's first fault is one of syntax.
+    Syntax,
+    /// The galley's first fault is one of range, or the input is too long.
+    Range,
+    /// A float or marginal note was taken while the float pool was full.
+    PoolFull,
+    /// The page fired after as many firings without a page as `maxdeadcycles` allows.
+    DeadCycles,
+    /// A page was to be shipped after `maxpages` pages.
+    PageLimit,
+    /// The source failed.
+    ReadFault,
+    /// The sink of the report failed.
+    WriteFault,
+    /// There was no memory.
+    Memory,
+    /// More nodes than `maxnodes` were held.
+    NodeLimit,
+}
+
+impl Status {
+    /// The exit status of the program.
+    pub fn code(self) -> u8
+        ensures { result ≡ code_of self }
+    {
+        match self {
+            Status::Done => 0,
+            Status::Words => 2,
+            Status::Syntax => 3,
+            Status::Range => 4,
+            Status::PoolFull => 5,
+            Status::DeadCycles => 6,
+            Status::PageLimit => 7,
+            Status::ReadFault => 8,
+            Status::WriteFault => 9,
+            Status::Memory => 10,
+            Status::NodeLimit => 11,
+        }
+    }
+}

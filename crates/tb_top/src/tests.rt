@@ -1,0 +1,154 @@
+// Whole runs over ends in memory.
+mod rows;
+
+use super::*;
+use rows::ROWS;
+use std::alloc::Global;
+use std::test::Fail;
+use tb_io::{MemSink, MemSource};
+
+// What a run left.
+#[derive(Drop)]
+struct Left {
+    status: u8,
+    out: MemSink,
+    err: MemSink,
+}
+
+// The calls that fail at each end.
+#[derive(Clone, Copy)]
+struct Failing<'a> {
+    reads: &'a [u64],
+    writes: &'a [u64],
+    lines: &'a [u64],
+}
+
+const NONE: Failing<'static> = Failing {
+    reads: &[],
+    writes: &[],
+    lines: &[],
+};
+
+// Runs on an input that is read by pieces of 50 bytes.
+fn run_on(alloc: Global, input: &[u8], failing: &Failing<'_>) -> Result<Left, Fail> {
+    let mut source = MemSource::new(input.to_vec(alloc)?, 50, failing.reads.to_vec(alloc)?);
+    let mut out = MemSink::new(alloc, failing.writes.to_vec(alloc)?);
+    let mut err = MemSink::new(alloc, failing.lines.to_vec(alloc)?);
+    let status = run(alloc, &[], &mut source, &mut out, &mut err).code();
+    Ok(Left { status, out, err })
+}
+
+#[test]
+fn rows_have_their_answers(rt: HostRuntime) -> Result<(), Fail> {
+    for row in &ROWS {
+        let name = row.name;
+        let left = run_on(rt.alloc(), row.input, &NONE)?;
+        assert_eq!(rt; left.status, row.status, "{name}");
+        assert_eq!(rt; left.out.held(), row.out, "{name}");
+        assert_eq!(rt; left.err.held(), row.err, "{name}");
+    }
+    Ok(())
+}
+
+// An input of 125 bytes: four reads, the last at its end.
+const INPUT: &[u8] =
+    b"galley 1\nset textheight 30\nset topskip 10\nset maxdepth 0\nset bottom flush\nbox a 12 0\nglue 0\nbox b 12 0\nglue 0\nbox c 12 0\nend\n";
+
+const REPORT: &[u8] =
+    b"report 1\npage 1 one\ncolumn 1 text height 30 natural 24 set none\nbox a 0 12 0\nbox b 12 12 0\npage 2 one\ncolumn 1 text height 30 natural 12 set stretch fil 18/65536\nbox c 0 12 0\nend pages 2 boxes 3 floats 0 warnings 0\n";
+
+#[test]
+fn each_failing_call_is_answered(rt: HostRuntime) -> Result<(), Fail> {
+    let alloc = rt.alloc();
+    for call in 1..=4 {
+        let left = run_on(
+            alloc,
+            INPUT,
+            &Failing {
+                reads: &[call],
+                ..NONE
+            },
+        )?;
+        assert_eq!(rt; left.status, 8, "at read {call}");
+        assert_eq!(rt; left.out.held(), b"".as_slice());
+        assert_eq!(rt; left.err.held(), b"galley_pages: read fault\n".as_slice());
+    }
+    assert_eq!(rt;
+        run_on(
+            alloc,
+            INPUT,
+            &Failing {
+                reads: &[5],
+                ..NONE
+            }
+        )?
+        .status,
+        0
+    );
+    let mut failed = 0;
+    for call in 1..=9 {
+        let left = run_on(
+            alloc,
+            INPUT,
+            &Failing {
+                writes: &[call],
+                ..NONE
+            },
+        )?;
+        assert!(rt; REPORT.starts_with(left.out.held()), "at write {call}");
+        if left.status == 0 {
+            assert_eq!(rt; left.err.held(), b"".as_slice());
+        } else {
+            assert_eq!(rt; left.status, 9, "at write {call}");
+            assert_eq!(rt; left.err.held(), b"galley_pages: write fault\n".as_slice());
+            failed = call;
+        }
+    }
+    assert!(rt; 0 < failed && failed < 9);
+    Ok(())
+}
+
+#[test]
+fn words_long_input_and_a_failing_err(rt: HostRuntime) -> Result<(), Fail> {
+    let alloc = rt.alloc();
+    let words = vec![in alloc;
+        String::from_str(alloc, "galley_pages")?,
+        String::from_str(alloc, "--mode")?,
+    ]?;
+    let mut source = MemSource::new(INPUT.to_vec(alloc)?, 1, Vec::new(alloc));
+    let mut out = MemSink::new(alloc, Vec::new(alloc));
+    let mut err = MemSink::new(alloc, Vec::new(alloc));
+    assert_eq!(rt;
+        run(alloc, &words, &mut source, &mut out, &mut err),
+        Status::Words
+    );
+    assert_eq!(rt; err.held(), b"galley_pages: words refused\n".as_slice());
+    // The name alone is accepted, and nothing of the input was taken before.
+    assert_eq!(rt;
+        run(alloc, &words[..1], &mut source, &mut out, &mut err),
+        Status::Done
+    );
+    assert_eq!(rt; out.held(), REPORT);
+    let long = vec![in alloc; b'\n'; 8388609]?;
+    let mut source = MemSource::new(long, 1 << 20, Vec::new(alloc));
+    let mut err = MemSink::new(alloc, Vec::new(alloc));
+    assert_eq!(rt;
+        run(alloc, &[], &mut source, &mut out, &mut err),
+        Status::Range
+    );
+    assert_eq!(rt;
+        err.held(),
+        b"galley_pages: line 0 field 0: InputSize\n".as_slice()
+    );
+    let silent = run_on(
+        alloc,
+        b"",
+        &Failing {
+            lines: &[1],
+            ..NONE
+        },
+    )?;
+    assert_eq!(rt; silent.status, 3);
+    assert_eq!(rt; silent.err.held(), b"".as_slice());
+    Ok(())
+}
