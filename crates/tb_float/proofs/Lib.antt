@@ -6,3 +6,4 @@ pub mod ShelfLemmas
 pub mod SoundLemmas
 pub mod PoolLemmas
 pub mod MarkLemmas
+pub mod RoomLemmas

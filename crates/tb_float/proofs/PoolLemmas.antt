@@ -17,7 +17,7 @@ use Rattle.tb_float.specs.declared.heights.Heights.{Heights}
 use Rattle.tb_float.specs.SlotView.{SlotView}
 use Rattle.tb_float.specs.Lists.{live_count, entries_of, floats_of, float_entries, float_before, floats_among, without_place}
 use Rattle.tb_float.specs.Pool.{FloatPool, without_marks, joined_before, with_float_at, with_mark, with_current, with_floats_after, with_floats_before, without_entry, without_entries}
-use Rattle.tb_float.specs.Ranges.{IsSized, IsRoom, IsHeight}
+use Rattle.tb_float.specs.Ranges.{IsSizedEntry, IsRoom, IsExtent}
 use Rattle.tb_float.specs.Rooms.{total_height}
 use Rattle.tb_float.specs.Heights.{height_of, with_height}
 use Rattle.tb_float.specs.Stored.{shelf_of, slots_of, seen_pool, seen_lists, entries_in, floats_in, marks_in, slot_count, is_float, unmarked_slot, IsSlotOf, AreSlotsOf, IsStored}
@@ -33,7 +33,7 @@ pub record IsPool (new : Lists SlotView) (sh : Shelves) (h : Heights) (size : �
   pub seen : seen_pool (slots_of new sh) size ≡ v
 
 -- an entry came to the end of the current list
-pub put-in : (store new : Lists SlotView) (sh : Shelves) (h : Heights) (size : ℕ) (e : Entry) → IsStored store sh h size → IsSized e → live_count (seen_lists (slots_of store sh)) < size
+pub put-in : (store new : Lists SlotView) (sh : Shelves) (h : Heights) (size : ℕ) (e : Entry) → IsStored store sh h size → IsSizedEntry e → live_count (seen_lists (slots_of store sh)) < size
     → new.lists ≡ with_list store sh.current (list_at store sh.current ++ record { entry = e; marked = false } ∷ []) → new.spare + 1 ≡ store.spare
     → IsPool new sh (with_height parts.Current (height_of h parts.Current +ℤ total_height (float_before e [])) h) size (with_current (e ∷ []) (seen_pool (slots_of store sh) size))
 put-in store new sh h size e k sized room pushed spare =
@@ -166,7 +166,7 @@ pub float-there : (at : Part → List SlotView) (p : Part) (k : ℕ) (f : Float)
 float-there at p k f h e = slot-of_entry (at p) k (entries.Float f) (sym (ap (λ es. slice_get es k) (entries_of-seen p at h)) ∙ e)
 
 -- an entry adds a room to a sum
-pub entry-is_room : (e : Entry) → IsSized e → IsRoom (total_height (float_before e []))
+pub entry-is_room : (e : Entry) → IsSizedEntry e → IsRoom (total_height (float_before e []))
 entry-is_room (entries.Float f) h = let low = h.low in let high = h.high in record { low = omega (arith, ints); high = omega (arith, ints) }
 entry-is_room (entries.Left m) h = record { low = omega (arith, ints); high = omega (arith, ints) }
 entry-is_room (entries.Right m) h = record { low = omega (arith, ints); high = omega (arith, ints) }
@@ -254,9 +254,9 @@ places-set store new sh h size p k s f g stored there is same e spare =
     let u : SlotView = record { entry = entries.Float g; marked = s.marked } in
     let slots = stored.sound.slots p in
     let old = slot-there p k (at p) s slots there in
-    let sized : IsSized s.entry = old.sized in
-    let tall : IsHeight f.height = subst IsSized is sized in
-    let new_slot : IsSlotOf p u = record { sized = subst IsHeight (sym same) tall; float = λ n. refl; unmarked = old.unmarked } in
+    let sized : IsSizedEntry s.entry = old.sized in
+    let tall : IsExtent f.height = subst IsSizedEntry is sized in
+    let new_slot : IsSlotOf p u = record { sized = subst IsExtent (sym same) tall; float = λ n. refl; unmarked = old.unmarked } in
     let sum : total_height (float_before (entries.Float g) []) ≡ total_height (float_before s.entry []) = ap (λ z. z +ℤ pos 0) same ∙ ap (λ d. total_height (float_before d [])) (sym is) in
     let w = rewritten store new sh h size p (slice_set (at p) k u) stored e spare (slots-set p k (at p) u slots new_slot) (length-set (at p) k u) (total-set k (at p) s (entries.Float g) s.marked there sum) in
     record {

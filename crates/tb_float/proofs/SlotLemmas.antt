@@ -11,8 +11,9 @@ use Rattle.tb_float.specs.declared.Entry.{Entry}
 use Rattle.tb_float.specs.declared.Entry.TheVariants as entries
 use Rattle.tb_float.specs.SlotView.{SlotView}
 use Rattle.tb_float.specs.Lists.{has_class, float_before, floats_among, float_entries, without_place}
-use Rattle.tb_float.specs.Ranges.{IsHeight, IsSized}
+use Rattle.tb_float.specs.Ranges.{IsExtent, IsSizedEntry}
 use Rattle.tb_float.specs.Rooms.{total_height}
+use Rattle.tb_float.specs.Spans.{IsSumOf}
 use Rattle.tb_float.specs.Stored.{entries_in, floats_in, marks_in, is_float, holds_notes, holds_marks, IsSlotOf, AreSlotsOf, unmarked_slot}
 
 -- a slot that shows no float of the class is passed
@@ -95,12 +96,7 @@ module _ (p : Part) where
 
 -- ---- sums of heights
 
--- the heights add up to no less than 0 and no more than the greatest dimension each
-pub record IsSumOf (n : ℕ) (z : ℤ) : Type 0 where
-  pub low : pos 0 ≤ℤ z
-  pub high : z ≤ℤ pos (1073741823 * n)
-
-entry-sum : (e : Entry) (n : ℕ) (fs : List Float) → IsSized e → IsSumOf n (total_height fs) → IsSumOf (suc n) (total_height (float_before e fs))
+entry-sum : (e : Entry) (n : ℕ) (fs : List Float) → IsSizedEntry e → IsSumOf n (total_height fs) → IsSumOf (suc n) (total_height (float_before e fs))
 entry-sum (entries.Float f) n fs sized h =
     let low = sized.low in let high = sized.high in
     record { low = omega (arith, ints); high = omega (arith, ints) }

@@ -21,7 +21,7 @@ use Rattle.tb_float.specs.Heights.{height_of, with_height}
 use Rattle.tb_float.specs.Stored.{shelf_of, slots_of, AreShelves, entries_in, floats_in, marks_in, seen_lists, seen_pool, is_float, holds_notes, IsSlotOf, AreSlotsOf, slot_count, AreSound, HasPlaces, IsStored}
 use Rattle.tb_float.proofs.ListLemmas.{map-without_place}
 use Rattle.tb_float.proofs.PartLemmas.{part_cases, put, put-same, put-other}
-use Rattle.tb_float.proofs.SlotLemmas.{floats_in-append, length-floats_in, entries-are_floats, slots-sum, IsSumOf}
+use Rattle.tb_float.proofs.SlotLemmas.{floats_in-append, length-floats_in, entries-are_floats, slots-sum}
 use Rattle.tb_float.proofs.ShelfLemmas.{slots-put, shelves-put}
 
 -- ---- counts

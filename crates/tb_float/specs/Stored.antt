@@ -10,7 +10,7 @@ use Rattle.tb_float.specs.declared.shelves.Shelves.{Shelves}
 use Rattle.tb_float.specs.declared.heights.Heights.{Heights}
 use Rattle.tb_float.specs.Lists.{FloatLists, floats_among}
 use Rattle.tb_float.specs.Pool.{FloatPool}
-use Rattle.tb_float.specs.Ranges.{IsSized}
+use Rattle.tb_float.specs.Ranges.{IsSizedEntry}
 use Rattle.tb_float.specs.Rooms.{total_height}
 use Rattle.tb_float.specs.Heights.{height_of}
 use Rattle.tb_float.specs.SlotView.{SlotView}
@@ -91,7 +91,7 @@ is_float (entries.Right m) = false
 
 -- the slot may stand in the list
 pub record IsSlotOf (p : Part) (s : SlotView) : Type 0 where
-  pub sized : IsSized s.entry
+  pub sized : IsSizedEntry s.entry
   pub float : holds_notes p ≡ false → is_float s.entry ≡ true
   pub unmarked : holds_marks p ≡ false → s.marked ≡ false
 

@@ -76,7 +76,8 @@ impl Heights {
     }
 }
 
-fn sum_of(a: i64, b: i64) -> i64
+// The sum of two rooms.
+pub(crate) fn sum_of(a: i64, b: i64) -> i64
     requires a { IsRoom a }
     requires b { IsRoom b }
     ensures { result ≡ a +ℤ b }
@@ -84,7 +85,8 @@ fn sum_of(a: i64, b: i64) -> i64
     a + b
 }
 
-fn difference_of(a: i64, b: i64) -> i64
+// The difference of two rooms.
+pub(crate) fn difference_of(a: i64, b: i64) -> i64
     requires a { IsRoom a }
     requires b { IsRoom b }
     ensures { result ≡ a -ℤ b }

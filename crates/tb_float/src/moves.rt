@@ -84,7 +84,7 @@ impl Pool {
             list,
             k,
             Slot {
-                entry: Entry::Float(Float { places, ..float }),
+                entry: Entry::Float(with_places(places, float)),
                 marked: slot.marked,
             },
         );
@@ -124,4 +124,11 @@ impl Pool {
         self.heights.lower(Part::Deferred, entry_height(&slot.entry));
         Some(float_in(slot.entry))
     }
+}
+
+// The float with other places.
+fn with_places(places: Places, float: Float) -> Float
+    ensures { result ≡ with_places places float }
+{
+    Float { places, ..float }
 }

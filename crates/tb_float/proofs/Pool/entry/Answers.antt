@@ -3,7 +3,7 @@ use Rattle.std.specs.Option.{option_map}
 use Rattle.std.proofs.lemmas.Option.{slice_get-map}
 use Rattle.tb_pool.specs.Lists.{list_at}
 use Rattle.tb_float.specs.Lists.{entries_of}
-use Rattle.tb_float.specs.Ranges.{IsSized}
+use Rattle.tb_float.specs.Ranges.{IsSizedEntry}
 use Rattle.tb_float.specs.Stored.{slots_of}
 use Rattle.tb_float.proofs.SlotLemmas.{slot-there}
 use Rattle.tb_float.proofs.SoundLemmas.{entries_of-seen}
@@ -18,7 +18,7 @@ returns-in-Some c =
     let seen = ap (λ v. slice_get (entries_of c.args.p v.lists) c.args.k) (sym c.self.view_is) ∙ ap (λ es. slice_get es c.args.k) (entries_of-seen c.args.p at (slots c.args.p)) ∙ slice_get-map (λ s. s.entry) (at c.args.p) c.args.k ∙ ap (option_map (λ s. s.entry)) got in
     record {
       value = sym (seen ∙ ap (λ s. Some s.entry) (sym c.slot.view_is));
-      sized = subst (λ s. IsSized s.entry) (sym c.slot.view_is) (slot-there c.args.p c.args.k (at c.args.p) c.in-Some.slot.now (slots c.args.p) got).sized;
+      sized = subst (λ s. IsSizedEntry s.entry) (sym c.slot.view_is) (slot-there c.args.p c.args.k (at c.args.p) c.in-Some.slot.now (slots c.args.p) got).sized;
     }
 
 pub returns-in-None : goal.returns-in-None

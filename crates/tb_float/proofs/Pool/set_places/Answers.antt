@@ -45,7 +45,7 @@ invariant_of-self c =
     let f = c.float_in-float.result in
     let got : slice_get (at c.args.p) c.args.k ≡ Some s = rw c.of-list.ensures at c.slot_at-slot.ensures in
     let is : s.entry ≡ entries.Float f = ap (λ (r : SlotView). r.entry) (sym c.slot.view_is) ∙ c.float_in-float.ensures in
-    let after = rw c.of-list.ensures at c.replace.ensures.after in
+    let after = rw (c.of-list.ensures, c.with_places.ensures) at c.replace.ensures.after in
     let written = after ∙ ap (λ (r : SlotView). with_list i.store (shelf_of i.shelves c.args.p) (slice_set (at c.args.p) c.args.k (record { entry = entries.Float (with_places c.args.places f); marked = r.marked }))) c.slot.view_is in
     (places-set i.store c.replace.new.self i.shelves i.heights i.size c.args.p c.args.k s f (with_places c.args.places f) c.self.invariant got is refl written c.replace.ensures.spare).stored
 
@@ -57,7 +57,7 @@ returns-clause-set c = λ g e.
     let f = c.float_in-float.result in
     let got : slice_get (at c.args.p) c.args.k ≡ Some s = rw c.of-list.ensures at c.slot_at-slot.ensures in
     let is : s.entry ≡ entries.Float f = ap (λ (r : SlotView). r.entry) (sym c.slot.view_is) ∙ c.float_in-float.ensures in
-    let after = rw c.of-list.ensures at c.replace.ensures.after in
+    let after = rw (c.of-list.ensures, c.with_places.ensures) at c.replace.ensures.after in
     let written = after ∙ ap (λ (r : SlotView). with_list i.store (shelf_of i.shelves c.args.p) (slice_set (at c.args.p) c.args.k (record { entry = entries.Float (with_places c.args.places f); marked = r.marked }))) c.slot.view_is in
     let made = places-set i.store c.replace.new.self i.shelves i.heights i.size c.args.p c.args.k s f (with_places c.args.places f) c.self.invariant got is refl written c.replace.ensures.spare in
     let float = rw (← c.self.view_is) at e in
@@ -72,7 +72,7 @@ returns-clause-unmarked c = λ none.
     let f = c.float_in-float.result in
     let got : slice_get (at c.args.p) c.args.k ≡ Some s = rw c.of-list.ensures at c.slot_at-slot.ensures in
     let is : s.entry ≡ entries.Float f = ap (λ (r : SlotView). r.entry) (sym c.slot.view_is) ∙ c.float_in-float.ensures in
-    let after = rw c.of-list.ensures at c.replace.ensures.after in
+    let after = rw (c.of-list.ensures, c.with_places.ensures) at c.replace.ensures.after in
     let written = after ∙ ap (λ (r : SlotView). with_list i.store (shelf_of i.shelves c.args.p) (slice_set (at c.args.p) c.args.k (record { entry = entries.Float (with_places c.args.places f); marked = r.marked }))) c.slot.view_is in
     let made = places-set i.store c.replace.new.self i.shelves i.heights i.size c.args.p c.args.k s f (with_places c.args.places f) c.self.invariant got is refl written c.replace.ensures.spare in
     ap marked_floats (made.seen ∙ ap (with_float_at c.args.p c.args.k (with_places c.args.places f)) c.self.view_is) ∙ unmarked-with_float_at c.args.p c.args.k (with_places c.args.places f) c.args.self.now none
