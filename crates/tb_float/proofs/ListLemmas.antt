@@ -1,10 +1,9 @@
 -- Lemmas on lists.
-use Rattle.std.proofs.Common.{◌≡◌, ℕ, zero, suc, ◌+◌, ◌-◌, ◌<◌, ◌≤◌, List, [], ◌∷◌, ◌++◌, length, take, drop, map, Some, Option, None, IsSome, unwrap_or, slice_get, refl, sym, ap, ◌∙◌, get_or, add-one, arith}
+use Rattle.std.proofs.Common.{◌≡◌, ℕ, zero, suc, ◌+◌, ◌<◌, ◌≤◌, List, [], ◌∷◌, ◌++◌, length, take, drop, map, Some, Option, None, IsSome, unwrap_or, slice_get, refl, sym, ap, ◌∙◌, get_or, add-one, arith}
 use Rattle.std.proofs.Math.Seq.{drop-cons, take-suc}
 use Rattle.std.proofs.Math.ListN.{drop_of_length-le}
 use Rattle.std.proofs.lemmas.List.{map-append, append_assoc, length-append, length-drop, length-map, length-take-le}
 use Rattle.std.proofs.lemmas.Bool.{true≢false}
-use Rattle.std.proofs.lemmas.Grind.{common_steps}
 use Rattle.tb_float.specs.Lists.{without_place}
 
 module _ {X : Type 0} where

@@ -1,5 +1,5 @@
 -- What each call leaves of the pool.
-use Rattle.std.proofs.Common.{◌≡◌, ◌≢◌, ℕ, ◌+◌, ◌<◌, ◌≤◌, List, [], ◌∷◌, ◌++◌, length, map, drop, replicate, Bool, true, false, Some, slice_get, refl, sym, ap, ◌∙◌, subst, arith}
+use Rattle.std.proofs.Common.{◌≡◌, ◌≢◌, ℕ, ◌+◌, ◌<◌, List, [], ◌∷◌, ◌++◌, length, map, drop, replicate, Bool, true, false, Some, slice_get, refl, sym, ap, ◌∙◌, subst, arith}
 use Rattle.std.specs.Prelude.{ℤ, pos, ◌+ℤ◌, ◌-ℤ◌, slice_set}
 use Rattle.std.proofs.Math.ListN.{length-set}
 use Rattle.std.proofs.lemmas.Int.{ints}
@@ -42,7 +42,7 @@ put-in store new sh h size e k sized room pushed spare =
     let is : IsSlotOf parts.Current s = record { sized = sized; float = λ n. cc; unmarked = λ n. refl } in
     let slots = slots-append parts.Current (at parts.Current) (s ∷ []) (k.sound.slots parts.Current) (is, tt) in
     let sum : height_of h parts.Current +ℤ total_height (float_before e []) ≡ total_height (floats_in (at parts.Current ++ s ∷ [])) =
-        ap (λ z. z +ℤ total_height (float_before e [])) (k.sound.heights_are parts.Current) ∙ sym (ap total_height (floats_in-append (at parts.Current) (s ∷ [])) ∙ total_height-append (floats_in (at parts.Current)) (float_before e [])) in
+    ap (λ z. z +ℤ total_height (float_before e [])) (k.sound.heights_are parts.Current) ∙ sym (ap total_height (floats_in-append (at parts.Current) (s ∷ [])) ∙ total_height-append (floats_in (at parts.Current)) (float_before e [])) in
     let live = live_count-seen at k.sound.slots in
     let longer = length-append (at parts.Current) (s ∷ []) in
     let w = written store new sh h size parts.Current (at parts.Current ++ s ∷ []) (height_of h parts.Current +ℤ total_height (float_before e [])) k pushed slots sum (omega arith) (omega arith) in
@@ -60,7 +60,7 @@ pub moved-to : (store new : Lists SlotView) (sh : Shelves) (h : Heights) (size :
     → slice_get (slots_of store sh from) k ≡ Some s → is_float s.entry ≡ true
     → new.lists ≡ insert (with_list store (shelf_of sh from) (without_place k (slots_of store sh from))) (shelf_of sh to) (slots_of store sh to ++ unmarked_slot s ∷ []) → new.spare ≡ store.spare
     → IsPool new sh (with_height to (height_of (with_height from (height_of h from -ℤ total_height (float_before s.entry [])) h) to +ℤ total_height (float_before s.entry [])) (with_height from (height_of h from -ℤ total_height (float_before s.entry [])) h)) size
-      (with_floats_after to (float_before s.entry []) (without_entry from k (seen_pool (slots_of store sh) size)))
+    (with_floats_after to (float_before s.entry []) (without_entry from k (seen_pool (slots_of store sh) size)))
 moved-to store new sh h size from to k s stored apart there is e spare =
     let at = slots_of store sh in
     let xs = without_place k (at from) in
@@ -79,7 +79,7 @@ moved-to store new sh h size from to k s stored apart there is e spare =
     let slots2 = slots-append to (at to) (u ∷ []) (stored.sound.slots to) (bare-slot from to s (slot-there from k (at from) s (stored.sound.slots from) there) is, tt) in
     let sum_to : height_of h1 to ≡ total_height (floats_in (at to)) = w1.stored.sound.heights_are to ∙ ap (λ ss. total_height (floats_in ss)) to_at in
     let sum2 : height_of h1 to +ℤ z ≡ total_height (floats_in ys) =
-        ap (λ w. w +ℤ z) sum_to ∙ sym (ap total_height (floats_in-append (at to) (u ∷ [])) ∙ total_height-append (floats_in (at to)) (float_before s.entry [])) in
+    ap (λ w. w +ℤ z) sum_to ∙ sym (ap total_height (floats_in-append (at to) (u ∷ [])) ∙ total_height-append (floats_in (at to)) (float_before s.entry [])) in
     let counted = ap slot_count w1.slots in
     let counted1 = count-put from at xs in
     let longer = length-append (at to) (u ∷ []) in
@@ -89,15 +89,15 @@ moved-to store new sh h size from to k s stored apart there is e spare =
     record {
       stored = w2.stored;
       seen = ap (λ a. seen_pool a size) after
-        ∙ seen-after to at1 (u ∷ []) size (entries-bare (u ∷ []) (is, refl, tt)) (marks-bare (u ∷ []) (is, refl, tt))
-        ∙ ap (with_floats_after to (float_before s.entry [])) (seen-without from at k size (stored.sound.slots from));
+          ∙ seen-after to at1 (u ∷ []) size (entries-bare (u ∷ []) (is, refl, tt)) (marks-bare (u ∷ []) (is, refl, tt))
+          ∙ ap (with_floats_after to (float_before s.entry [])) (seen-without from at k size (stored.sound.slots from));
     }
 
 -- all floats of a list went before those of another
 pub joined-front : (store new : Lists SlotView) (sh : Shelves) (h : Heights) (size : ℕ) (from to : Part) → IsStored store sh h size → from ≢ to → AreBare (slots_of store sh from)
     → new.lists ≡ insert (with_list store (shelf_of sh from) []) (shelf_of sh to) (slots_of store sh from ++ slots_of store sh to) → new.spare ≡ store.spare
     → IsPool new sh (with_height to (height_of (with_height from (height_of h from -ℤ height_of h from) h) to +ℤ height_of h from) (with_height from (height_of h from -ℤ height_of h from) h)) size
-      (with_floats_before to (floats_in (slots_of store sh from)) (without_entries from (seen_pool (slots_of store sh) size)))
+    (with_floats_before to (floats_in (slots_of store sh from)) (without_entries from (seen_pool (slots_of store sh) size)))
 joined-front store new sh h size from to stored apart bare e spare =
     let at = slots_of store sh in
     let z = height_of h from in
@@ -121,8 +121,8 @@ joined-front store new sh h size from to stored apart bare e spare =
     record {
       stored = w2.stored;
       seen = ap (λ a. seen_pool a size) after
-        ∙ seen-before to at1 (at from) size (entries-bare (at from) bare) (marks-bare (at from) bare)
-        ∙ ap (with_floats_before to (floats_in (at from))) (seen-emptied from at size);
+          ∙ seen-before to at1 (at from) size (entries-bare (at from) bare) (marks-bare (at from) bare)
+          ∙ ap (with_floats_before to (floats_in (at from))) (seen-emptied from at size);
     }
 
 -- the entry at a place has left the pool
@@ -224,7 +224,7 @@ pub bare-list : (p : Part) (at : Part → List SlotView) (n : ℕ) (v : FloatPoo
 bare-list p at n v h seen floats =
     let lists : seen_lists at ≡ v.lists = ap (λ w. w.lists) seen ∙ lists-without_marks p v in
     let ents : entries_in (at p) ≡ float_entries (floats_in (at p)) =
-        sym (entries_of-seen p at h) ∙ ap (entries_of p) lists ∙ floats ∙ ap (λ l. float_entries (floats_of p l)) (sym lists) ∙ ap float_entries (floats_of-seen p at) in
+    sym (entries_of-seen p at h) ∙ ap (entries_of p) lists ∙ floats ∙ ap (λ l. float_entries (floats_of p l)) (sym lists) ∙ ap float_entries (floats_of-seen p at) in
     bare-shown (at p) ents (marks-gone p at n v h seen)
 
 pub unmarked-store : (store new : Lists SlotView) (sh : Shelves) (h : Heights) (size : ℕ) → IsStored store sh h size

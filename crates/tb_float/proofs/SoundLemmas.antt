@@ -1,10 +1,10 @@
 -- The pool's lists, sums and places through a change of one list.
-use Rattle.std.proofs.Common.{◌≡◌, ◌≢◌, ◌⊎◌, inl, inr, ℕ, zero, suc, ◌+◌, ◌*◌, ◌<◌, ◌≤◌, Bool, true, false, List, [], ◌∷◌, ◌++◌, length, take, map, Some, slice_get, replicate, unwrap_or, refl, sym, ap, ◌∙◌, subst, arith}
-use Rattle.std.specs.Prelude.{ℤ, pos, ◌+ℤ◌, ◌-ℤ◌, ◌≤ℤ◌, slice_set}
+use Rattle.std.proofs.Common.{◌≡◌, ◌≢◌, inl, inr, ℕ, zero, suc, ◌+◌, ◌≤◌, Bool, true, false, List, [], ◌∷◌, ◌++◌, length, take, map, Some, slice_get, replicate, unwrap_or, refl, sym, ap, ◌∙◌, subst, arith}
+use Rattle.std.specs.Prelude.{ℤ, pos, slice_set}
 use Rattle.std.proofs.lemmas.Int.{ints}
 use Rattle.std.proofs.lemmas.List.{map-append, length-map}
 use Rattle.std.specs.FinMap.{get}
-use Rattle.tb_pool.specs.Lists.{Lists, IsLive, list_at, with_list}
+use Rattle.tb_pool.specs.Lists.{Lists, with_list}
 use Rattle.tb_node.specs.declared.Float.{Float}
 use Rattle.tb_float.specs.declared.Part.{Part}
 use Rattle.tb_float.specs.declared.Part.TheVariants as parts
@@ -13,12 +13,12 @@ use Rattle.tb_float.specs.declared.Entry.TheVariants as entries
 use Rattle.tb_float.specs.declared.shelves.Shelves.{Shelves}
 use Rattle.tb_float.specs.declared.heights.Heights.{Heights}
 use Rattle.tb_float.specs.SlotView.{SlotView}
-use Rattle.tb_float.specs.Lists.{FloatLists, live_count, entry_count, entries_of, floats_of, float_entries, float_before, floats_among, without_place}
-use Rattle.tb_float.specs.Pool.{with_current, without_entry, with_floats_after, with_floats_before, without_entries, with_float_at}
+use Rattle.tb_float.specs.Lists.{live_count, entry_count, entries_of, floats_of, float_entries, float_before, without_place}
+use Rattle.tb_float.specs.Pool.{without_entry, with_floats_after, with_floats_before, without_entries, with_float_at}
 use Rattle.tb_float.specs.Ranges.{IsRoom}
 use Rattle.tb_float.specs.Rooms.{total_height}
 use Rattle.tb_float.specs.Heights.{height_of, with_height}
-use Rattle.tb_float.specs.Stored.{shelf_of, slots_of, AreShelves, entries_in, floats_in, marks_in, seen_lists, seen_pool, is_float, holds_notes, IsSlotOf, AreSlotsOf, slot_count, AreSound, HasPlaces, IsStored}
+use Rattle.tb_float.specs.Stored.{shelf_of, slots_of, AreShelves, entries_in, floats_in, marks_in, seen_lists, seen_pool, is_float, holds_notes, AreSlotsOf, slot_count, AreSound, HasPlaces, IsStored}
 use Rattle.tb_float.proofs.ListLemmas.{map-without_place}
 use Rattle.tb_float.proofs.PartLemmas.{part_cases, put, put-same, put-other}
 use Rattle.tb_float.proofs.SlotLemmas.{floats_in-append, length-floats_in, entries-are_floats, slots-sum}

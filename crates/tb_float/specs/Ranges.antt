@@ -1,7 +1,6 @@
 -- The ranges of what the float calls are given, and of what they answer.
 use Rattle.std.specs.Prelude.{ℕ, ℤ, pos, neg_ℤ, ◌≤ℤ◌}
 pub use Rattle.tb_node.specs.Fit.{IsDimension, IsExtent}
-use Rattle.tb_node.specs.declared.Float.{Float}
 use Rattle.tb_node.specs.declared.Margin.{Margin}
 use Rattle.tb_param.specs.declared.Params.{Params}
 use Rattle.tb_float.specs.declared.Entry.{Entry}

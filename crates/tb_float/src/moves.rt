@@ -4,7 +4,9 @@ ghost use Rattle.tb_node.specs.declared.Float.{Float};
 ghost use Rattle.tb_float.specs.Lists.{entries_of, floats_of, entry_count, HasFloatAt, float_entries};
 ghost use Rattle.tb_float.specs.Pool.{moved_float, joined_before, with_places, with_float_at, with_mark, without_entry, without_marks, marked_floats, unmarked_floats, first_marked};
 
-use crate::slots::{entry_height, first_marked, float_in, move_slot, slot_at, take_slot, unmark_all};
+use crate::slots::{
+    entry_height, first_marked, float_in, move_slot, slot_at, take_slot, unmark_all,
+};
 use crate::{Entry, Part, Pool, Slot};
 use tb_node::{Float, Places};
 
@@ -121,7 +123,8 @@ impl Pool {
             return None;
         }
         let slot = take_slot(&mut self.store, list, k, self.shelves.one);
-        self.heights.lower(Part::Deferred, entry_height(&slot.entry));
+        self.heights
+            .lower(Part::Deferred, entry_height(&slot.entry));
         Some(float_in(slot.entry))
     }
 }

@@ -125,7 +125,11 @@ fn plain_count_after(number: i64, used: usize, suppressed: bool) -> i64
     requires used { used ≤ 16384 }
     ensures { result ≡ plain_count_after number used suppressed }
 {
-    if suppressed { 0 } else { (number - used as i64).max(0) }
+    if suppressed {
+        0
+    } else {
+        (number - used as i64).max(0)
+    }
 }
 
 // A share of an amount.

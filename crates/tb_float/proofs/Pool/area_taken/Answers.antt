@@ -1,8 +1,7 @@
-use Rattle.std.proofs.Common.{◌≡◌, length, refl, ap, ◌∙◌, sym, subst, FitsSigned, w64, rules, arith}
+use Rattle.std.proofs.Common.{◌≡◌, length, ap, ◌∙◌, sym, FitsSigned, w64, rules}
 use Rattle.std.proofs.lemmas.Int.{to_z-of_z}
 use Rattle.tb_float.specs.Lists.{floats_of, entry_count}
 use Rattle.tb_float.specs.Rooms.{total_height}
-use Rattle.tb_float.specs.Spans.{IsSumOf}
 use Rattle.tb_float.specs.Stored.{slots_of, floats_in}
 use Rattle.tb_float.proofs.SlotLemmas.{slots-sum, length-floats_in}
 use Rattle.tb_float.proofs.SoundLemmas.{entry_count-seen, floats_of-seen}

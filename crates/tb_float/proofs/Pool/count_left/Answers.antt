@@ -1,6 +1,6 @@
-use Rattle.std.proofs.Common.{◌≡◌, ◌+◌, length, false, refl, ap, ◌∙◌, sym, FitsSigned, w64, rules, arith}
+use Rattle.std.proofs.Common.{◌≡◌, ◌+◌, length, false, ap, ◌∙◌, FitsSigned, w64, rules, arith}
 use Rattle.std.proofs.lemmas.Int.{to_z-of_z}
-use Rattle.tb_float.specs.Rooms.{count_left_of, count_after}
+use Rattle.tb_float.specs.Rooms.{count_after}
 use Rattle.tb_float.proofs.Pool.count_left.Goals as goal
 
 pub returns-in-Total : goal.returns-in-Total

@@ -1,10 +1,7 @@
-use Rattle.std.proofs.Common.{◌≡◌, ◌≢◌, [], ◌++◌, refl, sym, ap, ◌∙◌, subst, FitsSigned, w64, rules, arith}
+use Rattle.std.proofs.Common.{sym, ap, ◌∙◌, subst, FitsSigned, w64, rules}
 use Rattle.std.proofs.lemmas.Int.{to_z-of_z}
-use Rattle.std.specs.FinMap.{insert}
-use Rattle.tb_pool.specs.Lists.{list_at, with_list}
-use Rattle.tb_pool.proofs.MapLemmas.{list_steps}
 use Rattle.tb_float.specs.declared.heights.Heights.{Heights}
-use Rattle.tb_float.specs.Pool.{marked_floats, without_marks, joined_before, with_floats_before, without_entries}
+use Rattle.tb_float.specs.Pool.{marked_floats, joined_before, with_floats_before, without_entries}
 use Rattle.tb_float.specs.Ranges.{IsRoom}
 use Rattle.tb_float.specs.Heights.{height_of}
 use Rattle.tb_float.specs.Stored.{slots_of, shelf_of, seen_pool, IsStored}

@@ -1,4 +1,4 @@
-use Rattle.std.proofs.Common.{◌≡◌, ◌<◌, length, sym, ap, ◌∙◌, subst, refl, arith}
+use Rattle.std.proofs.Common.{length, ap, ◌∙◌, refl, arith}
 use Rattle.std.specs.Prelude.{slice_set, true}
 use Rattle.tb_pool.specs.Lists.{list_at, with_list}
 use Rattle.tb_float.specs.SlotView.{SlotView}

@@ -1,11 +1,10 @@
-use Rattle.std.proofs.Common.{◌≡◌, ◌≢◌, [], ◌∷◌, Some, slice_get, true, refl, sym, ap, ◌∙◌, subst, FitsSigned, w64, rules, arith}
+use Rattle.std.proofs.Common.{◌≡◌, [], Some, slice_get, sym, ap, ◌∙◌, subst, FitsSigned, w64, rules}
 use Rattle.std.proofs.lemmas.Int.{to_z-of_z}
-use Rattle.std.proofs.lemmas.Option.{same_Some, slice_get_within}
+use Rattle.std.proofs.lemmas.Option.{slice_get_within}
 use Rattle.tb_pool.specs.Lists.{list_at}
-use Rattle.tb_float.specs.declared.Entry.TheVariants as entries
 use Rattle.tb_float.specs.declared.Part.TheVariants as parts
 use Rattle.tb_float.specs.declared.heights.Heights.{Heights}
-use Rattle.tb_float.specs.Lists.{entries_of, float_before}
+use Rattle.tb_float.specs.Lists.{float_before}
 use Rattle.tb_float.specs.Pool.{marked_floats, moved_float, with_floats_after, without_entry}
 use Rattle.tb_float.specs.Ranges.{IsRoom}
 use Rattle.tb_float.specs.Rooms.{total_height}

@@ -1,4 +1,4 @@
-use Rattle.std.proofs.Common.{◌≡◌, ◌<◌, ◌≤◌, ◌+◌, [], ◌∷◌, sym, ap, ◌∙◌, subst, FitsSigned, w64, rules, arith}
+use Rattle.std.proofs.Common.{◌<◌, [], ◌∷◌, sym, ap, ◌∙◌, subst, FitsSigned, w64, rules, arith}
 use Rattle.std.specs.Prelude.{◌+ℤ◌}
 use Rattle.std.proofs.lemmas.Int.{to_z-of_z}
 use Rattle.tb_float.specs.declared.Part.TheVariants as parts
@@ -6,7 +6,7 @@ use Rattle.tb_float.specs.declared.heights.Heights.{Heights}
 use Rattle.tb_float.specs.Lists.{live_count}
 use Rattle.tb_float.specs.Pool.{with_current}
 use Rattle.tb_float.specs.Heights.{height_of, with_height}
-use Rattle.tb_float.specs.Stored.{slots_of, seen_lists, slot_count, IsStored}
+use Rattle.tb_float.specs.Stored.{slots_of, seen_lists, IsStored}
 use Rattle.tb_float.proofs.SoundLemmas.{sums-are_rooms, live_count-seen}
 use Rattle.tb_float.proofs.PoolLemmas.{put-in}
 use Rattle.tb_float.proofs.Pool.put.Goals as goal

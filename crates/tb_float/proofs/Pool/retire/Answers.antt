@@ -3,14 +3,14 @@ use Rattle.std.specs.Prelude.{◌-ℤ◌}
 use Rattle.std.specs.Option.{option_map}
 use Rattle.std.proofs.lemmas.Int.{to_z-of_z}
 use Rattle.std.proofs.lemmas.Option.{slice_get-map}
-use Rattle.tb_pool.specs.Lists.{list_at, with_list}
+use Rattle.tb_pool.specs.Lists.{with_list}
 use Rattle.tb_float.specs.declared.heights.Heights.{Heights}
 use Rattle.tb_float.specs.Lists.{entries_of, entry_count, float_before}
 use Rattle.tb_float.specs.Pool.{marked_floats, without_entry}
 use Rattle.tb_float.specs.Ranges.{IsRoom}
 use Rattle.tb_float.specs.Rooms.{total_height}
 use Rattle.tb_float.specs.Heights.{height_of, with_height}
-use Rattle.tb_float.specs.Stored.{slots_of, shelf_of, seen_pool, IsStored}
+use Rattle.tb_float.specs.Stored.{slots_of, shelf_of, IsStored}
 use Rattle.tb_float.proofs.SlotLemmas.{slot-there}
 use Rattle.tb_float.proofs.SoundLemmas.{sums-are_rooms, entries_of-seen, entry_count-seen}
 use Rattle.tb_float.proofs.PoolLemmas.{taken-out, entry-is_room, without-first}

@@ -1,4 +1,4 @@
-use Rattle.std.proofs.Common.{◌≡◌, ◌<◌, ◌≤◌, [], ◌∷◌, Some, slice_get, length, true, refl, sym, ap, ◌∙◌, subst, FitsSigned, w64, rules, arith}
+use Rattle.std.proofs.Common.{◌≡◌, [], ◌∷◌, slice_get, refl, sym, ap, ◌∙◌, subst, FitsSigned, w64, rules, arith}
 use Rattle.std.specs.Prelude.{◌-ℤ◌}
 use Rattle.std.proofs.lemmas.Int.{to_z-of_z}
 use Rattle.std.proofs.lemmas.List.{length-map}
@@ -6,13 +6,13 @@ use Rattle.tb_float.specs.declared.Part.TheVariants as parts
 use Rattle.tb_float.specs.declared.Entry.TheVariants as entries
 use Rattle.tb_float.specs.declared.heights.Heights.{Heights}
 use Rattle.tb_float.specs.SlotView.{SlotView}
-use Rattle.tb_float.specs.Lists.{float_before, without_place}
+use Rattle.tb_float.specs.Lists.{float_before}
 use Rattle.tb_float.specs.Pool.{marked_floats, unmarked_floats, first_marked, without_entry}
 use Rattle.tb_float.specs.Ranges.{IsRoom}
 use Rattle.tb_float.specs.Rooms.{total_height}
 use Rattle.tb_float.specs.Heights.{height_of, with_height}
 use Rattle.tb_float.specs.Stored.{slots_of, seen_pool, floats_in, marks_in, is_float, IsStored}
-use Rattle.tb_float.proofs.SlotLemmas.{slot-there, length-floats_in, float-at_slot}
+use Rattle.tb_float.proofs.SlotLemmas.{slot-there, float-at_slot}
 use Rattle.tb_float.proofs.SoundLemmas.{sums-are_rooms}
 use Rattle.tb_float.proofs.PoolLemmas.{taken-out, entry-is_room, marks-shown}
 use Rattle.tb_float.proofs.MarkLemmas.{first-marked, none-marked, first_marked-le}

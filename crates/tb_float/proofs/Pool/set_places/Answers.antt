@@ -1,11 +1,10 @@
-use Rattle.std.proofs.Common.{◌≡◌, ◌<◌, [], Some, slice_get, length, true, refl, sym, ap, ◌∙◌, subst, arith}
+use Rattle.std.proofs.Common.{◌≡◌, Some, slice_get, refl, sym, ap, ◌∙◌}
 use Rattle.std.specs.Prelude.{slice_set}
-use Rattle.std.proofs.lemmas.Option.{slice_get_within, same_Some}
-use Rattle.tb_pool.specs.Lists.{list_at, with_list}
+use Rattle.std.proofs.lemmas.Option.{slice_get_within}
+use Rattle.tb_pool.specs.Lists.{with_list}
 use Rattle.tb_node.specs.declared.Float.{Float}
 use Rattle.tb_float.specs.declared.Entry.TheVariants as entries
 use Rattle.tb_float.specs.SlotView.{SlotView}
-use Rattle.tb_float.specs.Lists.{entries_of}
 use Rattle.tb_float.specs.Pool.{marked_floats, with_float_at, with_places}
 use Rattle.tb_float.specs.Stored.{slots_of, shelf_of, is_float}
 use Rattle.tb_float.proofs.PoolLemmas.{float-there, float-is, places-set, same-float}

@@ -1,12 +1,11 @@
-use Rattle.std.proofs.Common.{◌≡◌, ◌*◌, length, refl, ap, ◌∙◌, sym, subst, FitsSigned, w64, rules, arith}
-use Rattle.std.specs.Prelude.{◌≤ℤ◌, ◌+ℤ◌, ◌*ℤ◌, pos}
+use Rattle.std.proofs.Common.{◌≡◌, ◌*◌, length, refl, ap, ◌∙◌, sym, FitsSigned, w64, rules, arith}
+use Rattle.std.specs.Prelude.{◌*ℤ◌, pos}
 use Rattle.std.proofs.lemmas.Int.{ints, to_z-of_z}
 use Rattle.tb_float.specs.declared.Part.TheVariants as parts
-use Rattle.tb_float.specs.Lists.{floats_of, entry_count}
 use Rattle.tb_float.specs.Rooms.{total_height, text_float_room}
 use Rattle.tb_float.specs.Stored.{slots_of, floats_in}
 use Rattle.tb_float.proofs.SlotLemmas.{slots-sum, length-floats_in}
-use Rattle.tb_float.proofs.SoundLemmas.{entry_count-seen, sums-are_rooms}
+use Rattle.tb_float.proofs.SoundLemmas.{sums-are_rooms}
 use Rattle.tb_float.proofs.RoomLemmas.{text_float_room-sum}
 use Rattle.tb_float.proofs.Pool.text_room.Goals as goal
 

@@ -1,4 +1,4 @@
-use Rattle.std.proofs.Common.{◌∙◌, sym, subst, FitsSigned, w64, rules}
+use Rattle.std.proofs.Common.{sym, subst, FitsSigned, w64, rules}
 use Rattle.std.proofs.lemmas.Int.{to_z-of_z}
 use Rattle.tb_float.specs.Ranges.{IsWithin}
 use Rattle.tb_float.proofs.RoomLemmas.{fraction-within}

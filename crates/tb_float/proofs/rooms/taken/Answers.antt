@@ -1,7 +1,5 @@
-use Rattle.std.proofs.Common.{◌≡◌, suc, ◌-◌, length, FitsSigned, w64, rules, arith}
-use Rattle.std.specs.Prelude.{◌+ℤ◌, ◌*ℤ◌, ◌≤ℤ◌, pos}
+use Rattle.std.proofs.Common.{◌-◌, FitsSigned, w64, rules, arith}
 use Rattle.std.proofs.lemmas.Int.{ints, to_z-of_z}
-use Rattle.tb_float.specs.Ranges.{IsWithin}
 use Rattle.tb_float.proofs.RoomLemmas.{floats_room-sum}
 use Rattle.tb_float.proofs.rooms.taken.Goals as goal
 

@@ -1,4 +1,3 @@
-use Rattle.std.proofs.Common.{[], ◌∷◌}
 use Rattle.tb_float.proofs.ShelfLemmas.{opened-none, opened-one, shelves-opened, shelves-empty}
 use Rattle.tb_float.proofs.shelves.open_shelves.Goals as goal
 

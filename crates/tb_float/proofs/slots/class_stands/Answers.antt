@@ -1,4 +1,4 @@
-use Rattle.std.proofs.Common.{◌≡◌, ap, sym, ◌∙◌}
+use Rattle.std.proofs.Common.{ap, sym, ◌∙◌}
 use Rattle.std.proofs.Common.{take, []}
 use Rattle.tb_float.specs.Lists.{has_class, float_before}
 use Rattle.tb_float.specs.Stored.{floats_in}

@@ -1,4 +1,4 @@
-use Rattle.std.proofs.Common.{◌≡◌, ◌+◌, ◌≤◌, length}
+use Rattle.std.proofs.Common.{◌≡◌, ◌+◌, length}
 use Rattle.tb_pool.specs.Lists.{list_at}
 use Rattle.tb_float.specs.Pool.{first_marked}
 use Rattle.tb_float.specs.Stored.{marks_in}

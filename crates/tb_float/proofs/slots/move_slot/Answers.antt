@@ -1,4 +1,4 @@
-use Rattle.std.proofs.Common.{◌≡◌, ◌+◌, ◌<◌, ◌≤◌, length, take, drop, arith, ap, length-drop}
+use Rattle.std.proofs.Common.{◌≡◌, length, take, drop, arith, ap, length-drop}
 use Rattle.tb_pool.specs.Lists.{list_at}
 use Rattle.tb_pool.proofs.MapLemmas.{list_steps}
 use Rattle.tb_float.specs.Stored.{unmarked_slot}

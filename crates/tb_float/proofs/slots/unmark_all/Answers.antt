@@ -1,5 +1,4 @@
-use Rattle.std.proofs.Common.{◌≡◌, ◌+◌, ◌<◌, ◌≤◌, ◌∷◌, ◌++◌, [], length, drop, take, map, Some, arith, sym, ap, ◌∙◌}
-use Rattle.std.specs.FinMap.{get}
+use Rattle.std.proofs.Common.{◌≡◌, ◌∷◌, ◌++◌, [], length, drop, Some, arith, ap, ◌∙◌}
 use Rattle.tb_pool.specs.Lists.{list_at}
 use Rattle.tb_pool.proofs.MapLemmas.{list_steps, insert_from_get}
 use Rattle.tb_float.specs.Stored.{unmarked_slot}

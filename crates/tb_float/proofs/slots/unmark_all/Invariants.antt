@@ -1,4 +1,4 @@
-use Rattle.std.proofs.Common.{◌≡◌, ◌≢◌, ℕ, ◌++◌, ◌-◌, map, length, take, drop}
+use Rattle.std.proofs.Common.{◌≡◌, ◌≢◌, ℕ, ◌++◌, map, take, drop}
 use Rattle.std.specs.FinMap.{get}
 use Rattle.tb_pool.specs.Lists.{IsLive, list_at}
 use Rattle.tb_float.specs.Stored.{unmarked_slot}
