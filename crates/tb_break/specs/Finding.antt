@@ -18,6 +18,7 @@ penalty_by lasting glue_next (kern w) = if glue_next then Some (pos 0) else None
 penalty_by lasting glue_next (penalty p) = if int_lt p inf_penalty then Some p else None
 penalty_by lasting glue_next other = None
 
+-- the node is glue
 abbrev pub is_glue : Shape → Bool
 is_glue (box h d) = false
 is_glue (glue g) = true
@@ -25,6 +26,7 @@ is_glue (kern w) = false
 is_glue (penalty p) = false
 is_glue other = false
 
+-- what stands at the place before a node
 abbrev pub kind_of_shape : Shape → PlaceKind
 kind_of_shape (box h d) = Last
 kind_of_shape (glue g) = Skip
@@ -36,18 +38,21 @@ kind_of_shape other = Last
 abbrev pub scan_place : Scanned → ℕ → ℤ → ℤ → Breakpoint
 scan_place s index height p = breakpoint_at index s.sums height p (pos 0)
 
+-- what `find` answers for a place at which a node of this kind stands
 abbrev pub found_of : PlaceKind → Breakpoint → Found
 found_of kind b = record { index = b.place; kind = kind; penalty = b.penalty; size = b.sums.total +ℤ b.sums.depth; cost = b.cost }
 
--- the scan, the best so far and whether the search stops, after the place where it is legal
+-- the scan after the place, where it is legal, was offered
 abbrev pub scan_after : Scanned → ℕ → ℤ → Option ℤ → Scanned
 scan_after s index height None = s
 scan_after s index height (Some p) = record s { best = better_best s.best (scan_place s index height p) }
 
+-- the best so far after the place: the place itself where it costs no more than the least so far
 abbrev pub found_after : Scanned → Found → ℕ → ℤ → PlaceKind → Option ℤ → Found
 found_after s f index height kind None = f
 found_after s f index height kind (Some p) = if int_le (scan_place s index height p).cost (least_so_far s.best) then found_of kind (scan_place s index height p) else f
 
+-- the search stops at the place
 abbrev pub stops_after : Scanned → ℕ → ℤ → Option ℤ → Bool
 stops_after s index height None = false
 stops_after s index height (Some p) = is_stop (scan_place s index height p)

@@ -40,6 +40,7 @@ turned_at (kern w) n ns = ns
 turned_at (penalty p) n ns = ns
 turned_at other n ns = ns ++ n ∷ []
 
+-- the list after its first node, where it has one, was looked at
 abbrev pub turned : List Node → List Node
 turned [] = []
 turned (n ∷ ns) = turned_at (shape_of n) n ns
@@ -52,6 +53,7 @@ moved_at (kern w) = Some 0
 moved_at (penalty p) = Some 0
 moved_at other = Some 1
 
+-- the same for the first node of a list
 abbrev pub moved : List Node → Option ℕ
 moved [] = None
 moved (n ∷ ns) = moved_at (shape_of n)
@@ -64,6 +66,7 @@ top_at top_skip (kern w) n = None
 top_at top_skip (penalty p) n = None
 top_at top_skip other n = None
 
+-- the list with one node more in front, where there is one
 abbrev pub with_front : Option Node → List Node → List Node
 with_front None ns = ns
 with_front (Some n) ns = n ∷ ns

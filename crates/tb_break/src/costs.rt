@@ -5,9 +5,8 @@ ghost use Rattle.tb_scaled.specs.Scaled.{awful_bad};
 ghost use Rattle.tb_node.specs.Small.{IsAmount};
 ghost use Rattle.tb_break.specs.Cost.{stretches_infinitely, finite_stretch, page_badness, cost_of_badness, cost_of};
 
-use crate::{AWFUL_BAD, DEPLORABLE, EJECT_PENALTY, INF_BAD};
 use tb_node::Sums;
-use tb_scaled::badness;
+use tb_scaled::{AWFUL_BAD, DEPLORABLE, EJECT_PENALTY, INF_BAD, badness};
 
 /// The badness and the cost of a break after nodes with these sums, for a goal in sp, at a penalty, and with the
 /// penalties of the insertions (TeX: The Program §974, §1005).

@@ -9,9 +9,10 @@ ghost use Rattle.tb_node.specs.Small.{IsAmount, IsSmallShape};
 ghost use Rattle.tb_break.specs.Legal.{ends_lasting, begins_with_glue, legal_at};
 ghost use Rattle.tb_break.specs.Finding.{shapes, penalty_by, is_glue, kind_of_shape};
 
-use crate::{EJECT_PENALTY, INF_PENALTY, PlaceKind};
+use crate::PlaceKind;
 use tb_node::{Kind, Node};
 use tb_pool::{ListId, Lists};
+use tb_scaled::{EJECT_PENALTY, INF_PENALTY};
 
 /// The penalty of the place after the first `index` nodes of a list, where it is legal; the list's end counts as it
 /// does in a split. None exactly where the list may not be broken, or has no such place.
@@ -87,6 +88,7 @@ pub fn place_penalty(n: &Node, lasting: bool, glue_next: bool) -> Option<i64>
     penalty_before(n, lasting, glue_next)
 }
 
+// The same, and no amount of the node need be small.
 fn penalty_before(n: &Node, lasting: bool, glue_next: bool) -> Option<i64>
     ensures { result ≡ penalty_by lasting glue_next (shape_of n.now) }
 {
@@ -104,6 +106,7 @@ fn penalty_before(n: &Node, lasting: bool, glue_next: bool) -> Option<i64>
     }
 }
 
+// No penalty, where the place is legal.
 fn zero_if(test: bool) -> Option<i64>
     ensures { result ≡ (if test then Some (pos 0) else None) }
 {

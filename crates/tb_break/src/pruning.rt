@@ -1,4 +1,4 @@
-//! The top of a page: what vanishes there, and the glue before the first box.
+//! The top of a page: what vanishes there, and the glue before the first box (TeX: The Program §968).
 
 ghost use Rattle.std.specs.Prelude.{◌≡◌, ◌<◌, ◌≤◌, ◌+◌, ◌-ℤ◌, ℕ, List, [], ◌∷◌, ◌++◌, pos, length, Some, None, false};
 ghost use Rattle.tb_scaled.specs.Scaled.{max_ℤ};
@@ -17,7 +17,9 @@ use tb_node::{Kind, Node};
 use tb_pool::{ListId, Lists};
 use tb_scaled::fixed;
 
-/// Prunes a list for the top of a page.
+/// Prunes a list for the top of a page (TeX: The Program §968): glue, kerns and penalties before the first box or rule
+/// vanish, other nodes there stay, and directly before that box or rule comes glue that fills what its height lacks of
+/// the top skip, in sp, with its line. No other list changes, and at most one place more is taken.
 pub fn prune(store: &mut Lists<Node>, l: ListId, top_skip: i64)
     requires live { IsLive store.old l }
     requires room { 0 < store.old.spare }
@@ -32,7 +34,8 @@ pub fn prune(store: &mut Lists<Node>, l: ListId, top_skip: i64)
     bring_back(store, l, kept);
 }
 
-// Takes off what stands before the first box or rule; what does not vanish goes to the list's end. Answers how much.
+// Takes off what stands before the first box or rule; what does not vanish waits at the list's end. Answers how many
+// nodes those are.
 fn set_aside(store: &mut Lists<Node>, l: ListId) -> usize
     requires { IsLive store.old l }
     ensures turned { store.new.lists ≡ with_list store.old l (from_box (list_at store.old l) ++ before_box (list_at store.old l)) }
@@ -82,6 +85,7 @@ fn keep(store: &mut Lists<Node>, l: ListId, n: Node) -> usize
     0
 }
 
+// The node is a box or rule.
 fn is_box(n: &Node) -> bool
     ensures { result ≡ is_box (shape_of n.now) }
 {
@@ -126,6 +130,7 @@ fn top_node(n: &Node, top_skip: i64) -> Option<Node>
     }
 }
 
+// What a box of this height lacks of the top skip.
 fn room_above(top_skip: i64, height: i64) -> i64
     requires top_skip { IsAmount top_skip }
     requires height { IsAmount height }
@@ -138,6 +143,7 @@ fn room_above(top_skip: i64, height: i64) -> i64
     }
 }
 
+// A node of glue of this width, with the line of a node.
 fn make_glue(n: &Node, width: i64) -> Node
     ensures { result ≡ glue_before n.now (fixed_glue width) }
 {

@@ -11,9 +11,10 @@ ghost use Rattle.tb_break.specs.Split.{split_of};
 ghost use Rattle.tb_break.specs.LastLeast.{IsLastLeast};
 
 use crate::places::kind_of;
-use crate::{EJECT_PENALTY, Found, PlaceKind, Scan, is_glue, is_lasting, new_scan, place_penalty};
+use crate::{Found, PlaceKind, Scan, is_glue, is_lasting, new_scan, place_penalty};
 use tb_node::{Node, Sums};
 use tb_pool::{Iter, ListId, Lists};
+use tb_scaled::EJECT_PENALTY;
 
 /// Where a list is split to a height under a depth limit, both in sp: the last place of least cost up to the first at
 /// which the list is overfull or the break is forced, as the list's end forces it. The list is walked once.
@@ -122,12 +123,14 @@ fn visit(
     offer.stop
 }
 
+// The later place where it is a champion.
 fn found_if(champion: bool, later: Found, earlier: Found) -> Found
     ensures { result ≡ (if champion then later else earlier) }
 {
     if champion { later } else { earlier }
 }
 
+// The total and the depth.
 fn height_and_depth(sums: &Sums) -> i64
     requires total { IsAmount sums.now.total }
     requires depth { IsAmount sums.now.depth }

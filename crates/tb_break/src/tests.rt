@@ -209,3 +209,18 @@ fn a_scan_keeps_the_last_of_least_cost(rt: HostRuntime) {
     };
     assert_eq!(rt; (best.index, best.cost, best.size), (3, 100000, 24));
 }
+
+#[test]
+fn the_skip_of_a_class_has_no_width(rt: HostRuntime) {
+    let mut scan = new_scan(0);
+    scan.stretch_by(Glue {
+        width: 9,
+        stretch: 3,
+        order: Order::Fil,
+        shrink: 2,
+    });
+    let sums = scan.sums();
+    let stretch = sums.stretch;
+    assert_eq!(rt; (sums.total, sums.depth, sums.shrink), (0, 0, 2));
+    assert_eq!(rt; stretch, [0, 3, 0, 0]);
+}

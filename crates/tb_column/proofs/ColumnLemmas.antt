@@ -135,6 +135,23 @@ leaves-held : (held : ℕ → List Node) (ns : List Node) → AreLeaves ns → m
 leaves-held held [] h = refl
 leaves-held held (n ∷ ns) h = λ i. record { line = n.line; kind = leaf_kind-held held n.kind h.0 i } ∷ leaves-held held ns h.1 i
 
+-- footnote material has no insertion, so none with some list
+kind-apart : (l : ℕ) (k : Kind) → is_leaf_kind k → kind_apart l k
+kind-apart l (kinds.Hbox what h d) leaf = tt
+kind-apart l (kinds.Rule name h d) leaf = tt
+kind-apart l (kinds.Skip g) leaf = tt
+kind-apart l (kinds.Kern w) leaf = tt
+kind-apart l (kinds.Pen p) leaf = tt
+kind-apart l (kinds.Mark name) leaf = tt
+kind-apart l (kinds.Note name) leaf = tt
+kind-apart l kinds.Whatsit leaf = tt
+kind-apart l (kinds.Ins i) leaf = absurd leaf
+kind-apart l (kinds.Act a) leaf = absurd leaf
+
+pub leaves-apart : (l : ℕ) (ns : List Node) → AreLeaves ns → IsApart l ns
+leaves-apart l [] h = tt
+leaves-apart l (n ∷ ns) h = (kind-apart l n.kind h.0, leaves-apart l ns h.1)
+
 module _ (held new : ℕ → List Node) (body : ℕ) (notes : Option ℕ) (others : (q : ℕ) → q ≢ body → notes ≢ Some q → new q ≡ held q) where
   -- an insertion carries the same where its list is neither
   kind-held : (k : Kind) → kind_apart body k → ((l : ℕ) → notes ≡ Some l → kind_apart l k) → plain_kind new k ≡ plain_kind held k

@@ -43,13 +43,15 @@ IsSized (kern w) = IsDimension w
 IsSized (penalty p) = IsPenalty p
 IsSized other = Unit {0}
 
--- the same of a node of the store, of a plain node and of a node of an insertion's list
+-- the same of a node of the store
 abbrev pub IsSizedNode : Node → Type 0
 IsSizedNode n = IsSized (shape_of n)
 
+-- the same of a plain node
 abbrev pub IsSizedPlain : PlainNode → Type 0
 IsSizedPlain n = IsSized (node_shape n)
 
+-- the same of a node of an insertion's list
 abbrev pub IsSizedLeaf : Leaf → Type 0
 IsSizedLeaf n = IsSized (leaf_shape n)
 

@@ -21,7 +21,8 @@ use tb_scaled::{Glue, Order};
 /// The top, in scaled points, of a node in a set list: what stands before it has this natural size, and this sum of the
 /// stretch of the set order or of the shrink.
 ///
-/// It is exact but for the glue's share, which is rounded down whatever the signs. TeX rounds to the nearest.
+/// It is exact but for the glue's share, which is rounded down whatever the signs. TeX rounds to the nearest. The set's
+/// `den` is not 0, as `pack` makes it.
 pub fn at(set: &Set, natural: i64, sum: i64) -> i128
     requires { set.now.den ≢ pos 0 }
     ensures { result ≡ at_of set.now natural sum }
@@ -102,7 +103,7 @@ impl Tops {
         }
     }
 
-    /// The top of the next node, in scaled points.
+    /// The top of the next node, in scaled points, as `at` gives it.
     pub fn top(&self) -> i128
         requires { self.now.set.den ≢ pos 0 }
         ensures value { result ≡ top_of self.now }
@@ -111,7 +112,7 @@ impl Tops {
         at(&self.set, self.natural, self.glue)
     }
 
-    /// Passes the next node.
+    /// Passes the next node. The size and the glue of all that was passed fit 64 bits.
     pub fn pass(&mut self, n: &Node)
         requires node { IsSmallShape (shape_of n.now) }
         requires natural { FitsSigned w64 (walked_past self.old (shape_of n.now)).natural }

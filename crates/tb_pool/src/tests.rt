@@ -31,6 +31,7 @@ fn moves_values_between_lists(rt: HostRuntime) -> Result<(), Fail> {
     assert_eq!(rt; lists.pop_back(b), Some(5));
     assert_eq!(rt; lists.pop_back(b), Some(4));
     assert_eq!(rt; lists.pop_back(b), None);
+    assert_eq!(rt; lists.pop_front(b), None);
     lists.close(b);
     assert_eq!(rt; lists.spare(), 2);
     Ok(())

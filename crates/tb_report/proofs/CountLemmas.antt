@@ -1,11 +1,13 @@
 -- Counts over a list that is joined of two.
-use Rattle.std.proofs.Common.{◌≡◌, ◌∙◌, ap, sym, ◌+◌, Bool, List, [], ◌∷◌, ◌++◌, add_assoc, zero-add}
+use Rattle.std.proofs.Common.{◌≡◌, ◌∙◌, ap, sym, ℕ, ◌+◌, ◌<◌, ◌≤◌, ◌^◌, Bool, true, false, List, [], ◌∷◌, ◌++◌, length, add_assoc, zero-add, arith}
 use Rattle.std.proofs.lemmas.List.{length-map}
 use Rattle.tb_pool.specs.Lists.{Lists, list_at}
 use Rattle.tb_node.specs.declared.Node.{Node}
 use Rattle.tb_node.specs.Plain.{PlainKind, PlainNode}
 use Rattle.tb_column.specs.Shown.{nodes_shown}
-use Rattle.tb_report.specs.Totals.{one_if, count_kinds, is_item_box, is_float_box}
+use Rattle.tb_column.specs.Column.{PlainColumn, one, shipped}
+use Rattle.tb_report.specs.declared.Totals.{Totals}
+use Rattle.tb_report.specs.Totals.{one_if, count_kinds, is_item_box, is_float_box, with_sent, AreCounts}
 
 pub count_kinds-append : (test : PlainKind → Bool) (a b : List PlainNode) → count_kinds test (a ++ b) ≡ count_kinds test a + count_kinds test b
 count_kinds-append test [] b = sym (zero-add (count_kinds test b))
@@ -31,3 +33,12 @@ count_kinds-le test (n ∷ ns) = omega (arith, one_if-le (test n.kind), count_ki
 
 pub count_shown-le : (test : PlainKind → Bool) (store : Lists Node) (l : ℕ) → count_kinds test (nodes_shown store l) ≤ length (list_at store l)
 count_shown-le test store l = omega (arith, count_kinds-le test (nodes_shown store l), length-map {B = PlainNode} (list_at store l))
+
+-- a page of one column can be counted
+pub page_counts : (t : Totals) (page : ℕ) (c : PlainColumn) → t.pages + 1 < 2 ^ 64 → t.boxes + length c.nodes < 2 ^ 64 → t.floats + length c.nodes < 2 ^ 64 → t.warnings < 2 ^ 64 → AreCounts (with_sent (shipped page (one c)) t)
+page_counts t page c pages boxes floats warnings = record {
+  pages = pages;
+  boxes = omega (arith, boxes, count_kinds-le is_item_box c.nodes);
+  floats = omega (arith, floats, count_kinds-le is_float_box c.nodes);
+  warnings = warnings;
+}

@@ -90,6 +90,7 @@ fn column(store: &Lists<Node>, list: ListId, height: i64) -> Column
     requires sized { All IsSizedNode (list_at store.now list) }
     requires few { length (list_at store.now list) ≤ 4 }
     ensures list { result.list ≡ list }
+    ensures few { length (list_at store.now result.list) ≤ 4 }
     ensures printable { IsPrintable store.now result }
 {
     Column {

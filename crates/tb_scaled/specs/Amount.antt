@@ -1,7 +1,7 @@
 -- Amounts that a sum of a few of them can hold.
 use Rattle.std.specs.Prelude.{◌<ℤ◌, ℤ, pos, neg_ℤ}
 
--- below 2^60 in absolute value
+-- an amount: below 2^60 in absolute value
 pub record IsAmount (z : ℤ) : Type 0 where
   pub low : neg_ℤ (pos 1152921504606846976) <ℤ z
   pub high : z <ℤ pos 1152921504606846976
