@@ -29,12 +29,13 @@ abbrev pub sent_shown : Lists Node → Sent → PlainSent
 sent_shown store (events.Warn w) = warned w
 sent_shown store (events.Ship page sheet) = shipped page (sheet_shown store sheet)
 
--- all lists of a page are live, and of an event those of its page
+-- all lists of a page are live
 abbrev pub IsLiveSheet : Lists Node → Sheet → Type 0
 IsLiveSheet store (sheets.One c) = IsLive store c.list
 IsLiveSheet store (sheets.Wide c) = IsLive store c.list
 IsLiveSheet store (sheets.Two tops at left right) = IsLive store tops × IsLive store left.list × IsLive store right.list
 
+-- all lists of the page of an event are live
 abbrev pub IsLiveSent : Lists Node → Sent → Type 0
 IsLiveSent store (events.Warn w) = Unit {0}
 IsLiveSent store (events.Ship page sheet) = IsLiveSheet store sheet

@@ -16,7 +16,7 @@ use Rattle.tb_column.specs.Column.{is_ragged}
 
 -- ---- what is asked of the lists
 
--- no insertion among the nodes has this list
+-- a node that is no insertion with this list
 abbrev pub kind_apart : ℕ → Kind → Type 0
 kind_apart l (kinds.Hbox what h d) = Unit {0}
 kind_apart l (kinds.Rule name h d) = Unit {0}
@@ -29,11 +29,12 @@ kind_apart l kinds.Whatsit = Unit {0}
 kind_apart l (kinds.Ins i) = i.list ≢ l
 kind_apart l (kinds.Act a) = Unit {0}
 
+-- no insertion among these nodes has this list
 abbrev pub IsApart : ℕ → List Node → Type 0
 IsApart l [] = Unit {0}
 IsApart l (n ∷ ns) = kind_apart l n.kind × IsApart l ns
 
--- no insertion and no act stands among the nodes
+-- a node that is neither an insertion nor an act
 abbrev pub is_leaf_kind : Kind → Type 0
 is_leaf_kind (kinds.Hbox what h d) = Unit {0}
 is_leaf_kind (kinds.Rule name h d) = Unit {0}
@@ -46,6 +47,7 @@ is_leaf_kind kinds.Whatsit = Unit {0}
 is_leaf_kind (kinds.Ins i) = ⊥
 is_leaf_kind (kinds.Act a) = ⊥
 
+-- neither an insertion nor an act stands among these nodes
 abbrev pub AreLeaves : List Node → Type 0
 AreLeaves [] = Unit {0}
 AreLeaves (n ∷ ns) = is_leaf_kind n.kind × AreLeaves ns

@@ -28,24 +28,13 @@ use Rattle.tb_param.specs.declared.Choice.TheVariants.{Flush, Ragged, On, Off}
 use Rattle.tb_param.specs.Table.{out_of_range}
 use Rattle.tb_param.specs.Ranges.{is_no_fault}
 use Rattle.tb_param.proofs.RangeLemmas.{fits}
+use Rattle.tb_galley.proofs.Conjunctions.{both, left_of, right_of}
 
 -- ---- what holds of each value that is read
 
 pub bind_has : {A B : Type 0} (P : B → Type 0) (r : Result A At) (k : A → Result B At) → ((x : A) → IfOk (k x) P) → IfOk (r >>= k) P
 bind_has P (Ok x) k h = h x
 bind_has P (Err e) k h = tt
-
-both : (a b : Bool) → a ≡ true → b ≡ true → (a && b) ≡ true
-both true b h k = k
-both false b h k = h
-
-right_of : (a b : Bool) → (a && b) ≡ true → b ≡ true
-right_of true b h = h
-right_of false b h = cc
-
-left_of : (a b : Bool) → (a && b) ≡ true → a ≡ true
-left_of true b h = refl
-left_of false b h = h
 
 pub then_has : {A B : Type 0} (P : A → Type 0) (Q : B → Type 0) (r : Result A At) (k : A → Result B At) → IfOk r P → ((x : A) → P x → IfOk (k x) Q) → IfOk (r >>= k) Q
 then_has P Q (Ok x) k h f = f x h

@@ -120,7 +120,7 @@ pub record Sound (n : ℕ) (p : Phase) (c : ℕ) (d : Draft) : Type 0 where
   pub phase : foot_fits p d.foot ≡ true
   pub lines : Rises (lines_so_far d) (last_line p n d.end_line)
 
-abbrev drafted : Params → List Item → Option OpenFoot → ℕ → Draft
+abbrev pub drafted : Params → List Item → Option OpenFoot → ℕ → Draft
 drafted ps is ft e = record { params = ps; items = is; foot = ft; end_line = e }
 
 -- ---- a line without content

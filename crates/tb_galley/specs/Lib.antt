@@ -11,3 +11,4 @@ pub mod Expand
 pub mod Valid
 pub mod Live
 pub mod CauseText
+pub mod ReadBack

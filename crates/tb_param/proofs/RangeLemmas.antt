@@ -59,7 +59,8 @@ as_fits p = refl
 abbrev FitsPlace : Row → Type 0
 FitsPlace r = (v : Value) → fits r.form v ≡ true → fits_at row_forms (place r.field) (shaped r.field v) ≡ true
 
-abbrev AllRows : (Row → Type 0) → List Row → Type 0
+-- each of the rows has the property
+abbrev pub AllRows : (Row → Type 0) → List Row → Type 0
 AllRows P [] = Unit {0}
 AllRows P (r ∷ rs) = P r × AllRows P rs
 

@@ -16,6 +16,7 @@ abbrev pub is_float_box : PlainKind → Bool
 is_float_box (plain (hbox (what.Float name class place item) h d)) = true
 is_float_box _ = false
 
+-- one where a test holds, else none
 abbrev pub one_if : Bool → ℕ
 one_if true = 1
 one_if false = 0
@@ -48,9 +49,10 @@ pub record AreCounts (t : Totals) : Type 0 where
   pub floats : t.floats < 2 ^ 64
   pub warnings : t.warnings < 2 ^ 64
 
--- the totals with one node more, and with these nodes
+-- the totals with one node more
 abbrev pub with_kind : PlainKind → Totals → Totals
 with_kind k t = record t { boxes = t.boxes + one_if (is_item_box k); floats = t.floats + one_if (is_float_box k) }
 
+-- the totals with these nodes
 abbrev pub with_nodes : List PlainNode → Totals → Totals
 with_nodes ns t = record t { boxes = t.boxes + count_kinds is_item_box ns; floats = t.floats + count_kinds is_float_box ns }

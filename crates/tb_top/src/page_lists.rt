@@ -7,9 +7,7 @@ ghost use Rattle.tb_top.specs.PlainNodes.{kind_penalty, front_penalty, spent, wi
 
 use tb_node::{Kind, Node};
 use tb_pool::{ListId, Lists};
-
-// The penalty that forbids a break.
-const INF_PENALTY: i64 = 10_000;
+use tb_scaled::INF_PENALTY;
 
 /// Takes all but the first `count` nodes off a list.
 #[tactic(auto, using(tb_pool::proofs::MapLemmas::list_steps))]

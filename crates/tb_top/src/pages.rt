@@ -12,6 +12,9 @@ ghost use Rattle.tb_top.specs.Paginated.{Paginates, Refuses};
 ghost use Rattle.tb_top.specs.Turning.{HasLists, sent_by};
 ghost use Rattle.tb_top.specs.Written.{Shows, all_sent_lines, with_all, EndsWell, StopsWith};
 
+#[cfg(test)]
+mod tests;
+
 use crate::routine::{Ending, Routine};
 use crate::{PageFault, View};
 use std::alloc::{AllocError, Global};

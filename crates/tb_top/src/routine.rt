@@ -27,9 +27,7 @@ use tb_galley::Galley;
 use tb_node::Node;
 use tb_param::Params;
 use tb_pool::{ListId, Lists};
-
-// A penalty of at most this forces a break.
-const EJECT_PENALTY: i64 = -10_000;
+use tb_scaled::EJECT_PENALTY;
 
 /// Between two firings: the nodes that wait, the page that was made last, the number of the next page, counted from 1,
 /// and how many firings there were since a page was shipped.

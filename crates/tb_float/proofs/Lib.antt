@@ -1,0 +1,9 @@
+pub mod ListLemmas
+pub mod MoveLemmas
+pub mod SlotLemmas
+pub mod PartLemmas
+pub mod ShelfLemmas
+pub mod SoundLemmas
+pub mod PoolLemmas
+pub mod MarkLemmas
+pub mod RoomLemmas

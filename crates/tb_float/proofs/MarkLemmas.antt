@@ -1,0 +1,142 @@
+-- The marks of deferred floats.
+use Rattle.std.proofs.Common.{◌≡◌, ℕ, zero, suc, ◌≤◌, Bool, true, false, List, [], ◌∷◌, ◌++◌, length, Some, slice_get, replicate, refl, ap, ◌∙◌, arith}
+use Rattle.std.specs.Prelude.{slice_set}
+use Rattle.tb_node.specs.declared.Float.{Float}
+use Rattle.tb_float.specs.declared.Part.{Part}
+use Rattle.tb_float.specs.declared.Part.TheVariants as parts
+use Rattle.tb_float.specs.Lists.{without_place, floats_of}
+use Rattle.tb_float.specs.Pool.{FloatPool, marked_among, unmarked_among, marked_floats, first_marked, with_floats_after, with_floats_before, without_entry, without_entries, moved_float, joined_before, with_float_at}
+
+marked-none : (ms : List Bool) → marked_among ms [] ≡ []
+marked-none [] = refl
+marked-none (m ∷ ms) = refl
+
+marked-false : (n : ℕ) (fs : List Float) → marked_among (replicate n false) fs ≡ []
+marked-false zero fs = refl
+marked-false (suc n) [] = refl
+marked-false (suc n) (f ∷ fs) = marked-false n fs
+
+marked-append : (ms ns : List Bool) (fs gs : List Float) → length ms ≡ length fs → marked_among (ms ++ ns) (fs ++ gs) ≡ marked_among ms fs ++ marked_among ns gs
+marked-append [] ns [] gs e = refl
+marked-append [] ns (f ∷ fs) gs e = absurd (omega arith)
+marked-append (m ∷ ms) ns [] gs e = absurd (omega arith)
+marked-append (true ∷ ms) ns (f ∷ fs) gs e = ap (λ hs. f ∷ hs) (marked-append ms ns fs gs (omega arith))
+marked-append (false ∷ ms) ns (f ∷ fs) gs e = marked-append ms ns fs gs (omega arith)
+
+-- where none is marked, none is without one of them
+marked-without : (k : ℕ) (ms : List Bool) (fs : List Float) → marked_among ms fs ≡ [] → marked_among (without_place k ms) (without_place k fs) ≡ []
+marked-without zero [] fs e = refl
+marked-without (suc k) [] fs e = refl
+marked-without zero (m ∷ ms) [] e = marked-none ms
+marked-without (suc k) (m ∷ ms) [] e = refl
+marked-without zero (true ∷ ms) (f ∷ fs) e = cc
+marked-without zero (false ∷ ms) (f ∷ fs) e = e
+marked-without (suc k) (true ∷ ms) (f ∷ fs) e = cc
+marked-without (suc k) (false ∷ ms) (f ∷ fs) e = marked-without k ms fs e
+
+marked-set : (k : ℕ) (f : Float) (ms : List Bool) (fs : List Float) → marked_among ms fs ≡ [] → marked_among ms (slice_set fs k f) ≡ []
+marked-set k f [] fs e = refl
+marked-set k f (m ∷ ms) [] e = refl
+marked-set zero f (true ∷ ms) (g ∷ fs) e = cc
+marked-set zero f (false ∷ ms) (g ∷ fs) e = e
+marked-set (suc k) f (true ∷ ms) (g ∷ fs) e = cc
+marked-set (suc k) f (false ∷ ms) (g ∷ fs) e = marked-set k f ms fs e
+
+pub unmarked-without_entry : (p : Part) (k : ℕ) (v : FloatPool) → marked_floats v ≡ [] → marked_floats (without_entry p k v) ≡ []
+unmarked-without_entry parts.Current k v e = e
+unmarked-without_entry parts.Here k v e = e
+unmarked-without_entry parts.Top k v e = e
+unmarked-without_entry parts.Bottom k v e = e
+unmarked-without_entry parts.Deferred k v e = marked-without k v.marks v.lists.deferred e
+unmarked-without_entry parts.Double k v e = e
+
+unmarked-after : (p : Part) (fs : List Float) (v : FloatPool) → length v.marks ≡ length v.lists.deferred → marked_floats v ≡ [] → marked_floats (with_floats_after p fs v) ≡ []
+unmarked-after parts.Current fs v same e = e
+unmarked-after parts.Here fs v same e = e
+unmarked-after parts.Top fs v same e = e
+unmarked-after parts.Bottom fs v same e = e
+unmarked-after parts.Deferred fs v same e =
+    marked-append v.marks (replicate (length fs) false) v.lists.deferred fs same ∙ ap (λ hs. hs ++ marked_among (replicate (length fs) false) fs) e ∙ marked-false (length fs) fs
+unmarked-after parts.Double fs v same e = e
+
+pub length-replicate_false : (n : ℕ) → length (replicate n false) ≡ n
+length-replicate_false zero = refl
+length-replicate_false (suc n) = omega (arith, length-replicate_false n)
+
+unmarked-before : (p : Part) (fs : List Float) (v : FloatPool) → marked_floats v ≡ [] → marked_floats (with_floats_before p fs v) ≡ []
+unmarked-before parts.Current fs v e = e
+unmarked-before parts.Here fs v e = e
+unmarked-before parts.Top fs v e = e
+unmarked-before parts.Bottom fs v e = e
+unmarked-before parts.Deferred fs v e =
+    marked-append (replicate (length fs) false) v.marks fs v.lists.deferred (length-replicate_false (length fs)) ∙ ap (λ hs. hs ++ marked_floats v) (marked-false (length fs) fs) ∙ e
+unmarked-before parts.Double fs v e = e
+
+unmarked-without_entries : (p : Part) (v : FloatPool) → marked_floats v ≡ [] → marked_floats (without_entries p v) ≡ []
+unmarked-without_entries parts.Current v e = e
+unmarked-without_entries parts.Here v e = e
+unmarked-without_entries parts.Top v e = e
+unmarked-without_entries parts.Bottom v e = e
+unmarked-without_entries parts.Deferred v e = refl
+unmarked-without_entries parts.Double v e = e
+
+length-without_same : {X Y : Type 0} (k : ℕ) (xs : List X) (ys : List Y) → length xs ≡ length ys → length (without_place k xs) ≡ length (without_place k ys)
+length-without_same zero [] [] e = refl
+length-without_same (suc k) [] [] e = refl
+length-without_same k [] (y ∷ ys) e = absurd (omega arith)
+length-without_same k (x ∷ xs) [] e = absurd (omega arith)
+length-without_same zero (x ∷ xs) (y ∷ ys) e = omega arith
+length-without_same (suc k) (x ∷ xs) (y ∷ ys) e = ap suc (length-without_same k xs ys (omega arith))
+
+marks-without_entry : (p : Part) (k : ℕ) (v : FloatPool) → length v.marks ≡ length v.lists.deferred → length (without_entry p k v).marks ≡ length (without_entry p k v).lists.deferred
+marks-without_entry parts.Current k v e = e
+marks-without_entry parts.Here k v e = e
+marks-without_entry parts.Top k v e = e
+marks-without_entry parts.Bottom k v e = e
+marks-without_entry parts.Deferred k v e = length-without_same k v.marks v.lists.deferred e
+marks-without_entry parts.Double k v e = e
+
+pub unmarked-moved_float : (from : Part) (k : ℕ) (to : Part) (f : Float) (v : FloatPool) → length v.marks ≡ length v.lists.deferred → marked_floats v ≡ [] → marked_floats (moved_float from k to f v) ≡ []
+unmarked-moved_float from k to f v same e =
+    unmarked-after to (f ∷ []) (without_entry from k v) (marks-without_entry from k v same) (unmarked-without_entry from k v e)
+
+pub unmarked-joined_before : (from to : Part) (v : FloatPool) → marked_floats v ≡ [] → marked_floats (joined_before from to v) ≡ []
+unmarked-joined_before from to v e = unmarked-before to (floats_of from v.lists) (without_entries from v) (unmarked-without_entries from v e)
+
+pub unmarked-with_float_at : (p : Part) (k : ℕ) (f : Float) (v : FloatPool) → marked_floats v ≡ [] → marked_floats (with_float_at p k f v) ≡ []
+unmarked-with_float_at parts.Current k f v e = e
+unmarked-with_float_at parts.Here k f v e = e
+unmarked-with_float_at parts.Top k f v e = e
+unmarked-with_float_at parts.Bottom k f v e = e
+unmarked-with_float_at parts.Deferred k f v e = marked-set k f v.marks v.lists.deferred e
+unmarked-with_float_at parts.Double k f v e = e
+
+-- ---- the first marked float
+
+-- the first mark that is set splits the floats: that float is the first marked one, and without it the others stay
+pub record FirstMarked (ms : List Bool) (fs : List Float) (f : Float) : Type 0 where
+  pub marked : marked_among ms fs ≡ f ∷ marked_among (without_place (first_marked ms) ms) (without_place (first_marked ms) fs)
+  pub others : unmarked_among (without_place (first_marked ms) ms) (without_place (first_marked ms) fs) ≡ unmarked_among ms fs
+
+pub first-marked : (ms : List Bool) (fs : List Float) (f : Float) → length ms ≡ length fs → slice_get fs (first_marked ms) ≡ Some f → FirstMarked ms fs f
+first-marked [] [] f same e = cc
+first-marked [] (g ∷ fs) f same e = absurd (omega arith)
+first-marked (m ∷ ms) [] f same e = cc
+first-marked (true ∷ ms) (g ∷ fs) f same e = record { marked = ap (λ h. h ∷ marked_among ms fs) (grind arith); others = refl }
+first-marked (false ∷ ms) (g ∷ fs) f same e =
+    let rest = first-marked ms fs f (omega arith) e in
+    record { marked = rest.marked; others = ap (λ hs. g ∷ hs) rest.others }
+
+-- no mark is set
+pub none-marked : (ms : List Bool) (fs : List Float) → length ms ≡ length fs → first_marked ms ≡ length ms → (marked_among ms fs ≡ []) × (unmarked_among ms fs ≡ fs)
+none-marked [] fs same e = (refl, refl)
+none-marked (m ∷ ms) [] same e = absurd (omega arith)
+none-marked (true ∷ ms) (f ∷ fs) same e = absurd (omega arith)
+none-marked (false ∷ ms) (f ∷ fs) same e =
+    let rest = none-marked ms fs (omega arith) (omega arith) in
+    (rest.0, ap (λ hs. f ∷ hs) rest.1)
+
+pub first_marked-le : (ms : List Bool) → first_marked ms ≤ length ms
+first_marked-le [] = omega arith
+first_marked-le (true ∷ ms) = omega arith
+first_marked-le (false ∷ ms) = omega (arith, first_marked-le ms)

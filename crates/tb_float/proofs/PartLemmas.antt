@@ -1,0 +1,50 @@
+-- The lists of the pool, told apart.
+use Rattle.std.proofs.Common.{◌≡◌, ◌≢◌, ◌⊎◌, inl, inr, ℕ, zero, suc, ◌==◌, if◌then◌else◌, refl, sym, ap, ◌∙◌}
+use Rattle.std.proofs.lemmas.Bool.{cases_eq, eq-eqb, ne_eqb}
+use Rattle.tb_float.specs.declared.Part.{Part}
+use Rattle.tb_float.specs.declared.Part.TheVariants as parts
+
+abbrev pub part_index : Part → ℕ
+part_index parts.Current = 0
+part_index parts.Here = 1
+part_index parts.Top = 2
+part_index parts.Bottom = 3
+part_index parts.Deferred = 4
+part_index parts.Double = 5
+
+abbrev pub part_at : ℕ → Part
+part_at zero = parts.Current
+part_at (suc zero) = parts.Here
+part_at (suc (suc zero)) = parts.Top
+part_at (suc (suc (suc zero))) = parts.Bottom
+part_at (suc (suc (suc (suc zero)))) = parts.Deferred
+part_at (suc (suc (suc (suc (suc n))))) = parts.Double
+
+part_at-index : (p : Part) → part_at (part_index p) ≡ p
+part_at-index parts.Current = refl
+part_at-index parts.Here = refl
+part_at-index parts.Top = refl
+part_at-index parts.Bottom = refl
+part_at-index parts.Deferred = refl
+part_at-index parts.Double = refl
+
+pub part_index-apart : (p q : Part) → p ≢ q → part_index p ≢ part_index q
+part_index-apart p q ne e = ne (sym (part_at-index p) ∙ ap part_at e ∙ part_at-index q)
+
+-- two lists are one or differ
+pub part_cases : (p q : Part) → (p ≡ q) ⊎ (p ≢ q)
+part_cases p q = elim (cases_eq (part_index p) (part_index q)) [
+  | inl e ↦ inl (sym (part_at-index p) ∙ ap part_at e ∙ part_at-index q)
+  | inr ne ↦ inr (λ e. ne (ap part_index e))
+]
+
+module _ {X : Type 0} where
+  -- another value for one list
+  abbrev pub put : Part → X → (Part → X) → Part → X
+  put p x f q = if part_index q == part_index p then x else f q
+
+  pub put-same : (p : Part) (x : X) (f : Part → X) → put p x f p ≡ x
+  put-same p x f = ap (λ b. if b then x else f p) (eq-eqb (part_index p) (part_index p) refl)
+
+  pub put-other : (p q : Part) (x : X) (f : Part → X) → q ≢ p → put p x f q ≡ f q
+  put-other p q x f ne = ap (λ b. if b then x else f q) (ne_eqb (part_index q) (part_index p) (part_index-apart q p ne))

@@ -1,0 +1,43 @@
+use Rattle.std.proofs.Common.{◌≡◌, length, ap, ◌∙◌, sym, FitsSigned, w64, rules}
+use Rattle.std.proofs.lemmas.Int.{to_z-of_z}
+use Rattle.tb_float.specs.Lists.{floats_of, entry_count}
+use Rattle.tb_float.specs.Rooms.{total_height}
+use Rattle.tb_float.specs.Stored.{slots_of, floats_in}
+use Rattle.tb_float.proofs.SlotLemmas.{slots-sum, length-floats_in}
+use Rattle.tb_float.proofs.SoundLemmas.{entry_count-seen, floats_of-seen}
+use Rattle.tb_float.proofs.Pool.area_taken.Goals as goal
+
+pub taken-requires : goal.taken-requires
+taken-requires c =
+    let i = c.self.inside in
+    let at = slots_of i.store i.shelves in
+    let slots = c.self.invariant.sound.slots c.args.part in
+    let f = c.ranges.first in
+    let b = c.ranges.between in
+    let h : FitsSigned w64 c.of.result = search rules in
+    let count : c.len.result ≡ length (at c.args.part) = c.len.ensures.value ∙ ap (λ v. entry_count c.args.part v.lists) (sym c.self.view_is) ∙ entry_count-seen c.args.part at slots in
+    let sum : c.of.result ≡ total_height (floats_in (at c.args.part)) = c.of.ensures ∙ c.self.invariant.sound.heights_are c.args.part in
+    simp to_z-of_z (record {
+      first = c.requires.first;
+      between = c.requires.between;
+      heights = rw (count, sum) (slots-sum c.args.part (at c.args.part) slots);
+      few = c.len.ensures.small;
+    })
+
+pub returns : goal.returns
+returns c =
+    let i = c.self.inside in
+    let at = slots_of i.store i.shelves in
+    let slots = c.self.invariant.sound.slots c.args.part in
+    let f = c.ranges.first in
+    let b = c.ranges.between in
+    let h : FitsSigned w64 c.of.result = search rules in
+    let r : FitsSigned w64 c.taken.result = search rules in
+    let count : c.len.result ≡ length (at c.args.part) = c.len.ensures.value ∙ ap (λ v. entry_count c.args.part v.lists) (sym c.self.view_is) ∙ entry_count-seen c.args.part at slots in
+    let sum : c.of.result ≡ total_height (floats_in (at c.args.part)) = c.of.ensures ∙ c.self.invariant.sound.heights_are c.args.part in
+    let floats = sym (floats_of-seen c.args.part at) ∙ ap (λ v. floats_of c.args.part v.lists) c.self.view_is in
+    let value = simp to_z-of_z at c.taken.ensures.value in
+    simp to_z-of_z (record {
+      value = rw (← floats) (value (floats_in (at c.args.part)) (length-floats_in c.args.part (at c.args.part) c.requires.floats slots ∙ sym count) (sym sum));
+      within = c.taken.ensures.within;
+    })

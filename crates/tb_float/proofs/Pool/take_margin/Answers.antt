@@ -1,0 +1,13 @@
+use Rattle.std.proofs.Common.{ap, arith}
+use Rattle.tb_float.specs.Lists.{live_count}
+use Rattle.tb_float.specs.Stored.{slots_of}
+use Rattle.tb_float.proofs.SoundLemmas.{live_count-seen}
+use Rattle.tb_float.proofs.Pool.take_margin.Goals as goal
+
+pub overflow_sub-self-inside : goal.overflow_sub-self-inside
+overflow_sub-self-inside c =
+    let i = c.self.inside in
+    let live = live_count-seen (slots_of i.store i.shelves) c.self.invariant.sound.slots in
+    let seen = ap (λ v. live_count v.lists) c.self.view_is in
+    let places = c.self.invariant.places in
+    omega (arith, c.live-live.ensures)

@@ -1,0 +1,121 @@
+-- How the pool stores its lists. No public clause cites this module.
+use Rattle.std.specs.Prelude.{◌≡◌, ◌≢◌, ℕ, ◌+◌, ◌≤◌, Bool, true, false, List, [], ◌∷◌, length, map}
+use Rattle.tb_node.specs.declared.Float.{Float}
+use Rattle.tb_pool.specs.Lists.{Lists, IsLive, list_at}
+use Rattle.tb_float.specs.declared.Entry.{Entry}
+use Rattle.tb_float.specs.declared.Entry.TheVariants as entries
+use Rattle.tb_float.specs.declared.Part.{Part}
+use Rattle.tb_float.specs.declared.Part.TheVariants as parts
+use Rattle.tb_float.specs.declared.shelves.Shelves.{Shelves}
+use Rattle.tb_float.specs.declared.heights.Heights.{Heights}
+use Rattle.tb_float.specs.Lists.{FloatLists, floats_among}
+use Rattle.tb_float.specs.Pool.{FloatPool}
+use Rattle.tb_float.specs.Ranges.{IsSizedEntry}
+use Rattle.tb_float.specs.Rooms.{total_height}
+use Rattle.tb_float.specs.Heights.{height_of}
+use Rattle.tb_float.specs.SlotView.{SlotView}
+
+-- the id of the list of a part
+abbrev pub shelf_of : Shelves → Part → ℕ
+shelf_of s parts.Current = s.current
+shelf_of s parts.Here = s.here
+shelf_of s parts.Top = s.top
+shelf_of s parts.Bottom = s.bottom
+shelf_of s parts.Deferred = s.deferred
+shelf_of s parts.Double = s.double
+
+-- the slots of each list of a store
+abbrev pub slots_of : Lists SlotView → Shelves → Part → List SlotView
+slots_of store shelves p = list_at store (shelf_of shelves p)
+
+-- eight lists that live and differ, of which the last two are empty
+pub record AreShelves (store : Lists SlotView) (s : Shelves) : Type 0 where
+  pub live : (p : Part) → IsLive store (shelf_of s p)
+  pub one_live : IsLive store s.one
+  pub rest_live : IsLive store s.rest
+  pub apart : (p q : Part) → p ≢ q → shelf_of s p ≢ shelf_of s q
+  pub one_apart : (p : Part) → shelf_of s p ≢ s.one
+  pub rest_apart : (p : Part) → shelf_of s p ≢ s.rest
+  pub helpers_apart : s.one ≢ s.rest
+  pub one_empty : list_at store s.one ≡ []
+  pub rest_empty : list_at store s.rest ≡ []
+
+abbrev pub unmarked_slot : SlotView → SlotView
+unmarked_slot s = record { entry = s.entry; marked = false }
+
+-- the entries, the floats and the marks of slots
+abbrev pub entries_in : List SlotView → List Entry
+entries_in ss = map (λ s. s.entry) ss
+
+abbrev pub floats_in : List SlotView → List Float
+floats_in ss = floats_among (entries_in ss)
+
+abbrev pub marks_in : List SlotView → List Bool
+marks_in ss = map (λ s. s.marked) ss
+
+-- what contracts see of these lists of slots
+abbrev pub seen_lists : (Part → List SlotView) → FloatLists
+seen_lists at = record {
+  current = entries_in (at parts.Current);
+  here = floats_in (at parts.Here);
+  top = floats_in (at parts.Top);
+  bottom = floats_in (at parts.Bottom);
+  deferred = floats_in (at parts.Deferred);
+  double = floats_in (at parts.Double);
+}
+
+abbrev pub seen_pool : (Part → List SlotView) → ℕ → FloatPool
+seen_pool at size = record { lists = seen_lists at; marks = marks_in (at parts.Deferred); size = size }
+
+-- notes stand in the current list alone, and marks in the deferred one
+abbrev pub holds_notes : Part → Bool
+holds_notes parts.Current = true
+holds_notes parts.Here = false
+holds_notes parts.Top = false
+holds_notes parts.Bottom = false
+holds_notes parts.Deferred = false
+holds_notes parts.Double = false
+
+abbrev pub holds_marks : Part → Bool
+holds_marks parts.Current = false
+holds_marks parts.Here = false
+holds_marks parts.Top = false
+holds_marks parts.Bottom = false
+holds_marks parts.Deferred = true
+holds_marks parts.Double = false
+
+abbrev pub is_float : Entry → Bool
+is_float (entries.Float f) = true
+is_float (entries.Left m) = false
+is_float (entries.Right m) = false
+
+-- the slot may stand in the list
+pub record IsSlotOf (p : Part) (s : SlotView) : Type 0 where
+  pub sized : IsSizedEntry s.entry
+  pub float : holds_notes p ≡ false → is_float s.entry ≡ true
+  pub unmarked : holds_marks p ≡ false → s.marked ≡ false
+
+abbrev pub AreSlotsOf : Part → List SlotView → Type 0
+AreSlotsOf p [] = Unit {0}
+AreSlotsOf p (s ∷ ss) = IsSlotOf p s × AreSlotsOf p ss
+
+-- how many slots there are in all lists
+abbrev pub slot_count : (Part → List SlotView) → ℕ
+slot_count at =
+    length (at parts.Current) + length (at parts.Here) + length (at parts.Top) + length (at parts.Bottom) + length (at parts.Deferred) + length (at parts.Double)
+
+-- each slot may stand where it does, and the sums are those of the lists
+pub record AreSound (at : Part → List SlotView) (heights : Heights) : Type 0 where
+  pub slots : (p : Part) → AreSlotsOf p (at p)
+  pub heights_are : (p : Part) → height_of heights p ≡ total_height (floats_in (at p))
+
+-- no more boxes live than may, and each that may live has its place
+pub record HasPlaces (at : Part → List SlotView) (size spare : ℕ) : Type 0 where
+  pub within : slot_count at ≤ size
+  pub room : size ≤ slot_count at + spare
+  pub small : size ≤ 4096
+
+pub record IsStored (store : Lists SlotView) (shelves : Shelves) (heights : Heights) (size : ℕ) : Type 0 where
+  pub shelves_are : AreShelves store shelves
+  pub sound : AreSound (slots_of store shelves) heights
+  pub places : HasPlaces (slots_of store shelves) size store.spare

@@ -1,0 +1,180 @@
+//! Slots in the lists of the store: moved by their links, taken out, searched.
+ghost use Rattle.std.specs.Prelude.{◌≡◌, ◌≢◌, ◌+◌, ◌<◌, ◌≤◌, [], ◌∷◌, ◌++◌, Some, IsTrue, length, true, map, slice_get, slice_set, take};
+ghost use Rattle.std.specs.FinMap.{insert};
+ghost use Rattle.tb_pool.specs.Lists.{IsLive, list_at, with_list};
+ghost use Rattle.tb_float.specs.SlotView.{SlotView};
+ghost use Rattle.tb_float.specs.Lists.{without_place, has_class, float_before};
+ghost use Rattle.tb_float.specs.Pool.{first_marked};
+ghost use Rattle.tb_float.specs.Rooms.{total_height};
+ghost use Rattle.tb_float.specs.Stored.{unmarked_slot, floats_in, marks_in, is_float};
+
+use crate::{Entry, Slot};
+use tb_node::Float;
+use tb_pool::{ListId, Lists};
+
+/// The slot at a place goes to the end of another list, without its mark and by its links alone; answers it as it was.
+#[tactic(auto, using(tb_pool::proofs::MapLemmas::list_steps))]
+pub(crate) fn move_slot(
+    store: &mut Lists<Slot>,
+    from: ListId,
+    k: usize,
+    to: ListId,
+    one: ListId,
+    rest: ListId,
+) -> Slot
+    requires from_live { IsLive store.old from }
+    requires to_live { IsLive store.old to }
+    requires one_live { IsLive store.old one }
+    requires rest_live { IsLive store.old rest }
+    requires differ { (from ≢ to) × (from ≢ one) × (from ≢ rest) × (to ≢ one) × (to ≢ rest) × (one ≢ rest) }
+    requires one_empty { list_at store.old one ≡ [] }
+    requires rest_empty { list_at store.old rest ≡ [] }
+    requires within { k < length (list_at store.old from) }
+    ensures was { slice_get (list_at store.old from) k ≡ Some result }
+    ensures moved { store.new.lists ≡ insert (with_list store.old from (without_place k (list_at store.old from))) to (list_at store.old to ++ unmarked_slot result ∷ []) }
+    ensures spare { store.new.spare ≡ store.old.spare }
+{
+    store.cut(from, k, one);
+    store.cut(one, 1, rest);
+    let slot = unmark_first(store, one);
+    store.append(to, one);
+    store.append(from, rest);
+    slot
+}
+
+// Takes the mark from the first slot of a list, and answers the slot as it was.
+fn unmark_first(store: &mut Lists<Slot>, l: ListId) -> Slot
+    requires live { IsLive store.old l }
+    requires some { 0 < length (list_at store.old l) }
+    ensures was { slice_get (list_at store.old l) 0 ≡ Some result }
+    ensures unmarked { store.new.lists ≡ with_list store.old l (slice_set (list_at store.old l) 0 (unmarked_slot result)) }
+    ensures spare { store.new.spare ≡ store.old.spare }
+{
+    let slot = slot_at(store, l, 0);
+    store.replace(l, 0, unmarked(slot));
+    slot
+}
+
+// The slot without its mark.
+fn unmarked(slot: Slot) -> Slot
+    ensures { result ≡ unmarked_slot slot }
+{
+    Slot {
+        entry: slot.entry,
+        marked: false,
+    }
+}
+
+/// The slot at a place of a list.
+pub(crate) fn slot_at(store: &Lists<Slot>, l: ListId, k: usize) -> Slot
+    requires live { IsLive store.now l }
+    requires within { k < length (list_at store.now l) }
+    ensures { slice_get (list_at store.now l) k ≡ Some result }
+{
+    match store.get(l, k) {
+        Some(slot) => *slot,
+        None => unreachable!(),
+    }
+}
+
+/// Takes the slot at a place out of its list.
+#[tactic(auto, using(tb_pool::proofs::MapLemmas::list_steps))]
+pub(crate) fn take_slot(store: &mut Lists<Slot>, from: ListId, k: usize, one: ListId) -> Slot
+    requires from_live { IsLive store.old from }
+    requires one_live { IsLive store.old one }
+    requires apart { from ≢ one }
+    requires one_empty { list_at store.old one ≡ [] }
+    requires within { k < length (list_at store.old from) }
+    ensures was { slice_get (list_at store.old from) k ≡ Some result }
+    ensures taken { store.new.lists ≡ with_list store.old from (without_place k (list_at store.old from)) }
+    ensures spare { store.new.spare ≡ store.old.spare + 1 }
+{
+    store.cut(from, k, one);
+    let Some(slot) = store.pop_front(one) else {
+        unreachable!()
+    };
+    store.append(from, one);
+    slot
+}
+
+/// Takes the marks from all entries of a list.
+#[tactic(auto, using(tb_pool::proofs::MapLemmas::list_steps))]
+pub(crate) fn unmark_all(store: &mut Lists<Slot>, l: ListId)
+    requires { IsLive store.old l }
+    ensures unmarked { store.new.lists ≡ with_list store.old l (map unmarked_slot (list_at store.old l)) }
+    ensures spare { store.new.spare ≡ store.old.spare }
+{
+    let count = store.len(l);
+    for _turn in 0..count {
+        let Some(slot) = store.pop_front(l) else {
+            return;
+        };
+        store.push_back(l, unmarked(slot));
+    }
+}
+
+/// The place of the first marked entry of a list, or the number of its entries.
+pub(crate) fn first_marked(store: &Lists<Slot>, l: ListId) -> usize
+    requires { IsLive store.now l }
+    ensures { result ≡ first_marked (marks_in (list_at store.now l)) }
+{
+    let count = store.len(l);
+    let mut k = 0;
+    for slot in store.iter(l) {
+        if slot.marked {
+            return k;
+        }
+        k += 1;
+    }
+    count
+}
+
+/// Whether a float of this class stands among the first entries of a list.
+pub(crate) fn class_stands(store: &Lists<Slot>, l: ListId, count: usize, class: u8) -> bool
+    requires { IsLive store.now l }
+    ensures { result ≡ has_class class (floats_in (take count (list_at store.now l))) }
+{
+    let mut left = count;
+    for slot in store.iter(l) {
+        if left == 0 {
+            return false;
+        }
+        if is_of_class(slot.entry, class) {
+            return true;
+        }
+        left -= 1;
+    }
+    false
+}
+
+fn is_of_class(entry: Entry, class: u8) -> bool
+    ensures { result ≡ has_class class (float_before entry []) }
+{
+    match entry {
+        Entry::Float(f) => f.class == class,
+        Entry::Left(_) => false,
+        Entry::Right(_) => false,
+    }
+}
+
+/// The height that an entry adds to the sum of its list's floats: a note adds none.
+pub(crate) fn entry_height(entry: &Entry) -> i64
+    ensures { result ≡ total_height (float_before entry.now []) }
+{
+    match entry {
+        Entry::Float(f) => f.height,
+        Entry::Left(_) => 0,
+        Entry::Right(_) => 0,
+    }
+}
+
+/// The float of an entry that is one.
+pub(crate) fn float_in(entry: Entry) -> Float
+    requires { is_float entry ≡ true }
+    ensures { entry ≡ Entry.Float result }
+{
+    match entry {
+        Entry::Float(f) => f,
+        _ => unreachable!(),
+    }
+}

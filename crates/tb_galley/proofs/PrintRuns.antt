@@ -1,0 +1,345 @@
+-- The lines of the canonical text take the reader to the galley.
+use Rattle.std.proofs.Common.{◌≡◌, ℕ, ◌+◌, ◌≤◌, Bool, true, false, ◌&&◌, nat_le, List, [], ◌∷◌, ◌++◌, length, map, Some, None, refl, ap, sym, ◌∙◌, arith, append_assoc}
+use Rattle.std.specs.Prelude.{codes}
+use Rattle.std.specs.List.{list_all, fold}
+use Rattle.std.proofs.lemmas.Bool.Decides.{nat_tests}
+use Rattle.std.proofs.lemmas.List.Sums.{fold-append}
+use Rattle.std.proofs.lemmas.List.Folds.{list_all-append}
+use Rattle.tb_text.specs.Lines.{begins_with}
+use Rattle.tb_text.proofs.LineTexts.{is_line_byte}
+use Rattle.tb_param.specs.declared.params.Params.{Params}
+use Rattle.tb_param.specs.Fields.{value_of, with_value}
+use Rattle.tb_param.specs.Table.{Row, rows, row_of, value_fault}
+use Rattle.tb_param.specs.Ranges.{is_no_fault}
+use Rattle.tb_param.proofs.RangeLemmas.{AllRows, fits}
+use Rattle.tb_galley.specs.declared.Cause.TheVariants as causes
+use Rattle.tb_galley.specs.declared.contents.Content.{Content}
+use Rattle.tb_galley.specs.declared.contents.Content.TheVariants as contents
+use Rattle.tb_galley.specs.declared.Item.{Item}
+use Rattle.tb_galley.specs.declared.ItemKind.{ItemKind}
+use Rattle.tb_galley.specs.declared.ItemKind.TheVariants as items
+use Rattle.tb_galley.specs.declared.Leaf.{Leaf}
+use Rattle.tb_galley.specs.declared.LeafKind.{LeafKind}
+use Rattle.tb_galley.specs.declared.LeafKind.TheVariants as leaves
+use Rattle.tb_galley.specs.Words.{LineWord, header, setting, foot, endfoot, Phase, at_start, among_sets, among_items, in_foot, ended, word_of, is_item_word}
+use Rattle.tb_galley.specs.Values.{word_slots}
+use Rattle.tb_galley.specs.Faults.{place_causes, item_causes, cause_if}
+use Rattle.tb_galley.specs.Grammar.{Draft, item_kind, with_content}
+use Rattle.tb_galley.specs.Line.{first_of}
+use Rattle.tb_galley.specs.Machine.{State, next_phase, count_with, take_said}
+use Rattle.tb_galley.specs.Valid.{is_leaf, is_item, weight_of, weight}
+use Rattle.tb_galley.specs.Live.{is_live_item}
+use Rattle.tb_galley.proofs.Suited.{is_served}
+use Rattle.tb_galley.proofs.Sound.{drafted}
+use Rattle.tb_galley.proofs.FieldTexts.{IsText, IsWord, tail_text, line_clean, state, step_back}
+use Rattle.tb_galley.proofs.SlotTexts.{ReadsAs, spelling}
+use Rattle.tb_galley.proofs.KindTexts.{leaf_word, leaf_fields, leaf_back, is_single, item_word, item_fields, item_line, on_line_kind, item_back}
+use Rattle.tb_galley.proofs.ValueTexts.{value_fields, is_plain_row, set_back}
+use Rattle.tb_galley.proofs.Conjunctions.{both, left_of, right_of}
+
+-- ---- words that are served are read
+
+word_text : (w : LineWord) → IsText (spelling w)
+word_text header = record { printable = refl; some = omega arith }
+word_text w = record { printable = refl; some = omega arith }
+
+found : (w : LineWord) → is_served w ≡ true → word_of (spelling w) ≡ Some w
+unfolding word_of
+found header h = refl
+found w h = cc
+
+short_word : (w : LineWord) → length (spelling w) ≤ 14
+short_word header = omega arith
+short_word w = omega arith
+
+no_comment : (w : LineWord) → begins_with 35 (spelling w) ≡ false
+no_comment header = refl
+no_comment w = refl
+
+served_word : (w : LineWord) → is_served w ≡ true → IsWord (spelling w) w
+served_word w h = record { text = word_text w; short = short_word w; content = no_comment w; word = found w h }
+
+live_served : (k : ItemKind) → is_live_item k ≡ true → is_served (item_word k) ≡ true
+live_served (items.Hbox name h d) live = live
+live_served k live = live
+
+-- ---- runs over lines
+
+-- the lines take the reader from one state to another; none of their bytes ends a line
+pub record Runs (s : State) (ls : List (List ℕ)) (t : State) : Type 0 where
+  pub ends : fold take_said s ls ≡ t
+  pub clean : list_all (λ l. list_all is_line_byte l) ls ≡ true
+
+no_lines : (s : State) → Runs s [] s
+no_lines s = record { ends = refl; clean = refl }
+
+pub then_lines : (s t u : State) (xs ys : List (List ℕ)) → Runs s xs t → Runs t ys u → Runs s (xs ++ ys) u
+then_lines s t u xs ys front back = record {
+  ends = fold-append take_said s xs ys ∙ ap (λ r. fold take_said r ys) front.ends ∙ back.ends;
+  clean =
+      list_all-append (λ l. list_all is_line_byte l) xs ys
+      ∙ both (list_all (λ l. list_all is_line_byte l) xs) (list_all (λ l. list_all is_line_byte l) ys) front.clean back.clean;
+}
+
+pub to_state : (s t u : State) (ls : List (List ℕ)) → t ≡ u → Runs s ls t → Runs s ls u
+to_state s t u ls same run = record { ends = run.ends ∙ same; clean = run.clean }
+
+-- a line whose fields are read as this content
+pub word_runs : (n : ℕ) (p : Phase) (c : ℕ) (d : Draft) (w : LineWord) (fs : List (List ℕ)) (says : ℕ → Content) → is_served w ≡ true → ReadsAs w fs says
+    → first_of (place_causes p (Some w)) ≡ None → first_of (item_causes c (Some w)) ≡ None
+    → Runs (state n p c d) ((spelling w ++ tail_text fs) ∷ []) (state (n + 1) (next_phase p (Some w)) (count_with c (Some w)) (with_content d (n + 1) (says (n + 1))))
+word_runs n p c d w fs says served reads place fits = record {
+  ends =
+      step_back n p c d (spelling w) w fs (served_word w served) reads.fit reads.short place fits
+      ∙ ap (λ k. state (n + 1) (next_phase p (Some w)) (count_with c (Some w)) (with_content d (n + 1) k)) (reads.content (n + 1));
+  clean = ap (λ t. t && true) (line_clean (spelling w) (word_slots fs w) fs (word_text w) reads.fit);
+}
+
+-- ---- sets
+
+unfoldable pub set_text : Params → Row → List ℕ
+set_text g r = codes "set" ++ tail_text (r.name ∷ value_fields (value_of r.field g))
+
+pub plain_rows : list_all is_plain_row rows ≡ true
+plain_rows = refl
+
+abbrev pub is_in_range : Params → Row → Bool
+is_in_range g r = is_no_fault (value_fault r.form (value_of r.field g))
+
+abbrev pub set_all : Params → Params → List Row → Params
+set_all g p rs = fold (λ q (r : Row). with_value r.field (value_of r.field g) q) p rs
+
+pub sets_run : (g p : Params) (n : ℕ) (rs : List Row) → AllRows (λ (r : Row). row_of r.name ≡ Some r) rs → list_all is_plain_row rs ≡ true → list_all (is_in_range g) rs ≡ true
+    → Runs (state n among_sets 0 (drafted p [] None 0)) (map (set_text g) rs) (state (n + length rs) among_sets 0 (drafted (set_all g p rs) [] None 0))
+unfolding set_text
+sets_run g p n [] named plain good = to_state (state n among_sets 0 (drafted p [] None 0)) (state n among_sets 0 (drafted p [] None 0)) (state (n + 0) among_sets 0 (drafted p [] None 0)) [] (ap (λ m. state m among_sets 0 (drafted p [] None 0)) (omega arith)) (no_lines (state n among_sets 0 (drafted p [] None 0)))
+sets_run g p n (r ∷ rs) named plain good =
+    let reads : ReadsAs setting (r.name ∷ value_fields (value_of r.field g)) (λ m. contents.Set r.field (value_of r.field g)) =
+    set_back r (value_of r.field g) named.0 (left_of (is_plain_row r) (list_all is_plain_row rs) plain) (left_of (is_in_range g r) (list_all (is_in_range g) rs) good) in
+    let q : Params = with_value r.field (value_of r.field g) p in
+    then_lines (state n among_sets 0 (drafted p [] None 0)) (state (n + 1) among_sets 0 (drafted q [] None 0)) (state (n + length (r ∷ rs)) among_sets 0 (drafted (set_all g p (r ∷ rs)) [] None 0))
+    (set_text g r ∷ []) (map (set_text g) rs)
+    (word_runs n among_sets 0 (drafted p [] None 0) setting (r.name ∷ value_fields (value_of r.field g)) (λ m. contents.Set r.field (value_of r.field g)) refl reads refl refl)
+    (to_state (state (n + 1) among_sets 0 (drafted q [] None 0)) (state (n + 1 + length rs) among_sets 0 (drafted (set_all g q rs) [] None 0)) (state (n + length (r ∷ rs)) among_sets 0 (drafted (set_all g p (r ∷ rs)) [] None 0)) (map (set_text g) rs)
+    (ap (λ m. state m among_sets 0 (drafted (set_all g q rs) [] None 0)) (omega arith))
+    (sets_run g q (n + 1) rs named.1 (right_of (is_plain_row r) (list_all is_plain_row rs) plain) (right_of (is_in_range g r) (list_all (is_in_range g) rs) good)))
+
+-- ---- items
+
+unfoldable pub numbered_leaves : ℕ → List Leaf → List Leaf
+numbered_leaves n [] = []
+numbered_leaves n (l ∷ ls) = record { line = n; kind = l.kind } ∷ numbered_leaves (n + 1) ls
+
+unfoldable pub numbered_kind : ℕ → ItemKind → ItemKind
+numbered_kind n (items.Foot ls) = items.Foot (numbered_leaves (n + 1) ls)
+numbered_kind n k = on_line_kind n k
+
+unfoldable pub numbered_items : ℕ → List Item → List Item
+numbered_items n [] = []
+numbered_items n (i ∷ is) = record { line = n; kind = numbered_kind n i.kind } ∷ numbered_items (n + weight_of i.kind) is
+
+unfoldable pub leaf_line : LeafKind → List ℕ
+leaf_line k = spelling (leaf_word k) ++ tail_text (leaf_fields k)
+
+unfoldable pub kind_lines : ItemKind → List (List ℕ)
+kind_lines (items.Foot ls) = codes "foot" ∷ (map (λ (l : Leaf). leaf_line l.kind) ls ++ codes "endfoot" ∷ [])
+kind_lines k = item_line k ∷ []
+
+-- ---- words in their phases
+
+-- items may stand in the phase, and no footnote is open
+abbrev pub takes_items : Phase → Bool
+takes_items at_start = false
+takes_items among_sets = true
+takes_items among_items = true
+takes_items in_foot = false
+takes_items ended = false
+
+count_fits : (c : ℕ) (w : LineWord) → c + 1 ≤ 100000 → first_of (item_causes c (Some w)) ≡ None
+count_fits c w h =
+    let few : nat_le 100000 c ≡ false = grind (arith, nat_tests) in
+    ap (λ t. first_of (cause_if (is_item_word w && t) causes.Items)) few ∙ ap (λ t. first_of (cause_if t causes.Items)) (and_false (is_item_word w))
+  where
+    and_false : (t : Bool) → (t && false) ≡ false
+    and_false true = refl
+    and_false false = refl
+
+record GoesOn (p q : Phase) (c : ℕ) (w : LineWord) : Type 0 where
+  place : first_of (place_causes p (Some w)) ≡ None
+  next : next_phase p (Some w) ≡ q
+  count : count_with c (Some w) ≡ c + 1
+
+single_goes : (p : Phase) (c : ℕ) (k : ItemKind) → takes_items p ≡ true → is_single k ≡ true → GoesOn p among_items c (item_word k)
+single_goes among_sets c (items.Hbox name h d) takes single = cc
+single_goes among_sets c (items.Rule name h d) takes single = cc
+single_goes among_sets c (items.Skip g) takes single = cc
+single_goes among_sets c (items.Kern w) takes single = cc
+single_goes among_sets c (items.Penalty n) takes single = cc
+single_goes among_sets c (items.Foot ls) takes single = cc
+single_goes among_sets c k takes single = record { place = refl; next = refl; count = refl }
+single_goes among_items c (items.Hbox name h d) takes single = cc
+single_goes among_items c (items.Rule name h d) takes single = cc
+single_goes among_items c (items.Skip g) takes single = cc
+single_goes among_items c (items.Kern w) takes single = cc
+single_goes among_items c (items.Penalty n) takes single = cc
+single_goes among_items c (items.Foot ls) takes single = cc
+single_goes among_items c k takes single = record { place = refl; next = refl; count = refl }
+single_goes p c k takes single = cc
+
+leaf_goes : (p : Phase) (c : ℕ) (k : LeafKind) → takes_items p ≡ true → GoesOn p among_items c (leaf_word k)
+leaf_goes among_sets c (leaves.Hbox name h d) takes = record { place = refl; next = refl; count = refl }
+leaf_goes among_sets c k takes = record { place = refl; next = refl; count = refl }
+leaf_goes among_items c (leaves.Hbox name h d) takes = record { place = refl; next = refl; count = refl }
+leaf_goes among_items c k takes = record { place = refl; next = refl; count = refl }
+leaf_goes p c k takes = cc
+
+inner_goes : (c : ℕ) (k : LeafKind) → GoesOn in_foot in_foot c (leaf_word k)
+inner_goes c (leaves.Hbox name h d) = record { place = refl; next = refl; count = refl }
+inner_goes c k = record { place = refl; next = refl; count = refl }
+
+foot_goes : (p : Phase) (c : ℕ) → takes_items p ≡ true → GoesOn p in_foot c foot
+foot_goes among_sets c takes = record { place = refl; next = refl; count = refl }
+foot_goes among_items c takes = record { place = refl; next = refl; count = refl }
+foot_goes p c takes = cc
+
+-- a line of an item
+goes_runs : (n : ℕ) (p q : Phase) (c : ℕ) (d : Draft) (w : LineWord) (fs : List (List ℕ)) (says : ℕ → Content) → c + 1 ≤ 100000 → is_served w ≡ true → ReadsAs w fs says → GoesOn p q c w
+    → Runs (state n p c d) ((spelling w ++ tail_text fs) ∷ []) (state (n + 1) q (c + 1) (with_content d (n + 1) (says (n + 1))))
+goes_runs n p q c d w fs says few served reads goes =
+    to_state (state n p c d) (state (n + 1) (next_phase p (Some w)) (count_with c (Some w)) (with_content d (n + 1) (says (n + 1)))) (state (n + 1) q (c + 1) (with_content d (n + 1) (says (n + 1)))) ((spelling w ++ tail_text fs) ∷ [])
+    (λ i. state (n + 1) (goes.next i) (goes.count i) (with_content d (n + 1) (says (n + 1))))
+    (word_runs n p c d w fs says served reads goes.place (count_fits c w few))
+
+leaf_served : (k : LeafKind) → is_served (leaf_word k) ≡ true
+leaf_served (leaves.Hbox name h d) = refl
+leaf_served k = refl
+
+-- ---- footnotes
+
+abbrev pub leaf_texts : List Leaf → List (List ℕ)
+leaf_texts ls = map (λ (l : Leaf). leaf_line l.kind) ls
+
+-- a reader in an open foot, and one outside
+abbrev foot_state : ℕ → ℕ → Params → List Item → ℕ → ℕ → List Leaf → State
+foot_state n c ps before e line ls = state n in_foot c (drafted ps before (Some (record { line = line; leaves = ls })) e)
+
+abbrev pub item_state : ℕ → Phase → ℕ → Params → ℕ → List Item → State
+item_state n p c ps e is = state n p c (drafted ps is None e)
+
+same_foot : (a b x y : ℕ) (ps : Params) (before : List Item) (e line : ℕ) (ls ms : List Leaf) → a ≡ b → x ≡ y → ls ≡ ms → foot_state a x ps before e line ls ≡ foot_state b y ps before e line ms
+same_foot a b x y ps before e line ls ms p q r = (λ i. foot_state (p i) (q i) ps before e line (r i))
+
+same_items : (a b : ℕ) (p : Phase) (x y : ℕ) (ps : Params) (e : ℕ) (is js : List Item) → a ≡ b → x ≡ y → is ≡ js → item_state a p x ps e is ≡ item_state b p y ps e js
+same_items a b ph x y ps e is js p q r = (λ i. item_state (p i) ph (q i) ps e (r i))
+
+no_more : {X : Type 0} (xs : List X) → xs ++ [] ≡ xs
+no_more [] = refl
+no_more (x ∷ xs) = ap (λ ys. x ∷ ys) (no_more xs)
+
+leaf_run : (n c : ℕ) (ps : Params) (before : List Item) (e line : ℕ) (so_far : List Leaf) (k : LeafKind) → c + 1 ≤ 100000 → is_leaf k ≡ true
+    → Runs (foot_state n c ps before e line so_far) (leaf_line k ∷ []) (foot_state (n + 1) (c + 1) ps before e line (so_far ++ record { line = n + 1; kind = k } ∷ []))
+unfolding leaf_line
+leaf_run n c ps before e line so_far k few good =
+    goes_runs n in_foot in_foot c (drafted ps before (Some (record { line = line; leaves = so_far })) e) (leaf_word k) (leaf_fields k) (λ m. contents.Plain k) few (leaf_served k) (leaf_back k good) (inner_goes c k)
+
+leaves_run : (n c : ℕ) (ps : Params) (before : List Item) (e line : ℕ) (so_far ls : List Leaf) → c + length ls ≤ 100000 → list_all (λ (l : Leaf). is_leaf l.kind) ls ≡ true
+    → Runs (foot_state n c ps before e line so_far) (leaf_texts ls) (foot_state (n + length ls) (c + length ls) ps before e line (so_far ++ numbered_leaves (n + 1) ls))
+unfolding numbered_leaves
+leaves_run n c ps before e line so_far [] few good =
+    to_state (foot_state n c ps before e line so_far) (foot_state n c ps before e line so_far) (foot_state (n + 0) (c + 0) ps before e line (so_far ++ [])) []
+    (same_foot n (n + 0) c (c + 0) ps before e line so_far (so_far ++ []) (omega arith) (omega arith) (sym (no_more so_far)))
+    (no_lines (foot_state n c ps before e line so_far))
+leaves_run n c ps before e line so_far (l ∷ ls) few good =
+    let leaf : Leaf = record { line = n + 1; kind = l.kind } in
+    then_lines (foot_state n c ps before e line so_far) (foot_state (n + 1) (c + 1) ps before e line (so_far ++ leaf ∷ []))
+    (foot_state (n + length (l ∷ ls)) (c + length (l ∷ ls)) ps before e line (so_far ++ leaf ∷ numbered_leaves (n + 1 + 1) ls)) (leaf_line l.kind ∷ []) (leaf_texts ls)
+    (leaf_run n c ps before e line so_far l.kind (omega arith) (left_of (is_leaf l.kind) (list_all (λ (m : Leaf). is_leaf m.kind) ls) good))
+    (to_state (foot_state (n + 1) (c + 1) ps before e line (so_far ++ leaf ∷ []))
+    (foot_state (n + 1 + length ls) (c + 1 + length ls) ps before e line ((so_far ++ leaf ∷ []) ++ numbered_leaves (n + 1 + 1) ls))
+    (foot_state (n + length (l ∷ ls)) (c + length (l ∷ ls)) ps before e line (so_far ++ leaf ∷ numbered_leaves (n + 1 + 1) ls)) (leaf_texts ls)
+    (same_foot (n + 1 + length ls) (n + length (l ∷ ls)) (c + 1 + length ls) (c + length (l ∷ ls)) ps before e line ((so_far ++ leaf ∷ []) ++ numbered_leaves (n + 1 + 1) ls) (so_far ++ leaf ∷ numbered_leaves (n + 1 + 1) ls)
+    (omega arith) (omega arith) (append_assoc so_far (leaf ∷ []) (numbered_leaves (n + 1 + 1) ls)))
+    (leaves_run (n + 1) (c + 1) ps before e line (so_far ++ leaf ∷ []) ls (omega arith) (right_of (is_leaf l.kind) (list_all (λ (m : Leaf). is_leaf m.kind) ls) good)))
+
+endfoot_served : (ls : List Leaf) → is_live_item (items.Foot ls) ≡ true → is_served endfoot ≡ true
+endfoot_served ls live = live
+
+foot_run : (n : ℕ) (p : Phase) (c : ℕ) (ps : Params) (e : ℕ) (before : List Item) (ls : List Leaf) → takes_items p ≡ true → c + (length ls + 2) ≤ 100000 → list_all (λ (l : Leaf). is_leaf l.kind) ls ≡ true → is_live_item (items.Foot ls) ≡ true
+    → Runs (item_state n p c ps e before) (kind_lines (items.Foot ls)) (item_state (n + (length ls + 2)) among_items (c + (length ls + 2)) ps e (before ++ record { line = n + 1; kind = numbered_kind (n + 1) (items.Foot ls) } ∷ []))
+unfolding kind_lines numbered_kind
+foot_run n p c ps e before ls takes few good live =
+    let after : List Item = before ++ record { line = n + 1; kind = items.Foot (numbered_leaves (n + 1 + 1) ls) } ∷ [] in
+    let opened : Runs (item_state n p c ps e before) (codes "foot" ∷ []) (foot_state (n + 1) (c + 1) ps before e (n + 1) []) =
+    goes_runs n p in_foot c (drafted ps before None e) foot [] (λ m. contents.Foot) (omega arith) live (record { fit = tt; short = omega arith; content = λ m. refl }) (foot_goes p c takes) in
+    let inner : Runs (foot_state (n + 1) (c + 1) ps before e (n + 1) []) (leaf_texts ls) (foot_state (n + 1 + length ls) (c + 1 + length ls) ps before e (n + 1) (numbered_leaves (n + 1 + 1) ls)) =
+    leaves_run (n + 1) (c + 1) ps before e (n + 1) [] ls (omega arith) good in
+    let closed : Runs (foot_state (n + 1 + length ls) (c + 1 + length ls) ps before e (n + 1) (numbered_leaves (n + 1 + 1) ls)) (codes "endfoot" ∷ []) (item_state (n + 1 + length ls + 1) among_items (c + 1 + length ls + 1) ps e after) =
+    goes_runs (n + 1 + length ls) in_foot among_items (c + 1 + length ls) (drafted ps before (Some (record { line = n + 1; leaves = numbered_leaves (n + 1 + 1) ls })) e) endfoot [] (λ m. contents.Endfoot) (omega arith) (endfoot_served ls live)
+    (record { fit = tt; short = omega arith; content = λ m. refl }) (record { place = refl; next = refl; count = refl }) in
+    to_state (item_state n p c ps e before) (item_state (n + 1 + length ls + 1) among_items (c + 1 + length ls + 1) ps e after) (item_state (n + (length ls + 2)) among_items (c + (length ls + 2)) ps e after)
+    (codes "foot" ∷ (leaf_texts ls ++ codes "endfoot" ∷ []))
+    (same_items (n + 1 + length ls + 1) (n + (length ls + 2)) among_items (c + 1 + length ls + 1) (c + (length ls + 2)) ps e after after (omega arith) (omega arith) refl)
+    (then_lines (item_state n p c ps e before) (foot_state (n + 1) (c + 1) ps before e (n + 1) []) (item_state (n + 1 + length ls + 1) among_items (c + 1 + length ls + 1) ps e after)
+    (codes "foot" ∷ []) (leaf_texts ls ++ codes "endfoot" ∷ []) opened
+    (then_lines (foot_state (n + 1) (c + 1) ps before e (n + 1) []) (foot_state (n + 1 + length ls) (c + 1 + length ls) ps before e (n + 1) (numbered_leaves (n + 1 + 1) ls)) (item_state (n + 1 + length ls + 1) among_items (c + 1 + length ls + 1) ps e after)
+    (leaf_texts ls) (codes "endfoot" ∷ []) inner closed))
+
+-- ---- items
+
+plain_run : (n : ℕ) (p : Phase) (c : ℕ) (ps : Params) (e : ℕ) (before : List Item) (k : LeafKind) → takes_items p ≡ true → c + 1 ≤ 100000 → is_leaf k ≡ true
+    → Runs (item_state n p c ps e before) (leaf_line k ∷ []) (item_state (n + 1) among_items (c + 1) ps e (before ++ record { line = n + 1; kind = item_kind k } ∷ []))
+unfolding leaf_line
+plain_run n p c ps e before k takes few good =
+    goes_runs n p among_items c (drafted ps before None e) (leaf_word k) (leaf_fields k) (λ m. contents.Plain k) few (leaf_served k) (leaf_back k good) (leaf_goes p c k takes)
+
+single_run : (n : ℕ) (p : Phase) (c : ℕ) (ps : Params) (e : ℕ) (before : List Item) (line : ℕ) (k : ItemKind) → takes_items p ≡ true → c + 1 ≤ 100000 → is_single k ≡ true → is_item line k ≡ true → is_live_item k ≡ true
+    → Runs (item_state n p c ps e before) (item_line k ∷ []) (item_state (n + 1) among_items (c + 1) ps e (before ++ record { line = n + 1; kind = on_line_kind (n + 1) k } ∷ []))
+single_run n p c ps e before line k takes few single good live =
+    goes_runs n p among_items c (drafted ps before None e) (item_word k) (item_fields k) (λ m. contents.Item (on_line_kind m k)) few (live_served k live) (item_back line k single good) (single_goes p c k takes single)
+
+item_run : (n : ℕ) (p : Phase) (c : ℕ) (ps : Params) (e : ℕ) (before : List Item) (line : ℕ) (k : ItemKind) → takes_items p ≡ true → c + weight_of k ≤ 100000 → is_item line k ≡ true → is_live_item k ≡ true
+    → Runs (item_state n p c ps e before) (kind_lines k) (item_state (n + weight_of k) among_items (c + weight_of k) ps e (before ++ record { line = n + 1; kind = numbered_kind (n + 1) k } ∷ []))
+unfolding kind_lines numbered_kind leaf_line
+item_run n p c ps e before line (items.Hbox name h d) takes few good live = plain_run n p c ps e before (leaves.Hbox name h d) takes few good
+item_run n p c ps e before line (items.Rule name h d) takes few good live = plain_run n p c ps e before (leaves.Rule name h d) takes few good
+item_run n p c ps e before line (items.Skip g) takes few good live = plain_run n p c ps e before (leaves.Skip g) takes few good
+item_run n p c ps e before line (items.Kern w) takes few good live = plain_run n p c ps e before (leaves.Kern w) takes few good
+item_run n p c ps e before line (items.Penalty k) takes few good live = plain_run n p c ps e before (leaves.Penalty k) takes few good
+item_run n p c ps e before line (items.Foot ls) takes few good live = foot_run n p c ps e before ls takes few good live
+item_run n p c ps e before line k takes few good live = single_run n p c ps e before line k takes few refl good live
+
+abbrev pub item_texts : List Item → List (List ℕ)
+item_texts [] = []
+item_texts (i ∷ is) = kind_lines i.kind ++ item_texts is
+
+abbrev pub phase_past_items : Phase → List Item → Phase
+phase_past_items p [] = p
+phase_past_items p (i ∷ is) = among_items
+
+pub items_run : (n : ℕ) (p : Phase) (c : ℕ) (ps : Params) (e : ℕ) (before is : List Item) → takes_items p ≡ true → c + weight is ≤ 100000
+    → list_all (λ (i : Item). is_item i.line i.kind) is ≡ true → list_all (λ (i : Item). is_live_item i.kind) is ≡ true
+    → Runs (item_state n p c ps e before) (item_texts is) (item_state (n + weight is) (phase_past_items p is) (c + weight is) ps e (before ++ numbered_items (n + 1) is))
+unfolding numbered_items
+items_run n p c ps e before [] takes few good live =
+    to_state (item_state n p c ps e before) (item_state n p c ps e before) (item_state (n + 0) p (c + 0) ps e (before ++ [])) []
+    (same_items n (n + 0) p c (c + 0) ps e before (before ++ []) (omega arith) (omega arith) (sym (no_more before)))
+    (no_lines (item_state n p c ps e before))
+items_run n p c ps e before (i ∷ is) takes few good live =
+    let k : ℕ = weight_of i.kind in
+    let item : Item = record { line = n + 1; kind = numbered_kind (n + 1) i.kind } in
+    then_lines (item_state n p c ps e before) (item_state (n + weight_of i.kind) among_items (c + weight_of i.kind) ps e (before ++ item ∷ []))
+    (item_state (n + weight (i ∷ is)) among_items (c + weight (i ∷ is)) ps e (before ++ item ∷ numbered_items (n + 1 + weight_of i.kind) is)) (kind_lines i.kind) (item_texts is)
+    (item_run n p c ps e before i.line i.kind takes (omega arith)
+    (left_of (is_item i.line i.kind) (list_all (λ (j : Item). is_item j.line j.kind) is) good) (left_of (is_live_item i.kind) (list_all (λ (j : Item). is_live_item j.kind) is) live))
+    (to_state (item_state (n + weight_of i.kind) among_items (c + weight_of i.kind) ps e (before ++ item ∷ []))
+    (item_state (n + weight_of i.kind + weight is) (phase_past_items among_items is) (c + weight_of i.kind + weight is) ps e ((before ++ item ∷ []) ++ numbered_items (n + weight_of i.kind + 1) is))
+    (item_state (n + weight (i ∷ is)) among_items (c + weight (i ∷ is)) ps e (before ++ item ∷ numbered_items (n + 1 + weight_of i.kind) is)) (item_texts is)
+    (ap (λ ph. item_state (n + weight_of i.kind + weight is) ph (c + weight_of i.kind + weight is) ps e ((before ++ item ∷ []) ++ numbered_items (n + weight_of i.kind + 1) is)) (still_items is)
+    ∙ same_items (n + weight_of i.kind + weight is) (n + weight (i ∷ is)) among_items (c + weight_of i.kind + weight is) (c + weight (i ∷ is)) ps e ((before ++ item ∷ []) ++ numbered_items (n + weight_of i.kind + 1) is) (before ++ item ∷ numbered_items (n + 1 + weight_of i.kind) is)
+    (omega arith) (omega arith) (append_assoc before (item ∷ []) (numbered_items (n + weight_of i.kind + 1) is) ∙ ap (λ m. before ++ item ∷ numbered_items m is) (omega arith)))
+    (items_run (n + weight_of i.kind) among_items (c + weight_of i.kind) ps e (before ++ item ∷ []) is refl (omega arith)
+    (right_of (is_item i.line i.kind) (list_all (λ (j : Item). is_item j.line j.kind) is) good) (right_of (is_live_item i.kind) (list_all (λ (j : Item). is_live_item j.kind) is) live)))
+  where
+    still_items : (is : List Item) → phase_past_items among_items is ≡ among_items
+    still_items [] = refl
+    still_items (i ∷ is) = refl

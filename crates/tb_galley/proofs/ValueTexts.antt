@@ -1,0 +1,146 @@
+-- The value of a parameter is read back.
+use Rattle.std.proofs.Common.{◌≡◌, ℕ, ◌<◌, ◌≤◌, ℤ, pos, negsuc, nat_abs, Bool, true, false, not, ◌&&◌, ◌||◌, nat_lt, nat_le, List, [], ◌∷◌, ◌++◌, length, Some, Ok, refl, ap, sym, subst, ◌∙◌, arith, length-append}
+use Rattle.std.specs.Prelude.{codes, int_lt}
+use Rattle.std.specs.Fmt.{signed_decimal}
+use Rattle.std.specs.List.{list_all}
+use Rattle.std.proofs.lemmas.Bool.Decides.{nat_tests}
+use Rattle.tb_text.specs.Numbers.{fraction_of_field}
+use Rattle.tb_text.proofs.NumberTexts.{fraction_back}
+use Rattle.tb_param.specs.declared.Choice.{Choice}
+use Rattle.tb_param.specs.declared.Choice.TheVariants as choices
+use Rattle.tb_param.specs.declared.Value.{Value}
+use Rattle.tb_param.specs.declared.Value.TheVariants as values
+use Rattle.tb_param.specs.declared.table.Form.{Form}
+use Rattle.tb_param.specs.declared.table.Form.TheVariants as forms
+use Rattle.tb_param.specs.Table.{Row, row_of, is_within, is_glue, out_of_range}
+use Rattle.tb_param.specs.Ranges.{is_no_fault}
+use Rattle.tb_param.proofs.RangeLemmas.{fits}
+use Rattle.tb_galley.specs.declared.Cause.TheVariants as causes
+use Rattle.tb_galley.specs.declared.contents.Content.TheVariants as contents
+use Rattle.tb_galley.specs.Words.{setting}
+use Rattle.tb_galley.specs.Values.{parameter_slot, row_cause, form_slots, row_slots}
+use Rattle.tb_galley.specs.Faults.{is_printable}
+use Rattle.tb_galley.specs.Grammar.{value_by, set_content}
+use Rattle.tb_galley.specs.Print.{value_text}
+use Rattle.tb_galley.proofs.FieldTexts.{IsText, AllFit, tail_text, tail_length, nothing_more}
+use Rattle.tb_galley.proofs.SlotTexts.{ReadsAs, glue_fields, glue_is, glue_fit, glue_short, glue_back, least_fit, range_fit, joined_text, dimension_read, integer_read, dimen_length, within_small, read_none, read_back}
+use Rattle.tb_galley.proofs.Conjunctions.{left_of, right_of}
+
+choice_field : Choice → List ℕ
+choice_field choices.Flush = codes "flush"
+choice_field choices.Ragged = codes "ragged"
+choice_field choices.On = codes "on"
+choice_field choices.Off = codes "off"
+
+pub value_fields : Value → List (List ℕ)
+value_fields (values.Int n) = signed_decimal n ∷ []
+value_fields (values.Dim n) = signed_decimal n ∷ []
+value_fields (values.Skip g) = glue_fields g
+value_fields (values.Frac n) = (signed_decimal n ++ codes "/65536") ∷ []
+value_fields (values.Word c) = choice_field c ∷ []
+
+pub value_is : (v : Value) → value_text v ≡ tail_text (value_fields v)
+unfolding value_fields choice_field
+value_is (values.Int n) = ap (λ t. 32 ∷ t) (sym (nothing_more (signed_decimal n)))
+value_is (values.Dim n) = ap (λ t. 32 ∷ t) (sym (nothing_more (signed_decimal n)))
+value_is (values.Skip g) = glue_is g
+value_is (values.Frac n) = ap (λ t. 32 ∷ t) (sym (nothing_more (signed_decimal n ++ codes "/65536")))
+value_is (values.Word choices.Flush) = refl
+value_is (values.Word choices.Ragged) = refl
+value_is (values.Word choices.On) = refl
+value_is (values.Word choices.Off) = refl
+
+-- a form whose ranges are dimensions at most
+abbrev pub is_plain_form : Form → Bool
+is_plain_form (forms.Int low high) = nat_le (nat_abs low) 1073741823 && nat_le (nat_abs high) 1073741823
+is_plain_form (forms.Dim low) = nat_le (nat_abs low) 1073741823
+is_plain_form forms.Frac = true
+is_plain_form forms.Skip = true
+is_plain_form forms.Bottom = true
+is_plain_form forms.Switch = true
+
+in_range : (t : Bool) → is_no_fault (out_of_range t) ≡ true → t ≡ true
+in_range true h = refl
+in_range false h = cc
+
+at_most : (a b : ℕ) → nat_le a b ≡ true → a ≤ b
+at_most a b h = grind (arith, nat_tests)
+
+pub record FormBack (form : Form) (v : Value) : Type 0 where
+  pub fit : AllFit (form_slots (value_fields v) form) (value_fields v)
+  pub short : tail_length (value_fields v) ≤ 60
+  pub read : (name : List ℕ) → value_by (name ∷ value_fields v) form ≡ v
+
+int_back : (low high n : ℤ) → is_plain_form (forms.Int low high) ≡ true → is_within low high n ≡ true → FormBack (forms.Int low high) (values.Int n)
+unfolding value_fields
+int_back low high n plain good =
+    let k : nat_abs low ≤ 1073741823 = at_most (nat_abs low) 1073741823 (left_of (nat_le (nat_abs low) 1073741823) (nat_le (nat_abs high) 1073741823) plain) in
+    let l : nat_abs high ≤ 1073741823 = at_most (nat_abs high) 1073741823 (right_of (nat_le (nat_abs low) 1073741823) (nat_le (nat_abs high) 1073741823) plain) in
+    let small : nat_abs n ≤ 1073741823 = within_small low high n 1073741823 k l good in
+    let a : length (signed_decimal n) ≤ 11 = dimen_length n small in
+    record { fit = (range_fit low high causes.Parameter n k l good, tt); short = omega arith; read = λ name. ap (λ z. values.Int z) (integer_read n small) }
+
+dim_back : (low n : ℤ) → is_plain_form (forms.Dim low) ≡ true → is_within low (pos 1073741823) n ≡ true → FormBack (forms.Dim low) (values.Dim n)
+unfolding value_fields
+dim_back low n plain good =
+    let k : nat_abs low ≤ 1073741823 = at_most (nat_abs low) 1073741823 plain in
+    let small : nat_abs n ≤ 1073741823 = within_small low (pos 1073741823) n 1073741823 k (omega arith) good in
+    let a : length (signed_decimal n) ≤ 11 = dimen_length n small in
+    record { fit = (least_fit low causes.Parameter n k good, tt); short = omega arith; read = λ name. ap (λ z. values.Dim z) (dimension_read n small) }
+
+frac_back : (n : ℤ) → is_within (pos 0) (pos 65536) n ≡ true → FormBack forms.Frac (values.Frac n)
+unfolding value_fields
+frac_back (negsuc n) good = cc
+frac_back (pos n) good =
+    let small : nat_abs (pos n) ≤ 65536 = within_small (pos 0) (pos 65536) (pos n) 65536 (omega arith) (omega arith) good in
+    let a : length (signed_decimal (pos n)) ≤ 11 = dimen_length (pos n) (omega arith) in
+    let back : fraction_of_field (signed_decimal (pos n) ++ codes "/65536") ≡ Ok (pos n) = fraction_back n (omega arith) in
+    record {
+      fit = (
+        record {
+          text = joined_text (pos n) (codes "/65536") (omega arith) refl;
+          slot = read_none (λ v. not (int_lt v (pos 0) || int_lt (pos 65536) v)) causes.Parameter (fraction_of_field (signed_decimal (pos n) ++ codes "/65536")) (pos n) back good;
+        },
+        tt,
+      );
+      short = omega (arith, length-append (signed_decimal (pos n)) (codes "/65536"));
+      read = λ name. ap (λ z. values.Frac z) (read_back (pos 0) (fraction_of_field (signed_decimal (pos n) ++ codes "/65536")) (pos n) back);
+    }
+
+pub value_back : (form : Form) (v : Value) → is_plain_form form ≡ true → fits form v ≡ true → FormBack form v
+unfolding value_fields choice_field
+value_back (forms.Int low high) (values.Int n) plain good = int_back low high n plain (in_range (is_within low high n) good)
+value_back (forms.Dim low) (values.Dim n) plain good = dim_back low n plain (in_range (is_within low (pos 1073741823) n) good)
+value_back forms.Frac (values.Frac n) plain good = frac_back n (in_range (is_within (pos 0) (pos 65536) n) good)
+value_back forms.Skip (values.Skip g) plain good =
+    let glue : is_glue g ≡ true = in_range (is_glue g) good in
+    record { fit = glue_fit g glue; short = glue_short g glue; read = λ name. ap (λ x. values.Skip x) (glue_back g glue) }
+value_back forms.Bottom (values.Word choices.Flush) plain good = record { fit = (record { text = record { printable = refl; some = omega arith }; slot = refl }, tt); short = omega arith; read = λ name. refl }
+value_back forms.Bottom (values.Word choices.Ragged) plain good = record { fit = (record { text = record { printable = refl; some = omega arith }; slot = refl }, tt); short = omega arith; read = λ name. refl }
+value_back forms.Switch (values.Word choices.On) plain good = record { fit = (record { text = record { printable = refl; some = omega arith }; slot = refl }, tt); short = omega arith; read = λ name. refl }
+value_back forms.Switch (values.Word choices.Off) plain good = record { fit = (record { text = record { printable = refl; some = omega arith }; slot = refl }, tt); short = omega arith; read = λ name. refl }
+value_back form v plain good = cc
+
+-- ---- a whole row
+
+abbrev pub is_plain_row : Row → Bool
+is_plain_row r = (list_all is_printable r.name && nat_lt 0 (length r.name)) && (nat_le (length r.name) 30 && is_plain_form r.form)
+
+some_bytes : (k : ℕ) → nat_lt 0 k ≡ true → 0 < k
+some_bytes k h = grind (arith, nat_tests)
+
+pub set_back : (r : Row) (v : Value) → row_of r.name ≡ Some r → is_plain_row r ≡ true → fits r.form v ≡ true → ReadsAs setting (r.name ∷ value_fields v) (λ n. contents.Set r.field v)
+set_back r v found plain good =
+    let named : (list_all is_printable r.name && nat_lt 0 (length r.name)) ≡ true = left_of (list_all is_printable r.name && nat_lt 0 (length r.name)) (nat_le (length r.name) 30 && is_plain_form r.form) plain in
+    let formed : (nat_le (length r.name) 30 && is_plain_form r.form) ≡ true = right_of (list_all is_printable r.name && nat_lt 0 (length r.name)) (nat_le (length r.name) 30 && is_plain_form r.form) plain in
+    let short : length r.name ≤ 30 = at_most (length r.name) 30 (left_of (nat_le (length r.name) 30) (is_plain_form r.form) formed) in
+    let back : FormBack r.form v = value_back r.form v (right_of (nat_le (length r.name) 30) (is_plain_form r.form) formed) good in
+    let text : IsText r.name = record {
+      printable = left_of (list_all is_printable r.name) (nat_lt 0 (length r.name)) named;
+      some = some_bytes (length r.name) (right_of (list_all is_printable r.name) (nat_lt 0 (length r.name)) named);
+    } in
+    record {
+      fit = subst (λ o. AllFit (parameter_slot ∷ row_slots (value_fields v) o) (r.name ∷ value_fields v)) (sym found) (record { text = text; slot = ap row_cause found }, back.fit);
+      short = omega (arith, back.short);
+      content = λ n. ap (λ o. set_content (r.name ∷ value_fields v) o) found ∙ ap (λ x. contents.Set r.field x) (back.read r.name);
+    }
