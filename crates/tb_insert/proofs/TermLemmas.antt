@@ -17,16 +17,16 @@ use Rattle.tb_node.specs.Plain.{PlainKind, plain, ins, act, PlainNode, node_shap
 use Rattle.tb_node.specs.Sums.{sums_of, size_of, last_depth, depth_from, list_stretch, stretch_of, list_shrink, stretches}
 use Rattle.tb_node.specs.Add.{added_node, stretched_sums, more_at, order_index, stretch_with, shrink_with}
 use Rattle.tb_node.proofs.AddLemmas.{sums-append, added_stretches, size-append, depth-append, stretch-append, shrink-append}
-use Rattle.tb_break.specs.Scan.{Scanned}
+use Rattle.tb_break.specs.Scan.{Scanned, empty_scan}
 use Rattle.tb_insert.specs.declared.Class.{Class}
 use Rattle.tb_insert.specs.declared.Entry.{Entry}
 use Rattle.tb_insert.specs.declared.Account.{Account}
 use Rattle.tb_insert.specs.Terms.{Terms, sums_with, added_amounts}
-use Rattle.tb_insert.specs.Account.{Frozen, Label, Labelled, labelled, labelled_with, label_of, terms_after, terms_of_labels, is_met, insertions, class_box, met_classes, skip_shapes, class_height}
+use Rattle.tb_insert.specs.Account.{ClassBox, Frozen, Label, Labelled, labelled, labelled_with, label_of, terms_after, terms_of_labels, is_met, insertions, class_box, met_classes, skip_shapes, class_height}
 use Rattle.tb_insert.specs.Running.{Differ, numbered, boxed, AccountStands, EntryStands, ScanStands, ComesTo, met_scan}
 use Rattle.tb_insert.specs.Arrived.{InnerFits, ClassFits, ArriveFits, PageFits, entry_of, blank_entry}
 use Rattle.tb_insert.proofs.AccountLemmas.{TermsNext, terms_next, labelled-append, new_skip}
-use Rattle.tb_insert.proofs.StandsLemmas.{goal_next, height_next, penalties_next}
+use Rattle.tb_insert.proofs.StandsLemmas.{none_met, goal_next, height_next, penalties_next}
 
 swap : (x v t : ℤ) → (x +ℤ v) +ℤ t ≡ (x +ℤ t) +ℤ v
 swap x v t = omega (arith, ints)
@@ -157,19 +157,12 @@ module _ (z : Frozen) (page : List PlainNode) (s : Scanned) (line : ℕ) (i : In
       ∙ sym (skip_sums z.limit (map node_shape page) (terms_after z page) (terms_of_labels z (labelled z page ++ l ∷ [])) (class_box z.classes i.class).class.skip m _ _ _ _ _ _ _ _ refl refl (next.stretch Normal) (next.stretch Fil) (next.stretch Fill) (next.stretch Filll) next.shrink)
       ∙ sym (ap (λ ls. sums_with (sums_of z.limit (map node_shape page)) (terms_of_labels z ls)) (labelled-append z page (record { line = line; kind = ins i })))
 
-  -- the insertion goes on the page
-  pub scan_arrives : (t : Scanned) → t ≡ record (met_scan m s class) { sums = added_node (met_scan m s class).max_depth (met_scan m s class).sums other } → ScanStands t z (page ++ record { line = line; kind = ins i } ∷ [])
-  scan_arrives t add = record {
-    under = ap (λ (x : Scanned). x.max_depth) add ∙ depth;
-    sums = ap (λ (x : Scanned). x.sums) add ∙ (λ j. added_node (depth j) (skipped j) other) ∙ sym whole;
+  -- the insertion goes on the page, where it takes no room
+  pub scan_meets : ScanStands (met_scan m s class) z (page ++ record { line = line; kind = ins i } ∷ [])
+  scan_meets = record {
+    under = met_depth m s class ∙ scan.under;
+    sums = skipped ∙ sym (ap (λ x. sums_with x (terms_after z (page ++ record { line = line; kind = ins i } ∷ []))) (ap (sums_of z.limit) (map-append node_shape page (record { line = line; kind = ins i } ∷ [])) ∙ sums-other z.limit (map node_shape page)));
   }
-    where
-      depth : (met_scan m s class).max_depth ≡ z.limit
-      depth = met_depth m s class ∙ scan.under
-
-      whole : sums_with (sums_of z.limit (map node_shape (page ++ record { line = line; kind = ins i } ∷ []))) (terms_after z (page ++ record { line = line; kind = ins i } ∷ [])) ≡ added_node z.limit (sums_with (sums_of z.limit (map node_shape page)) (terms_after z (page ++ record { line = line; kind = ins i } ∷ []))) other
-      whole = ap (λ ss. sums_with (sums_of z.limit ss) (terms_after z (page ++ record { line = line; kind = ins i } ∷ []))) (map-append node_shape page (record { line = line; kind = ins i } ∷ []))
-          ∙ with_terms z.limit (map node_shape page) other (terms_after z (page ++ record { line = line; kind = ins i } ∷ [])) _ _ _ _ refl
 
 -- a node without an insertion leaves the labels as they are
 pub labelled-plain : (z : Frozen) (page : List PlainNode) (n : PlainNode) → is_insertion_kind n.kind ≡ false → labelled z (page ++ n ∷ []) ≡ labelled z page
@@ -191,6 +184,24 @@ scan_plain z page s t n h scan add = record {
     whole = ap (λ ls. sums_with (sums_of z.limit (map node_shape (page ++ n ∷ []))) (terms_of_labels z ls)) (labelled-plain z page n h)
         ∙ ap (λ ss. sums_with (sums_of z.limit ss) (terms_after z page)) (map-append node_shape page (n ∷ []))
         ∙ with_terms z.limit (map node_shape page) (node_shape n) (terms_after z page) _ _ _ _ refl
+
+-- a node that takes no room and is no insertion goes on the page
+pub scan_loose : (z : Frozen) (page : List PlainNode) (s : Scanned) (n : PlainNode) → is_insertion_kind n.kind ≡ false → node_shape n ≡ other → ScanStands s z page → ScanStands s z (page ++ n ∷ [])
+scan_loose z page s n h e scan = record {
+  under = scan.under;
+  sums = scan.sums ∙ sym (ap (λ ls. sums_with (sums_of z.limit (map node_shape (page ++ n ∷ []))) (terms_of_labels z ls)) (labelled-plain z page n h)
+      ∙ ap (λ x. sums_with x (terms_after z page)) (ap (sums_of z.limit) (map-append node_shape page (n ∷ []) ∙ ap (λ x. map node_shape page ++ x ∷ []) e) ∙ sums-other z.limit (map node_shape page)));
+}
+
+-- a scan that took nothing has the sums of the empty page
+pub scan_new : (z : Frozen) (limit : ℤ) (s : Scanned) → s ≡ empty_scan limit → z.limit ≡ limit → ScanStands s z []
+scan_new z limit s e l = record {
+  under = ap (λ (x : Scanned). x.max_depth) e ∙ sym l;
+  sums = ap (λ (x : Scanned). x.sums) e ∙ ap (λ x. sums_of x []) (sym l) ∙ sym (ap (λ cs. sums_with (sums_of z.limit []) (skip_terms cs)) (none_met z.classes));
+}
+  where
+    skip_terms : List ClassBox → Terms
+    skip_terms cs = record { goal = (terms_after z []).goal; penalties = pos 0; stretch = stretches (skip_shapes cs); shrink = list_shrink (skip_shapes cs) }
 
 -- ---- what is added up fits
 
