@@ -43,18 +43,29 @@ abbrev pub inner_ids : List Node → List ℕ
 inner_ids [] = []
 inner_ids (n ∷ ns) = option_to_list (inner_of n.kind) ++ inner_ids ns
 
+-- a builder's own lists
+pub record Ids : Type 0 where
+  pub page : ℕ
+  pub waiting : ℕ
+  pub held : ℕ
+  pub rest : ℕ
+  pub boxes : List ClassList
+
+abbrev pub ids_of : Builder → Ids
+ids_of b = record { page = b.page; waiting = b.waiting; held = b.held; rest = b.rest; boxes = b.boxes.items }
+
 -- the nodes of the builder's lists
-abbrev pub nodes_of : Builder → Lists Node → List Node
+abbrev pub nodes_of : Ids → Lists Node → List Node
 nodes_of b s = list_at s b.held ++ (list_at s b.page ++ list_at s b.waiting)
 
 abbrev pub box_ids : List ClassList → List ℕ
 box_ids es = map (λ e. e.list) es
 
--- the builder's own lists
-abbrev pub own_ids : Builder → List ℕ
-own_ids b = b.page ∷ b.waiting ∷ b.held ∷ b.rest ∷ box_ids b.boxes.items
+abbrev pub own_ids : Ids → List ℕ
+own_ids b = b.page ∷ b.waiting ∷ b.held ∷ b.rest ∷ box_ids b.boxes
 
-abbrev pub owned : Builder → Lists Node → List ℕ
+-- all lists that are the builder's
+abbrev pub owned : Ids → Lists Node → List ℕ
 owned b s = own_ids b ++ inner_ids (nodes_of b s)
 
 -- ---- what the lists hold
@@ -113,3 +124,16 @@ is_known cs (kinds.Act a) = true
 abbrev pub AllKnown : List Class → List Node → Type 0
 AllKnown cs [] = Unit {0}
 AllKnown cs (n ∷ ns) = (is_known cs n.kind ≡ true) × AllKnown cs ns
+
+abbrev pub classes_of : Ids → List Class
+classes_of b = map (λ e. e.class) b.boxes
+
+-- the builder's lists are live and differ from each other and from those of the insertions in them
+pub record IsOwned (b : Ids) (s : Lists Node) : Type 0 where
+  pub live : AllLive s (owned b s)
+  pub differ : AllDiffer (owned b s)
+  pub between : list_at s b.rest ≡ []
+  pub void_empty : VoidEmpty s b.boxes
+  pub plain_lists : HoldPlain s (box_ids b.boxes ++ inner_ids (nodes_of b s))
+  pub classes : ClassesFit (classes_of b)
+  pub known : AllKnown (classes_of b) (nodes_of b s)

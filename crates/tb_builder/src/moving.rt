@@ -12,7 +12,7 @@ ghost use Rattle.tb_builder.specs.Running.{act_of_kind, insertion_of_kind, nodes
 
 use tb_break::is_glue;
 use tb_node::{Act, Insertion, Kind, Node};
-use tb_pool::{ListId, Lists};
+use tb_pool::{Iter, ListId, Lists};
 
 // A node that is an act, if it is one.
 pub fn act_of(n: &Node) -> Option<Act>
@@ -48,13 +48,22 @@ pub fn first_of(store: &Lists<Node>, l: ListId) -> Option<Node>
     store.get(l, 0).copied()
 }
 
+fn skip_one(nodes: &mut Iter<'_, Node>)
+    ensures { nodes.new ≡ drop 1 nodes.old }
+{
+    match nodes.next() {
+        Some(_) => (),
+        None => (),
+    }
+}
+
 // Glue stands first behind the first node of the list, where acts are looked past.
 pub fn glue_follows(store: &Lists<Node>, l: ListId) -> bool
     requires { IsLive store.now l }
     ensures { result ≡ nodes_glue_first (drop 1 (list_at store.now l)) }
 {
     let mut behind = store.iter(l);
-    behind.next();
+    skip_one(&mut behind);
     for n in behind {
         if act_of(n).is_none() {
             return is_glue(n);
