@@ -33,8 +33,9 @@ use Rattle.tb_insert.proofs.TermLemmas.{scan_plain, scan_meets, scan_loose, scan
 use Rattle.tb_builder.specs.declared.Course.{Course}
 use Rattle.tb_builder.specs.declared.Try.{Try}
 use Rattle.tb_builder.specs.Reached.{page_place, try_of}
-use Rattle.tb_builder.specs.Places.{page_shapes, NoActs}
-use Rattle.tb_builder.specs.Running.{ChampionIs, CourseStands, is_loose, AllLoose, act_of_kind, insertion_of_kind}
+use Rattle.tb_break.specs.Finding.{penalty_by}
+use Rattle.tb_builder.specs.Places.{page_shapes, glue_first, node_penalty, NoActs}
+use Rattle.tb_builder.specs.Running.{ChampionIs, CourseStands, is_loose, AllLoose, act_of_kind, insertion_of_kind, nodes_glue_first}
 use Rattle.tb_builder.specs.Offer.{OfferIs, Marks, place_here}
 
 -- ---- a node by its kind
@@ -77,6 +78,37 @@ no_insertion held (kinds.Note name) e = refl
 no_insertion held kinds.Whatsit e = refl
 no_insertion held (kinds.Ins i) e = cc
 no_insertion held (kinds.Act a) e = refl
+
+pub penalty_is : (held : ℕ → List Node) (lasting g : Bool) (n : Node) → act_of_kind n.kind ≡ None → node_penalty lasting g (plain_of held n) ≡ penalty_by lasting g (shape_of n)
+penalty_is held lasting g n e = by_kind n.kind e
+  where
+    by_kind : (k : Kind) → act_of_kind k ≡ None → (let x : Node = record { line = n.line; kind = k } in node_penalty lasting g (plain_of held x) ≡ penalty_by lasting g (shape_of x))
+    by_kind (kinds.Hbox what h d) e = refl
+    by_kind (kinds.Rule name h d) e = refl
+    by_kind (kinds.Skip g) e = refl
+    by_kind (kinds.Kern w) e = refl
+    by_kind (kinds.Pen p) e = refl
+    by_kind (kinds.Mark name) e = refl
+    by_kind (kinds.Note name) e = refl
+    by_kind kinds.Whatsit e = refl
+    by_kind (kinds.Ins i) e = refl
+    by_kind (kinds.Act a) e = cc
+
+pub first_glue_is : (held : ℕ → List Node) (ns : List Node) → nodes_glue_first ns ≡ glue_first (map (plain_of held) ns)
+first_glue_is held [] = refl
+first_glue_is held (n ∷ ns) = by_kind n.kind (first_glue_is held ns)
+  where
+    by_kind : (k : Kind) → nodes_glue_first ns ≡ glue_first (map (plain_of held) ns) → (let x : Node = record { line = n.line; kind = k } in nodes_glue_first (x ∷ ns) ≡ glue_first (plain_of held x ∷ map (plain_of held) ns))
+    by_kind (kinds.Hbox what h d) ih = refl
+    by_kind (kinds.Rule name h d) ih = refl
+    by_kind (kinds.Skip g) ih = refl
+    by_kind (kinds.Kern w) ih = refl
+    by_kind (kinds.Pen p) ih = refl
+    by_kind (kinds.Mark name) ih = refl
+    by_kind (kinds.Note name) ih = refl
+    by_kind kinds.Whatsit ih = refl
+    by_kind (kinds.Ins i) ih = refl
+    by_kind (kinds.Act a) ih = ih
 
 -- ---- acts on a page
 

@@ -1,6 +1,8 @@
 -- A node that waits goes on a page that is laid out, or its place is tried.
 use Rattle.std.proofs.Common.{◌≡◌, refl, sym, subst, ◌∙◌, ap, ℕ, ℤ, pos, Bool, true, false, List, [], ◌∷◌, ◌++◌, length, Option, None, Some, append_assoc, append-nil}
-use Rattle.std.specs.Prelude.{not, ◌<ℤ◌}
+use Rattle.std.specs.Prelude.{not, map, drop, ◌<ℤ◌, negsuc, int_le, ◌||◌}
+use Rattle.std.proofs.lemmas.Bool.{true≢false}
+use Rattle.tb_scaled.specs.Scaled.{awful_bad}
 use Rattle.tb_node.specs.declared.Node.{Node}
 use Rattle.tb_node.specs.Shape.{is_discardable}
 use Rattle.tb_node.specs.Plain.{PlainNode, plain_of, node_shape, shape_of, is_act_kind, is_insertion_kind}
@@ -9,6 +11,7 @@ use Rattle.tb_node.specs.Add.{added_node}
 use Rattle.tb_break.specs.Legal.{ends_lasting}
 use Rattle.tb_break.specs.Best.{Breakpoint, is_stop, least_cost}
 use Rattle.tb_break.specs.Scan.{Scanned}
+use Rattle.tb_break.specs.Finding.{penalty_by}
 use Rattle.tb_insert.specs.Account.{Frozen, terms_after}
 use Rattle.tb_insert.specs.Running.{goal_of, penalties_in}
 use Rattle.tb_insert.specs.Arrived.{PageFits}
@@ -18,11 +21,11 @@ use Rattle.tb_builder.specs.declared.Try.{Try}
 use Rattle.tb_builder.specs.Reached.{tried, Reach, also_reached, page_place, reach_from, reach_at_place, breakpoints, try_of}
 use Rattle.tb_builder.specs.Places.{page_shapes, glue_first, node_penalty, page_places, NoStop}
 use Rattle.tb_builder.specs.Contents.{Contents}
-use Rattle.tb_builder.specs.Running.{CourseStands, Underway, places_by, act_of_kind, insertion_of_kind}
+use Rattle.tb_builder.specs.Running.{CourseStands, Underway, places_by, act_of_kind, insertion_of_kind, nodes_glue_first}
 use Rattle.tb_builder.specs.Offer.{OfferIs, place_here}
 use Rattle.tb_builder.specs.Next.{stopped_with}
-use Rattle.tb_builder.specs.Turn.{Shifted, reach_on, places_on, Passes, GoesOn, StopsThere, TriesOn, StepFits}
-use Rattle.tb_builder.proofs.CourseLemmas.{shape_is, no_act, no_insertion}
+use Rattle.tb_builder.specs.Turn.{Shifted, reach_on, places_on, Passes, GoesOn, StopsThere, TriesOn, StepFits, StepIs}
+use Rattle.tb_builder.proofs.CourseLemmas.{shape_is, no_act, no_insertion, penalty_is, first_glue_is}
 use Rattle.tb_builder.proofs.PageLemmas.{places_pass, reach_pass, places_try, reach_try, at_place_goes, at_place_stops, quiet-append}
 use Rattle.tb_builder.proofs.ReachLemmas.{whole_places, whole_end}
 
@@ -121,3 +124,56 @@ module _ (z : Frozen) (k : Course) (c : Contents) (n : PlainNode) (ns : List Pla
       where
         same_whole : {A : Type 0} (f : Reach → A) → f (reach_from z.limit (terms_after z) [] (d.page ++ d.waiting)) ≡ f (reach_from z.limit (terms_after z) [] (c.page ++ c.waiting))
         same_whole f = (λ i. f (reach_from z.limit (terms_after z) [] (page i ++ waiting i)))
+
+-- ---- the place before a node is tried
+
+module _ (z : Frozen) (k l : Course) (c : Contents) (held : ℕ → List Node) (n : Node) (p : ℤ) (t : Try) (line : ℕ) (u : Underway z k c.page c.waiting) (f : StepFits z c.page held n)
+    (o : OfferIs z l c.page (places_on z c) t line p) (line_is : line ≡ n.line) where
+  tried_made : t ≡ try_of n.line (place_here z c.page p) (least_cost (places_on z c))
+  tried_made = o.made ∙ ap (λ i. try_of i (place_here z c.page p) (least_cost (places_on z c))) line_is
+
+  stop_is : (int_le awful_bad t.cost || int_le t.penalty (negsuc 9999)) ≡ is_stop (place_here z c.page p)
+  stop_is = ap (λ (x : Try). int_le awful_bad x.cost || int_le x.penalty (negsuc 9999)) tried_made
+
+  pub tried_stops : (d : Contents) (ns : List PlainNode) → c.waiting ≡ plain_of held n ∷ ns → node_penalty k.lasting (glue_first ns) (plain_of held n) ≡ Some p → (int_le awful_bad t.cost || int_le t.penalty (negsuc 9999)) ≡ true
+      → d.page ≡ c.page → d.waiting ≡ c.waiting → d.stopped ≡ true → TriesOn z t l c d
+  tried_stops d ns first some stop page waiting stopped = record {
+    line = n.line;
+    place = place_here z c.page p;
+    made = tried_made;
+    goes = λ go. absurd (true≢false (sym (sym stop_is ∙ stop) ∙ go));
+    stops = λ st. step_stops z k c (plain_of held n) ns first u (no_act held n.kind f.no_act) p some st l d page waiting stopped o.course;
+  }
+
+  pub tried_goes : (m : Course) (d : Contents) (ns : List PlainNode) → c.waiting ≡ plain_of held n ∷ ns → node_penalty k.lasting (glue_first ns) (plain_of held n) ≡ Some p → (int_le awful_bad t.cost || int_le t.penalty (negsuc 9999)) ≡ false
+      → Shifted (plain_of held n) c d → d.stopped ≡ false → ((bs : List Breakpoint) → CourseStands z l c.page bs → CourseStands z m (c.page ++ plain_of held n ∷ []) bs) → TriesOn z t m c d
+  tried_goes m d ns first some goes shifted on put = record {
+    line = n.line;
+    place = place_here z c.page p;
+    made = tried_made;
+    goes = λ go. (
+      step_goes z k c (plain_of held n) ns first u (no_act held n.kind f.no_act) d shifted p some on go,
+      goes_underway z k c (plain_of held n) ns first u (no_act held n.kind f.no_act) d shifted p some m on go (put (places_on z c ++ place_here z c.page p ∷ []) o.course),
+    );
+    stops = λ st. absurd (true≢false (sym st ∙ sym stop_is ∙ goes));
+  }
+
+-- the penalty of the place before the first node that waits
+pub penalty_first : (held : ℕ → List Node) (lasting g : Bool) (o : Option ℤ) (xs ns : List Node) (n : Node) → xs ≡ n ∷ ns → act_of_kind n.kind ≡ None → g ≡ nodes_glue_first (drop 1 xs) → o ≡ penalty_by lasting g (shape_of n)
+    → node_penalty lasting (glue_first (map (plain_of held) ns)) (plain_of held n) ≡ o
+penalty_first held lasting g o xs ns n first none glue place =
+    ap (λ b. node_penalty lasting b (plain_of held n)) (sym (glue ∙ ap (λ ys. nodes_glue_first (drop 1 ys)) first ∙ first_glue_is held ns)) ∙ penalty_is held lasting g n none ∙ sym place
+
+-- the first node that waits, as the definitions see it
+pub plain_first : (held : ℕ → List Node) (xs ns : List Node) (n : Node) → xs ≡ n ∷ ns → map (plain_of held) xs ≡ plain_of held n ∷ map (plain_of held) ns
+plain_first held xs ns n e = ap (map (plain_of held)) e
+
+-- the node passed
+pub passed_step : (z : Frozen) (k l : Course) (c d : Contents) (held : ℕ → List Node) (n : Node) (ns : List PlainNode) → Underway z k c.page c.waiting → StepFits z c.page held n → c.waiting ≡ plain_of held n ∷ ns
+    → node_penalty k.lasting (glue_first ns) (plain_of held n) ≡ None → Shifted (plain_of held n) c d → CourseStands z l (c.page ++ plain_of held n ∷ []) (places_on z c)
+    → StepIs None z l c d
+passed_step z k l c d held n ns u f first none shifted h = (
+  step_passes z k c (plain_of held n) ns first u (no_act held n.kind f.no_act) d shifted none,
+  step_underway z k c (plain_of held n) ns first u (no_act held n.kind f.no_act) d shifted none l h,
+  shifted.stopped,
+)
