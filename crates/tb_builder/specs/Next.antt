@@ -1,5 +1,5 @@
 -- What the page builder answers, and what it asks of what it is given.
-use Rattle.std.specs.Prelude.{◌≡◌, ℕ, ℤ, pos, ◌≤ℤ◌, Bool, true, false, List, [], ◌∷◌, ◌++◌, map, take, length, Option, Some, None}
+use Rattle.std.specs.Prelude.{◌≡◌, ℕ, ℤ, pos, neg_ℤ, ◌<ℤ◌, ◌≤ℤ◌, Bool, true, false, List, [], ◌∷◌, ◌++◌, map, take, length, Option, Some, None}
 use Rattle.tb_pool.specs.Lists.{Lists, IsLive}
 use Rattle.tb_node.specs.declared.Node.{Node}
 use Rattle.tb_node.specs.declared.Act.{Act}
@@ -25,6 +25,11 @@ use Rattle.tb_builder.specs.Contents.{Contents, plain_list, frozen_of, laid, rea
 -- the room of each prefix fits
 abbrev pub SizesFit : List Shape → Type 0
 SizesFit ns = (before rest : List Shape) → before ++ rest ≡ ns → IsAmount (size_of before)
+
+-- room that one node takes where the room before it and with it fits: below 2^61 in absolute value
+pub record IsRoom (z : ℤ) : Type 0 where
+  pub low : neg_ℤ (pos 2305843009213693952) <ℤ z
+  pub high : z <ℤ pos 2305843009213693952
 
 pub record AskFits (ask : Ask) : Type 0 where
   pub goal : IsAmount ask.goal
