@@ -5,7 +5,7 @@ use Rattle.std.specs.List.{list_any, position_from}
 use Rattle.std.proofs.lemmas.Iterator.Adapters.{position_from-zero}
 use Rattle.std.proofs.lemmas.Bool.{true≢false}
 use Rattle.std.proofs.lemmas.List.Quantifiers.{position-Some}
-use Rattle.tb_pool.specs.Lists.{Lists, list_at}
+use Rattle.tb_pool.specs.Lists.{Lists, IsLive, list_at}
 use Rattle.tb_node.specs.declared.Node.{Node}
 use Rattle.tb_node.specs.Plain.{Leaf, leaf_of, leaf_shape, shape_of}
 use Rattle.tb_node.specs.Fit.{shapes}
@@ -18,18 +18,8 @@ use Rattle.tb_insert.proofs.AccountLemmas.{leaf_shapes, is_number}
 use Rattle.tb_builder.specs.declared.ClassList.{ClassList}
 use Rattle.tb_builder.specs.Fired.{Boxed, box_content, box_size, class_boxes, content_of}
 use Rattle.tb_builder.specs.Contents.{boxed_of, content_by, leaf_list}
-use Rattle.tb_builder.specs.Owned.{VoidEmpty, has_class, ClassesFit}
+use Rattle.tb_builder.specs.Owned.{VoidEmpty, box_ids, AllLive, has_class, ClassesFit, has_number, IsFirst, IsClassList}
 use Rattle.tb_builder.specs.Next.{SizesFit, BoxesFit}
-
--- the class with this number
-abbrev pub has_number : ℕ → ClassList → Bool
-has_number k e = e.class.number == k
-
--- the k-th is the first with this number
-pub record IsFirst (es : List ClassList) (number k : ℕ) (d : ClassList) : Type 0 where
-  pub within : k < length es
-  pub there : has_number number (get_or es k d) ≡ true
-  pub before : (j : ℕ) → j < k → has_number number (get_or es j d) ≡ false
 
 pub first_at : (es : List ClassList) (number k : ℕ) (d : ClassList) → position (λ e. e.class.number == number) es ≡ Some k → IsFirst es number k d
 first_at es number k d e =
@@ -102,3 +92,33 @@ pub class_fits_at : (es : List ClassList) (k : ℕ) (d : ClassList) → k < leng
 class_fits_at [] k d w h = absurd (omega arith)
 class_fits_at (e ∷ es) zero d w h = (h.1, h.2)
 class_fits_at (e ∷ es) (suc k) d w h = class_fits_at es k d (omega arith) h.3
+
+pub live_at : (s : Lists Node) (es : List ClassList) (k : ℕ) (d : ClassList) → k < length es → AllLive s (box_ids es) → IsLive s (get_or es k d).list
+live_at s [] k d w h = absurd (omega arith)
+live_at s (e ∷ es) zero d w h = h.0
+live_at s (e ∷ es) (suc k) d w h = live_at s es k d (omega arith) h.1
+
+-- ---- what is known of the class with a number and its box
+
+module _ (s : Lists Node) (es : List ClassList) (number : ℕ) (e : ClassList) (h : IsClassList es number e) where
+  pub list_live : AllLive s (box_ids es) → IsLive s e.list
+  list_live live = subst (λ x. IsLive s x.list) h.is (live_at s es h.place e h.first.within live)
+
+  pub list_fits : VoidEmpty s es → BoxesFit (map (boxed_of s) es) → SizesFit (shapes s e.list)
+  list_fits v fits = subst (λ x. SizesFit (shapes s x.list)) h.is (fits_at s es h.place e h.first.within v fits)
+
+  pub class_known : ClassesFit (map (λ e. e.class) es) → (e.class.number < 255) × ClassFits e.class
+  class_known fits = subst (λ x. (x.class.number < 255) × ClassFits x.class) h.is (class_fits_at es h.place e h.first.within fits)
+
+  pub number_is : e.class.number ≡ number
+  number_is = is_number e.class.number number (ap (has_number number) (sym h.is) ∙ h.first.there)
+
+  -- the class box of the page's classes
+  pub box_is : VoidEmpty s es → class_box (class_boxes (map (λ e. e.class) es) (map (boxed_of s) es)) number ≡ boxed e.class (size_of (shapes s e.list))
+  box_is v =
+      class_found (λ c. record { class = c; size = box_size (box_content (map (boxed_of s) es) c.number) }) (λ c. refl) es number h.place e h.first
+      ∙ ap (λ (x : ClassList). boxed x.class (box_size (box_content (map (boxed_of s) es) x.class.number))) h.is
+      ∙ ap (λ k. boxed e.class (box_size (box_content (map (boxed_of s) es) k))) number_is
+      ∙ ap (λ o. boxed e.class (box_size o)) (content_found s es number h.place e h.first)
+      ∙ ap (λ (x : ClassList). boxed e.class (box_size (boxed_of s x).content)) h.is
+      ∙ ap (boxed e.class) (size_found s e (subst (λ x. x.void ≡ true → list_at s x.list ≡ []) h.is (void_at s es h.place e h.first.within v)))

@@ -116,7 +116,7 @@ pub acts-append : (page : List PlainNode) (n : PlainNode) → NoActs page → is
 acts-append [] n h e = (e, tt)
 acts-append (m ∷ ms) n h e = (h.0, acts-append ms n h.1 e)
 
-loose_act : (k : PlainKind) → is_loose k ≡ true → is_act_kind k ≡ false
+pub loose_act : (k : PlainKind) → is_loose k ≡ true → is_act_kind k ≡ false
 loose_act (plain m) e = refl
 loose_act (ins i) e = refl
 loose_act (act a) e = absurd (true≢false (sym e))
@@ -250,7 +250,7 @@ course_joined z k l page bs line i class size index h co number stands scan goal
 
 -- ---- a page of marks, notes and whatsits
 
-loose_plain : (k : PlainKind) → is_loose k ≡ true → is_insertion_kind k ≡ false
+pub loose_plain : (k : PlainKind) → is_loose k ≡ true → is_insertion_kind k ≡ false
 loose_plain (plain m) e = refl
 loose_plain (ins i) e = absurd (true≢false (sym e))
 loose_plain (act a) e = absurd (true≢false (sym e))

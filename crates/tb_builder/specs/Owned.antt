@@ -1,5 +1,5 @@
 -- The lists that belong to a page builder: its own, and those of the insertions in them.
-use Rattle.std.specs.Prelude.{◌≡◌, ◌≢◌, ◌<◌, ℕ, ◌==◌, Bool, true, false, List, [], ◌∷◌, ◌++◌, map, Option, Some, None, option_to_list}
+use Rattle.std.specs.Prelude.{◌≡◌, ◌≢◌, ◌<◌, ℕ, ◌==◌, Bool, true, false, List, [], ◌∷◌, ◌++◌, map, length, slice_index_or, Option, Some, None, option_to_list}
 use Rattle.std.specs.List.{list_any}
 use Rattle.tb_pool.specs.Lists.{Lists, IsLive, list_at}
 use Rattle.tb_node.specs.declared.Node.{Node}
@@ -98,6 +98,22 @@ VoidEmpty s [] = Unit {0}
 VoidEmpty s (e ∷ es) = (e.void ≡ true → list_at s e.list ≡ []) × VoidEmpty s es
 
 -- ---- the classes
+
+-- the class has this number
+abbrev pub has_number : ℕ → ClassList → Bool
+has_number k e = e.class.number == k
+
+-- the k-th is the first with this number
+pub record IsFirst (es : List ClassList) (number k : ℕ) (d : ClassList) : Type 0 where
+  pub within : k < length es
+  pub there : has_number number (slice_index_or es k d) ≡ true
+  pub before : (j : ℕ) → j < k → has_number number (slice_index_or es j d) ≡ false
+
+-- the class with this number and its box
+pub record IsClassList (es : List ClassList) (number : ℕ) (e : ClassList) : Type 0 where
+  pub place : ℕ
+  pub first : IsFirst es number place e
+  pub is : slice_index_or es place e ≡ e
 
 -- one of the classes has this number
 abbrev pub has_class : List Class → ℕ → Bool

@@ -1,27 +1,87 @@
 //! A page is filled: the nodes that wait go on it one by one, up to the next event.
 
-ghost use Rattle.std.specs.Prelude.{◌≡◌, ◌≢◌, ◌<◌, ◌<ℤ◌, ◌≤◌, ◌+◌, pos, ℕ, List, [], ◌∷◌, ◌++◌, Bool, true, false, Some, None, slice_get};
+ghost use Rattle.std.specs.Prelude.{◌≡◌, ◌≢◌, ◌<◌, ◌<ℤ◌, ◌≤◌, ◌+◌, pos, ℕ, List, [], ◌∷◌, ◌++◌, Bool, true, false, Some, None, IsSome, slice_get};
 ghost use Rattle.tb_pool.specs.Lists.{IsLive, list_at};
 ghost use Rattle.tb_node.specs.declared.Node.{Node as NodeOf};
+ghost use Rattle.tb_node.specs.Shape.{is_box};
 ghost use Rattle.tb_node.specs.Small.{IsAmount, IsSmall, IsSmallShape};
 ghost use Rattle.tb_node.specs.Plain.{shape_of, plain_of, PlainNode};
 ghost use Rattle.tb_node.specs.Add.{added_node};
 ghost use Rattle.tb_break.specs.Best.{Breakpoint};
+ghost use Rattle.tb_break.specs.Legal.{ends_lasting};
 ghost use Rattle.tb_insert.specs.Account.{Frozen};
+ghost use Rattle.tb_insert.specs.Running.{Differ};
 ghost use Rattle.tb_builder.specs.Owned.{ids_of, owned, Lacks, IsOwned};
-ghost use Rattle.tb_builder.specs.Places.{node_penalty, glue_first};
+ghost use Rattle.tb_builder.specs.Places.{page_shapes, node_penalty, glue_first};
 ghost use Rattle.tb_builder.specs.Contents.{contents_of};
-ghost use Rattle.tb_builder.specs.Running.{IsSound, CourseStands, Underway, zed, act_of_kind, insertion_of_kind};
-ghost use Rattle.tb_builder.specs.Turn.{Moves, Shifted, StepIs, StepFits, TriesOn};
+ghost use Rattle.tb_builder.specs.Running.{IsSound, CourseStands, Underway, AllLoose, zed, frozen_with, act_of_kind, insertion_of_kind};
+ghost use Rattle.tb_builder.specs.Next.{AskFits, NextFits};
+ghost use Rattle.tb_builder.specs.Turn.{Moves, Shifted, StepIs, StepFits, TriesOn, TurnIs};
 
-use crate::moving::{glue_follows, shift};
-use crate::trying::stops;
-use crate::{Builder, Event};
-use tb_break::place_penalty;
-use tb_node::Node;
+use crate::measuring::list_size;
+use crate::moving::{drop_first, glue_follows, shift};
+use crate::trying::{started, stops};
+use crate::{Ask, Builder, Event};
+use tb_break::{is_lasting, place_penalty};
+use tb_node::{Insertion, Node};
 use tb_pool::Lists;
 
 impl Builder {
+    // Freezes the goal and the depth limit of the page, where they are not frozen yet.
+    fn freeze(&mut self, ask: &Ask)
+        requires asked { AskFits ask.now }
+        ensures first { self.old.frozen ≡ None → (z : Frozen) (page : List PlainNode) → z.goal ≡ ask.now.goal → z.limit ≡ ask.now.max_depth → Differ z.classes → AllLoose page
+            → self.old.course.lasting ≡ ends_lasting (page_shapes page) → CourseStands z self.new.course page [] }
+        ensures again { IsSome self.old.frozen → self.new ≡ self.old }
+        ensures frozen { self.new.frozen ≡ Some (frozen_with self.old.frozen ask.now) }
+        ensures ids { ids_of self.new ≡ ids_of self.old }
+        ensures opened { self.new.opened ≡ self.old.opened }
+        ensures stopped { self.new.stopped ≡ self.old.stopped }
+    {
+        if self.frozen.is_some() {
+            return;
+        }
+        self.frozen = Some((ask.goal, ask.max_depth));
+        self.course = started(ask.goal, ask.max_depth, self.course.lasting);
+    }
+
+    // The first node that waits, an insertion, goes on the page.
+    fn meet(&mut self, store: &mut Lists<Node>, ask: &Ask, n: &Node, i: &Insertion)
+        requires sound { IsSound self.old store.old }
+        requires on { self.old.stopped ≡ false }
+        requires fits { NextFits (contents_of self.old store.old) ask.now }
+        requires first { slice_get (list_at store.old self.old.waiting) 0 ≡ Some n.now }
+        requires insertion { insertion_of_kind n.now.kind ≡ Some i.now }
+        ensures { TurnIs self.old store.old ask.now None self.new store.new }
+    {
+        self.freeze(ask);
+        let own = self.class_list(i.class);
+        let size = list_size(store, own.list);
+        let index = store.len(self.page);
+        self.course.join(store, i, index, &own.class, size);
+        shift(store, self.waiting, self.page);
+    }
+
+    // On a page without a box, the first node that waits is no box, insertion or act: a mark, a note or a whatsit goes
+    // on the page, and glue, a kern or a penalty vanishes.
+    fn pass(&mut self, store: &mut Lists<Node>, ask: &Ask, n: &Node)
+        requires sound { IsSound self.old store.old }
+        requires on { self.old.stopped ≡ false }
+        requires closed { self.old.opened ≡ false }
+        requires first { slice_get (list_at store.old self.old.waiting) 0 ≡ Some n.now }
+        requires no_act { act_of_kind n.now.kind ≡ None }
+        requires no_insertion { insertion_of_kind n.now.kind ≡ None }
+        requires no_box { is_box (shape_of n.now) ≡ false }
+        ensures { TurnIs self.old store.old ask.now None self.new store.new }
+    {
+        if is_lasting(n) {
+            self.course.lasting = true;
+            shift(store, self.waiting, self.page);
+            return;
+        }
+        drop_first(store, self.waiting);
+    }
+
     // The first node that waits on a page that is laid out, no act and no insertion: its place is tried where it is
     // legal, and it goes on the page unless that is a stop.
     fn reach(&mut self, store: &mut Lists<Node>, n: &Node) -> Option<Event>

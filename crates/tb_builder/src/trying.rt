@@ -73,7 +73,7 @@ impl Course {
     }
 
     // Tries the legal place at the end of the page, which has so many nodes.
-    pub fn offer(&mut self, index: usize, line: u32, penalty: i64) -> Try
+    pub(crate) fn offer(&mut self, index: usize, line: u32, penalty: i64) -> Try
         requires goal { IsAmount (goal_of self.old.account) }
         requires penalties { IsAmount (penalties_in self.old.account) }
         requires low { IsAmount penalty }
@@ -88,7 +88,7 @@ impl Course {
     }
 
     // A node that is no insertion goes to the end of the page.
-    pub fn put(&mut self, n: &Node)
+    pub(crate) fn put(&mut self, n: &Node)
         requires node { IsSmallShape (shape_of n.now) }
         requires fits { IsSmall (added_node self.old.scan.max_depth self.old.scan.sums (shape_of n.now)) }
         ensures { (z : Frozen) (page : List PlainNode) (bs : List Breakpoint) (held : ℕ → List NodeOf) → CourseStands z self.old page bs → act_of_kind n.now.kind ≡ None → insertion_of_kind n.now.kind ≡ None
@@ -99,7 +99,7 @@ impl Course {
     }
 
     // An insertion goes to the end of the page, which has so many nodes.
-    pub fn join(&mut self, store: &Lists<Node>, ins: &Insertion, index: usize, class: &Class, box_size: i64)
+    pub(crate) fn join(&mut self, store: &Lists<Node>, ins: &Insertion, index: usize, class: &Class, box_size: i64)
         requires number { class.now.number ≡ ins.now.class }
         requires most { ins.now.class < 255 }
         requires fits { ArriveFits store.now self.old.account self.old.scan ins.now class.now box_size }
