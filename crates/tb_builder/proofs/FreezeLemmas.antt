@@ -170,7 +170,7 @@ module _ (b : Ids) (s : Lists Node) (c : Contents) (ask : Ask) (k : Course) (n :
     scan = u.course.scan;
   }
 
-  class_is : (e.class.number < 255) × ClassFits e.class
+  pub class_is : (e.class.number < 255) × ClassFits e.class
   class_is = class_known s b.boxes i.class e h own.classes
 
   pub meets_fits : ArriveFits s k.account k.scan i e.class (size_of (shapes s e.list))
@@ -253,3 +253,47 @@ gone_at held t line (kinds.Note name) ns e = absurd (true≢false e)
 gone_at held t line kinds.Whatsit ns e = absurd (true≢false e)
 gone_at held t line (kinds.Ins i) ns e = absurd (true≢false e)
 gone_at held t line (kinds.Act a) ns e = absurd (true≢false e)
+
+-- an insertion takes no room and is no act
+pub insertion_shape : (n : Node) (i : Insertion) → insertion_of_kind n.kind ≡ Some i → shape_of n ≡ other
+insertion_shape n i e = by_kind n.kind e
+  where
+    by_kind : (k : Kind) → insertion_of_kind k ≡ Some i → shape_of_kind k ≡ other
+    by_kind (kinds.Hbox what h d) e = cc
+    by_kind (kinds.Rule name h d) e = cc
+    by_kind (kinds.Skip g) e = cc
+    by_kind (kinds.Kern w) e = cc
+    by_kind (kinds.Pen p) e = cc
+    by_kind (kinds.Mark name) e = cc
+    by_kind (kinds.Note name) e = cc
+    by_kind kinds.Whatsit e = cc
+    by_kind (kinds.Ins j) e = refl
+    by_kind (kinds.Act a) e = cc
+
+pub insertion_act : (n : Node) (i : Insertion) → insertion_of_kind n.kind ≡ Some i → act_of_kind n.kind ≡ None
+insertion_act n i e = by_kind n.kind e
+  where
+    by_kind : (k : Kind) → insertion_of_kind k ≡ Some i → act_of_kind k ≡ None
+    by_kind (kinds.Hbox what h d) e = cc
+    by_kind (kinds.Rule name h d) e = cc
+    by_kind (kinds.Skip g) e = cc
+    by_kind (kinds.Kern w) e = cc
+    by_kind (kinds.Pen p) e = cc
+    by_kind (kinds.Mark name) e = cc
+    by_kind (kinds.Note name) e = cc
+    by_kind kinds.Whatsit e = cc
+    by_kind (kinds.Ins j) e = refl
+    by_kind (kinds.Act a) e = cc
+
+-- a node that lasts and is no box takes no room
+pub loose_kind_shape : (k : Kind) → is_box (shape_of_kind k) ≡ false → not (is_discardable (shape_of_kind k)) ≡ true → shape_of_kind k ≡ other
+loose_kind_shape (kinds.Hbox what h d) b l = absurd (true≢false b)
+loose_kind_shape (kinds.Rule name h d) b l = absurd (true≢false b)
+loose_kind_shape (kinds.Skip g) b l = absurd (true≢false (sym l))
+loose_kind_shape (kinds.Kern w) b l = absurd (true≢false (sym l))
+loose_kind_shape (kinds.Pen p) b l = absurd (true≢false (sym l))
+loose_kind_shape (kinds.Mark name) b l = refl
+loose_kind_shape (kinds.Note name) b l = refl
+loose_kind_shape kinds.Whatsit b l = refl
+loose_kind_shape (kinds.Ins j) b l = refl
+loose_kind_shape (kinds.Act x) b l = refl

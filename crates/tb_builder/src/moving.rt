@@ -1,6 +1,6 @@
 //! Nodes at the front of a list: what they are, and how they go from one list to another.
 
-ghost use Rattle.std.specs.Prelude.{◌≡◌, ◌≢◌, ◌<◌, ◌+◌, ◌-ℤ◌, pos, ℕ, List, [], ◌∷◌, ◌++◌, slice_get, drop};
+ghost use Rattle.std.specs.Prelude.{◌≡◌, ◌≢◌, ◌<◌, ◌≤◌, ◌+◌, ◌-ℤ◌, pos, ℕ, List, [], ◌∷◌, ◌++◌, slice_get, drop};
 ghost use Rattle.std.specs.FinMap.{insert};
 ghost use Rattle.tb_pool.specs.Lists.{IsLive, list_at, with_list};
 ghost use Rattle.tb_scaled.specs.Scaled.{max_ℤ};
@@ -77,6 +77,7 @@ pub fn glue_follows(store: &Lists<Node>, l: ListId) -> bool
 pub fn drop_first(store: &mut Lists<Node>, l: ListId)
     requires { IsLive store.old l }
     ensures rest { (n : NodeOf) (ns : List NodeOf) → list_at store.old l ≡ n ∷ ns → store.new.lists ≡ with_list store.old l ns }
+    ensures spare { store.old.spare ≤ store.new.spare }
 {
     store.pop_front(l);
 }
