@@ -9,8 +9,7 @@ ghost use Rattle.tb_insert.specs.Wide.{IsWithin};
 
 use crate::Class;
 use tb_node::Sums;
-
-const MAX_DIMEN: i128 = 1073741823;
+use tb_scaled::MAX_DIMEN;
 
 const LEAST: i128 = -1152921504606846975;
 
@@ -92,7 +91,7 @@ fn unscaled_room(factor: i64, room: i128) -> i128
     ensures { result ≡ unscaled_room factor room }
 {
     if factor <= 0 {
-        return MAX_DIMEN;
+        return wide(MAX_DIMEN);
     }
     if factor == 1000 {
         return room;

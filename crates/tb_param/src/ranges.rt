@@ -3,10 +3,7 @@ ghost use Rattle.std.specs.Prelude.{◌≡◌};
 ghost use Rattle.tb_param.specs.Table.{value_fault, is_within, is_dimen, is_glue, out_of_range};
 
 use crate::{Choice, Form, ParamFault, Value};
-use tb_scaled::Glue;
-
-// The greatest dimension, in scaled points (TeX: The Program §421).
-const MAX_DIMENSION: i64 = 1_073_741_823;
+use tb_scaled::{Glue, MAX_DIMEN};
 
 fn is_within(low: i64, high: i64, value: i64) -> bool
     ensures { result ≡ is_within low high value }
@@ -17,7 +14,7 @@ fn is_within(low: i64, high: i64, value: i64) -> bool
 fn is_dimension(value: i64) -> bool
     ensures { result ≡ is_dimen value }
 {
-    is_within(-MAX_DIMENSION, MAX_DIMENSION, value)
+    is_within(-MAX_DIMEN, MAX_DIMEN, value)
 }
 
 fn is_glue(glue: Glue) -> bool
@@ -38,7 +35,7 @@ pub fn value_fault(form: Form, value: Value) -> Option<ParamFault>
 {
     match (form, value) {
         (Form::Int { low, high }, Value::Int(n)) => out_of_range(is_within(low, high, n)),
-        (Form::Dim { low }, Value::Dim(n)) => out_of_range(is_within(low, MAX_DIMENSION, n)),
+        (Form::Dim { low }, Value::Dim(n)) => out_of_range(is_within(low, MAX_DIMEN, n)),
         (Form::Frac, Value::Frac(n)) => out_of_range(is_within(0, 65536, n)),
         (Form::Skip, Value::Skip(g)) => out_of_range(is_glue(g)),
         (Form::Bottom, Value::Word(c)) => out_of_range(matches!(c, Choice::Flush | Choice::Ragged)),
