@@ -114,7 +114,7 @@ fn set(fields: &mut Fields<'_>) -> Result<Content, At>
     Ok(Content::Set { field, value })
 }
 
-// What the fields after a line's word say.
+/// What the fields after a line's word say.
 #[tactic(auto, unfolding(crate::specs::Reading::content_left))]
 pub fn read_content(line: u32, word: Word, fields: &mut Fields<'_>) -> Result<Content, At>
     ensures { Gives result (left_of fields.new) (content_left line word (left_of fields.old)) }

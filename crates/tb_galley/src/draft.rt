@@ -30,7 +30,7 @@ impl Draft {
         self.items.push(Item { line, kind })
     }
 
-    // Adds what a line says.
+    /// Adds what a line says.
     pub fn add(&mut self, alloc: Global, line: u32, content: Content) -> Result<(), AllocError>
         ensures { OnOk result (self.new ≡ with_content self.old line content) }
     {

@@ -40,7 +40,7 @@ fn label_of(
     Part::Split(find(store, i.list, wanted, i.split_depth))
 }
 
-// The same, by what is kept of the class.
+/// The same, by what is kept of the class.
 pub fn label_by(
     store: &Lists<Node>,
     i: &Insertion,
@@ -62,7 +62,7 @@ pub fn label_by(
     label_of(store, i, class, goal, height, s)
 }
 
-// What an insertion takes of its class.
+/// What an insertion takes of its class.
 pub fn taken(part: &Part, i: &Insertion) -> i64
     ensures { (held : ℕ → List NodeOf) → result ≡ taken_by (label_part part.now) (inserted_of held i.now) }
 {
@@ -73,7 +73,7 @@ pub fn taken(part: &Part, i: &Insertion) -> i64
     }
 }
 
-// What it adds to the penalties.
+/// What it adds to the penalties.
 pub fn part_penalty(part: &Part, i: &Insertion) -> i64
     ensures { (held : ℕ → List NodeOf) → result ≡ penalty_of (label_part part.now) (inserted_of held i.now) }
 {
@@ -84,6 +84,7 @@ pub fn part_penalty(part: &Part, i: &Insertion) -> i64
     }
 }
 
+/// Whether the insertion is split.
 pub fn part_splits(part: &Part) -> bool
     ensures { result ≡ is_split (label_part part.now) }
 {
@@ -94,7 +95,7 @@ pub fn part_splits(part: &Part) -> bool
     }
 }
 
-// The last one of its class that is let in.
+/// The last one of its class that is let in.
 pub fn last_of(part: &Part, index: usize, last: Option<usize>) -> Option<usize>
     ensures { result ≡ (if is_let_in (label_part part.now) then Some index else last) }
 {
@@ -123,7 +124,7 @@ fn some_below(k: usize, count: usize) -> Option<usize>
     if k < count { Some(k) } else { None }
 }
 
-// The split one of its class with the place of its break, where it is split before its end.
+/// The split one of its class with the place of its break, where it is split before its end.
 pub fn cut_of(
     part: &Part,
     store: &Lists<Node>,

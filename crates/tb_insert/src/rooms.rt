@@ -22,7 +22,7 @@ fn wide(v: i64) -> i128
     i128::from(v)
 }
 
-// How much of a height counts against the goal.
+/// How much of a height counts against the goal.
 pub fn scaled(factor: i64, v: i64) -> i128
     requires { IsAmount factor }
     ensures value { result ≡ scaled_by factor v }
@@ -51,7 +51,7 @@ fn product(a: i64, b: i64) -> i128
     wide(a) * wide(b)
 }
 
-// What is left of the page.
+/// What is left of the page.
 pub fn page_room(goal: i128, s: &Sums) -> i128
     requires goal { IsWithin (2 ^ 115) goal }
     requires sums { IsSmall s.now }
@@ -61,7 +61,7 @@ pub fn page_room(goal: i128, s: &Sums) -> i128
     goal - wide(s.total) - wide(s.depth)
 }
 
-// The height that counts goes into what is left, and the class stays within its limit.
+/// The height that counts goes into what is left, and the class stays within its limit.
 pub fn goes_whole(charge: i128, room: i128, shrink: i64, height: i64, v: i64, limit: i64) -> bool
     requires room { IsWithin (2 ^ 116) room }
     ensures { result ≡ goes_whole charge room shrink height v limit }
@@ -99,7 +99,7 @@ fn unscaled_room(factor: i64, room: i128) -> i128
     room / wide(factor) * 1000
 }
 
-// The height to which an insertion is split, where the class has so much left.
+/// The height to which an insertion is split, where the class has so much left.
 pub fn split_height(factor: i64, room: i128, left: i128) -> i64
     requires { IsWithin (2 ^ 116) room }
     ensures value { result ≡ split_height factor room left }
@@ -128,14 +128,14 @@ fn clamped(w: i128) -> i64
     w as i64
 }
 
-// What the limit of a class leaves.
+/// What the limit of a class leaves.
 pub fn left_of(limit: i64, height: i64) -> i128
     ensures { result ≡ limit -ℤ height }
 {
     wide(limit) - wide(height)
 }
 
-// The goal once the class is met, which it may have been before.
+/// The goal once the class is met, which it may have been before.
 pub fn met_goal(met: bool, goal: i64, class: &Class, size: i64) -> i128
     requires factor { IsAmount class.now.factor }
     ensures value { result ≡ met_goal met goal class.now size }
@@ -155,14 +155,14 @@ fn fall(goal: i64, a: i128, b: i64) -> i128
     wide(goal) - (a + wide(b))
 }
 
-// The height of a class, which is that of its box until it is met.
+/// The height of a class, which is that of its box until it is met.
 pub fn met_height(met: bool, height: i64, size: i64) -> i64
     ensures { result ≡ met_height met height size }
 {
     if met { height } else { size }
 }
 
-// The goal without what an insertion takes.
+/// The goal without what an insertion takes.
 pub fn less_of(a: i128, b: i128) -> i64
     requires a { IsWithin (2 ^ 115) a }
     requires b { IsWithin (2 ^ 114) b }
@@ -172,6 +172,7 @@ pub fn less_of(a: i128, b: i128) -> i64
     (a - b) as i64
 }
 
+/// The sum of two amounts, in scaled points.
 pub fn sum_of(a: i64, b: i64) -> i64
     requires { IsAmount (a +ℤ b) }
     ensures { result ≡ a +ℤ b }

@@ -29,7 +29,7 @@ fn out_of_range(ok: bool) -> Option<ParamFault>
     if ok { None } else { Some(ParamFault::Range) }
 }
 
-// What is wrong with a value in a parameter of this form.
+/// What is wrong with a value in a parameter of this form.
 pub fn value_fault(form: Form, value: Value) -> Option<ParamFault>
     ensures { result ≡ value_fault form value }
 {

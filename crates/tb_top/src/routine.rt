@@ -161,7 +161,7 @@ impl Routine {
         spend_break(&mut self.store, self.waiting)
     }
 
-    // The ending where more nodes wait than there may be.
+    /// The ending where more nodes wait than there may be.
     pub fn node_limit(&self, p: &Params) -> Option<Ending>
         requires { HasLists self.now }
         ensures { result ≡ over_limit p.now (length (waiting_of self.now)) }
