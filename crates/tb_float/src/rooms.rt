@@ -132,8 +132,8 @@ fn plain_count_after(number: i64, used: usize, suppressed: bool) -> i64
     }
 }
 
-// A share of an amount.
-fn share_of(share: i64, amount: i64) -> i64
+/// A share of an amount of at most 2^45 scaled points: `frac`, with what is known of its size.
+pub fn share_of(share: i64, amount: i64) -> i64
     requires share { IsShare share }
     requires amount { IsWithin 35184372088832 amount }
     ensures value { result ≡ fraction_of share amount }
