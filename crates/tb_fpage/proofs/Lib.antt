@@ -1,1 +1,2 @@
+pub mod CompanyLemmas
 pub mod WalkLemmas

@@ -1,16 +1,16 @@
--- A walk over floats: what it holds after each.
-use Rattle.std.proofs.Common.{◌≡◌, ◌≢◌, ◌⊎◌, inl, inr, ℕ, zero, suc, ◌+◌, ◌*◌, ◌<◌, ◌≤◌, ◌==◌, Bool, true, false, not, ◌||◌, ◌&&◌, List, [], ◌∷◌, ◌++◌, length, map, take, drop, Some, slice_get, refl, sym, ap, ◌∙◌, subst, arith}
-use Rattle.std.specs.Prelude.{ℤ, pos, ◌+ℤ◌, ◌≤ℤ◌, int_le, slice_set}
+-- A walk over the deferred floats: what it holds after each.
+use Rattle.std.proofs.Common.{◌≡◌, ◌≢◌, ℕ, zero, suc, ◌+◌, ◌*◌, ◌<◌, ◌≤◌, ◌==◌, Bool, true, false, not, ◌||◌, ◌&&◌, List, [], ◌∷◌, ◌++◌, length, map, take, drop, Some, slice_get, nat_lt, refl, sym, ap, ◌∙◌, subst, inl, inr, arith, FitsSigned, w64}
+use Rattle.std.specs.Prelude.{ℤ, pos, ◌+ℤ◌, ◌≤ℤ◌, int_le, slice_set, if◌then◌else◌}
 use Rattle.std.proofs.lemmas.Int.{ints}
 use Rattle.std.proofs.lemmas.Bool.{cases_eq, eq-eqb, ne_eqb}
+use Rattle.std.proofs.lemmas.Bool.Decides.{nat_tests}
 use Rattle.std.proofs.lemmas.Option.{same_Some}
-use Rattle.std.proofs.Common.{FitsSigned, w64}
-use Rattle.tb_fpage.specs.declared.walk.Walk.{Walk}
+use Rattle.std.proofs.lemmas.List.{map-append, append_assoc, append-nil, length-append, length-map, take_more_set}
 use Rattle.tb_node.specs.declared.Float.{Float}
-use Rattle.tb_float.specs.Lists.{has_class}
 use Rattle.tb_fpage.specs.declared.Wanted.{Wanted}
-use Rattle.tb_fpage.specs.Company.{Choice, passed_over, all_chosen, separated, company_height, suits, joins}
-use Rattle.tb_fpage.specs.Walked.{has_chosen, FailedAre, Stands}
+use Rattle.tb_fpage.specs.declared.walk.Walk.{Walk}
+use Rattle.tb_fpage.specs.Company.{Choice, passed_over, all_chosen, separated, company_height, suits, joins, choices_from, company_of_head}
+use Rattle.tb_fpage.specs.Walked.{has_chosen, choice_at, choices_at, company_of_place, FailedAre, Stands, taken, passed}
 
 -- ---- one more choice at the end
 
@@ -43,17 +43,17 @@ company-passed sep (c ∷ cs) f = by_choice c.chosen
     by_choice false = company-passed sep cs f
 
 -- the first of a company
-company-first : (sep : ℤ) (fs : List Float) (f : Float) → company_height sep (passed_over fs ++ record { float = f; chosen = true } ∷ []) ≡ f.height
-company-first sep [] f = omega (arith, ints)
-company-first sep (g ∷ fs) f = company-first sep fs f
-
-chosen-append : (cs : List Choice) (c : Choice) → has_chosen cs ≡ true → has_chosen (cs ++ c ∷ []) ≡ true
-chosen-append [] c some = cc
-chosen-append (d ∷ cs) c some = by_choice d.chosen some
+company-first : (sep : ℤ) (cs : List Choice) (f : Float) → has_chosen cs ≡ false → company_height sep (cs ++ record { float = f; chosen = true } ∷ []) ≡ f.height
+company-first sep [] f none = omega (arith, ints)
+company-first sep (c ∷ cs) f none = by_choice c.chosen none
   where
-    by_choice : (b : Bool) → (b || has_chosen cs) ≡ true → (b || has_chosen (cs ++ c ∷ [])) ≡ true
-    by_choice true is = refl
-    by_choice false is = chosen-append cs c is
+    by_choice : (b : Bool) → (b || has_chosen cs) ≡ false → (if b then c.float.height +ℤ separated sep (cs ++ record { float = f; chosen = true } ∷ []) else company_height sep (cs ++ record { float = f; chosen = true } ∷ [])) ≡ f.height
+    by_choice true is = cc
+    by_choice false is = company-first sep cs f is
+
+chosen-passed : (cs : List Choice) (f : Float) → has_chosen (cs ++ record { float = f; chosen = false } ∷ []) ≡ has_chosen cs
+chosen-passed [] f = refl
+chosen-passed (d ∷ cs) f = ap (λ b. d.chosen || b) (chosen-passed cs f)
 
 chosen-last : (cs : List Choice) (f : Float) → has_chosen (cs ++ record { float = f; chosen = true } ∷ []) ≡ true
 chosen-last [] f = refl
@@ -105,59 +105,116 @@ failed-passed failed before f many low h = λ k below. elim (cases_eq k f.class)
 failed-chosen : (failed : List Bool) (before : List Choice) (f : Float) → FailedAre failed before → FailedAre failed (before ++ record { float = f; chosen = true } ∷ [])
 failed-chosen failed before f h = λ k below. h k below ∙ ap (λ b. Some (not b)) (sym (all-chosen k before f))
 
-length-more : (cs : List Choice) (c : Choice) → length (cs ++ c ∷ []) ≡ suc (length cs)
-length-more [] c = refl
-length-more (d ∷ cs) c = ap suc (length-more cs c)
-
 -- ---- the walk
 
--- at a head, all before it were passed over
-pub begun-stands : (w : Walk) (sep : ℤ) (before : List Float) (f : Float) → w.height ≡ f.height → FitsSigned w64 f.height → FailedAre w.failed (passed_over before) → Stands w sep (passed_over before ++ record { float = f; chosen = true } ∷ [])
-begun-stands w sep before f is fits failed =
-    let more = length-more (passed_over before) (record { float = f; chosen = true }) in
+chosen-more : (chosen : List Bool) (seen : ℕ) (cs : List Choice) (f : Float) (b : Bool) → seen < length chosen → take seen chosen ≡ map (λ c. c.chosen) cs → take (seen + 1) (slice_set chosen seen b) ≡ map (λ c. c.chosen) (cs ++ record { float = f; chosen = b } ∷ [])
+chosen-more chosen seen cs f b lt is = take_more_set chosen seen b lt ∙ ap (λ bs. bs ++ b ∷ []) is ∙ sym (map-append (λ c. c.chosen) cs (record { float = f; chosen = b } ∷ []))
+
+-- the head is in its company
+pub head-stands : (w : Walk) (sep : ℤ) (before : List Choice) (f : Float) → w.seen ≡ w.place → w.seen < length w.chosen → FitsSigned w64 f.height → Stands w sep before → Stands (taken f.height w) sep (before ++ record { float = f; chosen = true } ∷ [])
+head-stands w sep before f here room fits h =
+    let c : Choice = record { float = f; chosen = true } in
+    let more = length-append before (c ∷ []) in
+    let seen = h.seen in
     let size = fits.sfits in
+    let none : has_chosen before ≡ false = h.head ∙ grind (arith, nat_tests) in
     record {
-      height = is ∙ sym (company-first sep before f);
-      within = record { low = omega (arith, ints, is, more); high = omega (arith, ints, is, more) };
-      failed = failed-chosen w.failed (passed_over before) f failed;
-      some = chosen-last (passed_over before) f;
+      seen = omega arith;
+      chosen = chosen-more w.chosen w.seen before f true room h.chosen;
+      height = sym (company-first sep before f none);
+      within = record { low = omega (arith, ints); high = omega (arith, ints) };
+      failed = failed-chosen w.failed before f h.failed;
+      head = chosen-last before f ∙ grind (arith, nat_tests);
     }
 
--- a float joins
-pub joined-stands : (w v : Walk) (sep : ℤ) (before : List Choice) (f : Float) → v.height ≡ w.height +ℤ sep +ℤ f.height → v.failed ≡ w.failed → FitsSigned w64 sep → FitsSigned w64 f.height → Stands w sep before → Stands v sep (before ++ record { float = f; chosen = true } ∷ [])
-joined-stands w v sep before f is same fits fits_height h =
-    let more = length-more before (record { float = f; chosen = true }) in
+-- a later float joins
+pub joined-stands : (w : Walk) (sep : ℤ) (before : List Choice) (f : Float) → w.place < w.seen → w.seen < length w.chosen → FitsSigned w64 sep → FitsSigned w64 f.height → Stands w sep before → Stands (taken (w.height +ℤ sep +ℤ f.height) w) sep (before ++ record { float = f; chosen = true } ∷ [])
+joined-stands w sep before f later room fits fits_height h =
+    let c : Choice = record { float = f; chosen = true } in
+    let more = length-append before (c ∷ []) in
+    let seen = h.seen in
     let low = h.within.low in
     let high = h.within.high in
+    let between = fits.sfits in
+    let size = fits_height.sfits in
+    let some : has_chosen before ≡ true = h.head ∙ grind (arith, nat_tests) in
     record {
-      height = is ∙ ap (λ z. z +ℤ sep +ℤ f.height) h.height ∙ sym (company-chosen sep before f h.some);
-      within = record { low = omega (arith, ints, is, more, fits.sfits, fits_height.sfits); high = omega (arith, ints, is, more, fits.sfits, fits_height.sfits) };
-      failed = subst (λ fs. FailedAre fs (before ++ record { float = f; chosen = true } ∷ [])) (sym same) (failed-chosen w.failed before f h.failed);
-      some = chosen-last before f;
+      seen = omega arith;
+      chosen = chosen-more w.chosen w.seen before f true room h.chosen;
+      height = ap (λ z. z +ℤ sep +ℤ f.height) h.height ∙ sym (company-chosen sep before f some);
+      within = record { low = omega (arith, ints); high = omega (arith, ints) };
+      failed = failed-chosen w.failed before f h.failed;
+      head = chosen-last before f ∙ grind (arith, nat_tests);
     }
 
 -- a float stays behind
-pub passed-stands : (w v : Walk) (sep : ℤ) (before : List Choice) (f : Float) → v.height ≡ w.height → v.failed ≡ slice_set w.failed f.class true → length w.failed ≡ 256 → f.class < 256 → Stands w sep before → Stands v sep (before ++ record { float = f; chosen = false } ∷ [])
-passed-stands w v sep before f is set many low h =
-    let more = length-more before (record { float = f; chosen = false }) in
-    let least = h.within.low in
-    let most = h.within.high in
+pub passed-stands : (w : Walk) (sep : ℤ) (before : List Choice) (f : Float) → w.seen ≢ w.place → w.seen < length w.chosen → length w.failed ≡ 256 → f.class < 256 → Stands w sep before → Stands (passed f.class w) sep (before ++ record { float = f; chosen = false } ∷ [])
+passed-stands w sep before f apart room many few h =
+    let c : Choice = record { float = f; chosen = false } in
+    let more = length-append before (c ∷ []) in
+    let seen = h.seen in
+    let low = h.within.low in
+    let high = h.within.high in
+    let same : nat_lt w.place (length before) ≡ nat_lt w.place (length (before ++ c ∷ [])) = grind (arith, nat_tests) in
     record {
-      height = is ∙ h.height ∙ sym (company-passed sep before f);
-      within = record { low = omega (arith, ints, is, more); high = omega (arith, ints, is, more) };
-      failed = subst (λ fs. FailedAre fs (before ++ record { float = f; chosen = false } ∷ [])) (sym set) (failed-passed w.failed before f many low h.failed);
-      some = chosen-append before (record { float = f; chosen = false }) h.some;
+      seen = omega arith;
+      chosen = chosen-more w.chosen w.seen before f false room h.chosen;
+      height = h.height ∙ sym (company-passed sep before f);
+      within = record { low = omega (arith, ints); high = omega (arith, ints) };
+      failed = failed-passed w.failed before f many few h.failed;
+      head = chosen-passed before f ∙ h.head ∙ same;
     }
 
--- whether a float joins, by what the walk holds
-pub joins-is : (z : Wanted) (w : Walk) (before : List Choice) (f : Float) (b : Bool) → Stands w z.sep before → f.class < 256 → slice_get w.failed f.class ≡ Some b
+-- whether a later float joins, by what the walk holds
+pub joins-is : (z : Wanted) (w : Walk) (before : List Choice) (f : Float) (b : Bool) → Stands w z.sep before → w.place < w.seen → f.class < 256 → slice_get w.failed f.class ≡ Some b
     → joins z before f ≡ (suits z f && not b && int_le (w.height +ℤ z.sep +ℤ f.height) z.height)
-joins-is z w before f b h low got =
+joins-is z w before f b h later low got =
+    let seen = h.seen in
+    let some : has_chosen before ≡ true = h.head ∙ grind (arith, nat_tests) in
     let failed : b ≡ not (all_chosen f.class before) = same_Some b (not (all_chosen f.class before)) (sym got ∙ h.failed f.class low) in
     let all : all_chosen f.class before ≡ not b = sym (not-not (all_chosen f.class before)) ∙ ap not (sym failed) in
-    let height = company-chosen z.sep before f h.some ∙ ap (λ y. y +ℤ z.sep +ℤ f.height) (sym h.height) in
+    let height = company-chosen z.sep before f some ∙ ap (λ y. y +ℤ z.sep +ℤ f.height) (sym h.height) in
     ap (λ a. suits z f && a && int_le (company_height z.sep (before ++ record { float = f; chosen = true } ∷ [])) z.height) all ∙ ap (λ y. suits z f && not b && int_le y z.height) height
   where
     not-not : (a : Bool) → not (not a) ≡ a
     not-not true = refl
     not-not false = refl
+
+-- ---- the choices
+
+pub choice-head : (z : Wanted) (place : ℕ) (before : List Choice) (f : Float) → length before ≡ place → choice_at z place before f ≡ true
+choice-head z place before f here = grind (arith, nat_tests)
+
+pub choice-later : (z : Wanted) (place : ℕ) (before : List Choice) (f : Float) → place < length before → choice_at z place before f ≡ joins z before f
+choice-later z place before f later = grind (arith, nat_tests)
+
+pub choice-before : (z : Wanted) (place : ℕ) (before : List Choice) (f : Float) → length before < place → choice_at z place before f ≡ false
+choice-before z place before f early = grind (arith, nat_tests)
+
+choices-later : (z : Wanted) (place : ℕ) (before : List Choice) (fs : List Float) → place < length before → choices_at z place before fs ≡ choices_from z before fs
+choices-later z place before [] later = refl
+choices-later z place before (f ∷ fs) later =
+    let c : Choice = record { float = f; chosen = joins z before f } in
+    let more = length-append before (c ∷ []) in
+    ap (λ b. choices_at z place (before ++ record { float = f; chosen = b } ∷ []) fs) (choice-later z place before f later) ∙ choices-later z place (before ++ c ∷ []) fs (omega arith)
+
+choices-before : (z : Wanted) (place k : ℕ) (xs fs : List Float) (f : Float) → length xs + k ≡ place → slice_get fs k ≡ Some f → choices_at z place (passed_over xs) fs ≡ company_of_head z (xs ++ take k fs) f (drop (suc k) fs)
+choices-before z place k xs [] f at got = cc
+choices-before z place zero xs (g ∷ fs) f at got =
+    let c : Choice = record { float = g; chosen = true } in
+    let more = length-append (passed_over xs) (c ∷ []) in
+    let many : length (passed_over xs) ≡ length xs = length-map xs (λ y. record { float = y; chosen = false }) in
+    let head = ap (λ b. choices_at z place (passed_over xs ++ record { float = g; chosen = b } ∷ []) fs) (choice-head z place (passed_over xs) g (omega arith)) in
+    let later = choices-later z place (passed_over xs ++ c ∷ []) fs (omega arith) in
+    let same = ap (λ h. choices_from z (passed_over xs ++ record { float = h; chosen = true } ∷ []) fs) (same_Some g f got) in
+    head ∙ later ∙ same ∙ ap (λ ys. company_of_head z ys f fs) (sym (append-nil xs))
+choices-before z place (suc k) xs (g ∷ fs) f at got =
+    let many : length (passed_over xs) ≡ length xs = length-map xs (λ y. record { float = y; chosen = false }) in
+    let more = length-append xs (g ∷ []) in
+    let behind = ap (λ b. choices_at z place (passed_over xs ++ record { float = g; chosen = b } ∷ []) fs) (choice-before z place (passed_over xs) g (omega arith)) in
+    let over = ap (λ cs. choices_at z place cs fs) (sym (map-append (λ y. record { float = y; chosen = false }) xs (g ∷ []))) in
+    behind ∙ over ∙ choices-before z place k (xs ++ g ∷ []) fs f (omega arith) got ∙ ap (λ ys. company_of_head z ys f (drop (suc k) fs)) (append_assoc xs (g ∷ []) (take k fs))
+
+-- the choices of a walk are the company of its head
+pub choices-company : (z : Wanted) (place : ℕ) (fs : List Float) (f : Float) → slice_get fs place ≡ Some f → choices_at z place [] fs ≡ company_of_place z place fs f
+choices-company z place fs f got = choices-before z place place [] fs f (omega arith) got
