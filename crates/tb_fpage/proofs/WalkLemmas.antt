@@ -1,5 +1,5 @@
 -- A walk over the deferred floats: what it holds after each.
-use Rattle.std.proofs.Common.{◌≡◌, ◌≢◌, ℕ, zero, suc, ◌+◌, ◌*◌, ◌<◌, ◌≤◌, ◌==◌, Bool, true, false, not, ◌||◌, ◌&&◌, List, [], ◌∷◌, ◌++◌, length, map, take, drop, Some, slice_get, nat_lt, refl, sym, ap, ◌∙◌, subst, inl, inr, arith, FitsSigned, w64}
+use Rattle.std.proofs.Common.{◌≡◌, ◌≢◌, ℕ, zero, suc, ◌+◌, ◌*◌, ◌<◌, ◌≤◌, ◌==◌, Bool, true, false, not, ◌||◌, ◌&&◌, List, [], ◌∷◌, ◌++◌, length, map, take, drop, Some, slice_get, nat_lt, replicate, refl, sym, ap, ◌∙◌, subst, inl, inr, arith, FitsSigned, w64}
 use Rattle.std.specs.Prelude.{ℤ, pos, ◌+ℤ◌, ◌≤ℤ◌, int_le, slice_set, if◌then◌else◌}
 use Rattle.std.proofs.lemmas.Int.{ints}
 use Rattle.std.proofs.lemmas.Bool.{cases_eq, eq-eqb, ne_eqb}
@@ -7,20 +7,25 @@ use Rattle.std.proofs.lemmas.Bool.Decides.{nat_tests}
 use Rattle.std.proofs.lemmas.Option.{same_Some}
 use Rattle.std.proofs.lemmas.List.{map-append, append_assoc, append-nil, length-append, length-map, take_more_set}
 use Rattle.tb_node.specs.declared.Float.{Float}
+use Rattle.tb_float.specs.declared.Entry.{Entry}
+use Rattle.tb_float.specs.declared.Entry.TheVariants as entries
+use Rattle.tb_float.specs.Lists.{float_entries}
+use Rattle.tb_float.specs.Ranges.{IsWithin}
+use Rattle.tb_float.specs.Stored.{is_float}
 use Rattle.tb_fpage.specs.declared.Wanted.{Wanted}
 use Rattle.tb_fpage.specs.declared.walk.Walk.{Walk}
 use Rattle.tb_fpage.specs.Company.{Choice, passed_over, all_chosen, separated, company_height, suits, joins, choices_from, company_of_head}
-use Rattle.tb_fpage.specs.Walked.{has_chosen, choice_at, choices_at, company_of_place, FailedAre, Stands, taken, passed}
+use Rattle.tb_fpage.specs.Walked.{has_chosen, choice_at, choices_at, company_of_place, FailedAre, Stands, IsOnWay, taken, passed}
 
 -- ---- one more choice at the end
 
 separated-chosen : (sep : ℤ) (cs : List Choice) (f : Float) → separated sep (cs ++ record { float = f; chosen = true } ∷ []) ≡ separated sep cs +ℤ sep +ℤ f.height
 separated-chosen sep [] f = omega (arith, ints)
-separated-chosen sep (c ∷ cs) f = by_choice c.chosen
+separated-chosen sep (c ∷ cs) f = by_choice c.chosen _ _ (separated-chosen sep cs f)
   where
-    by_choice : (b : Bool) → (if b then sep +ℤ c.float.height +ℤ separated sep (cs ++ record { float = f; chosen = true } ∷ []) else separated sep (cs ++ record { float = f; chosen = true } ∷ [])) ≡ (if b then sep +ℤ c.float.height +ℤ separated sep cs else separated sep cs) +ℤ sep +ℤ f.height
-    by_choice true = omega (arith, ints, separated-chosen sep cs f)
-    by_choice false = separated-chosen sep cs f
+    by_choice : (b : Bool) (x y : ℤ) → x ≡ y +ℤ sep +ℤ f.height → (if b then sep +ℤ c.float.height +ℤ x else x) ≡ (if b then sep +ℤ c.float.height +ℤ y else y) +ℤ sep +ℤ f.height
+    by_choice true x y is = omega (arith, ints, is)
+    by_choice false x y is = is
 
 separated-passed : (sep : ℤ) (cs : List Choice) (f : Float) → separated sep (cs ++ record { float = f; chosen = false } ∷ []) ≡ separated sep cs
 separated-passed sep [] f = refl
@@ -28,28 +33,26 @@ separated-passed sep (c ∷ cs) f = ap (λ z. if c.chosen then sep +ℤ c.float.
 
 company-chosen : (sep : ℤ) (cs : List Choice) (f : Float) → has_chosen cs ≡ true → company_height sep (cs ++ record { float = f; chosen = true } ∷ []) ≡ company_height sep cs +ℤ sep +ℤ f.height
 company-chosen sep [] f some = cc
-company-chosen sep (c ∷ cs) f some = by_choice c.chosen some
+company-chosen sep (c ∷ cs) f some = by_choice c.chosen _ _ _ _ (separated-chosen sep cs f) (λ is. company-chosen sep cs f is) some
   where
-    by_choice : (b : Bool) → (b || has_chosen cs) ≡ true → (if b then c.float.height +ℤ separated sep (cs ++ record { float = f; chosen = true } ∷ []) else company_height sep (cs ++ record { float = f; chosen = true } ∷ [])) ≡ (if b then c.float.height +ℤ separated sep cs else company_height sep cs) +ℤ sep +ℤ f.height
-    by_choice true is = omega (arith, ints, separated-chosen sep cs f)
-    by_choice false is = company-chosen sep cs f is
+    by_choice : (b : Bool) (x y v w : ℤ) → x ≡ y +ℤ sep +ℤ f.height → (has_chosen cs ≡ true → v ≡ w +ℤ sep +ℤ f.height) → (b || has_chosen cs) ≡ true → (if b then c.float.height +ℤ x else v) ≡ (if b then c.float.height +ℤ y else w) +ℤ sep +ℤ f.height
+    by_choice true x y v w is more h = omega (arith, ints, is)
+    by_choice false x y v w is more h = more h
 
 company-passed : (sep : ℤ) (cs : List Choice) (f : Float) → company_height sep (cs ++ record { float = f; chosen = false } ∷ []) ≡ company_height sep cs
 company-passed sep [] f = refl
-company-passed sep (c ∷ cs) f = by_choice c.chosen
-  where
-    by_choice : (b : Bool) → (if b then c.float.height +ℤ separated sep (cs ++ record { float = f; chosen = false } ∷ []) else company_height sep (cs ++ record { float = f; chosen = false } ∷ [])) ≡ (if b then c.float.height +ℤ separated sep cs else company_height sep cs)
-    by_choice true = ap (λ z. c.float.height +ℤ z) (separated-passed sep cs f)
-    by_choice false = company-passed sep cs f
+company-passed sep (c ∷ cs) f =
+    ap (λ z. if c.chosen then c.float.height +ℤ z else company_height sep (cs ++ record { float = f; chosen = false } ∷ [])) (separated-passed sep cs f)
+    ∙ ap (λ z. if c.chosen then c.float.height +ℤ separated sep cs else z) (company-passed sep cs f)
 
 -- the first of a company
 company-first : (sep : ℤ) (cs : List Choice) (f : Float) → has_chosen cs ≡ false → company_height sep (cs ++ record { float = f; chosen = true } ∷ []) ≡ f.height
 company-first sep [] f none = omega (arith, ints)
-company-first sep (c ∷ cs) f none = by_choice c.chosen none
+company-first sep (c ∷ cs) f none = by_choice c.chosen _ _ (λ is. company-first sep cs f is) none
   where
-    by_choice : (b : Bool) → (b || has_chosen cs) ≡ false → (if b then c.float.height +ℤ separated sep (cs ++ record { float = f; chosen = true } ∷ []) else company_height sep (cs ++ record { float = f; chosen = true } ∷ [])) ≡ f.height
-    by_choice true is = cc
-    by_choice false is = company-first sep cs f is
+    by_choice : (b : Bool) (x v : ℤ) → (has_chosen cs ≡ false → v ≡ f.height) → (b || has_chosen cs) ≡ false → (if b then c.float.height +ℤ x else v) ≡ f.height
+    by_choice true x v is h = cc
+    by_choice false x v is h = is h
 
 chosen-passed : (cs : List Choice) (f : Float) → has_chosen (cs ++ record { float = f; chosen = false } ∷ []) ≡ has_chosen cs
 chosen-passed [] f = refl
@@ -57,11 +60,11 @@ chosen-passed (d ∷ cs) f = ap (λ b. d.chosen || b) (chosen-passed cs f)
 
 chosen-last : (cs : List Choice) (f : Float) → has_chosen (cs ++ record { float = f; chosen = true } ∷ []) ≡ true
 chosen-last [] f = refl
-chosen-last (d ∷ cs) f = by_choice d.chosen
+chosen-last (d ∷ cs) f = ap (λ b. d.chosen || b) (chosen-last cs f) ∙ or-true d.chosen
   where
-    by_choice : (b : Bool) → (b || has_chosen (cs ++ record { float = f; chosen = true } ∷ [])) ≡ true
-    by_choice true = refl
-    by_choice false = chosen-last cs f
+    or-true : (b : Bool) → (b || true) ≡ true
+    or-true true = refl
+    or-true false = refl
 
 all-chosen : (k : ℕ) (cs : List Choice) (f : Float) → all_chosen k (cs ++ record { float = f; chosen = true } ∷ []) ≡ all_chosen k cs
 all-chosen k [] f = by_class (f.class == k)
@@ -166,7 +169,7 @@ passed-stands w sep before f apart room many few h =
     }
 
 -- whether a later float joins, by what the walk holds
-pub joins-is : (z : Wanted) (w : Walk) (before : List Choice) (f : Float) (b : Bool) → Stands w z.sep before → w.place < w.seen → f.class < 256 → slice_get w.failed f.class ≡ Some b
+joins-is : (z : Wanted) (w : Walk) (before : List Choice) (f : Float) (b : Bool) → Stands w z.sep before → w.place < w.seen → f.class < 256 → slice_get w.failed f.class ≡ Some b
     → joins z before f ≡ (suits z f && not b && int_le (w.height +ℤ z.sep +ℤ f.height) z.height)
 joins-is z w before f b h later low got =
     let seen = h.seen in
@@ -180,6 +183,11 @@ joins-is z w before f b h later low got =
     not-not true = refl
     not-not false = refl
 
+-- a later float that suits, and whose class did not fail, joins where it fits
+pub joins-fits : (z : Wanted) (w : Walk) (before : List Choice) (f : Float) (b : Bool) (height most : ℤ) → w.place < w.seen → f.class < 256 → slice_get w.failed f.class ≡ Some b → suits z f ≡ true → not b ≡ true → height ≡ w.height +ℤ z.sep +ℤ f.height → most ≡ z.height → Stands w z.sep before → int_le height most ≡ joins z before f
+joins-fits z w before f b height most later low got suit may is at h =
+    ap (λ y. int_le y most) is ∙ ap (λ y. int_le (w.height +ℤ z.sep +ℤ f.height) y) at ∙ sym (joins-is z w before f b h later low got ∙ ap (λ s. s && not b && int_le (w.height +ℤ z.sep +ℤ f.height) z.height) suit ∙ ap (λ s. s && int_le (w.height +ℤ z.sep +ℤ f.height) z.height) may)
+
 -- ---- the choices
 
 pub choice-head : (z : Wanted) (place : ℕ) (before : List Choice) (f : Float) → length before ≡ place → choice_at z place before f ≡ true
@@ -190,6 +198,35 @@ choice-later z place before f later = grind (arith, nat_tests)
 
 pub choice-before : (z : Wanted) (place : ℕ) (before : List Choice) (f : Float) → length before < place → choice_at z place before f ≡ false
 choice-before z place before f early = grind (arith, nat_tests)
+
+-- the walk after a float, by what was decided on it
+pub visited-head : (z : Wanted) (w v : Walk) (before : List Choice) (f : Float) (height : ℤ) → w.seen ≡ w.place → w.seen < length w.chosen → FitsSigned w64 f.height → height ≡ f.height → v ≡ taken height w → Stands w z.sep before → Stands v z.sep (before ++ record { float = f; chosen = choice_at z w.place before f } ∷ [])
+visited-head z w v before f height here room fits is new h =
+    let seen = h.seen in
+    let choice : true ≡ choice_at z w.place before f = sym (choice-head z w.place before f (omega arith)) in
+    let v_is : taken f.height w ≡ v = sym (new ∙ ap (λ y. taken y w) is) in
+    subst (λ (u : Walk). Stands u z.sep (before ++ record { float = f; chosen = choice_at z w.place before f } ∷ [])) v_is (subst (λ (b : Bool). Stands (taken f.height w) z.sep (before ++ record { float = f; chosen = b } ∷ [])) choice (head-stands w z.sep before f here room fits h))
+
+pub visited-joined : (z : Wanted) (w v : Walk) (before : List Choice) (f : Float) (height : ℤ) → w.place < w.seen → w.seen < length w.chosen → FitsSigned w64 z.sep → FitsSigned w64 f.height → joins z before f ≡ true → height ≡ w.height +ℤ z.sep +ℤ f.height → v ≡ taken height w → Stands w z.sep before → Stands v z.sep (before ++ record { float = f; chosen = choice_at z w.place before f } ∷ [])
+visited-joined z w v before f height later room fits_sep fits joined is new h =
+    let seen = h.seen in
+    let choice : true ≡ choice_at z w.place before f = sym (choice-later z w.place before f (omega arith) ∙ joined) in
+    let v_is : taken (w.height +ℤ z.sep +ℤ f.height) w ≡ v = sym (new ∙ ap (λ y. taken y w) is) in
+    subst (λ (u : Walk). Stands u z.sep (before ++ record { float = f; chosen = choice_at z w.place before f } ∷ [])) v_is (subst (λ (b : Bool). Stands (taken (w.height +ℤ z.sep +ℤ f.height) w) z.sep (before ++ record { float = f; chosen = b } ∷ [])) choice (joined-stands w z.sep before f later room fits_sep fits h))
+
+visited-passed : (z : Wanted) (w v : Walk) (before : List Choice) (f : Float) → choice_at z w.place before f ≡ false → w.seen ≢ w.place → w.seen < length w.chosen → length w.failed ≡ 256 → f.class < 256 → v ≡ passed f.class w → Stands w z.sep before → Stands v z.sep (before ++ record { float = f; chosen = choice_at z w.place before f } ∷ [])
+visited-passed z w v before f choice apart room many low new h =
+    subst (λ (u : Walk). Stands u z.sep (before ++ record { float = f; chosen = choice_at z w.place before f } ∷ [])) (sym new) (subst (λ (b : Bool). Stands (passed f.class w) z.sep (before ++ record { float = f; chosen = b } ∷ [])) (sym choice) (passed-stands w z.sep before f apart room many low h))
+
+pub visited-before : (z : Wanted) (w v : Walk) (before : List Choice) (f : Float) → w.seen < w.place → w.seen < length w.chosen → length w.failed ≡ 256 → f.class < 256 → v ≡ passed f.class w → Stands w z.sep before → Stands v z.sep (before ++ record { float = f; chosen = choice_at z w.place before f } ∷ [])
+visited-before z w v before f early room many low new h =
+    let seen = h.seen in
+    visited-passed z w v before f (choice-before z w.place before f (omega arith)) (λ is. absurd (omega (arith, is))) room many low new h
+
+pub visited-left : (z : Wanted) (w v : Walk) (before : List Choice) (f : Float) → w.place < w.seen → joins z before f ≡ false → w.seen < length w.chosen → length w.failed ≡ 256 → f.class < 256 → v ≡ passed f.class w → Stands w z.sep before → Stands v z.sep (before ++ record { float = f; chosen = choice_at z w.place before f } ∷ [])
+visited-left z w v before f later left room many low new h =
+    let seen = h.seen in
+    visited-passed z w v before f (choice-later z w.place before f (omega arith) ∙ left) (λ is. absurd (omega (arith, is))) room many low new h
 
 choices-later : (z : Wanted) (place : ℕ) (before : List Choice) (fs : List Float) → place < length before → choices_at z place before fs ≡ choices_from z before fs
 choices-later z place before [] later = refl
@@ -218,3 +255,67 @@ choices-before z place (suc k) xs (g ∷ fs) f at got =
 -- the choices of a walk are the company of its head
 pub choices-company : (z : Wanted) (place : ℕ) (fs : List Float) (f : Float) → slice_get fs place ≡ Some f → choices_at z place [] fs ≡ company_of_place z place fs f
 choices-company z place fs f got = choices-before z place place [] fs f (omega arith) got
+
+-- ---- the way
+
+pub on-way-start : (z : Wanted) (w : Walk) (place : ℕ) (fs : List Float) → w.place ≡ place → Stands w z.sep [] → IsOnWay w z place fs fs
+on-way-start z w place fs head h = record { before = []; stands = h; head = head; choices = refl; count = omega arith }
+
+pub on-way-next : (z : Wanted) (w v : Walk) (place : ℕ) (all fs : List Float) (f : Float) → v.place ≡ w.place → ((before : List Choice) → Stands w z.sep before → Stands v z.sep (before ++ record { float = f; chosen = choice_at z w.place before f } ∷ [])) → IsOnWay w z place all (f ∷ fs) → IsOnWay v z place all fs
+on-way-next z w v place all fs f same step way =
+    let c : Choice = record { float = f; chosen = choice_at z w.place way.before f } in
+    let count = way.count in
+    let more = length-append way.before (c ∷ []) in
+    record {
+      before = way.before ++ c ∷ [];
+      stands = step way.before way.stands;
+      head = same ∙ way.head;
+      choices = ap (λ p. choices_at z place (way.before ++ record { float = f; chosen = choice_at z p way.before f } ∷ []) fs) way.head ∙ way.choices;
+      count = omega arith;
+    }
+
+pub on-way-end : (z : Wanted) (w : Walk) (place : ℕ) (all : List Float) (f : Float) → slice_get all place ≡ Some f → IsOnWay w z place all [] → Stands w z.sep (company_of_place z place all f)
+on-way-end z w place all f got way = subst (λ (cs : List Choice). Stands w z.sep cs) (way.choices ∙ choices-company z place all f got) way.stands
+
+pub on-way-room : (z : Wanted) (w : Walk) (place : ℕ) (all fs : List Float) (f : Float) → length all ≤ 4096 → IsOnWay w z place all (f ∷ fs) → (w.seen < 4096) × IsWithin 151115727451828646838272 w.height
+on-way-room z w place all fs f few way =
+    let seen = way.stands.seen in
+    let low = way.stands.within.low in
+    let high = way.stands.within.high in
+    let count = way.count in
+    let less : length way.before < 4096 = omega arith in
+    (omega arith, record { low = omega (arith, ints); high = omega (arith, ints) })
+
+-- ---- the entries
+
+entry-float : (fs : List Float) (k : ℕ) (e : Entry) → slice_get (float_entries fs) k ≡ Some e → (f : Float) × (e ≡ entries.Float f)
+entry-float [] k e got = cc
+entry-float (f ∷ fs) zero e got = (f, cc)
+entry-float (f ∷ fs) (suc k) e got = entry-float fs k e got
+
+pub entry-is_float : (fs : List Float) (k : ℕ) (e : Entry) → slice_get (float_entries fs) k ≡ Some e → is_float e ≡ true
+entry-is_float fs k e got = ap is_float (entry-float fs k e got).1
+
+-- the float of an entry stands at its place
+pub float-at : (fs : List Float) (k : ℕ) (e : Entry) (f : Float) → slice_get (float_entries fs) k ≡ Some e → e ≡ entries.Float f → slice_get fs k ≡ Some f
+float-at [] k e f got is = cc
+float-at (g ∷ fs) zero e f got is = cc
+float-at (g ∷ fs) (suc k) e f got is = float-at fs k e f got is
+
+pub next-is_float : (e : Entry) (es : List Entry) (left : List Float) → e ∷ es ≡ float_entries left → is_float e ≡ true
+next-is_float e es [] is = cc
+next-is_float e es (f ∷ fs) is = let same : e ≡ entries.Float f = cc in ap is_float same
+
+-- the next entry, and those that are left after it
+pub next-float : (e : Entry) (es : List Entry) (left : List Float) (f : Float) → e ∷ es ≡ float_entries left → e ≡ entries.Float f → (fs : List Float) × (es ≡ float_entries fs) × (left ≡ f ∷ fs)
+next-float e es [] f is it = cc
+next-float e es (g ∷ fs) f is it = (fs, cc, cc)
+
+pub no-float : (left : List Float) → [] ≡ float_entries left → left ≡ []
+no-float [] is = refl
+no-float (f ∷ fs) is = cc
+
+pub get-replicate : {X : Type 0} (n k : ℕ) (x : X) → k < n → slice_get (replicate n x) k ≡ Some x
+get-replicate zero k x lt = absurd (omega arith)
+get-replicate (suc n) zero x lt = refl
+get-replicate (suc n) (suc k) x lt = get-replicate n k x (omega arith)

@@ -54,6 +54,6 @@ pub record Stands (w : Walk) (sep : ℤ) (before : List Choice) : Type 0 where
 pub record IsOnWay (w : Walk) (z : Wanted) (place : ℕ) (all left : List Float) : Type 0 where
   pub before : List Choice
   pub stands : Stands w z.sep before
-  pub place : w.place ≡ place
+  pub head : w.place ≡ place
   pub choices : choices_at z place before left ≡ choices_at z place [] all
   pub count : length before + length left ≡ length all

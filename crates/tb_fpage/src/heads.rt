@@ -2,6 +2,7 @@
 ghost use Rattle.std.specs.Prelude.{◌≡◌, ◌≤◌, ◌<◌, List, [], length, take, slice_get, Some, IfSome, IfNone, true, false};
 ghost use Rattle.tb_node.specs.declared.Float.{Float as PlainFloat};
 ghost use Rattle.tb_float.specs.Pool.{marked_floats};
+ghost use Rattle.tb_float.specs.Stored.{is_float};
 ghost use Rattle.tb_fpage.specs.Company.{Choice, is_head, is_made};
 ghost use Rattle.tb_fpage.specs.Walked.{Stands, company_of_place, is_made_at};
 
@@ -43,7 +44,18 @@ fn deferred_float(pool: &Pool, k: usize) -> Float
     ensures { slice_get pool.now.lists.deferred k ≡ Some result }
 {
     match pool.entry(Part::Deferred, k) {
-        Some(Entry::Float(f)) => *f,
+        Some(entry) => float_in(*entry),
+        None => unreachable!(),
+    }
+}
+
+// The float of an entry that is one.
+fn float_in(entry: Entry) -> Float
+    requires { is_float entry ≡ true }
+    ensures { entry ≡ Entry.Float result }
+{
+    match entry {
+        Entry::Float(f) => f,
         _ => unreachable!(),
     }
 }
@@ -56,9 +68,7 @@ fn gathered(pool: &Pool, wanted: &Wanted, place: usize) -> Walk
 {
     let mut walk = Walk::to_head(place);
     for entry in pool.entries(Part::Deferred) {
-        if let Entry::Float(f) = entry {
-            walk.visit(wanted, f);
-        }
+        walk.visit(wanted, &float_in(*entry));
     }
     walk
 }

@@ -1,0 +1,43 @@
+use Rattle.std.proofs.Common.{◌≡◌, ◌<◌, length, refl, sym, ap, ◌∙◌, arith, List, Bool, map, take, w64}
+use Rattle.std.proofs.lemmas.Int.{ints}
+use Rattle.std.proofs.lemmas.Option.{same_Some}
+use mir.Val.{to_z, of_z}
+use Rattle.tb_float.specs.Pool.{FloatPool}
+use Rattle.tb_fpage.proofs.CompanyLemmas.{wanted_of, wanted-is, company-found, company-passed, some-found}
+use Rattle.tb_fpage.proofs.choose.Goals as goal
+
+pub mark_company-requires-clause-all : goal.mark_company-requires-clause-all
+mark_company-requires-clause-all c =
+    let z = wanted_of (to_z w64 (of_z w64 c.args.height)) (to_z w64 (of_z w64 c.args.minimum)) (to_z w64 (of_z w64 c.args.sep)) c.args.clearing c.args.wide in
+    let ds = c.loop-place.pool.lists.deferred in
+    let all = ap (λ (v : FloatPool). v.lists.deferred) c.loop-place.invariant.same in
+    let lt : c.loop-place.place < length ds = omega (arith, ap length all, c.len-place-end.ensures.value) in
+    let found = company-found z z c.loop-place.place c.args.pool.now.lists.deferred ds c.in-Some.company refl all lt c.in-Some.ensures.made c.loop-place.invariant.later in
+    found.2 ∙ ap length (sym all)
+
+pub returns-in-Some : goal.returns-in-Some
+returns-in-Some c =
+    let z' = wanted_of (to_z w64 (of_z w64 c.args.height)) (to_z w64 (of_z w64 c.args.minimum)) (to_z w64 (of_z w64 c.args.sep)) c.args.clearing c.args.wide in
+    let z = wanted_of c.args.height c.args.minimum c.args.sep c.args.clearing c.args.wide in
+    let same : z' ≡ z = wanted-is _ _ _ _ _ _ c.args.clearing c.args.wide (omega (arith, ints)) (omega (arith, ints)) (omega (arith, ints)) in
+    let ds = c.loop-place.pool.lists.deferred in
+    let all = ap (λ (v : FloatPool). v.lists.deferred) c.loop-place.invariant.same in
+    let lt : c.loop-place.place < length ds = omega (arith, ap length all, c.len-place-end.ensures.value) in
+    let found = company-found z z' c.loop-place.place c.args.pool.now.lists.deferred ds c.in-Some.company same all lt c.in-Some.ensures.made c.loop-place.invariant.later in
+    let set = c.mark_company.ensures ∙ ap (λ (v : FloatPool). record v { marks = take c.in-Some.company.seen c.in-Some.company.chosen }) c.loop-place.invariant.same in
+    record {
+      found = some-found _ found.0 found.1;
+      marked = λ cs is. set ∙ ap (λ (ms : List Bool). record c.args.pool.now { marks = ms }) (found.3 ∙ ap (map (λ c'. c'.chosen)) (same_Some found.0 cs (sym found.1 ∙ is)));
+      unchanged = λ is. absurd (cc (found.1, is));
+    }
+
+pub loop-place-preserved : goal.loop-place-preserved
+loop-place-preserved c =
+    let z = wanted_of (to_z w64 (of_z w64 c.args.height)) (to_z w64 (of_z w64 c.args.minimum)) (to_z w64 (of_z w64 c.args.sep)) c.args.clearing c.args.wide in
+    let ds = c.loop-place.pool.lists.deferred in
+    let all = ap (λ (v : FloatPool). v.lists.deferred) c.loop-place.invariant.same in
+    let lt : c.loop-place.place < length ds = omega (arith, ap length all, c.len-place-end.ensures.value) in
+    record {
+      same = c.loop-place.invariant.same;
+      later = company-passed z c.loop-place.place c.args.pool.now.lists.deferred ds all lt c.in_default.ensures.none c.loop-place.invariant.later;
+    }
