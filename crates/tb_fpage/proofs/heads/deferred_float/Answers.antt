@@ -1,6 +1,5 @@
-use Rattle.std.proofs.Common.{◌≡◌, Some, slice_get, sym, ap, ◌∙◌}
+use Rattle.std.proofs.Common.{sym, ap, ◌∙◌}
 use Rattle.std.specs.Option.{option_copied}
-use Rattle.tb_float.specs.Lists.{float_entries}
 use Rattle.tb_fpage.proofs.WalkLemmas.{entry-is_float, float-at}
 use Rattle.tb_fpage.proofs.heads.deferred_float.Goals as goal
 

@@ -1,4 +1,4 @@
-use Rattle.std.proofs.Common.{◌≡◌, ◌∷◌, [], List, sym, ap, ◌∙◌, subst}
+use Rattle.std.proofs.Common.{List, sym, ◌∙◌, subst}
 use Rattle.tb_node.specs.declared.Float.{Float}
 use Rattle.tb_fpage.specs.Walked.{IsOnWay}
 use Rattle.tb_fpage.proofs.WalkLemmas.{next-float, next-is_float, no-float, on-way-start, on-way-next, on-way-end, on-way-room}

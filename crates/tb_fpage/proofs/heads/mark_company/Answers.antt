@@ -1,7 +1,7 @@
-use Rattle.std.proofs.Common.{◌≡◌, ◌<◌, Bool, List, false, true, Some, slice_get, length, take, drop, ◌++◌, sym, ap, ◌∙◌, add-one, arith, rules}
+use Rattle.std.proofs.Common.{◌≡◌, ◌<◌, Bool, List, false, Some, slice_get, length, ap, ◌∙◌, add-one, arith, rules}
 use Rattle.std.proofs.lemmas.Option.{slice_get-get_or}
 use Rattle.tb_float.specs.Pool.{FloatPool, with_mark}
-use Rattle.tb_fpage.proofs.CompanyLemmas.{unmarked-at, mark-chosen, leave-passed, all-marked}
+use Rattle.tb_fpage.proofs.CompanyLemmas.{unmarked-at, mark-chosen, leave-passed}
 use Rattle.tb_fpage.proofs.heads.mark_company.Goals as goal
 use Rattle.tb_fpage.proofs.heads.mark_company.Goals.{then-company-k, else-company-k}
 

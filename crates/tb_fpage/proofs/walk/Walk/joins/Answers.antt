@@ -1,6 +1,6 @@
 use mir.Syntax.{w128}
 use mir.Val.{to_z, of_z}
-use Rattle.std.proofs.Common.{◌≡◌, arith, FitsSigned, w64, ◌<◌, not, true, sym, ap, ◌∙◌, rules}
+use Rattle.std.proofs.Common.{◌≡◌, arith, FitsSigned, w64, ◌<◌, not, true, sym, ◌∙◌, rules}
 use Rattle.std.proofs.lemmas.Int.{ints}
 use Rattle.tb_fpage.specs.Company.{suits}
 use Rattle.tb_fpage.proofs.WalkLemmas.{joins-fits}
