@@ -1,5 +1,5 @@
 use Rattle.std.proofs.Common.{◌≡◌, ap, arith}
-use Rattle.std.specs.Prelude.{ℤ, pos}
+use Rattle.std.specs.Prelude.{pos}
 use Rattle.std.proofs.lemmas.Int.{ints}
 use Rattle.tb_scaled.specs.declared.Glue.{Glue}
 use Rattle.tb_param.specs.declared.params.Params.{Params}
