@@ -7,7 +7,7 @@ use Rattle.std.proofs.lemmas.Option.{same_Some}
 use Rattle.tb_node.specs.declared.Float.{Float}
 use Rattle.tb_float.specs.Pool.{marked_among}
 use Rattle.tb_fpage.specs.declared.Wanted.{Wanted}
-use Rattle.tb_fpage.specs.Company.{Choice, passed_over, choices_from, company, company_from, joins}
+use Rattle.tb_fpage.specs.Company.{Choice, wanted_of, passed_over, choices_from, company, company_from, joins}
 use Rattle.tb_fpage.specs.declared.walk.Walk.{Walk}
 use Rattle.tb_fpage.specs.Walked.{company_of_place, is_made_at, Stands}
 
@@ -68,9 +68,6 @@ company-later z place fs f got not_made =
 
 pub company-end : (z : Wanted) (place : ℕ) (fs : List Float) → length fs ≤ place → company_from z (take place fs) (drop place fs) ≡ None
 company-end z place fs end = ap (company_from z (take place fs)) (drop_of_length-le fs end)
-
-abbrev pub wanted_of : ℤ → ℤ → ℤ → Bool → Bool → Wanted
-wanted_of h m s clearing wide = record { height = h; minimum = m; sep = s; clearing = clearing; wide = wide }
 
 -- what is wanted, as the code keeps it
 pub wanted-is : (h h' m m' s s' : ℤ) (clearing wide : Bool) → h' ≡ h → m' ≡ m → s' ≡ s

@@ -39,14 +39,14 @@ company-chosen sep (c ∷ cs) f some = by_choice c.chosen _ _ _ _ (separated-cho
     by_choice true x y v w is more h = omega (arith, ints, is)
     by_choice false x y v w is more h = more h
 
-company-passed : (sep : ℤ) (cs : List Choice) (f : Float) → company_height sep (cs ++ record { float = f; chosen = false } ∷ []) ≡ company_height sep cs
+pub company-passed : (sep : ℤ) (cs : List Choice) (f : Float) → company_height sep (cs ++ record { float = f; chosen = false } ∷ []) ≡ company_height sep cs
 company-passed sep [] f = refl
 company-passed sep (c ∷ cs) f =
     ap (λ z. if c.chosen then c.float.height +ℤ z else company_height sep (cs ++ record { float = f; chosen = false } ∷ [])) (separated-passed sep cs f)
     ∙ ap (λ z. if c.chosen then c.float.height +ℤ separated sep cs else z) (company-passed sep cs f)
 
 -- the first of a company
-company-first : (sep : ℤ) (cs : List Choice) (f : Float) → has_chosen cs ≡ false → company_height sep (cs ++ record { float = f; chosen = true } ∷ []) ≡ f.height
+pub company-first : (sep : ℤ) (cs : List Choice) (f : Float) → has_chosen cs ≡ false → company_height sep (cs ++ record { float = f; chosen = true } ∷ []) ≡ f.height
 company-first sep [] f none = omega (arith, ints)
 company-first sep (c ∷ cs) f none = by_choice c.chosen _ _ (λ is. company-first sep cs f is) none
   where
