@@ -7,3 +7,4 @@ pub mod SoundLemmas
 pub mod PoolLemmas
 pub mod MarkLemmas
 pub mod RoomLemmas
+pub mod ParamLemmas

@@ -1,0 +1,73 @@
+//! The decisions: the text, the top and the bottom, in their order.
+ghost use Rattle.std.specs.Prelude.{◌≡◌};
+ghost use Rattle.tb_float.specs.Ranges.{AreFloatParams};
+ghost use Rattle.tb_area.specs.Area.{by_class, here_or_area, top_or_bottom, bottom_or_deferred, where_of};
+ghost use Rattle.tb_area.specs.Required.{IsRequired};
+
+use crate::tries::{beyond, fits_bottom, fits_column, fits_top, is_above_its_class, next_separator, tries_bottom, tries_top};
+use tb_float::{Part, Pool, Suppress};
+use tb_node::{Float, Where};
+use tb_param::Params;
+
+/// A float whose class stands at the bottom goes there or nowhere.
+pub(crate) fn by_class(pool: &Pool, p: &Params, s: &Suppress, required: i64, f: &Float) -> Where
+    requires params { AreFloatParams p.now }
+    requires required { IsRequired 0 required }
+    ensures { result ≡ by_class p.now pool.now.lists s.now required f.now }
+{
+    if pool.has_class(Part::Bottom, f.class) {
+        bottom_place(pool, p, s, required, f)
+    } else {
+        here_or_area(pool, p, s, required, f)
+    }
+}
+
+// The text, and then the top and the bottom.
+fn here_or_area(pool: &Pool, p: &Params, s: &Suppress, required: i64, f: &Float) -> Where
+    requires params { AreFloatParams p.now }
+    requires required { IsRequired 0 required }
+    ensures { result ≡ here_or_area p.now pool.now.lists s.now required f.now }
+{
+    if !f.places.h {
+        return area_place(pool, p, s, required, f);
+    }
+    let inside = beyond(required, p.intextsep.width);
+    if fits_column(pool, p, inside) {
+        Where::Here
+    } else {
+        area_place(pool, p, s, inside, f)
+    }
+}
+
+/// The top, and then the bottom with the room that the top required.
+pub(crate) fn area_place(pool: &Pool, p: &Params, s: &Suppress, required: i64, f: &Float) -> Where
+    requires params { AreFloatParams p.now }
+    requires required { IsRequired 1 required }
+    ensures { result ≡ where_of (top_or_bottom p.now pool.now.lists s.now required f.now) }
+{
+    if !tries_top(pool, p, s, f) {
+        return bottom_place(pool, p, s, required, f);
+    }
+    let above = beyond(required, next_separator(p, pool.len(Part::Top)));
+    if fits_column(pool, p, above) && fits_top(pool, p, f) && is_above_its_class(pool, f) {
+        Where::Top
+    } else {
+        bottom_place(pool, p, s, above, f)
+    }
+}
+
+// The bottom, or nowhere yet.
+fn bottom_place(pool: &Pool, p: &Params, s: &Suppress, required: i64, f: &Float) -> Where
+    requires params { AreFloatParams p.now }
+    requires required { IsRequired 2 required }
+    ensures { result ≡ where_of (bottom_or_deferred p.now pool.now.lists s.now required f.now) }
+{
+    if tries_bottom(pool, p, s, f)
+        && fits_column(pool, p, beyond(required, next_separator(p, pool.len(Part::Bottom))))
+        && fits_bottom(pool, p, f)
+    {
+        Where::Bottom
+    } else {
+        Where::Deferred
+    }
+}
