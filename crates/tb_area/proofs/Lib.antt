@@ -1,0 +1,2 @@
+pub mod DeferredLemmas
+pub mod ChoiceLemmas
