@@ -3,6 +3,7 @@ use Rattle.std.proofs.Common.{◌≡◌, Bool, true, false, List, sym, ap, ◌�
 use Rattle.std.specs.Prelude.{ℤ, ◌+ℤ◌, ◌&&◌, if◌then◌else◌}
 use Rattle.tb_scaled.specs.Scaled.{max_ℤ}
 use Rattle.tb_node.specs.declared.Float.{Float}
+use Rattle.tb_node.specs.declared.Where.{Where}
 use Rattle.tb_node.specs.declared.Where.TheVariants.{Here, Top, Bottom, Double, Deferred}
 use Rattle.tb_param.specs.declared.params.Params.{Params}
 use Rattle.tb_float.specs.declared.Suppress.{Suppress}
@@ -20,57 +21,55 @@ pub bottom_by : (p : Params) (l : FloatLists) (s : Suppress) (r : ℤ) (f : Floa
 bottom_by p l s r f true e = ap (λ b. where_of (if b then at_bottom else deferred)) e
 bottom_by p l s r f false e = ap (λ b. where_of (if b then at_bottom else deferred)) e
 
--- the top is not tried
-pub top_not_tried : (p : Params) (l : FloatLists) (s : Suppress) (r : ℤ) (f : Float) → tries_top p l s f ≡ false → where_of (top_or_bottom p l s r f) ≡ where_of (bottom_or_deferred p l s r f)
-top_not_tried p l s r f e =
-    ap (λ b. where_of (if b then (if fits_above p l (r +ℤ next_separator p l.top) f then at_top else bottom_or_deferred p l s (r +ℤ next_separator p l.top) f) else bottom_or_deferred p l s r f)) e
-
 -- the top is tried with so much required
 pub top_tried : (p : Params) (l : FloatLists) (s : Suppress) (r above : ℤ) (f : Float) → tries_top p l s f ≡ true → above ≡ r +ℤ next_separator p l.top → where_of (top_or_bottom p l s r f) ≡ where_of (if fits_above p l above f then at_top else bottom_or_deferred p l s above f)
 top_tried p l s r above f e is =
     ap (λ b. where_of (if b then (if fits_above p l (r +ℤ next_separator p l.top) f then at_top else bottom_or_deferred p l s (r +ℤ next_separator p l.top) f) else bottom_or_deferred p l s r f)) e ∙ ap (λ a. where_of (if fits_above p l a f then at_top else bottom_or_deferred p l s a f)) (sym is)
 
-pub top_goes : (p : Params) (l : FloatLists) (s : Suppress) (r above : ℤ) (f : Float) → tries_top p l s f ≡ true → above ≡ r +ℤ next_separator p l.top → fits_above p l above f ≡ true → where_of (top_or_bottom p l s r f) ≡ Top
+pub top_goes : (p : Params) (l : FloatLists) (s : Suppress) (r above : ℤ) (f : Float) → tries_top p l s f ≡ true → above ≡ r +ℤ next_separator p l.top → fits_above p l above f ≡ true → Top ≡ where_of (top_or_bottom p l s r f)
 top_goes p l s r above f e is fits =
-    top_tried p l s r above f e is ∙ ap (λ b. where_of (if b then at_top else bottom_or_deferred p l s above f)) fits
+    sym (top_tried p l s r above f e is ∙ ap (λ b. where_of (if b then at_top else bottom_or_deferred p l s above f)) fits)
 
-pub top_fails : (p : Params) (l : FloatLists) (s : Suppress) (r above : ℤ) (f : Float) → tries_top p l s f ≡ true → above ≡ r +ℤ next_separator p l.top → fits_above p l above f ≡ false → where_of (top_or_bottom p l s r f) ≡ where_of (bottom_or_deferred p l s above f)
-top_fails p l s r above f e is fits =
-    top_tried p l s r above f e is ∙ ap (λ b. where_of (if b then at_top else bottom_or_deferred p l s above f)) fits
+pub top_fails : (p : Params) (l : FloatLists) (s : Suppress) (r above : ℤ) (f : Float) (w : Where) → tries_top p l s f ≡ true → above ≡ r +ℤ next_separator p l.top → fits_above p l above f ≡ false → w ≡ where_of (bottom_or_deferred p l s above f) → w ≡ where_of (top_or_bottom p l s r f)
+top_fails p l s r above f w e is fits goes =
+    goes ∙ sym (top_tried p l s r above f e is ∙ ap (λ b. where_of (if b then at_top else bottom_or_deferred p l s above f)) fits)
 
-pub not_here : (p : Params) (l : FloatLists) (s : Suppress) (r : ℤ) (f : Float) → f.places.h ≡ false → here_or_area p l s r f ≡ where_of (top_or_bottom p l s r f)
-not_here p l s r f e =
-    ap (λ b. if b then (if fits_column p l (r +ℤ p.intextsep.width) then Here else where_of (top_or_bottom p l s (r +ℤ p.intextsep.width) f)) else where_of (top_or_bottom p l s r f)) e
+pub not_here : (p : Params) (l : FloatLists) (s : Suppress) (r : ℤ) (f : Float) (w : Where) → f.places.h ≡ false → w ≡ where_of (top_or_bottom p l s r f) → w ≡ here_or_area p l s r f
+not_here p l s r f w e goes =
+    goes ∙ ap (λ b. if b then (if fits_column p l (r +ℤ p.intextsep.width) then Here else where_of (top_or_bottom p l s (r +ℤ p.intextsep.width) f)) else where_of (top_or_bottom p l s r f)) (sym e)
 
+-- the text is tried with so much required
 here_tried : (p : Params) (l : FloatLists) (s : Suppress) (r inside : ℤ) (f : Float) → f.places.h ≡ true → inside ≡ r +ℤ p.intextsep.width → here_or_area p l s r f ≡ (if fits_column p l inside then Here else where_of (top_or_bottom p l s inside f))
 here_tried p l s r inside f e is =
     ap (λ b. if b then (if fits_column p l (r +ℤ p.intextsep.width) then Here else where_of (top_or_bottom p l s (r +ℤ p.intextsep.width) f)) else where_of (top_or_bottom p l s r f)) e ∙ ap (λ a. if fits_column p l a then Here else where_of (top_or_bottom p l s a f)) (sym is)
 
-pub here_goes : (p : Params) (l : FloatLists) (s : Suppress) (r inside : ℤ) (f : Float) → f.places.h ≡ true → inside ≡ r +ℤ p.intextsep.width → fits_column p l inside ≡ true → here_or_area p l s r f ≡ Here
+pub here_goes : (p : Params) (l : FloatLists) (s : Suppress) (r inside : ℤ) (f : Float) → f.places.h ≡ true → inside ≡ r +ℤ p.intextsep.width → fits_column p l inside ≡ true → Here ≡ here_or_area p l s r f
 here_goes p l s r inside f e is fits =
-    here_tried p l s r inside f e is ∙ ap (λ b. if b then Here else where_of (top_or_bottom p l s inside f)) fits
+    sym (here_tried p l s r inside f e is ∙ ap (λ b. if b then Here else where_of (top_or_bottom p l s inside f)) fits)
 
-pub here_fails : (p : Params) (l : FloatLists) (s : Suppress) (r inside : ℤ) (f : Float) → f.places.h ≡ true → inside ≡ r +ℤ p.intextsep.width → fits_column p l inside ≡ false → here_or_area p l s r f ≡ where_of (top_or_bottom p l s inside f)
-here_fails p l s r inside f e is fits =
-    here_tried p l s r inside f e is ∙ ap (λ b. if b then Here else where_of (top_or_bottom p l s inside f)) fits
+pub here_fails : (p : Params) (l : FloatLists) (s : Suppress) (r inside : ℤ) (f : Float) (w : Where) → f.places.h ≡ true → inside ≡ r +ℤ p.intextsep.width → fits_column p l inside ≡ false → w ≡ where_of (top_or_bottom p l s inside f) → w ≡ here_or_area p l s r f
+here_fails p l s r inside f w e is fits goes =
+    goes ∙ sym (here_tried p l s r inside f e is ∙ ap (λ b. if b then Here else where_of (top_or_bottom p l s inside f)) fits)
 
-pub class_at_bottom : (p : Params) (l : FloatLists) (s : Suppress) (r : ℤ) (f : Float) → has_class f.class l.bottom ≡ true → by_class p l s r f ≡ where_of (bottom_or_deferred p l s r f)
-class_at_bottom p l s r f e = ap (λ b. if b then where_of (bottom_or_deferred p l s r f) else here_or_area p l s r f) e
+pub class_at_bottom : (p : Params) (l : FloatLists) (s : Suppress) (r : ℤ) (f : Float) (w : Where) → has_class f.class l.bottom ≡ true → w ≡ where_of (bottom_or_deferred p l s r f) → w ≡ by_class p l s r f
+class_at_bottom p l s r f w e goes =
+    goes ∙ ap (λ b. if b then where_of (bottom_or_deferred p l s r f) else here_or_area p l s r f) (sym e)
 
-pub class_not_at_bottom : (p : Params) (l : FloatLists) (s : Suppress) (r : ℤ) (f : Float) → has_class f.class l.bottom ≡ false → by_class p l s r f ≡ here_or_area p l s r f
-class_not_at_bottom p l s r f e = ap (λ b. if b then where_of (bottom_or_deferred p l s r f) else here_or_area p l s r f) e
+pub class_not_at_bottom : (p : Params) (l : FloatLists) (s : Suppress) (r : ℤ) (f : Float) (w : Where) → has_class f.class l.bottom ≡ false → w ≡ here_or_area p l s r f → w ≡ by_class p l s r f
+class_not_at_bottom p l s r f w e goes =
+    goes ∙ ap (λ b. if b then where_of (bottom_or_deferred p l s r f) else here_or_area p l s r f) (sym e)
 
--- a float may enter the current column, or not; t is the least height of the text, m that of the page, r what is required
-pub current_by : (p : Params) (l : FloatLists) (s : Suppress) (h t m r : ℤ) (f : Float) (b : Bool) → t ≡ text_minimum p l f → m ≡ max_ℤ h t → r ≡ m +ℤ f.height → may_enter p l s l.deferred r f ≡ b → current_place p l s h f ≡ (if b then by_class p l s r f else Deferred)
-current_by p l s h t m r f b text page is e =
+-- a float may enter the current column, or not: t is the least height of the text, m that of the page, r is required
+pub current_by : (p : Params) (l : FloatLists) (s : Suppress) (h t m r : ℤ) (f : Float) (b : Bool) (w : Where) → t ≡ text_minimum p l f → m ≡ max_ℤ h t → r ≡ m +ℤ f.height → may_enter p l s l.deferred r f ≡ b → w ≡ (if b then by_class p l s r f else Deferred) → w ≡ current_place p l s h f
+current_by p l s h t m r f b w text page is e goes =
     let required : max_ℤ h (text_minimum p l f) +ℤ f.height ≡ r = cc in
-    ap (λ q. if may_enter p l s l.deferred q f then by_class p l s q f else Deferred) required ∙ ap (λ a. if a then by_class p l s r f else Deferred) e
+    goes ∙ sym (ap (λ q. if may_enter p l s l.deferred q f then by_class p l s q f else Deferred) required ∙ ap (λ a. if a then by_class p l s r f else Deferred) e)
 
 -- a float may enter the next column, or not
-pub next_by : (p : Params) (l : FloatLists) (s : Suppress) (before : List Float) (t r : ℤ) (f : Float) (b : Bool) → t ≡ text_minimum p l f → r ≡ f.height +ℤ t → may_enter p l s before r f ≡ b → next_place p l s before f ≡ where_of (if b then top_or_bottom p l s r f else deferred)
-next_by p l s before t r f b text is e =
+pub next_by : (p : Params) (l : FloatLists) (s : Suppress) (before : List Float) (t r : ℤ) (f : Float) (b : Bool) (w : Where) → t ≡ text_minimum p l f → r ≡ f.height +ℤ t → may_enter p l s before r f ≡ b → w ≡ where_of (if b then top_or_bottom p l s r f else deferred) → w ≡ next_place p l s before f
+next_by p l s before t r f b w text is e goes =
     let required : f.height +ℤ text_minimum p l f ≡ r = cc in
-    ap (λ q. where_of (if may_enter p l s before q f then top_or_bottom p l s q f else deferred)) required ∙ ap (λ a. where_of (if a then top_or_bottom p l s r f else deferred)) e
+    goes ∙ sym (ap (λ q. where_of (if may_enter p l s before q f then top_or_bottom p l s q f else deferred)) required ∙ ap (λ a. where_of (if a then top_or_bottom p l s r f else deferred)) e)
 
 pub double_by : (p : Params) (l : FloatLists) (s : Suppress) (before : List Float) (f : Float) (b : Bool) → goes_double p l s before f ≡ b → double_place p l s before f ≡ (if b then Double else Deferred)
 double_by p l s before f b e = ap (λ a. if a then Double else Deferred) e

@@ -1,4 +1,4 @@
-use Rattle.std.proofs.Common.{◌≡◌, Some, true, false, sym, subst, ◌∙◌, FitsSigned, w64, rules}
+use Rattle.std.proofs.Common.{◌≡◌, Some, true, false, refl, sym, subst, ◌∙◌, FitsSigned, w64, rules}
 use Rattle.std.proofs.lemmas.Int.{to_z-of_z}
 use Rattle.tb_node.specs.declared.Where.TheVariants.{Deferred}
 use Rattle.tb_float.specs.declared.Entry.TheVariants as entries
@@ -23,7 +23,7 @@ returns-then-may_enter c = λ f there.
     let page = simp to_z-of_z at c.greater.ensures.value in
     let enters = simp to_z-of_z at (c.may_enter.ensures l.deferred c.has_class-waits.ensures) in
     let placed = simp to_z-of_z at c.by_class.ensures in
-    subst (λ x. c.by_class.result ≡ current_place p l s c.args.page_height x) same (placed ∙ sym (current_by p l s c.args.page_height c.text_minimum.result c.greater.result c.required_with-required.result g true c.text_minimum.ensures.value page sum (sym enters ∙ c.if-may_enter.true)))
+    subst (λ x. c.by_class.result ≡ current_place p l s c.args.page_height x) same (current_by p l s c.args.page_height c.text_minimum.result c.greater.result c.required_with-required.result g true c.by_class.result c.text_minimum.ensures.value page sum (sym enters ∙ c.if-may_enter.true) placed)
 
 pub returns-else-may_enter : goal.returns-else-may_enter
 returns-else-may_enter c = λ f there.
@@ -41,4 +41,4 @@ returns-else-may_enter c = λ f there.
     let sum = simp to_z-of_z at c.required_with-required.ensures.value in
     let page = simp to_z-of_z at c.greater.ensures.value in
     let enters = simp to_z-of_z at (c.may_enter.ensures l.deferred c.has_class-waits.ensures) in
-    subst (λ x. Deferred ≡ current_place p l s c.args.page_height x) same (sym (current_by p l s c.args.page_height c.text_minimum.result c.greater.result c.required_with-required.result g false c.text_minimum.ensures.value page sum (sym enters ∙ c.if-may_enter.false)))
+    subst (λ x. Deferred ≡ current_place p l s c.args.page_height x) same (current_by p l s c.args.page_height c.text_minimum.result c.greater.result c.required_with-required.result g false Deferred c.text_minimum.ensures.value page sum (sym enters ∙ c.if-may_enter.false) refl)

@@ -1,4 +1,4 @@
-use Rattle.std.proofs.Common.{◌≡◌, take, true, false, sym, subst, ◌∙◌, FitsSigned, w64, rules}
+use Rattle.std.proofs.Common.{◌≡◌, take, true, false, refl, sym, subst, ◌∙◌, FitsSigned, w64, rules}
 use Rattle.std.proofs.lemmas.Int.{to_z-of_z}
 use Rattle.std.proofs.lemmas.Option.{same_Some}
 use Rattle.tb_node.specs.declared.Where.TheVariants.{Deferred}
@@ -20,7 +20,7 @@ returns-then-may_enter c = λ f there.
     let sum = simp to_z-of_z at c.required_with-required.ensures.value in
     let enters = simp to_z-of_z at (c.may_enter.ensures before c.has_class_before-earlier.ensures) in
     let placed = simp to_z-of_z at c.area_place.ensures in
-    subst (λ x. c.area_place.result ≡ next_place p l s before x) same (placed ∙ sym (next_by p l s before c.text_minimum.result c.required_with-required.result g true c.text_minimum.ensures.value sum (sym enters ∙ c.if-may_enter.true)))
+    subst (λ x. c.area_place.result ≡ next_place p l s before x) same (next_by p l s before c.text_minimum.result c.required_with-required.result g true c.area_place.result c.text_minimum.ensures.value sum (sym enters ∙ c.if-may_enter.true) placed)
 
 pub returns-else-may_enter : goal.returns-else-may_enter
 returns-else-may_enter c = λ f there.
@@ -35,4 +35,4 @@ returns-else-may_enter c = λ f there.
     let r : FitsSigned w64 c.required_with-required.result = search rules in
     let sum = simp to_z-of_z at c.required_with-required.ensures.value in
     let enters = simp to_z-of_z at (c.may_enter.ensures before c.has_class_before-earlier.ensures) in
-    subst (λ x. Deferred ≡ next_place p l s before x) same (sym (next_by p l s before c.text_minimum.result c.required_with-required.result g false c.text_minimum.ensures.value sum (sym enters ∙ c.if-may_enter.false)))
+    subst (λ x. Deferred ≡ next_place p l s before x) same (next_by p l s before c.text_minimum.result c.required_with-required.result g false Deferred c.text_minimum.ensures.value sum (sym enters ∙ c.if-may_enter.false) refl)

@@ -16,7 +16,7 @@ returns-then-fits_above c =
     let above : c.beyond-above.result ≡ c.args.required +ℤ next_separator p l.top = sum ∙ ap (λ z. c.args.required +ℤ z) (c.next_separator.ensures.value l.top c.len.ensures.value) in
     let fits = simp to_z-of_z at c.fits_above.ensures in
     let tried = sym c.tries_top.ensures ∙ c.if-not-tries_top.false in
-    sym (top_goes p l c.args.s.now c.args.required c.beyond-above.result c.args.f.now tried above (sym fits ∙ c.if-fits_above.true))
+    top_goes p l c.args.s.now c.args.required c.beyond-above.result c.args.f.now tried above (sym fits ∙ c.if-fits_above.true)
 
 pub returns-else-fits_above : goal.returns-else-fits_above
 returns-else-fits_above c =
@@ -30,4 +30,4 @@ returns-else-fits_above c =
     let fits = simp to_z-of_z at c.fits_above.ensures in
     let placed = simp to_z-of_z at c.bottom_place-else-fits_above.ensures in
     let tried = sym c.tries_top.ensures ∙ c.if-not-tries_top.false in
-    placed ∙ sym (top_fails p l c.args.s.now c.args.required c.beyond-above.result c.args.f.now tried above (sym fits ∙ c.if-fits_above.false))
+    top_fails p l c.args.s.now c.args.required c.beyond-above.result c.args.f.now c.bottom_place-else-fits_above.result tried above (sym fits ∙ c.if-fits_above.false) placed

@@ -7,10 +7,10 @@ pub returns-then-has_class : goal.returns-then-has_class
 returns-then-has_class c =
     let r = c.ranges.required in
     let placed = simp to_z-of_z at c.bottom_place.ensures in
-    placed ∙ sym (class_at_bottom c.args.p.now c.args.pool.now.lists c.args.s.now c.args.required c.args.f.now (sym c.has_class.ensures ∙ c.if-has_class.true))
+    class_at_bottom c.args.p.now c.args.pool.now.lists c.args.s.now c.args.required c.args.f.now c.bottom_place.result (sym c.has_class.ensures ∙ c.if-has_class.true) placed
 
 pub returns-else-has_class : goal.returns-else-has_class
 returns-else-has_class c =
     let r = c.ranges.required in
     let placed = simp to_z-of_z at c.here_or_area.ensures in
-    placed ∙ sym (class_not_at_bottom c.args.p.now c.args.pool.now.lists c.args.s.now c.args.required c.args.f.now (sym c.has_class.ensures ∙ c.if-has_class.false))
+    class_not_at_bottom c.args.p.now c.args.pool.now.lists c.args.s.now c.args.required c.args.f.now c.here_or_area.result (sym c.has_class.ensures ∙ c.if-has_class.false) placed
