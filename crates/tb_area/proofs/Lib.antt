@@ -1,2 +1,3 @@
 pub mod DeferredLemmas
 pub mod ChoiceLemmas
+pub mod LawLemmas

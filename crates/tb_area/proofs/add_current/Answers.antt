@@ -3,11 +3,12 @@ use Rattle.std.proofs.lemmas.Int.{to_z-of_z}
 use Rattle.tb_node.specs.declared.Where.TheVariants.{Deferred}
 use Rattle.tb_float.specs.declared.Entry.TheVariants as entries
 use Rattle.tb_area.specs.Area.{current_place}
+use Rattle.tb_area.proofs.LawLemmas.{current-kept}
 use Rattle.tb_area.proofs.ChoiceLemmas.{current_by}
 use Rattle.tb_area.proofs.add_current.Goals as goal
 
-pub returns-then-may_enter : goal.returns-then-may_enter
-returns-then-may_enter c = λ f there.
+pub returns-then-may_enter-clause-place : goal.returns-then-may_enter-clause-place
+returns-then-may_enter-clause-place c = λ f there.
     let p = c.args.p.now in
     let l = c.args.pool.now.lists in
     let s = c.args.s.now in
@@ -25,8 +26,8 @@ returns-then-may_enter c = λ f there.
     let placed = simp to_z-of_z at c.by_class.ensures in
     subst (λ x. c.by_class.result ≡ current_place p l s c.args.page_height x) same (current_by p l s c.args.page_height c.text_minimum.result c.greater.result c.required_with-required.result g true c.by_class.result c.text_minimum.ensures.value page sum (sym enters ∙ c.if-may_enter.true) placed)
 
-pub returns-else-may_enter : goal.returns-else-may_enter
-returns-else-may_enter c = λ f there.
+pub returns-else-may_enter-clause-place : goal.returns-else-may_enter-clause-place
+returns-else-may_enter-clause-place c = λ f there.
     let p = c.args.p.now in
     let l = c.args.pool.now.lists in
     let s = c.args.s.now in
@@ -42,3 +43,9 @@ returns-else-may_enter c = λ f there.
     let page = simp to_z-of_z at c.greater.ensures.value in
     let enters = simp to_z-of_z at (c.may_enter.ensures l.deferred c.has_class-waits.ensures) in
     subst (λ x. Deferred ≡ current_place p l s c.args.page_height x) same (current_by p l s c.args.page_height c.text_minimum.result c.greater.result c.required_with-required.result g false Deferred c.text_minimum.ensures.value page sum (sym enters ∙ c.if-may_enter.false) refl)
+
+pub returns-then-may_enter-clause-laws : goal.returns-then-may_enter-clause-laws
+returns-then-may_enter-clause-laws c = current-kept c.args.p.now c.args.pool.now.lists c.args.s.now c.args.page_height c.by_class.result (returns-then-may_enter-clause-place c)
+
+pub returns-else-may_enter-clause-laws : goal.returns-else-may_enter-clause-laws
+returns-else-may_enter-clause-laws c = current-kept c.args.p.now c.args.pool.now.lists c.args.s.now c.args.page_height Deferred (returns-else-may_enter-clause-place c)
