@@ -1,10 +1,13 @@
 //! The decisions: the text, the top and the bottom, in their order.
 ghost use Rattle.std.specs.Prelude.{◌≡◌};
 ghost use Rattle.tb_float.specs.Ranges.{AreFloatParams};
-ghost use Rattle.tb_area.specs.Area.{by_class, here_or_area, top_or_bottom, bottom_or_deferred, where_of};
+ghost use Rattle.tb_area.specs.Area.{by_class, here_or_area, top_or_bottom, fits_above, bottom_or_deferred, goes_bottom, fits_below, where_of};
 ghost use Rattle.tb_area.specs.Required.{IsRequired};
 
-use crate::tries::{beyond, fits_bottom, fits_column, fits_top, is_above_its_class, next_separator, tries_bottom, tries_top};
+use crate::tries::{
+    beyond, fits_bottom, fits_column, fits_top, is_above_its_class, next_separator, tries_bottom,
+    tries_top,
+};
 use tb_float::{Part, Pool, Suppress};
 use tb_node::{Float, Where};
 use tb_param::Params;
@@ -49,11 +52,19 @@ pub(crate) fn area_place(pool: &Pool, p: &Params, s: &Suppress, required: i64, f
         return bottom_place(pool, p, s, required, f);
     }
     let above = beyond(required, next_separator(p, pool.len(Part::Top)));
-    if fits_column(pool, p, above) && fits_top(pool, p, f) && is_above_its_class(pool, f) {
+    if fits_above(pool, p, above, f) {
         Where::Top
     } else {
         bottom_place(pool, p, s, above, f)
     }
+}
+
+// Whether the top has room for a float that may stand there, where so much is required of the column.
+fn fits_above(pool: &Pool, p: &Params, required: i64, f: &Float) -> bool
+    requires { AreFloatParams p.now }
+    ensures { result ≡ fits_above p.now pool.now.lists required f.now }
+{
+    fits_column(pool, p, required) && fits_top(pool, p, f) && is_above_its_class(pool, f)
 }
 
 // The bottom, or nowhere yet.
@@ -62,12 +73,27 @@ fn bottom_place(pool: &Pool, p: &Params, s: &Suppress, required: i64, f: &Float)
     requires required { IsRequired 2 required }
     ensures { result ≡ where_of (bottom_or_deferred p.now pool.now.lists s.now required f.now) }
 {
-    if tries_bottom(pool, p, s, f)
-        && fits_column(pool, p, beyond(required, next_separator(p, pool.len(Part::Bottom))))
-        && fits_bottom(pool, p, f)
-    {
+    if goes_bottom(pool, p, s, required, f) {
         Where::Bottom
     } else {
         Where::Deferred
     }
+}
+
+// Whether the bottom is tried, and the float fits there.
+fn goes_bottom(pool: &Pool, p: &Params, s: &Suppress, required: i64, f: &Float) -> bool
+    requires params { AreFloatParams p.now }
+    requires required { IsRequired 2 required }
+    ensures { result ≡ goes_bottom p.now pool.now.lists s.now required f.now }
+{
+    let below = beyond(required, next_separator(p, pool.len(Part::Bottom)));
+    tries_bottom(pool, p, s, f) && fits_below(pool, p, below, f)
+}
+
+// Whether the bottom has room for a float, where so much is required of the column.
+fn fits_below(pool: &Pool, p: &Params, required: i64, f: &Float) -> bool
+    requires { AreFloatParams p.now }
+    ensures { result ≡ fits_below p.now pool.now.lists required f.now }
+{
+    fits_column(pool, p, required) && fits_bottom(pool, p, f)
 }

@@ -1,12 +1,12 @@
 //! The tests that a decision makes, each by itself, and the room that is required.
-ghost use Rattle.std.specs.Prelude.{◌≡◌, ◌<◌, ◌+ℤ◌, ◌≤ℤ◌, ◌&&◌, Bool, not, List, length, take, slice_get, Some, pos, int_lt, if◌then◌else◌};
+ghost use Rattle.std.specs.Prelude.{◌≡◌, ◌<◌, ◌+ℤ◌, ◌-ℤ◌, ◌≤ℤ◌, ◌&&◌, Bool, not, List, length, take, slice_get, Some, pos, int_lt, if◌then◌else◌};
 ghost use Rattle.tb_scaled.specs.Scaled.{max_ℤ, fraction_of};
 ghost use Rattle.tb_node.specs.declared.Float.{Float as PlainFloat};
 ghost use Rattle.tb_node.specs.Small.{IsAmount};
 ghost use Rattle.tb_float.specs.declared.Limit.TheVariants as limits;
 ghost use Rattle.tb_float.specs.declared.Suppress.{Suppress};
-ghost use Rattle.tb_float.specs.Lists.{HasFloatAt, has_class};
-ghost use Rattle.tb_float.specs.Ranges.{AreFloatParams, IsDimension, IsExtent, IsWithin};
+ghost use Rattle.tb_float.specs.Lists.{HasFloatAt, entries_of, has_class};
+ghost use Rattle.tb_float.specs.Ranges.{AreFloatParams, IsDimension, IsExtent, IsRoom, IsWithin};
 ghost use Rattle.tb_float.specs.Rooms.{column_height_of, column_room_of, double_room_of};
 ghost use Rattle.tb_area.specs.Area.{may_come, only_page, fits_column, fits_top, fits_bottom, is_above_its_class, tries_top, tries_bottom, text_minimum, next_separator, double_room_for, fits_double, goes_double, may_enter};
 ghost use Rattle.tb_area.specs.Required.{IsRequired};
@@ -15,13 +15,13 @@ use tb_float::{Entry, Limit, Part, Pool, Suppress, share_of};
 use tb_node::Float;
 use tb_param::Params;
 
-/// The first of the current entries, which is a float.
-pub(crate) fn current_float(pool: &Pool) -> Float
-    requires { HasFloatAt pool.now.lists.current 0 }
-    ensures value { slice_get pool.now.lists.current 0 ≡ Some (Entry.Float result) }
+/// The float at a place of a list.
+pub(crate) fn float_at(pool: &Pool, part: Part, k: usize) -> Float
+    requires { HasFloatAt (entries_of part pool.now.lists) k }
+    ensures value { slice_get (entries_of part pool.now.lists) k ≡ Some (Entry.Float result) }
     ensures extent { IsExtent result.height }
 {
-    match pool.entry(Part::Current, 0) {
+    match pool.entry(part, k) {
         Some(Entry::Float(f)) => *f,
         _ => unreachable!(),
     }
@@ -33,10 +33,7 @@ pub(crate) fn deferred_float(pool: &Pool, k: usize) -> Float
     ensures value { slice_get pool.now.lists.deferred k ≡ Some result }
     ensures extent { IsExtent result.height }
 {
-    match pool.entry(Part::Deferred, k) {
-        Some(Entry::Float(f)) => *f,
-        _ => unreachable!(),
-    }
+    float_at(pool, Part::Deferred, k)
 }
 
 /// Whether the count of a limit lets one more float in.
@@ -113,7 +110,11 @@ pub(crate) fn may_enter(
     requires { AreFloatParams p.now }
     ensures { (before : List PlainFloat) → earlier ≡ has_class f.now.class before → result ≡ may_enter p.now pool.now.lists s.now before required f.now }
 {
-    !only_page(f) && !f.wide && !earlier && may_come(pool, p, s, Limit::Total, f) && fits_column(pool, p, required)
+    !only_page(f)
+        && !f.wide
+        && !earlier
+        && may_come(pool, p, s, Limit::Total, f)
+        && fits_column(pool, p, required)
 }
 
 /// The room that the text of a column needs at least, in scaled points: a share of the column, which the mark `!`
@@ -145,7 +146,11 @@ pub(crate) fn greater(page_height: i64, text: i64) -> i64
     ensures value { result ≡ max_ℤ page_height text }
     ensures amount { IsAmount result }
 {
-    if page_height <= text { text } else { page_height }
+    if page_height <= text {
+        text
+    } else {
+        page_height
+    }
 }
 
 /// The room that is required for a float beside other heights.
@@ -185,7 +190,11 @@ pub(crate) fn goes_double(pool: &Pool, p: &Params, earlier: bool, f: &Float) -> 
     requires { AreFloatParams p.now }
     ensures { (s : Suppress) (before : List PlainFloat) → earlier ≡ has_class f.now.class before → result ≡ goes_double p.now pool.now.lists s before f.now }
 {
-    f.places.t && f.wide && may_come(pool, p, &NOT_SUPPRESSED, Limit::Double, f) && !earlier && fits_double(pool, p, f)
+    f.places.t
+        && f.wide
+        && may_come(pool, p, &NOT_SUPPRESSED, Limit::Double, f)
+        && !earlier
+        && fits_double(pool, p, f)
 }
 
 const NOT_SUPPRESSED: Suppress = Suppress {
@@ -209,8 +218,18 @@ fn double_room_for(pool: &Pool, p: &Params, f: &Float) -> i64
 {
     let room = pool.room(p, Part::Double);
     if f.bang {
-        room + (p.textheight - share_of(p.dbltopfraction, p.textheight))
+        without_share(room, p.textheight, share_of(p.dbltopfraction, p.textheight))
     } else {
         room
     }
+}
+
+// A room with what its share left of the height.
+fn without_share(room: i64, height: i64, share: i64) -> i64
+    requires room { IsRoom room }
+    requires height { IsExtent height }
+    requires share { IsWithin 35184372088832 share }
+    ensures { result ≡ room +ℤ (height -ℤ share) }
+{
+    room + (height - share)
 }

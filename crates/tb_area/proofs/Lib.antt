@@ -1,0 +1,3 @@
+pub mod DeferredLemmas
+pub mod ChoiceLemmas
+pub mod LawLemmas
