@@ -16,9 +16,9 @@ pub(crate) struct Walk {
     pub(crate) seen: usize,
     /// The height of the company so far, with its separators, in scaled points.
     pub(crate) height: i128,
-    /// The classes of which a float was passed over.
+    /// For each class, whether one of its floats stays behind, so that no later one may join.
     pub(crate) failed: [bool; 256],
-    /// Which of the floats are in the company.
+    /// For each place, whether its float is in the company; a pool holds at most 4096 boxes.
     pub(crate) chosen: [bool; 4096],
 }
 
