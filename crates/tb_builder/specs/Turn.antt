@@ -1,5 +1,5 @@
 -- One node more: what a turn of the page builder changes.
-use Rattle.std.specs.Prelude.{◌≡◌, ℕ, ℤ, ◌≤◌, Bool, true, false, List, [], ◌∷◌, ◌++◌, Option, Some, None}
+use Rattle.std.specs.Prelude.{◌≡◌, ℕ, ℤ, ◌<◌, ◌≤◌, Bool, true, false, List, [], ◌∷◌, ◌++◌, length, Option, Some, None}
 use Rattle.std.specs.FinMap.{get}
 use Rattle.tb_pool.specs.Lists.{Lists, list_at}
 use Rattle.tb_node.specs.declared.Node.{Node}
@@ -16,6 +16,7 @@ use Rattle.tb_builder.specs.declared.Course.{Course}
 use Rattle.tb_builder.specs.declared.Builder.{Builder}
 use Rattle.tb_builder.specs.Reached.{tried, Reach, also_reached, reach_from, try_of, breakpoints}
 use Rattle.tb_builder.specs.Contents.{Contents, contents_of, laid, reach_ahead, places_of}
+use Rattle.tb_builder.specs.Places.{NoStop}
 use Rattle.tb_builder.specs.Owned.{ids_of, owned, Lacks, IsOwned}
 use Rattle.tb_builder.specs.Running.{CourseStands, Underway, places_by, zed, IsSound, act_of_kind, insertion_of_kind}
 use Rattle.tb_builder.specs.Next.{FirstIs, Stays, stopped_with}
@@ -25,7 +26,6 @@ pub record Moves (b : Builder) (s : Lists Node) (d : Builder) (t : Lists Node) :
   pub own : IsOwned (ids_of d) t
   pub others : (q : ℕ) → Lacks q (owned (ids_of b) s) → get t.lists q ≡ get s.lists q
   pub keeps : (q : ℕ) → Lacks q (owned (ids_of b) s) → Lacks q (owned (ids_of d) t)
-  pub room : s.spare ≤ t.spare
   pub classes : (contents_of d t).classes ≡ (contents_of b s).classes
   pub boxes : (contents_of d t).boxes ≡ (contents_of b s).boxes
   pub held : (contents_of d t).held ≡ (contents_of b s).held
@@ -64,6 +64,7 @@ pub record StopsThere (z : Frozen) (line : ℕ) (b : Breakpoint) (k : Course) (c
   pub page : d.page ≡ c.page
   pub waiting : d.waiting ≡ c.waiting
   pub stopped : d.stopped ≡ true
+  pub quiet : NoStop (places_on z c)
   pub course : CourseStands z k d.page (places_on z c ++ b ∷ [])
   pub reached : breakpoints (reach_from z.limit (terms_after z) [] (d.page ++ d.waiting)).reached ≡ places_on z c ++ b ∷ []
   pub passed : (reach_from z.limit (terms_after z) [] (d.page ++ d.waiting)).passed ≡ d.page
@@ -110,6 +111,7 @@ pub record TurnIs (b : Builder) (s : Lists Node) (ask : Ask) (o : Option Event) 
   pub others : (q : ℕ) → Lacks q (owned (ids_of b) s) → get t.lists q ≡ get s.lists q
   pub keeps : (q : ℕ) → Lacks q (owned (ids_of b) s) → Lacks q (owned (ids_of d) t)
   pub room : o ≡ None → d.opened ≡ false → s.spare ≤ t.spare
+  pub shorter : o ≡ None → length (contents_of d t).waiting < length (contents_of b s).waiting
   pub stays : Stays (contents_of b s) (contents_of d t) ask
   pub turned : TurnBy o (contents_of b s) (contents_of d t) ask
 
