@@ -1,4 +1,5 @@
-use Rattle.std.proofs.Common.{◌≡◌, refl, sym, subst, ◌∙◌, ap, Option, Some, true, List, ◌∷◌}
+use Rattle.std.proofs.Common.{◌≡◌, refl, sym, subst, ◌∙◌, ap, Option, Some, true, List, ◌∷◌, FitsSigned, w64, rules}
+use Rattle.std.proofs.lemmas.Int.{to_z-of_z}
 use Rattle.std.specs.Prelude.{slice_get}
 use Rattle.tb_pool.specs.Lists.{list_at}
 use Rattle.tb_builder.specs.declared.Builder.{Builder}
@@ -23,7 +24,9 @@ reach-event-requires-clause-own c =
     let n = c.args.n.now in
     let f = first_is (list_at s b.waiting) n c.requires.first in
     let u = frozen_course (contents_of b s) b.course c.freeze.new.self.course ask b.frozen refl (subst (λ x. PageStands b.frozen x b.course (contents_of b s)) c.requires.on c.requires.sound.page) c.requires.sound.own.classes c.freeze.ensures.first (λ some. ap (λ (x : Builder). x.course) (c.freeze.ensures.again some)) in
-    let h = topped b c.freeze.new.self s c.push_front.new.self ask n c.top_node-glue.result f.0 c.requires.sound c.requires.on c.requires.closed c.requires.fits c.requires.boxed f.1 c.freeze.ensures.ids c.freeze.ensures.frozen c.top_node-glue.ensures c.push_front.ensures.pushed u in
+    let k : FitsSigned w64 c.args.ask.now.top_skip = search rules in
+    let glue = simp to_z-of_z at c.top_node-glue.ensures in
+    let h = topped b c.freeze.new.self s c.push_front.new.self ask n c.top_node-glue.result f.0 c.requires.sound c.requires.on c.requires.closed c.requires.fits c.requires.boxed f.1 c.freeze.ensures.ids c.freeze.ensures.frozen glue c.push_front.ensures.pushed u in
     h.moves.own
 
 pub reach-event-requires-clause-first : goal.reach-event-requires-clause-first
@@ -34,7 +37,9 @@ reach-event-requires-clause-first c =
     let n = c.args.n.now in
     let f = first_is (list_at s b.waiting) n c.requires.first in
     let u = frozen_course (contents_of b s) b.course c.freeze.new.self.course ask b.frozen refl (subst (λ x. PageStands b.frozen x b.course (contents_of b s)) c.requires.on c.requires.sound.page) c.requires.sound.own.classes c.freeze.ensures.first (λ some. ap (λ (x : Builder). x.course) (c.freeze.ensures.again some)) in
-    let h = topped b c.freeze.new.self s c.push_front.new.self ask n c.top_node-glue.result f.0 c.requires.sound c.requires.on c.requires.closed c.requires.fits c.requires.boxed f.1 c.freeze.ensures.ids c.freeze.ensures.frozen c.top_node-glue.ensures c.push_front.ensures.pushed u in
+    let k : FitsSigned w64 c.args.ask.now.top_skip = search rules in
+    let glue = simp to_z-of_z at c.top_node-glue.ensures in
+    let h = topped b c.freeze.new.self s c.push_front.new.self ask n c.top_node-glue.result f.0 c.requires.sound c.requires.on c.requires.closed c.requires.fits c.requires.boxed f.1 c.freeze.ensures.ids c.freeze.ensures.frozen glue c.push_front.ensures.pushed u in
     ap (λ xs. slice_get xs 0) h.list_is
 
 pub reach-event-requires-clause-underway : goal.reach-event-requires-clause-underway
@@ -45,7 +50,9 @@ reach-event-requires-clause-underway c =
     let n = c.args.n.now in
     let f = first_is (list_at s b.waiting) n c.requires.first in
     let u = frozen_course (contents_of b s) b.course c.freeze.new.self.course ask b.frozen refl (subst (λ x. PageStands b.frozen x b.course (contents_of b s)) c.requires.on c.requires.sound.page) c.requires.sound.own.classes c.freeze.ensures.first (λ some. ap (λ (x : Builder). x.course) (c.freeze.ensures.again some)) in
-    let h = topped b c.freeze.new.self s c.push_front.new.self ask n c.top_node-glue.result f.0 c.requires.sound c.requires.on c.requires.closed c.requires.fits c.requires.boxed f.1 c.freeze.ensures.ids c.freeze.ensures.frozen c.top_node-glue.ensures c.push_front.ensures.pushed u in
+    let k : FitsSigned w64 c.args.ask.now.top_skip = search rules in
+    let glue = simp to_z-of_z at c.top_node-glue.ensures in
+    let h = topped b c.freeze.new.self s c.push_front.new.self ask n c.top_node-glue.result f.0 c.requires.sound c.requires.on c.requires.closed c.requires.fits c.requires.boxed f.1 c.freeze.ensures.ids c.freeze.ensures.frozen glue c.push_front.ensures.pushed u in
     h.underway
 
 pub reach-event-requires-clause-fits : goal.reach-event-requires-clause-fits
@@ -56,7 +63,9 @@ reach-event-requires-clause-fits c =
     let n = c.args.n.now in
     let f = first_is (list_at s b.waiting) n c.requires.first in
     let u = frozen_course (contents_of b s) b.course c.freeze.new.self.course ask b.frozen refl (subst (λ x. PageStands b.frozen x b.course (contents_of b s)) c.requires.on c.requires.sound.page) c.requires.sound.own.classes c.freeze.ensures.first (λ some. ap (λ (x : Builder). x.course) (c.freeze.ensures.again some)) in
-    let h = topped b c.freeze.new.self s c.push_front.new.self ask n c.top_node-glue.result f.0 c.requires.sound c.requires.on c.requires.closed c.requires.fits c.requires.boxed f.1 c.freeze.ensures.ids c.freeze.ensures.frozen c.top_node-glue.ensures c.push_front.ensures.pushed u in
+    let k : FitsSigned w64 c.args.ask.now.top_skip = search rules in
+    let glue = simp to_z-of_z at c.top_node-glue.ensures in
+    let h = topped b c.freeze.new.self s c.push_front.new.self ask n c.top_node-glue.result f.0 c.requires.sound c.requires.on c.requires.closed c.requires.fits c.requires.boxed f.1 c.freeze.ensures.ids c.freeze.ensures.frozen glue c.push_front.ensures.pushed u in
     h.step
 
 pub returns-then-self : goal.returns-then-self
@@ -67,7 +76,9 @@ returns-then-self c =
     let n = c.args.n.now in
     let f = first_is (list_at s b.waiting) n c.requires.first in
     let u = frozen_course (contents_of b s) b.course c.freeze.new.self.course ask b.frozen refl (subst (λ x. PageStands b.frozen x b.course (contents_of b s)) c.requires.on c.requires.sound.page) c.requires.sound.own.classes c.freeze.ensures.first (λ some. ap (λ (x : Builder). x.course) (c.freeze.ensures.again some)) in
-    let h = topped b c.freeze.new.self s c.push_front.new.self ask n c.top_node-glue.result f.0 c.requires.sound c.requires.on c.requires.closed c.requires.fits c.requires.boxed f.1 c.freeze.ensures.ids c.freeze.ensures.frozen c.top_node-glue.ensures c.push_front.ensures.pushed u in
+    let k : FitsSigned w64 c.args.ask.now.top_skip = search rules in
+    let glue = simp to_z-of_z at c.top_node-glue.ensures in
+    let h = topped b c.freeze.new.self s c.push_front.new.self ask n c.top_node-glue.result f.0 c.requires.sound c.requires.on c.requires.closed c.requires.fits c.requires.boxed f.1 c.freeze.ensures.ids c.freeze.ensures.frozen glue c.push_front.ensures.pushed u in
     opening_stops b c.freeze.new.self c.reach-event.new.self s c.push_front.new.self c.reach-event.new.store ask n c.top_node-glue.result f.0 c.reach-event.result h (c.freeze.ensures.stopped ∙ c.requires.on) (c.freeze.ensures.opened ∙ c.requires.closed)
     c.reach-event.ensures.moves c.reach-event.ensures.step c.reach-event.ensures.opened c.reach-event.ensures.frozen c.if-self.true
 
@@ -79,7 +90,9 @@ put-requires-clause-first c =
     let n = c.args.n.now in
     let f = first_is (list_at s b.waiting) n c.requires.first in
     let u = frozen_course (contents_of b s) b.course c.freeze.new.self.course ask b.frozen refl (subst (λ x. PageStands b.frozen x b.course (contents_of b s)) c.requires.on c.requires.sound.page) c.requires.sound.own.classes c.freeze.ensures.first (λ some. ap (λ (x : Builder). x.course) (c.freeze.ensures.again some)) in
-    let h = topped b c.freeze.new.self s c.push_front.new.self ask n c.top_node-glue.result f.0 c.requires.sound c.requires.on c.requires.closed c.requires.fits c.requires.boxed f.1 c.freeze.ensures.ids c.freeze.ensures.frozen c.top_node-glue.ensures c.push_front.ensures.pushed u in
+    let k : FitsSigned w64 c.args.ask.now.top_skip = search rules in
+    let glue = simp to_z-of_z at c.top_node-glue.ensures in
+    let h = topped b c.freeze.new.self s c.push_front.new.self ask n c.top_node-glue.result f.0 c.requires.sound c.requires.on c.requires.closed c.requires.fits c.requires.boxed f.1 c.freeze.ensures.ids c.freeze.ensures.frozen glue c.push_front.ensures.pushed u in
     ap (λ xs. slice_get xs 0) (c.reach-event.ensures.behind (n ∷ f.0) c.if-self.false h.list_is)
 
 pub put-requires-clause-node : goal.put-requires-clause-node
@@ -95,7 +108,9 @@ put-requires-clause-fits c =
     let n = c.args.n.now in
     let f = first_is (list_at s b.waiting) n c.requires.first in
     let u = frozen_course (contents_of b s) b.course c.freeze.new.self.course ask b.frozen refl (subst (λ x. PageStands b.frozen x b.course (contents_of b s)) c.requires.on c.requires.sound.page) c.requires.sound.own.classes c.freeze.ensures.first (λ some. ap (λ (x : Builder). x.course) (c.freeze.ensures.again some)) in
-    let h = topped b c.freeze.new.self s c.push_front.new.self ask n c.top_node-glue.result f.0 c.requires.sound c.requires.on c.requires.closed c.requires.fits c.requires.boxed f.1 c.freeze.ensures.ids c.freeze.ensures.frozen c.top_node-glue.ensures c.push_front.ensures.pushed u in
+    let k : FitsSigned w64 c.args.ask.now.top_skip = search rules in
+    let glue = simp to_z-of_z at c.top_node-glue.ensures in
+    let h = topped b c.freeze.new.self s c.push_front.new.self ask n c.top_node-glue.result f.0 c.requires.sound c.requires.on c.requires.closed c.requires.fits c.requires.boxed f.1 c.freeze.ensures.ids c.freeze.ensures.frozen glue c.push_front.ensures.pushed u in
     opening_sums b c.freeze.new.self c.reach-event.new.self s c.push_front.new.self c.reach-event.new.store ask n c.top_node-glue.result f.0 c.reach-event.result h (c.freeze.ensures.stopped ∙ c.requires.on) (c.freeze.ensures.opened ∙ c.requires.closed)
     c.reach-event.ensures.moves c.reach-event.ensures.step c.reach-event.ensures.opened c.reach-event.ensures.frozen
     c.requires.fits c.requires.boxed c.if-self.false (c.reach-event.ensures.behind (n ∷ f.0) c.if-self.false h.list_is)
@@ -108,7 +123,9 @@ returns c =
     let n = c.args.n.now in
     let f = first_is (list_at s b.waiting) n c.requires.first in
     let u = frozen_course (contents_of b s) b.course c.freeze.new.self.course ask b.frozen refl (subst (λ x. PageStands b.frozen x b.course (contents_of b s)) c.requires.on c.requires.sound.page) c.requires.sound.own.classes c.freeze.ensures.first (λ some. ap (λ (x : Builder). x.course) (c.freeze.ensures.again some)) in
-    let h = topped b c.freeze.new.self s c.push_front.new.self ask n c.top_node-glue.result f.0 c.requires.sound c.requires.on c.requires.closed c.requires.fits c.requires.boxed f.1 c.freeze.ensures.ids c.freeze.ensures.frozen c.top_node-glue.ensures c.push_front.ensures.pushed u in
+    let k : FitsSigned w64 c.args.ask.now.top_skip = search rules in
+    let glue = simp to_z-of_z at c.top_node-glue.ensures in
+    let h = topped b c.freeze.new.self s c.push_front.new.self ask n c.top_node-glue.result f.0 c.requires.sound c.requires.on c.requires.closed c.requires.fits c.requires.boxed f.1 c.freeze.ensures.ids c.freeze.ensures.frozen glue c.push_front.ensures.pushed u in
     let d : Builder = record c.put.new.self { opened = true } in
     let behind = c.reach-event.ensures.behind (n ∷ f.0) c.if-self.false h.list_is in
     opening_goes b c.freeze.new.self c.reach-event.new.self s c.push_front.new.self c.reach-event.new.store ask n c.top_node-glue.result f.0 c.reach-event.result h (c.freeze.ensures.stopped ∙ c.requires.on) (c.freeze.ensures.opened ∙ c.requires.closed)

@@ -17,7 +17,7 @@ reach-requires-clause-underway c =
 pub reach-requires-clause-fits : goal.reach-requires-clause-fits
 reach-requires-clause-fits c =
     let f = first_is (list_at c.args.store.now c.args.self.now.waiting) c.args.n.now c.requires.first in
-    open_fits c.args.self.now c.args.store.now c.args.ask.now c.args.n.now f.0 c.requires.sound c.requires.on c.if-self.true c.requires.fits f.1 ? ?
+    open_fits c.args.self.now c.args.store.now c.args.ask.now c.args.n.now f.0 c.requires.sound c.requires.on c.if-self.true c.requires.fits f.1 (sym c.act_of.ensures ∙ c.in_default.is) (sym c.insertion_of.ensures ∙ c.in_default-insertion_of.is)
 
 pub returns-then-self : goal.returns-then-self
 returns-then-self c =
