@@ -205,3 +205,8 @@ module _ (b : Builder) (s : Lists Node) (ask : Ask) (n : Node) (ns : List Node) 
           let l : length (contents_of e r).waiting ≡ length ns = length-map (list_at r e.waiting) (plain_of (list_at r)) ∙ ap length h in
           let m : length (contents_of b s).waiting ≡ length (n ∷ ns) = length-map (list_at s b.waiting) (plain_of (list_at s)) ∙ ap length first in
           omega arith
+
+-- a list without a first node is empty
+pub none_first : (ns : List Node) → slice_get ns 0 ≡ None → ns ≡ []
+none_first [] e = refl
+none_first (n ∷ ns) e = cc

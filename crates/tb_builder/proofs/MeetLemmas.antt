@@ -77,7 +77,7 @@ module _ (b d : Builder) (s t : Lists Node) (ask : Ask) (n : Node) (ns : List No
     };
     others = moves.others;
     keeps = moves.keeps;
-    room = λ e o. room;
+    room = λ e o. (sym opened ∙ o, room);
     shorter = λ e. shorter_by waits;
     stays = stays_from b d s t ask moves f;
     turned = lasts_turn (contents_of b s) (contents_of d t) ask (plain_of (list_at s) n) waits paged (stays_from b d s t ask moves f).frozen_so on plain_shape plain_act;
@@ -151,7 +151,7 @@ module _ (b d : Builder) (s t : Lists Node) (ask : Ask) (n : Node) (ns : List No
     };
     others = dropped_moves.others;
     keeps = dropped_moves.keeps;
-    room = λ e o. room;
+    room = λ e o. (sym opened ∙ o, room);
     shorter = λ e. shorter_by dropped_waits;
     stays = stays_from b d s t ask dropped_moves (inl frozen);
     turned = drops_turn (contents_of b s) (contents_of d t) ask (plain_of (list_at s) n) dropped_waits dropped_page (stays_from b d s t ask dropped_moves (inl frozen)).frozen_so (stopped ∙ on) (sym sound.opened ∙ closed) (sound.closed closed)

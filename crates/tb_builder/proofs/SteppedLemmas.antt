@@ -75,7 +75,7 @@ module _ (b d : Builder) (s t : Lists Node) (ask : Ask) (o : Option Event) (m : 
   page_same : page_frozen (frozen_with b.frozen ask) (contents_of d t).classes (contents_of d t).boxes ≡ frozen_of (contents_of b s) ask
   page_same = (λ i. page_frozen (frozen_with b.frozen ask) (moves.classes i) (moves.boxes i)) ∙ frozen_as b.frozen ask (contents_of b s).classes (contents_of b s).boxes
 
-  pub turn_of_step : (o ≡ None → d.opened ≡ false → s.spare ≤ t.spare) → (o ≡ None → length (contents_of d t).waiting < length (contents_of b s).waiting) → TurnIs b s ask o d t
+  pub turn_of_step : (o ≡ None → d.opened ≡ false → (b.opened ≡ false) × (s.spare ≤ t.spare)) → (o ≡ None → length (contents_of d t).waiting < length (contents_of b s).waiting) → TurnIs b s ask o d t
   turn_of_step room shorter = record {
     sound = record {
       own = moves.own;

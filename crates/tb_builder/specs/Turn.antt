@@ -110,7 +110,7 @@ pub record TurnIs (b : Builder) (s : Lists Node) (ask : Ask) (o : Option Event) 
   pub sound : IsSound d t
   pub others : (q : ℕ) → Lacks q (owned (ids_of b) s) → get t.lists q ≡ get s.lists q
   pub keeps : (q : ℕ) → Lacks q (owned (ids_of b) s) → Lacks q (owned (ids_of d) t)
-  pub room : o ≡ None → d.opened ≡ false → s.spare ≤ t.spare
+  pub room : o ≡ None → d.opened ≡ false → (b.opened ≡ false) × (s.spare ≤ t.spare)
   pub shorter : o ≡ None → length (contents_of d t).waiting < length (contents_of b s).waiting
   pub stays : Stays (contents_of b s) (contents_of d t) ask
   pub turned : TurnBy o (contents_of b s) (contents_of d t) ask

@@ -18,3 +18,5 @@ invariant-loop-n l = record {
   later : (e : Event) (x : Builder) (y : Lists Node) → Filled l.self l.store l.ask e x y → Filled l.fn.self l.fn.store l.fn.ask e x y;
 }
 
+abbrev pub decreases-loop-n : goal.decreases-loop-n
+decreases-loop-n l = length (contents_of l.self l.store).waiting
