@@ -112,7 +112,6 @@ module _ (z : Frozen) (k : Course) (c : Contents) (n : PlainNode) (ns : List Pla
       page = page;
       waiting = waiting;
       stopped = stopped;
-      quiet = u.quiet;
       course = subst (λ q. CourseStands z l q (places_on z c ++ place_here z c.page p ∷ [])) (sym page) h;
       reached = same_whole (λ w. breakpoints w.reached) ∙ whole_places z.limit (terms_after z) [] c.page c.waiting u.course.no_acts u.quiet ∙ ap (λ w. places_on z c ++ breakpoints w.reached) stop_reach;
       passed = same_whole (λ w. w.passed) ∙ (whole_end z.limit (terms_after z) [] c.page c.waiting u.course.no_acts u.quiet).passed ∙ ap (λ (w : Reach). w.passed) stop_reach ∙ sym page;

@@ -40,10 +40,7 @@ module _ (z : Frozen) (k : Course) (m d : Contents) (f : ℤ × ℤ) (same : pag
   stopped_page : (line : ℕ) (b : Breakpoint) (s : Bool) → d.stopped ≡ s → StopsThere z line b k m d → PageStands (Some f) s k d
   stopped_page line b false e st = absurd (true≢false (sym st.stopped ∙ e))
   stopped_page line b true e st = subst (λ x. AtStop x k d.page d.waiting) (sym same) (record {
-    line = line;
     stop = b;
-    quiet = subst NoStop (sym places) st.quiet;
-    first = (λ i. reach_from z.limit (terms_after z) (st.page i) (st.waiting i)) ∙ st.reach;
     course = subst (CourseStands z k d.page) (sym (ap (λ bs. bs ++ b ∷ []) places)) st.course;
     reached = st.reached ∙ sym (ap (λ bs. bs ++ b ∷ []) places);
     passed = st.passed;

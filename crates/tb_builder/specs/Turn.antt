@@ -16,7 +16,6 @@ use Rattle.tb_builder.specs.declared.Course.{Course}
 use Rattle.tb_builder.specs.declared.Builder.{Builder}
 use Rattle.tb_builder.specs.Reached.{tried, Reach, also_reached, reach_from, try_of, breakpoints}
 use Rattle.tb_builder.specs.Contents.{Contents, contents_of, laid, reach_ahead, places_of}
-use Rattle.tb_builder.specs.Places.{NoStop}
 use Rattle.tb_builder.specs.Owned.{ids_of, owned, Lacks, IsOwned}
 use Rattle.tb_builder.specs.Running.{CourseStands, Underway, places_by, zed, IsSound, act_of_kind, insertion_of_kind}
 use Rattle.tb_builder.specs.Next.{FirstIs, Stays, stopped_with}
@@ -64,7 +63,6 @@ pub record StopsThere (z : Frozen) (line : ℕ) (b : Breakpoint) (k : Course) (c
   pub page : d.page ≡ c.page
   pub waiting : d.waiting ≡ c.waiting
   pub stopped : d.stopped ≡ true
-  pub quiet : NoStop (places_on z c)
   pub course : CourseStands z k d.page (places_on z c ++ b ∷ [])
   pub reached : breakpoints (reach_from z.limit (terms_after z) [] (d.page ++ d.waiting)).reached ≡ places_on z c ++ b ∷ []
   pub passed : (reach_from z.limit (terms_after z) [] (d.page ++ d.waiting)).passed ≡ d.page
