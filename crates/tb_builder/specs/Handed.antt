@@ -1,5 +1,6 @@
 -- What the small calls of a page builder ask of the nodes and lists that they are handed, and what they change.
-use Rattle.std.specs.Prelude.{◌≡◌, ◌==◌, ℕ, Bool, true, false, List, [], ◌∷◌, ◌++◌, map, Option, None, if◌then◌else◌}
+use Rattle.std.specs.Prelude.{◌≡◌, ◌≢◌, ◌==◌, ℕ, Bool, true, false, List, [], ◌∷◌, ◌++◌, map, Option, Some, None, if◌then◌else◌}
+use Rattle.std.specs.FinMap.{get}
 use Rattle.tb_pool.specs.Lists.{Lists, IsLive, list_at}
 use Rattle.tb_node.specs.declared.Node.{Node}
 use Rattle.tb_node.specs.Shape.{Shape, box, glue, kern, penalty, other}
@@ -41,6 +42,13 @@ ends_in_kern ns = last_or false (map (λ n. is_kern (node_shape n)) ns)
 -- a legal place, and it was passed as none
 abbrev pub MayWait : Contents → PlainNode → Type 0
 MayWait c n = ends_in_kern c.page ≡ true → without_acts c.waiting ≡ [] → is_glue (node_shape n) ≡ false
+
+-- the lists a and b came before what the list c holds, and are empty now; no other list changed
+pub record InFront (s t : Lists Node) (a b c : ℕ) : Type 0 where
+  pub first : get t.lists a ≡ Some []
+  pub second : get t.lists b ≡ Some []
+  pub joined : get t.lists c ≡ Some (list_at s a ++ (list_at s b ++ list_at s c))
+  pub others : (q : ℕ) → q ≢ a → q ≢ b → q ≢ c → get t.lists q ≡ get s.lists q
 
 -- ---- an empty page
 

@@ -2,17 +2,32 @@
 
 ghost use Rattle.std.specs.Prelude.{◌≡◌, ◌≢◌, ◌++◌, ◌∷◌, [], Some, ℕ, OnOk, OnErr};
 ghost use Rattle.std.specs.FinMap.{get};
-ghost use Rattle.tb_pool.specs.Lists.{list_at};
+ghost use Rattle.tb_pool.specs.Lists.{IsLive, list_at};
 ghost use Rattle.tb_node.specs.Plain.{plain_of};
 ghost use Rattle.tb_builder.specs.Contents.{contents_of, plain_list};
 ghost use Rattle.tb_builder.specs.Owned.{ids_of, owned, inner_ids, Lacks};
 ghost use Rattle.tb_builder.specs.Running.{IsSound};
-ghost use Rattle.tb_builder.specs.Handed.{NodesJoin, ListJoins, MayWait, NoPage};
+ghost use Rattle.tb_builder.specs.Handed.{NodesJoin, ListJoins, MayWait, InFront, NoPage};
 
 use crate::Builder;
 use std::alloc::AllocError;
 use tb_node::Node;
 use tb_pool::{ListId, Lists};
+
+// The nodes of the lists `a` and `b` come before those of `c`; `a` and `b` are empty then.
+fn put_in_front(store: &mut Lists<Node>, a: ListId, b: ListId, c: ListId)
+    requires first_live { IsLive store.old a }
+    requires second_live { IsLive store.old b }
+    requires third_live { IsLive store.old c }
+    requires apart { a ≢ b }
+    requires first_apart { a ≢ c }
+    requires second_apart { b ≢ c }
+    ensures { InFront store.old store.new a b c }
+{
+    store.append(a, b);
+    store.append(a, c);
+    store.append(c, a);
+}
 
 impl Builder {
     /// A node goes to the end of what waits; the list of an insertion is the builder's from then on. The node is no
@@ -48,9 +63,7 @@ impl Builder {
         ensures others { (q : ℕ) → q ≢ list → Lacks q (owned (ids_of self.old) store.old) → get store.new.lists q ≡ get store.old.lists q }
         ensures keeps { (q : ℕ) → Lacks q (owned (ids_of self.old) store.old ++ inner_ids (list_at store.old list)) → Lacks q (owned (ids_of self.new) store.new) }
     {
-        store.append(self.held, list);
-        store.append(self.held, self.waiting);
-        store.append(self.waiting, self.held);
+        put_in_front(store, self.held, list, self.waiting);
     }
 
     /// The list that holds the nodes that wait.
