@@ -91,8 +91,8 @@ module _ (b d : Builder) (s t : Lists Node) (ask : Ask) (n : Node) (ns : List No
       let frozen = is ∙ ap Some e in
       let st = stays_from b d s t ask moves (inr frozen) in
       lasts_in (inr frozen) (stands_some d.frozen f d.stopped d.course (contents_of d t) ask is is on
-          (subst (λ z. Underway z d.course (contents_of d t).page (contents_of d t).waiting) (sym st.frozen_so)
-          (underway_stays (frozen_of (contents_of b s) ask) k d.course (contents_of b s) (contents_of d t) (plain_of (list_at s) n) waits paged plain_shape plain_act u h)))
+      (subst (λ z. Underway z d.course (contents_of d t).page (contents_of d t).waiting) (sym st.frozen_so)
+      (underway_stays (frozen_of (contents_of b s) ask) k d.course (contents_of b s) (contents_of d t) (plain_of (list_at s) n) waits paged plain_shape plain_act u h)))
 
   -- a mark, a note or a whatsit went on the page
   loose_by : (o : Option (ℤ × ℤ)) → b.frozen ≡ o → d.frozen ≡ o → b.stopped ≡ false → is_loose (plain_of (list_at s) n).kind ≡ true → d.course.scan ≡ b.course.scan → d.course.account ≡ b.course.account → d.course.best_goal ≡ b.course.best_goal → d.course.lasting ≡ true
@@ -106,7 +106,7 @@ module _ (b d : Builder) (s t : Lists Node) (ask : Ask) (n : Node) (ns : List No
       stands_some d.frozen f d.stopped d.course (contents_of d t) ask g g on
       (subst (λ z. Underway z d.course (contents_of d t).page (contents_of d t).waiting) (sym ((stays_from b d s t ask moves (inl (g ∙ sym e))).frozen_so ∙ ap (λ x. frozen_or x ask (contents_of b s).classes (contents_of b s).boxes) e))
       (underway_stays (page_frozen f (contents_of b s).classes (contents_of b s).boxes) b.course d.course (contents_of b s) (contents_of d t) (plain_of (list_at s) n) waits paged plain_shape plain_act st
-        (course_loose (page_frozen f (contents_of b s).classes (contents_of b s).boxes) b.course d.course (contents_of b s).page _ (plain_of (list_at s) n) st.course loose scan account goal lasting)))
+      (course_loose (page_frozen f (contents_of b s).classes (contents_of b s).boxes) b.course d.course (contents_of b s).page _ (plain_of (list_at s) n) st.course loose scan account goal lasting)))
 
   pub passed_loose : d.frozen ≡ b.frozen → b.stopped ≡ false → is_loose (plain_of (list_at s) n).kind ≡ true → d.course.scan ≡ b.course.scan → d.course.account ≡ b.course.account → d.course.best_goal ≡ b.course.best_goal → d.course.lasting ≡ true → TurnIs b s ask None d t
   passed_loose same_frozen on' loose scan account goal lasting =

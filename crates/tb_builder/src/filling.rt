@@ -20,7 +20,9 @@ ghost use Rattle.tb_builder.specs.Next.{AskFits, NextFits, NextIs};
 ghost use Rattle.tb_builder.specs.Turn.{Moves, Shifted, StepIs, StepFits, TriesOn, TurnIs, Filled};
 
 use crate::measuring::list_size;
-use crate::moving::{act_of, drop_first, first_of, glue_follows, insertion_of, is_box, shift, top_node};
+use crate::moving::{
+    act_of, drop_first, first_of, glue_follows, insertion_of, is_box, shift, top_node,
+};
 use crate::trying::{started, stops};
 use crate::{Ask, Builder, Event};
 use std::alloc::AllocError;

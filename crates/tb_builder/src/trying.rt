@@ -81,7 +81,9 @@ impl Course {
     {
         let sums = self.scan.sums();
         let goal = self.account.goal();
-        let offer = self.scan.offer(index, penalty, goal, self.account.penalties());
+        let offer = self
+            .scan
+            .offer(index, penalty, goal, self.account.penalties());
         self.mark_if(offer.champion, goal);
         made_try(line, sums, goal, offer, penalty)
     }
@@ -98,14 +100,22 @@ impl Course {
     }
 
     // An insertion goes to the end of the page, which has so many nodes.
-    pub(crate) fn join(&mut self, store: &Lists<Node>, ins: &Insertion, index: usize, class: &Class, box_size: i64)
+    pub(crate) fn join(
+        &mut self,
+        store: &Lists<Node>,
+        ins: &Insertion,
+        index: usize,
+        class: &Class,
+        box_size: i64,
+    )
         requires number { class.now.number ≡ ins.now.class }
         requires most { ins.now.class < 255 }
         requires fits { ArriveFits store.now self.old.account self.old.scan ins.now class.now box_size }
         ensures { (z : Frozen) (page : List PlainNode) (bs : List Breakpoint) (line : ℕ) → CourseStands z self.old page bs → ComesTo z page self.old.scan class.now box_size index
             → CourseStands z self.new (page ++ record { line = line; kind = an_insertion (inserted_of (list_at store.now) ins.now) } ∷ []) bs }
     {
-        self.account.arrive(store, ins, index, class, box_size, &mut self.scan);
+        self.account
+            .arrive(store, ins, index, class, box_size, &mut self.scan);
         self.lasting = true;
     }
 }
