@@ -18,7 +18,6 @@ use Rattle.tb_insert.specs.Terms.{Terms}
 use Rattle.tb_insert.specs.declared.Class.{Class}
 use Rattle.tb_insert.specs.Account.{Frozen, terms_after}
 use Rattle.tb_insert.proofs.StandsLemmas.{stands-plain}
-use Rattle.tb_insert.proofs.TermLemmas.{scan_loose}
 use Rattle.tb_builder.specs.declared.Ask.{Ask}
 use Rattle.tb_builder.specs.declared.Try.{Try}
 use Rattle.tb_builder.specs.declared.Course.{Course}

@@ -1,6 +1,7 @@
 -- The lists that belong to a page builder: its own, and those of the insertions in them.
 use Rattle.std.specs.Prelude.{◌≡◌, ◌≢◌, ◌<◌, ℕ, ◌==◌, Bool, true, false, List, [], ◌∷◌, ◌++◌, map, length, slice_index_or, Option, Some, None, option_to_list}
 use Rattle.std.specs.List.{list_any}
+use Rattle.std.specs.FinMap.{get}
 use Rattle.tb_pool.specs.Lists.{Lists, IsLive, list_at}
 use Rattle.tb_node.specs.declared.Node.{Node}
 use Rattle.tb_node.specs.declared.Kind.{Kind}
@@ -153,3 +154,8 @@ pub record IsOwned (b : Ids) (s : Lists Node) : Type 0 where
   pub plain_lists : HoldPlain s (box_ids b.boxes ++ inner_ids (nodes_of b s))
   pub classes : ClassesFit (classes_of b)
   pub known : AllKnown (classes_of b) (nodes_of b s)
+
+-- lists that are not the builder's stay as they are, and are not its own afterwards
+pub record Keeps (b : Ids) (s : Lists Node) (d : Ids) (t : Lists Node) : Type 0 where
+  pub others : (q : ℕ) → IsLive s q → Lacks q (owned b s) → get t.lists q ≡ get s.lists q
+  pub apart : (q : ℕ) → IsLive s q → Lacks q (owned b s) → Lacks q (owned d t)

@@ -1,5 +1,5 @@
 -- One node more: what a turn of the page builder changes.
-use Rattle.std.specs.Prelude.{◌≡◌, ℕ, ℤ, ◌≤◌, Bool, true, false, List, [], ◌∷◌, ◌++◌, Option, Some, None}
+use Rattle.std.specs.Prelude.{◌≡◌, ℕ, ℤ, ◌<◌, ◌≤◌, Bool, true, false, List, [], ◌∷◌, ◌++◌, length, Option, Some, None}
 use Rattle.std.specs.FinMap.{get}
 use Rattle.tb_pool.specs.Lists.{Lists, list_at}
 use Rattle.tb_node.specs.declared.Node.{Node}
@@ -25,7 +25,6 @@ pub record Moves (b : Builder) (s : Lists Node) (d : Builder) (t : Lists Node) :
   pub own : IsOwned (ids_of d) t
   pub others : (q : ℕ) → Lacks q (owned (ids_of b) s) → get t.lists q ≡ get s.lists q
   pub keeps : (q : ℕ) → Lacks q (owned (ids_of b) s) → Lacks q (owned (ids_of d) t)
-  pub room : s.spare ≤ t.spare
   pub classes : (contents_of d t).classes ≡ (contents_of b s).classes
   pub boxes : (contents_of d t).boxes ≡ (contents_of b s).boxes
   pub held : (contents_of d t).held ≡ (contents_of b s).held
@@ -109,7 +108,8 @@ pub record TurnIs (b : Builder) (s : Lists Node) (ask : Ask) (o : Option Event) 
   pub sound : IsSound d t
   pub others : (q : ℕ) → Lacks q (owned (ids_of b) s) → get t.lists q ≡ get s.lists q
   pub keeps : (q : ℕ) → Lacks q (owned (ids_of b) s) → Lacks q (owned (ids_of d) t)
-  pub room : o ≡ None → d.opened ≡ false → s.spare ≤ t.spare
+  pub room : o ≡ None → d.opened ≡ false → (b.opened ≡ false) × (s.spare ≤ t.spare)
+  pub shorter : o ≡ None → length (contents_of d t).waiting < length (contents_of b s).waiting
   pub stays : Stays (contents_of b s) (contents_of d t) ask
   pub turned : TurnBy o (contents_of b s) (contents_of d t) ask
 

@@ -10,11 +10,11 @@ ghost use Rattle.tb_node.specs.Add.{added_node};
 ghost use Rattle.tb_break.specs.Best.{Breakpoint};
 ghost use Rattle.tb_break.specs.Legal.{ends_lasting};
 ghost use Rattle.tb_insert.specs.Account.{Frozen};
-ghost use Rattle.tb_insert.specs.Running.{Differ, ComesTo, goal_of, penalties_in};
+ghost use Rattle.tb_insert.specs.Running.{Differ, ComesTo};
 ghost use Rattle.tb_insert.specs.Arrived.{ArriveFits};
 ghost use Rattle.tb_builder.specs.Places.{page_shapes};
 ghost use Rattle.tb_builder.specs.Running.{CourseStands, AllLoose, act_of_kind, insertion_of_kind};
-ghost use Rattle.tb_builder.specs.Offer.{OfferIs, Marks};
+ghost use Rattle.tb_builder.specs.Offer.{OfferIs, Marks, TermsFit};
 
 use crate::{Course, Try};
 use tb_break::{Offer, is_lasting, new_scan};
@@ -74,8 +74,7 @@ impl Course {
 
     // Tries the legal place at the end of the page, which has so many nodes.
     pub(crate) fn offer(&mut self, index: usize, line: u32, penalty: i64) -> Try
-        requires goal { IsAmount (goal_of self.old.account) }
-        requires penalties { IsAmount (penalties_in self.old.account) }
+        requires terms { TermsFit self.old }
         requires low { IsAmount penalty }
         requires legal { penalty <ℤ pos 10000 }
         ensures { (z : Frozen) (page : List PlainNode) (bs : List Breakpoint) → CourseStands z self.old page bs → index ≡ length page → OfferIs z self.new page bs result line penalty }
