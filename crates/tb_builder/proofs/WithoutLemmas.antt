@@ -133,7 +133,7 @@ module _ (z : Frozen) (before : List PlainNode) (line : ℕ) (a : Act) (after : 
   labels_without =
       ap (map bare) (from_append z [] [] before (record { line = line; kind = act a } ∷ after))
       ∙ from_same z (labelled z before) (labelled z before) (before ++ record { line = line; kind = act a } ∷ []) before after refl
-        (λ xs. ap (λ ns. sums_of z.limit (map node_shape ns)) (append_assoc before (record { line = line; kind = act a } ∷ []) xs) ∙ shapes_without z before line a xs)
+      (λ xs. ap (λ ns. sums_of z.limit (map node_shape ns)) (append_assoc before (record { line = line; kind = act a } ∷ []) xs) ∙ shapes_without z before line a xs)
       ∙ sym (ap (map bare) (from_append z [] [] before after))
 
   terms_without : terms_after z (before ++ record { line = line; kind = act a } ∷ after) ≡ terms_after z (before ++ after)
