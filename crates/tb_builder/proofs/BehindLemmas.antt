@@ -29,7 +29,7 @@ use Rattle.tb_builder.proofs.CourseLemmas.{shape_is}
 use Rattle.tb_builder.proofs.TurnLemmas.{holds_now, lasting_penalty, ahead_closed}
 use Rattle.tb_builder.proofs.StepLemmas.{passed_step, step_sums}
 use Rattle.tb_builder.proofs.SteppedLemmas.{turn_of_step}
-use Rattle.tb_builder.proofs.OpenLemmas.{step_fits, Topped}
+use Rattle.tb_builder.proofs.FirstBoxLemmas.{step_fits, Topped}
 
 -- one move after another
 pub moves_after : (b d e : Builder) (s t r : Lists Node) → Moves b s d t → Moves d t e r → Moves b s e r

@@ -34,7 +34,7 @@ use Rattle.tb_builder.proofs.FillLemmas.{moves_from, page_from, waiting_from}
 use Rattle.tb_builder.proofs.TurnLemmas.{acts_turn, empty_turn, ahead_open, lays_open}
 use Rattle.tb_builder.proofs.MeetLemmas.{stays_from}
 use Rattle.tb_builder.proofs.SteppedLemmas.{turn_of_step}
-use Rattle.tb_builder.proofs.OpenLemmas.{opened_frozen, zed_frozen, underway_of, step_fits}
+use Rattle.tb_builder.proofs.FirstBoxLemmas.{opened_frozen, zed_frozen, underway_of, step_fits}
 use Rattle.tb_builder.proofs.BehindLemmas.{none_going}
 use Rattle.tb_builder.proofs.WithoutLemmas.{without_fits}
 

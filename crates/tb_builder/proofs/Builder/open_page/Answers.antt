@@ -7,7 +7,7 @@ use Rattle.tb_builder.specs.Contents.{contents_of}
 use Rattle.tb_builder.specs.Running.{PageStands}
 use Rattle.tb_builder.proofs.FillLemmas.{first_is}
 use Rattle.tb_builder.proofs.FreezeLemmas.{frozen_course}
-use Rattle.tb_builder.proofs.OpenLemmas.{box_small, topped}
+use Rattle.tb_builder.proofs.FirstBoxLemmas.{box_small, topped}
 use Rattle.tb_builder.proofs.BehindLemmas.{boxed_act, boxed_insertion, opening_stops, opening_sums, opening_goes}
 use Rattle.tb_builder.proofs.Builder.open_page.Goals as goal
 
