@@ -31,6 +31,7 @@ pub record IsRoom (z : ℤ) : Type 0 where
   pub low : neg_ℤ (pos 2305843009213693952) <ℤ z
   pub high : z <ℤ pos 2305843009213693952
 
+-- the goal, the depth limit and the top skip fit, and the limit is not below 0
 pub record AskFits (ask : Ask) : Type 0 where
   pub goal : IsAmount ask.goal
   pub depth : IsAmount ask.max_depth
@@ -46,11 +47,13 @@ pub record InsertedFits (i : Inserted) : Type 0 where
   pub depth_low : pos 0 ≤ℤ i.split_depth
   pub top : IsAmount i.split_top
 
+-- the list of an insertion can be split
 abbrev pub KindFits : PlainKind → Type 0
 KindFits (plain m) = Unit {0}
 KindFits (ins i) = InsertedFits i
 KindFits (act a) = Unit {0}
 
+-- the amounts of a node fit
 pub record NodeFits (n : PlainNode) : Type 0 where
   pub small : IsSmallShape (node_shape n)
   pub kind_fits : KindFits n.kind
@@ -130,6 +133,7 @@ pub record ActedIs (a : Act) (ns : List PlainNode) (w : Reach) (bs : List Breakp
 abbrev pub nothing_reached : List PlainNode → Reach
 nothing_reached page = record { reached = []; passed = page; beyond = []; fires = false }
 
+-- nothing is left to be reached, and no node waits
 pub record EmptyIs (ns : List PlainNode) (w : Reach) (bs : List Breakpoint) (ask : Ask) (d : Contents) : Type 0 where
   pub reach : w ≡ nothing_reached d.page
   pub waiting : d.waiting ≡ []
@@ -162,10 +166,12 @@ pub record PageIs (p : Page) (f : Fired) (s : Lists Node) : Type 0 where
   pub line : p.line ≡ f.line
   pub held : p.held ≡ length f.held
 
+-- the page is the one that fires, and the contents are those after it
 pub record FiredIs (p : Page) (c : Contents) (ask : Ask) (d : Contents) (s : Lists Node) : Type 0 where
   pub page : PageIs p (fired_page c ask) s
   pub after : d ≡ after_fired c (fired_page c ask)
 
+-- the event is the page that fires
 abbrev pub FiresWith : Event → Contents → Ask → Contents → Lists Node → Type 0
 FiresWith (events.Try t) c ask d s = ⊥
 FiresWith (events.Act a) c ask d s = ⊥

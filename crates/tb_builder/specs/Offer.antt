@@ -14,6 +14,7 @@ use Rattle.tb_builder.specs.Running.{CourseStands}
 abbrev pub place_here : Frozen → List PlainNode → ℤ → Breakpoint
 place_here z page p = page_place z.limit (terms_after z) page p
 
+-- the place at the page's end was tried: what was made of it, and the course then
 pub record OfferIs (z : Frozen) (k : Course) (page : List PlainNode) (bs : List Breakpoint) (t : Try) (line : ℕ) (p : ℤ) : Type 0 where
   pub made : t ≡ try_of line (place_here z page p) (least_cost bs)
   pub course : CourseStands z k page (bs ++ place_here z page p ∷ [])

@@ -16,6 +16,7 @@ pub record IsSizedInserted (i : Inserted) : Type 0 where
   pub split_top : IsExtent i.split_top
   pub floating : IsPenalty i.floating
 
+-- the same of an insertion alone; other kinds have no list
 abbrev pub IsSizedKind : PlainKind → Type 0
 IsSizedKind (plain m) = Unit {0}
 IsSizedKind (ins i) = IsSizedInserted i
@@ -33,6 +34,7 @@ pub record IsSizedClass (c : Class) : Type 0 where
   pub stretch : IsDimension c.skip.stretch
   pub shrink : IsDimension c.skip.shrink
 
+-- each node of a class box is sized
 abbrev pub IsSizedBox : Boxed → Type 0
 IsSizedBox b = All IsSizedLeaf (content_of b.content)
 

@@ -68,6 +68,7 @@ pub record StopsThere (z : Frozen) (line : ℕ) (b : Breakpoint) (k : Course) (c
   pub passed : (reach_from z.limit (terms_after z) [] (d.page ++ d.waiting)).passed ≡ d.page
   pub beyond : (reach_from z.limit (terms_after z) [] (d.page ++ d.waiting)).beyond ≡ d.waiting
 
+-- a legal place was tried: it goes on there, or it is the stop
 pub record TriesOn (z : Frozen) (t : Try) (k : Course) (c d : Contents) : Type 0 where
   pub line : ℕ
   pub place : Breakpoint
@@ -100,10 +101,12 @@ pub record Turns (c d : Contents) (ask : Ask) : Type 0 where
   pub whole : laid d ask ≡ laid c ask
   pub stopped : d.stopped ≡ false
 
+-- the turn answered nothing, or the first event of what is reached
 abbrev pub TurnBy : Option Event → Contents → Contents → Ask → Type 0
 TurnBy None c d ask = Turns c d ask
 TurnBy (Some e) c d ask = FirstIs e (laid c ask) (reach_ahead c ask) (places_of c ask) ask d
 
+-- one turn of the builder: what it answered, and what stands then
 pub record TurnIs (b : Builder) (s : Lists Node) (ask : Ask) (o : Option Event) (d : Builder) (t : Lists Node) : Type 0 where
   pub sound : IsSound d t
   pub others : (q : ℕ) → Lacks q (owned (ids_of b) s) → get t.lists q ≡ get s.lists q
