@@ -22,7 +22,7 @@ use Rattle.tb_builder.specs.declared.Event.TheVariants as events
 use Rattle.tb_builder.specs.Reached.{also_reached, tried, holds_box}
 use Rattle.tb_builder.specs.Contents.{Contents, contents_of, frozen_of, laid}
 use Rattle.tb_builder.specs.Owned.{Lacks, Ids, ids_of, owned}
-use Rattle.tb_builder.specs.Running.{CourseStands, Underway, zed, AllLasting, act_of_kind, insertion_of_kind}
+use Rattle.tb_builder.specs.Running.{CourseStands, Underway, kept_frozen, AllLasting, act_of_kind, insertion_of_kind}
 use Rattle.tb_builder.specs.Next.{LaidFits, NextFits}
 use Rattle.tb_builder.specs.Turn.{Moves, Shifted, Passes, GoesOn, StepIs, StepFits, TurnIs, places_on}
 use Rattle.tb_builder.proofs.CourseLemmas.{shape_is}
@@ -162,24 +162,24 @@ module _ (z : Frozen) (all : List PlainNode) (b : Builder) (s : Lists Node) (n :
 
 -- d is the builder once the top glue was put before what waits, e after its step
 module _ (b d e : Builder) (s t r : Lists Node) (ask : Ask) (n g : Node) (ns : List Node) (o : Option Event) (h : Topped b d s t ask n g ns) (on : d.stopped ≡ false) (closed : d.opened ≡ false)
-    (moves : Moves d t e r) (st : StepIs o (zed (contents_of d t)) e.course (contents_of d t) (contents_of e r)) (opened : e.opened ≡ d.opened) (frozen : e.frozen ≡ d.frozen) where
+    (moves : Moves d t e r) (st : StepIs o (kept_frozen (contents_of d t)) e.course (contents_of d t) (contents_of e r)) (opened : e.opened ≡ d.opened) (frozen : e.frozen ≡ d.frozen) where
   step_is : StepIs o (frozen_of (contents_of b s) ask) e.course (contents_of d t) (contents_of e r)
-  step_is = subst (λ z. StepIs o z e.course (contents_of d t) (contents_of e r)) h.zed_is st
+  step_is = subst (λ z. StepIs o z e.course (contents_of d t) (contents_of e r)) h.kept_is st
 
   -- the place before the glue is a stop
   pub opening_stops : e.stopped ≡ true → TurnIs b s ask o e r
   opening_stops stop =
       turn_of_step b e s r ask o (contents_of d t) (moves_after b d e s t r h.moves moves) (frozen ∙ h.frozen)
-      (opened ∙ closed ∙ sym (ap holds_box ((stop_contents (zed (contents_of d t)) e.course (contents_of d t) (contents_of e r) on o st stop).0) ∙ h.closed))
-      (λ c. subst AllLasting (sym ((stop_contents (zed (contents_of d t)) e.course (contents_of d t) (contents_of e r) on o st stop).0)) h.lasting)
+      (opened ∙ closed ∙ sym (ap holds_box ((stop_contents (kept_frozen (contents_of d t)) e.course (contents_of d t) (contents_of e r) on o st stop).0) ∙ h.closed))
+      (λ c. subst AllLasting (sym ((stop_contents (kept_frozen (contents_of d t)) e.course (contents_of d t) (contents_of e r) on o st stop).0)) h.lasting)
       h.lays on (λ go. absurd (true≢false (sym stop ∙ go))) (λ s. still stop) step_is
-      (λ none. absurd (stop_tried (zed (contents_of d t)) e.course (contents_of d t) (contents_of e r) on o st stop none))
-      (λ none. absurd (stop_tried (zed (contents_of d t)) e.course (contents_of d t) (contents_of e r) on o st stop none))
+      (λ none. absurd (stop_tried (kept_frozen (contents_of d t)) e.course (contents_of d t) (contents_of e r) on o st stop none))
+      (λ none. absurd (stop_tried (kept_frozen (contents_of d t)) e.course (contents_of d t) (contents_of e r) on o st stop none))
     where
       -- what waits is the top glue and the box, which are pruned to themselves
       still : e.stopped ≡ true → laid (contents_of e r) ask ≡ (contents_of e r).page ++ (contents_of e r).waiting
       still stop =
-          let same = stop_contents (zed (contents_of d t)) e.course (contents_of d t) (contents_of e r) on o st stop in
+          let same = stop_contents (kept_frozen (contents_of d t)) e.course (contents_of d t) (contents_of e r) on o st stop in
           ap (λ w. (contents_of e r).page ++ w) (ahead_closed (contents_of e r) ask (ap holds_box same.0 ∙ h.closed) ∙ ap (pruned_nodes ask.top_skip) same.1 ∙ h.pruned ∙ sym same.1)
 
   module _ (fits : NextFits (contents_of b s) ask) (boxed : is_box (shape_of n) ≡ true) (go : e.stopped ≡ false) (list_is : list_at r e.waiting ≡ n ∷ ns) where

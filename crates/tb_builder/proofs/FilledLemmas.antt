@@ -25,7 +25,7 @@ use Rattle.tb_builder.specs.Places.{page_shapes, glue_first, page_places, NoStop
 use Rattle.tb_builder.specs.Fired.{Boxed}
 use Rattle.tb_builder.specs.Contents.{Contents, contents_of, frozen_of, ahead_of, laid, reach_ahead, places_of}
 use Rattle.tb_builder.specs.Owned.{Ids, ids_of, inner_of, owned, Lacks, IsOwned}
-use Rattle.tb_builder.specs.Running.{CourseStands, Underway, places_by, zed, page_frozen, frozen_with, AllLoose, AllLasting, PageStands, IsSound, act_of_kind, insertion_of_kind}
+use Rattle.tb_builder.specs.Running.{CourseStands, Underway, places_by, kept_frozen, page_frozen, frozen_with, AllLoose, AllLasting, PageStands, IsSound, act_of_kind, insertion_of_kind}
 use Rattle.tb_builder.specs.Next.{NextFits, BoxesFit, LaidFits, Stays, FirstIs, EmptyIs, NextIs}
 use Rattle.tb_builder.specs.Turn.{Moves, StepIs, StepFits, Turns, TurnBy, TurnIs, Filled}
 use Rattle.tb_builder.proofs.PageLemmas.{glue_acts}
@@ -34,7 +34,7 @@ use Rattle.tb_builder.proofs.FillLemmas.{moves_from, page_from, waiting_from}
 use Rattle.tb_builder.proofs.TurnLemmas.{acts_turn, empty_turn, ahead_open, lays_open}
 use Rattle.tb_builder.proofs.MeetLemmas.{stays_from}
 use Rattle.tb_builder.proofs.SteppedLemmas.{turn_of_step}
-use Rattle.tb_builder.proofs.FirstBoxLemmas.{opened_frozen, zed_frozen, underway_of, step_fits}
+use Rattle.tb_builder.proofs.FirstBoxLemmas.{opened_frozen, kept_is_frozen, underway_of, step_fits}
 use Rattle.tb_builder.proofs.BehindLemmas.{none_going}
 use Rattle.tb_builder.proofs.WithoutLemmas.{without_fits}
 
@@ -182,25 +182,25 @@ module _ (b : Builder) (s : Lists Node) (ask : Ask) (n : Node) (ns : List Node) 
   frozen_now : b.frozen ≡ Some (frozen_with b.frozen ask)
   frozen_now = opened_frozen b.frozen b.course (contents_of b s) ask page_stands holds
 
-  zed_is : zed (contents_of b s) ≡ frozen_of (contents_of b s) ask
-  zed_is = zed_frozen (contents_of b s) b.frozen ask frozen_now
+  kept_is : kept_frozen (contents_of b s) ≡ frozen_of (contents_of b s) ask
+  kept_is = kept_is_frozen (contents_of b s) b.frozen ask frozen_now
 
-  pub open_underway : Underway (zed (contents_of b s)) b.course (contents_of b s).page (contents_of b s).waiting
+  pub open_underway : Underway (kept_frozen (contents_of b s)) b.course (contents_of b s).page (contents_of b s).waiting
   open_underway = underway_of b.frozen (frozen_with b.frozen ask) b.course (contents_of b s) frozen_now refl page_stands
 
-  pub open_fits : act_of_kind n.kind ≡ None → insertion_of_kind n.kind ≡ None → StepFits (zed (contents_of b s)) (contents_of b s).page (list_at s) n
-  open_fits a i = step_fits (zed (contents_of b s)) (contents_of b s).page (laid (contents_of b s) ask) (list_at s) n (map (plain_of (list_at s)) ns) (subst (λ z. LaidFits z (laid (contents_of b s) ask)) (sym zed_is) fits.laid_fits)
+  pub open_fits : act_of_kind n.kind ≡ None → insertion_of_kind n.kind ≡ None → StepFits (kept_frozen (contents_of b s)) (contents_of b s).page (list_at s) n
+  open_fits a i = step_fits (kept_frozen (contents_of b s)) (contents_of b s).page (laid (contents_of b s) ask) (list_at s) n (map (plain_of (list_at s)) ns) (subst (λ z. LaidFits z (laid (contents_of b s) ask)) (sym kept_is) fits.laid_fits)
       (ap (λ w. (contents_of b s).page ++ w) (sym (ahead_open (contents_of b s) ask holds ∙ ap (map (plain_of (list_at s))) first))) a i
 
-  pub open_turn : (e : Builder) (r : Lists Node) (o : Option Event) → Moves b s e r → StepIs o (zed (contents_of b s)) e.course (contents_of b s) (contents_of e r) → e.opened ≡ b.opened → e.frozen ≡ b.frozen
+  pub open_turn : (e : Builder) (r : Lists Node) (o : Option Event) → Moves b s e r → StepIs o (kept_frozen (contents_of b s)) e.course (contents_of b s) (contents_of e r) → e.opened ≡ b.opened → e.frozen ≡ b.frozen
       → (holds_box (contents_of b s).page ≡ true → holds_box (contents_of e r).page ≡ true)
       → ((ms : List Node) → e.stopped ≡ false → list_at s b.waiting ≡ n ∷ ms → list_at r e.waiting ≡ ms)
       → TurnIs b s ask o e r
   open_turn e r o moves st same frozen still behind =
       turn_of_step b e s r ask o (contents_of b s) moves (frozen ∙ frozen_now) (same ∙ opened ∙ sym (still holds)) (λ c. absurd (true≢false (sym (same ∙ opened) ∙ c)))
-      (lays_open (frozen_of (contents_of b s) ask) ask (contents_of b s) refl holds) on (λ go. same ∙ opened) (λ stop. ap (λ w. (contents_of e r).page ++ w) (ahead_open (contents_of e r) ask (still holds))) (subst (λ z. StepIs o z e.course (contents_of b s) (contents_of e r)) zed_is st)
+      (lays_open (frozen_of (contents_of b s) ask) ask (contents_of b s) refl holds) on (λ go. same ∙ opened) (λ stop. ap (λ w. (contents_of e r).page ++ w) (ahead_open (contents_of e r) ask (still holds))) (subst (λ z. StepIs o z e.course (contents_of b s) (contents_of e r)) kept_is st)
       (λ none c. absurd (true≢false (sym (same ∙ opened) ∙ c)))
-      (λ none. shorter (behind ns (none_going (zed (contents_of b s)) e.course (contents_of b s) (contents_of e r) on o st none) first))
+      (λ none. shorter (behind ns (none_going (kept_frozen (contents_of b s)) e.course (contents_of b s) (contents_of e r) on o st none) first))
     where
       shorter : list_at r e.waiting ≡ ns → length (contents_of e r).waiting < length (contents_of b s).waiting
       shorter h =

@@ -19,7 +19,7 @@ use Rattle.tb_builder.specs.Reached.{holds_box}
 use Rattle.tb_builder.specs.Places.{NoStop}
 use Rattle.tb_builder.specs.Contents.{Contents, contents_of, frozen_or, frozen_of, ahead_of, laid}
 use Rattle.tb_builder.specs.Owned.{Ids, ids_of, inner_of, is_known, classes_of, IsOwned}
-use Rattle.tb_builder.specs.Running.{CourseStands, Underway, places_by, zed, frozen_with, frozen_at, AllLoose, AllLasting, PageStands, IsSound, act_of_kind, insertion_of_kind, height_of}
+use Rattle.tb_builder.specs.Running.{CourseStands, Underway, places_by, kept_frozen, frozen_with, frozen_at, AllLoose, AllLasting, PageStands, IsSound, act_of_kind, insertion_of_kind, height_of}
 use Rattle.tb_builder.specs.Next.{NextFits, LaidFits, NodeFits}
 use Rattle.tb_builder.specs.Turn.{Moves, StepFits}
 use Rattle.tb_builder.proofs.MoveLemmas.{Written, written_front}
@@ -75,10 +75,10 @@ pub opened_frozen : (o : Option (ℤ × ℤ)) (k : Course) (c : Contents) (ask :
 opened_frozen None k c ask st e = absurd (true≢false (sym e ∙ loose_closed c.page st.loose))
 opened_frozen (Some f) k c ask st e = refl
 
-pub zed_frozen : (c : Contents) (o : Option (ℤ × ℤ)) (ask : Ask) → c.frozen ≡ Some (frozen_with o ask) → zed c ≡ frozen_or o ask c.classes c.boxes
-zed_frozen c o ask e = ap (λ x. frozen_at x c.classes c.boxes) e ∙ frozen_as o ask c.classes c.boxes
+pub kept_is_frozen : (c : Contents) (o : Option (ℤ × ℤ)) (ask : Ask) → c.frozen ≡ Some (frozen_with o ask) → kept_frozen c ≡ frozen_or o ask c.classes c.boxes
+kept_is_frozen c o ask e = ap (λ x. frozen_at x c.classes c.boxes) e ∙ frozen_as o ask c.classes c.boxes
 
-pub underway_of : (o : Option (ℤ × ℤ)) (f : ℤ × ℤ) (k : Course) (c : Contents) → o ≡ Some f → c.frozen ≡ o → PageStands o false k c → Underway (zed c) k c.page c.waiting
+pub underway_of : (o : Option (ℤ × ℤ)) (f : ℤ × ℤ) (k : Course) (c : Contents) → o ≡ Some f → c.frozen ≡ o → PageStands o false k c → Underway (kept_frozen c) k c.page c.waiting
 underway_of o f k c e g st =
     subst (λ x. Underway (frozen_at x c.classes c.boxes) k c.page c.waiting) (sym (g ∙ e)) (subst (λ x. PageStands x false k c) e st)
 
@@ -100,13 +100,13 @@ pub record Topped (b d : Builder) (s t : Lists Node) (ask : Ask) (n g : Node) (n
   pub page : (contents_of d t).page ≡ (contents_of b s).page
   pub list_is : list_at t d.waiting ≡ g ∷ n ∷ ns
   pub lays : Lays (frozen_of (contents_of b s) ask) ask (contents_of b s) (contents_of d t)
-  pub zed_is : zed (contents_of d t) ≡ frozen_of (contents_of b s) ask
+  pub kept_is : kept_frozen (contents_of d t) ≡ frozen_of (contents_of b s) ask
   pub lasting : AllLasting (contents_of d t).page
   pub closed : holds_box (contents_of d t).page ≡ false
   pub pruned : pruned_nodes ask.top_skip (contents_of d t).waiting ≡ (contents_of d t).waiting
   pub frozen : d.frozen ≡ Some (frozen_with b.frozen ask)
-  pub underway : Underway (zed (contents_of d t)) d.course (contents_of d t).page (contents_of d t).waiting
-  pub step : StepFits (zed (contents_of d t)) (contents_of d t).page (list_at t) g
+  pub underway : Underway (kept_frozen (contents_of d t)) d.course (contents_of d t).page (contents_of d t).waiting
+  pub step : StepFits (kept_frozen (contents_of d t)) (contents_of d t).page (list_at t) g
 
 module _ (b d : Builder) (s t : Lists Node) (ask : Ask) (n g : Node) (ns : List Node) (sound : IsSound b s) (on : b.stopped ≡ false) (closed : b.opened ≡ false) (fits : NextFits (contents_of b s) ask)
     (boxed : is_box (shape_of n) ≡ true) (first : list_at s b.waiting ≡ n ∷ ns) (same : ids_of d ≡ ids_of b) (frozen : d.frozen ≡ Some (frozen_with b.frozen ask)) (glue_is : g ≡ glue_before n (top_glue ask.top_skip (height_of (shape_of n))))
@@ -152,8 +152,8 @@ module _ (b d : Builder) (s t : Lists Node) (ask : Ask) (n g : Node) (ns : List 
   pub topped_frozen : frozen_of now ask ≡ z
   topped_frozen = (stays_from b d s t ask topped_moves (inr frozen)).frozen_so
 
-  pub topped_zed : zed now ≡ z
-  topped_zed = zed_frozen now b.frozen ask frozen ∙ (λ i. frozen_or b.frozen ask (topped_moves.classes i) (topped_moves.boxes i))
+  pub topped_kept : kept_frozen now ≡ z
+  topped_kept = kept_is_frozen now b.frozen ask frozen ∙ (λ i. frozen_or b.frozen ask (topped_moves.classes i) (topped_moves.boxes i))
 
   pub topped_lasting : AllLasting now.page
   topped_lasting = subst AllLasting (sym topped_page) (sound.closed closed)
@@ -164,10 +164,10 @@ module _ (b d : Builder) (s t : Lists Node) (ask : Ask) (n g : Node) (ns : List 
       let none' : places_by z now.page now.waiting ≡ [] = lasting_places z.limit (terms_after z) [] now.page _ topped_lasting in
       subst (CourseStands z d.course now.page) (sym none') (subst (λ p. CourseStands z d.course p []) (sym topped_page) (subst (CourseStands z d.course before.page) none u.course))
 
-  pub topped_underway : Underway (zed now) d.course now.page now.waiting
+  pub topped_underway : Underway (kept_frozen now) d.course now.page now.waiting
   topped_underway =
       let none' : places_by z now.page now.waiting ≡ [] = lasting_places z.limit (terms_after z) [] now.page _ topped_lasting in
-      subst (λ x. Underway x d.course now.page now.waiting) (sym topped_zed) (record { course = topped_course; quiet = subst NoStop (sym none') tt })
+      subst (λ x. Underway x d.course now.page now.waiting) (sym topped_kept) (record { course = topped_course; quiet = subst NoStop (sym none') tt })
 
   pub laid_is : laid before ask ≡ now.page ++ now.waiting
   laid_is = topped_lays.laid_is
@@ -182,8 +182,8 @@ module _ (b d : Builder) (s t : Lists Node) (ask : Ask) (n g : Node) (ns : List 
   glue_insertion : insertion_of_kind g.kind ≡ None
   glue_insertion = ap (λ (x : Node). insertion_of_kind x.kind) glue_is
 
-  pub topped_fits : StepFits (zed now) now.page (list_at t) g
-  topped_fits = step_fits (zed now) now.page (laid before ask) (list_at t) g (plain_of (list_at s) n ∷ map (plain_of (list_at s)) ns) (subst (λ x. LaidFits x (laid before ask)) (sym topped_zed) fits.laid_fits)
+  pub topped_fits : StepFits (kept_frozen now) now.page (list_at t) g
+  topped_fits = step_fits (kept_frozen now) now.page (laid before ask) (list_at t) g (plain_of (list_at s) n ∷ map (plain_of (list_at s)) ns) (subst (λ x. LaidFits x (laid before ask)) (sym topped_kept) fits.laid_fits)
       (ap (λ m. now.page ++ m ∷ plain_of (list_at s) n ∷ map (plain_of (list_at s)) ns) glue_same ∙ ap (λ w. now.page ++ w) (sym topped_waiting) ∙ sym laid_is) glue_act glue_insertion
 
   -- the glue vanishes, and comes again
@@ -199,7 +199,7 @@ module _ (b d : Builder) (s t : Lists Node) (ask : Ask) (n g : Node) (ns : List 
     page = topped_page;
     list_is = topped_list;
     lays = topped_lays;
-    zed_is = topped_zed;
+    kept_is = topped_kept;
     lasting = topped_lasting;
     closed = ap holds_box topped_page ∙ no_box;
     pruned = again;

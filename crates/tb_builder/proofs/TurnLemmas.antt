@@ -26,7 +26,7 @@ use Rattle.tb_builder.specs.Reached.{acted, tried, Reach, also_reached, reach_fr
 use Rattle.tb_builder.specs.Fired.{Boxed}
 use Rattle.tb_builder.specs.Places.{page_shapes, glue_first, glue_or, node_penalty, page_places, NoStop}
 use Rattle.tb_builder.specs.Contents.{Contents, frozen_or, frozen_of, ahead_of, laid, reach_ahead, reach_whole, places_of}
-use Rattle.tb_builder.specs.Running.{CourseStands, Underway, AtStop, places_by, zed, frozen_at, page_frozen, frozen_with, is_loose, AllLoose, AllLasting, Unfrozen, PageStands}
+use Rattle.tb_builder.specs.Running.{CourseStands, Underway, AtStop, places_by, kept_frozen, frozen_at, page_frozen, frozen_with, is_loose, AllLoose, AllLasting, Unfrozen, PageStands}
 use Rattle.tb_builder.specs.Next.{Goes, Stops, TriedIs, stopped_with, Without, ActedIs, nothing_reached, EmptyIs}
 use Rattle.tb_builder.specs.Turn.{Shifted, reach_on, places_on, Passes, GoesOn, StopsThere, TriesOn, Turns}
 use Rattle.tb_builder.proofs.CourseLemmas.{champion_grows, acts-append, loose_shape}

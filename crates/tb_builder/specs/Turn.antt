@@ -17,7 +17,7 @@ use Rattle.tb_builder.specs.declared.Builder.{Builder}
 use Rattle.tb_builder.specs.Reached.{tried, Reach, also_reached, reach_from, try_of, breakpoints}
 use Rattle.tb_builder.specs.Contents.{Contents, contents_of, laid, reach_ahead, places_of}
 use Rattle.tb_builder.specs.Owned.{ids_of, owned, Lacks, IsOwned}
-use Rattle.tb_builder.specs.Running.{CourseStands, Underway, places_by, zed, IsSound, act_of_kind, insertion_of_kind}
+use Rattle.tb_builder.specs.Running.{CourseStands, Underway, places_by, kept_frozen, IsSound, act_of_kind, insertion_of_kind}
 use Rattle.tb_builder.specs.Next.{FirstIs, Stays, stopped_with}
 
 -- the lists are the builder's still, and lists that were not its own stay as they are and are not its own

@@ -15,7 +15,7 @@ ghost use Rattle.tb_builder.specs.Owned.{ids_of, owned, Lacks, IsOwned, Keeps};
 ghost use Rattle.tb_builder.specs.Places.{page_shapes, node_penalty, glue_first};
 ghost use Rattle.tb_builder.specs.Reached.{holds_box};
 ghost use Rattle.tb_builder.specs.Contents.{contents_of};
-ghost use Rattle.tb_builder.specs.Running.{IsSound, CourseStands, Underway, AllLoose, zed, frozen_with, act_of_kind, insertion_of_kind};
+ghost use Rattle.tb_builder.specs.Running.{IsSound, CourseStands, Underway, AllLoose, kept_frozen, frozen_with, act_of_kind, insertion_of_kind};
 ghost use Rattle.tb_builder.specs.Next.{AskFits, NextFits, NextIs};
 ghost use Rattle.tb_builder.specs.Turn.{Moves, Shifted, StepIs, StepFits, TriesOn, TurnIs, Filled};
 
@@ -180,10 +180,10 @@ impl Builder {
         requires own { IsOwned (ids_of self.old) store.old }
         requires first { slice_get (list_at store.old self.old.waiting) 0 ≡ Some n.now }
         requires on { self.old.stopped ≡ false }
-        requires underway { Underway (zed (contents_of self.old store.old)) self.old.course (contents_of self.old store.old).page (contents_of self.old store.old).waiting }
-        requires fits { StepFits (zed (contents_of self.old store.old)) (contents_of self.old store.old).page (list_at store.old) n.now }
+        requires underway { Underway (kept_frozen (contents_of self.old store.old)) self.old.course (contents_of self.old store.old).page (contents_of self.old store.old).waiting }
+        requires fits { StepFits (kept_frozen (contents_of self.old store.old)) (contents_of self.old store.old).page (list_at store.old) n.now }
         ensures moves { Moves self.old store.old self.new store.new }
-        ensures step { StepIs result (zed (contents_of self.old store.old)) self.new.course (contents_of self.old store.old) (contents_of self.new store.new) }
+        ensures step { StepIs result (kept_frozen (contents_of self.old store.old)) self.new.course (contents_of self.old store.old) (contents_of self.new store.new) }
         ensures behind { (ns : List NodeOf) → self.new.stopped ≡ false → list_at store.old self.old.waiting ≡ n.now ∷ ns → list_at store.new self.new.waiting ≡ ns }
         ensures boxed { holds_box (contents_of self.old store.old).page ≡ true → holds_box (contents_of self.new store.new).page ≡ true }
         ensures opened { self.new.opened ≡ self.old.opened }
@@ -203,14 +203,14 @@ impl Builder {
         requires own { IsOwned (ids_of self.old) store.old }
         requires first { slice_get (list_at store.old self.old.waiting) 0 ≡ Some n.now }
         requires on { self.old.stopped ≡ false }
-        requires underway { Underway (zed (contents_of self.old store.old)) self.old.course (contents_of self.old store.old).page (contents_of self.old store.old).waiting }
-        requires fits { StepFits (zed (contents_of self.old store.old)) (contents_of self.old store.old).page (list_at store.old) n.now }
+        requires underway { Underway (kept_frozen (contents_of self.old store.old)) self.old.course (contents_of self.old store.old).page (contents_of self.old store.old).waiting }
+        requires fits { StepFits (kept_frozen (contents_of self.old store.old)) (contents_of self.old store.old).page (list_at store.old) n.now }
         requires low { IsAmount penalty }
         requires legal { penalty <ℤ pos 10000 }
         ensures moves { Moves self.old store.old self.new store.new }
         ensures tried { (ns : List PlainNode) → (contents_of self.old store.old).waiting ≡ plain_of (list_at store.old) n.now ∷ ns
             → node_penalty self.old.course.lasting (glue_first ns) (plain_of (list_at store.old) n.now) ≡ Some penalty
-            → StepIs (Some result) (zed (contents_of self.old store.old)) self.new.course (contents_of self.old store.old) (contents_of self.new store.new) }
+            → StepIs (Some result) (kept_frozen (contents_of self.old store.old)) self.new.course (contents_of self.old store.old) (contents_of self.new store.new) }
         ensures behind { (ns : List NodeOf) → self.new.stopped ≡ false → list_at store.old self.old.waiting ≡ n.now ∷ ns → list_at store.new self.new.waiting ≡ ns }
         ensures boxed { holds_box (contents_of self.old store.old).page ≡ true → holds_box (contents_of self.new store.new).page ≡ true }
         ensures opened { self.new.opened ≡ self.old.opened }
