@@ -11,16 +11,14 @@ use Rattle.tb_builder.specs.declared.Builder.{Builder}
 use Rattle.tb_builder.specs.Contents.{Contents, contents_of, ahead_of}
 use Rattle.tb_builder.specs.Owned.{ids_of, owned, Lacks, Keeps}
 use Rattle.tb_builder.specs.Next.{NodeFits, NextFits}
-
--- each node of the page fits
-pub page_nodes_fit : (c : Contents) (ask : Ask) → NextFits c ask → (before : List PlainNode) (n : PlainNode) (rest : List PlainNode) → before ++ n ∷ rest ≡ c.page → NodeFits n
-page_nodes_fit c ask fits before n rest e = fits.laid_fits.nodes before n (rest ++ ahead_of c ask) (sym (append_assoc before (n ∷ rest) (ahead_of c ask)) ∙ ap (λ p. p ++ ahead_of c ask) e)
-
--- a list of which nothing is seen is empty
-pub none_mapped : {X Y : Type 0} (f : X → Y) (xs : List X) → map f xs ≡ [] → xs ≡ []
-none_mapped f [] e = refl
-none_mapped f (x ∷ xs) e = cc
+use Rattle.tb_builder.specs.Firing.{Fires}
 
 -- a list that was not live before is none of those that were
 pub fresh_apart : (s : Lists Node) (body q : ℕ) → get s.lists body ≡ None → IsLive s q → q ≢ body
 fresh_apart s body q fresh live e = true≢false (sym live ∙ ap is_some (ap (get s.lists) e ∙ fresh))
+
+pub fired_keeps : (b d : Builder) (s t : Lists Node) (p : Page) → Fires b s d t p → Keeps (ids_of b) s (ids_of d) t
+fired_keeps b d s t p f = record {
+  others = λ q live h. f.others q (fresh_apart s p.body q f.fresh live) h;
+  apart = λ q live h. f.keeps q h;
+}

@@ -1,6 +1,7 @@
 -- What the page builder answers, and what it asks of what it is given.
 use Rattle.std.specs.Prelude.{◌≡◌, ℕ, ℤ, pos, neg_ℤ, ◌<ℤ◌, ◌≤ℤ◌, Bool, true, false, List, [], ◌∷◌, ◌++◌, map, take, length, Option, Some, None}
-use Rattle.tb_pool.specs.Lists.{Lists, IsLive}
+use Rattle.std.specs.FinMap.{get}
+use Rattle.tb_pool.specs.Lists.{Lists, IsLive, list_at}
 use Rattle.tb_node.specs.declared.Node.{Node}
 use Rattle.tb_node.specs.declared.Act.{Act}
 use Rattle.tb_node.specs.Fit.{NodesFit, SumsFit}
@@ -18,6 +19,7 @@ use Rattle.tb_builder.specs.declared.Event.{Event}
 use Rattle.tb_builder.specs.declared.Event.TheVariants as events
 use Rattle.tb_builder.specs.Reached.{Reached, acted, tried, Reach, also_reached, try_of, breakpoints}
 use Rattle.tb_builder.specs.Fired.{Boxed, content_of, Fired, page_break, fired_by}
+use Rattle.tb_builder.specs.Owned.{Lacks, inner_ids, Ids, owned}
 use Rattle.tb_builder.specs.Contents.{Contents, plain_list, frozen_of, laid, reach_ahead, reach_whole, places_of}
 
 -- ---- what is asked
@@ -177,6 +179,13 @@ FiresWith (events.Try t) c ask d s = ⊥
 FiresWith (events.Act a) c ask d s = ⊥
 FiresWith (events.Fired p) c ask d s = FiredIs p c ask d s
 FiresWith events.Empty c ask d s = ⊥
+
+-- the body of a page that fires is a list that was opened for it, without insertions, and none of the builder's
+abbrev pub IsGivenOut : Event → Lists Node → Ids → Lists Node → Type 0
+IsGivenOut (events.Try t) s b r = Unit {0}
+IsGivenOut (events.Act a) s b r = Unit {0}
+IsGivenOut (events.Fired p) s b r = (get s.lists p.body ≡ None) × (inner_ids (list_at r p.body) ≡ []) × Lacks p.body (owned b r)
+IsGivenOut events.Empty s b r = Unit {0}
 
 -- what `next` answers: after a stop the page that fires, else the first event past the page so far
 abbrev pub NextIs : Bool → Event → Contents → Ask → Contents → Lists Node → Type 0

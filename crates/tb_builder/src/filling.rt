@@ -16,7 +16,7 @@ ghost use Rattle.tb_builder.specs.Places.{page_shapes, node_penalty, glue_first}
 ghost use Rattle.tb_builder.specs.Reached.{holds_box};
 ghost use Rattle.tb_builder.specs.Contents.{contents_of};
 ghost use Rattle.tb_builder.specs.Running.{IsSound, CourseStands, Underway, AllLoose, kept_frozen, frozen_with, act_of_kind, insertion_of_kind};
-ghost use Rattle.tb_builder.specs.Next.{AskFits, NextFits, NextIs};
+ghost use Rattle.tb_builder.specs.Next.{AskFits, NextFits, NextIs, IsGivenOut};
 ghost use Rattle.tb_builder.specs.Turn.{Moves, Shifted, StepIs, StepFits, TriesOn, TurnIs, Filled};
 
 use crate::measuring::list_size;
@@ -33,19 +33,22 @@ use tb_pool::Lists;
 impl Builder {
     /// The next event. A legal place, or an act, is reached of what waits: the nodes before it are on the page then. After
     /// a place that is a stop the page fires at the following call. Where nothing is left to be reached, the event is
-    /// Empty, and no node waits (TeX: The Program §994 to §1028).
+    /// Empty, and no node waits (TeX: The Program §994 to §1028). A page that fired awaits its `put_back` before the next
+    /// call.
     ///
     /// Memory is taken first: where that fails, the builder and all lists are as before.
     pub fn next(&mut self, store: &mut Lists<Node>, ask: &Ask) -> Result<Event, AllocError>
         requires sound { IsSound self.old store.old }
         requires fits { NextFits (contents_of self.old store.old) ask.now }
+        requires none_held { (contents_of self.old store.old).held ≡ [] }
         ensures event { IfOk result (λ e. NextIs self.old.stopped e (contents_of self.old store.old) ask.now (contents_of self.new store.new) store.new) }
         ensures sound { IsSound self.new store.new }
         ensures keeps { Keeps (ids_of self.old) store.old (ids_of self.new) store.new }
+        ensures body { IfOk result (λ e. IsGivenOut e store.old (ids_of self.new) store.new) }
         ensures err { OnErr result ((self.new ≡ self.old) × (store.new.lists ≡ store.old.lists)) }
     {
         if self.stopped {
-            let page = self.fire(store, ask)?;
+            let page = self.fire(store)?;
             return Ok(Event::Fired(page));
         }
         store.reserve(1)?;

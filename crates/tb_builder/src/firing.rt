@@ -1,25 +1,25 @@
 //! A page fires.
 
-ghost use Rattle.std.specs.Prelude.{◌≡◌, true, IfOk, OnErr};
+ghost use Rattle.std.specs.Prelude.{◌≡◌, [], true, IfOk, OnErr};
+ghost use Rattle.tb_pool.specs.Lists.{list_at};
 ghost use Rattle.tb_builder.specs.Contents.{contents_of};
-ghost use Rattle.tb_builder.specs.Owned.{ids_of, Keeps};
 ghost use Rattle.tb_builder.specs.Running.{IsSound};
-ghost use Rattle.tb_builder.specs.Next.{NextFits, FiredIs};
+ghost use Rattle.tb_builder.specs.Firing.{EachFits, Fires};
 
-use crate::{Ask, Builder, Page};
+use crate::{Builder, Page};
 use std::alloc::AllocError;
 use tb_node::Node;
 use tb_pool::Lists;
 
 impl Builder {
-    pub(crate) fn fire(&mut self, store: &mut Lists<Node>, ask: &Ask) -> Result<Page, AllocError>
+    pub(crate) fn fire(&mut self, store: &mut Lists<Node>) -> Result<Page, AllocError>
         requires sound { IsSound self.old store.old }
         requires stopped { self.old.stopped ≡ true }
-        requires fits { NextFits (contents_of self.old store.old) ask.now }
-        ensures page { IfOk result (λ p. FiredIs p (contents_of self.old store.old) ask.now (contents_of self.new store.new) store.new) }
-        ensures sound { IsSound self.new store.new }
-        ensures keeps { Keeps (ids_of self.old) store.old (ids_of self.new) store.new }
-        ensures err { OnErr result ((self.new ≡ self.old) × (store.new.lists ≡ store.old.lists)) }
+        requires none_held { list_at store.old self.old.held ≡ [] }
+        requires fits { EachFits (contents_of self.old store.old).page }
+        ensures fires { IfOk result (λ p. Fires self.old store.old self.new store.new p) }
+        ensures builder { OnErr result (self.new ≡ self.old) }
+        ensures lists { OnErr result (store.new.lists ≡ store.old.lists) }
     {
         Err(AllocError)
     }

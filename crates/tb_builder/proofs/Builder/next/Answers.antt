@@ -3,8 +3,23 @@ use Rattle.tb_builder.specs.Contents.{Contents, contents_of}
 use Rattle.tb_builder.specs.Owned.{ids_of}
 use Rattle.tb_builder.specs.Next.{NextIs, FirstIs, Stays}
 use Rattle.tb_builder.specs.Contents.{laid, reach_ahead, places_of}
+use Rattle.tb_builder.specs.Running.{IsSound}
+use Rattle.tb_builder.specs.declared.Event.TheVariants as events
+use Rattle.tb_builder.proofs.NextLemmas.{fired_keeps}
 use Rattle.tb_builder.proofs.SpareLemmas.{contents_still, sound_still, fits_still, keeps_filled}
 use Rattle.tb_builder.proofs.Builder.next.Goals as goal
+
+pub returns-in_err-page-clause-sound : goal.returns-in_err-page-clause-sound
+returns-in_err-page-clause-sound c =
+    let lists : c.fire.new.store.lists ≡ c.args.store.now.lists = c.in_err-page.ensures.lists in
+    subst (λ b. IsSound b c.fire.new.store) (sym c.in_err-page.ensures.builder) (sound_still c.args.store.now c.fire.new.store lists c.args.self.now c.requires.sound)
+
+pub returns-then-self-clause-event : goal.returns-then-self-clause-event
+returns-then-self-clause-event c =
+    subst (λ s. NextIs s (events.Fired c.in_ok-page.page) (contents_of c.args.self.now c.args.store.now) c.args.ask.now (contents_of c.fire.new.self c.fire.new.store) c.fire.new.store) (sym c.if-self.true) (c.in_ok-page.ensures.fires.fired c.args.ask.now)
+
+pub returns-then-self-clause-keeps : goal.returns-then-self-clause-keeps
+returns-then-self-clause-keeps c = fired_keeps c.args.self.now c.fire.new.self c.args.store.now c.fire.new.store c.in_ok-page.page c.in_ok-page.ensures.fires
 
 pub returns-in_err-reserve-clause-sound : goal.returns-in_err-reserve-clause-sound
 returns-in_err-reserve-clause-sound c = sound_still c.args.store.now c.reserve.new.self c.reserve.ensures.lists c.args.self.now c.requires.sound
