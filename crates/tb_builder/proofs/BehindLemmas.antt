@@ -12,6 +12,7 @@ use Rattle.tb_node.specs.Small.{IsSmallShape, IsSmall}
 use Rattle.tb_node.specs.Plain.{PlainNode, plain_of, node_shape, shape_of, shape_of_kind}
 use Rattle.tb_node.specs.Add.{added_node}
 use Rattle.tb_break.specs.Best.{Breakpoint, is_stop}
+use Rattle.tb_break.specs.Prune.{pruned_nodes}
 use Rattle.tb_insert.specs.Account.{Frozen, terms_after}
 use Rattle.tb_builder.specs.declared.Ask.{Ask}
 use Rattle.tb_builder.specs.declared.Builder.{Builder}
@@ -25,7 +26,7 @@ use Rattle.tb_builder.specs.Running.{CourseStands, Underway, zed, AllLasting, ac
 use Rattle.tb_builder.specs.Next.{LaidFits, NextFits}
 use Rattle.tb_builder.specs.Turn.{Moves, Shifted, Passes, GoesOn, StepIs, StepFits, TurnIs, places_on}
 use Rattle.tb_builder.proofs.CourseLemmas.{shape_is}
-use Rattle.tb_builder.proofs.TurnLemmas.{holds_now, lasting_penalty}
+use Rattle.tb_builder.proofs.TurnLemmas.{holds_now, lasting_penalty, ahead_closed}
 use Rattle.tb_builder.proofs.StepLemmas.{passed_step, step_sums}
 use Rattle.tb_builder.proofs.SteppedLemmas.{turn_of_step}
 use Rattle.tb_builder.proofs.OpenLemmas.{step_fits, Topped}
@@ -76,17 +77,17 @@ boxed_stays other e = refl
 -- ---- what a step leaves
 
 module _ (z : Frozen) (k : Course) (m d : Contents) (on : m.stopped ≡ false) where
-  -- at a stop the page is as before, and a place was tried
-  pub stop_page : (o : Option Event) → StepIs o z k m d → d.stopped ≡ true → d.page ≡ m.page
-  stop_page None st e = absurd (true≢false (sym e ∙ st.2 ∙ on))
-  stop_page (Some (events.Try t)) st e = by_stop (is_stop st.place) refl
+  -- at a stop the page and what waits are as before, and a place was tried
+  pub stop_contents : (o : Option Event) → StepIs o z k m d → d.stopped ≡ true → (d.page ≡ m.page) × (d.waiting ≡ m.waiting)
+  stop_contents None st e = absurd (true≢false (sym e ∙ st.2 ∙ on))
+  stop_contents (Some (events.Try t)) st e = by_stop (is_stop st.place) refl
     where
-      by_stop : (b : Bool) → is_stop st.place ≡ b → d.page ≡ m.page
-      by_stop true h = (st.stops h).page
+      by_stop : (b : Bool) → is_stop st.place ≡ b → (d.page ≡ m.page) × (d.waiting ≡ m.waiting)
+      by_stop true h = ((st.stops h).page, (st.stops h).waiting)
       by_stop false h = absurd (true≢false (sym e ∙ (st.goes h).0.stopped))
-  stop_page (Some (events.Act a)) st e = absurd st
-  stop_page (Some (events.Fired p)) st e = absurd st
-  stop_page (Some events.Empty) st e = absurd st
+  stop_contents (Some (events.Act a)) st e = absurd st
+  stop_contents (Some (events.Fired p)) st e = absurd st
+  stop_contents (Some events.Empty) st e = absurd st
 
   pub stop_tried : (o : Option Event) → StepIs o z k m d → d.stopped ≡ true → o ≡ None → ⊥
   stop_tried None st e n = true≢false (sym e ∙ st.2 ∙ on)
@@ -169,11 +170,17 @@ module _ (b d e : Builder) (s t r : Lists Node) (ask : Ask) (n g : Node) (ns : L
   pub opening_stops : e.stopped ≡ true → TurnIs b s ask o e r
   opening_stops stop =
       turn_of_step b e s r ask o (contents_of d t) (moves_after b d e s t r h.moves moves) (frozen ∙ h.frozen)
-      (opened ∙ closed ∙ sym (ap holds_box (stop_page (zed (contents_of d t)) e.course (contents_of d t) (contents_of e r) on o st stop) ∙ h.closed))
-      (λ c. subst AllLasting (sym (stop_page (zed (contents_of d t)) e.course (contents_of d t) (contents_of e r) on o st stop)) h.lasting)
-      h.lays on (λ go. absurd (true≢false (sym stop ∙ go))) step_is
+      (opened ∙ closed ∙ sym (ap holds_box ((stop_contents (zed (contents_of d t)) e.course (contents_of d t) (contents_of e r) on o st stop).0) ∙ h.closed))
+      (λ c. subst AllLasting (sym ((stop_contents (zed (contents_of d t)) e.course (contents_of d t) (contents_of e r) on o st stop).0)) h.lasting)
+      h.lays on (λ go. absurd (true≢false (sym stop ∙ go))) (λ s. still stop) step_is
       (λ none. absurd (stop_tried (zed (contents_of d t)) e.course (contents_of d t) (contents_of e r) on o st stop none))
       (λ none. absurd (stop_tried (zed (contents_of d t)) e.course (contents_of d t) (contents_of e r) on o st stop none))
+    where
+      -- what waits is the top glue and the box, which are pruned to themselves
+      still : e.stopped ≡ true → laid (contents_of e r) ask ≡ (contents_of e r).page ++ (contents_of e r).waiting
+      still stop =
+          let same = stop_contents (zed (contents_of d t)) e.course (contents_of d t) (contents_of e r) on o st stop in
+          ap (λ w. (contents_of e r).page ++ w) (ahead_closed (contents_of e r) ask (ap holds_box same.0 ∙ h.closed) ∙ ap (pruned_nodes ask.top_skip) same.1 ∙ h.pruned ∙ sym same.1)
 
   module _ (fits : NextFits (contents_of b s) ask) (boxed : is_box (shape_of n) ≡ true) (go : e.stopped ≡ false) (list_is : list_at r e.waiting ≡ n ∷ ns) where
     abbrev z : Frozen
@@ -196,7 +203,7 @@ module _ (b d e : Builder) (s t r : Lists Node) (ask : Ask) (n g : Node) (ns : L
         let passed = box_passes z (laid (contents_of b s) ask) e r n ns fits.laid_fits boxed list_is going whole x.course (contents_of x y) shifted (put z (places_on z (contents_of e r)) going.course) in
         turn_of_step b x s y ask o (contents_of d t) (moves_after b d x s t y h.moves (moves_after d e x t r y moves last)) (shifted.frozen ∙ frozen ∙ h.frozen)
         (has_box ∙ sym (box_opens z (laid (contents_of b s) ask) e r n ns fits.laid_fits boxed list_is going whole (contents_of x y) shifted))
-        (λ c. absurd (true≢false (sym has_box ∙ c))) h.lays on (λ c. has_box)
+        (λ c. absurd (true≢false (sym has_box ∙ c))) h.lays on (λ c. has_box) (λ stop. absurd (true≢false (sym stop ∙ shifted.stopped ∙ go)))
         (step_after z e.course (contents_of d t) (contents_of e r) on o x.course (contents_of x y) step_is go passed.0 passed.1 (shifted.stopped ∙ go))
         (λ none c. absurd (true≢false (sym has_box ∙ c)))
         (λ none. shorter first behind)

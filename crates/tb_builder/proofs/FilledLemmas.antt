@@ -1,6 +1,6 @@
 -- Turn by turn up to an event.
-use Rattle.std.proofs.Common.{◌≡◌, ◌⊎◌, inl, inr, refl, sym, subst, ◌∙◌, ap, ℕ, ◌<◌, ◌≤◌, ℤ, Bool, true, false, List, [], ◌∷◌, ◌++◌, length, map, Option, None, Some, arith}
-use Rattle.std.specs.Prelude.{slice_get}
+use Rattle.std.proofs.Common.{◌≡◌, ◌⊎◌, inl, inr, refl, sym, subst, ◌∙◌, ap, ℕ, ◌<◌, ◌≤◌, ℤ, Bool, true, false, List, [], ◌∷◌, ◌++◌, length, map, Option, None, Some, append-nil, arith}
+use Rattle.std.specs.Prelude.{slice_get, if◌then◌else◌}
 use Rattle.std.specs.FinMap.{get}
 use Rattle.std.proofs.lemmas.Bool.{true≢false}
 use Rattle.std.proofs.lemmas.List.{length-map}
@@ -11,7 +11,8 @@ use Rattle.tb_node.specs.declared.Kind.{Kind}
 use Rattle.tb_node.specs.declared.Kind.TheVariants as kinds
 use Rattle.tb_node.specs.Plain.{act, PlainNode, plain_of, is_act_kind}
 use Rattle.tb_break.specs.Legal.{ends_lasting}
-use Rattle.tb_break.specs.Best.{Breakpoint}
+use Rattle.tb_break.specs.Best.{Breakpoint, is_stop}
+use Rattle.tb_break.specs.Prune.{pruned_nodes}
 use Rattle.tb_insert.specs.Account.{Frozen, terms_after}
 use Rattle.tb_builder.specs.declared.Ask.{Ask}
 use Rattle.tb_builder.specs.declared.Builder.{Builder}
@@ -22,10 +23,10 @@ use Rattle.tb_builder.specs.declared.Event.TheVariants as events
 use Rattle.tb_builder.specs.Reached.{Reach, holds_box}
 use Rattle.tb_builder.specs.Places.{page_shapes, glue_first, page_places, NoStop}
 use Rattle.tb_builder.specs.Fired.{Boxed}
-use Rattle.tb_builder.specs.Contents.{Contents, contents_of, frozen_of, laid, reach_ahead, places_of}
+use Rattle.tb_builder.specs.Contents.{Contents, contents_of, frozen_of, ahead_of, laid, reach_ahead, places_of}
 use Rattle.tb_builder.specs.Owned.{Ids, ids_of, inner_of, owned, Lacks, IsOwned}
 use Rattle.tb_builder.specs.Running.{CourseStands, Underway, places_by, zed, page_frozen, frozen_with, AllLoose, AllLasting, PageStands, IsSound, act_of_kind, insertion_of_kind}
-use Rattle.tb_builder.specs.Next.{NextFits, BoxesFit, LaidFits, Stays, FirstIs, EmptyIs}
+use Rattle.tb_builder.specs.Next.{NextFits, BoxesFit, LaidFits, Stays, FirstIs, EmptyIs, NextIs}
 use Rattle.tb_builder.specs.Turn.{Moves, StepIs, StepFits, Turns, TurnBy, TurnIs, Filled}
 use Rattle.tb_builder.proofs.PageLemmas.{glue_acts}
 use Rattle.tb_builder.proofs.MoveLemmas.{Written, written_drop}
@@ -35,6 +36,7 @@ use Rattle.tb_builder.proofs.MeetLemmas.{stays_from}
 use Rattle.tb_builder.proofs.SteppedLemmas.{turn_of_step}
 use Rattle.tb_builder.proofs.OpenLemmas.{opened_frozen, zed_frozen, underway_of, step_fits}
 use Rattle.tb_builder.proofs.BehindLemmas.{none_going}
+use Rattle.tb_builder.proofs.WithoutLemmas.{without_fits}
 
 -- ---- an act
 
@@ -196,7 +198,7 @@ module _ (b : Builder) (s : Lists Node) (ask : Ask) (n : Node) (ns : List Node) 
       → TurnIs b s ask o e r
   open_turn e r o moves st same frozen still behind =
       turn_of_step b e s r ask o (contents_of b s) moves (frozen ∙ frozen_now) (same ∙ opened ∙ sym (still holds)) (λ c. absurd (true≢false (sym (same ∙ opened) ∙ c)))
-      (lays_open (frozen_of (contents_of b s) ask) ask (contents_of b s) refl holds) on (λ go. same ∙ opened) (subst (λ z. StepIs o z e.course (contents_of b s) (contents_of e r)) zed_is st)
+      (lays_open (frozen_of (contents_of b s) ask) ask (contents_of b s) refl holds) on (λ go. same ∙ opened) (λ stop. ap (λ w. (contents_of e r).page ++ w) (ahead_open (contents_of e r) ask (still holds))) (subst (λ z. StepIs o z e.course (contents_of b s) (contents_of e r)) zed_is st)
       (λ none c. absurd (true≢false (sym (same ∙ opened) ∙ c)))
       (λ none. shorter (behind ns (none_going (zed (contents_of b s)) e.course (contents_of b s) (contents_of e r) on o st none) first))
     where
@@ -210,3 +212,27 @@ module _ (b : Builder) (s : Lists Node) (ask : Ask) (n : Node) (ns : List Node) 
 pub none_first : (ns : List Node) → slice_get ns 0 ≡ None → ns ≡ []
 none_first [] e = refl
 none_first (n ∷ ns) e = cc
+
+-- ---- the next call
+
+-- what `next` asks holds again after an event
+pub fits_next : (b : Bool) (v : Event) (c d : Contents) (ask : Ask) (s : Lists Node) → b ≡ false → NextFits c ask → NextIs b v c ask d s → NextFits d ask
+fits_next true v c d ask s e fits h = absurd (true≢false e)
+fits_next false v c d ask s e fits h = record { asked = fits.asked; boxes = subst BoxesFit (sym h.1.boxes) fits.boxes; laid_fits = subst (λ z. LaidFits z (laid d ask)) (sym h.1.frozen_so) (by_event v h.0) }
+  where
+    by_event : (v : Event) → FirstIs v (laid c ask) (reach_ahead c ask) (places_of c ask) ask d → LaidFits (frozen_of c ask) (laid d ask)
+    by_event (events.Try t) f = by_stop (is_stop f.place) refl
+      where
+        by_stop : (t : Bool) → is_stop f.place ≡ t → LaidFits (frozen_of c ask) (laid d ask)
+        by_stop true e = subst (LaidFits (frozen_of c ask)) (sym (f.stops e).still) fits.laid_fits
+        by_stop false e = subst (LaidFits (frozen_of c ask)) (sym (f.goes e).whole) fits.laid_fits
+    by_event (events.Act a) f = without_fits (frozen_of c ask) a (laid c ask) (laid d ask) fits.laid_fits f.whole
+    by_event (events.Fired p) f = absurd f
+    by_event events.Empty f = subst (LaidFits (frozen_of c ask)) (sym (ap (λ p. p ++ ahead_of d ask) f.whole ∙ ahead_none f.waiting)) fits.laid_fits
+      where
+        none_ahead : (b : Bool) → (if b then [] else pruned_nodes ask.top_skip []) ≡ []
+        none_ahead true = refl
+        none_ahead false = refl
+
+        ahead_none : d.waiting ≡ [] → laid c ask ++ ahead_of d ask ≡ laid c ask
+        ahead_none e = ap (λ w. laid c ask ++ (if holds_box d.page then w else pruned_nodes ask.top_skip w)) e ∙ ap (λ w. laid c ask ++ w) (none_ahead (holds_box d.page)) ∙ append-nil (laid c ask)

@@ -103,6 +103,7 @@ pub record Topped (b d : Builder) (s t : Lists Node) (ask : Ask) (n g : Node) (n
   pub zed_is : zed (contents_of d t) ≡ frozen_of (contents_of b s) ask
   pub lasting : AllLasting (contents_of d t).page
   pub closed : holds_box (contents_of d t).page ≡ false
+  pub pruned : pruned_nodes ask.top_skip (contents_of d t).waiting ≡ (contents_of d t).waiting
   pub frozen : d.frozen ≡ Some (frozen_with b.frozen ask)
   pub underway : Underway (zed (contents_of d t)) d.course (contents_of d t).page (contents_of d t).waiting
   pub step : StepFits (zed (contents_of d t)) (contents_of d t).page (list_at t) g
@@ -185,6 +186,13 @@ module _ (b d : Builder) (s t : Lists Node) (ask : Ask) (n g : Node) (ns : List 
   topped_fits = step_fits (zed now) now.page (laid before ask) (list_at t) g (plain_of (list_at s) n ∷ map (plain_of (list_at s)) ns) (subst (λ x. LaidFits x (laid before ask)) (sym topped_zed) fits.laid_fits)
       (ap (λ m. now.page ++ m ∷ plain_of (list_at s) n ∷ map (plain_of (list_at s)) ns) glue_same ∙ ap (λ w. now.page ++ w) (sym topped_waiting) ∙ sym laid_is) glue_act glue_insertion
 
+  -- the glue vanishes, and comes again
+  again : pruned_nodes ask.top_skip now.waiting ≡ now.waiting
+  again =
+      ap (pruned_nodes ask.top_skip) topped_waiting
+      ∙ ap (λ (x : Node). pruned_nodes ask.top_skip (plain_of (list_at s) x ∷ plain_of (list_at s) n ∷ map (plain_of (list_at s)) ns)) glue_is
+      ∙ ap (pruned_nodes ask.top_skip) (sym first_waits) ∙ pruned ∙ sym topped_waiting
+
   pub topped : Topped b d s t ask n g ns
   topped = record {
     moves = topped_moves;
@@ -194,6 +202,7 @@ module _ (b d : Builder) (s t : Lists Node) (ask : Ask) (n g : Node) (ns : List 
     zed_is = topped_zed;
     lasting = topped_lasting;
     closed = ap holds_box topped_page ∙ no_box;
+    pruned = again;
     frozen = frozen;
     underway = topped_underway;
     step = topped_fits;

@@ -12,25 +12,25 @@ use Rattle.tb_builder.specs.declared.Event.{Event}
 use Rattle.tb_builder.specs.declared.Event.TheVariants as events
 use Rattle.tb_builder.specs.Reached.{also_reached, tried, reach_from, holds_box}
 use Rattle.tb_builder.specs.Places.{NoStop}
-use Rattle.tb_builder.specs.Contents.{Contents, contents_of, frozen_of}
+use Rattle.tb_builder.specs.Contents.{Contents, contents_of, frozen_of, laid}
 use Rattle.tb_builder.specs.Running.{CourseStands, Underway, AtStop, places_by, page_frozen, frozen_with, AllLasting, PageStands}
 use Rattle.tb_builder.specs.Turn.{Moves, Passes, GoesOn, StopsThere, TriesOn, StepIs, TurnBy, TurnIs, places_on}
 use Rattle.tb_builder.proofs.TurnLemmas.{Lays, lays_open, turns_on, goes_on, stops_there, made_on, frozen_as}
 use Rattle.tb_builder.proofs.MeetLemmas.{stays_from}
 
 -- what is answered
-pub stepped_turn : (o : Option Event) (z : Frozen) (k : Course) (ask : Ask) (c m d : Contents) → Lays z ask c m → m.stopped ≡ false → frozen_of d ask ≡ z → (d.stopped ≡ false → Lays z ask d d) → StepIs o z k m d → TurnBy o c d ask
-stepped_turn None z k ask c m d lays on f later st = turns_on z ask c m lays d d st.0 (later (st.2 ∙ on)) (st.2 ∙ on)
-stepped_turn (Some (events.Try t)) z k ask c m d lays on f later st = record {
+pub stepped_turn : (o : Option Event) (z : Frozen) (k : Course) (ask : Ask) (c m d : Contents) → Lays z ask c m → m.stopped ≡ false → frozen_of d ask ≡ z → (d.stopped ≡ false → Lays z ask d d) → (d.stopped ≡ true → laid d ask ≡ d.page ++ d.waiting) → StepIs o z k m d → TurnBy o c d ask
+stepped_turn None z k ask c m d lays on f later still st = turns_on z ask c m lays d d st.0 (later (st.2 ∙ on)) (st.2 ∙ on)
+stepped_turn (Some (events.Try t)) z k ask c m d lays on f later still st = record {
   line = st.line;
   place = st.place;
   made = made_on z ask c m lays t st.line st.place st.made;
   goes = λ go. goes_on z ask c m lays st.line st.place d d (st.goes go).0 (later (st.goes go).0.stopped) (st.goes go).0.stopped;
-  stops = λ stop. stops_there z ask c m lays st.line st.place k d (st.stops stop) f;
+  stops = λ stop. stops_there z ask c m lays st.line st.place k d (st.stops stop) f (still (st.stops stop).stopped);
 }
-stepped_turn (Some (events.Act a)) z k ask c m d lays on f later st = absurd st
-stepped_turn (Some (events.Fired p)) z k ask c m d lays on f later st = absurd st
-stepped_turn (Some events.Empty) z k ask c m d lays on f later st = absurd st
+stepped_turn (Some (events.Act a)) z k ask c m d lays on f later still st = absurd st
+stepped_turn (Some (events.Fired p)) z k ask c m d lays on f later still st = absurd st
+stepped_turn (Some events.Empty) z k ask c m d lays on f later still st = absurd st
 
 module _ (z : Frozen) (k : Course) (m d : Contents) (f : ℤ × ℤ) (same : page_frozen f d.classes d.boxes ≡ z) where
   going_page : (s : Bool) → d.stopped ≡ s → d.stopped ≡ false → Underway z k d.page d.waiting → PageStands (Some f) s k d
@@ -64,7 +64,7 @@ module _ (z : Frozen) (k : Course) (m d : Contents) (f : ℤ × ℤ) (same : pag
 
 -- the turn, from the step of the contents m that are laid out of those before
 module _ (b d : Builder) (s t : Lists Node) (ask : Ask) (o : Option Event) (m : Contents) (moves : Moves b s d t) (frozen : d.frozen ≡ Some (frozen_with b.frozen ask)) (opened : d.opened ≡ holds_box (contents_of d t).page)
-    (closed : d.opened ≡ false → AllLasting (contents_of d t).page) (lays : Lays (frozen_of (contents_of b s) ask) ask (contents_of b s) m) (on : m.stopped ≡ false) (later : d.stopped ≡ false → d.opened ≡ true)
+    (closed : d.opened ≡ false → AllLasting (contents_of d t).page) (lays : Lays (frozen_of (contents_of b s) ask) ask (contents_of b s) m) (on : m.stopped ≡ false) (later : d.stopped ≡ false → d.opened ≡ true) (still : d.stopped ≡ true → laid (contents_of d t) ask ≡ (contents_of d t).page ++ (contents_of d t).waiting)
     (st : StepIs o (frozen_of (contents_of b s) ask) d.course m (contents_of d t)) where
   same : frozen_of (contents_of d t) ask ≡ frozen_of (contents_of b s) ask
   same = (stays_from b d s t ask moves (inr frozen)).frozen_so
@@ -85,5 +85,5 @@ module _ (b d : Builder) (s t : Lists Node) (ask : Ask) (o : Option Event) (m : 
     room = room;
     shorter = shorter;
     stays = stays_from b d s t ask moves (inr frozen);
-    turned = stepped_turn o (frozen_of (contents_of b s) ask) d.course ask (contents_of b s) m (contents_of d t) lays on same (λ go. lays_open (frozen_of (contents_of b s) ask) ask (contents_of d t) same (sym opened ∙ later go)) st;
+    turned = stepped_turn o (frozen_of (contents_of b s) ask) d.course ask (contents_of b s) m (contents_of d t) lays on same (λ go. lays_open (frozen_of (contents_of b s) ask) ask (contents_of d t) same (sym opened ∙ later go)) still st;
   }

@@ -184,13 +184,14 @@ module _ (z : Frozen) (ask : Ask) (c m : Contents) (lays : Lays z ask c m) where
     stopped = on;
   }
 
-  pub stops_there : (line : ℕ) (b : Breakpoint) (k : Course) (d : Contents) → StopsThere z line b k m d → frozen_of d ask ≡ z → Stops (laid c ask) (reach_ahead c ask) (places_of c ask) ask line b d
-  stops_there line b k d s f = record {
+  pub stops_there : (line : ℕ) (b : Breakpoint) (k : Course) (d : Contents) → StopsThere z line b k m d → frozen_of d ask ≡ z → laid d ask ≡ d.page ++ d.waiting → Stops (laid c ask) (reach_ahead c ask) (places_of c ask) ask line b d
+  stops_there line b k d s f l = record {
     reach = lays.reach_is ∙ s.reach;
     reached = ap (λ x. breakpoints (reach_from x.limit (terms_after x) [] (d.page ++ d.waiting)).reached) f ∙ s.reached ∙ ap (λ bs. bs ++ b ∷ []) (sym lays.places_is);
     passed = ap (λ x. (reach_from x.limit (terms_after x) [] (d.page ++ d.waiting)).passed) f ∙ s.passed;
     beyond = ap (λ x. (reach_from x.limit (terms_after x) [] (d.page ++ d.waiting)).beyond) f ∙ s.beyond;
     whole = (λ i. s.page i ++ s.waiting i) ∙ sym lays.laid_is;
+    still = l ∙ (λ i. s.page i ++ s.waiting i) ∙ sym lays.laid_is;
     stopped = s.stopped;
   }
 

@@ -100,6 +100,7 @@ pub record Stops (ns : List PlainNode) (w : Reach) (bs : List Breakpoint) (ask :
   pub passed : (reach_whole d ask).passed ≡ d.page
   pub beyond : (reach_whole d ask).beyond ≡ d.waiting
   pub whole : d.page ++ d.waiting ≡ ns
+  pub still : laid d ask ≡ ns
   pub stopped : d.stopped ≡ true
 
 -- a legal place was tried, the first of what is reached; its cost is compared with the least of the page's earlier places
