@@ -90,19 +90,6 @@ sound_from b d s t sound own opened page stands = record {
   page = stands;
 }
 
--- a store that holds the same lists
-own_spare : (b : Ids) (s : Lists Node) (spare : ℕ) → IsOwned b s → IsOwned b (record { lists = s.lists; spare = spare })
-own_spare b s spare own = record { live = own.live; differ = own.differ; between = own.between; void_empty = own.void_empty; plain_lists = own.plain_lists; classes = own.classes; known = own.known }
-
-sound_spare : (b : Builder) (s : Lists Node) (spare : ℕ) → IsSound b s → IsSound b (record { lists = s.lists; spare = spare })
-sound_spare b s spare sound = record { own = own_spare (ids_of b) s spare sound.own; opened = sound.opened; closed = sound.closed; page = sound.page }
-
-pub sound_same : (b : Builder) (s t : Lists Node) → t.lists ≡ s.lists → IsSound b s → IsSound b t
-sound_same b s t e sound = subst (λ (m : FinMap nat_cmp (List Node)). IsSound b (record { lists = m; spare = t.spare })) (sym e) (sound_spare b s t.spare sound)
-
-pub lacks_same : (b : Ids) (s t : Lists Node) (q : ℕ) → t.lists ≡ s.lists → Lacks q (owned b s) → Lacks q (owned b t)
-lacks_same b s t q e h = subst (λ (m : FinMap nat_cmp (List Node)). Lacks q (owned b (record { lists = m; spare = t.spare }))) (sym e) h
-
 -- ---- a node comes behind what waits
 
 module _ (b : Ids) (s t : Lists Node) (n : Node) (own : IsOwned b s) (j : NodesJoin b s (n ∷ [])) (e : t.lists ≡ with_list s b.waiting (list_at s b.waiting ++ n ∷ [])) where

@@ -26,7 +26,7 @@ use Rattle.tb_builder.proofs.MoveLemmas.{list_same, list_other, get_other, live_
 -- ---- one list more
 
 -- an id that named no list is none of those that name one
-fresh_lacks : (t : Lists Node) (l : ℕ) (ids : List ℕ) → get t.lists l ≡ None → AllLive t ids → Lacks l ids
+pub fresh_lacks : (t : Lists Node) (l : ℕ) (ids : List ℕ) → get t.lists l ≡ None → AllLive t ids → Lacks l ids
 fresh_lacks t l [] none live = tt
 fresh_lacks t l (x ∷ xs) none live = ((λ e. true≢false (sym (ap (λ q. is_some (get t.lists q)) e ∙ live.0) ∙ ap is_some none)), fresh_lacks t l xs none live.1)
 
@@ -43,7 +43,7 @@ empty-append : (t : Lists Node) (xs ys : List ℕ) → AllEmpty t xs → AllEmpt
 empty-append t [] ys a b = b
 empty-append t (x ∷ xs) ys a b = (a.0, empty-append t xs ys a.1 b)
 
-differ_last : (xs : List ℕ) (l : ℕ) → AllDiffer xs → Lacks l xs → AllDiffer (xs ++ l ∷ [])
+pub differ_last : (xs : List ℕ) (l : ℕ) → AllDiffer xs → Lacks l xs → AllDiffer (xs ++ l ∷ [])
 differ_last [] l d h = (tt, tt)
 differ_last (x ∷ xs) l d h = (lacks-append x xs (l ∷ []) d.0 ((λ e. h.0 (sym e)), tt), differ_last xs l d.1 h.1)
 

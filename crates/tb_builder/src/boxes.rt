@@ -65,6 +65,7 @@ impl Builder {
         requires apart { Lacks into (owned (ids_of self.old) store.old) }
         ensures sound { IsSound self.new store.new }
         ensures contents { contents_of self.new store.new ≡ record (contents_of self.old store.old) { boxes = with_void class (contents_of self.old store.old).boxes } }
+        ensures spare { store.new.spare ≡ store.old.spare }
         ensures taken { Taken store.old store.new into (box_content (contents_of self.old store.old).boxes class) }
         ensures others { (q : ℕ) → q ≢ into → Lacks q (owned (ids_of self.old) store.old) → get store.new.lists q ≡ get store.old.lists q }
         ensures keeps { (q : ℕ) → Lacks q (owned (ids_of self.old) store.old) → Lacks q (owned (ids_of self.new) store.new) }

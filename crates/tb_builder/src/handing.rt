@@ -22,7 +22,8 @@ fn put_in_front(store: &mut Lists<Node>, a: ListId, b: ListId, c: ListId)
     requires apart { a ≢ b }
     requires first_apart { a ≢ c }
     requires second_apart { b ≢ c }
-    ensures { InFront store.old store.new a b c }
+    ensures front { InFront store.old store.new a b c }
+    ensures spare { store.new.spare ≡ store.old.spare }
 {
     store.append(a, b);
     store.append(a, c);
@@ -59,6 +60,7 @@ impl Builder {
           waiting = (contents_of self.old store.old).held ++ (plain_list store.old list ++ (contents_of self.old store.old).waiting);
           held = [];
         } }
+        ensures spare { store.new.spare ≡ store.old.spare }
         ensures emptied { get store.new.lists list ≡ Some [] }
         ensures others { (q : ℕ) → q ≢ list → Lacks q (owned (ids_of self.old) store.old) → get store.new.lists q ≡ get store.old.lists q }
         ensures keeps { (q : ℕ) → Lacks q (owned (ids_of self.old) store.old ++ inner_ids (list_at store.old list)) → Lacks q (owned (ids_of self.new) store.new) }

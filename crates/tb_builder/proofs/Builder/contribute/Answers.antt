@@ -1,7 +1,8 @@
-use Rattle.std.proofs.Common.{◌∷◌, []}
-use Rattle.tb_builder.specs.Owned.{ids_of, owned, inner_ids}
+use Rattle.std.proofs.Common.{◌∷◌, [], sym, subst}
+use Rattle.tb_builder.specs.Owned.{Lacks, ids_of, owned, inner_ids}
 use Rattle.tb_builder.proofs.OwnedLemmas.{lacks-left}
-use Rattle.tb_builder.proofs.JoinLemmas.{pushed_after, sound_same, lacks_same, contribute_sound, contributed, grown_others, grown_keeps}
+use Rattle.tb_builder.proofs.SpareLemmas.{sound_still, owned_still}
+use Rattle.tb_builder.proofs.JoinLemmas.{pushed_after, contribute_sound, contributed, grown_others, grown_keeps}
 use Rattle.tb_builder.proofs.Builder.contribute.Goals as goal
 
 pub returns-clause-sound : goal.returns-clause-sound
@@ -25,7 +26,7 @@ returns-clause-keeps c = λ q h.
     grown_keeps (ids_of c.args.self.now) c.args.store.now c.push_back.new.self c.args.n c.requires.sound.own c.requires.joins e q h
 
 pub returns-in_err-reserve-clause-sound : goal.returns-in_err-reserve-clause-sound
-returns-in_err-reserve-clause-sound c = sound_same c.args.self.now c.args.store.now c.reserve.new.self c.reserve.ensures.lists c.requires.sound
+returns-in_err-reserve-clause-sound c = sound_still c.args.store.now c.reserve.new.self c.reserve.ensures.lists c.args.self.now c.requires.sound
 
 pub returns-in_err-reserve-clause-keeps : goal.returns-in_err-reserve-clause-keeps
-returns-in_err-reserve-clause-keeps c = λ q h. lacks_same (ids_of c.args.self.now) c.args.store.now c.reserve.new.self q c.reserve.ensures.lists (lacks-left q (owned (ids_of c.args.self.now) c.args.store.now) (inner_ids (c.args.n ∷ [])) h)
+returns-in_err-reserve-clause-keeps c = λ q h. subst (Lacks q) (sym (owned_still c.args.store.now c.reserve.new.self c.reserve.ensures.lists (ids_of c.args.self.now))) (lacks-left q (owned (ids_of c.args.self.now) c.args.store.now) (inner_ids (c.args.n ∷ [])) h)

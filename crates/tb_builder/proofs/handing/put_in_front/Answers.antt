@@ -18,5 +18,5 @@ append-requires-3-clause-first_live c = (wrote_two c.append.new.self c.append-2.
 pub append-requires-3-clause-second_live : goal.append-requires-3-clause-second_live
 append-requires-3-clause-second_live c = (wrote_two c.append.new.self c.append-2.new.self c.args.a c.args.c _ [] c.requires.first_apart c.append-2.ensures.joined).first_live
 
-pub returns : goal.returns
-returns c = in_front c.args.store.now c.append.new.self c.append-2.new.self c.append-3.new.self c.args.a c.args.b c.args.c c.requires.apart c.requires.first_apart c.requires.second_apart c.append.ensures.joined c.append-2.ensures.joined c.append-3.ensures.joined
+pub returns-clause-front : goal.returns-clause-front
+returns-clause-front c = in_front c.args.store.now c.append.new.self c.append-2.new.self c.append-3.new.self c.args.a c.args.b c.args.c c.requires.apart c.requires.first_apart c.requires.second_apart c.append.ensures.joined c.append-2.ensures.joined c.append-3.ensures.joined
