@@ -45,7 +45,8 @@ impl Builder {
         ensures sound { IsSound self.new store.new }
         ensures keeps { Keeps (ids_of self.old) store.old (ids_of self.new) store.new }
         ensures body { IfOk result (λ e. IsGivenOut e store.old (ids_of self.new) store.new) }
-        ensures err { OnErr result ((self.new ≡ self.old) × (store.new.lists ≡ store.old.lists)) }
+        ensures builder { OnErr result (self.new ≡ self.old) }
+        ensures lists { OnErr result (store.new.lists ≡ store.old.lists) }
     {
         if self.stopped {
             let page = self.fire(store)?;
