@@ -1,11 +1,19 @@
 -- What becomes of the insertions before a break, as the account of the page tells it.
-use Rattle.std.specs.Prelude.{ℕ, ◌==◌, Bool, true, false, List, [], ◌∷◌, ◌++◌, length, take, drop, nat_lt, nat_le, Option, Some, None, if◌then◌else◌}
-use Rattle.tb_node.specs.Plain.{Leaf, Inserted, PlainKind, plain, ins, act}
+use Rattle.std.specs.Prelude.{◌≡◌, map, ℕ, ◌==◌, Bool, true, false, List, [], ◌∷◌, ◌++◌, length, take, drop, nat_lt, nat_le, Option, Some, None, if◌then◌else◌}
+use Rattle.std.specs.FinMap.{get}
+use Rattle.tb_pool.specs.Lists.{Lists, list_at}
+use Rattle.tb_node.specs.declared.Node.{Node}
+use Rattle.tb_node.specs.declared.Insertion.{Insertion}
+use Rattle.tb_node.specs.Plain.{Leaf, leaf_of, Inserted, inserted_of, PlainKind, plain, ins, act, PlainNode, plain_of, on_line}
 use Rattle.tb_break.specs.Prune.{pruned_leaves}
 use Rattle.tb_insert.specs.Account.{Label, whole, split, late}
 use Rattle.tb_builder.specs.declared.Share.{Share}
 use Rattle.tb_builder.specs.declared.Share.TheVariants.{All, Front, Nothing}
+use Rattle.tb_builder.specs.declared.ClassList.{ClassList}
+use Rattle.tb_builder.specs.declared.Builder.{Builder}
 use Rattle.tb_builder.specs.Fired.{Boxed, content_of, unless_empty}
+use Rattle.tb_builder.specs.Contents.{contents_of}
+use Rattle.tb_builder.specs.Owned.{Lacks, ids_of, owned, IsOwned}
 
 -- what a label gives: an insertion that is split at its list's end gives all
 abbrev pub share_of : Label → Inserted → Share
@@ -51,3 +59,51 @@ box_with k ls b = if b.number == k then record b { content = Some (content_of b.
 -- the box after the share of an insertion
 abbrev pub box_shared : Share → Inserted → Boxed → Boxed
 box_shared s i b = if share_gives s then box_with i.class (share_given s i) b else b
+
+-- ---- the boxes
+
+-- the boxes, where that of this class is given something
+abbrev pub opened : ℕ → List ClassList → List ClassList
+opened k [] = []
+opened k (e ∷ es) = if e.class.number == k then record e { void = false } ∷ es else e ∷ opened k es
+
+-- the list of the box of this class
+abbrev pub box_list : ℕ → List ClassList → ℕ
+box_list k [] = 0
+box_list k (e ∷ es) = if e.class.number == k then e.list else box_list k es
+
+-- ---- the builder while the nodes of its page are sorted
+
+-- the lists stay the builder's, lists that were not its own stay as they are and are not its own, and what waits stays
+pub record Sorts (b : Builder) (s : Lists Node) (d : Builder) (t : Lists Node) : Type 0 where
+  pub own : IsOwned (ids_of d) t
+  pub others : (q : ℕ) → Lacks q (owned (ids_of b) s) → get t.lists q ≡ get s.lists q
+  pub keeps : (q : ℕ) → Lacks q (owned (ids_of b) s) → Lacks q (owned (ids_of d) t)
+  pub builder : d ≡ record b { boxes = d.boxes }
+  pub classes : (contents_of d t).classes ≡ (contents_of b s).classes
+  pub waiting : (contents_of d t).waiting ≡ (contents_of b s).waiting
+
+-- of an insertion that is first on the page, these nodes went to the box of its class, and these are left
+pub record Gives (b : Builder) (s : Lists Node) (d : Builder) (t : Lists Node) (n : Node) (i : Insertion) (gave kept : List Node) : Type 0 where
+  pub sorts : Sorts b s d t
+  pub page : list_at t b.page ≡ list_at s b.page
+  pub behind : (ns : List Node) → list_at s b.page ≡ n ∷ ns → map (plain_of (list_at t)) ns ≡ map (plain_of (list_at s)) ns
+  pub held : (contents_of d t).held ≡ (contents_of b s).held
+  pub boxes : (contents_of d t).boxes ≡ map (box_with i.class (map leaf_of gave)) (contents_of b s).boxes
+  pub left : list_at t i.list ≡ kept
+
+-- the first node of the page went, and these are held of it
+pub record Takes (b : Builder) (s : Lists Node) (d : Builder) (t : Lists Node) (n : Node) (more : List PlainNode) : Type 0 where
+  pub sorts : Sorts b s d t
+  pub page : (ns : List Node) → list_at s b.page ≡ n ∷ ns → (contents_of d t).page ≡ map (plain_of (list_at s)) ns
+  pub held : (contents_of d t).held ≡ (contents_of b s).held ++ more
+
+-- the same, where the boxes stay
+pub record Drops (b : Builder) (s : Lists Node) (d : Builder) (t : Lists Node) (n : Node) (more : List PlainNode) : Type 0 where
+  pub takes : Takes b s d t n more
+  pub boxes : (contents_of d t).boxes ≡ (contents_of b s).boxes
+
+-- the insertion that was first on the page went where its share says
+pub record Settles (b : Builder) (s : Lists Node) (d : Builder) (t : Lists Node) (n : Node) (i : Insertion) (share : Share) : Type 0 where
+  pub takes : Takes b s d t n (on_line n.line (share_held share (inserted_of (list_at s) i)))
+  pub boxes : (contents_of d t).boxes ≡ map (box_shared share (inserted_of (list_at s) i)) (contents_of b s).boxes
