@@ -13,9 +13,9 @@ use Rattle.tb_insert.specs.declared.Class.{Class}
 use Rattle.tb_builder.specs.declared.ClassList.{ClassList}
 use Rattle.tb_builder.specs.Fired.{Boxed, content_of}
 use Rattle.tb_builder.specs.Contents.{boxed_of, content_by, leaf_list}
-use Rattle.tb_builder.specs.Owned.{Lacks, AllDiffer, AllLive, VoidEmpty, box_ids, has_class, ClassesFit, IsFirst}
+use Rattle.tb_builder.specs.Owned.{Lacks, AllDiffer, AllLive, AllPlain, HoldPlain, VoidEmpty, box_ids, has_class, ClassesFit, IsFirst}
 use Rattle.tb_builder.specs.Firing.{opened, box_list, box_with}
-use Rattle.tb_builder.proofs.OwnedLemmas.{lists_same}
+use Rattle.tb_builder.proofs.OwnedLemmas.{lists_same, lacks-right}
 
 behind_first : (e : ClassList) (es : List ClassList) (number k : ℕ) (d : ClassList) → IsFirst (e ∷ es) number (suc k) d → IsFirst es number k d
 behind_first e es number k d h = record { within = let w : suc k < length (e ∷ es) = h.within in omega arith; there = h.there; before = λ j lt. h.before (suc j) (omega arith) }
@@ -148,3 +148,20 @@ opened-boxes s t k more (e ∷ es) h c d o v grown = by_class (e.class.number ==
         (λ i. ((ap (boxed_with e) (lists_same s t e.list (o.0 (box_apart e.list k es h d.0)))
         ∙ sym (ap (λ b. if b then record (boxed_of s e) { content = Some (content_of (boxed_of s e).content ++ map leaf_of more) } else boxed_of s e) is)) i)
         ∷ later h o.1 grown i)
+
+-- the list of a box is none of those that the lists of all boxes differ from
+pub box_lacks : (k : ℕ) (es : List ClassList) (ids : List ℕ) → has_class (map (λ e. e.class) es) k ≡ true → AllDiffer (box_ids es ++ ids) → Lacks (box_list k es) ids
+box_lacks k [] ids h d = absurd (true≢false (sym h))
+box_lacks k (e ∷ es) ids h d = by_class (e.class.number == k) h (λ x. box_lacks k es ids x d.1)
+  where
+    by_class : (b : Bool) → (b || has_class (map (λ e. e.class) es) k) ≡ true → (has_class (map (λ e. e.class) es) k ≡ true → Lacks (box_list k es) ids) → Lacks (if b then e.list else box_list k es) ids
+    by_class true h later = lacks-right e.list (box_ids es) ids d.0
+    by_class false h later = later h
+
+pub box_holds_plain : (s : Lists Node) (k : ℕ) (es : List ClassList) → has_class (map (λ e. e.class) es) k ≡ true → HoldPlain s (box_ids es) → AllPlain (list_at s (box_list k es))
+box_holds_plain s k [] h p = absurd (true≢false (sym h))
+box_holds_plain s k (e ∷ es) h p = by_class (e.class.number == k) h (λ x. box_holds_plain s k es x p.1)
+  where
+    by_class : (b : Bool) → (b || has_class (map (λ e. e.class) es) k) ≡ true → (has_class (map (λ e. e.class) es) k ≡ true → AllPlain (list_at s (box_list k es))) → AllPlain (list_at s (if b then e.list else box_list k es))
+    by_class true h later = p.0
+    by_class false h later = later h
