@@ -370,3 +370,11 @@ module _ (b : Ids) (s : Lists Node) (n : Node) (ns : List Node) (i : Insertion) 
         known_is = subst (AllKnown (classes_of b)) (sym (append_assoc (list_at s b.held) (m ∷ []) (ns ++ list_at s b.waiting)))
             (known-append (classes_of b) (list_at s b.held) (m ∷ (ns ++ list_at s b.waiting)) known_all.0 (known, known_all.1.1));
       }
+
+-- the insertion that is first is of one of the classes, also where it has another height
+module _ (b : Ids) (s : Lists Node) (n : Node) (ns : List Node) (i : Insertion) (own : IsOwned b s) (first : list_at s b.page ≡ n ∷ ns) (is : insertion_of_kind n.kind ≡ Some i) where
+  pub first_known : is_known (classes_of b) n.kind ≡ true
+  first_known = ap (is_known (classes_of b)) (insertion_is n.kind i is) ∙ class_there b s n ns i own first is
+
+  pub first_list : inner_of n.kind ≡ Some i.list
+  first_list = ap inner_of (insertion_is n.kind i is)

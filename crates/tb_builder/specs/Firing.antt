@@ -1,5 +1,5 @@
 -- What becomes of the insertions before a break, as the account of the page tells it.
-use Rattle.std.specs.Prelude.{◌≡◌, map, ℕ, ◌==◌, Bool, true, false, List, [], ◌∷◌, ◌++◌, length, take, drop, nat_lt, nat_le, Option, Some, None, if◌then◌else◌}
+use Rattle.std.specs.Prelude.{◌≡◌, ◌≤◌, map, ℕ, ◌==◌, Bool, true, false, List, [], ◌∷◌, ◌++◌, length, take, drop, nat_lt, nat_le, Option, Some, None, if◌then◌else◌}
 use Rattle.std.specs.FinMap.{get}
 use Rattle.tb_pool.specs.Lists.{Lists, list_at}
 use Rattle.tb_node.specs.declared.Node.{Node}
@@ -40,6 +40,12 @@ abbrev pub share_given : Share → Inserted → List Leaf
 share_given All i = i.inner
 share_given (Front k) i = take k i.inner
 share_given Nothing i = []
+
+-- the place is within a list of this length
+abbrev pub IsShareWithin : Share → ℕ → Type 0
+IsShareWithin All n = Unit {0}
+IsShareWithin (Front k) n = k ≤ n
+IsShareWithin Nothing n = Unit {0}
 
 abbrev pub share_gives : Share → Bool
 share_gives All = true

@@ -1,15 +1,28 @@
 //! What becomes of the insertions before a break.
 
-ghost use Rattle.std.specs.Prelude.{◌≡◌, ◌<◌, List, [], ◌∷◌, ◌++◌, map, true};
-ghost use Rattle.tb_node.specs.Plain.{PlainNode};
+ghost use Rattle.std.specs.Prelude.{◌≡◌, ◌<◌, ◌≤◌, ◌+◌, List, [], ◌∷◌, ◌++◌, map, length, take, drop, true, slice_get};
+ghost use Rattle.tb_pool.specs.Lists.{list_at};
+ghost use Rattle.tb_node.specs.Fit.{shapes, NodesFit};
+ghost use Rattle.tb_node.specs.Small.{IsAmount};
+ghost use Rattle.tb_node.specs.Plain.{PlainNode, plain_of, inserted_of, on_line};
+ghost use Rattle.tb_node.specs.declared.Kind.TheVariants.{Ins as an_insertion};
+ghost use Rattle.tb_break.specs.Prune.{pruned_list};
 ghost use Rattle.tb_insert.specs.Account.{Frozen, labelled};
 ghost use Rattle.tb_insert.specs.Running.{AccountStands, cut_in, last_let_in};
-ghost use Rattle.tb_builder.specs.Owned.{has_class, ids_of, IsOwned};
+ghost use Rattle.tb_builder.specs.Owned.{has_class, ids_of, inner_of, is_known, classes_of, IsOwned};
+ghost use Rattle.tb_builder.specs.Fired.{unless_empty};
+ghost use Rattle.tb_builder.specs.Contents.{leaf_list};
+ghost use Rattle.tb_builder.specs.Next.{SizesFit};
+ghost use Rattle.tb_builder.specs.Room.{RoomFits};
 ghost use Rattle.tb_builder.specs.Running.{insertion_of_kind};
-ghost use Rattle.tb_builder.specs.Firing.{share_up_to, share_told, opened, box_list, Gives, Takes, Drops, Settles};
+ghost use Rattle.tb_builder.specs.Firing.{share_up_to, share_told, opened, box_list, IsShareWithin, Gives, Drops, Settles};
 
+use crate::measuring::pruned_size;
+use crate::moving::drop_first;
+use crate::splitting::{give_front, pass_on};
 use crate::{Builder, Course, Share};
-use tb_pool::ListId;
+use tb_node::{Insertion, Kind, Node};
+use tb_pool::{ListId, Lists};
 
 // All, where the insertion stands no further than the last of its class that was let in.
 fn share_up_to(last: Option<usize>, index: usize) -> Share
@@ -66,5 +79,112 @@ impl Builder {
         };
         self.boxes[k].void = false;
         self.boxes[k].list
+    }
+    // All nodes of the insertion that is first on the page go to the box of its class.
+    fn give_all(&mut self, store: &mut Lists<Node>, n: &Node, i: &Insertion)
+        requires own { IsOwned (ids_of self.old) store.old }
+        requires first { slice_get (list_at store.old self.old.page) 0 ≡ Some n.now }
+        requires insertion { insertion_of_kind n.now.kind ≡ Some i.now }
+        ensures gives { Gives self.old store.old self.new store.new n.now i.now (list_at store.old i.now.list) [] }
+        ensures spare { store.new.spare ≡ store.old.spare }
+    {
+        let own = self.open_box(i.class);
+        store.append(own, i.list);
+    }
+
+    // What stands before a place of the insertion that is first on the page goes to the box of its class; the rest is
+    // pruned.
+    fn give_part(&mut self, store: &mut Lists<Node>, n: &Node, i: &Insertion, place: usize)
+        requires own { IsOwned (ids_of self.old) store.old }
+        requires first { slice_get (list_at store.old self.old.page) 0 ≡ Some n.now }
+        requires insertion { insertion_of_kind n.now.kind ≡ Some i.now }
+        requires within { place ≤ length (list_at store.old i.now.list) }
+        requires room { 0 < store.old.spare }
+        requires top { IsAmount i.now.split_top }
+        requires nodes { NodesFit (shapes store.old i.now.list) }
+        ensures gives { Gives self.old store.old self.new store.new n.now i.now (take place (list_at store.old i.now.list)) (pruned_list i.now.split_top (drop place (list_at store.old i.now.list))) }
+        ensures spare { store.old.spare ≤ store.new.spare + 1 }
+    {
+        let own = self.open_box(i.class);
+        give_front(store, own, i.list, self.rest, place, i.split_top);
+    }
+
+    // The insertion that is first on the page goes, with its list, which is empty.
+    fn drop_insertion(&self, store: &mut Lists<Node>, n: &Node, i: &Insertion)
+        requires own { IsOwned (ids_of self.now) store.old }
+        requires first { slice_get (list_at store.old self.now.page) 0 ≡ Some n.now }
+        requires insertion { insertion_of_kind n.now.kind ≡ Some i.now }
+        requires empty { list_at store.old i.now.list ≡ [] }
+        ensures drops { Drops self.now store.old self.now store.new n.now [] }
+        ensures spare { store.old.spare ≤ store.new.spare }
+    {
+        drop_first(store, self.page);
+        store.close(i.list);
+    }
+
+    // The insertion that is first on the page is held as this node, which names the same list.
+    fn hold(&self, store: &mut Lists<Node>, n: &Node, i: &Insertion, held: Node)
+        requires own { IsOwned (ids_of self.now) store.old }
+        requires first { slice_get (list_at store.old self.now.page) 0 ≡ Some n.now }
+        requires insertion { insertion_of_kind n.now.kind ≡ Some i.now }
+        requires same { inner_of held.kind ≡ inner_of n.now.kind }
+        requires known { is_known (classes_of (ids_of self.now)) held.kind ≡ true }
+        ensures drops { Drops self.now store.old self.now store.new n.now (plain_of (list_at store.old) held ∷ []) }
+        ensures spare { store.new.spare ≡ store.old.spare }
+    {
+        pass_on(store, self.page, self.held, held);
+    }
+
+    // What is left of the insertion that is first on the page is held, unless it is empty.
+    fn keep_rest(&self, store: &mut Lists<Node>, n: &Node, i: &Insertion)
+        requires own { IsOwned (ids_of self.now) store.old }
+        requires first { slice_get (list_at store.old self.now.page) 0 ≡ Some n.now }
+        requires insertion { insertion_of_kind n.now.kind ≡ Some i.now }
+        requires fits { RoomFits (shapes store.old i.now.list) }
+        ensures drops { Drops self.now store.old self.now store.new n.now (on_line n.now.line (unless_empty (inserted_of (list_at store.old) i.now) (leaf_list store.old i.now.list))) }
+        ensures spare { store.old.spare ≤ store.new.spare }
+    {
+        if store.len(i.list) == 0 {
+            self.drop_insertion(store, n, i);
+            return;
+        }
+        let rest = with_height(n, i, pruned_size(store, i.list));
+        self.hold(store, n, i, rest);
+    }
+
+    // The insertion that is first on the page goes where its share says.
+    fn settle(&mut self, store: &mut Lists<Node>, n: &Node, i: &Insertion, share: Share)
+        requires own { IsOwned (ids_of self.old) store.old }
+        requires first { slice_get (list_at store.old self.old.page) 0 ≡ Some n.now }
+        requires insertion { insertion_of_kind n.now.kind ≡ Some i.now }
+        requires within { IsShareWithin share (length (list_at store.old i.now.list)) }
+        requires room { 0 < store.old.spare }
+        requires top { IsAmount i.now.split_top }
+        requires nodes { NodesFit (shapes store.old i.now.list) }
+        requires sizes { SizesFit (shapes store.old i.now.list) }
+        ensures settles { Settles self.old store.old self.new store.new n.now i.now share }
+        ensures spare { store.old.spare ≤ store.new.spare + 1 }
+    {
+        match share {
+            Share::All => {
+                self.give_all(store, n, i);
+                self.drop_insertion(store, n, i);
+            }
+            Share::Front(place) => {
+                self.give_part(store, n, i, place);
+                self.keep_rest(store, n, i);
+            }
+            Share::Nothing => self.hold(store, n, i, *n),
+        }
+    }
+}
+
+// The insertion with another height.
+fn with_height(n: &Node, i: &Insertion, height: i64) -> Node
+    ensures { result ≡ record { line = n.now.line; kind = an_insertion (record i.now { height = height }) } }
+{
+    Node {
+        line: n.line,
+        kind: Kind::Ins(Insertion { height, ..*i }),
     }
 }

@@ -1,8 +1,9 @@
 //! An insertion is split where the page breaks.
 
-ghost use Rattle.std.specs.Prelude.{◌≡◌, ◌≢◌, ◌<◌, ◌≤◌, ◌+◌, ◌++◌, [], take, drop, length};
+ghost use Rattle.std.specs.Prelude.{◌≡◌, ◌≢◌, ◌<◌, ◌≤◌, ◌+◌, ◌++◌, List, [], ◌∷◌, take, drop, length};
 ghost use Rattle.std.specs.FinMap.{insert};
 ghost use Rattle.tb_pool.specs.Lists.{IsLive, list_at, with_list};
+ghost use Rattle.tb_node.specs.declared.Node.{Node as NodeOf};
 ghost use Rattle.tb_node.specs.Fit.{shapes, NodesFit};
 ghost use Rattle.tb_node.specs.Small.{IsAmount};
 ghost use Rattle.tb_break.specs.Prune.{pruned_list};
@@ -39,4 +40,19 @@ pub fn give_front(
     store.append(to, from);
     store.append(from, between);
     prune(store, from, top_skip);
+}
+
+// The first node of a list goes, and this one comes to the end of another.
+#[tactic(auto, using(tb_pool::proofs::MapLemmas::list_steps))]
+pub fn pass_on(store: &mut Lists<Node>, from: ListId, to: ListId, last: Node)
+    requires from_live { IsLive store.old from }
+    requires to_live { IsLive store.old to }
+    requires apart { from ≢ to }
+    ensures passed { (n : NodeOf) (ns : List NodeOf) → list_at store.old from ≡ n ∷ ns → store.new.lists ≡ insert (with_list store.old from ns) to (list_at store.old to ++ last ∷ []) }
+    ensures spare { store.new.spare ≡ store.old.spare }
+{
+    let Some(_) = store.pop_front(from) else {
+        return;
+    };
+    store.push_back(to, last);
 }
