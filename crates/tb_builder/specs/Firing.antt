@@ -1,19 +1,22 @@
 -- What becomes of the insertions before a break, as the account of the page tells it.
-use Rattle.std.specs.Prelude.{◌≡◌, ◌≤◌, map, ℕ, ◌==◌, Bool, true, false, List, [], ◌∷◌, ◌++◌, length, take, drop, nat_lt, nat_le, Option, Some, None, if◌then◌else◌}
+use Rattle.std.specs.Prelude.{◌≡◌, ◌≢◌, ◌≤◌, map, ℕ, ◌==◌, Bool, true, false, List, [], ◌∷◌, ◌++◌, length, take, drop, nat_lt, nat_le, Option, Some, None, if◌then◌else◌}
 use Rattle.std.specs.FinMap.{get}
-use Rattle.tb_pool.specs.Lists.{Lists, list_at}
+use Rattle.tb_pool.specs.Lists.{Lists, IsLive, list_at}
 use Rattle.tb_node.specs.declared.Node.{Node}
 use Rattle.tb_node.specs.declared.Insertion.{Insertion}
-use Rattle.tb_node.specs.Plain.{Leaf, leaf_of, Inserted, inserted_of, PlainKind, plain, ins, act, PlainNode, plain_of, on_line}
+use Rattle.tb_node.specs.Plain.{Leaf, leaf_of, Inserted, inserted_of, PlainKind, plain, ins, act, PlainNode, plain_of, on_line, without_insertions}
 use Rattle.tb_break.specs.Prune.{pruned_leaves}
-use Rattle.tb_insert.specs.Account.{Label, whole, split, late}
+use Rattle.tb_insert.specs.declared.Account.{Account}
+use Rattle.tb_insert.specs.Account.{Frozen, Label, whole, split, late, labelled}
+use Rattle.tb_insert.specs.Running.{AccountStands}
 use Rattle.tb_builder.specs.declared.Share.{Share}
 use Rattle.tb_builder.specs.declared.Share.TheVariants.{All, Front, Nothing}
 use Rattle.tb_builder.specs.declared.ClassList.{ClassList}
 use Rattle.tb_builder.specs.declared.Builder.{Builder}
-use Rattle.tb_builder.specs.Fired.{Boxed, content_of, unless_empty}
-use Rattle.tb_builder.specs.Contents.{contents_of}
-use Rattle.tb_builder.specs.Owned.{Lacks, ids_of, owned, IsOwned}
+use Rattle.tb_builder.specs.Fired.{Boxed, content_of, unless_empty, box_after, held_insertions}
+use Rattle.tb_builder.specs.Contents.{Contents, contents_of}
+use Rattle.tb_builder.specs.Owned.{Lacks, inner_ids, ids_of, owned, IsOwned}
+use Rattle.tb_builder.specs.Next.{NodeFits}
 
 -- what a label gives: an insertion that is split at its list's end gives all
 abbrev pub share_of : Label → Inserted → Share
@@ -113,3 +116,35 @@ pub record Drops (b : Builder) (s : Lists Node) (d : Builder) (t : Lists Node) (
 pub record Settles (b : Builder) (s : Lists Node) (d : Builder) (t : Lists Node) (n : Node) (i : Insertion) (share : Share) : Type 0 where
   pub takes : Takes b s d t n (on_line n.line (share_held share (inserted_of (list_at s) i)))
   pub boxes : (contents_of d t).boxes ≡ map (box_shared share (inserted_of (list_at s) i)) (contents_of b s).boxes
+
+-- ---- the page is sorted, from its front, into its body, the boxes and what is held
+
+-- the lists stay the builder's but for the body, and the body holds no insertion
+pub record SortsTo (b : Builder) (s : Lists Node) (d : Builder) (t : Lists Node) (body : ℕ) : Type 0 where
+  pub own : IsOwned (ids_of d) t
+  pub others : (q : ℕ) → q ≢ body → Lacks q (owned (ids_of b) s) → get t.lists q ≡ get s.lists q
+  pub keeps : (q : ℕ) → Lacks q (owned (ids_of b) s) → Lacks q (owned (ids_of d) t)
+  pub builder : d ≡ record b { boxes = d.boxes }
+  pub classes : (contents_of d t).classes ≡ (contents_of b s).classes
+  pub waiting : (contents_of d t).waiting ≡ (contents_of b s).waiting
+  pub body_live : IsLive t body
+  pub body_plain : inner_ids (list_at t body) ≡ []
+
+-- the nodes before were sorted; the page is what is left of the list that the account stands for
+pub record Sorted (z : Frozen) (boxes : List Boxed) (marked : List PlainNode) (d : Contents) (body before : List PlainNode) : Type 0 where
+  pub whole : before ++ d.page ≡ marked
+  pub body_is : body ≡ without_insertions before
+  pub boxes_are : d.boxes ≡ map (box_after (labelled z before)) boxes
+  pub held_are : d.held ≡ held_insertions (labelled z before)
+
+-- at its mark, the account stands for so many nodes and these
+pub record IsMarkedAt (a : Account) (index : ℕ) (rest : List PlainNode) : Type 0 where
+  pub z : Frozen
+  pub page : List PlainNode
+  pub before : List PlainNode
+  pub stands : AccountStands a z page (before ++ rest)
+  pub index_is : index ≡ length before
+
+-- each node of the list fits
+abbrev pub EachFits : List PlainNode → Type 0
+EachFits ns = (before : List PlainNode) (n : PlainNode) (rest : List PlainNode) → before ++ n ∷ rest ≡ ns → NodeFits n

@@ -1,7 +1,7 @@
 //! What becomes of the insertions before a break.
 
 ghost use Rattle.std.specs.Prelude.{◌≡◌, ◌<◌, ◌≤◌, ◌+◌, List, [], ◌∷◌, ◌++◌, map, length, take, drop, true, slice_get};
-ghost use Rattle.tb_pool.specs.Lists.{list_at};
+ghost use Rattle.tb_pool.specs.Lists.{IsLive, list_at};
 ghost use Rattle.tb_node.specs.Fit.{shapes, NodesFit};
 ghost use Rattle.tb_node.specs.Small.{IsAmount};
 ghost use Rattle.tb_node.specs.Plain.{PlainNode, plain_of, inserted_of, on_line};
@@ -9,16 +9,16 @@ ghost use Rattle.tb_node.specs.declared.Kind.TheVariants.{Ins as an_insertion};
 ghost use Rattle.tb_break.specs.Prune.{pruned_list};
 ghost use Rattle.tb_insert.specs.Account.{Frozen, labelled};
 ghost use Rattle.tb_insert.specs.Running.{AccountStands, cut_in, last_let_in};
-ghost use Rattle.tb_builder.specs.Owned.{has_class, ids_of, inner_of, is_known, classes_of, IsOwned};
-ghost use Rattle.tb_builder.specs.Fired.{unless_empty};
-ghost use Rattle.tb_builder.specs.Contents.{leaf_list};
+ghost use Rattle.tb_builder.specs.Owned.{Lacks, owned, inner_ids, has_class, ids_of, inner_of, is_known, classes_of, IsOwned};
+ghost use Rattle.tb_builder.specs.Fired.{Boxed, unless_empty};
+ghost use Rattle.tb_builder.specs.Contents.{leaf_list, plain_list, contents_of};
 ghost use Rattle.tb_builder.specs.Next.{SizesFit};
 ghost use Rattle.tb_builder.specs.Room.{RoomFits};
 ghost use Rattle.tb_builder.specs.Running.{insertion_of_kind};
-ghost use Rattle.tb_builder.specs.Firing.{share_up_to, share_told, opened, box_list, IsShareWithin, Gives, Drops, Settles};
+ghost use Rattle.tb_builder.specs.Firing.{share_up_to, share_told, opened, box_list, IsShareWithin, Gives, Drops, Settles, SortsTo, Sorted, IsMarkedAt, EachFits};
 
 use crate::measuring::pruned_size;
-use crate::moving::drop_first;
+use crate::moving::{drop_first, first_of, insertion_of, shift};
 use crate::splitting::{give_front, pass_on};
 use crate::{Builder, Course, Share};
 use tb_node::{Insertion, Kind, Node};
@@ -175,6 +175,54 @@ impl Builder {
                 self.keep_rest(store, n, i);
             }
             Share::Nothing => self.hold(store, n, i, *n),
+        }
+    }
+    // The first node of the page, which has this place on the page that fires, goes to the body, or, an insertion,
+    // where its share says.
+    fn sort_first(&mut self, store: &mut Lists<Node>, body: ListId, index: usize)
+        requires own { IsOwned (ids_of self.old) store.old }
+        requires body_live { IsLive store.old body }
+        requires body_apart { Lacks body (owned (ids_of self.old) store.old) }
+        requires body_plain { inner_ids (list_at store.old body) ≡ [] }
+        requires some { 0 < length (list_at store.old self.old.page) }
+        requires room { 0 < store.old.spare }
+        requires fits { EachFits (contents_of self.old store.old).page }
+        requires marked { IsMarkedAt self.old.course.account index (contents_of self.old store.old).page }
+        ensures sorts { SortsTo self.old store.old self.new store.new body }
+        ensures sorted { (z : Frozen) (page marked before : List PlainNode) (boxes : List Boxed) → AccountStands self.old.course.account z page marked → index ≡ length before
+            → Sorted z boxes marked (contents_of self.old store.old) (plain_list store.old body) before
+            → Sorted z boxes marked (contents_of self.new store.new) (plain_list store.new body) (before ++ take 1 (contents_of self.old store.old).page) }
+        ensures left { length (list_at store.new self.old.page) + 1 ≡ length (list_at store.old self.old.page) }
+        ensures spare { store.old.spare ≤ store.new.spare + 1 }
+    {
+        let Some(n) = first_of(store, self.page) else {
+            return;
+        };
+        let Some(i) = insertion_of(&n) else {
+            shift(store, self.page, body);
+            return;
+        };
+        let share = self.course.share_at(i.class, index);
+        self.settle(store, &n, &i, share);
+    }
+
+    // The nodes of the page, up to its break, go to the body, and its insertions where their shares say.
+    pub(crate) fn sort_page(&mut self, store: &mut Lists<Node>, body: ListId)
+        requires own { IsOwned (ids_of self.old) store.old }
+        requires body_live { IsLive store.old body }
+        requires body_apart { Lacks body (owned (ids_of self.old) store.old) }
+        requires body_empty { list_at store.old body ≡ [] }
+        requires none_held { list_at store.old self.old.held ≡ [] }
+        requires room { length (list_at store.old self.old.page) ≤ store.old.spare }
+        requires fits { EachFits (contents_of self.old store.old).page }
+        requires marked { IsMarkedAt self.old.course.account 0 (contents_of self.old store.old).page }
+        ensures sorts { SortsTo self.old store.old self.new store.new body }
+        ensures sorted { (z : Frozen) (page : List PlainNode) → AccountStands self.old.course.account z page (contents_of self.old store.old).page
+            → Sorted z (contents_of self.old store.old).boxes (contents_of self.old store.old).page (contents_of self.new store.new) (plain_list store.new body) (contents_of self.old store.old).page }
+        ensures empty { list_at store.new self.old.page ≡ [] }
+    {
+        for index in 0..store.len(self.page) {
+            self.sort_first(store, body, index);
         }
     }
 }
