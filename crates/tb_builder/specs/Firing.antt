@@ -4,6 +4,9 @@ use Rattle.std.specs.FinMap.{get}
 use Rattle.tb_pool.specs.Lists.{Lists, IsLive, list_at}
 use Rattle.tb_node.specs.declared.Node.{Node}
 use Rattle.tb_node.specs.declared.Insertion.{Insertion}
+use Rattle.tb_node.specs.declared.Kind.{Kind}
+use Rattle.tb_node.specs.declared.Kind.TheVariants as kinds
+use Rattle.tb_scaled.specs.Scaled.{inf_penalty}
 use Rattle.tb_node.specs.Plain.{Leaf, leaf_of, Inserted, inserted_of, PlainKind, plain, ins, act, PlainNode, plain_of, on_line, without_insertions}
 use Rattle.tb_break.specs.Prune.{pruned_leaves}
 use Rattle.tb_insert.specs.declared.Account.{Account}
@@ -13,10 +16,13 @@ use Rattle.tb_builder.specs.declared.Share.{Share}
 use Rattle.tb_builder.specs.declared.Share.TheVariants.{All, Front, Nothing}
 use Rattle.tb_builder.specs.declared.ClassList.{ClassList}
 use Rattle.tb_builder.specs.declared.Builder.{Builder}
-use Rattle.tb_builder.specs.Fired.{Boxed, content_of, unless_empty, box_after, held_insertions}
+use Rattle.tb_builder.specs.Fired.{Boxed, content_of, unless_empty, box_after, held_insertions, with_spent_break}
 use Rattle.tb_builder.specs.Contents.{Contents, contents_of}
 use Rattle.tb_builder.specs.Owned.{Lacks, inner_ids, ids_of, owned, IsOwned}
-use Rattle.tb_builder.specs.Next.{NodeFits}
+use Rattle.tb_builder.specs.declared.Ask.{Ask}
+use Rattle.tb_builder.specs.declared.Page.{Page}
+use Rattle.tb_builder.specs.Next.{NodeFits, FiredIs}
+use Rattle.tb_builder.specs.Running.{IsSound}
 
 -- what a label gives: an insertion that is split at its list's end gives all
 abbrev pub share_of : Label → Inserted → Share
@@ -148,3 +154,45 @@ pub record IsMarkedAt (a : Account) (index : ℕ) (rest : List PlainNode) : Type
 -- each node of the list fits
 abbrev pub EachFits : List PlainNode → Type 0
 EachFits ns = (before : List PlainNode) (n : PlainNode) (rest : List PlainNode) → before ++ n ∷ rest ≡ ns → NodeFits n
+
+-- ---- the page is cut at its break
+
+-- the kind that a break node of the store has afterwards
+abbrev pub spent_node_kind : Kind → Kind
+spent_node_kind (kinds.Hbox what h d) = kinds.Hbox what h d
+spent_node_kind (kinds.Rule name h d) = kinds.Rule name h d
+spent_node_kind (kinds.Skip g) = kinds.Skip g
+spent_node_kind (kinds.Kern w) = kinds.Kern w
+spent_node_kind (kinds.Pen p) = kinds.Pen inf_penalty
+spent_node_kind (kinds.Mark name) = kinds.Mark name
+spent_node_kind (kinds.Note name) = kinds.Note name
+spent_node_kind kinds.Whatsit = kinds.Whatsit
+spent_node_kind (kinds.Ins i) = kinds.Ins i
+spent_node_kind (kinds.Act a) = kinds.Act a
+
+abbrev pub spent_nodes : List Node → List Node
+spent_nodes [] = []
+spent_nodes (n ∷ ns) = record { line = n.line; kind = spent_node_kind n.kind } ∷ ns
+
+-- the page has so many nodes, and the others went back before what waits, where the break is spent
+pub record Cuts (b : Builder) (s t : Lists Node) (place : ℕ) : Type 0 where
+  pub own : IsOwned (ids_of b) t
+  pub others : (q : ℕ) → Lacks q (owned (ids_of b) s) → get t.lists q ≡ get s.lists q
+  pub keeps : (q : ℕ) → Lacks q (owned (ids_of b) s) → Lacks q (owned (ids_of b) t)
+  pub page : (contents_of b t).page ≡ take place (contents_of b s).page
+  pub waiting : (contents_of b t).waiting ≡ with_spent_break (drop place (contents_of b s).page ++ (contents_of b s).waiting)
+  pub held : list_at t b.held ≡ list_at s b.held
+  pub boxes : (contents_of b t).boxes ≡ (contents_of b s).boxes
+  pub count : length (list_at t b.page) ≤ place
+
+-- ---- a page fired
+
+-- the page is the one that fires, and what waits after it is right; its body is a list of its own
+pub record Fires (b : Builder) (s : Lists Node) (d : Builder) (t : Lists Node) (p : Page) : Type 0 where
+  pub fired : (ask : Ask) → FiredIs p (contents_of b s) ask (contents_of d t) t
+  pub sound : IsSound d t
+  pub others : (q : ℕ) → q ≢ p.body → Lacks q (owned (ids_of b) s) → get t.lists q ≡ get s.lists q
+  pub keeps : (q : ℕ) → Lacks q (owned (ids_of b) s) → Lacks q (owned (ids_of d) t)
+  pub fresh : get s.lists p.body ≡ None
+  pub apart : Lacks p.body (owned (ids_of d) t)
+  pub body_plain : inner_ids (list_at t p.body) ≡ []
