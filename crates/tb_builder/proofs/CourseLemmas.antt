@@ -29,7 +29,8 @@ use Rattle.tb_insert.specs.declared.Class.{Class}
 use Rattle.tb_insert.specs.Account.{Frozen, class_box, labelled, insertions, is_met, terms_after}
 use Rattle.tb_insert.specs.Running.{Differ, numbered, boxed, AccountStands, ScanStands, ComesTo, met_scan}
 use Rattle.tb_insert.proofs.StandsLemmas.{stands-plain}
-use Rattle.tb_insert.proofs.TermLemmas.{scan_plain, scan_meets, scan_loose, scan_new}
+use Rattle.tb_insert.proofs.TermLemmas.{scan_plain}
+use Rattle.tb_builder.proofs.ScanLemmas.{scan_meets, scan_loose, scan_new}
 use Rattle.tb_builder.specs.declared.Course.{Course}
 use Rattle.tb_builder.specs.declared.Try.{Try}
 use Rattle.tb_builder.specs.Reached.{page_place, try_of}

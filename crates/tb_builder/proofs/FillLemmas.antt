@@ -18,12 +18,11 @@ pub first_is : (ns : List Node) (n : Node) → slice_get ns 0 ≡ Some n → (ms
 first_is ns n e = some_first ns n (sym e)
 
 module _ (b d : Builder) (s t : Lists Node) (xs ys : List Node) (same : ids_of d ≡ ids_of b) (own : IsOwned (ids_of b) s) (w : Written (ids_of b) s t xs ys) where
-  pub moves_from : s.spare ≤ t.spare → Moves b s d t
-  moves_from room = record {
+  pub moves_from : Moves b s d t
+  moves_from = record {
     own = subst (λ i. IsOwned i t) (sym same) (written_own (ids_of b) s t xs ys own w);
     others = λ q h. written_others (ids_of b) s t xs ys own w q h;
     keeps = λ q h. subst (λ i. Lacks q (owned i t)) (sym same) (written_keeps (ids_of b) s t xs ys own w q h);
-    room = room;
     classes = ap (λ (i : Ids). map (λ e. e.class) i.boxes) same;
     boxes = ap (λ (i : Ids). map (boxed_of t) i.boxes) same ∙ written_boxes (ids_of b) s t xs ys own w;
     held = ap (λ (i : Ids). plain_list t i.held) same ∙ written_held (ids_of b) s t xs ys own w;

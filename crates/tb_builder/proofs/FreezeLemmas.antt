@@ -23,7 +23,8 @@ use Rattle.tb_insert.specs.Running.{Differ, numbered, boxed, AccountStands, Scan
 use Rattle.tb_insert.specs.Arrived.{InnerFits, ClassFits, ArriveFits, PageFits}
 use Rattle.tb_insert.proofs.AccountLemmas.{leaf_shapes}
 use Rattle.tb_insert.proofs.StandsLemmas.{stands-plain}
-use Rattle.tb_insert.proofs.TermLemmas.{scan_loose, arrive_fits}
+use Rattle.tb_insert.proofs.TermLemmas.{arrive_fits}
+use Rattle.tb_builder.proofs.ScanLemmas.{scan_loose}
 use Rattle.tb_builder.specs.declared.Ask.{Ask}
 use Rattle.tb_builder.specs.declared.Course.{Course}
 use Rattle.tb_builder.specs.declared.ClassList.{ClassList}

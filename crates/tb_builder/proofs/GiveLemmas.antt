@@ -240,7 +240,7 @@ module _ (b : Ids) (s : Lists Node) (n : Node) (ns : List Node) (i : Insertion) 
     given_held =
         ap (map (plain_of (list_at t))) (lists_same s t b.held held_same)
         ∙ view_same s t (list_at s b.held) (same_two s t box_here i.list (list_at s box_here ++ gave) kept g (inner_ids (list_at s b.held))
-            (lacks-left box_here (inner_ids (list_at s b.held)) (i.list ∷ behind) inner_lack) (lacks-right i.list (own_ids b) (inner_ids (list_at s b.held)) lacks_ahead))
+        (lacks-left box_here (inner_ids (list_at s b.held)) (i.list ∷ behind) inner_lack) (lacks-right i.list (own_ids b) (inner_ids (list_at s b.held)) lacks_ahead))
 
     behind_same : AllSame s t (inner_ids ns ++ inner_ids (list_at s b.waiting))
     behind_same = subst (AllSame s t) (inner-append ns (list_at s b.waiting)) (same_two s t box_here i.list (list_at s box_here ++ gave) kept g behind (lacks-right box_here (inner_ids (list_at s b.held)) (i.list ∷ behind) inner_lack).1 lacks_behind)
@@ -288,9 +288,17 @@ module _ (b : Ids) (s : Lists Node) (n : Node) (ns : List Node) (i : Insertion) 
 
     page_lacks : Lacks b.page beside
     page_lacks =
-        let h : Lacks b.page (b.waiting ∷ b.held ∷ b.rest ∷ (box_ids b.boxes ++ inner_ids (nodes_of b s))) = own.differ.0 in
-        (h.0, (h.1.0, (h.1.1.0, lacks-append b.page (box_ids b.boxes) left_over (lacks-left b.page (box_ids b.boxes) (inner_ids (nodes_of b s)) h.1.1.1)
-        (lacks-without b.page i.list (inner_ids (list_at s b.held)) behind (subst (Lacks b.page) nodes_apart (lacks-right b.page (box_ids b.boxes) (inner_ids (nodes_of b s)) h.1.1.1))))))
+        let h : Lacks b.page (b.waiting ∷ b.held ∷ b.rest ∷ (box_ids b.boxes ++ inner_ids (nodes_of b s))) = own.differ.0 in (
+          h.0,
+          (
+            h.1.0,
+            (
+              h.1.1.0,
+              lacks-append b.page (box_ids b.boxes) left_over (lacks-left b.page (box_ids b.boxes) (inner_ids (nodes_of b s)) h.1.1.1)
+                  (lacks-without b.page i.list (inner_ids (list_at s b.held)) behind (subst (Lacks b.page) nodes_apart (lacks-right b.page (box_ids b.boxes) (inner_ids (nodes_of b s)) h.1.1.1))),
+            ),
+          ),
+        )
 
     list_lacks : Lacks i.list beside
     list_lacks = (lacks_own.1.0, (lacks_own.1.1.0, (lacks_own.1.1.1.0, lacks-append i.list (box_ids b.boxes) left_over lacks_own.1.1.1.1 (lacks-append i.list (inner_ids (list_at s b.held)) behind (lacks-right i.list (own_ids b) (inner_ids (list_at s b.held)) lacks_ahead) lacks_behind))))

@@ -1,5 +1,5 @@
 -- A turn on a page: an insertion comes, or a node passes before the first box.
-use Rattle.std.proofs.Common.{◌≡◌, ◌≢◌, ◌⊎◌, inl, inr, refl, sym, subst, ◌∙◌, ap, ℕ, ◌≤◌, ℤ, Bool, true, false, List, [], ◌∷◌, ◌++◌, length, map, Option, None, Some, append_assoc}
+use Rattle.std.proofs.Common.{◌≡◌, ◌≢◌, ◌⊎◌, inl, inr, refl, sym, subst, ◌∙◌, ap, ℕ, ◌<◌, ◌≤◌, ℤ, Bool, true, false, List, [], ◌∷◌, ◌++◌, length, map, Option, None, Some, append_assoc, arith}
 use Rattle.std.specs.Prelude.{not}
 use Rattle.std.specs.FinMap.{get, insert}
 use Rattle.std.proofs.lemmas.Bool.{true≢false}
@@ -42,6 +42,10 @@ stays_from b d s t ask m f =
     let same : Same (contents_of b s) (contents_of d t) ask = record { classes = m.classes; boxes = m.boxes; frozen = f } in
     record { classes = m.classes; boxes = m.boxes; held = m.held; frozen_so = same_frozen (contents_of b s) (contents_of d t) ask same; keeps = same_keeps (contents_of b s) (contents_of d t) ask same }
 
+-- the list behind the first node is shorter
+pub shorter_by : {n : PlainNode} {xs ys : List PlainNode} → xs ≡ n ∷ ys → length ys < length xs
+shorter_by {n} {xs} {ys} e = let l : length xs ≡ length (n ∷ ys) = ap length e in omega arith
+
 -- ---- a node that takes no room goes on the page
 
 -- the turn, where the course stands for the page with the node
@@ -49,7 +53,7 @@ module _ (b d : Builder) (s t : Lists Node) (ask : Ask) (n : Node) (ns : List No
     (sound : IsSound b s) (on : d.stopped ≡ false) (same : ids_of d ≡ ids_of b) (first : list_at s b.waiting ≡ n ∷ ns)
     (w : Written (ids_of b) s t (list_at s b.page ++ n ∷ []) ns) (room : s.spare ≤ t.spare) (opened : d.opened ≡ b.opened) (shape : shape_of n ≡ other) (none : act_of_kind n.kind ≡ None) where
   moves : Moves b s d t
-  moves = moves_from b d s t (list_at s b.page ++ n ∷ []) ns same sound.own w room
+  moves = moves_from b d s t (list_at s b.page ++ n ∷ []) ns same sound.own w
 
   plain_shape : node_shape (plain_of (list_at s) n) ≡ other
   plain_shape = shape_is (list_at s) n ∙ shape
@@ -73,7 +77,8 @@ module _ (b d : Builder) (s t : Lists Node) (ask : Ask) (n : Node) (ns : List No
     };
     others = moves.others;
     keeps = moves.keeps;
-    room = λ e o. room;
+    room = λ e o. (sym opened ∙ o, room);
+    shorter = λ e. shorter_by waits;
     stays = stays_from b d s t ask moves f;
     turned = lasts_turn (contents_of b s) (contents_of d t) ask (plain_of (list_at s) n) waits paged (stays_from b d s t ask moves f).frozen_so on plain_shape plain_act;
   }
@@ -86,8 +91,8 @@ module _ (b d : Builder) (s t : Lists Node) (ask : Ask) (n : Node) (ns : List No
       let frozen = is ∙ ap Some e in
       let st = stays_from b d s t ask moves (inr frozen) in
       lasts_in (inr frozen) (stands_some d.frozen f d.stopped d.course (contents_of d t) ask is is on
-          (subst (λ z. Underway z d.course (contents_of d t).page (contents_of d t).waiting) (sym st.frozen_so)
-          (underway_stays (frozen_of (contents_of b s) ask) k d.course (contents_of b s) (contents_of d t) (plain_of (list_at s) n) waits paged plain_shape plain_act u h)))
+      (subst (λ z. Underway z d.course (contents_of d t).page (contents_of d t).waiting) (sym st.frozen_so)
+      (underway_stays (frozen_of (contents_of b s) ask) k d.course (contents_of b s) (contents_of d t) (plain_of (list_at s) n) waits paged plain_shape plain_act u h)))
 
   -- a mark, a note or a whatsit went on the page
   loose_by : (o : Option (ℤ × ℤ)) → b.frozen ≡ o → d.frozen ≡ o → b.stopped ≡ false → is_loose (plain_of (list_at s) n).kind ≡ true → d.course.scan ≡ b.course.scan → d.course.account ≡ b.course.account → d.course.best_goal ≡ b.course.best_goal → d.course.lasting ≡ true
@@ -101,7 +106,7 @@ module _ (b d : Builder) (s t : Lists Node) (ask : Ask) (n : Node) (ns : List No
       stands_some d.frozen f d.stopped d.course (contents_of d t) ask g g on
       (subst (λ z. Underway z d.course (contents_of d t).page (contents_of d t).waiting) (sym ((stays_from b d s t ask moves (inl (g ∙ sym e))).frozen_so ∙ ap (λ x. frozen_or x ask (contents_of b s).classes (contents_of b s).boxes) e))
       (underway_stays (page_frozen f (contents_of b s).classes (contents_of b s).boxes) b.course d.course (contents_of b s) (contents_of d t) (plain_of (list_at s) n) waits paged plain_shape plain_act st
-        (course_loose (page_frozen f (contents_of b s).classes (contents_of b s).boxes) b.course d.course (contents_of b s).page _ (plain_of (list_at s) n) st.course loose scan account goal lasting)))
+      (course_loose (page_frozen f (contents_of b s).classes (contents_of b s).boxes) b.course d.course (contents_of b s).page _ (plain_of (list_at s) n) st.course loose scan account goal lasting)))
 
   pub passed_loose : d.frozen ≡ b.frozen → b.stopped ≡ false → is_loose (plain_of (list_at s) n).kind ≡ true → d.course.scan ≡ b.course.scan → d.course.account ≡ b.course.account → d.course.best_goal ≡ b.course.best_goal → d.course.lasting ≡ true → TurnIs b s ask None d t
   passed_loose same_frozen on' loose scan account goal lasting =
@@ -113,7 +118,7 @@ module _ (b d : Builder) (s t : Lists Node) (ask : Ask) (n : Node) (ns : List No
     (sound : IsSound b s) (same : ids_of d ≡ ids_of b) (first : list_at s b.waiting ≡ n ∷ ns) (frozen : d.frozen ≡ b.frozen) (stopped : d.stopped ≡ b.stopped) (on : b.stopped ≡ false) (course : d.course ≡ b.course)
     (opened : d.opened ≡ b.opened) (closed : b.opened ≡ false) (w : Written (ids_of b) s t (list_at s b.page) ns) (room : s.spare ≤ t.spare) where
   dropped_moves : Moves b s d t
-  dropped_moves = moves_from b d s t (list_at s b.page) ns same sound.own w room
+  dropped_moves = moves_from b d s t (list_at s b.page) ns same sound.own w
 
   dropped_waits : (contents_of b s).waiting ≡ plain_of (list_at s) n ∷ (contents_of d t).waiting
   dropped_waits = ap (map (plain_of (list_at s))) first ∙ ap (λ ms. plain_of (list_at s) n ∷ ms) (sym (waiting_from b d s t (list_at s b.page) ns same sound.own w))
@@ -146,7 +151,8 @@ module _ (b d : Builder) (s t : Lists Node) (ask : Ask) (n : Node) (ns : List No
     };
     others = dropped_moves.others;
     keeps = dropped_moves.keeps;
-    room = λ e o. room;
+    room = λ e o. (sym opened ∙ o, room);
+    shorter = λ e. shorter_by dropped_waits;
     stays = stays_from b d s t ask dropped_moves (inl frozen);
     turned = drops_turn (contents_of b s) (contents_of d t) ask (plain_of (list_at s) n) dropped_waits dropped_page (stays_from b d s t ask dropped_moves (inl frozen)).frozen_so (stopped ∙ on) (sym sound.opened ∙ closed) (sound.closed closed)
         (gone_at (list_at s) ask.top_skip n.line n.kind (contents_of d t).waiting gone);

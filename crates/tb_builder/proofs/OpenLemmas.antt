@@ -139,7 +139,7 @@ opened-boxes s t k more (e ∷ es) h c d o v grown = by_class (e.class.number ==
         → list_at t (if b then e.list else box_list k es) ≡ list_at s (if b then e.list else box_list k es) ++ more
         → (has_class (map (λ e. e.class) es) k ≡ true → OthersSame s t (box_list k es) (box_ids es) → list_at t (box_list k es) ≡ list_at s (box_list k es) ++ more → map (boxed_of t) (opened k es) ≡ map (box_with k (map leaf_of more)) (map (boxed_of s) es))
         → map (boxed_of t) (if b then record e { void = false } ∷ es else e ∷ opened k es)
-          ≡ (if e.class.number == k then record (boxed_of s e) { content = Some (content_of (boxed_of s e).content ++ map leaf_of more) } else boxed_of s e) ∷ map (box_with k (map leaf_of more)) (map (boxed_of s) es)
+        ≡ (if e.class.number == k then record (boxed_of s e) { content = Some (content_of (boxed_of s e).content ++ map leaf_of more) } else boxed_of s e) ∷ map (box_with k (map leaf_of more)) (map (boxed_of s) es)
     by_class true is h o grown later =
         (λ i. ((ap (λ ns. record { number = e.class.number; content = Some ns }) (ap (map leaf_of) grown ∙ map-append leaf_of (list_at s e.list) more ∙ ap (λ ns. ns ++ map leaf_of more) (held_content s e v.0))
         ∙ sym (ap (λ b. if b then record (boxed_of s e) { content = Some (content_of (boxed_of s e).content ++ map leaf_of more) } else boxed_of s e) is)) i)

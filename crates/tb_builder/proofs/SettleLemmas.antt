@@ -156,6 +156,6 @@ held_again b s t n m i height some high is h = subst (Drops b s b t n) (ap (λ x
   where
     same : (ls : List Node) → (length ls ≡ 0 → ⊥) → height ≡ size_of (map leaf_shape (map leaf_of ls))
         → (let x : PlainNode = record { line = n.line; kind = ins (record (inserted_of (list_at s) i) { inner = map leaf_of ls; height = height }) } in
-           x ∷ [] ≡ on_line n.line (unless_empty (inserted_of (list_at s) i) (map leaf_of ls)))
+        x ∷ [] ≡ on_line n.line (unless_empty (inserted_of (list_at s) i) (map leaf_of ls)))
     same [] some e = absurd (some refl)
     same (l ∷ ls) some e = ap (λ z. let x : PlainNode = record { line = n.line; kind = ins (record (inserted_of (list_at s) i) { inner = map leaf_of (l ∷ ls); height = z }) } in x ∷ []) e

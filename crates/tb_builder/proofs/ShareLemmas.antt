@@ -306,8 +306,7 @@ module _ (z : Frozen) (before rest : List PlainNode) (line : ℕ) (i : Inserted)
   -- the cut that is told, by what is cut before, here and later
   cuts : LaterCut (length before + 1) (or_else (cut_in labels_before i.class) (cut_there (length before) (split_before_end (label_of z labels_before before i) i))) (cut_in all_labels i.class)
   cuts =
-      let h = cut-later z i.class (labels_before ++ this_one ∷ []) (before ++ record { line = line; kind = ins i } ∷ []) rest in
-      (
+      let h = cut-later z i.class (labels_before ++ this_one ∷ []) (before ++ record { line = line; kind = ins i } ∷ []) rest in (
         h.0,
         ap (λ ls. cut_in ls i.class) all_are ∙ h.1 ∙ ap (λ c. or_else c h.0) (cut-append labels_before this_one i.class ∙ ap (or_else (cut_in labels_before i.class)) cut_here),
         subst (λ n. IsCutFrom n h.0) (longer before (record { line = line; kind = ins i })) h.2,
@@ -323,11 +322,11 @@ module _ (z : Frozen) (before rest : List PlainNode) (line : ℕ) (i : Inserted)
   told_late e =
       let l = late_label z i.class labels_before before i e in
       let last : last_let_in all_labels i.class ≡ last_let_in labels_before i.class =
-          ap (λ ls. last_let_in ls i.class) all_are
-          ∙ last-stays z i.class (labels_before ++ this_one ∷ []) (before ++ record { line = line; kind = ins i } ∷ []) rest (split-stays z i.class labels_before before line (ins i) e)
-          ∙ last-stays-one z i.class labels_before before line (ins i) e in
+      ap (λ ls. last_let_in ls i.class) all_are
+      ∙ last-stays z i.class (labels_before ++ this_one ∷ []) (before ++ record { line = line; kind = ins i } ∷ []) rest (split-stays z i.class labels_before before line (ins i) e)
+      ∙ last-stays-one z i.class labels_before before line (ins i) e in
       let cut : cut_in all_labels i.class ≡ or_else (cut_in labels_before i.class) cuts.0 =
-          cuts.1 ∙ ap (λ b. or_else (or_else (cut_in labels_before i.class) (cut_there (length before) (split_before_end b i))) cuts.0) l ∙ ap (λ c. or_else c cuts.0) (or_else-none (cut_in labels_before i.class)) in
+      cuts.1 ∙ ap (λ b. or_else (or_else (cut_in labels_before i.class) (cut_there (length before) (split_before_end b i))) cuts.0) l ∙ ap (λ c. or_else c cuts.0) (or_else-none (cut_in labels_before i.class)) in
       (λ j. share_told (cut j) (last j) (length before))
       ∙ told-beside (length before) (cut_in labels_before i.class) cuts.0 (last_let_in labels_before i.class) (cut-below (length before) i.class labels_before (below-labelled z before)) cuts.2
       ∙ up_to-below (length before) (last_let_in labels_before i.class) (last-below (length before) i.class None labels_before tt (below-labelled z before))
@@ -464,8 +463,8 @@ not-given k (l ∷ ls) e = by_class (l.inserted.class == k) (gives l.label) refl
 -- a box after the insertions, and after one more
 box_case : (b : Boxed) (g t a : Bool) (before more : List Leaf) → (g ≡ false → before ≡ []) → (a ≡ false → more ≡ [])
     → (let after : Boxed = if g then record b { content = Some (content_of b.content ++ before) } else b in
-       (if g || ((if t then a else false) || false) then record b { content = Some (content_of b.content ++ (before ++ (if t then more else []))) } else b)
-       ≡ (if a then (if t then record after { content = Some (content_of after.content ++ more) } else after) else after))
+    (if g || ((if t then a else false) || false) then record b { content = Some (content_of b.content ++ (before ++ (if t then more else []))) } else b)
+    ≡ (if a then (if t then record after { content = Some (content_of after.content ++ more) } else after) else after))
 box_case b true true true before more p q = ap (λ ns. record b { content = Some ns }) (sym (append_assoc (content_of b.content) before more))
 box_case b true true false before more p q = ap (λ ns. record b { content = Some (content_of b.content ++ ns) }) (ap (λ ns. before ++ ns) (q refl) ∙ append-nil before)
 box_case b true false true before more p q = ap (λ ns. record b { content = Some (content_of b.content ++ ns) }) (append-nil before)

@@ -18,7 +18,6 @@ use Rattle.tb_insert.specs.Terms.{Terms}
 use Rattle.tb_insert.specs.declared.Class.{Class}
 use Rattle.tb_insert.specs.Account.{Frozen, terms_after}
 use Rattle.tb_insert.proofs.StandsLemmas.{stands-plain}
-use Rattle.tb_insert.proofs.TermLemmas.{scan_loose}
 use Rattle.tb_builder.specs.declared.Ask.{Ask}
 use Rattle.tb_builder.specs.declared.Try.{Try}
 use Rattle.tb_builder.specs.declared.Course.{Course}
@@ -27,7 +26,7 @@ use Rattle.tb_builder.specs.Reached.{acted, tried, Reach, also_reached, reach_fr
 use Rattle.tb_builder.specs.Fired.{Boxed}
 use Rattle.tb_builder.specs.Places.{page_shapes, glue_first, glue_or, node_penalty, page_places, NoStop}
 use Rattle.tb_builder.specs.Contents.{Contents, frozen_or, frozen_of, ahead_of, laid, reach_ahead, reach_whole, places_of}
-use Rattle.tb_builder.specs.Running.{CourseStands, Underway, AtStop, places_by, zed, frozen_at, page_frozen, frozen_with, is_loose, AllLoose, AllLasting, Unfrozen, PageStands}
+use Rattle.tb_builder.specs.Running.{CourseStands, Underway, AtStop, places_by, kept_frozen, frozen_at, page_frozen, frozen_with, is_loose, AllLoose, AllLasting, Unfrozen, PageStands}
 use Rattle.tb_builder.specs.Next.{Goes, Stops, TriedIs, stopped_with, Without, ActedIs, nothing_reached, EmptyIs}
 use Rattle.tb_builder.specs.Turn.{Shifted, reach_on, places_on, Passes, GoesOn, StopsThere, TriesOn, Turns}
 use Rattle.tb_builder.proofs.CourseLemmas.{champion_grows, acts-append, loose_shape}
@@ -185,13 +184,14 @@ module _ (z : Frozen) (ask : Ask) (c m : Contents) (lays : Lays z ask c m) where
     stopped = on;
   }
 
-  pub stops_there : (line : ℕ) (b : Breakpoint) (k : Course) (d : Contents) → StopsThere z line b k m d → frozen_of d ask ≡ z → Stops (laid c ask) (reach_ahead c ask) (places_of c ask) ask line b d
-  stops_there line b k d s f = record {
+  pub stops_there : (line : ℕ) (b : Breakpoint) (k : Course) (d : Contents) → StopsThere z line b k m d → frozen_of d ask ≡ z → laid d ask ≡ d.page ++ d.waiting → Stops (laid c ask) (reach_ahead c ask) (places_of c ask) ask line b d
+  stops_there line b k d s f l = record {
     reach = lays.reach_is ∙ s.reach;
     reached = ap (λ x. breakpoints (reach_from x.limit (terms_after x) [] (d.page ++ d.waiting)).reached) f ∙ s.reached ∙ ap (λ bs. bs ++ b ∷ []) (sym lays.places_is);
     passed = ap (λ x. (reach_from x.limit (terms_after x) [] (d.page ++ d.waiting)).passed) f ∙ s.passed;
     beyond = ap (λ x. (reach_from x.limit (terms_after x) [] (d.page ++ d.waiting)).beyond) f ∙ s.beyond;
     whole = (λ i. s.page i ++ s.waiting i) ∙ sym lays.laid_is;
+    still = l ∙ (λ i. s.page i ++ s.waiting i) ∙ sym lays.laid_is;
     stopped = s.stopped;
   }
 

@@ -9,6 +9,7 @@ use Rattle.tb_break.specs.Finding.{penalty_by}
 use Rattle.tb_insert.specs.Terms.{Terms}
 use Rattle.tb_builder.specs.Reached.{page_place}
 
+-- what sums and breaks see of the nodes
 abbrev pub page_shapes : List PlainNode → List Shape
 page_shapes ns = map node_shape ns
 
@@ -27,6 +28,7 @@ kind_penalty_by lasting glue_next n (plain m) = penalty_by lasting glue_next (no
 kind_penalty_by lasting glue_next n (ins i) = None
 kind_penalty_by lasting glue_next n (act a) = None
 
+-- the same by the kind that the node has
 abbrev pub node_penalty : Bool → Bool → PlainNode → Option ℤ
 node_penalty lasting glue_next n = kind_penalty_by lasting glue_next n n.kind
 

@@ -117,7 +117,7 @@ impl Builder {
         let Some(best) = self.course.scan.best() else {
             unreachable!();
         };
-        store.reserve(1)?;
+        store.reserve(best.index)?;
         let body = store.add_list()?;
         let at = self.cut_page(store, best.index);
         self.sort_page(store, body);

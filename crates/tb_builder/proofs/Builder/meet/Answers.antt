@@ -76,7 +76,7 @@ returns c =
     let co = comes_to (ids_of c.args.self.now) c.args.store.now before c.args.ask.now c.freeze.new.self.course c.args.n.now f.0 c.args.i.now c.class_list-own.result c.requires.sound.own refl refl refl refl c.requires.fits f.1 c.requires.insertion own u in
     let index : c.len-index.result ≡ length (list_at s b.page) = c.len-index.ensures ∙ ap (λ (j : Ids). length (list_at s j.page)) c.freeze.ensures.ids in
     let joined = c.join.ensures z before.page bs c.args.n.now.line u.course
-        (subst (λ k. ComesTo z before.page c.freeze.new.self.course.scan c.class_list-own.result.class (to_z w64 (of_z w64 c.list_size-size.result)) k) (sym index) (subst (λ x. ComesTo z before.page c.freeze.new.self.course.scan c.class_list-own.result.class x (length (list_at s b.page))) (sym size) co)) in
+    (subst (λ k. ComesTo z before.page c.freeze.new.self.course.scan c.class_list-own.result.class (to_z w64 (of_z w64 c.list_size-size.result)) k) (sym index) (subst (λ x. ComesTo z before.page c.freeze.new.self.course.scan c.class_list-own.result.class x (length (list_at s b.page))) (sym size) co)) in
     let d : Builder = record c.freeze.new.self { course = c.join.new.self } in
     let shifted = c.shift.ensures.shifted c.args.n.now f.0 (ap (λ (j : Ids). list_at s j.waiting) c.freeze.ensures.ids ∙ f.1) ∙ ap (λ (j : Ids). insert (with_list s j.waiting f.0) j.page (list_at s j.page ++ c.args.n.now ∷ [])) c.freeze.ensures.ids in
     met b d s c.shift.new.store c.args.ask.now c.args.n.now f.0 c.requires.sound (c.freeze.ensures.stopped ∙ c.requires.on) c.freeze.ensures.ids f.1
