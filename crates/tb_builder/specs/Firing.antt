@@ -7,6 +7,7 @@ use Rattle.tb_node.specs.declared.Insertion.{Insertion}
 use Rattle.tb_node.specs.declared.Kind.{Kind}
 use Rattle.tb_node.specs.declared.Kind.TheVariants as kinds
 use Rattle.tb_scaled.specs.Scaled.{inf_penalty}
+use Rattle.tb_node.specs.Shape.{Shape, is_discardable}
 use Rattle.tb_node.specs.Plain.{Leaf, leaf_of, Inserted, inserted_of, PlainKind, plain, ins, act, PlainNode, plain_of, on_line, without_insertions}
 use Rattle.tb_break.specs.Prune.{pruned_leaves}
 use Rattle.tb_insert.specs.declared.Account.{Account}
@@ -50,11 +51,16 @@ share_given All i = i.inner
 share_given (Front k) i = take k i.inner
 share_given Nothing i = []
 
--- the place is within a list of this length
-abbrev pub IsShareWithin : Share → ℕ → Type 0
-IsShareWithin All n = Unit {0}
-IsShareWithin (Front k) n = k ≤ n
-IsShareWithin Nothing n = Unit {0}
+-- the list is empty, or its first node vanishes at the top of a page
+abbrev pub BeginsVanishing : List Shape → Type 0
+BeginsVanishing [] = Unit {0}
+BeginsVanishing (n ∷ ns) = is_discardable n ≡ true
+
+-- the place is one of the list, and what stands behind it begins with a node that vanishes
+abbrev pub IsShareWithin : Share → List Shape → Type 0
+IsShareWithin All ns = Unit {0}
+IsShareWithin (Front k) ns = (k ≤ length ns) × BeginsVanishing (drop k ns)
+IsShareWithin Nothing ns = Unit {0}
 
 abbrev pub share_gives : Share → Bool
 share_gives All = true
