@@ -1,6 +1,5 @@
 -- After a step a page stands at a stop, or a box comes behind the node that went on it.
-use Rattle.std.proofs.Common.{◌≡◌, ◌≢◌, refl, sym, subst, ◌∙◌, ap, ℕ, ◌<◌, ◌≤◌, ℤ, pos, Bool, true, false, List, [], ◌∷◌, ◌++◌, length, map, Option, None, Some, append_assoc, arith}
-use Rattle.std.specs.Prelude.{slice_get, not}
+use Rattle.std.proofs.Common.{◌≡◌, refl, sym, subst, ◌∙◌, ap, ◌<◌, Bool, true, false, List, [], ◌∷◌, ◌++◌, length, map, Option, None, Some, arith}
 use Rattle.std.proofs.lemmas.Bool.{true≢false}
 use Rattle.std.proofs.lemmas.List.{length-map}
 use Rattle.tb_pool.specs.Lists.{Lists, list_at}
@@ -8,12 +7,12 @@ use Rattle.tb_node.specs.declared.Node.{Node}
 use Rattle.tb_node.specs.declared.Kind.{Kind}
 use Rattle.tb_node.specs.declared.Kind.TheVariants as kinds
 use Rattle.tb_node.specs.Shape.{Shape, box, glue, kern, penalty, other, is_box, is_discardable}
-use Rattle.tb_node.specs.Small.{IsSmallShape, IsSmall}
+use Rattle.tb_node.specs.Small.{IsSmall}
 use Rattle.tb_node.specs.Plain.{PlainNode, plain_of, node_shape, shape_of, shape_of_kind}
 use Rattle.tb_node.specs.Add.{added_node}
 use Rattle.tb_break.specs.Best.{Breakpoint, is_stop}
 use Rattle.tb_break.specs.Prune.{pruned_nodes}
-use Rattle.tb_insert.specs.Account.{Frozen, terms_after}
+use Rattle.tb_insert.specs.Account.{Frozen}
 use Rattle.tb_builder.specs.declared.Ask.{Ask}
 use Rattle.tb_builder.specs.declared.Builder.{Builder}
 use Rattle.tb_builder.specs.declared.Course.{Course}
@@ -21,10 +20,9 @@ use Rattle.tb_builder.specs.declared.Event.{Event}
 use Rattle.tb_builder.specs.declared.Event.TheVariants as events
 use Rattle.tb_builder.specs.Reached.{also_reached, tried, holds_box}
 use Rattle.tb_builder.specs.Contents.{Contents, contents_of, frozen_of, laid}
-use Rattle.tb_builder.specs.Owned.{Lacks, Ids, ids_of, owned}
 use Rattle.tb_builder.specs.Running.{CourseStands, Underway, kept_frozen, AllLasting, act_of_kind, insertion_of_kind}
 use Rattle.tb_builder.specs.Next.{LaidFits, NextFits}
-use Rattle.tb_builder.specs.Turn.{Moves, Shifted, Passes, GoesOn, StepIs, StepFits, TurnIs, places_on}
+use Rattle.tb_builder.specs.Turn.{Moves, Shifted, Passes, StepIs, StepFits, TurnIs, places_on}
 use Rattle.tb_builder.proofs.CourseLemmas.{shape_is}
 use Rattle.tb_builder.proofs.TurnLemmas.{holds_now, lasting_penalty, ahead_closed}
 use Rattle.tb_builder.proofs.StepLemmas.{passed_step, step_sums}

@@ -1,13 +1,13 @@
 -- A class box is looked at, and its nodes are taken.
-use Rattle.std.proofs.Common.{◌≡◌, ◌≢◌, ◌⊎◌, inl, inr, refl, sym, subst, ◌∙◌, ap, ℕ, zero, suc, ◌+◌, ◌<◌, Bool, true, false, List, [], ◌∷◌, ◌++◌, length, map, Option, None, Some, is_none, is_some, unwrap_or, get_or, append-nil, arith}
-use Rattle.std.specs.Prelude.{◌==◌, ◌||◌, if◌then◌else◌, slice_set, slice_index_or}
+use Rattle.std.proofs.Common.{◌≡◌, ◌≢◌, inl, inr, refl, sym, subst, ◌∙◌, ap, ℕ, zero, suc, ◌<◌, Bool, true, false, List, [], ◌∷◌, ◌++◌, length, map, None, is_none, is_some, get_or, arith}
+use Rattle.std.specs.Prelude.{◌==◌, ◌||◌, if◌then◌else◌, slice_set}
 use Rattle.std.specs.FinMap.{get, insert}
 use Rattle.std.proofs.lemmas.Bool.{true≢false, cases_eq}
 use Rattle.std.proofs.lemmas.Int.{ints}
 use Rattle.tb_pool.specs.Lists.{Lists, IsLive, list_at, with_list}
 use Rattle.tb_node.specs.declared.Node.{Node}
 use Rattle.tb_node.specs.Fit.{shapes}
-use Rattle.tb_node.specs.Plain.{Leaf, leaf_of, leaf_shape, leaf_node, PlainNode, plain_of, shape_of}
+use Rattle.tb_node.specs.Plain.{leaf_of, leaf_shape, leaf_node, plain_of}
 use Rattle.tb_node.specs.declared.Kind.{Kind}
 use Rattle.tb_node.specs.declared.Kind.TheVariants as kinds
 use Rattle.tb_insert.specs.declared.Class.{Class}
@@ -16,13 +16,13 @@ use Rattle.tb_builder.specs.declared.ClassList.{ClassList}
 use Rattle.tb_builder.specs.declared.Builder.{Builder}
 use Rattle.tb_builder.specs.Fired.{Boxed, content_of, box_content, box_size}
 use Rattle.tb_builder.specs.Contents.{Contents, contents_of, content_by, leaf_list, boxed_of, plain_list}
-use Rattle.tb_builder.specs.Owned.{Lacks, AllDiffer, AllLive, inner_ids, Ids, ids_of, nodes_of, box_ids, own_ids, owned, is_plain, AllPlain, HoldPlain, VoidEmpty, has_class, has_number, IsFirst, IsClassList, ClassesFit, classes_of, AllKnown, IsOwned}
+use Rattle.tb_builder.specs.Owned.{Lacks, AllDiffer, AllLive, inner_ids, Ids, ids_of, nodes_of, box_ids, owned, is_plain, AllPlain, HoldPlain, VoidEmpty, has_class, has_number, IsFirst, IsClassList, ClassesFit, classes_of, AllKnown, IsOwned}
 use Rattle.tb_builder.specs.Running.{PageStands, IsSound}
 use Rattle.tb_builder.specs.Next.{SizesFit, BoxesFit}
-use Rattle.tb_builder.specs.Handed.{NoPage, voided, with_void, Taken}
-use Rattle.tb_builder.proofs.OwnedLemmas.{Apart, AllSame, lacks-left, lacks-right, differ-left, differ-right, differ-apart, live-append, live-left, live-right, plain-append, plain-left, plain-right, same_from, lists_same, live_same, plain_same, view_same, inner-append, same-left, same-right}
+use Rattle.tb_builder.specs.Handed.{NoPage, with_void, Taken}
+use Rattle.tb_builder.proofs.OwnedLemmas.{Apart, AllSame, lacks-left, lacks-right, differ-left, differ-apart, plain-left, same_from, lists_same, view_same, inner-append, same-left, same-right}
 use Rattle.tb_builder.proofs.MoveLemmas.{Wrote, wrote_two}
-use Rattle.tb_builder.proofs.ClassLemmas.{content_found, void_at, list_live, size_found}
+use Rattle.tb_builder.proofs.ClassLemmas.{content_found, void_at}
 use Rattle.tb_builder.proofs.WaitLemmas.{page_free}
 use Rattle.tb_builder.proofs.JoinLemmas.{apart_cons, apart_none, sound_from}
 

@@ -1,6 +1,6 @@
 -- The page is cut at its break, and what stands behind it goes back.
-use Rattle.std.proofs.Common.{◌≡◌, ◌≢◌, ◌⊎◌, inl, inr, refl, sym, subst, ◌∙◌, ap, ℕ, zero, suc, ◌+◌, ◌<◌, ◌≤◌, true, List, [], ◌∷◌, ◌++◌, map, length, take, drop, Option, Some, None, append_assoc, arith}
-use Rattle.std.specs.Prelude.{option_to_list, slice_get, slice_set}
+use Rattle.std.proofs.Common.{◌≡◌, ◌≢◌, inl, inr, refl, sym, subst, ◌∙◌, ap, ℕ, zero, suc, ◌≤◌, true, List, [], ◌∷◌, ◌++◌, map, length, take, drop, Some, append_assoc, arith}
+use Rattle.std.specs.Prelude.{option_to_list, slice_set}
 use Rattle.std.specs.FinMap.{get, insert}
 use Rattle.std.proofs.lemmas.Bool.{cases_eq}
 use Rattle.std.proofs.lemmas.List.{map-append, take-map, drop-map}
@@ -9,16 +9,16 @@ use Rattle.tb_pool.proofs.MapLemmas.{insert_twice_from_get}
 use Rattle.tb_node.specs.declared.Node.{Node}
 use Rattle.tb_node.specs.declared.Kind.{Kind}
 use Rattle.tb_node.specs.declared.Kind.TheVariants as kinds
-use Rattle.tb_node.specs.Plain.{PlainNode, plain_of}
+use Rattle.tb_node.specs.Plain.{plain_of}
 use Rattle.tb_insert.specs.declared.Class.{Class}
 use Rattle.tb_builder.specs.declared.Builder.{Builder}
 use Rattle.tb_builder.specs.Fired.{spent_kind, with_spent_break}
-use Rattle.tb_builder.specs.Owned.{Lacks, AllDiffer, inner_of, inner_ids, Ids, ids_of, nodes_of, owned, is_known, AllKnown, classes_of, IsOwned}
-use Rattle.tb_builder.specs.Contents.{contents_of, plain_list}
+use Rattle.tb_builder.specs.Owned.{inner_of, inner_ids, Ids, ids_of, is_known, AllKnown, classes_of, IsOwned}
+use Rattle.tb_builder.specs.Contents.{contents_of}
 use Rattle.tb_builder.specs.Firing.{spent_node_kind, spent_nodes, Cuts}
 use Rattle.tb_builder.proofs.OwnedLemmas.{inner-append, known-left, known-right, known-append}
 use Rattle.tb_builder.proofs.StoreMoves.{Got, got_two, list_got, live_got, list_kept, live_kept, live_has, one_got, one_other}
-use Rattle.tb_builder.proofs.RelistLemmas.{Relisted, relisted_own, relisted_others, relisted_keeps, relisted_held, relisted_page, relisted_waiting, relisted_boxes}
+use Rattle.tb_builder.proofs.RelistLemmas.{Relisted, relisted_own, relisted_others, relisted_keeps, relisted_page, relisted_waiting, relisted_boxes}
 
 -- ---- the break node
 

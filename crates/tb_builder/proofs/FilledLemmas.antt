@@ -1,34 +1,29 @@
 -- Turn by turn up to an event.
-use Rattle.std.proofs.Common.{◌≡◌, ◌⊎◌, inl, inr, refl, sym, subst, ◌∙◌, ap, ℕ, ◌<◌, ◌≤◌, ℤ, Bool, true, false, List, [], ◌∷◌, ◌++◌, length, map, Option, None, Some, append-nil, arith}
+use Rattle.std.proofs.Common.{◌≡◌, inl, refl, sym, subst, ◌∙◌, ap, ℕ, ◌<◌, ℤ, Bool, true, false, List, [], ◌∷◌, ◌++◌, length, map, Option, None, Some, append-nil, arith}
 use Rattle.std.specs.Prelude.{slice_get, if◌then◌else◌}
-use Rattle.std.specs.FinMap.{get}
 use Rattle.std.proofs.lemmas.Bool.{true≢false}
 use Rattle.std.proofs.lemmas.List.{length-map}
-use Rattle.tb_pool.specs.Lists.{Lists, IsLive, list_at, with_list}
+use Rattle.tb_pool.specs.Lists.{Lists, list_at, with_list}
 use Rattle.tb_node.specs.declared.Node.{Node}
 use Rattle.tb_node.specs.declared.Act.{Act}
 use Rattle.tb_node.specs.declared.Kind.{Kind}
 use Rattle.tb_node.specs.declared.Kind.TheVariants as kinds
-use Rattle.tb_node.specs.Plain.{act, PlainNode, plain_of, is_act_kind}
+use Rattle.tb_node.specs.Plain.{act, PlainNode, plain_of}
 use Rattle.tb_break.specs.Legal.{ends_lasting}
-use Rattle.tb_break.specs.Best.{Breakpoint, is_stop}
+use Rattle.tb_break.specs.Best.{is_stop}
 use Rattle.tb_break.specs.Prune.{pruned_nodes}
 use Rattle.tb_insert.specs.Account.{Frozen, terms_after}
 use Rattle.tb_builder.specs.declared.Ask.{Ask}
 use Rattle.tb_builder.specs.declared.Builder.{Builder}
-use Rattle.tb_builder.specs.declared.Course.{Course}
-use Rattle.tb_builder.specs.declared.Try.{Try}
 use Rattle.tb_builder.specs.declared.Event.{Event}
 use Rattle.tb_builder.specs.declared.Event.TheVariants as events
-use Rattle.tb_builder.specs.Reached.{Reach, holds_box}
+use Rattle.tb_builder.specs.Reached.{holds_box}
 use Rattle.tb_builder.specs.Places.{page_shapes, glue_first, page_places, NoStop}
-use Rattle.tb_builder.specs.Fired.{Boxed}
 use Rattle.tb_builder.specs.Contents.{Contents, contents_of, frozen_of, ahead_of, laid, reach_ahead, places_of}
-use Rattle.tb_builder.specs.Owned.{Ids, ids_of, inner_of, owned, Lacks, IsOwned}
+use Rattle.tb_builder.specs.Owned.{ids_of, inner_of}
 use Rattle.tb_builder.specs.Running.{CourseStands, Underway, places_by, kept_frozen, page_frozen, frozen_with, AllLoose, AllLasting, PageStands, IsSound, act_of_kind, insertion_of_kind}
-use Rattle.tb_builder.specs.Next.{NextFits, BoxesFit, LaidFits, Stays, FirstIs, EmptyIs, NextIs}
-use Rattle.tb_builder.specs.Turn.{Moves, StepIs, StepFits, Turns, TurnBy, TurnIs, Filled}
-use Rattle.tb_builder.proofs.PageLemmas.{glue_acts}
+use Rattle.tb_builder.specs.Next.{NextFits, BoxesFit, LaidFits, Stays, FirstIs, NextIs}
+use Rattle.tb_builder.specs.Turn.{Moves, StepIs, StepFits, Turns, TurnIs, Filled}
 use Rattle.tb_builder.proofs.MoveLemmas.{Written, written_drop}
 use Rattle.tb_builder.proofs.FillLemmas.{moves_from, page_from, waiting_from}
 use Rattle.tb_builder.proofs.TurnLemmas.{acts_turn, empty_turn, ahead_open, lays_open}

@@ -1,10 +1,9 @@
 -- A page fires: what the builder held before, and what it holds afterwards.
-use Rattle.std.proofs.Common.{◌≡◌, ◌≢◌, refl, sym, subst, ◌∙◌, ap, ℕ, zero, suc, ◌+◌, ◌≤◌, ℤ, Bool, true, false, List, [], ◌∷◌, ◌++◌, map, length, take, drop, Option, Some, None, IsSome, is_some, append_assoc, append-nil, arith}
-use Rattle.std.specs.FinMap.{get, insert}
+use Rattle.std.proofs.Common.{◌≡◌, ◌≢◌, refl, sym, subst, ◌∙◌, ap, ℕ, zero, suc, ◌≤◌, ℤ, true, false, List, [], ◌∷◌, ◌++◌, map, length, take, drop, Option, Some, None, is_some, append_assoc}
+use Rattle.std.specs.FinMap.{get}
 use Rattle.std.proofs.lemmas.Bool.{true≢false}
-use Rattle.std.proofs.lemmas.List.{length-map, nil_from_length}
+use Rattle.std.proofs.lemmas.List.{length-map}
 use Rattle.tb_pool.specs.Lists.{Lists, IsLive, list_at, with_list}
-use Rattle.tb_pool.specs.declared.ListId.{ListId}
 use Rattle.tb_node.specs.declared.Node.{Node}
 use Rattle.tb_node.specs.Plain.{PlainNode, plain_of, without_insertions}
 use Rattle.tb_break.specs.declared.Best.{Best}
@@ -13,21 +12,20 @@ use Rattle.tb_break.specs.Scan.{best_of}
 use Rattle.tb_insert.specs.Account.{Frozen, Labelled, labelled, terms_after}
 use Rattle.tb_insert.specs.Running.{AccountStands}
 use Rattle.tb_builder.specs.declared.Ask.{Ask}
-use Rattle.tb_builder.specs.declared.Course.{Course}
 use Rattle.tb_builder.specs.declared.Page.{Page}
 use Rattle.tb_builder.specs.declared.Builder.{Builder}
 use Rattle.tb_builder.specs.Reached.{Reach, holds_box, reach_from, breakpoints}
-use Rattle.tb_builder.specs.Fired.{Boxed, Fired, no_place, page_break, from_break, penalty_at, line_at, with_spent_break, box_after, held_insertions, fired_by}
+use Rattle.tb_builder.specs.Fired.{Fired, no_place, page_break, penalty_at, line_at, with_spent_break, box_after, held_insertions, fired_by}
 use Rattle.tb_builder.specs.Contents.{Contents, contents_of, plain_list, frozen_or, frozen_of, reach_whole}
 use Rattle.tb_builder.specs.Owned.{Lacks, AllLive, inner_ids, Ids, ids_of, owned, IsOwned}
-use Rattle.tb_builder.specs.Running.{ChampionIs, CourseStands, AtStop, places_by, page_frozen, AllLoose, AllLasting, PageStands, IsSound}
+use Rattle.tb_builder.specs.Running.{ChampionIs, AtStop, places_by, page_frozen, AllLoose, AllLasting, PageStands, IsSound}
 use Rattle.tb_builder.specs.Places.{page_shapes}
 use Rattle.tb_break.specs.Legal.{ends_lasting}
-use Rattle.tb_builder.specs.Next.{NodeFits, FiredIs, PageIs, fired_page, after_fired}
+use Rattle.tb_builder.specs.Next.{FiredIs, PageIs, fired_page, after_fired}
 use Rattle.tb_builder.specs.Firing.{SortsTo, Sorted, IsMarkedAt, EachFits, Cuts, Fires}
 use Rattle.tb_builder.proofs.OwnedLemmas.{AllSame}
 use Rattle.tb_builder.proofs.StoreMoves.{list_got, live_got, list_kept, one_got, one_other}
-use Rattle.tb_builder.proofs.RelistLemmas.{frame_own, frame_owned, frame_page, frame_waiting, frame_held, frame_boxes, same_lacking}
+use Rattle.tb_builder.proofs.RelistLemmas.{frame_own, frame_owned, frame_page, frame_waiting, frame_boxes, same_lacking}
 
 -- ---- where the page breaks
 

@@ -1,16 +1,15 @@
 -- The first box or rule of a page comes behind the top glue.
-use Rattle.std.proofs.Common.{◌≡◌, ◌≢◌, ◌⊎◌, inl, inr, refl, sym, subst, ◌∙◌, ap, ℕ, ◌<◌, ℤ, pos, Bool, true, false, List, [], ◌∷◌, ◌++◌, length, map, Option, None, Some, append_assoc}
-use Rattle.std.specs.Prelude.{slice_get, ◌||◌, if◌then◌else◌}
+use Rattle.std.proofs.Common.{◌≡◌, inr, refl, sym, subst, ◌∙◌, ap, ℕ, ℤ, Bool, true, false, List, [], ◌∷◌, ◌++◌, map, Option, None, Some, append_assoc}
+use Rattle.std.specs.Prelude.{◌||◌}
 use Rattle.std.proofs.lemmas.Bool.{true≢false}
 use Rattle.tb_pool.specs.Lists.{Lists, list_at, with_list}
 use Rattle.tb_node.specs.declared.Node.{Node}
 use Rattle.tb_node.specs.declared.Kind.{Kind}
 use Rattle.tb_node.specs.declared.Kind.TheVariants as kinds
-use Rattle.tb_node.specs.Shape.{Shape, is_box, is_discardable}
+use Rattle.tb_node.specs.Shape.{Shape, is_box}
 use Rattle.tb_node.specs.Small.{IsSmallShape}
-use Rattle.tb_node.specs.Plain.{PlainNode, plain_of, node_shape, shape_of, shape_of_kind}
+use Rattle.tb_node.specs.Plain.{PlainNode, plain_of, shape_of, shape_of_kind}
 use Rattle.tb_break.specs.Prune.{glue_before, pruned_nodes, top_glue}
-use Rattle.tb_insert.specs.declared.Class.{Class}
 use Rattle.tb_insert.specs.Account.{Frozen, terms_after}
 use Rattle.tb_builder.specs.declared.Ask.{Ask}
 use Rattle.tb_builder.specs.declared.Builder.{Builder}
@@ -18,14 +17,14 @@ use Rattle.tb_builder.specs.declared.Course.{Course}
 use Rattle.tb_builder.specs.Reached.{holds_box}
 use Rattle.tb_builder.specs.Places.{NoStop}
 use Rattle.tb_builder.specs.Contents.{Contents, contents_of, frozen_or, frozen_of, ahead_of, laid}
-use Rattle.tb_builder.specs.Owned.{Ids, ids_of, inner_of, is_known, classes_of, IsOwned}
+use Rattle.tb_builder.specs.Owned.{Ids, ids_of, inner_of, is_known, classes_of}
 use Rattle.tb_builder.specs.Running.{CourseStands, Underway, places_by, kept_frozen, frozen_with, frozen_at, AllLoose, AllLasting, PageStands, IsSound, act_of_kind, insertion_of_kind, height_of}
-use Rattle.tb_builder.specs.Next.{NextFits, LaidFits, NodeFits}
+use Rattle.tb_builder.specs.Next.{NextFits, LaidFits}
 use Rattle.tb_builder.specs.Turn.{Moves, StepFits}
 use Rattle.tb_builder.proofs.MoveLemmas.{Written, written_front}
 use Rattle.tb_builder.proofs.FillLemmas.{moves_from, page_from, waiting_from}
 use Rattle.tb_builder.proofs.CourseLemmas.{shape_is, loose_shape}
-use Rattle.tb_builder.proofs.TurnLemmas.{Lays, lays_closed, lays_open, ahead_open, ahead_closed, lasting_places, frozen_as}
+use Rattle.tb_builder.proofs.TurnLemmas.{Lays, lays_closed, ahead_closed, lasting_places, frozen_as}
 use Rattle.tb_builder.proofs.MeetLemmas.{stays_from}
 
 -- ---- the top glue

@@ -1,17 +1,14 @@
 -- A builder stands where its lists were left alone; what callers owe of the nodes and lists that they hand over.
-use Rattle.std.proofs.Common.{◌≡◌, ◌≢◌, refl, sym, subst, ◌∙◌, ap, ℕ, Bool, true, false, List, [], ◌∷◌, ◌++◌, map, Option, None, Some, is_some, append-nil}
+use Rattle.std.proofs.Common.{◌≡◌, refl, sym, subst, ◌∙◌, ap, ℕ, true, List, [], ◌∷◌, ◌++◌, map, None, Some, is_some, append-nil}
 use Rattle.std.specs.Prelude.{option_to_list}
 use Rattle.std.specs.FinMap.{get}
 use Rattle.std.proofs.lemmas.Bool.{true≢false}
-use Rattle.tb_pool.specs.Lists.{Lists, IsLive, list_at, with_list}
+use Rattle.tb_pool.specs.Lists.{Lists, IsLive, list_at}
 use Rattle.tb_node.specs.declared.Node.{Node}
-use Rattle.tb_node.specs.declared.Kind.{Kind}
-use Rattle.tb_node.specs.declared.Kind.TheVariants as kinds
 use Rattle.tb_node.specs.Plain.{PlainNode, plain_of}
-use Rattle.tb_insert.specs.declared.Class.{Class}
 use Rattle.tb_builder.specs.declared.Builder.{Builder}
-use Rattle.tb_builder.specs.Contents.{Contents, contents_of, boxed_of, plain_list}
-use Rattle.tb_builder.specs.Owned.{Lacks, AllDiffer, AllLive, inner_of, inner_ids, Ids, ids_of, nodes_of, box_ids, own_ids, owned, is_plain, AllPlain, HoldPlain, is_known, AllKnown, classes_of, IsOwned}
+use Rattle.tb_builder.specs.Contents.{Contents, contents_of, plain_list}
+use Rattle.tb_builder.specs.Owned.{Lacks, AllDiffer, AllLive, inner_of, inner_ids, Ids, ids_of, nodes_of, box_ids, own_ids, owned, AllPlain, HoldPlain, is_known, classes_of, IsOwned}
 use Rattle.tb_builder.specs.Running.{PageStands, IsSound}
 use Rattle.tb_builder.specs.Handed.{NodesJoin, ListJoins, ends_in_kern, MayWait, NoPage}
 use Rattle.tb_builder.proofs.OwnedLemmas.{AllSame, same-left, same-right, inner-append, live-right, plain-right, lists_same, live_same, plain_same, boxes_same, view_same}

@@ -1,17 +1,16 @@
 -- Lists come before others, and what the output routine puts back comes before what waits.
-use Rattle.std.proofs.Common.{◌≡◌, ◌≢◌, refl, sym, subst, ◌∙◌, ap, ℕ, Bool, true, false, List, [], ◌∷◌, ◌++◌, map, Option, None, Some, is_some, unwrap_or, append_assoc, append-nil}
+use Rattle.std.proofs.Common.{◌≡◌, ◌≢◌, refl, sym, subst, ◌∙◌, ap, ℕ, true, List, [], ◌∷◌, ◌++◌, map, Option, None, Some, is_some, unwrap_or, append_assoc}
 use Rattle.std.specs.FinMap.{get, insert}
 use Rattle.std.proofs.lemmas.List.{map-append}
 use Rattle.tb_pool.specs.Lists.{Lists, IsLive, list_at, with_list}
-use Rattle.tb_pool.proofs.MapLemmas.{get-insert_same, get-insert_other}
 use Rattle.tb_node.specs.declared.Node.{Node}
-use Rattle.tb_node.specs.Plain.{PlainNode, plain_of}
+use Rattle.tb_node.specs.Plain.{plain_of}
 use Rattle.tb_builder.specs.declared.Builder.{Builder}
 use Rattle.tb_builder.specs.Owned.{Lacks, AllDiffer, AllLive, inner_ids, Ids, ids_of, nodes_of, box_ids, own_ids, owned, HoldPlain, AllKnown, classes_of, IsOwned}
 use Rattle.tb_builder.specs.Contents.{Contents, contents_of, plain_list}
-use Rattle.tb_builder.specs.Running.{PageStands, IsSound}
-use Rattle.tb_builder.specs.Handed.{NodesJoin, ListJoins, InFront, NoPage}
-use Rattle.tb_builder.proofs.OwnedLemmas.{Apart, AllSame, lacks-append, lacks-left, lacks-right, live-append, live-left, live-right, plain-append, plain-left, plain-right, known-append, known-left, known-right, same_from, lists_same, live_same, plain_same, boxes_same, view_same, inner-append, same-left, same-right}
+use Rattle.tb_builder.specs.Running.{IsSound}
+use Rattle.tb_builder.specs.Handed.{ListJoins, InFront, NoPage}
+use Rattle.tb_builder.proofs.OwnedLemmas.{AllSame, live-append, live-left, live-right, plain-append, plain-left, plain-right, known-append, known-left, known-right, same_from, lists_same, live_same, plain_same, boxes_same, view_same, inner-append, same-left, same-right}
 use Rattle.tb_builder.proofs.MoveLemmas.{Wrote, wrote_two}
 use Rattle.tb_builder.proofs.WaitLemmas.{page_free}
 use Rattle.tb_builder.proofs.JoinLemmas.{apart_cons, apart_none, lacks_swap, differ_swap, Holds, nodes_are, holds_own, sound_from}

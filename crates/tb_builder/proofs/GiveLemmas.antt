@@ -1,27 +1,24 @@
 -- The insertion that is first on a page gives nodes to the box of its class, is held, or goes.
-use Rattle.std.proofs.Common.{◌≡◌, ◌≢◌, ◌⊎◌, inl, inr, refl, sym, subst, ◌∙◌, ap, ℕ, ◌≤◌, Bool, true, false, List, [], ◌∷◌, ◌++◌, map, Option, None, Some, is_some, append_assoc}
+use Rattle.std.proofs.Common.{◌≡◌, ◌≢◌, ◌⊎◌, inl, inr, refl, sym, subst, ◌∙◌, ap, ℕ, true, List, [], ◌∷◌, ◌++◌, map, Some, append_assoc}
 use Rattle.std.specs.Prelude.{option_to_list}
 use Rattle.std.specs.FinMap.{get, insert, remove}
 use Rattle.std.proofs.lemmas.Bool.{cases_eq}
-use Rattle.std.proofs.lemmas.List.{map-append}
 use Rattle.tb_pool.specs.Lists.{Lists, IsLive, list_at, with_list}
-use Rattle.tb_pool.proofs.MapLemmas.{get-remove_same, get-remove_other}
+use Rattle.tb_pool.proofs.MapLemmas.{get-remove_other}
 use Rattle.tb_node.specs.declared.Node.{Node}
 use Rattle.tb_node.specs.declared.Insertion.{Insertion}
 use Rattle.tb_node.specs.declared.Kind.{Kind}
 use Rattle.tb_node.specs.declared.Kind.TheVariants as kinds
-use Rattle.tb_node.specs.Plain.{PlainNode, plain_of, leaf_of}
+use Rattle.tb_node.specs.Plain.{plain_of, leaf_of}
 use Rattle.tb_insert.specs.declared.Class.{Class}
-use Rattle.tb_builder.specs.declared.ClassList.{ClassList}
-use Rattle.tb_builder.specs.declared.Builder.{Builder}
-use Rattle.tb_builder.specs.Owned.{Lacks, AllDiffer, AllLive, inner_of, inner_ids, Ids, ids_of, nodes_of, box_ids, own_ids, owned, AllPlain, HoldPlain, VoidEmpty, has_class, ClassesFit, is_known, AllKnown, classes_of, IsOwned}
-use Rattle.tb_builder.specs.Contents.{boxed_of, plain_list, contents_of}
+use Rattle.tb_builder.specs.Owned.{Lacks, AllDiffer, AllLive, inner_of, inner_ids, Ids, nodes_of, box_ids, own_ids, owned, AllPlain, HoldPlain, has_class, ClassesFit, is_known, AllKnown, classes_of, IsOwned}
+use Rattle.tb_builder.specs.Contents.{boxed_of, plain_list}
 use Rattle.tb_builder.specs.Running.{insertion_of_kind}
-use Rattle.tb_builder.specs.Firing.{opened, box_list, box_with, Sorts, Gives, Takes, Drops}
-use Rattle.tb_builder.proofs.OwnedLemmas.{AllSame, lacks-append, lacks-left, lacks-right, differ-left, differ-right, lists_same, live_same, plain_same, void_same, boxes_same, view_same, inner-append, same-left, same-right, live-left, live-right, plain-left, plain-right, plain-append, live-append, known-append, known-left, known-right}
+use Rattle.tb_builder.specs.Firing.{opened, box_list, box_with}
+use Rattle.tb_builder.proofs.OwnedLemmas.{AllSame, lacks-append, lacks-left, lacks-right, differ-left, lists_same, live_same, plain_same, void_same, boxes_same, view_same, inner-append, same-left, same-right, live-left, plain-left, plain-right, plain-append, known-append, known-left, known-right}
 use Rattle.tb_builder.proofs.RestLemmas.{plain-both}
 use Rattle.tb_builder.proofs.StoreMoves.{Got, got_two, list_got, live_got, live_kept, one_got, one_other, live_has}
-use Rattle.tb_builder.proofs.RelistLemmas.{Relisted, relisted_own, relisted_others, relisted_keeps, relisted_held, relisted_page, relisted_waiting, relisted_boxes}
+use Rattle.tb_builder.proofs.RelistLemmas.{Relisted}
 use Rattle.tb_builder.proofs.OpenLemmas.{opened-classes, opened-ids, box_live, box_apart, box_lacks, box_holds_plain, OthersSame, others_from, opened-void, opened-boxes}
 
 -- ---- an id among others

@@ -1,22 +1,20 @@
 -- Nodes that are handed over join the builder's lists.
-use Rattle.std.proofs.Common.{◌≡◌, ◌≢◌, refl, sym, subst, ◌∙◌, ap, ℕ, Bool, true, false, List, [], ◌∷◌, ◌++◌, map, Option, None, Some, is_some, append_assoc, append-nil}
-use Rattle.std.specs.FinMap.{FinMap, get, insert}
+use Rattle.std.proofs.Common.{◌≡◌, ◌≢◌, refl, sym, subst, ◌∙◌, ap, ℕ, List, [], ◌∷◌, ◌++◌, map, append_assoc}
+use Rattle.std.specs.FinMap.{FinMap, get}
 use Rattle.std.specs.Ordering.{nat_cmp}
 use Rattle.std.proofs.lemmas.List.{map-append}
 use Rattle.tb_pool.specs.Lists.{Lists, IsLive, list_at, with_list}
-use Rattle.tb_pool.proofs.MapLemmas.{get-insert_same}
 use Rattle.tb_node.specs.declared.Node.{Node}
-use Rattle.tb_node.specs.Plain.{PlainNode, plain_of}
-use Rattle.tb_insert.specs.declared.Class.{Class}
+use Rattle.tb_node.specs.Plain.{plain_of}
 use Rattle.tb_builder.specs.declared.Builder.{Builder}
 use Rattle.tb_builder.specs.Reached.{holds_box}
-use Rattle.tb_builder.specs.Owned.{Lacks, AllDiffer, AllLive, inner_ids, Ids, ids_of, nodes_of, box_ids, own_ids, owned, HoldPlain, VoidEmpty, AllKnown, classes_of, IsOwned}
-use Rattle.tb_builder.specs.Contents.{Contents, contents_of, boxed_of, plain_list}
+use Rattle.tb_builder.specs.Owned.{Lacks, AllDiffer, AllLive, inner_ids, Ids, ids_of, nodes_of, box_ids, own_ids, owned, HoldPlain, AllKnown, classes_of, IsOwned}
+use Rattle.tb_builder.specs.Contents.{Contents, contents_of, plain_list}
 use Rattle.tb_builder.specs.Running.{AllLasting, PageStands, IsSound}
-use Rattle.tb_builder.specs.Handed.{NodesJoin, ListJoins, MayWait, NoPage}
-use Rattle.tb_builder.proofs.OwnedLemmas.{Apart, AllSame, lacks-append, lacks-left, lacks-right, differ-left, differ-right, differ-apart, differ-append, live-append, live-left, live-right, plain-append, plain-left, plain-right, known-append, known-left, known-right, same_from, lists_same, live_same, plain_same, void_same, boxes_same, view_same, inner-append, same-left, same-right, same-append}
-use Rattle.tb_builder.proofs.MoveLemmas.{list_same, list_other, get_other, live_same_one, live_other, Wrote, wrote_two}
-use Rattle.tb_builder.proofs.WaitLemmas.{page_grows, page_free}
+use Rattle.tb_builder.specs.Handed.{NodesJoin, MayWait}
+use Rattle.tb_builder.proofs.OwnedLemmas.{Apart, AllSame, lacks-append, lacks-left, lacks-right, differ-left, differ-right, differ-apart, differ-append, live-append, live-left, live-right, plain-append, plain-left, plain-right, known-append, same_from, lists_same, live_same, plain_same, void_same, boxes_same, view_same, inner-append, same-left, same-right}
+use Rattle.tb_builder.proofs.MoveLemmas.{list_same, list_other, get_other, live_same_one, live_other}
+use Rattle.tb_builder.proofs.WaitLemmas.{page_grows}
 
 -- ---- ids in another order
 

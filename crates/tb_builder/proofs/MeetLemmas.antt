@@ -1,35 +1,28 @@
 -- A turn on a page: an insertion comes, or a node passes before the first box.
-use Rattle.std.proofs.Common.{◌≡◌, ◌≢◌, ◌⊎◌, inl, inr, refl, sym, subst, ◌∙◌, ap, ℕ, ◌<◌, ◌≤◌, ℤ, Bool, true, false, List, [], ◌∷◌, ◌++◌, length, map, Option, None, Some, append_assoc, arith}
+use Rattle.std.proofs.Common.{◌≡◌, ◌⊎◌, inl, inr, refl, sym, subst, ◌∙◌, ap, ◌<◌, ◌≤◌, ℤ, Bool, true, false, List, [], ◌∷◌, ◌++◌, length, map, Option, None, Some, arith}
 use Rattle.std.specs.Prelude.{not}
-use Rattle.std.specs.FinMap.{get, insert}
-use Rattle.std.proofs.lemmas.Bool.{true≢false}
 use Rattle.std.proofs.lemmas.List.{map-append}
-use Rattle.tb_pool.specs.Lists.{Lists, list_at, with_list}
+use Rattle.tb_pool.specs.Lists.{Lists, list_at}
 use Rattle.tb_node.specs.declared.Node.{Node}
-use Rattle.tb_node.specs.declared.Insertion.{Insertion}
 use Rattle.tb_node.specs.Shape.{other, is_box, is_discardable}
-use Rattle.tb_node.specs.Plain.{Inserted, inserted_of, ins, PlainNode, plain_of, node_shape, shape_of, is_act_kind}
-use Rattle.tb_break.specs.Best.{Breakpoint}
+use Rattle.tb_node.specs.Plain.{PlainNode, plain_of, node_shape, shape_of, is_act_kind}
 use Rattle.tb_break.specs.Legal.{ends_lasting}
-use Rattle.tb_break.specs.Prune.{pruned_nodes}
-use Rattle.tb_insert.specs.declared.Class.{Class}
 use Rattle.tb_insert.specs.Account.{Frozen, terms_after}
 use Rattle.tb_builder.specs.declared.Ask.{Ask}
 use Rattle.tb_builder.specs.declared.Course.{Course}
 use Rattle.tb_builder.specs.declared.Builder.{Builder}
 use Rattle.tb_builder.specs.Reached.{holds_box}
-use Rattle.tb_builder.specs.Fired.{Boxed}
 use Rattle.tb_builder.specs.Places.{page_shapes, NoStop}
 use Rattle.tb_builder.specs.Contents.{Contents, contents_of, frozen_or, frozen_of}
-use Rattle.tb_builder.specs.Owned.{Ids, ids_of, inner_of, IsOwned}
-use Rattle.tb_builder.specs.Running.{CourseStands, Underway, AtStop, places_by, frozen_with, page_frozen, is_loose, AllLoose, AllLasting, Unfrozen, PageStands, IsSound, act_of_kind, insertion_of_kind}
+use Rattle.tb_builder.specs.Owned.{ids_of}
+use Rattle.tb_builder.specs.Running.{CourseStands, Underway, places_by, frozen_with, page_frozen, is_loose, AllLoose, AllLasting, PageStands, IsSound, act_of_kind}
 use Rattle.tb_builder.specs.Next.{Stays}
-use Rattle.tb_builder.specs.Turn.{Moves, Shifted, Turns, TurnIs}
-use Rattle.tb_builder.proofs.MoveLemmas.{Written, written_shift, written_drop}
-use Rattle.tb_builder.proofs.FillLemmas.{moves_from, shifted_from, page_from, waiting_from}
-use Rattle.tb_builder.proofs.CourseLemmas.{shape_is, no_act, loose_shape, loose_act}
+use Rattle.tb_builder.specs.Turn.{Moves, TurnIs}
+use Rattle.tb_builder.proofs.MoveLemmas.{Written}
+use Rattle.tb_builder.proofs.FillLemmas.{moves_from, page_from, waiting_from}
+use Rattle.tb_builder.proofs.CourseLemmas.{shape_is, no_act}
 use Rattle.tb_builder.proofs.TurnLemmas.{Same, same_frozen, same_keeps, lasts_turn, drops_turn, lasting-append, loose-append, holds_same, lasting_places}
-use Rattle.tb_builder.proofs.FreezeLemmas.{frozen_course, plain_insertion, underway_stays, course_loose, lasts_loose, loose_node, no_inner, gone_at}
+use Rattle.tb_builder.proofs.FreezeLemmas.{underway_stays, course_loose, lasts_loose, gone_at}
 
 -- a page that is underway, with the goal that is frozen
 pub stands_some : (o : Option (ℤ × ℤ)) (f : ℤ × ℤ) (st : Bool) (k : Course) (c : Contents) (ask : Ask) → o ≡ Some f → c.frozen ≡ Some f → st ≡ false → Underway (frozen_of c ask) k c.page c.waiting → PageStands o st k c

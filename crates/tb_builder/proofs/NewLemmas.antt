@@ -1,5 +1,5 @@
 -- Lists are opened for a new builder.
-use Rattle.std.proofs.Common.{◌≡◌, ◌≢◌, refl, sym, subst, ◌∙◌, ap, ℕ, ◌+◌, ◌<◌, pos, Bool, true, false, List, [], ◌∷◌, ◌++◌, length, map, take, get_or, Option, None, Some, is_some, unwrap_or, append-nil, add-one}
+use Rattle.std.proofs.Common.{◌≡◌, ◌≢◌, refl, sym, subst, ◌∙◌, ap, ℕ, ◌+◌, ◌<◌, pos, true, false, List, [], ◌∷◌, ◌++◌, length, map, take, get_or, None, is_some, append-nil, add-one}
 use Rattle.std.specs.FinMap.{get}
 use Rattle.std.proofs.Math.Seq.{take-suc}
 use Rattle.std.proofs.lemmas.Bool.{true≢false}
@@ -16,8 +16,8 @@ use Rattle.tb_builder.specs.declared.Builder.{Builder}
 use Rattle.tb_builder.specs.Reached.{holds_box}
 use Rattle.tb_builder.specs.Places.{page_shapes}
 use Rattle.tb_break.specs.Legal.{ends_lasting}
-use Rattle.tb_builder.specs.Contents.{Contents, contents_of, boxed_of, void_box, nothing_yet, content_by, leaf_list, plain_list}
-use Rattle.tb_builder.specs.Owned.{Lacks, AllDiffer, AllLive, inner_ids, Ids, ids_of, nodes_of, box_ids, own_ids, owned, AllPlain, HoldPlain, VoidEmpty, ClassesFit, AllKnown, IsOwned}
+use Rattle.tb_builder.specs.Contents.{Contents, contents_of, boxed_of, void_box, nothing_yet, content_by, leaf_list}
+use Rattle.tb_builder.specs.Owned.{Lacks, AllDiffer, AllLive, inner_ids, ids_of, nodes_of, box_ids, own_ids, owned, AllPlain, HoldPlain, VoidEmpty, ClassesFit, AllKnown, IsOwned}
 use Rattle.tb_builder.specs.Running.{CourseStands, AllLoose, AllLasting, Unfrozen, PageStands, IsSound}
 use Rattle.tb_builder.specs.Opened.{AllEmpty, Opened, AllVoid, VoidBoxes}
 use Rattle.tb_builder.proofs.OwnedLemmas.{lacks-append, live-append}

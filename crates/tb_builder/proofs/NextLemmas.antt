@@ -1,16 +1,12 @@
 -- What `next` asks and says where a page fires.
-use Rattle.std.proofs.Common.{◌≡◌, ◌≢◌, refl, sym, subst, ◌∙◌, ap, ℕ, List, [], ◌∷◌, ◌++◌, map, Option, None, Some, is_some, append_assoc}
+use Rattle.std.proofs.Common.{◌≡◌, ◌≢◌, sym, ◌∙◌, ap, ℕ, None, is_some}
 use Rattle.std.specs.FinMap.{get}
 use Rattle.std.proofs.lemmas.Bool.{true≢false}
-use Rattle.tb_pool.specs.Lists.{Lists, IsLive, list_at}
+use Rattle.tb_pool.specs.Lists.{Lists, IsLive}
 use Rattle.tb_node.specs.declared.Node.{Node}
-use Rattle.tb_node.specs.Plain.{PlainNode}
-use Rattle.tb_builder.specs.declared.Ask.{Ask}
 use Rattle.tb_builder.specs.declared.Page.{Page}
 use Rattle.tb_builder.specs.declared.Builder.{Builder}
-use Rattle.tb_builder.specs.Contents.{Contents, contents_of, ahead_of}
-use Rattle.tb_builder.specs.Owned.{ids_of, owned, Lacks, Keeps}
-use Rattle.tb_builder.specs.Next.{NodeFits, NextFits}
+use Rattle.tb_builder.specs.Owned.{ids_of, Keeps}
 use Rattle.tb_builder.specs.Firing.{Fires}
 
 -- a list that was not live before is none of those that were

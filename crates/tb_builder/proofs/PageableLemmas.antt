@@ -1,35 +1,31 @@
 -- What `next` asks holds of contents whose nodes are sized and not too many.
-use Rattle.std.proofs.Common.{◌≡◌, refl, sym, subst, ◌∙◌, ap, ℕ, suc, ◌+◌, ◌*◌, ◌≤◌, ℤ, pos, neg_ℤ, ◌+ℤ◌, ◌-ℤ◌, ◌≤ℤ◌, Bool, true, false, List, [], ◌∷◌, ◌++◌, length, take, drop, Option, None, Some, length-append, arith}
-use Rattle.std.specs.Prelude.{map, All, ◌==◌, ◌||◌, ◌&&◌, int_le, nat_le, int_lt, filter, if◌then◌else◌}
+use Rattle.std.proofs.Common.{◌≡◌, refl, sym, subst, ◌∙◌, ap, ℕ, ◌+◌, ◌*◌, ◌≤◌, ℤ, pos, ◌+ℤ◌, ◌-ℤ◌, Bool, true, false, List, [], ◌∷◌, ◌++◌, length, take, drop, Option, None, Some, length-append, arith}
+use Rattle.std.specs.Prelude.{map, All, ◌==◌, ◌||◌, ◌&&◌, int_le, nat_le, int_lt, if◌then◌else◌}
 use Rattle.std.proofs.lemmas.Int.{ints}
 use Rattle.std.proofs.lemmas.List.{length-map, take-append-drop}
 use Rattle.std.proofs.lemmas.List.Elements.{All-nil, All-cons, All-head, All-tail, All-map, All-weaker, All-append, All-push, All-filter, All-take, All-drop}
-use Rattle.tb_scaled.specs.Scaled.{eject_penalty, inf_penalty, max_ℤ, min_ℤ}
+use Rattle.tb_scaled.specs.Scaled.{eject_penalty, inf_penalty, min_ℤ}
 use Rattle.tb_scaled.specs.declared.Order.{Order}
 use Rattle.tb_scaled.specs.declared.Order.TheVariants.{Normal, Fil, Fill, Filll}
 use Rattle.tb_node.specs.declared.Sums.{Sums}
-use Rattle.tb_node.specs.Fit.{IsDimension, IsExtent, IsPenalty, IsSized, IsSizedLeaf, IsSummable, SumsFit}
-use Rattle.tb_node.specs.Small.{IsAmount, IsSmall}
+use Rattle.tb_node.specs.Fit.{IsDimension, IsExtent, IsPenalty, IsSized, IsSizedLeaf}
+use Rattle.tb_node.specs.Small.{IsAmount}
 use Rattle.tb_node.specs.Shape.{Shape, box, glue, kern, penalty, other}
 use Rattle.tb_node.specs.Plain.{Leaf, leaf_shape, Inserted, PlainKind, plain, ins, act, PlainNode, node_shape, skip}
 use Rattle.tb_node.specs.Sums.{sums_of, size_of, limited_depth, list_stretch, list_shrink}
 use Rattle.tb_node.proofs.FitLemmas.{IsWithin, sized-fits, nodes_fit, size_within, list_stretch_within, list_shrink_within, summed-fits, sums_fit}
-use Rattle.tb_break.specs.declared.Found.{Found}
-use Rattle.tb_break.specs.Legal.{ends_lasting, begins_with_glue, legal_penalty, split_penalty, legal_at}
+use Rattle.tb_break.specs.Legal.{ends_lasting, begins_with_glue, split_penalty}
 use Rattle.tb_break.specs.Split.{split_of}
 use Rattle.tb_break.specs.Prune.{pruned_nodes, pruned_at, top_glue}
-use Rattle.tb_break.specs.LastLeast.{IsLastLeast}
 use Rattle.tb_break.proofs.LastLemmas.{split-last_least}
 use Rattle.tb_insert.specs.declared.Class.{Class}
-use Rattle.tb_insert.specs.Terms.{sums_with}
-use Rattle.tb_insert.specs.Account.{ClassBox, Frozen, Label, whole, split, late, Labelled, class_box, taken, taken_by, scaled_by, insertions, is_met, met_classes, class_charge, insertion_charge, skip_shapes, class_height, has_split, label_where, label_of, labelled_with, labelled_from, labelled, goal_after, clamped, unscaled_room, penalty_of, penalties_of, terms_after}
+use Rattle.tb_insert.specs.Account.{ClassBox, Frozen, Label, whole, split, late, Labelled, class_box, taken, taken_by, scaled_by, insertions, is_met, met_classes, class_charge, insertion_charge, skip_shapes, class_height, has_split, label_where, label_of, labelled_with, labelled_from, labelled, goal_after, clamped, unscaled_room, penalty_of, penalties_of}
 use Rattle.tb_insert.specs.Arrived.{PageFits}
-use Rattle.tb_insert.specs.Running.{numbered}
 use Rattle.tb_builder.specs.declared.Ask.{Ask}
 use Rattle.tb_builder.specs.Reached.{holds_box}
 use Rattle.tb_builder.specs.Fired.{Boxed, content_of, box_content, box_size, class_boxes}
 use Rattle.tb_builder.specs.Contents.{Contents, frozen_or, frozen_of, ahead_of, laid, kind_count, node_count, box_count}
-use Rattle.tb_builder.specs.Next.{SizesFit, InsertedFits, KindFits, NodeFits, LaidFits, BoxesFit, AskFits, NextFits}
+use Rattle.tb_builder.specs.Next.{SizesFit, InsertedFits, KindFits, NodeFits, LaidFits, BoxesFit, NextFits}
 use Rattle.tb_builder.specs.Pageable.{IsSizedInserted, IsSizedKind, IsSizedOnPage, IsSizedClass, IsSizedBox, IsGoal, IsPageable}
 
 -- ---- parts of lists

@@ -1,11 +1,11 @@
 -- From an empty page on, the events of a builder are those of the whole page, and the page that fires is its fired page.
-use Rattle.std.proofs.Common.{◌≡◌, refl, sym, subst, ◌∙◌, ap, ℕ, ℤ, Bool, true, false, List, [], ◌∷◌, ◌++◌, Option, None, Some, take, drop, append_assoc, append-nil}
+use Rattle.std.proofs.Common.{◌≡◌, refl, sym, subst, ◌∙◌, ap, ℕ, true, false, List, [], ◌∷◌, ◌++◌, None, take, drop, append_assoc, append-nil}
 use Rattle.std.specs.Prelude.{map, if◌then◌else◌}
 use Rattle.tb_pool.specs.Lists.{Lists}
 use Rattle.tb_node.specs.declared.Act.{Act}
 use Rattle.tb_node.specs.declared.Node.{Node}
 use Rattle.tb_node.specs.Plain.{PlainNode, without_insertions}
-use Rattle.tb_break.specs.Best.{Breakpoint, is_stop, least_cost, best_or}
+use Rattle.tb_break.specs.Best.{Breakpoint, least_cost, best_or}
 use Rattle.tb_break.specs.Prune.{pruned_nodes}
 use Rattle.tb_builder.specs.Places.{page_places, glue_first}
 use Rattle.tb_insert.specs.Account.{Frozen, labelled, terms_after}
@@ -13,10 +13,10 @@ use Rattle.tb_builder.specs.declared.Ask.{Ask}
 use Rattle.tb_builder.specs.declared.Event.{Event}
 use Rattle.tb_builder.specs.declared.Event.TheVariants as events
 use Rattle.tb_builder.specs.Reached.{Reached, acted, tried, Reach, also_reached, reach_from, holds_box, laid_out, breakpoints, try_of}
-use Rattle.tb_builder.specs.Fired.{Boxed, Fired, no_place, penalty_at, line_at, with_spent_break, box_after, held_insertions, fired_of, frozen_for, reach_of, class_boxes}
+use Rattle.tb_builder.specs.Fired.{Boxed, Fired, no_place, penalty_at, line_at, with_spent_break, box_after, held_insertions, frozen_for, reach_of}
 use Rattle.tb_builder.specs.Contents.{Contents, frozen_of, frozen_or, laid, reach_ahead, reach_whole, places_of}
-use Rattle.tb_builder.specs.Next.{Goes, Stops, TriedIs, ActedIs, EmptyIs, FirstIs, Stays, NextIs, stopped_with, fired_page}
-use Rattle.tb_builder.specs.Paging.{after_all, HasCome, HasStopped, HasEnded, ComesToTry, ComesTo}
+use Rattle.tb_builder.specs.Next.{Goes, Stops, ActedIs, EmptyIs, FirstIs, Stays, NextIs}
+use Rattle.tb_builder.specs.Paging.{after_all, HasCome, HasStopped, HasEnded, ComesTo}
 
 breakpoints-append : (rs qs : List Reached) → breakpoints (rs ++ qs) ≡ breakpoints rs ++ breakpoints qs
 breakpoints-append [] qs = refl

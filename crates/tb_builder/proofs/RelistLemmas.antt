@@ -1,14 +1,13 @@
 -- The lists of a builder, where other lists changed, or where its nodes went from one of its lists to another.
-use Rattle.std.proofs.Common.{◌≡◌, ◌≢◌, refl, sym, subst, ◌∙◌, ap, ℕ, true, List, [], ◌∷◌, ◌++◌, map, Option, None, Some, is_some, append_assoc}
-use Rattle.std.specs.Prelude.{option_to_list}
-use Rattle.std.specs.FinMap.{get, insert}
-use Rattle.tb_pool.specs.Lists.{Lists, IsLive, list_at, with_list}
+use Rattle.std.proofs.Common.{◌≡◌, ◌≢◌, sym, subst, ◌∙◌, ap, ℕ, List, [], ◌∷◌, ◌++◌, map, Some}
+use Rattle.std.specs.FinMap.{get}
+use Rattle.tb_pool.specs.Lists.{Lists, list_at}
 use Rattle.tb_node.specs.declared.Node.{Node}
 use Rattle.tb_node.specs.Plain.{plain_of}
-use Rattle.tb_builder.specs.Owned.{Lacks, AllDiffer, AllLive, inner_of, inner_ids, Ids, nodes_of, box_ids, own_ids, owned, HoldPlain, VoidEmpty, is_known, AllKnown, classes_of, IsOwned}
+use Rattle.tb_builder.specs.Owned.{Lacks, AllDiffer, AllLive, inner_ids, Ids, nodes_of, box_ids, own_ids, owned, HoldPlain, AllKnown, classes_of, IsOwned}
 use Rattle.tb_builder.specs.Contents.{boxed_of, plain_list}
-use Rattle.tb_builder.proofs.OwnedLemmas.{Apart, AllSame, lacks-left, lacks-right, same_from, lists_same, live_same, plain_same, void_same, boxes_same, view_same, inner-append, same-left, same-right, live-left, live-right, known-append, known-left, known-right}
-use Rattle.tb_builder.proofs.StoreMoves.{Got, got_two, list_got, live_got, list_kept, live_kept, one_got, one_other}
+use Rattle.tb_builder.proofs.OwnedLemmas.{Apart, AllSame, same_from, lists_same, live_same, plain_same, void_same, boxes_same, view_same, inner-append, same-left, same-right}
+use Rattle.tb_builder.proofs.StoreMoves.{list_got, live_got}
 
 -- ---- other lists changed
 

@@ -1,15 +1,13 @@
 -- The rest of an insertion that is split: its nodes, and the room that it takes once it is pruned.
-use Rattle.std.proofs.Common.{◌≡◌, refl, sym, subst, ◌∙◌, ap, ℕ, zero, suc, ℤ, pos, ◌+ℤ◌, Bool, true, false, List, [], ◌∷◌, ◌++◌, take, drop, map, length, ◌≤◌, Option, Some, None, append_assoc, arith}
-use Rattle.std.specs.Prelude.{◌-ℤ◌, ◌<ℤ◌, ◌≤ℤ◌, int_le, nat_le, if◌then◌else◌}
+use Rattle.std.proofs.Common.{◌≡◌, refl, sym, subst, ◌∙◌, ap, ℕ, zero, suc, ℤ, pos, ◌+ℤ◌, Bool, true, false, List, [], ◌∷◌, ◌++◌, take, drop, map, length, ◌≤◌, Some, None, append_assoc, arith}
+use Rattle.std.specs.Prelude.{◌-ℤ◌, int_le, nat_le, if◌then◌else◌}
 use Rattle.std.proofs.lemmas.List.{map-append, take-append-drop, drop-map}
 use Rattle.std.proofs.lemmas.Int.{ints}
 use Rattle.tb_scaled.specs.declared.Glue.{Glue}
 use Rattle.tb_scaled.specs.Scaled.{max_ℤ}
 use Rattle.tb_node.specs.declared.Node.{Node}
-use Rattle.tb_node.specs.declared.Kind.{Kind}
-use Rattle.tb_node.specs.declared.Kind.TheVariants as kinds
 use Rattle.tb_node.specs.Shape.{Shape, box, glue, kern, penalty, other, is_discardable}
-use Rattle.tb_node.specs.Plain.{shape_of, shape_of_kind}
+use Rattle.tb_node.specs.Plain.{shape_of}
 use Rattle.tb_node.specs.Small.{IsAmount, IsSmallShape}
 use Rattle.tb_node.specs.Fit.{NodesFit}
 use Rattle.tb_node.specs.Sums.{room_of, size_of}

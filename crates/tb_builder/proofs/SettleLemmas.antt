@@ -1,8 +1,8 @@
 -- What a builder holds once the insertion that is first on its page gave to its box, went or was held.
-use Rattle.std.proofs.Common.{◌≡◌, ◌≢◌, refl, sym, subst, ◌∙◌, ap, ℕ, ℤ, ◌≤◌, Bool, true, false, List, [], ◌∷◌, ◌++◌, map, length, Option, None, Some, append_assoc, append-nil, take, drop}
-use Rattle.std.specs.FinMap.{get, insert, remove}
+use Rattle.std.proofs.Common.{◌≡◌, refl, sym, subst, ◌∙◌, ap, ℕ, ℤ, true, List, [], ◌∷◌, ◌++◌, map, length, Some, append-nil, take, drop}
+use Rattle.std.specs.FinMap.{insert, remove}
 use Rattle.std.proofs.lemmas.List.{map-append, map-id, take-map, drop-map}
-use Rattle.tb_pool.specs.Lists.{Lists, IsLive, list_at, with_list}
+use Rattle.tb_pool.specs.Lists.{Lists, list_at, with_list}
 use Rattle.tb_node.specs.declared.Node.{Node}
 use Rattle.tb_node.specs.declared.Insertion.{Insertion}
 use Rattle.tb_node.specs.declared.Kind.TheVariants as kinds
@@ -18,8 +18,8 @@ use Rattle.tb_builder.specs.declared.Builder.{Builder}
 use Rattle.tb_builder.specs.Owned.{Lacks, inner_of, Ids, ids_of, owned, AllPlain, is_known, classes_of, IsOwned}
 use Rattle.tb_builder.specs.Contents.{boxed_of, plain_list, leaf_list, contents_of}
 use Rattle.tb_builder.specs.Running.{insertion_of_kind}
-use Rattle.tb_builder.specs.Firing.{share_held, opened, box_list, box_with, box_shared, Sorts, Gives, Takes, Drops, Settles}
-use Rattle.tb_builder.proofs.RelistLemmas.{Relisted, relisted_own, relisted_others, relisted_keeps, relisted_held, relisted_page, relisted_waiting, relisted_boxes}
+use Rattle.tb_builder.specs.Firing.{share_held, opened, box_list, box_with, Gives, Takes, Drops, Settles}
+use Rattle.tb_builder.proofs.RelistLemmas.{relisted_own, relisted_others, relisted_keeps, relisted_held, relisted_page, relisted_waiting, relisted_boxes}
 use Rattle.tb_builder.proofs.FreezeLemmas.{plain_insertion}
 use Rattle.tb_builder.proofs.OpenLemmas.{opened-classes}
 use Rattle.tb_builder.proofs.GiveLemmas.{given_own, given_others, given_keeps, given_boxes, given_held, given_behind, given_waiting, given_page, given_left, gone_own, gone_others, gone_keeps, gone_boxes, gone_held, gone_rest, gone_waiting, relisted_hold}

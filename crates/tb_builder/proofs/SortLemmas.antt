@@ -1,6 +1,6 @@
 -- The nodes of a page that fires are sorted, one by one.
-use Rattle.std.proofs.Common.{◌≡◌, ◌≢◌, refl, sym, subst, ◌∙◌, ap, ℕ, ◌+◌, ◌<◌, ◌≤◌, Bool, true, false, List, [], ◌∷◌, ◌++◌, map, length, take, drop, Option, Some, None, append_assoc, append-nil, arith}
-use Rattle.std.specs.Prelude.{ℤ, pos, ◌+ℤ◌, ◌-ℤ◌, int_le, ◌==◌, ◌||◌, ◌&&◌, option_to_list, not, filter, nat_lt, if◌then◌else◌}
+use Rattle.std.proofs.Common.{◌≡◌, ◌≢◌, refl, sym, subst, ◌∙◌, ap, ℕ, ◌+◌, ◌<◌, Bool, true, false, List, [], ◌∷◌, ◌++◌, map, length, take, drop, Some, None, append_assoc, append-nil, arith}
+use Rattle.std.specs.Prelude.{ℤ, pos, ◌+ℤ◌, ◌-ℤ◌, int_le, ◌==◌, ◌||◌, ◌&&◌, option_to_list, not, nat_lt, if◌then◌else◌}
 use Rattle.std.specs.FinMap.{get, insert}
 use Rattle.std.proofs.lemmas.Bool.{true≢false}
 use Rattle.std.proofs.lemmas.Bool.Decides.{nat_tests}
@@ -18,25 +18,25 @@ use Rattle.tb_break.specs.declared.Found.{Found}
 use Rattle.tb_break.specs.Split.{split_of}
 use Rattle.tb_node.specs.Fit.{shapes, NodesFit}
 use Rattle.tb_node.specs.Small.{IsAmount}
-use Rattle.tb_node.specs.Plain.{leaf_of, leaf_shape, node_shape, Inserted, inserted_of, PlainKind, plain, ins, act, PlainNode, plain_of, plain_kind, on_line, is_insertion_kind, without_insertions}
+use Rattle.tb_node.specs.Plain.{leaf_shape, node_shape, Inserted, inserted_of, PlainKind, plain, ins, act, PlainNode, plain_of, plain_kind, on_line, is_insertion_kind, without_insertions}
 use Rattle.tb_insert.specs.declared.Class.{Class}
-use Rattle.tb_insert.specs.Account.{ClassBox, class_box, insertions, goal_after, class_height, skip_shapes, met_classes, scaled_by, clamped, unscaled_room, label_where, has_split, Frozen, Label, whole, split, late, Labelled, label_of, labelled, labelled_with}
+use Rattle.tb_insert.specs.Account.{ClassBox, class_box, insertions, goal_after, class_height, skip_shapes, met_classes, scaled_by, clamped, unscaled_room, has_split, Frozen, Label, whole, split, late, Labelled, label_of, labelled, labelled_with}
 use Rattle.tb_insert.specs.Running.{cut_in, last_let_in}
 use Rattle.tb_insert.proofs.AccountLemmas.{leaf_shapes}
 use Rattle.tb_builder.specs.declared.Share.{Share}
-use Rattle.tb_builder.specs.declared.Share.TheVariants.{All, Front, Nothing}
+use Rattle.tb_builder.specs.declared.Share.TheVariants.{All, Front}
 use Rattle.tb_builder.specs.declared.Builder.{Builder}
 use Rattle.tb_builder.specs.Fired.{Boxed, box_after, held_insertions}
-use Rattle.tb_builder.specs.Owned.{Lacks, AllLive, inner_of, inner_ids, Ids, ids_of, nodes_of, box_ids, owned, has_class, ClassesFit, is_known, AllKnown, classes_of, IsOwned}
-use Rattle.tb_builder.specs.Contents.{Contents, contents_of, plain_list, boxed_of}
-use Rattle.tb_builder.specs.Next.{SizesFit, NodeFits, InsertedFits, KindFits}
+use Rattle.tb_builder.specs.Owned.{Lacks, inner_ids, ids_of, owned, has_class, ClassesFit, AllKnown, classes_of, IsOwned}
+use Rattle.tb_builder.specs.Contents.{Contents, contents_of, plain_list}
+use Rattle.tb_builder.specs.Next.{SizesFit, InsertedFits}
 use Rattle.tb_builder.specs.Running.{insertion_of_kind}
 use Rattle.tb_builder.specs.Firing.{share_of, share_told, share_held, box_shared, BeginsVanishing, IsShareWithin, Settles, SortsTo, Sorted, IsMarkedAt, EachFits}
 use Rattle.tb_builder.proofs.FreezeLemmas.{plain_insertion, no_inner}
 use Rattle.tb_builder.proofs.OwnedLemmas.{AllSame, view_same, inner-append, known-left, known-right, known-append}
 use Rattle.tb_builder.proofs.ShareLemmas.{labelled-push, told_label, boxes_one, held_one}
 use Rattle.tb_builder.proofs.StoreMoves.{Got, got_two, list_got, live_got, list_kept, live_kept, live_has, one_got, one_other}
-use Rattle.tb_builder.proofs.RelistLemmas.{frame_own, frame_owned, frame_held, frame_page, frame_waiting, frame_boxes, same_lacking, Relisted, relisted_own, relisted_owned, relisted_others, relisted_keeps, relisted_held, relisted_page, relisted_waiting, relisted_boxes}
+use Rattle.tb_builder.proofs.RelistLemmas.{frame_own, frame_owned, frame_held, frame_page, frame_waiting, frame_boxes, same_lacking, Relisted, relisted_own, relisted_keeps, relisted_held, relisted_page, relisted_waiting, relisted_boxes}
 use Rattle.tb_builder.proofs.GiveLemmas.{class_there}
 use Rattle.tb_builder.proofs.RestLemmas.{split-vanishes}
 

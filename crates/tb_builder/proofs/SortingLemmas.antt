@@ -1,6 +1,5 @@
 -- The page that fires is sorted from its front: what holds after so many nodes.
-use Rattle.std.proofs.Common.{◌≡◌, ◌≢◌, refl, sym, subst, ◌∙◌, ap, ℕ, zero, suc, ◌+◌, ◌<◌, ◌≤◌, List, [], ◌∷◌, ◌++◌, map, length, take, append_assoc, arith, add-one}
-use Rattle.std.specs.FinMap.{get}
+use Rattle.std.proofs.Common.{◌≡◌, refl, sym, subst, ◌∙◌, ap, ℕ, zero, suc, ◌+◌, ◌<◌, ◌≤◌, List, [], ◌∷◌, ◌++◌, map, length, take, append_assoc, arith, add-one}
 use Rattle.std.proofs.lemmas.List.{map-id, length-map, nil_from_length}
 use Rattle.tb_pool.specs.Lists.{Lists, IsLive, list_at}
 use Rattle.tb_node.specs.declared.Node.{Node}
@@ -8,7 +7,7 @@ use Rattle.tb_node.specs.Plain.{PlainNode, plain_of}
 use Rattle.tb_insert.specs.Account.{Frozen}
 use Rattle.tb_insert.specs.Running.{AccountStands}
 use Rattle.tb_builder.specs.declared.Builder.{Builder}
-use Rattle.tb_builder.specs.Owned.{Lacks, inner_ids, ids_of, owned, IsOwned}
+use Rattle.tb_builder.specs.Owned.{inner_ids, ids_of, IsOwned}
 use Rattle.tb_builder.specs.Fired.{Boxed}
 use Rattle.tb_builder.specs.Contents.{contents_of, plain_list}
 use Rattle.tb_builder.specs.Firing.{SortsTo, Sorted, IsMarkedAt, EachFits}

@@ -1,5 +1,5 @@
 -- What holds of a builder stays where a store has the same lists, and other spare places.
-use Rattle.std.proofs.Common.{◌≡◌, ◌≢◌, refl, sym, subst, ◌∙◌, ap, ℕ, false, List, [], ◌++◌, is_some, unwrap_or}
+use Rattle.std.proofs.Common.{◌≡◌, refl, sym, subst, ◌∙◌, ap, ℕ, false, List, [], ◌++◌, is_some, unwrap_or}
 use Rattle.std.specs.FinMap.{FinMap, get}
 use Rattle.std.specs.Ordering.{nat_cmp}
 use Rattle.tb_pool.specs.Lists.{Lists, IsLive, list_at}
@@ -8,12 +8,11 @@ use Rattle.tb_builder.specs.declared.Ask.{Ask}
 use Rattle.tb_builder.specs.declared.Builder.{Builder}
 use Rattle.tb_builder.specs.Reached.{holds_box}
 use Rattle.tb_builder.specs.Contents.{Contents, contents_of}
-use Rattle.tb_builder.specs.Owned.{Ids, ids_of, owned, Lacks, nodes_of, classes_of, IsOwned, Keeps}
+use Rattle.tb_builder.specs.Owned.{Ids, ids_of, owned, Lacks, classes_of, IsOwned, Keeps}
 use Rattle.tb_builder.specs.Running.{AllLasting, PageStands, IsSound}
 use Rattle.tb_builder.specs.Next.{NextFits}
-use Rattle.tb_builder.specs.Turn.{Filled}
 use Rattle.tb_builder.proofs.OwnedLemmas.{known-right}
-use Rattle.tb_builder.proofs.MoveLemmas.{Written, written_own}
+use Rattle.tb_builder.proofs.MoveLemmas.{written_own}
 
 module _ (s t : Lists Node) (same : t.lists ≡ s.lists) where
   one_same : (q : ℕ) → get t.lists q ≡ get s.lists q

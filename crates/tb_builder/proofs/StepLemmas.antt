@@ -1,26 +1,24 @@
 -- A node that waits goes on a page that is laid out, or its place is tried.
-use Rattle.std.proofs.Common.{◌≡◌, refl, sym, subst, ◌∙◌, ap, ℕ, ℤ, pos, Bool, true, false, List, [], ◌∷◌, ◌++◌, length, Option, None, Some, append_assoc, append-nil}
-use Rattle.std.specs.Prelude.{not, map, drop, ◌<ℤ◌, negsuc, int_le, ◌||◌}
+use Rattle.std.proofs.Common.{◌≡◌, refl, sym, subst, ◌∙◌, ap, ℕ, ℤ, Bool, true, false, List, [], ◌∷◌, ◌++◌, Option, None, Some, append_assoc}
+use Rattle.std.specs.Prelude.{map, drop, negsuc, int_le, ◌||◌}
 use Rattle.std.proofs.lemmas.Bool.{true≢false}
 use Rattle.tb_scaled.specs.Scaled.{awful_bad}
 use Rattle.tb_node.specs.declared.Node.{Node}
-use Rattle.tb_node.specs.Shape.{is_discardable}
-use Rattle.tb_node.specs.Plain.{PlainNode, plain_of, node_shape, shape_of, is_act_kind, is_insertion_kind}
-use Rattle.tb_node.specs.Small.{IsAmount, IsSmall}
+use Rattle.tb_node.specs.Plain.{PlainNode, plain_of, node_shape, shape_of, is_act_kind}
+use Rattle.tb_node.specs.Small.{IsSmall}
 use Rattle.tb_node.specs.Add.{added_node}
 use Rattle.tb_break.specs.Legal.{ends_lasting}
 use Rattle.tb_break.specs.Best.{Breakpoint, is_stop, least_cost}
 use Rattle.tb_break.specs.Scan.{Scanned}
 use Rattle.tb_break.specs.Finding.{penalty_by}
 use Rattle.tb_insert.specs.Account.{Frozen, terms_after}
-use Rattle.tb_insert.specs.Arrived.{PageFits}
 use Rattle.tb_insert.proofs.TermLemmas.{scan_plain}
 use Rattle.tb_builder.specs.declared.Course.{Course}
 use Rattle.tb_builder.specs.declared.Try.{Try}
-use Rattle.tb_builder.specs.Reached.{tried, Reach, also_reached, page_place, reach_from, reach_at_place, breakpoints, try_of}
+use Rattle.tb_builder.specs.Reached.{tried, Reach, also_reached, reach_from, breakpoints, try_of}
 use Rattle.tb_builder.specs.Places.{page_shapes, glue_first, node_penalty, page_places, NoStop}
 use Rattle.tb_builder.specs.Contents.{Contents}
-use Rattle.tb_builder.specs.Running.{CourseStands, Underway, places_by, act_of_kind, insertion_of_kind, nodes_glue_first}
+use Rattle.tb_builder.specs.Running.{CourseStands, Underway, places_by, act_of_kind, nodes_glue_first}
 use Rattle.tb_builder.specs.Offer.{OfferIs, TermsFit, place_here}
 use Rattle.tb_builder.specs.Next.{stopped_with}
 use Rattle.tb_builder.specs.Turn.{Shifted, reach_on, places_on, Passes, GoesOn, StopsThere, TriesOn, StepFits, StepIs}

@@ -1,20 +1,19 @@
 -- A turn of the builder from a step of a page that is laid out.
-use Rattle.std.proofs.Common.{◌≡◌, ◌⊎◌, inl, inr, refl, sym, subst, ◌∙◌, ap, ℕ, ◌<◌, ◌≤◌, ℤ, Bool, true, false, List, [], ◌∷◌, ◌++◌, length, map, Option, None, Some}
+use Rattle.std.proofs.Common.{◌≡◌, inr, refl, sym, subst, ◌∙◌, ap, ℕ, ◌<◌, ◌≤◌, ℤ, Bool, true, false, [], ◌∷◌, ◌++◌, length, Option, None, Some}
 use Rattle.std.proofs.lemmas.Bool.{true≢false}
-use Rattle.tb_pool.specs.Lists.{Lists, list_at}
+use Rattle.tb_pool.specs.Lists.{Lists}
 use Rattle.tb_node.specs.declared.Node.{Node}
 use Rattle.tb_break.specs.Best.{Breakpoint, is_stop}
-use Rattle.tb_insert.specs.Account.{Frozen, terms_after}
+use Rattle.tb_insert.specs.Account.{Frozen}
 use Rattle.tb_builder.specs.declared.Ask.{Ask}
 use Rattle.tb_builder.specs.declared.Course.{Course}
 use Rattle.tb_builder.specs.declared.Builder.{Builder}
 use Rattle.tb_builder.specs.declared.Event.{Event}
 use Rattle.tb_builder.specs.declared.Event.TheVariants as events
-use Rattle.tb_builder.specs.Reached.{also_reached, tried, reach_from, holds_box}
-use Rattle.tb_builder.specs.Places.{NoStop}
+use Rattle.tb_builder.specs.Reached.{holds_box}
 use Rattle.tb_builder.specs.Contents.{Contents, contents_of, frozen_of, laid}
 use Rattle.tb_builder.specs.Running.{CourseStands, Underway, AtStop, places_by, page_frozen, frozen_with, AllLasting, PageStands}
-use Rattle.tb_builder.specs.Turn.{Moves, Passes, GoesOn, StopsThere, TriesOn, StepIs, TurnBy, TurnIs, places_on}
+use Rattle.tb_builder.specs.Turn.{Moves, StopsThere, StepIs, TurnBy, TurnIs, places_on}
 use Rattle.tb_builder.proofs.TurnLemmas.{Lays, lays_open, turns_on, goes_on, stops_there, made_on, frozen_as}
 use Rattle.tb_builder.proofs.MeetLemmas.{stays_from}
 

@@ -1,5 +1,5 @@
 -- A list of a page without one of its acts: its labels are the same but for their places, and what fitted fits.
-use Rattle.std.proofs.Common.{◌≡◌, ◌⊎◌, inl, inr, refl, sym, subst, ◌∙◌, ap, ℕ, ℤ, pos, ◌+ℤ◌, ◌-ℤ◌, Bool, true, false, List, [], ◌∷◌, ◌++◌, length, append_assoc, append-nil, arith}
+use Rattle.std.proofs.Common.{◌≡◌, ◌⊎◌, inl, inr, refl, sym, subst, ◌∙◌, ap, ℕ, ℤ, pos, ◌+ℤ◌, ◌-ℤ◌, Bool, List, [], ◌∷◌, ◌++◌, length, append_assoc, append-nil, arith}
 use Rattle.std.specs.Prelude.{map, ◌==◌, ◌||◌, ◌&&◌, if◌then◌else◌}
 use Rattle.std.proofs.lemmas.List.{map-append}
 use Rattle.std.proofs.lemmas.Int.{ints}
@@ -13,9 +13,8 @@ use Rattle.tb_node.specs.Shape.{Shape, other}
 use Rattle.tb_node.specs.Plain.{PlainKind, plain, ins, act, PlainNode, node_shape, Inserted}
 use Rattle.tb_node.specs.Sums.{sums_of, size_of, depth_from, list_stretch, list_shrink, depth_after, room_of, stretch_of, shrink_of}
 use Rattle.tb_insert.specs.Terms.{Terms, sums_with}
-use Rattle.tb_insert.specs.Account.{ClassBox, Frozen, Label, late, Labelled, class_box, taken, scaled_by, insertions, met_classes, class_charge, insertion_charge, goal_after, skip_shapes, class_height, is_split, has_split, label_where, label_of, labelled_with, labelled_from, labelled, penalty_of, penalties_of, terms_of_labels, terms_after}
+use Rattle.tb_insert.specs.Account.{ClassBox, Frozen, Label, late, Labelled, class_box, taken, scaled_by, insertions, met_classes, class_charge, insertion_charge, skip_shapes, class_height, is_split, has_split, label_where, label_of, labelled_with, labelled_from, labelled, penalty_of, penalties_of, terms_of_labels, terms_after}
 use Rattle.tb_insert.specs.Arrived.{PageFits}
-use Rattle.tb_insert.specs.Running.{numbered}
 use Rattle.tb_builder.specs.Next.{NodeFits, LaidFits, Without}
 
 -- ---- sums without a node that takes no room

@@ -1,5 +1,5 @@
 -- What the page builder answers, and what it asks of what it is given.
-use Rattle.std.specs.Prelude.{◌≡◌, ℕ, ℤ, pos, neg_ℤ, ◌<ℤ◌, ◌≤ℤ◌, Bool, true, false, List, [], ◌∷◌, ◌++◌, map, take, length, Option, Some, None}
+use Rattle.std.specs.Prelude.{◌≡◌, ℕ, ℤ, pos, neg_ℤ, ◌<ℤ◌, ◌≤ℤ◌, Bool, true, false, List, [], ◌∷◌, ◌++◌, map, take, length, Some, None}
 use Rattle.std.specs.FinMap.{get}
 use Rattle.tb_pool.specs.Lists.{Lists, IsLive, list_at}
 use Rattle.tb_node.specs.declared.Node.{Node}
@@ -8,7 +8,7 @@ use Rattle.tb_node.specs.Fit.{NodesFit, SumsFit}
 use Rattle.tb_node.specs.Small.{IsAmount, IsSmallShape}
 use Rattle.tb_node.specs.Shape.{Shape}
 use Rattle.tb_node.specs.Sums.{size_of}
-use Rattle.tb_node.specs.Plain.{Leaf, leaf_shape, Inserted, PlainKind, plain, ins, act, PlainNode, node_shape}
+use Rattle.tb_node.specs.Plain.{leaf_shape, Inserted, PlainKind, plain, ins, act, PlainNode, node_shape}
 use Rattle.tb_break.specs.Best.{Breakpoint, is_stop, least_cost}
 use Rattle.tb_insert.specs.Account.{Frozen, labelled}
 use Rattle.tb_insert.specs.Arrived.{PageFits}
@@ -17,7 +17,7 @@ use Rattle.tb_builder.specs.declared.Try.{Try}
 use Rattle.tb_builder.specs.declared.Page.{Page}
 use Rattle.tb_builder.specs.declared.Event.{Event}
 use Rattle.tb_builder.specs.declared.Event.TheVariants as events
-use Rattle.tb_builder.specs.Reached.{Reached, acted, tried, Reach, also_reached, try_of, breakpoints}
+use Rattle.tb_builder.specs.Reached.{acted, tried, Reach, also_reached, try_of, breakpoints}
 use Rattle.tb_builder.specs.Fired.{Boxed, content_of, Fired, page_break, fired_by}
 use Rattle.tb_builder.specs.Owned.{Lacks, inner_ids, Ids, owned}
 use Rattle.tb_builder.specs.Contents.{Contents, plain_list, frozen_of, laid, reach_ahead, reach_whole, places_of}

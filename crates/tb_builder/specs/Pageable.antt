@@ -1,5 +1,5 @@
 -- Contents of which a page can be made, whatever is asked of their nodes: each node is sized, and there are not too many.
-use Rattle.std.specs.Prelude.{◌≡◌, ℕ, ◌+◌, ◌≤◌, ℤ, pos, neg_ℤ, ◌≤ℤ◌, map, length, All}
+use Rattle.std.specs.Prelude.{◌≡◌, ◌+◌, ◌≤◌, ℤ, pos, neg_ℤ, ◌≤ℤ◌, map, length, All}
 use Rattle.tb_node.specs.Fit.{IsDimension, IsExtent, IsPenalty, IsSized, IsSizedLeaf}
 use Rattle.tb_node.specs.Plain.{leaf_shape, Inserted, PlainKind, plain, ins, act, PlainNode, node_shape}
 use Rattle.tb_node.specs.Sums.{size_of}

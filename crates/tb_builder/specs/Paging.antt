@@ -1,5 +1,5 @@
 -- How far a page has come, call by call, in words of what is reached of the whole page.
-use Rattle.std.specs.Prelude.{◌≡◌, ℕ, Bool, true, false, List, [], ◌∷◌, ◌++◌}
+use Rattle.std.specs.Prelude.{◌≡◌, ℕ, true, false, List, [], ◌∷◌, ◌++◌}
 use Rattle.tb_break.specs.Best.{Breakpoint, is_stop, least_cost}
 use Rattle.tb_builder.specs.declared.Ask.{Ask}
 use Rattle.tb_builder.specs.declared.Try.{Try}

@@ -1,5 +1,5 @@
 -- The legal places of a page so far.
-use Rattle.std.specs.Prelude.{◌≡◌, ℤ, Bool, true, false, List, [], ◌∷◌, ◌++◌, map, Option, None}
+use Rattle.std.specs.Prelude.{◌≡◌, ℤ, Bool, false, List, [], ◌∷◌, ◌++◌, map, Option, None}
 use Rattle.tb_node.specs.Shape.{Shape}
 use Rattle.tb_node.specs.Plain.{PlainKind, plain, ins, act, PlainNode, node_shape, without_acts, is_act_kind}
 use Rattle.tb_break.specs.Legal.{ends_lasting, begins_with_glue}

@@ -1,7 +1,7 @@
 -- One node more: what a turn of the page builder changes.
-use Rattle.std.specs.Prelude.{◌≡◌, ℕ, ℤ, ◌<◌, ◌≤◌, Bool, true, false, List, [], ◌∷◌, ◌++◌, length, Option, Some, None}
+use Rattle.std.specs.Prelude.{◌≡◌, ℕ, ◌<◌, ◌≤◌, true, false, List, [], ◌∷◌, ◌++◌, length, Option, Some, None}
 use Rattle.std.specs.FinMap.{get}
-use Rattle.tb_pool.specs.Lists.{Lists, list_at}
+use Rattle.tb_pool.specs.Lists.{Lists}
 use Rattle.tb_node.specs.declared.Node.{Node}
 use Rattle.tb_node.specs.Plain.{PlainNode, plain_of, shape_of}
 use Rattle.tb_node.specs.Small.{IsSmallShape}
@@ -17,7 +17,7 @@ use Rattle.tb_builder.specs.declared.Builder.{Builder}
 use Rattle.tb_builder.specs.Reached.{tried, Reach, also_reached, reach_from, try_of, breakpoints}
 use Rattle.tb_builder.specs.Contents.{Contents, contents_of, laid, reach_ahead, places_of}
 use Rattle.tb_builder.specs.Owned.{ids_of, owned, Lacks, IsOwned}
-use Rattle.tb_builder.specs.Running.{CourseStands, Underway, places_by, kept_frozen, IsSound, act_of_kind, insertion_of_kind}
+use Rattle.tb_builder.specs.Running.{CourseStands, Underway, places_by, IsSound, act_of_kind, insertion_of_kind}
 use Rattle.tb_builder.specs.Next.{FirstIs, Stays, stopped_with}
 
 -- the lists are the builder's still, and lists that were not its own stay as they are and are not its own

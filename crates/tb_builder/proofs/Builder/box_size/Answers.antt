@@ -1,4 +1,4 @@
-use Rattle.std.proofs.Common.{◌≡◌, ◌∙◌, sym, ap, FitsSigned, w64, rules}
+use Rattle.std.proofs.Common.{◌∙◌, sym, FitsSigned, w64, rules}
 use Rattle.std.proofs.lemmas.Int.{to_z-of_z}
 use Rattle.tb_builder.specs.Owned.{ids_of, box_ids, inner_ids, nodes_of}
 use Rattle.tb_builder.proofs.OwnedLemmas.{live-left}

@@ -1,6 +1,6 @@
-use Rattle.std.proofs.Common.{◌≡◌, ◌∙◌, refl, sym, subst, ap, [], ◌++◌, ◌≤◌, arith}
+use Rattle.std.proofs.Common.{◌∙◌, ap, arith}
 use Rattle.std.specs.FinMap.{remove}
-use Rattle.tb_pool.specs.Lists.{list_at, IsLive, with_list}
+use Rattle.tb_pool.specs.Lists.{list_at}
 use Rattle.tb_builder.specs.Owned.{ids_of}
 use Rattle.tb_builder.proofs.FillLemmas.{first_is}
 use Rattle.tb_builder.proofs.StoreMoves.{one_other, live_kept, list_kept}

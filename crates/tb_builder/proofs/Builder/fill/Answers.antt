@@ -1,8 +1,5 @@
-use Rattle.std.proofs.Common.{◌≡◌, ◌≤◌, ◌<◌, refl, sym, subst, ◌∙◌, ap, arith, ℕ, ◌∷◌, false, Option, None, List, []}
-use Rattle.std.specs.Prelude.{slice_get}
+use Rattle.std.proofs.Common.{◌≤◌, ◌<◌, refl, sym, subst, ◌∙◌, arith, ℕ, None}
 use Rattle.tb_pool.specs.Lists.{list_at}
-use Rattle.tb_node.specs.declared.Node.{Node}
-use Rattle.tb_builder.specs.declared.Event.{Event}
 use Rattle.tb_builder.specs.Contents.{contents_of}
 use Rattle.tb_builder.specs.Turn.{TurnIs}
 use Rattle.tb_builder.proofs.FilledLemmas.{filled_empty, filled_later, fits_after, none_first}

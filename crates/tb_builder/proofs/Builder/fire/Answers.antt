@@ -1,4 +1,4 @@
-use Rattle.std.proofs.Common.{◌≡◌, ◌∙◌, refl, sym, ap, [], FitsSigned, w64, to_z, of_z, rules, length}
+use Rattle.std.proofs.Common.{◌∙◌, refl, sym, ap, [], FitsSigned, w64, to_z, of_z, rules, length}
 use Rattle.std.proofs.lemmas.Int.{to_z-of_z}
 use Rattle.std.specs.FinMap.{get, insert}
 use Rattle.tb_pool.specs.Lists.{list_at}

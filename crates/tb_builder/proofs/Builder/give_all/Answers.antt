@@ -1,4 +1,4 @@
-use Rattle.std.proofs.Common.{◌≡◌, ◌∙◌, refl, sym, subst, ap, [], ◌++◌}
+use Rattle.std.proofs.Common.{◌∙◌, sym, subst, ap, [], ◌++◌}
 use Rattle.std.specs.FinMap.{insert}
 use Rattle.tb_pool.specs.Lists.{list_at, IsLive, with_list}
 use Rattle.tb_builder.specs.Owned.{ids_of}

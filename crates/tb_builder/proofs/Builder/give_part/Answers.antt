@@ -1,4 +1,4 @@
-use Rattle.std.proofs.Common.{◌≡◌, ◌∙◌, refl, sym, subst, ap, [], ◌++◌, take, drop, FitsSigned, w64, to_z, of_z, rules}
+use Rattle.std.proofs.Common.{◌∙◌, sym, subst, ap, ◌++◌, take, drop, FitsSigned, w64, rules}
 use Rattle.std.proofs.lemmas.Int.{to_z-of_z}
 use Rattle.std.specs.FinMap.{insert}
 use Rattle.tb_pool.specs.Lists.{list_at, IsLive, with_list}

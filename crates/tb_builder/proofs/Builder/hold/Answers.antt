@@ -1,6 +1,4 @@
-use Rattle.std.proofs.Common.{◌≡◌, ◌∙◌, refl, sym, subst, ap, [], ◌++◌}
 use Rattle.tb_pool.specs.Lists.{list_at}
-use Rattle.tb_builder.specs.Owned.{ids_of}
 use Rattle.tb_builder.proofs.FillLemmas.{first_is}
 use Rattle.tb_builder.proofs.SettleLemmas.{holds_of}
 use Rattle.tb_builder.proofs.Builder.hold.Goals as goal

@@ -1,4 +1,4 @@
-use Rattle.std.proofs.Common.{◌≡◌, ◌∙◌, refl, sym, subst, ap, length, FitsSigned, w64, to_z, of_z, rules, arith, ◌≤◌, true}
+use Rattle.std.proofs.Common.{◌∙◌, sym, ap, FitsSigned, w64, to_z, of_z, rules, arith}
 use Rattle.std.proofs.lemmas.Int.{to_z-of_z}
 use Rattle.std.proofs.lemmas.List.{nil_from_length}
 use Rattle.tb_pool.specs.Lists.{list_at}

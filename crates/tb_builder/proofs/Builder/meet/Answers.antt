@@ -1,17 +1,15 @@
-use Rattle.std.proofs.Common.{◌≡◌, refl, sym, subst, ◌∙◌, ap, ◌<◌, ◌≤◌, true, ℕ, length, map, arith, Option, Some, None, FitsSigned, w64, to_z, of_z, ◌++◌, ◌∷◌, [], rules}
+use Rattle.std.proofs.Common.{◌≡◌, refl, sym, subst, ◌∙◌, ap, ◌<◌, true, length, map, arith, FitsSigned, w64, to_z, of_z, ◌++◌, ◌∷◌, [], rules}
 use Rattle.std.specs.FinMap.{insert}
 use Rattle.std.proofs.lemmas.Int.{to_z-of_z}
 use Rattle.tb_pool.specs.Lists.{list_at, with_list}
 use Rattle.tb_insert.specs.Running.{ComesTo}
 use Rattle.tb_insert.specs.Arrived.{ArriveFits}
-use Rattle.tb_node.specs.Shape.{other}
 use Rattle.tb_node.specs.Sums.{size_of}
 use Rattle.tb_node.specs.Fit.{shapes}
-use Rattle.tb_node.specs.Plain.{plain_of, inserted_of, PlainNode}
 use Rattle.tb_builder.specs.declared.Builder.{Builder}
 use Rattle.tb_builder.specs.Owned.{Ids, ids_of, has_class, box_ids, inner_ids, nodes_of, IsClassList}
 use Rattle.tb_builder.specs.Contents.{contents_of, frozen_of}
-use Rattle.tb_builder.specs.Running.{CourseStands, Underway, places_by, frozen_with, PageStands}
+use Rattle.tb_builder.specs.Running.{CourseStands, places_by, frozen_with, PageStands}
 use Rattle.tb_builder.proofs.OwnedLemmas.{live-left}
 use Rattle.tb_builder.proofs.ClassLemmas.{list_live, list_fits}
 use Rattle.tb_builder.proofs.MoveLemmas.{written_shift}

@@ -1,6 +1,5 @@
-use Rattle.std.proofs.Common.{◌≡◌, refl, sym, subst, ◌∙◌, ap, true, false, Bool}
+use Rattle.std.proofs.Common.{◌≡◌, sym, subst}
 use Rattle.tb_builder.specs.Contents.{Contents, contents_of}
-use Rattle.tb_builder.specs.Owned.{ids_of}
 use Rattle.tb_builder.specs.Next.{NextIs, FirstIs, Stays}
 use Rattle.tb_builder.specs.Contents.{laid, reach_ahead, places_of}
 use Rattle.tb_builder.specs.Running.{IsSound}

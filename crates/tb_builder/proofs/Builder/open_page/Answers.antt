@@ -1,4 +1,4 @@
-use Rattle.std.proofs.Common.{◌≡◌, refl, sym, subst, ◌∙◌, ap, Option, Some, true, List, ◌∷◌, FitsSigned, w64, rules}
+use Rattle.std.proofs.Common.{refl, subst, ◌∙◌, ap, true, ◌∷◌, FitsSigned, w64, rules}
 use Rattle.std.proofs.lemmas.Int.{to_z-of_z}
 use Rattle.std.specs.Prelude.{slice_get}
 use Rattle.tb_pool.specs.Lists.{list_at}
@@ -8,7 +8,7 @@ use Rattle.tb_builder.specs.Running.{PageStands}
 use Rattle.tb_builder.proofs.FillLemmas.{first_is}
 use Rattle.tb_builder.proofs.FreezeLemmas.{frozen_course}
 use Rattle.tb_builder.proofs.FirstBoxLemmas.{box_small, topped}
-use Rattle.tb_builder.proofs.BehindLemmas.{boxed_act, boxed_insertion, opening_stops, opening_sums, opening_goes}
+use Rattle.tb_builder.proofs.BehindLemmas.{opening_stops, opening_sums, opening_goes}
 use Rattle.tb_builder.proofs.Builder.open_page.Goals as goal
 
 pub top_node-glue-requires-clause-node : goal.top_node-glue-requires-clause-node

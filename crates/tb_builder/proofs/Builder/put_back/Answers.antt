@@ -1,4 +1,3 @@
-use Rattle.std.proofs.Common.{sym}
 use Rattle.tb_builder.proofs.FrontLemmas.{put_contents, put_sound, put_others, put_keeps}
 use Rattle.tb_builder.proofs.Builder.put_back.Goals as goal
 

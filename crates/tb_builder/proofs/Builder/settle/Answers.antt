@@ -1,4 +1,4 @@
-use Rattle.std.proofs.Common.{◌≡◌, ◌∙◌, refl, sym, subst, ap, map, take, drop}
+use Rattle.std.proofs.Common.{sym, subst, map}
 use Rattle.tb_pool.specs.Lists.{list_at}
 use Rattle.tb_node.specs.Plain.{shape_of}
 use Rattle.tb_builder.specs.Owned.{ids_of}

@@ -1,7 +1,5 @@
-use Rattle.std.proofs.Common.{◌≡◌, ◌∙◌, refl, sym, subst, ap, List, ◌∷◌, ◌++◌, length, arith, ◌≤◌, ◌+◌}
+use Rattle.std.proofs.Common.{◌∙◌, sym, ap, ◌++◌}
 use Rattle.tb_pool.specs.Lists.{list_at}
-use Rattle.tb_node.specs.declared.Node.{Node}
-use Rattle.tb_node.specs.Plain.{inserted_of, PlainNode}
 use Rattle.tb_insert.specs.Account.{labelled}
 use Rattle.tb_insert.specs.Running.{cut_in, last_let_in}
 use Rattle.tb_builder.specs.Firing.{share_told}

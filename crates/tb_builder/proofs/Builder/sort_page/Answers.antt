@@ -1,6 +1,6 @@
-use Rattle.std.proofs.Common.{◌≡◌, ◌∙◌, refl, sym, subst, ap, length, arith, ◌≤◌, ◌<◌, ◌+◌}
+use Rattle.std.proofs.Common.{◌≡◌, length, arith, ◌≤◌, ◌+◌}
 use Rattle.tb_pool.specs.Lists.{list_at}
-use Rattle.tb_builder.proofs.SortingLemmas.{Sorting, sorting_begins, sorting_next, page_left, still_marked, still_fits, none_left, all_sorted}
+use Rattle.tb_builder.proofs.SortingLemmas.{sorting_begins, sorting_next, page_left, still_marked, still_fits, none_left, all_sorted}
 use Rattle.tb_builder.proofs.Builder.sort_page.Goals as goal
 
 pub loop-index-init : goal.loop-index-init

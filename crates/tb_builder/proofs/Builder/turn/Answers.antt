@@ -1,4 +1,4 @@
-use Rattle.std.proofs.Common.{◌≡◌, refl, sym, ◌∙◌, ap}
+use Rattle.std.proofs.Common.{sym, ◌∙◌}
 use Rattle.tb_pool.specs.Lists.{list_at}
 use Rattle.tb_builder.proofs.FillLemmas.{first_is}
 use Rattle.tb_builder.proofs.FilledLemmas.{acted_turn, open_underway, open_fits, open_turn}

@@ -1,4 +1,4 @@
-use Rattle.std.proofs.Common.{◌≡◌, ◌∙◌, ap, sym, subst, FitsSigned, w64, rules}
+use Rattle.std.proofs.Common.{◌∙◌, ap, sym, subst, FitsSigned, w64, rules}
 use Rattle.std.proofs.lemmas.Int.{to_z-of_z}
 use Rattle.tb_node.specs.Small.{IsAmount}
 use Rattle.tb_break.specs.declared.Offer.{Offer}

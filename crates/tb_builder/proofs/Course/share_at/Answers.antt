@@ -1,6 +1,5 @@
-use Rattle.std.proofs.Common.{◌≡◌, ◌∙◌}
+use Rattle.std.proofs.Common.{◌∙◌}
 use Rattle.tb_builder.specs.Firing.{share_told}
-use Rattle.tb_builder.proofs.ShareLemmas.{told_label}
 use Rattle.tb_builder.proofs.Course.share_at.Goals as goal
 
 pub returns : goal.returns

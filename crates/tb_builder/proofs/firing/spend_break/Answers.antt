@@ -1,4 +1,4 @@
-use Rattle.std.proofs.Common.{◌≡◌, ◌∙◌, refl, sym, subst, ap, ◌∷◌, map}
+use Rattle.std.proofs.Common.{◌∙◌, refl, sym, ap, ◌∷◌, map}
 use Rattle.std.specs.Prelude.{slice_set}
 use Rattle.tb_pool.specs.Lists.{list_at, with_list}
 use Rattle.tb_node.specs.Plain.{plain_of}

@@ -1,5 +1,4 @@
-use Rattle.std.proofs.Common.{sym, ap, ◌∙◌, is_some, ◌++◌, []}
-use Rattle.tb_pool.specs.Lists.{list_at}
+use Rattle.std.proofs.Common.{sym, ap, ◌∙◌, is_some, []}
 use Rattle.tb_builder.proofs.MoveLemmas.{wrote_two}
 use Rattle.tb_builder.proofs.FrontLemmas.{in_front}
 use Rattle.tb_builder.proofs.handing.put_in_front.Goals as goal

@@ -1,4 +1,4 @@
-use Rattle.std.proofs.Common.{◌≡◌, ◌∙◌, ap, sym, subst, ◌+ℤ◌, FitsSigned, w64, to_z, rules, refl}
+use Rattle.std.proofs.Common.{◌∙◌, ap, sym, subst, ◌+ℤ◌, FitsSigned, w64, to_z, rules}
 use Rattle.std.proofs.lemmas.Int.{to_z-of_z}
 use Rattle.tb_pool.specs.Lists.{list_at}
 use Rattle.tb_builder.specs.Room.{IsWide}

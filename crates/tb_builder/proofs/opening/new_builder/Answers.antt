@@ -1,4 +1,4 @@
-use Rattle.std.proofs.Common.{◌≡◌, ◌∙◌, sym, ap, refl, List, ◌∷◌, [], None, false}
+use Rattle.std.proofs.Common.{◌∙◌, ap, refl, None, false}
 use Rattle.std.specs.FinMap.{get}
 use Rattle.tb_builder.specs.declared.Builder.{Builder}
 use Rattle.tb_builder.specs.Owned.{box_ids, own_ids, ids_of}
