@@ -189,7 +189,6 @@ pub record Cuts (b : Builder) (s t : Lists Node) (place : ℕ) : Type 0 where
   pub waiting : (contents_of b t).waiting ≡ with_spent_break (drop place (contents_of b s).page ++ (contents_of b s).waiting)
   pub held : list_at t b.held ≡ list_at s b.held
   pub boxes : (contents_of b t).boxes ≡ (contents_of b s).boxes
-  pub count : length (list_at t b.page) ≤ place
 
 -- ---- a page fired
 

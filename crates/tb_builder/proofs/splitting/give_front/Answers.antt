@@ -45,7 +45,7 @@ returns c =
           let there = back_there c.args.store.now c.cut.new.self c.args.to c.args.from c.args.between c.args.place ne c.cut.ensures.parted c.append.new.self c.append.ensures.joined c.append-2.new.self c.append-2.ensures.joined in
           let back = list_got c.append-2.new.self c.args.from (drop c.args.place (list_at c.args.store.now c.args.from)) there in
           let after : list_at c.prune.new.store c.args.from ≡ pruned_list (to_z w64 (of_z w64 c.args.top_skip)) (drop c.args.place (list_at c.args.store.now c.args.from)) =
-              list_same c.append-2.new.self c.prune.new.store c.args.from (pruned_list (to_z w64 (of_z w64 c.args.top_skip)) (list_at c.append-2.new.self c.args.from)) c.prune.ensures.pruned
-              ∙ ap (pruned_list (to_z w64 (of_z w64 c.args.top_skip))) back in
+          list_same c.append-2.new.self c.prune.new.store c.args.from (pruned_list (to_z w64 (of_z w64 c.args.top_skip)) (list_at c.append-2.new.self c.args.from)) c.prune.ensures.pruned
+          ∙ ap (pruned_list (to_z w64 (of_z w64 c.args.top_skip))) back in
           omega (arith, c.cut.ensures.spare, c.append.ensures.spare, c.append-2.ensures.spare, c.prune.ensures.places, ap length back, ap length after, rest-fewer (to_z w64 (of_z w64 c.args.top_skip)) c.args.place (list_at c.args.store.now c.args.from) c.requires.vanishes);
     }
