@@ -361,7 +361,7 @@ laid_fits z ns f s few = record {
   nodes = λ before n rest e. node_fits n (inside IsSizedOnPage before n rest (subst (All IsSizedOnPage) (sym e) s)) (omega (arith, few, count-append before (n ∷ rest), ap node_count e));
 }
 
-glue_sized : (t h : ℤ) → IsExtent t → IsExtent h → IsSized (glue (top_glue t h))
+pub glue_sized : (t h : ℤ) → IsExtent t → IsExtent h → IsSized (glue (top_glue t h))
 glue_sized t h a b = (record { low = grind (arith, ints, a, b); high = grind (arith, ints, a, b) }, record { low = omega (arith, ints); high = omega (arith, ints) }, record { low = omega (arith, ints); high = omega (arith, ints) })
 
 at_sized : (t : ℤ) (s : Shape) (n : PlainNode) (ns pruned : List PlainNode) → IsExtent t → IsSized s → IsSizedOnPage n → All IsSizedOnPage ns → All IsSizedOnPage pruned → All IsSizedOnPage (pruned_at (λ m g. record { line = m.line; kind = plain (skip g) }) t s n ns pruned)

@@ -55,12 +55,6 @@ module _ (s t : Lists Node) (same : t.lists ≡ s.lists) where
     page = subst (PageStands b.frozen b.stopped b.course) (sym (contents_still b)) sound.page;
   }
 
-  pub keeps_still : (b : Ids) → Keeps b s b t
-  keeps_still b = record {
-    others = λ q live h. one_same q;
-    apart = λ q live h. subst (Lacks q) (sym (owned_still b)) h;
-  }
-
   pub fits_still : (b : Builder) (ask : Ask) → NextFits (contents_of b s) ask → NextFits (contents_of b t) ask
   fits_still b ask fits = subst (λ c. NextFits c ask) (sym (contents_still b)) fits
 
