@@ -1,4 +1,5 @@
--- What becomes of the insertions before a break, as the account of the page tells it.
+-- A page fires: what becomes of the insertions before its break, as the account of the page tells it, and what the
+-- builder holds on the way.
 use Rattle.std.specs.Prelude.{◌≡◌, ◌≢◌, ◌≤◌, map, ℕ, ◌==◌, Bool, true, false, List, [], ◌∷◌, ◌++◌, length, take, drop, nat_lt, nat_le, Option, Some, None, if◌then◌else◌}
 use Rattle.std.specs.FinMap.{get}
 use Rattle.tb_pool.specs.Lists.{Lists, IsLive, list_at}
@@ -62,12 +63,13 @@ IsShareWithin All ns = Unit {0}
 IsShareWithin (Front k) ns = (k ≤ length ns) × BeginsVanishing (drop k ns)
 IsShareWithin Nothing ns = Unit {0}
 
+-- the box of the class is given something
 abbrev pub share_gives : Share → Bool
 share_gives All = true
 share_gives (Front k) = true
 share_gives Nothing = false
 
--- what is held
+-- what is held of it
 abbrev pub share_held : Share → Inserted → List PlainKind
 share_held All i = []
 share_held (Front k) i = unless_empty i (pruned_leaves i.split_top (drop k i.inner))
@@ -176,6 +178,7 @@ spent_node_kind kinds.Whatsit = kinds.Whatsit
 spent_node_kind (kinds.Ins i) = kinds.Ins i
 spent_node_kind (kinds.Act a) = kinds.Act a
 
+-- the nodes from the break on, of which the first no longer forces a break
 abbrev pub spent_nodes : List Node → List Node
 spent_nodes [] = []
 spent_nodes (n ∷ ns) = record { line = n.line; kind = spent_node_kind n.kind } ∷ ns

@@ -80,6 +80,7 @@ impl Builder {
         self.boxes[k].void = false;
         self.boxes[k].list
     }
+
     // All nodes of the insertion that is first on the page go to the box of its class.
     fn give_all(&mut self, store: &mut Lists<Node>, n: &Node, i: &Insertion)
         requires own { IsOwned (ids_of self.old) store.old }
@@ -178,6 +179,7 @@ impl Builder {
             Share::Nothing => self.hold(store, n, i, *n),
         }
     }
+
     // The first node of the page, which has this place on the page that fires, goes to the body, or, an insertion,
     // where its share says.
     fn sort_first(&mut self, store: &mut Lists<Node>, body: ListId, index: usize)
