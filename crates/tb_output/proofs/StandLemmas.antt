@@ -87,13 +87,13 @@ module _ (store new : Lists Node) where
   sheet-stands : (s : Sheet) → AllByRecursion Stands (sheet_lists s) → IsPageSheet store s → IsPageSheet new s
   sheet-stands (sheets.One c) e h = column-stands c e.0 h
   sheet-stands (sheets.Wide c) e h = column-stands c e.0 h
-  sheet-stands (sheets.Two tops at left right) e h = (list-stands tops e.0 h.0, (column-stands left e.1.0 h.1.0, column-stands right e.1.1.0 h.1.1))
+  sheet-stands (sheets.Two tops at left right) e h = (list-stands tops e.0 h.0, column-stands left e.1.0 h.1, column-stands right e.1.1.0 h.2)
 
   sheet-shows : (s : Sheet) → AllByRecursion Stands (sheet_lists s) → IsPageSheet store s → sheet_shown new s ≡ sheet_shown store s
   sheet-shows (sheets.One c) e h = ap one (column-shows c e.0 h)
   sheet-shows (sheets.Wide c) e h = ap wide (column-shows c e.0 h)
   sheet-shows (sheets.Two tops at left right) e h =
-      λ i. two (nodes-stand tops e.0 h.0.leaves i) at (column-shows left e.1.0 h.1.0 i) (column-shows right e.1.1.0 h.1.1 i)
+      λ i. two (nodes-stand tops e.0 h.0.leaves i) at (column-shows left e.1.0 h.1 i) (column-shows right e.1.1.0 h.2 i)
 
   sent-stands : (s : Sent) → AllByRecursion Stands (sent_lists s) → IsPageSent store s → IsPageSent new s
   sent-stands (events.Warn w) e h = tt
