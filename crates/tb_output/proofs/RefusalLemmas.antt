@@ -8,3 +8,8 @@ use Rattle.tb_output.specs.declared.RunFault.TheVariants as faults
 pub memory-err : {T : Type 0} (r : Result T RunFault) (P : RunFault → Type 0) → IsErrAnd r (λ e. e ≡ faults.Memory) → P faults.Memory → IfErr r P
 memory-err (Ok x) P h p = tt
 memory-err (Err e) P h p = subst P (sym h) p
+
+-- the refusal of a part is handed on
+pub same-err : {T : Type 0} (r : Result T RunFault) (e : RunFault) (P : RunFault → Type 0) → IsErrAnd r (λ x. x ≡ e) → P e → IfErr r P
+same-err (Ok x) e P h p = tt
+same-err (Err x) e P h p = subst P (sym h) p
