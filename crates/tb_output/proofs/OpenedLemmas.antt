@@ -77,6 +77,14 @@ opened-new store mid l body fresh live e = record {
   rest = λ q a alive. get_other store mid l [] q (λ same. not-new store l q fresh alive (sym same)) e;
 }
 
+pub opened-same : (store mid next : Lists Node) (l body : ℕ) (ns ys : List Node) → IsOpened l ns ys store mid body → next.lists ≡ mid.lists → IsOpened l ns ys store next body
+opened-same store mid next l body ns ys o e = record {
+  fresh = o.fresh;
+  opened = ap (λ n. get n l) e ∙ o.opened;
+  text = ap (λ n. get n body) e ∙ o.text;
+  rest = λ q a alive. ap (λ n. get n q) e ∙ o.rest q a alive;
+}
+
 -- where nodes were put into it then
 pub opened-filled : (store mid next : Lists Node) (l body : ℕ) (ys ns : List Node) → IsLive store body → IsOpened l [] ys store mid body → next.lists ≡ with_list mid l (list_at mid l ++ ns) → IsOpened l ns ys store next body
 opened-filled store mid next l body ys ns live o e = record {

@@ -49,7 +49,8 @@ pub(crate) fn filling_glue() -> Glue
 pub(crate) fn push_clear(store: &mut Lists<Node>, l: ListId)
     requires live { IsLive store.old l }
     requires room { 5 ≤ store.old.spare }
-    ensures { store.new.lists ≡ with_list store.old l (list_at store.old l ++ clear_list) }
+    ensures lists { store.new.lists ≡ with_list store.old l (list_at store.old l ++ clear_list) }
+    ensures spare { store.new.spare + 5 ≡ store.old.spare }
 {
     push_made(store, l, Kind::Skip(filling_glue()));
     push_made(store, l, Kind::Pen(-10_000));
