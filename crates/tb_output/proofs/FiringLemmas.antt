@@ -24,7 +24,7 @@ use Rattle.tb_output.specs.Firing.{foot_box, AreTextLists, IsPutBack, OthersStan
 use Rattle.tb_output.specs.Shipping.{shipped_machine, HasPutOut, IsAtLimit, IsOutput, IsOverLimit}
 use Rattle.tb_output.proofs.FloatlessWork.{bare_state, IsDone, IsStopped}
 use Rattle.tb_output.proofs.StandLemmas.{all-join, leaves-shown, Stands, machine-stands, machine-shows}
-use Rattle.tb_output.proofs.MachineLemmas.{state-is, floatless-stands, floatless-shipped, lists-live, fresh-apart, stand-all, lists-shipped, machine-shipped}
+use Rattle.tb_output.proofs.MachineLemmas.{not-new, state-is, floatless-stands, floatless-shipped, lists-live, fresh-apart, stand-all, lists-shipped, machine-shipped}
 
 -- nodes that may be put back
 pub record MayGoBack (ns : List Node) : Type 0 where
@@ -33,10 +33,10 @@ pub record MayGoBack (ns : List Node) : Type 0 where
   pub few : length ns ≤ 8388608
 
 -- what stands after a firing besides its work
-pub record IsReady (l : ℕ) (now : MachineView) (new : Lists Node) : Type 0 where
+pub record IsReady (l : ℕ) (now : MachineView) (store new : Lists Node) (body : ℕ) : Type 0 where
   pub machine : IsMachine now new
   pub floatless : IsFloatless now new
-  pub put_back : IsPutBack now new l
+  pub put_back : IsPutBack now store new body l
 
 module _ (m : MachineView) (store new : Lists Node) (most body : ℕ) (notes : Option ℕ) (is : IsMachine m store) (lists : AreTextLists most m store body notes) where
   abbrev own-stand : OthersStand store new body notes → AllByRecursion (Stands store new) (machine_lists m)
@@ -75,8 +75,8 @@ module _ (m : MachineView) (store new : Lists Node) (most body : ℕ) (notes : O
         subst (IsNotAmong l) (sym (lists-shipped m h.column))
         (all-join (λ q. q ≢ l) (machine_lists m) (h.column.list ∷ []) (fresh-apart store l (machine_lists m) (lists-live m store is) h.fresh) (subst (λ q. IsNotAmong l (q ∷ [])) (sym h.list) (fresh-apart store l (body ∷ []) (lists.live, tt) h.fresh)))
 
-    pub put-out-ready : IsReady l now new
-    put-out-ready = subst (λ v. IsReady l v new) (sym h.machine) (record {
+    pub put-out-ready : IsReady l now store new body
+    put-out-ready = subst (λ v. IsReady l v store new body) (sym h.machine) (record {
       machine = machine-shipped m new h.column (machine-kept h.others) h.room column-is body-apart;
       floatless = floatless-shipped m new h.column (floatless-kept h.others floatless);
       put_back = record {
@@ -87,6 +87,7 @@ module _ (m : MachineView) (store new : Lists Node) (most body : ℕ) (notes : O
           few = subst (λ (xs : List Node). length xs ≤ 8388608) (sym h.back) back.few;
         };
         apart = l-apart;
+        own = λ q a live. not-new store l q h.fresh live;
       };
     })
 

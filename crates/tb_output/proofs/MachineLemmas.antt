@@ -176,13 +176,14 @@ pub lists-live : (m : MachineView) (store : Lists Node) → IsMachine m store �
 lists-live m store h =
     (h.held_page.live, all-join (IsLive store) (left_lists m.left_column) (event_lists m.events) (left-live store m.left_column h.left_column) (events-live store m.events h.events))
 
+-- a list that is live is not the new one
+pub not-new : (store : Lists Node) (l q : ℕ) → get store.lists l ≡ None → IsLive store q → l ≢ q
+not-new store l q fresh live e = true≢false (sym (subst IsSome (ap (get store.lists) (sym e) ∙ fresh) live))
+
 -- a list that is not live is none of these
 pub fresh-apart : (store : Lists Node) (l : ℕ) (ls : List ℕ) → AllByRecursion (IsLive store) ls → get store.lists l ≡ None → IsNotAmong l ls
 fresh-apart store l [] h e = tt
-fresh-apart store l (q ∷ ls) h e = ((λ same. not-live q same h.0), fresh-apart store l ls h.1 e)
-  where
-    not-live : (q : ℕ) → q ≡ l → IsLive store q → ⊥
-    not-live q same live = true≢false (sym (subst IsSome (ap (get store.lists) same ∙ e) live))
+fresh-apart store l (q ∷ ls) h e = ((λ same. not-new store l q e h.0 (sym same)), fresh-apart store l ls h.1 e)
 
 first-apart : (notes : Option ℕ) (q : ℕ) (ls : List ℕ) → AreNotesApart notes (q ∷ ls) → IsNotNotes q notes
 first-apart None q ls h = tt

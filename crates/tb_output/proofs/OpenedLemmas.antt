@@ -21,6 +21,7 @@ use Rattle.tb_output.specs.Machine.{MachineView, IsMachine}
 use Rattle.tb_output.specs.Firing.{note_nodes, IsNotNotes, AreTextLists, OthersStand}
 use Rattle.tb_output.specs.Shipping.{RestStands, IsShipped, IsFull, IsNotShipped, HasPutOut, IsAtLimit, HasNotPutOut}
 use Rattle.tb_output.proofs.StandLemmas.{Stands, leaves-shown}
+use Rattle.tb_output.proofs.MachineLemmas.{not-new}
 use Rattle.tb_output.proofs.FiringLemmas.{machine-kept}
 
 -- the footnotes' list is as before
@@ -51,10 +52,6 @@ pub record IsOpened (l : ℕ) (ns ys : List Node) (store mid : Lists Node) (body
   pub opened : get mid.lists l ≡ Some ns
   pub text : get mid.lists body ≡ Some ys
   pub rest : (q : ℕ) → q ≢ body → IsLive store q → get mid.lists q ≡ get store.lists q
-
--- a list that is live is not the new one
-pub not-new : (store : Lists Node) (l q : ℕ) → get store.lists l ≡ None → IsLive store q → l ≢ q
-not-new store l q fresh live e = true≢false (sym (subst IsSome (ap (get store.lists) (sym e) ∙ fresh) live))
 
 notes-stand : (store mid : Lists Node) (body : ℕ) (notes : Option ℕ) → ((q : ℕ) → q ≢ body → IsLive store q → get mid.lists q ≡ get store.lists q) → CanJoin store body notes → NotesStand store mid notes
 notes-stand store mid body None rest h = tt

@@ -26,7 +26,7 @@ use Rattle.tb_output.specs.State.{State, Work}
 use Rattle.tb_output.specs.Clear.{cleared_front}
 use Rattle.tb_output.specs.Out.{clear_penalty}
 use Rattle.tb_output.specs.Machine.{MachineView, state_shown, events_shown, machine_lists, IsPageList, IsMachine, IsFloatless}
-use Rattle.tb_output.specs.Firing.{foot_box, fired_page, IsNotNotes, IsServed, IsPutBack, OthersStand}
+use Rattle.tb_output.specs.Firing.{foot_box, fired_page, IsNotNotes, CanServe, IsPutBack, OthersStand}
 use Rattle.tb_output.specs.Shipping.{clear_list, shipped_machine, HasPutOut, IsAtLimit, HasNotPutOut, output_work, counted_work, IsOutput, IsOverLimit, IsNotOutput}
 use Rattle.tb_output.proofs.FloatlessWork.{bare_state, IsDone, IsStopped, page-shipped, page-stopped, front-back, clear-shipped, clear-stopped}
 use Rattle.tb_output.proofs.StandLemmas.{leaves-shown}
@@ -112,7 +112,7 @@ pub record IsKept (m now : MachineView) (store new : Lists Node) (body : ℕ) (n
 pub low-penalty : (q : ℤ) → clear_penalty ≤ℤ q → int_le clear_penalty q ≡ true
 low-penalty q h = grind (arith, ints, h)
 
-module _ (m now : MachineView) (store new : Lists Node) (page : Page) (notes : Option ℕ) (is : IsMachine m store) (served : IsServed m store page notes) where
+module _ (m now : MachineView) (store new : Lists Node) (page : Page) (notes : Option ℕ) (is : IsMachine m store) (served : CanServe m store page notes) where
   work-is : counted_work m store page notes ≡ output_work m.params (bare_state m.params (foot_box None) m.page m.dead_cycles) (fired_page (nodes_shown store page.body) (notes_shown store notes) page.penalty)
   work-is = ap (λ (s : State). output_work m.params s (fired_page (nodes_shown store page.body) (notes_shown store notes) page.penalty)) (state-is m store (foot_box None) served.floatless)
 
@@ -144,9 +144,9 @@ module _ (m now : MachineView) (store new : Lists Node) (page : Page) (notes : O
   kept-either r ns text back =
       either-way r (λ l. HasPutOut l ns text m now store new page.body notes) (λ e. HasNotPutOut e m now store new page.body notes) (IsKept m now store new page.body notes) (λ l. put-out-kept l ns text back) not-put-out-kept
 
-  pub ready-if : (r : Result ℕ RunFault) (ns : List Node) (text : List PlainNode) → MayGoBack ns → IfOk r (λ l. HasPutOut l ns text m now store new page.body notes) → IfOk r (λ l. IsReady l now new)
+  pub ready-if : (r : Result ℕ RunFault) (ns : List Node) (text : List PlainNode) → MayGoBack ns → IfOk r (λ l. HasPutOut l ns text m now store new page.body notes) → IfOk r (λ l. IsReady l now store new page.body)
   ready-if r ns text back =
-      if-ok r (λ l. HasPutOut l ns text m now store new page.body notes) (λ l. IsReady l now new) (λ l h. put-out-ready m store new 8388602 page.body notes is served.lists l ns text now h back served.floatless)
+      if-ok r (λ l. HasPutOut l ns text m now store new page.body notes) (λ l. IsReady l now store new page.body) (λ l h. put-out-ready m store new 8388602 page.body notes is served.lists l ns text now h back served.floatless)
 
   refusal-by : (e : RunFault) → (int_lt m.params.maxpages (pos m.page) ≡ true → IsStopped (counted_work m store page notes) m.page) → HasNotPutOut e m now store new page.body notes → IsNotOutput e m now store new (counted_work m store page notes)
   refusal-by (faults.DeadCycles n) stopped h = h
@@ -169,17 +169,17 @@ module _ (m now : MachineView) (store new : Lists Node) (page : Page) (notes : O
 
 -- ---- a clear with footnotes
 
-module _ (m now : MachineView) (store new : Lists Node) (page : Page) (notes : Option ℕ) (n : ℕ) (some : notes ≡ Some n) (is : IsMachine m store) (served : IsServed m store page notes) where
+module _ (m now : MachineView) (store new : Lists Node) (page : Page) (notes : Option ℕ) (n : ℕ) (some : notes ≡ Some n) (is : IsMachine m store) (served : CanServe m store page notes) where
   abbrev filled_text : List PlainNode
   filled_text = nodes_shown store page.body ++ made (skip filling_glue) ∷ []
 
-  served-notes : IsServed m store page (Some n)
-  served-notes = subst (IsServed m store page) some served
+  served-notes : CanServe m store page (Some n)
+  served-notes = subst (CanServe m store page) some served
 
   pub notes-kept : (r : Result ℕ RunFault) → IfOk r (λ l. HasPutOut l clear_list filled_text m now store new page.body (Some n)) → IfErr r (λ e. HasNotPutOut e m now store new page.body (Some n)) → IsKept m now store new page.body notes
   notes-kept r ok err = subst (IsKept m now store new page.body) (sym some) (kept-either m now store new page (Some n) is served-notes r clear_list filled_text clear-back ok err)
 
-  pub notes-ready : (r : Result ℕ RunFault) → IfOk r (λ l. HasPutOut l clear_list filled_text m now store new page.body (Some n)) → IfOk r (λ l. IsReady l now new)
+  pub notes-ready : (r : Result ℕ RunFault) → IfOk r (λ l. HasPutOut l clear_list filled_text m now store new page.body (Some n)) → IfOk r (λ l. IsReady l now store new page.body)
   notes-ready r = ready-if m now store new page (Some n) is served-notes r clear_list filled_text clear-back
 
   module _ (below : int_le eject_penalty page.penalty ≡ false) where
@@ -197,13 +197,13 @@ module _ (m now : MachineView) (store new : Lists Node) (page : Page) (notes : O
 
 -- ---- a clear without footnotes
 
-module _ (m : MachineView) (store new : Lists Node) (page : Page) (notes : Option ℕ) (none : notes ≡ None) (is : IsMachine m store) (served : IsServed m store page notes)
+module _ (m : MachineView) (store new : Lists Node) (page : Page) (notes : Option ℕ) (none : notes ≡ None) (is : IsMachine m store) (served : CanServe m store page notes)
     (cleared : new.lists ≡ with_list store page.body (take (split_of (pos 0) m.params.splitmaxdepth (shapes store page.body)).index (list_at store page.body))) where
   abbrev front : List Node
   front = take (split_of (pos 0) m.params.splitmaxdepth (shapes store page.body)).index (list_at store page.body)
 
-  served-none : IsServed m store page None
-  served-none = subst (IsServed m store page) none served
+  served-none : CanServe m store page None
+  served-none = subst (CanServe m store page) none served
 
   others-none : OthersStand store new page.body None
   others-none q a b live = get_other store new page.body front q a cleared
@@ -217,7 +217,7 @@ module _ (m : MachineView) (store new : Lists Node) (page : Page) (notes : Optio
   front-leaves : AreLeaves front
   front-leaves = leaves-take (split_of (pos 0) m.params.splitmaxdepth (shapes store page.body)).index (list_at store page.body) served.lists.leaves
 
-  pub front-ready : IsReady page.body m new
+  pub front-ready : IsReady page.body m store new page.body
   front-ready = record {
     machine = machine-kept m store new 8388602 page.body None is served-none.lists others-none;
     floatless = floatless-kept m store new 8388602 page.body None is served-none.lists others-none served.floatless;
@@ -229,6 +229,7 @@ module _ (m : MachineView) (store new : Lists Node) (page : Page) (notes : Optio
         few = let a = ap length front-list in let b = length-take (split_of (pos 0) m.params.splitmaxdepth (shapes store page.body)).index (list_at store page.body) in let h = served.lists.few in omega arith;
       };
       apart = served.lists.body_apart;
+      own = λ q a live e. a (sym e);
     };
   }
 

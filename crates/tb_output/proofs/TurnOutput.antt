@@ -10,7 +10,7 @@ use Rattle.tb_output.specs.declared.RunFault.{RunFault}
 use Rattle.tb_output.specs.declared.RunFault.TheVariants as faults
 use Rattle.tb_output.specs.State.{State, Work}
 use Rattle.tb_output.specs.Machine.{MachineView, events_shown, IsFloatless}
-use Rattle.tb_output.specs.Firing.{page_work, firing_work, AreTextLists, IsServed, IsTurn, AtDeadCycles, IsRefusal}
+use Rattle.tb_output.specs.Firing.{page_work, firing_work, AreTextLists, CanServe, IsTurn, AtDeadCycles, IsRefusal}
 use Rattle.tb_output.specs.Shipping.{output_work, counted_work, IsOutput, IsNotOutput}
 
 -- the machine with one more dead cycle
@@ -34,7 +34,7 @@ is-below n z e = grind (arith, ints, e)
 pub at-dead-cycles : (n : ℕ) (m : MachineView) (store : Lists Node) → n ≡ m.dead_cycles → int_lt (pos m.dead_cycles) m.params.maxdeadcycles ≡ false → AtDeadCycles n m m store store
 at-dead-cycles n m store e below = record { count = e; reached = not-below m.dead_cycles m.params.maxdeadcycles below; machine = refl; lists = refl }
 
-pub counted-served : (m : MachineView) (store : Lists Node) (page : Page) (notes : Option ℕ) → IsServed m store page notes → IsServed (counted m) store page notes
+pub counted-served : (m : MachineView) (store : Lists Node) (page : Page) (notes : Option ℕ) → CanServe m store page notes → CanServe (counted m) store page notes
 counted-served m store page notes h = record {
   floatless = record {
     floats = h.floatless.floats;

@@ -65,7 +65,7 @@ pub record AreTextLists (most : ℕ) (m : MachineView) (store : Lists Node) (bod
   pub notes_apart : AreNotesApart notes (machine_lists m)
 
 -- a page that the machine serves: there are no floats, the penalty is none of a float or note, and there is room for the glue of a clear
-pub record IsServed (m : MachineView) (store : Lists Node) (page : Page) (notes : Option ℕ) : Type 0 where
+pub record CanServe (m : MachineView) (store : Lists Node) (page : Page) (notes : Option ℕ) : Type 0 where
   pub floatless : IsFloatless m store
   pub penalty : clear_penalty ≤ℤ page.penalty
   pub lists : AreTextLists 8388602 m store page.body notes
@@ -109,10 +109,11 @@ IsRefusal (faults.DeadCycles n) m now store new w = AtDeadCycles n m now store n
 IsRefusal (faults.PageLimit n) m now store new w = AtPageLimit n m now store new w
 IsRefusal faults.Memory m now store new w = WithoutMemory m now store new w
 
--- the list that a turn puts back: such as that of a page, and none of the machine's
-pub record IsPutBack (m : MachineView) (store : Lists Node) (l : ℕ) : Type 0 where
-  pub list : IsPageList store l
+-- the list that goes back after a page with this body: such as that of a page, none of the machine's, and no other list that was live
+pub record IsPutBack (m : MachineView) (store new : Lists Node) (body l : ℕ) : Type 0 where
+  pub list : IsPageList new l
   pub apart : IsNotAmong l (machine_lists m)
+  pub own : (q : ℕ) → q ≢ body → IsLive store q → l ≢ q
 
 -- each other list that was live is as before
 abbrev pub OthersStand : Lists Node → Lists Node → ℕ → Option ℕ → Type 0

@@ -2,7 +2,7 @@
 
 ghost use Rattle.std.specs.Prelude.{◌≡◌, Err, IfOk, IfErr, IfSome, IfNone};
 ghost use Rattle.tb_output.specs.Machine.{IsMachine, IsFloatless};
-ghost use Rattle.tb_output.specs.Firing.{firing_work, IsServed, IsTurn, IsRefusal, IsPutBack, OthersStand};
+ghost use Rattle.tb_output.specs.Firing.{firing_work, CanServe, IsTurn, IsRefusal, IsPutBack, OthersStand};
 ghost use Rattle.tb_output.specs.Shipping.{counted_work, IsOutput, IsNotOutput};
 
 use crate::limits::is_below;
@@ -30,7 +30,7 @@ impl Machine {
         notes: Option<ListId>,
     ) -> Result<Turn, RunFault>
         requires machine { IsMachine self.old store.old }
-        requires page { IfNone self.old.fault (IsServed self.old store.old page notes) }
+        requires page { IfNone self.old.fault (CanServe self.old store.old page notes) }
 
         ensures turn { IfOk result (λ t. IsTurn t self.old self.new store.old store.new (firing_work self.old store.old page notes)) }
         ensures refused { IfNone self.old.fault (IfErr result (λ e. IsRefusal e self.old self.new store.old store.new (firing_work self.old store.old page notes))) }
@@ -38,7 +38,7 @@ impl Machine {
 
         ensures machine { IsMachine self.new store.new }
         ensures floatless { IfOk result (λ _. IsFloatless self.new store.new) }
-        ensures put_back { IfOk result (λ t. IsPutBack self.new store.new t.put_back) }
+        ensures put_back { IfOk result (λ t. IsPutBack self.new store.old store.new page.body t.put_back) }
         ensures params { self.new.params ≡ self.old.params }
         ensures others { OthersStand store.old store.new page.body notes }
     {
@@ -71,14 +71,14 @@ impl Machine {
         notes: Option<ListId>,
     ) -> Result<ListId, RunFault>
         requires machine { IsMachine self.old store.old }
-        requires page { IsServed self.old store.old page notes }
+        requires page { CanServe self.old store.old page notes }
 
         ensures ok { IfOk result (λ l. IsOutput l self.old self.new store.old store.new (counted_work self.old store.old page notes)) }
         ensures err { IfErr result (λ e. IsNotOutput e self.old self.new store.old store.new (counted_work self.old store.old page notes)) }
 
         ensures machine { IsMachine self.new store.new }
         ensures floatless { IfOk result (λ _. IsFloatless self.new store.new) }
-        ensures put_back { IfOk result (IsPutBack self.new store.new) }
+        ensures put_back { IfOk result (IsPutBack self.new store.old store.new page.body) }
         ensures fault { self.new.fault ≡ self.old.fault }
         ensures params { self.new.params ≡ self.old.params }
         ensures others { OthersStand store.old store.new page.body notes }

@@ -3,7 +3,7 @@ use Rattle.std.specs.Prelude.{IfNone}
 use Rattle.std.proofs.lemmas.Int.{to_z-of_z, ints}
 use Rattle.tb_output.specs.declared.Turn.{Turn}
 use Rattle.tb_output.specs.Machine.{MachineView, IsMachine}
-use Rattle.tb_output.specs.Firing.{firing_work, IsServed, AtDeadCycles, IsTurn, IsRefusal}
+use Rattle.tb_output.specs.Firing.{firing_work, CanServe, AtDeadCycles, IsTurn, IsRefusal}
 use Rattle.tb_output.proofs.TurnOutput.{if-none, of-none, at-dead-cycles, counted-served, turn-by, refused-by}
 use Rattle.tb_output.proofs.Machine.fire_page.Goals as goal
 
@@ -17,7 +17,7 @@ returns-then-not-is_below-clause-refused c =
 
 pub output-requires-clause-page : goal.output-requires-clause-page
 output-requires-clause-page c =
-    let served = subst (λ (x : MachineView). IfNone x.fault (IsServed x c.args.store.now c.args.page c.args.notes)) (sym c.self.view_is) c.requires.page in
+    let served = subst (λ (x : MachineView). IfNone x.fault (CanServe x c.args.store.now c.args.page c.args.notes)) (sym c.self.view_is) c.requires.page in
     counted-served _ c.args.store.now c.args.page c.args.notes (of-none c.self.inside.fault _ c.in_default.is served)
 
 pub returns-in-Ok-clause-turn : goal.returns-in-Ok-clause-turn

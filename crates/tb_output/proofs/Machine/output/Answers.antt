@@ -23,7 +23,7 @@ returns-then-page-ge-EJECT_PENALTY-clause-machine c =
 
 pub returns-then-page-ge-EJECT_PENALTY-clause-put_back : goal.returns-then-page-ge-EJECT_PENALTY-clause-put_back
 returns-then-page-ge-EJECT_PENALTY-clause-put_back c =
-    if-ok c.ordinary.result (λ l. IsReady l c.ordinary.new.self c.ordinary.new.store) _ (λ l h. h.put_back)
+    if-ok c.ordinary.result (λ l. IsReady l c.ordinary.new.self c.args.store.now c.ordinary.new.store c.args.page.body) _ (λ l h. h.put_back)
     (ready-if c.args.self.now c.ordinary.new.self c.args.store.now c.ordinary.new.store c.args.page c.args.notes c.requires.machine c.requires.page c.ordinary.result [] (nodes_shown c.args.store.now c.args.page.body) nothing-back c.ordinary.ensures.ok)
 
 pub returns-in-Some-clause-ok : goal.returns-in-Some-clause-ok
@@ -44,7 +44,7 @@ returns-in-Some-clause-machine c =
 
 pub returns-in-Some-clause-put_back : goal.returns-in-Some-clause-put_back
 returns-in-Some-clause-put_back c =
-    if-ok c.clear_notes.result (λ l. IsReady l c.clear_notes.new.self c.clear_notes.new.store) _ (λ l h. h.put_back)
+    if-ok c.clear_notes.result (λ l. IsReady l c.clear_notes.new.self c.args.store.now c.clear_notes.new.store c.args.page.body) _ (λ l h. h.put_back)
     (notes-ready c.args.self.now c.clear_notes.new.self c.args.store.now c.clear_notes.new.store c.args.page c.args.notes c.in-Some.notes c.in-Some.is c.requires.machine c.requires.page c.clear_notes.result c.clear_notes.ensures.ok)
 
 pub returns-in-None-clause-ok : goal.returns-in-None-clause-ok
