@@ -391,7 +391,7 @@ pruned_count t (n ∷ ns) = at_count t (node_shape n) n ns (pruned_nodes t ns) (
 
 -- ---- the class boxes
 
-content_sized : (bs : List Boxed) (k : ℕ) → All IsSizedBox bs → All IsSizedLeaf (content_of (box_content bs k))
+pub content_sized : (bs : List Boxed) (k : ℕ) → All IsSizedBox bs → All IsSizedLeaf (content_of (box_content bs k))
 content_sized [] k h = All-nil IsSizedLeaf
 content_sized (b ∷ bs) k h = by_test (b.number == k) (content_sized bs k (All-tail IsSizedBox b bs h))
   where
