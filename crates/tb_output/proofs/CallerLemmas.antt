@@ -1,5 +1,5 @@
 -- What callers of the machine use.
-use Rattle.std.proofs.Common.{◌≡◌, ◌≢◌, refl, sym, subst, ◌∙◌, ap, ℕ, List, [], ◌∷◌, ◌++◌, Option, None, Some}
+use Rattle.std.proofs.Common.{◌≡◌, ◌≢◌, refl, sym, subst, ◌∙◌, ap, ℕ, List, [], ◌∷◌, ◌++◌, Option}
 use Rattle.std.specs.List.{AllByRecursion}
 use Rattle.tb_pool.specs.Lists.{Lists}
 use Rattle.tb_node.specs.declared.Node.{Node}
@@ -9,7 +9,6 @@ use Rattle.tb_builder.specs.Fired.{Boxed, Fired}
 use Rattle.tb_column.specs.declared.Sent.{Sent}
 use Rattle.tb_column.specs.Shown.{nodes_shown}
 use Rattle.tb_column.specs.TextList.{notes_shown}
-use Rattle.tb_output.specs.State.{State, Work}
 use Rattle.tb_output.specs.Out.{waiting_again, out}
 use Rattle.tb_output.specs.Machine.{MachineView, state_shown, sent_lists, event_lists, left_lists, machine_lists, IsNotAmong, AreDistinct, IsPageSent, IsMachine}
 use Rattle.tb_output.specs.Firing.{foot_box, fired_page, page_work, firing_work}

@@ -1,4 +1,4 @@
-use Rattle.std.proofs.Common.{◌≡◌, sym, ◌∙◌, ap, subst, refl, Some, FitsSigned, w64, rules}
+use Rattle.std.proofs.Common.{sym, ◌∙◌, ap, subst, refl, Some, FitsSigned, w64, rules}
 use Rattle.std.specs.Prelude.{IfNone}
 use Rattle.std.proofs.lemmas.Int.{to_z-of_z, ints}
 use Rattle.tb_output.specs.declared.Turn.{Turn}
