@@ -1,9 +1,9 @@
 -- The page is cut at its break, and what stands behind it goes back.
-use Rattle.std.proofs.Common.{◌≡◌, ◌≢◌, inl, inr, refl, sym, subst, ◌∙◌, ap, ℕ, zero, suc, ◌≤◌, true, List, [], ◌∷◌, ◌++◌, map, length, take, drop, Some, append_assoc, arith}
+use Rattle.std.proofs.Common.{◌≡◌, ◌≢◌, inl, inr, refl, sym, subst, ◌∙◌, ap, ℕ, true, List, [], ◌∷◌, ◌++◌, map, take, drop, Some, append_assoc}
 use Rattle.std.specs.Prelude.{option_to_list, slice_set}
 use Rattle.std.specs.FinMap.{get, insert}
 use Rattle.std.proofs.lemmas.Bool.{cases_eq}
-use Rattle.std.proofs.lemmas.List.{map-append, take-map, drop-map}
+use Rattle.std.proofs.lemmas.List.{map-append, take-map, drop-map, take-append-drop}
 use Rattle.tb_pool.specs.Lists.{Lists, IsLive, list_at, with_list}
 use Rattle.tb_pool.proofs.MapLemmas.{insert_twice_from_get}
 use Rattle.tb_node.specs.declared.Node.{Node}
@@ -127,16 +127,6 @@ module _ (b : Ids) (s a c t : Lists Node) (place : ℕ) (own : IsOwned b s)
 
 -- ---- the page is cut
 
-take_drop : (k : ℕ) (ns : List Node) → take k ns ++ drop k ns ≡ ns
-take_drop zero ns = refl
-take_drop (suc k) [] = refl
-take_drop (suc k) (n ∷ ns) = ap (λ xs. n ∷ xs) (take_drop k ns)
-
-take_short : (k : ℕ) (ns : List Node) → length (take k ns) ≤ k
-take_short zero ns = omega arith
-take_short (suc k) [] = omega arith
-take_short (suc k) (n ∷ ns) = let h : length (take k ns) ≤ k = take_short k ns in omega arith
-
 module _ (b : Builder) (s a t : Lists Node) (place : ℕ) (own : IsOwned (ids_of b) s)
     (turned : a.lists ≡ insert (with_list s b.page (take place (list_at s b.page))) b.waiting (drop place (list_at s b.page) ++ list_at s b.waiting)) where
   abbrev front : List Node
@@ -183,7 +173,7 @@ module _ (b : Builder) (s a t : Lists Node) (place : ℕ) (own : IsOwned (ids_of
         other q np nw = one_other a t b.waiting q (spent_nodes (list_at a b.waiting)) nw spent ∙ g.others q np nw
 
         whole : front ++ back ≡ list_at s b.page ++ list_at s b.waiting
-        whole = sym (append_assoc front (drop place (list_at s b.page)) (list_at s b.waiting)) ∙ ap (λ ns. ns ++ list_at s b.waiting) (take_drop place (list_at s b.page))
+        whole = sym (append_assoc front (drop place (list_at s b.page)) (list_at s b.waiting)) ∙ ap (λ ns. ns ++ list_at s b.waiting) (take-append-drop place (list_at s b.page))
 
     pub cuts_of : Cuts b s t place
     cuts_of = record {
@@ -194,5 +184,4 @@ module _ (b : Builder) (s a t : Lists Node) (place : ℕ) (own : IsOwned (ids_of
       waiting = relisted_waiting (ids_of b) s t (list_at s b.held) front (spent_nodes back) own w ∙ spent_plain (list_at s) back ∙ ap with_spent_break (ap (map (plain_of (list_at s))) (sym waiting_turned) ∙ plain_turned);
       held = list_got t b.held (list_at s b.held) w.held_is;
       boxes = relisted_boxes (ids_of b) s t (list_at s b.held) front (spent_nodes back) own w;
-      count = subst (λ ns. length ns ≤ place) (sym (list_got t b.page front w.page_is)) (take_short place (list_at s b.page));
     }

@@ -1,8 +1,8 @@
 -- A page fires: what the builder held before, and what it holds afterwards.
-use Rattle.std.proofs.Common.{◌≡◌, ◌≢◌, refl, sym, subst, ◌∙◌, ap, ℕ, zero, suc, ◌≤◌, ℤ, true, false, List, [], ◌∷◌, ◌++◌, map, length, take, drop, Option, Some, None, is_some, append_assoc}
+use Rattle.std.proofs.Common.{◌≡◌, ◌≢◌, refl, sym, subst, ◌∙◌, ap, ℕ, ◌≤◌, ℤ, true, false, List, [], ◌∷◌, ◌++◌, map, length, take, drop, Option, Some, None, is_some, append_assoc}
 use Rattle.std.specs.FinMap.{get}
 use Rattle.std.proofs.lemmas.Bool.{true≢false}
-use Rattle.std.proofs.lemmas.List.{length-map}
+use Rattle.std.proofs.lemmas.List.{length-map, take-append-drop}
 use Rattle.tb_pool.specs.Lists.{Lists, IsLive, list_at, with_list}
 use Rattle.tb_node.specs.declared.Node.{Node}
 use Rattle.tb_node.specs.Plain.{PlainNode, plain_of, without_insertions}
@@ -119,12 +119,7 @@ module _ (b : Builder) (s e : Lists Node) (body : ℕ) (own : IsOwned (ids_of b)
 -- ---- the page is cut, and its nodes can be sorted
 
 each_front : (k : ℕ) (ns : List PlainNode) → EachFits ns → EachFits (take k ns)
-each_front k ns fit before n rest e = fit before n (rest ++ drop k ns) (sym (append_assoc before (n ∷ rest) (drop k ns)) ∙ ap (λ xs. xs ++ drop k ns) e ∙ whole k ns)
-  where
-    whole : (k : ℕ) (ns : List PlainNode) → take k ns ++ drop k ns ≡ ns
-    whole zero ns = refl
-    whole (suc k) [] = refl
-    whole (suc k) (n ∷ ns) = ap (λ xs. n ∷ xs) (whole k ns)
+each_front k ns fit before n rest e = fit before n (rest ++ drop k ns) (sym (append_assoc before (n ∷ rest) (drop k ns)) ∙ ap (λ xs. xs ++ drop k ns) e ∙ take-append-drop k ns)
 
 module _ (b : Builder) (s e t : Lists Node) (body : ℕ) (x : Best) (sound : IsSound b s) (stopped : b.stopped ≡ true) (is : b.course.scan.best ≡ Some x)
     (fresh : get s.lists body ≡ None) (opened : e.lists ≡ with_list s body []) where

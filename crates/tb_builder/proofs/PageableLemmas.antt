@@ -39,7 +39,7 @@ module _ {X : Type 0} (P : X → Type 0) where
   inside [] y ys h = All-head P y ys h
   inside (x ∷ xs) y ys h = inside xs y ys (All-tail P x (xs ++ y ∷ ys) h)
 
-count-append : (ms ns : List PlainNode) → node_count (ms ++ ns) ≡ node_count ms + node_count ns
+pub count-append : (ms ns : List PlainNode) → node_count (ms ++ ns) ≡ node_count ms + node_count ns
 count-append [] ns = omega arith
 count-append (m ∷ ms) ns = let e = count-append ms ns in omega arith
 
@@ -89,7 +89,7 @@ inserted_fits i s few =
       top = extent_amount i.split_top s.split_top;
     }
 
-kind_fits : (k : PlainKind) → IsSizedKind k → kind_count k ≤ 4194305 → KindFits k
+kind_fits : (k : PlainKind) → IsSizedKind k → kind_count k ≤ 4194306 → KindFits k
 kind_fits (plain m) s few = tt
 kind_fits (ins i) s few = inserted_fits i s (omega (arith, few))
 kind_fits (act a) s few = tt
@@ -225,15 +225,15 @@ labels_fit z ns s =
 -- ---- the terms of a page
 
 -- a class with what its box holds
-record IsSizedClassBox (c : ClassBox) : Type 0 where
-  class : IsSizedClass c.class
-  size : IsWithin 9007199254740992 c.size
+pub record IsSizedClassBox (c : ClassBox) : Type 0 where
+  pub class : IsSizedClass c.class
+  pub size : IsWithin 9007199254740992 c.size
 
-record IsSizedFrozen (z : Frozen) : Type 0 where
-  goal : IsGoal z.goal
-  limit : IsExtent z.limit
-  classes : All IsSizedClassBox z.classes
-  few : length z.classes ≤ 16
+pub record IsSizedFrozen (z : Frozen) : Type 0 where
+  pub goal : IsGoal z.goal
+  pub limit : IsExtent z.limit
+  pub classes : All IsSizedClassBox z.classes
+  pub few : length z.classes ≤ 16
 
 nothing_within : (b : ℕ) → IsWithin b (pos 0)
 nothing_within b = record { low = omega (arith, ints); high = omega (arith, ints) }
@@ -313,19 +313,19 @@ met_sized cs is h = All-filter (λ c. is_met is c.class.number) IsSizedClassBox 
 skips_sized : (cs : List ClassBox) → All IsSizedClassBox cs → All IsSized (skip_shapes cs)
 skips_sized cs h = All-map IsSized (λ (c : ClassBox). glue c.class.skip) cs (All-weaker IsSizedClassBox (λ c. IsSized (glue c.class.skip)) (λ c s. (s.class.width, s.class.stretch, s.class.shrink)) cs h)
 
-goal_small : (goal charge taken : ℤ) (classes inner : ℕ) → classes ≤ 16 → inner ≤ 4194305 → IsGoal goal → IsWithin (9007200328482816 * classes) charge → IsWithin (2147483646 * inner) taken → IsAmount ((goal -ℤ charge) -ℤ taken)
+goal_small : (goal charge taken : ℤ) (classes inner : ℕ) → classes ≤ 16 → inner ≤ 4194306 → IsGoal goal → IsWithin (9007200328482816 * classes) charge → IsWithin (2147483646 * inner) taken → IsAmount ((goal -ℤ charge) -ℤ taken)
 goal_small goal charge taken classes inner a b g c t = record { low = omega (arith, ints); high = omega (arith, ints) }
 
-height_small : (inner : ℕ) (z : ℤ) → inner ≤ 4194305 → IsWithin (9007199254740992 + 2147483646 * inner) z → IsAmount z
+height_small : (inner : ℕ) (z : ℤ) → inner ≤ 4194306 → IsWithin (9007199254740992 + 2147483646 * inner) z → IsAmount z
 height_small inner z few h = record { low = omega (arith, ints); high = omega (arith, ints) }
 
-penalties_small : (k : ℕ) (z : ℤ) → k ≤ 4194305 → IsWithin (1073741824 * k) z → IsAmount z
+penalties_small : (k : ℕ) (z : ℤ) → k ≤ 4194306 → IsWithin (1073741824 * k) z → IsAmount z
 penalties_small k z few h = record { low = omega (arith, ints); high = omega (arith, ints) }
 
 both_small : (k j : ℕ) (x y : ℤ) → k ≤ 8388608 → j ≤ 16 → IsWithin (1073741823 * k) x → IsWithin (1073741823 * j) y → IsAmount (x +ℤ y)
 both_small k j x y a b p q = record { low = omega (arith, ints); high = omega (arith, ints) }
 
-page_fits : (z : Frozen) (ns : List PlainNode) → IsSizedFrozen z → All IsSizedOnPage ns → node_count ns ≤ 4194305 → PageFits z ns
+page_fits : (z : Frozen) (ns : List PlainNode) → IsSizedFrozen z → All IsSizedOnPage ns → node_count ns ≤ 4194306 → PageFits z ns
 page_fits z ns f s few =
     let ls = labelled z ns in
     let labels = labels_fit z ns s in
@@ -352,10 +352,10 @@ page_fits z ns f s few =
 
 -- ---- what is laid out
 
-node_fits : (n : PlainNode) → IsSizedOnPage n → kind_count n.kind ≤ 4194305 → NodeFits n
+node_fits : (n : PlainNode) → IsSizedOnPage n → kind_count n.kind ≤ 4194306 → NodeFits n
 node_fits n s few = record { small = sized-fits (node_shape n) s.shape; kind_fits = kind_fits n.kind s.kind few }
 
-laid_fits : (z : Frozen) (ns : List PlainNode) → IsSizedFrozen z → All IsSizedOnPage ns → node_count ns ≤ 4194305 → LaidFits z ns
+pub laid_fits : (z : Frozen) (ns : List PlainNode) → IsSizedFrozen z → All IsSizedOnPage ns → node_count ns ≤ 4194306 → LaidFits z ns
 laid_fits z ns f s few = record {
   pages = λ before rest e. page_fits z before f (front IsSizedOnPage before rest (subst (All IsSizedOnPage) (sym e) s)) (omega (arith, few, count-append before rest, ap node_count e));
   nodes = λ before n rest e. node_fits n (inside IsSizedOnPage before n rest (subst (All IsSizedOnPage) (sym e) s)) (omega (arith, few, count-append before (n ∷ rest), ap node_count e));
@@ -371,7 +371,7 @@ at_sized t (kern w) n ns pruned a s here rest later = later
 at_sized t (penalty p) n ns pruned a s here rest later = later
 at_sized t other n ns pruned a s here rest later = All-cons IsSizedOnPage n pruned here later
 
-pruned_sized : (t : ℤ) (ns : List PlainNode) → IsExtent t → All IsSizedOnPage ns → All IsSizedOnPage (pruned_nodes t ns)
+pub pruned_sized : (t : ℤ) (ns : List PlainNode) → IsExtent t → All IsSizedOnPage ns → All IsSizedOnPage (pruned_nodes t ns)
 pruned_sized t [] a h = All-nil IsSizedOnPage
 pruned_sized t (n ∷ ns) a h =
     let here = All-head IsSizedOnPage n ns h in
@@ -407,7 +407,7 @@ content_few (b ∷ bs) k = by_test (b.number == k) (content_few bs k)
     by_test true r = omega arith
     by_test false r = omega arith
 
-boxes_fit : (bs : List Boxed) → All IsSizedBox bs → box_count bs ≤ 4194304 → BoxesFit bs
+pub boxes_fit : (bs : List Boxed) → All IsSizedBox bs → box_count bs ≤ 4194304 → BoxesFit bs
 boxes_fit [] h few = tt
 boxes_fit (b ∷ bs) h few = (
   sizes_fit (map leaf_shape (content_of b.content)) (leaves_sized (content_of b.content) (All-head IsSizedBox b bs h)) (omega (arith, few, length-map {B = Shape} (content_of b.content))),
@@ -417,7 +417,7 @@ boxes_fit (b ∷ bs) h few = (
 content_within : (ls : List Leaf) → All IsSizedLeaf ls → length ls ≤ 4194304 → IsWithin 9007199254740992 (size_of (map leaf_shape ls))
 content_within ls h few = wider (2147483646 * length (map leaf_shape ls)) 9007199254740992 (size_of (map leaf_shape ls)) (omega (arith, few, length-map {B = Shape} ls)) (size_within (map leaf_shape ls) (leaves_sized ls h))
 
-class_boxes_sized : (cs : List Class) (bs : List Boxed) → All IsSizedClass cs → All IsSizedBox bs → box_count bs ≤ 4194304 → All IsSizedClassBox (class_boxes cs bs)
+pub class_boxes_sized : (cs : List Class) (bs : List Boxed) → All IsSizedClass cs → All IsSizedBox bs → box_count bs ≤ 4194304 → All IsSizedClassBox (class_boxes cs bs)
 class_boxes_sized cs bs h b few =
     let boxed : Class → ClassBox = λ c. record { class = c; size = box_size (box_content bs c.number) } in
     All-map IsSizedClassBox boxed cs (All-weaker IsSizedClass (λ c. IsSizedClassBox (boxed c))

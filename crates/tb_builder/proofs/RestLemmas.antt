@@ -1,12 +1,12 @@
 -- The rest of an insertion that is split: its nodes, and the room that it takes once it is pruned.
-use Rattle.std.proofs.Common.{◌≡◌, refl, sym, subst, ◌∙◌, ap, ℕ, zero, suc, ℤ, pos, ◌+ℤ◌, Bool, true, false, List, [], ◌∷◌, ◌++◌, take, drop, map, append_assoc, arith}
-use Rattle.std.specs.Prelude.{◌-ℤ◌, int_le, if◌then◌else◌}
-use Rattle.std.proofs.lemmas.List.{map-append}
+use Rattle.std.proofs.Common.{◌≡◌, refl, sym, subst, ◌∙◌, ap, ℕ, zero, suc, ℤ, pos, ◌+ℤ◌, Bool, true, false, List, [], ◌∷◌, ◌++◌, take, drop, map, length, ◌≤◌, Some, None, append_assoc, arith}
+use Rattle.std.specs.Prelude.{◌-ℤ◌, int_le, nat_le, if◌then◌else◌}
+use Rattle.std.proofs.lemmas.List.{map-append, take-append-drop, drop-map}
 use Rattle.std.proofs.lemmas.Int.{ints}
 use Rattle.tb_scaled.specs.declared.Glue.{Glue}
 use Rattle.tb_scaled.specs.Scaled.{max_ℤ}
 use Rattle.tb_node.specs.declared.Node.{Node}
-use Rattle.tb_node.specs.Shape.{Shape, box, glue, kern, penalty, other}
+use Rattle.tb_node.specs.Shape.{Shape, box, glue, kern, penalty, other, is_discardable}
 use Rattle.tb_node.specs.Plain.{shape_of}
 use Rattle.tb_node.specs.Small.{IsAmount, IsSmallShape}
 use Rattle.tb_node.specs.Fit.{NodesFit}
@@ -15,6 +15,12 @@ use Rattle.tb_break.specs.Prune.{pruned_at, pruned_list, glue_before, top_glue}
 use Rattle.tb_builder.specs.Next.{SizesFit, IsRoom}
 use Rattle.tb_builder.specs.Owned.{AllPlain, is_plain}
 use Rattle.tb_builder.specs.Room.{IsWide, RoomFits}
+use Rattle.tb_builder.specs.Firing.{BeginsVanishing}
+use Rattle.tb_break.specs.Legal.{split_penalty, legal_at}
+use Rattle.tb_break.specs.Split.{split_of}
+use Rattle.tb_break.proofs.LastLemmas.{split-last_least}
+use Rattle.tb_break.proofs.PruneLemmas.{length-pruned_list}
+use Rattle.std.proofs.lemmas.Bool.{true≢false}
 
 -- ---- the room
 
@@ -151,13 +157,8 @@ plain-both (m ∷ ms) ns a b = (a.0, plain-both ms ns a.1 b)
 
 -- ---- behind a place
 
-take_drop : (k : ℕ) (ns : List Node) → take k ns ++ drop k ns ≡ ns
-take_drop zero ns = refl
-take_drop (suc k) [] = refl
-take_drop (suc k) (n ∷ ns) = ap (λ xs. n ∷ xs) (take_drop k ns)
-
 shapes_apart : (k : ℕ) (ns : List Node) → map shape_of (take k ns) ++ map shape_of (drop k ns) ≡ map shape_of ns
-shapes_apart k ns = sym (map-append shape_of (take k ns) (drop k ns)) ∙ ap (map shape_of) (take_drop k ns)
+shapes_apart k ns = sym (map-append shape_of (take k ns) (drop k ns)) ∙ ap (map shape_of) (take-append-drop k ns)
 
 pub nodes-dropped : (k : ℕ) (ns : List Node) → NodesFit (map shape_of ns) → NodesFit (map shape_of (drop k ns))
 nodes-dropped k ns fit = nodes-behind (map shape_of (take k ns)) (map shape_of (drop k ns)) (subst NodesFit (sym (shapes_apart k ns)) fit)
@@ -168,3 +169,39 @@ room-rest t k ns p nodes sizes =
     room-pruned t (drop k ns) p
     (parts-behind (map shape_of (take k ns)) (map shape_of (drop k ns)) (subst PartsFit (sym (shapes_apart k ns)) (parts_fit (map shape_of ns) sizes)))
     (nodes-dropped k ns nodes)
+
+-- ---- a list of which the first node vanishes is no longer once it is pruned
+
+pruned_at-fewer : (t : ℤ) (s : Shape) (n : Node) (ns : List Node) → is_discardable s ≡ true → length (pruned_at glue_before t s n ns (pruned_list t ns)) ≤ suc (length ns)
+pruned_at-fewer t (box h d) n ns e = absurd (true≢false (sym e))
+pruned_at-fewer t (glue g) n ns e = omega (arith, length-pruned_list t ns)
+pruned_at-fewer t (kern w) n ns e = omega (arith, length-pruned_list t ns)
+pruned_at-fewer t (penalty p) n ns e = omega (arith, length-pruned_list t ns)
+pruned_at-fewer t other n ns e = absurd (true≢false (sym e))
+
+pub pruned-fewer : (t : ℤ) (ns : List Node) → BeginsVanishing (map shape_of ns) → length (pruned_list t ns) ≤ length ns
+pruned-fewer t [] e = omega arith
+pruned-fewer t (n ∷ ns) e = pruned_at-fewer t (shape_of n) n ns e
+
+pub rest-fewer : (t : ℤ) (k : ℕ) (ns : List Node) → BeginsVanishing (drop k (map shape_of ns)) → length (pruned_list t (drop k ns)) ≤ length (drop k ns)
+rest-fewer t k ns e = pruned-fewer t (drop k ns) (subst BeginsVanishing (drop-map shape_of k ns) e)
+
+-- ---- a list that is split breaks at a node that vanishes
+
+legal-vanishes : (before ns : List Shape) (p : ℤ) → split_penalty before ns ≡ Some p → BeginsVanishing ns
+legal-vanishes before [] p e = tt
+legal-vanishes before (box h d ∷ ns) p e = cc
+legal-vanishes before (glue g ∷ ns) p e = refl
+legal-vanishes before (kern w ∷ ns) p e = refl
+legal-vanishes before (penalty q ∷ ns) p e = refl
+legal-vanishes before (other ∷ ns) p e = cc
+
+pub split-vanishes : (h d : ℤ) (ns : List Shape) → BeginsVanishing (drop (split_of h d ns).index ns)
+split-vanishes h d ns = by_place (split_of h d ns).index (split_of h d ns).penalty (split-last_least h d ns).legal
+  where
+    by_place : (k : ℕ) (p : ℤ) → legal_at ns k ≡ Some p → BeginsVanishing (drop k ns)
+    by_place k p e = by_test (nat_le k (length ns)) e
+      where
+        by_test : (t : Bool) → (if t then split_penalty (take k ns) (drop k ns) else None) ≡ Some p → BeginsVanishing (drop k ns)
+        by_test true e = legal-vanishes (take k ns) (drop k ns) p e
+        by_test false e = cc

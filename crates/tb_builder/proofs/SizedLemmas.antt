@@ -1,29 +1,28 @@
 -- After a page fired its nodes are sized still: those of its body, those that wait, those that are held, and those in the boxes.
-use Rattle.std.proofs.Common.{◌≡◌, refl, sym, subst, ◌∙◌, ap, ℕ, ℤ, Bool, true, false, List, [], ◌∷◌, ◌++◌, length, take, drop, Option, None, Some, arith}
-use Rattle.std.specs.Prelude.{map, All, ◌==◌, not, filter, if◌then◌else◌}
+use Rattle.std.proofs.Common.{refl, ℕ, ℤ, Bool, true, false, List, [], ◌∷◌, ◌++◌, length, take, drop, Option, None, Some, arith}
+use Rattle.std.specs.Prelude.{map, All, ◌==◌, not, if◌then◌else◌}
 use Rattle.std.proofs.lemmas.Int.{ints}
 use Rattle.std.proofs.lemmas.List.Elements.{All-nil, All-cons, All-head, All-tail, All-append, All-push, All-filter, All-take, All-drop}
 use Rattle.tb_node.specs.Fit.{IsExtent, IsSized, IsSizedLeaf}
 use Rattle.tb_node.specs.Shape.{Shape, box, glue, kern, penalty, other}
-use Rattle.tb_node.specs.Plain.{hbox, rule, skip, kerned, pen, mark, note, whatsit, Leaf, leaf_shape, Inserted, PlainKind, plain, ins, act, PlainNode, node_shape, without_acts, without_insertions, is_act_kind, is_insertion_kind, on_line}
-use Rattle.tb_node.specs.Sums.{size_of}
+use Rattle.tb_node.specs.Plain.{hbox, rule, skip, kerned, pen, mark, note, whatsit, Leaf, leaf_shape, Inserted, PlainKind, plain, ins, act, PlainNode, without_acts, is_act_kind, is_insertion_kind, on_line}
 use Rattle.tb_break.specs.Best.{Breakpoint, is_stop}
 use Rattle.tb_break.specs.Prune.{pruned_leaves, pruned_at, top_glue}
 use Rattle.tb_insert.specs.Terms.{Terms}
 use Rattle.tb_insert.specs.Account.{Frozen, Label, whole, split, late, Labelled, label_of, labelled_with, labelled_from, labelled, terms_after}
 use Rattle.tb_builder.specs.declared.Ask.{Ask}
-use Rattle.tb_builder.specs.Reached.{Reach, also_reached, tried, acted, stopped_at, page_place, reach_at_place, reach_at, reach_from}
+use Rattle.tb_builder.specs.Reached.{Reach, also_reached, tried, stopped_at, page_place, reach_at_place, reach_at, reach_from}
 use Rattle.tb_builder.specs.Fired.{Boxed, content_of, Fired, page_break, spent_kind, with_spent_break, given_by, given_to, is_given, box_after, again_with, unless_empty, held_of, held_insertions, fired_by}
-use Rattle.tb_builder.specs.Contents.{Contents, frozen_of, reach_whole}
+use Rattle.tb_builder.specs.Contents.{Contents, frozen_of}
 use Rattle.tb_builder.specs.Next.{fired_page}
 use Rattle.tb_builder.specs.Pageable.{IsSizedInserted, IsSizedKind, IsSizedOnPage, IsSizedBox}
 use Rattle.tb_builder.proofs.PageableLemmas.{glue_sized}
 
 -- ---- what is passed and what lies beyond
 
-record EndSized (w : Reach) : Type 0 where
-  passed : All IsSizedOnPage w.passed
-  beyond : All IsSizedOnPage w.beyond
+pub record EndSized (w : Reach) : Type 0 where
+  pub passed : All IsSizedOnPage w.passed
+  pub beyond : All IsSizedOnPage w.beyond
 
 module _ (limit : ℤ) (terms : List PlainNode → Terms) where
   at_place : (before : List PlainNode) (n : PlainNode) (rest : List PlainNode) (later : Reach) (b : Breakpoint) → All IsSizedOnPage before → All IsSizedOnPage (n ∷ rest) → EndSized later → EndSized (reach_at_place before n rest later b)
@@ -37,7 +36,7 @@ module _ (limit : ℤ) (terms : List PlainNode → Terms) where
   at_node before n rest later None h r l = l
   at_node before n rest later (Some p) h r l = at_place before n rest later (page_place limit terms before p) h r l
 
-  reach_sized : (before ns : List PlainNode) → All IsSizedOnPage before → All IsSizedOnPage ns → EndSized (reach_from limit terms before ns)
+  pub reach_sized : (before ns : List PlainNode) → All IsSizedOnPage before → All IsSizedOnPage ns → EndSized (reach_from limit terms before ns)
   reach_sized before [] h r = record { passed = h; beyond = All-nil IsSizedOnPage }
   reach_sized before (n ∷ ns) h r =
       by_kind n.line n.kind (reach_sized (before ++ without_acts (n ∷ [])) ns (All-append IsSizedOnPage before (without_acts (n ∷ [])) h (All-filter (λ (m : PlainNode). not (is_act_kind m.kind)) IsSizedOnPage (n ∷ []) (All-cons IsSizedOnPage n [] (All-head IsSizedOnPage n ns r) (All-nil IsSizedOnPage)))) (All-tail IsSizedOnPage n ns r)) r
@@ -139,17 +138,22 @@ pub record FiredSized (f : Fired) : Type 0 where
   pub held : All IsSizedOnPage f.held
   pub rest : All IsSizedOnPage f.rest
 
-pub fired_sized : (c : Contents) (ask : Ask) → All IsSizedOnPage c.page → All IsSizedOnPage c.waiting → All IsSizedBox c.boxes → FiredSized (fired_page c ask)
-fired_sized c ask page waiting boxes =
-    let w = reach_whole c ask in
+pub fired_by_sized : (limit : ℤ) (terms : List PlainNode → Terms) (z : Frozen) (bs : List Boxed) (ns : List PlainNode) → All IsSizedOnPage ns → All IsSizedBox bs
+    → (let w : Reach = reach_from limit terms [] ns in FiredSized (fired_by (labelled z (take (page_break w).place w.passed)) bs w))
+fired_by_sized limit terms z bs ns sized boxes =
+    let w : Reach = reach_from limit terms [] ns in
     let k = (page_break w).place in
-    let z = frozen_of c ask in
-    let ends = reach_sized z.limit (terms_after z) [] (c.page ++ c.waiting) (All-nil IsSizedOnPage) (All-append IsSizedOnPage c.page c.waiting page waiting) in
+    let ends = reach_sized limit terms [] ns (All-nil IsSizedOnPage) sized in
     let front = All-take IsSizedOnPage k w.passed ends.passed in
     let labels = inserted_in z [] [] (take k w.passed) (All-nil (λ l. IsSizedInserted l.inserted)) front in
     record {
       body = All-filter (λ (n : PlainNode). not (is_insertion_kind n.kind)) IsSizedOnPage (take k w.passed) front;
-      boxes = boxes_sized (labelled z (take k w.passed)) c.boxes labels boxes;
+      boxes = boxes_sized (labelled z (take k w.passed)) bs labels boxes;
       held = held_all (labelled z (take k w.passed)) labels;
       rest = rest_sized (drop k w.passed ++ w.beyond) (All-append IsSizedOnPage (drop k w.passed) w.beyond (All-drop IsSizedOnPage k w.passed ends.passed) ends.beyond);
     }
+
+pub fired_sized : (c : Contents) (ask : Ask) → All IsSizedOnPage c.page → All IsSizedOnPage c.waiting → All IsSizedBox c.boxes → FiredSized (fired_page c ask)
+fired_sized c ask page waiting boxes =
+    let z = frozen_of c ask in
+    fired_by_sized z.limit (terms_after z) z c.boxes (c.page ++ c.waiting) (All-append IsSizedOnPage c.page c.waiting page waiting) boxes

@@ -1,6 +1,6 @@
 -- The nodes of a page that fires are sorted, one by one.
-use Rattle.std.proofs.Common.{◌≡◌, ◌≢◌, refl, sym, subst, ◌∙◌, ap, ℕ, ◌+◌, ◌<◌, Bool, true, false, List, [], ◌∷◌, ◌++◌, map, length, take, Some, None, append_assoc, append-nil, arith}
-use Rattle.std.specs.Prelude.{◌==◌, ◌||◌, option_to_list, not, nat_lt, if◌then◌else◌}
+use Rattle.std.proofs.Common.{◌≡◌, ◌≢◌, refl, sym, subst, ◌∙◌, ap, ℕ, ◌+◌, ◌<◌, Bool, true, false, List, [], ◌∷◌, ◌++◌, map, length, take, drop, Some, None, append_assoc, append-nil, arith}
+use Rattle.std.specs.Prelude.{ℤ, pos, ◌+ℤ◌, ◌-ℤ◌, int_le, ◌==◌, ◌||◌, ◌&&◌, option_to_list, not, nat_lt, if◌then◌else◌}
 use Rattle.std.specs.FinMap.{get, insert}
 use Rattle.std.proofs.lemmas.Bool.{true≢false}
 use Rattle.std.proofs.lemmas.Bool.Decides.{nat_tests}
@@ -11,11 +11,16 @@ use Rattle.tb_node.specs.declared.Node.{Node}
 use Rattle.tb_node.specs.declared.Insertion.{Insertion}
 use Rattle.tb_node.specs.declared.Kind.{Kind}
 use Rattle.tb_node.specs.declared.Kind.TheVariants as kinds
+use Rattle.tb_scaled.specs.Scaled.{min_ℤ}
+use Rattle.tb_node.specs.declared.Sums.{Sums}
+use Rattle.tb_node.specs.Sums.{sums_of, list_shrink}
+use Rattle.tb_break.specs.declared.Found.{Found}
+use Rattle.tb_break.specs.Split.{split_of}
 use Rattle.tb_node.specs.Fit.{shapes, NodesFit}
 use Rattle.tb_node.specs.Small.{IsAmount}
-use Rattle.tb_node.specs.Plain.{leaf_of, Inserted, inserted_of, PlainKind, plain, ins, act, PlainNode, plain_of, plain_kind, on_line, is_insertion_kind, without_insertions}
+use Rattle.tb_node.specs.Plain.{leaf_shape, node_shape, Inserted, inserted_of, PlainKind, plain, ins, act, PlainNode, plain_of, plain_kind, on_line, is_insertion_kind, without_insertions}
 use Rattle.tb_insert.specs.declared.Class.{Class}
-use Rattle.tb_insert.specs.Account.{Frozen, Label, whole, split, late, Labelled, label_of, labelled, labelled_with}
+use Rattle.tb_insert.specs.Account.{ClassBox, class_box, insertions, goal_after, class_height, skip_shapes, met_classes, scaled_by, clamped, unscaled_room, has_split, Frozen, Label, whole, split, late, Labelled, label_of, labelled, labelled_with}
 use Rattle.tb_insert.specs.Running.{cut_in, last_let_in}
 use Rattle.tb_insert.proofs.AccountLemmas.{leaf_shapes}
 use Rattle.tb_builder.specs.declared.Share.{Share}
@@ -26,13 +31,49 @@ use Rattle.tb_builder.specs.Owned.{Lacks, inner_ids, ids_of, owned, has_class, C
 use Rattle.tb_builder.specs.Contents.{Contents, contents_of, plain_list}
 use Rattle.tb_builder.specs.Next.{SizesFit, InsertedFits}
 use Rattle.tb_builder.specs.Running.{insertion_of_kind}
-use Rattle.tb_builder.specs.Firing.{share_of, share_told, share_held, box_shared, IsShareWithin, Settles, SortsTo, Sorted, IsMarkedAt, EachFits}
+use Rattle.tb_builder.specs.Firing.{share_of, share_told, share_held, box_shared, BeginsVanishing, IsShareWithin, Settles, SortsTo, Sorted, IsMarkedAt, EachFits}
 use Rattle.tb_builder.proofs.FreezeLemmas.{plain_insertion, no_inner}
 use Rattle.tb_builder.proofs.OwnedLemmas.{AllSame, view_same, inner-append, known-left, known-right, known-append}
 use Rattle.tb_builder.proofs.ShareLemmas.{labelled-push, told_label, boxes_one, held_one}
 use Rattle.tb_builder.proofs.StoreMoves.{Got, got_two, list_got, live_got, list_kept, live_kept, live_has, one_got, one_other}
 use Rattle.tb_builder.proofs.RelistLemmas.{frame_own, frame_owned, frame_held, frame_page, frame_waiting, frame_boxes, same_lacking, Relisted, relisted_own, relisted_keeps, relisted_held, relisted_page, relisted_waiting, relisted_boxes}
 use Rattle.tb_builder.proofs.GiveLemmas.{class_there}
+use Rattle.tb_builder.proofs.RestLemmas.{split-vanishes}
+
+-- ---- the share of a label is within the insertion's list
+
+abbrev IsLabelWithin : Label → Inserted → Type 0
+IsLabelWithin whole i = Unit {0}
+IsLabelWithin (split f) i = BeginsVanishing (drop f.index (map leaf_shape i.inner))
+IsLabelWithin late i = Unit {0}
+
+label_choice : (i : Inserted) (a t : Bool) (f : Found) → BeginsVanishing (drop f.index (map leaf_shape i.inner)) → IsLabelWithin (if a then late else (if t then whole else split f)) i
+label_choice i true t f e = tt
+label_choice i false true f e = tt
+label_choice i false false f e = e
+
+within_of : (l : Label) (i : Inserted) → IsLabelWithin l i → IsShareWithin (share_of l i) (map leaf_shape i.inner)
+within_of whole i h = tt
+within_of (split f) i h = by_test (nat_lt f.index (length i.inner)) refl
+  where
+    by_test : (t : Bool) → nat_lt f.index (length i.inner) ≡ t → IsShareWithin (if t then Front f.index else All) (map leaf_shape i.inner)
+    by_test true e = let len : length (map leaf_shape i.inner) ≡ length i.inner = length-map i.inner leaf_shape in (grind (arith, nat_tests, e, len), h)
+    by_test false e = tt
+within_of late i h = tt
+
+label_within : (z : Frozen) (ls : List Labelled) (before : List PlainNode) (i : Inserted) → IsShareWithin (share_of (label_of z ls before i) i) (map leaf_shape i.inner)
+label_within z ls before i =
+    let c : ClassBox = class_box z.classes i.class in
+    let goal : ℤ = goal_after z ls (i ∷ insertions ls) in
+    let height : ℤ = class_height z.classes ls i.class in
+    let s : Sums = sums_of z.limit (map node_shape before) in
+    let shrink : ℤ = s.shrink +ℤ list_shrink (skip_shapes (met_classes z.classes (i ∷ insertions ls))) in
+    let scaled : ℤ = scaled_by c.class.factor i.height in
+    let room : ℤ = goal -ℤ s.total -ℤ s.depth in
+    let height_there : ℤ = clamped (min_ℤ (unscaled_room c.class.factor room) (c.class.limit -ℤ height)) in
+    within_of (label_of z ls before i) i
+    (label_choice i (has_split ls i.class) ((int_le scaled (pos 0) || int_le scaled (room +ℤ shrink)) && int_le (height +ℤ i.height) c.class.limit)
+    (split_of height_there i.split_depth (map leaf_shape i.inner)) (split-vanishes height_there i.split_depth (map leaf_shape i.inner)))
 
 -- ---- what is known of the first node
 
@@ -88,17 +129,8 @@ module _ (b : Builder) (s : Lists Node) (n : Node) (ns : List Node) (i : Inserti
         ∙ (λ j. share_told (cut_in (labelled z (before ++ page_first j)) i.class) (last_let_in (labelled z (before ++ page_first j)) i.class) (at j))
         ∙ told_label z before behind n.line this
 
-    pub share_within : IsShareWithin share (length (list_at s i.list))
-    share_within = subst (λ x. IsShareWithin x (length (list_at s i.list))) (sym share_is) (by_label label_here)
-      where
-        by_test : (k : ℕ) (t : Bool) → nat_lt k (length (map leaf_of (list_at s i.list))) ≡ t → IsShareWithin (if t then Front k else All) (length (list_at s i.list))
-        by_test k true e = let len : length (map leaf_of (list_at s i.list)) ≡ length (list_at s i.list) = length-map (list_at s i.list) leaf_of in grind (arith, nat_tests, e, len)
-        by_test k false e = tt
-
-        by_label : (l : Label) → IsShareWithin (share_of l this) (length (list_at s i.list))
-        by_label whole = tt
-        by_label (split f) = by_test f.index (nat_lt f.index (length (map leaf_of (list_at s i.list)))) refl
-        by_label late = tt
+    pub share_within : IsShareWithin share (shapes s i.list)
+    share_within = subst (λ x. IsShareWithin x (shapes s i.list)) (sym share_is) (subst (IsShareWithin (share_of label_here this)) (leaf_shapes (list_at s i.list)) (label_within z (labelled z before) before this))
 
     labels_are : labelled z (before ++ this_node ∷ []) ≡ labelled z before ++ labelled_here ∷ []
     labels_are = labelled-push z before this_node
@@ -118,7 +150,7 @@ module _ (b : Builder) (s : Lists Node) (n : Node) (ns : List Node) (i : Inserti
 -- the account says what becomes of the first insertion
 pub marked_within : (b : Builder) (s : Lists Node) (n : Node) (ns : List Node) (i : Insertion) (index : ℕ) (share : Share) → IsOwned (ids_of b) s → list_at s b.page ≡ n ∷ ns → insertion_of_kind n.kind ≡ Some i
     → (m : IsMarkedAt b.course.account index (plain_list s b.page)) → share ≡ share_told (cut_in (labelled m.z (m.before ++ plain_list s b.page)) i.class) (last_let_in (labelled m.z (m.before ++ plain_list s b.page)) i.class) index
-    → IsShareWithin share (length (list_at s i.list))
+    → IsShareWithin share (shapes s i.list)
 marked_within b s n ns i index share own first is m told = share_within b s n ns i own first is m.z m.before index share m.index_is told
 
 -- ---- the insertion was settled

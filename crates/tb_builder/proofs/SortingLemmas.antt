@@ -1,5 +1,5 @@
 -- The page that fires is sorted from its front: what holds after so many nodes.
-use Rattle.std.proofs.Common.{◌≡◌, refl, sym, subst, ◌∙◌, ap, ℕ, zero, suc, ◌+◌, ◌≤◌, List, [], ◌∷◌, ◌++◌, map, length, take, append_assoc, arith, add-one}
+use Rattle.std.proofs.Common.{◌≡◌, refl, sym, subst, ◌∙◌, ap, ℕ, zero, suc, ◌+◌, ◌<◌, ◌≤◌, List, [], ◌∷◌, ◌++◌, map, length, take, append_assoc, arith, add-one}
 use Rattle.std.proofs.lemmas.List.{map-id, length-map, nil_from_length}
 use Rattle.tb_pool.specs.Lists.{Lists, IsLive, list_at}
 use Rattle.tb_node.specs.declared.Node.{Node}
@@ -16,11 +16,11 @@ use Rattle.tb_builder.specs.Firing.{SortsTo, Sorted, IsMarkedAt, EachFits}
 pub record Sorting (b : Builder) (s : Lists Node) (d : Builder) (t : Lists Node) (body index : ℕ) : Type 0 where
   pub sorts : SortsTo b s d t body
   pub left : length (list_at t b.page) + index ≡ length (list_at s b.page)
-  pub room : length (list_at t b.page) ≤ t.spare
+  pub room : 0 < t.spare
   pub sorted : (z : Frozen) (page : List PlainNode) → AccountStands b.course.account z page (contents_of b s).page
       → Sorted z (contents_of b s).boxes (contents_of b s).page (contents_of d t) (plain_list t body) (take index (contents_of b s).page)
 
-pub sorting_begins : (b : Builder) (s : Lists Node) (body : ℕ) → IsOwned (ids_of b) s → IsLive s body → list_at s body ≡ [] → list_at s b.held ≡ [] → length (list_at s b.page) ≤ s.spare → Sorting b s b s body 0
+pub sorting_begins : (b : Builder) (s : Lists Node) (body : ℕ) → IsOwned (ids_of b) s → IsLive s body → list_at s body ≡ [] → list_at s b.held ≡ [] → 0 < s.spare → Sorting b s b s body 0
 sorting_begins b s body own live empty none room = record {
   sorts = record { own = own; others = λ q ne h. refl; keeps = λ q h. h; builder = refl; classes = refl; waiting = refl; body_live = live; body_plain = ap inner_ids empty };
   left = omega arith;
@@ -61,9 +61,6 @@ module _ (b d : Builder) (s t : Lists Node) (body index : ℕ) (h : Sorting b s 
   pub page_left : length (list_at t d.page) + index ≡ length (list_at s b.page)
   page_left = ap (λ x. length (list_at t x) + index) page_id ∙ h.left
 
-  pub page_room : length (list_at t d.page) ≤ t.spare
-  page_room = subst (λ x. length (list_at t x) ≤ t.spare) (sym page_id) h.room
-
   length_all : length page_all ≡ length (list_at s b.page)
   length_all = length-map (list_at s b.page) (plain_of (list_at s))
 
@@ -94,14 +91,14 @@ module _ (b d : Builder) (s t : Lists Node) (body index : ℕ) (h : Sorting b s 
     pub still_fits : EachFits page_all → EachFits (contents_of d t).page
     still_fits fit before n rest e = fit (take index page_all ++ before) n rest (append_assoc (take index page_all) before (n ∷ rest) ∙ ap (λ ps. take index page_all ++ ps) e ∙ whole)
 
-  module _ (e : Builder) (u : Lists Node) (step : SortsTo d t e u body) (left : length (list_at u d.page) + 1 ≡ length (list_at t d.page)) (spare : t.spare ≤ u.spare + 1)
+  module _ (e : Builder) (u : Lists Node) (step : SortsTo d t e u body) (left : length (list_at u d.page) + 1 ≡ length (list_at t d.page)) (spare : t.spare ≤ u.spare)
       (sorted : (z : Frozen) (page marked before : List PlainNode) (boxes : List Boxed) → AccountStands d.course.account z page marked → index ≡ length before
       → Sorted z boxes marked (contents_of d t) (plain_list t body) before → Sorted z boxes marked (contents_of e u) (plain_list u body) (before ++ take 1 (contents_of d t).page)) where
     pub sorting_next : Sorting b s e u body (index + 1)
     sorting_next = record {
       sorts = sorts_on b d e s t u body h.sorts step;
       left = let l : length (list_at u b.page) + 1 ≡ length (list_at t b.page) = subst (λ x. length (list_at u x) + 1 ≡ length (list_at t x)) page_id left in omega (arith, l, h.left);
-      room = let l : length (list_at u b.page) + 1 ≡ length (list_at t b.page) = subst (λ x. length (list_at u x) + 1 ≡ length (list_at t x)) page_id left in omega (arith, l, h.room, spare);
+      room = omega (arith, h.room, spare);
       sorted = λ z page a.
           let was = h.sorted z page a in
           let account = subst (λ (x : Builder). AccountStands x.course.account z page page_all) (sym h.sorts.builder) a in

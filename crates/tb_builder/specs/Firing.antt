@@ -1,4 +1,5 @@
--- What becomes of the insertions before a break, as the account of the page tells it.
+-- A page fires: what becomes of the insertions before its break, as the account of the page tells it, and what the
+-- builder holds on the way.
 use Rattle.std.specs.Prelude.{◌≡◌, ◌≢◌, ◌≤◌, map, ℕ, ◌==◌, Bool, true, false, List, [], ◌∷◌, ◌++◌, length, take, drop, nat_lt, nat_le, Option, Some, None, if◌then◌else◌}
 use Rattle.std.specs.FinMap.{get}
 use Rattle.tb_pool.specs.Lists.{Lists, IsLive, list_at}
@@ -7,6 +8,7 @@ use Rattle.tb_node.specs.declared.Insertion.{Insertion}
 use Rattle.tb_node.specs.declared.Kind.{Kind}
 use Rattle.tb_node.specs.declared.Kind.TheVariants as kinds
 use Rattle.tb_scaled.specs.Scaled.{inf_penalty}
+use Rattle.tb_node.specs.Shape.{Shape, is_discardable}
 use Rattle.tb_node.specs.Plain.{Leaf, leaf_of, Inserted, inserted_of, PlainKind, ins, PlainNode, plain_of, on_line, without_insertions}
 use Rattle.tb_break.specs.Prune.{pruned_leaves}
 use Rattle.tb_insert.specs.declared.Account.{Account}
@@ -50,18 +52,24 @@ share_given All i = i.inner
 share_given (Front k) i = take k i.inner
 share_given Nothing i = []
 
--- the place is within a list of this length
-abbrev pub IsShareWithin : Share → ℕ → Type 0
-IsShareWithin All n = Unit {0}
-IsShareWithin (Front k) n = k ≤ n
-IsShareWithin Nothing n = Unit {0}
+-- the list is empty, or its first node vanishes at the top of a page
+abbrev pub BeginsVanishing : List Shape → Type 0
+BeginsVanishing [] = Unit {0}
+BeginsVanishing (n ∷ ns) = is_discardable n ≡ true
 
+-- the place is one of the list, and what stands behind it begins with a node that vanishes
+abbrev pub IsShareWithin : Share → List Shape → Type 0
+IsShareWithin All ns = Unit {0}
+IsShareWithin (Front k) ns = (k ≤ length ns) × BeginsVanishing (drop k ns)
+IsShareWithin Nothing ns = Unit {0}
+
+-- the box of the class is given something
 abbrev pub share_gives : Share → Bool
 share_gives All = true
 share_gives (Front k) = true
 share_gives Nothing = false
 
--- what is held
+-- what is held of it
 abbrev pub share_held : Share → Inserted → List PlainKind
 share_held All i = []
 share_held (Front k) i = unless_empty i (pruned_leaves i.split_top (drop k i.inner))
@@ -170,6 +178,7 @@ spent_node_kind kinds.Whatsit = kinds.Whatsit
 spent_node_kind (kinds.Ins i) = kinds.Ins i
 spent_node_kind (kinds.Act a) = kinds.Act a
 
+-- the nodes from the break on, of which the first no longer forces a break
 abbrev pub spent_nodes : List Node → List Node
 spent_nodes [] = []
 spent_nodes (n ∷ ns) = record { line = n.line; kind = spent_node_kind n.kind } ∷ ns
@@ -183,7 +192,6 @@ pub record Cuts (b : Builder) (s t : Lists Node) (place : ℕ) : Type 0 where
   pub waiting : (contents_of b t).waiting ≡ with_spent_break (drop place (contents_of b s).page ++ (contents_of b s).waiting)
   pub held : list_at t b.held ≡ list_at s b.held
   pub boxes : (contents_of b t).boxes ≡ (contents_of b s).boxes
-  pub count : length (list_at t b.page) ≤ place
 
 -- ---- a page fired
 

@@ -117,7 +117,7 @@ impl Builder {
         let Some(best) = self.course.scan.best() else {
             unreachable!();
         };
-        store.reserve(best.index)?;
+        store.reserve(1)?;
         let body = store.add_list()?;
         let at = self.cut_page(store, best.index);
         self.sort_page(store, body);

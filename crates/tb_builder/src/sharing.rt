@@ -15,7 +15,7 @@ ghost use Rattle.tb_builder.specs.Contents.{leaf_list, plain_list, contents_of};
 ghost use Rattle.tb_builder.specs.Next.{SizesFit};
 ghost use Rattle.tb_builder.specs.Room.{RoomFits};
 ghost use Rattle.tb_builder.specs.Running.{insertion_of_kind};
-ghost use Rattle.tb_builder.specs.Firing.{share_up_to, share_told, opened, box_list, IsShareWithin, Gives, Drops, Settles, SortsTo, Sorted, IsMarkedAt, EachFits};
+ghost use Rattle.tb_builder.specs.Firing.{share_up_to, share_told, opened, box_list, BeginsVanishing, IsShareWithin, Gives, Drops, Settles, SortsTo, Sorted, IsMarkedAt, EachFits};
 
 use crate::measuring::pruned_size;
 use crate::moving::{drop_first, first_of, insertion_of, shift};
@@ -80,6 +80,7 @@ impl Builder {
         self.boxes[k].void = false;
         self.boxes[k].list
     }
+
     // All nodes of the insertion that is first on the page go to the box of its class.
     fn give_all(&mut self, store: &mut Lists<Node>, n: &Node, i: &Insertion)
         requires own { IsOwned (ids_of self.old) store.old }
@@ -99,11 +100,12 @@ impl Builder {
         requires first { slice_get (list_at store.old self.old.page) 0 ≡ Some n.now }
         requires insertion { insertion_of_kind n.now.kind ≡ Some i.now }
         requires within { place ≤ length (list_at store.old i.now.list) }
+        requires vanishes { BeginsVanishing (drop place (shapes store.old i.now.list)) }
         requires room { 0 < store.old.spare }
         requires top { IsAmount i.now.split_top }
         requires nodes { NodesFit (shapes store.old i.now.list) }
         ensures gives { Gives self.old store.old self.new store.new n.now i.now (take place (list_at store.old i.now.list)) (pruned_list i.now.split_top (drop place (list_at store.old i.now.list))) }
-        ensures spare { store.old.spare ≤ store.new.spare + 1 }
+        ensures spare { store.old.spare ≤ store.new.spare }
     {
         let own = self.open_box(i.class);
         give_front(store, own, i.list, self.rest, place, i.split_top);
@@ -157,13 +159,13 @@ impl Builder {
         requires own { IsOwned (ids_of self.old) store.old }
         requires first { slice_get (list_at store.old self.old.page) 0 ≡ Some n.now }
         requires insertion { insertion_of_kind n.now.kind ≡ Some i.now }
-        requires within { IsShareWithin share (length (list_at store.old i.now.list)) }
+        requires within { IsShareWithin share (shapes store.old i.now.list) }
         requires room { 0 < store.old.spare }
         requires top { IsAmount i.now.split_top }
         requires nodes { NodesFit (shapes store.old i.now.list) }
         requires sizes { SizesFit (shapes store.old i.now.list) }
         ensures settles { Settles self.old store.old self.new store.new n.now i.now share }
-        ensures spare { store.old.spare ≤ store.new.spare + 1 }
+        ensures spare { store.old.spare ≤ store.new.spare }
     {
         match share {
             Share::All => {
@@ -177,6 +179,7 @@ impl Builder {
             Share::Nothing => self.hold(store, n, i, *n),
         }
     }
+
     // The first node of the page, which has this place on the page that fires, goes to the body, or, an insertion,
     // where its share says.
     fn sort_first(&mut self, store: &mut Lists<Node>, body: ListId, index: usize)
@@ -193,7 +196,7 @@ impl Builder {
             → Sorted z boxes marked (contents_of self.old store.old) (plain_list store.old body) before
             → Sorted z boxes marked (contents_of self.new store.new) (plain_list store.new body) (before ++ take 1 (contents_of self.old store.old).page) }
         ensures left { length (list_at store.new self.old.page) + 1 ≡ length (list_at store.old self.old.page) }
-        ensures spare { store.old.spare ≤ store.new.spare + 1 }
+        ensures spare { store.old.spare ≤ store.new.spare }
     {
         let Some(n) = first_of(store, self.page) else {
             return;
@@ -213,7 +216,7 @@ impl Builder {
         requires body_apart { Lacks body (owned (ids_of self.old) store.old) }
         requires body_empty { list_at store.old body ≡ [] }
         requires none_held { list_at store.old self.old.held ≡ [] }
-        requires room { length (list_at store.old self.old.page) ≤ store.old.spare }
+        requires room { 0 < store.old.spare }
         requires fits { EachFits (contents_of self.old store.old).page }
         requires marked { IsMarkedAt self.old.course.account 0 (contents_of self.old store.old).page }
         ensures sorts { SortsTo self.old store.old self.new store.new body }

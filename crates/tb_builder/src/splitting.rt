@@ -7,13 +7,14 @@ ghost use Rattle.tb_node.specs.declared.Node.{Node as NodeOf};
 ghost use Rattle.tb_node.specs.Fit.{shapes, NodesFit};
 ghost use Rattle.tb_node.specs.Small.{IsAmount};
 ghost use Rattle.tb_break.specs.Prune.{pruned_list};
+ghost use Rattle.tb_builder.specs.Firing.{BeginsVanishing};
 
 use tb_break::prune;
 use tb_node::Node;
 use tb_pool::{ListId, Lists};
 
-// What stands before a place of a list goes to the end of another. The rest stays, pruned for the top of a page; on
-// the way it is in a list that is empty before and afterwards.
+// What stands before a place of a list goes to the end of another. The rest, of which the first node vanishes, stays,
+// pruned for the top of a page; on the way it is in a list that is empty before and afterwards.
 pub fn give_front(
     store: &mut Lists<Node>,
     to: ListId,
@@ -33,8 +34,9 @@ pub fn give_front(
     requires room { 0 < store.old.spare }
     requires top_skip { IsAmount top_skip }
     requires nodes { NodesFit (shapes store.old from) }
+    requires vanishes { BeginsVanishing (drop place (shapes store.old from)) }
     ensures given { store.new.lists ≡ insert (with_list store.old to (list_at store.old to ++ take place (list_at store.old from))) from (pruned_list top_skip (drop place (list_at store.old from))) }
-    ensures spare { store.old.spare ≤ store.new.spare + 1 }
+    ensures spare { store.old.spare ≤ store.new.spare }
 {
     store.cut(from, place, between);
     store.append(to, from);

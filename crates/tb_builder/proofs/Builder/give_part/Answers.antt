@@ -38,6 +38,7 @@ give_front-requires c =
       room = c.requires.room;
       top_skip = subst IsAmount (sym (to_z-of_z w64 c.args.i.now.split_top r)) c.requires.top;
       nodes = c.requires.nodes;
+      vanishes = c.requires.vanishes;
     }
 
 pub returns : goal.returns

@@ -1,6 +1,6 @@
 use Rattle.std.proofs.Common.{◌≡◌, length, arith, ◌≤◌, ◌+◌}
 use Rattle.tb_pool.specs.Lists.{list_at}
-use Rattle.tb_builder.proofs.SortingLemmas.{sorting_begins, sorting_next, page_left, page_room, still_marked, still_fits, none_left, all_sorted}
+use Rattle.tb_builder.proofs.SortingLemmas.{sorting_begins, sorting_next, page_left, still_marked, still_fits, none_left, all_sorted}
 use Rattle.tb_builder.proofs.Builder.sort_page.Goals as goal
 
 pub loop-index-init : goal.loop-index-init
@@ -14,14 +14,13 @@ sort_first-requires c =
     let t = c.loop-index.store in
     let h = c.loop-index.invariant in
     let left : length (list_at t d.page) + c.loop-index.index ≡ length (list_at s b.page) = page_left b d s t c.args.body c.loop-index.index h in
-    let room : length (list_at t d.page) ≤ t.spare = page_room b d s t c.args.body c.loop-index.index h in
     record {
       own = h.sorts.own;
       body_live = h.sorts.body_live;
       body_apart = h.sorts.keeps c.args.body c.requires.body_apart;
       body_plain = h.sorts.body_plain;
       some = omega (arith, left, c.loop-index-test.true, c.len-index-end.ensures);
-      room = omega (arith, left, room, c.loop-index-test.true, c.len-index-end.ensures);
+      room = h.room;
       fits = still_fits b d s t c.args.body c.loop-index.index h c.requires.marked c.requires.fits;
       marked = still_marked b d s t c.args.body c.loop-index.index h c.requires.marked;
     }

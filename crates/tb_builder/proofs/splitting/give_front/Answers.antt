@@ -1,11 +1,12 @@
-use Rattle.std.proofs.Common.{◌∙◌, sym, subst, ap, drop, map, arith, rules, FitsSigned, w64}
+use Rattle.std.proofs.Common.{◌≡◌, ◌∙◌, sym, subst, ap, length, drop, map, arith, rules, FitsSigned, w64, to_z, of_z}
 use Rattle.std.proofs.lemmas.Int.{to_z-of_z}
 use Rattle.tb_node.specs.Small.{IsAmount}
 use Rattle.tb_break.specs.Prune.{pruned_list}
 use Rattle.tb_pool.specs.Lists.{list_at, with_list}
 use Rattle.tb_node.specs.Plain.{shape_of}
 use Rattle.tb_node.specs.Fit.{NodesFit}
-use Rattle.tb_builder.proofs.RestLemmas.{nodes-dropped}
+use Rattle.tb_builder.proofs.RestLemmas.{nodes-dropped, rest-fewer}
+use Rattle.tb_builder.proofs.MoveLemmas.{list_same}
 use Rattle.tb_builder.proofs.StoreMoves.{Apart3, cut_lives, join_lives, back_there, live_got, list_got, given_lists}
 use Rattle.tb_builder.proofs.splitting.give_front.Goals as goal
 
@@ -40,5 +41,11 @@ returns c =
     let r : FitsSigned w64 c.args.top_skip = search rules in
     record {
       given = given_lists c.args.store.now c.cut.new.self c.args.to c.args.from c.args.between c.args.place ne c.cut.ensures.parted c.append.new.self c.append.ensures.joined c.append-2.new.self c.append-2.ensures.joined c.prune.new.store c.args.top_skip c.requires.between_live c.requires.between_empty (c.prune.ensures.pruned ∙ ap (λ x. with_list c.append-2.new.self c.args.from (pruned_list x (list_at c.append-2.new.self c.args.from))) (to_z-of_z w64 c.args.top_skip r));
-      spare = omega (arith, c.cut.ensures.spare, c.append.ensures.spare, c.append-2.ensures.spare, c.prune.ensures.spare);
+      spare =
+          let there = back_there c.args.store.now c.cut.new.self c.args.to c.args.from c.args.between c.args.place ne c.cut.ensures.parted c.append.new.self c.append.ensures.joined c.append-2.new.self c.append-2.ensures.joined in
+          let back = list_got c.append-2.new.self c.args.from (drop c.args.place (list_at c.args.store.now c.args.from)) there in
+          let after : list_at c.prune.new.store c.args.from ≡ pruned_list (to_z w64 (of_z w64 c.args.top_skip)) (drop c.args.place (list_at c.args.store.now c.args.from)) =
+          list_same c.append-2.new.self c.prune.new.store c.args.from (pruned_list (to_z w64 (of_z w64 c.args.top_skip)) (list_at c.append-2.new.self c.args.from)) c.prune.ensures.pruned
+          ∙ ap (pruned_list (to_z w64 (of_z w64 c.args.top_skip))) back in
+          omega (arith, c.cut.ensures.spare, c.append.ensures.spare, c.append-2.ensures.spare, c.prune.ensures.places, ap length back, ap length after, rest-fewer (to_z w64 (of_z w64 c.args.top_skip)) c.args.place (list_at c.args.store.now c.args.from) c.requires.vanishes);
     }
