@@ -1,5 +1,5 @@
 -- Nodes come to the builder of a worked page, and its page fires.
-use Rattle.std.proofs.Common.{◌≡◌, refl, sym, subst, ◌∙◌, ap, ℕ, ◌+◌, ◌<◌, ◌≤◌, ℤ, pos, Bool, true, false, List, [], ◌∷◌, ◌++◌, length, map, take, get_or, Option, None, Some, is_some, unwrap_or, add_assoc, add-one, arith}
+use Rattle.std.proofs.Common.{◌≡◌, refl, sym, subst, ◌∙◌, ap, ℕ, ◌+◌, ◌<◌, ◌≤◌, pos, Bool, true, false, List, [], ◌∷◌, ◌++◌, length, map, take, get_or, None, Some, is_some, unwrap_or, add_assoc, add-one, arith}
 use Rattle.std.specs.Prelude.{All}
 use Rattle.std.specs.FinMap.{get}
 use Rattle.std.proofs.Math.Seq.{take-suc}
@@ -18,7 +18,7 @@ use Rattle.tb_node.specs.declared.Insertion.{Insertion}
 use Rattle.tb_node.specs.Fit.{shapes, IsSized, IsSizedNode, IsSizedLeaf, IsDimension, IsExtent, IsPenalty}
 use Rattle.tb_node.specs.Shape.{Shape}
 use Rattle.tb_node.specs.Sums.{size_of}
-use Rattle.tb_node.specs.Plain.{Leaf, leaf_of, leaf_shape, PlainNode, plain_of, shape_of, node_shape, plain_kind, inserted_of}
+use Rattle.tb_node.specs.Plain.{leaf_of, PlainNode, plain_of, shape_of, plain_kind}
 use Rattle.tb_insert.specs.declared.Class.{Class}
 use Rattle.tb_insert.proofs.AccountLemmas.{leaf_shapes}
 use Rattle.tb_builder.specs.declared.Ask.{Ask}
@@ -31,7 +31,7 @@ use Rattle.tb_builder.specs.Owned.{Lacks, inner_of, ids_of, owned, is_plain, All
 use Rattle.tb_builder.specs.Running.{IsSound}
 use Rattle.tb_builder.specs.Next.{SizesFit, NextFits, NextIs}
 use Rattle.tb_builder.specs.Handed.{NodesJoin, NoPage}
-use Rattle.tb_builder.specs.Pageable.{IsSizedInserted, IsSizedKind, IsSizedOnPage, IsSizedClass, IsSizedBox, IsGoal, IsPageable}
+use Rattle.tb_builder.specs.Pageable.{IsSizedOnPage, IsSizedClass, IsSizedBox, IsGoal, IsPageable}
 use Rattle.tb_builder.specs.Worked.{IsMatter, AtRest, IsReady, waits}
 use Rattle.tb_builder.proofs.MoveLemmas.{get_other}
 use Rattle.tb_builder.proofs.OwnedLemmas.{AllSame}

@@ -1,4 +1,4 @@
-use Rattle.std.proofs.Common.{◌≡◌, sym, subst}
+use Rattle.std.proofs.Common.{subst}
 use Rattle.tb_builder.specs.declared.Event.{Event}
 use Rattle.tb_builder.specs.Contents.{contents_of}
 use Rattle.tb_builder.specs.Next.{NextIs}

@@ -1,14 +1,12 @@
-use Rattle.std.proofs.Common.{◌≡◌, ◌∙◌, refl, sym, subst, ap, ◌+◌, ◌<◌, ◌≤◌, length, arith}
+use Rattle.std.proofs.Common.{◌≡◌, ◌∙◌, sym, subst, ap, ◌+◌, ◌<◌, length, arith}
 use Rattle.std.proofs.lemmas.List.Elements.{All-get_or}
 use Rattle.tb_pool.specs.Lists.{list_at}
-use Rattle.tb_node.specs.declared.Node.{Node}
 use Rattle.tb_node.specs.Plain.{plain_of}
 use Rattle.tb_builder.specs.declared.Builder.{Builder}
 use Rattle.tb_builder.specs.Owned.{ids_of, classes_of}
-use Rattle.tb_builder.specs.Running.{IsSound}
 use Rattle.tb_builder.specs.Worked.{IsMatter, IsReady, waits}
 use Rattle.tb_builder.proofs.SpareLemmas.{sound_still, contents_still}
-use Rattle.tb_builder.proofs.FrameLemmas.{plain_joins, empty_may_wait}
+use Rattle.tb_builder.proofs.FrameLemmas.{plain_joins}
 use Rattle.tb_builder.proofs.WorkedLemmas.{matter_on_page, matter_counts, matter_inner, matter_known, ready_more, waits_more, ready_still, waits_still, few_waits, room_waits, more_waits}
 use Rattle.tb_builder.proofs.tests.give.Goals as goal
 

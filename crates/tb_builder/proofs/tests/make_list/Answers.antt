@@ -1,4 +1,4 @@
-use Rattle.std.proofs.Common.{◌≡◌, ◌∙◌, ap, sym, subst, ◌+◌, ◌≤◌, length, get_or, [], ◌∷◌, ◌++◌, arith}
+use Rattle.std.proofs.Common.{◌∙◌, ap, ◌≤◌, length, [], ◌∷◌, ◌++◌, arith}
 use Rattle.std.specs.FinMap.{get}
 use Rattle.tb_pool.specs.Lists.{list_at, with_list}
 use Rattle.tb_pool.proofs.MapLemmas.{get-insert_same}
