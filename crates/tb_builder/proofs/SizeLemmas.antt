@@ -1,0 +1,51 @@
+-- The room of a list, node by node.
+use Rattle.std.proofs.Common.{◌≡◌, refl, sym, subst, ◌∙◌, ap, ℤ, pos, ◌+ℤ◌, List, [], ◌∷◌, ◌++◌, map, append_assoc, append-nil, arith}
+use Rattle.std.proofs.lemmas.List.{map-append}
+use Rattle.std.proofs.lemmas.Int.{ints}
+use Rattle.tb_node.specs.declared.Node.{Node}
+use Rattle.tb_node.specs.Shape.{Shape}
+use Rattle.tb_node.specs.Plain.{shape_of}
+use Rattle.tb_node.specs.Small.{IsAmount}
+use Rattle.tb_node.specs.Sums.{room_of, size_of}
+use Rattle.tb_node.proofs.AddLemmas.{size-append}
+use Rattle.tb_builder.specs.Next.{SizesFit, IsRoom}
+
+-- the total is the room of what stands before the rest of a list
+pub record Sized (all rest : List Node) (total : ℤ) : Type 0 where
+  pub before : List Node
+  pub whole : before ++ rest ≡ all
+  pub total_is : total ≡ size_of (map shape_of before)
+
+pub sized_begins : (all : List Node) → Sized all all (pos 0)
+sized_begins all = record { before = []; whole = refl; total_is = refl }
+
+apart : (a r b : ℤ) → IsAmount a → IsAmount b → b ≡ a +ℤ r → IsRoom r
+apart a r b p q e = record { low = omega (arith, ints); high = omega (arith, ints) }
+
+module _ (all : List Node) (n : Node) (rest : List Node) (total : ℤ) (s : Sized all (n ∷ rest) total) where
+  with_it : size_of (map shape_of (s.before ++ n ∷ [])) ≡ size_of (map shape_of s.before) +ℤ room_of (shape_of n)
+  with_it = ap size_of (map-append shape_of s.before (n ∷ [])) ∙ size-append (map shape_of s.before) (shape_of n)
+
+  pub sized_room : SizesFit (map shape_of all) → IsRoom (room_of (shape_of n))
+  sized_room fit =
+      apart (size_of (map shape_of s.before)) (room_of (shape_of n)) (size_of (map shape_of (s.before ++ n ∷ [])))
+      (fit (map shape_of s.before) (map shape_of (n ∷ rest)) (sym (map-append shape_of s.before (n ∷ rest)) ∙ ap (map shape_of) s.whole))
+      (fit (map shape_of (s.before ++ n ∷ [])) (map shape_of rest) (sym (map-append shape_of (s.before ++ n ∷ []) rest) ∙ ap (map shape_of) (append_assoc s.before (n ∷ []) rest ∙ s.whole)))
+      with_it
+
+  pub sized_sum : SizesFit (map shape_of all) → IsRoom (total +ℤ room_of (shape_of n))
+  sized_sum fit = amount_room (total +ℤ room_of (shape_of n))
+      (subst IsAmount (with_it ∙ ap (λ t. t +ℤ room_of (shape_of n)) (sym s.total_is)) (fit (map shape_of (s.before ++ n ∷ [])) (map shape_of rest) (sym (map-append shape_of (s.before ++ n ∷ []) rest) ∙ ap (map shape_of) (append_assoc s.before (n ∷ []) rest ∙ s.whole))))
+    where
+      amount_room : (z : ℤ) → IsAmount z → IsRoom z
+      amount_room z h = record { low = omega (arith, ints); high = omega (arith, ints) }
+
+  pub sized_next : Sized all rest (total +ℤ room_of (shape_of n))
+  sized_next = record {
+    before = s.before ++ n ∷ [];
+    whole = append_assoc s.before (n ∷ []) rest ∙ s.whole;
+    total_is = ap (λ t. t +ℤ room_of (shape_of n)) s.total_is ∙ sym with_it;
+  }
+
+pub sized_ends : (all : List Node) (total : ℤ) → Sized all [] total → total ≡ size_of (map shape_of all)
+sized_ends all total s = s.total_is ∙ ap (λ ns. size_of (map shape_of ns)) (sym (append-nil s.before) ∙ s.whole)

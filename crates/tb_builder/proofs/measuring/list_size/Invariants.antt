@@ -1,0 +1,14 @@
+use Rattle.std.proofs.Common.{◌≡◌, List, ◌++◌, map}
+use Rattle.tb_pool.specs.Lists.{list_at}
+use Rattle.tb_node.specs.declared.Node.{Node}
+use Rattle.tb_node.specs.Plain.{shape_of}
+use Rattle.tb_node.specs.Sums.{size_of}
+use Rattle.tb_builder.proofs.SizeLemmas.{Sized}
+use Rattle.tb_builder.proofs.measuring.list_size.Given as goal
+
+abbrev pub invariant-loop-n : goal.invariant-loop-n
+invariant-loop-n l = record {
+  can_next : (goal.iterator-loop-n).can_next l.n-iterator;
+  is_finite : (goal.iterator-loop-n).is_finite l.n-iterator;
+  sized : Sized (list_at l.fn.store l.fn.l) l.n-iterator l.total;
+}

@@ -1,0 +1,154 @@
+//! A page is filled: the nodes that wait go on it one by one, up to the next event.
+
+ghost use Rattle.std.specs.Prelude.{◌≡◌, ◌≢◌, ◌<◌, ◌<ℤ◌, ◌≤◌, ◌+◌, pos, ℕ, List, [], ◌∷◌, ◌++◌, Bool, true, false, Some, None, IsSome, slice_get};
+ghost use Rattle.tb_pool.specs.Lists.{IsLive, list_at};
+ghost use Rattle.tb_node.specs.declared.Node.{Node as NodeOf};
+ghost use Rattle.tb_node.specs.Shape.{is_box};
+ghost use Rattle.tb_node.specs.Small.{IsAmount, IsSmall, IsSmallShape};
+ghost use Rattle.tb_node.specs.Plain.{shape_of, plain_of, PlainNode};
+ghost use Rattle.tb_node.specs.Add.{added_node};
+ghost use Rattle.tb_break.specs.Best.{Breakpoint};
+ghost use Rattle.tb_break.specs.Legal.{ends_lasting};
+ghost use Rattle.tb_insert.specs.Account.{Frozen};
+ghost use Rattle.tb_insert.specs.Running.{Differ};
+ghost use Rattle.tb_builder.specs.Owned.{ids_of, owned, Lacks, IsOwned};
+ghost use Rattle.tb_builder.specs.Places.{page_shapes, node_penalty, glue_first};
+ghost use Rattle.tb_builder.specs.Contents.{contents_of};
+ghost use Rattle.tb_builder.specs.Running.{IsSound, CourseStands, Underway, AllLoose, zed, frozen_with, act_of_kind, insertion_of_kind};
+ghost use Rattle.tb_builder.specs.Next.{AskFits, NextFits};
+ghost use Rattle.tb_builder.specs.Turn.{Moves, Shifted, StepIs, StepFits, TriesOn, TurnIs};
+
+use crate::measuring::list_size;
+use crate::moving::{drop_first, glue_follows, shift};
+use crate::trying::{started, stops};
+use crate::{Ask, Builder, Event};
+use tb_break::{is_lasting, place_penalty};
+use tb_node::{Insertion, Node};
+use tb_pool::Lists;
+
+impl Builder {
+    // Freezes the goal and the depth limit of the page, where they are not frozen yet.
+    fn freeze(&mut self, ask: &Ask)
+        requires asked { AskFits ask.now }
+        ensures first { self.old.frozen ≡ None → (z : Frozen) (page : List PlainNode) → z.goal ≡ ask.now.goal → z.limit ≡ ask.now.max_depth → Differ z.classes → AllLoose page
+            → self.old.course.lasting ≡ ends_lasting (page_shapes page) → CourseStands z self.new.course page [] }
+        ensures again { IsSome self.old.frozen → self.new ≡ self.old }
+        ensures frozen { self.new.frozen ≡ Some (frozen_with self.old.frozen ask.now) }
+        ensures ids { ids_of self.new ≡ ids_of self.old }
+        ensures opened { self.new.opened ≡ self.old.opened }
+        ensures stopped { self.new.stopped ≡ self.old.stopped }
+    {
+        if self.frozen.is_some() {
+            return;
+        }
+        self.frozen = Some((ask.goal, ask.max_depth));
+        self.course = started(ask.goal, ask.max_depth, self.course.lasting);
+    }
+
+    // The first node that waits, an insertion, goes on the page.
+    fn meet(&mut self, store: &mut Lists<Node>, ask: &Ask, n: &Node, i: &Insertion)
+        requires sound { IsSound self.old store.old }
+        requires on { self.old.stopped ≡ false }
+        requires fits { NextFits (contents_of self.old store.old) ask.now }
+        requires first { slice_get (list_at store.old self.old.waiting) 0 ≡ Some n.now }
+        requires insertion { insertion_of_kind n.now.kind ≡ Some i.now }
+        ensures { TurnIs self.old store.old ask.now None self.new store.new }
+    {
+        self.freeze(ask);
+        let own = self.class_list(i.class);
+        let size = list_size(store, own.list);
+        let index = store.len(self.page);
+        self.course.join(store, i, index, &own.class, size);
+        shift(store, self.waiting, self.page);
+    }
+
+    // On a page without a box, the first node that waits is no box, insertion or act: a mark, a note or a whatsit goes
+    // on the page, and glue, a kern or a penalty vanishes.
+    fn pass(&mut self, store: &mut Lists<Node>, ask: &Ask, n: &Node)
+        requires sound { IsSound self.old store.old }
+        requires on { self.old.stopped ≡ false }
+        requires closed { self.old.opened ≡ false }
+        requires first { slice_get (list_at store.old self.old.waiting) 0 ≡ Some n.now }
+        requires no_act { act_of_kind n.now.kind ≡ None }
+        requires no_insertion { insertion_of_kind n.now.kind ≡ None }
+        requires no_box { is_box (shape_of n.now) ≡ false }
+        ensures { TurnIs self.old store.old ask.now None self.new store.new }
+    {
+        if is_lasting(n) {
+            self.course.lasting = true;
+            shift(store, self.waiting, self.page);
+            return;
+        }
+        drop_first(store, self.waiting);
+    }
+
+    // The first node that waits on a page that is laid out, no act and no insertion: its place is tried where it is
+    // legal, and it goes on the page unless that is a stop.
+    fn reach(&mut self, store: &mut Lists<Node>, n: &Node) -> Option<Event>
+        requires own { IsOwned (ids_of self.old) store.old }
+        requires first { slice_get (list_at store.old self.old.waiting) 0 ≡ Some n.now }
+        requires on { self.old.stopped ≡ false }
+        requires underway { Underway (zed (contents_of self.old store.old)) self.old.course (contents_of self.old store.old).page (contents_of self.old store.old).waiting }
+        requires fits { StepFits (zed (contents_of self.old store.old)) (contents_of self.old store.old).page (list_at store.old) n.now }
+        ensures moves { Moves self.old store.old self.new store.new }
+        ensures step { StepIs result (zed (contents_of self.old store.old)) self.new.course (contents_of self.old store.old) (contents_of self.new store.new) }
+        ensures behind { (ns : List NodeOf) → self.new.stopped ≡ false → list_at store.old self.old.waiting ≡ n.now ∷ ns → list_at store.new self.new.waiting ≡ ns }
+        ensures opened { self.new.opened ≡ self.old.opened }
+        ensures frozen { self.new.frozen ≡ self.old.frozen }
+        ensures ids { ids_of self.new ≡ ids_of self.old }
+    {
+        let glue_next = glue_follows(store, self.waiting);
+        let Some(penalty) = place_penalty(n, self.course.lasting, glue_next) else {
+            self.put(store, n);
+            return None;
+        };
+        Some(self.attempt(store, n, penalty))
+    }
+
+    // Tries the place before the first node that waits, and puts the node on the page unless the place is a stop.
+    fn attempt(&mut self, store: &mut Lists<Node>, n: &Node, penalty: i64) -> Event
+        requires own { IsOwned (ids_of self.old) store.old }
+        requires first { slice_get (list_at store.old self.old.waiting) 0 ≡ Some n.now }
+        requires on { self.old.stopped ≡ false }
+        requires underway { Underway (zed (contents_of self.old store.old)) self.old.course (contents_of self.old store.old).page (contents_of self.old store.old).waiting }
+        requires fits { StepFits (zed (contents_of self.old store.old)) (contents_of self.old store.old).page (list_at store.old) n.now }
+        requires low { IsAmount penalty }
+        requires legal { penalty <ℤ pos 10000 }
+        ensures moves { Moves self.old store.old self.new store.new }
+        ensures tried { (ns : List PlainNode) → (contents_of self.old store.old).waiting ≡ plain_of (list_at store.old) n.now ∷ ns
+            → node_penalty self.old.course.lasting (glue_first ns) (plain_of (list_at store.old) n.now) ≡ Some penalty
+            → StepIs (Some result) (zed (contents_of self.old store.old)) self.new.course (contents_of self.old store.old) (contents_of self.new store.new) }
+        ensures behind { (ns : List NodeOf) → self.new.stopped ≡ false → list_at store.old self.old.waiting ≡ n.now ∷ ns → list_at store.new self.new.waiting ≡ ns }
+        ensures opened { self.new.opened ≡ self.old.opened }
+        ensures frozen { self.new.frozen ≡ self.old.frozen }
+        ensures ids { ids_of self.new ≡ ids_of self.old }
+    {
+        let made = self.course.offer(store.len(self.page), n.line, penalty);
+        if stops(&made) {
+            self.stopped = true;
+            return Event::Try(made);
+        }
+        self.put(store, n);
+        Event::Try(made)
+    }
+
+    // The first node that waits, which is no insertion, goes on the page.
+    fn put(&mut self, store: &mut Lists<Node>, n: &Node)
+        requires own { IsOwned (ids_of self.old) store.old }
+        requires first { slice_get (list_at store.old self.old.waiting) 0 ≡ Some n.now }
+        requires node { IsSmallShape (shape_of n.now) }
+        requires fits { IsSmall (added_node self.old.course.scan.max_depth self.old.course.scan.sums (shape_of n.now)) }
+        requires no_act { act_of_kind n.now.kind ≡ None }
+        requires no_insertion { insertion_of_kind n.now.kind ≡ None }
+        ensures moves { Moves self.old store.old self.new store.new }
+        ensures shifted { Shifted (plain_of (list_at store.old) n.now) (contents_of self.old store.old) (contents_of self.new store.new) }
+        ensures course { (z : Frozen) (bs : List Breakpoint) → CourseStands z self.old.course (contents_of self.old store.old).page bs
+            → CourseStands z self.new.course ((contents_of self.old store.old).page ++ plain_of (list_at store.old) n.now ∷ []) bs }
+        ensures behind { (ns : List NodeOf) → list_at store.old self.old.waiting ≡ n.now ∷ ns → list_at store.new self.new.waiting ≡ ns }
+        ensures opened { self.new.opened ≡ self.old.opened }
+        ensures ids { ids_of self.new ≡ ids_of self.old }
+    {
+        self.course.put(n);
+        shift(store, self.waiting, self.page);
+    }
+}

@@ -1,0 +1,51 @@
+//! Sizes and counts of lists.
+
+ghost use Rattle.std.specs.Prelude.{◌≡◌, ◌+ℤ◌, pos};
+ghost use Rattle.tb_pool.specs.Lists.{IsLive};
+ghost use Rattle.tb_node.specs.Small.{IsAmount};
+ghost use Rattle.tb_node.specs.Fit.{shapes};
+ghost use Rattle.tb_node.specs.Plain.{shape_of};
+ghost use Rattle.tb_node.specs.Sums.{room_of, size_of};
+ghost use Rattle.tb_builder.specs.Next.{SizesFit, IsRoom};
+
+use tb_node::{Kind, Node};
+use tb_pool::{ListId, Lists};
+
+// The room that a node takes.
+fn room(n: &Node) -> i64
+    requires { IsRoom (room_of (shape_of n.now)) }
+    ensures { result ≡ room_of (shape_of n.now) }
+{
+    match n.kind {
+        Kind::Hbox { height, depth, .. } => both(height, depth),
+        Kind::Rule { height, depth, .. } => both(height, depth),
+        Kind::Skip(g) => g.width,
+        Kind::Kern(w) => w,
+        Kind::Pen(_) => 0,
+        Kind::Mark(_) => 0,
+        Kind::Note(_) => 0,
+        Kind::Whatsit => 0,
+        Kind::Ins(_) => 0,
+        Kind::Act(_) => 0,
+    }
+}
+
+fn both(a: i64, b: i64) -> i64
+    requires { IsRoom (a +ℤ b) }
+    ensures { result ≡ a +ℤ b }
+{
+    a + b
+}
+
+// The room that a list takes.
+pub fn list_size(store: &Lists<Node>, l: ListId) -> i64
+    requires live { IsLive store.now l }
+    requires fits { SizesFit (shapes store.now l) }
+    ensures { result ≡ size_of (shapes store.now l) }
+{
+    let mut total = 0;
+    for n in store.iter(l) {
+        total = both(total, room(n));
+    }
+    total
+}

@@ -1,0 +1,98 @@
+//! Nodes at the front of a list: what they are, and how they go from one list to another.
+
+ghost use Rattle.std.specs.Prelude.{◌≡◌, ◌≢◌, ◌<◌, ◌≤◌, ◌+◌, ◌-ℤ◌, pos, ℕ, List, [], ◌∷◌, ◌++◌, slice_get, drop};
+ghost use Rattle.std.specs.FinMap.{insert};
+ghost use Rattle.tb_pool.specs.Lists.{IsLive, list_at, with_list};
+ghost use Rattle.tb_scaled.specs.Scaled.{max_ℤ};
+ghost use Rattle.tb_node.specs.declared.Node.{Node as NodeOf};
+ghost use Rattle.tb_node.specs.Shape.{is_discardable, is_box};
+ghost use Rattle.tb_node.specs.Plain.{shape_of};
+ghost use Rattle.tb_node.specs.Small.{IsAmount};
+ghost use Rattle.tb_builder.specs.Running.{act_of_kind, insertion_of_kind, nodes_glue_first};
+
+use tb_break::is_glue;
+use tb_node::{Act, Insertion, Kind, Node};
+use tb_pool::{Iter, ListId, Lists};
+
+// A node that is an act, if it is one.
+pub fn act_of(n: &Node) -> Option<Act>
+    ensures { result ≡ act_of_kind n.now.kind }
+{
+    match n.kind {
+        Kind::Act(a) => Some(a),
+        _ => None,
+    }
+}
+
+// A node that is an insertion, if it is one.
+pub fn insertion_of(n: &Node) -> Option<Insertion>
+    ensures { result ≡ insertion_of_kind n.now.kind }
+{
+    match n.kind {
+        Kind::Ins(i) => Some(i),
+        _ => None,
+    }
+}
+
+pub fn is_box(n: &Node) -> bool
+    ensures { result ≡ is_box (shape_of n.now) }
+{
+    matches!(n.kind, Kind::Hbox { .. } | Kind::Rule { .. })
+}
+
+// The first node of a list.
+pub fn first_of(store: &Lists<Node>, l: ListId) -> Option<Node>
+    requires { IsLive store.now l }
+    ensures { result ≡ slice_get (list_at store.now l) 0 }
+{
+    store.get(l, 0).copied()
+}
+
+fn skip_one(nodes: &mut Iter<'_, Node>)
+    ensures { nodes.new ≡ drop 1 nodes.old }
+{
+    match nodes.next() {
+        Some(_) => (),
+        None => (),
+    }
+}
+
+// Glue stands first behind the first node of the list, where acts are looked past.
+pub fn glue_follows(store: &Lists<Node>, l: ListId) -> bool
+    requires { IsLive store.now l }
+    ensures { result ≡ nodes_glue_first (drop 1 (list_at store.now l)) }
+{
+    let mut behind = store.iter(l);
+    skip_one(&mut behind);
+    for n in behind {
+        if act_of(n).is_none() {
+            return is_glue(n);
+        }
+    }
+    false
+}
+
+// Takes off the first node of a list that has one.
+#[tactic(auto, using(tb_pool::proofs::MapLemmas::list_steps))]
+pub fn drop_first(store: &mut Lists<Node>, l: ListId)
+    requires { IsLive store.old l }
+    ensures rest { (n : NodeOf) (ns : List NodeOf) → list_at store.old l ≡ n ∷ ns → store.new.lists ≡ with_list store.old l ns }
+    ensures spare { store.old.spare ≤ store.new.spare }
+{
+    store.pop_front(l);
+}
+
+// The first node of a list goes to the end of another.
+#[tactic(auto, using(tb_pool::proofs::MapLemmas::list_steps))]
+pub fn shift(store: &mut Lists<Node>, from: ListId, to: ListId)
+    requires from_live { IsLive store.old from }
+    requires to_live { IsLive store.old to }
+    requires apart { from ≢ to }
+    ensures shifted { (n : NodeOf) (ns : List NodeOf) → list_at store.old from ≡ n ∷ ns → store.new.lists ≡ insert (with_list store.old from ns) to (list_at store.old to ++ n ∷ []) }
+    ensures spare { store.new.spare ≡ store.old.spare }
+{
+    let Some(n) = store.pop_front(from) else {
+        return;
+    };
+    store.push_back(to, n);
+}
