@@ -15,7 +15,7 @@ use Rattle.tb_builder.specs.Reached.{Reached, acted, tried, Reach, also_reached,
 use Rattle.tb_builder.specs.Fired.{Boxed, Fired, no_place, page_break, penalty_at, line_at, with_spent_break, box_after, held_insertions, fired_by, fired_of}
 use Rattle.tb_builder.specs.Places.{NoActs}
 use Rattle.tb_builder.specs.Contents.{Contents, frozen_of, laid, reach_ahead, reach_whole, places_of}
-use Rattle.tb_builder.specs.Next.{Stays, Goes, Stops, stopped_with, TriedIs, ActedIs, EmptyIs, nothing_reached, fired_page}
+use Rattle.tb_builder.specs.Next.{BoxesFit, LaidFits, NextFits, Stays, Goes, Stops, stopped_with, TriedIs, ActedIs, EmptyIs, nothing_reached, fired_page}
 use Rattle.tb_column.specs.Column.{PlainSent}
 use Rattle.tb_output.specs.State.{State, foot_class, ask_of, Recorded, emptied, Work}
 use Rattle.tb_output.specs.Out.{out}
@@ -78,7 +78,7 @@ module _ (p : Params) (s : State) where
     stopped-tried line b g = record {
       same = same-stays c d h.same k;
       stopped = g.stopped;
-      whole = g.whole ∙ h.whole;
+      whole = g.still ∙ h.whole;
       so_far =
           h.so_far
           ∙ ap (λ (w : Reach). after_events es rs (progress p w.reached (least_cost bs) t)) g.reach
@@ -128,6 +128,24 @@ module _ (p : Params) (s : State) where
       by_stop true e =
           let r = g.stops e in
           subst (λ x. tries_left x (reach_ahead d (ask_of p s)) < length (reach_ahead c (ask_of p s)).reached + 1) (sym r.stopped) (omega arith)
+
+-- ---- what the builder asks
+
+module _ (p : Params) (s : State) where
+  fits-again : (c : Contents) → IsSamePage p s c → laid c (ask_of p s) ≡ laid (between_pages p s) (ask_of p s) → NextFits (between_pages p s) (ask_of p s) → NextFits c (ask_of p s)
+  fits-again c same whole f = record {
+    asked = f.asked;
+    boxes = subst BoxesFit (sym same.boxes) f.boxes;
+    laid_fits = subst (λ z. LaidFits z (laid c (ask_of p s))) (sym same.frozen_so) (subst (LaidFits (page_frozen p s)) (sym whole) f.laid_fits);
+  }
+
+  -- all that is added up fits, as at the start of the page
+  pub fits-filled : (c : Contents) → NextFits (between_pages p s) (ask_of p s) → IsFilled p s c → NextFits c (ask_of p s)
+  fits-filled c f h = by_stop c.stopped refl
+    where
+      by_stop : (x : Bool) → c.stopped ≡ x → NextFits c (ask_of p s)
+      by_stop true e = let v = h.at_stop e in fits-again c v.same v.whole f
+      by_stop false e = let v = h.underway e in fits-again c v.same v.whole f
 
 -- ---- the page fires
 

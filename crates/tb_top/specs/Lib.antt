@@ -6,6 +6,7 @@ pub mod Paginated
 pub mod Search
 pub mod PlainRun
 pub mod PageMade
+pub mod Servable
 pub mod Firings
 pub mod PlainNodes
 pub mod Turning

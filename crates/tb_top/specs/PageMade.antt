@@ -52,7 +52,7 @@ pub record IsUnderway (p : Params) (s : State) (es : List RunEvent) (rs : List R
 pub record IsStopped (p : Params) (s : State) (es : List RunEvent) (rs : List Recorded) (t : State) (c : Contents) : Type 0 where
   pub same : IsSamePage p s c
   pub stopped : c.stopped ≡ true
-  pub whole : c.page ++ c.waiting ≡ laid (between_pages p s) (ask_of p s)
+  pub whole : laid c (ask_of p s) ≡ laid (between_pages p s) (ask_of p s)
   pub so_far : progress p (page_reach p s).reached awful_bad s ≡ record { state = t; events = es; records = rs; fault = None }
   pub places : breakpoints (page_reach p s).reached ≡ breakpoints (reach_whole c (ask_of p s)).reached
   pub passed : (page_reach p s).passed ≡ (reach_whole c (ask_of p s)).passed
