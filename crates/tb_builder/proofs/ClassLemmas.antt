@@ -1,13 +1,12 @@
 -- The class of a number among the classes, and its box.
-use Rattle.std.proofs.Common.{◌≡◌, ◌≢◌, refl, sym, subst, ◌∙◌, ap, ℕ, zero, suc, ◌+◌, ◌<◌, ℤ, Bool, true, false, List, [], ◌∷◌, ◌++◌, length, map, Option, Some, None, get_or, cond, arith}
+use Rattle.std.proofs.Common.{◌≡◌, refl, sym, subst, ◌∙◌, ap, ℕ, zero, suc, ◌+◌, ◌<◌, Bool, true, false, List, [], ◌∷◌, length, map, Some, None, get_or, cond, arith}
 use Rattle.std.specs.Prelude.{◌==◌, ◌||◌, position, if◌then◌else◌}
-use Rattle.std.specs.List.{list_any, position_from}
+use Rattle.std.specs.List.{position_from}
 use Rattle.std.proofs.lemmas.Iterator.Adapters.{position_from-zero}
-use Rattle.std.proofs.lemmas.Bool.{true≢false}
 use Rattle.std.proofs.lemmas.List.Quantifiers.{position-Some}
 use Rattle.tb_pool.specs.Lists.{Lists, IsLive, list_at}
 use Rattle.tb_node.specs.declared.Node.{Node}
-use Rattle.tb_node.specs.Plain.{Leaf, leaf_of, leaf_shape, shape_of}
+use Rattle.tb_node.specs.Plain.{leaf_shape, shape_of}
 use Rattle.tb_node.specs.Fit.{shapes}
 use Rattle.tb_node.specs.Sums.{size_of}
 use Rattle.tb_insert.specs.declared.Class.{Class}
@@ -16,7 +15,7 @@ use Rattle.tb_insert.specs.Arrived.{ClassFits}
 use Rattle.tb_insert.specs.Running.{numbered, Differ, boxed}
 use Rattle.tb_insert.proofs.AccountLemmas.{leaf_shapes, is_number}
 use Rattle.tb_builder.specs.declared.ClassList.{ClassList}
-use Rattle.tb_builder.specs.Fired.{Boxed, box_content, box_size, class_boxes, content_of}
+use Rattle.tb_builder.specs.Fired.{box_content, box_size, class_boxes, content_of}
 use Rattle.tb_builder.specs.Contents.{boxed_of, content_by, leaf_list}
 use Rattle.tb_builder.specs.Owned.{VoidEmpty, box_ids, AllLive, has_class, ClassesFit, has_number, IsFirst, IsClassList}
 use Rattle.tb_builder.specs.Next.{SizesFit, BoxesFit}

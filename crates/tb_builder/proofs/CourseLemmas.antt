@@ -1,5 +1,5 @@
 -- The course of a page: a place is tried, a node goes on the page, an insertion comes.
-use Rattle.std.proofs.Common.{◌≡◌, refl, sym, subst, ◌∙◌, ap, ℕ, ◌≤◌, ◌+◌, ℤ, pos, Bool, true, false, List, [], ◌∷◌, ◌++◌, length, take, Option, None, Some, append_assoc, append-nil, length-append, arith}
+use Rattle.std.proofs.Common.{◌≡◌, refl, sym, subst, ◌∙◌, ap, ℕ, ◌≤◌, ℤ, pos, Bool, true, false, List, [], ◌∷◌, ◌++◌, length, Option, None, Some, append_assoc, append-nil, length-append, arith}
 use Rattle.std.specs.Prelude.{int_le, not, ◌<ℤ◌, ◌≤ℤ◌, if◌then◌else◌, map}
 use Rattle.std.proofs.lemmas.List.{map-append, take-append-le, take_all}
 use Rattle.std.proofs.lemmas.Bool.{true≢false}
@@ -9,34 +9,32 @@ use Rattle.tb_node.specs.declared.Node.{Node}
 use Rattle.tb_node.specs.declared.Sums.{Sums}
 use Rattle.tb_node.specs.declared.Kind.{Kind}
 use Rattle.tb_node.specs.declared.Kind.TheVariants as kinds
-use Rattle.tb_node.specs.Shape.{Shape, box, glue, kern, penalty, other, is_discardable}
-use Rattle.tb_node.specs.Plain.{Matter, hbox, rule, skip, kerned, pen, mark, note, whatsit, Inserted, PlainKind, plain, ins, act, PlainNode, plain_of, plain_kind, node_shape, shape_of, is_act_kind, is_insertion_kind}
-use Rattle.tb_node.specs.Sums.{sums_of}
+use Rattle.tb_node.specs.Shape.{other, is_discardable}
+use Rattle.tb_node.specs.Plain.{hbox, rule, skip, kerned, pen, mark, note, whatsit, Inserted, PlainKind, plain, ins, act, PlainNode, plain_of, plain_kind, node_shape, shape_of, is_act_kind, is_insertion_kind}
 use Rattle.tb_node.specs.Add.{added_node}
 use Rattle.tb_break.specs.declared.Best.{Best}
 use Rattle.tb_break.specs.declared.Offer.{Offer}
 use Rattle.tb_break.specs.Legal.{ends_lasting}
-use Rattle.tb_break.specs.Best.{Breakpoint, best_or, least_cost, is_stop}
-use Rattle.tb_break.specs.Cost.{page_badness}
+use Rattle.tb_break.specs.Best.{Breakpoint, best_or, least_cost}
 use Rattle.tb_break.specs.Split.{breakpoint_at}
 use Rattle.tb_break.specs.Scan.{Scanned, Offered, empty_scan, better_best, best_of, least_so_far, offer_of}
 use Rattle.tb_break.proofs.FindLemmas.{ends_with}
 use Rattle.tb_break.proofs.BestLemmas.{champion-taken, champion-kept}
 use Rattle.tb_break.proofs.ScanLemmas.{best-offer, cost_at_most}
-use Rattle.tb_insert.specs.Terms.{sums_with}
 use Rattle.tb_insert.specs.declared.Account.{Account}
 use Rattle.tb_insert.specs.declared.Class.{Class}
 use Rattle.tb_insert.specs.Account.{Frozen, class_box, labelled, insertions, is_met, terms_after}
-use Rattle.tb_insert.specs.Running.{Differ, numbered, boxed, AccountStands, ScanStands, ComesTo, met_scan}
+use Rattle.tb_insert.specs.Running.{numbered, boxed, AccountStands, ScanStands, ComesTo, met_scan}
 use Rattle.tb_insert.proofs.StandsLemmas.{stands-plain}
-use Rattle.tb_insert.proofs.TermLemmas.{scan_plain, scan_meets, scan_loose, scan_new}
+use Rattle.tb_insert.proofs.TermLemmas.{scan_plain}
+use Rattle.tb_builder.proofs.ScanLemmas.{scan_meets, scan_loose, scan_new}
 use Rattle.tb_builder.specs.declared.Course.{Course}
 use Rattle.tb_builder.specs.declared.Try.{Try}
-use Rattle.tb_builder.specs.Reached.{page_place, try_of}
+use Rattle.tb_builder.specs.Reached.{try_of}
 use Rattle.tb_break.specs.Finding.{penalty_by}
 use Rattle.tb_builder.specs.Places.{page_shapes, glue_first, node_penalty, NoActs}
 use Rattle.tb_builder.specs.Running.{ChampionIs, CourseStands, is_loose, AllLoose, act_of_kind, insertion_of_kind, nodes_glue_first}
-use Rattle.tb_builder.specs.Offer.{OfferIs, Marks, place_here}
+use Rattle.tb_builder.specs.Offer.{Marks, place_here}
 
 -- ---- a node by its kind
 

@@ -1,29 +1,27 @@
 -- What the builder holds, after its lists were written.
-use Rattle.std.proofs.Common.{◌≡◌, ◌≢◌, refl, sym, subst, ◌∙◌, ap, ℕ, ℤ, ◌≤◌, Bool, true, false, List, [], ◌∷◌, ◌++◌, length, map, Option, Some, None}
+use Rattle.std.proofs.Common.{◌≡◌, sym, subst, ◌∙◌, ap, List, [], ◌∷◌, ◌++◌, map, Some}
 use Rattle.std.specs.Prelude.{slice_get}
-use Rattle.std.specs.FinMap.{get, insert}
 use Rattle.std.proofs.lemmas.List.{map-append}
-use Rattle.tb_pool.specs.Lists.{Lists, IsLive, list_at, with_list}
+use Rattle.tb_pool.specs.Lists.{Lists, list_at}
 use Rattle.tb_node.specs.declared.Node.{Node}
-use Rattle.tb_node.specs.Plain.{PlainNode, plain_of}
+use Rattle.tb_node.specs.Plain.{plain_of}
 use Rattle.tb_break.proofs.StoreLemmas.{some_first}
 use Rattle.tb_builder.specs.declared.Builder.{Builder}
 use Rattle.tb_builder.specs.Owned.{Lacks, Ids, ids_of, owned, IsOwned}
-use Rattle.tb_builder.specs.Contents.{Contents, contents_of, plain_list, boxed_of}
+use Rattle.tb_builder.specs.Contents.{contents_of, plain_list, boxed_of}
 use Rattle.tb_builder.specs.Turn.{Moves, Shifted}
-use Rattle.tb_builder.proofs.MoveLemmas.{Written, written_own, written_others, written_keeps, written_held, written_page, written_waiting, written_boxes, written_shift, written_drop, written_front}
+use Rattle.tb_builder.proofs.MoveLemmas.{Written, written_own, written_others, written_keeps, written_held, written_page, written_waiting, written_boxes}
 
 -- the first node, and what comes after it
 pub first_is : (ns : List Node) (n : Node) → slice_get ns 0 ≡ Some n → (ms : List Node) × (ns ≡ n ∷ ms)
 first_is ns n e = some_first ns n (sym e)
 
 module _ (b d : Builder) (s t : Lists Node) (xs ys : List Node) (same : ids_of d ≡ ids_of b) (own : IsOwned (ids_of b) s) (w : Written (ids_of b) s t xs ys) where
-  pub moves_from : s.spare ≤ t.spare → Moves b s d t
-  moves_from room = record {
+  pub moves_from : Moves b s d t
+  moves_from = record {
     own = subst (λ i. IsOwned i t) (sym same) (written_own (ids_of b) s t xs ys own w);
     others = λ q h. written_others (ids_of b) s t xs ys own w q h;
     keeps = λ q h. subst (λ i. Lacks q (owned i t)) (sym same) (written_keeps (ids_of b) s t xs ys own w q h);
-    room = room;
     classes = ap (λ (i : Ids). map (λ e. e.class) i.boxes) same;
     boxes = ap (λ (i : Ids). map (boxed_of t) i.boxes) same ∙ written_boxes (ids_of b) s t xs ys own w;
     held = ap (λ (i : Ids). plain_list t i.held) same ∙ written_held (ids_of b) s t xs ys own w;

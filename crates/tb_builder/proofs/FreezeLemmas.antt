@@ -1,6 +1,6 @@
 -- The goal of a page is frozen, and nodes come to a page without a box.
-use Rattle.std.proofs.Common.{◌≡◌, ◌≢◌, ◌⊎◌, inl, inr, refl, sym, subst, ◌∙◌, ap, ℕ, ◌<◌, ◌≤◌, ℤ, pos, Bool, true, false, List, [], ◌∷◌, ◌++◌, length, map, Option, None, Some, IsSome, append_assoc, append-nil}
-use Rattle.std.specs.Prelude.{not, option_to_list, slice_index_or}
+use Rattle.std.proofs.Common.{◌≡◌, refl, sym, subst, ◌∙◌, ap, ℕ, ◌<◌, ℤ, Bool, true, false, List, [], ◌∷◌, ◌++◌, length, map, Option, None, Some, IsSome, append_assoc}
+use Rattle.std.specs.Prelude.{not, option_to_list}
 use Rattle.std.proofs.lemmas.List.{map-append, length-map}
 use Rattle.std.proofs.lemmas.Bool.{true≢false}
 use Rattle.tb_pool.specs.Lists.{Lists, IsLive, list_at}
@@ -9,9 +9,9 @@ use Rattle.tb_node.specs.declared.Insertion.{Insertion}
 use Rattle.tb_node.specs.declared.Kind.{Kind}
 use Rattle.tb_node.specs.declared.Kind.TheVariants as kinds
 use Rattle.tb_node.specs.Fit.{shapes, NodesFit, SumsFit}
-use Rattle.tb_node.specs.Shape.{Shape, other, is_box, is_discardable}
+use Rattle.tb_node.specs.Shape.{other, is_box, is_discardable}
 use Rattle.tb_node.specs.Sums.{size_of}
-use Rattle.tb_node.specs.Plain.{skip, shape_of_kind, leaf_of, leaf_shape, Inserted, inserted_of, PlainKind, plain, ins, act, PlainNode, plain_of, plain_kind, node_shape, shape_of, is_act_kind, is_insertion_kind}
+use Rattle.tb_node.specs.Plain.{skip, shape_of_kind, Inserted, inserted_of, plain, ins, PlainNode, plain_of, plain_kind, node_shape, shape_of, is_act_kind}
 use Rattle.tb_break.specs.Legal.{ends_lasting}
 use Rattle.tb_break.specs.Best.{Breakpoint, best_or}
 use Rattle.tb_break.specs.Scan.{Scanned, Offered}
@@ -19,27 +19,27 @@ use Rattle.tb_break.specs.Prune.{pruned_nodes, pruned_at}
 use Rattle.tb_break.proofs.FindLemmas.{ends_with}
 use Rattle.tb_insert.specs.declared.Class.{Class}
 use Rattle.tb_insert.specs.Account.{Frozen, class_box, terms_after}
-use Rattle.tb_insert.specs.Running.{Differ, numbered, boxed, AccountStands, ScanStands, ComesTo}
+use Rattle.tb_insert.specs.Running.{Differ, numbered, AccountStands, ScanStands, ComesTo}
 use Rattle.tb_insert.specs.Arrived.{InnerFits, ClassFits, ArriveFits, PageFits}
 use Rattle.tb_insert.proofs.AccountLemmas.{leaf_shapes}
 use Rattle.tb_insert.proofs.StandsLemmas.{stands-plain}
-use Rattle.tb_insert.proofs.TermLemmas.{scan_loose, arrive_fits}
+use Rattle.tb_insert.proofs.TermLemmas.{arrive_fits}
+use Rattle.tb_builder.proofs.ScanLemmas.{scan_loose}
 use Rattle.tb_builder.specs.declared.Ask.{Ask}
 use Rattle.tb_builder.specs.declared.Course.{Course}
 use Rattle.tb_builder.specs.declared.ClassList.{ClassList}
-use Rattle.tb_builder.specs.declared.Builder.{Builder}
 use Rattle.tb_builder.specs.Reached.{holds_box}
-use Rattle.tb_builder.specs.Fired.{Boxed, box_size, box_content, class_boxes}
+use Rattle.tb_builder.specs.Fired.{box_size, box_content, class_boxes}
 use Rattle.tb_builder.specs.Places.{page_shapes, glue_first, page_places, NoStop}
-use Rattle.tb_builder.specs.Contents.{boxed_of, Contents, contents_of, frozen_or, frozen_of, ahead_of, laid}
-use Rattle.tb_builder.specs.Owned.{AllLive, inner_of, inner_ids, Ids, ids_of, nodes_of, box_ids, owned, has_class, is_known, AllKnown, ClassesFit, IsClassList, IsOwned}
-use Rattle.tb_builder.specs.Running.{ChampionIs, CourseStands, Underway, AtStop, places_by, frozen_with, page_frozen, is_loose, AllLoose, AllLasting, Unfrozen, PageStands, IsSound, act_of_kind, insertion_of_kind}
-use Rattle.tb_builder.specs.Next.{NextFits, LaidFits, InsertedFits}
-use Rattle.tb_builder.proofs.OwnedLemmas.{live-left, live-right, known-right, inner-append}
+use Rattle.tb_builder.specs.Contents.{boxed_of, Contents, frozen_or, frozen_of, ahead_of}
+use Rattle.tb_builder.specs.Owned.{AllLive, inner_of, inner_ids, Ids, nodes_of, box_ids, has_class, is_known, AllKnown, ClassesFit, IsClassList, IsOwned}
+use Rattle.tb_builder.specs.Running.{ChampionIs, CourseStands, Underway, places_by, page_frozen, is_loose, AllLoose, PageStands, act_of_kind, insertion_of_kind}
+use Rattle.tb_builder.specs.Next.{NextFits, InsertedFits}
+use Rattle.tb_builder.proofs.OwnedLemmas.{live-right, known-right, inner-append}
 use Rattle.tb_builder.proofs.ClassLemmas.{class_known, number_is, box_is, differ_found, numbered_found}
 use Rattle.tb_builder.proofs.CourseLemmas.{champion_grows, acts-append, loose_shape, loose_act, loose_plain, no_act}
 use Rattle.tb_builder.proofs.PageLemmas.{places_pass}
-use Rattle.tb_builder.proofs.TurnLemmas.{ahead_open, ahead_closed, lasting_penalty, lasting_places, all_lasting, loose-append, lasting-append, holds_same}
+use Rattle.tb_builder.proofs.TurnLemmas.{ahead_open, ahead_closed, lasting_penalty, lasting_places, all_lasting}
 
 -- the course of the page, once its goal is frozen
 pub frozen_course : (c : Contents) (k l : Course) (ask : Ask) (o : Option (ℤ × ℤ)) → c.frozen ≡ o → PageStands o false k c → ClassesFit c.classes

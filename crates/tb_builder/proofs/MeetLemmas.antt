@@ -1,35 +1,28 @@
 -- A turn on a page: an insertion comes, or a node passes before the first box.
-use Rattle.std.proofs.Common.{◌≡◌, ◌≢◌, ◌⊎◌, inl, inr, refl, sym, subst, ◌∙◌, ap, ℕ, ◌≤◌, ℤ, Bool, true, false, List, [], ◌∷◌, ◌++◌, length, map, Option, None, Some, append_assoc}
+use Rattle.std.proofs.Common.{◌≡◌, ◌⊎◌, inl, inr, refl, sym, subst, ◌∙◌, ap, ◌<◌, ◌≤◌, ℤ, Bool, true, false, List, [], ◌∷◌, ◌++◌, length, map, Option, None, Some, arith}
 use Rattle.std.specs.Prelude.{not}
-use Rattle.std.specs.FinMap.{get, insert}
-use Rattle.std.proofs.lemmas.Bool.{true≢false}
 use Rattle.std.proofs.lemmas.List.{map-append}
-use Rattle.tb_pool.specs.Lists.{Lists, list_at, with_list}
+use Rattle.tb_pool.specs.Lists.{Lists, list_at}
 use Rattle.tb_node.specs.declared.Node.{Node}
-use Rattle.tb_node.specs.declared.Insertion.{Insertion}
 use Rattle.tb_node.specs.Shape.{other, is_box, is_discardable}
-use Rattle.tb_node.specs.Plain.{Inserted, inserted_of, ins, PlainNode, plain_of, node_shape, shape_of, is_act_kind}
-use Rattle.tb_break.specs.Best.{Breakpoint}
+use Rattle.tb_node.specs.Plain.{PlainNode, plain_of, node_shape, shape_of, is_act_kind}
 use Rattle.tb_break.specs.Legal.{ends_lasting}
-use Rattle.tb_break.specs.Prune.{pruned_nodes}
-use Rattle.tb_insert.specs.declared.Class.{Class}
 use Rattle.tb_insert.specs.Account.{Frozen, terms_after}
 use Rattle.tb_builder.specs.declared.Ask.{Ask}
 use Rattle.tb_builder.specs.declared.Course.{Course}
 use Rattle.tb_builder.specs.declared.Builder.{Builder}
 use Rattle.tb_builder.specs.Reached.{holds_box}
-use Rattle.tb_builder.specs.Fired.{Boxed}
 use Rattle.tb_builder.specs.Places.{page_shapes, NoStop}
 use Rattle.tb_builder.specs.Contents.{Contents, contents_of, frozen_or, frozen_of}
-use Rattle.tb_builder.specs.Owned.{Ids, ids_of, inner_of, IsOwned}
-use Rattle.tb_builder.specs.Running.{CourseStands, Underway, AtStop, places_by, frozen_with, page_frozen, is_loose, AllLoose, AllLasting, Unfrozen, PageStands, IsSound, act_of_kind, insertion_of_kind}
+use Rattle.tb_builder.specs.Owned.{ids_of}
+use Rattle.tb_builder.specs.Running.{CourseStands, Underway, places_by, frozen_with, page_frozen, is_loose, AllLoose, AllLasting, PageStands, IsSound, act_of_kind}
 use Rattle.tb_builder.specs.Next.{Stays}
-use Rattle.tb_builder.specs.Turn.{Moves, Shifted, Turns, TurnIs}
-use Rattle.tb_builder.proofs.MoveLemmas.{Written, written_shift, written_drop}
-use Rattle.tb_builder.proofs.FillLemmas.{moves_from, shifted_from, page_from, waiting_from}
-use Rattle.tb_builder.proofs.CourseLemmas.{shape_is, no_act, loose_shape, loose_act}
+use Rattle.tb_builder.specs.Turn.{Moves, TurnIs}
+use Rattle.tb_builder.proofs.MoveLemmas.{Written}
+use Rattle.tb_builder.proofs.FillLemmas.{moves_from, page_from, waiting_from}
+use Rattle.tb_builder.proofs.CourseLemmas.{shape_is, no_act}
 use Rattle.tb_builder.proofs.TurnLemmas.{Same, same_frozen, same_keeps, lasts_turn, drops_turn, lasting-append, loose-append, holds_same, lasting_places}
-use Rattle.tb_builder.proofs.FreezeLemmas.{frozen_course, plain_insertion, underway_stays, course_loose, lasts_loose, loose_node, no_inner, gone_at}
+use Rattle.tb_builder.proofs.FreezeLemmas.{underway_stays, course_loose, lasts_loose, gone_at}
 
 -- a page that is underway, with the goal that is frozen
 pub stands_some : (o : Option (ℤ × ℤ)) (f : ℤ × ℤ) (st : Bool) (k : Course) (c : Contents) (ask : Ask) → o ≡ Some f → c.frozen ≡ Some f → st ≡ false → Underway (frozen_of c ask) k c.page c.waiting → PageStands o st k c
@@ -42,6 +35,10 @@ stays_from b d s t ask m f =
     let same : Same (contents_of b s) (contents_of d t) ask = record { classes = m.classes; boxes = m.boxes; frozen = f } in
     record { classes = m.classes; boxes = m.boxes; held = m.held; frozen_so = same_frozen (contents_of b s) (contents_of d t) ask same; keeps = same_keeps (contents_of b s) (contents_of d t) ask same }
 
+-- the list behind the first node is shorter
+pub shorter_by : {n : PlainNode} {xs ys : List PlainNode} → xs ≡ n ∷ ys → length ys < length xs
+shorter_by {n} {xs} {ys} e = let l : length xs ≡ length (n ∷ ys) = ap length e in omega arith
+
 -- ---- a node that takes no room goes on the page
 
 -- the turn, where the course stands for the page with the node
@@ -49,7 +46,7 @@ module _ (b d : Builder) (s t : Lists Node) (ask : Ask) (n : Node) (ns : List No
     (sound : IsSound b s) (on : d.stopped ≡ false) (same : ids_of d ≡ ids_of b) (first : list_at s b.waiting ≡ n ∷ ns)
     (w : Written (ids_of b) s t (list_at s b.page ++ n ∷ []) ns) (room : s.spare ≤ t.spare) (opened : d.opened ≡ b.opened) (shape : shape_of n ≡ other) (none : act_of_kind n.kind ≡ None) where
   moves : Moves b s d t
-  moves = moves_from b d s t (list_at s b.page ++ n ∷ []) ns same sound.own w room
+  moves = moves_from b d s t (list_at s b.page ++ n ∷ []) ns same sound.own w
 
   plain_shape : node_shape (plain_of (list_at s) n) ≡ other
   plain_shape = shape_is (list_at s) n ∙ shape
@@ -73,7 +70,8 @@ module _ (b d : Builder) (s t : Lists Node) (ask : Ask) (n : Node) (ns : List No
     };
     others = moves.others;
     keeps = moves.keeps;
-    room = λ e o. room;
+    room = λ e o. (sym opened ∙ o, room);
+    shorter = λ e. shorter_by waits;
     stays = stays_from b d s t ask moves f;
     turned = lasts_turn (contents_of b s) (contents_of d t) ask (plain_of (list_at s) n) waits paged (stays_from b d s t ask moves f).frozen_so on plain_shape plain_act;
   }
@@ -86,8 +84,8 @@ module _ (b d : Builder) (s t : Lists Node) (ask : Ask) (n : Node) (ns : List No
       let frozen = is ∙ ap Some e in
       let st = stays_from b d s t ask moves (inr frozen) in
       lasts_in (inr frozen) (stands_some d.frozen f d.stopped d.course (contents_of d t) ask is is on
-          (subst (λ z. Underway z d.course (contents_of d t).page (contents_of d t).waiting) (sym st.frozen_so)
-          (underway_stays (frozen_of (contents_of b s) ask) k d.course (contents_of b s) (contents_of d t) (plain_of (list_at s) n) waits paged plain_shape plain_act u h)))
+      (subst (λ z. Underway z d.course (contents_of d t).page (contents_of d t).waiting) (sym st.frozen_so)
+      (underway_stays (frozen_of (contents_of b s) ask) k d.course (contents_of b s) (contents_of d t) (plain_of (list_at s) n) waits paged plain_shape plain_act u h)))
 
   -- a mark, a note or a whatsit went on the page
   loose_by : (o : Option (ℤ × ℤ)) → b.frozen ≡ o → d.frozen ≡ o → b.stopped ≡ false → is_loose (plain_of (list_at s) n).kind ≡ true → d.course.scan ≡ b.course.scan → d.course.account ≡ b.course.account → d.course.best_goal ≡ b.course.best_goal → d.course.lasting ≡ true
@@ -101,7 +99,7 @@ module _ (b d : Builder) (s t : Lists Node) (ask : Ask) (n : Node) (ns : List No
       stands_some d.frozen f d.stopped d.course (contents_of d t) ask g g on
       (subst (λ z. Underway z d.course (contents_of d t).page (contents_of d t).waiting) (sym ((stays_from b d s t ask moves (inl (g ∙ sym e))).frozen_so ∙ ap (λ x. frozen_or x ask (contents_of b s).classes (contents_of b s).boxes) e))
       (underway_stays (page_frozen f (contents_of b s).classes (contents_of b s).boxes) b.course d.course (contents_of b s) (contents_of d t) (plain_of (list_at s) n) waits paged plain_shape plain_act st
-        (course_loose (page_frozen f (contents_of b s).classes (contents_of b s).boxes) b.course d.course (contents_of b s).page _ (plain_of (list_at s) n) st.course loose scan account goal lasting)))
+      (course_loose (page_frozen f (contents_of b s).classes (contents_of b s).boxes) b.course d.course (contents_of b s).page _ (plain_of (list_at s) n) st.course loose scan account goal lasting)))
 
   pub passed_loose : d.frozen ≡ b.frozen → b.stopped ≡ false → is_loose (plain_of (list_at s) n).kind ≡ true → d.course.scan ≡ b.course.scan → d.course.account ≡ b.course.account → d.course.best_goal ≡ b.course.best_goal → d.course.lasting ≡ true → TurnIs b s ask None d t
   passed_loose same_frozen on' loose scan account goal lasting =
@@ -113,7 +111,7 @@ module _ (b d : Builder) (s t : Lists Node) (ask : Ask) (n : Node) (ns : List No
     (sound : IsSound b s) (same : ids_of d ≡ ids_of b) (first : list_at s b.waiting ≡ n ∷ ns) (frozen : d.frozen ≡ b.frozen) (stopped : d.stopped ≡ b.stopped) (on : b.stopped ≡ false) (course : d.course ≡ b.course)
     (opened : d.opened ≡ b.opened) (closed : b.opened ≡ false) (w : Written (ids_of b) s t (list_at s b.page) ns) (room : s.spare ≤ t.spare) where
   dropped_moves : Moves b s d t
-  dropped_moves = moves_from b d s t (list_at s b.page) ns same sound.own w room
+  dropped_moves = moves_from b d s t (list_at s b.page) ns same sound.own w
 
   dropped_waits : (contents_of b s).waiting ≡ plain_of (list_at s) n ∷ (contents_of d t).waiting
   dropped_waits = ap (map (plain_of (list_at s))) first ∙ ap (λ ms. plain_of (list_at s) n ∷ ms) (sym (waiting_from b d s t (list_at s b.page) ns same sound.own w))
@@ -146,7 +144,8 @@ module _ (b d : Builder) (s t : Lists Node) (ask : Ask) (n : Node) (ns : List No
     };
     others = dropped_moves.others;
     keeps = dropped_moves.keeps;
-    room = λ e o. room;
+    room = λ e o. (sym opened ∙ o, room);
+    shorter = λ e. shorter_by dropped_waits;
     stays = stays_from b d s t ask dropped_moves (inl frozen);
     turned = drops_turn (contents_of b s) (contents_of d t) ask (plain_of (list_at s) n) dropped_waits dropped_page (stays_from b d s t ask dropped_moves (inl frozen)).frozen_so (stopped ∙ on) (sym sound.opened ∙ closed) (sound.closed closed)
         (gone_at (list_at s) ask.top_skip n.line n.kind (contents_of d t).waiting gone);

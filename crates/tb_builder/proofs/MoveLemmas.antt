@@ -1,19 +1,14 @@
 -- Nodes go from what waits to the page, or vanish: the lists stay the builder's, and its contents change there alone.
-use Rattle.std.proofs.Common.{◌≡◌, ◌≢◌, refl, sym, subst, ◌∙◌, ap, ℕ, Bool, true, false, List, [], ◌∷◌, ◌++◌, length, map, Option, Some, None, is_some, unwrap_or, append_assoc, append-nil}
+use Rattle.std.proofs.Common.{◌≡◌, ◌≢◌, sym, subst, ◌∙◌, ap, ℕ, true, List, [], ◌∷◌, ◌++◌, map, None, is_some, unwrap_or, append_assoc}
 use Rattle.std.specs.Prelude.{option_to_list}
-use Rattle.std.specs.FinMap.{FinMap, get, insert}
-use Rattle.std.specs.Ordering.{nat_cmp}
-use Rattle.std.proofs.lemmas.List.{map-append}
+use Rattle.std.specs.FinMap.{get, insert}
 use Rattle.tb_pool.specs.Lists.{Lists, IsLive, list_at, with_list}
 use Rattle.tb_pool.proofs.MapLemmas.{get-insert_same, get-insert_other}
 use Rattle.tb_node.specs.declared.Node.{Node}
-use Rattle.tb_node.specs.Plain.{PlainNode, plain_of}
-use Rattle.tb_insert.specs.declared.Class.{Class}
-use Rattle.tb_builder.specs.declared.ClassList.{ClassList}
-use Rattle.tb_builder.specs.Fired.{Boxed}
-use Rattle.tb_builder.specs.Owned.{Lacks, AllDiffer, AllLive, inner_of, inner_ids, Ids, nodes_of, box_ids, own_ids, owned, HoldPlain, VoidEmpty, is_known, AllKnown, classes_of, IsOwned}
+use Rattle.tb_node.specs.Plain.{plain_of}
+use Rattle.tb_builder.specs.Owned.{Lacks, AllDiffer, AllLive, inner_of, inner_ids, Ids, nodes_of, box_ids, own_ids, owned, HoldPlain, is_known, AllKnown, classes_of, IsOwned}
 use Rattle.tb_builder.specs.Contents.{boxed_of, plain_list}
-use Rattle.tb_builder.proofs.OwnedLemmas.{Apart, AllSame, lacks-append, lacks-left, lacks-right, differ-left, differ-right, differ-apart, same_from, lists_same, live_same, plain_same, void_same, boxes_same, view_same, inner-append, same-left, same-right, live-left, live-right, plain-left, plain-right, known-append, known-left, known-right}
+use Rattle.tb_builder.proofs.OwnedLemmas.{Apart, AllSame, same_from, lists_same, live_same, plain_same, void_same, boxes_same, view_same, inner-append, same-left, same-right, known-append, known-left, known-right}
 
 module _ {T : Type 0} where
   pub list_same : (s t : Lists T) (l : ℕ) (xs : List T) → t.lists ≡ with_list s l xs → list_at t l ≡ xs

@@ -1,10 +1,8 @@
 -- The lists of a builder, while nodes go from one to another.
-use Rattle.std.proofs.Common.{◌≡◌, ◌≢◌, ◌⊎◌, inl, inr, refl, sym, subst, ◌∙◌, ap, ℕ, Bool, true, false, List, [], ◌∷◌, ◌++◌, length, map, Option, Some, None, is_some, unwrap_or, append_assoc, append-nil}
+use Rattle.std.proofs.Common.{◌≡◌, refl, sym, subst, ◌∙◌, ap, ℕ, List, [], ◌∷◌, ◌++◌, map, is_some, unwrap_or, append_assoc}
 use Rattle.std.specs.Prelude.{option_to_list}
-use Rattle.std.specs.FinMap.{get, insert}
-use Rattle.std.proofs.lemmas.List.{map-append}
-use Rattle.std.proofs.lemmas.Bool.{true≢false, cases_eq}
-use Rattle.tb_pool.specs.Lists.{Lists, IsLive, list_at, with_list}
+use Rattle.std.specs.FinMap.{get}
+use Rattle.tb_pool.specs.Lists.{Lists, list_at}
 use Rattle.tb_node.specs.declared.Node.{Node}
 use Rattle.tb_node.specs.declared.Insertion.{Insertion}
 use Rattle.tb_node.specs.declared.Kind.{Kind}
@@ -12,8 +10,7 @@ use Rattle.tb_node.specs.declared.Kind.TheVariants as kinds
 use Rattle.tb_node.specs.Plain.{PlainNode, plain_of, ins, leaf_of}
 use Rattle.tb_insert.specs.declared.Class.{Class}
 use Rattle.tb_builder.specs.declared.ClassList.{ClassList}
-use Rattle.tb_builder.specs.declared.Builder.{Builder}
-use Rattle.tb_builder.specs.Owned.{Lacks, AllDiffer, AllLive, inner_of, inner_ids, nodes_of, box_ids, own_ids, owned, AllPlain, HoldPlain, VoidEmpty, is_known, AllKnown, classes_of, IsOwned}
+use Rattle.tb_builder.specs.Owned.{Lacks, AllDiffer, AllLive, inner_of, inner_ids, box_ids, AllPlain, HoldPlain, VoidEmpty, AllKnown}
 use Rattle.tb_builder.specs.Fired.{Boxed}
 use Rattle.tb_builder.specs.Contents.{content_by, boxed_of}
 

@@ -9,6 +9,7 @@ use Rattle.tb_node.specs.Small.{IsAmount}
 use Rattle.tb_node.specs.Sums.{room_of, size_of}
 use Rattle.tb_node.proofs.AddLemmas.{size-append}
 use Rattle.tb_builder.specs.Next.{SizesFit, IsRoom}
+use Rattle.tb_builder.specs.Room.{IsWide, RoomFits}
 
 -- the total is the room of what stands before the rest of a list
 pub record Sized (all rest : List Node) (total : ℤ) : Type 0 where
@@ -19,26 +20,17 @@ pub record Sized (all rest : List Node) (total : ℤ) : Type 0 where
 pub sized_begins : (all : List Node) → Sized all all (pos 0)
 sized_begins all = record { before = []; whole = refl; total_is = refl }
 
-apart : (a r b : ℤ) → IsAmount a → IsAmount b → b ≡ a +ℤ r → IsRoom r
-apart a r b p q e = record { low = omega (arith, ints); high = omega (arith, ints) }
-
 module _ (all : List Node) (n : Node) (rest : List Node) (total : ℤ) (s : Sized all (n ∷ rest) total) where
   with_it : size_of (map shape_of (s.before ++ n ∷ [])) ≡ size_of (map shape_of s.before) +ℤ room_of (shape_of n)
   with_it = ap size_of (map-append shape_of s.before (n ∷ [])) ∙ size-append (map shape_of s.before) (shape_of n)
 
-  pub sized_room : SizesFit (map shape_of all) → IsRoom (room_of (shape_of n))
-  sized_room fit =
-      apart (size_of (map shape_of s.before)) (room_of (shape_of n)) (size_of (map shape_of (s.before ++ n ∷ [])))
-      (fit (map shape_of s.before) (map shape_of (n ∷ rest)) (sym (map-append shape_of s.before (n ∷ rest)) ∙ ap (map shape_of) s.whole))
-      (fit (map shape_of (s.before ++ n ∷ [])) (map shape_of rest) (sym (map-append shape_of (s.before ++ n ∷ []) rest) ∙ ap (map shape_of) (append_assoc s.before (n ∷ []) rest ∙ s.whole)))
-      with_it
+  pub sized_room : RoomFits (map shape_of all) → IsRoom (room_of (shape_of n))
+  sized_room fit = fit.each (map shape_of s.before) (shape_of n) (map shape_of rest) (sym (map-append shape_of s.before (n ∷ rest)) ∙ ap (map shape_of) s.whole)
 
-  pub sized_sum : SizesFit (map shape_of all) → IsRoom (total +ℤ room_of (shape_of n))
-  sized_sum fit = amount_room (total +ℤ room_of (shape_of n))
-      (subst IsAmount (with_it ∙ ap (λ t. t +ℤ room_of (shape_of n)) (sym s.total_is)) (fit (map shape_of (s.before ++ n ∷ [])) (map shape_of rest) (sym (map-append shape_of (s.before ++ n ∷ []) rest) ∙ ap (map shape_of) (append_assoc s.before (n ∷ []) rest ∙ s.whole))))
-    where
-      amount_room : (z : ℤ) → IsAmount z → IsRoom z
-      amount_room z h = record { low = omega (arith, ints); high = omega (arith, ints) }
+  pub sized_sum : RoomFits (map shape_of all) → IsWide (total +ℤ room_of (shape_of n))
+  sized_sum fit =
+      subst IsWide (with_it ∙ ap (λ t. t +ℤ room_of (shape_of n)) (sym s.total_is))
+      (fit.prefixes (map shape_of (s.before ++ n ∷ [])) (map shape_of rest) (sym (map-append shape_of (s.before ++ n ∷ []) rest) ∙ ap (map shape_of) (append_assoc s.before (n ∷ []) rest ∙ s.whole)))
 
   pub sized_next : Sized all rest (total +ℤ room_of (shape_of n))
   sized_next = record {
@@ -49,3 +41,22 @@ module _ (all : List Node) (n : Node) (rest : List Node) (total : ℤ) (s : Size
 
 pub sized_ends : (all : List Node) (total : ℤ) → Sized all [] total → total ≡ size_of (map shape_of all)
 sized_ends all total s = s.total_is ∙ ap (λ ns. size_of (map shape_of ns)) (sym (append-nil s.before) ∙ s.whole)
+
+-- ---- lists of which each prefix is an amount
+
+apart : (a r b : ℤ) → IsAmount a → IsAmount b → b ≡ a +ℤ r → IsRoom r
+apart a r b p q e = record { low = omega (arith, ints); high = omega (arith, ints) }
+
+amount_wide : (z : ℤ) → IsAmount z → IsWide z
+amount_wide z h = record { low = omega (arith, ints); high = omega (arith, ints) }
+
+-- where each prefix is an amount, the room of each node fits
+pub room_fits : (ns : List Shape) → SizesFit ns → RoomFits ns
+room_fits ns fit = record {
+  each = λ before n rest e.
+      apart (size_of before) (room_of n) (size_of (before ++ n ∷ []))
+      (fit before (n ∷ rest) e)
+      (fit (before ++ n ∷ []) rest (append_assoc before (n ∷ []) rest ∙ e))
+      (size-append before n);
+  prefixes = λ before rest e. amount_wide (size_of before) (fit before rest e);
+}

@@ -1,28 +1,25 @@
 -- A node that waits goes on a page that is laid out, or its place is tried.
-use Rattle.std.proofs.Common.{◌≡◌, refl, sym, subst, ◌∙◌, ap, ℕ, ℤ, pos, Bool, true, false, List, [], ◌∷◌, ◌++◌, length, Option, None, Some, append_assoc, append-nil}
-use Rattle.std.specs.Prelude.{not, map, drop, ◌<ℤ◌, negsuc, int_le, ◌||◌}
+use Rattle.std.proofs.Common.{◌≡◌, refl, sym, subst, ◌∙◌, ap, ℕ, ℤ, Bool, true, false, List, [], ◌∷◌, ◌++◌, Option, None, Some, append_assoc}
+use Rattle.std.specs.Prelude.{map, drop, negsuc, int_le, ◌||◌}
 use Rattle.std.proofs.lemmas.Bool.{true≢false}
 use Rattle.tb_scaled.specs.Scaled.{awful_bad}
 use Rattle.tb_node.specs.declared.Node.{Node}
-use Rattle.tb_node.specs.Shape.{is_discardable}
-use Rattle.tb_node.specs.Plain.{PlainNode, plain_of, node_shape, shape_of, is_act_kind, is_insertion_kind}
-use Rattle.tb_node.specs.Small.{IsAmount, IsSmall}
+use Rattle.tb_node.specs.Plain.{PlainNode, plain_of, node_shape, shape_of, is_act_kind}
+use Rattle.tb_node.specs.Small.{IsSmall}
 use Rattle.tb_node.specs.Add.{added_node}
 use Rattle.tb_break.specs.Legal.{ends_lasting}
 use Rattle.tb_break.specs.Best.{Breakpoint, is_stop, least_cost}
 use Rattle.tb_break.specs.Scan.{Scanned}
 use Rattle.tb_break.specs.Finding.{penalty_by}
 use Rattle.tb_insert.specs.Account.{Frozen, terms_after}
-use Rattle.tb_insert.specs.Running.{goal_of, penalties_in}
-use Rattle.tb_insert.specs.Arrived.{PageFits}
 use Rattle.tb_insert.proofs.TermLemmas.{scan_plain}
 use Rattle.tb_builder.specs.declared.Course.{Course}
 use Rattle.tb_builder.specs.declared.Try.{Try}
-use Rattle.tb_builder.specs.Reached.{tried, Reach, also_reached, page_place, reach_from, reach_at_place, breakpoints, try_of}
+use Rattle.tb_builder.specs.Reached.{tried, Reach, also_reached, reach_from, breakpoints, try_of}
 use Rattle.tb_builder.specs.Places.{page_shapes, glue_first, node_penalty, page_places, NoStop}
 use Rattle.tb_builder.specs.Contents.{Contents}
-use Rattle.tb_builder.specs.Running.{CourseStands, Underway, places_by, act_of_kind, insertion_of_kind, nodes_glue_first}
-use Rattle.tb_builder.specs.Offer.{OfferIs, place_here}
+use Rattle.tb_builder.specs.Running.{CourseStands, Underway, places_by, act_of_kind, nodes_glue_first}
+use Rattle.tb_builder.specs.Offer.{OfferIs, TermsFit, place_here}
 use Rattle.tb_builder.specs.Next.{stopped_with}
 use Rattle.tb_builder.specs.Turn.{Shifted, reach_on, places_on, Passes, GoesOn, StopsThere, TriesOn, StepFits, StepIs}
 use Rattle.tb_builder.proofs.CourseLemmas.{shape_is, no_act, no_insertion, penalty_is, first_glue_is}
@@ -39,11 +36,8 @@ module _ (z : Frozen) (k : Course) (page : List PlainNode) (bs : List Breakpoint
   step_sums = subst (λ x. IsSmall (added_node k.scan.max_depth k.scan.sums x)) (shape_is held n)
       (subst IsSmall (sym (scan_plain z page k.scan (record k.scan { sums = added_node k.scan.max_depth k.scan.sums (node_shape (plain_of held n)) }) (plain_of held n) (no_insertion held n.kind f.no_insertion) h.scan refl).sums) f.there.sums)
 
-  pub step_goal : IsAmount (goal_of k.account)
-  step_goal = subst IsAmount (sym h.account.goal) f.here.goal
-
-  pub step_penalties : IsAmount (penalties_in k.account)
-  step_penalties = subst IsAmount (sym h.account.penalties) f.here.penalties
+  pub step_terms : TermsFit k
+  step_terms = record { z = z; page = page; marked = h.marked; account = h.account; goal = f.here.goal; penalties = f.here.penalties }
 
 -- ---- a step
 

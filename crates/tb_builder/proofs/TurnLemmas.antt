@@ -1,36 +1,28 @@
 -- A turn of the builder, from the steps of a page that is laid out.
-use Rattle.std.proofs.Common.{◌≡◌, ◌⊎◌, inl, inr, refl, sym, subst, ◌∙◌, ap, ℕ, ℤ, pos, Bool, true, false, List, [], ◌∷◌, ◌++◌, length, Option, None, Some, IsSome, append_assoc, append-nil}
-use Rattle.std.specs.Prelude.{not, ◌||◌, if◌then◌else◌, map}
-use Rattle.std.specs.List.{list_any}
-use Rattle.std.proofs.lemmas.List.{map-append}
+use Rattle.std.proofs.Common.{◌≡◌, ◌⊎◌, inl, inr, refl, sym, ◌∙◌, ap, ℕ, ℤ, Bool, true, false, List, [], ◌∷◌, ◌++◌, Option, None, Some, append_assoc, append-nil}
+use Rattle.std.specs.Prelude.{◌||◌, if◌then◌else◌}
 use Rattle.std.proofs.lemmas.Bool.{true≢false}
-use Rattle.tb_scaled.specs.declared.Glue.{Glue}
 use Rattle.tb_node.specs.declared.Act.{Act}
-use Rattle.tb_node.specs.Shape.{Shape, box, glue, kern, penalty, other, is_box, is_discardable}
-use Rattle.tb_node.specs.Plain.{Matter, hbox, rule, skip, kerned, pen, mark, note, whatsit, Inserted, PlainKind, plain, ins, act, PlainNode, node_shape, kind_shape, is_act_kind, is_insertion_kind}
-use Rattle.tb_break.specs.Legal.{ends_lasting, begins_with_glue}
-use Rattle.tb_break.specs.Best.{Breakpoint, is_stop, least_cost}
-use Rattle.tb_break.specs.Finding.{penalty_by}
+use Rattle.tb_node.specs.Shape.{other, is_box, is_discardable}
+use Rattle.tb_node.specs.Plain.{hbox, rule, skip, kerned, pen, mark, note, whatsit, PlainKind, plain, ins, act, PlainNode, node_shape, is_act_kind}
+use Rattle.tb_break.specs.Legal.{ends_lasting}
+use Rattle.tb_break.specs.Best.{Breakpoint, least_cost}
 use Rattle.tb_break.specs.Split.{with_place}
-use Rattle.tb_break.specs.Prune.{pruned_nodes, pruned_at, top_glue}
-use Rattle.tb_break.proofs.FindLemmas.{ends_with}
+use Rattle.tb_break.specs.Prune.{pruned_nodes, pruned_at}
 use Rattle.tb_insert.specs.Terms.{Terms}
 use Rattle.tb_insert.specs.declared.Class.{Class}
 use Rattle.tb_insert.specs.Account.{Frozen, terms_after}
-use Rattle.tb_insert.proofs.StandsLemmas.{stands-plain}
-use Rattle.tb_insert.proofs.TermLemmas.{scan_loose}
 use Rattle.tb_builder.specs.declared.Ask.{Ask}
 use Rattle.tb_builder.specs.declared.Try.{Try}
 use Rattle.tb_builder.specs.declared.Course.{Course}
-use Rattle.tb_builder.specs.declared.Event.TheVariants as events
-use Rattle.tb_builder.specs.Reached.{acted, tried, Reach, also_reached, reach_from, holds_box, page_place, breakpoints, try_of}
+use Rattle.tb_builder.specs.Reached.{acted, tried, also_reached, reach_from, holds_box, page_place, breakpoints, try_of}
 use Rattle.tb_builder.specs.Fired.{Boxed}
-use Rattle.tb_builder.specs.Places.{page_shapes, glue_first, glue_or, node_penalty, page_places, NoStop}
-use Rattle.tb_builder.specs.Contents.{Contents, frozen_or, frozen_of, ahead_of, laid, reach_ahead, reach_whole, places_of}
-use Rattle.tb_builder.specs.Running.{CourseStands, Underway, AtStop, places_by, zed, frozen_at, page_frozen, frozen_with, is_loose, AllLoose, AllLasting, Unfrozen, PageStands}
-use Rattle.tb_builder.specs.Next.{Goes, Stops, TriedIs, stopped_with, Without, ActedIs, nothing_reached, EmptyIs}
-use Rattle.tb_builder.specs.Turn.{Shifted, reach_on, places_on, Passes, GoesOn, StopsThere, TriesOn, Turns}
-use Rattle.tb_builder.proofs.CourseLemmas.{champion_grows, acts-append, loose_shape}
+use Rattle.tb_builder.specs.Places.{page_shapes, glue_first, glue_or, node_penalty, page_places}
+use Rattle.tb_builder.specs.Contents.{Contents, frozen_or, frozen_of, ahead_of, laid, reach_ahead, places_of}
+use Rattle.tb_builder.specs.Running.{places_by, frozen_at, frozen_with, is_loose, AllLoose, AllLasting}
+use Rattle.tb_builder.specs.Next.{Goes, Stops, ActedIs, EmptyIs}
+use Rattle.tb_builder.specs.Turn.{reach_on, places_on, Passes, GoesOn, StopsThere, Turns}
+use Rattle.tb_builder.proofs.CourseLemmas.{loose_shape}
 use Rattle.tb_builder.proofs.PageLemmas.{places_pass, reach_pass, reach_acts, glue_acts}
 
 -- ---- boxes on a page
@@ -185,13 +177,14 @@ module _ (z : Frozen) (ask : Ask) (c m : Contents) (lays : Lays z ask c m) where
     stopped = on;
   }
 
-  pub stops_there : (line : ℕ) (b : Breakpoint) (k : Course) (d : Contents) → StopsThere z line b k m d → frozen_of d ask ≡ z → Stops (laid c ask) (reach_ahead c ask) (places_of c ask) ask line b d
-  stops_there line b k d s f = record {
+  pub stops_there : (line : ℕ) (b : Breakpoint) (k : Course) (d : Contents) → StopsThere z line b k m d → frozen_of d ask ≡ z → laid d ask ≡ d.page ++ d.waiting → Stops (laid c ask) (reach_ahead c ask) (places_of c ask) ask line b d
+  stops_there line b k d s f l = record {
     reach = lays.reach_is ∙ s.reach;
     reached = ap (λ x. breakpoints (reach_from x.limit (terms_after x) [] (d.page ++ d.waiting)).reached) f ∙ s.reached ∙ ap (λ bs. bs ++ b ∷ []) (sym lays.places_is);
     passed = ap (λ x. (reach_from x.limit (terms_after x) [] (d.page ++ d.waiting)).passed) f ∙ s.passed;
     beyond = ap (λ x. (reach_from x.limit (terms_after x) [] (d.page ++ d.waiting)).beyond) f ∙ s.beyond;
     whole = (λ i. s.page i ++ s.waiting i) ∙ sym lays.laid_is;
+    still = l ∙ (λ i. s.page i ++ s.waiting i) ∙ sym lays.laid_is;
     stopped = s.stopped;
   }
 

@@ -29,6 +29,7 @@ pub record Contents : Type 0 where
 abbrev pub void_box : Class → Boxed
 void_box c = record { number = c.number; content = None }
 
+-- what a new builder holds
 abbrev pub nothing_yet : List Class → Contents
 nothing_yet cs = record { classes = cs; boxes = map void_box cs; page = []; waiting = []; held = []; frozen = None; stopped = false }
 
@@ -42,10 +43,12 @@ plain_list store l = map (plain_of (list_at store)) (list_at store l)
 abbrev pub leaf_list : Lists Node → ℕ → List Leaf
 leaf_list store l = map leaf_of (list_at store l)
 
+-- a box by whether it is void
 abbrev pub content_by : Bool → List Leaf → Option (List Leaf)
 content_by true ls = None
 content_by false ls = Some ls
 
+-- the box of a class as the definitions see it
 abbrev pub boxed_of : Lists Node → ClassList → Boxed
 boxed_of store e = record { number = e.class.number; content = content_by e.void (leaf_list store e.list) }
 
@@ -68,6 +71,7 @@ abbrev pub frozen_or : Option (ℤ × ℤ) → Ask → List Class → List Boxed
 frozen_or None ask cs boxes = record { goal = ask.goal; limit = ask.max_depth; classes = class_boxes cs boxes }
 frozen_or (Some f) ask cs boxes = record { goal = f.0; limit = f.1; classes = class_boxes cs boxes }
 
+-- the same of these contents
 abbrev pub frozen_of : Contents → Ask → Frozen
 frozen_of c ask = frozen_or c.frozen ask c.classes c.boxes
 
@@ -99,10 +103,12 @@ kind_count (plain m) = 1
 kind_count (ins i) = 1 + length i.inner
 kind_count (act a) = 1
 
+-- the nodes of a list, those of insertions too
 abbrev pub node_count : List PlainNode → ℕ
 node_count [] = 0
 node_count (n ∷ ns) = kind_count n.kind + node_count ns
 
+-- the nodes in class boxes
 abbrev pub box_count : List Boxed → ℕ
 box_count [] = 0
 box_count (b ∷ bs) = length (content_of b.content) + box_count bs

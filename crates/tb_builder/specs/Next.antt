@@ -1,13 +1,14 @@
 -- What the page builder answers, and what it asks of what it is given.
-use Rattle.std.specs.Prelude.{◌≡◌, ℕ, ℤ, pos, neg_ℤ, ◌<ℤ◌, ◌≤ℤ◌, Bool, true, false, List, [], ◌∷◌, ◌++◌, map, take, length, Option, Some, None}
-use Rattle.tb_pool.specs.Lists.{Lists, IsLive}
+use Rattle.std.specs.Prelude.{◌≡◌, ℕ, ℤ, pos, neg_ℤ, ◌<ℤ◌, ◌≤ℤ◌, Bool, true, false, List, [], ◌∷◌, ◌++◌, map, take, length, Some, None}
+use Rattle.std.specs.FinMap.{get}
+use Rattle.tb_pool.specs.Lists.{Lists, IsLive, list_at}
 use Rattle.tb_node.specs.declared.Node.{Node}
 use Rattle.tb_node.specs.declared.Act.{Act}
 use Rattle.tb_node.specs.Fit.{NodesFit, SumsFit}
 use Rattle.tb_node.specs.Small.{IsAmount, IsSmallShape}
 use Rattle.tb_node.specs.Shape.{Shape}
 use Rattle.tb_node.specs.Sums.{size_of}
-use Rattle.tb_node.specs.Plain.{Leaf, leaf_shape, Inserted, PlainKind, plain, ins, act, PlainNode, node_shape}
+use Rattle.tb_node.specs.Plain.{leaf_shape, Inserted, PlainKind, plain, ins, act, PlainNode, node_shape}
 use Rattle.tb_break.specs.Best.{Breakpoint, is_stop, least_cost}
 use Rattle.tb_insert.specs.Account.{Frozen, labelled}
 use Rattle.tb_insert.specs.Arrived.{PageFits}
@@ -16,8 +17,9 @@ use Rattle.tb_builder.specs.declared.Try.{Try}
 use Rattle.tb_builder.specs.declared.Page.{Page}
 use Rattle.tb_builder.specs.declared.Event.{Event}
 use Rattle.tb_builder.specs.declared.Event.TheVariants as events
-use Rattle.tb_builder.specs.Reached.{Reached, acted, tried, Reach, also_reached, try_of, breakpoints}
+use Rattle.tb_builder.specs.Reached.{acted, tried, Reach, also_reached, try_of, breakpoints}
 use Rattle.tb_builder.specs.Fired.{Boxed, content_of, Fired, page_break, fired_by}
+use Rattle.tb_builder.specs.Owned.{Lacks, inner_ids, Ids, owned}
 use Rattle.tb_builder.specs.Contents.{Contents, plain_list, frozen_of, laid, reach_ahead, reach_whole, places_of}
 
 -- ---- what is asked
@@ -31,6 +33,7 @@ pub record IsRoom (z : ℤ) : Type 0 where
   pub low : neg_ℤ (pos 2305843009213693952) <ℤ z
   pub high : z <ℤ pos 2305843009213693952
 
+-- the goal, the depth limit and the top skip fit, and the limit is not below 0
 pub record AskFits (ask : Ask) : Type 0 where
   pub goal : IsAmount ask.goal
   pub depth : IsAmount ask.max_depth
@@ -46,11 +49,13 @@ pub record InsertedFits (i : Inserted) : Type 0 where
   pub depth_low : pos 0 ≤ℤ i.split_depth
   pub top : IsAmount i.split_top
 
+-- the list of an insertion can be split
 abbrev pub KindFits : PlainKind → Type 0
 KindFits (plain m) = Unit {0}
 KindFits (ins i) = InsertedFits i
 KindFits (act a) = Unit {0}
 
+-- the amounts of a node fit
 pub record NodeFits (n : PlainNode) : Type 0 where
   pub small : IsSmallShape (node_shape n)
   pub kind_fits : KindFits n.kind
@@ -100,6 +105,7 @@ pub record Stops (ns : List PlainNode) (w : Reach) (bs : List Breakpoint) (ask :
   pub passed : (reach_whole d ask).passed ≡ d.page
   pub beyond : (reach_whole d ask).beyond ≡ d.waiting
   pub whole : d.page ++ d.waiting ≡ ns
+  pub still : laid d ask ≡ ns
   pub stopped : d.stopped ≡ true
 
 -- a legal place was tried, the first of what is reached; its cost is compared with the least of the page's earlier places
@@ -129,6 +135,7 @@ pub record ActedIs (a : Act) (ns : List PlainNode) (w : Reach) (bs : List Breakp
 abbrev pub nothing_reached : List PlainNode → Reach
 nothing_reached page = record { reached = []; passed = page; beyond = []; fires = false }
 
+-- nothing is left to be reached, and no node waits
 pub record EmptyIs (ns : List PlainNode) (w : Reach) (bs : List Breakpoint) (ask : Ask) (d : Contents) : Type 0 where
   pub reach : w ≡ nothing_reached d.page
   pub waiting : d.waiting ≡ []
@@ -161,15 +168,24 @@ pub record PageIs (p : Page) (f : Fired) (s : Lists Node) : Type 0 where
   pub line : p.line ≡ f.line
   pub held : p.held ≡ length f.held
 
+-- the page is the one that fires, and the contents are those after it
 pub record FiredIs (p : Page) (c : Contents) (ask : Ask) (d : Contents) (s : Lists Node) : Type 0 where
   pub page : PageIs p (fired_page c ask) s
   pub after : d ≡ after_fired c (fired_page c ask)
 
+-- the event is the page that fires
 abbrev pub FiresWith : Event → Contents → Ask → Contents → Lists Node → Type 0
 FiresWith (events.Try t) c ask d s = ⊥
 FiresWith (events.Act a) c ask d s = ⊥
 FiresWith (events.Fired p) c ask d s = FiredIs p c ask d s
 FiresWith events.Empty c ask d s = ⊥
+
+-- the body of a page that fires is a list that was opened for it, without insertions, and none of the builder's
+abbrev pub IsGivenOut : Event → Lists Node → Ids → Lists Node → Type 0
+IsGivenOut (events.Try t) s b r = Unit {0}
+IsGivenOut (events.Act a) s b r = Unit {0}
+IsGivenOut (events.Fired p) s b r = (get s.lists p.body ≡ None) × (inner_ids (list_at r p.body) ≡ []) × Lacks p.body (owned b r)
+IsGivenOut events.Empty s b r = Unit {0}
 
 -- what `next` answers: after a stop the page that fires, else the first event past the page so far
 abbrev pub NextIs : Bool → Event → Contents → Ask → Contents → Lists Node → Type 0

@@ -1,5 +1,6 @@
 -- What the course of a page is after a place was tried.
 use Rattle.std.specs.Prelude.{◌≡◌, ℕ, ℤ, Bool, true, false, List, [], ◌∷◌, ◌++◌}
+use Rattle.tb_node.specs.Small.{IsAmount}
 use Rattle.tb_node.specs.Plain.{PlainNode}
 use Rattle.tb_break.specs.Best.{Breakpoint, least_cost}
 use Rattle.tb_insert.specs.Account.{Frozen, terms_after}
@@ -13,9 +14,19 @@ use Rattle.tb_builder.specs.Running.{CourseStands}
 abbrev pub place_here : Frozen → List PlainNode → ℤ → Breakpoint
 place_here z page p = page_place z.limit (terms_after z) page p
 
+-- the place at the page's end was tried: what was made of it, and the course then
 pub record OfferIs (z : Frozen) (k : Course) (page : List PlainNode) (bs : List Breakpoint) (t : Try) (line : ℕ) (p : ℤ) : Type 0 where
   pub made : t ≡ try_of line (place_here z page p) (least_cost bs)
   pub course : CourseStands z k page (bs ++ place_here z page p ∷ [])
+
+-- the course stands for a page whose goal and insert penalties are amounts
+pub record TermsFit (k : Course) : Type 0 where
+  pub z : Frozen
+  pub page : List PlainNode
+  pub marked : List PlainNode
+  pub account : AccountStands k.account z page marked
+  pub goal : IsAmount (terms_after z page).goal
+  pub penalties : IsAmount (terms_after z page).penalties
 
 -- the course after a place, by whether that is the best so far
 pub record Marks (z : Frozen) (k l : Course) (page : List PlainNode) (champion : Bool) (goal : ℤ) : Type 0 where

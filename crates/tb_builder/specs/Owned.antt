@@ -1,6 +1,7 @@
 -- The lists that belong to a page builder: its own, and those of the insertions in them.
 use Rattle.std.specs.Prelude.{◌≡◌, ◌≢◌, ◌<◌, ℕ, ◌==◌, Bool, true, false, List, [], ◌∷◌, ◌++◌, map, length, slice_index_or, Option, Some, None, option_to_list}
 use Rattle.std.specs.List.{list_any}
+use Rattle.std.specs.FinMap.{get}
 use Rattle.tb_pool.specs.Lists.{Lists, IsLive, list_at}
 use Rattle.tb_node.specs.declared.Node.{Node}
 use Rattle.tb_node.specs.declared.Kind.{Kind}
@@ -51,6 +52,7 @@ pub record Ids : Type 0 where
   pub rest : ℕ
   pub boxes : List ClassList
 
+-- the lists of a builder
 abbrev pub ids_of : Builder → Ids
 ids_of b = record { page = b.page; waiting = b.waiting; held = b.held; rest = b.rest; boxes = b.boxes.items }
 
@@ -58,9 +60,11 @@ ids_of b = record { page = b.page; waiting = b.waiting; held = b.held; rest = b.
 abbrev pub nodes_of : Ids → Lists Node → List Node
 nodes_of b s = list_at s b.held ++ (list_at s b.page ++ list_at s b.waiting)
 
+-- the lists of class boxes
 abbrev pub box_ids : List ClassList → List ℕ
 box_ids es = map (λ e. e.list) es
 
+-- a builder's own lists, without those of insertions
 abbrev pub own_ids : Ids → List ℕ
 own_ids b = b.page ∷ b.waiting ∷ b.held ∷ b.rest ∷ box_ids b.boxes
 
@@ -83,6 +87,7 @@ is_plain kinds.Whatsit = true
 is_plain (kinds.Ins i) = false
 is_plain (kinds.Act a) = false
 
+-- neither insertions nor acts
 abbrev pub AllPlain : List Node → Type 0
 AllPlain [] = Unit {0}
 AllPlain (n ∷ ns) = (is_plain n.kind ≡ true) × AllPlain ns
@@ -124,6 +129,7 @@ abbrev pub ClassesFit : List Class → Type 0
 ClassesFit [] = Unit {0}
 ClassesFit (c ∷ cs) = (has_class cs c.number ≡ false) × (c.number < 255) × ClassFits c × ClassesFit cs
 
+-- the class of an insertion is one of these
 abbrev pub is_known : List Class → Kind → Bool
 is_known cs (kinds.Hbox what h d) = true
 is_known cs (kinds.Rule name h d) = true
@@ -141,6 +147,7 @@ abbrev pub AllKnown : List Class → List Node → Type 0
 AllKnown cs [] = Unit {0}
 AllKnown cs (n ∷ ns) = (is_known cs n.kind ≡ true) × AllKnown cs ns
 
+-- the classes of a builder
 abbrev pub classes_of : Ids → List Class
 classes_of b = map (λ e. e.class) b.boxes
 
@@ -153,3 +160,8 @@ pub record IsOwned (b : Ids) (s : Lists Node) : Type 0 where
   pub plain_lists : HoldPlain s (box_ids b.boxes ++ inner_ids (nodes_of b s))
   pub classes : ClassesFit (classes_of b)
   pub known : AllKnown (classes_of b) (nodes_of b s)
+
+-- lists that are not the builder's stay as they are, and are not its own afterwards
+pub record Keeps (b : Ids) (s : Lists Node) (d : Ids) (t : Lists Node) : Type 0 where
+  pub others : (q : ℕ) → IsLive s q → Lacks q (owned b s) → get t.lists q ≡ get s.lists q
+  pub apart : (q : ℕ) → IsLive s q → Lacks q (owned b s) → Lacks q (owned d t)

@@ -1,5 +1,5 @@
 -- The legal places of a page so far.
-use Rattle.std.specs.Prelude.{◌≡◌, ℤ, Bool, true, false, List, [], ◌∷◌, ◌++◌, map, Option, None}
+use Rattle.std.specs.Prelude.{◌≡◌, ℤ, Bool, false, List, [], ◌∷◌, ◌++◌, map, Option, None}
 use Rattle.tb_node.specs.Shape.{Shape}
 use Rattle.tb_node.specs.Plain.{PlainKind, plain, ins, act, PlainNode, node_shape, without_acts, is_act_kind}
 use Rattle.tb_break.specs.Legal.{ends_lasting, begins_with_glue}
@@ -9,6 +9,7 @@ use Rattle.tb_break.specs.Finding.{penalty_by}
 use Rattle.tb_insert.specs.Terms.{Terms}
 use Rattle.tb_builder.specs.Reached.{page_place}
 
+-- what sums and breaks see of the nodes
 abbrev pub page_shapes : List PlainNode → List Shape
 page_shapes ns = map node_shape ns
 
@@ -27,6 +28,7 @@ kind_penalty_by lasting glue_next n (plain m) = penalty_by lasting glue_next (no
 kind_penalty_by lasting glue_next n (ins i) = None
 kind_penalty_by lasting glue_next n (act a) = None
 
+-- the same by the kind that the node has
 abbrev pub node_penalty : Bool → Bool → PlainNode → Option ℤ
 node_penalty lasting glue_next n = kind_penalty_by lasting glue_next n n.kind
 

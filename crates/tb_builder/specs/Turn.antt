@@ -1,7 +1,7 @@
 -- One node more: what a turn of the page builder changes.
-use Rattle.std.specs.Prelude.{◌≡◌, ℕ, ℤ, ◌≤◌, Bool, true, false, List, [], ◌∷◌, ◌++◌, Option, Some, None}
+use Rattle.std.specs.Prelude.{◌≡◌, ℕ, ◌<◌, ◌≤◌, true, false, List, [], ◌∷◌, ◌++◌, length, Option, Some, None}
 use Rattle.std.specs.FinMap.{get}
-use Rattle.tb_pool.specs.Lists.{Lists, list_at}
+use Rattle.tb_pool.specs.Lists.{Lists}
 use Rattle.tb_node.specs.declared.Node.{Node}
 use Rattle.tb_node.specs.Plain.{PlainNode, plain_of, shape_of}
 use Rattle.tb_node.specs.Small.{IsSmallShape}
@@ -17,7 +17,7 @@ use Rattle.tb_builder.specs.declared.Builder.{Builder}
 use Rattle.tb_builder.specs.Reached.{tried, Reach, also_reached, reach_from, try_of, breakpoints}
 use Rattle.tb_builder.specs.Contents.{Contents, contents_of, laid, reach_ahead, places_of}
 use Rattle.tb_builder.specs.Owned.{ids_of, owned, Lacks, IsOwned}
-use Rattle.tb_builder.specs.Running.{CourseStands, Underway, places_by, zed, IsSound, act_of_kind, insertion_of_kind}
+use Rattle.tb_builder.specs.Running.{CourseStands, Underway, places_by, IsSound, act_of_kind, insertion_of_kind}
 use Rattle.tb_builder.specs.Next.{FirstIs, Stays, stopped_with}
 
 -- the lists are the builder's still, and lists that were not its own stay as they are and are not its own
@@ -25,7 +25,6 @@ pub record Moves (b : Builder) (s : Lists Node) (d : Builder) (t : Lists Node) :
   pub own : IsOwned (ids_of d) t
   pub others : (q : ℕ) → Lacks q (owned (ids_of b) s) → get t.lists q ≡ get s.lists q
   pub keeps : (q : ℕ) → Lacks q (owned (ids_of b) s) → Lacks q (owned (ids_of d) t)
-  pub room : s.spare ≤ t.spare
   pub classes : (contents_of d t).classes ≡ (contents_of b s).classes
   pub boxes : (contents_of d t).boxes ≡ (contents_of b s).boxes
   pub held : (contents_of d t).held ≡ (contents_of b s).held
@@ -69,6 +68,7 @@ pub record StopsThere (z : Frozen) (line : ℕ) (b : Breakpoint) (k : Course) (c
   pub passed : (reach_from z.limit (terms_after z) [] (d.page ++ d.waiting)).passed ≡ d.page
   pub beyond : (reach_from z.limit (terms_after z) [] (d.page ++ d.waiting)).beyond ≡ d.waiting
 
+-- a legal place was tried: it goes on there, or it is the stop
 pub record TriesOn (z : Frozen) (t : Try) (k : Course) (c d : Contents) : Type 0 where
   pub line : ℕ
   pub place : Breakpoint
@@ -101,15 +101,18 @@ pub record Turns (c d : Contents) (ask : Ask) : Type 0 where
   pub whole : laid d ask ≡ laid c ask
   pub stopped : d.stopped ≡ false
 
+-- the turn answered nothing, or the first event of what is reached
 abbrev pub TurnBy : Option Event → Contents → Contents → Ask → Type 0
 TurnBy None c d ask = Turns c d ask
 TurnBy (Some e) c d ask = FirstIs e (laid c ask) (reach_ahead c ask) (places_of c ask) ask d
 
+-- one turn of the builder: what it answered, and what stands then
 pub record TurnIs (b : Builder) (s : Lists Node) (ask : Ask) (o : Option Event) (d : Builder) (t : Lists Node) : Type 0 where
   pub sound : IsSound d t
   pub others : (q : ℕ) → Lacks q (owned (ids_of b) s) → get t.lists q ≡ get s.lists q
   pub keeps : (q : ℕ) → Lacks q (owned (ids_of b) s) → Lacks q (owned (ids_of d) t)
-  pub room : o ≡ None → d.opened ≡ false → s.spare ≤ t.spare
+  pub room : o ≡ None → d.opened ≡ false → (b.opened ≡ false) × (s.spare ≤ t.spare)
+  pub shorter : o ≡ None → length (contents_of d t).waiting < length (contents_of b s).waiting
   pub stays : Stays (contents_of b s) (contents_of d t) ask
   pub turned : TurnBy o (contents_of b s) (contents_of d t) ask
 

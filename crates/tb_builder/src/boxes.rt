@@ -1,9 +1,21 @@
 //! The class boxes.
 
-ghost use Rattle.std.specs.Prelude.{◌≡◌, ◌==◌, true, map, position};
-ghost use Rattle.tb_builder.specs.Owned.{has_class, IsClassList};
+ghost use Rattle.std.specs.Prelude.{◌≡◌, ◌==◌, ◌≢◌, true, map, position, is_none, ℕ};
+ghost use Rattle.std.specs.FinMap.{get};
+ghost use Rattle.tb_pool.specs.Lists.{IsLive, Lists as StoreOf};
+ghost use Rattle.tb_node.specs.declared.Node.{Node as NodeOf};
+ghost use Rattle.tb_node.specs.Plain.{leaf_shape};
+ghost use Rattle.tb_builder.specs.Fired.{box_content, content_of, box_size as size_of_box};
+ghost use Rattle.tb_builder.specs.Contents.{contents_of};
+ghost use Rattle.tb_builder.specs.Owned.{has_class, classes_of, ids_of, owned, Lacks, IsClassList};
+ghost use Rattle.tb_builder.specs.Running.{IsSound};
+ghost use Rattle.tb_builder.specs.Next.{SizesFit};
+ghost use Rattle.tb_builder.specs.Handed.{NoPage, with_void, Taken};
 
+use crate::measuring::list_size;
 use crate::{Builder, ClassList};
+use tb_node::Node;
+use tb_pool::{ListId, Lists};
 
 impl Builder {
     // The place of a class among the classes.
@@ -22,5 +34,47 @@ impl Builder {
             unreachable!();
         };
         self.boxes[k]
+    }
+
+    /// Whether nothing was given to the box of this class, one of the builder's, since the start or since its last
+    /// `take_box`. A box that was given an empty list is not void.
+    pub fn is_void(&self, class: u8) -> bool
+        requires { has_class (classes_of (ids_of self.now)) class ≡ true }
+        ensures { (s : StoreOf NodeOf) → result ≡ is_none (box_content (contents_of self.now s).boxes class) }
+    {
+        self.class_list(class).void
+    }
+
+    /// The height plus depth in sp of the box of this class, one of the builder's; 0 where it is void.
+    pub fn box_size(&self, store: &Lists<Node>, class: u8) -> i64
+        requires sound { IsSound self.now store.now }
+        requires known { has_class (contents_of self.now store.now).classes class ≡ true }
+        requires fits { SizesFit (map leaf_shape (content_of (box_content (contents_of self.now store.now).boxes class))) }
+        ensures { result ≡ size_of_box (box_content (contents_of self.now store.now).boxes class) }
+    {
+        list_size(store, self.class_list(class).list)
+    }
+
+    /// The nodes of the box of this class, one of the builder's, go to the end of the list `into`, while the page is
+    /// empty; the box is void then. Takes no memory.
+    pub fn take_box(&mut self, store: &mut Lists<Node>, class: u8, into: ListId)
+        requires sound { IsSound self.old store.old }
+        requires empty { NoPage (contents_of self.old store.old) }
+        requires known { has_class (contents_of self.old store.old).classes class ≡ true }
+        requires live { IsLive store.old into }
+        requires apart { Lacks into (owned (ids_of self.old) store.old) }
+        ensures sound { IsSound self.new store.new }
+        ensures contents { contents_of self.new store.new ≡ record (contents_of self.old store.old) { boxes = with_void class (contents_of self.old store.old).boxes } }
+        ensures spare { store.new.spare ≡ store.old.spare }
+        ensures taken { Taken store.old store.new into (box_content (contents_of self.old store.old).boxes class) }
+        ensures others { (q : ℕ) → q ≢ into → Lacks q (owned (ids_of self.old) store.old) → get store.new.lists q ≡ get store.old.lists q }
+        ensures keeps { (q : ℕ) → Lacks q (owned (ids_of self.old) store.old) → Lacks q (owned (ids_of self.new) store.new) }
+    {
+        let Some(k) = self.place_of(class) else {
+            unreachable!();
+        };
+        let list = self.boxes[k].list;
+        self.boxes[k].void = true;
+        store.append(into, list);
     }
 }

@@ -1,6 +1,6 @@
 //! A page is filled: the nodes that wait go on it one by one, up to the next event.
 
-ghost use Rattle.std.specs.Prelude.{◌≡◌, ◌≢◌, ◌<◌, ◌<ℤ◌, ◌≤◌, ◌+◌, pos, ℕ, List, [], ◌∷◌, ◌++◌, Bool, true, false, Some, None, IsSome, slice_get};
+ghost use Rattle.std.specs.Prelude.{◌≡◌, ◌≢◌, ◌<◌, ◌<ℤ◌, ◌≤◌, ◌+◌, pos, ℕ, List, [], ◌∷◌, ◌++◌, Bool, true, false, Some, None, IsSome, IfOk, OnErr, slice_get};
 ghost use Rattle.tb_pool.specs.Lists.{IsLive, list_at};
 ghost use Rattle.tb_node.specs.declared.Node.{Node as NodeOf};
 ghost use Rattle.tb_node.specs.Shape.{is_box};
@@ -11,22 +11,118 @@ ghost use Rattle.tb_break.specs.Best.{Breakpoint};
 ghost use Rattle.tb_break.specs.Legal.{ends_lasting};
 ghost use Rattle.tb_insert.specs.Account.{Frozen};
 ghost use Rattle.tb_insert.specs.Running.{Differ};
-ghost use Rattle.tb_builder.specs.Owned.{ids_of, owned, Lacks, IsOwned};
+ghost use Rattle.tb_builder.specs.Owned.{ids_of, owned, Lacks, IsOwned, Keeps};
 ghost use Rattle.tb_builder.specs.Places.{page_shapes, node_penalty, glue_first};
+ghost use Rattle.tb_builder.specs.Reached.{holds_box};
 ghost use Rattle.tb_builder.specs.Contents.{contents_of};
-ghost use Rattle.tb_builder.specs.Running.{IsSound, CourseStands, Underway, AllLoose, zed, frozen_with, act_of_kind, insertion_of_kind};
-ghost use Rattle.tb_builder.specs.Next.{AskFits, NextFits};
-ghost use Rattle.tb_builder.specs.Turn.{Moves, Shifted, StepIs, StepFits, TriesOn, TurnIs};
+ghost use Rattle.tb_builder.specs.Running.{IsSound, CourseStands, Underway, AllLoose, kept_frozen, frozen_with, act_of_kind, insertion_of_kind};
+ghost use Rattle.tb_builder.specs.Next.{AskFits, NextFits, NextIs, IsGivenOut};
+ghost use Rattle.tb_builder.specs.Turn.{Moves, Shifted, StepIs, StepFits, TriesOn, TurnIs, Filled};
 
 use crate::measuring::list_size;
-use crate::moving::{drop_first, glue_follows, shift};
+use crate::moving::{
+    act_of, drop_first, first_of, glue_follows, insertion_of, is_box, shift, top_node,
+};
 use crate::trying::{started, stops};
 use crate::{Ask, Builder, Event};
+use std::alloc::AllocError;
 use tb_break::{is_lasting, place_penalty};
 use tb_node::{Insertion, Node};
 use tb_pool::Lists;
 
 impl Builder {
+    /// The next event. A legal place, or an act, is reached of what waits: the nodes before it are on the page then. After
+    /// a place that is a stop the page fires at the following call. Where nothing is left to be reached, the event is
+    /// Empty, and no node waits (TeX: The Program §994 to §1028). A page that fired awaits its `put_back` before the next
+    /// call.
+    ///
+    /// Memory is taken first: where that fails, the builder and all lists are as before.
+    pub fn next(&mut self, store: &mut Lists<Node>, ask: &Ask) -> Result<Event, AllocError>
+        requires sound { IsSound self.old store.old }
+        requires fits { NextFits (contents_of self.old store.old) ask.now }
+        requires none_held { (contents_of self.old store.old).held ≡ [] }
+        ensures event { IfOk result (λ e. NextIs self.old.stopped e (contents_of self.old store.old) ask.now (contents_of self.new store.new) store.new) }
+        ensures sound { IsSound self.new store.new }
+        ensures keeps { Keeps (ids_of self.old) store.old (ids_of self.new) store.new }
+        ensures body { IfOk result (λ e. IsGivenOut e store.old (ids_of self.new) store.new) }
+        ensures builder { OnErr result (self.new ≡ self.old) }
+        ensures lists { OnErr result (store.new.lists ≡ store.old.lists) }
+    {
+        if self.stopped {
+            let page = self.fire(store)?;
+            return Ok(Event::Fired(page));
+        }
+        store.reserve(1)?;
+        Ok(self.fill(store, ask))
+    }
+
+    // The nodes that wait go on the page, up to the next event.
+    fn fill(&mut self, store: &mut Lists<Node>, ask: &Ask) -> Event
+        requires sound { IsSound self.old store.old }
+        requires on { self.old.stopped ≡ false }
+        requires fits { NextFits (contents_of self.old store.old) ask.now }
+        requires room { 0 < store.old.spare }
+        ensures { Filled self.old store.old ask.now result self.new store.new }
+    {
+        while let Some(n) = first_of(store, self.waiting) {
+            if let Some(event) = self.turn(store, ask, &n) {
+                return event;
+            }
+        }
+        Event::Empty
+    }
+
+    // The first node that waits goes on the page, vanishes or is handed out, or the place before it is a stop.
+    fn turn(&mut self, store: &mut Lists<Node>, ask: &Ask, n: &Node) -> Option<Event>
+        requires sound { IsSound self.old store.old }
+        requires on { self.old.stopped ≡ false }
+        requires fits { NextFits (contents_of self.old store.old) ask.now }
+        requires room { self.old.opened ≡ false → 0 < store.old.spare }
+        requires first { slice_get (list_at store.old self.old.waiting) 0 ≡ Some n.now }
+        ensures { TurnIs self.old store.old ask.now result self.new store.new }
+    {
+        if let Some(act) = act_of(n) {
+            drop_first(store, self.waiting);
+            return Some(Event::Act(act));
+        }
+        if let Some(i) = insertion_of(n) {
+            self.meet(store, ask, n, &i);
+            return None;
+        }
+        if self.opened {
+            return self.reach(store, n);
+        }
+        if is_box(n) {
+            return self.open_page(store, ask, n);
+        }
+        self.pass(store, ask, n);
+        None
+    }
+
+    // The first box or rule of the page is the first node that waits: it goes on the page behind the top glue, unless the
+    // place before that glue is a stop.
+    fn open_page(&mut self, store: &mut Lists<Node>, ask: &Ask, n: &Node) -> Option<Event>
+        requires sound { IsSound self.old store.old }
+        requires on { self.old.stopped ≡ false }
+        requires closed { self.old.opened ≡ false }
+        requires fits { NextFits (contents_of self.old store.old) ask.now }
+        requires room { 0 < store.old.spare }
+        requires first { slice_get (list_at store.old self.old.waiting) 0 ≡ Some n.now }
+        requires boxed { is_box (shape_of n.now) ≡ true }
+        ensures { TurnIs self.old store.old ask.now result self.new store.new }
+    {
+        self.freeze(ask);
+        let glue = top_node(n, ask.top_skip);
+        store.push_front(self.waiting, glue);
+        let event = self.reach(store, &glue);
+        if self.stopped {
+            return event;
+        }
+        self.put(store, n);
+        self.opened = true;
+        event
+    }
+
     // Freezes the goal and the depth limit of the page, where they are not frozen yet.
     fn freeze(&mut self, ask: &Ask)
         requires asked { AskFits ask.now }
@@ -88,11 +184,12 @@ impl Builder {
         requires own { IsOwned (ids_of self.old) store.old }
         requires first { slice_get (list_at store.old self.old.waiting) 0 ≡ Some n.now }
         requires on { self.old.stopped ≡ false }
-        requires underway { Underway (zed (contents_of self.old store.old)) self.old.course (contents_of self.old store.old).page (contents_of self.old store.old).waiting }
-        requires fits { StepFits (zed (contents_of self.old store.old)) (contents_of self.old store.old).page (list_at store.old) n.now }
+        requires underway { Underway (kept_frozen (contents_of self.old store.old)) self.old.course (contents_of self.old store.old).page (contents_of self.old store.old).waiting }
+        requires fits { StepFits (kept_frozen (contents_of self.old store.old)) (contents_of self.old store.old).page (list_at store.old) n.now }
         ensures moves { Moves self.old store.old self.new store.new }
-        ensures step { StepIs result (zed (contents_of self.old store.old)) self.new.course (contents_of self.old store.old) (contents_of self.new store.new) }
+        ensures step { StepIs result (kept_frozen (contents_of self.old store.old)) self.new.course (contents_of self.old store.old) (contents_of self.new store.new) }
         ensures behind { (ns : List NodeOf) → self.new.stopped ≡ false → list_at store.old self.old.waiting ≡ n.now ∷ ns → list_at store.new self.new.waiting ≡ ns }
+        ensures boxed { holds_box (contents_of self.old store.old).page ≡ true → holds_box (contents_of self.new store.new).page ≡ true }
         ensures opened { self.new.opened ≡ self.old.opened }
         ensures frozen { self.new.frozen ≡ self.old.frozen }
         ensures ids { ids_of self.new ≡ ids_of self.old }
@@ -110,15 +207,16 @@ impl Builder {
         requires own { IsOwned (ids_of self.old) store.old }
         requires first { slice_get (list_at store.old self.old.waiting) 0 ≡ Some n.now }
         requires on { self.old.stopped ≡ false }
-        requires underway { Underway (zed (contents_of self.old store.old)) self.old.course (contents_of self.old store.old).page (contents_of self.old store.old).waiting }
-        requires fits { StepFits (zed (contents_of self.old store.old)) (contents_of self.old store.old).page (list_at store.old) n.now }
+        requires underway { Underway (kept_frozen (contents_of self.old store.old)) self.old.course (contents_of self.old store.old).page (contents_of self.old store.old).waiting }
+        requires fits { StepFits (kept_frozen (contents_of self.old store.old)) (contents_of self.old store.old).page (list_at store.old) n.now }
         requires low { IsAmount penalty }
         requires legal { penalty <ℤ pos 10000 }
         ensures moves { Moves self.old store.old self.new store.new }
         ensures tried { (ns : List PlainNode) → (contents_of self.old store.old).waiting ≡ plain_of (list_at store.old) n.now ∷ ns
             → node_penalty self.old.course.lasting (glue_first ns) (plain_of (list_at store.old) n.now) ≡ Some penalty
-            → StepIs (Some result) (zed (contents_of self.old store.old)) self.new.course (contents_of self.old store.old) (contents_of self.new store.new) }
+            → StepIs (Some result) (kept_frozen (contents_of self.old store.old)) self.new.course (contents_of self.old store.old) (contents_of self.new store.new) }
         ensures behind { (ns : List NodeOf) → self.new.stopped ≡ false → list_at store.old self.old.waiting ≡ n.now ∷ ns → list_at store.new self.new.waiting ≡ ns }
+        ensures boxed { holds_box (contents_of self.old store.old).page ≡ true → holds_box (contents_of self.new store.new).page ≡ true }
         ensures opened { self.new.opened ≡ self.old.opened }
         ensures frozen { self.new.frozen ≡ self.old.frozen }
         ensures ids { ids_of self.new ≡ ids_of self.old }

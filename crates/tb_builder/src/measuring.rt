@@ -7,6 +7,7 @@ ghost use Rattle.tb_node.specs.Fit.{shapes};
 ghost use Rattle.tb_node.specs.Plain.{shape_of};
 ghost use Rattle.tb_node.specs.Sums.{room_of, size_of};
 ghost use Rattle.tb_builder.specs.Next.{SizesFit, IsRoom};
+ghost use Rattle.tb_builder.specs.Room.{IsWide, RoomFits};
 
 use tb_node::{Kind, Node};
 use tb_pool::{ListId, Lists};
@@ -31,7 +32,7 @@ fn room(n: &Node) -> i64
 }
 
 fn both(a: i64, b: i64) -> i64
-    requires { IsRoom (a +ℤ b) }
+    requires { IsWide (a +ℤ b) }
     ensures { result ≡ a +ℤ b }
 {
     a + b
@@ -41,6 +42,15 @@ fn both(a: i64, b: i64) -> i64
 pub fn list_size(store: &Lists<Node>, l: ListId) -> i64
     requires live { IsLive store.now l }
     requires fits { SizesFit (shapes store.now l) }
+    ensures { result ≡ size_of (shapes store.now l) }
+{
+    pruned_size(store, l)
+}
+
+// The room that a list takes which may have been pruned.
+pub fn pruned_size(store: &Lists<Node>, l: ListId) -> i64
+    requires live { IsLive store.now l }
+    requires fits { RoomFits (shapes store.now l) }
     ensures { result ≡ size_of (shapes store.now l) }
 {
     let mut total = 0;

@@ -1,18 +1,20 @@
 //! Nodes at the front of a list: what they are, and how they go from one list to another.
 
-ghost use Rattle.std.specs.Prelude.{◌≡◌, ◌≢◌, ◌<◌, ◌≤◌, ◌+◌, ◌-ℤ◌, pos, ℕ, List, [], ◌∷◌, ◌++◌, slice_get, drop};
+ghost use Rattle.std.specs.Prelude.{◌≡◌, ◌≢◌, ◌<◌, ◌≤◌, ◌+◌, ◌-ℤ◌, pos, ℕ, List, [], ◌∷◌, ◌++◌, true, slice_get, drop};
 ghost use Rattle.std.specs.FinMap.{insert};
 ghost use Rattle.tb_pool.specs.Lists.{IsLive, list_at, with_list};
 ghost use Rattle.tb_scaled.specs.Scaled.{max_ℤ};
 ghost use Rattle.tb_node.specs.declared.Node.{Node as NodeOf};
 ghost use Rattle.tb_node.specs.Shape.{is_discardable, is_box};
 ghost use Rattle.tb_node.specs.Plain.{shape_of};
-ghost use Rattle.tb_node.specs.Small.{IsAmount};
-ghost use Rattle.tb_builder.specs.Running.{act_of_kind, insertion_of_kind, nodes_glue_first};
+ghost use Rattle.tb_node.specs.Small.{IsAmount, IsSmallShape};
+ghost use Rattle.tb_break.specs.Prune.{glue_before, top_glue};
+ghost use Rattle.tb_builder.specs.Running.{act_of_kind, insertion_of_kind, height_of, nodes_glue_first};
 
 use tb_break::is_glue;
 use tb_node::{Act, Insertion, Kind, Node};
 use tb_pool::{Iter, ListId, Lists};
+use tb_scaled::fixed;
 
 // A node that is an act, if it is one.
 pub fn act_of(n: &Node) -> Option<Act>
@@ -38,6 +40,50 @@ pub fn is_box(n: &Node) -> bool
     ensures { result ≡ is_box (shape_of n.now) }
 {
     matches!(n.kind, Kind::Hbox { .. } | Kind::Rule { .. })
+}
+
+// The glue that comes before the first box or rule of a page.
+pub fn top_node(n: &Node, top_skip: i64) -> Node
+    requires top_skip { IsAmount top_skip }
+    requires boxed { is_box (shape_of n.now) ≡ true }
+    requires node { IsSmallShape (shape_of n.now) }
+    ensures { result ≡ glue_before n.now (top_glue top_skip (height_of (shape_of n.now))) }
+{
+    Node {
+        line: n.line,
+        kind: Kind::Skip(fixed(room_above(top_skip, height_of(n)))),
+    }
+}
+
+// The height of a box or rule.
+fn height_of(n: &Node) -> i64
+    ensures { result ≡ height_of (shape_of n.now) }
+{
+    match n.kind {
+        Kind::Hbox { height, .. } => height,
+        Kind::Rule { height, .. } => height,
+        Kind::Skip(_) => 0,
+        Kind::Kern(_) => 0,
+        Kind::Pen(_) => 0,
+        Kind::Mark(_) => 0,
+        Kind::Note(_) => 0,
+        Kind::Whatsit => 0,
+        Kind::Ins(_) => 0,
+        Kind::Act(_) => 0,
+    }
+}
+
+// What a box of this height lacks of the top skip.
+fn room_above(top_skip: i64, height: i64) -> i64
+    requires top_skip { IsAmount top_skip }
+    requires height { IsAmount height }
+    ensures { result ≡ max_ℤ (top_skip -ℤ height) (pos 0) }
+{
+    if top_skip < height {
+        0
+    } else {
+        top_skip - height
+    }
 }
 
 // The first node of a list.

@@ -10,11 +10,11 @@ ghost use Rattle.tb_node.specs.Add.{added_node};
 ghost use Rattle.tb_break.specs.Best.{Breakpoint};
 ghost use Rattle.tb_break.specs.Legal.{ends_lasting};
 ghost use Rattle.tb_insert.specs.Account.{Frozen};
-ghost use Rattle.tb_insert.specs.Running.{Differ, ComesTo, goal_of, penalties_in};
+ghost use Rattle.tb_insert.specs.Running.{Differ, ComesTo};
 ghost use Rattle.tb_insert.specs.Arrived.{ArriveFits};
 ghost use Rattle.tb_builder.specs.Places.{page_shapes};
 ghost use Rattle.tb_builder.specs.Running.{CourseStands, AllLoose, act_of_kind, insertion_of_kind};
-ghost use Rattle.tb_builder.specs.Offer.{OfferIs, Marks};
+ghost use Rattle.tb_builder.specs.Offer.{OfferIs, Marks, TermsFit};
 
 use crate::{Course, Try};
 use tb_break::{Offer, is_lasting, new_scan};
@@ -74,15 +74,16 @@ impl Course {
 
     // Tries the legal place at the end of the page, which has so many nodes.
     pub(crate) fn offer(&mut self, index: usize, line: u32, penalty: i64) -> Try
-        requires goal { IsAmount (goal_of self.old.account) }
-        requires penalties { IsAmount (penalties_in self.old.account) }
+        requires terms { TermsFit self.old }
         requires low { IsAmount penalty }
         requires legal { penalty <ℤ pos 10000 }
         ensures { (z : Frozen) (page : List PlainNode) (bs : List Breakpoint) → CourseStands z self.old page bs → index ≡ length page → OfferIs z self.new page bs result line penalty }
     {
         let sums = self.scan.sums();
         let goal = self.account.goal();
-        let offer = self.scan.offer(index, penalty, goal, self.account.penalties());
+        let offer = self
+            .scan
+            .offer(index, penalty, goal, self.account.penalties());
         self.mark_if(offer.champion, goal);
         made_try(line, sums, goal, offer, penalty)
     }
@@ -99,14 +100,22 @@ impl Course {
     }
 
     // An insertion goes to the end of the page, which has so many nodes.
-    pub(crate) fn join(&mut self, store: &Lists<Node>, ins: &Insertion, index: usize, class: &Class, box_size: i64)
+    pub(crate) fn join(
+        &mut self,
+        store: &Lists<Node>,
+        ins: &Insertion,
+        index: usize,
+        class: &Class,
+        box_size: i64,
+    )
         requires number { class.now.number ≡ ins.now.class }
         requires most { ins.now.class < 255 }
         requires fits { ArriveFits store.now self.old.account self.old.scan ins.now class.now box_size }
         ensures { (z : Frozen) (page : List PlainNode) (bs : List Breakpoint) (line : ℕ) → CourseStands z self.old page bs → ComesTo z page self.old.scan class.now box_size index
             → CourseStands z self.new (page ++ record { line = line; kind = an_insertion (inserted_of (list_at store.now) ins.now) } ∷ []) bs }
     {
-        self.account.arrive(store, ins, index, class, box_size, &mut self.scan);
+        self.account
+            .arrive(store, ins, index, class, box_size, &mut self.scan);
         self.lasting = true;
     }
 }

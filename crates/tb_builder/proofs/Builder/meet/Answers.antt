@@ -1,17 +1,15 @@
-use Rattle.std.proofs.Common.{◌≡◌, refl, sym, subst, ◌∙◌, ap, ◌<◌, ◌≤◌, true, ℕ, length, map, arith, Option, Some, None, FitsSigned, w64, to_z, of_z, ◌++◌, ◌∷◌, [], rules}
+use Rattle.std.proofs.Common.{◌≡◌, refl, sym, subst, ◌∙◌, ap, ◌<◌, true, length, map, arith, FitsSigned, w64, to_z, of_z, ◌++◌, ◌∷◌, [], rules}
 use Rattle.std.specs.FinMap.{insert}
 use Rattle.std.proofs.lemmas.Int.{to_z-of_z}
 use Rattle.tb_pool.specs.Lists.{list_at, with_list}
 use Rattle.tb_insert.specs.Running.{ComesTo}
 use Rattle.tb_insert.specs.Arrived.{ArriveFits}
-use Rattle.tb_node.specs.Shape.{other}
 use Rattle.tb_node.specs.Sums.{size_of}
 use Rattle.tb_node.specs.Fit.{shapes}
-use Rattle.tb_node.specs.Plain.{plain_of, inserted_of, PlainNode}
 use Rattle.tb_builder.specs.declared.Builder.{Builder}
 use Rattle.tb_builder.specs.Owned.{Ids, ids_of, has_class, box_ids, inner_ids, nodes_of, IsClassList}
 use Rattle.tb_builder.specs.Contents.{contents_of, frozen_of}
-use Rattle.tb_builder.specs.Running.{CourseStands, Underway, places_by, frozen_with, PageStands}
+use Rattle.tb_builder.specs.Running.{CourseStands, places_by, frozen_with, PageStands}
 use Rattle.tb_builder.proofs.OwnedLemmas.{live-left}
 use Rattle.tb_builder.proofs.ClassLemmas.{list_live, list_fits}
 use Rattle.tb_builder.proofs.MoveLemmas.{written_shift}
@@ -76,7 +74,7 @@ returns c =
     let co = comes_to (ids_of c.args.self.now) c.args.store.now before c.args.ask.now c.freeze.new.self.course c.args.n.now f.0 c.args.i.now c.class_list-own.result c.requires.sound.own refl refl refl refl c.requires.fits f.1 c.requires.insertion own u in
     let index : c.len-index.result ≡ length (list_at s b.page) = c.len-index.ensures ∙ ap (λ (j : Ids). length (list_at s j.page)) c.freeze.ensures.ids in
     let joined = c.join.ensures z before.page bs c.args.n.now.line u.course
-        (subst (λ k. ComesTo z before.page c.freeze.new.self.course.scan c.class_list-own.result.class (to_z w64 (of_z w64 c.list_size-size.result)) k) (sym index) (subst (λ x. ComesTo z before.page c.freeze.new.self.course.scan c.class_list-own.result.class x (length (list_at s b.page))) (sym size) co)) in
+    (subst (λ k. ComesTo z before.page c.freeze.new.self.course.scan c.class_list-own.result.class (to_z w64 (of_z w64 c.list_size-size.result)) k) (sym index) (subst (λ x. ComesTo z before.page c.freeze.new.self.course.scan c.class_list-own.result.class x (length (list_at s b.page))) (sym size) co)) in
     let d : Builder = record c.freeze.new.self { course = c.join.new.self } in
     let shifted = c.shift.ensures.shifted c.args.n.now f.0 (ap (λ (j : Ids). list_at s j.waiting) c.freeze.ensures.ids ∙ f.1) ∙ ap (λ (j : Ids). insert (with_list s j.waiting f.0) j.page (list_at s j.page ++ c.args.n.now ∷ [])) c.freeze.ensures.ids in
     met b d s c.shift.new.store c.args.ask.now c.args.n.now f.0 c.requires.sound (c.freeze.ensures.stopped ∙ c.requires.on) c.freeze.ensures.ids f.1

@@ -1,8 +1,6 @@
-use Rattle.std.proofs.Common.{◌≡◌, refl, sym, subst, ◌∙◌, ap, ◌≤◌, true, arith}
+use Rattle.std.proofs.Common.{refl, sym, ◌∙◌, true, arith}
 use Rattle.tb_pool.specs.Lists.{list_at}
-use Rattle.tb_node.specs.Plain.{plain_of}
 use Rattle.tb_builder.specs.declared.Builder.{Builder}
-use Rattle.tb_builder.specs.declared.Course.{Course}
 use Rattle.tb_builder.specs.Owned.{ids_of}
 use Rattle.tb_builder.proofs.MoveLemmas.{written_shift, written_drop}
 use Rattle.tb_builder.proofs.FillLemmas.{first_is}

@@ -1,4 +1,4 @@
-use Rattle.std.proofs.Common.{refl, sym, ◌≡◌, ◌≤◌, arith, ◌∙◌}
+use Rattle.std.proofs.Common.{refl, ◌∙◌}
 use Rattle.tb_pool.specs.Lists.{list_at}
 use Rattle.tb_builder.specs.declared.Builder.{Builder}
 use Rattle.tb_builder.specs.Owned.{ids_of}
@@ -9,7 +9,7 @@ use Rattle.tb_builder.proofs.Builder.put.Goals as goal
 pub returns-clause-moves : goal.returns-clause-moves
 returns-clause-moves c =
     let f = first_is (list_at c.args.store.now c.args.self.now.waiting) c.args.n.now c.requires.first in
-    moves_from c.args.self.now _ c.args.store.now c.shift.new.store _ _ refl c.requires.own (written_shift (ids_of c.args.self.now) c.args.store.now c.shift.new.store c.args.n.now f.0 c.requires.own f.1 (c.shift.ensures.shifted c.args.n.now f.0 f.1)) (omega (arith, c.shift.ensures.spare))
+    moves_from c.args.self.now _ c.args.store.now c.shift.new.store _ _ refl c.requires.own (written_shift (ids_of c.args.self.now) c.args.store.now c.shift.new.store c.args.n.now f.0 c.requires.own f.1 (c.shift.ensures.shifted c.args.n.now f.0 f.1))
 
 pub returns-clause-shifted : goal.returns-clause-shifted
 returns-clause-shifted c =

@@ -1,4 +1,4 @@
-use Rattle.std.proofs.Common.{refl, sym, ◌∙◌, w64}
+use Rattle.std.proofs.Common.{sym, ◌∙◌, w64}
 use Rattle.std.proofs.lemmas.Bool.{true≢false}
 use Rattle.std.proofs.lemmas.Int.{to_z-of_z}
 use Rattle.tb_builder.proofs.Course.mark_if.Goals as goal

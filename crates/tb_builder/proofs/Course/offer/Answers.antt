@@ -1,9 +1,22 @@
-use Rattle.std.proofs.Common.{◌≡◌, ◌∙◌, ap, sym, FitsSigned, w64, rules}
+use Rattle.std.proofs.Common.{◌∙◌, ap, sym, subst, FitsSigned, w64, rules}
 use Rattle.std.proofs.lemmas.Int.{to_z-of_z}
+use Rattle.tb_node.specs.Small.{IsAmount}
 use Rattle.tb_break.specs.declared.Offer.{Offer}
 use Rattle.tb_builder.specs.Offer.{Marks}
 use Rattle.tb_builder.proofs.CourseLemmas.{course_offered, made_is}
 use Rattle.tb_builder.proofs.Course.offer.Goals as goal
+
+pub offer-offer-requires-clause-goal : goal.offer-offer-requires-clause-goal
+offer-offer-requires-clause-goal c =
+    let g : FitsSigned w64 c.goal-goal.result = search rules in
+    let f = c.requires.terms in
+    subst IsAmount (sym (to_z-of_z w64 c.goal-goal.result g ∙ c.goal-goal.ensures f.z f.page f.marked f.account)) f.goal
+
+pub offer-offer-requires-clause-inserts : goal.offer-offer-requires-clause-inserts
+offer-offer-requires-clause-inserts c =
+    let q : FitsSigned w64 c.penalties.result = search rules in
+    let f = c.requires.terms in
+    subst IsAmount (sym (to_z-of_z w64 c.penalties.result q ∙ c.penalties.ensures f.z f.page f.marked f.account)) f.penalties
 
 pub returns : goal.returns
 returns c = λ z page bs h i.
@@ -15,8 +28,8 @@ returns c = λ z page bs h i.
     let made = simp to_z-of_z at c.made_try.ensures in
     let marks = simp to_z-of_z at c.mark_if.ensures.marks in
     let m = marks z page in
-    let goal_is = c.goal-goal.ensures.stands z page h.marked h.account in
-    let pens_is = c.penalties.ensures.stands z page h.marked h.account in
+    let goal_is = c.goal-goal.ensures z page h.marked h.account in
+    let pens_is = c.penalties.ensures z page h.marked h.account in
     let test = ap (λ (o : Offer). o.champion) value in
     let scan = c.mark_if.ensures.scan ∙ kept in
     let mm : Marks z c.args.self.now c.mark_if.new.self page c.offer-offer.result.champion c.goal-goal.result = record { taken = m.taken; goal_is = m.goal_is; kept = m.kept; goal_kept = m.goal_kept } in

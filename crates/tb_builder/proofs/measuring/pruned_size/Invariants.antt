@@ -1,10 +1,6 @@
-use Rattle.std.proofs.Common.{◌≡◌, List, ◌++◌, map}
 use Rattle.tb_pool.specs.Lists.{list_at}
-use Rattle.tb_node.specs.declared.Node.{Node}
-use Rattle.tb_node.specs.Plain.{shape_of}
-use Rattle.tb_node.specs.Sums.{size_of}
 use Rattle.tb_builder.proofs.SizeLemmas.{Sized}
-use Rattle.tb_builder.proofs.measuring.list_size.Given as goal
+use Rattle.tb_builder.proofs.measuring.pruned_size.Given as goal
 
 abbrev pub invariant-loop-n : goal.invariant-loop-n
 invariant-loop-n l = record {

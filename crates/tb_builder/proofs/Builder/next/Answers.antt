@@ -1,0 +1,41 @@
+use Rattle.std.proofs.Common.{◌≡◌, sym, subst}
+use Rattle.tb_builder.specs.Contents.{Contents, contents_of}
+use Rattle.tb_builder.specs.Next.{NextIs, FirstIs, Stays}
+use Rattle.tb_builder.specs.Contents.{laid, reach_ahead, places_of}
+use Rattle.tb_builder.specs.Running.{IsSound}
+use Rattle.tb_builder.specs.declared.Event.TheVariants as events
+use Rattle.tb_builder.proofs.NextLemmas.{fired_keeps}
+use Rattle.tb_builder.proofs.SpareLemmas.{contents_still, sound_still, fits_still, keeps_filled}
+use Rattle.tb_builder.proofs.Builder.next.Goals as goal
+
+pub returns-in_err-page-clause-sound : goal.returns-in_err-page-clause-sound
+returns-in_err-page-clause-sound c =
+    let lists : c.fire.new.store.lists ≡ c.args.store.now.lists = c.in_err-page.ensures.lists in
+    subst (λ b. IsSound b c.fire.new.store) (sym c.in_err-page.ensures.builder) (sound_still c.args.store.now c.fire.new.store lists c.args.self.now c.requires.sound)
+
+pub returns-then-self-clause-event : goal.returns-then-self-clause-event
+returns-then-self-clause-event c =
+    subst (λ s. NextIs s (events.Fired c.in_ok-page.page) (contents_of c.args.self.now c.args.store.now) c.args.ask.now (contents_of c.fire.new.self c.fire.new.store) c.fire.new.store) (sym c.if-self.true) (c.in_ok-page.ensures.fires.fired c.args.ask.now)
+
+pub returns-then-self-clause-keeps : goal.returns-then-self-clause-keeps
+returns-then-self-clause-keeps c = fired_keeps c.args.self.now c.fire.new.self c.args.store.now c.fire.new.store c.in_ok-page.page c.in_ok-page.ensures.fires
+
+pub returns-in_err-reserve-clause-sound : goal.returns-in_err-reserve-clause-sound
+returns-in_err-reserve-clause-sound c = sound_still c.args.store.now c.reserve.new.self c.reserve.ensures.lists c.args.self.now c.requires.sound
+
+pub fill-requires-clause-sound : goal.fill-requires-clause-sound
+fill-requires-clause-sound c = sound_still c.args.store.now c.reserve.new.self c.reserve.ensures.lists c.args.self.now c.requires.sound
+
+pub fill-requires-clause-fits : goal.fill-requires-clause-fits
+fill-requires-clause-fits c = fits_still c.args.store.now c.reserve.new.self c.reserve.ensures.lists c.args.self.now c.args.ask.now c.requires.fits
+
+pub returns-clause-event : goal.returns-clause-event
+returns-clause-event c =
+    let d = contents_of c.fill.new.self c.fill.new.store in
+    let ask = c.args.ask.now in
+    let e = c.fill.result in
+    subst (λ s. NextIs s e (contents_of c.args.self.now c.args.store.now) ask d c.fill.new.store) (sym c.if-self.false)
+    (subst (λ (b : Contents). FirstIs e (laid b ask) (reach_ahead b ask) (places_of b ask) ask d × Stays b d ask) (contents_still c.args.store.now c.reserve.new.self c.reserve.ensures.lists c.args.self.now) (c.fill.ensures.first, c.fill.ensures.stays))
+
+pub returns-clause-keeps : goal.returns-clause-keeps
+returns-clause-keeps c = keeps_filled c.args.store.now c.reserve.new.self c.reserve.ensures.lists c.args.self.now c.fill.new.self c.fill.new.store c.fill.ensures.others c.fill.ensures.keeps

@@ -1,0 +1,136 @@
+use Rattle.std.proofs.Common.{refl, subst, ◌∙◌, ap, true, ◌∷◌, FitsSigned, w64, rules}
+use Rattle.std.proofs.lemmas.Int.{to_z-of_z}
+use Rattle.std.specs.Prelude.{slice_get}
+use Rattle.tb_pool.specs.Lists.{list_at}
+use Rattle.tb_builder.specs.declared.Builder.{Builder}
+use Rattle.tb_builder.specs.Contents.{contents_of}
+use Rattle.tb_builder.specs.Running.{PageStands}
+use Rattle.tb_builder.proofs.FillLemmas.{first_is}
+use Rattle.tb_builder.proofs.FreezeLemmas.{frozen_course}
+use Rattle.tb_builder.proofs.FirstBoxLemmas.{box_small, topped}
+use Rattle.tb_builder.proofs.BehindLemmas.{opening_stops, opening_sums, opening_goes}
+use Rattle.tb_builder.proofs.Builder.open_page.Goals as goal
+
+pub top_node-glue-requires-clause-node : goal.top_node-glue-requires-clause-node
+top_node-glue-requires-clause-node c =
+    let f = first_is (list_at c.args.store.now c.args.self.now.waiting) c.args.n.now c.requires.first in
+    box_small c.args.self.now c.args.store.now c.args.ask.now c.args.n.now f.0 c.requires.sound c.requires.closed c.requires.fits c.requires.boxed f.1
+
+pub reach-event-requires-clause-own : goal.reach-event-requires-clause-own
+reach-event-requires-clause-own c =
+    let b = c.args.self.now in
+    let s = c.args.store.now in
+    let ask = c.args.ask.now in
+    let n = c.args.n.now in
+    let f = first_is (list_at s b.waiting) n c.requires.first in
+    let u = frozen_course (contents_of b s) b.course c.freeze.new.self.course ask b.frozen refl (subst (λ x. PageStands b.frozen x b.course (contents_of b s)) c.requires.on c.requires.sound.page) c.requires.sound.own.classes c.freeze.ensures.first (λ some. ap (λ (x : Builder). x.course) (c.freeze.ensures.again some)) in
+    let k : FitsSigned w64 c.args.ask.now.top_skip = search rules in
+    let glue = simp to_z-of_z at c.top_node-glue.ensures in
+    let h = topped b c.freeze.new.self s c.push_front.new.self ask n c.top_node-glue.result f.0 c.requires.sound c.requires.on c.requires.closed c.requires.fits c.requires.boxed f.1 c.freeze.ensures.ids c.freeze.ensures.frozen glue c.push_front.ensures.pushed u in
+    h.moves.own
+
+pub reach-event-requires-clause-first : goal.reach-event-requires-clause-first
+reach-event-requires-clause-first c =
+    let b = c.args.self.now in
+    let s = c.args.store.now in
+    let ask = c.args.ask.now in
+    let n = c.args.n.now in
+    let f = first_is (list_at s b.waiting) n c.requires.first in
+    let u = frozen_course (contents_of b s) b.course c.freeze.new.self.course ask b.frozen refl (subst (λ x. PageStands b.frozen x b.course (contents_of b s)) c.requires.on c.requires.sound.page) c.requires.sound.own.classes c.freeze.ensures.first (λ some. ap (λ (x : Builder). x.course) (c.freeze.ensures.again some)) in
+    let k : FitsSigned w64 c.args.ask.now.top_skip = search rules in
+    let glue = simp to_z-of_z at c.top_node-glue.ensures in
+    let h = topped b c.freeze.new.self s c.push_front.new.self ask n c.top_node-glue.result f.0 c.requires.sound c.requires.on c.requires.closed c.requires.fits c.requires.boxed f.1 c.freeze.ensures.ids c.freeze.ensures.frozen glue c.push_front.ensures.pushed u in
+    ap (λ xs. slice_get xs 0) h.list_is
+
+pub reach-event-requires-clause-underway : goal.reach-event-requires-clause-underway
+reach-event-requires-clause-underway c =
+    let b = c.args.self.now in
+    let s = c.args.store.now in
+    let ask = c.args.ask.now in
+    let n = c.args.n.now in
+    let f = first_is (list_at s b.waiting) n c.requires.first in
+    let u = frozen_course (contents_of b s) b.course c.freeze.new.self.course ask b.frozen refl (subst (λ x. PageStands b.frozen x b.course (contents_of b s)) c.requires.on c.requires.sound.page) c.requires.sound.own.classes c.freeze.ensures.first (λ some. ap (λ (x : Builder). x.course) (c.freeze.ensures.again some)) in
+    let k : FitsSigned w64 c.args.ask.now.top_skip = search rules in
+    let glue = simp to_z-of_z at c.top_node-glue.ensures in
+    let h = topped b c.freeze.new.self s c.push_front.new.self ask n c.top_node-glue.result f.0 c.requires.sound c.requires.on c.requires.closed c.requires.fits c.requires.boxed f.1 c.freeze.ensures.ids c.freeze.ensures.frozen glue c.push_front.ensures.pushed u in
+    h.underway
+
+pub reach-event-requires-clause-fits : goal.reach-event-requires-clause-fits
+reach-event-requires-clause-fits c =
+    let b = c.args.self.now in
+    let s = c.args.store.now in
+    let ask = c.args.ask.now in
+    let n = c.args.n.now in
+    let f = first_is (list_at s b.waiting) n c.requires.first in
+    let u = frozen_course (contents_of b s) b.course c.freeze.new.self.course ask b.frozen refl (subst (λ x. PageStands b.frozen x b.course (contents_of b s)) c.requires.on c.requires.sound.page) c.requires.sound.own.classes c.freeze.ensures.first (λ some. ap (λ (x : Builder). x.course) (c.freeze.ensures.again some)) in
+    let k : FitsSigned w64 c.args.ask.now.top_skip = search rules in
+    let glue = simp to_z-of_z at c.top_node-glue.ensures in
+    let h = topped b c.freeze.new.self s c.push_front.new.self ask n c.top_node-glue.result f.0 c.requires.sound c.requires.on c.requires.closed c.requires.fits c.requires.boxed f.1 c.freeze.ensures.ids c.freeze.ensures.frozen glue c.push_front.ensures.pushed u in
+    h.step
+
+pub returns-then-self : goal.returns-then-self
+returns-then-self c =
+    let b = c.args.self.now in
+    let s = c.args.store.now in
+    let ask = c.args.ask.now in
+    let n = c.args.n.now in
+    let f = first_is (list_at s b.waiting) n c.requires.first in
+    let u = frozen_course (contents_of b s) b.course c.freeze.new.self.course ask b.frozen refl (subst (λ x. PageStands b.frozen x b.course (contents_of b s)) c.requires.on c.requires.sound.page) c.requires.sound.own.classes c.freeze.ensures.first (λ some. ap (λ (x : Builder). x.course) (c.freeze.ensures.again some)) in
+    let k : FitsSigned w64 c.args.ask.now.top_skip = search rules in
+    let glue = simp to_z-of_z at c.top_node-glue.ensures in
+    let h = topped b c.freeze.new.self s c.push_front.new.self ask n c.top_node-glue.result f.0 c.requires.sound c.requires.on c.requires.closed c.requires.fits c.requires.boxed f.1 c.freeze.ensures.ids c.freeze.ensures.frozen glue c.push_front.ensures.pushed u in
+    opening_stops b c.freeze.new.self c.reach-event.new.self s c.push_front.new.self c.reach-event.new.store ask n c.top_node-glue.result f.0 c.reach-event.result h (c.freeze.ensures.stopped ∙ c.requires.on) (c.freeze.ensures.opened ∙ c.requires.closed)
+    c.reach-event.ensures.moves c.reach-event.ensures.step c.reach-event.ensures.opened c.reach-event.ensures.frozen c.if-self.true
+
+pub put-requires-clause-first : goal.put-requires-clause-first
+put-requires-clause-first c =
+    let b = c.args.self.now in
+    let s = c.args.store.now in
+    let ask = c.args.ask.now in
+    let n = c.args.n.now in
+    let f = first_is (list_at s b.waiting) n c.requires.first in
+    let u = frozen_course (contents_of b s) b.course c.freeze.new.self.course ask b.frozen refl (subst (λ x. PageStands b.frozen x b.course (contents_of b s)) c.requires.on c.requires.sound.page) c.requires.sound.own.classes c.freeze.ensures.first (λ some. ap (λ (x : Builder). x.course) (c.freeze.ensures.again some)) in
+    let k : FitsSigned w64 c.args.ask.now.top_skip = search rules in
+    let glue = simp to_z-of_z at c.top_node-glue.ensures in
+    let h = topped b c.freeze.new.self s c.push_front.new.self ask n c.top_node-glue.result f.0 c.requires.sound c.requires.on c.requires.closed c.requires.fits c.requires.boxed f.1 c.freeze.ensures.ids c.freeze.ensures.frozen glue c.push_front.ensures.pushed u in
+    ap (λ xs. slice_get xs 0) (c.reach-event.ensures.behind (n ∷ f.0) c.if-self.false h.list_is)
+
+pub put-requires-clause-node : goal.put-requires-clause-node
+put-requires-clause-node c =
+    let f = first_is (list_at c.args.store.now c.args.self.now.waiting) c.args.n.now c.requires.first in
+    box_small c.args.self.now c.args.store.now c.args.ask.now c.args.n.now f.0 c.requires.sound c.requires.closed c.requires.fits c.requires.boxed f.1
+
+pub put-requires-clause-fits : goal.put-requires-clause-fits
+put-requires-clause-fits c =
+    let b = c.args.self.now in
+    let s = c.args.store.now in
+    let ask = c.args.ask.now in
+    let n = c.args.n.now in
+    let f = first_is (list_at s b.waiting) n c.requires.first in
+    let u = frozen_course (contents_of b s) b.course c.freeze.new.self.course ask b.frozen refl (subst (λ x. PageStands b.frozen x b.course (contents_of b s)) c.requires.on c.requires.sound.page) c.requires.sound.own.classes c.freeze.ensures.first (λ some. ap (λ (x : Builder). x.course) (c.freeze.ensures.again some)) in
+    let k : FitsSigned w64 c.args.ask.now.top_skip = search rules in
+    let glue = simp to_z-of_z at c.top_node-glue.ensures in
+    let h = topped b c.freeze.new.self s c.push_front.new.self ask n c.top_node-glue.result f.0 c.requires.sound c.requires.on c.requires.closed c.requires.fits c.requires.boxed f.1 c.freeze.ensures.ids c.freeze.ensures.frozen glue c.push_front.ensures.pushed u in
+    opening_sums b c.freeze.new.self c.reach-event.new.self s c.push_front.new.self c.reach-event.new.store ask n c.top_node-glue.result f.0 c.reach-event.result h (c.freeze.ensures.stopped ∙ c.requires.on) (c.freeze.ensures.opened ∙ c.requires.closed)
+    c.reach-event.ensures.moves c.reach-event.ensures.step c.reach-event.ensures.opened c.reach-event.ensures.frozen
+    c.requires.fits c.requires.boxed c.if-self.false (c.reach-event.ensures.behind (n ∷ f.0) c.if-self.false h.list_is)
+
+pub returns : goal.returns
+returns c =
+    let b = c.args.self.now in
+    let s = c.args.store.now in
+    let ask = c.args.ask.now in
+    let n = c.args.n.now in
+    let f = first_is (list_at s b.waiting) n c.requires.first in
+    let u = frozen_course (contents_of b s) b.course c.freeze.new.self.course ask b.frozen refl (subst (λ x. PageStands b.frozen x b.course (contents_of b s)) c.requires.on c.requires.sound.page) c.requires.sound.own.classes c.freeze.ensures.first (λ some. ap (λ (x : Builder). x.course) (c.freeze.ensures.again some)) in
+    let k : FitsSigned w64 c.args.ask.now.top_skip = search rules in
+    let glue = simp to_z-of_z at c.top_node-glue.ensures in
+    let h = topped b c.freeze.new.self s c.push_front.new.self ask n c.top_node-glue.result f.0 c.requires.sound c.requires.on c.requires.closed c.requires.fits c.requires.boxed f.1 c.freeze.ensures.ids c.freeze.ensures.frozen glue c.push_front.ensures.pushed u in
+    let d : Builder = record c.put.new.self { opened = true } in
+    let behind = c.reach-event.ensures.behind (n ∷ f.0) c.if-self.false h.list_is in
+    opening_goes b c.freeze.new.self c.reach-event.new.self s c.push_front.new.self c.reach-event.new.store ask n c.top_node-glue.result f.0 c.reach-event.result h (c.freeze.ensures.stopped ∙ c.requires.on) (c.freeze.ensures.opened ∙ c.requires.closed)
+    c.reach-event.ensures.moves c.reach-event.ensures.step c.reach-event.ensures.opened c.reach-event.ensures.frozen
+    c.requires.fits c.requires.boxed c.if-self.false behind
+    d c.put.new.store (record { own = c.put.ensures.moves.own; others = c.put.ensures.moves.others; keeps = c.put.ensures.moves.keeps; classes = c.put.ensures.moves.classes; boxes = c.put.ensures.moves.boxes; held = c.put.ensures.moves.held })
+    (record { waiting = c.put.ensures.shifted.waiting; page = c.put.ensures.shifted.page; frozen = c.put.ensures.shifted.frozen; stopped = c.put.ensures.shifted.stopped }) refl
+    c.put.ensures.course f.1 (c.put.ensures.behind f.0 behind)

@@ -1,0 +1,84 @@
+//! Nodes and lists are handed to a builder, and its lists are shown.
+
+ghost use Rattle.std.specs.Prelude.{◌≡◌, ◌≢◌, ◌++◌, ◌∷◌, [], Some, ℕ, OnOk, OnErr};
+ghost use Rattle.std.specs.FinMap.{get};
+ghost use Rattle.tb_pool.specs.Lists.{IsLive, list_at};
+ghost use Rattle.tb_node.specs.Plain.{plain_of};
+ghost use Rattle.tb_builder.specs.Contents.{contents_of, plain_list};
+ghost use Rattle.tb_builder.specs.Owned.{ids_of, owned, inner_ids, Lacks};
+ghost use Rattle.tb_builder.specs.Running.{IsSound};
+ghost use Rattle.tb_builder.specs.Handed.{NodesJoin, ListJoins, MayWait, InFront, NoPage};
+
+use crate::Builder;
+use std::alloc::AllocError;
+use tb_node::Node;
+use tb_pool::{ListId, Lists};
+
+// The nodes of the lists `a` and `b` come before those of `c`; `a` and `b` are empty then.
+fn put_in_front(store: &mut Lists<Node>, a: ListId, b: ListId, c: ListId)
+    requires first_live { IsLive store.old a }
+    requires second_live { IsLive store.old b }
+    requires third_live { IsLive store.old c }
+    requires apart { a ≢ b }
+    requires first_apart { a ≢ c }
+    requires second_apart { b ≢ c }
+    ensures front { InFront store.old store.new a b c }
+    ensures spare { store.new.spare ≡ store.old.spare }
+{
+    store.append(a, b);
+    store.append(a, c);
+    store.append(c, a);
+}
+
+impl Builder {
+    /// A node goes to the end of what waits; the list of an insertion is the builder's from then on. The node is no
+    /// glue where the page's last node is a kern and nothing but acts waits. On an `Err` nothing changed.
+    pub fn contribute(&mut self, store: &mut Lists<Node>, n: Node) -> Result<(), AllocError>
+        requires sound { IsSound self.old store.old }
+        requires joins { NodesJoin (ids_of self.old) store.old (n ∷ []) }
+        requires may_wait { MayWait (contents_of self.old store.old) (plain_of (list_at store.old) n) }
+        ensures sound { IsSound self.new store.new }
+        ensures contents { OnOk result (contents_of self.new store.new ≡ record (contents_of self.old store.old) { waiting = (contents_of self.old store.old).waiting ++ plain_of (list_at store.old) n ∷ [] }) }
+        ensures err { OnErr result (store.new.lists ≡ store.old.lists) }
+        ensures same { self.new ≡ self.old }
+        ensures others { (q : ℕ) → Lacks q (owned (ids_of self.old) store.old) → get store.new.lists q ≡ get store.old.lists q }
+        ensures keeps { (q : ℕ) → Lacks q (owned (ids_of self.old) store.old ++ inner_ids (n ∷ [])) → Lacks q (owned (ids_of self.new) store.new) }
+    {
+        store.reserve(1)?;
+        store.push_back(self.waiting, n);
+        Ok(())
+    }
+
+    /// What the output routine puts back after a page fired: the nodes of the list come before what waits, and the
+    /// insertions that were held of that page before them. The list is empty then. Takes no memory.
+    pub fn put_back(&mut self, store: &mut Lists<Node>, list: ListId)
+        requires sound { IsSound self.old store.old }
+        requires empty { NoPage (contents_of self.old store.old) }
+        requires joins { ListJoins (ids_of self.old) store.old list }
+        ensures sound { IsSound self.new store.new }
+        ensures contents { contents_of self.new store.new ≡ record (contents_of self.old store.old) {
+          waiting = (contents_of self.old store.old).held ++ (plain_list store.old list ++ (contents_of self.old store.old).waiting);
+          held = [];
+        } }
+        ensures spare { store.new.spare ≡ store.old.spare }
+        ensures emptied { get store.new.lists list ≡ Some [] }
+        ensures others { (q : ℕ) → q ≢ list → Lacks q (owned (ids_of self.old) store.old) → get store.new.lists q ≡ get store.old.lists q }
+        ensures keeps { (q : ℕ) → Lacks q (owned (ids_of self.old) store.old ++ inner_ids (list_at store.old list)) → Lacks q (owned (ids_of self.new) store.new) }
+    {
+        put_in_front(store, self.held, list, self.waiting);
+    }
+
+    /// The list that holds the nodes that wait.
+    pub fn waiting(&self) -> ListId
+        ensures { result ≡ self.now.waiting }
+    {
+        self.waiting
+    }
+
+    /// The list that holds the page so far.
+    pub fn on_page(&self) -> ListId
+        ensures { result ≡ self.now.page }
+    {
+        self.page
+    }
+}
