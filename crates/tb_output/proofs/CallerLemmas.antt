@@ -57,6 +57,7 @@ event-taken m now store e same is = taken (subst (λ v. IsMachine v store) same 
         params = h.params;
         first = h.first;
         last = h.last;
+        pool = h.pool;
         held_page = h.held_page;
         left_column = h.left_column;
         events = h.events.1;

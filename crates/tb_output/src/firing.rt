@@ -1,6 +1,6 @@
 //! A firing of the output routine (ltoutput.dtx, \output).
 
-ghost use Rattle.std.specs.Prelude.{◌≡◌, Err, IfOk, IfErr, IfSome, IfNone};
+ghost use Rattle.std.specs.Prelude.{◌≡◌, None, Err, IfOk, IfErr, OnOk, IfSome, IfNone};
 ghost use Rattle.tb_output.specs.Machine.{IsMachine, IsFloatless};
 ghost use Rattle.tb_output.specs.Firing.{firing_work, CanServe, IsTurn, IsRefusal, IsPutBack, OthersStand};
 ghost use Rattle.tb_output.specs.Shipping.{counted_work, IsOutput, IsNotOutput};
@@ -39,6 +39,7 @@ impl Machine {
         ensures machine { IsMachine self.new store.new }
         ensures floatless { IfOk result (λ _. IsFloatless self.new store.new) }
         ensures put_back { IfOk result (λ t. IsPutBack self.new store.old store.new page.body t.put_back) }
+        ensures goes_on { OnOk result (self.new.fault ≡ None) }
         ensures params { self.new.params ≡ self.old.params }
         ensures others { OthersStand store.old store.new page.body notes }
     {
