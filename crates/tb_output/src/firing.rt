@@ -1,8 +1,8 @@
 //! A firing of the output routine (ltoutput.dtx, \output).
 
-ghost use Rattle.std.specs.Prelude.{◌≡◌, Err, IfOk, IfErr, IfSome, IfNone};
+ghost use Rattle.std.specs.Prelude.{◌≡◌, None, Err, IfOk, IfErr, OnOk, IfSome, IfNone};
 ghost use Rattle.tb_output.specs.Machine.{IsMachine, IsFloatless};
-ghost use Rattle.tb_output.specs.Firing.{firing_work, CanServe, IsTurn, IsRefusal, IsPutBack, OthersStand};
+ghost use Rattle.tb_output.specs.Firing.{firing_work, CanServe, IsTurn, IsRefusal, IsPutBack, OthersStand, TakesBody};
 ghost use Rattle.tb_output.specs.Shipping.{counted_work, IsOutput, IsNotOutput};
 
 use crate::limits::is_below;
@@ -39,8 +39,10 @@ impl Machine {
         ensures machine { IsMachine self.new store.new }
         ensures floatless { IfOk result (λ _. IsFloatless self.new store.new) }
         ensures put_back { IfOk result (λ t. IsPutBack self.new store.old store.new page.body t.put_back) }
+        ensures goes_on { OnOk result (self.new.fault ≡ None) }
         ensures params { self.new.params ≡ self.old.params }
         ensures others { OthersStand store.old store.new page.body notes }
+        ensures lists { TakesBody page.body self.old self.new }
     {
         if let Some(fault) = self.fault {
             return Err(fault);
@@ -82,6 +84,7 @@ impl Machine {
         ensures fault { self.new.fault ≡ self.old.fault }
         ensures params { self.new.params ≡ self.old.params }
         ensures others { OthersStand store.old store.new page.body notes }
+        ensures lists { TakesBody page.body self.old self.new }
     {
         if page.penalty >= EJECT_PENALTY {
             return self.ordinary(store, page.body, notes);
