@@ -118,7 +118,3 @@ pub record IsPutBack (m : MachineView) (store new : Lists Node) (body l : ℕ) :
 -- each other list that was live is as before
 abbrev pub OthersStand : Lists Node → Lists Node → ℕ → Option ℕ → Type 0
 OthersStand store new body notes = (q : ℕ) → q ≢ body → IsNotNotes q notes → IsLive store q → get new.lists q ≡ get store.lists q
-
--- a list that is neither the machine's nor the body's is none of the machine's afterwards
-abbrev pub TakesBody : ℕ → MachineView → MachineView → Type 0
-TakesBody body m now = (q : ℕ) → q ≢ body → IsNotAmong q (machine_lists m) → IsNotAmong q (machine_lists now)

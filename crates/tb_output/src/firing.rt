@@ -2,7 +2,7 @@
 
 ghost use Rattle.std.specs.Prelude.{◌≡◌, None, Err, IfOk, IfErr, OnOk, IfSome, IfNone};
 ghost use Rattle.tb_output.specs.Machine.{IsMachine, IsFloatless};
-ghost use Rattle.tb_output.specs.Firing.{firing_work, CanServe, IsTurn, IsRefusal, IsPutBack, OthersStand, TakesBody};
+ghost use Rattle.tb_output.specs.Firing.{firing_work, CanServe, IsTurn, IsRefusal, IsPutBack, OthersStand};
 ghost use Rattle.tb_output.specs.Shipping.{counted_work, IsOutput, IsNotOutput};
 
 use crate::limits::is_below;
@@ -42,7 +42,6 @@ impl Machine {
         ensures goes_on { OnOk result (self.new.fault ≡ None) }
         ensures params { self.new.params ≡ self.old.params }
         ensures others { OthersStand store.old store.new page.body notes }
-        ensures lists { TakesBody page.body self.old self.new }
     {
         if let Some(fault) = self.fault {
             return Err(fault);
@@ -84,7 +83,6 @@ impl Machine {
         ensures fault { self.new.fault ≡ self.old.fault }
         ensures params { self.new.params ≡ self.old.params }
         ensures others { OthersStand store.old store.new page.body notes }
-        ensures lists { TakesBody page.body self.old self.new }
     {
         if page.penalty >= EJECT_PENALTY {
             return self.ordinary(store, page.body, notes);

@@ -3,7 +3,7 @@ use Rattle.std.specs.Prelude.{IfNone}
 use Rattle.std.proofs.lemmas.Int.{to_z-of_z, ints}
 use Rattle.tb_output.specs.declared.Turn.{Turn}
 use Rattle.tb_output.specs.Machine.{MachineView, IsMachine}
-use Rattle.tb_output.specs.Firing.{firing_work, CanServe, AtDeadCycles, IsTurn, IsRefusal, TakesBody}
+use Rattle.tb_output.specs.Firing.{firing_work, CanServe, AtDeadCycles, IsTurn, IsRefusal}
 use Rattle.tb_output.proofs.TurnOutput.{if-none, of-none, at-dead-cycles, counted-served, turn-by, refused-by}
 use Rattle.tb_output.proofs.Machine.fire_page.Goals as goal
 
@@ -39,11 +39,3 @@ returns-in-Err-clause-refused c =
     let stands = subst (λ (x : MachineView). IsRefusal c.in-Err.fault x (record c.output.new.self { fault = Some c.in-Err.fault }) c.args.store.now c.output.new.store (firing_work x c.args.store.now c.args.page c.args.notes)) c.self.view_is refused in
     if-none c.args.self.now.fault _
     (subst (λ (x : MachineView). IsRefusal c.in-Err.fault c.args.self.now (record x { fault = Some c.in-Err.fault }) c.args.store.now c.output.new.store (firing_work c.args.self.now c.args.store.now c.args.page c.args.notes)) (sym c.self-2.view_is) stands)
-
-pub returns-in-Ok-clause-lists : goal.returns-in-Ok-clause-lists
-returns-in-Ok-clause-lists c = subst (λ (x : MachineView). TakesBody c.args.page.body x c.output.new.self) c.self.view_is c.in-Ok.ensures.lists
-
-pub returns-in-Err-clause-lists : goal.returns-in-Err-clause-lists
-returns-in-Err-clause-lists c =
-    subst (λ (x : MachineView). TakesBody c.args.page.body c.args.self.now x) (sym c.self-2.view_is)
-    (subst (λ (x : MachineView). TakesBody c.args.page.body x c.output.new.self) c.self.view_is c.in-Err.ensures.lists)

@@ -64,11 +64,3 @@ returns-in-None-clause-put_back c = (front-ready c.args.self.now c.args.store.no
 
 pub returns-in-None-clause-others : goal.returns-in-None-clause-others
 returns-in-None-clause-others c = front-others c.args.self.now c.args.store.now c.clear_page.new.store c.args.page c.args.notes c.in-None.is c.requires.machine c.requires.page c.clear_page.ensures
-
-pub returns-then-page-ge-EJECT_PENALTY-clause-lists : goal.returns-then-page-ge-EJECT_PENALTY-clause-lists
-returns-then-page-ge-EJECT_PENALTY-clause-lists c =
-    (kept-either c.args.self.now c.ordinary.new.self c.args.store.now c.ordinary.new.store c.args.page c.args.notes c.requires.machine c.requires.page c.ordinary.result [] (nodes_shown c.args.store.now c.args.page.body) nothing-back c.ordinary.ensures.ok c.ordinary.ensures.err).lists
-
-pub returns-in-Some-clause-lists : goal.returns-in-Some-clause-lists
-returns-in-Some-clause-lists c =
-    (notes-kept c.args.self.now c.clear_notes.new.self c.args.store.now c.clear_notes.new.store c.args.page c.args.notes c.in-Some.notes c.in-Some.is c.requires.machine c.requires.page c.clear_notes.result c.clear_notes.ensures.ok c.clear_notes.ensures.err).lists
