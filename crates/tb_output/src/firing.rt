@@ -69,7 +69,7 @@ impl Machine {
     }
 
     // Why no firing is begun: the fault that stands, or that as many firings as may be were without a page.
-    fn refusal(&self) -> Option<RunFault>
+    pub(crate) fn refusal(&self) -> Option<RunFault>
         requires { AreOutputParams self.now.params }
         ensures { result ≡ refusal_of self.now }
     {
