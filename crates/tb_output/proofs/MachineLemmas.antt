@@ -24,12 +24,13 @@ use Rattle.tb_column.specs.declared.Sent.TheVariants as events
 use Rattle.tb_column.specs.Shown.{nodes_shown}
 use Rattle.tb_column.specs.TextList.{AreLeaves}
 use Rattle.tb_column.proofs.StoreLemmas.{list-get}
-use Rattle.tb_output.specs.State.{first_state, no_suppress}
+use Rattle.tb_output.specs.declared.RunFault.{RunFault}
+use Rattle.tb_output.specs.State.{State, first_state, no_suppress}
 use Rattle.tb_output.specs.Machine.{MachineView, state_shown, left_shown, sheet_lists, sent_lists, event_lists, left_lists, machine_lists, IsNotAmong, AreDistinct, IsPageList, IsPageColumn, IsPageSheet, IsPageSent, IsPageLeft, AreOutputParams, IsMachine, IsFloatless}
 use Rattle.tb_output.specs.Firing.{foot_box, IsNotNotes, AreNotesApart, OthersStand}
 use Rattle.tb_output.specs.Shipping.{shipped_machine}
 use Rattle.tb_output.proofs.FloatlessWork.{bare_state}
-use Rattle.tb_output.proofs.StandLemmas.{all-join, Stands}
+use Rattle.tb_output.proofs.StandLemmas.{all-join, Stands, nodes-stand, list-stands}
 
 -- ---- the beginning
 
@@ -140,6 +141,22 @@ floatless-stands m store new e h = record {
   left_column = h.left_column;
   note_bottom = h.note_bottom;
   suppress = h.suppress;
+}
+
+-- the state is the same where the held page stands and no column waits for a second one
+pub state-stands : (m : MachineView) (store new : Lists Node) (boxes : List Boxed) (waiting : List PlainNode) → Stands store new m.held_page → IsMachine m store → m.left_column ≡ None → state_shown new boxes waiting m ≡ state_shown store boxes waiting m
+state-stands m store new boxes waiting e is none = λ i. record (state_shown store boxes waiting m) { held_page = nodes-stand store new m.held_page e is.held_page.leaves i; left_column = (ap (left_shown new) none ∙ sym (ap (left_shown store) none)) i }
+
+-- a fault that stands is no matter of the lists
+pub with-fault : (m : MachineView) (store : Lists Node) (f : Option RunFault) → IsMachine m store → IsMachine (record m { fault = f }) store
+with-fault m store f is = record {
+  params = is.params;
+  first = is.first;
+  last = is.last;
+  held_page = is.held_page;
+  left_column = is.left_column;
+  events = is.events;
+  apart = is.apart;
 }
 
 pub floatless-shipped : (m : MachineView) (store : Lists Node) (c : Column) → IsFloatless m store → IsFloatless (shipped_machine c m) store

@@ -1,6 +1,6 @@
 -- A firing from the part of it that counts its dead cycle.
-use Rattle.std.proofs.Common.{◌≡◌, refl, sym, subst, ◌∙◌, ap, ℕ, ◌+◌, ℤ, pos, ◌≤ℤ◌, ◌<ℤ◌, true, false, Option, None, Some, append-nil, arith}
-use Rattle.std.specs.Prelude.{IfNone, int_lt}
+use Rattle.std.proofs.Common.{◌≡◌, refl, sym, subst, ◌∙◌, ap, ℕ, ◌+◌, ◌<◌, ℤ, pos, ◌≤ℤ◌, ◌<ℤ◌, Bool, true, false, List, [], ◌++◌, Option, None, Some, append-nil, arith}
+use Rattle.std.specs.Prelude.{IfNone, int_lt, take, if◌then◌else◌}
 use Rattle.std.proofs.lemmas.Int.{ints}
 use Rattle.tb_pool.specs.Lists.{Lists}
 use Rattle.tb_node.specs.declared.Node.{Node}
@@ -8,9 +8,9 @@ use Rattle.tb_builder.specs.declared.Page.{Page}
 use Rattle.tb_output.specs.declared.Turn.{Turn}
 use Rattle.tb_output.specs.declared.RunFault.{RunFault}
 use Rattle.tb_output.specs.declared.RunFault.TheVariants as faults
-use Rattle.tb_output.specs.State.{State}
-use Rattle.tb_output.specs.Machine.{MachineView, events_shown}
-use Rattle.tb_output.specs.Firing.{page_work, firing_work, CanServe, IsTurn, AtDeadCycles, IsRefusal}
+use Rattle.tb_output.specs.State.{State, Work}
+use Rattle.tb_output.specs.Machine.{MachineView, events_shown, IsLimit, IsFloatless}
+use Rattle.tb_output.specs.Firing.{page_work, firing_work, standing_or, refusal_of, AreTextLists, CanServe, IsTurn, AtDeadCycles, IsRefusal, IsCutShort}
 use Rattle.tb_output.specs.Shipping.{output_work, counted_work, IsOutput, IsNotOutput}
 
 -- the machine with one more dead cycle
@@ -28,8 +28,24 @@ of-none o A e h = subst (λ x. IfNone x A) e h
 not-below : (n : ℕ) (z : ℤ) → int_lt (pos n) z ≡ false → z ≤ℤ pos n
 not-below n z e = grind (arith, ints, e)
 
-is-below : (n : ℕ) (z : ℤ) → int_lt (pos n) z ≡ true → pos n <ℤ z
+pub is-below : (n : ℕ) (z : ℤ) → int_lt (pos n) z ≡ true → pos n <ℤ z
 is-below n z e = grind (arith, ints, e)
+
+-- the machine begins a firing
+pub begins-with : (m : MachineView) → refusal_of m ≡ None → (m.fault ≡ None) × (int_lt (pos m.dead_cycles) m.params.maxdeadcycles ≡ true)
+begins-with m e = by_fault m.fault e
+  where
+    by_test : (t : Bool) → (if t then None else Some (faults.DeadCycles m.dead_cycles)) ≡ None → t ≡ true
+    by_test true e = refl
+    by_test false e = cc
+
+    by_fault : (o : Option RunFault) → standing_or m o ≡ None → (o ≡ None) × (int_lt (pos m.dead_cycles) m.params.maxdeadcycles ≡ true)
+    by_fault None e = (refl, by_test (int_lt (pos m.dead_cycles) m.params.maxdeadcycles) e)
+    by_fault (Some f) e = cc
+
+-- so many firings are few
+pub few-cycles : (m : MachineView) → IsLimit m.params.maxdeadcycles → refusal_of m ≡ None → m.dead_cycles < 4194304
+few-cycles m limit e = let h = (begins-with m e).1 in let k = limit.high in grind (arith, ints, h, k)
 
 pub at-dead-cycles : (n : ℕ) (m : MachineView) (store : Lists Node) → n ≡ m.dead_cycles → int_lt (pos m.dead_cycles) m.params.maxdeadcycles ≡ false → AtDeadCycles n m m store store
 at-dead-cycles n m store e below = record { count = e; reached = not-below m.dead_cycles m.params.maxdeadcycles below; machine = refl; lists = refl }
@@ -74,7 +90,7 @@ module _ (m now : MachineView) (store new : Lists Node) (page : Page) (notes : O
     state = h.state;
   })
 
-  refused : (e : RunFault) → IsNotOutput e (counted m) now store new (counted_work (counted m) store page notes) → IsRefusal e m (record now { fault = Some e }) store new (counted_work (counted m) store page notes)
+  refused : (e : RunFault) → IsNotOutput e (counted m) now store new (counted_work (counted m) store page notes) → IsCutShort e m (record now { fault = Some e }) store new (counted_work (counted m) store page notes)
   refused (faults.DeadCycles n) h = absurd h
   refused (faults.PageLimit n) h = record {
     alive = is-below m.dead_cycles m.params.maxdeadcycles below;
@@ -90,5 +106,5 @@ module _ (m now : MachineView) (store new : Lists Node) (page : Page) (notes : O
     stands = refl;
   }
 
-  pub refused-by : (e : RunFault) → IsNotOutput e (counted m) now store new (counted_work (counted m) store page notes) → IsRefusal e m (record now { fault = Some e }) store new (firing_work m store page notes)
-  refused-by e h = subst (IsRefusal e m (record now { fault = Some e }) store new) work-counted (refused e h)
+  pub refused-by : (e : RunFault) → IsNotOutput e (counted m) now store new (counted_work (counted m) store page notes) → IsCutShort e m (record now { fault = Some e }) store new (firing_work m store page notes)
+  refused-by e h = subst (IsCutShort e m (record now { fault = Some e }) store new) work-counted (refused e h)

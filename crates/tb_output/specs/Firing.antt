@@ -1,5 +1,5 @@
 -- What the machine answers at a firing, against the definition of a firing.
-use Rattle.std.specs.Prelude.{◌≡◌, ◌≢◌, ◌≤◌, ◌+◌, ℕ, ℤ, pos, ◌≤ℤ◌, ◌<ℤ◌, true, false, List, [], ◌∷◌, ◌++◌, length, take, All, Option, Some, None}
+use Rattle.std.specs.Prelude.{◌≡◌, ◌≢◌, ◌≤◌, ◌+◌, ◌-◌, ℕ, ℤ, pos, ◌≤ℤ◌, ◌<ℤ◌, Bool, true, false, List, [], ◌∷◌, ◌++◌, length, take, All, Option, Some, None, int_lt, if◌then◌else◌}
 use Rattle.std.specs.FinMap.{get}
 use Rattle.tb_pool.specs.Lists.{Lists, IsLive, list_at}
 use Rattle.tb_node.specs.declared.Node.{Node}
@@ -72,6 +72,15 @@ pub record CanServe (m : MachineView) (store : Lists Node) (page : Page) (notes 
 
 -- ---- what stands after a firing
 
+-- the fault that stands, or that as many firings as may be were without a page
+abbrev pub standing_or : MachineView → Option RunFault → Option RunFault
+standing_or m None = if int_lt (pos m.dead_cycles) m.params.maxdeadcycles then None else Some (faults.DeadCycles m.dead_cycles)
+standing_or m (Some e) = Some e
+
+-- why a machine begins no firing, where it does not
+abbrev pub refusal_of : MachineView → Option RunFault
+refusal_of m = standing_or m m.fault
+
 -- a turn is the work of the firing: what is put back, what is sent, and the state
 pub record IsTurn (t : Turn) (m now : MachineView) (store new : Lists Node) (w : Work) : Type 0 where
   pub alive : pos m.dead_cycles <ℤ m.params.maxdeadcycles
@@ -108,6 +117,16 @@ abbrev pub IsRefusal : RunFault → MachineView → MachineView → Lists Node �
 IsRefusal (faults.DeadCycles n) m now store new w = AtDeadCycles n m now store new
 IsRefusal (faults.PageLimit n) m now store new w = AtPageLimit n m now store new w
 IsRefusal faults.Memory m now store new w = WithoutMemory m now store new w
+
+-- why a firing that was begun was not ended, and what stands then
+abbrev pub IsCutShort : RunFault → MachineView → MachineView → Lists Node → Lists Node → Work → Type 0
+IsCutShort (faults.DeadCycles n) m now store new w = ⊥
+IsCutShort (faults.PageLimit n) m now store new w = AtPageLimit n m now store new w
+IsCutShort faults.Memory m now store new w = WithoutMemory m now store new w
+
+-- a list that was neither the body nor the machine's is none of the machine's
+abbrev pub TakesOnly : ℕ → MachineView → MachineView → Type 0
+TakesOnly body m now = (q : ℕ) → q ≢ body → IsNotAmong q (machine_lists m) → IsNotAmong q (machine_lists now)
 
 -- the list that goes back after a page with this body: such as that of a page, none of the machine's, and no other list that was live
 pub record IsPutBack (m : MachineView) (store new : Lists Node) (body l : ℕ) : Type 0 where

@@ -23,7 +23,7 @@ fn ships_a_page_with_a_footnote(rt: HostRuntime) -> Result<(), Fail> {
     let body = text(&mut store)?;
     let notes = text(&mut store)?;
     let mut machine = new_machine(rt.alloc(), &mut store, &params(1, 25))?;
-    let Ok(turn) = machine.fire_page(&mut store, page(body, -10_000), Some(notes)) else {
+    let Ok(turn) = machine.serve(&mut store, page(body, -10_000), Some(notes)) else {
         return Err(Fail::from("refused"));
     };
     assert_eq!(rt; turn.goal, 30);
@@ -48,7 +48,7 @@ fn clears_a_page_with_a_footnote(rt: HostRuntime) -> Result<(), Fail> {
     let body = text(&mut store)?;
     let notes = text(&mut store)?;
     let mut machine = new_machine(rt.alloc(), &mut store, &params(1, 25))?;
-    let Ok(turn) = machine.fire_page(&mut store, page(body, -10_001), Some(notes)) else {
+    let Ok(turn) = machine.serve(&mut store, page(body, -10_001), Some(notes)) else {
         return Err(Fail::from("refused"));
     };
     assert_eq!(rt; store.len(turn.put_back), 5);
@@ -70,7 +70,7 @@ fn clears_a_page(rt: HostRuntime) -> Result<(), Fail> {
     let mut store = Lists::new(rt.alloc());
     let body = text(&mut store)?;
     let mut machine = new_machine(rt.alloc(), &mut store, &params(1, 25))?;
-    let Ok(turn) = machine.fire_page(&mut store, page(body, -10_001), None) else {
+    let Ok(turn) = machine.serve(&mut store, page(body, -10_001), None) else {
         return Err(Fail::from("refused"));
     };
     assert_eq!(rt; store.len(turn.put_back), 1);
@@ -86,19 +86,12 @@ fn refuses_at_the_limits(rt: HostRuntime) -> Result<(), Fail> {
     let mut machine = new_machine(rt.alloc(), &mut store, &params(0, 25))?;
     assert!(rt;
         matches!(
-            machine.fire_page(&mut store, page(body, -10_000), None),
+            machine.serve(&mut store, page(body, -10_000), None),
             Err(RunFault::PageLimit { pages: 0 })
         )
     );
-    let mut store = Lists::new(rt.alloc());
-    let body = text(&mut store)?;
-    let mut machine = new_machine(rt.alloc(), &mut store, &params(1, 0))?;
-    assert!(rt;
-        matches!(
-            machine.fire_page(&mut store, page(body, -10_000), None),
-            Err(RunFault::DeadCycles { count: 0 })
-        )
-    );
+    let machine = new_machine(rt.alloc(), &mut store, &params(1, 0))?;
+    assert!(rt; matches!(machine.refusal(), Some(RunFault::DeadCycles { count: 0 })));
     Ok(())
 }
 
