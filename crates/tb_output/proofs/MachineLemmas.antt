@@ -153,6 +153,7 @@ with-fault m store f is = record {
   params = is.params;
   first = is.first;
   last = is.last;
+  pool = is.pool;
   held_page = is.held_page;
   left_column = is.left_column;
   events = is.events;
