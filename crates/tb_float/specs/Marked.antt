@@ -1,5 +1,5 @@
 -- The pool once the floats that are chosen for a column have left.
-use Rattle.std.specs.Prelude.{Bool, false, length, replicate}
+use Rattle.std.specs.Prelude.{false, length, replicate}
 use Rattle.tb_float.specs.Pool.{FloatPool, unmarked_floats}
 
 -- the floats that are not marked stay in their order, and none of them is marked
