@@ -8,3 +8,4 @@ pub mod PoolLemmas
 pub mod MarkLemmas
 pub mod RoomLemmas
 pub mod ParamLemmas
+pub mod RetireLemmas
