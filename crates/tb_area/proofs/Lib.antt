@@ -1,3 +1,4 @@
 pub mod DeferredLemmas
 pub mod ChoiceLemmas
 pub mod LawLemmas
+pub mod FillingLemmas
