@@ -7,3 +7,5 @@ pub mod SoundLemmas
 pub mod PoolLemmas
 pub mod MarkLemmas
 pub mod RoomLemmas
+pub mod ParamLemmas
+pub mod RetireLemmas

@@ -14,7 +14,8 @@ use tb_param::Params;
 use tb_scaled::frac;
 
 impl Pool {
-    /// The height of a column, in scaled points: that of the text less what the double floats take.
+    /// The height of a column, in scaled points: that of the text less what the double floats take (after ltoutput.dtx,
+    /// `\@colht`).
     pub fn column_height(&self, p: &Params) -> i64
         requires { AreFloatParams p.now }
         ensures value { result ≡ column_height_of p.now self.now.lists }
@@ -26,7 +27,8 @@ impl Pool {
         )
     }
 
-    /// The room of a column, in scaled points: its height less what the floats at its top and at its bottom take.
+    /// The room of a column, in scaled points: its height less what the floats at its top and at its bottom take (after
+    /// ltoutput.dtx, `\@colroom`).
     pub fn column_room(&self, p: &Params) -> i64
         requires { AreFloatParams p.now }
         ensures value { result ≡ column_room_of p.now self.now.lists }
@@ -38,7 +40,7 @@ impl Pool {
     }
 
     /// The room of an area, in scaled points: its share of the column, or of the whole height for double floats, less
-    /// what the floats in it take.
+    /// what the floats in it take (after ltoutput.dtx, `\@toproom`, `\@botroom` and `\@dbltoproom`).
     pub fn room(&self, p: &Params, part: Part) -> i64
         requires params { AreFloatParams p.now }
         requires area { IsArea part }
@@ -70,7 +72,8 @@ impl Pool {
         )
     }
 
-    /// What the floats in the text take, in scaled points: each with `intextsep` above and below.
+    /// What the floats in the text take, in scaled points: each with `intextsep` above and below (after ltoutput.dtx,
+    /// `\@textmin`).
     pub fn text_room(&self, p: &Params) -> i64
         requires { AreFloatParams p.now }
         ensures value { result ≡ text_float_room p.now.intextsep.width self.now.lists.here }
@@ -93,7 +96,8 @@ impl Pool {
         taken(first, between, self.heights.of(part), self.len(part))
     }
 
-    /// How many more floats a limit lets in. A float with the mark `!` may come where none may.
+    /// How many more floats a limit lets in (after ltoutput.dtx, `\@topnum`, `\@botnum`, `\@colnum` and `\@dbltopnum`). A
+    /// float with the mark `!` may come where none may.
     pub fn count_left(&self, p: &Params, s: &Suppress, l: Limit, bang: bool) -> i64
         requires { AreFloatParams p.now }
         ensures { result ≡ count_left_of p.now self.now.lists s.now l bang }

@@ -79,7 +79,10 @@ fn a_pool_of_two_is_full_at_two(rt: HostRuntime) -> Result<(), Fail> {
     let mut pool = new_pool(rt.alloc(), 2)?;
     assert!(rt; pool.take(float_of(name, 1, 5)).is_ok());
     assert!(rt; pool.take(float_of(name, 1, 6)).is_ok());
-    assert_eq!(rt; pool.take(float_of(name, 1, 7)).err().map(|e| e.live), Some(2));
+    assert_eq!(rt;
+        pool.take(float_of(name, 1, 7)).err().map(|e| e.live),
+        Some(2)
+    );
     assert_eq!(rt; heights(&pool, Part::Current), 56);
     assert!(rt; pool.retire(Part::Current).is_some());
     assert!(rt; pool.take(float_of(name, 1, 8)).is_ok());
@@ -136,8 +139,11 @@ fn places_are_used_again(rt: HostRuntime) -> Result<(), Fail> {
 fn deferred(rt: &HostRuntime, name: Name) -> Result<Pool, Fail> {
     let mut pool = new_pool(rt.alloc(), 18)?;
     for class in 1..=3u8 {
-        assert!(rt; pool.take(float_of(name, class, i64::from(class))).is_ok());
-        assert!(rt; move_first(&mut pool, Part::Current, Part::Deferred));
+        if pool.take(float_of(name, class, i64::from(class))).is_err()
+            || !move_first(&mut pool, Part::Current, Part::Deferred)
+        {
+            return Err("not deferred")?;
+        }
     }
     Ok(pool)
 }

@@ -1,1 +1,3 @@
+pub mod CompanyLemmas
+pub mod LawLemmas
 pub mod WalkLemmas

@@ -1,35 +1,35 @@
-//! The heads of companies, one walk over the deferred floats for each.
-ghost use Rattle.std.specs.Prelude.{◌≡◌, ◌<◌, ◌&&◌, ℤ, [], ◌∷◌, ◌++◌, List, map, replicate, false, true, length, take, drop, suc, slice_get, Some};
+//! The heads of companies, with one walk over the deferred floats for each.
+ghost use Rattle.std.specs.Prelude.{◌≡◌, ◌≤◌, ◌<◌, List, [], length, take, slice_get, Some, IfSome, IfNone, true, false};
 ghost use Rattle.tb_node.specs.declared.Float.{Float as PlainFloat};
-ghost use Rattle.tb_float.specs.Lists.{has_class};
-ghost use Rattle.tb_float.specs.Pool.{marked_floats, with_mark};
-ghost use Rattle.tb_fpage.specs.Company.{Choice, suits, is_head, is_made, company_of_head, company_height, passed_over};
-ghost use Rattle.tb_fpage.specs.Walked.{Stands};
+ghost use Rattle.tb_float.specs.Pool.{marked_floats};
+ghost use Rattle.tb_float.specs.Stored.{is_float};
+ghost use Rattle.tb_fpage.specs.Company.{Choice, is_head, is_made};
+ghost use Rattle.tb_fpage.specs.Walked.{Stands, company_of_place, is_made_at};
 
 use crate::Wanted;
 use crate::walk::{Walk, suits};
 use tb_float::{Entry, Part, Pool};
 use tb_node::Float;
 
-/// The deferred float at a place.
-fn deferred_float(pool: &Pool, k: usize) -> Float
-    requires { k < length pool.now.lists.deferred }
-    ensures { slice_get pool.now.lists.deferred k ≡ Some result }
+/// The company of the deferred float at a place, where it is a head and its company is made.
+pub(crate) fn company_at(pool: &Pool, wanted: &Wanted, place: usize) -> Option<Walk>
+    requires within { place < length pool.now.lists.deferred }
+    requires few { length pool.now.lists.deferred ≤ 4096 }
+    ensures made { (f : PlainFloat) → slice_get pool.now.lists.deferred place ≡ Some f → IfSome result (λ w. (is_made_at wanted.now place pool.now.lists.deferred f ≡ true) × Stands w wanted.now.sep (company_of_place wanted.now place pool.now.lists.deferred f)) }
+    ensures none { (f : PlainFloat) → slice_get pool.now.lists.deferred place ≡ Some f → IfNone result (is_made_at wanted.now place pool.now.lists.deferred f ≡ false) }
 {
-    match pool.entry(Part::Deferred, k) {
-        Some(Entry::Float(f)) => *f,
-        _ => unreachable!(),
+    if !is_head(pool, wanted, place) {
+        return None;
+    }
+    let company = gathered(pool, wanted, place);
+    if is_made(wanted, &company) {
+        Some(company)
+    } else {
+        None
     }
 }
 
-/// Whether the deferred float at a place is a head, and its company is made.
-pub(crate) fn heads_company(pool: &Pool, wanted: &Wanted, place: usize) -> bool
-    requires { place < length pool.now.lists.deferred }
-    ensures { (f : PlainFloat) → slice_get pool.now.lists.deferred place ≡ Some f → result ≡ (is_head wanted.now (take place pool.now.lists.deferred) f && is_made wanted.now (company_of_head wanted.now (take place pool.now.lists.deferred) f (drop (suc place) pool.now.lists.deferred))) }
-{
-    is_head(pool, wanted, place) && is_made(pool, wanted, place)
-}
-
+// Whether the deferred float at a place is a head.
 fn is_head(pool: &Pool, wanted: &Wanted, place: usize) -> bool
     requires { place < length pool.now.lists.deferred }
     ensures { (f : PlainFloat) → slice_get pool.now.lists.deferred place ≡ Some f → result ≡ is_head wanted.now (take place pool.now.lists.deferred) f }
@@ -38,59 +38,57 @@ fn is_head(pool: &Pool, wanted: &Wanted, place: usize) -> bool
     suits(wanted, &head) && !pool.has_class_before(place, head.class)
 }
 
-fn is_made(pool: &Pool, wanted: &Wanted, place: usize) -> bool
-    requires { place < length pool.now.lists.deferred }
-    ensures { (f : PlainFloat) → slice_get pool.now.lists.deferred place ≡ Some f → result ≡ is_made wanted.now (company_of_head wanted.now (take place pool.now.lists.deferred) f (drop (suc place) pool.now.lists.deferred)) }
+// The deferred float at a place.
+fn deferred_float(pool: &Pool, k: usize) -> Float
+    requires { k < length pool.now.lists.deferred }
+    ensures { slice_get pool.now.lists.deferred k ≡ Some result }
 {
-    wanted.clearing || i128::from(wanted.minimum) < company_height(pool, wanted, place)
-}
-
-// The height of the company of the head at a place, with its separators.
-fn company_height(pool: &Pool, wanted: &Wanted, place: usize) -> i128
-    requires { place < length pool.now.lists.deferred }
-    ensures { (f : PlainFloat) → slice_get pool.now.lists.deferred place ≡ Some f → result ≡ company_height wanted.now.sep (company_of_head wanted.now (take place pool.now.lists.deferred) f (drop (suc place) pool.now.lists.deferred)) }
-{
-    let mut walk = begun(pool, place);
-    for k in place + 1..pool.len(Part::Deferred) {
-        walk.decide(wanted, &deferred_float(pool, k));
+    match pool.entry(Part::Deferred, k) {
+        Some(entry) => float_in(*entry),
+        None => unreachable!(),
     }
-    walk.height
 }
 
-// The walk at a head: all before it are passed over.
-fn begun(pool: &Pool, place: usize) -> Walk
-    requires { place < length pool.now.lists.deferred }
-    ensures { (sep : ℤ) (f : PlainFloat) → slice_get pool.now.lists.deferred place ≡ Some f → Stands result sep (passed_over (take place pool.now.lists.deferred) ++ record { float = f; chosen = true } ∷ []) }
+// The float of an entry that is one.
+fn float_in(entry: Entry) -> Float
+    requires { is_float entry ≡ true }
+    ensures { entry ≡ Entry.Float result }
 {
-    let head = deferred_float(pool, place);
-    let mut walk = Walk::at_head(head.height);
-    for k in 0..place {
-        walk.fail(deferred_float(pool, k).class);
+    match entry {
+        Entry::Float(f) => f,
+        _ => unreachable!(),
+    }
+}
+
+// The company of the deferred float at a place.
+fn gathered(pool: &Pool, wanted: &Wanted, place: usize) -> Walk
+    requires within { place < length pool.now.lists.deferred }
+    requires few { length pool.now.lists.deferred ≤ 4096 }
+    ensures { (f : PlainFloat) → slice_get pool.now.lists.deferred place ≡ Some f → Stands result wanted.now.sep (company_of_place wanted.now place pool.now.lists.deferred f) }
+{
+    let mut walk = Walk::to_head(place);
+    for entry in pool.entries(Part::Deferred) {
+        walk.visit(wanted, &float_in(*entry));
     }
     walk
 }
 
-/// Marks the company of the head at a place.
-pub(crate) fn mark_company(pool: &mut Pool, wanted: &Wanted, place: usize)
-    requires within { place < length pool.old.lists.deferred }
-    requires unmarked { marked_floats pool.old ≡ [] }
-    ensures { (f : PlainFloat) → slice_get pool.old.lists.deferred place ≡ Some f → pool.new ≡ record pool.old { marks = map (λ c. c.chosen) (company_of_head wanted.now (take place pool.old.lists.deferred) f (drop (suc place) pool.old.lists.deferred)) } }
+// Whether a company that was gathered is made.
+fn is_made(wanted: &Wanted, company: &Walk) -> bool
+    ensures { (choices : List Choice) → Stands company.now wanted.now.sep choices → result ≡ is_made wanted.now choices }
 {
-    let mut walk = begun(pool, place);
-    let count = pool.len(Part::Deferred);
-    pool.mark(place);
-    for k in place + 1..count {
-        let chosen = walk.decide(wanted, &deferred_float(pool, k));
-        mark_where(pool, k, chosen);
-    }
+    wanted.clearing || i128::from(wanted.minimum) < company.height
 }
 
-fn mark_where(pool: &mut Pool, k: usize, chosen: bool)
-    requires { k < length pool.old.lists.deferred }
-    ensures set { chosen ≡ true → pool.new ≡ with_mark k pool.old }
-    ensures left { chosen ≡ false → pool.new ≡ pool.old }
+/// Marks the deferred floats of a company that was gathered.
+pub(crate) fn mark_company(pool: &mut Pool, company: &Walk)
+    requires unmarked { marked_floats pool.old ≡ [] }
+    requires all { company.now.seen ≡ length pool.old.lists.deferred }
+    ensures { pool.new ≡ record pool.old { marks = take company.now.seen company.now.chosen } }
 {
-    if chosen {
-        pool.mark(k);
+    for k in 0..pool.len(Part::Deferred) {
+        if company.chosen[k] {
+            pool.mark(k);
+        }
     }
 }

@@ -1,51 +1,66 @@
-//! A walk over the deferred floats from a head on.
-ghost use Rattle.std.specs.Prelude.{◌≡◌, ◌+ℤ◌, ◌∷◌, ◌++◌, [], List, slice_set, slice_get, Some, true};
+//! A walk over the deferred floats, which gathers the company of a head.
+ghost use Rattle.std.specs.Prelude.{◌≡◌, ◌<◌, ◌+ℤ◌, ◌∷◌, ◌++◌, [], ℕ, ℤ, List, slice_get, Some};
 ghost use Rattle.tb_float.specs.Ranges.{IsWithin};
 ghost use Rattle.tb_fpage.specs.Company.{Choice, suits, joins};
-ghost use Rattle.tb_fpage.specs.Walked.{Stands, FailedAre};
+ghost use Rattle.tb_fpage.specs.Walked.{Stands, FailedAre, choice_at, taken, passed};
 
 use crate::Wanted;
 use tb_node::Float;
 
-/// The height of the company so far, and the classes of which a float was passed over.
-#[derive(Clone, Copy)]
+/// What is known of the deferred floats that were passed.
+#[derive(Drop)]
 pub(crate) struct Walk {
+    /// The place of the company's head.
+    pub(crate) place: usize,
+    /// How many floats were passed.
+    pub(crate) seen: usize,
+    /// The height of the company so far, with its separators, in scaled points.
     pub(crate) height: i128,
+    /// For each class, whether one of its floats stays behind, so that no later one may join.
     pub(crate) failed: [bool; 256],
+    /// For each place, whether its float is in the company; a pool holds at most 4096 boxes.
+    pub(crate) chosen: [bool; 4096],
 }
 
 impl Walk {
-    /// At a head of this height, with nothing before it.
-    pub(crate) fn at_head(height: i64) -> Walk
-        ensures height { result.height ≡ height }
-        ensures failed { FailedAre result.failed [] }
+    /// A walk to the head at a place, before the first float.
+    pub(crate) fn to_head(place: usize) -> Walk
+        ensures place { result.place ≡ place }
+        ensures stands { (sep : ℤ) → Stands result sep [] }
     {
         Walk {
-            height: i128::from(height),
-            failed: [false; 256],
+            place,
+            seen: 0,
+            height: 0,
+            failed: no_classes(),
+            chosen: [false; 4096],
         }
     }
 
-    /// A float of this class was passed over.
-    pub(crate) fn fail(&mut self, class: u8)
-        ensures { self.new ≡ record self.old { failed = slice_set self.old.failed class true } }
+    /// Decides on the next float: those before the head stay behind, the head is in, and so are later ones that join.
+    pub(crate) fn visit(&mut self, wanted: &Wanted, f: &Float)
+        requires room { self.old.seen < 4096 }
+        requires height { IsWithin 151115727451828646838272 self.old.height }
+        ensures place { self.new.place ≡ self.old.place }
+        ensures stands { (before : List Choice) → Stands self.old wanted.now.sep before → Stands self.new wanted.now.sep (before ++ record { float = f.now; chosen = choice_at wanted.now self.old.place before f.now } ∷ []) }
     {
-        self.failed[usize::from(class)] = true;
-    }
-
-    /// Decides on the next float: whether it joins the company.
-    pub(crate) fn decide(&mut self, wanted: &Wanted, f: &Float) -> bool
-        requires { IsWithin 151115727451828646838272 self.old.height }
-        ensures { (before : List Choice) → Stands self.old wanted.now.sep before → (result ≡ joins wanted.now before f.now) × Stands self.new wanted.now.sep (before ++ record { float = f.now; chosen = result } ∷ []) }
-    {
-        let height = higher(self.height, wanted.sep, f.height);
-        if suits(wanted, f) && !self.has_failed(f.class) && height <= i128::from(wanted.height) {
-            self.height = height;
-            true
+        if self.seen == self.place {
+            self.take(i128::from(f.height));
+        } else if self.seen > self.place && self.joins(wanted, f) {
+            self.take(higher(self.height, wanted.sep, f.height));
         } else {
-            self.fail(f.class);
-            false
+            self.pass(f.class);
         }
+    }
+
+    // Whether a float after the head joins its company.
+    fn joins(&self, wanted: &Wanted, f: &Float) -> bool
+        requires { IsWithin 151115727451828646838272 self.now.height }
+        ensures { (before : List Choice) → Stands self.now wanted.now.sep before → self.now.place < self.now.seen → result ≡ joins wanted.now before f.now }
+    {
+        suits(wanted, f)
+            && !self.has_failed(f.class)
+            && higher(self.height, wanted.sep, f.height) <= i128::from(wanted.height)
     }
 
     // Whether a float of this class was passed over.
@@ -54,6 +69,32 @@ impl Walk {
     {
         self.failed[usize::from(class)]
     }
+
+    // The next float is in the company, which is so high with it.
+    fn take(&mut self, height: i128)
+        requires { self.old.seen < 4096 }
+        ensures { self.new ≡ taken height self.old }
+    {
+        self.chosen[self.seen] = true;
+        self.height = height;
+        self.seen += 1;
+    }
+
+    // The next float, of this class, stays behind.
+    fn pass(&mut self, class: u8)
+        requires { self.old.seen < 4096 }
+        ensures { self.new ≡ passed class self.old }
+    {
+        self.chosen[self.seen] = false;
+        self.failed[usize::from(class)] = true;
+        self.seen += 1;
+    }
+}
+
+fn no_classes() -> [bool; 256]
+    ensures { FailedAre result [] }
+{
+    [false; 256]
 }
 
 // The height with a separator and a float.
