@@ -1,0 +1,160 @@
+//! Worked pages.
+
+ghost use Rattle.std.specs.Prelude.{◌≡◌, ◌≢◌, ℕ, All, length, None, IfOk};
+ghost use Rattle.std.specs.FinMap.{get};
+ghost use Rattle.tb_pool.specs.Lists.{IsLive, list_at};
+ghost use Rattle.tb_node.specs.Fit.{IsSizedNode};
+ghost use Rattle.tb_column.specs.TextList.{AreLeaves};
+ghost use Rattle.tb_output.specs.Machine.{AreOutputParams, IsLimit};
+
+use crate::{RunFault, Sent, Sheet, new_machine};
+use std::alloc::AllocError;
+use std::test::Fail;
+use tb_builder::Page;
+use tb_node::{Kind, Node, What};
+use tb_param::{Params, defaults};
+use tb_pool::{ListId, Lists};
+use tb_scaled::fixed;
+
+// A text over a footnote is shipped as page 1, and nothing goes back.
+#[test]
+fn ships_a_page_with_a_footnote(rt: HostRuntime) -> Result<(), Fail> {
+    let mut store = Lists::new(rt.alloc());
+    let body = text(&mut store)?;
+    let notes = text(&mut store)?;
+    let mut machine = new_machine(rt.alloc(), &mut store, &params(1, 25))?;
+    let Ok(turn) = machine.fire_page(&mut store, page(body, -10_000), Some(notes)) else {
+        return Err(Fail::from("refused"));
+    };
+    assert_eq!(rt; turn.goal, 30);
+    assert_eq!(rt; store.len(turn.put_back), 0);
+    assert!(rt;
+        matches!(
+            machine.sent(),
+            Some(Sent::Ship {
+                page: 1,
+                sheet: Sheet::One(_)
+            })
+        )
+    );
+    assert!(rt; matches!(machine.sent(), None));
+    Ok(())
+}
+
+// A clear with a footnote ships the page, and the five nodes of a clear go back.
+#[test]
+fn clears_a_page_with_a_footnote(rt: HostRuntime) -> Result<(), Fail> {
+    let mut store = Lists::new(rt.alloc());
+    let body = text(&mut store)?;
+    let notes = text(&mut store)?;
+    let mut machine = new_machine(rt.alloc(), &mut store, &params(1, 25))?;
+    let Ok(turn) = machine.fire_page(&mut store, page(body, -10_001), Some(notes)) else {
+        return Err(Fail::from("refused"));
+    };
+    assert_eq!(rt; store.len(turn.put_back), 5);
+    assert!(rt;
+        matches!(
+            machine.sent(),
+            Some(Sent::Ship {
+                page: 1,
+                sheet: Sheet::One(_)
+            })
+        )
+    );
+    Ok(())
+}
+
+// A clear without footnotes ships nothing: the whole of a list that cannot be split goes back.
+#[test]
+fn clears_a_page(rt: HostRuntime) -> Result<(), Fail> {
+    let mut store = Lists::new(rt.alloc());
+    let body = text(&mut store)?;
+    let mut machine = new_machine(rt.alloc(), &mut store, &params(1, 25))?;
+    let Ok(turn) = machine.fire_page(&mut store, page(body, -10_001), None) else {
+        return Err(Fail::from("refused"));
+    };
+    assert_eq!(rt; store.len(turn.put_back), 1);
+    assert!(rt; matches!(machine.sent(), None));
+    Ok(())
+}
+
+// Where no page may be shipped, and where no firing may be without one.
+#[test]
+fn refuses_at_the_limits(rt: HostRuntime) -> Result<(), Fail> {
+    let mut store = Lists::new(rt.alloc());
+    let body = text(&mut store)?;
+    let mut machine = new_machine(rt.alloc(), &mut store, &params(0, 25))?;
+    assert!(rt;
+        matches!(
+            machine.fire_page(&mut store, page(body, -10_000), None),
+            Err(RunFault::PageLimit { pages: 0 })
+        )
+    );
+    let mut store = Lists::new(rt.alloc());
+    let body = text(&mut store)?;
+    let mut machine = new_machine(rt.alloc(), &mut store, &params(1, 0))?;
+    assert!(rt;
+        matches!(
+            machine.fire_page(&mut store, page(body, -10_000), None),
+            Err(RunFault::DeadCycles { count: 0 })
+        )
+    );
+    Ok(())
+}
+
+fn page(body: ListId, penalty: i64) -> Page
+    ensures body { result.body ≡ body }
+    ensures penalty { result.penalty ≡ penalty }
+{
+    Page {
+        body,
+        penalty,
+        cost: 0,
+        size: 30,
+        line: 1,
+        held: 0,
+    }
+}
+
+fn params(maxpages: i64, maxdeadcycles: i64) -> Params
+    requires pages { IsLimit maxpages }
+    requires cycles { IsLimit maxdeadcycles }
+    ensures { AreOutputParams result }
+{
+    Params {
+        textheight: 30,
+        maxdepth: 0,
+        splitmaxdepth: 0,
+        skipfootins: fixed(0),
+        maxpages,
+        maxdeadcycles,
+        pool: 2,
+        ..defaults()
+    }
+}
+
+// A new list that holds one box.
+#[tactic(auto, using(tb_pool::proofs::MapLemmas::list_steps))]
+fn text(store: &mut Lists<Node>) -> Result<ListId, AllocError>
+    ensures fresh { IfOk result (λ l. get store.old.lists l ≡ None) }
+    ensures live { IfOk result (λ l. IsLive store.new l) }
+    ensures leaves { IfOk result (λ l. AreLeaves (list_at store.new l)) }
+    ensures sized { IfOk result (λ l. All IsSizedNode (list_at store.new l)) }
+    ensures one { IfOk result (λ l. length (list_at store.new l) ≡ 1) }
+    ensures others { IfOk result (λ l. (q : ℕ) → q ≢ l → get store.new.lists q ≡ get store.old.lists q) }
+{
+    let l = store.add_list()?;
+    store.reserve(1)?;
+    store.push_back(
+        l,
+        Node {
+            line: 0,
+            kind: Kind::Hbox {
+                what: What::Blank,
+                height: 10,
+                depth: 0,
+            },
+        },
+    );
+    Ok(l)
+}
