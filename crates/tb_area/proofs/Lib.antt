@@ -2,3 +2,4 @@ pub mod DeferredLemmas
 pub mod ChoiceLemmas
 pub mod LawLemmas
 pub mod FillingLemmas
+pub mod OrderLemmas

@@ -1,11 +1,12 @@
 //! The deferred floats go to the next column, or above both columns of the next page.
-ghost use Rattle.std.specs.Prelude.{◌≡◌, ◌<◌, ◌≤◌, ◌+◌, [], List, length, take, drop, slice_get, Some, suc, if◌then◌else◌};
+ghost use Rattle.std.specs.Prelude.{ℕ, ◌≡◌, ◌<◌, ◌≤◌, ◌+◌, [], List, length, take, drop, slice_get, Some, suc, if◌then◌else◌};
 ghost use Rattle.tb_node.specs.declared.Float.{Float as PlainFloat};
 ghost use Rattle.tb_float.specs.declared.Suppress.{Suppress};
 ghost use Rattle.tb_float.specs.Pool.{marked_floats};
 ghost use Rattle.tb_float.specs.Ranges.{AreFloatParams};
 ghost use Rattle.tb_area.specs.Area.{next_area_place, goes_double};
 ghost use Rattle.tb_area.specs.Filling.{filled, doubled, gone_to, gone_double, place_after, place_after_double};
+ghost use Rattle.tb_area.specs.Laws.{column_order, double_order};
 
 use crate::{add_double, add_next};
 use tb_float::{Part, Pool, Suppress};
@@ -13,10 +14,12 @@ use tb_node::Where;
 use tb_param::Params;
 
 /// The deferred floats that have a place at the top or the bottom of the next column go there, one after another (after
-/// LaTeX's `\@startcolumn`, ltoutput.dtx); the others stay in order.
+/// LaTeX's `\@startcolumn`, ltoutput.dtx); the others stay in order. None is lost, and floats of one class ship in the
+/// order in which they would have shipped.
 pub fn fill_column(pool: &mut Pool, p: &Params, s: &Suppress)
     requires { AreFloatParams p.now }
     ensures lists { pool.new.lists ≡ filled p.now s.now [] pool.old.lists.deferred pool.old.lists }
+    ensures order { (class : ℕ) → column_order class pool.new.lists ≡ column_order class pool.old.lists }
     ensures size { pool.new.size ≡ pool.old.size }
     ensures unmarked { marked_floats pool.old ≡ [] → marked_floats pool.new ≡ [] }
 {
@@ -51,10 +54,11 @@ fn try_next(pool: &mut Pool, p: &Params, s: &Suppress, k: usize) -> usize
 }
 
 /// The deferred floats that have a place above both columns of the next page go there, one after another (after LaTeX's
-/// `\@startdblcolumn`, ltoutput.dtx); the others stay in order.
+/// `\@startdblcolumn`, ltoutput.dtx); the others stay in order. None is lost, and floats of one class keep their order.
 pub fn fill_double(pool: &mut Pool, p: &Params)
     requires { AreFloatParams p.now }
     ensures lists { (s : Suppress) → pool.new.lists ≡ doubled p.now s [] pool.old.lists.deferred pool.old.lists }
+    ensures order { (class : ℕ) → double_order class pool.new.lists ≡ double_order class pool.old.lists }
     ensures size { pool.new.size ≡ pool.old.size }
     ensures unmarked { marked_floats pool.old ≡ [] → marked_floats pool.new ≡ [] }
 {

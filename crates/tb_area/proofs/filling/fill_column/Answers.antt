@@ -2,6 +2,8 @@ use Rattle.std.proofs.Common.{◌<◌, ◌≤◌, length, take, sym, ap, ◌∙�
 use Rattle.std.proofs.Math.ListN.{drop_of_length-le}
 use Rattle.tb_area.specs.Area.{next_area_place}
 use Rattle.tb_area.specs.Filling.{filled}
+use Rattle.tb_area.specs.Laws.{column_order}
+use Rattle.tb_area.proofs.OrderLemmas.{fill-order}
 use Rattle.tb_area.proofs.DeferredLemmas.{float_at_place}
 use Rattle.tb_area.proofs.FillingLemmas.{parted, filled_turn}
 use Rattle.tb_area.proofs.filling.fill_column.Goals as goal
@@ -34,3 +36,7 @@ returns-clause-lists c =
     let k = c.loop-turn.place in
     let le : length l.deferred ≤ k = omega (arith, so_far.count, c.len-turn-end.ensures.value) in
     sym (ap (λ fs. filled c.args.p.now c.args.s.now (take k l.deferred) fs l) (drop_of_length-le l.deferred le)) ∙ so_far.lists
+
+pub returns-clause-order : goal.returns-clause-order
+returns-clause-order c = λ k.
+    ap (λ l. column_order k l) (returns-clause-lists c) ∙ fill-order k c.args.p.now c.args.s.now c.args.pool.now.lists

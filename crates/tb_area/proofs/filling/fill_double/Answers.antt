@@ -3,6 +3,8 @@ use Rattle.std.proofs.Math.ListN.{drop_of_length-le}
 use Rattle.tb_float.specs.declared.Suppress.{Suppress}
 use Rattle.tb_area.specs.Area.{goes_double}
 use Rattle.tb_area.specs.Filling.{doubled}
+use Rattle.tb_area.specs.Laws.{double_order}
+use Rattle.tb_area.proofs.OrderLemmas.{double-order}
 use Rattle.tb_area.proofs.DeferredLemmas.{float_at_place}
 use Rattle.tb_area.proofs.FillingLemmas.{parted_double, doubled_turn}
 use Rattle.tb_area.proofs.filling.fill_double.Goals as goal
@@ -33,3 +35,8 @@ returns-clause-lists c =
     let k = c.loop-turn.place in
     let le : length l.deferred ≤ k = omega (arith, so_far.count, c.len-turn-end.ensures.value) in
     λ s. sym (ap (λ fs. doubled c.args.p.now s (take k l.deferred) fs l) (drop_of_length-le l.deferred le)) ∙ so_far.lists s
+
+pub returns-clause-order : goal.returns-clause-order
+returns-clause-order c = λ k.
+    let s : Suppress = record { all = false; top = false; bottom = false } in
+    ap (λ l. double_order k l) (returns-clause-lists c s) ∙ double-order k c.args.p.now s c.args.pool.now.lists
