@@ -1,3 +1,5 @@
 pub mod DeferredLemmas
 pub mod ChoiceLemmas
 pub mod LawLemmas
+pub mod FillingLemmas
+pub mod OrderLemmas

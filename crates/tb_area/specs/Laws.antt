@@ -1,5 +1,5 @@
 -- What holds of a float where it goes: its own places, the order of its class, and the limits.
-use Rattle.std.specs.Prelude.{◌≡◌, ◌<ℤ◌, ℤ, pos, ◌+ℤ◌, true, false, List}
+use Rattle.std.specs.Prelude.{◌≡◌, ◌<ℤ◌, ℕ, ℤ, pos, ◌+ℤ◌, ◌==◌, true, false, List, ◌++◌, filter}
 use Rattle.tb_scaled.specs.Scaled.{fraction_of}
 use Rattle.tb_node.specs.declared.Float.{Float}
 use Rattle.tb_node.specs.declared.Where.{Where}
@@ -57,3 +57,15 @@ pub record KeepsLaws (p : Params) (l : FloatLists) (before : List Float) (f : Fl
   pub allowed : IsAllowed f place
   pub order : PassesNone l before f place
   pub limits : f.bang ≡ false → KeepsLimits p l f place
+
+-- the floats of a class
+abbrev pub of_class : ℕ → List Float → List Float
+of_class k fs = filter (λ f. f.class == k) fs
+
+-- the floats of a class that stand at the top, at the bottom and among the deferred ones, in the order in which they ship
+abbrev pub column_order : ℕ → FloatLists → List Float
+column_order k l = of_class k (l.top ++ l.bottom ++ l.deferred)
+
+-- the same above both columns and among the deferred ones
+abbrev pub double_order : ℕ → FloatLists → List Float
+double_order k l = of_class k (l.double ++ l.deferred)

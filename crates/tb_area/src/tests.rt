@@ -3,7 +3,7 @@ ghost use Rattle.std.specs.Prelude.{◌≡◌, ◌≢◌, ◌≤◌};
 ghost use Rattle.tb_node.specs.Fit.{IsExtent};
 ghost use Rattle.tb_float.specs.Ranges.{AreFloatParams};
 
-use crate::{add_current, add_double, add_next};
+use crate::{add_current, add_double, add_next, fill_column, fill_double};
 use std::test::Fail;
 use tb_float::{Entry, Part, Pool, Suppress, new_pool};
 use tb_node::{Float, Name, Places, Where, name_of};
@@ -115,14 +115,6 @@ fn double(pool: &Pool, p: &Params, k: usize) -> Option<char>
     }
 }
 
-fn first_deferred_goes_double(pool: &mut Pool) -> bool {
-    let Some(Entry::Float(_)) = pool.entry(Part::Deferred, 0) else {
-        return false;
-    };
-    pool.move_to(Part::Deferred, 0, Part::Double);
-    true
-}
-
 #[test]
 fn floats_go_where_they_fit(rt: HostRuntime) -> Result<(), Fail> {
     let name = name_of(b"F").ok_or("name")?;
@@ -166,9 +158,12 @@ fn a_single_float_waits_for_the_double_one(rt: HostRuntime) -> Result<(), Fail> 
     assert_eq!(rt; next(&pool, &p, 1), Some('d'));
     assert_eq!(rt; double(&pool, &p, 1), Some('d'));
     assert_eq!(rt; double(&pool, &p, 0), Some('w'));
-    assert!(rt; first_deferred_goes_double(&mut pool));
+    fill_double(&mut pool, &p);
+    assert_eq!(rt; (pool.len(Part::Double), pool.len(Part::Deferred)), (1, 1));
     assert_eq!(rt; double(&pool, &p, 0), Some('d'));
     assert_eq!(rt; next(&pool, &p, 0), Some('t'));
     assert_eq!(rt; next(&pool, &p, 1), None);
+    fill_column(&mut pool, &p, &NOT_SUPPRESSED);
+    assert_eq!(rt; (pool.len(Part::Top), pool.len(Part::Deferred)), (1, 0));
     Ok(())
 }
