@@ -1,5 +1,5 @@
 -- Nodes are counted, up to the end of a type.
-use Rattle.std.proofs.Common.{◌≡◌, refl, sym, subst, ◌∙◌, ap, ℕ, ◌+◌, ◌<◌, Bool, true, false, List, [], ◌∷◌, ◌++◌, length, map, drop, get_or, min, add-one, add_assoc, arith}
+use Rattle.std.proofs.Common.{◌≡◌, refl, sym, subst, ◌∙◌, ap, ℕ, ◌+◌, ◌<◌, ◌≤◌, Bool, true, false, List, [], ◌∷◌, ◌++◌, length, map, drop, get_or, min, add-one, add_assoc, arith}
 use Rattle.std.specs.Prelude.{option_to_list}
 use Rattle.std.proofs.Math.Seq.{drop-cons}
 use Rattle.std.proofs.lemmas.List.{length-map}
@@ -8,7 +8,9 @@ use Rattle.tb_node.specs.declared.Node.{Node}
 use Rattle.tb_node.specs.Plain.{plain_of, leaf_of}
 use Rattle.tb_builder.specs.declared.ClassList.{ClassList}
 use Rattle.tb_builder.specs.Fired.{content_of}
-use Rattle.tb_builder.specs.Contents.{kind_count, node_count, content_by, leaf_list, boxed_of, box_count}
+use Rattle.tb_builder.specs.Contents.{Contents, contents_count, kind_count, node_count, content_by, leaf_list, boxed_of, box_count}
+use Rattle.tb_builder.specs.declared.Ask.{Ask}
+use Rattle.tb_builder.specs.Pageable.{IsPageable}
 use Rattle.tb_builder.specs.Owned.{AllLive, inner_of, inner_ids, Ids, nodes_of, box_ids, VoidEmpty, IsOwned}
 use Rattle.tb_builder.proofs.OwnedLemmas.{live-left, live-right, inner-append}
 
@@ -109,3 +111,10 @@ waiting_live b s own =
     (subst (AllLive s) (inner-append (list_at s b.page) (list_at s b.waiting))
     (live-right s (inner_ids (list_at s b.held)) (inner_ids (list_at s b.page ++ list_at s b.waiting))
     (subst (AllLive s) (inner-append (list_at s b.held) (list_at s b.page ++ list_at s b.waiting)) (live-right s (box_ids b.boxes) (inner_ids (nodes_of b s)) own.live.1.1.1.1))))
+
+-- contents of which a page can be made are counted whole
+pub counted_whole : (c : Contents) (ask : Ask) → IsPageable c ask → contents_count c ≡ node_count c.waiting + box_count c.boxes
+counted_whole c ask p = let f = p.few in whole_below (node_count c.page) (node_count c.waiting) (box_count c.boxes) f
+  where
+    whole_below : (x y z : ℕ) → x + y + z ≤ 4194304 → min (y + z) 18446744073709551615 ≡ y + z
+    whole_below x y z few = grind arith

@@ -3,17 +3,18 @@ use Rattle.std.proofs.Common.{◌≡◌, refl, sym, subst, ◌∙◌, ap, ℕ, t
 use Rattle.std.specs.Prelude.{option_to_list}
 use Rattle.std.specs.FinMap.{get}
 use Rattle.std.proofs.lemmas.Bool.{true≢false}
-use Rattle.tb_pool.specs.Lists.{Lists, IsLive, list_at}
+use Rattle.tb_pool.specs.Lists.{Lists, IsLive, list_at, with_list}
 use Rattle.tb_node.specs.declared.Node.{Node}
 use Rattle.tb_node.specs.Plain.{PlainNode, plain_of}
 use Rattle.tb_builder.specs.declared.Builder.{Builder}
 use Rattle.tb_builder.specs.Contents.{Contents, contents_of, plain_list}
 use Rattle.tb_builder.specs.Owned.{Lacks, AllDiffer, AllLive, inner_of, inner_ids, Ids, ids_of, nodes_of, box_ids, own_ids, owned, AllPlain, HoldPlain, is_known, classes_of, IsOwned}
 use Rattle.tb_builder.specs.Running.{PageStands, IsSound}
+use Rattle.tb_builder.specs.Opened.{Opened}
 use Rattle.tb_builder.specs.Handed.{NodesJoin, ListJoins, ends_in_kern, MayWait, NoPage}
 use Rattle.tb_builder.proofs.OwnedLemmas.{AllSame, same-left, same-right, inner-append, live-right, plain-right, lists_same, live_same, plain_same, boxes_same, view_same}
 use Rattle.tb_builder.proofs.JoinLemmas.{Holds, nodes_are, holds_own, sound_from}
-use Rattle.tb_builder.proofs.NewLemmas.{fresh_lacks, differ_last}
+use Rattle.tb_builder.proofs.NewLemmas.{fresh_lacks, differ_last, opened_first, opened_none}
 
 -- where no list that is live was changed, the lists of these ids are the same
 pub live_all_same : (s t : Lists Node) (xs : List ℕ) → ((q : ℕ) → IsLive s q → get t.lists q ≡ get s.lists q) → AllLive s xs → AllSame s t xs
@@ -77,6 +78,23 @@ module _ (b : Builder) (s t : Lists Node) (sound : IsSound b s) (same : AllSame 
   frame_sound =
       sound_from b b s t sound (holds_own (ids_of b) s t (list_at s b.held) (list_at s b.page) (list_at s b.waiting) own holds_same) refl (ap (λ (c : Contents). c.page) frame_contents)
       (subst (PageStands b.frozen b.stopped b.course) (sym frame_contents) sound.page)
+
+-- a list was opened
+module _ (b : Builder) (s t : Lists Node) (l : ℕ) (sound : IsSound b s) (none : get s.lists l ≡ None) (e : t.lists ≡ with_list s l []) where
+  opened : Opened s t (l ∷ [])
+  opened = opened_first s s t [] l (opened_none s) none e
+
+  pub opened_same : AllSame s t (owned (ids_of b) s)
+  opened_same = live_all_same s t (owned (ids_of b) s) opened.others sound.own.live
+
+  pub opened_live : IsLive t l
+  opened_live = opened.live.0
+
+  pub opened_empty : list_at t l ≡ []
+  opened_empty = opened.empty.0
+
+  pub opened_apart : Lacks l (owned (ids_of b) t)
+  opened_apart = subst (Lacks l) (sym (frame_owned b s t sound opened_same)) (fresh_lacks s l (owned (ids_of b) s) none sound.own.live)
 
 -- ---- what is handed over
 

@@ -33,7 +33,7 @@ impl Walk {
             seen: 0,
             height: 0,
             failed: no_classes(),
-            chosen: no_floats(),
+            chosen: [false; 4096],
         }
     }
 
@@ -95,10 +95,6 @@ fn no_classes() -> [bool; 256]
     ensures { FailedAre result [] }
 {
     [false; 256]
-}
-
-fn no_floats() -> [bool; 4096] {
-    [false; 4096]
 }
 
 // The height with a separator and a float.

@@ -1,6 +1,6 @@
 -- The lists of a clear with footnotes, before its page is put out.
-use Rattle.std.proofs.Common.{◌≡◌, ◌∙◌, ap, ℕ, ◌+◌, ◌≤◌, List, [], ◌∷◌, ◌++◌, length, map, Option, None, Some, is_some, length-append, arith}
-use Rattle.std.specs.Prelude.{All, pos}
+use Rattle.std.proofs.Common.{◌≡◌, ◌∙◌, ap, ℕ, ◌+◌, ◌≤◌, List, [], ◌∷◌, ◌++◌, length, map, None, is_some, length-append, arith}
+use Rattle.std.specs.Prelude.{All}
 use Rattle.std.specs.FinMap.{get}
 use Rattle.std.proofs.lemmas.Int.{ints}
 use Rattle.std.proofs.lemmas.List.{map-append}
@@ -14,8 +14,6 @@ use Rattle.tb_node.specs.Plain.{made, skip, plain_of}
 use Rattle.tb_node.specs.Fit.{IsSizedNode}
 use Rattle.tb_column.specs.Shown.{nodes_shown}
 use Rattle.tb_column.specs.TextList.{AreLeaves, made_node}
-use Rattle.tb_output.specs.Machine.{MachineView, IsMachine}
-use Rattle.tb_output.specs.Firing.{AreTextLists}
 use Rattle.tb_output.specs.Shipping.{clear_list}
 use Rattle.tb_output.proofs.PutOutLemmas.{leaves-append}
 use Rattle.tb_output.proofs.OpenedLemmas.{IsOpened, opened-new, opened-same, opened-filled, opened-added}

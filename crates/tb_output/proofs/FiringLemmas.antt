@@ -1,25 +1,20 @@
 -- The parts of a firing, against the work of its definition.
-use Rattle.std.proofs.Common.{◌≡◌, ◌≢◌, refl, sym, subst, ◌∙◌, ap, ℕ, ◌+◌, ◌≤◌, ℤ, pos, negsuc, Bool, true, false, List, [], ◌∷◌, ◌++◌, length, take, map, Option, None, Some, IsSome, append-nil, arith}
-use Rattle.std.specs.Prelude.{All, int_lt, int_le}
+use Rattle.std.proofs.Common.{◌≡◌, ◌≢◌, sym, subst, ◌∙◌, ap, ℕ, ◌+◌, ◌≤◌, List, [], ◌∷◌, ◌++◌, length, map, Option, None, append-nil}
+use Rattle.std.specs.Prelude.{All}
 use Rattle.std.specs.List.{AllByRecursion}
-use Rattle.std.specs.FinMap.{get}
 use Rattle.std.proofs.lemmas.List.{map-append}
-use Rattle.std.proofs.lemmas.List.Elements.{All-nil}
-use Rattle.tb_pool.specs.Lists.{Lists, IsLive, list_at}
+use Rattle.tb_pool.specs.Lists.{Lists, list_at}
 use Rattle.tb_node.specs.declared.Node.{Node}
 use Rattle.tb_node.specs.Plain.{PlainNode, plain_of}
 use Rattle.tb_node.specs.Fit.{IsSizedNode}
-use Rattle.tb_param.specs.declared.Params.{Params}
 use Rattle.tb_float.specs.Lists.{no_floats}
-use Rattle.tb_column.specs.declared.Column.{Column}
 use Rattle.tb_column.specs.declared.Sheet.TheVariants as sheets
-use Rattle.tb_column.specs.declared.Sent.{Sent}
 use Rattle.tb_column.specs.declared.Sent.TheVariants as events
-use Rattle.tb_column.specs.Column.{PlainColumn, PlainSent, one, shipped, text_column}
-use Rattle.tb_column.specs.Shown.{nodes_shown, sent_shown}
+use Rattle.tb_column.specs.Column.{PlainSent, one, shipped, text_column}
+use Rattle.tb_column.specs.Shown.{sent_shown}
 use Rattle.tb_column.specs.TextList.{AreLeaves, notes_shown}
 use Rattle.tb_output.specs.State.{Work}
-use Rattle.tb_output.specs.Machine.{MachineView, state_shown, events_shown, machine_lists, IsNotAmong, IsPageList, IsPageColumn, IsMachine, IsFloatless}
+use Rattle.tb_output.specs.Machine.{MachineView, events_shown, machine_lists, IsNotAmong, IsPageList, IsPageColumn, IsMachine, IsFloatless}
 use Rattle.tb_output.specs.Firing.{foot_box, AreTextLists, IsPutBack, OthersStand, TakesOnly}
 use Rattle.tb_output.specs.Shipping.{shipped_machine, HasPutOut, IsAtLimit, IsOutput, IsOverLimit}
 use Rattle.tb_output.proofs.FloatlessWork.{bare_state, IsDone, IsStopped}

@@ -15,8 +15,7 @@ use Rattle.tb_output.specs.State.{output, State, first_state, Work, begun, recor
 use Rattle.tb_output.specs.Ship.{after_column, ship_now}
 use Rattle.tb_output.specs.Columns.{ordinary, fill_column, all_float_columns, without_column_floats}
 use Rattle.tb_output.specs.Clear.{clear_again, cleared_front, clear}
-use Rattle.tb_output.specs.Text.{float_or_note}
-use Rattle.tb_output.specs.Out.{is_int, clear_penalty, par_penalty, vert_penalty, hold_penalty, hold, is_crowded, leave_column, with_goal, goal_by, next_goal, output_by, waiting_again, out}
+use Rattle.tb_output.specs.Out.{is_int, clear_penalty, hold_penalty, is_crowded, leave_column, with_goal, goal_by, next_goal, waiting_again, out}
 use Rattle.tb_output.specs.Firing.{foot_box, fired_page, page_work}
 use Rattle.tb_output.specs.Shipping.{output_work}
 

@@ -1,5 +1,5 @@
 -- A machine at its beginning, and after a page was shipped.
-use Rattle.std.proofs.Common.{◌≡◌, ◌≢◌, refl, sym, subst, ◌∙◌, ap, ℕ, ◌+◌, ◌≤◌, ℤ, pos, ◌≤ℤ◌, Bool, true, false, List, [], ◌∷◌, ◌++◌, length, map, Option, None, Some, IsSome, append_assoc, append-nil, arith}
+use Rattle.std.proofs.Common.{◌≡◌, ◌≢◌, refl, sym, subst, ◌∙◌, ap, ℕ, ◌+◌, ◌≤◌, ℤ, pos, ◌≤ℤ◌, true, false, List, [], ◌∷◌, ◌++◌, length, map, Option, None, Some, IsSome, append_assoc, append-nil, arith}
 use Rattle.std.specs.Prelude.{All, int_lt}
 use Rattle.std.specs.List.{AllByRecursion}
 use Rattle.std.specs.FinMap.{get}
@@ -25,12 +25,12 @@ use Rattle.tb_column.specs.Shown.{nodes_shown}
 use Rattle.tb_column.specs.TextList.{AreLeaves}
 use Rattle.tb_column.proofs.StoreLemmas.{list-get}
 use Rattle.tb_output.specs.declared.RunFault.{RunFault}
-use Rattle.tb_output.specs.State.{State, first_state, no_suppress}
+use Rattle.tb_output.specs.State.{first_state, no_suppress}
 use Rattle.tb_output.specs.Machine.{MachineView, state_shown, left_shown, sheet_lists, sent_lists, event_lists, left_lists, machine_lists, IsNotAmong, AreDistinct, IsPageList, IsPageColumn, IsPageSheet, IsPageSent, IsPageLeft, AreOutputParams, IsMachine, IsFloatless}
 use Rattle.tb_output.specs.Firing.{foot_box, IsNotNotes, AreNotesApart, OthersStand}
 use Rattle.tb_output.specs.Shipping.{shipped_machine}
 use Rattle.tb_output.proofs.FloatlessWork.{bare_state}
-use Rattle.tb_output.proofs.StandLemmas.{all-join, Stands, nodes-stand, list-stands}
+use Rattle.tb_output.proofs.StandLemmas.{all-join, Stands, nodes-stand}
 
 -- ---- the beginning
 

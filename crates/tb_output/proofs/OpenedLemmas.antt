@@ -1,5 +1,5 @@
 -- A page is put out after a new list was opened for what goes back.
-use Rattle.std.proofs.Common.{◌≡◌, ◌≢◌, refl, sym, subst, ◌∙◌, ap, ℕ, ◌+◌, ◌≤◌, Bool, true, false, List, [], ◌∷◌, ◌++◌, length, map, Option, None, Some, IsSome, is_some, unwrap_or, arith}
+use Rattle.std.proofs.Common.{◌≡◌, ◌≢◌, refl, sym, subst, ◌∙◌, ap, ℕ, ◌+◌, ◌≤◌, List, [], ◌∷◌, ◌++◌, length, map, Option, None, Some, IsSome, is_some, unwrap_or, arith}
 use Rattle.std.specs.Prelude.{All}
 use Rattle.std.specs.FinMap.{get}
 use Rattle.std.proofs.lemmas.Bool.{true≢false}
@@ -7,19 +7,19 @@ use Rattle.tb_pool.specs.Lists.{Lists, IsLive, list_at, with_list}
 use Rattle.tb_pool.proofs.MapLemmas.{get-insert_same}
 use Rattle.tb_pool.proofs.CallerLemmas.{get_other}
 use Rattle.tb_node.specs.declared.Node.{Node}
-use Rattle.tb_node.specs.Plain.{PlainNode, Leaf, leaf_of, plain_of}
+use Rattle.tb_node.specs.Plain.{PlainNode, leaf_of, plain_of}
 use Rattle.tb_node.specs.Fit.{IsSizedNode}
 use Rattle.tb_float.specs.Lists.{no_floats}
-use Rattle.tb_column.specs.Column.{PlainColumn, text_column}
-use Rattle.tb_column.specs.Shown.{nodes_shown, column_shown}
-use Rattle.tb_column.specs.TextList.{AreLeaves, AreNotes, CanJoin, notes_shown}
+use Rattle.tb_column.specs.Column.{text_column}
+use Rattle.tb_column.specs.Shown.{nodes_shown}
+use Rattle.tb_column.specs.TextList.{AreLeaves, CanJoin, notes_shown}
 use Rattle.tb_column.proofs.ColumnLemmas.{leaves-apart}
 use Rattle.tb_column.proofs.StoreLemmas.{list-get, live-get}
 use Rattle.tb_output.specs.declared.RunFault.{RunFault}
 use Rattle.tb_output.specs.declared.RunFault.TheVariants as faults
 use Rattle.tb_output.specs.Machine.{MachineView, IsMachine}
 use Rattle.tb_output.specs.Firing.{note_nodes, IsNotNotes, AreTextLists, OthersStand}
-use Rattle.tb_output.specs.Shipping.{RestStands, IsShipped, IsFull, IsNotShipped, HasPutOut, IsAtLimit, HasNotPutOut}
+use Rattle.tb_output.specs.Shipping.{RestStands, IsShipped, IsNotShipped, HasPutOut, HasNotPutOut}
 use Rattle.tb_output.proofs.StandLemmas.{Stands, leaves-shown}
 use Rattle.tb_output.proofs.MachineLemmas.{not-new}
 use Rattle.tb_output.proofs.FiringLemmas.{machine-kept}

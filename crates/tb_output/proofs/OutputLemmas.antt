@@ -1,12 +1,11 @@
 -- A firing whose dead cycles were counted, by the penalty of its page.
-use Rattle.std.proofs.Common.{◌≡◌, ◌≢◌, refl, sym, subst, ◌∙◌, ap, ℕ, zero, suc, ◌+◌, ◌≤◌, ℤ, pos, ◌≤ℤ◌, Bool, true, false, List, [], ◌∷◌, ◌++◌, length, take, map, Option, None, Some, Result, Ok, Err, append-nil, arith}
+use Rattle.std.proofs.Common.{◌≡◌, refl, sym, subst, ◌∙◌, ap, ℕ, zero, suc, ◌≤◌, ℤ, pos, ◌≤ℤ◌, true, false, List, [], ◌∷◌, ◌++◌, length, take, map, Option, None, Some, Result, Ok, Err, append-nil, arith}
 use Rattle.std.specs.Prelude.{All, IfOk, IfErr, int_lt, int_le}
-use Rattle.std.specs.FinMap.{get}
 use Rattle.std.proofs.lemmas.Int.{ints}
 use Rattle.std.proofs.lemmas.List.{take-map}
 use Rattle.std.proofs.lemmas.List.Elements.{All-nil, All-take, All-from_recursion}
 use Rattle.tb_scaled.specs.Scaled.{eject_penalty}
-use Rattle.tb_pool.specs.Lists.{Lists, IsLive, list_at, with_list}
+use Rattle.tb_pool.specs.Lists.{Lists, list_at, with_list}
 use Rattle.tb_pool.proofs.CallerLemmas.{list_same, live_same, get_other}
 use Rattle.tb_node.specs.declared.Node.{Node}
 use Rattle.tb_node.specs.declared.Kind.{Kind}
@@ -22,13 +21,13 @@ use Rattle.tb_column.specs.Shown.{nodes_shown}
 use Rattle.tb_column.specs.TextList.{AreLeaves, notes_shown}
 use Rattle.tb_output.specs.declared.RunFault.{RunFault}
 use Rattle.tb_output.specs.declared.RunFault.TheVariants as faults
-use Rattle.tb_output.specs.State.{State, Work}
+use Rattle.tb_output.specs.State.{State}
 use Rattle.tb_output.specs.Clear.{cleared_front}
 use Rattle.tb_output.specs.Out.{clear_penalty}
-use Rattle.tb_output.specs.Machine.{MachineView, state_shown, events_shown, machine_lists, IsPageList, IsMachine, IsFloatless}
-use Rattle.tb_output.specs.Firing.{foot_box, fired_page, IsNotNotes, CanServe, IsPutBack, OthersStand}
-use Rattle.tb_output.specs.Shipping.{clear_list, shipped_machine, HasPutOut, IsAtLimit, HasNotPutOut, output_work, counted_work, IsOutput, IsOverLimit, IsNotOutput}
-use Rattle.tb_output.proofs.FloatlessWork.{bare_state, IsDone, IsStopped, page-shipped, page-stopped, front-back, clear-shipped, clear-stopped}
+use Rattle.tb_output.specs.Machine.{MachineView, events_shown, IsMachine}
+use Rattle.tb_output.specs.Firing.{foot_box, fired_page, CanServe, OthersStand}
+use Rattle.tb_output.specs.Shipping.{clear_list, HasPutOut, HasNotPutOut, output_work, counted_work, IsOutput, IsOverLimit, IsNotOutput}
+use Rattle.tb_output.proofs.FloatlessWork.{bare_state, IsStopped, page-shipped, page-stopped, front-back, clear-shipped, clear-stopped}
 use Rattle.tb_output.proofs.StandLemmas.{leaves-shown}
 use Rattle.tb_output.proofs.MachineLemmas.{state-is}
 use Rattle.tb_output.proofs.FiringLemmas.{MayGoBack, IsReady, machine-kept, events-kept, floatless-kept, over-limit, put-out-ready, put-out-done}

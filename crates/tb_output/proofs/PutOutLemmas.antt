@@ -1,17 +1,17 @@
 -- The lists of a text column before and after it is made.
-use Rattle.std.proofs.Common.{◌≡◌, ◌≢◌, refl, sym, subst, ◌∙◌, ap, ℕ, ◌+◌, ◌≤◌, ℤ, pos, Bool, true, false, List, [], ◌∷◌, ◌++◌, length, map, Option, None, Some, IsSome, is_some, unwrap_or, length-append, arith}
+use Rattle.std.proofs.Common.{◌≡◌, ◌≢◌, refl, sym, subst, ◌∙◌, ap, ℕ, ◌+◌, ◌≤◌, pos, false, List, [], ◌∷◌, ◌++◌, length, map, Option, None, Some, is_some, unwrap_or, length-append, arith}
 use Rattle.std.specs.Prelude.{All, int_lt}
-use Rattle.std.specs.FinMap.{FinMap, get, insert, remove}
+use Rattle.std.specs.FinMap.{FinMap, get, insert}
 use Rattle.std.specs.Ordering.{nat_cmp}
 use Rattle.std.proofs.lemmas.Int.{ints}
 use Rattle.std.proofs.lemmas.List.Elements.{All-nil, All-append, All-from_recursion}
 use Rattle.tb_scaled.specs.declared.Glue.{Glue}
-use Rattle.tb_pool.specs.Lists.{Lists, IsLive, list_at, with_list}
+use Rattle.tb_pool.specs.Lists.{Lists, list_at, with_list}
 use Rattle.tb_pool.proofs.MapLemmas.{get-insert_same, get-insert_other, get-remove_other}
 use Rattle.tb_node.specs.declared.Node.{Node}
 use Rattle.tb_node.specs.Plain.{shape_of}
 use Rattle.tb_node.specs.Shape.{glue}
-use Rattle.tb_node.specs.Fit.{NodesFit, SumsFit, IsDimension, IsExtent, IsSized, IsSizedNode}
+use Rattle.tb_node.specs.Fit.{NodesFit, SumsFit, IsSized, IsSizedNode}
 use Rattle.tb_param.specs.declared.Params.{Params}
 use Rattle.tb_float.specs.Lists.{no_floats}
 use Rattle.tb_column.specs.declared.Column.{Column}
@@ -20,7 +20,6 @@ use Rattle.tb_column.specs.Shown.{nodes_shown, column_shown}
 use Rattle.tb_column.specs.TextList.{IsApart, AreLeaves, CanJoin, notes_shown, rule_above, notes_list, closed_list, column_list, emptied}
 use Rattle.tb_column.proofs.ColumnLemmas.{leaves-apart}
 use Rattle.tb_column.proofs.FitsColumn.{AreSizedNotes, note_count, closed_sized, column_nodes_fit, column_sums_fit}
-use Rattle.tb_column.proofs.StoreLemmas.{list-get, live-get}
 use Rattle.tb_output.specs.Machine.{MachineView, IsPageList, IsMachine}
 use Rattle.tb_output.specs.Firing.{note_nodes, IsNotNotes, AreTextLists}
 use Rattle.tb_output.specs.Shipping.{IsEmptyNotes, without_notes, RestStands, shipped_machine, IsShipped}

@@ -1,9 +1,9 @@
 -- Firings that are not begun, and those for whose footnotes there is no memory.
-use Rattle.std.proofs.Common.{◌≡◌, refl, sym, subst, ◌∙◌, ap, ℕ, pos, Bool, true, false, List, [], ◌∷◌, ◌++◌, Result, Err, Option, None, Some, append-nil}
+use Rattle.std.proofs.Common.{◌≡◌, refl, sym, subst, ◌∙◌, ap, ℕ, pos, Bool, true, false, List, [], ◌∷◌, Result, Err, Option, None, Some, append-nil}
 use Rattle.std.specs.Prelude.{IfNone, IfSome, int_lt, if◌then◌else◌}
 use Rattle.std.specs.List.{AllByRecursion}
 use Rattle.std.specs.FinMap.{get}
-use Rattle.tb_pool.specs.Lists.{Lists, IsLive}
+use Rattle.tb_pool.specs.Lists.{Lists}
 use Rattle.tb_node.specs.declared.Node.{Node}
 use Rattle.tb_builder.specs.declared.Builder.{Builder}
 use Rattle.tb_builder.specs.Owned.{Lacks, ids_of, owned}
@@ -18,7 +18,6 @@ use Rattle.tb_output.specs.Machine.{MachineView, events_shown, machine_lists, Is
 use Rattle.tb_output.specs.Firing.{standing_or, refusal_of, IsRefusal}
 use Rattle.tb_output.specs.Serving.{LeavesNotes, OthersFree}
 use Rattle.tb_output.proofs.StandLemmas.{Stands, machine-stands, machine-shows}
-use Rattle.tb_output.proofs.MachineLemmas.{lists-live}
 use Rattle.tb_output.proofs.TurnOutput.{at-dead-cycles, begins-with, is-below}
 
 -- ---- no firing is begun

@@ -1,8 +1,7 @@
 -- A page of a page builder is served: what the machine is handed, and what stands after it.
-use Rattle.std.proofs.Common.{◌≡◌, ◌≢◌, refl, sym, subst, ◌∙◌, ap, ℕ, ◌+◌, ◌≤◌, Bool, true, false, List, [], ◌∷◌, ◌++◌, length, map, Option, None, Some, arith}
+use Rattle.std.proofs.Common.{◌≡◌, ◌≢◌, refl, sym, subst, ◌∙◌, ap, ℕ, ◌≤◌, List, [], ◌∷◌, ◌++◌, length, map, Option, None, Some, arith}
 use Rattle.std.specs.Prelude.{All, IfNone, take}
 use Rattle.std.specs.List.{AllByRecursion}
-use Rattle.std.specs.FinMap.{get}
 use Rattle.std.proofs.lemmas.List.{length-map}
 use Rattle.std.proofs.lemmas.List.Elements.{All-nil}
 use Rattle.tb_pool.specs.Lists.{Lists, IsLive, list_at}
@@ -11,7 +10,7 @@ use Rattle.tb_node.specs.Plain.{leaf_of, PlainNode}
 use Rattle.tb_node.specs.Fit.{IsSizedNode, IsSizedLeaf}
 use Rattle.tb_builder.specs.declared.Builder.{Builder}
 use Rattle.tb_builder.specs.declared.Page.{Page}
-use Rattle.tb_builder.specs.Fired.{Boxed, content_of}
+use Rattle.tb_builder.specs.Fired.{content_of}
 use Rattle.tb_builder.specs.Contents.{Contents, contents_of}
 use Rattle.tb_builder.specs.Owned.{Lacks, AllLive, ids_of, owned}
 use Rattle.tb_builder.specs.Running.{IsSound}
@@ -19,14 +18,13 @@ use Rattle.tb_builder.specs.Handed.{NoPage}
 use Rattle.tb_builder.proofs.OwnedLemmas.{AllSame}
 use Rattle.tb_builder.proofs.StoreSized.{leaves-back}
 use Rattle.tb_builder.proofs.FrameLemmas.{frame_owned, frame_contents, frame_sound}
-use Rattle.tb_column.specs.Shown.{nodes_shown}
 use Rattle.tb_column.specs.TextList.{AreLeaves, CanJoin, notes_shown}
 use Rattle.tb_column.proofs.ColumnLemmas.{leaves-apart}
 use Rattle.tb_column.proofs.StoreLemmas.{list-get, live-get}
 use Rattle.tb_output.specs.declared.Turn.{Turn}
 use Rattle.tb_output.specs.declared.RunFault.{RunFault}
 use Rattle.tb_output.specs.declared.RunFault.TheVariants as faults
-use Rattle.tb_output.specs.State.{State, Work}
+use Rattle.tb_output.specs.State.{State}
 use Rattle.tb_output.specs.Out.{waiting_again, out}
 use Rattle.tb_output.specs.Machine.{MachineView, state_shown, events_shown, machine_lists, IsNotAmong, IsMachine}
 use Rattle.tb_output.specs.Firing.{foot_box, firing_work, refusal_of, note_nodes, IsNotNotes, AreNotesApart, CanServe, IsTurn, IsRefusal, IsCutShort, OthersStand, IsPutBack, TakesOnly}

@@ -1,9 +1,9 @@
 -- What a machine shows depends on its own lists alone.
-use Rattle.std.proofs.Common.{◌≡◌, ◌≢◌, refl, sym, subst, ◌∙◌, ap, ℕ, ◌+◌, ◌≤◌, List, [], ◌∷◌, ◌++◌, length, map, Option, None, Some}
+use Rattle.std.proofs.Common.{◌≡◌, refl, sym, subst, ◌∙◌, ap, ℕ, ◌≤◌, List, [], ◌∷◌, ◌++◌, length, map, Option, None, Some}
 use Rattle.std.specs.Prelude.{All}
 use Rattle.std.specs.List.{AllByRecursion}
 use Rattle.std.specs.FinMap.{get}
-use Rattle.tb_pool.specs.Lists.{Lists, IsLive, list_at}
+use Rattle.tb_pool.specs.Lists.{Lists, list_at}
 use Rattle.tb_node.specs.declared.Kind.{Kind}
 use Rattle.tb_node.specs.declared.Kind.TheVariants as kinds
 use Rattle.tb_node.specs.declared.Node.{Node}
@@ -14,11 +14,11 @@ use Rattle.tb_column.specs.declared.Sheet.{Sheet}
 use Rattle.tb_column.specs.declared.Sheet.TheVariants as sheets
 use Rattle.tb_column.specs.declared.Sent.{Sent}
 use Rattle.tb_column.specs.declared.Sent.TheVariants as events
-use Rattle.tb_column.specs.Column.{PlainColumn, PlainSheet, one, wide, two, shipped}
+use Rattle.tb_column.specs.Column.{PlainColumn, one, wide, two, shipped}
 use Rattle.tb_column.specs.Shown.{nodes_shown, column_shown, sheet_shown, sent_shown}
 use Rattle.tb_column.specs.TextList.{is_leaf_kind, AreLeaves}
 use Rattle.tb_column.proofs.StoreLemmas.{list-get, live-get}
-use Rattle.tb_output.specs.Machine.{MachineView, left_shown, events_shown, sheet_lists, sent_lists, event_lists, left_lists, machine_lists, IsPageList, IsPageColumn, IsPageSheet, IsPageSent, IsPageLeft, IsMachine}
+use Rattle.tb_output.specs.Machine.{MachineView, events_shown, sheet_lists, sent_lists, event_lists, left_lists, machine_lists, IsPageList, IsPageColumn, IsPageSheet, IsPageSent, IsPageLeft, IsMachine}
 
 -- ---- what holds of all of two lists
 

@@ -1,5 +1,5 @@
 -- What the parts of a firing do to the machine and to its store.
-use Rattle.std.specs.Prelude.{◌≡◌, ◌≢◌, ◌+◌, ℕ, pos, negsuc, Bool, true, false, List, [], ◌∷◌, ◌++◌, int_lt, Option, Some, None}
+use Rattle.std.specs.Prelude.{◌≡◌, ◌≢◌, ◌+◌, ℕ, pos, negsuc, true, false, List, [], ◌∷◌, ◌++◌, int_lt, Option, Some, None}
 use Rattle.std.specs.FinMap.{FinMap, get, remove}
 use Rattle.std.specs.Ordering.{nat_cmp}
 use Rattle.tb_scaled.specs.Glue.{filling_glue}

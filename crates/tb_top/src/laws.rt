@@ -1,10 +1,17 @@
 //! Laws of whole runs: each function is a theorem, stated by its contract, and does nothing.
 
 ghost use Rattle.tb_top.specs.Firings.{BoundsAgree, EndsHaveReasons};
+ghost use Rattle.tb_top.specs.Laws.{LimitsHold};
 
 /// The run of a galley is defined: each firing ships a page or adds to the dead cycles, so the bound on the firings, with
 /// which a run starts, is never met.
 pub fn runs_are_defined()
     ensures bounds { BoundsAgree }
     ensures reasons { EndsHaveReasons }
+{}
+
+/// Floats keep the limits: when a float without the mark `!` is placed, the floats of its area and its own height are less
+/// than the area's share, and its area, and the text with both areas, hold fewer floats than they may.
+pub fn floats_keep_the_limits()
+    ensures { LimitsHold }
 {}

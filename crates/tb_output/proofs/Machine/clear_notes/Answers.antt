@@ -1,4 +1,4 @@
-use Rattle.std.proofs.Common.{◌≡◌, ◌∙◌, refl, Some}
+use Rattle.std.proofs.Common.{◌∙◌, refl, Some}
 use Rattle.tb_pool.specs.Lists.{list_at}
 use Rattle.tb_output.specs.Shipping.{clear_list}
 use Rattle.tb_output.proofs.RefusalLemmas.{memory-err, same-err}

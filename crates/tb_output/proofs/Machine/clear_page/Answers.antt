@@ -1,6 +1,5 @@
-use Rattle.std.proofs.Common.{sym, subst, ◌≤◌, length, FitsSigned, w64, rules, arith}
+use Rattle.std.proofs.Common.{sym, subst, FitsSigned, w64, rules, arith}
 use Rattle.std.proofs.lemmas.Int.{to_z-of_z, ints}
-use Rattle.tb_pool.specs.Lists.{list_at}
 use Rattle.tb_node.proofs.FitLemmas.{list_nodes_fit, list_sums_fit}
 use Rattle.tb_output.specs.Machine.{MachineView, IsMachine}
 use Rattle.tb_output.proofs.Machine.clear_page.Goals as goal

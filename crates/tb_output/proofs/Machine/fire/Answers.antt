@@ -1,4 +1,4 @@
-use Rattle.std.proofs.Common.{sym, ◌∙◌, ap, subst, Some}
+use Rattle.std.proofs.Common.{sym, ◌∙◌, subst, Some}
 use Rattle.tb_output.specs.declared.RunFault.TheVariants as faults
 use Rattle.tb_builder.specs.Running.{IsSound}
 use Rattle.tb_output.specs.Machine.{MachineView, IsMachine}

@@ -1,4 +1,4 @@
-use Rattle.std.proofs.Common.{◌≡◌, sym, subst, ap, ◌∙◌, FitsSigned, w64, rules}
+use Rattle.std.proofs.Common.{sym, subst, ap, ◌∙◌, FitsSigned, w64, rules}
 use Rattle.std.proofs.lemmas.Int.{to_z-of_z, ints}
 use Rattle.tb_output.specs.Machine.{MachineView, IsMachine}
 use Rattle.tb_output.specs.Firing.{AreTextLists}

@@ -1,4 +1,4 @@
-use Rattle.std.proofs.Common.{◌≡◌, ◌∙◌, ap, ◌∷◌, [], ◌++◌}
+use Rattle.std.proofs.Common.{◌∙◌, ap, ◌∷◌, [], ◌++◌}
 use Rattle.tb_scaled.specs.declared.Glue.{Glue}
 use Rattle.tb_pool.specs.Lists.{list_at, with_list}
 use Rattle.tb_node.specs.declared.Kind.TheVariants as kinds

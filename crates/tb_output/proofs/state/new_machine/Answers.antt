@@ -1,4 +1,4 @@
-use Rattle.std.proofs.Common.{◌≡◌, ◌∙◌, ap, List, FitsSigned, w64, rules}
+use Rattle.std.proofs.Common.{◌≡◌, ap, FitsSigned, w64, rules}
 use Rattle.std.proofs.lemmas.Int.{to_z-of_z, ints}
 use Rattle.tb_float.specs.Pool.{FloatPool}
 use Rattle.tb_float.specs.Lists.{no_floats}

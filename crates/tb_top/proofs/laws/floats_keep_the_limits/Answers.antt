@@ -1,0 +1,5 @@
+use Rattle.tb_top.proofs.LimitedRuns.{run-within}
+use Rattle.tb_top.proofs.laws.floats_keep_the_limits.Goals as goal
+
+pub returns : goal.returns
+returns _ = run-within
