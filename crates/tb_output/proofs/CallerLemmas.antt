@@ -1,5 +1,5 @@
 -- What callers of the machine use.
-use Rattle.std.proofs.Common.{◌≡◌, ◌≢◌, refl, sym, subst, ◌∙◌, ap, ℕ, List, [], ◌∷◌, ◌++◌, append_assoc, append-nil, Option, None}
+use Rattle.std.proofs.Common.{◌≡◌, ◌≢◌, refl, sym, subst, ◌∙◌, ap, ℕ, List, [], ◌∷◌, ◌++◌, append_assoc, append-nil, Option, None, ◌+◌, true, false}
 use Rattle.std.specs.List.{AllByRecursion}
 use Rattle.std.specs.FinMap.{get}
 use Rattle.tb_pool.specs.Lists.{Lists, list_at}
@@ -18,7 +18,7 @@ use Rattle.tb_output.specs.declared.Turn.{Turn}
 use Rattle.tb_output.specs.State.{State, Work}
 use Rattle.tb_output.specs.Out.{waiting_again, out}
 use Rattle.tb_output.specs.Machine.{MachineView, state_shown, events_shown, sent_lists, event_lists, left_lists, machine_lists, IsNotAmong, AreDistinct, IsPageSent, IsMachine, IsFloatless}
-use Rattle.tb_output.specs.Firing.{foot_box, fired_page, page_work, firing_work}
+use Rattle.tb_output.specs.Firing.{foot_box, fired_page, page_work, firing_work, IsTurn, AtPageLimit}
 use Rattle.tb_output.specs.Serving.{fired_in, state_in, whole_work, AreFree, IsFired, CanGoBack}
 use Rattle.tb_output.proofs.FloatlessWork.{out-work}
 use Rattle.tb_output.proofs.StandLemmas.{all-join, all-front, all-back, Stands, machine-stands, machine-shows}
@@ -67,6 +67,7 @@ event-taken m now store e same is = taken (subst (λ v. IsMachine v store) same 
         params = h.params;
         first = h.first;
         last = h.last;
+        pool = h.pool;
         held_page = h.held_page;
         left_column = h.left_column;
         events = h.events.1;
@@ -92,6 +93,43 @@ out-firing m store page notes f boxes waiting body box penalty =
     out-work m.params (state_shown store boxes waiting m) f (notes_shown store notes) box
     ∙ (λ i. waiting_again f (page_work m.params (state_shown store boxes waiting m) (fired_page (body i) (notes_shown store notes) (penalty i))))
     ∙ ap (waiting_again f) (same-work m store page notes boxes waiting)
+
+-- a turn in the words of the whole definition: nothing was refused, these events were sent, and the state is that of the machine, with what goes back between what is held and what waited
+pub record IsOutOf (t : Turn) (m now : MachineView) (store new : Lists Node) (f : Fired) (w : Work) : Type 0 where
+  pub served : w.refused ≡ false
+  pub sent : events_shown new now.events ≡ events_shown store m.events ++ w.sent
+  pub state : state_shown new (foot_box None) (f.held ++ nodes_shown new t.put_back ++ f.rest) now ≡ w.state
+
+-- the page limit in the same words
+pub record IsLimitOf (n : ℕ) (m now : MachineView) (store new : Lists Node) (w : Work) : Type 0 where
+  pub refused : w.refused ≡ true
+  pub pages : n + 1 ≡ w.state.page
+  pub sent : events_shown new now.events ≡ events_shown store m.events ++ w.sent
+
+module _ (m now : MachineView) (store new : Lists Node) (page : Page) (notes : Option ℕ) (f : Fired) (boxes : List Boxed) (waiting : List PlainNode)
+    (body : f.body ≡ nodes_shown store page.body) (box : f.boxes ≡ foot_box (notes_shown store notes)) (penalty : f.penalty ≡ page.penalty) where
+  abbrev whole : Work
+  whole = out m.params (state_shown store boxes waiting m) f
+
+  whole-is : whole ≡ waiting_again f (firing_work m store page notes)
+  whole-is = out-firing m store page notes f boxes waiting body box penalty
+
+  pub turn-out : (t : Turn) → IsTurn t m now store new (firing_work m store page notes) → IsOutOf t m now store new f whole
+  turn-out t h = subst (IsOutOf t m now store new f) (sym whole-is) (record {
+    served = h.served;
+    sent = h.sent;
+    state = λ i. record (h.state i) { waiting = f.held ++ h.put_back i ++ f.rest };
+  })
+
+  pub limit-out : (n : ℕ) → AtPageLimit n m now store new (firing_work m store page notes) → IsLimitOf n m now store new whole
+  limit-out n h = subst (IsLimitOf n m now store new) (sym whole-is) (record { refused = h.refused; pages = h.pages; sent = h.sent })
+
+-- ---- another list is changed
+
+-- where one list alone was changed, those that it is not among are as before
+pub stand-apart : (store new : Lists Node) (l : ℕ) (ls : List ℕ) → ((q : ℕ) → q ≢ l → get new.lists q ≡ get store.lists q) → IsNotAmong l ls → AllByRecursion (Stands store new) ls
+stand-apart store new l [] others h = tt
+stand-apart store new l (q ∷ ls) others h = (others q h.0, stand-apart store new l ls others h.1)
 
 -- ---- what a firing put back waits again
 

@@ -66,8 +66,8 @@ pub record Begins (p : Params) (m : MachineView) (store : Lists Node) : Type 0 w
   pub machine : IsMachine m store
   pub floatless : IsFloatless m store
 
-pub new-begins : (p : Params) (store new : Lists Node) (l : ℕ) (pool : FloatPool) (es : List Sent) (s : Suppress) → AreOutputParams p → pool.lists ≡ no_floats → es ≡ [] → s ≡ no_suppress → new.lists ≡ with_list store l [] → Begins p (new_view p l pool es s) new
-new-begins p store new l pool es s ok floats none quiet opened = record {
+pub new-begins : (p : Params) (store new : Lists Node) (l : ℕ) (pool : FloatPool) (es : List Sent) (s : Suppress) → AreOutputParams p → pool.lists ≡ no_floats → pos pool.size ≡ p.pool → es ≡ [] → s ≡ no_suppress → new.lists ≡ with_list store l [] → Begins p (new_view p l pool es s) new
+new-begins p store new l pool es s ok floats size none quiet opened = record {
   state = λ waiting i. record {
     waiting = waiting;
     boxes = foot_box None;
@@ -86,6 +86,7 @@ new-begins p store new l pool es s ok floats none quiet opened = record {
     params = ok;
     first = omega arith;
     last = omega arith;
+    pool = size;
     held_page = empty-list new l (live_same store new l [] opened) empty;
     left_column = tt;
     events = subst (AllByRecursion (IsPageSent new)) (sym none) tt;
@@ -156,6 +157,7 @@ with-fault m store f is = record {
   left_column = is.left_column;
   events = is.events;
   apart = is.apart;
+  pool = is.pool;
 }
 
 pub floatless-shipped : (m : MachineView) (store : Lists Node) (c : Column) → IsFloatless m store → IsFloatless (shipped_machine c m) store
@@ -239,6 +241,7 @@ machine-shipped m store c is room column apart = record {
   params = is.params;
   first = omega arith;
   last = page-within m.page m.params.maxpages is.params.maxpages.high room;
+  pool = is.pool;
   held_page = is.held_page;
   left_column = is.left_column;
   events = all-join (IsPageSent store) m.events (events.Ship m.page (sheets.One c) ∷ []) is.events (column, tt);

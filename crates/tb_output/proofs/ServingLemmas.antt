@@ -27,7 +27,7 @@ use Rattle.tb_output.specs.declared.RunFault.TheVariants as faults
 use Rattle.tb_output.specs.State.{State}
 use Rattle.tb_output.specs.Out.{waiting_again, out}
 use Rattle.tb_output.specs.Machine.{MachineView, state_shown, events_shown, machine_lists, IsNotAmong, IsMachine}
-use Rattle.tb_output.specs.Firing.{foot_box, firing_work, refusal_of, note_nodes, IsNotNotes, AreNotesApart, CanServe, IsTurn, IsRefusal, IsCutShort, OthersStand, IsPutBack, TakesOnly}
+use Rattle.tb_output.specs.Firing.{foot_box, firing_work, refusal_of, note_nodes, IsNotNotes, AreNotesApart, CanServe, IsTurn, IsRefusal, IsCutShort, OthersStand, IsPutBack, TakesBody}
 use Rattle.tb_output.specs.Serving.{notes_in, fired_in, whole_work, AreFree, CanFire, IsNotesList, NotesTaken, IsFired, CanGoBack, IsNoOthers, OthersStay, OthersFree}
 use Rattle.tb_output.proofs.StandLemmas.{Stands, nodes-stand, machine-stands, machine-shows}
 use Rattle.tb_output.proofs.MachineLemmas.{state-stands, floatless-stands, lists-live, not-new, fresh-apart}
@@ -191,7 +191,7 @@ module _ (m : MachineView) (b d : Builder) (store mid : Lists Node) (page : Page
       pub no-others : IsNoOthers b store page.body l
       no-others = λ q a live free. back.own q a (mid-live q live free)
 
-    pub machine-free : (now : MachineView) → TakesOnly page.body m now → AreFree d new (machine_lists now)
+    pub machine-free : (now : MachineView) → TakesBody page.body m now → AreFree d new (machine_lists now)
     machine-free now takes =
         subst (λ (qs : List ℕ). AllByRecursion (λ l. Lacks l qs) (machine_lists now)) (sym after-owned)
         (to-free (machine_lists now) (owned (ids_of d) mid) (kept (owned (ids_of d) mid) body-lacks (to-owned (machine_lists m) (owned (ids_of d) mid) (still-free (machine_lists m) (lists-live m store is) can.machine_free))))

@@ -123,6 +123,7 @@ module _ (store new : Lists Node) where
       params = is.params;
       first = is.first;
       last = is.last;
+      pool = is.pool;
       held_page = list-stands m.held_page e.0 is.held_page;
       left_column = left-stands m.left_column (all-front Stands (left_lists m.left_column) (event_lists m.events) e.1) is.left_column;
       events = events-stand m.events (all-back Stands (left_lists m.left_column) (event_lists m.events) e.1) is.events;

@@ -158,11 +158,12 @@ pub record AreOutputParams (p : Params) : Type 0 where
   pub maxpages : IsLimit p.maxpages
   pub pool : IsPoolSize p.pool
 
--- the parameters and the page's number are in their ranges, and the machine's lists are lists of pages, no two of them the same
+-- the parameters and the page's number are in their ranges, the pool is as large as they say, and the machine's lists are lists of pages, no two of them the same
 pub record IsMachine (m : MachineView) (store : Lists Node) : Type 0 where
   pub params : AreOutputParams m.params
   pub first : 1 ≤ m.page
   pub last : m.page ≤ 4194305
+  pub pool : pos m.pool.size ≡ m.params.pool
   pub held_page : IsPageList store m.held_page
   pub left_column : IsPageLeft store m.left_column
   pub events : AllByRecursion (IsPageSent store) m.events

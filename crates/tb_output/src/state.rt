@@ -1,13 +1,13 @@
 //! The machine's beginning, and what is asked of it between two firings.
 
-ghost use Rattle.std.specs.Prelude.{◌≡◌, List, [], ◌∷◌, length, None, IfOk, IfSome, IfNone, OnOk};
+ghost use Rattle.std.specs.Prelude.{◌≡◌, ◌≤◌, pos, List, [], ◌∷◌, length, None, IfOk, IfSome, IfNone, OnOk};
 ghost use Rattle.std.specs.FinMap.{get};
 ghost use Rattle.tb_pool.specs.Lists.{Lists as ListMap, IsLive, list_at, with_list};
 ghost use Rattle.tb_node.specs.declared.Node.{Node as NodeValue};
 ghost use Rattle.tb_node.specs.Plain.{PlainNode};
 ghost use Rattle.tb_builder.specs.Fired.{Boxed};
 ghost use Rattle.tb_output.specs.State.{first_state, ask_of, no_suppress};
-ghost use Rattle.tb_output.specs.Machine.{state_shown, IsMachine, IsFloatless, AreOutputParams};
+ghost use Rattle.tb_output.specs.Machine.{state_shown, IsMachine, IsFloatless, IsPoolSize, AreOutputParams};
 ghost use Rattle.tb_output.specs.Firing.{foot_box};
 
 use crate::Machine;
@@ -31,6 +31,15 @@ pub(crate) fn no_suppress() -> Suppress
     }
 }
 
+// How many boxes the pool of floats may hold.
+fn pool_size(p: &Params) -> u64
+    requires { IsPoolSize p.now.pool }
+    ensures size { pos result ≡ p.now.pool }
+    ensures most { result ≤ 4096 }
+{
+    p.pool as u64
+}
+
 /// A machine before the first page, in one column, with an empty pool of floats. It opens a list for the held page.
 ///
 /// Where there is no memory, a list may have been opened.
@@ -49,7 +58,7 @@ pub fn new_machine(
     ensures fresh { IfOk result (λ m. get store.old.lists m.held_page ≡ None) }
     ensures opened { IfOk result (λ m. store.new.lists ≡ with_list store.old m.held_page []) }
 {
-    let pool = new_pool(alloc, p.pool as u64)?;
+    let pool = new_pool(alloc, pool_size(p))?;
     let held_page = store.add_list()?;
     Ok(Machine {
         params: *p,

@@ -88,7 +88,7 @@ held-is p r ready =
 
 -- ---- the parameters
 
-all-at : (f : Row → Bool) (rs : List Row) (k : ℕ) (r : Row) → slice_get rs k ≡ Some r → IsTrue (list_all f rs) → IsTrue (f r)
+pub all-at : (f : Row → Bool) (rs : List Row) (k : ℕ) (r : Row) → slice_get rs k ≡ Some r → IsTrue (list_all f rs) → IsTrue (f r)
 all-at f [] k r e h = cc
 all-at f (x ∷ xs) zero r e h = let same : x ≡ r = cc in subst (λ y. IsTrue (f y)) same (first (f x) (list_all f xs) h)
   where
@@ -101,14 +101,14 @@ all-at f (x ∷ xs) (suc k) r e h = all-at f xs k r e (second (f x) (list_all f 
     second true b h = h
     second false b h = cc
 
-in-range : (t : Bool) → IsTrue (is_no_fault (out_of_range t)) → IsTrue t
+pub in-range : (t : Bool) → IsTrue (is_no_fault (out_of_range t)) → IsTrue t
 in-range true h = refl
 in-range false h = cc
 
-dim-extent : (low v : ℤ) → pos 0 ≤ℤ low → IsTrue (is_no_fault (out_of_range (is_within low (pos 1073741823) v))) → IsExtent v
+pub dim-extent : (low v : ℤ) → pos 0 ≤ℤ low → IsTrue (is_no_fault (out_of_range (is_within low (pos 1073741823) v))) → IsExtent v
 dim-extent low v n h = let k = in-range (is_within low (pos 1073741823) v) h in record { low = grind (arith, ints, n, k); high = grind (arith, ints, n, k) }
 
-int-limit : (low high v : ℤ) → pos 0 ≤ℤ low → high ≤ℤ pos 4194304 → IsTrue (is_no_fault (out_of_range (is_within low high v))) → IsLimit v
+pub int-limit : (low high v : ℤ) → pos 0 ≤ℤ low → high ≤ℤ pos 4194304 → IsTrue (is_no_fault (out_of_range (is_within low high v))) → IsLimit v
 int-limit low high v n m h = let k = in-range (is_within low high v) h in record { low = grind (arith, ints, n, m, k); high = grind (arith, ints, n, m, k) }
 
 pub params-runnable : (p : Params) → IsTrue (are_params p) → AreRunnable p
