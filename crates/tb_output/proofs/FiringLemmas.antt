@@ -14,8 +14,8 @@ use Rattle.tb_column.specs.Column.{PlainSent, one, shipped, text_column}
 use Rattle.tb_column.specs.Shown.{sent_shown}
 use Rattle.tb_column.specs.TextList.{AreLeaves, notes_shown}
 use Rattle.tb_output.specs.State.{Work}
-use Rattle.tb_output.specs.Machine.{MachineView, state_shown, events_shown, machine_lists, IsNotAmong, IsPageList, IsPageColumn, IsMachine, IsFloatless}
-use Rattle.tb_output.specs.Firing.{foot_box, AreTextLists, IsPutBack, OthersStand, TakesOnly}
+use Rattle.tb_output.specs.Machine.{MachineView, events_shown, machine_lists, IsNotAmong, IsPageList, IsPageColumn, IsMachine, IsFloatless}
+use Rattle.tb_output.specs.Firing.{foot_box, AreTextLists, IsPutBack, OthersStand}
 use Rattle.tb_output.specs.Shipping.{shipped_machine, HasPutOut, IsAtLimit, IsOutput, IsOverLimit}
 use Rattle.tb_output.proofs.FloatlessWork.{bare_state, IsDone, IsStopped}
 use Rattle.tb_output.proofs.StandLemmas.{all-join, leaves-shown, Stands, machine-stands, machine-shows}
@@ -32,10 +32,6 @@ pub record IsReady (l : ℕ) (now : MachineView) (store new : Lists Node) (body 
   pub machine : IsMachine now new
   pub floatless : IsFloatless now new
   pub put_back : IsPutBack now store new body l
-
--- a page that is shipped takes its body alone
-pub put-out-takes : (l : ℕ) (ns : List Node) (text : List PlainNode) (m now : MachineView) (store new : Lists Node) (body : ℕ) (notes : Option ℕ) → HasPutOut l ns text m now store new body notes → TakesOnly body m now
-put-out-takes l ns text m now store new body notes h = subst (TakesOnly body m) (sym h.machine) (λ q a n. subst (IsNotAmong q) (sym (lists-shipped m h.column)) (all-join (λ x. x ≢ q) (machine_lists m) (h.column.list ∷ []) n ((λ e. a (sym (sym h.list ∙ e))), tt)))
 
 module _ (m : MachineView) (store new : Lists Node) (most body : ℕ) (notes : Option ℕ) (is : IsMachine m store) (lists : AreTextLists most m store body notes) where
   abbrev own-stand : OthersStand store new body notes → AllByRecursion (Stands store new) (machine_lists m)

@@ -25,12 +25,12 @@ use Rattle.tb_column.specs.Shown.{nodes_shown}
 use Rattle.tb_column.specs.TextList.{AreLeaves}
 use Rattle.tb_column.proofs.StoreLemmas.{list-get}
 use Rattle.tb_output.specs.declared.RunFault.{RunFault}
-use Rattle.tb_output.specs.State.{State, first_state, no_suppress}
+use Rattle.tb_output.specs.State.{first_state, no_suppress}
 use Rattle.tb_output.specs.Machine.{MachineView, state_shown, left_shown, sheet_lists, sent_lists, event_lists, left_lists, machine_lists, IsNotAmong, AreDistinct, IsPageList, IsPageColumn, IsPageSheet, IsPageSent, IsPageLeft, AreOutputParams, IsMachine, IsFloatless}
 use Rattle.tb_output.specs.Firing.{foot_box, IsNotNotes, AreNotesApart, OthersStand}
 use Rattle.tb_output.specs.Shipping.{shipped_machine}
 use Rattle.tb_output.proofs.FloatlessWork.{bare_state}
-use Rattle.tb_output.proofs.StandLemmas.{all-join, Stands, nodes-stand, list-stands}
+use Rattle.tb_output.proofs.StandLemmas.{all-join, Stands, nodes-stand}
 
 -- ---- the beginning
 
@@ -153,11 +153,11 @@ with-fault m store f is = record {
   params = is.params;
   first = is.first;
   last = is.last;
-  pool = is.pool;
   held_page = is.held_page;
   left_column = is.left_column;
   events = is.events;
   apart = is.apart;
+  pool = is.pool;
 }
 
 pub floatless-shipped : (m : MachineView) (store : Lists Node) (c : Column) → IsFloatless m store → IsFloatless (shipped_machine c m) store

@@ -1,5 +1,5 @@
 -- The footnotes of a page that fired are in a list of their own.
-use Rattle.std.proofs.Common.{◌≡◌, ◌≢◌, refl, sym, subst, ◌∙◌, ap, ℕ, Bool, true, false, List, [], ◌∷◌, ◌++◌, map, Option, None, Some, is_none, IsSome, arith}
+use Rattle.std.proofs.Common.{◌≡◌, ◌≢◌, refl, sym, subst, ◌∙◌, ap, ℕ, true, false, List, [], ◌∷◌, ◌++◌, map, Option, None, Some, is_none, arith}
 use Rattle.std.specs.Prelude.{◌==◌, ◌||◌}
 use Rattle.std.specs.FinMap.{get}
 use Rattle.std.proofs.lemmas.Bool.{true≢false}
@@ -18,7 +18,7 @@ use Rattle.tb_builder.specs.Running.{IsSound}
 use Rattle.tb_builder.specs.Handed.{NoPage, with_void, Taken}
 use Rattle.tb_builder.proofs.OwnedLemmas.{AllSame}
 use Rattle.tb_builder.proofs.FrameLemmas.{live_all_same, frame_owned, frame_contents, frame_sound, fresh_apart}
-use Rattle.tb_column.specs.TextList.{is_leaf_kind, AreLeaves, notes_shown}
+use Rattle.tb_column.specs.TextList.{is_leaf_kind, AreLeaves}
 use Rattle.tb_output.specs.Firing.{foot_box}
 use Rattle.tb_output.specs.Serving.{notes_in, HasOnlyNotes, NotesTaken}
 use Rattle.tb_output.proofs.MachineLemmas.{not-new}

@@ -1,5 +1,5 @@
 -- A firing whose dead cycles were counted, by the penalty of its page.
-use Rattle.std.proofs.Common.{◌≡◌, refl, sym, subst, ◌∙◌, ap, ℕ, zero, suc, ◌≤◌, ℤ, pos, ◌≤ℤ◌, true, false, List, [], ◌∷◌, ◌++◌, length, take, map, Option, None, Some, Result, Ok, Err, append-nil, arith}
+use Rattle.std.proofs.Common.{◌≡◌, ◌≢◌, refl, sym, subst, ◌∙◌, ap, ℕ, zero, suc, ◌≤◌, ℤ, pos, ◌≤ℤ◌, true, false, List, [], ◌∷◌, ◌++◌, length, take, map, Option, None, Some, Result, Ok, Err, append-nil, arith}
 use Rattle.std.specs.Prelude.{All, IfOk, IfErr, int_lt, int_le}
 use Rattle.std.proofs.lemmas.Int.{ints}
 use Rattle.std.proofs.lemmas.List.{take-map}
@@ -24,12 +24,12 @@ use Rattle.tb_output.specs.declared.RunFault.TheVariants as faults
 use Rattle.tb_output.specs.State.{State}
 use Rattle.tb_output.specs.Clear.{cleared_front}
 use Rattle.tb_output.specs.Out.{clear_penalty}
-use Rattle.tb_output.specs.Machine.{MachineView, events_shown, IsMachine}
-use Rattle.tb_output.specs.Firing.{foot_box, fired_page, CanServe, OthersStand}
+use Rattle.tb_output.specs.Machine.{MachineView, events_shown, machine_lists, IsNotAmong, IsMachine}
+use Rattle.tb_output.specs.Firing.{foot_box, fired_page, CanServe, OthersStand, TakesBody}
 use Rattle.tb_output.specs.Shipping.{clear_list, HasPutOut, HasNotPutOut, output_work, counted_work, IsOutput, IsOverLimit, IsNotOutput}
 use Rattle.tb_output.proofs.FloatlessWork.{bare_state, IsStopped, page-shipped, page-stopped, front-back, clear-shipped, clear-stopped}
-use Rattle.tb_output.proofs.StandLemmas.{leaves-shown}
-use Rattle.tb_output.proofs.MachineLemmas.{state-is}
+use Rattle.tb_output.proofs.StandLemmas.{all-join, leaves-shown}
+use Rattle.tb_output.proofs.MachineLemmas.{state-is, lists-shipped}
 use Rattle.tb_output.proofs.FiringLemmas.{MayGoBack, IsReady, machine-kept, events-kept, floatless-kept, over-limit, put-out-ready, put-out-done}
 
 -- ---- results
@@ -107,6 +107,7 @@ pub record IsKept (m now : MachineView) (store new : Lists Node) (body : ℕ) (n
   pub fault : now.fault ≡ m.fault
   pub params : now.params ≡ m.params
   pub others : OthersStand store new body notes
+  pub lists : TakesBody body m now
 
 pub low-penalty : (q : ℤ) → clear_penalty ≤ℤ q → int_le clear_penalty q ≡ true
 low-penalty q h = grind (arith, ints, h)
@@ -121,6 +122,8 @@ module _ (m now : MachineView) (store new : Lists Node) (page : Page) (notes : O
     fault = ap (λ (v : MachineView). v.fault) h.machine;
     params = ap (λ (v : MachineView). v.params) h.machine;
     others = h.others;
+    lists = subst (TakesBody page.body m) (sym h.machine) (λ q ne apart.
+        subst (IsNotAmong q) (sym (lists-shipped m h.column)) (all-join (λ x. x ≢ q) (machine_lists m) (h.column.list ∷ []) apart ((λ e. ne (sym e ∙ h.list)), tt)));
   }
 
   not-put-out-kept : (e : RunFault) → HasNotPutOut e m now store new page.body notes → IsKept m now store new page.body notes
@@ -130,12 +133,14 @@ module _ (m now : MachineView) (store new : Lists Node) (page : Page) (notes : O
     fault = ap (λ (v : MachineView). v.fault) h.machine;
     params = ap (λ (v : MachineView). v.params) h.machine;
     others = h.others;
+    lists = subst (TakesBody page.body m) (sym h.machine) (λ q ne apart. apart);
   }
   not-put-out-kept faults.Memory h = record {
     machine = subst (λ v. IsMachine v new) (sym h.0) (machine-kept m store new 8388602 page.body notes is served.lists h.1);
     fault = ap (λ (v : MachineView). v.fault) h.0;
     params = ap (λ (v : MachineView). v.params) h.0;
     others = h.1;
+    lists = subst (TakesBody page.body m) (sym h.0) (λ q ne apart. apart);
   }
 
   -- whether a page was put out or not

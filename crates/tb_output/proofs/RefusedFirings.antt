@@ -1,9 +1,9 @@
 -- Firings that are not begun, and those for whose footnotes there is no memory.
-use Rattle.std.proofs.Common.{◌≡◌, refl, sym, subst, ◌∙◌, ap, ℕ, pos, Bool, true, false, List, [], ◌∷◌, ◌++◌, Result, Err, Option, None, Some, append-nil}
+use Rattle.std.proofs.Common.{◌≡◌, refl, sym, subst, ◌∙◌, ap, ℕ, pos, Bool, true, false, List, [], ◌∷◌, Result, Err, Option, None, Some, append-nil}
 use Rattle.std.specs.Prelude.{IfNone, IfSome, int_lt, if◌then◌else◌}
 use Rattle.std.specs.List.{AllByRecursion}
 use Rattle.std.specs.FinMap.{get}
-use Rattle.tb_pool.specs.Lists.{Lists, IsLive}
+use Rattle.tb_pool.specs.Lists.{Lists}
 use Rattle.tb_node.specs.declared.Node.{Node}
 use Rattle.tb_builder.specs.declared.Builder.{Builder}
 use Rattle.tb_builder.specs.Owned.{Lacks, ids_of, owned}
@@ -15,10 +15,9 @@ use Rattle.tb_output.specs.declared.RunFault.{RunFault}
 use Rattle.tb_output.specs.declared.RunFault.TheVariants as faults
 use Rattle.tb_output.specs.State.{Work}
 use Rattle.tb_output.specs.Machine.{MachineView, events_shown, machine_lists, IsMachine}
-use Rattle.tb_output.specs.Firing.{standing_or, refusal_of, IsRefusal}
+use Rattle.tb_output.specs.Firing.{standing_or, refusal_of, IsRefusal, IsCutShort}
 use Rattle.tb_output.specs.Serving.{LeavesNotes, OthersFree}
 use Rattle.tb_output.proofs.StandLemmas.{Stands, machine-stands, machine-shows}
-use Rattle.tb_output.proofs.MachineLemmas.{lists-live}
 use Rattle.tb_output.proofs.TurnOutput.{at-dead-cycles, begins-with, is-below}
 
 -- ---- no firing is begun
@@ -37,6 +36,12 @@ not-begun m store w e h = by_fault m.fault h
     by_fault : (o : Option RunFault) → standing_or m o ≡ Some e → IfNone o (IsRefusal e m m store store w)
     by_fault None h = by_test (int_lt (pos m.dead_cycles) m.params.maxdeadcycles) refl h
     by_fault (Some f) h = tt
+
+-- a firing that is cut short is refused
+pub cut-short : (m now : MachineView) (store new : Lists Node) (w : Work) (e : RunFault) → IsCutShort e m now store new w → IsRefusal e m now store new w
+cut-short m now store new w (faults.DeadCycles n) h = absurd h
+cut-short m now store new w (faults.PageLimit n) h = h
+cut-short m now store new w faults.Memory h = h
 
 pub fault-again : (m : MachineView) (e : RunFault) → refusal_of m ≡ Some e → IfSome m.fault (λ f. (let r : Result Turn RunFault = Err e in r ≡ Err f))
 fault-again m e h = by_fault m.fault h

@@ -1,8 +1,7 @@
 -- A page of a page builder is served: what the machine is handed, and what stands after it.
-use Rattle.std.proofs.Common.{◌≡◌, ◌≢◌, refl, sym, subst, ◌∙◌, ap, ℕ, ◌+◌, ◌≤◌, Bool, true, false, List, [], ◌∷◌, ◌++◌, length, map, Option, None, Some, arith}
+use Rattle.std.proofs.Common.{◌≡◌, ◌≢◌, refl, sym, subst, ◌∙◌, ap, ℕ, ◌≤◌, List, [], ◌∷◌, ◌++◌, length, map, Option, None, Some, arith}
 use Rattle.std.specs.Prelude.{All, IfNone, take}
 use Rattle.std.specs.List.{AllByRecursion}
-use Rattle.std.specs.FinMap.{get}
 use Rattle.std.proofs.lemmas.List.{length-map}
 use Rattle.std.proofs.lemmas.List.Elements.{All-nil}
 use Rattle.tb_pool.specs.Lists.{Lists, IsLive, list_at}
@@ -11,7 +10,7 @@ use Rattle.tb_node.specs.Plain.{leaf_of, PlainNode}
 use Rattle.tb_node.specs.Fit.{IsSizedNode, IsSizedLeaf}
 use Rattle.tb_builder.specs.declared.Builder.{Builder}
 use Rattle.tb_builder.specs.declared.Page.{Page}
-use Rattle.tb_builder.specs.Fired.{Boxed, content_of}
+use Rattle.tb_builder.specs.Fired.{content_of}
 use Rattle.tb_builder.specs.Contents.{Contents, contents_of}
 use Rattle.tb_builder.specs.Owned.{Lacks, AllLive, ids_of, owned}
 use Rattle.tb_builder.specs.Running.{IsSound}
@@ -19,17 +18,16 @@ use Rattle.tb_builder.specs.Handed.{NoPage}
 use Rattle.tb_builder.proofs.OwnedLemmas.{AllSame}
 use Rattle.tb_builder.proofs.StoreSized.{leaves-back}
 use Rattle.tb_builder.proofs.FrameLemmas.{frame_owned, frame_contents, frame_sound}
-use Rattle.tb_column.specs.Shown.{nodes_shown}
 use Rattle.tb_column.specs.TextList.{AreLeaves, CanJoin, notes_shown}
 use Rattle.tb_column.proofs.ColumnLemmas.{leaves-apart}
 use Rattle.tb_column.proofs.StoreLemmas.{list-get, live-get}
 use Rattle.tb_output.specs.declared.Turn.{Turn}
 use Rattle.tb_output.specs.declared.RunFault.{RunFault}
 use Rattle.tb_output.specs.declared.RunFault.TheVariants as faults
-use Rattle.tb_output.specs.State.{State, Work}
+use Rattle.tb_output.specs.State.{State}
 use Rattle.tb_output.specs.Out.{waiting_again, out}
 use Rattle.tb_output.specs.Machine.{MachineView, state_shown, events_shown, machine_lists, IsNotAmong, IsMachine}
-use Rattle.tb_output.specs.Firing.{foot_box, firing_work, refusal_of, note_nodes, IsNotNotes, AreNotesApart, CanServe, IsTurn, IsRefusal, IsCutShort, OthersStand, IsPutBack, TakesOnly}
+use Rattle.tb_output.specs.Firing.{foot_box, firing_work, refusal_of, note_nodes, IsNotNotes, AreNotesApart, CanServe, IsTurn, IsRefusal, IsCutShort, OthersStand, IsPutBack, TakesBody}
 use Rattle.tb_output.specs.Serving.{notes_in, fired_in, whole_work, AreFree, CanFire, IsNotesList, NotesTaken, IsFired, CanGoBack, IsNoOthers, OthersStay, OthersFree}
 use Rattle.tb_output.proofs.StandLemmas.{Stands, nodes-stand, machine-stands, machine-shows}
 use Rattle.tb_output.proofs.MachineLemmas.{state-stands, floatless-stands, lists-live, not-new, fresh-apart}
@@ -193,7 +191,7 @@ module _ (m : MachineView) (b d : Builder) (store mid : Lists Node) (page : Page
       pub no-others : IsNoOthers b store page.body l
       no-others = λ q a live free. back.own q a (mid-live q live free)
 
-    pub machine-free : (now : MachineView) → TakesOnly page.body m now → AreFree d new (machine_lists now)
+    pub machine-free : (now : MachineView) → TakesBody page.body m now → AreFree d new (machine_lists now)
     machine-free now takes =
         subst (λ (qs : List ℕ). AllByRecursion (λ l. Lacks l qs) (machine_lists now)) (sym after-owned)
         (to-free (machine_lists now) (owned (ids_of d) mid) (kept (owned (ids_of d) mid) body-lacks (to-owned (machine_lists m) (owned (ids_of d) mid) (still-free (machine_lists m) (lists-live m store is) can.machine_free))))

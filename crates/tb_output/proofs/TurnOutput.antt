@@ -1,6 +1,6 @@
 -- A firing from the part of it that counts its dead cycle.
-use Rattle.std.proofs.Common.{◌≡◌, refl, sym, subst, ◌∙◌, ap, ℕ, ◌+◌, ◌<◌, ℤ, pos, ◌≤ℤ◌, ◌<ℤ◌, Bool, true, false, List, [], ◌++◌, Option, None, Some, append-nil, arith}
-use Rattle.std.specs.Prelude.{IfNone, int_lt, take, if◌then◌else◌}
+use Rattle.std.proofs.Common.{◌≡◌, refl, sym, subst, ◌∙◌, ap, ℕ, ◌+◌, ◌<◌, ℤ, pos, ◌≤ℤ◌, ◌<ℤ◌, Bool, true, false, Option, None, Some, append-nil, arith}
+use Rattle.std.specs.Prelude.{IfNone, int_lt, if◌then◌else◌}
 use Rattle.std.proofs.lemmas.Int.{ints}
 use Rattle.tb_pool.specs.Lists.{Lists}
 use Rattle.tb_node.specs.declared.Node.{Node}
@@ -8,9 +8,9 @@ use Rattle.tb_builder.specs.declared.Page.{Page}
 use Rattle.tb_output.specs.declared.Turn.{Turn}
 use Rattle.tb_output.specs.declared.RunFault.{RunFault}
 use Rattle.tb_output.specs.declared.RunFault.TheVariants as faults
-use Rattle.tb_output.specs.State.{State, Work}
-use Rattle.tb_output.specs.Machine.{MachineView, events_shown, IsLimit, IsFloatless}
-use Rattle.tb_output.specs.Firing.{page_work, firing_work, standing_or, refusal_of, AreTextLists, CanServe, IsTurn, AtDeadCycles, IsRefusal, IsCutShort}
+use Rattle.tb_output.specs.State.{State}
+use Rattle.tb_output.specs.Machine.{MachineView, events_shown, IsLimit}
+use Rattle.tb_output.specs.Firing.{page_work, firing_work, standing_or, refusal_of, CanServe, IsTurn, AtDeadCycles, IsCutShort}
 use Rattle.tb_output.specs.Shipping.{output_work, counted_work, IsOutput, IsNotOutput}
 
 -- the machine with one more dead cycle

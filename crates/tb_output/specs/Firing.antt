@@ -1,5 +1,5 @@
 -- What the machine answers at a firing, against the definition of a firing.
-use Rattle.std.specs.Prelude.{◌≡◌, ◌≢◌, ◌≤◌, ◌+◌, ◌-◌, ℕ, ℤ, pos, ◌≤ℤ◌, ◌<ℤ◌, Bool, true, false, List, [], ◌∷◌, ◌++◌, length, take, All, Option, Some, None, int_lt, if◌then◌else◌}
+use Rattle.std.specs.Prelude.{◌≡◌, ◌≢◌, ◌≤◌, ◌+◌, ℕ, ℤ, pos, ◌≤ℤ◌, ◌<ℤ◌, true, false, List, [], ◌∷◌, ◌++◌, length, take, All, Option, Some, None, int_lt, if◌then◌else◌}
 use Rattle.std.specs.FinMap.{get}
 use Rattle.tb_pool.specs.Lists.{Lists, IsLive, list_at}
 use Rattle.tb_node.specs.declared.Node.{Node}
@@ -124,10 +124,6 @@ IsCutShort (faults.DeadCycles n) m now store new w = ⊥
 IsCutShort (faults.PageLimit n) m now store new w = AtPageLimit n m now store new w
 IsCutShort faults.Memory m now store new w = WithoutMemory m now store new w
 
--- a list that was neither the body nor the machine's is none of the machine's
-abbrev pub TakesOnly : ℕ → MachineView → MachineView → Type 0
-TakesOnly body m now = (q : ℕ) → q ≢ body → IsNotAmong q (machine_lists m) → IsNotAmong q (machine_lists now)
-
 -- the list that goes back after a page with this body: such as that of a page, none of the machine's, and no other list that was live
 pub record IsPutBack (m : MachineView) (store new : Lists Node) (body l : ℕ) : Type 0 where
   pub list : IsPageList new l
@@ -137,3 +133,7 @@ pub record IsPutBack (m : MachineView) (store new : Lists Node) (body l : ℕ) :
 -- each other list that was live is as before
 abbrev pub OthersStand : Lists Node → Lists Node → ℕ → Option ℕ → Type 0
 OthersStand store new body notes = (q : ℕ) → q ≢ body → IsNotNotes q notes → IsLive store q → get new.lists q ≡ get store.lists q
+
+-- a list that is neither the machine's nor the body's is none of the machine's afterwards
+abbrev pub TakesBody : ℕ → MachineView → MachineView → Type 0
+TakesBody body m now = (q : ℕ) → q ≢ body → IsNotAmong q (machine_lists m) → IsNotAmong q (machine_lists now)

@@ -1,10 +1,10 @@
 //! A firing of the output routine (ltoutput.dtx, \output).
 
-ghost use Rattle.std.specs.Prelude.{◌≡◌, Err, None, IfOk, IfErr, IfSome, IfNone};
+ghost use Rattle.std.specs.Prelude.{◌≡◌, Err, None, IfOk, IfErr, OnOk, IfSome, IfNone};
 ghost use Rattle.tb_builder.specs.Contents.{contents_of};
 ghost use Rattle.tb_builder.specs.Running.{IsSound};
 ghost use Rattle.tb_output.specs.Machine.{machine_lists, AreOutputParams, IsMachine, IsFloatless};
-ghost use Rattle.tb_output.specs.Firing.{foot_box, firing_work, refusal_of, CanServe, IsTurn, IsRefusal, IsCutShort, IsPutBack, OthersStand, TakesOnly};
+ghost use Rattle.tb_output.specs.Firing.{foot_box, firing_work, refusal_of, CanServe, IsTurn, IsRefusal, IsCutShort, IsPutBack, OthersStand, TakesBody};
 ghost use Rattle.tb_output.specs.Shipping.{counted_work, IsOutput, IsNotOutput};
 ghost use Rattle.tb_output.specs.Serving.{whole_work, AreFree, CanFire, CanGoBack, IsFired, IsNoOthers, LeavesNotes, OthersFree, OthersStay};
 
@@ -39,7 +39,7 @@ impl Machine {
         requires page { IfNone self.old.fault (CanFire self.old b.old store.old page) }
 
         ensures turn { IfOk result (λ t. IsFired t self.old self.new b.new store.old store.new (whole_work self.old b.old store.old page)) }
-        ensures contents { IfOk result (λ _. contents_of b.new store.new ≡ record (contents_of b.old store.old) { boxes = foot_box None }) }
+        ensures contents { OnOk result (contents_of b.new store.new ≡ record (contents_of b.old store.old) { boxes = foot_box None }) }
         ensures refused { IfNone self.old.fault (IfErr result (λ e. IsRefusal e self.old self.new store.old store.new (whole_work self.old b.old store.old page))) }
         ensures box_left { IfErr result (λ e. LeavesNotes e b.old b.new) }
         ensures again { IfSome self.old.fault (λ e. result ≡ Err e) }
@@ -47,14 +47,14 @@ impl Machine {
         ensures machine { IsMachine self.new store.new }
         ensures builder { IsSound b.new store.new }
         ensures floatless { IfOk result (λ _. IsFloatless self.new store.new) }
-        ensures fault { IfOk result (λ _. self.new.fault ≡ None) }
+        ensures goes_on { OnOk result (self.new.fault ≡ None) }
         ensures params { self.new.params ≡ self.old.params }
         ensures put_back { IfOk result (λ t. CanGoBack self.new b.new store.new t.put_back) }
         ensures apart { IfOk result (λ _. AreFree b.new store.new (machine_lists self.new)) }
         ensures opened { IfOk result (λ t. IsNoOthers b.old store.old page.body t.put_back) }
         ensures others { OthersStay b.old store.old store.new page.body }
         ensures free { OthersFree b.old b.new store.old store.new }
-        ensures takes { IfOk result (λ _. TakesOnly page.body self.old self.new) }
+        ensures lists { TakesBody page.body self.old self.new }
     {
         if let Some(fault) = self.refusal() {
             return Err(fault);
@@ -66,6 +66,35 @@ impl Machine {
                 Err(RunFault::Memory)
             }
         }
+    }
+
+    /// Serves a page whose footnotes, where there are any, were taken into a list: `fire` without its builder. The list
+    /// of the footnotes is the machine's then, as that of the page is.
+    pub fn fire_page(
+        &mut self,
+        store: &mut Lists<Node>,
+        page: Page,
+        notes: Option<ListId>,
+    ) -> Result<Turn, RunFault>
+        requires machine { IsMachine self.old store.old }
+        requires page { IfNone self.old.fault (CanServe self.old store.old page notes) }
+
+        ensures turn { IfOk result (λ t. IsTurn t self.old self.new store.old store.new (firing_work self.old store.old page notes)) }
+        ensures refused { IfNone self.old.fault (IfErr result (λ e. IsRefusal e self.old self.new store.old store.new (firing_work self.old store.old page notes))) }
+        ensures again { IfSome self.old.fault (λ e. result ≡ Err e) }
+
+        ensures machine { IsMachine self.new store.new }
+        ensures floatless { IfOk result (λ _. IsFloatless self.new store.new) }
+        ensures put_back { IfOk result (λ t. IsPutBack self.new store.old store.new page.body t.put_back) }
+        ensures goes_on { OnOk result (self.new.fault ≡ None) }
+        ensures params { self.new.params ≡ self.old.params }
+        ensures others { OthersStand store.old store.new page.body notes }
+        ensures lists { TakesBody page.body self.old self.new }
+    {
+        if let Some(fault) = self.refusal() {
+            return Err(fault);
+        }
+        self.serve(store, page, notes)
     }
 
     // Why no firing is begun: the fault that stands, or that as many firings as may be were without a page.
@@ -101,10 +130,10 @@ impl Machine {
         ensures machine { IsMachine self.new store.new }
         ensures floatless { IfOk result (λ _. IsFloatless self.new store.new) }
         ensures put_back { IfOk result (λ t. IsPutBack self.new store.old store.new page.body t.put_back) }
-        ensures takes { IfOk result (λ _. TakesOnly page.body self.old self.new) }
-        ensures fault { IfOk result (λ _. self.new.fault ≡ None) }
+        ensures goes_on { OnOk result (self.new.fault ≡ None) }
         ensures params { self.new.params ≡ self.old.params }
         ensures others { OthersStand store.old store.new page.body notes }
+        ensures lists { TakesBody page.body self.old self.new }
     {
         self.dead_cycles += 1;
         match self.output(store, page, notes) {
@@ -135,10 +164,10 @@ impl Machine {
         ensures machine { IsMachine self.new store.new }
         ensures floatless { IfOk result (λ _. IsFloatless self.new store.new) }
         ensures put_back { IfOk result (IsPutBack self.new store.old store.new page.body) }
-        ensures takes { IfOk result (λ _. TakesOnly page.body self.old self.new) }
         ensures fault { self.new.fault ≡ self.old.fault }
         ensures params { self.new.params ≡ self.old.params }
         ensures others { OthersStand store.old store.new page.body notes }
+        ensures lists { TakesBody page.body self.old self.new }
     {
         if page.penalty >= EJECT_PENALTY {
             return self.ordinary(store, page.body, notes);

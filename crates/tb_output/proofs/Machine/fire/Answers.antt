@@ -1,4 +1,4 @@
-use Rattle.std.proofs.Common.{sym, ◌∙◌, ap, subst, Some}
+use Rattle.std.proofs.Common.{sym, ◌∙◌, subst, Some}
 use Rattle.tb_output.specs.declared.RunFault.TheVariants as faults
 use Rattle.tb_builder.specs.Running.{IsSound}
 use Rattle.tb_output.specs.Machine.{MachineView, IsMachine}
@@ -41,7 +41,7 @@ returns-in-Ok-clause-put_back c =
 
 pub returns-in-Ok-clause-apart : goal.returns-in-Ok-clause-apart
 returns-in-Ok-clause-apart c =
-    if-ok c.serve.result _ _ (λ t h. machine-free c.args.self.now c.args.b.now c.take_notes.new.b c.args.store.now c.take_notes.new.store c.args.page c.in-Ok.notes c.requires.machine (can-begin c.args.self.now c.args.b.now c.args.store.now c.args.page (sym c.refusal.ensures ∙ c.in_default.is) c.requires.page) c.in-Ok.ensures.taken c.serve.new.store c.serve.ensures.others c.serve.new.self h) c.serve.ensures.takes
+    if-ok c.serve.result _ _ (λ t h. machine-free c.args.self.now c.args.b.now c.take_notes.new.b c.args.store.now c.take_notes.new.store c.args.page c.in-Ok.notes c.requires.machine (can-begin c.args.self.now c.args.b.now c.args.store.now c.args.page (sym c.refusal.ensures ∙ c.in_default.is) c.requires.page) c.in-Ok.ensures.taken c.serve.new.store c.serve.ensures.others c.serve.new.self c.serve.ensures.lists) c.serve.ensures.turn
 
 pub returns-in-Err-clause-refused : goal.returns-in-Err-clause-refused
 returns-in-Err-clause-refused c =

@@ -1,7 +1,7 @@
-use Rattle.std.proofs.Common.{[], Some, FitsSigned, w64, rules}
+use Rattle.std.proofs.Common.{[], FitsSigned, w64, rules}
 use Rattle.std.proofs.lemmas.Int.{to_z-of_z}
 use Rattle.tb_column.specs.Shown.{nodes_shown}
-use Rattle.tb_output.proofs.FiringLemmas.{IsReady, put-out-takes}
+use Rattle.tb_output.proofs.FiringLemmas.{IsReady}
 use Rattle.tb_output.proofs.OutputLemmas.{if-ok, if-err, nothing-back, kept-either, ready-if, page-output, page-refusal, notes-kept, notes-ready, notes-output, notes-refusal, front-others, front-ready, front-output}
 use Rattle.tb_output.proofs.Machine.output.Goals as goal
 
@@ -65,13 +65,10 @@ returns-in-None-clause-put_back c = (front-ready c.args.self.now c.args.store.no
 pub returns-in-None-clause-others : goal.returns-in-None-clause-others
 returns-in-None-clause-others c = front-others c.args.self.now c.args.store.now c.clear_page.new.store c.args.page c.args.notes c.in-None.is c.requires.machine c.requires.page c.clear_page.ensures
 
-pub returns-then-page-ge-EJECT_PENALTY-clause-takes : goal.returns-then-page-ge-EJECT_PENALTY-clause-takes
-returns-then-page-ge-EJECT_PENALTY-clause-takes c =
-    if-ok c.ordinary.result _ _ (λ l h. put-out-takes l [] (nodes_shown c.args.store.now c.args.page.body) c.args.self.now c.ordinary.new.self c.args.store.now c.ordinary.new.store c.args.page.body c.args.notes h) c.ordinary.ensures.ok
+pub returns-then-page-ge-EJECT_PENALTY-clause-lists : goal.returns-then-page-ge-EJECT_PENALTY-clause-lists
+returns-then-page-ge-EJECT_PENALTY-clause-lists c =
+    (kept-either c.args.self.now c.ordinary.new.self c.args.store.now c.ordinary.new.store c.args.page c.args.notes c.requires.machine c.requires.page c.ordinary.result [] (nodes_shown c.args.store.now c.args.page.body) nothing-back c.ordinary.ensures.ok c.ordinary.ensures.err).lists
 
-pub returns-in-Some-clause-takes : goal.returns-in-Some-clause-takes
-returns-in-Some-clause-takes c =
-    if-ok c.clear_notes.result _ _ (λ l h. put-out-takes l _ _ c.args.self.now c.clear_notes.new.self c.args.store.now c.clear_notes.new.store c.args.page.body (Some c.in-Some.notes) h) c.clear_notes.ensures.ok
-
-pub returns-in-None-clause-takes : goal.returns-in-None-clause-takes
-returns-in-None-clause-takes c = λ q a n. n
+pub returns-in-Some-clause-lists : goal.returns-in-Some-clause-lists
+returns-in-Some-clause-lists c =
+    (notes-kept c.args.self.now c.clear_notes.new.self c.args.store.now c.clear_notes.new.store c.args.page c.args.notes c.in-Some.notes c.in-Some.is c.requires.machine c.requires.page c.clear_notes.result c.clear_notes.ensures.ok c.clear_notes.ensures.err).lists
