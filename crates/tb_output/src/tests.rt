@@ -119,7 +119,12 @@ fn refuses_at_the_limits(rt: HostRuntime) -> Result<(), Fail> {
     let mut store = Lists::new(rt.alloc());
     let body = text(&mut store)?;
     let mut machine = new_machine(rt.alloc(), &mut store, &params(1, 0))?;
-    assert!(rt; matches!(machine.refusal(), Some(RunFault::DeadCycles { count: 0 })));
+    assert!(rt;
+        matches!(
+            machine.fire_page(&mut store, page(body, -10_000), None),
+            Err(RunFault::DeadCycles { count: 0 })
+        )
+    );
     Ok(())
 }
 
