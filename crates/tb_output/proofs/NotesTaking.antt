@@ -97,6 +97,9 @@ module _ (b : Builder) (store mid : Lists Node) (l : ℕ) (sound : IsSound b sto
   opened-owned : owned (ids_of b) mid ≡ owned (ids_of b) store
   opened-owned = frame_owned b store mid sound own-same
 
+  pub opened-lacks : (q : ℕ) → Lacks q (owned (ids_of b) store) → Lacks q (owned (ids_of b) mid)
+  opened-lacks q h = subst (Lacks q) (sym opened-owned) h
+
   pub opened-awaits : NoPage (contents_of b store) → NoPage (contents_of b mid)
   opened-awaits h = subst NoPage (sym opened-contents) h
 

@@ -98,7 +98,7 @@ impl Machine {
     }
 
     // Why no firing is begun: the fault that stands, or that as many firings as may be were without a page.
-    pub(crate) fn refusal(&self) -> Option<RunFault>
+    fn refusal(&self) -> Option<RunFault>
         requires { AreOutputParams self.now.params }
         ensures { result ≡ refusal_of self.now }
     {
@@ -114,7 +114,7 @@ impl Machine {
     }
 
     // Serves the page with the list of its footnotes, where there are any. Both lists are the machine's then.
-    pub(crate) fn serve(
+    fn serve(
         &mut self,
         store: &mut Lists<Node>,
         page: Page,

@@ -5,12 +5,14 @@ ghost use Rattle.std.specs.FinMap.{get};
 ghost use Rattle.tb_pool.specs.Lists.{IsLive, list_at};
 ghost use Rattle.tb_node.specs.Fit.{IsSizedNode};
 ghost use Rattle.tb_column.specs.TextList.{AreLeaves};
+ghost use Rattle.tb_insert.specs.Arrived.{ClassFits};
 ghost use Rattle.tb_output.specs.Machine.{AreOutputParams, IsLimit};
 
 use crate::{RunFault, Sent, Sheet, new_machine};
 use std::alloc::AllocError;
 use std::test::Fail;
-use tb_builder::Page;
+use tb_builder::{Page, new_builder};
+use tb_insert::Class;
 use tb_node::{Kind, Node, What};
 use tb_param::{Params, defaults};
 use tb_pool::{ListId, Lists};
@@ -23,7 +25,7 @@ fn ships_a_page_with_a_footnote(rt: HostRuntime) -> Result<(), Fail> {
     let body = text(&mut store)?;
     let notes = text(&mut store)?;
     let mut machine = new_machine(rt.alloc(), &mut store, &params(1, 25))?;
-    let Ok(turn) = machine.serve(&mut store, page(body, -10_000), Some(notes)) else {
+    let Ok(turn) = machine.fire_page(&mut store, page(body, -10_000), Some(notes)) else {
         return Err(Fail::from("refused"));
     };
     assert_eq!(rt; turn.goal, 30);
@@ -48,7 +50,7 @@ fn clears_a_page_with_a_footnote(rt: HostRuntime) -> Result<(), Fail> {
     let body = text(&mut store)?;
     let notes = text(&mut store)?;
     let mut machine = new_machine(rt.alloc(), &mut store, &params(1, 25))?;
-    let Ok(turn) = machine.serve(&mut store, page(body, -10_001), Some(notes)) else {
+    let Ok(turn) = machine.fire_page(&mut store, page(body, -10_001), Some(notes)) else {
         return Err(Fail::from("refused"));
     };
     assert_eq!(rt; store.len(turn.put_back), 5);
@@ -70,11 +72,35 @@ fn clears_a_page(rt: HostRuntime) -> Result<(), Fail> {
     let mut store = Lists::new(rt.alloc());
     let body = text(&mut store)?;
     let mut machine = new_machine(rt.alloc(), &mut store, &params(1, 25))?;
-    let Ok(turn) = machine.serve(&mut store, page(body, -10_001), None) else {
+    let Ok(turn) = machine.fire_page(&mut store, page(body, -10_001), None) else {
         return Err(Fail::from("refused"));
     };
     assert_eq!(rt; store.len(turn.put_back), 1);
     assert!(rt; matches!(machine.sent(), None));
+    Ok(())
+}
+
+// Over a builder that holds no footnotes the page is shipped, and what goes back waits in the builder.
+#[test]
+fn fires_over_a_builder(rt: HostRuntime) -> Result<(), Fail> {
+    let mut store = Lists::new(rt.alloc());
+    let body = text(&mut store)?;
+    let mut builder = new_builder(rt.alloc(), &mut store, &[footnotes()])?;
+    let mut machine = new_machine(rt.alloc(), &mut store, &params(1, 25))?;
+    let Ok(turn) = machine.fire(&mut store, &mut builder, page(body, -10_000)) else {
+        return Err(Fail::from("refused"));
+    };
+    builder.put_back(&mut store, turn.put_back);
+    assert_eq!(rt; store.len(builder.waiting()), 0);
+    assert!(rt;
+        matches!(
+            machine.sent(),
+            Some(Sent::Ship {
+                page: 1,
+                sheet: Sheet::One(_)
+            })
+        )
+    );
     Ok(())
 }
 
@@ -86,12 +112,19 @@ fn refuses_at_the_limits(rt: HostRuntime) -> Result<(), Fail> {
     let mut machine = new_machine(rt.alloc(), &mut store, &params(0, 25))?;
     assert!(rt;
         matches!(
-            machine.serve(&mut store, page(body, -10_000), None),
+            machine.fire_page(&mut store, page(body, -10_000), None),
             Err(RunFault::PageLimit { pages: 0 })
         )
     );
-    let machine = new_machine(rt.alloc(), &mut store, &params(1, 0))?;
-    assert!(rt; matches!(machine.refusal(), Some(RunFault::DeadCycles { count: 0 })));
+    let mut store = Lists::new(rt.alloc());
+    let body = text(&mut store)?;
+    let mut machine = new_machine(rt.alloc(), &mut store, &params(1, 0))?;
+    assert!(rt;
+        matches!(
+            machine.fire_page(&mut store, page(body, -10_000), None),
+            Err(RunFault::DeadCycles { count: 0 })
+        )
+    );
     Ok(())
 }
 
@@ -123,6 +156,19 @@ fn params(maxpages: i64, maxdeadcycles: i64) -> Params
         maxdeadcycles,
         pool: 2,
         ..defaults()
+    }
+}
+
+// The class of the footnotes.
+fn footnotes() -> Class
+    ensures number { result.number ≡ 254 }
+    ensures fits { ClassFits result }
+{
+    Class {
+        number: 254,
+        factor: 1000,
+        limit: 8_388_608,
+        skip: fixed(0),
     }
 }
 
