@@ -1,0 +1,6 @@
+//! Scratch.
+#![tactic(auto)]
+
+mod expanding;
+mod limits;
+mod routine;

@@ -1,0 +1,141 @@
+//! The output routine over one store: the page builder fills a page, and the machine serves it.
+
+ghost use Rattle.std.specs.Prelude.{◌≡◌, ◌≤◌, ◌+◌, ◌++◌, [], true, List, Option, IfOk, OnOk, IfNone};
+ghost use Rattle.tb_node.specs.Plain.{Leaf};
+ghost use Rattle.tb_builder.specs.Contents.{plain_list, node_count, box_count};
+ghost use Rattle.tb_builder.specs.Owned.{has_class};
+ghost use Rattle.tb_builder.specs.Running.{IsSound};
+ghost use Rattle.tb_builder.specs.Handed.{NoPage};
+ghost use Rattle.tb_output.specs.State.{ask_of};
+ghost use Rattle.tb_output.specs.Machine.{events_shown};
+ghost use Rattle.tb_output.specs.Firing.{foot_box};
+ghost use Rattle.tb_run.specs.Servable.{AreRunnable};
+ghost use Rattle.tb_run.specs.Run.{held_count, step};
+ghost use Rattle.tb_run.specs.PlainRun.{step_shown};
+ghost use Rattle.tb_run.specs.Turning.{held_in, state_of, IsWhole, IsReady, FillIs, NotesTaken, IsBackList, IsSettled, IsEnded, turn_shown, over_limit};
+
+use crate::limits::exceeds;
+use std::alloc::{AllocError, Global};
+use tb_builder::{Ask, Builder, Event, Page, new_builder};
+use tb_column::Sent;
+use tb_node::{Act, Node};
+use tb_output::{Machine, RunFault, Turn, new_machine};
+use tb_param::Params;
+use tb_pool::{ListId, Lists};
+
+/// Between two firings: one store, the page builder with the nodes that wait, and the output routine's machine.
+#[derive(Drop)]
+pub(crate) struct Routine {
+    pub store: Lists<Node>,
+    pub builder: Builder,
+    pub machine: Machine,
+}
+
+/// How a run ends.
+#[derive(Clone, Copy)]
+pub(crate) enum Ending {
+    /// Nothing fires any more; what is on the page is left.
+    Done,
+    DeadCycles { count: u64 },
+    PageLimit { pages: u64 },
+    NodeLimit { count: u64 },
+}
+
+// No act waits.
+fn no_act(_act: Act)
+    requires { ⊥ }
+{
+}
+
+impl Routine {
+    // Fills the next page of what waits. None where it does not fire: then nothing waits any more.
+    fn fill(&mut self, p: &Params, ask: &Ask) -> Result<Option<Page>, AllocError>
+        requires ready { IsReady p.now self.old }
+        requires params { AreRunnable p.now }
+        requires ask { ask.now ≡ ask_of p.now (state_of self.old) }
+        ensures { IfOk result (λ o. FillIs p.now self.old o self.new) }
+    {
+        'next: loop {
+            match self.builder.next(&mut self.store, ask)? {
+                Event::Try(_) => {}
+                Event::Act(act) => no_act(act),
+                Event::Fired(page) => return Ok(Some(page)),
+                Event::Empty => return Ok(None),
+            }
+        }
+    }
+
+    // The footnotes of the page that fired, in a list of their own. None where there are none: a box that was given an
+    // empty footnote has some.
+    fn take_notes(&mut self) -> Result<Option<ListId>, AllocError>
+        requires sound { IsSound self.old.builder self.old.store }
+        requires empty { NoPage (held_in self.old) }
+        requires known { has_class (held_in self.old).classes 254 ≡ true }
+        ensures { IfOk result (λ o. (notes : Option (List Leaf)) → (held_in self.old).boxes ≡ foot_box notes → NotesTaken notes self.old self.new o) }
+    {
+        if self.builder.is_void(254) {
+            return Ok(None);
+        }
+        let notes = self.store.add_list()?;
+        self.builder.take_box(&mut self.store, 254, notes);
+        Ok(Some(notes))
+    }
+
+    // Puts the nodes of a list back before what waits, and closes the list.
+    fn put_back(&mut self, list: ListId)
+        requires whole { IsWhole self.old.machine.params self.old }
+        requires empty { NoPage (held_in self.old) }
+        requires list { IsBackList self.old list }
+        ensures whole { IsWhole self.new.machine.params self.new }
+        ensures contents { held_in self.new ≡ record (held_in self.old) {
+          waiting = (held_in self.old).held ++ (plain_list self.old.store list ++ (held_in self.old).waiting);
+          held = [];
+        } }
+        ensures machine { self.new.machine ≡ self.old.machine }
+        ensures events { events_shown self.new.store self.new.machine.events ≡ events_shown self.old.store self.old.machine.events }
+    {
+        self.builder.put_back(&mut self.store, list);
+        self.store.close(list);
+    }
+
+    // The ending where more nodes are held than there may be.
+    pub fn node_limit(&self, p: &Params) -> Option<Ending>
+        requires whole { IsWhole self.now.machine.params self.now }
+        requires few { node_count (held_in self.now).waiting + box_count (held_in self.now).boxes ≤ 8388608 }
+        ensures { result ≡ over_limit p.now (held_count (state_of self.now)) }
+    {
+        let count = self.builder.nodes(&self.store) + self.machine.held_nodes(&self.store);
+        if exceeds(count, p.maxnodes) {
+            return Some(Ending::NodeLimit { count });
+        }
+        None
+    }
+
+    /// Makes the next page of what waits, and fires it: it is shipped with its footnotes, or its penalty asks for
+    /// something else (TeX: The Program §994, §1012; ltoutput.dtx, \output). Answers how the run ends, if it does.
+    ///
+    /// What it sends and answers is the step of the run. What is sent can be taken from the machine.
+    pub fn turn(&mut self, p: &Params) -> Result<Option<Ending>, AllocError>
+        requires ready { IsReady p.now self.old }
+        requires params { AreRunnable p.now }
+
+        ensures step { IfOk result (λ o. turn_shown self.new o ≡ step_shown (step p.now (state_of self.old))) }
+        ensures settled { IfOk result (λ o. IfNone o (IsSettled p.now self.new)) }
+        ensures ended { OnOk result (IsEnded self.new) }
+    {
+        let ask = self.machine.ask();
+        let Some(page) = self.fill(p, &ask)? else {
+            return Ok(Some(Ending::Done));
+        };
+        let notes = self.take_notes()?;
+        match self.machine.fire_page(&mut self.store, page, notes) {
+            Ok(turn) => {
+                self.put_back(turn.put_back);
+                Ok(self.node_limit(p))
+            }
+            Err(RunFault::DeadCycles { count }) => Ok(Some(Ending::DeadCycles { count })),
+            Err(RunFault::PageLimit { pages }) => Ok(Some(Ending::PageLimit { pages })),
+            Err(RunFault::Memory) => Err(AllocError),
+        }
+    }
+}
