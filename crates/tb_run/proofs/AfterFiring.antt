@@ -143,9 +143,9 @@ served-page p c ask h classes boxes sized few tame =
       held_sized = parts.held;
       boxes_sized = parts.boxes;
       few =
-        let most = fired_fewer c ask (subst ClassesFit (sym classes) (foot-fits p h)) (subst (λ cs. AreBoxesOf cs c.boxes) (sym classes) (subst (AreBoxesOf (foot_class p ∷ [])) (sym boxes) (refl, tt))) in
-        let void = ap box_count boxes in
-        omega (arith, most, few, void);
+          let most = fired_fewer c ask (subst ClassesFit (sym classes) (foot-fits p h)) (subst (λ cs. AreBoxesOf cs c.boxes) (sym classes) (subst (AreBoxesOf (foot_class p ∷ [])) (sym boxes) (refl, tt))) in
+          let void = ap box_count boxes in
+          omega (arith, most, few, void);
     }
 
 -- ---- the work of the firing
@@ -171,13 +171,19 @@ zero-extent = record { low = omega (arith, ints); high = omega (arith, ints) }
 clear-back : (f : Fired) → IsBack f clear_again
 clear-back f = record {
   sized =
-    All-from_recursion IsSizedOnPage clear_again (
-      record { shape = (zero-dimension, record { low = omega (arith, ints); high = omega (arith, ints) }, zero-dimension); kind = tt },
-      (record { shape = record { low = omega (arith, ints); high = omega (arith, ints) }; kind = tt },
-      (record { shape = tt; kind = tt },
-      (record { shape = (zero-extent, zero-extent); kind = tt },
-      (record { shape = record { low = omega (arith, ints); high = omega (arith, ints) }; kind = tt }, tt)))),
-    );
+      All-from_recursion IsSizedOnPage clear_again (
+        record { shape = (zero-dimension, record { low = omega (arith, ints); high = omega (arith, ints) }, zero-dimension); kind = tt },
+        (
+          record { shape = record { low = omega (arith, ints); high = omega (arith, ints) }; kind = tt },
+          (
+            record { shape = tt; kind = tt },
+            (
+              record { shape = (zero-extent, zero-extent); kind = tt },
+              (record { shape = record { low = omega (arith, ints); high = omega (arith, ints) }; kind = tt }, tt),
+            ),
+          ),
+        ),
+      );
   tame = (tt, (omega (arith, ints), (tt, (tt, (omega (arith, ints), tt)))));
   few = omega arith;
 }
@@ -212,9 +218,9 @@ module _ (p : Params) (waiting : List PlainNode) (page dead : ℕ) (f : Fired) (
     sized = All-append IsSizedOnPage (f.held ++ back) f.rest (All-append IsSizedOnPage f.held back h.held_sized b.sized) h.rest_sized;
     tame = every-append tame_node (f.held ++ back) f.rest (every-append tame_node f.held back h.held b.tame) h.rest;
     few =
-      let a = count-append (f.held ++ back) f.rest in let c = count-append f.held back in
-      let few = h.few in let bf = b.few in
-      omega (arith, a, c, few, bf);
+        let a = count-append (f.held ++ back) f.rest in let c = count-append f.held back in
+        let few = h.few in let bf = b.few in
+        omega (arith, a, c, few, bf);
   }
 
   by-test : (t : Bool) → t ≡ false → t ≡ true → ⊥

@@ -7,3 +7,6 @@ pub mod BackLemmas
 pub mod ServeLemmas
 pub mod TurnedLemmas
 pub mod WaitsLemmas
+pub mod FootLemmas
+pub mod ItemLemmas
+pub mod BeginLemmas

@@ -71,15 +71,15 @@ module _ (r q : Routine) (e : Lists Node) (l : ℕ) (notes : Option (List Leaf))
   notes-taken = record {
     sound = after;
     contents =
-      contents
-      ∙ ap (λ (c : Contents). record c { boxes = with_void 254 c.boxes }) (opened-contents r.builder r.store e l sound fresh opened)
-      ∙ ap (λ bs. record (held_in r) { boxes = with_void 254 bs }) boxes;
+        contents
+        ∙ ap (λ (c : Contents). record c { boxes = with_void 254 c.boxes }) (opened-contents r.builder r.store e l sound fresh opened)
+        ∙ ap (λ bs. record (held_in r) { boxes = with_void 254 bs }) boxes;
     machine = machine;
     shown = some-notes notes (map leaf_of (list_at q.store l)) (filled ∙ ap (λ bs. is_none (box_content bs 254)) boxes) (ap (map leaf_of) nodes-are ∙ taken.leaves ∙ ap content_of content-is);
     list = record { fresh = fresh; live = taken.live; plain_nodes = subst AllPlain (sym nodes-are) taken.plain_nodes; apart = keeps l (opened-apart r.builder r.store e l sound fresh opened) };
     others = λ x live apart.
-      others x (not-opened r.store x l fresh live) (subst (Lacks x) (sym (opened-owned r.builder r.store e l sound fresh opened)) apart)
-      ∙ others-opened r.builder r.store e l sound fresh opened x live;
+        others x (not-opened r.store x l fresh live) (subst (Lacks x) (sym (opened-owned r.builder r.store e l sound fresh opened)) apart)
+        ∙ others-opened r.builder r.store e l sound fresh opened x live;
     apart = λ x live apart. keeps x (subst (Lacks x) (sym (opened-owned r.builder r.store e l sound fresh opened)) apart);
   }
 

@@ -59,15 +59,15 @@ module _ (p : Params) (s : State) where
       stopped = g.stopped;
       whole = g.whole ∙ h.whole;
       so_far =
-        h.so_far
-        ∙ ap (λ (w : Reach). after_events es rs (progress p w.reached (least_cost bs) t)) g.reach
-        ∙ event-more es rs (offered (try_of line b (least_cost bs))) (progress p (reach_ahead d (ask_of p s)).reached (min_ℤ (least_cost bs) b.cost) t)
-        ∙ ap (λ z. after_events (es ++ offered (try_of line b (least_cost bs)) ∷ []) rs (progress p (reach_ahead d (ask_of p s)).reached z t)) (sym (least-append bs b) ∙ ap least_cost (sym g.places));
+          h.so_far
+          ∙ ap (λ (w : Reach). after_events es rs (progress p w.reached (least_cost bs) t)) g.reach
+          ∙ event-more es rs (offered (try_of line b (least_cost bs))) (progress p (reach_ahead d (ask_of p s)).reached (min_ℤ (least_cost bs) b.cost) t)
+          ∙ ap (λ z. after_events (es ++ offered (try_of line b (least_cost bs)) ∷ []) rs (progress p (reach_ahead d (ask_of p s)).reached z t)) (sym (least-append bs b) ∙ ap least_cost (sym g.places));
       places =
-        h.places
-        ∙ ap (λ (w : Reach). bs ++ breakpoints w.reached) g.reach
-        ∙ sym (append_assoc bs (b ∷ []) (breakpoints (reach_ahead d (ask_of p s)).reached))
-        ∙ ap (λ xs. xs ++ breakpoints (reach_ahead d (ask_of p s)).reached) (sym g.places);
+          h.places
+          ∙ ap (λ (w : Reach). bs ++ breakpoints w.reached) g.reach
+          ∙ sym (append_assoc bs (b ∷ []) (breakpoints (reach_ahead d (ask_of p s)).reached))
+          ∙ ap (λ xs. xs ++ breakpoints (reach_ahead d (ask_of p s)).reached) (sym g.places);
       passed = h.passed ∙ ap (λ (w : Reach). w.passed) g.reach;
       beyond = h.beyond ∙ ap (λ (w : Reach). w.beyond) g.reach;
       fires = h.fires ∙ ap (λ (w : Reach). w.fires) g.reach;
@@ -81,9 +81,9 @@ module _ (p : Params) (s : State) where
       whole = g.still ∙ h.whole;
       both = g.whole ∙ h.whole;
       so_far =
-        h.so_far
-        ∙ ap (λ (w : Reach). after_events es rs (progress p w.reached (least_cost bs) t)) g.reach
-        ∙ (λ i. record { state = t; events = es ++ offered (try_of line b (least_cost bs)) ∷ []; records = append-nil rs i; fault = None });
+          h.so_far
+          ∙ ap (λ (w : Reach). after_events es rs (progress p w.reached (least_cost bs) t)) g.reach
+          ∙ (λ i. record { state = t; events = es ++ offered (try_of line b (least_cost bs)) ∷ []; records = append-nil rs i; fault = None });
       places = h.places ∙ ap (λ (w : Reach). bs ++ breakpoints w.reached) g.reach ∙ sym g.reached;
       passed = h.passed ∙ ap (λ (w : Reach). w.passed) g.reach ∙ sym g.passed;
       beyond = h.beyond ∙ ap (λ (w : Reach). w.beyond) g.reach ∙ sym g.beyond;

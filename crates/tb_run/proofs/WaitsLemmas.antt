@@ -30,9 +30,9 @@ pub waits-then : (ns ms : List PlainNode) (b : Builder) (s : Lists Node) (d : Bu
 waits-then ns ms b s d t e u w x = record {
   sound = x.sound;
   contents =
-    x.contents
-    ∙ ap (λ (c : Contents). record c { waiting = c.waiting ++ ms }) w.contents
-    ∙ ap (λ xs. record (contents_of b s) { waiting = xs }) (append_assoc (contents_of b s).waiting ns ms);
+      x.contents
+      ∙ ap (λ (c : Contents). record c { waiting = c.waiting ++ ms }) w.contents
+      ∙ ap (λ xs. record (contents_of b s) { waiting = xs }) (append_assoc (contents_of b s).waiting ns ms);
   others = λ q live apart. x.others q (subst IsSome (sym (w.others q live apart)) live) (w.apart q live apart) ∙ w.others q live apart;
   apart = λ q live apart. x.apart q (subst IsSome (sym (w.others q live apart)) live) (w.apart q live apart);
 }

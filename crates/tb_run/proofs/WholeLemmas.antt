@@ -215,7 +215,7 @@ module _ (p : Params) (r q d : Routine) (ask : Ask) (runs : AreRunnable p) (read
           whole = filled-whole p r q d ready h k sound m;
           machine = same;
           body = subst (λ (w : MachineView). IsNotAmong page.body (machine_lists w)) (sym same)
-            (fresh-apart q.store page.body (machine_lists r.machine) (live-still r.store q.store (machine_lists r.machine) h.same (lists-live r.machine r.store ready.settled.whole.machine)) fresh.0);
+              (fresh-apart q.store page.body (machine_lists r.machine) (live-still r.store q.store (machine_lists r.machine) h.same (lists-live r.machine r.store ready.settled.whole.machine)) fresh.0);
           body_apart = fresh.2;
           body_inner = fresh.1;
         }

@@ -36,4 +36,3 @@ abbrev pub plain_state : Params → List PlainNode → ℕ → ℕ → State
 plain_state p waiting page dead = record (first_state p waiting) { page = page; dead_cycles = dead }
 
 -- ---- a step
-

@@ -6,26 +6,30 @@ ghost use Rattle.tb_builder.specs.Contents.{plain_list, node_count, box_count};
 ghost use Rattle.tb_builder.specs.Owned.{has_class};
 ghost use Rattle.tb_builder.specs.Running.{IsSound};
 ghost use Rattle.tb_builder.specs.Handed.{NoPage};
-ghost use Rattle.tb_output.specs.State.{ask_of};
+ghost use Rattle.tb_galley.specs.Expand.{expanded};
+ghost use Rattle.tb_output.specs.State.{foot_class, first_state, ask_of};
 ghost use Rattle.tb_output.specs.Machine.{events_shown};
 ghost use Rattle.tb_output.specs.Firing.{foot_box};
-ghost use Rattle.tb_run.specs.Servable.{AreRunnable};
+ghost use Rattle.tb_run.specs.Servable.{AreRunnable, AreServable};
+ghost use Rattle.tb_run.specs.Expanding.{AreItems};
 ghost use Rattle.tb_run.specs.Run.{held_count, step};
 ghost use Rattle.tb_run.specs.PlainRun.{step_shown};
 ghost use Rattle.tb_run.specs.Turning.{held_in, state_of, IsWhole, IsReady, FillIs, NotesTaken, IsBackList, IsSettled, IsEnded, turn_shown, over_limit};
 
+use crate::expanding::expand;
 use crate::limits::exceeds;
 use std::alloc::{AllocError, Global};
 use tb_builder::{Ask, Builder, Event, Page, new_builder};
-use tb_column::Sent;
+use tb_galley::Galley;
+use tb_insert::Class;
 use tb_node::{Act, Node};
-use tb_output::{Machine, RunFault, Turn, new_machine};
+use tb_output::{Machine, RunFault, new_machine};
 use tb_param::Params;
 use tb_pool::{ListId, Lists};
 
 /// Between two firings: one store, the page builder with the nodes that wait, and the output routine's machine.
 #[derive(Drop)]
-pub(crate) struct Routine {
+pub struct Routine {
     pub store: Lists<Node>,
     pub builder: Builder,
     pub machine: Machine,
@@ -33,7 +37,7 @@ pub(crate) struct Routine {
 
 /// How a run ends.
 #[derive(Clone, Copy)]
-pub(crate) enum Ending {
+pub enum Ending {
     /// Nothing fires any more; what is on the page is left.
     Done,
     DeadCycles { count: u64 },
@@ -44,10 +48,41 @@ pub(crate) enum Ending {
 // No act waits.
 fn no_act(_act: Act)
     requires { ⊥ }
+{}
+
+// The footnotes' class: each counts whole against the page, up to `footlimit`.
+fn foot_class(p: &Params) -> Class
+    ensures { result ≡ foot_class p.now }
 {
+    Class {
+        number: 254,
+        factor: 1000,
+        limit: p.footlimit,
+        skip: p.skipfootins,
+    }
 }
 
 impl Routine {
+    /// All nodes of a galley wait for its first page.
+    pub fn new(alloc: Global, galley: &Galley) -> Result<Self, AllocError>
+        requires params { AreRunnable galley.now.params }
+        requires items { AreItems galley.now.items }
+        requires nodes { AreServable (expanded galley.now) }
+        ensures state { IfOk result (λ r. state_of r ≡ first_state galley.now.params (expanded galley.now)) }
+        ensures ready { IfOk result (λ r. IsReady galley.now.params r) }
+    {
+        let mut store = Lists::new(alloc);
+        let machine = new_machine(alloc, &mut store, &galley.params)?;
+        let classes = [foot_class(&galley.params)];
+        let mut builder = new_builder(alloc, &mut store, &classes)?;
+        expand(&mut store, &mut builder, galley)?;
+        Ok(Routine {
+            store,
+            builder,
+            machine,
+        })
+    }
+
     // Fills the next page of what waits. None where it does not fire: then nothing waits any more.
     fn fill(&mut self, p: &Params, ask: &Ask) -> Result<Option<Page>, AllocError>
         requires ready { IsReady p.now self.old }
