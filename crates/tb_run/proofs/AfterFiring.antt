@@ -1,11 +1,10 @@
 -- A firing in a state that the program serves.
-use Rattle.std.proofs.Common.{◌≡◌, refl, sym, subst, ◌∙◌, ap, ℕ, zero, suc, ◌+◌, ◌≤◌, ℤ, pos, Bool, true, false, List, [], ◌∷◌, ◌++◌, length, take, drop, map, Option, None, Some, append_assoc, arith}
-use Rattle.std.specs.Prelude.{if◌then◌else◌, int_lt, int_le, ◌≤ℤ◌, neg_ℤ, All}
-use Rattle.std.specs.List.{AllByRecursion}
+use Rattle.std.proofs.Common.{◌≡◌, refl, sym, subst, ◌∙◌, ap, ℕ, ◌+◌, ◌≤◌, ℤ, pos, Bool, true, false, List, [], ◌∷◌, ◌++◌, take, drop, map, Option, None, Some, arith}
+use Rattle.std.specs.Prelude.{if◌then◌else◌, int_lt, int_le, All}
 use Rattle.std.proofs.lemmas.Int.{ints}
 use Rattle.std.proofs.lemmas.Bool.{true≢false}
 use Rattle.std.proofs.lemmas.List.Elements.{All-nil, All-cons, All-head, All-tail, All-append, All-take, All-from_recursion}
-use Rattle.tb_scaled.specs.Scaled.{eject_penalty, max_dimen}
+use Rattle.tb_scaled.specs.Scaled.{eject_penalty}
 use Rattle.tb_node.specs.Fit.{IsDimension, IsExtent, IsSizedLeaf}
 use Rattle.tb_node.specs.Small.{IsAmount}
 use Rattle.tb_node.specs.Plain.{Leaf, PlainNode, node_shape}
@@ -13,8 +12,8 @@ use Rattle.tb_param.specs.declared.Params.{Params}
 use Rattle.tb_break.specs.Prune.{pruned_nodes}
 use Rattle.tb_break.specs.Split.{split_of}
 use Rattle.tb_insert.specs.Account.{Labelled, labelled, terms_after}
-use Rattle.tb_builder.specs.Reached.{Reach, reach_from}
-use Rattle.tb_builder.specs.Fired.{Boxed, Fired, page_break, from_break, box_after, is_given, held_insertions, fired_of}
+use Rattle.tb_builder.specs.Reached.{Reach}
+use Rattle.tb_builder.specs.Fired.{Boxed, Fired, page_break, from_break, box_after, is_given, fired_of}
 use Rattle.tb_builder.specs.Contents.{Contents, node_count, box_count}
 use Rattle.tb_builder.specs.Next.{NextFits, fired_page}
 use Rattle.tb_builder.specs.Pageable.{IsSizedOnPage, IsSizedClass, IsSizedBox, IsGoal}
@@ -32,7 +31,7 @@ use Rattle.tb_output.specs.Out.{clear_penalty, waiting_again, out}
 use Rattle.tb_output.specs.Firing.{foot_box, page_work}
 use Rattle.tb_output.specs.Firing as output
 use Rattle.tb_output.specs.Shipping.{output_work}
-use Rattle.tb_output.proofs.FloatlessWork.{bare_state, IsDone, IsStopped, page-shipped, page-stopped, front-back, clear-shipped, clear-stopped, out-work}
+use Rattle.tb_output.proofs.FloatlessWork.{bare_state, IsDone, page-shipped, page-stopped, front-back, clear-shipped, clear-stopped, out-work}
 use Rattle.tb_run.specs.PlainRun.{plain_state}
 use Rattle.tb_run.specs.PageMade.{between_pages, page_reach, page_frozen}
 use Rattle.tb_run.specs.Servable.{IsTame, AreTame, AreRunnable, AreServable, IsTamePage, IsServedPage, IsServedWork}

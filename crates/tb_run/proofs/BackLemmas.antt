@@ -1,5 +1,5 @@
 -- What goes back before what waits.
-use Rattle.std.proofs.Common.{◌≡◌, ◌≢◌, refl, sym, subst, ◌∙◌, ap, ℕ, Bool, true, false, List, [], ◌∷◌, ◌++◌, Option, None, Some, append-nil}
+use Rattle.std.proofs.Common.{◌≡◌, ◌≢◌, refl, sym, subst, ◌∙◌, ap, ℕ, true, List, [], ◌∷◌, ◌++◌, None, append-nil}
 use Rattle.std.specs.Prelude.{option_to_list}
 use Rattle.std.specs.List.{AllByRecursion}
 use Rattle.std.specs.FinMap.{get, remove}
@@ -10,10 +10,10 @@ use Rattle.tb_node.specs.declared.Kind.TheVariants as kinds
 use Rattle.tb_node.specs.declared.Node.{Node}
 use Rattle.tb_insert.specs.declared.Class.{Class}
 use Rattle.tb_builder.specs.declared.Builder.{Builder}
-use Rattle.tb_builder.specs.Contents.{Contents, contents_of}
+use Rattle.tb_builder.specs.Contents.{contents_of}
 use Rattle.tb_builder.specs.Owned.{Lacks, AllDiffer, AllLive, inner_ids, inner_of, Ids, ids_of, owned, HoldPlain, is_known, AllKnown, classes_of, IsOwned}
 use Rattle.tb_builder.specs.Running.{IsSound}
-use Rattle.tb_builder.specs.Handed.{NodesJoin, ListJoins}
+use Rattle.tb_builder.specs.Handed.{ListJoins}
 use Rattle.tb_builder.proofs.FrameLemmas.{frame_owned, frame_contents, frame_sound}
 use Rattle.tb_builder.proofs.OwnedLemmas.{AllSame}
 use Rattle.tb_column.specs.TextList.{is_leaf_kind, AreLeaves}

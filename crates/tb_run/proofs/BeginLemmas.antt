@@ -1,5 +1,5 @@
 -- The routine before the first page.
-use Rattle.std.proofs.Common.{◌≡◌, refl, sym, subst, ◌∙◌, ap, ℕ, List, [], ◌∷◌, ◌++◌, None, IsSome}
+use Rattle.std.proofs.Common.{◌≡◌, sym, subst, ◌∙◌, ap, ℕ, List, [], ◌∷◌, ◌++◌, None, IsSome}
 use Rattle.std.specs.FinMap.{get}
 use Rattle.tb_pool.specs.Lists.{Lists, IsLive}
 use Rattle.tb_node.specs.declared.Node.{Node}
@@ -7,7 +7,6 @@ use Rattle.tb_node.specs.Plain.{PlainNode}
 use Rattle.tb_param.specs.declared.Params.{Params}
 use Rattle.tb_insert.specs.declared.Class.{Class}
 use Rattle.tb_builder.specs.declared.Builder.{Builder}
-use Rattle.tb_builder.specs.Fired.{Boxed}
 use Rattle.tb_builder.specs.Contents.{Contents, contents_of, nothing_yet}
 use Rattle.tb_builder.specs.Owned.{Lacks, ids_of, owned}
 use Rattle.tb_output.specs.State.{State, foot_class, first_state}

@@ -1,25 +1,12 @@
 -- The nodes of a galley's items: handed over one by one, and what is known of them.
-use Rattle.std.proofs.Common.{◌≡◌, refl, sym, subst, ◌∙◌, ap, ℕ, zero, suc, ◌+◌, ◌*◌, ◌<◌, ◌≤◌, ℤ, pos, neg_ℤ, ◌≤ℤ◌, Bool, true, false, List, [], ◌∷◌, ◌++◌, length, take, map, get_or, append_assoc, append-nil, length-append, arith}
-use Rattle.std.specs.Prelude.{All, IsTrue, ◌&&◌, nat_le, negsuc}
-use Rattle.std.specs.List.{list_all}
-use Rattle.std.proofs.lemmas.Int.{ints}
-use Rattle.std.proofs.lemmas.Bool.Decides.{nat_tests}
-use Rattle.std.proofs.lemmas.List.{map-append, take_more, length-map}
-use Rattle.std.proofs.lemmas.List.Elements.{All-nil, All-cons, All-append, All-from_recursion}
-use Rattle.tb_scaled.specs.declared.Glue.{Glue}
-use Rattle.tb_scaled.specs.Glue.{filling_glue}
+use Rattle.std.proofs.Common.{◌≡◌, refl, sym, subst, ◌∙◌, ap, ℕ, ◌+◌, ◌<◌, List, [], ◌∷◌, ◌++◌, length, take, get_or, append_assoc, append-nil}
+use Rattle.std.proofs.lemmas.List.{take_more}
 use Rattle.tb_pool.specs.Lists.{Lists}
 use Rattle.tb_node.specs.declared.Node.{Node}
-use Rattle.tb_node.specs.Fit.{IsDimension, IsExtent, IsPenalty, IsSizedNode, IsSizedLeaf}
-use Rattle.tb_node.specs.Plain.{PlainNode, on_line, clearpage_kinds}
+use Rattle.tb_node.specs.Plain.{on_line, clearpage_kinds}
 use Rattle.tb_param.specs.declared.Params.{Params}
-use Rattle.tb_param.specs.Table.{is_within, is_dimen, is_glue}
 use Rattle.tb_builder.specs.declared.Builder.{Builder}
-use Rattle.tb_builder.specs.Contents.{node_count}
-use Rattle.tb_builder.specs.Pageable.{IsSizedOnPage}
-use Rattle.tb_galley.specs.declared.Leaf.{Leaf}
 use Rattle.tb_galley.specs.declared.Item.{Item}
-use Rattle.tb_galley.specs.declared.ItemKind.{ItemKind}
 use Rattle.tb_galley.specs.declared.Galley.{Galley}
 use Rattle.tb_galley.specs.Expand.{item_kinds, item_nodes, expanded}
 use Rattle.tb_run.specs.Expanding.{Waits}

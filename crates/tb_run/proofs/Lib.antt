@@ -10,3 +10,4 @@ pub mod WaitsLemmas
 pub mod FootLemmas
 pub mod ItemLemmas
 pub mod BeginLemmas
+pub mod ServedItems

@@ -1,25 +1,25 @@
 -- What a page builder answers while a page is filled, as a step of the run.
-use Rattle.std.proofs.Common.{◌≡◌, refl, sym, subst, ◌∙◌, ap, ℕ, zero, suc, ◌+◌, ◌<◌, ℤ, pos, Bool, true, false, List, [], ◌∷◌, ◌++◌, length, take, drop, Option, None, Some, append_assoc, append-nil, arith}
+use Rattle.std.proofs.Common.{◌≡◌, refl, sym, subst, ◌∙◌, ap, ℕ, suc, ◌+◌, ◌<◌, pos, Bool, true, false, List, [], ◌∷◌, ◌++◌, length, take, drop, None, append_assoc, append-nil, arith}
 use Rattle.std.specs.Prelude.{if◌then◌else◌, int_lt, pred, map}
 use Rattle.std.proofs.lemmas.Bool.{true≢false}
-use Rattle.tb_scaled.specs.Scaled.{awful_bad, min_ℤ}
+use Rattle.tb_scaled.specs.Scaled.{min_ℤ}
 use Rattle.tb_node.specs.declared.Act.{Act}
-use Rattle.tb_node.specs.Plain.{PlainKind, act, PlainNode, without_insertions}
+use Rattle.tb_node.specs.Plain.{act, PlainNode, without_insertions}
 use Rattle.tb_param.specs.declared.Params.{Params}
 use Rattle.tb_break.specs.Best.{Breakpoint, is_stop, least_cost, best_or}
 use Rattle.tb_break.proofs.BestLemmas.{least-append}
 use Rattle.tb_insert.specs.Account.{Frozen, labelled}
 use Rattle.tb_builder.specs.declared.Ask.{Ask}
 use Rattle.tb_builder.specs.declared.Try.{Try}
-use Rattle.tb_builder.specs.Reached.{Reached, acted, tried, Reach, also_reached, try_of, breakpoints}
+use Rattle.tb_builder.specs.Reached.{Reach, try_of, breakpoints}
 use Rattle.tb_builder.specs.Fired.{Boxed, Fired, no_place, page_break, penalty_at, line_at, with_spent_break, box_after, held_insertions, fired_by, fired_of}
 use Rattle.tb_builder.specs.Places.{NoActs}
-use Rattle.tb_builder.specs.Contents.{Contents, frozen_of, laid, reach_ahead, reach_whole, places_of}
-use Rattle.tb_builder.specs.Next.{BoxesFit, LaidFits, NextFits, Stays, Goes, Stops, stopped_with, TriedIs, ActedIs, EmptyIs, nothing_reached, fired_page}
+use Rattle.tb_builder.specs.Contents.{Contents, laid, reach_ahead, reach_whole, places_of}
+use Rattle.tb_builder.specs.Next.{BoxesFit, LaidFits, NextFits, Stays, Goes, Stops, TriedIs, ActedIs, EmptyIs, fired_page}
 use Rattle.tb_column.specs.Column.{PlainSent}
-use Rattle.tb_output.specs.State.{State, foot_class, ask_of, Recorded, emptied, Work}
+use Rattle.tb_output.specs.State.{State, foot_class, ask_of, Recorded, Work}
 use Rattle.tb_output.specs.Out.{out}
-use Rattle.tb_run.specs.Run.{RunEvent, offered, sent, End, done, dead_cycles, page_limit, node_limit, Progress, progress, after_events, held_count, Step, ends, goes_on, after_firing, fire, after_progress, step}
+use Rattle.tb_run.specs.Run.{RunEvent, offered, sent, done, dead_cycles, page_limit, node_limit, Progress, progress, after_events, held_count, Step, ends, goes_on, after_firing, fire, after_progress, step}
 use Rattle.tb_run.specs.PlainRun.{sent_among, Shown, last, next, step_shown}
 use Rattle.tb_run.specs.PageMade.{between_pages, page_reach, page_frozen, IsSamePage, IsUnderway, IsStopped, IsFilled, work_shown, firing_shown, tries_left}
 

@@ -1,12 +1,9 @@
 -- What a firing leaves in a state that the program serves.
-use Rattle.std.proofs.Common.{◌≡◌, refl, sym, subst, ◌∙◌, ap, ℕ, zero, suc, ◌+◌, ◌≤◌, ℤ, pos, Bool, true, false, List, [], ◌∷◌, ◌++◌, length, take, drop, Option, None, Some, arith}
-use Rattle.std.specs.Prelude.{if◌then◌else◌, int_lt, int_le, ◌≤ℤ◌, map, filter, not}
+use Rattle.std.proofs.Common.{◌≡◌, refl, ap, ℕ, zero, suc, ℤ, Bool, true, false, List, [], ◌∷◌, ◌++◌, take, drop, Option, None, Some, arith}
+use Rattle.std.specs.Prelude.{if◌then◌else◌, ◌≤ℤ◌, map}
 use Rattle.std.specs.List.{AllByRecursion}
 use Rattle.std.proofs.lemmas.Int.{ints}
-use Rattle.std.proofs.lemmas.Bool.{true≢false}
-use Rattle.tb_scaled.specs.Scaled.{eject_penalty, inf_penalty}
 use Rattle.tb_node.specs.Plain.{Leaf, hbox, rule, skip, kerned, pen, mark, note, whatsit, PlainKind, plain, ins, act, PlainNode, node_shape, without_acts, without_insertions, is_act_kind, on_line}
-use Rattle.tb_param.specs.declared.Params.{Params}
 use Rattle.tb_break.specs.Legal.{legal_penalty}
 use Rattle.tb_break.specs.Best.{Breakpoint, is_stop}
 use Rattle.tb_break.specs.Prune.{pruned_nodes}

@@ -1,23 +1,22 @@
 -- The machine serves the page that fired.
-use Rattle.std.proofs.Common.{◌≡◌, ◌≢◌, refl, sym, subst, ◌∙◌, ap, ℕ, ◌+◌, ◌≤◌, ℤ, pos, Bool, true, false, List, [], ◌∷◌, ◌++◌, length, map, Option, None, Some, IsSome, unwrap_or, arith}
+use Rattle.std.proofs.Common.{◌≡◌, sym, subst, ◌∙◌, ap, ℕ, ◌+◌, ◌≤◌, true, false, List, [], ◌∷◌, ◌++◌, length, map, Option, None, Some, IsSome, unwrap_or, arith}
 use Rattle.std.specs.Prelude.{All, option_to_list, IfNone, ◌≤ℤ◌}
 use Rattle.std.specs.List.{AllByRecursion}
 use Rattle.std.specs.FinMap.{get}
 use Rattle.std.proofs.lemmas.List.{length-map}
 use Rattle.std.proofs.lemmas.List.Elements.{All-nil, All-head}
-use Rattle.tb_pool.specs.Lists.{Lists, IsLive, list_at}
+use Rattle.tb_pool.specs.Lists.{IsLive, list_at}
 use Rattle.tb_node.specs.declared.Kind.{Kind}
 use Rattle.tb_node.specs.declared.Kind.TheVariants as kinds
 use Rattle.tb_node.specs.declared.Node.{Node}
 use Rattle.tb_node.specs.Fit.{IsSizedNode, IsSizedLeaf}
-use Rattle.tb_node.specs.Plain.{Leaf, leaf_of, PlainNode, plain_kind, plain_of}
+use Rattle.tb_node.specs.Plain.{Leaf, leaf_of, plain_kind, plain_of}
 use Rattle.tb_param.specs.declared.Params.{Params}
 use Rattle.tb_builder.specs.declared.Page.{Page}
 use Rattle.tb_builder.specs.Pageable.{IsSizedOnPage, IsSizedBox}
-use Rattle.tb_builder.specs.Fired.{Boxed, content_of, Fired}
-use Rattle.tb_builder.specs.Contents.{Contents, contents_of, plain_list, node_count, box_count}
+use Rattle.tb_builder.specs.Fired.{content_of, Fired}
+use Rattle.tb_builder.specs.Contents.{Contents, node_count, box_count}
 use Rattle.tb_builder.specs.Owned.{Lacks, inner_of, inner_ids, ids_of, owned, is_plain, AllPlain}
-use Rattle.tb_builder.specs.Running.{IsSound}
 use Rattle.tb_builder.proofs.StoreSized.{leaves-back, list-back, list-length}
 use Rattle.tb_column.specs.TextList.{is_leaf_kind, AreLeaves, CanJoin, notes_shown}
 use Rattle.tb_column.specs.Shown.{nodes_shown}
@@ -30,8 +29,8 @@ use Rattle.tb_output.specs.Firing.{foot_box, note_nodes, AreNotesApart, AreTextL
 use Rattle.tb_output.proofs.StandLemmas.{Stands, leaves-shown, machine-stands}
 use Rattle.tb_output.proofs.MachineLemmas.{floatless-stands, lists-live, fresh-apart}
 use Rattle.tb_run.specs.declared.routine.Routine.{Routine}
-use Rattle.tb_run.specs.Servable.{IsTame, AreTame, IsServedPage}
-use Rattle.tb_run.specs.Turning.{held_in, AreNotBuilders, IsWhole, IsFiring, AreNotesIn, AreNotesOf, NotesTaken}
+use Rattle.tb_run.specs.Servable.{IsTame, AreTame}
+use Rattle.tb_run.specs.Turning.{held_in, AreNotBuilders, IsWhole, IsFiring, AreNotesOf, NotesTaken}
 use Rattle.tb_run.proofs.NotesLemmas.{not-opened}
 
 -- ---- nodes of a page

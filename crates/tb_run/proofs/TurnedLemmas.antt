@@ -1,29 +1,25 @@
 -- A turn of the routine is a step of the run.
-use Rattle.std.proofs.Common.{◌≡◌, ◌≢◌, refl, sym, subst, ◌∙◌, ap, ℕ, zero, suc, ◌+◌, ◌-◌, ◌≤◌, ℤ, pos, Bool, true, false, List, [], ◌∷◌, ◌++◌, length, map, Option, None, Some, IsSome, append_assoc, arith}
+use Rattle.std.proofs.Common.{◌≡◌, ◌≢◌, refl, sym, subst, ◌∙◌, ap, ℕ, zero, suc, ◌+◌, ◌-◌, ◌≤◌, ℤ, pos, Bool, true, false, List, [], ◌∷◌, ◌++◌, Option, None, Some, append_assoc, arith}
 use Rattle.std.specs.Prelude.{All, if◌then◌else◌, int_lt, pred, IfNone, ◌≤ℤ◌, ◌<ℤ◌}
 use Rattle.std.specs.List.{AllByRecursion}
-use Rattle.std.specs.FinMap.{get}
 use Rattle.std.proofs.lemmas.Int.{ints}
 use Rattle.std.proofs.lemmas.Bool.{true≢false}
-use Rattle.tb_pool.specs.Lists.{Lists, IsLive, list_at}
+use Rattle.tb_pool.specs.Lists.{Lists}
 use Rattle.tb_node.specs.declared.Node.{Node}
-use Rattle.tb_node.specs.Plain.{Leaf, PlainNode}
+use Rattle.tb_node.specs.Plain.{PlainNode}
 use Rattle.tb_param.specs.declared.Params.{Params}
 use Rattle.tb_builder.specs.declared.Page.{Page}
 use Rattle.tb_builder.specs.Pageable.{IsSizedOnPage}
-use Rattle.tb_builder.specs.Fired.{Boxed, Fired}
-use Rattle.tb_builder.specs.Contents.{Contents, contents_of, plain_list, node_count, box_count}
+use Rattle.tb_builder.specs.Fired.{Fired}
+use Rattle.tb_builder.specs.Contents.{Contents, plain_list, node_count, box_count}
 use Rattle.tb_builder.specs.Owned.{Lacks, AllLive, ids_of, owned}
-use Rattle.tb_builder.specs.Running.{IsSound}
 use Rattle.tb_builder.specs.Handed.{NoPage}
 use Rattle.tb_builder.proofs.FrameLemmas.{frame_owned, frame_contents, frame_sound}
 use Rattle.tb_builder.proofs.OwnedLemmas.{AllSame}
-use Rattle.tb_column.specs.Column.{PlainSent}
-use Rattle.tb_column.specs.Shown.{nodes_shown}
 use Rattle.tb_output.specs.declared.Turn.{Turn}
 use Rattle.tb_output.specs.declared.RunFault.{RunFault}
 use Rattle.tb_output.specs.declared.RunFault.TheVariants as faults
-use Rattle.tb_output.specs.State.{State, foot_class, ask_of, Work}
+use Rattle.tb_output.specs.State.{State, foot_class, Work}
 use Rattle.tb_output.specs.Out.{out}
 use Rattle.tb_output.specs.Machine.{MachineView, state_shown, events_shown, machine_lists, IsNotAmong, IsMachine, IsFloatless}
 use Rattle.tb_output.specs.Firing.{foot_box, IsNotNotes, firing_work, IsTurn, AtPageLimit, IsRefusal, IsPutBack, OthersStand, TakesBody}
@@ -31,13 +27,12 @@ use Rattle.tb_output.proofs.CallerLemmas.{IsOutOf, IsLimitOf, turn-out, limit-ou
 use Rattle.tb_run.specs.declared.routine.Routine.{Routine}
 use Rattle.tb_run.specs.declared.routine.Ending.{Ending}
 use Rattle.tb_run.specs.declared.routine.Ending.TheVariants as endings
-use Rattle.tb_run.specs.Run.{page_limit, node_limit, dead_cycles, step, held_count}
+use Rattle.tb_run.specs.Run.{page_limit, node_limit, step, held_count}
 use Rattle.tb_run.specs.PlainRun.{Shown, last, next, step_shown, plain_state}
-use Rattle.tb_run.specs.PageMade.{between_pages, work_shown, firing_shown}
-use Rattle.tb_run.specs.Servable.{AreTame, AreRunnable, AreServable, IsServedPage, IsServedWork}
-use Rattle.tb_run.specs.Turning.{held_in, state_of, AreNotBuilders, IsWhole, IsSettled, IsReady, IsFiring, NotesTaken, AreNotesIn, AreNotesOf, IsBackList, ending_shown, shown_by, turn_shown, over_limit}
+use Rattle.tb_run.specs.PageMade.{work_shown}
+use Rattle.tb_run.specs.Servable.{AreTame, AreRunnable, IsServedWork}
+use Rattle.tb_run.specs.Turning.{held_in, state_of, AreNotBuilders, IsWhole, IsSettled, IsReady, IsFiring, NotesTaken, AreNotesOf, IsBackList, shown_by, turn_shown, over_limit}
 use Rattle.tb_run.proofs.WholeLemmas.{state-bare, state-plain}
-use Rattle.tb_run.proofs.NotesLemmas.{not-opened}
 use Rattle.tb_run.proofs.AfterFiring.{served-work}
 use Rattle.tb_run.proofs.ServeLemmas.{without-notes, notes-whole, body-shown, body-apart-now}
 

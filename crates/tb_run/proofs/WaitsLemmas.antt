@@ -1,19 +1,19 @@
 -- Nodes are handed to the page builder.
-use Rattle.std.proofs.Common.{◌≡◌, refl, sym, subst, ◌∙◌, ap, ℕ, Bool, true, false, List, [], ◌∷◌, ◌++◌, Option, None, Some, IsSome, append_assoc, append-nil}
+use Rattle.std.proofs.Common.{◌≡◌, refl, sym, subst, ◌∙◌, ap, ℕ, true, List, [], ◌∷◌, ◌++◌, None, IsSome, append_assoc, append-nil}
 use Rattle.std.specs.Prelude.{option_to_list, Result, Ok, Err, OnOk}
 use Rattle.std.specs.FinMap.{get}
 use Rattle.std.proofs.lemmas.Bool.{true≢false}
-use Rattle.tb_pool.specs.Lists.{Lists, IsLive, list_at}
+use Rattle.tb_pool.specs.Lists.{Lists, list_at}
 use Rattle.tb_node.specs.declared.Kind.{Kind}
 use Rattle.tb_node.specs.declared.Kind.TheVariants as kinds
 use Rattle.tb_node.specs.declared.Node.{Node}
-use Rattle.tb_node.specs.Plain.{PlainNode, PlainKind, plain_kind, plain_of}
+use Rattle.tb_node.specs.Plain.{PlainNode, plain_kind, plain_of}
 use Rattle.tb_insert.specs.declared.Class.{Class}
 use Rattle.tb_builder.specs.declared.Builder.{Builder}
 use Rattle.tb_builder.specs.Contents.{Contents, contents_of}
 use Rattle.tb_builder.specs.Owned.{Lacks, has_class, inner_of, inner_ids, ids_of, owned, is_plain, is_known, classes_of}
 use Rattle.tb_builder.specs.Running.{IsSound}
-use Rattle.tb_builder.specs.Handed.{NodesJoin, MayWait, NoPage}
+use Rattle.tb_builder.specs.Handed.{NodesJoin, MayWait}
 use Rattle.tb_builder.proofs.FrameLemmas.{plain_joins, empty_may_wait}
 use Rattle.tb_run.specs.Expanding.{CanTake, Waits, lone}
 

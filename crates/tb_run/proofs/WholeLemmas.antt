@@ -1,10 +1,8 @@
 -- The routine between its calls.
-use Rattle.std.proofs.Common.{◌≡◌, ◌≢◌, refl, sym, subst, ◌∙◌, ap, ℕ, ◌+◌, ◌<◌, ◌≤◌, ℤ, pos, Bool, true, false, List, [], ◌∷◌, ◌++◌, length, map, Option, None, Some, IsSome, arith}
-use Rattle.std.specs.Prelude.{unwrap_or, All}
+use Rattle.std.proofs.Common.{◌≡◌, refl, sym, subst, ◌∙◌, ap, ℕ, ◌<◌, Bool, true, false, List, [], ◌∷◌, ◌++◌, None, IsSome, arith}
+use Rattle.std.specs.Prelude.{All}
 use Rattle.std.specs.List.{AllByRecursion}
-use Rattle.std.specs.FinMap.{get}
-use Rattle.std.proofs.lemmas.Bool.{true≢false}
-use Rattle.tb_pool.specs.Lists.{Lists, IsLive, list_at}
+use Rattle.tb_pool.specs.Lists.{Lists, IsLive}
 use Rattle.tb_node.specs.declared.Node.{Node}
 use Rattle.tb_node.specs.declared.Act.{Act}
 use Rattle.tb_node.specs.Plain.{PlainNode}
@@ -14,14 +12,14 @@ use Rattle.tb_builder.specs.declared.Try.{Try}
 use Rattle.tb_builder.specs.declared.Page.{Page}
 use Rattle.tb_builder.specs.declared.Event.{Event}
 use Rattle.tb_builder.specs.declared.Event.TheVariants as events
-use Rattle.tb_builder.specs.Fired.{Boxed, Fired, fired_of}
+use Rattle.tb_builder.specs.Fired.{Boxed, fired_of}
 use Rattle.tb_break.specs.Prune.{pruned_nodes}
 use Rattle.tb_builder.specs.Pageable.{IsSizedOnPage}
-use Rattle.tb_builder.specs.Contents.{Contents, node_count, contents_of, laid, reach_ahead, places_of}
-use Rattle.tb_builder.specs.Owned.{Lacks, ids_of, owned, Keeps}
+use Rattle.tb_builder.specs.Contents.{node_count, laid, reach_ahead, places_of}
+use Rattle.tb_builder.specs.Owned.{ids_of, Keeps}
 use Rattle.tb_builder.specs.Places.{NoActs}
 use Rattle.tb_builder.specs.Running.{IsSound}
-use Rattle.tb_builder.specs.Next.{NextFits, Stays, TriedIs, ActedIs, EmptyIs, fired_page, after_fired, PageIs, FiredIs, NextIs, IsGivenOut}
+use Rattle.tb_builder.specs.Next.{NextFits, fired_page, NextIs, IsGivenOut}
 use Rattle.tb_output.specs.State.{State, foot_class, ask_of}
 use Rattle.tb_output.specs.Machine.{MachineView, state_shown, machine_lists, IsNotAmong, IsMachine, IsFloatless}
 use Rattle.tb_output.specs.Firing.{foot_box}
@@ -29,11 +27,10 @@ use Rattle.tb_output.proofs.FloatlessWork.{bare_state}
 use Rattle.tb_output.proofs.StandLemmas.{Stands, machine-stands}
 use Rattle.tb_output.proofs.MachineLemmas.{state-is, floatless-stands, lists-live, fresh-apart}
 use Rattle.tb_run.specs.declared.routine.Routine.{Routine}
-use Rattle.tb_run.specs.Run.{done, step}
-use Rattle.tb_run.specs.PlainRun.{Shown, last, step_shown, plain_state}
-use Rattle.tb_run.specs.PageMade.{between_pages, page_reach, IsUnderway, IsFilled, firing_shown, tries_left}
-use Rattle.tb_run.specs.Servable.{AreTame, AreRunnable, AreServable, IsTamePage, IsServedPage}
-use Rattle.tb_run.specs.Turning.{held_in, state_of, AreNotBuilders, IsWhole, IsSettled, IsReady, after_page_fired, IsFiring, IsOver}
+use Rattle.tb_run.specs.PlainRun.{plain_state}
+use Rattle.tb_run.specs.PageMade.{between_pages, page_reach, IsUnderway, IsFilled, tries_left}
+use Rattle.tb_run.specs.Servable.{AreRunnable, IsTamePage, IsServedPage}
+use Rattle.tb_run.specs.Turning.{held_in, state_of, AreNotBuilders, IsWhole, IsSettled, IsReady, IsFiring, IsOver}
 use Rattle.tb_run.proofs.PageMadeLemmas.{filled-start, filled-tried, tries-fewer, fits-filled, fired-same, step-fires, step-empty, acted-none}
 use Rattle.tb_run.proofs.ServableLemmas.{tame-pruned, tame-no_acts}
 use Rattle.tb_run.proofs.AfterFiring.{served-fits, laid-sized, laid-few, tame-page, served-page}

@@ -1,5 +1,5 @@
 -- What waits at a page builder when nodes were handed to it.
-use Rattle.std.specs.Prelude.{◌≡◌, ℕ, true, List, [], ◌∷◌, ◌++◌, ◌≤◌, map, length, All, Some}
+use Rattle.std.specs.Prelude.{◌≡◌, ℕ, true, List, [], ◌++◌, ◌≤◌, map, length, All, Some}
 use Rattle.std.specs.FinMap.{get}
 use Rattle.tb_pool.specs.Lists.{Lists, IsLive}
 use Rattle.tb_node.specs.declared.What.TheVariants.{Text}
@@ -15,7 +15,7 @@ use Rattle.tb_galley.specs.declared.Item.{Item}
 use Rattle.tb_galley.specs.declared.ItemKind.{ItemKind}
 use Rattle.tb_galley.specs.declared.ItemKind.TheVariants as items
 use Rattle.tb_builder.specs.declared.Builder.{Builder}
-use Rattle.tb_builder.specs.Contents.{Contents, contents_of}
+use Rattle.tb_builder.specs.Contents.{contents_of}
 use Rattle.tb_builder.specs.Owned.{Lacks, has_class, ids_of, owned}
 use Rattle.tb_builder.specs.Running.{IsSound}
 use Rattle.tb_builder.specs.Handed.{NoPage}

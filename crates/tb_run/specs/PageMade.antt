@@ -1,17 +1,15 @@
 -- A page that is filled over a page builder, as a step of the run.
-use Rattle.std.specs.Prelude.{◌≡◌, ℕ, ◌+◌, pred, pos, Bool, true, false, List, [], ◌∷◌, ◌++◌, length, Option, None, int_lt, if◌then◌else◌}
+use Rattle.std.specs.Prelude.{◌≡◌, ℕ, ◌+◌, pred, pos, Bool, true, false, List, [], ◌∷◌, ◌++◌, length, None, int_lt, if◌then◌else◌}
 use Rattle.tb_scaled.specs.Scaled.{awful_bad}
-use Rattle.tb_node.specs.Plain.{PlainNode}
 use Rattle.tb_param.specs.declared.Params.{Params}
 use Rattle.tb_break.specs.Best.{least_cost}
 use Rattle.tb_insert.specs.Account.{Frozen}
-use Rattle.tb_builder.specs.declared.Ask.{Ask}
 use Rattle.tb_builder.specs.Reached.{Reach, breakpoints}
 use Rattle.tb_builder.specs.Fired.{Fired, frozen_for, reach_of}
 use Rattle.tb_builder.specs.Contents.{Contents, frozen_of, laid, reach_ahead, reach_whole, places_of}
 use Rattle.tb_output.specs.State.{State, foot_class, ask_of, Recorded, Work}
 use Rattle.tb_output.specs.Out.{out}
-use Rattle.tb_run.specs.Run.{RunEvent, End, done, dead_cycles, page_limit, node_limit, Progress, progress, after_events, held_count}
+use Rattle.tb_run.specs.Run.{RunEvent, dead_cycles, page_limit, node_limit, progress, after_events, held_count}
 use Rattle.tb_run.specs.PlainRun.{sent_among, Shown, last, next}
 
 -- ---- the builder at the start of a page

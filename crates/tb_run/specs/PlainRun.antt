@@ -1,16 +1,10 @@
 -- The run of a galley without footnotes, floats, marginal notes and changes of columns: what a firing is there.
-use Rattle.std.specs.Prelude.{ℕ, pred, pos, ◌+◌, List, [], ◌∷◌, ◌++◌, map, length, take, drop, Option, Some, None, int_lt, int_le, if◌then◌else◌}
-use Rattle.tb_scaled.specs.Scaled.{eject_penalty}
-use Rattle.tb_node.specs.Plain.{PlainNode, node_shape}
+use Rattle.std.specs.Prelude.{ℕ, List, [], ◌∷◌}
+use Rattle.tb_node.specs.Plain.{PlainNode}
 use Rattle.tb_param.specs.declared.Params.{Params}
-use Rattle.tb_break.specs.declared.Best.{Best}
-use Rattle.tb_break.specs.Prune.{pruned_nodes}
-use Rattle.tb_builder.specs.Fired.{penalty_at, with_spent_break}
-use Rattle.tb_float.specs.Lists.{no_floats}
-use Rattle.tb_column.specs.Column.{one, text_column, PlainSent, shipped}
+use Rattle.tb_column.specs.Column.{PlainSent}
 use Rattle.tb_output.specs.State.{State, first_state}
-use Rattle.tb_output.specs.Clear.{cleared_front}
-use Rattle.tb_run.specs.Run.{RunEvent, offered, sent, End, done, dead_cycles, page_limit, node_limit, Step, ends, goes_on}
+use Rattle.tb_run.specs.Run.{RunEvent, offered, sent, End, Step, ends, goes_on}
 
 -- ---- what a step shows
 

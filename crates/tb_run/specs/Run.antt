@@ -1,7 +1,7 @@
 -- Whole runs.
-use Rattle.std.specs.Prelude.{ℕ, zero, suc, pred, ℤ, pos, nat_abs, ◌+◌, ◌*◌, ◌-◌, List, [], ◌∷◌, ◌++◌, map, length, Option, Some, None, int_lt, if◌then◌else◌}
+use Rattle.std.specs.Prelude.{ℕ, zero, suc, pred, ℤ, pos, nat_abs, ◌+◌, ◌*◌, ◌-◌, List, [], ◌∷◌, ◌++◌, map, Option, Some, None, int_lt, if◌then◌else◌}
 use Rattle.tb_scaled.specs.Scaled.{awful_bad, min_ℤ}
-use Rattle.tb_node.specs.Plain.{PlainKind, plain, ins, act, PlainNode}
+use Rattle.tb_node.specs.Plain.{PlainNode}
 use Rattle.tb_param.specs.declared.Params.{Params}
 use Rattle.tb_galley.specs.declared.Galley.{Galley}
 use Rattle.tb_galley.specs.Expand.{expanded}

@@ -1,5 +1,5 @@
 -- The states that the program serves so far: without floats, marginal notes and a second column.
-use Rattle.std.specs.Prelude.{◌≡◌, ℕ, ◌≤◌, ◌+◌, ℤ, pos, ◌≤ℤ◌, List, [], ◌∷◌, ◌++◌, Option, All}
+use Rattle.std.specs.Prelude.{◌≡◌, ℕ, ◌≤◌, ◌+◌, ◌≤ℤ◌, List, ◌++◌, Option, All}
 use Rattle.std.specs.List.{AllByRecursion}
 use Rattle.tb_node.specs.Fit.{IsExtent, IsPenalty}
 use Rattle.tb_node.specs.Plain.{Leaf, hbox, rule, skip, kerned, pen, mark, note, whatsit, PlainKind, plain, ins, act, PlainNode}
@@ -7,7 +7,7 @@ use Rattle.tb_param.specs.declared.Params.{Params}
 use Rattle.tb_builder.specs.Contents.{node_count, box_count}
 use Rattle.tb_builder.specs.Fired.{Fired}
 use Rattle.tb_builder.specs.Pageable.{IsSizedOnPage, IsSizedBox}
-use Rattle.tb_output.specs.State.{State, Work}
+use Rattle.tb_output.specs.State.{Work}
 use Rattle.tb_output.specs.Out.{clear_penalty}
 use Rattle.tb_output.specs.Machine.{IsLimit, AreOutputParams}
 use Rattle.tb_output.specs.Firing.{foot_box}

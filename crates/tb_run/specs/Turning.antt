@@ -1,12 +1,11 @@
 -- The routine's store, builder and machine, and what one of its turns shows.
-use Rattle.std.specs.Prelude.{◌≡◌, ◌≤◌, ℕ, ℤ, pos, false, List, [], ◌∷◌, length, Option, Some, None, int_lt, if◌then◌else◌}
+use Rattle.std.specs.Prelude.{◌≡◌, ℕ, pos, false, List, [], ◌∷◌, Option, Some, None, int_lt, if◌then◌else◌}
 use Rattle.std.specs.List.{AllByRecursion}
 use Rattle.std.specs.FinMap.{get}
-use Rattle.tb_pool.specs.Lists.{Lists, IsLive, list_at}
-use Rattle.tb_node.specs.declared.Node.{Node}
+use Rattle.tb_pool.specs.Lists.{IsLive, list_at}
 use Rattle.tb_param.specs.declared.Params.{Params}
 use Rattle.tb_builder.specs.declared.Page.{Page}
-use Rattle.tb_builder.specs.Contents.{Contents, contents_of, plain_list}
+use Rattle.tb_builder.specs.Contents.{Contents, contents_of}
 use Rattle.tb_builder.specs.Owned.{Lacks, inner_ids, ids_of, owned, AllPlain}
 use Rattle.tb_builder.specs.Running.{IsSound}
 use Rattle.tb_builder.specs.Next.{PageIs}
@@ -15,15 +14,15 @@ use Rattle.tb_node.specs.Plain.{Leaf}
 use Rattle.tb_column.specs.Column.{PlainSent}
 use Rattle.tb_column.specs.TextList.{notes_shown}
 use Rattle.tb_output.specs.State.{State, foot_class}
-use Rattle.tb_output.specs.Machine.{MachineView, state_shown, events_shown, machine_lists, IsNotAmong, IsPageList, IsMachine, IsFloatless}
+use Rattle.tb_output.specs.Machine.{state_shown, events_shown, machine_lists, IsNotAmong, IsPageList, IsMachine, IsFloatless}
 use Rattle.tb_output.specs.Firing.{foot_box}
 use Rattle.tb_run.specs.declared.routine.Routine.{Routine}
 use Rattle.tb_run.specs.declared.routine.Ending.{Ending}
 use Rattle.tb_run.specs.declared.routine.Ending.TheVariants as endings
-use Rattle.tb_run.specs.Run.{End, done, dead_cycles, page_limit, node_limit, step, held_count}
+use Rattle.tb_run.specs.Run.{End, done, dead_cycles, page_limit, node_limit, step}
 use Rattle.tb_run.specs.PlainRun.{Shown, last, next, step_shown}
 use Rattle.tb_run.specs.PageMade.{between_pages, firing_shown}
-use Rattle.tb_run.specs.Servable.{AreRunnable, AreServable, IsServedPage}
+use Rattle.tb_run.specs.Servable.{AreServable, IsServedPage}
 
 -- what the builder holds
 abbrev pub held_in : Routine → Contents

@@ -1,4 +1,4 @@
-use Rattle.std.proofs.Common.{subst, ap}
+use Rattle.std.proofs.Common.{subst}
 use Rattle.tb_node.specs.Plain.{on_line, clearpage_kinds}
 use Rattle.tb_galley.specs.Expand.{item_nodes}
 use Rattle.tb_run.specs.Expanding.{Waits}

@@ -1,4 +1,4 @@
-use Rattle.std.proofs.Common.{◌≡◌, FitsSigned, w64, rules, ℕ, ◌≤◌, length, arith, pos, ap, sym, subst, ◌∙◌}
+use Rattle.std.proofs.Common.{FitsSigned, w64, rules, ℕ, ◌≤◌, length, arith, pos, ap, sym, subst, ◌∙◌}
 use Rattle.std.specs.Prelude.{All}
 use Rattle.std.proofs.lemmas.Int.{to_z-of_z, ints}
 use Rattle.tb_pool.specs.Lists.{Lists, list_at}

@@ -1,4 +1,3 @@
-use Rattle.std.proofs.Common.{◌≡◌, refl}
 use Rattle.tb_run.proofs.WaitsLemmas.{lone-joins, lone-may, lone-waits, on-ok}
 use Rattle.tb_run.proofs.expanding.put.Goals as goal
 

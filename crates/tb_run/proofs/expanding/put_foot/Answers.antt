@@ -1,4 +1,4 @@
-use Rattle.std.proofs.Common.{◌≡◌, refl, sym, subst, ap, ◌≤◌, length, FitsSigned, w64, rules, to_z, of_z, arith, map, List}
+use Rattle.std.proofs.Common.{◌≡◌, refl, sym, subst, ◌≤◌, length, FitsSigned, w64, rules, to_z, of_z, map, List}
 use Rattle.std.specs.Prelude.{All}
 use Rattle.std.proofs.lemmas.Int.{to_z-of_z}
 use Rattle.tb_pool.specs.Lists.{list_at}

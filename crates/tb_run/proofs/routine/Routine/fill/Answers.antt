@@ -1,7 +1,7 @@
-use Rattle.std.proofs.Common.{◌≡◌, refl, sym, subst, ap}
+use Rattle.std.proofs.Common.{refl, sym, subst}
 use Rattle.tb_builder.specs.Next.{NextFits}
 use Rattle.tb_run.specs.Turning.{held_in}
-use Rattle.tb_run.proofs.WholeLemmas.{filling-start, filling-fits, filling-none_held, try-filling, try-fewer, act-never, fill-over, fill-fires}
+use Rattle.tb_run.proofs.WholeLemmas.{filling-start, filling-fits, filling-none_held, try-filling, act-never, fill-over, fill-fires}
 use Rattle.tb_run.proofs.routine.Routine.fill.Goals as goal
 
 pub next-init : goal.next-init

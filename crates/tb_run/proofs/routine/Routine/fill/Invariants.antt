@@ -1,5 +1,4 @@
-use Rattle.std.proofs.Common.{ℕ}
-use Rattle.tb_builder.specs.Contents.{contents_of, reach_ahead}
+use Rattle.tb_builder.specs.Contents.{reach_ahead}
 use Rattle.tb_output.specs.State.{ask_of}
 use Rattle.tb_run.specs.PageMade.{tries_left}
 use Rattle.tb_run.specs.Turning.{state_of, held_in}

@@ -1,4 +1,3 @@
-use Rattle.std.proofs.Common.{◌≡◌}
 use Rattle.tb_galley.specs.Expand.{expanded}
 use Rattle.tb_run.proofs.BeginLemmas.{begin-state}
 use Rattle.tb_run.proofs.routine.Routine.new.Goals as goal

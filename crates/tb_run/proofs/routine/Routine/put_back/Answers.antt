@@ -1,4 +1,4 @@
-use Rattle.std.proofs.Common.{◌≡◌, ◌∙◌}
+use Rattle.std.proofs.Common.{◌∙◌}
 use Rattle.tb_builder.specs.Owned.{ids_of}
 use Rattle.tb_run.proofs.BackLemmas.{leaves-join, closed-contents, closed-whole, closed-events}
 use Rattle.tb_run.proofs.routine.Routine.put_back.Goals as goal

@@ -1,7 +1,6 @@
-use Rattle.std.proofs.Common.{◌≡◌, refl, sym, subst, ap, ◌∙◌}
+use Rattle.std.proofs.Common.{refl}
 use Rattle.tb_pool.proofs.CallerLemmas.{live_same}
-use Rattle.tb_run.specs.declared.routine.Routine.{Routine}
-use Rattle.tb_run.proofs.NotesLemmas.{opened-sound, opened-no_page, opened-apart, notes-taken, none-taken}
+use Rattle.tb_run.proofs.NotesLemmas.{opened-sound, opened-no_page, opened-apart, notes-taken}
 use Rattle.tb_run.proofs.routine.Routine.take_notes.Goals as goal
 
 pub take_box-requires-clause-sound : goal.take_box-requires-clause-sound

@@ -1,4 +1,4 @@
-use Rattle.std.proofs.Common.{◌≡◌, refl, sym, subst, ◌∙◌, ap}
+use Rattle.std.proofs.Common.{subst, ◌∙◌, ap}
 use Rattle.tb_builder.specs.Contents.{Contents}
 use Rattle.tb_param.specs.declared.Params.{Params}
 use Rattle.tb_output.specs.State.{ask_of}
