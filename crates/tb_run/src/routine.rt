@@ -30,8 +30,11 @@ use tb_pool::{ListId, Lists};
 /// Between two firings: one store, the page builder with the nodes that wait, and the output routine's machine.
 #[derive(Drop)]
 pub struct Routine {
+    /// Holds the lists of the builder, of the machine, and of the pages that were sent.
     pub store: Lists<Node>,
+    /// Holds what waits.
     pub builder: Builder,
+    /// Its events can be taken after each turn.
     pub machine: Machine,
 }
 
@@ -40,8 +43,11 @@ pub struct Routine {
 pub enum Ending {
     /// Nothing fires any more; what is on the page is left.
     Done,
+    /// The page fired after so many firings without a page.
     DeadCycles { count: u64 },
+    /// A page was to be shipped after so many pages.
     PageLimit { pages: u64 },
+    /// More nodes than `maxnodes` were held: so many.
     NodeLimit { count: u64 },
 }
 
@@ -133,7 +139,7 @@ impl Routine {
         self.store.close(list);
     }
 
-    // The ending where more nodes are held than there may be.
+    /// The ending where more nodes are held than `maxnodes`: those that wait, those of footnotes counted too.
     pub fn node_limit(&self, p: &Params) -> Option<Ending>
         requires whole { IsWhole self.now.machine.params self.now }
         requires few { node_count (held_in self.now).waiting + box_count (held_in self.now).boxes ≤ 8388608 }

@@ -5,8 +5,6 @@ pub mod Laws
 pub mod Paginated
 pub mod Search
 pub mod PlainRun
-pub mod PageMade
-pub mod Servable
 pub mod Firings
 pub mod PlainNodes
 pub mod Turning
