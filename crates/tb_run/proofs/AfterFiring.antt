@@ -1,5 +1,5 @@
 -- A firing in a state that the program serves.
-use Rattle.std.proofs.Common.{◌≡◌, refl, sym, subst, ◌∙◌, ap, ℕ, ◌+◌, ◌≤◌, ℤ, pos, Bool, true, false, List, [], ◌∷◌, ◌++◌, take, drop, map, Option, None, Some, arith}
+use Rattle.std.proofs.Common.{◌≡◌, length, refl, sym, subst, ◌∙◌, ap, ℕ, ◌+◌, ◌≤◌, ℤ, pos, Bool, true, false, List, [], ◌∷◌, ◌++◌, take, drop, map, Option, None, Some, arith}
 use Rattle.std.specs.Prelude.{if◌then◌else◌, int_lt, int_le, All}
 use Rattle.std.proofs.lemmas.Int.{ints}
 use Rattle.std.proofs.lemmas.Bool.{true≢false}
@@ -31,10 +31,10 @@ use Rattle.tb_output.specs.Out.{clear_penalty, waiting_again, out}
 use Rattle.tb_output.specs.Firing.{foot_box, page_work}
 use Rattle.tb_output.specs.Firing as output
 use Rattle.tb_output.specs.Shipping.{output_work}
-use Rattle.tb_output.proofs.FloatlessWork.{bare_state, IsDone, page-shipped, page-stopped, front-back, clear-shipped, clear-stopped, out-work}
+use Rattle.tb_output.proofs.FloatlessWork.{bare_state, IsDone, IsStopped, page-shipped, page-stopped, front-back, clear-shipped, clear-stopped, out-work}
 use Rattle.tb_run.specs.PlainRun.{plain_state}
 use Rattle.tb_run.specs.PageMade.{between_pages, page_reach, page_frozen}
-use Rattle.tb_run.specs.Servable.{IsTame, AreTame, AreRunnable, AreServable, IsTamePage, IsServedPage, IsServedWork}
+use Rattle.tb_run.specs.Servable.{IsTame, AreTame, AreRunnable, AreServable, IsTamePage, IsServedPage, IsServedWork, IsCounted}
 use Rattle.tb_run.proofs.ServableLemmas.{every-append, every-take, every-drop, tame-pruned, tame-body, tame-spent, tame-penalty, tame-held, reached-tame}
 
 -- ---- parts of lists
@@ -247,3 +247,43 @@ module _ (p : Params) (waiting : List PlainNode) (page dead : ℕ) (f : Fired) (
   -- a firing that is not refused leaves a state that is served
   pub served-work : (out p (plain_state p waiting page dead) f).refused ≡ false → IsServedWork p f (out p (plain_state p waiting page dead) f)
   served-work r = subst (IsServedWork p f) (sym out-is) (by-penalty (int_le eject_penalty f.penalty) refl (sym (ap (λ (w : Work). w.refused) out-is) ∙ r))
+
+-- ---- what is sent
+
+counted-done : (n : ℕ) (w : Work) (back : List PlainNode) (es : List PlainSent) (s : State) → IsDone w back es s → length es ≤ 1 → s.page ≡ n + length es → IsCounted n w
+counted-done n w back es s d one page = record {
+  one = let e = ap length d.sent in omega (arith, e, one);
+  page = λ r. ap (λ (x : State). x.page) d.state ∙ page ∙ ap (λ xs. n + length xs) (sym d.sent);
+}
+
+counted-stopped : (n k : ℕ) (w : Work) → IsStopped w k → IsCounted n w
+counted-stopped n k w d = record { one = let e = ap length d.sent in omega (arith, e); page = λ r. absurd (true≢false (sym d.refused ∙ r)) }
+
+module _ (p : Params) (waiting : List PlainNode) (page dead : ℕ) (f : Fired) (h : IsServedPage f) where
+  abbrev starts : State
+  starts = bare_state p (foot_box None) page (dead + 1)
+
+  nothing-more : page ≡ page + 0
+  nothing-more = omega arith
+
+  count-page : int_le eject_penalty f.penalty ≡ true → (t : Bool) → int_lt p.maxpages (pos page) ≡ t → IsCounted page (output_work p starts (output.fired_page f.body h.notes f.penalty))
+  count-page q true e = counted-stopped page page _ (page-stopped p f.body h.notes f.penalty page (dead + 1) q e)
+  count-page q false e = counted-done page _ [] _ _ (page-shipped p f.body h.notes f.penalty page (dead + 1) q e) (omega arith) refl
+
+  count-clear : (o : Option (List Leaf)) → int_le clear_penalty f.penalty ≡ true → int_le eject_penalty f.penalty ≡ false → (t : Bool) → int_lt p.maxpages (pos page) ≡ t → IsCounted page (output_work p starts (output.fired_page f.body o f.penalty))
+  count-clear None low q t m = counted-done page _ (cleared_front p f.body) [] _ (front-back p f.body f.penalty page (dead + 1) low q) (omega arith) nothing-more
+  count-clear (Some ns) low q true m = counted-stopped page page _ (clear-stopped p f.body ns f.penalty page (dead + 1) low q m)
+  count-clear (Some ns) low q false m = counted-done page _ clear_again _ _ (clear-shipped p f.body ns f.penalty page (dead + 1) low q m) (omega arith) refl
+
+  count-by : (t : Bool) → int_le eject_penalty f.penalty ≡ t → IsCounted page (output_work p starts (output.fired_page f.body h.notes f.penalty))
+  count-by true e = count-page e (int_lt p.maxpages (pos page)) refl
+  count-by false e = count-clear h.notes low e (int_lt p.maxpages (pos page)) refl
+    where
+      low : int_le clear_penalty f.penalty ≡ true
+      low = let a = h.penalty in grind (arith, ints, a)
+
+  -- what a firing sends
+  pub counted-work : IsCounted page (out p (plain_state p waiting page dead) f)
+  counted-work =
+      let c = count-by (int_le eject_penalty f.penalty) refl in
+      subst (IsCounted page) (sym (out-is p waiting page dead f h)) (record { one = c.one; page = c.page })

@@ -1,9 +1,10 @@
 -- A turn of the routine is a step of the run.
-use Rattle.std.proofs.Common.{◌≡◌, ◌≢◌, refl, sym, subst, ◌∙◌, ap, ℕ, zero, suc, ◌+◌, ◌-◌, ◌≤◌, ℤ, pos, Bool, true, false, List, [], ◌∷◌, ◌++◌, Option, None, Some, append_assoc, arith}
+use Rattle.std.proofs.Common.{◌≡◌, length, ◌≢◌, refl, sym, subst, ◌∙◌, ap, ℕ, zero, suc, ◌+◌, ◌-◌, ◌≤◌, ℤ, pos, Bool, true, false, List, [], ◌∷◌, ◌++◌, Option, None, Some, append_assoc, arith}
 use Rattle.std.specs.Prelude.{All, if◌then◌else◌, int_lt, pred, IfNone, ◌≤ℤ◌, ◌<ℤ◌}
 use Rattle.std.specs.List.{AllByRecursion}
 use Rattle.std.proofs.lemmas.Int.{ints}
 use Rattle.std.proofs.lemmas.Bool.{true≢false}
+use Rattle.std.proofs.lemmas.List.{length-map}
 use Rattle.tb_pool.specs.Lists.{Lists}
 use Rattle.tb_node.specs.declared.Node.{Node}
 use Rattle.tb_node.specs.Plain.{PlainNode}
@@ -16,6 +17,8 @@ use Rattle.tb_builder.specs.Owned.{Lacks, AllLive, ids_of, owned}
 use Rattle.tb_builder.specs.Handed.{NoPage}
 use Rattle.tb_builder.proofs.FrameLemmas.{frame_owned, frame_contents, frame_sound}
 use Rattle.tb_builder.proofs.OwnedLemmas.{AllSame}
+use Rattle.tb_column.specs.Column.{PlainSent}
+use Rattle.tb_column.specs.Shown.{sent_shown}
 use Rattle.tb_output.specs.declared.Turn.{Turn}
 use Rattle.tb_output.specs.declared.RunFault.{RunFault}
 use Rattle.tb_output.specs.declared.RunFault.TheVariants as faults
@@ -30,10 +33,10 @@ use Rattle.tb_run.specs.declared.routine.Ending.TheVariants as endings
 use Rattle.tb_run.specs.Run.{page_limit, node_limit, step, held_count}
 use Rattle.tb_run.specs.PlainRun.{Shown, last, next, step_shown, plain_state}
 use Rattle.tb_run.specs.PageMade.{work_shown}
-use Rattle.tb_run.specs.Servable.{AreTame, AreRunnable, IsServedWork}
+use Rattle.tb_run.specs.Servable.{AreTame, AreRunnable, IsServedWork, IsCounted}
 use Rattle.tb_run.specs.Turning.{held_in, state_of, AreNotBuilders, IsWhole, IsSettled, IsReady, IsFiring, NotesTaken, AreNotesOf, IsBackList, shown_by, turn_shown, over_limit}
 use Rattle.tb_run.proofs.WholeLemmas.{state-bare, state-plain}
-use Rattle.tb_run.proofs.AfterFiring.{served-work}
+use Rattle.tb_run.proofs.AfterFiring.{served-work, counted-work}
 use Rattle.tb_run.proofs.ServeLemmas.{without-notes, notes-whole, body-shown, body-apart-now}
 
 pred-minus : (n : ℕ) → n - 1 ≡ pred n
@@ -74,6 +77,11 @@ module _ (p : Params) (r q n : Routine) (page : Page) (o : Option ℕ) (runs : A
   served e =
       subst (λ s. IsServedWork p f (out p s f)) (sym (state-plain p r ready.settled))
       (served-work p (held_in r).waiting r.machine.page r.machine.dead_cycles f h.served (sym (ap (λ s. (out p s f).refused) (state-plain p r ready.settled)) ∙ e))
+
+  counts : IsCounted r.machine.page w
+  counts =
+      subst (λ s. IsCounted r.machine.page (out p s f)) (sym (state-plain p r ready.settled))
+      (counted-work p (held_in r).waiting r.machine.page r.machine.dead_cycles f h.served)
 
   -- ---- the page limit
 
@@ -121,6 +129,18 @@ module _ (p : Params) (r q n : Routine) (page : Page) (o : Option ℕ) (runs : A
         limit-shown k
         (subst (λ x. IsRefusal x n.machine now n.store store (firing_work n.machine n.store page o)) is
         (of-none n.machine.fault (IsRefusal e n.machine now n.store store (firing_work n.machine n.store page o)) (notes-whole p r q n page o h t).fault refused))
+
+    events-length : events_shown store now.events ≡ w.sent → length now.events ≡ length w.sent
+    events-length e = sym (length-map {B = PlainSent} now.events (sent_shown store)) ∙ ap length e
+
+    pub limit-one : (k : ℕ) (e : RunFault) → e ≡ faults.PageLimit k → IfNone n.machine.fault (IsRefusal e n.machine now n.store store (firing_work n.machine n.store page o)) → length now.events ≤ 1
+    limit-one k e is refused =
+        let a = subst (λ x. IsRefusal x n.machine now n.store store (firing_work n.machine n.store page o)) is
+        (of-none n.machine.fault (IsRefusal e n.machine now n.store store (firing_work n.machine n.store page o)) (notes-whole p r q n page o h t).fault refused) in
+        let x = limit-out n.machine now n.store store page o f (held_in r).boxes (held_in r).waiting (sym (body-shown p r q n page o h t)) (h.served.boxes ∙ ap foot_box (sym t.shown)) (sym h.page_is.penalty) k a in
+        let y = subst (IsLimitOf k n.machine now n.store store) out-same x in
+        let l = events-length (sent-is y.sent) in let c = counts.one in
+        omega (arith, l, c)
 
     -- ---- the firing went through
 
@@ -236,6 +256,15 @@ module _ (p : Params) (r q n : Routine) (page : Page) (o : Option ℕ) (runs : A
             ∙ sym (state-bare now store (foot_box None) (f.held ++ back_nodes ++ f.rest) floatless refl)
             ∙ works.state
 
+        last-length : length last_q.machine.events ≡ length w.sent
+        last-length = ap (λ (v : MachineView). length v.events) machine_same ∙ events-length (sent-is works.sent)
+
+        pub after-one : length last_q.machine.events ≤ 1
+        after-one = let l = last-length in let c = counts.one in omega (arith, l, c)
+
+        pub after-page : last_q.machine.page ≡ r.machine.page + length last_q.machine.events
+        after-page = ap (λ (s : State). s.page) state-after ∙ counts.page works.served ∙ ap (λ k. r.machine.page + k) (sym last-length)
+
         work : IsServedWork p f w
         work = served works.served
 
@@ -292,3 +321,7 @@ module _ (p : Params) (r q n : Routine) (page : Page) (o : Option ℕ) (runs : A
           turn-settled =
               settled-by limit
               (subst (λ x. IfNone x (held_count (state_of last_q) ≤ 4194304)) (sym over) (few-by (int_lt p.maxnodes (pos (held_count (state_of last_q)))) (held_count (state_of last_q)) refl))
+
+pub if-counted : {A : Type 0} (o : Option Ending) → A → IfNone o A
+if-counted None a = a
+if-counted (Some e) a = tt

@@ -1,5 +1,5 @@
 -- The states that the program serves so far: without floats, marginal notes and a second column.
-use Rattle.std.specs.Prelude.{◌≡◌, ℕ, ◌≤◌, ◌+◌, ◌≤ℤ◌, List, ◌++◌, Option, All}
+use Rattle.std.specs.Prelude.{◌≡◌, ℕ, ◌≤◌, ◌+◌, ◌≤ℤ◌, List, ◌++◌, Option, All, length, false}
 use Rattle.std.specs.List.{AllByRecursion}
 use Rattle.tb_node.specs.Fit.{IsExtent, IsPenalty}
 use Rattle.tb_node.specs.Plain.{Leaf, hbox, rule, skip, kerned, pen, mark, note, whatsit, PlainKind, plain, ins, act, PlainNode}
@@ -76,3 +76,8 @@ pub record IsServedWork (p : Params) (f : Fired) (w : Work) : Type 0 where
   pub sized : All IsSizedOnPage (f.held ++ back ++ f.rest)
   pub tame : AreTame (f.held ++ back ++ f.rest)
   pub few : node_count (f.held ++ back ++ f.rest) ≤ 4194310
+
+-- it sends one page at most, and the number of the next page rises with it
+pub record IsCounted (before : ℕ) (w : Work) : Type 0 where
+  pub one : length w.sent ≤ 1
+  pub page : w.refused ≡ false → w.state.page ≡ before + length w.sent

@@ -2,7 +2,8 @@
 use Rattle.std.specs.Prelude.{◌≡◌, ℕ, pos, false, List, [], ◌∷◌, Option, Some, None, int_lt, if◌then◌else◌}
 use Rattle.std.specs.List.{AllByRecursion}
 use Rattle.std.specs.FinMap.{get}
-use Rattle.tb_pool.specs.Lists.{IsLive, list_at}
+use Rattle.tb_pool.specs.Lists.{Lists, IsLive, list_at}
+use Rattle.tb_node.specs.declared.Node.{Node}
 use Rattle.tb_param.specs.declared.Params.{Params}
 use Rattle.tb_builder.specs.declared.Page.{Page}
 use Rattle.tb_builder.specs.Contents.{Contents, contents_of}
@@ -11,12 +12,15 @@ use Rattle.tb_builder.specs.Running.{IsSound}
 use Rattle.tb_builder.specs.Next.{PageIs}
 use Rattle.tb_builder.specs.Fired.{Fired}
 use Rattle.tb_node.specs.Plain.{Leaf}
+use Rattle.tb_column.specs.declared.Sent.{Sent}
 use Rattle.tb_column.specs.Column.{PlainSent}
+use Rattle.tb_column.specs.Shown.{sent_shown}
 use Rattle.tb_column.specs.TextList.{notes_shown}
 use Rattle.tb_output.specs.State.{State, foot_class}
 use Rattle.tb_output.specs.Machine.{state_shown, events_shown, machine_lists, IsNotAmong, IsPageList, IsMachine, IsFloatless}
 use Rattle.tb_output.specs.Firing.{foot_box}
 use Rattle.tb_run.specs.declared.routine.Routine.{Routine}
+use Rattle.tb_run.specs.declared.routine.Turn.{Turn}
 use Rattle.tb_run.specs.declared.routine.Ending.{Ending}
 use Rattle.tb_run.specs.declared.routine.Ending.TheVariants as endings
 use Rattle.tb_run.specs.Run.{End, done, dead_cycles, page_limit, node_limit, step}
@@ -141,3 +145,17 @@ over_limit p n = if int_lt p.maxnodes (pos n) then Some (endings.NodeLimit n) el
 pub record IsEnded (r : Routine) : Type 0 where
   pub machine : IsMachine r.machine r.store
   pub page : IsLive r.store r.builder.page
+
+-- what is sent, as the definitions see it
+abbrev pub sent_by : Lists Node → Option Sent → List PlainSent
+sent_by store None = []
+sent_by store (Some s) = sent_shown store s ∷ []
+
+-- how many pages or warnings that are
+abbrev pub sent_count : Option Sent → ℕ
+sent_count None = 0
+sent_count (Some s) = 1
+
+-- a turn with what it sends, as a step, where it left the routine like this
+abbrev pub sent_turn_shown : Routine → Turn → Shown
+sent_turn_shown r t = shown_by r (sent_by r.store t.sent) t.ending

@@ -1,6 +1,6 @@
 //! The output routine over one store: the page builder fills a page, and the machine serves it.
 
-ghost use Rattle.std.specs.Prelude.{◌≡◌, ◌≤◌, ◌+◌, ◌++◌, [], true, List, Option, IfOk, OnOk, IfNone};
+ghost use Rattle.std.specs.Prelude.{◌≡◌, ◌≤◌, ◌+◌, ◌++◌, [], true, List, Option, length, IfOk, OnOk, IfNone, IfSome};
 ghost use Rattle.tb_node.specs.Plain.{Leaf};
 ghost use Rattle.tb_builder.specs.Contents.{plain_list, node_count, box_count};
 ghost use Rattle.tb_builder.specs.Owned.{has_class};
@@ -8,18 +8,19 @@ ghost use Rattle.tb_builder.specs.Running.{IsSound};
 ghost use Rattle.tb_builder.specs.Handed.{NoPage};
 ghost use Rattle.tb_galley.specs.Expand.{expanded};
 ghost use Rattle.tb_output.specs.State.{foot_class, first_state, ask_of};
-ghost use Rattle.tb_output.specs.Machine.{events_shown};
+ghost use Rattle.tb_output.specs.Machine.{events_shown, IsPageSent};
 ghost use Rattle.tb_output.specs.Firing.{foot_box};
 ghost use Rattle.tb_run.specs.Servable.{AreRunnable, AreServable};
 ghost use Rattle.tb_run.specs.Expanding.{AreItems};
 ghost use Rattle.tb_run.specs.Run.{held_count, step};
 ghost use Rattle.tb_run.specs.PlainRun.{step_shown};
-ghost use Rattle.tb_run.specs.Turning.{held_in, state_of, IsWhole, IsReady, FillIs, NotesTaken, IsBackList, IsSettled, IsEnded, turn_shown, over_limit};
+ghost use Rattle.tb_run.specs.Turning.{held_in, state_of, IsWhole, IsReady, FillIs, NotesTaken, IsBackList, IsSettled, IsEnded, turn_shown, sent_turn_shown, sent_count, over_limit};
 
 use crate::expanding::expand;
 use crate::limits::exceeds;
 use std::alloc::{AllocError, Global};
 use tb_builder::{Ask, Builder, Event, Page, new_builder};
+use tb_column::Sent;
 use tb_galley::Galley;
 use tb_insert::Class;
 use tb_node::{Act, Node};
@@ -66,6 +67,13 @@ fn foot_class(p: &Params) -> Class
         limit: p.footlimit,
         skip: p.skipfootins,
     }
+}
+
+/// What a turn sends, and how the run ends with it, if it does.
+#[derive(Clone, Copy)]
+pub struct Turn {
+    pub sent: Option<Sent>,
+    pub ending: Option<Ending>,
 }
 
 impl Routine {
@@ -152,17 +160,16 @@ impl Routine {
         None
     }
 
-    /// Makes the next page of what waits, and fires it: it is shipped with its footnotes, or its penalty asks for
-    /// something else (TeX: The Program §994, §1012; ltoutput.dtx, \output). Answers how the run ends, if it does.
-    ///
-    /// What it sends and answers is the step of the run. What is sent can be taken from the machine.
-    pub fn turn(&mut self, p: &Params) -> Result<Option<Ending>, AllocError>
+    // Makes the next page of what waits, and fires it. What is sent is with the machine.
+    fn make_page(&mut self, p: &Params) -> Result<Option<Ending>, AllocError>
         requires ready { IsReady p.now self.old }
         requires params { AreRunnable p.now }
 
         ensures step { IfOk result (λ o. turn_shown self.new o ≡ step_shown (step p.now (state_of self.old))) }
         ensures settled { IfOk result (λ o. IfNone o (IsSettled p.now self.new)) }
         ensures ended { OnOk result (IsEnded self.new) }
+        ensures one { OnOk result (length self.new.machine.events ≤ 1) }
+        ensures counted { IfOk result (λ o. IfNone o (self.new.machine.page ≡ self.old.machine.page + length self.new.machine.events)) }
     {
         let ask = self.machine.ask();
         let Some(page) = self.fill(p, &ask)? else {
@@ -178,5 +185,25 @@ impl Routine {
             Err(RunFault::PageLimit { pages }) => Ok(Some(Ending::PageLimit { pages })),
             Err(RunFault::Memory) => Err(AllocError),
         }
+    }
+
+    /// Makes the next page of what waits, and fires it: it is shipped with its footnotes, or its penalty asks for
+    /// something else (TeX: The Program §994, §1012; ltoutput.dtx, \output). Answers what is sent, and how the run ends,
+    /// if it does.
+    ///
+    /// What it answers is the step of the run. The lists of a page that it sends are the caller's from then on.
+    pub fn turn(&mut self, p: &Params) -> Result<Turn, AllocError>
+        requires ready { IsReady p.now self.old }
+        requires params { AreRunnable p.now }
+
+        ensures step { IfOk result (λ t. sent_turn_shown self.new t ≡ step_shown (step p.now (state_of self.old))) }
+        ensures ready { IfOk result (λ t. IfNone t.ending (IsReady p.now self.new)) }
+        ensures ended { OnOk result (IsEnded self.new) }
+        ensures sent { IfOk result (λ t. IfSome t.sent (IsPageSent self.new.store)) }
+        ensures counted { IfOk result (λ t. IfNone t.ending (self.new.machine.page ≡ self.old.machine.page + sent_count t.sent)) }
+    {
+        let ending = self.make_page(p)?;
+        let sent = self.machine.sent();
+        Ok(Turn { sent, ending })
     }
 }
