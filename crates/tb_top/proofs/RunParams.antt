@@ -1,9 +1,7 @@
 -- A valid galley can be run.
-use Rattle.std.proofs.Common.{◌≡◌, refl, ℕ, ◌+◌, ◌≤◌, ℤ, pos, neg_ℤ, ◌≤ℤ◌, List, length, map, length-map, arith}
-use Rattle.std.specs.Prelude.{IsTrue}
+use Rattle.std.proofs.Common.{◌≡◌, refl, ℤ, pos, Bool, arith}
+use Rattle.std.specs.Prelude.{IsTrue, negsuc}
 use Rattle.std.proofs.lemmas.Int.{ints}
-use Rattle.tb_pool.specs.Lists.{Lists, list_at}
-use Rattle.tb_node.specs.declared.Node.{Node}
 use Rattle.tb_node.specs.Fit.{IsPenalty}
 use Rattle.tb_param.specs.declared.Params.{Params}
 use Rattle.tb_param.specs.Fields.{value_of}
@@ -13,13 +11,13 @@ use Rattle.tb_run.specs.Servable.{AreRunnable}
 use Rattle.tb_top.proofs.FinishLemmas.{all-at, in-range, dim-extent, int-limit}
 use Rattle.tb_top.proofs.OutputParams.{params-output}
 
-floating : (v : ℤ) → IsTrue (is_no_fault (out_of_range (is_within (neg_ℤ (pos 10000)) (pos 1073741823) v))) → IsPenalty v
-floating v h = let k = in-range (is_within (neg_ℤ (pos 10000)) (pos 1073741823) v) h in record { low = grind (arith, ints, k); high = grind (arith, ints, k) }
+floating : (v : ℤ) → IsTrue (is_no_fault (out_of_range (is_within (negsuc 99999) (pos 100000) v))) → IsPenalty v
+floating v h = let k = in-range (is_within (negsuc 99999) (pos 100000) v) h in record { low = grind (arith, ints, k); high = grind (arith, ints, k) }
 
 pub params-runnable : (p : Params) → IsTrue (are_params p) → AreRunnable p
 unfolding are_params
 params-runnable p h =
-    let test : Row → _ = λ r. is_no_fault (value_fault r.form (value_of r.field p)) in
+    let test : Row → Bool = λ r. is_no_fault (value_fault r.form (value_of r.field p)) in
     record {
       output = params-output p h;
       topskip = dim-extent (pos 1) p.topskip (omega (arith, ints)) (all-at test rows 1 _ refl h);

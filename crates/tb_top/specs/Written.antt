@@ -12,9 +12,9 @@ use Rattle.tb_top.specs.declared.View.{View}
 use Rattle.tb_top.specs.declared.View.TheVariants as views
 use Rattle.tb_top.specs.declared.PageFault.{PageFault}
 use Rattle.tb_top.specs.declared.PageFault.TheVariants as faults
-use Rattle.tb_top.specs.declared.routine.Routine.{Routine}
-use Rattle.tb_top.specs.declared.routine.Ending.{Ending}
-use Rattle.tb_top.specs.declared.routine.Ending.TheVariants as endings
+use Rattle.tb_run.specs.declared.routine.Routine.{Routine}
+use Rattle.tb_run.specs.declared.routine.Ending.{Ending}
+use Rattle.tb_run.specs.declared.routine.Ending.TheVariants as endings
 
 -- what a view shows of some bytes of a report
 abbrev pub viewed : View → List ℕ → List ℕ

@@ -20,6 +20,11 @@ returns-in_err-routine-clause-refused g c =
     let p = err_from_is_err_and c.from_residual-in_err-routine.result c.from_residual-in_err-routine.ensures.1 in
     rw (p.1, p.2) (prefix-first c.args.view c.args.galley.now _ _ (prefix_whole _ _ _ c.in_ok-show.ensures.whole))
 
+pub returns-in-Some-clause-done : goal.returns-in-Some-clause-done
+returns-in-Some-clause-done g c =
+    let closing = start-closing c.args.view c.args.galley.now c.in_ok-routine.routine _ _ c.new-totals.result c.node_limit.result c.in_ok-routine.ensures.state c.in_ok-show.ensures.whole c.new-totals.ensures c.node_limit.ensures c.in-Some.ending c.in-Some.is in
+    IfOk-weaker c.finish.result _ _ (λ u h. ends-well c.args.view c.in_ok-routine.routine c.new-totals.result (run_of c.args.galley.now) _ _ _ c.in-Some.ending u closing h) c.finish.ensures.done
+
 pub returns-in-Some-clause-refused : goal.returns-in-Some-clause-refused
 returns-in-Some-clause-refused g c =
     let closing = start-closing c.args.view c.args.galley.now c.in_ok-routine.routine _ _ c.new-totals.result c.node_limit.result c.in_ok-routine.ensures.state c.in_ok-show.ensures.whole c.new-totals.ensures c.node_limit.ensures c.in-Some.ending c.in-Some.is in
@@ -83,11 +88,11 @@ firing-preserved g c =
       later = omega (arith, start, later);
     }
 
-pub new-routine-requires-clause-params : goal.new-routine-requires-clause-params
-new-routine-requires-clause-params g c = params-runnable c.args.galley.now.params c.requires.valid.params
+pub new-requires-clause-params : goal.new-requires-clause-params
+new-requires-clause-params g c = params-runnable c.args.galley.now.params c.requires.valid.params
 
-pub new-routine-requires-clause-items : goal.new-routine-requires-clause-items
-new-routine-requires-clause-items g c = galley-items c.args.galley.now (params-runnable c.args.galley.now.params c.requires.valid.params) c.requires.valid c.requires.live
+pub new-requires-clause-items : goal.new-requires-clause-items
+new-requires-clause-items g c = galley-items c.args.galley.now (params-runnable c.args.galley.now.params c.requires.valid.params) c.requires.valid c.requires.live
 
-pub new-routine-requires-clause-nodes : goal.new-routine-requires-clause-nodes
-new-routine-requires-clause-nodes g c = galley-served c.args.galley.now (params-runnable c.args.galley.now.params c.requires.valid.params) c.requires.valid c.requires.live
+pub new-requires-clause-nodes : goal.new-requires-clause-nodes
+new-requires-clause-nodes g c = galley-served c.args.galley.now (params-runnable c.args.galley.now.params c.requires.valid.params) c.requires.valid c.requires.live
