@@ -28,63 +28,34 @@ use Rattle.tb_report.specs.Lines.{left_line, left_lines, end_lines, line, and_co
 use Rattle.tb_top.specs.declared.View.{View}
 use Rattle.tb_top.specs.declared.PageFault.{PageFault}
 use Rattle.tb_top.specs.declared.PageFault.TheVariants as faults
-use Rattle.tb_top.specs.declared.routine.Routine.{Routine}
-use Rattle.tb_top.specs.declared.routine.Ending.{Ending}
-use Rattle.tb_top.specs.declared.routine.Ending.TheVariants as endings
-use Rattle.tb_top.specs.declared.routine.Turn.{Turn}
-use Rattle.tb_top.specs.PlainRun.{last, next, step_shown}
-use Rattle.tb_top.specs.Run.{Run, End, done, held_count, node_limit, step, run_of, firings_left}
+use Rattle.tb_run.specs.declared.routine.Routine.{Routine}
+use Rattle.tb_run.specs.declared.routine.Ending.{Ending}
+use Rattle.tb_run.specs.declared.routine.Ending.TheVariants as endings
+use Rattle.tb_run.specs.declared.routine.Turn.{Turn}
+use Rattle.tb_run.specs.PlainRun.{last, next, step_shown}
+use Rattle.tb_run.specs.Run.{Run, End, done, held_count, node_limit, step, run_of, firings_left}
 use Rattle.tb_top.specs.Paginated.{view_text, Paginates, Refuses}
-use Rattle.tb_top.specs.PlainNodes.{plain_nodes}
-use Rattle.tb_top.specs.Turning.{waiting_of, IsReady, IsLimit, AreRunnable, state_of, sent_by, shown_by, turn_shown, ending_shown, over_limit, sent_count, node_total}
-use Rattle.tb_top.specs.Written.{viewed, all_sent_lines, with_all, last_lines, EndsWell, StopsWith}
-use Rattle.tb_top.proofs.PlainSteps.{plain-count, tame-plain}
-use Rattle.tb_top.proofs.RoutineLemmas.{plain-tame}
+use Rattle.tb_output.specs.Machine.{IsLimit}
+use Rattle.tb_run.specs.Turning.{held_in, state_of, sent_by, shown_by, sent_turn_shown, ending_shown, over_limit, sent_count}
+use Rattle.tb_top.specs.Written.{node_total, viewed, all_sent_lines, with_all, last_lines, EndsWell, StopsWith}
 use Rattle.tb_top.proofs.GoingLemmas.{Going, IsTally, header, begins, begins-over, tally-nothing, tally-sent, goes, closes, cut-short, steps, Closing, done-well, done-cut, refused-end}
 
--- ---- what is left
-
-left-by : (held : ℕ → List Node) (k : Kind) → left_line (plain_kind held k) ≡ left_line (plain_kind (λ l. []) k)
-left-by held (kinds.Hbox what h d) = refl
-left-by held (kinds.Rule name h d) = refl
-left-by held (kinds.Skip g) = refl
-left-by held (kinds.Kern w) = refl
-left-by held (kinds.Pen q) = refl
-left-by held (kinds.Mark name) = refl
-left-by held (kinds.Note name) = refl
-left-by held kinds.Whatsit = refl
-left-by held (kinds.Ins i) = refl
-left-by held (kinds.Act a) = refl
-
-left-held : (held : ℕ → List Node) (ns : List Node) → left_lines (map (plain_of held) ns) ≡ left_lines (plain_nodes ns)
-left-held held [] = refl
-left-held held (n ∷ ns) = λ i. left-by held n.kind i ++ left-held held ns i
-
-last-is : (r : Routine) (t : Totals) → last_lines r t ≡ end_lines (plain_nodes (waiting_of r)) t
-last-is r t = ap (λ ls. ls ++ end_lines [] t) (left-held (list_at r.store) (waiting_of r))
+-- ---- the end
 
 module _ (v : View) (r : Routine) (t : Totals) (whole : Run) (old mid new : Option (List ℕ)) where
-  closing-done : (e : Ending) → e ≡ endings.Done → Closing v (ending_shown r e) old mid t whole → Closing v (done (plain_nodes (waiting_of r))) old mid t whole
+  closing-done : (e : Ending) → e ≡ endings.Done → Closing v (ending_shown r e) old mid t whole → Closing v (done (held_in r).page) old mid t whole
   closing-done e is c = subst (λ x. Closing v (ending_shown r x) old mid t whole) is c
 
   pub ends-well : (e : Ending) (u : Totals) → Closing v (ending_shown r e) old mid t whole → EndsWell v r t e mid new u → Paginates v whole old new u
-  ends-well e u c h = done-well v old mid new t whole (plain_nodes (waiting_of r)) u (closing-done e h.ending c) h.totals (subst (λ ls. Appends mid new (viewed v ls)) (last-is r t) h.written)
+  ends-well e u c h = done-well v old mid new t whole (held_in r).page u (closing-done e h.ending c) h.totals h.written
 
   pub stops-with : (e : Ending) (before now : ℕ) (f : PageFault) → Closing v (ending_shown r e) old mid t whole → StopsWith v r t e mid new before now f → Refuses v whole old new f
-  stops-with e before now faults.Memory c h = done-cut v old mid new t whole (plain_nodes (waiting_of r)) (closing-done e h.0 c) (subst (λ ls. AppendsPrefix mid new (viewed v ls)) (last-is r t) h.1)
-  stops-with e before now faults.WriteFault c h = done-cut v old mid new t whole (plain_nodes (waiting_of r)) (closing-done e h.0 c) (subst (λ ls. AppendsPrefix mid new (viewed v ls)) (last-is r t) h.1)
+  stops-with e before now faults.Memory c h = done-cut v old mid new t whole (held_in r).page (closing-done e h.0 c) h.1
+  stops-with e before now faults.WriteFault c h = done-cut v old mid new t whole (held_in r).page (closing-done e h.0 c) h.1
   stops-with e before now (faults.PoolFull line live) c h = absurd h
   stops-with e before now (faults.DeadCycles n) c h = refused-end v old mid new t whole (ending_shown r (endings.DeadCycles n)) (faults.DeadCycles n) (subst (λ x. Closing v (ending_shown r x) old mid t whole) h.0 c) refl refl h.1
   stops-with e before now (faults.PageLimit n) c h = refused-end v old mid new t whole (ending_shown r (endings.PageLimit n)) (faults.PageLimit n) (subst (λ x. Closing v (ending_shown r x) old mid t whole) h.0 c) refl refl h.1
   stops-with e before now (faults.NodeLimit n) c h = refused-end v old mid new t whole (ending_shown r (endings.NodeLimit n)) (faults.NodeLimit n) (subst (λ x. Closing v (ending_shown r x) old mid t whole) h.0 c) refl refl h.1
-
--- ---- the nodes that are held between two firings
-
-pub held-is : (p : Params) (r : Routine) → IsReady r → held_count (state_of p r) ≡ length (waiting_of r)
-held-is p r ready =
-    let count = plain-count (plain_nodes (waiting_of r)) (tame-plain (plain_nodes (waiting_of r)) (plain-tame (waiting_of r) ready.served)) in
-    let same = length-map (waiting_of r) (plain_of (λ l. [])) in
-    omega arith
 
 -- ---- the parameters
 
@@ -111,20 +82,6 @@ dim-extent low v n h = let k = in-range (is_within low (pos 1073741823) v) h in 
 pub int-limit : (low high v : ℤ) → pos 0 ≤ℤ low → high ≤ℤ pos 4194304 → IsTrue (is_no_fault (out_of_range (is_within low high v))) → IsLimit v
 int-limit low high v n m h = let k = in-range (is_within low high v) h in record { low = grind (arith, ints, n, m, k); high = grind (arith, ints, n, m, k) }
 
-pub params-runnable : (p : Params) → IsTrue (are_params p) → AreRunnable p
-unfolding are_params
-params-runnable p h =
-    let test : Row → Bool = λ r. is_no_fault (value_fault r.form (value_of r.field p)) in
-    record {
-      textheight = dim-extent (pos 1) p.textheight (omega (arith, ints)) (all-at test rows 0 _ refl h);
-      topskip = dim-extent (pos 1) p.topskip (omega (arith, ints)) (all-at test rows 1 _ refl h);
-      maxdepth = dim-extent (pos 0) p.maxdepth (omega (arith, ints)) (all-at test rows 2 _ refl h);
-      splitmaxdepth = dim-extent (pos 0) p.splitmaxdepth (omega (arith, ints)) (all-at test rows 32 _ refl h);
-      maxdeadcycles = int-limit (pos 1) (pos 1000000) p.maxdeadcycles (omega (arith, ints)) (omega (arith, ints)) (all-at test rows 40 _ refl h);
-      maxpages = int-limit (pos 1) (pos 1000000) p.maxpages (omega (arith, ints)) (omega (arith, ints)) (all-at test rows 41 _ refl h);
-      maxnodes = int-limit (pos 100) (pos 4194304) p.maxnodes (omega (arith, ints)) (omega (arith, ints)) (all-at test rows 42 _ refl h);
-    }
-
 -- ---- the first state
 
 over-some : (p : Params) (n : ℕ) (e : Ending) (t : Bool) → int_lt p.maxnodes (pos n) ≡ t → (if t then Some (endings.NodeLimit n) else None) ≡ Some e → (int_lt p.maxnodes (pos n) ≡ true) × (e ≡ endings.NodeLimit n)
@@ -135,47 +92,44 @@ over-none : (p : Params) (n : ℕ) (t : Bool) → int_lt p.maxnodes (pos n) ≡ 
 over-none p n true h k = cc
 over-none p n false h k = h
 
-module _ (v : View) (g : Galley) (r : Routine) (old now : Option (List ℕ)) (t : Totals) (o : Option Ending) (ready : IsReady r) (is : state_of g.params r ≡ first_state g.params (expanded g)) (a : Appends old now (viewed v header)) (nothing : t ≡ no_totals) (over : o ≡ over_limit g.params (length (waiting_of r))) where
-  same-count : (b : Bool) → int_lt g.params.maxnodes (pos (length (waiting_of r))) ≡ b → int_lt g.params.maxnodes (pos (held_count (state_of g.params r))) ≡ b
-  same-count b e = ap (λ n. int_lt g.params.maxnodes (pos n)) (held-is g.params r ready) ∙ e
-
+module _ (v : View) (g : Galley) (r : Routine) (old now : Option (List ℕ)) (t : Totals) (o : Option Ending) (is : state_of r ≡ first_state g.params (expanded g)) (a : Appends old now (viewed v header)) (nothing : t ≡ no_totals) (over : o ≡ over_limit g.params (held_count (state_of r))) where
   pub start-closing : (e : Ending) → o ≡ Some e → Closing v (ending_shown r e) old now t (run_of g)
   start-closing e some =
-      let k = over-some g.params (length (waiting_of r)) e (int_lt g.params.maxnodes (pos (length (waiting_of r)))) refl (sym over ∙ some) in
-      subst (λ x. Closing v x old now t (run_of g)) (ap node_limit (held-is g.params r ready) ∙ ap (ending_shown r) (sym (k.1)))
-      (subst (λ x. Closing v (node_limit (held_count (state_of g.params r))) old now x (run_of g)) (sym nothing) (begins-over v g (state_of g.params r) old now is a (same-count true (k.0))))
+      let k = over-some g.params (held_count (state_of r)) e (int_lt g.params.maxnodes (pos (held_count (state_of r)))) refl (sym over ∙ some) in
+      subst (λ x. Closing v x old now t (run_of g)) (ap (ending_shown r) (sym (k.1)))
+      (subst (λ x. Closing v (node_limit (held_count (state_of r))) old now x (run_of g)) (sym nothing) (begins-over v g (state_of r) old now is a (k.0)))
 
-  pub start-going : o ≡ None → Going g.params v (state_of g.params r) old now t (run_of g)
-  start-going none = subst (λ x. Going g.params v (state_of g.params r) old now x (run_of g)) (sym nothing) (begins v g (state_of g.params r) old now is a (same-count false (over-none g.params (length (waiting_of r)) (int_lt g.params.maxnodes (pos (length (waiting_of r)))) refl (sym over ∙ none))))
+  pub start-going : o ≡ None → Going g.params v (state_of r) old now t (run_of g)
+  start-going none = subst (λ x. Going g.params v (state_of r) old now x (run_of g)) (sym nothing) (begins v g (state_of r) old now is a (over-none g.params (held_count (state_of r)) (int_lt g.params.maxnodes (pos (held_count (state_of r)))) refl (sym over ∙ none)))
 
-  pub start-tally : IsTally t r.page
-  start-tally = subst (λ x. IsTally x r.page) (sym nothing) (subst (IsTally no_totals) (sym (ap (λ (s : State). s.page) is)) tally-nothing)
+  pub start-tally : IsTally t r.machine.page
+  start-tally = subst (λ x. IsTally x r.machine.page) (sym nothing) (subst (IsTally no_totals) (sym (ap (λ (s : State). s.page) is)) tally-nothing)
 
 -- ---- a turn
 
-shown-cases : (p : Params) (r : Routine) (es : List PlainSent) (o : Option Ending) → ((s : State) × (shown_by p r es o ≡ next es s)) ⊎ ((e : End) × (shown_by p r es o ≡ last es e))
-shown-cases p r es None = inl (state_of p r, refl)
+shown-cases : (p : Params) (r : Routine) (es : List PlainSent) (o : Option Ending) → ((s : State) × (shown_by r es o ≡ next es s)) ⊎ ((e : End) × (shown_by r es o ≡ last es e))
+shown-cases p r es None = inl (state_of r, refl)
 shown-cases p r es (Some e) = inr (ending_shown r e, refl)
 
-module _ (p : Params) (v : View) (s : State) (old now : Option (List ℕ)) (t : Totals) (whole : Run) (going : Going p v s old now t whole) (r : Routine) (turn : Turn) (shown : turn_shown p r turn ≡ step_shown (step p s)) where
+module _ (p : Params) (v : View) (s : State) (old now : Option (List ℕ)) (t : Totals) (whole : Run) (going : Going p v s old now t whole) (r : Routine) (turn : Turn) (shown : sent_turn_shown r turn ≡ step_shown (step p s)) where
   -- writing what the turn sends was cut short
   pub turn-cut : (mid : Option (List ℕ)) → AppendsPrefix now mid (viewed v (all_sent_lines (sent_by r.store turn.sent))) → AppendsPrefix old mid (view_text v whole)
-  turn-cut mid b = cut-short p v old now mid t whole s (sent_by r.store turn.sent) (turn_shown p r turn) going (sym shown) b (shown-cases p r (sent_by r.store turn.sent) turn.ending)
+  turn-cut mid b = cut-short p v old now mid t whole s (sent_by r.store turn.sent) (sent_turn_shown r turn) going (sym shown) b (shown-cases p r (sent_by r.store turn.sent) turn.ending)
 
   pub turn-closing : (mid : Option (List ℕ)) (u : Totals) (e : Ending) → turn.ending ≡ Some e → Appends now mid (viewed v (all_sent_lines (sent_by r.store turn.sent))) → u ≡ with_all (sent_by r.store turn.sent) t → Closing v (ending_shown r e) old mid u whole
   turn-closing mid u e some b counted =
       subst (λ x. Closing v (ending_shown r e) old mid x whole) (sym counted)
-      (closes p v old now mid t whole s (ending_shown r e) (sent_by r.store turn.sent) going (sym shown ∙ ap (shown_by p r (sent_by r.store turn.sent)) some) b)
+      (closes p v old now mid t whole s (ending_shown r e) (sent_by r.store turn.sent) going (sym shown ∙ ap (shown_by r (sent_by r.store turn.sent)) some) b)
 
-  pub turn-going : (mid : Option (List ℕ)) (u : Totals) → turn.ending ≡ None → Appends now mid (viewed v (all_sent_lines (sent_by r.store turn.sent))) → u ≡ with_all (sent_by r.store turn.sent) t → Going p v (state_of p r) old mid u whole
+  pub turn-going : (mid : Option (List ℕ)) (u : Totals) → turn.ending ≡ None → Appends now mid (viewed v (all_sent_lines (sent_by r.store turn.sent))) → u ≡ with_all (sent_by r.store turn.sent) t → Going p v (state_of r) old mid u whole
   turn-going mid u none b counted =
-      subst (λ x. Going p v (state_of p r) old mid x whole) (sym counted)
-      (goes p v old now mid t whole s (state_of p r) (sent_by r.store turn.sent) going (sym shown ∙ ap (shown_by p r (sent_by r.store turn.sent)) none) b)
+      subst (λ x. Going p v (state_of r) old mid x whole) (sym counted)
+      (goes p v old now mid t whole s (state_of r) (sent_by r.store turn.sent) going (sym shown ∙ ap (shown_by r (sent_by r.store turn.sent)) none) b)
 
-  pub turn-fewer : turn.ending ≡ None → firings_left p (state_of p r) < firings_left p s
-  turn-fewer none = (steps p s (state_of p r) (sent_by r.store turn.sent) (sym shown ∙ ap (shown_by p r (sent_by r.store turn.sent)) none) going.page).fewer
+  pub turn-fewer : turn.ending ≡ None → firings_left p (state_of r) < firings_left p s
+  turn-fewer none = (steps p s (state_of r) (sent_by r.store turn.sent) (sym shown ∙ ap (shown_by r (sent_by r.store turn.sent)) none) going.page).fewer
 
-pub tally-next : (store : Lists Node) (o : Option Sent) (t : Totals) (page page' : ℕ) → IsTally t page → IfSome o (λ s. node_total (sent_shown store s) ≤ 8388608) → page' ≡ page + sent_count o → IsTally (with_all (sent_by store o) t) page'
+pub tally-next : (store : Lists Node) (o : Option Sent) (t : Totals) (page page' : ℕ) → IsTally t page → IfSome o (λ s. node_total (sent_shown store s) ≤ 25165824) → page' ≡ page + sent_count o → IsTally (with_all (sent_by store o) t) page'
 tally-next store None t page page' h few e = let same : page ≡ page' = omega arith in subst (IsTally t) same h
 tally-next store (Some s) t page page' h few e = subst (IsTally (with_sent (sent_shown store s) t)) (sym e) (tally-sent t page (sent_shown store s) h few)
 
@@ -183,5 +137,5 @@ pub sent-few : (o : Option Sent) → sent_count o ≤ 1
 sent-few None = omega arith
 sent-few (Some s) = omega arith
 
-pub ready-at : (o : Option Ending) (r : Routine) → o ≡ None → IfNone o (IsReady r) → IsReady r
-ready-at o r none h = subst (λ x. IfNone x (IsReady r)) none h
+pub none-at : {A : Type 0} (o : Option Ending) → o ≡ None → IfNone o A → A
+none-at {A} o none h = subst (λ x. IfNone x A) none h

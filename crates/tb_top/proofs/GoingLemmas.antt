@@ -21,12 +21,11 @@ use Rattle.tb_top.specs.declared.View.{View}
 use Rattle.tb_top.specs.declared.View.TheVariants as views
 use Rattle.tb_top.specs.declared.PageFault.{PageFault}
 use Rattle.tb_top.specs.declared.PageFault.TheVariants as faults
-use Rattle.tb_top.specs.Run.{Run, RunEvent, offered, sent, End, done, pool_full, dead_cycles, page_limit, node_limit, Step, ends, goes_on, held_count, step, run_by, run_after, run_from, firings_left, run_of_state, run_of}
+use Rattle.tb_run.specs.Run.{Run, RunEvent, offered, sent, End, done, pool_full, dead_cycles, page_limit, node_limit, Step, ends, goes_on, held_count, step, run_by, run_after, run_from, firings_left, run_of_state, run_of}
 use Rattle.tb_top.specs.Report.{totals_of, event_lines, all_lines, closing_lines, report}
 use Rattle.tb_top.specs.Paginated.{view_text, end_fault, Paginates, EndsWith, Refuses}
-use Rattle.tb_top.specs.PlainRun.{sent_among, Shown, last, next, step_shown}
-use Rattle.tb_top.specs.Turning.{node_total}
-use Rattle.tb_top.specs.Written.{viewed, all_sent_lines, with_all, IsWriteFault}
+use Rattle.tb_run.specs.PlainRun.{sent_among, Shown, last, next, step_shown}
+use Rattle.tb_top.specs.Written.{node_total, viewed, all_sent_lines, with_all, IsWriteFault}
 use Rattle.tb_top.proofs.FuelLemmas.{Turns, step-turns}
 
 -- ---- totals
@@ -279,11 +278,11 @@ prefix-first v g old now b =
 
 -- ---- what was counted
 
--- so many pages were shipped before this one, each with at most 2^23 nodes
+-- so many pages were shipped before this one, each with at most 3 · 2^23 nodes
 pub record IsTally (t : Totals) (page : ℕ) : Type 0 where
   pub pages : t.pages + t.warnings + 1 ≡ page
-  pub boxes : t.boxes ≤ 8388608 * (t.pages + t.warnings)
-  pub floats : t.floats ≤ 8388608 * (t.pages + t.warnings)
+  pub boxes : t.boxes ≤ 25165824 * (t.pages + t.warnings)
+  pub floats : t.floats ≤ 25165824 * (t.pages + t.warnings)
 
 pub tally-nothing : IsTally no_totals 1
 tally-nothing = record { pages = omega arith; boxes = omega arith; floats = omega arith }
@@ -296,7 +295,7 @@ count-most : (test : PlainKind → Bool) (ns : List PlainNode) → count_kinds t
 count-most test [] = omega arith
 count-most test (n ∷ ns) = let a = one-most (test n.kind) in let b = count-most test ns in omega arith
 
-pub tally-sent : (t : Totals) (page : ℕ) (e : PlainSent) → IsTally t page → node_total e ≤ 8388608 → IsTally (with_sent e t) (page + 1)
+pub tally-sent : (t : Totals) (page : ℕ) (e : PlainSent) → IsTally t page → node_total e ≤ 25165824 → IsTally (with_sent e t) (page + 1)
 tally-sent t page (warned w) h few = let a = h.pages in let b = h.boxes in let c = h.floats in record { pages = omega arith; boxes = omega arith; floats = omega arith }
 tally-sent t page (shipped n sheet) h few =
     let a = h.pages in

@@ -18,7 +18,7 @@ use Rattle.tb_top.specs.declared.refusal.Refusal.{Refusal}
 use Rattle.tb_top.specs.declared.refusal.Refusal.TheVariants as refusals
 use Rattle.tb_top.specs.declared.status.Status.{Status}
 use Rattle.tb_top.specs.declared.status.Status.TheVariants as answers
-use Rattle.tb_top.specs.Run.{End, done, pool_full, dead_cycles, page_limit, node_limit, run_of}
+use Rattle.tb_run.specs.Run.{End, done, pool_full, dead_cycles, page_limit, node_limit, run_of}
 use Rattle.tb_top.specs.Paginated.{end_fault, EndsWith, Refuses}
 use Rattle.tb_top.specs.Answer.{answer_at, line_at, answer_for_cause, answer_to, report_to, err_line}
 use Rattle.tb_top.specs.Outcome.{Ends, ErrEnd, Gives, Decided, CutOff, StandsAfter, TellsLine, Says, Outcome, IsAnswer}

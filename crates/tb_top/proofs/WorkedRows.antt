@@ -12,7 +12,7 @@ use Rattle.tb_galley.specs.Grammar.{grammar, input_limit}
 use Rattle.tb_break.specs.Cost.{page_badness, cost_of_badness}
 use Rattle.tb_output.specs.Out.{out}
 use Rattle.tb_top.specs.declared.status.Status.TheVariants.{Range}
-use Rattle.tb_top.specs.Run.{run_of, run_from, step}
+use Rattle.tb_run.specs.Run.{run_of, run_from, step}
 use Rattle.tb_top.specs.Report.{report}
 use Rattle.tb_top.specs.Rows.{Replies, WorkedRows}
 

@@ -7,7 +7,7 @@ use Rattle.tb_galley.specs.CauseText.{cause_name, is_range_cause}
 use Rattle.tb_galley.specs.Grammar.{grammar}
 use Rattle.tb_top.specs.declared.status.Status.{Status}
 use Rattle.tb_top.specs.declared.status.Status.TheVariants as answers
-use Rattle.tb_top.specs.Run.{End, done, pool_full, dead_cycles, page_limit, node_limit, run_of}
+use Rattle.tb_run.specs.Run.{End, done, pool_full, dead_cycles, page_limit, node_limit, run_of}
 use Rattle.tb_top.specs.Report.{report}
 
 -- ---- the answer

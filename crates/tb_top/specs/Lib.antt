@@ -1,17 +1,11 @@
-pub mod Run
 pub mod Report
 pub mod Generate
 pub mod Laws
 pub mod Paginated
-pub mod Search
-pub mod PlainRun
 pub mod Firings
-pub mod PlainNodes
-pub mod Turning
 pub mod Status
 pub mod Answer
 pub mod Outcome
 pub mod Refusal
 pub mod Rows
-pub mod ItemNodes
 pub mod Written

@@ -7,7 +7,7 @@ use Rattle.tb_top.specs.declared.View.{View}
 use Rattle.tb_top.specs.declared.View.TheVariants as views
 use Rattle.tb_top.specs.declared.PageFault.{PageFault}
 use Rattle.tb_top.specs.declared.PageFault.TheVariants as faults
-use Rattle.tb_top.specs.Run.{Run, End, done, pool_full, dead_cycles, page_limit, node_limit}
+use Rattle.tb_run.specs.Run.{Run, End, done, pool_full, dead_cycles, page_limit, node_limit}
 use Rattle.tb_top.specs.Report.{report, totals_of}
 
 -- what a view shows of a run

@@ -1,20 +1,20 @@
 -- What `paginate` writes, piece by piece.
-use Rattle.std.specs.Prelude.{◌≡◌, ◌⊎◌, ◌≤◌, ℕ, ◌+◌, List, [], ◌∷◌, ◌++◌, Option, None, Some, Result, IfErr, OnOk, OnErr}
+use Rattle.std.specs.Prelude.{◌≡◌, ◌⊎◌, ◌≤◌, ℕ, ◌+◌, List, [], ◌∷◌, ◌++◌, length, Option, None, Some, Result, IfErr, OnOk, OnErr}
 use Rattle.std.specs.Io.KnownBytes.{Appends}
 use Rattle.tb_io.specs.Faults.{Rose}
 use Rattle.tb_io.specs.Held.{AppendsPrefix}
-use Rattle.tb_column.specs.Column.{PlainSent}
+use Rattle.tb_column.specs.Column.{PlainSent, warned, shipped}
 use Rattle.tb_column.specs.Shown.{nodes_shown}
 use Rattle.tb_report.specs.declared.Totals.{Totals}
 use Rattle.tb_report.specs.Lines.{sent_lines, end_lines}
-use Rattle.tb_report.specs.Totals.{no_totals, with_sent}
+use Rattle.tb_report.specs.Totals.{no_totals, with_sent, sheet_nodes}
 use Rattle.tb_top.specs.declared.View.{View}
 use Rattle.tb_top.specs.declared.View.TheVariants as views
 use Rattle.tb_top.specs.declared.PageFault.{PageFault}
 use Rattle.tb_top.specs.declared.PageFault.TheVariants as faults
-use Rattle.tb_top.specs.declared.routine.Routine.{Routine}
-use Rattle.tb_top.specs.declared.routine.Ending.{Ending}
-use Rattle.tb_top.specs.declared.routine.Ending.TheVariants as endings
+use Rattle.tb_run.specs.declared.routine.Routine.{Routine}
+use Rattle.tb_run.specs.declared.routine.Ending.{Ending}
+use Rattle.tb_run.specs.declared.routine.Ending.TheVariants as endings
 
 -- what a view shows of some bytes of a report
 abbrev pub viewed : View → List ℕ → List ℕ
@@ -48,7 +48,7 @@ pub record Shows {T : Type 0} (v : View) (held_old held_new : Option (List ℕ))
 
 -- the lines of what is left on the page, and the last line
 abbrev pub last_lines : Routine → Totals → List ℕ
-last_lines r t = end_lines (nodes_shown r.store r.waiting) t
+last_lines r t = end_lines (nodes_shown r.store r.builder.page) t
 
 -- a refusal: that of the ending, where nothing more is written, or a failure at the last lines
 abbrev pub StopsWith : View → Routine → Totals → Ending → Option (List ℕ) → Option (List ℕ) → ℕ → ℕ → PageFault → Type 0
@@ -64,3 +64,8 @@ pub record EndsWell (v : View) (r : Routine) (t : Totals) (e : Ending) (held_old
   pub ending : e ≡ endings.Done
   pub totals : u ≡ t
   pub written : Appends held_old held_new (viewed v (last_lines r t))
+
+-- how many nodes a page has
+abbrev pub node_total : PlainSent → ℕ
+node_total (warned w) = 0
+node_total (shipped page sheet) = length (sheet_nodes sheet)

@@ -4,16 +4,12 @@
 //! [`paginate`] and writes their report, or says on `err` why not.
 #![tactic(auto)]
 
-mod expanding;
 mod input;
 mod laws;
 mod limits;
-mod page_lists;
 mod pages;
 mod refusal;
-mod routine;
 mod rows;
-mod search;
 mod status;
 mod top;
 

@@ -7,15 +7,15 @@ ghost use Rattle.tb_galley.specs.Live.{HasLiveItems};
 ghost use Rattle.tb_column.specs.Shown.{IsLiveSent};
 ghost use Rattle.tb_report.specs.Printable.{IsPrintableSent};
 ghost use Rattle.tb_report.specs.Totals.{AreCounts};
-ghost use Rattle.tb_top.specs.Run.{run_of};
+ghost use Rattle.tb_run.specs.Run.{run_of};
 ghost use Rattle.tb_top.specs.Paginated.{Paginates, Refuses};
-ghost use Rattle.tb_top.specs.Turning.{HasLists, sent_by};
+ghost use Rattle.tb_pool.specs.Lists.{IsLive};
+ghost use Rattle.tb_run.specs.Turning.{sent_by};
 ghost use Rattle.tb_top.specs.Written.{Shows, all_sent_lines, with_all, EndsWell, StopsWith};
 
 #[cfg(test)]
 mod tests;
 
-use crate::routine::{Ending, Routine};
 use crate::{PageFault, View};
 use std::alloc::{AllocError, Global};
 use tb_column::Sent;
@@ -23,6 +23,7 @@ use tb_galley::Galley;
 use tb_io::{Sink, SinkFault, write_all};
 use tb_node::Node;
 use tb_pool::Lists;
+use tb_run::{Ending, Routine};
 use tb_report::{HEADER, Totals, end_text, sent_text};
 
 impl From<AllocError> for PageFault {
@@ -120,14 +121,14 @@ fn finish<K: Sink>(
     ending: Ending,
     out: &mut K,
 ) -> Result<Totals, PageFault>
-    requires { HasLists routine.now }
+    requires { IsLive routine.now.store routine.now.builder.page }
     ensures done { IfOk result (EndsWell view routine.now totals.now ending (K.held out.old) (K.held out.new)) }
     ensures refused { IfErr result (StopsWith view routine.now totals.now ending (K.held out.old) (K.held out.new) (K.faults out.old) (K.faults out.new)) }
     ensures later { K.faults out.old ≤ K.faults out.new }
 {
     match ending {
         Ending::Done => {
-            let text = end_text(alloc, &routine.store, routine.waiting, totals)?;
+            let text = end_text(alloc, &routine.store, routine.builder.on_page(), totals)?;
             show(view, &text, out)?;
             Ok(*totals)
         }

@@ -1,10 +1,13 @@
-use Rattle.std.proofs.Common.{◌≡◌, ◌∙◌, ap, sym, subst, ◌≤◌, arith}
+use Rattle.std.proofs.Common.{◌≡◌, ◌∙◌, ◌+◌, refl, ap, sym, subst, ◌≤◌, arith}
 use Rattle.std.proofs.lemmas.Result.{err_from_is_err_and, IfErr-weaker, IfOk-weaker}
 use Rattle.tb_io.proofs.Appended.{prefix_whole}
-use Rattle.tb_top.specs.Run.{run_of}
-use Rattle.tb_top.specs.Turning.{state_of}
+use Rattle.tb_run.specs.Run.{run_of}
+use Rattle.tb_run.specs.Turning.{state_of, sent_count}
 use Rattle.tb_top.proofs.GoingLemmas.{IsTally, prefix-first, prefix-now, refuses-cut, tally-counts}
-use Rattle.tb_top.proofs.FinishLemmas.{ends-well, stops-with, params-runnable, start-closing, start-going, start-tally, turn-cut, turn-closing, turn-going, turn-fewer, tally-next, sent-few, ready-at}
+use Rattle.tb_top.proofs.FinishLemmas.{ends-well, stops-with, start-closing, start-going, start-tally, turn-cut, turn-closing, turn-going, turn-fewer, tally-next, sent-few, none-at}
+use Rattle.tb_top.proofs.RunParams.{params-runnable}
+use Rattle.tb_top.proofs.PrintablePages.{printable-some, live-some, few-some}
+use Rattle.tb_run.proofs.ServedItems.{galley-items, galley-served}
 use Rattle.tb_top.proofs.pages.paginate.Goals as goal
 
 pub returns-in_err-show-clause-refused : goal.returns-in_err-show-clause-refused
@@ -17,16 +20,21 @@ returns-in_err-routine-clause-refused g c =
     let p = err_from_is_err_and c.from_residual-in_err-routine.result c.from_residual-in_err-routine.ensures.1 in
     rw (p.1, p.2) (prefix-first c.args.view c.args.galley.now _ _ (prefix_whole _ _ _ c.in_ok-show.ensures.whole))
 
+pub returns-in-Some-clause-done : goal.returns-in-Some-clause-done
+returns-in-Some-clause-done g c =
+    let closing = start-closing c.args.view c.args.galley.now c.in_ok-routine.routine _ _ c.new-totals.result c.node_limit.result c.in_ok-routine.ensures.state c.in_ok-show.ensures.whole c.new-totals.ensures c.node_limit.ensures c.in-Some.ending c.in-Some.is in
+    IfOk-weaker c.finish.result _ _ (λ u h. ends-well c.args.view c.in_ok-routine.routine c.new-totals.result (run_of c.args.galley.now) _ _ _ c.in-Some.ending u closing h) c.finish.ensures.done
+
 pub returns-in-Some-clause-refused : goal.returns-in-Some-clause-refused
 returns-in-Some-clause-refused g c =
-    let closing = start-closing c.args.view c.args.galley.now c.in_ok-routine.routine _ _ c.new-totals.result c.node_limit.result c.in_ok-routine.ensures.ready c.in_ok-routine.ensures.state c.in_ok-show.ensures.whole c.new-totals.ensures c.node_limit.ensures c.in-Some.ending c.in-Some.is in
+    let closing = start-closing c.args.view c.args.galley.now c.in_ok-routine.routine _ _ c.new-totals.result c.node_limit.result c.in_ok-routine.ensures.state c.in_ok-show.ensures.whole c.new-totals.ensures c.node_limit.ensures c.in-Some.ending c.in-Some.is in
     IfErr-weaker c.finish.result _ _ (λ f h. stops-with c.args.view c.in_ok-routine.routine c.new-totals.result (run_of c.args.galley.now) _ _ _ c.in-Some.ending _ _ f closing h) c.finish.ensures.refused
 
 pub firing-init : goal.firing-init
 firing-init g c = record {
   ready = c.in_ok-routine.ensures.ready;
-  going = start-going c.args.view c.args.galley.now c.in_ok-routine.routine _ _ c.new-totals.result c.node_limit.result c.in_ok-routine.ensures.ready c.in_ok-routine.ensures.state c.in_ok-show.ensures.whole c.new-totals.ensures c.node_limit.ensures c.in_default.is;
-  tally = start-tally c.args.view c.args.galley.now c.in_ok-routine.routine _ _ c.new-totals.result c.node_limit.result c.in_ok-routine.ensures.ready c.in_ok-routine.ensures.state c.in_ok-show.ensures.whole c.new-totals.ensures c.node_limit.ensures;
+  going = start-going c.args.view c.args.galley.now c.in_ok-routine.routine _ _ c.new-totals.result c.node_limit.result c.in_ok-routine.ensures.state c.in_ok-show.ensures.whole c.new-totals.ensures c.node_limit.ensures c.in_default.is;
+  tally = start-tally c.args.view c.args.galley.now c.in_ok-routine.routine _ _ c.new-totals.result c.node_limit.result c.in_ok-routine.ensures.state c.in_ok-show.ensures.whole c.new-totals.ensures c.node_limit.ensures;
   later = c.in_ok-show.ensures.later;
 }
 
@@ -36,41 +44,55 @@ turn-requires-clause-params g c = params-runnable c.args.galley.now.params c.req
 pub returns-in_err-turn-clause-refused : goal.returns-in_err-turn-clause-refused
 returns-in_err-turn-clause-refused g c =
     let p = err_from_is_err_and c.from_residual-in_err-turn.result c.from_residual-in_err-turn.ensures.1 in
-    rw (p.1, p.2) (prefix-now c.args.galley.now.params c.args.view (state_of c.args.galley.now.params c.firing.routine) _ _ c.firing.totals (run_of c.args.galley.now) c.firing.invariant.going)
+    rw (p.1, p.2) (prefix-now c.args.galley.now.params c.args.view (state_of c.firing.routine) _ _ c.firing.totals (run_of c.args.galley.now) c.firing.invariant.going)
+
+pub send-requires-clause-printable : goal.send-requires-clause-printable
+send-requires-clause-printable g c = printable-some c.turn.new.self.store c.in_ok-turn.turn.sent c.in_ok-turn.ensures.sent
+
+pub send-requires-clause-live : goal.send-requires-clause-live
+send-requires-clause-live g c = live-some c.turn.new.self.store c.in_ok-turn.turn.sent c.in_ok-turn.ensures.sent
 
 pub send-requires-clause-room : goal.send-requires-clause-room
 send-requires-clause-room g c =
-    let pages = c.firing.invariant.ready.pages in
+    let pages = c.firing.invariant.ready.settled.whole.machine.last in
     let one = sent-few c.in_ok-turn.turn.sent in
-    let counted = c.in_ok-turn.ensures.counted in
-    tally-counts _ c.turn.new.self.page (tally-next c.turn.new.self.store c.in_ok-turn.turn.sent c.firing.totals c.firing.routine.page c.turn.new.self.page c.firing.invariant.tally c.in_ok-turn.ensures.few counted) (omega (arith, pages, one, counted))
+    tally-counts _ (c.firing.routine.machine.page + sent_count c.in_ok-turn.turn.sent) (tally-next c.turn.new.self.store c.in_ok-turn.turn.sent c.firing.totals c.firing.routine.machine.page _ c.firing.invariant.tally (few-some c.turn.new.self.store c.in_ok-turn.turn.sent c.in_ok-turn.ensures.sent) refl) (omega (arith, pages, one))
 
 pub returns-in_err-send-clause-refused : goal.returns-in_err-send-clause-refused
 returns-in_err-send-clause-refused g c =
     let p = err_from_is_err_and c.from_residual-in_err-send.result c.from_residual-in_err-send.ensures.1 in
     rw (p.1, p.2) (refuses-cut c.args.view (run_of c.args.galley.now) _ _ _ _ _ c.in_err-send.ensures.shown.cause
-    (turn-cut c.args.galley.now.params c.args.view (state_of c.args.galley.now.params c.firing.routine) _ _ c.firing.totals (run_of c.args.galley.now) c.firing.invariant.going c.turn.new.self c.in_ok-turn.turn c.in_ok-turn.ensures.step _ c.in_err-send.ensures.shown.part))
+    (turn-cut c.args.galley.now.params c.args.view (state_of c.firing.routine) _ _ c.firing.totals (run_of c.args.galley.now) c.firing.invariant.going c.turn.new.self c.in_ok-turn.turn c.in_ok-turn.ensures.step _ c.in_err-send.ensures.shown.part))
 
 pub returns-in-Some-ending-clause-done : goal.returns-in-Some-ending-clause-done
 returns-in-Some-ending-clause-done g c =
-    let closing = turn-closing c.args.galley.now.params c.args.view (state_of c.args.galley.now.params c.firing.routine) _ _ c.firing.totals (run_of c.args.galley.now) c.firing.invariant.going c.turn.new.self c.in_ok-turn.turn c.in_ok-turn.ensures.step _ c.send.new.totals c.in-Some-ending.ending c.in-Some-ending.is c.in_ok-send.ensures.shown.whole c.in_ok-send.ensures.counted in
+    let closing = turn-closing c.args.galley.now.params c.args.view (state_of c.firing.routine) _ _ c.firing.totals (run_of c.args.galley.now) c.firing.invariant.going c.turn.new.self c.in_ok-turn.turn c.in_ok-turn.ensures.step _ c.send.new.totals c.in-Some-ending.ending c.in-Some-ending.is c.in_ok-send.ensures.shown.whole c.in_ok-send.ensures.counted in
     IfOk-weaker c.finish-in-Some-ending.result _ _ (λ u h. ends-well c.args.view c.turn.new.self c.send.new.totals (run_of c.args.galley.now) _ _ _ c.in-Some-ending.ending u closing h) c.finish-in-Some-ending.ensures.done
 
 pub returns-in-Some-ending-clause-refused : goal.returns-in-Some-ending-clause-refused
 returns-in-Some-ending-clause-refused g c =
-    let closing = turn-closing c.args.galley.now.params c.args.view (state_of c.args.galley.now.params c.firing.routine) _ _ c.firing.totals (run_of c.args.galley.now) c.firing.invariant.going c.turn.new.self c.in_ok-turn.turn c.in_ok-turn.ensures.step _ c.send.new.totals c.in-Some-ending.ending c.in-Some-ending.is c.in_ok-send.ensures.shown.whole c.in_ok-send.ensures.counted in
+    let closing = turn-closing c.args.galley.now.params c.args.view (state_of c.firing.routine) _ _ c.firing.totals (run_of c.args.galley.now) c.firing.invariant.going c.turn.new.self c.in_ok-turn.turn c.in_ok-turn.ensures.step _ c.send.new.totals c.in-Some-ending.ending c.in-Some-ending.is c.in_ok-send.ensures.shown.whole c.in_ok-send.ensures.counted in
     IfErr-weaker c.finish-in-Some-ending.result _ _ (λ f h. stops-with c.args.view c.turn.new.self c.send.new.totals (run_of c.args.galley.now) _ _ _ c.in-Some-ending.ending _ _ f closing h) c.finish-in-Some-ending.ensures.refused
 
 pub firing-smaller : goal.firing-smaller
-firing-smaller g c = turn-fewer c.args.galley.now.params c.args.view (state_of c.args.galley.now.params c.firing.routine) _ _ c.firing.totals (run_of c.args.galley.now) c.firing.invariant.going c.turn.new.self c.in_ok-turn.turn c.in_ok-turn.ensures.step c.in_default-ending.is
+firing-smaller g c = turn-fewer c.args.galley.now.params c.args.view (state_of c.firing.routine) _ _ c.firing.totals (run_of c.args.galley.now) c.firing.invariant.going c.turn.new.self c.in_ok-turn.turn c.in_ok-turn.ensures.step c.in_default-ending.is
 
 pub firing-preserved : goal.firing-preserved
 firing-preserved g c =
     let start = c.firing.invariant.later in
     let later = c.in_ok-send.ensures.shown.later in
     record {
-      ready = ready-at c.in_ok-turn.turn.ending c.turn.new.self c.in_default-ending.is c.in_ok-turn.ensures.ready;
-      going = turn-going c.args.galley.now.params c.args.view (state_of c.args.galley.now.params c.firing.routine) _ _ c.firing.totals (run_of c.args.galley.now) c.firing.invariant.going c.turn.new.self c.in_ok-turn.turn c.in_ok-turn.ensures.step _ c.send.new.totals c.in_default-ending.is c.in_ok-send.ensures.shown.whole c.in_ok-send.ensures.counted;
-      tally = subst (λ t. IsTally t c.turn.new.self.page) (sym c.in_ok-send.ensures.counted) (tally-next c.turn.new.self.store c.in_ok-turn.turn.sent c.firing.totals c.firing.routine.page c.turn.new.self.page c.firing.invariant.tally c.in_ok-turn.ensures.few c.in_ok-turn.ensures.counted);
+      ready = none-at c.in_ok-turn.turn.ending c.in_default-ending.is c.in_ok-turn.ensures.ready;
+      going = turn-going c.args.galley.now.params c.args.view (state_of c.firing.routine) _ _ c.firing.totals (run_of c.args.galley.now) c.firing.invariant.going c.turn.new.self c.in_ok-turn.turn c.in_ok-turn.ensures.step _ c.send.new.totals c.in_default-ending.is c.in_ok-send.ensures.shown.whole c.in_ok-send.ensures.counted;
+      tally = subst (λ t. IsTally t c.turn.new.self.machine.page) (sym c.in_ok-send.ensures.counted) (tally-next c.turn.new.self.store c.in_ok-turn.turn.sent c.firing.totals c.firing.routine.machine.page c.turn.new.self.machine.page c.firing.invariant.tally (few-some c.turn.new.self.store c.in_ok-turn.turn.sent c.in_ok-turn.ensures.sent) (none-at c.in_ok-turn.turn.ending c.in_default-ending.is c.in_ok-turn.ensures.counted));
       later = omega (arith, start, later);
     }
+
+pub new-requires-clause-params : goal.new-requires-clause-params
+new-requires-clause-params g c = params-runnable c.args.galley.now.params c.requires.valid.params
+
+pub new-requires-clause-items : goal.new-requires-clause-items
+new-requires-clause-items g c = galley-items c.args.galley.now (params-runnable c.args.galley.now.params c.requires.valid.params) c.requires.valid c.requires.live
+
+pub new-requires-clause-nodes : goal.new-requires-clause-nodes
+new-requires-clause-nodes g c = galley-served c.args.galley.now (params-runnable c.args.galley.now.params c.requires.valid.params) c.requires.valid c.requires.live

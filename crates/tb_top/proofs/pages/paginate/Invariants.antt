@@ -1,16 +1,16 @@
 use Rattle.std.proofs.Common.{◌≤◌}
-use Rattle.tb_top.specs.Run.{run_of, firings_left}
-use Rattle.tb_top.specs.Turning.{IsReady, state_of}
+use Rattle.tb_run.specs.Run.{run_of, firings_left}
+use Rattle.tb_run.specs.Turning.{IsReady, state_of}
 use Rattle.tb_top.proofs.GoingLemmas.{Going, IsTally}
 use Rattle.tb_top.proofs.pages.paginate.Given as goal
 
 abbrev pub invariant-firing : goal.invariant-firing
 invariant-firing g l = record {
-  ready : IsReady l.routine;
-  going : Going l.fn.galley.params l.fn.view (state_of l.fn.galley.params l.routine) (g.K.Sink.held l.fn.out) (g.K.Sink.held l.out) l.totals (run_of l.fn.galley);
-  tally : IsTally l.totals l.routine.page;
+  ready : IsReady l.fn.galley.params l.routine;
+  going : Going l.fn.galley.params l.fn.view (state_of l.routine) (g.K.Sink.held l.fn.out) (g.K.Sink.held l.out) l.totals (run_of l.fn.galley);
+  tally : IsTally l.totals l.routine.machine.page;
   later : g.K.Sink.faults l.fn.out ≤ g.K.Sink.faults l.out;
 }
 
 abbrev pub decreases-firing : goal.decreases-firing
-decreases-firing g l = firings_left l.fn.galley.params (state_of l.fn.galley.params l.routine)
+decreases-firing g l = firings_left l.fn.galley.params (state_of l.routine)

@@ -1,0 +1,78 @@
+-- What waits at a page builder when nodes were handed to it.
+use Rattle.std.specs.Prelude.{◌≡◌, ℕ, true, List, [], ◌++◌, ◌≤◌, map, length, All, Some}
+use Rattle.std.specs.FinMap.{get}
+use Rattle.tb_pool.specs.Lists.{Lists, IsLive}
+use Rattle.tb_node.specs.declared.What.TheVariants.{Text}
+use Rattle.tb_node.specs.declared.Kind.{Kind}
+use Rattle.tb_node.specs.declared.Kind.TheVariants as kinds
+use Rattle.tb_node.specs.declared.Node.{Node}
+use Rattle.tb_node.specs.Fit.{IsSizedNode}
+use Rattle.tb_node.specs.Plain.{PlainNode, plain_of}
+use Rattle.tb_galley.specs.declared.Leaf.{Leaf}
+use Rattle.tb_galley.specs.declared.LeafKind.{LeafKind}
+use Rattle.tb_galley.specs.declared.LeafKind.TheVariants as leaves
+use Rattle.tb_galley.specs.declared.Item.{Item}
+use Rattle.tb_galley.specs.declared.ItemKind.{ItemKind}
+use Rattle.tb_galley.specs.declared.ItemKind.TheVariants as items
+use Rattle.tb_builder.specs.declared.Builder.{Builder}
+use Rattle.tb_builder.specs.Contents.{contents_of}
+use Rattle.tb_builder.specs.Owned.{Lacks, has_class, ids_of, owned}
+use Rattle.tb_builder.specs.Running.{IsSound}
+use Rattle.tb_builder.specs.Handed.{NoPage}
+
+-- the builder has no page, and a class for footnotes
+pub record CanTake (b : Builder) (s : Lists Node) : Type 0 where
+  pub sound : IsSound b s
+  pub empty : NoPage (contents_of b s)
+  pub known : has_class (contents_of b s).classes 254 ≡ true
+
+-- these nodes wait behind those that waited; lists that were not the builder's stand and are not its own
+pub record Waits (ns : List PlainNode) (b : Builder) (s : Lists Node) (d : Builder) (t : Lists Node) : Type 0 where
+  pub sound : IsSound d t
+  pub contents : contents_of d t ≡ record (contents_of b s) { waiting = (contents_of b s).waiting ++ ns }
+  pub others : (q : ℕ) → IsLive s q → Lacks q (owned (ids_of b) s) → get t.lists q ≡ get s.lists q
+  pub apart : (q : ℕ) → IsLive s q → Lacks q (owned (ids_of b) s) → Lacks q (owned (ids_of d) t)
+
+-- a node that is no insertion, as the definitions see it
+abbrev pub lone : ℕ → Kind → PlainNode
+lone line kind = plain_of (λ l. []) (record { line = line; kind = kind })
+
+-- ---- footnotes
+
+-- the node of the store that a box, rule, glue, kern or penalty is
+abbrev pub leaf_kind : LeafKind → Kind
+leaf_kind (leaves.Hbox name h d) = kinds.Hbox (Text name) h d
+leaf_kind (leaves.Rule name h d) = kinds.Rule (Some name) h d
+leaf_kind (leaves.Skip g) = kinds.Skip g
+leaf_kind (leaves.Kern w) = kinds.Kern w
+leaf_kind (leaves.Penalty q) = kinds.Pen q
+
+-- the nodes of a footnote in order
+abbrev pub leaf_list : List Leaf → List Node
+leaf_list ls = map (λ l. record { line = l.line; kind = leaf_kind l.kind }) ls
+
+-- ---- items
+
+-- an item that is served; a footnote has sized nodes, and not too many
+abbrev pub IsServedItem : ItemKind → Type 0
+IsServedItem (items.Hbox name h d) = Unit {0}
+IsServedItem (items.Rule name h d) = Unit {0}
+IsServedItem (items.Skip g) = Unit {0}
+IsServedItem (items.Kern w) = Unit {0}
+IsServedItem (items.Penalty q) = Unit {0}
+IsServedItem (items.Mark name) = Unit {0}
+IsServedItem (items.Note name) = Unit {0}
+IsServedItem (items.Foot ls) = All IsSizedNode (leaf_list ls) × (length (leaf_list ls) ≤ 8388608)
+IsServedItem (items.Float f vert) = ⊥
+IsServedItem (items.Margin m vert) = ⊥
+IsServedItem items.NewPage = Unit {0}
+IsServedItem items.ClearPage = Unit {0}
+IsServedItem (items.PageBreak n) = Unit {0}
+IsServedItem (items.NoPageBreak n) = Unit {0}
+IsServedItem items.OneColumn = ⊥
+IsServedItem items.TwoColumn = ⊥
+IsServedItem (items.Suppress area) = ⊥
+
+-- the same of each item
+abbrev pub AreItems : List Item → Type 0
+AreItems = All (λ n. IsServedItem n.kind)

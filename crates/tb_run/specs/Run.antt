@@ -1,0 +1,117 @@
+-- Whole runs.
+use Rattle.std.specs.Prelude.{ℕ, zero, suc, pred, ℤ, pos, nat_abs, ◌+◌, ◌*◌, ◌-◌, List, [], ◌∷◌, ◌++◌, map, Option, Some, None, int_lt, if◌then◌else◌}
+use Rattle.tb_scaled.specs.Scaled.{awful_bad, min_ℤ}
+use Rattle.tb_node.specs.Plain.{PlainNode}
+use Rattle.tb_param.specs.declared.Params.{Params}
+use Rattle.tb_galley.specs.declared.Galley.{Galley}
+use Rattle.tb_galley.specs.Expand.{expanded}
+use Rattle.tb_builder.specs.declared.Try.{Try}
+use Rattle.tb_builder.specs.Reached.{Reached, acted, tried, Reach, try_of}
+use Rattle.tb_builder.specs.Contents.{node_count, box_count}
+use Rattle.tb_builder.specs.Fired.{reach_of, fired_of}
+use Rattle.tb_column.specs.Column.{PlainSent, warned}
+use Rattle.tb_output.specs.State.{State, first_state, foot_class, ask_of, Recorded, emptied, Work}
+use Rattle.tb_output.specs.Act.{Acted, went, full, act_on}
+use Rattle.tb_output.specs.Out.{out}
+
+-- a try, or what the output routine sends
+pub data RunEvent : Type 0 where
+  offered : Try → RunEvent
+  sent : PlainSent → RunEvent
+
+-- how a run ends: with the nodes left on the page; or at a full pool, too many firings without a page, too many pages, or too many nodes
+pub data End : Type 0 where
+  done : List PlainNode → End
+  pool_full : ℕ → ℕ → End
+  dead_cycles : ℕ → End
+  page_limit : ℕ → End
+  node_limit : ℕ → End
+
+pub record Run : Type 0 where
+  pub events : List RunEvent
+  pub records : List Recorded
+  pub end : End
+
+-- ---- the acts and places of a page
+
+-- after the acts and places of a page: the state, the events, the records, and the line and number where the pool was full
+pub record Progress : Type 0 where
+  pub state : State
+  pub events : List RunEvent
+  pub records : List Recorded
+  pub fault : Option (ℕ × ℕ)
+
+abbrev pub after_events : List RunEvent → List Recorded → Progress → Progress
+after_events es rs q = record q { events = es ++ q.events; records = rs ++ q.records }
+
+abbrev pub progress_by : (State → Progress) → State → Acted → Progress
+progress_by later s (went s' ws rs) = after_events (map (λ w. sent (warned w)) ws) rs (later s')
+progress_by later s (full line live) = record { state = s; events = []; records = []; fault = Some (line, live) }
+
+-- the tries with their champions, and the acts one after another
+abbrev pub progress : Params → List Reached → ℤ → State → Progress
+progress p [] least s = record { state = s; events = []; records = []; fault = None }
+progress p (acted a ∷ rs) least s = progress_by (λ s'. progress p rs least s') s (act_on p s a)
+progress p (tried line b ∷ rs) least s = after_events (offered (try_of line b least) ∷ []) [] (progress p rs (min_ℤ least b.cost) s)
+
+-- ---- one page and the firing after it
+
+pub data Step : Type 0 where
+  ends : List RunEvent → List Recorded → End → Step
+  goes_on : List RunEvent → List Recorded → State → Step
+
+-- the nodes that are held between two firings
+abbrev pub held_count : State → ℕ
+held_count s = node_count s.waiting + node_count s.held_page + box_count s.boxes
+
+abbrev pub after_firing : Params → List RunEvent → List Recorded → Work → Step
+after_firing p es rs w =
+    let events = es ++ map sent w.sent in
+    let records = rs ++ w.records in
+    let held = held_count w.state in
+    if w.refused then ends events records (page_limit (pred w.state.page))
+    else (if int_lt p.maxnodes (pos held) then ends events records (node_limit held) else goes_on events records w.state)
+
+-- the firing of a page, where it is allowed
+abbrev pub fire : Params → Reach → Progress → Step
+fire p w q =
+    let fired = after_firing p q.events q.records (out p q.state (fired_of (ask_of p q.state) (foot_class p ∷ []) q.state.boxes w)) in
+    if int_lt (pos q.state.dead_cycles) p.maxdeadcycles then fired else ends q.events q.records (dead_cycles q.state.dead_cycles)
+
+abbrev pub after_progress : Params → Reach → Progress → Option (ℕ × ℕ) → Step
+after_progress p w q None = let fired = fire p w q in if w.fires then fired else ends q.events (q.records ++ emptied q.state.floats ∷ []) (done w.passed)
+after_progress p w q (Some f) = ends q.events q.records (pool_full f.0 f.1)
+
+abbrev pub step_of : Params → State → Reach → Step
+step_of p s w = let q = progress p w.reached awful_bad s in after_progress p w q q.fault
+
+unfoldable pub step : Params → State → Step
+step p s = step_of p s (reach_of (ask_of p s) (foot_class p ∷ []) s.boxes [] s.waiting)
+
+-- ---- the run
+
+-- a run after these events and records
+abbrev pub run_after : List RunEvent → List Recorded → Run → Run
+run_after es rs r = record r { events = es ++ r.events; records = rs ++ r.records }
+
+abbrev pub run_by : (State → Run) → Step → Run
+run_by later (ends es rs e) = record { events = es; records = rs; end = e }
+run_by later (goes_on es rs s) = run_after es rs (later s)
+
+-- the run from a state; each firing lowers the fuel, and a run that has enough never comes to its end
+unfoldable pub run_from : Params → ℕ → State → Run
+run_from p zero s = record { events = []; records = []; end = dead_cycles s.dead_cycles }
+run_from p (suc fuel) s = run_by (λ s'. run_from p fuel s') (step p s)
+
+-- more firings than can follow: each ships a page, or adds to the dead cycles
+abbrev pub firings_left : Params → State → ℕ
+firings_left p s = (nat_abs p.maxpages - pred s.page) * (nat_abs p.maxdeadcycles + 1) + (nat_abs p.maxdeadcycles - s.dead_cycles)
+
+abbrev pub run_of_state : Params → State → Run
+run_of_state p s =
+    let run = run_from p (suc (firings_left p s)) s in
+    if int_lt p.maxnodes (pos (held_count s)) then record { events = []; records = []; end = node_limit (held_count s) } else run
+
+-- the run of a galley
+unfoldable pub run_of : Galley → Run
+run_of g = run_of_state g.params (first_state g.params (expanded g))

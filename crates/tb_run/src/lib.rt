@@ -1,0 +1,9 @@
+//! The run of a galley, page by page: the page builder fills a page over one store of nodes, and the output routine's
+//! machine serves it.
+#![tactic(auto)]
+
+mod expanding;
+mod limits;
+mod routine;
+
+pub use routine::{Ending, Routine};

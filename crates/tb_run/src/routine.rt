@@ -1,0 +1,209 @@
+//! The output routine over one store: the page builder fills a page, and the machine serves it.
+
+ghost use Rattle.std.specs.Prelude.{◌≡◌, ◌≤◌, ◌+◌, ◌++◌, [], true, List, Option, length, IfOk, OnOk, IfNone, IfSome};
+ghost use Rattle.tb_node.specs.Plain.{Leaf};
+ghost use Rattle.tb_builder.specs.Contents.{plain_list, node_count, box_count};
+ghost use Rattle.tb_builder.specs.Owned.{has_class};
+ghost use Rattle.tb_builder.specs.Running.{IsSound};
+ghost use Rattle.tb_builder.specs.Handed.{NoPage};
+ghost use Rattle.tb_galley.specs.Expand.{expanded};
+ghost use Rattle.tb_output.specs.State.{foot_class, first_state, ask_of};
+ghost use Rattle.tb_output.specs.Machine.{events_shown, IsPageSent};
+ghost use Rattle.tb_output.specs.Firing.{foot_box};
+ghost use Rattle.tb_run.specs.Servable.{AreRunnable, AreServable};
+ghost use Rattle.tb_run.specs.Expanding.{AreItems};
+ghost use Rattle.tb_run.specs.Run.{held_count, step};
+ghost use Rattle.tb_run.specs.PlainRun.{step_shown};
+ghost use Rattle.tb_run.specs.Turning.{held_in, state_of, IsWhole, IsReady, FillIs, NotesTaken, IsBackList, IsSettled, IsEnded, turn_shown, sent_turn_shown, sent_count, over_limit};
+
+use crate::expanding::expand;
+use crate::limits::exceeds;
+use std::alloc::{AllocError, Global};
+use tb_builder::{Ask, Builder, Event, Page, new_builder};
+use tb_column::Sent;
+use tb_galley::Galley;
+use tb_insert::Class;
+use tb_node::{Act, Node};
+use tb_output::{Machine, RunFault, new_machine};
+use tb_param::Params;
+use tb_pool::{ListId, Lists};
+
+/// Between two firings: one store, the page builder with the nodes that wait, and the output routine's machine.
+#[derive(Drop)]
+pub struct Routine {
+    /// Holds the lists of the builder, of the machine, and of the pages that were sent.
+    pub store: Lists<Node>,
+    /// Holds what waits.
+    pub builder: Builder,
+    /// Its events can be taken after each turn.
+    pub machine: Machine,
+}
+
+/// How a run ends.
+#[derive(Clone, Copy)]
+pub enum Ending {
+    /// Nothing fires any more; what is on the page is left.
+    Done,
+    /// The page fired after so many firings without a page.
+    DeadCycles { count: u64 },
+    /// A page was to be shipped after so many pages.
+    PageLimit { pages: u64 },
+    /// More nodes than `maxnodes` were held: so many.
+    NodeLimit { count: u64 },
+}
+
+// No act waits.
+fn no_act(_act: Act)
+    requires { ⊥ }
+{}
+
+// The footnotes' class: each counts whole against the page, up to `footlimit`.
+fn foot_class(p: &Params) -> Class
+    ensures { result ≡ foot_class p.now }
+{
+    Class {
+        number: 254,
+        factor: 1000,
+        limit: p.footlimit,
+        skip: p.skipfootins,
+    }
+}
+
+/// What a turn sends, and how the run ends with it, if it does.
+#[derive(Clone, Copy)]
+pub struct Turn {
+    pub sent: Option<Sent>,
+    pub ending: Option<Ending>,
+}
+
+impl Routine {
+    /// All nodes of a galley wait for its first page.
+    pub fn new(alloc: Global, galley: &Galley) -> Result<Self, AllocError>
+        requires params { AreRunnable galley.now.params }
+        requires items { AreItems galley.now.items }
+        requires nodes { AreServable (expanded galley.now) }
+        ensures state { IfOk result (λ r. state_of r ≡ first_state galley.now.params (expanded galley.now)) }
+        ensures ready { IfOk result (λ r. IsReady galley.now.params r) }
+    {
+        let mut store = Lists::new(alloc);
+        let machine = new_machine(alloc, &mut store, &galley.params)?;
+        let classes = [foot_class(&galley.params)];
+        let mut builder = new_builder(alloc, &mut store, &classes)?;
+        expand(&mut store, &mut builder, galley)?;
+        Ok(Routine {
+            store,
+            builder,
+            machine,
+        })
+    }
+
+    // Fills the next page of what waits. None where it does not fire: then nothing waits any more.
+    fn fill(&mut self, p: &Params, ask: &Ask) -> Result<Option<Page>, AllocError>
+        requires ready { IsReady p.now self.old }
+        requires params { AreRunnable p.now }
+        requires ask { ask.now ≡ ask_of p.now (state_of self.old) }
+        ensures { IfOk result (λ o. FillIs p.now self.old o self.new) }
+    {
+        'next: loop {
+            match self.builder.next(&mut self.store, ask)? {
+                Event::Try(_) => {}
+                Event::Act(act) => no_act(act),
+                Event::Fired(page) => return Ok(Some(page)),
+                Event::Empty => return Ok(None),
+            }
+        }
+    }
+
+    // The footnotes of the page that fired, in a list of their own. None where there are none: a box that was given an
+    // empty footnote has some.
+    fn take_notes(&mut self) -> Result<Option<ListId>, AllocError>
+        requires sound { IsSound self.old.builder self.old.store }
+        requires empty { NoPage (held_in self.old) }
+        requires known { has_class (held_in self.old).classes 254 ≡ true }
+        ensures { IfOk result (λ o. (notes : Option (List Leaf)) → (held_in self.old).boxes ≡ foot_box notes → NotesTaken notes self.old self.new o) }
+    {
+        if self.builder.is_void(254) {
+            return Ok(None);
+        }
+        let notes = self.store.add_list()?;
+        self.builder.take_box(&mut self.store, 254, notes);
+        Ok(Some(notes))
+    }
+
+    // Puts the nodes of a list back before what waits, and closes the list.
+    fn put_back(&mut self, list: ListId)
+        requires whole { IsWhole self.old.machine.params self.old }
+        requires empty { NoPage (held_in self.old) }
+        requires list { IsBackList self.old list }
+        ensures whole { IsWhole self.new.machine.params self.new }
+        ensures contents { held_in self.new ≡ record (held_in self.old) {
+          waiting = (held_in self.old).held ++ (plain_list self.old.store list ++ (held_in self.old).waiting);
+          held = [];
+        } }
+        ensures machine { self.new.machine ≡ self.old.machine }
+        ensures events { events_shown self.new.store self.new.machine.events ≡ events_shown self.old.store self.old.machine.events }
+    {
+        self.builder.put_back(&mut self.store, list);
+        self.store.close(list);
+    }
+
+    /// The ending where more nodes are held than `maxnodes`: those that wait, those of footnotes counted too.
+    pub fn node_limit(&self, p: &Params) -> Option<Ending>
+        requires whole { IsWhole self.now.machine.params self.now }
+        requires few { node_count (held_in self.now).waiting + box_count (held_in self.now).boxes ≤ 8388608 }
+        ensures { result ≡ over_limit p.now (held_count (state_of self.now)) }
+    {
+        let count = self.builder.nodes(&self.store) + self.machine.held_nodes(&self.store);
+        if exceeds(count, p.maxnodes) {
+            return Some(Ending::NodeLimit { count });
+        }
+        None
+    }
+
+    // Makes the next page of what waits, and fires it. What is sent is with the machine.
+    fn make_page(&mut self, p: &Params) -> Result<Option<Ending>, AllocError>
+        requires ready { IsReady p.now self.old }
+        requires params { AreRunnable p.now }
+
+        ensures step { IfOk result (λ o. turn_shown self.new o ≡ step_shown (step p.now (state_of self.old))) }
+        ensures settled { IfOk result (λ o. IfNone o (IsSettled p.now self.new)) }
+        ensures ended { OnOk result (IsEnded self.new) }
+        ensures one { OnOk result (length self.new.machine.events ≤ 1) }
+        ensures counted { IfOk result (λ o. IfNone o (self.new.machine.page ≡ self.old.machine.page + length self.new.machine.events)) }
+    {
+        let ask = self.machine.ask();
+        let Some(page) = self.fill(p, &ask)? else {
+            return Ok(Some(Ending::Done));
+        };
+        let notes = self.take_notes()?;
+        match self.machine.fire_page(&mut self.store, page, notes) {
+            Ok(turn) => {
+                self.put_back(turn.put_back);
+                Ok(self.node_limit(p))
+            }
+            Err(RunFault::DeadCycles { count }) => Ok(Some(Ending::DeadCycles { count })),
+            Err(RunFault::PageLimit { pages }) => Ok(Some(Ending::PageLimit { pages })),
+            Err(RunFault::Memory) => Err(AllocError),
+        }
+    }
+
+    /// Makes the next page of what waits, and fires it: it is shipped with its footnotes, or its penalty asks for
+    /// something else (TeX: The Program §994, §1012; ltoutput.dtx, \output). Answers what is sent, and how the run ends,
+    /// if it does.
+    ///
+    /// What it answers is the step of the run. The lists of a page that it sends are the caller's from then on.
+    pub fn turn(&mut self, p: &Params) -> Result<Turn, AllocError>
+        requires ready { IsReady p.now self.old }
+        requires params { AreRunnable p.now }
+
+        ensures step { IfOk result (λ t. sent_turn_shown self.new t ≡ step_shown (step p.now (state_of self.old))) }
+        ensures ready { IfOk result (λ t. IfNone t.ending (IsReady p.now self.new)) }
+        ensures ended { OnOk result (IsEnded self.new) }
+        ensures sent { IfOk result (λ t. IfSome t.sent (IsPageSent self.new.store)) }
+        ensures counted { IfOk result (λ t. IfNone t.ending (self.new.machine.page ≡ self.old.machine.page + sent_count t.sent)) }
+    {
+        let ending = self.make_page(p)?;
+        let sent = self.machine.sent();
+        Ok(Turn { sent, ending })
+    }
+}
