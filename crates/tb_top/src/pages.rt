@@ -23,8 +23,8 @@ use tb_galley::Galley;
 use tb_io::{Sink, SinkFault, write_all};
 use tb_node::Node;
 use tb_pool::Lists;
-use tb_run::{Ending, Routine};
 use tb_report::{HEADER, Totals, end_text, sent_text};
+use tb_run::{Ending, Routine};
 
 impl From<AllocError> for PageFault {
     ghost use Rattle.tb_top.specs.declared.PageFault.TheVariants.{Memory};
