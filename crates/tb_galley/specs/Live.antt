@@ -5,7 +5,7 @@ use Rattle.tb_galley.specs.declared.ItemKind.{ItemKind}
 use Rattle.tb_galley.specs.declared.ItemKind.TheVariants as items
 use Rattle.tb_galley.specs.declared.Galley.{Galley}
 
--- an item without footnotes, floats, marginal notes and changes of columns
+-- an item without floats, marginal notes and changes of columns
 abbrev pub is_live_item : ItemKind → Bool
 is_live_item (items.Hbox name h d) = true
 is_live_item (items.Rule name h d) = true
@@ -14,7 +14,7 @@ is_live_item (items.Kern w) = true
 is_live_item (items.Penalty p) = true
 is_live_item (items.Mark name) = true
 is_live_item (items.Note name) = true
-is_live_item (items.Foot ls) = false
+is_live_item (items.Foot ls) = true
 is_live_item (items.Float f vert) = false
 is_live_item (items.Margin m vert) = false
 is_live_item items.NewPage = true
