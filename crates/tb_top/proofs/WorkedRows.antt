@@ -42,5 +42,11 @@ worked_rows = record {
   too_large = record { answered = refl; reported = refl; told = refl };
   page_limit = record { answered = refl; reported = refl; told = refl };
   node_limit = record { answered = refl; reported = refl; told = refl };
+  footnote_fits = record { answered = refl; reported = refl; told = refl };
+  footnote_splits = record { answered = refl; reported = refl; told = refl };
+  second_footnote_sends_the_break_back = record { answered = refl; reported = refl; told = refl };
+  footnote_split_at_its_end = record { answered = refl; reported = refl; told = refl };
+  clear_with_a_footnote_box = record { answered = refl; reported = refl; told = refl };
+  unclosed_foot = record { answered = refl; reported = refl; told = refl };
   too_long = λ input more. too_long input (grind (arith, nat_tests));
 }

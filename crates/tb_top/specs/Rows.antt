@@ -51,5 +51,17 @@ pub record WorkedRows : Type 0 where
   pub page_limit : Replies (codes "galley 1\nset textheight 30\nset topskip 10\nset maxdepth 0\nset baselineskip 0\nset bottom flush\nset skipfootins 0\nset footsplittop 10\nset intextsep 0\nset textfloatsep 0\nset floatsep 0\nset fptop 0\nset fpsep 0\nset fpbot 0\nset dbltextfloatsep 0\nset maxpages 1\nbox a 12 0\nglue 0\nbox b 12 0\nglue 0\nbox c 12 0\nend\n") PageLimit (codes "report 1\npage 1 one\ncolumn 1 text height 30 natural 24 set none\nbox a 0 12 0\nbox b 12 12 0\n") (codes "galley_pages: page limit 1\n")
   -- more nodes than are allowed
   pub node_limit : Replies (codes "galley 1\nset textheight 30\nset topskip 10\nset maxdepth 0\nset baselineskip 0\nset bottom flush\nset skipfootins 0\nset footsplittop 10\nset intextsep 0\nset textfloatsep 0\nset floatsep 0\nset fptop 0\nset fpsep 0\nset fpbot 0\nset dbltextfloatsep 0\nset maxnodes 100\nglue 0\nglue 0\nglue 0\nglue 0\nglue 0\nglue 0\nglue 0\nglue 0\nglue 0\nglue 0\nglue 0\nglue 0\nglue 0\nglue 0\nglue 0\nglue 0\nglue 0\nglue 0\nglue 0\nglue 0\nglue 0\nglue 0\nglue 0\nglue 0\nglue 0\nglue 0\nglue 0\nglue 0\nglue 0\nglue 0\nglue 0\nglue 0\nglue 0\nglue 0\nglue 0\nglue 0\nglue 0\nglue 0\nglue 0\nglue 0\nglue 0\nglue 0\nglue 0\nglue 0\nglue 0\nglue 0\nglue 0\nglue 0\nglue 0\nglue 0\nglue 0\nglue 0\nglue 0\nglue 0\nglue 0\nglue 0\nglue 0\nglue 0\nglue 0\nglue 0\nglue 0\nglue 0\nglue 0\nglue 0\nglue 0\nglue 0\nglue 0\nglue 0\nglue 0\nglue 0\nglue 0\nglue 0\nglue 0\nglue 0\nglue 0\nglue 0\nglue 0\nglue 0\nglue 0\nglue 0\nglue 0\nglue 0\nglue 0\nglue 0\nglue 0\nglue 0\nglue 0\nglue 0\nglue 0\nglue 0\nglue 0\nglue 0\nglue 0\nglue 0\nglue 0\nglue 0\nglue 0\nglue 0\nglue 0\nglue 0\nglue 0\nend\n") NodeLimit (codes "report 1\n") (codes "galley_pages: node limit at 106\n")
+  -- a footnote fits on its page
+  pub footnote_fits : Replies (codes "galley 1\nset textheight 30\nset topskip 10\nset maxdepth 0\nset baselineskip 0\nset bottom flush\nset skipfootins 0\nset footsplittop 10\nset intextsep 0\nset textfloatsep 0\nset floatsep 0\nset fptop 0\nset fpsep 0\nset fpbot 0\nset dbltextfloatsep 0\nbox a 10 0\nfoot\nbox f 20 0\nendfoot\nend\n") Done (codes "report 1\npage 1 one\ncolumn 1 text height 30 natural 30 set none\nbox a 0 10 0\nfootrule -196598 26214 0\nbox f 10 20 0\nend pages 1 boxes 2 floats 0 warnings 0\n") []
+  -- a footnote is split, and its rest stands on the next page
+  pub footnote_splits : Replies (codes "galley 1\nset textheight 30\nset topskip 10\nset maxdepth 0\nset baselineskip 0\nset bottom flush\nset skipfootins 0\nset footsplittop 10\nset intextsep 0\nset textfloatsep 0\nset floatsep 0\nset fptop 0\nset fpsep 0\nset fpbot 0\nset dbltextfloatsep 0\nbox a 10 0\nfoot\nbox f 10 0\nglue 0\nbox g 11 0\nendfoot\nend\n") Done (codes "report 1\npage 1 one\ncolumn 1 text height 30 natural 20 set stretch fil 10/65536\nbox a 0 10 0\nfootrule -196588 26214 0\nbox f 20 10 0\npage 2 one\ncolumn 1 text height 30 natural 21 set stretch fil 9/65536\nfootrule -196589 26214 0\nbox g 19 11 0\nend pages 2 boxes 3 floats 0 warnings 0\n") []
+  -- a second footnote is too much for the page, so the break goes back
+  pub second_footnote_sends_the_break_back : Replies (codes "galley 1\nset textheight 45\nset topskip 10\nset maxdepth 0\nset baselineskip 0\nset bottom flush\nset skipfootins 0\nset footsplittop 10\nset intextsep 0\nset textfloatsep 0\nset floatsep 0\nset fptop 0\nset fpsep 0\nset fpbot 0\nset dbltextfloatsep 0\nbox a 10 0\nglue 0\nbox b 10 0\nfoot\nbox f 15 0\nglue 0\nbox g 15 0\nendfoot\nfoot\nbox k 5 0\nendfoot\nend\n") Done (codes "report 1\npage 1 one\ncolumn 1 text height 45 natural 10 set none\nbox a 0 10 0\npage 2 one\ncolumn 1 text height 45 natural 45 set none\nbox b 0 10 0\nfootrule -196598 26214 0\nbox f 10 15 0\nbox g 25 15 0\nbox k 40 5 0\nend pages 2 boxes 5 floats 0 warnings 0\n") []
+  -- a footnote over the limit is split at its end, and stands whole
+  pub footnote_split_at_its_end : Replies (codes "galley 1\nset textheight 30\nset topskip 10\nset maxdepth 0\nset baselineskip 0\nset bottom flush\nset skipfootins 0\nset footsplittop 10\nset intextsep 0\nset textfloatsep 0\nset floatsep 0\nset fptop 0\nset fpsep 0\nset fpbot 0\nset dbltextfloatsep 0\nset footlimit 5\nbox a 10 0\nfoot\nbox f 8 0\nendfoot\nend\n") Done (codes "report 1\npage 1 one\ncolumn 1 text height 30 natural 18 set stretch fil 12/65536\nbox a 0 10 0\nfootrule -196586 26214 0\nbox f 22 8 0\nend pages 1 boxes 2 floats 0 warnings 0\n") []
+  -- a clear puts out the page that has a footnote
+  pub clear_with_a_footnote_box : Replies (codes "galley 1\nset textheight 30\nset topskip 10\nset maxdepth 0\nset baselineskip 0\nset bottom flush\nset skipfootins 0\nset footsplittop 10\nset intextsep 0\nset textfloatsep 0\nset floatsep 0\nset fptop 0\nset fpsep 0\nset fpbot 0\nset dbltextfloatsep 0\nbox a 10 0\nnewpage\nfoot\nbox f 10 0\nendfoot\nend\n") Done (codes "report 1\npage 1 one\ncolumn 1 text height 30 natural 10 set stretch fil 20/65536\nbox a 0 10 0\npage 2 one\ncolumn 1 text height 30 natural 20 set stretch fil 10/65536\nfootrule -196588 26214 0\nbox f 20 10 0\nend pages 2 boxes 2 floats 0 warnings 0\n") []
+  -- a footnote is not closed
+  pub unclosed_foot : Replies (codes "galley 1\nfoot\nbox f 1 0\n") Syntax [] (codes "galley_pages: line 4 field 0: UnclosedFoot\n")
   -- more bytes than a galley may have
   pub too_long : (input : List ℕ) → input_limit < length input → Replies input Range [] (codes "galley_pages: line 0 field 0: InputSize\n")

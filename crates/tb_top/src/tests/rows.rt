@@ -8,7 +8,7 @@ pub struct Row {
     pub err: &'static [u8],
 }
 
-pub const ROWS: [Row; 23] = [
+pub const ROWS: [Row; 29] = [
     Row {
         name: "three boxes one page",
         input: b"galley 1\nset textheight 30\nset topskip 10\nset maxdepth 0\nbox a 10 0\nglue 0 plus 5\nbox b 10 0\nglue 0 plus 5\nbox c 10 0\nend\n",
@@ -169,5 +169,47 @@ pub const ROWS: [Row; 23] = [
         status: 0,
         out: b"report 1\npage 1 one\ncolumn 1 text height 30 natural 40 set none overfull 10\nbox a 30 10 0\npage 2 one\ncolumn 1 text height 30 natural 0 set none\nend pages 2 boxes 1 floats 0 warnings 0\n",
         err: b"",
+    },
+    Row {
+        name: "footnote fits",
+        input: b"galley 1\nset textheight 30\nset topskip 10\nset maxdepth 0\nset baselineskip 0\nset bottom flush\nset skipfootins 0\nset footsplittop 10\nset intextsep 0\nset textfloatsep 0\nset floatsep 0\nset fptop 0\nset fpsep 0\nset fpbot 0\nset dbltextfloatsep 0\nbox a 10 0\nfoot\nbox f 20 0\nendfoot\nend\n",
+        status: 0,
+        out: b"report 1\npage 1 one\ncolumn 1 text height 30 natural 30 set none\nbox a 0 10 0\nfootrule -196598 26214 0\nbox f 10 20 0\nend pages 1 boxes 2 floats 0 warnings 0\n",
+        err: b"",
+    },
+    Row {
+        name: "footnote splits",
+        input: b"galley 1\nset textheight 30\nset topskip 10\nset maxdepth 0\nset baselineskip 0\nset bottom flush\nset skipfootins 0\nset footsplittop 10\nset intextsep 0\nset textfloatsep 0\nset floatsep 0\nset fptop 0\nset fpsep 0\nset fpbot 0\nset dbltextfloatsep 0\nbox a 10 0\nfoot\nbox f 10 0\nglue 0\nbox g 11 0\nendfoot\nend\n",
+        status: 0,
+        out: b"report 1\npage 1 one\ncolumn 1 text height 30 natural 20 set stretch fil 10/65536\nbox a 0 10 0\nfootrule -196588 26214 0\nbox f 20 10 0\npage 2 one\ncolumn 1 text height 30 natural 21 set stretch fil 9/65536\nfootrule -196589 26214 0\nbox g 19 11 0\nend pages 2 boxes 3 floats 0 warnings 0\n",
+        err: b"",
+    },
+    Row {
+        name: "second footnote sends the break back",
+        input: b"galley 1\nset textheight 45\nset topskip 10\nset maxdepth 0\nset baselineskip 0\nset bottom flush\nset skipfootins 0\nset footsplittop 10\nset intextsep 0\nset textfloatsep 0\nset floatsep 0\nset fptop 0\nset fpsep 0\nset fpbot 0\nset dbltextfloatsep 0\nbox a 10 0\nglue 0\nbox b 10 0\nfoot\nbox f 15 0\nglue 0\nbox g 15 0\nendfoot\nfoot\nbox k 5 0\nendfoot\nend\n",
+        status: 0,
+        out: b"report 1\npage 1 one\ncolumn 1 text height 45 natural 10 set none\nbox a 0 10 0\npage 2 one\ncolumn 1 text height 45 natural 45 set none\nbox b 0 10 0\nfootrule -196598 26214 0\nbox f 10 15 0\nbox g 25 15 0\nbox k 40 5 0\nend pages 2 boxes 5 floats 0 warnings 0\n",
+        err: b"",
+    },
+    Row {
+        name: "footlimit split at the list end",
+        input: b"galley 1\nset textheight 30\nset topskip 10\nset maxdepth 0\nset baselineskip 0\nset bottom flush\nset skipfootins 0\nset footsplittop 10\nset intextsep 0\nset textfloatsep 0\nset floatsep 0\nset fptop 0\nset fpsep 0\nset fpbot 0\nset dbltextfloatsep 0\nset footlimit 5\nbox a 10 0\nfoot\nbox f 8 0\nendfoot\nend\n",
+        status: 0,
+        out: b"report 1\npage 1 one\ncolumn 1 text height 30 natural 18 set stretch fil 12/65536\nbox a 0 10 0\nfootrule -196586 26214 0\nbox f 22 8 0\nend pages 1 boxes 2 floats 0 warnings 0\n",
+        err: b"",
+    },
+    Row {
+        name: "clear with a footnote box",
+        input: b"galley 1\nset textheight 30\nset topskip 10\nset maxdepth 0\nset baselineskip 0\nset bottom flush\nset skipfootins 0\nset footsplittop 10\nset intextsep 0\nset textfloatsep 0\nset floatsep 0\nset fptop 0\nset fpsep 0\nset fpbot 0\nset dbltextfloatsep 0\nbox a 10 0\nnewpage\nfoot\nbox f 10 0\nendfoot\nend\n",
+        status: 0,
+        out: b"report 1\npage 1 one\ncolumn 1 text height 30 natural 10 set stretch fil 20/65536\nbox a 0 10 0\npage 2 one\ncolumn 1 text height 30 natural 20 set stretch fil 10/65536\nfootrule -196588 26214 0\nbox f 20 10 0\nend pages 2 boxes 2 floats 0 warnings 0\n",
+        err: b"",
+    },
+    Row {
+        name: "unclosed foot",
+        input: b"galley 1\nfoot\nbox f 1 0\n",
+        status: 3,
+        out: b"",
+        err: b"galley_pages: line 4 field 0: UnclosedFoot\n",
     },
 ];
