@@ -1,16 +1,19 @@
 -- The walks over the deferred floats keep the floats of each class, in their order.
-use Rattle.std.proofs.Common.{◌≡◌, ℕ, Bool, true, false, ◌||◌, cond, List, [], ◌∷◌, ◌++◌, refl, sym, ap, ◌∙◌, append_assoc}
+use Rattle.std.proofs.Common.{◌≡◌, ◌≢◌, ℕ, Bool, true, false, ◌||◌, cond, List, [], ◌∷◌, ◌++◌, refl, sym, ap, ◌∙◌, append_assoc}
 use Rattle.std.specs.Prelude.{◌==◌, if◌then◌else◌}
 use Rattle.std.proofs.lemmas.Bool.{eqb-true}
 use Rattle.std.proofs.lemmas.List.{append-nil}
 use Rattle.std.proofs.lemmas.List.Elements.{filter-append}
 use Rattle.tb_node.specs.declared.Float.{Float}
+use Rattle.tb_node.specs.declared.Where.{Where}
 use Rattle.tb_node.specs.declared.Where.TheVariants as places
+use Rattle.tb_float.specs.declared.Part.TheVariants as parts
+use Rattle.tb_float.specs.Pool.{FloatPool, moved_float}
 use Rattle.tb_param.specs.declared.params.Params.{Params}
 use Rattle.tb_float.specs.declared.Suppress.{Suppress}
 use Rattle.tb_float.specs.Lists.{FloatLists, has_class}
 use Rattle.tb_area.specs.Area.{AreaPlace, at_top, at_bottom, deferred, where_of, next_area_place, goes_double}
-use Rattle.tb_area.specs.Filling.{gone_to, still_before, filled, gone_double, still_single, doubled}
+use Rattle.tb_area.specs.Filling.{gone_to, still_before, filled, gone_double, still_single, doubled, list_of}
 use Rattle.tb_area.specs.Laws.{HasNone, PassesNone, of_class, column_order, double_order}
 use Rattle.tb_area.proofs.LawLemmas.{next-laws, double-laws}
 
@@ -126,3 +129,33 @@ doubled-order k p s before (f ∷ rest) l e =
 -- the floats of a class keep their order where the space above both columns is filled
 pub double-order : (k : ℕ) (p : Params) (s : Suppress) (l : FloatLists) → double_order k (doubled p s [] l.deferred l) ≡ double_order k l
 double-order k p s l = doubled-order k p s [] l.deferred l refl
+
+-- ---- the current column
+
+last-three : (a x b c : List Float) → x ++ b ≡ b ++ x → x ++ c ≡ c ++ x → ((a ++ x) ++ b) ++ c ≡ ((a ++ b) ++ c) ++ x
+last-three a x b c hb hc = simp append_assoc (ap (λ l. a ++ l) (swap x b c hb ∙ ap (λ l. b ++ l) hc))
+
+last-two : (a b x c : List Float) → x ++ c ≡ c ++ x → (a ++ (b ++ x)) ++ c ≡ ((a ++ b) ++ c) ++ x
+last-two a b x c hc = simp append_assoc (ap (λ l. a ++ (b ++ l)) hc)
+
+waiting-order : (k : ℕ) (f : Float) (l : FloatLists) → of_class k (l.top ++ l.bottom ++ (l.deferred ++ f ∷ [])) ≡ column_order k l ++ of_class k (f ∷ [])
+waiting-order k f l = ap (λ fs. of_class k fs) (sym (append_assoc (l.top ++ l.bottom) l.deferred (f ∷ []))) ∙ of-append k (l.top ++ l.bottom ++ l.deferred) (f ∷ [])
+
+-- a float that goes to a list but the text's comes after all others of its class
+pub current-order : (k : ℕ) (f : Float) (v : FloatPool) (w : Where) → PassesNone v.lists v.lists.deferred f w → w ≢ places.Here → column_order k (moved_float parts.Current 0 (list_of w) f v).lists ≡ column_order k v.lists ++ of_class k (f ∷ [])
+current-order k f v places.Here order other = absurd (other refl)
+current-order k f v places.Top order other =
+    let l = v.lists in
+    three k (l.top ++ f ∷ []) l.bottom l.deferred
+    ∙ ap (λ x. (x ++ of_class k l.bottom) ++ of_class k l.deferred) (of-append k l.top (f ∷ []))
+    ∙ last-three (of_class k l.top) (of_class k (f ∷ [])) (of_class k l.bottom) (of_class k l.deferred) (past k f l.bottom order.2) (past k f l.deferred order.0)
+    ∙ ap (λ x. x ++ of_class k (f ∷ [])) (sym (three k l.top l.bottom l.deferred))
+current-order k f v places.Bottom order other =
+    let l = v.lists in
+    three k l.top (l.bottom ++ f ∷ []) l.deferred
+    ∙ ap (λ x. (of_class k l.top ++ x) ++ of_class k l.deferred) (of-append k l.bottom (f ∷ []))
+    ∙ last-two (of_class k l.top) (of_class k l.bottom) (of_class k (f ∷ [])) (of_class k l.deferred) (past k f l.deferred order)
+    ∙ ap (λ x. x ++ of_class k (f ∷ [])) (sym (three k l.top l.bottom l.deferred))
+current-order k f v places.Page order other = absurd order
+current-order k f v places.Double order other = waiting-order k f v.lists
+current-order k f v places.Deferred order other = waiting-order k f v.lists

@@ -1,7 +1,11 @@
 -- Where the deferred floats go, one after another.
 use Rattle.std.specs.Prelude.{ℕ, suc, Bool, List, [], ◌∷◌, ◌++◌, if◌then◌else◌}
 use Rattle.tb_node.specs.declared.Float.{Float}
+use Rattle.tb_node.specs.declared.Where.{Where}
+use Rattle.tb_node.specs.declared.Where.TheVariants.{Here, Top, Bottom, Page, Double, Deferred}
 use Rattle.tb_param.specs.declared.Params.{Params}
+use Rattle.tb_float.specs.declared.Part.{Part}
+use Rattle.tb_float.specs.declared.Part.TheVariants as parts
 use Rattle.tb_float.specs.declared.Suppress.{Suppress}
 use Rattle.tb_float.specs.Lists.{FloatLists}
 use Rattle.tb_area.specs.Area.{AreaPlace, at_top, at_bottom, deferred, next_area_place, goes_double}
@@ -47,3 +51,12 @@ place_after deferred k = suc k
 
 abbrev pub place_after_double : Bool → ℕ → ℕ
 place_after_double goes k = if goes then k else suc k
+
+-- the list to which a float of the current column goes; what does not go into the column waits
+abbrev pub list_of : Where → Part
+list_of Here = parts.Here
+list_of Top = parts.Top
+list_of Bottom = parts.Bottom
+list_of Page = parts.Deferred
+list_of Double = parts.Deferred
+list_of Deferred = parts.Deferred

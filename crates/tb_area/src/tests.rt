@@ -1,9 +1,8 @@
 //! The decisions on worked values.
-ghost use Rattle.std.specs.Prelude.{◌≡◌, ◌≢◌, ◌≤◌};
 ghost use Rattle.tb_node.specs.Fit.{IsExtent};
 ghost use Rattle.tb_float.specs.Ranges.{AreFloatParams};
 
-use crate::{add_current, add_double, add_next, fill_column, fill_double};
+use crate::{add_current, add_double, add_next, fill_column, fill_double, place_current};
 use std::test::Fail;
 use tb_float::{Entry, Part, Pool, Suppress, new_pool};
 use tb_node::{Float, Name, Places, Where, name_of};
@@ -69,28 +68,20 @@ fn letter(place: Where) -> char {
     }
 }
 
-fn part_of(place: Where) -> Part
-    ensures { result ≢ Part.Current }
-{
-    match place {
-        Where::Here => Part::Here,
-        Where::Top => Part::Top,
-        Where::Bottom => Part::Bottom,
-        Where::Double => Part::Double,
-        Where::Page | Where::Deferred => Part::Deferred,
-    }
-}
-
 // Where the float goes in the current column, and it goes there.
-fn place_current(pool: &mut Pool, p: &Params, page_height: u8) -> Option<char>
+fn serve(pool: &mut Pool, p: &Params, page_height: u8) -> Option<char>
     requires { AreFloatParams p.now }
 {
     let Some(Entry::Float(_)) = pool.entry(Part::Current, 0) else {
         return None;
     };
-    let place = add_current(pool, p, &NOT_SUPPRESSED, i64::from(page_height));
-    pool.move_to(Part::Current, 0, part_of(place));
-    Some(letter(place))
+    let said = letter(add_current(pool, p, &NOT_SUPPRESSED, i64::from(page_height)));
+    let went = place_current(pool, p, &NOT_SUPPRESSED, i64::from(page_height));
+    if letter(went) == said {
+        Some(said)
+    } else {
+        None
+    }
 }
 
 // Where a deferred float goes in the next column.
@@ -135,11 +126,7 @@ fn floats_go_where_they_fit(rt: HostRuntime) -> Result<(), Fail> {
                 pool.take(float_of(name, class, false, letters, height))
                     .is_ok()
             );
-            assert_eq!(rt;
-                place_current(&mut pool, &p, 20),
-                Some(list),
-                "{letters} {height}"
-            );
+            assert_eq!(rt; serve(&mut pool, &p, 20), Some(list), "{letters} {height}");
         }
     }
     Ok(())
@@ -151,9 +138,9 @@ fn a_single_float_waits_for_the_double_one(rt: HostRuntime) -> Result<(), Fail> 
     let p = plain_params(1);
     let mut pool = new_pool(rt.alloc(), 18)?;
     assert!(rt; pool.take(float_of(name, 1, true, "t", 30)).is_ok());
-    assert_eq!(rt; place_current(&mut pool, &p, 20), Some('d'));
+    assert_eq!(rt; serve(&mut pool, &p, 20), Some('d'));
     assert!(rt; pool.take(float_of(name, 1, false, "ht", 20)).is_ok());
-    assert_eq!(rt; place_current(&mut pool, &p, 20), Some('d'));
+    assert_eq!(rt; serve(&mut pool, &p, 20), Some('d'));
     assert_eq!(rt; next(&pool, &p, 0), Some('d'));
     assert_eq!(rt; next(&pool, &p, 1), Some('d'));
     assert_eq!(rt; double(&pool, &p, 1), Some('d'));
