@@ -1,8 +1,7 @@
-use Rattle.std.proofs.Common.{◌≡◌, sym, ap, subst, ◌∙◌}
+use Rattle.std.proofs.Common.{ap, ◌∙◌}
 use Rattle.std.proofs.lemmas.Int.{to_z-of_z}
 use Rattle.tb_float.specs.declared.Part.TheVariants as parts
 use Rattle.tb_float.specs.Pool.{FloatPool, moved_float}
-use Rattle.tb_area.specs.Filling.{list_of}
 use Rattle.tb_area.specs.Laws.{column_order}
 use Rattle.tb_area.proofs.OrderLemmas.{current-order}
 use Rattle.tb_area.proofs.filling.place_current.Goals as goal
