@@ -52,10 +52,8 @@ pub enum Ending {
     NodeLimit { count: u64 },
 }
 
-// No act waits.
-fn no_act(_act: Act)
-    requires { ⊥ }
-{}
+// Nothing is done at an act: what is served so far has none, so none is reached.
+fn no_act(_act: Act) {}
 
 // The footnotes' class: each counts whole against the page, up to `footlimit`.
 fn foot_class(p: &Params) -> Class
