@@ -38,7 +38,7 @@ fn both(a: i64, b: i64) -> i64
     a + b
 }
 
-// The room that a list takes.
+/// The room that a list takes, in sp.
 pub fn list_size(store: &Lists<Node>, l: ListId) -> i64
     requires live { IsLive store.now l }
     requires fits { SizesFit (shapes store.now l) }
@@ -47,7 +47,7 @@ pub fn list_size(store: &Lists<Node>, l: ListId) -> i64
     pruned_size(store, l)
 }
 
-// The room that a list takes which may have been pruned.
+/// The room that a list takes which may have been pruned, in sp.
 pub fn pruned_size(store: &Lists<Node>, l: ListId) -> i64
     requires live { IsLive store.now l }
     requires fits { RoomFits (shapes store.now l) }

@@ -16,7 +16,7 @@ use tb_node::{Act, Insertion, Kind, Node};
 use tb_pool::{Iter, ListId, Lists};
 use tb_scaled::fixed;
 
-// A node that is an act, if it is one.
+/// A node that is an act, if it is one.
 pub fn act_of(n: &Node) -> Option<Act>
     ensures { result ≡ act_of_kind n.now.kind }
 {
@@ -26,7 +26,7 @@ pub fn act_of(n: &Node) -> Option<Act>
     }
 }
 
-// A node that is an insertion, if it is one.
+/// A node that is an insertion, if it is one.
 pub fn insertion_of(n: &Node) -> Option<Insertion>
     ensures { result ≡ insertion_of_kind n.now.kind }
 {
@@ -36,13 +36,14 @@ pub fn insertion_of(n: &Node) -> Option<Insertion>
     }
 }
 
+/// Whether a node is a box or a rule.
 pub fn is_box(n: &Node) -> bool
     ensures { result ≡ is_box (shape_of n.now) }
 {
     matches!(n.kind, Kind::Hbox { .. } | Kind::Rule { .. })
 }
 
-// The glue that comes before the first box or rule of a page.
+/// The glue that comes before the first box or rule of a page.
 pub fn top_node(n: &Node, top_skip: i64) -> Node
     requires top_skip { IsAmount top_skip }
     requires boxed { is_box (shape_of n.now) ≡ true }
@@ -86,7 +87,7 @@ fn room_above(top_skip: i64, height: i64) -> i64
     }
 }
 
-// The first node of a list.
+/// The first node of a list.
 pub fn first_of(store: &Lists<Node>, l: ListId) -> Option<Node>
     requires { IsLive store.now l }
     ensures { result ≡ slice_get (list_at store.now l) 0 }
@@ -103,7 +104,7 @@ fn skip_one(nodes: &mut Iter<'_, Node>)
     }
 }
 
-// Glue stands first behind the first node of the list, where acts are looked past.
+/// Glue stands first behind the first node of the list, where acts are looked past.
 pub fn glue_follows(store: &Lists<Node>, l: ListId) -> bool
     requires { IsLive store.now l }
     ensures { result ≡ nodes_glue_first (drop 1 (list_at store.now l)) }
@@ -118,7 +119,7 @@ pub fn glue_follows(store: &Lists<Node>, l: ListId) -> bool
     false
 }
 
-// Takes off the first node of a list that has one.
+/// Takes off the first node of a list that has one.
 #[tactic(auto, using(tb_pool::proofs::MapLemmas::list_steps))]
 pub fn drop_first(store: &mut Lists<Node>, l: ListId)
     requires { IsLive store.old l }
@@ -128,7 +129,7 @@ pub fn drop_first(store: &mut Lists<Node>, l: ListId)
     store.pop_front(l);
 }
 
-// The first node of a list goes to the end of another.
+/// The first node of a list goes to the end of another.
 #[tactic(auto, using(tb_pool::proofs::MapLemmas::list_steps))]
 pub fn shift(store: &mut Lists<Node>, from: ListId, to: ListId)
     requires from_live { IsLive store.old from }

@@ -13,8 +13,8 @@ use tb_break::prune;
 use tb_node::Node;
 use tb_pool::{ListId, Lists};
 
-// What stands before a place of a list goes to the end of another. The rest, of which the first node vanishes, stays,
-// pruned for the top of a page; on the way it is in a list that is empty before and afterwards.
+/// What stands before a place of a list goes to the end of another. The rest, of which the first node vanishes, stays,
+/// pruned for the top of a page; on the way it is in a list that is empty before and afterwards.
 pub fn give_front(
     store: &mut Lists<Node>,
     to: ListId,
@@ -44,7 +44,7 @@ pub fn give_front(
     prune(store, from, top_skip);
 }
 
-// The first node of a list goes, and this one comes to the end of another.
+/// The first node of a list goes, and this one comes to the end of another.
 #[tactic(auto, using(tb_pool::proofs::MapLemmas::list_steps))]
 pub fn pass_on(store: &mut Lists<Node>, from: ListId, to: ListId, last: Node)
     requires from_live { IsLive store.old from }

@@ -11,11 +11,12 @@ ghost use Rattle.tb_output.specs.Machine.{IsMachine};
 ghost use Rattle.tb_output.specs.Firing.{AreTextLists};
 ghost use Rattle.tb_output.specs.Shipping.{clear_list, HasPutOut, HasNotPutOut};
 
-use crate::lists::{filling_glue, push_clear, push_made, shorten};
+use crate::lists::{push_clear, push_made, shorten};
 use crate::{Machine, RunFault};
 use tb_break::find;
 use tb_node::{Kind, Node};
 use tb_pool::{ListId, Lists};
+use tb_scaled::filling_glue;
 
 impl Machine {
     // Without footnotes and floats the front of the page, down to height 0, goes back, and the rest of it is dropped

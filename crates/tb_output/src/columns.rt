@@ -6,13 +6,13 @@ ghost use Rattle.tb_output.specs.Machine.{IsMachine};
 ghost use Rattle.tb_output.specs.Firing.{AreTextLists};
 ghost use Rattle.tb_output.specs.Shipping.{shipped_machine, IsShipped, IsNotShipped, HasPutOut, HasNotPutOut};
 
-use crate::limits::exceeds;
 use crate::lists::close_notes;
 use crate::state::no_suppress;
 use crate::{Machine, RunFault};
 use std::alloc::AllocError;
 use tb_column::{Column, Sent, Sheet, make_column};
 use tb_node::Node;
+use tb_param::exceeds;
 use tb_pool::{ListId, Lists};
 
 impl Machine {

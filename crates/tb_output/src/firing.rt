@@ -9,10 +9,10 @@ ghost use Rattle.tb_output.specs.Shipping.{counted_work, IsOutput, IsNotOutput};
 ghost use Rattle.tb_output.specs.Serving.{whole_work, AreFree, CanFire, CanGoBack, IsFired, IsNoOthers, LeavesNotes, OthersFree, OthersStay};
 
 use crate::footnotes::take_notes;
-use crate::limits::is_below;
 use crate::{Machine, RunFault, Turn};
 use tb_builder::{Builder, Page};
 use tb_node::Node;
+use tb_param::is_below;
 use tb_pool::{ListId, Lists};
 use tb_scaled::EJECT_PENALTY;
 

@@ -1,14 +1,13 @@
 //! Lists of what is put back.
 
 ghost use Rattle.std.specs.Prelude.{◌≡◌, ◌≤◌, ◌+◌, ◌<◌, [], ◌∷◌, ◌++◌, take};
-ghost use Rattle.tb_scaled.specs.Glue.{filling_glue};
 ghost use Rattle.tb_pool.specs.Lists.{IsLive, list_at, with_list};
 ghost use Rattle.tb_column.specs.TextList.{made_node};
 ghost use Rattle.tb_output.specs.Shipping.{clear_list, IsEmptyNotes, without_notes};
 
 use tb_node::{Kind, Node, What};
 use tb_pool::{ListId, Lists};
-use tb_scaled::{Glue, Order};
+use tb_scaled::filling_glue;
 
 /// Takes all but the first `count` nodes off a list.
 #[tactic(auto, using(tb_pool::proofs::MapLemmas::list_steps))]
@@ -30,18 +29,6 @@ pub(crate) fn push_made(store: &mut Lists<Node>, l: ListId, kind: Kind)
     ensures spare { store.new.spare + 1 ≡ store.old.spare }
 {
     store.push_back(l, Node { line: 0, kind });
-}
-
-/// Glue that fills a page: of width 0, with the stretch 1fil (LaTeX, \vfil).
-pub(crate) fn filling_glue() -> Glue
-    ensures { result ≡ filling_glue }
-{
-    Glue {
-        width: 0,
-        stretch: 65_536,
-        order: Order::Fil,
-        shrink: 0,
-    }
 }
 
 /// Puts the nodes of a further clear at the end of a list: the end of the page, and on the next one a blank box and the

@@ -5,7 +5,6 @@ ghost use Rattle.tb_pool.specs.Lists.{IsLive, list_at, with_list};
 ghost use Rattle.tb_node.specs.Small.{IsAmount};
 ghost use Rattle.tb_node.specs.Fit.{shapes, IsSizedNode};
 ghost use Rattle.tb_node.specs.Sums.{size_of};
-ghost use Rattle.tb_scaled.specs.Glue.{filling_glue};
 ghost use Rattle.tb_node.specs.Plain.{on_line, newpage_kinds, clearpage_kinds};
 ghost use Rattle.tb_builder.specs.Owned.{is_plain};
 ghost use Rattle.tb_galley.specs.Expand.{break_strength, plain_leaf, foot_insertion, item_kinds, item_nodes, expanded};
@@ -17,7 +16,7 @@ use tb_galley::{Galley, Item, ItemKind, Leaf, LeafKind};
 use tb_node::{Insertion, Kind, Name, Node, What, list_sums};
 use tb_param::Params;
 use tb_pool::{ListId, Lists};
-use tb_scaled::{Glue, Order};
+use tb_scaled::filling_glue;
 
 /// Hands over the nodes of a galley: those of its items in order, and those of a clear with the line of its end.
 pub(crate) fn expand(
@@ -271,18 +270,6 @@ fn put_foot(
             }),
         },
     )
-}
-
-// Glue of width 0 with the stretch 1fil.
-fn filling_glue() -> Glue
-    ensures { result ≡ filling_glue }
-{
-    Glue {
-        width: 0,
-        stretch: 65_536,
-        order: Order::Fil,
-        shrink: 0,
-    }
 }
 
 // The penalty that a strength from 0 to 4 stands for (LaTeX, \@getpen).

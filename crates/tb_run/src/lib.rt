@@ -3,7 +3,6 @@
 #![tactic(auto)]
 
 mod expanding;
-mod limits;
 mod routine;
 
 pub use routine::{Ending, Routine};

@@ -17,7 +17,6 @@ ghost use Rattle.tb_run.specs.PlainRun.{step_shown};
 ghost use Rattle.tb_run.specs.Turning.{held_in, state_of, IsWhole, IsReady, FillIs, NotesTaken, IsBackList, IsSettled, IsEnded, turn_shown, sent_turn_shown, sent_count, over_limit};
 
 use crate::expanding::expand;
-use crate::limits::exceeds;
 use std::alloc::{AllocError, Global};
 use tb_builder::{Ask, Builder, Event, Page, new_builder};
 use tb_column::Sent;
@@ -25,7 +24,7 @@ use tb_galley::Galley;
 use tb_insert::Class;
 use tb_node::{Act, Node};
 use tb_output::{Machine, RunFault, new_machine};
-use tb_param::Params;
+use tb_param::{Params, exceeds};
 use tb_pool::{ListId, Lists};
 
 /// Between two firings: one store, the page builder with the nodes that wait, and the output routine's machine.

@@ -4,7 +4,7 @@
 ghost use Rattle.std.specs.Prelude.{◌≡◌, ◌<◌, ◌≤◌, ◌≤ℤ◌, ◌<ℤ◌, neg_ℤ, pos, length, slice_index, EachIndex, int_div};
 ghost use Rattle.tb_scaled.specs.Amount.{IsAmount};
 ghost use Rattle.tb_scaled.specs.Scaled.{badness_of, cubed_ratio, rounded_decimals, fraction_of};
-ghost use Rattle.tb_scaled.specs.Glue.{fixed_glue, negated_glue};
+ghost use Rattle.tb_scaled.specs.Glue.{filling_glue, fixed_glue, negated_glue};
 
 /// The greatest dimension, in scaled points: 2^30 - 1 (TeX: The Program §421).
 pub const MAX_DIMEN: i64 = 1_073_741_823;
@@ -48,6 +48,18 @@ pub struct Glue {
     pub order: Order,
     /// Its shrink.
     pub shrink: i64,
+}
+
+/// Glue that fills what is left of a page: of width 0, with the stretch 1fil (LaTeX, \vfil).
+pub fn filling_glue() -> Glue
+    ensures { result ≡ filling_glue }
+{
+    Glue {
+        width: 0,
+        stretch: 65_536,
+        order: Order::Fil,
+        shrink: 0,
+    }
 }
 
 /// Glue of a width, in scaled points, that neither stretches nor shrinks.

@@ -6,7 +6,6 @@
 
 mod input;
 mod laws;
-mod limits;
 mod pages;
 mod refusal;
 mod rows;
