@@ -1,5 +1,6 @@
 mod Rows
 pub mod AddLemmas
+pub mod NameBytes
 pub mod NameMade
 pub mod Weights
 pub mod FitLemmas
