@@ -82,6 +82,22 @@ module _ (s a : Lists Node) (to from between place : ℕ) (ne : Apart3 to from b
       pub back_there : get c.lists from ≡ Some back
       back_there = at_c.first ∙ ap Some ((λ i. list_got b from [] at_b.second i ++ list_got b between back between_b i))
 
+      others_c : (q : ℕ) → IsLive s between → list_at s between ≡ [] → q ≢ to → q ≢ from → get c.lists q ≡ get s.lists q
+      others_c q live empty not_to not_from = elim (cases_eq q between) [
+        | inl x ↦ ap (get c.lists) x ∙ at_c.second ∙ sym (ap (get s.lists) x ∙ live_has s between live ∙ ap Some empty)
+        | inr not_between ↦ at_c.others q not_from not_between ∙ at_b.others q not_to not_from ∙ at_a.others q not_from not_between
+      ]
+
+      to_there : get c.lists to ≡ Some (list_at s to ++ front)
+      to_there =
+          at_c.others to ne.to_from (λ x. ne.between_to (sym x))
+          ∙ at_b.first
+          ∙ ap Some ((λ i. list_kept s a to (at_a.others to ne.to_from (λ x. ne.between_to (sym x))) i ++ list_got a from front at_a.first i))
+
+      pub moved_lists : IsLive s between → list_at s between ≡ [] → c.lists ≡ insert (with_list s from back) to (list_at s to ++ front)
+      moved_lists live empty = insert_twice_from_get s.lists c.lists from to back (list_at s to ++ front) (λ x. ne.to_from (sym x)) back_there to_there
+          (λ q not_from not_to. others_c q live empty not_to not_from)
+
       pub given_lists : (t : Lists Node) (top : ℤ) → IsLive s between → list_at s between ≡ [] → t.lists ≡ with_list c from (pruned_list top (list_at c from))
           → t.lists ≡ insert (with_list s to (list_at s to ++ front)) from (pruned_list top back)
       given_lists t top live empty e = insert_twice_from_get s.lists t.lists to from (list_at s to ++ front) (pruned_list top back) ne.to_from at_to at_from others
@@ -90,14 +106,7 @@ module _ (s a : Lists Node) (to from between place : ℕ) (ne : Apart3 to from b
           at_from = one_got c t from (pruned_list top (list_at c from)) e ∙ ap (λ ns. Some (pruned_list top ns)) (list_got c from back back_there)
 
           at_to : get t.lists to ≡ Some (list_at s to ++ front)
-          at_to =
-              one_other c t from to (pruned_list top (list_at c from)) ne.to_from e
-              ∙ at_c.others to ne.to_from (λ x. ne.between_to (sym x))
-              ∙ at_b.first
-              ∙ ap Some ((λ i. list_kept s a to (at_a.others to ne.to_from (λ x. ne.between_to (sym x))) i ++ list_got a from front at_a.first i))
+          at_to = one_other c t from to (pruned_list top (list_at c from)) ne.to_from e ∙ to_there
 
           others : (q : ℕ) → q ≢ to → q ≢ from → get t.lists q ≡ get s.lists q
-          others q not_to not_from = elim (cases_eq q between) [
-            | inl x ↦ ap (get t.lists) x ∙ one_other c t from between (pruned_list top (list_at c from)) ne.between_from e ∙ at_c.second ∙ sym (ap (get s.lists) x ∙ live_has s between live ∙ ap Some empty)
-            | inr not_between ↦ one_other c t from q (pruned_list top (list_at c from)) not_from e ∙ at_c.others q not_from not_between ∙ at_b.others q not_to not_from ∙ at_a.others q not_from not_between
-          ]
+          others q not_to not_from = one_other c t from q (pruned_list top (list_at c from)) not_from e ∙ others_c q live empty not_to not_from

@@ -155,7 +155,7 @@ impl Builder {
         let size = list_size(store, own.list);
         let index = store.len(self.page);
         self.course.join(store, i, index, &own.class, size);
-        shift(store, self.waiting, self.page);
+        shift(store, self.waiting, self.page, self.rest);
     }
 
     // On a page without a box, the first node that waits is no box, insertion or act: a mark, a note or a whatsit goes
@@ -172,7 +172,7 @@ impl Builder {
     {
         if is_lasting(n) {
             self.course.lasting = true;
-            shift(store, self.waiting, self.page);
+            shift(store, self.waiting, self.page, self.rest);
             return;
         }
         drop_first(store, self.waiting);
@@ -247,6 +247,6 @@ impl Builder {
         ensures ids { ids_of self.new ≡ ids_of self.old }
     {
         self.course.put(n);
-        shift(store, self.waiting, self.page);
+        shift(store, self.waiting, self.page, self.rest);
     }
 }

@@ -1,6 +1,6 @@
 //! Nodes at the front of a list: what they are, and how they go from one list to another.
 
-ghost use Rattle.std.specs.Prelude.{◌≡◌, ◌≢◌, ◌<◌, ◌≤◌, ◌+◌, ◌-ℤ◌, pos, ℕ, List, [], ◌∷◌, ◌++◌, true, slice_get, drop};
+ghost use Rattle.std.specs.Prelude.{◌≡◌, ◌≢◌, ◌<◌, ◌≤◌, ◌+◌, ◌-ℤ◌, pos, ℕ, List, [], ◌∷◌, ◌++◌, true, slice_get, drop, length};
 ghost use Rattle.std.specs.FinMap.{insert};
 ghost use Rattle.tb_pool.specs.Lists.{IsLive, list_at, with_list};
 ghost use Rattle.tb_scaled.specs.Scaled.{max_ℤ};
@@ -129,17 +129,21 @@ pub fn drop_first(store: &mut Lists<Node>, l: ListId)
     store.pop_front(l);
 }
 
-/// The first node of a list goes to the end of another.
-#[tactic(auto, using(tb_pool::proofs::MapLemmas::list_steps))]
-pub fn shift(store: &mut Lists<Node>, from: ListId, to: ListId)
+/// The first node of a list that has one goes to the end of another, by links alone; on the way the rest is in a list
+/// that is empty before and afterwards.
+pub fn shift(store: &mut Lists<Node>, from: ListId, to: ListId, between: ListId)
     requires from_live { IsLive store.old from }
     requires to_live { IsLive store.old to }
-    requires apart { from ≢ to }
+    requires between_live { IsLive store.old between }
+    requires apart { to ≢ from }
+    requires between_to { between ≢ to }
+    requires between_from { between ≢ from }
+    requires between_empty { list_at store.old between ≡ [] }
+    requires some { 0 < length (list_at store.old from) }
     ensures shifted { (n : NodeOf) (ns : List NodeOf) → list_at store.old from ≡ n ∷ ns → store.new.lists ≡ insert (with_list store.old from ns) to (list_at store.old to ++ n ∷ []) }
     ensures spare { store.new.spare ≡ store.old.spare }
 {
-    let Some(n) = store.pop_front(from) else {
-        return;
-    };
-    store.push_back(to, n);
+    store.cut(from, 1, between);
+    store.append(to, from);
+    store.append(from, between);
 }

@@ -202,7 +202,7 @@ impl Builder {
             return;
         };
         let Some(i) = insertion_of(&n) else {
-            shift(store, self.page, body);
+            shift(store, self.page, body, self.rest);
             return;
         };
         let share = self.course.share_at(i.class, index);
