@@ -130,19 +130,28 @@ fn put_sheet(
     }
 }
 
-/// The lines of what the output routine sends out, in one piece: a warning's line, or those of a page.
+/// Appends the lines of what the output routine sends out, so that one text serves page after page: a warning's line, or
+/// those of a page.
 ///
 /// A page has its own line, and for each column a line with its height, its natural height and how its glue is set, and
 /// one for each box, rule, float, note and mark with its top, all in scaled points. It fails only where there is no
-/// memory for the text.
+/// memory for the text, which may have a part of the lines then.
+pub fn put_sent(out: &mut Vec<u8>, store: &Lists<Node>, s: &Sent) -> Result<(), AllocError>
+    requires { IsPrintableSent store.now s.now }
+    ensures { OnOk result (out.new.items ≡ out.old.items ++ sent_lines (sent_shown store.now s.now)) }
+{
+    match s {
+        Sent::Warn(warning) => put_warning(out, warning),
+        Sent::Ship { page, sheet } => put_sheet(out, store, *page, sheet),
+    }
+}
+
+/// These lines as a text of their own. It fails only where there is no memory for it.
 pub fn sent_text(alloc: Global, store: &Lists<Node>, s: &Sent) -> Result<Vec<u8>, AllocError>
     requires { IsPrintableSent store.now s.now }
     ensures { IfOk result (λ text. text.items ≡ sent_lines (sent_shown store.now s.now)) }
 {
     let mut out = Vec::new(alloc);
-    match s {
-        Sent::Warn(warning) => put_warning(&mut out, warning)?,
-        Sent::Ship { page, sheet } => put_sheet(&mut out, store, *page, sheet)?,
-    }
+    put_sent(&mut out, store, s)?;
     Ok(out)
 }
