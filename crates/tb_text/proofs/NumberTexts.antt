@@ -70,7 +70,7 @@ front_part negative ds unit h stop =
 no_sign : (d : ℕ) (t : Bool) → (is_digit d && t) ≡ true → ((d == 43) ≡ false) × ((d == 45) ≡ false)
 no_sign d t h = (grind (arith, nat_tests), grind (arith, nat_tests))
 
-plain_part : (ds unit : List ℕ) → list_all is_digit ds ≡ true → 0 < length ds → prefix_len is_digit unit ≡ 0 → number_part (ds ++ unit) ≡ after_whole false ds unit
+pub plain_part : (ds unit : List ℕ) → list_all is_digit ds ≡ true → 0 < length ds → prefix_len is_digit unit ≡ 0 → number_part (ds ++ unit) ≡ after_whole false ds unit
 plain_part [] unit h some stop = absurd (omega arith)
 plain_part (d ∷ ds) unit h some stop =
     let no : ((d == 43) ≡ false) × ((d == 45) ≡ false) = no_sign d (list_all is_digit ds) h in
@@ -102,7 +102,7 @@ some_digit ds h = grind (arith, nat_tests)
 capped_small : (m n : ℕ) → m ≡ n → n ≤ 4611686018427387904 → min m 4611686018427387904 ≡ n
 capped_small m n e k = omega arith
 
-by_integer : (negative : Bool) (n : ℕ) (ds : List ℕ) → IsNumeralOf n ds → n ≤ amount_limit → integer_by (after_whole negative ds []) ≡ Ok (signed negative n)
+pub by_integer : (negative : Bool) (n : ℕ) (ds : List ℕ) → IsNumeralOf n ds → n ≤ amount_limit → integer_by (after_whole negative ds []) ≡ Ok (signed negative n)
 by_integer negative n ds h k =
     ap (λ t. if (t && true) || false || false then Err BadNumber else Ok (capped negative (number_of ds))) (some_digit ds h.some)
     ∙ ap (λ m. Ok (signed negative m)) (let same : number_of ds ≡ n = h.value in capped_small (number_of ds) n same k)
@@ -112,7 +112,7 @@ within_small negative m n e k =
     let small : nat_lt 1073741823 m ≡ false = grind (arith, nat_tests) in
     ap (λ t. if t then Err Dimension else Ok (signed negative m)) small ∙ ap (λ j. Ok (signed negative j)) e
 
-by_dimension : (negative : Bool) (n : ℕ) (ds : List ℕ) → IsNumeralOf n ds → n ≤ 1073741823 → dimension_by (after_whole negative ds []) ≡ Ok (signed negative n)
+pub by_dimension : (negative : Bool) (n : ℕ) (ds : List ℕ) → IsNumeralOf n ds → n ≤ 1073741823 → dimension_by (after_whole negative ds []) ≡ Ok (signed negative n)
 by_dimension negative n ds h k =
     ap (λ t. if t && true then Err BadNumber else within_dimen negative (number_of ds)) (some_digit ds h.some)
     ∙ within_small negative (number_of ds) n h.value k
@@ -126,7 +126,7 @@ unit_of Filll = codes "sfilll"
 ordered : (o : Order) (negative : Bool) (m n : ℕ) → m ≡ n → n ≤ 1073741823 → with_order o (within_dimen negative m) ≡ Ok (signed negative n, o)
 ordered o negative m n e k = ap (λ r. with_order o r) (within_small negative m n e k)
 
-by_stretch : (o : Order) (negative : Bool) (n : ℕ) (ds : List ℕ) → IsNumeralOf n ds → n ≤ 1073741823 → stretch_by (after_whole negative ds (unit_of o)) ≡ Ok (signed negative n, o)
+pub by_stretch : (o : Order) (negative : Bool) (n : ℕ) (ds : List ℕ) → IsNumeralOf n ds → n ≤ 1073741823 → stretch_by (after_whole negative ds (unit_of o)) ≡ Ok (signed negative n, o)
 by_stretch Normal negative n ds h k =
     ap (λ t. if t && true then Err BadNumber else with_order Normal (if t && true then Err BadNumber else within_dimen negative (number_of ds))) (some_digit ds h.some)
     ∙ ordered Normal negative (number_of ds) n h.value k
@@ -139,7 +139,7 @@ by_stretch Filll negative n ds h k =
 
 -- ---- what is written is read back
 
-nothing_more : (bs : List ℕ) → bs ++ [] ≡ bs
+pub nothing_more : (bs : List ℕ) → bs ++ [] ≡ bs
 nothing_more [] = refl
 nothing_more (b ∷ bs) = ap (λ cs. b ∷ cs) (nothing_more bs)
 

@@ -1,0 +1,72 @@
+-- A field of a few digits and nothing else.
+use Rattle.std.proofs.Common.{◌≡◌, ℕ, ◌+◌, ◌-◌, ◌*◌, ◌^◌, ◌<◌, ◌≤◌, pos, ℤ, Bool, true, false, ◌&&◌, List, [], ◌∷◌, length, take, get_or, Ok, refl, ap, sym, ◌∙◌, arith}
+use Rattle.std.specs.List.{list_all}
+use Rattle.std.specs.Int.Digits.{number_from_digits, AllBelowBase}
+use Rattle.std.proofs.lemmas.Int.Digits.{number_lt, number_push}
+use Rattle.std.proofs.lemmas.List.{take_all, take_more, map-append, length-take}
+use Rattle.std.proofs.lemmas.List.Folds.{list_all_more}
+use Rattle.std.proofs.Math.Nat.{pow-le-pow_right}
+use Rattle.tb_scaled.specs.declared.Order.TheVariants.{Normal}
+use Rattle.tb_text.specs.Numbers.{is_digit, digit_values, number_of, after_whole, number_part, integer_by, integer_of, dimension_by, dimension_of, stretch_by, stretch_of}
+use Rattle.tb_text.proofs.Digits.{digit_small, length_values}
+use Rattle.tb_text.proofs.NumberTexts.{IsNumeralOf, nothing_more, plain_part, by_integer, by_dimension, by_stretch}
+
+-- ---- one digit more
+
+pub digits_more : (bs : List ℕ) (k : ℕ) → k < length bs → list_all is_digit (take k bs) ≡ true → is_digit (get_or bs k 0) ≡ true → list_all is_digit (take (k + 1) bs) ≡ true
+digits_more bs k h before last = list_all_more is_digit bs k 0 h ∙ ap (λ t. t && is_digit (get_or bs k 0)) before ∙ last
+
+pub value_more : (bs : List ℕ) (k n : ℕ) → k < length bs → n ≡ number_of (take k bs) → n * 10 + (get_or bs k 0 - 48) ≡ number_of (take (k + 1) bs)
+value_more bs k n h e =
+    ap (λ m. m * 10 + (get_or bs k 0 - 48)) e ∙ sym (number_push 10 (digit_values (take k bs)) (get_or bs k 0 - 48))
+    ∙ ap (number_from_digits 10) (sym (map-append (λ d. d - 48) (take k bs) (get_or bs k 0 ∷ [])) ∙ sym (ap digit_values (take_more bs k 0 h)))
+
+-- ---- few digits stay small
+
+halves : (a b : Bool) → (a && b) ≡ true → (a ≡ true) × (b ≡ true)
+halves true b h = (refl, h)
+halves false b h = cc
+
+below_ten : (ds : List ℕ) → list_all is_digit ds ≡ true → AllBelowBase 10 (digit_values ds)
+below_ten [] h = tt
+below_ten (d ∷ ds) h =
+    let both : (is_digit d ≡ true) × (list_all is_digit ds ≡ true) = halves (is_digit d) (list_all is_digit ds) h in
+    (digit_small d both.0, below_ten ds both.1)
+
+below_power : (ds : List ℕ) (k : ℕ) → list_all is_digit ds ≡ true → length ds ≤ k → number_of ds < 10 ^ k
+below_power ds k h short =
+    let below : number_of ds < 10 ^ length (digit_values ds) = number_lt 10 (digit_values ds) (below_ten ds h) in
+    let fewer : length (digit_values ds) ≤ k = omega (arith, length_values ds) in
+    let power : 10 ^ length (digit_values ds) ≤ 10 ^ k = pow-le-pow_right (omega arith) fewer in
+    omega arith
+
+pub before_last : (bs : List ℕ) (k n : ℕ) → k < length bs → length bs ≤ 9 → list_all is_digit (take k bs) ≡ true → n ≡ number_of (take k bs) → n < 100000000
+before_last bs k n h few digits e =
+    let short : length (take k bs) ≤ 8 = omega (arith, length-take k bs) in
+    let below : number_of (take k bs) < 100000000 = below_power (take k bs) 8 digits short in
+    omega arith
+
+-- ---- the field as each kind of number
+
+numeral_part : (n : ℕ) (ds : List ℕ) → IsNumeralOf n ds → number_part ds ≡ after_whole false ds []
+numeral_part n ds h = ap number_part (sym (nothing_more ds)) ∙ plain_part ds [] h.digits h.some refl
+
+-- the field gives this value as each kind of number
+pub record IsRead (v : ℤ) (field : List ℕ) : Type 0 where
+  pub integer : integer_of field ≡ Ok v
+  pub dimension : dimension_of field ≡ Ok v
+  pub stretch : stretch_of field ≡ Ok (v, Normal)
+
+all_read : (n : ℕ) (field : List ℕ) → IsNumeralOf n field → n ≤ 1073741823 → IsRead (pos n) field
+all_read n field numeral small = record {
+  integer = ap integer_by (numeral_part n field numeral) ∙ by_integer false n field numeral (omega arith);
+  dimension = ap dimension_by (numeral_part n field numeral) ∙ by_dimension false n field numeral small;
+  stretch = ap stretch_by (numeral_part n field numeral) ∙ by_stretch Normal false n field numeral small;
+}
+
+pub few_read : (field : List ℕ) (k n : ℕ) → 0 < length field → length field ≤ 9 → length field ≤ k → list_all is_digit (take k field) ≡ true → n ≡ number_of (take k field) → IsRead (pos n) field
+few_read field k n some few h digits e =
+    let whole : take k field ≡ field = take_all k field h in
+    let numeral : IsNumeralOf n field = record { digits = ap (list_all is_digit) (sym whole) ∙ digits; value = sym (e ∙ ap number_of whole); some = some } in
+    let below : number_of field < 1000000000 = below_power field 9 numeral.digits few in
+    all_read n field numeral (omega (arith, numeral.value))
