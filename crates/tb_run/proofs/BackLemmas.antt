@@ -92,7 +92,7 @@ module _ (r : Routine) (t u : Lists Node) (d : Builder) (l : ℕ) (whole : IsWho
   same = all-other (owned (ids_of d) t) (kept l back.builder)
 
   abbrev after : Routine
-  after = record { store = u; builder = d; machine = r.machine }
+  after = record { store = u; builder = d; machine = r.machine; most = r.most }
 
   pub closed-contents : held_in after ≡ contents_of d t
   closed-contents = frame_contents d t u sound same

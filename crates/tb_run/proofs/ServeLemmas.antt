@@ -185,7 +185,7 @@ module _ (p : Params) (r q n : Routine) (page : Page) (o : Option ℕ) (h : IsFi
     sized = body-sized;
     joins = joined.joins;
     sized_notes = joined.sized;
-    few = let a = body-few in let b = joined.few in let c = notes-count in let d = h.served.few in omega (arith, a, b, c, d);
+    few = let a = body-few in let b = joined.few in let c = notes-count in let d = h.served.few in let e = h.few in omega (arith, a, b, c, d, e);
     body_apart = subst (λ (v : MachineView). IsNotAmong page.body (machine_lists v)) (sym t.machine) h.body;
     notes_apart = joined.apart;
   }

@@ -12,7 +12,7 @@ use Rattle.tb_param.specs.declared.Params.{Params}
 use Rattle.tb_builder.specs.declared.Page.{Page}
 use Rattle.tb_builder.specs.Pageable.{IsSizedOnPage}
 use Rattle.tb_builder.specs.Fired.{Fired}
-use Rattle.tb_builder.specs.Contents.{Contents, plain_list, node_count, box_count}
+use Rattle.tb_builder.specs.Contents.{Contents, plain_list, node_count}
 use Rattle.tb_builder.specs.Owned.{Lacks, AllLive, ids_of, owned}
 use Rattle.tb_builder.specs.Handed.{NoPage}
 use Rattle.tb_builder.proofs.FrameLemmas.{frame_owned, frame_contents, frame_sound}
@@ -34,10 +34,18 @@ use Rattle.tb_run.specs.Run.{page_limit, node_limit, step, held_count}
 use Rattle.tb_run.specs.PlainRun.{Shown, last, next, step_shown, plain_state}
 use Rattle.tb_run.specs.PageMade.{work_shown}
 use Rattle.tb_run.specs.Servable.{AreTame, AreRunnable, IsServedWork, IsCounted}
-use Rattle.tb_run.specs.Turning.{held_in, state_of, AreNotBuilders, IsWhole, IsSettled, IsReady, IsFiring, NotesTaken, AreNotesOf, IsBackList, shown_by, turn_shown, over_limit}
-use Rattle.tb_run.proofs.WholeLemmas.{state-bare, state-plain}
+use Rattle.tb_run.specs.Turning.{held_in, state_of, AreNotBuilders, IsWhole, IsBounded, IsSettled, IsReady, IsFiring, NotesTaken, AreNotesOf, IsBackList, ending_shown, shown_by, turn_shown, over_limit}
+use Rattle.tb_run.proofs.WholeLemmas.{state-bare, state-plain, whole-bounded, few-within}
 use Rattle.tb_run.proofs.AfterFiring.{served-work, counted-work}
 use Rattle.tb_run.proofs.ServeLemmas.{without-notes, notes-whole, body-shown, body-apart-now}
+
+if-counted : {A : Type 0} (o : Option Ending) → A → IfNone o A
+if-counted None a = a
+if-counted (Some e) a = tt
+
+-- what waits is held
+waits-held : (s : State) → node_count s.waiting ≤ held_count s
+waits-held s = omega arith
 
 pred-minus : (n : ℕ) → n - 1 ≡ pred n
 pred-minus zero = refl
@@ -73,15 +81,15 @@ module _ (p : Params) (r q n : Routine) (page : Page) (o : Option ℕ) (runs : A
   out-same : out n.machine.params (state_shown n.store (held_in r).boxes (held_in r).waiting n.machine) f ≡ w
   out-same = λ i. out (params-are i) (state-same i) f
 
-  served : w.refused ≡ false → IsServedWork p f w
+  served : w.refused ≡ false → IsServedWork (node_count (held_in r).waiting) p f w
   served e =
-      subst (λ s. IsServedWork p f (out p s f)) (sym (state-plain p r ready.settled))
-      (served-work p (held_in r).waiting r.machine.page r.machine.dead_cycles f h.served (sym (ap (λ s. (out p s f).refused) (state-plain p r ready.settled)) ∙ e))
+      subst (λ s. IsServedWork (node_count (held_in r).waiting) p f (out p s f)) (sym (state-plain p r ready.settled))
+      (served-work (node_count (held_in r).waiting) p (held_in r).waiting r.machine.page r.machine.dead_cycles f h.served (sym (ap (λ s. (out p s f).refused) (state-plain p r ready.settled)) ∙ e))
 
   counts : IsCounted r.machine.page w
   counts =
       subst (λ s. IsCounted r.machine.page (out p s f)) (sym (state-plain p r ready.settled))
-      (counted-work p (held_in r).waiting r.machine.page r.machine.dead_cycles f h.served)
+      (counted-work (node_count (held_in r).waiting) p (held_in r).waiting r.machine.page r.machine.dead_cycles f h.served)
 
   -- ---- the page limit
 
@@ -147,7 +155,7 @@ module _ (p : Params) (r q n : Routine) (page : Page) (o : Option ℕ) (runs : A
     module _ (turn : Turn) (it : IsTurn turn n.machine now n.store store (firing_work n.machine n.store page o)) (machine : IsMachine now store) (floatless : IsFloatless now store) (back : IsPutBack now n.store store page.body turn.put_back)
         (fault : now.fault ≡ None) (params : now.params ≡ n.machine.params) (others : OthersStand n.store store page.body o) (lists : TakesBody page.body n.machine now) where
       abbrev after : Routine
-      after = record { store = store; builder = n.builder; machine = now }
+      after = record { store = store; builder = n.builder; machine = now; most = n.most }
 
       abbrev own : List ℕ
       own = owned (ids_of n.builder) n.store
@@ -259,27 +267,34 @@ module _ (p : Params) (r q n : Routine) (page : Page) (o : Option ℕ) (runs : A
         last-length : length last_q.machine.events ≡ length w.sent
         last-length = ap (λ (v : MachineView). length v.events) machine_same ∙ events-length (sent-is works.sent)
 
-        pub after-one : length last_q.machine.events ≤ 1
+        after-one : length last_q.machine.events ≤ 1
         after-one = let l = last-length in let c = counts.one in omega (arith, l, c)
 
-        pub after-page : last_q.machine.page ≡ r.machine.page + length last_q.machine.events
+        after-page : last_q.machine.page ≡ r.machine.page + length last_q.machine.events
         after-page = ap (λ (s : State). s.page) state-after ∙ counts.page works.served ∙ ap (λ k. r.machine.page + k) (sym last-length)
 
-        work : IsServedWork p f w
+        work : IsServedWork (node_count (held_in r).waiting) p f w
         work = served works.served
 
         waiting-served : (held_in last_q).waiting ≡ f.held ++ work.back ++ f.rest
         waiting-served = ap (λ (s : State). s.waiting) state-after ∙ ap (λ (s : State). s.waiting) work.state
 
-        count-is : node_count (held_in last_q).waiting ≤ 4194310
-        count-is = let e = ap node_count waiting-served in let few = work.few in omega (arith, e, few)
+        held-is : held_count (state_of last_q) ≡ node_count (f.held ++ work.back ++ f.rest)
+        held-is = ap held_count (state-after ∙ work.state) ∙ plus-none (node_count (f.held ++ work.back ++ f.rest))
+          where
+            plus-none : (k : ℕ) → k + 0 + 0 ≡ k
+            plus-none k = omega arith
 
-        pub after-few : node_count (held_in last_q).waiting + box_count (held_in last_q).boxes ≤ 8388608
-        after-few = let a = count-is in let b = ap box_count boxes-are in omega (arith, a, b)
+        -- the firing added six nodes at most
+        pub after-bounded : IsBounded 8388608 (record last_q { most = r.most + 6 })
+        after-bounded = record {
+          held = let e = held-is in let few = work.few in let was = waits-held (state_of r) in let most = ready.settled.bounded.held in omega (arith, e, few, was, most);
+          few = let few = ready.settled.bounded.few in omega (arith, few);
+        }
 
         -- ---- too many nodes
 
-        module _ (limit : Option Ending) (over : limit ≡ over_limit p (held_count (state_of last_q))) where
+        module _ (limit : Option Ending) (over : limit ≡ over_limit p (held_count (state_of last_q))) (end : Routine) (same_end : end ≡ record last_q { most = end.most }) (end_bounded : IsBounded 8388608 end) (within : IfNone limit (pos end.most ≤ℤ p.maxnodes)) where
           shown-by : (b : Bool) → shown_by last_q (events_shown last_q.store last_q.machine.events) (if b then Some (endings.NodeLimit (held_count (state_of last_q))) else None)
               ≡ (if b then last (events_shown last_q.store last_q.machine.events) (node_limit (held_count (state_of last_q))) else next (events_shown last_q.store last_q.machine.events) (state_of last_q))
           shown-by true = refl
@@ -288,40 +303,51 @@ module _ (p : Params) (r q n : Routine) (page : Page) (o : Option ℕ) (runs : A
           sent-after : events_shown last_q.store last_q.machine.events ≡ w.sent
           sent-after = events_same ∙ sent-is works.sent
 
-          pub turn-shown : turn_shown last_q limit ≡ step_shown (step p (state_of r))
-          turn-shown =
+          last-shown : turn_shown last_q limit ≡ step_shown (step p (state_of r))
+          last-shown =
               ap (shown_by last_q (events_shown last_q.store last_q.machine.events)) over
               ∙ shown-by (int_lt p.maxnodes (pos (held_count (state_of last_q))))
               ∙ (λ i. if int_lt p.maxnodes (pos (held_count (state-after i))) then last (sent-after i) (node_limit (held_count (state-after i))) else next (sent-after i) (state-after i))
               ∙ sym (else-shown w.refused (last w.sent (page_limit (pred w.state.page))) _ works.served)
               ∙ sym (fires it.alive)
 
-          few-by : (b : Bool) (k : ℕ) → int_lt p.maxnodes (pos k) ≡ b → IfNone (if b then Some (endings.NodeLimit k) else None) (k ≤ 4194304)
-          few-by true k e = tt
-          few-by false k e = within p.maxnodes runs.maxnodes.high e
+          shown-bounded : (x : Option Ending) (k : ℕ) → turn_shown (record last_q { most = k }) x ≡ turn_shown last_q x
+          shown-bounded None k = refl
+          shown-bounded (Some e) k = ap (last (events_shown last_q.store last_q.machine.events)) (ending e)
             where
-              within : (m : ℤ) → m ≤ℤ pos 4194304 → int_lt m (pos k) ≡ false → k ≤ 4194304
-              within m a b = grind (arith, ints, a, b)
+              ending : (e : Ending) → ending_shown (record last_q { most = k }) e ≡ ending_shown last_q e
+              ending endings.Done = refl
+              ending (endings.DeadCycles n) = refl
+              ending (endings.PageLimit n) = refl
+              ending (endings.NodeLimit n) = refl
 
-          settled-by : (x : Option Ending) → IfNone x (held_count (state_of last_q) ≤ 4194304) → IfNone x (IsSettled p last_q)
-          settled-by (Some e) few = tt
-          settled-by None few = record {
-            whole = subst (λ z. IsWhole z last_q) (ap (λ (v : MachineView). v.params) machine_same ∙ params ∙ params-are) whole;
+          pub turn-shown : turn_shown end limit ≡ step_shown (step p (state_of r))
+          turn-shown = ap (λ x. turn_shown x limit) same_end ∙ shown-bounded limit end.most ∙ last-shown
+
+          pub end-one : length end.machine.events ≤ 1
+          end-one = subst (λ x. length x.machine.events ≤ 1) (sym same_end) after-one
+
+          last-settled : IsBounded 4194304 (record last_q { most = end.most }) → IsSettled p (record last_q { most = end.most })
+          last-settled bounded = record {
+            whole = whole-bounded p last_q end.most (subst (λ z. IsWhole z last_q) (ap (λ (v : MachineView). v.params) machine_same ∙ params ∙ params-are) whole);
             between = left ∙ (λ i. record { classes = foot_class p ∷ []; boxes = sym boxes-are i; page = []; waiting = sym (ap (λ (c : Contents). c.waiting) left) i; held = []; frozen = None; stopped = false });
             boxes = boxes-are;
             waiting = record {
               sized = subst (All IsSizedOnPage) (sym waiting-served) work.sized;
               tame = subst AreTame (sym waiting-served) work.tame;
-              few = omega (arith, few);
+              few = let e = ap node_count waiting-served in let k = held-is in let held = bounded.held in let few = bounded.few in omega (arith, e, k, held, few);
             };
+            bounded = bounded;
           }
 
-          -- where the run goes on, the routine is ready for its next turn once the events are taken
-          pub turn-settled : IfNone limit (IsSettled p last_q)
-          turn-settled =
-              settled-by limit
-              (subst (λ x. IfNone x (held_count (state_of last_q) ≤ 4194304)) (sym over) (few-by (int_lt p.maxnodes (pos (held_count (state_of last_q)))) (held_count (state_of last_q)) refl))
+          settled-by : (x : Option Ending) → IfNone x (pos end.most ≤ℤ p.maxnodes) → IfNone x (IsSettled p end)
+          settled-by (Some e) h = tt
+          settled-by None h = subst (IsSettled p) (sym same_end) (last-settled (subst (IsBounded 4194304) same_end (record { held = end_bounded.held; few = few-within end.most p.maxnodes h runs.maxnodes.high })))
 
-pub if-counted : {A : Type 0} (o : Option Ending) → A → IfNone o A
-if-counted None a = a
-if-counted (Some e) a = tt
+          -- where the run goes on, the routine is ready for its next turn once the events are taken
+          pub turn-settled : IfNone limit (IsSettled p end)
+          turn-settled = settled-by limit within
+
+          -- the number of the next page
+          pub turn-counted : IfNone limit (end.machine.page ≡ r.machine.page + length end.machine.events)
+          turn-counted = if-counted limit (subst (λ x. x.machine.page ≡ r.machine.page + length x.machine.events) (sym same_end) after-page)

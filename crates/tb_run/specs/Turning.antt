@@ -1,12 +1,12 @@
 -- The routine's store, builder and machine, and what one of its turns shows.
-use Rattle.std.specs.Prelude.{◌≡◌, ℕ, pos, false, List, [], ◌∷◌, Option, Some, None, int_lt, if◌then◌else◌}
+use Rattle.std.specs.Prelude.{◌≡◌, ℕ, ◌≤◌, pos, false, List, [], ◌∷◌, Option, Some, None, int_lt, if◌then◌else◌}
 use Rattle.std.specs.List.{AllByRecursion}
 use Rattle.std.specs.FinMap.{get}
 use Rattle.tb_pool.specs.Lists.{Lists, IsLive, list_at}
 use Rattle.tb_node.specs.declared.Node.{Node}
 use Rattle.tb_param.specs.declared.Params.{Params}
 use Rattle.tb_builder.specs.declared.Page.{Page}
-use Rattle.tb_builder.specs.Contents.{Contents, contents_of}
+use Rattle.tb_builder.specs.Contents.{Contents, contents_of, node_count}
 use Rattle.tb_builder.specs.Owned.{Lacks, inner_ids, ids_of, owned, AllPlain}
 use Rattle.tb_builder.specs.Running.{IsSound}
 use Rattle.tb_builder.specs.Next.{PageIs}
@@ -23,7 +23,7 @@ use Rattle.tb_run.specs.declared.routine.Routine.{Routine}
 use Rattle.tb_run.specs.declared.routine.Turn.{Turn}
 use Rattle.tb_run.specs.declared.routine.Ending.{Ending}
 use Rattle.tb_run.specs.declared.routine.Ending.TheVariants as endings
-use Rattle.tb_run.specs.Run.{End, done, dead_cycles, page_limit, node_limit, step}
+use Rattle.tb_run.specs.Run.{End, done, dead_cycles, page_limit, node_limit, step, held_count}
 use Rattle.tb_run.specs.PlainRun.{Shown, last, next, step_shown}
 use Rattle.tb_run.specs.PageMade.{between_pages, firing_shown}
 use Rattle.tb_run.specs.Servable.{AreServable, IsServedPage}
@@ -49,12 +49,18 @@ pub record IsWhole (p : Params) (r : Routine) : Type 0 where
   pub fault : r.machine.fault ≡ None
   pub apart : AreNotBuilders r (machine_lists r.machine)
 
--- between two firings: the builder has no page, all boxes are void, and what waits can be served
+-- no more nodes are held than the routine says, which says no more than the limit
+pub record IsBounded (limit : ℕ) (r : Routine) : Type 0 where
+  pub held : held_count (state_of r) ≤ r.most
+  pub few : r.most ≤ limit
+
+-- between two firings: the builder has no page, all boxes are void, what waits can be served, and the most that is held is known
 pub record IsSettled (p : Params) (r : Routine) : Type 0 where
   pub whole : IsWhole p r
   pub between : held_in r ≡ between_pages p (state_of r)
   pub boxes : (held_in r).boxes ≡ foot_box None
   pub waiting : AreServable (held_in r).waiting
+  pub bounded : IsBounded 4194304 r
 
 -- the same where each event was taken
 pub record IsReady (p : Params) (r : Routine) : Type 0 where
@@ -71,7 +77,8 @@ after_page_fired p f = record { classes = foot_class p ∷ []; boxes = f.boxes; 
 pub record IsFiring (p : Params) (r : Routine) (page : Page) (q : Routine) : Type 0 where
   pub fired : Fired
   pub step : step_shown (step p (state_of r)) ≡ firing_shown p (state_of r) fired
-  pub served : IsServedPage fired
+  pub served : IsServedPage (node_count (held_in r).waiting) fired
+  pub few : node_count (held_in r).waiting ≤ 4194304
   pub page_is : PageIs page fired q.store
   pub contents : held_in q ≡ after_page_fired p fired
   pub whole : IsWhole p q

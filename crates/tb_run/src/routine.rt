@@ -1,8 +1,8 @@
 //! The output routine over one store: the page builder fills a page, and the machine serves it.
 
-ghost use Rattle.std.specs.Prelude.{◌≡◌, ◌≤◌, ◌+◌, ◌++◌, [], true, List, Option, length, IfOk, OnOk, IfNone, IfSome};
+ghost use Rattle.std.specs.Prelude.{◌≡◌, ◌≤◌, ◌≤ℤ◌, ◌+◌, ◌++◌, [], true, pos, List, Option, length, IfOk, OnOk, IfNone, IfSome};
 ghost use Rattle.tb_node.specs.Plain.{Leaf};
-ghost use Rattle.tb_builder.specs.Contents.{plain_list, node_count, box_count};
+ghost use Rattle.tb_builder.specs.Contents.{plain_list};
 ghost use Rattle.tb_builder.specs.Owned.{has_class};
 ghost use Rattle.tb_builder.specs.Running.{IsSound};
 ghost use Rattle.tb_builder.specs.Handed.{NoPage};
@@ -14,7 +14,7 @@ ghost use Rattle.tb_run.specs.Servable.{AreRunnable, AreServable};
 ghost use Rattle.tb_run.specs.Expanding.{AreItems};
 ghost use Rattle.tb_run.specs.Run.{held_count, step};
 ghost use Rattle.tb_run.specs.PlainRun.{step_shown};
-ghost use Rattle.tb_run.specs.Turning.{held_in, state_of, IsWhole, IsReady, FillIs, NotesTaken, IsBackList, IsSettled, IsEnded, turn_shown, sent_turn_shown, sent_count, over_limit};
+ghost use Rattle.tb_run.specs.Turning.{held_in, state_of, IsWhole, IsReady, FillIs, NotesTaken, IsBackList, IsBounded, IsSettled, IsEnded, turn_shown, sent_turn_shown, sent_count, over_limit};
 
 use crate::expanding::expand;
 use std::alloc::{AllocError, Global};
@@ -36,7 +36,15 @@ pub struct Routine {
     pub builder: Builder,
     /// Its events can be taken after each turn.
     pub machine: Machine,
+    /// No more nodes are held than this.
+    pub most: u64,
 }
+
+// No galley has more nodes.
+const MOST_NODES: u64 = 4_194_304;
+
+// A firing adds no more nodes to those that wait: the glue above the first box, and those of a clear that comes again.
+const ADDED_NODES: u64 = 6;
 
 /// How a run ends.
 #[derive(Clone, Copy)]
@@ -91,6 +99,7 @@ impl Routine {
             store,
             builder,
             machine,
+            most: MOST_NODES,
         })
     }
 
@@ -145,14 +154,23 @@ impl Routine {
     }
 
     /// The ending where more nodes are held than `maxnodes`: those that wait, those of footnotes counted too.
-    pub fn node_limit(&self, p: &Params) -> Option<Ending>
-        requires whole { IsWhole self.now.machine.params self.now }
-        requires few { node_count (held_in self.now).waiting + box_count (held_in self.now).boxes ≤ 8388608 }
-        ensures { result ≡ over_limit p.now (held_count (state_of self.now)) }
+    ///
+    /// They are counted only where as many as may be held are more, and their number is kept as the most then.
+    pub fn node_limit(&mut self, p: &Params) -> Option<Ending>
+        requires whole { IsWhole self.old.machine.params self.old }
+        requires bounded { IsBounded 8388608 self.old }
+
+        ensures limit { result ≡ over_limit p.now (held_count (state_of self.old)) }
+        ensures same { self.new ≡ record self.old { most = self.new.most } }
+        ensures bounded { IsBounded 8388608 self.new }
+        ensures within { IfNone result (pos self.new.most ≤ℤ p.now.maxnodes) }
     {
-        let count = self.builder.nodes(&self.store) + self.machine.held_nodes(&self.store);
-        if exceeds(count, p.maxnodes) {
-            return Some(Ending::NodeLimit { count });
+        if !exceeds(self.most, p.maxnodes) {
+            return None;
+        }
+        self.most = self.builder.nodes(&self.store) + self.machine.held_nodes(&self.store);
+        if exceeds(self.most, p.maxnodes) {
+            return Some(Ending::NodeLimit { count: self.most });
         }
         None
     }
@@ -169,6 +187,7 @@ impl Routine {
         ensures counted { IfOk result (λ o. IfNone o (self.new.machine.page ≡ self.old.machine.page + length self.new.machine.events)) }
     {
         let ask = self.machine.ask();
+        let most = self.most + ADDED_NODES;
         let Some(page) = self.fill(p, &ask)? else {
             return Ok(Some(Ending::Done));
         };
@@ -176,6 +195,7 @@ impl Routine {
         match self.machine.fire_page(&mut self.store, page, notes) {
             Ok(turn) => {
                 self.put_back(turn.put_back);
+                self.most = most;
                 Ok(self.node_limit(p))
             }
             Err(RunFault::DeadCycles { count }) => Ok(Some(Ending::DeadCycles { count })),

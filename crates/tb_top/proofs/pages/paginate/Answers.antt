@@ -1,12 +1,13 @@
 use Rattle.std.proofs.Common.{◌≡◌, ◌∙◌, ◌+◌, refl, ap, sym, subst, ◌≤◌, arith}
 use Rattle.std.proofs.lemmas.Result.{err_from_is_err_and, IfErr-weaker, IfOk-weaker}
 use Rattle.tb_io.proofs.Appended.{prefix_whole}
-use Rattle.tb_run.specs.Run.{run_of}
-use Rattle.tb_run.specs.Turning.{state_of, sent_count}
+use Rattle.tb_run.specs.Run.{run_of, held_count}
+use Rattle.tb_run.specs.Turning.{state_of, sent_count, over_limit}
 use Rattle.tb_top.proofs.GoingLemmas.{IsTally, prefix-first, prefix-now, refuses-cut, tally-counts}
 use Rattle.tb_top.proofs.FinishLemmas.{ends-well, stops-with, start-closing, start-going, start-tally, turn-cut, turn-closing, turn-going, turn-fewer, tally-next, sent-few, none-at}
 use Rattle.tb_top.proofs.RunParams.{params-runnable}
 use Rattle.tb_top.proofs.PrintablePages.{printable-some, live-some, few-some}
+use Rattle.tb_run.proofs.WholeLemmas.{ready-counted}
 use Rattle.tb_run.proofs.ServedItems.{galley-items, galley-served}
 use Rattle.tb_top.proofs.pages.paginate.Goals as goal
 
@@ -22,19 +23,19 @@ returns-in_err-routine-clause-refused g c =
 
 pub returns-in-Some-clause-done : goal.returns-in-Some-clause-done
 returns-in-Some-clause-done g c =
-    let closing = start-closing c.args.view c.args.galley.now c.in_ok-routine.routine _ _ c.new-totals.result c.node_limit.result c.in_ok-routine.ensures.state c.in_ok-show.ensures.whole c.new-totals.ensures c.node_limit.ensures c.in-Some.ending c.in-Some.is in
-    IfOk-weaker c.finish.result _ _ (λ u h. ends-well c.args.view c.in_ok-routine.routine c.new-totals.result (run_of c.args.galley.now) _ _ _ c.in-Some.ending u closing h) c.finish.ensures.done
+    let closing = start-closing c.args.view c.args.galley.now c.node_limit.new.self _ _ c.new-totals.result c.node_limit.result (ap state_of c.node_limit.ensures.same ∙ c.in_ok-routine.ensures.state) c.in_ok-show.ensures.whole c.new-totals.ensures (c.node_limit.ensures.limit ∙ ap (λ s. over_limit c.args.galley.now.params (held_count s)) (sym (ap state_of c.node_limit.ensures.same))) c.in-Some.ending c.in-Some.is in
+    IfOk-weaker c.finish.result _ _ (λ u h. ends-well c.args.view c.node_limit.new.self c.new-totals.result (run_of c.args.galley.now) _ _ _ c.in-Some.ending u closing h) c.finish.ensures.done
 
 pub returns-in-Some-clause-refused : goal.returns-in-Some-clause-refused
 returns-in-Some-clause-refused g c =
-    let closing = start-closing c.args.view c.args.galley.now c.in_ok-routine.routine _ _ c.new-totals.result c.node_limit.result c.in_ok-routine.ensures.state c.in_ok-show.ensures.whole c.new-totals.ensures c.node_limit.ensures c.in-Some.ending c.in-Some.is in
-    IfErr-weaker c.finish.result _ _ (λ f h. stops-with c.args.view c.in_ok-routine.routine c.new-totals.result (run_of c.args.galley.now) _ _ _ c.in-Some.ending _ _ f closing h) c.finish.ensures.refused
+    let closing = start-closing c.args.view c.args.galley.now c.node_limit.new.self _ _ c.new-totals.result c.node_limit.result (ap state_of c.node_limit.ensures.same ∙ c.in_ok-routine.ensures.state) c.in_ok-show.ensures.whole c.new-totals.ensures (c.node_limit.ensures.limit ∙ ap (λ s. over_limit c.args.galley.now.params (held_count s)) (sym (ap state_of c.node_limit.ensures.same))) c.in-Some.ending c.in-Some.is in
+    IfErr-weaker c.finish.result _ _ (λ f h. stops-with c.args.view c.node_limit.new.self c.new-totals.result (run_of c.args.galley.now) _ _ _ c.in-Some.ending _ _ f closing h) c.finish.ensures.refused
 
 pub firing-init : goal.firing-init
 firing-init g c = record {
-  ready = c.in_ok-routine.ensures.ready;
-  going = start-going c.args.view c.args.galley.now c.in_ok-routine.routine _ _ c.new-totals.result c.node_limit.result c.in_ok-routine.ensures.state c.in_ok-show.ensures.whole c.new-totals.ensures c.node_limit.ensures c.in_default.is;
-  tally = start-tally c.args.view c.args.galley.now c.in_ok-routine.routine _ _ c.new-totals.result c.node_limit.result c.in_ok-routine.ensures.state c.in_ok-show.ensures.whole c.new-totals.ensures c.node_limit.ensures;
+  ready = ready-counted c.args.galley.now.params c.in_ok-routine.routine c.node_limit.new.self c.node_limit.result (params-runnable c.args.galley.now.params c.requires.valid.params) c.in_ok-routine.ensures.ready c.node_limit.ensures.same c.node_limit.ensures.bounded c.node_limit.ensures.within c.in_default.is;
+  going = start-going c.args.view c.args.galley.now c.node_limit.new.self _ _ c.new-totals.result c.node_limit.result (ap state_of c.node_limit.ensures.same ∙ c.in_ok-routine.ensures.state) c.in_ok-show.ensures.whole c.new-totals.ensures (c.node_limit.ensures.limit ∙ ap (λ s. over_limit c.args.galley.now.params (held_count s)) (sym (ap state_of c.node_limit.ensures.same))) c.in_default.is;
+  tally = start-tally c.args.view c.args.galley.now c.node_limit.new.self _ _ c.new-totals.result c.node_limit.result (ap state_of c.node_limit.ensures.same ∙ c.in_ok-routine.ensures.state) c.in_ok-show.ensures.whole c.new-totals.ensures (c.node_limit.ensures.limit ∙ ap (λ s. over_limit c.args.galley.now.params (held_count s)) (sym (ap state_of c.node_limit.ensures.same)));
   later = c.in_ok-show.ensures.later;
 }
 

@@ -4,7 +4,7 @@ use Rattle.tb_param.specs.declared.Params.{Params}
 use Rattle.tb_output.specs.State.{ask_of}
 use Rattle.tb_run.specs.Turning.{held_in, state_of, IsFiring, FillIs, NotesTaken}
 use Rattle.tb_run.proofs.ServeLemmas.{serves}
-use Rattle.tb_run.proofs.TurnedLemmas.{limit-answered, after-whole, after-empty, after-back, after-few, turn-shown, turn-settled, limit-one, after-one, after-page, if-counted}
+use Rattle.tb_run.proofs.TurnedLemmas.{limit-answered, after-whole, after-empty, after-back, after-bounded, turn-shown, turn-settled, limit-one, end-one, turn-counted}
 use Rattle.tb_run.proofs.routine.Routine.make_page.Goals as goal
 
 pub fill-requires-clause-ask : goal.fill-requires-clause-ask
@@ -36,23 +36,23 @@ put_back-requires-clause-list c =
     let t : NotesTaken h.served.notes c.fill.new.self c.take_notes.new.self c.in_ok-notes.notes = c.in_ok-notes.ensures h.served.notes (ap (λ (x : Contents). x.boxes) h.contents ∙ h.served.boxes) in
     after-back c.args.p.now c.args.self.now c.fill.new.self c.take_notes.new.self c.in-Some.page c.in_ok-notes.notes c.requires.params c.requires.ready h t c.fire_page.new.self c.fire_page.new.store c.in-Ok.turn c.in-Ok.ensures.turn c.in-Ok.ensures.machine c.in-Ok.ensures.floatless c.in-Ok.ensures.put_back c.in-Ok.ensures.goes_on c.in-Ok.ensures.params c.in-Ok.ensures.others c.in-Ok.ensures.lists
 
-pub node_limit-requires-clause-few : goal.node_limit-requires-clause-few
-node_limit-requires-clause-few c =
+pub node_limit-requires-clause-bounded : goal.node_limit-requires-clause-bounded
+node_limit-requires-clause-bounded c =
     let h : IsFiring c.args.p.now c.args.self.now c.in-Some.page c.fill.new.self = subst (λ o. FillIs c.args.p.now c.args.self.now o c.fill.new.self) c.in-Some.is c.in_ok-page.ensures in
     let t : NotesTaken h.served.notes c.fill.new.self c.take_notes.new.self c.in_ok-notes.notes = c.in_ok-notes.ensures h.served.notes (ap (λ (x : Contents). x.boxes) h.contents ∙ h.served.boxes) in
-    after-few c.args.p.now c.args.self.now c.fill.new.self c.take_notes.new.self c.in-Some.page c.in_ok-notes.notes c.requires.params c.requires.ready h t c.fire_page.new.self c.fire_page.new.store c.in-Ok.turn c.in-Ok.ensures.turn c.in-Ok.ensures.machine c.in-Ok.ensures.floatless c.in-Ok.ensures.put_back c.in-Ok.ensures.goes_on c.in-Ok.ensures.params c.in-Ok.ensures.others c.in-Ok.ensures.lists c.put_back.new.self c.put_back.ensures.whole c.put_back.ensures.contents c.put_back.ensures.machine c.put_back.ensures.events
+    after-bounded c.args.p.now c.args.self.now c.fill.new.self c.take_notes.new.self c.in-Some.page c.in_ok-notes.notes c.requires.params c.requires.ready h t c.fire_page.new.self c.fire_page.new.store c.in-Ok.turn c.in-Ok.ensures.turn c.in-Ok.ensures.machine c.in-Ok.ensures.floatless c.in-Ok.ensures.put_back c.in-Ok.ensures.goes_on c.in-Ok.ensures.params c.in-Ok.ensures.others c.in-Ok.ensures.lists c.put_back.new.self c.put_back.ensures.whole c.put_back.ensures.contents c.put_back.ensures.machine c.put_back.ensures.events
 
 pub returns-in-Ok-clause-step : goal.returns-in-Ok-clause-step
 returns-in-Ok-clause-step c =
     let h : IsFiring c.args.p.now c.args.self.now c.in-Some.page c.fill.new.self = subst (λ o. FillIs c.args.p.now c.args.self.now o c.fill.new.self) c.in-Some.is c.in_ok-page.ensures in
     let t : NotesTaken h.served.notes c.fill.new.self c.take_notes.new.self c.in_ok-notes.notes = c.in_ok-notes.ensures h.served.notes (ap (λ (x : Contents). x.boxes) h.contents ∙ h.served.boxes) in
-    turn-shown c.args.p.now c.args.self.now c.fill.new.self c.take_notes.new.self c.in-Some.page c.in_ok-notes.notes c.requires.params c.requires.ready h t c.fire_page.new.self c.fire_page.new.store c.in-Ok.turn c.in-Ok.ensures.turn c.in-Ok.ensures.machine c.in-Ok.ensures.floatless c.in-Ok.ensures.put_back c.in-Ok.ensures.goes_on c.in-Ok.ensures.params c.in-Ok.ensures.others c.in-Ok.ensures.lists c.put_back.new.self c.put_back.ensures.whole c.put_back.ensures.contents c.put_back.ensures.machine c.put_back.ensures.events c.node_limit.result c.node_limit.ensures
+    turn-shown c.args.p.now c.args.self.now c.fill.new.self c.take_notes.new.self c.in-Some.page c.in_ok-notes.notes c.requires.params c.requires.ready h t c.fire_page.new.self c.fire_page.new.store c.in-Ok.turn c.in-Ok.ensures.turn c.in-Ok.ensures.machine c.in-Ok.ensures.floatless c.in-Ok.ensures.put_back c.in-Ok.ensures.goes_on c.in-Ok.ensures.params c.in-Ok.ensures.others c.in-Ok.ensures.lists c.put_back.new.self c.put_back.ensures.whole c.put_back.ensures.contents c.put_back.ensures.machine c.put_back.ensures.events c.node_limit.result c.node_limit.ensures.limit c.node_limit.new.self c.node_limit.ensures.same c.node_limit.ensures.bounded c.node_limit.ensures.within
 
 pub returns-in-Ok-clause-settled : goal.returns-in-Ok-clause-settled
 returns-in-Ok-clause-settled c =
     let h : IsFiring c.args.p.now c.args.self.now c.in-Some.page c.fill.new.self = subst (λ o. FillIs c.args.p.now c.args.self.now o c.fill.new.self) c.in-Some.is c.in_ok-page.ensures in
     let t : NotesTaken h.served.notes c.fill.new.self c.take_notes.new.self c.in_ok-notes.notes = c.in_ok-notes.ensures h.served.notes (ap (λ (x : Contents). x.boxes) h.contents ∙ h.served.boxes) in
-    turn-settled c.args.p.now c.args.self.now c.fill.new.self c.take_notes.new.self c.in-Some.page c.in_ok-notes.notes c.requires.params c.requires.ready h t c.fire_page.new.self c.fire_page.new.store c.in-Ok.turn c.in-Ok.ensures.turn c.in-Ok.ensures.machine c.in-Ok.ensures.floatless c.in-Ok.ensures.put_back c.in-Ok.ensures.goes_on c.in-Ok.ensures.params c.in-Ok.ensures.others c.in-Ok.ensures.lists c.put_back.new.self c.put_back.ensures.whole c.put_back.ensures.contents c.put_back.ensures.machine c.put_back.ensures.events c.node_limit.result c.node_limit.ensures
+    turn-settled c.args.p.now c.args.self.now c.fill.new.self c.take_notes.new.self c.in-Some.page c.in_ok-notes.notes c.requires.params c.requires.ready h t c.fire_page.new.self c.fire_page.new.store c.in-Ok.turn c.in-Ok.ensures.turn c.in-Ok.ensures.machine c.in-Ok.ensures.floatless c.in-Ok.ensures.put_back c.in-Ok.ensures.goes_on c.in-Ok.ensures.params c.in-Ok.ensures.others c.in-Ok.ensures.lists c.put_back.new.self c.put_back.ensures.whole c.put_back.ensures.contents c.put_back.ensures.machine c.put_back.ensures.events c.node_limit.result c.node_limit.ensures.limit c.node_limit.new.self c.node_limit.ensures.same c.node_limit.ensures.bounded c.node_limit.ensures.within
 
 pub returns-in-Err-PageLimit-clause-step : goal.returns-in-Err-PageLimit-clause-step
 returns-in-Err-PageLimit-clause-step c =
@@ -64,13 +64,13 @@ pub returns-in-Ok-clause-one : goal.returns-in-Ok-clause-one
 returns-in-Ok-clause-one c =
     let h : IsFiring c.args.p.now c.args.self.now c.in-Some.page c.fill.new.self = subst (λ o. FillIs c.args.p.now c.args.self.now o c.fill.new.self) c.in-Some.is c.in_ok-page.ensures in
     let t : NotesTaken h.served.notes c.fill.new.self c.take_notes.new.self c.in_ok-notes.notes = c.in_ok-notes.ensures h.served.notes (ap (λ (x : Contents). x.boxes) h.contents ∙ h.served.boxes) in
-    after-one c.args.p.now c.args.self.now c.fill.new.self c.take_notes.new.self c.in-Some.page c.in_ok-notes.notes c.requires.params c.requires.ready h t c.fire_page.new.self c.fire_page.new.store c.in-Ok.turn c.in-Ok.ensures.turn c.in-Ok.ensures.machine c.in-Ok.ensures.floatless c.in-Ok.ensures.put_back c.in-Ok.ensures.goes_on c.in-Ok.ensures.params c.in-Ok.ensures.others c.in-Ok.ensures.lists c.put_back.new.self c.put_back.ensures.whole c.put_back.ensures.contents c.put_back.ensures.machine c.put_back.ensures.events
+    end-one c.args.p.now c.args.self.now c.fill.new.self c.take_notes.new.self c.in-Some.page c.in_ok-notes.notes c.requires.params c.requires.ready h t c.fire_page.new.self c.fire_page.new.store c.in-Ok.turn c.in-Ok.ensures.turn c.in-Ok.ensures.machine c.in-Ok.ensures.floatless c.in-Ok.ensures.put_back c.in-Ok.ensures.goes_on c.in-Ok.ensures.params c.in-Ok.ensures.others c.in-Ok.ensures.lists c.put_back.new.self c.put_back.ensures.whole c.put_back.ensures.contents c.put_back.ensures.machine c.put_back.ensures.events c.node_limit.result c.node_limit.ensures.limit c.node_limit.new.self c.node_limit.ensures.same c.node_limit.ensures.bounded c.node_limit.ensures.within
 
 pub returns-in-Ok-clause-counted : goal.returns-in-Ok-clause-counted
 returns-in-Ok-clause-counted c =
     let h : IsFiring c.args.p.now c.args.self.now c.in-Some.page c.fill.new.self = subst (λ o. FillIs c.args.p.now c.args.self.now o c.fill.new.self) c.in-Some.is c.in_ok-page.ensures in
     let t : NotesTaken h.served.notes c.fill.new.self c.take_notes.new.self c.in_ok-notes.notes = c.in_ok-notes.ensures h.served.notes (ap (λ (x : Contents). x.boxes) h.contents ∙ h.served.boxes) in
-    if-counted c.node_limit.result (after-page c.args.p.now c.args.self.now c.fill.new.self c.take_notes.new.self c.in-Some.page c.in_ok-notes.notes c.requires.params c.requires.ready h t c.fire_page.new.self c.fire_page.new.store c.in-Ok.turn c.in-Ok.ensures.turn c.in-Ok.ensures.machine c.in-Ok.ensures.floatless c.in-Ok.ensures.put_back c.in-Ok.ensures.goes_on c.in-Ok.ensures.params c.in-Ok.ensures.others c.in-Ok.ensures.lists c.put_back.new.self c.put_back.ensures.whole c.put_back.ensures.contents c.put_back.ensures.machine c.put_back.ensures.events)
+    turn-counted c.args.p.now c.args.self.now c.fill.new.self c.take_notes.new.self c.in-Some.page c.in_ok-notes.notes c.requires.params c.requires.ready h t c.fire_page.new.self c.fire_page.new.store c.in-Ok.turn c.in-Ok.ensures.turn c.in-Ok.ensures.machine c.in-Ok.ensures.floatless c.in-Ok.ensures.put_back c.in-Ok.ensures.goes_on c.in-Ok.ensures.params c.in-Ok.ensures.others c.in-Ok.ensures.lists c.put_back.new.self c.put_back.ensures.whole c.put_back.ensures.contents c.put_back.ensures.machine c.put_back.ensures.events c.node_limit.result c.node_limit.ensures.limit c.node_limit.new.self c.node_limit.ensures.same c.node_limit.ensures.bounded c.node_limit.ensures.within
 
 pub returns-in-Err-PageLimit-clause-one : goal.returns-in-Err-PageLimit-clause-one
 returns-in-Err-PageLimit-clause-one c =
