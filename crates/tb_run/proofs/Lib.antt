@@ -2,7 +2,6 @@ pub mod PageMadeLemmas
 pub mod ServableLemmas
 pub mod AfterFiring
 pub mod WholeLemmas
-pub mod NotesLemmas
 pub mod BackLemmas
 pub mod ServeLemmas
 pub mod TurnedLemmas

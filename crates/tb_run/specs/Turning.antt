@@ -1,23 +1,20 @@
 -- The routine's store, builder and machine, and what one of its turns shows.
 use Rattle.std.specs.Prelude.{◌≡◌, ℕ, ◌≤◌, pos, false, List, [], ◌∷◌, Option, Some, None, int_lt, if◌then◌else◌}
 use Rattle.std.specs.List.{AllByRecursion}
-use Rattle.std.specs.FinMap.{get}
 use Rattle.tb_pool.specs.Lists.{Lists, IsLive, list_at}
 use Rattle.tb_node.specs.declared.Node.{Node}
 use Rattle.tb_param.specs.declared.Params.{Params}
 use Rattle.tb_builder.specs.declared.Page.{Page}
 use Rattle.tb_builder.specs.Contents.{Contents, contents_of, node_count}
-use Rattle.tb_builder.specs.Owned.{Lacks, inner_ids, ids_of, owned, AllPlain}
+use Rattle.tb_builder.specs.Owned.{Lacks, inner_ids, ids_of, owned}
 use Rattle.tb_builder.specs.Running.{IsSound}
 use Rattle.tb_builder.specs.Next.{PageIs}
 use Rattle.tb_builder.specs.Fired.{Fired}
-use Rattle.tb_node.specs.Plain.{Leaf}
 use Rattle.tb_column.specs.declared.Sent.{Sent}
 use Rattle.tb_column.specs.Column.{PlainSent}
 use Rattle.tb_column.specs.Shown.{sent_shown}
-use Rattle.tb_column.specs.TextList.{notes_shown}
 use Rattle.tb_output.specs.State.{State, foot_class}
-use Rattle.tb_output.specs.Machine.{state_shown, events_shown, machine_lists, IsNotAmong, IsPageList, IsMachine, IsFloatless}
+use Rattle.tb_output.specs.Machine.{state_shown, events_shown, machine_lists, IsNotAmong, IsMachine, IsFloatless}
 use Rattle.tb_output.specs.Firing.{foot_box}
 use Rattle.tb_run.specs.declared.routine.Routine.{Routine}
 use Rattle.tb_run.specs.declared.routine.Turn.{Turn}
@@ -96,37 +93,6 @@ pub record IsOver (p : Params) (r q : Routine) : Type 0 where
 abbrev pub FillIs : Params → Routine → Option Page → Routine → Type 0
 FillIs p r None q = IsOver p r q
 FillIs p r (Some page) q = IsFiring p r page q
-
--- ---- the footnotes of the page
-
--- the list of the footnotes was opened for them, and is none of the builder's
-pub record AreNotesIn (r q : Routine) (l : ℕ) : Type 0 where
-  pub fresh : get r.store.lists l ≡ None
-  pub live : IsLive q.store l
-  pub plain_nodes : AllPlain (list_at q.store l)
-  pub apart : Lacks l (owned (ids_of q.builder) q.store)
-
-abbrev pub AreNotesOf : Routine → Routine → Option ℕ → Type 0
-AreNotesOf r q None = Unit {0}
-AreNotesOf r q (Some l) = AreNotesIn r q l
-
--- the footnotes, which were in the box of their class, are in a list
-pub record NotesTaken (notes : Option (List Leaf)) (r q : Routine) (o : Option ℕ) : Type 0 where
-  pub sound : IsSound q.builder q.store
-  pub contents : held_in q ≡ record (held_in r) { boxes = foot_box None }
-  pub machine : q.machine ≡ r.machine
-  pub shown : notes_shown q.store o ≡ notes
-  pub list : AreNotesOf r q o
-  pub others : (l : ℕ) → IsLive r.store l → Lacks l (owned (ids_of r.builder) r.store) → get q.store.lists l ≡ get r.store.lists l
-  pub apart : (l : ℕ) → IsLive r.store l → Lacks l (owned (ids_of r.builder) r.store) → Lacks l (owned (ids_of q.builder) q.store)
-
--- ---- what goes back
-
--- the list is one of a page, and neither the machine's nor the builder's
-pub record IsBackList (r : Routine) (l : ℕ) : Type 0 where
-  pub list : IsPageList r.store l
-  pub machine : IsNotAmong l (machine_lists r.machine)
-  pub builder : Lacks l (owned (ids_of r.builder) r.store)
 
 -- ---- what a turn shows
 

@@ -1,20 +1,16 @@
 //! The output routine over one store: the page builder fills a page, and the machine serves it.
 
-ghost use Rattle.std.specs.Prelude.{◌≡◌, ◌≤◌, ◌≤ℤ◌, ◌+◌, ◌++◌, [], true, pos, List, Option, length, IfOk, OnOk, IfNone, IfSome};
-ghost use Rattle.tb_node.specs.Plain.{Leaf};
+ghost use Rattle.std.specs.Prelude.{◌≡◌, ◌≤◌, ◌≤ℤ◌, ◌+◌, ◌++◌, [], pos, length, IfOk, OnOk, IfNone, IfSome};
 ghost use Rattle.tb_builder.specs.Contents.{plain_list};
-ghost use Rattle.tb_builder.specs.Owned.{has_class};
-ghost use Rattle.tb_builder.specs.Running.{IsSound};
-ghost use Rattle.tb_builder.specs.Handed.{NoPage};
 ghost use Rattle.tb_galley.specs.Expand.{expanded};
 ghost use Rattle.tb_output.specs.State.{foot_class, first_state, ask_of};
 ghost use Rattle.tb_output.specs.Machine.{events_shown, IsPageSent};
-ghost use Rattle.tb_output.specs.Firing.{foot_box};
+ghost use Rattle.tb_output.specs.Serving.{CanGoBack};
 ghost use Rattle.tb_run.specs.Servable.{AreRunnable, AreServable};
 ghost use Rattle.tb_run.specs.Expanding.{AreItems};
 ghost use Rattle.tb_run.specs.Run.{held_count, step};
 ghost use Rattle.tb_run.specs.PlainRun.{step_shown};
-ghost use Rattle.tb_run.specs.Turning.{held_in, state_of, IsWhole, IsReady, FillIs, NotesTaken, IsBackList, IsBounded, IsSettled, IsEnded, turn_shown, sent_turn_shown, sent_count, over_limit};
+ghost use Rattle.tb_run.specs.Turning.{held_in, state_of, IsWhole, IsReady, FillIs, IsBounded, IsSettled, IsEnded, turn_shown, sent_turn_shown, sent_count, over_limit};
 
 use crate::expanding::expand;
 use std::alloc::{AllocError, Global};
@@ -120,27 +116,10 @@ impl Routine {
         }
     }
 
-    // The footnotes of the page that fired, in a list of their own. None where there are none: a box that was given an
-    // empty footnote has some.
-    fn take_notes(&mut self) -> Result<Option<ListId>, AllocError>
-        requires sound { IsSound self.old.builder self.old.store }
-        requires empty { NoPage (held_in self.old) }
-        requires known { has_class (held_in self.old).classes 254 ≡ true }
-        ensures { IfOk result (λ o. (notes : Option (List Leaf)) → (held_in self.old).boxes ≡ foot_box notes → NotesTaken notes self.old self.new o) }
-    {
-        if self.builder.is_void(254) {
-            return Ok(None);
-        }
-        let notes = self.store.add_list()?;
-        self.builder.take_box(&mut self.store, 254, notes);
-        Ok(Some(notes))
-    }
-
     // Puts the nodes of a list back before what waits, and closes the list.
     fn put_back(&mut self, list: ListId)
         requires whole { IsWhole self.old.machine.params self.old }
-        requires empty { NoPage (held_in self.old) }
-        requires list { IsBackList self.old list }
+        requires list { CanGoBack self.old.machine self.old.builder self.old.store list }
         ensures whole { IsWhole self.new.machine.params self.new }
         ensures contents { held_in self.new ≡ record (held_in self.old) {
           waiting = (held_in self.old).held ++ (plain_list self.old.store list ++ (held_in self.old).waiting);
@@ -191,8 +170,7 @@ impl Routine {
         let Some(page) = self.fill(p, &ask)? else {
             return Ok(Some(Ending::Done));
         };
-        let notes = self.take_notes()?;
-        match self.machine.fire_page(&mut self.store, page, notes) {
+        match self.machine.fire(&mut self.store, &mut self.builder, page) {
             Ok(turn) => {
                 self.put_back(turn.put_back);
                 self.most = most;
