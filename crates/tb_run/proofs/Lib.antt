@@ -5,6 +5,7 @@ pub mod WholeLemmas
 pub mod BackLemmas
 pub mod ServeLemmas
 pub mod TurnedLemmas
+pub mod SentLemmas
 pub mod WaitsLemmas
 pub mod FootLemmas
 pub mod ItemLemmas

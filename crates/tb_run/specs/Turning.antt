@@ -14,7 +14,7 @@ use Rattle.tb_column.specs.declared.Sent.{Sent}
 use Rattle.tb_column.specs.Column.{PlainSent}
 use Rattle.tb_column.specs.Shown.{sent_shown}
 use Rattle.tb_output.specs.State.{State, foot_class}
-use Rattle.tb_output.specs.Machine.{state_shown, events_shown, machine_lists, IsNotAmong, IsMachine, IsFloatless}
+use Rattle.tb_output.specs.Machine.{state_shown, events_shown, sent_lists, machine_lists, IsNotAmong, AreDistinct, IsPageSent, IsMachine, IsFloatless}
 use Rattle.tb_output.specs.Firing.{foot_box}
 use Rattle.tb_run.specs.declared.routine.Routine.{Routine}
 use Rattle.tb_run.specs.declared.routine.Turn.{Turn}
@@ -118,6 +118,13 @@ over_limit p n = if int_lt p.maxnodes (pos n) then Some (endings.NodeLimit n) el
 pub record IsEnded (r : Routine) : Type 0 where
   pub machine : IsMachine r.machine r.store
   pub page : IsLive r.store r.builder.page
+
+-- the lists of what was sent: lists of pages, no two of them the same, and none the machine's or the builder's
+pub record AreSentLists (r : Routine) (e : Sent) : Type 0 where
+  pub lists : IsPageSent r.store e
+  pub distinct : AreDistinct (sent_lists e)
+  pub machine : AllByRecursion (λ l. IsNotAmong l (machine_lists r.machine)) (sent_lists e)
+  pub builder : AreNotBuilders r (sent_lists e)
 
 -- what is sent, as the definitions see it
 abbrev pub sent_by : Lists Node → Option Sent → List PlainSent

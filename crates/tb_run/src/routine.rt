@@ -1,18 +1,21 @@
 //! The output routine over one store: the page builder fills a page, and the machine serves it.
 
-ghost use Rattle.std.specs.Prelude.{◌≡◌, ◌≤◌, ◌≤ℤ◌, ◌+◌, ◌++◌, [], pos, length, IfOk, OnOk, IfNone, IfSome};
+ghost use Rattle.std.specs.Prelude.{◌≡◌, ◌≤◌, ◌≤ℤ◌, ◌+◌, ◌++◌, [], pos, length, None, IfOk, OnOk, IfNone, IfSome};
+ghost use Rattle.std.specs.List.{AllByRecursion};
+ghost use Rattle.std.specs.FinMap.{get};
 ghost use Rattle.tb_builder.specs.Contents.{plain_list};
 ghost use Rattle.tb_galley.specs.Expand.{expanded};
 ghost use Rattle.tb_output.specs.State.{foot_class, first_state, ask_of};
-ghost use Rattle.tb_output.specs.Machine.{events_shown, IsPageSent};
+ghost use Rattle.tb_output.specs.Machine.{events_shown, sent_lists, IsPageSent};
 ghost use Rattle.tb_output.specs.Serving.{CanGoBack};
 ghost use Rattle.tb_run.specs.Servable.{AreRunnable, AreServable};
 ghost use Rattle.tb_run.specs.Expanding.{AreItems};
 ghost use Rattle.tb_run.specs.Run.{held_count, step};
 ghost use Rattle.tb_run.specs.PlainRun.{step_shown};
-ghost use Rattle.tb_run.specs.Turning.{held_in, state_of, IsWhole, IsReady, FillIs, IsBounded, IsSettled, IsEnded, turn_shown, sent_turn_shown, sent_count, over_limit};
+ghost use Rattle.tb_run.specs.Turning.{held_in, state_of, IsWhole, IsReady, FillIs, AreSentLists, IsBounded, IsSettled, IsEnded, turn_shown, sent_turn_shown, sent_count, over_limit};
 
 use crate::expanding::expand;
+use crate::releasing::end_sent;
 use std::alloc::{AllocError, Global};
 use tb_builder::{Ask, Builder, Event, Page, new_builder};
 use tb_column::Sent;
@@ -26,7 +29,7 @@ use tb_pool::{ListId, Lists};
 /// Between two firings: one store, the page builder with the nodes that wait, and the output routine's machine.
 #[derive(Drop)]
 pub struct Routine {
-    /// Holds the lists of the builder, of the machine, and of the pages that were sent.
+    /// Holds the lists of the builder, of the machine, and of what was sent until it is done with.
     pub store: Lists<Node>,
     /// Holds what waits.
     pub builder: Builder,
@@ -195,10 +198,26 @@ impl Routine {
         ensures ready { IfOk result (λ t. IfNone t.ending (IsReady p.now self.new)) }
         ensures ended { OnOk result (IsEnded self.new) }
         ensures sent { IfOk result (λ t. IfSome t.sent (IsPageSent self.new.store)) }
+        ensures lists { IfOk result (λ t. IfNone t.ending (IfSome t.sent (AreSentLists self.new))) }
         ensures counted { IfOk result (λ t. IfNone t.ending (self.new.machine.page ≡ self.old.machine.page + sent_count t.sent)) }
     {
         let ending = self.make_page(p)?;
         let sent = self.machine.sent();
         Ok(Turn { sent, ending })
+    }
+
+    /// Ends the lists of what a turn sent, once it was written: their places in the store are free then.
+    pub fn done_with(&mut self, sent: Option<Sent>)
+        requires ready { IsReady self.old.machine.params self.old }
+        requires lists { IfSome sent (AreSentLists self.old) }
+
+        ensures ready { IsReady self.new.machine.params self.new }
+        ensures state { state_of self.new ≡ state_of self.old }
+        ensures machine { self.new.machine ≡ self.old.machine }
+        ensures ended { IfSome sent (λ e. AllByRecursion (λ l. get self.new.store.lists l ≡ None) (sent_lists e)) }
+    {
+        if let Some(sent) = sent {
+            end_sent(&mut self.store, sent);
+        }
     }
 }
