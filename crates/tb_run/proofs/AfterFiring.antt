@@ -108,8 +108,8 @@ module _ (p : Params) (h : AreRunnable p) where
     pub laid-sized : All IsSizedOnPage laid_nodes
     laid-sized = pruned_sized p.topskip waiting h.topskip k.sized
 
-    pub laid-few : node_count laid_nodes ≤ 4194305
-    laid-few = let longer = pruned_nodes_longer p.topskip waiting in let few = k.few in omega (arith, longer, few)
+    pub laid-few : node_count laid_nodes ≤ node_count waiting + 1
+    laid-few = pruned_nodes_longer p.topskip waiting
 
     pub tame-page : IsTamePage f
     tame-page =
@@ -126,9 +126,9 @@ module _ (p : Params) (h : AreRunnable p) where
         }
 
 -- a page that fired from these contents, where the whole list is sized and its parts are tame
-pub served-page : (p : Params) (c : Contents) (ask : Ask) → AreRunnable p → c.classes ≡ foot_class p ∷ [] → c.boxes ≡ foot_box None → All IsSizedOnPage (c.page ++ c.waiting) → node_count (c.page ++ c.waiting) ≤ 4194305 → IsTamePage (fired_page c ask)
-    → IsServedPage (fired_page c ask)
-served-page p c ask h classes boxes sized few tame =
+pub served-page : (before : ℕ) (p : Params) (c : Contents) (ask : Ask) → AreRunnable p → c.classes ≡ foot_class p ∷ [] → c.boxes ≡ foot_box None → All IsSizedOnPage (c.page ++ c.waiting) → node_count (c.page ++ c.waiting) ≤ before + 1 → IsTamePage (fired_page c ask)
+    → IsServedPage before (fired_page c ask)
+served-page before p c ask h classes boxes sized few tame =
     let parts = fired_sized c ask (All-front IsSizedOnPage c.page c.waiting sized) (All-back IsSizedOnPage c.page c.waiting sized) (subst (All IsSizedBox) (sym boxes) (All-cons IsSizedBox _ [] (All-nil IsSizedLeaf) (All-nil IsSizedBox))) in
     record {
       notes = tame.notes;
@@ -196,7 +196,7 @@ front-is-back p f r t =
       few = let e = count-split k f.body in omega (arith, e);
     }
 
-module _ (p : Params) (waiting : List PlainNode) (page dead : ℕ) (f : Fired) (h : IsServedPage f) where
+module _ (n : ℕ) (p : Params) (waiting : List PlainNode) (page dead : ℕ) (f : Fired) (h : IsServedPage n f) where
   abbrev g : Fired
   g = output.fired_page f.body h.notes f.penalty
 
@@ -208,11 +208,11 @@ module _ (p : Params) (waiting : List PlainNode) (page dead : ℕ) (f : Fired) (
   unfolding page_work output_work
   out-is = out-work p (plain_state p waiting page dead) f h.notes h.boxes ∙ refl
 
-  served-by : (v : Work) (back : List PlainNode) (es : List PlainSent) (n m : ℕ) → IsBack f back → IsDone v back es (bare_state p (foot_box None) n m) → IsServedWork p f (waiting_again f v)
-  served-by v back es n m b d = record {
+  served-by : (v : Work) (back : List PlainNode) (es : List PlainSent) (number cycles : ℕ) → IsBack f back → IsDone v back es (bare_state p (foot_box None) number cycles) → IsServedWork n p f (waiting_again f v)
+  served-by v back es number cycles b d = record {
     back = back;
-    page = n;
-    dead_cycles = m;
+    page = number;
+    dead_cycles = cycles;
     state = λ i. record (d.state i) { waiting = f.held ++ d.put_back i ++ f.rest };
     sized = All-append IsSizedOnPage (f.held ++ back) f.rest (All-append IsSizedOnPage f.held back h.held_sized b.sized) h.rest_sized;
     tame = every-append tame_node (f.held ++ back) f.rest (every-append tame_node f.held back h.held b.tame) h.rest;
@@ -226,18 +226,18 @@ module _ (p : Params) (waiting : List PlainNode) (page dead : ℕ) (f : Fired) (
   by-test t a b = true≢false (sym b ∙ a)
 
   -- the work of an ordinary page
-  page-work : int_le eject_penalty f.penalty ≡ true → (t : Bool) → int_lt p.maxpages (pos page) ≡ t → (output_work p before g).refused ≡ false → IsServedWork p f (waiting_again f (output_work p before g))
+  page-work : int_le eject_penalty f.penalty ≡ true → (t : Bool) → int_lt p.maxpages (pos page) ≡ t → (output_work p before g).refused ≡ false → IsServedWork n p f (waiting_again f (output_work p before g))
   page-work q true e r = absurd (by-test _ r (page-stopped p f.body h.notes f.penalty page (dead + 1) q e).refused)
   page-work q false e r = served-by (output_work p before g) [] _ (page + 1) 0 (nothing-back f) (page-shipped p f.body h.notes f.penalty page (dead + 1) q e)
 
   -- the work of a clear
   clear-work : (o : Option (List Leaf)) → h.notes ≡ o → int_le clear_penalty f.penalty ≡ true → int_le eject_penalty f.penalty ≡ false → (t : Bool) → int_lt p.maxpages (pos page) ≡ t
-      → (let v : Work = output_work p before (output.fired_page f.body o f.penalty) in v.refused ≡ false → IsServedWork p f (waiting_again f v))
+      → (let v : Work = output_work p before (output.fired_page f.body o f.penalty) in v.refused ≡ false → IsServedWork n p f (waiting_again f v))
   clear-work None e low q t m r = served-by _ (cleared_front p f.body) [] page (dead + 1) (front-is-back p f h.body_sized h.body) (front-back p f.body f.penalty page (dead + 1) low q)
   clear-work (Some ns) e low q true m r = absurd (by-test _ r (clear-stopped p f.body ns f.penalty page (dead + 1) low q m).refused)
   clear-work (Some ns) e low q false m r = served-by _ clear_again _ (page + 1) 0 (clear-back f) (clear-shipped p f.body ns f.penalty page (dead + 1) low q m)
 
-  by-penalty : (t : Bool) → int_le eject_penalty f.penalty ≡ t → (output_work p before g).refused ≡ false → IsServedWork p f (waiting_again f (output_work p before g))
+  by-penalty : (t : Bool) → int_le eject_penalty f.penalty ≡ t → (output_work p before g).refused ≡ false → IsServedWork n p f (waiting_again f (output_work p before g))
   by-penalty true e r = page-work e (int_lt p.maxpages (pos page)) refl r
   by-penalty false e r = clear-work h.notes refl low e (int_lt p.maxpages (pos page)) refl r
     where
@@ -245,8 +245,8 @@ module _ (p : Params) (waiting : List PlainNode) (page dead : ℕ) (f : Fired) (
       low = let a = h.penalty in grind (arith, ints, a)
 
   -- a firing that is not refused leaves a state that is served
-  pub served-work : (out p (plain_state p waiting page dead) f).refused ≡ false → IsServedWork p f (out p (plain_state p waiting page dead) f)
-  served-work r = subst (IsServedWork p f) (sym out-is) (by-penalty (int_le eject_penalty f.penalty) refl (sym (ap (λ (w : Work). w.refused) out-is) ∙ r))
+  pub served-work : (out p (plain_state p waiting page dead) f).refused ≡ false → IsServedWork n p f (out p (plain_state p waiting page dead) f)
+  served-work r = subst (IsServedWork n p f) (sym out-is) (by-penalty (int_le eject_penalty f.penalty) refl (sym (ap (λ (w : Work). w.refused) out-is) ∙ r))
 
 -- ---- what is sent
 
@@ -259,7 +259,7 @@ counted-done n w back es s d one page = record {
 counted-stopped : (n k : ℕ) (w : Work) → IsStopped w k → IsCounted n w
 counted-stopped n k w d = record { one = let e = ap length d.sent in omega (arith, e); page = λ r. absurd (true≢false (sym d.refused ∙ r)) }
 
-module _ (p : Params) (waiting : List PlainNode) (page dead : ℕ) (f : Fired) (h : IsServedPage f) where
+module _ (n : ℕ) (p : Params) (waiting : List PlainNode) (page dead : ℕ) (f : Fired) (h : IsServedPage n f) where
   abbrev starts : State
   starts = bare_state p (foot_box None) page (dead + 1)
 
@@ -286,4 +286,4 @@ module _ (p : Params) (waiting : List PlainNode) (page dead : ℕ) (f : Fired) (
   pub counted-work : IsCounted page (out p (plain_state p waiting page dead) f)
   counted-work =
       let c = count-by (int_le eject_penalty f.penalty) refl in
-      subst (IsCounted page) (sym (out-is p waiting page dead f h)) (record { one = c.one; page = c.page })
+      subst (IsCounted page) (sym (out-is n p waiting page dead f h)) (record { one = c.one; page = c.page })

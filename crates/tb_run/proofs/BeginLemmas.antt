@@ -23,7 +23,7 @@ module _ (p : Params) (m : MachineView) (s t u : Lists Node) (b d : Builder) (cl
     (machine : IsMachine m s) (floatless : IsFloatless m s) (params : m.params ≡ p) (is : class ≡ foot_class p) (contents : contents_of b t ≡ nothing_yet (class ∷ []))
     (fresh : (q : ℕ) → IsLive s q → Lacks q (owned (ids_of b) t)) (others : (q : ℕ) → IsLive s q → get t.lists q ≡ get s.lists q) (waits : Waits ns b t d u) where
   abbrev begun : Routine
-  begun = record { store = u; builder = d; machine = m }
+  begun = record { store = u; builder = d; machine = m; most = 4194304 }
 
   held-live : IsLive s m.held_page
   held-live = machine.held_page.live

@@ -21,12 +21,13 @@ use Rattle.tb_builder.specs.Running.{IsSound}
 use Rattle.tb_builder.specs.Handed.{NodesJoin, MayWait, NoPage}
 use Rattle.tb_builder.proofs.FrameLemmas.{live_all_same, frame_owned, frame_contents, frame_sound, insertion_joins, fresh_apart, empty_may_wait}
 use Rattle.tb_builder.proofs.OwnedLemmas.{AllSame, lacks-append}
+use Rattle.tb_output.proofs.MachineLemmas.{not-new}
+use Rattle.tb_output.proofs.NotesTaking.{opened-stands}
 use Rattle.tb_galley.specs.declared.Leaf.{Leaf}
 use Rattle.tb_galley.specs.declared.LeafKind.{LeafKind}
 use Rattle.tb_galley.specs.declared.LeafKind.TheVariants as leaves
 use Rattle.tb_galley.specs.Expand.{leaf_matter, plain_leaf, foot_insertion}
 use Rattle.tb_run.specs.Expanding.{CanTake, Waits, leaf_kind, leaf_list}
-use Rattle.tb_run.proofs.NotesLemmas.{not-opened, others-opened}
 
 -- one leaf further
 pub leaf-added : (s t u : Lists Node) (l : ℕ) (ls : List Leaf) (i : ℕ) (x : Leaf) → i < length ls → x ≡ get_or ls i x → t.lists ≡ with_list s l (list_at s l ++ leaf_list (take i ls)) → u.lists ≡ with_list t l (list_at t l ++ record { line = x.line; kind = leaf_kind x.kind } ∷ [])
@@ -87,7 +88,7 @@ module _ (b : Builder) (s e t : Lists Node) (l : ℕ) (ls : List Leaf) (can : Ca
   foot-live = live_same e t l (list_at e l ++ leaf_list ls) put
 
   others-foot : (q : ℕ) → IsLive s q → get t.lists q ≡ get s.lists q
-  others-foot q live = get_other e t l (list_at e l ++ leaf_list ls) q (not-opened s q l fresh live) put ∙ others-opened b s e l can.sound fresh opened q live
+  others-foot q live = get_other e t l (list_at e l ++ leaf_list ls) q (λ x. not-new s l q fresh live (sym x)) put ∙ opened-stands b s e l can.sound fresh opened q live
 
   same-foot : AllSame s t (owned (ids_of b) s)
   same-foot = live_all_same s t (owned (ids_of b) s) others-foot can.sound.own.live
@@ -137,5 +138,5 @@ module _ (b : Builder) (s e t : Lists Node) (l : ℕ) (ls : List Leaf) (can : Ca
         contents = contents ∙ (λ j. record (foot-contents j) { waiting = (foot-contents j).waiting ++ foot-is j });
         others = λ q live apart. others q (subst (Lacks q) (sym foot-owned) apart) ∙ others-foot q live;
         apart = λ q live apart.
-            keeps q (lacks-append q (owned (ids_of b) t) (inner_ids (n ∷ [])) (subst (Lacks q) (sym foot-owned) apart) ((λ x. not-opened s q l fresh live (x ∙ list)), tt));
+            keeps q (lacks-append q (owned (ids_of b) t) (inner_ids (n ∷ [])) (subst (Lacks q) (sym foot-owned) apart) ((λ x. not-new s l q fresh live (sym (x ∙ list))), tt));
       }

@@ -2,10 +2,10 @@ pub mod PageMadeLemmas
 pub mod ServableLemmas
 pub mod AfterFiring
 pub mod WholeLemmas
-pub mod NotesLemmas
 pub mod BackLemmas
 pub mod ServeLemmas
 pub mod TurnedLemmas
+pub mod SentLemmas
 pub mod WaitsLemmas
 pub mod FootLemmas
 pub mod ItemLemmas

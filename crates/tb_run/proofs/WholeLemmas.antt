@@ -1,6 +1,7 @@
 -- The routine between its calls.
-use Rattle.std.proofs.Common.{◌≡◌, refl, sym, subst, ◌∙◌, ap, ℕ, ◌<◌, Bool, true, false, List, [], ◌∷◌, ◌++◌, None, IsSome, arith}
-use Rattle.std.specs.Prelude.{All}
+use Rattle.std.proofs.Common.{ℤ, ◌≡◌, refl, sym, subst, ◌∙◌, ap, ℕ, ◌<◌, ◌≤◌, pos, Option, Bool, true, false, List, [], ◌∷◌, ◌++◌, None, IsSome, arith}
+use Rattle.std.specs.Prelude.{All, ◌≤ℤ◌, IfNone}
+use Rattle.std.proofs.lemmas.Int.{ints}
 use Rattle.std.specs.List.{AllByRecursion}
 use Rattle.tb_pool.specs.Lists.{Lists, IsLive}
 use Rattle.tb_node.specs.declared.Node.{Node}
@@ -27,10 +28,11 @@ use Rattle.tb_output.proofs.FloatlessWork.{bare_state}
 use Rattle.tb_output.proofs.StandLemmas.{Stands, machine-stands}
 use Rattle.tb_output.proofs.MachineLemmas.{state-is, floatless-stands, lists-live, fresh-apart}
 use Rattle.tb_run.specs.declared.routine.Routine.{Routine}
+use Rattle.tb_run.specs.declared.routine.Ending.{Ending}
 use Rattle.tb_run.specs.PlainRun.{plain_state}
 use Rattle.tb_run.specs.PageMade.{between_pages, page_reach, IsUnderway, IsFilled, tries_left}
 use Rattle.tb_run.specs.Servable.{AreRunnable, IsTamePage, IsServedPage}
-use Rattle.tb_run.specs.Turning.{held_in, state_of, AreNotBuilders, IsWhole, IsSettled, IsReady, IsFiring, IsOver}
+use Rattle.tb_run.specs.Turning.{held_in, state_of, AreNotBuilders, IsWhole, IsBounded, IsSettled, IsReady, IsFiring, IsOver}
 use Rattle.tb_run.proofs.PageMadeLemmas.{filled-start, filled-tried, tries-fewer, fits-filled, fired-same, step-fires, step-empty, acted-none}
 use Rattle.tb_run.proofs.ServableLemmas.{tame-pruned, tame-no_acts}
 use Rattle.tb_run.proofs.AfterFiring.{served-fits, laid-sized, laid-few, tame-page, served-page}
@@ -47,6 +49,25 @@ pub state-plain : (p : Params) (r : Routine) → IsSettled p r → state_of r �
 state-plain p r h =
     state-bare r.machine r.store (held_in r).boxes (held_in r).waiting h.whole.floatless h.boxes
     ∙ ap (λ q. plain_state q (held_in r).waiting r.machine.page r.machine.dead_cycles) h.whole.params
+
+-- it is whole whatever is said of the most that is held
+pub whole-bounded : (p : Params) (r : Routine) (most : ℕ) → IsWhole p r → IsWhole p (record r { most = most })
+whole-bounded p r most h = record { builder = h.builder; machine = h.machine; floatless = h.floatless; params = h.params; fault = h.fault; apart = h.apart }
+
+-- a count within the limit on nodes
+pub few-within : (k : ℕ) (m : ℤ) → pos k ≤ℤ m → m ≤ℤ pos 4194304 → k ≤ 4194304
+few-within k m a b = omega (arith, ints, a, b)
+
+-- it is ready again after it was asked for the node limit, where that is not passed
+pub ready-counted : (p : Params) (r q : Routine) (o : Option Ending) → AreRunnable p → IsReady p r → q ≡ record r { most = q.most } → IsBounded 8388608 q → IfNone o (pos q.most ≤ℤ p.maxnodes) → o ≡ None → IsReady p q
+ready-counted p r q o runs h same bounded within none =
+    subst (IsReady p) (sym same) (ready (subst (IsBounded 4194304) same (record { held = bounded.held; few = few-within q.most p.maxnodes (subst (λ x. IfNone x (pos q.most ≤ℤ p.maxnodes)) none within) runs.maxnodes.high })))
+  where
+    ready : IsBounded 4194304 (record r { most = q.most }) → IsReady p (record r { most = q.most })
+    ready k = record {
+      settled = record { whole = whole-bounded p r q.most h.settled.whole; between = h.settled.between; boxes = h.settled.boxes; waiting = h.settled.waiting; bounded = k };
+      events = h.events;
+    }
 
 -- ---- a page is filled
 
@@ -184,14 +205,14 @@ module _ (p : Params) (r q d : Routine) (ask : Ask) (runs : AreRunnable p) (read
     fresh : IsGivenOut (events.Fired page) q.store (ids_of d.builder) d.store
     fresh = subst (λ x. IsGivenOut x q.store (ids_of d.builder) d.store) is new
 
-    fired-served : (held_in q).stopped ≡ true → IsServedPage (fired_page (held_in q) (ask_of p (state_of r)))
+    fired-served : (held_in q).stopped ≡ true → IsServedPage (node_count (held_in r).waiting) (fired_page (held_in q) (ask_of p (state_of r)))
     fired-served o =
         let v = h.filled.at_stop o in
         let w = ready.settled.waiting in
         let whole : (held_in q).page ++ (held_in q).waiting ≡ pruned_nodes p.topskip (held_in r).waiting = v.both in
         let n = laid-few p runs (held_in r).waiting r.machine.page r.machine.dead_cycles w in
         let e = ap node_count whole in
-        served-page p (held_in q) (ask_of p (state_of r)) runs v.same.classes (v.same.boxes ∙ ready.settled.boxes)
+        served-page (node_count (held_in r).waiting) p (held_in q) (ask_of p (state_of r)) runs v.same.classes (v.same.boxes ∙ ready.settled.boxes)
         (subst (All IsSizedOnPage) (sym whole) (laid-sized p runs (held_in r).waiting r.machine.page r.machine.dead_cycles w)) (omega (arith, n, e))
         (subst IsTamePage (sym (fired-same p (state_of r) h.filled.events h.filled.records (state_of r) (held_in q) v))
         (subst (λ s. IsTamePage (fired_of (ask_of p s) (foot_class p ∷ []) s.boxes (page_reach p s))) (sym (state-plain p r ready.settled)) (tame-page p runs (held_in r).waiting r.machine.page r.machine.dead_cycles w)))
@@ -207,6 +228,7 @@ module _ (p : Params) (r q d : Routine) (ask : Ask) (runs : AreRunnable p) (read
           fired = f;
           step = step-fires p (state_of r) c h.filled o;
           served = fired-served o;
+          few = ready.settled.waiting.few;
           page_is = n.page;
           contents = n.after ∙ (λ i. record { classes = v.same.classes i; boxes = f.boxes; page = []; waiting = f.rest; held = f.held; frozen = None; stopped = false });
           whole = filled-whole p r q d ready h k sound m;

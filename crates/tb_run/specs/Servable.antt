@@ -53,8 +53,8 @@ pub record IsTamePage (f : Fired) : Type 0 where
   pub held : AreTame f.held
   pub penalty : clear_penalty ≤ℤ f.penalty
 
--- a page that fired: only the footnotes' class has a box, and its nodes are sized and tame
-pub record IsServedPage (f : Fired) : Type 0 where
+-- a page that fired where so many nodes waited: only the footnotes' class has a box, and its nodes are sized, tame and at most one more
+pub record IsServedPage (before : ℕ) (f : Fired) : Type 0 where
   pub notes : Option (List Leaf)
   pub boxes : f.boxes ≡ foot_box notes
   pub body : AreTame f.body
@@ -65,17 +65,17 @@ pub record IsServedPage (f : Fired) : Type 0 where
   pub rest_sized : All IsSizedOnPage f.rest
   pub held_sized : All IsSizedOnPage f.held
   pub boxes_sized : All IsSizedBox f.boxes
-  pub few : node_count f.body + node_count f.held + node_count f.rest + box_count f.boxes ≤ 4194305
+  pub few : node_count f.body + node_count f.held + node_count f.rest + box_count f.boxes ≤ before + 1
 
--- the work of its firing, if it was not refused, leaves a state of the same kind
-pub record IsServedWork (p : Params) (f : Fired) (w : Work) : Type 0 where
+-- the work of its firing, if it was not refused, leaves a state of the same kind, in which at most six nodes more wait
+pub record IsServedWork (before : ℕ) (p : Params) (f : Fired) (w : Work) : Type 0 where
   pub back : List PlainNode
   pub page : ℕ
   pub dead_cycles : ℕ
   pub state : w.state ≡ plain_state p (f.held ++ back ++ f.rest) page dead_cycles
   pub sized : All IsSizedOnPage (f.held ++ back ++ f.rest)
   pub tame : AreTame (f.held ++ back ++ f.rest)
-  pub few : node_count (f.held ++ back ++ f.rest) ≤ 4194310
+  pub few : node_count (f.held ++ back ++ f.rest) ≤ before + 6
 
 -- it sends one page at most, and the number of the next page rises with it
 pub record IsCounted (before : ℕ) (w : Work) : Type 0 where

@@ -1,29 +1,26 @@
 -- The routine's store, builder and machine, and what one of its turns shows.
-use Rattle.std.specs.Prelude.{◌≡◌, ℕ, pos, false, List, [], ◌∷◌, Option, Some, None, int_lt, if◌then◌else◌}
+use Rattle.std.specs.Prelude.{◌≡◌, ℕ, ◌≤◌, pos, false, List, [], ◌∷◌, Option, Some, None, int_lt, if◌then◌else◌}
 use Rattle.std.specs.List.{AllByRecursion}
-use Rattle.std.specs.FinMap.{get}
 use Rattle.tb_pool.specs.Lists.{Lists, IsLive, list_at}
 use Rattle.tb_node.specs.declared.Node.{Node}
 use Rattle.tb_param.specs.declared.Params.{Params}
 use Rattle.tb_builder.specs.declared.Page.{Page}
-use Rattle.tb_builder.specs.Contents.{Contents, contents_of}
-use Rattle.tb_builder.specs.Owned.{Lacks, inner_ids, ids_of, owned, AllPlain}
+use Rattle.tb_builder.specs.Contents.{Contents, contents_of, node_count}
+use Rattle.tb_builder.specs.Owned.{Lacks, inner_ids, ids_of, owned}
 use Rattle.tb_builder.specs.Running.{IsSound}
 use Rattle.tb_builder.specs.Next.{PageIs}
 use Rattle.tb_builder.specs.Fired.{Fired}
-use Rattle.tb_node.specs.Plain.{Leaf}
 use Rattle.tb_column.specs.declared.Sent.{Sent}
 use Rattle.tb_column.specs.Column.{PlainSent}
 use Rattle.tb_column.specs.Shown.{sent_shown}
-use Rattle.tb_column.specs.TextList.{notes_shown}
 use Rattle.tb_output.specs.State.{State, foot_class}
-use Rattle.tb_output.specs.Machine.{state_shown, events_shown, machine_lists, IsNotAmong, IsPageList, IsMachine, IsFloatless}
+use Rattle.tb_output.specs.Machine.{state_shown, events_shown, sent_lists, machine_lists, IsNotAmong, AreDistinct, IsPageSent, IsMachine, IsFloatless}
 use Rattle.tb_output.specs.Firing.{foot_box}
 use Rattle.tb_run.specs.declared.routine.Routine.{Routine}
 use Rattle.tb_run.specs.declared.routine.Turn.{Turn}
 use Rattle.tb_run.specs.declared.routine.Ending.{Ending}
 use Rattle.tb_run.specs.declared.routine.Ending.TheVariants as endings
-use Rattle.tb_run.specs.Run.{End, done, dead_cycles, page_limit, node_limit, step}
+use Rattle.tb_run.specs.Run.{End, done, dead_cycles, page_limit, node_limit, step, held_count}
 use Rattle.tb_run.specs.PlainRun.{Shown, last, next, step_shown}
 use Rattle.tb_run.specs.PageMade.{between_pages, firing_shown}
 use Rattle.tb_run.specs.Servable.{AreServable, IsServedPage}
@@ -49,12 +46,18 @@ pub record IsWhole (p : Params) (r : Routine) : Type 0 where
   pub fault : r.machine.fault ≡ None
   pub apart : AreNotBuilders r (machine_lists r.machine)
 
--- between two firings: the builder has no page, all boxes are void, and what waits can be served
+-- no more nodes are held than the routine says, which says no more than the limit
+pub record IsBounded (limit : ℕ) (r : Routine) : Type 0 where
+  pub held : held_count (state_of r) ≤ r.most
+  pub few : r.most ≤ limit
+
+-- between two firings: the builder has no page, all boxes are void, what waits can be served, and the most that is held is known
 pub record IsSettled (p : Params) (r : Routine) : Type 0 where
   pub whole : IsWhole p r
   pub between : held_in r ≡ between_pages p (state_of r)
   pub boxes : (held_in r).boxes ≡ foot_box None
   pub waiting : AreServable (held_in r).waiting
+  pub bounded : IsBounded 4194304 r
 
 -- the same where each event was taken
 pub record IsReady (p : Params) (r : Routine) : Type 0 where
@@ -71,7 +74,8 @@ after_page_fired p f = record { classes = foot_class p ∷ []; boxes = f.boxes; 
 pub record IsFiring (p : Params) (r : Routine) (page : Page) (q : Routine) : Type 0 where
   pub fired : Fired
   pub step : step_shown (step p (state_of r)) ≡ firing_shown p (state_of r) fired
-  pub served : IsServedPage fired
+  pub served : IsServedPage (node_count (held_in r).waiting) fired
+  pub few : node_count (held_in r).waiting ≤ 4194304
   pub page_is : PageIs page fired q.store
   pub contents : held_in q ≡ after_page_fired p fired
   pub whole : IsWhole p q
@@ -89,37 +93,6 @@ pub record IsOver (p : Params) (r q : Routine) : Type 0 where
 abbrev pub FillIs : Params → Routine → Option Page → Routine → Type 0
 FillIs p r None q = IsOver p r q
 FillIs p r (Some page) q = IsFiring p r page q
-
--- ---- the footnotes of the page
-
--- the list of the footnotes was opened for them, and is none of the builder's
-pub record AreNotesIn (r q : Routine) (l : ℕ) : Type 0 where
-  pub fresh : get r.store.lists l ≡ None
-  pub live : IsLive q.store l
-  pub plain_nodes : AllPlain (list_at q.store l)
-  pub apart : Lacks l (owned (ids_of q.builder) q.store)
-
-abbrev pub AreNotesOf : Routine → Routine → Option ℕ → Type 0
-AreNotesOf r q None = Unit {0}
-AreNotesOf r q (Some l) = AreNotesIn r q l
-
--- the footnotes, which were in the box of their class, are in a list
-pub record NotesTaken (notes : Option (List Leaf)) (r q : Routine) (o : Option ℕ) : Type 0 where
-  pub sound : IsSound q.builder q.store
-  pub contents : held_in q ≡ record (held_in r) { boxes = foot_box None }
-  pub machine : q.machine ≡ r.machine
-  pub shown : notes_shown q.store o ≡ notes
-  pub list : AreNotesOf r q o
-  pub others : (l : ℕ) → IsLive r.store l → Lacks l (owned (ids_of r.builder) r.store) → get q.store.lists l ≡ get r.store.lists l
-  pub apart : (l : ℕ) → IsLive r.store l → Lacks l (owned (ids_of r.builder) r.store) → Lacks l (owned (ids_of q.builder) q.store)
-
--- ---- what goes back
-
--- the list is one of a page, and neither the machine's nor the builder's
-pub record IsBackList (r : Routine) (l : ℕ) : Type 0 where
-  pub list : IsPageList r.store l
-  pub machine : IsNotAmong l (machine_lists r.machine)
-  pub builder : Lacks l (owned (ids_of r.builder) r.store)
 
 -- ---- what a turn shows
 
@@ -145,6 +118,13 @@ over_limit p n = if int_lt p.maxnodes (pos n) then Some (endings.NodeLimit n) el
 pub record IsEnded (r : Routine) : Type 0 where
   pub machine : IsMachine r.machine r.store
   pub page : IsLive r.store r.builder.page
+
+-- the lists of what was sent: lists of pages, no two of them the same, and none the machine's or the builder's
+pub record AreSentLists (r : Routine) (e : Sent) : Type 0 where
+  pub lists : IsPageSent r.store e
+  pub distinct : AreDistinct (sent_lists e)
+  pub machine : AllByRecursion (λ l. IsNotAmong l (machine_lists r.machine)) (sent_lists e)
+  pub builder : AreNotBuilders r (sent_lists e)
 
 -- what is sent, as the definitions see it
 abbrev pub sent_by : Lists Node → Option Sent → List PlainSent

@@ -3,6 +3,7 @@
 #![tactic(auto)]
 
 mod expanding;
+mod releasing;
 mod routine;
 
 pub use routine::{Ending, Routine};

@@ -1,22 +1,21 @@
 //! The output routine over one store: the page builder fills a page, and the machine serves it.
 
-ghost use Rattle.std.specs.Prelude.{◌≡◌, ◌≤◌, ◌+◌, ◌++◌, [], true, List, Option, length, IfOk, OnOk, IfNone, IfSome};
-ghost use Rattle.tb_node.specs.Plain.{Leaf};
-ghost use Rattle.tb_builder.specs.Contents.{plain_list, node_count, box_count};
-ghost use Rattle.tb_builder.specs.Owned.{has_class};
-ghost use Rattle.tb_builder.specs.Running.{IsSound};
-ghost use Rattle.tb_builder.specs.Handed.{NoPage};
+ghost use Rattle.std.specs.Prelude.{◌≡◌, ◌≤◌, ◌≤ℤ◌, ◌+◌, ◌++◌, [], pos, length, None, IfOk, OnOk, IfNone, IfSome};
+ghost use Rattle.std.specs.List.{AllByRecursion};
+ghost use Rattle.std.specs.FinMap.{get};
+ghost use Rattle.tb_builder.specs.Contents.{plain_list};
 ghost use Rattle.tb_galley.specs.Expand.{expanded};
 ghost use Rattle.tb_output.specs.State.{foot_class, first_state, ask_of};
-ghost use Rattle.tb_output.specs.Machine.{events_shown, IsPageSent};
-ghost use Rattle.tb_output.specs.Firing.{foot_box};
+ghost use Rattle.tb_output.specs.Machine.{events_shown, sent_lists, IsPageSent};
+ghost use Rattle.tb_output.specs.Serving.{CanGoBack};
 ghost use Rattle.tb_run.specs.Servable.{AreRunnable, AreServable};
 ghost use Rattle.tb_run.specs.Expanding.{AreItems};
 ghost use Rattle.tb_run.specs.Run.{held_count, step};
 ghost use Rattle.tb_run.specs.PlainRun.{step_shown};
-ghost use Rattle.tb_run.specs.Turning.{held_in, state_of, IsWhole, IsReady, FillIs, NotesTaken, IsBackList, IsSettled, IsEnded, turn_shown, sent_turn_shown, sent_count, over_limit};
+ghost use Rattle.tb_run.specs.Turning.{held_in, state_of, IsWhole, IsReady, FillIs, AreSentLists, IsBounded, IsSettled, IsEnded, turn_shown, sent_turn_shown, sent_count, over_limit};
 
 use crate::expanding::expand;
+use crate::releasing::end_sent;
 use std::alloc::{AllocError, Global};
 use tb_builder::{Ask, Builder, Event, Page, new_builder};
 use tb_column::Sent;
@@ -30,13 +29,21 @@ use tb_pool::{ListId, Lists};
 /// Between two firings: one store, the page builder with the nodes that wait, and the output routine's machine.
 #[derive(Drop)]
 pub struct Routine {
-    /// Holds the lists of the builder, of the machine, and of the pages that were sent.
+    /// Holds the lists of the builder, of the machine, and of what was sent until it is done with.
     pub store: Lists<Node>,
     /// Holds what waits.
     pub builder: Builder,
     /// Its events can be taken after each turn.
     pub machine: Machine,
+    /// No more nodes are held than this.
+    pub most: u64,
 }
+
+// No galley has more nodes.
+const MOST_NODES: u64 = 4_194_304;
+
+// A firing adds no more nodes to those that wait: the glue above the first box, and those of a clear that comes again.
+const ADDED_NODES: u64 = 6;
 
 /// How a run ends.
 #[derive(Clone, Copy)]
@@ -91,6 +98,7 @@ impl Routine {
             store,
             builder,
             machine,
+            most: MOST_NODES,
         })
     }
 
@@ -111,27 +119,10 @@ impl Routine {
         }
     }
 
-    // The footnotes of the page that fired, in a list of their own. None where there are none: a box that was given an
-    // empty footnote has some.
-    fn take_notes(&mut self) -> Result<Option<ListId>, AllocError>
-        requires sound { IsSound self.old.builder self.old.store }
-        requires empty { NoPage (held_in self.old) }
-        requires known { has_class (held_in self.old).classes 254 ≡ true }
-        ensures { IfOk result (λ o. (notes : Option (List Leaf)) → (held_in self.old).boxes ≡ foot_box notes → NotesTaken notes self.old self.new o) }
-    {
-        if self.builder.is_void(254) {
-            return Ok(None);
-        }
-        let notes = self.store.add_list()?;
-        self.builder.take_box(&mut self.store, 254, notes);
-        Ok(Some(notes))
-    }
-
     // Puts the nodes of a list back before what waits, and closes the list.
     fn put_back(&mut self, list: ListId)
         requires whole { IsWhole self.old.machine.params self.old }
-        requires empty { NoPage (held_in self.old) }
-        requires list { IsBackList self.old list }
+        requires list { CanGoBack self.old.machine self.old.builder self.old.store list }
         ensures whole { IsWhole self.new.machine.params self.new }
         ensures contents { held_in self.new ≡ record (held_in self.old) {
           waiting = (held_in self.old).held ++ (plain_list self.old.store list ++ (held_in self.old).waiting);
@@ -145,14 +136,23 @@ impl Routine {
     }
 
     /// The ending where more nodes are held than `maxnodes`: those that wait, those of footnotes counted too.
-    pub fn node_limit(&self, p: &Params) -> Option<Ending>
-        requires whole { IsWhole self.now.machine.params self.now }
-        requires few { node_count (held_in self.now).waiting + box_count (held_in self.now).boxes ≤ 8388608 }
-        ensures { result ≡ over_limit p.now (held_count (state_of self.now)) }
+    ///
+    /// They are counted only where as many as may be held are more, and their number is kept as the most then.
+    pub fn node_limit(&mut self, p: &Params) -> Option<Ending>
+        requires whole { IsWhole self.old.machine.params self.old }
+        requires bounded { IsBounded 8388608 self.old }
+
+        ensures limit { result ≡ over_limit p.now (held_count (state_of self.old)) }
+        ensures same { self.new ≡ record self.old { most = self.new.most } }
+        ensures bounded { IsBounded 8388608 self.new }
+        ensures within { IfNone result (pos self.new.most ≤ℤ p.now.maxnodes) }
     {
-        let count = self.builder.nodes(&self.store) + self.machine.held_nodes(&self.store);
-        if exceeds(count, p.maxnodes) {
-            return Some(Ending::NodeLimit { count });
+        if !exceeds(self.most, p.maxnodes) {
+            return None;
+        }
+        self.most = self.builder.nodes(&self.store) + self.machine.held_nodes(&self.store);
+        if exceeds(self.most, p.maxnodes) {
+            return Some(Ending::NodeLimit { count: self.most });
         }
         None
     }
@@ -169,13 +169,14 @@ impl Routine {
         ensures counted { IfOk result (λ o. IfNone o (self.new.machine.page ≡ self.old.machine.page + length self.new.machine.events)) }
     {
         let ask = self.machine.ask();
+        let most = self.most + ADDED_NODES;
         let Some(page) = self.fill(p, &ask)? else {
             return Ok(Some(Ending::Done));
         };
-        let notes = self.take_notes()?;
-        match self.machine.fire_page(&mut self.store, page, notes) {
+        match self.machine.fire(&mut self.store, &mut self.builder, page) {
             Ok(turn) => {
                 self.put_back(turn.put_back);
+                self.most = most;
                 Ok(self.node_limit(p))
             }
             Err(RunFault::DeadCycles { count }) => Ok(Some(Ending::DeadCycles { count })),
@@ -197,10 +198,26 @@ impl Routine {
         ensures ready { IfOk result (λ t. IfNone t.ending (IsReady p.now self.new)) }
         ensures ended { OnOk result (IsEnded self.new) }
         ensures sent { IfOk result (λ t. IfSome t.sent (IsPageSent self.new.store)) }
+        ensures lists { IfOk result (λ t. IfNone t.ending (IfSome t.sent (AreSentLists self.new))) }
         ensures counted { IfOk result (λ t. IfNone t.ending (self.new.machine.page ≡ self.old.machine.page + sent_count t.sent)) }
     {
         let ending = self.make_page(p)?;
         let sent = self.machine.sent();
         Ok(Turn { sent, ending })
+    }
+
+    /// Ends the lists of what a turn sent, once it was written: their places in the store are free then.
+    pub fn done_with(&mut self, sent: Option<Sent>)
+        requires ready { IsReady self.old.machine.params self.old }
+        requires lists { IfSome sent (AreSentLists self.old) }
+
+        ensures ready { IsReady self.new.machine.params self.new }
+        ensures state { state_of self.new ≡ state_of self.old }
+        ensures machine { self.new.machine ≡ self.old.machine }
+        ensures ended { IfSome sent (λ e. AllByRecursion (λ l. get self.new.store.lists l ≡ None) (sent_lists e)) }
+    {
+        if let Some(sent) = sent {
+            end_sent(&mut self.store, sent);
+        }
     }
 }

@@ -121,10 +121,14 @@ module _ (p : Params) (v : View) (s : State) (old now : Option (List ℕ)) (t : 
       subst (λ x. Closing v (ending_shown r e) old mid x whole) (sym counted)
       (closes p v old now mid t whole s (ending_shown r e) (sent_by r.store turn.sent) going (sym shown ∙ ap (shown_by r (sent_by r.store turn.sent)) some) b)
 
-  pub turn-going : (mid : Option (List ℕ)) (u : Totals) → turn.ending ≡ None → Appends now mid (viewed v (all_sent_lines (sent_by r.store turn.sent))) → u ≡ with_all (sent_by r.store turn.sent) t → Going p v (state_of r) old mid u whole
+  turn-going : (mid : Option (List ℕ)) (u : Totals) → turn.ending ≡ None → Appends now mid (viewed v (all_sent_lines (sent_by r.store turn.sent))) → u ≡ with_all (sent_by r.store turn.sent) t → Going p v (state_of r) old mid u whole
   turn-going mid u none b counted =
       subst (λ x. Going p v (state_of r) old mid x whole) (sym counted)
       (goes p v old now mid t whole s (state_of r) (sent_by r.store turn.sent) going (sym shown ∙ ap (shown_by r (sent_by r.store turn.sent)) none) b)
+
+  -- its lists were ended since
+  pub turn-going-after : (mid : Option (List ℕ)) (u : Totals) (after : State) → after ≡ state_of r → turn.ending ≡ None → Appends now mid (viewed v (all_sent_lines (sent_by r.store turn.sent))) → u ≡ with_all (sent_by r.store turn.sent) t → Going p v after old mid u whole
+  turn-going-after mid u after same none b counted = subst (λ x. Going p v x old mid u whole) (sym same) (turn-going mid u none b counted)
 
   pub turn-fewer : turn.ending ≡ None → firings_left p (state_of r) < firings_left p s
   turn-fewer none = (steps p s (state_of r) (sent_by r.store turn.sent) (sym shown ∙ ap (shown_by r (sent_by r.store turn.sent)) none) going.page).fewer

@@ -72,6 +72,7 @@ pub fn paginate<K: Sink>(
         if let Some(ending) = turn.ending {
             return finish(alloc, &routine, view, &totals, ending, out);
         }
+        routine.done_with(turn.sent);
     }
 }
 

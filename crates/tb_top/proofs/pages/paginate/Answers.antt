@@ -1,12 +1,14 @@
-use Rattle.std.proofs.Common.{◌≡◌, ◌∙◌, ◌+◌, refl, ap, sym, subst, ◌≤◌, arith}
+use Rattle.std.proofs.Common.{◌≡◌, ◌∙◌, ◌+◌, refl, ap, sym, subst, ◌≤◌, ◌<◌, arith}
 use Rattle.std.proofs.lemmas.Result.{err_from_is_err_and, IfErr-weaker, IfOk-weaker}
 use Rattle.tb_io.proofs.Appended.{prefix_whole}
-use Rattle.tb_run.specs.Run.{run_of}
-use Rattle.tb_run.specs.Turning.{state_of, sent_count}
+use Rattle.tb_output.specs.Machine.{MachineView}
+use Rattle.tb_run.specs.Run.{run_of, held_count, firings_left}
+use Rattle.tb_run.specs.Turning.{state_of, sent_count, over_limit, IsReady}
 use Rattle.tb_top.proofs.GoingLemmas.{IsTally, prefix-first, prefix-now, refuses-cut, tally-counts}
-use Rattle.tb_top.proofs.FinishLemmas.{ends-well, stops-with, start-closing, start-going, start-tally, turn-cut, turn-closing, turn-going, turn-fewer, tally-next, sent-few, none-at}
+use Rattle.tb_top.proofs.FinishLemmas.{ends-well, stops-with, start-closing, start-going, start-tally, turn-cut, turn-closing, turn-going-after, turn-fewer, tally-next, sent-few, none-at}
 use Rattle.tb_top.proofs.RunParams.{params-runnable}
 use Rattle.tb_top.proofs.PrintablePages.{printable-some, live-some, few-some}
+use Rattle.tb_run.proofs.WholeLemmas.{ready-counted}
 use Rattle.tb_run.proofs.ServedItems.{galley-items, galley-served}
 use Rattle.tb_top.proofs.pages.paginate.Goals as goal
 
@@ -22,19 +24,19 @@ returns-in_err-routine-clause-refused g c =
 
 pub returns-in-Some-clause-done : goal.returns-in-Some-clause-done
 returns-in-Some-clause-done g c =
-    let closing = start-closing c.args.view c.args.galley.now c.in_ok-routine.routine _ _ c.new-totals.result c.node_limit.result c.in_ok-routine.ensures.state c.in_ok-show.ensures.whole c.new-totals.ensures c.node_limit.ensures c.in-Some.ending c.in-Some.is in
-    IfOk-weaker c.finish.result _ _ (λ u h. ends-well c.args.view c.in_ok-routine.routine c.new-totals.result (run_of c.args.galley.now) _ _ _ c.in-Some.ending u closing h) c.finish.ensures.done
+    let closing = start-closing c.args.view c.args.galley.now c.node_limit.new.self _ _ c.new-totals.result c.node_limit.result (ap state_of c.node_limit.ensures.same ∙ c.in_ok-routine.ensures.state) c.in_ok-show.ensures.whole c.new-totals.ensures (c.node_limit.ensures.limit ∙ ap (λ s. over_limit c.args.galley.now.params (held_count s)) (sym (ap state_of c.node_limit.ensures.same))) c.in-Some.ending c.in-Some.is in
+    IfOk-weaker c.finish.result _ _ (λ u h. ends-well c.args.view c.node_limit.new.self c.new-totals.result (run_of c.args.galley.now) _ _ _ c.in-Some.ending u closing h) c.finish.ensures.done
 
 pub returns-in-Some-clause-refused : goal.returns-in-Some-clause-refused
 returns-in-Some-clause-refused g c =
-    let closing = start-closing c.args.view c.args.galley.now c.in_ok-routine.routine _ _ c.new-totals.result c.node_limit.result c.in_ok-routine.ensures.state c.in_ok-show.ensures.whole c.new-totals.ensures c.node_limit.ensures c.in-Some.ending c.in-Some.is in
-    IfErr-weaker c.finish.result _ _ (λ f h. stops-with c.args.view c.in_ok-routine.routine c.new-totals.result (run_of c.args.galley.now) _ _ _ c.in-Some.ending _ _ f closing h) c.finish.ensures.refused
+    let closing = start-closing c.args.view c.args.galley.now c.node_limit.new.self _ _ c.new-totals.result c.node_limit.result (ap state_of c.node_limit.ensures.same ∙ c.in_ok-routine.ensures.state) c.in_ok-show.ensures.whole c.new-totals.ensures (c.node_limit.ensures.limit ∙ ap (λ s. over_limit c.args.galley.now.params (held_count s)) (sym (ap state_of c.node_limit.ensures.same))) c.in-Some.ending c.in-Some.is in
+    IfErr-weaker c.finish.result _ _ (λ f h. stops-with c.args.view c.node_limit.new.self c.new-totals.result (run_of c.args.galley.now) _ _ _ c.in-Some.ending _ _ f closing h) c.finish.ensures.refused
 
 pub firing-init : goal.firing-init
 firing-init g c = record {
-  ready = c.in_ok-routine.ensures.ready;
-  going = start-going c.args.view c.args.galley.now c.in_ok-routine.routine _ _ c.new-totals.result c.node_limit.result c.in_ok-routine.ensures.state c.in_ok-show.ensures.whole c.new-totals.ensures c.node_limit.ensures c.in_default.is;
-  tally = start-tally c.args.view c.args.galley.now c.in_ok-routine.routine _ _ c.new-totals.result c.node_limit.result c.in_ok-routine.ensures.state c.in_ok-show.ensures.whole c.new-totals.ensures c.node_limit.ensures;
+  ready = ready-counted c.args.galley.now.params c.in_ok-routine.routine c.node_limit.new.self c.node_limit.result (params-runnable c.args.galley.now.params c.requires.valid.params) c.in_ok-routine.ensures.ready c.node_limit.ensures.same c.node_limit.ensures.bounded c.node_limit.ensures.within c.in_default.is;
+  going = start-going c.args.view c.args.galley.now c.node_limit.new.self _ _ c.new-totals.result c.node_limit.result (ap state_of c.node_limit.ensures.same ∙ c.in_ok-routine.ensures.state) c.in_ok-show.ensures.whole c.new-totals.ensures (c.node_limit.ensures.limit ∙ ap (λ s. over_limit c.args.galley.now.params (held_count s)) (sym (ap state_of c.node_limit.ensures.same))) c.in_default.is;
+  tally = start-tally c.args.view c.args.galley.now c.node_limit.new.self _ _ c.new-totals.result c.node_limit.result (ap state_of c.node_limit.ensures.same ∙ c.in_ok-routine.ensures.state) c.in_ok-show.ensures.whole c.new-totals.ensures (c.node_limit.ensures.limit ∙ ap (λ s. over_limit c.args.galley.now.params (held_count s)) (sym (ap state_of c.node_limit.ensures.same)));
   later = c.in_ok-show.ensures.later;
 }
 
@@ -74,17 +76,29 @@ returns-in-Some-ending-clause-refused g c =
     let closing = turn-closing c.args.galley.now.params c.args.view (state_of c.firing.routine) _ _ c.firing.totals (run_of c.args.galley.now) c.firing.invariant.going c.turn.new.self c.in_ok-turn.turn c.in_ok-turn.ensures.step _ c.send.new.totals c.in-Some-ending.ending c.in-Some-ending.is c.in_ok-send.ensures.shown.whole c.in_ok-send.ensures.counted in
     IfErr-weaker c.finish-in-Some-ending.result _ _ (λ f h. stops-with c.args.view c.turn.new.self c.send.new.totals (run_of c.args.galley.now) _ _ _ c.in-Some-ending.ending _ _ f closing h) c.finish-in-Some-ending.ensures.refused
 
+pub done_with-requires-clause-ready : goal.done_with-requires-clause-ready
+done_with-requires-clause-ready g c =
+    let ready = none-at c.in_ok-turn.turn.ending c.in_default-ending.is c.in_ok-turn.ensures.ready in
+    subst (λ p. IsReady p c.turn.new.self) (sym ready.settled.whole.params) ready
+
+pub done_with-requires-clause-lists : goal.done_with-requires-clause-lists
+done_with-requires-clause-lists g c = none-at c.in_ok-turn.turn.ending c.in_default-ending.is c.in_ok-turn.ensures.lists
+
 pub firing-smaller : goal.firing-smaller
-firing-smaller g c = turn-fewer c.args.galley.now.params c.args.view (state_of c.firing.routine) _ _ c.firing.totals (run_of c.args.galley.now) c.firing.invariant.going c.turn.new.self c.in_ok-turn.turn c.in_ok-turn.ensures.step c.in_default-ending.is
+firing-smaller g c =
+    let fewer = turn-fewer c.args.galley.now.params c.args.view (state_of c.firing.routine) _ _ c.firing.totals (run_of c.args.galley.now) c.firing.invariant.going c.turn.new.self c.in_ok-turn.turn c.in_ok-turn.ensures.step c.in_default-ending.is in
+    subst (λ s. firings_left c.args.galley.now.params s < firings_left c.args.galley.now.params (state_of c.firing.routine)) (sym c.done_with.ensures.state) fewer
 
 pub firing-preserved : goal.firing-preserved
 firing-preserved g c =
     let start = c.firing.invariant.later in
     let later = c.in_ok-send.ensures.shown.later in
+    let ready = none-at c.in_ok-turn.turn.ending c.in_default-ending.is c.in_ok-turn.ensures.ready in
     record {
-      ready = none-at c.in_ok-turn.turn.ending c.in_default-ending.is c.in_ok-turn.ensures.ready;
-      going = turn-going c.args.galley.now.params c.args.view (state_of c.firing.routine) _ _ c.firing.totals (run_of c.args.galley.now) c.firing.invariant.going c.turn.new.self c.in_ok-turn.turn c.in_ok-turn.ensures.step _ c.send.new.totals c.in_default-ending.is c.in_ok-send.ensures.shown.whole c.in_ok-send.ensures.counted;
-      tally = subst (λ t. IsTally t c.turn.new.self.machine.page) (sym c.in_ok-send.ensures.counted) (tally-next c.turn.new.self.store c.in_ok-turn.turn.sent c.firing.totals c.firing.routine.machine.page c.turn.new.self.machine.page c.firing.invariant.tally (few-some c.turn.new.self.store c.in_ok-turn.turn.sent c.in_ok-turn.ensures.sent) (none-at c.in_ok-turn.turn.ending c.in_default-ending.is c.in_ok-turn.ensures.counted));
+      ready = subst (λ p. IsReady p c.done_with.new.self) (ap (λ (m : MachineView). m.params) c.done_with.ensures.machine ∙ ready.settled.whole.params) c.done_with.ensures.ready;
+      going = turn-going-after c.args.galley.now.params c.args.view (state_of c.firing.routine) _ _ c.firing.totals (run_of c.args.galley.now) c.firing.invariant.going c.turn.new.self c.in_ok-turn.turn c.in_ok-turn.ensures.step _ c.send.new.totals (state_of c.done_with.new.self) c.done_with.ensures.state c.in_default-ending.is c.in_ok-send.ensures.shown.whole c.in_ok-send.ensures.counted;
+      tally = subst (λ (m : MachineView). IsTally c.send.new.totals m.page) (sym c.done_with.ensures.machine)
+          (subst (λ t. IsTally t c.turn.new.self.machine.page) (sym c.in_ok-send.ensures.counted) (tally-next c.turn.new.self.store c.in_ok-turn.turn.sent c.firing.totals c.firing.routine.machine.page c.turn.new.self.machine.page c.firing.invariant.tally (few-some c.turn.new.self.store c.in_ok-turn.turn.sent c.in_ok-turn.ensures.sent) (none-at c.in_ok-turn.turn.ending c.in_default-ending.is c.in_ok-turn.ensures.counted)));
       later = omega (arith, start, later);
     }
 

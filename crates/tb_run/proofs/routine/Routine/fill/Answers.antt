@@ -20,7 +20,7 @@ next-preserved-in-Try c =
 
 pub next-preserved : goal.next-preserved
 next-preserved c =
-    absurd (act-never c.args.p.now c.args.self.now c.next.self (record { store = c.next-in-next.new.store; builder = c.next-in-next.new.self; machine = c.next.self.machine }) c.args.ask.now c.requires.params c.requires.ready c.requires.ask c.next.invariant c.in_ok-next.ensures.keeps c.in_ok-next.field-0 c.in_ok-next.ensures.event c.in_ok-next.ensures.sound refl
+    absurd (act-never c.args.p.now c.args.self.now c.next.self (record { store = c.next-in-next.new.store; builder = c.next-in-next.new.self; machine = c.next.self.machine; most = c.next.self.most }) c.args.ask.now c.requires.params c.requires.ready c.requires.ask c.next.invariant c.in_ok-next.ensures.keeps c.in_ok-next.field-0 c.in_ok-next.ensures.event c.in_ok-next.ensures.sound refl
     c.in-Act.act c.in-Act.is)
 
 pub returns-in-Fired : goal.returns-in-Fired

@@ -1,10 +1,6 @@
 use Rattle.std.proofs.Common.{◌∙◌}
-use Rattle.tb_builder.specs.Owned.{ids_of}
-use Rattle.tb_run.proofs.BackLemmas.{leaves-join, closed-contents, closed-whole, closed-events}
+use Rattle.tb_run.proofs.BackLemmas.{closed-contents, closed-whole, closed-events}
 use Rattle.tb_run.proofs.routine.Routine.put_back.Goals as goal
-
-pub put_back-requires-clause-joins : goal.put_back-requires-clause-joins
-put_back-requires-clause-joins c = leaves-join (ids_of c.args.self.now.builder) c.args.self.now.store c.args.list c.requires.whole.builder.own c.requires.list.list.live c.requires.list.list.leaves c.requires.list.builder
 
 pub returns-clause-whole : goal.returns-clause-whole
 returns-clause-whole c = closed-whole c.args.self.now c.put_back.new.store c.close.new.self c.put_back.new.self c.args.list c.requires.whole c.requires.list c.put_back.ensures.sound c.put_back.ensures.others c.put_back.ensures.keeps c.close.ensures.closed
