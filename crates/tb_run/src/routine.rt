@@ -35,7 +35,7 @@ pub struct Routine {
     pub builder: Builder,
     /// Its events can be taken after each turn.
     pub machine: Machine,
-    /// No more nodes are held than this.
+    /// A bound on the nodes that are held, so that they need not be counted after each firing.
     pub most: u64,
 }
 
@@ -137,7 +137,7 @@ impl Routine {
 
     /// The ending where more nodes are held than `maxnodes`: those that wait, those of footnotes counted too.
     ///
-    /// They are counted only where as many as may be held are more, and their number is kept as the most then.
+    /// They are counted only where the bound on them passes `maxnodes`; their number is the bound then.
     pub fn node_limit(&mut self, p: &Params) -> Option<Ending>
         requires whole { IsWhole self.old.machine.params self.old }
         requires bounded { IsBounded 8388608 self.old }

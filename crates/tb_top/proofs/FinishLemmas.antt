@@ -1,30 +1,25 @@
 -- The end of a run of the routine, and the parameters that it asks for.
-use Rattle.std.proofs.Common.{◌≡◌, refl, sym, subst, ◌∙◌, ap, ℕ, zero, suc, ◌+◌, ◌<◌, ◌≤◌, ◌⊎◌, inl, inr, ℤ, pos, ◌≤ℤ◌, Bool, true, false, List, [], ◌∷◌, ◌++◌, length, map, slice_get, Option, None, Some, arith}
-use Rattle.std.specs.Prelude.{int_lt, if◌then◌else◌, ◌&&◌, not, ◌||◌, IsTrue, IfSome, IfNone}
+use Rattle.std.proofs.Common.{◌≡◌, refl, sym, subst, ◌∙◌, ap, ℕ, zero, suc, ◌+◌, ◌<◌, ◌≤◌, ◌⊎◌, inl, inr, ℤ, pos, ◌≤ℤ◌, Bool, true, false, List, [], ◌∷◌, slice_get, Option, None, Some, arith}
+use Rattle.std.specs.Prelude.{int_lt, if◌then◌else◌, ◌&&◌, IsTrue, IfSome, IfNone}
 use Rattle.std.specs.List.{list_all}
 use Rattle.std.specs.Io.KnownBytes.{Appends}
 use Rattle.tb_io.specs.Held.{AppendsPrefix}
 use Rattle.std.proofs.lemmas.Int.{ints}
-use Rattle.std.proofs.lemmas.List.{length-map}
-use Rattle.tb_pool.specs.Lists.{Lists, list_at}
-use Rattle.tb_node.specs.declared.Kind.{Kind}
-use Rattle.tb_node.specs.declared.Kind.TheVariants as kinds
+use Rattle.tb_pool.specs.Lists.{Lists}
 use Rattle.tb_node.specs.declared.Node.{Node}
 use Rattle.tb_node.specs.Fit.{IsExtent}
-use Rattle.tb_node.specs.Plain.{PlainNode, plain_of, plain_kind}
 use Rattle.tb_param.specs.declared.Params.{Params}
-use Rattle.tb_param.specs.Fields.{value_of}
-use Rattle.tb_param.specs.Table.{Row, rows, value_fault, is_within, out_of_range}
-use Rattle.tb_param.specs.Ranges.{is_no_fault, are_params}
+use Rattle.tb_param.specs.Table.{Row, is_within, out_of_range}
+use Rattle.tb_param.specs.Ranges.{is_no_fault}
 use Rattle.tb_column.specs.declared.Sent.{Sent}
 use Rattle.tb_column.specs.Column.{PlainSent}
-use Rattle.tb_column.specs.Shown.{nodes_shown, sent_shown}
+use Rattle.tb_column.specs.Shown.{sent_shown}
 use Rattle.tb_galley.specs.declared.Galley.{Galley}
 use Rattle.tb_galley.specs.Expand.{expanded}
 use Rattle.tb_report.specs.Totals.{no_totals, with_sent}
 use Rattle.tb_output.specs.State.{State, first_state}
 use Rattle.tb_report.specs.declared.Totals.{Totals}
-use Rattle.tb_report.specs.Lines.{left_line, left_lines, end_lines, line, and_count}
+use Rattle.tb_report.specs.Lines.{line}
 use Rattle.tb_top.specs.declared.View.{View}
 use Rattle.tb_top.specs.declared.PageFault.{PageFault}
 use Rattle.tb_top.specs.declared.PageFault.TheVariants as faults
@@ -37,7 +32,7 @@ use Rattle.tb_run.specs.Run.{Run, End, done, held_count, node_limit, step, run_o
 use Rattle.tb_top.specs.Paginated.{view_text, Paginates, Refuses}
 use Rattle.tb_output.specs.Machine.{IsLimit}
 use Rattle.tb_run.specs.Turning.{held_in, state_of, sent_by, shown_by, sent_turn_shown, ending_shown, over_limit, sent_count}
-use Rattle.tb_top.specs.Written.{node_total, viewed, all_sent_lines, with_all, last_lines, EndsWell, StopsWith}
+use Rattle.tb_top.specs.Written.{node_total, viewed, all_sent_lines, with_all, EndsWell, StopsWith}
 use Rattle.tb_top.proofs.GoingLemmas.{Going, IsTally, header, begins, begins-over, tally-nothing, tally-sent, goes, closes, cut-short, steps, Closing, done-well, done-cut, refused-end}
 
 -- ---- the end

@@ -1,16 +1,13 @@
 -- A run that goes on: what was written, what was shipped, and what is left.
-use Rattle.std.proofs.Common.{◌≡◌, refl, sym, subst, ◌∙◌, ap, ℕ, zero, suc, ◌+◌, ◌*◌, ◌<◌, ◌≤◌, pos, Bool, true, false, inl, inr, ◌⊎◌, List, [], ◌∷◌, ◌++◌, length, codes, Option, None, Some, append_assoc, append-nil, arith}
-use Rattle.std.specs.Prelude.{int_lt, if◌then◌else◌, ◌^◌}
+use Rattle.std.proofs.Common.{◌≡◌, refl, sym, subst, ◌∙◌, ap, ℕ, zero, suc, ◌+◌, ◌*◌, ◌<◌, ◌≤◌, pos, Bool, true, false, inl, inr, ◌⊎◌, List, [], ◌∷◌, ◌++◌, length, codes, Option, Some, append_assoc, append-nil, arith}
+use Rattle.std.specs.Prelude.{int_lt, if◌then◌else◌}
 use Rattle.std.specs.Io.KnownBytes.{Appends}
-use Rattle.std.proofs.lemmas.List.{length-map}
 use Rattle.tb_io.specs.Faults.{Rose}
 use Rattle.tb_io.specs.Held.{AppendsPrefix}
-use Rattle.tb_io.proofs.Appended.{Appends-nothing, Appends-twice, prefix_whole, prefix_nothing, prefix_longer, prefix_on}
+use Rattle.tb_io.proofs.Appended.{Appends-twice, prefix_whole, prefix_longer, prefix_on}
 use Rattle.tb_param.specs.declared.Params.{Params}
-use Rattle.tb_pool.specs.Lists.{Lists}
-use Rattle.tb_node.specs.declared.Node.{Node}
 use Rattle.tb_node.specs.Plain.{PlainKind, PlainNode}
-use Rattle.tb_column.specs.Column.{PlainSheet, PlainSent, warned, shipped}
+use Rattle.tb_column.specs.Column.{PlainSent, warned, shipped}
 use Rattle.tb_report.specs.declared.Totals.{Totals}
 use Rattle.tb_report.specs.Lines.{sent_lines, end_lines}
 use Rattle.tb_report.specs.Totals.{is_item_box, is_float_box, one_if, count_kinds, sheet_nodes, no_totals, with_sent, AreCounts}
@@ -21,7 +18,7 @@ use Rattle.tb_top.specs.declared.View.{View}
 use Rattle.tb_top.specs.declared.View.TheVariants as views
 use Rattle.tb_top.specs.declared.PageFault.{PageFault}
 use Rattle.tb_top.specs.declared.PageFault.TheVariants as faults
-use Rattle.tb_run.specs.Run.{Run, RunEvent, offered, sent, End, done, pool_full, dead_cycles, page_limit, node_limit, Step, ends, goes_on, held_count, step, run_by, run_after, run_from, firings_left, run_of_state, run_of}
+use Rattle.tb_run.specs.Run.{Run, RunEvent, offered, sent, End, done, node_limit, Step, ends, goes_on, held_count, step, run_by, run_from, firings_left, run_of_state, run_of}
 use Rattle.tb_top.specs.Report.{totals_of, event_lines, all_lines, closing_lines, report}
 use Rattle.tb_top.specs.Paginated.{view_text, end_fault, Paginates, EndsWith, Refuses}
 use Rattle.tb_run.specs.PlainRun.{sent_among, Shown, last, next, step_shown}

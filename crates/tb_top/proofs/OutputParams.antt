@@ -1,6 +1,6 @@
 -- The parameters of a valid galley lie in the ranges that the output routine asks for.
-use Rattle.std.proofs.Common.{◌≡◌, refl, ℤ, pos, Bool, true, false, arith}
-use Rattle.std.specs.Prelude.{◌&&◌, ◌≤ℤ◌, IsTrue}
+use Rattle.std.proofs.Common.{refl, ℤ, pos, Bool, true, false, arith}
+use Rattle.std.specs.Prelude.{◌&&◌, IsTrue}
 use Rattle.std.proofs.lemmas.Int.{ints}
 use Rattle.tb_scaled.specs.declared.Glue.{Glue}
 use Rattle.tb_node.specs.Fit.{IsDimension}

@@ -1,5 +1,5 @@
 -- What `paginate` writes, piece by piece.
-use Rattle.std.specs.Prelude.{◌≡◌, ◌⊎◌, ◌≤◌, ℕ, ◌+◌, List, [], ◌∷◌, ◌++◌, length, Option, None, Some, Result, IfErr, OnOk, OnErr}
+use Rattle.std.specs.Prelude.{◌≡◌, ◌≤◌, ℕ, List, [], ◌∷◌, ◌++◌, length, Option, Result, IfErr, OnOk, OnErr}
 use Rattle.std.specs.Io.KnownBytes.{Appends}
 use Rattle.tb_io.specs.Faults.{Rose}
 use Rattle.tb_io.specs.Held.{AppendsPrefix}
@@ -7,7 +7,7 @@ use Rattle.tb_column.specs.Column.{PlainSent, warned, shipped}
 use Rattle.tb_column.specs.Shown.{nodes_shown}
 use Rattle.tb_report.specs.declared.Totals.{Totals}
 use Rattle.tb_report.specs.Lines.{sent_lines, end_lines}
-use Rattle.tb_report.specs.Totals.{no_totals, with_sent, sheet_nodes}
+use Rattle.tb_report.specs.Totals.{with_sent, sheet_nodes}
 use Rattle.tb_top.specs.declared.View.{View}
 use Rattle.tb_top.specs.declared.View.TheVariants as views
 use Rattle.tb_top.specs.declared.PageFault.{PageFault}

@@ -23,7 +23,7 @@ use tb_galley::Galley;
 use tb_io::{Sink, SinkFault, write_all};
 use tb_node::Node;
 use tb_pool::Lists;
-use tb_report::{HEADER, Totals, end_text, sent_text};
+use tb_report::{HEADER, Totals, end_text, put_sent};
 use tb_run::{Ending, Routine};
 
 impl From<AllocError> for PageFault {
@@ -63,12 +63,13 @@ pub fn paginate<K: Sink>(
     let p = &galley.params;
     let mut routine = Routine::new(alloc, galley)?;
     let mut totals = Totals::new();
+    let mut text = Vec::new(alloc);
     if let Some(ending) = routine.node_limit(p) {
         return finish(alloc, &routine, view, &totals, ending, out);
     }
     'firing: loop {
         let turn = routine.turn(p)?;
-        send(alloc, &routine.store, turn.sent, view, &mut totals, out)?;
+        send(&routine.store, turn.sent, view, &mut totals, &mut text, out)?;
         if let Some(ending) = turn.ending {
             return finish(alloc, &routine, view, &totals, ending, out);
         }
@@ -90,13 +91,13 @@ fn show<K: Sink>(view: View, bytes: &[u8], out: &mut K) -> Result<(), PageFault>
     }
 }
 
-// Counts what the routine sends, and writes its lines.
+// Counts what the routine sends, and writes its lines. They are put together in a text that is used again.
 fn send<K: Sink>(
-    alloc: Global,
     store: &Lists<Node>,
     sent: Option<Sent>,
     view: View,
     totals: &mut Totals,
+    text: &mut Vec<u8>,
     out: &mut K,
 ) -> Result<(), PageFault>
     requires printable { IfSome sent (IsPrintableSent store.now) }
@@ -109,8 +110,9 @@ fn send<K: Sink>(
         return Ok(());
     };
     totals.count(store, &sent);
-    let text = sent_text(alloc, store, &sent)?;
-    show(view, &text, out)
+    text.clear();
+    put_sent(text, store, &sent)?;
+    show(view, text.as_slice(), out)
 }
 
 // The end of a run: the lines of what is left and the last line, where it ends well, or its refusal.

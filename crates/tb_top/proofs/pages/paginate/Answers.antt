@@ -1,4 +1,4 @@
-use Rattle.std.proofs.Common.{◌≡◌, ◌∙◌, ◌+◌, refl, ap, sym, subst, ◌≤◌, ◌<◌, arith}
+use Rattle.std.proofs.Common.{◌∙◌, ◌+◌, refl, ap, sym, subst, ◌<◌, arith}
 use Rattle.std.proofs.lemmas.Result.{err_from_is_err_and, IfErr-weaker, IfOk-weaker}
 use Rattle.tb_io.proofs.Appended.{prefix_whole}
 use Rattle.tb_output.specs.Machine.{MachineView}
