@@ -33,7 +33,7 @@ use Rattle.tb_output.proofs.StandLemmas.{Stands, nodes-stand, machine-stands, ma
 use Rattle.tb_output.proofs.MachineLemmas.{state-stands, floatless-stands, lists-live, not-new, fresh-apart}
 use Rattle.tb_output.proofs.TurnOutput.{of-none, begins-with}
 use Rattle.tb_output.proofs.FreeLists.{free-stand, to-owned, to-free, leaves-join}
-use Rattle.tb_output.proofs.CallerLemmas.{out-firing}
+use Rattle.tb_output.proofs.WholeFiring.{out-firing}
 
 -- what is asked of a firing that is begun
 pub can-begin : (m : MachineView) (b : Builder) (store : Lists Node) (page : Page) → refusal_of m ≡ None → IfNone m.fault (CanFire m b store page) → CanFire m b store page

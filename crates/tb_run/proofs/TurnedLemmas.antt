@@ -17,6 +17,7 @@ use Rattle.tb_builder.specs.Running.{IsSound}
 use Rattle.tb_column.specs.Column.{PlainSent}
 use Rattle.tb_column.specs.Shown.{sent_shown}
 use Rattle.tb_output.specs.declared.Turn.{Turn}
+use Rattle.tb_output.proofs.WholeFiring.{waits-after}
 use Rattle.tb_output.specs.declared.RunFault.{RunFault}
 use Rattle.tb_output.specs.declared.RunFault.TheVariants as faults
 use Rattle.tb_output.specs.State.{State, foot_class, Work}
@@ -51,11 +52,6 @@ pred-minus (suc n) = omega arith
 same-out : (p : Params) (m : MachineView) (store : Lists Node) (bs cs : List Boxed) (ns ms : List PlainNode) (f : Fired) → out p (state_shown store bs ns m) f ≡ out p (state_shown store cs ms m) f
 unfolding out
 same-out p m store bs cs ns ms f = refl
-
--- what waits after a firing
-waits-after : (p : Params) (s : State) (f : Fired) → (out p s f).state.waiting ≡ f.held ++ (out p s f).put_back ++ f.rest
-unfolding out
-waits-after p s f = refl
 
 module _ (p : Params) (r q : Routine) (page : Page) (runs : AreRunnable p) (ready : IsReady p r) (h : IsFiring p r page q) where
   abbrev f : Fired
