@@ -50,8 +50,8 @@ pub fn put_total(out: &mut Vec<u8>, word: &[u8], count: u64) -> Result<(), Alloc
     put_count(out, count)
 }
 
-/// Appends a word and an amount after it, in scaled points. It fails only where there is no memory; a part may then
-/// stand.
+/// Appends a word and an amount after it: scaled points, or a penalty or cost, which have no unit. It fails only where
+/// there is no memory; a part may then stand.
 pub fn put_measure(out: &mut Vec<u8>, word: &[u8], amount: i64) -> Result<(), AllocError>
     ensures { OnOk result (out.new.items ≡ out.old.items ++ (word.now ++ and_number amount)) }
 {
