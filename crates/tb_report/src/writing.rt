@@ -5,8 +5,8 @@ ghost use Rattle.tb_report.specs.Lines.{and_number, and_count, and_text, line};
 use std::alloc::AllocError;
 use tb_text::put_number;
 
-// Bytes as they are.
-pub(crate) fn put(out: &mut Vec<u8>, text: &[u8]) -> Result<(), AllocError>
+/// Appends bytes as they are. It fails only where there is no memory for them.
+pub fn put(out: &mut Vec<u8>, text: &[u8]) -> Result<(), AllocError>
     ensures { OnOk result (out.new.items ≡ out.old.items ++ text.now) }
 {
     out.extend_from_slice(text)
@@ -28,8 +28,8 @@ pub(crate) fn put_field(out: &mut Vec<u8>, number: i128) -> Result<(), AllocErro
     put_number(out, number)
 }
 
-// A space and an amount in scaled points.
-pub(crate) fn put_amount(out: &mut Vec<u8>, amount: i64) -> Result<(), AllocError>
+/// Appends a space and an amount in scaled points. It fails only where there is no memory; a part may then stand.
+pub fn put_amount(out: &mut Vec<u8>, amount: i64) -> Result<(), AllocError>
     ensures { OnOk result (out.new.items ≡ out.old.items ++ and_number amount) }
 {
     put_field(out, i128::from(amount))
@@ -42,16 +42,17 @@ pub(crate) fn put_count(out: &mut Vec<u8>, count: u64) -> Result<(), AllocError>
     put_field(out, i128::from(count))
 }
 
-// A word and the count after it.
-pub(crate) fn put_total(out: &mut Vec<u8>, word: &[u8], count: u64) -> Result<(), AllocError>
+/// Appends a word and a count after it. It fails only where there is no memory; a part may then stand.
+pub fn put_total(out: &mut Vec<u8>, word: &[u8], count: u64) -> Result<(), AllocError>
     ensures { OnOk result (out.new.items ≡ out.old.items ++ (word.now ++ and_count count)) }
 {
     put(out, word)?;
     put_count(out, count)
 }
 
-// A word and the amount after it.
-pub(crate) fn put_measure(out: &mut Vec<u8>, word: &[u8], amount: i64) -> Result<(), AllocError>
+/// Appends a word and an amount after it: scaled points, or a penalty or cost, which have no unit. It fails only where
+/// there is no memory; a part may then stand.
+pub fn put_measure(out: &mut Vec<u8>, word: &[u8], amount: i64) -> Result<(), AllocError>
     ensures { OnOk result (out.new.items ≡ out.old.items ++ (word.now ++ and_number amount)) }
 {
     put(out, word)?;
@@ -66,8 +67,8 @@ pub(crate) fn put_named(out: &mut Vec<u8>, word: &[u8], name: &[u8]) -> Result<(
     put(out, name)
 }
 
-// The end of a line.
-pub(crate) fn end_line(out: &mut Vec<u8>) -> Result<(), AllocError>
+/// Appends the end of a line. It fails only where there is no memory for it.
+pub fn end_line(out: &mut Vec<u8>) -> Result<(), AllocError>
     ensures { OnOk result (out.new.items ≡ out.old.items ++ 10 ∷ []) }
 {
     put(out, b"\n")
