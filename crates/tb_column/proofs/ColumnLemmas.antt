@@ -11,8 +11,11 @@ use Rattle.tb_node.specs.declared.Node.{Node}
 use Rattle.tb_node.specs.declared.Kind.{Kind}
 use Rattle.tb_node.specs.declared.Kind.TheVariants as kinds
 use Rattle.tb_node.specs.Shape.{Shape}
-use Rattle.tb_node.specs.Sums.{limited_depth}
-use Rattle.tb_node.specs.Small.{IsAmount}
+use Rattle.tb_node.specs.declared.Sums.{Sums}
+use Rattle.tb_node.specs.Sums.{limited_depth, sums_of}
+use Rattle.tb_node.specs.Add.{added_node}
+use Rattle.tb_node.proofs.AddLemmas.{sums-append}
+use Rattle.tb_node.specs.Small.{IsAmount, IsSmallShape}
 use Rattle.tb_node.specs.Fit.{NodesFit, SumsFit}
 use Rattle.tb_node.specs.Plain.{PlainNode, plain, plain_kind, plain_of, made, skip, matter_of, leaf_of, leaf_node, kind_shape, node_shape, shape_of_kind, shape_of, ins}
 use Rattle.tb_param.specs.declared.Params.{Params}
@@ -98,6 +101,21 @@ text_sums_fit limit p ns fits = sums_front (map shape_of ns) _ limit (subst (Sum
 
 pub depth_fits : (limit : ℤ) (ns : List Shape) → SumsFit limit ns → IsAmount (limited_depth limit ns)
 depth_fits limit ns fits = (fits ns [] (append-nil ns)).depth
+
+-- ---- the sums of a column that is closed
+
+-- this node closes the list
+module _ (p : Params) (ns : List Node) (g : Node) (is : g ≡ made_node (kinds.Skip (closing_by p.bottom (limited_depth p.maxdepth (map shape_of ns))))) where
+  closed_shapes : map shape_of (closed_list p ns) ≡ map shape_of ns ++ shape_of g ∷ []
+  closed_shapes = map-append shape_of ns _ ∙ ap (λ (m : Node). map shape_of ns ++ shape_of m ∷ []) (sym is)
+
+  pub closing_fits : NodesFit (map shape_of (closed_list p ns)) → IsSmallShape (shape_of g)
+  closing_fits fits = fits (map shape_of ns) (shape_of g) [] (sym closed_shapes)
+
+  -- its sums come to those of the list
+  pub closed_sums : (limit : ℤ) (s t : Sums) → s ≡ sums_of limit (map shape_of ns) → t ≡ added_node limit s (shape_of g) → t ≡ sums_of limit (map shape_of (closed_list p ns))
+  closed_sums limit s t before e =
+      e ∙ ap (λ (u : Sums). added_node limit u (shape_of g)) before ∙ sym (sums-append limit (map shape_of ns) (shape_of g)) ∙ ap (sums_of limit) (sym closed_shapes)
 
 -- ---- the nodes as the definitions see them
 

@@ -2,8 +2,9 @@
 ghost use Rattle.std.specs.Prelude.{◌≡◌, ◌+◌, ◌<◌, ◌≤◌, ◌≤ℤ◌, ◌≢◌, ℤ, pos, neg_ℤ, map, ◌++◌, ◌∷◌, [], OnOk, OnErr, IfOk};
 ghost use Rattle.tb_pool.specs.Lists.{IsLive, list_at, with_list};
 ghost use Rattle.tb_node.specs.Small.{IsAmount};
-ghost use Rattle.tb_node.specs.Fit.{shapes, NodesFit, SumsFit};
+ghost use Rattle.tb_node.specs.Fit.{NodesFit, SumsFit};
 ghost use Rattle.tb_node.specs.Plain.{shape_of};
+ghost use Rattle.tb_node.specs.Sums.{sums_of};
 ghost use Rattle.tb_float.specs.Lists.{no_floats};
 ghost use Rattle.tb_column.specs.Column.{is_ragged, text_column};
 ghost use Rattle.tb_column.specs.Shown.{nodes_shown, column_shown};
@@ -11,8 +12,8 @@ ghost use Rattle.tb_column.specs.TextList.{IsApart, CanJoin, notes_shown, made_n
 
 use crate::{Column, ColumnKind};
 use std::alloc::AllocError;
-use tb_node::{Kind, Node, list_sums};
-use tb_pack::pack;
+use tb_node::{Kind, Node, Sums, add, list_sums};
+use tb_pack::pack_sums;
 use tb_param::{Choice, Params};
 use tb_pool::{ListId, Lists};
 use tb_scaled::{Glue, Order};
@@ -110,19 +111,23 @@ fn join_notes(store: &mut Lists<Node>, skip: Glue, body: ListId, notes: Option<L
     }
 }
 
-// Ends a text column with the glue that takes its depth back.
-fn close_text(store: &mut Lists<Node>, p: &Params, body: ListId)
+// Ends a text column with the glue that takes its depth back, and answers the sums of the whole.
+fn close_text(store: &mut Lists<Node>, p: &Params, body: ListId) -> Sums
     requires live { IsLive store.old body }
     requires room { 0 < store.old.spare }
     requires low { pos 0 ≤ℤ p.now.maxdepth }
     requires limit { IsAmount p.now.maxdepth }
-    requires nodes { NodesFit (shapes store.old body) }
-    requires sums { SumsFit p.now.maxdepth (shapes store.old body) }
+    requires nodes { NodesFit (map shape_of (closed_list p.now (list_at store.old body))) }
+    requires sums { SumsFit p.now.maxdepth (map shape_of (closed_list p.now (list_at store.old body))) }
     ensures lists { store.new.lists ≡ with_list store.old body (closed_list p.now (list_at store.old body)) }
     ensures live { IsLive store.new body }
+    ensures sums { result ≡ sums_of p.now.maxdepth (map shape_of (closed_list p.now (list_at store.old body))) }
 {
-    let sums = list_sums(store, body, p.maxdepth);
-    push_made(store, body, Kind::Skip(closing_glue(p.bottom, sums.depth)));
+    let mut sums = list_sums(store, body, p.maxdepth);
+    let glue = made_node(Kind::Skip(closing_glue(p.bottom, sums.depth)));
+    add(&mut sums, &glue, p.maxdepth);
+    store.push_back(body, glue);
+    sums
 }
 
 /// Makes the text column of a page without floats: the text, then its footnotes under their rule, then the glue that
@@ -154,10 +159,10 @@ pub fn make_column(
 {
     store.reserve(5)?;
     join_notes(store, p.skipfootins, body, notes);
-    close_text(store, p, body);
+    let sums = close_text(store, p, body);
     Ok(Column {
         kind: ColumnKind::Text,
         list: body,
-        set: pack(store, body, p.textheight, p.maxdepth),
+        set: pack_sums(&sums, p.textheight),
     })
 }
