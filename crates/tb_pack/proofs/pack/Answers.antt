@@ -1,4 +1,4 @@
-use Rattle.std.proofs.Common.{◌≢◌, pos, sym, subst, FitsSigned, w64, rules}
+use Rattle.std.proofs.Common.{◌≢◌, pos, sym, subst, FitsSigned, w64}
 use Rattle.std.proofs.lemmas.Int.{to_z-of_z}
 use Rattle.tb_node.specs.Fit.{shapes}
 use Rattle.tb_pack.specs.declared.Set.{Set}

@@ -1,8 +1,7 @@
-use Rattle.std.proofs.Common.{◌≡◌, ◌∙◌, rules, ap, sym, subst, map, ℤ, FitsSigned, w64}
+use Rattle.std.proofs.Common.{◌∙◌, rules, ap, sym, subst, map, ℤ, FitsSigned, w64}
 use Rattle.std.proofs.lemmas.Int.{to_z-of_z}
 use Rattle.tb_pool.specs.Lists.{list_at}
 use Rattle.tb_pool.proofs.CallerLemmas.{live_same}
-use Rattle.tb_node.specs.declared.Node.{Node}
 use Rattle.tb_node.specs.declared.Kind.TheVariants as kinds
 use Rattle.tb_node.specs.Small.{IsAmount, IsSmall}
 use Rattle.tb_node.specs.Plain.{shape_of}

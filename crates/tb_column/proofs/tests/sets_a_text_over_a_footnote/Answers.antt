@@ -1,4 +1,4 @@
-use Rattle.std.proofs.Common.{◌≡◌, ◌≢◌, ◌∙◌, ap, sym, subst, ℕ, ◌+◌, ◌≤◌, List, length, pos, ℤ, ◌≤ℤ◌, Some, arith}
+use Rattle.std.proofs.Common.{◌≡◌, ◌≢◌, ap, sym, subst, ◌+◌, ◌≤◌, List, length, pos, ◌≤ℤ◌, Some, arith}
 use Rattle.std.specs.Prelude.{All}
 use Rattle.std.proofs.lemmas.Int.{ints}
 use Rattle.tb_pool.specs.Lists.{list_at, with_list}
@@ -8,7 +8,7 @@ use Rattle.tb_scaled.specs.declared.Glue.{Glue}
 use Rattle.tb_node.specs.declared.Node.{Node}
 use Rattle.tb_node.specs.Shape.{glue}
 use Rattle.tb_node.specs.Fit.{IsSized, IsSizedNode, IsDimension}
-use Rattle.tb_column.specs.TextList.{AreLeaves, AreNotes, IsApart, column_list}
+use Rattle.tb_column.specs.TextList.{AreLeaves, column_list}
 use Rattle.tb_column.proofs.StoreLemmas.{list-get}
 use Rattle.tb_column.proofs.ColumnLemmas.{leaves-apart}
 use Rattle.tb_column.proofs.FitsColumn.{column_nodes_fit, column_sums_fit}
