@@ -38,6 +38,8 @@ impl Machine {
         ensures machine { (store : ListMap NodeValue) → IsMachine self.old store → IsMachine self.new store }
         ensures params { self.new.params ≡ self.old.params }
         ensures fault { self.new.fault ≡ self.old.fault }
+        ensures size { self.new.pool.size ≡ self.old.pool.size }
+        ensures marks { self.new.pool.marks ≡ self.old.pool.marks }
         ensures lists { TakesNoList self.old self.new }
     {
         match a {

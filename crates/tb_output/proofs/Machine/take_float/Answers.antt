@@ -1,5 +1,5 @@
-use Rattle.std.proofs.Common.{sym, subst, ap, ◌∙◌, ◌++◌, FitsSigned, w64, rules, arith}
-use Rattle.std.proofs.lemmas.Int.{to_z-of_z, ints}
+use Rattle.std.proofs.Common.{ap, ◌∙◌, ◌++◌, FitsSigned, w64, rules, arith}
+use Rattle.std.proofs.lemmas.Int.{to_z-of_z}
 use Rattle.tb_output.specs.Acting.{warnings_sent}
 use Rattle.tb_output.proofs.ActingLemmas.{float-taken}
 use Rattle.tb_output.proofs.Machine.take_float.Goals as goal
