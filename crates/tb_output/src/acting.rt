@@ -1,5 +1,5 @@
 //! What the routine does at an act: a float or a marginal note is taken, floats are kept out of an area, or the columns
-//! change (ltoutput.dtx, \@xfloat, \@xmpar, \suppressfloats and \twocolumn).
+//! change (LaTeX, \@xfloat, \marginpar, \suppressfloats and \twocolumn).
 
 ghost use Rattle.std.specs.Prelude.{◌≡◌, pos, List, OnOk, OnErr, IfErr, option_to_list};
 ghost use Rattle.tb_pool.specs.Lists.{Lists as ListMap};
