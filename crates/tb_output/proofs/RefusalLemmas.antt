@@ -10,6 +10,6 @@ memory-err (Ok x) P h p = tt
 memory-err (Err e) P h p = subst P (sym h) p
 
 -- the refusal of a part is handed on
-pub same-err : {T : Type 0} (r : Result T RunFault) (e : RunFault) (P : RunFault → Type 0) → IsErrAnd r (λ x. x ≡ e) → P e → IfErr r P
+pub same-err : {T E : Type 0} (r : Result T E) (e : E) (P : E → Type 0) → IsErrAnd r (λ x. x ≡ e) → P e → IfErr r P
 same-err (Ok x) e P h p = tt
 same-err (Err x) e P h p = subst P (sym h) p

@@ -1,11 +1,12 @@
-//! The events that were sent and not taken yet, the oldest first.
+//! The events that were sent and not taken yet, the oldest first, with room for more of them.
 
-ghost use Rattle.std.specs.Prelude.{◌≡◌, [], ◌∷◌, ◌++◌, drop, OnOk, OnErr, IfSome, IfNone};
+ghost use Rattle.std.specs.Prelude.{◌≡◌, ◌+◌, ◌<◌, ◌≤◌, [], ◌∷◌, ◌++◌, OnOk, OnErr, IfSome, IfNone, option_to_list};
+ghost use Rattle.tb_output.specs.Acting.{warnings_sent};
 
 use std::alloc::{AllocError, Global};
 use std::collections::VecDeque;
 use std::marker::Model;
-use tb_column::Sent;
+use tb_column::{Sent, Warn};
 
 // An event in the queue: a type of this crate, since the checker does not find the modules of what a `Sent` holds where
 // it fills in a type parameter.
@@ -24,56 +25,84 @@ impl Model for Event {
     ghost inverse = { λ s. record { sent = s } };
 }
 
-/// A queue of events. It is seen as a list of [`Sent`].
+/// A queue of events, in which room is kept for so many more. It is seen as a list of [`Sent`] and that number.
 #[derive(Drop)]
 pub(crate) struct Events {
     queue: VecDeque<Event>,
+    room: usize,
 }
 
 impl Model for Events {
-    ghost use Rattle.std.specs.Prelude.{List};
-    ghost use Rattle.tb_column.specs.declared.Sent.{Sent};
+    ghost use Rattle.std.specs.Prelude.{◌+◌, ◌≤◌};
+    ghost use Rattle.std.specs.VecDeque.{deque_len, deque_capacity};
+    ghost use Rattle.tb_output.specs.Queue.{EventQueue};
 
-    ghost Value = { List Sent };
+    ghost Value = { EventQueue };
 
-    ghost view = { λ a. a.queue.items };
+    ghost view = { λ a. record { sent = a.queue.items; room = a.room } };
+
+    ghost invariant = { λ a. (deque_len a.queue + a.room ≤ deque_capacity a.queue) × (a.room ≤ 4096) };
 }
 
 impl Events {
-    /// No events. It takes no memory.
+    /// No events, and no room. It takes no memory.
     pub fn new(alloc: Global) -> Self
-        ensures { result ≡ [] }
+        ensures sent { result.sent ≡ [] }
+        ensures room { result.room ≡ 0 }
     {
         Events {
             queue: VecDeque::new(alloc),
+            room: 0,
         }
     }
 
-    /// Puts an event after the others. Where memory is lacking, they are as before.
-    pub fn push(&mut self, event: Sent) -> Result<(), AllocError>
-        ensures ok { OnOk result (self.new ≡ self.old ++ event ∷ []) }
-        ensures err { OnErr result (self.new ≡ self.old) }
+    /// Keeps room for so many more events. Where memory is lacking, all is as before.
+    pub fn keep_room(&mut self, count: usize) -> Result<(), AllocError>
+        requires { count ≤ 4096 }
+        ensures sent { self.new.sent ≡ self.old.sent }
+        ensures ok { OnOk result (self.new.room ≡ count) }
+        ensures err { OnErr result (self.new.room ≡ self.old.room) }
     {
-        push_at(&mut self.queue, Event { sent: event })
+        self.queue.reserve(count)?;
+        self.room = count;
+        Ok(())
     }
 
-    /// Takes the first event. None exactly where there are none.
+    /// Puts an event after the others; the room stays. Where memory is lacking, all is as before.
+    pub fn push(&mut self, event: Sent) -> Result<(), AllocError>
+        ensures ok { OnOk result (self.new.sent ≡ self.old.sent ++ event ∷ []) }
+        ensures err { OnErr result (self.new.sent ≡ self.old.sent) }
+        ensures room { self.new.room ≡ self.old.room }
+    {
+        self.queue.reserve(self.room + 1)?;
+        self.queue.push_back_reserved(Event { sent: event });
+        Ok(())
+    }
+
+    /// Puts a warning, where there is one, after the other events, into the room that is kept. It takes no memory.
+    pub fn warn(&mut self, warning: Option<Warn>)
+        requires { 0 < self.old.room }
+        ensures sent { self.new.sent ≡ self.old.sent ++ warnings_sent (option_to_list warning) }
+        ensures room { self.old.room ≤ self.new.room + 1 }
+    {
+        let Some(warning) = warning else {
+            return;
+        };
+        self.queue.push_back_reserved(Event {
+            sent: Sent::Warn(warning),
+        });
+        self.room -= 1;
+    }
+
+    /// Takes the first event; the room stays. None exactly where there are none.
     pub fn pop(&mut self) -> Option<Sent>
-        ensures some { IfSome result (λ e. self.old ≡ e ∷ self.new) }
-        ensures none { IfNone result ((self.old ≡ []) × (self.new ≡ [])) }
+        ensures some { IfSome result (λ e. self.old.sent ≡ e ∷ self.new.sent) }
+        ensures none { IfNone result ((self.old.sent ≡ []) × (self.new.sent ≡ [])) }
+        ensures room { self.new.room ≡ self.old.room }
     {
         match self.queue.pop_front() {
             Some(event) => Some(event.sent),
             None => None,
         }
     }
-}
-
-// Puts a value at the end of a queue, whatever it holds.
-fn push_at<T: Drop>(queue: &mut VecDeque<T>, value: T) -> Result<(), AllocError>
-    ensures ok { OnOk result (queue.new.items ≡ queue.old.items ++ value ∷ []) }
-    ensures err { OnErr result (queue.new.items ≡ queue.old.items) }
-{
-    queue.push_back(value)?;
-    Ok(())
 }

@@ -42,7 +42,7 @@ fn pool_size(p: &Params) -> u64
 
 /// A machine before the first page, in one column, with an empty pool of floats. It opens a list for the held page.
 ///
-/// Where there is no memory, a list may have been opened.
+/// Where there is no memory, no list was opened.
 pub fn new_machine(
     alloc: Global,
     store: &mut Lists<Node>,
@@ -58,7 +58,10 @@ pub fn new_machine(
     ensures fresh { IfOk result (λ m. get store.old.lists m.held_page ≡ None) }
     ensures opened { IfOk result (λ m. store.new.lists ≡ with_list store.old m.held_page []) }
 {
-    let pool = new_pool(alloc, pool_size(p))?;
+    let size = pool_size(p);
+    let pool = new_pool(alloc, size)?;
+    let mut events = Events::new(alloc);
+    events.keep_room(size as usize)?;
     let held_page = store.add_list()?;
     Ok(Machine {
         params: *p,
@@ -72,7 +75,7 @@ pub fn new_machine(
         first_column: true,
         left_column: None,
         pool,
-        events: Events::new(alloc),
+        events,
         fault: None,
     })
 }

@@ -5,15 +5,16 @@ ghost use Rattle.std.specs.FinMap.{get};
 ghost use Rattle.tb_pool.specs.Lists.{IsLive, list_at};
 ghost use Rattle.tb_node.specs.Fit.{IsSizedNode};
 ghost use Rattle.tb_column.specs.TextList.{AreLeaves};
+ghost use Rattle.tb_float.specs.Ranges.{IsSizedMargin};
 ghost use Rattle.tb_insert.specs.Arrived.{ClassFits};
 ghost use Rattle.tb_output.specs.Machine.{AreOutputParams, IsLimit};
 
-use crate::{RunFault, Sent, Sheet, new_machine};
+use crate::{Full, RunFault, Sent, Sheet, Warn, new_machine};
 use std::alloc::AllocError;
 use std::test::Fail;
 use tb_builder::{Page, new_builder};
 use tb_insert::Class;
-use tb_node::{Kind, Node, What};
+use tb_node::{Act, Area, Float, Kind, Margin, Name, Node, Places, What, name_of};
 use tb_param::{Params, defaults};
 use tb_pool::{ListId, Lists};
 use tb_scaled::fixed;
@@ -126,6 +127,68 @@ fn refuses_at_the_limits(rt: HostRuntime) -> Result<(), Fail> {
         )
     );
     Ok(())
+}
+
+// A float higher than the page is taken with a warning. In a pool of two the note finds no room for both its boxes then.
+#[test]
+fn takes_a_large_float(rt: HostRuntime) -> Result<(), Fail> {
+    let name = name_of(b"F").ok_or("name")?;
+    let mut store = Lists::new(rt.alloc());
+    let mut machine = new_machine(rt.alloc(), &mut store, &params(1, 25))?;
+    assert!(rt; machine.act(Act::Take(float(name, 40))).is_ok());
+    assert!(rt;
+        matches!(
+            machine.act(Act::TakeMargin(note(name))),
+            Err(Full { live: 1 })
+        )
+    );
+    assert!(rt; matches!(machine.sent(), Some(Sent::Warn(Warn::Large { by: 10, .. }))));
+    assert!(rt; matches!(machine.sent(), None));
+    Ok(())
+}
+
+// Floats are kept out of the top until the columns change.
+#[test]
+fn changes_columns(rt: HostRuntime) -> Result<(), Fail> {
+    let mut store = Lists::new(rt.alloc());
+    let mut machine = new_machine(rt.alloc(), &mut store, &params(1, 25))?;
+    assert!(rt; machine.act(Act::Suppress(Area::Top)).is_ok());
+    assert!(rt; machine.suppress.top);
+    assert!(rt; machine.act(Act::Columns { two: true }).is_ok());
+    assert!(rt; machine.two_columns && !machine.suppress.top);
+    Ok(())
+}
+
+fn float(name: Name, height: i64) -> Float
+    ensures { result.height ≡ height }
+{
+    Float {
+        line: 1,
+        name,
+        class: 1,
+        wide: false,
+        places: Places {
+            h: false,
+            t: true,
+            b: false,
+            p: false,
+        },
+        bang: false,
+        height,
+    }
+}
+
+fn note(name: Name) -> Margin
+    ensures { IsSizedMargin result }
+{
+    Margin {
+        line: 1,
+        name,
+        left_height: 5,
+        left_depth: 0,
+        right_height: 5,
+        right_depth: 0,
+    }
 }
 
 fn page(body: ListId, penalty: i64) -> Page

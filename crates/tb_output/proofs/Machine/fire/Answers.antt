@@ -8,8 +8,11 @@ use Rattle.tb_output.proofs.TurnOutput.{if-none}
 use Rattle.tb_output.proofs.OutputLemmas.{if-ok, if-err}
 use Rattle.tb_output.proofs.MachineLemmas.{with-fault}
 use Rattle.tb_output.proofs.ServingLemmas.{can-begin, handed-machine, handed-served, refusal-is, after-sound, after-contents, fired-is, may-go-back, machine-free}
-use Rattle.tb_output.proofs.RefusedFirings.{same-sound, same-machine, no-memory}
+use Rattle.tb_output.proofs.RefusedFirings.{not-begun, same-sound, same-machine, no-memory}
 use Rattle.tb_output.proofs.Machine.fire.Goals as goal
+
+pub returns-in-Some-clause-refused : goal.returns-in-Some-clause-refused
+returns-in-Some-clause-refused c = not-begun c.args.self.now c.args.store.now _ c.in-Some.fault (sym c.refusal.ensures ∙ c.in-Some.is)
 
 pub serve-requires-clause-machine : goal.serve-requires-clause-machine
 serve-requires-clause-machine c =

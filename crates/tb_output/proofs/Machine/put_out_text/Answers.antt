@@ -1,11 +1,34 @@
-use Rattle.std.proofs.Common.{sym, subst, ap, ◌∙◌, FitsSigned, w64, rules}
+use Rattle.std.proofs.Common.{ℤ, refl, sym, subst, ap, ◌∙◌, FitsSigned, w64, rules, arith}
 use Rattle.std.proofs.lemmas.Int.{to_z-of_z, ints}
+use Rattle.tb_node.specs.Small.{IsAmount}
+use Rattle.tb_node.specs.Fit.{IsExtent}
 use Rattle.tb_output.specs.Machine.{MachineView, IsMachine}
 use Rattle.tb_output.specs.Firing.{AreTextLists}
 use Rattle.tb_output.specs.Shipping.{shipped_machine, IsShipped}
 use Rattle.tb_output.proofs.RefusalLemmas.{memory-err}
 use Rattle.tb_output.proofs.PutOutLemmas.{text-apart, column-nodes, column-sums, notes-empty, rest-stands, was-shipped}
 use Rattle.tb_output.proofs.Machine.put_out_text.Goals as goal
+
+extent-amount : (z : ℤ) → IsExtent z → IsAmount z
+extent-amount z h = record { low = omega (arith, ints, h.low); high = omega (arith, ints, h.high) }
+
+pub returns-then-exceeds-clause-err : goal.returns-then-exceeds-clause-err
+returns-then-exceeds-clause-err c =
+    let is = subst (λ (x : MachineView). IsMachine x c.args.store.now) (sym c.self.view_is) c.requires.machine in
+    let limit : FitsSigned w64 c.self.inside.params.maxpages = search (rules, ints, is.params.maxpages) in
+    let exceeds = simp to_z-of_z at c.exceeds.ensures in
+    let first = is.first in
+    rw (← c.self.view_is) (record { full = sym exceeds ∙ c.if-exceeds.true; pages = omega (arith, first); machine = refl; lists = refl })
+
+pub make_column-requires-clause-height : goal.make_column-requires-clause-height
+make_column-requires-clause-height c =
+    let is = subst (λ (x : MachineView). IsMachine x c.args.store.now) (sym c.self.view_is) c.requires.machine in
+    extent-amount c.self.inside.params.textheight is.params.textheight
+
+pub make_column-requires-clause-limit : goal.make_column-requires-clause-limit
+make_column-requires-clause-limit c =
+    let is = subst (λ (x : MachineView). IsMachine x c.args.store.now) (sym c.self.view_is) c.requires.machine in
+    extent-amount c.self.inside.params.maxdepth is.params.maxdepth
 
 pub make_column-requires-clause-body : goal.make_column-requires-clause-body
 make_column-requires-clause-body c = text-apart c.args.self.now c.args.store.now c.args.body c.args.notes c.requires.machine c.requires.lists
