@@ -6,10 +6,13 @@ use Rattle.std.specs.FinMap.{FinMap, get, insert}
 use Rattle.std.specs.Ordering.{nat_cmp}
 use Rattle.tb_pool.specs.Lists.{Lists, IsLive, list_at, with_list}
 use Rattle.tb_pool.proofs.MapLemmas.{get-insert_same, get-insert_other}
+use Rattle.tb_pool.proofs.CallerLemmas.{list_same, list_other, live_same, live_other}
 use Rattle.tb_scaled.specs.declared.Glue.{Glue}
 use Rattle.tb_node.specs.declared.Node.{Node}
 use Rattle.tb_node.specs.declared.Kind.{Kind}
+use Rattle.tb_node.specs.declared.Float.{Float}
 use Rattle.tb_node.specs.declared.Kind.TheVariants as kinds
+use Rattle.tb_node.specs.declared.Where.TheVariants as places
 use Rattle.tb_node.specs.Shape.{Shape}
 use Rattle.tb_node.specs.Sums.{limited_depth}
 use Rattle.tb_node.specs.Small.{IsAmount}
@@ -18,13 +21,15 @@ use Rattle.tb_node.specs.Plain.{PlainNode, plain, plain_kind, plain_of, made, sk
 use Rattle.tb_param.specs.declared.Params.{Params}
 use Rattle.tb_pack.specs.declared.Set.{Set}
 use Rattle.tb_pack.specs.Pack.{packed}
-use Rattle.tb_float.specs.Lists.{no_floats}
+use Rattle.tb_float.specs.Lists.{FloatLists}
 use Rattle.tb_float.specs.Rooms.{column_height_of}
 use Rattle.tb_column.specs.declared.ColumnKind.TheVariants as column_kinds
 use Rattle.tb_column.specs.Column.{notes_below, closing_glue, text_nodes, text_column}
 use Rattle.tb_column.specs.Shown.{nodes_shown, column_shown}
-use Rattle.tb_column.specs.TextList.{kind_apart, IsApart, is_leaf_kind, AreLeaves, CanJoin, notes_shown, made_node, rule_above, notes_list, closing_by, closed_list, column_list, emptied}
-use Rattle.tb_column.proofs.StoreLemmas.{with_list-twice, with_list-same, insert-again, list-get}
+use Rattle.tb_column.specs.FloatList.{boxes_below}
+use Rattle.tb_column.specs.TextList.{kind_apart, IsApart, is_leaf_kind, AreLeaves, CanJoin, notes_shown, made_node, rule_above, notes_list, top_list, bottom_list, text_list, closing_by, closed_list, column_list, emptied}
+use Rattle.tb_column.proofs.StoreLemmas.{insert-twice, with_list-twice, with_list-same, insert-again, list-get}
+use Rattle.tb_column.proofs.FloatLemmas.{boxes_above-held, boxes_below-held, boxes_above-leaves}
 
 -- ---- the store
 
@@ -57,28 +62,12 @@ list-emptied_other old now body notes xs e q ne other = list-get old now q (ap (
 pub joined_none : (old : Lists Node) (body : ℕ) (g : Glue) → IsLive old body → old.lists ≡ emptied None (with_list old body (list_at old body ++ notes_list g old None))
 joined_none old body g live = with_list-same old old body live refl ∙ ap (with_list old body) (sym (append-nil (list_at old body)))
 
--- what the text's list holds depends on the lists alone
-text_list-same : (g : Glue) (a b : Lists Node) (body : ℕ) (notes : Option ℕ) → a.lists ≡ b.lists
-    → emptied notes (with_list a body (list_at a body ++ notes_list g a notes)) ≡ emptied notes (with_list b body (list_at b body ++ notes_list g b notes))
-text_list-same g a b body None e = ap (λ (m : FinMap nat_cmp (List Node)). insert m body (unwrap_or (get m body) [] ++ [])) e
-text_list-same g a b body (Some l) e = ap (λ (m : FinMap nat_cmp (List Node)). insert (insert m body (unwrap_or (get m body) [] ++ (rule_above g ++ unwrap_or (get m l) []))) l []) e
-
--- the store when memory was found, when the footnotes were joined, and when the text was closed
-module _ (old ready mid new : Lists Node) (p : Params) (body : ℕ) (notes : Option ℕ) (can : CanJoin old body notes)
-    (found : ready.lists ≡ old.lists) (join : mid.lists ≡ emptied notes (with_list ready body (list_at ready body ++ notes_list p.skipfootins ready notes))) where
-  joined_lists : mid.lists ≡ emptied notes (with_list old body (list_at old body ++ notes_list p.skipfootins old notes))
-  joined_lists = join ∙ text_list-same p.skipfootins ready old body notes found
-
-  pub joined_list : list_at mid body ≡ list_at old body ++ notes_list p.skipfootins old notes
-  joined_list = list-emptied old mid body notes (list_at old body ++ notes_list p.skipfootins old notes) can joined_lists
-
-  pub joined_live : IsLive mid body
-  joined_live = live-emptied old mid body notes (list_at old body ++ notes_list p.skipfootins old notes) can joined_lists
-
-  pub closed_lists : new.lists ≡ with_list mid body (closed_list p (list_at mid body)) → new.lists ≡ emptied notes (with_list old body (column_list p old body notes))
-  closed_lists close =
-      emptied-again old mid new body notes (list_at old body ++ notes_list p.skipfootins old notes) (closed_list p (list_at mid body)) can joined_lists close
-      ∙ ap (λ ns. emptied notes (with_list old body (closed_list p ns))) joined_list
+-- the text's list is changed again by what it holds
+pub text-changed : (old now next : Lists Node) (body : ℕ) (notes : Option ℕ) (xs : List Node) (change : List Node → List Node) → CanJoin old body notes
+    → now.lists ≡ emptied notes (with_list old body xs) → next.lists ≡ with_list now body (change (list_at now body)) → next.lists ≡ emptied notes (with_list old body (change xs))
+text-changed old now next body notes xs change can e f =
+    emptied-again old now next body notes xs (change (list_at now body)) can e f
+    ∙ ap (λ (ns : List Node). emptied notes (with_list old body (change ns))) (list-emptied old now body notes xs can e)
 
 -- ---- fronts of a list whose sums fit
 
@@ -182,42 +171,104 @@ notes-held : (held : ℕ → List Node) (p : Params) (old : Lists Node) (body : 
 notes-held held p old body None can = refl
 notes-held held p old body (Some l) can = ap (λ ns. map (plain_of held) (rule_above p.skipfootins) ++ ns) (leaves-held held (list_at old l) can.leaves)
 
+-- ---- the steps of making a column
+
+apart-append : (l : ℕ) (xs ys : List Node) → IsApart l xs → IsApart l ys → IsApart l (xs ++ ys)
+apart-append l [] ys a b = b
+apart-append l (x ∷ xs) ys a b = (a.0, apart-append l xs ys a.1 b)
+
+top-apart : (p : Params) (l : FloatLists) (q : ℕ) → IsApart q (top_list p l)
+top-apart p l q = leaves-apart q (top_list p l) (boxes_above-leaves places.Top p.floatsep p.textfloatsep l.top)
+
+module _ (old ready above : Lists Node) (p : Params) (l : FloatLists) (body : ℕ)
+    (found : ready.lists ≡ old.lists) (put : above.lists ≡ with_list ready body (top_list p l ++ list_at ready body)) where
+  -- the floats stand above the text
+  pub above_lists : above.lists ≡ with_list old body (top_list p l ++ list_at old body)
+  above_lists = put ∙ ap (λ (m : FinMap nat_cmp (List Node)). insert m body (top_list p l ++ unwrap_or (get m body) [])) found
+
+  pub above_live : IsLive above body
+  above_live = live_same old above body (top_list p l ++ list_at old body) above_lists
+
+  pub above_join : (notes : Option ℕ) → CanJoin old body notes → CanJoin above body notes
+  above_join None can = tt
+  above_join (Some q) can = record {
+    live = live_other old above body (top_list p l ++ list_at old body) q (λ e. can.apart (sym e)) above_lists can.live;
+    apart = can.apart;
+    inner = subst (IsApart q) (sym (list_same old above body (top_list p l ++ list_at old body) above_lists)) (apart-append q (top_list p l) (list_at old body) (top-apart p l q) can.inner);
+    leaves = subst AreLeaves (sym (list_other old above body (top_list p l ++ list_at old body) q (λ e. can.apart (sym e)) above_lists)) can.leaves;
+  }
+
+  notes-stay : (notes : Option ℕ) → CanJoin old body notes → notes_list p.skipfootins above notes ≡ notes_list p.skipfootins old notes
+  notes-stay None can = refl
+  notes-stay (Some q) can = ap (λ (ns : List Node). rule_above p.skipfootins ++ ns) (list_other old above body (top_list p l ++ list_at old body) q (λ e. can.apart (sym e)) above_lists)
+
+  module _ (joined : Lists Node) (notes : Option ℕ) (can : CanJoin old body notes)
+      (join : joined.lists ≡ emptied notes (with_list above body (list_at above body ++ notes_list p.skipfootins above notes))) where
+    -- the footnotes are joined
+    joined_nodes : list_at above body ++ notes_list p.skipfootins above notes ≡ top_list p l ++ list_at old body ++ notes_list p.skipfootins old notes
+    joined_nodes = λ i. list_same old above body (top_list p l ++ list_at old body) above_lists i ++ notes-stay notes can i
+
+    pub joined_lists : joined.lists ≡ emptied notes (with_list old body (top_list p l ++ list_at old body ++ notes_list p.skipfootins old notes))
+    joined_lists =
+        join
+        ∙ ap (λ (m : FinMap nat_cmp (List Node)). emptied notes (insert m body (list_at above body ++ notes_list p.skipfootins above notes))) above_lists
+        ∙ ap (emptied notes) (insert-twice old.lists body (top_list p l ++ list_at old body) (list_at above body ++ notes_list p.skipfootins above notes))
+        ∙ ap (λ (ns : List Node). emptied notes (with_list old body ns)) joined_nodes
+
+    pub joined_live : IsLive joined body
+    joined_live = live-emptied old joined body notes (top_list p l ++ list_at old body ++ notes_list p.skipfootins old notes) can joined_lists
+
+    module _ (below : Lists Node) (m : FloatLists) (same : m.bottom ≡ l.bottom) (low : below.lists ≡ with_list joined body (list_at joined body ++ bottom_list p m)) where
+      -- the floats stand below it
+      pub below_lists : below.lists ≡ emptied notes (with_list old body (text_list p l old body notes))
+      below_lists =
+          text-changed old joined below body notes (top_list p l ++ list_at old body ++ notes_list p.skipfootins old notes) (λ (ns : List Node). ns ++ bottom_list p l) can joined_lists
+          (low ∙ ap (λ (fs : List Float). with_list joined body (list_at joined body ++ boxes_below places.Bottom p.floatsep p.textfloatsep fs)) same)
+
+      pub below_list : list_at below body ≡ text_list p l old body notes
+      below_list = list-emptied old below body notes (text_list p l old body notes) can below_lists
+
+      -- the text is closed
+      pub closed_lists : (new : Lists Node) → new.lists ≡ with_list below body (closed_list p (list_at below body)) → new.lists ≡ emptied notes (with_list old body (column_list p l old body notes))
+      closed_lists new close = text-changed old below new body notes (text_list p l old body notes) (closed_list p) can below_lists close
+
 -- ---- the column
 
-no_double : (p : Params) → p.textheight ≡ column_height_of p no_floats
-no_double p = omega (arith, ints)
-
-module _ (old new : Lists Node) (p : Params) (body : ℕ) (notes : Option ℕ) (can : CanJoin old body notes) (apart : IsApart body (list_at old body))
-    (made_lists : new.lists ≡ emptied notes (with_list old body (column_list p old body notes))) where
-  abbrev front : List Node
-  front = list_at old body ++ notes_list p.skipfootins old notes
-
+module _ (old new : Lists Node) (p : Params) (l : FloatLists) (body : ℕ) (notes : Option ℕ) (can : CanJoin old body notes) (apart : IsApart body (list_at old body))
+    (made_lists : new.lists ≡ emptied notes (with_list old body (column_list p l old body notes))) where
   abbrev texts : List PlainNode
-  texts = text_nodes p no_floats (nodes_shown old body) (notes_shown old notes)
+  texts = text_nodes p l (nodes_shown old body) (notes_shown old notes)
 
-  pub list-made : list_at new body ≡ column_list p old body notes
-  list-made = list-emptied old new body notes (column_list p old body notes) can made_lists
+  pub list-made : list_at new body ≡ column_list p l old body notes
+  list-made = list-emptied old new body notes (column_list p l old body notes) can made_lists
 
-  front-shown : map (plain_of (list_at new)) front ≡ texts
+  text-shown : map (plain_of (list_at new)) (list_at old body) ≡ nodes_shown old body
+  text-shown =
+      text-held (list_at old) (list_at new) body notes (list-emptied_other old new body notes (column_list p l old body notes) made_lists) (list_at old body) apart (inner_apart old body notes can)
+
+  front-shown : map (plain_of (list_at new)) (text_list p l old body notes) ≡ texts
   front-shown =
-      map-append (plain_of (list_at new)) (list_at old body) (notes_list p.skipfootins old notes)
-      ∙ (λ i. text-held (list_at old) (list_at new) body notes (list-emptied_other old new body notes (column_list p old body notes) made_lists) (list_at old body) apart (inner_apart old body notes can) i
-      ++ notes-held (list_at new) p old body notes can i)
-      ∙ sym (append-nil (nodes_shown old body ++ notes_below p (notes_shown old notes)))
+      let shown : Node → PlainNode = plain_of (list_at new) in
+      map-append shown (top_list p l ++ list_at old body ++ notes_list p.skipfootins old notes) (bottom_list p l)
+      ∙ ap (λ (ns : List PlainNode). ns ++ map shown (bottom_list p l)) (map-append shown (top_list p l ++ list_at old body) (notes_list p.skipfootins old notes))
+      ∙ ap (λ (ns : List PlainNode). ns ++ map shown (notes_list p.skipfootins old notes) ++ map shown (bottom_list p l)) (map-append shown (top_list p l) (list_at old body))
+      ∙ (λ i. boxes_above-held (list_at new) places.Top p.floatsep p.textfloatsep l.top i ++ text-shown i ++ notes-held (list_at new) p old body notes can i
+      ++ boxes_below-held (list_at new) places.Bottom p.floatsep p.textfloatsep l.bottom i)
 
-  glue-shown : closing_by p.bottom (limited_depth p.maxdepth (map shape_of front)) ≡ closing_glue p texts
-  glue-shown = ap (λ ns. closing_by p.bottom (limited_depth p.maxdepth ns)) (sym (shapes-held (list_at new) front) ∙ ap (map node_shape) front-shown)
+  glue-shown : closing_by p.bottom (limited_depth p.maxdepth (map shape_of (text_list p l old body notes))) ≡ closing_glue p texts
+  glue-shown = ap (λ ns. closing_by p.bottom (limited_depth p.maxdepth ns)) (sym (shapes-held (list_at new) (text_list p l old body notes)) ∙ ap (map node_shape) front-shown)
 
   nodes-made : nodes_shown new body ≡ texts ++ made (skip (closing_glue p texts)) ∷ []
   nodes-made =
       ap (map (plain_of (list_at new))) list-made
-      ∙ map-append (plain_of (list_at new)) front (made_node (kinds.Skip (closing_by p.bottom (limited_depth p.maxdepth (map shape_of front)))) ∷ [])
+      ∙ map-append (plain_of (list_at new)) (text_list p l old body notes) (made_node (kinds.Skip (closing_by p.bottom (limited_depth p.maxdepth (map shape_of (text_list p l old body notes))))) ∷ [])
       ∙ (λ i. front-shown i ++ made (skip (glue-shown i)) ∷ [])
 
-  pub column-made : (s : Set) → s ≡ packed p.textheight p.maxdepth (map shape_of (list_at new body)) → column_shown new (record { kind = column_kinds.Text; list = body; set = s }) ≡ text_column p no_floats (nodes_shown old body) (notes_shown old notes)
-  column-made s e =
+  pub column-made : (h : ℤ) (s : Set) → h ≡ column_height_of p l → s ≡ packed h p.maxdepth (map shape_of (list_at new body))
+      → column_shown new (record { kind = column_kinds.Text; list = body; set = s }) ≡ text_column p l (nodes_shown old body) (notes_shown old notes)
+  column-made h s height e =
       let sized : map shape_of (list_at new body) ≡ map node_shape (texts ++ made (skip (closing_glue p texts)) ∷ []) =
       sym (shapes-held (list_at new) (list_at new body)) ∙ ap (map node_shape) nodes-made in
-      let set : s ≡ packed (column_height_of p no_floats) p.maxdepth (map node_shape (texts ++ made (skip (closing_glue p texts)) ∷ [])) =
-      e ∙ (λ i. packed (no_double p i) p.maxdepth (sized i)) in
+      let set : s ≡ packed (column_height_of p l) p.maxdepth (map node_shape (texts ++ made (skip (closing_glue p texts)) ∷ [])) =
+      e ∙ (λ i. packed (height i) p.maxdepth (sized i)) in
       λ i. record { kind = column_kinds.Text; nodes = nodes-made i; set = set i }

@@ -1,5 +1,5 @@
 -- What a caller of `make_column` owes where each node of its lists is sized.
-use Rattle.std.proofs.Common.{ℕ, ◌+◌, ◌≤◌, ℤ, pos, negsuc, neg_ℤ, ◌≤ℤ◌, Bool, true, false, List, [], ◌∷◌, ◌++◌, length, map, length-append, Option, Some, None, arith}
+use Rattle.std.proofs.Common.{ℕ, ◌+◌, ◌*◌, ◌≤◌, ℤ, pos, negsuc, neg_ℤ, ◌≤ℤ◌, Bool, true, false, List, [], ◌∷◌, ◌++◌, length, map, length-append, Option, Some, None, arith}
 use Rattle.std.specs.Prelude.{All, if◌then◌else◌}
 use Rattle.std.proofs.lemmas.Int.{ints}
 use Rattle.std.proofs.lemmas.List.Elements.{All-nil, All-cons, All-append, All-map, All-from_recursion}
@@ -8,6 +8,7 @@ use Rattle.tb_pool.specs.Lists.{Lists, list_at}
 use Rattle.tb_scaled.specs.declared.Glue.{Glue}
 use Rattle.tb_node.specs.declared.Node.{Node}
 use Rattle.tb_node.specs.declared.Kind.TheVariants as kinds
+use Rattle.tb_node.specs.declared.Where.TheVariants as places
 use Rattle.tb_node.specs.Plain.{shape_of}
 use Rattle.tb_node.specs.Shape.{glue}
 use Rattle.tb_node.specs.Sums.{last_depth, limited_depth}
@@ -15,7 +16,10 @@ use Rattle.tb_node.specs.Fit.{NodesFit, SumsFit, IsDimension, IsExtent, IsSized,
 use Rattle.tb_node.proofs.FitLemmas.{last_depth_extent, nodes_fit, sums_fit, summable}
 use Rattle.tb_param.specs.declared.params.Params.{Params}
 use Rattle.tb_column.specs.Column.{is_ragged}
-use Rattle.tb_column.specs.TextList.{made_node, rule_above, notes_list, closing_by, closed_list, column_list}
+use Rattle.tb_float.specs.Lists.{FloatLists}
+use Rattle.tb_column.specs.FloatList.{IsSizedFloat, AreFloatGlues}
+use Rattle.tb_column.specs.TextList.{made_node, rule_above, notes_list, top_list, bottom_list, text_list, closing_by, closed_list, column_list}
+use Rattle.tb_column.proofs.FloatLemmas.{boxes_above-sized, boxes_below-sized, boxes_above-length, boxes_below-length}
 
 -- the footnotes' nodes are sized, where there are footnotes
 abbrev pub AreSizedNotes : Lists Node → Option ℕ → Type 0
@@ -67,23 +71,37 @@ notes_few : (g : Glue) (store : Lists Node) (notes : Option ℕ) → length (not
 notes_few g store None = omega arith
 notes_few g store (Some l) = omega (arith, length-append (rule_above g) (list_at store l))
 
-module _ (p : Params) (store : Lists Node) (body : ℕ) (notes : Option ℕ) (low : pos 0 ≤ℤ p.maxdepth) (skip : IsSized (glue p.skipfootins))
-    (text : All IsSizedNode (list_at store body)) (under : AreSizedNotes store notes) (few : length (list_at store body) + note_count store notes ≤ 8388603) where
-  sized : All IsSizedNode (column_list p store body notes)
-  sized = closed_sized p _ low (All-append IsSizedNode (list_at store body) _ text (notes_sized p.skipfootins store notes skip under))
+module _ (p : Params) (l : FloatLists) (store : Lists Node) (body : ℕ) (notes : Option ℕ) (low : pos 0 ≤ℤ p.maxdepth) (skip : IsSized (glue p.skipfootins)) (beside : AreFloatGlues p)
+    (tops : All IsSizedFloat l.top) (bottoms : All IsSizedFloat l.bottom) (text : All IsSizedNode (list_at store body)) (under : AreSizedNotes store notes)
+    (few : length (list_at store body) + note_count store notes + 2 * length l.top + 2 * length l.bottom ≤ 8388599) where
+  text_sized : All IsSizedNode (text_list p l store body notes)
+  text_sized =
+      All-append IsSizedNode (top_list p l ++ list_at store body ++ notes_list p.skipfootins store notes) (bottom_list p l)
+      (All-append IsSizedNode (top_list p l ++ list_at store body) (notes_list p.skipfootins store notes)
+      (All-append IsSizedNode (top_list p l) (list_at store body) (boxes_above-sized places.Top p.floatsep p.textfloatsep l.top beside.floatsep beside.textfloatsep tops) text)
+      (notes_sized p.skipfootins store notes skip under))
+      (boxes_below-sized places.Bottom p.floatsep p.textfloatsep l.bottom beside.floatsep beside.textfloatsep bottoms)
 
-  short : length (column_list p store body notes) ≤ 8388608
+  sized : All IsSizedNode (column_list p l store body notes)
+  sized = closed_sized p (text_list p l store body notes) low text_sized
+
+  short : length (column_list p l store body notes) ≤ 8388608
   short =
       omega (
         arith,
-        length-append (list_at store body ++ notes_list p.skipfootins store notes) (made_node (kinds.Skip (closing_by p.bottom (limited_depth p.maxdepth (map shape_of (list_at store body ++ notes_list p.skipfootins store notes))))) ∷ []),
-        length-append (list_at store body) (notes_list p.skipfootins store notes),
+        few,
+        length-append (text_list p l store body notes) (made_node (kinds.Skip (closing_by p.bottom (limited_depth p.maxdepth (map shape_of (text_list p l store body notes))))) ∷ []),
+        length-append (top_list p l ++ list_at store body ++ notes_list p.skipfootins store notes) (bottom_list p l),
+        length-append (top_list p l ++ list_at store body) (notes_list p.skipfootins store notes),
+        length-append (top_list p l) (list_at store body),
+        boxes_above-length places.Top p.floatsep p.textfloatsep l.top,
+        boxes_below-length places.Bottom p.floatsep p.textfloatsep l.bottom,
         notes_few p.skipfootins store notes,
       )
 
   -- the amounts and the sums of the column fit
-  pub column_nodes_fit : NodesFit (map shape_of (column_list p store body notes))
+  pub column_nodes_fit : NodesFit (map shape_of (column_list p l store body notes))
   column_nodes_fit = nodes_fit _ (All-map IsSized shape_of _ sized)
 
-  pub column_sums_fit : SumsFit p.maxdepth (map shape_of (column_list p store body notes))
+  pub column_sums_fit : SumsFit p.maxdepth (map shape_of (column_list p l store body notes))
   column_sums_fit = sums_fit p.maxdepth _ low (summable _ sized short)

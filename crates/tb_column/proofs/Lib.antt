@@ -1,3 +1,6 @@
 pub mod StoreLemmas
+pub mod FloatLemmas
+pub mod MovingLemmas
 pub mod ColumnLemmas
 pub mod FitsColumn
+pub mod PageLemmas

@@ -8,11 +8,15 @@ use Rattle.tb_scaled.specs.declared.Order.TheVariants.{Normal, Fil}
 use Rattle.tb_node.specs.declared.Node.{Node}
 use Rattle.tb_node.specs.declared.Kind.{Kind}
 use Rattle.tb_node.specs.declared.Kind.TheVariants as kinds
+use Rattle.tb_node.specs.declared.Where.TheVariants as places
 use Rattle.tb_node.specs.Plain.{Leaf, leaf_of, shape_of}
 use Rattle.tb_node.specs.Sums.{limited_depth}
 use Rattle.tb_param.specs.declared.Params.{Params}
 use Rattle.tb_param.specs.declared.Choice.{Choice}
+use Rattle.tb_float.specs.Lists.{FloatLists}
 use Rattle.tb_column.specs.Column.{is_ragged}
+use Rattle.tb_column.specs.FloatList.{boxes_above, boxes_below}
+pub use Rattle.tb_column.specs.FloatList.{made_node}
 
 -- ---- what is asked of the lists
 
@@ -71,10 +75,6 @@ abbrev pub notes_shown : Lists Node → Option ℕ → Option (List Leaf)
 notes_shown store None = None
 notes_shown store (Some l) = Some (map leaf_of (list_at store l))
 
--- a node that is made here has line 0
-abbrev pub made_node : Kind → Node
-made_node k = record { line = 0; kind = k }
-
 -- what stands above footnotes: glue, and a rule between kerns
 abbrev pub rule_above : Glue → List Node
 rule_above g = made_node (kinds.Skip g) ∷ made_node (kinds.Kern (negsuc 196607)) ∷ made_node (kinds.Rule None (pos 26214) (pos 0)) ∷ made_node (kinds.Kern (pos 170394)) ∷ []
@@ -97,9 +97,20 @@ closing_by bottom depth = record {
 abbrev pub closed_list : Params → List Node → List Node
 closed_list p ns = ns ++ made_node (kinds.Skip (closing_by p.bottom (limited_depth p.maxdepth (map shape_of ns)))) ∷ []
 
--- the text, its footnotes and the closing glue
-abbrev pub column_list : Params → Lists Node → ℕ → Option ℕ → List Node
-column_list p store body notes = closed_list p (list_at store body ++ notes_list p.skipfootins store notes)
+-- the floats at the top and at the bottom of a column
+abbrev pub top_list : Params → FloatLists → List Node
+top_list p l = boxes_above places.Top p.floatsep p.textfloatsep l.top
+
+abbrev pub bottom_list : Params → FloatLists → List Node
+bottom_list p l = boxes_below places.Bottom p.floatsep p.textfloatsep l.bottom
+
+-- top floats, text, footnotes and bottom floats
+abbrev pub text_list : Params → FloatLists → Lists Node → ℕ → Option ℕ → List Node
+text_list p l store body notes = top_list p l ++ list_at store body ++ notes_list p.skipfootins store notes ++ bottom_list p l
+
+-- the same and the closing glue
+abbrev pub column_list : Params → FloatLists → Lists Node → ℕ → Option ℕ → List Node
+column_list p l store body notes = closed_list p (text_list p l store body notes)
 
 -- the map where the footnotes' list is empty, if there is one
 abbrev pub emptied : Option ℕ → FinMap nat_cmp (List Node) → FinMap nat_cmp (List Node)

@@ -1,16 +1,21 @@
-//! Makes a text column of the lists of its text and of its footnotes.
-ghost use Rattle.std.specs.Prelude.{◌≡◌, ◌+◌, ◌<◌, ◌≤◌, ◌≤ℤ◌, ◌≢◌, ℤ, pos, neg_ℤ, map, ◌++◌, ◌∷◌, [], OnOk, OnErr, IfOk};
+//! Makes a text column of its text, its footnotes and its floats.
+ghost use Rattle.std.specs.Prelude.{◌≡◌, ◌+◌, ◌<◌, ◌≤◌, ◌≤ℤ◌, ◌≢◌, ℤ, pos, neg_ℤ, map, ◌++◌, OnOk, OnErr, IfOk};
 ghost use Rattle.tb_pool.specs.Lists.{IsLive, list_at, with_list};
 ghost use Rattle.tb_node.specs.Small.{IsAmount};
 ghost use Rattle.tb_node.specs.Fit.{shapes, NodesFit, SumsFit};
 ghost use Rattle.tb_node.specs.Plain.{shape_of};
-ghost use Rattle.tb_float.specs.Lists.{no_floats};
+ghost use Rattle.tb_float.specs.Pool.{without_entries};
+ghost use Rattle.tb_float.specs.Ranges.{AreFloatParams};
 ghost use Rattle.tb_column.specs.Column.{is_ragged, text_column};
 ghost use Rattle.tb_column.specs.Shown.{nodes_shown, column_shown};
-ghost use Rattle.tb_column.specs.TextList.{IsApart, CanJoin, notes_shown, made_node, rule_above, notes_list, closing_by, closed_list, column_list, emptied};
+ghost use Rattle.tb_column.specs.FloatList.{AreFloatGlues};
+ghost use Rattle.tb_column.specs.TextList.{IsApart, CanJoin, notes_shown, rule_above, notes_list, closing_by, closed_list, column_list, emptied};
 
+use crate::areas::{put_above, put_below};
+use crate::nodes::push_made;
 use crate::{Column, ColumnKind};
 use std::alloc::AllocError;
+use tb_float::{Part, Pool};
 use tb_node::{Kind, Node, list_sums};
 use tb_pack::pack;
 use tb_param::{Choice, Params};
@@ -27,24 +32,6 @@ const KERN_BELOW: i64 = 170_394;
 
 // The stretch of the glue at a ragged bottom is as small as LaTeX's (\raggedbottom: 0.0001fil).
 const RAGGED_STRETCH: i64 = 7;
-
-// A node that no galley item gives.
-fn made_node(kind: Kind) -> Node
-    ensures { result ≡ made_node kind }
-{
-    Node { line: 0, kind }
-}
-
-// Puts such a node at the end of a list.
-fn push_made(store: &mut Lists<Node>, l: ListId, kind: Kind)
-    requires live { IsLive store.old l }
-    requires room { 0 < store.old.spare }
-    ensures lists { store.new.lists ≡ with_list store.old l (list_at store.old l ++ made_node kind ∷ []) }
-    ensures live { IsLive store.new l }
-    ensures spare { store.new.spare + 1 ≡ store.old.spare }
-{
-    store.push_back(l, made_node(kind));
-}
 
 // Puts glue and the rule above footnotes at the end of a list.
 fn push_rule(store: &mut Lists<Node>, l: ListId, skip: Glue)
@@ -125,13 +112,16 @@ fn close_text(store: &mut Lists<Node>, p: &Params, body: ListId)
     push_made(store, body, Kind::Skip(closing_glue(p.bottom, sums.depth)));
 }
 
-/// Makes the text column of a page without floats: the text, then its footnotes under their rule, then the glue that
-/// takes the depth back, packed to the page's height (ltoutput.dtx, \@makecol and \@combinefloats).
+/// Makes the text column of a page: the floats at its top, the text, its footnotes under their rule, the floats at its
+/// bottom, then the glue that takes the depth back, packed to the height that the wide floats leave of a page
+/// (ltoutput.dtx, \@makecol and \@combinefloats).
 ///
-/// The list of the text becomes the column's, and that of the footnotes is emptied into it; no node is copied. Where
-/// there is no memory for the nodes that are made, all lists stay as they were.
+/// The list of the text becomes the column's, and that of the footnotes is emptied into it; no node is copied. The floats
+/// at top and bottom leave the pool. Where there is no memory for the nodes that are made, the pool and all lists stay as
+/// they were.
 pub fn make_column(
     store: &mut Lists<Node>,
+    pool: &mut Pool,
     p: &Params,
     body: ListId,
     notes: Option<ListId>,
@@ -139,25 +129,32 @@ pub fn make_column(
     requires live { IsLive store.old body }
     requires body { IsApart body (list_at store.old body) }
     requires notes { CanJoin store.old body notes }
-    requires height { IsAmount p.now.textheight }
+    requires params { AreFloatParams p.now }
+    requires glue { AreFloatGlues p.now }
     requires low { pos 0 ≤ℤ p.now.maxdepth }
     requires limit { IsAmount p.now.maxdepth }
-    requires nodes { NodesFit (map shape_of (column_list p.now store.old body notes)) }
-    requires sums { SumsFit p.now.maxdepth (map shape_of (column_list p.now store.old body notes)) }
+    requires nodes { NodesFit (map shape_of (column_list p.now pool.old.lists store.old body notes)) }
+    requires sums { SumsFit p.now.maxdepth (map shape_of (column_list p.now pool.old.lists store.old body notes)) }
 
-    ensures column { IfOk result (λ c. column_shown store.new c ≡ text_column p.now no_floats (nodes_shown store.old body) (notes_shown store.old notes)) }
+    ensures column { IfOk result (λ c. column_shown store.new c ≡ text_column p.now pool.old.lists (nodes_shown store.old body) (notes_shown store.old notes)) }
     ensures list { IfOk result (λ c. c.list ≡ body) }
     ensures divisor { IfOk result (λ c. c.set.den ≢ pos 0) }
 
-    ensures lists { OnOk result (store.new.lists ≡ emptied notes (with_list store.old body (column_list p.now store.old body notes))) }
-    ensures err { OnErr result (store.new.lists ≡ store.old.lists) }
+    ensures lists { OnOk result (store.new.lists ≡ emptied notes (with_list store.old body (column_list p.now pool.old.lists store.old body notes))) }
+    ensures pool { OnOk result (pool.new ≡ without_entries Part.Bottom (without_entries Part.Top pool.old)) }
+    ensures err_lists { OnErr result (store.new.lists ≡ store.old.lists) }
+    ensures err_pool { OnErr result (pool.new ≡ pool.old) }
 {
-    store.reserve(5)?;
+    let height = pool.column_height(p);
+    let floats = pool.len(Part::Top) + pool.len(Part::Bottom);
+    store.reserve(2 * floats + 9)?;
+    put_above(store, pool, p, body)?;
     join_notes(store, p.skipfootins, body, notes);
+    put_below(store, pool, p, body);
     close_text(store, p, body);
     Ok(Column {
         kind: ColumnKind::Text,
         list: body,
-        set: pack(store, body, p.textheight, p.maxdepth),
+        set: pack(store, body, height, p.maxdepth),
     })
 }
