@@ -4,3 +4,4 @@ pub mod MovingLemmas
 pub mod ColumnLemmas
 pub mod FitsColumn
 pub mod PageLemmas
+pub mod GlueLemmas

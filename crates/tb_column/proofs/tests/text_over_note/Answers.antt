@@ -1,0 +1,75 @@
+use Rattle.std.proofs.Common.{◌≡◌, ◌≢◌, ap, sym, subst, ℕ, ◌+◌, ◌*◌, ◌≤◌, List, length, pos, ℤ, ◌≤ℤ◌, Some, arith}
+use Rattle.std.specs.Prelude.{All}
+use Rattle.std.proofs.lemmas.Int.{ints}
+use Rattle.tb_pool.specs.Lists.{Lists, IsLive, list_at}
+use Rattle.tb_pool.proofs.MapLemmas.{list_steps}
+use Rattle.tb_scaled.specs.declared.Glue.{Glue}
+use Rattle.tb_node.specs.declared.Node.{Node}
+use Rattle.tb_node.specs.Shape.{glue}
+use Rattle.tb_node.specs.Fit.{IsSized, IsSizedNode, IsDimension}
+use Rattle.tb_column.specs.TextList.{AreLeaves, AreNotes, IsApart, column_list}
+use Rattle.tb_column.proofs.StoreLemmas.{list-get, live-get}
+use Rattle.tb_column.proofs.ColumnLemmas.{leaves-apart, live-emptied}
+use Rattle.tb_column.proofs.FitsColumn.{column_nodes_fit, column_sums_fit}
+use Rattle.tb_column.proofs.tests.text_over_note.Goals as goal
+
+no_dimension : IsDimension (pos 0)
+no_dimension = record { low = omega (arith, ints); high = omega (arith, ints) }
+
+no_glue_sized : (g : Glue) → g.width ≡ pos 0 → g.stretch ≡ pos 0 → g.shrink ≡ pos 0 → IsSized (glue g)
+no_glue_sized g w s z = (subst IsDimension (sym w) no_dimension, subst IsDimension (sym s) no_dimension, subst IsDimension (sym z) no_dimension)
+
+-- a footnote of leaves joins a text of leaves
+notes-join : (s : Lists Node) (body notes : ℕ) → IsLive s notes → body ≢ notes → AreLeaves (list_at s body) → AreLeaves (list_at s notes) → AreNotes s body notes
+notes-join s body notes live apart text under = record { live = live; apart = apart; inner = leaves-apart notes (list_at s body) text; leaves = under }
+
+pub make_column-requires-clause-live : goal.make_column-requires-clause-live
+make_column-requires-clause-live c =
+    let apart : c.in_ok-body.body ≢ c.in_ok-notes.notes = grind (arith, list_steps) in
+    live-get c.put_box.new.store c.put_box-2.new.store c.in_ok-body.body (c.put_box-2.ensures.others c.in_ok-body.body apart) c.put_box.ensures.live
+
+pub make_column-requires-clause-body : goal.make_column-requires-clause-body
+make_column-requires-clause-body c =
+    let apart : c.in_ok-body.body ≢ c.in_ok-notes.notes = grind (arith, list_steps) in
+    let same = list-get c.put_box.new.store c.put_box-2.new.store c.in_ok-body.body (c.put_box-2.ensures.others c.in_ok-body.body apart) in
+    leaves-apart c.in_ok-body.body _ (subst AreLeaves (sym same) c.put_box.ensures.leaves)
+
+pub make_column-requires-clause-notes : goal.make_column-requires-clause-notes
+make_column-requires-clause-notes c =
+    let apart : c.in_ok-body.body ≢ c.in_ok-notes.notes = grind (arith, list_steps) in
+    let same = list-get c.put_box.new.store c.put_box-2.new.store c.in_ok-body.body (c.put_box-2.ensures.others c.in_ok-body.body apart) in
+    notes-join c.put_box-2.new.store c.in_ok-body.body c.in_ok-notes.notes c.put_box-2.ensures.live apart (subst AreLeaves (sym same) c.put_box.ensures.leaves) c.put_box-2.ensures.leaves
+
+pub make_column-requires-clause-nodes : goal.make_column-requires-clause-nodes
+make_column-requires-clause-nodes c =
+    let apart : c.in_ok-body.body ≢ c.in_ok-notes.notes = grind (arith, list_steps) in
+    let same = list-get c.put_box.new.store c.put_box-2.new.store c.in_ok-body.body (c.put_box-2.ensures.others c.in_ok-body.body apart) in
+    let P : List Node → Type 0 = λ ns. All IsSizedNode ns in
+    let few : length (list_at c.put_box-2.new.store c.in_ok-body.body) + length (list_at c.put_box-2.new.store c.in_ok-notes.notes) + 2 * length c.args.pool.now.lists.top + 2 * length c.args.pool.now.lists.bottom ≤ 8388599 =
+    omega (arith, ap length same, c.put_box.ensures.one, c.put_box-2.ensures.one, c.requires.few) in
+    let low : pos 0 ≤ℤ c.params.result.maxdepth = omega (arith, ints, c.params.ensures.depth) in
+    let e = c.params.ensures.skip in
+    column_nodes_fit c.params.result c.args.pool.now.lists c.put_box-2.new.store c.in_ok-body.body (Some c.in_ok-notes.notes) low
+    (no_glue_sized c.params.result.skipfootins (ap (λ g. g.width) e) (ap (λ g. g.stretch) e) (ap (λ g. g.shrink) e)) c.params.ensures.glue c.requires.tops c.requires.bottoms
+    (subst P (sym same) c.put_box.ensures.sized) c.put_box-2.ensures.sized few
+
+pub make_column-requires-clause-sums : goal.make_column-requires-clause-sums
+make_column-requires-clause-sums c =
+    let apart : c.in_ok-body.body ≢ c.in_ok-notes.notes = grind (arith, list_steps) in
+    let same = list-get c.put_box.new.store c.put_box-2.new.store c.in_ok-body.body (c.put_box-2.ensures.others c.in_ok-body.body apart) in
+    let P : List Node → Type 0 = λ ns. All IsSizedNode ns in
+    let few : length (list_at c.put_box-2.new.store c.in_ok-body.body) + length (list_at c.put_box-2.new.store c.in_ok-notes.notes) + 2 * length c.args.pool.now.lists.top + 2 * length c.args.pool.now.lists.bottom ≤ 8388599 =
+    omega (arith, ap length same, c.put_box.ensures.one, c.put_box-2.ensures.one, c.requires.few) in
+    let low : pos 0 ≤ℤ c.params.result.maxdepth = omega (arith, ints, c.params.ensures.depth) in
+    let e = c.params.ensures.skip in
+    column_sums_fit c.params.result c.args.pool.now.lists c.put_box-2.new.store c.in_ok-body.body (Some c.in_ok-notes.notes) low
+    (no_glue_sized c.params.result.skipfootins (ap (λ g. g.width) e) (ap (λ g. g.stretch) e) (ap (λ g. g.shrink) e)) c.params.ensures.glue c.requires.tops c.requires.bottoms
+    (subst P (sym same) c.put_box.ensures.sized) c.put_box-2.ensures.sized few
+
+pub returns : goal.returns
+returns c =
+    let apart : c.in_ok-body.body ≢ c.in_ok-notes.notes = grind (arith, list_steps) in
+    let same = list-get c.put_box.new.store c.put_box-2.new.store c.in_ok-body.body (c.put_box-2.ensures.others c.in_ok-body.body apart) in
+    let join = notes-join c.put_box-2.new.store c.in_ok-body.body c.in_ok-notes.notes c.put_box-2.ensures.live apart (subst AreLeaves (sym same) c.put_box.ensures.leaves) c.put_box-2.ensures.leaves in
+    subst (IsLive c.make_column.new.store) (sym c.in_ok-column.ensures.list)
+    (live-emptied c.put_box-2.new.store c.make_column.new.store c.in_ok-body.body (Some c.in_ok-notes.notes) (column_list c.params.result c.args.pool.now.lists c.put_box-2.new.store c.in_ok-body.body (Some c.in_ok-notes.notes)) join c.in_ok-column.ensures.lists)
