@@ -1,5 +1,5 @@
 -- The nodes of floats in a store: as the definitions see them, their ranges and their number.
-use Rattle.std.proofs.Common.{◌≡◌, refl, ap, ◌∙◌, ℕ, suc, ◌+◌, ◌*◌, ◌≤◌, ℤ, pos, neg_ℤ, ◌≤ℤ◌, Bool, true, false, List, [], ◌∷◌, ◌++◌, length, map, length-append, arith}
+use Rattle.std.proofs.Common.{◌≡◌, refl, ap, ◌∙◌, ℕ, ◌+◌, ◌*◌, ◌≤◌, ℤ, neg_ℤ, Bool, true, false, List, [], ◌∷◌, ◌++◌, length, map, length-append, arith}
 use Rattle.std.specs.Prelude.{All}
 use Rattle.std.proofs.lemmas.Int.{ints}
 use Rattle.std.proofs.lemmas.List.{map-append}
@@ -13,7 +13,7 @@ use Rattle.tb_node.specs.declared.Where.TheVariants as places
 use Rattle.tb_node.specs.declared.Float.{Float}
 use Rattle.tb_node.specs.Shape.{glue}
 use Rattle.tb_node.specs.Small.{IsSmallShape}
-use Rattle.tb_node.specs.Fit.{IsDimension, IsExtent, IsSized, IsSizedNode}
+use Rattle.tb_node.specs.Fit.{IsDimension, IsSized, IsSizedNode}
 use Rattle.tb_node.specs.Plain.{PlainNode, plain_of, made, skip}
 use Rattle.tb_node.proofs.FitLemmas.{sized-fits}
 use Rattle.tb_param.specs.declared.Params.{Params}

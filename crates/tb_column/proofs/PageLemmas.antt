@@ -1,5 +1,5 @@
 -- A column of floats in the store is the column of floats of the definitions.
-use Rattle.std.proofs.Common.{◌≡◌, refl, sym, ap, subst, ◌∙◌, ℕ, ◌*◌, ◌+◌, ◌≤◌, ℤ, pos, Bool, true, false, List, [], ◌∷◌, ◌++◌, length, map, arith}
+use Rattle.std.proofs.Common.{◌≡◌, refl, sym, ap, subst, ◌∙◌, ℕ, ◌≤◌, ℤ, pos, Bool, true, false, List, [], ◌∷◌, ◌++◌, length, map, arith}
 use Rattle.std.specs.Prelude.{All}
 use Rattle.std.specs.FinMap.{insert}
 use Rattle.tb_pool.specs.Lists.{Lists, list_at, with_list}
@@ -8,7 +8,7 @@ use Rattle.tb_scaled.specs.Glue.{negated_glue}
 use Rattle.tb_node.specs.declared.Node.{Node}
 use Rattle.tb_node.specs.declared.Float.{Float}
 use Rattle.tb_node.specs.Fit.{IsSizedNode}
-use Rattle.tb_node.specs.Plain.{PlainNode, plain_of, node_shape, shape_of, made, skip}
+use Rattle.tb_node.specs.Plain.{plain_of, node_shape, shape_of, made, skip}
 use Rattle.tb_param.specs.declared.Params.{Params}
 use Rattle.tb_pack.specs.declared.Set.{Set}
 use Rattle.tb_pack.specs.Pack.{packed}

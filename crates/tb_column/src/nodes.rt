@@ -14,6 +14,7 @@ pub(crate) fn made_node(kind: Kind) -> Node
 }
 
 /// Puts such a node at the end of a list.
+#[tactic(auto, using(tb_pool::proofs::MapLemmas::list_steps))]
 pub(crate) fn push_made(store: &mut Lists<Node>, l: ListId, kind: Kind)
     requires live { IsLive store.old l }
     requires room { 0 < store.old.spare }

@@ -1,9 +1,7 @@
 use Rattle.std.proofs.Common.{◌≡◌, ◌≤◌, rules, length, pos, FitsSigned, w64, arith}
-use Rattle.std.specs.Prelude.{All}
 use Rattle.std.proofs.lemmas.Int.{to_z-of_z, ints}
-use Rattle.tb_pool.specs.Lists.{list_at, with_list}
+use Rattle.tb_pool.specs.Lists.{with_list}
 use Rattle.tb_pool.proofs.CallerLemmas.{live_same}
-use Rattle.tb_node.specs.Fit.{IsSizedNode}
 use Rattle.tb_node.proofs.FitLemmas.{list_nodes_fit, list_sums_fit}
 use Rattle.tb_float.specs.Pool.{marked_floats}
 use Rattle.tb_column.specs.FloatList.{page_list, page_glue}

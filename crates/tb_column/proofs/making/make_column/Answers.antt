@@ -1,11 +1,10 @@
-use Rattle.std.proofs.Common.{◌≡◌, rules, sym, subst, ap, ◌∙◌, map, List, FitsSigned, w64}
+use Rattle.std.proofs.Common.{rules, sym, subst, ap, map, List, FitsSigned, w64}
 use Rattle.std.proofs.lemmas.Int.{to_z-of_z}
-use Rattle.tb_pool.specs.Lists.{list_at, with_list}
 use Rattle.tb_node.specs.declared.Node.{Node}
 use Rattle.tb_node.specs.Plain.{shape_of}
 use Rattle.tb_node.specs.Fit.{NodesFit, SumsFit}
 use Rattle.tb_float.specs.Pool.{FloatPool}
-use Rattle.tb_column.specs.TextList.{text_list, bottom_list}
+use Rattle.tb_column.specs.TextList.{text_list}
 use Rattle.tb_column.proofs.ColumnLemmas.{above_live, above_join, joined_live, below_list, closed_lists, text_nodes_fit, text_sums_fit, list-made, column-made}
 use Rattle.tb_column.proofs.making.make_column.Goals as goal
 

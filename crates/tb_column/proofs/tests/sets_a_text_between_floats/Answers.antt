@@ -2,7 +2,6 @@ use Rattle.std.proofs.Common.{◌≡◌, sym, subst, ap, ◌∙◌, [], ◌∷�
 use Rattle.std.specs.Prelude.{All}
 use Rattle.std.proofs.lemmas.List.Elements.{All-from_recursion}
 use Rattle.tb_node.specs.declared.Float.{Float}
-use Rattle.tb_float.specs.declared.Part.{Part}
 use Rattle.tb_float.specs.declared.Part.TheVariants as parts
 use Rattle.tb_float.specs.Pool.{FloatPool, with_floats_after}
 use Rattle.tb_column.specs.FloatList.{IsSizedFloat}

@@ -1,4 +1,4 @@
-use Rattle.std.proofs.Common.{◌≡◌, ◌≢◌, ap, sym, subst, ℕ, ◌+◌, ◌*◌, ◌≤◌, List, length, pos, ℤ, ◌≤ℤ◌, Some, arith}
+use Rattle.std.proofs.Common.{◌≡◌, ◌≢◌, ap, sym, subst, ℕ, ◌+◌, ◌*◌, ◌≤◌, List, length, pos, ◌≤ℤ◌, Some, arith}
 use Rattle.std.specs.Prelude.{All}
 use Rattle.std.proofs.lemmas.Int.{ints}
 use Rattle.tb_pool.specs.Lists.{Lists, IsLive, list_at}
@@ -7,7 +7,7 @@ use Rattle.tb_scaled.specs.declared.Glue.{Glue}
 use Rattle.tb_node.specs.declared.Node.{Node}
 use Rattle.tb_node.specs.Shape.{glue}
 use Rattle.tb_node.specs.Fit.{IsSized, IsSizedNode, IsDimension}
-use Rattle.tb_column.specs.TextList.{AreLeaves, AreNotes, IsApart, column_list}
+use Rattle.tb_column.specs.TextList.{AreLeaves, AreNotes, column_list}
 use Rattle.tb_column.proofs.StoreLemmas.{list-get, live-get}
 use Rattle.tb_column.proofs.ColumnLemmas.{leaves-apart, live-emptied}
 use Rattle.tb_column.proofs.FitsColumn.{column_nodes_fit, column_sums_fit}
