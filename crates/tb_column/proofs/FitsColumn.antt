@@ -1,4 +1,4 @@
--- What a caller of `make_column` owes where each node of its lists is sized.
+-- What a caller of `make_column` owes where each node of its lists is sized, and what it gets.
 use Rattle.std.proofs.Common.{ℕ, ◌+◌, ◌*◌, ◌≤◌, ℤ, pos, negsuc, neg_ℤ, ◌≤ℤ◌, Bool, true, false, List, [], ◌∷◌, ◌++◌, length, map, length-append, Option, Some, None, arith}
 use Rattle.std.specs.Prelude.{All, if◌then◌else◌}
 use Rattle.std.proofs.lemmas.Int.{ints}
@@ -18,8 +18,8 @@ use Rattle.tb_param.specs.declared.params.Params.{Params}
 use Rattle.tb_column.specs.Column.{is_ragged}
 use Rattle.tb_float.specs.Lists.{FloatLists}
 use Rattle.tb_column.specs.FloatList.{IsSizedFloat, AreFloatGlues}
-use Rattle.tb_column.specs.TextList.{made_node, rule_above, notes_list, top_list, bottom_list, text_list, closing_by, closed_list, column_list}
-use Rattle.tb_column.proofs.FloatLemmas.{boxes_above-sized, boxes_below-sized, boxes_above-length, boxes_below-length}
+use Rattle.tb_column.specs.TextList.{AreLeaves, CanJoin, made_node, rule_above, notes_list, top_list, bottom_list, text_list, closing_by, closed_list, column_list}
+use Rattle.tb_column.proofs.FloatLemmas.{leaves-append, boxes_above-leaves, boxes_below-leaves, boxes_above-sized, boxes_below-sized, boxes_above-length, boxes_below-length}
 
 -- the footnotes' nodes are sized, where there are footnotes
 abbrev pub AreSizedNotes : Lists Node → Option ℕ → Type 0
@@ -82,11 +82,12 @@ module _ (p : Params) (l : FloatLists) (store : Lists Node) (body : ℕ) (notes 
       (notes_sized p.skipfootins store notes skip under))
       (boxes_below-sized places.Bottom p.floatsep p.textfloatsep l.bottom beside.floatsep beside.textfloatsep bottoms)
 
-  sized : All IsSizedNode (column_list p l store body notes)
-  sized = closed_sized p (text_list p l store body notes) low text_sized
+  -- the nodes of the column are sized and few
+  pub column_sized : All IsSizedNode (column_list p l store body notes)
+  column_sized = closed_sized p (text_list p l store body notes) low text_sized
 
-  short : length (column_list p l store body notes) ≤ 8388608
-  short =
+  pub column_few : length (column_list p l store body notes) ≤ 8388608
+  column_few =
       omega (
         arith,
         few,
@@ -101,7 +102,24 @@ module _ (p : Params) (l : FloatLists) (store : Lists Node) (body : ℕ) (notes 
 
   -- the amounts and the sums of the column fit
   pub column_nodes_fit : NodesFit (map shape_of (column_list p l store body notes))
-  column_nodes_fit = nodes_fit _ (All-map IsSized shape_of _ sized)
+  column_nodes_fit = nodes_fit _ (All-map IsSized shape_of _ column_sized)
 
   pub column_sums_fit : SumsFit p.maxdepth (map shape_of (column_list p l store body notes))
-  column_sums_fit = sums_fit p.maxdepth _ low (summable _ sized short)
+  column_sums_fit = sums_fit p.maxdepth _ low (summable _ column_sized column_few)
+
+-- ---- leaves
+
+notes_leaves : (g : Glue) (store : Lists Node) (body : ℕ) (notes : Option ℕ) → CanJoin store body notes → AreLeaves (notes_list g store notes)
+notes_leaves g store body None can = tt
+notes_leaves g store body (Some l) can = (tt, (tt, (tt, (tt, can.leaves))))
+
+-- the column of a text of leaves is of leaves
+pub column_leaves : (p : Params) (l : FloatLists) (store : Lists Node) (body : ℕ) (notes : Option ℕ) → CanJoin store body notes → AreLeaves (list_at store body) → AreLeaves (column_list p l store body notes)
+column_leaves p l store body notes can text =
+    leaves-append (text_list p l store body notes) _
+    (leaves-append (top_list p l ++ list_at store body ++ notes_list p.skipfootins store notes) (bottom_list p l)
+    (leaves-append (top_list p l ++ list_at store body) (notes_list p.skipfootins store notes)
+    (leaves-append (top_list p l) (list_at store body) (boxes_above-leaves places.Top p.floatsep p.textfloatsep l.top) text)
+    (notes_leaves p.skipfootins store body notes can))
+    (boxes_below-leaves places.Bottom p.floatsep p.textfloatsep l.bottom))
+    (tt, tt)

@@ -66,6 +66,17 @@ pub boxes_above-leaves : (place : Where) (sep last : Glue) (fs : List Float) →
 boxes_above-leaves place sep last [] = tt
 boxes_above-leaves place sep last (f ∷ fs) = leaves-append (boxes_with place sep (f ∷ fs)) _ (boxes_with-leaves place sep (f ∷ fs)) (tt, (tt, tt))
 
+pub boxes_below-leaves : (place : Where) (sep first : Glue) (fs : List Float) → AreLeaves (boxes_below place sep first fs)
+boxes_below-leaves place sep first [] = tt
+boxes_below-leaves place sep first (f ∷ fs) = (tt, leaves-append (boxes_with place sep (f ∷ fs)) _ (boxes_with-leaves place sep (f ∷ fs)) (tt, tt))
+
+boxes_after-leaves : (sep : Glue) (fs : List Float) → AreLeaves (boxes_after sep fs)
+boxes_after-leaves sep [] = tt
+boxes_after-leaves sep (f ∷ fs) = (tt, (tt, boxes_after-leaves sep fs))
+
+pub page_list-leaves : (g : PageGlue) (fs : List Float) → AreLeaves (page_list g fs)
+page_list-leaves g fs = (tt, (tt, leaves-append (boxes_after g.between fs) (made_node (kinds.Skip g.below) ∷ []) (boxes_after-leaves g.between fs) (tt, tt)))
+
 -- ---- their ranges
 
 negated_dimension : (z : ℤ) → IsDimension z → IsDimension (neg_ℤ z)

@@ -19,7 +19,8 @@ use Rattle.tb_column.specs.Shown.{nodes_shown, column_shown}
 use Rattle.tb_column.specs.FloatList.{IsSizedFloat, AreFloatGlues, page_list, page_glue}
 use Rattle.tb_column.proofs.StoreLemmas.{with_list-twice}
 use Rattle.tb_column.proofs.ColumnLemmas.{shapes-held}
-use Rattle.tb_column.proofs.FloatLemmas.{page_glue-sized, page_list-held, page_list-sized, page_list-length}
+use Rattle.tb_column.specs.TextList.{AreLeaves}
+use Rattle.tb_column.proofs.FloatLemmas.{page_glue-sized, page_list-held, page_list-leaves, page_list-sized, page_list-length}
 
 -- its glue is that of wide or of single floats
 glue_of_width : (wide : Bool) (p : Params) (height : ℤ) (fs : List Float)
@@ -48,7 +49,10 @@ module _ (old new : Lists Node) (l : ℕ) (wide : Bool) (p : Params) (fs : List 
       λ i. record { kind = column_kinds.Floats; nodes = page-shown i; set = set i } in
       column ∙ glue_of_width wide p height fs
 
-  -- its nodes are sized, and few
+  -- its nodes are leaves, sized and few
+  pub page-leaves : AreLeaves (list_at new l)
+  page-leaves = subst AreLeaves (sym page-made) (page_list-leaves g fs)
+
   pub page-sized : AreFloatGlues p → All IsSizedFloat fs → All IsSizedNode (list_at new l)
   page-sized beside h = subst (All IsSizedNode) (sym page-made) (page_list-sized g fs (page_glue-sized wide p beside) h)
 
