@@ -116,9 +116,9 @@ fn close_text(store: &mut Lists<Node>, p: &Params, body: ListId)
 /// bottom, then the glue that takes the depth back, packed to the height that the wide floats leave of a page
 /// (ltoutput.dtx, \@makecol and \@combinefloats).
 ///
-/// The list of the text becomes the column's, and that of the footnotes is emptied into it; no node is copied. The floats
-/// at top and bottom leave the pool. Where there is no memory for the nodes that are made, the pool and all lists stay as
-/// they were.
+/// The list of the text becomes the column's, and that of the footnotes is emptied into it; no node is copied. The
+/// floats at top and bottom leave the pool. Where there is no memory for the nodes that are made, the pool and all
+/// lists stay as they were.
 pub fn make_column(
     store: &mut Lists<Node>,
     pool: &mut Pool,
