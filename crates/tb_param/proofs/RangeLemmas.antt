@@ -106,6 +106,13 @@ switch_fits (kinds.Skip g) h = cc
 switch_fits (kinds.Frac n) h = cc
 switch_fits (kinds.Word c) h = h
 
+release_fits : (v : Value) → fits forms.Release v ≡ true → fits forms.Release (kinds.Word (choice_of v)) ≡ true
+release_fits (kinds.Int n) h = cc
+release_fits (kinds.Dim n) h = cc
+release_fits (kinds.Skip g) h = cc
+release_fits (kinds.Frac n) h = cc
+release_fits (kinds.Word c) h = h
+
 rows_fit : AllRows FitsPlace rows
 rows_fit = (
   dim_fits (pos 1),
@@ -193,7 +200,7 @@ rows_fit = (
                                                                                     int_fits (pos 1) (pos 1000000),
                                                                                     (
                                                                                       int_fits (pos 100) (pos 4194304),
-                                                                                      tt,
+                                                                                      (release_fits, tt),
                                                                                     ),
                                                                                   ),
                                                                                 ),

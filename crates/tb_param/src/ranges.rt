@@ -40,6 +40,9 @@ pub fn value_fault(form: Form, value: Value) -> Option<ParamFault>
         (Form::Skip, Value::Skip(g)) => out_of_range(is_glue(g)),
         (Form::Bottom, Value::Word(c)) => out_of_range(matches!(c, Choice::Flush | Choice::Ragged)),
         (Form::Switch, Value::Word(c)) => out_of_range(matches!(c, Choice::On | Choice::Off)),
+        (Form::Release, Value::Word(c)) => {
+            out_of_range(matches!(c, Choice::R2014 | Choice::R2015))
+        }
         _ => Some(ParamFault::WrongForm),
     }
 }
