@@ -5,11 +5,13 @@ use Rattle.tb_node.specs.declared.Float.{Float}
 use Rattle.tb_node.specs.declared.Where.{Where}
 use Rattle.tb_node.specs.declared.Where.TheVariants.{Top, Bottom, Double, Deferred}
 use Rattle.tb_param.specs.declared.params.Params.{Params}
+use Rattle.tb_float.specs.declared.Part.{Part}
 use Rattle.tb_float.specs.declared.Part.TheVariants as parts
 use Rattle.tb_float.specs.declared.Suppress.{Suppress}
-use Rattle.tb_float.specs.Lists.{FloatLists}
+use Rattle.tb_float.specs.Lists.{FloatLists, floats_of, IsWaiting}
 use Rattle.tb_float.specs.Pool.{FloatPool, moved_float}
 use Rattle.tb_float.proofs.ListLemmas.{slice_get-drop, without_place-parts}
+use Rattle.tb_float.proofs.WaitingLemmas.{floats-with}
 use Rattle.tb_area.specs.Area.{AreaPlace, at_top, at_bottom, deferred, where_of, next_area_place, goes_double}
 use Rattle.tb_area.specs.Filling.{gone_to, still_before, filled, place_after, gone_double, still_single, doubled, place_after_double}
 use Rattle.tb_area.proofs.DeferredLemmas.{place_within, take_more, take_front, drop_front, length_parts}
@@ -95,22 +97,33 @@ pub is_not_double : (b : Bool) (w : Where) → w ≡ (if b then Double else Defe
 is_not_double true w e n = absurd (n e)
 is_not_double false w e n = refl
 
-pub double_lists : (v new : FloatPool) (k : ℕ) (f : Float) (b : Bool) → b ≡ true → new ≡ moved_float parts.Deferred k parts.Double f v → new.lists ≡ gone_double b f (take k v.lists.deferred) (drop (suc k) v.lists.deferred) v.lists
-double_lists v new k f b is moved =
+pub double_lists : (from : Part) → IsWaiting from → (v new : FloatPool) (k : ℕ) (f : Float) (b : Bool) → b ≡ true → new ≡ moved_float from k parts.Double f v → new.lists ≡ gone_double from b f (take k (floats_of from v.lists)) (drop (suc k) (floats_of from v.lists)) v.lists
+double_lists parts.Current w v new k f b is moved = absurd w
+double_lists parts.Here w v new k f b is moved = absurd w
+double_lists parts.Top w v new k f b is moved = absurd w
+double_lists parts.Bottom w v new k f b is moved = absurd w
+double_lists parts.Double w v new k f b is moved = absurd w
+double_lists parts.Deferred w v new k f b is moved =
     ap (λ (w : FloatPool). w.lists) moved
     ∙ ap (λ (d : List Float). record v.lists { double = v.lists.double ++ f ∷ []; deferred = d }) (without_place-parts k v.lists.deferred)
-    ∙ ap (λ b. gone_double b f (take k v.lists.deferred) (drop (suc k) v.lists.deferred) v.lists) (sym is)
+    ∙ ap (λ b. gone_double parts.Deferred b f (take k v.lists.deferred) (drop (suc k) v.lists.deferred) v.lists) (sym is)
+double_lists parts.Second w v new k f b is moved =
+    ap (λ (w : FloatPool). w.lists) moved
+    ∙ ap (λ (d : List Float). record v.lists { double = v.lists.double ++ f ∷ []; second = d }) (without_place-parts k v.lists.second)
+    ∙ ap (λ b. gone_double parts.Second b f (take k v.lists.second) (drop (suc k) v.lists.second) v.lists) (sym is)
 
-pub parted_double : (l l' : FloatLists) (k k' : ℕ) (f : Float) (b : Bool) → slice_get l.deferred k ≡ Some f → l' ≡ gone_double b f (take k l.deferred) (drop (suc k) l.deferred) l → k' ≡ place_after_double b k → Parted k k' l.deferred l'.deferred (still_single b f (take k l.deferred)) (drop (suc k) l.deferred)
-parted_double l l' k k' f true there goes at = gone_parted k k' l.deferred l'.deferred (place_within l.deferred k f there) (ap (λ (x : FloatLists). x.deferred) goes) at
-parted_double l l' k k' f false there goes at = stays_parted k k' l.deferred l'.deferred f there (ap (λ (x : FloatLists). x.deferred) goes) at
+pub parted_double : (from : Part) → IsWaiting from → (l l' : FloatLists) (k k' : ℕ) (f : Float) (b : Bool) → slice_get (floats_of from l) k ≡ Some f → l' ≡ gone_double from b f (take k (floats_of from l)) (drop (suc k) (floats_of from l)) l → k' ≡ place_after_double b k → Parted k k' (floats_of from l) (floats_of from l') (still_single b f (take k (floats_of from l))) (drop (suc k) (floats_of from l))
+parted_double from w l l' k k' f true there goes at =
+    gone_parted k k' (floats_of from l) (floats_of from l') (place_within (floats_of from l) k f there)
+    (ap (λ (x : FloatLists). floats_of from x) goes ∙ floats-with from w (take k (floats_of from l) ++ drop (suc k) (floats_of from l)) (record l { double = l.double ++ f ∷ [] })) at
+parted_double from w l l' k k' f false there goes at = stays_parted k k' (floats_of from l) (floats_of from l') f there (ap (λ (x : FloatLists). floats_of from x) goes) at
 
-pub doubled_turn : (p : Params) (s : Suppress) (l l' : FloatLists) (k k' : ℕ) (f : Float) → slice_get l.deferred k ≡ Some f → l' ≡ gone_double (goes_double p l s (take k l.deferred) f) f (take k l.deferred) (drop (suc k) l.deferred) l → k' ≡ place_after_double (goes_double p l s (take k l.deferred) f) k → doubled p s (take k' l'.deferred) (drop k' l'.deferred) l' ≡ doubled p s (take k l.deferred) (drop k l.deferred) l
-doubled_turn p s l l' k k' f there goes at =
-    let b = goes_double p l s (take k l.deferred) f in
-    let rest = drop (suc k) l.deferred in
-    let parts = parted_double l l' k k' f b there goes at in
-    ap (λ xs. doubled p s xs (drop k' l'.deferred) l') parts.front
-    ∙ ap (λ xs. doubled p s (still_single b f (take k l.deferred)) xs l') parts.back
-    ∙ ap (λ x. doubled p s (still_single b f (take k l.deferred)) rest x) goes
-    ∙ sym (ap (λ xs. doubled p s (take k l.deferred) xs l) (slice_get-drop k l.deferred f there))
+pub doubled_turn : (from : Part) → IsWaiting from → (p : Params) (s : Suppress) (l l' : FloatLists) (k k' : ℕ) (f : Float) → slice_get (floats_of from l) k ≡ Some f → l' ≡ gone_double from (goes_double p l s (take k (floats_of from l)) f) f (take k (floats_of from l)) (drop (suc k) (floats_of from l)) l → k' ≡ place_after_double (goes_double p l s (take k (floats_of from l)) f) k → doubled from p s (take k' (floats_of from l')) (drop k' (floats_of from l')) l' ≡ doubled from p s (take k (floats_of from l)) (drop k (floats_of from l)) l
+doubled_turn from w p s l l' k k' f there goes at =
+    let b = goes_double p l s (take k (floats_of from l)) f in
+    let rest = drop (suc k) (floats_of from l) in
+    let parts = parted_double from w l l' k k' f b there goes at in
+    ap (λ xs. doubled from p s xs (drop k' (floats_of from l')) l') parts.front
+    ∙ ap (λ xs. doubled from p s (still_single b f (take k (floats_of from l))) xs l') parts.back
+    ∙ ap (λ x. doubled from p s (still_single b f (take k (floats_of from l))) rest x) goes
+    ∙ sym (ap (λ xs. doubled from p s (take k (floats_of from l)) xs l) (slice_get-drop k (floats_of from l) f there))

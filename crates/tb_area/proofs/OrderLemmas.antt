@@ -8,7 +8,10 @@ use Rattle.tb_node.specs.declared.Float.{Float}
 use Rattle.tb_node.specs.declared.Where.TheVariants as places
 use Rattle.tb_param.specs.declared.params.Params.{Params}
 use Rattle.tb_float.specs.declared.Suppress.{Suppress}
-use Rattle.tb_float.specs.Lists.{FloatLists, has_class}
+use Rattle.tb_float.specs.declared.Part.{Part}
+use Rattle.tb_float.specs.declared.Part.TheVariants as parts
+use Rattle.tb_float.specs.Lists.{FloatLists, has_class, floats_of, IsWaiting}
+use Rattle.tb_float.proofs.WaitingLemmas.{floats-with}
 use Rattle.tb_area.specs.Area.{AreaPlace, at_top, at_bottom, deferred, where_of, next_area_place, goes_double}
 use Rattle.tb_area.specs.Filling.{gone_to, still_before, filled, gone_double, still_single, doubled}
 use Rattle.tb_area.specs.Laws.{HasNone, PassesNone, of_class, column_order, double_order}
@@ -108,21 +111,28 @@ filled-order k p s before (f ∷ rest) l e =
 pub fill-order : (k : ℕ) (p : Params) (s : Suppress) (l : FloatLists) → column_order k (filled p s [] l.deferred l) ≡ column_order k l
 fill-order k p s l = filled-order k p s [] l.deferred l refl
 
-gone_double-order : (k : ℕ) (b : Bool) (f : Float) (before rest : List Float) (l : FloatLists) → l.deferred ≡ before ++ f ∷ rest → PassesNone l before f (if b then places.Double else places.Deferred) → double_order k (gone_double b f before rest l) ≡ double_order k l
-gone_double-order k true f before rest l e order = two-order k f l.double before rest order ∙ ap (λ d. of_class k (l.double ++ d)) (sym e)
-gone_double-order k false f before rest l e order = refl
+gone_double-order : (from : Part) → IsWaiting from → (k : ℕ) (b : Bool) (f : Float) (before rest : List Float) (l : FloatLists) → floats_of from l ≡ before ++ f ∷ rest → PassesNone l before f (if b then places.Double else places.Deferred) → double_order from k (gone_double from b f before rest l) ≡ double_order from k l
+gone_double-order parts.Current w k b f before rest l e order = absurd w
+gone_double-order parts.Here w k b f before rest l e order = absurd w
+gone_double-order parts.Top w k b f before rest l e order = absurd w
+gone_double-order parts.Bottom w k b f before rest l e order = absurd w
+gone_double-order parts.Double w k b f before rest l e order = absurd w
+gone_double-order parts.Deferred w k true f before rest l e order = two-order k f l.double before rest order ∙ ap (λ d. of_class k (l.double ++ d)) (sym e)
+gone_double-order parts.Deferred w k false f before rest l e order = refl
+gone_double-order parts.Second w k true f before rest l e order = two-order k f l.double before rest order ∙ ap (λ d. of_class k (l.double ++ d)) (sym e)
+gone_double-order parts.Second w k false f before rest l e order = refl
 
-gone_double-deferred : (b : Bool) (f : Float) (before rest : List Float) (l : FloatLists) → l.deferred ≡ before ++ f ∷ rest → (gone_double b f before rest l).deferred ≡ still_single b f before ++ rest
-gone_double-deferred true f before rest l e = refl
-gone_double-deferred false f before rest l e = e ∙ sym (append_assoc before (f ∷ []) rest)
+gone_double-waiting : (from : Part) → IsWaiting from → (b : Bool) (f : Float) (before rest : List Float) (l : FloatLists) → floats_of from l ≡ before ++ f ∷ rest → floats_of from (gone_double from b f before rest l) ≡ still_single b f before ++ rest
+gone_double-waiting from w true f before rest l e = floats-with from w (before ++ rest) (record l { double = l.double ++ f ∷ [] })
+gone_double-waiting from w false f before rest l e = e ∙ sym (append_assoc before (f ∷ []) rest)
 
-doubled-order : (k : ℕ) (p : Params) (s : Suppress) (before fs : List Float) (l : FloatLists) → l.deferred ≡ before ++ fs → double_order k (doubled p s before fs l) ≡ double_order k l
-doubled-order k p s before [] l e = refl
-doubled-order k p s before (f ∷ rest) l e =
+doubled-order : (from : Part) → IsWaiting from → (k : ℕ) (p : Params) (s : Suppress) (before fs : List Float) (l : FloatLists) → floats_of from l ≡ before ++ fs → double_order from k (doubled from p s before fs l) ≡ double_order from k l
+doubled-order from w k p s before [] l e = refl
+doubled-order from w k p s before (f ∷ rest) l e =
     let b = goes_double p l s before f in
     let laws = double-laws p l s before f in
-    doubled-order k p s (still_single b f before) rest (gone_double b f before rest l) (gone_double-deferred b f before rest l e) ∙ gone_double-order k b f before rest l e laws.order
+    doubled-order from w k p s (still_single b f before) rest (gone_double from b f before rest l) (gone_double-waiting from w b f before rest l e) ∙ gone_double-order from w k b f before rest l e laws.order
 
 -- the floats of a class keep their order where the space above both columns is filled
-pub double-order : (k : ℕ) (p : Params) (s : Suppress) (l : FloatLists) → double_order k (doubled p s [] l.deferred l) ≡ double_order k l
-double-order k p s l = doubled-order k p s [] l.deferred l refl
+pub double-order : (from : Part) → IsWaiting from → (k : ℕ) (p : Params) (s : Suppress) (l : FloatLists) → double_order from k (doubled from p s [] (floats_of from l) l) ≡ double_order from k l
+double-order from w k p s l = doubled-order from w k p s [] (floats_of from l) l refl

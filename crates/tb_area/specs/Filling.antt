@@ -1,9 +1,10 @@
--- Where the deferred floats go, one after another.
+-- Where the floats that wait go, one after another.
 use Rattle.std.specs.Prelude.{ℕ, suc, Bool, List, [], ◌∷◌, ◌++◌, if◌then◌else◌}
 use Rattle.tb_node.specs.declared.Float.{Float}
 use Rattle.tb_param.specs.declared.Params.{Params}
 use Rattle.tb_float.specs.declared.Suppress.{Suppress}
-use Rattle.tb_float.specs.Lists.{FloatLists}
+use Rattle.tb_float.specs.declared.Part.{Part}
+use Rattle.tb_float.specs.Lists.{FloatLists, with_floats_of}
 use Rattle.tb_area.specs.Area.{AreaPlace, at_top, at_bottom, deferred, next_area_place, goes_double}
 
 -- the lists where the float that stood between these deferred ones goes to an area, or stays
@@ -25,21 +26,21 @@ filled p s before (f ∷ rest) l =
     let place = next_area_place p l s before f in
     filled p s (still_before place f before) rest (gone_to place f before rest l)
 
--- the lists where the float goes above both columns, or stays
-abbrev pub gone_double : Bool → Float → List Float → List Float → FloatLists → FloatLists
-gone_double goes f before rest l = if goes then record l { double = l.double ++ f ∷ []; deferred = before ++ rest } else l
+-- the lists where the float that stood between these ones of a list goes above both columns, or stays
+abbrev pub gone_double : Part → Bool → Float → List Float → List Float → FloatLists → FloatLists
+gone_double from goes f before rest l = if goes then with_floats_of from (before ++ rest) (record l { double = l.double ++ f ∷ [] }) else l
 
 abbrev pub still_single : Bool → Float → List Float → List Float
 still_single goes f before = if goes then before else before ++ f ∷ []
 
--- each deferred float is tried for the space above the next two columns, in order; before are those that stay
-abbrev pub doubled : Params → Suppress → List Float → List Float → FloatLists → FloatLists
-doubled p s before [] l = l
-doubled p s before (f ∷ rest) l =
+-- each float of a list is tried for the space above the next two columns, in order; before are those that stay
+abbrev pub doubled : Part → Params → Suppress → List Float → List Float → FloatLists → FloatLists
+doubled from p s before [] l = l
+doubled from p s before (f ∷ rest) l =
     let goes = goes_double p l s before f in
-    doubled p s (still_single goes f before) rest (gone_double goes f before rest l)
+    doubled from p s (still_single goes f before) rest (gone_double from goes f before rest l)
 
--- the place of the next deferred float, where one was tried for the next column, or for the space above both
+-- the place of the next float that waits, where one was tried for the next column, or for the space above both
 abbrev pub place_after : AreaPlace → ℕ → ℕ
 place_after at_top k = k
 place_after at_bottom k = k

@@ -7,7 +7,8 @@ use Rattle.tb_node.specs.declared.Where.TheVariants.{Here, Top, Bottom, Page, Do
 use Rattle.tb_param.specs.declared.Params.{Params}
 use Rattle.tb_float.specs.declared.Limit.{Limit}
 use Rattle.tb_float.specs.declared.Limit.TheVariants as limits
-use Rattle.tb_float.specs.Lists.{FloatLists, has_class}
+use Rattle.tb_float.specs.declared.Part.{Part}
+use Rattle.tb_float.specs.Lists.{FloatLists, has_class, floats_of}
 use Rattle.tb_float.specs.Rooms.{area_taken, double_taken, column_height_of, limit_number, limit_used}
 
 -- a float goes where it may, wide ones above both columns; none goes on a page of floats by a decision
@@ -66,6 +67,6 @@ of_class k fs = filter (λ f. f.class == k) fs
 abbrev pub column_order : ℕ → FloatLists → List Float
 column_order k l = of_class k (l.top ++ l.bottom ++ l.deferred)
 
--- the same above both columns and among the deferred ones
-abbrev pub double_order : ℕ → FloatLists → List Float
-double_order k l = of_class k (l.double ++ l.deferred)
+-- the same above both columns and in the list where wide floats wait
+abbrev pub double_order : Part → ℕ → FloatLists → List Float
+double_order from k l = of_class k (l.double ++ floats_of from l)

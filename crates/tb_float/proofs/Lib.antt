@@ -9,3 +9,4 @@ pub mod MarkLemmas
 pub mod RoomLemmas
 pub mod ParamLemmas
 pub mod RetireLemmas
+pub mod WaitingLemmas

@@ -11,6 +11,7 @@ height_of h parts.Top = h.top
 height_of h parts.Bottom = h.bottom
 height_of h parts.Deferred = h.deferred
 height_of h parts.Double = h.double
+height_of h parts.Second = h.second
 
 -- another sum for one list
 abbrev pub with_height : Part → ℤ → Heights → Heights
@@ -20,3 +21,4 @@ with_height parts.Top z h = record h { top = z }
 with_height parts.Bottom z h = record h { bottom = z }
 with_height parts.Deferred z h = record h { deferred = z }
 with_height parts.Double z h = record h { double = z }
+with_height parts.Second z h = record h { second = z }

@@ -1,5 +1,5 @@
 -- What contracts see of the float pool, and how its calls change it.
-use Rattle.std.specs.Prelude.{ℕ, suc, Bool, true, false, List, [], ◌∷◌, ◌++◌, length, replicate, slice_set, if◌then◌else◌}
+use Rattle.std.specs.Prelude.{◌≡◌, ℕ, suc, Bool, true, false, List, [], ◌∷◌, ◌++◌, length, replicate, slice_set, if◌then◌else◌}
 use Rattle.tb_node.specs.declared.Float.{Float}
 use Rattle.tb_node.specs.declared.Places.{Places}
 use Rattle.tb_float.specs.declared.Entry.{Entry}
@@ -8,10 +8,11 @@ use Rattle.tb_float.specs.declared.Part.{Part}
 use Rattle.tb_float.specs.declared.Part.TheVariants as parts
 use Rattle.tb_float.specs.Lists.{FloatLists, without_place, float_entries, floats_of}
 
--- the six lists, a mark for each deferred float, and how many boxes may live
+-- the seven lists, a mark for each float that waits in the deferred or in the second list, and how many boxes may live
 pub record FloatPool : Type 0 where
   pub lists : FloatLists
   pub marks : List Bool
+  pub second_marks : List Bool
   pub size : ℕ
 
 -- the boxes that were taken go to the end of the current list
@@ -26,6 +27,7 @@ without_entry parts.Top k v = record v { lists = record v.lists { top = without_
 without_entry parts.Bottom k v = record v { lists = record v.lists { bottom = without_place k v.lists.bottom } }
 without_entry parts.Deferred k v = record v { lists = record v.lists { deferred = without_place k v.lists.deferred }; marks = without_place k v.marks }
 without_entry parts.Double k v = record v { lists = record v.lists { double = without_place k v.lists.double } }
+without_entry parts.Second k v = record v { lists = record v.lists { second = without_place k v.lists.second }; second_marks = without_place k v.second_marks }
 
 -- floats that come after those of a list; none of them is marked
 abbrev pub with_floats_after : Part → List Float → FloatPool → FloatPool
@@ -35,6 +37,7 @@ with_floats_after parts.Top fs v = record v { lists = record v.lists { top = v.l
 with_floats_after parts.Bottom fs v = record v { lists = record v.lists { bottom = v.lists.bottom ++ fs } }
 with_floats_after parts.Deferred fs v = record v { lists = record v.lists { deferred = v.lists.deferred ++ fs }; marks = v.marks ++ replicate (length fs) false }
 with_floats_after parts.Double fs v = record v { lists = record v.lists { double = v.lists.double ++ fs } }
+with_floats_after parts.Second fs v = record v { lists = record v.lists { second = v.lists.second ++ fs }; second_marks = v.second_marks ++ replicate (length fs) false }
 
 -- floats that come before those of a list; none of them is marked
 abbrev pub with_floats_before : Part → List Float → FloatPool → FloatPool
@@ -44,6 +47,7 @@ with_floats_before parts.Top fs v = record v { lists = record v.lists { top = fs
 with_floats_before parts.Bottom fs v = record v { lists = record v.lists { bottom = fs ++ v.lists.bottom } }
 with_floats_before parts.Deferred fs v = record v { lists = record v.lists { deferred = fs ++ v.lists.deferred }; marks = replicate (length fs) false ++ v.marks }
 with_floats_before parts.Double fs v = record v { lists = record v.lists { double = fs ++ v.lists.double } }
+with_floats_before parts.Second fs v = record v { lists = record v.lists { second = fs ++ v.lists.second }; second_marks = replicate (length fs) false ++ v.second_marks }
 
 -- all entries have left the list
 abbrev pub without_entries : Part → FloatPool → FloatPool
@@ -53,6 +57,7 @@ without_entries parts.Top v = record v { lists = record v.lists { top = [] } }
 without_entries parts.Bottom v = record v { lists = record v.lists { bottom = [] } }
 without_entries parts.Deferred v = record v { lists = record v.lists { deferred = [] }; marks = [] }
 without_entries parts.Double v = record v { lists = record v.lists { double = [] } }
+without_entries parts.Second v = record v { lists = record v.lists { second = [] }; second_marks = [] }
 
 -- no entry of the list is marked
 abbrev pub without_marks : Part → FloatPool → FloatPool
@@ -62,6 +67,7 @@ without_marks parts.Top v = v
 without_marks parts.Bottom v = v
 without_marks parts.Deferred v = record v { marks = replicate (length v.marks) false }
 without_marks parts.Double v = v
+without_marks parts.Second v = record v { second_marks = replicate (length v.second_marks) false }
 
 -- a float goes from its place to the end of another list, and loses its mark
 abbrev pub moved_float : Part → ℕ → Part → Float → FloatPool → FloatPool
@@ -83,10 +89,31 @@ with_float_at parts.Top k f v = record v { lists = record v.lists { top = slice_
 with_float_at parts.Bottom k f v = record v { lists = record v.lists { bottom = slice_set v.lists.bottom k f } }
 with_float_at parts.Deferred k f v = record v { lists = record v.lists { deferred = slice_set v.lists.deferred k f } }
 with_float_at parts.Double k f v = record v { lists = record v.lists { double = slice_set v.lists.double k f } }
+with_float_at parts.Second k f v = record v { lists = record v.lists { second = slice_set v.lists.second k f } }
 
--- the deferred float at a place is chosen for a column of floats
-abbrev pub with_mark : ℕ → FloatPool → FloatPool
-with_mark k v = record v { marks = slice_set v.marks k true }
+-- the marks of the floats that wait in a list; other lists have none
+abbrev pub marks_of : Part → FloatPool → List Bool
+marks_of parts.Current v = []
+marks_of parts.Here v = []
+marks_of parts.Top v = []
+marks_of parts.Bottom v = []
+marks_of parts.Deferred v = v.marks
+marks_of parts.Double v = []
+marks_of parts.Second v = v.second_marks
+
+-- the pool with these marks for one of its lists
+abbrev pub with_marks_of : Part → List Bool → FloatPool → FloatPool
+with_marks_of parts.Current ms v = v
+with_marks_of parts.Here ms v = v
+with_marks_of parts.Top ms v = v
+with_marks_of parts.Bottom ms v = v
+with_marks_of parts.Deferred ms v = record v { marks = ms }
+with_marks_of parts.Double ms v = v
+with_marks_of parts.Second ms v = record v { second_marks = ms }
+
+-- the float at a place of a list is chosen for a column of floats
+abbrev pub with_mark : Part → ℕ → FloatPool → FloatPool
+with_mark from k v = with_marks_of from (slice_set (marks_of from v) k true) v
 
 -- the floats whose marks are set, and the others; a float without a mark counts as not marked
 abbrev pub marked_among : List Bool → List Float → List Float
@@ -99,12 +126,17 @@ unmarked_among [] fs = fs
 unmarked_among (m ∷ ms) [] = []
 unmarked_among (m ∷ ms) (f ∷ fs) = if m then unmarked_among ms fs else f ∷ unmarked_among ms fs
 
--- the deferred floats that are chosen for a column of floats, and those that are not
-abbrev pub marked_floats : FloatPool → List Float
-marked_floats v = marked_among v.marks v.lists.deferred
+-- the floats of a list that are chosen for a column of floats, and those that are not
+abbrev pub marked_floats : Part → FloatPool → List Float
+marked_floats from v = marked_among (marks_of from v) (floats_of from v.lists)
 
-abbrev pub unmarked_floats : FloatPool → List Float
-unmarked_floats v = unmarked_among v.marks v.lists.deferred
+abbrev pub unmarked_floats : Part → FloatPool → List Float
+unmarked_floats from v = unmarked_among (marks_of from v) (floats_of from v.lists)
+
+-- no float is chosen
+pub record HasNoMarks (v : FloatPool) : Type 0 where
+  pub deferred : marked_floats parts.Deferred v ≡ []
+  pub second : marked_floats parts.Second v ≡ []
 
 -- the place of the first mark that is set
 abbrev pub first_marked : List Bool → ℕ

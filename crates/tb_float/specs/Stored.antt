@@ -23,12 +23,13 @@ shelf_of s parts.Top = s.top
 shelf_of s parts.Bottom = s.bottom
 shelf_of s parts.Deferred = s.deferred
 shelf_of s parts.Double = s.double
+shelf_of s parts.Second = s.second
 
 -- the slots of each list of a store
 abbrev pub slots_of : Lists SlotView → Shelves → Part → List SlotView
 slots_of store shelves p = list_at store (shelf_of shelves p)
 
--- eight lists that live and differ, of which the last two are empty
+-- nine lists that live and differ, of which the last two are empty
 pub record AreShelves (store : Lists SlotView) (s : Shelves) : Type 0 where
   pub live : (p : Part) → IsLive store (shelf_of s p)
   pub one_live : IsLive store s.one
@@ -62,12 +63,13 @@ seen_lists at = record {
   bottom = floats_in (at parts.Bottom);
   deferred = floats_in (at parts.Deferred);
   double = floats_in (at parts.Double);
+  second = floats_in (at parts.Second);
 }
 
 abbrev pub seen_pool : (Part → List SlotView) → ℕ → FloatPool
-seen_pool at size = record { lists = seen_lists at; marks = marks_in (at parts.Deferred); size = size }
+seen_pool at size = record { lists = seen_lists at; marks = marks_in (at parts.Deferred); second_marks = marks_in (at parts.Second); size = size }
 
--- notes stand in the current list alone, and marks in the deferred one
+-- notes stand in the current list alone, and marks in the two lists of floats that wait
 abbrev pub holds_notes : Part → Bool
 holds_notes parts.Current = true
 holds_notes parts.Here = false
@@ -75,6 +77,7 @@ holds_notes parts.Top = false
 holds_notes parts.Bottom = false
 holds_notes parts.Deferred = false
 holds_notes parts.Double = false
+holds_notes parts.Second = false
 
 abbrev pub holds_marks : Part → Bool
 holds_marks parts.Current = false
@@ -83,6 +86,7 @@ holds_marks parts.Top = false
 holds_marks parts.Bottom = false
 holds_marks parts.Deferred = true
 holds_marks parts.Double = false
+holds_marks parts.Second = true
 
 abbrev pub is_float : Entry → Bool
 is_float (entries.Float f) = true
@@ -102,7 +106,7 @@ AreSlotsOf p (s ∷ ss) = IsSlotOf p s × AreSlotsOf p ss
 -- how many slots there are in all lists
 abbrev pub slot_count : (Part → List SlotView) → ℕ
 slot_count at =
-    length (at parts.Current) + length (at parts.Here) + length (at parts.Top) + length (at parts.Bottom) + length (at parts.Deferred) + length (at parts.Double)
+    length (at parts.Current) + length (at parts.Here) + length (at parts.Top) + length (at parts.Bottom) + length (at parts.Deferred) + length (at parts.Double) + length (at parts.Second)
 
 -- each slot may stand where it does, and the sums are those of the lists
 pub record AreSound (at : Part → List SlotView) (heights : Heights) : Type 0 where

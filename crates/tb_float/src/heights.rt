@@ -15,6 +15,7 @@ pub(crate) struct Heights {
     pub(crate) bottom: i64,
     pub(crate) deferred: i64,
     pub(crate) double: i64,
+    pub(crate) second: i64,
 }
 
 impl Heights {

@@ -17,6 +17,7 @@ pub(crate) struct Shelves {
     pub(crate) bottom: ListId,
     pub(crate) deferred: ListId,
     pub(crate) double: ListId,
+    pub(crate) second: ListId,
     pub(crate) one: ListId,
     pub(crate) rest: ListId,
 }

@@ -1,11 +1,12 @@
 -- Galleys whose values lie in their ranges.
-use Rattle.std.specs.Prelude.{ℕ, ◌+◌, ℤ, pos, neg_ℤ, Bool, true, ◌&&◌, ◌||◌, ◌==◌, nat_le, nat_lt, IsTrue, List, [], ◌∷◌, ◌++◌, length}
+use Rattle.std.specs.Prelude.{◌≡◌, ℕ, ◌+◌, ℤ, pos, neg_ℤ, Bool, true, false, ◌&&◌, ◌||◌, ◌==◌, nat_le, nat_lt, IsTrue, List, [], ◌∷◌, ◌++◌, length}
 use Rattle.std.specs.List.{list_all}
 use Rattle.tb_scaled.specs.Scaled.{max_dimen}
 use Rattle.tb_node.specs.Names.{is_name, is_between}
 use Rattle.tb_node.specs.declared.Float.{Float}
 use Rattle.tb_node.specs.declared.Margin.{Margin}
 unfoldable pub use Rattle.tb_param.specs.Ranges.{are_params}
+use Rattle.tb_param.specs.Release.{has_second}
 use Rattle.tb_param.specs.Table.{is_within, is_dimen, is_glue}
 use Rattle.tb_galley.specs.declared.Leaf.{Leaf}
 use Rattle.tb_galley.specs.declared.LeafKind.{LeafKind}
@@ -89,9 +90,10 @@ abbrev pub rise_from : ℕ → List ℕ → Bool
 rise_from n [] = true
 rise_from n (m ∷ ms) = nat_lt n m && rise_from m ms
 
--- all values lie in their ranges, the items are not too many, and the lines rise
+-- all values lie in their ranges, the release is that of 2015, the items are not too many, and the lines rise
 pub record IsValid (g : Galley) : Type 0 where
   pub params : IsTrue (are_params g.params)
+  pub release : has_second g.params ≡ false
   pub items : IsTrue (list_all (λ n. is_item n.line n.kind) g.items)
   pub count : IsTrue (nat_le (weight g.items) 100000)
   pub lines : IsTrue (rise_from 0 (named_lines g.items ++ g.end_line ∷ []))

@@ -1,5 +1,5 @@
 -- What the machine answers at an act, against the definition of an act.
-use Rattle.std.specs.Prelude.{◌≡◌, ◌≤◌, ◌<◌, ◌+◌, ℕ, ℤ, Bool, true, ◌&&◌, List, [], ◌∷◌, ◌++◌, map, None}
+use Rattle.std.specs.Prelude.{◌≡◌, ◌≤◌, ◌<◌, ◌+◌, ℕ, ℤ, Bool, true, ◌&&◌, List, [], ◌∷◌, ◌++◌, map, None, if◌then◌else◌}
 use Rattle.tb_scaled.specs.Scaled.{min_ℤ}
 use Rattle.tb_pool.specs.Lists.{Lists}
 use Rattle.tb_node.specs.declared.Act.{Act}
@@ -11,9 +11,12 @@ use Rattle.tb_node.specs.declared.Node.{Node}
 use Rattle.tb_node.specs.Fit.{IsExtent}
 use Rattle.tb_node.specs.Plain.{PlainNode}
 use Rattle.tb_builder.specs.Fired.{Boxed}
+use Rattle.tb_param.specs.declared.Params.{Params}
+use Rattle.tb_param.specs.Release.{has_second}
+use Rattle.tb_float.specs.declared.Part.TheVariants as parts
 use Rattle.tb_float.specs.declared.Entry.TheVariants as entries
 use Rattle.tb_float.specs.Lists.{live_count}
-use Rattle.tb_float.specs.Pool.{with_current}
+use Rattle.tb_float.specs.Pool.{FloatPool, with_current, with_floats_after}
 use Rattle.tb_float.specs.Ranges.{IsSizedMargin}
 use Rattle.tb_column.specs.declared.Sent.{Sent}
 use Rattle.tb_column.specs.declared.Sent.TheVariants as events
@@ -68,10 +71,14 @@ TakesNoList m now = (q : ℕ) → IsNotAmong q (machine_lists m) → IsNotAmong 
 abbrev pub clipped : ℤ → Bool → Float → Float
 clipped height two f = record f { height = min_ℤ f.height height; wide = f.wide && two }
 
+-- a float goes to the current list; in release 2014 a wide one to the second list
+abbrev pub taken_into : Params → Float → FloatPool → FloatPool
+taken_into p f v = if has_second p && f.wide then with_floats_after parts.Second (f ∷ []) v else with_current (entries.Float f ∷ []) v
+
 -- a float was taken, with a warning where it is higher than a page
 abbrev pub with_float : Float → MachineView → MachineView
 with_float f m = record m {
-  pool = with_current (entries.Float (clipped m.params.textheight m.two_columns f) ∷ []) m.pool;
+  pool = taken_into m.params (clipped m.params.textheight m.two_columns f) m.pool;
   events = m.events ++ warnings_sent (large_warning m.params f);
 }
 
