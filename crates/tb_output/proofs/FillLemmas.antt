@@ -4,7 +4,10 @@ use Rattle.std.specs.Prelude.{if◌then◌else◌}
 use Rattle.tb_node.specs.declared.Float.{Float}
 use Rattle.tb_node.specs.declared.Where.TheVariants as places
 use Rattle.tb_param.specs.declared.Params.{Params}
-use Rattle.tb_float.specs.Lists.{FloatLists}
+use Rattle.tb_float.specs.declared.Part.{Part}
+use Rattle.tb_float.specs.declared.Part.TheVariants as parts
+use Rattle.tb_float.specs.Lists.{FloatLists, IsWaiting, wide_part, wide_waiting}
+use Rattle.tb_float.proofs.WaitingLemmas.{wide-waits}
 use Rattle.tb_float.specs.Rooms.{column_height_of}
 use Rattle.tb_area.specs.Area.{AreaPlace, at_top, at_bottom, deferred, where_of, next_area_place, goes_double}
 use Rattle.tb_area.specs.Filling.{gone_to, still_before, filled, gone_double, still_single, doubled}
@@ -28,7 +31,7 @@ recorded r w l = by_refused w.refused
     by_refused false = record { state = refl; put_back = refl; sent = refl; refused = refl }
 
 -- a turn of the walk for the next column
-gone : (p : Params) (a : AreaPlace) (f : Float) (before rest : List Float) (w : Work) → HasLists w (Place.place_deferred p (where_of a) f before rest w) (gone_to a f before rest w.state.floats)
+gone : (p : Params) (a : AreaPlace) (f : Float) (before rest : List Float) (w : Work) → HasLists w (Place.place_waiting parts.Deferred p (where_of a) f before rest w) (gone_to a f before rest w.state.floats)
 gone p at_top f before rest w = recorded (placed f places.Top w.state.floats (column_height_of p w.state.floats)) w _
 gone p at_bottom f before rest w = recorded (placed f places.Bottom w.state.floats (column_height_of p w.state.floats)) w _
 gone p deferred f before rest w = record { state = refl; put_back = refl; sent = refl; refused = refl }
@@ -51,7 +54,7 @@ pub next-lists : (p : Params) (before fs : List Float) (w : Work) → HasLists w
 next-lists p before [] w = record { state = refl; put_back = refl; sent = refl; refused = refl }
 next-lists p before (f ∷ rest) w =
     let a = next_area_place p w.state.floats w.state.suppress before f in
-    let v = Place.place_deferred p (where_of a) f before rest w in
+    let v = Place.place_waiting parts.Deferred p (where_of a) f before rest w in
     let b = Place.still_deferred (where_of a) f before in
     let l = gone_to a f before rest w.state.floats in
     let all = chained w v (Place.place_next p b rest v) l (λ x. filled p x.suppress b rest x.floats) (gone p a f before rest w) (next-lists p b rest v) in
@@ -59,28 +62,35 @@ next-lists p before (f ∷ rest) w =
 
 -- ---- the same above both columns
 
-gone-double : (p : Params) (b : Bool) (f : Float) (before rest : List Float) (w : Work) → HasLists w (Place.place_deferred p (if b then places.Double else places.Deferred) f before rest w) (gone_double b f before rest w.state.floats)
-gone-double p true f before rest w = recorded (placed f places.Double w.state.floats (column_height_of p w.state.floats)) w _
-gone-double p false f before rest w = record { state = refl; put_back = refl; sent = refl; refused = refl }
+gone-double : (from : Part) → IsWaiting from → (p : Params) (b : Bool) (f : Float) (before rest : List Float) (w : Work) → HasLists w (Place.place_waiting from p (if b then places.Double else places.Deferred) f before rest w) (gone_double from b f before rest w.state.floats)
+gone-double parts.Current q p b f before rest w = absurd q
+gone-double parts.Here q p b f before rest w = absurd q
+gone-double parts.Top q p b f before rest w = absurd q
+gone-double parts.Bottom q p b f before rest w = absurd q
+gone-double parts.Double q p b f before rest w = absurd q
+gone-double parts.Deferred q p true f before rest w = recorded (placed f places.Double w.state.floats (column_height_of p w.state.floats)) w _
+gone-double parts.Second q p true f before rest w = recorded (placed f places.Double w.state.floats (column_height_of p w.state.floats)) w _
+gone-double parts.Deferred q p false f before rest w = record { state = refl; put_back = refl; sent = refl; refused = refl }
+gone-double parts.Second q p false f before rest w = record { state = refl; put_back = refl; sent = refl; refused = refl }
 
 stays-double : (b : Bool) (f : Float) (before : List Float) → Place.still_deferred (if b then places.Double else places.Deferred) f before ≡ still_single b f before
 stays-double true f before = refl
 stays-double false f before = refl
 
-pub double-lists : (p : Params) (before fs : List Float) (w : Work) → HasLists w (Place.place_double p before fs w) (doubled p w.state.suppress before fs w.state.floats)
-double-lists p before [] w = record { state = refl; put_back = refl; sent = refl; refused = refl }
-double-lists p before (f ∷ rest) w =
+pub double-lists : (from : Part) → IsWaiting from → (p : Params) (before fs : List Float) (w : Work) → HasLists w (Place.place_double from p before fs w) (doubled from p w.state.suppress before fs w.state.floats)
+double-lists from q p before [] w = record { state = refl; put_back = refl; sent = refl; refused = refl }
+double-lists from q p before (f ∷ rest) w =
     let goes = goes_double p w.state.floats w.state.suppress before f in
     let place = if goes then places.Double else places.Deferred in
-    let v = Place.place_deferred p place f before rest w in
+    let v = Place.place_waiting from p place f before rest w in
     let b = Place.still_deferred place f before in
-    let l = gone_double goes f before rest w.state.floats in
-    let all = chained w v (Place.place_double p b rest v) l (λ x. doubled p x.suppress b rest x.floats) (gone-double p goes f before rest w) (double-lists p b rest v) in
-    subst (λ c. HasLists w (Place.place_double p b rest v) (doubled p w.state.suppress c rest l)) (stays-double goes f before) all
+    let l = gone_double from goes f before rest w.state.floats in
+    let all = chained w v (Place.place_double from p b rest v) l (λ x. doubled from p x.suppress b rest x.floats) (gone-double from q p goes f before rest w) (double-lists from q p b rest v) in
+    subst (λ c. HasLists w (Place.place_double from p b rest v) (doubled from p w.state.suppress c rest l)) (stays-double goes f before) all
 
 -- what the routine does at the start of a column and of a pair of columns
 pub fill_column-lists : (p : Params) (w : Work) → HasLists w (Columns.fill_column p w) (filled p w.state.suppress [] w.state.floats.deferred w.state.floats)
 fill_column-lists p w = next-lists p [] w.state.floats.deferred w
 
-pub fill_double-lists : (p : Params) (w : Work) → HasLists w (Ship.fill_double p w) (doubled p w.state.suppress [] w.state.floats.deferred w.state.floats)
-fill_double-lists p w = double-lists p [] w.state.floats.deferred w
+pub fill_double-lists : (p : Params) (w : Work) → HasLists w (Ship.fill_double p w) (doubled (wide_part p) p w.state.suppress [] (wide_waiting p w.state.floats) w.state.floats)
+fill_double-lists p w = double-lists (wide_part p) (wide-waits p) p [] (wide_waiting p w.state.floats) w

@@ -8,7 +8,9 @@ use Rattle.tb_node.proofs.Weights.{Weight, nodes_weight}
 use Rattle.tb_param.specs.declared.Params.{Params}
 use Rattle.tb_builder.proofs.PageWeights.{boxes_weight}
 use Rattle.tb_float.specs.declared.Suppress.{Suppress}
-use Rattle.tb_float.specs.Lists.{FloatLists}
+use Rattle.tb_float.specs.declared.Part.{Part}
+use Rattle.tb_float.specs.declared.Part.TheVariants as parts
+use Rattle.tb_float.specs.Lists.{FloatLists, floats_of, with_floats_of, IsWaiting}
 use Rattle.tb_float.specs.Rooms.{column_height_of}
 use Rattle.tb_area.specs.Area
 use Rattle.tb_output.specs.State.{Work, Recorded, placed, records_also, with_floats}
@@ -102,50 +104,116 @@ next-joins p l s before f = area-joins (Area.next_area_place p l s before f)
 double-joins : (p : Params) (l : FloatLists) (s : Suppress) (before : List Float) (f : Float) → StaysOrJoins (Area.double_place p l s before f)
 double-joins p l s before f = if_both StaysOrJoins _ places.Double places.Deferred (record { by = tt }) (record { by = tt })
 
--- the floats that wait before and after the next one
-abbrev pub Waits : Weight → List Float → List Float → Work → Type 0
-Waits v before rest w = floats_weight v w.state.floats.deferred ≡ floats_weight v before + floats_weight v rest
+-- ---- the lists in which floats wait
 
--- a deferred float goes to a list or stays
-deferred-adds : (v : Weight) (p : Params) (place : Where) (f : Float) (before rest : List Float) (w : Work) → StaysOrJoins place → Waits v before (f ∷ rest) w → Adds v 0 w (Place.place_deferred p place f before rest w) × Waits v (Place.still_deferred place f before) rest (Place.place_deferred p place f before rest w)
-deferred-adds v p place f before rest w j h = by_place place j
+-- the current list stays where another one changes
+current-with : (from : Part) → IsWaiting from → (fs : List Float) (l : FloatLists) → (with_floats_of from fs l).current ≡ l.current
+current-with parts.Current h fs l = absurd h
+current-with parts.Here h fs l = absurd h
+current-with parts.Top h fs l = absurd h
+current-with parts.Bottom h fs l = absurd h
+current-with parts.Double h fs l = absurd h
+current-with parts.Deferred h fs l = refl
+current-with parts.Second h fs l = refl
+
+pub paired-with : (from : Part) → IsWaiting from → (fs : List Float) (l : FloatLists) → Paired l.current → Paired (with_floats_of from fs l).current
+paired-with from h fs l x = subst Paired (sym (current-with from h fs l)) x
+
+-- the lists with other floats in one of them
+pub lists-with : (v : Weight) (from : Part) → IsWaiting from → (fs : List Float) (l : FloatLists) → lists_weight v (with_floats_of from fs l) + floats_weight v (floats_of from l) ≡ lists_weight v l + floats_weight v fs
+lists-with v parts.Current h fs l = absurd h
+lists-with v parts.Here h fs l = absurd h
+lists-with v parts.Top h fs l = absurd h
+lists-with v parts.Bottom h fs l = absurd h
+lists-with v parts.Double h fs l = absurd h
+lists-with v parts.Deferred h fs l = omega arith
+lists-with v parts.Second h fs l = omega arith
+
+-- a float that joins another list leaves these as they are
+abbrev pub Leaves : Where → Type 0
+Leaves places.Here = Unit {0}
+Leaves places.Top = Unit {0}
+Leaves places.Bottom = Unit {0}
+Leaves places.Page = Unit {0}
+Leaves places.Double = Unit {0}
+Leaves places.Deferred = ⊥
+
+joined-waiting : (from : Part) → IsWaiting from → (place : Where) → Leaves place → (f : Float) (fs : List Float) (l : FloatLists) → floats_of from (Place.joined_to place f (with_floats_of from fs l)) ≡ fs
+joined-waiting parts.Current h place j f fs l = absurd h
+joined-waiting parts.Here h place j f fs l = absurd h
+joined-waiting parts.Top h place j f fs l = absurd h
+joined-waiting parts.Bottom h place j f fs l = absurd h
+joined-waiting parts.Double h place j f fs l = absurd h
+joined-waiting parts.Deferred h places.Here j f fs l = refl
+joined-waiting parts.Deferred h places.Top j f fs l = refl
+joined-waiting parts.Deferred h places.Bottom j f fs l = refl
+joined-waiting parts.Deferred h places.Page j f fs l = refl
+joined-waiting parts.Deferred h places.Double j f fs l = refl
+joined-waiting parts.Deferred h places.Deferred j f fs l = absurd j
+joined-waiting parts.Second h places.Here j f fs l = refl
+joined-waiting parts.Second h places.Top j f fs l = refl
+joined-waiting parts.Second h places.Bottom j f fs l = refl
+joined-waiting parts.Second h places.Page j f fs l = refl
+joined-waiting parts.Second h places.Double j f fs l = refl
+joined-waiting parts.Second h places.Deferred j f fs l = absurd j
+
+-- the floats that wait in a list before and after the next one
+abbrev pub Waits : Part → Weight → List Float → List Float → Work → Type 0
+Waits from v before rest w = floats_weight v (floats_of from w.state.floats) ≡ floats_weight v before + floats_weight v rest
+
+-- a float that waits goes to a list or stays
+waiting-adds : (from : Part) → IsWaiting from → (v : Weight) (p : Params) (place : Where) (f : Float) (before rest : List Float) (w : Work) → StaysOrJoins place → Waits from v before (f ∷ rest) w → Adds v 0 w (Place.place_waiting from p place f before rest w) × Waits from v (Place.still_deferred place f before) rest (Place.place_waiting from p place f before rest w)
+waiting-adds from q v p place f before rest w j h = by_place place j
   where
     l : FloatLists
-    l = record w.state.floats { deferred = before ++ rest }
+    l = with_floats_of from (before ++ rest) w.state.floats
 
     both : floats_weight v (before ++ rest) ≡ floats_weight v before + floats_weight v rest
     both = floats-append v before rest
 
     lighter : lists_weight v w.state.floats ≡ lists_weight v l + v.float f.line
-    lighter = let e : floats_weight v (before ++ rest) ≡ floats_weight v before + floats_weight v rest = both in omega arith
-
-    recorded : (r : Recorded) (fs : FloatLists) (t : Bool) → floats_weight v (with_floats fs (if t then w else record w { records = w.records ++ r ∷ [] })).state.floats.deferred ≡ floats_weight v fs.deferred
-    recorded r fs true = refl
-    recorded r fs false = refl
+    lighter =
+        let e : floats_weight v (before ++ rest) ≡ floats_weight v before + floats_weight v rest = both in
+        sums (lists_weight v l) (floats_weight v (floats_of from w.state.floats)) (lists_weight v w.state.floats) (floats_weight v (before ++ rest)) (floats_weight v before) (floats_weight v rest) (v.float f.line) (lists-with v from q (before ++ rest) w.state.floats) h e
+      where
+        sums : (a b c d x y z : ℕ) → a + b ≡ c + d → b ≡ x + (z + y) → d ≡ x + y → c ≡ a + z
+        sums a b c d x y z e g i = omega arith
 
     stays : floats_weight v (before ++ f ∷ []) ≡ floats_weight v before + v.float f.line
     stays = one-more v before f
 
-    by_place : (place : Where) → StaysOrJoins place → Adds v 0 w (Place.place_deferred p place f before rest w) × Waits v (Place.still_deferred place f before) rest (Place.place_deferred p place f before rest w)
-    by_place places.Here j = absurd j.by
-    by_place places.Top j = (placed-adds v p places.Top f l w tt (λ x. x) lighter, both)
-    by_place places.Bottom j = (placed-adds v p places.Bottom f l w tt (λ x. x) lighter, both)
-    by_place places.Page j = (unchanged v w, let e : floats_weight v (before ++ f ∷ []) ≡ floats_weight v before + v.float f.line = stays in omega arith)
-    by_place places.Double j = (placed-adds v p places.Double f l w tt (λ x. x) lighter, both)
-    by_place places.Deferred j = (unchanged v w, let e : floats_weight v (before ++ f ∷ []) ≡ floats_weight v before + v.float f.line = stays in omega arith)
+    paired : Paired w.state.floats.current → Paired l.current
+    paired x = paired-with from q (before ++ rest) w.state.floats x
 
-pub next-adds : (v : Weight) (p : Params) (before fs : List Float) (w : Work) → Waits v before fs w → Adds v 0 w (Place.place_next p before fs w)
+    joins : (place : Where) → Joins place → Leaves place → Adds v 0 w (Place.place_float p place f l w) × (floats_weight v (floats_of from (Place.place_float p place f l w).state.floats) ≡ floats_weight v before + floats_weight v rest)
+    joins place k m = (placed-adds v p place f l w k paired lighter, ap (floats_weight v) (joined-waiting from q place m f (before ++ rest) w.state.floats) ∙ both)
+
+    waits : Adds v 0 w w × (floats_weight v (floats_of from w.state.floats) ≡ floats_weight v (before ++ f ∷ []) + floats_weight v rest)
+    waits = (unchanged v w, sums (floats_weight v (floats_of from w.state.floats)) (floats_weight v before) (floats_weight v rest) (v.float f.line) (floats_weight v (before ++ f ∷ [])) h stays)
+      where
+        sums : (b x y z d : ℕ) → b ≡ x + (z + y) → d ≡ x + z → b ≡ d + y
+        sums b x y z d e g = omega arith
+
+    by_place : (place : Where) → StaysOrJoins place → Adds v 0 w (Place.place_waiting from p place f before rest w) × Waits from v (Place.still_deferred place f before) rest (Place.place_waiting from p place f before rest w)
+    by_place places.Here j = absurd j.by
+    by_place places.Top j = joins places.Top tt tt
+    by_place places.Bottom j = joins places.Bottom tt tt
+    by_place places.Page j = waits
+    by_place places.Double j = joins places.Double tt tt
+    by_place places.Deferred j = waits
+
+pub next-adds : (v : Weight) (p : Params) (before fs : List Float) (w : Work) → Waits parts.Deferred v before fs w → Adds v 0 w (Place.place_next p before fs w)
 next-adds v p before [] w h = unchanged v w
 next-adds v p before (f ∷ rest) w h =
     let place = Area.next_place p w.state.floats w.state.suppress before f in
-    let w' = Place.place_deferred p place f before rest w in
-    let d : Adds v 0 w (Place.place_deferred p place f before rest w) × Waits v (Place.still_deferred place f before) rest (Place.place_deferred p place f before rest w) = deferred-adds v p place f before rest w (next-joins p w.state.floats w.state.suppress before f) h in
+    let w' = Place.place_waiting parts.Deferred p place f before rest w in
+    let d : Adds v 0 w (Place.place_waiting parts.Deferred p place f before rest w) × Waits parts.Deferred v (Place.still_deferred place f before) rest (Place.place_waiting parts.Deferred p place f before rest w) = waiting-adds parts.Deferred tt v p place f before rest w (next-joins p w.state.floats w.state.suppress before f) h in
     then_kept v 0 w w' (Place.place_next p (Place.still_deferred place f before) rest w') d.0 (next-adds v p (Place.still_deferred place f before) rest w' d.1)
 
-pub double-adds : (v : Weight) (p : Params) (before fs : List Float) (w : Work) → Waits v before fs w → Adds v 0 w (Place.place_double p before fs w)
-double-adds v p before [] w h = unchanged v w
-double-adds v p before (f ∷ rest) w h =
+pub double-adds : (from : Part) → IsWaiting from → (v : Weight) (p : Params) (before fs : List Float) (w : Work) → Waits from v before fs w → Adds v 0 w (Place.place_double from p before fs w)
+double-adds from q v p before [] w h = unchanged v w
+double-adds from q v p before (f ∷ rest) w h =
     let place = Area.double_place p w.state.floats w.state.suppress before f in
-    let w' = Place.place_deferred p place f before rest w in
-    let d : Adds v 0 w (Place.place_deferred p place f before rest w) × Waits v (Place.still_deferred place f before) rest (Place.place_deferred p place f before rest w) = deferred-adds v p place f before rest w (double-joins p w.state.floats w.state.suppress before f) h in
-    then_kept v 0 w w' (Place.place_double p (Place.still_deferred place f before) rest w') d.0 (double-adds v p (Place.still_deferred place f before) rest w' d.1)
+    let w' = Place.place_waiting from p place f before rest w in
+    let d : Adds v 0 w (Place.place_waiting from p place f before rest w) × Waits from v (Place.still_deferred place f before) rest (Place.place_waiting from p place f before rest w) = waiting-adds from q v p place f before rest w (double-joins p w.state.floats w.state.suppress before f) h in
+    then_kept v 0 w w' (Place.place_double from p (Place.still_deferred place f before) rest w') d.0 (double-adds from q v p (Place.still_deferred place f before) rest w' d.1)

@@ -1,6 +1,6 @@
 -- Each float that a firing places keeps the limits of its list.
 use Rattle.std.proofs.Common.{◌≡◌, refl, sym, subst, ℕ, zero, suc, pos, ◌+◌, Bool, true, false, List, [], ◌∷◌, ◌++◌, length, Option, Some, None}
-use Rattle.std.specs.Prelude.{ℤ, int_lt, int_le, not, if◌then◌else◌}
+use Rattle.std.specs.Prelude.{ℤ, int_lt, int_le, not, ◌||◌, if◌then◌else◌}
 use Rattle.std.specs.List.{AllByRecursion}
 use Rattle.tb_node.specs.declared.Float.{Float}
 use Rattle.tb_node.specs.declared.Margin.{Margin}
@@ -13,7 +13,9 @@ use Rattle.tb_param.specs.declared.Params.{Params}
 use Rattle.tb_builder.specs.Fired.{Fired}
 use Rattle.tb_float.specs.declared.Entry.{Entry}
 use Rattle.tb_float.specs.declared.Entry.TheVariants as entries
-use Rattle.tb_float.specs.Lists.{FloatLists}
+use Rattle.tb_float.specs.declared.Part.{Part}
+use Rattle.tb_float.specs.declared.Part.TheVariants as parts
+use Rattle.tb_float.specs.Lists.{FloatLists, with_floats_of, wide_part, wide_waiting, with_wide_waiting}
 use Rattle.tb_float.specs.Rooms.{column_height_of, column_room_of}
 use Rattle.tb_fpage.specs.Company.{Choice, company, left_floats}
 use Rattle.tb_area.specs.Area.{next_place, double_place, current_place}
@@ -81,32 +83,32 @@ placed-keeps p place f left w k =
     let r = placed f place w.state.floats (column_height_of p w.state.floats) in
     joined p w (if Place.is_placed place then records_also r w else w) (Place.place_float p place f left w) (keeps_if p w (Place.is_placed place) (records_also r w) w (records-keeps p r w (λ plain. (refl, k plain))) (same refl)) (same refl)
 
-deferred-keeps : (p : Params) (place : Where) (f : Float) (before rest : List Float) (w : Work) → (f.bang ≡ false → KeepsLimits p w.state.floats f place) → Keeps p w (Place.place_deferred p place f before rest w)
-deferred-keeps p place f before rest w k =
-    let l : FloatLists = record w.state.floats { deferred = before ++ rest } in
+moved-keeps : (from : Part) (p : Params) (place : Where) (f : Float) (before rest : List Float) (w : Work) → (f.bang ≡ false → KeepsLimits p w.state.floats f place) → Keeps p w (Place.place_waiting from p place f before rest w)
+moved-keeps from p place f before rest w k =
+    let l : FloatLists = with_floats_of from (before ++ rest) w.state.floats in
     keeps_if p w (Place.is_placed place) (Place.place_float p place f l w) w (placed-keeps p place f l w k) (same refl)
 
 next-keeps : (p : Params) (before fs : List Float) (w : Work) → Keeps p w (Place.place_next p before fs w)
 next-keeps p before [] w = same refl
 next-keeps p before (f ∷ rest) w =
     let place = next_place p w.state.floats w.state.suppress before f in
-    let w' = Place.place_deferred p place f before rest w in
+    let w' = Place.place_waiting parts.Deferred p place f before rest w in
     let laws = next-laws p w.state.floats w.state.suppress before f in
-    joined p w w' (Place.place_next p (Place.still_deferred place f before) rest w') (deferred-keeps p place f before rest w laws.limits) (next-keeps p (Place.still_deferred place f before) rest w')
+    joined p w w' (Place.place_next p (Place.still_deferred place f before) rest w') (moved-keeps parts.Deferred p place f before rest w laws.limits) (next-keeps p (Place.still_deferred place f before) rest w')
 
-double-keeps : (p : Params) (before fs : List Float) (w : Work) → Keeps p w (Place.place_double p before fs w)
-double-keeps p before [] w = same refl
-double-keeps p before (f ∷ rest) w =
+double-keeps : (from : Part) (p : Params) (before fs : List Float) (w : Work) → Keeps p w (Place.place_double from p before fs w)
+double-keeps from p before [] w = same refl
+double-keeps from p before (f ∷ rest) w =
     let place = double_place p w.state.floats w.state.suppress before f in
-    let w' = Place.place_deferred p place f before rest w in
+    let w' = Place.place_waiting from p place f before rest w in
     let laws = double-laws p w.state.floats w.state.suppress before f in
-    joined p w w' (Place.place_double p (Place.still_deferred place f before) rest w') (deferred-keeps p place f before rest w laws.limits) (double-keeps p (Place.still_deferred place f before) rest w')
+    joined p w w' (Place.place_double from p (Place.still_deferred place f before) rest w') (moved-keeps from p place f before rest w laws.limits) (double-keeps from p (Place.still_deferred place f before) rest w')
 
 -- ---- pages and columns
 
 ship_wide-keeps : (p : Params) (cs : List Choice) (w : Work) → Keeps p w (Ship.ship_wide p cs w)
 ship_wide-keeps p cs w =
-    joined p w (Ship.with_deferred (left_floats cs) w) (Ship.ship_wide p cs w) (same refl) (ship-keeps p _ _)
+    joined p w (with_floats (with_wide_waiting p (left_floats cs) w.state.floats) w) (Ship.ship_wide p cs w) (same refl) (ship-keeps p _ _)
 
 wide_by-keeps : (p : Params) (again : Work → Work) → ((w : Work) → Keeps p w (again w)) → (w : Work) (o : Option (List Choice)) → Keeps p w (Ship.wide_pages_by again p w o)
 wide_by-keeps p again h w None = same refl
@@ -114,10 +116,10 @@ wide_by-keeps p again h w (Some cs) = joined p w (Ship.ship_wide p cs w) (again 
 
 wide_pages-keeps : (p : Params) (clearing : Bool) (n : ℕ) (w : Work) → Keeps p w (Ship.wide_pages p clearing n w)
 wide_pages-keeps p clearing zero w = same refl
-wide_pages-keeps p clearing (suc n) w = wide_by-keeps p (λ w'. Ship.wide_pages p clearing n w') (λ w'. wide_pages-keeps p clearing n w') w (company (Ship.wide_wanted p clearing) w.state.floats.deferred)
+wide_pages-keeps p clearing (suc n) w = wide_by-keeps p (λ w'. Ship.wide_pages p clearing n w') (λ w'. wide_pages-keeps p clearing n w') w (company (Ship.wide_wanted p clearing) (wide_waiting p w.state.floats))
 
 all_wide-keeps : (p : Params) (clearing : Bool) (w : Work) → Keeps p w (Ship.all_wide_pages p clearing w)
-all_wide-keeps p clearing w = wide_pages-keeps p clearing (length w.state.floats.deferred) w
+all_wide-keeps p clearing w = wide_pages-keeps p clearing (length (wide_waiting p w.state.floats)) w
 
 ship_pair-keeps : (p : Params) (c : PlainColumn) (w : Work) → Keeps p w (Ship.ship_pair p c w)
 ship_pair-keeps p c w =
@@ -126,7 +128,7 @@ ship_pair-keeps p c w =
     let d = Ship.all_wide_pages p false b in
     joined p w a (Ship.fill_double p d) (ship-keeps p _ w)
     (joined p a b (Ship.fill_double p d) (same refl)
-    (joined p b d (Ship.fill_double p d) (all_wide-keeps p false b) (double-keeps p [] d.state.floats.deferred d)))
+    (joined p b d (Ship.fill_double p d) (all_wide-keeps p false b) (double-keeps (wide_part p) p [] (wide_waiting p d.state.floats) d)))
 
 put_out_by-keeps : (p : Params) (c : PlainColumn) (w : Work) → Keeps p w (Ship.put_out_by p c w)
 put_out_by-keeps p c w = by_columns w.state.two_columns
@@ -217,7 +219,7 @@ clear_wide-keeps : (p : Params) (w : Work) → Keeps p w (Clear.clear_wide p w)
 clear_wide-keeps p w = by_columns w.state.two_columns
   where
     a : Work
-    a = with_floats (Clear.double_again w.state.floats) w
+    a = with_floats (Clear.double_again p w.state.floats) w
 
     by_columns : (t : Bool) → Keeps p w (if not t then w else (if w.state.first_column then Ship.all_wide_pages p true a else puts (made blank_box ∷ Clear.clear_again) w))
     by_columns false = same refl
@@ -230,7 +232,7 @@ clear_floats-keeps p body w =
     let c = Clear.clear_wide p b in
     joined p w a (Clear.clear_rest c) (same refl)
     (joined p a b (Clear.clear_rest c) (float_columns-keeps p true (length a.state.floats.deferred) a)
-    (joined p b c (Clear.clear_rest c) (clear_wide-keeps p b) (keeps_if p c (has_floats c.state.floats.deferred) (puts Clear.clear_again c) c (same refl) (same refl))))
+    (joined p b c (Clear.clear_rest c) (clear_wide-keeps p b) (keeps_if p c (has_floats c.state.floats.deferred || has_floats c.state.floats.second) (puts Clear.clear_again c) c (same refl) (same refl))))
 
 clear_by-keeps : (p : Params) (body : List PlainNode) (w : Work) (o : Option (List Leaf)) → Keeps p w (Clear.clear_by p body w o)
 clear_by-keeps p body w None = clear_floats-keeps p body w

@@ -8,46 +8,58 @@ use Rattle.tb_node.proofs.Weights.{Weight, leaves_weight, nodes_weight}
 use Rattle.tb_param.specs.declared.Params.{Params}
 use Rattle.tb_builder.specs.Fired.{Boxed, content_of, box_content}
 use Rattle.tb_builder.proofs.PageWeights.{boxes_weight}
+use Rattle.tb_float.specs.declared.Part.{Part}
+use Rattle.tb_float.specs.declared.Part.TheVariants as parts
+use Rattle.tb_float.specs.Lists.{FloatLists, floats_of, with_floats_of, IsWaiting, wide_part, wide_waiting, with_wide_waiting}
+use Rattle.tb_float.proofs.WaitingLemmas.{wide-waits}
 use Rattle.tb_float.specs.Rooms.{column_height_of}
 use Rattle.tb_fpage.specs.Company.{Choice, company, chosen_floats, left_floats}
 use Rattle.tb_column.specs.Column.{PlainColumn, PlainSheet, shipped, one, wide, floats_above, text_column, pair_sheet, single_floats_column, wide_floats_column}
-use Rattle.tb_output.specs.State.{Work, output, records_also, footnotes}
+use Rattle.tb_output.specs.State.{Work, output, records_also, with_floats, footnotes}
 use Rattle.tb_output.specs.Ship
 use Rattle.tb_output.specs.Columns
 use Rattle.tb_output.proofs.StateWeights.{floats_weight, lists_weight, left_weight, sheet_weight, sent_weight, work_weight, OneBox, ColumnsFit, Sound, Adds, then_kept, kept_then, unchanged, records-adds, shipped-adds}
 use Rattle.tb_output.proofs.ColumnWeights.{floats_above-weight, text_column-weight, floats_column-weight, choices_weight, CompanyOf, company-weight, parted-weight}
-use Rattle.tb_output.proofs.FloatWeights.{next-adds, double-adds}
+use Rattle.tb_output.proofs.FloatWeights.{paired-with, lists-with, next-adds, double-adds}
 
 -- ---- pages and columns
 
-with_deferred-adds : (v : Weight) (fs : List Float) (n : ℕ) (w : Work) → n + floats_weight v fs ≡ floats_weight v w.state.floats.deferred → (c : Work) → Adds v n (Ship.with_deferred fs w) c → Adds v 0 w c
-with_deferred-adds v fs n w e c x = record { waits = x.waits; goes = λ r. x.goes r; by = λ r s. all r s (x.by r (record { box = s.box; columns = s.columns; entries = s.entries })) }
+with_waiting-adds : (from : Part) → IsWaiting from → (v : Weight) (fs : List Float) (n : ℕ) (w : Work) → n + floats_weight v fs ≡ floats_weight v (floats_of from w.state.floats) → (c : Work) → Adds v n (with_floats (with_floats_of from fs w.state.floats) w) c → Adds v 0 w c
+with_waiting-adds from q v fs n w e c x = record { waits = x.waits; goes = λ r. x.goes r; by = λ r s. all r s (x.by r (record { box = s.box; columns = s.columns; entries = paired-with from q fs w.state.floats s.entries })) }
   where
-    sums : (a b c d g h i j k : ℕ) → n + c ≡ b → k ≡ (a + (d + c + g) + h + i + j) + n → k ≡ a + (d + b + g) + h + i + j + 0
-    sums a b c d g h i j k p q = omega arith
+    l : FloatLists
+    l = with_floats_of from fs w.state.floats
 
-    all : c.refused ≡ false → Sound w.state → Sound c.state × (work_weight v c ≡ work_weight v (Ship.with_deferred fs w) + n) → Sound c.state × (work_weight v c ≡ work_weight v w + 0)
-    all r s h = let g : work_weight v c ≡ work_weight v (Ship.with_deferred fs w) + n = h.1 in (h.0, omega (arith, e))
+    all : c.refused ≡ false → Sound w.state → Sound c.state × (work_weight v c ≡ work_weight v (with_floats l w) + n) → Sound c.state × (work_weight v c ≡ work_weight v w + 0)
+    all r s h =
+        (h.0, sums (nodes_weight v w.state.waiting + boxes_weight v w.state.boxes + nodes_weight v w.state.held_page) (lists_weight v l) (lists_weight v w.state.floats) (left_weight v w.state.left_column) (nodes_weight v w.put_back) (sent_weight v w.sent) (floats_weight v (floats_of from w.state.floats)) (floats_weight v fs) (work_weight v c) (lists-with v from q fs w.state.floats) e h.1)
+      where
+        sums : (a d b g i j y x k : ℕ) → d + y ≡ b + x → n + x ≡ y → k ≡ a + d + g + i + j + n → k ≡ a + b + g + i + j + 0
+        sums a d b g i j y x k p q h = omega arith
 
--- a company leaves the deferred floats, and its page or column takes them
-ship_wide-adds : (v : Weight) (p : Params) (cs : List Choice) (w : Work) → choices_weight v cs ≡ floats_weight v w.state.floats.deferred → Adds v 0 w (Ship.ship_wide p cs w)
+-- a company leaves the floats that wait, and its page or column takes them
+ship_wide-adds : (v : Weight) (p : Params) (cs : List Choice) (w : Work) → choices_weight v cs ≡ floats_weight v (wide_waiting p w.state.floats) → Adds v 0 w (Ship.ship_wide p cs w)
 ship_wide-adds v p cs w h =
-    let e : floats_weight v (chosen_floats cs) + floats_weight v (left_floats cs) ≡ choices_weight v cs = parted-weight v cs in
-    let c : nodes_weight v (wide_floats_column p p.textheight (chosen_floats cs)).nodes ≡ floats_weight v (chosen_floats cs) = floats_column-weight v p.textheight p.dblfptop p.dblfpsep p.dblfpbot (chosen_floats cs) in
-    let x : Adds v (nodes_weight v (wide_floats_column p p.textheight (chosen_floats cs)).nodes) (Ship.with_deferred (left_floats cs) w) (Ship.ship_wide p cs w) = shipped-adds v p (wide (wide_floats_column p p.textheight (chosen_floats cs))) (Ship.with_deferred (left_floats cs) w) in
-    with_deferred-adds v (left_floats cs) (nodes_weight v (wide_floats_column p p.textheight (chosen_floats cs)).nodes) w (omega arith) (Ship.ship_wide p cs w) x
+    let b = with_floats (with_wide_waiting p (left_floats cs) w.state.floats) w in
+    let n = nodes_weight v (wide_floats_column p p.textheight (chosen_floats cs)).nodes in
+    let c : n ≡ floats_weight v (chosen_floats cs) = floats_column-weight v p.textheight p.dblfptop p.dblfpsep p.dblfpbot (chosen_floats cs) in
+    let x : Adds v n b (Ship.ship_wide p cs w) = shipped-adds v p (wide (wide_floats_column p p.textheight (chosen_floats cs))) b in
+    with_waiting-adds (wide_part p) (wide-waits p) v (left_floats cs) n w (sums n (floats_weight v (chosen_floats cs)) (floats_weight v (left_floats cs)) (choices_weight v cs) (floats_weight v (wide_waiting p w.state.floats)) c (parted-weight v cs) h) (Ship.ship_wide p cs w) x
+  where
+    sums : (n a b c d : ℕ) → n ≡ a → a + b ≡ c → c ≡ d → n + b ≡ d
+    sums n a b c d e g i = omega arith
 
-wide_by-adds : (v : Weight) (p : Params) (again : Work → Work) → ((w : Work) → Adds v 0 w (again w)) → (w : Work) (o : Option (List Choice)) → CompanyOf v (floats_weight v w.state.floats.deferred) o → Adds v 0 w (Ship.wide_pages_by again p w o)
+wide_by-adds : (v : Weight) (p : Params) (again : Work → Work) → ((w : Work) → Adds v 0 w (again w)) → (w : Work) (o : Option (List Choice)) → CompanyOf v (floats_weight v (wide_waiting p w.state.floats)) o → Adds v 0 w (Ship.wide_pages_by again p w o)
 wide_by-adds v p again h w None c = unchanged v w
 wide_by-adds v p again h w (Some cs) c = then_kept v 0 w (Ship.ship_wide p cs w) (again (Ship.ship_wide p cs w)) (ship_wide-adds v p cs w c) (h (Ship.ship_wide p cs w))
 
 wide_pages-adds : (v : Weight) (p : Params) (clearing : Bool) (n : ℕ) (w : Work) → Adds v 0 w (Ship.wide_pages p clearing n w)
 wide_pages-adds v p clearing zero w = unchanged v w
 wide_pages-adds v p clearing (suc n) w =
-    wide_by-adds v p (λ w'. Ship.wide_pages p clearing n w') (λ w'. wide_pages-adds v p clearing n w') w (company (Ship.wide_wanted p clearing) w.state.floats.deferred) (company-weight v (Ship.wide_wanted p clearing) w.state.floats.deferred)
+    wide_by-adds v p (λ w'. Ship.wide_pages p clearing n w') (λ w'. wide_pages-adds v p clearing n w') w (company (Ship.wide_wanted p clearing) (wide_waiting p w.state.floats)) (company-weight v (Ship.wide_wanted p clearing) (wide_waiting p w.state.floats))
 
 pub all_wide-adds : (v : Weight) (p : Params) (clearing : Bool) (w : Work) → Adds v 0 w (Ship.all_wide_pages p clearing w)
-all_wide-adds v p clearing w = wide_pages-adds v p clearing (length w.state.floats.deferred) w
+all_wide-adds v p clearing w = wide_pages-adds v p clearing (length (wide_waiting p w.state.floats)) w
 
 same_sum : (n : ℕ) → n + 0 ≡ n
 same_sum n = omega arith
@@ -98,7 +110,7 @@ ship_pair-adds v p c w t f =
     let b = Ship.without_double (Ship.ship p (pair_sheet p w.state.floats (Ship.left_or c w.state.left_column) c) w) in
     let d = Ship.all_wide_pages p false b in
     then_kept v (nodes_weight v c.nodes) w b (Ship.ship_pair p c w) (pair-adds v p c w f)
-    (then_kept v 0 b d (Ship.ship_pair p c w) (all_wide-adds v p false b) (double-adds v p [] d.state.floats.deferred d (omega arith)))
+    (then_kept v 0 b d (Ship.ship_pair p c w) (all_wide-adds v p false b) (double-adds (wide_part p) (wide-waits p) v p [] (wide_waiting p d.state.floats) d (omega arith)))
 
 keep_left-adds : (v : Weight) (c : PlainColumn) (w : Work) → w.state.two_columns ≡ true → w.state.first_column ≡ true → Adds v (nodes_weight v c.nodes) w (Ship.keep_left c w)
 keep_left-adds v c w t f = record { waits = refl; goes = λ r. r; by = λ r s. by_left w.state.left_column s.columns s }
@@ -167,7 +179,7 @@ company-adds v p cs w h =
     let e : floats_weight v (chosen_floats cs) + floats_weight v (left_floats cs) ≡ choices_weight v cs = parted-weight v cs in
     let c : nodes_weight v (single_floats_column p height (chosen_floats cs)).nodes ≡ floats_weight v (chosen_floats cs) = floats_column-weight v height p.fptop p.fpsep p.fpbot (chosen_floats cs) in
     let x : Adds v (nodes_weight v (single_floats_column p height (chosen_floats cs)).nodes) (Ship.with_deferred (left_floats cs) w) (Columns.put_out_company p cs w) = put_out-adds v p (single_floats_column p height (chosen_floats cs)) (Ship.with_deferred (left_floats cs) w) in
-    with_deferred-adds v (left_floats cs) (nodes_weight v (single_floats_column p height (chosen_floats cs)).nodes) w (omega arith) (Columns.put_out_company p cs w) x
+    with_waiting-adds parts.Deferred tt v (left_floats cs) (nodes_weight v (single_floats_column p height (chosen_floats cs)).nodes) w (omega arith) (Columns.put_out_company p cs w) x
 
 columns_by-adds : (v : Weight) (p : Params) (again : Work → Work) → ((w : Work) → Adds v 0 w (again w)) → (w : Work) (o : Option (List Choice)) → CompanyOf v (floats_weight v w.state.floats.deferred) o → Adds v 0 w (Columns.float_columns_by again p w o)
 columns_by-adds v p again h w None c = unchanged v w

@@ -29,7 +29,7 @@ entries_weight v (entries.Right m ∷ es) = entries_weight v es
 
 -- a float of the here list stands in the text as a box, which weighs
 abbrev pub lists_weight : Weight → FloatLists → ℕ
-lists_weight v l = entries_weight v l.current + floats_weight v l.top + floats_weight v l.bottom + floats_weight v l.deferred + floats_weight v l.double
+lists_weight v l = entries_weight v l.current + floats_weight v l.top + floats_weight v l.bottom + floats_weight v l.deferred + floats_weight v l.double + floats_weight v l.second
 
 abbrev pub left_weight : Weight → Option PlainColumn → ℕ
 left_weight v None = 0
