@@ -1,16 +1,12 @@
 -- A machine after a float was taken.
 use Rattle.std.proofs.Common.{◌≡◌, refl, sym, subst, ap, ◌∙◌, List, [], ◌∷◌, ◌++◌, Result}
-use Rattle.std.specs.Prelude.{OnOk, IfErr, pos, Bool, true, false, ◌&&◌, if◌then◌else◌}
+use Rattle.std.specs.Prelude.{OnOk, IfErr}
 use Rattle.std.specs.List.{AllByRecursion}
 use Rattle.tb_pool.specs.Lists.{Lists}
 use Rattle.tb_node.specs.declared.Float.{Float}
 use Rattle.tb_node.specs.declared.Node.{Node}
-use Rattle.tb_param.specs.declared.Params.{Params}
-use Rattle.tb_param.specs.Release.{has_second}
-use Rattle.tb_float.specs.declared.Part.TheVariants as parts
-use Rattle.tb_float.specs.declared.Entry.TheVariants as entries
 use Rattle.tb_float.specs.declared.Full.{Full}
-use Rattle.tb_float.specs.Pool.{FloatPool, with_current, with_floats_after}
+use Rattle.tb_float.specs.Pool.{FloatPool}
 use Rattle.tb_column.specs.declared.Sent.{Sent}
 use Rattle.tb_column.specs.declared.Warn.{Warn}
 use Rattle.tb_output.specs.Act.{large_warning}
@@ -38,14 +34,6 @@ page-warnings store (w ∷ ws) = (tt, page-warnings store ws)
 pub float-taken : (m : MachineView) (f taken : Float) (v : FloatPool) (es : List Sent) → taken ≡ clipped m.params.textheight m.two_columns f → v ≡ taken_into m.params taken m.pool → es ≡ m.events ++ warnings_sent (large_warning m.params f) → record m { pool = v; events = es } ≡ with_float f m
 float-taken m f taken v es t p e = λ i. record m { pool = (p ∙ ap (λ x. taken_into m.params x m.pool) t) i; events = e i }
 
--- the pool is as large as before
-taken-size : (p : Params) (f : Float) (v : FloatPool) → (taken_into p f v).size ≡ v.size
-taken-size p f v = by_list (has_second p && f.wide)
-  where
-    by_list : (t : Bool) → (if t then with_floats_after parts.Second (f ∷ []) v else with_current (entries.Float f ∷ []) v).size ≡ v.size
-    by_list true = refl
-    by_list false = refl
-
 module _ (m now : MachineView) (f : Float) where
   float-lists : machine_lists m ≡ machine_lists (with_float f m)
   float-lists = ap (λ ls. m.held_page ∷ left_lists m.left_column ++ ls) (lists-warned m.events (large_warning m.params f))
@@ -55,7 +43,7 @@ module _ (m now : MachineView) (f : Float) where
     params = is.params;
     first = is.first;
     last = is.last;
-    pool = ap pos (taken-size m.params (clipped m.params.textheight m.two_columns f) m.pool) ∙ is.pool;
+    pool = is.pool;
     held_page = is.held_page;
     left_column = is.left_column;
     events = all-join (IsPageSent store) m.events (warnings_sent (large_warning m.params f)) is.events (page-warnings store (large_warning m.params f));

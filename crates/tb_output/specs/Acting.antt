@@ -1,5 +1,5 @@
 -- What the machine answers at an act, against the definition of an act.
-use Rattle.std.specs.Prelude.{◌≡◌, ◌≤◌, ◌<◌, ◌+◌, ℕ, ℤ, Bool, true, ◌&&◌, List, [], ◌∷◌, ◌++◌, map, None, if◌then◌else◌}
+use Rattle.std.specs.Prelude.{◌≡◌, ◌≤◌, ◌<◌, ◌+◌, ℕ, ℤ, Bool, true, false, ◌&&◌, List, [], ◌∷◌, ◌++◌, map, None, if◌then◌else◌}
 use Rattle.tb_scaled.specs.Scaled.{min_ℤ}
 use Rattle.tb_pool.specs.Lists.{Lists}
 use Rattle.tb_node.specs.declared.Act.{Act}
@@ -13,16 +13,15 @@ use Rattle.tb_node.specs.Plain.{PlainNode}
 use Rattle.tb_builder.specs.Fired.{Boxed}
 use Rattle.tb_param.specs.declared.Params.{Params}
 use Rattle.tb_param.specs.Release.{has_second}
-use Rattle.tb_float.specs.declared.Part.TheVariants as parts
 use Rattle.tb_float.specs.declared.Entry.TheVariants as entries
 use Rattle.tb_float.specs.Lists.{live_count}
-use Rattle.tb_float.specs.Pool.{FloatPool, with_current, with_floats_after}
+use Rattle.tb_float.specs.Pool.{FloatPool, with_current}
 use Rattle.tb_float.specs.Ranges.{IsSizedMargin}
 use Rattle.tb_column.specs.declared.Sent.{Sent}
 use Rattle.tb_column.specs.declared.Sent.TheVariants as events
 use Rattle.tb_column.specs.declared.Warn.{Warn}
 use Rattle.tb_output.specs.State.{State, no_suppress}
-use Rattle.tb_output.specs.Act.{Acted, went, full, large_warning, suppressed, act_on}
+use Rattle.tb_output.specs.Act.{Acted, went, full, lists_with_taken, large_warning, suppressed, act_on}
 use Rattle.tb_output.specs.Machine.{MachineView, state_shown, machine_lists, IsNotAmong}
 
 -- ---- what is asked
@@ -71,9 +70,12 @@ TakesNoList m now = (q : ℕ) → IsNotAmong q (machine_lists m) → IsNotAmong 
 abbrev pub clipped : ℤ → Bool → Float → Float
 clipped height two f = record f { height = min_ℤ f.height height; wide = f.wide && two }
 
--- a float goes to the current list; in release 2014 a wide one to the second list
+-- a float that was taken is in the pool, without a mark
 abbrev pub taken_into : Params → Float → FloatPool → FloatPool
-taken_into p f v = if has_second p && f.wide then with_floats_after parts.Second (f ∷ []) v else with_current (entries.Float f ∷ []) v
+taken_into p f v = record v {
+  lists = lists_with_taken p f v.lists;
+  second_marks = if has_second p && f.wide then v.second_marks ++ false ∷ [] else v.second_marks;
+}
 
 -- a float was taken, with a warning where it is higher than a page
 abbrev pub with_float : Float → MachineView → MachineView

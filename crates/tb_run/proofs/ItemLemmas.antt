@@ -1,5 +1,5 @@
 -- The nodes of a galley's items: handed over one by one, and what is known of them.
-use Rattle.std.proofs.Common.{◌≡◌, refl, sym, subst, ◌∙◌, ap, ℕ, ◌+◌, ◌<◌, List, [], ◌∷◌, ◌++◌, length, take, get_or, append_assoc, append-nil}
+use Rattle.std.proofs.Common.{◌≡◌, refl, sym, subst, ◌∙◌, ap, ℕ, ◌+◌, ◌<◌, Bool, false, List, [], ◌∷◌, ◌++◌, length, take, get_or, append_assoc, append-nil}
 use Rattle.std.proofs.lemmas.List.{take_more}
 use Rattle.tb_pool.specs.Lists.{Lists}
 use Rattle.tb_node.specs.declared.Node.{Node}
@@ -8,23 +8,26 @@ use Rattle.tb_param.specs.declared.Params.{Params}
 use Rattle.tb_builder.specs.declared.Builder.{Builder}
 use Rattle.tb_galley.specs.declared.Item.{Item}
 use Rattle.tb_galley.specs.declared.Galley.{Galley}
-use Rattle.tb_galley.specs.Expand.{item_kinds, item_nodes, expanded}
+use Rattle.tb_galley.specs.Expand.{item_kinds, item_nodes, two_after, two_past, expanded}
 use Rattle.tb_run.specs.Expanding.{Waits}
 use Rattle.tb_run.proofs.WaitsLemmas.{waits-then}
 
-pub item_nodes-append : (p : Params) (xs ys : List Item) → item_nodes p (xs ++ ys) ≡ item_nodes p xs ++ item_nodes p ys
-item_nodes-append p [] ys = refl
-item_nodes-append p (x ∷ xs) ys = ap (λ ns. on_line x.line (item_kinds p x.kind) ++ ns) (item_nodes-append p xs ys) ∙ sym (append_assoc (on_line x.line (item_kinds p x.kind)) (item_nodes p xs) (item_nodes p ys))
+pub item_nodes-append : (p : Params) (two : Bool) (xs ys : List Item) → item_nodes p two (xs ++ ys) ≡ item_nodes p two xs ++ item_nodes p (two_past two xs) ys
+item_nodes-append p two [] ys = refl
+item_nodes-append p two (x ∷ xs) ys =
+    ap (λ ns. on_line x.line (item_kinds p two x.kind) ++ ns) (item_nodes-append p (two_after two x.kind) xs ys)
+    ∙ sym (append_assoc (on_line x.line (item_kinds p two x.kind)) (item_nodes p (two_after two x.kind) xs) (item_nodes p (two_past two (x ∷ xs)) ys))
 
--- one item further
-pub item-more : (p : Params) (ns : List Item) (i : ℕ) (x : Item) → i < length ns → x ≡ get_or ns i x → (b : Builder) (s : Lists Node) (d : Builder) (t : Lists Node) (e : Builder) (u : Lists Node)
-    → Waits (item_nodes p (take i ns)) b s d t → Waits (on_line x.line (item_kinds p x.kind)) d t e u → Waits (item_nodes p (take (i + 1) ns)) b s e u
-item-more p ns i x within is b s d t e u so_far put =
+-- one item further, where there are so many columns before it
+pub item-more : (p : Params) (two : Bool) (ns : List Item) (i : ℕ) (x : Item) → i < length ns → x ≡ get_or ns i x → (b : Builder) (s : Lists Node) (d : Builder) (t : Lists Node) (e : Builder) (u : Lists Node)
+    → Waits (item_nodes p two (take i ns)) b s d t → Waits (on_line x.line (item_kinds p (two_past two (take i ns)) x.kind)) d t e u → Waits (item_nodes p two (take (i + 1) ns)) b s e u
+item-more p two ns i x within is b s d t e u so_far put =
+    let now = two_past two (take i ns) in
     subst (λ ms. Waits ms b s e u)
-    (ap (λ ms. item_nodes p (take i ns) ++ ms) (sym (append-nil (on_line x.line (item_kinds p x.kind))))
-    ∙ sym (ap (item_nodes p) (take_more ns i x within) ∙ ap (λ y. item_nodes p (take i ns ++ y ∷ [])) (sym is) ∙ item_nodes-append p (take i ns) (x ∷ [])))
-    (waits-then (item_nodes p (take i ns)) (on_line x.line (item_kinds p x.kind)) b s d t e u so_far put)
+    (ap (λ ms. item_nodes p two (take i ns) ++ ms) (sym (append-nil (on_line x.line (item_kinds p now x.kind))))
+    ∙ sym (ap (item_nodes p two) (take_more ns i x within) ∙ ap (λ y. item_nodes p two (take i ns ++ y ∷ [])) (sym is) ∙ item_nodes-append p two (take i ns) (x ∷ [])))
+    (waits-then (item_nodes p two (take i ns)) (on_line x.line (item_kinds p now x.kind)) b s d t e u so_far put)
 
-pub expanded-is : (g : Galley) → item_nodes g.params g.items ++ on_line g.end_line clearpage_kinds ≡ expanded g
+pub expanded-is : (g : Galley) → item_nodes g.params false g.items ++ on_line g.end_line clearpage_kinds ≡ expanded g
 unfolding expanded
 expanded-is g = refl

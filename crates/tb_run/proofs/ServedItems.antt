@@ -24,7 +24,7 @@ use Rattle.tb_galley.specs.declared.Item.{Item}
 use Rattle.tb_galley.specs.declared.ItemKind.{ItemKind}
 use Rattle.tb_galley.specs.declared.ItemKind.TheVariants as items
 use Rattle.tb_galley.specs.declared.Galley.{Galley}
-use Rattle.tb_galley.specs.Expand.{break_strength, plain_leaf, item_kinds, item_nodes, expanded}
+use Rattle.tb_galley.specs.Expand.{break_strength, plain_leaf, item_kinds, item_nodes, expanded, two_after}
 use Rattle.tb_galley.specs.Live.{is_live_item, HasLiveItems}
 use Rattle.tb_galley.specs.Valid.{is_size, is_leaf, is_item, weight_of, weight, IsValid}
 use Rattle.tb_output.specs.Out.{clear_penalty}
@@ -157,63 +157,63 @@ clear-sized l =
       ),
     )
 
-item-sized : (p : Params) (l : ℕ) (k : ItemKind) → AreRunnable p → IsTrue (is_item l k) → IsTrue (is_live_item k) → All IsSizedOnPage (on_line l (item_kinds p k))
-item-sized p l (items.Hbox name h d) r v live = one-sized _ (record { shape = both-extents _ h d v; kind = tt })
-item-sized p l (items.Rule name h d) r v live = one-sized _ (record { shape = both-extents _ h d v; kind = tt })
-item-sized p l (items.Skip g) r v live = one-sized _ (record { shape = glue-sized g v; kind = tt })
-item-sized p l (items.Kern w) r v live = one-sized _ (record { shape = dimen-dimension w v; kind = tt })
-item-sized p l (items.Penalty q) r v live = one-sized _ (record { shape = penalty-sized q v; kind = tt })
-item-sized p l (items.Mark name) r v live = one-sized _ (record { shape = tt; kind = tt })
-item-sized p l (items.Note name) r v live = one-sized _ (record { shape = tt; kind = tt })
-item-sized p l (items.Foot ls) r v live = one-sized _ (record { shape = tt; kind = record { inner = leaves-sized ls v; height = refl; split_depth = r.split_depth; split_top = r.split_top; floating = r.floating } })
-item-sized p l (items.Float f vert) r v live = cc
-item-sized p l (items.Margin m vert) r v live = cc
-item-sized p l items.NewPage r v live =
-    All-from_recursion IsSizedOnPage (on_line l (item_kinds p items.NewPage)) (record { shape = filling-sized; kind = tt }, (record { shape = record { low = omega (arith, ints); high = omega (arith, ints) }; kind = tt }, tt))
-item-sized p l items.ClearPage r v live = clear-sized l
-item-sized p l (items.PageBreak n) r v live = one-sized _ (record { shape = asked-sized n; kind = tt })
-item-sized p l (items.NoPageBreak n) r v live = one-sized _ (record { shape = strength-sized n; kind = tt })
-item-sized p l items.OneColumn r v live = cc
-item-sized p l items.TwoColumn r v live = cc
-item-sized p l (items.Suppress area) r v live = cc
+item-sized : (p : Params) (two : Bool) (l : ℕ) (k : ItemKind) → AreRunnable p → IsTrue (is_item l k) → IsTrue (is_live_item k) → All IsSizedOnPage (on_line l (item_kinds p two k))
+item-sized p two l (items.Hbox name h d) r v live = one-sized _ (record { shape = both-extents _ h d v; kind = tt })
+item-sized p two l (items.Rule name h d) r v live = one-sized _ (record { shape = both-extents _ h d v; kind = tt })
+item-sized p two l (items.Skip g) r v live = one-sized _ (record { shape = glue-sized g v; kind = tt })
+item-sized p two l (items.Kern w) r v live = one-sized _ (record { shape = dimen-dimension w v; kind = tt })
+item-sized p two l (items.Penalty q) r v live = one-sized _ (record { shape = penalty-sized q v; kind = tt })
+item-sized p two l (items.Mark name) r v live = one-sized _ (record { shape = tt; kind = tt })
+item-sized p two l (items.Note name) r v live = one-sized _ (record { shape = tt; kind = tt })
+item-sized p two l (items.Foot ls) r v live = one-sized _ (record { shape = tt; kind = record { inner = leaves-sized ls v; height = refl; split_depth = r.split_depth; split_top = r.split_top; floating = r.floating } })
+item-sized p two l (items.Float f vert) r v live = cc
+item-sized p two l (items.Margin m vert) r v live = cc
+item-sized p two l items.NewPage r v live =
+    All-from_recursion IsSizedOnPage (on_line l (item_kinds p two items.NewPage)) (record { shape = filling-sized; kind = tt }, (record { shape = record { low = omega (arith, ints); high = omega (arith, ints) }; kind = tt }, tt))
+item-sized p two l items.ClearPage r v live = clear-sized l
+item-sized p two l (items.PageBreak n) r v live = one-sized _ (record { shape = asked-sized n; kind = tt })
+item-sized p two l (items.NoPageBreak n) r v live = one-sized _ (record { shape = strength-sized n; kind = tt })
+item-sized p two l items.OneColumn r v live = cc
+item-sized p two l items.TwoColumn r v live = cc
+item-sized p two l (items.Suppress area) r v live = cc
 
-item-tame : (p : Params) (l : ℕ) (k : ItemKind) → IsTrue (is_item l k) → IsTrue (is_live_item k) → AreTame (on_line l (item_kinds p k))
-item-tame p l (items.Hbox name h d) v live = (tt, tt)
-item-tame p l (items.Rule name h d) v live = (tt, tt)
-item-tame p l (items.Skip g) v live = (tt, tt)
-item-tame p l (items.Kern w) v live = (tt, tt)
-item-tame p l (items.Penalty q) v live = (penalty-tame q v, tt)
-item-tame p l (items.Mark name) v live = (tt, tt)
-item-tame p l (items.Note name) v live = (tt, tt)
-item-tame p l (items.Foot ls) v live = (tt, tt)
-item-tame p l (items.Float f vert) v live = cc
-item-tame p l (items.Margin m vert) v live = cc
-item-tame p l items.NewPage v live = (tt, (omega (arith, ints), tt))
-item-tame p l items.ClearPage v live = (tt, (omega (arith, ints), (tt, (tt, (omega (arith, ints), tt)))))
-item-tame p l (items.PageBreak n) v live = (asked-tame n, tt)
-item-tame p l (items.NoPageBreak n) v live = (strength-tame n, tt)
-item-tame p l items.OneColumn v live = cc
-item-tame p l items.TwoColumn v live = cc
-item-tame p l (items.Suppress area) v live = cc
+item-tame : (p : Params) (two : Bool) (l : ℕ) (k : ItemKind) → IsTrue (is_item l k) → IsTrue (is_live_item k) → AreTame (on_line l (item_kinds p two k))
+item-tame p two l (items.Hbox name h d) v live = (tt, tt)
+item-tame p two l (items.Rule name h d) v live = (tt, tt)
+item-tame p two l (items.Skip g) v live = (tt, tt)
+item-tame p two l (items.Kern w) v live = (tt, tt)
+item-tame p two l (items.Penalty q) v live = (penalty-tame q v, tt)
+item-tame p two l (items.Mark name) v live = (tt, tt)
+item-tame p two l (items.Note name) v live = (tt, tt)
+item-tame p two l (items.Foot ls) v live = (tt, tt)
+item-tame p two l (items.Float f vert) v live = cc
+item-tame p two l (items.Margin m vert) v live = cc
+item-tame p two l items.NewPage v live = (tt, (omega (arith, ints), tt))
+item-tame p two l items.ClearPage v live = (tt, (omega (arith, ints), (tt, (tt, (omega (arith, ints), tt)))))
+item-tame p two l (items.PageBreak n) v live = (asked-tame n, tt)
+item-tame p two l (items.NoPageBreak n) v live = (strength-tame n, tt)
+item-tame p two l items.OneColumn v live = cc
+item-tame p two l items.TwoColumn v live = cc
+item-tame p two l (items.Suppress area) v live = cc
 
-item-few : (p : Params) (l : ℕ) (k : ItemKind) → IsTrue (is_live_item k) → node_count (on_line l (item_kinds p k)) ≤ 5 * weight_of k
-item-few p l (items.Hbox name h d) live = omega arith
-item-few p l (items.Rule name h d) live = omega arith
-item-few p l (items.Skip g) live = omega arith
-item-few p l (items.Kern w) live = omega arith
-item-few p l (items.Penalty q) live = omega arith
-item-few p l (items.Mark name) live = omega arith
-item-few p l (items.Note name) live = omega arith
-item-few p l (items.Foot ls) live = let e = length-map {B = PlainLeaf} ls plain_leaf in omega (arith, e)
-item-few p l (items.Float f vert) live = cc
-item-few p l (items.Margin m vert) live = cc
-item-few p l items.NewPage live = omega arith
-item-few p l items.ClearPage live = omega arith
-item-few p l (items.PageBreak n) live = omega arith
-item-few p l (items.NoPageBreak n) live = omega arith
-item-few p l items.OneColumn live = cc
-item-few p l items.TwoColumn live = cc
-item-few p l (items.Suppress area) live = cc
+item-few : (p : Params) (two : Bool) (l : ℕ) (k : ItemKind) → IsTrue (is_live_item k) → node_count (on_line l (item_kinds p two k)) ≤ 5 * weight_of k
+item-few p two l (items.Hbox name h d) live = omega arith
+item-few p two l (items.Rule name h d) live = omega arith
+item-few p two l (items.Skip g) live = omega arith
+item-few p two l (items.Kern w) live = omega arith
+item-few p two l (items.Penalty q) live = omega arith
+item-few p two l (items.Mark name) live = omega arith
+item-few p two l (items.Note name) live = omega arith
+item-few p two l (items.Foot ls) live = let e = length-map {B = PlainLeaf} ls plain_leaf in omega (arith, e)
+item-few p two l (items.Float f vert) live = cc
+item-few p two l (items.Margin m vert) live = cc
+item-few p two l items.NewPage live = omega arith
+item-few p two l items.ClearPage live = omega arith
+item-few p two l (items.PageBreak n) live = omega arith
+item-few p two l (items.NoPageBreak n) live = omega arith
+item-few p two l items.OneColumn live = cc
+item-few p two l items.TwoColumn live = cc
+item-few p two l (items.Suppress area) live = cc
 
 item-served : (l : ℕ) (k : ItemKind) → IsTrue (is_item l k) → IsTrue (is_live_item k) → weight_of k ≤ 100000 → IsServedItem k
 item-served l (items.Hbox name h d) v live w = tt
@@ -242,22 +242,23 @@ valid_items ns = list_all (λ (n : Item). is_item n.line n.kind) ns
 abbrev live_items : List Item → Bool
 live_items ns = list_all (λ (n : Item). is_live_item n.kind) ns
 
-record AreFine (p : Params) (ns : List Item) : Type 0 where
-  sized : All IsSizedOnPage (item_nodes p ns)
-  tame : AreTame (item_nodes p ns)
-  few : node_count (item_nodes p ns) ≤ 5 * weight ns
+record AreFine (p : Params) (two : Bool) (ns : List Item) : Type 0 where
+  sized : All IsSizedOnPage (item_nodes p two ns)
+  tame : AreTame (item_nodes p two ns)
+  few : node_count (item_nodes p two ns) ≤ 5 * weight ns
   items : weight ns ≤ 100000 → AreItems ns
 
-all-fine : (p : Params) (ns : List Item) → AreRunnable p → IsTrue (valid_items ns) → IsTrue (live_items ns) → AreFine p ns
-all-fine p [] r v live = record { sized = All-nil IsSizedOnPage; tame = tt; few = omega arith; items = λ w. All-nil (λ (n : Item). IsServedItem n.kind) }
-all-fine p (n ∷ ns) r v live =
+all-fine : (p : Params) (two : Bool) (ns : List Item) → AreRunnable p → IsTrue (valid_items ns) → IsTrue (live_items ns) → AreFine p two ns
+all-fine p two [] r v live = record { sized = All-nil IsSizedOnPage; tame = tt; few = omega arith; items = λ w. All-nil (λ (n : Item). IsServedItem n.kind) }
+all-fine p two (n ∷ ns) r v live =
     let a = and-first (is_item n.line n.kind) (valid_items ns) v in
     let b = and-first (is_live_item n.kind) (live_items ns) live in
-    let rest = all-fine p ns r (and-second (is_item n.line n.kind) (valid_items ns) v) (and-second (is_live_item n.kind) (live_items ns) live) in
+    let after = two_after two n.kind in
+    let rest = all-fine p after ns r (and-second (is_item n.line n.kind) (valid_items ns) v) (and-second (is_live_item n.kind) (live_items ns) live) in
     record {
-      sized = All-append IsSizedOnPage (on_line n.line (item_kinds p n.kind)) (item_nodes p ns) (item-sized p n.line n.kind r a b) rest.sized;
-      tame = every-append (λ (m : PlainNode). IsTame m.kind) (on_line n.line (item_kinds p n.kind)) (item_nodes p ns) (item-tame p n.line n.kind a b) rest.tame;
-      few = let one = item-few p n.line n.kind b in let more = rest.few in let e = count-append (on_line n.line (item_kinds p n.kind)) (item_nodes p ns) in omega (arith, one, more, e);
+      sized = All-append IsSizedOnPage (on_line n.line (item_kinds p two n.kind)) (item_nodes p after ns) (item-sized p two n.line n.kind r a b) rest.sized;
+      tame = every-append (λ (m : PlainNode). IsTame m.kind) (on_line n.line (item_kinds p two n.kind)) (item_nodes p after ns) (item-tame p two n.line n.kind a b) rest.tame;
+      few = let one = item-few p two n.line n.kind b in let more = rest.few in let e = count-append (on_line n.line (item_kinds p two n.kind)) (item_nodes p after ns) in omega (arith, one, more, e);
       items = λ w. All-cons (λ (m : Item). IsServedItem m.kind) n ns (item-served n.line n.kind a b (omega (arith, w))) (rest.items (omega (arith, w)));
     }
 
@@ -266,17 +267,17 @@ most n h = grind (arith, nat_tests, h)
 
 -- the items of a valid galley with live items can be handed over
 pub galley-items : (g : Galley) → AreRunnable g.params → IsValid g → HasLiveItems g → AreItems g.items
-galley-items g r v live = (all-fine g.params g.items r v.items live.live).items (most (weight g.items) v.count)
+galley-items g r v live = (all-fine g.params false g.items r v.items live.live).items (most (weight g.items) v.count)
 
 -- its nodes can be served
 pub galley-served : (g : Galley) → AreRunnable g.params → IsValid g → HasLiveItems g → AreServable (expanded g)
 galley-served g r v live =
-    let f = all-fine g.params g.items r v.items live.live in
+    let f = all-fine g.params false g.items r v.items live.live in
     let w = most (weight g.items) v.count in
     let few = f.few in
-    let e = count-append (item_nodes g.params g.items) (on_line g.end_line clearpage_kinds) in
+    let e = count-append (item_nodes g.params false g.items) (on_line g.end_line clearpage_kinds) in
     subst AreServable (expanded-is g) (record {
-      sized = All-append IsSizedOnPage (item_nodes g.params g.items) (on_line g.end_line clearpage_kinds) f.sized (clear-sized g.end_line);
-      tame = every-append (λ (m : PlainNode). IsTame m.kind) (item_nodes g.params g.items) (on_line g.end_line clearpage_kinds) f.tame (tt, (omega (arith, ints), (tt, (tt, (omega (arith, ints), tt)))));
+      sized = All-append IsSizedOnPage (item_nodes g.params false g.items) (on_line g.end_line clearpage_kinds) f.sized (clear-sized g.end_line);
+      tame = every-append (λ (m : PlainNode). IsTame m.kind) (item_nodes g.params false g.items) (on_line g.end_line clearpage_kinds) f.tame (tt, (omega (arith, ints), (tt, (tt, (omega (arith, ints), tt)))));
       few = omega (arith, few, w, e);
     })
