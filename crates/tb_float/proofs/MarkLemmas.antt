@@ -1,11 +1,11 @@
--- The marks of deferred floats.
+-- The marks of floats that wait.
 use Rattle.std.proofs.Common.{◌≡◌, ℕ, zero, suc, ◌≤◌, Bool, true, false, List, [], ◌∷◌, ◌++◌, length, Some, slice_get, replicate, refl, ap, ◌∙◌, arith}
 use Rattle.std.specs.Prelude.{slice_set}
 use Rattle.tb_node.specs.declared.Float.{Float}
 use Rattle.tb_float.specs.declared.Part.{Part}
 use Rattle.tb_float.specs.declared.Part.TheVariants as parts
 use Rattle.tb_float.specs.Lists.{without_place, floats_of}
-use Rattle.tb_float.specs.Pool.{FloatPool, marked_among, unmarked_among, marked_floats, first_marked, with_floats_after, with_floats_before, without_entry, without_entries, moved_float, joined_before, with_float_at}
+use Rattle.tb_float.specs.Pool.{FloatPool, HasNoMarks, marked_among, unmarked_among, marked_floats, first_marked, with_floats_after, with_floats_before, without_entry, without_entries, moved_float, joined_before, with_float_at}
 
 marked-none : (ms : List Bool) → marked_among ms [] ≡ []
 marked-none [] = refl
@@ -42,43 +42,50 @@ marked-set zero f (false ∷ ms) (g ∷ fs) e = e
 marked-set (suc k) f (true ∷ ms) (g ∷ fs) e = cc
 marked-set (suc k) f (false ∷ ms) (g ∷ fs) e = marked-set k f ms fs e
 
-pub unmarked-without_entry : (p : Part) (k : ℕ) (v : FloatPool) → marked_floats v ≡ [] → marked_floats (without_entry p k v) ≡ []
-unmarked-without_entry parts.Current k v e = e
-unmarked-without_entry parts.Here k v e = e
-unmarked-without_entry parts.Top k v e = e
-unmarked-without_entry parts.Bottom k v e = e
-unmarked-without_entry parts.Deferred k v e = marked-without k v.marks v.lists.deferred e
-unmarked-without_entry parts.Double k v e = e
+-- each float that waits has its mark
+pub record HasAllMarks (v : FloatPool) : Type 0 where
+  pub deferred : length v.marks ≡ length v.lists.deferred
+  pub second : length v.second_marks ≡ length v.lists.second
 
-unmarked-after : (p : Part) (fs : List Float) (v : FloatPool) → length v.marks ≡ length v.lists.deferred → marked_floats v ≡ [] → marked_floats (with_floats_after p fs v) ≡ []
-unmarked-after parts.Current fs v same e = e
-unmarked-after parts.Here fs v same e = e
-unmarked-after parts.Top fs v same e = e
-unmarked-after parts.Bottom fs v same e = e
-unmarked-after parts.Deferred fs v same e =
-    marked-append v.marks (replicate (length fs) false) v.lists.deferred fs same ∙ ap (λ hs. hs ++ marked_among (replicate (length fs) false) fs) e ∙ marked-false (length fs) fs
-unmarked-after parts.Double fs v same e = e
+pub unmarked-without_entry : (p : Part) (k : ℕ) (v : FloatPool) → HasNoMarks v → HasNoMarks (without_entry p k v)
+unmarked-without_entry parts.Current k v e = record { deferred = e.deferred; second = e.second }
+unmarked-without_entry parts.Here k v e = record { deferred = e.deferred; second = e.second }
+unmarked-without_entry parts.Top k v e = record { deferred = e.deferred; second = e.second }
+unmarked-without_entry parts.Bottom k v e = record { deferred = e.deferred; second = e.second }
+unmarked-without_entry parts.Deferred k v e = record { deferred = marked-without k v.marks v.lists.deferred e.deferred; second = e.second }
+unmarked-without_entry parts.Double k v e = record { deferred = e.deferred; second = e.second }
+unmarked-without_entry parts.Second k v e = record { deferred = e.deferred; second = marked-without k v.second_marks v.lists.second e.second }
+
+unmarked-after : (p : Part) (fs : List Float) (v : FloatPool) → HasAllMarks v → HasNoMarks v → HasNoMarks (with_floats_after p fs v)
+unmarked-after parts.Current fs v same e = record { deferred = e.deferred; second = e.second }
+unmarked-after parts.Here fs v same e = record { deferred = e.deferred; second = e.second }
+unmarked-after parts.Top fs v same e = record { deferred = e.deferred; second = e.second }
+unmarked-after parts.Bottom fs v same e = record { deferred = e.deferred; second = e.second }
+unmarked-after parts.Deferred fs v same e = record { deferred = marked-append v.marks (replicate (length fs) false) v.lists.deferred fs same.deferred ∙ ap (λ hs. hs ++ marked_among (replicate (length fs) false) fs) e.deferred ∙ marked-false (length fs) fs; second = e.second }
+unmarked-after parts.Double fs v same e = record { deferred = e.deferred; second = e.second }
+unmarked-after parts.Second fs v same e = record { deferred = e.deferred; second = marked-append v.second_marks (replicate (length fs) false) v.lists.second fs same.second ∙ ap (λ hs. hs ++ marked_among (replicate (length fs) false) fs) e.second ∙ marked-false (length fs) fs }
 
 pub length-replicate_false : (n : ℕ) → length (replicate n false) ≡ n
 length-replicate_false zero = refl
 length-replicate_false (suc n) = omega (arith, length-replicate_false n)
 
-unmarked-before : (p : Part) (fs : List Float) (v : FloatPool) → marked_floats v ≡ [] → marked_floats (with_floats_before p fs v) ≡ []
-unmarked-before parts.Current fs v e = e
-unmarked-before parts.Here fs v e = e
-unmarked-before parts.Top fs v e = e
-unmarked-before parts.Bottom fs v e = e
-unmarked-before parts.Deferred fs v e =
-    marked-append (replicate (length fs) false) v.marks fs v.lists.deferred (length-replicate_false (length fs)) ∙ ap (λ hs. hs ++ marked_floats v) (marked-false (length fs) fs) ∙ e
-unmarked-before parts.Double fs v e = e
+unmarked-before : (p : Part) (fs : List Float) (v : FloatPool) → HasNoMarks v → HasNoMarks (with_floats_before p fs v)
+unmarked-before parts.Current fs v e = record { deferred = e.deferred; second = e.second }
+unmarked-before parts.Here fs v e = record { deferred = e.deferred; second = e.second }
+unmarked-before parts.Top fs v e = record { deferred = e.deferred; second = e.second }
+unmarked-before parts.Bottom fs v e = record { deferred = e.deferred; second = e.second }
+unmarked-before parts.Deferred fs v e = record { deferred = marked-append (replicate (length fs) false) v.marks fs v.lists.deferred (length-replicate_false (length fs)) ∙ ap (λ hs. hs ++ marked_floats parts.Deferred v) (marked-false (length fs) fs) ∙ e.deferred; second = e.second }
+unmarked-before parts.Double fs v e = record { deferred = e.deferred; second = e.second }
+unmarked-before parts.Second fs v e = record { deferred = e.deferred; second = marked-append (replicate (length fs) false) v.second_marks fs v.lists.second (length-replicate_false (length fs)) ∙ ap (λ hs. hs ++ marked_floats parts.Second v) (marked-false (length fs) fs) ∙ e.second }
 
-unmarked-without_entries : (p : Part) (v : FloatPool) → marked_floats v ≡ [] → marked_floats (without_entries p v) ≡ []
-unmarked-without_entries parts.Current v e = e
-unmarked-without_entries parts.Here v e = e
-unmarked-without_entries parts.Top v e = e
-unmarked-without_entries parts.Bottom v e = e
-unmarked-without_entries parts.Deferred v e = refl
-unmarked-without_entries parts.Double v e = e
+unmarked-without_entries : (p : Part) (v : FloatPool) → HasNoMarks v → HasNoMarks (without_entries p v)
+unmarked-without_entries parts.Current v e = record { deferred = e.deferred; second = e.second }
+unmarked-without_entries parts.Here v e = record { deferred = e.deferred; second = e.second }
+unmarked-without_entries parts.Top v e = record { deferred = e.deferred; second = e.second }
+unmarked-without_entries parts.Bottom v e = record { deferred = e.deferred; second = e.second }
+unmarked-without_entries parts.Deferred v e = record { deferred = refl; second = e.second }
+unmarked-without_entries parts.Double v e = record { deferred = e.deferred; second = e.second }
+unmarked-without_entries parts.Second v e = record { deferred = e.deferred; second = refl }
 
 length-without_same : {X Y : Type 0} (k : ℕ) (xs : List X) (ys : List Y) → length xs ≡ length ys → length (without_place k xs) ≡ length (without_place k ys)
 length-without_same zero [] [] e = refl
@@ -88,28 +95,30 @@ length-without_same k (x ∷ xs) [] e = absurd (omega arith)
 length-without_same zero (x ∷ xs) (y ∷ ys) e = omega arith
 length-without_same (suc k) (x ∷ xs) (y ∷ ys) e = ap suc (length-without_same k xs ys (omega arith))
 
-marks-without_entry : (p : Part) (k : ℕ) (v : FloatPool) → length v.marks ≡ length v.lists.deferred → length (without_entry p k v).marks ≡ length (without_entry p k v).lists.deferred
-marks-without_entry parts.Current k v e = e
-marks-without_entry parts.Here k v e = e
-marks-without_entry parts.Top k v e = e
-marks-without_entry parts.Bottom k v e = e
-marks-without_entry parts.Deferred k v e = length-without_same k v.marks v.lists.deferred e
-marks-without_entry parts.Double k v e = e
+marks-without_entry : (p : Part) (k : ℕ) (v : FloatPool) → HasAllMarks v → HasAllMarks (without_entry p k v)
+marks-without_entry parts.Current k v e = record { deferred = e.deferred; second = e.second }
+marks-without_entry parts.Here k v e = record { deferred = e.deferred; second = e.second }
+marks-without_entry parts.Top k v e = record { deferred = e.deferred; second = e.second }
+marks-without_entry parts.Bottom k v e = record { deferred = e.deferred; second = e.second }
+marks-without_entry parts.Deferred k v e = record { deferred = length-without_same k v.marks v.lists.deferred e.deferred; second = e.second }
+marks-without_entry parts.Double k v e = record { deferred = e.deferred; second = e.second }
+marks-without_entry parts.Second k v e = record { deferred = e.deferred; second = length-without_same k v.second_marks v.lists.second e.second }
 
-pub unmarked-moved_float : (from : Part) (k : ℕ) (to : Part) (f : Float) (v : FloatPool) → length v.marks ≡ length v.lists.deferred → marked_floats v ≡ [] → marked_floats (moved_float from k to f v) ≡ []
+pub unmarked-moved_float : (from : Part) (k : ℕ) (to : Part) (f : Float) (v : FloatPool) → HasAllMarks v → HasNoMarks v → HasNoMarks (moved_float from k to f v)
 unmarked-moved_float from k to f v same e =
     unmarked-after to (f ∷ []) (without_entry from k v) (marks-without_entry from k v same) (unmarked-without_entry from k v e)
 
-pub unmarked-joined_before : (from to : Part) (v : FloatPool) → marked_floats v ≡ [] → marked_floats (joined_before from to v) ≡ []
+pub unmarked-joined_before : (from to : Part) (v : FloatPool) → HasNoMarks v → HasNoMarks (joined_before from to v)
 unmarked-joined_before from to v e = unmarked-before to (floats_of from v.lists) (without_entries from v) (unmarked-without_entries from v e)
 
-pub unmarked-with_float_at : (p : Part) (k : ℕ) (f : Float) (v : FloatPool) → marked_floats v ≡ [] → marked_floats (with_float_at p k f v) ≡ []
-unmarked-with_float_at parts.Current k f v e = e
-unmarked-with_float_at parts.Here k f v e = e
-unmarked-with_float_at parts.Top k f v e = e
-unmarked-with_float_at parts.Bottom k f v e = e
-unmarked-with_float_at parts.Deferred k f v e = marked-set k f v.marks v.lists.deferred e
-unmarked-with_float_at parts.Double k f v e = e
+pub unmarked-with_float_at : (p : Part) (k : ℕ) (f : Float) (v : FloatPool) → HasNoMarks v → HasNoMarks (with_float_at p k f v)
+unmarked-with_float_at parts.Current k f v e = record { deferred = e.deferred; second = e.second }
+unmarked-with_float_at parts.Here k f v e = record { deferred = e.deferred; second = e.second }
+unmarked-with_float_at parts.Top k f v e = record { deferred = e.deferred; second = e.second }
+unmarked-with_float_at parts.Bottom k f v e = record { deferred = e.deferred; second = e.second }
+unmarked-with_float_at parts.Deferred k f v e = record { deferred = marked-set k f v.marks v.lists.deferred e.deferred; second = e.second }
+unmarked-with_float_at parts.Double k f v e = record { deferred = e.deferred; second = e.second }
+unmarked-with_float_at parts.Second k f v e = record { deferred = e.deferred; second = marked-set k f v.second_marks v.lists.second e.second }
 
 -- ---- the first marked float
 

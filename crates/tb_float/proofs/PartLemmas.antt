@@ -11,6 +11,7 @@ part_index parts.Top = 2
 part_index parts.Bottom = 3
 part_index parts.Deferred = 4
 part_index parts.Double = 5
+part_index parts.Second = 6
 
 abbrev pub part_at : ℕ → Part
 part_at zero = parts.Current
@@ -18,7 +19,8 @@ part_at (suc zero) = parts.Here
 part_at (suc (suc zero)) = parts.Top
 part_at (suc (suc (suc zero))) = parts.Bottom
 part_at (suc (suc (suc (suc zero)))) = parts.Deferred
-part_at (suc (suc (suc (suc (suc n))))) = parts.Double
+part_at (suc (suc (suc (suc (suc zero))))) = parts.Double
+part_at (suc (suc (suc (suc (suc (suc n)))))) = parts.Second
 
 part_at-index : (p : Part) → part_at (part_index p) ≡ p
 part_at-index parts.Current = refl
@@ -27,6 +29,7 @@ part_at-index parts.Top = refl
 part_at-index parts.Bottom = refl
 part_at-index parts.Deferred = refl
 part_at-index parts.Double = refl
+part_at-index parts.Second = refl
 
 pub part_index-apart : (p q : Part) → p ≢ q → part_index p ≢ part_index q
 part_index-apart p q ne e = ne (sym (part_at-index p) ∙ ap part_at e ∙ part_at-index q)

@@ -15,16 +15,16 @@ use Rattle.tb_node.specs.declared.Float.{Float}
 use Rattle.tb_float.specs.declared.shelves.Shelves.{Shelves}
 use Rattle.tb_float.specs.declared.heights.Heights.{Heights}
 use Rattle.tb_float.specs.SlotView.{SlotView}
-use Rattle.tb_float.specs.Lists.{live_count, entries_of, floats_of, float_entries, float_before, floats_among, without_place}
+use Rattle.tb_float.specs.Lists.{IsWaiting, live_count, entries_of, floats_of, float_entries, float_before, floats_among, without_place}
 use Rattle.tb_float.specs.Pool.{FloatPool, without_marks, joined_before, with_float_at, with_mark, with_current, with_floats_after, with_floats_before, without_entry, without_entries}
 use Rattle.tb_float.specs.Ranges.{IsSizedEntry, IsRoom, IsExtent}
 use Rattle.tb_float.specs.Rooms.{total_height}
 use Rattle.tb_float.specs.Heights.{height_of, with_height}
-use Rattle.tb_float.specs.Stored.{shelf_of, slots_of, seen_pool, seen_lists, entries_in, floats_in, marks_in, slot_count, is_float, unmarked_slot, IsSlotOf, AreSlotsOf, IsStored}
+use Rattle.tb_float.specs.Stored.{shelf_of, slots_of, seen_pool, seen_lists, entries_in, floats_in, marks_in, slot_count, holds_notes, is_float, unmarked_slot, IsSlotOf, AreSlotsOf, IsStored}
 use Rattle.tb_float.proofs.ListLemmas.{length-without_place}
 use Rattle.tb_float.proofs.PartLemmas.{put, put-other}
 use Rattle.tb_float.proofs.SlotLemmas.{slot-of_entry, bare-shown, slots-unmarked, slots-set, floats_in-unmarked, marks-unmarked, marks-none, total-set, entries-set_same, length-floats_in, slots-append, slots-without, slot-there, slots-bare, entries-bare, marks-bare, AreBare, floats_in-append, total_height-append, total-without}
-use Rattle.tb_float.proofs.MarkLemmas.{length-replicate_false}
+use Rattle.tb_float.proofs.MarkLemmas.{length-replicate_false, HasAllMarks}
 use Rattle.tb_float.proofs.SoundLemmas.{written, Written, entries_of-seen, floats_of-seen, seen-set, marks_in-set, map-set, count-put, live_count-seen, seen-after, seen-before, seen-without, seen-emptied}
 
 -- a pool that is stored, and what is seen of it
@@ -150,6 +150,7 @@ same-height parts.Top h = refl
 same-height parts.Bottom h = refl
 same-height parts.Deferred h = refl
 same-height parts.Double h = refl
+same-height parts.Second h = refl
 
 -- a list was written with as many slots, whose heights are the same
 pub rewritten : (store new : Lists SlotView) (sh : Shelves) (h : Heights) (size : ℕ) (p : Part) (xs : List SlotView) → IsStored store sh h size
@@ -184,9 +185,12 @@ float-is at p k f s h e got =
     let there = float-there at p k f h e in
     ap (λ r. r.entry) (same_Some s there.0 (sym got ∙ there.1)) ∙ there.2
 
--- each deferred float has its mark
-pub marks-shown : (at : Part → List SlotView) → AreSlotsOf parts.Deferred (at parts.Deferred) → length (marks_in (at parts.Deferred)) ≡ length (floats_in (at parts.Deferred))
-marks-shown at h = length-map (at parts.Deferred) (λ s. s.marked) ∙ sym (length-floats_in parts.Deferred (at parts.Deferred) refl h)
+-- each float that waits has its mark
+pub marks-shown : (p : Part) (at : Part → List SlotView) → holds_notes p ≡ false → AreSlotsOf p (at p) → length (marks_in (at p)) ≡ length (floats_in (at p))
+marks-shown p at no_notes h = length-map (at p) (λ s. s.marked) ∙ sym (length-floats_in p (at p) no_notes h)
+
+pub all-marks : (at : Part → List SlotView) (n : ℕ) → ((p : Part) → AreSlotsOf p (at p)) → HasAllMarks (seen_pool at n)
+all-marks at n h = record { deferred = marks-shown parts.Deferred at refl (h parts.Deferred); second = marks-shown parts.Second at refl (h parts.Second) }
 
 -- ---- marks that were taken away
 
@@ -197,6 +201,7 @@ lists-without_marks parts.Top v = refl
 lists-without_marks parts.Bottom v = refl
 lists-without_marks parts.Deferred v = refl
 lists-without_marks parts.Double v = refl
+lists-without_marks parts.Second v = refl
 
 -- what joins another list loses its marks, whether they were taken away before or not
 pub joined-without_marks : (from to : Part) (v : FloatPool) → joined_before from to (without_marks from v) ≡ joined_before from to v
@@ -206,6 +211,7 @@ joined-without_marks parts.Top to v = refl
 joined-without_marks parts.Bottom to v = refl
 joined-without_marks parts.Deferred to v = refl
 joined-without_marks parts.Double to v = refl
+joined-without_marks parts.Second to v = refl
 
 marks-replicated : (ms : List Bool) (n : ℕ) → ms ≡ replicate n false → ms ≡ replicate (length ms) false
 marks-replicated ms n e = let same : length ms ≡ n = ap length e ∙ length-replicate_false n in e ∙ ap (λ m. replicate m false) (sym same)
@@ -218,6 +224,8 @@ marks-gone parts.Bottom at n v h e = marks-none parts.Bottom (at parts.Bottom) r
 marks-gone parts.Deferred at n v h e =
     marks-replicated (marks_in (at parts.Deferred)) (length v.marks) (ap (λ w. w.marks) e) ∙ ap (λ m. replicate m false) (length-map (at parts.Deferred) (λ s. s.marked))
 marks-gone parts.Double at n v h e = marks-none parts.Double (at parts.Double) refl h
+marks-gone parts.Second at n v h e =
+    marks-replicated (marks_in (at parts.Second)) (length v.second_marks) (ap (λ w. w.second_marks) e) ∙ ap (λ m. replicate m false) (length-map (at parts.Second) (λ s. s.marked))
 
 -- the slots of a list that shows floats alone and has lost its marks are bare
 pub bare-list : (p : Part) (at : Part → List SlotView) (n : ℕ) (v : FloatPool) → AreSlotsOf p (at p) → seen_pool at n ≡ without_marks p v → entries_of p v.lists ≡ float_entries (floats_of p v.lists) → AreBare (at p)
@@ -227,9 +235,10 @@ bare-list p at n v h seen floats =
     sym (entries_of-seen p at h) ∙ ap (entries_of p) lists ∙ floats ∙ ap (λ l. float_entries (floats_of p l)) (sym lists) ∙ ap float_entries (floats_of-seen p at) in
     bare-shown (at p) ents (marks-gone p at n v h seen)
 
-pub unmarked-store : (store new : Lists SlotView) (sh : Shelves) (h : Heights) (size : ℕ) → IsStored store sh h size
-    → new.lists ≡ with_list store sh.deferred (map unmarked_slot (list_at store sh.deferred)) → new.spare ≡ store.spare → IsPool new sh h size (without_marks parts.Deferred (seen_pool (slots_of store sh) size))
-unmarked-store store new sh h size stored e spare =
+-- the marks of a list in which floats wait were taken away
+pub unmarked-store : (store new : Lists SlotView) (sh : Shelves) (h : Heights) (size : ℕ) (p : Part) → IsWaiting p → IsStored store sh h size
+    → new.lists ≡ with_list store (shelf_of sh p) (map unmarked_slot (slots_of store sh p)) → new.spare ≡ store.spare → IsPool new sh h size (without_marks p (seen_pool (slots_of store sh) size))
+unmarked-store store new sh h size parts.Deferred is stored e spare =
     let at = slots_of store sh in
     let xs = map unmarked_slot (at parts.Deferred) in
     let w = rewritten store new sh h size parts.Deferred xs stored e spare (slots-unmarked parts.Deferred (at parts.Deferred) (stored.sound.slots parts.Deferred)) (length-map (at parts.Deferred) unmarked_slot) (ap total_height (floats_in-unmarked (at parts.Deferred))) in
@@ -237,6 +246,19 @@ unmarked-store store new sh h size stored e spare =
       stored = w.stored;
       seen = ap (λ a. seen_pool a size) w.slots ∙ (λ i. record (seen_pool at size) { lists = record (seen_lists at) { deferred = floats_in-unmarked (at parts.Deferred) i }; marks = marks-unmarked (at parts.Deferred) i });
     }
+unmarked-store store new sh h size parts.Second is stored e spare =
+    let at = slots_of store sh in
+    let xs = map unmarked_slot (at parts.Second) in
+    let w = rewritten store new sh h size parts.Second xs stored e spare (slots-unmarked parts.Second (at parts.Second) (stored.sound.slots parts.Second)) (length-map (at parts.Second) unmarked_slot) (ap total_height (floats_in-unmarked (at parts.Second))) in
+    record {
+      stored = w.stored;
+      seen = ap (λ a. seen_pool a size) w.slots ∙ (λ i. record (seen_pool at size) { lists = record (seen_lists at) { second = floats_in-unmarked (at parts.Second) i }; second_marks = marks-unmarked (at parts.Second) i });
+    }
+unmarked-store store new sh h size parts.Current is stored e spare = absurd is
+unmarked-store store new sh h size parts.Here is stored e spare = absurd is
+unmarked-store store new sh h size parts.Top is stored e spare = absurd is
+unmarked-store store new sh h size parts.Bottom is stored e spare = absurd is
+unmarked-store store new sh h size parts.Double is stored e spare = absurd is
 
 -- ---- another entry at a place
 
@@ -264,12 +286,12 @@ places-set store new sh h size p k s f g stored there is same e spare =
       seen = ap (λ a. seen_pool a size) w.slots ∙ seen-set p at k g s.marked size slots (marks_in-set k (at p) s (entries.Float g) there);
     }
 
--- a deferred float was marked
-pub mark-set : (store new : Lists SlotView) (sh : Shelves) (h : Heights) (size : ℕ) (k : ℕ) (s : SlotView) → IsStored store sh h size
-    → slice_get (slots_of store sh parts.Deferred) k ≡ Some s
-    → new.lists ≡ with_list store sh.deferred (slice_set (slots_of store sh parts.Deferred) k (record { entry = s.entry; marked = true })) → new.spare ≡ store.spare
-    → IsPool new sh h size (with_mark k (seen_pool (slots_of store sh) size))
-mark-set store new sh h size k s stored there e spare =
+-- a float that waits was marked
+pub mark-set : (store new : Lists SlotView) (sh : Shelves) (h : Heights) (size : ℕ) (p : Part) (k : ℕ) (s : SlotView) → IsWaiting p → IsStored store sh h size
+    → slice_get (slots_of store sh p) k ≡ Some s
+    → new.lists ≡ with_list store (shelf_of sh p) (slice_set (slots_of store sh p) k (record { entry = s.entry; marked = true })) → new.spare ≡ store.spare
+    → IsPool new sh h size (with_mark p k (seen_pool (slots_of store sh) size))
+mark-set store new sh h size parts.Deferred k s is stored there e spare =
     let at = slots_of store sh in
     let u : SlotView = record { entry = s.entry; marked = true } in
     let slots = stored.sound.slots parts.Deferred in
@@ -281,6 +303,23 @@ mark-set store new sh h size k s stored there e spare =
       stored = w.stored;
       seen = ap (λ a. seen_pool a size) w.slots ∙ (λ i. record (seen_pool at size) { lists = record (seen_lists at) { deferred = floats_among (same i) }; marks = map-set {X = SlotView} (λ r. r.marked) k (at parts.Deferred) u i });
     }
+mark-set store new sh h size parts.Second k s is stored there e spare =
+    let at = slots_of store sh in
+    let u : SlotView = record { entry = s.entry; marked = true } in
+    let slots = stored.sound.slots parts.Second in
+    let old = slot-there parts.Second k (at parts.Second) s slots there in
+    let new_slot : IsSlotOf parts.Second u = record { sized = old.sized; float = old.float; unmarked = λ n. cc } in
+    let same = entries-set_same k (at parts.Second) s true there in
+    let w = rewritten store new sh h size parts.Second (slice_set (at parts.Second) k u) stored e spare (slots-set parts.Second k (at parts.Second) u slots new_slot) (length-set (at parts.Second) k u) (total-set k (at parts.Second) s s.entry true there refl) in
+    record {
+      stored = w.stored;
+      seen = ap (λ a. seen_pool a size) w.slots ∙ (λ i. record (seen_pool at size) { lists = record (seen_lists at) { second = floats_among (same i) }; second_marks = map-set {X = SlotView} (λ r. r.marked) k (at parts.Second) u i });
+    }
+mark-set store new sh h size parts.Current k s is stored there e spare = absurd is
+mark-set store new sh h size parts.Here k s is stored there e spare = absurd is
+mark-set store new sh h size parts.Top k s is stored there e spare = absurd is
+mark-set store new sh h size parts.Bottom k s is stored there e spare = absurd is
+mark-set store new sh h size parts.Double k s is stored there e spare = absurd is
 
 pub same-float : (f g : Float) → entries.Float f ≡ entries.Float g → f ≡ g
 same-float f g e = cc

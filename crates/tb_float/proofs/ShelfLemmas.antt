@@ -55,7 +55,7 @@ opened-one s t l ids k new e = record {
 }
 
 abbrev pub shelf_ids : Shelves → List ℕ
-shelf_ids s = s.rest ∷ s.one ∷ s.double ∷ s.deferred ∷ s.bottom ∷ s.top ∷ s.here ∷ s.current ∷ []
+shelf_ids s = s.rest ∷ s.one ∷ s.second ∷ s.double ∷ s.deferred ∷ s.bottom ∷ s.top ∷ s.here ∷ s.current ∷ []
 
 pub shelves-opened : (t : Lists SlotView) (s : Shelves) → Opened t (shelf_ids s) → AreShelves t s
 shelves-opened t s k = by_parts k.all_open k.differ
@@ -74,74 +74,91 @@ shelves-opened t s k = by_parts k.all_open k.differ
     }
       where
         live : (p : Part) → IsLive t (shelf_of s p)
-        live parts.Current = ap is_some (o.1.1.1.1.1.1.1.0)
-        live parts.Here = ap is_some (o.1.1.1.1.1.1.0)
-        live parts.Top = ap is_some (o.1.1.1.1.1.0)
-        live parts.Bottom = ap is_some (o.1.1.1.1.0)
-        live parts.Deferred = ap is_some (o.1.1.1.0)
-        live parts.Double = ap is_some (o.1.1.0)
+        live parts.Current = ap is_some (o.1.1.1.1.1.1.1.1.0)
+        live parts.Here = ap is_some (o.1.1.1.1.1.1.1.0)
+        live parts.Top = ap is_some (o.1.1.1.1.1.1.0)
+        live parts.Bottom = ap is_some (o.1.1.1.1.1.0)
+        live parts.Deferred = ap is_some (o.1.1.1.1.0)
+        live parts.Double = ap is_some (o.1.1.1.0)
+        live parts.Second = ap is_some (o.1.1.0)
 
         apart : (p q : Part) → p ≢ q → shelf_of s p ≢ shelf_of s q
         apart parts.Current parts.Current ne = absurd (ne refl)
-        apart parts.Current parts.Here ne = d.1.1.1.1.1.1.0.0
-        apart parts.Current parts.Top ne = d.1.1.1.1.1.0.1.0
-        apart parts.Current parts.Bottom ne = d.1.1.1.1.0.1.1.0
-        apart parts.Current parts.Deferred ne = d.1.1.1.0.1.1.1.0
-        apart parts.Current parts.Double ne = d.1.1.0.1.1.1.1.0
-        apart parts.Here parts.Current ne = λ e. d.1.1.1.1.1.1.0.0 (sym e)
+        apart parts.Current parts.Here ne = d.1.1.1.1.1.1.1.0.0
+        apart parts.Current parts.Top ne = d.1.1.1.1.1.1.0.1.0
+        apart parts.Current parts.Bottom ne = d.1.1.1.1.1.0.1.1.0
+        apart parts.Current parts.Deferred ne = d.1.1.1.1.0.1.1.1.0
+        apart parts.Current parts.Double ne = d.1.1.1.0.1.1.1.1.0
+        apart parts.Current parts.Second ne = d.1.1.0.1.1.1.1.1.0
+        apart parts.Here parts.Current ne = λ e. d.1.1.1.1.1.1.1.0.0 (sym e)
         apart parts.Here parts.Here ne = absurd (ne refl)
-        apart parts.Here parts.Top ne = d.1.1.1.1.1.0.0
-        apart parts.Here parts.Bottom ne = d.1.1.1.1.0.1.0
-        apart parts.Here parts.Deferred ne = d.1.1.1.0.1.1.0
-        apart parts.Here parts.Double ne = d.1.1.0.1.1.1.0
-        apart parts.Top parts.Current ne = λ e. d.1.1.1.1.1.0.1.0 (sym e)
-        apart parts.Top parts.Here ne = λ e. d.1.1.1.1.1.0.0 (sym e)
+        apart parts.Here parts.Top ne = d.1.1.1.1.1.1.0.0
+        apart parts.Here parts.Bottom ne = d.1.1.1.1.1.0.1.0
+        apart parts.Here parts.Deferred ne = d.1.1.1.1.0.1.1.0
+        apart parts.Here parts.Double ne = d.1.1.1.0.1.1.1.0
+        apart parts.Here parts.Second ne = d.1.1.0.1.1.1.1.0
+        apart parts.Top parts.Current ne = λ e. d.1.1.1.1.1.1.0.1.0 (sym e)
+        apart parts.Top parts.Here ne = λ e. d.1.1.1.1.1.1.0.0 (sym e)
         apart parts.Top parts.Top ne = absurd (ne refl)
-        apart parts.Top parts.Bottom ne = d.1.1.1.1.0.0
-        apart parts.Top parts.Deferred ne = d.1.1.1.0.1.0
-        apart parts.Top parts.Double ne = d.1.1.0.1.1.0
-        apart parts.Bottom parts.Current ne = λ e. d.1.1.1.1.0.1.1.0 (sym e)
-        apart parts.Bottom parts.Here ne = λ e. d.1.1.1.1.0.1.0 (sym e)
-        apart parts.Bottom parts.Top ne = λ e. d.1.1.1.1.0.0 (sym e)
+        apart parts.Top parts.Bottom ne = d.1.1.1.1.1.0.0
+        apart parts.Top parts.Deferred ne = d.1.1.1.1.0.1.0
+        apart parts.Top parts.Double ne = d.1.1.1.0.1.1.0
+        apart parts.Top parts.Second ne = d.1.1.0.1.1.1.0
+        apart parts.Bottom parts.Current ne = λ e. d.1.1.1.1.1.0.1.1.0 (sym e)
+        apart parts.Bottom parts.Here ne = λ e. d.1.1.1.1.1.0.1.0 (sym e)
+        apart parts.Bottom parts.Top ne = λ e. d.1.1.1.1.1.0.0 (sym e)
         apart parts.Bottom parts.Bottom ne = absurd (ne refl)
-        apart parts.Bottom parts.Deferred ne = d.1.1.1.0.0
-        apart parts.Bottom parts.Double ne = d.1.1.0.1.0
-        apart parts.Deferred parts.Current ne = λ e. d.1.1.1.0.1.1.1.0 (sym e)
-        apart parts.Deferred parts.Here ne = λ e. d.1.1.1.0.1.1.0 (sym e)
-        apart parts.Deferred parts.Top ne = λ e. d.1.1.1.0.1.0 (sym e)
-        apart parts.Deferred parts.Bottom ne = λ e. d.1.1.1.0.0 (sym e)
+        apart parts.Bottom parts.Deferred ne = d.1.1.1.1.0.0
+        apart parts.Bottom parts.Double ne = d.1.1.1.0.1.0
+        apart parts.Bottom parts.Second ne = d.1.1.0.1.1.0
+        apart parts.Deferred parts.Current ne = λ e. d.1.1.1.1.0.1.1.1.0 (sym e)
+        apart parts.Deferred parts.Here ne = λ e. d.1.1.1.1.0.1.1.0 (sym e)
+        apart parts.Deferred parts.Top ne = λ e. d.1.1.1.1.0.1.0 (sym e)
+        apart parts.Deferred parts.Bottom ne = λ e. d.1.1.1.1.0.0 (sym e)
         apart parts.Deferred parts.Deferred ne = absurd (ne refl)
-        apart parts.Deferred parts.Double ne = d.1.1.0.0
-        apart parts.Double parts.Current ne = λ e. d.1.1.0.1.1.1.1.0 (sym e)
-        apart parts.Double parts.Here ne = λ e. d.1.1.0.1.1.1.0 (sym e)
-        apart parts.Double parts.Top ne = λ e. d.1.1.0.1.1.0 (sym e)
-        apart parts.Double parts.Bottom ne = λ e. d.1.1.0.1.0 (sym e)
-        apart parts.Double parts.Deferred ne = λ e. d.1.1.0.0 (sym e)
+        apart parts.Deferred parts.Double ne = d.1.1.1.0.0
+        apart parts.Deferred parts.Second ne = d.1.1.0.1.0
+        apart parts.Double parts.Current ne = λ e. d.1.1.1.0.1.1.1.1.0 (sym e)
+        apart parts.Double parts.Here ne = λ e. d.1.1.1.0.1.1.1.0 (sym e)
+        apart parts.Double parts.Top ne = λ e. d.1.1.1.0.1.1.0 (sym e)
+        apart parts.Double parts.Bottom ne = λ e. d.1.1.1.0.1.0 (sym e)
+        apart parts.Double parts.Deferred ne = λ e. d.1.1.1.0.0 (sym e)
         apart parts.Double parts.Double ne = absurd (ne refl)
+        apart parts.Double parts.Second ne = d.1.1.0.0
+        apart parts.Second parts.Current ne = λ e. d.1.1.0.1.1.1.1.1.0 (sym e)
+        apart parts.Second parts.Here ne = λ e. d.1.1.0.1.1.1.1.0 (sym e)
+        apart parts.Second parts.Top ne = λ e. d.1.1.0.1.1.1.0 (sym e)
+        apart parts.Second parts.Bottom ne = λ e. d.1.1.0.1.1.0 (sym e)
+        apart parts.Second parts.Deferred ne = λ e. d.1.1.0.1.0 (sym e)
+        apart parts.Second parts.Double ne = λ e. d.1.1.0.0 (sym e)
+        apart parts.Second parts.Second ne = absurd (ne refl)
 
         one_apart : (p : Part) → shelf_of s p ≢ s.one
-        one_apart parts.Current = d.1.0.1.1.1.1.1.0
-        one_apart parts.Here = d.1.0.1.1.1.1.0
-        one_apart parts.Top = d.1.0.1.1.1.0
-        one_apart parts.Bottom = d.1.0.1.1.0
-        one_apart parts.Deferred = d.1.0.1.0
-        one_apart parts.Double = d.1.0.0
+        one_apart parts.Current = d.1.0.1.1.1.1.1.1.0
+        one_apart parts.Here = d.1.0.1.1.1.1.1.0
+        one_apart parts.Top = d.1.0.1.1.1.1.0
+        one_apart parts.Bottom = d.1.0.1.1.1.0
+        one_apart parts.Deferred = d.1.0.1.1.0
+        one_apart parts.Double = d.1.0.1.0
+        one_apart parts.Second = d.1.0.0
 
         rest_apart : (p : Part) → shelf_of s p ≢ s.rest
-        rest_apart parts.Current = d.0.1.1.1.1.1.1.0
-        rest_apart parts.Here = d.0.1.1.1.1.1.0
-        rest_apart parts.Top = d.0.1.1.1.1.0
-        rest_apart parts.Bottom = d.0.1.1.1.0
-        rest_apart parts.Deferred = d.0.1.1.0
-        rest_apart parts.Double = d.0.1.0
+        rest_apart parts.Current = d.0.1.1.1.1.1.1.1.0
+        rest_apart parts.Here = d.0.1.1.1.1.1.1.0
+        rest_apart parts.Top = d.0.1.1.1.1.1.0
+        rest_apart parts.Bottom = d.0.1.1.1.1.0
+        rest_apart parts.Deferred = d.0.1.1.1.0
+        rest_apart parts.Double = d.0.1.1.0
+        rest_apart parts.Second = d.0.1.0
 
 pub shelves-empty : (t : Lists SlotView) (s : Shelves) → Opened t (shelf_ids s) → (p : Part) → slots_of t s p ≡ []
-shelves-empty t s k parts.Current = let o = k.all_open in ap (λ w. unwrap_or w []) (o.1.1.1.1.1.1.1.0)
-shelves-empty t s k parts.Here = let o = k.all_open in ap (λ w. unwrap_or w []) (o.1.1.1.1.1.1.0)
-shelves-empty t s k parts.Top = let o = k.all_open in ap (λ w. unwrap_or w []) (o.1.1.1.1.1.0)
-shelves-empty t s k parts.Bottom = let o = k.all_open in ap (λ w. unwrap_or w []) (o.1.1.1.1.0)
-shelves-empty t s k parts.Deferred = let o = k.all_open in ap (λ w. unwrap_or w []) (o.1.1.1.0)
-shelves-empty t s k parts.Double = let o = k.all_open in ap (λ w. unwrap_or w []) (o.1.1.0)
+shelves-empty t s k parts.Current = let o = k.all_open in ap (λ w. unwrap_or w []) (o.1.1.1.1.1.1.1.1.0)
+shelves-empty t s k parts.Here = let o = k.all_open in ap (λ w. unwrap_or w []) (o.1.1.1.1.1.1.1.0)
+shelves-empty t s k parts.Top = let o = k.all_open in ap (λ w. unwrap_or w []) (o.1.1.1.1.1.1.0)
+shelves-empty t s k parts.Bottom = let o = k.all_open in ap (λ w. unwrap_or w []) (o.1.1.1.1.1.0)
+shelves-empty t s k parts.Deferred = let o = k.all_open in ap (λ w. unwrap_or w []) (o.1.1.1.1.0)
+shelves-empty t s k parts.Double = let o = k.all_open in ap (λ w. unwrap_or w []) (o.1.1.1.0)
+shelves-empty t s k parts.Second = let o = k.all_open in ap (λ w. unwrap_or w []) (o.1.1.0)
 
 -- ---- one list changes
 

@@ -33,6 +33,7 @@ count-put parts.Top at xs = omega arith
 count-put parts.Bottom at xs = omega arith
 count-put parts.Deferred at xs = omega arith
 count-put parts.Double at xs = omega arith
+count-put parts.Second at xs = omega arith
 
 pub count-of : (p : Part) (at : Part → List SlotView) → length (at p) ≤ slot_count at
 count-of parts.Current at = omega arith
@@ -41,6 +42,7 @@ count-of parts.Top at = omega arith
 count-of parts.Bottom at = omega arith
 count-of parts.Deferred at = omega arith
 count-of parts.Double at = omega arith
+count-of parts.Second at = omega arith
 
 -- ---- sums
 
@@ -51,6 +53,7 @@ height-same parts.Top z h = refl
 height-same parts.Bottom z h = refl
 height-same parts.Deferred z h = refl
 height-same parts.Double z h = refl
+height-same parts.Second z h = refl
 
 pub height-other : (p q : Part) (z : ℤ) (h : Heights) → q ≢ p → height_of (with_height p z h) q ≡ height_of h q
 height-other parts.Current parts.Current z h ne = absurd (ne refl)
@@ -59,36 +62,49 @@ height-other parts.Current parts.Top z h ne = refl
 height-other parts.Current parts.Bottom z h ne = refl
 height-other parts.Current parts.Deferred z h ne = refl
 height-other parts.Current parts.Double z h ne = refl
+height-other parts.Current parts.Second z h ne = refl
 height-other parts.Here parts.Current z h ne = refl
 height-other parts.Here parts.Here z h ne = absurd (ne refl)
 height-other parts.Here parts.Top z h ne = refl
 height-other parts.Here parts.Bottom z h ne = refl
 height-other parts.Here parts.Deferred z h ne = refl
 height-other parts.Here parts.Double z h ne = refl
+height-other parts.Here parts.Second z h ne = refl
 height-other parts.Top parts.Current z h ne = refl
 height-other parts.Top parts.Here z h ne = refl
 height-other parts.Top parts.Top z h ne = absurd (ne refl)
 height-other parts.Top parts.Bottom z h ne = refl
 height-other parts.Top parts.Deferred z h ne = refl
 height-other parts.Top parts.Double z h ne = refl
+height-other parts.Top parts.Second z h ne = refl
 height-other parts.Bottom parts.Current z h ne = refl
 height-other parts.Bottom parts.Here z h ne = refl
 height-other parts.Bottom parts.Top z h ne = refl
 height-other parts.Bottom parts.Bottom z h ne = absurd (ne refl)
 height-other parts.Bottom parts.Deferred z h ne = refl
 height-other parts.Bottom parts.Double z h ne = refl
+height-other parts.Bottom parts.Second z h ne = refl
 height-other parts.Deferred parts.Current z h ne = refl
 height-other parts.Deferred parts.Here z h ne = refl
 height-other parts.Deferred parts.Top z h ne = refl
 height-other parts.Deferred parts.Bottom z h ne = refl
 height-other parts.Deferred parts.Deferred z h ne = absurd (ne refl)
 height-other parts.Deferred parts.Double z h ne = refl
+height-other parts.Deferred parts.Second z h ne = refl
 height-other parts.Double parts.Current z h ne = refl
 height-other parts.Double parts.Here z h ne = refl
 height-other parts.Double parts.Top z h ne = refl
 height-other parts.Double parts.Bottom z h ne = refl
 height-other parts.Double parts.Deferred z h ne = refl
 height-other parts.Double parts.Double z h ne = absurd (ne refl)
+height-other parts.Double parts.Second z h ne = refl
+height-other parts.Second parts.Current z h ne = refl
+height-other parts.Second parts.Here z h ne = refl
+height-other parts.Second parts.Top z h ne = refl
+height-other parts.Second parts.Bottom z h ne = refl
+height-other parts.Second parts.Deferred z h ne = refl
+height-other parts.Second parts.Double z h ne = refl
+height-other parts.Second parts.Second z h ne = absurd (ne refl)
 
 sound-put : (p : Part) (xs : List SlotView) (w : ℤ) (at : Part → List SlotView) (h : Heights) → AreSound at h → AreSlotsOf p xs → w ≡ total_height (floats_in xs) → AreSound (put p xs at) (with_height p w h)
 sound-put p xs w at h sound slots is = record {
@@ -135,6 +151,7 @@ entry_count-seen parts.Top at h = length-floats_in parts.Top (at parts.Top) refl
 entry_count-seen parts.Bottom at h = length-floats_in parts.Bottom (at parts.Bottom) refl h
 entry_count-seen parts.Deferred at h = length-floats_in parts.Deferred (at parts.Deferred) refl h
 entry_count-seen parts.Double at h = length-floats_in parts.Double (at parts.Double) refl h
+entry_count-seen parts.Second at h = length-floats_in parts.Second (at parts.Second) refl h
 
 pub entries_of-seen : (p : Part) (at : Part → List SlotView) → AreSlotsOf p (at p) → entries_of p (seen_lists at) ≡ entries_in (at p)
 entries_of-seen parts.Current at h = refl
@@ -143,6 +160,7 @@ entries_of-seen parts.Top at h = sym (entries-are_floats parts.Top (at parts.Top
 entries_of-seen parts.Bottom at h = sym (entries-are_floats parts.Bottom (at parts.Bottom) refl h)
 entries_of-seen parts.Deferred at h = sym (entries-are_floats parts.Deferred (at parts.Deferred) refl h)
 entries_of-seen parts.Double at h = sym (entries-are_floats parts.Double (at parts.Double) refl h)
+entries_of-seen parts.Second at h = sym (entries-are_floats parts.Second (at parts.Second) refl h)
 
 pub floats_of-seen : (p : Part) (at : Part → List SlotView) → floats_of p (seen_lists at) ≡ floats_in (at p)
 floats_of-seen parts.Current at = refl
@@ -151,10 +169,11 @@ floats_of-seen parts.Top at = refl
 floats_of-seen parts.Bottom at = refl
 floats_of-seen parts.Deferred at = refl
 floats_of-seen parts.Double at = refl
+floats_of-seen parts.Second at = refl
 
 pub live_count-seen : (at : Part → List SlotView) → ((p : Part) → AreSlotsOf p (at p)) → live_count (seen_lists at) ≡ slot_count at
 live_count-seen at h =
-    omega (arith, entry_count-seen parts.Current at (h parts.Current), entry_count-seen parts.Here at (h parts.Here), entry_count-seen parts.Top at (h parts.Top), entry_count-seen parts.Bottom at (h parts.Bottom), entry_count-seen parts.Deferred at (h parts.Deferred), entry_count-seen parts.Double at (h parts.Double))
+    omega (arith, entry_count-seen parts.Current at (h parts.Current), entry_count-seen parts.Here at (h parts.Here), entry_count-seen parts.Top at (h parts.Top), entry_count-seen parts.Bottom at (h parts.Bottom), entry_count-seen parts.Deferred at (h parts.Deferred), entry_count-seen parts.Double at (h parts.Double), entry_count-seen parts.Second at (h parts.Second))
 
 -- the sums that are kept are rooms
 pub sums-are_rooms : (at : Part → List SlotView) (h : Heights) (size spare : ℕ) (p : Part) → AreSound at h → HasPlaces at size spare → IsRoom (height_of h p)
@@ -173,6 +192,7 @@ seen-after parts.Top at ss n are unmarked = λ i. record (seen_pool at n) { list
 seen-after parts.Bottom at ss n are unmarked = λ i. record (seen_pool at n) { lists = record (seen_lists at) { bottom = (floats_in-append (at parts.Bottom) ss) i } }
 seen-after parts.Deferred at ss n are unmarked = λ i. record (seen_pool at n) { lists = record (seen_lists at) { deferred = (floats_in-append (at parts.Deferred) ss) i }; marks = (map-append (λ s. s.marked) (at parts.Deferred) ss ∙ ap (λ ms. marks_in (at parts.Deferred) ++ ms) unmarked) i }
 seen-after parts.Double at ss n are unmarked = λ i. record (seen_pool at n) { lists = record (seen_lists at) { double = (floats_in-append (at parts.Double) ss) i } }
+seen-after parts.Second at ss n are unmarked = λ i. record (seen_pool at n) { lists = record (seen_lists at) { second = (floats_in-append (at parts.Second) ss) i }; second_marks = (map-append (λ s. s.marked) (at parts.Second) ss ∙ ap (λ ms. marks_in (at parts.Second) ++ ms) unmarked) i }
 
 pub seen-before : (p : Part) (at : Part → List SlotView) (ss : List SlotView) (n : ℕ) → entries_in ss ≡ float_entries (floats_in ss) → marks_in ss ≡ replicate (length (floats_in ss)) false
     → seen_pool (put p (ss ++ at p) at) n ≡ with_floats_before p (floats_in ss) (seen_pool at n)
@@ -182,6 +202,7 @@ seen-before parts.Top at ss n are unmarked = λ i. record (seen_pool at n) { lis
 seen-before parts.Bottom at ss n are unmarked = λ i. record (seen_pool at n) { lists = record (seen_lists at) { bottom = (floats_in-append ss (at parts.Bottom)) i } }
 seen-before parts.Deferred at ss n are unmarked = λ i. record (seen_pool at n) { lists = record (seen_lists at) { deferred = (floats_in-append ss (at parts.Deferred)) i }; marks = (map-append (λ s. s.marked) ss (at parts.Deferred) ∙ ap (λ ms. ms ++ marks_in (at parts.Deferred)) unmarked) i }
 seen-before parts.Double at ss n are unmarked = λ i. record (seen_pool at n) { lists = record (seen_lists at) { double = (floats_in-append ss (at parts.Double)) i } }
+seen-before parts.Second at ss n are unmarked = λ i. record (seen_pool at n) { lists = record (seen_lists at) { second = (floats_in-append ss (at parts.Second)) i }; second_marks = (map-append (λ s. s.marked) ss (at parts.Second) ∙ ap (λ ms. ms ++ marks_in (at parts.Second)) unmarked) i }
 
 float_before-without : (e : Entry) (k : ℕ) (fs : List Float) → is_float e ≡ true → float_before e (without_place k fs) ≡ without_place (suc k) (float_before e fs)
 float_before-without (entries.Float f) k fs is = refl
@@ -216,6 +237,7 @@ seen-without parts.Top at k n h = λ i. record (seen_pool at n) { lists = record
 seen-without parts.Bottom at k n h = λ i. record (seen_pool at n) { lists = record (seen_lists at) { bottom = (floats_in-without parts.Bottom k (at parts.Bottom) refl h) i } }
 seen-without parts.Deferred at k n h = λ i. record (seen_pool at n) { lists = record (seen_lists at) { deferred = (floats_in-without parts.Deferred k (at parts.Deferred) refl h) i }; marks = (map-without_place (λ s. s.marked) k (at parts.Deferred)) i }
 seen-without parts.Double at k n h = λ i. record (seen_pool at n) { lists = record (seen_lists at) { double = (floats_in-without parts.Double k (at parts.Double) refl h) i } }
+seen-without parts.Second at k n h = λ i. record (seen_pool at n) { lists = record (seen_lists at) { second = (floats_in-without parts.Second k (at parts.Second) refl h) i }; second_marks = (map-without_place (λ s. s.marked) k (at parts.Second)) i }
 
 pub seen-emptied : (p : Part) (at : Part → List SlotView) (n : ℕ) → seen_pool (put p [] at) n ≡ without_entries p (seen_pool at n)
 seen-emptied parts.Current at n = refl
@@ -224,6 +246,7 @@ seen-emptied parts.Top at n = refl
 seen-emptied parts.Bottom at n = refl
 seen-emptied parts.Deferred at n = refl
 seen-emptied parts.Double at n = refl
+seen-emptied parts.Second at n = refl
 
 pub map-set : {X Y : Type 0} (f : X → Y) (k : ℕ) (xs : List X) (x : X) → map f (slice_set xs k x) ≡ slice_set (map f xs) k (f x)
 map-set f k [] x = refl
@@ -264,6 +287,7 @@ seen-set parts.Top at k f m n h marks = λ i. record (seen_pool at n) { lists = 
 seen-set parts.Bottom at k f m n h marks = λ i. record (seen_pool at n) { lists = record (seen_lists at) { bottom = (floats_in-set parts.Bottom k (at parts.Bottom) f m refl h) i } }
 seen-set parts.Deferred at k f m n h marks = λ i. record (seen_pool at n) { lists = record (seen_lists at) { deferred = (floats_in-set parts.Deferred k (at parts.Deferred) f m refl h) i }; marks = marks i }
 seen-set parts.Double at k f m n h marks = λ i. record (seen_pool at n) { lists = record (seen_lists at) { double = (floats_in-set parts.Double k (at parts.Double) f m refl h) i } }
+seen-set parts.Second at k f m n h marks = λ i. record (seen_pool at n) { lists = record (seen_lists at) { second = (floats_in-set parts.Second k (at parts.Second) f m refl h) i }; second_marks = marks i }
 
 -- ---- a new pool
 
