@@ -4,8 +4,8 @@ use Rattle.std.specs.Prelude.{slice_set}
 use Rattle.tb_node.specs.declared.Float.{Float}
 use Rattle.tb_float.specs.declared.Part.{Part}
 use Rattle.tb_float.specs.declared.Part.TheVariants as parts
-use Rattle.tb_float.specs.Lists.{without_place, floats_of}
-use Rattle.tb_float.specs.Pool.{FloatPool, HasNoMarks, marked_among, unmarked_among, marked_floats, first_marked, with_floats_after, with_floats_before, without_entry, without_entries, moved_float, joined_before, with_float_at}
+use Rattle.tb_float.specs.Lists.{without_place, floats_of, IsWaiting}
+use Rattle.tb_float.specs.Pool.{FloatPool, HasNoMarks, marks_of, unmarked_floats, marked_among, unmarked_among, marked_floats, first_marked, with_floats_after, with_floats_before, without_entry, without_entries, moved_float, joined_before, with_float_at}
 
 marked-none : (ms : List Bool) → marked_among ms [] ≡ []
 marked-none [] = refl
@@ -149,3 +149,14 @@ pub first_marked-le : (ms : List Bool) → first_marked ms ≤ length ms
 first_marked-le [] = omega arith
 first_marked-le (true ∷ ms) = omega arith
 first_marked-le (false ∷ ms) = omega (arith, first_marked-le ms)
+
+-- the marked and the unmarked floats of a list in which floats wait, once one has left
+pub left-over : (p : Part) (k : ℕ) (v : FloatPool) (ms : List Bool) (fs : List Float) → IsWaiting p → marks_of p v ≡ ms → floats_of p v.lists ≡ fs
+    → (marked_floats p (without_entry p k v) ≡ marked_among (without_place k ms) (without_place k fs)) × (unmarked_floats p (without_entry p k v) ≡ unmarked_among (without_place k ms) (without_place k fs))
+left-over parts.Deferred k v ms fs is e f = ((λ i. marked_among (without_place k (e i)) (without_place k (f i))), (λ i. unmarked_among (without_place k (e i)) (without_place k (f i))))
+left-over parts.Second k v ms fs is e f = ((λ i. marked_among (without_place k (e i)) (without_place k (f i))), (λ i. unmarked_among (without_place k (e i)) (without_place k (f i))))
+left-over parts.Current k v ms fs is e f = absurd is
+left-over parts.Here k v ms fs is e f = absurd is
+left-over parts.Top k v ms fs is e f = absurd is
+left-over parts.Bottom k v ms fs is e f = absurd is
+left-over parts.Double k v ms fs is e f = absurd is

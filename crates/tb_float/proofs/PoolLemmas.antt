@@ -16,7 +16,7 @@ use Rattle.tb_float.specs.declared.shelves.Shelves.{Shelves}
 use Rattle.tb_float.specs.declared.heights.Heights.{Heights}
 use Rattle.tb_float.specs.SlotView.{SlotView}
 use Rattle.tb_float.specs.Lists.{IsWaiting, live_count, entries_of, floats_of, float_entries, float_before, floats_among, without_place}
-use Rattle.tb_float.specs.Pool.{FloatPool, without_marks, joined_before, with_float_at, with_mark, with_current, with_floats_after, with_floats_before, without_entry, without_entries}
+use Rattle.tb_float.specs.Pool.{FloatPool, marks_of, without_marks, joined_before, with_float_at, with_mark, with_current, with_floats_after, with_floats_before, without_entry, without_entries}
 use Rattle.tb_float.specs.Ranges.{IsSizedEntry, IsRoom, IsExtent}
 use Rattle.tb_float.specs.Rooms.{total_height}
 use Rattle.tb_float.specs.Heights.{height_of, with_height}
@@ -191,6 +191,26 @@ marks-shown p at no_notes h = length-map (at p) (λ s. s.marked) ∙ sym (length
 
 pub all-marks : (at : Part → List SlotView) (n : ℕ) → ((p : Part) → AreSlotsOf p (at p)) → HasAllMarks (seen_pool at n)
 all-marks at n h = record { deferred = marks-shown parts.Deferred at refl (h parts.Deferred); second = marks-shown parts.Second at refl (h parts.Second) }
+
+-- floats alone wait
+pub waiting-floats : (p : Part) → IsWaiting p → holds_notes p ≡ false
+waiting-floats parts.Deferred is = refl
+waiting-floats parts.Second is = refl
+waiting-floats parts.Current is = absurd is
+waiting-floats parts.Here is = absurd is
+waiting-floats parts.Top is = absurd is
+waiting-floats parts.Bottom is = absurd is
+waiting-floats parts.Double is = absurd is
+
+-- the marks that are seen of a list in which floats wait
+pub marks_of-seen : (p : Part) (at : Part → List SlotView) (n : ℕ) → IsWaiting p → marks_of p (seen_pool at n) ≡ marks_in (at p)
+marks_of-seen parts.Deferred at n is = refl
+marks_of-seen parts.Second at n is = refl
+marks_of-seen parts.Current at n is = absurd is
+marks_of-seen parts.Here at n is = absurd is
+marks_of-seen parts.Top at n is = absurd is
+marks_of-seen parts.Bottom at n is = absurd is
+marks_of-seen parts.Double at n is = absurd is
 
 -- ---- marks that were taken away
 

@@ -29,6 +29,7 @@ impl Heights {
             bottom: 0,
             deferred: 0,
             double: 0,
+            second: 0,
         }
     }
 
@@ -42,6 +43,7 @@ impl Heights {
             Part::Bottom => self.bottom,
             Part::Deferred => self.deferred,
             Part::Double => self.double,
+            Part::Second => self.second,
         }
     }
 
@@ -55,6 +57,7 @@ impl Heights {
             Part::Bottom => self.bottom = height,
             Part::Deferred => self.deferred = height,
             Part::Double => self.double = height,
+            Part::Second => self.second = height,
         }
     }
 

@@ -1,8 +1,8 @@
 //! Entries that go from list to list, and out of the pool.
 ghost use Rattle.std.specs.Prelude.{◌≡◌, ◌≢◌, ◌<◌, ◌↔◌, [], ◌∷◌, slice_get, Some, IsNone, OnSome, IfSome, IfNone, length, drop};
 ghost use Rattle.tb_node.specs.declared.Float.{Float};
-ghost use Rattle.tb_float.specs.Lists.{entries_of, floats_of, entry_count, HasFloatAt, float_entries};
-ghost use Rattle.tb_float.specs.Pool.{moved_float, joined_before, with_places, with_float_at, with_mark, without_entry, without_marks, marked_floats, unmarked_floats, first_marked};
+ghost use Rattle.tb_float.specs.Lists.{entries_of, floats_of, entry_count, HasFloatAt, IsWaiting, float_entries};
+ghost use Rattle.tb_float.specs.Pool.{moved_float, joined_before, with_places, with_float_at, with_mark, without_entry, without_marks, HasNoMarks, marks_of, marked_floats, unmarked_floats, first_marked};
 
 use crate::slots::{
     entry_height, first_marked, float_in, move_slot, slot_at, take_slot, unmark_all,
@@ -16,7 +16,7 @@ impl Pool {
         requires apart { from ≢ to }
         requires float { HasFloatAt (entries_of from self.old.lists) k }
         ensures moved { (f : Float) → slice_get (entries_of from self.old.lists) k ≡ Some (Entry.Float f) → self.new ≡ moved_float from k to f self.old }
-        ensures unmarked { marked_floats self.old ≡ [] → marked_floats self.new ≡ [] }
+        ensures unmarked { HasNoMarks self.old → HasNoMarks self.new }
     {
         let slot = move_slot(
             &mut self.store,
@@ -36,7 +36,7 @@ impl Pool {
         requires apart { from ≢ to }
         requires floats { entries_of from self.old.lists ≡ float_entries (floats_of from self.old.lists) }
         ensures joined { self.new ≡ joined_before from to self.old }
-        ensures unmarked { marked_floats self.old ≡ [] → marked_floats self.new ≡ [] }
+        ensures unmarked { HasNoMarks self.old → HasNoMarks self.new }
     {
         self.unmark(from);
         let front = self.shelves.of(from);
@@ -52,10 +52,20 @@ impl Pool {
     fn unmark(&mut self, p: Part)
         ensures { self.new ≡ without_marks p self.old }
     {
-        let Part::Deferred = p else {
-            return;
-        };
-        unmark_all(&mut self.store, self.shelves.deferred);
+        match p {
+            Part::Deferred => self.unmark_waiting(Part::Deferred),
+            Part::Second => self.unmark_waiting(Part::Second),
+            _ => {}
+        }
+    }
+
+    // Takes the marks from all entries of a list in which floats wait.
+    fn unmark_waiting(&mut self, p: Part)
+        requires { IsWaiting p }
+        ensures { self.new ≡ without_marks p self.old }
+    {
+        let list = self.shelves.of(p);
+        unmark_all(&mut self.store, list);
     }
 
     /// The first entry of a list leaves the pool. None exactly where the list is empty.
@@ -64,7 +74,7 @@ impl Pool {
         ensures empty { IsNone result ↔ (entry_count p self.old.lists ≡ 0) }
         ensures rest { OnSome result (self.new ≡ without_entry p 0 self.old) }
         ensures unchanged { IfNone result (self.new ≡ self.old) }
-        ensures unmarked { marked_floats self.old ≡ [] → marked_floats self.new ≡ [] }
+        ensures unmarked { HasNoMarks self.old → HasNoMarks self.new }
     {
         let Some(slot) = self.store.pop_front(self.shelves.of(p)) else {
             return None;
@@ -77,7 +87,7 @@ impl Pool {
     pub fn set_places(&mut self, p: Part, k: usize, places: Places)
         requires { HasFloatAt (entries_of p self.old.lists) k }
         ensures set { (f : Float) → slice_get (entries_of p self.old.lists) k ≡ Some (Entry.Float f) → self.new ≡ with_float_at p k (with_places places f) self.old }
-        ensures unmarked { marked_floats self.old ≡ [] → marked_floats self.new ≡ [] }
+        ensures unmarked { HasNoMarks self.old → HasNoMarks self.new }
     {
         let list = self.shelves.of(p);
         let slot = slot_at(&self.store, list, k);
@@ -92,14 +102,16 @@ impl Pool {
         );
     }
 
-    /// The deferred float at a place is chosen for a column of floats.
-    pub fn mark(&mut self, k: usize)
-        requires { k < length self.old.lists.deferred }
-        ensures { self.new ≡ with_mark k self.old }
+    /// The float at a place of a list in which floats wait is chosen for a column of floats.
+    pub fn mark(&mut self, from: Part, k: usize)
+        requires waiting { IsWaiting from }
+        requires place { k < length (floats_of from self.old.lists) }
+        ensures { self.new ≡ with_mark from k self.old }
     {
-        let slot = slot_at(&self.store, self.shelves.deferred, k);
+        let list = self.shelves.of(from);
+        let slot = slot_at(&self.store, list, k);
         self.store.replace(
-            self.shelves.deferred,
+            list,
             k,
             Slot {
                 entry: slot.entry,
@@ -108,23 +120,24 @@ impl Pool {
         );
     }
 
-    /// The first marked float leaves the pool. None exactly where none is marked; no deferred float is marked then.
-    pub fn retire_marked(&mut self) -> Option<Float>
-        ensures none { IsNone result ↔ (marked_floats self.old ≡ []) }
-        ensures first { IfSome result (λ f. marked_floats self.old ≡ f ∷ marked_floats self.new) }
-        ensures others { OnSome result (unmarked_floats self.new ≡ unmarked_floats self.old) }
-        ensures rest { OnSome result (self.new ≡ without_entry Part.Deferred (first_marked self.old.marks) self.old) }
+    /// The first marked float of a list in which floats wait leaves the pool. None exactly where none is marked; no float of the
+    /// list is marked then.
+    pub fn retire_marked(&mut self, from: Part) -> Option<Float>
+        requires { IsWaiting from }
+        ensures none { IsNone result ↔ (marked_floats from self.old ≡ []) }
+        ensures first { IfSome result (λ f. marked_floats from self.old ≡ f ∷ marked_floats from self.new) }
+        ensures others { OnSome result (unmarked_floats from self.new ≡ unmarked_floats from self.old) }
+        ensures rest { OnSome result (self.new ≡ without_entry from (first_marked (marks_of from self.old)) self.old) }
         ensures unchanged { IfNone result (self.new ≡ self.old) }
-        ensures all_unmarked { IfNone result (unmarked_floats self.old ≡ self.old.lists.deferred) }
+        ensures all_unmarked { IfNone result (unmarked_floats from self.old ≡ floats_of from self.old.lists) }
     {
-        let list = self.shelves.deferred;
+        let list = self.shelves.of(from);
         let k = first_marked(&self.store, list);
         if k == self.store.len(list) {
             return None;
         }
         let slot = take_slot(&mut self.store, list, k, self.shelves.one);
-        self.heights
-            .lower(Part::Deferred, entry_height(&slot.entry));
+        self.heights.lower(from, entry_height(&slot.entry));
         Some(float_in(slot.entry))
     }
 }

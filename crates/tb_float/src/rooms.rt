@@ -54,7 +54,7 @@ impl Pool {
                 share_of(p.dbltopfraction, p.textheight),
                 self.area_taken(part, p.dbltextfloatsep.width, p.dblfloatsep.width),
             ),
-            Part::Current | Part::Here | Part::Deferred => unreachable!(),
+            Part::Current | Part::Here | Part::Deferred | Part::Second => unreachable!(),
         }
     }
 

@@ -33,11 +33,12 @@ impl Shelves {
             Part::Bottom => self.bottom,
             Part::Deferred => self.deferred,
             Part::Double => self.double,
+            Part::Second => self.second,
         }
     }
 }
 
-// Opens eight lists.
+// Opens nine lists.
 pub(crate) fn open_shelves(store: &mut Lists<Slot>) -> Result<Shelves, AllocError>
     requires { store.old.lists ≡ empty }
     ensures { IfOk result (λ s. AreShelves store.new s × ((p : Part) → slots_of store.new s p ≡ [])) }
@@ -49,6 +50,7 @@ pub(crate) fn open_shelves(store: &mut Lists<Slot>) -> Result<Shelves, AllocErro
         bottom: store.add_list()?,
         deferred: store.add_list()?,
         double: store.add_list()?,
+        second: store.add_list()?,
         one: store.add_list()?,
         rest: store.add_list()?,
     })

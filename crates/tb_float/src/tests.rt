@@ -153,11 +153,17 @@ fn marked_floats_leave_first(rt: HostRuntime) -> Result<(), Fail> {
     let name = name_of(b"F").ok_or("name")?;
     let mut pool = deferred(&rt, name)?;
     assert_eq!(rt; pool.len(Part::Deferred), 3);
-    pool.mark(1);
-    pool.mark(2);
-    assert_eq!(rt; pool.retire_marked().map(|f| f.height), Some(2));
-    assert_eq!(rt; pool.retire_marked().map(|f| f.height), Some(3));
-    assert!(rt; pool.retire_marked().is_none());
+    pool.mark(Part::Deferred, 1);
+    pool.mark(Part::Deferred, 2);
+    assert_eq!(rt;
+        pool.retire_marked(Part::Deferred).map(|f| f.height),
+        Some(2)
+    );
+    assert_eq!(rt;
+        pool.retire_marked(Part::Deferred).map(|f| f.height),
+        Some(3)
+    );
+    assert!(rt; pool.retire_marked(Part::Deferred).is_none());
     assert_eq!(rt; heights(&pool, Part::Deferred), 1);
     Ok(())
 }
@@ -168,7 +174,7 @@ fn floats_join_and_change(rt: HostRuntime) -> Result<(), Fail> {
     let mut pool = deferred(&rt, name)?;
     assert!(rt; move_first(&mut pool, Part::Deferred, Part::Top));
     assert!(rt; !pool.has_class(Part::Deferred, 1));
-    assert!(rt; pool.has_class_before(1, 2));
+    assert!(rt; pool.has_class_before(Part::Deferred, 1, 2));
     pool.join_front(Part::Top, Part::Deferred);
     assert_eq!(rt; heights(&pool, Part::Deferred), 123);
     assert!(rt; send_to_page(&mut pool, Part::Deferred));

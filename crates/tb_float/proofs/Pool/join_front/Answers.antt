@@ -1,7 +1,7 @@
 use Rattle.std.proofs.Common.{sym, ap, ◌∙◌, subst, FitsSigned, w64, rules}
 use Rattle.std.proofs.lemmas.Int.{to_z-of_z}
 use Rattle.tb_float.specs.declared.heights.Heights.{Heights}
-use Rattle.tb_float.specs.Pool.{marked_floats, joined_before, with_floats_before, without_entries}
+use Rattle.tb_float.specs.Pool.{HasNoMarks, joined_before, with_floats_before, without_entries}
 use Rattle.tb_float.specs.Ranges.{IsRoom}
 use Rattle.tb_float.specs.Heights.{height_of}
 use Rattle.tb_float.specs.Stored.{slots_of, shelf_of, seen_pool, IsStored}
@@ -77,5 +77,5 @@ returns c =
     let seen = made.seen ∙ floats ∙ ap (joined_before c.args.from c.args.to) (c.self.view_is ∙ c.unmark.ensures) ∙ joined-without_marks c.args.from c.args.to old in
     record {
       joined = seen;
-      unmarked = λ none. ap marked_floats seen ∙ unmarked-joined_before c.args.from c.args.to old none;
+      unmarked = λ none. subst HasNoMarks (sym seen) (unmarked-joined_before c.args.from c.args.to old none);
     }

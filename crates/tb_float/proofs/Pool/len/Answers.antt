@@ -18,5 +18,6 @@ returns c =
     record {
       value = length_is ∙ sym (entry_count-seen c.args.p at (slots c.args.p)) ∙ ap (λ v. entry_count c.args.p v.lists) c.self.view_is;
       marks = rw (← c.self.view_is) (length-map (at parts.Deferred) (λ s. s.marked) ∙ sym (length-floats_in parts.Deferred (at parts.Deferred) refl (slots parts.Deferred)));
+      second_marks = rw (← c.self.view_is) (length-map (at parts.Second) (λ s. s.marked) ∙ sym (length-floats_in parts.Second (at parts.Second) refl (slots parts.Second)));
       small = omega (arith, length_is, count-of c.args.p at, places.within, places.small);
     }

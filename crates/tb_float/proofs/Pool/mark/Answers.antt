@@ -1,36 +1,49 @@
-use Rattle.std.proofs.Common.{length, ap, ◌∙◌, refl, arith}
+use Rattle.std.proofs.Common.{length, sym, ap, ◌∙◌, arith}
 use Rattle.std.specs.Prelude.{slice_set, true}
-use Rattle.tb_pool.specs.Lists.{list_at, with_list}
+use Rattle.tb_pool.specs.Lists.{with_list}
 use Rattle.tb_float.specs.SlotView.{SlotView}
-use Rattle.tb_float.specs.declared.Part.TheVariants as parts
+use Rattle.tb_float.specs.Lists.{floats_of}
 use Rattle.tb_float.specs.Pool.{with_mark}
-use Rattle.tb_float.specs.Stored.{slots_of}
+use Rattle.tb_float.specs.Stored.{slots_of, shelf_of}
 use Rattle.tb_float.proofs.SlotLemmas.{length-floats_in}
-use Rattle.tb_float.proofs.PoolLemmas.{mark-set}
+use Rattle.tb_float.proofs.SoundLemmas.{floats_of-seen}
+use Rattle.tb_float.proofs.PoolLemmas.{mark-set, waiting-floats}
 use Rattle.tb_float.proofs.Pool.mark.Goals as goal
 
-pub slot_at-slot-requires-clause-within : goal.slot_at-slot-requires-clause-within
-slot_at-slot-requires-clause-within c =
+pub slot_at-slot-requires : goal.slot_at-slot-requires
+slot_at-slot-requires c =
     let i = c.self.inside in
     let at = slots_of i.store i.shelves in
-    let seen = ap (λ v. length v.lists.deferred) c.self.view_is in
-    omega (arith, length-floats_in parts.Deferred (at parts.Deferred) refl (c.self.invariant.sound.slots parts.Deferred), c.requires)
+    let seen = ap (λ v. length (floats_of c.args.from v.lists)) c.self.view_is in
+    let shown = ap length (floats_of-seen c.args.from at) in
+    rw c.of-list.ensures (record {
+      live = c.self.invariant.shelves_are.live c.args.from;
+      within = omega (arith, length-floats_in c.args.from (at c.args.from) (waiting-floats c.args.from c.requires.waiting) (c.self.invariant.sound.slots c.args.from), c.requires.place);
+    })
 
-pub replace-requires-clause-within : goal.replace-requires-clause-within
-replace-requires-clause-within c =
+pub replace-requires : goal.replace-requires
+replace-requires c =
     let i = c.self.inside in
     let at = slots_of i.store i.shelves in
-    let seen = ap (λ v. length v.lists.deferred) c.self.view_is in
-    omega (arith, length-floats_in parts.Deferred (at parts.Deferred) refl (c.self.invariant.sound.slots parts.Deferred), c.requires)
+    let seen = ap (λ v. length (floats_of c.args.from v.lists)) c.self.view_is in
+    let shown = ap length (floats_of-seen c.args.from at) in
+    rw c.of-list.ensures (record {
+      live = c.self.invariant.shelves_are.live c.args.from;
+      within = omega (arith, length-floats_in c.args.from (at c.args.from) (waiting-floats c.args.from c.requires.waiting) (c.self.invariant.sound.slots c.args.from), c.requires.place);
+    })
 
 pub invariant_of-self : goal.invariant_of-self
 invariant_of-self c =
     let i = c.self.inside in
-    let written = c.replace.ensures.after ∙ ap (λ (r : SlotView). with_list i.store i.shelves.deferred (slice_set (list_at i.store i.shelves.deferred) c.args.k (record { entry = r.entry; marked = true }))) c.slot.view_is in
-    (mark-set i.store c.replace.new.self i.shelves i.heights i.size c.args.k c.slot_at-slot.result c.self.invariant c.slot_at-slot.ensures written c.replace.ensures.spare).stored
+    let got = rw c.of-list.ensures at c.slot_at-slot.ensures in
+    let after = rw c.of-list.ensures at c.replace.ensures.after in
+    let written = after ∙ ap (λ (r : SlotView). with_list i.store (shelf_of i.shelves c.args.from) (slice_set (slots_of i.store i.shelves c.args.from) c.args.k (record { entry = r.entry; marked = true }))) c.slot.view_is in
+    (mark-set i.store c.replace.new.self i.shelves i.heights i.size c.args.from c.args.k c.slot_at-slot.result c.requires.waiting c.self.invariant got written c.replace.ensures.spare).stored
 
 pub returns : goal.returns
 returns c =
     let i = c.self.inside in
-    let written = c.replace.ensures.after ∙ ap (λ (r : SlotView). with_list i.store i.shelves.deferred (slice_set (list_at i.store i.shelves.deferred) c.args.k (record { entry = r.entry; marked = true }))) c.slot.view_is in
-    (mark-set i.store c.replace.new.self i.shelves i.heights i.size c.args.k c.slot_at-slot.result c.self.invariant c.slot_at-slot.ensures written c.replace.ensures.spare).seen ∙ ap (with_mark c.args.k) c.self.view_is
+    let got = rw c.of-list.ensures at c.slot_at-slot.ensures in
+    let after = rw c.of-list.ensures at c.replace.ensures.after in
+    let written = after ∙ ap (λ (r : SlotView). with_list i.store (shelf_of i.shelves c.args.from) (slice_set (slots_of i.store i.shelves c.args.from) c.args.k (record { entry = r.entry; marked = true }))) c.slot.view_is in
+    (mark-set i.store c.replace.new.self i.shelves i.heights i.size c.args.from c.args.k c.slot_at-slot.result c.requires.waiting c.self.invariant got written c.replace.ensures.spare).seen ∙ ap (with_mark c.args.from c.args.k) c.self.view_is

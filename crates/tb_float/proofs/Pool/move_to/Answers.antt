@@ -2,15 +2,14 @@ use Rattle.std.proofs.Common.{◌≡◌, [], Some, slice_get, sym, ap, ◌∙◌
 use Rattle.std.proofs.lemmas.Int.{to_z-of_z}
 use Rattle.std.proofs.lemmas.Option.{slice_get_within}
 use Rattle.tb_pool.specs.Lists.{list_at}
-use Rattle.tb_float.specs.declared.Part.TheVariants as parts
 use Rattle.tb_float.specs.declared.heights.Heights.{Heights}
 use Rattle.tb_float.specs.Lists.{float_before}
-use Rattle.tb_float.specs.Pool.{marked_floats, moved_float, with_floats_after, without_entry}
+use Rattle.tb_float.specs.Pool.{HasNoMarks, moved_float, with_floats_after, without_entry}
 use Rattle.tb_float.specs.Ranges.{IsRoom}
 use Rattle.tb_float.specs.Rooms.{total_height}
 use Rattle.tb_float.specs.Heights.{height_of}
 use Rattle.tb_float.specs.Stored.{slots_of, seen_pool, is_float, IsStored}
-use Rattle.tb_float.proofs.PoolLemmas.{float-there, float-is, marks-shown, moved-to, entry-is_room, sums-moved}
+use Rattle.tb_float.proofs.PoolLemmas.{float-there, float-is, all-marks, moved-to, entry-is_room, sums-moved}
 use Rattle.tb_float.proofs.SlotLemmas.{slot-there}
 use Rattle.tb_float.proofs.SoundLemmas.{sums-are_rooms, height-other}
 use Rattle.tb_float.proofs.MarkLemmas.{unmarked-moved_float}
@@ -103,4 +102,4 @@ returns-clause-unmarked c = λ none.
     let moved = rw (c.of.ensures, c.of-2.ensures) at c.move_slot-slot.ensures.moved in
     let made = moved-to i.store c.move_slot-slot.new.store i.shelves i.heights i.size c.args.from c.args.to c.args.k s c.self.invariant c.requires.apart got (ap is_float is) moved c.move_slot-slot.ensures.spare in
     let seen = made.seen ∙ ap (λ d. with_floats_after c.args.to (float_before d []) (without_entry c.args.from c.args.k (seen_pool at i.size))) is in
-    ap marked_floats seen ∙ unmarked-moved_float c.args.from c.args.k c.args.to f (seen_pool at i.size) (marks-shown at (c.self.invariant.sound.slots parts.Deferred)) (ap marked_floats c.self.view_is ∙ none)
+    subst HasNoMarks (sym seen) (unmarked-moved_float c.args.from c.args.k c.args.to f (seen_pool at i.size) (all-marks at i.size c.self.invariant.sound.slots) (subst HasNoMarks (sym c.self.view_is) none))

@@ -6,7 +6,7 @@ use Rattle.std.proofs.lemmas.Option.{slice_get-map}
 use Rattle.tb_pool.specs.Lists.{with_list}
 use Rattle.tb_float.specs.declared.heights.Heights.{Heights}
 use Rattle.tb_float.specs.Lists.{entries_of, entry_count, float_before}
-use Rattle.tb_float.specs.Pool.{marked_floats, without_entry}
+use Rattle.tb_float.specs.Pool.{HasNoMarks, without_entry}
 use Rattle.tb_float.specs.Ranges.{IsRoom}
 use Rattle.tb_float.specs.Rooms.{total_height}
 use Rattle.tb_float.specs.Heights.{height_of, with_height}
@@ -88,4 +88,4 @@ returns-clause-unmarked c = λ none.
     let rest = rw c.of.ensures at c.in-Some.ensures.rest in
     let written = rest ∙ ap (with_list i.store (shelf_of i.shelves c.args.p)) (sym (without-first (at c.args.p))) in
     let made = taken-out i.store c.pop_front.new.self i.shelves i.heights i.size c.args.p 0 s c.self.invariant got written c.in-Some.ensures.spare in
-    ap marked_floats (made.seen ∙ ap (without_entry c.args.p 0) c.self.view_is) ∙ unmarked-without_entry c.args.p 0 c.args.self.now none
+    subst HasNoMarks (sym (made.seen ∙ ap (without_entry c.args.p 0) c.self.view_is)) (unmarked-without_entry c.args.p 0 c.args.self.now none)

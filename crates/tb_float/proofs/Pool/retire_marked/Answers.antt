@@ -1,49 +1,58 @@
-use Rattle.std.proofs.Common.{◌≡◌, [], ◌∷◌, slice_get, refl, sym, ap, ◌∙◌, subst, FitsSigned, w64, rules, arith}
+use Rattle.std.proofs.Common.{◌≡◌, [], ◌∷◌, length, slice_get, refl, sym, ap, ◌∙◌, subst, FitsSigned, w64, rules, arith}
 use Rattle.std.specs.Prelude.{◌-ℤ◌}
 use Rattle.std.proofs.lemmas.Int.{to_z-of_z}
 use Rattle.std.proofs.lemmas.List.{length-map}
-use Rattle.tb_float.specs.declared.Part.TheVariants as parts
 use Rattle.tb_float.specs.declared.Entry.TheVariants as entries
 use Rattle.tb_float.specs.declared.heights.Heights.{Heights}
 use Rattle.tb_float.specs.SlotView.{SlotView}
-use Rattle.tb_float.specs.Lists.{float_before}
-use Rattle.tb_float.specs.Pool.{marked_floats, unmarked_floats, first_marked, without_entry}
+use Rattle.tb_float.specs.Lists.{float_before, floats_of}
+use Rattle.tb_float.specs.Pool.{marks_of, marked_among, unmarked_among, marked_floats, unmarked_floats, first_marked, without_entry}
 use Rattle.tb_float.specs.Ranges.{IsRoom}
 use Rattle.tb_float.specs.Rooms.{total_height}
 use Rattle.tb_float.specs.Heights.{height_of, with_height}
 use Rattle.tb_float.specs.Stored.{slots_of, seen_pool, floats_in, marks_in, is_float, IsStored}
 use Rattle.tb_float.proofs.SlotLemmas.{slot-there, float-at_slot}
-use Rattle.tb_float.proofs.SoundLemmas.{sums-are_rooms}
-use Rattle.tb_float.proofs.PoolLemmas.{taken-out, entry-is_room, marks-shown}
-use Rattle.tb_float.proofs.MarkLemmas.{first-marked, none-marked, first_marked-le}
+use Rattle.tb_float.proofs.SoundLemmas.{sums-are_rooms, floats_of-seen}
+use Rattle.tb_float.proofs.PoolLemmas.{taken-out, entry-is_room, marks-shown, waiting-floats, marks_of-seen}
+use Rattle.tb_float.proofs.MarkLemmas.{first-marked, none-marked, first_marked-le, left-over}
 use Rattle.tb_float.proofs.Pool.retire_marked.Goals as goal
 
 pub first_marked-k-requires : goal.first_marked-k-requires
-first_marked-k-requires c = c.self.invariant.shelves_are.live parts.Deferred
+first_marked-k-requires c = rw c.of-list.ensures (c.self.invariant.shelves_are.live c.args.from)
 
 pub len-requires : goal.len-requires
-len-requires c = c.self.invariant.shelves_are.live parts.Deferred
+len-requires c = rw c.of-list.ensures (c.self.invariant.shelves_are.live c.args.from)
 
 pub returns-then-k-len-clause-none : goal.returns-then-k-len-clause-none
 returns-then-k-len-clause-none c =
     let i = c.self.inside in
     let at = slots_of i.store i.shelves in
-    let slots = c.self.invariant.sound.slots parts.Deferred in
-    let end = none-marked (marks_in (at parts.Deferred)) (floats_in (at parts.Deferred)) (marks-shown at slots) (omega (arith, c.first_marked-k.ensures, c.if-k-len.true, c.len.ensures, length-map (at parts.Deferred) (λ s. s.marked))) in
-    (λ e. sym (ap marked_floats c.self.view_is) ∙ end.0, λ e. refl)
+    let k_first : c.first_marked-k.result ≡ first_marked (marks_in (at c.args.from)) = rw c.of-list.ensures at c.first_marked-k.ensures in
+    let len_is : c.len.result ≡ length (at c.args.from) = rw c.of-list.ensures at c.len.ensures in
+    let marks_are : marks_of c.args.from (seen_pool at i.size) ≡ marks_in (at c.args.from) = marks_of-seen c.args.from at i.size c.requires in
+    let floats_are : floats_of c.args.from (seen_pool at i.size).lists ≡ floats_in (at c.args.from) = floats_of-seen c.args.from at in
+    let slots = c.self.invariant.sound.slots c.args.from in
+    let end = none-marked (marks_in (at c.args.from)) (floats_in (at c.args.from)) (marks-shown c.args.from at (waiting-floats c.args.from c.requires) slots) (omega (arith, k_first, c.if-k-len.true, len_is, length-map (at c.args.from) (λ s. s.marked))) in
+    (λ e. sym (ap (marked_floats c.args.from) c.self.view_is) ∙ (λ j. marked_among (marks_are j) (floats_are j)) ∙ end.0, λ e. refl)
 
 pub returns-then-k-len-clause-all_unmarked : goal.returns-then-k-len-clause-all_unmarked
 returns-then-k-len-clause-all_unmarked c =
     let i = c.self.inside in
     let at = slots_of i.store i.shelves in
-    let slots = c.self.invariant.sound.slots parts.Deferred in
-    let end = none-marked (marks_in (at parts.Deferred)) (floats_in (at parts.Deferred)) (marks-shown at slots) (omega (arith, c.first_marked-k.ensures, c.if-k-len.true, c.len.ensures, length-map (at parts.Deferred) (λ s. s.marked))) in
-    sym (ap unmarked_floats c.self.view_is) ∙ end.1 ∙ ap (λ v. v.lists.deferred) c.self.view_is
+    let k_first : c.first_marked-k.result ≡ first_marked (marks_in (at c.args.from)) = rw c.of-list.ensures at c.first_marked-k.ensures in
+    let len_is : c.len.result ≡ length (at c.args.from) = rw c.of-list.ensures at c.len.ensures in
+    let marks_are : marks_of c.args.from (seen_pool at i.size) ≡ marks_in (at c.args.from) = marks_of-seen c.args.from at i.size c.requires in
+    let floats_are : floats_of c.args.from (seen_pool at i.size).lists ≡ floats_in (at c.args.from) = floats_of-seen c.args.from at in
+    let slots = c.self.invariant.sound.slots c.args.from in
+    let end = none-marked (marks_in (at c.args.from)) (floats_in (at c.args.from)) (marks-shown c.args.from at (waiting-floats c.args.from c.requires) slots) (omega (arith, k_first, c.if-k-len.true, len_is, length-map (at c.args.from) (λ s. s.marked))) in
+    sym (ap (unmarked_floats c.args.from) c.self.view_is) ∙ (λ j. unmarked_among (marks_are j) (floats_are j)) ∙ end.1 ∙ sym floats_are ∙ ap (λ v. floats_of c.args.from v.lists) c.self.view_is
 
 pub take_slot-slot-requires-clause-within : goal.take_slot-slot-requires-clause-within
 take_slot-slot-requires-clause-within c =
     let at = slots_of c.self.inside.store c.self.inside.shelves in
-    omega (arith, c.first_marked-k.ensures, c.len.ensures, first_marked-le (marks_in (at parts.Deferred)), length-map (at parts.Deferred) (λ s. s.marked))
+    let k_first : c.first_marked-k.result ≡ first_marked (marks_in (at c.args.from)) = rw c.of-list.ensures at c.first_marked-k.ensures in
+    let len_is : c.len.result ≡ length (at c.args.from) = rw c.of-list.ensures at c.len.ensures in
+    rw c.of-list.ensures (omega (arith, k_first, len_is, first_marked-le (marks_in (at c.args.from)), length-map (at c.args.from) (λ s. s.marked)))
 
 pub lower-requires : goal.lower-requires
 lower-requires c =
@@ -52,17 +61,19 @@ lower-requires c =
     let f : FitsSigned w64 c.entry_height.result = search rules in
     let s = c.take_slot-slot.result in
     let height_is : c.entry_height.result ≡ total_height (float_before s.entry []) = c.entry_height.ensures ∙ ap (λ r. total_height (float_before r.entry [])) c.slot.view_is in
-    let sized = (slot-there parts.Deferred c.first_marked-k.result (at parts.Deferred) s (c.self.invariant.sound.slots parts.Deferred) c.take_slot-slot.ensures.was).sized in
+    let was = rw c.of-list.ensures at c.take_slot-slot.ensures.was in
+    let sized = (slot-there c.args.from c.first_marked-k.result (at c.args.from) s (c.self.invariant.sound.slots c.args.from) was).sized in
     record {
-      before = sums-are_rooms at i.heights i.size i.store.spare parts.Deferred c.self.invariant.sound c.self.invariant.places;
+      before = sums-are_rooms at i.heights i.size i.store.spare c.args.from c.self.invariant.sound c.self.invariant.places;
       less = simp to_z-of_z (subst IsRoom (sym height_is) (entry-is_room s.entry sized));
     }
 
 pub float_in-requires : goal.float_in-requires
 float_in-requires c =
     let at = slots_of c.self.inside.store c.self.inside.shelves in
-    let there = slot-there parts.Deferred c.first_marked-k.result (at parts.Deferred) c.take_slot-slot.result (c.self.invariant.sound.slots parts.Deferred) c.take_slot-slot.ensures.was in
-    ap (λ (s : SlotView). is_float s.entry) c.slot.view_is ∙ there.float refl
+    let was = rw c.of-list.ensures at c.take_slot-slot.ensures.was in
+    let there = slot-there c.args.from c.first_marked-k.result (at c.args.from) c.take_slot-slot.result (c.self.invariant.sound.slots c.args.from) was in
+    ap (λ (s : SlotView). is_float s.entry) c.slot.view_is ∙ there.float (waiting-floats c.args.from c.requires)
 
 pub invariant_of-self : goal.invariant_of-self
 invariant_of-self c =
@@ -70,34 +81,41 @@ invariant_of-self c =
     let f : FitsSigned w64 c.entry_height.result = search rules in
     let s = c.take_slot-slot.result in
     let height_is : c.entry_height.result ≡ total_height (float_before s.entry []) = c.entry_height.ensures ∙ ap (λ r. total_height (float_before r.entry [])) c.slot.view_is in
-    let made = taken-out i.store c.take_slot-slot.new.store i.shelves i.heights i.size parts.Deferred c.first_marked-k.result s c.self.invariant c.take_slot-slot.ensures.was c.take_slot-slot.ensures.taken c.take_slot-slot.ensures.spare in
+    let was = rw c.of-list.ensures at c.take_slot-slot.ensures.was in
+    let taken = rw c.of-list.ensures at c.take_slot-slot.ensures.taken in
+    let made = taken-out i.store c.take_slot-slot.new.store i.shelves i.heights i.size c.args.from c.first_marked-k.result s c.self.invariant was taken c.take_slot-slot.ensures.spare in
     let lowered = simp to_z-of_z at c.lower.ensures in
-    let heights = lowered ∙ ap (λ z. with_height parts.Deferred (height_of i.heights parts.Deferred -ℤ z) i.heights) height_is in
+    let heights = lowered ∙ ap (λ z. with_height c.args.from (height_of i.heights c.args.from -ℤ z) i.heights) height_is in
     subst (λ (g : Heights). IsStored c.take_slot-slot.new.store i.shelves g i.size) (sym heights) made.stored
 
 pub returns : goal.returns
 returns c =
     let i = c.self.inside in
     let at = slots_of i.store i.shelves in
-    let ms = marks_in (at parts.Deferred) in
-    let fs = floats_in (at parts.Deferred) in
+    let ms = marks_in (at c.args.from) in
+    let fs = floats_in (at c.args.from) in
     let k = c.first_marked-k.result in
     let s = c.take_slot-slot.result in
     let f = c.float_in.result in
-    let slots = c.self.invariant.sound.slots parts.Deferred in
-    let k_is : k ≡ first_marked ms = c.first_marked-k.ensures in
-    let made = taken-out i.store c.take_slot-slot.new.store i.shelves i.heights i.size parts.Deferred k s c.self.invariant c.take_slot-slot.ensures.was c.take_slot-slot.ensures.taken c.take_slot-slot.ensures.spare in
+    let slots = c.self.invariant.sound.slots c.args.from in
+    let k_is : k ≡ first_marked ms = rw c.of-list.ensures at c.first_marked-k.ensures in
+    let was = rw c.of-list.ensures at c.take_slot-slot.ensures.was in
+    let taken = rw c.of-list.ensures at c.take_slot-slot.ensures.taken in
+    let marks_are : marks_of c.args.from (seen_pool at i.size) ≡ marks_in (at c.args.from) = marks_of-seen c.args.from at i.size c.requires in
+    let floats_are : floats_of c.args.from (seen_pool at i.size).lists ≡ floats_in (at c.args.from) = floats_of-seen c.args.from at in
+    let made = taken-out i.store c.take_slot-slot.new.store i.shelves i.heights i.size c.args.from k s c.self.invariant was taken c.take_slot-slot.ensures.spare in
     let is : s.entry ≡ entries.Float f = ap (λ (r : SlotView). r.entry) (sym c.slot.view_is) ∙ c.float_in.ensures in
-    let there = float-at_slot parts.Deferred k (at parts.Deferred) s f refl slots c.take_slot-slot.ensures.was is in
-    let first = first-marked ms fs f (marks-shown at slots) (ap (slice_get fs) (sym k_is) ∙ there) in
+    let there = float-at_slot c.args.from k (at c.args.from) s f (waiting-floats c.args.from c.requires) slots was is in
+    let left = left-over c.args.from (first_marked ms) (seen_pool at i.size) ms fs c.requires marks_are floats_are in
+    let first = first-marked ms fs f (marks-shown c.args.from at (waiting-floats c.args.from c.requires) slots) (ap (slice_get fs) (sym k_is) ∙ there) in
     let old = c.self.view_is in
-    let seen = made.seen ∙ ap (λ j. without_entry parts.Deferred j (seen_pool at i.size)) k_is in
-    let marked = sym (ap marked_floats old) ∙ first.marked ∙ ap (λ hs. f ∷ hs) (sym (ap marked_floats seen)) in
+    let seen = made.seen ∙ ap (λ j. without_entry c.args.from j (seen_pool at i.size)) k_is in
+    let marked = sym (ap (marked_floats c.args.from) old) ∙ (λ j. marked_among (marks_are j) (floats_are j)) ∙ first.marked ∙ ap (λ hs. f ∷ hs) (sym (ap (marked_floats c.args.from) seen ∙ left.0)) in
     record {
       none = (λ e. cc, λ e. let clash = sym e ∙ marked in cc);
       first = marked;
-      others = ap unmarked_floats seen ∙ first.others ∙ ap unmarked_floats old;
-      rest = seen ∙ ap (λ v. without_entry parts.Deferred (first_marked v.marks) v) old;
+      others = ap (unmarked_floats c.args.from) seen ∙ left.1 ∙ first.others ∙ sym (λ j. unmarked_among (marks_are j) (floats_are j)) ∙ ap (unmarked_floats c.args.from) old;
+      rest = seen ∙ ap (λ ns. without_entry c.args.from (first_marked ns) (seen_pool at i.size)) (sym marks_are) ∙ ap (λ v. without_entry c.args.from (first_marked (marks_of c.args.from v)) v) old;
       unchanged = tt;
       all_unmarked = tt;
     }

@@ -1,11 +1,11 @@
-use Rattle.std.proofs.Common.{◌≡◌, Some, slice_get, refl, sym, ap, ◌∙◌}
+use Rattle.std.proofs.Common.{◌≡◌, Some, slice_get, refl, sym, ap, ◌∙◌, subst}
 use Rattle.std.specs.Prelude.{slice_set}
 use Rattle.std.proofs.lemmas.Option.{slice_get_within}
 use Rattle.tb_pool.specs.Lists.{with_list}
 use Rattle.tb_node.specs.declared.Float.{Float}
 use Rattle.tb_float.specs.declared.Entry.TheVariants as entries
 use Rattle.tb_float.specs.SlotView.{SlotView}
-use Rattle.tb_float.specs.Pool.{marked_floats, with_float_at, with_places}
+use Rattle.tb_float.specs.Pool.{HasNoMarks, with_float_at, with_places}
 use Rattle.tb_float.specs.Stored.{slots_of, shelf_of, is_float}
 use Rattle.tb_float.proofs.PoolLemmas.{float-there, float-is, places-set, same-float}
 use Rattle.tb_float.proofs.MarkLemmas.{unmarked-with_float_at}
@@ -74,4 +74,4 @@ returns-clause-unmarked c = λ none.
     let after = rw (c.of-list.ensures, c.with_places.ensures) at c.replace.ensures.after in
     let written = after ∙ ap (λ (r : SlotView). with_list i.store (shelf_of i.shelves c.args.p) (slice_set (at c.args.p) c.args.k (record { entry = entries.Float (with_places c.args.places f); marked = r.marked }))) c.slot.view_is in
     let made = places-set i.store c.replace.new.self i.shelves i.heights i.size c.args.p c.args.k s f (with_places c.args.places f) c.self.invariant got is refl written c.replace.ensures.spare in
-    ap marked_floats (made.seen ∙ ap (with_float_at c.args.p c.args.k (with_places c.args.places f)) c.self.view_is) ∙ unmarked-with_float_at c.args.p c.args.k (with_places c.args.places f) c.args.self.now none
+    subst HasNoMarks (sym (made.seen ∙ ap (with_float_at c.args.p c.args.k (with_places c.args.places f)) c.self.view_is)) (unmarked-with_float_at c.args.p c.args.k (with_places c.args.places f) c.args.self.now none)

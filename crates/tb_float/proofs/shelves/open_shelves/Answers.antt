@@ -12,4 +12,5 @@ returns c =
     let k6 = opened-one _ c.add_list-6.new.self _ _ k5 c.in_ok-add_list-6.ensures.fresh c.in_ok-add_list-6.ensures.opened in
     let k7 = opened-one _ c.add_list-7.new.self _ _ k6 c.in_ok-add_list-7.ensures.fresh c.in_ok-add_list-7.ensures.opened in
     let k8 = opened-one _ c.add_list-8.new.self _ _ k7 c.in_ok-add_list-8.ensures.fresh c.in_ok-add_list-8.ensures.opened in
-    (shelves-opened c.add_list-8.new.self _ k8, shelves-empty c.add_list-8.new.self _ k8)
+    let k9 = opened-one _ c.add_list-9.new.self _ _ k8 c.in_ok-add_list-9.ensures.fresh c.in_ok-add_list-9.ensures.opened in
+    (shelves-opened c.add_list-9.new.self _ k9, shelves-empty c.add_list-9.new.self _ k9)
