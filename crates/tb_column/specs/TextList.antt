@@ -12,7 +12,7 @@ use Rattle.tb_node.specs.Plain.{Leaf, leaf_of, shape_of}
 use Rattle.tb_node.specs.Sums.{limited_depth}
 use Rattle.tb_param.specs.declared.Params.{Params}
 use Rattle.tb_param.specs.declared.Choice.{Choice}
-use Rattle.tb_column.specs.Column.{is_ragged}
+use Rattle.tb_column.specs.Column.{Notes, is_ragged}
 
 -- ---- what is asked of the lists
 
@@ -70,6 +70,11 @@ CanJoin store body (Some l) = AreNotes store body l
 abbrev pub notes_shown : Lists Node → Option ℕ → Option (List Leaf)
 notes_shown store None = None
 notes_shown store (Some l) = Some (map leaf_of (list_at store l))
+
+-- the same as the insertions of class 254, where there are any
+abbrev pub foot_notes : Params → Option (List Leaf) → List Notes
+foot_notes p None = []
+foot_notes p (Some ns) = record { class = 254; skip = p.skipfootins; inner = ns } ∷ []
 
 -- a node that is made here has line 0
 abbrev pub made_node : Kind → Node

@@ -4,6 +4,7 @@ use Rattle.tb_galley.specs.declared.Leaf.{Leaf}
 use Rattle.tb_galley.specs.declared.Item.{Item}
 use Rattle.tb_galley.specs.declared.ItemKind.{ItemKind}
 use Rattle.tb_galley.specs.declared.ItemKind.TheVariants as items
+use Rattle.tb_galley.specs.declared.ClassLine.{ClassLine}
 use Rattle.tb_galley.specs.declared.Galley.{Galley}
 use Rattle.tb_galley.specs.Grammar.{grammar}
 use Rattle.tb_galley.specs.Print.{printed}
@@ -21,7 +22,7 @@ unnumbered_kind (items.Kern w) = items.Kern w
 unnumbered_kind (items.Penalty p) = items.Penalty p
 unnumbered_kind (items.Mark name) = items.Mark name
 unnumbered_kind (items.Note name) = items.Note name
-unnumbered_kind (items.Foot ls) = items.Foot (map unnumbered_leaf ls)
+unnumbered_kind (items.Foot class ls) = items.Foot class (map unnumbered_leaf ls)
 unnumbered_kind (items.Float f vert) = items.Float (record f { line = 0 }) vert
 unnumbered_kind (items.Margin m vert) = items.Margin (record m { line = 0 }) vert
 unnumbered_kind items.NewPage = items.NewPage
@@ -36,9 +37,13 @@ unnumbered_kind (items.Suppress area) = items.Suppress area
 abbrev pub unnumbered_item : Item → Item
 unnumbered_item i = record { line = 0; kind = unnumbered_kind i.kind }
 
+-- a class without its line
+abbrev pub unnumbered_class : ClassLine → ClassLine
+unnumbered_class c = record c { line = 0 }
+
 -- a galley without its line numbers
 abbrev pub unnumbered : Galley → Galley
-unnumbered g = record { params = g.params; items = map unnumbered_item g.items; end_line = 0 }
+unnumbered g = record { params = g.params; version = g.version; classes = map unnumbered_class g.classes; items = map unnumbered_item g.items; end_line = 0 }
 
 -- the canonical text of the galley spells a galley that differs from it in line numbers alone
 pub record ReadsBack (g : Galley) : Type 0 where

@@ -1,5 +1,5 @@
 -- Galleys whose values lie in their ranges.
-use Rattle.std.specs.Prelude.{◌≡◌, ℕ, ◌+◌, ℤ, pos, neg_ℤ, Bool, true, false, ◌&&◌, ◌||◌, ◌==◌, nat_le, nat_lt, IsTrue, List, [], ◌∷◌, ◌++◌, length}
+use Rattle.std.specs.Prelude.{ℕ, ◌+◌, ℤ, pos, neg_ℤ, Bool, true, not, ◌&&◌, ◌||◌, ◌==◌, nat_le, nat_lt, IsTrue, List, [], ◌∷◌, ◌++◌, length, map}
 use Rattle.std.specs.List.{list_all}
 use Rattle.tb_scaled.specs.Scaled.{max_dimen}
 use Rattle.tb_node.specs.Names.{is_name, is_between}
@@ -8,6 +8,9 @@ use Rattle.tb_node.specs.declared.Margin.{Margin}
 unfoldable pub use Rattle.tb_param.specs.Ranges.{are_params}
 use Rattle.tb_param.specs.Release.{has_second}
 use Rattle.tb_param.specs.Table.{is_within, is_dimen, is_glue}
+use Rattle.tb_param.specs.declared.Params.{Params}
+use Rattle.tb_galley.specs.Values.{is_class_among}
+use Rattle.tb_galley.specs.declared.ClassLine.{ClassLine}
 use Rattle.tb_galley.specs.declared.Leaf.{Leaf}
 use Rattle.tb_galley.specs.declared.LeafKind.{LeafKind}
 use Rattle.tb_galley.specs.declared.LeafKind.TheVariants as leaves
@@ -45,7 +48,7 @@ is_item n (items.Kern w) = is_dimen w
 is_item n (items.Penalty p) = is_within (neg_ℤ (pos 10000)) (pos 10000) p
 is_item n (items.Mark name) = is_name name
 is_item n (items.Note name) = is_name name
-is_item n (items.Foot ls) = list_all (λ l. is_leaf l.kind) ls
+is_item n (items.Foot class ls) = list_all (λ l. is_leaf l.kind) ls
 is_item n (items.Float f vert) = (f.line == n) && is_float f
 is_item n (items.Margin m vert) = (m.line == n) && is_margin m
 is_item n items.NewPage = true
@@ -58,7 +61,7 @@ is_item n (items.Suppress area) = true
 
 -- how many lines of items an item counts for
 abbrev pub weight_of : ItemKind → ℕ
-weight_of (items.Foot ls) = length ls + 2
+weight_of (items.Foot class ls) = length ls + 2
 weight_of _ = 1
 
 -- how many lines of items all count for
@@ -75,7 +78,7 @@ leaf_lines (l ∷ ls) = l.line ∷ leaf_lines ls
 abbrev pub lines_of_item : ℕ → ItemKind → List ℕ
 lines_of_item n (items.Hbox name h d) = n ∷ []
 lines_of_item n (items.Rule name h d) = n ∷ []
-lines_of_item n (items.Foot ls) = leaf_lines ls
+lines_of_item n (items.Foot class ls) = leaf_lines ls
 lines_of_item n (items.Float f vert) = n ∷ []
 lines_of_item n (items.Margin m vert) = n ∷ []
 lines_of_item n _ = []
@@ -90,10 +93,34 @@ abbrev pub rise_from : ℕ → List ℕ → Bool
 rise_from n [] = true
 rise_from n (m ∷ ms) = nat_lt n m && rise_from m ms
 
--- all values lie in their ranges, the release is that of 2015, the items are not too many, and the lines rise
+-- ---- versions and classes
+
+-- a class in its ranges
+abbrev pub is_class : ClassLine → Bool
+is_class c = nat_le c.number 253 && is_within (pos 0) (pos 10000) c.factor && is_size c.limit && is_glue c.skip
+
+-- each class has a greater number than the one before it
+abbrev pub do_classes_rise : List ClassLine → Bool
+do_classes_rise [] = true
+do_classes_rise (c ∷ []) = true
+do_classes_rise (c ∷ d ∷ ds) = nat_lt c.number d.number && do_classes_rise (d ∷ ds)
+
+-- the class of a footnote is 254 or one of these; other items have none
+abbrev pub has_known_class : List ℕ → ItemKind → Bool
+has_known_class ks (items.Foot class ls) = is_class_among ks class
+has_known_class ks _ = true
+
+-- a galley of version 1 declares no class and follows release 2015
+abbrev pub fits_version : ℕ → List ClassLine → Params → Bool
+fits_version version [] p = (version == 1 && not (has_second p)) || version == 2
+fits_version version (c ∷ cs) p = version == 2
+
+-- all values lie in their ranges, the version knows what the galley has, each footnote's class is declared, the items are not too many, and the lines rise
 pub record IsValid (g : Galley) : Type 0 where
   pub params : IsTrue (are_params g.params)
-  pub release : has_second g.params ≡ false
+  pub version : IsTrue (fits_version g.version g.classes g.params)
+  pub classes : IsTrue (list_all is_class g.classes && do_classes_rise g.classes)
   pub items : IsTrue (list_all (λ n. is_item n.line n.kind) g.items)
+  pub feet : IsTrue (list_all (λ n. has_known_class (map (λ c. c.number) g.classes) n.kind) g.items)
   pub count : IsTrue (nat_le (weight g.items) 100000)
   pub lines : IsTrue (rise_from 0 (named_lines g.items ++ g.end_line ∷ []))

@@ -3,18 +3,19 @@ ghost use Rattle.std.specs.Prelude.{◌≡◌};
 ghost use Rattle.tb_galley.specs.Reading.{left_of, Gives, float_left, margin_left, area_left, value_left, set_left, content_left};
 
 use crate::fields::{At, Fields};
-use crate::{Cause, ItemKind, LeafKind, Word};
+use crate::{Cause, ClassLine, ItemKind, LeafKind, Word};
 use tb_node::{Area, Float, Margin};
 use tb_param::{Choice, Field, Form, Value, row};
 
 /// What a content line says.
 #[derive(Drop)]
 pub enum Content {
-    Header,
+    Header { version: u8 },
     Set { field: Field, value: Value },
+    Class(ClassLine),
     Plain(LeafKind),
     Item(ItemKind),
-    Foot,
+    Foot { class: u8 },
     Endfoot,
     End,
 }

@@ -3,7 +3,7 @@ ghost use Rattle.std.specs.Prelude.{◌≡◌, OnOk};
 ghost use Rattle.tb_galley.specs.Grammar.{with_content, with_item, item_kind};
 
 use crate::contents::Content;
-use crate::{Item, ItemKind, Items, Leaf, LeafKind, Leaves};
+use crate::{Classes, Item, ItemKind, Items, Leaf, LeafKind, Leaves};
 use std::alloc::{AllocError, Global};
 use tb_param::Params;
 
@@ -11,6 +11,7 @@ use tb_param::Params;
 #[derive(Drop)]
 pub struct OpenFoot {
     pub line: u32,
+    pub class: u8,
     pub leaves: Leaves,
 }
 
@@ -18,6 +19,8 @@ pub struct OpenFoot {
 #[derive(Drop)]
 pub struct Draft {
     pub params: Params,
+    pub version: u8,
+    pub classes: Classes,
     pub items: Items,
     pub foot: Option<OpenFoot>,
     pub end_line: u32,

@@ -20,7 +20,7 @@ use Rattle.tb_column.specs.Column.{PlainColumn, PlainSent}
 use Rattle.tb_column.specs.Shown.{nodes_shown, column_shown, sent_shown}
 use Rattle.tb_column.specs.TextList.{AreLeaves}
 use Rattle.tb_output.specs.declared.RunFault.{RunFault}
-use Rattle.tb_output.specs.State.{State, no_suppress}
+use Rattle.tb_output.specs.State.{State, no_suppress, foot_class}
 
 -- between two firings: the state of the routine, with the names of its lists, the events that were not taken yet, and the fault that ended the run
 pub record MachineView : Type 0 where
@@ -45,10 +45,11 @@ abbrev pub left_shown : Lists Node → Option Column → Option PlainColumn
 left_shown store None = None
 left_shown store (Some c) = Some (column_shown store c)
 
--- the state that a machine stands for, where the insertion boxes hold this and these nodes wait
+-- the state that a machine of class 254 alone stands for, where the insertion boxes hold this and these nodes wait
 abbrev pub state_shown : Lists Node → List Boxed → List PlainNode → MachineView → State
 state_shown store boxes waiting m = record {
   waiting = waiting;
+  classes = foot_class m.params ∷ [];
   boxes = boxes;
   held_page = nodes_shown store m.held_page;
   floats = m.pool.lists;

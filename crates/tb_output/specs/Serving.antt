@@ -26,8 +26,8 @@ use Rattle.tb_output.specs.Firing.{foot_box}
 -- ---- the page that fired
 
 -- the footnotes in the box of their class
-abbrev pub notes_in : Builder → Lists Node → Option (List Leaf)
-notes_in b store = box_content (contents_of b store).boxes 254
+abbrev pub notes_held : Builder → Lists Node → Option (List Leaf)
+notes_held b store = box_content (contents_of b store).boxes 254
 
 -- the page that fired of a builder, with what the builder holds after it
 abbrev pub fired_in : Builder → Lists Node → Page → Fired
@@ -70,8 +70,8 @@ pub record CanFire (m : MachineView) (b : Builder) (store : Lists Node) (page : 
   pub live : IsLive store page.body
   pub leaves : AreLeaves (list_at store page.body)
   pub sized : All IsSizedNode (list_at store page.body)
-  pub sized_notes : All IsSizedLeaf (content_of (notes_in b store))
-  pub few : length (list_at store page.body) + length (content_of (notes_in b store)) ≤ 8388602
+  pub sized_notes : All IsSizedLeaf (content_of (notes_held b store))
+  pub few : length (list_at store page.body) + length (content_of (notes_held b store)) ≤ 8388602
   pub body_apart : IsNotAmong page.body (machine_lists m)
   pub body_free : AreFree b store (page.body ∷ [])
   pub machine_free : AreFree b store (machine_lists m)
@@ -87,7 +87,7 @@ IsNotesList (Some l) b store new = (get store.lists l ≡ None) × IsLive new l 
 pub record NotesTaken (notes : Option ℕ) (b now : Builder) (store new : Lists Node) : Type 0 where
   pub sound : IsSound now new
   pub contents : contents_of now new ≡ record (contents_of b store) { boxes = foot_box None }
-  pub shown : notes_shown new notes ≡ notes_in b store
+  pub shown : notes_shown new notes ≡ notes_held b store
   pub list : IsNotesList notes now store new
   pub others : (q : ℕ) → IsLive store q → Lacks q (owned (ids_of b) store) → get new.lists q ≡ get store.lists q
   pub free : (q : ℕ) → IsLive store q → Lacks q (owned (ids_of b) store) → Lacks q (owned (ids_of now) new)

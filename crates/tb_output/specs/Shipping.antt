@@ -17,7 +17,7 @@ use Rattle.tb_column.specs.declared.Sheet.TheVariants as sheets
 use Rattle.tb_column.specs.declared.Sent.TheVariants as events
 use Rattle.tb_column.specs.Column.{text_column}
 use Rattle.tb_column.specs.Shown.{nodes_shown, column_shown}
-use Rattle.tb_column.specs.TextList.{made_node, notes_shown}
+use Rattle.tb_column.specs.TextList.{made_node, notes_shown, foot_notes}
 use Rattle.tb_output.specs.declared.RunFault.{RunFault}
 use Rattle.tb_output.specs.declared.RunFault.TheVariants as faults
 use Rattle.tb_output.specs.State.{State, Work, begun, no_suppress}
@@ -62,7 +62,7 @@ shipped_machine c m = record m {
 pub record IsShipped (m now : MachineView) (store new : Lists Node) (body : ℕ) (notes : Option ℕ) : Type 0 where
   pub room : int_lt m.params.maxpages (pos m.page) ≡ false
   pub column : Column
-  pub shown : column_shown new column ≡ text_column m.params no_floats (nodes_shown store body) (notes_shown store notes)
+  pub shown : column_shown new column ≡ text_column m.params no_floats (nodes_shown store body) (foot_notes m.params (notes_shown store notes))
   pub list : column.list ≡ body
   pub share : column.set.den ≢ pos 0
   pub page_list : IsPageList new body
@@ -88,7 +88,7 @@ IsNotShipped faults.Memory m now store new body notes = (now ≡ m) × RestStand
 pub record HasPutOut (l : ℕ) (ns : List Node) (text : List PlainNode) (m now : MachineView) (store new : Lists Node) (body : ℕ) (notes : Option ℕ) : Type 0 where
   pub room : int_lt m.params.maxpages (pos m.page) ≡ false
   pub column : Column
-  pub shown : column_shown new column ≡ text_column m.params no_floats text (notes_shown store notes)
+  pub shown : column_shown new column ≡ text_column m.params no_floats text (foot_notes m.params (notes_shown store notes))
   pub list : column.list ≡ body
   pub share : column.set.den ≢ pos 0
   pub page_list : IsPageList new body

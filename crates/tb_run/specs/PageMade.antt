@@ -7,7 +7,7 @@ use Rattle.tb_insert.specs.Account.{Frozen}
 use Rattle.tb_builder.specs.Reached.{Reach, breakpoints}
 use Rattle.tb_builder.specs.Fired.{Fired, frozen_for, reach_of}
 use Rattle.tb_builder.specs.Contents.{Contents, frozen_of, laid, reach_ahead, reach_whole, places_of}
-use Rattle.tb_output.specs.State.{State, foot_class, ask_of, Recorded, Work}
+use Rattle.tb_output.specs.State.{State, ask_of, Recorded, Work}
 use Rattle.tb_output.specs.Out.{out}
 use Rattle.tb_run.specs.Run.{RunEvent, dead_cycles, page_limit, node_limit, progress, after_events, held_count}
 use Rattle.tb_run.specs.PlainRun.{sent_among, Shown, last, next}
@@ -16,21 +16,21 @@ use Rattle.tb_run.specs.PlainRun.{sent_among, Shown, last, next}
 
 -- between two firings the builder's page is empty, and nothing is held
 abbrev pub between_pages : Params → State → Contents
-between_pages p s = record { classes = foot_class p ∷ []; boxes = s.boxes; page = []; waiting = s.waiting; held = []; frozen = None; stopped = false }
+between_pages p s = record { classes = s.classes; boxes = s.boxes; page = []; waiting = s.waiting; held = []; frozen = None; stopped = false }
 
 -- the acts and places that are reached of what waits
 abbrev pub page_reach : Params → State → Reach
-page_reach p s = reach_of (ask_of p s) (foot_class p ∷ []) s.boxes [] s.waiting
+page_reach p s = reach_of (ask_of p s) s.classes s.boxes [] s.waiting
 
 -- what is frozen of the page at its start
 abbrev pub page_frozen : Params → State → Frozen
-page_frozen p s = frozen_for (ask_of p s) (foot_class p ∷ []) s.boxes
+page_frozen p s = frozen_for (ask_of p s) s.classes s.boxes
 
 -- ---- the builder while a page is filled
 
 -- the boxes, the goal and the classes are still those of the start, and nothing is held
 pub record IsSamePage (p : Params) (s : State) (c : Contents) : Type 0 where
-  pub classes : c.classes ≡ foot_class p ∷ []
+  pub classes : c.classes ≡ s.classes
   pub boxes : c.boxes ≡ s.boxes
   pub held : c.held ≡ []
   pub frozen_so : frozen_of c (ask_of p s) ≡ page_frozen p s

@@ -3,7 +3,7 @@ use Rattle.std.specs.Prelude.{ℕ, List, [], ◌∷◌}
 use Rattle.tb_node.specs.Plain.{PlainNode}
 use Rattle.tb_param.specs.declared.Params.{Params}
 use Rattle.tb_column.specs.Column.{PlainSent}
-use Rattle.tb_output.specs.State.{State, first_state}
+use Rattle.tb_output.specs.State.{State, first_state, foot_class}
 use Rattle.tb_run.specs.Run.{RunEvent, offered, sent, End, Step, ends, goes_on}
 
 -- ---- what a step shows
@@ -27,6 +27,6 @@ step_shown (goes_on es rs s) = next (sent_among es) s
 
 -- between two firings: these nodes wait, this is the next page's number, and so many firings were without a page
 abbrev pub plain_state : Params → List PlainNode → ℕ → ℕ → State
-plain_state p waiting page dead = record (first_state p waiting) { page = page; dead_cycles = dead }
+plain_state p waiting page dead = record (first_state p (foot_class p ∷ []) waiting) { page = page; dead_cycles = dead }
 
 -- ---- a step

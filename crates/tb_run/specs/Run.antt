@@ -3,8 +3,10 @@ use Rattle.std.specs.Prelude.{ℕ, zero, suc, pred, ℤ, pos, nat_abs, ◌+◌, 
 use Rattle.tb_scaled.specs.Scaled.{awful_bad, min_ℤ}
 use Rattle.tb_node.specs.Plain.{PlainNode}
 use Rattle.tb_param.specs.declared.Params.{Params}
+use Rattle.tb_galley.specs.declared.ClassLine.{ClassLine}
 use Rattle.tb_galley.specs.declared.Galley.{Galley}
 use Rattle.tb_galley.specs.Expand.{expanded}
+use Rattle.tb_insert.specs.declared.Class.{Class}
 use Rattle.tb_builder.specs.declared.Try.{Try}
 use Rattle.tb_builder.specs.Reached.{Reached, acted, tried, Reach, try_of}
 use Rattle.tb_builder.specs.Contents.{node_count, box_count}
@@ -75,7 +77,7 @@ after_firing p es rs w =
 -- the firing of a page, where it is allowed
 abbrev pub fire : Params → Reach → Progress → Step
 fire p w q =
-    let fired = after_firing p q.events q.records (out p q.state (fired_of (ask_of p q.state) (foot_class p ∷ []) q.state.boxes w)) in
+    let fired = after_firing p q.events q.records (out p q.state (fired_of (ask_of p q.state) q.state.classes q.state.boxes w)) in
     if int_lt (pos q.state.dead_cycles) p.maxdeadcycles then fired else ends q.events q.records (dead_cycles q.state.dead_cycles)
 
 abbrev pub after_progress : Params → Reach → Progress → Option (ℕ × ℕ) → Step
@@ -86,7 +88,7 @@ abbrev pub step_of : Params → State → Reach → Step
 step_of p s w = let q = progress p w.reached awful_bad s in after_progress p w q q.fault
 
 unfoldable pub step : Params → State → Step
-step p s = step_of p s (reach_of (ask_of p s) (foot_class p ∷ []) s.boxes [] s.waiting)
+step p s = step_of p s (reach_of (ask_of p s) s.classes s.boxes [] s.waiting)
 
 -- ---- the run
 
@@ -112,6 +114,14 @@ run_of_state p s =
     let run = run_from p (suc (firings_left p s)) s in
     if int_lt p.maxnodes (pos (held_count s)) then record { events = []; records = []; end = node_limit (held_count s) } else run
 
+-- a class that a galley declares
+abbrev pub class_of : ClassLine → Class
+class_of c = record { number = c.number; factor = c.factor; limit = c.limit; skip = c.skip }
+
+-- the classes of a galley in rising number, that of the footnotes last
+abbrev pub classes_of : Galley → List Class
+classes_of g = map class_of g.classes ++ foot_class g.params ∷ []
+
 -- the run of a galley
 unfoldable pub run_of : Galley → Run
-run_of g = run_of_state g.params (first_state g.params (expanded g))
+run_of g = run_of_state g.params (first_state g.params (classes_of g) (expanded g))

@@ -13,7 +13,7 @@ worded text word = record { text = text; word = word }
 
 abbrev all_words : List Spelled
 all_words =
-    worded (codes "galley") words.Header ∷ worded (codes "set") words.Setting ∷ worded (codes "box") words.Hbox ∷ worded (codes "rule") words.Rule
+    worded (codes "galley") words.Header ∷ worded (codes "set") words.Setting ∷ worded (codes "class") words.Class ∷ worded (codes "box") words.Hbox ∷ worded (codes "rule") words.Rule
     ∷ worded (codes "glue") words.Skip ∷ worded (codes "kern") words.Kern ∷ worded (codes "penalty") words.Penalty ∷ worded (codes "mark") words.Mark
     ∷ worded (codes "note") words.Note ∷ worded (codes "foot") words.Foot ∷ worded (codes "endfoot") words.Endfoot ∷ worded (codes "float") words.Float
     ∷ worded (codes "margin") words.Margin ∷ worded (codes "newpage") words.Newpage ∷ worded (codes "clearpage") words.Clearpage
