@@ -1,5 +1,5 @@
 -- The page builder loses nothing: what fires, what is held and what is left weigh as much as what was there.
-use Rattle.std.proofs.Common.{◌≡◌, refl, ◌∙◌, ap, ℕ, ◌+◌, ℤ, Bool, true, false, List, [], ◌∷◌, ◌++◌, length, take, drop, Option, Some, None, arith}
+use Rattle.std.proofs.Common.{◌≡◌, refl, ◌∙◌, ap, ℕ, suc, ◌+◌, ℤ, Bool, true, false, List, [], ◌∷◌, ◌++◌, length, map, take, drop, Option, Some, None, arith}
 use Rattle.std.specs.Prelude.{◌==◌, ◌||◌, if◌then◌else◌}
 use Rattle.std.specs.List.{AllByRecursion}
 use Rattle.tb_node.specs.Plain.{Matter, hbox, rule, skip, kerned, pen, mark, note, whatsit, Leaf, Inserted, PlainKind, plain, ins, act, PlainNode, without_acts, without_insertions, on_line}
@@ -140,64 +140,142 @@ held-weight v (l ∷ ls) =
 
 -- ---- the page that fires
 
--- all insertions are of one class
-abbrev pub OfClass : ℕ → PlainKind → Type 0
+-- how often a number stands among others
+abbrev pub hits : ℕ → List ℕ → ℕ
+hits k [] = 0
+hits k (n ∷ ns) = if k == n then suc (hits k ns) else hits k ns
+
+-- the number stands there once
+abbrev pub IsOnce : List ℕ → ℕ → Type 0
+IsOnce ns k = hits k ns ≡ 1
+
+-- the class of each insertion is one of these numbers
+abbrev pub OfClass : List ℕ → PlainKind → Type 0
 OfClass k (plain m) = Unit {0}
-OfClass k (ins i) = i.class ≡ k
+OfClass k (ins i) = IsOnce k i.class
 OfClass k (act a) = Unit {0}
 
-abbrev pub AllOfClass : ℕ → List PlainNode → Type 0
+abbrev pub AllOfClass : List ℕ → List PlainNode → Type 0
 AllOfClass k = AllByRecursion (λ n. OfClass k n.kind)
 
-abbrev pub LabelsOfClass : ℕ → List Labelled → Type 0
-LabelsOfClass k = AllByRecursion (λ l. l.inserted.class ≡ k)
+abbrev pub LabelsOfClass : List ℕ → List Labelled → Type 0
+LabelsOfClass k = AllByRecursion (λ l. IsOnce k l.inserted.class)
 
-pub labels-joined : (k : ℕ) (xs ys : List Labelled) → LabelsOfClass k xs → LabelsOfClass k ys → LabelsOfClass k (xs ++ ys)
+pub labels-joined : (k : List ℕ) (xs ys : List Labelled) → LabelsOfClass k xs → LabelsOfClass k ys → LabelsOfClass k (xs ++ ys)
 labels-joined k [] ys a b = b
 labels-joined k (x ∷ xs) ys a b = (a.0, labels-joined k xs ys a.1 b)
 
-with-class : (k : ℕ) (z : Frozen) (ls : List Labelled) (before : List PlainNode) (line : ℕ) (n : PlainKind) → LabelsOfClass k ls → OfClass k n → LabelsOfClass k (labelled_with z ls before line n)
+with-class : (k : List ℕ) (z : Frozen) (ls : List Labelled) (before : List PlainNode) (line : ℕ) (n : PlainKind) → LabelsOfClass k ls → OfClass k n → LabelsOfClass k (labelled_with z ls before line n)
 with-class k z ls before line (plain m) h c = h
 with-class k z ls before line (ins i) h c = labels-joined k ls (record { index = length before; line = line; inserted = i; label = label_of z ls before i } ∷ []) h (c, tt)
 with-class k z ls before line (act a) h c = h
 
-pub labelled-class : (k : ℕ) (z : Frozen) (ls : List Labelled) (before ns : List PlainNode) → LabelsOfClass k ls → AllOfClass k ns → LabelsOfClass k (labelled_from z ls before ns)
+pub labelled-class : (k : List ℕ) (z : Frozen) (ls : List Labelled) (before ns : List PlainNode) → LabelsOfClass k ls → AllOfClass k ns → LabelsOfClass k (labelled_from z ls before ns)
 labelled-class k z ls before [] h c = h
 labelled-class k z ls before (n ∷ ns) h c = labelled-class k z (labelled_with z ls before n.line n.kind) (before ++ n ∷ []) ns (with-class k z ls before n.line n.kind h c.0) c.1
 
-same_class : (c k : ℕ) → c ≡ k → (c == k) ≡ true
-same_class c k h = grind (arith, h)
+-- what is given to the box of one class
+abbrev pub class_given : Weight → ℕ → List Labelled → ℕ
+class_given v k [] = 0
+class_given v k (l ∷ ls) = (if l.inserted.class == k then leaves_weight v (given_by l.label l.inserted) else 0) + class_given v k ls
 
-given_to-weight : (v : Weight) (k : ℕ) (ls : List Labelled) → LabelsOfClass k ls → leaves_weight v (given_to k ls) ≡ given_weight v ls
-given_to-weight v k [] h = refl
-given_to-weight v k (l ∷ ls) h =
-    let a : leaves_weight v (given_to k ls) ≡ given_weight v ls = given_to-weight v k ls h.1 in
-    let b : leaves_weight v (given_by l.label l.inserted ++ given_to k ls) ≡ leaves_weight v (given_by l.label l.inserted) + leaves_weight v (given_to k ls) = leaves-append v (given_by l.label l.inserted) (given_to k ls) in
-    rw (same_class l.inserted.class k h.0) (omega arith)
+given_to-weight : (v : Weight) (k : ℕ) (ls : List Labelled) → leaves_weight v (given_to k ls) ≡ class_given v k ls
+given_to-weight v k [] = refl
+given_to-weight v k (l ∷ ls) = by_class (given_to-weight v k ls) (l.inserted.class == k)
+  where
+    by_class : leaves_weight v (given_to k ls) ≡ class_given v k ls → (t : Bool) → leaves_weight v (if t then given_by l.label l.inserted ++ given_to k ls else given_to k ls) ≡ (if t then leaves_weight v (given_by l.label l.inserted) else 0) + class_given v k ls
+    by_class a true = leaves-append v (given_by l.label l.inserted) (given_to k ls) ∙ ap (λ n. leaves_weight v (given_by l.label l.inserted) + n) a
+    by_class a false = omega (arith, a)
 
-gives-nothing : (v : Weight) (k : ℕ) (ls : List Labelled) → (is_given k ls ≡ false → given_weight v ls ≡ 0) → (t : Label) (i : Inserted) → (gives t || is_given k ls) ≡ false → leaves_weight v (given_by t i) + given_weight v ls ≡ 0
-gives-nothing v k ls h whole i e = grind (arith, e)
-gives-nothing v k ls h (split f) i e = grind (arith, e)
-gives-nothing v k ls h late i e = let a : given_weight v ls ≡ 0 = h e in omega arith
+gives-nothing : (v : Weight) (t : Label) (i : Inserted) → gives t ≡ false → leaves_weight v (given_by t i) ≡ 0
+gives-nothing v whole i e = grind (arith, e)
+gives-nothing v (split f) i e = grind (arith, e)
+gives-nothing v late i e = refl
 
 -- where nothing is given, what is given weighs nothing
-not-given : (v : Weight) (k : ℕ) (ls : List Labelled) → LabelsOfClass k ls → is_given k ls ≡ false → given_weight v ls ≡ 0
-not-given v k [] h e = refl
-not-given v k (l ∷ ls) h e = gives-nothing v k ls (not-given v k ls h.1) l.label l.inserted (rw (same_class l.inserted.class k h.0) at e)
+not-given : (v : Weight) (k : ℕ) (ls : List Labelled) → is_given k ls ≡ false → class_given v k ls ≡ 0
+not-given v k [] e = refl
+not-given v k (l ∷ ls) e = by_class (l.inserted.class == k) (gives l.label) refl (λ h. not-given v k ls h) e
+  where
+    by_class : (t g : Bool) → gives l.label ≡ g → (is_given k ls ≡ false → class_given v k ls ≡ 0) → ((if t then g else false) || is_given k ls) ≡ false → (if t then leaves_weight v (given_by l.label l.inserted) else 0) + class_given v k ls ≡ 0
+    by_class true true q h e = grind (arith, e)
+    by_class true false q h e =
+        let x : leaves_weight v (given_by l.label l.inserted) ≡ 0 = gives-nothing v l.label l.inserted q in
+        let y : class_given v k ls ≡ 0 = h e in
+        omega arith
+    by_class false g q h e = let y : class_given v k ls ≡ 0 = h e in omega arith
 
 -- what the box of the class holds
 abbrev pub box_weight : Weight → Boxed → ℕ
 box_weight v b = leaves_weight v (content_of b.content)
 
-box_after-weight : (v : Weight) (k : ℕ) (ls : List Labelled) (c : Option (List Leaf)) → LabelsOfClass k ls → box_weight v (box_after ls (record { number = k; content = c })) ≡ leaves_weight v (content_of c) + given_weight v ls
-box_after-weight v k ls c h = by_given (is_given k ls) refl
+box_after-weight : (v : Weight) (ls : List Labelled) (b : Boxed) → box_weight v (box_after ls b) ≡ box_weight v b + class_given v b.number ls
+box_after-weight v ls b = by_given (is_given b.number ls) refl
   where
-    b : Boxed
-    b = record { number = k; content = c }
+    by_given : (t : Bool) → is_given b.number ls ≡ t → box_weight v (if t then record b { content = Some (content_of b.content ++ given_to b.number ls) } else b) ≡ box_weight v b + class_given v b.number ls
+    by_given true e = leaves-append v (content_of b.content) (given_to b.number ls) ∙ ap (λ n. leaves_weight v (content_of b.content) + n) (given_to-weight v b.number ls)
+    by_given false e = let a : class_given v b.number ls ≡ 0 = not-given v b.number ls e in omega arith
 
-    by_given : (t : Bool) → is_given k ls ≡ t → box_weight v (if t then record { number = k; content = Some (content_of c ++ given_to k ls) } else record { number = k; content = c }) ≡ leaves_weight v (content_of c) + given_weight v ls
-    by_given true e = leaves-append v (content_of c) (given_to k ls) ∙ ap (λ n. leaves_weight v (content_of c) + n) (given_to-weight v k ls h)
-    by_given false e = let a : given_weight v ls ≡ 0 = not-given v k ls h e in omega arith
+abbrev pub boxes_weight : Weight → List Boxed → ℕ
+boxes_weight v [] = 0
+boxes_weight v (b ∷ bs) = box_weight v b + boxes_weight v bs
+
+-- the numbers of boxes
+abbrev pub numbers : List Boxed → List ℕ
+numbers bs = map (λ (b : Boxed). b.number) bs
+
+-- what is given to the boxes of these numbers
+abbrev pub all_given : Weight → List ℕ → List Labelled → ℕ
+all_given v [] ls = 0
+all_given v (n ∷ ns) ls = class_given v n ls + all_given v ns ls
+
+boxes_after-weight : (v : Weight) (ls : List Labelled) (bs : List Boxed) → boxes_weight v (map (box_after ls) bs) ≡ boxes_weight v bs + all_given v (numbers bs) ls
+boxes_after-weight v ls [] = refl
+boxes_after-weight v ls (b ∷ bs) =
+    let a : box_weight v (box_after ls b) ≡ box_weight v b + class_given v b.number ls = box_after-weight v ls b in
+    let h : boxes_weight v (map (box_after ls) bs) ≡ boxes_weight v bs + all_given v (numbers bs) ls = boxes_after-weight v ls bs in
+    omega arith
+
+-- a weight at each of the numbers that is the class
+abbrev share : ℕ → ℕ → List ℕ → ℕ
+share k w [] = 0
+share k w (n ∷ ns) = (if k == n then w else 0) + share k w ns
+
+share-none : (k w : ℕ) (ns : List ℕ) → hits k ns ≡ 0 → share k w ns ≡ 0
+share-none k w [] h = refl
+share-none k w (n ∷ ns) h = by_number (share-none k w ns) (k == n) h
+  where
+    by_number : (hits k ns ≡ 0 → share k w ns ≡ 0) → (t : Bool) → (if t then suc (hits k ns) else hits k ns) ≡ 0 → (if t then w else 0) + share k w ns ≡ 0
+    by_number again true e = absurd (omega (arith, e))
+    by_number again false e = let x : share k w ns ≡ 0 = again e in omega arith
+
+share-once : (k w : ℕ) (ns : List ℕ) → IsOnce ns k → share k w ns ≡ w
+share-once k w [] h = absurd (omega (arith, h))
+share-once k w (n ∷ ns) h = by_number (share-once k w ns) (k == n) h
+  where
+    by_number : (IsOnce ns k → share k w ns ≡ w) → (t : Bool) → (if t then suc (hits k ns) else hits k ns) ≡ 1 → (if t then w else 0) + share k w ns ≡ w
+    by_number again true e = let x : share k w ns ≡ 0 = share-none k w ns (omega (arith, e)) in omega arith
+    by_number again false e = let x : share k w ns ≡ w = again e in omega arith
+
+all_given-none : (v : Weight) (ns : List ℕ) → all_given v ns [] ≡ 0
+all_given-none v [] = refl
+all_given-none v (n ∷ ns) = let x : all_given v ns [] ≡ 0 = all_given-none v ns in omega arith
+
+all_given-more : (v : Weight) (ns : List ℕ) (l : Labelled) (ls : List Labelled) → all_given v ns (l ∷ ls) ≡ share l.inserted.class (leaves_weight v (given_by l.label l.inserted)) ns + all_given v ns ls
+all_given-more v [] l ls = refl
+all_given-more v (n ∷ ns) l ls = sums (if l.inserted.class == n then leaves_weight v (given_by l.label l.inserted) else 0) (class_given v n ls) (all_given v ns (l ∷ ls)) (share l.inserted.class (leaves_weight v (given_by l.label l.inserted)) ns) (all_given v ns ls) (all_given-more v ns l ls)
+  where
+    sums : (a b c d e : ℕ) → c ≡ d + e → a + b + c ≡ a + d + (b + e)
+    sums a b c d e h = omega arith
+
+-- each insertion gives to one of the boxes
+given-once : (v : Weight) (ns : List ℕ) (ls : List Labelled) → LabelsOfClass ns ls → all_given v ns ls ≡ given_weight v ls
+given-once v ns [] h = all_given-none v ns
+given-once v ns (l ∷ ls) h =
+    let a : all_given v ns (l ∷ ls) ≡ share l.inserted.class (leaves_weight v (given_by l.label l.inserted)) ns + all_given v ns ls = all_given-more v ns l ls in
+    let b : share l.inserted.class (leaves_weight v (given_by l.label l.inserted)) ns ≡ leaves_weight v (given_by l.label l.inserted) = share-once l.inserted.class (leaves_weight v (given_by l.label l.inserted)) ns h.0 in
+    let c : all_given v ns ls ≡ given_weight v ls = given-once v ns ls h.1 in
+    omega arith
 
 spent-weight : (v : Weight) (ns : List PlainNode) → nodes_weight v (with_spent_break ns) ≡ nodes_weight v ns
 spent-weight v [] = refl
@@ -215,22 +293,19 @@ spent-weight v (n ∷ ns) = by_kind n.line n.kind
     by_kind l (ins i) = refl
     by_kind l (act a) = refl
 
-abbrev pub boxes_weight : Weight → List Boxed → ℕ
-boxes_weight v [] = 0
-boxes_weight v (b ∷ bs) = box_weight v b + boxes_weight v bs
-
 abbrev pub fired_weight : Weight → Fired → ℕ
 fired_weight v f = nodes_weight v f.body + boxes_weight v f.boxes + nodes_weight v f.held + nodes_weight v f.rest
 
--- the page that fires, with one class: its body, its box, what is held and the rest weigh as the box and the list did
-pub fired-weight : (v : Weight) (z : Frozen) (k : ℕ) (c : Option (List Leaf)) (w : Reach) → AllOfClass k (take (page_break w).place w.passed) → fired_weight v (fired_by (labelled z (take (page_break w).place w.passed)) (record { number = k; content = c } ∷ []) w) ≡ leaves_weight v (content_of c) + (nodes_weight v w.passed + nodes_weight v w.beyond)
-fired-weight v z k c w all =
+-- the page that fires: its body, its boxes, what is held and the rest weigh as the boxes and the list did
+pub fired-weight : (v : Weight) (z : Frozen) (bs : List Boxed) (w : Reach) → AllOfClass (numbers bs) (take (page_break w).place w.passed) → fired_weight v (fired_by (labelled z (take (page_break w).place w.passed)) bs w) ≡ boxes_weight v bs + (nodes_weight v w.passed + nodes_weight v w.beyond)
+fired-weight v z bs w all =
     let before = take (page_break w).place w.passed in
     let ls = labelled z before in
     let apart : nodes_weight v (without_insertions before) + inserted_weight v before ≡ nodes_weight v before = insertions-apart v before in
     let labels : labels_weight v ls ≡ 0 + inserted_weight v before = labelled-weight v z [] [] before in
     let held : given_weight v ls + nodes_weight v (held_insertions ls) ≡ labels_weight v ls = held-weight v ls in
-    let box : box_weight v (box_after ls (record { number = k; content = c })) ≡ leaves_weight v (content_of c) + given_weight v ls = box_after-weight v k ls c (labelled-class k z [] [] before tt all) in
+    let box : boxes_weight v (map (box_after ls) bs) ≡ boxes_weight v bs + all_given v (numbers bs) ls = boxes_after-weight v ls bs in
+    let once : all_given v (numbers bs) ls ≡ given_weight v ls = given-once v (numbers bs) ls (labelled-class (numbers bs) z [] [] before tt all) in
     let spent : nodes_weight v (with_spent_break (from_break w)) ≡ nodes_weight v (from_break w) = spent-weight v (from_break w) in
     let rest : nodes_weight v (from_break w) ≡ nodes_weight v (drop (page_break w).place w.passed) + nodes_weight v w.beyond = weight-append v (drop (page_break w).place w.passed) w.beyond in
     let parts : nodes_weight v before + nodes_weight v (drop (page_break w).place w.passed) ≡ nodes_weight v w.passed = weight-split v (page_break w).place w.passed in

@@ -24,9 +24,9 @@ use Rattle.tb_pack.specs.Pack.{packed}
 use Rattle.tb_float.specs.Lists.{no_floats}
 use Rattle.tb_float.specs.Rooms.{column_height_of}
 use Rattle.tb_column.specs.declared.ColumnKind.TheVariants as column_kinds
-use Rattle.tb_column.specs.Column.{notes_below, closing_glue, text_nodes, text_column}
+use Rattle.tb_column.specs.Column.{notes_below, closing_glue, text_nodes, text_column, notes_under_rule}
 use Rattle.tb_column.specs.Shown.{nodes_shown, column_shown}
-use Rattle.tb_column.specs.TextList.{kind_apart, IsApart, is_leaf_kind, AreLeaves, CanJoin, notes_shown, made_node, rule_above, notes_list, closing_by, closed_list, column_list, emptied}
+use Rattle.tb_column.specs.TextList.{kind_apart, IsApart, is_leaf_kind, AreLeaves, CanJoin, notes_shown, made_node, rule_above, notes_list, closing_by, closed_list, column_list, emptied, foot_notes}
 use Rattle.tb_column.proofs.StoreLemmas.{with_list-twice, with_list-same, insert-again, list-get}
 
 -- ---- the store
@@ -196,9 +196,9 @@ inner_apart old body (Some m) can l e = subst (λ q. IsApart q (list_at old body
     named : Some m ≡ Some l → m ≡ l
     named e = cc
 
-notes-held : (held : ℕ → List Node) (p : Params) (old : Lists Node) (body : ℕ) (notes : Option ℕ) → CanJoin old body notes → map (plain_of held) (notes_list p.skipfootins old notes) ≡ notes_below p (notes_shown old notes)
+notes-held : (held : ℕ → List Node) (p : Params) (old : Lists Node) (body : ℕ) (notes : Option ℕ) → CanJoin old body notes → map (plain_of held) (notes_list p.skipfootins old notes) ≡ notes_below p (foot_notes p (notes_shown old notes))
 notes-held held p old body None can = refl
-notes-held held p old body (Some l) can = ap (λ ns. map (plain_of held) (rule_above p.skipfootins) ++ ns) (leaves-held held (list_at old l) can.leaves)
+notes-held held p old body (Some l) can = ap (λ ns. map (plain_of held) (rule_above p.skipfootins) ++ ns) (leaves-held held (list_at old l) can.leaves) ∙ sym (append-nil (notes_under_rule p (map leaf_of (list_at old l))))
 
 -- ---- the column
 
@@ -211,7 +211,7 @@ module _ (old new : Lists Node) (p : Params) (body : ℕ) (notes : Option ℕ) (
   front = list_at old body ++ notes_list p.skipfootins old notes
 
   abbrev texts : List PlainNode
-  texts = text_nodes p no_floats (nodes_shown old body) (notes_shown old notes)
+  texts = text_nodes p no_floats (nodes_shown old body) (foot_notes p (notes_shown old notes))
 
   pub list-made : list_at new body ≡ column_list p old body notes
   list-made = list-emptied old new body notes (column_list p old body notes) can made_lists
@@ -221,7 +221,7 @@ module _ (old new : Lists Node) (p : Params) (body : ℕ) (notes : Option ℕ) (
       map-append (plain_of (list_at new)) (list_at old body) (notes_list p.skipfootins old notes)
       ∙ (λ i. text-held (list_at old) (list_at new) body notes (list-emptied_other old new body notes (column_list p old body notes) made_lists) (list_at old body) apart (inner_apart old body notes can) i
       ++ notes-held (list_at new) p old body notes can i)
-      ∙ sym (append-nil (nodes_shown old body ++ notes_below p (notes_shown old notes)))
+      ∙ sym (append-nil (nodes_shown old body ++ notes_below p (foot_notes p (notes_shown old notes))))
 
   glue-shown : closing_by p.bottom (limited_depth p.maxdepth (map shape_of front)) ≡ closing_glue p texts
   glue-shown = ap (λ ns. closing_by p.bottom (limited_depth p.maxdepth ns)) (sym (shapes-held (list_at new) front) ∙ ap (map node_shape) front-shown)
@@ -232,7 +232,7 @@ module _ (old new : Lists Node) (p : Params) (body : ℕ) (notes : Option ℕ) (
       ∙ map-append (plain_of (list_at new)) front (made_node (kinds.Skip (closing_by p.bottom (limited_depth p.maxdepth (map shape_of front)))) ∷ [])
       ∙ (λ i. front-shown i ++ made (skip (glue-shown i)) ∷ [])
 
-  pub column-made : (s : Set) → s ≡ packed p.textheight p.maxdepth (map shape_of (list_at new body)) → column_shown new (record { kind = column_kinds.Text; list = body; set = s }) ≡ text_column p no_floats (nodes_shown old body) (notes_shown old notes)
+  pub column-made : (s : Set) → s ≡ packed p.textheight p.maxdepth (map shape_of (list_at new body)) → column_shown new (record { kind = column_kinds.Text; list = body; set = s }) ≡ text_column p no_floats (nodes_shown old body) (foot_notes p (notes_shown old notes))
   column-made s e =
       let sized : map shape_of (list_at new body) ≡ map node_shape (texts ++ made (skip (closing_glue p texts)) ∷ []) =
       sym (shapes-held (list_at new) (list_at new body)) ∙ ap (map node_shape) nodes-made in

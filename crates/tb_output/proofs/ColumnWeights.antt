@@ -1,19 +1,18 @@
 -- What columns and companies of floats weigh.
 use Rattle.std.proofs.Common.{◌≡◌, refl, ℕ, ◌+◌, Bool, true, false, List, [], ◌∷◌, ◌++◌, map, Option, Some, None, arith}
-use Rattle.std.specs.Prelude.{ℤ, ◌&&◌, if◌then◌else◌}
+use Rattle.std.specs.Prelude.{ℤ, ◌==◌, ◌&&◌, if◌then◌else◌}
 use Rattle.tb_scaled.specs.declared.Glue.{Glue}
 use Rattle.tb_scaled.specs.Glue.{negated_glue}
 use Rattle.tb_node.specs.declared.Float.{Float}
 use Rattle.tb_node.specs.declared.Where.{Where}
 use Rattle.tb_node.specs.declared.Where.TheVariants as places
-use Rattle.tb_node.specs.Plain.{Leaf, leaf_node, PlainNode, made, skip}
+use Rattle.tb_node.specs.Plain.{leaf_node, PlainNode, made, skip}
 use Rattle.tb_node.proofs.Weights.{Weight, leaves_weight, nodes_weight, weight-append, leaf_nodes-weight}
 use Rattle.tb_param.specs.declared.Params.{Params}
-use Rattle.tb_builder.specs.Fired.{content_of}
 use Rattle.tb_float.specs.Lists.{FloatLists}
 use Rattle.tb_fpage.specs.declared.Wanted.{Wanted}
 use Rattle.tb_fpage.specs.Company.{Choice, passed_over, joins, choices_from, company_of_head, is_head, is_made, company_from, company, chosen_floats, left_floats}
-use Rattle.tb_column.specs.Column.{floats_with, floats_above, floats_below, notes_below, text_nodes, closing_glue, text_column, floats_after, floats_column}
+use Rattle.tb_column.specs.Column.{Notes, floats_with, floats_above, floats_below, notes_under_rule, class_below, notes_below, text_nodes, closing_glue, text_column, floats_after, floats_column}
 use Rattle.tb_output.proofs.StateWeights.{floats_weight, floats-append}
 
 -- ---- columns
@@ -36,11 +35,27 @@ floats_below-weight v place sep first (f ∷ fs) =
     let e : nodes_weight v (floats_with place sep (f ∷ fs) ++ made (skip (negated_glue sep)) ∷ []) ≡ nodes_weight v (floats_with place sep (f ∷ fs)) + 0 = weight-append v (floats_with place sep (f ∷ fs)) (made (skip (negated_glue sep)) ∷ []) in
     omega arith
 
-notes_below-weight : (v : Weight) (p : Params) (o : Option (List Leaf)) → nodes_weight v (notes_below p o) ≡ leaves_weight v (content_of o)
-notes_below-weight v p None = refl
-notes_below-weight v p (Some ls) = let h : nodes_weight v (map leaf_node ls) ≡ leaves_weight v ls = leaf_nodes-weight v ls in omega arith
+-- what class boxes held
+abbrev pub notes_weight : Weight → List Notes → ℕ
+notes_weight v [] = 0
+notes_weight v (n ∷ ns) = leaves_weight v n.inner + notes_weight v ns
 
-pub text_column-weight : (v : Weight) (p : Params) (l : FloatLists) (body : List PlainNode) (notes : Option (List Leaf)) → nodes_weight v (text_column p l body notes).nodes ≡ floats_weight v l.top + nodes_weight v body + leaves_weight v (content_of notes) + floats_weight v l.bottom
+class_below-weight : (v : Weight) (p : Params) (n : Notes) → nodes_weight v (class_below p n) ≡ leaves_weight v n.inner
+class_below-weight v p n = by_class (n.class == 254)
+  where
+    by_class : (t : Bool) → nodes_weight v (if t then notes_under_rule p n.inner else made (skip n.skip) ∷ map leaf_node n.inner) ≡ leaves_weight v n.inner
+    by_class true = let h : nodes_weight v (map leaf_node n.inner) ≡ leaves_weight v n.inner = leaf_nodes-weight v n.inner in omega arith
+    by_class false = let h : nodes_weight v (map leaf_node n.inner) ≡ leaves_weight v n.inner = leaf_nodes-weight v n.inner in omega arith
+
+notes_below-weight : (v : Weight) (p : Params) (ns : List Notes) → nodes_weight v (notes_below p ns) ≡ notes_weight v ns
+notes_below-weight v p [] = refl
+notes_below-weight v p (n ∷ ns) =
+    let a : nodes_weight v (class_below p n ++ notes_below p ns) ≡ nodes_weight v (class_below p n) + nodes_weight v (notes_below p ns) = weight-append v (class_below p n) (notes_below p ns) in
+    let b : nodes_weight v (class_below p n) ≡ leaves_weight v n.inner = class_below-weight v p n in
+    let h : nodes_weight v (notes_below p ns) ≡ notes_weight v ns = notes_below-weight v p ns in
+    omega arith
+
+pub text_column-weight : (v : Weight) (p : Params) (l : FloatLists) (body : List PlainNode) (notes : List Notes) → nodes_weight v (text_column p l body notes).nodes ≡ floats_weight v l.top + nodes_weight v body + notes_weight v notes + floats_weight v l.bottom
 text_column-weight v p l body notes =
     let tops = floats_above places.Top p.floatsep p.textfloatsep l.top in
     let bottoms = floats_below places.Bottom p.floatsep p.textfloatsep l.bottom in
@@ -50,7 +65,7 @@ text_column-weight v p l body notes =
     let c : nodes_weight v (tops ++ body) ≡ nodes_weight v tops + nodes_weight v body = weight-append v tops body in
     let t : nodes_weight v tops ≡ floats_weight v l.top = floats_above-weight v places.Top p.floatsep p.textfloatsep l.top in
     let u : nodes_weight v bottoms ≡ floats_weight v l.bottom = floats_below-weight v places.Bottom p.floatsep p.textfloatsep l.bottom in
-    let n : nodes_weight v (notes_below p notes) ≡ leaves_weight v (content_of notes) = notes_below-weight v p notes in
+    let n : nodes_weight v (notes_below p notes) ≡ notes_weight v notes = notes_below-weight v p notes in
     omega arith
 
 floats_after-weight : (v : Weight) (sep : Glue) (fs : List Float) → nodes_weight v (floats_after sep fs) ≡ floats_weight v fs

@@ -12,7 +12,7 @@ use Rattle.tb_column.specs.declared.Sheet.TheVariants as sheets
 use Rattle.tb_column.specs.declared.Sent.TheVariants as events
 use Rattle.tb_column.specs.Column.{PlainSent, one, shipped, text_column}
 use Rattle.tb_column.specs.Shown.{sent_shown}
-use Rattle.tb_column.specs.TextList.{AreLeaves, notes_shown}
+use Rattle.tb_column.specs.TextList.{AreLeaves, notes_shown, foot_notes}
 use Rattle.tb_output.specs.State.{Work}
 use Rattle.tb_output.specs.Machine.{MachineView, events_shown, machine_lists, IsNotAmong, IsPageList, IsPageColumn, IsMachine, IsFloatless}
 use Rattle.tb_output.specs.Firing.{foot_box, AreTextLists, IsPutBack, OthersStand}
@@ -87,7 +87,7 @@ module _ (m : MachineView) (store new : Lists Node) (most body : ℕ) (notes : O
     })
 
     abbrev page_sent : List PlainSent
-    page_sent = shipped m.page (one (text_column m.params no_floats text (notes_shown store notes))) ∷ []
+    page_sent = shipped m.page (one (text_column m.params no_floats text (foot_notes m.params (notes_shown store notes)))) ∷ []
 
     sent-is : events_shown new (shipped_machine h.column m).events ≡ events_shown store m.events ++ page_sent
     sent-is =

@@ -11,7 +11,8 @@ use Rattle.tb_builder.specs.Fired.{Boxed, Fired}
 use Rattle.tb_float.specs.Lists.{no_floats}
 use Rattle.tb_float.specs.Rooms.{column_room_of}
 use Rattle.tb_column.specs.Column.{one, text_column, PlainSent, shipped}
-use Rattle.tb_output.specs.State.{output, State, first_state, Work, begun, records_also, puts}
+use Rattle.tb_column.specs.TextList.{foot_notes}
+use Rattle.tb_output.specs.State.{output, State, foot_class, first_state, notes_in, Work, begun, records_also, puts}
 use Rattle.tb_output.specs.Ship.{after_column, ship_now}
 use Rattle.tb_output.specs.Columns.{ordinary, fill_column, all_float_columns, without_column_floats}
 use Rattle.tb_output.specs.Clear.{clear_again, cleared_front, clear}
@@ -21,7 +22,7 @@ use Rattle.tb_output.specs.Shipping.{output_work}
 
 -- the state with these boxes, this number of the next page, and so many firings since a page was shipped
 abbrev pub bare_state : Params → List Boxed → ℕ → ℕ → State
-bare_state p boxes page dead = record (first_state p []) { boxes = boxes; page = page; dead_cycles = dead }
+bare_state p boxes page dead = record (first_state p (foot_class p ∷ []) []) { boxes = boxes; page = page; dead_cycles = dead }
 
 -- the work went through: what it put back and sent, and the state after it
 pub record IsDone (w : Work) (back : List PlainNode) (es : List PlainSent) (s : State) : Type 0 where
@@ -73,6 +74,11 @@ goal-is p n w h e =
     room : column_room_of p w.state.floats ≡ p.textheight
     room = ap (column_room_of p) e ∙ room-is p.textheight
 
+-- the footnotes in the one box
+foot-notes : (p : Params) (notes : Option (List Leaf)) → notes_in (foot_class p ∷ []) (foot_box notes) ≡ foot_notes p notes
+foot-notes p None = refl
+foot-notes p (Some ls) = refl
+
 module _ (p : Params) (body : List PlainNode) (notes : Option (List Leaf)) (q : ℤ) (page dead : ℕ) where
   abbrev f : Fired
   f = fired_page body notes q
@@ -86,7 +92,7 @@ module _ (p : Params) (body : List PlainNode) (notes : Option (List Leaf)) (q : 
   -- a page of this text is put out, unless as many as there may be were
   abbrev put_out_work : Bool → List PlainNode → Work
   put_out_work full text =
-      let c = text_column p no_floats text notes in
+      let c = text_column p no_floats text (notes_in (foot_class p ∷ []) (foot_box notes)) in
       let w = records_also (output c) (without_column_floats begins_with) in
       after_column (if full then record w { refused = true } else ship_now (one c) w)
 
@@ -105,10 +111,10 @@ module _ (p : Params) (body : List PlainNode) (notes : Option (List Leaf)) (q : 
 
   -- an ordinary page is shipped
   pub page-shipped : int_le eject_penalty q ≡ true → int_lt p.maxpages (pos page) ≡ false
-      → IsDone (output_work p before f) [] (shipped page (one (text_column p no_floats body notes)) ∷ []) (bare_state p (foot_box None) (page + 1) 0)
+      → IsDone (output_work p before f) [] (shipped page (one (text_column p no_floats body (foot_notes p notes))) ∷ []) (bare_state p (foot_box None) (page + 1) 0)
   page-shipped h room =
-      subst (λ w. IsDone w [] (shipped page (one (text_column p no_floats body notes)) ∷ []) (bare_state p (foot_box None) (page + 1) 0)) (sym (page-is h ∙ ap page_done room))
-      (record { served = refl; put_back = refl; sent = refl; state = refl })
+      subst (λ w. IsDone w [] (shipped page (one (text_column p no_floats body (foot_notes p notes))) ∷ []) (bare_state p (foot_box None) (page + 1) 0)) (sym (page-is h ∙ ap page_done room))
+      (record { served = refl; put_back = refl; sent = ap (λ ns. shipped page (one (text_column p no_floats body ns)) ∷ []) (foot-notes p notes); state = refl })
 
   pub page-stopped : int_le eject_penalty q ≡ true → int_lt p.maxpages (pos page) ≡ true → IsStopped (output_work p before f) page
   page-stopped h full = subst (λ w. IsStopped w page) (sym (page-is h ∙ ap page_done full)) (record { refused = refl; sent = refl; page = refl })
@@ -144,9 +150,9 @@ module _ (p : Params) (body : List PlainNode) (notes : List Leaf) (q : ℤ) (pag
       ∙ goal-is p q (puts clear_again (put_out_work p body (Some notes) q page dead (int_lt p.maxpages (pos page)) text)) low (by-test (int_lt p.maxpages (pos page)))
 
   pub clear-shipped : int_lt p.maxpages (pos page) ≡ false
-      → IsDone (output_work p (bare_state p (foot_box None) page dead) (fired_page body (Some notes) q)) clear_again (shipped page (one (text_column p no_floats text (Some notes))) ∷ []) (bare_state p (foot_box None) (page + 1) 0)
+      → IsDone (output_work p (bare_state p (foot_box None) page dead) (fired_page body (Some notes) q)) clear_again (shipped page (one (text_column p no_floats text (foot_notes p (Some notes)))) ∷ []) (bare_state p (foot_box None) (page + 1) 0)
   clear-shipped room =
-      subst (λ w. IsDone w clear_again (shipped page (one (text_column p no_floats text (Some notes))) ∷ []) (bare_state p (foot_box None) (page + 1) 0)) (sym (clear-notes-is ∙ ap clear_done room))
+      subst (λ w. IsDone w clear_again (shipped page (one (text_column p no_floats text (foot_notes p (Some notes)))) ∷ []) (bare_state p (foot_box None) (page + 1) 0)) (sym (clear-notes-is ∙ ap clear_done room))
       (record { served = refl; put_back = refl; sent = refl; state = refl })
 
   pub clear-stopped : int_lt p.maxpages (pos page) ≡ true → IsStopped (output_work p (bare_state p (foot_box None) page dead) (fired_page body (Some notes) q)) page

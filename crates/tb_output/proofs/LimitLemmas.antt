@@ -6,7 +6,7 @@ use Rattle.tb_node.specs.declared.Float.{Float}
 use Rattle.tb_node.specs.declared.Margin.{Margin}
 use Rattle.tb_node.specs.declared.Where.{Where}
 use Rattle.tb_node.specs.declared.Where.TheVariants as places
-use Rattle.tb_node.specs.Plain.{Leaf, PlainNode, made, blank_box, skip}
+use Rattle.tb_node.specs.Plain.{PlainNode, made, blank_box, skip}
 use Rattle.tb_scaled.specs.Glue.{filling_glue}
 use Rattle.tb_scaled.specs.Scaled.{eject_penalty, max_dimen}
 use Rattle.tb_param.specs.declared.Params.{Params}
@@ -22,7 +22,7 @@ use Rattle.tb_area.specs.Area.{next_place, double_place, current_place}
 use Rattle.tb_area.specs.Laws.{KeepsLimits}
 use Rattle.tb_area.proofs.LawLemmas.{current-laws, next-laws, double-laws}
 use Rattle.tb_margin.specs.declared.Placed.{Placed}
-use Rattle.tb_column.specs.Column.{PlainColumn, PlainSheet, PlainSent, warned, one, pair_sheet}
+use Rattle.tb_column.specs.Column.{Notes, PlainColumn, PlainSheet, PlainSent, warned, one, pair_sheet}
 use Rattle.tb_column.specs.declared.Warn.TheVariants as warnings
 use Rattle.tb_output.specs.State.{State, Work, Recorded, placed, output, emptied, begun, puts, sends, records_also, with_floats, footnotes, has_floats}
 use Rattle.tb_output.specs.Place
@@ -234,9 +234,9 @@ clear_floats-keeps p body w =
     (joined p a b (Clear.clear_rest c) (float_columns-keeps p true (length a.state.floats.deferred) a)
     (joined p b c (Clear.clear_rest c) (clear_wide-keeps p b) (keeps_if p c (has_floats c.state.floats.deferred || has_floats c.state.floats.second) (puts Clear.clear_again c) c (same refl) (same refl))))
 
-clear_by-keeps : (p : Params) (body : List PlainNode) (w : Work) (o : Option (List Leaf)) → Keeps p w (Clear.clear_by p body w o)
-clear_by-keeps p body w None = clear_floats-keeps p body w
-clear_by-keeps p body w (Some notes) =
+clear_by-keeps : (p : Params) (body : List PlainNode) (w : Work) (o : List Notes) → Keeps p w (Clear.clear_by p body w o)
+clear_by-keeps p body w [] = clear_floats-keeps p body w
+clear_by-keeps p body w (n ∷ notes) =
     let a = Columns.put_out_text p (body ++ made (skip filling_glue) ∷ []) w in
     joined p w a (puts Clear.clear_again a) (put_out_text-keeps p _ w) (same refl)
 

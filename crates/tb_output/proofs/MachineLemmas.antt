@@ -25,7 +25,7 @@ use Rattle.tb_column.specs.Shown.{nodes_shown}
 use Rattle.tb_column.specs.TextList.{AreLeaves}
 use Rattle.tb_column.proofs.StoreLemmas.{list-get}
 use Rattle.tb_output.specs.declared.RunFault.{RunFault}
-use Rattle.tb_output.specs.State.{first_state, no_suppress}
+use Rattle.tb_output.specs.State.{first_state, foot_class, no_suppress}
 use Rattle.tb_output.specs.Machine.{MachineView, state_shown, left_shown, sheet_lists, sent_lists, event_lists, left_lists, machine_lists, IsNotAmong, AreDistinct, IsPageList, IsPageColumn, IsPageSheet, IsPageSent, IsPageLeft, AreOutputParams, IsMachine, IsFloatless}
 use Rattle.tb_output.specs.Firing.{foot_box, IsNotNotes, AreNotesApart, OthersStand}
 use Rattle.tb_output.specs.Shipping.{shipped_machine}
@@ -62,7 +62,7 @@ empty-list store l live e = record {
 
 -- what stands at the beginning
 pub record Begins (p : Params) (m : MachineView) (store : Lists Node) : Type 0 where
-  pub state : (waiting : List PlainNode) → state_shown store (foot_box None) waiting m ≡ first_state p waiting
+  pub state : (waiting : List PlainNode) → state_shown store (foot_box None) waiting m ≡ first_state p (foot_class p ∷ []) waiting
   pub machine : IsMachine m store
   pub floatless : IsFloatless m store
 
@@ -70,6 +70,7 @@ pub new-begins : (p : Params) (store new : Lists Node) (l : ℕ) (pool : FloatPo
 new-begins p store new l pool es s ok floats size none quiet opened = record {
   state = λ waiting i. record {
     waiting = waiting;
+    classes = foot_class p ∷ [];
     boxes = foot_box None;
     held_page = held i;
     floats = floats i;
@@ -115,6 +116,7 @@ new-begins p store new l pool es s ok floats size none quiet opened = record {
 pub state-is : (m : MachineView) (store : Lists Node) (boxes : List Boxed) → IsFloatless m store → state_shown store boxes [] m ≡ bare_state m.params boxes m.page m.dead_cycles
 state-is m store boxes h = λ i. record {
   waiting = [];
+  classes = foot_class m.params ∷ [];
   boxes = boxes;
   held_page = held i;
   floats = h.floats i;

@@ -20,7 +20,7 @@ use Rattle.tb_builder.proofs.OwnedLemmas.{AllSame}
 use Rattle.tb_builder.proofs.FrameLemmas.{live_all_same, frame_owned, frame_contents, frame_sound, fresh_apart}
 use Rattle.tb_column.specs.TextList.{is_leaf_kind, AreLeaves}
 use Rattle.tb_output.specs.Firing.{foot_box}
-use Rattle.tb_output.specs.Serving.{notes_in, HasOnlyNotes, NotesTaken}
+use Rattle.tb_output.specs.Serving.{notes_held, HasOnlyNotes, NotesTaken}
 use Rattle.tb_output.proofs.MachineLemmas.{not-new}
 
 -- ---- the box of the footnotes
@@ -66,7 +66,7 @@ plain-leaves (n ∷ ns) h = (plain-leaf n.kind h.0, plain-leaves ns h.1)
 
 -- ---- the box is void
 
-pub none-taken : (b : Builder) (store : Lists Node) → IsSound b store → HasOnlyNotes (contents_of b store).boxes → true ≡ is_none (notes_in b store) → NotesTaken None b b store store
+pub none-taken : (b : Builder) (store : Lists Node) → IsSound b store → HasOnlyNotes (contents_of b store).boxes → true ≡ is_none (notes_held b store) → NotesTaken None b b store store
 none-taken b store sound only void = record {
   sound = sound;
   contents = λ i. record (contents_of b store) { boxes = (only ∙ ap foot_box none) i };
@@ -76,8 +76,8 @@ none-taken b store sound only void = record {
   free = λ q live lacks. lacks;
 }
   where
-    none : notes_in b store ≡ None
-    none = none-is (notes_in b store) (sym void)
+    none : notes_held b store ≡ None
+    none = none-is (notes_held b store) (sym void)
 
 -- ---- a list was opened for them
 
@@ -110,13 +110,13 @@ module _ (b : Builder) (store mid : Lists Node) (l : ℕ) (sound : IsSound b sto
   opened-apart = subst (Lacks l) (sym opened-owned) (fresh_apart (ids_of b) store l sound.own fresh)
 
   -- they were taken
-  module _ (d : Builder) (new : Lists Node) (only : HasOnlyNotes (contents_of b store).boxes) (full : false ≡ is_none (notes_in b store)) where
-    pub some-taken : IsSound d new → contents_of d new ≡ record (contents_of b mid) { boxes = with_void 254 (contents_of b mid).boxes } → Taken mid new l (notes_in b mid)
+  module _ (d : Builder) (new : Lists Node) (only : HasOnlyNotes (contents_of b store).boxes) (full : false ≡ is_none (notes_held b store)) where
+    pub some-taken : IsSound d new → contents_of d new ≡ record (contents_of b mid) { boxes = with_void 254 (contents_of b mid).boxes } → Taken mid new l (notes_held b mid)
         → ((q : ℕ) → q ≢ l → Lacks q (owned (ids_of b) mid) → get new.lists q ≡ get mid.lists q) → ((q : ℕ) → Lacks q (owned (ids_of b) mid) → Lacks q (owned (ids_of d) new)) → NotesTaken (Some l) b d store new
     some-taken after contents taken others keeps = record {
       sound = after;
       contents = contents ∙ (λ i. record (opened-contents i) { boxes = with_void 254 (opened-contents i).boxes }) ∙ (λ i. record (contents_of b store) { boxes = with_void 254 (only i) });
-      shown = some-is (notes_in b store) (map leaf_of (list_at new l)) (sym full) leaves;
+      shown = some-is (notes_held b store) (map leaf_of (list_at new l)) (sym full) leaves;
       list = (fresh, taken.live, plain-leaves (list_at new l) (subst AllPlain (sym joined) taken.plain_nodes), keeps l opened-apart);
       others = λ q live lacks. others q (λ e. not-new store l q fresh live (sym e)) (subst (Lacks q) (sym opened-owned) lacks) ∙ opened-stands q live;
       free = λ q live lacks. keeps q (subst (Lacks q) (sym opened-owned) lacks);
@@ -125,5 +125,5 @@ module _ (b : Builder) (store mid : Lists Node) (l : ℕ) (sound : IsSound b sto
         joined : list_at new l ≡ taken.nodes
         joined = taken.joined ∙ ap (λ (ns : List Node). ns ++ taken.nodes) (list_same store mid l [] opened)
 
-        leaves : map leaf_of (list_at new l) ≡ content_of (notes_in b store)
+        leaves : map leaf_of (list_at new l) ≡ content_of (notes_held b store)
         leaves = ap (map leaf_of) joined ∙ taken.leaves ∙ ap (λ (c : Contents). content_of (box_content c.boxes 254)) opened-contents

@@ -12,7 +12,7 @@ use Rattle.tb_node.specs.Fit.{IsSizedNode}
 use Rattle.tb_float.specs.Lists.{no_floats}
 use Rattle.tb_column.specs.Column.{text_column}
 use Rattle.tb_column.specs.Shown.{nodes_shown}
-use Rattle.tb_column.specs.TextList.{AreLeaves, CanJoin, notes_shown}
+use Rattle.tb_column.specs.TextList.{AreLeaves, CanJoin, notes_shown, foot_notes}
 use Rattle.tb_column.proofs.ColumnLemmas.{leaves-apart}
 use Rattle.tb_column.proofs.StoreLemmas.{list-get, live-get}
 use Rattle.tb_output.specs.declared.RunFault.{RunFault}
@@ -137,7 +137,7 @@ module _ (m : MachineView) (store mid : Lists Node) (l body : ℕ) (notes : Opti
     has-put-out text e h = record {
       room = h.room;
       column = h.column;
-      shown = h.shown ∙ (λ i. text_column m.params no_floats (e i) (notes-show store mid notes notes-are i));
+      shown = h.shown ∙ (λ i. text_column m.params no_floats (e i) (foot_notes m.params (notes-show store mid notes notes-are i)));
       list = h.list;
       share = h.share;
       page_list = h.page_list;

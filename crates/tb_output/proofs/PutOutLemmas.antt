@@ -17,7 +17,7 @@ use Rattle.tb_float.specs.Lists.{no_floats}
 use Rattle.tb_column.specs.declared.Column.{Column}
 use Rattle.tb_column.specs.Column.{text_column}
 use Rattle.tb_column.specs.Shown.{nodes_shown, column_shown}
-use Rattle.tb_column.specs.TextList.{IsApart, AreLeaves, CanJoin, notes_shown, rule_above, notes_list, closed_list, column_list, emptied}
+use Rattle.tb_column.specs.TextList.{IsApart, AreLeaves, CanJoin, notes_shown, rule_above, notes_list, closed_list, column_list, emptied, foot_notes}
 use Rattle.tb_column.proofs.ColumnLemmas.{leaves-apart}
 use Rattle.tb_column.proofs.FitsColumn.{AreSizedNotes, note_count, closed_sized, column_nodes_fit, column_sums_fit}
 use Rattle.tb_output.specs.Machine.{MachineView, IsPageList, IsMachine}
@@ -158,7 +158,7 @@ module _ (m : MachineView) (store : Lists Node) (body : ℕ) (notes : Option ℕ
       column-stands : (c : Column) → c.list ≡ body → column_shown new c ≡ column_shown mid c
       column-stands c e = ap (λ ns. record { kind = c.kind; nodes = ns; set = c.set }) (ap (nodes_shown new) e ∙ nodes-stand mid new body body-stands mid-leaves ∙ ap (nodes_shown mid) (sym e))
 
-      pub was-shipped : (now : MachineView) (c : Column) → int_lt m.params.maxpages (pos m.page) ≡ false → column_shown mid c ≡ text_column m.params no_floats (nodes_shown store body) (notes_shown store notes) → c.list ≡ body → c.set.den ≢ pos 0 → now ≡ shipped_machine c m
+      pub was-shipped : (now : MachineView) (c : Column) → int_lt m.params.maxpages (pos m.page) ≡ false → column_shown mid c ≡ text_column m.params no_floats (nodes_shown store body) (foot_notes m.params (notes_shown store notes)) → c.list ≡ body → c.set.den ≢ pos 0 → now ≡ shipped_machine c m
           → IsShipped m now store new body notes
       was-shipped now c room shown e share ship = record {
         room = room;

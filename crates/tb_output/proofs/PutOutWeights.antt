@@ -1,31 +1,33 @@
 -- Putting out pages and columns loses nothing.
-use Rattle.std.proofs.Common.{◌≡◌, refl, sym, ap, subst, ℕ, zero, suc, pos, ◌+◌, Bool, true, false, List, [], ◌∷◌, ◌++◌, length, Option, Some, None, arith}
+use Rattle.std.proofs.Common.{◌≡◌, refl, sym, ◌∙◌, ap, subst, ℕ, zero, suc, pos, ◌+◌, Bool, true, false, List, [], ◌∷◌, ◌++◌, length, Option, Some, None, arith}
 use Rattle.std.specs.Prelude.{◌==◌, int_lt, not, if◌then◌else◌}
 use Rattle.tb_node.specs.declared.Float.{Float}
 use Rattle.tb_node.specs.declared.Where.TheVariants as places
 use Rattle.tb_node.specs.Plain.{Leaf, PlainNode}
+use Rattle.std.proofs.lemmas.Bool.{eq-eqb}
 use Rattle.tb_node.proofs.Weights.{Weight, leaves_weight, nodes_weight}
 use Rattle.tb_param.specs.declared.Params.{Params}
+use Rattle.tb_insert.specs.declared.Class.{Class}
 use Rattle.tb_builder.specs.Fired.{Boxed, content_of, box_content}
-use Rattle.tb_builder.proofs.PageWeights.{boxes_weight}
+use Rattle.tb_builder.proofs.PageWeights.{boxes_weight, hits}
 use Rattle.tb_float.specs.declared.Part.{Part}
 use Rattle.tb_float.specs.declared.Part.TheVariants as parts
 use Rattle.tb_float.specs.Lists.{FloatLists, floats_of, with_floats_of, IsWaiting, wide_part, wide_waiting, with_wide_waiting}
 use Rattle.tb_float.proofs.WaitingLemmas.{wide-waits}
 use Rattle.tb_float.specs.Rooms.{column_height_of}
 use Rattle.tb_fpage.specs.Company.{Choice, company, chosen_floats, left_floats}
-use Rattle.tb_column.specs.Column.{PlainColumn, PlainSheet, shipped, one, wide, floats_above, text_column, pair_sheet, single_floats_column, wide_floats_column}
-use Rattle.tb_output.specs.State.{Work, output, records_also, with_floats, footnotes}
+use Rattle.tb_column.specs.Column.{Notes, PlainColumn, PlainSheet, shipped, one, wide, floats_above, text_column, pair_sheet, single_floats_column, wide_floats_column}
+use Rattle.tb_output.specs.State.{Work, output, records_also, with_floats, with_notes, notes_in, footnotes}
 use Rattle.tb_output.specs.Ship
 use Rattle.tb_output.specs.Columns
-use Rattle.tb_output.proofs.StateWeights.{floats_weight, lists_weight, left_weight, sheet_weight, sent_weight, work_weight, OneBox, ColumnsFit, Sound, Adds, then_kept, kept_then, unchanged, records-adds, shipped-adds}
-use Rattle.tb_output.proofs.ColumnWeights.{floats_above-weight, text_column-weight, floats_column-weight, choices_weight, CompanyOf, company-weight, parted-weight}
+use Rattle.tb_output.proofs.StateWeights.{class_numbers, BoxesFit, floats_weight, lists_weight, left_weight, sheet_weight, sent_weight, work_weight, ColumnsFit, Sound, Adds, then_kept, kept_then, unchanged, records-adds, shipped-adds}
+use Rattle.tb_output.proofs.ColumnWeights.{floats_above-weight, notes_weight, text_column-weight, floats_column-weight, choices_weight, CompanyOf, company-weight, parted-weight}
 use Rattle.tb_output.proofs.FloatWeights.{paired-with, lists-with, next-adds, double-adds}
 
 -- ---- pages and columns
 
 with_waiting-adds : (from : Part) → IsWaiting from → (v : Weight) (fs : List Float) (n : ℕ) (w : Work) → n + floats_weight v fs ≡ floats_weight v (floats_of from w.state.floats) → (c : Work) → Adds v n (with_floats (with_floats_of from fs w.state.floats) w) c → Adds v 0 w c
-with_waiting-adds from q v fs n w e c x = record { waits = x.waits; goes = λ r. x.goes r; by = λ r s. all r s (x.by r (record { box = s.box; columns = s.columns; entries = paired-with from q fs w.state.floats s.entries })) }
+with_waiting-adds from q v fs n w e c x = record { waits = x.waits; classes = x.classes; goes = λ r. x.goes r; by = λ r s. all r s (x.by r (record { box = s.box; columns = s.columns; entries = paired-with from q fs w.state.floats s.entries })) }
   where
     l : FloatLists
     l = with_floats_of from fs w.state.floats
@@ -96,7 +98,7 @@ pair-adds v p c w f =
     gone (nodes_weight v (floats_above places.Double p.dblfloatsep p.dbltextfloatsep w.state.floats.double)) (nodes_weight v (Ship.left_or c w.state.left_column).nodes) d (Ship.ship p sheet w) (ap (λ l. floats_weight v l.double) (ship-keeps p sheet w).0) (ap (left_weight v) (ship-keeps p sheet w).1) x
   where
     gone : (m n : ℕ) → m ≡ floats_weight v w.state.floats.double → (a : Work) → floats_weight v a.state.floats.double ≡ floats_weight v w.state.floats.double → left_weight v a.state.left_column ≡ left_weight v w.state.left_column → Adds v (m + nodes_weight v (Ship.left_or c w.state.left_column).nodes + nodes_weight v c.nodes) w a → Adds v (nodes_weight v c.nodes) w (Ship.without_double a)
-    gone m n d a e l x = record { waits = x.waits; goes = λ r. x.goes r; by = λ r s. all s (x.by r s) }
+    gone m n d a e l x = record { waits = x.waits; classes = x.classes; goes = λ r. x.goes r; by = λ r s. all s (x.by r s) }
       where
         all : Sound w.state → Sound a.state × (work_weight v a ≡ work_weight v w + (m + nodes_weight v (Ship.left_or c w.state.left_column).nodes + nodes_weight v c.nodes)) → Sound (Ship.without_double a).state × (work_weight v (Ship.without_double a) ≡ work_weight v w + nodes_weight v c.nodes)
         all s h =
@@ -113,7 +115,7 @@ ship_pair-adds v p c w t f =
     (then_kept v 0 b d (Ship.ship_pair p c w) (all_wide-adds v p false b) (double-adds (wide_part p) (wide-waits p) v p [] (wide_waiting p d.state.floats) d (omega arith)))
 
 keep_left-adds : (v : Weight) (c : PlainColumn) (w : Work) → w.state.two_columns ≡ true → w.state.first_column ≡ true → Adds v (nodes_weight v c.nodes) w (Ship.keep_left c w)
-keep_left-adds v c w t f = record { waits = refl; goes = λ r. r; by = λ r s. by_left w.state.left_column s.columns s }
+keep_left-adds v c w t f = record { waits = refl; classes = refl; goes = λ r. r; by = λ r s. by_left w.state.left_column s.columns s }
   where
     sums : (a x y n : ℕ) → a + n + x + y ≡ a + 0 + x + y + n
     sums a x y n = omega arith
@@ -135,40 +137,58 @@ put_out-adds v p c w =
     let a = records_also (output c) w in
     let b = Ship.put_out_by p c a in
     kept_then v (nodes_weight v c.nodes) w a (Ship.put_out p c w) (records-adds v (output c) w)
-    (then_kept v (nodes_weight v c.nodes) a b (Ship.put_out p c w) (put_out_by-adds v p c a) (record { waits = refl; goes = λ r. r; by = λ r s. (record { box = s.box; columns = s.columns; entries = s.entries }, omega arith) }))
+    (then_kept v (nodes_weight v c.nodes) a b (Ship.put_out p c w) (put_out_by-adds v p c a) (record { waits = refl; classes = refl; goes = λ r. r; by = λ r s. (record { box = s.box; columns = s.columns; entries = s.entries }, omega arith) }))
 
--- a text column takes its floats and the footnotes with it
-pub box-weight : (v : Weight) (bs : List Boxed) → OneBox bs → leaves_weight v (content_of (box_content bs 254)) ≡ boxes_weight v bs
-box-weight v [] h = absurd h
-box-weight v (b ∷ []) h = by_number b.number b.content h
+-- ---- the class boxes
+
+-- a box of a number that none of the classes has is not looked at
+other-box : (b : Boxed) (cs : List Class) (bs : List Boxed) → hits b.number (class_numbers cs) ≡ 0 → notes_in cs (b ∷ bs) ≡ notes_in cs bs
+other-box b [] bs h = refl
+other-box b (c ∷ cs) bs h = by_number (b.number == c.number) (λ e. other-box b cs bs e) h
   where
-    by_number : (n : ℕ) (o : Option (List Leaf)) → n ≡ 254 → leaves_weight v (content_of (if n == 254 then o else None)) ≡ leaves_weight v (content_of o) + 0
-    by_number n o e = rw (same_number n e) (omega arith)
-      where
-        same_number : (n : ℕ) → n ≡ 254 → (n == 254) ≡ true
-        same_number n e = grind (arith, e)
-box-weight v (b ∷ c ∷ bs) h = absurd h
+    by_number : (t : Bool) → (hits b.number (class_numbers cs) ≡ 0 → notes_in cs (b ∷ bs) ≡ notes_in cs bs) → (if t then suc (hits b.number (class_numbers cs)) else hits b.number (class_numbers cs)) ≡ 0 → with_notes c (if t then b.content else box_content bs c.number) (notes_in cs (b ∷ bs)) ≡ with_notes c (box_content bs c.number) (notes_in cs bs)
+    by_number true again e = absurd (omega (arith, e))
+    by_number false again e = ap (with_notes c (box_content bs c.number)) (again e)
+
+with_notes-weight : (v : Weight) (c : Class) (o : Option (List Leaf)) (ns : List Notes) → notes_weight v (with_notes c o ns) ≡ leaves_weight v (content_of o) + notes_weight v ns
+with_notes-weight v c None ns = omega arith
+with_notes-weight v c (Some ls) ns = refl
+
+-- what the boxes of the classes hold is what all boxes hold
+pub box-weight : (v : Weight) (cs : List Class) (bs : List Boxed) → BoxesFit cs bs → notes_weight v (notes_in cs bs) ≡ boxes_weight v bs
+box-weight v [] [] h = refl
+box-weight v [] (b ∷ bs) h = absurd h
+box-weight v (c ∷ cs) [] h = absurd h
+box-weight v (c ∷ cs) (b ∷ bs) h =
+    let again : notes_weight v (notes_in cs bs) ≡ boxes_weight v bs = box-weight v cs bs h.2 in
+    let here : box_content (b ∷ bs) c.number ≡ b.content = ap (λ t. if t then b.content else box_content bs c.number) (eq-eqb b.number c.number h.0) in
+    let others : notes_in cs (b ∷ bs) ≡ notes_in cs bs = other-box b cs bs (ap (λ n. hits n (class_numbers cs)) h.0 ∙ h.1) in
+    let whole : notes_weight v (with_notes c (box_content (b ∷ bs) c.number) (notes_in cs (b ∷ bs))) ≡ notes_weight v (with_notes c b.content (notes_in cs bs)) = ap (λ o. notes_weight v (with_notes c o (notes_in cs (b ∷ bs)))) here ∙ ap (λ ns. notes_weight v (with_notes c b.content ns)) others in
+    let parts : notes_weight v (with_notes c b.content (notes_in cs bs)) ≡ leaves_weight v (content_of b.content) + notes_weight v (notes_in cs bs) = with_notes-weight v c b.content (notes_in cs bs) in
+    whole ∙ parts ∙ ap (λ n. leaves_weight v (content_of b.content) + n) again
 
 pub emptied-weight : (v : Weight) (bs : List Boxed) → boxes_weight v (Columns.emptied_boxes bs) ≡ 0
 emptied-weight v [] = refl
 emptied-weight v (b ∷ bs) = let h : boxes_weight v (Columns.emptied_boxes bs) ≡ 0 = emptied-weight v bs in omega arith
 
-pub emptied-box : (bs : List Boxed) → OneBox bs → OneBox (Columns.emptied_boxes bs)
-emptied-box [] h = h
-emptied-box (b ∷ []) h = h
-emptied-box (b ∷ c ∷ bs) h = h
+pub emptied-box : (cs : List Class) (bs : List Boxed) → BoxesFit cs bs → BoxesFit cs (Columns.emptied_boxes bs)
+emptied-box [] [] h = h
+emptied-box [] (b ∷ bs) h = absurd h
+emptied-box (c ∷ cs) [] h = absurd h
+emptied-box (c ∷ cs) (b ∷ bs) h = (h.0, h.1, emptied-box cs bs h.2)
 
+-- a text column takes its floats and the insertions with it
 pub put_out_text-adds : (v : Weight) (p : Params) (body : List PlainNode) (w : Work) → Adds v (nodes_weight v body) w (Columns.put_out_text p body w)
 put_out_text-adds v p body w =
     let c = text_column p w.state.floats body (footnotes w.state) in
     gone (nodes_weight v c.nodes) (Columns.put_out_text p body w) (text_column-weight v p w.state.floats body (footnotes w.state)) (put_out-adds v p c (Columns.without_column_floats w))
   where
-    gone : (n : ℕ) (a : Work) → n ≡ floats_weight v w.state.floats.top + nodes_weight v body + leaves_weight v (content_of (footnotes w.state)) + floats_weight v w.state.floats.bottom → Adds v n (Columns.without_column_floats w) a → Adds v (nodes_weight v body) w a
-    gone n a e x = record { waits = x.waits; goes = λ r. x.goes r; by = λ r s. all s (x.by r (record { box = emptied-box w.state.boxes s.box; columns = s.columns; entries = s.entries })) }
+    gone : (n : ℕ) (a : Work) → n ≡ floats_weight v w.state.floats.top + nodes_weight v body + notes_weight v (footnotes w.state) + floats_weight v w.state.floats.bottom → Adds v n (Columns.without_column_floats w) a → Adds v (nodes_weight v body) w a
+    gone n a e x = record { waits = x.waits; classes = x.classes; goes = λ r. x.goes r; by = λ r s. all s (x.by r (record { box = emptied-box w.state.classes w.state.boxes s.box; columns = s.columns; entries = s.entries })) }
       where
         all : Sound w.state → Sound a.state × (work_weight v a ≡ work_weight v (Columns.without_column_floats w) + n) → Sound a.state × (work_weight v a ≡ work_weight v w + nodes_weight v body)
         all s h =
-            let b : leaves_weight v (content_of (footnotes w.state)) ≡ boxes_weight v w.state.boxes = box-weight v w.state.boxes s.box in
+            let b : notes_weight v (footnotes w.state) ≡ boxes_weight v w.state.boxes = box-weight v w.state.classes w.state.boxes s.box in
             let m : boxes_weight v (Columns.emptied_boxes w.state.boxes) ≡ 0 = emptied-weight v w.state.boxes in
             let g : work_weight v a ≡ work_weight v (Columns.without_column_floats w) + n = h.1 in
             (h.0, omega (arith, e))

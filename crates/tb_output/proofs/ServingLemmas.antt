@@ -28,7 +28,7 @@ use Rattle.tb_output.specs.State.{State}
 use Rattle.tb_output.specs.Out.{waiting_again, out}
 use Rattle.tb_output.specs.Machine.{MachineView, state_shown, events_shown, machine_lists, IsNotAmong, IsMachine}
 use Rattle.tb_output.specs.Firing.{foot_box, firing_work, refusal_of, note_nodes, IsNotNotes, AreNotesApart, CanServe, IsTurn, IsRefusal, IsCutShort, OthersStand, IsPutBack, TakesBody}
-use Rattle.tb_output.specs.Serving.{notes_in, fired_in, whole_work, AreFree, CanFire, IsNotesList, NotesTaken, IsFired, CanGoBack, IsNoOthers, OthersStay, OthersFree}
+use Rattle.tb_output.specs.Serving.{notes_held, fired_in, whole_work, AreFree, CanFire, IsNotesList, NotesTaken, IsFired, CanGoBack, IsNoOthers, OthersStay, OthersFree}
 use Rattle.tb_output.proofs.StandLemmas.{Stands, nodes-stand, machine-stands, machine-shows}
 use Rattle.tb_output.proofs.MachineLemmas.{state-stands, floatless-stands, lists-live, not-new, fresh-apart}
 use Rattle.tb_output.proofs.TurnOutput.{of-none, begins-with}
@@ -82,11 +82,11 @@ module _ (m : MachineView) (b d : Builder) (store mid : Lists Node) (page : Page
   joins None h = tt
   joins (Some l) h = record { live = h.1; apart = λ e. not-new store l page.body h.0 can.live (sym e); inner = leaves-apart l (list_at mid page.body) body-leaves; leaves = h.2 }
 
-  notes-sized : (o : Option ℕ) → notes_shown mid o ≡ notes_in b store → All IsSizedNode (note_nodes mid o) × (length (note_nodes mid o) ≤ length (content_of (notes_in b store)))
+  notes-sized : (o : Option ℕ) → notes_shown mid o ≡ notes_held b store → All IsSizedNode (note_nodes mid o) × (length (note_nodes mid o) ≤ length (content_of (notes_held b store)))
   notes-sized None e = (All-nil IsSizedNode, omega arith)
   notes-sized (Some l) e =
-      let leaves : map leaf_of (list_at mid l) ≡ content_of (notes_in b store) = ap content_of e in
-      let few : length (list_at mid l) ≡ length (content_of (notes_in b store)) = sym (length-map (list_at mid l) leaf_of) ∙ ap length leaves in
+      let leaves : map leaf_of (list_at mid l) ≡ content_of (notes_held b store) = ap content_of e in
+      let few : length (list_at mid l) ≡ length (content_of (notes_held b store)) = sym (length-map (list_at mid l) leaf_of) ∙ ap length leaves in
       (leaves-back (list_at mid l) (subst (All IsSizedLeaf) (sym leaves) can.sized_notes), omega (arith, few))
 
   notes-apart : (o : Option ℕ) → IsNotesList o d store mid → AreNotesApart o (machine_lists m)

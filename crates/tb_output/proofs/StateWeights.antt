@@ -1,12 +1,13 @@
 -- What the parts of a state weigh, and by how much a step of a firing adds to it.
-use Rattle.std.proofs.Common.{◌≡◌, refl, ◌∙◌, ℕ, pos, ◌+◌, Bool, true, false, List, [], ◌∷◌, ◌++◌, Option, Some, None, arith}
+use Rattle.std.proofs.Common.{◌≡◌, refl, ◌∙◌, ℕ, pos, ◌+◌, Bool, true, false, List, [], ◌∷◌, ◌++◌, map, Option, Some, None, arith}
 use Rattle.std.specs.Prelude.{int_lt, if◌then◌else◌}
 use Rattle.tb_node.specs.declared.Float.{Float}
 use Rattle.tb_node.specs.Plain.{PlainNode}
 use Rattle.tb_node.proofs.Weights.{Weight, nodes_weight, weight-append}
 use Rattle.tb_param.specs.declared.Params.{Params}
+use Rattle.tb_insert.specs.declared.Class.{Class}
 use Rattle.tb_builder.specs.Fired.{Boxed}
-use Rattle.tb_builder.proofs.PageWeights.{boxes_weight}
+use Rattle.tb_builder.proofs.PageWeights.{boxes_weight, hits}
 use Rattle.tb_float.specs.declared.Entry.{Entry}
 use Rattle.tb_float.specs.declared.Entry.TheVariants as entries
 use Rattle.tb_float.specs.Lists.{FloatLists}
@@ -62,11 +63,16 @@ sent-append v (shipped page sheet ∷ xs) ys = let h : sent_weight v (xs ++ ys) 
 
 -- ---- the invariant of a state
 
--- one insertion box, that of footnotes
-abbrev pub OneBox : List Boxed → Type 0
-OneBox [] = ⊥
-OneBox (b ∷ []) = b.number ≡ 254
-OneBox (b ∷ c ∷ bs) = ⊥
+-- the numbers of classes
+abbrev pub class_numbers : List Class → List ℕ
+class_numbers cs = map (λ (c : Class). c.number) cs
+
+-- a box for each class, and no number twice
+abbrev pub BoxesFit : List Class → List Boxed → Type 0
+BoxesFit [] [] = Unit {0}
+BoxesFit [] (b ∷ bs) = ⊥
+BoxesFit (c ∷ cs) [] = ⊥
+BoxesFit (c ∷ cs) (b ∷ bs) = (b.number ≡ c.number) × (hits c.number (class_numbers cs) ≡ 0) × BoxesFit cs bs
 
 -- the second of two columns has a first one, and no other has
 abbrev pub ColumnsFit : Bool → Bool → Option PlainColumn → Type 0
@@ -87,18 +93,19 @@ Paired (entries.Left m ∷ entries.Right n ∷ es) = Paired es
 Paired (entries.Right m ∷ es) = ⊥
 
 pub record Sound (s : State) : Type 0 where
-  pub box : OneBox s.boxes
+  pub box : BoxesFit s.classes s.boxes
   pub columns : ColumnsFit s.two_columns s.first_column s.left_column
   pub entries : Paired s.floats.current
 
--- the nodes that wait are kept; where the second is not refused, the first is not; and the second is then sound where the first is, and weighs so much more
+-- the nodes that wait and the classes are kept; where the second is not refused, the first is not; and the second is then sound where the first is, and weighs so much more
 pub record Adds (v : Weight) (n : ℕ) (a b : Work) : Type 0 where
   pub waits : b.state.waiting ≡ a.state.waiting
+  pub classes : b.state.classes ≡ a.state.classes
   pub goes : b.refused ≡ false → a.refused ≡ false
   pub by : b.refused ≡ false → Sound a.state → Sound b.state × (work_weight v b ≡ work_weight v a + n)
 
 pub added : (v : Weight) (i j : ℕ) (a b c : Work) → Adds v i a b → Adds v j b c → Adds v (i + j) a c
-added v i j a b c x y = record { waits = y.waits ∙ x.waits; goes = λ r. x.goes (y.goes r); by = λ r s. all r (x.by (y.goes r) s) }
+added v i j a b c x y = record { waits = y.waits ∙ x.waits; classes = y.classes ∙ x.classes; goes = λ r. x.goes (y.goes r); by = λ r s. all r (x.by (y.goes r) s) }
   where
     all : c.refused ≡ false → Sound b.state × (work_weight v b ≡ work_weight v a + i) → Sound c.state × (work_weight v c ≡ work_weight v a + (i + j))
     all r h =
@@ -128,23 +135,23 @@ adds_if v n a true b c x y = x
 adds_if v n a false b c x y = y
 
 pub unchanged : (v : Weight) (a : Work) → Adds v 0 a a
-unchanged v a = record { waits = refl; goes = λ r. r; by = λ r s. (s, omega arith) }
+unchanged v a = record { waits = refl; classes = refl; goes = λ r. r; by = λ r s. (s, omega arith) }
 
 -- ---- the small steps
 
 pub puts-adds : (v : Weight) (ns : List PlainNode) (w : Work) → Adds v (nodes_weight v ns) w (puts ns w)
 puts-adds v ns w =
     let e : nodes_weight v (w.put_back ++ ns) ≡ nodes_weight v w.put_back + nodes_weight v ns = weight-append v w.put_back ns in
-    record { waits = refl; goes = λ r. r; by = λ r s. (s, sums (state_weight v w.state) (nodes_weight v w.put_back) (nodes_weight v (w.put_back ++ ns)) (sent_weight v w.sent) (nodes_weight v ns) e) }
+    record { waits = refl; classes = refl; goes = λ r. r; by = λ r s. (s, sums (state_weight v w.state) (nodes_weight v w.put_back) (nodes_weight v (w.put_back ++ ns)) (sent_weight v w.sent) (nodes_weight v ns) e) }
   where
     sums : (x p q y n : ℕ) → q ≡ p + n → x + q + y ≡ x + p + y + n
     sums x p q y n e = omega arith
 
 pub records-adds : (v : Weight) (r : Recorded) (w : Work) → Adds v 0 w (records_also r w)
-records-adds v r w = adds_if v 0 w w.refused w (record w { records = w.records ++ r ∷ [] }) (unchanged v w) (record { waits = refl; goes = λ k. k; by = λ k s. (s, omega arith) })
+records-adds v r w = adds_if v 0 w w.refused w (record w { records = w.records ++ r ∷ [] }) (unchanged v w) (record { waits = refl; classes = refl; goes = λ k. k; by = λ k s. (s, omega arith) })
 
 pub warns-adds : (v : Weight) (e : Warn) (w : Work) → Adds v 0 w (sends (warned e) w)
-warns-adds v e w = adds_if v 0 w w.refused w (record w { sent = w.sent ++ warned e ∷ [] }) (unchanged v w) (record { waits = refl; goes = λ k. k; by = λ k s. (s, sums (state_weight v w.state + nodes_weight v w.put_back) (sent_weight v w.sent) (sent_weight v (w.sent ++ warned e ∷ [])) (sent-append v w.sent (warned e ∷ []))) })
+warns-adds v e w = adds_if v 0 w w.refused w (record w { sent = w.sent ++ warned e ∷ [] }) (unchanged v w) (record { waits = refl; classes = refl; goes = λ k. k; by = λ k s. (s, sums (state_weight v w.state + nodes_weight v w.put_back) (sent_weight v w.sent) (sent_weight v (w.sent ++ warned e ∷ [])) (sent-append v w.sent (warned e ∷ []))) })
   where
     sums : (x y z : ℕ) → z ≡ y + 0 → x + z ≡ x + y + 0
     sums x y z e = omega arith
@@ -160,16 +167,16 @@ shipped-adds v p sheet w = by_refused w.refused refl
     turned = record w { state = record w.state { page = w.state.page + 1; dead_cycles = 0 } }
 
     sent_now : Adds v (sheet_weight v sheet) w (record turned { sent = w.sent ++ shipped w.state.page sheet ∷ [] })
-    sent_now = record { waits = refl; goes = λ k. k; by = λ k s. (record { box = s.box; columns = s.columns; entries = s.entries }, sums (state_weight v w.state + nodes_weight v w.put_back) (sent_weight v w.sent) (sent_weight v (w.sent ++ shipped w.state.page sheet ∷ [])) (sheet_weight v sheet) (sent-append v w.sent (shipped w.state.page sheet ∷ []))) }
+    sent_now = record { waits = refl; classes = refl; goes = λ k. k; by = λ k s. (record { box = s.box; columns = s.columns; entries = s.entries }, sums (state_weight v w.state + nodes_weight v w.put_back) (sent_weight v w.sent) (sent_weight v (w.sent ++ shipped w.state.page sheet ∷ [])) (sheet_weight v sheet) (sent-append v w.sent (shipped w.state.page sheet ∷ []))) }
 
     now : (t : Bool) → w.refused ≡ t → t ≡ false → Adds v (sheet_weight v sheet) w (if t then turned else record turned { sent = w.sent ++ shipped w.state.page sheet ∷ [] })
     now true r h = let no : ⊥ = grind (arith, h) in absurd no
     now false r h = sent_now
 
     by_limit : w.refused ≡ false → (u : Bool) → Adds v (sheet_weight v sheet) w (if u then record w { refused = true } else Ship.ship_now sheet w)
-    by_limit r true = record { waits = refl; goes = λ k. let no : ⊥ = grind (arith, k) in absurd no; by = λ k s. let no : ⊥ = grind (arith, k) in absurd no }
+    by_limit r true = record { waits = refl; classes = refl; goes = λ k. let no : ⊥ = grind (arith, k) in absurd no; by = λ k s. let no : ⊥ = grind (arith, k) in absurd no }
     by_limit r false = now w.refused refl r
 
     by_refused : (t : Bool) → w.refused ≡ t → Adds v (sheet_weight v sheet) w (if t then w else (if int_lt p.maxpages (pos w.state.page) then record w { refused = true } else Ship.ship_now sheet w))
-    by_refused true h = record { waits = refl; goes = λ k. k; by = λ k s. let no : ⊥ = grind (arith, k, h) in absurd no }
+    by_refused true h = record { waits = refl; classes = refl; goes = λ k. k; by = λ k s. let no : ⊥ = grind (arith, k, h) in absurd no }
     by_refused false h = by_limit h (int_lt p.maxpages (pos w.state.page))

@@ -6,11 +6,10 @@ use Rattle.tb_node.specs.declared.Float.{Float}
 use Rattle.tb_node.specs.declared.Margin.{Margin}
 use Rattle.tb_node.specs.declared.Where.{Where}
 use Rattle.tb_node.specs.declared.Where.TheVariants as places
-use Rattle.tb_node.specs.Plain.{Leaf, PlainNode, plain, pen}
+use Rattle.tb_node.specs.Plain.{PlainNode, plain, pen}
 use Rattle.tb_break.specs.Legal.{last_or}
 use Rattle.tb_node.proofs.Weights.{Weight, leaves_weight, nodes_weight, weight-append}
 use Rattle.tb_param.specs.declared.Params.{Params}
-use Rattle.tb_builder.specs.Fired.{content_of}
 use Rattle.tb_builder.proofs.PageWeights.{boxes_weight}
 use Rattle.tb_float.specs.declared.Entry.{Entry}
 use Rattle.tb_float.specs.declared.Entry.TheVariants as entries
@@ -19,7 +18,7 @@ use Rattle.tb_float.specs.Rooms.{column_height_of}
 use Rattle.tb_area.specs.Area
 use Rattle.tb_margin.specs.declared.Placed.{Placed}
 use Rattle.tb_margin.specs.Margin.{placed_note}
-use Rattle.tb_column.specs.Column.{warned}
+use Rattle.tb_column.specs.Column.{Notes, warned}
 use Rattle.tb_column.specs.declared.Warn.TheVariants as warnings
 use Rattle.tb_output.specs.State.{Work, placed, puts, sends, records_also, with_floats, footnotes}
 use Rattle.tb_output.specs.Place
@@ -28,6 +27,7 @@ use Rattle.tb_output.specs.Text
 use Rattle.tb_output.proofs.TurnLemmas.{first-turned}
 use Rattle.tb_output.proofs.StateWeights.{entries_weight, lists_weight, work_weight, Paired, Sound, Adds, added, then_kept, kept_then, adds_if, unchanged, puts-adds, records-adds, warns-adds}
 use Rattle.tb_output.proofs.FloatWeights.{placed-adds}
+use Rattle.tb_output.proofs.ColumnWeights.{notes_weight}
 use Rattle.tb_output.proofs.PutOutWeights.{box-weight, emptied-weight, emptied-box}
 
 -- ---- floats and notes in the text
@@ -77,7 +77,7 @@ here-adds v p vert f left w h =
     same false = refl
 
     into : (a : Work) → a.state ≡ w.state → (c : Work) → Adds v (0 + v.float f.line) (with_floats (Place.joined_to places.Here f left) a) c → Adds v 0 a c
-    into a q c x = record { waits = x.waits; goes = λ r. x.goes r; by = λ r s. all s (x.by r (record { box = s.box; columns = s.columns; entries = h.0 (subst (λ t. Paired t.floats.current) q s.entries) })) }
+    into a q c x = record { waits = x.waits; classes = x.classes; goes = λ r. x.goes r; by = λ r s. all s (x.by r (record { box = s.box; columns = s.columns; entries = h.0 (subst (λ t. Paired t.floats.current) q s.entries) })) }
       where
         all : Sound a.state → Sound c.state × (work_weight v c ≡ work_weight v (with_floats (Place.joined_to places.Here f left) a) + (0 + v.float f.line)) → Sound c.state × (work_weight v c ≡ work_weight v a + 0)
         all s k =
@@ -105,7 +105,7 @@ note-adds v p depth m left w at h e =
     weight = omega arith
 
     into : (d c : Work) → Adds v (v.margin m.line) (Text.with_note_bottom at.bottom (with_floats left w)) c → Adds v 0 w c
-    into d c x = record { waits = x.waits; goes = λ r. x.goes r; by = λ r s. all s (x.by r (record { box = s.box; columns = s.columns; entries = h s.entries })) }
+    into d c x = record { waits = x.waits; classes = x.classes; goes = λ r. x.goes r; by = λ r s. all s (x.by r (record { box = s.box; columns = s.columns; entries = h s.entries })) }
       where
         all : Sound w.state → Sound c.state × (work_weight v c ≡ work_weight v (Text.with_note_bottom at.bottom (with_floats left w)) + v.margin m.line) → Sound c.state × (work_weight v c ≡ work_weight v w + 0)
         all s k = let g : work_weight v c ≡ work_weight v (Text.with_note_bottom at.bottom (with_floats left w)) + v.margin m.line = k.1 in (k.0, omega (arith, e))
@@ -115,6 +115,12 @@ note-waits v p depth m left w at =
     let a = Text.with_note_bottom at.bottom (with_floats left w) in
     let x : Adds v 0 a (Text.moved_warning m at a) = adds_if v 0 a at.moved (sends (warned (warnings.Moved m.name at.shift)) a) a (warns-adds v (warnings.Moved m.name at.shift) a) (unchanged v a) in
     x.waits
+
+note-classes : (v : Weight) (p : Params) (depth : ℤ) (m : Margin) (left : FloatLists) (w : Work) (at : Placed) → (Text.note_goes p depth m left w at).state.classes ≡ w.state.classes
+note-classes v p depth m left w at =
+    let a = Text.with_note_bottom at.bottom (with_floats left w) in
+    let x : Adds v 0 a (Text.moved_warning m at a) = adds_if v 0 a at.moved (sends (warned (warnings.Moved m.name at.shift)) a) a (warns-adds v (warnings.Moved m.name at.shift) a) (unchanged v a) in
+    x.classes
 
 -- the first of the current list goes
 first-adds : (v : Weight) (p : Params) (vert : Bool) (height depth page_height : ℤ) (es : List Entry) (w : Work) → w.state.floats.current ≡ es → Adds v 0 w (Text.first_goes p vert height depth page_height es w)
@@ -128,19 +134,19 @@ first-adds v p vert height depth page_height (entries.Left m ∷ entries.Right n
     let k : entries_weight v w.state.floats.current ≡ v.margin m.line + entries_weight v es = ap (entries_weight v) e in
     note-adds v p depth m (record w.state.floats { current = es }) w _ (λ s. subst Paired e s) (omega arith)
 first-adds v p vert height depth page_height (entries.Left m ∷ entries.Float f ∷ es) w e =
-    record { waits = note-waits v p depth m (record w.state.floats { current = es }) w (placed_note p w.state.page w.state.two_columns w.state.first_column height w.state.note_bottom m); goes = λ r. ((first-turned p vert height depth page_height (entries.Left m ∷ entries.Float f ∷ es) w).by r).0; by = λ r s. absurd (subst Paired e s.entries) }
+    record { waits = note-waits v p depth m (record w.state.floats { current = es }) w (placed_note p w.state.page w.state.two_columns w.state.first_column height w.state.note_bottom m); classes = note-classes v p depth m (record w.state.floats { current = es }) w (placed_note p w.state.page w.state.two_columns w.state.first_column height w.state.note_bottom m); goes = λ r. ((first-turned p vert height depth page_height (entries.Left m ∷ entries.Float f ∷ es) w).by r).0; by = λ r s. absurd (subst Paired e s.entries) }
 first-adds v p vert height depth page_height (entries.Left m ∷ entries.Left n ∷ es) w e =
-    record { waits = note-waits v p depth m (record w.state.floats { current = es }) w (placed_note p w.state.page w.state.two_columns w.state.first_column height w.state.note_bottom m); goes = λ r. ((first-turned p vert height depth page_height (entries.Left m ∷ entries.Left n ∷ es) w).by r).0; by = λ r s. absurd (subst Paired e s.entries) }
+    record { waits = note-waits v p depth m (record w.state.floats { current = es }) w (placed_note p w.state.page w.state.two_columns w.state.first_column height w.state.note_bottom m); classes = note-classes v p depth m (record w.state.floats { current = es }) w (placed_note p w.state.page w.state.two_columns w.state.first_column height w.state.note_bottom m); goes = λ r. ((first-turned p vert height depth page_height (entries.Left m ∷ entries.Left n ∷ es) w).by r).0; by = λ r s. absurd (subst Paired e s.entries) }
 first-adds v p vert height depth page_height (entries.Right m ∷ es) w e = interline-adds v p w
 first-adds v p vert height depth page_height [] w e = interline-adds v p w
 
-notes_nodes-weight : (v : Weight) (p : Params) (o : Option (List Leaf)) → nodes_weight v (Text.notes_nodes p o) ≡ leaves_weight v (content_of o)
-notes_nodes-weight v p None = refl
-notes_nodes-weight v p (Some ls) = omega arith
+notes_nodes-weight : (v : Weight) (p : Params) (ns : List Notes) → nodes_weight v (Text.notes_nodes p ns) ≡ notes_weight v ns
+notes_nodes-weight v p [] = refl
+notes_nodes-weight v p (n ∷ ns) = let h : nodes_weight v (Text.notes_nodes p ns) ≡ notes_weight v ns = notes_nodes-weight v p ns in omega arith
 
 -- the held page and what follows it go back, and the footnotes after them
 list_back-adds : (v : Weight) (p : Params) (ns : List PlainNode) (w : Work) → Adds v (nodes_weight v ns) w (Text.list_back p (w.state.held_page ++ ns) w)
-list_back-adds v p ns w = record { waits = refl; goes = λ r. r; by = λ r s. (record { box = emptied-box w.state.boxes s.box; columns = s.columns; entries = s.entries }, weight s) }
+list_back-adds v p ns w = record { waits = refl; classes = refl; goes = λ r. r; by = λ r s. (record { box = emptied-box w.state.classes w.state.boxes s.box; columns = s.columns; entries = s.entries }, weight s) }
   where
     weight : Sound w.state → work_weight v (Text.list_back p (w.state.held_page ++ ns) w) ≡ work_weight v w + nodes_weight v ns
     weight s =
@@ -148,8 +154,8 @@ list_back-adds v p ns w = record { waits = refl; goes = λ r. r; by = λ r s. (r
         let a : nodes_weight v (w.put_back ++ (w.state.held_page ++ ns ++ notes)) ≡ nodes_weight v w.put_back + nodes_weight v (w.state.held_page ++ ns ++ notes) = weight-append v w.put_back (w.state.held_page ++ ns ++ notes) in
         let b : nodes_weight v (w.state.held_page ++ ns ++ notes) ≡ nodes_weight v (w.state.held_page ++ ns) + nodes_weight v notes = weight-append v (w.state.held_page ++ ns) notes in
         let c : nodes_weight v (w.state.held_page ++ ns) ≡ nodes_weight v w.state.held_page + nodes_weight v ns = weight-append v w.state.held_page ns in
-        let d : nodes_weight v notes ≡ leaves_weight v (content_of (footnotes w.state)) = notes_nodes-weight v p (footnotes w.state) in
-        let e : leaves_weight v (content_of (footnotes w.state)) ≡ boxes_weight v w.state.boxes = box-weight v w.state.boxes s.box in
+        let d : nodes_weight v notes ≡ notes_weight v (footnotes w.state) = notes_nodes-weight v p (footnotes w.state) in
+        let e : notes_weight v (footnotes w.state) ≡ boxes_weight v w.state.boxes = box-weight v w.state.classes w.state.boxes s.box in
         let f : boxes_weight v (Columns.emptied_boxes w.state.boxes) ≡ 0 = emptied-weight v w.state.boxes in
         omega arith
 
