@@ -1,11 +1,11 @@
 -- The items that the program serves so far.
-use Rattle.std.specs.Prelude.{Bool, true, false, IsTrue}
+use Rattle.std.specs.Prelude.{Bool, true, false, ◌==◌, IsTrue}
 use Rattle.std.specs.List.{list_all}
 use Rattle.tb_galley.specs.declared.ItemKind.{ItemKind}
 use Rattle.tb_galley.specs.declared.ItemKind.TheVariants as items
 use Rattle.tb_galley.specs.declared.Galley.{Galley}
 
--- an item without floats, marginal notes and changes of columns
+-- an item without classes but 254, floats, marginal notes and changes of columns
 abbrev pub is_live_item : ItemKind → Bool
 is_live_item (items.Hbox name h d) = true
 is_live_item (items.Rule name h d) = true
@@ -14,7 +14,7 @@ is_live_item (items.Kern w) = true
 is_live_item (items.Penalty p) = true
 is_live_item (items.Mark name) = true
 is_live_item (items.Note name) = true
-is_live_item (items.Foot class ls) = true
+is_live_item (items.Foot class ls) = class == 254
 is_live_item (items.Float f vert) = false
 is_live_item (items.Margin m vert) = false
 is_live_item items.NewPage = true

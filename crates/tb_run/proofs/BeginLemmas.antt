@@ -24,7 +24,7 @@ use Rattle.tb_run.specs.Servable.{AreServable}
 use Rattle.tb_run.specs.Turning.{held_in, state_of, AreNotBuilders, IsReady}
 use Rattle.tb_run.proofs.WholeLemmas.{state-bare}
 
-module _ (p : Params) (m : MachineView) (s t u : Lists Node) (b d : Builder) (class : Class) (ns : List PlainNode) (state : (waiting : List PlainNode) → state_shown s (foot_box None) waiting m ≡ first_state p waiting)
+module _ (p : Params) (m : MachineView) (s t u : Lists Node) (b d : Builder) (class : Class) (ns : List PlainNode) (state : (waiting : List PlainNode) → state_shown s (foot_box None) waiting m ≡ first_state p (foot_class p ∷ []) waiting)
     (machine : IsMachine m s) (floatless : IsFloatless m s) (params : m.params ≡ p) (is : class ≡ foot_class p) (contents : contents_of b t ≡ nothing_yet (class ∷ []))
     (fresh : (q : ℕ) → IsLive s q → Lacks q (owned (ids_of b) t)) (others : (q : ℕ) → IsLive s q → get t.lists q ≡ get s.lists q) (waits : Waits ns b t d u) where
   abbrev begun : Routine
@@ -39,7 +39,7 @@ module _ (p : Params) (m : MachineView) (s t u : Lists Node) (b d : Builder) (cl
   holds : held_in begun ≡ record (nothing_yet (foot_class p ∷ [])) { waiting = ns }
   holds = waits.contents ∙ ap (λ (c : Contents). record c { waiting = c.waiting ++ ns }) (contents ∙ ap (λ x. nothing_yet (x ∷ [])) is)
 
-  pub begin-state : state_of begun ≡ first_state p ns
+  pub begin-state : state_of begun ≡ first_state p (foot_class p ∷ []) ns
   begin-state =
       state-bare m u (held_in begun).boxes (held_in begun).waiting (floatless-stands m s u held-same floatless) (ap (λ (c : Contents). c.boxes) holds)
       ∙ (λ i. plain_state (params i) (holds i).waiting (ap (λ (x : State). x.page) (state []) i) (ap (λ (x : State). x.dead_cycles) (state []) i))

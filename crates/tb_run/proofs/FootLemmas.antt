@@ -124,7 +124,7 @@ module _ (b : Builder) (s e t : Lists Node) (l : ℕ) (ls : List Leaf) (can : Ca
       height-is : i.height ≡ size_of (map leaf_shape (map plain_leaf ls))
       height-is = height ∙ ap (λ ns. size_of (map shape_of ns)) foot-list ∙ ap size_of (list-shapes ls)
 
-      foot-is : plain_of (list_at t) n ∷ [] ≡ on_line line (foot_insertion p (map plain_leaf ls) ∷ [])
+      foot-is : plain_of (list_at t) n ∷ [] ≡ on_line line (foot_insertion p 254 (map plain_leaf ls) ∷ [])
       foot-is = λ j. record {
         line = line;
         kind = ins (record { class = class j; inner = inner-is j; height = height-is j; split_depth = depth j; split_top = top j; floating = floating j });
@@ -132,7 +132,7 @@ module _ (b : Builder) (s e t : Lists Node) (l : ℕ) (ls : List Leaf) (can : Ca
 
       pub foot-waits : (d : Builder) (u : Lists Node) → IsSound d u → contents_of d u ≡ record (contents_of b t) { waiting = (contents_of b t).waiting ++ plain_of (list_at t) n ∷ [] }
           → ((q : ℕ) → Lacks q (owned (ids_of b) t) → get u.lists q ≡ get t.lists q) → ((q : ℕ) → Lacks q (owned (ids_of b) t ++ inner_ids (n ∷ [])) → Lacks q (owned (ids_of d) u))
-          → Waits (on_line line (foot_insertion p (map plain_leaf ls) ∷ [])) b s d u
+          → Waits (on_line line (foot_insertion p 254 (map plain_leaf ls) ∷ [])) b s d u
       foot-waits d u sound contents others keeps = record {
         sound = sound;
         contents = contents ∙ (λ j. record (foot-contents j) { waiting = (foot-contents j).waiting ++ foot-is j });

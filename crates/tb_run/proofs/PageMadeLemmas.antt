@@ -17,7 +17,7 @@ use Rattle.tb_builder.specs.Places.{NoActs}
 use Rattle.tb_builder.specs.Contents.{Contents, laid, reach_ahead, reach_whole, places_of}
 use Rattle.tb_builder.specs.Next.{BoxesFit, LaidFits, NextFits, Stays, Goes, Stops, TriedIs, ActedIs, EmptyIs, fired_page}
 use Rattle.tb_column.specs.Column.{PlainSent}
-use Rattle.tb_output.specs.State.{State, foot_class, ask_of, Recorded, Work}
+use Rattle.tb_output.specs.State.{State, ask_of, Recorded, Work}
 use Rattle.tb_output.specs.Out.{out}
 use Rattle.tb_run.specs.Run.{RunEvent, offered, sent, done, dead_cycles, page_limit, node_limit, Progress, progress, after_events, held_count, Step, ends, goes_on, after_firing, fire, after_progress, step}
 use Rattle.tb_run.specs.PlainRun.{sent_among, Shown, last, next, step_shown}
@@ -220,7 +220,7 @@ module _ (p : Params) (es : List RunEvent) (rs : List Recorded) (quiet : sent_am
 
 module _ (p : Params) (s : State) where
   -- the page that the builder fires is that of the definition
-  pub fired-same : (es : List RunEvent) (rs : List Recorded) (t : State) (c : Contents) → IsStopped p s es rs t c → fired_page c (ask_of p s) ≡ fired_of (ask_of p s) (foot_class p ∷ []) s.boxes (page_reach p s)
+  pub fired-same : (es : List RunEvent) (rs : List Recorded) (t : State) (c : Contents) → IsStopped p s es rs t c → fired_page c (ask_of p s) ≡ fired_of (ask_of p s) s.classes s.boxes (page_reach p s)
   fired-same es rs t c h =
       let w = reach_whole c (ask_of p s) in
       (λ i. fired_by (labelled (h.same.frozen_so i) (take (page_break w).place w.passed)) (h.same.boxes i) w)
@@ -235,7 +235,7 @@ module _ (p : Params) (s : State) where
       let q : Progress = record { state = s; events = h.events; records = h.records; fault = None } in
       ap (λ (q : Progress). step_shown (after_progress p w q q.fault)) v.so_far
       ∙ ap step_shown (if-step w.fires (fire p w q) _ v.fires)
-      ∙ cycles-shown p h.events h.records h.quiet s.dead_cycles (out p s (fired_of (ask_of p s) (foot_class p ∷ []) s.boxes w)) (int_lt (pos s.dead_cycles) p.maxdeadcycles)
+      ∙ cycles-shown p h.events h.records h.quiet s.dead_cycles (out p s (fired_of (ask_of p s) s.classes s.boxes w)) (int_lt (pos s.dead_cycles) p.maxdeadcycles)
       ∙ ap (firing_shown p s) (sym (fired-same h.events h.records s c v))
 
   -- nothing waits any more, and the page does not fire

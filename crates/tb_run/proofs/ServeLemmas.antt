@@ -19,7 +19,7 @@ use Rattle.tb_builder.proofs.StoreSized.{list-back, list-length}
 use Rattle.tb_column.specs.TextList.{is_leaf_kind, AreLeaves}
 use Rattle.tb_output.specs.declared.RunFault.{RunFault}
 use Rattle.tb_output.specs.Out.{clear_penalty}
-use Rattle.tb_output.specs.Serving.{notes_in, HasOnlyNotes, CanFire}
+use Rattle.tb_output.specs.Serving.{notes_held, HasOnlyNotes, CanFire}
 use Rattle.tb_run.specs.declared.routine.Routine.{Routine}
 use Rattle.tb_run.specs.Servable.{IsTame, AreTame}
 use Rattle.tb_run.specs.Turning.{IsFiring}
@@ -65,7 +65,7 @@ module _ (p : Params) (r q : Routine) (page : Page) (h : IsFiring p r page q) wh
   f = h.fired
 
   -- the footnotes are in their box
-  notes-are : notes_in q.builder q.store ≡ h.served.notes
+  notes-are : notes_held q.builder q.store ≡ h.served.notes
   notes-are = ap (λ (c : Contents). box_content c.boxes 254) h.contents ∙ ap (λ bs. box_content bs 254) h.served.boxes
 
   notes-sized : All IsSizedLeaf (content_of h.served.notes)
@@ -80,7 +80,7 @@ module _ (p : Params) (r q : Routine) (page : Page) (h : IsFiring p r page q) wh
   body-count : length (list_at q.store page.body) ≤ node_count f.body
   body-count = let a = list-length q.store page.body in let b = ap node_count h.page_is.body in omega (arith, a, b)
 
-  few-nodes : length (list_at q.store page.body) + length (content_of (notes_in q.builder q.store)) ≤ 8388602
+  few-nodes : length (list_at q.store page.body) + length (content_of (notes_held q.builder q.store)) ≤ 8388602
   few-nodes =
       let a = body-count in let b = notes-count in let c = h.served.few in let d = h.few in
       let e = ap (λ o. length (content_of o)) notes-are in

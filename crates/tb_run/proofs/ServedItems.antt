@@ -1,6 +1,6 @@
 -- The nodes of a valid galley can be served.
-use Rattle.std.proofs.Common.{refl, subst, ℕ, zero, suc, ◌*◌, ◌≤◌, ℤ, pos, neg_ℤ, ◌≤ℤ◌, Bool, true, false, List, [], ◌∷◌, map, arith}
-use Rattle.std.specs.Prelude.{All, IsTrue, ◌&&◌, nat_le}
+use Rattle.std.proofs.Common.{◌≡◌, refl, subst, ℕ, zero, suc, ◌*◌, ◌≤◌, ℤ, pos, neg_ℤ, ◌≤ℤ◌, Bool, true, false, List, [], ◌∷◌, map, arith}
+use Rattle.std.specs.Prelude.{All, IsTrue, ◌&&◌, ◌==◌, nat_le}
 use Rattle.std.specs.List.{list_all}
 use Rattle.std.proofs.lemmas.Int.{ints}
 use Rattle.std.proofs.lemmas.Bool.Decides.{nat_tests}
@@ -165,7 +165,7 @@ item-sized p two l (items.Kern w) r v live = one-sized _ (record { shape = dimen
 item-sized p two l (items.Penalty q) r v live = one-sized _ (record { shape = penalty-sized q v; kind = tt })
 item-sized p two l (items.Mark name) r v live = one-sized _ (record { shape = tt; kind = tt })
 item-sized p two l (items.Note name) r v live = one-sized _ (record { shape = tt; kind = tt })
-item-sized p two l (items.Foot ls) r v live = one-sized _ (record { shape = tt; kind = record { inner = leaves-sized ls v; height = refl; split_depth = r.split_depth; split_top = r.split_top; floating = r.floating } })
+item-sized p two l (items.Foot class ls) r v live = one-sized _ (record { shape = tt; kind = record { inner = leaves-sized ls v; height = refl; split_depth = r.split_depth; split_top = r.split_top; floating = r.floating } })
 item-sized p two l (items.Float f vert) r v live = cc
 item-sized p two l (items.Margin m vert) r v live = cc
 item-sized p two l items.NewPage r v live =
@@ -185,7 +185,7 @@ item-tame p two l (items.Kern w) v live = (tt, tt)
 item-tame p two l (items.Penalty q) v live = (penalty-tame q v, tt)
 item-tame p two l (items.Mark name) v live = (tt, tt)
 item-tame p two l (items.Note name) v live = (tt, tt)
-item-tame p two l (items.Foot ls) v live = (tt, tt)
+item-tame p two l (items.Foot class ls) v live = (tt, tt)
 item-tame p two l (items.Float f vert) v live = cc
 item-tame p two l (items.Margin m vert) v live = cc
 item-tame p two l items.NewPage v live = (tt, (omega (arith, ints), tt))
@@ -204,7 +204,7 @@ item-few p two l (items.Kern w) live = omega arith
 item-few p two l (items.Penalty q) live = omega arith
 item-few p two l (items.Mark name) live = omega arith
 item-few p two l (items.Note name) live = omega arith
-item-few p two l (items.Foot ls) live = let e = length-map {B = PlainLeaf} ls plain_leaf in omega (arith, e)
+item-few p two l (items.Foot class ls) live = let e = length-map {B = PlainLeaf} ls plain_leaf in omega (arith, e)
 item-few p two l (items.Float f vert) live = cc
 item-few p two l (items.Margin m vert) live = cc
 item-few p two l items.NewPage live = omega arith
@@ -215,6 +215,9 @@ item-few p two l items.OneColumn live = cc
 item-few p two l items.TwoColumn live = cc
 item-few p two l (items.Suppress area) live = cc
 
+same-class : (n : ℕ) → IsTrue (n == 254) → n ≡ 254
+same-class n h = grind (arith, h)
+
 item-served : (l : ℕ) (k : ItemKind) → IsTrue (is_item l k) → IsTrue (is_live_item k) → weight_of k ≤ 100000 → IsServedItem k
 item-served l (items.Hbox name h d) v live w = tt
 item-served l (items.Rule name h d) v live w = tt
@@ -223,7 +226,7 @@ item-served l (items.Kern width) v live w = tt
 item-served l (items.Penalty q) v live w = tt
 item-served l (items.Mark name) v live w = tt
 item-served l (items.Note name) v live w = tt
-item-served l (items.Foot ls) v live w = (nodes-sized ls v, let e = length-map {B = Node} ls (λ (x : Leaf). record { line = x.line; kind = leaf_kind x.kind }) in omega (arith, e, w))
+item-served l (items.Foot class ls) v live w = (same-class class live, nodes-sized ls v, let e = length-map {B = Node} ls (λ (x : Leaf). record { line = x.line; kind = leaf_kind x.kind }) in omega (arith, e, w))
 item-served l (items.Float f vert) v live w = cc
 item-served l (items.Margin m vert) v live w = cc
 item-served l items.NewPage v live w = tt

@@ -264,7 +264,7 @@ module _ (p : Params) (r q : Routine) (page : Page) (runs : AreRunnable p) (read
           last-settled : IsBounded 4194304 (record last_q { most = end.most }) → IsSettled p (record last_q { most = end.most })
           last-settled bounded = record {
             whole = whole-bounded p last_q end.most (subst (λ z. IsWhole z last_q) (ap (λ (v : MachineView). v.params) machine_same ∙ params ∙ params-are) whole);
-            between = left ∙ (λ i. record { classes = foot_class p ∷ []; boxes = sym boxes-are i; page = []; waiting = sym (ap (λ (c : Contents). c.waiting) left) i; held = []; frozen = None; stopped = false });
+            between = left ∙ (λ i. record { classes = foot_class (sym (subst (λ z. IsWhole z last_q) (ap (λ (v : MachineView). v.params) machine_same ∙ params ∙ params-are) whole).params i) ∷ []; boxes = sym boxes-are i; page = []; waiting = sym (ap (λ (c : Contents). c.waiting) left) i; held = []; frozen = None; stopped = false });
             boxes = boxes-are;
             waiting = record {
               sized = subst (All IsSizedOnPage) (sym waiting-served) work.sized;

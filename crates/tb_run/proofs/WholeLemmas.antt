@@ -212,10 +212,10 @@ module _ (p : Params) (r q d : Routine) (ask : Ask) (runs : AreRunnable p) (read
         let whole : (held_in q).page ++ (held_in q).waiting ≡ pruned_nodes p.topskip (held_in r).waiting = v.both in
         let n = laid-few p runs (held_in r).waiting r.machine.page r.machine.dead_cycles w in
         let e = ap node_count whole in
-        served-page (node_count (held_in r).waiting) p (held_in q) (ask_of p (state_of r)) runs v.same.classes (v.same.boxes ∙ ready.settled.boxes)
+        served-page (node_count (held_in r).waiting) p (held_in q) (ask_of p (state_of r)) runs (v.same.classes ∙ ap (λ (x : Params). foot_class x ∷ []) ready.settled.whole.params) (v.same.boxes ∙ ready.settled.boxes)
         (subst (All IsSizedOnPage) (sym whole) (laid-sized p runs (held_in r).waiting r.machine.page r.machine.dead_cycles w)) (omega (arith, n, e))
         (subst IsTamePage (sym (fired-same p (state_of r) h.filled.events h.filled.records (state_of r) (held_in q) v))
-        (subst (λ s. IsTamePage (fired_of (ask_of p s) (foot_class p ∷ []) s.boxes (page_reach p s))) (sym (state-plain p r ready.settled)) (tame-page p runs (held_in r).waiting r.machine.page r.machine.dead_cycles w)))
+        (subst (λ s. IsTamePage (fired_of (ask_of p s) s.classes s.boxes (page_reach p s))) (sym (state-plain p r ready.settled)) (tame-page p runs (held_in r).waiting r.machine.page r.machine.dead_cycles w)))
 
     firing-by : (b : Bool) → (held_in q).stopped ≡ b → NextIs b (events.Fired page) (held_in q) (ask_of p (state_of r)) (held_in d) d.store → IsFiring p r page d
     firing-by false o n = absurd n.0
@@ -230,7 +230,7 @@ module _ (p : Params) (r q d : Routine) (ask : Ask) (runs : AreRunnable p) (read
           served = fired-served o;
           few = ready.settled.waiting.few;
           page_is = n.page;
-          contents = n.after ∙ (λ i. record { classes = v.same.classes i; boxes = f.boxes; page = []; waiting = f.rest; held = f.held; frozen = None; stopped = false });
+          contents = n.after ∙ (λ i. record { classes = (v.same.classes ∙ ap (λ (x : Params). foot_class x ∷ []) ready.settled.whole.params) i; boxes = f.boxes; page = []; waiting = f.rest; held = f.held; frozen = None; stopped = false });
           whole = filled-whole p r q d ready h k sound m;
           machine = same;
           body = subst (λ (w : MachineView). IsNotAmong page.body (machine_lists w)) (sym same)
