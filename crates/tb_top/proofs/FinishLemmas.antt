@@ -28,7 +28,7 @@ use Rattle.tb_run.specs.declared.routine.Ending.{Ending}
 use Rattle.tb_run.specs.declared.routine.Ending.TheVariants as endings
 use Rattle.tb_run.specs.declared.routine.Turn.{Turn}
 use Rattle.tb_run.specs.PlainRun.{last, next, step_shown}
-use Rattle.tb_run.specs.Run.{Run, End, done, held_count, node_limit, step, run_of, firings_left}
+use Rattle.tb_run.specs.Run.{Run, End, done, held_count, node_limit, step, run_of, firings_left, classes_of}
 use Rattle.tb_top.specs.Paginated.{view_text, Paginates, Refuses}
 use Rattle.tb_output.specs.Machine.{IsLimit}
 use Rattle.tb_run.specs.Turning.{held_in, state_of, sent_by, shown_by, sent_turn_shown, ending_shown, over_limit, sent_count}
@@ -87,7 +87,7 @@ over-none : (p : Params) (n : ℕ) (t : Bool) → int_lt p.maxnodes (pos n) ≡ 
 over-none p n true h k = cc
 over-none p n false h k = h
 
-module _ (v : View) (g : Galley) (r : Routine) (old now : Option (List ℕ)) (t : Totals) (o : Option Ending) (is : state_of r ≡ first_state g.params (expanded g)) (a : Appends old now (viewed v header)) (nothing : t ≡ no_totals) (over : o ≡ over_limit g.params (held_count (state_of r))) where
+module _ (v : View) (g : Galley) (r : Routine) (old now : Option (List ℕ)) (t : Totals) (o : Option Ending) (is : state_of r ≡ first_state g.params (classes_of g) (expanded g)) (a : Appends old now (viewed v header)) (nothing : t ≡ no_totals) (over : o ≡ over_limit g.params (held_count (state_of r))) where
   pub start-closing : (e : Ending) → o ≡ Some e → Closing v (ending_shown r e) old now t (run_of g)
   start-closing e some =
       let k = over-some g.params (held_count (state_of r)) e (int_lt g.params.maxnodes (pos (held_count (state_of r)))) refl (sym over ∙ some) in

@@ -18,7 +18,7 @@ use Rattle.tb_top.specs.declared.View.{View}
 use Rattle.tb_top.specs.declared.View.TheVariants as views
 use Rattle.tb_top.specs.declared.PageFault.{PageFault}
 use Rattle.tb_top.specs.declared.PageFault.TheVariants as faults
-use Rattle.tb_run.specs.Run.{Run, RunEvent, offered, sent, End, done, node_limit, Step, ends, goes_on, held_count, step, run_by, run_from, firings_left, run_of_state, run_of}
+use Rattle.tb_run.specs.Run.{Run, RunEvent, offered, sent, End, done, node_limit, Step, ends, goes_on, held_count, step, run_by, run_from, firings_left, run_of_state, run_of, classes_of}
 use Rattle.tb_top.specs.Report.{totals_of, event_lines, all_lines, closing_lines, report}
 use Rattle.tb_top.specs.Paginated.{view_text, end_fault, Paginates, EndsWith, Refuses}
 use Rattle.tb_run.specs.PlainRun.{sent_among, Shown, last, next, step_shown}
@@ -252,7 +252,7 @@ begins-by p v s old now false e page a =
     let whole = run_from p (suc (firings_left p s)) s in
     ((λ k. record { page = page; written = header; fuel = suc (firings_left p s); appended = a; enough = omega arith; text = report-is whole; end = refl; totals = sym (nothing-joined (totals_of whole.events)) }), (λ k. cc))
 
-module _ (v : View) (g : Galley) (s : State) (old now : Option (List ℕ)) (is : s ≡ first_state g.params (expanded g)) (a : Appends old now (viewed v header)) where
+module _ (v : View) (g : Galley) (s : State) (old now : Option (List ℕ)) (is : s ≡ first_state g.params (classes_of g) (expanded g)) (a : Appends old now (viewed v header)) where
   same-run : run_of g ≡ run_of_state g.params s
   unfolding run_of
   same-run = ap (run_of_state g.params) (sym is)

@@ -17,11 +17,11 @@ use Rattle.tb_builder.specs.Fired.{fired_of, reach_of}
 use Rattle.tb_float.specs.Lists.{FloatLists, live_count}
 use Rattle.tb_float.specs.Rooms.{column_height_of}
 use Rattle.tb_area.specs.Laws as area
-use Rattle.tb_output.specs.State.{State, Recorded, placed, output, emptied, first_state, foot_class, ask_of}
+use Rattle.tb_output.specs.State.{State, Recorded, placed, output, emptied, first_state, ask_of}
 use Rattle.tb_output.specs.Act.{Acted, went, full, act_on}
 use Rattle.tb_output.specs.Out.{out}
 use Rattle.tb_output.proofs.LimitLemmas.{IsLimited, AreLimited, limited-append, out-keeps}
-use Rattle.tb_run.specs.Run.{Run, Progress, progress_by, progress, Step, ends, goes_on, held_count, after_firing, fire, after_progress, step, run_by, run_from, firings_left, run_of}
+use Rattle.tb_run.specs.Run.{Run, Progress, progress_by, progress, Step, ends, goes_on, held_count, after_firing, fire, after_progress, step, run_by, run_from, firings_left, run_of, classes_of}
 use Rattle.tb_top.specs.Laws.{PlacedWithin, KeepsLimits, WithinLimits}
 
 -- ---- a record
@@ -86,7 +86,7 @@ step_if p false a b x y = y
 fire-limited : (p : Params) (r : Reach) (q : Progress) → AreLimited p q.records → StepLimited p (fire p r q)
 unfolding StepLimited
 fire-limited p r q k =
-    let f = fired_of (ask_of p q.state) (foot_class p ∷ []) q.state.boxes r in
+    let f = fired_of (ask_of p q.state) q.state.classes q.state.boxes r in
     let w = out p q.state f in
     let added : AreLimited p w.records = (out-keeps p q.state f).by tt in
     let all = limited-append p q.records w.records k added in
@@ -101,7 +101,7 @@ after-limited p r q (Some f) k = k
 step-limited : (p : Params) (s : State) → StepLimited p (step p s)
 unfolding step
 step-limited p s =
-    let r = reach_of (ask_of p s) (foot_class p ∷ []) s.boxes [] s.waiting in
+    let r = reach_of (ask_of p s) s.classes s.boxes [] s.waiting in
     let q = progress p r.reached awful_bad s in
     after-limited p r q q.fault (progress-limited p r.reached awful_bad s)
 
@@ -125,6 +125,6 @@ pub run-within : (g : Galley) → WithinLimits g.params (run_of g)
 unfolding run_of
 run-within g =
     let p = g.params in
-    let s = first_state p (expanded g) in
+    let s = first_state p (classes_of g) (expanded g) in
     let run = run_from p (suc (firings_left p s)) s in
     if-within p (int_lt p.maxnodes (pos (held_count s))) _ run tt (records-within p run.records (run-limited p (suc (firings_left p s)) s))
