@@ -17,14 +17,16 @@ use Rattle.tb_param.specs.Table.{is_within, is_dimen, is_glue}
 use Rattle.tb_galley.specs.declared.Cause.{Cause}
 use Rattle.tb_galley.specs.declared.Cause.TheVariants as causes
 use Rattle.tb_galley.specs.declared.fields.At.{At}
-use Rattle.tb_galley.specs.Values.{Slot, name_slot, dimension_slot, least_slot, range_slot, stretch_slot, fraction_slot, places_slot, slot_cause, cause_of_read, cause_unless, are_places, is_place_byte}
+use Rattle.tb_galley.specs.Values.{Slot, name_slot, dimension_slot, least_slot, range_slot, stretch_slot, fraction_slot, places_slot, class_slot, is_class_among, is_foot_class, slot_cause, cause_of_read, cause_unless, are_places, is_place_byte}
 use Rattle.tb_galley.specs.Grammar.{read_or, places_at, has_byte}
-use Rattle.tb_galley.specs.Reading.{Left, ◌>>=◌, at_fault, settled, next_left, field_read, dimension_in, integer_in, stretch_in, fraction_in, name_left, dimension_left, stretch_left, least_left, range_left, choice_left, places_left, sized_left, float_left, margin_left, glue_left, stretch_part, plus_part, shrink_part, minus_part, minus_next, next_is_by, is_end, mapped, fraction_left, value_left}
-use Rattle.tb_galley.specs.Valid.{is_size, is_float, is_margin}
+use Rattle.tb_galley.specs.Reading.{Left, ◌>>=◌, at_fault, settled, next_left, field_read, dimension_in, integer_in, stretch_in, fraction_in, name_left, dimension_left, stretch_left, least_left, range_left, choice_left, places_left, sized_left, float_left, margin_left, glue_left, stretch_part, plus_part, shrink_part, minus_part, minus_next, next_is_by, is_end, mapped, fraction_left, value_left, class_left, named_class, foot_left}
+use Rattle.tb_galley.specs.declared.ClassLine.{ClassLine}
+use Rattle.tb_galley.specs.Words.{Known, number_in, number_or}
+use Rattle.tb_galley.specs.Valid.{is_size, is_float, is_margin, is_class}
 use Rattle.tb_param.specs.declared.table.Form.{Form}
 use Rattle.tb_param.specs.declared.table.Form.TheVariants as forms
 use Rattle.tb_param.specs.declared.Value.TheVariants as values
-use Rattle.tb_param.specs.declared.Choice.TheVariants.{Flush, Ragged, On, Off}
+use Rattle.tb_param.specs.declared.Choice.TheVariants.{Flush, Ragged, On, Off, R2014, R2015}
 use Rattle.tb_param.specs.Table.{out_of_range}
 use Rattle.tb_param.specs.Ranges.{is_no_fault}
 use Rattle.tb_param.proofs.RangeLemmas.{fits}
@@ -277,6 +279,10 @@ switch_word : (b : Bool) → fits forms.Switch (values.Word (if b then On else O
 switch_word true = refl
 switch_word false = refl
 
+release_word : (b : Bool) → fits forms.Release (values.Word (if b then R2015 else R2014)) ≡ true
+release_word true = refl
+release_word false = refl
+
 pub value_has : (form : Form) (l : Left) → IfOk (value_left form l) (λ x. fits form x.0 ≡ true)
 unfolding value_left
 value_has (forms.Int low high) l =
@@ -297,3 +303,36 @@ value_has forms.Bottom l =
 value_has forms.Switch l =
     mapped_has (λ v. fits forms.Switch v ≡ true) (λ b. values.Word (if b then On else Off)) (choice_left (codes "off") (codes "on") causes.WrongForm l)
     (always (λ x. switch_word x.0) (choice_left (codes "off") (codes "on") causes.WrongForm l))
+value_has forms.Release l =
+    mapped_has (λ v. fits forms.Release v ≡ true) (λ b. values.Word (if b then R2015 else R2014)) (choice_left (codes "2014") (codes "2015") causes.WrongForm l)
+    (always (λ x. release_word x.0) (choice_left (codes "2014") (codes "2015") causes.WrongForm l))
+
+-- ---- classes
+
+number_at_most : (v : ℤ) → is_within (pos 0) (pos 253) v ≡ true → nat_le (nat_abs v) 253 ≡ true
+number_at_most (pos n) h = grind (arith, nat_tests)
+number_at_most (negsuc n) h = cc
+
+pub class_has : (line : ℕ) (l : Left) → IfOk (class_left line l) (λ x. is_class x.0 ≡ true)
+unfolding class_left
+class_has line l =
+    then_has (λ n. is_within (pos 0) (pos 253) n.0 ≡ true) (λ x. is_class x.0 ≡ true) (range_left (pos 0) (pos 253) causes.Class l) _ (range_has (pos 0) (pos 253) causes.Class l)
+    (λ n in_n. then_has (λ f. is_within (pos 0) (pos 10000) f.0 ≡ true) (λ x. is_class x.0 ≡ true) (range_left (pos 0) (pos 10000) causes.Parameter n.1) _ (range_has (pos 0) (pos 10000) causes.Parameter n.1)
+    (λ f in_f. then_has (λ m. is_size m.0 ≡ true) (λ x. is_class x.0 ≡ true) (least_left (pos 0) causes.Dimension f.1) _ (least_has (pos 0) causes.Dimension f.1)
+    (λ m in_m. then_has (λ g. is_glue g.0 ≡ true) (λ x. is_class x.0 ≡ true) (glue_left causes.UnknownWord m.1) _ (glue_has causes.UnknownWord m.1)
+    (λ g in_g. both (nat_le (nat_abs n.0) 253 && is_within (pos 0) (pos 10000) f.0 && is_size m.0) (is_glue g.0)
+    (both (nat_le (nat_abs n.0) 253 && is_within (pos 0) (pos 10000) f.0) (is_size m.0) (both (nat_le (nat_abs n.0) 253) (is_within (pos 0) (pos 10000) f.0) (number_at_most n.0 in_n) in_f) in_m) in_g))))
+
+number_among : (ks : List ℕ) (r : Result ℤ TextFault) → is_foot_class ks (read_or (pos 0) r) ≡ true → is_class_among ks (number_or r) ≡ true
+number_among ks (Ok v) h = right_of (not (int_lt v (pos 0))) (is_class_among ks (nat_abs v)) h
+number_among ks (Err e) h = right_of (not (int_lt (pos 0) (pos 0))) (is_class_among ks 0) h
+
+named_has : (ks : List ℕ) (l : Left) (t : Bool) → IfOk (named_class ks l t) (λ x. is_class_among ks x.0 ≡ true)
+named_has ks l true = refl
+named_has ks l false =
+    field_has (λ n. is_class_among ks n ≡ true) (class_slot ks) number_in
+    (λ f h. number_among ks (integer_of f) (read_none (pos 0) (is_foot_class ks) causes.Class (integer_of f) h)) l
+
+pub foot_has : (k : Known) (l : Left) → IfOk (foot_left k l) (λ x. is_class_among k.classes x.0 ≡ true)
+unfolding foot_left
+foot_has k l = named_has k.classes l ((k.version == 1) || is_end l.fields)
