@@ -18,7 +18,7 @@ use Rattle.tb_galley.specs.declared.ItemKind.{ItemKind}
 use Rattle.tb_galley.specs.declared.ItemKind.TheVariants as items
 use Rattle.tb_galley.specs.declared.LeafKind.{LeafKind}
 use Rattle.tb_galley.specs.declared.LeafKind.TheVariants as leaves
-use Rattle.tb_galley.specs.Words.{LineWord, hbox, rule, skip, kern, penalty, mark, note, foot, float, margin, newpage, clearpage, pagebreak, nopagebreak, onecolumn, twocolumn, suppressfloats}
+use Rattle.tb_galley.specs.Words.{LineWord, Known, hbox, rule, skip, kern, penalty, mark, note, foot, float, margin, newpage, clearpage, pagebreak, nopagebreak, onecolumn, twocolumn, suppressfloats}
 use Rattle.tb_galley.specs.Values.{name_slot, least_slot, range_slot, word_slot, word_slots, are_places}
 use Rattle.tb_galley.specs.Faults.{is_printable}
 use Rattle.tb_galley.specs.Grammar.{read_or, content_of, places_at, has_byte}
@@ -78,18 +78,18 @@ sized_back name h d good =
       depth = dimension_read d (size_small d deep);
     }
 
-pub leaf_back : (k : LeafKind) → is_leaf k ≡ true → ReadsAs (leaf_word k) (leaf_fields k) (λ n. contents.Plain k)
-leaf_back (leaves.Hbox name h d) good =
+pub leaf_back : (known : Known) (k : LeafKind) → is_leaf k ≡ true → ReadsAs known (leaf_word k) (leaf_fields k) (λ n. contents.Plain k)
+leaf_back known (leaves.Hbox name h d) good =
     let sized : SizedBack name h d = sized_back name h d good in
     record { fit = sized.fit; short = omega (arith, sized.short); content = λ n. (λ i. contents.Plain (leaves.Hbox name (sized.height i) (sized.depth i))) }
-leaf_back (leaves.Rule name h d) good =
+leaf_back known (leaves.Rule name h d) good =
     let sized : SizedBack name h d = sized_back name h d good in
     record { fit = sized.fit; short = omega (arith, sized.short); content = λ n. (λ i. contents.Plain (leaves.Rule name (sized.height i) (sized.depth i))) }
-leaf_back (leaves.Skip g) good = record { fit = glue_fit g good; short = omega (arith, glue_short g good); content = λ n. ap (λ x. contents.Plain (leaves.Skip x)) (glue_back g good) }
-leaf_back (leaves.Kern w) good =
+leaf_back known (leaves.Skip g) good = record { fit = glue_fit g good; short = omega (arith, glue_short g good); content = λ n. ap (λ x. contents.Plain (leaves.Skip x)) (glue_back g good) }
+leaf_back known (leaves.Kern w) good =
     let short : length (signed_decimal w) ≤ 11 = dimen_length w (dimen_small w good) in
     record { fit = (dimension_fit w good, tt); short = omega arith; content = λ n. ap (λ x. contents.Plain (leaves.Kern x)) (dimension_read w (dimen_small w good)) }
-leaf_back (leaves.Penalty p) good =
+leaf_back known (leaves.Penalty p) good =
     let small : nat_abs p ≤ 10000 = within_small (negsuc 9999) (pos 10000) p 10000 (omega arith) (omega arith) good in
     let short : length (signed_decimal p) ≤ 11 = dimen_length p (omega arith) in
     record { fit = (range_fit (negsuc 9999) (pos 10000) causes.Penalty p (omega arith) (omega arith) good, tt); short = omega arith; content = λ n. ap (λ x. contents.Plain (leaves.Penalty x)) (integer_read p (omega arith)) }
@@ -172,7 +172,7 @@ is_single (items.Kern w) = false
 is_single (items.Penalty p) = false
 is_single (items.Mark name) = true
 is_single (items.Note name) = true
-is_single (items.Foot ls) = false
+is_single (items.Foot class ls) = false
 is_single (items.Float f vert) = true
 is_single (items.Margin m vert) = true
 is_single items.NewPage = true
@@ -191,7 +191,7 @@ item_word (items.Kern w) = kern
 item_word (items.Penalty p) = penalty
 item_word (items.Mark name) = mark
 item_word (items.Note name) = note
-item_word (items.Foot ls) = foot
+item_word (items.Foot class ls) = foot
 item_word (items.Float f vert) = float
 item_word (items.Margin m vert) = margin
 item_word items.NewPage = newpage
@@ -210,7 +210,7 @@ item_fields (items.Kern w) = leaf_fields (leaves.Kern w)
 item_fields (items.Penalty p) = leaf_fields (leaves.Penalty p)
 item_fields (items.Mark name) = name ∷ []
 item_fields (items.Note name) = name ∷ []
-item_fields (items.Foot ls) = []
+item_fields (items.Foot class ls) = []
 item_fields (items.Float f vert) = float_fields f vert
 item_fields (items.Margin m vert) = margin_fields m vert
 item_fields items.NewPage = []
@@ -264,27 +264,27 @@ margin_is m vert =
     ∙ in_turn (codes "margin") (and_text m.name) (and_number m.left_height) (and_number m.left_depth) (and_number m.right_height) (and_number m.right_depth) (32 ∷ paragraph_field vert)
     ∙ six (codes "margin") m.name (signed_decimal m.left_height) (signed_decimal m.left_depth) (signed_decimal m.right_height) (signed_decimal m.right_depth) (paragraph_field vert)
 
-pub item_is : (k : ItemKind) → is_single k ≡ true → item_text k ≡ ended_line (item_line k)
+pub item_is : (version : ℕ) (k : ItemKind) → is_single k ≡ true → item_text version k ≡ ended_line (item_line k)
 unfolding area_fields
-item_is (items.Hbox name h d) single = cc
-item_is (items.Rule name h d) single = cc
-item_is (items.Skip g) single = cc
-item_is (items.Kern w) single = cc
-item_is (items.Penalty p) single = cc
-item_is (items.Mark name) single = ap (λ t. ended_line (codes "mark " ++ t)) (sym (nothing_more name))
-item_is (items.Note name) single = ap (λ t. ended_line (codes "note " ++ t)) (sym (nothing_more name))
-item_is (items.Foot ls) single = cc
-item_is (items.Float f vert) single = ap ended_line (float_is f vert)
-item_is (items.Margin m vert) single = ap ended_line (margin_is m vert)
-item_is items.NewPage single = refl
-item_is items.ClearPage single = refl
-item_is (items.PageBreak k) single = ap (λ t. ended_line (codes "pagebreak " ++ t)) (sym (nothing_more (decimal k)))
-item_is (items.NoPageBreak k) single = ap (λ t. ended_line (codes "nopagebreak " ++ t)) (sym (nothing_more (decimal k)))
-item_is items.OneColumn single = refl
-item_is items.TwoColumn single = refl
-item_is (items.Suppress areas.All) single = refl
-item_is (items.Suppress areas.Top) single = refl
-item_is (items.Suppress areas.Bottom) single = refl
+item_is version (items.Hbox name h d) single = cc
+item_is version (items.Rule name h d) single = cc
+item_is version (items.Skip g) single = cc
+item_is version (items.Kern w) single = cc
+item_is version (items.Penalty p) single = cc
+item_is version (items.Mark name) single = ap (λ t. ended_line (codes "mark " ++ t)) (sym (nothing_more name))
+item_is version (items.Note name) single = ap (λ t. ended_line (codes "note " ++ t)) (sym (nothing_more name))
+item_is version (items.Foot class ls) single = cc
+item_is version (items.Float f vert) single = ap ended_line (float_is f vert)
+item_is version (items.Margin m vert) single = ap ended_line (margin_is m vert)
+item_is version items.NewPage single = refl
+item_is version items.ClearPage single = refl
+item_is version (items.PageBreak k) single = ap (λ t. ended_line (codes "pagebreak " ++ t)) (sym (nothing_more (decimal k)))
+item_is version (items.NoPageBreak k) single = ap (λ t. ended_line (codes "nopagebreak " ++ t)) (sym (nothing_more (decimal k)))
+item_is version items.OneColumn single = refl
+item_is version items.TwoColumn single = refl
+item_is version (items.Suppress areas.All) single = refl
+item_is version (items.Suppress areas.Top) single = refl
+item_is version (items.Suppress areas.Bottom) single = refl
 
 -- an item with this line in it
 abbrev pub on_line_kind : ℕ → ItemKind → ItemKind
@@ -295,7 +295,7 @@ on_line_kind n (items.Kern w) = items.Kern w
 on_line_kind n (items.Penalty p) = items.Penalty p
 on_line_kind n (items.Mark name) = items.Mark name
 on_line_kind n (items.Note name) = items.Note name
-on_line_kind n (items.Foot ls) = items.Foot ls
+on_line_kind n (items.Foot class ls) = items.Foot class ls
 on_line_kind n (items.Float f vert) = items.Float (record f { line = n }) vert
 on_line_kind n (items.Margin m vert) = items.Margin (record m { line = n }) vert
 on_line_kind n items.NewPage = items.NewPage
@@ -327,8 +327,8 @@ class_within c h = grind (arith, nat_tests)
 degree_within : (k : ℕ) → nat_le k 4 ≡ true → is_within (pos 0) (pos 4) (pos k) ≡ true
 degree_within k h = grind (arith, nat_tests)
 
-float_back : (f : Float) (vert : Bool) → is_float f ≡ true → ReadsAs float (float_fields f vert) (λ n. contents.Item (items.Float (record f { line = n }) vert))
-float_back f vert good =
+float_back : (known : Known) (f : Float) (vert : Bool) → is_float f ≡ true → ReadsAs known float (float_fields f vert) (λ n. contents.Item (items.Float (record f { line = n }) vert))
+float_back known f vert good =
     let placing : (f.places.h || f.places.t || f.places.b || f.places.p) ≡ true = right_of (is_name f.name && is_between 1 26 f.class) (f.places.h || f.places.t || f.places.b || f.places.p) (left_of (is_name f.name && is_between 1 26 f.class && (f.places.h || f.places.t || f.places.b || f.places.p)) (is_size f.height) good) in
     let front : (is_name f.name && is_between 1 26 f.class) ≡ true = left_of (is_name f.name && is_between 1 26 f.class) (f.places.h || f.places.t || f.places.b || f.places.p) (left_of (is_name f.name && is_between 1 26 f.class && (f.places.h || f.places.t || f.places.b || f.places.p)) (is_size f.height) good) in
     let named : is_name f.name ≡ true = left_of (is_name f.name) (is_between 1 26 f.class) front in
@@ -369,8 +369,8 @@ float_back f vert good =
       }) (paragraph.read i)));
     }
 
-margin_back : (m : Margin) (vert : Bool) → is_margin m ≡ true → ReadsAs margin (margin_fields m vert) (λ n. contents.Item (items.Margin (record m { line = n }) vert))
-margin_back m vert good =
+margin_back : (known : Known) (m : Margin) (vert : Bool) → is_margin m ≡ true → ReadsAs known margin (margin_fields m vert) (λ n. contents.Item (items.Margin (record m { line = n }) vert))
+margin_back known m vert good =
     let front : (is_name m.name && is_size m.left_height && is_size m.left_depth && is_size m.right_height) ≡ true = left_of (is_name m.name && is_size m.left_height && is_size m.left_depth && is_size m.right_height) (is_size m.right_depth) good in
     let fourth : is_size m.right_depth ≡ true = right_of (is_name m.name && is_size m.left_height && is_size m.left_depth && is_size m.right_height) (is_size m.right_depth) good in
     let third : is_size m.right_height ≡ true = right_of (is_name m.name && is_size m.left_height && is_size m.left_depth) (is_size m.right_height) front in
@@ -395,9 +395,9 @@ margin_back m vert good =
       }) (paragraph.read i)));
     }
 
-degree_back : (w : LineWord) (make : ℕ → ItemKind) (k : ℕ) → nat_le k 4 ≡ true → AllFit (word_slots (decimal k ∷ []) w) (decimal k ∷ [])
-    → ((n : ℕ) → content_of n (decimal k ∷ []) w ≡ contents.Item (make (nat_abs (read_or (pos 0) (integer_of (decimal k)))))) → ReadsAs w (decimal k ∷ []) (λ n. contents.Item (make k))
-degree_back w make k good fit content =
+degree_back : (known : Known) (w : LineWord) (make : ℕ → ItemKind) (k : ℕ) → nat_le k 4 ≡ true → AllFit (word_slots known (decimal k ∷ []) w) (decimal k ∷ [])
+    → ((n : ℕ) → content_of n (decimal k ∷ []) w ≡ contents.Item (make (nat_abs (read_or (pos 0) (integer_of (decimal k)))))) → ReadsAs known w (decimal k ∷ []) (λ n. contents.Item (make k))
+degree_back known w make k good fit content =
     let small : nat_abs (pos k) ≤ 4 = within_small (pos 0) (pos 4) (pos k) 4 (omega arith) (omega arith) (degree_within k good) in
     let a : length (signed_decimal (pos k)) ≤ 11 = dimen_length (pos k) (omega arith) in
     record { fit = fit; short = omega arith; content = λ n. content n ∙ ap (λ z. contents.Item (make (nat_abs z))) (integer_read (pos k) (omega arith)) }
@@ -405,28 +405,28 @@ degree_back w make k good fit content =
 degree_fit : (k : ℕ) → nat_le k 4 ≡ true → AllFit (range_slot (pos 0) (pos 4) causes.Penalty ∷ []) (decimal k ∷ [])
 degree_fit k good = (range_fit (pos 0) (pos 4) causes.Penalty (pos k) (omega arith) (omega arith) (degree_within k good), tt)
 
-named_back : (w : LineWord) (make : List ℕ → ItemKind) (name : List ℕ) → is_name name ≡ true → AllFit (word_slots (name ∷ []) w) (name ∷ [])
-    → ((n : ℕ) → content_of n (name ∷ []) w ≡ contents.Item (make name)) → ReadsAs w (name ∷ []) (λ n. contents.Item (make name))
-named_back w make name good fit content = record { fit = fit; short = omega (arith, (name_text name good).short); content = content }
+named_back : (known : Known) (w : LineWord) (make : List ℕ → ItemKind) (name : List ℕ) → is_name name ≡ true → AllFit (word_slots known (name ∷ []) w) (name ∷ [])
+    → ((n : ℕ) → content_of n (name ∷ []) w ≡ contents.Item (make name)) → ReadsAs known w (name ∷ []) (λ n. contents.Item (make name))
+named_back known w make name good fit content = record { fit = fit; short = omega (arith, (name_text name good).short); content = content }
 
-pub item_back : (m : ℕ) (k : ItemKind) → is_single k ≡ true → is_item m k ≡ true → ReadsAs (item_word k) (item_fields k) (λ n. contents.Item (on_line_kind n k))
+pub item_back : (known : Known) (m : ℕ) (k : ItemKind) → is_single k ≡ true → is_item m k ≡ true → ReadsAs known (item_word k) (item_fields k) (λ n. contents.Item (on_line_kind n k))
 unfolding area_fields
-item_back m (items.Hbox name h d) single good = cc
-item_back m (items.Rule name h d) single good = cc
-item_back m (items.Skip g) single good = cc
-item_back m (items.Kern w) single good = cc
-item_back m (items.Penalty p) single good = cc
-item_back m (items.Mark name) single good = named_back mark (λ t. items.Mark t) name good (name_fit name good, tt) (λ n. refl)
-item_back m (items.Note name) single good = named_back note (λ t. items.Note t) name good (name_fit name good, tt) (λ n. refl)
-item_back m (items.Foot ls) single good = cc
-item_back m (items.Float f vert) single good = float_back f vert (right_of (f.line == m) (is_float f) good)
-item_back m (items.Margin a vert) single good = margin_back a vert (right_of (a.line == m) (is_margin a) good)
-item_back m items.NewPage single good = record { fit = tt; short = omega arith; content = λ n. refl }
-item_back m items.ClearPage single good = record { fit = tt; short = omega arith; content = λ n. refl }
-item_back m (items.PageBreak k) single good = degree_back pagebreak (λ d. items.PageBreak d) k good (degree_fit k good) (λ n. refl)
-item_back m (items.NoPageBreak k) single good = degree_back nopagebreak (λ d. items.NoPageBreak d) k good (degree_fit k good) (λ n. refl)
-item_back m items.OneColumn single good = record { fit = tt; short = omega arith; content = λ n. refl }
-item_back m items.TwoColumn single good = record { fit = tt; short = omega arith; content = λ n. refl }
-item_back m (items.Suppress areas.All) single good = record { fit = tt; short = omega arith; content = λ n. refl }
-item_back m (items.Suppress areas.Top) single good = record { fit = (record { text = word_text (codes "t") refl (omega arith); slot = refl }, tt); short = omega arith; content = λ n. refl }
-item_back m (items.Suppress areas.Bottom) single good = record { fit = (record { text = word_text (codes "b") refl (omega arith); slot = refl }, tt); short = omega arith; content = λ n. refl }
+item_back known m (items.Hbox name h d) single good = cc
+item_back known m (items.Rule name h d) single good = cc
+item_back known m (items.Skip g) single good = cc
+item_back known m (items.Kern w) single good = cc
+item_back known m (items.Penalty p) single good = cc
+item_back known m (items.Mark name) single good = named_back known mark (λ t. items.Mark t) name good (name_fit name good, tt) (λ n. refl)
+item_back known m (items.Note name) single good = named_back known note (λ t. items.Note t) name good (name_fit name good, tt) (λ n. refl)
+item_back known m (items.Foot class ls) single good = cc
+item_back known m (items.Float f vert) single good = float_back known f vert (right_of (f.line == m) (is_float f) good)
+item_back known m (items.Margin a vert) single good = margin_back known a vert (right_of (a.line == m) (is_margin a) good)
+item_back known m items.NewPage single good = record { fit = tt; short = omega arith; content = λ n. refl }
+item_back known m items.ClearPage single good = record { fit = tt; short = omega arith; content = λ n. refl }
+item_back known m (items.PageBreak k) single good = degree_back known pagebreak (λ d. items.PageBreak d) k good (degree_fit k good) (λ n. refl)
+item_back known m (items.NoPageBreak k) single good = degree_back known nopagebreak (λ d. items.NoPageBreak d) k good (degree_fit k good) (λ n. refl)
+item_back known m items.OneColumn single good = record { fit = tt; short = omega arith; content = λ n. refl }
+item_back known m items.TwoColumn single good = record { fit = tt; short = omega arith; content = λ n. refl }
+item_back known m (items.Suppress areas.All) single good = record { fit = tt; short = omega arith; content = λ n. refl }
+item_back known m (items.Suppress areas.Top) single good = record { fit = (record { text = word_text (codes "t") refl (omega arith); slot = refl }, tt); short = omega arith; content = λ n. refl }
+item_back known m (items.Suppress areas.Bottom) single good = record { fit = (record { text = word_text (codes "b") refl (omega arith); slot = refl }, tt); short = omega arith; content = λ n. refl }

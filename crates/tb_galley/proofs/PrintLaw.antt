@@ -1,19 +1,27 @@
 -- The canonical text of a valid galley whose items are served is read as the galley itself, but for its line numbers.
-use Rattle.std.proofs.Common.{◌≡◌, ℕ, ◌+◌, ◌≤◌, true, false, nat_lt, nat_le, List, [], ◌∷◌, ◌++◌, length, map, None, Ok, Err, if◌then◌else◌, refl, ap, sym, ◌∙◌, arith, append_assoc}
-use Rattle.std.specs.Prelude.{codes}
+use Rattle.std.proofs.Common.{◌≡◌, ℕ, zero, suc, ◌+◌, ◌≤◌, Bool, true, false, not, ◌&&◌, ◌||◌, ◌==◌, nat_lt, nat_le, List, [], ◌∷◌, ◌++◌, length, map, filter, Some, None, Ok, Err, if◌then◌else◌, refl, ap, sym, subst, ◌∙◌, ◌⊎◌, inl, inr, arith, append_assoc}
+use Rattle.std.specs.Prelude.{codes, decimal}
 use Rattle.std.specs.List.{list_all}
+use Rattle.std.proofs.lemmas.Bool.{eqb-true}
 use Rattle.std.proofs.lemmas.Bool.Decides.{nat_tests}
 use Rattle.tb_text.specs.Lines.{lines_of}
 use Rattle.tb_text.proofs.LineTexts.{joined_lines, lines_of-joined}
 use Rattle.tb_param.specs.declared.params.Params.{Params}
 use Rattle.tb_param.specs.Fields.{value_of}
 use Rattle.tb_param.specs.Defaults.{default_params}
-use Rattle.tb_param.specs.Table.{Row, rows}
-use Rattle.tb_param.specs.Ranges.{are_params}
+use Rattle.tb_param.specs.Table.{Row, rows, rows_for, row_of, value_fault}
+use Rattle.tb_param.specs.Release.{is_2014, has_second}
+use Rattle.tb_param.specs.declared.Choice.{Choice}
+use Rattle.tb_param.specs.declared.Choice.TheVariants as choices
+use Rattle.tb_param.specs.declared.Value.TheVariants as values
+use Rattle.tb_param.specs.declared.table.Form.TheVariants as forms
+use Rattle.tb_param.specs.Ranges.{are_params, is_no_fault}
+use Rattle.tb_param.proofs.RangeLemmas.{AllRows}
 use Rattle.tb_param.proofs.AllSet.{all_set}
 use Rattle.tb_param.proofs.RowNames.{rows_found}
 use Rattle.tb_galley.specs.declared.Cause.TheVariants as causes
 use Rattle.tb_galley.specs.declared.contents.Content.TheVariants as contents
+use Rattle.tb_galley.specs.declared.ClassLine.{ClassLine}
 use Rattle.tb_galley.specs.declared.Galley.{Galley}
 use Rattle.tb_galley.specs.declared.Item.{Item}
 use Rattle.tb_galley.specs.declared.ItemKind.{ItemKind}
@@ -25,22 +33,46 @@ use Rattle.tb_galley.specs.Words.{header, end, Phase, at_start, among_sets, amon
 use Rattle.tb_galley.specs.Faults.{fault}
 use Rattle.tb_galley.specs.Grammar.{empty_draft, grammar, spelled, input_limit}
 use Rattle.tb_galley.specs.Machine.{start, verdict}
-use Rattle.tb_galley.specs.Print.{ended_line, set_lines, leaf_text, leaf_lines, item_text, item_lines, printed}
-use Rattle.tb_galley.specs.Valid.{weight_of, weight, IsValid}
-use Rattle.tb_galley.specs.Live.{HasLiveItems}
-use Rattle.tb_galley.specs.ReadBack.{unnumbered_leaf, unnumbered_kind, unnumbered_item, unnumbered, ReadsBack}
+use Rattle.tb_galley.specs.Print.{ended_line, set_lines, leaf_text, leaf_lines, item_text, item_lines, class_lines, header_text, foot_text, and_text, printed}
+use Rattle.tb_galley.specs.Valid.{weight_of, weight, fits_version, IsValid}
+use Rattle.tb_galley.specs.Live.{are_live_classes, HasLiveItems}
+use Rattle.tb_galley.specs.ReadBack.{unnumbered_leaf, unnumbered_kind, unnumbered_item, unnumbered_class, unnumbered, ReadsBack}
 use Rattle.tb_galley.proofs.Sound.{drafted}
 use Rattle.tb_galley.proofs.SameStep.{left_exact}
-use Rattle.tb_galley.proofs.FieldTexts.{tail_text}
+use Rattle.tb_galley.proofs.FieldTexts.{tail_text, nothing_more}
+use Rattle.tb_galley.proofs.Conjunctions.{both, left_of, right_of}
 use Rattle.tb_galley.proofs.SlotTexts.{spelling}
 use Rattle.tb_galley.proofs.KindTexts.{leaf_word, leaf_fields, leaf_is, item_is}
-use Rattle.tb_galley.proofs.ValueTexts.{value_fields, value_is}
-use Rattle.tb_galley.proofs.PrintRuns.{Runs, then_lines, to_state, word_runs, set_text, plain_rows, is_in_range, set_all, sets_run, numbered_leaves, numbered_kind, numbered_items, leaf_line, kind_lines, takes_items, leaf_texts, item_state, item_texts, phase_past_items, items_run}
+use Rattle.tb_galley.proofs.ValueTexts.{value_fields, value_is, is_plain_row}
+use Rattle.tb_galley.proofs.PrintRuns.{Runs, then_lines, to_state, word_runs, set_text, plain_rows, is_in_range, is_known_row, class_fields, foot_line, set_all, sets_run, numbered_leaves, numbered_kind, numbered_items, leaf_line, kind_lines, takes_items, leaf_texts, item_state, item_texts, phase_past_items, items_run}
 
 -- ---- the canonical text by its lines
 
+abbrev version_field : Bool → List ℕ
+version_field true = codes "1"
+version_field false = codes "2"
+
+-- the first line
+abbrev header_line : ℕ → List ℕ
+header_line v = codes "galley" ++ tail_text (version_field (v == 1) ∷ [])
+
+-- of a galley without classes
 abbrev canonical_lines : Galley → List (List ℕ)
-canonical_lines g = codes "galley 1" ∷ (map (set_text g.params) rows ++ (item_texts g.items ++ codes "end" ∷ []))
+canonical_lines g = header_line g.version ∷ (map (set_text g.params) (rows_for g.version) ++ (item_texts g.version g.items ++ codes "end" ∷ []))
+
+header_is : (v : ℕ) → header_text v ≡ joined_lines (header_line v ∷ [])
+header_is v = by_version (v == 1)
+  where
+    by_version : (t : Bool) → (if t then codes "galley 1\n" else codes "galley 2\n") ≡ joined_lines ((codes "galley" ++ tail_text (version_field t ∷ [])) ∷ [])
+    by_version true = refl
+    by_version false = refl
+
+foot_is : (v class : ℕ) → foot_text v class ≡ joined_lines (foot_line v class ∷ [])
+foot_is v class = by_version (v == 1)
+  where
+    by_version : (t : Bool) → (if t then codes "foot\n" else ended_line (codes "foot" ++ and_text (decimal class))) ≡ joined_lines ((codes "foot" ++ tail_text (class_fields t class)) ∷ [])
+    by_version true = refl
+    by_version false = ap (λ d. ended_line (codes "foot " ++ d)) (sym (nothing_more (decimal class)))
 
 joined_lines-append : (xs ys : List (List ℕ)) → joined_lines (xs ++ ys) ≡ joined_lines xs ++ joined_lines ys
 joined_lines-append [] ys = refl
@@ -68,48 +100,136 @@ leaf_joined : (k : LeafKind) → ended_line (leaf_text k) ≡ joined_lines (leaf
 unfolding leaf_line
 leaf_joined k = ap ended_line (leaf_is k)
 
-kind_joined : (k : ItemKind) → item_text k ≡ joined_lines (kind_lines k)
+kind_joined : (v : ℕ) (k : ItemKind) → item_text v k ≡ joined_lines (kind_lines v k)
 unfolding kind_lines leaf_line
-kind_joined (items.Hbox name h d) = leaf_joined (leaves.Hbox name h d)
-kind_joined (items.Rule name h d) = leaf_joined (leaves.Rule name h d)
-kind_joined (items.Skip g) = leaf_joined (leaves.Skip g)
-kind_joined (items.Kern w) = leaf_joined (leaves.Kern w)
-kind_joined (items.Penalty p) = leaf_joined (leaves.Penalty p)
-kind_joined (items.Foot ls) =
-    append_assoc (codes "foot\n") (leaf_lines ls) (codes "endfoot\n") ∙ ap (λ t. codes "foot\n" ++ t) (leaves_joined ls (codes "endfoot" ∷ []))
-kind_joined k = item_is k refl
+kind_joined v (items.Hbox name h d) = leaf_joined (leaves.Hbox name h d)
+kind_joined v (items.Rule name h d) = leaf_joined (leaves.Rule name h d)
+kind_joined v (items.Skip g) = leaf_joined (leaves.Skip g)
+kind_joined v (items.Kern w) = leaf_joined (leaves.Kern w)
+kind_joined v (items.Penalty p) = leaf_joined (leaves.Penalty p)
+kind_joined v (items.Foot class ls) =
+    append_assoc (foot_text v class) (leaf_lines ls) (codes "endfoot\n")
+    ∙ (λ i. foot_is v class i ++ leaves_joined ls (codes "endfoot" ∷ []) i)
+    ∙ ended_first (foot_line v class) (joined_lines (leaf_texts ls ++ codes "endfoot" ∷ []))
+kind_joined v k = item_is v k refl
 
-items_joined : (is : List Item) → item_lines is ≡ joined_lines (item_texts is)
-items_joined [] = refl
-items_joined (i ∷ is) = (λ j. kind_joined i.kind j ++ items_joined is j) ∙ sym (joined_lines-append (kind_lines i.kind) (item_texts is))
+items_joined : (v : ℕ) (is : List Item) → item_lines v is ≡ joined_lines (item_texts v is)
+items_joined v [] = refl
+items_joined v (i ∷ is) = (λ j. kind_joined v i.kind j ++ items_joined v is j) ∙ sym (joined_lines-append (kind_lines v i.kind) (item_texts v is))
 
-canonical_text : (g : Galley) → printed g ≡ joined_lines (canonical_lines g)
+-- a galley of live classes has none
+no_classes : (cs : List ClassLine) → are_live_classes cs ≡ true → cs ≡ []
+no_classes [] live = refl
+no_classes (c ∷ cs) live = cc
+
+canonical_text : (g : Galley) → g.classes ≡ [] → printed g ≡ joined_lines (canonical_lines g)
 unfolding printed
-canonical_text g =
-    (λ i. codes "galley 1\n" ++ sets_joined g.params rows i ++ items_joined g.items i ++ codes "end\n")
-    ∙ ap (λ t. t ++ codes "end\n") (append_assoc (codes "galley 1\n") (joined_lines (map (set_text g.params) rows)) (joined_lines (item_texts g.items)))
-    ∙ append_assoc (codes "galley 1\n") (joined_lines (map (set_text g.params) rows) ++ joined_lines (item_texts g.items)) (codes "end\n")
-    ∙ ap (λ t. codes "galley 1\n" ++ t)
-    (append_assoc (joined_lines (map (set_text g.params) rows)) (joined_lines (item_texts g.items)) (codes "end\n")
-    ∙ ap (λ t. joined_lines (map (set_text g.params) rows) ++ t) (sym (joined_lines-append (item_texts g.items) (codes "end" ∷ [])))
-    ∙ sym (joined_lines-append (map (set_text g.params) rows) (item_texts g.items ++ codes "end" ∷ [])))
+canonical_text g none =
+    let first : List ℕ = header_line g.version in
+    let sets : List (List ℕ) = map (set_text g.params) (rows_for g.version) in
+    let texts : List (List ℕ) = item_texts g.version g.items in
+    (λ i. header_is g.version i ++ sets_joined g.params (rows_for g.version) i ++ class_lines (none i) ++ items_joined g.version g.items i ++ codes "end\n")
+    ∙ ap (λ t. t ++ joined_lines texts ++ codes "end\n") (nothing_more (joined_lines (first ∷ []) ++ joined_lines sets))
+    ∙ ap (λ t. t ++ codes "end\n") (append_assoc (joined_lines (first ∷ [])) (joined_lines sets) (joined_lines texts))
+    ∙ append_assoc (joined_lines (first ∷ [])) (joined_lines sets ++ joined_lines texts) (codes "end\n")
+    ∙ ap (λ t. joined_lines (first ∷ []) ++ t)
+    (append_assoc (joined_lines sets) (joined_lines texts) (codes "end\n")
+    ∙ ap (λ t. joined_lines sets ++ t) (sym (joined_lines-append texts (codes "end" ∷ [])))
+    ∙ sym (joined_lines-append sets (texts ++ codes "end" ∷ [])))
+    ∙ ended_first first (joined_lines (sets ++ (texts ++ codes "end" ∷ [])))
 
 -- ---- the law
 
+-- how many lines stand before the items
+abbrev front : Galley → ℕ
+front g = 1 + length (rows_for g.version)
+
 renumbered : Galley → Galley
-renumbered g = record { params = g.params; items = numbered_items (1 + length rows + 1) g.items; end_line = 1 + length rows + weight g.items + 1 }
+renumbered g = record { params = g.params; version = g.version; classes = []; items = numbered_items (front g + 1) g.items; end_line = front g + weight g.items + 1 }
 
-end_runs : (n : ℕ) (p : Phase) (c : ℕ) (ps : Params) (e : ℕ) (is : List Item) → takes_items p ≡ true → Runs (item_state n p c ps e is) (codes "end" ∷ []) (item_state (n + 1) ended c ps (n + 1) is)
-end_runs n among_sets c ps e is takes = word_runs n among_sets c (drafted ps is None e) end [] (λ m. contents.End) refl (record { fit = tt; short = omega arith; content = λ m. refl }) refl refl
-end_runs n among_items c ps e is takes = word_runs n among_items c (drafted ps is None e) end [] (λ m. contents.End) refl (record { fit = tt; short = omega arith; content = λ m. refl }) refl refl
-end_runs n p c ps e is takes = cc
+end_runs : (n : ℕ) (p : Phase) (c : ℕ) (ps : Params) (v e : ℕ) (is : List Item) → takes_items p ≡ true → Runs (item_state n p c ps v e is) (codes "end" ∷ []) (item_state (n + 1) ended c ps v (n + 1) is)
+end_runs n among_sets c ps v e is takes = word_runs n among_sets c (drafted ps v [] is None e) end [] (λ m. contents.End) refl (record { fit = tt; short = omega arith; content = λ m. refl }) refl refl
+end_runs n among_items c ps v e is takes = word_runs n among_items c (drafted ps v [] is None e) end [] (λ m. contents.End) refl (record { fit = tt; short = omega arith; content = λ m. refl }) refl refl
+end_runs n p c ps v e is takes = cc
 
-header_runs : Runs start (codes "galley 1" ∷ []) (item_state 1 among_sets 0 default_params 0 [])
-header_runs = word_runs 0 at_start 0 empty_draft header (codes "1" ∷ []) (λ m. contents.Header) refl (record { fit = (record { text = record { printable = refl; some = omega arith }; slot = refl }, tt); short = omega arith; content = λ m. refl }) refl refl
+-- there are two versions
+version_cases : (v : ℕ) (cs : List ClassLine) (ps : Params) → fits_version v cs ps ≡ true → ((v ≡ 1) × (has_second ps ≡ false)) ⊎ (v ≡ 2)
+version_cases v [] ps h = by_version (v == 1) (v == 2) (has_second ps) refl (λ e. eqb-true v 1 e) (λ e. eqb-true v 2 e) h
+  where
+    by_version : (one two second : Bool) → has_second ps ≡ second → (one ≡ true → v ≡ 1) → (two ≡ true → v ≡ 2) → ((one && not second) || two) ≡ true → ((v ≡ 1) × (has_second ps ≡ false)) ⊎ (v ≡ 2)
+    by_version one true second s is_one is_two h = inr (is_two refl)
+    by_version true false false s is_one is_two h = inl (is_one refl, s)
+    by_version true false true s is_one is_two h = cc
+    by_version false false second s is_one is_two h = cc
+version_cases v (c ∷ cs) ps h = inr (eqb-true v 2 h)
+
+abbrev HeaderRuns : ℕ → Type 0
+HeaderRuns v = Runs start (header_line v ∷ []) (item_state 1 among_sets 0 default_params v 0 [])
+
+header_runs : (v : ℕ) (cs : List ClassLine) (ps : Params) → ((v ≡ 1) × (has_second ps ≡ false)) ⊎ (v ≡ 2) → HeaderRuns v
+header_runs v cs ps (inl e) =
+    subst HeaderRuns (sym e.0) (word_runs 0 at_start 0 empty_draft header (codes "1" ∷ []) (λ m. contents.Header 1) refl (record { fit = (record { text = record { printable = refl; some = omega arith }; slot = refl }, tt); short = omega arith; content = λ m. refl }) refl refl)
+header_runs v cs ps (inr e) =
+    subst HeaderRuns (sym e) (word_runs 0 at_start 0 empty_draft header (codes "2" ∷ []) (λ m. contents.Header 2) refl (record { fit = (record { text = record { printable = refl; some = omega arith }; slot = refl }, tt); short = omega arith; content = λ m. refl }) refl refl)
 
 params_in_range : (p : Params) → are_params p ≡ true → list_all (is_in_range p) rows ≡ true
 unfolding are_params
 params_in_range p h = h
+
+-- ---- the parameters of each version
+
+all_kept : (p q : Row → Bool) (rs : List Row) → list_all p rs ≡ true → list_all p (filter q rs) ≡ true
+all_kept p q [] h = refl
+all_kept p q (r ∷ rs) h = keep (q r) (all_kept p q rs (right_of (p r) (list_all p rs) h))
+  where
+    keep : (t : Bool) → list_all p (filter q rs) ≡ true → list_all p (if t then r ∷ filter q rs else filter q rs) ≡ true
+    keep true k = both (p r) (list_all p (filter q rs)) (left_of (p r) (list_all p rs) h) k
+    keep false k = k
+
+named_kept : (q : Row → Bool) (rs : List Row) → AllRows (λ (r : Row). row_of r.name ≡ Some r) rs → AllRows (λ (r : Row). row_of r.name ≡ Some r) (filter q rs)
+named_kept q [] h = tt
+named_kept q (r ∷ rs) h = keep (q r) (named_kept q rs h.1)
+  where
+    keep : (t : Bool) → AllRows (λ (s : Row). row_of s.name ≡ Some s) (filter q rs) → AllRows (λ (s : Row). row_of s.name ≡ Some s) (if t then r ∷ filter q rs else filter q rs)
+    keep true k = (h.0, k)
+    keep false k = k
+
+all_known : (q : Row → Bool) (rs : List Row) → list_all q (filter q rs) ≡ true
+all_known q [] = refl
+all_known q (r ∷ rs) = keep (q r) refl (all_known q rs)
+  where
+    keep : (t : Bool) → q r ≡ t → list_all q (filter q rs) ≡ true → list_all q (if t then r ∷ filter q rs else filter q rs) ≡ true
+    keep true e k = both (q r) (list_all q (filter q rs)) e k
+    keep false e k = k
+
+past : ℕ → List Row → List Row
+past zero rs = rs
+past (suc n) [] = []
+past (suc n) (r ∷ rs) = past n rs
+
+all_past : (p : Row → Bool) (n : ℕ) (rs : List Row) → list_all p rs ≡ true → list_all p (past n rs) ≡ true
+unfolding past
+all_past p zero rs h = h
+all_past p (suc n) [] h = refl
+all_past p (suc n) (r ∷ rs) h = all_past p n rs (right_of (p r) (list_all p rs) h)
+
+release_is : (c : Choice) → (is_no_fault (value_fault forms.Release (values.Word c)) && true) ≡ true → is_2014 c ≡ false → c ≡ choices.R2015
+release_is choices.R2015 good not_2014 = refl
+release_is choices.R2014 good not_2014 = cc
+release_is c good not_2014 = cc
+
+release_of : (g : Params) → are_params g ≡ true → has_second g ≡ false → g.release ≡ choices.R2015
+unfolding past
+release_of g good second = release_is g.release (all_past (is_in_range g) 43 rows (params_in_range g good)) second
+
+first_set : (g : Params) → g.release ≡ choices.R2015 → set_all g default_params (rows_for 1) ≡ g
+unfolding default_params
+first_set g same = ap (λ c. record g { release = c }) (sym same)
+
+-- setting all parameters of the version from the defaults gives the parameters
+each_set : (v : ℕ) (g : Params) → are_params g ≡ true → ((v ≡ 1) × (has_second g ≡ false)) ⊎ (v ≡ 2) → set_all g default_params (rows_for v) ≡ g
+each_set v g good (inl e) = subst (λ n. set_all g default_params (rows_for n) ≡ g) (sym e.0) (first_set g (release_of g good e.1))
+each_set v g good (inr e) = subst (λ n. set_all g default_params (rows_for n) ≡ g) (sym e) (all_set g default_params)
 
 few_items : (k : ℕ) → nat_le k 100000 ≡ true → 0 + k ≤ 100000
 few_items k h = grind (arith, nat_tests)
@@ -119,25 +239,28 @@ still_takes [] = refl
 still_takes (i ∷ is) = refl
 
 galley_runs : (g : Galley) → IsValid g → HasLiveItems g
-    → Runs start (canonical_lines g) (item_state (1 + length rows + weight g.items + 1) ended (0 + weight g.items) g.params (1 + length rows + weight g.items + 1) (numbered_items (1 + length rows + 1) g.items))
+    → Runs start (canonical_lines g) (item_state (front g + weight g.items + 1) ended (0 + weight g.items) g.params g.version (front g + weight g.items + 1) (numbered_items (front g + 1) g.items))
 galley_runs g valid live =
     let few : nat_le (weight g.items) 100000 ≡ true = valid.count in
-    let at_end : ℕ = 1 + length rows + weight g.items in
-    let sets : Runs (item_state 1 among_sets 0 default_params 0 []) (map (set_text g.params) rows) (item_state (1 + length rows) among_sets 0 g.params 0 []) =
-    to_state (item_state 1 among_sets 0 default_params 0 []) (item_state (1 + length rows) among_sets 0 (set_all g.params default_params rows) 0 []) (item_state (1 + length rows) among_sets 0 g.params 0 []) (map (set_text g.params) rows)
-    (ap (λ ps. item_state (1 + length rows) among_sets 0 ps 0 []) (all_set g.params default_params))
-    (sets_run g.params default_params 1 rows rows_found plain_rows (params_in_range g.params valid.params)) in
-    let inner : Runs (item_state (1 + length rows) among_sets 0 g.params 0 []) (item_texts g.items) (item_state (1 + length rows + weight g.items) (phase_past_items among_sets g.items) (0 + weight g.items) g.params 0 (numbered_items (1 + length rows + 1) g.items)) =
-    items_run (1 + length rows) among_sets 0 g.params 0 [] g.items refl (few_items (weight g.items) few) valid.items live.live in
-    let last : Runs (item_state (1 + length rows + weight g.items) (phase_past_items among_sets g.items) (0 + weight g.items) g.params 0 (numbered_items (1 + length rows + 1) g.items)) (codes "end" ∷ [])
-    (item_state (1 + length rows + weight g.items + 1) ended (0 + weight g.items) g.params (1 + length rows + weight g.items + 1) (numbered_items (1 + length rows + 1) g.items)) =
-    end_runs (1 + length rows + weight g.items) (phase_past_items among_sets g.items) (0 + weight g.items) g.params 0 (numbered_items (1 + length rows + 1) g.items) (still_takes g.items) in
-    then_lines start (item_state 1 among_sets 0 default_params 0 []) (item_state (1 + length rows + weight g.items + 1) ended (0 + weight g.items) g.params (1 + length rows + weight g.items + 1) (numbered_items (1 + length rows + 1) g.items))
-    (codes "galley 1" ∷ []) (map (set_text g.params) rows ++ (item_texts g.items ++ codes "end" ∷ [])) header_runs
-    (then_lines (item_state 1 among_sets 0 default_params 0 []) (item_state (1 + length rows) among_sets 0 g.params 0 []) (item_state (1 + length rows + weight g.items + 1) ended (0 + weight g.items) g.params (1 + length rows + weight g.items + 1) (numbered_items (1 + length rows + 1) g.items))
-    (map (set_text g.params) rows) (item_texts g.items ++ codes "end" ∷ []) sets
-    (then_lines (item_state (1 + length rows) among_sets 0 g.params 0 []) (item_state (1 + length rows + weight g.items) (phase_past_items among_sets g.items) (0 + weight g.items) g.params 0 (numbered_items (1 + length rows + 1) g.items))
-    (item_state (1 + length rows + weight g.items + 1) ended (0 + weight g.items) g.params (1 + length rows + weight g.items + 1) (numbered_items (1 + length rows + 1) g.items)) (item_texts g.items) (codes "end" ∷ []) inner last))
+    let v : ℕ = g.version in
+    let rs : List Row = rows_for g.version in
+    let which : ((g.version ≡ 1) × (has_second g.params ≡ false)) ⊎ (g.version ≡ 2) = version_cases g.version g.classes g.params valid.version in
+    let sets : Runs (item_state 1 among_sets 0 default_params g.version 0 []) (map (set_text g.params) (rows_for g.version)) (item_state (front g) among_sets 0 g.params g.version 0 []) =
+    to_state (item_state 1 among_sets 0 default_params g.version 0 []) (item_state (front g) among_sets 0 (set_all g.params default_params (rows_for g.version)) g.version 0 []) (item_state (front g) among_sets 0 g.params g.version 0 []) (map (set_text g.params) (rows_for g.version))
+    (ap (λ ps. item_state (front g) among_sets 0 ps g.version 0 []) (each_set g.version g.params valid.params which))
+    (sets_run g.params default_params g.version 1 (rows_for g.version) (named_kept (is_known_row g.version) rows rows_found) (all_known (is_known_row g.version) rows) (all_kept is_plain_row (is_known_row g.version) rows plain_rows)
+    (all_kept (is_in_range g.params) (is_known_row g.version) rows (params_in_range g.params valid.params))) in
+    let inner : Runs (item_state (front g) among_sets 0 g.params g.version 0 []) (item_texts g.version g.items) (item_state (front g + weight g.items) (phase_past_items among_sets g.items) (0 + weight g.items) g.params g.version 0 (numbered_items (front g + 1) g.items)) =
+    items_run (front g) among_sets 0 g.params g.version 0 [] g.items refl (few_items (weight g.items) few) valid.items live.live in
+    let last : Runs (item_state (front g + weight g.items) (phase_past_items among_sets g.items) (0 + weight g.items) g.params g.version 0 (numbered_items (front g + 1) g.items)) (codes "end" ∷ [])
+    (item_state (front g + weight g.items + 1) ended (0 + weight g.items) g.params g.version (front g + weight g.items + 1) (numbered_items (front g + 1) g.items)) =
+    end_runs (front g + weight g.items) (phase_past_items among_sets g.items) (0 + weight g.items) g.params g.version 0 (numbered_items (front g + 1) g.items) (still_takes g.items) in
+    then_lines start (item_state 1 among_sets 0 default_params g.version 0 []) (item_state (front g + weight g.items + 1) ended (0 + weight g.items) g.params g.version (front g + weight g.items + 1) (numbered_items (front g + 1) g.items))
+    (header_line g.version ∷ []) (map (set_text g.params) (rows_for g.version) ++ (item_texts g.version g.items ++ codes "end" ∷ [])) (header_runs g.version g.classes g.params which)
+    (then_lines (item_state 1 among_sets 0 default_params g.version 0 []) (item_state (front g) among_sets 0 g.params g.version 0 []) (item_state (front g + weight g.items + 1) ended (0 + weight g.items) g.params g.version (front g + weight g.items + 1) (numbered_items (front g + 1) g.items))
+    (map (set_text g.params) (rows_for g.version)) (item_texts g.version g.items ++ codes "end" ∷ []) sets
+    (then_lines (item_state (front g) among_sets 0 g.params g.version 0 []) (item_state (front g + weight g.items) (phase_past_items among_sets g.items) (0 + weight g.items) g.params g.version 0 (numbered_items (front g + 1) g.items))
+    (item_state (front g + weight g.items + 1) ended (0 + weight g.items) g.params g.version (front g + weight g.items + 1) (numbered_items (front g + 1) g.items)) (item_texts g.version g.items) (codes "end" ∷ []) inner last))
 
 -- ---- line numbers apart
 
@@ -148,7 +271,7 @@ same_leaves n (l ∷ ls) = ap (λ ms. unnumbered_leaf l ∷ ms) (same_leaves (n 
 
 same_kind : (n : ℕ) (k : ItemKind) → unnumbered_kind (numbered_kind n k) ≡ unnumbered_kind k
 unfolding numbered_kind
-same_kind n (items.Foot ls) = ap (λ ms. items.Foot ms) (same_leaves (n + 1) ls)
+same_kind n (items.Foot class ls) = ap (λ ms. items.Foot class ms) (same_leaves (n + 1) ls)
 same_kind n k = refl
 
 same_list : (n : ℕ) (is : List Item) → map unnumbered_item (numbered_items n is) ≡ map unnumbered_item is
@@ -156,18 +279,18 @@ unfolding numbered_items
 same_list n [] = refl
 same_list n (i ∷ is) = (λ j. record { line = 0; kind = same_kind n i.kind j } ∷ same_list (n + weight_of i.kind) is j)
 
-same_galley : (g : Galley) → unnumbered (renumbered g) ≡ unnumbered g
+same_galley : (g : Galley) → g.classes ≡ [] → unnumbered (renumbered g) ≡ unnumbered g
 unfolding renumbered
-same_galley g = (λ j. record { params = g.params; items = same_list (1 + length rows + 1) g.items j; end_line = 0 })
+same_galley g none = (λ j. record { params = g.params; version = g.version; classes = map unnumbered_class (sym none j); items = same_list (front g + 1) g.items j; end_line = 0 })
 
--- the canonical text is read as the galley, whose items stand from line 45 on
+-- the canonical text is read as the galley, whose items stand after the header and the sets
 is_read : (g : Galley) → IsValid g → HasLiveItems g → length (printed g) ≤ input_limit → grammar (printed g) ≡ Ok (renumbered g)
 unfolding grammar renumbered
 is_read g valid live short =
     let fits : nat_lt input_limit (length (printed g)) ≡ false = not_long (length (printed g)) short in
-    let runs : Runs start (canonical_lines g) (item_state (1 + length rows + weight g.items + 1) ended (0 + weight g.items) g.params (1 + length rows + weight g.items + 1) (numbered_items (1 + length rows + 1) g.items)) = galley_runs g valid live in
+    let runs : Runs start (canonical_lines g) (item_state (front g + weight g.items + 1) ended (0 + weight g.items) g.params g.version (front g + weight g.items + 1) (numbered_items (front g + 1) g.items)) = galley_runs g valid live in
     ap (λ t. if t then Err (fault 0 0 causes.InputSize) else spelled (lines_of (printed g))) fits
-    ∙ ap spelled (ap lines_of (canonical_text g) ∙ lines_of-joined (canonical_lines g) runs.clean)
+    ∙ ap spelled (ap lines_of (canonical_text g (no_classes g.classes live.classes)) ∙ lines_of-joined (canonical_lines g) runs.clean)
     ∙ sym (left_exact (canonical_lines g))
     ∙ ap verdict runs.ends
   where
@@ -175,4 +298,4 @@ is_read g valid live short =
     not_long k h = grind (arith, nat_tests)
 
 pub print_law : (g : Galley) → IsValid g → HasLiveItems g → length (printed g) ≤ input_limit → ReadsBack g
-print_law g valid live short = record { galley = renumbered g; read = is_read g valid live short; same = same_galley g }
+print_law g valid live short = record { galley = renumbered g; read = is_read g valid live short; same = same_galley g (no_classes g.classes live.classes) }

@@ -15,7 +15,7 @@ use Rattle.tb_param.specs.Table.{is_within, is_dimen, is_glue}
 use Rattle.tb_galley.specs.declared.Cause.{Cause}
 use Rattle.tb_galley.specs.declared.Cause.TheVariants as causes
 use Rattle.tb_galley.specs.declared.contents.Content.{Content}
-use Rattle.tb_galley.specs.Words.{LineWord, header, setting, hbox, rule, skip, kern, penalty, mark, note, foot, endfoot, float, margin, newpage, clearpage, pagebreak, nopagebreak, onecolumn, twocolumn, suppressfloats, end}
+use Rattle.tb_galley.specs.Words.{LineWord, Known, header, setting, class_line, hbox, rule, skip, kern, penalty, mark, note, foot, endfoot, float, margin, newpage, clearpage, pagebreak, nopagebreak, onecolumn, twocolumn, suppressfloats, end}
 use Rattle.tb_galley.specs.Values.{name_slot, dimension_slot, least_slot, range_slot, stretch_slot, seen_slot, cause_of_read, word_slots}
 use Rattle.tb_galley.specs.Faults.{is_printable}
 use Rattle.tb_galley.specs.Grammar.{read_or, content_of, glue_from}
@@ -175,10 +175,11 @@ spelling onecolumn = codes "onecolumn"
 spelling twocolumn = codes "twocolumn"
 spelling suppressfloats = codes "suppressfloats"
 spelling end = codes "end"
+spelling class_line = codes "class"
 
 -- the fields after a word are read as this content
-pub record ReadsAs (w : LineWord) (fs : List (List ℕ)) (says : ℕ → Content) : Type 0 where
-  pub fit : AllFit (word_slots fs w) fs
+pub record ReadsAs (k : Known) (w : LineWord) (fs : List (List ℕ)) (says : ℕ → Content) : Type 0 where
+  pub fit : AllFit (word_slots k fs w) fs
   pub short : tail_length fs ≤ 200
   pub content : (n : ℕ) → content_of n fs w ≡ says n
 

@@ -35,7 +35,7 @@ use Rattle.tb_galley.specs.Grammar.{OpenFoot, Draft, item_kind, with_item, with_
 use Rattle.tb_galley.specs.Line.{first_of, Said, line_left}
 use Rattle.tb_galley.specs.Machine.{State, next_phase, item_phase, known_in, count_with, start, past_said, said_unless, said_first, take_said, end_by, verdict_by, verdict}
 use Rattle.tb_galley.specs.Valid.{is_leaf, is_item, weight_of, weight, leaf_lines, lines_of_item, named_lines, rise_from, is_class, do_classes_rise, has_known_class, fits_version, IsValid}
-use Rattle.tb_galley.specs.Live.{is_live_item, HasLiveItems}
+use Rattle.tb_galley.specs.Live.{is_live_item, are_live_classes, HasLiveItems}
 use Rattle.tb_galley.proofs.Suited.{is_served, is_single_word, LeafSaid, ItemSaid, SetsInRange, Suits, SaidSuits, IfSaid, line_suits}
 
 -- ---- lists that rise
@@ -133,10 +133,6 @@ is_fresh among_items v = true
 is_fresh in_foot v = true
 is_fresh ended v = true
 
--- a foot of each class that was declared is live
-abbrev AreLiveClasses : List ClassLine → Type 0
-AreLiveClasses cs = (n : ℕ) → is_class_among (numbers cs) n ≡ true → is_live_item (items.Foot n []) ≡ true
-
 -- the version knows what the draft has, and the classes of feet were declared
 pub record Classed (p : Phase) (d : Draft) : Type 0 where
   pub version : fits_version d.version d.classes d.params ≡ true
@@ -144,7 +140,7 @@ pub record Classed (p : Phase) (d : Draft) : Type 0 where
   pub classes : (list_all is_class d.classes && do_classes_rise d.classes) ≡ true
   pub feet : list_all (λ (i : Item). has_known_class (numbers d.classes) i.kind) d.items ≡ true
   pub foot : is_known_foot (numbers d.classes) d.foot ≡ true
-  pub live : AreLiveClasses d.classes
+  pub live : are_live_classes d.classes ≡ true
 
 pub record Sound (n : ℕ) (p : Phase) (c : ℕ) (d : Draft) : Type 0 where
   pub params : are_params d.params ≡ true
@@ -383,6 +379,15 @@ leaf_line n c ps v cs is o e k fits good s =
           (rises_more_from 0 (named_lines is ++ leaf_lines o.leaves) (n + 1) (n + 1 + 1) s.lines (omega arith));
     }
 
+-- a foot of a class that was declared is live
+live_class : (cs : List ClassLine) (class : ℕ) → are_live_classes cs ≡ true → is_class_among (numbers cs) class ≡ true → (class == 254) ≡ true
+live_class [] class live known = or_none (class == 254) known
+  where
+    or_none : (a : Bool) → (a || false) ≡ true → a ≡ true
+    or_none true h = refl
+    or_none false h = h
+live_class (c ∷ cs) class live known = cc
+
 foot_line : (n c : ℕ) (ps : Params) (v : ℕ) (cs : List ClassLine) (is : List Item) (e : ℕ) → (class : ℕ) → c + 1 ≤ 100000 → is_class_among (numbers cs) class ≡ true → (p : Phase) → last_line p n e ≡ n + 1 → Sound n p c (drafted ps v cs is None e)
     → Sound (n + 1) in_foot (c + 1) (with_content (drafted ps v cs is None e) (n + 1) (contents.Foot class))
 foot_line n c ps v cs is e class fits known p next s =
@@ -392,7 +397,7 @@ foot_line n c ps v cs is e class fits known p next s =
       items = s.items;
       leaves = refl;
       live = s.live;
-      live_foot = s.classed.live class known;
+      live_foot = live_class cs class s.classed.live known;
       classed = record { version = s.classed.version; fresh = refl; classes = s.classed.classes; feet = s.classed.feet; foot = known; live = s.classed.live };
       weight = omega arith;
       count = fits;
@@ -623,16 +628,12 @@ start_sound = record {
   leaves = refl;
   live = refl;
   live_foot = refl;
-  classed = record { version = refl; fresh = refl; classes = refl; feet = refl; foot = refl; live = λ n h. or_none (n == 254) h };
+  classed = record { version = refl; fresh = refl; classes = refl; feet = refl; foot = refl; live = refl };
   weight = omega arith;
   count = omega arith;
   phase = refl;
   lines = refl;
 }
-  where
-    or_none : (a : Bool) → (a || false) ≡ true → a ≡ true
-    or_none true h = refl
-    or_none false h = h
 
 -- the galley that a reader gives
 pub record IsServed (g : Galley) : Type 0 where
@@ -653,7 +654,7 @@ ended_galley n c ps v cs is None e s =
         count = few;
         lines = subst (λ ns. Rises ns e) (nothing_more (named_lines is)) s.lines;
       };
-      live = record { live = s.live };
+      live = record { live = s.live; classes = s.classed.live };
     }
 ended_galley n c ps v cs is (Some o) e s = cc
 

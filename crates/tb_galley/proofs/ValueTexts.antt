@@ -1,5 +1,5 @@
 -- The value of a parameter is read back.
-use Rattle.std.proofs.Common.{◌≡◌, ℕ, ◌<◌, ◌≤◌, ℤ, pos, negsuc, nat_abs, Bool, true, false, not, ◌&&◌, ◌||◌, nat_lt, nat_le, List, [], ◌∷◌, ◌++◌, length, Some, Ok, refl, ap, sym, subst, ◌∙◌, arith, length-append}
+use Rattle.std.proofs.Common.{◌≡◌, ℕ, ◌<◌, ◌≤◌, ℤ, pos, negsuc, nat_abs, Bool, true, false, not, ◌&&◌, ◌||◌, nat_lt, nat_le, List, [], ◌∷◌, ◌++◌, length, Some, Ok, refl, ap, sym, subst, ◌∙◌, arith, length-append, if◌then◌else◌, None}
 use Rattle.std.specs.Prelude.{codes, int_lt}
 use Rattle.std.specs.Fmt.{signed_decimal}
 use Rattle.std.specs.List.{list_all}
@@ -12,12 +12,12 @@ use Rattle.tb_param.specs.declared.Value.{Value}
 use Rattle.tb_param.specs.declared.Value.TheVariants as values
 use Rattle.tb_param.specs.declared.table.Form.{Form}
 use Rattle.tb_param.specs.declared.table.Form.TheVariants as forms
-use Rattle.tb_param.specs.Table.{Row, row_of, is_within, is_glue, out_of_range}
+use Rattle.tb_param.specs.Table.{Row, row_of, row_known, row_for, is_known_in, is_within, is_glue, out_of_range}
 use Rattle.tb_param.specs.Ranges.{is_no_fault}
 use Rattle.tb_param.proofs.RangeLemmas.{fits}
 use Rattle.tb_galley.specs.declared.Cause.TheVariants as causes
 use Rattle.tb_galley.specs.declared.contents.Content.TheVariants as contents
-use Rattle.tb_galley.specs.Words.{setting}
+use Rattle.tb_galley.specs.Words.{setting, Known}
 use Rattle.tb_galley.specs.Values.{parameter_slot, row_cause, form_slots, row_slots}
 use Rattle.tb_galley.specs.Faults.{is_printable}
 use Rattle.tb_galley.specs.Grammar.{value_by, set_content}
@@ -31,6 +31,8 @@ choice_field choices.Flush = codes "flush"
 choice_field choices.Ragged = codes "ragged"
 choice_field choices.On = codes "on"
 choice_field choices.Off = codes "off"
+choice_field choices.R2014 = codes "2014"
+choice_field choices.R2015 = codes "2015"
 
 pub value_fields : Value → List (List ℕ)
 value_fields (values.Int n) = signed_decimal n ∷ []
@@ -49,6 +51,8 @@ value_is (values.Word choices.Flush) = refl
 value_is (values.Word choices.Ragged) = refl
 value_is (values.Word choices.On) = refl
 value_is (values.Word choices.Off) = refl
+value_is (values.Word choices.R2014) = refl
+value_is (values.Word choices.R2015) = refl
 
 -- a form whose ranges are dimensions at most
 abbrev pub is_plain_form : Form → Bool
@@ -58,6 +62,7 @@ is_plain_form forms.Frac = true
 is_plain_form forms.Skip = true
 is_plain_form forms.Bottom = true
 is_plain_form forms.Switch = true
+is_plain_form forms.Release = true
 
 in_range : (t : Bool) → is_no_fault (out_of_range t) ≡ true → t ≡ true
 in_range true h = refl
@@ -119,6 +124,8 @@ value_back forms.Bottom (values.Word choices.Flush) plain good = record { fit = 
 value_back forms.Bottom (values.Word choices.Ragged) plain good = record { fit = (record { text = record { printable = refl; some = omega arith }; slot = refl }, tt); short = omega arith; read = λ name. refl }
 value_back forms.Switch (values.Word choices.On) plain good = record { fit = (record { text = record { printable = refl; some = omega arith }; slot = refl }, tt); short = omega arith; read = λ name. refl }
 value_back forms.Switch (values.Word choices.Off) plain good = record { fit = (record { text = record { printable = refl; some = omega arith }; slot = refl }, tt); short = omega arith; read = λ name. refl }
+value_back forms.Release (values.Word choices.R2014) plain good = record { fit = (record { text = record { printable = refl; some = omega arith }; slot = refl }, tt); short = omega arith; read = λ name. refl }
+value_back forms.Release (values.Word choices.R2015) plain good = record { fit = (record { text = record { printable = refl; some = omega arith }; slot = refl }, tt); short = omega arith; read = λ name. refl }
 value_back form v plain good = cc
 
 -- ---- a whole row
@@ -129,8 +136,9 @@ is_plain_row r = (list_all is_printable r.name && nat_lt 0 (length r.name)) && (
 some_bytes : (k : ℕ) → nat_lt 0 k ≡ true → 0 < k
 some_bytes k h = grind (arith, nat_tests)
 
-pub set_back : (r : Row) (v : Value) → row_of r.name ≡ Some r → is_plain_row r ≡ true → fits r.form v ≡ true → ReadsAs setting (r.name ∷ value_fields v) (λ n. contents.Set r.field v)
-set_back r v found plain good =
+pub set_back : (k : Known) (r : Row) (v : Value) → row_of r.name ≡ Some r → is_known_in k.version r.field ≡ true → is_plain_row r ≡ true → fits r.form v ≡ true → ReadsAs k setting (r.name ∷ value_fields v) (λ n. contents.Set r.field v)
+set_back k r v found known plain good =
+    let found_here : row_for k.version r.name ≡ Some r = ap (λ o. row_known k.version o) found ∙ ap (λ t. if t then Some r else None) known in
     let named : (list_all is_printable r.name && nat_lt 0 (length r.name)) ≡ true = left_of (list_all is_printable r.name && nat_lt 0 (length r.name)) (nat_le (length r.name) 30 && is_plain_form r.form) plain in
     let formed : (nat_le (length r.name) 30 && is_plain_form r.form) ≡ true = right_of (list_all is_printable r.name && nat_lt 0 (length r.name)) (nat_le (length r.name) 30 && is_plain_form r.form) plain in
     let short : length r.name ≤ 30 = at_most (length r.name) 30 (left_of (nat_le (length r.name) 30) (is_plain_form r.form) formed) in
@@ -140,7 +148,7 @@ set_back r v found plain good =
       some = some_bytes (length r.name) (right_of (list_all is_printable r.name) (nat_lt 0 (length r.name)) named);
     } in
     record {
-      fit = subst (λ o. AllFit (parameter_slot ∷ row_slots (value_fields v) o) (r.name ∷ value_fields v)) (sym found) (record { text = text; slot = ap row_cause found }, back.fit);
+      fit = subst (λ o. AllFit (parameter_slot k.version ∷ row_slots (value_fields v) o) (r.name ∷ value_fields v)) (sym found_here) (record { text = text; slot = ap row_cause found_here }, back.fit);
       short = omega (arith, back.short);
       content = λ n. ap (λ o. set_content (r.name ∷ value_fields v) o) found ∙ ap (λ x. contents.Set r.field x) (back.read r.name);
     }

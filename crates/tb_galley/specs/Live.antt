@@ -1,6 +1,7 @@
 -- The items that the program serves so far.
-use Rattle.std.specs.Prelude.{Bool, true, false, ◌==◌, IsTrue}
+use Rattle.std.specs.Prelude.{Bool, true, false, ◌==◌, List, [], ◌∷◌, IsTrue}
 use Rattle.std.specs.List.{list_all}
+use Rattle.tb_galley.specs.declared.ClassLine.{ClassLine}
 use Rattle.tb_galley.specs.declared.ItemKind.{ItemKind}
 use Rattle.tb_galley.specs.declared.ItemKind.TheVariants as items
 use Rattle.tb_galley.specs.declared.Galley.{Galley}
@@ -25,6 +26,12 @@ is_live_item items.OneColumn = false
 is_live_item items.TwoColumn = false
 is_live_item (items.Suppress area) = false
 
--- all items of the galley are of these kinds
+-- no class is declared
+abbrev pub are_live_classes : List ClassLine → Bool
+are_live_classes [] = true
+are_live_classes (c ∷ cs) = false
+
+-- all items of the galley are of these kinds, and so are its classes
 pub record HasLiveItems (g : Galley) : Type 0 where
   pub live : IsTrue (list_all (λ n. is_live_item n.kind) g.items)
+  pub classes : IsTrue (are_live_classes g.classes)
