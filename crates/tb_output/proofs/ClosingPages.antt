@@ -10,7 +10,7 @@ use Rattle.tb_node.specs.Plain.{hbox, rule, skip, kerned, pen, mark, note, whats
 use Rattle.tb_break.specs.Prune.{pruned_nodes}
 use Rattle.tb_builder.specs.Reached.{Reach}
 use Rattle.tb_builder.specs.Fired.{with_spent_break, penalty_at}
-use Rattle.tb_builder.proofs.CutLemmas.{Calm, AllCalm, ActFree, FirstFree, CutAt, acts_of, acted_of, acts-free}
+use Rattle.tb_builder.proofs.CutLemmas.{Calm, AllCalm, ActFree, FirstFree, AllFree, CutAt, acts_of, acted_of, acts-free}
 use Rattle.tb_output.specs.Out.{is_int, clear_penalty, par_penalty, vert_penalty, hold_penalty}
 use Rattle.tb_output.proofs.Sorts.{Sort, kind_sort, sorts, pen_sort, pen-sorts, Stands, none, light, blank, real, silent, pause, hold, serve, clear, odd}
 use Rattle.tb_output.proofs.Closings.{Token, quiet, heavy, taking, changing, serving, clearing, Closes, closes-any, Quiet, Harmless, quiet-between, harmless-between, Passed, owed_all, done_all, closes-after, Still, nothing-came, sort_token, act_token, kind_token, tokens, tokens-append, calm-passed, free-harmless, still-quiet}
@@ -171,12 +171,20 @@ tokens-drop P zero ns h = h
 tokens-drop P (suc k) [] h = tt
 tokens-drop P (suc k) (n ∷ ns) h = tokens-drop P k ns h.1
 
+-- without acts behind its cut, a list begins with none
+free-drop : (k : ℕ) (xs ys : List PlainNode) → AllFree xs → FirstFree ys → FirstFree (drop k xs ++ ys)
+free-drop zero [] ys h f = f
+free-drop zero (x ∷ xs) ys h f = h.0
+free-drop (suc k) [] ys h f = f
+free-drop (suc k) (x ∷ xs) ys h f = free-drop k xs ys h.1 f
+
 -- what a page leaves: so many firings are owed behind its acts; the list from the stop on closes, and so does that from the break on; where nothing came up to the stop, nothing was there before, and all that was passed is quiet
 pub record PageCloses (n : ℕ) (o : Bool) (k : ℕ) (w : Reach) : Type 0 where
   pub done : Bool
   pub acts_close : ActsClose o (acted_of w.reached)
   pub beyond : Closes (owed_acts n (acted_of w.reached)) done (tokens w.beyond)
   pub rest : Closes (owed_acts n (acted_of w.reached)) done (tokens (drop k w.passed ++ w.beyond))
+  pub first : FirstFree (drop k w.passed ++ w.beyond)
   pub still : done ≡ true → (o ≡ true) × AllByRecursion Quiet (tokens w.passed) × AllStill (acted_of w.reached)
 
 pub cut-closes : (ns : List PlainNode) (w : Reach) (n : ℕ) (o : Bool) (k : ℕ) → CutAt [] ns w → Closes n o (tokens ns) → PageCloses n o k w
@@ -185,6 +193,7 @@ cut-closes ns w n o k h c = record {
   acts_close = subst (ActsClose o) (sym h.acts) (front-acts h.front (tokens w.beyond) n o passed whole);
   beyond = behind_front;
   rest = subst (Closes (owed_acts n (acted_of w.reached)) (done_all o (tokens h.front))) (sym (tokens-append (drop k w.passed) w.beyond)) (by_done (done_all o (tokens h.front)) refl behind_front);
+  first = free-drop k w.passed w.beyond (subst AllFree (sym h.passed) (acts-free h.front)) h.first;
   still = λ e. let q = nothing-came (tokens h.front) o passed e in (q.0, subst (λ l. AllByRecursion Quiet (tokens l)) (sym h.passed) (still-quiet h.front q.1), subst AllStill (sym h.acts) (acts-still h.front q.1));
 }
   where

@@ -88,7 +88,7 @@ unfolding StepLimited
 fire-limited p r q k =
     let f = fired_of (ask_of p q.state) (foot_class p ∷ []) q.state.boxes r in
     let w = out p q.state f in
-    let added : AreLimited p w.records = (out-keeps p q.state f).by tt in
+    let added : AreLimited p w.records = out-keeps p q.state f in
     let all = limited-append p q.records w.records k added in
     step_if p (int_lt (pos q.state.dead_cycles) p.maxdeadcycles) (after_firing p q.events q.records w) _
     (step_if p w.refused _ _ all (step_if p (int_lt p.maxnodes (pos (held_count w.state))) _ _ all all)) k

@@ -1,7 +1,7 @@
 //! Laws of whole runs: each function is a theorem, stated by its contract, and does nothing.
 
 ghost use Rattle.tb_top.specs.Firings.{BoundsAgree, EndsHaveReasons};
-ghost use Rattle.tb_top.specs.Laws.{LimitsHold};
+ghost use Rattle.tb_top.specs.Laws.{LimitsHold, ListsAreEmptied};
 
 /// The run of a galley is defined: each firing ships a page or adds to the dead cycles, so the bound on the firings, with
 /// which a run starts, is never met.
@@ -14,4 +14,10 @@ pub fn runs_are_defined()
 /// than the area's share, and its area, and the text with both areas, hold fewer floats than they may.
 pub fn floats_keep_the_limits()
     ensures { LimitsHold }
+{}
+
+/// The float lists are emptied: at each change of columns and at the end of a run all six lists of floats are empty, for
+/// every valid galley and whatever the end.
+pub fn lists_are_emptied()
+    ensures { ListsAreEmptied }
 {}

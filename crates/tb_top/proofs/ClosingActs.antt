@@ -1,0 +1,136 @@
+-- The acts of a page, where what waits closes: a change of columns meets empty lists, and what is taken is owed a firing.
+use Rattle.std.proofs.Common.{◌≡◌, refl, sym, ◌∙◌, ap, subst, ℕ, suc, pos, ◌+◌, ◌≤◌, Bool, true, false, List, [], ◌∷◌, ◌++◌, Option, Some, None, arith}
+use Rattle.std.specs.Prelude.{ℤ, int_lt, int_le, if◌then◌else◌}
+use Rattle.std.specs.List.{AllByRecursion}
+use Rattle.tb_scaled.specs.Scaled.{min_ℤ}
+use Rattle.tb_node.specs.declared.Act.{Act}
+use Rattle.tb_node.specs.declared.Act.TheVariants as acts
+use Rattle.tb_node.proofs.Weights.{Weight}
+use Rattle.tb_param.specs.declared.Params.{Params}
+use Rattle.tb_builder.specs.Reached.{Reached, acted, tried}
+use Rattle.tb_builder.proofs.CutLemmas.{acted_of}
+use Rattle.tb_builder.proofs.PageWeights.{acted_weight}
+use Rattle.tb_float.specs.declared.Entry.{Entry}
+use Rattle.tb_float.specs.declared.Entry.TheVariants as entries
+use Rattle.tb_float.specs.Lists.{no_floats, live_count}
+use Rattle.tb_column.specs.declared.Warn.{Warn}
+use Rattle.tb_column.specs.Column.{PlainColumn}
+use Rattle.tb_output.specs.State.{State, Recorded}
+use Rattle.tb_output.specs.Act.{Acted, went, full, act_on, taken_float}
+use Rattle.tb_output.proofs.StateWeights.{left_weight}
+use Rattle.tb_output.proofs.Closings.{Still, act_token}
+use Rattle.tb_output.proofs.ClosingPages.{ActsClose, owed_acts, AllStill}
+use Rattle.tb_output.proofs.SparedLists.{Single}
+use Rattle.tb_output.proofs.ServedLists.{entry_items}
+use Rattle.tb_top.proofs.RunWeights.{ActFits, ActsFit}
+use Rattle.tb_run.specs.Run.{Progress, progress_by, progress}
+use Rattle.tb_top.specs.Laws.{IsEmptied}
+
+never : {X : Type 0} → false ≡ true → X
+never h = let no : ⊥ = grind (arith, h) in absurd no
+
+-- ---- a kept column at a change of columns
+
+act-fits : (v : Weight) (o : Option PlainColumn) (d : Bool) (a : Act) (ds : List Act) → (d ≡ true → left_weight v o ≡ 0) → ActsClose d (a ∷ ds) → ActFits v o a
+act-fits v o d (acts.Take f) ds h c = tt
+act-fits v o d (acts.TakeMargin m) ds h c = tt
+act-fits v o d (acts.Suppress area) ds h c = tt
+act-fits v o d (acts.Columns two) ds h c = h c.0
+
+-- it weighs nothing
+pub acts-fit : (v : Weight) (o : Option PlainColumn) (d : Bool) (ds : List Act) → (d ≡ true → left_weight v o ≡ 0) → ActsClose d ds → ActsFit v o ds
+acts-fit v o d [] h c = tt
+acts-fit v o d (acts.Take f ∷ ds) h c = (tt, acts-fit v o false ds (λ e. never e) c)
+acts-fit v o d (acts.TakeMargin m ∷ ds) h c = (tt, acts-fit v o false ds (λ e. never e) c)
+acts-fit v o d (acts.Suppress area ∷ ds) h c = (tt, acts-fit v o d ds h c)
+acts-fit v o d (acts.Columns two ∷ ds) h c = (h c.0, acts-fit v o d ds h c.1)
+
+-- ---- an act
+
+items-append : (xs ys : List Entry) → entry_items (xs ++ ys) ≡ entry_items xs + entry_items ys
+items-append [] ys = omega arith
+items-append (entries.Float f ∷ xs) ys = let h : entry_items (xs ++ ys) ≡ entry_items xs + entry_items ys = items-append xs ys in omega arith
+items-append (entries.Left m ∷ xs) ys = let h : entry_items (xs ++ ys) ≡ entry_items xs + entry_items ys = items-append xs ys in omega arith
+items-append (entries.Right m ∷ xs) ys = items-append xs ys
+
+-- what an act comes to: the records, how many firings are owed, and whether still nothing came
+record Went (n : ℕ) (s : State) (a : Act) (ds : List Act) (t : State) (rs : List Recorded) : Type 0 where
+  records : AllByRecursion IsEmptied rs
+  owed : ℕ
+  done : Bool
+  empty : done ≡ true → t.floats ≡ no_floats
+  items : entry_items t.floats.current ≤ owed
+  single : Single t
+  close : ActsClose done ds
+  same_owed : owed_acts n (a ∷ ds) ≡ owed_acts owed ds
+  here : t.floats.here ≡ s.floats.here
+  still : Still (act_token a) → t.floats ≡ s.floats
+
+ActWent : ℕ → State → Act → List Act → Acted → Type 0
+ActWent n s a ds (went t ws rs) = Went n s a ds t rs
+ActWent n s a ds (full line live) = Unit {0}
+
+room-went : (n : ℕ) (s : State) (a : Act) (ds : List Act) (u : Bool) (line live : ℕ) (t : State) (ws : List Warn) (rs : List Recorded) → Went n s a ds t rs → ActWent n s a ds (if u then full line live else went t ws rs)
+unfolding ActWent
+room-went n s a ds true line live t ws rs h = tt
+room-went n s a ds false line live t ws rs h = h
+
+act-went : (p : Params) (n : ℕ) (o : Bool) (s : State) (a : Act) (ds : List Act) → (o ≡ true → s.floats ≡ no_floats) → entry_items s.floats.current ≤ n → Single s → ActsClose o (a ∷ ds) → ActWent n s a ds (act_on p s a)
+unfolding ActWent
+act-went p n o s (acts.Take f) ds e i g c =
+    let k : entry_items (s.floats.current ++ entries.Float (taken_float p s f) ∷ []) ≡ entry_items s.floats.current + 1 = items-append s.floats.current (entries.Float (taken_float p s f) ∷ []) in
+    room-went n s (acts.Take f) ds (int_le p.pool (pos (live_count s.floats))) _ _ _ _ _ (record { records = tt; owed = suc n; done = false; empty = λ z. never z; items = omega arith; single = g; close = c; same_owed = refl; here = refl; still = λ z. absurd z })
+act-went p n o s (acts.TakeMargin m) ds e i g c =
+    let k : entry_items (s.floats.current ++ entries.Left m ∷ entries.Right m ∷ []) ≡ entry_items s.floats.current + 1 = items-append s.floats.current (entries.Left m ∷ entries.Right m ∷ []) in
+    room-went n s (acts.TakeMargin m) ds (int_lt p.pool (pos (live_count s.floats + 2))) _ _ _ _ _ (record { records = tt; owed = suc n; done = false; empty = λ z. never z; items = omega arith; single = g; close = c; same_owed = refl; here = refl; still = λ z. absurd z })
+act-went p n o s (acts.Suppress area) ds e i g c = record { records = tt; owed = n; done = o; empty = e; items = i; single = g; close = c; same_owed = refl; here = refl; still = λ z. refl }
+act-went p n o s (acts.Columns two) ds e i g c = record { records = (e c.0, tt); owed = n; done = o; empty = e; items = i; single = λ z. ap (λ l. l.double) (e c.0); close = c.1; same_owed = refl; here = refl; still = λ z. refl }
+
+-- ---- all acts of a page
+
+-- the state after them
+pub record ActsClosed (n : ℕ) (ds : List Act) (s t : State) : Type 0 where
+  pub items : entry_items t.floats.current ≤ owed_acts n ds
+  pub single : Single t
+  pub here : t.floats.here ≡ s.floats.here
+  pub still : AllStill ds → t.floats ≡ s.floats
+
+pub record ProgressClosed (n : ℕ) (ds : List Act) (s : State) (q : Progress) : Type 0 where
+  pub records : AllByRecursion IsEmptied q.records
+  pub after : q.fault ≡ None → ActsClosed n ds s q.state
+
+pub emptied-append : (rs qs : List Recorded) → AllByRecursion IsEmptied rs → AllByRecursion IsEmptied qs → AllByRecursion IsEmptied (rs ++ qs)
+emptied-append [] qs a b = b
+emptied-append (r ∷ rs) qs a b = (a.0, emptied-append rs qs a.1 b)
+
+some-none : (x : ℕ × ℕ) → Some x ≡ None → ⊥
+some-none x f = let y : Is_some None = subst Is_some f tt in y
+  where
+    Is_some : Option (ℕ × ℕ) → Type 0
+    Is_some None = ⊥
+    Is_some (Some y) = Unit {0}
+
+by_act-closed : (n : ℕ) (s : State) (a : Act) (ds : List Act) (later : State → Progress) → ((m : ℕ) (o : Bool) (t : State) → (o ≡ true → t.floats ≡ no_floats) → entry_items t.floats.current ≤ m → Single t → ActsClose o ds → ProgressClosed m ds t (later t)) → (x : Acted) → ActWent n s a ds x → ProgressClosed n (a ∷ ds) s (progress_by later s x)
+unfolding ActWent
+by_act-closed n s a ds later h (went t ws rs) k =
+    let q : ProgressClosed k.owed ds t (later t) = h k.owed k.done t k.empty k.items k.single k.close in
+    record {
+      records = emptied-append rs (later t).records k.records q.records;
+      after = λ f. let x = q.after f in record { items = subst (λ m. entry_items (later t).state.floats.current ≤ m) (sym k.same_owed) x.items; single = x.single; here = x.here ∙ k.here; still = λ z. x.still z.1 ∙ k.still z.0 };
+    }
+by_act-closed n s a ds later h (full line live) k = record { records = tt; after = λ f. absurd (some-none (line, live) f) }
+
+pub progress-closed : (p : Params) (rs : List Reached) (least : ℤ) (n : ℕ) (o : Bool) (s : State) → (o ≡ true → s.floats ≡ no_floats) → entry_items s.floats.current ≤ n → Single s → ActsClose o (acted_of rs) → ProgressClosed n (acted_of rs) s (progress p rs least s)
+progress-closed p [] least n o s e i g c = record { records = tt; after = λ f. record { items = i; single = g; here = refl; still = λ z. refl } }
+progress-closed p (acted a ∷ rs) least n o s e i g c =
+    by_act-closed n s a (acted_of rs) (λ t. progress p rs least t) (λ m o t x y z w. progress-closed p rs least m o t x y z w) (act_on p s a) (act-went p n o s a (acted_of rs) e i g c)
+progress-closed p (tried line b ∷ rs) least n o s e i g c = let r = progress-closed p rs (min_ℤ least b.cost) n o s e i g c in record { records = r.records; after = r.after }
+
+-- acts that take nothing bring nothing
+pub still-weight : (v : Weight) (rs : List Reached) → AllStill (acted_of rs) → acted_weight v rs ≡ 0
+still-weight v [] h = refl
+still-weight v (acted (acts.Take f) ∷ rs) h = absurd h.0
+still-weight v (acted (acts.TakeMargin m) ∷ rs) h = absurd h.0
+still-weight v (acted (acts.Suppress area) ∷ rs) h = let k : acted_weight v rs ≡ 0 = still-weight v rs h.1 in omega arith
+still-weight v (acted (acts.Columns two) ∷ rs) h = let k : acted_weight v rs ≡ 0 = still-weight v rs h.1 in omega arith
+still-weight v (tried line b ∷ rs) h = still-weight v rs h
