@@ -1,5 +1,5 @@
 -- A clear without footnotes puts back a further clear, or leaves all lists empty.
-use Rattle.std.proofs.Common.{◌≡◌, refl, sym, ◌∙◌, ap, subst, ◌⊎◌, inl, inr, Bool, true, false, List, [], ◌∷◌, ◌++◌, Option, Some, None, arith}
+use Rattle.std.proofs.Common.{◌≡◌, refl, sym, ◌∙◌, ap, subst, ◌⊎◌, inl, inr, Bool, true, false, List, [], ◌∷◌, ◌++◌, Option, Some, None, arith, append_assoc}
 use Rattle.std.specs.Prelude.{not, if◌then◌else◌}
 use Rattle.std.specs.List.{AllByRecursion}
 use Rattle.tb_node.specs.declared.Float.{Float}
@@ -25,12 +25,8 @@ again-closes o xs h = h
 abbrev pub Pending : List PlainNode → Type 0
 Pending ns = (xs : List Token) → Closes 0 true xs → Closes 0 false (tokens ns ++ xs)
 
-assoc : (xs ys zs : List Token) → (xs ++ ys) ++ zs ≡ xs ++ (ys ++ zs)
-assoc [] ys zs = refl
-assoc (x ∷ xs) ys zs = ap (λ l. x ∷ l) (assoc xs ys zs)
-
 pub tokens-parts : (ms ns : List PlainNode) (xs : List Token) → tokens (ms ++ ns) ++ xs ≡ tokens ms ++ (tokens ns ++ xs)
-tokens-parts ms ns xs = ap (λ l. l ++ xs) (tokens-append ms ns) ∙ assoc (tokens ms) (tokens ns) xs
+tokens-parts ms ns xs = ap (λ l. l ++ xs) (tokens-append ms ns) ∙ append_assoc (tokens ms) (tokens ns) xs
 
 pub again-pending : (ms : List PlainNode) → AllByRecursion Quiet (tokens ms) → Pending (ms ++ Clear.clear_again)
 again-pending ms q xs h = subst (Closes 0 false) (sym (tokens-parts ms Clear.clear_again xs)) (quiet-between 0 false (tokens ms) (tokens Clear.clear_again ++ xs) q (again-closes false xs h))

@@ -1,5 +1,5 @@
 -- After a firing what waits closes again.
-use Rattle.std.proofs.Common.{◌≡◌, refl, sym, ◌∙◌, ap, subst, ℕ, zero, suc, ◌≤◌, ◌⊎◌, inl, inr, pos, Bool, true, false, List, [], ◌∷◌, ◌++◌, map, take, length, Option, Some, None, arith}
+use Rattle.std.proofs.Common.{◌≡◌, refl, sym, ◌∙◌, ap, subst, ℕ, ◌≤◌, ◌⊎◌, inl, inr, pos, Bool, true, false, List, [], ◌∷◌, ◌++◌, map, length, Option, Some, None, arith}
 use Rattle.std.specs.Prelude.{int_le, ◌||◌, ◌-◌, if◌then◌else◌}
 use Rattle.std.specs.List.{AllByRecursion}
 use Rattle.tb_scaled.specs.Scaled.{eject_penalty}
@@ -17,9 +17,10 @@ use Rattle.tb_output.specs.Out
 use Rattle.tb_output.proofs.StateWeights.{Paired, ColumnsFit}
 use Rattle.tb_output.proofs.Sorts.{sorts-calm, seen_all}
 use Rattle.tb_output.proofs.SortLemmas.{Sort, hold, serve, clear, none, one, BreakStands, pen_sort, sorts, sorts-append}
-use Rattle.tb_output.proofs.PlaceLemmas.{AllSteady}
+use Rattle.tb_output.proofs.PlaceLemmas.{AllSteady, take-steady}
 use Rattle.tb_output.proofs.Closings.{Token, Closes, Quiet, quiet-between, harmless-between, tokens, steady-harmless}
-use Rattle.tb_output.proofs.ClosingPages.{BreakCloses, at-ordinary, at-clear, at-serve, at-hold, tokens-take}
+use Rattle.tb_output.proofs.BreakSorts.{at-ordinary, at-clear, at-serve, at-hold}
+use Rattle.tb_output.proofs.ClosingPages.{BreakCloses, tokens-take}
 use Rattle.tb_output.proofs.BoxesFirst.{RealFirst, HasReal, BreakReal, steady-first, real-left, real-right, body-real, one-unreal, unreal-quiet}
 use Rattle.tb_output.proofs.SparedLists.{Single, TakesText, put_out_text-takes, ordinary-takes}
 use Rattle.tb_output.proofs.ServedLists.{entry_items, no-items, steady-both, Serves, float_or_note-serves}
@@ -92,11 +93,6 @@ module _ (p : Params) (calm : int_le p.interlinepenalty eject_penalty ≡ false)
         clean = λ e. never' e;
       }
 
-  steady-take : (k : ℕ) (ns : List PlainNode) → AllSteady ns → AllSteady (take k ns)
-  steady-take zero ns h = tt
-  steady-take (suc k) [] h = tt
-  steady-take (suc k) (n ∷ ns) h = (h.0, steady-take k ns h.1)
-
   serve-closed : (vert : Bool) → int_le eject_penalty f.penalty ≡ false → Out.is_int f.penalty Out.clear_penalty ≡ false → (Out.is_int f.penalty Out.par_penalty || Out.is_int f.penalty Out.vert_penalty) ≡ true → Closed f d w (Text.float_or_note p vert f.body w)
   serve-closed vert h k l = at-serve (Closed f d w (Text.float_or_note p vert f.body w)) Broken f.penalty h k l at_serve (stands, breaks, here)
     where
@@ -104,7 +100,7 @@ module _ (p : Params) (calm : int_le p.interlinepenalty eject_penalty ≡ false)
       text = Text.without_firing_box f.body
 
       all : (ns : List PlainNode) → AllSteady ns → AllSteady ((w.state.held_page ++ Text.without_firing_box f.body) ++ ns)
-      all ns h = steady-both (w.state.held_page ++ Text.without_firing_box f.body) ns (steady-both w.state.held_page (Text.without_firing_box f.body) steady_page (steady-take (length f.body - 2) f.body steady_body)) h
+      all ns h = steady-both (w.state.held_page ++ Text.without_firing_box f.body) ns (steady-both w.state.held_page (Text.without_firing_box f.body) steady_page (take-steady (length f.body - 2) f.body steady_body)) h
 
       page-real : (ns : List PlainNode) → HasReal (sorts w.state.held_page) → HasReal (sorts ((w.state.held_page ++ Text.without_firing_box f.body) ++ ns))
       page-real ns r = subst HasReal (sym (sorts-append (w.state.held_page ++ Text.without_firing_box f.body) ns)) (real-left (sorts (w.state.held_page ++ Text.without_firing_box f.body)) (sorts ns) (subst HasReal (sym (sorts-append w.state.held_page (Text.without_firing_box f.body))) (real-left (sorts w.state.held_page) (sorts (Text.without_firing_box f.body)) r)))

@@ -1,18 +1,16 @@
 -- A page is cut from a list that closes: what its acts and its break leave of the list closes again.
 use Rattle.std.proofs.Common.{◌≡◌, refl, sym, ◌∙◌, ap, subst, ℕ, zero, suc, ℤ, Bool, true, false, List, [], ◌∷◌, ◌++◌, take, drop, arith}
-use Rattle.std.specs.Prelude.{int_le, ◌||◌, if◌then◌else◌}
 use Rattle.std.specs.List.{AllByRecursion}
-use Rattle.std.proofs.lemmas.Int.{ints}
-use Rattle.tb_scaled.specs.Scaled.{eject_penalty, inf_penalty}
+use Rattle.tb_scaled.specs.Scaled.{inf_penalty}
 use Rattle.tb_node.specs.declared.Act.{Act}
 use Rattle.tb_node.specs.declared.Act.TheVariants as acts
 use Rattle.tb_node.specs.Plain.{hbox, rule, skip, kerned, pen, mark, note, whatsit, PlainKind, plain, ins, act, PlainNode, without_acts}
 use Rattle.tb_break.specs.Prune.{pruned_nodes}
 use Rattle.tb_builder.specs.Reached.{Reach}
 use Rattle.tb_builder.specs.Fired.{with_spent_break, penalty_at}
-use Rattle.tb_builder.proofs.CutLemmas.{Calm, AllCalm, ActFree, FirstFree, AllFree, CutAt, acts_of, acted_of, acts-free}
-use Rattle.tb_output.specs.Out.{is_int, clear_penalty, par_penalty, vert_penalty, hold_penalty}
+use Rattle.tb_builder.proofs.CutLemmas.{AllCalm, ActFree, FirstFree, AllFree, CutAt, acts_of, acted_of, acts-free}
 use Rattle.tb_output.proofs.Sorts.{Sort, kind_sort, sorts, pen_sort, pen-sorts, Stands, none, light, blank, real, silent, pause, hold, serve, clear, odd}
+use Rattle.tb_output.proofs.SortLemmas.{free-drop, calm-acts}
 use Rattle.tb_output.proofs.Closings.{Token, quiet, heavy, taking, changing, serving, clearing, Closes, closes-any, Quiet, Harmless, quiet-between, harmless-between, Passed, owed_all, done_all, closes-after, Still, nothing-came, sort_token, act_token, kind_token, tokens, tokens-append, calm-passed, free-harmless, still-quiet}
 
 -- ---- the top of a page
@@ -151,16 +149,6 @@ acts-still (x ∷ ns) s = node-still x.kind x.line ns s.0 (acts-still ns s.1)
 
 -- ---- the page
 
-pub all-take : {X : Type 0} (P : X → Type 0) (k : ℕ) (xs : List X) → AllByRecursion P xs → AllByRecursion P (take k xs)
-all-take P zero xs h = tt
-all-take P (suc k) [] h = tt
-all-take P (suc k) (x ∷ xs) h = (h.0, all-take P k xs h.1)
-
-pub all-drop : {X : Type 0} (P : X → Type 0) (k : ℕ) (xs : List X) → AllByRecursion P xs → AllByRecursion P (drop k xs)
-all-drop P zero xs h = h
-all-drop P (suc k) [] h = tt
-all-drop P (suc k) (x ∷ xs) h = all-drop P k xs h.1
-
 pub tokens-take : (P : Token → Type 0) (k : ℕ) (ns : List PlainNode) → AllByRecursion P (tokens ns) → AllByRecursion P (tokens (take k ns))
 tokens-take P zero ns h = tt
 tokens-take P (suc k) [] h = tt
@@ -170,13 +158,6 @@ tokens-drop : (P : Token → Type 0) (k : ℕ) (ns : List PlainNode) → AllByRe
 tokens-drop P zero ns h = h
 tokens-drop P (suc k) [] h = tt
 tokens-drop P (suc k) (n ∷ ns) h = tokens-drop P k ns h.1
-
--- without acts behind its cut, a list begins with none
-free-drop : (k : ℕ) (xs ys : List PlainNode) → AllFree xs → FirstFree ys → FirstFree (drop k xs ++ ys)
-free-drop zero [] ys h f = f
-free-drop zero (x ∷ xs) ys h f = h.0
-free-drop (suc k) [] ys h f = f
-free-drop (suc k) (x ∷ xs) ys h f = free-drop k xs ys h.1 f
 
 -- what a page leaves: so many firings are owed behind its acts; the list from the stop on closes, and so does that from the break on; where nothing came up to the stop, nothing was there before, and all that was passed is quiet
 pub record PageCloses (n : ℕ) (o : Bool) (k : ℕ) (w : Reach) : Type 0 where
@@ -209,17 +190,8 @@ cut-closes ns w n o k h c = record {
     harmless : AllByRecursion Harmless (tokens (drop k w.passed))
     harmless = tokens-drop Harmless k w.passed (subst (λ l. AllByRecursion Harmless (tokens l)) (sym h.passed) (front-harmless h.front h.calm))
       where
-        more : (l : ℕ) (x : PlainKind) (ns : List PlainNode) → Calm x → AllCalm (without_acts ns) → AllCalm (without_acts (record { line = l; kind = x } ∷ ns))
-        more l (plain m) ns c h = (c, h)
-        more l (ins i) ns c h = (c, h)
-        more l (act a) ns c h = h
-
-        calm-kept : (ns : List PlainNode) → AllCalm ns → AllCalm (without_acts ns)
-        calm-kept [] h = tt
-        calm-kept (x ∷ ns) h = more x.line x.kind ns h.0 (calm-kept ns h.1)
-
         front-harmless : (ns : List PlainNode) → AllCalm ns → AllByRecursion Harmless (tokens (without_acts ns))
-        front-harmless ns c = free-harmless (without_acts ns) (calm-kept ns c) (acts-free ns)
+        front-harmless ns c = free-harmless (without_acts ns) (calm-acts ns c) (acts-free ns)
 
     by_done : (d : Bool) → done_all o (tokens h.front) ≡ d → Closes (owed_acts n (acted_of w.reached)) d (tokens w.beyond) → Closes (owed_acts n (acted_of w.reached)) d (tokens (drop k w.passed) ++ tokens w.beyond)
     by_done true e c = quiet-between _ true (tokens (drop k w.passed)) (tokens w.beyond) (tokens-drop Quiet k w.passed (subst (λ l. AllByRecursion Quiet (tokens l)) (sym h.passed) (still-quiet h.front (nothing-came (tokens h.front) o passed e).1))) c
@@ -265,46 +237,3 @@ node-closes ns l (act a) m d f c = absurd f
 pub break-closes : (ns : List PlainNode) (m : ℕ) (d : Bool) → FirstFree ns → Closes m d (tokens ns) → BreakCloses m d (with_spent_break ns) (pen_sort (penalty_at ns))
 break-closes [] m d f c = c
 break-closes (n ∷ ns) m d f c = node-closes ns n.line n.kind m d f c
-
--- ---- the sort of a break, by the tests of the routine
-
-abbrev tests : Bool → Bool → Bool → Bool → Bool → Sort
-tests t e c x z = if t then (if e then pause else (if c then clear else (if x then serve else (if z then hold else odd)))) else light
-
-pub at-ordinary : (R : Type 0) (P : Sort → Type 0) (q : ℤ) → int_le eject_penalty q ≡ true → (P light → R) → (P pause → R) → P (pen_sort q) → R
-at-ordinary R P q h at_light at_pause r = by_tests (int_le q eject_penalty) (is_int q eject_penalty) (is_int q clear_penalty) (is_int q par_penalty || is_int q vert_penalty) (is_int q hold_penalty) (λ k. grind (arith, ints, h, k)) r
-  where
-    by_tests : (t e c x z : Bool) → (t ≡ true → e ≡ true) → P (tests t e c x z) → R
-    by_tests true true c x z u r = at_pause r
-    by_tests true false c x z u r = let no : ⊥ = grind (arith, u refl) in absurd no
-    by_tests false e c x z u r = at_light r
-
-pub at-clear : (R : Type 0) (P : Sort → Type 0) (q : ℤ) → int_le eject_penalty q ≡ false → is_int q clear_penalty ≡ true → (P clear → R) → P (pen_sort q) → R
-at-clear R P q h k at_it r = by_tests (int_le q eject_penalty) (is_int q eject_penalty) (is_int q clear_penalty) (is_int q par_penalty || is_int q vert_penalty) (is_int q hold_penalty) (grind (arith, ints, h)) (grind (arith, ints, h)) k r
-  where
-    by_tests : (t e c x z : Bool) → t ≡ true → e ≡ false → c ≡ true → P (tests t e c x z) → R
-    by_tests true false true x z u v k r = at_it r
-    by_tests true false false x z u v k r = let no : ⊥ = grind (arith, k) in absurd no
-    by_tests true true c x z u v k r = let no : ⊥ = grind (arith, v) in absurd no
-    by_tests false e c x z u v k r = let no : ⊥ = grind (arith, u) in absurd no
-
-pub at-serve : (R : Type 0) (P : Sort → Type 0) (q : ℤ) → int_le eject_penalty q ≡ false → is_int q clear_penalty ≡ false → (is_int q par_penalty || is_int q vert_penalty) ≡ true → (P serve → R) → P (pen_sort q) → R
-at-serve R P q h k l at_it r = by_tests (int_le q eject_penalty) (is_int q eject_penalty) (is_int q clear_penalty) (is_int q par_penalty || is_int q vert_penalty) (is_int q hold_penalty) (grind (arith, ints, h)) (grind (arith, ints, h)) k l r
-  where
-    by_tests : (t e c x z : Bool) → t ≡ true → e ≡ false → c ≡ false → x ≡ true → P (tests t e c x z) → R
-    by_tests true false false true z u v k l r = at_it r
-    by_tests true false false false z u v k l r = let no : ⊥ = grind (arith, l) in absurd no
-    by_tests true false true x z u v k l r = let no : ⊥ = grind (arith, k) in absurd no
-    by_tests true true c x z u v k l r = let no : ⊥ = grind (arith, v) in absurd no
-    by_tests false e c x z u v k l r = let no : ⊥ = grind (arith, u) in absurd no
-
-pub at-hold : (R : Type 0) (P : Sort → Type 0) (q : ℤ) → int_le eject_penalty q ≡ false → is_int q clear_penalty ≡ false → (is_int q par_penalty || is_int q vert_penalty) ≡ false → (P hold → R) → (P odd → R) → P (pen_sort q) → R
-at-hold R P q h k l at_it at_odd r = by_tests (int_le q eject_penalty) (is_int q eject_penalty) (is_int q clear_penalty) (is_int q par_penalty || is_int q vert_penalty) (is_int q hold_penalty) (grind (arith, ints, h)) (grind (arith, ints, h)) k l r
-  where
-    by_tests : (t e c x z : Bool) → t ≡ true → e ≡ false → c ≡ false → x ≡ false → P (tests t e c x z) → R
-    by_tests true false false false true u v k l r = at_it r
-    by_tests true false false false false u v k l r = at_odd r
-    by_tests true false false true z u v k l r = let no : ⊥ = grind (arith, l) in absurd no
-    by_tests true false true x z u v k l r = let no : ⊥ = grind (arith, k) in absurd no
-    by_tests true true c x z u v k l r = let no : ⊥ = grind (arith, v) in absurd no
-    by_tests false e c x z u v k l r = let no : ⊥ = grind (arith, u) in absurd no

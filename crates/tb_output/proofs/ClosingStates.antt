@@ -1,6 +1,6 @@
 -- What holds between two firings of what waits and of the float lists: floats and notes that were taken are owed a
 -- firing, and where nothing came since a clear nothing is kept.
-use Rattle.std.proofs.Common.{◌≡◌, refl, sym, ◌∙◌, ap, subst, ℕ, ◌+◌, ◌≤◌, ◌⊎◌, inl, inr, ℤ, Bool, true, false, List, [], ◌∷◌, ◌++◌, None, arith}
+use Rattle.std.proofs.Common.{◌≡◌, refl, sym, ◌∙◌, ap, subst, ℕ, ◌+◌, ◌≤◌, ◌⊎◌, inl, inr, ℤ, Bool, true, false, List, [], ◌∷◌, ◌++◌, None, arith, append-nil, append_assoc}
 use Rattle.std.specs.Prelude.{int_le, ◌&&◌, not, if◌then◌else◌}
 use Rattle.std.specs.List.{AllByRecursion}
 use Rattle.tb_scaled.specs.Scaled.{eject_penalty, max_dimen}
@@ -24,7 +24,7 @@ use Rattle.tb_output.proofs.Closings.{Token, Closes, Quiet, harmless-between, to
 use Rattle.tb_output.proofs.ClosingPages.{BreakCloses}
 use Rattle.tb_output.proofs.BoxesFirst.{RealFirst, HasReal, BreakReal, steady-then}
 use Rattle.tb_output.proofs.SparedLists.{Single}
-use Rattle.tb_output.proofs.ServedLists.{entry_items, append-nothing}
+use Rattle.tb_output.proofs.ServedLists.{entry_items}
 use Rattle.tb_output.proofs.ClearedLists.{Emptied, tokens-parts}
 use Rattle.tb_output.proofs.ClosingFirings.{HereFits, Closed, output-closed}
 
@@ -65,7 +65,7 @@ told_if a true c d x y = x
 told_if a false c d x y = y
 
 with_goal-told : (g : ℤ) (w : Work) → Told w (Out.with_goal g w)
-with_goal-told g w = record { blank = []; back = sym (append-nothing w.put_back); quiet = tt; floats = refl; boxes = refl; page = refl; left = refl; columns = refl }
+with_goal-told g w = record { blank = []; back = sym (append-nil w.put_back); quiet = tt; floats = refl; boxes = refl; page = refl; left = refl; columns = refl }
 
 warned-told : (e : PlainSent) (ns : List PlainNode) (w : Work) → AllByRecursion Quiet (tokens ns) → Told w (puts ns (sends e w))
 warned-told e ns w q = by_refused w.refused
@@ -148,12 +148,8 @@ out-closed p calm st f before is_body calm_before free_before b stands m d break
         by_here (inr (inl r)) = inr (inl (subst (λ l. HasReal (sorts l)) (sym y.page) r))
         by_here (inr (inr r)) = inr (inr (subst RealFirst (sym sorted) (steady-then (sorts f.held) (sorts c.put_back ++ (sorts y.blank ++ sorts f.rest)) (ins-steady f.held held) (r (sorts y.blank ++ sorts f.rest)))))
           where
-            assoc : (xs ys zs : List Sort) → (xs ++ ys) ++ zs ≡ xs ++ (ys ++ zs)
-            assoc [] ys zs = refl
-            assoc (x ∷ xs) ys zs = ap (λ l. x ∷ l) (assoc xs ys zs)
-
             pieces : (ms ns : List PlainNode) (xs : List Sort) → sorts (ms ++ ns) ++ xs ≡ sorts ms ++ (sorts ns ++ xs)
-            pieces ms ns xs = ap (λ l. l ++ xs) (sorts-append ms ns) ∙ assoc (sorts ms) (sorts ns) xs
+            pieces ms ns xs = ap (λ l. l ++ xs) (sorts-append ms ns) ∙ append_assoc (sorts ms) (sorts ns) xs
 
             sorted : sorts (f.held ++ e.put_back ++ f.rest) ≡ sorts f.held ++ (sorts c.put_back ++ (sorts y.blank ++ sorts f.rest))
             sorted = sorts-append (f.held ++ e.put_back) f.rest ∙ pieces f.held e.put_back (sorts f.rest) ∙ ap (λ l. sorts f.held ++ (sorts l ++ sorts f.rest)) y.back ∙ ap (λ l. sorts f.held ++ l) (pieces c.put_back y.blank (sorts f.rest))

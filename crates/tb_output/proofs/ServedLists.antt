@@ -1,14 +1,13 @@
 -- The firing for a float or note takes the first of the current list, and puts back steady nodes.
-use Rattle.std.proofs.Common.{◌≡◌, refl, sym, ◌∙◌, ap, subst, ℕ, suc, ◌≤◌, ◌⊎◌, inl, inr, Bool, true, false, List, [], ◌∷◌, ◌++◌, map, Option, Some, None, arith}
+use Rattle.std.proofs.Common.{◌≡◌, refl, sym, ◌∙◌, ap, subst, ℕ, suc, ◌≤◌, ◌⊎◌, inl, inr, Bool, true, false, List, [], ◌∷◌, ◌++◌, map, arith, append-nil, append_assoc}
 use Rattle.std.specs.Prelude.{ℤ, int_le, if◌then◌else◌}
 use Rattle.std.specs.List.{AllByRecursion}
-use Rattle.tb_scaled.specs.declared.Glue.{Glue}
 use Rattle.tb_scaled.specs.Scaled.{eject_penalty}
 use Rattle.tb_node.specs.declared.Float.{Float}
 use Rattle.tb_node.specs.declared.Margin.{Margin}
 use Rattle.tb_node.specs.declared.Where.{Where}
 use Rattle.tb_node.specs.declared.Where.TheVariants as places
-use Rattle.tb_node.specs.Plain.{Leaf, PlainNode, plain, pen}
+use Rattle.tb_node.specs.Plain.{PlainNode, plain, pen}
 use Rattle.tb_break.specs.Legal.{last_or}
 use Rattle.tb_param.specs.declared.Params.{Params}
 use Rattle.tb_float.specs.declared.Entry.{Entry}
@@ -24,6 +23,7 @@ use Rattle.tb_output.specs.Text
 use Rattle.tb_output.proofs.StateWeights.{Paired}
 use Rattle.tb_output.proofs.SortLemmas.{Sort, Steady, sorts, sorts-append}
 use Rattle.tb_output.proofs.PlaceLemmas.{AllSteady}
+use Rattle.tb_output.proofs.PutLemmas.{penalty-steady, here-steady, notes-steady}
 use Rattle.tb_output.proofs.BoxesFirst.{HasReal, real-left, real-right}
 use Rattle.tb_output.proofs.SparedLists.{Single}
 
@@ -39,14 +39,6 @@ no-items [] q h = refl
 no-items (entries.Float f ∷ es) q h = let no : ⊥ = omega arith in absurd no
 no-items (entries.Left m ∷ es) q h = let no : ⊥ = omega arith in absurd no
 no-items (entries.Right m ∷ es) q h = absurd q
-
-pub append-nothing : {X : Type 0} (xs : List X) → xs ++ [] ≡ xs
-append-nothing [] = refl
-append-nothing (x ∷ xs) = ap (λ l. x ∷ l) (append-nothing xs)
-
-pub append-assoc : {X : Type 0} (xs ys zs : List X) → (xs ++ ys) ++ zs ≡ xs ++ (ys ++ zs)
-append-assoc [] ys zs = refl
-append-assoc (x ∷ xs) ys zs = ap (λ l. x ∷ l) (append-assoc xs ys zs)
 
 all-both : (P : Sort → Type 0) (xs ys : List Sort) → AllByRecursion P xs → AllByRecursion P ys → AllByRecursion P (xs ++ ys)
 all-both P [] ys a b = b
@@ -66,10 +58,10 @@ record Writes (a c : Work) : Type 0 where
   columns : c.state.two_columns ≡ a.state.two_columns
 
 written : (a c d : Work) → Writes a c → Writes c d → Writes a d
-written a c d x y = record { ns = x.ns ++ y.ns; back = y.back ∙ ap (λ l. l ++ y.ns) x.back ∙ append-assoc a.put_back x.ns y.ns; steady = steady-both x.ns y.ns x.steady y.steady; floats = y.floats ∙ x.floats; columns = y.columns ∙ x.columns }
+written a c d x y = record { ns = x.ns ++ y.ns; back = y.back ∙ ap (λ l. l ++ y.ns) x.back ∙ append_assoc a.put_back x.ns y.ns; steady = steady-both x.ns y.ns x.steady y.steady; floats = y.floats ∙ x.floats; columns = y.columns ∙ x.columns }
 
 nothing : (a c : Work) → c.put_back ≡ a.put_back → c.state.floats ≡ a.state.floats → c.state.two_columns ≡ a.state.two_columns → Writes a c
-nothing a c b f t = record { ns = []; back = b ∙ sym (append-nothing a.put_back); steady = tt; floats = f; columns = t }
+nothing a c b f t = record { ns = []; back = b ∙ sym (append-nil a.put_back); steady = tt; floats = f; columns = t }
 
 writes_if : (a : Work) (t : Bool) (c d : Work) → Writes a c → Writes a d → Writes a (if t then c else d)
 writes_if a true c d x y = x
@@ -98,7 +90,7 @@ then_writes es w c d x y = record {
   current = ap (λ l. l.current) y.floats ∙ x.current;
   single = λ h. λ e. ap (λ l. l.double) y.floats ∙ x.single h (sym y.columns ∙ e);
   ns = x.ns ++ y.ns;
-  back = y.back ∙ ap (λ l. l ++ y.ns) x.back ∙ append-assoc w.put_back x.ns y.ns;
+  back = y.back ∙ ap (λ l. l ++ y.ns) x.back ∙ append_assoc w.put_back x.ns y.ns;
   steady = steady-both x.ns y.ns x.steady y.steady;
   here = by_here x.here;
 }
@@ -118,15 +110,15 @@ abbrev left_of : List Entry → Work → FloatLists
 left_of es w = record w.state.floats { current = es }
 
 top-serves : (p : Params) (f : Float) (es : List Entry) (w : Work) (t : Bool) → Served es w (moved p places.Top f (left_of es w) w t)
-top-serves p f es w true = record { current = refl; single = λ h. h; ns = []; back = sym (append-nothing w.put_back); steady = tt; here = inl refl }
-top-serves p f es w false = record { current = refl; single = λ h. h; ns = []; back = sym (append-nothing w.put_back); steady = tt; here = inl refl }
+top-serves p f es w true = record { current = refl; single = λ h. h; ns = []; back = sym (append-nil w.put_back); steady = tt; here = inl refl }
+top-serves p f es w false = record { current = refl; single = λ h. h; ns = []; back = sym (append-nil w.put_back); steady = tt; here = inl refl }
 
 bottom-serves : (p : Params) (f : Float) (es : List Entry) (w : Work) (t : Bool) → Served es w (moved p places.Bottom f (left_of es w) w t)
-bottom-serves p f es w true = record { current = refl; single = λ h. h; ns = []; back = sym (append-nothing w.put_back); steady = tt; here = inl refl }
-bottom-serves p f es w false = record { current = refl; single = λ h. h; ns = []; back = sym (append-nothing w.put_back); steady = tt; here = inl refl }
+bottom-serves p f es w true = record { current = refl; single = λ h. h; ns = []; back = sym (append-nil w.put_back); steady = tt; here = inl refl }
+bottom-serves p f es w false = record { current = refl; single = λ h. h; ns = []; back = sym (append-nil w.put_back); steady = tt; here = inl refl }
 
 deferred-serves : (p : Params) (f : Float) (es : List Entry) (w : Work) → Served es w (Place.place_float p places.Deferred f (left_of es w) w)
-deferred-serves p f es w = record { current = refl; single = λ h. h; ns = []; back = sym (append-nothing w.put_back); steady = tt; here = inl refl }
+deferred-serves p f es w = record { current = refl; single = λ h. h; ns = []; back = sym (append-nil w.put_back); steady = tt; here = inl refl }
 
 defer-serves : (p : Params) (f : Float) (es : List Entry) (w : Work) → Served es w (Text.defer p f (left_of es w) w)
 defer-serves p f es w = by_places (Text.only_here f)
@@ -135,33 +127,21 @@ defer-serves p f es w = by_places (Text.only_here f)
     by_places true = then_writes es w _ _ (deferred-serves p (Text.with_top f) es w) (sends-writes (warned (warnings.Ht f.name)) _)
     by_places false = deferred-serves p f es w
 
-notes-steady : (p : Params) (o : Option (List Leaf)) → AllSteady (Text.notes_nodes p o)
-notes-steady p None = tt
-notes-steady p (Some ls) = (tt, tt)
-
 module _ (p : Params) (calm : int_le p.interlinepenalty eject_penalty ≡ false) where
-  penalty-steady : (o : Option Glue) → AllSteady (Text.penalty_nodes p.interlinepenalty o)
-  penalty-steady None = (rw calm tt, tt)
-  penalty-steady (Some g) = (tt, (rw calm tt, (tt, tt)))
-
   interline-writes : (w : Work) → Writes w (Text.puts_interline p w)
-  interline-writes w = puts-writes (Text.penalty_after p.interlinepenalty w.put_back) w (penalty-steady (Text.glue_at_end (last_or (plain (pen p.interlinepenalty)) (map (λ m. m.kind) w.put_back))))
-
-  here-steady : (vert : Bool) (f : Float) → AllSteady (Text.here_nodes p vert f)
-  here-steady true f = (tt, (tt, (rw calm tt, (tt, (tt, tt)))))
-  here-steady false f = (tt, (tt, (rw calm tt, (tt, tt))))
+  interline-writes w = puts-writes (Text.penalty_after p.interlinepenalty w.put_back) w (penalty-steady p calm (Text.glue_at_end (last_or (plain (pen p.interlinepenalty)) (map (λ m. m.kind) w.put_back))))
 
   after-steady : (w : Work) → AllSteady (Text.penalty_after p.interlinepenalty w.put_back)
-  after-steady w = penalty-steady (Text.glue_at_end (last_or (plain (pen p.interlinepenalty)) (map (λ m. m.kind) w.put_back)))
+  after-steady w = penalty-steady p calm (Text.glue_at_end (last_or (plain (pen p.interlinepenalty)) (map (λ m. m.kind) w.put_back)))
 
   -- a float that goes into the text
   here-now : (vert : Bool) (f : Float) (es : List Entry) (w : Work) (t : Bool) → Served es w (puts (Text.here_nodes p vert f) (Text.puts_interline p (moved p places.Here f (left_of es w) w t)))
   here-now vert f es w true =
       let ms = Text.penalty_after p.interlinepenalty w.put_back in
-      record { current = refl; single = λ h. h; ns = ms ++ Text.here_nodes p vert f; back = append-assoc w.put_back ms (Text.here_nodes p vert f); steady = steady-both ms (Text.here_nodes p vert f) (after-steady w) (here-steady vert f); here = inr (subst HasReal (sym (sorts-append ms (Text.here_nodes p vert f))) (real-right (sorts ms) (sorts (Text.here_nodes p vert f)) tt)) }
+      record { current = refl; single = λ h. h; ns = ms ++ Text.here_nodes p vert f; back = append_assoc w.put_back ms (Text.here_nodes p vert f); steady = steady-both ms (Text.here_nodes p vert f) (after-steady w) (here-steady p calm vert f); here = inr (subst HasReal (sym (sorts-append ms (Text.here_nodes p vert f))) (real-right (sorts ms) (sorts (Text.here_nodes p vert f)) tt)) }
   here-now vert f es w false =
       let ms = Text.penalty_after p.interlinepenalty w.put_back in
-      record { current = refl; single = λ h. h; ns = ms ++ Text.here_nodes p vert f; back = append-assoc w.put_back ms (Text.here_nodes p vert f); steady = steady-both ms (Text.here_nodes p vert f) (after-steady w) (here-steady vert f); here = inr (subst HasReal (sym (sorts-append ms (Text.here_nodes p vert f))) (real-right (sorts ms) (sorts (Text.here_nodes p vert f)) tt)) }
+      record { current = refl; single = λ h. h; ns = ms ++ Text.here_nodes p vert f; back = append_assoc w.put_back ms (Text.here_nodes p vert f); steady = steady-both ms (Text.here_nodes p vert f) (after-steady w) (here-steady p calm vert f); here = inr (subst HasReal (sym (sorts-append ms (Text.here_nodes p vert f))) (real-right (sorts ms) (sorts (Text.here_nodes p vert f)) tt)) }
 
   then_interline : (es : List Entry) (w c : Work) → Served es w c → Served es w (Text.puts_interline p c)
   then_interline es w c x = then_writes es w c (Text.puts_interline p c) x (interline-writes c)
@@ -180,7 +160,7 @@ module _ (p : Params) (calm : int_le p.interlinepenalty eject_penalty ≡ false)
       let a = Text.with_note_bottom at.bottom (with_floats (left_of es w) w) in
       let b = Text.moved_warning m at a in
       let c = puts (Text.note_nodes depth m at) b in
-      let x : Served es w a = record { current = refl; single = λ h. h; ns = []; back = sym (append-nothing w.put_back); steady = tt; here = inl refl } in
+      let x : Served es w a = record { current = refl; single = λ h. h; ns = []; back = sym (append-nil w.put_back); steady = tt; here = inl refl } in
       let y : Writes a b = writes_if a at.moved (sends (warned (warnings.Moved m.name at.shift)) a) a (sends-writes _ a) (nothing a a refl refl refl) in
       then_interline es w c (then_writes es w b c (then_writes es w a b x y) (puts-writes (Text.note_nodes depth m at) b (tt, (tt, (tt, tt)))))
 
@@ -234,8 +214,8 @@ module _ (p : Params) (calm : int_le p.interlinepenalty eject_penalty ≡ false)
         items = x.items;
         single = x.single;
         ns = notes ++ x.ns;
-        back = x.back ∙ append-assoc w.put_back (ns ++ notes) x.ns ∙ ap (λ l. w.put_back ++ l) (append-assoc ns notes x.ns);
-        steady = steady-both notes x.ns (notes-steady p (footnotes w.state)) x.steady;
+        back = x.back ∙ append_assoc w.put_back (ns ++ notes) x.ns ∙ ap (λ l. w.put_back ++ l) (append_assoc ns notes x.ns);
+        steady = steady-both notes x.ns (notes-steady p calm (footnotes w.state)) x.steady;
         here = by_here notes x.ns x.here;
       }
     where

@@ -18,6 +18,7 @@ use Rattle.tb_column.specs.Column.{PlainColumn}
 use Rattle.tb_output.specs.State.{State, Recorded}
 use Rattle.tb_output.specs.Act.{Acted, went, full, act_on, taken_float}
 use Rattle.tb_output.proofs.StateWeights.{left_weight}
+use Rattle.tb_output.proofs.PrintedLines.{left_prints, LeftPlain}
 use Rattle.tb_output.proofs.Closings.{Still, act_token}
 use Rattle.tb_output.proofs.ClosingPages.{ActsClose, owed_acts, AllStill}
 use Rattle.tb_output.proofs.SparedLists.{Single}
@@ -65,6 +66,9 @@ record Went (n : ℕ) (s : State) (a : Act) (ds : List Act) (t : State) (rs : Li
   same_owed : owed_acts n (a ∷ ds) ≡ owed_acts owed ds
   here : t.floats.here ≡ s.floats.here
   still : Still (act_token a) → t.floats ≡ s.floats
+  bare : done ≡ true → left_prints t.left_column ≡ []
+  left : left_prints t.left_column ≡ left_prints s.left_column
+  left_plain : LeftPlain s.left_column → LeftPlain t.left_column
 
 ActWent : ℕ → State → Act → List Act → Acted → Type 0
 ActWent n s a ds (went t ws rs) = Went n s a ds t rs
@@ -75,16 +79,16 @@ unfolding ActWent
 room-went n s a ds true line live t ws rs h = tt
 room-went n s a ds false line live t ws rs h = h
 
-act-went : (p : Params) (n : ℕ) (o : Bool) (s : State) (a : Act) (ds : List Act) → (o ≡ true → s.floats ≡ no_floats) → entry_items s.floats.current ≤ n → Single s → ActsClose o (a ∷ ds) → ActWent n s a ds (act_on p s a)
+act-went : (p : Params) (n : ℕ) (o : Bool) (s : State) (a : Act) (ds : List Act) → (o ≡ true → s.floats ≡ no_floats) → (o ≡ true → left_prints s.left_column ≡ []) → entry_items s.floats.current ≤ n → Single s → ActsClose o (a ∷ ds) → ActWent n s a ds (act_on p s a)
 unfolding ActWent
-act-went p n o s (acts.Take f) ds e i g c =
+act-went p n o s (acts.Take f) ds e b i g c =
     let k : entry_items (s.floats.current ++ entries.Float (taken_float p s f) ∷ []) ≡ entry_items s.floats.current + 1 = items-append s.floats.current (entries.Float (taken_float p s f) ∷ []) in
-    room-went n s (acts.Take f) ds (int_le p.pool (pos (live_count s.floats))) _ _ _ _ _ (record { records = tt; owed = suc n; done = false; empty = λ z. never z; items = omega arith; single = g; close = c; same_owed = refl; here = refl; still = λ z. absurd z })
-act-went p n o s (acts.TakeMargin m) ds e i g c =
+    room-went n s (acts.Take f) ds (int_le p.pool (pos (live_count s.floats))) _ _ _ _ _ (record { records = tt; owed = suc n; done = false; empty = λ z. never z; items = omega arith; single = g; close = c; same_owed = refl; here = refl; still = λ z. absurd z; bare = λ z. never z; left = refl; left_plain = λ z. z })
+act-went p n o s (acts.TakeMargin m) ds e b i g c =
     let k : entry_items (s.floats.current ++ entries.Left m ∷ entries.Right m ∷ []) ≡ entry_items s.floats.current + 1 = items-append s.floats.current (entries.Left m ∷ entries.Right m ∷ []) in
-    room-went n s (acts.TakeMargin m) ds (int_lt p.pool (pos (live_count s.floats + 2))) _ _ _ _ _ (record { records = tt; owed = suc n; done = false; empty = λ z. never z; items = omega arith; single = g; close = c; same_owed = refl; here = refl; still = λ z. absurd z })
-act-went p n o s (acts.Suppress area) ds e i g c = record { records = tt; owed = n; done = o; empty = e; items = i; single = g; close = c; same_owed = refl; here = refl; still = λ z. refl }
-act-went p n o s (acts.Columns two) ds e i g c = record { records = (e c.0, tt); owed = n; done = o; empty = e; items = i; single = λ z. ap (λ l. l.double) (e c.0); close = c.1; same_owed = refl; here = refl; still = λ z. refl }
+    room-went n s (acts.TakeMargin m) ds (int_lt p.pool (pos (live_count s.floats + 2))) _ _ _ _ _ (record { records = tt; owed = suc n; done = false; empty = λ z. never z; items = omega arith; single = g; close = c; same_owed = refl; here = refl; still = λ z. absurd z; bare = λ z. never z; left = refl; left_plain = λ z. z })
+act-went p n o s (acts.Suppress area) ds e b i g c = record { records = tt; owed = n; done = o; empty = e; items = i; single = g; close = c; same_owed = refl; here = refl; still = λ z. refl; bare = b; left = refl; left_plain = λ z. z }
+act-went p n o s (acts.Columns two) ds e b i g c = record { records = (e c.0, tt); owed = n; done = o; empty = e; items = i; single = λ z. ap (λ l. l.double) (e c.0); close = c.1; same_owed = refl; here = refl; still = λ z. refl; bare = λ z. refl; left = sym (b c.0); left_plain = λ z. tt }
 
 -- ---- all acts of a page
 
@@ -94,6 +98,8 @@ pub record ActsClosed (n : ℕ) (ds : List Act) (s t : State) : Type 0 where
   pub single : Single t
   pub here : t.floats.here ≡ s.floats.here
   pub still : AllStill ds → t.floats ≡ s.floats
+  pub left : left_prints t.left_column ≡ left_prints s.left_column
+  pub left_plain : LeftPlain s.left_column → LeftPlain t.left_column
 
 pub record ProgressClosed (n : ℕ) (ds : List Act) (s : State) (q : Progress) : Type 0 where
   pub records : AllByRecursion IsEmptied q.records
@@ -110,21 +116,21 @@ some-none x f = let y : Is_some None = subst Is_some f tt in y
     Is_some None = ⊥
     Is_some (Some y) = Unit {0}
 
-by_act-closed : (n : ℕ) (s : State) (a : Act) (ds : List Act) (later : State → Progress) → ((m : ℕ) (o : Bool) (t : State) → (o ≡ true → t.floats ≡ no_floats) → entry_items t.floats.current ≤ m → Single t → ActsClose o ds → ProgressClosed m ds t (later t)) → (x : Acted) → ActWent n s a ds x → ProgressClosed n (a ∷ ds) s (progress_by later s x)
+by_act-closed : (n : ℕ) (s : State) (a : Act) (ds : List Act) (later : State → Progress) → ((m : ℕ) (o : Bool) (t : State) → (o ≡ true → t.floats ≡ no_floats) → (o ≡ true → left_prints t.left_column ≡ []) → entry_items t.floats.current ≤ m → Single t → ActsClose o ds → ProgressClosed m ds t (later t)) → (x : Acted) → ActWent n s a ds x → ProgressClosed n (a ∷ ds) s (progress_by later s x)
 unfolding ActWent
 by_act-closed n s a ds later h (went t ws rs) k =
-    let q : ProgressClosed k.owed ds t (later t) = h k.owed k.done t k.empty k.items k.single k.close in
+    let q : ProgressClosed k.owed ds t (later t) = h k.owed k.done t k.empty k.bare k.items k.single k.close in
     record {
       records = emptied-append rs (later t).records k.records q.records;
-      after = λ f. let x = q.after f in record { items = subst (λ m. entry_items (later t).state.floats.current ≤ m) (sym k.same_owed) x.items; single = x.single; here = x.here ∙ k.here; still = λ z. x.still z.1 ∙ k.still z.0 };
+      after = λ f. let x = q.after f in record { items = subst (λ m. entry_items (later t).state.floats.current ≤ m) (sym k.same_owed) x.items; single = x.single; here = x.here ∙ k.here; still = λ z. x.still z.1 ∙ k.still z.0; left = x.left ∙ k.left; left_plain = λ z. x.left_plain (k.left_plain z) };
     }
 by_act-closed n s a ds later h (full line live) k = record { records = tt; after = λ f. absurd (some-none (line, live) f) }
 
-pub progress-closed : (p : Params) (rs : List Reached) (least : ℤ) (n : ℕ) (o : Bool) (s : State) → (o ≡ true → s.floats ≡ no_floats) → entry_items s.floats.current ≤ n → Single s → ActsClose o (acted_of rs) → ProgressClosed n (acted_of rs) s (progress p rs least s)
-progress-closed p [] least n o s e i g c = record { records = tt; after = λ f. record { items = i; single = g; here = refl; still = λ z. refl } }
-progress-closed p (acted a ∷ rs) least n o s e i g c =
-    by_act-closed n s a (acted_of rs) (λ t. progress p rs least t) (λ m o t x y z w. progress-closed p rs least m o t x y z w) (act_on p s a) (act-went p n o s a (acted_of rs) e i g c)
-progress-closed p (tried line b ∷ rs) least n o s e i g c = let r = progress-closed p rs (min_ℤ least b.cost) n o s e i g c in record { records = r.records; after = r.after }
+pub progress-closed : (p : Params) (rs : List Reached) (least : ℤ) (n : ℕ) (o : Bool) (s : State) → (o ≡ true → s.floats ≡ no_floats) → (o ≡ true → left_prints s.left_column ≡ []) → entry_items s.floats.current ≤ n → Single s → ActsClose o (acted_of rs) → ProgressClosed n (acted_of rs) s (progress p rs least s)
+progress-closed p [] least n o s e b i g c = record { records = tt; after = λ f. record { items = i; single = g; here = refl; still = λ z. refl; left = refl; left_plain = λ z. z } }
+progress-closed p (acted a ∷ rs) least n o s e b i g c =
+    by_act-closed n s a (acted_of rs) (λ t. progress p rs least t) (λ m o t x b y z w. progress-closed p rs least m o t x b y z w) (act_on p s a) (act-went p n o s a (acted_of rs) e b i g c)
+progress-closed p (tried line x ∷ rs) least n o s e b i g c = let r = progress-closed p rs (min_ℤ least x.cost) n o s e b i g c in record { records = r.records; after = r.after }
 
 -- acts that take nothing bring nothing
 pub still-weight : (v : Weight) (rs : List Reached) → AllStill (acted_of rs) → acted_weight v rs ≡ 0

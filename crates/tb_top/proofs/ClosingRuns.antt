@@ -25,6 +25,8 @@ use Rattle.tb_output.specs.Out.{out}
 use Rattle.tb_output.proofs.StateWeights.{OneBox, Paired, entries_weight, floats_weight, lists_weight, left_weight, state_weight, sent_weight}
 use Rattle.tb_output.proofs.SortLemmas.{pen_sort, sorts, sorts-append, take-drop}
 use Rattle.tb_output.proofs.PlaceLemmas.{AllSteady, body-steady}
+use Rattle.tb_column.specs.Column.{PlainColumn}
+use Rattle.tb_output.proofs.PrintedLines.{printed, prints, left_prints}
 use Rattle.tb_output.proofs.Closings.{Closes, Quiet, kind_token, tokens}
 use Rattle.tb_output.proofs.ClosingPages.{owed_acts, pruned-closes, PageCloses, cut-closes, break-closes, tokens-take}
 use Rattle.tb_output.proofs.BoxesFirst.{RealFirst, HasReal, BreakReal, pruned-first, acts-first, break-real}
@@ -60,6 +62,34 @@ weightless-lists l q h e =
     let d : l.deferred ≡ [] = no-float l.deferred (omega arith) in
     let g : l.double ≡ [] = no-float l.double (omega arith) in
     λ i. record { current = a i; here = h i; top = b i; bottom = c i; deferred = d i; double = g i }
+
+-- nodes that weigh nothing show nothing
+kind-shows : (l : ℕ) (k : PlainKind) → kind_weight ones l k ≡ 0 → printed l k ≡ []
+kind-shows l (plain (hbox (what.Text name) h d)) e = let no : ⊥ = omega arith in absurd no
+kind-shows l (plain (hbox what.Blank h d)) e = refl
+kind-shows l (plain (hbox (what.Float name class place item) h d)) e = refl
+kind-shows l (plain (hbox (what.Margin name side shift height depth item) h d)) e = refl
+kind-shows l (plain (rule None h d)) e = refl
+kind-shows l (plain (rule (Some name) h d)) e = let no : ⊥ = omega arith in absurd no
+kind-shows l (plain (skip g)) e = refl
+kind-shows l (plain (kerned g)) e = refl
+kind-shows l (plain (pen p)) e = refl
+kind-shows l (plain (mark name)) e = refl
+kind-shows l (plain (note name)) e = refl
+kind-shows l (plain whatsit) e = refl
+kind-shows l (ins i) e = refl
+kind-shows l (act a) e = refl
+
+pub weightless-prints : (ns : List PlainNode) → nodes_weight ones ns ≡ 0 → prints ns ≡ []
+weightless-prints [] e = refl
+weightless-prints (n ∷ ns) e =
+    let a : printed n.line n.kind ≡ [] = kind-shows n.line n.kind (omega arith) in
+    let b : prints ns ≡ [] = weightless-prints ns (omega arith) in
+    λ i. a i ++ b i
+
+pub weightless-left : (o : Option PlainColumn) → left_weight ones o ≡ 0 → left_prints o ≡ []
+weightless-left None e = refl
+weightless-left (Some c) e = weightless-prints c.nodes e
 
 -- ---- quiet nodes
 
@@ -149,10 +179,10 @@ StepCloses s (ends es rs (page_limit n)) = AllByRecursion IsEmptied rs
 StepCloses s (ends es rs (node_limit n)) = AllByRecursion IsEmptied rs
 
 module _ (p : Params) (calm : int_le p.interlinepenalty eject_penalty ≡ false) (s : State) (kept : Kept s) (closing : Closing s) where
-  page_cut : CutAt [] (pruned_nodes p.topskip s.waiting) (page_of p s)
+  pub page_cut : CutAt [] (pruned_nodes p.topskip s.waiting) (page_of p s)
   page_cut = cut ones p calm s kept
 
-  page_closes : PageCloses closing.owed closing.done (page_break (page_of p s)).place (page_of p s)
+  pub page_closes : PageCloses closing.owed closing.done (page_break (page_of p s)).place (page_of p s)
   page_closes = cut-closes (pruned_nodes p.topskip s.waiting) (page_of p s) closing.owed closing.done (page_break (page_of p s)).place page_cut (pruned-closes p.topskip s.waiting kept.placed.held closing.owed closing.done kept.placed.stands closing.closes)
 
   left_fits : (v : Weight) → closing.done ≡ true → left_weight v s.left_column ≡ 0
@@ -161,12 +191,15 @@ module _ (p : Params) (calm : int_le p.interlinepenalty eject_penalty ≡ false)
   empty : closing.done ≡ true → s.floats ≡ no_floats
   empty e = let k : boxes_weight ones s.boxes + nodes_weight ones s.held_page + lists_weight ones s.floats + left_weight ones s.left_column ≡ 0 = (closing.clean e).weightless ones in weightless-lists s.floats kept.sound.entries (closing.clean e).here (omega arith)
 
+  bare : closing.done ≡ true → left_prints s.left_column ≡ []
+  bare e = weightless-left s.left_column (left_fits ones e)
+
   -- a change of columns drops nothing that weighs
   pub changes-fit : (v : Weight) → ActsFit v s.left_column (acted_of (page_of p s).reached)
   changes-fit v = acts-fit v s.left_column closing.done (acted_of (page_of p s).reached) (left_fits v) page_closes.acts_close
 
-  progressed : ProgressClosed closing.owed (acted_of (page_of p s).reached) s (progress p (page_of p s).reached awful_bad s)
-  progressed = progress-closed p (page_of p s).reached awful_bad closing.owed closing.done s empty closing.items closing.single page_closes.acts_close
+  pub progressed : ProgressClosed closing.owed (acted_of (page_of p s).reached) s (progress p (page_of p s).reached awful_bad s)
+  progressed = progress-closed p (page_of p s).reached awful_bad closing.owed closing.done s empty bare closing.items closing.single page_closes.acts_close
 
   -- a box before the next forced break is on the page that breaks there
   first_break : RealFirst (sorts s.waiting) → BreakReal (sorts (take (page_break (page_of p s)).place (page_of p s).passed)) (pen_sort (penalty_at (from_break (page_of p s))))
@@ -267,6 +300,10 @@ module _ (p : Params) (calm : int_le p.interlinepenalty eject_penalty ≡ false)
       by_cycles true = by_refused o.refused refl
       by_cycles false = e
 
+  -- the state after the acts of the page
+  pub acts-after : (progress p (page_of p s).reached awful_bad s).fault ≡ None → (v : Weight) → After v (acted_weight v (page_of p s).reached) s (progress p (page_of p s).reached awful_bad s).state
+  acts-after f v = (progress-adds v p (page_of p s).reached awful_bad s kept.sound (changes-fit v)).after f
+
   -- at the end nothing is left that has to ship
   end-empty : (t : State) → ActsClosed closing.owed (acted_of (page_of p s).reached) s t → (page_of p s).fires ≡ false → (t.floats ≡ no_floats) × ((v : Weight) → state_weight v s ≡ 0)
   end-empty t d u =
@@ -285,11 +322,8 @@ module _ (p : Params) (calm : int_le p.interlinepenalty eject_penalty ≡ false)
       q : Progress
       q = progress p (page_of p s).reached awful_bad s
 
-      after : q.fault ≡ None → (v : Weight) → After v (acted_weight v (page_of p s).reached) s q.state
-      after f v = (progress-adds v p (page_of p s).reached awful_bad s kept.sound (changes-fit v)).after f
-
       by_firing : (u : Bool) → (page_of p s).fires ≡ u → q.fault ≡ None → StepCloses s (if u then fire p (page_of p s) q else ends q.events (q.records ++ emptied q.state.floats ∷ []) (done (page_of p s).passed))
-      by_firing true u f = fire-closes q progressed.records (after f) (progressed.after f)
+      by_firing true u f = fire-closes q progressed.records (acts-after f) (progressed.after f)
       by_firing false u f = let x = end-empty q.state (progressed.after f) u in (emptied-append q.records (emptied q.state.floats ∷ []) progressed.records (x.0, tt), x.1)
 
       by_fault : (o : Option (ℕ × ℕ)) → q.fault ≡ o → StepCloses s (after_progress p (page_of p s) q o)
