@@ -8,6 +8,7 @@ use Rattle.tb_top.specs.declared.View.{View}
 use Rattle.tb_top.specs.declared.PageFault.{PageFault}
 use Rattle.tb_top.specs.Paginated.{end_fault, Paginates}
 use Rattle.tb_top.specs.Laws.{HasTotals, EndsDone, KeepsLaws}
+use Rattle.tb_top.proofs.LimitedRuns.{run-within}
 use Rattle.tb_top.proofs.ShippedRuns.{lists-emptied}
 use Rattle.tb_top.proofs.ShippedOnce.{ships-once}
 use Rattle.tb_top.proofs.ShippedTotals.{totals-shown}
@@ -29,4 +30,4 @@ no-fault (node_limit n) h = absurd (some-fault _ h)
 pub keeps-laws : (g : Galley) → IsValid g → (v : View) (old new : Option (List ℕ)) (t : Totals) → Paginates v (run_of g) old new t → KeepsLaws g t
 keeps-laws g valid v old new t h =
     let d = no-fault (run_of g).end h.ended in
-    record { once = ships-once g valid d; empty = lists-emptied g valid; totals = subst (HasTotals g) (sym h.totals) (totals-shown g valid d) }
+    record { once = ships-once g valid d; empty = lists-emptied g valid; totals = subst (HasTotals g) (sym h.totals) (totals-shown g valid d); limits = run-within g }
