@@ -12,7 +12,7 @@ use Rattle.tb_output.specs.Ship
 use Rattle.tb_output.specs.Columns
 use Rattle.tb_output.specs.Clear
 use Rattle.tb_output.proofs.StateWeights.{ColumnsFit}
-use Rattle.tb_output.proofs.Closings.{Token, Closes, Quiet, quiet-between, tokens, tokens-append}
+use Rattle.tb_output.proofs.Closings.{never, Token, Closes, Quiet, quiet-between, tokens, tokens-append}
 use Rattle.tb_output.proofs.SparedLists.{Single, Spares, all_columns-spares, all_wide-spares, all_wide-double}
 
 -- ---- a clear that is put back
@@ -79,9 +79,6 @@ one-left : (f : Bool) (o : Option PlainColumn) → ColumnsFit false f o → o �
 one-left true o h = no-left false o h
 one-left false o h = absurd h
 
-not-one : true ≡ false → ⊥
-not-one h = let no : ⊥ = grind (arith, h) in no
-
 module _ (p : Params) (front : List PlainNode) (quiet_front : AllByRecursion Quiet (tokens front)) (w : Work) (current : w.state.floats.current ≡ []) (here : w.state.floats.here ≡ []) (back : w.put_back ≡ []) (single : Single w.state) (fit : ColumnsFit w.state.two_columns w.state.first_column w.state.left_column) where
   module _ (b : Work) (x : Spares (with_floats (Clear.deferred_again w.state.floats) (puts front w)) b) where
     put : b.put_back ≡ front
@@ -97,7 +94,7 @@ module _ (p : Params) (front : List PlainNode) (quiet_front : AllByRecursion Qui
     doubled = x.single single
 
     at_second : b.state.two_columns ≡ true → Half w (puts (made blank_box ∷ Clear.clear_again) b) front
-    at_second t = record { current = x.current ∙ current; here = x.here ∙ here; top = x.top; bottom = x.bottom; boxes = x.boxes; page = x.page; single = λ e. absurd (not-one (sym t ∙ e)); outcome = inl (subst (λ l. Pending (l ++ made blank_box ∷ Clear.clear_again)) (sym put) (blank-pending front quiet_front)) }
+    at_second t = record { current = x.current ∙ current; here = x.here ∙ here; top = x.top; bottom = x.bottom; boxes = x.boxes; page = x.page; single = λ e. never (sym e ∙ t); outcome = inl (subst (λ l. Pending (l ++ made blank_box ∷ Clear.clear_again)) (sym put) (blank-pending front quiet_front)) }
 
     at_first : b.state.left_column ≡ None → Half w (Ship.all_wide_pages p true (with_floats (Clear.double_again b.state.floats) b)) front
     at_first l =

@@ -18,7 +18,7 @@ use Rattle.tb_output.proofs.StateWeights.{Paired, ColumnsFit}
 use Rattle.tb_output.proofs.Sorts.{sorts-calm, seen_all}
 use Rattle.tb_output.proofs.SortLemmas.{Sort, hold, serve, clear, none, one, BreakStands, pen_sort, sorts, sorts-append}
 use Rattle.tb_output.proofs.PlaceLemmas.{AllSteady, take-steady}
-use Rattle.tb_output.proofs.Closings.{Token, Closes, Quiet, quiet-between, harmless-between, tokens, steady-harmless}
+use Rattle.tb_output.proofs.Closings.{never, Token, Closes, Quiet, quiet-between, harmless-between, tokens, steady-harmless}
 use Rattle.tb_output.proofs.BreakSorts.{at-ordinary, at-clear, at-serve, at-hold}
 use Rattle.tb_output.proofs.ClosingPages.{BreakCloses, tokens-take}
 use Rattle.tb_output.proofs.BoxesFirst.{RealFirst, HasReal, BreakReal, steady-first, real-left, real-right, body-real, one-unreal, unreal-quiet}
@@ -39,12 +39,6 @@ pub record Closed (f : Fired) (d : Bool) (w c : Work) : Type 0 where
   pub single : Single c.state
   pub here : (c.state.floats.here ≡ []) ⊎ HereFits (sorts c.state.held_page) (sorts c.put_back)
   pub clean : done ≡ true → ((d ≡ true) × (c.state.floats.here ≡ []) × (c.put_back ≡ [])) ⊎ ((footnotes w.state ≡ None) × Emptied w c × (w.state.held_page ≡ []))
-
-never : {X : Type 0} → true ≡ false → X
-never h = let no : ⊥ = grind (arith, h) in absurd no
-
-never' : {X : Type 0} → false ≡ true → X
-never' h = let no : ⊥ = grind (arith, h) in absurd no
 
 module _ (p : Params) (calm : int_le p.interlinepenalty eject_penalty ≡ false) (f : Fired) (before : List PlainNode) (is_body : f.body ≡ without_insertions before) (calm_before : AllCalm before) (free_before : AllFree before) (b : Bool) (stands : BreakStands b (seen_all none (sorts before)) f.rest (pen_sort f.penalty)) (m : ℕ) (d : Bool) (breaks : BreakCloses m d f.rest (pen_sort f.penalty)) (w : Work) (begun : w.put_back ≡ []) (free : b ≡ false → w.state.held_page ≡ []) (steady_page : AllSteady w.state.held_page) (steady_body : AllSteady f.body) (items : entry_items w.state.floats.current ≤ m) (paired : Paired w.state.floats.current) (single : Single w.state) (fit : ColumnsFit w.state.two_columns w.state.first_column w.state.left_column) (here : (w.state.floats.here ≡ []) ⊎ (HasReal (sorts w.state.held_page) ⊎ BreakReal (sorts before) (pen_sort f.penalty))) where
   no-put : (c : Work) → c.put_back ≡ w.put_back → (n : ℕ) (o : Bool) → Closes n o (tokens f.rest) → (blank : List Token) → AllByRecursion Quiet blank → Closes n o (tokens c.put_back ++ (blank ++ tokens f.rest))
@@ -90,7 +84,7 @@ module _ (p : Params) (calm : int_le p.interlinepenalty eject_penalty ≡ false)
         items = items;
         single = single;
         here = by_here x.0.0 x.2;
-        clean = λ e. never' e;
+        clean = λ e. never e;
       }
 
   serve-closed : (vert : Bool) → int_le eject_penalty f.penalty ≡ false → Out.is_int f.penalty Out.clear_penalty ≡ false → (Out.is_int f.penalty Out.par_penalty || Out.is_int f.penalty Out.vert_penalty) ≡ true → Closed f d w (Text.float_or_note p vert f.body w)
@@ -130,7 +124,7 @@ module _ (p : Params) (calm : int_le p.interlinepenalty eject_penalty ≡ false)
             items = y.items j (subst (λ n. entry_items w.state.floats.current ≤ n) x.1.1 items);
             single = y.single single;
             here = by_here c y.ns e y.steady x.0.0 y.here x.2;
-            clean = λ e. never' e;
+            clean = λ e. never e;
           }
 
   clear-closed : int_le eject_penalty f.penalty ≡ false → Out.is_int f.penalty Out.clear_penalty ≡ true → Closed f d w (Clear.clear p f.body w)
@@ -152,7 +146,7 @@ module _ (p : Params) (calm : int_le p.interlinepenalty eject_penalty ≡ false)
         items = subst (λ l. entry_items l ≤ 0) (sym n) (omega arith);
         single = s;
         here = inl h;
-        clean = λ e. never' e;
+        clean = λ e. never e;
       }
 
       by_outcome : footnotes w.state ≡ None → b ≡ false → (c : Work) → Cleared w c (Clear.cleared_front p f.body) → AllByRecursion Quiet (tokens (Clear.cleared_front p f.body)) → Closes 0 true (tokens f.rest) → Pending c.put_back ⊎ ((c.put_back ≡ Clear.cleared_front p f.body) × Emptied w c) → Closed f d w c

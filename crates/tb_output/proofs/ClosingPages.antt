@@ -1,5 +1,5 @@
 -- A page is cut from a list that closes: what its acts and its break leave of the list closes again.
-use Rattle.std.proofs.Common.{◌≡◌, refl, sym, ◌∙◌, ap, subst, ℕ, zero, suc, ℤ, Bool, true, false, List, [], ◌∷◌, ◌++◌, take, drop, arith}
+use Rattle.std.proofs.Common.{◌≡◌, refl, sym, ◌∙◌, ap, subst, ℕ, zero, suc, ℤ, Bool, true, false, List, [], ◌∷◌, ◌++◌, take, drop}
 use Rattle.std.specs.List.{AllByRecursion}
 use Rattle.tb_scaled.specs.Scaled.{inf_penalty}
 use Rattle.tb_node.specs.declared.Act.{Act}
@@ -11,7 +11,7 @@ use Rattle.tb_builder.specs.Fired.{with_spent_break, penalty_at}
 use Rattle.tb_builder.proofs.CutLemmas.{AllCalm, ActFree, FirstFree, AllFree, CutAt, acts_of, acted_of, acts-free}
 use Rattle.tb_output.proofs.Sorts.{Sort, kind_sort, sorts, pen_sort, pen-sorts, Stands, none, light, blank, real, silent, pause, hold, serve, clear, odd}
 use Rattle.tb_output.proofs.SortLemmas.{free-drop, calm-acts}
-use Rattle.tb_output.proofs.Closings.{Token, quiet, heavy, taking, changing, serving, clearing, Closes, closes-any, Quiet, Harmless, quiet-between, harmless-between, Passed, owed_all, done_all, closes-after, Still, nothing-came, sort_token, act_token, kind_token, tokens, tokens-append, calm-passed, free-harmless, still-quiet}
+use Rattle.tb_output.proofs.Closings.{never, Token, quiet, heavy, taking, changing, serving, clearing, Closes, closes-any, Quiet, Harmless, quiet-between, harmless-between, Passed, owed_all, done_all, closes-after, Still, nothing-came, sort_token, act_token, kind_token, tokens, tokens-append, calm-passed, free-harmless, still-quiet}
 
 -- ---- the top of a page
 
@@ -101,15 +101,12 @@ all-owed : (n : ℕ) (ns : List PlainNode) → owed_all n (tokens ns) ≡ owed_a
 all-owed n [] = refl
 all-owed n (x ∷ ns) = node-owed n x.kind ns (λ n. all-owed n ns) x.line
 
-never : false ≡ true → ⊥
-never h = let no : ⊥ = grind (arith, h) in no
-
 weaker : (ds : List Act) → ActsClose false ds → ActsClose true ds
 weaker [] h = tt
 weaker (acts.Take f ∷ ds) h = h
 weaker (acts.TakeMargin m ∷ ds) h = h
 weaker (acts.Suppress area ∷ ds) h = weaker ds h
-weaker (acts.Columns two ∷ ds) h = absurd (never h.0)
+weaker (acts.Columns two ∷ ds) h = never h.0
 
 acts-any : (o : Bool) (ds : List Act) → ActsClose false ds → ActsClose o ds
 acts-any true ds h = weaker ds h

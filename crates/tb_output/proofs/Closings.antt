@@ -30,8 +30,8 @@ Closes (suc n) o (serving ∷ xs) = Closes n false xs
 Closes zero o (clearing ∷ xs) = Closes zero true xs
 Closes (suc n) o (clearing ∷ xs) = ⊥
 
-never : false ≡ true → ⊥
-never h = let no : ⊥ = grind (arith, h) in no
+pub never : {X : Type 0} → false ≡ true → X
+never h = let no : ⊥ = grind (arith, h) in absurd no
 
 -- where something came the walk asks for more
 weaker : (n : ℕ) (xs : List Token) → Closes n false xs → Closes n true xs
@@ -39,7 +39,7 @@ weaker n [] h = refl
 weaker n (quiet ∷ xs) h = weaker n xs h
 weaker n (heavy ∷ xs) h = h
 weaker n (taking ∷ xs) h = h
-weaker n (changing ∷ xs) h = absurd (never h.0)
+weaker n (changing ∷ xs) h = never h.0
 weaker zero (serving ∷ xs) h = absurd h
 weaker (suc n) (serving ∷ xs) h = h
 weaker zero (clearing ∷ xs) h = h

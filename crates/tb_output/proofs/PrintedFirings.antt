@@ -1,5 +1,5 @@
 -- A firing shows the boxes and rules of its page's list in their order, in what it sends and in the column that is kept.
-use Rattle.std.proofs.Common.{◌≡◌, refl, sym, ◌∙◌, ap, subst, ℕ, zero, suc, pos, ◌+◌, ℤ, Bool, true, false, List, [], ◌∷◌, ◌++◌, length, Option, Some, None, arith, append-nil, append_assoc}
+use Rattle.std.proofs.Common.{◌≡◌, refl, sym, ◌∙◌, ap, subst, ℕ, zero, suc, pos, ◌+◌, ℤ, Bool, true, false, List, [], ◌∷◌, ◌++◌, length, Option, Some, None, append-nil, append_assoc}
 use Rattle.std.specs.Prelude.{int_lt, not, if◌then◌else◌}
 use Rattle.tb_node.specs.declared.Float.{Float}
 use Rattle.tb_node.specs.declared.Margin.{Margin}
@@ -23,6 +23,7 @@ use Rattle.tb_output.specs.Ship
 use Rattle.tb_output.specs.Columns
 use Rattle.tb_output.specs.Text
 use Rattle.tb_output.proofs.StateWeights.{ColumnsFit}
+use Rattle.tb_output.proofs.Closings.{never}
 use Rattle.tb_output.proofs.Within.{Within, itself, within-same, within-within, both-within, within-front, within-end}
 use Rattle.tb_output.proofs.PrintedLines.{prints, sheet_prints, sent_prints, left_prints, shown, sent-append, AllPlain, SheetPlain, SentPlain, LeftPlain, sent-plain, above-plain, text-plain, text-prints, floats-plain}
 
@@ -110,9 +111,6 @@ record Shipped (sheet : PlainSheet) (a c : Work) : Type 0 where
   left : c.state.left_column ≡ a.state.left_column
   fit : Fits a → Fits c
 
-no : {X : Type 0} → true ≡ false → X
-no h = let n : ⊥ = grind (arith, h) in absurd n
-
 ship-shipped : (p : Params) (sheet : PlainSheet) (w : Work) → Shipped sheet w (Ship.ship p sheet w)
 ship-shipped p sheet w = by_refused w.refused (int_lt p.maxpages (pos w.state.page)) refl
   where
@@ -120,8 +118,8 @@ ship-shipped p sheet w = by_refused w.refused (int_lt p.maxpages (pos w.state.pa
     turned w = record w { state = record w.state { page = w.state.page + 1; dead_cycles = 0 } }
 
     by_refused : (t u : Bool) → w.refused ≡ t → Shipped sheet w (if t then w else (if u then record w { refused = true } else (if t then record w { state = record w.state { page = w.state.page + 1; dead_cycles = 0 } } else record w { state = record w.state { page = w.state.page + 1; dead_cycles = 0 }; sent = w.sent ++ shipped w.state.page sheet ∷ [] })))
-    by_refused true u e = record { goes = λ h. h; sends_it = λ h. no (sym e ∙ h); plain = λ s h. h; left = refl; fit = λ h. h }
-    by_refused false true e = record { goes = λ h. no h; sends_it = λ h. no h; plain = λ s h. h; left = refl; fit = λ h. h }
+    by_refused true u e = record { goes = λ h. h; sends_it = λ h. never (sym h ∙ e); plain = λ s h. h; left = refl; fit = λ h. h }
+    by_refused false true e = record { goes = λ h. never (sym h); sends_it = λ h. never (sym h); plain = λ s h. h; left = refl; fit = λ h. h }
     by_refused false false e = record { goes = λ h. h; sends_it = λ h. (w.state.page, refl); plain = λ s h. sent-plain w.sent (shipped w.state.page sheet ∷ []) h (s, tt); left = refl; fit = λ h. h }
 
 -- what was sent with one page more

@@ -13,11 +13,10 @@ use Rattle.tb_param.specs.declared.Params.{Params}
 use Rattle.tb_float.specs.declared.Entry.{Entry}
 use Rattle.tb_float.specs.declared.Entry.TheVariants as entries
 use Rattle.tb_float.specs.Lists.{FloatLists}
-use Rattle.tb_float.specs.Rooms.{column_height_of}
 use Rattle.tb_margin.specs.declared.Placed.{Placed}
 use Rattle.tb_column.specs.Column.{PlainSent, warned}
 use Rattle.tb_column.specs.declared.Warn.TheVariants as warnings
-use Rattle.tb_output.specs.State.{Work, placed, puts, sends, with_floats, footnotes}
+use Rattle.tb_output.specs.State.{Work, puts, sends, with_floats, footnotes}
 use Rattle.tb_output.specs.Place
 use Rattle.tb_output.specs.Text
 use Rattle.tb_output.proofs.StateWeights.{Paired}
@@ -25,7 +24,7 @@ use Rattle.tb_output.proofs.SortLemmas.{Sort, Steady, sorts, sorts-append}
 use Rattle.tb_output.proofs.PlaceLemmas.{AllSteady}
 use Rattle.tb_output.proofs.PutLemmas.{penalty-steady, here-steady, notes-steady}
 use Rattle.tb_output.proofs.BoxesFirst.{HasReal, real-left, real-right}
-use Rattle.tb_output.proofs.SparedLists.{Single}
+use Rattle.tb_output.proofs.SparedLists.{Single, moved}
 
 -- how many floats and notes wait to be served
 abbrev pub entry_items : List Entry → ℕ
@@ -98,12 +97,6 @@ then_writes es w c d x y = record {
     by_here : (c.state.floats.here ≡ w.state.floats.here) ⊎ HasReal (sorts x.ns) → (d.state.floats.here ≡ w.state.floats.here) ⊎ HasReal (sorts (x.ns ++ y.ns))
     by_here (inl e) = inl (ap (λ l. l.here) y.floats ∙ e)
     by_here (inr r) = inr (subst HasReal (sym (sorts-append x.ns y.ns)) (real-left (sorts x.ns) (sorts y.ns) r))
-
-abbrev noted : Params → Where → Float → Work → Bool → Work
-noted p place f w t = if t then w else record w { records = w.records ++ placed f place w.state.floats (column_height_of p w.state.floats) ∷ [] }
-
-abbrev moved : Params → Where → Float → FloatLists → Work → Bool → Work
-moved p place f left w t = record (noted p place f w t) { state = record (noted p place f w t).state { floats = Place.joined_to place f left } }
 
 -- what is left without the first
 abbrev left_of : List Entry → Work → FloatLists

@@ -1,5 +1,5 @@
 -- What shipping pages and putting out columns of floats leaves as it is.
-use Rattle.std.proofs.Common.{◌≡◌, refl, sym, ◌∙◌, subst, ℕ, zero, suc, pos, ◌+◌, Bool, true, false, List, [], ◌∷◌, ◌++◌, length, Option, Some, None, arith}
+use Rattle.std.proofs.Common.{◌≡◌, refl, sym, ◌∙◌, subst, ℕ, zero, suc, pos, ◌+◌, Bool, true, false, List, [], ◌∷◌, ◌++◌, length, Option, Some, None}
 use Rattle.std.specs.Prelude.{int_lt, not, if◌then◌else◌}
 use Rattle.tb_node.specs.declared.Float.{Float}
 use Rattle.tb_node.specs.declared.Where.{Where}
@@ -9,7 +9,9 @@ use Rattle.tb_param.specs.declared.Params.{Params}
 use Rattle.tb_float.specs.Rooms.{column_height_of}
 use Rattle.tb_fpage.specs.Company.{Choice, company, chosen_floats, left_floats}
 use Rattle.tb_area.specs.Area.{AreaPlace, at_top, at_bottom, deferred, where_of, next_area_place, goes_double}
+use Rattle.tb_float.specs.Lists.{FloatLists}
 use Rattle.tb_column.specs.Column.{PlainColumn, PlainSheet, PlainSent, shipped, one, wide, pair_sheet, wide_floats_column}
+use Rattle.tb_output.proofs.Closings.{never}
 use Rattle.tb_output.specs.State.{State, Work, Recorded, placed, output, sends, records_also}
 use Rattle.tb_output.specs.Place
 use Rattle.tb_output.specs.Ship
@@ -121,22 +123,23 @@ all_wide-double p clearing w = wide_pages-double p clearing (length w.state.floa
 -- ---- a pair of columns
 
 yes-no : (s : State) → s.two_columns ≡ true → Single s
-yes-no s t e = absurd (never (sym t ∙ e))
-  where
-    never : true ≡ false → ⊥
-    never h = let no : ⊥ = grind (arith, h) in no
+yes-no s t e = never (sym e ∙ t)
 
--- the work when a placement was recorded
-abbrev noted : Params → Where → Float → Work → Bool → Work
+-- the work when a placement was recorded, and when the float has moved
+abbrev pub noted : Params → Where → Float → Work → Bool → Work
 noted p place f w t = if t then w else record w { records = w.records ++ placed f place w.state.floats (column_height_of p w.state.floats) ∷ [] }
 
-abbrev moved : Params → Where → Float → List Float → Work → Bool → Work
-moved p place f fs w t = record (noted p place f w t) { state = record (noted p place f w t).state { floats = Place.joined_to place f (record w.state.floats { deferred = fs }) } }
+abbrev pub moved : Params → Where → Float → FloatLists → Work → Bool → Work
+moved p place f left w t = record (noted p place f w t) { state = record (noted p place f w t).state { floats = Place.joined_to place f left } }
+
+-- what is left where these floats stay deferred
+abbrev staying : List Float → Work → FloatLists
+staying fs w = record w.state.floats { deferred = fs }
 
 -- a float that goes above two columns
-double-spares : (p : Params) (f : Float) (fs : List Float) (w : Work) → w.state.two_columns ≡ true → (t : Bool) → Spares w (moved p places.Double f fs w t)
-double-spares p f fs w t true = record { current = refl; here = refl; top = refl; bottom = refl; boxes = refl; page = refl; columns = refl; put_back = refl; fit = λ h. h; single = λ h. yes-no (moved p places.Double f fs w true).state t }
-double-spares p f fs w t false = record { current = refl; here = refl; top = refl; bottom = refl; boxes = refl; page = refl; columns = refl; put_back = refl; fit = λ h. h; single = λ h. yes-no (moved p places.Double f fs w false).state t }
+double-spares : (p : Params) (f : Float) (fs : List Float) (w : Work) → w.state.two_columns ≡ true → (t : Bool) → Spares w (moved p places.Double f (staying fs w) w t)
+double-spares p f fs w t true = record { current = refl; here = refl; top = refl; bottom = refl; boxes = refl; page = refl; columns = refl; put_back = refl; fit = λ h. h; single = λ h. yes-no (moved p places.Double f (staying fs w) w true).state t }
+double-spares p f fs w t false = record { current = refl; here = refl; top = refl; bottom = refl; boxes = refl; page = refl; columns = refl; put_back = refl; fit = λ h. h; single = λ h. yes-no (moved p places.Double f (staying fs w) w false).state t }
 
 place_double-spares : (p : Params) (before fs : List Float) (w : Work) → w.state.two_columns ≡ true → Spares w (Place.place_double p before fs w)
 place_double-spares p before [] w t = unchanged w
@@ -209,11 +212,11 @@ put_out_text-takes p body w =
     record { current = x.current; here = x.here; page = x.page; put_back = x.put_back; single = λ h. x.single h }
 
 -- deferred floats that go to the top and bottom of a column
-top-takes : (p : Params) (w₀ : Work) (f : Float) (fs : List Float) (w : Work) → TakesText w₀ w → (t : Bool) → TakesText w₀ (moved p places.Top f fs w t)
+top-takes : (p : Params) (w₀ : Work) (f : Float) (fs : List Float) (w : Work) → TakesText w₀ w → (t : Bool) → TakesText w₀ (moved p places.Top f (staying fs w) w t)
 top-takes p w₀ f fs w h true = record { current = h.current; here = h.here; page = h.page; put_back = h.put_back; single = h.single }
 top-takes p w₀ f fs w h false = record { current = h.current; here = h.here; page = h.page; put_back = h.put_back; single = h.single }
 
-bottom-takes : (p : Params) (w₀ : Work) (f : Float) (fs : List Float) (w : Work) → TakesText w₀ w → (t : Bool) → TakesText w₀ (moved p places.Bottom f fs w t)
+bottom-takes : (p : Params) (w₀ : Work) (f : Float) (fs : List Float) (w : Work) → TakesText w₀ w → (t : Bool) → TakesText w₀ (moved p places.Bottom f (staying fs w) w t)
 bottom-takes p w₀ f fs w h true = record { current = h.current; here = h.here; page = h.page; put_back = h.put_back; single = h.single }
 bottom-takes p w₀ f fs w h false = record { current = h.current; here = h.here; page = h.page; put_back = h.put_back; single = h.single }
 

@@ -19,16 +19,13 @@ use Rattle.tb_output.specs.State.{State, Recorded}
 use Rattle.tb_output.specs.Act.{Acted, went, full, act_on, taken_float}
 use Rattle.tb_output.proofs.StateWeights.{left_weight}
 use Rattle.tb_output.proofs.PrintedLines.{left_prints, LeftPlain}
-use Rattle.tb_output.proofs.Closings.{Still, act_token}
+use Rattle.tb_output.proofs.Closings.{never, Still, act_token}
 use Rattle.tb_output.proofs.ClosingPages.{ActsClose, owed_acts, AllStill}
 use Rattle.tb_output.proofs.SparedLists.{Single}
 use Rattle.tb_output.proofs.ServedLists.{entry_items}
 use Rattle.tb_top.proofs.RunWeights.{ActFits, ActsFit}
 use Rattle.tb_run.specs.Run.{Progress, progress_by, progress}
 use Rattle.tb_top.specs.Laws.{IsEmptied}
-
-never : {X : Type 0} → false ≡ true → X
-never h = let no : ⊥ = grind (arith, h) in absurd no
 
 -- ---- a kept column at a change of columns
 

@@ -12,11 +12,11 @@ use Rattle.tb_float.specs.Ranges.{IsShare, IsCount, AreFloatParams}
 use Rattle.tb_output.specs.Machine.{IsLimit, IsPoolSize, IsSizedGlue, AreOutputParams}
 use Rattle.tb_top.proofs.FinishLemmas.{all-at, in-range, dim-extent}
 
-and-first : (a b : Bool) → IsTrue (a && b) → IsTrue a
+pub and-first : (a b : Bool) → IsTrue (a && b) → IsTrue a
 and-first true b h = refl
 and-first false b h = h
 
-and-second : (a b : Bool) → IsTrue (a && b) → IsTrue b
+pub and-second : (a b : Bool) → IsTrue (a && b) → IsTrue b
 and-second true b h = h
 and-second false b h = cc
 

@@ -1,7 +1,7 @@
 -- What is shipped and what a galley has, measured by lines: a measure of lists of lines that adds up gives a weight, by
 -- which nodes without insertions and acts weigh what the lines of their boxes, floats or notes measure.
-use Rattle.std.proofs.Common.{◌≡◌, refl, sym, ◌∙◌, ap, ℕ, ◌+◌, Bool, true, false, List, [], ◌∷◌, ◌++◌, Some, None, arith}
-use Rattle.std.specs.Prelude.{◌==◌, ◌&&◌, IsTrue}
+use Rattle.std.proofs.Common.{◌≡◌, refl, sym, ◌∙◌, ap, ℕ, ◌+◌, List, [], ◌∷◌, ◌++◌, Some, None, arith}
+use Rattle.std.specs.Prelude.{◌==◌, IsTrue}
 use Rattle.std.specs.List.{list_all}
 use Rattle.tb_node.specs.declared.What.TheVariants as what
 use Rattle.tb_node.specs.Plain.{hbox, rule, skip, kerned, pen, mark, note, whatsit, PlainKind, plain, ins, act, PlainNode}
@@ -18,6 +18,7 @@ use Rattle.tb_column.specs.Column.{PlainSheet, one, wide, two, warned, shipped}
 use Rattle.tb_output.proofs.StateWeights.{sheet_weight}
 use Rattle.tb_run.specs.Run.{RunEvent, offered, sent}
 use Rattle.tb_top.specs.Report.{sheet_nodes}
+use Rattle.tb_top.proofs.OutputParams.{and-first, and-second}
 use Rattle.tb_top.specs.Laws.{leaf_boxes, foot_boxes, text_line, foot_line, note_line, lines_by, float_of, galley_floats, float_lines, shipped_nodes, box_lines_of, float_lines_of, note_lines_of, node_lines}
 use Rattle.tb_output.proofs.PrintedLines.{printed, prints, sheet_prints, prints-append, IsPlain, AllPlain, SheetPlain, plain-both}
 use Rattle.tb_top.proofs.PrintedRuns.{events_prints, EventsPlain}
@@ -268,14 +269,6 @@ module _ (m : Measure) where
   galley-has-floats (n ∷ ns) =
       two-parts (float_lines (float_of n.kind)) (float_lines (galley_floats ns)) (item_weight of_floats n.line n.kind) (items_weight of_floats ns) _ (item-floats n.line n.kind) (galley-has-floats ns) refl
       ∙ ap m.of (sym (lines-append (float_of n.kind) (galley_floats ns)))
-
-  and-first : (a b : Bool) → IsTrue (a && b) → IsTrue a
-  and-first true b h = refl
-  and-first false b h = h
-
-  and-second : (a b : Bool) → IsTrue (a && b) → IsTrue b
-  and-second true b h = h
-  and-second false b h = cc
 
   same-line : (a b : ℕ) → IsTrue (a == b) → a ≡ b
   same-line a b h = grind (arith, h)

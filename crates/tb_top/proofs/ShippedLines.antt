@@ -1,6 +1,6 @@
 -- In a valid galley no box of the text stands on a line of a foot.
 use Rattle.std.proofs.Common.{◌≡◌, refl, subst, ℕ, ◌<◌, Bool, true, false, List, [], ◌∷◌, ◌++◌, arith, append_assoc}
-use Rattle.std.specs.Prelude.{◌==◌, ◌&&◌, ◌||◌, nat_lt, IsTrue}
+use Rattle.std.specs.Prelude.{◌==◌, ◌||◌, nat_lt, IsTrue}
 use Rattle.std.specs.List.{AllByRecursion}
 use Rattle.std.proofs.lemmas.Bool.Decides.{nat_tests}
 use Rattle.tb_galley.specs.declared.Leaf.{Leaf}
@@ -10,20 +10,13 @@ use Rattle.tb_galley.specs.declared.Item.{Item}
 use Rattle.tb_galley.specs.declared.ItemKind.{ItemKind}
 use Rattle.tb_galley.specs.declared.ItemKind.TheVariants as items
 use Rattle.tb_galley.specs.Valid.{leaf_lines, lines_of_item, named_lines, rise_from}
+use Rattle.tb_top.proofs.OutputParams.{and-first, and-second}
 use Rattle.tb_top.specs.Laws.{leaf_boxes, foot_boxes, text_line, foot_line, lines_by, is_in}
 
 -- ---- lines above a line
 
 abbrev AllAbove : ℕ → List ℕ → Type 0
 AllAbove k xs = AllByRecursion (λ x. k < x) xs
-
-and-first : (a b : Bool) → IsTrue (a && b) → IsTrue a
-and-first true b h = refl
-and-first false b h = h
-
-and-second : (a b : Bool) → IsTrue (a && b) → IsTrue b
-and-second true b h = h
-and-second false b h = cc
 
 below : (a b : ℕ) → IsTrue (nat_lt a b) → a < b
 below a b h = grind (arith, nat_tests, h)

@@ -13,16 +13,9 @@ use Rattle.tb_galley.specs.declared.ItemKind.{ItemKind}
 use Rattle.tb_galley.specs.declared.ItemKind.TheVariants as items
 use Rattle.tb_galley.specs.declared.Galley.{Galley}
 use Rattle.tb_galley.specs.Valid.{is_item, IsValid}
+use Rattle.tb_top.proofs.OutputParams.{and-first, and-second}
 use Rattle.tb_top.proofs.FinishLemmas.{all-at, in-range}
 use Rattle.tb_top.proofs.StartLemmas.{ItemFits, ItemsFit}
-
-and-first : (a b : Bool) → IsTrue (a && b) → IsTrue a
-and-first true b h = refl
-and-first false b h = h
-
-and-second : (a b : Bool) → IsTrue (a && b) → IsTrue b
-and-second true b h = h
-and-second false b h = cc
 
 item-fits : (n : ℕ) (k : ItemKind) → IsTrue (is_item n k) → ItemFits k
 item-fits n (items.Hbox name h d) v = tt
