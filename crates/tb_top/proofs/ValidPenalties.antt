@@ -1,6 +1,6 @@
 -- In a valid galley no penalty of an item is below that of a page's end, and the interline penalty forces no break.
-use Rattle.std.proofs.Common.{◌≡◌, refl, subst, ℕ, zero, suc, ℤ, pos, Bool, true, false, List, [], ◌∷◌, Some, slice_get, arith}
-use Rattle.std.specs.Prelude.{◌&&◌, IsTrue, int_le, negsuc}
+use Rattle.std.proofs.Common.{◌≡◌, refl, ℕ, ℤ, pos, Bool, false, List, [], ◌∷◌, arith}
+use Rattle.std.specs.Prelude.{IsTrue, int_le, negsuc}
 use Rattle.std.specs.List.{list_all}
 use Rattle.std.proofs.lemmas.Int.{ints}
 use Rattle.tb_scaled.specs.Scaled.{eject_penalty}

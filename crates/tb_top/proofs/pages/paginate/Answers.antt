@@ -8,6 +8,7 @@ use Rattle.tb_top.proofs.GoingLemmas.{IsTally, prefix-first, prefix-now, refuses
 use Rattle.tb_top.proofs.FinishLemmas.{ends-well, stops-with, start-closing, start-going, start-tally, turn-cut, turn-closing, turn-going-after, turn-fewer, tally-next, sent-few, none-at}
 use Rattle.tb_top.proofs.RunParams.{params-runnable}
 use Rattle.tb_top.proofs.LawfulRuns.{keeps-laws}
+use Rattle.tb_top.proofs.LimitedRuns.{run-within}
 use Rattle.tb_top.proofs.PrintablePages.{printable-some, live-some, few-some}
 use Rattle.tb_run.proofs.WholeLemmas.{ready-counted}
 use Rattle.tb_run.proofs.ServedItems.{galley-items, galley-served}
@@ -121,3 +122,21 @@ new-requires-clause-items g c = galley-items c.args.galley.now (params-runnable 
 
 pub new-requires-clause-nodes : goal.new-requires-clause-nodes
 new-requires-clause-nodes g c = galley-served c.args.galley.now (params-runnable c.args.galley.now.params c.requires.valid.params) c.requires.valid c.requires.live
+
+pub returns-in_err-show-clause-limits : goal.returns-in_err-show-clause-limits
+returns-in_err-show-clause-limits g c = run-within c.args.galley.now
+
+pub returns-in_err-routine-clause-limits : goal.returns-in_err-routine-clause-limits
+returns-in_err-routine-clause-limits g c = run-within c.args.galley.now
+
+pub returns-in-Some-clause-limits : goal.returns-in-Some-clause-limits
+returns-in-Some-clause-limits g c = run-within c.args.galley.now
+
+pub returns-in_err-turn-clause-limits : goal.returns-in_err-turn-clause-limits
+returns-in_err-turn-clause-limits g c = run-within c.args.galley.now
+
+pub returns-in_err-send-clause-limits : goal.returns-in_err-send-clause-limits
+returns-in_err-send-clause-limits g c = run-within c.args.galley.now
+
+pub returns-in-Some-ending-clause-limits : goal.returns-in-Some-ending-clause-limits
+returns-in-Some-ending-clause-limits g c = run-within c.args.galley.now
