@@ -11,6 +11,7 @@ use Rattle.tb_top.specs.Laws.{HasTotals, EndsDone, KeepsLaws}
 use Rattle.tb_top.proofs.LimitedRuns.{run-within}
 use Rattle.tb_top.proofs.ShippedRuns.{lists-emptied}
 use Rattle.tb_top.proofs.ShippedOnce.{ships-once}
+use Rattle.tb_top.proofs.OrderedGalleys.{classes-keep-order}
 use Rattle.tb_top.proofs.ShippedTotals.{totals-shown}
 
 some-fault : (f : PageFault) → Some f ≡ None → ⊥
@@ -30,4 +31,4 @@ no-fault (node_limit n) h = absurd (some-fault _ h)
 pub keeps-laws : (g : Galley) → IsValid g → (v : View) (old new : Option (List ℕ)) (t : Totals) → Paginates v (run_of g) old new t → KeepsLaws g t
 keeps-laws g valid v old new t h =
     let d = no-fault (run_of g).end h.ended in
-    record { once = ships-once g valid d; empty = lists-emptied g valid; totals = subst (HasTotals g) (sym h.totals) (totals-shown g valid d); limits = run-within g }
+    record { once = ships-once g valid d; order = classes-keep-order g valid d; empty = lists-emptied g valid; totals = subst (HasTotals g) (sym h.totals) (totals-shown g valid d); limits = run-within g }

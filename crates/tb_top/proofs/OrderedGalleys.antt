@@ -1,6 +1,6 @@
 -- The floats of a valid galley keep the order of their class, but for those that a break carried.
 use Rattle.std.proofs.Common.{◌≡◌, refl, sym, ◌∙◌, ap, subst, ℕ, suc, pos, ◌<◌, ◌≢◌, ◌==◌, ◌⊎◌, inl, inr, ◌||◌, Bool, true, false, List, [], ◌∷◌, ◌++◌, append_assoc, arith}
-use Rattle.std.specs.Prelude.{int_lt, int_le, IsTrue, IsPermutation, if◌then◌else◌}
+use Rattle.std.specs.Prelude.{int_lt, int_le, IsTrue, if◌then◌else◌}
 use Rattle.std.specs.List.{AllByRecursion}
 use Rattle.std.proofs.lemmas.Bool.{eqb-true}
 use Rattle.std.proofs.lemmas.List.Sorted.{All-permutation}
@@ -19,6 +19,9 @@ use Rattle.tb_report.specs.Totals.{sheet_nodes}
 use Rattle.tb_run.specs.Run.{Run, RunEvent, offered, sent, node_limit, held_count, run_from, firings_left, run_of}
 use Rattle.tb_top.specs.Laws.{galley_floats, float_lines as all_lines, shipped_nodes, float_lines_of, node_lines, shipped_floats, holds_float, is_past, is_carried_from, is_carried, comes_before, IsFirstOf, KeepsClassOrder, IsEmptied, EndsDone}
 use Rattle.tb_top.proofs.StartLemmas.{ItemsFit, start-kept}
+use Rattle.tb_top.proofs.ShippedRuns.{lists-emptied}
+use Rattle.tb_top.proofs.ShippedOnce.{ships-once}
+use Rattle.tb_top.proofs.ValidPenalties.{valid-items, interline-calm}
 use Rattle.tb_top.proofs.OrderedRuns.{events_lines, RunOrder, run-order}
 use Rattle.tb_top.proofs.GalleyLines.{LinesRise, galley-rise, later-above, IsOfClass, start-order, one-class, floats-among}
 use Rattle.tb_top.proofs.OrderTests.{some-class, StandsBefore, any-class, class-before, or-left, or-right, among-in, in-among, before-comes, rises-before, outputs, HoldsNot, past-front, late-carried}
@@ -129,13 +132,12 @@ galley-order g valid calm fits k = by_nodes (int_lt g.params.maxnodes (pos (held
     by_nodes false d e =
         run-order k (IsOfClass g k) g.params calm (suc (firings_left g.params (first_state g.params (expanded g)))) [] [] (first_state g.params (expanded g)) (start-kept g fits) (start-order g k valid) d e
 
--- the floats of a valid galley keep the order of their class in a run that is done, where it ships each float once and the lists that it records are empty
-pub floats-keep-order : (g : Galley) → IsValid g → int_le g.params.interlinepenalty eject_penalty ≡ false → ItemsFit g.items → EndsDone (run_of g).end → AllByRecursion IsEmptied (run_of g).records → IsPermutation (shipped_floats (run_of g)) (all_lines (galley_floats g.items))
-    → KeepsClassOrder (run_of g) (galley_floats g.items)
-floats-keep-order g valid calm fits done empty once =
-    run-keeps-order g valid (run_of g) (λ k. galley-order g valid calm fits k done empty)
+-- the floats of a valid galley keep the order of their class in a run that is done
+pub classes-keep-order : (g : Galley) → IsValid g → EndsDone (run_of g).end → KeepsClassOrder (run_of g) (galley_floats g.items)
+classes-keep-order g valid done =
+    run-keeps-order g valid (run_of g) (λ k. galley-order g valid (interline-calm g.params valid.params) (valid-items g valid) k done (lists-emptied g valid))
     (by-floats (shipped_floats (run_of g)) (galley_floats g.items) (recursion_from_All (λ n. IsAmong n (shipped_floats (run_of g))) (all_lines (galley_floats g.items))
-    (All-permutation (λ n. IsAmong n (shipped_floats (run_of g))) (shipped_floats (run_of g)) (all_lines (galley_floats g.items)) once (All-from_recursion (λ n. IsAmong n (shipped_floats (run_of g))) (shipped_floats (run_of g)) (all-among (shipped_floats (run_of g)))))))
+    (All-permutation (λ n. IsAmong n (shipped_floats (run_of g))) (shipped_floats (run_of g)) (all_lines (galley_floats g.items)) (ships-once g valid done).floats (All-from_recursion (λ n. IsAmong n (shipped_floats (run_of g))) (shipped_floats (run_of g)) (all-among (shipped_floats (run_of g)))))))
   where
     by-floats : (xs : List ℕ) (fs : List Float) → AllByRecursion (λ n. IsAmong n xs) (all_lines fs) → AllByRecursion (λ f. IsAmong f.line xs) fs
     by-floats xs [] h = tt

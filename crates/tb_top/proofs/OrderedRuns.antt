@@ -1,8 +1,7 @@
 -- A run keeps the order of a class: from firing to firing, where the lists are empty at each change of columns.
 use Rattle.std.proofs.Common.{◌≡◌, refl, sym, ◌∙◌, ap, subst, ℕ, zero, suc, pos, ◌+◌, ◌<◌, ◌==◌, ◌⊎◌, inl, inr, Bool, true, false, List, [], ◌∷◌, ◌++◌, map, take, Option, Some, None, append_assoc, append-nil, arith}
-use Rattle.std.specs.Prelude.{◌||◌, ℤ, pred, int_lt, int_le, if◌then◌else◌}
+use Rattle.std.specs.Prelude.{ℤ, pred, int_lt, int_le, if◌then◌else◌}
 use Rattle.std.specs.List.{AllByRecursion}
-use Rattle.std.proofs.lemmas.Int.{ints}
 use Rattle.tb_scaled.specs.Scaled.{awful_bad, min_ℤ, eject_penalty}
 use Rattle.tb_node.specs.declared.Act.{Act}
 use Rattle.tb_node.specs.declared.Act.TheVariants as acts
@@ -27,7 +26,8 @@ use Rattle.tb_output.specs.Out
 use Rattle.tb_output.specs.Out.{out}
 use Rattle.tb_output.proofs.StateWeights.{ColumnsFit, left_weight}
 use Rattle.tb_output.proofs.WorkWeights.{Careful}
-use Rattle.tb_output.proofs.SortLemmas.{light, pause, hold, serve, clear, odd, Seen, BreakStands, PageStands, pen_sort, page-careful}
+use Rattle.tb_output.proofs.BreakSorts.{at-clear}
+use Rattle.tb_output.proofs.SortLemmas.{Seen, BreakStands, PageStands, pen_sort, page-careful}
 use Rattle.tb_output.proofs.RisingLists.{all-front, all-back, all-join, all-map, IsAmong, IsMissing, IsAbove, Rises, rises-front, rises-more, rises-without}
 use Rattle.tb_output.proofs.ClassLines.{line_if, kind_lines, class_lines, float_lines, left_lines, sheet_lines, sent_lines, floats-append}
 use Rattle.tb_output.proofs.RecordLines.{record_lines, placed-more, IsLate, late-more, IsCarried, carried-more}
@@ -154,14 +154,7 @@ no-floats k (n ∷ ns) e =
 
 -- no page is held at a clear
 clear-frees : (b : Bool) (s : Seen) (rest : List PlainNode) (q : ℤ) → int_le eject_penalty q ≡ false → Out.is_int q Out.clear_penalty ≡ true → BreakStands b s rest (pen_sort q) → b ≡ false
-clear-frees b s rest q h k r =
-    by_tests (int_le q eject_penalty) (Out.is_int q eject_penalty) (Out.is_int q Out.clear_penalty) (Out.is_int q Out.par_penalty || Out.is_int q Out.vert_penalty) (Out.is_int q Out.hold_penalty) (grind (arith, ints, h)) (grind (arith, ints, h)) k r
-  where
-    by_tests : (t e c x z : Bool) → t ≡ true → e ≡ false → c ≡ true → BreakStands b s rest (if t then (if e then pause else (if c then clear else (if x then serve else (if z then hold else odd)))) else light) → b ≡ false
-    by_tests true false true x z u v k r = r.1
-    by_tests true false false x z u v k r = let no : ⊥ = grind (arith, k) in absurd no
-    by_tests true true c x z u v k r = let no : ⊥ = grind (arith, v) in absurd no
-    by_tests false e c x z u v k r = let no : ⊥ = grind (arith, u) in absurd no
+clear-frees b s rest q h k r = at-clear (b ≡ false) (BreakStands b s rest) q h k (λ r. r.1) r
 
 -- ---- acts
 

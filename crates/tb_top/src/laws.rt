@@ -1,7 +1,7 @@
 //! Laws of whole runs: each function is a theorem, stated by its contract, and does nothing.
 
 ghost use Rattle.tb_top.specs.Firings.{BoundsAgree, EndsHaveReasons};
-ghost use Rattle.tb_top.specs.Laws.{EachShipsOnce, LimitsHold, ListsAreEmptied, TotalsAreKept};
+ghost use Rattle.tb_top.specs.Laws.{ClassesKeepOrder, EachShipsOnce, LimitsHold, ListsAreEmptied, TotalsAreKept};
 
 /// The run of a galley is defined: each firing ships a page or adds to the dead cycles, so the bound on the firings, with
 /// which a run starts, is never met.
@@ -28,4 +28,12 @@ pub fn lists_are_emptied()
 pub fn each_ships_once()
     ensures once { EachShipsOnce }
     ensures totals { TotalsAreKept }
+{}
+
+/// The floats of a class keep their order, where a run of a valid galley ends well: each ships before every later one of its
+/// class in the galley, save a float in the text that a break carried, which stands in a later column than the one in which
+/// it was placed. Ships are ordered by page; on a page, the floats above both columns, then the columns from left to right;
+/// in a column, by its list.
+pub fn classes_keep_their_order()
+    ensures { ClassesKeepOrder }
 {}
