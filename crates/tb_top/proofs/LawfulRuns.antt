@@ -31,4 +31,10 @@ no-fault (node_limit n) h = absurd (some-fault _ h)
 pub keeps-laws : (g : Galley) → IsValid g → (v : View) (old new : Option (List ℕ)) (t : Totals) → Paginates v (run_of g) old new t → KeepsLaws g t
 keeps-laws g valid v old new t h =
     let d = no-fault (run_of g).end h.ended in
-    record { once = ships-once g valid d; order = classes-keep-order g valid d; empty = lists-emptied g valid; totals = subst (HasTotals g) (sym h.totals) (totals-shown g valid d); limits = run-within g }
+    record {
+      ships_once = ships-once g valid d;
+      totals = subst (HasTotals g) (sym h.totals) (totals-shown g valid d);
+      class_order = classes-keep-order g valid d;
+      area_limits = run-within g;
+      empty_lists = lists-emptied g valid;
+    }
