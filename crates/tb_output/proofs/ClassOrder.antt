@@ -1,9 +1,9 @@
 -- The order of a class between firings. What has shipped, the double floats, the left column, the floats at the top, at
 -- the bottom and deferred, and those that are not placed yet rise, but for floats that a break carried; and the floats in
 -- the text rise among themselves, before all that do not stand above the text.
-use Rattle.std.proofs.Common.{◌≡◌, refl, sym, ◌∙◌, ap, ℕ, ◌==◌, ◌⊎◌, ◌||◌, Bool, true, false, List, [], ◌∷◌, ◌++◌, Option, append_assoc, append-nil}
+use Rattle.std.proofs.Common.{◌≡◌, refl, sym, ◌∙◌, ap, ℕ, ◌==◌, ◌⊎◌, Bool, true, false, List, [], ◌∷◌, ◌++◌, Option, append_assoc, append-nil}
 use Rattle.std.specs.List.{AllByRecursion}
-use Rattle.std.proofs.lemmas.Bool.{eqb-true}
+use Rattle.std.proofs.lemmas.Bool.{eqb-true, or_parts}
 use Rattle.tb_node.specs.declared.Float.{Float}
 use Rattle.tb_float.specs.Lists.{FloatLists, has_class}
 use Rattle.tb_area.specs.Laws.{HasNone}
@@ -67,14 +67,10 @@ past-one a b c x hc =
 
 -- ---- floats of a class
 
-none-both : (a b : Bool) → (a || b) ≡ false → (a ≡ false) × (b ≡ false)
-none-both true b e = cc
-none-both false b e = (refl, e)
-
 pub none-lines : (k : ℕ) (fs : List Float) → has_class k fs ≡ false → float_lines k fs ≡ []
 none-lines k [] e = refl
 none-lines k (f ∷ fs) e =
-    let both = none-both (f.class == k) (has_class k fs) e in
+    let both = or_parts (f.class == k) (has_class k fs) e in
     ap (λ t. line_if t f.line ++ float_lines k fs) both.0 ∙ none-lines k fs both.1
 
 -- a float of the class passes a list that has none of it
@@ -92,7 +88,7 @@ passes k f fs none = by_class (f.class == k) (λ e. class-none k f fs none e)
 pub none-behind : (k : ℕ) (text : List ℕ) (fs : List Float) → has_class k fs ≡ false → AllByRecursion (IsBehind k text) fs
 none-behind k text [] e = tt
 none-behind k text (f ∷ fs) e =
-    let both = none-both (f.class == k) (has_class k fs) e in
+    let both = or_parts (f.class == k) (has_class k fs) e in
     (λ is. absurd (never (f.class == k) both.0 is), none-behind k text fs both.1)
   where
     never : (t : Bool) → t ≡ false → t ≡ true → ⊥

@@ -289,7 +289,7 @@ calm-endless : (ns : List PlainNode) → AllCalm ns → AreEndless (without_acts
 calm-endless [] h = tt
 calm-endless (n ∷ ns) h = acts-endless-more ns (calm-endless ns h.1) n.line n.kind h.0
 
-endless-take : (i : ℕ) (ns : List PlainNode) → AreEndless ns → AreEndless (take i ns)
+pub endless-take : (i : ℕ) (ns : List PlainNode) → AreEndless ns → AreEndless (take i ns)
 endless-take zero ns h = tt
 endless-take (suc i) [] h = tt
 endless-take (suc i) (n ∷ ns) h = (h.0, endless-take i ns h.1)
@@ -310,9 +310,6 @@ endless-insertions (n ∷ ns) h = endless-insertions-more ns (endless-insertions
 
 pub endless-join : (xs ys : List PlainNode) → AreEndless xs → AreEndless ys → AreEndless (xs ++ ys)
 endless-join xs ys h k = all-join (λ n. is_ending n.kind ≡ false) xs ys h k
-
-pub endless-front : (i : ℕ) (ns : List PlainNode) → AreEndless ns → AreEndless (take i ns)
-endless-front i ns h = endless-take i ns h
 
 ins-endless : (c : ℕ) (ns : List PlainNode) → AllIns c ns → AreEndless ns
 ins-endless c [] h = tt

@@ -20,11 +20,12 @@ use Rattle.tb_output.specs.State.{Work, puts, sends, with_floats, footnotes}
 use Rattle.tb_output.specs.Place
 use Rattle.tb_output.specs.Text
 use Rattle.tb_output.proofs.StateWeights.{Paired}
-use Rattle.tb_output.proofs.SortLemmas.{Sort, Steady, sorts, sorts-append}
+use Rattle.tb_output.proofs.SortLemmas.{Steady, sorts, sorts-append}
 use Rattle.tb_output.proofs.PlaceLemmas.{AllSteady}
 use Rattle.tb_output.proofs.PutLemmas.{penalty-steady, here-steady, notes-steady}
 use Rattle.tb_output.proofs.BoxesFirst.{HasReal, real-left, real-right}
 use Rattle.tb_output.proofs.SparedLists.{Single, moved}
+use Rattle.tb_output.proofs.RisingLists.{all-join}
 
 -- how many floats and notes wait to be served
 abbrev pub entry_items : List Entry → ℕ
@@ -39,12 +40,8 @@ no-items (entries.Float f ∷ es) q h = let no : ⊥ = omega arith in absurd no
 no-items (entries.Left m ∷ es) q h = let no : ⊥ = omega arith in absurd no
 no-items (entries.Right m ∷ es) q h = absurd q
 
-all-both : (P : Sort → Type 0) (xs ys : List Sort) → AllByRecursion P xs → AllByRecursion P ys → AllByRecursion P (xs ++ ys)
-all-both P [] ys a b = b
-all-both P (x ∷ xs) ys a b = (a.0, all-both P xs ys a.1 b)
-
 pub steady-both : (xs ys : List PlainNode) → AllSteady xs → AllSteady ys → AllSteady (xs ++ ys)
-steady-both xs ys a b = subst (AllByRecursion Steady) (sym (sorts-append xs ys)) (all-both Steady (sorts xs) (sorts ys) a b)
+steady-both xs ys a b = subst (AllByRecursion Steady) (sym (sorts-append xs ys)) (all-join Steady (sorts xs) (sorts ys) a b)
 
 -- ---- nodes that are put back
 

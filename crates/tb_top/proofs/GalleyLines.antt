@@ -1,8 +1,8 @@
 -- The floats of a valid galley: their lines rise, each of one class, and a run begins with them in order.
-use Rattle.std.proofs.Common.{◌≡◌, refl, sym, ◌∙◌, ap, subst, ℕ, ◌<◌, ◌≤◌, ◌==◌, inl, inr, ◌&&◌, Bool, true, false, List, [], ◌∷◌, ◌++◌, map, None, append_assoc, append-nil, arith}
-use Rattle.std.specs.Prelude.{nat_lt, IsTrue}
+use Rattle.std.proofs.Common.{◌≡◌, refl, sym, ◌∙◌, ap, subst, ℕ, ◌<◌, ◌≤◌, ◌==◌, inl, inr, Bool, true, false, List, [], ◌∷◌, ◌++◌, map, None, append_assoc, append-nil, arith}
+use Rattle.std.specs.Prelude.{IsTrue}
 use Rattle.std.specs.List.{AllByRecursion, list_all}
-use Rattle.std.proofs.lemmas.Bool.{eqb-true}
+use Rattle.std.proofs.lemmas.Bool.{eqb-true, and_parts}
 use Rattle.tb_node.specs.declared.Float.{Float}
 use Rattle.tb_node.specs.Plain.{PlainNode, on_line, clearpage_kinds}
 use Rattle.tb_param.specs.declared.Params.{Params}
@@ -25,6 +25,7 @@ use Rattle.tb_output.proofs.PageLines.{take_lines, takes-append, early-none}
 use Rattle.tb_output.proofs.ClassOrder.{AreInText}
 use Rattle.tb_output.proofs.OutOrder.{InOrder}
 use Rattle.tb_top.specs.Laws.{float_of, galley_floats}
+use Rattle.tb_top.proofs.NamedLines.{rise-first, rise-behind}
 
 -- ---- the nodes of a galley
 
@@ -133,25 +134,6 @@ weaker : (n m : ℕ) (fs : List Float) → n ≤ m → LinesRise m fs → LinesR
 weaker n m [] l h = tt
 weaker n m (f ∷ fs) l h = let a : m < f.line = h.0 in (omega arith, h.1)
 
-and-first : (a b : Bool) → IsTrue (a && b) → IsTrue a
-and-first true b h = refl
-and-first false b h = h
-
-and-second : (a b : Bool) → IsTrue (a && b) → IsTrue b
-and-second true b h = h
-and-second false b h = cc
-
-rise-behind : (n : ℕ) (xs ys : List ℕ) → IsTrue (rise_from n (xs ++ ys)) → (m : ℕ) × ((n ≤ m) × IsTrue (rise_from m ys))
-rise-behind n [] ys h = (n, (omega arith, h))
-rise-behind n (x ∷ xs) ys h =
-    let r = rise-behind x xs ys (and-second (nat_lt n x) (rise_from x (xs ++ ys)) h) in
-    let a : n < x = less n x (and-first (nat_lt n x) (rise_from x (xs ++ ys)) h) in
-    let b : x ≤ r.0 = r.1.0 in
-    (r.0, (omega arith, r.1.1))
-  where
-    less : (n x : ℕ) → IsTrue (nat_lt n x) → n < x
-    less n x h = grind (arith, h)
-
 item-rise : (n l : ℕ) (d : ItemKind) (ns : List Item) (tail : List ℕ) → IsTrue (is_item l d) → ((m : ℕ) → IsTrue (rise_from m (named_lines ns ++ tail)) → LinesRise m (galley_floats ns)) → IsTrue (rise_from n (lines_of_item l d ++ (named_lines ns ++ tail))) → LinesRise n (float_of d ++ galley_floats ns)
 item-rise n l (items.Hbox name h d) ns tail v k r = let x = rise-behind n (l ∷ []) (named_lines ns ++ tail) r in weaker n x.0 (galley_floats ns) x.1.0 (k x.0 x.1.1)
 item-rise n l (items.Rule name h d) ns tail v k r = let x = rise-behind n (l ∷ []) (named_lines ns ++ tail) r in weaker n x.0 (galley_floats ns) x.1.0 (k x.0 x.1.1)
@@ -162,12 +144,10 @@ item-rise n l (items.Mark name) ns tail v k r = k n r
 item-rise n l (items.Note name) ns tail v k r = k n r
 item-rise n l (items.Foot ls) ns tail v k r = let x = rise-behind n (leaf_lines ls) (named_lines ns ++ tail) r in weaker n x.0 (galley_floats ns) x.1.0 (k x.0 x.1.1)
 item-rise n l (items.Float f vert) ns tail v k r =
-    let same : f.line ≡ l = eqb-true f.line l (and-first (f.line == l) _ v) in
-    let a : n < l = less n l (and-first (nat_lt n l) (rise_from l (named_lines ns ++ tail)) r) in
-    (omega arith, subst (λ m. LinesRise m (galley_floats ns)) (sym same) (k l (and-second (nat_lt n l) (rise_from l (named_lines ns ++ tail)) r)))
-  where
-    less : (n x : ℕ) → IsTrue (nat_lt n x) → n < x
-    less n x h = grind (arith, h)
+    let same : f.line ≡ l = eqb-true f.line l (and_parts (f.line == l) _ v).0 in
+    let first = rise-first n l (named_lines ns ++ tail) r in
+    let a : n < l = first.0 in
+    (omega arith, subst (λ m. LinesRise m (galley_floats ns)) (sym same) (k l first.1))
 item-rise n l (items.Margin m vert) ns tail v k r = let x = rise-behind n (l ∷ []) (named_lines ns ++ tail) r in weaker n x.0 (galley_floats ns) x.1.0 (k x.0 x.1.1)
 item-rise n l items.NewPage ns tail v k r = k n r
 item-rise n l items.ClearPage ns tail v k r = k n r
@@ -180,7 +160,7 @@ item-rise n l (items.Suppress area) ns tail v k r = k n r
 items-rise : (n : ℕ) (ns : List Item) (tail : List ℕ) → IsTrue (list_all (λ n. is_item n.line n.kind) ns) → IsTrue (rise_from n (named_lines ns ++ tail)) → LinesRise n (galley_floats ns)
 items-rise n [] tail v r = tt
 items-rise n (i ∷ ns) tail v r =
-    item-rise n i.line i.kind ns tail (and-first (is_item i.line i.kind) (list_all (λ n. is_item n.line n.kind) ns) v) (λ m x. items-rise m ns tail (and-second (is_item i.line i.kind) (list_all (λ n. is_item n.line n.kind) ns) v) x)
+    item-rise n i.line i.kind ns tail (and_parts (is_item i.line i.kind) (list_all (λ n. is_item n.line n.kind) ns) v).0 (λ m x. items-rise m ns tail (and_parts (is_item i.line i.kind) (list_all (λ n. is_item n.line n.kind) ns) v).1 x)
     (subst (λ l. IsTrue (rise_from n l)) (append_assoc (lines_of_item i.line i.kind) (named_lines ns) tail) r)
 
 pub galley-rise : (g : Galley) → IsValid g → LinesRise 0 (galley_floats g.items)

@@ -2,7 +2,7 @@
 use Rattle.std.proofs.Common.{◌≡◌, refl, sym, subst, ℕ, suc, ◌+◌, ◌<◌, ◌==◌, ◌⊎◌, inl, inr, ◌||◌, ◌&&◌, Bool, true, false, List, [], ◌∷◌, ◌++◌, arith}
 use Rattle.std.specs.Prelude.{nat_lt, IsTrue, if◌then◌else◌}
 use Rattle.std.specs.List.{AllByRecursion}
-use Rattle.std.proofs.lemmas.Bool.{eqb-true}
+use Rattle.std.proofs.lemmas.Bool.{eqb-true, or_left, or_right, and_from}
 use Rattle.tb_node.specs.declared.What.TheVariants as what
 use Rattle.tb_node.specs.declared.Where.{Where}
 use Rattle.tb_node.specs.declared.Where.TheVariants as places
@@ -99,21 +99,13 @@ module _ (c : ℕ) where
 
 -- ---- the tests of the law
 
-pub or-left : (a b : Bool) → IsTrue a → IsTrue (a || b)
-or-left true b h = refl
-or-left false b h = cc
-
-pub or-right : (a b : Bool) → IsTrue b → IsTrue (a || b)
-or-right true b h = refl
-or-right false b h = h
-
 is-same : (a b : ℕ) → a ≡ b → IsTrue (a == b)
 is-same a b e = grind (arith, e)
 
 pub among-in : (n : ℕ) (xs : List ℕ) → IsAmong n xs → IsTrue (is_in xs n)
 among-in n [] i = absurd i
-among-in n (x ∷ xs) (inl e) = or-left (x == n) (is_in xs n) (is-same x n e)
-among-in n (x ∷ xs) (inr i) = or-right (x == n) (is_in xs n) (among-in n xs i)
+among-in n (x ∷ xs) (inl e) = or_left (x == n) (is_in xs n) (is-same x n e)
+among-in n (x ∷ xs) (inr i) = or_right (x == n) (is_in xs n) (among-in n xs i)
 
 pub in-among : (n : ℕ) (xs : List ℕ) → is_in xs n ≡ true → IsAmong n xs
 in-among n [] e = absurd (cc)
@@ -123,14 +115,10 @@ in-among n (x ∷ xs) e = by_test (x == n) refl e (λ k. in-among n xs k)
     by_test true s e k = inl (eqb-true x n s)
     by_test false s e k = inr (k e)
 
-and-both : (a b : Bool) → IsTrue a → IsTrue b → IsTrue (a && b)
-and-both true b h k = k
-and-both false b h k = cc
-
 pub before-comes : (a b : ℕ) (xs : List ℕ) → StandsBefore a b xs → IsTrue (comes_before a b xs)
 before-comes a b [] h = absurd h
-before-comes a b (x ∷ xs) (inl h) = or-left ((x == a) && is_in xs b) (comes_before a b xs) (and-both (x == a) (is_in xs b) (is-same x a h.0) (among-in b xs h.1))
-before-comes a b (x ∷ xs) (inr h) = or-right ((x == a) && is_in xs b) (comes_before a b xs) (before-comes a b xs h)
+before-comes a b (x ∷ xs) (inl h) = or_left ((x == a) && is_in xs b) (comes_before a b xs) (and_from (x == a) (is_in xs b) (is-same x a h.0) (among-in b xs h.1))
+before-comes a b (x ∷ xs) (inr h) = or_right ((x == a) && is_in xs b) (comes_before a b xs) (before-comes a b xs h)
 
 -- in a list that rises the smaller number stands first, or it is excused
 pub rises-before : (Known Excused : ℕ → Type 0) (a b : ℕ) (xs : List ℕ) → a < b → Rises Known Excused xs → IsAmong a xs → IsAmong b xs → StandsBefore a b xs ⊎ Excused a
@@ -184,14 +172,14 @@ late-carried k n j total all (output c ∷ rs) back e h (inl i) = absurd i.0
 late-carried k n j total all (output c ∷ rs) back e h (inr i) = late-carried k n (j + 1) total all rs back (omega arith) h i
 late-carried k n j total all (emptied l ∷ rs) back e h (inl i) = absurd i.0
 late-carried k n j total all (emptied l ∷ rs) back e h (inr i) = late-carried k n j total all rs back e h i
-late-carried k n j total all (placed f place l height ∷ rs) back e h (inr i) = or-right ((f.line == n) && is_here place && is_past n j 0 all) (is_carried_from n j all (rs ++ back)) (late-carried k n j total all rs back e h i)
-late-carried k n j total all (placed f place l height ∷ rs) back e h (inl i) = or-left ((f.line == n) && is_here place && is_past n j 0 all) (is_carried_from n j all (rs ++ back)) (by_place place i.0)
+late-carried k n j total all (placed f place l height ∷ rs) back e h (inr i) = or_right ((f.line == n) && is_here place && is_past n j 0 all) (is_carried_from n j all (rs ++ back)) (late-carried k n j total all rs back e h i)
+late-carried k n j total all (placed f place l height ∷ rs) back e h (inl i) = or_left ((f.line == n) && is_here place && is_past n j 0 all) (is_carried_from n j all (rs ++ back)) (by_place place i.0)
   where
     below : j < total
     below = let a : 0 < outputs rs = some-output rs i.1 in omega (arith, e)
 
     by_place : (place : Where) → IsPlacing k n (placed f place l height) → IsTrue ((f.line == n) && is_here place && is_past n j 0 all)
-    by_place places.Here p = and-both ((f.line == n) && true) (is_past n j 0 all) (and-both (f.line == n) true (is-same f.line n p.1) refl) (h j below)
+    by_place places.Here p = and_from ((f.line == n) && true) (is_past n j 0 all) (and_from (f.line == n) true (is-same f.line n p.1) refl) (h j below)
     by_place places.Top p = absurd p
     by_place places.Bottom p = absurd p
     by_place places.Page p = absurd p

@@ -2,7 +2,7 @@
 use Rattle.std.proofs.Common.{◌≡◌, refl, sym, ◌∙◌, ap, subst, ℕ, suc, pos, ◌<◌, ◌≢◌, ◌==◌, ◌⊎◌, inl, inr, ◌||◌, Bool, true, false, List, [], ◌∷◌, ◌++◌, append_assoc, arith}
 use Rattle.std.specs.Prelude.{int_lt, int_le, IsTrue, if◌then◌else◌}
 use Rattle.std.specs.List.{AllByRecursion}
-use Rattle.std.proofs.lemmas.Bool.{eqb-true}
+use Rattle.std.proofs.lemmas.Bool.{eqb-true, or_left, or_right}
 use Rattle.std.proofs.lemmas.List.Sorted.{All-permutation}
 use Rattle.std.proofs.lemmas.List.Elements.{All-from_recursion, recursion_from_All}
 use Rattle.tb_scaled.specs.Scaled.{eject_penalty}
@@ -24,7 +24,7 @@ use Rattle.tb_top.proofs.ShippedOnce.{ships-once}
 use Rattle.tb_top.proofs.ValidPenalties.{valid-items, interline-calm}
 use Rattle.tb_top.proofs.OrderedRuns.{events_lines, RunOrder, run-order}
 use Rattle.tb_top.proofs.GalleyLines.{LinesRise, galley-rise, later-above, IsOfClass, start-order, one-class, floats-among}
-use Rattle.tb_top.proofs.OrderTests.{some-class, StandsBefore, any-class, class-before, or-left, or-right, among-in, in-among, before-comes, rises-before, outputs, HoldsNot, past-front, late-carried}
+use Rattle.tb_top.proofs.OrderTests.{some-class, StandsBefore, any-class, class-before, among-in, in-among, before-comes, rises-before, outputs, HoldsNot, past-front, late-carried}
 
 -- ---- two floats of a class
 
@@ -99,8 +99,8 @@ module _ (g : Galley) (valid : IsValid g) (r : Run) (ordered : (k : ℕ) → Run
       (shipped-class f.class h.line (subst (λ c. IsAmong h.line (float_lines c (galley_floats g.items))) (sym (eqb-true f.class h.class same)) hi) hs))
     where
       either : StandsBefore f.line h.line (events_lines f.class r.events) ⊎ IsCarried f.class f.line r.records → IsTrue (comes_before f.line h.line (shipped_floats r) || is_carried r f.line)
-      either (inl b) = or-left (comes_before f.line h.line (shipped_floats r)) (is_carried r f.line) (before-comes f.line h.line (shipped_floats r) (class-before f.class f.line h.line (shipped_nodes r.events) (subst (StandsBefore f.line h.line) (shipped-lines f.class r.events) b)))
-      either (inr c) = or-right (comes_before f.line h.line (shipped_floats r)) (is_carried r f.line) (carried-is f.class f.line fi c)
+      either (inl b) = or_left (comes_before f.line h.line (shipped_floats r)) (is_carried r f.line) (before-comes f.line h.line (shipped_floats r) (class-before f.class f.line h.line (shipped_nodes r.events) (subst (StandsBefore f.line h.line) (shipped-lines f.class r.events) b)))
+      either (inr c) = or_right (comes_before f.line h.line (shipped_floats r)) (is_carried r f.line) (carried-is f.class f.line fi c)
 
   first-order : (f : Float) (later : List Float) → IsAmong f.line (float_lines f.class (galley_floats g.items)) → IsAmong f.line (shipped_floats r)
       → AllByRecursion (λ h. f.line < h.line) later → AllByRecursion (λ h. IsAmong h.line (float_lines h.class (galley_floats g.items))) later → AllByRecursion (λ h. IsAmong h.line (shipped_floats r)) later → IsFirstOf r f later

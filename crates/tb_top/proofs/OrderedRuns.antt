@@ -41,6 +41,7 @@ use Rattle.tb_output.proofs.OutOrder.{InOrder, FiresInOrder, out-order}
 use Rattle.tb_run.specs.Run.{Run, RunEvent, offered, sent, done, dead_cycles, page_limit, node_limit, Progress, progress_by, progress, Step, ends, goes_on, held_count, after_firing, fire, after_progress, step, run_by, run_from}
 use Rattle.tb_top.specs.Laws.{IsEmptied, EndsDone}
 use Rattle.tb_top.proofs.RunWeights.{ActFits, ActsFit, After, progress-adds, Kept, page_of, cut, cut_feet, cut_stands, StepWeighs, step-weighs}
+use Rattle.tb_float.proofs.SlotLemmas.{floats_among-append}
 
 -- ---- events
 
@@ -238,12 +239,6 @@ module _ (k : ℕ) (Known : ℕ → Type 0) (text before : List ℕ) where
       either n (inl late) = inl late
       either n (inr fresh) = inr (fresh.0, without n fresh.1)
 
-among-append : (xs ys : List Entry) → floats_among (xs ++ ys) ≡ floats_among xs ++ floats_among ys
-among-append [] ys = refl
-among-append (entries.Float f ∷ xs) ys = ap (λ l. f ∷ l) (among-append xs ys)
-among-append (entries.Left m ∷ xs) ys = among-append xs ys
-among-append (entries.Right m ∷ xs) ys = among-append xs ys
-
 module _ (k : ℕ) (Known : ℕ → Type 0) (p : Params) (text past : List ℕ) where
   -- the class in order in a state, where these lines are still to be taken
   abbrev StateOrder : List ℕ → List Recorded → State → Type 0
@@ -265,11 +260,11 @@ module _ (k : ℕ) (Known : ℕ → Type 0) (p : Params) (text past : List ℕ) 
       room-order takes rs (int_le p.pool (pos (live_count s.floats))) _ _ _ (λ m. subst (λ x. StateOrder takes x (record s { floats = record s.floats { current = s.floats.current ++ e ∷ [] } })) (sym (append-nil rs))
       (taken k Known text past (line_if (f.class == k) f.line ++ takes) takes rs s.floats s.two_columns s.first_column s.left_column (s.floats.current ++ e ∷ [])
       (sym (append_assoc (float_lines k (floats_among s.floats.current)) (line_if (f.class == k) f.line) takes)
-      ∙ ap (λ l. l ++ takes) (ap (λ l. float_lines k (floats_among s.floats.current) ++ l) (sym (append-nil (line_if (f.class == k) f.line))) ∙ sym (ap (float_lines k) (among-append s.floats.current (e ∷ [])) ∙ floats-append k (floats_among s.floats.current) (taken_float p s f ∷ [])))) h))
+      ∙ ap (λ l. l ++ takes) (ap (λ l. float_lines k (floats_among s.floats.current) ++ l) (sym (append-nil (line_if (f.class == k) f.line))) ∙ sym (ap (float_lines k) (floats_among-append s.floats.current (e ∷ [])) ∙ floats-append k (floats_among s.floats.current) (taken_float p s f ∷ [])))) h))
   act-order takes rs s (acts.TakeMargin m) h =
       room-order takes rs (int_lt p.pool (pos (live_count s.floats + 2))) _ _ _ (λ none. subst (λ x. StateOrder takes x (record s { floats = record s.floats { current = s.floats.current ++ entries.Left m ∷ entries.Right m ∷ [] } })) (sym (append-nil rs))
       (taken k Known text past takes takes rs s.floats s.two_columns s.first_column s.left_column (s.floats.current ++ entries.Left m ∷ entries.Right m ∷ [])
-      (ap (λ l. float_lines k l ++ takes) (sym (among-append s.floats.current (entries.Left m ∷ entries.Right m ∷ []) ∙ append-nil (floats_among s.floats.current)))) h))
+      (ap (λ l. float_lines k l ++ takes) (sym (floats_among-append s.floats.current (entries.Left m ∷ entries.Right m ∷ []) ∙ append-nil (floats_among s.floats.current)))) h))
   act-order takes rs s (acts.Suppress area) h = λ m. subst (λ x. StateOrder takes x s) (sym (append-nil rs)) h
   act-order takes rs s (acts.Columns two) h =
       λ m. order-quietly k Known text past takes rs (emptied s.floats ∷ []) s.floats two true None (tt, tt)

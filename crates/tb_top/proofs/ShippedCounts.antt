@@ -3,6 +3,7 @@
 use Rattle.std.proofs.Common.{◌≡◌, refl, sym, ◌∙◌, ap, ℕ, ◌+◌, List, [], ◌∷◌, ◌++◌, Some, None, arith}
 use Rattle.std.specs.Prelude.{◌==◌, IsTrue}
 use Rattle.std.specs.List.{list_all}
+use Rattle.std.proofs.lemmas.Bool.{and_parts}
 use Rattle.tb_node.specs.declared.What.TheVariants as what
 use Rattle.tb_node.specs.Plain.{hbox, rule, skip, kerned, pen, mark, note, whatsit, PlainKind, plain, ins, act, PlainNode}
 use Rattle.tb_node.proofs.Weights.{Weight, kind_weight, nodes_weight, weight-append}
@@ -18,7 +19,6 @@ use Rattle.tb_column.specs.Column.{PlainSheet, one, wide, two, warned, shipped}
 use Rattle.tb_output.proofs.StateWeights.{sheet_weight}
 use Rattle.tb_run.specs.Run.{RunEvent, offered, sent}
 use Rattle.tb_top.specs.Report.{sheet_nodes}
-use Rattle.tb_top.proofs.OutputParams.{and-first, and-second}
 use Rattle.tb_top.specs.Laws.{leaf_boxes, foot_boxes, text_line, foot_line, note_line, lines_by, float_of, galley_floats, float_lines, shipped_nodes, box_lines_of, float_lines_of, note_lines_of, node_lines}
 use Rattle.tb_output.proofs.PrintedLines.{printed, prints, sheet_prints, prints-append, IsPlain, AllPlain, SheetPlain, plain-both}
 use Rattle.tb_top.proofs.PrintedRuns.{events_prints, EventsPlain}
@@ -283,7 +283,7 @@ module _ (m : Measure) where
   item-notes n (items.Note name) v = sym m.nothing
   item-notes n (items.Foot ls) v = no-foot of_notes (λ n. refl) ls ∙ sym m.nothing
   item-notes n (items.Float f vert) v = sym m.nothing
-  item-notes n (items.Margin x vert) v = ap (λ l. m.of (l ∷ [])) (same-line x.line n (and-first (x.line == n) (is_margin x) v))
+  item-notes n (items.Margin x vert) v = ap (λ l. m.of (l ∷ [])) (same-line x.line n (and_parts (x.line == n) (is_margin x) v).0)
   item-notes n items.NewPage v = sym m.nothing
   item-notes n items.ClearPage v = sym m.nothing
   item-notes n (items.PageBreak q) v = sym m.nothing
@@ -297,4 +297,4 @@ module _ (m : Measure) where
   galley-has-notes [] v = sym m.nothing
   galley-has-notes (n ∷ ns) v =
       two-parts (note_line n.line n.kind) (lines_by note_line ns) (item_weight of_notes n.line n.kind) (items_weight of_notes ns) _
-      (item-notes n.line n.kind (and-first (is_item n.line n.kind) (list_all (λ n. is_item n.line n.kind) ns) v)) (galley-has-notes ns (and-second (is_item n.line n.kind) (list_all (λ n. is_item n.line n.kind) ns) v)) refl
+      (item-notes n.line n.kind (and_parts (is_item n.line n.kind) (list_all (λ n. is_item n.line n.kind) ns) v).0) (galley-has-notes ns (and_parts (is_item n.line n.kind) (list_all (λ n. is_item n.line n.kind) ns) v).1) refl

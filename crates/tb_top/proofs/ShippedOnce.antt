@@ -2,6 +2,7 @@
 use Rattle.std.proofs.Common.{◌≡◌, refl, sym, ◌∙◌, ap, subst, ℕ, ◌+◌, ◌≤◌, inl, inr, Bool, true, false, List, [], ◌∷◌, ◌++◌, length, filter, arith, append-nil, length-append}
 use Rattle.std.specs.Prelude.{not, ◌==◌, ◌||◌, if◌then◌else◌}
 use Rattle.std.specs.List.{AllByRecursion}
+use Rattle.std.proofs.lemmas.List.Elements.{filter-append}
 use Rattle.tb_node.specs.Plain.{on_line, clearpage_kinds}
 use Rattle.tb_param.specs.declared.Params.{Params}
 use Rattle.tb_galley.specs.declared.Item.{Item}
@@ -21,14 +22,6 @@ use Rattle.tb_top.proofs.ShippedCounts.{Measure, of_boxes, of_floats, of_notes, 
 use Rattle.tb_top.proofs.ShippedLines.{AllOut, text-out}
 
 -- ---- tests on lists of lines
-
-filter-append : (f : ℕ → Bool) (xs ys : List ℕ) → filter f (xs ++ ys) ≡ filter f xs ++ filter f ys
-filter-append f [] ys = refl
-filter-append f (x ∷ xs) ys = by_test (f x) (filter-append f xs ys)
-  where
-    by_test : (t : Bool) → filter f (xs ++ ys) ≡ filter f xs ++ filter f ys → (if t then x ∷ filter f (xs ++ ys) else filter f (xs ++ ys)) ≡ (if t then x ∷ filter f xs else filter f xs) ++ filter f ys
-    by_test true h = ap (λ l. x ∷ l) h
-    by_test false h = h
 
 -- how often a line stands in a list
 abbrev counted : ℕ → Measure

@@ -3,6 +3,7 @@ use Rattle.std.proofs.Common.{◌≡◌, refl, ℕ, ℤ, pos, Bool, false, List,
 use Rattle.std.specs.Prelude.{IsTrue, int_le, negsuc}
 use Rattle.std.specs.List.{list_all}
 use Rattle.std.proofs.lemmas.Int.{ints}
+use Rattle.std.proofs.lemmas.Bool.{and_parts}
 use Rattle.tb_scaled.specs.Scaled.{eject_penalty}
 use Rattle.tb_param.specs.declared.Params.{Params}
 use Rattle.tb_param.specs.Fields.{value_of}
@@ -13,7 +14,6 @@ use Rattle.tb_galley.specs.declared.ItemKind.{ItemKind}
 use Rattle.tb_galley.specs.declared.ItemKind.TheVariants as items
 use Rattle.tb_galley.specs.declared.Galley.{Galley}
 use Rattle.tb_galley.specs.Valid.{is_item, IsValid}
-use Rattle.tb_top.proofs.OutputParams.{and-first, and-second}
 use Rattle.tb_top.proofs.FinishLemmas.{all-at, in-range}
 use Rattle.tb_top.proofs.StartLemmas.{ItemFits, ItemsFit}
 
@@ -38,7 +38,7 @@ item-fits n (items.Suppress area) v = tt
 
 items-fit : (ns : List Item) → IsTrue (list_all (λ n. is_item n.line n.kind) ns) → ItemsFit ns
 items-fit [] v = tt
-items-fit (n ∷ ns) v = (item-fits n.line n.kind (and-first (is_item n.line n.kind) (list_all (λ n. is_item n.line n.kind) ns) v), items-fit ns (and-second (is_item n.line n.kind) (list_all (λ n. is_item n.line n.kind) ns) v))
+items-fit (n ∷ ns) v = (item-fits n.line n.kind (and_parts (is_item n.line n.kind) (list_all (λ n. is_item n.line n.kind) ns) v).0, items-fit ns (and_parts (is_item n.line n.kind) (list_all (λ n. is_item n.line n.kind) ns) v).1)
 
 pub valid-items : (g : Galley) → IsValid g → ItemsFit g.items
 valid-items g v = items-fit g.items v.items
