@@ -8,7 +8,7 @@ use Rattle.tb_node.specs.declared.Where.{Where}
 use Rattle.tb_node.specs.declared.Where.TheVariants as places
 use Rattle.tb_node.specs.Plain.{PlainNode, plain, pen}
 use Rattle.tb_break.specs.Legal.{last_or}
-use Rattle.tb_node.proofs.Weights.{Weight, leaves_weight, nodes_weight, weight-append}
+use Rattle.tb_node.proofs.Weights.{Weight, nodes_weight, weight-append}
 use Rattle.tb_param.specs.declared.Params.{Params}
 use Rattle.tb_builder.proofs.PageWeights.{boxes_weight}
 use Rattle.tb_float.specs.declared.Entry.{Entry}

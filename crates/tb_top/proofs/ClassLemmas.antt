@@ -1,5 +1,5 @@
 -- The classes of a valid galley have different numbers, and each footnote's class is one of them.
-use Rattle.std.proofs.Common.{◌≡◌, refl, sym, ap, subst, ◌∙◌, ℕ, suc, ◌<◌, ◌≤◌, ℤ, pos, Bool, true, false, not, ◌&&◌, ◌||◌, ◌==◌, nat_lt, nat_le, List, [], ◌∷◌, ◌++◌, map, arith}
+use Rattle.std.proofs.Common.{◌≡◌, refl, ap, subst, ℕ, suc, ◌<◌, ◌≤◌, ℤ, pos, Bool, true, false, ◌&&◌, ◌||◌, ◌==◌, nat_lt, nat_le, List, [], ◌∷◌, ◌++◌, map, arith}
 use Rattle.std.specs.Prelude.{IsTrue, int_le, neg_ℤ, if◌then◌else◌}
 use Rattle.std.specs.List.{list_all, list_any}
 use Rattle.std.proofs.lemmas.Int.{ints}
@@ -19,7 +19,7 @@ use Rattle.tb_insert.specs.declared.Class.{Class}
 use Rattle.tb_builder.proofs.PageWeights.{hits, IsOnce}
 use Rattle.tb_galley.specs.Expand.{expanded}
 use Rattle.tb_output.specs.State.{foot_class, first_state, void_boxes}
-use Rattle.tb_output.proofs.StateWeights.{class_numbers, BoxesFit}
+use Rattle.tb_output.proofs.StateWeights.{class_numbers}
 use Rattle.tb_output.proofs.PutLemmas.{AreAmong}
 use Rattle.tb_run.specs.Run.{class_of, classes_of}
 use Rattle.tb_top.proofs.RunWeights.{Kept, fit-among}
@@ -141,8 +141,7 @@ item-fits g v line (items.Suppress area) i c = tt
 items-fit : (g : Galley) → IsValid g → (ns : List Item) → IsTrue (list_all (λ (n : Item). is_item n.line n.kind) ns) → IsTrue (list_all (λ (n : Item). has_known_class (map (λ (c : ClassLine). c.number) g.classes) n.kind) ns) → ItemsFit (class_numbers (classes_of g)) ns
 items-fit g v [] i c = tt
 items-fit g v (n ∷ ns) i c =
-    let ks = map (λ (c : ClassLine). c.number) g.classes in
-    (
+    let ks = map (λ (c : ClassLine). c.number) g.classes in (
       item-fits g v n.line n.kind (first (is_item n.line n.kind) (list_all (λ (m : Item). is_item m.line m.kind) ns) i) (first (has_known_class ks n.kind) (list_all (λ (m : Item). has_known_class ks m.kind) ns) c),
       items-fit g v ns (second (is_item n.line n.kind) (list_all (λ (m : Item). is_item m.line m.kind) ns) i) (second (has_known_class ks n.kind) (list_all (λ (m : Item). has_known_class ks m.kind) ns) c),
     )

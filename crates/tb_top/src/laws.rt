@@ -1,7 +1,7 @@
 //! Laws of whole runs: each function is a theorem, stated by its contract, and does nothing.
 
 ghost use Rattle.tb_top.specs.Firings.{BoundsAgree, EndsHaveReasons};
-ghost use Rattle.tb_top.specs.Laws.{LimitsHold};
+ghost use Rattle.tb_top.specs.Laws.{ClassesKeepOrder, EachShipsOnce, LimitsHold, ListsAreEmptied, TotalsAreKept};
 
 /// The run of a galley is defined: each firing ships a page or adds to the dead cycles, so the bound on the firings, with
 /// which a run starts, is never met.
@@ -14,4 +14,26 @@ pub fn runs_are_defined()
 /// than the area's share, and its area, and the text with both areas, hold fewer floats than they may.
 pub fn floats_keep_the_limits()
     ensures { LimitsHold }
+{}
+
+/// The float lists are emptied: at each change of columns and at the end of a run all six lists of floats are empty, for
+/// every valid galley and whatever the end.
+pub fn lists_are_emptied()
+    ensures { ListsAreEmptied }
+{}
+
+/// Each ships once, where a run of a valid galley ends well: the boxes and rules outside feet in the order of the galley, and
+/// each box and rule of a foot, each float and each marginal note exactly once. The totals of the run are those of the
+/// galley.
+pub fn each_ships_once()
+    ensures once { EachShipsOnce }
+    ensures totals { TotalsAreKept }
+{}
+
+/// The floats of a class keep their order, where a run of a valid galley ends well: each ships before every later one of its
+/// class in the galley, save a float in the text that a break carried, which stands in a later column than the one in which
+/// it was placed. Ships are ordered by page; on a page, the floats above both columns, then the columns from left to right;
+/// in a column, by its list.
+pub fn classes_keep_their_order()
+    ensures { ClassesKeepOrder }
 {}

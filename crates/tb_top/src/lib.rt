@@ -12,7 +12,10 @@ mod rows;
 mod status;
 mod top;
 
-pub use laws::runs_are_defined;
+pub use laws::{
+    classes_keep_their_order, each_ships_once, floats_keep_the_limits, lists_are_emptied,
+    runs_are_defined,
+};
 pub use pages::paginate;
 pub use rows::check_rows;
 pub use status::Status;

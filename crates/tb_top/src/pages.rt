@@ -8,6 +8,7 @@ ghost use Rattle.tb_column.specs.Shown.{IsLiveSent};
 ghost use Rattle.tb_report.specs.Printable.{IsPrintableSent};
 ghost use Rattle.tb_report.specs.Totals.{AreCounts};
 ghost use Rattle.tb_run.specs.Run.{run_of};
+ghost use Rattle.tb_top.specs.Laws.{KeepsLaws, WithinLimits};
 ghost use Rattle.tb_top.specs.Paginated.{Paginates, Refuses};
 ghost use Rattle.tb_pool.specs.Lists.{IsLive};
 ghost use Rattle.tb_run.specs.Turning.{sent_by};
@@ -41,8 +42,11 @@ impl From<AllocError> for PageFault {
 ///
 /// The run ends well where nothing fires any more, or is refused: the page fired too often without a page shipped
 /// (`DeadCycles`), too many pages would be shipped (`PageLimit`), or too many nodes wait at the start or after a firing
-/// (`NodeLimit`). Its text up to there is written then. After `WriteFault`, which comes only where `out` failed and never
-/// at a silent view, and after `Memory` a prefix of the run's text is written.
+/// (`NodeLimit`). Its text up to there is written then. A run that ended well has shipped each box, rule, float and
+/// note of the galley once, the boxes and rules of the text in their order, and the floats of each class in theirs, but
+/// for those that a break carried; and the totals show it. Whatever the end, no float without `!` was placed past the
+/// limits of its list. After `WriteFault`, which comes only where `out` failed and never at a silent view, and after
+/// `Memory` a prefix of the run's text is written.
 pub fn paginate<K: Sink>(
     alloc: Global,
     galley: &Galley,
@@ -53,6 +57,8 @@ pub fn paginate<K: Sink>(
     requires live { HasLiveItems galley.now }
 
     ensures done { IfOk result (Paginates view (run_of galley.now) (K.held out.old) (K.held out.new)) }
+    ensures laws { IfOk result (KeepsLaws galley.now) }
+    ensures limits { WithinLimits galley.now.params (run_of galley.now) }
     ensures refused { IfErr result (Refuses view (run_of galley.now) (K.held out.old) (K.held out.new)) }
 
     ensures cause { result ≡ Err PageFault.WriteFault → Rose (K.faults out.old) (K.faults out.new) }

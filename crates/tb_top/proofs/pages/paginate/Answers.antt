@@ -7,6 +7,8 @@ use Rattle.tb_run.specs.Turning.{state_of, sent_count, over_limit, IsReady}
 use Rattle.tb_top.proofs.GoingLemmas.{IsTally, prefix-first, prefix-now, refuses-cut, tally-counts}
 use Rattle.tb_top.proofs.FinishLemmas.{ends-well, stops-with, start-closing, start-going, start-tally, turn-cut, turn-closing, turn-going-after, turn-fewer, tally-next, sent-few, none-at}
 use Rattle.tb_top.proofs.RunParams.{params-runnable}
+use Rattle.tb_top.proofs.LawfulRuns.{keeps-laws}
+use Rattle.tb_top.proofs.LimitedRuns.{run-within}
 use Rattle.tb_top.proofs.PrintablePages.{printable-some, live-some, few-some}
 use Rattle.tb_run.proofs.WholeLemmas.{ready-counted}
 use Rattle.tb_run.proofs.ServedItems.{galley-items, galley-served}
@@ -26,6 +28,11 @@ pub returns-in-Some-clause-done : goal.returns-in-Some-clause-done
 returns-in-Some-clause-done g c =
     let closing = start-closing c.args.view c.args.galley.now c.node_limit.new.self _ _ c.new-totals.result c.node_limit.result (ap state_of c.node_limit.ensures.same ∙ c.in_ok-routine.ensures.state) c.in_ok-show.ensures.whole c.new-totals.ensures (c.node_limit.ensures.limit ∙ ap (λ s. over_limit c.args.galley.now.params (held_count s)) (sym (ap state_of c.node_limit.ensures.same))) c.in-Some.ending c.in-Some.is in
     IfOk-weaker c.finish.result _ _ (λ u h. ends-well c.args.view c.node_limit.new.self c.new-totals.result (run_of c.args.galley.now) _ _ _ c.in-Some.ending u closing h) c.finish.ensures.done
+
+pub returns-in-Some-clause-laws : goal.returns-in-Some-clause-laws
+returns-in-Some-clause-laws g c =
+    let closing = start-closing c.args.view c.args.galley.now c.node_limit.new.self _ _ c.new-totals.result c.node_limit.result (ap state_of c.node_limit.ensures.same ∙ c.in_ok-routine.ensures.state) c.in_ok-show.ensures.whole c.new-totals.ensures (c.node_limit.ensures.limit ∙ ap (λ s. over_limit c.args.galley.now.params (held_count s)) (sym (ap state_of c.node_limit.ensures.same))) c.in-Some.ending c.in-Some.is in
+    IfOk-weaker c.finish.result _ _ (λ u h. keeps-laws c.args.galley.now c.requires.valid c.args.view _ _ u (ends-well c.args.view c.node_limit.new.self c.new-totals.result (run_of c.args.galley.now) _ _ _ c.in-Some.ending u closing h)) c.finish.ensures.done
 
 pub returns-in-Some-clause-refused : goal.returns-in-Some-clause-refused
 returns-in-Some-clause-refused g c =
@@ -71,6 +78,11 @@ returns-in-Some-ending-clause-done g c =
     let closing = turn-closing c.args.galley.now.params c.args.view (state_of c.firing.routine) _ _ c.firing.totals (run_of c.args.galley.now) c.firing.invariant.going c.turn.new.self c.in_ok-turn.turn c.in_ok-turn.ensures.step _ c.send.new.totals c.in-Some-ending.ending c.in-Some-ending.is c.in_ok-send.ensures.shown.whole c.in_ok-send.ensures.counted in
     IfOk-weaker c.finish-in-Some-ending.result _ _ (λ u h. ends-well c.args.view c.turn.new.self c.send.new.totals (run_of c.args.galley.now) _ _ _ c.in-Some-ending.ending u closing h) c.finish-in-Some-ending.ensures.done
 
+pub returns-in-Some-ending-clause-laws : goal.returns-in-Some-ending-clause-laws
+returns-in-Some-ending-clause-laws g c =
+    let closing = turn-closing c.args.galley.now.params c.args.view (state_of c.firing.routine) _ _ c.firing.totals (run_of c.args.galley.now) c.firing.invariant.going c.turn.new.self c.in_ok-turn.turn c.in_ok-turn.ensures.step _ c.send.new.totals c.in-Some-ending.ending c.in-Some-ending.is c.in_ok-send.ensures.shown.whole c.in_ok-send.ensures.counted in
+    IfOk-weaker c.finish-in-Some-ending.result _ _ (λ u h. keeps-laws c.args.galley.now c.requires.valid c.args.view _ _ u (ends-well c.args.view c.turn.new.self c.send.new.totals (run_of c.args.galley.now) _ _ _ c.in-Some-ending.ending u closing h)) c.finish-in-Some-ending.ensures.done
+
 pub returns-in-Some-ending-clause-refused : goal.returns-in-Some-ending-clause-refused
 returns-in-Some-ending-clause-refused g c =
     let closing = turn-closing c.args.galley.now.params c.args.view (state_of c.firing.routine) _ _ c.firing.totals (run_of c.args.galley.now) c.firing.invariant.going c.turn.new.self c.in_ok-turn.turn c.in_ok-turn.ensures.step _ c.send.new.totals c.in-Some-ending.ending c.in-Some-ending.is c.in_ok-send.ensures.shown.whole c.in_ok-send.ensures.counted in
@@ -110,3 +122,21 @@ new-requires-clause-items g c = galley-items c.args.galley.now (params-runnable 
 
 pub new-requires-clause-nodes : goal.new-requires-clause-nodes
 new-requires-clause-nodes g c = galley-served c.args.galley.now (params-runnable c.args.galley.now.params c.requires.valid.params) c.requires.valid c.requires.live
+
+pub returns-in_err-show-clause-limits : goal.returns-in_err-show-clause-limits
+returns-in_err-show-clause-limits g c = run-within c.args.galley.now
+
+pub returns-in_err-routine-clause-limits : goal.returns-in_err-routine-clause-limits
+returns-in_err-routine-clause-limits g c = run-within c.args.galley.now
+
+pub returns-in-Some-clause-limits : goal.returns-in-Some-clause-limits
+returns-in-Some-clause-limits g c = run-within c.args.galley.now
+
+pub returns-in_err-turn-clause-limits : goal.returns-in_err-turn-clause-limits
+returns-in_err-turn-clause-limits g c = run-within c.args.galley.now
+
+pub returns-in_err-send-clause-limits : goal.returns-in_err-send-clause-limits
+returns-in_err-send-clause-limits g c = run-within c.args.galley.now
+
+pub returns-in-Some-ending-clause-limits : goal.returns-in-Some-ending-clause-limits
+returns-in-Some-ending-clause-limits g c = run-within c.args.galley.now
