@@ -21,7 +21,7 @@ use Rattle.tb_output.proofs.FollowLemmas.{waiting_floats, AllWait, Follows, foll
 
 -- ---- a page that is shipped
 
-ship-cycles : (p : Params) (sheet : PlainSheet) (w : Work) → (Ship.ship p sheet w).refused ≡ false → (Ship.ship p sheet w).state.dead_cycles ≡ 0
+pub ship-cycles : (p : Params) (sheet : PlainSheet) (w : Work) → (Ship.ship p sheet w).refused ≡ false → (Ship.ship p sheet w).state.dead_cycles ≡ 0
 ship-cycles p sheet w = by_refused w.refused (int_lt p.maxpages (pos w.state.page)) refl
   where
     turned : Work
@@ -36,7 +36,7 @@ ship-cycles p sheet w = by_refused w.refused (int_lt p.maxpages (pos w.state.pag
     by_refused false true r h = let no : ⊥ = grind (arith, h) in absurd no
     by_refused false false r h = by_sent w.refused
 
-ship-lists : (p : Params) (sheet : PlainSheet) (w : Work) → ((Ship.ship p sheet w).state.floats ≡ w.state.floats) × ((Ship.ship p sheet w).state.first_column ≡ w.state.first_column)
+pub ship-lists : (p : Params) (sheet : PlainSheet) (w : Work) → ((Ship.ship p sheet w).state.floats ≡ w.state.floats) × ((Ship.ship p sheet w).state.first_column ≡ w.state.first_column)
 ship-lists p sheet w = by_refused w.refused (int_lt p.maxpages (pos w.state.page)) w.refused
   where
     turned : Work
@@ -48,7 +48,7 @@ ship-lists p sheet w = by_refused w.refused (int_lt p.maxpages (pos w.state.page
     by_refused false false true = (refl, refl)
     by_refused false false false = (refl, refl)
 
-stays-zero : (a b : ℕ) → a ≡ 0 → (b ≡ a) ⊎ (b ≡ 0) → b ≡ 0
+pub stays-zero : (a b : ℕ) → a ≡ 0 → (b ≡ a) ⊎ (b ≡ 0) → b ≡ 0
 stays-zero a b h (inl e) = e ∙ h
 stays-zero a b h (inr e) = e
 
@@ -88,7 +88,7 @@ double-column p before (f ∷ rest) w =
     let w' = Place.place_deferred p place f before rest w in
     double-column p (Place.still_deferred place f before) rest w' ∙ deferred-column p place f before rest w
 
-next-column : (p : Params) (before fs : List Float) (w : Work) → SameColumn w (Place.place_next p before fs w)
+pub next-column : (p : Params) (before fs : List Float) (w : Work) → SameColumn w (Place.place_next p before fs w)
 next-column p before [] w = refl
 next-column p before (f ∷ rest) w =
     let place = Area.next_place p w.state.floats w.state.suppress before f in
@@ -136,7 +136,7 @@ deferred-single p place f before rest w h = by_place (Place.is_placed place)
     by_place true = joined-single place f l h
     by_place false = refl
 
-next-single : (p : Params) (before fs : List Float) (w : Work) → (Place.place_next p before fs w).state.floats.double ≡ w.state.floats.double
+pub next-single : (p : Params) (before fs : List Float) (w : Work) → (Place.place_next p before fs w).state.floats.double ≡ w.state.floats.double
 next-single p before [] w = refl
 next-single p before (f ∷ rest) w =
     let place = Area.next_place p w.state.floats w.state.suppress before f in
