@@ -5,7 +5,8 @@ use Rattle.std.specs.List.{AllByRecursion}
 use Rattle.tb_node.specs.declared.Float.{Float}
 use Rattle.tb_node.specs.declared.Where.{Where}
 use Rattle.tb_node.specs.declared.Where.TheVariants as places
-use Rattle.tb_node.specs.Plain.{PlainNode}
+use Rattle.tb_scaled.specs.Glue.{filling_glue}
+use Rattle.tb_node.specs.Plain.{Leaf, PlainNode, made, blank_box, skip}
 use Rattle.tb_param.specs.declared.Params.{Params}
 use Rattle.tb_float.specs.Lists.{FloatLists}
 use Rattle.tb_float.specs.Rooms.{column_height_of}
@@ -17,6 +18,7 @@ use Rattle.tb_output.specs.Place
 use Rattle.tb_output.specs.Ship
 use Rattle.tb_output.specs.Columns
 use Rattle.tb_output.specs.Clear
+use Rattle.tb_output.proofs.FollowLemmas.{follows-put_out, follows-next, follows-wide_pages}
 use Rattle.tb_output.proofs.ColumnOutcomes.{ship-lists, next-single}
 use Rattle.tb_output.proofs.ClearOutcomes.{Wide}
 
@@ -111,3 +113,65 @@ module _ (p : Params) where
       by_columns false f e k = same-double w (Ship.ship p (one c) w) (ship-double p (one c) w) k
       by_columns true true e k = same-double w (Ship.keep_left c w) refl refl
       by_columns true false e k = two-columns w (Ship.ship_pair p c w) e k (λ h. pair-wide p c w)
+
+  abbrev Any : Float → Type 0
+  Any f = Unit {0}
+
+  put_out-double : (c : PlainColumn) (w : Work) → KeepsDouble w (Ship.put_out p c w)
+  put_out-double c w =
+      let a = records_also (output c) w in
+      let e = records-state (output c) w in
+      then-double w a (Ship.put_out p c w) (same-double w a (ap (λ s. s.floats.double) e) (ap (λ s. s.two_columns) e))
+      (then-double a (Ship.put_out_by p c a) (Ship.put_out p c w) (put_by-double c a ((follows-put_out Any p c w).columns ∙ sym (ap (λ s. s.two_columns) e))) (same-double (Ship.put_out_by p c a) (Ship.put_out p c w) refl refl))
+
+  company-double : (cs : List Choice) (w : Work) → KeepsDouble w (Columns.put_out_company p cs w)
+  company-double cs w =
+      let a = Ship.with_deferred (left_floats cs) w in
+      then-double w a (Columns.put_out_company p cs w) (same-double w a refl refl) (put_out-double (single_floats_column p (column_height_of p w.state.floats) (chosen_floats cs)) a)
+
+  columns_by-double : (again : Work → Work) → ((w : Work) → KeepsDouble w (again w)) → (w : Work) (o : Option (List Choice)) → KeepsDouble w (Columns.float_columns_by again p w o)
+  columns_by-double again h w None = same-double w w refl refl
+  columns_by-double again h w (Some cs) = then-double w (Columns.put_out_company p cs w) (again (Columns.put_out_company p cs w)) (company-double cs w) (h (Columns.put_out_company p cs w))
+
+  float_columns-double : (clearing : Bool) (n : ℕ) (w : Work) → KeepsDouble w (Columns.float_columns p clearing n w)
+  float_columns-double clearing zero w = same-double w w refl refl
+  float_columns-double clearing (suc n) w = columns_by-double (λ w'. Columns.float_columns p clearing n w') (λ w'. float_columns-double clearing n w') w (company (Columns.single_wanted p w.state.floats clearing) w.state.floats.deferred)
+
+  text-double : (body : List PlainNode) (w : Work) → KeepsDouble w (Columns.put_out_text p body w)
+  text-double body w =
+      then-double w (Columns.without_column_floats w) (Columns.put_out_text p body w) (same-double w (Columns.without_column_floats w) refl refl) (put_out-double (text_column p w.state.floats body (footnotes w.state)) (Columns.without_column_floats w))
+
+  pub ordinary-double : (body : List PlainNode) (w : Work) → KeepsDouble w (Columns.ordinary p body w)
+  ordinary-double body w =
+      let a = Columns.put_out_text p body w in
+      let b = Columns.all_float_columns p false a in
+      then-double w a (Columns.ordinary p body w) (text-double body w)
+      (then-double a b (Columns.ordinary p body w) (float_columns-double false (length a.state.floats.deferred) a)
+      (same-double b (Columns.ordinary p body w) (next-single p [] b.state.floats.deferred b) (follows-next Any p [] b.state.floats.deferred b refl).columns))
+
+  clear_wide-double : (w : Work) → KeepsDouble w (Clear.clear_wide p w)
+  clear_wide-double w = by_columns w.state.two_columns w.state.first_column
+    where
+      d : Work
+      d = with_floats (Clear.double_again w.state.floats) w
+
+      by_columns : (t f : Bool) → KeepsDouble w (if not t then w else (if f then Ship.all_wide_pages p true d else puts (made blank_box ∷ Clear.clear_again) w))
+      by_columns false f = same-double w w refl refl
+      by_columns true true = no-double w (Ship.all_wide_pages p true d) (wide-double p true (length d.state.floats.deferred) d) (follows-wide_pages Any p true (length d.state.floats.deferred) d).columns
+      by_columns true false = same-double w (puts (made blank_box ∷ Clear.clear_again) w) refl refl
+
+  clear_floats-double : (body : List PlainNode) (w : Work) → KeepsDouble w (Clear.clear_floats p body w)
+  clear_floats-double body w =
+      let a = with_floats (Clear.deferred_again w.state.floats) (puts (Clear.cleared_front p body) w) in
+      let b = Columns.all_float_columns p true a in
+      let c = Clear.clear_wide p b in
+      then-double w a (Clear.clear_rest c) (same-double w a refl refl)
+      (then-double a b (Clear.clear_rest c) (float_columns-double true (length a.state.floats.deferred) a)
+      (then-double b c (Clear.clear_rest c) (clear_wide-double b)
+      (double_if c (has_floats c.state.floats.deferred) (puts Clear.clear_again c) c (same-double c (puts Clear.clear_again c) refl refl) (same-double c c refl refl))))
+
+  pub clear_by-double : (body : List PlainNode) (w : Work) (o : Option (List Leaf)) → KeepsDouble w (Clear.clear_by p body w o)
+  clear_by-double body w None = clear_floats-double body w
+  clear_by-double body w (Some notes) =
+      let a = Columns.put_out_text p (body ++ made (skip filling_glue) ∷ []) w in
+      then-double w a (puts Clear.clear_again a) (text-double (body ++ made (skip filling_glue) ∷ []) w) (same-double a (puts Clear.clear_again a) refl refl)
