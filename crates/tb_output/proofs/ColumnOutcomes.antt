@@ -105,7 +105,7 @@ wide-column p clearing (suc n) w = wide_by-column p (λ w'. Ship.wide_pages p cl
 
 -- ---- floats of the next column leave the double ones alone
 
-abbrev NotDouble : Where → Type 0
+abbrev pub NotDouble : Where → Type 0
 NotDouble places.Here = Unit {0}
 NotDouble places.Top = Unit {0}
 NotDouble places.Bottom = Unit {0}
@@ -113,12 +113,12 @@ NotDouble places.Page = Unit {0}
 NotDouble places.Double = ⊥
 NotDouble places.Deferred = Unit {0}
 
-area-single : (a : Area.AreaPlace) → NotDouble (Area.where_of a)
+pub area-single : (a : Area.AreaPlace) → NotDouble (Area.where_of a)
 area-single Area.at_top = tt
 area-single Area.at_bottom = tt
 area-single Area.deferred = tt
 
-joined-single : (place : Where) (f : Float) (l : FloatLists) → NotDouble place → (Place.joined_to place f l).double ≡ l.double
+pub joined-single : (place : Where) (f : Float) (l : FloatLists) → NotDouble place → (Place.joined_to place f l).double ≡ l.double
 joined-single places.Here f l h = refl
 joined-single places.Top f l h = refl
 joined-single places.Bottom f l h = refl

@@ -97,7 +97,7 @@ module _ (P : Float → Type 0) where
   one-all [] f h k = (k, tt)
   one-all (g ∷ fs) f h k = (h.0, one-all fs f h.1 k)
 
-  joined-count : (place : Where) (f : Float) (l : FloatLists) → waiting_floats (Place.joined_to place f l) ≤ waiting_floats l + 1
+  pub joined-count : (place : Where) (f : Float) (l : FloatLists) → waiting_floats (Place.joined_to place f l) ≤ waiting_floats l + 1
   joined-count places.Here f l = omega arith
   joined-count places.Top f l = let h : length (l.top ++ f ∷ []) ≡ length l.top + 1 = one-longer l.top f in omega arith
   joined-count places.Bottom f l = let h : length (l.bottom ++ f ∷ []) ≡ length l.bottom + 1 = one-longer l.bottom f in omega arith
@@ -105,7 +105,7 @@ module _ (P : Float → Type 0) where
   joined-count places.Double f l = let h : length (l.double ++ f ∷ []) ≡ length l.double + 1 = one-longer l.double f in omega arith
   joined-count places.Deferred f l = let h : length (l.deferred ++ f ∷ []) ≡ length l.deferred + 1 = one-longer l.deferred f in omega arith
 
-  joined-all : (place : Where) (f : Float) (l : FloatLists) → P f → AllWait P l → AllWait P (Place.joined_to place f l)
+  pub joined-all : (place : Where) (f : Float) (l : FloatLists) → P f → AllWait P l → AllWait P (Place.joined_to place f l)
   joined-all places.Here f l k h = record { top = h.top; bottom = h.bottom; deferred = h.deferred; double = h.double }
   joined-all places.Top f l k h = record { top = one-all l.top f h.top k; bottom = h.bottom; deferred = h.deferred; double = h.double }
   joined-all places.Bottom f l k h = record { top = h.top; bottom = one-all l.bottom f h.bottom k; deferred = h.deferred; double = h.double }
@@ -113,7 +113,7 @@ module _ (P : Float → Type 0) where
   joined-all places.Double f l k h = record { top = h.top; bottom = h.bottom; deferred = h.deferred; double = one-all l.double f h.double k }
   joined-all places.Deferred f l k h = record { top = h.top; bottom = h.bottom; deferred = one-all l.deferred f h.deferred k; double = h.double }
 
-  joined-current : (place : Where) (f : Float) (l : FloatLists) → (Place.joined_to place f l).current ≡ l.current
+  pub joined-current : (place : Where) (f : Float) (l : FloatLists) → (Place.joined_to place f l).current ≡ l.current
   joined-current places.Here f l = refl
   joined-current places.Top f l = refl
   joined-current places.Bottom f l = refl
