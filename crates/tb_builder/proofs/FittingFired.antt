@@ -158,9 +158,6 @@ module _ (goal limit t q : ℤ) (c : ClassBox) (deep : pos 0 ≤ℤ limit) (forc
   pub fitted-fires : (ns tail : List PlainNode) → Fitted q tail ns → (bs : List Boxed) → FiresAt q tail bs (reach_from limit (terms_after frozen) [] (pruned_nodes t ns)) (fired_by (labelled frozen (take (page_break (reach_from limit (terms_after frozen) [] (pruned_nodes t ns))).place (reach_from limit (terms_after frozen) [] (pruned_nodes t ns)).passed)) bs (reach_from limit (terms_after frozen) [] (pruned_nodes t ns)))
   fitted-fires ns tail h bs = slim-fires frozen q page h.line tail bs (reach_from limit (terms_after frozen) [] (pruned_nodes t ns)) slim (subst (λ (xs : List PlainNode). BreaksAt q page (break_at h.line q ∷ tail) (reach_from limit (terms_after frozen) [] xs)) (sym laid) (breaks-at limit goal deep (terms_after frozen) (λ xs s. bare-page goal limit c xs s) q forced [] page h.line tail tt slim size))
     where
-      body : List PlainNode
-      body = record { line = h.box_line; kind = plain (skip (top_glue t (pos 0))) } ∷ flat_box h.box_line h.what ∷ h.behind
-
       page : List PlainNode
       page = pruned_nodes t h.top ++ record { line = h.box_line; kind = plain (skip (top_glue t (pos 0))) } ∷ flat_box h.box_line h.what ∷ h.behind
 
