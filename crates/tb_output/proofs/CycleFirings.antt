@@ -200,6 +200,16 @@ emptied-none (b ∷ bs) k = by_number (b.number == k) (emptied-none bs k)
     by_number true h = refl
     by_number false h = h
 
+-- an ordinary firing is at no penalty of the routine
+no-hold : (q : ℤ) → int_le eject_penalty q ≡ true → Out.is_int q Out.hold_penalty ≡ false
+no-hold q h = grind (arith, ints, h)
+
+no-clear : (q : ℤ) → int_le eject_penalty q ≡ true → Out.is_int q Out.clear_penalty ≡ false
+no-clear q h = grind (arith, ints, h)
+
+clear-no-hold : (q : ℤ) → Out.is_int q Out.clear_penalty ≡ true → Out.is_int q Out.hold_penalty ≡ false
+clear-no-hold q h = grind (arith, ints, h)
+
 -- a list has a float, or none
 some-or-none : (fs : List Float) → (1 ≤ length fs) ⊎ (fs ≡ [])
 some-or-none [] = inr refl
@@ -279,3 +289,202 @@ module _ (p : Params) (m : ℕ) (s : State) (total a : ℕ) (kind : Kind) (phase
     single = λ k. let c = floats.single (sym x.columns ∙ k) in (y.all c.0, subst (AllCurrent Single) (sym x.current) c.1);
     double = z.by (record { wide = floats.double.wide; none = floats.double.none });
   }
+
+  abbrev o : Work
+  o = Columns.ordinary p f.body w0
+
+  abbrev done : State
+  done = after p m f well.held (Columns.ordinary p f.body w0)
+
+  abbrev ordinary-goal : GoalOut p f.penalty (Columns.ordinary p f.body w0) (Out.next_goal p f.penalty (Columns.ordinary p f.body w0))
+  ordinary-goal = goal-out p f.penalty (Columns.ordinary p f.body w0)
+
+  out-fit : TextOut (Fits p) p w0 o
+  out-fit = ordinary-out (Fits p) p f.body w0
+
+  o-fits : FloatsFit p o.state
+  o-fits = text-fits o out-fit (ordinary-out Single p f.body w0) (ordinary-double p f.body w0)
+
+  -- what is put back is nothing, so the clears that are to come stand in the rest
+  o-region : Again a (sorts f.rest) → (bs : List PlainNode) → AllByRecursion Idle (sorts bs) → Again a (sorts o.put_back ++ (sorts bs ++ sorts f.rest))
+  o-region h bs i = subst (λ (ns : List PlainNode). Again a (sorts ns ++ (sorts bs ++ sorts f.rest))) (sym out-fit.back) (again-idle a (sorts bs) (sorts f.rest) i h)
+
+  o-way : (x y : ℕ) → waiting_floats o.state.floats + x ≤ waiting_floats s.floats + y → way_floats o.state.floats + x ≤ way_floats s.floats + y
+  o-way x y h = sums (waiting_floats o.state.floats) (waiting_floats s.floats) (current_floats o.state.floats.current) (current_floats s.floats.current) (ap current_floats out-fit.current) h
+    where
+      sums : (b d e g : ℕ) → e ≡ g → b + x ≤ d + y → b + e + x ≤ d + g + y
+      sums b d e g i j = omega arith
+
+  o-cost : wait_cost o.put_back ≡ 0
+  o-cost = ap wait_cost out-fit.back
+
+  -- where the page is out: what is known afterwards, and how the floats and the credit changed
+  out-by : Again a (sorts f.rest) → (k : Kind) → Holds p done a k → o.state.dead_cycles ≡ 0 → 2 * way_floats o.state.floats + credit k ≤ 2 * way_floats s.floats + credit kind → Bounded p m done
+  out-by r k h d c = finish-shipped p m f well.held o a k (o-region r) h o-fits d (sums (wait_cost o.put_back) (wait_cost f.rest) (way_floats o.state.floats) (way_floats s.floats) (credit k) (credit kind) (sort_cost (pen_sort f.penalty)) o-cost well.cost c weight)
+    where
+      sums : (b r y y' c c' x : ℕ) → b ≡ 0 → r + x ≤ total → 2 * y + c ≤ 2 * y' + c' → total + 2 * y' + c' ≤ m + 2 * a → b + r + 2 * y + c ≤ m + 2 * a
+      sums b r y y' c c' x i j k l = omega arith
+
+  any-by : Again a (sorts f.rest) → o.state.dead_cycles ≡ 0 → waiting_floats o.state.floats + 1 ≤ waiting_floats s.floats → Bounded p m done
+  any-by r d h = out-by r any tt d (sums (way_floats o.state.floats) (way_floats s.floats) (credit kind) (o-way 1 0 (sum-of (waiting_floats o.state.floats) (waiting_floats s.floats) h)))
+    where
+      sum-of : (x y : ℕ) → x + 1 ≤ y → x + 1 ≤ y + 0
+      sum-of x y h = omega arith
+
+      sums : (x y c : ℕ) → x + 1 ≤ y + 0 → 2 * x + 2 ≤ 2 * y + c
+      sums x y c h = omega arith
+
+  least : (k : Kind) (c : ℕ) → credit k ≡ c → waiting_floats o.state.floats ≤ waiting_floats s.floats → (j : Kind) → credit j ≤ c → k ≡ kind → 2 * way_floats o.state.floats + credit j ≤ 2 * way_floats s.floats + credit kind
+  least k c e h j l is = sums (way_floats o.state.floats) (way_floats s.floats) (credit j) (credit kind) c (o-way 0 0 (sum-of (waiting_floats o.state.floats) (waiting_floats s.floats) h)) l (sym (ap credit is) ∙ e)
+    where
+      sum-of : (x y : ℕ) → x ≤ y → x + 0 ≤ y + 0
+      sum-of x y h = omega arith
+
+      sums : (x y c d n : ℕ) → x + 0 ≤ y + 0 → c ≤ n → d ≡ n → 2 * x + c ≤ 2 * y + d
+      sums x y c d n h i j = omega arith
+
+  -- ---- in one column
+
+  one-column : int_le eject_penalty f.penalty ≡ true → s.two_columns ≡ false → Result o
+  one-column h t r =
+      let l : LastOut (Fits p) p w0 o = last-out (Fits p) p f.body w0 (inl t) in
+      out-by (ordinary-again a f.rest f.penalty h well.region) single (ordinary-goal.columns ∙ out-fit.columns ∙ t) (l.cycles r)
+      (sums (way_floats o.state.floats) (way_floats s.floats) (credit kind) (o-way 0 0 (sum-of (waiting_floats o.state.floats) (waiting_floats s.floats) out-fit.floats)))
+    where
+      sum-of : (x y : ℕ) → x ≤ y → x + 0 ≤ y + 0
+      sum-of x y h = omega arith
+
+      sums : (x y c : ℕ) → x + 0 ≤ y + 0 → 2 * x + 0 ≤ 2 * y + c
+      sums x y c h = omega arith
+
+  -- ---- the second column
+
+  -- after the blank column of a clear the lists decide what is known
+  behind-blank : int_le eject_penalty f.penalty ≡ true → kind ≡ once → o.state.first_column ≡ true → waiting_floats o.state.floats ≤ waiting_floats s.floats → o.state.dead_cycles ≡ 0 → Bounded p m done
+  behind-blank h is first fewer d = by_double (some-or-none o.state.floats.double)
+    where
+      r : Again a (sorts f.rest)
+      r = ordinary-again a f.rest f.penalty h well.region
+
+      one : (j : Kind) → credit j ≤ 1 → 2 * way_floats o.state.floats + credit j ≤ 2 * way_floats s.floats + credit kind
+      one j l = least once 1 refl fewer j l (sym is)
+
+      first_done : done.first_column ≡ true
+      first_done = ordinary-goal.first ∙ first
+
+      by_areas : o.state.floats.double ≡ [] → (1 ≤ length o.state.floats.top) ⊎ (o.state.floats.top ≡ []) → (1 ≤ length o.state.floats.bottom) ⊎ (o.state.floats.bottom ≡ []) → Bounded p m done
+      by_areas e (inl t) b = out-by r topped (first_done, subst (λ (l : FloatLists). 1 ≤ length l.top + length l.bottom) (sym ordinary-goal.floats) (more-left (length o.state.floats.top) (length o.state.floats.bottom) t)) d (one topped (omega arith))
+        where
+          more-left : (x y : ℕ) → 1 ≤ x → 1 ≤ x + y
+          more-left x y h = omega arith
+      by_areas e (inr t) (inl b) = out-by r topped (first_done, subst (λ (l : FloatLists). 1 ≤ length l.top + length l.bottom) (sym ordinary-goal.floats) (more-right (length o.state.floats.top) (length o.state.floats.bottom) b)) d (one topped (omega arith))
+        where
+          more-right : (x y : ℕ) → 1 ≤ y → 1 ≤ x + y
+          more-right x y h = omega arith
+      by_areas e (inr t) (inr b) =
+          let q = ordinary-goal.quiet (no-hold f.penalty h) t b e in
+          let z = well.once is in
+          let waits : done.waiting ≡ f.rest = ap (λ ns. (f.held ++ ns) ++ f.rest) (ordinary-goal.back ∙ ap (λ ns. ns ++ ordinary-goal.blanks) out-fit.back ∙ q.0) ∙ ap (λ ns. (ns ++ []) ++ f.rest) z.1 in
+          out-by r ready (first_done, record {
+            goal = q.1;
+            void = ap (λ bs. box_content bs 254) (ordinary-goal.boxes ∙ out-fit.boxes) ∙ emptied-none w0.state.boxes 254;
+            rest = z.2.0;
+            fit = subst (Fitted Out.clear_penalty z.2.0) (sym waits) z.2.1;
+          }) d (one ready (omega arith))
+
+      by_double : (1 ≤ length o.state.floats.double) ⊎ (o.state.floats.double ≡ []) → Bounded p m done
+      by_double (inl e) = out-by r doubled (subst (λ (l : FloatLists). 1 ≤ length l.double) (sym ordinary-goal.floats) e) d (one doubled (omega arith))
+      by_double (inr e) = by_areas e (some-or-none o.state.floats.top) (some-or-none o.state.floats.bottom)
+
+  second-column : int_le eject_penalty f.penalty ≡ true → s.two_columns ≡ true → s.first_column ≡ false → Result o
+  second-column h t c r = by_fewer l.fewer
+    where
+      l : LastOut (Fits p) p w0 o
+      l = last-out (Fits p) p f.body w0 (inr c)
+
+      z : Again a (sorts f.rest)
+      z = ordinary-again a f.rest f.penalty h well.region
+
+      d : o.state.dead_cycles ≡ 0
+      d = l.cycles r
+
+      fewer-by : (n x y : ℕ) → 1 ≤ n → x + n ≤ y → x + 1 ≤ y
+      fewer-by n x y h k = omega arith
+
+      double-of : (x y t d : ℕ) → 1 ≤ d → x + (t + d) ≤ y → x + 1 ≤ y
+      double-of x y t d h k = omega arith
+
+      by_kind : (k : Kind) → k ≡ kind → Holds p s a k → (o.state.first_column ≡ true) → (waiting_floats o.state.floats + (length s.floats.top + length s.floats.bottom + length s.floats.double) ≤ waiting_floats s.floats) → Bounded p m done
+      by_kind any e i first n = out-by z any tt d (least any 2 refl out-fit.floats any (omega arith) e)
+      by_kind doubled e i first n = any-by z d (double-of (waiting_floats o.state.floats) (waiting_floats s.floats) (length s.floats.top + length s.floats.bottom) (length s.floats.double) i n)
+      by_kind once e i first n = behind-blank h (sym e) first out-fit.floats d
+      by_kind topped e i first n = true-false s.first_column i.0 c
+      by_kind ready e i first n = true-false s.first_column i.0 c
+      by_kind halted e i first n = any-by z d (double-of (waiting_floats o.state.floats) (waiting_floats s.floats) (length s.floats.top + length s.floats.bottom) (length s.floats.double) i.2 n)
+      by_kind clean e i first n = out-by z clean (subst NoneWait (sym ordinary-goal.floats) (none-left o.state.floats (subst (λ (x : ℕ). waiting_floats o.state.floats ≤ x) (none-count s.floats i) out-fit.floats))) d (least clean 0 refl out-fit.floats clean (omega arith) e)
+      by_kind single e i first n = true-false s.two_columns t i
+      by_kind closed e i first n = out-by z closed i d (least closed 0 refl out-fit.floats closed (omega arith) e)
+
+      by_fewer : (waiting_floats o.state.floats + 1 ≤ waiting_floats s.floats) ⊎ ((s.two_columns ≡ true → o.state.first_column ≡ true) × (waiting_floats o.state.floats + (length s.floats.top + length s.floats.bottom) ≤ waiting_floats s.floats) × (s.two_columns ≡ true → waiting_floats o.state.floats + (length s.floats.top + length s.floats.bottom + length s.floats.double) ≤ waiting_floats s.floats)) → Bounded p m done
+      by_fewer (inl n) = any-by z d n
+      by_fewer (inr n) = by_kind kind refl holds (n.0 t) (n.2 t)
+
+  -- ---- the first of two columns
+
+  -- where the column is kept: the phase goes on from the first to the second
+  kept-by : Again a (sorts f.rest) → s.two_columns ≡ true → s.first_column ≡ true → o.state.first_column ≡ false → (k : Kind) → Holds p done a k → o.state.dead_cycles ≡ s.dead_cycles + 1 → 2 * way_floats o.state.floats + credit k ≤ 2 * way_floats s.floats + credit kind → Bounded p m done
+  kept-by r t c first k h d l = by_phase phase refl at
+    where
+      is_second : IsSecond done
+      is_second = record { columns = ordinary-goal.columns ∙ out-fit.columns ∙ t; first = ordinary-goal.first ∙ first }
+
+      sums : (b r y y' c c' x : ℕ) → b ≡ 0 → r + x ≤ total → 2 * y + c ≤ 2 * y' + c' → total + 2 * y' + c' ≤ m + 2 * a → b + r + 2 * y + c ≤ m + 2 * a
+      sums b r y y' c c' x i j k l = omega arith
+
+      sums-with : (b r y y' c c' x d d' : ℕ) → b ≡ 0 → r + x ≤ total → 2 * y + c ≤ 2 * y' + c' → d ≡ d' + 1 → d' + total + 2 * y' + c' + 2 ≤ m + 2 + 2 * a → d + (b + r) + 2 * y + c + 1 ≤ m + 2 + 2 * a
+      sums-with b r y y' c c' x d d' i j k n q = omega arith
+
+      by_phase : (x : Phase) → x ≡ phase → PhaseHolds s x → Bounded p m done
+      by_phase starting e i = finish p m f well.held o a k second (o-region r) h is_second o-fits
+          (sums (wait_cost o.put_back) (wait_cost f.rest) (way_floats o.state.floats) (way_floats s.floats) (credit k) (credit kind) (sort_cost (pen_sort f.penalty)) o-cost well.cost l weight)
+          (sums-with (wait_cost o.put_back) (wait_cost f.rest) (way_floats o.state.floats) (way_floats s.floats) (credit k) (credit kind) (sort_cost (pen_sort f.penalty)) o.state.dead_cycles s.dead_cycles o-cost well.cost l d (subst (λ (y : Phase). s.dead_cycles + total + 2 * way_floats s.floats + credit kind + phase_cost y ≤ m + 2 + 2 * a) (sym e) bound))
+      by_phase second e i = true-false s.first_column c i.first
+      by_phase ending e i = true-false s.first_column c i.0.first
+
+  first-column : int_le eject_penalty f.penalty ≡ true → s.two_columns ≡ true → s.first_column ≡ true → Result o
+  first-column h t c r = by_out ((first-out (Fits p) p f.body w0 t c).by r)
+    where
+      z : Again a (sorts f.rest)
+      z = ordinary-again a f.rest f.penalty h well.region
+
+      one-less : (x y n : ℕ) → 1 ≤ n → x + n ≤ y → x + 1 ≤ y
+      one-less x y n h k = omega arith
+
+      two-less : (x y c : ℕ) → x + 1 ≤ y + 0 → 2 * x + 2 ≤ 2 * y + c
+      two-less x y c h = omega arith
+
+      plus-zero : (x y : ℕ) → x + 1 ≤ y → x + 1 ≤ y + 0
+      plus-zero x y h = omega arith
+
+      by_kind : (k : Kind) → k ≡ kind → Holds p s a k → o.state.first_column ≡ false → o.state.floats.double ≡ s.floats.double → waiting_floats o.state.floats + (length s.floats.top + length s.floats.bottom) ≤ waiting_floats s.floats → o.state.dead_cycles ≡ s.dead_cycles + 1 → Bounded p m done
+      by_kind any e i first double n d = kept-by z t c first any tt d (least any 2 refl out-fit.floats any (omega arith) e)
+      by_kind doubled e i first double n d = kept-by z t c first doubled (subst (λ (fs : List Float). 1 ≤ length fs) (sym (ap (λ (l : FloatLists). l.double) ordinary-goal.floats ∙ double)) i) d (least doubled 1 refl out-fit.floats doubled (omega arith) e)
+      by_kind once e i first double n d = true-false s.first_column c i.0.first
+      by_kind topped e i first double n d = kept-by z t c first any tt d (two-less (way_floats o.state.floats) (way_floats s.floats) (credit kind) (o-way 1 0 (plus-zero (waiting_floats o.state.floats) (waiting_floats s.floats) (one-less (waiting_floats o.state.floats) (waiting_floats s.floats) (length s.floats.top + length s.floats.bottom) i.1 n))))
+      by_kind ready e i first double n d = true-false (Out.is_int f.penalty Out.clear_penalty) (well.ready (sym e)).0 (no-clear f.penalty h)
+      by_kind halted e i first double n d = true-false s.first_column c i.0.first
+      by_kind clean e i first double n d = kept-by z t c first clean (subst NoneWait (sym ordinary-goal.floats) (none-left o.state.floats (subst (λ (x : ℕ). waiting_floats o.state.floats ≤ x) (none-count s.floats i) out-fit.floats))) d (least clean 0 refl out-fit.floats clean (omega arith) e)
+      by_kind single e i first double n d = true-false s.two_columns t i
+      by_kind closed e i first double n d = kept-by z t c first closed i d (least closed 0 refl out-fit.floats closed (omega arith) e)
+
+      by_out : ((o.state.dead_cycles ≡ 0) × (waiting_floats o.state.floats + 1 ≤ waiting_floats s.floats)) ⊎ ((o.state.first_column ≡ false) × (o.state.floats.double ≡ s.floats.double) × (waiting_floats o.state.floats + (length s.floats.top + length s.floats.bottom) ≤ waiting_floats s.floats) × (o.state.dead_cycles ≡ s.dead_cycles + 1)) → Bounded p m done
+      by_out (inl x) = any-by z x.0 x.1
+      by_out (inr x) = by_kind kind refl holds x.0 x.1 x.2 x.3
+
+  pub at-ordinary : int_le eject_penalty f.penalty ≡ true → Result (Columns.ordinary p f.body w0)
+  at-ordinary h = by_columns s.two_columns s.first_column refl refl
+    where
+      by_columns : (t c : Bool) → s.two_columns ≡ t → s.first_column ≡ c → Result (Columns.ordinary p f.body w0)
+      by_columns false c i j = one-column h i
+      by_columns true true i j = first-column h i j
+      by_columns true false i j = second-column h i j
