@@ -218,7 +218,7 @@ module _ (P : Float → Type 0) (p : Params) where
 
   -- ---- the cases
 
-  gathered-count : (body : List PlainNode) (w : Work) → waiting_floats (gathered p body w).state.floats ≡ waiting_floats w.state.floats
+  pub gathered-count : (body : List PlainNode) (w : Work) → waiting_floats (gathered p body w).state.floats ≡ waiting_floats w.state.floats
   gathered-count body w =
       let h : length (w.state.floats.top ++ w.state.floats.bottom ++ w.state.floats.deferred) ≡ length (w.state.floats.top ++ w.state.floats.bottom) + length w.state.floats.deferred = both-long P (w.state.floats.top ++ w.state.floats.bottom) w.state.floats.deferred in
       let k : length (w.state.floats.top ++ w.state.floats.bottom) ≡ length w.state.floats.top + length w.state.floats.bottom = both-long P w.state.floats.top w.state.floats.bottom in
@@ -231,13 +231,13 @@ module _ (P : Float → Type 0) (p : Params) where
   none-left : (l : FloatLists) → waiting_floats l ≤ 0 → NoneWait l
   none-left l h = record { top = no-length l.top (omega arith); bottom = no-length l.bottom (omega arith); deferred = no-length l.deferred (omega arith); double = no-length l.double (omega arith) }
 
-  halved-state : (t u : Bool) (a : Work) → (more t (halves u a)).state ≡ a.state
+  pub halved-state : (t u : Bool) (a : Work) → (more t (halves u a)).state ≡ a.state
   halved-state true true a = refl
   halved-state true false a = refl
   halved-state false true a = refl
   halved-state false false a = refl
 
-  halved-refused : (t u : Bool) (a : Work) → (more t (halves u a)).refused ≡ a.refused
+  pub halved-refused : (t u : Bool) (a : Work) → (more t (halves u a)).refused ≡ a.refused
   halved-refused true true a = refl
   halved-refused true false a = refl
   halved-refused false true a = refl
@@ -255,6 +255,14 @@ module _ (P : Float → Type 0) (p : Params) where
 
   nothing-rest : (a b : Work) (t : IsTail a b) → NoneWait b.state.floats → t.rest ≡ false
   nothing-rest a b t h = sym t.left ∙ ap has_floats h.deferred
+
+  -- what holds of all floats that wait holds after a clear
+  pub clear-all : (body : List PlainNode) (w : Work) → AllWait P w.state.floats → AllWait P (Clear.clear_floats p body w).state.floats
+  clear-all body w h =
+      let c = gathered p body w in
+      let d = Columns.all_float_columns p true c in
+      let t = is-tail d in
+      t.follows.all (subst (λ (s : State). AllWait P s.floats) (sym (halved-state t.rest t.half d)) ((follows-float_columns P p true (length c.state.floats.deferred) c).all (gathered-all w.state.floats h)))
 
 module _ (p : Params) (body : List PlainNode) (w : Work) (good : WaitsWell p w.state) where
   abbrev P : Float → Type 0

@@ -286,7 +286,7 @@ module _ (P : Float → Type 0) (p : Params) where
   -- ---- an ordinary firing
 
   -- the text column takes the floats of its areas
-  text-follows : (w : Work) → waiting_floats (Columns.without_column_floats w).state.floats + (length w.state.floats.top + length w.state.floats.bottom) ≡ waiting_floats w.state.floats
+  pub text-follows : (w : Work) → waiting_floats (Columns.without_column_floats w).state.floats + (length w.state.floats.top + length w.state.floats.bottom) ≡ waiting_floats w.state.floats
   text-follows w = omega arith
 
   -- the text column goes, with the floats of its areas
@@ -313,7 +313,7 @@ module _ (P : Float → Type 0) (p : Params) where
     pub floats : waiting_floats b.state.floats ≤ waiting_floats w.state.floats
     pub all : AllWait P w.state.floats → AllWait P b.state.floats
 
-  text-out : (body : List PlainNode) (w b : Work) → Follows P (Columns.put_out_text p body w) b → TextOut w b
+  pub text-out : (body : List PlainNode) (w b : Work) → Follows P (Columns.put_out_text p body w) b → TextOut w b
   text-out body w b y =
       let v = Columns.without_column_floats w in
       let x : Follows P (Columns.without_column_floats w) (Columns.put_out_text p body w) = follows-put_out P p (text_column p w.state.floats body (footnotes w.state)) v in

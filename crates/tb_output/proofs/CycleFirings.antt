@@ -84,6 +84,7 @@ pub record FiresWell (p : Params) (s : State) (total : ℕ) (n : ℕ) (kind : Ki
   pub body : wait_cost (s.held_page ++ Text.without_firing_box f.body) ≡ 0
   -- a page that ends a second column is ordinary
   pub ending : phase ≡ ending → int_le eject_penalty f.penalty ≡ true
+  pub halted : kind ≡ halted → int_le eject_penalty f.penalty ≡ true
   -- behind a blank column a clear comes, and the page in between fits
   pub once : kind ≡ once → (int_le eject_penalty f.penalty ≡ true) × (f.held ≡ []) × ((rest : List PlainNode) × Fitted Out.clear_penalty rest f.rest)
   -- a clear without footnotes comes next
@@ -93,7 +94,7 @@ pub record FiresWell (p : Params) (s : State) (total : ℕ) (n : ℕ) (kind : Ki
 
 -- ---- the state after the goal is set
 
-fits-same : (p : Params) (s t : State) → t.floats ≡ s.floats → t.two_columns ≡ s.two_columns → FloatsFit p s → FloatsFit p t
+pub fits-same : (p : Params) (s t : State) → t.floats ≡ s.floats → t.two_columns ≡ s.two_columns → FloatsFit p s → FloatsFit p t
 fits-same p s t e c h = record {
   fit = subst (AllWait (Fits p)) (sym e) h.fit;
   current = subst (λ (l : FloatLists). AllCurrent (Fits p) l.current) (sym e) h.current;
@@ -125,7 +126,7 @@ module _ (p : Params) (m : ℕ) (f : Fired) (held : AllIns 254 f.held) (w : Work
   abbrev goal : GoalOut p f.penalty w (Out.next_goal p f.penalty w)
   goal = goal-out p f.penalty w
 
-  waits : after.waiting ≡ f.held ++ ((w.put_back ++ goal.blanks) ++ f.rest)
+  pub waits : after.waiting ≡ f.held ++ ((w.put_back ++ goal.blanks) ++ f.rest)
   waits = ap (λ ns. (f.held ++ ns) ++ f.rest) goal.back ∙ append_assoc f.held (w.put_back ++ goal.blanks) f.rest
 
   wait-total : wait_cost after.waiting ≡ wait_cost w.put_back + wait_cost f.rest
@@ -179,20 +180,20 @@ module _ (p : Params) (m : ℕ) (f : Fired) (held : AllIns 254 f.held) (w : Work
 
 -- ---- small facts
 
-none-count : (l : FloatLists) → NoneWait l → waiting_floats l ≡ 0
+pub none-count : (l : FloatLists) → NoneWait l → waiting_floats l ≡ 0
 none-count l h = rw (h.top, h.bottom, h.deferred, h.double) refl
 
 no-length : (fs : List Float) → length fs ≤ 0 → fs ≡ []
 no-length [] h = refl
 no-length (f ∷ fs) h = let no : ⊥ = omega arith in absurd no
 
-none-left : (l : FloatLists) → waiting_floats l ≤ 0 → NoneWait l
+pub none-left : (l : FloatLists) → waiting_floats l ≤ 0 → NoneWait l
 none-left l h = record { top = no-length l.top (omega arith); bottom = no-length l.bottom (omega arith); deferred = no-length l.deferred (omega arith); double = no-length l.double (omega arith) }
 
-true-false : {X : Type 0} (t : Bool) → t ≡ true → t ≡ false → X
+pub true-false : {X : Type 0} (t : Bool) → t ≡ true → t ≡ false → X
 true-false t h k = let no : true ≡ false = sym h ∙ k in cc
 
-emptied-none : (bs : List Boxed) (k : ℕ) → box_content (Columns.emptied_boxes bs) k ≡ None
+pub emptied-none : (bs : List Boxed) (k : ℕ) → box_content (Columns.emptied_boxes bs) k ≡ None
 emptied-none [] k = refl
 emptied-none (b ∷ bs) k = by_number (b.number == k) (emptied-none bs k)
   where
@@ -204,14 +205,14 @@ emptied-none (b ∷ bs) k = by_number (b.number == k) (emptied-none bs k)
 no-hold : (q : ℤ) → int_le eject_penalty q ≡ true → Out.is_int q Out.hold_penalty ≡ false
 no-hold q h = grind (arith, ints, h)
 
-no-clear : (q : ℤ) → int_le eject_penalty q ≡ true → Out.is_int q Out.clear_penalty ≡ false
+pub no-clear : (q : ℤ) → int_le eject_penalty q ≡ true → Out.is_int q Out.clear_penalty ≡ false
 no-clear q h = grind (arith, ints, h)
 
-clear-no-hold : (q : ℤ) → Out.is_int q Out.clear_penalty ≡ true → Out.is_int q Out.hold_penalty ≡ false
+pub clear-no-hold : (q : ℤ) → Out.is_int q Out.clear_penalty ≡ true → Out.is_int q Out.hold_penalty ≡ false
 clear-no-hold q h = grind (arith, ints, h)
 
 -- a list has a float, or none
-some-or-none : (fs : List Float) → (1 ≤ length fs) ⊎ (fs ≡ [])
+pub some-or-none : (fs : List Float) → (1 ≤ length fs) ⊎ (fs ≡ [])
 some-or-none [] = inr refl
 some-or-none (f ∷ fs) = inl (omega arith)
 
@@ -282,7 +283,7 @@ module _ (p : Params) (m : ℕ) (s : State) (total a : ℕ) (kind : Kind) (phase
 
   -- ---- an ordinary firing
 
-  text-fits : (w : Work) → TextOut (Fits p) p w0 w → TextOut Single p w0 w → KeepsDouble w0 w → FloatsFit p w.state
+  pub text-fits : (w : Work) → TextOut (Fits p) p w0 w → TextOut Single p w0 w → KeepsDouble w0 w → FloatsFit p w.state
   text-fits w x y z = record {
     fit = x.all floats.fit;
     current = subst (AllCurrent (Fits p)) (sym x.current) floats.current;
