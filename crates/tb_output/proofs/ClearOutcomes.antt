@@ -124,7 +124,7 @@ module _ (P : Float → Type 0) (p : Params) where
   follows-more false a b x = x
 
   -- the floats of the areas wait again, as many as before
-  gathered-all : (l : FloatLists) → AllWait P l → AllWait P (Clear.deferred_again l)
+  pub gathered-all : (l : FloatLists) → AllWait P l → AllWait P (Clear.deferred_again l)
   gathered-all l h = record { top = tt; bottom = tt; deferred = all-both P (l.top ++ l.bottom) l.deferred (all-both P l.top l.bottom h.top h.bottom) h.deferred; double = h.double }
 
   double-all : (l : FloatLists) → AllWait P l → AllWait P (Clear.double_again l)

@@ -29,7 +29,7 @@ use Rattle.tb_output.proofs.CycleStates.{Kind, any, doubled, once, topped, ready
 use Rattle.tb_output.proofs.CycleFirings.{clear-sort, FiresWell, fits-same, after, waits, finish, finish-shipped, none-count, none-left, true-false, clear-no-hold, some-or-none, text-fits}
 
 -- a clear of an item, or one of the routine, of which there is one fewer then
-left-of : (a : ℕ) → (a ≡ 0) ⊎ (a ≡ left_after a clear + 1)
+pub left-of : (a : ℕ) → (a ≡ 0) ⊎ (a ≡ left_after a clear + 1)
 left-of zero = inl refl
 left-of (suc a) = inr (omega arith)
 
@@ -50,26 +50,26 @@ module _ (p : Params) (m : ℕ) (s : State) (total a : ℕ) (kind : Kind) (phase
   abbrev d : ℕ
   d = left_after a clear
 
-  is-clear : pen_sort f.penalty ≡ clear
+  pub is-clear : pen_sort f.penalty ≡ clear
   is-clear = clear-sort f.penalty special clears
 
-  region : Again d (sorts f.rest)
+  pub region : Again d (sorts f.rest)
   region = subst (λ (x : Sort). BreakAgain a f.rest x) is-clear well.region
 
-  cost : wait_cost f.rest + 3 ≤ total
+  pub cost : wait_cost f.rest + 3 ≤ total
   cost = subst (λ (x : Sort). wait_cost f.rest + sort_cost x ≤ total) is-clear well.cost
 
-  at-most-one : a ≤ d + 1
+  pub at-most-one : a ≤ d + 1
   at-most-one = by_left (left-of a)
     where
       by_left : (a ≡ 0) ⊎ (a ≡ d + 1) → a ≤ d + 1
       by_left (inl e) = omega arith
       by_left (inr e) = omega arith
 
-  not-once : kind ≡ once → {X : Type 0} → X
+  pub not-once : kind ≡ once → {X : Type 0} → X
   not-once e = true-false (int_le eject_penalty f.penalty) (well.once e).0 special
 
-  not-halted : kind ≡ halted → {X : Type 0} → X
+  pub not-halted : kind ≡ halted → {X : Type 0} → X
   not-halted e = true-false (int_le eject_penalty f.penalty) (well.halted e) special
 
   -- ---- with footnotes: a column is put out, and the clear comes again
