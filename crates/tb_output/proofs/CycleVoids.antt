@@ -263,3 +263,154 @@ module _ (p : Params) (m : ℕ) (s : State) (total a : ℕ) (kind : Kind) (phase
       by_cycles : (v.state.dead_cycles ≡ s.dead_cycles + 1) ⊎ (v.state.dead_cycles ≡ 0) → Bounded p m v-done
       by_cycles (inl x) = v-quiet starting tt x clean known (less (2 * way_floats v.state.floats + 0 + 2 * a + (3 * bit c.half + 3 * bit c.rest)) (2 * way_floats s.floats + credit kind + 2 * later + 3) e) (sums (2 * way_floats v.state.floats + 0 + 2 * a + (3 * bit c.half + 3 * bit c.rest)) (2 * way_floats s.floats + credit kind + 2 * later + 3) (phase_cost phase) e (ap phase_cost (is-starting o)))
       by_cycles (inr x) = v-shipped x clean known (less (2 * way_floats v.state.floats + 0 + 2 * a + (3 * bit c.half + 3 * bit c.rest)) (2 * way_floats s.floats + credit kind + 2 * later + 3) e)
+
+  -- ---- a second column is left blank
+
+  module _ (half : c.half ≡ true) (two : s.two_columns ≡ true) (first : v.state.first_column ≡ false) (top : v.state.floats.top ≡ []) (bottom : v.state.floats.bottom ≡ []) (double : v.state.floats.double ≡ s.floats.double) (fewer : s.first_column ≡ true → waiting_floats v.state.floats + 1 ≤ waiting_floats s.floats) where
+    -- what stands behind the blank column and its clear
+    abbrev tail : List PlainNode
+    tail = (rest_nodes c.rest ++ v-goal.blanks) ++ f.rest
+
+    waiting : v-done.waiting ≡ front ++ (made blank_box ∷ Clear.clear_again ++ tail)
+    waiting =
+        waits p m f well.held v
+        ∙ ap (λ ns. ns ++ ((v.put_back ++ v-goal.blanks) ++ f.rest)) (well.blank clears void).0
+        ∙ ap (λ ns. (ns ++ v-goal.blanks) ++ f.rest) (v-back ∙ ap (λ t. front ++ (half_nodes t ++ rest_nodes c.rest)) half)
+        ∙ ap (λ ns. ns ++ f.rest) (append_assoc front (half_nodes true ++ rest_nodes c.rest) v-goal.blanks)
+        ∙ append_assoc front ((half_nodes true ++ rest_nodes c.rest) ++ v-goal.blanks) f.rest
+        ∙ ap (λ ns. front ++ (ns ++ f.rest)) (append_assoc (half_nodes true) (rest_nodes c.rest) v-goal.blanks)
+        ∙ ap (λ ns. front ++ ns) (append_assoc (half_nodes true) (rest_nodes c.rest ++ v-goal.blanks) f.rest)
+
+    is_second : IsSecond v-done
+    is_second = record { columns = v-goal.columns ∙ v-columns ∙ two; first = v-goal.first ∙ first }
+
+    paused : Paused v-done.waiting
+    paused = subst Paused (sym waiting) ((well.blank clears void).1 tail).1
+
+    once-holds : v.state.floats.double ≡ [] → Holds p v-done later once
+    once-holds e = (is_second, paused, record {
+      goal = (v-goal.quiet (clear-no-hold f.penalty clears) top bottom e).1;
+      rest = tail;
+      fit = subst (Fitted eject_penalty (made whatsit ∷ made blank_box ∷ made (pen Out.clear_penalty) ∷ tail)) (sym waiting) ((well.blank clears void).1 tail).0;
+    })
+
+    -- what is known then, and its credit
+    data Left : Type 0 where
+      above : 1 ≤ length v.state.floats.double → Left
+      nothing : v.state.floats.double ≡ [] → c.rest ≡ false → Left
+      deferred : v.state.floats.double ≡ [] → c.rest ≡ true → Left
+
+    abbrev kind_left : Left → Kind
+    kind_left (above h) = halted
+    kind_left (nothing e r) = clean
+    kind_left (deferred e r) = once
+
+    no-floats : (fs : List Float) → has_floats fs ≡ false → fs ≡ []
+    no-floats [] h = refl
+    no-floats (x ∷ fs) h = let no : ⊥ = grind (arith, h) in absurd no
+
+    left-holds : (l : Left) → Holds p v-done later (kind_left l)
+    left-holds (above h) = (is_second, paused, subst (λ (x : FloatLists). 1 ≤ length x.double) (sym v-goal.floats) h)
+    left-holds (nothing e r) = subst NoneWait (sym v-goal.floats) (record { top = top; bottom = bottom; deferred = no-floats v.state.floats.deferred (c.left ∙ r); double = e })
+    left-holds (deferred e r) = once-holds e
+
+    is-left : Left
+    is-left = by_double (some-or-none v.state.floats.double) c.rest refl
+      where
+        by_double : (1 ≤ length v.state.floats.double) ⊎ (v.state.floats.double ≡ []) → (t : Bool) → c.rest ≡ t → Left
+        by_double (inl h) t r = above h
+        by_double (inr e) true r = deferred e r
+        by_double (inr e) false r = nothing e r
+
+    bit-most : (t : Bool) → bit t ≤ 1
+    bit-most true = omega arith
+    bit-most false = omega arith
+
+    left-most : (l : Left) → credit (kind_left l) + bit c.rest ≤ 2
+    left-most (above h) = let k : bit c.rest ≤ 1 = bit-most c.rest in omega arith
+    left-most (nothing e r) = let k : bit c.rest ≤ 1 = bit-most c.rest in omega arith
+    left-most (deferred e r) = let k : bit c.rest ≤ 1 = bit-most c.rest in omega arith
+
+    not-above : {X : Type 0} → 1 ≤ length v.state.floats.double → s.floats.double ≡ [] → X
+    not-above h e = let k : length v.state.floats.double ≡ 0 = ap length (double ∙ e) in absurd (no (length v.state.floats.double) h k)
+      where
+        no : (x : ℕ) → 1 ≤ x → x ≡ 0 → ⊥
+        no x h k = omega arith
+
+    none-above : {X : Type 0} → 1 ≤ length s.floats.double → v.state.floats.double ≡ [] → X
+    none-above h e = let k : length s.floats.double ≡ 0 = ap length (sym double ∙ e) in absurd (no (length s.floats.double) h k)
+      where
+        no : (x : ℕ) → 1 ≤ x → x ≡ 0 → ⊥
+        no x h k = omega arith
+
+    none-deferred : {X : Type 0} → NoneWait s.floats → c.rest ≡ true → X
+    none-deferred i r =
+        let n : NoneWait v.state.floats = none-left v.state.floats (subst (λ (x : ℕ). waiting_floats v.state.floats ≤ x) (none-count s.floats i) v-floats) in
+        true-false c.rest r (sym c.left ∙ ap has_floats n.deferred)
+
+    -- at a second column the credit pays for it
+    left-paid : s.first_column ≡ false → a ≡ d + 1 → (l : Left) → credit (kind_left l) + bit c.rest ≤ credit kind
+    left-paid g e l = by_kind kind refl holds l
+      where
+        by_kind : (k : Kind) → k ≡ kind → Holds p s a k → (l : Left) → credit (kind_left l) + bit c.rest ≤ credit k
+        by_kind any i h l = left-most l
+        by_kind doubled i h (above x) = let k : bit c.rest ≤ 1 = bit-most c.rest in omega arith
+        by_kind doubled i h (nothing x r) = none-above h x
+        by_kind doubled i h (deferred x r) = none-above h x
+        by_kind once i h l = not-once p m s total a kind phase f calm holds at floats weight bound well special clears (sym i)
+        by_kind topped i h l = true-false s.first_column h.0 g
+        by_kind ready i h l = true-false s.first_column h.0 g
+        by_kind halted i h l = not-halted p m s total a kind phase f calm holds at floats weight bound well special clears (sym i)
+        by_kind clean i h (above x) = not-above x h.double
+        by_kind clean i h (nothing x r) = let k : bit c.rest ≡ 0 = ap bit r in omega arith
+        by_kind clean i h (deferred x r) = none-deferred h r
+        by_kind single i h l = true-false s.two_columns two h
+        by_kind closed i h l = absurd (no a d h e)
+          where
+            no : (x y : ℕ) → x ≡ 0 → x ≡ y + 1 → ⊥
+            no x y h k = omega arith
+
+    -- the floats, the credit and the phase pay for it in each case
+    left-sums : (l : Left) → Sums (credit (kind_left l)) × (2 * way_floats v.state.floats + credit (kind_left l) + 2 * a + (3 * bit c.half + 3 * bit c.rest) + 0 + 1 ≤ 2 * way_floats s.floats + credit kind + 2 * later + 3 + phase_cost phase)
+    left-sums l = by_column s.first_column refl (left-of a)
+      where
+        one : bit c.half ≡ 1
+        one = ap bit half
+
+        at-first : (x y k j t h q : ℕ) → h ≡ 1 → x + 1 ≤ y + 0 → a ≤ d + 1 → k + t ≤ 2 → q ≡ 2 → (2 * x + k + 2 * a + (3 * h + 3 * t) ≤ 2 * y + j + 2 * (d + h + t) + 3) × (2 * x + k + 2 * a + (3 * h + 3 * t) + 0 + 1 ≤ 2 * y + j + 2 * (d + h + t) + 3 + q)
+        at-first x y k j t h q h1 h2 h3 h4 h5 = (omega arith, omega arith)
+
+        at-item : (x y k j t h q : ℕ) → h ≡ 1 → x ≤ y → a ≡ 0 → k + t ≤ 2 → 1 ≤ q → (2 * x + k + 2 * a + (3 * h + 3 * t) ≤ 2 * y + j + 2 * (d + h + t) + 3) × (2 * x + k + 2 * a + (3 * h + 3 * t) + 0 + 1 ≤ 2 * y + j + 2 * (d + h + t) + 3 + q)
+        at-item x y k j t h q h1 h2 h3 h4 h5 = (omega arith, omega arith)
+
+        at-again : (x y k j t h q : ℕ) → h ≡ 1 → x ≤ y → a ≡ d + 1 → k + t ≤ j → 1 ≤ q → (2 * x + k + 2 * a + (3 * h + 3 * t) ≤ 2 * y + j + 2 * (d + h + t) + 3) × (2 * x + k + 2 * a + (3 * h + 3 * t) + 0 + 1 ≤ 2 * y + j + 2 * (d + h + t) + 3 + q)
+        at-again x y k j t h q h1 h2 h3 h4 h5 = (omega arith, omega arith)
+
+        not-ending : 1 ≤ phase_cost phase
+        not-ending = by_phase phase well.ending
+          where
+            by_phase : (x : Phase) → (x ≡ ending → int_le eject_penalty f.penalty ≡ true) → 1 ≤ phase_cost x
+            by_phase starting e = omega arith
+            by_phase second e = omega arith
+            by_phase ending e = true-false (int_le eject_penalty f.penalty) (e refl) special
+
+        by_column : (g : Bool) → s.first_column ≡ g → (a ≡ 0) ⊎ (a ≡ d + 1) → Sums (credit (kind_left l)) × (2 * way_floats v.state.floats + credit (kind_left l) + 2 * a + (3 * bit c.half + 3 * bit c.rest) + 0 + 1 ≤ 2 * way_floats s.floats + credit kind + 2 * later + 3 + phase_cost phase)
+        by_column true g z = at-first (way_floats v.state.floats) (way_floats s.floats) (credit (kind_left l)) (credit kind) (bit c.rest) (bit c.half) (phase_cost phase) one (v-way 1 0 (plus-zero 1 (waiting_floats v.state.floats) (waiting_floats s.floats) (fewer g))) most (left-most l) (ap phase_cost (is-starting (inr g)))
+        by_column false g (inl z) = at-item (way_floats v.state.floats) (way_floats s.floats) (credit (kind_left l)) (credit kind) (bit c.rest) (bit c.half) (phase_cost phase) one v-least z (left-most l) not-ending
+        by_column false g (inr z) = at-again (way_floats v.state.floats) (way_floats s.floats) (credit (kind_left l)) (credit kind) (bit c.rest) (bit c.half) (phase_cost phase) one v-least z (left-paid g z l) not-ending
+
+    blanked : v.refused ≡ false → Bounded p m v-done
+    blanked r = by_cycles (v-cycles r)
+      where
+        by_cycles : (v.state.dead_cycles ≡ s.dead_cycles + 1) ⊎ (v.state.dead_cycles ≡ 0) → Bounded p m v-done
+        by_cycles (inl x) = v-quiet ending (is_second, paused) x (kind_left is-left) (left-holds is-left) (left-sums is-left).0 (left-sums is-left).1
+        by_cycles (inr x) = v-shipped x (kind_left is-left) (left-holds is-left) (left-sums is-left).0
+
+  -- a clear without footnotes
+  pub at-void : v.refused ≡ false → Bounded p m (Out.waiting_again f (Out.next_goal p f.penalty (Clear.clear_floats p f.body w0))).state
+  at-void r = by_how c.how
+    where
+      by_how : How (Fits p) p w0 v c.half c.rest → Bounded p m v-done
+      by_how (inl h) = emptied r h.0 h.1 h.2 h.3
+      by_how (inr (inl h)) = blanked h.0 h.1 h.2 h.3 h.4 h.5 h.6 r
+      by_how (inr (inr h)) = v-shipped (h.0 r) any tt (out-sums c.half c.rest h.1 h.2)
