@@ -241,7 +241,7 @@ module _ (p : Params) (m : ℕ) (s : State) (total a : ℕ) (kind : Kind) (phase
       sums : (x y k : ℕ) → x ≤ y → a ≤ d + 1 → 2 * x + 0 + 2 * a ≤ 2 * y + k + 2 * suc d
       sums x y k h i = omega arith
 
-  with-notes : (notes : List Leaf) → footnotes w0.state ≡ Some notes → Result (Clear.clear_by p f.body w0 (Some notes))
+  pub with-notes : (notes : List Leaf) → footnotes w0.state ≡ Some notes → Result (Clear.clear_by p f.body w0 (Some notes))
   with-notes notes e r = by_columns s.two_columns s.first_column refl refl
     where
       by_columns : (t c : Bool) → s.two_columns ≡ t → s.first_column ≡ c → Bounded p m n-done

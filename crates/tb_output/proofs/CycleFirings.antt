@@ -264,10 +264,10 @@ module _ (p : Params) (m : ℕ) (s : State) (total a : ℕ) (kind : Kind) (phase
   begun-fits : (t : State) → t.floats ≡ s.floats → t.two_columns ≡ s.two_columns → FloatsFit p t
   begun-fits t e c = fits-same p s t e c floats
 
-  at-hold : int_le eject_penalty f.penalty ≡ false → pen_sort f.penalty ≡ hold → Result (Out.hold f.body w0)
+  pub at-hold : int_le eject_penalty f.penalty ≡ false → pen_sort f.penalty ≡ hold → Result (Out.hold f.body w0)
   at-hold h e = quiet-bounded (Out.hold f.body w0) h (none-again (inl e)) hold e refl refl refl refl (omega arith) refl (begun-fits (Out.hold f.body w0).state refl refl)
 
-  at-serve : (vert : Bool) → int_le eject_penalty f.penalty ≡ false → pen_sort f.penalty ≡ serve → Result (Text.float_or_note p vert f.body w0)
+  pub at-serve : (vert : Bool) → int_le eject_penalty f.penalty ≡ false → pen_sort f.penalty ≡ serve → Result (Text.float_or_note p vert f.body w0)
   at-serve vert h e =
       let w = Text.float_or_note p vert f.body w0 in
       let v : Work = record w0 { state = record w0.state { held_page = []; boxes = Columns.emptied_boxes w0.state.boxes } } in

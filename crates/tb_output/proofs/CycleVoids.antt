@@ -1,6 +1,6 @@
 -- A clear without footnotes lowers what is left of the firings without a page, or ships a page.
 use Rattle.std.proofs.Common.{◌≡◌, refl, sym, ◌∙◌, ap, subst, ℕ, zero, suc, ℤ, pos, ◌+◌, ◌*◌, ◌≤◌, inl, inr, ◌⊎◌, Bool, true, false, List, [], ◌∷◌, ◌++◌, length, Option, Some, None, arith}
-use Rattle.std.specs.Prelude.{int_le, if◌then◌else◌}
+use Rattle.std.specs.Prelude.{int_le, ◌||◌, if◌then◌else◌}
 use Rattle.std.specs.List.{AllByRecursion}
 use Rattle.std.proofs.lemmas.List.{append_assoc}
 use Rattle.tb_scaled.specs.Scaled.{eject_penalty}
@@ -12,6 +12,8 @@ use Rattle.tb_builder.proofs.FittingFired.{Fitted}
 use Rattle.tb_builder.proofs.PausedPages.{Paused}
 use Rattle.tb_float.specs.Lists.{FloatLists}
 use Rattle.tb_output.specs.State.{State, Work, begun, puts, footnotes, has_floats}
+use Rattle.tb_output.specs.Columns
+use Rattle.tb_output.specs.Text
 use Rattle.tb_output.specs.Clear
 use Rattle.tb_output.specs.Out
 use Rattle.tb_output.proofs.Sorts.{Sort, clear, pen_sort, sorts}
@@ -23,8 +25,8 @@ use Rattle.tb_output.proofs.ClearOutcomes.{NoneWait, Fits, Single, Wide, WaitsWe
 use Rattle.tb_output.proofs.WideLemmas.{DoubleFits, KeepsDouble, clear_by-double}
 use Rattle.tb_output.proofs.ServeOutcomes.{AllCurrent, current_floats, way_floats}
 use Rattle.tb_output.proofs.CycleStates.{Kind, any, doubled, once, topped, ready, halted, clean, single, closed, credit, Once, Ready, IsSecond, Holds, Phase, starting, second, ending, phase_cost, PhaseHolds, FloatsFit, Bounded, GoalOut, goal-out}
-use Rattle.tb_output.proofs.CycleFirings.{FiresWell, fits-same, after, waits, finish, finish-shipped, none-count, none-left, true-false, clear-no-hold, some-or-none}
-use Rattle.tb_output.proofs.CycleClears.{left-of, is-clear, region, cost, at-most-one, not-once, not-halted}
+use Rattle.tb_output.proofs.CycleFirings.{FiresWell, fits-same, after, waits, finish, finish-shipped, none-count, none-left, true-false, clear-no-hold, some-or-none, serve-sort, hold-sort, at-ordinary, at-serve, at-hold}
+use Rattle.tb_output.proofs.CycleClears.{left-of, is-clear, region, cost, at-most-one, not-once, not-halted, with-notes}
 
 -- ---- what is put back behind the front
 
@@ -414,3 +416,48 @@ module _ (p : Params) (m : ℕ) (s : State) (total a : ℕ) (kind : Kind) (phase
       by_how (inl h) = emptied r h.0 h.1 h.2 h.3
       by_how (inr (inl h)) = blanked h.0 h.1 h.2 h.3 h.4 h.5 h.6 r
       by_how (inr (inr h)) = v-shipped (h.0 r) any tt (out-sums c.half c.rest h.1 h.2)
+
+-- ---- every firing
+
+module _ (p : Params) (m : ℕ) (s : State) (total a : ℕ) (kind : Kind) (phase : Phase) (f : Fired) (calm : int_le p.interlinepenalty eject_penalty ≡ false)
+    (holds : Holds p s a kind) (at : PhaseHolds s phase) (floats : FloatsFit p s)
+    (weight : total + 2 * way_floats s.floats + credit kind ≤ m + 2 * a)
+    (bound : s.dead_cycles + total + 2 * way_floats s.floats + credit kind + phase_cost phase ≤ m + 2 + 2 * a)
+    (well : FiresWell p s total a kind phase f) where
+
+  abbrev started : Work
+  started = begun (Out.after_page s f)
+
+  abbrev Result : Work → Type 0
+  Result w = w.refused ≡ false → Bounded p m (Out.waiting_again f (Out.next_goal p f.penalty w)).state
+
+  at-clear : int_le eject_penalty f.penalty ≡ false → Out.is_int f.penalty Out.clear_penalty ≡ true → Result (Clear.clear p f.body started)
+  at-clear h k = by_notes (footnotes (record s { boxes = f.boxes })) refl
+    where
+      by_notes : (o : Option (List Leaf)) → footnotes (record s { boxes = f.boxes }) ≡ o → Result (Clear.clear_by p f.body started o)
+      by_notes None e r = at-void p m s total a kind phase f calm holds at floats weight bound well h k e r
+      by_notes (Some notes) e r = with-notes p m s total a kind phase f calm holds at floats weight bound well h k notes e r
+
+  outputs : Result (Out.output_by p f started)
+  outputs = by_tests (int_le eject_penalty f.penalty) (Out.is_int f.penalty Out.clear_penalty) (Out.is_int f.penalty Out.par_penalty) (Out.is_int f.penalty Out.vert_penalty) refl refl refl refl
+    where
+      left-or : (x y : Bool) → x ≡ true → (x || y) ≡ true
+      left-or x y h = grind (arith, h)
+
+      right-or : (x y : Bool) → y ≡ true → (x || y) ≡ true
+      right-or x y h = grind (arith, h)
+
+      none-or : (x y : Bool) → x ≡ false → y ≡ false → (x || y) ≡ false
+      none-or x y h k = grind (arith, h, k)
+
+      by_tests : (t k x y : Bool) → int_le eject_penalty f.penalty ≡ t → Out.is_int f.penalty Out.clear_penalty ≡ k → Out.is_int f.penalty Out.par_penalty ≡ x → Out.is_int f.penalty Out.vert_penalty ≡ y → Result (if t then Columns.ordinary p f.body started else (if k then Clear.clear p f.body started else (if x then Text.float_or_note p false f.body started else (if y then Text.float_or_note p true f.body started else Out.hold f.body started))))
+      by_tests true k x y e g i j = at-ordinary p m s total a kind phase f calm holds at floats weight bound well e
+      by_tests false true x y e g i j = at-clear e g
+      by_tests false false true y e g i j = at-serve p m s total a kind phase f calm holds at floats weight bound well false e (serve-sort f.penalty e g (left-or (Out.is_int f.penalty Out.par_penalty) (Out.is_int f.penalty Out.vert_penalty) i))
+      by_tests false false false true e g i j = at-serve p m s total a kind phase f calm holds at floats weight bound well true e (serve-sort f.penalty e g (right-or (Out.is_int f.penalty Out.par_penalty) (Out.is_int f.penalty Out.vert_penalty) j))
+      by_tests false false false false e g i j = at-hold p m s total a kind phase f calm holds at floats weight bound well e (hold-sort f.penalty e g (none-or (Out.is_int f.penalty Out.par_penalty) (Out.is_int f.penalty Out.vert_penalty) i j) well.regular)
+
+  -- a firing keeps the bound
+  pub out-bounded : (Out.out p s f).refused ≡ false → Bounded p m (Out.out p s f).state
+  unfolding Out.out
+  out-bounded r = outputs (sym (goal-out p f.penalty (Out.output_by p f started)).refused ∙ r)
