@@ -1,5 +1,5 @@
 -- Each clear stands directly behind a box of no size that holds nothing.
-use Rattle.std.proofs.Common.{◌≡◌, refl, sym, ◌∙◌, ap, subst, ℕ, zero, suc, ℤ, pos, Bool, true, false, List, [], ◌∷◌, ◌++◌, take, drop, arith}
+use Rattle.std.proofs.Common.{◌≡◌, refl, sym, ◌∙◌, ap, subst, ℕ, zero, suc, ℤ, pos, Bool, true, false, ◌+◌, List, [], ◌∷◌, ◌++◌, take, drop, arith}
 use Rattle.std.specs.Prelude.{int_le, ◌-ℤ◌, ◌&&◌, ◌||◌, if◌then◌else◌}
 use Rattle.std.specs.List.{AllByRecursion}
 use Rattle.std.proofs.lemmas.Int.{ints}
@@ -9,8 +9,9 @@ use Rattle.tb_node.specs.declared.What.TheVariants as what
 use Rattle.tb_node.specs.Plain.{hbox, rule, skip, kerned, pen, mark, note, whatsit, PlainKind, plain, ins, act, PlainNode, without_acts}
 use Rattle.tb_break.specs.Prune.{pruned_nodes}
 use Rattle.tb_builder.specs.Fired.{with_spent_break}
-use Rattle.tb_output.specs.Out.{is_int, clear_penalty}
-use Rattle.tb_output.proofs.Sorts.{Sort, kind_sort, sorts, Steady}
+use Rattle.tb_output.specs.Out.{is_int, clear_penalty, par_penalty, vert_penalty, hold_penalty}
+use Rattle.tb_output.proofs.Sorts.{Sort, light, pause, hold, serve, clear, odd, pen_sort}
+use Rattle.tb_output.proofs.WaitCosts.{sort_cost, kind_cost, wait_cost}
 
 -- a blank box of no size
 abbrev pub is_flat : PlainKind → Bool
@@ -122,3 +123,36 @@ spent-kind l (act a) b ns e = (tt, e)
 pub ended-spent : (b : Bool) (ns : List PlainNode) → Ended b ns → Ended false (with_spent_break ns)
 ended-spent b [] e = tt
 ended-spent b (n ∷ ns) e = spent-kind n.line n.kind b ns e.1
+
+-- ---- what costs nothing has no clear
+
+pen-no-clear : (p : ℤ) → sort_cost (pen_sort p) ≡ 0 → is_int p clear_penalty ≡ true → false ≡ true
+pen-no-clear p h k = by_tests (int_le p eject_penalty) (is_int p eject_penalty) (is_int p clear_penalty) (is_int p par_penalty || is_int p vert_penalty) (is_int p hold_penalty) (grind (arith, ints, k)) (grind (arith, ints, k)) k h
+  where
+    by_tests : (t e c x z : Bool) → t ≡ true → e ≡ false → c ≡ true → sort_cost (if t then (if e then pause else (if c then clear else (if x then serve else (if z then hold else odd)))) else light) ≡ 0 → false ≡ true
+    by_tests true false true x z u v w h = cc
+    by_tests true false false x z u v w h = let no : ⊥ = grind (arith, w) in absurd no
+    by_tests true true c x z u v w h = let no : ⊥ = grind (arith, v) in absurd no
+    by_tests false e c x z u v w h = let no : ⊥ = grind (arith, u) in absurd no
+
+free-kind : (k : PlainKind) → kind_cost k ≡ 0 → EndsAt false k
+free-kind (plain (hbox w h d)) e = tt
+free-kind (plain (rule name h d)) e = tt
+free-kind (plain (skip g)) e = tt
+free-kind (plain (kerned w)) e = tt
+free-kind (plain (pen p)) e = λ k. pen-no-clear p e k
+free-kind (plain (mark name)) e = tt
+free-kind (plain (note name)) e = tt
+free-kind (plain whatsit) e = tt
+free-kind (ins i) e = tt
+free-kind (act a) e = tt
+
+pub free-ended : (b : Bool) (ns : List PlainNode) → wait_cost ns ≡ 0 → Ended b ns
+free-ended b [] e = tt
+free-ended b (n ∷ ns) e = (ends-looser b n.kind (free-kind n.kind (first (kind_cost n.kind) (wait_cost ns) e)), free-ended (is_flat n.kind) ns (rest (kind_cost n.kind) (wait_cost ns) e))
+  where
+    first : (x y : ℕ) → x + y ≡ 0 → x ≡ 0
+    first x y h = omega arith
+
+    rest : (x y : ℕ) → x + y ≡ 0 → y ≡ 0
+    rest x y h = omega arith
