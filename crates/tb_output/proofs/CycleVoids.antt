@@ -30,14 +30,14 @@ use Rattle.tb_output.proofs.CycleClears.{left-of, is-clear, region, cost, at-mos
 
 -- ---- what is put back behind the front
 
-abbrev bit : Bool → ℕ
+abbrev pub bit : Bool → ℕ
 bit true = 1
 bit false = 0
 
-abbrev half_nodes : Bool → List PlainNode
+abbrev pub half_nodes : Bool → List PlainNode
 half_nodes t = if t then made blank_box ∷ Clear.clear_again else []
 
-abbrev rest_nodes : Bool → List PlainNode
+abbrev pub rest_nodes : Bool → List PlainNode
 rest_nodes t = if t then Clear.clear_again else []
 
 append-none : {X : Type 0} (xs : List X) → xs ++ [] ≡ xs
@@ -96,13 +96,13 @@ module _ (p : Params) (m : ℕ) (s : State) (total a : ℕ) (kind : Kind) (phase
   good : WaitsWell p w0.state
   good = record { fit = floats.fit; wide = floats.double.wide; single = λ k. ((floats.single k).0, floats.double.none k) }
 
-  c : ClearOut (Fits p) p f.body w0 v
+  pub c : ClearOut (Fits p) p f.body w0 v
   c = clear-out p f.body w0 good
 
   abbrev later : ℕ
   later = d + bit c.half + bit c.rest
 
-  v-back : v.put_back ≡ front ++ (half_nodes c.half ++ rest_nodes c.rest)
+  pub v-back : v.put_back ≡ front ++ (half_nodes c.half ++ rest_nodes c.rest)
   v-back = c.follows.back ∙ halved-back c.rest c.half (gathered p f.body w0)
 
   v-cost : wait_cost v.put_back ≡ 3 * bit c.half + 3 * bit c.rest
