@@ -126,7 +126,7 @@ module _ (p : Params) (m : ℕ) (s : State) (total a : ℕ) (kind : Kind) (phase
       sums b r y y' c k d' e' i j l o u = omega arith
 
       by_phase : (x : Phase) → x ≡ phase → PhaseHolds s x → Bounded p m n-done
-      by_phase starting g i = finish p m f well.held n (suc d) k second n-region h (record { columns = n-goal.columns ∙ q-out.columns ∙ t; first = n-goal.first ∙ first }) (n-fits notes) (n-weight (credit k) l)
+      by_phase starting g i = finish p m f well.held n (suc d) k second n-region h (record { columns = n-goal.columns ∙ q-out.columns ∙ t; first = n-goal.first ∙ first }) (λ e. cc) (n-fits notes) (n-weight (credit k) l)
           (sums (wait_cost n.put_back) (wait_cost f.rest) (way_floats n.state.floats) (way_floats s.floats) (credit k) (credit kind) n.state.dead_cycles s.dead_cycles n-cost cost l e (subst (λ (y : Phase). s.dead_cycles + total + 2 * way_floats s.floats + credit kind + phase_cost y ≤ m + 2 + 2 * a) (sym g) bound))
       by_phase second g i = true-false s.first_column c i.first
       by_phase ending g i = true-false s.first_column c i.0.first

@@ -140,17 +140,18 @@ module _ (p : Params) (m : ℕ) (f : Fired) (held : AllIns 254 f.held) (w : Work
   -- what is known after the output routine is known after the goal is set
   pub finish : (again : ℕ) (kind : Kind) (phase : Phase)
       → ((bs : List PlainNode) → AllByRecursion Idle (sorts bs) → Again again (sorts w.put_back ++ (sorts bs ++ sorts f.rest)))
-      → Holds p after again kind → PhaseHolds after phase → FloatsFit p w.state
+      → Holds p after again kind → PhaseHolds after phase → (phase ≡ ending → 1 ≤ again) → FloatsFit p w.state
       → wait_cost w.put_back + wait_cost f.rest + 2 * way_floats w.state.floats + credit kind ≤ m + 2 * again
       → w.state.dead_cycles + (wait_cost w.put_back + wait_cost f.rest) + 2 * way_floats w.state.floats + credit kind + phase_cost phase ≤ m + 2 + 2 * again
       → Bounded p m after
-  finish again kind phase region holds at floats weight bound = record {
+  finish again kind phase region holds at coming floats weight bound = record {
     again = again;
     kind = kind;
     phase = phase;
     region = subst (λ (ns : List PlainNode). Again again (sorts ns)) (sym waits) (subst (Again again) (sym parts) (ins-again again f.held (sorts w.put_back ++ (sorts goal.blanks ++ sorts f.rest)) held (region goal.blanks goal.idle)));
     holds = holds;
     at = at;
+    coming = coming;
     floats = fits-same p w.state after goal.floats goal.columns floats;
     weight = sums (wait_cost after.waiting) (wait_cost w.put_back + wait_cost f.rest) (way_floats after.floats) (way_floats w.state.floats) (credit kind) (m + 2 * again) wait-total (ap way_floats goal.floats) weight;
     bound = sums-with (wait_cost after.waiting) (wait_cost w.put_back + wait_cost f.rest) (way_floats after.floats) (way_floats w.state.floats) (credit kind) (m + 2 + 2 * again) after.dead_cycles w.state.dead_cycles (phase_cost phase) wait-total (ap way_floats goal.floats) goal.cycles bound;
@@ -173,7 +174,7 @@ module _ (p : Params) (m : ℕ) (f : Fired) (held : AllIns 254 f.held) (w : Work
       → Holds p after again kind → FloatsFit p w.state → w.state.dead_cycles ≡ 0
       → wait_cost w.put_back + wait_cost f.rest + 2 * way_floats w.state.floats + credit kind ≤ m + 2 * again
       → Bounded p m after
-  finish-shipped again kind region holds floats dead weight = finish again kind starting region holds tt floats weight (sums w.state.dead_cycles (wait_cost w.put_back + wait_cost f.rest) (way_floats w.state.floats) (credit kind) again dead weight)
+  finish-shipped again kind region holds floats dead weight = finish again kind starting region holds tt (λ e. cc) floats weight (sums w.state.dead_cycles (wait_cost w.put_back + wait_cost f.rest) (way_floats w.state.floats) (credit kind) again dead weight)
     where
       sums : (d b y c a : ℕ) → d ≡ 0 → b + 2 * y + c ≤ m + 2 * a → d + b + 2 * y + c + 2 ≤ m + 2 + 2 * a
       sums d b y c a h k = omega arith
@@ -251,7 +252,7 @@ module _ (p : Params) (m : ℕ) (s : State) (total a : ℕ) (kind : Kind) (phase
   quiet-bounded : (w : Work) → int_le eject_penalty f.penalty ≡ false → a ≡ 0 → (x : Sort) → pen_sort f.penalty ≡ x → sort_cost x ≡ 1 → wait_cost w.put_back ≡ 0 → w.state.two_columns ≡ s.two_columns → w.state.first_column ≡ s.first_column → way_floats w.state.floats ≤ way_floats s.floats → w.state.dead_cycles ≡ s.dead_cycles + 1 → FloatsFit p w.state → Result w
   quiet-bounded w h z x e one back columns first way dead fits r =
       let g = goal-out p f.penalty w in
-      finish p m f well.held w 0 closed phase (λ bs i. tt) refl (same-phase h (after p m f well.held w) (g.columns ∙ columns) (g.first ∙ first)) fits
+      finish p m f well.held w 0 closed phase (λ bs i. tt) refl (same-phase h (after p m f well.held w) (g.columns ∙ columns) (g.first ∙ first)) (λ e. true-false (int_le eject_penalty f.penalty) (well.ending e) h) fits
       (sums (wait_cost w.put_back) (wait_cost f.rest) (way_floats w.state.floats) (way_floats s.floats) (credit kind) (sort_cost x) back (cost-of x e) one way (ap (λ n. m + 2 * n) z) weight)
       (sums-with (wait_cost w.put_back) (wait_cost f.rest) (way_floats w.state.floats) (way_floats s.floats) (credit kind) (sort_cost x) w.state.dead_cycles s.dead_cycles (phase_cost phase) back (cost-of x e) one way (ap (λ n. m + 2 + 2 * n) z) dead bound)
     where
@@ -446,7 +447,7 @@ module _ (p : Params) (m : ℕ) (s : State) (total a : ℕ) (kind : Kind) (phase
       sums-with b r y y' c c' x d d' i j k n q = omega arith
 
       by_phase : (x : Phase) → x ≡ phase → PhaseHolds s x → Bounded p m done
-      by_phase starting e i = finish p m f well.held o a k second (o-region r) h is_second o-fits
+      by_phase starting e i = finish p m f well.held o a k second (o-region r) h is_second (λ e. cc) o-fits
           (sums (wait_cost o.put_back) (wait_cost f.rest) (way_floats o.state.floats) (way_floats s.floats) (credit k) (credit kind) (sort_cost (pen_sort f.penalty)) o-cost well.cost l weight)
           (sums-with (wait_cost o.put_back) (wait_cost f.rest) (way_floats o.state.floats) (way_floats s.floats) (credit k) (credit kind) (sort_cost (pen_sort f.penalty)) o.state.dead_cycles s.dead_cycles o-cost well.cost l d (subst (λ (y : Phase). s.dead_cycles + total + 2 * way_floats s.floats + credit kind + phase_cost y ≤ m + 2 + 2 * a) (sym e) bound))
       by_phase second e i = true-false s.first_column c i.first

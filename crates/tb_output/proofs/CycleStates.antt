@@ -106,6 +106,7 @@ pub record Bounded (p : Params) (m : ℕ) (s : State) : Type 0 where
   pub region : Again again (sorts s.waiting)
   pub holds : Holds p s again kind
   pub at : PhaseHolds s phase
+  pub coming : phase ≡ ending → 1 ≤ again
   pub floats : FloatsFit p s
   pub weight : wait_cost s.waiting + 2 * way_floats s.floats + credit kind ≤ m + 2 * again
   pub bound : s.dead_cycles + wait_cost s.waiting + 2 * way_floats s.floats + credit kind + phase_cost phase ≤ m + 2 + 2 * again

@@ -186,8 +186,8 @@ module _ (p : Params) (m : ℕ) (s : State) (total a : ℕ) (kind : Kind) (phase
   v-shipped e k h l = finish-shipped p m f well.held v later k v-region h v-fits e (v-weight (credit k) l)
 
   -- without a page the phase and these sums together fall by one
-  v-quiet : (j : Phase) → PhaseHolds v-done j → v.state.dead_cycles ≡ s.dead_cycles + 1 → (k : Kind) → Holds p v-done later k → Sums (credit k) → 2 * way_floats v.state.floats + credit k + 2 * a + (3 * bit c.half + 3 * bit c.rest) + phase_cost j + 1 ≤ 2 * way_floats s.floats + credit kind + 2 * later + 3 + phase_cost phase → Bounded p m v-done
-  v-quiet j g e k h l u = finish p m f well.held v later k j v-region h g v-fits (v-weight (credit k) l) (sums (wait_cost v.put_back) (wait_cost f.rest) (way_floats v.state.floats) (way_floats s.floats) (credit k) (credit kind) (3 * bit c.half + 3 * bit c.rest) later v.state.dead_cycles s.dead_cycles (phase_cost j) (phase_cost phase) v-cost (cost p m s total a kind phase f calm holds at floats weight bound well special clears) u e bound)
+  v-quiet : (j : Phase) → PhaseHolds v-done j → (j ≡ ending → 1 ≤ later) → v.state.dead_cycles ≡ s.dead_cycles + 1 → (k : Kind) → Holds p v-done later k → Sums (credit k) → 2 * way_floats v.state.floats + credit k + 2 * a + (3 * bit c.half + 3 * bit c.rest) + phase_cost j + 1 ≤ 2 * way_floats s.floats + credit kind + 2 * later + 3 + phase_cost phase → Bounded p m v-done
+  v-quiet j g y e k h l u = finish p m f well.held v later k j v-region h g y v-fits (v-weight (credit k) l) (sums (wait_cost v.put_back) (wait_cost f.rest) (way_floats v.state.floats) (way_floats s.floats) (credit k) (credit kind) (3 * bit c.half + 3 * bit c.rest) later v.state.dead_cycles s.dead_cycles (phase_cost j) (phase_cost phase) v-cost (cost p m s total a kind phase f calm holds at floats weight bound well special clears) u e bound)
     where
       sums : (b r y y' k i n l x x' q q' : ℕ) → b ≡ n → r + 3 ≤ total → 2 * y + k + 2 * a + n + q + 1 ≤ 2 * y' + i + 2 * l + 3 + q' → x ≡ x' + 1 → x' + total + 2 * y' + i + q' ≤ m + 2 + 2 * a → x + (b + r) + 2 * y + k + q ≤ m + 2 + 2 * l
       sums b r y y' k i n l x x' q q' h1 h2 h3 h4 h5 = omega arith
@@ -263,7 +263,7 @@ module _ (p : Params) (m : ℕ) (s : State) (total a : ℕ) (kind : Kind) (phase
       sums x y h i j = omega arith
 
       by_cycles : (v.state.dead_cycles ≡ s.dead_cycles + 1) ⊎ (v.state.dead_cycles ≡ 0) → Bounded p m v-done
-      by_cycles (inl x) = v-quiet starting tt x clean known (less (2 * way_floats v.state.floats + 0 + 2 * a + (3 * bit c.half + 3 * bit c.rest)) (2 * way_floats s.floats + credit kind + 2 * later + 3) e) (sums (2 * way_floats v.state.floats + 0 + 2 * a + (3 * bit c.half + 3 * bit c.rest)) (2 * way_floats s.floats + credit kind + 2 * later + 3) (phase_cost phase) e (ap phase_cost (is-starting o)))
+      by_cycles (inl x) = v-quiet starting tt (λ e. cc) x clean known (less (2 * way_floats v.state.floats + 0 + 2 * a + (3 * bit c.half + 3 * bit c.rest)) (2 * way_floats s.floats + credit kind + 2 * later + 3) e) (sums (2 * way_floats v.state.floats + 0 + 2 * a + (3 * bit c.half + 3 * bit c.rest)) (2 * way_floats s.floats + credit kind + 2 * later + 3) (phase_cost phase) e (ap phase_cost (is-starting o)))
       by_cycles (inr x) = v-shipped x clean known (less (2 * way_floats v.state.floats + 0 + 2 * a + (3 * bit c.half + 3 * bit c.rest)) (2 * way_floats s.floats + credit kind + 2 * later + 3) e)
 
   -- ---- a second column is left blank
@@ -401,11 +401,14 @@ module _ (p : Params) (m : ℕ) (s : State) (total a : ℕ) (kind : Kind) (phase
         by_column false g (inl z) = at-item (way_floats v.state.floats) (way_floats s.floats) (credit (kind_left l)) (credit kind) (bit c.rest) (bit c.half) (phase_cost phase) one v-least z (left-most l) not-ending
         by_column false g (inr z) = at-again (way_floats v.state.floats) (way_floats s.floats) (credit (kind_left l)) (credit kind) (bit c.rest) (bit c.half) (phase_cost phase) one v-least z (left-paid g z l) not-ending
 
+    some-later : (x y z : ℕ) → y ≡ 1 → 1 ≤ x + y + z
+    some-later x y z h = omega arith
+
     blanked : v.refused ≡ false → Bounded p m v-done
     blanked r = by_cycles (v-cycles r)
       where
         by_cycles : (v.state.dead_cycles ≡ s.dead_cycles + 1) ⊎ (v.state.dead_cycles ≡ 0) → Bounded p m v-done
-        by_cycles (inl x) = v-quiet ending (is_second, paused) x (kind_left is-left) (left-holds is-left) (left-sums is-left).0 (left-sums is-left).1
+        by_cycles (inl x) = v-quiet ending (is_second, paused) (λ e. some-later (d) (bit c.half) (bit c.rest) (ap bit half)) x (kind_left is-left) (left-holds is-left) (left-sums is-left).0 (left-sums is-left).1
         by_cycles (inr x) = v-shipped x (kind_left is-left) (left-holds is-left) (left-sums is-left).0
 
   -- a clear without footnotes
