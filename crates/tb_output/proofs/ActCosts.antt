@@ -106,7 +106,7 @@ low h t = grind (arith, ints)
 and-false : (a b : Bool) → b ≡ false → (a && b) ≡ false
 and-false a b h = grind (arith, h)
 
-abbrev ActActs : Params → ℕ → State → Acted → Type 0
+abbrev pub ActActs : Params → ℕ → State → Acted → Type 0
 ActActs p n s (went t ws rs) = Acts p n s t
 ActActs p n s (full line live) = Unit {0}
 

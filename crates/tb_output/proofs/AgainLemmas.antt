@@ -216,3 +216,15 @@ again-idle (suc n) (odd ∷ xs) ys i a = absurd i.0
 -- a clear that is put back is one more
 pub again-clear : (n : ℕ) (ys : List Sort) → Again n ys → Again (suc n) (sorts Clear.clear_again ++ ys)
 again-clear n ys a = (tt, (tt, (tt, (tt, (tt, a)))))
+
+-- ---- without its acts a front leaves the same behind it
+
+acts-left : (n : ℕ) (l : ℕ) (k : PlainKind) (ns : List PlainNode) (ys : List Sort) → ((m : ℕ) → Again m (sorts ns ++ ys) → Again m (sorts (without_acts ns) ++ ys)) → Again n (kind_sort k ∷ sorts ns ++ ys) → Again n (sorts (without_acts (record { line = l; kind = k } ∷ ns)) ++ ys)
+acts-left zero l k ns ys h a = tt
+acts-left (suc n) l (plain m) ns ys h a = (a.0, h (left_after (suc n) (kind_sort (plain m))) a.1)
+acts-left (suc n) l (ins i) ns ys h a = (tt, h (suc n) a.1)
+acts-left (suc n) l (act x) ns ys h a = absurd a.0
+
+pub acts-again : (n : ℕ) (ns : List PlainNode) (ys : List Sort) → Again n (sorts ns ++ ys) → Again n (sorts (without_acts ns) ++ ys)
+acts-again n [] ys a = a
+acts-again n (m ∷ ns) ys a = acts-left n m.line m.kind ns ys (λ k b. acts-again k ns ys b) a
