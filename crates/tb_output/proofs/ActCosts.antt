@@ -119,7 +119,11 @@ act-acts p s (acts.Take f) h =
     let es = entries.Float (taken_float p s f) ∷ [] in
     let k : current_floats (s.floats.current ++ entries.Float (taken_float p s f) ∷ []) ≡ current_floats s.floats.current + 1 = current-append s.floats.current es in
     by_room p 2 s (int_le p.pool (pos (live_count s.floats))) _ _ _ _ _ (record {
-      waiting = refl; held = refl; boxes = refl; cycles = refl; goal = refl;
+      waiting = refl;
+      held = refl;
+      boxes = refl;
+      cycles = refl;
+      goal = refl;
       floats = λ x. record {
         fit = record { top = x.fit.top; bottom = x.fit.bottom; deferred = x.fit.deferred; double = x.fit.double };
         current = all-append (Fits p) s.floats.current es x.current (low f.height p.textheight, tt);
@@ -133,7 +137,11 @@ act-acts p s (acts.TakeMargin m) h =
     let es = entries.Left m ∷ entries.Right m ∷ [] in
     let k : current_floats (s.floats.current ++ entries.Left m ∷ entries.Right m ∷ []) ≡ current_floats s.floats.current + 0 = current-append s.floats.current es in
     by_room p 0 s (int_lt p.pool (pos (live_count s.floats + 2))) _ _ _ _ _ (record {
-      waiting = refl; held = refl; boxes = refl; cycles = refl; goal = refl;
+      waiting = refl;
+      held = refl;
+      boxes = refl;
+      cycles = refl;
+      goal = refl;
       floats = λ x. record {
         fit = record { top = x.fit.top; bottom = x.fit.bottom; deferred = x.fit.deferred; double = x.fit.double };
         current = all-append (Fits p) s.floats.current es x.current tt;
@@ -144,7 +152,11 @@ act-acts p s (acts.TakeMargin m) h =
       second = λ x. inl (record { columns = x.columns; first = x.first });
     })
 act-acts p s (acts.Suppress area) h = record {
-  waiting = refl; held = refl; boxes = refl; cycles = refl; goal = refl;
+  waiting = refl;
+  held = refl;
+  boxes = refl;
+  cycles = refl;
+  goal = refl;
   floats = λ x. record { fit = x.fit; current = x.current; single = x.single; double = record { wide = x.double.wide; none = x.double.none } };
   way = omega arith;
   second = λ x. inl (record { columns = x.columns; first = x.first });
@@ -152,7 +164,11 @@ act-acts p s (acts.Suppress area) h = record {
 act-acts p s (acts.Columns two) h =
     let none : NoneWait s.floats = none-left s.floats (waits (waiting_floats s.floats) (current_floats s.floats.current) h) in
     record {
-      waiting = refl; held = refl; boxes = refl; cycles = refl; goal = refl;
+      waiting = refl;
+      held = refl;
+      boxes = refl;
+      cycles = refl;
+      goal = refl;
       floats = λ x. record {
         fit = x.fit;
         current = x.current;

@@ -414,8 +414,10 @@ module _ (p : Params) (body : List PlainNode) (w : Work) (good : WaitsWell p w.s
       by_wide (inl h) = inl (gathered-none (no-floats p a0.state.floats a0.state.floats.deferred good.fit.double good.wide deferred-fit n h.0))
       by_wide (inr h) =
           let y : Follows P (Ship.ship_wide p h.0 d) wide-done = h.2 in
-          inr (λ r. stays-zero (Ship.ship_wide p h.0 d).state.dead_cycles wide-done.state.dead_cycles (wide-cycles P p h.0 d (y.goes r)) (y.cycles r),
-               sums (waiting_floats w.state.floats) (waiting_floats a0.state.floats) (waiting_floats d.state.floats) (waiting_floats (Ship.ship_wide p h.0 d).state.floats) (waiting_floats wide-done.state.floats) same (double-follows P p a0).floats (follows-wide P p true d h.0 h.1).1 y.floats)
+          inr (
+            λ r. stays-zero (Ship.ship_wide p h.0 d).state.dead_cycles wide-done.state.dead_cycles (wide-cycles P p h.0 d (y.goes r)) (y.cycles r),
+            sums (waiting_floats w.state.floats) (waiting_floats a0.state.floats) (waiting_floats d.state.floats) (waiting_floats (Ship.ship_wide p h.0 d).state.floats) (waiting_floats wide-done.state.floats) same (double-follows P p a0).floats (follows-wide P p true d h.0 h.1).1 y.floats,
+          )
 
   first-column : w.state.two_columns ≡ true → w.state.first_column ≡ true → AllColumned P p true a0 a → How P p w b t.half t.rest
   first-column o f (inl h) = by_wide (widened h.0)

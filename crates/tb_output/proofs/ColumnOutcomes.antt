@@ -190,9 +190,10 @@ module _ (P : Float → Type 0) (p : Params) where
       let d = Ship.all_wide_pages p false b in
       let x : Follows P (Ship.without_double (Ship.ship p (pair_sheet p w.state.floats (Ship.left_or c w.state.left_column) c) w)) (Ship.ship_pair p c w) = follows-then P b d (Ship.ship_pair p c w) (follows-wide_pages P p false (length b.state.floats.deferred) b) (follows-double P p [] d.state.floats.deferred d refl) in
       let u : waiting_floats (Ship.without_double (Ship.ship p (pair_sheet p w.state.floats (Ship.left_or c w.state.left_column) c) w)).state.floats + length (Ship.ship p (pair_sheet p w.state.floats (Ship.left_or c w.state.left_column) c) w).state.floats.double ≤ waiting_floats (Ship.ship p (pair_sheet p w.state.floats (Ship.left_or c w.state.left_column) c) w).state.floats = (follows-undoubled P a).1 in
-      let l = (ship-lists p (pair_sheet p w.state.floats (Ship.left_or c w.state.left_column) c) w).0 in
-      (double-column p [] d.state.floats.deferred d ∙ wide-column p false (length b.state.floats.deferred) b,
-       sums (waiting_floats w.state.floats) (waiting_floats a.state.floats) (waiting_floats b.state.floats) (waiting_floats (Ship.ship_pair p c w).state.floats) (length w.state.floats.double) (length a.state.floats.double) (ap waiting_floats l) (ap (λ k. length k.double) l) u x.floats)
+      let l = (ship-lists p (pair_sheet p w.state.floats (Ship.left_or c w.state.left_column) c) w).0 in (
+        double-column p [] d.state.floats.deferred d ∙ wide-column p false (length b.state.floats.deferred) b,
+        sums (waiting_floats w.state.floats) (waiting_floats a.state.floats) (waiting_floats b.state.floats) (waiting_floats (Ship.ship_pair p c w).state.floats) (length w.state.floats.double) (length a.state.floats.double) (ap waiting_floats l) (ap (λ k. length k.double) l) u x.floats,
+      )
     where
       sums : (w a b r d e : ℕ) → a ≡ w → e ≡ d → b + e ≤ a → r ≤ b → r + d ≤ w
       sums w a b r d e h i j k = omega arith
@@ -447,8 +448,9 @@ module _ (P : Float → Type 0) (p : Params) where
 
       by_columns : b.refused ≡ false → Columned false a d → ((b.state.dead_cycles ≡ 0) × (waiting_floats b.state.floats + 1 ≤ waiting_floats w.state.floats)) ⊎ ((b.state.first_column ≡ false) × (b.state.floats.double ≡ w.state.floats.double) × (waiting_floats b.state.floats + (length w.state.floats.top + length w.state.floats.bottom) ≤ waiting_floats w.state.floats) × (b.state.dead_cycles ≡ w.state.dead_cycles))
       by_columns r (inl h) = inr (
-          next-column p [] d.state.floats.deferred d ∙ ap (λ (z : Work). z.state.first_column) h ∙ k.first,
-          next-single p [] d.state.floats.deferred d ∙ ap (λ (z : Work). z.state.floats.double) h ∙ ap (λ (l : FloatLists). l.double) k.floats,
-          counted (waiting_floats w.state.floats) (waiting_floats v.state.floats) (waiting_floats a.state.floats) (waiting_floats b.state.floats) (length w.state.floats.top + length w.state.floats.bottom) e x.floats y.floats,
-          same_cycles h)
+        next-column p [] d.state.floats.deferred d ∙ ap (λ (z : Work). z.state.first_column) h ∙ k.first,
+        next-single p [] d.state.floats.deferred d ∙ ap (λ (z : Work). z.state.floats.double) h ∙ ap (λ (l : FloatLists). l.double) k.floats,
+        counted (waiting_floats w.state.floats) (waiting_floats v.state.floats) (waiting_floats a.state.floats) (waiting_floats b.state.floats) (length w.state.floats.top + length w.state.floats.bottom) e x.floats y.floats,
+        same_cycles h,
+      )
       by_columns r (inr h) = inl (ships h.0 h.2 r, counted-less (waiting_floats w.state.floats) (waiting_floats v.state.floats) (waiting_floats a.state.floats) (waiting_floats (Columns.put_out_company p h.0 a).state.floats) (waiting_floats b.state.floats) (length w.state.floats.top + length w.state.floats.bottom) e x.floats (follows-company P p false a h.0 h.1).1 (follows-then P (Columns.put_out_company p h.0 a) d b h.2 n).floats)

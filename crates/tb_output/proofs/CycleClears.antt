@@ -39,7 +39,6 @@ module _ (p : Params) (m : ℕ) (s : State) (total a : ℕ) (kind : Kind) (phase
     (bound : s.dead_cycles + total + 2 * way_floats s.floats + credit kind + phase_cost phase ≤ m + 2 + 2 * a)
     (well : FiresWell p s total a kind phase f)
     (special : int_le eject_penalty f.penalty ≡ false) (clears : Out.is_int f.penalty Out.clear_penalty ≡ true) where
-
   abbrev w0 : Work
   w0 = begun (Out.after_page s f)
 

@@ -38,7 +38,6 @@ module _ (p : Params) (m : ℕ) (s : State) (total a : ℕ) (kind : Kind) (phase
     (weight : total + 2 * way_floats s.floats + credit kind ≤ m + 2 * a)
     (bound : s.dead_cycles + total + 2 * way_floats s.floats + credit kind + phase_cost phase ≤ m + 2 + 2 * a)
     (well : FiresWell p s total a kind phase f) (rest : Ended false f.rest) where
-
   abbrev begins : Work
   begins = begun (Out.after_page s f)
 

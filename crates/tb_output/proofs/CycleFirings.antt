@@ -224,7 +224,6 @@ module _ (p : Params) (m : ℕ) (s : State) (total a : ℕ) (kind : Kind) (phase
     (weight : total + 2 * way_floats s.floats + credit kind ≤ m + 2 * a)
     (bound : s.dead_cycles + total + 2 * way_floats s.floats + credit kind + phase_cost phase ≤ m + 2 + 2 * a)
     (well : FiresWell p s total a kind phase f) where
-
   abbrev w0 : Work
   w0 = begun (Out.after_page s f)
 
@@ -387,12 +386,15 @@ module _ (p : Params) (m : ℕ) (s : State) (total a : ℕ) (kind : Kind) (phase
           let q = ordinary-goal.quiet (no-hold f.penalty h) t b e in
           let z = well.once is in
           let waits : done.waiting ≡ f.rest = ap (λ ns. (f.held ++ ns) ++ f.rest) (ordinary-goal.back ∙ ap (λ ns. ns ++ ordinary-goal.blanks) out-fit.back ∙ q.0) ∙ ap (λ ns. (ns ++ []) ++ f.rest) z.1 in
-          out-by r ready (first_done, record {
-            goal = q.1;
-            void = ap (λ bs. box_content bs 254) (ordinary-goal.boxes ∙ out-fit.boxes) ∙ emptied-none w0.state.boxes 254;
-            rest = z.2.0;
-            fit = subst (Fitted Out.clear_penalty z.2.0) (sym waits) z.2.1;
-          }) d (one ready (omega arith))
+          out-by r ready (
+            first_done,
+            record {
+              goal = q.1;
+              void = ap (λ bs. box_content bs 254) (ordinary-goal.boxes ∙ out-fit.boxes) ∙ emptied-none w0.state.boxes 254;
+              rest = z.2.0;
+              fit = subst (Fitted Out.clear_penalty z.2.0) (sym waits) z.2.1;
+            },
+          ) d (one ready (omega arith))
 
       by_double : (1 ≤ length o.state.floats.double) ⊎ (o.state.floats.double ≡ []) → Bounded p m done
       by_double (inl e) = out-by r doubled (subst (λ (l : FloatLists). 1 ≤ length l.double) (sym ordinary-goal.floats) e) d (one doubled (omega arith))

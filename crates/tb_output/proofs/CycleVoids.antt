@@ -77,7 +77,6 @@ module _ (p : Params) (m : ℕ) (s : State) (total a : ℕ) (kind : Kind) (phase
     (bound : s.dead_cycles + total + 2 * way_floats s.floats + credit kind + phase_cost phase ≤ m + 2 + 2 * a)
     (well : FiresWell p s total a kind phase f)
     (special : int_le eject_penalty f.penalty ≡ false) (clears : Out.is_int f.penalty Out.clear_penalty ≡ true) (void : footnotes (record s { boxes = f.boxes }) ≡ None) where
-
   abbrev w0 : Work
   w0 = begun (Out.after_page s f)
 
@@ -290,11 +289,15 @@ module _ (p : Params) (m : ℕ) (s : State) (total a : ℕ) (kind : Kind) (phase
     paused = subst Paused (sym waiting) ((well.blank clears void).1 tail).1
 
     once-holds : v.state.floats.double ≡ [] → Holds p v-done later once
-    once-holds e = (is_second, paused, record {
-      goal = (v-goal.quiet (clear-no-hold f.penalty clears) top bottom e).1;
-      rest = tail;
-      fit = subst (Fitted eject_penalty (made whatsit ∷ made blank_box ∷ made (pen Out.clear_penalty) ∷ tail)) (sym waiting) ((well.blank clears void).1 tail).0;
-    })
+    once-holds e = (
+      is_second,
+      paused,
+      record {
+        goal = (v-goal.quiet (clear-no-hold f.penalty clears) top bottom e).1;
+        rest = tail;
+        fit = subst (Fitted eject_penalty (made whatsit ∷ made blank_box ∷ made (pen Out.clear_penalty) ∷ tail)) (sym waiting) ((well.blank clears void).1 tail).0;
+      },
+    )
 
     -- what is known then, and its credit
     data Left : Type 0 where
@@ -427,7 +430,6 @@ module _ (p : Params) (m : ℕ) (s : State) (total a : ℕ) (kind : Kind) (phase
     (weight : total + 2 * way_floats s.floats + credit kind ≤ m + 2 * a)
     (bound : s.dead_cycles + total + 2 * way_floats s.floats + credit kind + phase_cost phase ≤ m + 2 + 2 * a)
     (well : FiresWell p s total a kind phase f) where
-
   abbrev started : Work
   started = begun (Out.after_page s f)
 

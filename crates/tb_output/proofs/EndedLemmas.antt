@@ -69,7 +69,6 @@ ended-both b (x ∷ xs) ys e g = (e.0, ended-both (is_flat x.kind) xs ys e.1 g)
 
 -- ---- the top of a page
 
-
 tight-kind : (t : ℤ) (ns : List PlainNode) → ((b : Bool) → b ≡ false → Ended b ns → Ended false (pruned_nodes t ns)) → (l : ℕ) (k : PlainKind) → EndsAt false k → Ended (is_flat k) ns → Ended false (pruned_nodes t (record { line = l; kind = k } ∷ ns))
 tight-kind t ns h l (plain (hbox w x d)) e g = (tt, (tt, g))
 tight-kind t ns h l (plain (rule name x d)) e g = (tt, (tt, g))

@@ -40,7 +40,6 @@ take-free (suc k) (n ∷ ns) h =
     let r : wait_cost (take k ns) ≡ 0 = take-free k ns (omega arith) in
     omega arith
 
-
 given-content : (ls : List Labelled) (bs : List Boxed) → OneBox bs → box_content (map (box_after ls) bs) 254 ≡ None → is_given 254 ls ≡ false
 given-content ls [] o h = absurd o
 given-content ls (b ∷ []) o h = by_given (is_given 254 ls) (subst (λ (k : ℕ). (if k == 254 then (if is_given k ls then Some (content_of b.content ++ given_to k ls) else b.content) else None) ≡ None) o (named ls b h))

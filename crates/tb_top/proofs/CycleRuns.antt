@@ -30,7 +30,7 @@ use Rattle.tb_output.proofs.CycleVoids.{out-bounded}
 use Rattle.tb_output.proofs.CycleEnds.{out-ended}
 use Rattle.tb_output.proofs.ActCosts.{EmptyAt, Acts, no-acts, acts-then, ActActs, act-acts, again-cost}
 use Rattle.tb_run.specs.Run.{Run, RunEvent, sent, End, done, pool_full, dead_cycles, page_limit, node_limit, Progress, progress_by, progress, Step, ends, goes_on, held_count, after_firing, fire, after_progress, step, run_by, run_from}
-use Rattle.tb_top.proofs.RunWeights.{Kept, page_of, StepWeighs, step-weighs, ActFits, ActsFit, StepKeeps}
+use Rattle.tb_top.proofs.RunWeights.{Kept, page_of, StepWeighs, step-weighs, ActFits, ActsFit}
 use Rattle.tb_top.proofs.CyclePages.{rest-ended, none-reached, reached-cost, closed-well, open-well}
 
 -- ---- acts
@@ -261,6 +261,11 @@ module _ (p : Params) (m : ℕ) (calm : int_le p.interlinepenalty eject_penalty 
 
   -- ---- a run
 
+  -- an invariant that a step keeps
+  abbrev pub StepStays : (State → Type 0) → Step → Type 0
+  StepStays I (goes_on es rs t) = I t
+  StepStays I (ends es rs e) = Unit {0}
+
   -- a run that ends for its dead cycles had few
   abbrev pub RunCycles : End → Type 0
   RunCycles (done left) = Unit {0}
@@ -269,7 +274,7 @@ module _ (p : Params) (m : ℕ) (calm : int_le p.interlinepenalty eject_penalty 
   RunCycles (page_limit n) = Unit {0}
   RunCycles (node_limit n) = Unit {0}
 
-  by-step : (I : State → Type 0) (later : State → Run) → ((t : State) → Cycled t → I t → RunCycles (later t).end) → (x : Step) → StepCycles x → StepKeeps I x → RunCycles (run_by later x).end
+  by-step : (I : State → Type 0) (later : State → Run) → ((t : State) → Cycled t → I t → RunCycles (later t).end) → (x : Step) → StepCycles x → StepStays I x → RunCycles (run_by later x).end
   by-step I later h (goes_on es rs t) k i = h t k i
   by-step I later h (ends es rs (done left)) k i = tt
   by-step I later h (ends es rs (pool_full line live)) k i = tt
@@ -278,7 +283,7 @@ module _ (p : Params) (m : ℕ) (calm : int_le p.interlinepenalty eject_penalty 
   by-step I later h (ends es rs (node_limit n)) k i = tt
 
   -- with an invariant under which the columns change only where no float is on the way
-  pub run-cycles : (I : State → Type 0) → ((s : State) → Cycled s → I s → ChangesEmpty p s (acted_of (page_of p s).reached)) → ((s : State) → Cycled s → I s → StepKeeps I (step p s)) → (fuel : ℕ) (s : State) → Cycled s → I s → RunCycles (run_from p fuel s).end
+  pub run-cycles : (I : State → Type 0) → ((s : State) → Cycled s → I s → ChangesEmpty p s (acted_of (page_of p s).reached)) → ((s : State) → Cycled s → I s → StepStays I (step p s)) → (fuel : ℕ) (s : State) → Cycled s → I s → RunCycles (run_from p fuel s).end
   unfolding run_from
   run-cycles I empties keeps zero s c i = few-cycles s c.bounded
   run-cycles I empties keeps (suc fuel) s c i = by-step I (λ t. run_from p fuel t) (λ t x y. run-cycles I empties keeps fuel t x y) (step p s) (step-cycles s c (empties s c i)) (keeps s c i)
