@@ -25,6 +25,11 @@ cycling_items (n ∷ ns) = is_cycling n.kind + cycling_items ns
 abbrev pub HasCycles : Galley → Type 0
 HasCycles g = pos (4 * cycling_items g.items + 16) ≤ℤ g.params.maxdeadcycles
 
+-- that has room for the galley, whose top skip is no higher than a page
+pub record HasRoomForCycles (g : Galley) : Type 0 where
+  pub limit : HasCycles g
+  pub page : g.params.topskip ≤ℤ g.params.textheight
+
 abbrev pub IsNotCycles : End → Type 0
 IsNotCycles (done left) = Unit {0}
 IsNotCycles (pool_full line live) = Unit {0}
@@ -32,6 +37,6 @@ IsNotCycles (dead_cycles n) = ⊥
 IsNotCycles (page_limit n) = Unit {0}
 IsNotCycles (node_limit n) = Unit {0}
 
--- no run of a valid galley with such a limit ends for its dead cycles
-abbrev pub DeadCycleBound : Type 0
-DeadCycleBound = (g : Galley) → IsValid g → HasCycles g → IsNotCycles (run_of g).end
+-- no run of a valid galley ends for its dead cycles, where their limit has room for it
+abbrev pub DeadCyclesAreFew : Type 0
+DeadCyclesAreFew = (g : Galley) → IsValid g → HasRoomForCycles g → IsNotCycles (run_of g).end
