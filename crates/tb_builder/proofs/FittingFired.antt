@@ -1,13 +1,13 @@
 -- What waits may be such that the next page has no insertions and fits up to a forced break: then it fires there, and the rest is what stood behind.
-use Rattle.std.proofs.Common.{◌≡◌, refl, sym, ◌∙◌, ap, subst, ℕ, zero, suc, ℤ, pos, ◌+◌, Bool, true, false, List, [], ◌∷◌, ◌++◌, map, length, take, drop, Option, Some, None, arith}
-use Rattle.std.specs.Prelude.{◌+ℤ◌, ◌-ℤ◌, ◌≤ℤ◌, int_le, if◌then◌else◌}
+use Rattle.std.proofs.Common.{◌≡◌, refl, sym, ◌∙◌, ap, subst, ℕ, ℤ, pos, ◌+◌, true, List, [], ◌∷◌, ◌++◌, map, length, take, drop, arith}
+use Rattle.std.specs.Prelude.{◌+ℤ◌, ◌-ℤ◌, ◌≤ℤ◌, int_le}
 use Rattle.std.specs.List.{AllByRecursion}
 use Rattle.std.proofs.lemmas.Int.{ints}
 use Rattle.std.proofs.lemmas.List.{append_assoc}
 use Rattle.std.proofs.Math.Seq.{take-length, drop-length}
 use Rattle.tb_scaled.specs.Scaled.{eject_penalty, inf_penalty, max_ℤ}
 use Rattle.tb_node.specs.declared.What.{What}
-use Rattle.tb_node.specs.Plain.{hbox, rule, skip, kerned, pen, mark, note, whatsit, Leaf, PlainKind, plain, ins, act, PlainNode, node_shape}
+use Rattle.tb_node.specs.Plain.{hbox, rule, skip, kerned, pen, mark, note, whatsit, PlainKind, plain, ins, act, PlainNode, node_shape}
 use Rattle.tb_node.specs.Sums.{size_of}
 use Rattle.tb_break.specs.Prune.{pruned_nodes, top_glue}
 use Rattle.tb_break.specs.Best.{Breakpoint}
@@ -15,7 +15,7 @@ use Rattle.tb_insert.specs.Terms.{bare_terms}
 use Rattle.tb_insert.specs.Account.{ClassBox, Frozen, Labelled, labelled, labelled_from, terms_after, terms_of_labels}
 use Rattle.tb_builder.specs.Reached.{Reach, reach_from, breakpoints}
 use Rattle.tb_builder.specs.Fired.{Boxed, Fired, page_break, from_break, fired_by, box_after, no_place, penalty_at, with_spent_break, held_insertions}
-use Rattle.tb_builder.proofs.FittingPages.{Slim, AllSlim, slim-both, size-both, LastBest, best-last, BreaksAt, breaks-at}
+use Rattle.tb_builder.proofs.FittingPages.{Slim, AllSlim, slim-both, size-both, best-last, BreaksAt, breaks-at}
 
 -- a node that vanishes at the top of a page, or lasts there and takes no height
 abbrev pub Topmost : PlainKind → Type 0

@@ -1,10 +1,9 @@
 -- Where a box and a plain forced break wait before any other forced break, the next firing is an ordinary one.
-use Rattle.std.proofs.Common.{◌≡◌, refl, sym, ◌∙◌, ap, subst, ℕ, zero, suc, ℤ, pos, Bool, true, false, List, [], ◌∷◌, ◌++◌, drop, arith}
+use Rattle.std.proofs.Common.{◌≡◌, refl, sym, ◌∙◌, ap, subst, ℕ, zero, suc, ℤ, true, false, List, [], ◌∷◌, ◌++◌, drop, arith}
 use Rattle.std.specs.Prelude.{int_le}
-use Rattle.std.specs.List.{AllByRecursion}
 use Rattle.std.proofs.lemmas.Int.{ints}
 use Rattle.std.proofs.lemmas.List.{append_assoc}
-use Rattle.tb_scaled.specs.Scaled.{eject_penalty, inf_penalty}
+use Rattle.tb_scaled.specs.Scaled.{eject_penalty}
 use Rattle.tb_node.specs.declared.What.{What}
 use Rattle.tb_node.specs.Plain.{hbox, rule, skip, kerned, pen, mark, note, whatsit, PlainKind, plain, ins, act, PlainNode, without_acts}
 use Rattle.tb_break.specs.Prune.{pruned_nodes, top_glue}
@@ -52,7 +51,7 @@ pruned-kind t rest ns u h l (act a) c = calm-more rest (pruned_nodes t ns) (reco
 calm-whole : (xs rest : List PlainNode) → AllCalm xs → CalmUpTo rest (xs ++ rest)
 calm-whole xs rest c = record { before = xs; whole = refl; calm = c }
 
-calm-both : (xs ys : List PlainNode) → AllCalm xs → AllCalm ys → AllCalm (xs ++ ys)
+pub calm-both : (xs ys : List PlainNode) → AllCalm xs → AllCalm ys → AllCalm (xs ++ ys)
 calm-both [] ys a b = b
 calm-both (x ∷ xs) ys a b = (a.0, calm-both xs ys a.1 b)
 
@@ -112,7 +111,7 @@ acts-kind l (plain m) ns c h = (c, h)
 acts-kind l (ins i) ns c h = (c, h)
 acts-kind l (act a) ns c h = h
 
-calm-acts : (ns : List PlainNode) → AllCalm ns → AllCalm (without_acts ns)
+pub calm-acts : (ns : List PlainNode) → AllCalm ns → AllCalm (without_acts ns)
 calm-acts [] c = tt
 calm-acts (n ∷ ns) c = acts-kind n.line n.kind ns c.0 (calm-acts ns c.1)
 

@@ -1,12 +1,12 @@
 -- A company takes a float, and where floats are cleared the first one that suits heads a company.
-use Rattle.std.proofs.Common.{◌≡◌, refl, sym, ap, ◌∙◌, subst, ℕ, ◌+◌, ◌≤◌, Bool, true, false, not, ◌||◌, ◌&&◌, List, [], ◌∷◌, ◌++◌, length, Option, Some, None, arith}
+use Rattle.std.proofs.Common.{◌≡◌, refl, sym, ◌∙◌, subst, ℕ, ◌+◌, ◌≤◌, Bool, true, false, not, ◌||◌, ◌&&◌, List, [], ◌∷◌, ◌++◌, length, Some, None, arith, length-append}
 use Rattle.std.specs.Prelude.{if◌then◌else◌}
 use Rattle.std.specs.List.{AllByRecursion}
 use Rattle.std.proofs.lemmas.Option.{same_Some}
 use Rattle.tb_node.specs.declared.Float.{Float}
-use Rattle.tb_float.specs.Lists.{has_class}
 use Rattle.tb_fpage.specs.declared.Wanted.{Wanted}
 use Rattle.tb_fpage.specs.Company.{Choice, suits, passed_over, joins, choices_from, company_of_head, is_head, is_made, company_from, company, left_floats}
+use Rattle.tb_fpage.proofs.CompanyLemmas.{length-choices}
 
 -- ---- the first float
 
@@ -74,10 +74,6 @@ left-fewer (c ∷ cs) h = by_choice c.chosen (λ k. left-fewer cs k) h
     by_choice true later h = let k : length (left_floats cs) ≤ length cs = left-most cs in omega arith
     by_choice false later h = let k : length (left_floats cs) + 1 ≤ length cs = later h in omega arith
 
-count-joined : (cs ds : List Choice) → length (cs ++ ds) ≡ length cs + length ds
-count-joined [] ds = omega arith
-count-joined (c ∷ cs) ds = let h : length (cs ++ ds) ≡ length cs + length ds = count-joined cs ds in omega arith
-
 count-passed : (fs : List Float) → length (passed_over fs) ≡ length fs
 count-passed [] = refl
 count-passed (f ∷ fs) = let h : length (passed_over fs) ≡ length fs = count-passed fs in omega arith
@@ -86,33 +82,21 @@ choices-chosen : (z : Wanted) (before : List Choice) (fs : List Float) → HasCh
 choices-chosen z before [] h = h
 choices-chosen z before (f ∷ fs) h = choices-chosen z (before ++ record { float = f; chosen = joins z before f } ∷ []) fs (chosen-joined before (record { float = f; chosen = joins z before f } ∷ []) h)
 
-choices-count : (z : Wanted) (before : List Choice) (fs : List Float) → length (choices_from z before fs) ≡ length before + length fs
-choices-count z before [] = omega arith
-choices-count z before (f ∷ fs) =
-    let c : Choice = record { float = f; chosen = joins z before f } in
-    let h : length (choices_from z (before ++ c ∷ []) fs) ≡ length (before ++ c ∷ []) + length fs = choices-count z (before ++ c ∷ []) fs in
-    let k : length (before ++ c ∷ []) ≡ length before + 1 = count-joined before (c ∷ []) in
-    omega arith
-
 head-fewer : (z : Wanted) (before : List Float) (f : Float) (fs : List Float) → length (left_floats (company_of_head z before f fs)) + 1 ≤ length before + length (f ∷ fs)
 head-fewer z before f fs =
     let c : Choice = record { float = f; chosen = true } in
     let h : length (left_floats (company_of_head z before f fs)) + 1 ≤ length (company_of_head z before f fs) = left-fewer (company_of_head z before f fs) (choices-chosen z (passed_over before ++ c ∷ []) fs (chosen-behind (passed_over before) f)) in
-    let k : length (company_of_head z before f fs) ≡ length (passed_over before ++ c ∷ []) + length fs = choices-count z (passed_over before ++ c ∷ []) fs in
-    let i : length (passed_over before ++ c ∷ []) ≡ length (passed_over before) + 1 = count-joined (passed_over before) (c ∷ []) in
+    let k : length (company_of_head z before f fs) ≡ length (passed_over before ++ c ∷ []) + length fs = length-choices z (passed_over before ++ c ∷ []) fs in
+    let i : length (passed_over before ++ c ∷ []) ≡ length (passed_over before) + 1 = length-append (passed_over before) (c ∷ []) in
     let j : length (passed_over before) ≡ length before = count-passed before in
     omega arith
-
-floats-joined : (fs gs : List Float) → length (fs ++ gs) ≡ length fs + length gs
-floats-joined [] gs = omega arith
-floats-joined (f ∷ fs) gs = let h : length (fs ++ gs) ≡ length fs + length gs = floats-joined fs gs in omega arith
 
 from-fewer : (z : Wanted) (before fs : List Float) (cs : List Choice) → company_from z before fs ≡ Some cs → length (left_floats cs) + 1 ≤ length before + length fs
 from-fewer z before [] cs e = cc
 from-fewer z before (f ∷ fs) cs e = by_test (is_head z before f && is_made z (company_of_head z before f fs)) (λ h. moved (from-fewer z (before ++ f ∷ []) fs cs h)) e
   where
     moved : length (left_floats cs) + 1 ≤ length (before ++ f ∷ []) + length fs → length (left_floats cs) + 1 ≤ length before + length (f ∷ fs)
-    moved k = let i : length (before ++ f ∷ []) ≡ length before + 1 = floats-joined before (f ∷ []) in omega arith
+    moved k = let i : length (before ++ f ∷ []) ≡ length before + 1 = length-append before (f ∷ []) in omega arith
 
     by_test : (t : Bool) → (company_from z (before ++ f ∷ []) fs ≡ Some cs → length (left_floats cs) + 1 ≤ length before + length (f ∷ fs)) → (if t then Some (company_of_head z before f fs) else company_from z (before ++ f ∷ []) fs) ≡ Some cs → length (left_floats cs) + 1 ≤ length before + length (f ∷ fs)
     by_test true k h = subst (λ (ds : List Choice). length (left_floats ds) + 1 ≤ length before + length (f ∷ fs)) (same_Some (company_of_head z before f fs) cs h) (head-fewer z before f fs)

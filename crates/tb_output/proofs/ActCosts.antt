@@ -1,6 +1,6 @@
 -- What the acts of a page do to the floats: each that is taken costs what it was to cost, and a change of columns comes where no float is left.
-use Rattle.std.proofs.Common.{◌≡◌, refl, sym, ◌∙◌, ap, subst, ℕ, zero, suc, ℤ, pos, ◌+◌, ◌*◌, ◌≤◌, inl, inr, ◌⊎◌, Bool, true, false, List, [], ◌∷◌, ◌++◌, length, arith}
-use Rattle.std.specs.Prelude.{int_le, int_lt, ◌&&◌, ◌-ℤ◌, if◌then◌else◌}
+use Rattle.std.proofs.Common.{◌≡◌, refl, sym, ◌∙◌, subst, ℕ, zero, suc, ℤ, pos, ◌+◌, ◌*◌, ◌≤◌, inl, inr, ◌⊎◌, Bool, true, false, List, [], ◌∷◌, ◌++◌, arith}
+use Rattle.std.specs.Prelude.{int_le, int_lt, ◌&&◌, if◌then◌else◌}
 use Rattle.std.specs.List.{AllByRecursion}
 use Rattle.std.proofs.lemmas.Int.{ints}
 use Rattle.tb_scaled.specs.Scaled.{min_ℤ}
@@ -13,19 +13,18 @@ use Rattle.tb_node.specs.Plain.{hbox, rule, skip, kerned, pen, mark, note, whats
 use Rattle.tb_param.specs.declared.Params.{Params}
 use Rattle.tb_float.specs.declared.Entry.{Entry}
 use Rattle.tb_float.specs.declared.Entry.TheVariants as entries
-use Rattle.tb_float.specs.Lists.{FloatLists, live_count}
+use Rattle.tb_float.specs.Lists.{live_count}
 use Rattle.tb_column.specs.declared.Warn.{Warn}
 use Rattle.tb_output.specs.State.{State, Recorded}
 use Rattle.tb_output.specs.Act.{Acted, went, full, act_on, taken_float}
 use Rattle.tb_output.proofs.Sorts.{Sort, light, blank, real, silent, pause, hold, serve, clear, odd, pen_sort, box_sort, kind_sort, sorts}
-use Rattle.tb_output.proofs.AgainLemmas.{Again, left_after}
+use Rattle.tb_output.proofs.AgainLemmas.{Again}
 use Rattle.tb_output.proofs.WaitCosts.{sort_cost, kind_cost, wait_cost, act_cost}
-use Rattle.tb_output.proofs.FollowLemmas.{waiting_floats, AllWait}
+use Rattle.tb_output.proofs.FollowLemmas.{waiting_floats}
 use Rattle.tb_output.proofs.ClearOutcomes.{NoneWait, Fits, Single}
-use Rattle.tb_output.proofs.WideLemmas.{DoubleFits}
 use Rattle.tb_output.proofs.ServeOutcomes.{current_floats, AllCurrent, way_floats}
 use Rattle.tb_output.proofs.CycleStates.{IsSecond, FloatsFit}
-use Rattle.tb_output.proofs.CycleFirings.{none-left, true-false}
+use Rattle.tb_output.proofs.CycleFirings.{none-left}
 
 -- ---- an act
 

@@ -1,18 +1,16 @@
 -- The clears that the routine put back stand before all that is still to come: no box of the text, no act and no float's or item's penalty stands before the last of them.
-use Rattle.std.proofs.Common.{◌≡◌, refl, sym, ◌∙◌, ap, subst, ℕ, zero, suc, ℤ, Bool, true, false, List, [], ◌∷◌, ◌++◌, map, take, drop, arith}
-use Rattle.std.specs.Prelude.{int_le, ◌||◌, if◌then◌else◌}
+use Rattle.std.proofs.Common.{◌≡◌, refl, ℕ, zero, suc, ℤ, Bool, true, false, List, [], ◌∷◌, ◌++◌}
+use Rattle.std.specs.Prelude.{int_le}
 use Rattle.std.specs.List.{AllByRecursion}
-use Rattle.std.proofs.lemmas.Int.{ints}
 use Rattle.tb_scaled.specs.Scaled.{eject_penalty, inf_penalty}
 use Rattle.tb_node.specs.declared.What.{What}
 use Rattle.tb_node.specs.declared.What.TheVariants as what
 use Rattle.tb_node.specs.Plain.{hbox, rule, skip, kerned, pen, mark, note, whatsit, PlainKind, plain, ins, act, PlainNode, without_acts}
 use Rattle.tb_break.specs.Prune.{pruned_nodes}
-use Rattle.tb_builder.specs.Fired.{with_spent_break, spent_kind, penalty_at}
-use Rattle.tb_builder.proofs.CutLemmas.{Calm, AllCalm, ActFree, acts_of, kind_acts}
-use Rattle.tb_output.specs.Out.{is_int, clear_penalty, par_penalty, vert_penalty, hold_penalty}
+use Rattle.tb_builder.specs.Fired.{with_spent_break, penalty_at}
+use Rattle.tb_builder.proofs.CutLemmas.{Calm, AllCalm, acts_of, kind_acts}
 use Rattle.tb_output.specs.Clear
-use Rattle.tb_output.proofs.Sorts.{Sort, light, blank, real, silent, pause, hold, serve, clear, odd, pen_sort, box_sort, kind_sort, sorts, Seen, none, Stands, pen-sorts, CalmSort}
+use Rattle.tb_output.proofs.Sorts.{Sort, light, blank, real, silent, pause, hold, serve, clear, odd, pen_sort, box_sort, kind_sort, sorts, none, Stands, pen-sorts, CalmSort}
 
 -- how many clears of the routine are still to come on a list with these sorts; before the last of them there is nothing else that acts
 abbrev pub left_after : ℕ → Sort → ℕ

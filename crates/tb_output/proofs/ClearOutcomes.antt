@@ -1,6 +1,6 @@
 -- What a clear without footnotes leads to: empty lists, a page, or a blank second column and a further clear.
-use Rattle.std.proofs.Common.{◌≡◌, refl, sym, ◌∙◌, ap, subst, ℕ, zero, suc, ℤ, pos, ◌+◌, ◌≤◌, inl, inr, ◌⊎◌, Bool, true, false, List, [], ◌∷◌, ◌++◌, length, Option, Some, None, arith}
-use Rattle.std.specs.Prelude.{int_le, ◌-ℤ◌, not, ◌&&◌, ◌||◌, if◌then◌else◌}
+use Rattle.std.proofs.Common.{◌≡◌, refl, sym, ◌∙◌, ap, subst, ℕ, zero, suc, ℤ, ◌+◌, ◌≤◌, inl, inr, ◌⊎◌, Bool, true, false, List, [], ◌∷◌, ◌++◌, length, Option, Some, None, arith}
+use Rattle.std.specs.Prelude.{int_le, not, ◌&&◌, ◌||◌, if◌then◌else◌}
 use Rattle.std.specs.Bool.{beq}
 use Rattle.std.specs.List.{AllByRecursion}
 use Rattle.std.proofs.lemmas.Int.{ints}
@@ -9,16 +9,15 @@ use Rattle.tb_node.specs.Plain.{PlainNode, made, blank_box}
 use Rattle.tb_param.specs.declared.Params.{Params}
 use Rattle.tb_float.specs.Lists.{FloatLists}
 use Rattle.tb_float.specs.Rooms.{column_height_of}
-use Rattle.tb_fpage.specs.declared.Wanted.{Wanted}
 use Rattle.tb_fpage.specs.Company.{Choice, suits, company, chosen_floats, left_floats}
 use Rattle.tb_fpage.proofs.FirstLemmas.{none-suits}
-use Rattle.tb_column.specs.Column.{PlainColumn, single_floats_column, wide, wide_floats_column}
+use Rattle.tb_column.specs.Column.{single_floats_column, wide, wide_floats_column}
 use Rattle.tb_output.specs.State.{State, Work, puts, with_floats, has_floats}
 use Rattle.tb_output.specs.Ship
 use Rattle.tb_output.specs.Columns
 use Rattle.tb_output.specs.Clear
-use Rattle.tb_output.proofs.FollowLemmas.{waiting_floats, AllWait, Follows, follows-same, follows-then, follows-ship, follows-wide, follows-wide_pages, follows-company, follows-float_columns, all-both, both-long}
-use Rattle.tb_output.proofs.ColumnOutcomes.{ship-cycles, stays-zero, wide-column, IsLast, last-ships, IsKept, first-kept, IsPaired, second-pairs, Columned, AllColumned, all-columned}
+use Rattle.tb_output.proofs.FollowLemmas.{waiting_floats, AllWait, Follows, follows-same, follows-then, follows-wide, follows-wide_pages, follows-company, follows-float_columns, all-both, both-long}
+use Rattle.tb_output.proofs.ColumnOutcomes.{ship-cycles, stays-zero, IsLast, last-ships, IsKept, first-kept, second-pairs, Columned, AllColumned, all-columned}
 
 -- no float waits
 pub record NoneWait (l : FloatLists) : Type 0 where

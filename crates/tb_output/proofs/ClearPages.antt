@@ -1,12 +1,11 @@
 -- The page of a clear is light but for one box of no size, so a blank column and a clear may stand behind its front.
 use Rattle.std.proofs.Common.{◌≡◌, refl, sym, ◌∙◌, ap, subst, ℕ, zero, suc, ℤ, pos, inl, inr, ◌⊎◌, Bool, true, false, List, [], ◌∷◌, ◌++◌, take, map, arith}
-use Rattle.std.specs.Prelude.{int_le, ◌-ℤ◌, ◌&&◌, if◌then◌else◌}
 use Rattle.std.specs.List.{AllByRecursion}
 use Rattle.std.proofs.lemmas.Int.{ints}
 use Rattle.std.proofs.lemmas.List.{append_assoc}
-use Rattle.tb_scaled.specs.Scaled.{is_zero, eject_penalty, inf_penalty}
+use Rattle.std.proofs.lemmas.Bool.{and_parts}
+use Rattle.tb_scaled.specs.Scaled.{is_zero, eject_penalty}
 use Rattle.tb_scaled.specs.Glue.{filling_glue}
-use Rattle.tb_node.specs.declared.What.{What}
 use Rattle.tb_node.specs.declared.What.TheVariants as what
 use Rattle.tb_node.specs.Plain.{hbox, rule, skip, kerned, pen, mark, note, whatsit, PlainKind, plain, ins, act, PlainNode, node_shape, made, blank_box, without_insertions}
 use Rattle.tb_break.specs.Split.{split_of}
@@ -14,13 +13,13 @@ use Rattle.tb_param.specs.declared.Params.{Params}
 use Rattle.tb_builder.specs.Fired.{penalty_at}
 use Rattle.tb_builder.proofs.CutLemmas.{Calm, AllCalm, ActFree, AllFree}
 use Rattle.tb_builder.proofs.FittingFired.{Topmost, AllTopmost, flat_box, Fitted}
-use Rattle.tb_builder.proofs.PausedPages.{Paused}
+use Rattle.tb_builder.proofs.PausedPages.{Paused, calm-both}
 use Rattle.tb_output.specs.Clear
 use Rattle.tb_output.specs.Out
-use Rattle.tb_output.proofs.Sorts.{Sort, light, blank, real, pen_sort, kind_sort, sorts, sorts-calm, Seen, none, one, many, seen_all}
+use Rattle.tb_output.proofs.Sorts.{light, blank, kind_sort, sorts, sorts-calm, none, one, seen_all}
 use Rattle.tb_output.proofs.SortLemmas.{never-one}
 use Rattle.tb_output.proofs.AgainLemmas.{Idle}
-use Rattle.tb_output.proofs.WaitCosts.{sort_cost, kind_cost, wait_cost, cost-append}
+use Rattle.tb_output.proofs.WaitCosts.{kind_cost, wait_cost}
 use Rattle.tb_output.proofs.EndedLemmas.{is_flat, EndsAt, Ended, flat_last}
 
 -- light nodes, and a box of no size that holds nothing
@@ -36,12 +35,6 @@ one-more n ns t c h = record { front = n ∷ h.front; line = h.line; whole = ap 
 
 zero-of : (z : ℤ) → is_zero z ≡ true → z ≡ pos 0
 zero-of z h = grind (arith, ints, h)
-
-and-left : (a b : Bool) → (a && b) ≡ true → a ≡ true
-and-left a b h = grind (arith, h)
-
-and-right : (a b : Bool) → (a && b) ≡ true → b ≡ true
-and-right a b h = grind (arith, h)
 
 -- behind a blank box nothing comes
 behind-one : (ns : List PlainNode) → AllCalm ns → AllFree ns → seen_all one (sorts ns) ≡ one → ns ≡ []
@@ -65,8 +58,8 @@ behind-one (n ∷ ns) c f e = absurd (behind n.kind c.0 f.0 e)
 
 flat-node : (l : ℕ) (h d : ℤ) (ns : List PlainNode) → ns ≡ [] → flat_last (is_flat (plain (hbox what.Blank h d))) ns ≡ true → OneFlat (record { line = l; kind = plain (hbox what.Blank h d) } ∷ without_insertions ns)
 flat-node l h d [] e z =
-    let a : h ≡ pos 0 = zero-of h (and-left (is_zero h) (is_zero d) z) in
-    let b : d ≡ pos 0 = zero-of d (and-right (is_zero h) (is_zero d) z) in
+    let a : h ≡ pos 0 = zero-of h (and_parts (is_zero h) (is_zero d) z).0 in
+    let b : d ≡ pos 0 = zero-of d (and_parts (is_zero h) (is_zero d) z).1 in
     record { front = []; line = l; whole = ap (λ x. record { line = l; kind = plain (hbox what.Blank x d) } ∷ []) a ∙ ap (λ x. record { line = l; kind = plain (hbox what.Blank (pos 0) x) } ∷ []) b; topmost = tt; calm = tt }
 flat-node l h d (n ∷ ns) e z = cc
 
@@ -134,10 +127,6 @@ take-calm : (i : ℕ) (xs : List PlainNode) → AllCalm xs → AllCalm (take i x
 take-calm zero xs h = tt
 take-calm (suc i) [] h = tt
 take-calm (suc i) (x ∷ xs) h = (h.0, take-calm i xs h.1)
-
-calm-both : (xs ys : List PlainNode) → AllCalm xs → AllCalm ys → AllCalm (xs ++ ys)
-calm-both [] ys a b = b
-calm-both (x ∷ xs) ys a b = (a.0, calm-both xs ys a.1 b)
 
 kind-idle : (k : PlainKind) → Topmost k → Calm k → Idle (kind_sort k) × (kind_cost k ≡ 0)
 kind-idle (plain (hbox w h d)) t c = absurd t

@@ -6,18 +6,17 @@ use Rattle.tb_node.specs.declared.Where.{Where}
 use Rattle.tb_node.specs.declared.Where.TheVariants as places
 use Rattle.tb_node.specs.Plain.{PlainNode}
 use Rattle.tb_param.specs.declared.Params.{Params}
-use Rattle.tb_float.specs.declared.Suppress.{Suppress}
 use Rattle.tb_float.specs.Lists.{FloatLists}
 use Rattle.tb_float.specs.Rooms.{column_height_of}
 use Rattle.tb_fpage.specs.declared.Wanted.{Wanted}
 use Rattle.tb_fpage.specs.Company.{Choice, company, chosen_floats, left_floats}
 use Rattle.tb_area.specs.Area
-use Rattle.tb_column.specs.Column.{PlainColumn, PlainSheet, PlainSent, shipped, one, wide, pair_sheet, text_column, single_floats_column}
-use Rattle.tb_output.specs.State.{State, Work, Recorded, placed, output, sends, records_also, with_floats, footnotes}
+use Rattle.tb_column.specs.Column.{PlainColumn, PlainSheet, shipped, one, pair_sheet, text_column, single_floats_column}
+use Rattle.tb_output.specs.State.{State, Work, Recorded, placed, output, records_also, with_floats, footnotes}
 use Rattle.tb_output.specs.Place
 use Rattle.tb_output.specs.Ship
 use Rattle.tb_output.specs.Columns
-use Rattle.tb_output.proofs.FollowLemmas.{waiting_floats, AllWait, Follows, follows-same, follows-then, follows-ship, follows-undoubled, follows-wide_pages, follows-double, follows-next, follows-put_out, follows-company, follows-float_columns, follows-pair_rest}
+use Rattle.tb_output.proofs.FollowLemmas.{waiting_floats, AllWait, Follows, follows-then, follows-undoubled, follows-wide_pages, follows-double, follows-next, follows-put_out, follows-company, follows-float_columns, follows-pair_rest}
 
 -- ---- a page that is shipped
 

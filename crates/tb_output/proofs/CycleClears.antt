@@ -1,32 +1,28 @@
 -- A clear lowers what is left of the firings without a page, or ships a page.
-use Rattle.std.proofs.Common.{◌≡◌, refl, sym, ◌∙◌, ap, subst, ℕ, zero, suc, ℤ, pos, ◌+◌, ◌*◌, ◌≤◌, inl, inr, ◌⊎◌, Bool, true, false, List, [], ◌∷◌, ◌++◌, length, Option, Some, None, arith}
-use Rattle.std.specs.Prelude.{int_le, if◌then◌else◌}
+use Rattle.std.proofs.Common.{◌≡◌, refl, sym, ◌∙◌, ap, subst, ℕ, zero, suc, ◌+◌, ◌*◌, ◌≤◌, inl, inr, ◌⊎◌, Bool, true, false, List, [], ◌∷◌, ◌++◌, length, Some, None, arith}
+use Rattle.std.specs.Prelude.{int_le}
 use Rattle.std.specs.List.{AllByRecursion}
-use Rattle.std.proofs.lemmas.List.{append_assoc}
 use Rattle.tb_scaled.specs.Scaled.{eject_penalty}
 use Rattle.tb_scaled.specs.Glue.{filling_glue}
-use Rattle.tb_node.specs.declared.Float.{Float}
-use Rattle.tb_node.specs.Plain.{Leaf, PlainNode, made, blank_box, skip}
+use Rattle.tb_node.specs.Plain.{Leaf, PlainNode, made, skip}
 use Rattle.tb_param.specs.declared.Params.{Params}
 use Rattle.tb_builder.specs.Fired.{Fired}
-use Rattle.tb_builder.proofs.PausedPages.{Paused}
 use Rattle.tb_float.specs.Lists.{FloatLists}
 use Rattle.tb_column.specs.Column.{PlainColumn, text_column}
-use Rattle.tb_output.specs.State.{State, Work, begun, puts, footnotes, has_floats}
+use Rattle.tb_output.specs.State.{State, Work, begun, puts, footnotes}
 use Rattle.tb_output.specs.Columns
 use Rattle.tb_output.specs.Clear
 use Rattle.tb_output.specs.Out
 use Rattle.tb_output.proofs.Sorts.{Sort, clear, pen_sort, sorts}
-use Rattle.tb_output.proofs.SortLemmas.{sorts-append}
 use Rattle.tb_output.proofs.AgainLemmas.{Again, Idle, BreakAgain, left_after, again-idle, again-clear}
-use Rattle.tb_output.proofs.WaitCosts.{sort_cost, wait_cost, cost-append}
-use Rattle.tb_output.proofs.FollowLemmas.{waiting_floats, AllWait, Follows, follows-same}
+use Rattle.tb_output.proofs.WaitCosts.{sort_cost, wait_cost}
+use Rattle.tb_output.proofs.FollowLemmas.{waiting_floats, follows-same}
 use Rattle.tb_output.proofs.ColumnOutcomes.{IsKept, IsPaired, TextOut, last-ships, first-kept, second-pairs, text-out, text-follows}
-use Rattle.tb_output.proofs.ClearOutcomes.{NoneWait, Fits, Single, Wide, WaitsWell, How, ClearOut, clear-out, halves, more, gathered, gathered-count, halved-state, clear-all}
-use Rattle.tb_output.proofs.WideLemmas.{DoubleFits, KeepsDouble, clear_by-double}
-use Rattle.tb_output.proofs.ServeOutcomes.{AllCurrent, current_floats, way_floats}
-use Rattle.tb_output.proofs.CycleStates.{Kind, any, doubled, once, topped, ready, halted, clean, single, closed, credit, Once, Ready, IsSecond, Holds, Phase, starting, second, ending, phase_cost, PhaseHolds, FloatsFit, Bounded, GoalOut, goal-out}
-use Rattle.tb_output.proofs.CycleFirings.{clear-sort, FiresWell, fits-same, after, waits, finish, finish-shipped, none-count, none-left, true-false, clear-no-hold, some-or-none, text-fits}
+use Rattle.tb_output.proofs.ClearOutcomes.{NoneWait, Fits, Single}
+use Rattle.tb_output.proofs.WideLemmas.{KeepsDouble, clear_by-double}
+use Rattle.tb_output.proofs.ServeOutcomes.{current_floats, way_floats}
+use Rattle.tb_output.proofs.CycleStates.{Kind, any, doubled, once, topped, ready, halted, clean, single, closed, credit, Holds, Phase, starting, second, ending, phase_cost, PhaseHolds, FloatsFit, Bounded, GoalOut, goal-out}
+use Rattle.tb_output.proofs.CycleFirings.{clear-sort, FiresWell, after, finish, finish-shipped, none-count, none-left, true-false, text-fits}
 
 -- a clear of an item, or one of the routine, of which there is one fewer then
 pub left-of : (a : ℕ) → (a ≡ 0) ⊎ (a ≡ left_after a clear + 1)

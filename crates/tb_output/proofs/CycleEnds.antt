@@ -1,10 +1,9 @@
 -- After a firing each clear that waits stands behind a flat box again.
-use Rattle.std.proofs.Common.{◌≡◌, refl, sym, ◌∙◌, ap, subst, ℕ, zero, suc, ℤ, pos, ◌+◌, ◌*◌, ◌≤◌, Bool, true, false, List, [], ◌∷◌, ◌++◌, Option, Some, None, arith}
-use Rattle.std.specs.Prelude.{int_le, ◌||◌, if◌then◌else◌}
+use Rattle.std.proofs.Common.{◌≡◌, refl, sym, subst, ℕ, ◌+◌, ◌*◌, ◌≤◌, Bool, true, false, List, [], ◌∷◌, ◌++◌, Option, Some, None}
+use Rattle.std.specs.Prelude.{int_le, if◌then◌else◌}
 use Rattle.tb_scaled.specs.Scaled.{eject_penalty}
 use Rattle.tb_scaled.specs.Glue.{filling_glue}
-use Rattle.tb_node.specs.declared.Float.{Float}
-use Rattle.tb_node.specs.Plain.{Leaf, PlainNode, made, blank_box, skip}
+use Rattle.tb_node.specs.Plain.{Leaf, PlainNode, made, skip}
 use Rattle.tb_param.specs.declared.Params.{Params}
 use Rattle.tb_builder.specs.Fired.{Fired}
 use Rattle.tb_output.specs.State.{State, Work, begun, footnotes}
@@ -12,14 +11,14 @@ use Rattle.tb_output.specs.Columns
 use Rattle.tb_output.specs.Text
 use Rattle.tb_output.specs.Clear
 use Rattle.tb_output.specs.Out
-use Rattle.tb_output.proofs.WaitCosts.{wait_cost, ins-free}
-use Rattle.tb_output.proofs.FollowLemmas.{Follows, follows-same}
-use Rattle.tb_output.proofs.ColumnOutcomes.{TextOut, ordinary-out, text-out}
+use Rattle.tb_output.proofs.WaitCosts.{ins-free}
+use Rattle.tb_output.proofs.FollowLemmas.{follows-same}
+use Rattle.tb_output.proofs.ColumnOutcomes.{ordinary-out, text-out}
 use Rattle.tb_output.proofs.ClearOutcomes.{Fits}
 use Rattle.tb_output.proofs.ServeOutcomes.{Served, served, way_floats}
 use Rattle.tb_output.proofs.EndedLemmas.{Ended, ended-both, free-ended}
-use Rattle.tb_output.proofs.CycleStates.{Kind, credit, Holds, Phase, phase_cost, PhaseHolds, FloatsFit, GoalOut, goal-out}
-use Rattle.tb_output.proofs.CycleFirings.{FiresWell, after, waits}
+use Rattle.tb_output.proofs.CycleStates.{Kind, credit, Holds, Phase, phase_cost, PhaseHolds, FloatsFit, goal-out}
+use Rattle.tb_output.proofs.CycleFirings.{FiresWell, waits}
 use Rattle.tb_output.proofs.CycleVoids.{half_nodes, rest_nodes, v-back, c}
 
 again-ended : Ended false Clear.clear_again

@@ -1,34 +1,33 @@
 -- Each firing lowers what is left of the firings without a page, or ships a page.
-use Rattle.std.proofs.Common.{◌≡◌, refl, sym, ◌∙◌, ap, subst, ℕ, zero, suc, ℤ, pos, ◌+◌, ◌*◌, ◌≤◌, inl, inr, ◌⊎◌, Bool, true, false, List, [], ◌∷◌, ◌++◌, length, take, Option, Some, None, map, arith}
-use Rattle.std.specs.Prelude.{◌==◌, int_le, ◌||◌, ◌&&◌, not, if◌then◌else◌}
+use Rattle.std.proofs.Common.{◌≡◌, refl, sym, ◌∙◌, ap, subst, ℕ, ℤ, ◌+◌, ◌*◌, ◌≤◌, inl, inr, ◌⊎◌, Bool, true, false, List, [], ◌∷◌, ◌++◌, length, None, arith}
+use Rattle.std.specs.Prelude.{◌==◌, int_le, ◌||◌, if◌then◌else◌}
 use Rattle.std.specs.List.{AllByRecursion}
 use Rattle.std.proofs.lemmas.Int.{ints}
 use Rattle.std.proofs.lemmas.List.{append_assoc}
 use Rattle.tb_scaled.specs.Scaled.{eject_penalty}
-use Rattle.tb_scaled.specs.Glue.{filling_glue}
 use Rattle.tb_node.specs.declared.Float.{Float}
-use Rattle.tb_node.specs.Plain.{Leaf, PlainKind, plain, ins, act, PlainNode, made, blank_box, whatsit, pen, skip}
+use Rattle.tb_node.specs.Plain.{PlainKind, plain, ins, act, PlainNode, made, blank_box, whatsit, pen}
 use Rattle.tb_param.specs.declared.Params.{Params}
 use Rattle.tb_builder.specs.Fired.{Boxed, Fired, box_content}
 use Rattle.tb_builder.proofs.CutLemmas.{IsIns, AllIns}
 use Rattle.tb_builder.proofs.FittingFired.{Fitted}
 use Rattle.tb_builder.proofs.PausedPages.{Paused}
 use Rattle.tb_float.specs.Lists.{FloatLists}
-use Rattle.tb_output.specs.State.{State, Work, begun, footnotes, has_floats}
+use Rattle.tb_output.specs.State.{State, Work, begun, footnotes}
 use Rattle.tb_output.specs.Columns
 use Rattle.tb_output.specs.Clear
 use Rattle.tb_output.specs.Text
 use Rattle.tb_output.specs.Out
-use Rattle.tb_output.proofs.Sorts.{Sort, light, blank, real, silent, pause, hold, serve, clear, odd, pen_sort, kind_sort, sorts}
+use Rattle.tb_output.proofs.Sorts.{Sort, light, blank, pause, hold, serve, clear, odd, pen_sort, kind_sort, sorts}
 use Rattle.tb_output.proofs.SortLemmas.{sorts-append}
-use Rattle.tb_output.proofs.AgainLemmas.{Again, Idle, BreakAgain, left_after, again-idle, again-clear}
+use Rattle.tb_output.proofs.AgainLemmas.{Again, Idle, BreakAgain, again-idle}
 use Rattle.tb_output.proofs.WaitCosts.{sort_cost, wait_cost, cost-append, ins-free}
-use Rattle.tb_output.proofs.FollowLemmas.{waiting_floats, AllWait, Follows}
-use Rattle.tb_output.proofs.ColumnOutcomes.{IsLast, TextOut, LastOut, FirstOut, ordinary-out, last-out, first-out}
-use Rattle.tb_output.proofs.ClearOutcomes.{NoneWait, Fits, Single, Wide, WaitsWell, ClearOut, clear-out, halves, more, gathered}
-use Rattle.tb_output.proofs.WideLemmas.{DoubleFits, KeepsDouble, ordinary-double, clear_by-double}
+use Rattle.tb_output.proofs.FollowLemmas.{waiting_floats, AllWait}
+use Rattle.tb_output.proofs.ColumnOutcomes.{TextOut, LastOut, ordinary-out, last-out, first-out}
+use Rattle.tb_output.proofs.ClearOutcomes.{NoneWait, Fits, Single, Wide}
+use Rattle.tb_output.proofs.WideLemmas.{KeepsDouble, ordinary-double}
 use Rattle.tb_output.proofs.ServeOutcomes.{AllCurrent, current_floats, way_floats, Served, served}
-use Rattle.tb_output.proofs.CycleStates.{Kind, any, doubled, once, topped, ready, halted, clean, single, closed, credit, Once, Ready, IsSecond, Holds, Phase, starting, second, ending, phase_cost, PhaseHolds, FloatsFit, Bounded, GoalOut, goal-out}
+use Rattle.tb_output.proofs.CycleStates.{Kind, any, doubled, once, topped, ready, halted, clean, single, closed, credit, IsSecond, Holds, Phase, starting, second, ending, phase_cost, PhaseHolds, FloatsFit, Bounded, GoalOut, goal-out}
 
 -- ---- the sort of the penalty, by the routine's tests
 

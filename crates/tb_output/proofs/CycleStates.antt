@@ -1,10 +1,11 @@
 -- How many firings without a page a state can still bring, where the top skip is no higher than a page.
-use Rattle.std.proofs.Common.{◌≡◌, refl, sym, ◌∙◌, ap, subst, ℕ, zero, suc, ℤ, pos, ◌+◌, ◌*◌, ◌≤◌, inl, inr, ◌⊎◌, Bool, true, false, List, [], ◌∷◌, ◌++◌, length, Option, Some, None, arith}
-use Rattle.std.specs.Prelude.{int_le, int_lt, ◌||◌, ◌&&◌, ◌-ℤ◌, ◌+ℤ◌, not, if◌then◌else◌}
+use Rattle.std.proofs.Common.{◌≡◌, refl, sym, ◌∙◌, ℕ, ℤ, ◌+◌, ◌*◌, ◌≤◌, Bool, true, false, List, [], ◌∷◌, ◌++◌, length, None, arith}
+use Rattle.std.specs.Prelude.{int_lt, ◌&&◌, not, if◌then◌else◌}
 use Rattle.std.specs.List.{AllByRecursion}
 use Rattle.std.proofs.lemmas.Int.{ints}
+use Rattle.std.proofs.lemmas.List.{append-nil}
 use Rattle.tb_scaled.specs.Scaled.{eject_penalty, max_dimen}
-use Rattle.tb_node.specs.Plain.{Leaf, PlainNode, made, blank_box, whatsit, pen}
+use Rattle.tb_node.specs.Plain.{PlainNode, made, blank_box, whatsit, pen}
 use Rattle.tb_param.specs.declared.Params.{Params}
 use Rattle.tb_float.specs.Lists.{FloatLists}
 use Rattle.tb_float.specs.Rooms.{column_room_of}
@@ -12,12 +13,12 @@ use Rattle.tb_column.specs.Column.{warned}
 use Rattle.tb_column.specs.declared.Warn.TheVariants as warnings
 use Rattle.tb_builder.proofs.FittingFired.{Fitted}
 use Rattle.tb_builder.proofs.PausedPages.{Paused}
-use Rattle.tb_output.specs.State.{State, Work, sends, footnotes}
+use Rattle.tb_output.specs.State.{State, Work, footnotes}
 use Rattle.tb_output.specs.Out
-use Rattle.tb_output.proofs.Sorts.{Sort, light, blank, real, silent, pause, hold, serve, clear, odd, pen_sort, sorts}
+use Rattle.tb_output.proofs.Sorts.{blank, clear, sorts}
 use Rattle.tb_output.proofs.AgainLemmas.{Again, Idle}
 use Rattle.tb_output.proofs.WaitCosts.{wait_cost}
-use Rattle.tb_output.proofs.FollowLemmas.{waiting_floats, AllWait}
+use Rattle.tb_output.proofs.FollowLemmas.{AllWait}
 use Rattle.tb_output.proofs.ClearOutcomes.{NoneWait, Fits, Single}
 use Rattle.tb_output.proofs.WideLemmas.{DoubleFits}
 use Rattle.tb_output.proofs.ServeOutcomes.{AllCurrent, way_floats}
@@ -126,10 +127,6 @@ pub record GoalOut (p : Params) (n : ℤ) (a b : Work) : Type 0 where
   pub cost : wait_cost blanks ≡ 0
   pub quiet : Out.is_int n Out.hold_penalty ≡ false → a.state.floats.top ≡ [] → a.state.floats.bottom ≡ [] → a.state.floats.double ≡ [] → (blanks ≡ []) × (b.state.goal ≡ p.textheight)
 
-append-none : {X : Type 0} (xs : List X) → xs ++ [] ≡ xs
-append-none [] = refl
-append-none (x ∷ xs) = ap (λ ys. x ∷ ys) (append-none xs)
-
 -- where no area has a float, all of the page is left, and that is enough
 full-room : (p : Params) (l : FloatLists) → l.top ≡ [] → l.bottom ≡ [] → l.double ≡ [] → column_room_of p l ≡ p.textheight
 full-room p l a b c = at l.top l.bottom l.double a b c
@@ -156,10 +153,10 @@ goal-out p n w = by_hold (Out.is_int n Out.hold_penalty) refl
     told t = if t then w else record w { sent = w.sent ++ warned (warnings.Floats w.state.page) ∷ [] }
 
     held : Out.is_int n Out.hold_penalty ≡ true → GoalOut p n w (Out.with_goal max_dimen w)
-    held h = record { refused = refl; floats = refl; columns = refl; first = refl; cycles = refl; boxes = refl; blanks = []; back = sym (append-none w.put_back); idle = tt; cost = refl; quiet = λ k. let no : ⊥ = grind (arith, h, k) in absurd no }
+    held h = record { refused = refl; floats = refl; columns = refl; first = refl; cycles = refl; boxes = refl; blanks = []; back = sym (append-nil w.put_back); idle = tt; cost = refl; quiet = λ k. let no : ⊥ = grind (arith, h, k) in absurd no }
 
     roomy : GoalOut p n w (Out.with_goal (column_room_of p w.state.floats) w)
-    roomy = record { refused = refl; floats = refl; columns = refl; first = refl; cycles = refl; boxes = refl; blanks = []; back = sym (append-none w.put_back); idle = tt; cost = refl; quiet = λ k a b c. (refl, full-room p w.state.floats a b c) }
+    roomy = record { refused = refl; floats = refl; columns = refl; first = refl; cycles = refl; boxes = refl; blanks = []; back = sym (append-nil w.put_back); idle = tt; cost = refl; quiet = λ k a b c. (refl, full-room p w.state.floats a b c) }
 
     crowded : Out.is_crowded p (column_room_of p w.state.floats) ≡ true → GoalOut p n w (Out.leave_column w)
     crowded h = by_columns (w.state.two_columns && not w.state.first_column) w.refused

@@ -1,8 +1,8 @@
 -- A clear without footnotes lowers what is left of the firings without a page, or ships a page.
-use Rattle.std.proofs.Common.{◌≡◌, refl, sym, ◌∙◌, ap, subst, ℕ, zero, suc, ℤ, pos, ◌+◌, ◌*◌, ◌≤◌, inl, inr, ◌⊎◌, Bool, true, false, List, [], ◌∷◌, ◌++◌, length, Option, Some, None, arith}
+use Rattle.std.proofs.Common.{◌≡◌, refl, sym, ◌∙◌, ap, subst, ℕ, suc, ◌+◌, ◌*◌, ◌≤◌, inl, inr, ◌⊎◌, Bool, true, false, List, [], ◌∷◌, ◌++◌, length, Option, Some, None, arith}
 use Rattle.std.specs.Prelude.{int_le, ◌||◌, if◌then◌else◌}
 use Rattle.std.specs.List.{AllByRecursion}
-use Rattle.std.proofs.lemmas.List.{append_assoc}
+use Rattle.std.proofs.lemmas.List.{append_assoc, append-nil}
 use Rattle.tb_scaled.specs.Scaled.{eject_penalty}
 use Rattle.tb_node.specs.declared.Float.{Float}
 use Rattle.tb_node.specs.Plain.{Leaf, PlainNode, made, blank_box, whatsit, pen}
@@ -11,22 +11,22 @@ use Rattle.tb_builder.specs.Fired.{Fired}
 use Rattle.tb_builder.proofs.FittingFired.{Fitted}
 use Rattle.tb_builder.proofs.PausedPages.{Paused}
 use Rattle.tb_float.specs.Lists.{FloatLists}
-use Rattle.tb_output.specs.State.{State, Work, begun, puts, footnotes, has_floats}
+use Rattle.tb_output.specs.State.{State, Work, begun, footnotes, has_floats}
 use Rattle.tb_output.specs.Columns
 use Rattle.tb_output.specs.Text
 use Rattle.tb_output.specs.Clear
 use Rattle.tb_output.specs.Out
-use Rattle.tb_output.proofs.Sorts.{Sort, clear, pen_sort, sorts}
+use Rattle.tb_output.proofs.Sorts.{Sort, clear, sorts}
 use Rattle.tb_output.proofs.SortLemmas.{sorts-append}
-use Rattle.tb_output.proofs.AgainLemmas.{Again, Idle, BreakAgain, left_after, again-idle, again-clear}
-use Rattle.tb_output.proofs.WaitCosts.{sort_cost, wait_cost, cost-append}
-use Rattle.tb_output.proofs.FollowLemmas.{waiting_floats, AllWait, Follows}
-use Rattle.tb_output.proofs.ClearOutcomes.{NoneWait, Fits, Single, Wide, WaitsWell, How, ClearOut, clear-out, halves, more, gathered, gathered-all, gathered-count, halved-state, clear-all}
-use Rattle.tb_output.proofs.WideLemmas.{DoubleFits, KeepsDouble, clear_by-double}
+use Rattle.tb_output.proofs.AgainLemmas.{Again, Idle, left_after, again-idle, again-clear}
+use Rattle.tb_output.proofs.WaitCosts.{wait_cost, cost-append}
+use Rattle.tb_output.proofs.FollowLemmas.{waiting_floats}
+use Rattle.tb_output.proofs.ClearOutcomes.{NoneWait, Fits, Single, WaitsWell, How, ClearOut, clear-out, halves, more, gathered, gathered-count, halved-state, clear-all}
+use Rattle.tb_output.proofs.WideLemmas.{KeepsDouble, clear_by-double}
 use Rattle.tb_output.proofs.ServeOutcomes.{AllCurrent, current_floats, way_floats}
-use Rattle.tb_output.proofs.CycleStates.{Kind, any, doubled, once, topped, ready, halted, clean, single, closed, credit, Once, Ready, IsSecond, Holds, Phase, starting, second, ending, phase_cost, PhaseHolds, FloatsFit, Bounded, GoalOut, goal-out}
-use Rattle.tb_output.proofs.CycleFirings.{FiresWell, fits-same, after, waits, finish, finish-shipped, none-count, none-left, true-false, clear-no-hold, some-or-none, serve-sort, hold-sort, at-ordinary, at-serve, at-hold}
-use Rattle.tb_output.proofs.CycleClears.{left-of, is-clear, region, cost, at-most-one, not-once, not-halted, with-notes}
+use Rattle.tb_output.proofs.CycleStates.{Kind, any, doubled, once, topped, ready, halted, clean, single, closed, credit, IsSecond, Holds, Phase, starting, second, ending, phase_cost, PhaseHolds, FloatsFit, Bounded, GoalOut, goal-out}
+use Rattle.tb_output.proofs.CycleFirings.{FiresWell, after, waits, finish, finish-shipped, none-count, none-left, true-false, clear-no-hold, some-or-none, serve-sort, hold-sort, at-ordinary, at-serve, at-hold}
+use Rattle.tb_output.proofs.CycleClears.{left-of, region, cost, at-most-one, not-once, not-halted, with-notes}
 
 -- ---- what is put back behind the front
 
@@ -40,15 +40,11 @@ half_nodes t = if t then made blank_box ∷ Clear.clear_again else []
 abbrev pub rest_nodes : Bool → List PlainNode
 rest_nodes t = if t then Clear.clear_again else []
 
-append-none : {X : Type 0} (xs : List X) → xs ++ [] ≡ xs
-append-none [] = refl
-append-none (x ∷ xs) = ap (λ ys. x ∷ ys) (append-none xs)
-
 halved-back : (r h : Bool) (w : Work) → (more r (halves h w)).put_back ≡ w.put_back ++ (half_nodes h ++ rest_nodes r)
 halved-back true true w = append_assoc w.put_back (made blank_box ∷ Clear.clear_again) Clear.clear_again
 halved-back true false w = refl
 halved-back false true w = refl
-halved-back false false w = sym (append-none w.put_back)
+halved-back false false w = sym (append-nil w.put_back)
 
 back-cost : (r h : Bool) → wait_cost (half_nodes h ++ rest_nodes r) ≡ 3 * bit h + 3 * bit r
 back-cost true true = refl

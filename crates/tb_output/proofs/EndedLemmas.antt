@@ -1,16 +1,14 @@
 -- Each clear stands directly behind a box of no size that holds nothing.
-use Rattle.std.proofs.Common.{◌≡◌, refl, sym, ◌∙◌, ap, subst, ℕ, zero, suc, ℤ, pos, Bool, true, false, ◌+◌, List, [], ◌∷◌, ◌++◌, take, drop, arith}
-use Rattle.std.specs.Prelude.{int_le, ◌-ℤ◌, ◌&&◌, ◌||◌, if◌then◌else◌}
-use Rattle.std.specs.List.{AllByRecursion}
+use Rattle.std.proofs.Common.{◌≡◌, refl, subst, ℕ, ℤ, Bool, true, false, ◌+◌, List, [], ◌∷◌, ◌++◌, arith}
+use Rattle.std.specs.Prelude.{int_le, ◌&&◌, ◌||◌, if◌then◌else◌}
 use Rattle.std.proofs.lemmas.Int.{ints}
-use Rattle.tb_scaled.specs.Scaled.{is_zero, eject_penalty, inf_penalty}
-use Rattle.tb_node.specs.declared.What.{What}
+use Rattle.tb_scaled.specs.Scaled.{is_zero, eject_penalty}
 use Rattle.tb_node.specs.declared.What.TheVariants as what
 use Rattle.tb_node.specs.Plain.{hbox, rule, skip, kerned, pen, mark, note, whatsit, PlainKind, plain, ins, act, PlainNode, without_acts}
 use Rattle.tb_break.specs.Prune.{pruned_nodes}
 use Rattle.tb_builder.specs.Fired.{with_spent_break}
 use Rattle.tb_output.specs.Out.{is_int, clear_penalty, par_penalty, vert_penalty, hold_penalty}
-use Rattle.tb_output.proofs.Sorts.{Sort, light, pause, hold, serve, clear, odd, pen_sort}
+use Rattle.tb_output.proofs.Sorts.{light, pause, hold, serve, clear, odd, pen_sort}
 use Rattle.tb_output.proofs.WaitCosts.{sort_cost, kind_cost, wait_cost}
 
 -- a blank box of no size

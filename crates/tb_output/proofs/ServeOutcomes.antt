@@ -1,7 +1,6 @@
 -- What a firing at a float or note does to the lists of floats: the float goes to one of them, and what is put back brings no firing.
-use Rattle.std.proofs.Common.{◌≡◌, refl, sym, ◌∙◌, ap, subst, ℕ, zero, suc, ℤ, pos, ◌+◌, ◌≤◌, Bool, true, false, List, [], ◌∷◌, ◌++◌, length, Option, Some, None, map, arith}
+use Rattle.std.proofs.Common.{◌≡◌, refl, sym, ◌∙◌, ap, subst, ℕ, ℤ, ◌+◌, ◌≤◌, Bool, true, false, List, [], ◌∷◌, ◌++◌, Option, Some, None, map, arith}
 use Rattle.std.specs.Prelude.{int_le, ◌-◌, if◌then◌else◌}
-use Rattle.std.specs.List.{AllByRecursion}
 use Rattle.tb_scaled.specs.Scaled.{eject_penalty}
 use Rattle.tb_scaled.specs.declared.Glue.{Glue}
 use Rattle.tb_node.specs.declared.Float.{Float}
@@ -20,14 +19,13 @@ use Rattle.tb_area.specs.Area
 use Rattle.tb_margin.specs.declared.Placed.{Placed}
 use Rattle.tb_column.specs.Column.{warned, PlainSent}
 use Rattle.tb_column.specs.declared.Warn.TheVariants as warnings
-use Rattle.tb_output.specs.State.{State, Work, Recorded, placed, puts, sends, records_also, with_floats, footnotes}
+use Rattle.tb_output.specs.State.{Work, Recorded, placed, puts, sends, records_also, with_floats, footnotes}
 use Rattle.tb_output.specs.Place
 use Rattle.tb_output.specs.Columns
 use Rattle.tb_output.specs.Text
-use Rattle.tb_output.proofs.Sorts.{Sort, Steady, sorts}
 use Rattle.tb_output.proofs.FollowLemmas.{waiting_floats, AllWait, joined-count, joined-all, joined-current}
 use Rattle.tb_output.proofs.ColumnOutcomes.{NotDouble, area-single, joined-single}
-use Rattle.tb_output.proofs.WaitCosts.{wait_cost, cost-append, steady-free}
+use Rattle.tb_output.proofs.WaitCosts.{wait_cost, cost-append}
 
 -- the floats among the entries of the current list, and what holds of them
 abbrev pub current_floats : List Entry → ℕ

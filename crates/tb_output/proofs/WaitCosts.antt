@@ -1,17 +1,13 @@
 -- How many firings without a page what waits can bring: one for each penalty of a float or note and of the page before it, three for a clear, one for a change of columns; a float that is still to be taken counts twice.
-use Rattle.std.proofs.Common.{◌≡◌, refl, sym, ◌∙◌, ap, subst, ℕ, zero, suc, ℤ, ◌+◌, ◌≤◌, Bool, true, false, List, [], ◌∷◌, ◌++◌, take, drop, arith}
-use Rattle.std.specs.Prelude.{int_le, ◌||◌, if◌then◌else◌}
+use Rattle.std.proofs.Common.{◌≡◌, refl, ap, ℕ, zero, suc, ℤ, ◌+◌, ◌≤◌, List, [], ◌∷◌, ◌++◌, drop, arith}
 use Rattle.std.specs.List.{AllByRecursion}
-use Rattle.tb_scaled.specs.Scaled.{eject_penalty, inf_penalty}
 use Rattle.tb_node.specs.declared.Act.{Act}
 use Rattle.tb_node.specs.declared.Act.TheVariants as acts
-use Rattle.tb_node.specs.declared.What.{What}
 use Rattle.tb_node.specs.Plain.{hbox, rule, skip, kerned, pen, mark, note, whatsit, PlainKind, plain, ins, act, PlainNode, without_acts}
 use Rattle.tb_break.specs.Prune.{pruned_nodes}
 use Rattle.tb_builder.specs.Fired.{with_spent_break, penalty_at}
 use Rattle.tb_builder.specs.Reached.{Reach}
-use Rattle.tb_builder.proofs.CutLemmas.{acts_of, kind_acts, acted_of, CutAt, IsIns, AllIns}
-use Rattle.tb_output.specs.Out.{is_int, clear_penalty, par_penalty, vert_penalty, hold_penalty}
+use Rattle.tb_builder.proofs.CutLemmas.{acts_of, acted_of, CutAt, IsIns, AllIns}
 use Rattle.tb_output.proofs.Sorts.{Sort, light, blank, real, silent, pause, hold, serve, clear, odd, pen_sort, kind_sort, sorts, Steady, pen-sorts}
 
 abbrev pub sort_cost : Sort → ℕ

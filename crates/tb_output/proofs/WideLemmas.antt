@@ -1,9 +1,8 @@
 -- The floats of the double list are wide, and in one column that list stays empty.
 use Rattle.std.proofs.Common.{◌≡◌, refl, sym, ◌∙◌, ap, subst, ℕ, zero, suc, Bool, true, false, List, [], ◌∷◌, ◌++◌, length, Option, Some, None, arith}
-use Rattle.std.specs.Prelude.{not, ◌&&◌, ◌||◌, if◌then◌else◌}
+use Rattle.std.specs.Prelude.{not, ◌&&◌, if◌then◌else◌}
 use Rattle.std.specs.List.{AllByRecursion}
 use Rattle.tb_node.specs.declared.Float.{Float}
-use Rattle.tb_node.specs.declared.Where.{Where}
 use Rattle.tb_node.specs.declared.Where.TheVariants as places
 use Rattle.tb_scaled.specs.Glue.{filling_glue}
 use Rattle.tb_node.specs.Plain.{Leaf, PlainNode, made, blank_box, skip}
@@ -13,7 +12,7 @@ use Rattle.tb_float.specs.Rooms.{column_height_of}
 use Rattle.tb_fpage.specs.Company.{Choice, company, chosen_floats, left_floats}
 use Rattle.tb_area.specs.Area
 use Rattle.tb_column.specs.Column.{PlainColumn, PlainSheet, one, pair_sheet, text_column, single_floats_column, wide, wide_floats_column}
-use Rattle.tb_output.specs.State.{State, Work, Recorded, placed, output, records_also, with_floats, footnotes, puts, has_floats}
+use Rattle.tb_output.specs.State.{State, Work, Recorded, output, records_also, with_floats, footnotes, puts, has_floats}
 use Rattle.tb_output.specs.Place
 use Rattle.tb_output.specs.Ship
 use Rattle.tb_output.specs.Columns

@@ -1,18 +1,17 @@
 -- What is known of the page that fires, from what waited before it.
-use Rattle.std.proofs.Common.{◌≡◌, refl, sym, ◌∙◌, ap, subst, ℕ, zero, suc, ℤ, pos, ◌+◌, ◌*◌, ◌≤◌, inl, inr, ◌⊎◌, Bool, true, false, List, [], ◌∷◌, ◌++◌, map, take, drop, length, Option, Some, None, arith}
-use Rattle.std.specs.Prelude.{◌≤ℤ◌, ◌==◌, ◌-◌, int_lt, int_le, if◌then◌else◌}
-use Rattle.std.specs.List.{AllByRecursion}
+use Rattle.std.proofs.Common.{◌≡◌, refl, sym, ◌∙◌, ap, subst, ℕ, zero, suc, ℤ, pos, ◌+◌, ◌≤◌, Bool, true, false, List, [], ◌∷◌, ◌++◌, take, drop, length, None, arith}
+use Rattle.std.specs.Prelude.{◌≤ℤ◌, ◌-◌, int_le, if◌then◌else◌}
 use Rattle.std.proofs.lemmas.Int.{ints}
 use Rattle.tb_scaled.specs.Scaled.{eject_penalty, inf_penalty}
 use Rattle.tb_node.specs.declared.What.TheVariants as what
-use Rattle.tb_node.specs.Plain.{Leaf, PlainNode, made, whatsit, blank_box, pen, without_acts}
+use Rattle.tb_node.specs.Plain.{PlainNode, made, whatsit, blank_box, pen, without_acts}
 use Rattle.tb_break.specs.Prune.{pruned_nodes}
 use Rattle.tb_param.specs.declared.Params.{Params}
-use Rattle.tb_insert.specs.Account.{terms_after, Frozen, Labelled, labelled}
+use Rattle.tb_insert.specs.Account.{terms_after, Frozen, labelled}
 use Rattle.tb_builder.specs.Reached.{Reach}
-use Rattle.tb_builder.specs.Fired.{Boxed, Fired, page_break, from_break, fired_by, fired_of, frozen_for, penalty_at, with_spent_break, box_after, box_content, is_given, held_insertions, given_to, content_of}
+use Rattle.tb_builder.specs.Fired.{Fired, page_break, fired_by, fired_of, frozen_for, penalty_at, with_spent_break, box_content, held_insertions}
 use Rattle.tb_builder.proofs.PageWeights.{AllOfClass, labelled-class}
-use Rattle.tb_builder.proofs.CutLemmas.{AllCalm, acted_of, acts_of, CutAt, reach-cut, cut-class, class-pruned, AllIns, held-ins}
+use Rattle.tb_builder.proofs.CutLemmas.{acted_of, CutAt, reach-cut, cut-class, class-pruned, AllIns, held-ins}
 use Rattle.tb_builder.proofs.HeldLemmas.{none-labelled}
 use Rattle.tb_builder.proofs.FittingFired.{Fitted, FiresAt, fitted-fires, break_at}
 use Rattle.tb_builder.proofs.PausedPages.{Paused, paused-ordinary}
@@ -21,17 +20,17 @@ use Rattle.tb_output.specs.Text
 use Rattle.tb_output.specs.Clear
 use Rattle.tb_output.specs.Out
 use Rattle.tb_output.proofs.StateWeights.{OneBox}
-use Rattle.tb_output.proofs.Sorts.{Sort, light, blank, real, silent, pause, hold, serve, clear, odd, pen_sort, sorts, sorts-calm, acts-silent, Seen, none, one, many, seen_all}
+use Rattle.tb_output.proofs.Sorts.{Sort, light, blank, clear, odd, pen_sort, sorts, sorts-calm, none, seen_all}
 use Rattle.tb_output.proofs.SortLemmas.{sorts-append, take-drop, BreakStands, PageStands, cut-stands, pruned-stands}
-use Rattle.tb_output.proofs.PlaceLemmas.{AllSteady, WellPlaced, body-steady}
+use Rattle.tb_output.proofs.PlaceLemmas.{body-steady}
 use Rattle.tb_output.proofs.AgainLemmas.{Again, BreakAgain, again-pruned, again-behind, no-acts, acts-again, break-again}
 use Rattle.tb_output.proofs.WaitCosts.{sort_cost, wait_cost, acts_cost, cost-append, steady-free, page-cost}
 use Rattle.tb_output.proofs.EndedLemmas.{Ended, flat_last, ended-pruned, ended-acts, ended-behind, ended-spent}
 use Rattle.tb_output.proofs.ClearPages.{OneFlat, one-flat, clear-ended, FrontFits, front-fits}
-use Rattle.tb_output.proofs.ServeOutcomes.{way_floats}
-use Rattle.tb_output.proofs.CycleStates.{Kind, any, doubled, once, topped, ready, halted, clean, single, closed, credit, Once, Ready, IsSecond, Holds, Phase, starting, second, ending, phase_cost, PhaseHolds, FloatsFit, Bounded}
+use Rattle.tb_output.proofs.CycleStates.{Kind, any, doubled, once, topped, ready, halted, clean, single, closed, Holds, Phase, starting, second, ending, PhaseHolds}
 use Rattle.tb_output.proofs.CycleFirings.{clear-sort, FiresWell}
 use Rattle.tb_top.proofs.RunWeights.{Kept, page_of}
+use Rattle.tb_top.proofs.ClosingRuns.{void-given}
 
 take-free : (k : ℕ) (ns : List PlainNode) → wait_cost ns ≡ 0 → wait_cost (take k ns) ≡ 0
 take-free zero ns h = refl
@@ -39,22 +38,6 @@ take-free (suc k) [] h = refl
 take-free (suc k) (n ∷ ns) h =
     let r : wait_cost (take k ns) ≡ 0 = take-free k ns (omega arith) in
     omega arith
-
-given-content : (ls : List Labelled) (bs : List Boxed) → OneBox bs → box_content (map (box_after ls) bs) 254 ≡ None → is_given 254 ls ≡ false
-given-content ls [] o h = absurd o
-given-content ls (b ∷ []) o h = by_given (is_given 254 ls) (subst (λ (k : ℕ). (if k == 254 then (if is_given k ls then Some (content_of b.content ++ given_to k ls) else b.content) else None) ≡ None) o (named ls b h))
-  where
-    named : (ls : List Labelled) (b : Boxed) → (if (box_after ls b).number == 254 then (box_after ls b).content else None) ≡ None → (if b.number == 254 then (if is_given b.number ls then Some (content_of b.content ++ given_to b.number ls) else b.content) else None) ≡ None
-    named ls b h = by_test (is_given b.number ls) h
-      where
-        by_test : (t : Bool) → (if (if t then record b { content = Some (content_of b.content ++ given_to b.number ls) } else b).number == 254 then (if t then record b { content = Some (content_of b.content ++ given_to b.number ls) } else b).content else None) ≡ None → (if b.number == 254 then (if t then Some (content_of b.content ++ given_to b.number ls) else b.content) else None) ≡ None
-        by_test true h = h
-        by_test false h = h
-
-    by_given : (t : Bool) → (if t then Some (content_of b.content ++ given_to 254 ls) else b.content) ≡ None → t ≡ false
-    by_given true h = cc
-    by_given false h = refl
-given-content ls (b ∷ e ∷ bs) o h = absurd o
 
 is-special : (q : ℤ) → Out.is_int q Out.clear_penalty ≡ true → int_le eject_penalty q ≡ false
 is-special q h = grind (arith, ints, h)
@@ -130,7 +113,7 @@ module _ (p : Params) (s : State) (kept : Kept s) (ended : Ended false s.waiting
 
     -- a clear without footnotes has no insertions on its page, and its front is light
     none-there : footnotes (record t { boxes = page.boxes }) ≡ None → labelled z (take k w.passed) ≡ []
-    none-there h = none-labelled 254 z (take k w.passed) (labelled-class 254 z [] [] (take k w.passed) tt feet.0) (given-content (labelled z (take k w.passed)) t.boxes one_box h)
+    none-there h = none-labelled 254 z (take k w.passed) (labelled-class 254 z [] [] (take k w.passed) tt feet.0) (void-given (labelled z (take k w.passed)) t.boxes one_box h)
 
     flat : Out.is_int page.penalty Out.clear_penalty ≡ true → OneFlat page.body
     flat h =

@@ -1,10 +1,9 @@
 -- A run begins with four firings without a page for each float, note, clear and change of columns at most, and so never meets a limit that has room for them.
-use Rattle.std.proofs.Common.{◌≡◌, refl, sym, ◌∙◌, ap, subst, ℕ, zero, suc, ℤ, pos, ◌+◌, ◌*◌, ◌≤◌, Bool, true, false, List, [], ◌∷◌, ◌++◌, Option, Some, None, arith}
-use Rattle.std.specs.Prelude.{◌≤ℤ◌, pred, nat_abs, int_lt, int_le, ◌||◌, if◌then◌else◌}
-use Rattle.std.specs.List.{AllByRecursion}
+use Rattle.std.proofs.Common.{◌≡◌, refl, ap, ℕ, zero, suc, ℤ, pos, ◌+◌, ◌*◌, ◌≤◌, Bool, true, false, List, [], ◌∷◌, ◌++◌, arith}
+use Rattle.std.specs.Prelude.{◌≤ℤ◌, int_lt, int_le, if◌then◌else◌}
 use Rattle.std.proofs.lemmas.Int.{ints}
 use Rattle.tb_scaled.specs.Scaled.{eject_penalty}
-use Rattle.tb_node.specs.Plain.{Leaf, PlainNode, on_line, clearpage_kinds}
+use Rattle.tb_node.specs.Plain.{on_line, clearpage_kinds}
 use Rattle.tb_param.specs.declared.Params.{Params}
 use Rattle.tb_galley.specs.declared.Item.{Item}
 use Rattle.tb_galley.specs.declared.ItemKind.{ItemKind}
@@ -12,30 +11,24 @@ use Rattle.tb_galley.specs.declared.ItemKind.TheVariants as items
 use Rattle.tb_galley.specs.declared.Galley.{Galley}
 use Rattle.tb_galley.specs.Expand.{item_kinds, item_nodes, expanded}
 use Rattle.tb_output.specs.State.{State, first_state}
-use Rattle.tb_output.specs.Out.{is_int, clear_penalty, par_penalty, vert_penalty, hold_penalty}
-use Rattle.tb_output.proofs.Sorts.{Sort, light, pause, hold, serve, clear, odd, pen_sort}
+use Rattle.tb_output.proofs.Sorts.{clear, pen_sort}
 use Rattle.tb_output.proofs.WaitCosts.{sort_cost, wait_cost, cost-append}
 use Rattle.tb_output.proofs.EndedLemmas.{Ended, ended-both, free-ended}
-use Rattle.tb_output.proofs.CycleStates.{closed, starting, Bounded}
-use Rattle.tb_run.specs.Run.{Run, End, done, pool_full, dead_cycles, page_limit, node_limit, run_from, run_of, run_of_state, firings_left, held_count}
+use Rattle.tb_output.proofs.CycleStates.{closed, starting}
+use Rattle.tb_run.specs.Run.{End, done, pool_full, dead_cycles, page_limit, node_limit, run_from, run_of, firings_left, held_count, step}
 use Rattle.tb_top.specs.Firings.{HasReason}
 use Rattle.tb_top.specs.DeadCycles.{is_cycling, cycling_items, HasCycles, IsNotCycles}
 use Rattle.tb_top.proofs.FuelLemmas.{run-reason}
 use Rattle.tb_top.proofs.StartLemmas.{ItemFits, ItemsFit, start-kept}
-use Rattle.tb_top.proofs.RunWeights.{Kept, page_of}
+use Rattle.tb_top.proofs.RunWeights.{page_of}
 use Rattle.tb_top.proofs.CycleRuns.{ChangesEmpty, Cycled, StepStays, RunCycles, run-cycles}
 use Rattle.tb_builder.proofs.CutLemmas.{acted_of}
-use Rattle.tb_run.specs.Run.{step}
+use Rattle.tb_output.proofs.BreakSorts.{at-ordinary}
 
 -- ---- what the items cost
 
 high-cost : (q : ℤ) → int_le eject_penalty q ≡ true → sort_cost (pen_sort q) ≡ 0
-high-cost q h = by_tests (int_le q eject_penalty) (is_int q eject_penalty) (is_int q clear_penalty) (is_int q par_penalty || is_int q vert_penalty) (is_int q hold_penalty) (λ k. grind (arith, ints, h, k))
-  where
-    by_tests : (t e c x z : Bool) → (t ≡ true → e ≡ true) → sort_cost (if t then (if e then pause else (if c then clear else (if x then serve else (if z then hold else odd)))) else light) ≡ 0
-    by_tests true true c x z u = refl
-    by_tests true false c x z u = let no : ⊥ = grind (arith, u refl) in absurd no
-    by_tests false e c x z u = refl
+high-cost q h = at-ordinary (sort_cost (pen_sort q) ≡ 0) (λ x. pen_sort q ≡ x) q h (λ e. ap sort_cost e) (λ e. ap sort_cost e) refl
 
 -- an item costs four at most, and nothing where it is no float, note, clear or change of columns
 item-cost : (p : Params) (line : ℕ) (k : ItemKind) → ItemFits k → wait_cost (on_line line (item_kinds p k)) ≤ 4 * is_cycling k
