@@ -1,8 +1,7 @@
--- The lines of the floats of a class, in the order in which they stand in lists, columns, pages and events.
+-- The lines of the floats of a kind, in the order in which they stand in lists, columns, pages and events.
 use Rattle.std.proofs.Common.{◌≡◌, refl, sym, ◌∙◌, ap, ℕ, ◌==◌, ℤ, Bool, true, false, cond, List, [], ◌∷◌, ◌++◌, map, Option, Some, None, append_assoc, append-nil}
-use Rattle.std.specs.Prelude.{if◌then◌else◌}
+use Rattle.std.specs.Prelude.{◌&&◌, if◌then◌else◌}
 use Rattle.std.specs.List.{AllByRecursion}
-use Rattle.std.proofs.lemmas.List.{map-append}
 use Rattle.tb_scaled.specs.declared.Glue.{Glue}
 use Rattle.tb_node.specs.declared.What.TheVariants as what
 use Rattle.tb_node.specs.declared.Where.{Where}
@@ -22,131 +21,144 @@ use Rattle.tb_fpage.specs.Company as fpage
 use Rattle.tb_fpage.proofs.LawLemmas.{order-company}
 use Rattle.tb_column.specs.Column.{PlainColumn, PlainSheet, PlainSent, warned, shipped, one, wide, two, floats_with, floats_above, floats_below, notes_below, text_nodes, text_column, floats_after, floats_column}
 
+-- a kind of floats, within which order is kept: those of a class, on lines of which something holds (of all lines, where the class alone counts)
+pub record FloatKind : Type 0 where
+  pub class : ℕ
+  pub has : ℕ → Bool
+
+-- a float of this class and line is of the kind
+abbrev pub is_of : FloatKind → ℕ → ℕ → Bool
+is_of k class line = (class == k.class) && k.has line
+
+-- all floats of a class
+abbrev pub whole_class : ℕ → FloatKind
+whole_class c = record { class = c; has = λ n. true }
+
 -- the line, where a test holds
 abbrev pub line_if : Bool → ℕ → List ℕ
 line_if true n = n ∷ []
 line_if false n = []
 
--- the line of a float's box, where its class is k
-abbrev pub kind_lines : ℕ → PlainKind → List ℕ
-kind_lines k (plain (hbox (what.Float name class place item) h d)) = line_if (class == k) item
+-- the line of a float's box, where it is of the kind
+abbrev pub kind_lines : FloatKind → PlainKind → List ℕ
+kind_lines k (plain (hbox (what.Float name class place item) h d)) = line_if (is_of k class item) item
 kind_lines k _ = []
 
-abbrev pub class_lines : ℕ → List PlainNode → List ℕ
+abbrev pub class_lines : FloatKind → List PlainNode → List ℕ
 class_lines k [] = []
 class_lines k (n ∷ ns) = kind_lines k n.kind ++ class_lines k ns
 
-abbrev pub float_lines : ℕ → List Float → List ℕ
+abbrev pub float_lines : FloatKind → List Float → List ℕ
 float_lines k [] = []
-float_lines k (f ∷ fs) = line_if (f.class == k) f.line ++ float_lines k fs
+float_lines k (f ∷ fs) = line_if (is_of k f.class f.line) f.line ++ float_lines k fs
 
-abbrev pub left_lines : ℕ → Option PlainColumn → List ℕ
+abbrev pub left_lines : FloatKind → Option PlainColumn → List ℕ
 left_lines k None = []
 left_lines k (Some c) = class_lines k c.nodes
 
 -- the double floats of a page come first, and then its columns from left to right
-abbrev pub sheet_lines : ℕ → PlainSheet → List ℕ
+abbrev pub sheet_lines : FloatKind → PlainSheet → List ℕ
 sheet_lines k (one c) = class_lines k c.nodes
 sheet_lines k (wide c) = class_lines k c.nodes
 sheet_lines k (two tops at left right) = class_lines k tops ++ (class_lines k left.nodes ++ class_lines k right.nodes)
 
-abbrev pub sent_lines : ℕ → List PlainSent → List ℕ
+abbrev pub sent_lines : FloatKind → List PlainSent → List ℕ
 sent_lines k [] = []
 sent_lines k (warned w ∷ es) = sent_lines k es
 sent_lines k (shipped page sheet ∷ es) = sheet_lines k sheet ++ sent_lines k es
 
 -- ---- lists joined
 
-pub lines-append : (k : ℕ) (xs ys : List PlainNode) → class_lines k (xs ++ ys) ≡ class_lines k xs ++ class_lines k ys
+pub lines-append : (k : FloatKind) (xs ys : List PlainNode) → class_lines k (xs ++ ys) ≡ class_lines k xs ++ class_lines k ys
 lines-append k [] ys = refl
 lines-append k (x ∷ xs) ys = ap (λ l. kind_lines k x.kind ++ l) (lines-append k xs ys) ∙ sym (append_assoc (kind_lines k x.kind) (class_lines k xs) (class_lines k ys))
 
-pub floats-append : (k : ℕ) (xs ys : List Float) → float_lines k (xs ++ ys) ≡ float_lines k xs ++ float_lines k ys
+pub floats-append : (k : FloatKind) (xs ys : List Float) → float_lines k (xs ++ ys) ≡ float_lines k xs ++ float_lines k ys
 floats-append k [] ys = refl
-floats-append k (x ∷ xs) ys = ap (λ l. line_if (x.class == k) x.line ++ l) (floats-append k xs ys) ∙ sym (append_assoc (line_if (x.class == k) x.line) (float_lines k xs) (float_lines k ys))
+floats-append k (x ∷ xs) ys = ap (λ l. line_if (is_of k x.class x.line) x.line ++ l) (floats-append k xs ys) ∙ sym (append_assoc (line_if (is_of k x.class x.line) x.line) (float_lines k xs) (float_lines k ys))
 
-pub sent-append : (k : ℕ) (xs ys : List PlainSent) → sent_lines k (xs ++ ys) ≡ sent_lines k xs ++ sent_lines k ys
+pub sent-append : (k : FloatKind) (xs ys : List PlainSent) → sent_lines k (xs ++ ys) ≡ sent_lines k xs ++ sent_lines k ys
 sent-append k [] ys = refl
 sent-append k (warned w ∷ xs) ys = sent-append k xs ys
 sent-append k (shipped page sheet ∷ xs) ys = ap (λ l. sheet_lines k sheet ++ l) (sent-append k xs ys) ∙ sym (append_assoc (sheet_lines k sheet) (sent_lines k xs) (sent_lines k ys))
 
 -- ---- the floats of a class
 
-filtered-lines : (k : ℕ) (fs : List Float) → float_lines k fs ≡ map (λ f. f.line) (area.of_class k fs)
+filtered-lines : (k : FloatKind) (fs : List Float) → float_lines k fs ≡ float_lines k (area.of_class k.class fs)
 filtered-lines k [] = refl
-filtered-lines k (f ∷ fs) = by_test (f.class == k) (filtered-lines k fs)
+filtered-lines k (f ∷ fs) = by_test (f.class == k.class) refl (filtered-lines k fs)
   where
-    by_test : (t : Bool) → float_lines k fs ≡ map (λ f. f.line) (area.of_class k fs) → line_if t f.line ++ float_lines k fs ≡ map (λ f. f.line) (cond t (f ∷ area.of_class k fs) (area.of_class k fs))
-    by_test true h = ap (λ l. f.line ∷ l) h
-    by_test false h = h
+    by_test : (t : Bool) → (f.class == k.class) ≡ t → float_lines k fs ≡ float_lines k (area.of_class k.class fs) → line_if ((f.class == k.class) && k.has f.line) f.line ++ float_lines k fs ≡ float_lines k (cond t (f ∷ area.of_class k.class fs) (area.of_class k.class fs))
+    by_test true e h = ap (λ l. line_if ((f.class == k.class) && k.has f.line) f.line ++ l) h
+    by_test false e h = ap (λ t. line_if (t && k.has f.line) f.line ++ float_lines k fs) e ∙ h
 
-picked-lines : (k : ℕ) (fs : List Float) → float_lines k fs ≡ map (λ f. f.line) (fpage.of_class k fs)
+picked-lines : (k : FloatKind) (fs : List Float) → float_lines k fs ≡ float_lines k (fpage.of_class k.class fs)
 picked-lines k [] = refl
-picked-lines k (f ∷ fs) = by_test (f.class == k) (picked-lines k fs)
+picked-lines k (f ∷ fs) = by_test (f.class == k.class) refl (picked-lines k fs)
   where
-    by_test : (t : Bool) → float_lines k fs ≡ map (λ f. f.line) (fpage.of_class k fs) → line_if t f.line ++ float_lines k fs ≡ map (λ f. f.line) (if t then f ∷ fpage.of_class k fs else fpage.of_class k fs)
-    by_test true h = ap (λ l. f.line ∷ l) h
-    by_test false h = h
+    by_test : (t : Bool) → (f.class == k.class) ≡ t → float_lines k fs ≡ float_lines k (fpage.of_class k.class fs) → line_if ((f.class == k.class) && k.has f.line) f.line ++ float_lines k fs ≡ float_lines k (if t then f ∷ fpage.of_class k.class fs else fpage.of_class k.class fs)
+    by_test true e h = ap (λ l. line_if ((f.class == k.class) && k.has f.line) f.line ++ l) h
+    by_test false e h = ap (λ t. line_if (t && k.has f.line) f.line ++ float_lines k fs) e ∙ h
 
 -- floats in the same order of a class have the same lines
-pub ordered-lines : (k : ℕ) (fs gs : List Float) → area.of_class k fs ≡ area.of_class k gs → float_lines k fs ≡ float_lines k gs
-ordered-lines k fs gs e = filtered-lines k fs ∙ ap (map (λ (f : Float). f.line)) e ∙ sym (filtered-lines k gs)
+pub ordered-lines : (k : FloatKind) (fs gs : List Float) → area.of_class k.class fs ≡ area.of_class k.class gs → float_lines k fs ≡ float_lines k gs
+ordered-lines k fs gs e = filtered-lines k fs ∙ ap (float_lines k) e ∙ sym (filtered-lines k gs)
 
 -- the floats at the top, at the bottom and deferred keep their order where a column is filled
-pub filled-lines : (k : ℕ) (p : Params) (s : Suppress) (l : FloatLists) → let m = filled p s [] l.deferred l in float_lines k (m.top ++ m.bottom ++ m.deferred) ≡ float_lines k (l.top ++ l.bottom ++ l.deferred)
-filled-lines k p s l = ordered-lines k _ _ (fill-order k p s l)
+pub filled-lines : (k : FloatKind) (p : Params) (s : Suppress) (l : FloatLists) → let m = filled p s [] l.deferred l in float_lines k (m.top ++ m.bottom ++ m.deferred) ≡ float_lines k (l.top ++ l.bottom ++ l.deferred)
+filled-lines k p s l = ordered-lines k _ _ (fill-order k.class p s l)
 
 -- so do the double and the deferred ones where the space above two columns is
-pub doubled-lines : (k : ℕ) (p : Params) (s : Suppress) (l : FloatLists) → let m = doubled p s [] l.deferred l in float_lines k (m.double ++ m.deferred) ≡ float_lines k (l.double ++ l.deferred)
-doubled-lines k p s l = ordered-lines k _ _ (double-order k p s l)
+pub doubled-lines : (k : FloatKind) (p : Params) (s : Suppress) (l : FloatLists) → let m = doubled p s [] l.deferred l in float_lines k (m.double ++ m.deferred) ≡ float_lines k (l.double ++ l.deferred)
+doubled-lines k p s l = ordered-lines k _ _ (double-order k.class p s l)
 
 -- a company stands before the floats that are left
-pub company-lines : (k : ℕ) (z : Wanted) (fs : List Float) (cs : List Choice) → company z fs ≡ Some cs → float_lines k fs ≡ float_lines k (chosen_floats cs) ++ float_lines k (left_floats cs)
+pub company-lines : (k : FloatKind) (z : Wanted) (fs : List Float) (cs : List Choice) → company z fs ≡ Some cs → float_lines k fs ≡ float_lines k (chosen_floats cs) ++ float_lines k (left_floats cs)
 company-lines k z fs cs is =
     picked-lines k fs
-    ∙ ap (map (λ (f : Float). f.line)) (order-company z fs cs (chosen_floats cs) (left_floats cs) is refl refl k)
-    ∙ map-append (λ (f : Float). f.line) (fpage.of_class k (chosen_floats cs)) (fpage.of_class k (left_floats cs))
-    ∙ ap (λ l. l ++ map (λ (f : Float). f.line) (fpage.of_class k (left_floats cs))) (sym (picked-lines k (chosen_floats cs)))
+    ∙ ap (float_lines k) (order-company z fs cs (chosen_floats cs) (left_floats cs) is refl refl k.class)
+    ∙ floats-append k (fpage.of_class k.class (chosen_floats cs)) (fpage.of_class k.class (left_floats cs))
+    ∙ ap (λ l. l ++ float_lines k (fpage.of_class k.class (left_floats cs))) (sym (picked-lines k (chosen_floats cs)))
     ∙ ap (λ l. float_lines k (chosen_floats cs) ++ l) (sym (picked-lines k (left_floats cs)))
 
 -- ---- columns
 
-floats_with-lines : (k : ℕ) (place : Where) (sep : Glue) (fs : List Float) → class_lines k (floats_with place sep fs) ≡ float_lines k fs
+floats_with-lines : (k : FloatKind) (place : Where) (sep : Glue) (fs : List Float) → class_lines k (floats_with place sep fs) ≡ float_lines k fs
 floats_with-lines k place sep [] = refl
-floats_with-lines k place sep (f ∷ fs) = ap (λ l. line_if (f.class == k) f.line ++ l) (floats_with-lines k place sep fs)
+floats_with-lines k place sep (f ∷ fs) = ap (λ l. line_if (is_of k f.class f.line) f.line ++ l) (floats_with-lines k place sep fs)
 
-pub floats_above-lines : (k : ℕ) (place : Where) (sep last : Glue) (fs : List Float) → class_lines k (floats_above place sep last fs) ≡ float_lines k fs
+pub floats_above-lines : (k : FloatKind) (place : Where) (sep last : Glue) (fs : List Float) → class_lines k (floats_above place sep last fs) ≡ float_lines k fs
 floats_above-lines k place sep last [] = refl
 floats_above-lines k place sep last (f ∷ fs) = lines-append k (floats_with place sep (f ∷ fs)) _ ∙ append-nil (class_lines k (floats_with place sep (f ∷ fs))) ∙ floats_with-lines k place sep (f ∷ fs)
 
-floats_below-lines : (k : ℕ) (place : Where) (sep first : Glue) (fs : List Float) → class_lines k (floats_below place sep first fs) ≡ float_lines k fs
+floats_below-lines : (k : FloatKind) (place : Where) (sep first : Glue) (fs : List Float) → class_lines k (floats_below place sep first fs) ≡ float_lines k fs
 floats_below-lines k place sep first [] = refl
 floats_below-lines k place sep first (f ∷ fs) = lines-append k (floats_with place sep (f ∷ fs)) _ ∙ append-nil (class_lines k (floats_with place sep (f ∷ fs))) ∙ floats_with-lines k place sep (f ∷ fs)
 
-floats_after-lines : (k : ℕ) (sep : Glue) (fs : List Float) → class_lines k (floats_after sep fs) ≡ float_lines k fs
+floats_after-lines : (k : FloatKind) (sep : Glue) (fs : List Float) → class_lines k (floats_after sep fs) ≡ float_lines k fs
 floats_after-lines k sep [] = refl
-floats_after-lines k sep (f ∷ fs) = ap (λ l. line_if (f.class == k) f.line ++ l) (floats_after-lines k sep fs)
+floats_after-lines k sep (f ∷ fs) = ap (λ l. line_if (is_of k f.class f.line) f.line ++ l) (floats_after-lines k sep fs)
 
-pub floats_column-lines : (k : ℕ) (height : ℤ) (above between below : Glue) (fs : List Float) → class_lines k (floats_column height above between below fs).nodes ≡ float_lines k fs
+pub floats_column-lines : (k : FloatKind) (height : ℤ) (above between below : Glue) (fs : List Float) → class_lines k (floats_column height above between below fs).nodes ≡ float_lines k fs
 floats_column-lines k height above between below fs = lines-append k (floats_after between fs) _ ∙ append-nil (class_lines k (floats_after between fs)) ∙ floats_after-lines k between fs
 
 -- a leaf that is no float's box
-abbrev pub IsFloatless : ℕ → Leaf → Type 0
+abbrev pub IsFloatless : FloatKind → Leaf → Type 0
 IsFloatless k l = kind_lines k (plain l.matter) ≡ []
 
-abbrev pub AreFloatless : ℕ → List Leaf → Type 0
+abbrev pub AreFloatless : FloatKind → List Leaf → Type 0
 AreFloatless k ls = AllByRecursion (IsFloatless k) ls
 
-leaves-lines : (k : ℕ) (ls : List Leaf) → AreFloatless k ls → class_lines k (map leaf_node ls) ≡ []
+leaves-lines : (k : FloatKind) (ls : List Leaf) → AreFloatless k ls → class_lines k (map leaf_node ls) ≡ []
 leaves-lines k [] h = refl
 leaves-lines k (l ∷ ls) h = ap (λ x. x ++ class_lines k (map leaf_node ls)) h.0 ∙ leaves-lines k ls h.1
 
-notes_below-lines : (k : ℕ) (p : Params) (o : Option (List Leaf)) → AreFloatless k (content_of o) → class_lines k (notes_below p o) ≡ []
+notes_below-lines : (k : FloatKind) (p : Params) (o : Option (List Leaf)) → AreFloatless k (content_of o) → class_lines k (notes_below p o) ≡ []
 notes_below-lines k p None h = refl
 notes_below-lines k p (Some ls) h = leaves-lines k ls h
 
 -- a text column has the floats at the top, those in its text, and those at the bottom
-pub text_column-lines : (k : ℕ) (p : Params) (l : FloatLists) (body : List PlainNode) (notes : Option (List Leaf)) → AreFloatless k (content_of notes) → class_lines k (text_column p l body notes).nodes ≡ float_lines k l.top ++ (class_lines k body ++ float_lines k l.bottom)
+pub text_column-lines : (k : FloatKind) (p : Params) (l : FloatLists) (body : List PlainNode) (notes : Option (List Leaf)) → AreFloatless k (content_of notes) → class_lines k (text_column p l body notes).nodes ≡ float_lines k l.top ++ (class_lines k body ++ float_lines k l.bottom)
 text_column-lines k p l body notes h =
     let tops = floats_above places.Top p.floatsep p.textfloatsep l.top in
     let bottoms = floats_below places.Bottom p.floatsep p.textfloatsep l.bottom in

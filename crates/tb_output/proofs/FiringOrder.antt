@@ -37,7 +37,7 @@ use Rattle.tb_output.proofs.StateWeights.{Paired}
 use Rattle.tb_output.proofs.TurnLemmas.{next-turned, put_out-turned, float_columns-turned, clear_wide-turned}
 use Rattle.tb_output.proofs.FillLemmas.{HasLists, fill_column-lists}
 use Rattle.tb_output.proofs.RisingLists.{all-join, all-of, IsAbove, Rises}
-use Rattle.tb_output.proofs.ClassLines.{line_if, class_lines, float_lines, left_lines, sent_lines, lines-append, sent-append, AreFloatless, filled-lines, text_column-lines}
+use Rattle.tb_output.proofs.ClassLines.{FloatKind, is_of, line_if, class_lines, float_lines, left_lines, sent_lines, lines-append, sent-append, AreFloatless, filled-lines, text_column-lines}
 use Rattle.tb_output.proofs.RecordLines.{IsCarried}
 use Rattle.tb_output.proofs.StayLemmas.{Stays, joined, placed-stays, sends-stays}
 use Rattle.tb_output.proofs.QuietLemmas.{AllAreas, AddsQuiet, next-added, fill-areas, fill-same}
@@ -51,19 +51,19 @@ use Rattle.tb_output.proofs.TakenOrder.{to_top, to_bottom, to_deferred, to_here}
 -- ---- nodes that the routine makes
 
 -- nodes without acts, without floats in feet, and without penalties below that of a page's end
-pub record AreLight (k : ℕ) (ns : List PlainNode) : Type 0 where
+pub record AreLight (k : FloatKind) (ns : List PlainNode) : Type 0 where
   pub takes : take_lines k ns ≡ []
   pub feet : HoldFloatless k ns
   pub endless : AreEndless ns
 
-pub light-join : (k : ℕ) (xs ys : List PlainNode) → AreLight k xs → AreLight k ys → AreLight k (xs ++ ys)
+pub light-join : (k : FloatKind) (xs ys : List PlainNode) → AreLight k xs → AreLight k ys → AreLight k (xs ++ ys)
 light-join k xs ys a b = record {
   takes = takes-append k xs ys ∙ ap (λ l. l ++ take_lines k ys) a.takes ∙ b.takes;
   feet = all-join (λ (n : PlainNode). HoldsFloatless k n.kind) xs ys a.feet b.feet;
   endless = endless-join xs ys a.endless b.endless;
 }
 
-pub light-take : (k i : ℕ) (ns : List PlainNode) → AreLight k ns → AreLight k (take i ns)
+pub light-take : (k : FloatKind) (i : ℕ) (ns : List PlainNode) → AreLight k ns → AreLight k (take i ns)
 light-take k zero ns h = record { takes = refl; feet = tt; endless = tt }
 light-take k (suc i) [] h = record { takes = refl; feet = tt; endless = tt }
 light-take k (suc i) (n ∷ ns) h =
@@ -77,21 +77,21 @@ light-take k (suc i) (n ∷ ns) h =
 calm-endless : (n : ℤ) → int_le n eject_penalty ≡ false → int_lt n eject_penalty ≡ false
 calm-endless n h = grind (arith, ints, h)
 
-interline-light : (k : ℕ) (n : ℤ) (o : Option Glue) → int_le n eject_penalty ≡ false → AreLight k (Text.penalty_nodes n o) × (class_lines k (Text.penalty_nodes n o) ≡ [])
+interline-light : (k : FloatKind) (n : ℤ) (o : Option Glue) → int_le n eject_penalty ≡ false → AreLight k (Text.penalty_nodes n o) × (class_lines k (Text.penalty_nodes n o) ≡ [])
 interline-light k n None calm = (record { takes = refl; feet = (tt, tt); endless = (calm-endless n calm, tt) }, refl)
 interline-light k n (Some g) calm = (record { takes = refl; feet = (tt, (tt, (tt, tt))); endless = (refl, (calm-endless n calm, (refl, tt))) }, refl)
 
-here-light : (k : ℕ) (p : Params) (vert : Bool) (f : Float) → int_le p.interlinepenalty eject_penalty ≡ false → AreLight k (Text.here_nodes p vert f) × (class_lines k (Text.here_nodes p vert f) ≡ line_if (f.class == k) f.line)
-here-light k p true f calm = (record { takes = refl; feet = (tt, (tt, (tt, (tt, (tt, tt))))); endless = (refl, (refl, (calm-endless p.interlinepenalty calm, (refl, (refl, tt))))) }, append-nil (line_if (f.class == k) f.line))
-here-light k p false f calm = (record { takes = refl; feet = (tt, (tt, (tt, (tt, tt)))); endless = (refl, (refl, (calm-endless p.interlinepenalty calm, (refl, tt)))) }, append-nil (line_if (f.class == k) f.line))
+here-light : (k : FloatKind) (p : Params) (vert : Bool) (f : Float) → int_le p.interlinepenalty eject_penalty ≡ false → AreLight k (Text.here_nodes p vert f) × (class_lines k (Text.here_nodes p vert f) ≡ line_if (is_of k f.class f.line) f.line)
+here-light k p true f calm = (record { takes = refl; feet = (tt, (tt, (tt, (tt, (tt, tt))))); endless = (refl, (refl, (calm-endless p.interlinepenalty calm, (refl, (refl, tt))))) }, append-nil (line_if (is_of k f.class f.line) f.line))
+here-light k p false f calm = (record { takes = refl; feet = (tt, (tt, (tt, (tt, tt)))); endless = (refl, (refl, (calm-endless p.interlinepenalty calm, (refl, tt)))) }, append-nil (line_if (is_of k f.class f.line) f.line))
 
 -- ---- footnotes
 
-pub notes-light : (k : ℕ) (p : Params) (o : Option (List Leaf)) → AreFloatless k (content_of o) → AreLight k (Text.notes_nodes p o) × (class_lines k (Text.notes_nodes p o) ≡ [])
+pub notes-light : (k : FloatKind) (p : Params) (o : Option (List Leaf)) → AreFloatless k (content_of o) → AreLight k (Text.notes_nodes p o) × (class_lines k (Text.notes_nodes p o) ≡ [])
 notes-light k p None h = (record { takes = refl; feet = tt; endless = tt }, refl)
 notes-light k p (Some ls) h = (record { takes = refl; feet = (h, tt); endless = (refl, tt) }, refl)
 
-pub content-floatless : (k n : ℕ) (bs : List Boxed) → BoxesFloatless k bs → AreFloatless k (content_of (box_content bs n))
+pub content-floatless : (k : FloatKind) (n : ℕ) (bs : List Boxed) → BoxesFloatless k bs → AreFloatless k (content_of (box_content bs n))
 content-floatless k n [] h = tt
 content-floatless k n (b ∷ bs) h = by_number (b.number == n) h.0 (content-floatless k n bs h.1)
   where
@@ -99,18 +99,18 @@ content-floatless k n (b ∷ bs) h = by_number (b.number == n) h.0 (content-floa
     by_number true x y = x
     by_number false x y = y
 
-pub emptied-floatless : (k : ℕ) (bs : List Boxed) → BoxesFloatless k (Columns.emptied_boxes bs)
+pub emptied-floatless : (k : FloatKind) (bs : List Boxed) → BoxesFloatless k (Columns.emptied_boxes bs)
 emptied-floatless k [] = tt
 emptied-floatless k (b ∷ bs) = (tt, emptied-floatless k bs)
 
 -- ---- a firing at work
 
 -- the order of a class in a firing at work, with these lines in the text, after these events and records
-abbrev pub Ordered : ℕ → (ℕ → Type 0) → List ℕ → List ℕ → List Recorded → List ℕ → Work → Type 0
+abbrev pub Ordered : FloatKind → (ℕ → Type 0) → List ℕ → List ℕ → List Recorded → List ℕ → Work → Type 0
 Ordered k Known takes past old text w = Order k Known text takes (past ++ sent_lines k w.sent) (old ++ w.records) w.state.floats w.state.two_columns w.state.first_column w.state.left_column
 
 -- the float or note that was taken last went to its place; these nodes are put back besides
-pub record Gone (k : ℕ) (Known : ℕ → Type 0) (takes past : List ℕ) (old : List Recorded) (text : List ℕ) (a c : Work) : Type 0 where
+pub record Gone (k : FloatKind) (Known : ℕ → Type 0) (takes past : List ℕ) (old : List Recorded) (text : List ℕ) (a c : Work) : Type 0 where
   pub more : List PlainNode
   pub put : c.put_back ≡ a.put_back ++ more
   pub light : AreLight k more
@@ -118,7 +118,7 @@ pub record Gone (k : ℕ) (Known : ℕ → Type 0) (takes past : List ℕ) (old 
   pub stays_held : c.state.held_page ≡ a.state.held_page
   pub stays_boxes : c.state.boxes ≡ a.state.boxes
 
-module _ (k : ℕ) (Known : ℕ → Type 0) (takes past : List ℕ) (old : List Recorded) where
+module _ (k : FloatKind) (Known : ℕ → Type 0) (takes past : List ℕ) (old : List Recorded) where
   -- ---- a text column
 
   put_out_text-hand : (p : Params) (held rest : List ℕ) (body : List PlainNode) (w : Work) → AreFloatless k (content_of (footnotes w.state)) → (Columns.put_out_text p body w).refused ≡ false
@@ -292,8 +292,8 @@ module _ (k : ℕ) (Known : ℕ → Type 0) (takes past : List ℕ) (old : List 
       bottom-ordered a = recorded-ordered text (placed f places.Bottom l height) (record left { bottom = l.bottom ++ f ∷ [] }) w w_ok
           (to_bottom k Known text takes (past ++ sent_lines k w.sent) (old ++ w.records) l w.state.two_columns w.state.first_column w.state.left_column f es current h height l a)
 
-      here-ordered : HasNone f l.deferred → HasNone f l.bottom → Ordered k Known takes past old (text ++ line_if (f.class == k) f.line) (Place.place_float p places.Here f left w)
-      here-ordered a b = recorded-ordered (text ++ line_if (f.class == k) f.line) (placed f places.Here l height) (record left { here = l.here ++ f ∷ [] }) w w_ok
+      here-ordered : HasNone f l.deferred → HasNone f l.bottom → Ordered k Known takes past old (text ++ line_if (is_of k f.class f.line) f.line) (Place.place_float p places.Here f left w)
+      here-ordered a b = recorded-ordered (text ++ line_if (is_of k f.class f.line) f.line) (placed f places.Here l height) (record left { here = l.here ++ f ∷ [] }) w w_ok
           (to_here k Known text takes (past ++ sent_lines k w.sent) (old ++ w.records) l w.state.two_columns w.state.first_column w.state.left_column f es current h height l a b)
 
       deferred-ordered : (g : Float) → g.class ≡ f.class → g.line ≡ f.line → Ordered k Known takes past old text (Place.place_float p places.Deferred g left w)

@@ -21,7 +21,7 @@ use Rattle.tb_output.proofs.StateWeights.{Paired}
 use Rattle.tb_output.proofs.WorkWeights.{is_serving}
 use Rattle.tb_output.proofs.TurnLemmas.{first-turned, goal-turned}
 use Rattle.tb_output.proofs.RisingLists.{all-join}
-use Rattle.tb_output.proofs.ClassLines.{class_lines, sent_lines, lines-append}
+use Rattle.tb_output.proofs.ClassLines.{FloatKind, class_lines, sent_lines, lines-append}
 use Rattle.tb_output.proofs.StayLemmas.{Stays, joined, next-stays, all_wide-stays, put_out-stays, float_columns-stays, sends-stays}
 use Rattle.tb_output.proofs.FloatlessFeet.{HoldsFloatless, HoldFloatless, BoxesFloatless}
 use Rattle.tb_output.proofs.PageLines.{take_lines, takes-append, none-front, AreEarly, AreEndless, early-none, early-join, lines-split}
@@ -31,7 +31,7 @@ use Rattle.tb_output.proofs.FiringOrder.{AreLight, light-join, light-take, notes
 -- ---- the invariant between firings
 
 -- the class is in order, with what has shipped before, after these records; in what waits no float's box of the class stands behind a penalty at which floats are served or cleared; and no footnote holds one
-pub record InOrder (k : ℕ) (Known : ℕ → Type 0) (past : List ℕ) (old : List Recorded) (s : State) : Type 0 where
+pub record InOrder (k : FloatKind) (Known : ℕ → Type 0) (past : List ℕ) (old : List Recorded) (s : State) : Type 0 where
   pub ordered : Order k Known (class_lines k s.held_page ++ class_lines k s.waiting) (take_lines k s.waiting) past old s.floats s.two_columns s.first_column s.left_column
   pub early : AreEarly k s.waiting
   pub feet : HoldFloatless k s.waiting
@@ -39,7 +39,7 @@ pub record InOrder (k : ℕ) (Known : ℕ → Type 0) (past : List ℕ) (old : L
   pub boxes : BoxesFloatless k s.boxes
 
 -- the same of a firing at work, before what is put back and the rest of the page wait again
-pub record Settled (k : ℕ) (Known : ℕ → Type 0) (takes past : List ℕ) (old : List Recorded) (rest : List PlainNode) (w : Work) : Type 0 where
+pub record Settled (k : FloatKind) (Known : ℕ → Type 0) (takes past : List ℕ) (old : List Recorded) (rest : List PlainNode) (w : Work) : Type 0 where
   pub ordered : Ordered k Known takes past old (class_lines k w.state.held_page ++ (class_lines k w.put_back ++ class_lines k rest)) w
   pub early : AreEarly k (w.put_back ++ rest)
   pub none_taken : take_lines k w.put_back ≡ []
@@ -49,7 +49,7 @@ pub record Settled (k : ℕ) (Known : ℕ → Type 0) (takes past : List ℕ) (o
 
 -- ---- what a clear puts back
 
-pub record PutsNone (k : ℕ) (a c : Work) : Type 0 where
+pub record PutsNone (k : FloatKind) (a c : Work) : Type 0 where
   pub more : List PlainNode
   pub put : c.put_back ≡ a.put_back ++ more
   pub lines : class_lines k more ≡ []
@@ -58,13 +58,13 @@ pub record PutsNone (k : ℕ) (a c : Work) : Type 0 where
   pub held : c.state.held_page ≡ a.state.held_page
   pub boxes : BoxesFloatless k a.state.boxes → BoxesFloatless k c.state.boxes
 
-nothing : (k : ℕ) (a c : Work) → Stays a c → PutsNone k a c
+nothing : (k : FloatKind) (a c : Work) → Stays a c → PutsNone k a c
 nothing k a c s = record { more = []; put = s.put_back ∙ sym (append-nil a.put_back); lines = refl; takes = refl; feet = tt; held = s.held; boxes = λ b. subst (BoxesFloatless k) (sym s.boxes) b }
 
-some : (k : ℕ) (ns : List PlainNode) (w : Work) → class_lines k ns ≡ [] → take_lines k ns ≡ [] → HoldFloatless k ns → PutsNone k w (puts ns w)
+some : (k : FloatKind) (ns : List PlainNode) (w : Work) → class_lines k ns ≡ [] → take_lines k ns ≡ [] → HoldFloatless k ns → PutsNone k w (puts ns w)
 some k ns w l t f = record { more = ns; put = refl; lines = l; takes = t; feet = f; held = refl; boxes = λ b. b }
 
-after : (k : ℕ) (a b c : Work) → PutsNone k a b → PutsNone k b c → PutsNone k a c
+after : (k : FloatKind) (a b c : Work) → PutsNone k a b → PutsNone k b c → PutsNone k a c
 after k a b c x y = record {
   more = x.more ++ y.more;
   put = y.put ∙ ap (λ ns. ns ++ y.more) x.put ∙ append_assoc a.put_back x.more y.more;
@@ -78,20 +78,20 @@ after k a b c x y = record {
 same : (a : Work) → Stays a a
 same a = record { put_back = refl; held = refl; boxes = refl }
 
-none_if : (k : ℕ) (a : Work) (t : Bool) (b c : Work) → PutsNone k a b → PutsNone k a c → PutsNone k a (if t then b else c)
+none_if : (k : FloatKind) (a : Work) (t : Bool) (b c : Work) → PutsNone k a b → PutsNone k a c → PutsNone k a (if t then b else c)
 none_if k a true b c x y = x
 none_if k a false b c x y = y
 
-clear_again-none : (k : ℕ) (w : Work) → PutsNone k w (puts Clear.clear_again w)
+clear_again-none : (k : FloatKind) (w : Work) → PutsNone k w (puts Clear.clear_again w)
 clear_again-none k w = some k Clear.clear_again w refl refl (tt, (tt, (tt, (tt, (tt, tt)))))
 
-put_out_text-none : (k : ℕ) (p : Params) (body : List PlainNode) (w : Work) → PutsNone k w (Columns.put_out_text p body w)
+put_out_text-none : (k : FloatKind) (p : Params) (body : List PlainNode) (w : Work) → PutsNone k w (Columns.put_out_text p body w)
 put_out_text-none k p body w =
     let v = Columns.without_column_floats w in
     let s = put_out-stays p (text_column p w.state.floats body (footnotes w.state)) v in
     record { more = []; put = s.put_back ∙ sym (append-nil w.put_back); lines = refl; takes = refl; feet = tt; held = s.held; boxes = λ b. subst (BoxesFloatless k) (sym s.boxes) (emptied-floatless k w.state.boxes) }
 
-clear_wide-none : (k : ℕ) (p : Params) (w : Work) → PutsNone k w (Clear.clear_wide p w)
+clear_wide-none : (k : FloatKind) (p : Params) (w : Work) → PutsNone k w (Clear.clear_wide p w)
 clear_wide-none k p w =
     let a = with_floats (Clear.double_again w.state.floats) w in
     none_if k w (not w.state.two_columns) w _ (nothing k w w (same w))
@@ -99,7 +99,7 @@ clear_wide-none k p w =
     (after k w a (Ship.all_wide_pages p true a) (nothing k w a (record { put_back = refl; held = refl; boxes = refl })) (nothing k a (Ship.all_wide_pages p true a) (all_wide-stays p true a)))
     (some k (made blank_box ∷ Clear.clear_again) w refl refl (tt, (tt, (tt, (tt, (tt, (tt, tt))))))))
 
-clear_floats-none : (k : ℕ) (p : Params) (body : List PlainNode) (w : Work) → AreLight k body → class_lines k body ≡ [] → PutsNone k w (Clear.clear_floats p body w)
+clear_floats-none : (k : FloatKind) (p : Params) (body : List PlainNode) (w : Work) → AreLight k body → class_lines k body ≡ [] → PutsNone k w (Clear.clear_floats p body w)
 clear_floats-none k p body w light none =
     let i = (split_of (pos 0) p.splitmaxdepth (map node_shape body)).index in
     let z = puts (Clear.cleared_front p body) w in
@@ -113,7 +113,7 @@ clear_floats-none k p body w light none =
     (after k b c (Clear.clear_rest c) (clear_wide-none k p b)
     (none_if k c (has_floats c.state.floats.deferred) (puts Clear.clear_again c) c (clear_again-none k c) (nothing k c c (same c))))))
 
-clear-none : (k : ℕ) (p : Params) (body : List PlainNode) (w : Work) (o : Option (List Leaf)) → AreLight k body → class_lines k body ≡ [] → PutsNone k w (Clear.clear_by p body w o)
+clear-none : (k : FloatKind) (p : Params) (body : List PlainNode) (w : Work) (o : Option (List Leaf)) → AreLight k body → class_lines k body ≡ [] → PutsNone k w (Clear.clear_by p body w o)
 clear-none k p body w None light none = clear_floats-none k p body w light none
 clear-none k p body w (Some notes) light none =
     let a = Columns.put_out_text p (body ++ made (skip filling_glue) ∷ []) w in
@@ -124,7 +124,7 @@ clear-none k p body w (Some notes) light none =
 forced : (n : ℤ) → int_le eject_penalty n ≡ false → int_lt n eject_penalty ≡ true
 forced n h = grind (arith, ints, h)
 
-module _ (k : ℕ) (Known : ℕ → Type 0) (takes past : List ℕ) (old : List Recorded) (p : Params) (calm : int_le p.interlinepenalty eject_penalty ≡ false) (f : Fired) (w : Work) where
+module _ (k : FloatKind) (Known : ℕ → Type 0) (takes past : List ℕ) (old : List Recorded) (p : Params) (calm : int_le p.interlinepenalty eject_penalty ≡ false) (f : Fired) (w : Work) where
   -- how a firing begins
   pub record Begins : Type 0 where
     pub empty : w.put_back ≡ []
@@ -250,15 +250,15 @@ module _ (k : ℕ) (Known : ℕ → Type 0) (takes past : List ℕ) (old : List 
 -- ---- the goal of the next page
 
 -- nodes without floats' boxes and such penalties go in between
-lines-between : (k : ℕ) (xs bs ys : List PlainNode) → class_lines k bs ≡ [] → class_lines k ((xs ++ bs) ++ ys) ≡ class_lines k (xs ++ ys)
+lines-between : (k : FloatKind) (xs bs ys : List PlainNode) → class_lines k bs ≡ [] → class_lines k ((xs ++ bs) ++ ys) ≡ class_lines k (xs ++ ys)
 lines-between k xs bs ys none =
     lines-append k (xs ++ bs) ys ∙ ap (λ l. l ++ class_lines k ys) (lines-append k xs bs ∙ ap (λ l. class_lines k xs ++ l) none ∙ append-nil (class_lines k xs)) ∙ sym (lines-append k xs ys)
 
-early-between : (k : ℕ) (xs bs ys : List PlainNode) → class_lines k bs ≡ [] → AreEndless bs → AreEarly k (xs ++ ys) → AreEarly k ((xs ++ bs) ++ ys)
+early-between : (k : FloatKind) (xs bs ys : List PlainNode) → class_lines k bs ≡ [] → AreEndless bs → AreEarly k (xs ++ ys) → AreEarly k ((xs ++ bs) ++ ys)
 early-between k [] bs ys none endless h = early-join k bs ys endless h
 early-between k (x ∷ xs) bs ys none endless h = (λ e. lines-between k xs bs ys none ∙ h.0 e, early-between k xs bs ys none endless h.1)
 
-module _ (k : ℕ) (Known : ℕ → Type 0) (takes past : List ℕ) (old : List Recorded) (rest : List PlainNode) where
+module _ (k : FloatKind) (Known : ℕ → Type 0) (takes past : List ℕ) (old : List Recorded) (rest : List PlainNode) where
   blank-light : (t : Bool) → AreLight k (if t then Out.blank_column ++ Out.blank_column else Out.blank_column) × (class_lines k (if t then Out.blank_column ++ Out.blank_column else Out.blank_column) ≡ [])
   blank-light true = (record { takes = refl; feet = (tt, (tt, (tt, (tt, tt)))); endless = (refl, (refl, (refl, (refl, tt)))) }, refl)
   blank-light false = (record { takes = refl; feet = (tt, (tt, tt)); endless = (refl, (refl, tt)) }, refl)
@@ -315,7 +315,7 @@ module _ (k : ℕ) (Known : ℕ → Type 0) (takes past : List ℕ) (old : List 
 -- ---- a firing
 
 -- what a firing needs of the state in which its page fired, and of that page
-pub record FiresInOrder (k : ℕ) (Known : ℕ → Type 0) (past : List ℕ) (old : List Recorded) (s : State) (f : Fired) : Type 0 where
+pub record FiresInOrder (k : FloatKind) (Known : ℕ → Type 0) (past : List ℕ) (old : List Recorded) (s : State) (f : Fired) : Type 0 where
   pub ordered : Order k Known (class_lines k s.held_page ++ (class_lines k f.body ++ class_lines k f.rest)) (take_lines k f.rest) past old s.floats s.two_columns s.first_column s.left_column
   pub held : AreLight k s.held_page
   pub boxes : BoxesFloatless k f.boxes
@@ -331,7 +331,7 @@ pub record FiresInOrder (k : ℕ) (Known : ℕ → Type 0) (past : List ℕ) (ol
   pub rest_feet : HoldFloatless k f.rest
 
 -- after a firing that no limit stops the class is in order
-pub out-order : (k : ℕ) (Known : ℕ → Type 0) (past : List ℕ) (old : List Recorded) (p : Params) → int_le p.interlinepenalty eject_penalty ≡ false → (s : State) (f : Fired) → FiresInOrder k Known past old s f → (Out.out p s f).refused ≡ false
+pub out-order : (k : FloatKind) (Known : ℕ → Type 0) (past : List ℕ) (old : List Recorded) (p : Params) → int_le p.interlinepenalty eject_penalty ≡ false → (s : State) (f : Fired) → FiresInOrder k Known past old s f → (Out.out p s f).refused ≡ false
     → InOrder k Known (past ++ sent_lines k (Out.out p s f).sent) (old ++ (Out.out p s f).records) (Out.out p s f).state
 unfolding Out.out
 out-order k Known past old p calm s f h ok = all (Out.next_goal p f.penalty (Out.output_by p f (begun (Out.after_page s f)))) (goal-settled k Known (take_lines k f.rest) past old f.rest p f.penalty (Out.output_by p f (begun (Out.after_page s f))) b_ok (output-settled k Known (take_lines k f.rest) past old p calm f (begun (Out.after_page s f)) begins b_ok))

@@ -1,6 +1,6 @@
 -- Putting out columns and pages keeps the order of a class. What has shipped, what stands above the two columns and in
 -- the left one, a column in hand, the deferred floats and those that are not placed yet are read as one list of lines.
-use Rattle.std.proofs.Common.{◌≡◌, refl, sym, ◌∙◌, ap, subst, ℕ, zero, suc, pos, ◌+◌, ◌<◌, ◌≢◌, ◌==◌, ◌⊎◌, inl, inr, Bool, true, false, List, [], ◌∷◌, ◌++◌, length, Option, Some, None, append_assoc, append-nil, arith}
+use Rattle.std.proofs.Common.{◌≡◌, refl, sym, ◌∙◌, ap, subst, ℕ, zero, suc, pos, ◌+◌, ◌<◌, ◌≢◌, ◌⊎◌, inl, inr, Bool, true, false, List, [], ◌∷◌, ◌++◌, length, Option, Some, None, append_assoc, append-nil, arith}
 use Rattle.std.specs.Prelude.{int_lt, not, if◌then◌else◌}
 use Rattle.std.specs.List.{AllByRecursion}
 use Rattle.tb_node.specs.declared.Float.{Float}
@@ -21,36 +21,36 @@ use Rattle.tb_output.proofs.StateWeights.{ColumnsFit}
 use Rattle.tb_output.proofs.TurnLemmas.{put_out-turned, put_out_by-turned, wide_pages-turned, double-turned, float_columns-turned}
 use Rattle.tb_output.proofs.FillLemmas.{HasLists, fill_double-lists}
 use Rattle.tb_output.proofs.RisingLists.{all-join, all-map, all-of, all-both, IsMissing, IsAbove, Rises, rises-front, rises-back, rises-across, rises-known, rises-more, across-back, across-unexcused, above-missing}
-use Rattle.tb_output.proofs.ClassLines.{line_if, class_lines, float_lines, left_lines, sheet_lines, sent_lines, floats-append, sent-append, doubled-lines, company-lines, floats_above-lines, floats_column-lines}
+use Rattle.tb_output.proofs.ClassLines.{FloatKind, is_of, line_if, class_lines, float_lines, left_lines, sheet_lines, sent_lines, floats-append, sent-append, doubled-lines, company-lines, floats_above-lines, floats_column-lines}
 use Rattle.tb_output.proofs.RecordLines.{record_lines, records-more, IsPlacing, WasPlaced, IsLate, placed-before, late-more, IsCarried, carried-more, carried-placed}
 use Rattle.tb_output.proofs.QuietLemmas.{AreQuiet, quiet-lines, quiet-placed, AddsQuiet, double-added, double-all, double-same, company-all}
 
 -- ---- what is said of lines
 
 -- the lines of the floats that are not placed yet: those taken, and those to be taken
-abbrev pub later_lines : ℕ → List ℕ → FloatLists → List ℕ
+abbrev pub later_lines : FloatKind → List ℕ → FloatLists → List ℕ
 later_lines k takes l = float_lines k (floats_among l.current) ++ takes
 
 -- a float of the class stands behind all of the text
-abbrev pub IsBehind : ℕ → List ℕ → Float → Type 0
-IsBehind k text f = (f.class == k) ≡ true → IsAbove text f.line
+abbrev pub IsBehind : FloatKind → List ℕ → Float → Type 0
+IsBehind k text f = (is_of k f.class f.line) ≡ true → IsAbove text f.line
 
 -- a float in the text that a column left there
-pub record IsLeft (k : ℕ) (rs : List Recorded) (n : ℕ) : Type 0 where
+pub record IsLeft (k : FloatKind) (rs : List Recorded) (n : ℕ) : Type 0 where
   pub late : IsLate k n rs
   pub missing : IsMissing n (record_lines k rs)
 
 -- a float of which no record says that it was placed in the text, or that a column has it
-pub record IsUnseen (k : ℕ) (rs : List Recorded) (n : ℕ) : Type 0 where
+pub record IsUnseen (k : FloatKind) (rs : List Recorded) (n : ℕ) : Type 0 where
   pub placed : WasPlaced k n rs → ⊥
   pub missing : IsMissing n (record_lines k rs)
 
 -- the lines in the order in which they ship, but for the text: what has shipped, double floats, the left column, the column in hand, deferred floats, and those that are not placed yet
-abbrev pub spread_lines : ℕ → List ℕ → List ℕ → List ℕ → FloatLists → Option PlainColumn → List ℕ
+abbrev pub spread_lines : FloatKind → List ℕ → List ℕ → List ℕ → FloatLists → Option PlainColumn → List ℕ
 spread_lines k takes before mid l left = before ++ (float_lines k l.double ++ (left_lines k left ++ (mid ++ (float_lines k l.deferred ++ later_lines k takes l))))
 
 -- where columns are put out: these lines rise, all of the text was left by a column, and no area holds floats
-pub record Spread (k : ℕ) (Known : ℕ → Type 0) (text takes before : List ℕ) (rs : List Recorded) (mid : List ℕ) (l : FloatLists) (two first : Bool) (column : Option PlainColumn) : Type 0 where
+pub record Spread (k : FloatKind) (Known : ℕ → Type 0) (text takes before : List ℕ) (rs : List Recorded) (mid : List ℕ) (l : FloatLists) (two first : Bool) (column : Option PlainColumn) : Type 0 where
   pub order : Rises Known (λ n. IsCarried k n rs) (spread_lines k takes before mid l column)
   pub left : AllByRecursion (IsLeft k rs) text
   pub behind : AllByRecursion (IsBehind k text) l.deferred
@@ -81,29 +81,29 @@ module _ (a d e m x : List ℕ) where
 
 -- ---- a left column
 
-no-left : (k : ℕ) (t f : Bool) (o : Option PlainColumn) → t ≡ false → ColumnsFit t f o → left_lines k o ≡ []
+no-left : (k : FloatKind) (t f : Bool) (o : Option PlainColumn) → t ≡ false → ColumnsFit t f o → left_lines k o ≡ []
 no-left k true f o e c = cc
 no-left k false true None e c = refl
 no-left k false true (Some x) e c = absurd c
 no-left k false false o e c = absurd c
 
-pub no-first : (k : ℕ) (t f : Bool) (o : Option PlainColumn) → f ≡ true → ColumnsFit t f o → left_lines k o ≡ []
+pub no-first : (k : FloatKind) (t f : Bool) (o : Option PlainColumn) → f ≡ true → ColumnsFit t f o → left_lines k o ≡ []
 no-first k t false o e c = cc
 no-first k t true None e c = refl
 no-first k true true (Some x) e c = absurd c
 no-first k false true (Some x) e c = absurd c
 
-left-lines : (k : ℕ) (t f : Bool) (o : Option PlainColumn) (c : PlainColumn) → t ≡ true → f ≡ false → ColumnsFit t f o → class_lines k (Ship.left_or c o).nodes ≡ left_lines k o
+left-lines : (k : FloatKind) (t f : Bool) (o : Option PlainColumn) (c : PlainColumn) → t ≡ true → f ≡ false → ColumnsFit t f o → class_lines k (Ship.left_or c o).nodes ≡ left_lines k o
 left-lines k true true o c h e x = cc
 left-lines k true false None c h e x = absurd x
 left-lines k true false (Some y) c h e x = refl
 left-lines k false f o c h e x = cc
 
 -- what is unseen is carried by no break
-pub unseen-unexcused : (k : ℕ) (rs : List Recorded) (ns : List ℕ) → AllByRecursion (IsUnseen k rs) ns → AllByRecursion (λ n. IsCarried k n rs → ⊥) ns
+pub unseen-unexcused : (k : FloatKind) (rs : List Recorded) (ns : List ℕ) → AllByRecursion (IsUnseen k rs) ns → AllByRecursion (λ n. IsCarried k n rs → ⊥) ns
 unseen-unexcused k rs ns h = all-map (IsUnseen k rs) (λ n. IsCarried k n rs → ⊥) (λ n u c. u.placed (carried-placed k n rs c)) ns h
 
-lefts : (k : ℕ) (rs : List Recorded) (c : PlainColumn) (ns : List ℕ) → AllByRecursion (IsLeft k rs) ns → AllByRecursion (λ n. IsMissing n (class_lines k c.nodes)) ns → AllByRecursion (IsLeft k (rs ++ output c ∷ [])) ns
+lefts : (k : FloatKind) (rs : List Recorded) (c : PlainColumn) (ns : List ℕ) → AllByRecursion (IsLeft k rs) ns → AllByRecursion (λ n. IsMissing n (class_lines k c.nodes)) ns → AllByRecursion (IsLeft k (rs ++ output c ∷ [])) ns
 lefts k rs c [] h m = tt
 lefts k rs c (n ∷ ns) h m = (
   record {
@@ -113,7 +113,7 @@ lefts k rs c (n ∷ ns) h m = (
   lefts k rs c ns h.1 m.1,
 )
 
-pub unseen-column : (k : ℕ) (rs : List Recorded) (c : PlainColumn) (ns : List ℕ) → AllByRecursion (IsUnseen k rs) ns → AllByRecursion (IsAbove (class_lines k c.nodes)) ns → AllByRecursion (IsUnseen k (rs ++ output c ∷ [])) ns
+pub unseen-column : (k : FloatKind) (rs : List Recorded) (c : PlainColumn) (ns : List ℕ) → AllByRecursion (IsUnseen k rs) ns → AllByRecursion (IsAbove (class_lines k c.nodes)) ns → AllByRecursion (IsUnseen k (rs ++ output c ∷ [])) ns
 unseen-column k rs c [] h m = tt
 unseen-column k rs c (n ∷ ns) h m = (
   record {
@@ -127,16 +127,16 @@ unseen-column k rs c (n ∷ ns) h m = (
     either (inl w) = h.0.placed w
     either (inr w) = w
 
-lefts-quiet : (k : ℕ) (rs more : List Recorded) → AreQuiet more → (ns : List ℕ) → AllByRecursion (IsLeft k rs) ns → AllByRecursion (IsLeft k (rs ++ more)) ns
+lefts-quiet : (k : FloatKind) (rs more : List Recorded) → AreQuiet more → (ns : List ℕ) → AllByRecursion (IsLeft k rs) ns → AllByRecursion (IsLeft k (rs ++ more)) ns
 lefts-quiet k rs more q ns h = all-map (IsLeft k rs) (IsLeft k (rs ++ more)) (λ n x. record { late = late-more k n rs more x.late; missing = subst (IsMissing n) (sym (quiet-lines k rs more q)) x.missing }) ns h
 
-pub unseen-quiet : (k : ℕ) (rs more : List Recorded) → AreQuiet more → (ns : List ℕ) → AllByRecursion (IsUnseen k rs) ns → AllByRecursion (IsUnseen k (rs ++ more)) ns
+pub unseen-quiet : (k : FloatKind) (rs more : List Recorded) → AreQuiet more → (ns : List ℕ) → AllByRecursion (IsUnseen k rs) ns → AllByRecursion (IsUnseen k (rs ++ more)) ns
 unseen-quiet k rs more q ns h = all-map (IsUnseen k rs) (IsUnseen k (rs ++ more)) (λ n x. record { placed = λ w. x.placed (quiet-placed k n rs more q w); missing = subst (IsMissing n) (sym (quiet-lines k rs more q)) x.missing }) ns h
 
 -- floats behind the text are none of it
-pub behind-missing : (k : ℕ) (text : List ℕ) (fs : List Float) → AllByRecursion (IsBehind k text) fs → AllByRecursion (λ n. IsMissing n (float_lines k fs)) text
+pub behind-missing : (k : FloatKind) (text : List ℕ) (fs : List Float) → AllByRecursion (IsBehind k text) fs → AllByRecursion (λ n. IsMissing n (float_lines k fs)) text
 behind-missing k text [] h = all-of (λ n. IsMissing n []) (λ n. tt) text
-behind-missing k text (f ∷ fs) h = by_class (f.class == k) h.0 (behind-missing k text fs h.1)
+behind-missing k text (f ∷ fs) h = by_class (is_of k f.class f.line) h.0 (behind-missing k text fs h.1)
   where
     differs : (n : ℕ) → (n < f.line) → f.line ≢ n
     differs n l e = let never : ⊥ = omega (arith, l, e) in never
@@ -145,7 +145,7 @@ behind-missing k text (f ∷ fs) h = by_class (f.class == k) h.0 (behind-missing
     by_class true a m = all-both (λ n. f.line ≢ n) (λ n. IsMissing n (float_lines k fs)) text (all-map (λ n. n < f.line) (λ n. f.line ≢ n) differs text (a refl)) m
     by_class false a m = m
 
-module _ (k : ℕ) (Known : ℕ → Type 0) (text takes : List ℕ) where
+module _ (k : FloatKind) (Known : ℕ → Type 0) (text takes : List ℕ) where
   -- ---- records
 
   module _ (before mid : List ℕ) (rs : List Recorded) (l : FloatLists) (two first : Bool) (o : Option PlainColumn) (h : Spread k Known text takes before rs mid l two first o) where
@@ -342,7 +342,7 @@ ship-is p sheet w ok = by_refused w.refused refl ok
 
 -- ---- a firing at work
 
-module _ (k : ℕ) (Known : ℕ → Type 0) (text takes past : List ℕ) (old : List Recorded) where
+module _ (k : FloatKind) (Known : ℕ → Type 0) (text takes past : List ℕ) (old : List Recorded) where
   abbrev pub InHand : List ℕ → Work → Type 0
   InHand mid w = Spread k Known text takes (past ++ sent_lines k w.sent) (old ++ w.records) mid w.state.floats w.state.two_columns w.state.first_column w.state.left_column
 

@@ -1,5 +1,5 @@
 -- The floats of a valid galley: their lines rise, each of one class, and a run begins with them in order.
-use Rattle.std.proofs.Common.{◌≡◌, refl, sym, ◌∙◌, ap, subst, ℕ, ◌<◌, ◌≤◌, ◌==◌, inl, inr, Bool, true, false, List, [], ◌∷◌, ◌++◌, map, None, append_assoc, append-nil, arith}
+use Rattle.std.proofs.Common.{◌≡◌, refl, sym, ◌∙◌, ap, subst, ℕ, ◌<◌, ◌≤◌, ◌==◌, ◌&&◌, inl, inr, Bool, true, false, List, [], ◌∷◌, ◌++◌, map, None, append_assoc, append-nil, arith}
 use Rattle.std.specs.Prelude.{IsTrue}
 use Rattle.std.specs.List.{AllByRecursion, list_all}
 use Rattle.std.proofs.lemmas.Bool.{eqb-true, and_parts}
@@ -18,11 +18,11 @@ use Rattle.tb_galley.specs.Valid.{is_item, leaf_lines, lines_of_item, named_line
 use Rattle.tb_float.specs.Lists.{no_floats}
 use Rattle.tb_output.specs.State.{first_state}
 use Rattle.tb_output.proofs.RisingLists.{all-join, all-map, all-of, all-among, all-at, IsAmong, among-back, MayPrecede, Rises}
-use Rattle.tb_output.proofs.ClassLines.{line_if, class_lines, float_lines, lines-append, floats-append, AreFloatless}
+use Rattle.tb_output.proofs.ClassLines.{FloatKind, is_of, whole_class, line_if, class_lines, float_lines, lines-append, floats-append, AreFloatless}
 use Rattle.tb_output.proofs.RecordLines.{IsCarried}
 use Rattle.tb_output.proofs.FloatlessFeet.{HoldsFloatless, HoldFloatless}
 use Rattle.tb_output.proofs.PageLines.{take_lines, takes-append, early-none}
-use Rattle.tb_output.proofs.ClassOrder.{AreInText}
+use Rattle.tb_output.proofs.ClassOrder.{kind-class, AreInText}
 use Rattle.tb_output.proofs.OutOrder.{InOrder}
 use Rattle.tb_top.specs.Laws.{float_of, galley_floats}
 use Rattle.tb_top.proofs.NamedLines.{rise-first, rise-behind}
@@ -30,7 +30,7 @@ use Rattle.tb_top.proofs.NamedLines.{rise-first, rise-behind}
 -- ---- the nodes of a galley
 
 -- items have no float's box, and take their floats
-item-lines : (k : ℕ) (p : Params) (n : ℕ) (d : ItemKind) → class_lines k (on_line n (item_kinds p d)) ≡ []
+item-lines : (k : FloatKind) (p : Params) (n : ℕ) (d : ItemKind) → class_lines k (on_line n (item_kinds p d)) ≡ []
 item-lines k p n (items.Hbox name h d) = refl
 item-lines k p n (items.Rule name h d) = refl
 item-lines k p n (items.Skip g) = refl
@@ -49,7 +49,7 @@ item-lines k p n items.OneColumn = refl
 item-lines k p n items.TwoColumn = refl
 item-lines k p n (items.Suppress area) = refl
 
-item-takes : (k : ℕ) (p : Params) (n : ℕ) (d : ItemKind) → take_lines k (on_line n (item_kinds p d)) ≡ float_lines k (float_of d)
+item-takes : (k : FloatKind) (p : Params) (n : ℕ) (d : ItemKind) → take_lines k (on_line n (item_kinds p d)) ≡ float_lines k (float_of d)
 item-takes k p n (items.Hbox name h d) = refl
 item-takes k p n (items.Rule name h d) = refl
 item-takes k p n (items.Skip g) = refl
@@ -68,18 +68,18 @@ item-takes k p n items.OneColumn = refl
 item-takes k p n items.TwoColumn = refl
 item-takes k p n (items.Suppress area) = refl
 
-leaf-floatless : (k l : ℕ) (d : LeafKind) (ls : List Leaf) → AreFloatless k (map plain_leaf ls) → AreFloatless k (map plain_leaf (record { line = l; kind = d } ∷ ls))
+leaf-floatless : (k : FloatKind) (l : ℕ) (d : LeafKind) (ls : List Leaf) → AreFloatless k (map plain_leaf ls) → AreFloatless k (map plain_leaf (record { line = l; kind = d } ∷ ls))
 leaf-floatless k l (leaves.Hbox name h d) ls f = (refl, f)
 leaf-floatless k l (leaves.Rule name h d) ls f = (refl, f)
 leaf-floatless k l (leaves.Skip g) ls f = (refl, f)
 leaf-floatless k l (leaves.Kern w) ls f = (refl, f)
 leaf-floatless k l (leaves.Penalty q) ls f = (refl, f)
 
-leaves-floatless : (k : ℕ) (ls : List Leaf) → AreFloatless k (map plain_leaf ls)
+leaves-floatless : (k : FloatKind) (ls : List Leaf) → AreFloatless k (map plain_leaf ls)
 leaves-floatless k [] = tt
 leaves-floatless k (l ∷ ls) = leaf-floatless k l.line l.kind ls (leaves-floatless k ls)
 
-item-feet : (k : ℕ) (p : Params) (n : ℕ) (d : ItemKind) → HoldFloatless k (on_line n (item_kinds p d))
+item-feet : (k : FloatKind) (p : Params) (n : ℕ) (d : ItemKind) → HoldFloatless k (on_line n (item_kinds p d))
 item-feet k p n (items.Hbox name h d) = (tt, tt)
 item-feet k p n (items.Rule name h d) = (tt, tt)
 item-feet k p n (items.Skip g) = (tt, tt)
@@ -98,29 +98,29 @@ item-feet k p n items.OneColumn = (tt, (tt, (tt, (tt, (tt, (tt, tt))))))
 item-feet k p n items.TwoColumn = (tt, (tt, (tt, (tt, (tt, (tt, tt))))))
 item-feet k p n (items.Suppress area) = (tt, tt)
 
-items-lines : (k : ℕ) (p : Params) (ns : List Item) → class_lines k (item_nodes p ns) ≡ []
+items-lines : (k : FloatKind) (p : Params) (ns : List Item) → class_lines k (item_nodes p ns) ≡ []
 items-lines k p [] = refl
 items-lines k p (n ∷ ns) = lines-append k (on_line n.line (item_kinds p n.kind)) (item_nodes p ns) ∙ ap (λ l. l ++ class_lines k (item_nodes p ns)) (item-lines k p n.line n.kind) ∙ items-lines k p ns
 
-items-takes : (k : ℕ) (p : Params) (ns : List Item) → take_lines k (item_nodes p ns) ≡ float_lines k (galley_floats ns)
+items-takes : (k : FloatKind) (p : Params) (ns : List Item) → take_lines k (item_nodes p ns) ≡ float_lines k (galley_floats ns)
 items-takes k p [] = refl
 items-takes k p (n ∷ ns) =
     takes-append k (on_line n.line (item_kinds p n.kind)) (item_nodes p ns) ∙ ap (λ l. l ++ take_lines k (item_nodes p ns)) (item-takes k p n.line n.kind) ∙ ap (λ l. float_lines k (float_of n.kind) ++ l) (items-takes k p ns)
     ∙ sym (floats-append k (float_of n.kind) (galley_floats ns))
 
-items-feet : (k : ℕ) (p : Params) (ns : List Item) → HoldFloatless k (item_nodes p ns)
+items-feet : (k : FloatKind) (p : Params) (ns : List Item) → HoldFloatless k (item_nodes p ns)
 items-feet k p [] = tt
 items-feet k p (n ∷ ns) = all-join (λ (x : PlainNode). HoldsFloatless k x.kind) (on_line n.line (item_kinds p n.kind)) (item_nodes p ns) (item-feet k p n.line n.kind) (items-feet k p ns)
 
-galley-lines : (k : ℕ) (g : Galley) → class_lines k (expanded g) ≡ []
+galley-lines : (k : FloatKind) (g : Galley) → class_lines k (expanded g) ≡ []
 unfolding expanded
 galley-lines k g = lines-append k (item_nodes g.params g.items) (on_line g.end_line clearpage_kinds) ∙ ap (λ l. l ++ []) (items-lines k g.params g.items)
 
-galley-takes : (k : ℕ) (g : Galley) → take_lines k (expanded g) ≡ float_lines k (galley_floats g.items)
+galley-takes : (k : FloatKind) (g : Galley) → take_lines k (expanded g) ≡ float_lines k (galley_floats g.items)
 unfolding expanded
 galley-takes k g = takes-append k (item_nodes g.params g.items) (on_line g.end_line clearpage_kinds) ∙ append-nil (take_lines k (item_nodes g.params g.items)) ∙ items-takes k g.params g.items
 
-galley-feet : (k : ℕ) (g : Galley) → HoldFloatless k (expanded g)
+galley-feet : (k : FloatKind) (g : Galley) → HoldFloatless k (expanded g)
 unfolding expanded
 galley-feet k g = all-join (λ (x : PlainNode). HoldsFloatless k x.kind) (item_nodes g.params g.items) (on_line g.end_line clearpage_kinds) (items-feet k g.params g.items) (tt, (tt, (tt, (tt, (tt, tt)))))
 
@@ -171,17 +171,17 @@ pub later-above : (n : ℕ) (fs : List Float) → LinesRise n fs → AllByRecurs
 later-above n [] h = tt
 later-above n (f ∷ fs) h = (h.0, all-map (λ (x : Float). f.line < x.line) (λ (x : Float). n < x.line) (λ x l. let a : n < f.line = h.0 in omega (arith, l)) fs (later-above f.line fs h.1))
 
-lines-above : (k n : ℕ) (fs : List Float) → AllByRecursion (λ f. n < f.line) fs → AllByRecursion (λ x. n < x) (float_lines k fs)
+lines-above : (k : FloatKind) (n : ℕ) (fs : List Float) → AllByRecursion (λ f. n < f.line) fs → AllByRecursion (λ x. n < x) (float_lines k fs)
 lines-above k n [] h = tt
-lines-above k n (f ∷ fs) h = by_class (f.class == k) (lines-above k n fs h.1)
+lines-above k n (f ∷ fs) h = by_class (is_of k f.class f.line) (lines-above k n fs h.1)
   where
     by_class : (t : Bool) → AllByRecursion (λ x. n < x) (float_lines k fs) → AllByRecursion (λ x. n < x) (line_if t f.line ++ float_lines k fs)
     by_class true m = (h.0, m)
     by_class false m = m
 
-class-rises : (k n : ℕ) (fs : List Float) → LinesRise n fs → Rises (λ x. Unit {0}) (λ x. ⊥) (float_lines k fs)
+class-rises : (k : FloatKind) (n : ℕ) (fs : List Float) → LinesRise n fs → Rises (λ x. Unit {0}) (λ x. ⊥) (float_lines k fs)
 class-rises k n [] h = tt
-class-rises k n (f ∷ fs) h = by_class (f.class == k) (class-rises k f.line fs h.1) (lines-above k f.line fs (later-above f.line fs h.1))
+class-rises k n (f ∷ fs) h = by_class (is_of k f.class f.line) (class-rises k f.line fs h.1) (lines-above k f.line fs (later-above f.line fs h.1))
   where
     by_class : (t : Bool) → Rises (λ x. Unit {0}) (λ x. ⊥) (float_lines k fs) → AllByRecursion (λ x. f.line < x) (float_lines k fs) → Rises (λ x. Unit {0}) (λ x. ⊥) (line_if t f.line ++ float_lines k fs)
     by_class true r a = (tt, all-map (λ x. f.line < x) (MayPrecede (λ x. ⊥) f.line) (λ x l. inl l) (float_lines k fs) a, r)
@@ -197,11 +197,11 @@ known-rises Known Excused (x ∷ xs) r a = (a.0, all-map (MayPrecede (λ x. ⊥)
 
 -- ---- a run begins in order
 
--- the line is that of a float of the class
-abbrev pub IsOfClass : Galley → ℕ → ℕ → Type 0
+-- the line is that of a float of the kind
+abbrev pub IsOfClass : Galley → FloatKind → ℕ → Type 0
 IsOfClass g k n = IsAmong n (float_lines k (galley_floats g.items))
 
-pub start-order : (g : Galley) (k : ℕ) → IsValid g → InOrder k (IsOfClass g k) [] [] (first_state g.params (expanded g))
+pub start-order : (g : Galley) (k : FloatKind) → IsValid g → InOrder k (IsOfClass g k) [] [] (first_state g.params (expanded g))
 start-order g k v =
     let takes = galley-takes k g in
     let rises = known-rises (IsOfClass g k) (λ n. IsCarried k n []) (float_lines k (galley_floats g.items)) (class-rises k 0 (galley_floats g.items) (galley-rise g v)) (all-among (float_lines k (galley_floats g.items))) in
@@ -226,22 +226,24 @@ start-order g k v =
 
 -- ---- one class of a line
 
-pub own-line : (c n : ℕ) → line_if (c == c) n ≡ n ∷ []
-own-line c n = ap (λ t. line_if t n) (itself c)
+pub own-line : (c n : ℕ) → line_if (is_of (whole_class c) c n) n ≡ n ∷ []
+own-line c n = ap (λ t. line_if (t && true) n) (itself c)
   where
     itself : (c : ℕ) → (c == c) ≡ true
     itself c = grind arith
 
 -- each line stands in one class alone
-pub one-class : (m n a b : ℕ) (fs : List Float) → LinesRise m fs → IsAmong n (float_lines a fs) → IsAmong n (float_lines b fs) → a ≡ b
+pub one-class : (m n a b : ℕ) (fs : List Float) → LinesRise m fs → IsAmong n (float_lines (whole_class a) fs) → IsAmong n (float_lines (whole_class b) fs) → a ≡ b
 one-class m n a b [] h i j = absurd i
-one-class m n a b (f ∷ fs) h i j = by_class (f.class == a) (f.class == b) refl refl i j (λ x y. one-class f.line n a b fs h.1 x y) (λ c. lines-above c f.line fs (later-above f.line fs h.1))
+one-class m n a b (f ∷ fs) h i j =
+    by_class (is_of (whole_class a) f.class f.line) (is_of (whole_class b) f.class f.line) refl refl i j (λ x y. one-class f.line n a b fs h.1 x y) (λ c. lines-above (whole_class c) f.line fs (later-above f.line fs h.1))
   where
-    head-tail : (c : ℕ) → f.line ≡ n → IsAmong n (float_lines c fs) → AllByRecursion (λ x. f.line < x) (float_lines c fs) → ⊥
-    head-tail c e i a = let l : f.line < n = all-at (λ x. f.line < x) n (float_lines c fs) i a in let never : ⊥ = omega (arith, l, e) in never
+    head-tail : (c : ℕ) → f.line ≡ n → IsAmong n (float_lines (whole_class c) fs) → AllByRecursion (λ x. f.line < x) (float_lines (whole_class c) fs) → ⊥
+    head-tail c e i a = let l : f.line < n = all-at (λ x. f.line < x) n (float_lines (whole_class c) fs) i a in let never : ⊥ = omega (arith, l, e) in never
 
-    by_class : (t u : Bool) → (f.class == a) ≡ t → (f.class == b) ≡ u → IsAmong n (line_if t f.line ++ float_lines a fs) → IsAmong n (line_if u f.line ++ float_lines b fs) → (IsAmong n (float_lines a fs) → IsAmong n (float_lines b fs) → a ≡ b) → ((c : ℕ) → AllByRecursion (λ x. f.line < x) (float_lines c fs)) → a ≡ b
-    by_class true true x y (inl e) (inl g) k l = sym (eqb-true f.class a x) ∙ eqb-true f.class b y
+    by_class : (t u : Bool) → is_of (whole_class a) f.class f.line ≡ t → is_of (whole_class b) f.class f.line ≡ u → IsAmong n (line_if t f.line ++ float_lines (whole_class a) fs) → IsAmong n (line_if u f.line ++ float_lines (whole_class b) fs)
+        → (IsAmong n (float_lines (whole_class a) fs) → IsAmong n (float_lines (whole_class b) fs) → a ≡ b) → ((c : ℕ) → AllByRecursion (λ x. f.line < x) (float_lines (whole_class c) fs)) → a ≡ b
+    by_class true true x y (inl e) (inl g) k l = sym (kind-class (whole_class a) f.class f.line x) ∙ kind-class (whole_class b) f.class f.line y
     by_class true true x y (inl e) (inr j) k l = absurd (head-tail b e j (l b))
     by_class true true x y (inr i) (inl g) k l = absurd (head-tail a g i (l a))
     by_class true true x y (inr i) (inr j) k l = k i j
@@ -252,9 +254,9 @@ one-class m n a b (f ∷ fs) h i j = by_class (f.class == a) (f.class == b) refl
     by_class false false x y i j k l = k i j
 
 -- each float is one of its class
-pub floats-among : (fs : List Float) → AllByRecursion (λ f. IsAmong f.line (float_lines f.class fs)) fs
+pub floats-among : (fs : List Float) → AllByRecursion (λ f. IsAmong f.line (float_lines (whole_class f.class) fs)) fs
 floats-among [] = tt
 floats-among (f ∷ fs) = (
-  subst (λ ys. IsAmong f.line (ys ++ float_lines f.class fs)) (sym (own-line f.class f.line)) (inl refl),
-  all-map (λ (x : Float). IsAmong x.line (float_lines x.class fs)) (λ (x : Float). IsAmong x.line (float_lines x.class (f ∷ fs))) (λ x i. among-back x.line (line_if (f.class == x.class) f.line) (float_lines x.class fs) i) fs (floats-among fs),
+  subst (λ ys. IsAmong f.line (ys ++ float_lines (whole_class f.class) fs)) (sym (own-line f.class f.line)) (inl refl),
+  all-map (λ (x : Float). IsAmong x.line (float_lines (whole_class x.class) fs)) (λ (x : Float). IsAmong x.line (float_lines (whole_class x.class) (f ∷ fs))) (λ x i. among-back x.line (line_if (is_of (whole_class x.class) f.class f.line) f.line) (float_lines (whole_class x.class) fs) i) fs (floats-among fs),
 )

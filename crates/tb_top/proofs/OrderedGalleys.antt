@@ -13,7 +13,7 @@ use Rattle.tb_galley.specs.Valid.{IsValid}
 use Rattle.tb_column.specs.Column.{PlainColumn, PlainSheet, one, wide, two, warned, shipped}
 use Rattle.tb_output.specs.State.{State, Recorded, placed, output, emptied, first_state}
 use Rattle.tb_output.proofs.RisingLists.{all-front, all-back, all-among, all-at, IsAmong, IsMissing, rises-known}
-use Rattle.tb_output.proofs.ClassLines.{class_lines, float_lines, sheet_lines, lines-append}
+use Rattle.tb_output.proofs.ClassLines.{FloatKind, whole_class, class_lines, float_lines, sheet_lines, lines-append}
 use Rattle.tb_output.proofs.RecordLines.{record_lines, records-append, IsCarried}
 use Rattle.tb_report.specs.Totals.{sheet_nodes}
 use Rattle.tb_run.specs.Run.{Run, RunEvent, offered, sent, node_limit, held_count, run_from, firings_left, run_of}
@@ -28,7 +28,7 @@ use Rattle.tb_top.proofs.OrderTests.{some-class, StandsBefore, any-class, class-
 
 -- ---- two floats of a class
 
-shipped-lines : (k : ℕ) (es : List RunEvent) → events_lines k es ≡ class_lines k (shipped_nodes es)
+shipped-lines : (k : FloatKind) (es : List RunEvent) → events_lines k es ≡ class_lines k (shipped_nodes es)
 shipped-lines k [] = refl
 shipped-lines k (offered t ∷ es) = shipped-lines k es
 shipped-lines k (sent (warned w) ∷ es) = shipped-lines k es
@@ -40,7 +40,7 @@ shipped-lines k (sent (shipped page sheet) ∷ es) = ap (λ l. sheet_lines k she
     by_sheet (two tops at left right) =
         sym (append_assoc (class_lines k tops) (class_lines k left.nodes) (class_lines k right.nodes)) ∙ ap (λ l. l ++ class_lines k right.nodes) (sym (lines-append k tops left.nodes)) ∙ sym (lines-append k (tops ++ left.nodes) right.nodes)
 
-module _ (g : Galley) (valid : IsValid g) (r : Run) (ordered : (k : ℕ) → RunOrder k (IsOfClass g k) (events_lines k r.events) r.records) (ships : AllByRecursion (λ f. IsAmong f.line (shipped_floats r)) (galley_floats g.items)) where
+module _ (g : Galley) (valid : IsValid g) (r : Run) (ordered : (k : ℕ) → RunOrder (whole_class k) (IsOfClass g (whole_class k)) (events_lines (whole_class k) r.events) r.records) (ships : AllByRecursion (λ f. IsAmong f.line (shipped_floats r)) (galley_floats g.items)) where
   whole : List Float
   whole = galley_floats g.items
 
@@ -48,66 +48,66 @@ module _ (g : Galley) (valid : IsValid g) (r : Run) (ordered : (k : ℕ) → Run
   rising = galley-rise g valid
 
   -- a line that is known in one class and stands in another is of that class
-  class-is : (k c n : ℕ) → IsOfClass g k n → IsOfClass g c n → c ≡ k
+  class-is : (k c n : ℕ) → IsOfClass g (whole_class k) n → IsOfClass g (whole_class c) n → c ≡ k
   class-is k c n i j = one-class 0 n c k (galley_floats g.items) rising j i
 
   -- what ships of a class ships among its lines
-  shipped-class : (k n : ℕ) → IsOfClass g k n → IsAmong n (shipped_floats r) → IsAmong n (events_lines k r.events)
+  shipped-class : (k n : ℕ) → IsOfClass g (whole_class k) n → IsAmong n (shipped_floats r) → IsAmong n (events_lines (whole_class k) r.events)
   shipped-class k n i s =
       let x = some-class n (shipped_nodes r.events) s in
-      let there : IsAmong n (events_lines x.0 r.events) = subst (IsAmong n) (sym (shipped-lines x.0 r.events)) x.1 in
-      subst (λ c. IsAmong n (events_lines c r.events)) (class-is k x.0 n i (all-at (IsOfClass g x.0) n (events_lines x.0 r.events) there (rises-known (IsOfClass g x.0) _ (events_lines x.0 r.events) (ordered x.0).order))) there
+      let there : IsAmong n (events_lines (whole_class x.0) r.events) = subst (IsAmong n) (sym (shipped-lines (whole_class x.0) r.events)) x.1 in
+      subst (λ c. IsAmong n (events_lines (whole_class c) r.events)) (class-is k x.0 n i (all-at (IsOfClass g (whole_class x.0)) n (events_lines (whole_class x.0) r.events) there (rises-known (IsOfClass g (whole_class x.0)) _ (events_lines (whole_class x.0) r.events) (ordered x.0).order))) there
 
   -- a column without the float of its class is without it
-  column-lacks : (k n : ℕ) → IsOfClass g k n → (c : PlainColumn) → ((j : ℕ) → AllByRecursion (IsOfClass g j) (class_lines j c.nodes)) → IsMissing n (class_lines k c.nodes) → holds_float n c ≡ false
+  column-lacks : (k n : ℕ) → IsOfClass g (whole_class k) n → (c : PlainColumn) → ((j : ℕ) → AllByRecursion (IsOfClass g (whole_class j)) (class_lines (whole_class j) c.nodes)) → IsMissing n (class_lines (whole_class k) c.nodes) → holds_float n c ≡ false
   column-lacks k n i c known missing = by_test (holds_float n c) refl
     where
       never : IsAmong n (node_lines float_lines_of c.nodes) → ⊥
       never s =
           let x = some-class n c.nodes s in
-          let there : IsAmong n (class_lines k c.nodes) = subst (λ j. IsAmong n (class_lines j c.nodes)) (class-is k x.0 n i (all-at (IsOfClass g x.0) n (class_lines x.0 c.nodes) x.1 (known x.0))) x.1 in
-          all-at (λ y. y ≢ n) n (class_lines k c.nodes) there missing refl
+          let there : IsAmong n (class_lines (whole_class k) c.nodes) = subst (λ j. IsAmong n (class_lines (whole_class j) c.nodes)) (class-is k x.0 n i (all-at (IsOfClass g (whole_class x.0)) n (class_lines (whole_class x.0) c.nodes) x.1 (known x.0))) x.1 in
+          all-at (λ y. y ≢ n) n (class_lines (whole_class k) c.nodes) there missing refl
 
       by_test : (t : Bool) → holds_float n c ≡ t → holds_float n c ≡ false
       by_test true e = absurd (never (in-among n (node_lines float_lines_of c.nodes) e))
       by_test false e = e
 
-  front-lacks : (k n : ℕ) → IsOfClass g k n → (rs : List Recorded) → ((j : ℕ) → AllByRecursion (IsOfClass g j) (record_lines j rs)) → IsMissing n (record_lines k rs) → AllByRecursion (HoldsNot n) rs
+  front-lacks : (k n : ℕ) → IsOfClass g (whole_class k) n → (rs : List Recorded) → ((j : ℕ) → AllByRecursion (IsOfClass g (whole_class j)) (record_lines (whole_class j) rs)) → IsMissing n (record_lines (whole_class k) rs) → AllByRecursion (HoldsNot n) rs
   front-lacks k n i [] known missing = tt
   front-lacks k n i (placed f place l height ∷ rs) known missing = (tt, front-lacks k n i rs known missing)
   front-lacks k n i (emptied l ∷ rs) known missing = (tt, front-lacks k n i rs known missing)
   front-lacks k n i (output c ∷ rs) known missing = (
-    column-lacks k n i c (λ j. all-front (IsOfClass g j) (class_lines j c.nodes) (record_lines j rs) (known j)) (all-front (λ y. y ≢ n) (class_lines k c.nodes) (record_lines k rs) missing),
-    front-lacks k n i rs (λ j. all-back (IsOfClass g j) (class_lines j c.nodes) (record_lines j rs) (known j)) (all-back (λ y. y ≢ n) (class_lines k c.nodes) (record_lines k rs) missing),
+    column-lacks k n i c (λ j. all-front (IsOfClass g (whole_class j)) (class_lines (whole_class j) c.nodes) (record_lines (whole_class j) rs) (known j)) (all-front (λ y. y ≢ n) (class_lines (whole_class k) c.nodes) (record_lines (whole_class k) rs) missing),
+    front-lacks k n i rs (λ j. all-back (IsOfClass g (whole_class j)) (class_lines (whole_class j) c.nodes) (record_lines (whole_class j) rs) (known j)) (all-back (λ y. y ≢ n) (class_lines (whole_class k) c.nodes) (record_lines (whole_class k) rs) missing),
   )
 
-  carried-is : (k n : ℕ) → IsOfClass g k n → IsCarried k n r.records → IsTrue (is_carried r n)
-  carried-is k n i c = subst (λ rs. IsTrue (is_carried_from n 0 rs rs)) (sym c.whole) (late-carried k n 0 (outputs c.front) (c.front ++ output c.column ∷ c.back) c.front (output c.column ∷ c.back) (omega arith) past c.late)
+  carried-is : (k n : ℕ) → IsOfClass g (whole_class k) n → IsCarried (whole_class k) n r.records → IsTrue (is_carried r n)
+  carried-is k n i c = subst (λ rs. IsTrue (is_carried_from n 0 rs rs)) (sym c.whole) (late-carried (whole_class k) n 0 (outputs c.front) (c.front ++ output c.column ∷ c.back) c.front (output c.column ∷ c.back) (omega arith) past c.late)
     where
-      known : (j : ℕ) → AllByRecursion (IsOfClass g j) (record_lines j c.front)
-      known j = all-front (IsOfClass g j) (record_lines j c.front) (record_lines j (output c.column ∷ c.back)) (subst (AllByRecursion (IsOfClass g j)) (ap (record_lines j) c.whole ∙ records-append j c.front (output c.column ∷ c.back)) (ordered j).known)
+      known : (j : ℕ) → AllByRecursion (IsOfClass g (whole_class j)) (record_lines (whole_class j) c.front)
+      known j = all-front (IsOfClass g (whole_class j)) (record_lines (whole_class j) c.front) (record_lines (whole_class j) (output c.column ∷ c.back)) (subst (AllByRecursion (IsOfClass g (whole_class j))) (ap (record_lines (whole_class j)) c.whole ∙ records-append (whole_class j) c.front (output c.column ∷ c.back)) (ordered j).known)
 
       past : (m : ℕ) → m < outputs c.front → IsTrue (is_past n m 0 (c.front ++ output c.column ∷ c.back))
-      past m l = past-front n m 0 c.front c.column c.back (front-lacks k n i c.front known c.missing) (among-in n (node_lines float_lines_of c.column.nodes) (any-class k n c.column.nodes c.there)) (omega (arith, l))
+      past m l = past-front n m 0 c.front c.column c.back (front-lacks k n i c.front known c.missing) (among-in n (node_lines float_lines_of c.column.nodes) (any-class (whole_class k) n c.column.nodes c.there)) (omega (arith, l))
 
   -- two floats of one class, the first of which stands before the other
-  pair-order : (f h : Float) → f.line < h.line → IsAmong f.line (float_lines f.class (galley_floats g.items)) → IsAmong h.line (float_lines h.class (galley_floats g.items)) → IsAmong f.line (shipped_floats r) → IsAmong h.line (shipped_floats r)
+  pair-order : (f h : Float) → f.line < h.line → IsAmong f.line (float_lines (whole_class f.class) (galley_floats g.items)) → IsAmong h.line (float_lines (whole_class h.class) (galley_floats g.items)) → IsAmong f.line (shipped_floats r) → IsAmong h.line (shipped_floats r)
       → IsTrue (f.class == h.class) → IsTrue (comes_before f.line h.line (shipped_floats r) || is_carried r f.line)
   pair-order f h l fi hi fs hs same =
-      either (rises-before (IsOfClass g f.class) (λ n. IsCarried f.class n r.records) f.line h.line (events_lines f.class r.events) l (ordered f.class).order
+      either (rises-before (IsOfClass g (whole_class f.class)) (λ n. IsCarried (whole_class f.class) n r.records) f.line h.line (events_lines (whole_class f.class) r.events) l (ordered f.class).order
       (shipped-class f.class f.line fi fs)
-      (shipped-class f.class h.line (subst (λ c. IsAmong h.line (float_lines c (galley_floats g.items))) (sym (eqb-true f.class h.class same)) hi) hs))
+      (shipped-class f.class h.line (subst (λ c. IsAmong h.line (float_lines (whole_class c) (galley_floats g.items))) (sym (eqb-true f.class h.class same)) hi) hs))
     where
-      either : StandsBefore f.line h.line (events_lines f.class r.events) ⊎ IsCarried f.class f.line r.records → IsTrue (comes_before f.line h.line (shipped_floats r) || is_carried r f.line)
-      either (inl b) = or_left (comes_before f.line h.line (shipped_floats r)) (is_carried r f.line) (before-comes f.line h.line (shipped_floats r) (class-before f.class f.line h.line (shipped_nodes r.events) (subst (StandsBefore f.line h.line) (shipped-lines f.class r.events) b)))
+      either : StandsBefore f.line h.line (events_lines (whole_class f.class) r.events) ⊎ IsCarried (whole_class f.class) f.line r.records → IsTrue (comes_before f.line h.line (shipped_floats r) || is_carried r f.line)
+      either (inl b) = or_left (comes_before f.line h.line (shipped_floats r)) (is_carried r f.line) (before-comes f.line h.line (shipped_floats r) (class-before (whole_class f.class) f.line h.line (shipped_nodes r.events) (subst (StandsBefore f.line h.line) (shipped-lines (whole_class f.class) r.events) b)))
       either (inr c) = or_right (comes_before f.line h.line (shipped_floats r)) (is_carried r f.line) (carried-is f.class f.line fi c)
 
-  first-order : (f : Float) (later : List Float) → IsAmong f.line (float_lines f.class (galley_floats g.items)) → IsAmong f.line (shipped_floats r)
-      → AllByRecursion (λ h. f.line < h.line) later → AllByRecursion (λ h. IsAmong h.line (float_lines h.class (galley_floats g.items))) later → AllByRecursion (λ h. IsAmong h.line (shipped_floats r)) later → IsFirstOf r f later
+  first-order : (f : Float) (later : List Float) → IsAmong f.line (float_lines (whole_class f.class) (galley_floats g.items)) → IsAmong f.line (shipped_floats r)
+      → AllByRecursion (λ h. f.line < h.line) later → AllByRecursion (λ h. IsAmong h.line (float_lines (whole_class h.class) (galley_floats g.items))) later → AllByRecursion (λ h. IsAmong h.line (shipped_floats r)) later → IsFirstOf r f later
   first-order f [] fi fs l hi hs = tt
   first-order f (h ∷ later) fi fs l hi hs = (pair-order f h l.0 fi hi.0 fs hs.0, first-order f later fi fs l.1 hi.1 hs.1)
 
-  rest-order : (n : ℕ) (fs : List Float) → LinesRise n fs → AllByRecursion (λ h. IsAmong h.line (float_lines h.class (galley_floats g.items))) fs → AllByRecursion (λ h. IsAmong h.line (shipped_floats r)) fs → KeepsClassOrder r fs
+  rest-order : (n : ℕ) (fs : List Float) → LinesRise n fs → AllByRecursion (λ h. IsAmong h.line (float_lines (whole_class h.class) (galley_floats g.items))) fs → AllByRecursion (λ h. IsAmong h.line (shipped_floats r)) fs → KeepsClassOrder r fs
   rest-order n [] l i s = tt
   rest-order n (f ∷ fs) l i s = (first-order f fs i.0 s.0 (later-above f.line fs l.1) i.1 s.1, rest-order f.line fs l.1 i.1 s.1)
 
@@ -117,7 +117,7 @@ module _ (g : Galley) (valid : IsValid g) (r : Run) (ordered : (k : ℕ) → Run
 -- ---- whole runs
 
 -- a run that is done and records empty lists alone has shipped each class in order
-galley-order : (g : Galley) → IsValid g → int_le g.params.interlinepenalty eject_penalty ≡ false → ItemsFit g.items → (k : ℕ) → EndsDone (run_of g).end → AllByRecursion IsEmptied (run_of g).records → RunOrder k (IsOfClass g k) (events_lines k (run_of g).events) (run_of g).records
+galley-order : (g : Galley) → IsValid g → int_le g.params.interlinepenalty eject_penalty ≡ false → ItemsFit g.items → (k : FloatKind) → EndsDone (run_of g).end → AllByRecursion IsEmptied (run_of g).records → RunOrder k (IsOfClass g k) (events_lines k (run_of g).events) (run_of g).records
 unfolding run_of
 galley-order g valid calm fits k = by_nodes (int_lt g.params.maxnodes (pos (held_count s)))
   where
@@ -135,7 +135,7 @@ galley-order g valid calm fits k = by_nodes (int_lt g.params.maxnodes (pos (held
 -- the floats of a valid galley keep the order of their class in a run that is done
 pub classes-keep-order : (g : Galley) → IsValid g → EndsDone (run_of g).end → KeepsClassOrder (run_of g) (galley_floats g.items)
 classes-keep-order g valid done =
-    run-keeps-order g valid (run_of g) (λ k. galley-order g valid (interline-calm g.params valid.params) (valid-items g valid) k done (lists-emptied g valid))
+    run-keeps-order g valid (run_of g) (λ k. galley-order g valid (interline-calm g.params valid.params) (valid-items g valid) (whole_class k) done (lists-emptied g valid))
     (by-floats (shipped_floats (run_of g)) (galley_floats g.items) (recursion_from_All (λ n. IsAmong n (shipped_floats (run_of g))) (all_lines (galley_floats g.items))
     (All-permutation (λ n. IsAmong n (shipped_floats (run_of g))) (shipped_floats (run_of g)) (all_lines (galley_floats g.items)) (ships-once g valid done).floats (All-from_recursion (λ n. IsAmong n (shipped_floats (run_of g))) (shipped_floats (run_of g)) (all-among (shipped_floats (run_of g)))))))
   where

@@ -1,5 +1,5 @@
 -- A run keeps the order of a class: from firing to firing, where the lists are empty at each change of columns.
-use Rattle.std.proofs.Common.{◌≡◌, refl, sym, ◌∙◌, ap, subst, ℕ, zero, suc, pos, ◌+◌, ◌<◌, ◌==◌, ◌⊎◌, inl, inr, Bool, true, false, List, [], ◌∷◌, ◌++◌, map, take, Option, Some, None, append_assoc, append-nil, arith}
+use Rattle.std.proofs.Common.{◌≡◌, refl, sym, ◌∙◌, ap, subst, ℕ, zero, suc, pos, ◌+◌, ◌<◌, ◌⊎◌, inl, inr, Bool, true, false, List, [], ◌∷◌, ◌++◌, map, take, Option, Some, None, append_assoc, append-nil, arith}
 use Rattle.std.specs.Prelude.{ℤ, pred, int_lt, int_le, if◌then◌else◌}
 use Rattle.std.specs.List.{AllByRecursion}
 use Rattle.tb_scaled.specs.Scaled.{awful_bad, min_ℤ, eject_penalty}
@@ -29,7 +29,7 @@ use Rattle.tb_output.proofs.WorkWeights.{Careful}
 use Rattle.tb_output.proofs.BreakSorts.{at-clear}
 use Rattle.tb_output.proofs.SortLemmas.{Seen, BreakStands, PageStands, pen_sort, page-careful}
 use Rattle.tb_output.proofs.RisingLists.{all-front, all-back, all-join, all-map, IsAmong, IsMissing, IsAbove, Rises, rises-front, rises-more, rises-without}
-use Rattle.tb_output.proofs.ClassLines.{line_if, kind_lines, class_lines, float_lines, left_lines, sheet_lines, sent_lines, floats-append}
+use Rattle.tb_output.proofs.ClassLines.{FloatKind, is_of, line_if, kind_lines, class_lines, float_lines, left_lines, sheet_lines, sent_lines, floats-append}
 use Rattle.tb_output.proofs.RecordLines.{record_lines, placed-more, IsLate, late-more, IsCarried, carried-more}
 use Rattle.tb_output.proofs.QuietLemmas.{AreQuiet, quiet-lines}
 use Rattle.tb_output.proofs.FloatlessFeet.{BoxesFloatless}
@@ -46,24 +46,24 @@ use Rattle.tb_float.proofs.SlotLemmas.{floats_among-append}
 -- ---- events
 
 -- the lines of a class in what events ship
-abbrev pub events_lines : ℕ → List RunEvent → List ℕ
+abbrev pub events_lines : FloatKind → List RunEvent → List ℕ
 events_lines k [] = []
 events_lines k (offered t ∷ es) = events_lines k es
 events_lines k (sent (warned w) ∷ es) = events_lines k es
 events_lines k (sent (shipped page sheet) ∷ es) = sheet_lines k sheet ++ events_lines k es
 
-pub events-lines-append : (k : ℕ) (xs ys : List RunEvent) → events_lines k (xs ++ ys) ≡ events_lines k xs ++ events_lines k ys
+pub events-lines-append : (k : FloatKind) (xs ys : List RunEvent) → events_lines k (xs ++ ys) ≡ events_lines k xs ++ events_lines k ys
 events-lines-append k [] ys = refl
 events-lines-append k (offered t ∷ xs) ys = events-lines-append k xs ys
 events-lines-append k (sent (warned w) ∷ xs) ys = events-lines-append k xs ys
 events-lines-append k (sent (shipped page sheet) ∷ xs) ys = ap (λ l. sheet_lines k sheet ++ l) (events-lines-append k xs ys) ∙ sym (append_assoc (sheet_lines k sheet) (events_lines k xs) (events_lines k ys))
 
-sent-events-lines : (k : ℕ) (es : List PlainSent) → events_lines k (map sent es) ≡ sent_lines k es
+sent-events-lines : (k : FloatKind) (es : List PlainSent) → events_lines k (map sent es) ≡ sent_lines k es
 sent-events-lines k [] = refl
 sent-events-lines k (warned w ∷ es) = sent-events-lines k es
 sent-events-lines k (shipped page sheet ∷ es) = ap (λ l. sheet_lines k sheet ++ l) (sent-events-lines k es)
 
-warnings-lines : (k : ℕ) (ws : List Warn) → events_lines k (map (λ w. sent (warned w)) ws) ≡ []
+warnings-lines : (k : FloatKind) (ws : List Warn) → events_lines k (map (λ w. sent (warned w)) ws) ≡ []
 warnings-lines k [] = refl
 warnings-lines k (w ∷ ws) = warnings-lines k ws
 
@@ -126,7 +126,7 @@ nothing-fits o (a ∷ ds) = (by_act a, nothing-fits o ds)
     by_act (acts.Suppress area) = tt
     by_act (acts.Columns two) = nothing-left o
 
-one-float : (k n l : ℕ) (d : PlainKind) → kind_weight floats_count l d + n ≡ 0 → kind_lines k d ≡ []
+one-float : (k : FloatKind) (n l : ℕ) (d : PlainKind) → kind_weight floats_count l d + n ≡ 0 → kind_lines k d ≡ []
 one-float k n l (plain (hbox (what.Text name) h d)) e = refl
 one-float k n l (plain (hbox what.Blank h d)) e = refl
 one-float k n l (plain (hbox (what.Float name class place item) h d)) e = let never : ⊥ = omega arith in absurd never
@@ -142,7 +142,7 @@ one-float k n l (ins i) e = refl
 one-float k n l (act a) e = refl
 
 -- a list in which no float weighs has no float's box
-no-floats : (k : ℕ) (ns : List PlainNode) → nodes_weight floats_count ns ≡ 0 → class_lines k ns ≡ []
+no-floats : (k : FloatKind) (ns : List PlainNode) → nodes_weight floats_count ns ≡ 0 → class_lines k ns ≡ []
 no-floats k [] e = refl
 no-floats k (n ∷ ns) e =
     let a : kind_lines k n.kind ≡ [] = one-float k (nodes_weight floats_count ns) n.line n.kind e in
@@ -160,7 +160,7 @@ clear-frees b s rest q h k r = at-clear (b ≡ false) (BreakStands b s rest) q h
 -- ---- acts
 
 -- the floats in the text, where quiet records are added
-text_quietly : (k : ℕ) (rs more : List Recorded) (before : List ℕ) (l : FloatLists) (column : Option PlainColumn) (text : List ℕ) → AreQuiet more → AreInText k rs before l column text → AreInText k (rs ++ more) before l column text
+text_quietly : (k : FloatKind) (rs more : List Recorded) (before : List ℕ) (l : FloatLists) (column : Option PlainColumn) (text : List ℕ) → AreQuiet more → AreInText k rs before l column text → AreInText k (rs ++ more) before l column text
 text_quietly k rs more before l column text q h = all-map (IsInText k rs (float_lines k l.top) (float_lines k l.here) (ahead_lines k before l column)) (IsInText k (rs ++ more) (float_lines k l.top) (float_lines k l.here) (ahead_lines k before l column)) (λ n x. record {
   placed = placed-more k n rs more x.placed;
   missing = subst (IsMissing n) (sym (quiet-lines k rs more q)) x.missing;
@@ -172,7 +172,7 @@ text_quietly k rs more before l column text q h = all-map (IsInText k rs (float_
     either n (inl late) = inl (late-more k n rs more late)
     either n (inr fresh) = inr fresh
 
-module _ (k : ℕ) (Known : ℕ → Type 0) (text before : List ℕ) where
+module _ (k : FloatKind) (Known : ℕ → Type 0) (text before : List ℕ) where
   -- quiet records are added
   order-quietly : (takes : List ℕ) (rs more : List Recorded) (l : FloatLists) (two first : Bool) (column : Option PlainColumn) → AreQuiet more → Order k Known text takes before rs l two first column → Order k Known text takes before (rs ++ more) l two first column
   order-quietly takes rs more l two first column q h = record {
@@ -239,7 +239,7 @@ module _ (k : ℕ) (Known : ℕ → Type 0) (text before : List ℕ) where
       either n (inl late) = inl late
       either n (inr fresh) = inr (fresh.0, without n fresh.1)
 
-module _ (k : ℕ) (Known : ℕ → Type 0) (p : Params) (text past : List ℕ) where
+module _ (k : FloatKind) (Known : ℕ → Type 0) (p : Params) (text past : List ℕ) where
   -- the class in order in a state, where these lines are still to be taken
   abbrev StateOrder : List ℕ → List Recorded → State → Type 0
   StateOrder takes rs s = Order k Known text takes past rs s.floats s.two_columns s.first_column s.left_column
@@ -258,9 +258,9 @@ module _ (k : ℕ) (Known : ℕ → Type 0) (p : Params) (text past : List ℕ) 
   act-order takes rs s (acts.Take f) h =
       let e = entries.Float (taken_float p s f) in
       room-order takes rs (int_le p.pool (pos (live_count s.floats))) _ _ _ (λ m. subst (λ x. StateOrder takes x (record s { floats = record s.floats { current = s.floats.current ++ e ∷ [] } })) (sym (append-nil rs))
-      (taken k Known text past (line_if (f.class == k) f.line ++ takes) takes rs s.floats s.two_columns s.first_column s.left_column (s.floats.current ++ e ∷ [])
-      (sym (append_assoc (float_lines k (floats_among s.floats.current)) (line_if (f.class == k) f.line) takes)
-      ∙ ap (λ l. l ++ takes) (ap (λ l. float_lines k (floats_among s.floats.current) ++ l) (sym (append-nil (line_if (f.class == k) f.line))) ∙ sym (ap (float_lines k) (floats_among-append s.floats.current (e ∷ [])) ∙ floats-append k (floats_among s.floats.current) (taken_float p s f ∷ [])))) h))
+      (taken k Known text past (line_if (is_of k f.class f.line) f.line ++ takes) takes rs s.floats s.two_columns s.first_column s.left_column (s.floats.current ++ e ∷ [])
+      (sym (append_assoc (float_lines k (floats_among s.floats.current)) (line_if (is_of k f.class f.line) f.line) takes)
+      ∙ ap (λ l. l ++ takes) (ap (λ l. float_lines k (floats_among s.floats.current) ++ l) (sym (append-nil (line_if (is_of k f.class f.line) f.line))) ∙ sym (ap (float_lines k) (floats_among-append s.floats.current (e ∷ [])) ∙ floats-append k (floats_among s.floats.current) (taken_float p s f ∷ [])))) h))
   act-order takes rs s (acts.TakeMargin m) h =
       room-order takes rs (int_lt p.pool (pos (live_count s.floats + 2))) _ _ _ (λ none. subst (λ x. StateOrder takes x (record s { floats = record s.floats { current = s.floats.current ++ entries.Left m ∷ entries.Right m ∷ [] } })) (sym (append-nil rs))
       (taken k Known text past takes takes rs s.floats s.two_columns s.first_column s.left_column (s.floats.current ++ entries.Left m ∷ entries.Right m ∷ [])
@@ -296,11 +296,11 @@ module _ (k : ℕ) (Known : ℕ → Type 0) (p : Params) (text past : List ℕ) 
   progress-order takes (tried line b ∷ reached) least rs s e f h = progress-order takes reached (min_ℤ least b.cost) rs s e f h
 
 -- what is reached ships nothing
-progress_by-lines : (k : ℕ) (s : State) (later : State → Progress) → ((t : State) → events_lines k (later t).events ≡ []) → (x : Acted) → events_lines k (progress_by later s x).events ≡ []
+progress_by-lines : (k : FloatKind) (s : State) (later : State → Progress) → ((t : State) → events_lines k (later t).events ≡ []) → (x : Acted) → events_lines k (progress_by later s x).events ≡ []
 progress_by-lines k s later h (went t ws more) = events-lines-append k (map (λ w. sent (warned w)) ws) (later t).events ∙ ap (λ l. l ++ events_lines k (later t).events) (warnings-lines k ws) ∙ h t
 progress_by-lines k s later h (full line live) = refl
 
-progress-lines : (k : ℕ) (p : Params) (reached : List Reached) (least : ℤ) (s : State) → events_lines k (progress p reached least s).events ≡ []
+progress-lines : (k : FloatKind) (p : Params) (reached : List Reached) (least : ℤ) (s : State) → events_lines k (progress p reached least s).events ≡ []
 progress-lines k p [] least s = refl
 progress-lines k p (acted a ∷ reached) least s = progress_by-lines k s (λ t. progress p reached least t) (λ t. progress-lines k p reached least t) (act_on p s a)
 progress-lines k p (tried line b ∷ reached) least s = progress-lines k p reached (min_ℤ least b.cost) s
@@ -308,15 +308,15 @@ progress-lines k p (tried line b ∷ reached) least s = progress-lines k p reach
 -- ---- a page and its firing
 
 -- the lines of what a run ships rise, and all columns have lines that are known
-pub record RunOrder (k : ℕ) (Known : ℕ → Type 0) (shipped : List ℕ) (rs : List Recorded) : Type 0 where
+pub record RunOrder (k : FloatKind) (Known : ℕ → Type 0) (shipped : List ℕ) (rs : List Recorded) : Type 0 where
   pub order : Rises Known (λ n. IsCarried k n rs) shipped
   pub known : AllByRecursion Known (record_lines k rs)
 
-abbrev pub StepOrder : ℕ → (ℕ → Type 0) → List ℕ → List Recorded → Step → Type 0
+abbrev pub StepOrder : FloatKind → (ℕ → Type 0) → List ℕ → List Recorded → Step → Type 0
 StepOrder k Known past old (goes_on es rs t) = AllByRecursion IsEmptied rs → InOrder k Known (past ++ events_lines k es) (old ++ rs) t
 StepOrder k Known past old (ends es rs e) = EndsDone e → AllByRecursion IsEmptied rs → RunOrder k Known (past ++ events_lines k es) (old ++ rs)
 
-module _ (k : ℕ) (Known : ℕ → Type 0) (p : Params) (calm : int_le p.interlinepenalty eject_penalty ≡ false) (past : List ℕ) (old : List Recorded) (s : State) (kept : Kept s) (h : InOrder k Known past old s) where
+module _ (k : FloatKind) (Known : ℕ → Type 0) (p : Params) (calm : int_le p.interlinepenalty eject_penalty ≡ false) (past : List ℕ) (old : List Recorded) (s : State) (kept : Kept s) (h : InOrder k Known past old s) where
   page_cut : CutAt [] (pruned_nodes p.topskip s.waiting) (page_of p s)
   page_cut = cut nothing_weighs p calm s kept
 
@@ -446,7 +446,7 @@ abbrev StepHolds : (State → Type 0) → Step → Type 0
 StepHolds Holds (ends es rs e) = Unit {0}
 StepHolds Holds (goes_on es rs t) = Holds t
 
-by-order : (k : ℕ) (Known : ℕ → Type 0) (past : List ℕ) (old : List Recorded) (later : State → Run) (Holds : State → Type 0)
+by-order : (k : FloatKind) (Known : ℕ → Type 0) (past : List ℕ) (old : List Recorded) (later : State → Run) (Holds : State → Type 0)
     → ((t : State) (before : List ℕ) (rs : List Recorded) → Holds t → InOrder k Known before rs t → EndsDone (later t).end → AllByRecursion IsEmptied (later t).records → RunOrder k Known (before ++ events_lines k (later t).events) (rs ++ (later t).records))
     → (x : Step) → StepHolds Holds x → StepOrder k Known past old x → EndsDone (run_by later x).end → AllByRecursion IsEmptied (run_by later x).records → RunOrder k Known (past ++ events_lines k (run_by later x).events) (old ++ (run_by later x).records)
 by-order k Known past old later Holds h (ends es rs e) i o d m = o d m
@@ -460,7 +460,7 @@ step-kept s (ends es rs e) w = tt
 step-kept s (goes_on es rs t) w = w.0
 
 -- a run that is done and records empty lists alone has shipped the class in order
-pub run-order : (k : ℕ) (Known : ℕ → Type 0) (p : Params) → int_le p.interlinepenalty eject_penalty ≡ false → (fuel : ℕ) (past : List ℕ) (old : List Recorded) (s : State) → Kept s → InOrder k Known past old s
+pub run-order : (k : FloatKind) (Known : ℕ → Type 0) (p : Params) → int_le p.interlinepenalty eject_penalty ≡ false → (fuel : ℕ) (past : List ℕ) (old : List Recorded) (s : State) → Kept s → InOrder k Known past old s
     → EndsDone (run_from p fuel s).end → AllByRecursion IsEmptied (run_from p fuel s).records → RunOrder k Known (past ++ events_lines k (run_from p fuel s).events) (old ++ (run_from p fuel s).records)
 unfolding run_from
 run-order k Known p calm zero past old s kept h d m = absurd d
