@@ -36,7 +36,7 @@ module _ {X : Type 0} where
 
 -- ---- the company
 
-length-choices : (z : Wanted) (before : List Choice) (fs : List Float) → length (choices_from z before fs) ≡ length before + length fs
+pub length-choices : (z : Wanted) (before : List Choice) (fs : List Float) → length (choices_from z before fs) ≡ length before + length fs
 length-choices z before [] = omega arith
 length-choices z before (f ∷ fs) =
     let c : Choice = record { float = f; chosen = joins z before f } in

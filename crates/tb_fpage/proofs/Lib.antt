@@ -1,3 +1,4 @@
 pub mod CompanyLemmas
 pub mod LawLemmas
 pub mod WalkLemmas
+pub mod FirstLemmas

@@ -9,6 +9,7 @@ use Rattle.tb_galley.specs.declared.GalleyFault.{GalleyFault}
 use Rattle.tb_galley.specs.declared.GalleyFault.TheVariants as unread
 use Rattle.tb_galley.specs.CauseText.{is_range_cause}
 use Rattle.tb_galley.specs.Grammar.{grammar, input_limit}
+use Rattle.tb_galley.specs.Valid.{IsValid}
 use Rattle.tb_top.specs.declared.PageFault.{PageFault}
 use Rattle.tb_top.specs.declared.PageFault.TheVariants as pages
 use Rattle.tb_top.specs.declared.View.TheVariants.{Report}
@@ -21,7 +22,8 @@ use Rattle.tb_top.specs.declared.status.Status.TheVariants as answers
 use Rattle.tb_run.specs.Run.{End, done, pool_full, dead_cycles, page_limit, node_limit, run_of}
 use Rattle.tb_top.specs.Paginated.{end_fault, EndsWith, Refuses}
 use Rattle.tb_top.specs.Answer.{answer_at, line_at, answer_for_cause, answer_to, report_to, err_line}
-use Rattle.tb_top.specs.Outcome.{Ends, ErrEnd, Gives, Decided, CutOff, StandsAfter, TellsLine, Says, Outcome, IsAnswer}
+use Rattle.tb_top.specs.Outcome.{Ends, ErrEnd, Gives, Decided, OutOfCycles, CutOff, StandsAfter, TellsLine, Says, Outcome, IsAnswer}
+use Rattle.tb_top.proofs.CycleAnswers.{no-room}
 use Rattle.tb_top.specs.Refusal.{galley_status, page_status, input_status, refusal_status, page_text}
 
 -- ---- a run that was refused
@@ -41,7 +43,7 @@ page_text-ended (dead_cycles n) f is = let same : pages.DeadCycles n ≡ f = cc 
 page_text-ended (page_limit n) f is = let same : pages.PageLimit n ≡ f = cc in rw (← same) refl
 page_text-ended (node_limit n) f is = let same : pages.NodeLimit n ≡ f = cc in rw (← same) refl
 
-module _ (e : Ends) (input : List ℕ) (g : Galley) (read : Gives e.left_before e.left_after input) (is : grammar input ≡ Ok g) where
+module _ (e : Ends) (input : List ℕ) (g : Galley) (read : Gives e.left_before e.left_after input) (is : grammar input ≡ Ok g) (valid : IsValid g) where
   decided : (f : PageFault) → EndsWith Report (run_of g) e.held_before e.held_after f → Decided (page_status f) e (err_line (page_text f))
   decided f r = record {
     input = input;
@@ -51,13 +53,19 @@ module _ (e : Ends) (input : List ℕ) (g : Galley) (read : Gives e.left_before 
     told = rw is (page_text-ended (run_of g).end f r.ended);
   }
 
+  out_of_cycles : (n : ℕ) → EndsWith Report (run_of g) e.held_before e.held_after (pages.DeadCycles n) → OutOfCycles e (err_line (page_text (pages.DeadCycles n)))
+  unfolding decided
+  out_of_cycles n r =
+      let d = decided (pages.DeadCycles n) r in
+      record { input = input; read = read; answered = d.answered; written = d.written; told = d.told; galley = g; parsed = is; no_room = no-room g valid Report e.held_before e.held_after n r }
+
   cut_off : AppendsPrefix e.held_before e.held_after (report_to input) → CutOff e
   cut_off part = record { input = input; read = read; galley = rw is refl; written = part }
 
   -- what stands after a refusal of `paginate`
   pub left_by_pages : (f : PageFault) → Refuses Report (run_of g) e.held_before e.held_after f → StandsAfter (page_status f) e (err_line (page_text f))
   left_by_pages (pages.PoolFull line live) r = decided (pages.PoolFull line live) r
-  left_by_pages (pages.DeadCycles n) r = decided (pages.DeadCycles n) r
+  left_by_pages (pages.DeadCycles n) r = out_of_cycles n r
   left_by_pages (pages.PageLimit n) r = decided (pages.PageLimit n) r
   left_by_pages (pages.NodeLimit n) r = decided (pages.NodeLimit n) r
   left_by_pages pages.WriteFault r = (cut_off (rw is r), refl)

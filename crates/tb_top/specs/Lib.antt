@@ -1,6 +1,7 @@
 pub mod Report
 pub mod Generate
 pub mod Laws
+pub mod DeadCycles
 pub mod Paginated
 pub mod Firings
 pub mod Status

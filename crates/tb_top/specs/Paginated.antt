@@ -42,3 +42,12 @@ Refuses v r old new (faults.PageLimit n) = EndsWith v r old new (faults.PageLimi
 Refuses v r old new (faults.NodeLimit n) = EndsWith v r old new (faults.NodeLimit n)
 Refuses v r old new faults.WriteFault = AppendsPrefix old new (view_text v r)
 Refuses v r old new faults.Memory = AppendsPrefix old new (view_text v r)
+
+-- a refusal that is not for the dead cycles
+abbrev pub IsNotForCycles : PageFault → Type 0
+IsNotForCycles (faults.PoolFull line live) = Unit {0}
+IsNotForCycles (faults.DeadCycles n) = ⊥
+IsNotForCycles (faults.PageLimit n) = Unit {0}
+IsNotForCycles (faults.NodeLimit n) = Unit {0}
+IsNotForCycles faults.WriteFault = Unit {0}
+IsNotForCycles faults.Memory = Unit {0}

@@ -1,5 +1,6 @@
 //! Laws of whole runs: each function is a theorem, stated by its contract, and does nothing.
 
+ghost use Rattle.tb_top.specs.DeadCycles.{DeadCyclesAreFew};
 ghost use Rattle.tb_top.specs.Firings.{BoundsAgree, EndsHaveReasons};
 ghost use Rattle.tb_top.specs.Laws.{ClassesKeepOrder, EachShipsOnce, LimitsHold, ListsAreEmptied, TotalsAreKept};
 
@@ -36,4 +37,10 @@ pub fn each_ships_once()
 /// in a column, by its list.
 pub fn classes_keep_their_order()
     ensures { ClassesKeepOrder }
+{}
+
+/// Dead cycles are few: a run of a valid galley whose top skip is no higher than a page does not end for its dead cycles,
+/// where their limit allows four for each float, marginal note, clear and change of columns, and sixteen besides.
+pub fn dead_cycles_are_few()
+    ensures { DeadCyclesAreFew }
 {}

@@ -13,8 +13,8 @@ mod status;
 mod top;
 
 pub use laws::{
-    classes_keep_their_order, each_ships_once, floats_keep_the_limits, lists_are_emptied,
-    runs_are_defined,
+    classes_keep_their_order, dead_cycles_are_few, each_ships_once, floats_keep_the_limits,
+    lists_are_emptied, runs_are_defined,
 };
 pub use pages::paginate;
 pub use rows::check_rows;

@@ -9,7 +9,8 @@ ghost use Rattle.tb_report.specs.Printable.{IsPrintableSent};
 ghost use Rattle.tb_report.specs.Totals.{AreCounts};
 ghost use Rattle.tb_run.specs.Run.{run_of};
 ghost use Rattle.tb_top.specs.Laws.{KeepsLaws, WithinLimits};
-ghost use Rattle.tb_top.specs.Paginated.{Paginates, Refuses};
+ghost use Rattle.tb_top.specs.DeadCycles.{HasRoomForCycles};
+ghost use Rattle.tb_top.specs.Paginated.{Paginates, Refuses, IsNotForCycles};
 ghost use Rattle.tb_pool.specs.Lists.{IsLive};
 ghost use Rattle.tb_run.specs.Turning.{sent_by};
 ghost use Rattle.tb_top.specs.Written.{Shows, all_sent_lines, with_all, EndsWell, StopsWith};
@@ -45,8 +46,9 @@ impl From<AllocError> for PageFault {
 /// (`NodeLimit`). Its text up to there is written then. A run that ended well has shipped each box, rule, float and
 /// note of the galley once, the boxes and rules of the text in their order, and the floats of each class in theirs, but
 /// for those that a break carried; and the totals show it. Whatever the end, no float without `!` was placed past the
-/// limits of its list. After `WriteFault`, which comes only where `out` failed and never at a silent view, and after
-/// `Memory` a prefix of the run's text is written.
+/// limits of its list. The answer is not `DeadCycles` where `maxdeadcycles` is at least sixteen and four for each float,
+/// marginal note, clearpage, onecolumn and twocolumn, and `topskip` is no more than `textheight`. After `WriteFault`, which
+/// comes only where `out` failed and never at a silent view, and after `Memory` a prefix of the run's text is written.
 pub fn paginate<K: Sink>(
     alloc: Global,
     galley: &Galley,
@@ -59,6 +61,7 @@ pub fn paginate<K: Sink>(
     ensures done { IfOk result (Paginates view (run_of galley.now) (K.held out.old) (K.held out.new)) }
     ensures laws { IfOk result (KeepsLaws galley.now) }
     ensures limits { WithinLimits galley.now.params (run_of galley.now) }
+    ensures cycles { HasRoomForCycles galley.now → IfErr result IsNotForCycles }
     ensures refused { IfErr result (Refuses view (run_of galley.now) (K.held out.old) (K.held out.new)) }
 
     ensures cause { result ≡ Err PageFault.WriteFault → Rose (K.faults out.old) (K.faults out.new) }

@@ -18,6 +18,12 @@ use tb_io::{Sink, SinkFault, Source, write_all};
 /// input, or once more than 8388608 bytes were taken. Each answer but `Done` writes one line to
 /// `err`, after all else; where `err` fails the answer stays, and where there is no memory for the
 /// line it becomes `Memory`.
+///
+/// After `Done` the run of the galley kept the laws of whole runs: each box, rule, float and note shipped once, the text in
+/// its order, and the floats of each class in theirs, but for those that a break carried; no float without `!` was placed
+/// past the limits of its area, and all float lists were empty at each change of columns and at the end. `DeadCycles` comes
+/// only where `maxdeadcycles` is less than sixteen and four for each float, marginal note, clearpage, onecolumn and
+/// twocolumn, or `topskip` is more than `textheight`.
 pub fn run<S: Source, K: Sink, E: Sink>(
     alloc: Global,
     words: &[String],

@@ -9,6 +9,7 @@ use Rattle.tb_top.proofs.FinishLemmas.{ends-well, stops-with, start-closing, sta
 use Rattle.tb_top.proofs.RunParams.{params-runnable}
 use Rattle.tb_top.proofs.LawfulRuns.{keeps-laws}
 use Rattle.tb_top.proofs.LimitedRuns.{run-within}
+use Rattle.tb_top.proofs.CycleAnswers.{not-for-cycles}
 use Rattle.tb_top.proofs.PrintablePages.{printable-some, live-some, few-some}
 use Rattle.tb_run.proofs.WholeLemmas.{ready-counted}
 use Rattle.tb_run.proofs.ServedItems.{galley-items, galley-served}
@@ -140,3 +141,21 @@ returns-in_err-send-clause-limits g c = run-within c.args.galley.now
 
 pub returns-in-Some-ending-clause-limits : goal.returns-in-Some-ending-clause-limits
 returns-in-Some-ending-clause-limits g c = run-within c.args.galley.now
+
+pub returns-in_err-show-clause-cycles : goal.returns-in_err-show-clause-cycles
+returns-in_err-show-clause-cycles g c = λ room. IfErr-weaker c.from_residual.result _ _ (not-for-cycles c.args.galley.now c.requires.valid room c.args.view _ _) (returns-in_err-show-clause-refused g c)
+
+pub returns-in_err-routine-clause-cycles : goal.returns-in_err-routine-clause-cycles
+returns-in_err-routine-clause-cycles g c = λ room. IfErr-weaker c.from_residual-in_err-routine.result _ _ (not-for-cycles c.args.galley.now c.requires.valid room c.args.view _ _) (returns-in_err-routine-clause-refused g c)
+
+pub returns-in-Some-clause-cycles : goal.returns-in-Some-clause-cycles
+returns-in-Some-clause-cycles g c = λ room. IfErr-weaker c.finish.result _ _ (not-for-cycles c.args.galley.now c.requires.valid room c.args.view _ _) (returns-in-Some-clause-refused g c)
+
+pub returns-in_err-turn-clause-cycles : goal.returns-in_err-turn-clause-cycles
+returns-in_err-turn-clause-cycles g c = λ room. IfErr-weaker c.from_residual-in_err-turn.result _ _ (not-for-cycles c.args.galley.now c.requires.valid room c.args.view _ _) (returns-in_err-turn-clause-refused g c)
+
+pub returns-in_err-send-clause-cycles : goal.returns-in_err-send-clause-cycles
+returns-in_err-send-clause-cycles g c = λ room. IfErr-weaker c.from_residual-in_err-send.result _ _ (not-for-cycles c.args.galley.now c.requires.valid room c.args.view _ _) (returns-in_err-send-clause-refused g c)
+
+pub returns-in-Some-ending-clause-cycles : goal.returns-in-Some-ending-clause-cycles
+returns-in-Some-ending-clause-cycles g c = λ room. IfErr-weaker c.finish-in-Some-ending.result _ _ (not-for-cycles c.args.galley.now c.requires.valid room c.args.view _ _) (returns-in-Some-ending-clause-refused g c)

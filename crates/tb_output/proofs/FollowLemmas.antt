@@ -1,0 +1,308 @@
+-- What the steps of a column do to the lists of floats, the columns and the dead cycles.
+use Rattle.std.proofs.Common.{◌≡◌, refl, sym, ◌∙◌, ap, subst, ℕ, zero, suc, pos, ◌+◌, ◌≤◌, inl, inr, ◌⊎◌, Bool, true, false, List, [], ◌∷◌, ◌++◌, length, Option, Some, None, arith}
+use Rattle.std.specs.Prelude.{int_lt, not, if◌then◌else◌}
+use Rattle.std.specs.List.{AllByRecursion}
+use Rattle.tb_node.specs.declared.Float.{Float}
+use Rattle.tb_node.specs.declared.Where.{Where}
+use Rattle.tb_node.specs.declared.Where.TheVariants as places
+use Rattle.tb_param.specs.declared.Params.{Params}
+use Rattle.tb_float.specs.Lists.{FloatLists}
+use Rattle.tb_float.specs.Rooms.{column_height_of}
+use Rattle.tb_fpage.specs.declared.Wanted.{Wanted}
+use Rattle.tb_fpage.specs.Company.{Choice, company, chosen_floats, left_floats}
+use Rattle.tb_fpage.proofs.FirstLemmas.{company-takes, company-leaves}
+use Rattle.tb_area.specs.Area.{next_place, double_place}
+use Rattle.tb_column.specs.Column.{PlainColumn, PlainSheet, PlainSent, shipped, one, wide, pair_sheet, wide_floats_column, single_floats_column}
+use Rattle.tb_output.specs.State.{State, Work, Recorded, placed, output, sends, records_also, with_floats}
+use Rattle.tb_output.specs.Place
+use Rattle.tb_output.specs.Ship
+use Rattle.tb_output.specs.Columns
+
+-- the floats that wait for a place or a column; those in the text stand there as boxes
+abbrev pub waiting_floats : FloatLists → ℕ
+waiting_floats l = length l.top + length l.bottom + length l.deferred + length l.double
+
+-- what holds of all of them
+pub record AllWait (P : Float → Type 0) (l : FloatLists) : Type 0 where
+  pub top : AllByRecursion P l.top
+  pub bottom : AllByRecursion P l.bottom
+  pub deferred : AllByRecursion P l.deferred
+  pub double : AllByRecursion P l.double
+
+-- a step that is not refused: no float comes, all that held of the floats holds still, a page sets the dead cycles to 0, and the rest stays
+pub record Follows (P : Float → Type 0) (a b : Work) : Type 0 where
+  pub goes : b.refused ≡ false → a.refused ≡ false
+  pub columns : b.state.two_columns ≡ a.state.two_columns
+  pub boxes : b.state.boxes ≡ a.state.boxes
+  pub back : b.put_back ≡ a.put_back
+  pub page : b.state.held_page ≡ a.state.held_page
+  pub current : b.state.floats.current ≡ a.state.floats.current
+  pub floats : waiting_floats b.state.floats ≤ waiting_floats a.state.floats
+  pub all : AllWait P a.state.floats → AllWait P b.state.floats
+  pub cycles : b.refused ≡ false → (b.state.dead_cycles ≡ a.state.dead_cycles) ⊎ (b.state.dead_cycles ≡ 0)
+
+module _ (P : Float → Type 0) where
+  pub follows-same : (a : Work) → Follows P a a
+  follows-same a = record { goes = λ h. h; columns = refl; boxes = refl; back = refl; page = refl; current = refl; floats = omega arith; all = λ h. h; cycles = λ h. inl refl }
+
+  later-cycles : (a b c : ℕ) → (b ≡ a) ⊎ (b ≡ 0) → (c ≡ b) ⊎ (c ≡ 0) → (c ≡ a) ⊎ (c ≡ 0)
+  later-cycles a b c x (inr k) = inr k
+  later-cycles a b c (inl h) (inl k) = inl (k ∙ h)
+  later-cycles a b c (inr h) (inl k) = inr (k ∙ h)
+
+  at-most : (x y z : ℕ) → y ≤ x → z ≤ y → z ≤ x
+  at-most x y z h k = omega arith
+
+  pub follows-then : (a b c : Work) → Follows P a b → Follows P b c → Follows P a c
+  follows-then a b c x y = record {
+    goes = λ h. x.goes (y.goes h);
+    columns = y.columns ∙ x.columns;
+    boxes = y.boxes ∙ x.boxes;
+    back = y.back ∙ x.back;
+    page = y.page ∙ x.page;
+    current = y.current ∙ x.current;
+    floats = at-most (waiting_floats a.state.floats) (waiting_floats b.state.floats) (waiting_floats c.state.floats) x.floats y.floats;
+    all = λ h. y.all (x.all h);
+    cycles = λ h. later-cycles a.state.dead_cycles b.state.dead_cycles c.state.dead_cycles (x.cycles (y.goes h)) (y.cycles h);
+  }
+
+  follows_if : (a : Work) (t : Bool) (b c : Work) → Follows P a b → Follows P a c → Follows P a (if t then b else c)
+  follows_if a true b c x y = x
+  follows_if a false b c x y = y
+
+  follows-records : (r : Recorded) (w : Work) → Follows P w (records_also r w)
+  follows-records r w = follows_if w w.refused w (record w { records = w.records ++ r ∷ [] }) (follows-same w) (record { goes = λ h. h; columns = refl; boxes = refl; back = refl; page = refl; current = refl; floats = omega arith; all = λ h. h; cycles = λ h. inl refl })
+
+  pub follows-sends : (e : PlainSent) (w : Work) → Follows P w (sends e w)
+  follows-sends e w = follows_if w w.refused w (record w { sent = w.sent ++ e ∷ [] }) (follows-same w) (record { goes = λ h. h; columns = refl; boxes = refl; back = refl; page = refl; current = refl; floats = omega arith; all = λ h. h; cycles = λ h. inl refl })
+
+  -- ---- shipping
+
+  pub follows-ship : (p : Params) (sheet : PlainSheet) (w : Work) → Follows P w (Ship.ship p sheet w)
+  follows-ship p sheet w =
+      let a : Work = record w { state = record w.state { page = w.state.page + 1; dead_cycles = 0 } } in
+      follows_if w w.refused w (if int_lt p.maxpages (pos w.state.page) then record w { refused = true } else Ship.ship_now sheet w) (follows-same w)
+      (follows_if w (int_lt p.maxpages (pos w.state.page)) (record w { refused = true }) (Ship.ship_now sheet w)
+      (record { goes = λ h. let no : ⊥ = grind (arith, h) in absurd no; columns = refl; boxes = refl; back = refl; page = refl; current = refl; floats = omega arith; all = λ h. h; cycles = λ h. inl refl })
+      (follows-then w a (Ship.ship_now sheet w) (record { goes = λ h. h; columns = refl; boxes = refl; back = refl; page = refl; current = refl; floats = omega arith; all = λ h. h; cycles = λ h. inr refl }) (follows-sends (shipped w.state.page sheet) a)))
+
+  -- ---- floats
+
+  one-longer : (fs : List Float) (f : Float) → length (fs ++ f ∷ []) ≡ length fs + 1
+  one-longer [] f = refl
+  one-longer (g ∷ fs) f = let h : length (fs ++ f ∷ []) ≡ length fs + 1 = one-longer fs f in omega arith
+
+  one-all : (fs : List Float) (f : Float) → AllByRecursion P fs → P f → AllByRecursion P (fs ++ f ∷ [])
+  one-all [] f h k = (k, tt)
+  one-all (g ∷ fs) f h k = (h.0, one-all fs f h.1 k)
+
+  pub joined-count : (place : Where) (f : Float) (l : FloatLists) → waiting_floats (Place.joined_to place f l) ≤ waiting_floats l + 1
+  joined-count places.Here f l = omega arith
+  joined-count places.Top f l = let h : length (l.top ++ f ∷ []) ≡ length l.top + 1 = one-longer l.top f in omega arith
+  joined-count places.Bottom f l = let h : length (l.bottom ++ f ∷ []) ≡ length l.bottom + 1 = one-longer l.bottom f in omega arith
+  joined-count places.Page f l = omega arith
+  joined-count places.Double f l = let h : length (l.double ++ f ∷ []) ≡ length l.double + 1 = one-longer l.double f in omega arith
+  joined-count places.Deferred f l = let h : length (l.deferred ++ f ∷ []) ≡ length l.deferred + 1 = one-longer l.deferred f in omega arith
+
+  pub joined-all : (place : Where) (f : Float) (l : FloatLists) → P f → AllWait P l → AllWait P (Place.joined_to place f l)
+  joined-all places.Here f l k h = record { top = h.top; bottom = h.bottom; deferred = h.deferred; double = h.double }
+  joined-all places.Top f l k h = record { top = one-all l.top f h.top k; bottom = h.bottom; deferred = h.deferred; double = h.double }
+  joined-all places.Bottom f l k h = record { top = h.top; bottom = one-all l.bottom f h.bottom k; deferred = h.deferred; double = h.double }
+  joined-all places.Page f l k h = h
+  joined-all places.Double f l k h = record { top = h.top; bottom = h.bottom; deferred = h.deferred; double = one-all l.double f h.double k }
+  joined-all places.Deferred f l k h = record { top = h.top; bottom = h.bottom; deferred = one-all l.deferred f h.deferred k; double = h.double }
+
+  pub joined-current : (place : Where) (f : Float) (l : FloatLists) → (Place.joined_to place f l).current ≡ l.current
+  joined-current places.Here f l = refl
+  joined-current places.Top f l = refl
+  joined-current places.Bottom f l = refl
+  joined-current places.Page f l = refl
+  joined-current places.Double f l = refl
+  joined-current places.Deferred f l = refl
+
+  -- the lists change, and nothing else
+  with-lists : (l : FloatLists) (w : Work) → l.current ≡ w.state.floats.current → waiting_floats l ≤ waiting_floats w.state.floats → (AllWait P w.state.floats → AllWait P l) → Follows P w (with_floats l w)
+  with-lists l w c h k = record { goes = λ r. r; columns = refl; boxes = refl; back = refl; page = refl; current = c; floats = h; all = k; cycles = λ r. inl refl }
+
+  -- a float that left the lists goes to one of them
+  pub follows-placed : (p : Params) (place : Where) (f : Float) (left : FloatLists) (w : Work) → left.current ≡ w.state.floats.current → waiting_floats left + 1 ≤ waiting_floats w.state.floats → (AllWait P w.state.floats → P f × AllWait P left) → Follows P w (Place.place_float p place f left w)
+  follows-placed p place f left w c h k = by_record (Place.is_placed place)
+    where
+      l : FloatLists
+      l = Place.joined_to place f left
+
+      r : Recorded
+      r = placed f place w.state.floats (column_height_of p w.state.floats)
+
+      counted : waiting_floats l ≤ waiting_floats w.state.floats
+      counted = let j : waiting_floats (Place.joined_to place f left) ≤ waiting_floats left + 1 = joined-count place f left in at-most (waiting_floats w.state.floats) (waiting_floats left + 1) (waiting_floats l) h j
+
+      kept : AllWait P w.state.floats → AllWait P l
+      kept a = let x : P f × AllWait P left = k a in joined-all place f left x.0 x.1
+
+      here : (a : Work) → a.state ≡ w.state → Follows P a (with_floats l a)
+      here a e = with-lists l a (joined-current place f left ∙ c ∙ sym (ap (λ s. s.floats.current) e)) (subst (λ (s : State). waiting_floats l ≤ waiting_floats s.floats) (sym e) counted) (λ x. kept (subst (λ (s : State). AllWait P s.floats) e x))
+
+      recorded : (t : Bool) → (if t then w else record w { records = w.records ++ r ∷ [] }).state ≡ w.state
+      recorded true = refl
+      recorded false = refl
+
+      by_record : (t : Bool) → Follows P w (with_floats l (if t then records_also r w else w))
+      by_record true = follows-then w (records_also r w) (with_floats l (records_also r w)) (follows-records r w) (here (records_also r w) (recorded w.refused))
+      by_record false = here w refl
+
+  all-left : (fs gs : List Float) → AllByRecursion P (fs ++ gs) → AllByRecursion P fs
+  all-left [] gs h = tt
+  all-left (f ∷ fs) gs h = (h.0, all-left fs gs h.1)
+
+  all-right : (fs gs : List Float) → AllByRecursion P (fs ++ gs) → AllByRecursion P gs
+  all-right [] gs h = h
+  all-right (f ∷ fs) gs h = all-right fs gs h.1
+
+  pub all-both : (fs gs : List Float) → AllByRecursion P fs → AllByRecursion P gs → AllByRecursion P (fs ++ gs)
+  all-both [] gs h k = k
+  all-both (f ∷ fs) gs h k = (h.0, all-both fs gs h.1 k)
+
+  pub both-long : (fs gs : List Float) → length (fs ++ gs) ≡ length fs + length gs
+  both-long [] gs = omega arith
+  both-long (f ∷ fs) gs = let h : length (fs ++ gs) ≡ length fs + length gs = both-long fs gs in omega arith
+
+  -- a deferred float goes to its place, or stays
+  deferred-step : (p : Params) (place : Where) (f : Float) (before rest : List Float) (w : Work) → w.state.floats.deferred ≡ before ++ f ∷ rest → Follows P w (Place.place_deferred p place f before rest w) × ((Place.place_deferred p place f before rest w).state.floats.deferred ≡ Place.still_deferred place f before ++ rest)
+  deferred-step p place f before rest w e = by_place place
+    where
+      l : FloatLists
+      l = record w.state.floats { deferred = before ++ rest }
+
+      fewer : waiting_floats l + 1 ≤ waiting_floats w.state.floats
+      fewer =
+          let h : length (before ++ rest) ≡ length before + length rest = both-long before rest in
+          let k : length (before ++ f ∷ rest) ≡ length before + length (f ∷ rest) = both-long before (f ∷ rest) in
+          let i : length w.state.floats.deferred ≡ length (before ++ f ∷ rest) = ap length e in
+          omega arith
+
+      parts : AllWait P w.state.floats → P f × AllWait P l
+      parts h =
+          let d : AllByRecursion P (before ++ f ∷ rest) = subst (AllByRecursion P) e h.deferred in
+          ((all-right before (f ∷ rest) d).0, record { top = h.top; bottom = h.bottom; deferred = all-both before rest (all-left before (f ∷ rest) d) (all-right before (f ∷ rest) d).1; double = h.double })
+
+      assoc : (xs : List Float) → xs ++ f ∷ rest ≡ (xs ++ f ∷ []) ++ rest
+      assoc [] = refl
+      assoc (x ∷ xs) = ap (λ ys. x ∷ ys) (assoc xs)
+
+      recorded : (r : Recorded) (fs : FloatLists) (t : Bool) → (with_floats fs (if t then w else record w { records = w.records ++ r ∷ [] })).state.floats.deferred ≡ fs.deferred
+      recorded r fs true = refl
+      recorded r fs false = refl
+
+      by_place : (place : Where) → Follows P w (Place.place_deferred p place f before rest w) × ((Place.place_deferred p place f before rest w).state.floats.deferred ≡ Place.still_deferred place f before ++ rest)
+      by_place places.Here = (follows-placed p places.Here f l w refl fewer parts, refl)
+      by_place places.Top = (follows-placed p places.Top f l w refl fewer parts, refl)
+      by_place places.Bottom = (follows-placed p places.Bottom f l w refl fewer parts, refl)
+      by_place places.Page = (follows-same w, e ∙ assoc before)
+      by_place places.Double = (follows-placed p places.Double f l w refl fewer parts, refl)
+      by_place places.Deferred = (follows-same w, e ∙ assoc before)
+
+  pub follows-next : (p : Params) (before fs : List Float) (w : Work) → w.state.floats.deferred ≡ before ++ fs → Follows P w (Place.place_next p before fs w)
+  follows-next p before [] w e = follows-same w
+  follows-next p before (f ∷ rest) w e =
+      let place = next_place p w.state.floats w.state.suppress before f in
+      let w' = Place.place_deferred p place f before rest w in
+      let d : Follows P w (Place.place_deferred p place f before rest w) × ((Place.place_deferred p place f before rest w).state.floats.deferred ≡ Place.still_deferred place f before ++ rest) = deferred-step p place f before rest w e in
+      follows-then w w' (Place.place_next p (Place.still_deferred place f before) rest w') d.0 (follows-next p (Place.still_deferred place f before) rest w' d.1)
+
+  pub follows-double : (p : Params) (before fs : List Float) (w : Work) → w.state.floats.deferred ≡ before ++ fs → Follows P w (Place.place_double p before fs w)
+  follows-double p before [] w e = follows-same w
+  follows-double p before (f ∷ rest) w e =
+      let place = double_place p w.state.floats w.state.suppress before f in
+      let w' = Place.place_deferred p place f before rest w in
+      let d : Follows P w (Place.place_deferred p place f before rest w) × ((Place.place_deferred p place f before rest w).state.floats.deferred ≡ Place.still_deferred place f before ++ rest) = deferred-step p place f before rest w e in
+      follows-then w w' (Place.place_double p (Place.still_deferred place f before) rest w') d.0 (follows-double p (Place.still_deferred place f before) rest w' d.1)
+
+  -- ---- companies
+
+  -- the floats that a company leaves; there is one fewer at least
+  pub company-left : (z : Wanted) (w : Work) (cs : List Choice) → company z w.state.floats.deferred ≡ Some cs → Follows P w (Ship.with_deferred (left_floats cs) w) × (waiting_floats (Ship.with_deferred (left_floats cs) w).state.floats + 1 ≤ waiting_floats w.state.floats)
+  company-left z w cs e =
+      let h : length (left_floats cs) + 1 ≤ length w.state.floats.deferred = company-takes z w.state.floats.deferred cs e in
+      (with-lists (record w.state.floats { deferred = left_floats cs }) w refl (omega arith) (λ x. record { top = x.top; bottom = x.bottom; deferred = company-leaves P z w.state.floats.deferred cs e x.deferred; double = x.double }), omega arith)
+
+  pub follows-wide : (p : Params) (clearing : Bool) (w : Work) (cs : List Choice) → company (Ship.wide_wanted p clearing) w.state.floats.deferred ≡ Some cs → Follows P w (Ship.ship_wide p cs w) × (waiting_floats (Ship.ship_wide p cs w).state.floats + 1 ≤ waiting_floats w.state.floats)
+  follows-wide p clearing w cs e =
+      let a = Ship.with_deferred (left_floats cs) w in
+      let c : Follows P w (Ship.with_deferred (left_floats cs) w) × (waiting_floats (Ship.with_deferred (left_floats cs) w).state.floats + 1 ≤ waiting_floats w.state.floats) = company-left (Ship.wide_wanted p clearing) w cs e in
+      let x : Follows P (Ship.with_deferred (left_floats cs) w) (Ship.ship_wide p cs w) = follows-ship p (wide (wide_floats_column p p.textheight (chosen_floats cs))) a in
+      (follows-then w a (Ship.ship_wide p cs w) c.0 x, one-fewer (waiting_floats w.state.floats) (waiting_floats (Ship.with_deferred (left_floats cs) w).state.floats) (waiting_floats (Ship.ship_wide p cs w).state.floats) c.1 x.floats)
+    where
+      one-fewer : (x y z : ℕ) → y + 1 ≤ x → z ≤ y → z + 1 ≤ x
+      one-fewer x y z h k = omega arith
+
+  follows-wide_by : (p : Params) (clearing : Bool) (again : Work → Work) → ((w : Work) → Follows P w (again w)) → (w : Work) (o : Option (List Choice)) → company (Ship.wide_wanted p clearing) w.state.floats.deferred ≡ o → Follows P w (Ship.wide_pages_by again p w o)
+  follows-wide_by p clearing again h w None e = follows-same w
+  follows-wide_by p clearing again h w (Some cs) e = follows-then w (Ship.ship_wide p cs w) (again (Ship.ship_wide p cs w)) (follows-wide p clearing w cs e).0 (h (Ship.ship_wide p cs w))
+
+  pub follows-wide_pages : (p : Params) (clearing : Bool) (n : ℕ) (w : Work) → Follows P w (Ship.wide_pages p clearing n w)
+  follows-wide_pages p clearing zero w = follows-same w
+  follows-wide_pages p clearing (suc n) w = follows-wide_by p clearing (λ w'. Ship.wide_pages p clearing n w') (λ w'. follows-wide_pages p clearing n w') w (company (Ship.wide_wanted p clearing) w.state.floats.deferred) refl
+
+  -- ---- columns
+
+  nothing : AllByRecursion P []
+  nothing = tt
+
+  -- the double floats are gone
+  pub follows-undoubled : (w : Work) → Follows P w (Ship.without_double w) × (waiting_floats (Ship.without_double w).state.floats + length w.state.floats.double ≤ waiting_floats w.state.floats)
+  follows-undoubled w = (record { goes = λ r. r; columns = refl; boxes = refl; back = refl; page = refl; current = refl; floats = omega arith; all = λ x. record { top = x.top; bottom = x.bottom; deferred = x.deferred; double = nothing }; cycles = λ r. inl refl }, omega arith)
+
+  follows-filled : (p : Params) (w : Work) → Follows P w (Ship.fill_double p w)
+  follows-filled p w = follows-double p [] w.state.floats.deferred w refl
+
+  -- what follows the pair's page
+  pub follows-pair_rest : (p : Params) (c : PlainColumn) (w : Work) → Follows P (Ship.ship p (pair_sheet p w.state.floats (Ship.left_or c w.state.left_column) c) w) (Ship.ship_pair p c w)
+  follows-pair_rest p c w =
+      let a = Ship.ship p (pair_sheet p w.state.floats (Ship.left_or c w.state.left_column) c) w in
+      let b = Ship.without_double a in
+      let d = Ship.all_wide_pages p false b in
+      follows-then a b (Ship.ship_pair p c w) (follows-undoubled a).0
+      (follows-then b d (Ship.ship_pair p c w) (follows-wide_pages p false (length b.state.floats.deferred) b) (follows-filled p d))
+
+  follows-pair : (p : Params) (c : PlainColumn) (w : Work) → Follows P w (Ship.ship_pair p c w)
+  follows-pair p c w =
+      let a = Ship.ship p (pair_sheet p w.state.floats (Ship.left_or c w.state.left_column) c) w in
+      follows-then w a (Ship.ship_pair p c w) (follows-ship p _ w) (follows-pair_rest p c w)
+
+  follows-kept : (c : PlainColumn) (w : Work) → Follows P w (Ship.keep_left c w)
+  follows-kept c w = record { goes = λ r. r; columns = refl; boxes = refl; back = refl; page = refl; current = refl; floats = omega arith; all = λ h. h; cycles = λ r. inl refl }
+
+  follows-put_by : (p : Params) (c : PlainColumn) (w : Work) → Follows P w (Ship.put_out_by p c w)
+  follows-put_by p c w = by_columns w.state.two_columns
+    where
+      by_columns : (t : Bool) → Follows P w (if not t then Ship.ship p (one c) w else (if w.state.first_column then Ship.keep_left c w else Ship.ship_pair p c w))
+      by_columns false = follows-ship p (one c) w
+      by_columns true = follows_if w w.state.first_column (Ship.keep_left c w) (Ship.ship_pair p c w) (follows-kept c w) (follows-pair p c w)
+
+  follows-after : (w : Work) → Follows P w (Ship.after_column w)
+  follows-after w = record { goes = λ r. r; columns = refl; boxes = refl; back = refl; page = refl; current = refl; floats = omega arith; all = λ h. h; cycles = λ r. inl refl }
+
+  pub follows-put_out : (p : Params) (c : PlainColumn) (w : Work) → Follows P w (Ship.put_out p c w)
+  follows-put_out p c w =
+      let a = records_also (output c) w in
+      let b = Ship.put_out_by p c a in
+      follows-then w a (Ship.put_out p c w) (follows-records (output c) w) (follows-then a b (Ship.put_out p c w) (follows-put_by p c a) (follows-after b))
+
+  pub follows-company : (p : Params) (clearing : Bool) (w : Work) (cs : List Choice) → company (Columns.single_wanted p w.state.floats clearing) w.state.floats.deferred ≡ Some cs → Follows P w (Columns.put_out_company p cs w) × (waiting_floats (Columns.put_out_company p cs w).state.floats + 1 ≤ waiting_floats w.state.floats)
+  follows-company p clearing w cs e =
+      let a = Ship.with_deferred (left_floats cs) w in
+      let c : Follows P w (Ship.with_deferred (left_floats cs) w) × (waiting_floats (Ship.with_deferred (left_floats cs) w).state.floats + 1 ≤ waiting_floats w.state.floats) = company-left (Columns.single_wanted p w.state.floats clearing) w cs e in
+      let x : Follows P (Ship.with_deferred (left_floats cs) w) (Columns.put_out_company p cs w) = follows-put_out p (single_floats_column p (column_height_of p w.state.floats) (chosen_floats cs)) a in
+      (follows-then w a (Columns.put_out_company p cs w) c.0 x, one-fewer (waiting_floats w.state.floats) (waiting_floats (Ship.with_deferred (left_floats cs) w).state.floats) (waiting_floats (Columns.put_out_company p cs w).state.floats) c.1 x.floats)
+    where
+      one-fewer : (x y z : ℕ) → y + 1 ≤ x → z ≤ y → z + 1 ≤ x
+      one-fewer x y z h k = omega arith
+
+  follows-columns_by : (p : Params) (clearing : Bool) (again : Work → Work) → ((w : Work) → Follows P w (again w)) → (w : Work) (o : Option (List Choice)) → company (Columns.single_wanted p w.state.floats clearing) w.state.floats.deferred ≡ o → Follows P w (Columns.float_columns_by again p w o)
+  follows-columns_by p clearing again h w None e = follows-same w
+  follows-columns_by p clearing again h w (Some cs) e = follows-then w (Columns.put_out_company p cs w) (again (Columns.put_out_company p cs w)) (follows-company p clearing w cs e).0 (h (Columns.put_out_company p cs w))
+
+  pub follows-float_columns : (p : Params) (clearing : Bool) (n : ℕ) (w : Work) → Follows P w (Columns.float_columns p clearing n w)
+  follows-float_columns p clearing zero w = follows-same w
+  follows-float_columns p clearing (suc n) w = follows-columns_by p clearing (λ w'. Columns.float_columns p clearing n w') (λ w'. follows-float_columns p clearing n w') w (company (Columns.single_wanted p w.state.floats clearing) w.state.floats.deferred) refl

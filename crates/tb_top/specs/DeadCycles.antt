@@ -1,0 +1,42 @@
+-- The bound on firings without a page: a galley whose limit has room for what its items can bring never meets that limit.
+use Rattle.std.specs.Prelude.{ℕ, pos, ◌+◌, ◌*◌, ◌≤ℤ◌, List, [], ◌∷◌}
+use Rattle.tb_galley.specs.declared.Item.{Item}
+use Rattle.tb_galley.specs.declared.ItemKind.{ItemKind}
+use Rattle.tb_galley.specs.declared.ItemKind.TheVariants as items
+use Rattle.tb_galley.specs.declared.Galley.{Galley}
+use Rattle.tb_galley.specs.Valid.{IsValid}
+use Rattle.tb_run.specs.Run.{End, done, pool_full, dead_cycles, page_limit, node_limit, run_of}
+
+-- an item that can bring firings without a page: a float, a marginal note, a clear, a change of columns
+abbrev pub is_cycling : ItemKind → ℕ
+is_cycling (items.Float f vert) = 1
+is_cycling (items.Margin m vert) = 1
+is_cycling items.ClearPage = 1
+is_cycling items.OneColumn = 1
+is_cycling items.TwoColumn = 1
+is_cycling _ = 0
+
+-- how many of them there are
+abbrev pub cycling_items : List Item → ℕ
+cycling_items [] = 0
+cycling_items (n ∷ ns) = is_cycling n.kind + cycling_items ns
+
+-- the limit allows four firings without a page for each, and sixteen besides
+abbrev pub HasCycles : Galley → Type 0
+HasCycles g = pos (4 * cycling_items g.items + 16) ≤ℤ g.params.maxdeadcycles
+
+-- that has room for the galley, whose top skip is no higher than a page
+pub record HasRoomForCycles (g : Galley) : Type 0 where
+  pub limit : HasCycles g
+  pub page : g.params.topskip ≤ℤ g.params.textheight
+
+abbrev pub IsNotCycles : End → Type 0
+IsNotCycles (done left) = Unit {0}
+IsNotCycles (pool_full line live) = Unit {0}
+IsNotCycles (dead_cycles n) = ⊥
+IsNotCycles (page_limit n) = Unit {0}
+IsNotCycles (node_limit n) = Unit {0}
+
+-- no run of a valid galley ends for its dead cycles, where their limit has room for it
+abbrev pub DeadCyclesAreFew : Type 0
+DeadCyclesAreFew = (g : Galley) → IsValid g → HasRoomForCycles g → IsNotCycles (run_of g).end
