@@ -47,8 +47,8 @@ impl From<AllocError> for PageFault {
 /// note of the galley once, the boxes and rules of the text in their order, and the floats of each class in theirs, but
 /// for those that a break carried; and the totals show it. Whatever the end, no float without `!` was placed past the
 /// limits of its list. The answer is not `DeadCycles` where `maxdeadcycles` is at least sixteen and four for each float,
-/// marginal note, clearpage, onecolumn and twocolumn, and `topskip` is no more than `textheight`. After `WriteFault`, which
-/// comes only where `out` failed and never at a silent view, and after `Memory` a prefix of the run's text is written.
+/// marginal note, clearpage, onecolumn and twocolumn. After `WriteFault`, which comes only where `out` failed and never at
+/// a silent view, and after `Memory` a prefix of the run's text is written.
 pub fn paginate<K: Sink>(
     alloc: Global,
     galley: &Galley,

@@ -23,7 +23,7 @@ use tb_io::{Sink, SinkFault, Source, write_all};
 /// its order, and the floats of each class in theirs, but for those that a break carried; no float without `!` was placed
 /// past the limits of its area, and all float lists were empty at each change of columns and at the end. `DeadCycles` comes
 /// only where `maxdeadcycles` is less than sixteen and four for each float, marginal note, clearpage, onecolumn and
-/// twocolumn, or `topskip` is more than `textheight`.
+/// twocolumn.
 pub fn run<S: Source, K: Sink, E: Sink>(
     alloc: Global,
     words: &[String],
