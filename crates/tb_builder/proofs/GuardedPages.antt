@@ -1,10 +1,10 @@
 -- A page that begins with a mark, note or whatsit and has one box of no size breaks before its top glue, where the top skip is higher than the page.
-use Rattle.std.proofs.Common.{◌≡◌, refl, sym, ◌∙◌, ap, subst, ℕ, zero, suc, ℤ, pos, ◌+◌, Bool, true, false, not, ◌||◌, List, [], ◌∷◌, ◌++◌, map, length, take, drop, Option, Some, None, arith}
+use Rattle.std.proofs.Common.{◌≡◌, refl, sym, ◌∙◌, ap, subst, ℕ, ℤ, pos, ◌+◌, Bool, true, false, not, ◌||◌, List, [], ◌∷◌, ◌++◌, map, length, Some, None, arith}
 use Rattle.std.specs.Prelude.{filter, ◌+ℤ◌, ◌-ℤ◌, ◌≤ℤ◌, ◌<ℤ◌, int_lt, int_le, if◌then◌else◌}
 use Rattle.std.specs.List.{AllByRecursion}
 use Rattle.std.proofs.lemmas.Int.{ints}
 use Rattle.std.proofs.lemmas.List.{append_assoc, append-nil}
-use Rattle.tb_scaled.specs.Scaled.{eject_penalty, inf_penalty, awful_bad, inf_bad, badness_of, min_ℤ, max_ℤ}
+use Rattle.tb_scaled.specs.Scaled.{eject_penalty, inf_penalty, awful_bad, badness_of, min_ℤ, max_ℤ}
 use Rattle.tb_node.specs.declared.Sums.{Sums}
 use Rattle.tb_node.specs.declared.What.{What}
 use Rattle.tb_node.specs.Shape.{Shape, is_discardable}
@@ -13,11 +13,11 @@ use Rattle.tb_node.specs.Sums.{size_of, depth_from, list_shrink, sums_of}
 use Rattle.tb_break.specs.Prune.{pruned_nodes, top_glue}
 use Rattle.tb_break.specs.Cost.{stretches_infinitely, finite_stretch, page_badness, cost_of_badness}
 use Rattle.tb_break.specs.Legal.{last_or, ends_lasting}
-use Rattle.tb_break.specs.Best.{Breakpoint, is_stop, least_cost, best_or}
+use Rattle.tb_break.specs.Best.{Breakpoint, is_stop, best_or}
 use Rattle.tb_break.specs.Split.{breakpoint_at}
 use Rattle.tb_insert.specs.Terms.{Terms, bare_terms, sums_with}
 use Rattle.tb_insert.specs.Account.{ClassBox, Frozen, terms_after}
-use Rattle.tb_builder.specs.Reached.{Reach, tried, also_reached, page_place, stopped_at, reach_at_place, reach_at, reach_node, reach_from, breakpoints}
+use Rattle.tb_builder.specs.Reached.{Reach, tried, also_reached, page_place, stopped_at, reach_at, reach_from, breakpoints}
 use Rattle.tb_builder.specs.Fired.{no_place, page_break}
 use Rattle.tb_builder.proofs.FittingPages.{AllSlim, slim-both, size-both, slim-sums, slim-depth, free-place}
 use Rattle.tb_builder.proofs.FittingFired.{Topmost, AllTopmost, flat_box, break_at, bare-page}

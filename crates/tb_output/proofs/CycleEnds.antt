@@ -1,6 +1,6 @@
 -- After a firing each clear that waits stands behind a flat box again.
 use Rattle.std.proofs.Common.{◌≡◌, refl, sym, subst, ℕ, ◌+◌, ◌*◌, ◌≤◌, Bool, true, false, List, [], ◌∷◌, ◌++◌, Option, Some, None}
-use Rattle.std.specs.Prelude.{int_le, if◌then◌else◌}
+use Rattle.std.specs.Prelude.{int_le}
 use Rattle.tb_scaled.specs.Scaled.{eject_penalty}
 use Rattle.tb_scaled.specs.Glue.{filling_glue}
 use Rattle.tb_node.specs.Plain.{Leaf, PlainNode, made, skip}
@@ -17,8 +17,8 @@ use Rattle.tb_output.proofs.ColumnOutcomes.{ordinary-out, text-out}
 use Rattle.tb_output.proofs.ClearOutcomes.{Fits}
 use Rattle.tb_output.proofs.ServeOutcomes.{Served, served, way_floats}
 use Rattle.tb_output.proofs.EndedLemmas.{Ended, ended-both, free-ended}
-use Rattle.tb_output.proofs.CycleStates.{Kind, credit, Holds, Phase, phase_cost, PhaseHolds, FloatsFit, goal-out, GoalOut}
-use Rattle.tb_output.proofs.CycleFirings.{FiresWell, waits, after, output-cases}
+use Rattle.tb_output.proofs.CycleStates.{Kind, credit, Holds, Phase, phase_cost, PhaseHolds, FloatsFit, goal-out}
+use Rattle.tb_output.proofs.CycleFirings.{FiresWell, waits, output-cases}
 use Rattle.tb_output.proofs.CycleVoids.{half_nodes, rest_nodes, v-back, c}
 
 again-ended : Ended false Clear.clear_again

@@ -4,6 +4,7 @@ use Rattle.std.specs.Prelude.{◌==◌, int_le, ◌||◌, if◌then◌else◌}
 use Rattle.std.specs.List.{AllByRecursion}
 use Rattle.std.proofs.lemmas.Int.{ints}
 use Rattle.std.proofs.lemmas.List.{append_assoc}
+use Rattle.std.proofs.lemmas.Bool.{or_left, or_right, or_from}
 use Rattle.tb_scaled.specs.Scaled.{eject_penalty}
 use Rattle.tb_node.specs.declared.Float.{Float}
 use Rattle.tb_node.specs.Plain.{PlainKind, plain, ins, act, PlainNode, made, blank_box, whatsit, pen}
@@ -18,7 +19,7 @@ use Rattle.tb_output.specs.Columns
 use Rattle.tb_output.specs.Clear
 use Rattle.tb_output.specs.Text
 use Rattle.tb_output.specs.Out
-use Rattle.tb_output.proofs.Sorts.{Sort, light, blank, pause, hold, serve, clear, odd, pen_sort, kind_sort, sorts}
+use Rattle.tb_output.proofs.Sorts.{Sort, light, blank, hold, serve, clear, odd, pen_sort, kind_sort, sorts}
 use Rattle.tb_output.proofs.SortLemmas.{sorts-append}
 use Rattle.tb_output.proofs.AgainLemmas.{Again, Idle, BreakAgain, again-idle}
 use Rattle.tb_output.proofs.WaitCosts.{sort_cost, wait_cost, cost-append, ins-free}
@@ -28,49 +29,21 @@ use Rattle.tb_output.proofs.ClearOutcomes.{NoneWait, Fits, Single, Wide}
 use Rattle.tb_output.proofs.WideLemmas.{KeepsDouble, ordinary-double}
 use Rattle.tb_output.proofs.ServeOutcomes.{AllCurrent, current_floats, way_floats, Served, served}
 use Rattle.tb_output.proofs.CycleStates.{Kind, any, doubled, once, topped, ready, halted, clean, single, closed, credit, IsSecond, Holds, Phase, starting, second, ending, phase_cost, PhaseHolds, FloatsFit, Bounded, GoalOut, goal-out}
+use Rattle.tb_output.proofs.BreakSorts as breaks
 
 -- ---- the sort of the penalty, by the routine's tests
 
-abbrev tests : Bool → Bool → Bool → Bool → Bool → Sort
-tests t e c x z = if t then (if e then pause else (if c then clear else (if x then serve else (if z then hold else odd)))) else light
-
 pub clear-sort : (q : ℤ) → int_le eject_penalty q ≡ false → Out.is_int q Out.clear_penalty ≡ true → pen_sort q ≡ clear
-clear-sort q h k = by_tests (int_le q eject_penalty) (Out.is_int q eject_penalty) (Out.is_int q Out.clear_penalty) (Out.is_int q Out.par_penalty || Out.is_int q Out.vert_penalty) (Out.is_int q Out.hold_penalty) (grind (arith, ints, h)) (grind (arith, ints, h)) k
-  where
-    by_tests : (t e c x z : Bool) → t ≡ true → e ≡ false → c ≡ true → tests t e c x z ≡ clear
-    by_tests true false true x z u v w = refl
-    by_tests true false false x z u v w = let no : ⊥ = grind (arith, w) in absurd no
-    by_tests true true c x z u v w = let no : ⊥ = grind (arith, v) in absurd no
-    by_tests false e c x z u v w = let no : ⊥ = grind (arith, u) in absurd no
+clear-sort q h k = breaks.at-clear (pen_sort q ≡ clear) (λ x. pen_sort q ≡ x) q h k (λ e. e) refl
 
 pub serve-sort : (q : ℤ) → int_le eject_penalty q ≡ false → Out.is_int q Out.clear_penalty ≡ false → (Out.is_int q Out.par_penalty || Out.is_int q Out.vert_penalty) ≡ true → pen_sort q ≡ serve
-serve-sort q h k l = by_tests (int_le q eject_penalty) (Out.is_int q eject_penalty) (Out.is_int q Out.clear_penalty) (Out.is_int q Out.par_penalty || Out.is_int q Out.vert_penalty) (Out.is_int q Out.hold_penalty) (grind (arith, ints, h)) (grind (arith, ints, h)) k l
-  where
-    by_tests : (t e c x z : Bool) → t ≡ true → e ≡ false → c ≡ false → x ≡ true → tests t e c x z ≡ serve
-    by_tests true false false true z u v w y = refl
-    by_tests true false false false z u v w y = let no : ⊥ = grind (arith, y) in absurd no
-    by_tests true false true x z u v w y = let no : ⊥ = grind (arith, w) in absurd no
-    by_tests true true c x z u v w y = let no : ⊥ = grind (arith, v) in absurd no
-    by_tests false e c x z u v w y = let no : ⊥ = grind (arith, u) in absurd no
+serve-sort q h k l = breaks.at-serve (pen_sort q ≡ serve) (λ x. pen_sort q ≡ x) q h k l (λ e. e) refl
 
 pub hold-sort : (q : ℤ) → int_le eject_penalty q ≡ false → Out.is_int q Out.clear_penalty ≡ false → (Out.is_int q Out.par_penalty || Out.is_int q Out.vert_penalty) ≡ false → (pen_sort q ≡ odd → ⊥) → pen_sort q ≡ hold
-hold-sort q h k l no_odd = by_tests (int_le q eject_penalty) (Out.is_int q eject_penalty) (Out.is_int q Out.clear_penalty) (Out.is_int q Out.par_penalty || Out.is_int q Out.vert_penalty) (Out.is_int q Out.hold_penalty) (grind (arith, ints, h)) (grind (arith, ints, h)) k l no_odd
-  where
-    by_tests : (t e c x z : Bool) → t ≡ true → e ≡ false → c ≡ false → x ≡ false → (tests t e c x z ≡ odd → ⊥) → tests t e c x z ≡ hold
-    by_tests true false false false true u v w y n = refl
-    by_tests true false false false false u v w y n = absurd (n refl)
-    by_tests true false false true z u v w y n = let no : ⊥ = grind (arith, y) in absurd no
-    by_tests true false true x z u v w y n = let no : ⊥ = grind (arith, w) in absurd no
-    by_tests true true c x z u v w y n = let no : ⊥ = grind (arith, v) in absurd no
-    by_tests false e c x z u v w y n = let no : ⊥ = grind (arith, u) in absurd no
+hold-sort q h k l no_odd = breaks.at-hold (pen_sort q ≡ hold) (λ x. pen_sort q ≡ x) q h k l (λ e. e) (λ e. absurd (no_odd e)) refl
 
 pub ordinary-again : (n : ℕ) (rest : List PlainNode) (q : ℤ) → int_le eject_penalty q ≡ true → BreakAgain n rest (pen_sort q) → Again n (sorts rest)
-ordinary-again n rest q h r = by_tests (int_le q eject_penalty) (Out.is_int q eject_penalty) (Out.is_int q Out.clear_penalty) (Out.is_int q Out.par_penalty || Out.is_int q Out.vert_penalty) (Out.is_int q Out.hold_penalty) (λ k. grind (arith, ints, h, k)) r
-  where
-    by_tests : (t e c x z : Bool) → (t ≡ true → e ≡ true) → BreakAgain n rest (tests t e c x z) → Again n (sorts rest)
-    by_tests true true c x z u r = r
-    by_tests true false c x z u r = let no : ⊥ = grind (arith, u refl) in absurd no
-    by_tests false e c x z u r = r
+ordinary-again n rest q h r = breaks.at-ordinary (Again n (sorts rest)) (BreakAgain n rest) q h (λ r. r) (λ r. r) r
 
 -- ---- the output routine, by the penalty
 
@@ -82,21 +55,12 @@ pub output-cases : (p : Params) (f : Fired) (w : Work) (R : Work → Type 0) →
     → R (Out.output_by p f w)
 output-cases p f w R regular at_ordinary at_clear at_serve at_hold = by_tests (int_le eject_penalty f.penalty) (Out.is_int f.penalty Out.clear_penalty) (Out.is_int f.penalty Out.par_penalty) (Out.is_int f.penalty Out.vert_penalty) refl refl refl refl
   where
-    left-or : (x y : Bool) → x ≡ true → (x || y) ≡ true
-    left-or x y h = grind (arith, h)
-
-    right-or : (x y : Bool) → y ≡ true → (x || y) ≡ true
-    right-or x y h = grind (arith, h)
-
-    none-or : (x y : Bool) → x ≡ false → y ≡ false → (x || y) ≡ false
-    none-or x y h k = grind (arith, h, k)
-
     by_tests : (t k x y : Bool) → int_le eject_penalty f.penalty ≡ t → Out.is_int f.penalty Out.clear_penalty ≡ k → Out.is_int f.penalty Out.par_penalty ≡ x → Out.is_int f.penalty Out.vert_penalty ≡ y → R (if t then Columns.ordinary p f.body w else (if k then Clear.clear p f.body w else (if x then Text.float_or_note p false f.body w else (if y then Text.float_or_note p true f.body w else Out.hold f.body w))))
     by_tests true k x y e g i j = at_ordinary e
     by_tests false true x y e g i j = at_clear e g
-    by_tests false false true y e g i j = at_serve false e (serve-sort f.penalty e g (left-or (Out.is_int f.penalty Out.par_penalty) (Out.is_int f.penalty Out.vert_penalty) i))
-    by_tests false false false true e g i j = at_serve true e (serve-sort f.penalty e g (right-or (Out.is_int f.penalty Out.par_penalty) (Out.is_int f.penalty Out.vert_penalty) j))
-    by_tests false false false false e g i j = at_hold e (hold-sort f.penalty e g (none-or (Out.is_int f.penalty Out.par_penalty) (Out.is_int f.penalty Out.vert_penalty) i j) regular)
+    by_tests false false true y e g i j = at_serve false e (serve-sort f.penalty e g (or_left (Out.is_int f.penalty Out.par_penalty) (Out.is_int f.penalty Out.vert_penalty) i))
+    by_tests false false false true e g i j = at_serve true e (serve-sort f.penalty e g (or_right (Out.is_int f.penalty Out.par_penalty) (Out.is_int f.penalty Out.vert_penalty) j))
+    by_tests false false false false e g i j = at_hold e (hold-sort f.penalty e g (or_from (Out.is_int f.penalty Out.par_penalty) (Out.is_int f.penalty Out.vert_penalty) i j) regular)
 
 -- ---- what is known of a page that fires
 

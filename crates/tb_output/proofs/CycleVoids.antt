@@ -1,6 +1,6 @@
 -- A clear without footnotes lowers what is left of the firings without a page, or ships a page.
 use Rattle.std.proofs.Common.{◌≡◌, refl, sym, ◌∙◌, ap, subst, ℕ, suc, ◌+◌, ◌*◌, ◌≤◌, inl, inr, ◌⊎◌, Bool, true, false, List, [], ◌∷◌, ◌++◌, length, Option, Some, None, arith}
-use Rattle.std.specs.Prelude.{int_le, ◌||◌, if◌then◌else◌}
+use Rattle.std.specs.Prelude.{int_le, if◌then◌else◌}
 use Rattle.std.specs.List.{AllByRecursion}
 use Rattle.std.proofs.lemmas.List.{append_assoc, append-nil}
 use Rattle.tb_scaled.specs.Scaled.{eject_penalty}
@@ -12,8 +12,6 @@ use Rattle.tb_builder.proofs.FittingFired.{Fitted}
 use Rattle.tb_builder.proofs.PausedPages.{Paused}
 use Rattle.tb_float.specs.Lists.{FloatLists}
 use Rattle.tb_output.specs.State.{State, Work, begun, footnotes, has_floats}
-use Rattle.tb_output.specs.Columns
-use Rattle.tb_output.specs.Text
 use Rattle.tb_output.specs.Clear
 use Rattle.tb_output.specs.Out
 use Rattle.tb_output.proofs.Sorts.{Sort, clear, sorts}
@@ -24,9 +22,9 @@ use Rattle.tb_output.proofs.FollowLemmas.{waiting_floats}
 use Rattle.tb_output.proofs.ClearOutcomes.{NoneWait, Fits, Single, WaitsWell, How, ClearOut, clear-out, halves, more, gathered, gathered-count, halved-state, clear-all}
 use Rattle.tb_output.proofs.WideLemmas.{KeepsDouble, clear_by-double}
 use Rattle.tb_output.proofs.ServeOutcomes.{AllCurrent, current_floats, way_floats}
-use Rattle.tb_output.proofs.CycleStates.{Kind, any, doubled, once, topped, ready, halted, clean, single, closed, credit, IsSecond, Holds, Phase, starting, second, ending, phase_cost, PhaseHolds, FloatsFit, Bounded, GoalOut, goal-out, Once, Ready}
-use Rattle.tb_output.proofs.CycleFirings.{FiresWell, after, waits, finish, finish-shipped, none-count, none-left, true-false, clear-no-hold, some-or-none, serve-sort, hold-sort, at-ordinary, at-serve, at-hold, fits-same, output-cases}
-use Rattle.tb_output.proofs.CycleClears.{left-of, region, cost, at-most-one, not-once, not-halted, with-notes, is-clear}
+use Rattle.tb_output.proofs.CycleStates.{Kind, any, doubled, once, topped, ready, halted, clean, single, closed, credit, IsSecond, Holds, Phase, starting, second, ending, phase_cost, PhaseHolds, FloatsFit, Bounded, GoalOut, goal-out}
+use Rattle.tb_output.proofs.CycleFirings.{FiresWell, after, waits, finish, finish-shipped, none-count, none-left, true-false, clear-no-hold, some-or-none, at-ordinary, at-serve, at-hold, output-cases}
+use Rattle.tb_output.proofs.CycleClears.{left-of, region, cost, at-most-one, not-once, not-halted, with-notes}
 
 -- ---- what is put back behind the front
 

@@ -1,14 +1,13 @@
 -- Each firing lowers what is left of the firings without a page, or ships a page, where the top skip is higher than a page.
-use Rattle.std.proofs.Common.{◌≡◌, refl, sym, ◌∙◌, ap, subst, ℕ, zero, suc, ℤ, pos, ◌+◌, ◌*◌, ◌≤◌, inl, inr, ◌⊎◌, Bool, true, false, List, [], ◌∷◌, ◌++◌, length, Option, Some, None, arith}
-use Rattle.std.specs.Prelude.{int_le, ◌||◌, if◌then◌else◌}
+use Rattle.std.proofs.Common.{◌≡◌, refl, sym, ◌∙◌, ap, subst, ℕ, suc, ◌+◌, ◌*◌, ◌≤◌, inl, inr, ◌⊎◌, Bool, true, false, List, [], ◌∷◌, ◌++◌, length, Option, Some, None, arith}
+use Rattle.std.specs.Prelude.{int_le}
 use Rattle.std.specs.List.{AllByRecursion}
 use Rattle.tb_scaled.specs.Scaled.{eject_penalty}
 use Rattle.tb_scaled.specs.Glue.{filling_glue}
-use Rattle.tb_node.specs.declared.Float.{Float}
 use Rattle.tb_node.specs.Plain.{Leaf, PlainNode, made, skip}
 use Rattle.tb_param.specs.declared.Params.{Params}
 use Rattle.tb_builder.specs.Fired.{Fired}
-use Rattle.tb_column.specs.Column.{PlainColumn, text_column}
+use Rattle.tb_column.specs.Column.{text_column}
 use Rattle.tb_output.specs.State.{State, Work, begun, footnotes}
 use Rattle.tb_output.specs.Columns
 use Rattle.tb_output.specs.Clear
@@ -19,10 +18,10 @@ use Rattle.tb_output.proofs.AgainLemmas.{Again, Idle, left_after}
 use Rattle.tb_output.proofs.WaitCosts.{sort_cost, wait_cost}
 use Rattle.tb_output.proofs.SpacedLemmas.{Spaced, spaced-true, spaced-both, free-alone}
 use Rattle.tb_output.proofs.FollowLemmas.{waiting_floats}
-use Rattle.tb_output.proofs.ColumnOutcomes.{IsKept, LastOut, last-out, first-out, last-ships, first-kept}
+use Rattle.tb_output.proofs.ColumnOutcomes.{IsKept, last-out, first-out, last-ships, first-kept}
 use Rattle.tb_output.proofs.ClearOutcomes.{NoneWait, Fits, How, ClearOut}
 use Rattle.tb_output.proofs.ServeOutcomes.{way_floats}
-use Rattle.tb_output.proofs.CycleStates.{any, IsSecond, starting, second, ending, phase_cost, PhaseHolds, FloatsFit, GoalOut, goal-out}
+use Rattle.tb_output.proofs.CycleStates.{any, second, phase_cost, PhaseHolds, FloatsFit, GoalOut, goal-out}
 use Rattle.tb_output.proofs.CycleFirings.{FiresWell, QuietOut, after, goal, true-false, clear-no-hold, output-cases, ordinary-again, none-again, cost-of, hold-quiet, serve-quiet, out-fit, o-fits, o-region, o-way, o-cost}
 use Rattle.tb_output.proofs.CycleClears.{left-of, cost, q-out, n-region, n-cost, n-fits, q-least}
 use Rattle.tb_output.proofs.CycleVoids.{bit, half_nodes, rest_nodes, c, v-back, v-cost, v-region, v-fits, v-cycles, v-least, is_second, paused}
@@ -66,7 +65,6 @@ module _ (p : Params) (m : ℕ) (s : State) (total a : ℕ) (stage : Stage) (f :
     (weight : total + 2 * way_floats s.floats ≤ m + 3 * a)
     (bound : s.dead_cycles + total + 2 * way_floats s.floats + stage_cost stage ≤ m + 3 + 3 * a)
     (fires : FiresHigh p s total a stage f) where
-
   abbrev w0 : Work
   w0 = begun (Out.after_page s f)
 

@@ -1,15 +1,13 @@
 -- How many firings without a page a state can still bring, where the top skip is higher than a page.
-use Rattle.std.proofs.Common.{◌≡◌, refl, sym, ◌∙◌, ap, subst, ℕ, zero, suc, ℤ, pos, ◌+◌, ◌*◌, ◌≤◌, inl, inr, ◌⊎◌, Bool, true, false, List, [], ◌∷◌, ◌++◌, length, arith}
+use Rattle.std.proofs.Common.{◌≡◌, sym, ap, subst, ℕ, ◌+◌, ◌*◌, ◌≤◌, Bool, true, false, List, ◌++◌, arith}
 use Rattle.std.specs.List.{AllByRecursion}
-use Rattle.std.proofs.lemmas.List.{append_assoc}
 use Rattle.tb_node.specs.Plain.{PlainNode}
 use Rattle.tb_param.specs.declared.Params.{Params}
 use Rattle.tb_builder.specs.Fired.{Fired}
 use Rattle.tb_builder.proofs.CutLemmas.{AllIns}
 use Rattle.tb_builder.proofs.PausedPages.{Paused}
 use Rattle.tb_output.specs.State.{State, Work}
-use Rattle.tb_output.specs.Out
-use Rattle.tb_output.proofs.Sorts.{Sort, sorts}
+use Rattle.tb_output.proofs.Sorts.{sorts}
 use Rattle.tb_output.proofs.AgainLemmas.{Again, Idle}
 use Rattle.tb_output.proofs.WaitCosts.{wait_cost, cost-append, ins-free}
 use Rattle.tb_output.proofs.SpacedLemmas.{Spaced, spaced-both, free-spaced, free-alone}

@@ -1,13 +1,10 @@
 -- Between one clear and the next stands a mark, note or whatsit, which lasts at the top of a page.
-use Rattle.std.proofs.Common.{◌≡◌, refl, sym, ◌∙◌, ap, subst, ℕ, zero, suc, ℤ, pos, Bool, true, false, ◌+◌, List, [], ◌∷◌, ◌++◌, take, drop, arith}
-use Rattle.std.specs.Prelude.{int_le, if◌then◌else◌}
-use Rattle.std.specs.List.{AllByRecursion}
+use Rattle.std.proofs.Common.{◌≡◌, refl, subst, ℕ, ℤ, Bool, true, false, ◌+◌, List, [], ◌∷◌, ◌++◌, arith}
+use Rattle.std.specs.Prelude.{if◌then◌else◌}
 use Rattle.std.proofs.lemmas.List.{append-nil}
-use Rattle.tb_node.specs.declared.What.{What}
 use Rattle.tb_node.specs.Plain.{hbox, rule, skip, kerned, pen, mark, note, whatsit, PlainKind, plain, ins, act, PlainNode, without_acts}
 use Rattle.tb_break.specs.Prune.{pruned_nodes}
 use Rattle.tb_builder.specs.Fired.{with_spent_break, penalty_at}
-use Rattle.tb_builder.proofs.CutLemmas.{Calm, AllCalm}
 use Rattle.tb_output.specs.Out.{is_int, clear_penalty}
 use Rattle.tb_output.proofs.WaitCosts.{kind_cost, wait_cost}
 use Rattle.tb_output.proofs.EndedLemmas.{EndsAt, ends-looser, free-kind}

@@ -1,5 +1,5 @@
 -- A run of a valid galley does not end for its dead cycles, where the limit has room for what its items can bring.
-use Rattle.std.proofs.Common.{◌≡◌, refl, ap, ℕ, pos, ◌+◌, Bool, true, false, List, [], ◌∷◌, arith, sym, subst, ℤ, ◌≤◌, ◌++◌}
+use Rattle.std.proofs.Common.{◌≡◌, refl, ap, ℕ, pos, ◌+◌, Bool, true, false, List, [], ◌∷◌, arith, ℤ, ◌≤◌}
 use Rattle.std.specs.Prelude.{◌≤ℤ◌, IsTrue, int_le, int_lt, if◌then◌else◌, ◌<ℤ◌}
 use Rattle.std.proofs.lemmas.Int.{ints}
 use Rattle.tb_node.specs.declared.Act.{Act}
@@ -14,7 +14,7 @@ use Rattle.tb_float.specs.Lists.{FloatLists, no_floats, live_count}
 use Rattle.tb_column.specs.declared.Warn.{Warn}
 use Rattle.tb_builder.proofs.CutLemmas.{acted_of}
 use Rattle.tb_output.specs.State.{State, Recorded}
-use Rattle.tb_output.specs.Act.{went, full, Acted, act_on}
+use Rattle.tb_output.specs.Act.{went, full}
 use Rattle.tb_scaled.specs.Scaled.{eject_penalty}
 use Rattle.tb_output.proofs.ServeOutcomes.{way_floats}
 use Rattle.tb_output.proofs.CycleStates.{Bounded}
@@ -23,8 +23,7 @@ use Rattle.tb_output.proofs.ClosingPages.{ActsClose}
 use Rattle.tb_output.proofs.ClosingStates.{Closing}
 use Rattle.tb_run.specs.Run.{Step, ends, goes_on, done, pool_full, dead_cycles, page_limit, node_limit, step, run_of}
 use Rattle.tb_top.specs.DeadCycles.{HasRoomForCycles, IsNotCycles, DeadCyclesAreFew}
-use Rattle.tb_top.proofs.FinishLemmas.{all-at, dim-extent, in-range}
-use Rattle.tb_top.proofs.StartLemmas.{ItemsFit}
+use Rattle.tb_top.proofs.FinishLemmas.{all-at, dim-extent}
 use Rattle.tb_top.proofs.ValidPenalties.{valid-items, interline-calm}
 use Rattle.tb_top.proofs.RunWeights.{Kept, page_of}
 use Rattle.tb_top.proofs.ClosingRuns.{StepCloses, step-closes, page_closes, empty}

@@ -1,6 +1,6 @@
 -- A run in which the columns change only where no float is on the way has few firings without a page, where each firing keeps a bound.
-use Rattle.std.proofs.Common.{◌≡◌, refl, sym, subst, ℕ, zero, suc, ℤ, pos, ◌+◌, ◌*◌, ◌≤◌, inl, inr, ◌⊎◌, Bool, true, false, List, [], ◌∷◌, ◌++◌, map, Option, Some, None, arith, ap}
-use Rattle.std.specs.Prelude.{◌≤ℤ◌, pred, int_lt, int_le, if◌then◌else◌}
+use Rattle.std.proofs.Common.{◌≡◌, refl, sym, subst, ℕ, zero, suc, ℤ, pos, ◌+◌, ◌≤◌, Bool, true, false, List, [], ◌∷◌, ◌++◌, map, Option, Some, None, arith}
+use Rattle.std.specs.Prelude.{pred, int_lt, int_le, if◌then◌else◌}
 use Rattle.tb_scaled.specs.Scaled.{awful_bad, min_ℤ, eject_penalty}
 use Rattle.tb_node.specs.declared.What.TheVariants as what
 use Rattle.tb_node.specs.declared.Act.{Act}
@@ -8,8 +8,8 @@ use Rattle.tb_node.specs.declared.Act.TheVariants as acts
 use Rattle.tb_node.specs.Plain.{Matter, hbox, rule, skip, kerned, pen, mark, note, whatsit, Leaf, PlainKind, plain, ins, act, PlainNode}
 use Rattle.tb_node.proofs.Weights.{Weight, leaves_weight, kind_weight, nodes_weight}
 use Rattle.tb_param.specs.declared.Params.{Params}
-use Rattle.tb_builder.specs.Reached.{Reached, acted, tried, Reach}
-use Rattle.tb_builder.specs.Fired.{Fired, fired_of, frozen_for}
+use Rattle.tb_builder.specs.Reached.{Reached, acted, tried}
+use Rattle.tb_builder.specs.Fired.{Fired, fired_of}
 use Rattle.tb_builder.proofs.CutLemmas.{acted_of}
 use Rattle.tb_column.specs.Column.{PlainColumn}
 use Rattle.tb_output.specs.State.{State, emptied, foot_class, ask_of, Work}
@@ -18,11 +18,7 @@ use Rattle.tb_output.specs.Out.{out}
 use Rattle.tb_output.proofs.StateWeights.{left_weight}
 use Rattle.tb_output.proofs.WaitCosts.{act_cost, acts_cost}
 use Rattle.tb_output.proofs.EndedLemmas.{Ended}
-use Rattle.tb_output.proofs.ServeOutcomes.{way_floats}
-use Rattle.tb_output.proofs.CycleStates.{closed, credit, Phase, starting, second, ending, phase_cost, PhaseHolds, Bounded, IsSecond}
-use Rattle.tb_output.proofs.CycleVoids.{out-bounded}
-use Rattle.tb_output.proofs.CycleEnds.{out-ended}
-use Rattle.tb_output.proofs.ActCosts.{EmptyAt, Acts, no-acts, acts-then, ActActs, act-acts, again-cost}
+use Rattle.tb_output.proofs.ActCosts.{EmptyAt, Acts, no-acts, acts-then, ActActs, act-acts}
 use Rattle.tb_run.specs.Run.{Run, sent, End, done, pool_full, dead_cycles, page_limit, node_limit, Progress, progress_by, progress, Step, ends, goes_on, held_count, after_firing, fire, after_progress, step, run_by, run_from}
 use Rattle.tb_top.proofs.RunWeights.{Kept, page_of, StepWeighs, step-weighs, ActFits, ActsFit}
 

@@ -15,7 +15,7 @@ use Rattle.tb_output.proofs.Sorts.{clear, pen_sort}
 use Rattle.tb_output.proofs.WaitCosts.{sort_cost, wait_cost, cost-append}
 use Rattle.tb_output.proofs.EndedLemmas.{Ended, ended-both, free-ended}
 use Rattle.tb_output.proofs.CycleStates.{closed, starting, FloatsFit, Bounded}
-use Rattle.tb_run.specs.Run.{End, done, pool_full, dead_cycles, page_limit, node_limit, run_from, run_of, firings_left, held_count, step, Run, run_of_state}
+use Rattle.tb_run.specs.Run.{End, done, pool_full, dead_cycles, page_limit, node_limit, run_from, run_of, firings_left, held_count, step}
 use Rattle.tb_output.proofs.SpacedLemmas.{Spaced, spaced-any, spaced-both, free-alone}
 use Rattle.tb_output.proofs.HighStates.{cleared, BoundedHigh}
 use Rattle.tb_top.specs.Firings.{HasReason}

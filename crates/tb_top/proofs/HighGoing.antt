@@ -1,12 +1,10 @@
 -- A firing after the acts of its page keeps the bound, where the top skip is higher than a page.
-use Rattle.std.proofs.Common.{◌≡◌, refl, sym, ◌∙◌, ap, subst, ℕ, zero, suc, ℤ, pos, ◌+◌, ◌*◌, ◌≤◌, inl, inr, ◌⊎◌, Bool, true, false, List, [], ◌∷◌, ◌++◌, Option, Some, None, arith}
+use Rattle.std.proofs.Common.{◌≡◌, refl, sym, subst, ℕ, zero, suc, ℤ, pos, ◌+◌, ◌*◌, ◌≤◌, inl, inr, ◌⊎◌, true, false, [], ◌∷◌, None, arith}
 use Rattle.std.specs.Prelude.{◌≤ℤ◌, ◌<ℤ◌, int_le}
 use Rattle.tb_scaled.specs.Scaled.{eject_penalty}
-use Rattle.tb_node.specs.Plain.{PlainNode}
 use Rattle.tb_param.specs.declared.Params.{Params}
 use Rattle.tb_insert.specs.Account.{Frozen}
-use Rattle.tb_builder.specs.Reached.{Reach}
-use Rattle.tb_builder.specs.Fired.{Fired, fired_of, frozen_for}
+use Rattle.tb_builder.specs.Fired.{Fired, frozen_for}
 use Rattle.tb_builder.proofs.CutLemmas.{acted_of}
 use Rattle.tb_output.specs.State.{State, foot_class, ask_of, footnotes}
 use Rattle.tb_output.specs.Out
@@ -16,7 +14,7 @@ use Rattle.tb_output.proofs.WaitCosts.{sort_cost, wait_cost, acts_cost}
 use Rattle.tb_output.proofs.EndedLemmas.{Ended}
 use Rattle.tb_output.proofs.ServeOutcomes.{way_floats}
 use Rattle.tb_output.proofs.ActCosts.{Acts, again-cost}
-use Rattle.tb_output.proofs.CycleStates.{Phase, starting, second, ending, IsSecond, any, FloatsFit}
+use Rattle.tb_output.proofs.CycleStates.{ending, IsSecond, any}
 use Rattle.tb_output.proofs.HighStates.{Stage, loose, guarded, cleared, right, last, stage_cost, StageHolds, phase_of, phase-holds, BoundedHigh}
 use Rattle.tb_output.proofs.HighFirings.{FiresHigh, out-high, high-ended}
 use Rattle.tb_top.proofs.RunWeights.{Kept, page_of}

@@ -1,21 +1,19 @@
 -- What is known of the page that fires where the top skip is higher than a page: before a clear it breaks at its top glue, where a mark, note or whatsit comes first.
-use Rattle.std.proofs.Common.{◌≡◌, refl, sym, ◌∙◌, ap, subst, ℕ, zero, suc, ℤ, pos, ◌+◌, ◌≤◌, inl, inr, ◌⊎◌, Bool, true, false, List, [], ◌∷◌, ◌++◌, map, take, drop, length, Option, Some, None, arith}
-use Rattle.std.specs.Prelude.{◌≤ℤ◌, ◌<ℤ◌, int_lt, int_le, if◌then◌else◌}
+use Rattle.std.proofs.Common.{◌≡◌, refl, sym, ◌∙◌, ap, subst, ℕ, zero, suc, ℤ, pos, ◌+◌, ◌≤◌, Bool, true, false, List, [], ◌∷◌, ◌++◌, take, drop, length, None, arith}
+use Rattle.std.specs.Prelude.{◌≤ℤ◌, ◌<ℤ◌}
 use Rattle.std.proofs.lemmas.Int.{ints}
 use Rattle.std.proofs.lemmas.List.{append_assoc}
-use Rattle.tb_scaled.specs.Scaled.{eject_penalty}
 use Rattle.tb_node.specs.declared.What.TheVariants as what
-use Rattle.tb_node.specs.declared.Act.{Act}
 use Rattle.tb_node.specs.Plain.{hbox, rule, skip, kerned, pen, mark, note, whatsit, PlainKind, plain, ins, act, PlainNode, without_acts, without_insertions}
 use Rattle.tb_break.specs.Prune.{pruned_nodes, top_glue}
 use Rattle.tb_param.specs.declared.Params.{Params}
-use Rattle.tb_insert.specs.Account.{Frozen, Labelled, labelled, labelled_from, labelled_with}
+use Rattle.tb_insert.specs.Account.{Frozen, Labelled, labelled_from, labelled_with}
 use Rattle.tb_builder.specs.Reached.{Reach}
-use Rattle.tb_builder.specs.Fired.{page_break, frozen_for, penalty_at, with_spent_break}
+use Rattle.tb_builder.specs.Fired.{penalty_at, with_spent_break}
 use Rattle.tb_builder.proofs.CutLemmas.{acts_of}
 use Rattle.tb_builder.proofs.FittingFired.{flat_box, break_at}
-use Rattle.tb_builder.proofs.GuardedPages.{AllLasting, HasFirst, TopShape, pruned-shape, high-breaks}
-use Rattle.tb_output.specs.State.{State, foot_class, ask_of, footnotes}
+use Rattle.tb_builder.proofs.GuardedPages.{HasFirst, TopShape, pruned-shape, high-breaks}
+use Rattle.tb_output.specs.State.{State, ask_of, footnotes}
 use Rattle.tb_output.specs.Out
 use Rattle.tb_output.proofs.Sorts.{sorts}
 use Rattle.tb_output.proofs.SortLemmas.{take-drop}
@@ -23,7 +21,7 @@ use Rattle.tb_output.proofs.AgainLemmas.{Again}
 use Rattle.tb_output.proofs.EndedLemmas.{Ended}
 use Rattle.tb_output.proofs.SpacedLemmas.{Spaced, spaced-pruned, spaced-acts, spaced-behind, spaced-spent, spaced-clear}
 use Rattle.tb_output.proofs.ClearPages.{OneFlat}
-use Rattle.tb_top.proofs.RunWeights.{Kept, page_of}
+use Rattle.tb_top.proofs.RunWeights.{Kept}
 use Rattle.tb_top.proofs.CyclePages.{w, k, cut, none-reached, limit-deep, page, none-there, flat}
 
 -- ---- lists without acts and insertions

@@ -2,10 +2,8 @@
 use Rattle.std.proofs.Common.{◌≡◌, refl, sym, subst, ℕ, zero, suc, ℤ, pos, ◌+◌, ◌*◌, ◌≤◌, inl, inr, ◌⊎◌, false, [], ◌∷◌, arith}
 use Rattle.std.specs.Prelude.{◌≤ℤ◌, int_le}
 use Rattle.tb_scaled.specs.Scaled.{eject_penalty}
-use Rattle.tb_node.specs.declared.Act.{Act}
-use Rattle.tb_node.specs.Plain.{skip, pen, act}
+use Rattle.tb_node.specs.Plain.{skip, act}
 use Rattle.tb_param.specs.declared.Params.{Params}
-use Rattle.tb_builder.specs.Reached.{acted}
 use Rattle.tb_builder.specs.Fired.{Fired, frozen_for}
 use Rattle.tb_builder.proofs.CutLemmas.{acted_of}
 use Rattle.tb_output.specs.State.{State, foot_class, ask_of}
@@ -15,11 +13,10 @@ use Rattle.tb_output.proofs.AgainLemmas.{Again}
 use Rattle.tb_output.proofs.WaitCosts.{sort_cost, wait_cost, acts_cost}
 use Rattle.tb_output.proofs.EndedLemmas.{Ended}
 use Rattle.tb_output.proofs.ServeOutcomes.{way_floats}
-use Rattle.tb_output.proofs.CycleStates.{closed, credit, Holds, Phase, starting, second, ending, phase_cost, PhaseHolds, Bounded, IsSecond}
+use Rattle.tb_output.proofs.CycleStates.{closed, credit, Phase, starting, second, ending, phase_cost, PhaseHolds, Bounded, IsSecond}
 use Rattle.tb_output.proofs.CycleVoids.{out-bounded}
 use Rattle.tb_output.proofs.CycleEnds.{out-ended}
 use Rattle.tb_output.proofs.ActCosts.{Acts, again-cost}
-use Rattle.tb_run.specs.Run.{End, dead_cycles, fire}
 use Rattle.tb_top.proofs.RunWeights.{Kept, page_of}
 use Rattle.tb_top.proofs.CyclePages.{rest-ended, none-reached, reached-cost, closed-well, open-well}
 use Rattle.tb_top.proofs.CycleRuns.{page_fired, Goes}
