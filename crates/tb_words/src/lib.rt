@@ -1,0 +1,126 @@
+//! The words of the command line.
+//!
+//! They are read by one command of `clap`, with the options `--mode` and `--count`. [`read_words`] gives the mode that
+//! they ask for.
+#![tactic(auto)]
+
+ghost use Rattle.std.specs.Prelude.{◌≡◌, Some, None, map, string_bytes, IfOk, IfSome, IsErrOf};
+ghost use Rattle.clap.specs.Words.{app_of, found_of, kind_of, rows_of};
+ghost use Rattle.tb_words.specs.Words.{asked, command, count_in, fault_by, mode_in, mode_named, IsServed, HasCount, IsCount};
+ghost use Rattle.tb_words.specs.declared.WordsFault.TheVariants.{Memory};
+
+use clap::builder::ValueParser;
+use clap::error::ErrorKind;
+use clap::{Arg, ArgAction, ArgMatches, Command};
+use std::alloc::{AllocError, Global};
+
+/// What the program does.
+#[derive(Clone, Copy, Debug, PartialEq, Eq)]
+pub enum Mode {
+    /// Reads a galley and writes its report.
+    Report,
+    /// Reads a galley and writes its report, with a line for each place that was tried.
+    Trace,
+    /// Reads a galley and writes its canonical text.
+    Print,
+    /// Reads nothing, runs the generated galley of so many items, 1 to 40000, and writes one line about it.
+    Generate { count: u32 },
+}
+
+/// Why there is no mode.
+#[derive(Clone, Copy, Debug, PartialEq, Eq)]
+pub enum WordsFault {
+    /// The command refuses the words, or the mode is none that is served.
+    Refused,
+    /// There was no memory.
+    Memory,
+}
+
+impl From<AllocError> for WordsFault {
+    ghost from_gives = { λ _ e. e ≡ Memory };
+
+    fn from(_: AllocError) -> Self {
+        WordsFault::Memory
+    }
+}
+
+impl From<clap::Error> for WordsFault {
+    ghost from_gives = { λ error e. e ≡ fault_by (kind_of error) };
+
+    fn from(error: clap::Error) -> Self {
+        if error.kind() == ErrorKind::OutOfMemory {
+            WordsFault::Memory
+        } else {
+            WordsFault::Refused
+        }
+    }
+}
+
+/// What the words ask for: the program's name and the words after it.
+///
+/// An empty list is read as the name alone. `Refused` comes exactly where the command refuses the words for another cause
+/// than memory, or the mode is none that is served; the command's own help and usage requests are refusals too.
+pub fn read_words(alloc: Global, words: &[String]) -> Result<Mode, WordsFault>
+    ensures asked { IfOk result (λ mode. asked (map string_bytes words.now) ≡ Some mode) }
+    ensures refused { IsErrOf result WordsFault.Refused → asked (map string_bytes words.now) ≡ None }
+    ensures served { IfOk result IsServed }
+{
+    let command = command(alloc)?;
+    let matches = command.try_get_matches_from(words)?;
+    match mode_in(&matches) {
+        Some(mode) => Ok(mode),
+        None => Err(WordsFault::Refused),
+    }
+}
+
+// The program's command.
+fn command<'a>(alloc: Global) -> Result<Command<'a>, AllocError>
+    ensures { IfOk result (λ c. app_of c ≡ command) }
+{
+    let mode = Arg::new(alloc, "mode")
+        .long("mode")
+        .action(ArgAction::Set)
+        .default_value("report");
+    let count = Arg::new(alloc, "count")
+        .long("count")
+        .action(ArgAction::Set)
+        .value_parser(ValueParser::signed(1, 40_000))
+        .default_value("1000");
+    Command::new(alloc, "galley_pages").arg(mode)?.arg(count)
+}
+
+// The mode that was matched, where it is served.
+fn mode_in(matches: &ArgMatches<'_>) -> Option<Mode>
+    requires { HasCount (found_of matches.now) }
+    ensures mode { result ≡ mode_in (rows_of (found_of matches.now)) }
+    ensures served { IfSome result IsServed }
+{
+    let count = count_in(matches);
+    let name = matches.get_str("mode")?;
+    mode_named(name, count)
+}
+
+// The count that was matched.
+fn count_in(matches: &ArgMatches<'_>) -> u32
+    requires { HasCount (found_of matches.now) }
+    ensures count { result ≡ count_in (rows_of (found_of matches.now)) }
+    ensures served { IsCount result }
+{
+    match matches.get_one::<u32>("count") {
+        Some(count) => count,
+        None => unreachable!(),
+    }
+}
+
+// The mode of this name, where it is served.
+fn mode_named(name: &str, count: u32) -> Option<Mode>
+    ensures { result ≡ mode_named name.now count }
+{
+    match name {
+        "report" => Some(Mode::Report),
+        "trace" => Some(Mode::Trace),
+        "print" => Some(Mode::Print),
+        "gen" => Some(Mode::Generate { count }),
+        _ => None,
+    }
+}
