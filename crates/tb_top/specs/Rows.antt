@@ -3,13 +3,14 @@ use Rattle.std.specs.Prelude.{◌≡◌, ℕ, ◌<◌, List, [], length, codes}
 use Rattle.tb_galley.specs.Grammar.{input_limit}
 use Rattle.tb_top.specs.declared.status.Status.{Status}
 use Rattle.tb_top.specs.declared.status.Status.TheVariants.{Done, Syntax, Range, DeadCycles, PageLimit, NodeLimit}
-use Rattle.tb_top.specs.Answer.{answer_to, report_to, line_to}
+use Rattle.tb_words.specs.declared.Mode.TheVariants.{Report}
+use Rattle.tb_top.specs.Answer.{reply_to}
 
 -- the input has this answer, this report and this line on err
 pub record Replies (input : List ℕ) (answer : Status) (report line : List ℕ) : Type 0 where
-  pub answered : answer_to input ≡ answer
-  pub reported : report_to input ≡ report
-  pub told : line_to input ≡ line
+  pub answered : (reply_to Report input).answer ≡ answer
+  pub reported : (reply_to Report input).written ≡ report
+  pub told : (reply_to Report input).line ≡ line
 
 -- each input with what the definitions give
 pub record WorkedRows : Type 0 where

@@ -16,6 +16,7 @@ unfolding clap_on_literals
 command_free a is = rw is refl
 
 pub asked_of : (a : App) (words : List Text) (m : ArgMatches) (mode : Option Mode) → a ≡ command → HasMatchesOf a words m → fault_of a words ≡ [] → mode ≡ mode_in (rows_of (found_of m)) → asked words ≡ mode
+unfolding asked
 asked_of a words m mode is matches none named =
     let simple : is_simple a ≡ true = ap is_simple is ∙ command_simple in
     let rows : rows_of (found_of m) ≡ matches_of command words = (matches simple).0 ∙ ap (λ x. matches_of x words) is in

@@ -1,10 +1,11 @@
 -- The worked rows, computed from the definitions.
 use Rattle.std.proofs.Common.{refl}
 use Rattle.clap.proofs.OnLiterals.{clap_on_literals}
+use Rattle.tb_words.specs.Words.{asked}
 use Rattle.tb_words.specs.Rows.{WordsRows}
 
 pub words_rows : WordsRows
-unfolding clap_on_literals
+unfolding asked clap_on_literals
 words_rows = record {
   nothing = refl;
   name_alone = refl;

@@ -33,47 +33,20 @@ command = with_rule (with_rule (new_app (codes "galley_pages")) mode_option) cou
 abbrev pub takes_words : List Text → Bool
 takes_words words = length (fault_of command words) == 0
 
--- the number that a text writes
-abbrev pub number_in : Text → ℕ
-number_in text = digits_value 10 (without_leading_plus text)
-
--- the count among the matches
-abbrev pub count_in : List Row → ℕ
-count_in rows = unwrap_or (option_map number_in (one_of (codes "count") rows)) 0
-
 -- the mode of this name, where it is served
-abbrev pub mode_named : Text → ℕ → Option Mode
-mode_named name count =
+abbrev pub mode_named : Text → Option Mode
+mode_named name =
     if bytes_eq name (codes "report") then Some modes.Report
-    else if bytes_eq name (codes "trace") then Some modes.Trace
     else if bytes_eq name (codes "print") then Some modes.Print
-    else if bytes_eq name (codes "gen") then Some (modes.Generate count)
     else None
 
 -- the mode among the matches, where it is served
 abbrev pub mode_in : List Row → Option Mode
-mode_in rows = option_and_then (λ name. mode_named name (count_in rows)) (first_of (codes "mode") rows)
+mode_in rows = option_and_then mode_named (first_of (codes "mode") rows)
 
 -- the mode that the words ask for: none where the command refuses them or the mode is none that is served
-abbrev pub asked : List Text → Option Mode
+unfoldable pub asked : List Text → Option Mode
 asked words = if takes_words words then mode_in (matches_of command words) else None
-
--- a generated galley has 1 to 40000 items
-pub record IsCount (n : ℕ) : Type 0 where
-  pub some : 1 ≤ n
-  pub few : n ≤ 40000
-
-abbrev pub IsServed : Mode → Type 0
-IsServed modes.Report = Unit {0}
-IsServed modes.Trace = Unit {0}
-IsServed modes.Print = Unit {0}
-IsServed (modes.Generate count) = IsCount count
-
--- a count was found, in its range
-pub record HasCount (f : Found) : Type 0 where
-  pub text : Text
-  pub found : one_text f (codes "count") ≡ Some (without_minus text)
-  pub within : IsSignedIn (pos 1) (pos 40000) text
 
 -- ---- faults
 
