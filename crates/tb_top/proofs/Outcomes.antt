@@ -31,7 +31,7 @@ use Rattle.tb_top.specs.declared.status.Status.{Status}
 use Rattle.tb_top.specs.declared.status.Status.TheVariants as answers
 use Rattle.tb_run.specs.Run.{End, done, pool_full, dead_cycles, page_limit, node_limit, run_of}
 use Rattle.tb_top.specs.Paginated.{view_text, end_fault, EndsWith, Paginates, Refuses}
-use Rattle.tb_top.specs.Report.{report}
+use Rattle.tb_top.specs.Report.{report, trace}
 use Rattle.tb_top.specs.Laws.{KeepsLaws}
 use Rattle.tb_top.specs.Answer.{Reply, answer_at, line_at, answer_for_cause, err_line, fault_reply, galley_reply, run_reply, text_reply, reply_to}
 use Rattle.tb_top.specs.Outcome.{Stream, Failed, Gives, Reads, IsUnread, IsGalleyWith, ShowsRunOf, HasLawfulRun, LacksRoomForCycles, Decided, Finished, OutOfCycles, CutOff, StandsAfter, TellsLine, Says, Outcome, Succeeds, IsAnswer, input_of}
@@ -144,6 +144,9 @@ pub record ReadsGalleys (m : Mode) (reply : Galley → Reply) : Type 0 where
 
 pub report_reads : ReadsGalleys modes.Report (λ g. run_reply (report (run_of g)) (run_of g))
 report_reads = record { reads = λ s input g. g; unread = λ s f. f; replies = λ input. refl }
+
+pub trace_reads : ReadsGalleys modes.Trace (λ g. run_reply (trace (run_of g)) (run_of g))
+trace_reads = record { reads = λ s input g. g; unread = λ s f. f; replies = λ input. refl }
 
 pub print_reads : ReadsGalleys modes.Print (λ g. text_reply (printed g))
 print_reads = record { reads = λ s input g. g; unread = λ s f. f; replies = λ input. refl }
@@ -260,6 +263,7 @@ galley_answer reply status (Some xs) (Some ys) input g is =
 
 IsAnswer-given : (m : Mode) (status : Status) (source : Stream) (input : List ℕ) → Reads m source input → status ≡ (reply_to m input).answer → IsAnswer m status source.before
 IsAnswer-given modes.Report status source input g is = galley_answer (λ g. run_reply (report (run_of g)) (run_of g)) status source.before source.after input g is
+IsAnswer-given modes.Trace status source input g is = galley_answer (λ g. run_reply (trace (run_of g)) (run_of g)) status source.before source.after input g is
 IsAnswer-given modes.Print status source input g is = galley_answer (λ g. text_reply (printed g)) status source.before source.after input g is
 
 some_memory : (left : Option (List ℕ)) (P : List ℕ → Type 0) → IfSome left (λ input. P input ⊎ (answers.Memory ≡ answers.Memory))
@@ -299,6 +303,7 @@ module _ (asked : Option Mode) (m : Mode) (source out : Stream) (well : Succeeds
 -- only a source that failed leaves a mode unread
 unread-failed : (m : Mode) (source : Stream) → IsUnread m source → Failed source
 unread-failed modes.Report source is = is
+unread-failed modes.Trace source is = is
 unread-failed modes.Print source is = is
 
 pub decided-asked : (asked : Option Mode) (answer : Status) (source out : Stream) (line : List ℕ) → Decided asked answer source out line → asked ≡ None → ⊥

@@ -11,7 +11,7 @@ use Rattle.tb_words.specs.declared.Mode.TheVariants as modes
 use Rattle.tb_top.specs.declared.status.Status.{Status}
 use Rattle.tb_top.specs.declared.status.Status.TheVariants as answers
 use Rattle.tb_run.specs.Run.{Run, End, done, pool_full, dead_cycles, page_limit, node_limit, run_of}
-use Rattle.tb_top.specs.Report.{report}
+use Rattle.tb_top.specs.Report.{report, trace}
 
 -- ---- the answer
 
@@ -108,4 +108,5 @@ galley_reply reply (Err f) = fault_reply f
 -- by the mode; an input that is no galley has the reply of its first fault
 abbrev pub reply_to : Mode → List ℕ → Reply
 reply_to modes.Report input = galley_reply (λ g. run_reply (report (run_of g)) (run_of g)) (grammar input)
+reply_to modes.Trace input = galley_reply (λ g. run_reply (trace (run_of g)) (run_of g)) (grammar input)
 reply_to modes.Print input = galley_reply (λ g. text_reply (printed g)) (grammar input)

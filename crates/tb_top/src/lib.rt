@@ -22,11 +22,13 @@ pub use status::Status;
 pub use tb_report::Totals;
 pub use top::run;
 
-/// What `paginate` writes of a run: its report, or nothing.
+/// What `paginate` writes of a run: its report, with the places that were tried or without, or nothing.
 #[derive(Clone, Copy, Debug, PartialEq, Eq)]
 pub enum View {
     /// The report: the header, the warnings and the pages, and what is left at the end.
     Report,
+    /// The report, and before what it causes a line for each place that was tried.
+    Trace,
     /// Nothing, for callers that want the totals alone.
     Silent,
 }

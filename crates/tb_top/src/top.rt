@@ -16,8 +16,8 @@ use tb_galley::{Galley, parse, print};
 use tb_io::{Sink, SinkFault, Source, write_all};
 use tb_words::{Mode, read_words};
 
-/// Does what the words ask for: reads a galley from `source` and writes its report or its canonical text to `out`, or
-/// says on `err` why not.
+/// Does what the words ask for: reads a galley from `source` and writes its report, its report with the places that were
+/// tried, or its canonical text to `out`, or says on `err` why not.
 ///
 /// `words` are the program's name and the words after it; an empty list is read as the name alone. They are read by one
 /// command of `clap`, as [`tb_words`] says. The whole galley is read and parsed before anything is written. Reading stops
@@ -75,6 +75,7 @@ fn serve<S: Source, K: Sink>(
     let mode = read_words(alloc, words)?;
     match mode {
         Mode::Report => write_report(alloc, source, out),
+        Mode::Trace => write_trace(alloc, source, out),
         Mode::Print => write_canonical(alloc, source, out),
     }
 }
@@ -92,6 +93,22 @@ fn write_report<S: Source, K: Sink>(
 {
     let galley = read_galley(alloc, source)?;
     paginate(alloc, &galley, View::Report, out)?;
+    Ok(())
+}
+
+// Reads a galley and writes its report with the places that were tried.
+fn write_trace<S: Source, K: Sink>(
+    alloc: Global,
+    source: &mut S,
+    out: &mut K,
+) -> Result<(), Refusal>
+    ensures { StandsAfter (Some Mode.Trace) (served_status result)
+        (stream (S.left source.old) (S.left source.new) (S.faults source.old) (S.faults source.new))
+        (stream (K.held out.old) (K.held out.new) (K.faults out.old) (K.faults out.new))
+        (served_line result) }
+{
+    let galley = read_galley(alloc, source)?;
+    paginate(alloc, &galley, View::Trace, out)?;
     Ok(())
 }
 

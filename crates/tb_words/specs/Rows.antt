@@ -2,7 +2,7 @@
 use Rattle.std.specs.Prelude.{◌≡◌, List, [], ◌∷◌, codes, Option, Some, None}
 use Rattle.clap.specs.Words.{Text}
 use Rattle.tb_words.specs.Words.{asked}
-use Rattle.tb_words.specs.declared.Mode.TheVariants.{Report, Print}
+use Rattle.tb_words.specs.declared.Mode.TheVariants.{Report, Trace, Print}
 
 -- the words after the program's name
 abbrev pub named : List Text → List Text
@@ -15,7 +15,7 @@ pub record WordsRows : Type 0 where
   pub name_alone : asked (named []) ≡ Some Report
   -- each mode
   pub report : asked (named (codes "--mode" ∷ codes "report" ∷ [])) ≡ Some Report
-  pub trace : asked (named (codes "--mode" ∷ codes "trace" ∷ [])) ≡ None
+  pub trace : asked (named (codes "--mode" ∷ codes "trace" ∷ [])) ≡ Some Trace
   pub print : asked (named (codes "--mode" ∷ codes "print" ∷ [])) ≡ Some Print
   pub with_equals : asked (named (codes "--mode=print" ∷ [])) ≡ Some Print
   pub another_mode : asked (named (codes "--mode" ∷ codes "nothing" ∷ [])) ≡ None
@@ -39,5 +39,5 @@ pub record WordsRows : Type 0 where
   pub short_help : asked (named (codes "-h" ∷ [])) ≡ None
   pub version : asked (named (codes "--version" ∷ [])) ≡ None
   -- a last `--`
-  pub end_of_options : asked (named (codes "--mode" ∷ codes "trace" ∷ codes "--" ∷ [])) ≡ None
+  pub end_of_options : asked (named (codes "--mode" ∷ codes "trace" ∷ codes "--" ∷ [])) ≡ Some Trace
   pub word_past_the_end : asked (named (codes "--" ∷ codes "x" ∷ [])) ≡ None

@@ -37,6 +37,7 @@ takes_words words = length (fault_of command words) == 0
 abbrev pub mode_named : Text → Option Mode
 mode_named name =
     if bytes_eq name (codes "report") then Some modes.Report
+    else if bytes_eq name (codes "trace") then Some modes.Trace
     else if bytes_eq name (codes "print") then Some modes.Print
     else None
 

@@ -23,6 +23,8 @@ pub use rows::check_words;
 pub enum Mode {
     /// Reads a galley and writes its report.
     Report,
+    /// Reads a galley and writes its report, with a line for each place that was tried.
+    Trace,
     /// Reads a galley and writes its canonical text.
     Print,
 }
@@ -103,6 +105,7 @@ fn mode_named(name: &str) -> Option<Mode>
 {
     match name {
         "report" => Some(Mode::Report),
+        "trace" => Some(Mode::Trace),
         "print" => Some(Mode::Print),
         _ => None,
     }

@@ -11,5 +11,8 @@ returns-in_err-mode g c =
 pub returns-in-Report : goal.returns-in-Report
 returns-in-Report g c = rw (c.in_ok-mode.ensures.asked, c.in-Report.is) c.write_report.ensures
 
+pub returns-in-Trace : goal.returns-in-Trace
+returns-in-Trace g c = rw (c.in_ok-mode.ensures.asked, c.in-Trace.is) c.write_trace.ensures
+
 pub returns-in-Print : goal.returns-in-Print
 returns-in-Print g c = rw (c.in_ok-mode.ensures.asked, c.in-Print.is) c.write_canonical.ensures
