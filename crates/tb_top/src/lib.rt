@@ -1,7 +1,7 @@
-//! From a galley to its report.
+//! From words and a galley to its report, its trace or its canonical text.
 //!
-//! [`run`] is the whole program over any ends: it reads a galley, makes its pages by
-//! [`paginate`] and writes their report, or says on `err` why not.
+//! [`run`] is the whole program over any ends: it reads the words and a galley, makes its pages by
+//! [`paginate`] and writes what the mode asks for, or says on `err` why not.
 #![tactic(auto)]
 
 mod input;
