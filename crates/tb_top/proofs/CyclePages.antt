@@ -20,7 +20,7 @@ use Rattle.tb_output.specs.Text
 use Rattle.tb_output.specs.Clear
 use Rattle.tb_output.specs.Out
 use Rattle.tb_output.proofs.StateWeights.{OneBox}
-use Rattle.tb_output.proofs.Sorts.{Sort, light, blank, clear, odd, pen_sort, sorts, sorts-calm, none, seen_all}
+use Rattle.tb_output.proofs.Sorts.{Sort, odd, pen_sort, sorts, sorts-calm, none, seen_all}
 use Rattle.tb_output.proofs.SortLemmas.{sorts-append, take-drop, BreakStands, PageStands, cut-stands, pruned-stands}
 use Rattle.tb_output.proofs.PlaceLemmas.{body-steady}
 use Rattle.tb_output.proofs.AgainLemmas.{Again, BreakAgain, again-pruned, again-behind, no-acts, acts-again, break-again}

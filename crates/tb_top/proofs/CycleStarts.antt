@@ -11,7 +11,7 @@ use Rattle.tb_galley.specs.declared.ItemKind.TheVariants as items
 use Rattle.tb_galley.specs.declared.Galley.{Galley}
 use Rattle.tb_galley.specs.Expand.{item_kinds, item_nodes, expanded}
 use Rattle.tb_output.specs.State.{State, first_state}
-use Rattle.tb_output.proofs.Sorts.{clear, pen_sort}
+use Rattle.tb_output.proofs.Sorts.{pen_sort}
 use Rattle.tb_output.proofs.WaitCosts.{sort_cost, wait_cost, cost-append}
 use Rattle.tb_output.proofs.EndedLemmas.{Ended, ended-both, free-ended}
 use Rattle.tb_output.proofs.CycleStates.{closed, starting, FloatsFit, Bounded}

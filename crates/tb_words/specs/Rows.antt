@@ -1,5 +1,5 @@
 -- Worked rows: words with what they ask for.
-use Rattle.std.specs.Prelude.{◌≡◌, List, [], ◌∷◌, codes, Option, Some, None}
+use Rattle.std.specs.Prelude.{◌≡◌, List, [], ◌∷◌, codes, Some, None}
 use Rattle.clap.specs.Words.{Text}
 use Rattle.tb_words.specs.Words.{asked}
 use Rattle.tb_words.specs.declared.Mode.TheVariants.{Report, Trace, Print}
