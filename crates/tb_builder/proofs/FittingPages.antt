@@ -55,7 +55,7 @@ slim-kind l (plain whatsit) ns s a b = (grind (arith, ints, a), grind (arith, in
 slim-kind l (ins i) ns s a b = absurd s
 slim-kind l (act x) ns s a b = absurd s
 
-slim-sums : (ns : List PlainNode) → AllSlim ns → (list_stretch Normal (shapes ns) ≡ pos 0) × (list_shrink (shapes ns) ≡ pos 0)
+pub slim-sums : (ns : List PlainNode) → AllSlim ns → (list_stretch Normal (shapes ns) ≡ pos 0) × (list_shrink (shapes ns) ≡ pos 0)
 slim-sums [] s = (refl, refl)
 slim-sums (n ∷ ns) s = let h = slim-sums ns s.1 in slim-kind n.line n.kind ns s.0 h.0 h.1
 
@@ -71,7 +71,7 @@ depth-kind l (plain whatsit) ns s h d e = h d e
 depth-kind l (ins i) ns s h d e = absurd s
 depth-kind l (act x) ns s h d e = absurd s
 
-slim-depth : (ns : List PlainNode) → AllSlim ns → (d : ℤ) → d ≡ pos 0 → depth_from d (shapes ns) ≡ pos 0
+pub slim-depth : (ns : List PlainNode) → AllSlim ns → (d : ℤ) → d ≡ pos 0 → depth_from d (shapes ns) ≡ pos 0
 slim-depth [] s d e = e
 slim-depth (n ∷ ns) s d e = depth-kind n.line n.kind ns s.0 (λ d e. slim-depth ns s.1 d e) d e
 
@@ -199,7 +199,7 @@ module _ (limit goal : ℤ) (deep : pos 0 ≤ℤ limit) (terms : List PlainNode 
       shrink n e = grind (arith, ints, e)
 
   -- a place at no penalty before the forced break
-  free-place : (before : List PlainNode) → AllSlim before → size_of (shapes before) ≤ℤ goal → (is_stop (page_place limit terms before (pos 0)) ≡ false) × (int_le (page_place limit terms before (pos 0)).cost q ≡ false)
+  pub free-place : (before : List PlainNode) → AllSlim before → size_of (shapes before) ≤ℤ goal → (is_stop (page_place limit terms before (pos 0)) ≡ false) × (int_le (page_place limit terms before (pos 0)).cost q ≡ false)
   free-place before s h = subst (λ (t : Terms). let b = breakpoint_at (length before) (sums_with (sums_of limit (shapes before)) t) t.goal (pos 0) t.penalties in (is_stop b ≡ false) × (int_le b.cost q ≡ false)) (sym (bare before s)) (stops (slim-place (Dear q) (dear-zero q forced) (dear-bad q forced) before s h))
     where
       b : ℤ

@@ -75,13 +75,13 @@ module _ (p : Params) (m : ℕ) (s : State) (total a : ℕ) (kind : Kind) (phase
   abbrev n : Work
   n = puts Clear.clear_again (Columns.put_out_text p (f.body ++ made (skip filling_glue) ∷ []) w0)
 
-  q-out : TextOut (Fits p) p w0 q
+  pub q-out : TextOut (Fits p) p w0 q
   q-out = text-out (Fits p) p (f.body ++ made (skip filling_glue) ∷ []) w0 q (follows-same (Fits p) q)
 
-  n-region : (bs : List PlainNode) → AllByRecursion Idle (sorts bs) → Again (suc d) (sorts n.put_back ++ (sorts bs ++ sorts f.rest))
+  pub n-region : (bs : List PlainNode) → AllByRecursion Idle (sorts bs) → Again (suc d) (sorts n.put_back ++ (sorts bs ++ sorts f.rest))
   n-region bs i = subst (λ (ns : List PlainNode). Again (suc d) (sorts (ns ++ Clear.clear_again) ++ (sorts bs ++ sorts f.rest))) (sym q-out.back) (again-clear d (sorts bs ++ sorts f.rest) (again-idle d (sorts bs) (sorts f.rest) i region))
 
-  n-cost : wait_cost n.put_back ≡ 3
+  pub n-cost : wait_cost n.put_back ≡ 3
   n-cost = ap (λ ns. wait_cost (ns ++ Clear.clear_again)) q-out.back
 
   q-way : (x y : ℕ) → waiting_floats q.state.floats + x ≤ waiting_floats s.floats + y → way_floats q.state.floats + x ≤ way_floats s.floats + y
@@ -90,7 +90,7 @@ module _ (p : Params) (m : ℕ) (s : State) (total a : ℕ) (kind : Kind) (phase
       sums : (b d e g : ℕ) → e ≡ g → b + x ≤ d + y → b + e + x ≤ d + g + y
       sums b d e g i j = omega arith
 
-  n-fits : (notes : List Leaf) → FloatsFit p n.state
+  pub n-fits : (notes : List Leaf) → FloatsFit p n.state
   n-fits notes =
       let x : KeepsDouble w0 n = clear_by-double p f.body w0 (Some notes) in
       text-fits p m s total a kind phase f calm holds at floats weight bound well q q-out (text-out Single p (f.body ++ made (skip filling_glue) ∷ []) w0 q (follows-same Single q)) (record { by = x.by; columns = x.columns })
@@ -126,7 +126,7 @@ module _ (p : Params) (m : ℕ) (s : State) (total a : ℕ) (kind : Kind) (phase
       by_phase second g i = true-false s.first_column c i.first
       by_phase ending g i = true-false s.first_column c i.0.first
 
-  q-least : way_floats q.state.floats ≤ way_floats s.floats
+  pub q-least : way_floats q.state.floats ≤ way_floats s.floats
   q-least = sums (way_floats q.state.floats) (way_floats s.floats) (q-way 0 0 (zeros (waiting_floats q.state.floats) (waiting_floats s.floats) q-out.floats))
     where
       zeros : (x y : ℕ) → x ≤ y → x + 0 ≤ y + 0

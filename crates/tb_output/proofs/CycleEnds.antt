@@ -1,6 +1,6 @@
 -- After a firing each clear that waits stands behind a flat box again.
 use Rattle.std.proofs.Common.{◌≡◌, refl, sym, subst, ℕ, ◌+◌, ◌*◌, ◌≤◌, Bool, true, false, List, [], ◌∷◌, ◌++◌, Option, Some, None}
-use Rattle.std.specs.Prelude.{int_le, if◌then◌else◌}
+use Rattle.std.specs.Prelude.{int_le}
 use Rattle.tb_scaled.specs.Scaled.{eject_penalty}
 use Rattle.tb_scaled.specs.Glue.{filling_glue}
 use Rattle.tb_node.specs.Plain.{Leaf, PlainNode, made, skip}
@@ -18,7 +18,7 @@ use Rattle.tb_output.proofs.ClearOutcomes.{Fits}
 use Rattle.tb_output.proofs.ServeOutcomes.{Served, served, way_floats}
 use Rattle.tb_output.proofs.EndedLemmas.{Ended, ended-both, free-ended}
 use Rattle.tb_output.proofs.CycleStates.{Kind, credit, Holds, Phase, phase_cost, PhaseHolds, FloatsFit, goal-out}
-use Rattle.tb_output.proofs.CycleFirings.{FiresWell, waits}
+use Rattle.tb_output.proofs.CycleFirings.{FiresWell, waits, output-cases}
 use Rattle.tb_output.proofs.CycleVoids.{half_nodes, rest_nodes, v-back, c}
 
 again-ended : Ended false Clear.clear_again
@@ -70,11 +70,4 @@ module _ (p : Params) (m : ℕ) (s : State) (total a : ℕ) (kind : Kind) (phase
 
   pub out-ended : Ended false (Out.out p s f).state.waiting
   unfolding Out.out
-  out-ended = by_tests (int_le eject_penalty f.penalty) (Out.is_int f.penalty Out.clear_penalty) (Out.is_int f.penalty Out.par_penalty) (Out.is_int f.penalty Out.vert_penalty) refl refl
-    where
-      by_tests : (t k x y : Bool) → int_le eject_penalty f.penalty ≡ t → Out.is_int f.penalty Out.clear_penalty ≡ k → Keeps (if t then Columns.ordinary p f.body begins else (if k then Clear.clear p f.body begins else (if x then Text.float_or_note p false f.body begins else (if y then Text.float_or_note p true f.body begins else Out.hold f.body begins))))
-      by_tests true k x y e g = keeps-ordinary
-      by_tests false true x y e g = keeps-clear e g
-      by_tests false false true y e g = keeps-serve false
-      by_tests false false false true e g = keeps-serve true
-      by_tests false false false false e g = keeps (Out.hold f.body begins) tt
+  out-ended = output-cases p f begins Keeps well.regular (λ e. keeps-ordinary) (λ e k. keeps-clear e k) (λ vert e x. keeps-serve vert) (λ e x. keeps (Out.hold f.body begins) tt)

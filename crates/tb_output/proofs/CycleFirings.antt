@@ -4,6 +4,7 @@ use Rattle.std.specs.Prelude.{◌==◌, int_le, ◌||◌, if◌then◌else◌}
 use Rattle.std.specs.List.{AllByRecursion}
 use Rattle.std.proofs.lemmas.Int.{ints}
 use Rattle.std.proofs.lemmas.List.{append_assoc}
+use Rattle.std.proofs.lemmas.Bool.{or_left, or_right, or_from}
 use Rattle.tb_scaled.specs.Scaled.{eject_penalty}
 use Rattle.tb_node.specs.declared.Float.{Float}
 use Rattle.tb_node.specs.Plain.{PlainKind, plain, ins, act, PlainNode, made, blank_box, whatsit, pen}
@@ -18,7 +19,7 @@ use Rattle.tb_output.specs.Columns
 use Rattle.tb_output.specs.Clear
 use Rattle.tb_output.specs.Text
 use Rattle.tb_output.specs.Out
-use Rattle.tb_output.proofs.Sorts.{Sort, light, blank, pause, hold, serve, clear, odd, pen_sort, kind_sort, sorts}
+use Rattle.tb_output.proofs.Sorts.{Sort, light, blank, hold, serve, clear, odd, pen_sort, kind_sort, sorts}
 use Rattle.tb_output.proofs.SortLemmas.{sorts-append}
 use Rattle.tb_output.proofs.AgainLemmas.{Again, Idle, BreakAgain, again-idle}
 use Rattle.tb_output.proofs.WaitCosts.{sort_cost, wait_cost, cost-append, ins-free}
@@ -28,49 +29,38 @@ use Rattle.tb_output.proofs.ClearOutcomes.{NoneWait, Fits, Single, Wide}
 use Rattle.tb_output.proofs.WideLemmas.{KeepsDouble, ordinary-double}
 use Rattle.tb_output.proofs.ServeOutcomes.{AllCurrent, current_floats, way_floats, Served, served}
 use Rattle.tb_output.proofs.CycleStates.{Kind, any, doubled, once, topped, ready, halted, clean, single, closed, credit, IsSecond, Holds, Phase, starting, second, ending, phase_cost, PhaseHolds, FloatsFit, Bounded, GoalOut, goal-out}
+use Rattle.tb_output.proofs.BreakSorts as breaks
 
 -- ---- the sort of the penalty, by the routine's tests
 
-abbrev tests : Bool → Bool → Bool → Bool → Bool → Sort
-tests t e c x z = if t then (if e then pause else (if c then clear else (if x then serve else (if z then hold else odd)))) else light
-
 pub clear-sort : (q : ℤ) → int_le eject_penalty q ≡ false → Out.is_int q Out.clear_penalty ≡ true → pen_sort q ≡ clear
-clear-sort q h k = by_tests (int_le q eject_penalty) (Out.is_int q eject_penalty) (Out.is_int q Out.clear_penalty) (Out.is_int q Out.par_penalty || Out.is_int q Out.vert_penalty) (Out.is_int q Out.hold_penalty) (grind (arith, ints, h)) (grind (arith, ints, h)) k
-  where
-    by_tests : (t e c x z : Bool) → t ≡ true → e ≡ false → c ≡ true → tests t e c x z ≡ clear
-    by_tests true false true x z u v w = refl
-    by_tests true false false x z u v w = let no : ⊥ = grind (arith, w) in absurd no
-    by_tests true true c x z u v w = let no : ⊥ = grind (arith, v) in absurd no
-    by_tests false e c x z u v w = let no : ⊥ = grind (arith, u) in absurd no
+clear-sort q h k = breaks.at-clear (pen_sort q ≡ clear) (λ x. pen_sort q ≡ x) q h k (λ e. e) refl
 
 pub serve-sort : (q : ℤ) → int_le eject_penalty q ≡ false → Out.is_int q Out.clear_penalty ≡ false → (Out.is_int q Out.par_penalty || Out.is_int q Out.vert_penalty) ≡ true → pen_sort q ≡ serve
-serve-sort q h k l = by_tests (int_le q eject_penalty) (Out.is_int q eject_penalty) (Out.is_int q Out.clear_penalty) (Out.is_int q Out.par_penalty || Out.is_int q Out.vert_penalty) (Out.is_int q Out.hold_penalty) (grind (arith, ints, h)) (grind (arith, ints, h)) k l
-  where
-    by_tests : (t e c x z : Bool) → t ≡ true → e ≡ false → c ≡ false → x ≡ true → tests t e c x z ≡ serve
-    by_tests true false false true z u v w y = refl
-    by_tests true false false false z u v w y = let no : ⊥ = grind (arith, y) in absurd no
-    by_tests true false true x z u v w y = let no : ⊥ = grind (arith, w) in absurd no
-    by_tests true true c x z u v w y = let no : ⊥ = grind (arith, v) in absurd no
-    by_tests false e c x z u v w y = let no : ⊥ = grind (arith, u) in absurd no
+serve-sort q h k l = breaks.at-serve (pen_sort q ≡ serve) (λ x. pen_sort q ≡ x) q h k l (λ e. e) refl
 
 pub hold-sort : (q : ℤ) → int_le eject_penalty q ≡ false → Out.is_int q Out.clear_penalty ≡ false → (Out.is_int q Out.par_penalty || Out.is_int q Out.vert_penalty) ≡ false → (pen_sort q ≡ odd → ⊥) → pen_sort q ≡ hold
-hold-sort q h k l no_odd = by_tests (int_le q eject_penalty) (Out.is_int q eject_penalty) (Out.is_int q Out.clear_penalty) (Out.is_int q Out.par_penalty || Out.is_int q Out.vert_penalty) (Out.is_int q Out.hold_penalty) (grind (arith, ints, h)) (grind (arith, ints, h)) k l no_odd
-  where
-    by_tests : (t e c x z : Bool) → t ≡ true → e ≡ false → c ≡ false → x ≡ false → (tests t e c x z ≡ odd → ⊥) → tests t e c x z ≡ hold
-    by_tests true false false false true u v w y n = refl
-    by_tests true false false false false u v w y n = absurd (n refl)
-    by_tests true false false true z u v w y n = let no : ⊥ = grind (arith, y) in absurd no
-    by_tests true false true x z u v w y n = let no : ⊥ = grind (arith, w) in absurd no
-    by_tests true true c x z u v w y n = let no : ⊥ = grind (arith, v) in absurd no
-    by_tests false e c x z u v w y n = let no : ⊥ = grind (arith, u) in absurd no
+hold-sort q h k l no_odd = breaks.at-hold (pen_sort q ≡ hold) (λ x. pen_sort q ≡ x) q h k l (λ e. e) (λ e. absurd (no_odd e)) refl
 
 pub ordinary-again : (n : ℕ) (rest : List PlainNode) (q : ℤ) → int_le eject_penalty q ≡ true → BreakAgain n rest (pen_sort q) → Again n (sorts rest)
-ordinary-again n rest q h r = by_tests (int_le q eject_penalty) (Out.is_int q eject_penalty) (Out.is_int q Out.clear_penalty) (Out.is_int q Out.par_penalty || Out.is_int q Out.vert_penalty) (Out.is_int q Out.hold_penalty) (λ k. grind (arith, ints, h, k)) r
+ordinary-again n rest q h r = breaks.at-ordinary (Again n (sorts rest)) (BreakAgain n rest) q h (λ r. r) (λ r. r) r
+
+-- ---- the output routine, by the penalty
+
+pub output-cases : (p : Params) (f : Fired) (w : Work) (R : Work → Type 0) → (pen_sort f.penalty ≡ odd → ⊥)
+    → (int_le eject_penalty f.penalty ≡ true → R (Columns.ordinary p f.body w))
+    → (int_le eject_penalty f.penalty ≡ false → Out.is_int f.penalty Out.clear_penalty ≡ true → R (Clear.clear p f.body w))
+    → ((vert : Bool) → int_le eject_penalty f.penalty ≡ false → pen_sort f.penalty ≡ serve → R (Text.float_or_note p vert f.body w))
+    → (int_le eject_penalty f.penalty ≡ false → pen_sort f.penalty ≡ hold → R (Out.hold f.body w))
+    → R (Out.output_by p f w)
+output-cases p f w R regular at_ordinary at_clear at_serve at_hold = by_tests (int_le eject_penalty f.penalty) (Out.is_int f.penalty Out.clear_penalty) (Out.is_int f.penalty Out.par_penalty) (Out.is_int f.penalty Out.vert_penalty) refl refl refl refl
   where
-    by_tests : (t e c x z : Bool) → (t ≡ true → e ≡ true) → BreakAgain n rest (tests t e c x z) → Again n (sorts rest)
-    by_tests true true c x z u r = r
-    by_tests true false c x z u r = let no : ⊥ = grind (arith, u refl) in absurd no
-    by_tests false e c x z u r = r
+    by_tests : (t k x y : Bool) → int_le eject_penalty f.penalty ≡ t → Out.is_int f.penalty Out.clear_penalty ≡ k → Out.is_int f.penalty Out.par_penalty ≡ x → Out.is_int f.penalty Out.vert_penalty ≡ y → R (if t then Columns.ordinary p f.body w else (if k then Clear.clear p f.body w else (if x then Text.float_or_note p false f.body w else (if y then Text.float_or_note p true f.body w else Out.hold f.body w))))
+    by_tests true k x y e g i j = at_ordinary e
+    by_tests false true x y e g i j = at_clear e g
+    by_tests false false true y e g i j = at_serve false e (serve-sort f.penalty e g (or_left (Out.is_int f.penalty Out.par_penalty) (Out.is_int f.penalty Out.vert_penalty) i))
+    by_tests false false false true e g i j = at_serve true e (serve-sort f.penalty e g (or_right (Out.is_int f.penalty Out.par_penalty) (Out.is_int f.penalty Out.vert_penalty) j))
+    by_tests false false false false e g i j = at_hold e (hold-sort f.penalty e g (or_from (Out.is_int f.penalty Out.par_penalty) (Out.is_int f.penalty Out.vert_penalty) i j) regular)
 
 -- ---- what is known of a page that fires
 
@@ -122,19 +112,28 @@ module _ (p : Params) (m : ℕ) (f : Fired) (held : AllIns 254 f.held) (w : Work
   abbrev pub after : State
   after = (Out.waiting_again f (Out.next_goal p f.penalty w)).state
 
-  abbrev goal : GoalOut p f.penalty w (Out.next_goal p f.penalty w)
+  abbrev pub goal : GoalOut p f.penalty w (Out.next_goal p f.penalty w)
   goal = goal-out p f.penalty w
 
   pub waits : after.waiting ≡ f.held ++ ((w.put_back ++ goal.blanks) ++ f.rest)
   waits = ap (λ ns. (f.held ++ ns) ++ f.rest) goal.back ∙ append_assoc f.held (w.put_back ++ goal.blanks) f.rest
 
-  wait-total : wait_cost after.waiting ≡ wait_cost w.put_back + wait_cost f.rest
+  pub wait-total : wait_cost after.waiting ≡ wait_cost w.put_back + wait_cost f.rest
   wait-total =
       sums (wait_cost after.waiting) (wait_cost (f.held ++ ((w.put_back ++ goal.blanks) ++ f.rest))) (wait_cost f.held) (wait_cost ((w.put_back ++ goal.blanks) ++ f.rest)) (wait_cost (w.put_back ++ goal.blanks)) (wait_cost w.put_back) (wait_cost goal.blanks) (wait_cost f.rest)
       (ap wait_cost waits) (cost-append f.held ((w.put_back ++ goal.blanks) ++ f.rest)) (ins-free f.held held) (cost-append (w.put_back ++ goal.blanks) f.rest) (cost-append w.put_back goal.blanks) goal.cost
     where
       sums : (a b h c d x y r : ℕ) → a ≡ b → b ≡ h + c → h ≡ 0 → c ≡ d + r → d ≡ x + y → y ≡ 0 → a ≡ x + r
       sums a b h c d x y r i j k l n o = omega arith
+
+  -- the clears that are to come behind what is put back are to come on what waits
+  pub after-region : (again : ℕ) → ((bs : List PlainNode) → AllByRecursion Idle (sorts bs) → Again again (sorts w.put_back ++ (sorts bs ++ sorts f.rest))) → Again again (sorts after.waiting)
+  after-region again region = subst (λ (ns : List PlainNode). Again again (sorts ns)) (sym waits) (subst (Again again) (sym parts) (ins-again again f.held (sorts w.put_back ++ (sorts goal.blanks ++ sorts f.rest)) held (region goal.blanks goal.idle)))
+    where
+      parts : sorts (f.held ++ ((w.put_back ++ goal.blanks) ++ f.rest)) ≡ sorts f.held ++ (sorts w.put_back ++ (sorts goal.blanks ++ sorts f.rest))
+      parts =
+          sorts-append f.held ((w.put_back ++ goal.blanks) ++ f.rest)
+          ∙ ap (λ l. sorts f.held ++ l) (sorts-append (w.put_back ++ goal.blanks) f.rest ∙ ap (λ l. l ++ sorts f.rest) (sorts-append w.put_back goal.blanks) ∙ assoc-sorts (sorts w.put_back) (sorts goal.blanks) (sorts f.rest))
 
   -- what is known after the output routine is known after the goal is set
   pub finish : (again : ℕ) (kind : Kind) (phase : Phase)
@@ -147,7 +146,7 @@ module _ (p : Params) (m : ℕ) (f : Fired) (held : AllIns 254 f.held) (w : Work
     again = again;
     kind = kind;
     phase = phase;
-    region = subst (λ (ns : List PlainNode). Again again (sorts ns)) (sym waits) (subst (Again again) (sym parts) (ins-again again f.held (sorts w.put_back ++ (sorts goal.blanks ++ sorts f.rest)) held (region goal.blanks goal.idle)));
+    region = after-region again region;
     holds = holds;
     at = at;
     coming = coming;
@@ -161,11 +160,6 @@ module _ (p : Params) (m : ℕ) (f : Fired) (held : AllIns 254 f.held) (w : Work
 
       sums-with : (a b x y c r d e h : ℕ) → a ≡ b → x ≡ y → d ≡ e → e + b + 2 * y + c + h ≤ r → d + a + 2 * x + c + h ≤ r
       sums-with a b x y c r d e h i j k l = omega arith
-
-      parts : sorts (f.held ++ ((w.put_back ++ goal.blanks) ++ f.rest)) ≡ sorts f.held ++ (sorts w.put_back ++ (sorts goal.blanks ++ sorts f.rest))
-      parts =
-          sorts-append f.held ((w.put_back ++ goal.blanks) ++ f.rest)
-          ∙ ap (λ l. sorts f.held ++ l) (sorts-append (w.put_back ++ goal.blanks) f.rest ∙ ap (λ l. l ++ sorts f.rest) (sorts-append w.put_back goal.blanks) ∙ assoc-sorts (sorts w.put_back) (sorts goal.blanks) (sorts f.rest))
 
   -- after a page the dead cycles are none
   pub finish-shipped : (again : ℕ) (kind : Kind)
@@ -218,6 +212,15 @@ some-or-none (f ∷ fs) = inl (omega arith)
 
 -- ---- a firing
 
+-- no column is put out, and nothing that costs is put back
+pub record QuietOut (p : Params) (s : State) (w : Work) : Type 0 where
+  pub back : wait_cost w.put_back ≡ 0
+  pub columns : w.state.two_columns ≡ s.two_columns
+  pub first : w.state.first_column ≡ s.first_column
+  pub way : way_floats w.state.floats ≤ way_floats s.floats
+  pub cycles : w.state.dead_cycles ≡ s.dead_cycles + 1
+  pub fits : FloatsFit p w.state
+
 module _ (p : Params) (m : ℕ) (s : State) (total a : ℕ) (kind : Kind) (phase : Phase) (f : Fired) (calm : int_le p.interlinepenalty eject_penalty ≡ false)
     (holds : Holds p s a kind) (at : PhaseHolds s phase) (floats : FloatsFit p s)
     (weight : total + 2 * way_floats s.floats + credit kind ≤ m + 2 * a)
@@ -231,11 +234,11 @@ module _ (p : Params) (m : ℕ) (s : State) (total a : ℕ) (kind : Kind) (phase
 
   -- ---- a page before a float or note, and the float or note
 
-  none-again : pen_sort f.penalty ≡ hold ⊎ pen_sort f.penalty ≡ serve → a ≡ 0
+  pub none-again : pen_sort f.penalty ≡ hold ⊎ pen_sort f.penalty ≡ serve → a ≡ 0
   none-again (inl e) = subst (λ (x : Sort). BreakAgain a f.rest x) e well.region
   none-again (inr e) = subst (λ (x : Sort). BreakAgain a f.rest x) e well.region
 
-  cost-of : (x : Sort) → pen_sort f.penalty ≡ x → wait_cost f.rest + sort_cost x ≤ total
+  pub cost-of : (x : Sort) → pen_sort f.penalty ≡ x → wait_cost f.rest + sort_cost x ≤ total
   cost-of x e = subst (λ (y : Sort). wait_cost f.rest + sort_cost y ≤ total) e well.cost
 
   -- the phase goes on where no column is put out
@@ -247,12 +250,12 @@ module _ (p : Params) (m : ℕ) (s : State) (total a : ℕ) (kind : Kind) (phase
       by_phase second k e = record { columns = c ∙ k.columns; first = d ∙ k.first }
       by_phase ending k e = true-false (int_le eject_penalty f.penalty) (e refl) h
 
-  quiet-bounded : (w : Work) → int_le eject_penalty f.penalty ≡ false → a ≡ 0 → (x : Sort) → pen_sort f.penalty ≡ x → sort_cost x ≡ 1 → wait_cost w.put_back ≡ 0 → w.state.two_columns ≡ s.two_columns → w.state.first_column ≡ s.first_column → way_floats w.state.floats ≤ way_floats s.floats → w.state.dead_cycles ≡ s.dead_cycles + 1 → FloatsFit p w.state → Result w
-  quiet-bounded w h z x e one back columns first way dead fits r =
+  quiet-bounded : (w : Work) → int_le eject_penalty f.penalty ≡ false → a ≡ 0 → (x : Sort) → pen_sort f.penalty ≡ x → sort_cost x ≡ 1 → QuietOut p s w → Result w
+  quiet-bounded w h z x e one q r =
       let g = goal-out p f.penalty w in
-      finish p m f well.held w 0 closed phase (λ bs i. tt) refl (same-phase h (after p m f well.held w) (g.columns ∙ columns) (g.first ∙ first)) (λ e. true-false (int_le eject_penalty f.penalty) (well.ending e) h) fits
-      (sums (wait_cost w.put_back) (wait_cost f.rest) (way_floats w.state.floats) (way_floats s.floats) (credit kind) (sort_cost x) back (cost-of x e) one way (ap (λ n. m + 2 * n) z) weight)
-      (sums-with (wait_cost w.put_back) (wait_cost f.rest) (way_floats w.state.floats) (way_floats s.floats) (credit kind) (sort_cost x) w.state.dead_cycles s.dead_cycles (phase_cost phase) back (cost-of x e) one way (ap (λ n. m + 2 + 2 * n) z) dead bound)
+      finish p m f well.held w 0 closed phase (λ bs i. tt) refl (same-phase h (after p m f well.held w) (g.columns ∙ q.columns) (g.first ∙ q.first)) (λ e. true-false (int_le eject_penalty f.penalty) (well.ending e) h) q.fits
+      (sums (wait_cost w.put_back) (wait_cost f.rest) (way_floats w.state.floats) (way_floats s.floats) (credit kind) (sort_cost x) q.back (cost-of x e) one q.way (ap (λ n. m + 2 * n) z) weight)
+      (sums-with (wait_cost w.put_back) (wait_cost f.rest) (way_floats w.state.floats) (way_floats s.floats) (credit kind) (sort_cost x) w.state.dead_cycles s.dead_cycles (phase_cost phase) q.back (cost-of x e) one q.way (ap (λ n. m + 2 + 2 * n) z) q.cycles bound)
     where
       sums : (b r y y' c o : ℕ) → b ≡ 0 → r + o ≤ total → o ≡ 1 → y ≤ y' → m + 2 * a ≡ m + 2 * 0 → total + 2 * y' + c ≤ m + 2 * a → b + r + 2 * y + 0 ≤ m + 2 * 0
       sums b r y y' c o i j k l n q = omega arith
@@ -263,22 +266,32 @@ module _ (p : Params) (m : ℕ) (s : State) (total a : ℕ) (kind : Kind) (phase
   begun-fits : (t : State) → t.floats ≡ s.floats → t.two_columns ≡ s.two_columns → FloatsFit p t
   begun-fits t e c = fits-same p s t e c floats
 
-  pub at-hold : int_le eject_penalty f.penalty ≡ false → pen_sort f.penalty ≡ hold → Result (Out.hold f.body w0)
-  at-hold h e = quiet-bounded (Out.hold f.body w0) h (none-again (inl e)) hold e refl refl refl refl (omega arith) refl (begun-fits (Out.hold f.body w0).state refl refl)
+  pub hold-quiet : QuietOut p s (Out.hold f.body w0)
+  hold-quiet = record { back = refl; columns = refl; first = refl; way = omega arith; cycles = refl; fits = begun-fits (Out.hold f.body w0).state refl refl }
 
-  pub at-serve : (vert : Bool) → int_le eject_penalty f.penalty ≡ false → pen_sort f.penalty ≡ serve → Result (Text.float_or_note p vert f.body w0)
-  at-serve vert h e =
-      let w = Text.float_or_note p vert f.body w0 in
-      let v : Work = record w0 { state = record w0.state { held_page = []; boxes = Columns.emptied_boxes w0.state.boxes } } in
+  pub serve-quiet : (vert : Bool) → QuietOut p s (Text.float_or_note p vert f.body w0)
+  serve-quiet vert =
       let x : Served (Fits p) (record w0 { state = record w0.state { held_page = []; boxes = Columns.emptied_boxes w0.state.boxes } }) (Text.float_or_note p vert f.body w0) = served (Fits p) (λ f h. h) p calm vert f.body w0 well.body in
       let y : Served Single (record w0 { state = record w0.state { held_page = []; boxes = Columns.emptied_boxes w0.state.boxes } }) (Text.float_or_note p vert f.body w0) = served Single (λ f h. h) p calm vert f.body w0 well.body in
-      quiet-bounded w h (none-again (inr e)) serve e refl x.cost x.columns x.first x.floats x.cycles
-      (record {
-        fit = (x.all floats.fit floats.current).0;
-        current = (x.all floats.fit floats.current).1;
-        single = λ k. let z = floats.single (sym x.columns ∙ k) in y.all z.0 z.1;
-        double = record { wide = subst (AllByRecursion Wide) (sym x.double) floats.double.wide; none = λ k. x.double ∙ floats.double.none (sym x.columns ∙ k) };
-      })
+      record {
+        back = x.cost;
+        columns = x.columns;
+        first = x.first;
+        way = x.floats;
+        cycles = x.cycles;
+        fits = record {
+          fit = (x.all floats.fit floats.current).0;
+          current = (x.all floats.fit floats.current).1;
+          single = λ k. let z = floats.single (sym x.columns ∙ k) in y.all z.0 z.1;
+          double = record { wide = subst (AllByRecursion Wide) (sym x.double) floats.double.wide; none = λ k. x.double ∙ floats.double.none (sym x.columns ∙ k) };
+        };
+      }
+
+  pub at-hold : int_le eject_penalty f.penalty ≡ false → pen_sort f.penalty ≡ hold → Result (Out.hold f.body w0)
+  at-hold h e = quiet-bounded (Out.hold f.body w0) h (none-again (inl e)) hold e refl hold-quiet
+
+  pub at-serve : (vert : Bool) → int_le eject_penalty f.penalty ≡ false → pen_sort f.penalty ≡ serve → Result (Text.float_or_note p vert f.body w0)
+  at-serve vert h e = quiet-bounded (Text.float_or_note p vert f.body w0) h (none-again (inr e)) serve e refl (serve-quiet vert)
 
   -- ---- an ordinary firing
 
@@ -299,23 +312,23 @@ module _ (p : Params) (m : ℕ) (s : State) (total a : ℕ) (kind : Kind) (phase
   abbrev ordinary-goal : GoalOut p f.penalty (Columns.ordinary p f.body w0) (Out.next_goal p f.penalty (Columns.ordinary p f.body w0))
   ordinary-goal = goal-out p f.penalty (Columns.ordinary p f.body w0)
 
-  out-fit : TextOut (Fits p) p w0 o
+  pub out-fit : TextOut (Fits p) p w0 o
   out-fit = ordinary-out (Fits p) p f.body w0
 
-  o-fits : FloatsFit p o.state
+  pub o-fits : FloatsFit p o.state
   o-fits = text-fits o out-fit (ordinary-out Single p f.body w0) (ordinary-double p f.body w0)
 
   -- what is put back is nothing, so the clears that are to come stand in the rest
-  o-region : Again a (sorts f.rest) → (bs : List PlainNode) → AllByRecursion Idle (sorts bs) → Again a (sorts o.put_back ++ (sorts bs ++ sorts f.rest))
+  pub o-region : Again a (sorts f.rest) → (bs : List PlainNode) → AllByRecursion Idle (sorts bs) → Again a (sorts o.put_back ++ (sorts bs ++ sorts f.rest))
   o-region h bs i = subst (λ (ns : List PlainNode). Again a (sorts ns ++ (sorts bs ++ sorts f.rest))) (sym out-fit.back) (again-idle a (sorts bs) (sorts f.rest) i h)
 
-  o-way : (x y : ℕ) → waiting_floats o.state.floats + x ≤ waiting_floats s.floats + y → way_floats o.state.floats + x ≤ way_floats s.floats + y
+  pub o-way : (x y : ℕ) → waiting_floats o.state.floats + x ≤ waiting_floats s.floats + y → way_floats o.state.floats + x ≤ way_floats s.floats + y
   o-way x y h = sums (waiting_floats o.state.floats) (waiting_floats s.floats) (current_floats o.state.floats.current) (current_floats s.floats.current) (ap current_floats out-fit.current) h
     where
       sums : (b d e g : ℕ) → e ≡ g → b + x ≤ d + y → b + e + x ≤ d + g + y
       sums b d e g i j = omega arith
 
-  o-cost : wait_cost o.put_back ≡ 0
+  pub o-cost : wait_cost o.put_back ≡ 0
   o-cost = ap wait_cost out-fit.back
 
   -- where the page is out: what is known afterwards, and how the floats and the credit changed

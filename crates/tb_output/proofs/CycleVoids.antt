@@ -1,6 +1,6 @@
 -- A clear without footnotes lowers what is left of the firings without a page, or ships a page.
 use Rattle.std.proofs.Common.{◌≡◌, refl, sym, ◌∙◌, ap, subst, ℕ, suc, ◌+◌, ◌*◌, ◌≤◌, inl, inr, ◌⊎◌, Bool, true, false, List, [], ◌∷◌, ◌++◌, length, Option, Some, None, arith}
-use Rattle.std.specs.Prelude.{int_le, ◌||◌, if◌then◌else◌}
+use Rattle.std.specs.Prelude.{int_le, if◌then◌else◌}
 use Rattle.std.specs.List.{AllByRecursion}
 use Rattle.std.proofs.lemmas.List.{append_assoc, append-nil}
 use Rattle.tb_scaled.specs.Scaled.{eject_penalty}
@@ -12,8 +12,6 @@ use Rattle.tb_builder.proofs.FittingFired.{Fitted}
 use Rattle.tb_builder.proofs.PausedPages.{Paused}
 use Rattle.tb_float.specs.Lists.{FloatLists}
 use Rattle.tb_output.specs.State.{State, Work, begun, footnotes, has_floats}
-use Rattle.tb_output.specs.Columns
-use Rattle.tb_output.specs.Text
 use Rattle.tb_output.specs.Clear
 use Rattle.tb_output.specs.Out
 use Rattle.tb_output.proofs.Sorts.{Sort, clear, sorts}
@@ -25,7 +23,7 @@ use Rattle.tb_output.proofs.ClearOutcomes.{NoneWait, Fits, Single, WaitsWell, Ho
 use Rattle.tb_output.proofs.WideLemmas.{KeepsDouble, clear_by-double}
 use Rattle.tb_output.proofs.ServeOutcomes.{AllCurrent, current_floats, way_floats}
 use Rattle.tb_output.proofs.CycleStates.{Kind, any, doubled, once, topped, ready, halted, clean, single, closed, credit, IsSecond, Holds, Phase, starting, second, ending, phase_cost, PhaseHolds, FloatsFit, Bounded, GoalOut, goal-out}
-use Rattle.tb_output.proofs.CycleFirings.{FiresWell, after, waits, finish, finish-shipped, none-count, none-left, true-false, clear-no-hold, some-or-none, serve-sort, hold-sort, at-ordinary, at-serve, at-hold}
+use Rattle.tb_output.proofs.CycleFirings.{FiresWell, after, waits, finish, finish-shipped, none-count, none-left, true-false, clear-no-hold, some-or-none, at-ordinary, at-serve, at-hold, output-cases}
 use Rattle.tb_output.proofs.CycleClears.{left-of, region, cost, at-most-one, not-once, not-halted, with-notes}
 
 -- ---- what is put back behind the front
@@ -100,7 +98,7 @@ module _ (p : Params) (m : ℕ) (s : State) (total a : ℕ) (kind : Kind) (phase
   pub v-back : v.put_back ≡ front ++ (half_nodes c.half ++ rest_nodes c.rest)
   v-back = c.follows.back ∙ halved-back c.rest c.half (gathered p f.body w0)
 
-  v-cost : wait_cost v.put_back ≡ 3 * bit c.half + 3 * bit c.rest
+  pub v-cost : wait_cost v.put_back ≡ 3 * bit c.half + 3 * bit c.rest
   v-cost =
       let z = well.blank clears void in
       let e : wait_cost (front ++ (half_nodes c.half ++ rest_nodes c.rest)) ≡ wait_cost front + wait_cost (half_nodes c.half ++ rest_nodes c.rest) = cost-append front (half_nodes c.half ++ rest_nodes c.rest) in
@@ -113,7 +111,7 @@ module _ (p : Params) (m : ℕ) (s : State) (total a : ℕ) (kind : Kind) (phase
   assoc-sorts [] ys zs = refl
   assoc-sorts (x ∷ xs) ys zs = ap (λ l. x ∷ l) (assoc-sorts xs ys zs)
 
-  v-region : (bs : List PlainNode) → AllByRecursion Idle (sorts bs) → Again later (sorts v.put_back ++ (sorts bs ++ sorts f.rest))
+  pub v-region : (bs : List PlainNode) → AllByRecursion Idle (sorts bs) → Again later (sorts v.put_back ++ (sorts bs ++ sorts f.rest))
   v-region bs i =
       let z = well.blank clears void in
       let r : Again d (sorts f.rest) = region p m s total a kind phase f calm holds at floats weight bound well special clears in
@@ -143,7 +141,7 @@ module _ (p : Params) (m : ℕ) (s : State) (total a : ℕ) (kind : Kind) (phase
       sums : (b d e g : ℕ) → e ≡ g → b + x ≤ d + y → b + e + x ≤ d + g + y
       sums b d e g i j = omega arith
 
-  v-fits : FloatsFit p v.state
+  pub v-fits : FloatsFit p v.state
   v-fits =
       let x : KeepsDouble w0 v = clear_by-double p f.body w0 None in
       record {
@@ -154,7 +152,7 @@ module _ (p : Params) (m : ℕ) (s : State) (total a : ℕ) (kind : Kind) (phase
       }
 
   -- the dead cycles rise by one, or a page is out
-  v-cycles : v.refused ≡ false → (v.state.dead_cycles ≡ s.dead_cycles + 1) ⊎ (v.state.dead_cycles ≡ 0)
+  pub v-cycles : v.refused ≡ false → (v.state.dead_cycles ≡ s.dead_cycles + 1) ⊎ (v.state.dead_cycles ≡ 0)
   v-cycles r = by_cycles (c.follows.cycles r)
     where
       e : (more c.rest (halves c.half (gathered p f.body w0))).state.dead_cycles ≡ s.dead_cycles + 1
@@ -192,7 +190,7 @@ module _ (p : Params) (m : ℕ) (s : State) (total a : ℕ) (kind : Kind) (phase
   plus-zero : (n x y : ℕ) → x + n ≤ y → x + n ≤ y + 0
   plus-zero n x y h = omega arith
 
-  v-least : way_floats v.state.floats ≤ way_floats s.floats
+  pub v-least : way_floats v.state.floats ≤ way_floats s.floats
   v-least = sums (way_floats v.state.floats) (way_floats s.floats) (v-way 0 0 (zeros (waiting_floats v.state.floats) (waiting_floats s.floats) v-floats))
     where
       zeros : (x y : ℕ) → x ≤ y → x + 0 ≤ y + 0
@@ -278,10 +276,10 @@ module _ (p : Params) (m : ℕ) (s : State) (total a : ℕ) (kind : Kind) (phase
         ∙ ap (λ ns. front ++ (ns ++ f.rest)) (append_assoc (half_nodes true) (rest_nodes c.rest) v-goal.blanks)
         ∙ ap (λ ns. front ++ ns) (append_assoc (half_nodes true) (rest_nodes c.rest ++ v-goal.blanks) f.rest)
 
-    is_second : IsSecond v-done
+    pub is_second : IsSecond v-done
     is_second = record { columns = v-goal.columns ∙ v-columns ∙ two; first = v-goal.first ∙ first }
 
-    paused : Paused v-done.waiting
+    pub paused : Paused v-done.waiting
     paused = subst Paused (sym waiting) ((well.blank clears void).1 tail).1
 
     once-holds : v.state.floats.double ≡ [] → Holds p v-done later once
@@ -440,23 +438,12 @@ module _ (p : Params) (m : ℕ) (s : State) (total a : ℕ) (kind : Kind) (phase
       by_notes (Some notes) e r = with-notes p m s total a kind phase f calm holds at floats weight bound well h k notes e r
 
   outputs : Result (Out.output_by p f started)
-  outputs = by_tests (int_le eject_penalty f.penalty) (Out.is_int f.penalty Out.clear_penalty) (Out.is_int f.penalty Out.par_penalty) (Out.is_int f.penalty Out.vert_penalty) refl refl refl refl
-    where
-      left-or : (x y : Bool) → x ≡ true → (x || y) ≡ true
-      left-or x y h = grind (arith, h)
-
-      right-or : (x y : Bool) → y ≡ true → (x || y) ≡ true
-      right-or x y h = grind (arith, h)
-
-      none-or : (x y : Bool) → x ≡ false → y ≡ false → (x || y) ≡ false
-      none-or x y h k = grind (arith, h, k)
-
-      by_tests : (t k x y : Bool) → int_le eject_penalty f.penalty ≡ t → Out.is_int f.penalty Out.clear_penalty ≡ k → Out.is_int f.penalty Out.par_penalty ≡ x → Out.is_int f.penalty Out.vert_penalty ≡ y → Result (if t then Columns.ordinary p f.body started else (if k then Clear.clear p f.body started else (if x then Text.float_or_note p false f.body started else (if y then Text.float_or_note p true f.body started else Out.hold f.body started))))
-      by_tests true k x y e g i j = at-ordinary p m s total a kind phase f calm holds at floats weight bound well e
-      by_tests false true x y e g i j = at-clear e g
-      by_tests false false true y e g i j = at-serve p m s total a kind phase f calm holds at floats weight bound well false e (serve-sort f.penalty e g (left-or (Out.is_int f.penalty Out.par_penalty) (Out.is_int f.penalty Out.vert_penalty) i))
-      by_tests false false false true e g i j = at-serve p m s total a kind phase f calm holds at floats weight bound well true e (serve-sort f.penalty e g (right-or (Out.is_int f.penalty Out.par_penalty) (Out.is_int f.penalty Out.vert_penalty) j))
-      by_tests false false false false e g i j = at-hold p m s total a kind phase f calm holds at floats weight bound well e (hold-sort f.penalty e g (none-or (Out.is_int f.penalty Out.par_penalty) (Out.is_int f.penalty Out.vert_penalty) i j) well.regular)
+  outputs =
+      output-cases p f started Result well.regular
+      (λ e. at-ordinary p m s total a kind phase f calm holds at floats weight bound well e)
+      (λ e k. at-clear e k)
+      (λ vert e x. at-serve p m s total a kind phase f calm holds at floats weight bound well vert e x)
+      (λ e x. at-hold p m s total a kind phase f calm holds at floats weight bound well e x)
 
   -- a firing keeps the bound
   pub out-bounded : (Out.out p s f).refused ≡ false → Bounded p m (Out.out p s f).state

@@ -45,7 +45,7 @@ abbrev pub Ended : Bool → List PlainNode → Type 0
 Ended b [] = Unit {0}
 Ended b (n ∷ ns) = EndsAt b n.kind × Ended (is_flat n.kind) ns
 
-ends-looser : (b : Bool) (k : PlainKind) → EndsAt false k → EndsAt b k
+pub ends-looser : (b : Bool) (k : PlainKind) → EndsAt false k → EndsAt b k
 ends-looser b (plain (hbox w h d)) e = tt
 ends-looser b (plain (rule name h d)) e = tt
 ends-looser b (plain (skip g)) e = tt
@@ -132,7 +132,7 @@ pen-no-clear p h k = by_tests (int_le p eject_penalty) (is_int p eject_penalty) 
     by_tests true true c x z u v w h = let no : ⊥ = grind (arith, v) in absurd no
     by_tests false e c x z u v w h = let no : ⊥ = grind (arith, u) in absurd no
 
-free-kind : (k : PlainKind) → kind_cost k ≡ 0 → EndsAt false k
+pub free-kind : (k : PlainKind) → kind_cost k ≡ 0 → EndsAt false k
 free-kind (plain (hbox w h d)) e = tt
 free-kind (plain (rule name h d)) e = tt
 free-kind (plain (skip g)) e = tt

@@ -2,6 +2,7 @@
 use Rattle.std.proofs.Common.{◌≡◌, refl, sym, subst, ◌∙◌, ap, ℕ, suc, ◌+◌, ◌<◌, pos, Bool, true, false, List, [], ◌∷◌, ◌++◌, length, take, drop, None, append_assoc, append-nil, arith}
 use Rattle.std.specs.Prelude.{if◌then◌else◌, int_lt, pred, map}
 use Rattle.std.proofs.lemmas.Bool.{true≢false}
+use Rattle.std.proofs.lemmas.List.{map-append}
 use Rattle.tb_scaled.specs.Scaled.{min_ℤ}
 use Rattle.tb_node.specs.declared.Act.{Act}
 use Rattle.tb_node.specs.Plain.{act, PlainNode, without_insertions}
@@ -17,10 +18,10 @@ use Rattle.tb_builder.specs.Places.{NoActs}
 use Rattle.tb_builder.specs.Contents.{Contents, laid, reach_ahead, reach_whole, places_of}
 use Rattle.tb_builder.specs.Next.{BoxesFit, LaidFits, NextFits, Stays, Goes, Stops, TriedIs, ActedIs, EmptyIs, fired_page}
 use Rattle.tb_column.specs.Column.{PlainSent}
-use Rattle.tb_output.specs.State.{State, ask_of, Recorded, Work}
+use Rattle.tb_output.specs.State.{State, ask_of, Recorded, emptied, Work}
 use Rattle.tb_output.specs.Out.{out}
 use Rattle.tb_run.specs.Run.{RunEvent, offered, sent, done, dead_cycles, page_limit, node_limit, Progress, progress, after_events, held_count, Step, ends, goes_on, after_firing, fire, after_progress, step}
-use Rattle.tb_run.specs.PlainRun.{sent_among, Shown, last, next, step_shown}
+use Rattle.tb_run.specs.PlainRun.{sent_among, Shown, last, next, step_shown, step_events, IsLed}
 use Rattle.tb_run.specs.PageMade.{between_pages, page_reach, page_frozen, IsSamePage, IsUnderway, IsStopped, IsFilled, work_shown, firing_shown, tries_left}
 
 -- ---- a page is filled
@@ -97,21 +98,24 @@ module _ (p : Params) (s : State) where
   quiet-more (offered u ∷ es) t e = quiet-more es t e
   quiet-more (sent u ∷ es) t e = cc
 
-  pub filled-start : IsFilled p s (between_pages p s)
-  filled-start = record { events = []; records = []; quiet = refl; underway = λ e. underway-start; at_stop = λ e. absurd (true≢false (sym e)) }
+  pub filled-start : IsFilled p s [] (between_pages p s)
+  filled-start = record { events = []; records = []; are = refl; quiet = refl; underway = λ e. underway-start; at_stop = λ e. absurd (true≢false (sym e)) }
 
   -- a place was tried
-  pub filled-tried : (c d : Contents) (t : Try) → IsFilled p s c → c.stopped ≡ false → TriedIs t (laid c (ask_of p s)) (reach_ahead c (ask_of p s)) (places_of c (ask_of p s)) (ask_of p s) d → Stays c d (ask_of p s)
-      → IsFilled p s d
-  filled-tried c d t h on g k = by_stop (is_stop g.place) refl
+  pub filled-tried : (ts : List Try) (c d : Contents) (t : Try) → IsFilled p s ts c → c.stopped ≡ false → TriedIs t (laid c (ask_of p s)) (reach_ahead c (ask_of p s)) (places_of c (ask_of p s)) (ask_of p s) d → Stays c d (ask_of p s)
+      → IsFilled p s (ts ++ t ∷ []) d
+  filled-tried ts c d t h on g k = by_stop (is_stop g.place) refl
     where
-      by_stop : (x : Bool) → is_stop g.place ≡ x → IsFilled p s d
+      are-more : (u : Try) → t ≡ u → h.events ++ offered u ∷ [] ≡ map offered (ts ++ t ∷ [])
+      are-more u is = (λ i. h.are i ++ offered (sym is i) ∷ []) ∙ sym (map-append offered ts (t ∷ []))
+
+      by_stop : (x : Bool) → is_stop g.place ≡ x → IsFilled p s (ts ++ t ∷ []) d
       by_stop false e =
           let v = underway-tried h.events h.records s c d (h.underway on) k g.line g.place (g.goes e) in
-          record { events = _; records = _; quiet = quiet-more h.events _ h.quiet; underway = λ o. v; at_stop = λ o. absurd (true≢false (sym o ∙ v.stopped)) }
+          record { events = _; records = _; are = are-more _ g.made; quiet = quiet-more h.events _ h.quiet; underway = λ o. v; at_stop = λ o. absurd (true≢false (sym o ∙ v.stopped)) }
       by_stop true e =
           let v = stopped-tried h.events h.records s c d (h.underway on) k g.line g.place (g.stops e) in
-          record { events = _; records = _; quiet = quiet-more h.events _ h.quiet; underway = λ o. absurd (true≢false (sym v.stopped ∙ o)); at_stop = λ o. v }
+          record { events = _; records = _; are = are-more _ g.made; quiet = quiet-more h.events _ h.quiet; underway = λ o. absurd (true≢false (sym v.stopped ∙ o)); at_stop = λ o. v }
 
   -- each place that is tried leaves fewer calls
   pub tries-fewer : (c d : Contents) (t : Try) → c.stopped ≡ false → TriedIs t (laid c (ask_of p s)) (reach_ahead c (ask_of p s)) (places_of c (ask_of p s)) (ask_of p s) d
@@ -141,8 +145,8 @@ module _ (p : Params) (s : State) where
   }
 
   -- all that is added up fits, as at the start of the page
-  pub fits-filled : (c : Contents) → NextFits (between_pages p s) (ask_of p s) → IsFilled p s c → NextFits c (ask_of p s)
-  fits-filled c f h = by_stop c.stopped refl
+  pub fits-filled : (ts : List Try) (c : Contents) → NextFits (between_pages p s) (ask_of p s) → IsFilled p s ts c → NextFits c (ask_of p s)
+  fits-filled ts c f h = by_stop c.stopped refl
     where
       by_stop : (x : Bool) → c.stopped ≡ x → NextFits c (ask_of p s)
       by_stop true e = let v = h.at_stop e in fits-again c v.same v.whole f
@@ -227,9 +231,9 @@ module _ (p : Params) (s : State) where
       ∙ sym (fired-from (page_frozen p s) s.boxes (page_reach p s) w h.places h.passed h.beyond)
 
   -- the page fires
-  pub step-fires : (c : Contents) → IsFilled p s c → c.stopped ≡ true → step_shown (step p s) ≡ firing_shown p s (fired_page c (ask_of p s))
+  pub step-fires : (ts : List Try) (c : Contents) → IsFilled p s ts c → c.stopped ≡ true → step_shown (step p s) ≡ firing_shown p s (fired_page c (ask_of p s))
   unfolding step
-  step-fires c h on =
+  step-fires ts c h on =
       let v = h.at_stop on in
       let w = page_reach p s in
       let q : Progress = record { state = s; events = h.events; records = h.records; fault = None } in
@@ -239,15 +243,58 @@ module _ (p : Params) (s : State) where
       ∙ ap (firing_shown p s) (sym (fired-same h.events h.records s c v))
 
   -- nothing waits any more, and the page does not fire
-  pub step-empty : (c d : Contents) → IsFilled p s c → c.stopped ≡ false → EmptyIs (laid c (ask_of p s)) (reach_ahead c (ask_of p s)) (places_of c (ask_of p s)) (ask_of p s) d → step_shown (step p s) ≡ last [] (done d.page)
+  pub step-empty : (ts : List Try) (c d : Contents) → IsFilled p s ts c → c.stopped ≡ false → EmptyIs (laid c (ask_of p s)) (reach_ahead c (ask_of p s)) (places_of c (ask_of p s)) (ask_of p s) d → step_shown (step p s) ≡ last [] (done d.page)
   unfolding step
-  step-empty c d h on g =
+  step-empty ts c d h on g =
       let v = h.underway on in
       let w = page_reach p s in
       let q : Progress = record { state = s; events = h.events ++ []; records = h.records ++ []; fault = None } in
       ap (λ (q : Progress). step_shown (after_progress p w q q.fault)) (v.so_far ∙ ap (λ (w : Reach). after_events h.events h.records (progress p w.reached (least_cost (places_of c (ask_of p s))) s)) g.reach)
       ∙ ap step_shown (else-step w.fires (fire p w q) _ (v.fires ∙ ap (λ (w : Reach). w.fires) g.reach))
       ∙ (λ i. last ((ap sent_among (append-nil h.events) ∙ h.quiet) i) (done ((v.passed ∙ ap (λ (w : Reach). w.passed) g.reach) i)))
+
+-- ---- the tries of a step
+
+-- events that begin with tries, and send these then
+led-by : (st : Step) (ts : List Try) (es : List RunEvent) (ws : List PlainSent) → es ≡ map offered ts → sent_among es ≡ [] → step_events st ≡ es ++ map sent ws → IsLed ts st
+led-by st ts es ws are quiet e =
+    e ∙ (λ i. are i ++ map sent (sym (sent-after es ws quiet) i)) ∙ ap (λ xs. map offered ts ++ map sent (sent_among xs)) (sym e)
+
+module _ (p : Params) (es : List RunEvent) (rs : List Recorded) where
+  work-events : (w : Work) → step_events (after_firing p es rs w) ≡ es ++ map sent w.sent
+  work-events w = by_tests w.refused (int_lt p.maxnodes (pos (held_count w.state)))
+    where
+      by_tests : (a b : Bool)
+          → step_events (if a then ends (es ++ map sent w.sent) (rs ++ w.records) (page_limit (pred w.state.page)) else (if b then ends (es ++ map sent w.sent) (rs ++ w.records) (node_limit (held_count w.state)) else goes_on (es ++ map sent w.sent) (rs ++ w.records) w.state))
+          ≡ es ++ map sent w.sent
+      by_tests true b = refl
+      by_tests false true = refl
+      by_tests false false = refl
+
+  cycles-led : (ts : List Try) (n : ℕ) (w : Work) (t : Bool) → es ≡ map offered ts → sent_among es ≡ [] → IsLed ts (if t then after_firing p es rs w else ends es rs (dead_cycles n))
+  cycles-led ts n w true are quiet = led-by (after_firing p es rs w) ts es w.sent are quiet (work-events w)
+  cycles-led ts n w false are quiet = led-by (ends es rs (dead_cycles n)) ts es [] are quiet (sym (append-nil es))
+
+module _ (p : Params) (s : State) where
+  pub fires-led : (ts : List Try) (c : Contents) → IsFilled p s ts c → c.stopped ≡ true → IsLed ts (step p s)
+  unfolding step
+  fires-led ts c h on =
+      let v = h.at_stop on in
+      let w = page_reach p s in
+      let q : Progress = record { state = s; events = h.events; records = h.records; fault = None } in
+      subst (IsLed ts) (sym (ap (λ (q : Progress). after_progress p w q q.fault) v.so_far ∙ if-step w.fires (fire p w q) _ v.fires))
+      (cycles-led p h.events h.records ts s.dead_cycles (out p s (fired_of (ask_of p s) (foot_class p ∷ []) s.boxes w)) (int_lt (pos s.dead_cycles) p.maxdeadcycles) h.are h.quiet)
+
+  pub empty-led : (ts : List Try) (c d : Contents) → IsFilled p s ts c → c.stopped ≡ false → EmptyIs (laid c (ask_of p s)) (reach_ahead c (ask_of p s)) (places_of c (ask_of p s)) (ask_of p s) d → IsLed ts (step p s)
+  unfolding step
+  empty-led ts c d h on g =
+      let v = h.underway on in
+      let w = page_reach p s in
+      let q : Progress = record { state = s; events = h.events ++ []; records = h.records ++ []; fault = None } in
+      subst (IsLed ts)
+      (sym (ap (λ (q : Progress). after_progress p w q q.fault) (v.so_far ∙ ap (λ (w : Reach). after_events h.events h.records (progress p w.reached (least_cost (places_of c (ask_of p s))) s)) g.reach)
+      ∙ else-step w.fires (fire p w q) _ (v.fires ∙ ap (λ (w : Reach). w.fires) g.reach)))
+      (led-by (ends q.events (q.records ++ emptied q.state.floats ∷ []) (done w.passed)) ts h.events [] h.are h.quiet refl)
 
 -- ---- no act is reached
 

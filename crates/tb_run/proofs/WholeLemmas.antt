@@ -1,5 +1,5 @@
 -- The routine between its calls.
-use Rattle.std.proofs.Common.{ℤ, ◌≡◌, refl, sym, subst, ◌∙◌, ap, ℕ, ◌<◌, ◌≤◌, pos, Option, Bool, true, false, List, [], ◌∷◌, ◌++◌, None, IsSome, arith}
+use Rattle.std.proofs.Common.{ℤ, ◌≡◌, refl, sym, subst, ◌∙◌, ap, ℕ, ◌<◌, ◌≤◌, pos, Option, Bool, true, false, List, [], ◌∷◌, ◌++◌, None, IsSome, append_assoc, append-nil, arith}
 use Rattle.std.specs.Prelude.{All, ◌≤ℤ◌, IfNone}
 use Rattle.std.proofs.lemmas.Int.{ints}
 use Rattle.std.specs.List.{AllByRecursion}
@@ -29,11 +29,12 @@ use Rattle.tb_output.proofs.StandLemmas.{Stands, machine-stands}
 use Rattle.tb_output.proofs.MachineLemmas.{state-is, floatless-stands, lists-live, fresh-apart}
 use Rattle.tb_run.specs.declared.routine.Routine.{Routine}
 use Rattle.tb_run.specs.declared.routine.Ending.{Ending}
-use Rattle.tb_run.specs.PlainRun.{plain_state}
+use Rattle.tb_run.specs.Run.{step}
+use Rattle.tb_run.specs.PlainRun.{plain_state, noted, IsLed}
 use Rattle.tb_run.specs.PageMade.{between_pages, page_reach, IsUnderway, IsFilled, tries_left}
 use Rattle.tb_run.specs.Servable.{AreRunnable, IsTamePage, IsServedPage}
 use Rattle.tb_run.specs.Turning.{held_in, state_of, AreNotBuilders, IsWhole, IsBounded, IsSettled, IsReady, IsFiring, IsOver}
-use Rattle.tb_run.proofs.PageMadeLemmas.{filled-start, filled-tried, tries-fewer, fits-filled, fired-same, step-fires, step-empty, acted-none}
+use Rattle.tb_run.proofs.PageMadeLemmas.{filled-start, filled-tried, tries-fewer, fits-filled, fired-same, step-fires, step-empty, fires-led, empty-led, acted-none}
 use Rattle.tb_run.proofs.ServableLemmas.{tame-pruned, tame-no_acts}
 use Rattle.tb_run.proofs.AfterFiring.{served-fits, laid-sized, laid-few, tame-page, served-page}
 
@@ -71,26 +72,47 @@ ready-counted p r q o runs h same bounded within none =
 
 -- ---- a page is filled
 
--- so far the builder was called alone
-pub record IsFilling (p : Params) (r q : Routine) : Type 0 where
-  pub filled : IsFilled p (state_of r) (held_in q)
+-- so far the builder was called alone, and these places were tried
+pub record IsFilling (p : Params) (r : Routine) (ts : List Try) (q : Routine) : Type 0 where
+  pub filled : IsFilled p (state_of r) ts (held_in q)
   pub sound : IsSound q.builder q.store
   pub machine : q.machine ≡ r.machine
   pub same : AllByRecursion (Stands r.store q.store) (machine_lists r.machine)
   pub apart : AreNotBuilders q (machine_lists r.machine)
 
+-- the tries so far, where they are wanted
+pub record IsTrying (p : Params) (wanted : Bool) (r : Routine) (old : List Try) (q : Routine) (new : List Try) : Type 0 where
+  pub tries : List Try
+  pub filling : IsFilling p r tries q
+  pub grown : new ≡ old ++ noted wanted tries
+
+noted-more : (wanted : Bool) (old new ts : List Try) (t : Try) → new ≡ old ++ noted wanted ts → new ++ noted wanted (t ∷ []) ≡ old ++ noted wanted (ts ++ t ∷ [])
+noted-more true old new ts t is = ap (λ xs. xs ++ t ∷ []) is ∙ append_assoc old ts (t ∷ [])
+noted-more false old new ts t is = append-nil new ∙ is
+
+-- one more was tried
+pub trying-more : (p : Params) (wanted : Bool) (r : Routine) (old : List Try) (q d : Routine) (now new : List Try) (t : Try) (h : IsTrying p wanted r old q now) → IsFilling p r (h.tries ++ t ∷ []) d → new ≡ now ++ noted wanted (t ∷ []) → IsTrying p wanted r old d new
+trying-more p wanted r old q d now new t h filling is = record { tries = h.tries ++ t ∷ []; filling = filling; grown = is ∙ noted-more wanted old now h.tries t h.grown }
+
 stand-still : (store : Lists Node) (ls : List ℕ) → AllByRecursion (Stands store store) ls
 stand-still store [] = tt
 stand-still store (l ∷ ls) = (refl, stand-still store ls)
 
-pub filling-start : (p : Params) (r : Routine) → IsReady p r → IsFilling p r r
+pub filling-start : (p : Params) (r : Routine) → IsReady p r → IsFilling p r [] r
 filling-start p r h = record {
-  filled = subst (IsFilled p (state_of r)) (sym h.settled.between) (filled-start p (state_of r));
+  filled = subst (IsFilled p (state_of r) []) (sym h.settled.between) (filled-start p (state_of r));
   sound = h.settled.whole.builder;
   machine = refl;
   same = stand-still r.store (machine_lists r.machine);
   apart = h.settled.whole.apart;
 }
+
+pub trying-start : (p : Params) (wanted : Bool) (r : Routine) (old : List Try) → IsReady p r → IsTrying p wanted r old r old
+trying-start p wanted r old h = record { tries = []; filling = filling-start p r h; grown = none wanted }
+  where
+    none : (w : Bool) → old ≡ old ++ noted w []
+    none true = sym (append-nil old)
+    none false = sym (append-nil old)
 
 -- lists that were live and not the builder's are so again after a call
 kept : (store mid new : Lists Node) (b d : Routine) → b.store ≡ mid → d.store ≡ new → Keeps (ids_of b.builder) b.store (ids_of d.builder) d.store → (ls : List ℕ) → AllByRecursion (IsLive store) ls
@@ -101,15 +123,15 @@ kept store mid new b d e f k (l ∷ ls) live same apart =
     let rest = kept store mid new b d e f k ls live.1 same.1 apart.1 in
     ((k.others l here apart.0 ∙ same.0, rest.0), (k.apart l here apart.0, rest.1))
 
-module _ (p : Params) (r q d : Routine) (ready : IsReady p r) (h : IsFilling p r q) (k : Keeps (ids_of q.builder) q.store (ids_of d.builder) d.store) where
+module _ (p : Params) (r : Routine) (ts : List Try) (q d : Routine) (ready : IsReady p r) (h : IsFilling p r ts q) (k : Keeps (ids_of q.builder) q.store (ids_of d.builder) d.store) where
   both : AllByRecursion (Stands r.store d.store) (machine_lists r.machine) × AreNotBuilders d (machine_lists r.machine)
   both = kept r.store q.store d.store q d refl refl k (machine_lists r.machine) (lists-live r.machine r.store ready.settled.whole.machine) h.same h.apart
 
   -- a place was tried
-  filling-by : (t : Try) (b : Bool) → (held_in q).stopped ≡ b → NextIs b (events.Try t) (held_in q) (ask_of p (state_of r)) (held_in d) d.store → IsSound d.builder d.store → d.machine ≡ q.machine → IsFilling p r d
+  filling-by : (t : Try) (b : Bool) → (held_in q).stopped ≡ b → NextIs b (events.Try t) (held_in q) (ask_of p (state_of r)) (held_in d) d.store → IsSound d.builder d.store → d.machine ≡ q.machine → IsFilling p r (ts ++ t ∷ []) d
   filling-by t true e n sound m = absurd n
   filling-by t false e n sound m = record {
-    filled = filled-tried p (state_of r) (held_in q) (held_in d) t h.filled e n.0 n.1;
+    filled = filled-tried p (state_of r) ts (held_in q) (held_in d) t h.filled e n.0 n.1;
     sound = sound;
     machine = m ∙ h.machine;
     same = both.0;
@@ -140,14 +162,14 @@ module _ (p : Params) (r q d : Routine) (ready : IsReady p r) (h : IsFilling p r
 abbrev plain_of_routine : Params → Routine → State
 plain_of_routine p r = plain_state p (held_in r).waiting r.machine.page r.machine.dead_cycles
 
-pub filling-fits : (p : Params) (r q : Routine) → AreRunnable p → IsReady p r → IsFilling p r q → NextFits (held_in q) (ask_of p (state_of r))
-filling-fits p r q runs ready h =
-    fits-filled p (state_of r) (held_in q)
+pub filling-fits : (p : Params) (r : Routine) (ts : List Try) (q : Routine) → AreRunnable p → IsReady p r → IsFilling p r ts q → NextFits (held_in q) (ask_of p (state_of r))
+filling-fits p r ts q runs ready h =
+    fits-filled p (state_of r) ts (held_in q)
     (subst (λ s. NextFits (between_pages p s) (ask_of p s)) (sym (state-plain p r ready.settled)) (served-fits p runs (held_in r).waiting r.machine.page r.machine.dead_cycles ready.settled.waiting)) h.filled
 
 -- nothing is held
-pub filling-none_held : (p : Params) (r q : Routine) → IsFilling p r q → (held_in q).held ≡ []
-filling-none_held p r q h = by_stop (held_in q).stopped refl
+pub filling-none_held : (p : Params) (r : Routine) (ts : List Try) (q : Routine) → IsFilling p r ts q → (held_in q).held ≡ []
+filling-none_held p r ts q h = by_stop (held_in q).stopped refl
   where
     by_stop : (b : Bool) → (held_in q).stopped ≡ b → (held_in q).held ≡ []
     by_stop true e = (h.filled.at_stop e).same.held
@@ -159,17 +181,17 @@ live-still store new (l ∷ ls) same live = (subst IsSome (sym same.0) live.0, l
 
 -- ---- an answer of the builder
 
-module _ (p : Params) (r q d : Routine) (ask : Ask) (runs : AreRunnable p) (ready : IsReady p r) (asked : ask ≡ ask_of p (state_of r)) (h : IsFilling p r q) (k : Keeps (ids_of q.builder) q.store (ids_of d.builder) d.store) (e : Event)
+module _ (p : Params) (r : Routine) (ts : List Try) (q d : Routine) (ask : Ask) (runs : AreRunnable p) (ready : IsReady p r) (asked : ask ≡ ask_of p (state_of r)) (h : IsFilling p r ts q) (k : Keeps (ids_of q.builder) q.store (ids_of d.builder) d.store) (e : Event)
     (event : NextIs q.builder.stopped e (held_in q) ask (held_in d) d.store) (sound : IsSound d.builder d.store) (m : d.machine ≡ q.machine) where
   event-is : (f : Event) → e ≡ f → NextIs (held_in q).stopped f (held_in q) (ask_of p (state_of r)) (held_in d) d.store
   event-is f is = subst (λ x. NextIs (held_in q).stopped f (held_in q) x (held_in d) d.store) asked (subst (λ x. NextIs (held_in q).stopped x (held_in q) ask (held_in d) d.store) is event)
 
-  pub try-filling : (t : Try) → e ≡ events.Try t → IsFilling p r d
-  try-filling t is = filling-by p r q d ready h k t (held_in q).stopped refl (event-is (events.Try t) is) sound m
+  pub try-filling : (t : Try) → e ≡ events.Try t → IsFilling p r (ts ++ t ∷ []) d
+  try-filling t is = filling-by p r ts q d ready h k t (held_in q).stopped refl (event-is (events.Try t) is) sound m
 
   pub try-fewer : (t : Try) → e ≡ events.Try t
       → tries_left (held_in d).stopped (reach_ahead (held_in d) (ask_of p (state_of r))) < tries_left (held_in q).stopped (reach_ahead (held_in q) (ask_of p (state_of r)))
-  try-fewer t is = fewer-by p r q d ready h k t (held_in q).stopped refl (event-is (events.Try t) is)
+  try-fewer t is = fewer-by p r ts q d ready h k t (held_in q).stopped refl (event-is (events.Try t) is)
 
   -- ---- an act
 
@@ -191,10 +213,25 @@ module _ (p : Params) (r q d : Routine) (ask : Ask) (runs : AreRunnable p) (read
   over-by : (b : Bool) → (held_in q).stopped ≡ b → NextIs b events.Empty (held_in q) (ask_of p (state_of r)) (held_in d) d.store → IsOver p r d
   over-by true o n = absurd n
   over-by false o n = record {
-    step = step-empty p (state_of r) (held_in q) (held_in d) h.filled o n.0;
-    whole = filled-whole p r q d ready h k sound m;
+    step = step-empty p (state_of r) ts (held_in q) (held_in d) h.filled o n.0;
+    whole = filled-whole p r ts q d ready h k sound m;
     machine = m ∙ h.machine;
   }
+
+  over-led : (b : Bool) → (held_in q).stopped ≡ b → NextIs b events.Empty (held_in q) (ask_of p (state_of r)) (held_in d) d.store → IsLed ts (step p (state_of r))
+  over-led true o n = absurd n
+  over-led false o n = empty-led p (state_of r) ts (held_in q) (held_in d) h.filled o n.0
+
+  -- the places that were tried are those of the step
+  pub led-over : e ≡ events.Empty → IsLed ts (step p (state_of r))
+  led-over is = over-led (held_in q).stopped refl (event-is events.Empty is)
+
+  fired-led : (page : Page) (b : Bool) → (held_in q).stopped ≡ b → NextIs b (events.Fired page) (held_in q) (ask_of p (state_of r)) (held_in d) d.store → IsLed ts (step p (state_of r))
+  fired-led page false o n = absurd n.0
+  fired-led page true o n = fires-led p (state_of r) ts (held_in q) h.filled o
+
+  pub led-fires : (page : Page) → e ≡ events.Fired page → IsLed ts (step p (state_of r))
+  led-fires page is = fired-led page (held_in q).stopped refl (event-is (events.Fired page) is)
 
   pub fill-over : e ≡ events.Empty → IsOver p r d
   fill-over is = over-by (held_in q).stopped refl (event-is events.Empty is)
@@ -226,12 +263,12 @@ module _ (p : Params) (r q d : Routine) (ask : Ask) (runs : AreRunnable p) (read
         let same : d.machine ≡ r.machine = m ∙ h.machine in
         record {
           fired = f;
-          step = step-fires p (state_of r) c h.filled o;
+          step = step-fires p (state_of r) ts c h.filled o;
           served = fired-served o;
           few = ready.settled.waiting.few;
           page_is = n.page;
           contents = n.after ∙ (λ i. record { classes = (v.same.classes ∙ ap (λ (x : Params). foot_class x ∷ []) ready.settled.whole.params) i; boxes = f.boxes; page = []; waiting = f.rest; held = f.held; frozen = None; stopped = false });
-          whole = filled-whole p r q d ready h k sound m;
+          whole = filled-whole p r ts q d ready h k sound m;
           machine = same;
           body = subst (λ (w : MachineView). IsNotAmong page.body (machine_lists w)) (sym same)
               (fresh-apart q.store page.body (machine_lists r.machine) (live-still r.store q.store (machine_lists r.machine) h.same (lists-live r.machine r.store ready.settled.whole.machine)) fresh.0);

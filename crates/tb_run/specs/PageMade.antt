@@ -1,15 +1,16 @@
 -- A page that is filled over a page builder, as a step of the run.
-use Rattle.std.specs.Prelude.{◌≡◌, ℕ, ◌+◌, pred, pos, Bool, true, false, List, [], ◌∷◌, ◌++◌, length, None, int_lt, if◌then◌else◌}
+use Rattle.std.specs.Prelude.{◌≡◌, ℕ, ◌+◌, pred, pos, Bool, true, false, List, [], ◌∷◌, ◌++◌, map, length, None, int_lt, if◌then◌else◌}
 use Rattle.tb_scaled.specs.Scaled.{awful_bad}
 use Rattle.tb_param.specs.declared.Params.{Params}
 use Rattle.tb_break.specs.Best.{least_cost}
 use Rattle.tb_insert.specs.Account.{Frozen}
+use Rattle.tb_builder.specs.declared.Try.{Try}
 use Rattle.tb_builder.specs.Reached.{Reach, breakpoints}
 use Rattle.tb_builder.specs.Fired.{Fired, frozen_for, reach_of}
 use Rattle.tb_builder.specs.Contents.{Contents, frozen_of, laid, reach_ahead, reach_whole, places_of}
 use Rattle.tb_output.specs.State.{State, ask_of, Recorded, Work}
 use Rattle.tb_output.specs.Out.{out}
-use Rattle.tb_run.specs.Run.{RunEvent, dead_cycles, page_limit, node_limit, progress, after_events, held_count}
+use Rattle.tb_run.specs.Run.{RunEvent, offered, dead_cycles, page_limit, node_limit, progress, after_events, held_count}
 use Rattle.tb_run.specs.PlainRun.{sent_among, Shown, last, next}
 
 -- ---- the builder at the start of a page
@@ -58,10 +59,11 @@ pub record IsStopped (p : Params) (s : State) (es : List RunEvent) (rs : List Re
   pub beyond : (page_reach p s).beyond ≡ (reach_whole c (ask_of p s)).beyond
   pub fires : (page_reach p s).fires ≡ true
 
--- the same by whether the stop was tried; nothing was sent yet, and the state is that of the start
-pub record IsFilled (p : Params) (s : State) (c : Contents) : Type 0 where
+-- the same by whether the stop was tried; these places were tried, nothing was sent yet, and the state is that of the start
+pub record IsFilled (p : Params) (s : State) (ts : List Try) (c : Contents) : Type 0 where
   pub events : List RunEvent
   pub records : List Recorded
+  pub are : events ≡ map offered ts
   pub quiet : sent_among events ≡ []
   pub underway : c.stopped ≡ false → IsUnderway p s events records s c
   pub at_stop : c.stopped ≡ true → IsStopped p s events records s c

@@ -1,9 +1,10 @@
 -- The routine's store, builder and machine, and what one of its turns shows.
-use Rattle.std.specs.Prelude.{◌≡◌, ℕ, ◌≤◌, pos, false, List, [], ◌∷◌, Option, Some, None, int_lt, if◌then◌else◌}
+use Rattle.std.specs.Prelude.{◌≡◌, ℕ, ◌≤◌, pos, Bool, false, List, [], ◌∷◌, Option, Some, None, int_lt, if◌then◌else◌}
 use Rattle.std.specs.List.{AllByRecursion}
 use Rattle.tb_pool.specs.Lists.{Lists, IsLive, list_at}
 use Rattle.tb_node.specs.declared.Node.{Node}
 use Rattle.tb_param.specs.declared.Params.{Params}
+use Rattle.tb_builder.specs.declared.Try.{Try}
 use Rattle.tb_builder.specs.declared.Page.{Page}
 use Rattle.tb_builder.specs.Contents.{Contents, contents_of, node_count}
 use Rattle.tb_builder.specs.Owned.{Lacks, inner_ids, ids_of, owned}
@@ -21,7 +22,7 @@ use Rattle.tb_run.specs.declared.routine.Turn.{Turn}
 use Rattle.tb_run.specs.declared.routine.Ending.{Ending}
 use Rattle.tb_run.specs.declared.routine.Ending.TheVariants as endings
 use Rattle.tb_run.specs.Run.{End, done, dead_cycles, page_limit, node_limit, step, held_count}
-use Rattle.tb_run.specs.PlainRun.{Shown, last, next, step_shown}
+use Rattle.tb_run.specs.PlainRun.{Shown, last, next, step_shown, NotesTries}
 use Rattle.tb_run.specs.PageMade.{between_pages, firing_shown}
 use Rattle.tb_run.specs.Servable.{AreServable, IsServedPage}
 
@@ -93,6 +94,11 @@ pub record IsOver (p : Params) (r q : Routine) : Type 0 where
 abbrev pub FillIs : Params → Routine → Option Page → Routine → Type 0
 FillIs p r None q = IsOver p r q
 FillIs p r (Some page) q = IsFiring p r page q
+
+-- the same with the tries, where they are wanted
+pub record Fills (p : Params) (wanted : Bool) (r : Routine) (old : List Try) (o : Option Page) (q : Routine) (new : List Try) : Type 0 where
+  pub made : FillIs p r o q
+  pub tries : NotesTries wanted (step p (state_of r)) old new
 
 -- ---- what a turn shows
 

@@ -1,6 +1,6 @@
 //! The output routine over one store: the page builder fills a page, and the machine serves it.
 
-ghost use Rattle.std.specs.Prelude.{◌≡◌, ◌≤◌, ◌≤ℤ◌, ◌+◌, ◌++◌, [], pos, length, None, IfOk, OnOk, IfNone, IfSome};
+ghost use Rattle.std.specs.Prelude.{◌≡◌, ◌≤◌, ◌≤ℤ◌, ◌+◌, ◌++◌, ◌∷◌, [], pos, length, None, IfOk, OnOk, IfNone, IfSome};
 ghost use Rattle.std.specs.List.{AllByRecursion};
 ghost use Rattle.std.specs.FinMap.{get};
 ghost use Rattle.tb_builder.specs.Contents.{plain_list};
@@ -11,13 +11,13 @@ ghost use Rattle.tb_output.specs.Serving.{CanGoBack};
 ghost use Rattle.tb_run.specs.Servable.{AreRunnable, AreServable};
 ghost use Rattle.tb_run.specs.Expanding.{AreItems};
 ghost use Rattle.tb_run.specs.Run.{held_count, step};
-ghost use Rattle.tb_run.specs.PlainRun.{step_shown};
-ghost use Rattle.tb_run.specs.Turning.{held_in, state_of, IsWhole, IsReady, FillIs, AreSentLists, IsBounded, IsSettled, IsEnded, turn_shown, sent_turn_shown, sent_count, over_limit};
+ghost use Rattle.tb_run.specs.PlainRun.{step_shown, noted, NotesTries};
+ghost use Rattle.tb_run.specs.Turning.{held_in, state_of, IsWhole, IsReady, Fills, AreSentLists, IsBounded, IsSettled, IsEnded, turn_shown, sent_turn_shown, sent_count, over_limit};
 
 use crate::expanding::expand;
 use crate::releasing::end_sent;
 use std::alloc::{AllocError, Global};
-use tb_builder::{Ask, Builder, Event, Page, new_builder};
+use tb_builder::{Ask, Builder, Event, Page, Try, new_builder};
 use tb_column::Sent;
 use tb_galley::Galley;
 use tb_insert::Class;
@@ -56,6 +56,16 @@ pub enum Ending {
     PageLimit { pages: u64 },
     /// More nodes than `maxnodes` were held: so many.
     NodeLimit { count: u64 },
+}
+
+// Puts a place that was tried at the end of a list, where it is wanted.
+fn note(tries: &mut Vec<Try>, wanted: bool, tried: Try) -> Result<(), AllocError>
+    ensures { OnOk result (tries.new.items ≡ tries.old.items ++ noted wanted (tried ∷ [])) }
+{
+    if wanted {
+        tries.push(tried)?;
+    }
+    Ok(())
 }
 
 // Nothing is done at an act: what is served so far has none, so none is reached.
@@ -102,16 +112,24 @@ impl Routine {
         })
     }
 
-    // Fills the next page of what waits. None where it does not fire: then nothing waits any more.
-    fn fill(&mut self, p: &Params, ask: &Ask) -> Result<Option<Page>, AllocError>
+    // Fills the next page of what waits. None where it does not fire: then nothing waits any more. The places that are
+    // tried go to the end of `tries`, where they are wanted.
+    fn fill(
+        &mut self,
+        p: &Params,
+        ask: &Ask,
+        wanted: bool,
+        tries: &mut Vec<Try>,
+    ) -> Result<Option<Page>, AllocError>
         requires ready { IsReady p.now self.old }
         requires params { AreRunnable p.now }
         requires ask { ask.now ≡ ask_of p.now (state_of self.old) }
-        ensures { IfOk result (λ o. FillIs p.now self.old o self.new) }
+        ensures { IfOk result (λ o. Fills p.now wanted self.old tries.old.items o self.new tries.new.items) }
     {
         'next: loop {
-            match self.builder.next(&mut self.store, ask)? {
-                Event::Try(_) => {}
+            let event = self.builder.next(&mut self.store, ask)?;
+            match event {
+                Event::Try(tried) => note(tries, wanted, tried)?,
                 Event::Act(act) => no_act(act),
                 Event::Fired(page) => return Ok(Some(page)),
                 Event::Empty => return Ok(None),
@@ -158,7 +176,12 @@ impl Routine {
     }
 
     // Makes the next page of what waits, and fires it. What is sent is with the machine.
-    fn make_page(&mut self, p: &Params) -> Result<Option<Ending>, AllocError>
+    fn make_page(
+        &mut self,
+        p: &Params,
+        wanted: bool,
+        tries: &mut Vec<Try>,
+    ) -> Result<Option<Ending>, AllocError>
         requires ready { IsReady p.now self.old }
         requires params { AreRunnable p.now }
 
@@ -167,10 +190,11 @@ impl Routine {
         ensures ended { OnOk result (IsEnded self.new) }
         ensures one { OnOk result (length self.new.machine.events ≤ 1) }
         ensures counted { IfOk result (λ o. IfNone o (self.new.machine.page ≡ self.old.machine.page + length self.new.machine.events)) }
+        ensures tries { OnOk result (NotesTries wanted (step p.now (state_of self.old)) tries.old.items tries.new.items) }
     {
         let ask = self.machine.ask();
         let most = self.most + ADDED_NODES;
-        let Some(page) = self.fill(p, &ask)? else {
+        let Some(page) = self.fill(p, &ask, wanted, tries)? else {
             return Ok(Some(Ending::Done));
         };
         match self.machine.fire(&mut self.store, &mut self.builder, page) {
@@ -189,8 +213,14 @@ impl Routine {
     /// something else (TeX: The Program §994, §1012; ltoutput.dtx, \output). Answers what is sent, and how the run ends,
     /// if it does.
     ///
-    /// What it answers is the step of the run. The lists of a page that it sends are the caller's from then on.
-    pub fn turn(&mut self, p: &Params) -> Result<Turn, AllocError>
+    /// What it answers is the step of the run. The lists of a page that it sends are the caller's from then on. The places
+    /// that it tries go to the end of `tries`, where they are wanted; all of them come before what it sends.
+    pub fn turn(
+        &mut self,
+        p: &Params,
+        wanted: bool,
+        tries: &mut Vec<Try>,
+    ) -> Result<Turn, AllocError>
         requires ready { IsReady p.now self.old }
         requires params { AreRunnable p.now }
 
@@ -200,8 +230,9 @@ impl Routine {
         ensures sent { IfOk result (λ t. IfSome t.sent (IsPageSent self.new.store)) }
         ensures lists { IfOk result (λ t. IfNone t.ending (IfSome t.sent (AreSentLists self.new))) }
         ensures counted { IfOk result (λ t. IfNone t.ending (self.new.machine.page ≡ self.old.machine.page + sent_count t.sent)) }
+        ensures tries { OnOk result (NotesTries wanted (step p.now (state_of self.old)) tries.old.items tries.new.items) }
     {
-        let ending = self.make_page(p)?;
+        let ending = self.make_page(p, wanted, tries)?;
         let sent = self.machine.sent();
         Ok(Turn { sent, ending })
     }

@@ -19,7 +19,7 @@ not-ended (node_limit m) n few is = cc
 
 -- a run that was refused for its dead cycles had no room for them
 pub no-room : (g : Galley) → IsValid g → (v : View) (old new : Option (List ℕ)) (n : ℕ) → EndsWith v (run_of g) old new (faults.DeadCycles n) → HasRoomForCycles g → ⊥
-no-room g valid v old new n h room = not-ended (run_of g).end n (dead-cycle-bound g valid room.page room.limit) h.ended
+no-room g valid v old new n h room = not-ended (run_of g).end n (dead-cycle-bound g valid room) h.ended
 
 pub not-for-cycles : (g : Galley) → IsValid g → HasRoomForCycles g → (v : View) (old new : Option (List ℕ)) (f : PageFault) → Refuses v (run_of g) old new f → IsNotForCycles f
 not-for-cycles g valid room v old new (faults.PoolFull line live) h = tt

@@ -1,6 +1,6 @@
--- A run of a valid galley whose top skip is no higher than a page does not end for its dead cycles, where the limit has room for what its items can bring.
-use Rattle.std.proofs.Common.{◌≡◌, refl, ap, ℕ, pos, ◌+◌, Bool, true, false, List, [], ◌∷◌, arith}
-use Rattle.std.specs.Prelude.{◌≤ℤ◌, IsTrue, int_le, int_lt, if◌then◌else◌}
+-- A run of a valid galley does not end for its dead cycles, where the limit has room for what its items can bring.
+use Rattle.std.proofs.Common.{◌≡◌, refl, ap, ℕ, pos, ◌+◌, Bool, true, false, List, [], ◌∷◌, arith, ℤ, ◌≤◌}
+use Rattle.std.specs.Prelude.{◌≤ℤ◌, IsTrue, int_le, int_lt, if◌then◌else◌, ◌<ℤ◌}
 use Rattle.std.proofs.lemmas.Int.{ints}
 use Rattle.tb_node.specs.declared.Act.{Act}
 use Rattle.tb_node.specs.declared.Act.TheVariants as acts
@@ -15,18 +15,23 @@ use Rattle.tb_column.specs.declared.Warn.{Warn}
 use Rattle.tb_builder.proofs.CutLemmas.{acted_of}
 use Rattle.tb_output.specs.State.{State, Recorded}
 use Rattle.tb_output.specs.Act.{went, full}
+use Rattle.tb_scaled.specs.Scaled.{eject_penalty}
 use Rattle.tb_output.proofs.ServeOutcomes.{way_floats}
+use Rattle.tb_output.proofs.CycleStates.{Bounded}
+use Rattle.tb_output.proofs.HighStates.{BoundedHigh}
 use Rattle.tb_output.proofs.ClosingPages.{ActsClose}
 use Rattle.tb_output.proofs.ClosingStates.{Closing}
 use Rattle.tb_run.specs.Run.{Step, ends, goes_on, done, pool_full, dead_cycles, page_limit, node_limit, step, run_of}
-use Rattle.tb_top.specs.DeadCycles.{HasCycles, IsNotCycles}
+use Rattle.tb_top.specs.DeadCycles.{HasRoomForCycles, IsNotCycles, DeadCyclesAreFew}
 use Rattle.tb_top.proofs.FinishLemmas.{all-at, dim-extent}
 use Rattle.tb_top.proofs.ValidPenalties.{valid-items, interline-calm}
-use Rattle.tb_top.proofs.RunWeights.{page_of}
+use Rattle.tb_top.proofs.RunWeights.{Kept, page_of}
 use Rattle.tb_top.proofs.ClosingRuns.{StepCloses, step-closes, page_closes, empty}
 use Rattle.tb_top.proofs.ClosingStarts.{start-closing}
-use Rattle.tb_top.proofs.CycleRuns.{AfterWent, ChangesEmpty, Cycled, StepStays}
-use Rattle.tb_top.proofs.CycleStarts.{not-cycles, most}
+use Rattle.tb_top.proofs.CycleRuns.{AfterWent, ChangesEmpty, StepStays}
+use Rattle.tb_top.proofs.LowGoing.{low-few, low-goes}
+use Rattle.tb_top.proofs.HighGoing.{high-few, high-goes}
+use Rattle.tb_top.proofs.CycleStarts.{most, low-start, high-start, not-cycles}
 
 -- ---- where what waits closes, the columns change only with no float on the way
 
@@ -60,13 +65,32 @@ maxdepth-low p h =
     let k = dim-extent (pos 0) p.maxdepth (omega (arith, ints)) (all-at test rows 2 _ refl h) in
     k.low
 
+textheight-low : (p : Params) → IsTrue (are_params p) → pos 0 ≤ℤ p.textheight
+unfolding are_params
+textheight-low p h =
+    let test : Row → Bool = λ r. is_no_fault (value_fault r.form (value_of r.field p)) in
+    let k = dim-extent (pos 1) p.textheight (omega (arith, ints)) (all-at test rows 0 _ refl h) in
+    k.low
+
 -- ---- the bound
 
-module _ (g : Galley) (valid : IsValid g) (room : g.params.topskip ≤ℤ g.params.textheight) where
-  stays : (m : ℕ) (s : State) → Cycled g.params m (interline-calm g.params valid.params) (topskip-low g.params valid.params) room (maxdepth-low g.params valid.params) s → Closing s → StepStays g.params m (interline-calm g.params valid.params) (topskip-low g.params valid.params) room (maxdepth-low g.params valid.params) Closing (step g.params s)
-  stays m s c k = at (step g.params s) (step-closes g.params (interline-calm g.params valid.params) s c.kept k)
+module _ (g : Galley) (valid : IsValid g) where
+  calm : int_le g.params.interlinepenalty eject_penalty ≡ false
+  calm = interline-calm g.params valid.params
+
+  low : pos 0 ≤ℤ g.params.topskip
+  low = topskip-low g.params valid.params
+
+  deep : pos 0 ≤ℤ g.params.maxdepth
+  deep = maxdepth-low g.params valid.params
+
+  abbrev m : ℕ
+  m = most g (interline-calm g.params valid.params) (valid-items g valid)
+
+  stays : (s : State) → Kept s → Closing s → StepStays Closing (step g.params s)
+  stays s c k = at (step g.params s) (step-closes g.params calm s c k)
     where
-      at : (x : Step) → StepCloses s x → StepStays g.params m (interline-calm g.params valid.params) (topskip-low g.params valid.params) room (maxdepth-low g.params valid.params) Closing x
+      at : (x : Step) → StepCloses s x → StepStays Closing x
       at (goes_on es rs t) h = h.1
       at (ends es rs (done left)) h = tt
       at (ends es rs (pool_full line live)) h = tt
@@ -74,10 +98,28 @@ module _ (g : Galley) (valid : IsValid g) (room : g.params.topskip ≤ℤ g.para
       at (ends es rs (page_limit n)) h = tt
       at (ends es rs (node_limit n)) h = tt
 
-  -- the dead-cycle bound, for a top skip that is no higher than a page
-  pub dead-cycle-bound : HasCycles g → IsNotCycles (run_of g).end
-  dead-cycle-bound h =
-      not-cycles g (interline-calm g.params valid.params) (topskip-low g.params valid.params) room (maxdepth-low g.params valid.params) (valid-items g valid) Closing
-      (λ s c k. closing-changes g.params k.done s (acted_of (page_of g.params s).reached) (empty g.params (interline-calm g.params valid.params) s c.kept k) (page_closes g.params (interline-calm g.params valid.params) s c.kept k).acts_close)
-      (λ s c k. stays (most g (interline-calm g.params valid.params) (topskip-low g.params valid.params) room (maxdepth-low g.params valid.params) (valid-items g valid)) s c k)
-      (start-closing g (valid-items g valid)) h
+  empties : (s : State) → Kept s → Closing s → ChangesEmpty g.params s (acted_of (page_of g.params s).reached)
+  empties s c k = closing-changes g.params k.done s (acted_of (page_of g.params s).reached) (empty g.params calm s c k) (page_closes g.params calm s c k).acts_close
+
+  low-bound : g.params.topskip ≤ℤ g.params.textheight → HasRoomForCycles g → IsNotCycles (run_of g).end
+  low-bound room = not-cycles g calm (valid-items g valid) (Bounded g.params m) (λ s b. more s.dead_cycles (low-few g.params m calm low room deep s b)) (low-goes g.params m calm low room deep) (low-start g calm (valid-items g valid)) Closing empties stays (start-closing g (valid-items g valid))
+    where
+      more : (d : ℕ) → d ≤ m + 2 → d ≤ m + 3
+      more d h = omega arith
+
+  high-bound : g.params.textheight <ℤ g.params.topskip → HasRoomForCycles g → IsNotCycles (run_of g).end
+  high-bound high = not-cycles g calm (valid-items g valid) (BoundedHigh g.params m) (high-few g.params m calm deep (textheight-low g.params valid.params) high) (high-goes g.params m calm deep (textheight-low g.params valid.params) high) (high-start g calm (valid-items g valid)) Closing empties stays (start-closing g (valid-items g valid))
+
+-- the dead-cycle bound
+pub dead-cycle-bound : DeadCyclesAreFew
+dead-cycle-bound g valid = by_skip (int_le g.params.topskip g.params.textheight) refl
+  where
+    room : (t h : ℤ) → int_le t h ≡ true → t ≤ℤ h
+    room t h e = grind (arith, ints, e)
+
+    high : (t h : ℤ) → int_le t h ≡ false → h <ℤ t
+    high t h e = grind (arith, ints, e)
+
+    by_skip : (x : Bool) → int_le g.params.topskip g.params.textheight ≡ x → HasRoomForCycles g → IsNotCycles (run_of g).end
+    by_skip true e = low-bound g valid (room g.params.topskip g.params.textheight e)
+    by_skip false e = high-bound g valid (high g.params.topskip g.params.textheight e)

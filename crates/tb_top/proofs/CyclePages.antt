@@ -20,7 +20,7 @@ use Rattle.tb_output.specs.Text
 use Rattle.tb_output.specs.Clear
 use Rattle.tb_output.specs.Out
 use Rattle.tb_output.proofs.StateWeights.{OneBox}
-use Rattle.tb_output.proofs.Sorts.{Sort, light, blank, clear, odd, pen_sort, sorts, sorts-calm, none, seen_all}
+use Rattle.tb_output.proofs.Sorts.{Sort, odd, pen_sort, sorts, sorts-calm, none, seen_all}
 use Rattle.tb_output.proofs.SortLemmas.{sorts-append, take-drop, BreakStands, PageStands, cut-stands, pruned-stands}
 use Rattle.tb_output.proofs.PlaceLemmas.{body-steady}
 use Rattle.tb_output.proofs.AgainLemmas.{Again, BreakAgain, again-pruned, again-behind, no-acts, acts-again, break-again}
@@ -43,13 +43,13 @@ is-special : (q : ℤ) → Out.is_int q Out.clear_penalty ≡ true → int_le ej
 is-special q h = grind (arith, ints, h)
 
 module _ (p : Params) (s : State) (kept : Kept s) (ended : Ended false s.waiting) where
-  abbrev w : Reach
+  abbrev pub w : Reach
   w = page_of p s
 
-  abbrev k : ℕ
+  abbrev pub k : ℕ
   k = (page_break (page_of p s)).place
 
-  cut : CutAt [] (pruned_nodes p.topskip s.waiting) w
+  pub cut : CutAt [] (pruned_nodes p.topskip s.waiting) w
   cut = reach-cut (ask_of p s).max_depth (terms_after (frozen_for (ask_of p s) (foot_class p ∷ []) s.boxes)) [] (pruned_nodes p.topskip s.waiting)
 
   feet : AllOfClass 254 (take k w.passed) × AllOfClass 254 (with_spent_break (drop k w.passed ++ w.beyond))
@@ -86,10 +86,22 @@ module _ (p : Params) (s : State) (kept : Kept s) (ended : Ended false s.waiting
   pub paused-ends : Paused s.waiting → int_le eject_penalty (penalty_at (drop k w.passed ++ w.beyond)) ≡ true
   paused-ends h = paused-ordinary p.topskip s.waiting w k h cut
 
+  phase-ends : (x : Phase) → PhaseHolds s x → x ≡ ending → int_le eject_penalty (penalty_at (drop k w.passed ++ w.beyond)) ≡ true
+  phase-ends starting h e = cc
+  phase-ends second h e = cc
+  phase-ends ending h e = paused-ends h.1
+
+  pub limit-deep : pos 0 ≤ℤ p.maxdepth → pos 0 ≤ℤ (ask_of p s).max_depth
+  limit-deep deep = by_bottom (has_floats s.floats.bottom)
+    where
+      by_bottom : (b : Bool) → pos 0 ≤ℤ (if b then pos 0 else p.maxdepth)
+      by_bottom true = grind (arith, ints)
+      by_bottom false = deep
+
   -- ---- the page that fires, in a state with the same boxes and held page
 
   module _ (t : State) (same_boxes : t.boxes ≡ s.boxes) (same_held : t.held_page ≡ s.held_page) (z : Frozen) where
-    abbrev page : Fired
+    abbrev pub page : Fired
     page = fired_by (labelled z (take k w.passed)) t.boxes w
 
     one_box : OneBox t.boxes
@@ -112,10 +124,10 @@ module _ (p : Params) (s : State) (kept : Kept s) (ended : Ended false s.waiting
         sums x y v a b c = omega arith
 
     -- a clear without footnotes has no insertions on its page, and its front is light
-    none-there : footnotes (record t { boxes = page.boxes }) ≡ None → labelled z (take k w.passed) ≡ []
+    pub none-there : footnotes (record t { boxes = page.boxes }) ≡ None → labelled z (take k w.passed) ≡ []
     none-there h = none-labelled 254 z (take k w.passed) (labelled-class 254 z [] [] (take k w.passed) tt feet.0) (void-given (labelled z (take k w.passed)) t.boxes one_box h)
 
-    flat : Out.is_int page.penalty Out.clear_penalty ≡ true → OneFlat page.body
+    pub flat : Out.is_int page.penalty Out.clear_penalty ≡ true → OneFlat page.body
     flat h =
         let r = subst (λ (x : Sort). BreakStands kept.placed.held (seen_all none (sorts (take k w.passed))) (with_spent_break (drop k w.passed ++ w.beyond)) x) (clear-sort page.penalty (is-special page.penalty h) h) stands.rest in
         one-flat (take k w.passed) stands.calm stands.free r.0 (clear-ended (flat_last false (take k w.passed)) (drop k w.passed ++ w.beyond) h (ended-behind false (take k w.passed) (drop k w.passed ++ w.beyond) laid-ended))
@@ -123,20 +135,28 @@ module _ (p : Params) (s : State) (kept : Kept s) (ended : Ended false s.waiting
     front : Out.is_int page.penalty Out.clear_penalty ≡ true → FrontFits (Clear.cleared_front p page.body)
     front h = front-fits p page.body (flat h)
 
-    -- where no clear of the routine is to come
-    pub closed-well : (a : ℕ) (phase : Phase) → a ≡ 0 → (phase ≡ ending → ⊥) → Again a (sorts s.waiting) → FiresWell p t (wait_cost page.rest + sort_cost (pen_sort page.penalty)) a closed phase page
-    closed-well a phase e going r = record {
+    -- where no more is known of the state than its phase
+    pub any-well : (a : ℕ) (kind : Kind) (phase : Phase) → (kind ≡ halted → ⊥) → (kind ≡ once → ⊥) → (kind ≡ ready → ⊥) → (phase ≡ ending → int_le eject_penalty page.penalty ≡ true) → Again a (sorts s.waiting) → FiresWell p t (wait_cost page.rest + sort_cost (pen_sort page.penalty)) a kind phase page
+    any-well a kind phase not_halted not_once not_ready ends r = record {
       region = rest-again a r;
       cost = omega arith;
       held = held;
       regular = regular;
       body = body;
-      ending = λ i. absurd (going i);
-      halted = λ i. cc;
-      once = λ i. cc;
-      ready = λ i. cc;
+      ending = ends;
+      halted = λ i. absurd (not_halted i);
+      once = λ i. absurd (not_once i);
+      ready = λ i. absurd (not_ready i);
       blank = λ h i. let x = front h in (ap held_insertions (none-there i), x.fits, x.idle, x.cost);
     }
+
+    -- where no clear of the routine is to come
+    pub closed-well : (a : ℕ) (phase : Phase) → a ≡ 0 → (phase ≡ ending → ⊥) → Again a (sorts s.waiting) → FiresWell p t (wait_cost page.rest + sort_cost (pen_sort page.penalty)) a closed phase page
+    closed-well a phase e going r = any-well a closed phase (λ i. cc) (λ i. cc) (λ i. cc) (λ i. absurd (going i)) r
+
+    -- where nothing else is known
+    pub phase-well : (a : ℕ) (phase : Phase) → PhaseHolds s phase → Again a (sorts s.waiting) → FiresWell p t (wait_cost page.rest + sort_cost (pen_sort page.penalty)) a any phase page
+    phase-well a phase at r = any-well a any phase (λ i. cc) (λ i. cc) (λ i. cc) (phase-ends phase at) r
 
   -- ---- while clears of the routine are to come, the state is the same
 
@@ -144,15 +164,8 @@ module _ (p : Params) (s : State) (kept : Kept s) (ended : Ended false s.waiting
     abbrev fired : Fired
     fired = fired_of (ask_of p s) (foot_class p ∷ []) s.boxes w
 
-    limit-deep : pos 0 ≤ℤ (ask_of p s).max_depth
-    limit-deep = by_bottom (has_floats s.floats.bottom)
-      where
-        by_bottom : (b : Bool) → pos 0 ≤ℤ (if b then pos 0 else p.maxdepth)
-        by_bottom true = grind (arith, ints)
-        by_bottom false = deep
-
     fits : (q : ℤ) (tail : List PlainNode) → int_le q eject_penalty ≡ true → s.goal ≡ p.textheight → Fitted q tail s.waiting → FiresAt q tail s.boxes w fired
-    fits q tail f g h = fitted-fires s.goal (ask_of p s).max_depth p.topskip q _ limit-deep f low (subst (λ (x : ℤ). p.topskip ≤ℤ x) (sym g) room) s.waiting tail h s.boxes
+    fits q tail f g h = fitted-fires s.goal (ask_of p s).max_depth p.topskip q _ (limit-deep deep) f low (subst (λ (x : ℤ). p.topskip ≤ℤ x) (sym g) room) s.waiting tail h s.boxes
 
     -- behind a blank column the clear's page fits
     behind-blank : (line : ℕ) (rest : List PlainNode) → Fitted Out.clear_penalty rest (break_at line inf_penalty ∷ made whatsit ∷ made blank_box ∷ made (pen Out.clear_penalty) ∷ rest)
@@ -175,7 +188,7 @@ module _ (p : Params) (s : State) (kept : Kept s) (ended : Ended false s.waiting
       held = held s refl refl z;
       regular = regular s refl refl z;
       body = body s refl refl z;
-      ending = by_phase phase at;
+      ending = phase-ends phase at;
       halted = by_halted kind holds;
       once = by_once kind holds;
       ready = by_ready kind holds;
@@ -184,11 +197,6 @@ module _ (p : Params) (s : State) (kept : Kept s) (ended : Ended false s.waiting
       where
         z : Frozen
         z = frozen_for (ask_of p s) (foot_class p ∷ []) s.boxes
-
-        by_phase : (x : Phase) → PhaseHolds s x → x ≡ ending → int_le eject_penalty fired.penalty ≡ true
-        by_phase starting h e = cc
-        by_phase second h e = cc
-        by_phase ending h e = paused-ends h.1
 
         by_halted : (x : Kind) → Holds p s a x → x ≡ halted → int_le eject_penalty fired.penalty ≡ true
         by_halted any h e = cc

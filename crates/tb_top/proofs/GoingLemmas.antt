@@ -1,5 +1,5 @@
 -- A run that goes on: what was written, what was shipped, and what is left.
-use Rattle.std.proofs.Common.{◌≡◌, refl, sym, subst, ◌∙◌, ap, ℕ, zero, suc, ◌+◌, ◌*◌, ◌<◌, ◌≤◌, pos, Bool, true, false, inl, inr, ◌⊎◌, List, [], ◌∷◌, ◌++◌, length, codes, Option, Some, append_assoc, append-nil, arith}
+use Rattle.std.proofs.Common.{◌≡◌, refl, sym, subst, ◌∙◌, ap, ℕ, zero, suc, ◌+◌, ◌*◌, ◌<◌, ◌≤◌, pos, Bool, true, false, inl, inr, ◌⊎◌, List, [], ◌∷◌, ◌++◌, map, length, codes, Option, Some, append_assoc, append-nil, arith}
 use Rattle.std.specs.Prelude.{int_lt, if◌then◌else◌}
 use Rattle.std.specs.Io.KnownBytes.{Appends}
 use Rattle.tb_io.specs.Faults.{Rose}
@@ -7,10 +7,12 @@ use Rattle.tb_io.specs.Held.{AppendsPrefix}
 use Rattle.tb_io.proofs.Appended.{Appends-twice, prefix_whole, prefix_longer, prefix_on}
 use Rattle.tb_param.specs.declared.Params.{Params}
 use Rattle.tb_node.specs.Plain.{PlainKind, PlainNode}
+use Rattle.tb_builder.specs.declared.Try.{Try}
 use Rattle.tb_column.specs.Column.{PlainSent, warned, shipped}
 use Rattle.tb_report.specs.declared.Totals.{Totals}
 use Rattle.tb_report.specs.Lines.{sent_lines, end_lines}
 use Rattle.tb_report.specs.Totals.{is_item_box, is_float_box, one_if, count_kinds, sheet_nodes, no_totals, with_sent, AreCounts}
+use Rattle.tb_trace.specs.Lines.{try_line}
 use Rattle.tb_galley.specs.declared.Galley.{Galley}
 use Rattle.tb_galley.specs.Expand.{expanded}
 use Rattle.tb_output.specs.State.{State, Recorded, first_state}
@@ -19,10 +21,10 @@ use Rattle.tb_top.specs.declared.View.TheVariants as views
 use Rattle.tb_top.specs.declared.PageFault.{PageFault}
 use Rattle.tb_top.specs.declared.PageFault.TheVariants as faults
 use Rattle.tb_run.specs.Run.{Run, RunEvent, offered, sent, End, done, node_limit, Step, ends, goes_on, held_count, step, run_by, run_from, firings_left, run_of_state, run_of, classes_of}
-use Rattle.tb_top.specs.Report.{totals_of, event_lines, all_lines, closing_lines, report}
+use Rattle.tb_top.specs.Report.{totals_of, event_lines, traced_lines, all_lines, closing_lines, report, trace}
 use Rattle.tb_top.specs.Paginated.{view_text, end_fault, Paginates, EndsWith, Refuses}
-use Rattle.tb_run.specs.PlainRun.{sent_among, Shown, last, next, step_shown}
-use Rattle.tb_top.specs.Written.{node_total, viewed, all_sent_lines, with_all, IsWriteFault}
+use Rattle.tb_run.specs.PlainRun.{sent_among, Shown, last, next, step_shown, noted, IsLed}
+use Rattle.tb_top.specs.Written.{node_total, viewed, is_traced, try_lines, all_sent_lines, with_all, IsShown, IsWriteFault}
 use Rattle.tb_top.proofs.FuelLemmas.{Turns, step-turns}
 
 -- ---- totals
@@ -62,28 +64,68 @@ joined-events (sent e ∷ es) rest t = joined-sent e t (totals_of (es ++ rest)) 
 
 -- ---- lines
 
-lines-append : (es rest : List RunEvent) → all_lines event_lines (es ++ rest) ≡ all_sent_lines (sent_among es) ++ all_lines event_lines rest
-lines-append [] rest = refl
-lines-append (offered a ∷ es) rest = lines-append es rest
-lines-append (sent e ∷ es) rest = ap (λ ls. sent_lines e ++ ls) (lines-append es rest) ∙ sym (append_assoc (sent_lines e) (all_sent_lines (sent_among es)) (all_lines event_lines rest))
+-- the lines of an event in what a view shows
+abbrev pub event_text : View → RunEvent → List ℕ
+event_text views.Report e = event_lines e
+event_text views.Trace e = traced_lines e
+event_text views.Silent e = event_lines e
+
+lines-append : (v : View) (es rest : List RunEvent) → all_lines (event_text v) (es ++ rest) ≡ all_lines (event_text v) es ++ all_lines (event_text v) rest
+lines-append v [] rest = refl
+lines-append v (e ∷ es) rest = ap (λ ls. event_text v e ++ ls) (lines-append v es rest) ∙ sym (append_assoc (event_text v e) (all_lines (event_text v) es) (all_lines (event_text v) rest))
+
+sent-text : (v : View) (e : PlainSent) → event_text v (sent e) ≡ sent_lines e
+sent-text views.Report e = refl
+sent-text views.Trace e = refl
+sent-text views.Silent e = refl
+
+sent-lines : (v : View) (es : List PlainSent) → all_lines (event_text v) (map sent es) ≡ all_sent_lines es
+sent-lines v [] = refl
+sent-lines v (e ∷ es) = λ i. sent-text v e i ++ sent-lines v es i
+
+tries-lines : (v : View) (ts : List Try) → all_lines (event_text v) (map offered ts) ≡ try_lines (noted (is_traced v) ts)
+tries-lines views.Report [] = refl
+tries-lines views.Report (t ∷ ts) = tries-lines views.Report ts
+tries-lines views.Trace [] = refl
+tries-lines views.Trace (t ∷ ts) = ap (λ ls. try_line t ++ ls) (tries-lines views.Trace ts)
+tries-lines views.Silent [] = refl
+tries-lines views.Silent (t ∷ ts) = tries-lines views.Silent ts
+
+-- the lines of a step: those of its tries, where the view shows them, and then those of what it sends
+abbrev pub turn_lines : View → List Try → List PlainSent → List ℕ
+turn_lines v ts es = try_lines (noted (is_traced v) ts) ++ all_sent_lines es
+
+turn-lines : (v : View) (ts : List Try) (es : List PlainSent) → all_lines (event_text v) (map offered ts ++ map sent es) ≡ turn_lines v ts es
+turn-lines v ts es = lines-append v (map offered ts) (map sent es) ∙ (λ i. tries-lines v ts i ++ sent-lines v es i)
 
 viewed-append : (v : View) (a b : List ℕ) → viewed v (a ++ b) ≡ viewed v a ++ viewed v b
 viewed-append views.Report a b = refl
+viewed-append views.Trace a b = refl
 viewed-append views.Silent a b = refl
-
-viewed-report : (v : View) (r : Run) → viewed v (report r) ≡ view_text v r
-viewed-report views.Report r = refl
-viewed-report views.Silent r = refl
 
 viewed-nothing : (v : View) → viewed v [] ≡ []
 viewed-nothing views.Report = refl
+viewed-nothing views.Trace = refl
 viewed-nothing views.Silent = refl
 
 -- ---- the run from here
 
 -- the lines of a part of the run, where the whole run has these events
-abbrev pub tail_lines : List RunEvent → Run → List ℕ
-tail_lines all r = all_lines event_lines r.events ++ closing_lines r.end all
+abbrev pub tail_lines : View → List RunEvent → Run → List ℕ
+tail_lines v all r = all_lines (event_text v) r.events ++ closing_lines r.end all
+
+abbrev pub header : List ℕ
+header = codes "report 1\n"
+
+-- the whole text, also where the view shows nothing
+abbrev pub whole_text : View → Run → List ℕ
+whole_text v r = header ++ tail_lines v r.events r
+
+viewed-whole : (v : View) (r : Run) → viewed v (whole_text v r) ≡ view_text v r
+unfolding report trace
+viewed-whole views.Report r = sym (append_assoc header (all_lines event_lines r.events) (closing_lines r.end r.events))
+viewed-whole views.Trace r = sym (append_assoc header (all_lines traced_lines r.events) (closing_lines r.end r.events))
+viewed-whole views.Silent r = refl
 
 pub record Going (p : Params) (v : View) (s : State) (old now : Option (List ℕ)) (t : Totals) (whole : Run) : Type 0 where
   pub page : 1 ≤ s.page
@@ -91,7 +133,7 @@ pub record Going (p : Params) (v : View) (s : State) (old now : Option (List ℕ
   pub fuel : ℕ
   pub appended : Appends old now (viewed v written)
   pub enough : firings_left p s < fuel
-  pub text : report whole ≡ written ++ tail_lines whole.events (run_from p fuel s)
+  pub text : whole_text v whole ≡ written ++ tail_lines v whole.events (run_from p fuel s)
   pub end : whole.end ≡ (run_from p fuel s).end
   pub totals : totals_of whole.events ≡ joined t (totals_of (run_from p fuel s).events)
 
@@ -99,21 +141,23 @@ pub record Going (p : Params) (v : View) (s : State) (old now : Option (List ℕ
 pub record Closing (v : View) (e : End) (old now : Option (List ℕ)) (t : Totals) (whole : Run) : Type 0 where
   pub written : List ℕ
   pub appended : Appends old now (viewed v written)
-  pub text : report whole ≡ written ++ closing_lines e whole.events
+  pub text : whole_text v whole ≡ written ++ closing_lines e whole.events
   pub end : whole.end ≡ e
   pub totals : totals_of whole.events ≡ t
 
 -- a step that goes on, and one that ends
-pub record Steps (p : Params) (s s' : State) (es : List PlainSent) : Type 0 where
+pub record Steps (p : Params) (s s' : State) (ts : List Try) (es : List PlainSent) : Type 0 where
   pub events : List RunEvent
   pub is : sent_among events ≡ es
+  pub led : events ≡ map offered ts ++ map sent es
   pub page : 1 ≤ s'.page
   pub fewer : firings_left p s' < firings_left p s
   pub later : (fuel : ℕ) → ((run_from p (suc fuel) s).events ≡ events ++ (run_from p fuel s').events) × ((run_from p (suc fuel) s).end ≡ (run_from p fuel s').end)
 
-pub record Stops (p : Params) (s : State) (e : End) (es : List PlainSent) : Type 0 where
+pub record Stops (p : Params) (s : State) (e : End) (ts : List Try) (es : List PlainSent) : Type 0 where
   pub events : List RunEvent
   pub is : sent_among events ≡ es
+  pub led : events ≡ map offered ts ++ map sent es
   pub later : (fuel : ℕ) → ((run_from p (suc fuel) s).events ≡ events) × ((run_from p (suc fuel) s).end ≡ e)
 
 run-on : (p : Params) (s s' : State) (fuel : ℕ) (es : List RunEvent) (rs : List Recorded) → step p s ≡ goes_on es rs s'
@@ -125,132 +169,125 @@ run-last : (p : Params) (s : State) (fuel : ℕ) (es : List RunEvent) (rs : List
 unfolding run_from
 run-last p s fuel es rs e k = (ap (λ st. (run_by (λ u. run_from p fuel u) st).events) k, ap (λ st. (run_by (λ u. run_from p fuel u) st).end) k)
 
-step-on : (p : Params) (s s' : State) (es : List PlainSent) (st : Step) → step p s ≡ st → step_shown st ≡ next es s' → 1 ≤ s.page → Steps p s s' es
-step-on p s s' es (ends evs rs e) is shown page = cc
-step-on p s s' es (goes_on evs rs u) is shown page =
+step-on : (p : Params) (s s' : State) (ts : List Try) (es : List PlainSent) (st : Step) → step p s ≡ st → step_shown st ≡ next es s' → IsLed ts st → 1 ≤ s.page → Steps p s s' ts es
+step-on p s s' ts es (ends evs rs e) is shown led page = cc
+step-on p s s' ts es (goes_on evs rs u) is shown led page =
     let same : u ≡ s' = cc in
     let sends : sent_among evs ≡ es = cc in
     let turns = subst (Turns p s) is (step-turns p s page) in
-    subst (λ x. Steps p s x es) same (record {
+    subst (λ x. Steps p s x ts es) same (record {
       events = evs;
       is = sends;
+      led = led ∙ ap (λ xs. map offered ts ++ map sent xs) sends;
       page = turns.0;
       fewer = turns.1;
       later = λ fuel. run-on p s u fuel evs rs is;
     })
 
-step-last : (p : Params) (s : State) (e : End) (es : List PlainSent) (st : Step) → step p s ≡ st → step_shown st ≡ last es e → Stops p s e es
-step-last p s e es (goes_on evs rs u) is shown = cc
-step-last p s e es (ends evs rs f) is shown =
+step-last : (p : Params) (s : State) (e : End) (ts : List Try) (es : List PlainSent) (st : Step) → step p s ≡ st → step_shown st ≡ last es e → IsLed ts st → Stops p s e ts es
+step-last p s e ts es (goes_on evs rs u) is shown led = cc
+step-last p s e ts es (ends evs rs f) is shown led =
     let same : f ≡ e = cc in
     let sends : sent_among evs ≡ es = cc in
-    subst (λ x. Stops p s x es) same (record { events = evs; is = sends; later = λ fuel. run-last p s fuel evs rs f is })
+    subst (λ x. Stops p s x ts es) same (record { events = evs; is = sends; led = led ∙ ap (λ xs. map offered ts ++ map sent xs) sends; later = λ fuel. run-last p s fuel evs rs f is })
 
-pub steps : (p : Params) (s s' : State) (es : List PlainSent) → step_shown (step p s) ≡ next es s' → 1 ≤ s.page → Steps p s s' es
-steps p s s' es shown page = step-on p s s' es (step p s) refl shown page
+pub steps : (p : Params) (s s' : State) (ts : List Try) (es : List PlainSent) → step_shown (step p s) ≡ next es s' → IsLed ts (step p s) → 1 ≤ s.page → Steps p s s' ts es
+steps p s s' ts es shown led page = step-on p s s' ts es (step p s) refl shown led page
 
-pub stops : (p : Params) (s : State) (e : End) (es : List PlainSent) → step_shown (step p s) ≡ last es e → Stops p s e es
-stops p s e es shown = step-last p s e es (step p s) refl shown
+pub stops : (p : Params) (s : State) (e : End) (ts : List Try) (es : List PlainSent) → step_shown (step p s) ≡ last es e → IsLed ts (step p s) → Stops p s e ts es
+stops p s e ts es shown led = step-last p s e ts es (step p s) refl shown led
 
 -- ---- one turn further
 
-tail-on : (all : List RunEvent) (r r' : Run) (events : List RunEvent) → r.events ≡ events ++ r'.events → r.end ≡ r'.end → tail_lines all r ≡ all_sent_lines (sent_among events) ++ tail_lines all r'
-tail-on all r r' events e f =
-    (λ i. all_lines event_lines (e i) ++ closing_lines (f i) all)
-    ∙ ap (λ ls. ls ++ closing_lines r'.end all) (lines-append events r'.events)
-    ∙ append_assoc (all_sent_lines (sent_among events)) (all_lines event_lines r'.events) (closing_lines r'.end all)
+tail-on : (v : View) (ts : List Try) (es : List PlainSent) (all : List RunEvent) (r r' : Run) (events : List RunEvent) → events ≡ map offered ts ++ map sent es → r.events ≡ events ++ r'.events → r.end ≡ r'.end → tail_lines v all r ≡ turn_lines v ts es ++ tail_lines v all r'
+tail-on v ts es all r r' events led e f =
+    (λ i. all_lines (event_text v) (e i) ++ closing_lines (f i) all)
+    ∙ ap (λ ls. ls ++ closing_lines r'.end all) (lines-append v events r'.events ∙ ap (λ ls. ls ++ all_lines (event_text v) r'.events) (ap (all_lines (event_text v)) led ∙ turn-lines v ts es))
+    ∙ append_assoc (turn_lines v ts es) (all_lines (event_text v) r'.events) (closing_lines r'.end all)
 
-tail-last : (all : List RunEvent) (r : Run) (events : List RunEvent) (e : End) → r.events ≡ events → r.end ≡ e → tail_lines all r ≡ all_sent_lines (sent_among events) ++ closing_lines e all
-tail-last all r events e a b =
-    (λ i. all_lines event_lines ((a ∙ sym (append-nil events)) i) ++ closing_lines (b i) all)
-    ∙ ap (λ ls. ls ++ closing_lines e all) (lines-append events [] ∙ append-nil (all_sent_lines (sent_among events)))
+tail-last : (v : View) (ts : List Try) (es : List PlainSent) (all : List RunEvent) (r : Run) (events : List RunEvent) (e : End) → events ≡ map offered ts ++ map sent es → r.events ≡ events → r.end ≡ e → tail_lines v all r ≡ turn_lines v ts es ++ closing_lines e all
+tail-last v ts es all r events e led a b =
+    (λ i. all_lines (event_text v) (a i) ++ closing_lines (b i) all)
+    ∙ ap (λ ls. ls ++ closing_lines e all) (ap (all_lines (event_text v)) led ∙ turn-lines v ts es)
 
 module _ (p : Params) (v : View) (old now new : Option (List ℕ)) (t : Totals) (whole : Run) where
   appended-on : (written more : List ℕ) → Appends old now (viewed v written) → Appends now new (viewed v more) → Appends old new (viewed v (written ++ more))
   appended-on written more a b = subst (Appends old new) (sym (viewed-append v written more)) (Appends-twice old now new (viewed v written) (viewed v more) a b)
 
-  goes-by : (s s' : State) (es : List PlainSent) (written : List ℕ) (fuel : ℕ) → Appends old now (viewed v written) → firings_left p s < fuel → report whole ≡ written ++ tail_lines whole.events (run_from p fuel s)
-      → whole.end ≡ (run_from p fuel s).end → totals_of whole.events ≡ joined t (totals_of (run_from p fuel s).events) → Steps p s s' es → Appends now new (viewed v (all_sent_lines es))
+  goes-by : (s s' : State) (ts : List Try) (es : List PlainSent) (written : List ℕ) (fuel : ℕ) → Appends old now (viewed v written) → firings_left p s < fuel → whole_text v whole ≡ written ++ tail_lines v whole.events (run_from p fuel s)
+      → whole.end ≡ (run_from p fuel s).end → totals_of whole.events ≡ joined t (totals_of (run_from p fuel s).events) → Steps p s s' ts es → Appends now new (viewed v (turn_lines v ts es))
       → Going p v s' old new (with_all es t) whole
-  goes-by s s' es written zero a enough text end totals st b = absurd (omega arith)
-  goes-by s s' es written (suc fuel) a enough text end totals st b =
+  goes-by s s' ts es written zero a enough text end totals st b = absurd (omega arith)
+  goes-by s s' ts es written (suc fuel) a enough text end totals st b =
       let fewer = st.fewer in
       record {
         page = st.page;
-        written = written ++ all_sent_lines es;
+        written = written ++ turn_lines v ts es;
         fuel = fuel;
-        appended = appended-on written (all_sent_lines es) a b;
+        appended = appended-on written (turn_lines v ts es) a b;
         enough = omega arith;
-        text = text ∙ ap (λ ls. written ++ ls) (tail-on whole.events (run_from p (suc fuel) s) (run_from p fuel s') st.events (st.later fuel).0 (st.later fuel).1 ∙ ap (λ xs. all_sent_lines xs ++ tail_lines whole.events (run_from p fuel s')) st.is) ∙ sym (append_assoc written (all_sent_lines es) (tail_lines whole.events (run_from p fuel s')));
+        text = text ∙ ap (λ ls. written ++ ls) (tail-on v ts es whole.events (run_from p (suc fuel) s) (run_from p fuel s') st.events st.led (st.later fuel).0 (st.later fuel).1) ∙ sym (append_assoc written (turn_lines v ts es) (tail_lines v whole.events (run_from p fuel s')));
         end = end ∙ (st.later fuel).1;
         totals = totals ∙ ap (λ xs. joined t (totals_of xs)) (st.later fuel).0 ∙ joined-events st.events (run_from p fuel s').events t ∙ ap (λ xs. joined (with_all xs t) (totals_of (run_from p fuel s').events)) st.is;
       }
 
-  pub goes : (s s' : State) (es : List PlainSent) → Going p v s old now t whole → step_shown (step p s) ≡ next es s' → Appends now new (viewed v (all_sent_lines es)) → Going p v s' old new (with_all es t) whole
-  goes s s' es g shown b = goes-by s s' es g.written g.fuel g.appended g.enough g.text g.end g.totals (steps p s s' es shown g.page) b
+  pub goes : (s s' : State) (ts : List Try) (es : List PlainSent) → Going p v s old now t whole → step_shown (step p s) ≡ next es s' → IsLed ts (step p s) → Appends now new (viewed v (turn_lines v ts es)) → Going p v s' old new (with_all es t) whole
+  goes s s' ts es g shown led b = goes-by s s' ts es g.written g.fuel g.appended g.enough g.text g.end g.totals (steps p s s' ts es shown led g.page) b
 
-  closes-by : (s : State) (e : End) (es : List PlainSent) (written : List ℕ) (fuel : ℕ) → Appends old now (viewed v written) → firings_left p s < fuel → report whole ≡ written ++ tail_lines whole.events (run_from p fuel s)
-      → whole.end ≡ (run_from p fuel s).end → totals_of whole.events ≡ joined t (totals_of (run_from p fuel s).events) → Stops p s e es → Appends now new (viewed v (all_sent_lines es))
+  closes-by : (s : State) (e : End) (ts : List Try) (es : List PlainSent) (written : List ℕ) (fuel : ℕ) → Appends old now (viewed v written) → firings_left p s < fuel → whole_text v whole ≡ written ++ tail_lines v whole.events (run_from p fuel s)
+      → whole.end ≡ (run_from p fuel s).end → totals_of whole.events ≡ joined t (totals_of (run_from p fuel s).events) → Stops p s e ts es → Appends now new (viewed v (turn_lines v ts es))
       → Closing v e old new (with_all es t) whole
-  closes-by s e es written zero a enough text end totals st b = absurd (omega arith)
-  closes-by s e es written (suc fuel) a enough text end totals st b = record {
-    written = written ++ all_sent_lines es;
-    appended = appended-on written (all_sent_lines es) a b;
-    text = text ∙ ap (λ ls. written ++ ls) (tail-last whole.events (run_from p (suc fuel) s) st.events e (st.later fuel).0 (st.later fuel).1 ∙ ap (λ xs. all_sent_lines xs ++ closing_lines e whole.events) st.is) ∙ sym (append_assoc written (all_sent_lines es) (closing_lines e whole.events));
+  closes-by s e ts es written zero a enough text end totals st b = absurd (omega arith)
+  closes-by s e ts es written (suc fuel) a enough text end totals st b = record {
+    written = written ++ turn_lines v ts es;
+    appended = appended-on written (turn_lines v ts es) a b;
+    text = text ∙ ap (λ ls. written ++ ls) (tail-last v ts es whole.events (run_from p (suc fuel) s) st.events e st.led (st.later fuel).0 (st.later fuel).1) ∙ sym (append_assoc written (turn_lines v ts es) (closing_lines e whole.events));
     end = end ∙ (st.later fuel).1;
     totals = totals ∙ ap (λ xs. joined t (totals_of xs)) ((st.later fuel).0 ∙ sym (append-nil st.events)) ∙ joined-events st.events [] t ∙ joined-nothing (with_all (sent_among st.events) t) ∙ ap (λ xs. with_all xs t) st.is;
   }
 
-  pub closes : (s : State) (e : End) (es : List PlainSent) → Going p v s old now t whole → step_shown (step p s) ≡ last es e → Appends now new (viewed v (all_sent_lines es)) → Closing v e old new (with_all es t) whole
-  closes s e es g shown b = closes-by s e es g.written g.fuel g.appended g.enough g.text g.end g.totals (stops p s e es shown) b
+  pub closes : (s : State) (e : End) (ts : List Try) (es : List PlainSent) → Going p v s old now t whole → step_shown (step p s) ≡ last es e → IsLed ts (step p s) → Appends now new (viewed v (turn_lines v ts es)) → Closing v e old new (with_all es t) whole
+  closes s e ts es g shown led b = closes-by s e ts es g.written g.fuel g.appended g.enough g.text g.end g.totals (stops p s e ts es shown led) b
 
   -- ---- a run that is cut off while a turn is written
 
-  cut-on : (written more rest : List ℕ) → report whole ≡ written ++ (more ++ rest) → Appends old now (viewed v written) → AppendsPrefix now new (viewed v more) → AppendsPrefix old new (view_text v whole)
+  cut-on : (written more rest : List ℕ) → whole_text v whole ≡ written ++ (more ++ rest) → Appends old now (viewed v written) → AppendsPrefix now new (viewed v more) → AppendsPrefix old new (view_text v whole)
   cut-on written more rest text a b =
       prefix_on old now new (view_text v whole) (viewed v written) (viewed v more) (viewed v rest) a b
-      (sym (viewed-report v whole) ∙ ap (viewed v) text ∙ viewed-append v written (more ++ rest) ∙ ap (λ ls. viewed v written ++ ls) (viewed-append v more rest))
+      (sym (viewed-whole v whole) ∙ ap (viewed v) text ∙ viewed-append v written (more ++ rest) ∙ ap (λ ls. viewed v written ++ ls) (viewed-append v more rest))
 
-  cut-next : (s s' : State) (es : List PlainSent) (written : List ℕ) (fuel : ℕ) → firings_left p s < fuel → report whole ≡ written ++ tail_lines whole.events (run_from p fuel s) → Steps p s s' es
-      → (rest : List ℕ) × (report whole ≡ written ++ (all_sent_lines es ++ rest))
-  cut-next s s' es written zero enough text st = absurd (omega arith)
-  cut-next s s' es written (suc fuel) enough text st = (tail_lines whole.events (run_from p fuel s'), text ∙ ap (λ ls. written ++ ls) (tail-on whole.events (run_from p (suc fuel) s) (run_from p fuel s') st.events (st.later fuel).0 (st.later fuel).1 ∙ ap (λ xs. all_sent_lines xs ++ tail_lines whole.events (run_from p fuel s')) st.is))
+  cut-next : (s s' : State) (ts : List Try) (es : List PlainSent) (written : List ℕ) (fuel : ℕ) → firings_left p s < fuel → whole_text v whole ≡ written ++ tail_lines v whole.events (run_from p fuel s) → Steps p s s' ts es
+      → (rest : List ℕ) × (whole_text v whole ≡ written ++ (turn_lines v ts es ++ rest))
+  cut-next s s' ts es written zero enough text st = absurd (omega arith)
+  cut-next s s' ts es written (suc fuel) enough text st = (tail_lines v whole.events (run_from p fuel s'), text ∙ ap (λ ls. written ++ ls) (tail-on v ts es whole.events (run_from p (suc fuel) s) (run_from p fuel s') st.events st.led (st.later fuel).0 (st.later fuel).1))
 
-  cut-last : (s : State) (e : End) (es : List PlainSent) (written : List ℕ) (fuel : ℕ) → firings_left p s < fuel → report whole ≡ written ++ tail_lines whole.events (run_from p fuel s) → Stops p s e es
-      → (rest : List ℕ) × (report whole ≡ written ++ (all_sent_lines es ++ rest))
-  cut-last s e es written zero enough text st = absurd (omega arith)
-  cut-last s e es written (suc fuel) enough text st = (closing_lines e whole.events, text ∙ ap (λ ls. written ++ ls) (tail-last whole.events (run_from p (suc fuel) s) st.events e (st.later fuel).0 (st.later fuel).1 ∙ ap (λ xs. all_sent_lines xs ++ closing_lines e whole.events) st.is))
+  cut-last : (s : State) (e : End) (ts : List Try) (es : List PlainSent) (written : List ℕ) (fuel : ℕ) → firings_left p s < fuel → whole_text v whole ≡ written ++ tail_lines v whole.events (run_from p fuel s) → Stops p s e ts es
+      → (rest : List ℕ) × (whole_text v whole ≡ written ++ (turn_lines v ts es ++ rest))
+  cut-last s e ts es written zero enough text st = absurd (omega arith)
+  cut-last s e ts es written (suc fuel) enough text st = (closing_lines e whole.events, text ∙ ap (λ ls. written ++ ls) (tail-last v ts es whole.events (run_from p (suc fuel) s) st.events e st.led (st.later fuel).0 (st.later fuel).1))
 
-  pub cut-short : (s : State) (es : List PlainSent) (shown : Shown) → Going p v s old now t whole → step_shown (step p s) ≡ shown → AppendsPrefix now new (viewed v (all_sent_lines es))
+  pub cut-short : (s : State) (ts : List Try) (es : List PlainSent) (shown : Shown) → Going p v s old now t whole → step_shown (step p s) ≡ shown → IsLed ts (step p s) → AppendsPrefix now new (viewed v (turn_lines v ts es))
       → ((s' : State) × (shown ≡ next es s')) ⊎ ((e : End) × (shown ≡ last es e)) → AppendsPrefix old new (view_text v whole)
-  cut-short s es shown g is b (inl k) = let c = cut-next s k.0 es g.written g.fuel g.enough g.text (steps p s k.0 es (is ∙ k.1) g.page) in cut-on g.written (all_sent_lines es) c.0 c.1 g.appended b
-  cut-short s es shown g is b (inr k) = let c = cut-last s k.0 es g.written g.fuel g.enough g.text (stops p s k.0 es (is ∙ k.1)) in cut-on g.written (all_sent_lines es) c.0 c.1 g.appended b
+  cut-short s ts es shown g is led b (inl k) = let c = cut-next s k.0 ts es g.written g.fuel g.enough g.text (steps p s k.0 ts es (is ∙ k.1) led g.page) in cut-on g.written (turn_lines v ts es) c.0 c.1 g.appended b
+  cut-short s ts es shown g is led b (inr k) = let c = cut-last s k.0 ts es g.written g.fuel g.enough g.text (stops p s k.0 ts es (is ∙ k.1) led) in cut-on g.written (turn_lines v ts es) c.0 c.1 g.appended b
 
 -- nothing was written of this turn
 pub prefix-now : (p : Params) (v : View) (s : State) (old now : Option (List ℕ)) (t : Totals) (whole : Run) → Going p v s old now t whole → AppendsPrefix old now (view_text v whole)
 prefix-now p v s old now t whole g =
-    subst (AppendsPrefix old now) (sym (viewed-append v g.written (tail_lines whole.events (run_from p g.fuel s))) ∙ sym (ap (viewed v) g.text) ∙ viewed-report v whole)
-    (prefix_longer old now (viewed v g.written) (viewed v (tail_lines whole.events (run_from p g.fuel s))) (prefix_whole old now (viewed v g.written) g.appended))
+    subst (AppendsPrefix old now) (sym (viewed-append v g.written (tail_lines v whole.events (run_from p g.fuel s))) ∙ sym (ap (viewed v) g.text) ∙ viewed-whole v whole)
+    (prefix_longer old now (viewed v g.written) (viewed v (tail_lines v whole.events (run_from p g.fuel s))) (prefix_whole old now (viewed v g.written) g.appended))
 
 -- ---- the beginning
-
-abbrev pub header : List ℕ
-header = codes "report 1\n"
-
--- the report behind its header
-report-is : (r : Run) → report r ≡ header ++ tail_lines r.events r
-unfolding report
-report-is r = append_assoc header (all_lines event_lines r.events) (closing_lines r.end r.events)
 
 begins-by : (p : Params) (v : View) (s : State) (old now : Option (List ℕ)) (t : Bool) → int_lt p.maxnodes (pos (held_count s)) ≡ t → 1 ≤ s.page → Appends old now (viewed v header)
     → (let whole : Run = (if t then record { events = []; records = []; end = node_limit (held_count s) } else run_from p (suc (firings_left p s)) s) in
     (t ≡ false → Going p v s old now no_totals whole) × (t ≡ true → Closing v (node_limit (held_count s)) old now no_totals whole))
 begins-by p v s old now true e page a =
     let whole : Run = record { events = []; records = []; end = node_limit (held_count s) } in
-    ((λ k. cc), (λ k. record { written = header; appended = a; text = report-is whole; end = refl; totals = refl }))
+    ((λ k. cc), (λ k. record { written = header; appended = a; text = refl; end = refl; totals = refl }))
 begins-by p v s old now false e page a =
     let whole = run_from p (suc (firings_left p s)) s in
-    ((λ k. record { page = page; written = header; fuel = suc (firings_left p s); appended = a; enough = omega arith; text = report-is whole; end = refl; totals = sym (nothing-joined (totals_of whole.events)) }), (λ k. cc))
+    ((λ k. record { page = page; written = header; fuel = suc (firings_left p s); appended = a; enough = omega arith; text = refl; end = refl; totals = sym (nothing-joined (totals_of whole.events)) }), (λ k. cc))
 
 module _ (v : View) (g : Galley) (s : State) (old now : Option (List ℕ)) (is : s ≡ first_state g.params (classes_of g) (expanded g)) (a : Appends old now (viewed v header)) where
   same-run : run_of g ≡ run_of_state g.params s
@@ -270,8 +307,8 @@ module _ (v : View) (g : Galley) (s : State) (old now : Option (List ℕ)) (is :
 -- a part of the header was written, and nothing else
 pub prefix-first : (v : View) (g : Galley) (old now : Option (List ℕ)) → AppendsPrefix old now (viewed v header) → AppendsPrefix old now (view_text v (run_of g))
 prefix-first v g old now b =
-    subst (AppendsPrefix old now) (sym (viewed-append v header (tail_lines (run_of g).events (run_of g))) ∙ sym (ap (viewed v) (report-is (run_of g))) ∙ viewed-report v (run_of g))
-    (prefix_longer old now (viewed v header) (viewed v (tail_lines (run_of g).events (run_of g))) b)
+    subst (AppendsPrefix old now) (sym (viewed-append v header (tail_lines v (run_of g).events (run_of g))) ∙ viewed-whole v (run_of g))
+    (prefix_longer old now (viewed v header) (viewed v (tail_lines v (run_of g).events (run_of g))) b)
 
 -- ---- what was counted
 
@@ -310,7 +347,7 @@ tally-counts t page h most = let a = h.pages in let b = h.boxes in let c = h.flo
 module _ (v : View) (old mid new : Option (List ℕ)) (t : Totals) (whole : Run) where
   -- the last lines of a run that ends well
   last-text : (left : List PlainNode) → (c : Closing v (done left) old mid t whole) → view_text v whole ≡ viewed v c.written ++ viewed v (end_lines left t)
-  last-text left c = sym (viewed-report v whole) ∙ ap (viewed v) (c.text ∙ ap (λ u. c.written ++ end_lines left u) c.totals) ∙ viewed-append v c.written (end_lines left t)
+  last-text left c = sym (viewed-whole v whole) ∙ ap (viewed v) (c.text ∙ ap (λ u. c.written ++ end_lines left u) c.totals) ∙ viewed-append v c.written (end_lines left t)
 
   pub done-well : (left : List PlainNode) (u : Totals) → Closing v (done left) old mid t whole → u ≡ t → Appends mid new (viewed v (end_lines left t)) → Paginates v whole old new u
   done-well left u c is b = record {
@@ -326,7 +363,7 @@ module _ (v : View) (old mid new : Option (List ℕ)) (t : Totals) (whole : Run)
   refused-end e f c fault none same = record {
     ended = ap end_fault c.end ∙ fault;
     written = subst (λ x. Appends old x (view_text v whole)) (sym same)
-        (subst (Appends old mid) (sym (sym (viewed-report v whole) ∙ ap (viewed v) (c.text ∙ ap (λ ls. c.written ++ ls) none ∙ append-nil c.written))) c.appended);
+        (subst (Appends old mid) (sym (sym (viewed-whole v whole) ∙ ap (viewed v) (c.text ∙ ap (λ ls. c.written ++ ls) none ∙ append-nil c.written))) c.appended);
   }
 
 -- a failed write or want of memory, after a prefix
@@ -346,9 +383,12 @@ fault-rose v before now start (faults.DeadCycles n) h le e = absurd h
 fault-rose v before now start (faults.PageLimit n) h le e = absurd h
 fault-rose v before now start (faults.NodeLimit n) h le e = absurd h
 
+silent-shown : (v : View) → v ≡ views.Silent → IsShown v → ⊥
+silent-shown v s k = subst IsShown s k
+
 pub fault-shown : (v : View) (before now : ℕ) (f : PageFault) → IsWriteFault v before now f → v ≡ views.Silent → f ≡ faults.WriteFault → ⊥
 fault-shown v before now faults.Memory h s e = cc
-fault-shown v before now faults.WriteFault h s e = let k = h.1 in cc
+fault-shown v before now faults.WriteFault h s e = silent-shown v s h.1
 fault-shown v before now (faults.PoolFull line live) h s e = absurd h
 fault-shown v before now (faults.DeadCycles n) h s e = absurd h
 fault-shown v before now (faults.PageLimit n) h s e = absurd h

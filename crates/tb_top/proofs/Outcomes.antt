@@ -1,7 +1,11 @@
--- What holds of the ends after a refusal and its line, and which answer the input decides.
-use Rattle.std.proofs.Common.{◌≡◌, ◌≢◌, ℕ, ◌≤◌, List, [], ◌++◌, length, refl, sym, ◌∙◌, ap, inl, inr, arith, append-nil, length-append, Bool, true, false, nat_lt, Option, None, Some, Ok}
+-- What holds of the ends after a refusal and its line, and which answer the mode and the input decide.
+use Rattle.std.proofs.Common.{◌≡◌, ◌≢◌, ℕ, ◌≤◌, ◌⊎◌, List, [], ◌++◌, length, refl, sym, ◌∙◌, ap, subst, inl, inr, arith, append-nil, length-append, Bool, true, false, nat_lt, Option, None, Some, Ok}
+use Rattle.std.specs.Prelude.{IfSome}
+use Rattle.std.specs.Io.KnownBytes.{Keeps, Appends}
 use Rattle.std.proofs.lemmas.Bool.Decides.{nat_tests}
 use Rattle.tb_io.specs.Held.{AppendsPrefix}
+use Rattle.tb_io.specs.declared.sink.SinkFault.{SinkFault}
+use Rattle.tb_io.specs.declared.sink.SinkFault.TheVariants as outputs
 use Rattle.tb_io.proofs.Appended.{prefix_whole}
 use Rattle.tb_galley.specs.declared.Cause.{Cause}
 use Rattle.tb_galley.specs.declared.Galley.{Galley}
@@ -10,9 +14,15 @@ use Rattle.tb_galley.specs.declared.GalleyFault.TheVariants as unread
 use Rattle.tb_galley.specs.CauseText.{is_range_cause}
 use Rattle.tb_galley.specs.Grammar.{grammar, input_limit}
 use Rattle.tb_galley.specs.Valid.{IsValid}
+use Rattle.tb_galley.specs.Print.{printed}
+use Rattle.tb_words.specs.declared.Mode.{Mode}
+use Rattle.tb_words.specs.declared.Mode.TheVariants as modes
+use Rattle.tb_words.specs.declared.WordsFault.{WordsFault}
+use Rattle.tb_words.specs.declared.WordsFault.TheVariants as asked
+use Rattle.tb_report.specs.declared.Totals.{Totals}
 use Rattle.tb_top.specs.declared.PageFault.{PageFault}
 use Rattle.tb_top.specs.declared.PageFault.TheVariants as pages
-use Rattle.tb_top.specs.declared.View.TheVariants.{Report}
+use Rattle.tb_top.specs.declared.View.{View}
 use Rattle.tb_top.specs.declared.input.InputFault.{InputFault}
 use Rattle.tb_top.specs.declared.input.InputFault.TheVariants as inputs
 use Rattle.tb_top.specs.declared.refusal.Refusal.{Refusal}
@@ -20,13 +30,30 @@ use Rattle.tb_top.specs.declared.refusal.Refusal.TheVariants as refusals
 use Rattle.tb_top.specs.declared.status.Status.{Status}
 use Rattle.tb_top.specs.declared.status.Status.TheVariants as answers
 use Rattle.tb_run.specs.Run.{End, done, pool_full, dead_cycles, page_limit, node_limit, run_of}
-use Rattle.tb_top.specs.Paginated.{end_fault, EndsWith, Refuses}
-use Rattle.tb_top.specs.Answer.{answer_at, line_at, answer_for_cause, answer_to, report_to, err_line}
-use Rattle.tb_top.specs.Outcome.{Ends, ErrEnd, Gives, Decided, OutOfCycles, CutOff, StandsAfter, TellsLine, Says, Outcome, IsAnswer}
+use Rattle.tb_top.specs.Paginated.{view_text, end_fault, EndsWith, Paginates, Refuses}
+use Rattle.tb_top.specs.Report.{report, trace}
+use Rattle.tb_top.specs.Laws.{KeepsLaws}
+use Rattle.tb_top.specs.Answer.{Reply, answer_at, line_at, answer_for_cause, err_line, fault_reply, galley_reply, run_reply, text_reply, reply_to}
+use Rattle.tb_top.specs.Outcome.{Stream, Failed, Gives, Reads, IsUnread, IsGalleyWith, ShowsRunOf, HasLawfulRun, LacksRoomForCycles, Decided, Finished, OutOfCycles, CutOff, StandsAfter, TellsLine, Says, Outcome, Succeeds, IsAnswer, input_of}
 use Rattle.tb_top.proofs.CycleAnswers.{no-room}
-use Rattle.tb_top.specs.Refusal.{galley_status, page_status, input_status, refusal_status, page_text}
+use Rattle.tb_top.specs.Refusal.{galley_status, page_status, input_status, words_status, output_status, refusal_status, refusal_line, page_text, output_text, IsNoGalley}
 
--- ---- a run that was refused
+-- ---- a run that ended
+
+-- the end of a run that is not refused
+answer_at-well : (e : End) → end_fault e ≡ None → answers.Done ≡ answer_at e
+answer_at-well (done left) is = refl
+answer_at-well (pool_full line live) is = cc
+answer_at-well (dead_cycles n) is = cc
+answer_at-well (page_limit n) is = cc
+answer_at-well (node_limit n) is = cc
+
+line_at-well : (e : End) → end_fault e ≡ None → [] ≡ line_at e
+line_at-well (done left) is = refl
+line_at-well (pool_full line live) is = cc
+line_at-well (dead_cycles n) is = cc
+line_at-well (page_limit n) is = cc
+line_at-well (node_limit n) is = cc
 
 -- the refusal of a run has the answer and the line of the run's end
 page_status-ended : (e : End) (f : PageFault) → end_fault e ≡ Some f → page_status f ≡ answer_at e
@@ -43,33 +70,107 @@ page_text-ended (dead_cycles n) f is = let same : pages.DeadCycles n ≡ f = cc 
 page_text-ended (page_limit n) f is = let same : pages.PageLimit n ≡ f = cc in rw (← same) refl
 page_text-ended (node_limit n) f is = let same : pages.NodeLimit n ≡ f = cc in rw (← same) refl
 
-module _ (e : Ends) (input : List ℕ) (g : Galley) (read : Gives e.left_before e.left_after input) (is : grammar input ≡ Ok g) (valid : IsValid g) where
-  decided : (f : PageFault) → EndsWith Report (run_of g) e.held_before e.held_after f → Decided (page_status f) e (err_line (page_text f))
-  decided f r = record {
-    input = input;
-    read = read;
-    answered = rw is (page_status-ended (run_of g).end f r.ended);
-    written = rw is r.written;
-    told = rw is (page_text-ended (run_of g).end f r.ended);
-  }
+module _ (m : Mode) (input : List ℕ) (source out : Stream) (read : Reads m source input) where
+  decided_by : (answer : Status) (line : List ℕ) (r : Reply) → reply_to m input ≡ r → answer ≡ r.answer → line ≡ r.line → Appends out.before out.after r.written → Decided (Some m) answer source out line
+  decided_by answer line r is a l w = record { mode = m; asked_for = refl; input = input; read = read; answered = rw is a; written = rw is w; told = rw is l }
 
-  out_of_cycles : (n : ℕ) → EndsWith Report (run_of g) e.held_before e.held_after (pages.DeadCycles n) → OutOfCycles e (err_line (page_text (pages.DeadCycles n)))
-  unfolding decided
-  out_of_cycles n r =
-      let d = decided (pages.DeadCycles n) r in
-      record { input = input; read = read; answered = d.answered; written = d.written; told = d.told; galley = g; parsed = is; no_room = no-room g valid Report e.held_before e.held_after n r }
+  -- with what holds of the galley whose run is shown
+  shown_by : (P : Galley → Type 0) → ShowsRunOf P m input → (answer : Status) (line : List ℕ) (r : Reply) → reply_to m input ≡ r → answer ≡ r.answer → line ≡ r.line → Appends out.before out.after r.written
+      → (d : Decided (Some m) answer source out line) × ShowsRunOf P d.mode d.input
+  unfolding decided_by
+  shown_by P h answer line r is a l w = (decided_by answer line r is a l w, h)
 
-  cut_off : AppendsPrefix e.held_before e.held_after (report_to input) → CutOff e
-  cut_off part = record { input = input; read = read; galley = rw is refl; written = part }
+  cut_off_by : (r : Reply) → reply_to m input ≡ r → r.writes ≡ true → AppendsPrefix out.before out.after r.written → CutOff (Some m) source out
+  cut_off_by r is w part = record { mode = m; asked_for = refl; input = input; read = read; writes = rw is w; written = rw is part }
 
-  -- what stands after a refusal of `paginate`
-  pub left_by_pages : (f : PageFault) → Refuses Report (run_of g) e.held_before e.held_after f → StandsAfter (page_status f) e (err_line (page_text f))
-  left_by_pages (pages.PoolFull line live) r = decided (pages.PoolFull line live) r
-  left_by_pages (pages.DeadCycles n) r = out_of_cycles n r
-  left_by_pages (pages.PageLimit n) r = decided (pages.PageLimit n) r
-  left_by_pages (pages.NodeLimit n) r = decided (pages.NodeLimit n) r
-  left_by_pages pages.WriteFault r = (cut_off (rw is r), refl)
-  left_by_pages pages.Memory r = (inr (cut_off (rw is r)), refl)
+  module _ (v : View) (g : Galley) (is : reply_to m input ≡ run_reply (view_text v (run_of g)) (run_of g)) (shows : (P : Galley → Type 0) → P g → ShowsRunOf P m input) where
+    -- what stands where `paginate` answers well
+    pub pages_well : (t : Totals) → Paginates v (run_of g) out.before out.after t → KeepsLaws g t → Finished (Some m) source out []
+    pages_well t p laws =
+        shown_by HasLawfulRun (shows HasLawfulRun (subst (KeepsLaws g) p.totals laws)) answers.Done [] _ is (answer_at-well (run_of g).end p.ended) (line_at-well (run_of g).end p.ended) p.written
+
+    pages_ended : (f : PageFault) → EndsWith v (run_of g) out.before out.after f → Decided (Some m) (page_status f) source out (err_line (page_text f))
+    pages_ended f r = decided_by _ _ _ is (page_status-ended (run_of g).end f r.ended) (page_text-ended (run_of g).end f r.ended) r.written
+
+    out_of_cycles : IsValid g → (n : ℕ) → EndsWith v (run_of g) out.before out.after (pages.DeadCycles n) → OutOfCycles (Some m) source out (err_line (page_text (pages.DeadCycles n)))
+    out_of_cycles valid n r =
+        shown_by LacksRoomForCycles (shows LacksRoomForCycles (no-room g valid v out.before out.after n r)) answers.DeadCycles (err_line (page_text (pages.DeadCycles n))) _ is
+        (page_status-ended (run_of g).end (pages.DeadCycles n) r.ended) (page_text-ended (run_of g).end (pages.DeadCycles n) r.ended) r.written
+
+    -- what stands after a refusal of `paginate`
+    pub left_by_pages : IsValid g → (f : PageFault) → Refuses v (run_of g) out.before out.after f → (f ≡ pages.WriteFault → Failed out) → StandsAfter (Some m) (page_status f) source out (err_line (page_text f))
+    left_by_pages valid (pages.PoolFull line live) r rose = pages_ended (pages.PoolFull line live) r
+    left_by_pages valid (pages.DeadCycles n) r rose = out_of_cycles valid n r
+    left_by_pages valid (pages.PageLimit n) r rose = pages_ended (pages.PageLimit n) r
+    left_by_pages valid (pages.NodeLimit n) r rose = pages_ended (pages.NodeLimit n) r
+    left_by_pages valid pages.WriteFault r rose = (cut_off_by _ is refl r, rose refl, refl)
+    left_by_pages valid pages.Memory r rose = (inr (cut_off_by _ is refl r), refl)
+
+  module _ (text : List ℕ) (is : reply_to m input ≡ text_reply text) where
+    -- what stands where a text was written, or not
+    pub text_well : Appends out.before out.after text → ShowsRunOf HasLawfulRun m input → Finished (Some m) source out []
+    text_well w laws = shown_by HasLawfulRun laws answers.Done [] _ is refl refl w
+
+    pub left_by_text : (f : SinkFault) → AppendsPrefix out.before out.after text → (f ≡ outputs.Failed → Failed out) → StandsAfter (Some m) (output_status f) source out (err_line (output_text f))
+    left_by_text outputs.Failed w rose = (cut_off_by _ is refl w, rose refl, refl)
+    left_by_text outputs.Memory w rose = (inr (cut_off_by _ is refl w), refl)
+
+-- a galley that was read, and what holds of it
+pub galley_with : (input : List ℕ) (g : Galley) → grammar input ≡ Ok g → (P : Galley → Type 0) → P g → IsGalleyWith P input
+galley_with input g is P h = record { galley = g; parsed = is; holds = h }
+
+-- what stays has grown by nothing
+nothing : (before after : Option (List ℕ)) → Keeps before after → Appends before after []
+nothing None after kept = tt
+nothing (Some xs) None kept = absurd kept
+nothing (Some xs) (Some ys) kept = kept ∙ sym (append-nil xs)
+
+pub keeps-same : (told : Option (List ℕ)) → Keeps told told
+keeps-same None = tt
+keeps-same (Some xs) = refl
+
+-- what stands where the words ask for no mode
+pub left_by_words : (mode : Option Mode) (source out : Stream) → Keeps source.before source.after → Keeps out.before out.after → (f : WordsFault) → (f ≡ asked.Refused → mode ≡ None) → StandsAfter mode (words_status f) source out (refusal_line (refusals.Words f))
+left_by_words mode source out left held asked.Refused none = (record { none = none refl; read = left; written = held }, refl)
+left_by_words mode source out left held asked.Memory none = (inl held, refl)
+
+-- ---- modes that read a galley
+
+-- what such a mode makes of a galley
+pub record ReadsGalleys (m : Mode) (reply : Galley → Reply) : Type 0 where
+  pub reads : (s : Stream) (input : List ℕ) → Gives s.before s.after input → Reads m s input
+  pub unread : (s : Stream) → Failed s → IsUnread m s
+  pub replies : (input : List ℕ) → reply_to m input ≡ galley_reply reply (grammar input)
+
+pub report_reads : ReadsGalleys modes.Report (λ g. run_reply (report (run_of g)) (run_of g))
+report_reads = record { reads = λ s input g. g; unread = λ s f. f; replies = λ input. refl }
+
+pub trace_reads : ReadsGalleys modes.Trace (λ g. run_reply (trace (run_of g)) (run_of g))
+trace_reads = record { reads = λ s input g. g; unread = λ s f. f; replies = λ input. refl }
+
+pub print_reads : ReadsGalleys modes.Print (λ g. text_reply (printed g))
+print_reads = record { reads = λ s input g. g; unread = λ s f. f; replies = λ input. refl }
+
+pub replies_to : (m : Mode) (reply : Galley → Reply) → ReadsGalleys m reply → (input : List ℕ) (g : Galley) → grammar input ≡ Ok g → reply_to m input ≡ reply g
+replies_to m reply mode input g is = mode.replies input ∙ ap (galley_reply reply) is
+
+module _ (m : Mode) (reply : Galley → Reply) (mode : ReadsGalleys m reply) (source out : Stream) where
+  fault_status : (range : Bool) (c : Cause) (line : List ℕ) → is_range_cause c ≡ range → Decided (Some m) (answer_for_cause c) source out line → StandsAfter (Some m) (answer_for_cause c) source out line
+  fault_status true c line is d = rw is (rw is at d)
+  fault_status false c line is d = rw is (rw is at d)
+
+  -- what stands where there is no galley
+  pub left_by_reading : Keeps out.before out.after → (r : Refusal) → IsNoGalley source r → StandsAfter (Some m) (refusal_status r) source out (refusal_line r)
+  left_by_reading kept (refusals.Input inputs.Failed) missing = (record { mode = m; asked_for = refl; failed = mode.unread source missing; written = kept }, refl)
+  left_by_reading kept (refusals.Input inputs.Memory) missing = (inl kept, refl)
+  left_by_reading kept (refusals.Galley (unread.At f)) missing =
+      fault_status (is_range_cause f.cause) f.cause (refusal_line (refusals.Galley (unread.At f))) refl
+      (decided_by m missing.0 source out (mode.reads source missing.0 missing.1) _ _ (fault_reply f) (mode.replies missing.0 ∙ ap (galley_reply reply) missing.2) refl refl (nothing out.before out.after kept))
+  left_by_reading kept (refusals.Galley unread.Memory) missing = (inl kept, refl)
+  left_by_reading kept refusals.Memory missing = (inl kept, refl)
+  left_by_reading kept (refusals.Words f) missing = absurd missing
+  left_by_reading kept (refusals.Pages f) missing = absurd missing
+  left_by_reading kept (refusals.Output f) missing = absurd missing
 
 -- ---- the line of a refusal
 
@@ -93,79 +194,170 @@ input_status-refused : (f : InputFault) → input_status f ≢ answers.Done
 input_status-refused inputs.Failed = λ same. cc
 input_status-refused inputs.Memory = λ same. cc
 
+words_status-refused : (f : WordsFault) → words_status f ≢ answers.Done
+words_status-refused asked.Refused = λ same. cc
+words_status-refused asked.Memory = λ same. cc
+
+output_status-refused : (f : SinkFault) → output_status f ≢ answers.Done
+output_status-refused outputs.Failed = λ same. cc
+output_status-refused outputs.Memory = λ same. cc
+
 -- no refusal is answered as Done
 pub refusal_status-refused : (r : Refusal) → refusal_status r ≢ answers.Done
-refusal_status-refused refusals.Words = λ same. cc
+refusal_status-refused (refusals.Words f) = words_status-refused f
+refusal_status-refused (refusals.Output f) = output_status-refused f
+refusal_status-refused refusals.Memory = λ same. cc
 refusal_status-refused (refusals.Input f) = input_status-refused f
 refusal_status-refused (refusals.Galley f) = galley_status-refused f
 refusal_status-refused (refusals.Pages f) = page_status-refused f
 
-prefix_told : (line : List ℕ) (err : ErrEnd) → TellsLine line err → AppendsPrefix err.told_before err.told_after line
-prefix_told line err (inl all) = prefix_whole err.told_before err.told_after line all
+prefix_told : (line : List ℕ) (err : Stream) → TellsLine line err → AppendsPrefix err.before err.after line
+prefix_told line err (inl all) = prefix_whole err.before err.after line all
 prefix_told line err (inr part) = part.1
 
--- a refusal whose line was told
-stays : (status : Status) (e : Ends) (line : List ℕ) (err : ErrEnd) → status ≢ answers.Done → StandsAfter status e line → TellsLine line err → Outcome status e err
-stays answers.Done e line err ne left told = absurd (ne refl)
-stays answers.Memory e line err ne left told = record { refusal = answers.Memory; refused = ne; line = line; stands = left; told = prefix_told line err told }
-stays answers.Words e line err ne left told = (line, left, told)
-stays answers.Syntax e line err ne left told = (line, left, told)
-stays answers.Range e line err ne left told = (line, left, told)
-stays answers.PoolFull e line err ne left told = (line, left, told)
-stays answers.DeadCycles e line err ne left told = (line, left, told)
-stays answers.PageLimit e line err ne left told = (line, left, told)
-stays answers.ReadFault e line err ne left told = (line, left, told)
-stays answers.WriteFault e line err ne left told = (line, left, told)
-stays answers.NodeLimit e line err ne left told = (line, left, told)
+module _ (asked : Option Mode) (source out err : Stream) (line : List ℕ) where
+  -- a refusal whose line was told
+  stays : (status : Status) → status ≢ answers.Done → StandsAfter asked status source out line → TellsLine line err → Outcome asked status source out err
+  stays answers.Done ne left told = absurd (ne refl)
+  stays answers.Memory ne left told = record { refusal = answers.Memory; refused = ne; line = line; stands = left; told = prefix_told line err told }
+  stays answers.Words ne left told = (line, left, told)
+  stays answers.Syntax ne left told = (line, left, told)
+  stays answers.Range ne left told = (line, left, told)
+  stays answers.PoolFull ne left told = (line, left, told)
+  stays answers.DeadCycles ne left told = (line, left, told)
+  stays answers.PageLimit ne left told = (line, left, told)
+  stays answers.ReadFault ne left told = (line, left, told)
+  stays answers.WriteFault ne left told = (line, left, told)
+  stays answers.NodeLimit ne left told = (line, left, told)
 
--- the outcome of a refusal, whatever became of its line
-pub Outcome-said : (status answer : Status) (e : Ends) (line : List ℕ) (err : ErrEnd) → status ≢ answers.Done → StandsAfter status e line → Says status line answer err → Outcome answer e err
-Outcome-said status answer e line err ne left (inl same) = rw (same.0) (stays status e line err ne left same.1)
-Outcome-said status answer e line err ne left (inr want) =
-    rw (want.0) (record { refusal = status; refused = ne; line = line; stands = left; told = want.1 })
+  -- the outcome of a refusal, whatever became of its line
+  pub Outcome-said : (status answer : Status) → status ≢ answers.Done → StandsAfter asked status source out line → Says status line answer err → Outcome asked answer source out err
+  Outcome-said status answer ne left (inl same) = rw (same.0) (stays status ne left same.1)
+  Outcome-said status answer ne left (inr want) =
+      rw (want.0) (record { refusal = status; refused = ne; line = line; stands = left; told = want.1 })
 
--- ---- the answer that the input decides
+-- ---- the answer that the mode and the input decide
 
--- all inputs that are too long have one answer
-answer_to-long : (a b : List ℕ) → nat_lt input_limit (length a) ≡ true → nat_lt input_limit (length b) ≡ true → answer_to a ≡ answer_to b
+-- all inputs that are too long have one fault
+grammar-long : (a b : List ℕ) → nat_lt input_limit (length a) ≡ true → nat_lt input_limit (length b) ≡ true → grammar a ≡ grammar b
 unfolding grammar
-answer_to-long a b is also = rw (is, also) refl
+grammar-long a b is also = rw (is, also) refl
 
--- what was read and what was left have one answer
-answer_to-read : (long : Bool) (input rest : List ℕ) → nat_lt input_limit (length input) ≡ long → (length input ≤ input_limit → rest ≡ []) → answer_to input ≡ answer_to (input ++ rest)
-answer_to-read true input rest is ended =
+-- what was read and what was left have one galley or fault
+grammar-read : (long : Bool) (input rest : List ℕ) → nat_lt input_limit (length input) ≡ long → (length input ≤ input_limit → rest ≡ []) → grammar input ≡ grammar (input ++ rest)
+grammar-read true input rest is ended =
     let long : nat_lt input_limit (length (input ++ rest)) ≡ true = simp length-append (grind (arith, nat_tests)) in
-    answer_to-long input (input ++ rest) is long
-answer_to-read false input rest is ended =
+    grammar-long input (input ++ rest) is long
+grammar-read false input rest is ended =
     let short : length input ≤ input_limit = grind (arith, nat_tests) in
     rw (ended short, append-nil) refl
 
 -- an answer that what was read decides is that of what was left
-pub IsAnswer-given : (status : Status) (before after : Option (List ℕ)) (input : List ℕ) → Gives before after input → status ≡ answer_to input → IsAnswer status before
-IsAnswer-given status None after input g is = tt
-IsAnswer-given status (Some xs) None input g is = absurd g.given
-IsAnswer-given status (Some xs) (Some ys) input g is =
-    let one = answer_to-read (nat_lt input_limit (length input)) input ys refl g.ended in
-    inl (is ∙ (one ∙ ap answer_to (sym g.given)))
+galley_answer : (reply : Galley → Reply) (status : Status) (before after : Option (List ℕ)) (input : List ℕ) → Gives before after input → status ≡ (galley_reply reply (grammar input)).answer
+    → IfSome before (λ left. (status ≡ (galley_reply reply (grammar left)).answer) ⊎ (status ≡ answers.Memory))
+galley_answer reply status None after input g is = tt
+galley_answer reply status (Some xs) None input g is = absurd g.given
+galley_answer reply status (Some xs) (Some ys) input g is =
+    let one = grammar-read (nat_lt input_limit (length input)) input ys refl g.ended in
+    inl (is ∙ ap (λ r. (galley_reply reply r).answer) (one ∙ ap grammar (sym g.given)))
 
-IsAnswer-memory : (left : Option (List ℕ)) → IsAnswer answers.Memory left
-IsAnswer-memory None = tt
-IsAnswer-memory (Some xs) = inr refl
+IsAnswer-given : (m : Mode) (status : Status) (source : Stream) (input : List ℕ) → Reads m source input → status ≡ (reply_to m input).answer → IsAnswer m status source.before
+IsAnswer-given modes.Report status source input g is = galley_answer (λ g. run_reply (report (run_of g)) (run_of g)) status source.before source.after input g is
+IsAnswer-given modes.Trace status source input g is = galley_answer (λ g. run_reply (trace (run_of g)) (run_of g)) status source.before source.after input g is
+IsAnswer-given modes.Print status source input g is = galley_answer (λ g. text_reply (printed g)) status source.before source.after input g is
 
--- where the words are accepted and neither the source nor out failed
-IsAnswer-stands : (status : Status) (e : Ends) (line : List ℕ) → (status ≡ answers.Words → ⊥) → (status ≡ answers.ReadFault → ⊥) → (status ≡ answers.WriteFault → ⊥) → StandsAfter status e line → IsAnswer status e.left_before
-IsAnswer-stands answers.Words e line w r k left = absurd (w refl)
-IsAnswer-stands answers.ReadFault e line w r k left = absurd (r refl)
-IsAnswer-stands answers.WriteFault e line w r k left = absurd (k refl)
-IsAnswer-stands answers.Memory e line w r k left = IsAnswer-memory e.left_before
-IsAnswer-stands answers.Done e line w r k left = IsAnswer-given answers.Done e.left_before e.left_after left.input left.read left.answered
-IsAnswer-stands answers.Syntax e line w r k left = IsAnswer-given answers.Syntax e.left_before e.left_after left.input left.read left.answered
-IsAnswer-stands answers.Range e line w r k left = IsAnswer-given answers.Range e.left_before e.left_after left.input left.read left.answered
-IsAnswer-stands answers.PoolFull e line w r k left = IsAnswer-given answers.PoolFull e.left_before e.left_after left.input left.read left.answered
-IsAnswer-stands answers.DeadCycles e line w r k left = IsAnswer-given answers.DeadCycles e.left_before e.left_after left.input left.read left.answered
-IsAnswer-stands answers.PageLimit e line w r k left = IsAnswer-given answers.PageLimit e.left_before e.left_after left.input left.read left.answered
-IsAnswer-stands answers.NodeLimit e line w r k left = IsAnswer-given answers.NodeLimit e.left_before e.left_after left.input left.read left.answered
+some_memory : (left : Option (List ℕ)) (P : List ℕ → Type 0) → IfSome left (λ input. P input ⊎ (answers.Memory ≡ answers.Memory))
+some_memory None P = tt
+some_memory (Some xs) P = inr refl
 
-pub IsAnswer-said : (status answer : Status) (e : Ends) (line : List ℕ) (err : ErrEnd) → (status ≡ answers.Words → ⊥) → (status ≡ answers.ReadFault → ⊥) → (status ≡ answers.WriteFault → ⊥) → StandsAfter status e line → Says status line answer err → IsAnswer answer e.left_before
-IsAnswer-said status answer e line err w r k left (inl same) = rw (same.0) (IsAnswer-stands status e line w r k left)
-IsAnswer-said status answer e line err w r k left (inr want) = rw (want.0) (IsAnswer-memory e.left_before)
+module _ (asked : Option Mode) (m : Mode) (source out : Stream) (well : Succeeds asked m source out) where
+  IsAnswer-memory : IsAnswer m answers.Memory source.before
+  IsAnswer-memory = some_memory (input_of m source.before) (λ input. answers.Memory ≡ (reply_to m input).answer)
+
+  same_mode : (n : Mode) → asked ≡ Some n → n ≡ m
+  same_mode n is = let two : Some n ≡ Some m = sym is ∙ well.asked_for in cc
+
+  IsAnswer-decided : (status : Status) (line : List ℕ) → Decided asked status source out line → IsAnswer m status source.before
+  IsAnswer-decided status line d = subst (λ (n : Mode). IsAnswer n status source.before) (same_mode d.mode d.asked_for) (IsAnswer-given d.mode status source d.input d.read d.answered)
+
+  -- where neither the source nor out failed
+  pub IsAnswer-stands : (status : Status) (line : List ℕ) → StandsAfter asked status source out line → IsAnswer m status source.before
+  IsAnswer-stands answers.Words line left = let no : Some m ≡ None = sym well.asked_for ∙ left.0.none in cc
+  IsAnswer-stands answers.ReadFault line left = absurd (well.read (subst (λ (n : Mode). IsUnread n source) (same_mode left.0.mode left.0.asked_for) left.0.failed))
+  IsAnswer-stands answers.WriteFault line left = absurd (well.written left.1)
+  IsAnswer-stands answers.Memory line left = IsAnswer-memory
+  IsAnswer-stands answers.Done line left = IsAnswer-decided answers.Done line left.0
+  IsAnswer-stands answers.Syntax line left = IsAnswer-decided answers.Syntax line left
+  IsAnswer-stands answers.Range line left = IsAnswer-decided answers.Range line left
+  IsAnswer-stands answers.PoolFull line left = IsAnswer-decided answers.PoolFull line left
+  IsAnswer-stands answers.DeadCycles line left = IsAnswer-decided answers.DeadCycles line left.0
+  IsAnswer-stands answers.PageLimit line left = IsAnswer-decided answers.PageLimit line left
+  IsAnswer-stands answers.NodeLimit line left = IsAnswer-decided answers.NodeLimit line left
+
+  pub IsAnswer-said : (status answer : Status) (line : List ℕ) (err : Stream) → StandsAfter asked status source out line → Says status line answer err → IsAnswer m answer source.before
+  IsAnswer-said status answer line err left (inl same) = rw (same.0) (IsAnswer-stands status line left)
+  IsAnswer-said status answer line err left (inr want) = rw (want.0) IsAnswer-memory
+
+-- ---- what the outcome says of the refusals that the input does not decide
+
+-- only a source that failed leaves a mode unread
+unread-failed : (m : Mode) (source : Stream) → IsUnread m source → Failed source
+unread-failed modes.Report source is = is
+unread-failed modes.Trace source is = is
+unread-failed modes.Print source is = is
+
+pub decided-asked : (asked : Option Mode) (answer : Status) (source out : Stream) (line : List ℕ) → Decided asked answer source out line → asked ≡ None → ⊥
+decided-asked asked answer source out line d none = let no : Some d.mode ≡ None = sym d.asked_for ∙ none in cc
+
+module _ (asked : Option Mode) (source out err : Stream) where
+  pub words-outcome : (answer : Status) → Outcome asked answer source out err → answer ≡ answers.Words → asked ≡ None
+  words-outcome answers.Done o is = cc
+  words-outcome answers.Memory o is = cc
+  words-outcome answers.Words o is = o.1.0.none
+  words-outcome answers.Syntax o is = cc
+  words-outcome answers.Range o is = cc
+  words-outcome answers.PoolFull o is = cc
+  words-outcome answers.DeadCycles o is = cc
+  words-outcome answers.PageLimit o is = cc
+  words-outcome answers.ReadFault o is = cc
+  words-outcome answers.WriteFault o is = cc
+  words-outcome answers.NodeLimit o is = cc
+
+  pub read-outcome : (answer : Status) → Outcome asked answer source out err → answer ≡ answers.ReadFault → Failed source
+  read-outcome answers.Done o is = cc
+  read-outcome answers.Memory o is = cc
+  read-outcome answers.Words o is = cc
+  read-outcome answers.Syntax o is = cc
+  read-outcome answers.Range o is = cc
+  read-outcome answers.PoolFull o is = cc
+  read-outcome answers.DeadCycles o is = cc
+  read-outcome answers.PageLimit o is = cc
+  read-outcome answers.ReadFault o is = unread-failed o.1.0.mode source o.1.0.failed
+  read-outcome answers.WriteFault o is = cc
+  read-outcome answers.NodeLimit o is = cc
+
+  pub write-outcome : (answer : Status) → Outcome asked answer source out err → answer ≡ answers.WriteFault → Failed out
+  write-outcome answers.Done o is = cc
+  write-outcome answers.Memory o is = cc
+  write-outcome answers.Words o is = cc
+  write-outcome answers.Syntax o is = cc
+  write-outcome answers.Range o is = cc
+  write-outcome answers.PoolFull o is = cc
+  write-outcome answers.DeadCycles o is = cc
+  write-outcome answers.PageLimit o is = cc
+  write-outcome answers.ReadFault o is = cc
+  write-outcome answers.WriteFault o is = o.1.1
+  write-outcome answers.NodeLimit o is = cc
+
+  pub refused-outcome : (answer : Status) → Outcome asked answer source out err → asked ≡ None → (answer ≡ answers.Words) ⊎ (answer ≡ answers.Memory)
+  refused-outcome answers.Done o is = absurd (decided-asked asked answers.Done source out _ o.0.0 is)
+  refused-outcome answers.Memory o is = inr refl
+  refused-outcome answers.Words o is = inl refl
+  refused-outcome answers.Syntax o is = absurd (decided-asked asked answers.Syntax source out _ o.1 is)
+  refused-outcome answers.Range o is = absurd (decided-asked asked answers.Range source out _ o.1 is)
+  refused-outcome answers.PoolFull o is = absurd (decided-asked asked answers.PoolFull source out _ o.1 is)
+  refused-outcome answers.DeadCycles o is = absurd (decided-asked asked answers.DeadCycles source out _ o.1.0 is)
+  refused-outcome answers.PageLimit o is = absurd (decided-asked asked answers.PageLimit source out _ o.1 is)
+  refused-outcome answers.ReadFault o is = let no : Some o.1.0.mode ≡ None = sym o.1.0.asked_for ∙ is in cc
+  refused-outcome answers.WriteFault o is = let no : Some o.1.0.mode ≡ None = sym o.1.0.asked_for ∙ is in cc
+  refused-outcome answers.NodeLimit o is = absurd (decided-asked asked answers.NodeLimit source out _ o.1 is)

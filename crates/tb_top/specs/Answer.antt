@@ -1,14 +1,17 @@
--- What an input decides: the answer, the report and the line on err, where no end fails and memory suffices.
-use Rattle.std.specs.Prelude.{ℕ, List, [], ◌∷◌, ◌++◌, codes, decimal, Result, Ok, Err, if◌then◌else◌}
+-- What a mode and an input decide: the answer, what is written and the line on err, where no end fails and memory suffices.
+use Rattle.std.specs.Prelude.{ℕ, Bool, true, false, List, [], ◌∷◌, ◌++◌, codes, decimal, Result, Ok, Err, if◌then◌else◌}
 use Rattle.tb_galley.specs.declared.Cause.{Cause}
 use Rattle.tb_galley.specs.declared.Fault.{Fault}
 use Rattle.tb_galley.specs.declared.Galley.{Galley}
 use Rattle.tb_galley.specs.CauseText.{cause_name, is_range_cause}
 use Rattle.tb_galley.specs.Grammar.{grammar}
+use Rattle.tb_galley.specs.Print.{printed}
+use Rattle.tb_words.specs.declared.Mode.{Mode}
+use Rattle.tb_words.specs.declared.Mode.TheVariants as modes
 use Rattle.tb_top.specs.declared.status.Status.{Status}
 use Rattle.tb_top.specs.declared.status.Status.TheVariants as answers
-use Rattle.tb_run.specs.Run.{End, done, pool_full, dead_cycles, page_limit, node_limit, run_of}
-use Rattle.tb_top.specs.Report.{report}
+use Rattle.tb_run.specs.Run.{Run, End, done, pool_full, dead_cycles, page_limit, node_limit, run_of}
+use Rattle.tb_top.specs.Report.{report, trace}
 
 -- ---- the answer
 
@@ -23,26 +26,6 @@ answer_at (pool_full line live) = answers.PoolFull
 answer_at (dead_cycles n) = answers.DeadCycles
 answer_at (page_limit n) = answers.PageLimit
 answer_at (node_limit n) = answers.NodeLimit
-
--- for a galley by the end of its run, and else for its fault
-abbrev pub answer_for : Result Galley Fault → Status
-answer_for (Ok g) = answer_at (run_of g).end
-answer_for (Err f) = answer_for_cause f.cause
-
--- by the first fault of the galley, or by the end of its run
-abbrev pub answer_to : List ℕ → Status
-answer_to input = answer_for (grammar input)
-
--- ---- the report
-
--- of a galley's run, or nothing
-abbrev pub report_for : Result Galley Fault → List ℕ
-report_for (Ok g) = report (run_of g)
-report_for (Err f) = []
-
--- the report of the galley's run; nothing where the input is no galley
-abbrev pub report_to : List ℕ → List ℕ
-report_to input = report_for (grammar input)
 
 -- ---- the line on err
 
@@ -78,15 +61,6 @@ line_at (dead_cycles n) = err_line (dead_cycles_text n)
 line_at (page_limit n) = err_line (page_limit_text n)
 line_at (node_limit n) = err_line (node_limit_text n)
 
--- for a galley by the end of its run, and else for its fault
-abbrev pub line_for : Result Galley Fault → List ℕ
-line_for (Ok g) = line_at (run_of g).end
-line_for (Err f) = err_line (fault_text f)
-
--- by the first fault of the galley, or by the end of its run
-abbrev pub line_to : List ℕ → List ℕ
-line_to input = line_for (grammar input)
-
 -- ---- the lines of the answers that the input does not decide
 
 -- words after the program's name
@@ -104,3 +78,35 @@ write_fault_line = err_line (codes "write fault")
 -- there was no memory
 abbrev pub memory_line : List ℕ
 memory_line = err_line (codes "out of memory")
+
+-- ---- what a mode makes of what it reads
+
+-- the answer, what is written, the line on err, and whether it comes to writing
+pub record Reply : Type 0 where
+  pub answer : Status
+  pub written : List ℕ
+  pub line : List ℕ
+  pub writes : Bool
+
+-- a galley with this first fault
+abbrev pub fault_reply : Fault → Reply
+fault_reply f = record { answer = answer_for_cause f.cause; written = []; line = err_line (fault_text f); writes = false }
+
+-- a run, with what is written of it
+abbrev pub run_reply : List ℕ → Run → Reply
+run_reply text r = record { answer = answer_at r.end; written = text; line = line_at r.end; writes = true }
+
+-- a galley that is not run
+abbrev pub text_reply : List ℕ → Reply
+text_reply text = record { answer = answers.Done; written = text; line = []; writes = true }
+
+-- of a galley, and else of its fault
+abbrev pub galley_reply : (Galley → Reply) → Result Galley Fault → Reply
+galley_reply reply (Ok g) = reply g
+galley_reply reply (Err f) = fault_reply f
+
+-- by the mode; an input that is no galley has the reply of its first fault
+abbrev pub reply_to : Mode → List ℕ → Reply
+reply_to modes.Report input = galley_reply (λ g. run_reply (report (run_of g)) (run_of g)) (grammar input)
+reply_to modes.Trace input = galley_reply (λ g. run_reply (trace (run_of g)) (run_of g)) (grammar input)
+reply_to modes.Print input = galley_reply (λ g. text_reply (printed g)) (grammar input)

@@ -21,15 +21,11 @@ abbrev pub cycling_items : List Item → ℕ
 cycling_items [] = 0
 cycling_items (n ∷ ns) = is_cycling n.kind + cycling_items ns
 
--- the limit allows four firings without a page for each, and sixteen besides
-abbrev pub HasCycles : Galley → Type 0
-HasCycles g = pos (4 * cycling_items g.items + 16) ≤ℤ g.params.maxdeadcycles
+-- the limit on dead cycles has room for the galley: it allows four firings without a page for each such item, and sixteen besides
+abbrev pub HasRoomForCycles : Galley → Type 0
+HasRoomForCycles g = pos (4 * cycling_items g.items + 16) ≤ℤ g.params.maxdeadcycles
 
--- that has room for the galley, whose top skip is no higher than a page
-pub record HasRoomForCycles (g : Galley) : Type 0 where
-  pub limit : HasCycles g
-  pub page : g.params.topskip ≤ℤ g.params.textheight
-
+-- a run did not end for its dead cycles
 abbrev pub IsNotCycles : End → Type 0
 IsNotCycles (done left) = Unit {0}
 IsNotCycles (pool_full line live) = Unit {0}

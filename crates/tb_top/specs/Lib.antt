@@ -1,5 +1,4 @@
 pub mod Report
-pub mod Generate
 pub mod Laws
 pub mod DeadCycles
 pub mod Paginated

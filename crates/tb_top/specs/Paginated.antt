@@ -8,11 +8,12 @@ use Rattle.tb_top.specs.declared.View.TheVariants as views
 use Rattle.tb_top.specs.declared.PageFault.{PageFault}
 use Rattle.tb_top.specs.declared.PageFault.TheVariants as faults
 use Rattle.tb_run.specs.Run.{Run, End, done, pool_full, dead_cycles, page_limit, node_limit}
-use Rattle.tb_top.specs.Report.{report, totals_of}
+use Rattle.tb_top.specs.Report.{report, trace, totals_of}
 
 -- what a view shows of a run
 abbrev pub view_text : View → Run → List ℕ
 view_text views.Report r = report r
+view_text views.Trace r = trace r
 view_text views.Silent r = []
 
 -- the refusal of a run that does not end well

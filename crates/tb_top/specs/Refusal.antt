@@ -1,15 +1,22 @@
 -- The answer and the line of each refusal.
-use Rattle.std.specs.Prelude.{ℕ, List, [], codes, Result, Ok, Err}
+use Rattle.std.specs.Prelude.{◌≡◌, ℕ, List, [], codes, Result, Ok, Err}
+use Rattle.tb_galley.specs.declared.Galley.{Galley}
 use Rattle.tb_galley.specs.declared.GalleyFault.{GalleyFault}
 use Rattle.tb_galley.specs.declared.GalleyFault.TheVariants as unread
+use Rattle.tb_galley.specs.Grammar.{grammar}
 use Rattle.tb_top.specs.declared.PageFault.{PageFault}
 use Rattle.tb_top.specs.declared.PageFault.TheVariants as pages
 use Rattle.tb_top.specs.declared.input.InputFault.{InputFault}
 use Rattle.tb_top.specs.declared.input.InputFault.TheVariants as inputs
+use Rattle.tb_io.specs.declared.sink.SinkFault.{SinkFault}
+use Rattle.tb_io.specs.declared.sink.SinkFault.TheVariants as outputs
+use Rattle.tb_words.specs.declared.WordsFault.{WordsFault}
+use Rattle.tb_words.specs.declared.WordsFault.TheVariants as asked
 use Rattle.tb_top.specs.declared.refusal.Refusal.{Refusal}
 use Rattle.tb_top.specs.declared.refusal.Refusal.TheVariants as refusals
 use Rattle.tb_top.specs.declared.status.Status.{Status}
 use Rattle.tb_top.specs.declared.status.Status.TheVariants as answers
+use Rattle.tb_top.specs.Outcome.{Stream, Failed, Gives}
 use Rattle.tb_top.specs.Answer.{answer_for_cause, err_line, fault_text, pool_full_text, dead_cycles_text, page_limit_text, node_limit_text}
 
 -- ---- the answer
@@ -33,9 +40,21 @@ abbrev pub input_status : InputFault → Status
 input_status inputs.Failed = answers.ReadFault
 input_status inputs.Memory = answers.Memory
 
+-- where no mode was asked for
+abbrev pub words_status : WordsFault → Status
+words_status asked.Refused = answers.Words
+words_status asked.Memory = answers.Memory
+
+-- where a text was not written
+abbrev pub output_status : SinkFault → Status
+output_status outputs.Failed = answers.WriteFault
+output_status outputs.Memory = answers.Memory
+
 -- by the step that refused
 abbrev pub refusal_status : Refusal → Status
-refusal_status refusals.Words = answers.Words
+refusal_status (refusals.Words f) = words_status f
+refusal_status (refusals.Output f) = output_status f
+refusal_status refusals.Memory = answers.Memory
 refusal_status (refusals.Input f) = input_status f
 refusal_status (refusals.Galley f) = galley_status f
 refusal_status (refusals.Pages f) = page_status f
@@ -61,9 +80,21 @@ abbrev pub input_text : InputFault → List ℕ
 input_text inputs.Failed = codes "read fault"
 input_text inputs.Memory = codes "out of memory"
 
+-- where no mode was asked for
+abbrev pub words_text : WordsFault → List ℕ
+words_text asked.Refused = codes "words refused"
+words_text asked.Memory = codes "out of memory"
+
+-- where a text was not written
+abbrev pub output_text : SinkFault → List ℕ
+output_text outputs.Failed = codes "write fault"
+output_text outputs.Memory = codes "out of memory"
+
 -- by the step that refused
 abbrev pub refusal_text : Refusal → List ℕ
-refusal_text refusals.Words = codes "words refused"
+refusal_text (refusals.Words f) = words_text f
+refusal_text (refusals.Output f) = output_text f
+refusal_text refusals.Memory = codes "out of memory"
 refusal_text (refusals.Input f) = input_text f
 refusal_text (refusals.Galley f) = galley_text f
 refusal_text (refusals.Pages f) = page_text f
@@ -83,3 +114,22 @@ served_status (Err r) = refusal_status r
 abbrev pub served_line : {T : Type 0} → Result T Refusal → List ℕ
 served_line (Ok v) = []
 served_line (Err r) = refusal_line r
+
+-- ---- a galley that is not there
+
+-- why the source gave no galley: it failed, there was no memory, or its bytes have this first fault
+abbrev pub IsNoGalley : Stream → Refusal → Type 0
+IsNoGalley source (refusals.Input inputs.Failed) = Failed source
+IsNoGalley source (refusals.Input inputs.Memory) = Unit {0}
+IsNoGalley source (refusals.Galley (unread.At f)) = (input : List ℕ) × Gives source.before source.after input × (grammar input ≡ Err f)
+IsNoGalley source (refusals.Galley unread.Memory) = Unit {0}
+IsNoGalley source refusals.Memory = Unit {0}
+IsNoGalley source (refusals.Words f) = ⊥
+IsNoGalley source (refusals.Pages f) = ⊥
+IsNoGalley source (refusals.Output f) = ⊥
+
+-- the source gave this galley
+pub record GivesGalley (source : Stream) (g : Galley) : Type 0 where
+  pub input : List ℕ
+  pub read : Gives source.before source.after input
+  pub galley : grammar input ≡ Ok g

@@ -1,13 +1,15 @@
 -- What `paginate` writes, piece by piece.
-use Rattle.std.specs.Prelude.{◌≡◌, ◌≤◌, ℕ, List, [], ◌∷◌, ◌++◌, length, Option, Result, IfErr, OnOk, OnErr}
+use Rattle.std.specs.Prelude.{◌≡◌, ◌≤◌, ℕ, Bool, true, false, List, [], ◌∷◌, ◌++◌, length, Option, Result, IfErr, OnOk, OnErr}
 use Rattle.std.specs.Io.KnownBytes.{Appends}
 use Rattle.tb_io.specs.Faults.{Rose}
 use Rattle.tb_io.specs.Held.{AppendsPrefix}
+use Rattle.tb_builder.specs.declared.Try.{Try}
 use Rattle.tb_column.specs.Column.{PlainSent, warned, shipped}
 use Rattle.tb_column.specs.Shown.{nodes_shown}
 use Rattle.tb_report.specs.declared.Totals.{Totals}
 use Rattle.tb_report.specs.Lines.{sent_lines, end_lines}
 use Rattle.tb_report.specs.Totals.{with_sent, sheet_nodes}
+use Rattle.tb_trace.specs.Lines.{try_line}
 use Rattle.tb_top.specs.declared.View.{View}
 use Rattle.tb_top.specs.declared.View.TheVariants as views
 use Rattle.tb_top.specs.declared.PageFault.{PageFault}
@@ -19,7 +21,25 @@ use Rattle.tb_run.specs.declared.routine.Ending.TheVariants as endings
 -- what a view shows of some bytes of a report
 abbrev pub viewed : View → List ℕ → List ℕ
 viewed views.Report bytes = bytes
+viewed views.Trace bytes = bytes
 viewed views.Silent bytes = []
+
+-- the view shows the places that were tried
+abbrev pub is_traced : View → Bool
+is_traced views.Report = false
+is_traced views.Trace = true
+is_traced views.Silent = false
+
+-- the view shows something
+abbrev pub IsShown : View → Type 0
+IsShown views.Report = Unit {0}
+IsShown views.Trace = Unit {0}
+IsShown views.Silent = ⊥
+
+-- the lines of places that were tried
+abbrev pub try_lines : List Try → List ℕ
+try_lines [] = []
+try_lines (t ∷ ts) = try_line t ++ try_lines ts
 
 -- the lines of what is sent, and the totals with it
 abbrev pub all_sent_lines : List PlainSent → List ℕ
@@ -33,7 +53,7 @@ with_all (e ∷ es) t = with_all es (with_sent e t)
 -- writing failed: there was no memory, or the sink failed, which a silent view does not ask of it
 abbrev pub IsWriteFault : View → ℕ → ℕ → PageFault → Type 0
 IsWriteFault v before now faults.Memory = Unit {0}
-IsWriteFault v before now faults.WriteFault = Rose before now × (v ≡ views.Report)
+IsWriteFault v before now faults.WriteFault = Rose before now × IsShown v
 IsWriteFault v before now (faults.PoolFull line live) = ⊥
 IsWriteFault v before now (faults.DeadCycles n) = ⊥
 IsWriteFault v before now (faults.PageLimit n) = ⊥
@@ -53,7 +73,7 @@ last_lines r t = end_lines (nodes_shown r.store r.builder.page) t
 -- a refusal: that of the ending, where nothing more is written, or a failure at the last lines
 abbrev pub StopsWith : View → Routine → Totals → Ending → Option (List ℕ) → Option (List ℕ) → ℕ → ℕ → PageFault → Type 0
 StopsWith v r t e held_old held_new before now faults.Memory = (e ≡ endings.Done) × AppendsPrefix held_old held_new (viewed v (last_lines r t))
-StopsWith v r t e held_old held_new before now faults.WriteFault = (e ≡ endings.Done) × AppendsPrefix held_old held_new (viewed v (last_lines r t)) × Rose before now × (v ≡ views.Report)
+StopsWith v r t e held_old held_new before now faults.WriteFault = (e ≡ endings.Done) × AppendsPrefix held_old held_new (viewed v (last_lines r t)) × Rose before now × IsShown v
 StopsWith v r t e held_old held_new before now (faults.PoolFull line live) = ⊥
 StopsWith v r t e held_old held_new before now (faults.DeadCycles n) = (e ≡ endings.DeadCycles n) × (held_new ≡ held_old)
 StopsWith v r t e held_old held_new before now (faults.PageLimit n) = (e ≡ endings.PageLimit n) × (held_new ≡ held_old)

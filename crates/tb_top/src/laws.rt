@@ -39,8 +39,8 @@ pub fn classes_keep_their_order()
     ensures { ClassesKeepOrder }
 {}
 
-/// Dead cycles are few: a run of a valid galley whose top skip is no higher than a page does not end for its dead cycles,
-/// where their limit allows four for each float, marginal note, clear and change of columns, and sixteen besides.
+/// Dead cycles are few: a run of a valid galley does not end for its dead cycles, where their limit allows four for each
+/// float, marginal note, clear and change of columns, and sixteen besides.
 pub fn dead_cycles_are_few()
     ensures { DeadCyclesAreFew }
 {}

@@ -1,7 +1,7 @@
-//! From a galley to its report.
+//! From words and a galley to its report, its trace or its canonical text.
 //!
-//! [`run`] is the whole program over any ends: it reads a galley, makes its pages by
-//! [`paginate`] and writes their report, or says on `err` why not.
+//! [`run`] is the whole program over any ends: it reads the words and a galley, makes its pages by
+//! [`paginate`] and writes what the mode asks for, or says on `err` why not.
 #![tactic(auto)]
 
 mod input;
@@ -22,11 +22,13 @@ pub use status::Status;
 pub use tb_report::Totals;
 pub use top::run;
 
-/// What `paginate` writes of a run: its report, or nothing.
+/// What `paginate` writes of a run: its report, with the places that were tried or without, or nothing.
 #[derive(Clone, Copy, Debug, PartialEq, Eq)]
 pub enum View {
     /// The report: the header, the warnings and the pages, and what is left at the end.
     Report,
+    /// The report, and before what it causes a line for each place that was tried.
+    Trace,
     /// Nothing, for callers that want the totals alone.
     Silent,
 }

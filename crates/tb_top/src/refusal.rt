@@ -1,26 +1,40 @@
 //! Why a run was refused, until its line is written.
 ghost use Rattle.std.specs.Prelude.{◌≡◌, ◌++◌, decimal, IfOk, OnOk};
 ghost use Rattle.tb_top.specs.Answer.{answer_for_cause, fault_text, pool_full_text};
-ghost use Rattle.tb_top.specs.Refusal.{refusal_status, galley_status, page_status, input_status, refusal_text, galley_text, page_text, input_text, refusal_line};
-ghost use Rattle.tb_top.specs.declared.refusal.Refusal.TheVariants.{Input, Galley, Pages};
+ghost use Rattle.tb_top.specs.Refusal.{refusal_status, galley_status, page_status, input_status, words_status, output_status, refusal_text, galley_text, page_text, input_text, words_text, output_text, refusal_line};
+ghost use Rattle.tb_top.specs.declared.refusal.Refusal.TheVariants.{Words, Input, Galley, Pages, Output, Memory};
 
 use crate::input::InputFault;
 use crate::{PageFault, Status};
 use std::alloc::{AllocError, Global};
 use tb_galley::{Cause, Fault, GalleyFault, cause_text, is_range_cause};
+use tb_io::SinkFault;
 use tb_text::put_number;
+use tb_words::WordsFault;
 
 /// Why a run was refused, with what the line on `err` shows of it.
 #[derive(Drop)]
 pub enum Refusal {
-    /// There are words after the program's name.
-    Words,
+    /// The words ask for no mode.
+    Words(WordsFault),
     /// The input was not read.
     Input(InputFault),
     /// What was read is no galley.
     Galley(GalleyFault),
     /// The pages stopped before their end.
     Pages(PageFault),
+    /// A text was not written.
+    Output(SinkFault),
+    /// There was no memory for what was to be written.
+    Memory,
+}
+
+impl From<WordsFault> for Refusal {
+    ghost from_gives = { λ fault e. e ≡ Words fault };
+
+    fn from(fault: WordsFault) -> Self {
+        Refusal::Words(fault)
+    }
 }
 
 impl From<InputFault> for Refusal {
@@ -47,17 +61,35 @@ impl From<PageFault> for Refusal {
     }
 }
 
+impl From<SinkFault> for Refusal {
+    ghost from_gives = { λ fault e. e ≡ Output fault };
+
+    fn from(fault: SinkFault) -> Self {
+        Refusal::Output(fault)
+    }
+}
+
+impl From<AllocError> for Refusal {
+    ghost from_gives = { λ _ e. e ≡ Memory };
+
+    fn from(_: AllocError) -> Self {
+        Refusal::Memory
+    }
+}
+
 impl Refusal {
     /// The answer of the run.
     pub fn status(&self) -> Status
         ensures { result ≡ refusal_status self.now }
     {
         match self {
-            Refusal::Words => Status::Words,
+            Refusal::Words(fault) => words_status(*fault),
             Refusal::Input(fault) => input_status(*fault),
             Refusal::Galley(GalleyFault::At(fault)) => cause_status(fault.cause),
             Refusal::Galley(GalleyFault::Memory) => Status::Memory,
             Refusal::Pages(fault) => page_status(*fault),
+            Refusal::Output(fault) => output_status(*fault),
+            Refusal::Memory => Status::Memory,
         }
     }
 
@@ -75,12 +107,50 @@ impl Refusal {
         ensures { OnOk result (line.new.items ≡ line.old.items ++ refusal_text self.now) }
     {
         match self {
-            Refusal::Words => line.extend_from_slice(b"words refused"),
+            Refusal::Words(fault) => line.extend_from_slice(words_text(*fault)),
             Refusal::Input(fault) => line.extend_from_slice(input_text(*fault)),
             Refusal::Galley(GalleyFault::At(fault)) => put_fault(line, fault),
             Refusal::Galley(GalleyFault::Memory) => line.extend_from_slice(b"out of memory"),
             Refusal::Pages(fault) => put_page_fault(line, *fault),
+            Refusal::Output(fault) => line.extend_from_slice(output_text(*fault)),
+            Refusal::Memory => line.extend_from_slice(b"out of memory"),
         }
+    }
+}
+
+fn words_status(fault: WordsFault) -> Status
+    ensures { result ≡ words_status fault }
+{
+    match fault {
+        WordsFault::Refused => Status::Words,
+        WordsFault::Memory => Status::Memory,
+    }
+}
+
+fn words_text(fault: WordsFault) -> &'static [u8]
+    ensures { result.now ≡ words_text fault }
+{
+    match fault {
+        WordsFault::Refused => b"words refused",
+        WordsFault::Memory => b"out of memory",
+    }
+}
+
+fn output_status(fault: SinkFault) -> Status
+    ensures { result ≡ output_status fault }
+{
+    match fault {
+        SinkFault::Failed => Status::WriteFault,
+        SinkFault::Memory => Status::Memory,
+    }
+}
+
+fn output_text(fault: SinkFault) -> &'static [u8]
+    ensures { result.now ≡ output_text fault }
+{
+    match fault {
+        SinkFault::Failed => b"write fault",
+        SinkFault::Memory => b"out of memory",
     }
 }
 

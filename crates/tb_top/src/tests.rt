@@ -1,7 +1,9 @@
 // Whole runs over ends in memory.
+mod modes;
 mod rows;
 
 use super::*;
+use modes::MODE_ROWS;
 use rows::ROWS;
 use std::alloc::Global;
 use std::test::Fail;
@@ -29,12 +31,22 @@ const NONE: Failing<'static> = Failing {
     lines: &[],
 };
 
-// Runs on an input that is read by pieces of 50 bytes.
+// Runs with no words on an input that is read by pieces of 50 bytes.
 fn run_on(alloc: Global, input: &[u8], failing: &Failing<'_>) -> Result<Left, Fail> {
+    run_with(alloc, &[], input, failing)
+}
+
+// The same with words.
+fn run_with(
+    alloc: Global,
+    words: &[String],
+    input: &[u8],
+    failing: &Failing<'_>,
+) -> Result<Left, Fail> {
     let mut source = MemSource::new(input.to_vec(alloc)?, 50, failing.reads.to_vec(alloc)?);
     let mut out = MemSink::new(alloc, failing.writes.to_vec(alloc)?);
     let mut err = MemSink::new(alloc, failing.lines.to_vec(alloc)?);
-    let status = run(alloc, &[], &mut source, &mut out, &mut err).code();
+    let status = run(alloc, words, &mut source, &mut out, &mut err).code();
     Ok(Left { status, out, err })
 }
 
@@ -43,6 +55,23 @@ fn rows_have_their_answers(rt: HostRuntime) -> Result<(), Fail> {
     for row in &ROWS {
         let name = row.name;
         let left = run_on(rt.alloc(), row.input, &NONE)?;
+        assert_eq!(rt; left.status, row.status, "{name}");
+        assert_eq!(rt; left.out.held(), row.out, "{name}");
+        assert_eq!(rt; left.err.held(), row.err, "{name}");
+    }
+    Ok(())
+}
+
+#[test]
+fn modes_have_their_answers(rt: HostRuntime) -> Result<(), Fail> {
+    let alloc = rt.alloc();
+    for row in &MODE_ROWS {
+        let name = row.name;
+        let mut words = vec![in alloc; String::from_str(alloc, "galley_pages")?]?;
+        for word in row.words {
+            words.push(String::from_str(alloc, word)?)?;
+        }
+        let left = run_with(alloc, &words, row.input, &NONE)?;
         assert_eq!(rt; left.status, row.status, "{name}");
         assert_eq!(rt; left.out.held(), row.out, "{name}");
         assert_eq!(rt; left.err.held(), row.err, "{name}");

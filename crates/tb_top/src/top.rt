@@ -1,29 +1,33 @@
 //! The top call.
-ghost use Rattle.std.specs.Prelude.{◌≡◌, ◌<◌, ◌≤◌, ◌⊎◌, ◌^◌, length, Some};
+ghost use Rattle.std.specs.Prelude.{◌≡◌, ◌⊎◌, Some, None, map, string_bytes, IfOk, IfErr};
 ghost use Rattle.tb_io.specs.Faults.{Rose};
-ghost use Rattle.tb_top.specs.Outcome.{Outcome, StandsAfter, IsAnswer, Says};
-ghost use Rattle.tb_top.specs.Refusal.{served_status, served_line, refusal_status, refusal_line};
+ghost use Rattle.tb_galley.specs.Live.{HasLiveItems};
+ghost use Rattle.tb_galley.specs.Valid.{IsValid};
+ghost use Rattle.tb_words.specs.Words.{asked};
+ghost use Rattle.tb_top.specs.Outcome.{stream, Outcome, StandsAfter, Succeeds, IsAnswer, Says};
+ghost use Rattle.tb_top.specs.Refusal.{served_status, served_line, refusal_status, refusal_line, IsNoGalley, GivesGalley};
 
 use crate::input::read_input;
 use crate::refusal::Refusal;
 use crate::{Status, View, paginate};
 use std::alloc::Global;
-use tb_galley::parse;
+use tb_galley::{Galley, parse, print};
 use tb_io::{Sink, SinkFault, Source, write_all};
+use tb_words::{Mode, read_words};
 
-/// Reads a galley from `source` and writes its report to `out`, or says on `err` why not.
+/// Does what the words ask for: reads a galley from `source` and writes its report, its report with the places that were
+/// tried, or its canonical text to `out`, or says on `err` why not.
 ///
-/// `words` are the program's name and the words after it; an empty list is read as the name alone.
-/// The whole galley is read and parsed before anything is written. Reading stops at the end of
-/// input, or once more than 8388608 bytes were taken. Each answer but `Done` writes one line to
-/// `err`, after all else; where `err` fails the answer stays, and where there is no memory for the
-/// line it becomes `Memory`.
+/// `words` are the program's name and the words after it; an empty list is read as the name alone. They are read by one
+/// command of `clap`, as [`tb_words`] says. The whole galley is read and parsed before anything is written. Reading stops
+/// at the end of input, or once more than 8388608 bytes were taken. Each answer but `Done` writes one line to `err`, after
+/// all else; where `err` fails the answer stays, and where there is no memory for the line it becomes `Memory`.
 ///
-/// After `Done` the run of the galley kept the laws of whole runs: each box, rule, float and note shipped once, the text in
-/// its order, and the floats of each class in theirs, but for those that a break carried; no float without `!` was placed
-/// past the limits of its area, and all float lists were empty at each change of columns and at the end. `DeadCycles` comes
-/// only where `maxdeadcycles` is less than sixteen and four for each float, marginal note, clearpage, onecolumn and
-/// twocolumn, or `topskip` is more than `textheight`.
+/// After `Done` in report or trace mode the run of the galley kept the laws of whole runs: each box, rule, float and note
+/// shipped once, the text in its order, and the floats of each class in theirs, but for those that a break carried; no float
+/// without `!` was placed past the limits of its area, and all float lists were empty at each change of columns and at the
+/// end. `DeadCycles` comes only where `maxdeadcycles` is less than sixteen and four for each float, marginal note, clearpage,
+/// onecolumn and twocolumn.
 pub fn run<S: Source, K: Sink, E: Sink>(
     alloc: Global,
     words: &[String],
@@ -32,31 +36,22 @@ pub fn run<S: Source, K: Sink, E: Sink>(
     err: &mut E,
 ) -> Status
     // What was read, and what stands at the ends.
-    ensures outcome { Outcome result
-        (record {
-          left_before = S.left source.old;
-          left_after = S.left source.new;
-          held_before = K.held out.old;
-          held_after = K.held out.new;
-        })
-        (record {
-          told_before = E.held err.old;
-          told_after = E.held err.new;
-          faults_before = E.faults err.old;
-          faults_after = E.faults err.new;
-        }) }
+    ensures outcome { Outcome (asked (map string_bytes words.now)) result
+        (stream (S.left source.old) (S.left source.new) (S.faults source.old) (S.faults source.new))
+        (stream (K.held out.old) (K.held out.new) (K.faults out.old) (K.faults out.new))
+        (stream (E.held err.old) (E.held err.new) (E.faults err.old) (E.faults err.new)) }
 
     // When each refusal comes that the input does not decide.
-    ensures words { result ≡ Status.Words → 1 < length words.now }
-    ensures refused { 1 < length words.now → (result ≡ Status.Words) ⊎ (result ≡ Status.Memory) }
+    ensures words { result ≡ Status.Words → asked (map string_bytes words.now) ≡ None }
+    ensures refused { asked (map string_bytes words.now) ≡ None → (result ≡ Status.Words) ⊎ (result ≡ Status.Memory) }
     ensures read_fault { result ≡ Status.ReadFault → Rose (S.faults source.old) (S.faults source.new) }
     ensures write_fault { result ≡ Status.WriteFault → Rose (K.faults out.old) (K.faults out.new) }
 
-    // Where nothing fails, the input decides.
-    ensures complete { length words.now ≤ 1
-        → ¬ Rose (S.faults source.old) (S.faults source.new)
-        → ¬ Rose (K.faults out.old) (K.faults out.new)
-        → IsAnswer result (S.left source.old) }
+    // Where nothing fails, the mode and the input decide.
+    ensures complete { (mode : Mode) → Succeeds (asked (map string_bytes words.now)) mode
+        (stream (S.left source.old) (S.left source.new) (S.faults source.old) (S.faults source.new))
+        (stream (K.held out.old) (K.held out.new) (K.faults out.old) (K.faults out.new))
+        → IsAnswer mode result (S.left source.old) }
 {
     match serve(alloc, words, source, out) {
         Ok(()) => Status::Done,
@@ -71,37 +66,84 @@ fn serve<S: Source, K: Sink>(
     source: &mut S,
     out: &mut K,
 ) -> Result<(), Refusal>
-    ensures stands { StandsAfter (served_status result)
-        (record {
-          left_before = S.left source.old;
-          left_after = S.left source.new;
-          held_before = K.held out.old;
-          held_after = K.held out.new;
-        })
+    ensures { StandsAfter (asked (map string_bytes words.now)) (served_status result)
+        (stream (S.left source.old) (S.left source.new) (S.faults source.old) (S.faults source.new))
+        (stream (K.held out.old) (K.held out.new) (K.faults out.old) (K.faults out.new))
         (served_line result) }
-    ensures words { served_status result ≡ Status.Words → 1 < length words.now }
-    ensures refused { 1 < length words.now → served_status result ≡ Status.Words }
-    ensures read_fault { served_status result ≡ Status.ReadFault → Rose (S.faults source.old) (S.faults source.new) }
-    ensures write_fault { served_status result ≡ Status.WriteFault → Rose (K.faults out.old) (K.faults out.new) }
 {
-    if words.len() > 1 {
-        return Err(Refusal::Words);
+    let mode = read_words(alloc, words)?;
+    match mode {
+        Mode::Report => write_report(alloc, source, out),
+        Mode::Trace => write_trace(alloc, source, out),
+        Mode::Print => write_canonical(alloc, source, out),
     }
-    let input = read_input(alloc, source)?;
-    let galley = parse(alloc, &input)?;
+}
+
+// Reads a galley and writes its report.
+fn write_report<S: Source, K: Sink>(
+    alloc: Global,
+    source: &mut S,
+    out: &mut K,
+) -> Result<(), Refusal>
+    ensures { StandsAfter (Some Mode.Report) (served_status result)
+        (stream (S.left source.old) (S.left source.new) (S.faults source.old) (S.faults source.new))
+        (stream (K.held out.old) (K.held out.new) (K.faults out.old) (K.faults out.new))
+        (served_line result) }
+{
+    let galley = read_galley(alloc, source)?;
     paginate(alloc, &galley, View::Report, out)?;
     Ok(())
+}
+
+// Reads a galley and writes its report with the places that were tried.
+fn write_trace<S: Source, K: Sink>(
+    alloc: Global,
+    source: &mut S,
+    out: &mut K,
+) -> Result<(), Refusal>
+    ensures { StandsAfter (Some Mode.Trace) (served_status result)
+        (stream (S.left source.old) (S.left source.new) (S.faults source.old) (S.faults source.new))
+        (stream (K.held out.old) (K.held out.new) (K.faults out.old) (K.faults out.new))
+        (served_line result) }
+{
+    let galley = read_galley(alloc, source)?;
+    paginate(alloc, &galley, View::Trace, out)?;
+    Ok(())
+}
+
+// Reads a galley and writes its canonical text.
+fn write_canonical<S: Source, K: Sink>(
+    alloc: Global,
+    source: &mut S,
+    out: &mut K,
+) -> Result<(), Refusal>
+    ensures { StandsAfter (Some Mode.Print) (served_status result)
+        (stream (S.left source.old) (S.left source.new) (S.faults source.old) (S.faults source.new))
+        (stream (K.held out.old) (K.held out.new) (K.faults out.old) (K.faults out.new))
+        (served_line result) }
+{
+    let galley = read_galley(alloc, source)?;
+    let text = print(alloc, &galley)?;
+    write_all(out, &text)?;
+    Ok(())
+}
+
+// Reads the whole input, and the galley in it.
+fn read_galley<S: Source>(alloc: Global, source: &mut S) -> Result<Galley, Refusal>
+    ensures read { IfOk result (GivesGalley (stream (S.left source.old) (S.left source.new) (S.faults source.old) (S.faults source.new))) }
+    ensures valid { IfOk result IsValid }
+    ensures live { IfOk result HasLiveItems }
+    ensures refused { IfErr result (IsNoGalley (stream (S.left source.old) (S.left source.new) (S.faults source.old) (S.faults source.new))) }
+{
+    let input = read_input(alloc, source)?;
+    let galley = parse(alloc, &input)?;
+    Ok(galley)
 }
 
 // Writes the line of a refusal to `err`.
 fn tell<E: Sink>(alloc: Global, refusal: &Refusal, err: &mut E) -> Status
     ensures { Says (refusal_status refusal.now) (refusal_line refusal.now) result
-        (record {
-          told_before = E.held err.old;
-          told_after = E.held err.new;
-          faults_before = E.faults err.old;
-          faults_after = E.faults err.new;
-        }) }
+        (stream (E.held err.old) (E.held err.new) (E.faults err.old) (E.faults err.new)) }
 {
     let Ok(line) = refusal.line(alloc) else {
         return Status::Memory;

@@ -2,10 +2,10 @@ use Rattle.std.proofs.Common.{◌∙◌, ◌+◌, refl, ap, sym, subst, ◌<◌,
 use Rattle.std.proofs.lemmas.Result.{err_from_is_err_and, IfErr-weaker, IfOk-weaker}
 use Rattle.tb_io.proofs.Appended.{prefix_whole}
 use Rattle.tb_output.specs.Machine.{MachineView}
-use Rattle.tb_run.specs.Run.{run_of, held_count, firings_left}
+use Rattle.tb_run.specs.Run.{run_of, held_count, firings_left, step}
 use Rattle.tb_run.specs.Turning.{state_of, sent_count, over_limit, IsReady}
 use Rattle.tb_top.proofs.GoingLemmas.{IsTally, prefix-first, prefix-now, refuses-cut, tally-counts}
-use Rattle.tb_top.proofs.FinishLemmas.{ends-well, stops-with, start-closing, start-going, start-tally, turn-cut, turn-closing, turn-going-after, turn-fewer, tally-next, sent-few, none-at}
+use Rattle.tb_top.proofs.FinishLemmas.{ends-well, stops-with, start-closing, start-going, start-tally, noted-turn, turn-cut, turn-closing, turn-going-after, turn-fewer, tally-next, sent-few, none-at}
 use Rattle.tb_top.proofs.RunParams.{params-runnable}
 use Rattle.tb_top.proofs.LawfulRuns.{keeps-laws}
 use Rattle.tb_top.proofs.LimitedRuns.{run-within}
@@ -70,23 +70,27 @@ send-requires-clause-room g c =
 
 pub returns-in_err-send-clause-refused : goal.returns-in_err-send-clause-refused
 returns-in_err-send-clause-refused g c =
+    let notes = noted-turn c.args.view c.is_traced.result (step c.args.galley.now.params (state_of c.firing.routine)) _ _ c.deref.result.now c.is_traced.ensures c.clear.ensures.items c.deref.ensures.value c.in_ok-turn.ensures.tries in
     let p = err_from_is_err_and c.from_residual-in_err-send.result c.from_residual-in_err-send.ensures.1 in
     rw (p.1, p.2) (refuses-cut c.args.view (run_of c.args.galley.now) _ _ _ _ _ c.in_err-send.ensures.shown.cause
-    (turn-cut c.args.galley.now.params c.args.view (state_of c.firing.routine) _ _ c.firing.totals (run_of c.args.galley.now) c.firing.invariant.going c.turn.new.self c.in_ok-turn.turn c.in_ok-turn.ensures.step _ c.in_err-send.ensures.shown.part))
+    (turn-cut c.args.galley.now.params c.args.view (state_of c.firing.routine) _ _ c.firing.totals (run_of c.args.galley.now) c.deref.result.now c.firing.invariant.going c.turn.new.self c.in_ok-turn.turn c.in_ok-turn.ensures.step notes _ c.in_err-send.ensures.shown.part))
 
 pub returns-in-Some-ending-clause-done : goal.returns-in-Some-ending-clause-done
 returns-in-Some-ending-clause-done g c =
-    let closing = turn-closing c.args.galley.now.params c.args.view (state_of c.firing.routine) _ _ c.firing.totals (run_of c.args.galley.now) c.firing.invariant.going c.turn.new.self c.in_ok-turn.turn c.in_ok-turn.ensures.step _ c.send.new.totals c.in-Some-ending.ending c.in-Some-ending.is c.in_ok-send.ensures.shown.whole c.in_ok-send.ensures.counted in
+    let notes = noted-turn c.args.view c.is_traced.result (step c.args.galley.now.params (state_of c.firing.routine)) _ _ c.deref.result.now c.is_traced.ensures c.clear.ensures.items c.deref.ensures.value c.in_ok-turn.ensures.tries in
+    let closing = turn-closing c.args.galley.now.params c.args.view (state_of c.firing.routine) _ _ c.firing.totals (run_of c.args.galley.now) c.deref.result.now c.firing.invariant.going c.turn.new.self c.in_ok-turn.turn c.in_ok-turn.ensures.step notes _ c.send.new.totals c.in-Some-ending.ending c.in-Some-ending.is c.in_ok-send.ensures.shown.whole c.in_ok-send.ensures.counted in
     IfOk-weaker c.finish-in-Some-ending.result _ _ (λ u h. ends-well c.args.view c.turn.new.self c.send.new.totals (run_of c.args.galley.now) _ _ _ c.in-Some-ending.ending u closing h) c.finish-in-Some-ending.ensures.done
 
 pub returns-in-Some-ending-clause-laws : goal.returns-in-Some-ending-clause-laws
 returns-in-Some-ending-clause-laws g c =
-    let closing = turn-closing c.args.galley.now.params c.args.view (state_of c.firing.routine) _ _ c.firing.totals (run_of c.args.galley.now) c.firing.invariant.going c.turn.new.self c.in_ok-turn.turn c.in_ok-turn.ensures.step _ c.send.new.totals c.in-Some-ending.ending c.in-Some-ending.is c.in_ok-send.ensures.shown.whole c.in_ok-send.ensures.counted in
+    let notes = noted-turn c.args.view c.is_traced.result (step c.args.galley.now.params (state_of c.firing.routine)) _ _ c.deref.result.now c.is_traced.ensures c.clear.ensures.items c.deref.ensures.value c.in_ok-turn.ensures.tries in
+    let closing = turn-closing c.args.galley.now.params c.args.view (state_of c.firing.routine) _ _ c.firing.totals (run_of c.args.galley.now) c.deref.result.now c.firing.invariant.going c.turn.new.self c.in_ok-turn.turn c.in_ok-turn.ensures.step notes _ c.send.new.totals c.in-Some-ending.ending c.in-Some-ending.is c.in_ok-send.ensures.shown.whole c.in_ok-send.ensures.counted in
     IfOk-weaker c.finish-in-Some-ending.result _ _ (λ u h. keeps-laws c.args.galley.now c.requires.valid c.args.view _ _ u (ends-well c.args.view c.turn.new.self c.send.new.totals (run_of c.args.galley.now) _ _ _ c.in-Some-ending.ending u closing h)) c.finish-in-Some-ending.ensures.done
 
 pub returns-in-Some-ending-clause-refused : goal.returns-in-Some-ending-clause-refused
 returns-in-Some-ending-clause-refused g c =
-    let closing = turn-closing c.args.galley.now.params c.args.view (state_of c.firing.routine) _ _ c.firing.totals (run_of c.args.galley.now) c.firing.invariant.going c.turn.new.self c.in_ok-turn.turn c.in_ok-turn.ensures.step _ c.send.new.totals c.in-Some-ending.ending c.in-Some-ending.is c.in_ok-send.ensures.shown.whole c.in_ok-send.ensures.counted in
+    let notes = noted-turn c.args.view c.is_traced.result (step c.args.galley.now.params (state_of c.firing.routine)) _ _ c.deref.result.now c.is_traced.ensures c.clear.ensures.items c.deref.ensures.value c.in_ok-turn.ensures.tries in
+    let closing = turn-closing c.args.galley.now.params c.args.view (state_of c.firing.routine) _ _ c.firing.totals (run_of c.args.galley.now) c.deref.result.now c.firing.invariant.going c.turn.new.self c.in_ok-turn.turn c.in_ok-turn.ensures.step notes _ c.send.new.totals c.in-Some-ending.ending c.in-Some-ending.is c.in_ok-send.ensures.shown.whole c.in_ok-send.ensures.counted in
     IfErr-weaker c.finish-in-Some-ending.result _ _ (λ f h. stops-with c.args.view c.turn.new.self c.send.new.totals (run_of c.args.galley.now) _ _ _ c.in-Some-ending.ending _ _ f closing h) c.finish-in-Some-ending.ensures.refused
 
 pub done_with-requires-clause-ready : goal.done_with-requires-clause-ready
@@ -99,17 +103,19 @@ done_with-requires-clause-lists g c = none-at c.in_ok-turn.turn.ending c.in_defa
 
 pub firing-smaller : goal.firing-smaller
 firing-smaller g c =
-    let fewer = turn-fewer c.args.galley.now.params c.args.view (state_of c.firing.routine) _ _ c.firing.totals (run_of c.args.galley.now) c.firing.invariant.going c.turn.new.self c.in_ok-turn.turn c.in_ok-turn.ensures.step c.in_default-ending.is in
+    let notes = noted-turn c.args.view c.is_traced.result (step c.args.galley.now.params (state_of c.firing.routine)) _ _ c.deref.result.now c.is_traced.ensures c.clear.ensures.items c.deref.ensures.value c.in_ok-turn.ensures.tries in
+    let fewer = turn-fewer c.args.galley.now.params c.args.view (state_of c.firing.routine) _ _ c.firing.totals (run_of c.args.galley.now) c.deref.result.now c.firing.invariant.going c.turn.new.self c.in_ok-turn.turn c.in_ok-turn.ensures.step notes c.in_default-ending.is in
     subst (λ s. firings_left c.args.galley.now.params s < firings_left c.args.galley.now.params (state_of c.firing.routine)) (sym c.done_with.ensures.state) fewer
 
 pub firing-preserved : goal.firing-preserved
 firing-preserved g c =
+    let notes = noted-turn c.args.view c.is_traced.result (step c.args.galley.now.params (state_of c.firing.routine)) _ _ c.deref.result.now c.is_traced.ensures c.clear.ensures.items c.deref.ensures.value c.in_ok-turn.ensures.tries in
     let start = c.firing.invariant.later in
     let later = c.in_ok-send.ensures.shown.later in
     let ready = none-at c.in_ok-turn.turn.ending c.in_default-ending.is c.in_ok-turn.ensures.ready in
     record {
       ready = subst (λ p. IsReady p c.done_with.new.self) (ap (λ (m : MachineView). m.params) c.done_with.ensures.machine ∙ ready.settled.whole.params) c.done_with.ensures.ready;
-      going = turn-going-after c.args.galley.now.params c.args.view (state_of c.firing.routine) _ _ c.firing.totals (run_of c.args.galley.now) c.firing.invariant.going c.turn.new.self c.in_ok-turn.turn c.in_ok-turn.ensures.step _ c.send.new.totals (state_of c.done_with.new.self) c.done_with.ensures.state c.in_default-ending.is c.in_ok-send.ensures.shown.whole c.in_ok-send.ensures.counted;
+      going = turn-going-after c.args.galley.now.params c.args.view (state_of c.firing.routine) _ _ c.firing.totals (run_of c.args.galley.now) c.deref.result.now c.firing.invariant.going c.turn.new.self c.in_ok-turn.turn c.in_ok-turn.ensures.step notes _ c.send.new.totals (state_of c.done_with.new.self) c.done_with.ensures.state c.in_default-ending.is c.in_ok-send.ensures.shown.whole c.in_ok-send.ensures.counted;
       tally = subst (λ (m : MachineView). IsTally c.send.new.totals m.page) (sym c.done_with.ensures.machine)
           (subst (λ t. IsTally t c.turn.new.self.machine.page) (sym c.in_ok-send.ensures.counted) (tally-next c.turn.new.self.store c.in_ok-turn.turn.sent c.firing.totals c.firing.routine.machine.page c.turn.new.self.machine.page c.firing.invariant.tally (few-some c.turn.new.self.store c.in_ok-turn.turn.sent c.in_ok-turn.ensures.sent) (none-at c.in_ok-turn.turn.ending c.in_default-ending.is c.in_ok-turn.ensures.counted)));
       later = omega (arith, start, later);

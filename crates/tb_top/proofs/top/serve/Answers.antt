@@ -1,8 +1,18 @@
+use Rattle.std.proofs.Common.{ap, Err}
 use Rattle.std.proofs.lemmas.Result.{err_from_is_err_and}
-use Rattle.tb_top.proofs.Outcomes.{left_by_pages}
+use Rattle.tb_top.proofs.Outcomes.{left_by_words, keeps-same}
 use Rattle.tb_top.proofs.top.serve.Goals as goal
 
-pub returns-in_err-paginate-clause-stands : goal.returns-in_err-paginate-clause-stands
-returns-in_err-paginate-clause-stands g c =
-    let p = err_from_is_err_and c.from_residual-in_err-paginate.result c.from_residual-in_err-paginate.ensures.1 in
-    rw (p.1, p.2) (left_by_pages _ _ _ c.in_ok-input.ensures.read (rw (c.deref.ensures.value) at c.in_ok-galley.ensures.grammar) c.in_ok-galley.ensures.valid _ c.in_err-paginate.ensures.refused)
+pub returns-in_err-mode : goal.returns-in_err-mode
+returns-in_err-mode g c =
+    let p = err_from_is_err_and c.from_residual.result c.from_residual.ensures.1 in
+    rw (p.1, p.2) (left_by_words _ _ _ (keeps-same _) (keeps-same _) c.in_err-mode.field-0.0 (λ is. c.in_err-mode.ensures.refused (ap Err is)))
+
+pub returns-in-Report : goal.returns-in-Report
+returns-in-Report g c = rw (c.in_ok-mode.ensures.asked, c.in-Report.is) c.write_report.ensures
+
+pub returns-in-Trace : goal.returns-in-Trace
+returns-in-Trace g c = rw (c.in_ok-mode.ensures.asked, c.in-Trace.is) c.write_trace.ensures
+
+pub returns-in-Print : goal.returns-in-Print
+returns-in-Print g c = rw (c.in_ok-mode.ensures.asked, c.in-Print.is) c.write_canonical.ensures

@@ -1,0 +1,199 @@
+//! Generated galleys: large valid inputs, each made from a number.
+#![tactic(auto)]
+
+ghost use Rattle.std.specs.Prelude.{◌≡◌, ◌<◌, ◌≤◌, ◌++◌, decimal, true, IfOk, OnOk};
+ghost use Rattle.tb_param.specs.Defaults.{glue_points};
+ghost use Rattle.tb_node.specs.Names.{is_alphanumeric};
+ghost use Rattle.tb_galley.specs.Valid.{IsValid};
+ghost use Rattle.tb_generator.specs.Generate.{next_seed, letter_number, made_box, made_foot, made_float, made_by, made_item, made_params, generated};
+
+use std::alloc::{AllocError, Global};
+use tb_galley::{Galley, Item, ItemKind, Items, Leaf, LeafKind, Leaves};
+use tb_node::{Float, Name, Places, name_of};
+use tb_param::{Choice, Params, defaults};
+use tb_scaled::{Glue, Order};
+use tb_text::put_number;
+
+// One point in scaled points.
+const POINT: i64 = 65_536;
+
+// A box is 7pt high and 2pt deep.
+const HEIGHT: i64 = 7 * POINT;
+
+const DEPTH: i64 = 2 * POINT;
+
+const TBP: Places = Places {
+    h: false,
+    t: true,
+    b: true,
+    p: true,
+};
+
+const HTP: Places = Places {
+    h: true,
+    t: true,
+    b: false,
+    p: true,
+};
+
+/// The galley of so many items, 1 to 40000. Item k has line k: a box where k is odd, else glue, a footnote or a float, by a
+/// sequence of numbers that begins with `n`.
+///
+/// It fails only where there is no memory.
+pub fn generate(alloc: Global, n: u32) -> Result<Galley, AllocError>
+    requires some { 1 ≤ n }
+    requires few { n ≤ 40000 }
+    ensures generated { IfOk result (λ g. g ≡ generated n) }
+    ensures valid { IfOk result IsValid }
+{
+    let mut items = Items::new(alloc);
+    let mut seed = u64::from(n);
+    for k in 1..n + 1 {
+        seed = next_seed(seed);
+        let kind = made_item(alloc, k, seed)?;
+        items.push(Item { line: k, kind })?;
+    }
+    Ok(Galley {
+        params: made_params(),
+        items,
+        end_line: n + 1,
+    })
+}
+
+// The next number of the sequence.
+fn next_seed(seed: u64) -> u64
+    requires { seed < 2147483648 }
+    ensures next { result ≡ next_seed seed }
+    ensures small { result < 2147483648 }
+{
+    (seed * 1_103_515_245 + 12_345) % 2_147_483_648
+}
+
+#[tactic(auto, unfolding(crate::specs::Generate::made_params, tb_param::specs::Defaults::default_params))]
+fn made_params() -> Params
+    ensures { result ≡ made_params }
+{
+    Params {
+        bottom: Choice::Flush,
+        pool: 4096,
+        maxdeadcycles: 1_000_000,
+        ..defaults()
+    }
+}
+
+// The item in a place, by the number of the sequence there.
+fn made_item(alloc: Global, k: u32, seed: u64) -> Result<ItemKind, AllocError>
+    requires { k ≤ 40000 }
+    ensures { IfOk result (λ i. i ≡ made_item k seed) }
+{
+    if k % 2 == 1 {
+        return made_box(alloc, k);
+    }
+    made_by(alloc, k, seed, seed / 65_536 % 32)
+}
+
+// The item in an even place, by a number below 32.
+fn made_by(alloc: Global, k: u32, seed: u64, draw: u64) -> Result<ItemKind, AllocError>
+    requires { k ≤ 40000 }
+    ensures { IfOk result (λ i. i ≡ made_by k seed draw) }
+{
+    if draw < 28 {
+        Ok(ItemKind::Skip(glue()))
+    } else if draw < 30 {
+        made_foot(alloc, k)
+    } else if draw == 30 {
+        made_float(alloc, k, 1, TBP, 50 + (seed % 50) as u32)
+    } else {
+        made_float(alloc, k, 2, HTP, 20 + (seed % 30) as u32)
+    }
+}
+
+fn glue() -> Glue
+    ensures { result ≡ glue_points 3 1 0 }
+{
+    Glue {
+        width: 3 * POINT,
+        stretch: POINT,
+        order: Order::Normal,
+        shrink: 0,
+    }
+}
+
+fn made_box(alloc: Global, k: u32) -> Result<ItemKind, AllocError>
+    requires { k ≤ 40000 }
+    ensures { IfOk result (λ i. i ≡ made_box k) }
+{
+    Ok(ItemKind::Hbox {
+        name: letter_number(alloc, b'b', k)?,
+        height: HEIGHT,
+        depth: DEPTH,
+    })
+}
+
+fn made_foot(alloc: Global, k: u32) -> Result<ItemKind, AllocError>
+    requires { k ≤ 40000 }
+    ensures { IfOk result (λ i. i ≡ made_foot k) }
+{
+    let mut leaves = Leaves::new(alloc);
+    let name = letter_number(alloc, b'f', k)?;
+    leaves.push(Leaf {
+        line: k,
+        kind: LeafKind::Hbox {
+            name,
+            height: HEIGHT,
+            depth: DEPTH,
+        },
+    })?;
+    Ok(ItemKind::Foot(leaves))
+}
+
+// A float of so many points in height.
+fn made_float(
+    alloc: Global,
+    k: u32,
+    class: u8,
+    places: Places,
+    height: u32,
+) -> Result<ItemKind, AllocError>
+    requires few { k ≤ 40000 }
+    requires low { height ≤ 100 }
+    ensures { IfOk result (λ i. i ≡ made_float k class places height) }
+{
+    let float = Float {
+        line: k,
+        name: letter_number(alloc, b'x', k)?,
+        class,
+        wide: false,
+        places,
+        bang: false,
+        height: i64::from(height) * POINT,
+    };
+    Ok(ItemKind::Float {
+        float,
+        vert: class == 2,
+    })
+}
+
+// Puts a number in decimal at the end of a text.
+fn put_decimal(out: &mut Vec<u8>, number: u32) -> Result<(), AllocError>
+    ensures { OnOk result (out.new.items ≡ out.old.items ++ decimal number) }
+{
+    put_number(out, i128::from(number))
+}
+
+// A letter, and a number after it.
+fn letter_number(alloc: Global, letter: u8, k: u32) -> Result<Name, AllocError>
+    requires letter { is_alphanumeric letter ≡ true }
+    requires few { k ≤ 40000 }
+    ensures { IfOk result (λ name. name ≡ letter_number letter k) }
+{
+    let mut text = Vec::from_slice(alloc, &[letter])?;
+    put_decimal(&mut text, k)?;
+    match name_of(&text) {
+        Some(name) => Ok(name),
+        None => unreachable!(),
+    }
+}
+
+#[cfg(test)]
+mod tests;

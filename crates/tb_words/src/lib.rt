@@ -1,0 +1,112 @@
+//! The words of the command line.
+//!
+//! They are read by one command of `clap`, with the options `--mode` and `--count`. [`read_words`] gives the mode that
+//! they ask for.
+#![tactic(auto)]
+
+ghost use Rattle.std.specs.Prelude.{◌≡◌, Some, None, map, string_bytes, IfOk, IsErrOf};
+ghost use Rattle.clap.specs.Words.{app_of, found_of, kind_of, rows_of};
+ghost use Rattle.tb_words.specs.Words.{asked, command, fault_by, mode_in, mode_named};
+ghost use Rattle.tb_words.specs.declared.WordsFault.TheVariants.{Memory};
+
+use clap::builder::ValueParser;
+use clap::error::ErrorKind;
+use clap::{Arg, ArgAction, ArgMatches, Command};
+use std::alloc::{AllocError, Global};
+
+mod rows;
+
+pub use rows::check_words;
+
+/// What the program does.
+#[derive(Clone, Copy, Debug, PartialEq, Eq)]
+pub enum Mode {
+    /// Reads a galley and writes its report.
+    Report,
+    /// Reads a galley and writes its report, with a line for each place that was tried.
+    Trace,
+    /// Reads a galley and writes its canonical text.
+    Print,
+}
+
+/// Why there is no mode.
+#[derive(Clone, Copy, Debug, PartialEq, Eq)]
+pub enum WordsFault {
+    /// The command refuses the words, or the mode is none that is served.
+    Refused,
+    /// There was no memory.
+    Memory,
+}
+
+impl From<AllocError> for WordsFault {
+    ghost from_gives = { λ _ e. e ≡ Memory };
+
+    fn from(_: AllocError) -> Self {
+        WordsFault::Memory
+    }
+}
+
+impl From<clap::Error> for WordsFault {
+    ghost from_gives = { λ error e. e ≡ fault_by (kind_of error) };
+
+    fn from(error: clap::Error) -> Self {
+        if error.kind() == ErrorKind::OutOfMemory {
+            WordsFault::Memory
+        } else {
+            WordsFault::Refused
+        }
+    }
+}
+
+/// What the words ask for: the program's name and the words after it.
+///
+/// An empty list is read as the name alone. `Refused` comes exactly where the command refuses the words for another cause
+/// than memory, or the mode is none that is served; the command's own help and usage requests are refusals too.
+#[tactic(auto, unfolding(crate::specs::Words::asked))]
+pub fn read_words(alloc: Global, words: &[String]) -> Result<Mode, WordsFault>
+    ensures asked { IfOk result (λ mode. asked (map string_bytes words.now) ≡ Some mode) }
+    ensures refused { IsErrOf result WordsFault.Refused → asked (map string_bytes words.now) ≡ None }
+{
+    let command = command(alloc)?;
+    let matches = command.try_get_matches_from(words)?;
+    match mode_in(&matches) {
+        Some(mode) => Ok(mode),
+        None => Err(WordsFault::Refused),
+    }
+}
+
+// The program's command.
+fn command<'a>(alloc: Global) -> Result<Command<'a>, AllocError>
+    ensures { IfOk result (λ c. app_of c ≡ command) }
+{
+    let mode = Arg::new(alloc, "mode")
+        .long("mode")
+        .action(ArgAction::Set)
+        .default_value("report");
+    let count = Arg::new(alloc, "count")
+        .long("count")
+        .action(ArgAction::Set)
+        .value_parser(ValueParser::signed(1, 40_000))
+        .default_value("1000");
+    Command::new(alloc, "galley_pages").arg(mode)?.arg(count)
+}
+
+// The mode that was matched, where it is served.
+fn mode_in(matches: &ArgMatches<'_>) -> Option<Mode>
+    ensures { result ≡ mode_in (rows_of (found_of matches.now)) }
+{
+    let name = matches.get_str("mode")?;
+    mode_named(name)
+}
+
+// The mode of this name, where it is served.
+fn mode_named(name: &str) -> Option<Mode>
+    ensures { result ≡ mode_named name.now }
+{
+    match name {
+        "report" => Some(Mode::Report),
+        "trace" => Some(Mode::Trace),
+        "print" => Some(Mode::Print),
+        _ => None,
+    }
+}
