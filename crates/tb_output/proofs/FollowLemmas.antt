@@ -6,8 +6,11 @@ use Rattle.tb_node.specs.declared.Float.{Float}
 use Rattle.tb_node.specs.declared.Where.{Where}
 use Rattle.tb_node.specs.declared.Where.TheVariants as places
 use Rattle.tb_param.specs.declared.Params.{Params}
-use Rattle.tb_float.specs.Lists.{FloatLists}
+use Rattle.tb_float.specs.declared.Part.{Part}
+use Rattle.tb_float.specs.declared.Part.TheVariants as parts
+use Rattle.tb_float.specs.Lists.{FloatLists, floats_of, with_floats_of, IsWaiting, wide_part, wide_waiting, with_wide_waiting}
 use Rattle.tb_float.specs.Rooms.{column_height_of}
+use Rattle.tb_float.proofs.WaitingLemmas.{floats-with, wide-waits}
 use Rattle.tb_fpage.specs.declared.Wanted.{Wanted}
 use Rattle.tb_fpage.specs.Company.{Choice, company, chosen_floats, left_floats}
 use Rattle.tb_fpage.proofs.FirstLemmas.{company-takes, company-leaves}
@@ -20,7 +23,7 @@ use Rattle.tb_output.specs.Columns
 
 -- the floats that wait for a place or a column; those in the text stand there as boxes
 abbrev pub waiting_floats : FloatLists → ℕ
-waiting_floats l = length l.top + length l.bottom + length l.deferred + length l.double
+waiting_floats l = length l.top + length l.bottom + length l.deferred + length l.double + length l.second
 
 -- what holds of all of them
 pub record AllWait (P : Float → Type 0) (l : FloatLists) : Type 0 where
@@ -28,6 +31,7 @@ pub record AllWait (P : Float → Type 0) (l : FloatLists) : Type 0 where
   pub bottom : AllByRecursion P l.bottom
   pub deferred : AllByRecursion P l.deferred
   pub double : AllByRecursion P l.double
+  pub second : AllByRecursion P l.second
 
 -- a step that is not refused: no float comes, all that held of the floats holds still, a page sets the dead cycles to 0, and the rest stays
 pub record Follows (P : Float → Type 0) (a b : Work) : Type 0 where
@@ -105,12 +109,12 @@ module _ (P : Float → Type 0) where
   joined-count places.Deferred f l = let h : length (l.deferred ++ f ∷ []) ≡ length l.deferred + 1 = one-longer l.deferred f in omega arith
 
   pub joined-all : (place : Where) (f : Float) (l : FloatLists) → P f → AllWait P l → AllWait P (Place.joined_to place f l)
-  joined-all places.Here f l k h = record { top = h.top; bottom = h.bottom; deferred = h.deferred; double = h.double }
-  joined-all places.Top f l k h = record { top = one-all l.top f h.top k; bottom = h.bottom; deferred = h.deferred; double = h.double }
-  joined-all places.Bottom f l k h = record { top = h.top; bottom = one-all l.bottom f h.bottom k; deferred = h.deferred; double = h.double }
+  joined-all places.Here f l k h = record { top = h.top; bottom = h.bottom; deferred = h.deferred; double = h.double; second = h.second }
+  joined-all places.Top f l k h = record { top = one-all l.top f h.top k; bottom = h.bottom; deferred = h.deferred; double = h.double; second = h.second }
+  joined-all places.Bottom f l k h = record { top = h.top; bottom = one-all l.bottom f h.bottom k; deferred = h.deferred; double = h.double; second = h.second }
   joined-all places.Page f l k h = h
-  joined-all places.Double f l k h = record { top = h.top; bottom = h.bottom; deferred = h.deferred; double = one-all l.double f h.double k }
-  joined-all places.Deferred f l k h = record { top = h.top; bottom = h.bottom; deferred = one-all l.deferred f h.deferred k; double = h.double }
+  joined-all places.Double f l k h = record { top = h.top; bottom = h.bottom; deferred = h.deferred; double = one-all l.double f h.double k; second = h.second }
+  joined-all places.Deferred f l k h = record { top = h.top; bottom = h.bottom; deferred = one-all l.deferred f h.deferred k; double = h.double; second = h.second }
 
   pub joined-current : (place : Where) (f : Float) (l : FloatLists) → (Place.joined_to place f l).current ≡ l.current
   joined-current places.Here f l = refl
@@ -167,56 +171,129 @@ module _ (P : Float → Type 0) where
   both-long [] gs = omega arith
   both-long (f ∷ fs) gs = let h : length (fs ++ gs) ≡ length fs + length gs = both-long fs gs in omega arith
 
-  -- a deferred float goes to its place, or stays
-  deferred-step : (p : Params) (place : Where) (f : Float) (before rest : List Float) (w : Work) → w.state.floats.deferred ≡ before ++ f ∷ rest → Follows P w (Place.place_deferred p place f before rest w) × ((Place.place_deferred p place f before rest w).state.floats.deferred ≡ Place.still_deferred place f before ++ rest)
-  deferred-step p place f before rest w e = by_place place
+  -- ---- the list in which floats wait
+
+  -- other floats stand in it
+  pub part-count : (from : Part) → IsWaiting from → (gs : List Float) (l : FloatLists) → waiting_floats (with_floats_of from gs l) + length (floats_of from l) ≡ waiting_floats l + length gs
+  part-count parts.Current q gs l = absurd q
+  part-count parts.Here q gs l = absurd q
+  part-count parts.Top q gs l = absurd q
+  part-count parts.Bottom q gs l = absurd q
+  part-count parts.Deferred q gs l = omega arith
+  part-count parts.Double q gs l = absurd q
+  part-count parts.Second q gs l = omega arith
+
+  pub part-current : (from : Part) → IsWaiting from → (gs : List Float) (l : FloatLists) → (with_floats_of from gs l).current ≡ l.current
+  part-current parts.Current q gs l = absurd q
+  part-current parts.Here q gs l = absurd q
+  part-current parts.Top q gs l = absurd q
+  part-current parts.Bottom q gs l = absurd q
+  part-current parts.Deferred q gs l = refl
+  part-current parts.Double q gs l = absurd q
+  part-current parts.Second q gs l = refl
+
+  pub part-all : (from : Part) → IsWaiting from → (l : FloatLists) → AllWait P l → AllByRecursion P (floats_of from l)
+  part-all parts.Current q l h = absurd q
+  part-all parts.Here q l h = absurd q
+  part-all parts.Top q l h = absurd q
+  part-all parts.Bottom q l h = absurd q
+  part-all parts.Deferred q l h = h.deferred
+  part-all parts.Double q l h = absurd q
+  part-all parts.Second q l h = h.second
+
+  pub all-part : (from : Part) → IsWaiting from → (gs : List Float) (l : FloatLists) → AllWait P l → AllByRecursion P gs → AllWait P (with_floats_of from gs l)
+  all-part parts.Current q gs l h k = absurd q
+  all-part parts.Here q gs l h k = absurd q
+  all-part parts.Top q gs l h k = absurd q
+  all-part parts.Bottom q gs l h k = absurd q
+  all-part parts.Deferred q gs l h k = record { top = h.top; bottom = h.bottom; deferred = k; double = h.double; second = h.second }
+  all-part parts.Double q gs l h k = absurd q
+  all-part parts.Second q gs l h k = record { top = h.top; bottom = h.bottom; deferred = h.deferred; double = h.double; second = k }
+
+  -- a float that goes to a place of its own leaves the others of its list
+  abbrev pub LeavesList : Where → Type 0
+  LeavesList places.Here = Unit {0}
+  LeavesList places.Top = Unit {0}
+  LeavesList places.Bottom = Unit {0}
+  LeavesList places.Page = Unit {0}
+  LeavesList places.Double = Unit {0}
+  LeavesList places.Deferred = ⊥
+
+  part-joined : (from : Part) → IsWaiting from → (place : Where) (f : Float) (gs : List Float) (l : FloatLists) → LeavesList place → floats_of from (Place.joined_to place f (with_floats_of from gs l)) ≡ gs
+  part-joined parts.Current q place f gs l v = absurd q
+  part-joined parts.Here q place f gs l v = absurd q
+  part-joined parts.Top q place f gs l v = absurd q
+  part-joined parts.Bottom q place f gs l v = absurd q
+  part-joined parts.Double q place f gs l v = absurd q
+  part-joined parts.Deferred q places.Here f gs l v = refl
+  part-joined parts.Deferred q places.Top f gs l v = refl
+  part-joined parts.Deferred q places.Bottom f gs l v = refl
+  part-joined parts.Deferred q places.Page f gs l v = refl
+  part-joined parts.Deferred q places.Double f gs l v = refl
+  part-joined parts.Deferred q places.Deferred f gs l v = absurd v
+  part-joined parts.Second q places.Here f gs l v = refl
+  part-joined parts.Second q places.Top f gs l v = refl
+  part-joined parts.Second q places.Bottom f gs l v = refl
+  part-joined parts.Second q places.Page f gs l v = refl
+  part-joined parts.Second q places.Double f gs l v = refl
+  part-joined parts.Second q places.Deferred f gs l v = absurd v
+
+  -- a float of it goes to its place, or stays
+  waiting-step : (from : Part) → IsWaiting from → (p : Params) (place : Where) (f : Float) (before rest : List Float) (w : Work) → floats_of from w.state.floats ≡ before ++ f ∷ rest → Follows P w (Place.place_waiting from p place f before rest w) × (floats_of from (Place.place_waiting from p place f before rest w).state.floats ≡ Place.still_deferred place f before ++ rest)
+  waiting-step from q p place f before rest w e = by_place place
     where
       l : FloatLists
-      l = record w.state.floats { deferred = before ++ rest }
+      l = with_floats_of from (before ++ rest) w.state.floats
 
       fewer : waiting_floats l + 1 ≤ waiting_floats w.state.floats
       fewer =
-          let h : length (before ++ rest) ≡ length before + length rest = both-long before rest in
-          let k : length (before ++ f ∷ rest) ≡ length before + length (f ∷ rest) = both-long before (f ∷ rest) in
-          let i : length w.state.floats.deferred ≡ length (before ++ f ∷ rest) = ap length e in
-          omega arith
+          let c : waiting_floats (with_floats_of from (before ++ rest) w.state.floats) + length (floats_of from w.state.floats) ≡ waiting_floats w.state.floats + length (before ++ rest) = part-count from q (before ++ rest) w.state.floats in
+          sums (waiting_floats (with_floats_of from (before ++ rest) w.state.floats)) (waiting_floats w.state.floats) (length (floats_of from w.state.floats)) (length (before ++ rest)) (length (before ++ f ∷ rest)) (length before) (length rest) (length (f ∷ rest)) c (ap length e) (both-long before rest) (both-long before (f ∷ rest)) refl
+        where
+          sums : (x y a b c i j d : ℕ) → x + a ≡ y + b → a ≡ c → b ≡ i + j → c ≡ i + d → d ≡ suc j → x + 1 ≤ y
+          sums x y a b c i j d h k m n o = omega arith
 
-      parts : AllWait P w.state.floats → P f × AllWait P l
-      parts h =
-          let d : AllByRecursion P (before ++ f ∷ rest) = subst (AllByRecursion P) e h.deferred in
-          ((all-right before (f ∷ rest) d).0, record { top = h.top; bottom = h.bottom; deferred = all-both before rest (all-left before (f ∷ rest) d) (all-right before (f ∷ rest) d).1; double = h.double })
+      parts-of : AllWait P w.state.floats → P f × AllWait P l
+      parts-of h =
+          let d : AllByRecursion P (before ++ f ∷ rest) = subst (AllByRecursion P) e (part-all from q w.state.floats h) in
+          ((all-right before (f ∷ rest) d).0, all-part from q (before ++ rest) w.state.floats h (all-both before rest (all-left before (f ∷ rest) d) (all-right before (f ∷ rest) d).1))
 
       assoc : (xs : List Float) → xs ++ f ∷ rest ≡ (xs ++ f ∷ []) ++ rest
       assoc [] = refl
       assoc (x ∷ xs) = ap (λ ys. x ∷ ys) (assoc xs)
 
-      recorded : (r : Recorded) (fs : FloatLists) (t : Bool) → (with_floats fs (if t then w else record w { records = w.records ++ r ∷ [] })).state.floats.deferred ≡ fs.deferred
-      recorded r fs true = refl
-      recorded r fs false = refl
+      goes : (place : Where) → LeavesList place → Follows P w (Place.place_float p place f l w) × (floats_of from (Place.place_float p place f l w).state.floats ≡ before ++ rest)
+      goes place v = (follows-placed p place f l w (part-current from q (before ++ rest) w.state.floats) fewer parts-of, recorded (Place.is_placed place))
+        where
+          r : Recorded
+          r = placed f place w.state.floats (column_height_of p w.state.floats)
 
-      by_place : (place : Where) → Follows P w (Place.place_deferred p place f before rest w) × ((Place.place_deferred p place f before rest w).state.floats.deferred ≡ Place.still_deferred place f before ++ rest)
-      by_place places.Here = (follows-placed p places.Here f l w refl fewer parts, refl)
-      by_place places.Top = (follows-placed p places.Top f l w refl fewer parts, refl)
-      by_place places.Bottom = (follows-placed p places.Bottom f l w refl fewer parts, refl)
+          recorded : (t : Bool) → floats_of from (with_floats (Place.joined_to place f l) (if t then records_also r w else w)).state.floats ≡ before ++ rest
+          recorded t = part-joined from q place f (before ++ rest) w.state.floats v
+
+      by_place : (place : Where) → Follows P w (Place.place_waiting from p place f before rest w) × (floats_of from (Place.place_waiting from p place f before rest w).state.floats ≡ Place.still_deferred place f before ++ rest)
+      by_place places.Here = goes places.Here tt
+      by_place places.Top = goes places.Top tt
+      by_place places.Bottom = goes places.Bottom tt
       by_place places.Page = (follows-same w, e ∙ assoc before)
-      by_place places.Double = (follows-placed p places.Double f l w refl fewer parts, refl)
+      by_place places.Double = goes places.Double tt
       by_place places.Deferred = (follows-same w, e ∙ assoc before)
 
   pub follows-next : (p : Params) (before fs : List Float) (w : Work) → w.state.floats.deferred ≡ before ++ fs → Follows P w (Place.place_next p before fs w)
   follows-next p before [] w e = follows-same w
   follows-next p before (f ∷ rest) w e =
       let place = next_place p w.state.floats w.state.suppress before f in
-      let w' = Place.place_deferred p place f before rest w in
-      let d : Follows P w (Place.place_deferred p place f before rest w) × ((Place.place_deferred p place f before rest w).state.floats.deferred ≡ Place.still_deferred place f before ++ rest) = deferred-step p place f before rest w e in
+      let w' = Place.place_waiting parts.Deferred p place f before rest w in
+      let d : Follows P w (Place.place_waiting parts.Deferred p place f before rest w) × ((Place.place_waiting parts.Deferred p place f before rest w).state.floats.deferred ≡ Place.still_deferred place f before ++ rest) = waiting-step parts.Deferred tt p place f before rest w e in
       follows-then w w' (Place.place_next p (Place.still_deferred place f before) rest w') d.0 (follows-next p (Place.still_deferred place f before) rest w' d.1)
 
-  pub follows-double : (p : Params) (before fs : List Float) (w : Work) → w.state.floats.deferred ≡ before ++ fs → Follows P w (Place.place_double p before fs w)
-  follows-double p before [] w e = follows-same w
-  follows-double p before (f ∷ rest) w e =
+  pub follows-double : (from : Part) → IsWaiting from → (p : Params) (before fs : List Float) (w : Work) → floats_of from w.state.floats ≡ before ++ fs → Follows P w (Place.place_double from p before fs w)
+  follows-double from q p before [] w e = follows-same w
+  follows-double from q p before (f ∷ rest) w e =
       let place = double_place p w.state.floats w.state.suppress before f in
-      let w' = Place.place_deferred p place f before rest w in
-      let d : Follows P w (Place.place_deferred p place f before rest w) × ((Place.place_deferred p place f before rest w).state.floats.deferred ≡ Place.still_deferred place f before ++ rest) = deferred-step p place f before rest w e in
-      follows-then w w' (Place.place_double p (Place.still_deferred place f before) rest w') d.0 (follows-double p (Place.still_deferred place f before) rest w' d.1)
+      let w' = Place.place_waiting from p place f before rest w in
+      let d : Follows P w (Place.place_waiting from p place f before rest w) × (floats_of from (Place.place_waiting from p place f before rest w).state.floats ≡ Place.still_deferred place f before ++ rest) = waiting-step from q p place f before rest w e in
+      follows-then w w' (Place.place_double from p (Place.still_deferred place f before) rest w') d.0 (follows-double from q p (Place.still_deferred place f before) rest w' d.1)
 
   -- ---- companies
 
@@ -224,25 +301,39 @@ module _ (P : Float → Type 0) where
   pub company-left : (z : Wanted) (w : Work) (cs : List Choice) → company z w.state.floats.deferred ≡ Some cs → Follows P w (Ship.with_deferred (left_floats cs) w) × (waiting_floats (Ship.with_deferred (left_floats cs) w).state.floats + 1 ≤ waiting_floats w.state.floats)
   company-left z w cs e =
       let h : length (left_floats cs) + 1 ≤ length w.state.floats.deferred = company-takes z w.state.floats.deferred cs e in
-      (with-lists (record w.state.floats { deferred = left_floats cs }) w refl (omega arith) (λ x. record { top = x.top; bottom = x.bottom; deferred = company-leaves P z w.state.floats.deferred cs e x.deferred; double = x.double }), omega arith)
+      (with-lists (record w.state.floats { deferred = left_floats cs }) w refl (omega arith) (λ x. record { top = x.top; bottom = x.bottom; deferred = company-leaves P z w.state.floats.deferred cs e x.deferred; double = x.double; second = x.second }), omega arith)
 
-  pub follows-wide : (p : Params) (clearing : Bool) (w : Work) (cs : List Choice) → company (Ship.wide_wanted p clearing) w.state.floats.deferred ≡ Some cs → Follows P w (Ship.ship_wide p cs w) × (waiting_floats (Ship.ship_wide p cs w).state.floats + 1 ≤ waiting_floats w.state.floats)
+  -- the wide floats that a company leaves
+  pub wide-left : (z : Wanted) (p : Params) (w : Work) (cs : List Choice) → company z (wide_waiting p w.state.floats) ≡ Some cs → Follows P w (with_floats (with_wide_waiting p (left_floats cs) w.state.floats) w) × (waiting_floats (with_wide_waiting p (left_floats cs) w.state.floats) + 1 ≤ waiting_floats w.state.floats)
+  wide-left z p w cs e =
+      let h : length (left_floats cs) + 1 ≤ length (wide_waiting p w.state.floats) = company-takes z (wide_waiting p w.state.floats) cs e in
+      let c : waiting_floats (with_wide_waiting p (left_floats cs) w.state.floats) + length (wide_waiting p w.state.floats) ≡ waiting_floats w.state.floats + length (left_floats cs) = part-count (wide_part p) (wide-waits p) (left_floats cs) w.state.floats in
+      let k : waiting_floats (with_wide_waiting p (left_floats cs) w.state.floats) + 1 ≤ waiting_floats w.state.floats = sums (waiting_floats (with_wide_waiting p (left_floats cs) w.state.floats)) (waiting_floats w.state.floats) (length (wide_waiting p w.state.floats)) (length (left_floats cs)) c h in
+      (with-lists (with_wide_waiting p (left_floats cs) w.state.floats) w (part-current (wide_part p) (wide-waits p) (left_floats cs) w.state.floats) (fewer (waiting_floats (with_wide_waiting p (left_floats cs) w.state.floats)) (waiting_floats w.state.floats) k) (λ x. all-part (wide_part p) (wide-waits p) (left_floats cs) w.state.floats x (company-leaves P z (wide_waiting p w.state.floats) cs e (part-all (wide_part p) (wide-waits p) w.state.floats x))), k)
+    where
+      sums : (x y a b : ℕ) → x + a ≡ y + b → b + 1 ≤ a → x + 1 ≤ y
+      sums x y a b h k = omega arith
+
+      fewer : (x y : ℕ) → x + 1 ≤ y → x ≤ y
+      fewer x y h = omega arith
+
+  pub follows-wide : (p : Params) (clearing : Bool) (w : Work) (cs : List Choice) → company (Ship.wide_wanted p clearing) (wide_waiting p w.state.floats) ≡ Some cs → Follows P w (Ship.ship_wide p cs w) × (waiting_floats (Ship.ship_wide p cs w).state.floats + 1 ≤ waiting_floats w.state.floats)
   follows-wide p clearing w cs e =
-      let a = Ship.with_deferred (left_floats cs) w in
-      let c : Follows P w (Ship.with_deferred (left_floats cs) w) × (waiting_floats (Ship.with_deferred (left_floats cs) w).state.floats + 1 ≤ waiting_floats w.state.floats) = company-left (Ship.wide_wanted p clearing) w cs e in
-      let x : Follows P (Ship.with_deferred (left_floats cs) w) (Ship.ship_wide p cs w) = follows-ship p (wide (wide_floats_column p p.textheight (chosen_floats cs))) a in
-      (follows-then w a (Ship.ship_wide p cs w) c.0 x, one-fewer (waiting_floats w.state.floats) (waiting_floats (Ship.with_deferred (left_floats cs) w).state.floats) (waiting_floats (Ship.ship_wide p cs w).state.floats) c.1 x.floats)
+      let a = with_floats (with_wide_waiting p (left_floats cs) w.state.floats) w in
+      let c : Follows P w (with_floats (with_wide_waiting p (left_floats cs) w.state.floats) w) × (waiting_floats (with_wide_waiting p (left_floats cs) w.state.floats) + 1 ≤ waiting_floats w.state.floats) = wide-left (Ship.wide_wanted p clearing) p w cs e in
+      let x : Follows P (with_floats (with_wide_waiting p (left_floats cs) w.state.floats) w) (Ship.ship_wide p cs w) = follows-ship p (wide (wide_floats_column p p.textheight (chosen_floats cs))) a in
+      (follows-then w a (Ship.ship_wide p cs w) c.0 x, one-fewer (waiting_floats w.state.floats) (waiting_floats (with_wide_waiting p (left_floats cs) w.state.floats)) (waiting_floats (Ship.ship_wide p cs w).state.floats) c.1 x.floats)
     where
       one-fewer : (x y z : ℕ) → y + 1 ≤ x → z ≤ y → z + 1 ≤ x
       one-fewer x y z h k = omega arith
 
-  follows-wide_by : (p : Params) (clearing : Bool) (again : Work → Work) → ((w : Work) → Follows P w (again w)) → (w : Work) (o : Option (List Choice)) → company (Ship.wide_wanted p clearing) w.state.floats.deferred ≡ o → Follows P w (Ship.wide_pages_by again p w o)
+  follows-wide_by : (p : Params) (clearing : Bool) (again : Work → Work) → ((w : Work) → Follows P w (again w)) → (w : Work) (o : Option (List Choice)) → company (Ship.wide_wanted p clearing) (wide_waiting p w.state.floats) ≡ o → Follows P w (Ship.wide_pages_by again p w o)
   follows-wide_by p clearing again h w None e = follows-same w
   follows-wide_by p clearing again h w (Some cs) e = follows-then w (Ship.ship_wide p cs w) (again (Ship.ship_wide p cs w)) (follows-wide p clearing w cs e).0 (h (Ship.ship_wide p cs w))
 
   pub follows-wide_pages : (p : Params) (clearing : Bool) (n : ℕ) (w : Work) → Follows P w (Ship.wide_pages p clearing n w)
   follows-wide_pages p clearing zero w = follows-same w
-  follows-wide_pages p clearing (suc n) w = follows-wide_by p clearing (λ w'. Ship.wide_pages p clearing n w') (λ w'. follows-wide_pages p clearing n w') w (company (Ship.wide_wanted p clearing) w.state.floats.deferred) refl
+  follows-wide_pages p clearing (suc n) w = follows-wide_by p clearing (λ w'. Ship.wide_pages p clearing n w') (λ w'. follows-wide_pages p clearing n w') w (company (Ship.wide_wanted p clearing) (wide_waiting p w.state.floats)) refl
 
   -- ---- columns
 
@@ -251,10 +342,10 @@ module _ (P : Float → Type 0) where
 
   -- the double floats are gone
   pub follows-undoubled : (w : Work) → Follows P w (Ship.without_double w) × (waiting_floats (Ship.without_double w).state.floats + length w.state.floats.double ≤ waiting_floats w.state.floats)
-  follows-undoubled w = (record { goes = λ r. r; columns = refl; boxes = refl; back = refl; page = refl; current = refl; floats = omega arith; all = λ x. record { top = x.top; bottom = x.bottom; deferred = x.deferred; double = nothing }; cycles = λ r. inl refl }, omega arith)
+  follows-undoubled w = (record { goes = λ r. r; columns = refl; boxes = refl; back = refl; page = refl; current = refl; floats = omega arith; all = λ x. record { top = x.top; bottom = x.bottom; deferred = x.deferred; double = nothing; second = x.second }; cycles = λ r. inl refl }, omega arith)
 
   follows-filled : (p : Params) (w : Work) → Follows P w (Ship.fill_double p w)
-  follows-filled p w = follows-double p [] w.state.floats.deferred w refl
+  follows-filled p w = follows-double (wide_part p) (wide-waits p) p [] (wide_waiting p w.state.floats) w refl
 
   -- what follows the pair's page
   pub follows-pair_rest : (p : Params) (c : PlainColumn) (w : Work) → Follows P (Ship.ship p (pair_sheet p w.state.floats (Ship.left_or c w.state.left_column) c) w) (Ship.ship_pair p c w)
@@ -263,7 +354,7 @@ module _ (P : Float → Type 0) where
       let b = Ship.without_double a in
       let d = Ship.all_wide_pages p false b in
       follows-then a b (Ship.ship_pair p c w) (follows-undoubled a).0
-      (follows-then b d (Ship.ship_pair p c w) (follows-wide_pages p false (length b.state.floats.deferred) b) (follows-filled p d))
+      (follows-then b d (Ship.ship_pair p c w) (follows-wide_pages p false (length (wide_waiting p b.state.floats)) b) (follows-filled p d))
 
   follows-pair : (p : Params) (c : PlainColumn) (w : Work) → Follows P w (Ship.ship_pair p c w)
   follows-pair p c w =

@@ -75,16 +75,16 @@ steady-free (n ∷ ns) s =
     let k : wait_cost ns ≡ 0 = steady-free ns s.1 in
     omega arith
 
-ins-kind : (k : PlainKind) → IsIns 254 k → kind_cost k ≡ 0
-ins-kind (plain m) i = absurd i
-ins-kind (ins x) i = refl
-ins-kind (act a) i = absurd i
+ins-kind : (cs : List ℕ) (k : PlainKind) → IsIns cs k → kind_cost k ≡ 0
+ins-kind cs (plain m) i = absurd i
+ins-kind cs (ins x) i = refl
+ins-kind cs (act a) i = absurd i
 
-pub ins-free : (ns : List PlainNode) → AllIns 254 ns → wait_cost ns ≡ 0
-ins-free [] i = refl
-ins-free (n ∷ ns) i =
-    let h : kind_cost n.kind ≡ 0 = ins-kind n.kind i.0 in
-    let k : wait_cost ns ≡ 0 = ins-free ns i.1 in
+pub ins-free : (cs : List ℕ) (ns : List PlainNode) → AllIns cs ns → wait_cost ns ≡ 0
+ins-free cs [] i = refl
+ins-free cs (n ∷ ns) i =
+    let h : kind_cost n.kind ≡ 0 = ins-kind cs n.kind i.0 in
+    let k : wait_cost ns ≡ 0 = ins-free cs ns i.1 in
     omega arith
 
 -- ---- a page takes of it

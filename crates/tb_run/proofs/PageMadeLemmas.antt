@@ -283,7 +283,7 @@ module _ (p : Params) (s : State) where
       let w = page_reach p s in
       let q : Progress = record { state = s; events = h.events; records = h.records; fault = None } in
       subst (IsLed ts) (sym (ap (λ (q : Progress). after_progress p w q q.fault) v.so_far ∙ if-step w.fires (fire p w q) _ v.fires))
-      (cycles-led p h.events h.records ts s.dead_cycles (out p s (fired_of (ask_of p s) (foot_class p ∷ []) s.boxes w)) (int_lt (pos s.dead_cycles) p.maxdeadcycles) h.are h.quiet)
+      (cycles-led p h.events h.records ts s.dead_cycles (out p s (fired_of (ask_of p s) s.classes s.boxes w)) (int_lt (pos s.dead_cycles) p.maxdeadcycles) h.are h.quiet)
 
   pub empty-led : (ts : List Try) (c d : Contents) → IsFilled p s ts c → c.stopped ≡ false → EmptyIs (laid c (ask_of p s)) (reach_ahead c (ask_of p s)) (places_of c (ask_of p s)) (ask_of p s) d → IsLed ts (step p s)
   unfolding step
