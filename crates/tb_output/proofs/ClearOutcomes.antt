@@ -7,8 +7,12 @@ use Rattle.std.proofs.lemmas.Int.{ints}
 use Rattle.tb_node.specs.declared.Float.{Float}
 use Rattle.tb_node.specs.Plain.{PlainNode, made, blank_box}
 use Rattle.tb_param.specs.declared.Params.{Params}
-use Rattle.tb_float.specs.Lists.{FloatLists}
+use Rattle.tb_param.specs.Release.{has_second}
+use Rattle.tb_float.specs.declared.Part.{Part}
+use Rattle.tb_float.specs.declared.Part.TheVariants as parts
+use Rattle.tb_float.specs.Lists.{FloatLists, floats_of, with_floats_of, IsWaiting, wide_part, wide_waiting, with_wide_waiting}
 use Rattle.tb_float.specs.Rooms.{column_height_of}
+use Rattle.tb_float.proofs.WaitingLemmas.{floats-with, wide-waits}
 use Rattle.tb_fpage.specs.Company.{Choice, suits, company, chosen_floats, left_floats}
 use Rattle.tb_fpage.proofs.FirstLemmas.{none-suits}
 use Rattle.tb_column.specs.Column.{single_floats_column, wide, wide_floats_column}
@@ -16,7 +20,7 @@ use Rattle.tb_output.specs.State.{State, Work, puts, with_floats, has_floats}
 use Rattle.tb_output.specs.Ship
 use Rattle.tb_output.specs.Columns
 use Rattle.tb_output.specs.Clear
-use Rattle.tb_output.proofs.FollowLemmas.{waiting_floats, AllWait, Follows, follows-same, follows-then, follows-wide, follows-wide_pages, follows-company, follows-float_columns, all-both, both-long}
+use Rattle.tb_output.proofs.FollowLemmas.{waiting_floats, AllWait, Follows, follows-same, follows-then, follows-wide, follows-wide_pages, follows-company, follows-float_columns, all-both, both-long, part-count, part-current, part-all, all-part}
 use Rattle.tb_output.proofs.ColumnOutcomes.{ship-cycles, stays-zero, IsLast, last-ships, IsKept, first-kept, second-pairs, Columned, AllColumned, all-columned}
 
 -- no float waits
@@ -25,6 +29,7 @@ pub record NoneWait (l : FloatLists) : Type 0 where
   pub bottom : l.bottom ≡ []
   pub deferred : l.deferred ≡ []
   pub double : l.double ≡ []
+  pub second : l.second ≡ []
 
 -- no float is higher than a page
 abbrev pub Fits : Params → Float → Type 0
@@ -36,10 +41,19 @@ Single f = f.wide ≡ false
 abbrev pub Wide : Float → Type 0
 Wide f = f.wide ≡ true
 
--- what is known of the floats that wait: none is higher than a page, the double ones are wide, and in one column all are single and none is double
+-- the floats that do not wait for a page of their own are single
+pub record Narrow (l : FloatLists) : Type 0 where
+  pub top : AllByRecursion Single l.top
+  pub bottom : AllByRecursion Single l.bottom
+  pub deferred : AllByRecursion Single l.deferred
+
+-- what is known of the floats that wait: none is higher than a page, the double ones are wide, and in one column all are single and none is double; the second list has wide floats, the others then have single ones, and in release 2015 it is empty
 pub record WaitsWell (p : Params) (s : State) : Type 0 where
   pub fit : AllWait (Fits p) s.floats
   pub wide : AllByRecursion Wide s.floats.double
+  pub second : AllByRecursion Wide s.floats.second
+  pub none : has_second p ≡ false → s.floats.second ≡ []
+  pub narrow : has_second p ≡ true → Narrow s.floats
   pub single : s.two_columns ≡ false → AllWait Single s.floats × (s.floats.double ≡ [])
 
 -- ---- what a clear puts back behind its front
@@ -93,8 +107,8 @@ no-singles : (p : Params) (l : FloatLists) (fs : List Float) → l.double ≡ []
 no-singles p l [] d h s e = refl
 no-singles p l (f ∷ fs) d h s e = absurd (true-false (suits (Columns.single_wanted p l true) f) (suits-single p l f d h.0 s.0) (none-suits (Columns.single_wanted p l true) f fs refl e))
 
-no-floats : (p : Params) (l : FloatLists) (fs : List Float) → AllByRecursion (Fits p) l.double → AllByRecursion Wide l.double → AllByRecursion (Fits p) fs → company (Columns.single_wanted p l true) fs ≡ None → company (Ship.wide_wanted p true) (l.double ++ fs) ≡ None → (l.double ≡ []) × (fs ≡ [])
-no-floats p l fs a b h e k = by_double l.double refl a b k
+no-mixed : (p : Params) (l : FloatLists) (fs : List Float) → AllByRecursion (Fits p) l.double → AllByRecursion Wide l.double → AllByRecursion (Fits p) fs → company (Columns.single_wanted p l true) fs ≡ None → company (Ship.wide_wanted p true) (l.double ++ fs) ≡ None → (l.double ≡ []) × (fs ≡ [])
+no-mixed p l fs a b h e k = by_double l.double refl a b k
   where
     by_wide : (t : Bool) (f : Float) (gs : List Float) → f.wide ≡ t → l.double ≡ [] → Fits p f → company (Columns.single_wanted p l true) (f ∷ gs) ≡ None → company (Ship.wide_wanted p true) (f ∷ gs) ≡ None → ⊥
     by_wide false f gs w d x e k = true-false (suits (Columns.single_wanted p l true) f) (suits-single p l f d x w) (none-suits (Columns.single_wanted p l true) f gs refl e)
@@ -107,6 +121,46 @@ no-floats p l fs a b h e k = by_double l.double refl a b k
     by_double : (ds : List Float) → l.double ≡ ds → AllByRecursion (Fits p) ds → AllByRecursion Wide ds → company (Ship.wide_wanted p true) (ds ++ fs) ≡ None → (l.double ≡ []) × (fs ≡ [])
     by_double [] d a b k = (d, by_floats fs h d e k)
     by_double (f ∷ ds) d a b k = absurd (true-false (suits (Ship.wide_wanted p true) f) (suits-wide p f a.0 b.0) (none-suits (Ship.wide_wanted p true) f (ds ++ fs) refl k))
+
+no-wides : (p : Params) (fs : List Float) → AllByRecursion (Fits p) fs → AllByRecursion Wide fs → company (Ship.wide_wanted p true) fs ≡ None → fs ≡ []
+no-wides p [] h s e = refl
+no-wides p (f ∷ fs) h s e = absurd (true-false (suits (Ship.wide_wanted p true) f) (suits-wide p f h.0 s.0) (none-suits (Ship.wide_wanted p true) f fs refl e))
+
+all-of-both : (P : Float → Type 0) (fs gs : List Float) → AllByRecursion P fs → AllByRecursion P gs → AllByRecursion P (fs ++ gs)
+all-of-both P [] gs h k = k
+all-of-both P (f ∷ fs) gs h k = (h.0, all-of-both P fs gs h.1 k)
+
+-- no float is wide and single
+no-both : (fs : List Float) → AllByRecursion Wide fs → AllByRecursion Single fs → fs ≡ []
+no-both [] h k = refl
+no-both (f ∷ fs) h k = absurd (true-false f.wide h.0 k.0)
+
+-- with no company of single floats and none of wide ones, nothing waits
+no-floats : (p : Params) (l : FloatLists) → AllByRecursion (Fits p) l.double → AllByRecursion Wide l.double → AllByRecursion (Fits p) l.deferred → AllByRecursion (Fits p) l.second → AllByRecursion Wide l.second → (has_second p ≡ false → l.second ≡ []) → (has_second p ≡ true → AllByRecursion Single l.deferred) → company (Columns.single_wanted p l true) l.deferred ≡ None → company (Ship.wide_wanted p true) (l.double ++ wide_waiting p l) ≡ None → (l.double ≡ []) × (l.deferred ≡ []) × (l.second ≡ [])
+no-floats p l a b h i j none narrow e k = by_release (has_second p) refl k
+  where
+    in_two : has_second p ≡ true → (l.double ≡ []) × (l.second ≡ []) → (l.double ≡ []) × (l.deferred ≡ []) × (l.second ≡ [])
+    in_two r d = (d.0, no-singles p l l.deferred d.0 h (narrow r) e, d.1)
+
+    in_one : has_second p ≡ false → (l.double ≡ []) × (l.deferred ≡ []) → (l.double ≡ []) × (l.deferred ≡ []) × (l.second ≡ [])
+    in_one r d = (d.0, d.1, none r)
+
+    by_release : (t : Bool) → has_second p ≡ t → company (Ship.wide_wanted p true) (l.double ++ floats_of (if t then parts.Second else parts.Deferred) l) ≡ None → (l.double ≡ []) × (l.deferred ≡ []) × (l.second ≡ [])
+    by_release true r k = in_two r (append-none l.double l.second (no-wides p (l.double ++ l.second) (all-of-both (Fits p) l.double l.second a i) (all-of-both Wide l.double l.second b j) k))
+    by_release false r k = in_one r (no-mixed p l l.deferred a b h e k)
+
+-- the double floats stand in no list of those that wait
+undoubled : (from : Part) → IsWaiting from → (l : FloatLists) → floats_of from (record l { double = [] }) ≡ floats_of from l
+undoubled parts.Current q l = absurd q
+undoubled parts.Here q l = absurd q
+undoubled parts.Top q l = absurd q
+undoubled parts.Bottom q l = absurd q
+undoubled parts.Deferred q l = refl
+undoubled parts.Double q l = absurd q
+undoubled parts.Second q l = refl
+
+or-false : (a b : Bool) → a ≡ false → b ≡ false → (a || b) ≡ false
+or-false a b h k = grind (arith, h, k)
 
 -- ---- steps that put something back
 
@@ -124,41 +178,52 @@ module _ (P : Float → Type 0) (p : Params) where
 
   -- the floats of the areas wait again, as many as before
   pub gathered-all : (l : FloatLists) → AllWait P l → AllWait P (Clear.deferred_again l)
-  gathered-all l h = record { top = tt; bottom = tt; deferred = all-both P (l.top ++ l.bottom) l.deferred (all-both P l.top l.bottom h.top h.bottom) h.deferred; double = h.double }
+  gathered-all l h = record { top = tt; bottom = tt; deferred = all-both P (l.top ++ l.bottom) l.deferred (all-both P l.top l.bottom h.top h.bottom) h.deferred; double = h.double; second = h.second }
 
-  double-all : (l : FloatLists) → AllWait P l → AllWait P (Clear.double_again l)
-  double-all l h = record { top = h.top; bottom = h.bottom; deferred = all-both P l.double l.deferred h.double h.deferred; double = tt }
+  abbrev undouble : FloatLists → FloatLists
+  undouble l = record l { double = [] }
 
-  double-count : (l : FloatLists) → waiting_floats (Clear.double_again l) ≤ waiting_floats l
-  double-count l = let h : length (l.double ++ l.deferred) ≡ length l.double + length l.deferred = both-long P l.double l.deferred in omega arith
+  double-all : (l : FloatLists) → AllWait P l → AllWait P (Clear.double_again p l)
+  double-all l h = all-part P (wide_part p) (wide-waits p) (l.double ++ wide_waiting p l) (undouble l) (record { top = h.top; bottom = h.bottom; deferred = h.deferred; double = tt; second = h.second }) (all-both P l.double (wide_waiting p l) h.double (part-all P (wide_part p) (wide-waits p) l h))
 
-  double-follows : (a : Work) → Follows P a (with_floats (Clear.double_again a.state.floats) a)
-  double-follows a = record { goes = λ r. r; columns = refl; boxes = refl; back = refl; page = refl; current = refl; floats = double-count a.state.floats; all = λ h. double-all a.state.floats h; cycles = λ r. inl refl }
+  double-count : (l : FloatLists) → waiting_floats (Clear.double_again p l) ≤ waiting_floats l
+  double-count l =
+      let c : waiting_floats (Clear.double_again p l) + length (wide_waiting p (undouble l)) ≡ waiting_floats (undouble l) + length (l.double ++ wide_waiting p l) = part-count P (wide_part p) (wide-waits p) (l.double ++ wide_waiting p l) (undouble l) in
+      let e : length (wide_waiting p (undouble l)) ≡ length (wide_waiting p l) = ap length (undoubled (wide_part p) (wide-waits p) l) in
+      let h : length (l.double ++ wide_waiting p l) ≡ length l.double + length (wide_waiting p l) = both-long P l.double (wide_waiting p l) in
+      let i : waiting_floats (undouble l) + length l.double ≡ waiting_floats l = omega arith in
+      sums (waiting_floats (Clear.double_again p l)) (length (wide_waiting p (undouble l))) (waiting_floats (undouble l)) (length (l.double ++ wide_waiting p l)) (length (wide_waiting p l)) (length l.double) (waiting_floats l) c e h i
+    where
+      sums : (x a u b c d y : ℕ) → x + a ≡ u + b → a ≡ c → b ≡ d + c → u + d ≡ y → x ≤ y
+      sums x a u b c d y h k m n = omega arith
+
+  double-follows : (a : Work) → Follows P a (with_floats (Clear.double_again p a.state.floats) a)
+  double-follows a = record { goes = λ r. r; columns = refl; boxes = refl; back = refl; page = refl; current = part-current P (wide_part p) (wide-waits p) (a.state.floats.double ++ wide_waiting p a.state.floats) (undouble a.state.floats); floats = double-count a.state.floats; all = λ h. double-all a.state.floats h; cycles = λ r. inl refl }
 
   -- ---- wide pages of a clear
 
   abbrev pub AllWidened : Work → Work → Type 0
   AllWidened w r =
-      ((company (Ship.wide_wanted p true) w.state.floats.deferred ≡ None) × (r ≡ w))
-      ⊎ ((cs : List Choice) × (company (Ship.wide_wanted p true) w.state.floats.deferred ≡ Some cs) × Follows P (Ship.ship_wide p cs w) r)
+      ((company (Ship.wide_wanted p true) (wide_waiting p w.state.floats) ≡ None) × (r ≡ w))
+      ⊎ ((cs : List Choice) × (company (Ship.wide_wanted p true) (wide_waiting p w.state.floats) ≡ Some cs) × Follows P (Ship.ship_wide p cs w) r)
 
   no-wide : (fs : List Float) → length fs ≤ 0 → company (Ship.wide_wanted p true) fs ≡ None
   no-wide [] h = refl
   no-wide (f ∷ fs) h = let no : ⊥ = omega arith in absurd no
 
-  all-widened-by : (n : ℕ) (w : Work) (o : Option (List Choice)) → company (Ship.wide_wanted p true) w.state.floats.deferred ≡ o → AllWidened w (Ship.wide_pages_by (λ w'. Ship.wide_pages p true n w') p w o)
+  all-widened-by : (n : ℕ) (w : Work) (o : Option (List Choice)) → company (Ship.wide_wanted p true) (wide_waiting p w.state.floats) ≡ o → AllWidened w (Ship.wide_pages_by (λ w'. Ship.wide_pages p true n w') p w o)
   all-widened-by n w None e = inl (e, refl)
   all-widened-by n w (Some cs) e = inr (cs, e, follows-wide_pages P p true n (Ship.ship_wide p cs w))
 
-  all-widened-in : (n : ℕ) (w : Work) → length w.state.floats.deferred ≤ n → AllWidened w (Ship.wide_pages p true n w)
-  all-widened-in zero w h = inl (no-wide w.state.floats.deferred h, refl)
-  all-widened-in (suc n) w h = all-widened-by n w (company (Ship.wide_wanted p true) w.state.floats.deferred) refl
+  all-widened-in : (n : ℕ) (w : Work) → length (wide_waiting p w.state.floats) ≤ n → AllWidened w (Ship.wide_pages p true n w)
+  all-widened-in zero w h = inl (no-wide (wide_waiting p w.state.floats) h, refl)
+  all-widened-in (suc n) w h = all-widened-by n w (company (Ship.wide_wanted p true) (wide_waiting p w.state.floats)) refl
 
   all-widened : (w : Work) → AllWidened w (Ship.all_wide_pages p true w)
-  all-widened w = all-widened-in (length w.state.floats.deferred) w (omega arith)
+  all-widened w = all-widened-in (length (wide_waiting p w.state.floats)) w (omega arith)
 
   wide-cycles : (cs : List Choice) (w : Work) → (Ship.ship_wide p cs w).refused ≡ false → (Ship.ship_wide p cs w).state.dead_cycles ≡ 0
-  wide-cycles cs w h = ship-cycles p (wide (wide_floats_column p p.textheight (chosen_floats cs))) (Ship.with_deferred (left_floats cs) w) h
+  wide-cycles cs w h = ship-cycles p (wide (wide_floats_column p p.textheight (chosen_floats cs))) (with_floats (with_wide_waiting p (left_floats cs) w.state.floats) w) h
 
   -- ---- the end of a clear, after its columns of floats
 
@@ -170,14 +235,14 @@ module _ (P : Float → Type 0) (p : Params) where
     half : Bool
     rest : Bool
     follows : Follows P (more rest (halves half a)) b
-    left : has_floats b.state.floats.deferred ≡ rest
+    left : (has_floats b.state.floats.deferred || has_floats b.state.floats.second) ≡ rest
     second : half ≡ (a.state.two_columns && not a.state.first_column)
     kept : half ≡ true → b.state ≡ a.state
 
   rest-tail : (a c : Work) (t : Bool) → Follows P (halves t a) c → t ≡ (a.state.two_columns && not a.state.first_column) → (t ≡ true → c.state ≡ a.state) → IsTail a (Clear.clear_rest c)
-  rest-tail a c t x s k = by_left (has_floats c.state.floats.deferred) refl
+  rest-tail a c t x s k = by_left (has_floats c.state.floats.deferred || has_floats c.state.floats.second) refl
     where
-      by_left : (u : Bool) → has_floats c.state.floats.deferred ≡ u → IsTail a (if u then puts Clear.clear_again c else c)
+      by_left : (u : Bool) → (has_floats c.state.floats.deferred || has_floats c.state.floats.second) ≡ u → IsTail a (if u then puts Clear.clear_again c else c)
       by_left true e = record { half = t; rest = true; follows = follows-puts Clear.clear_again (halves t a) c x; left = e; second = s; kept = k }
       by_left false e = record { half = t; rest = false; follows = x; left = e; second = s; kept = k }
 
@@ -191,14 +256,14 @@ module _ (P : Float → Type 0) (p : Params) where
   is-tail a = by_columns a.state.two_columns a.state.first_column refl refl
     where
       d : Work
-      d = with_floats (Clear.double_again a.state.floats) a
+      d = with_floats (Clear.double_again p a.state.floats) a
 
       no_half : (c : Work) → false ≡ true → c.state ≡ a.state
       no_half c h = cc
 
       by_columns : (t f : Bool) → a.state.two_columns ≡ t → a.state.first_column ≡ f → IsTail a (Clear.clear_rest (if not t then a else (if f then Ship.all_wide_pages p true d else puts (made blank_box ∷ Clear.clear_again) a)))
       by_columns false f t k = rest-tail a a false (follows-same P a) (not-half false f a t k refl) (λ h. refl)
-      by_columns true true t k = rest-tail a (Ship.all_wide_pages p true d) false (follows-then P a d (Ship.all_wide_pages p true d) (double-follows a) (follows-wide_pages P p true (length d.state.floats.deferred) d)) (not-half true true a t k refl) (no_half (Ship.all_wide_pages p true d))
+      by_columns true true t k = rest-tail a (Ship.all_wide_pages p true d) false (follows-then P a d (Ship.all_wide_pages p true d) (double-follows a) (follows-wide_pages P p true (length (wide_waiting p d.state.floats)) d)) (not-half true true a t k refl) (no_half (Ship.all_wide_pages p true d))
       by_columns true false t k = rest-tail a (puts (made blank_box ∷ Clear.clear_again) a) true (follows-same P (puts (made blank_box ∷ Clear.clear_again) a)) (is-half a t k) (λ h. refl)
 
   -- what a clear without footnotes leads to
@@ -212,7 +277,7 @@ module _ (P : Float → Type 0) (p : Params) where
     pub half : Bool
     pub rest : Bool
     pub follows : Follows P (more rest (halves half (gathered p body w))) b
-    pub left : has_floats b.state.floats.deferred ≡ rest
+    pub left : (has_floats b.state.floats.deferred || has_floats b.state.floats.second) ≡ rest
     pub how : How w b half rest
 
   -- ---- the cases
@@ -228,7 +293,7 @@ module _ (P : Float → Type 0) (p : Params) where
   no-length (f ∷ fs) h = let no : ⊥ = omega arith in absurd no
 
   none-left : (l : FloatLists) → waiting_floats l ≤ 0 → NoneWait l
-  none-left l h = record { top = no-length l.top (omega arith); bottom = no-length l.bottom (omega arith); deferred = no-length l.deferred (omega arith); double = no-length l.double (omega arith) }
+  none-left l h = record { top = no-length l.top (omega arith); bottom = no-length l.bottom (omega arith); deferred = no-length l.deferred (omega arith); double = no-length l.double (omega arith); second = no-length l.second (omega arith) }
 
   pub halved-state : (t u : Bool) (a : Work) → (more t (halves u a)).state ≡ a.state
   halved-state true true a = refl
@@ -253,7 +318,7 @@ module _ (P : Float → Type 0) (p : Params) where
   tail-floats a b t = subst (λ (s : State). waiting_floats b.state.floats ≤ waiting_floats s.floats) (halved-state t.rest t.half a) t.follows.floats
 
   nothing-rest : (a b : Work) (t : IsTail a b) → NoneWait b.state.floats → t.rest ≡ false
-  nothing-rest a b t h = sym t.left ∙ ap has_floats h.deferred
+  nothing-rest a b t h = sym t.left ∙ or-false (has_floats b.state.floats.deferred) (has_floats b.state.floats.second) (ap has_floats h.deferred) (ap has_floats h.second)
 
   -- what holds of all floats that wait holds after a clear
   pub clear-all : (body : List PlainNode) (w : Work) → AllWait P w.state.floats → AllWait P (Clear.clear_floats p body w).state.floats
@@ -302,17 +367,20 @@ module _ (p : Params) (body : List PlainNode) (w : Work) (good : WaitsWell p w.s
       sums w g a b h i j k = omega arith
 
   nothing-waits : NoneWait w.state.floats → waiting_floats w.state.floats ≡ 0
-  nothing-waits n = rw (n.top, n.bottom, n.deferred, n.double) refl
+  nothing-waits n = rw (n.top, n.bottom, n.deferred, n.double, n.second) refl
 
   -- the floats that wait again are none, so none waited
-  gathered-none : (a0.state.floats.double ≡ []) × (a0.state.floats.deferred ≡ []) → NoneWait w.state.floats
+  gathered-none : (a0.state.floats.double ≡ []) × (a0.state.floats.deferred ≡ []) × (a0.state.floats.second ≡ []) → NoneWait w.state.floats
   gathered-none h =
       let i = append-none (w.state.floats.top ++ w.state.floats.bottom) w.state.floats.deferred h.1 in
       let j = append-none w.state.floats.top w.state.floats.bottom i.0 in
-      record { top = j.0; bottom = j.1; deferred = i.1; double = h.0 }
+      record { top = j.0; bottom = j.1; deferred = i.1; double = h.0; second = h.2 }
 
   deferred-fit : AllByRecursion P a0.state.floats.deferred
   deferred-fit = (gathered-all P p w.state.floats good.fit).deferred
+
+  narrow-again : Narrow w.state.floats → AllByRecursion Single a0.state.floats.deferred
+  narrow-again h = all-of-both Single (w.state.floats.top ++ w.state.floats.bottom) w.state.floats.deferred (all-of-both Single w.state.floats.top w.state.floats.bottom h.top h.bottom) h.deferred
 
   -- a column of floats is put out, and none after it or others
   after-put : (cs : List Choice) → Columned P p true (put cs a0) a → Follows P (put cs a0) a
@@ -354,7 +422,7 @@ module _ (p : Params) (body : List PlainNode) (w : Work) (good : WaitsWell p w.s
   one-column o (inl h) =
       let s : AllWait Single w.state.floats × (w.state.floats.double ≡ []) = good.single o in
       let f : a0.state.floats.deferred ≡ [] = no-singles p a0.state.floats a0.state.floats.deferred s.1 deferred-fit (gathered-all Single p w.state.floats s.0).deferred h.0 in
-      emptied (nothing-waits (gathered-none (s.1, f))) (half-by false (and-first a.state.two_columns (not a.state.first_column) (two-of false o))) (inl o)
+      emptied (nothing-waits (gathered-none (s.1, f, no-both w.state.floats.second good.second s.0.second))) (half-by false (and-first a.state.two_columns (not a.state.first_column) (two-of false o))) (inl o)
   one-column o (inr h) =
       let y : Follows P (put h.0 a0) a = after-put h.0 h.2 in
       inr (inr (tail-cycles P p (put h.0 a0) a b t y (put-ships h.0 a0 (inl o)), fewer 1 (put h.0 a0) (follows-company P p true a0 h.0 h.1).1 y, λ k. not-true-false t.half (half-by false (and-first a.state.two_columns (not a.state.first_column) (two-of false o))) k))
@@ -383,10 +451,10 @@ module _ (p : Params) (body : List PlainNode) (w : Work) (good : WaitsWell p w.s
 
   -- at a first column, where wide pages come
   abbrev wide-done : Work
-  wide-done = Ship.all_wide_pages p true (with_floats (Clear.double_again a0.state.floats) a0)
+  wide-done = Ship.all_wide_pages p true (with_floats (Clear.double_again p a0.state.floats) a0)
 
   rest-same : (c : Work) → ((Clear.clear_rest c).state ≡ c.state) × ((Clear.clear_rest c).refused ≡ c.refused)
-  rest-same c = by_left (has_floats c.state.floats.deferred)
+  rest-same c = by_left (has_floats c.state.floats.deferred || has_floats c.state.floats.second)
     where
       by_left : (u : Bool) → ((if u then puts Clear.clear_again c else c).state ≡ c.state) × ((if u then puts Clear.clear_again c else c).refused ≡ c.refused)
       by_left true = (refl, refl)
@@ -404,13 +472,13 @@ module _ (p : Params) (body : List PlainNode) (w : Work) (good : WaitsWell p w.s
   widened n = by_wide (all-widened P p d)
     where
       d : Work
-      d = with_floats (Clear.double_again a0.state.floats) a0
+      d = with_floats (Clear.double_again p a0.state.floats) a0
 
       sums : (w g d s r : ℕ) → g ≡ w → d ≤ g → s + 1 ≤ d → r ≤ s → r + 1 ≤ w
       sums w g d s r h i j k = omega arith
 
       by_wide : AllWidened P p d wide-done → NoneWait w.state.floats ⊎ ((wide-done.refused ≡ false → wide-done.state.dead_cycles ≡ 0) × (waiting_floats wide-done.state.floats + 1 ≤ waiting_floats w.state.floats))
-      by_wide (inl h) = inl (gathered-none (no-floats p a0.state.floats a0.state.floats.deferred good.fit.double good.wide deferred-fit n h.0))
+      by_wide (inl h) = inl (gathered-none (no-floats p a0.state.floats good.fit.double good.wide deferred-fit good.fit.second good.second good.none (λ r. narrow-again (good.narrow r)) n (subst (λ fs. company (Ship.wide_wanted p true) fs ≡ None) (floats-with (wide_part p) (wide-waits p) (a0.state.floats.double ++ wide_waiting p a0.state.floats) (record a0.state.floats { double = [] })) h.0)))
       by_wide (inr h) =
           let y : Follows P (Ship.ship_wide p h.0 d) wide-done = h.2 in
           inr (

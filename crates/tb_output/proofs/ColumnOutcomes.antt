@@ -6,8 +6,11 @@ use Rattle.tb_node.specs.declared.Where.{Where}
 use Rattle.tb_node.specs.declared.Where.TheVariants as places
 use Rattle.tb_node.specs.Plain.{PlainNode}
 use Rattle.tb_param.specs.declared.Params.{Params}
-use Rattle.tb_float.specs.Lists.{FloatLists}
+use Rattle.tb_float.specs.declared.Part.{Part}
+use Rattle.tb_float.specs.declared.Part.TheVariants as parts
+use Rattle.tb_float.specs.Lists.{FloatLists, with_floats_of, IsWaiting, wide_part, wide_waiting, with_wide_waiting}
 use Rattle.tb_float.specs.Rooms.{column_height_of}
+use Rattle.tb_float.proofs.WaitingLemmas.{wide-waits}
 use Rattle.tb_fpage.specs.declared.Wanted.{Wanted}
 use Rattle.tb_fpage.specs.Company.{Choice, company, chosen_floats, left_floats}
 use Rattle.tb_area.specs.Area
@@ -73,34 +76,34 @@ placed-column p place f left w = by_record (Place.is_placed place)
     by_record true = ap (λ s. s.first_column) (records-column r w).0
     by_record false = refl
 
-deferred-column : (p : Params) (place : Where) (f : Float) (before rest : List Float) (w : Work) → SameColumn w (Place.place_deferred p place f before rest w)
-deferred-column p place f before rest w = by_place (Place.is_placed place)
+waiting-column : (from : Part) (p : Params) (place : Where) (f : Float) (before rest : List Float) (w : Work) → SameColumn w (Place.place_waiting from p place f before rest w)
+waiting-column from p place f before rest w = by_place (Place.is_placed place)
   where
-    by_place : (t : Bool) → SameColumn w (if t then Place.place_float p place f (record w.state.floats { deferred = before ++ rest }) w else w)
-    by_place true = placed-column p place f (record w.state.floats { deferred = before ++ rest }) w
+    by_place : (t : Bool) → SameColumn w (if t then Place.place_float p place f (with_floats_of from (before ++ rest) w.state.floats) w else w)
+    by_place true = placed-column p place f (with_floats_of from (before ++ rest) w.state.floats) w
     by_place false = refl
 
-double-column : (p : Params) (before fs : List Float) (w : Work) → SameColumn w (Place.place_double p before fs w)
-double-column p before [] w = refl
-double-column p before (f ∷ rest) w =
+double-column : (from : Part) (p : Params) (before fs : List Float) (w : Work) → SameColumn w (Place.place_double from p before fs w)
+double-column from p before [] w = refl
+double-column from p before (f ∷ rest) w =
     let place = Area.double_place p w.state.floats w.state.suppress before f in
-    let w' = Place.place_deferred p place f before rest w in
-    double-column p (Place.still_deferred place f before) rest w' ∙ deferred-column p place f before rest w
+    let w' = Place.place_waiting from p place f before rest w in
+    double-column from p (Place.still_deferred place f before) rest w' ∙ waiting-column from p place f before rest w
 
 pub next-column : (p : Params) (before fs : List Float) (w : Work) → SameColumn w (Place.place_next p before fs w)
 next-column p before [] w = refl
 next-column p before (f ∷ rest) w =
     let place = Area.next_place p w.state.floats w.state.suppress before f in
-    let w' = Place.place_deferred p place f before rest w in
-    next-column p (Place.still_deferred place f before) rest w' ∙ deferred-column p place f before rest w
+    let w' = Place.place_waiting parts.Deferred p place f before rest w in
+    next-column p (Place.still_deferred place f before) rest w' ∙ waiting-column parts.Deferred p place f before rest w
 
 wide_by-column : (p : Params) (again : Work → Work) → ((w : Work) → SameColumn w (again w)) → (w : Work) (o : Option (List Choice)) → SameColumn w (Ship.wide_pages_by again p w o)
 wide_by-column p again h w None = refl
-wide_by-column p again h w (Some cs) = h (Ship.ship_wide p cs w) ∙ (ship-lists p _ (Ship.with_deferred (left_floats cs) w)).1
+wide_by-column p again h w (Some cs) = h (Ship.ship_wide p cs w) ∙ (ship-lists p _ (with_floats (with_wide_waiting p (left_floats cs) w.state.floats) w)).1
 
 pub wide-column : (p : Params) (clearing : Bool) (n : ℕ) (w : Work) → SameColumn w (Ship.wide_pages p clearing n w)
 wide-column p clearing zero w = refl
-wide-column p clearing (suc n) w = wide_by-column p (λ w'. Ship.wide_pages p clearing n w') (λ w'. wide-column p clearing n w') w (company (Ship.wide_wanted p clearing) w.state.floats.deferred)
+wide-column p clearing (suc n) w = wide_by-column p (λ w'. Ship.wide_pages p clearing n w') (λ w'. wide-column p clearing n w') w (company (Ship.wide_wanted p clearing) (wide_waiting p w.state.floats))
 
 -- ---- floats of the next column leave the double ones alone
 
@@ -125,7 +128,7 @@ joined-single places.Page f l h = refl
 joined-single places.Double f l h = absurd h
 joined-single places.Deferred f l h = refl
 
-deferred-single : (p : Params) (place : Where) (f : Float) (before rest : List Float) (w : Work) → NotDouble place → (Place.place_deferred p place f before rest w).state.floats.double ≡ w.state.floats.double
+deferred-single : (p : Params) (place : Where) (f : Float) (before rest : List Float) (w : Work) → NotDouble place → (Place.place_waiting parts.Deferred p place f before rest w).state.floats.double ≡ w.state.floats.double
 deferred-single p place f before rest w h = by_place (Place.is_placed place)
   where
     l : FloatLists
@@ -139,12 +142,12 @@ pub next-single : (p : Params) (before fs : List Float) (w : Work) → (Place.pl
 next-single p before [] w = refl
 next-single p before (f ∷ rest) w =
     let place = Area.next_place p w.state.floats w.state.suppress before f in
-    let w' = Place.place_deferred p place f before rest w in
+    let w' = Place.place_waiting parts.Deferred p place f before rest w in
     next-single p (Place.still_deferred place f before) rest w' ∙ deferred-single p place f before rest w (area-single (Area.next_area_place p w.state.floats w.state.suppress before f))
 
 -- ---- placing floats is no firing
 
-placed-cycles : (p : Params) (place : Where) (f : Float) (before rest : List Float) (w : Work) → (Place.place_deferred p place f before rest w).state.dead_cycles ≡ w.state.dead_cycles
+placed-cycles : (p : Params) (place : Where) (f : Float) (before rest : List Float) (w : Work) → (Place.place_waiting parts.Deferred p place f before rest w).state.dead_cycles ≡ w.state.dead_cycles
 placed-cycles p place f before rest w = by_place (Place.is_placed place)
   where
     l : FloatLists
@@ -165,7 +168,7 @@ next-cycles : (p : Params) (before fs : List Float) (w : Work) → (Place.place_
 next-cycles p before [] w = refl
 next-cycles p before (f ∷ rest) w =
     let place = Area.next_place p w.state.floats w.state.suppress before f in
-    let w' = Place.place_deferred p place f before rest w in
+    let w' = Place.place_waiting parts.Deferred p place f before rest w in
     next-cycles p (Place.still_deferred place f before) rest w' ∙ placed-cycles p place f before rest w
 
 -- ---- a column is put out
@@ -187,10 +190,10 @@ module _ (P : Float → Type 0) (p : Params) where
       let a = Ship.ship p (pair_sheet p w.state.floats (Ship.left_or c w.state.left_column) c) w in
       let b = Ship.without_double a in
       let d = Ship.all_wide_pages p false b in
-      let x : Follows P (Ship.without_double (Ship.ship p (pair_sheet p w.state.floats (Ship.left_or c w.state.left_column) c) w)) (Ship.ship_pair p c w) = follows-then P b d (Ship.ship_pair p c w) (follows-wide_pages P p false (length b.state.floats.deferred) b) (follows-double P p [] d.state.floats.deferred d refl) in
+      let x : Follows P (Ship.without_double (Ship.ship p (pair_sheet p w.state.floats (Ship.left_or c w.state.left_column) c) w)) (Ship.ship_pair p c w) = follows-then P b d (Ship.ship_pair p c w) (follows-wide_pages P p false (length (wide_waiting p b.state.floats)) b) (follows-double P (wide_part p) (wide-waits p) p [] (wide_waiting p d.state.floats) d refl) in
       let u : waiting_floats (Ship.without_double (Ship.ship p (pair_sheet p w.state.floats (Ship.left_or c w.state.left_column) c) w)).state.floats + length (Ship.ship p (pair_sheet p w.state.floats (Ship.left_or c w.state.left_column) c) w).state.floats.double ≤ waiting_floats (Ship.ship p (pair_sheet p w.state.floats (Ship.left_or c w.state.left_column) c) w).state.floats = (follows-undoubled P a).1 in
       let l = (ship-lists p (pair_sheet p w.state.floats (Ship.left_or c w.state.left_column) c) w).0 in (
-        double-column p [] d.state.floats.deferred d ∙ wide-column p false (length b.state.floats.deferred) b,
+        double-column (wide_part p) p [] (wide_waiting p d.state.floats) d ∙ wide-column p false (length (wide_waiting p b.state.floats)) b,
         sums (waiting_floats w.state.floats) (waiting_floats a.state.floats) (waiting_floats b.state.floats) (waiting_floats (Ship.ship_pair p c w).state.floats) (length w.state.floats.double) (length a.state.floats.double) (ap waiting_floats l) (ap (λ k. length k.double) l) u x.floats,
       )
     where
@@ -291,7 +294,7 @@ module _ (P : Float → Type 0) (p : Params) where
 
   -- the text column goes, with the floats of its areas
   taken-follows : (w : Work) → AllWait P w.state.floats → AllWait P (Columns.without_column_floats w).state.floats
-  taken-follows w h = record { top = tt; bottom = tt; deferred = h.deferred; double = h.double }
+  taken-follows w h = record { top = tt; bottom = tt; deferred = h.deferred; double = h.double; second = h.second }
 
   -- after an ordinary firing of a page's last column the page is out, and where no column of floats came, a first column begins without the floats of the areas
   pub record LastOut (w b : Work) : Type 0 where

@@ -1,5 +1,5 @@
 -- How many firings without a page a state can still bring, where the top skip is no higher than a page.
-use Rattle.std.proofs.Common.{◌≡◌, refl, sym, ◌∙◌, ℕ, ℤ, ◌+◌, ◌*◌, ◌≤◌, Bool, true, false, List, [], ◌∷◌, ◌++◌, length, None, arith}
+use Rattle.std.proofs.Common.{◌≡◌, refl, sym, ◌∙◌, ℕ, ℤ, ◌+◌, ◌*◌, ◌≤◌, Bool, true, false, List, [], ◌∷◌, ◌++◌, length, arith}
 use Rattle.std.specs.Prelude.{int_lt, ◌&&◌, not, if◌then◌else◌}
 use Rattle.std.specs.List.{AllByRecursion}
 use Rattle.std.proofs.lemmas.Int.{ints}
@@ -56,7 +56,7 @@ pub record Once (p : Params) (s : State) : Type 0 where
 -- the next page fits up to a clear, and there are no footnotes
 pub record Ready (p : Params) (s : State) : Type 0 where
   pub goal : s.goal ≡ p.textheight
-  pub void : footnotes s ≡ None
+  pub void : footnotes s ≡ []
   pub rest : List PlainNode
   pub fit : Fitted Out.clear_penalty rest s.waiting
 

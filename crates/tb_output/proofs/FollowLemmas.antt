@@ -239,7 +239,7 @@ module _ (P : Float → Type 0) where
   part-joined parts.Second q places.Deferred f gs l v = absurd v
 
   -- a float of it goes to its place, or stays
-  waiting-step : (from : Part) → IsWaiting from → (p : Params) (place : Where) (f : Float) (before rest : List Float) (w : Work) → floats_of from w.state.floats ≡ before ++ f ∷ rest → Follows P w (Place.place_waiting from p place f before rest w) × (floats_of from (Place.place_waiting from p place f before rest w).state.floats ≡ Place.still_deferred place f before ++ rest)
+  pub waiting-step : (from : Part) → IsWaiting from → (p : Params) (place : Where) (f : Float) (before rest : List Float) (w : Work) → floats_of from w.state.floats ≡ before ++ f ∷ rest → Follows P w (Place.place_waiting from p place f before rest w) × (floats_of from (Place.place_waiting from p place f before rest w).state.floats ≡ Place.still_deferred place f before ++ rest)
   waiting-step from q p place f before rest w e = by_place place
     where
       l : FloatLists

@@ -7,7 +7,7 @@ use Rattle.tb_node.specs.declared.Float.{Float}
 use Rattle.tb_node.specs.declared.Margin.{Margin}
 use Rattle.tb_node.specs.declared.Where.{Where}
 use Rattle.tb_node.specs.declared.Where.TheVariants as places
-use Rattle.tb_node.specs.Plain.{pen, plain, Leaf, PlainNode}
+use Rattle.tb_node.specs.Plain.{pen, plain, PlainNode}
 use Rattle.tb_break.specs.Legal.{last_or}
 use Rattle.tb_param.specs.declared.Params.{Params}
 use Rattle.tb_float.specs.declared.Entry.{Entry}
@@ -17,7 +17,7 @@ use Rattle.tb_float.specs.Lists.{FloatLists}
 use Rattle.tb_float.specs.Rooms.{column_height_of}
 use Rattle.tb_area.specs.Area
 use Rattle.tb_margin.specs.declared.Placed.{Placed}
-use Rattle.tb_column.specs.Column.{warned, PlainSent}
+use Rattle.tb_column.specs.Column.{Notes, warned, PlainSent}
 use Rattle.tb_column.specs.declared.Warn.TheVariants as warnings
 use Rattle.tb_output.specs.State.{Work, Recorded, placed, puts, sends, records_also, with_floats, footnotes}
 use Rattle.tb_output.specs.Place
@@ -152,7 +152,7 @@ module _ (P : Float → Type 0) (topped : (f : Float) → P f → P (Text.with_t
     fewer = let e : current_floats w.state.floats.current ≡ 1 + current_floats es = ap current_floats is in omega arith
 
     parts : AllWait P w.state.floats → AllCurrent P w.state.floats.current → P f × AllWait P left × AllCurrent P es
-    parts a b = let c : P f × AllCurrent P es = subst (AllCurrent P) is b in (c.0, record { top = a.top; bottom = a.bottom; deferred = a.deferred; double = a.double }, c.1)
+    parts a b = let c : P f × AllCurrent P es = subst (AllCurrent P) is b in (c.0, record { top = a.top; bottom = a.bottom; deferred = a.deferred; double = a.double; second = a.second }, c.1)
 
     goes-to : (place : Where) → NotDouble place → Served P w (Place.place_float p place f left w)
     goes-to place d = served-placed place f left w d refl fewer parts
@@ -206,7 +206,7 @@ module _ (P : Float → Type 0) (topped : (f : Float) → P f → P (Text.with_t
       let a = Text.with_note_bottom at.bottom (with_floats (record w.state.floats { current = es }) w) in
       let b = Text.moved_warning m at a in
       let c = puts (Text.note_nodes depth m at) b in
-      served-then w a (Text.puts_interline p c) (record { goes = refl; columns = refl; first = refl; cycles = refl; boxes = refl; double = refl; floats = omega arith; all = λ x y. (record { top = x.top; bottom = x.bottom; deferred = x.deferred; double = x.double }, k y); cost = refl })
+      served-then w a (Text.puts_interline p c) (record { goes = refl; columns = refl; first = refl; cycles = refl; boxes = refl; double = refl; floats = omega arith; all = λ x y. (record { top = x.top; bottom = x.bottom; deferred = x.deferred; double = x.double; second = x.second }, k y); cost = refl })
       (served-then a b (Text.puts_interline p c) (served_if a at.moved (sends (warned (warnings.Moved m.name at.shift)) a) a (served-sends (warned (warnings.Moved m.name at.shift)) a) (same a))
       (served-then b c (Text.puts_interline p c) (served-puts (Text.note_nodes depth m at) b refl) (served-interline c)))
 
@@ -235,11 +235,11 @@ module _ (P : Float → Type 0) (topped : (f : Float) → P f → P (Text.with_t
       let a = Text.list_back p ns w in
       served-then v a (Text.float_or_note p vert body w) (served-puts (ns ++ Text.notes_nodes p (footnotes w.state)) v (notes (footnotes w.state))) (served-first vert _ _ _ w.state.floats.current a refl)
     where
-      free : (o : Option (List Leaf)) → wait_cost (Text.notes_nodes p o) ≡ 0
-      free None = refl
-      free (Some ls) = refl
+      free : (ns : List Notes) → wait_cost (Text.notes_nodes p ns) ≡ 0
+      free [] = refl
+      free (n ∷ ns) = let h : wait_cost (Text.notes_nodes p ns) ≡ 0 = free ns in omega (arith, h)
 
-      notes : (o : Option (List Leaf)) → wait_cost ((w.state.held_page ++ Text.without_firing_box body) ++ Text.notes_nodes p o) ≡ 0
+      notes : (o : List Notes) → wait_cost ((w.state.held_page ++ Text.without_firing_box body) ++ Text.notes_nodes p o) ≡ 0
       notes o =
           let e : wait_cost ((w.state.held_page ++ Text.without_firing_box body) ++ Text.notes_nodes p o) ≡ wait_cost (w.state.held_page ++ Text.without_firing_box body) + wait_cost (Text.notes_nodes p o) = cost-append (w.state.held_page ++ Text.without_firing_box body) (Text.notes_nodes p o) in
           let k : wait_cost (Text.notes_nodes p o) ≡ 0 = free o in
