@@ -10,11 +10,13 @@ use Rattle.tb_node.specs.declared.Float.{Float}
 use Rattle.tb_node.specs.Plain.{PlainKind, plain, ins, act, PlainNode, made, blank_box, whatsit, pen}
 use Rattle.tb_param.specs.declared.Params.{Params}
 use Rattle.tb_builder.specs.Fired.{Boxed, Fired, box_content}
-use Rattle.tb_builder.proofs.CutLemmas.{IsIns, AllIns}
 use Rattle.tb_builder.proofs.FittingFired.{Fitted}
 use Rattle.tb_builder.proofs.PausedPages.{Paused}
-use Rattle.tb_float.specs.Lists.{FloatLists}
-use Rattle.tb_output.specs.State.{State, Work, begun, footnotes}
+use Rattle.tb_param.specs.Release.{has_second}
+use Rattle.tb_insert.specs.declared.Class.{Class}
+use Rattle.tb_float.specs.declared.Part.TheVariants as parts
+use Rattle.tb_float.specs.Lists.{FloatLists, wide_part}
+use Rattle.tb_output.specs.State.{State, Work, begun, footnotes, notes_in, with_notes}
 use Rattle.tb_output.specs.Columns
 use Rattle.tb_output.specs.Clear
 use Rattle.tb_output.specs.Text
@@ -22,12 +24,14 @@ use Rattle.tb_output.specs.Out
 use Rattle.tb_output.proofs.Sorts.{Sort, light, blank, hold, serve, clear, odd, pen_sort, kind_sort, sorts}
 use Rattle.tb_output.proofs.SortLemmas.{sorts-append}
 use Rattle.tb_output.proofs.AgainLemmas.{Again, Idle, BreakAgain, again-idle}
-use Rattle.tb_output.proofs.WaitCosts.{sort_cost, wait_cost, cost-append, ins-free}
+use Rattle.tb_output.proofs.WaitCosts.{sort_cost, wait_cost, cost-append, IsInserted, AllInserted, ins-free}
 use Rattle.tb_output.proofs.FollowLemmas.{waiting_floats, AllWait}
 use Rattle.tb_output.proofs.ColumnOutcomes.{TextOut, LastOut, ordinary-out, last-out, first-out}
 use Rattle.tb_output.proofs.ClearOutcomes.{NoneWait, Fits, Single, Wide}
 use Rattle.tb_output.proofs.WideLemmas.{KeepsDouble, ordinary-double}
-use Rattle.tb_output.proofs.ServeOutcomes.{AllCurrent, current_floats, way_floats, Served, served}
+use Rattle.tb_output.proofs.SideLemmas.{Sides, narrow-lists, wide-second, none-second}
+use Rattle.tb_output.proofs.SideSteps.{ordinary-sides}
+use Rattle.tb_output.proofs.ServeOutcomes.{NarrowWait, AllCurrent, current_floats, way_floats, Served, served}
 use Rattle.tb_output.proofs.CycleStates.{Kind, any, doubled, once, topped, ready, halted, clean, single, closed, credit, IsSecond, Holds, Phase, starting, second, ending, phase_cost, PhaseHolds, FloatsFit, Bounded, GoalOut, goal-out}
 use Rattle.tb_output.proofs.BreakSorts as breaks
 
@@ -68,7 +72,7 @@ output-cases p f w R regular at_ordinary at_clear at_serve at_hold = by_tests (i
 pub record FiresWell (p : Params) (s : State) (total : ℕ) (n : ℕ) (kind : Kind) (phase : Phase) (f : Fired) : Type 0 where
   pub region : BreakAgain n f.rest (pen_sort f.penalty)
   pub cost : wait_cost f.rest + sort_cost (pen_sort f.penalty) ≤ total
-  pub held : AllIns 254 f.held
+  pub held : AllInserted f.held
   pub regular : pen_sort f.penalty ≡ odd → ⊥
   pub body : wait_cost (s.held_page ++ Text.without_firing_box f.body) ≡ 0
   -- a page that ends a second column is ordinary
@@ -77,9 +81,9 @@ pub record FiresWell (p : Params) (s : State) (total : ℕ) (n : ℕ) (kind : Ki
   -- behind a blank column a clear comes, and the page in between fits
   pub once : kind ≡ once → (int_le eject_penalty f.penalty ≡ true) × (f.held ≡ []) × ((rest : List PlainNode) × Fitted Out.clear_penalty rest f.rest)
   -- a clear without footnotes comes next
-  pub ready : kind ≡ ready → (Out.is_int f.penalty Out.clear_penalty ≡ true) × (footnotes (record s { boxes = f.boxes }) ≡ None)
+  pub ready : kind ≡ ready → (Out.is_int f.penalty Out.clear_penalty ≡ true) × (footnotes (record s { boxes = f.boxes }) ≡ [])
   -- the page of a clear without footnotes has no insertions, and is light but for its blank box, so a blank column and a clear may stand behind its front
-  pub blank : Out.is_int f.penalty Out.clear_penalty ≡ true → footnotes (record s { boxes = f.boxes }) ≡ None → (f.held ≡ []) × ((rest : List PlainNode) → Fitted eject_penalty (made whatsit ∷ made blank_box ∷ made (pen Out.clear_penalty) ∷ rest) (Clear.cleared_front p f.body ++ (made blank_box ∷ Clear.clear_again ++ rest)) × Paused (Clear.cleared_front p f.body ++ (made blank_box ∷ Clear.clear_again ++ rest))) × AllByRecursion Idle (sorts (Clear.cleared_front p f.body)) × (wait_cost (Clear.cleared_front p f.body) ≡ 0)
+  pub blank : Out.is_int f.penalty Out.clear_penalty ≡ true → footnotes (record s { boxes = f.boxes }) ≡ [] → (f.held ≡ []) × ((rest : List PlainNode) → Fitted eject_penalty (made whatsit ∷ made blank_box ∷ made (pen Out.clear_penalty) ∷ rest) (Clear.cleared_front p f.body ++ (made blank_box ∷ Clear.clear_again ++ rest)) × Paused (Clear.cleared_front p f.body ++ (made blank_box ∷ Clear.clear_again ++ rest))) × AllByRecursion Idle (sorts (Clear.cleared_front p f.body)) × (wait_cost (Clear.cleared_front p f.body) ≡ 0)
 
 -- ---- the state after the goal is set
 
@@ -89,25 +93,27 @@ fits-same p s t e c h = record {
   current = subst (λ (l : FloatLists). AllCurrent (Fits p) l.current) (sym e) h.current;
   single = λ k. subst (λ (l : FloatLists). AllWait Single l × AllCurrent Single l.current) (sym e) (h.single (sym c ∙ k));
   double = record { wide = subst (λ (l : FloatLists). AllByRecursion Wide l.double) (sym e) h.double.wide; none = λ k. ap (λ (l : FloatLists). l.double) e ∙ h.double.none (sym c ∙ k) };
+  sides = subst (Sides (wide_part p)) (sym e) h.sides;
+  narrow = λ k. subst (λ (l : FloatLists). AllCurrent Single l.current) (sym e) (h.narrow k);
 }
 
 assoc-sorts : (xs ys zs : List Sort) → (xs ++ ys) ++ zs ≡ xs ++ (ys ++ zs)
 assoc-sorts [] ys zs = refl
 assoc-sorts (x ∷ xs) ys zs = ap (λ l. x ∷ l) (assoc-sorts xs ys zs)
 
-ins-kind : (k : PlainKind) → IsIns 254 k → Idle (kind_sort k)
+ins-kind : (k : PlainKind) → IsInserted k → Idle (kind_sort k)
 ins-kind (plain x) i = absurd i
 ins-kind (ins x) i = tt
 ins-kind (act a) i = absurd i
 
-ins-idle : (ns : List PlainNode) → AllIns 254 ns → AllByRecursion Idle (sorts ns)
+ins-idle : (ns : List PlainNode) → AllInserted ns → AllByRecursion Idle (sorts ns)
 ins-idle [] i = tt
 ins-idle (n ∷ ns) i = (ins-kind n.kind i.0, ins-idle ns i.1)
 
-ins-again : (n : ℕ) (ns : List PlainNode) (ys : List Sort) → AllIns 254 ns → Again n ys → Again n (sorts ns ++ ys)
+ins-again : (n : ℕ) (ns : List PlainNode) (ys : List Sort) → AllInserted ns → Again n ys → Again n (sorts ns ++ ys)
 ins-again n ns ys i a = again-idle n (sorts ns) ys (ins-idle ns i) a
 
-module _ (p : Params) (m : ℕ) (f : Fired) (held : AllIns 254 f.held) (w : Work) where
+module _ (p : Params) (m : ℕ) (f : Fired) (held : AllInserted f.held) (w : Work) where
   -- the state after the firing
   abbrev pub after : State
   after = (Out.waiting_again f (Out.next_goal p f.penalty w)).state
@@ -175,14 +181,14 @@ module _ (p : Params) (m : ℕ) (f : Fired) (held : AllIns 254 f.held) (w : Work
 -- ---- small facts
 
 pub none-count : (l : FloatLists) → NoneWait l → waiting_floats l ≡ 0
-none-count l h = rw (h.top, h.bottom, h.deferred, h.double) refl
+none-count l h = rw (h.top, h.bottom, h.deferred, h.double, h.second) refl
 
 no-length : (fs : List Float) → length fs ≤ 0 → fs ≡ []
 no-length [] h = refl
 no-length (f ∷ fs) h = let no : ⊥ = omega arith in absurd no
 
 pub none-left : (l : FloatLists) → waiting_floats l ≤ 0 → NoneWait l
-none-left l h = record { top = no-length l.top (omega arith); bottom = no-length l.bottom (omega arith); deferred = no-length l.deferred (omega arith); double = no-length l.double (omega arith) }
+none-left l h = record { top = no-length l.top (omega arith); bottom = no-length l.bottom (omega arith); deferred = no-length l.deferred (omega arith); double = no-length l.double (omega arith); second = no-length l.second (omega arith) }
 
 pub true-false : {X : Type 0} (t : Bool) → t ≡ true → t ≡ false → X
 true-false t h k = let no : true ≡ false = sym h ∙ k in cc
@@ -194,6 +200,11 @@ emptied-none (b ∷ bs) k = by_number (b.number == k) (emptied-none bs k)
     by_number : (t : Bool) → box_content (Columns.emptied_boxes bs) k ≡ None → (if t then None else box_content (Columns.emptied_boxes bs) k) ≡ None
     by_number true h = refl
     by_number false h = h
+
+-- emptied boxes hold no notes
+pub notes-emptied : (cs : List Class) (bs : List Boxed) → notes_in cs (Columns.emptied_boxes bs) ≡ []
+notes-emptied [] bs = refl
+notes-emptied (c ∷ cs) bs = ap (λ o. with_notes c o (notes_in cs (Columns.emptied_boxes bs))) (emptied-none bs c.number) ∙ notes-emptied cs bs
 
 -- an ordinary firing is at no penalty of the routine
 no-hold : (q : ℤ) → int_le eject_penalty q ≡ true → Out.is_int q Out.hold_penalty ≡ false
@@ -284,8 +295,24 @@ module _ (p : Params) (m : ℕ) (s : State) (total a : ℕ) (kind : Kind) (phase
           current = (x.all floats.fit floats.current).1;
           single = λ k. let z = floats.single (sym x.columns ∙ k) in y.all z.0 z.1;
           double = record { wide = subst (AllByRecursion Wide) (sym x.double) floats.double.wide; none = λ k. x.double ∙ floats.double.none (sym x.columns ∙ k) };
+          sides = by_release (has_second p) refl;
+          narrow = λ k. (moved k).1;
         };
       }
+
+    where
+      b : Work
+      b = Text.float_or_note p vert f.body w0
+
+      z : Served Single (record w0 { state = record w0.state { held_page = []; boxes = Columns.emptied_boxes w0.state.boxes } }) (Text.float_or_note p vert f.body w0)
+      z = served Single (λ f h. h) p calm vert f.body w0 well.body
+
+      moved : has_second p ≡ true → NarrowWait Single b.state.floats × AllCurrent Single b.state.floats.current
+      moved r = let n = narrow-lists p s.floats floats.sides r in z.narrow (record { top = n.top; bottom = n.bottom; deferred = n.deferred }) (floats.narrow r)
+
+      by_release : (t : Bool) → has_second p ≡ t → Sides (if t then parts.Second else parts.Deferred) b.state.floats
+      by_release true r = let n : NarrowWait Single b.state.floats × AllCurrent Single b.state.floats.current = moved r in (record { top = n.0.top; bottom = n.0.bottom; deferred = n.0.deferred }, subst (AllByRecursion Wide) (sym z.second) (wide-second p s.floats floats.sides))
+      by_release false r = z.second ∙ none-second p s.floats floats.sides r
 
   pub at-hold : int_le eject_penalty f.penalty ≡ false → pen_sort f.penalty ≡ hold → Result (Out.hold f.body w0)
   at-hold h e = quiet-bounded (Out.hold f.body w0) h (none-again (inl e)) hold e refl hold-quiet
@@ -295,12 +322,14 @@ module _ (p : Params) (m : ℕ) (s : State) (total a : ℕ) (kind : Kind) (phase
 
   -- ---- an ordinary firing
 
-  pub text-fits : (w : Work) → TextOut (Fits p) p w0 w → TextOut Single p w0 w → KeepsDouble w0 w → FloatsFit p w.state
-  text-fits w x y z = record {
+  pub text-fits : (w : Work) → TextOut (Fits p) p w0 w → TextOut Single p w0 w → KeepsDouble w0 w → Sides (wide_part p) w.state.floats → FloatsFit p w.state
+  text-fits w x y z sides = record {
     fit = x.all floats.fit;
     current = subst (AllCurrent (Fits p)) (sym x.current) floats.current;
     single = λ k. let c = floats.single (sym x.columns ∙ k) in (y.all c.0, subst (AllCurrent Single) (sym x.current) c.1);
     double = z.by (record { wide = floats.double.wide; none = floats.double.none });
+    sides = sides;
+    narrow = λ k. subst (AllCurrent Single) (sym x.current) (floats.narrow k);
   }
 
   abbrev o : Work
@@ -316,7 +345,7 @@ module _ (p : Params) (m : ℕ) (s : State) (total a : ℕ) (kind : Kind) (phase
   out-fit = ordinary-out (Fits p) p f.body w0
 
   pub o-fits : FloatsFit p o.state
-  o-fits = text-fits o out-fit (ordinary-out Single p f.body w0) (ordinary-double p f.body w0)
+  o-fits = text-fits o out-fit (ordinary-out Single p f.body w0) (ordinary-double p f.body w0) (ordinary-sides p f.body w0 floats.sides)
 
   -- what is put back is nothing, so the clears that are to come stand in the rest
   pub o-region : Again a (sorts f.rest) → (bs : List PlainNode) → AllByRecursion Idle (sorts bs) → Again a (sorts o.put_back ++ (sorts bs ++ sorts f.rest))
@@ -402,7 +431,7 @@ module _ (p : Params) (m : ℕ) (s : State) (total a : ℕ) (kind : Kind) (phase
             first_done,
             record {
               goal = q.1;
-              void = ap (λ bs. box_content bs 254) (ordinary-goal.boxes ∙ out-fit.boxes) ∙ emptied-none w0.state.boxes 254;
+              void = ap (λ bs. notes_in done.classes bs) (ordinary-goal.boxes ∙ out-fit.boxes) ∙ notes-emptied done.classes w0.state.boxes;
               rest = z.2.0;
               fit = subst (Fitted Out.clear_penalty z.2.0) (sym waits) z.2.1;
             },

@@ -7,7 +7,8 @@ use Rattle.std.proofs.lemmas.List.{append-nil}
 use Rattle.tb_scaled.specs.Scaled.{eject_penalty, max_dimen}
 use Rattle.tb_node.specs.Plain.{PlainNode, made, blank_box, whatsit, pen}
 use Rattle.tb_param.specs.declared.Params.{Params}
-use Rattle.tb_float.specs.Lists.{FloatLists}
+use Rattle.tb_param.specs.Release.{has_second}
+use Rattle.tb_float.specs.Lists.{FloatLists, wide_part}
 use Rattle.tb_float.specs.Rooms.{column_room_of}
 use Rattle.tb_column.specs.Column.{warned}
 use Rattle.tb_column.specs.declared.Warn.TheVariants as warnings
@@ -21,6 +22,7 @@ use Rattle.tb_output.proofs.WaitCosts.{wait_cost}
 use Rattle.tb_output.proofs.FollowLemmas.{AllWait}
 use Rattle.tb_output.proofs.ClearOutcomes.{NoneWait, Fits, Single}
 use Rattle.tb_output.proofs.WideLemmas.{DoubleFits}
+use Rattle.tb_output.proofs.SideLemmas.{Sides}
 use Rattle.tb_output.proofs.ServeOutcomes.{AllCurrent, way_floats}
 
 -- what is known while clears of the routine are to come: nothing; the double list is not empty; a blank column ends next, and behind it comes a clear; a float stands in an area of a first column; the clear comes next; a blank column ends next, and the double list is not empty; no float waits; there is one column; no such clear is to come
@@ -98,6 +100,8 @@ pub record FloatsFit (p : Params) (s : State) : Type 0 where
   pub current : AllCurrent (Fits p) s.floats.current
   pub single : s.two_columns ≡ false → AllWait Single s.floats × AllCurrent Single s.floats.current
   pub double : DoubleFits s
+  pub sides : Sides (wide_part p) s.floats
+  pub narrow : has_second p ≡ true → AllCurrent Single s.floats.current
 
 -- the potential: what waits, the floats and the credit, less two for each clear of the routine, are bounded; and so are these with the dead cycles and the phase
 pub record Bounded (p : Params) (m : ℕ) (s : State) : Type 0 where

@@ -3,6 +3,7 @@ use Rattle.std.proofs.Common.{◌≡◌, refl, sym, ◌∙◌, ap, subst, ℕ, �
 use Rattle.std.specs.Prelude.{int_le, ◌-◌, if◌then◌else◌}
 use Rattle.tb_scaled.specs.Scaled.{eject_penalty}
 use Rattle.tb_scaled.specs.declared.Glue.{Glue}
+use Rattle.std.specs.List.{AllByRecursion}
 use Rattle.tb_node.specs.declared.Float.{Float}
 use Rattle.tb_node.specs.declared.Margin.{Margin}
 use Rattle.tb_node.specs.declared.Where.{Where}
@@ -44,6 +45,12 @@ AllCurrent P (entries.Right m ∷ es) = AllCurrent P es
 abbrev pub way_floats : FloatLists → ℕ
 way_floats l = waiting_floats l + current_floats l.current
 
+-- what holds of those that do not wait for a page
+pub record NarrowWait (P : Float → Type 0) (l : FloatLists) : Type 0 where
+  pub top : AllByRecursion P l.top
+  pub bottom : AllByRecursion P l.bottom
+  pub deferred : AllByRecursion P l.deferred
+
 -- columns and dead cycles stay, no float comes, and what is put back costs nothing
 pub record Served (P : Float → Type 0) (a b : Work) : Type 0 where
   pub goes : b.refused ≡ a.refused
@@ -52,13 +59,15 @@ pub record Served (P : Float → Type 0) (a b : Work) : Type 0 where
   pub cycles : b.state.dead_cycles ≡ a.state.dead_cycles
   pub boxes : b.state.boxes ≡ a.state.boxes
   pub double : b.state.floats.double ≡ a.state.floats.double
+  pub second : b.state.floats.second ≡ a.state.floats.second
+  pub narrow : NarrowWait P a.state.floats → AllCurrent P a.state.floats.current → NarrowWait P b.state.floats × AllCurrent P b.state.floats.current
   pub floats : way_floats b.state.floats ≤ way_floats a.state.floats
   pub all : AllWait P a.state.floats → AllCurrent P a.state.floats.current → AllWait P b.state.floats × AllCurrent P b.state.floats.current
   pub cost : wait_cost b.put_back ≡ wait_cost a.put_back
 
 module _ (P : Float → Type 0) (topped : (f : Float) → P f → P (Text.with_top f)) (p : Params) (calm : int_le p.interlinepenalty eject_penalty ≡ false) where
   same : (a : Work) → Served P a a
-  same a = record { goes = refl; columns = refl; first = refl; cycles = refl; boxes = refl; double = refl; floats = omega arith; all = λ h k. (h, k); cost = refl }
+  same a = record { goes = refl; columns = refl; first = refl; cycles = refl; boxes = refl; double = refl; second = refl; narrow = λ h k. (h, k); floats = omega arith; all = λ h k. (h, k); cost = refl }
 
   served-then : (a b c : Work) → Served P a b → Served P b c → Served P a c
   served-then a b c x y = record {
@@ -68,6 +77,8 @@ module _ (P : Float → Type 0) (topped : (f : Float) → P f → P (Text.with_t
     cycles = y.cycles ∙ x.cycles;
     boxes = y.boxes ∙ x.boxes;
     double = y.double ∙ x.double;
+    second = y.second ∙ x.second;
+    narrow = λ h k. let z = x.narrow h k in y.narrow z.0 z.1;
     floats = sums (way_floats a.state.floats) (way_floats b.state.floats) (way_floats c.state.floats) x.floats y.floats;
     all = λ h k. let z = x.all h k in y.all z.0 z.1;
     cost = y.cost ∙ x.cost;
@@ -81,13 +92,13 @@ module _ (P : Float → Type 0) (topped : (f : Float) → P f → P (Text.with_t
   served_if a false b c x y = y
 
   served-puts : (ns : List PlainNode) (w : Work) → wait_cost ns ≡ 0 → Served P w (puts ns w)
-  served-puts ns w h = record { goes = refl; columns = refl; first = refl; cycles = refl; boxes = refl; double = refl; floats = omega arith; all = λ h k. (h, k); cost = (let e : wait_cost (w.put_back ++ ns) ≡ wait_cost w.put_back + wait_cost ns = cost-append w.put_back ns in omega (arith, h)) }
+  served-puts ns w h = record { goes = refl; columns = refl; first = refl; cycles = refl; boxes = refl; double = refl; second = refl; narrow = λ h k. (h, k); floats = omega arith; all = λ h k. (h, k); cost = (let e : wait_cost (w.put_back ++ ns) ≡ wait_cost w.put_back + wait_cost ns = cost-append w.put_back ns in omega (arith, h)) }
 
   served-sends : (e : PlainSent) (w : Work) → Served P w (sends e w)
-  served-sends e w = served_if w w.refused w (record w { sent = w.sent ++ e ∷ [] }) (same w) (record { goes = refl; columns = refl; first = refl; cycles = refl; boxes = refl; double = refl; floats = omega arith; all = λ h k. (h, k); cost = refl })
+  served-sends e w = served_if w w.refused w (record w { sent = w.sent ++ e ∷ [] }) (same w) (record { goes = refl; columns = refl; first = refl; cycles = refl; boxes = refl; double = refl; second = refl; narrow = λ h k. (h, k); floats = omega arith; all = λ h k. (h, k); cost = refl })
 
   served-records : (r : Recorded) (w : Work) → Served P w (records_also r w)
-  served-records r w = served_if w w.refused w (record w { records = w.records ++ r ∷ [] }) (same w) (record { goes = refl; columns = refl; first = refl; cycles = refl; boxes = refl; double = refl; floats = omega arith; all = λ h k. (h, k); cost = refl })
+  served-records r w = served_if w w.refused w (record w { records = w.records ++ r ∷ [] }) (same w) (record { goes = refl; columns = refl; first = refl; cycles = refl; boxes = refl; double = refl; second = refl; narrow = λ h k. (h, k); floats = omega arith; all = λ h k. (h, k); cost = refl })
 
   penalty-free : (o : Option Glue) → wait_cost (Text.penalty_nodes p.interlinepenalty o) ≡ 0
   penalty-free None = rw calm refl
@@ -98,9 +109,29 @@ module _ (P : Float → Type 0) (topped : (f : Float) → P f → P (Text.with_t
 
   -- ---- a float
 
+  joined-second : (place : Where) (f : Float) (l : FloatLists) → (Place.joined_to place f l).second ≡ l.second
+  joined-second places.Here f l = refl
+  joined-second places.Top f l = refl
+  joined-second places.Bottom f l = refl
+  joined-second places.Page f l = refl
+  joined-second places.Double f l = refl
+  joined-second places.Deferred f l = refl
+
+  one-more : (fs : List Float) (f : Float) → AllByRecursion P fs → P f → AllByRecursion P (fs ++ f ∷ [])
+  one-more [] f h k = (k, tt)
+  one-more (g ∷ fs) f h k = (h.0, one-more fs f h.1 k)
+
+  joined-narrow : (place : Where) (f : Float) (l : FloatLists) → P f → NarrowWait P l → NarrowWait P (Place.joined_to place f l)
+  joined-narrow places.Here f l k h = record { top = h.top; bottom = h.bottom; deferred = h.deferred }
+  joined-narrow places.Top f l k h = record { top = one-more l.top f h.top k; bottom = h.bottom; deferred = h.deferred }
+  joined-narrow places.Bottom f l k h = record { top = h.top; bottom = one-more l.bottom f h.bottom k; deferred = h.deferred }
+  joined-narrow places.Page f l k h = h
+  joined-narrow places.Double f l k h = record { top = h.top; bottom = h.bottom; deferred = h.deferred }
+  joined-narrow places.Deferred f l k h = record { top = h.top; bottom = h.bottom; deferred = one-more l.deferred f h.deferred k }
+
   -- a float leaves the current list for another, or for the text
-  served-placed : (place : Where) (f : Float) (left : FloatLists) (w : Work) → NotDouble place → left.double ≡ w.state.floats.double → way_floats left + 1 ≤ way_floats w.state.floats → (AllWait P w.state.floats → AllCurrent P w.state.floats.current → P f × AllWait P left × AllCurrent P left.current) → Served P w (Place.place_float p place f left w)
-  served-placed place f left w d e h k = by_record (Place.is_placed place)
+  served-placed : (place : Where) (f : Float) (left : FloatLists) (w : Work) → NotDouble place → left.double ≡ w.state.floats.double → left.second ≡ w.state.floats.second → way_floats left + 1 ≤ way_floats w.state.floats → (AllWait P w.state.floats → AllCurrent P w.state.floats.current → P f × AllWait P left × AllCurrent P left.current) → (NarrowWait P w.state.floats → AllCurrent P w.state.floats.current → P f × NarrowWait P left × AllCurrent P left.current) → Served P w (Place.place_float p place f left w)
+  served-placed place f left w d e e2 h k k2 = by_record (Place.is_placed place)
     where
       l : FloatLists
       l = Place.joined_to place f left
@@ -122,6 +153,11 @@ module _ (P : Float → Type 0) (topped : (f : Float) → P f → P (Text.with_t
           let x : P f × AllWait P left × AllCurrent P left.current = k a b in
           (joined-all P place f left x.0 x.1, subst (AllCurrent P) (sym (joined-current P place f left)) x.2)
 
+      narrowed : NarrowWait P w.state.floats → AllCurrent P w.state.floats.current → NarrowWait P l × AllCurrent P l.current
+      narrowed a b =
+          let x : P f × NarrowWait P left × AllCurrent P left.current = k2 a b in
+          (joined-narrow place f left x.0 x.1, subst (AllCurrent P) (sym (joined-current P place f left)) x.2)
+
       here : (a : Work) → a.state ≡ w.state → a.refused ≡ w.refused → a.put_back ≡ w.put_back → Served P w (with_floats l a)
       here a s g b = record {
         goes = g;
@@ -130,6 +166,8 @@ module _ (P : Float → Type 0) (topped : (f : Float) → P f → P (Text.with_t
         cycles = ap (λ t. t.dead_cycles) s;
         boxes = ap (λ t. t.boxes) s;
         double = joined-single place f left d ∙ e;
+        second = joined-second place f left ∙ e2;
+        narrow = narrowed;
         floats = counted;
         all = kept;
         cost = ap wait_cost b;
@@ -154,14 +192,17 @@ module _ (P : Float → Type 0) (topped : (f : Float) → P f → P (Text.with_t
     parts : AllWait P w.state.floats → AllCurrent P w.state.floats.current → P f × AllWait P left × AllCurrent P es
     parts a b = let c : P f × AllCurrent P es = subst (AllCurrent P) is b in (c.0, record { top = a.top; bottom = a.bottom; deferred = a.deferred; double = a.double; second = a.second }, c.1)
 
+    narrow-parts : NarrowWait P w.state.floats → AllCurrent P w.state.floats.current → P f × NarrowWait P left × AllCurrent P es
+    narrow-parts a b = let c : P f × AllCurrent P es = subst (AllCurrent P) is b in (c.0, record { top = a.top; bottom = a.bottom; deferred = a.deferred }, c.1)
+
     goes-to : (place : Where) → NotDouble place → Served P w (Place.place_float p place f left w)
-    goes-to place d = served-placed place f left w d refl fewer parts
+    goes-to place d = served-placed place f left w d refl refl fewer parts narrow-parts
 
     served-defer : Served P w (Text.defer p f left w)
     served-defer =
         let a = Place.place_float p places.Deferred (Text.with_top f) left w in
         served_if w (Text.only_here f) (sends (warned (warnings.Ht f.name)) a) (Place.place_float p places.Deferred f left w)
-        (served-then w a (sends (warned (warnings.Ht f.name)) a) (served-placed places.Deferred (Text.with_top f) left w tt refl fewer (λ x y. let z = parts x y in (topped f z.0, z.1, z.2))) (served-sends (warned (warnings.Ht f.name)) a))
+        (served-then w a (sends (warned (warnings.Ht f.name)) a) (served-placed places.Deferred (Text.with_top f) left w tt refl refl fewer (λ x y. let z = parts x y in (topped f z.0, z.1, z.2)) (λ x y. let z = narrow-parts x y in (topped f z.0, z.1, z.2))) (served-sends (warned (warnings.Ht f.name)) a))
         (goes-to places.Deferred tt)
 
     here-free : (vert : Bool) → wait_cost (Text.here_nodes p vert f) ≡ 0
@@ -206,7 +247,7 @@ module _ (P : Float → Type 0) (topped : (f : Float) → P f → P (Text.with_t
       let a = Text.with_note_bottom at.bottom (with_floats (record w.state.floats { current = es }) w) in
       let b = Text.moved_warning m at a in
       let c = puts (Text.note_nodes depth m at) b in
-      served-then w a (Text.puts_interline p c) (record { goes = refl; columns = refl; first = refl; cycles = refl; boxes = refl; double = refl; floats = omega arith; all = λ x y. (record { top = x.top; bottom = x.bottom; deferred = x.deferred; double = x.double; second = x.second }, k y); cost = refl })
+      served-then w a (Text.puts_interline p c) (record { goes = refl; columns = refl; first = refl; cycles = refl; boxes = refl; double = refl; second = refl; narrow = λ x y. (record { top = x.top; bottom = x.bottom; deferred = x.deferred }, k y); floats = omega arith; all = λ x y. (record { top = x.top; bottom = x.bottom; deferred = x.deferred; double = x.double; second = x.second }, k y); cost = refl })
       (served-then a b (Text.puts_interline p c) (served_if a at.moved (sends (warned (warnings.Moved m.name at.shift)) a) a (served-sends (warned (warnings.Moved m.name at.shift)) a) (same a))
       (served-then b c (Text.puts_interline p c) (served-puts (Text.note_nodes depth m at) b refl) (served-interline c)))
 

@@ -75,16 +75,34 @@ steady-free (n ∷ ns) s =
     let k : wait_cost ns ≡ 0 = steady-free ns s.1 in
     omega arith
 
-ins-kind : (cs : List ℕ) (k : PlainKind) → IsIns cs k → kind_cost k ≡ 0
-ins-kind cs (plain m) i = absurd i
-ins-kind cs (ins x) i = refl
-ins-kind cs (act a) i = absurd i
+-- all are insertions
+abbrev pub IsInserted : PlainKind → Type 0
+IsInserted (plain m) = ⊥
+IsInserted (ins x) = Unit {0}
+IsInserted (act a) = ⊥
 
-pub ins-free : (cs : List ℕ) (ns : List PlainNode) → AllIns cs ns → wait_cost ns ≡ 0
-ins-free cs [] i = refl
-ins-free cs (n ∷ ns) i =
-    let h : kind_cost n.kind ≡ 0 = ins-kind cs n.kind i.0 in
-    let k : wait_cost ns ≡ 0 = ins-free cs ns i.1 in
+abbrev pub AllInserted : List PlainNode → Type 0
+AllInserted = AllByRecursion (λ n. IsInserted n.kind)
+
+one-inserted : (cs : List ℕ) (k : PlainKind) → IsIns cs k → IsInserted k
+one-inserted cs (plain m) i = absurd i
+one-inserted cs (ins x) i = tt
+one-inserted cs (act a) i = absurd i
+
+pub all-inserted : (cs : List ℕ) (ns : List PlainNode) → AllIns cs ns → AllInserted ns
+all-inserted cs [] i = tt
+all-inserted cs (n ∷ ns) i = (one-inserted cs n.kind i.0, all-inserted cs ns i.1)
+
+ins-kind : (k : PlainKind) → IsInserted k → kind_cost k ≡ 0
+ins-kind (plain m) i = absurd i
+ins-kind (ins x) i = refl
+ins-kind (act a) i = absurd i
+
+pub ins-free : (ns : List PlainNode) → AllInserted ns → wait_cost ns ≡ 0
+ins-free [] i = refl
+ins-free (n ∷ ns) i =
+    let h : kind_cost n.kind ≡ 0 = ins-kind n.kind i.0 in
+    let k : wait_cost ns ≡ 0 = ins-free ns i.1 in
     omega arith
 
 -- ---- a page takes of it
