@@ -4,11 +4,11 @@ use Rattle.std.specs.Prelude.{int_le}
 use Rattle.std.specs.List.{AllByRecursion}
 use Rattle.tb_scaled.specs.Scaled.{eject_penalty}
 use Rattle.tb_scaled.specs.Glue.{filling_glue}
-use Rattle.tb_node.specs.Plain.{Leaf, PlainNode, made, skip}
+use Rattle.tb_node.specs.Plain.{PlainNode, made, skip}
 use Rattle.tb_param.specs.declared.Params.{Params}
 use Rattle.tb_builder.specs.Fired.{Fired}
 use Rattle.tb_float.specs.Lists.{FloatLists}
-use Rattle.tb_column.specs.Column.{PlainColumn, text_column}
+use Rattle.tb_column.specs.Column.{Notes, PlainColumn, text_column}
 use Rattle.tb_output.specs.State.{State, Work, begun, puts, footnotes}
 use Rattle.tb_output.specs.Columns
 use Rattle.tb_output.specs.Clear
@@ -20,6 +20,7 @@ use Rattle.tb_output.proofs.FollowLemmas.{waiting_floats, follows-same}
 use Rattle.tb_output.proofs.ColumnOutcomes.{IsKept, IsPaired, TextOut, last-ships, first-kept, second-pairs, text-out, text-follows}
 use Rattle.tb_output.proofs.ClearOutcomes.{NoneWait, Fits, Single}
 use Rattle.tb_output.proofs.WideLemmas.{KeepsDouble, clear_by-double}
+use Rattle.tb_output.proofs.SideSteps.{text_out-sides}
 use Rattle.tb_output.proofs.ServeOutcomes.{current_floats, way_floats}
 use Rattle.tb_output.proofs.CycleStates.{Kind, any, doubled, once, topped, ready, halted, clean, single, closed, credit, Holds, Phase, starting, second, ending, phase_cost, PhaseHolds, FloatsFit, Bounded, GoalOut, goal-out}
 use Rattle.tb_output.proofs.CycleFirings.{clear-sort, FiresWell, after, finish, finish-shipped, none-count, none-left, true-false, text-fits}
@@ -90,10 +91,10 @@ module _ (p : Params) (m : ℕ) (s : State) (total a : ℕ) (kind : Kind) (phase
       sums : (b d e g : ℕ) → e ≡ g → b + x ≤ d + y → b + e + x ≤ d + g + y
       sums b d e g i j = omega arith
 
-  pub n-fits : (notes : List Leaf) → FloatsFit p n.state
-  n-fits notes =
-      let x : KeepsDouble w0 n = clear_by-double p f.body w0 (Some notes) in
-      text-fits p m s total a kind phase f calm holds at floats weight bound well q q-out (text-out Single p (f.body ++ made (skip filling_glue) ∷ []) w0 q (follows-same Single q)) (record { by = x.by; columns = x.columns })
+  pub n-fits : (head : Notes) (notes : List Notes) → FloatsFit p n.state
+  n-fits head notes =
+      let x : KeepsDouble w0 n = clear_by-double p f.body w0 (head ∷ notes) in
+      text-fits p m s total a kind phase f calm holds at floats weight bound well q q-out (text-out Single p (f.body ++ made (skip filling_glue) ∷ []) w0 q (follows-same Single q)) (record { by = x.by; columns = x.columns }) (text_out-sides p (f.body ++ made (skip filling_glue) ∷ []) w0 floats.sides)
 
   abbrev n-done : State
   n-done = after p m f well.held n
@@ -111,17 +112,17 @@ module _ (p : Params) (m : ℕ) (s : State) (total a : ℕ) (kind : Kind) (phase
       sums : (b r y y' k : ℕ) → b ≡ 3 → r + 3 ≤ total → 2 * y + c + 2 * a ≤ 2 * y' + k + 2 * suc d → total + 2 * y' + k ≤ m + 2 * a → b + r + 2 * y + c ≤ m + 2 * suc d
       sums b r y y' k i j l o = omega arith
 
-  n-shipped : (notes : List Leaf) → n.state.dead_cycles ≡ 0 → (k : Kind) → Holds p n-done (suc d) k → NoteSums (credit k) → Bounded p m n-done
-  n-shipped notes e k h l = finish-shipped p m f well.held n (suc d) k n-region h (n-fits notes) e (n-weight (credit k) l)
+  n-shipped : (head : Notes) (notes : List Notes) → n.state.dead_cycles ≡ 0 → (k : Kind) → Holds p n-done (suc d) k → NoteSums (credit k) → Bounded p m n-done
+  n-shipped head notes e k h l = finish-shipped p m f well.held n (suc d) k n-region h (n-fits head notes) e (n-weight (credit k) l)
 
-  n-kept : (notes : List Leaf) → s.two_columns ≡ true → s.first_column ≡ true → n.state.first_column ≡ false → n.state.dead_cycles ≡ s.dead_cycles + 1 → (k : Kind) → Holds p n-done (suc d) k → NoteSums (credit k) → Bounded p m n-done
-  n-kept notes t c first e k h l = by_phase phase refl at
+  n-kept : (head : Notes) (notes : List Notes) → s.two_columns ≡ true → s.first_column ≡ true → n.state.first_column ≡ false → n.state.dead_cycles ≡ s.dead_cycles + 1 → (k : Kind) → Holds p n-done (suc d) k → NoteSums (credit k) → Bounded p m n-done
+  n-kept head notes t c first e k h l = by_phase phase refl at
     where
       sums : (b r y y' c k d' e' : ℕ) → b ≡ 3 → r + 3 ≤ total → 2 * y + c + 2 * a ≤ 2 * y' + k + 2 * suc d → d' ≡ e' + 1 → e' + total + 2 * y' + k + 2 ≤ m + 2 + 2 * a → d' + (b + r) + 2 * y + c + 1 ≤ m + 2 + 2 * suc d
       sums b r y y' c k d' e' i j l o u = omega arith
 
       by_phase : (x : Phase) → x ≡ phase → PhaseHolds s x → Bounded p m n-done
-      by_phase starting g i = finish p m f well.held n (suc d) k second n-region h (record { columns = n-goal.columns ∙ q-out.columns ∙ t; first = n-goal.first ∙ first }) (λ e. cc) (n-fits notes) (n-weight (credit k) l)
+      by_phase starting g i = finish p m f well.held n (suc d) k second n-region h (record { columns = n-goal.columns ∙ q-out.columns ∙ t; first = n-goal.first ∙ first }) (λ e. cc) (n-fits head notes) (n-weight (credit k) l)
           (sums (wait_cost n.put_back) (wait_cost f.rest) (way_floats n.state.floats) (way_floats s.floats) (credit k) (credit kind) n.state.dead_cycles s.dead_cycles n-cost cost l e (subst (λ (y : Phase). s.dead_cycles + total + 2 * way_floats s.floats + credit kind + phase_cost y ≤ m + 2 + 2 * a) (sym g) bound))
       by_phase second g i = true-false s.first_column c i.first
       by_phase ending g i = true-false s.first_column c i.0.first
@@ -170,11 +171,11 @@ module _ (p : Params) (m : ℕ) (s : State) (total a : ℕ) (kind : Kind) (phase
   one-fewer : (x y z t : ℕ) → 1 ≤ t → x ≤ z → z + t ≡ y → x + 1 ≤ y
   one-fewer x y z t h i j = omega arith
 
-  void-not : (notes : List Leaf) → footnotes w0.state ≡ Some notes → {X : Type 0} → kind ≡ ready → X
-  void-not notes e i = let no : Some notes ≡ None = sym e ∙ (well.ready i).1 in cc
+  void-not : (head : Notes) (notes : List Notes) → footnotes w0.state ≡ head ∷ notes → {X : Type 0} → kind ≡ ready → X
+  void-not head notes e i = let no : head ∷ notes ≡ [] = sym e ∙ (well.ready i).1 in cc
 
-  notes-second : (notes : List Leaf) → footnotes w0.state ≡ Some notes → s.two_columns ≡ true → s.first_column ≡ false → n.refused ≡ false → Bounded p m n-done
-  notes-second notes e t c r = by_left (left-of a)
+  notes-second : (head : Notes) (notes : List Notes) → footnotes w0.state ≡ head ∷ notes → s.two_columns ≡ true → s.first_column ≡ false → n.refused ≡ false → Bounded p m n-done
+  notes-second head notes e t c r = by_left (left-of a)
     where
       dead : n.state.dead_cycles ≡ 0
       dead = last-ships (Fits p) p column (Columns.without_column_floats w0) (inr c) r
@@ -189,28 +190,28 @@ module _ (p : Params) (m : ℕ) (s : State) (total a : ℕ) (kind : Kind) (phase
           sums x y z d t h i j = omega arith
 
       by_kind : a ≡ d + 1 → (k : Kind) → k ≡ kind → Holds p s a k → Bounded p m n-done
-      by_kind l any g i = n-shipped notes dead any tt (same-sums any g l)
-      by_kind l doubled g i = n-shipped notes dead any tt (fewer-sums (with_double i))
+      by_kind l any g i = n-shipped head notes dead any tt (same-sums any g l)
+      by_kind l doubled g i = n-shipped head notes dead any tt (fewer-sums (with_double i))
       by_kind l once g i = not-once (sym g)
       by_kind l topped g i = true-false s.first_column i.0 c
       by_kind l ready g i = true-false s.first_column i.0 c
       by_kind l halted g i = not-halted (sym g)
-      by_kind l clean g i = n-shipped notes dead clean (n-clean i) (same-sums clean g l)
+      by_kind l clean g i = n-shipped head notes dead clean (n-clean i) (same-sums clean g l)
       by_kind l single g i = true-false s.two_columns t i
       by_kind l closed g i = let no : ⊥ = omega (arith, i, l) in absurd no
 
       by_left : (a ≡ 0) ⊎ (a ≡ d + 1) → Bounded p m n-done
-      by_left (inl z) = n-shipped notes dead any tt (item-sums z)
+      by_left (inl z) = n-shipped head notes dead any tt (item-sums z)
       by_left (inr l) = by_kind l kind refl holds
 
-  notes-first : (notes : List Leaf) → footnotes w0.state ≡ Some notes → s.two_columns ≡ true → s.first_column ≡ true → Bounded p m n-done
-  notes-first notes e t c = by_left (left-of a)
+  notes-first : (head : Notes) (notes : List Notes) → footnotes w0.state ≡ head ∷ notes → s.two_columns ≡ true → s.first_column ≡ true → Bounded p m n-done
+  notes-first head notes e t c = by_left (left-of a)
     where
       kept : IsKept (Fits p) p (Columns.without_column_floats w0) q
       kept = first-kept (Fits p) p column (Columns.without_column_floats w0) t c
 
       go : (k : Kind) → Holds p n-done (suc d) k → NoteSums (credit k) → Bounded p m n-done
-      go k h l = n-kept notes t c kept.first kept.cycles k h l
+      go k h l = n-kept head notes t c kept.first kept.cycles k h l
 
       by_kind : a ≡ d + 1 → (k : Kind) → k ≡ kind → Holds p s a k → Bounded p m n-done
       by_kind l any g i = go any tt (same-sums any g l)
@@ -220,7 +221,7 @@ module _ (p : Params) (m : ℕ) (s : State) (total a : ℕ) (kind : Kind) (phase
         where
           same : (x y : ℕ) → x ≡ y → x ≤ y
           same x y h = omega arith
-      by_kind l ready g i = void-not notes e (sym g)
+      by_kind l ready g i = void-not head notes e (sym g)
       by_kind l halted g i = not-halted (sym g)
       by_kind l clean g i = go clean (n-clean i) (same-sums clean g l)
       by_kind l single g i = true-false s.two_columns t i
@@ -230,16 +231,16 @@ module _ (p : Params) (m : ℕ) (s : State) (total a : ℕ) (kind : Kind) (phase
       by_left (inl z) = go any tt (item-sums z)
       by_left (inr l) = by_kind l kind refl holds
 
-  notes-one : (notes : List Leaf) → s.two_columns ≡ false → n.refused ≡ false → Bounded p m n-done
-  notes-one notes t r = n-shipped notes (last-ships (Fits p) p column (Columns.without_column_floats w0) (inl t) r) single (n-goal.columns ∙ q-out.columns ∙ t) (sums (way_floats n.state.floats) (way_floats s.floats) (credit kind) q-least at-most-one)
+  notes-one : (head : Notes) (notes : List Notes) → s.two_columns ≡ false → n.refused ≡ false → Bounded p m n-done
+  notes-one head notes t r = n-shipped head notes (last-ships (Fits p) p column (Columns.without_column_floats w0) (inl t) r) single (n-goal.columns ∙ q-out.columns ∙ t) (sums (way_floats n.state.floats) (way_floats s.floats) (credit kind) q-least at-most-one)
     where
       sums : (x y k : ℕ) → x ≤ y → a ≤ d + 1 → 2 * x + 0 + 2 * a ≤ 2 * y + k + 2 * suc d
       sums x y k h i = omega arith
 
-  pub with-notes : (notes : List Leaf) → footnotes w0.state ≡ Some notes → Result (Clear.clear_by p f.body w0 (Some notes))
-  with-notes notes e r = by_columns s.two_columns s.first_column refl refl
+  pub with-notes : (head : Notes) (notes : List Notes) → footnotes w0.state ≡ head ∷ notes → Result (Clear.clear_by p f.body w0 (head ∷ notes))
+  with-notes head notes e r = by_columns s.two_columns s.first_column refl refl
     where
       by_columns : (t c : Bool) → s.two_columns ≡ t → s.first_column ≡ c → Bounded p m n-done
-      by_columns false c i j = notes-one notes i r
-      by_columns true true i j = notes-first notes e i j
-      by_columns true false i j = notes-second notes e i j r
+      by_columns false c i j = notes-one head notes i r
+      by_columns true true i j = notes-first head notes e i j
+      by_columns true false i j = notes-second head notes e i j r

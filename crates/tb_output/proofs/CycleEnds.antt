@@ -3,9 +3,10 @@ use Rattle.std.proofs.Common.{◌≡◌, refl, sym, subst, ℕ, ◌+◌, ◌*◌
 use Rattle.std.specs.Prelude.{int_le}
 use Rattle.tb_scaled.specs.Scaled.{eject_penalty}
 use Rattle.tb_scaled.specs.Glue.{filling_glue}
-use Rattle.tb_node.specs.Plain.{Leaf, PlainNode, made, skip}
+use Rattle.tb_node.specs.Plain.{PlainNode, made, skip}
 use Rattle.tb_param.specs.declared.Params.{Params}
 use Rattle.tb_builder.specs.Fired.{Fired}
+use Rattle.tb_column.specs.Column.{Notes}
 use Rattle.tb_output.specs.State.{State, Work, begun, footnotes}
 use Rattle.tb_output.specs.Columns
 use Rattle.tb_output.specs.Text
@@ -59,14 +60,14 @@ module _ (p : Params) (m : ℕ) (s : State) (total a : ℕ) (kind : Kind) (phase
   keeps-clear : int_le eject_penalty f.penalty ≡ false → Out.is_int f.penalty Out.clear_penalty ≡ true → Keeps (Clear.clear p f.body begins)
   keeps-clear h k = by_notes (footnotes (record s { boxes = f.boxes })) refl
     where
-      by_notes : (o : Option (List Leaf)) → footnotes (record s { boxes = f.boxes }) ≡ o → Keeps (Clear.clear_by p f.body begins o)
-      by_notes None e =
+      by_notes : (o : List Notes) → footnotes (record s { boxes = f.boxes }) ≡ o → Keeps (Clear.clear_by p f.body begins o)
+      by_notes [] e =
           let z = well.blank k e in
           let o = c p m s total a kind phase f calm holds at floats weight bound well h k e in
           keeps (Clear.clear_floats p f.body begins) (subst (Ended false) (sym (v-back p m s total a kind phase f calm holds at floats weight bound well h k e)) (ended-both false (Clear.cleared_front p f.body) (half_nodes o.half ++ rest_nodes o.rest) (free-ended false (Clear.cleared_front p f.body) z.3) (ended-both false (half_nodes o.half) (rest_nodes o.rest) (half-ended o.half) (rest-ended o.rest))))
-      by_notes (Some notes) e =
+      by_notes (head ∷ notes) e =
           let q = Columns.put_out_text p (f.body ++ made (skip filling_glue) ∷ []) begins in
-          keeps (Clear.clear_by p f.body begins (Some notes)) (subst (λ (ns : List PlainNode). Ended false (ns ++ Clear.clear_again)) (sym (text-out (Fits p) p (f.body ++ made (skip filling_glue) ∷ []) begins q (follows-same (Fits p) q)).back) again-ended)
+          keeps (Clear.clear_by p f.body begins (head ∷ notes)) (subst (λ (ns : List PlainNode). Ended false (ns ++ Clear.clear_again)) (sym (text-out (Fits p) p (f.body ++ made (skip filling_glue) ∷ []) begins q (follows-same (Fits p) q)).back) again-ended)
 
   pub out-ended : Ended false (Out.out p s f).state.waiting
   unfolding Out.out

@@ -1,16 +1,17 @@
 -- A clear without footnotes lowers what is left of the firings without a page, or ships a page.
 use Rattle.std.proofs.Common.{◌≡◌, refl, sym, ◌∙◌, ap, subst, ℕ, suc, ◌+◌, ◌*◌, ◌≤◌, inl, inr, ◌⊎◌, Bool, true, false, List, [], ◌∷◌, ◌++◌, length, Option, Some, None, arith}
-use Rattle.std.specs.Prelude.{int_le, if◌then◌else◌}
+use Rattle.std.specs.Prelude.{◌||◌, int_le, if◌then◌else◌}
 use Rattle.std.specs.List.{AllByRecursion}
 use Rattle.std.proofs.lemmas.List.{append_assoc, append-nil}
 use Rattle.tb_scaled.specs.Scaled.{eject_penalty}
 use Rattle.tb_node.specs.declared.Float.{Float}
-use Rattle.tb_node.specs.Plain.{Leaf, PlainNode, made, blank_box, whatsit, pen}
+use Rattle.tb_node.specs.Plain.{PlainNode, made, blank_box, whatsit, pen}
 use Rattle.tb_param.specs.declared.Params.{Params}
 use Rattle.tb_builder.specs.Fired.{Fired}
 use Rattle.tb_builder.proofs.FittingFired.{Fitted}
 use Rattle.tb_builder.proofs.PausedPages.{Paused}
 use Rattle.tb_float.specs.Lists.{FloatLists}
+use Rattle.tb_column.specs.Column.{Notes}
 use Rattle.tb_output.specs.State.{State, Work, begun, footnotes, has_floats}
 use Rattle.tb_output.specs.Clear
 use Rattle.tb_output.specs.Out
@@ -21,6 +22,8 @@ use Rattle.tb_output.proofs.WaitCosts.{wait_cost, cost-append}
 use Rattle.tb_output.proofs.FollowLemmas.{waiting_floats}
 use Rattle.tb_output.proofs.ClearOutcomes.{NoneWait, Fits, Single, WaitsWell, How, ClearOut, clear-out, halves, more, gathered, gathered-count, halved-state, clear-all}
 use Rattle.tb_output.proofs.WideLemmas.{KeepsDouble, clear_by-double}
+use Rattle.tb_output.proofs.SideLemmas.{narrow-lists, wide-second, none-second}
+use Rattle.tb_output.proofs.SideSteps.{clear_by-sides}
 use Rattle.tb_output.proofs.ServeOutcomes.{AllCurrent, current_floats, way_floats}
 use Rattle.tb_output.proofs.CycleStates.{Kind, any, doubled, once, topped, ready, halted, clean, single, closed, credit, IsSecond, Holds, Phase, starting, second, ending, phase_cost, PhaseHolds, FloatsFit, Bounded, GoalOut, goal-out}
 use Rattle.tb_output.proofs.CycleFirings.{FiresWell, after, waits, finish, finish-shipped, none-count, none-left, true-false, clear-no-hold, some-or-none, at-ordinary, at-serve, at-hold, output-cases}
@@ -65,12 +68,21 @@ back-again false true n ys a =
     subst (λ (k : ℕ). Again k (sorts (half_nodes true ++ rest_nodes false) ++ ys)) e h
 back-again false false n ys a = let e : n ≡ n + 0 + 0 = omega arith in subst (λ (k : ℕ). Again k ys) e a
 
+or-first : (a b : Bool) → (a || b) ≡ false → a ≡ false
+or-first a b h = grind (arith, h)
+
+or-second : (a b : Bool) → (a || b) ≡ false → b ≡ false
+or-second a b h = grind (arith, h)
+
+or-none : (a b : Bool) → a ≡ false → b ≡ false → (a || b) ≡ false
+or-none a b h k = grind (arith, h, k)
+
 module _ (p : Params) (m : ℕ) (s : State) (total a : ℕ) (kind : Kind) (phase : Phase) (f : Fired) (calm : int_le p.interlinepenalty eject_penalty ≡ false)
     (holds : Holds p s a kind) (at : PhaseHolds s phase) (floats : FloatsFit p s)
     (weight : total + 2 * way_floats s.floats + credit kind ≤ m + 2 * a)
     (bound : s.dead_cycles + total + 2 * way_floats s.floats + credit kind + phase_cost phase ≤ m + 2 + 2 * a)
     (well : FiresWell p s total a kind phase f)
-    (special : int_le eject_penalty f.penalty ≡ false) (clears : Out.is_int f.penalty Out.clear_penalty ≡ true) (void : footnotes (record s { boxes = f.boxes }) ≡ None) where
+    (special : int_le eject_penalty f.penalty ≡ false) (clears : Out.is_int f.penalty Out.clear_penalty ≡ true) (void : footnotes (record s { boxes = f.boxes }) ≡ []) where
   abbrev w0 : Work
   w0 = begun (Out.after_page s f)
 
@@ -87,7 +99,7 @@ module _ (p : Params) (m : ℕ) (s : State) (total a : ℕ) (kind : Kind) (phase
   front = Clear.cleared_front p f.body
 
   good : WaitsWell p w0.state
-  good = record { fit = floats.fit; wide = floats.double.wide; single = λ k. ((floats.single k).0, floats.double.none k) }
+  good = record { fit = floats.fit; wide = floats.double.wide; second = wide-second p s.floats floats.sides; none = none-second p s.floats floats.sides; narrow = narrow-lists p s.floats floats.sides; single = λ k. ((floats.single k).0, floats.double.none k) }
 
   pub c : ClearOut (Fits p) p f.body w0 v
   c = clear-out p f.body w0 good
@@ -143,12 +155,14 @@ module _ (p : Params) (m : ℕ) (s : State) (total a : ℕ) (kind : Kind) (phase
 
   pub v-fits : FloatsFit p v.state
   v-fits =
-      let x : KeepsDouble w0 v = clear_by-double p f.body w0 None in
+      let x : KeepsDouble w0 v = clear_by-double p f.body w0 [] in
       record {
         fit = clear-all (Fits p) p f.body w0 floats.fit;
         current = subst (AllCurrent (Fits p)) (sym v-current) floats.current;
         single = λ k. let y = floats.single (sym v-columns ∙ k) in (clear-all Single p f.body w0 y.0, subst (AllCurrent Single) (sym v-current) y.1);
         double = x.by (record { wide = floats.double.wide; none = floats.double.none });
+        sides = clear_by-sides p f.body w0 [] (record { wide = floats.double.wide; none = floats.double.none }) floats.sides;
+        narrow = λ k. subst (AllCurrent Single) (sym v-current) (floats.narrow k);
       }
 
   -- the dead cycles rise by one, or a page is out
@@ -310,7 +324,7 @@ module _ (p : Params) (m : ℕ) (s : State) (total a : ℕ) (kind : Kind) (phase
 
     left-holds : (l : Left) → Holds p v-done later (kind_left l)
     left-holds (above h) = (is_second, paused, subst (λ (x : FloatLists). 1 ≤ length x.double) (sym v-goal.floats) h)
-    left-holds (nothing e r) = subst NoneWait (sym v-goal.floats) (record { top = top; bottom = bottom; deferred = no-floats v.state.floats.deferred (c.left ∙ r); double = e })
+    left-holds (nothing e r) = subst NoneWait (sym v-goal.floats) (record { top = top; bottom = bottom; deferred = no-floats v.state.floats.deferred (or-first (has_floats v.state.floats.deferred) (has_floats v.state.floats.second) (c.left ∙ r)); double = e; second = no-floats v.state.floats.second (or-second (has_floats v.state.floats.deferred) (has_floats v.state.floats.second) (c.left ∙ r)) })
     left-holds (deferred e r) = once-holds e
 
     is-left : Left
@@ -345,7 +359,7 @@ module _ (p : Params) (m : ℕ) (s : State) (total a : ℕ) (kind : Kind) (phase
     none-deferred : {X : Type 0} → NoneWait s.floats → c.rest ≡ true → X
     none-deferred i r =
         let n : NoneWait v.state.floats = none-left v.state.floats (subst (λ (x : ℕ). waiting_floats v.state.floats ≤ x) (none-count s.floats i) v-floats) in
-        true-false c.rest r (sym c.left ∙ ap has_floats n.deferred)
+        true-false c.rest r (sym c.left ∙ or-none (has_floats v.state.floats.deferred) (has_floats v.state.floats.second) (ap has_floats n.deferred) (ap has_floats n.second))
 
     -- at a second column the credit pays for it
     left-paid : s.first_column ≡ false → a ≡ d + 1 → (l : Left) → credit (kind_left l) + bit c.rest ≤ credit kind
@@ -433,9 +447,9 @@ module _ (p : Params) (m : ℕ) (s : State) (total a : ℕ) (kind : Kind) (phase
   at-clear : int_le eject_penalty f.penalty ≡ false → Out.is_int f.penalty Out.clear_penalty ≡ true → Result (Clear.clear p f.body started)
   at-clear h k = by_notes (footnotes (record s { boxes = f.boxes })) refl
     where
-      by_notes : (o : Option (List Leaf)) → footnotes (record s { boxes = f.boxes }) ≡ o → Result (Clear.clear_by p f.body started o)
-      by_notes None e r = at-void p m s total a kind phase f calm holds at floats weight bound well h k e r
-      by_notes (Some notes) e r = with-notes p m s total a kind phase f calm holds at floats weight bound well h k notes e r
+      by_notes : (o : List Notes) → footnotes (record s { boxes = f.boxes }) ≡ o → Result (Clear.clear_by p f.body started o)
+      by_notes [] e r = at-void p m s total a kind phase f calm holds at floats weight bound well h k e r
+      by_notes (head ∷ notes) e r = with-notes p m s total a kind phase f calm holds at floats weight bound well h k head notes e r
 
   outputs : Result (Out.output_by p f started)
   outputs =

@@ -4,10 +4,10 @@ use Rattle.std.specs.Prelude.{int_le}
 use Rattle.std.specs.List.{AllByRecursion}
 use Rattle.tb_scaled.specs.Scaled.{eject_penalty}
 use Rattle.tb_scaled.specs.Glue.{filling_glue}
-use Rattle.tb_node.specs.Plain.{Leaf, PlainNode, made, skip}
+use Rattle.tb_node.specs.Plain.{PlainNode, made, skip}
 use Rattle.tb_param.specs.declared.Params.{Params}
 use Rattle.tb_builder.specs.Fired.{Fired}
-use Rattle.tb_column.specs.Column.{text_column}
+use Rattle.tb_column.specs.Column.{Notes, text_column}
 use Rattle.tb_output.specs.State.{State, Work, begun, footnotes}
 use Rattle.tb_output.specs.Columns
 use Rattle.tb_output.specs.Clear
@@ -34,7 +34,7 @@ pub record FiresHigh (p : Params) (s : State) (total n : ℕ) (stage : Stage) (f
   pub well : FiresWell p s total n any (phase_of stage) f
   pub spaced : Spaced true f.rest
   pub behind : Out.is_int f.penalty Out.clear_penalty ≡ true → Spaced false f.rest
-  pub guard : stage ≡ guarded → Out.is_int f.penalty Out.clear_penalty ≡ true → footnotes (record s { boxes = f.boxes }) ≡ None → ⊥
+  pub guard : stage ≡ guarded → Out.is_int f.penalty Out.clear_penalty ≡ true → footnotes (record s { boxes = f.boxes }) ≡ [] → ⊥
 
 again-spaced : (b : Bool) → Spaced b Clear.clear_again
 again-spaced b = (tt, (λ h. cc, (tt, (tt, (λ h. refl, tt)))))
@@ -230,42 +230,42 @@ module _ (p : Params) (m : ℕ) (s : State) (total a : ℕ) (stage : Stage) (f :
     q = Columns.put_out_text p (f.body ++ made (skip filling_glue) ∷ []) w0
 
     abbrev n : List Leaf → Work
-    n notes = Clear.clear_by p f.body w0 (Some notes)
+    n head notes = Clear.clear_by p f.body w0 (head ∷ notes)
 
-    with-notes : (notes : List Leaf) → footnotes w0.state ≡ Some notes → Result (Clear.clear_by p f.body w0 (Some notes))
-    with-notes notes e r = by_columns s.two_columns s.first_column refl refl
+    with-notes : (head : Notes) (notes : List Notes) → footnotes w0.state ≡ head ∷ notes → Result (Clear.clear_by p f.body w0 (head ∷ notes))
+    with-notes head notes e r = by_columns s.two_columns s.first_column refl refl
       where
-        region : (bs : List PlainNode) → AllByRecursion Idle (sorts bs) → Again (suc d) (sorts (n notes).put_back ++ (sorts bs ++ sorts f.rest))
+        region : (bs : List PlainNode) → AllByRecursion Idle (sorts bs) → Again (suc d) (sorts (n head notes).put_back ++ (sorts bs ++ sorts f.rest))
         region = n-region p big s total a any (phase_of stage) f calm tt at floats big-weight big-bound well special clears
 
-        fits : FloatsFit p (n notes).state
-        fits = n-fits p big s total a any (phase_of stage) f calm tt at floats big-weight big-bound well special clears notes
+        fits : FloatsFit p (n head notes).state
+        fits = n-fits p big s total a any (phase_of stage) f calm tt at floats big-weight big-bound well special clears head notes
 
-        spaced : Spaced true (after p m f well.held (n notes)).waiting
-        spaced = spaced-true false (after p m f well.held (n notes)).waiting (spaced-back p m f well.held (n notes) (subst (λ (ns : List PlainNode). Spaced false (ns ++ Clear.clear_again)) (sym (q-out p big s total a any (phase_of stage) f calm tt at floats big-weight big-bound well special clears).back) (again-spaced false)) f-spaced)
+        spaced : Spaced true (after p m f well.held (n head notes)).waiting
+        spaced = spaced-true false (after p m f well.held (n head notes)).waiting (spaced-back p m f well.held (n head notes) (subst (λ (ns : List PlainNode). Spaced false (ns ++ Clear.clear_again)) (sym (q-out p big s total a any (phase_of stage) f calm tt at floats big-weight big-bound well special clears).back) (again-spaced false)) f-spaced)
 
-        paid : wait_cost (n notes).put_back + wait_cost f.rest + 2 * way_floats (n notes).state.floats + 3 * a ≤ total + 2 * way_floats s.floats + 3 * suc d
-        paid = sums (wait_cost (n notes).put_back) (wait_cost f.rest) (way_floats (n notes).state.floats) (way_floats s.floats) (n-cost p big s total a any (phase_of stage) f calm tt at floats big-weight big-bound well special clears) f-cost (q-least p big s total a any (phase_of stage) f calm tt at floats big-weight big-bound well special clears) most
+        paid : wait_cost (n head notes).put_back + wait_cost f.rest + 2 * way_floats (n head notes).state.floats + 3 * a ≤ total + 2 * way_floats s.floats + 3 * suc d
+        paid = sums (wait_cost (n head notes).put_back) (wait_cost f.rest) (way_floats (n head notes).state.floats) (way_floats s.floats) (n-cost p big s total a any (phase_of stage) f calm tt at floats big-weight big-bound well special clears) f-cost (q-least p big s total a any (phase_of stage) f calm tt at floats big-weight big-bound well special clears) most
           where
             sums : (b r y y' : ℕ) → b ≡ 3 → r + 3 ≤ total → y ≤ y' → a ≤ d + 1 → b + r + 2 * y + 3 * a ≤ total + 2 * y' + 3 * suc d
             sums b r y y' h i j k = omega arith
 
-        shipped : (s.two_columns ≡ false) ⊎ (s.first_column ≡ false) → BoundedHigh p m (after p m f well.held (n notes))
-        shipped l = out-by (n notes) (suc d) region fits spaced paid (last-ships (Fits p) p (text_column p w0.state.floats (f.body ++ made (skip filling_glue) ∷ []) (footnotes w0.state)) (Columns.without_column_floats w0) l r)
+        shipped : (s.two_columns ≡ false) ⊎ (s.first_column ≡ false) → BoundedHigh p m (after p m f well.held (n head notes))
+        shipped l = out-by (n head notes) (suc d) region fits spaced paid (last-ships (Fits p) p (text_column p w0.state.floats (f.body ++ made (skip filling_glue) ∷ []) (footnotes w0.state)) (Columns.without_column_floats w0) l r)
 
-        kept : s.two_columns ≡ true → s.first_column ≡ true → BoundedHigh p m (after p m f well.held (n notes))
+        kept : s.two_columns ≡ true → s.first_column ≡ true → BoundedHigh p m (after p m f well.held (n head notes))
         kept t c =
             let k : IsKept (Fits p) p (Columns.without_column_floats w0) q = first-kept (Fits p) p (text_column p w0.state.floats (f.body ++ made (skip filling_glue) ∷ []) (footnotes w0.state)) (Columns.without_column_floats w0) t c in
-            kept-by (n notes) (suc d) region fits spaced paid t c (q-out p big s total a any (phase_of stage) f calm tt at floats big-weight big-bound well special clears).columns k.first k.cycles
+            kept-by (n head notes) (suc d) region fits spaced paid t c (q-out p big s total a any (phase_of stage) f calm tt at floats big-weight big-bound well special clears).columns k.first k.cycles
 
-        by_columns : (t c : Bool) → s.two_columns ≡ t → s.first_column ≡ c → BoundedHigh p m (after p m f well.held (n notes))
+        by_columns : (t c : Bool) → s.two_columns ≡ t → s.first_column ≡ c → BoundedHigh p m (after p m f well.held (n head notes))
         by_columns false c i j = shipped (inl i)
         by_columns true true i j = kept i j
         by_columns true false i j = shipped (inr j)
 
     -- without footnotes
 
-    module _ (void : footnotes (record s { boxes = f.boxes }) ≡ None) where
+    module _ (void : footnotes (record s { boxes = f.boxes }) ≡ []) where
       abbrev v : Work
       v = Clear.clear_floats p f.body w0
 
@@ -399,9 +399,9 @@ module _ (p : Params) (m : ℕ) (s : State) (total a : ℕ) (stage : Stage) (f :
     at-clear : Result (Clear.clear p f.body w0)
     at-clear = by_notes (footnotes (record s { boxes = f.boxes })) refl
       where
-        by_notes : (x : Option (List Leaf)) → footnotes (record s { boxes = f.boxes }) ≡ x → Result (Clear.clear_by p f.body w0 x)
-        by_notes None e r = at-void e r
-        by_notes (Some notes) e r = with-notes notes e r
+        by_notes : (x : List Notes) → footnotes (record s { boxes = f.boxes }) ≡ x → Result (Clear.clear_by p f.body w0 x)
+        by_notes [] e r = at-void e r
+        by_notes (head ∷ notes) e r = with-notes head notes e r
 
   -- ---- every firing
 

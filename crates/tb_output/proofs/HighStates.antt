@@ -4,12 +4,11 @@ use Rattle.std.specs.List.{AllByRecursion}
 use Rattle.tb_node.specs.Plain.{PlainNode}
 use Rattle.tb_param.specs.declared.Params.{Params}
 use Rattle.tb_builder.specs.Fired.{Fired}
-use Rattle.tb_builder.proofs.CutLemmas.{AllIns}
 use Rattle.tb_builder.proofs.PausedPages.{Paused}
 use Rattle.tb_output.specs.State.{State, Work}
 use Rattle.tb_output.proofs.Sorts.{sorts}
 use Rattle.tb_output.proofs.AgainLemmas.{Again, Idle}
-use Rattle.tb_output.proofs.WaitCosts.{wait_cost, cost-append, ins-free}
+use Rattle.tb_output.proofs.WaitCosts.{wait_cost, cost-append, ins-free, AllInserted}
 use Rattle.tb_output.proofs.SpacedLemmas.{Spaced, spaced-both, free-spaced, free-alone}
 use Rattle.tb_output.proofs.ServeOutcomes.{way_floats}
 use Rattle.tb_output.proofs.CycleStates.{IsSecond, Phase, starting, second, ending, PhaseHolds, FloatsFit}
@@ -70,7 +69,7 @@ pub record BoundedHigh (p : Params) (m : ℕ) (s : State) : Type 0 where
   pub weight : wait_cost s.waiting + 2 * way_floats s.floats ≤ m + 3 * again
   pub bound : s.dead_cycles + wait_cost s.waiting + 2 * way_floats s.floats + stage_cost stage ≤ m + 3 + 3 * again
 
-module _ (p : Params) (m : ℕ) (f : Fired) (held : AllIns 254 f.held) (w : Work) where
+module _ (p : Params) (m : ℕ) (f : Fired) (held : AllInserted f.held) (w : Work) where
   -- what is put back without a clear, and what is put back with clears
   pub spaced-free : (b : Bool) → wait_cost w.put_back ≡ 0 → Spaced b f.rest → Spaced b (after p m f held w).waiting
   spaced-free b e s =

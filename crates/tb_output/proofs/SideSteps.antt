@@ -139,7 +139,7 @@ module _ (p : Params) where
   float_columns-sides clearing zero w h = h
   float_columns-sides clearing (suc n) w h = columns_by-sides clearing (λ w'. Columns.float_columns p clearing n w') (λ w' k. float_columns-sides clearing n w' k) w (company (Columns.single_wanted p w.state.floats clearing) w.state.floats.deferred) refl h
 
-  text_out-sides : (body : List PlainNode) (w : Work) → S w → S (Columns.put_out_text p body w)
+  pub text_out-sides : (body : List PlainNode) (w : Work) → S w → S (Columns.put_out_text p body w)
   text_out-sides body w h = put_out-sides (text_column p w.state.floats body (footnotes w.state)) (Columns.without_column_floats w) (text-sides (wide_part p) w.state.floats h)
 
   pub ordinary-sides : (body : List PlainNode) (w : Work) → S w → S (Columns.ordinary p body w)
