@@ -1,5 +1,5 @@
 -- What the acts of a page do to the floats: each that is taken costs what it was to cost, and a change of columns comes where no float is left.
-use Rattle.std.proofs.Common.{◌≡◌, refl, sym, ◌∙◌, subst, ℕ, zero, suc, ℤ, pos, ◌+◌, ◌*◌, ◌≤◌, inl, inr, ◌⊎◌, Bool, true, false, List, [], ◌∷◌, ◌++◌, arith}
+use Rattle.std.proofs.Common.{◌≡◌, refl, sym, ◌∙◌, subst, ℕ, zero, suc, ℤ, pos, ◌+◌, ◌*◌, ◌≤◌, inl, inr, ◌⊎◌, Bool, true, false, List, [], ◌∷◌, ◌++◌, length, arith}
 use Rattle.std.specs.Prelude.{int_le, int_lt, ◌&&◌, if◌then◌else◌}
 use Rattle.std.specs.List.{AllByRecursion}
 use Rattle.std.proofs.lemmas.Int.{ints}
@@ -13,7 +13,10 @@ use Rattle.tb_node.specs.Plain.{hbox, rule, skip, kerned, pen, mark, note, whats
 use Rattle.tb_param.specs.declared.Params.{Params}
 use Rattle.tb_float.specs.declared.Entry.{Entry}
 use Rattle.tb_float.specs.declared.Entry.TheVariants as entries
-use Rattle.tb_float.specs.Lists.{live_count}
+use Rattle.tb_param.specs.Release.{has_second}
+use Rattle.tb_float.specs.declared.Part.{Part}
+use Rattle.tb_float.specs.declared.Part.TheVariants as parts
+use Rattle.tb_float.specs.Lists.{FloatLists, live_count, wide_part}
 use Rattle.tb_column.specs.declared.Warn.{Warn}
 use Rattle.tb_output.specs.State.{State, Recorded}
 use Rattle.tb_output.specs.Act.{Acted, went, full, act_on, taken_float}
@@ -21,10 +24,21 @@ use Rattle.tb_output.proofs.Sorts.{Sort, light, blank, real, silent, pause, hold
 use Rattle.tb_output.proofs.AgainLemmas.{Again}
 use Rattle.tb_output.proofs.WaitCosts.{sort_cost, kind_cost, wait_cost, act_cost}
 use Rattle.tb_output.proofs.FollowLemmas.{waiting_floats}
-use Rattle.tb_output.proofs.ClearOutcomes.{NoneWait, Fits, Single}
+use Rattle.tb_output.proofs.ClearOutcomes.{NoneWait, Fits, Single, Wide}
+use Rattle.tb_output.proofs.SideLemmas.{Sides}
 use Rattle.tb_output.proofs.ServeOutcomes.{current_floats, AllCurrent, way_floats}
 use Rattle.tb_output.proofs.CycleStates.{IsSecond, FloatsFit}
 use Rattle.tb_output.proofs.CycleFirings.{none-left}
+
+-- the entries of the current list change
+current-sides : (from : Part) (es : List Entry) (l : FloatLists) → Sides from l → Sides from (record l { current = es })
+current-sides parts.Current es l h = tt
+current-sides parts.Here es l h = tt
+current-sides parts.Top es l h = tt
+current-sides parts.Bottom es l h = tt
+current-sides parts.Double es l h = tt
+current-sides parts.Deferred es l h = h
+current-sides parts.Second es l h = (record { top = h.0.top; bottom = h.0.bottom; deferred = h.0.deferred }, h.1)
 
 -- ---- an act
 
@@ -114,24 +128,83 @@ by_room p n s true line live t ws rs h = tt
 by_room p n s false line live t ws rs h = h
 
 pub act-acts : (p : Params) (s : State) (a : Act) → EmptyAt s a → ActActs p (act_cost a) s (act_on p s a)
-act-acts p s (acts.Take f) h =
-    let es = entries.Float (taken_float p s f) ∷ [] in
-    let k : current_floats (s.floats.current ++ entries.Float (taken_float p s f) ∷ []) ≡ current_floats s.floats.current + 1 = current-append s.floats.current es in
-    by_room p 2 s (int_le p.pool (pos (live_count s.floats))) _ _ _ _ _ (record {
-      waiting = refl;
-      held = refl;
-      boxes = refl;
-      cycles = refl;
-      goal = refl;
-      floats = λ x. record {
-        fit = record { top = x.fit.top; bottom = x.fit.bottom; deferred = x.fit.deferred; double = x.fit.double };
-        current = all-append (Fits p) s.floats.current es x.current (low f.height p.textheight, tt);
-        single = λ t. let y = x.single t in (record { top = y.0.top; bottom = y.0.bottom; deferred = y.0.deferred; double = y.0.double }, all-append Single s.floats.current es y.1 (and-false f.wide s.two_columns t, tt));
-        double = record { wide = x.double.wide; none = x.double.none };
-      };
-      way = omega arith;
-      second = λ x. inl (record { columns = x.columns; first = x.first });
-    })
+act-acts p s (acts.Take f) h = by_room p 2 s (int_le p.pool (pos (live_count s.floats))) _ _ _ _ _ (taken (has_second p && t.wide) refl)
+  where
+    t : Float
+    t = taken_float p s f
+
+    es : List Entry
+    es = entries.Float (taken_float p s f) ∷ []
+
+    waits-long : (fs : List Float) → length (fs ++ taken_float p s f ∷ []) ≡ length fs + 1
+    waits-long [] = refl
+    waits-long (g ∷ fs) = let h : length (fs ++ taken_float p s f ∷ []) ≡ length fs + 1 = waits-long fs in omega arith
+
+    one-more : (P : Float → Type 0) (fs : List Float) → AllByRecursion P fs → P (taken_float p s f) → AllByRecursion P (fs ++ taken_float p s f ∷ [])
+    one-more P [] h k = (k, tt)
+    one-more P (g ∷ fs) h k = (h.0, one-more P fs h.1 k)
+
+    not-wide : (a b : Bool) → (a && b) ≡ false → a ≡ true → b ≡ false
+    not-wide a b h k = grind (arith, h, k)
+
+    is-wide : (a b : Bool) → (a && b) ≡ true → b ≡ true
+    is-wide a b h = grind (arith, h)
+
+    has-both : (a b : Bool) → (a && b) ≡ true → a ≡ false → ⊥
+    has-both a b h k = let no : true ≡ false = sym h ∙ and-first a b k in cc
+      where
+        and-first : (a b : Bool) → a ≡ false → (a && b) ≡ false
+        and-first a b h = grind (arith, h)
+
+    never-wide : (a : Bool) → a ≡ true → a ≡ false → ⊥
+    never-wide a h k = let no : true ≡ false = sym h ∙ k in cc
+
+    second-sides : (has_second p && t.wide) ≡ true → Sides (wide_part p) s.floats → Sides (wide_part p) (record s.floats { second = s.floats.second ++ t ∷ [] })
+    second-sides e x = by_release (has_second p) refl x
+      where
+        by_release : (u : Bool) → has_second p ≡ u → Sides (if u then parts.Second else parts.Deferred) s.floats → Sides (if u then parts.Second else parts.Deferred) (record s.floats { second = s.floats.second ++ t ∷ [] })
+        by_release true r x = (record { top = x.0.top; bottom = x.0.bottom; deferred = x.0.deferred }, one-more Wide s.floats.second x.1 (is-wide (has_second p) t.wide e))
+        by_release false r x = absurd (has-both (has_second p) t.wide e r)
+
+    taken : (u : Bool) → (has_second p && t.wide) ≡ u → Acts p 2 s (record s { floats = if u then record s.floats { second = s.floats.second ++ t ∷ [] } else record s.floats { current = s.floats.current ++ entries.Float t ∷ [] } })
+    taken false e =
+        let k : current_floats (s.floats.current ++ entries.Float (taken_float p s f) ∷ []) ≡ current_floats s.floats.current + 1 = current-append s.floats.current es in
+        record {
+          waiting = refl;
+          held = refl;
+          boxes = refl;
+          cycles = refl;
+          goal = refl;
+          floats = λ x. record {
+            fit = record { top = x.fit.top; bottom = x.fit.bottom; deferred = x.fit.deferred; double = x.fit.double; second = x.fit.second };
+            current = all-append (Fits p) s.floats.current es x.current (low f.height p.textheight, tt);
+            single = λ c. let y = x.single c in (record { top = y.0.top; bottom = y.0.bottom; deferred = y.0.deferred; double = y.0.double; second = y.0.second }, all-append Single s.floats.current es y.1 (and-false f.wide s.two_columns c, tt));
+            double = record { wide = x.double.wide; none = x.double.none };
+            sides = current-sides (wide_part p) (s.floats.current ++ es) s.floats x.sides;
+            narrow = λ r. all-append Single s.floats.current es (x.narrow r) (not-wide (has_second p) t.wide e r, tt);
+          };
+          way = omega arith;
+          second = λ x. inl (record { columns = x.columns; first = x.first });
+        }
+    taken true e =
+        let k : length (s.floats.second ++ taken_float p s f ∷ []) ≡ length s.floats.second + 1 = waits-long s.floats.second in
+        record {
+          waiting = refl;
+          held = refl;
+          boxes = refl;
+          cycles = refl;
+          goal = refl;
+          floats = λ x. record {
+            fit = record { top = x.fit.top; bottom = x.fit.bottom; deferred = x.fit.deferred; double = x.fit.double; second = one-more (Fits p) s.floats.second x.fit.second (low f.height p.textheight) };
+            current = x.current;
+            single = λ c. absurd (never-wide t.wide (is-wide (has_second p) t.wide e) (and-false f.wide s.two_columns c));
+            double = record { wide = x.double.wide; none = x.double.none };
+            sides = second-sides e x.sides;
+            narrow = x.narrow;
+          };
+          way = omega arith;
+          second = λ x. inl (record { columns = x.columns; first = x.first });
+        }
 act-acts p s (acts.TakeMargin m) h =
     let es = entries.Left m ∷ entries.Right m ∷ [] in
     let k : current_floats (s.floats.current ++ entries.Left m ∷ entries.Right m ∷ []) ≡ current_floats s.floats.current + 0 = current-append s.floats.current es in
@@ -142,9 +215,11 @@ act-acts p s (acts.TakeMargin m) h =
       cycles = refl;
       goal = refl;
       floats = λ x. record {
-        fit = record { top = x.fit.top; bottom = x.fit.bottom; deferred = x.fit.deferred; double = x.fit.double };
+        fit = record { top = x.fit.top; bottom = x.fit.bottom; deferred = x.fit.deferred; double = x.fit.double; second = x.fit.second };
         current = all-append (Fits p) s.floats.current es x.current tt;
-        single = λ t. let y = x.single t in (record { top = y.0.top; bottom = y.0.bottom; deferred = y.0.deferred; double = y.0.double }, all-append Single s.floats.current es y.1 tt);
+        sides = current-sides (wide_part p) (s.floats.current ++ es) s.floats x.sides;
+        narrow = λ r. all-append Single s.floats.current es (x.narrow r) tt;
+        single = λ t. let y = x.single t in (record { top = y.0.top; bottom = y.0.bottom; deferred = y.0.deferred; double = y.0.double; second = y.0.second }, all-append Single s.floats.current es y.1 tt);
         double = record { wide = x.double.wide; none = x.double.none };
       };
       way = omega arith;
@@ -156,7 +231,7 @@ act-acts p s (acts.Suppress area) h = record {
   boxes = refl;
   cycles = refl;
   goal = refl;
-  floats = λ x. record { fit = x.fit; current = x.current; single = x.single; double = record { wide = x.double.wide; none = x.double.none } };
+  floats = λ x. record { fit = x.fit; current = x.current; single = x.single; double = record { wide = x.double.wide; none = x.double.none }; sides = x.sides; narrow = x.narrow };
   way = omega arith;
   second = λ x. inl (record { columns = x.columns; first = x.first });
 }
@@ -171,8 +246,10 @@ act-acts p s (acts.Columns two) h =
       floats = λ x. record {
         fit = x.fit;
         current = x.current;
-        single = λ t. (record { top = subst (AllByRecursion Single) (sym none.top) tt; bottom = subst (AllByRecursion Single) (sym none.bottom) tt; deferred = subst (AllByRecursion Single) (sym none.deferred) tt; double = subst (AllByRecursion Single) (sym none.double) tt }, none-current Single s.floats.current (currents (waiting_floats s.floats) (current_floats s.floats.current) h));
+        single = λ t. (record { top = subst (AllByRecursion Single) (sym none.top) tt; bottom = subst (AllByRecursion Single) (sym none.bottom) tt; deferred = subst (AllByRecursion Single) (sym none.deferred) tt; double = subst (AllByRecursion Single) (sym none.double) tt; second = subst (AllByRecursion Single) (sym none.second) tt }, none-current Single s.floats.current (currents (waiting_floats s.floats) (current_floats s.floats.current) h));
         double = record { wide = x.double.wide; none = λ t. none.double };
+        sides = x.sides;
+        narrow = x.narrow;
       };
       way = omega arith;
       second = λ x. inr (omega arith);

@@ -229,7 +229,7 @@ module _ (p : Params) (m : ℕ) (s : State) (total a : ℕ) (stage : Stage) (f :
     abbrev q : Work
     q = Columns.put_out_text p (f.body ++ made (skip filling_glue) ∷ []) w0
 
-    abbrev n : List Leaf → Work
+    abbrev n : Notes → List Notes → Work
     n head notes = Clear.clear_by p f.body w0 (head ∷ notes)
 
     with-notes : (head : Notes) (notes : List Notes) → footnotes w0.state ≡ head ∷ notes → Result (Clear.clear_by p f.body w0 (head ∷ notes))
