@@ -8,11 +8,11 @@ use Rattle.std.proofs.Math.Seq.{take-length, drop-length}
 use Rattle.tb_scaled.specs.Scaled.{eject_penalty, inf_penalty, max_ℤ}
 use Rattle.tb_node.specs.declared.What.{What}
 use Rattle.tb_node.specs.Plain.{hbox, rule, skip, kerned, pen, mark, note, whatsit, PlainKind, plain, ins, act, PlainNode, node_shape}
-use Rattle.tb_node.specs.Sums.{size_of}
+use Rattle.tb_node.specs.Sums.{size_of, stretches, list_shrink}
 use Rattle.tb_break.specs.Prune.{pruned_nodes, top_glue}
 use Rattle.tb_break.specs.Best.{Breakpoint}
 use Rattle.tb_insert.specs.Terms.{bare_terms}
-use Rattle.tb_insert.specs.Account.{ClassBox, Frozen, Labelled, labelled, labelled_from, terms_after, terms_of_labels}
+use Rattle.tb_insert.specs.Account.{ClassBox, class_charge, met_classes, skip_shapes, Frozen, Labelled, labelled, labelled_from, terms_after, terms_of_labels}
 use Rattle.tb_builder.specs.Reached.{Reach, reach_from, breakpoints}
 use Rattle.tb_builder.specs.Fired.{Boxed, Fired, page_break, from_break, fired_by, box_after, no_place, penalty_at, with_spent_break, held_insertions}
 use Rattle.tb_builder.proofs.FittingPages.{Slim, AllSlim, slim-both, size-both, best-last, BreaksAt, breaks-at}
@@ -102,15 +102,19 @@ none-labelled_from z ls before (n ∷ ns) s = label-kind z ls before n ns s.0 (�
 pub slim-unlabelled : (z : Frozen) (ns : List PlainNode) → AllSlim ns → labelled z ns ≡ []
 slim-unlabelled z ns s = none-labelled_from z [] [] ns s
 
--- with one class, a page without insertions has bare terms
-bare-labels : (goal limit : ℤ) (c : ClassBox) → terms_of_labels (record { goal = goal; limit = limit; classes = c ∷ [] }) [] ≡ bare_terms goal
-bare-labels goal limit c = same (goal -ℤ pos 0 -ℤ pos 0) (grind (arith, ints))
+-- a page without insertions meets no class, so it has bare terms
+none-met : (cs : List ClassBox) → met_classes cs [] ≡ []
+none-met [] = refl
+none-met (c ∷ cs) = none-met cs
+
+bare-labels : (goal limit : ℤ) (cs : List ClassBox) → terms_of_labels (record { goal = goal; limit = limit; classes = cs }) [] ≡ bare_terms goal
+bare-labels goal limit cs = ap (λ m. record { goal = goal -ℤ class_charge m -ℤ pos 0; penalties = pos 0; stretch = stretches (skip_shapes m); shrink = list_shrink (skip_shapes m) }) (none-met cs) ∙ same (goal -ℤ pos 0 -ℤ pos 0) (grind (arith, ints))
   where
     same : (g : ℤ) → g ≡ goal → bare_terms g ≡ bare_terms goal
     same g e = ap bare_terms e
 
-pub bare-page : (goal limit : ℤ) (c : ClassBox) (ns : List PlainNode) → AllSlim ns → terms_after (record { goal = goal; limit = limit; classes = c ∷ [] }) ns ≡ bare_terms goal
-bare-page goal limit c ns s = ap (terms_of_labels (record { goal = goal; limit = limit; classes = c ∷ [] })) (slim-unlabelled (record { goal = goal; limit = limit; classes = c ∷ [] }) ns s) ∙ bare-labels goal limit c
+pub bare-page : (goal limit : ℤ) (cs : List ClassBox) (ns : List PlainNode) → AllSlim ns → terms_after (record { goal = goal; limit = limit; classes = cs }) ns ≡ bare_terms goal
+bare-page goal limit cs ns s = ap (terms_of_labels (record { goal = goal; limit = limit; classes = cs })) (slim-unlabelled (record { goal = goal; limit = limit; classes = cs }) ns s) ∙ bare-labels goal limit cs
 
 -- ---- the page that fires
 
@@ -150,13 +154,13 @@ slim-fires z q page line tail bs w s h = record {
     none : labelled z (take (page_break w).place w.passed) ≡ []
     none = ap (labelled z) taken ∙ slim-unlabelled z page s
 
-module _ (goal limit t q : ℤ) (c : ClassBox) (deep : pos 0 ≤ℤ limit) (forced : int_le q eject_penalty ≡ true) (low : pos 0 ≤ℤ t) (room : t ≤ℤ goal) where
+module _ (goal limit t q : ℤ) (cs : List ClassBox) (deep : pos 0 ≤ℤ limit) (forced : int_le q eject_penalty ≡ true) (low : pos 0 ≤ℤ t) (room : t ≤ℤ goal) where
   abbrev frozen : Frozen
-  frozen = record { goal = goal; limit = limit; classes = c ∷ [] }
+  frozen = record { goal = goal; limit = limit; classes = cs }
 
   -- what waits fits up to the forced break, so the next page fires there
   pub fitted-fires : (ns tail : List PlainNode) → Fitted q tail ns → (bs : List Boxed) → FiresAt q tail bs (reach_from limit (terms_after frozen) [] (pruned_nodes t ns)) (fired_by (labelled frozen (take (page_break (reach_from limit (terms_after frozen) [] (pruned_nodes t ns))).place (reach_from limit (terms_after frozen) [] (pruned_nodes t ns)).passed)) bs (reach_from limit (terms_after frozen) [] (pruned_nodes t ns)))
-  fitted-fires ns tail h bs = slim-fires frozen q page h.line tail bs (reach_from limit (terms_after frozen) [] (pruned_nodes t ns)) slim (subst (λ (xs : List PlainNode). BreaksAt q page (break_at h.line q ∷ tail) (reach_from limit (terms_after frozen) [] xs)) (sym laid) (breaks-at limit goal deep (terms_after frozen) (λ xs s. bare-page goal limit c xs s) q forced [] page h.line tail tt slim size))
+  fitted-fires ns tail h bs = slim-fires frozen q page h.line tail bs (reach_from limit (terms_after frozen) [] (pruned_nodes t ns)) slim (subst (λ (xs : List PlainNode). BreaksAt q page (break_at h.line q ∷ tail) (reach_from limit (terms_after frozen) [] xs)) (sym laid) (breaks-at limit goal deep (terms_after frozen) (λ xs s. bare-page goal limit cs xs s) q forced [] page h.line tail tt slim size))
     where
       page : List PlainNode
       page = pruned_nodes t h.top ++ record { line = h.box_line; kind = plain (skip (top_glue t (pos 0))) } ∷ flat_box h.box_line h.what ∷ h.behind

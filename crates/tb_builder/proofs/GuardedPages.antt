@@ -309,10 +309,10 @@ module _ (t : ℤ) (b : ℕ) (c : What) (rest : List PlainNode) where
 
 -- ---- the page of one class
 
-module _ (goal limit t q : ℤ) (c : ClassBox) (deep : pos 0 ≤ℤ limit) (forced : int_le q eject_penalty ≡ true) (base : pos 0 ≤ℤ goal) (high : goal <ℤ t) where
+module _ (goal limit t q : ℤ) (cs : List ClassBox) (deep : pos 0 ≤ℤ limit) (forced : int_le q eject_penalty ≡ true) (base : pos 0 ≤ℤ goal) (high : goal <ℤ t) where
   abbrev frozen : Frozen
-  frozen = record { goal = goal; limit = limit; classes = c ∷ [] }
+  frozen = record { goal = goal; limit = limit; classes = cs }
 
   -- what waits breaks before its top glue, and not at the forced break
   pub high-breaks : (ns lasting : List PlainNode) (l b : ℕ) (w : What) (k : ℕ) (tail : List PlainNode) → AllLasting lasting → HasFirst lasting → pruned_nodes t ns ≡ lasting ++ record { line = l; kind = plain (skip (top_glue t (pos 0))) } ∷ flat_box b w ∷ break_at k q ∷ tail → (page_break (reach_from limit (terms_after frozen) [] (pruned_nodes t ns))).place ≡ length lasting
-  high-breaks ns lasting l b w k tail h f e = subst (λ (xs : List PlainNode). (page_break (reach_from limit (terms_after frozen) [] xs)).place ≡ length lasting) (sym e) (breaks-before limit goal deep (terms_after frozen) (λ xs s. bare-page goal limit c xs s) q forced t base high [] lasting l b w k tail tt h f)
+  high-breaks ns lasting l b w k tail h f e = subst (λ (xs : List PlainNode). (page_break (reach_from limit (terms_after frozen) [] xs)).place ≡ length lasting) (sym e) (breaks-before limit goal deep (terms_after frozen) (λ xs s. bare-page goal limit cs xs s) q forced t base high [] lasting l b w k tail tt h f)

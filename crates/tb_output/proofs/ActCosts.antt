@@ -54,6 +54,7 @@ pub record Acts (p : Params) (n : ℕ) (s t : State) : Type 0 where
   pub waiting : t.waiting ≡ s.waiting
   pub held : t.held_page ≡ s.held_page
   pub boxes : t.boxes ≡ s.boxes
+  pub classes : t.classes ≡ s.classes
   pub cycles : t.dead_cycles ≡ s.dead_cycles
   pub goal : t.goal ≡ s.goal
   pub floats : FloatsFit p s → FloatsFit p t
@@ -61,13 +62,14 @@ pub record Acts (p : Params) (n : ℕ) (s t : State) : Type 0 where
   pub second : IsSecond s → IsSecond t ⊎ (2 * way_floats t.floats + 1 ≤ 2 * way_floats s.floats + n)
 
 pub no-acts : (p : Params) (s : State) → Acts p 0 s s
-no-acts p s = record { waiting = refl; held = refl; boxes = refl; cycles = refl; goal = refl; floats = λ h. h; way = omega arith; second = λ h. inl h }
+no-acts p s = record { waiting = refl; held = refl; boxes = refl; classes = refl; cycles = refl; goal = refl; floats = λ h. h; way = omega arith; second = λ h. inl h }
 
 pub acts-then : (p : Params) (i j : ℕ) (s t u : State) → Acts p i s t → Acts p j t u → Acts p (i + j) s u
 acts-then p i j s t u x y = record {
   waiting = y.waiting ∙ x.waiting;
   held = y.held ∙ x.held;
   boxes = y.boxes ∙ x.boxes;
+  classes = y.classes ∙ x.classes;
   cycles = y.cycles ∙ x.cycles;
   goal = y.goal ∙ x.goal;
   floats = λ h. y.floats (x.floats h);
@@ -173,6 +175,7 @@ act-acts p s (acts.Take f) h = by_room p 2 s (int_le p.pool (pos (live_count s.f
           waiting = refl;
           held = refl;
           boxes = refl;
+          classes = refl;
           cycles = refl;
           goal = refl;
           floats = λ x. record {
@@ -192,6 +195,7 @@ act-acts p s (acts.Take f) h = by_room p 2 s (int_le p.pool (pos (live_count s.f
           waiting = refl;
           held = refl;
           boxes = refl;
+          classes = refl;
           cycles = refl;
           goal = refl;
           floats = λ x. record {
@@ -212,6 +216,7 @@ act-acts p s (acts.TakeMargin m) h =
       waiting = refl;
       held = refl;
       boxes = refl;
+      classes = refl;
       cycles = refl;
       goal = refl;
       floats = λ x. record {
@@ -229,6 +234,7 @@ act-acts p s (acts.Suppress area) h = record {
   waiting = refl;
   held = refl;
   boxes = refl;
+  classes = refl;
   cycles = refl;
   goal = refl;
   floats = λ x. record { fit = x.fit; current = x.current; single = x.single; double = record { wide = x.double.wide; none = x.double.none }; sides = x.sides; narrow = x.narrow };
@@ -241,6 +247,7 @@ act-acts p s (acts.Columns two) h =
       waiting = refl;
       held = refl;
       boxes = refl;
+      classes = refl;
       cycles = refl;
       goal = refl;
       floats = λ x. record {

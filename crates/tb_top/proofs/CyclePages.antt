@@ -9,22 +9,22 @@ use Rattle.tb_break.specs.Prune.{pruned_nodes}
 use Rattle.tb_param.specs.declared.Params.{Params}
 use Rattle.tb_insert.specs.Account.{terms_after, Frozen, labelled}
 use Rattle.tb_builder.specs.Reached.{Reach}
-use Rattle.tb_builder.specs.Fired.{Fired, page_break, fired_by, fired_of, frozen_for, penalty_at, with_spent_break, box_content, held_insertions}
+use Rattle.tb_builder.specs.Fired.{Fired, page_break, fired_by, fired_of, frozen_for, penalty_at, with_spent_break, held_insertions}
 use Rattle.tb_builder.proofs.PageWeights.{AllOfClass, labelled-class}
-use Rattle.tb_builder.proofs.CutLemmas.{acted_of, CutAt, reach-cut, cut-class, class-pruned, AllIns, held-ins}
-use Rattle.tb_builder.proofs.HeldLemmas.{none-labelled}
+use Rattle.tb_builder.proofs.CutLemmas.{acted_of, CutAt, reach-cut, cut-class, class-pruned, held-ins}
+use Rattle.tb_builder.proofs.HeldLemmas.{GivesNone, none-labelled}
 use Rattle.tb_builder.proofs.FittingFired.{Fitted, FiresAt, fitted-fires, break_at}
 use Rattle.tb_builder.proofs.PausedPages.{Paused, paused-ordinary}
-use Rattle.tb_output.specs.State.{State, foot_class, ask_of, footnotes, has_floats}
+use Rattle.tb_output.specs.State.{State, ask_of, notes_in, footnotes, has_floats}
 use Rattle.tb_output.specs.Text
 use Rattle.tb_output.specs.Clear
 use Rattle.tb_output.specs.Out
-use Rattle.tb_output.proofs.StateWeights.{OneBox}
+use Rattle.tb_output.proofs.StateWeights.{BoxesFit, class_numbers}
 use Rattle.tb_output.proofs.Sorts.{Sort, odd, pen_sort, sorts, sorts-calm, none, seen_all}
 use Rattle.tb_output.proofs.SortLemmas.{sorts-append, take-drop, BreakStands, PageStands, cut-stands, pruned-stands}
 use Rattle.tb_output.proofs.PlaceLemmas.{body-steady}
 use Rattle.tb_output.proofs.AgainLemmas.{Again, BreakAgain, again-pruned, again-behind, no-acts, acts-again, break-again}
-use Rattle.tb_output.proofs.WaitCosts.{sort_cost, wait_cost, acts_cost, cost-append, steady-free, page-cost}
+use Rattle.tb_output.proofs.WaitCosts.{AllInserted, all-inserted, sort_cost, wait_cost, acts_cost, cost-append, steady-free, page-cost}
 use Rattle.tb_output.proofs.EndedLemmas.{Ended, flat_last, ended-pruned, ended-acts, ended-behind, ended-spent}
 use Rattle.tb_output.proofs.ClearPages.{OneFlat, one-flat, clear-ended, FrontFits, front-fits}
 use Rattle.tb_output.proofs.CycleStates.{Kind, any, doubled, once, topped, ready, halted, clean, single, closed, Holds, Phase, starting, second, ending, PhaseHolds}
@@ -50,10 +50,10 @@ module _ (p : Params) (s : State) (kept : Kept s) (ended : Ended false s.waiting
   k = (page_break (page_of p s)).place
 
   pub cut : CutAt [] (pruned_nodes p.topskip s.waiting) w
-  cut = reach-cut (ask_of p s).max_depth (terms_after (frozen_for (ask_of p s) (foot_class p ∷ []) s.boxes)) [] (pruned_nodes p.topskip s.waiting)
+  cut = reach-cut (ask_of p s).max_depth (terms_after (frozen_for (ask_of p s) s.classes s.boxes)) [] (pruned_nodes p.topskip s.waiting)
 
-  feet : AllOfClass 254 (take k w.passed) × AllOfClass 254 (with_spent_break (drop k w.passed ++ w.beyond))
-  feet = cut-class 254 k (pruned_nodes p.topskip s.waiting) w cut (class-pruned 254 p.topskip s.waiting kept.placed.feet)
+  feet : AllOfClass (class_numbers s.classes) (take k w.passed) × AllOfClass (class_numbers s.classes) (with_spent_break (drop k w.passed ++ w.beyond))
+  feet = cut-class (class_numbers s.classes) k (pruned_nodes p.topskip s.waiting) w cut (class-pruned (class_numbers s.classes) p.topskip s.waiting kept.placed.feet)
 
   stands : PageStands kept.placed.held k w
   stands = cut-stands (pruned_nodes p.topskip s.waiting) w kept.placed.held k cut (pruned-stands p.topskip s.waiting kept.placed.held kept.placed.stands)
@@ -100,15 +100,15 @@ module _ (p : Params) (s : State) (kept : Kept s) (ended : Ended false s.waiting
 
   -- ---- the page that fires, in a state with the same boxes and held page
 
-  module _ (t : State) (same_boxes : t.boxes ≡ s.boxes) (same_held : t.held_page ≡ s.held_page) (z : Frozen) where
+  module _ (t : State) (same_classes : t.classes ≡ s.classes) (same_boxes : t.boxes ≡ s.boxes) (same_held : t.held_page ≡ s.held_page) (z : Frozen) where
     abbrev pub page : Fired
     page = fired_by (labelled z (take k w.passed)) t.boxes w
 
-    one_box : OneBox t.boxes
-    one_box = subst OneBox (sym same_boxes) kept.sound.box
+    fit : BoxesFit t.classes t.boxes
+    fit = subst (λ cs. BoxesFit cs t.boxes) (sym same_classes) (subst (BoxesFit s.classes) (sym same_boxes) kept.sound.box)
 
-    held : AllIns 254 page.held
-    held = held-ins 254 (labelled z (take k w.passed)) (labelled-class 254 z [] [] (take k w.passed) tt feet.0)
+    held : AllInserted page.held
+    held = all-inserted (class_numbers s.classes) page.held (held-ins (class_numbers s.classes) (labelled z (take k w.passed)) (labelled-class (class_numbers s.classes) z [] [] (take k w.passed) tt feet.0))
 
     regular : pen_sort page.penalty ≡ odd → ⊥
     regular e = subst (λ (x : Sort). BreakStands kept.placed.held (seen_all none (sorts (take k w.passed))) (with_spent_break (drop k w.passed ++ w.beyond)) x) e stands.rest
@@ -124,8 +124,8 @@ module _ (p : Params) (s : State) (kept : Kept s) (ended : Ended false s.waiting
         sums x y v a b c = omega arith
 
     -- a clear without footnotes has no insertions on its page, and its front is light
-    pub none-there : footnotes (record t { boxes = page.boxes }) ≡ None → labelled z (take k w.passed) ≡ []
-    none-there h = none-labelled 254 z (take k w.passed) (labelled-class 254 z [] [] (take k w.passed) tt feet.0) (void-given (labelled z (take k w.passed)) t.boxes one_box h)
+    pub none-there : footnotes (record t { boxes = page.boxes }) ≡ [] → labelled z (take k w.passed) ≡ []
+    none-there h = none-labelled (class_numbers s.classes) z (take k w.passed) (labelled-class (class_numbers s.classes) z [] [] (take k w.passed) tt feet.0) (subst (λ cs. GivesNone (class_numbers cs) (labelled z (take k w.passed))) same_classes (void-given (labelled z (take k w.passed)) t.classes t.boxes fit h))
 
     pub flat : Out.is_int page.penalty Out.clear_penalty ≡ true → OneFlat page.body
     flat h =
@@ -162,7 +162,7 @@ module _ (p : Params) (s : State) (kept : Kept s) (ended : Ended false s.waiting
 
   module _ (low : pos 0 ≤ℤ p.topskip) (room : p.topskip ≤ℤ p.textheight) (deep : pos 0 ≤ℤ p.maxdepth) where
     abbrev fired : Fired
-    fired = fired_of (ask_of p s) (foot_class p ∷ []) s.boxes w
+    fired = fired_of (ask_of p s) s.classes s.boxes w
 
     fits : (q : ℤ) (tail : List PlainNode) → int_le q eject_penalty ≡ true → s.goal ≡ p.textheight → Fitted q tail s.waiting → FiresAt q tail s.boxes w fired
     fits q tail f g h = fitted-fires s.goal (ask_of p s).max_depth p.topskip q _ (limit-deep deep) f low (subst (λ (x : ℤ). p.topskip ≤ℤ x) (sym g) room) s.waiting tail h s.boxes
@@ -176,27 +176,27 @@ module _ (p : Params) (s : State) (kept : Kept s) (ended : Ended false s.waiting
         let x = fits eject_penalty (made whatsit ∷ made blank_box ∷ made (pen Out.clear_penalty) ∷ i.2.rest) refl i.2.goal i.2.fit in
         (paused-ends i.1, x.held, (i.2.rest, subst (Fitted Out.clear_penalty i.2.rest) (sym x.rest) (behind-blank x.line i.2.rest)))
 
-    known-ready : Holds p s 0 ready → (Out.is_int fired.penalty Out.clear_penalty ≡ true) × (footnotes (record s { boxes = fired.boxes }) ≡ None)
+    known-ready : Holds p s 0 ready → (Out.is_int fired.penalty Out.clear_penalty ≡ true) × (footnotes (record s { boxes = fired.boxes }) ≡ [])
     known-ready i =
         let x = fits Out.clear_penalty i.1.rest refl i.1.goal i.1.fit in
-        (ap (λ q. Out.is_int q Out.clear_penalty) x.penalty, ap (λ bs. box_content bs 254) x.boxes ∙ i.1.void)
+        (ap (λ q. Out.is_int q Out.clear_penalty) x.penalty, ap (λ bs. notes_in s.classes bs) x.boxes ∙ i.1.void)
 
     pub open-well : (a : ℕ) (kind : Kind) (phase : Phase) → Again a (sorts s.waiting) → Holds p s a kind → PhaseHolds s phase → FiresWell p s (wait_cost fired.rest + sort_cost (pen_sort fired.penalty)) a kind phase fired
     open-well a kind phase r holds at = record {
       region = rest-again a r;
       cost = omega arith;
-      held = held s refl refl z;
-      regular = regular s refl refl z;
-      body = body s refl refl z;
+      held = held s refl refl refl z;
+      regular = regular s refl refl refl z;
+      body = body s refl refl refl z;
       ending = phase-ends phase at;
       halted = by_halted kind holds;
       once = by_once kind holds;
       ready = by_ready kind holds;
-      blank = λ h i. let x = front s refl refl z h in (ap held_insertions (none-there s refl refl z i), x.fits, x.idle, x.cost);
+      blank = λ h i. let x = front s refl refl refl z h in (ap held_insertions (none-there s refl refl refl z i), x.fits, x.idle, x.cost);
     }
       where
         z : Frozen
-        z = frozen_for (ask_of p s) (foot_class p ∷ []) s.boxes
+        z = frozen_for (ask_of p s) s.classes s.boxes
 
         by_halted : (x : Kind) → Holds p s a x → x ≡ halted → int_le eject_penalty fired.penalty ≡ true
         by_halted any h e = cc
@@ -220,7 +220,7 @@ module _ (p : Params) (s : State) (kept : Kept s) (ended : Ended false s.waiting
         by_once single h e = cc
         by_once closed h e = cc
 
-        by_ready : (x : Kind) → Holds p s a x → x ≡ ready → (Out.is_int fired.penalty Out.clear_penalty ≡ true) × (footnotes (record s { boxes = fired.boxes }) ≡ None)
+        by_ready : (x : Kind) → Holds p s a x → x ≡ ready → (Out.is_int fired.penalty Out.clear_penalty ≡ true) × (footnotes (record s { boxes = fired.boxes }) ≡ [])
         by_ready any h e = cc
         by_ready doubled h e = cc
         by_ready once h e = cc

@@ -12,7 +12,7 @@ use Rattle.tb_builder.specs.Reached.{Reached, acted, tried}
 use Rattle.tb_builder.specs.Fired.{Fired, fired_of}
 use Rattle.tb_builder.proofs.CutLemmas.{acted_of}
 use Rattle.tb_column.specs.Column.{PlainColumn}
-use Rattle.tb_output.specs.State.{State, emptied, foot_class, ask_of, Work}
+use Rattle.tb_output.specs.State.{State, emptied, ask_of, Work}
 use Rattle.tb_output.specs.Act.{Acted, went, full, act_on}
 use Rattle.tb_output.specs.Out.{out}
 use Rattle.tb_output.proofs.StateWeights.{left_weight}
@@ -110,7 +110,7 @@ fits-nothing o (a ∷ ds) = (by_act a, fits-nothing o ds)
 
 -- the page of a state, fired in the state after its acts
 abbrev pub page_fired : Params → State → State → Fired
-page_fired p s t = fired_of (ask_of p t) (foot_class p ∷ []) t.boxes (page_of p s)
+page_fired p s t = fired_of (ask_of p t) t.classes t.boxes (page_of p s)
 
 -- the firing after the acts of a page keeps this bound, and each clear behind its box
 abbrev pub Goes : Params → (State → Type 0) → Type 0
@@ -157,7 +157,7 @@ module _ (p : Params) (calm : int_le p.interlinepenalty eject_penalty ≡ false)
       q = progress p (page_of p s).reached awful_bad s
 
       o : Work
-      o = out p q.state (fired_of (ask_of p q.state) (foot_class p ∷ []) q.state.boxes (page_of p s))
+      o = out p q.state (fired_of (ask_of p q.state) q.state.classes q.state.boxes (page_of p s))
 
       by_nodes : q.fault ≡ None → o.refused ≡ false → (u : Bool) → StepBound (if u then ends (q.events ++ map sent o.sent) (q.records ++ o.records) (node_limit (held_count o.state)) else goes_on (q.events ++ map sent o.sent) (q.records ++ o.records) o.state)
       by_nodes f r true = tt

@@ -171,9 +171,9 @@ module _ (g : Galley) (calm : int_le g.params.interlinepenalty eject_penalty ≡
 
   start-floats : FloatsFit g.params first
   start-floats = record {
-    fit = record { top = tt; bottom = tt; deferred = tt; double = tt };
+    fit = record { top = tt; bottom = tt; deferred = tt; double = tt; second = tt };
     current = tt;
-    single = λ h. (record { top = tt; bottom = tt; deferred = tt; double = tt }, tt);
+    single = λ h. (record { top = tt; bottom = tt; deferred = tt; double = tt; second = tt }, tt);
     double = record { wide = tt; none = λ h. refl };
   }
 

@@ -6,7 +6,7 @@ use Rattle.tb_param.specs.declared.Params.{Params}
 use Rattle.tb_insert.specs.Account.{Frozen}
 use Rattle.tb_builder.specs.Fired.{Fired, frozen_for}
 use Rattle.tb_builder.proofs.CutLemmas.{acted_of}
-use Rattle.tb_output.specs.State.{State, foot_class, ask_of, footnotes}
+use Rattle.tb_output.specs.State.{State, ask_of, footnotes}
 use Rattle.tb_output.specs.Out
 use Rattle.tb_output.proofs.Sorts.{pen_sort, sorts}
 use Rattle.tb_output.proofs.AgainLemmas.{Again}
@@ -44,7 +44,7 @@ module _ (p : Params) (m : ℕ) (calm : int_le p.interlinepenalty eject_penalty 
     total x = wait_cost (page x).rest + sort_cost (pen_sort (page x).penalty)
 
     abbrev frozen : State → Frozen
-    frozen x = frozen_for (ask_of p x) (foot_class p ∷ []) x.boxes
+    frozen x = frozen_for (ask_of p x) x.classes x.boxes
 
     abbrev acts : ℕ
     acts = acts_cost (acted_of (page_of p s).reached)
@@ -54,7 +54,7 @@ module _ (p : Params) (m : ℕ) (calm : int_le p.interlinepenalty eject_penalty 
     closed-goes z x holds unguarded going bound r =
         let weight : total t + 2 * way_floats t.floats ≤ m + 3 * 0 = sums (total t) (way_floats t.floats) (way_floats s.floats) (wait_cost s.waiting) (acts_cost (acted_of (page_of p s).reached)) b.again (reached-cost p s kept ended) a.way b.weight z in
         let fires : FiresHigh p t (total t) 0 x (page t) = record {
-          well = any-well p s kept ended t a.boxes a.held (frozen_for (ask_of p t) (foot_class p ∷ []) t.boxes) 0 any (phase_of x) (λ i. cc) (λ i. cc) (λ i. cc) (λ i. absurd (no-end x going i)) tt;
+          well = any-well p s kept ended t a.classes a.boxes a.held (frozen_for (ask_of p t) t.classes t.boxes) 0 any (phase_of x) (λ i. cc) (λ i. cc) (λ i. cc) (λ i. absurd (no-end x going i)) tt;
           spaced = rest-spaced p s kept ended b.spaced;
           behind = λ c. behind-spaced p s kept ended b.spaced c;
           guard = λ i c v. unguarded i;
@@ -106,7 +106,7 @@ module _ (p : Params) (m : ℕ) (calm : int_le p.interlinepenalty eject_penalty 
         let weight : total s + 2 * way_floats s.floats ≤ m + 3 * b.again = sums (total s) (way_floats s.floats) (wait_cost s.waiting) (acts_cost (acted_of (page_of p s).reached)) b.again (reached-cost p s kept ended) b.weight in
         let bound : s.dead_cycles + total s + 2 * way_floats s.floats + stage_cost b.stage ≤ m + 3 + 3 * b.again = sums-with s.dead_cycles (total s) (way_floats s.floats) (wait_cost s.waiting) (acts_cost (acted_of (page_of p s).reached)) b.again (stage_cost b.stage) (reached-cost p s kept ended) b.bound in
         let fires : FiresHigh p s (total s) b.again b.stage (page s) = record {
-          well = phase-well p s kept ended s refl refl (frozen_for (ask_of p s) (foot_class p ∷ []) s.boxes) b.again (phase_of b.stage) (phase-holds p s b.again b.stage b.holds) b.region;
+          well = phase-well p s kept ended s refl refl refl (frozen_for (ask_of p s) s.classes s.boxes) b.again (phase_of b.stage) (phase-holds p s b.again b.stage b.holds) b.region;
           spaced = rest-spaced p s kept ended b.spaced;
           behind = λ c. behind-spaced p s kept ended b.spaced c;
           guard = by_guard b.stage b.holds;
@@ -119,9 +119,9 @@ module _ (p : Params) (m : ℕ) (calm : int_le p.interlinepenalty eject_penalty 
         sums-with : (d x y w n g q : ℕ) → x + n ≤ w → d + w + 2 * y + q ≤ m + 3 + 3 * g → d + x + 2 * y + q ≤ m + 3 + 3 * g
         sums-with d x y w n g q h i = omega arith
 
-        by_guard : (x : Stage) → StageHolds p s b.again x → x ≡ guarded → Out.is_int (page s).penalty Out.clear_penalty ≡ true → footnotes (record s { boxes = (page s).boxes }) ≡ None → ⊥
+        by_guard : (x : Stage) → StageHolds p s b.again x → x ≡ guarded → Out.is_int (page s).penalty Out.clear_penalty ≡ true → footnotes (record s { boxes = (page s).boxes }) ≡ [] → ⊥
         by_guard loose h i c v = cc
-        by_guard guarded h i c v = no-clear p s kept ended deep base high n (subst (λ (x : ℕ). Again x (sorts s.waiting)) e b.region) h.goal h.spaced (frozen_for (ask_of p s) (foot_class p ∷ []) s.boxes) c v
+        by_guard guarded h i c v = no-clear p s kept ended deep base high n (subst (λ (x : ℕ). Again x (sorts s.waiting)) e b.region) h.goal h.spaced (frozen_for (ask_of p s) s.classes s.boxes) c v
         by_guard cleared h i c v = cc
         by_guard right h i c v = cc
         by_guard last h i c v = cc

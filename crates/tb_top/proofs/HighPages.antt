@@ -107,7 +107,7 @@ module _ (p : Params) (s : State) (kept : Kept s) (ended : Ended false s.waiting
 
   -- a page whose first clear has a lasting node before it does not break there without footnotes
   module _ (deep : pos 0 ≤ℤ p.maxdepth) (base : pos 0 ≤ℤ p.textheight) (high : p.textheight <ℤ p.topskip) (n : ℕ) (again : Again (suc n) (sorts s.waiting)) (goal : s.goal ≡ p.textheight) (spaced : Spaced false s.waiting)
-      (z : Frozen) (clears : Out.is_int (page p s kept ended s refl refl z).penalty Out.clear_penalty ≡ true) (void : footnotes (record s { boxes = (page p s kept ended s refl refl z).boxes }) ≡ None) where
+      (z : Frozen) (clears : Out.is_int (page p s kept ended s refl refl refl z).penalty Out.clear_penalty ≡ true) (void : footnotes (record s { boxes = (page p s kept ended s refl refl refl z).boxes }) ≡ []) where
     abbrev r : Reach
     r = w p s kept ended
 
@@ -128,13 +128,13 @@ module _ (p : Params) (s : State) (kept : Kept s) (ended : Ended false s.waiting
         x.whole ∙ ap (λ ns. ns ++ r.beyond) (sym e ∙ sym x.passed) ∙ take-drop i r.passed r.beyond
 
     one : OneFlat (without_insertions before)
-    one = flat p s kept ended s refl refl z clears
+    one = flat p s kept ended s refl refl refl z clears
 
     at : AtClear behind
     at = at-clear behind clears
 
     body : before ≡ one.front ++ flat_box one.line what.Blank ∷ []
-    body = sym (insertless z [] [] before (none-there p s kept ended s refl refl z void)) ∙ one.whole
+    body = sym (insertless z [] [] before (none-there p s kept ended s refl refl refl z void)) ∙ one.whole
 
     whole : pruned_nodes p.topskip s.waiting ≡ one.front ++ flat_box one.line what.Blank ∷ break_at at.line Out.clear_penalty ∷ at.tail
     whole = laid ∙ ap (λ ns. before ++ ns) at.whole ∙ ap (λ ns. ns ++ break_at at.line Out.clear_penalty ∷ at.tail) body ∙ append_assoc one.front (flat_box one.line what.Blank ∷ []) (break_at at.line Out.clear_penalty ∷ at.tail)
