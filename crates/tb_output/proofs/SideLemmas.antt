@@ -9,7 +9,7 @@ use Rattle.tb_param.specs.declared.Params.{Params}
 use Rattle.tb_param.specs.Release.{has_second}
 use Rattle.tb_float.specs.declared.Part.{Part}
 use Rattle.tb_float.specs.declared.Part.TheVariants as parts
-use Rattle.tb_float.specs.Lists.{FloatLists, floats_of, with_floats_of, IsWaiting, wide_part, wide_waiting, with_wide_waiting}
+use Rattle.tb_float.specs.Lists.{FloatLists, no_floats, floats_of, with_floats_of, IsWaiting, wide_part, wide_waiting, with_wide_waiting}
 use Rattle.tb_float.proofs.WaitingLemmas.{wide-waits}
 use Rattle.tb_fpage.specs.declared.Wanted.{Wanted}
 use Rattle.tb_fpage.specs.Company.{Choice, company, left_floats}
@@ -64,6 +64,16 @@ narrow-lists p l h r = by_release (has_second p) r h
     by_release : (t : Bool) → t ≡ true → Sides (if t then parts.Second else parts.Deferred) l → Narrow l
     by_release true r h = h.0
     by_release false r h = let no : ⊥ = grind (arith, r) in absurd no
+
+-- where no float is, it holds
+pub no-sides : (from : Part) → Sides from no_floats
+no-sides parts.Current = tt
+no-sides parts.Here = tt
+no-sides parts.Top = tt
+no-sides parts.Bottom = tt
+no-sides parts.Deferred = refl
+no-sides parts.Double = tt
+no-sides parts.Second = (record { top = tt; bottom = tt; deferred = tt }, tt)
 
 -- ---- a float goes to a place
 

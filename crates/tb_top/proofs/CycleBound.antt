@@ -87,10 +87,10 @@ module _ (g : Galley) (valid : IsValid g) where
   abbrev m : ℕ
   m = most g (interline-calm g.params valid.params) (valid-items g valid)
 
-  stays : (s : State) → Kept s → Closing s → StepStays Closing (step g.params s)
+  stays : (s : State) → Kept s → Closing g.params s → StepStays (Closing g.params) (step g.params s)
   stays s c k = at (step g.params s) (step-closes g.params calm s c k)
     where
-      at : (x : Step) → StepCloses s x → StepStays Closing x
+      at : (x : Step) → StepCloses g.params s x → StepStays (Closing g.params) x
       at (goes_on es rs t) h = h.1
       at (ends es rs (done left)) h = tt
       at (ends es rs (pool_full line live)) h = tt
@@ -98,17 +98,17 @@ module _ (g : Galley) (valid : IsValid g) where
       at (ends es rs (page_limit n)) h = tt
       at (ends es rs (node_limit n)) h = tt
 
-  empties : (s : State) → Kept s → Closing s → ChangesEmpty g.params s (acted_of (page_of g.params s).reached)
+  empties : (s : State) → Kept s → Closing g.params s → ChangesEmpty g.params s (acted_of (page_of g.params s).reached)
   empties s c k = closing-changes g.params k.done s (acted_of (page_of g.params s).reached) (empty g.params calm s c k) (page_closes g.params calm s c k).acts_close
 
   low-bound : g.params.topskip ≤ℤ g.params.textheight → HasRoomForCycles g → IsNotCycles (run_of g).end
-  low-bound room = not-cycles g calm (valid-items g valid) (Bounded g.params m) (λ s b. more s.dead_cycles (low-few g.params m calm low room deep s b)) (low-goes g.params m calm low room deep) (low-start g calm (valid-items g valid)) Closing empties stays (start-closing g (valid-items g valid))
+  low-bound room = not-cycles g calm (valid-items g valid) (Bounded g.params m) (λ s b. more s.dead_cycles (low-few g.params m calm low room deep s b)) (low-goes g.params m calm low room deep) (low-start g calm (valid-items g valid)) (Closing g.params) empties stays (start-closing g (valid-items g valid))
     where
       more : (d : ℕ) → d ≤ m + 2 → d ≤ m + 3
       more d h = omega arith
 
   high-bound : g.params.textheight <ℤ g.params.topskip → HasRoomForCycles g → IsNotCycles (run_of g).end
-  high-bound high = not-cycles g calm (valid-items g valid) (BoundedHigh g.params m) (high-few g.params m calm deep (textheight-low g.params valid.params) high) (high-goes g.params m calm deep (textheight-low g.params valid.params) high) (high-start g calm (valid-items g valid)) Closing empties stays (start-closing g (valid-items g valid))
+  high-bound high = not-cycles g calm (valid-items g valid) (BoundedHigh g.params m) (high-few g.params m calm deep (textheight-low g.params valid.params) high) (high-goes g.params m calm deep (textheight-low g.params valid.params) high) (high-start g calm (valid-items g valid)) (Closing g.params) empties stays (start-closing g (valid-items g valid))
 
 -- the dead-cycle bound
 pub dead-cycle-bound : DeadCyclesAreFew

@@ -14,8 +14,10 @@ use Rattle.tb_output.specs.State.{State, first_state}
 use Rattle.tb_output.proofs.Sorts.{pen_sort}
 use Rattle.tb_output.proofs.WaitCosts.{sort_cost, wait_cost, cost-append}
 use Rattle.tb_output.proofs.EndedLemmas.{Ended, ended-both, free-ended}
+use Rattle.tb_float.specs.Lists.{wide_part}
+use Rattle.tb_output.proofs.SideLemmas.{no-sides}
 use Rattle.tb_output.proofs.CycleStates.{closed, starting, FloatsFit, Bounded}
-use Rattle.tb_run.specs.Run.{End, done, pool_full, dead_cycles, page_limit, node_limit, run_from, run_of, firings_left, held_count, step}
+use Rattle.tb_run.specs.Run.{End, done, pool_full, dead_cycles, page_limit, node_limit, run_from, run_of, firings_left, held_count, step, classes_of}
 use Rattle.tb_output.proofs.SpacedLemmas.{Spaced, spaced-any, spaced-both, free-alone}
 use Rattle.tb_output.proofs.HighStates.{cleared, BoundedHigh}
 use Rattle.tb_top.specs.Firings.{HasReason}
@@ -167,7 +169,7 @@ module _ (g : Galley) (calm : int_le g.params.interlinepenalty eject_penalty ≡
   most = 4 * cycling_items g.items + 3
 
   abbrev pub first : State
-  first = first_state g.params (expanded g)
+  first = first_state g.params (classes_of g) (expanded g)
 
   start-floats : FloatsFit g.params first
   start-floats = record {
@@ -175,6 +177,8 @@ module _ (g : Galley) (calm : int_le g.params.interlinepenalty eject_penalty ≡
     current = tt;
     single = λ h. (record { top = tt; bottom = tt; deferred = tt; double = tt; second = tt }, tt);
     double = record { wide = tt; none = λ h. refl };
+    sides = no-sides (wide_part g.params);
+    narrow = λ r. tt;
   }
 
   -- the bounds hold of the first state
