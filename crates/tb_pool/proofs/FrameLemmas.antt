@@ -1,0 +1,45 @@
+-- How 'only these lists changed' goes on from call to call.
+use Rattle.std.proofs.Common.{◌≡◌, refl, sym, subst, ◌∙◌, ℕ, List, [], ◌∷◌, ◌++◌, IsSome}
+use Rattle.tb_pool.specs.Lists.{Lists, IsLive, list_at}
+use Rattle.tb_pool.specs.Frame.{IsNoneOf, OnlyChanged}
+
+-- ---- none of these
+
+pub none-front : (q : ℕ) (xs ys : List ℕ) → IsNoneOf q (xs ++ ys) → IsNoneOf q xs
+none-front q [] ys h = tt
+none-front q (x ∷ xs) ys h = (h.0, none-front q xs ys h.1)
+
+pub none-back : (q : ℕ) (xs ys : List ℕ) → IsNoneOf q (xs ++ ys) → IsNoneOf q ys
+none-back q [] ys h = h
+none-back q (x ∷ xs) ys h = none-back q xs ys h.1
+
+pub none-join : (q : ℕ) (xs ys : List ℕ) → IsNoneOf q xs → IsNoneOf q ys → IsNoneOf q (xs ++ ys)
+none-join q [] ys h k = k
+none-join q (x ∷ xs) ys h k = (h.0, none-join q xs ys h.1 k)
+
+module _ {T : Type 0} where
+  -- what another list held is what it holds, and it stays live
+  pub frame-list : (mine ours : List ℕ) (store new : Lists T) → OnlyChanged mine ours store new → (q : ℕ) → IsLive store q → IsNoneOf q mine → list_at new q ≡ list_at store q
+  frame-list mine ours store new frame q live none = let same = (frame q live none).0 in rw same refl
+
+  pub frame-live : (mine ours : List ℕ) (store new : Lists T) → OnlyChanged mine ours store new → (q : ℕ) → IsLive store q → IsNoneOf q mine → IsLive new q
+  frame-live mine ours store new frame q live none = subst (λ o. IsSome o) (sym (frame q live none).0) live
+
+  -- nothing changed
+  pub frame-same : (mine ours : List ℕ) (store : Lists T) → ((q : ℕ) → IsNoneOf q mine → IsNoneOf q ours) → OnlyChanged mine ours store store
+  frame-same mine ours store fewer q live none = (refl, fewer q none)
+
+  -- one call after another
+  pub frame-then : (mine between ours : List ℕ) (store middle new : Lists T) → OnlyChanged mine between store middle → OnlyChanged between ours middle new → OnlyChanged mine ours store new
+  frame-then mine between ours store middle new one two q live none =
+      let first = one q live none in
+      let second = two q (frame-live mine between store middle one q live none) first.1 in
+      (second.0 ∙ first.0, second.1)
+
+  -- a call that is handed some of our lists leaves the others
+  pub frame-among : (mine ours more left : List ℕ) (store new : Lists T) → OnlyChanged mine ours store new
+      → ((q : ℕ) → IsNoneOf q more → IsNoneOf q mine) → ((q : ℕ) → IsNoneOf q more → IsNoneOf q ours → IsNoneOf q left)
+      → OnlyChanged more left store new
+  frame-among mine ours more left store new frame inside outside q live none =
+      let step = frame q live (inside q none) in
+      (step.0, outside q none step.1)
