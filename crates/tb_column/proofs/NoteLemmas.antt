@@ -28,23 +28,23 @@ rising-at k (n ∷ ns) h (suc i) d lt = omega (arith, h.0, rising-at (suc n.clas
 
 -- ---- how many nodes stand above the insertions
 
-pub above_length-le : (n : NoteBox) → above_length n ≤ 4
-above_length-le n = by_test (n.class == 254)
+pub above_length-le : (class : ℕ) → above_length class ≤ 4
+above_length-le class = by_test (class == 254)
   where
     by_test : (b : Bool) → (if b then 4 else 1) ≤ 4
     by_test true = omega arith
     by_test false = omega arith
 
-pub above_count-snoc : (ns : List NoteBox) (n : NoteBox) → above_count (ns ++ n ∷ []) ≡ above_count ns + above_length n
+pub above_count-snoc : (ns : List NoteBox) (n : NoteBox) → above_count (ns ++ n ∷ []) ≡ above_count ns + above_length n.class
 above_count-snoc [] n = omega arith
 above_count-snoc (m ∷ ns) n = omega (arith, above_count-snoc ns n)
 
 pub above_count-le : (ns : List NoteBox) → above_count ns ≤ 4 * length ns
 above_count-le [] = omega arith
-above_count-le (n ∷ ns) = omega (arith, above_length-le n, above_count-le ns)
+above_count-le (n ∷ ns) = omega (arith, above_length-le n.class, above_count-le ns)
 
 -- those of the first classes, of the next one and of the others
-pub above_count-take : (ns : List NoteBox) (i : ℕ) (d : NoteBox) → i < length ns → above_count (take i ns) + above_length (get_or ns i d) ≤ above_count ns
+pub above_count-take : (ns : List NoteBox) (i : ℕ) (d : NoteBox) → i < length ns → above_count (take i ns) + above_length (get_or ns i d).class ≤ above_count ns
 above_count-take [] i d lt = absurd (omega arith)
 above_count-take (n ∷ ns) zero d lt = omega arith
 above_count-take (n ∷ ns) (suc i) d lt = omega (arith, above_count-take ns i d (omega arith))
@@ -118,7 +118,7 @@ module _ (p : Params) (body : ℕ) (s0 : Lists Node) where
 
   -- one more has joined it
   pub joined_go : (done : List NoteBox) (n : NoteBox) (s s' : Lists Node) → IsNextNote body done n → JoinedSoFar p body s0 done s
-      → s'.lists ≡ insert (with_list s body (list_at s body ++ (class_above p n ++ list_at s n.list))) n.list [] → s'.spare + above_length n ≡ s.spare
+      → s'.lists ≡ insert (with_list s body (list_at s body ++ (class_above p n ++ list_at s n.list))) n.list [] → s'.spare + above_length n.class ≡ s.spare
       → JoinedSoFar p body s0 (done ++ n ∷ []) s'
   joined_go done n s s' next so e less =
       let xs = list_at s body ++ (class_above p n ++ list_at s n.list) in
