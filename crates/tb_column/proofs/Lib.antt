@@ -6,3 +6,4 @@ pub mod ShownLemmas
 pub mod TextLemmas
 pub mod GatherLemmas
 pub mod ClosingLemmas
+pub mod PageLemmas
