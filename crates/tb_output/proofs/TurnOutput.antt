@@ -53,6 +53,7 @@ at-dead-cycles n m store e below = record { count = e; reached = not-below m.dea
 pub counted-served : (m : MachineView) (store : Lists Node) (page : Page) (notes : Option ℕ) → CanServe m store page notes → CanServe (counted m) store page notes
 counted-served m store page notes h = record {
   floatless = record {
+    classes = h.floatless.classes;
     floats = h.floatless.floats;
     held_page = h.floatless.held_page;
     goal = h.floatless.goal;

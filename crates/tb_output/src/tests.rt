@@ -4,7 +4,7 @@ ghost use Rattle.std.specs.Prelude.{◌≡◌, ◌≢◌, ℕ, All, length, None
 ghost use Rattle.std.specs.FinMap.{get};
 ghost use Rattle.tb_pool.specs.Lists.{IsLive, list_at};
 ghost use Rattle.tb_node.specs.Fit.{IsSizedNode};
-ghost use Rattle.tb_column.specs.TextList.{AreLeaves};
+ghost use Rattle.tb_column.specs.Page.{AreLeaves};
 ghost use Rattle.tb_float.specs.Ranges.{IsSizedMargin};
 ghost use Rattle.tb_insert.specs.Arrived.{ClassFits};
 ghost use Rattle.tb_output.specs.Machine.{AreOutputParams, IsLimit};

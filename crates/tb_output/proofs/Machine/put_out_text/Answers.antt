@@ -36,31 +36,31 @@ make_column-requires-clause-body c = text-apart c.args.self.now c.args.store.now
 pub make_column-requires-clause-nodes : goal.make_column-requires-clause-nodes
 make_column-requires-clause-nodes c =
     let is = subst (λ (x : MachineView). IsMachine x c.args.store.now) (sym c.self.view_is) c.requires.machine in
-    let lists = subst (λ (x : MachineView). AreTextLists 8388603 x c.args.store.now c.args.body c.args.notes) (sym c.self.view_is) c.requires.lists in
+    let lists = subst (λ (x : MachineView). AreTextLists 8355840 x c.args.store.now c.args.body c.args.notes) (sym c.self.view_is) c.requires.lists in
     column-nodes _ c.args.store.now c.args.body c.args.notes is lists
 
 pub make_column-requires-clause-sums : goal.make_column-requires-clause-sums
 make_column-requires-clause-sums c =
     let is = subst (λ (x : MachineView). IsMachine x c.args.store.now) (sym c.self.view_is) c.requires.machine in
-    let lists = subst (λ (x : MachineView). AreTextLists 8388603 x c.args.store.now c.args.body c.args.notes) (sym c.self.view_is) c.requires.lists in
+    let lists = subst (λ (x : MachineView). AreTextLists 8355840 x c.args.store.now c.args.body c.args.notes) (sym c.self.view_is) c.requires.lists in
     column-sums _ c.args.store.now c.args.body c.args.notes is lists
 
 pub close_notes-requires : goal.close_notes-requires
 close_notes-requires c =
     let is = subst (λ (x : MachineView). IsMachine x c.args.store.now) (sym c.self.view_is) c.requires.machine in
-    let lists = subst (λ (x : MachineView). AreTextLists 8388603 x c.args.store.now c.args.body c.args.notes) (sym c.self.view_is) c.requires.lists in
+    let lists = subst (λ (x : MachineView). AreTextLists 8355840 x c.args.store.now c.args.body c.args.notes) (sym c.self.view_is) c.requires.lists in
     notes-empty _ c.args.store.now c.args.body c.args.notes is lists c.make_column.new.store c.in_ok-column.ensures.lists
 
 pub returns-in_err-ship-clause-err : goal.returns-in_err-ship-clause-err
 returns-in_err-ship-clause-err c =
     let is = subst (λ (x : MachineView). IsMachine x c.args.store.now) (sym c.self.view_is) c.requires.machine in
-    let lists = subst (λ (x : MachineView). AreTextLists 8388603 x c.args.store.now c.args.body c.args.notes) (sym c.self.view_is) c.requires.lists in
+    let lists = subst (λ (x : MachineView). AreTextLists 8355840 x c.args.store.now c.args.body c.args.notes) (sym c.self.view_is) c.requires.lists in
     memory-err c.from_residual-in_err-ship.result _ c.from_residual-in_err-ship.ensures.1 (c.in_err-ship.ensures.err, rest-stands _ c.args.store.now c.args.body c.args.notes is lists c.make_column.new.store c.in_ok-column.ensures.lists c.close_notes.new.store c.close_notes.ensures)
 
 pub returns-clause-ok : goal.returns-clause-ok
 returns-clause-ok c =
     let is = subst (λ (x : MachineView). IsMachine x c.args.store.now) (sym c.self.view_is) c.requires.machine in
-    let lists = subst (λ (x : MachineView). AreTextLists 8388603 x c.args.store.now c.args.body c.args.notes) (sym c.self.view_is) c.requires.lists in
+    let lists = subst (λ (x : MachineView). AreTextLists 8355840 x c.args.store.now c.args.body c.args.notes) (sym c.self.view_is) c.requires.lists in
     let limit : FitsSigned w64 c.self.inside.params.maxpages = search (rules, ints, is.params.maxpages) in
     let exceeds = simp to_z-of_z at c.exceeds.ensures in
     let ship = c.in_ok-ship.ensures.ok ∙ ap (shipped_machine c.in_ok-column.column) (sym c.self.view_is) in
