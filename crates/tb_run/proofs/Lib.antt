@@ -11,3 +11,4 @@ pub mod FootLemmas
 pub mod ItemLemmas
 pub mod BeginLemmas
 pub mod ServedItems
+pub mod GalleyItems

@@ -126,8 +126,9 @@ impl Routine {
     {
         let mut store = Lists::new(alloc);
         let classes = classes_of(alloc, galley)?;
-        let machine = new_machine(alloc, &mut store, &galley.params, classes.as_slice())?;
-        let mut builder = new_builder(alloc, &mut store, classes.as_slice())?;
+        let served = classes.as_slice();
+        let machine = new_machine(alloc, &mut store, &galley.params, served)?;
+        let mut builder = new_builder(alloc, &mut store, served)?;
         expand(&mut store, &mut builder, galley)?;
         Ok(Routine {
             store,
