@@ -1,4 +1,4 @@
--- The lists of a text column before and after it is made.
+-- The lists of a text column after it was made.
 use Rattle.std.proofs.Common.{◌≡◌, ◌≢◌, refl, sym, subst, ◌∙◌, ap, ℕ, ◌+◌, ◌≤◌, pos, false, List, [], ◌∷◌, ◌++◌, length, Option, None, Some, is_some, unwrap_or, arith}
 use Rattle.std.specs.Prelude.{All, int_lt}
 use Rattle.std.specs.FinMap.{FinMap, get}
@@ -29,65 +29,7 @@ pub leaves-append : (xs ys : List Node) → AreLeaves xs → AreLeaves ys → Ar
 leaves-append [] ys h k = k
 leaves-append (x ∷ xs) ys h k = (h.0, leaves-append xs ys h.1 k)
 
--- a column takes no floats with it where there are none
-pub no-text-floats : (v : FloatPool) → v.lists ≡ no_floats → without_text_floats v ≡ v
-no-text-floats v e = λ i. record v { lists = (ap (λ (l : FloatLists). record l { here = []; top = []; bottom = [] }) e ∙ sym e) i }
-
--- ---- the footnotes as a column takes them
-
--- their box, where there are any
-abbrev pub foot_boxes : Params → Option ℕ → List NoteBox
-foot_boxes p None = []
-foot_boxes p (Some l) = record { class = 254; skip = p.skipfootins; list = l } ∷ []
-
-boxes-shown : (p : Params) (store : Lists Node) (notes : Option ℕ) → boxes.notes_shown store (foot_boxes p notes) ≡ foot_notes p (notes_shown store notes)
-boxes-shown p store None = refl
-boxes-shown p store (Some l) = refl
-
-boxes-count : (p : Params) (store : Lists Node) (notes : Option ℕ) → boxes.note_count store (foot_boxes p notes) ≡ length (note_nodes store notes)
-boxes-count p store None = refl
-boxes-count p store (Some l) = omega arith
-
-boxes-join : (p : Params) (store : Lists Node) (body : ℕ) (notes : Option ℕ) → IsSizedGlue p.skipfootins → CanJoin store body notes → All IsSizedNode (note_nodes store notes) → length (note_nodes store notes) ≤ 8388608 → boxes.AreNotes store body (foot_boxes p notes)
-boxes-join p store body None skip can sized few = record { rising = tt; apart = (tt, tt); each = tt }
-boxes-join p store body (Some l) skip can sized few = record {
-  rising = (omega arith, tt);
-  apart = ((λ e. can.apart (sym e), tt), tt, tt);
-  each = (record { list = record { live = can.live; leaves = can.leaves; sized = sized; few = few }; skip = skip }, tt);
-}
-
-empty-by : (p : Params) (body : ℕ) (store new : Lists Node) (notes : Option ℕ) → AreJoined body (foot_boxes p notes) store new → IsEmptyNotes new notes
-empty-by p body store new None h = tt
-empty-by p body store new (Some l) h = (ap is_some h.emptied.0, ap (λ (o : Option (List Node)). unwrap_or o []) h.emptied.0)
-
-none-by : (p : Params) (notes : Option ℕ) (body q : ℕ) → q ≢ body → IsNotNotes q notes → IsNoneOf q (body ∷ boxes.note_lists (foot_boxes p notes))
-none-by p None body q a b = (λ e. a (sym e), tt)
-none-by p (Some l) body q a b = (λ e. a (sym e), λ e. b (sym e), tt)
-
-module _ (m : MachineView) (store : Lists Node) (body : ℕ) (notes : Option ℕ) (is : IsMachine m store) (lists : AreTextLists 8355840 m store body notes) where
-  pub text-list : IsPageList store body
-  text-list = record { live = lists.live; leaves = lists.leaves; sized = lists.sized; few = let h = lists.few in omega arith }
-
-  pub text-notes : boxes.AreNotes store body (foot_boxes m.params notes)
-  text-notes = boxes-join m.params store body notes is.params.columns.skipfootins lists.joins lists.sized_notes (let h = lists.few in omega arith)
-
-  pub text-few : length (list_at store body) + boxes.note_count store (foot_boxes m.params notes) ≤ 8355840
-  text-few = let h = lists.few in let n = boxes-count m.params store notes in omega arith
-
-  -- the column was made
-  pub text-made : m.pool.lists ≡ no_floats → (new : Lists Node) (c : Column) → column_shown new c ≡ text_column m.params m.pool.lists (nodes_shown store body) (boxes.notes_shown store (foot_boxes m.params notes)) → c.list ≡ body → IsPageColumn new c
-      → AreJoined body (foot_boxes m.params notes) store new → IsTextColumn c m store new body notes
-  text-made none new c shown list page joined = record {
-    shown = shown ∙ (λ i. text_column m.params (none i) (nodes_shown store body) (boxes-shown m.params store notes i));
-    list = list;
-    share = page.share;
-    page_list = subst (IsPageList new) list page.list;
-    empty = empty-by m.params body store new notes joined;
-    rest = λ q a b. joined.others q (none-by m.params notes body q a b);
-  }
-
--- ---- the footnotes' list is closed then
-
+-- the footnotes' list is closed
 closed-by : (notes : Option ℕ) (store : Lists Node) (m : FinMap nat_cmp (List Node)) (body : ℕ) → CanJoin store body notes → get (without_notes notes m) body ≡ get m body
 closed-by None store m body can = refl
 closed-by (Some l) store m body can = get-remove_other m l body can.apart

@@ -23,9 +23,10 @@ use Rattle.tb_galley.specs.declared.LeafKind.TheVariants as leaves
 use Rattle.tb_galley.specs.declared.Item.{Item}
 use Rattle.tb_galley.specs.declared.ItemKind.{ItemKind}
 use Rattle.tb_galley.specs.declared.ItemKind.TheVariants as items
+use Rattle.tb_galley.specs.declared.ClassLine.{ClassLine}
 use Rattle.tb_galley.specs.declared.Galley.{Galley}
 use Rattle.tb_galley.specs.Expand.{break_strength, plain_leaf, item_kinds, item_nodes, expanded, two_after}
-use Rattle.tb_galley.specs.Live.{is_live_item, HasLiveItems}
+use Rattle.tb_galley.specs.Live.{is_live_item, are_live_classes, HasLiveItems}
 use Rattle.tb_galley.specs.Valid.{is_size, is_leaf, is_item, weight_of, weight, IsValid}
 use Rattle.tb_output.specs.Out.{clear_penalty}
 use Rattle.tb_run.specs.Servable.{IsTame, AreTame, AreRunnable, AreServable}
@@ -226,6 +227,14 @@ all-fine p two (n ∷ ns) r v live =
 
 pub most : (n : ℕ) → IsTrue (nat_le n 100000) → n ≤ 100000
 most n h = grind (arith, nat_tests, h)
+
+-- it declares no class
+pub galley-classes : (g : Galley) → HasLiveItems g → g.classes ≡ []
+galley-classes g live = none g.classes live.classes
+  where
+    none : (cs : List ClassLine) → IsTrue (are_live_classes cs) → cs ≡ []
+    none [] h = refl
+    none (c ∷ cs) h = cc
 
 -- the nodes of a valid galley with live items can be served
 pub galley-served : (g : Galley) → AreRunnable g.params → IsValid g → HasLiveItems g → AreServable (expanded g)
