@@ -1,1 +1,4 @@
 pub mod StoreLemmas
+pub mod FloatLemmas
+pub mod MovingLemmas
+pub mod NoteLemmas

@@ -26,12 +26,12 @@ abbrev pub class_above : Params → NoteBox → List Node
 class_above p n = if n.class == 254 then rule_above p.skipfootins else made_node (kinds.Skip n.skip) ∷ []
 
 -- how many nodes stand above the insertions of a class, and of all
-abbrev pub above_length : NoteBox → ℕ
-above_length n = if n.class == 254 then 4 else 1
+abbrev pub above_length : ℕ → ℕ
+above_length class = if class == 254 then 4 else 1
 
 abbrev pub above_count : List NoteBox → ℕ
 above_count [] = 0
-above_count (n ∷ ns) = above_length n + above_count ns
+above_count (n ∷ ns) = above_length n.class + above_count ns
 
 -- the insertions of all classes
 abbrev pub notes_list : Params → Lists Node → List NoteBox → List Node

@@ -47,10 +47,10 @@ fn push_rule(store: &mut Lists<Node>, l: ListId, skip: Glue)
 }
 
 // How many nodes stand above the insertions of a class.
-fn above_length(note: &NoteBox) -> usize
-    ensures { result ≡ above_length note.now }
+fn above_length(class: u8) -> usize
+    ensures { result ≡ above_length class }
 {
-    if note.class == FOOT_CLASS { 4 } else { 1 }
+    if class == FOOT_CLASS { 4 } else { 1 }
 }
 
 /// How many nodes stand above the insertions of these classes together.
@@ -61,7 +61,7 @@ pub(crate) fn above_count(notes: &[NoteBox]) -> usize
 {
     let mut count = 0;
     for note in notes {
-        count += above_length(note);
+        count += above_length(note.class);
     }
     count
 }
@@ -69,10 +69,10 @@ pub(crate) fn above_count(notes: &[NoteBox]) -> usize
 // Puts what stands above the insertions of a class at the end of a list.
 fn push_class(store: &mut Lists<Node>, p: &Params, l: ListId, note: &NoteBox)
     requires live { IsLive store.old l }
-    requires room { above_length note.now ≤ store.old.spare }
+    requires room { above_length note.now.class ≤ store.old.spare }
     ensures lists { store.new.lists ≡ with_list store.old l (list_at store.old l ++ class_above p.now note.now) }
     ensures live { IsLive store.new l }
-    ensures spare { store.new.spare + above_length note.now ≡ store.old.spare }
+    ensures spare { store.new.spare + above_length note.now.class ≡ store.old.spare }
 {
     if note.class == FOOT_CLASS {
         push_rule(store, l, p.skipfootins);
@@ -86,9 +86,9 @@ fn join_class(store: &mut Lists<Node>, p: &Params, body: ListId, note: &NoteBox)
     requires live { IsLive store.old body }
     requires note { IsLive store.old note.now.list }
     requires apart { body ≢ note.now.list }
-    requires room { above_length note.now ≤ store.old.spare }
+    requires room { above_length note.now.class ≤ store.old.spare }
     ensures lists { store.new.lists ≡ insert (with_list store.old body (list_at store.old body ++ (class_above p.now note.now ++ list_at store.old note.now.list))) note.now.list [] }
-    ensures spare { store.new.spare + above_length note.now ≡ store.old.spare }
+    ensures spare { store.new.spare + above_length note.now.class ≡ store.old.spare }
 {
     push_class(store, p, body, note);
     store.append(body, note.list);
