@@ -1,6 +1,6 @@
 -- Classes of insertions in rising number.
 use Rattle.std.specs.Prelude.{Bool, true, ◌&&◌, ◌==◌, nat_lt, List, [], ◌∷◌, if◌then◌else◌}
-use Rattle.tb_galley.specs.declared.ClassLine.{ClassLine}
+use Rattle.tb_galley.specs.declared.classes.ClassLine.{ClassLine}
 
 -- each class has a greater number than the one before it
 abbrev pub do_classes_rise : List ClassLine → Bool

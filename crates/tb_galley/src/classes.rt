@@ -24,7 +24,7 @@ pub struct Classes {
 
 impl Model for Classes {
     ghost use Rattle.std.specs.Prelude.{List, IsTrue};
-    ghost use Rattle.tb_galley.specs.declared.ClassLine.{ClassLine};
+    ghost use Rattle.tb_galley.specs.declared.classes.ClassLine.{ClassLine};
     ghost use Rattle.tb_galley.specs.Classes.{do_classes_rise};
 
     ghost Value = { List ClassLine };
