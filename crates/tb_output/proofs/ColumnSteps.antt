@@ -1,5 +1,5 @@
--- What putting out pages and columns and filling the next ones is made of: events, records, pages that are shipped, and changes
--- of the float lists, the left column, the suppress flags and how far marginal notes reach.
+-- What putting out pages and columns and filling the next ones is made of: events, records, shipped pages, and changes of the float
+-- lists, the first of two columns, the suppress flags and how far marginal notes reach.
 use Rattle.std.proofs.Common.{◌≡◌, refl, ◌∙◌, ap, ℕ, zero, suc, pos, ◌+◌, Bool, true, false, List, [], ◌∷◌, ◌++◌, length, Option, Some, None}
 use Rattle.std.specs.Prelude.{int_lt, not, if◌then◌else◌}
 use Rattle.tb_node.specs.declared.Float.{Float}
@@ -34,7 +34,7 @@ pub record RecordLaw (p : Params) : Type 1 where
 abbrev pub no_law : (p : Params) → RecordLaw p
 no_law p = record { holds = λ r. Unit {0}; at_place = λ f place l h. tt; at_output = λ c. tt }
 
--- what a firing changes only by sending, recording and shipping; and the classes and what waits, which it leaves as they are
+-- what a firing changes by sending, recording and shipping alone; and the classes and what waits, which it leaves as they are
 pub record Course : Type 0 where
   pub sent : List PlainSent
   pub records : List Recorded
@@ -57,7 +57,7 @@ pub record Frame : Type 0 where
 abbrev pub frame : Work → Frame
 frame w = record { put_back = w.put_back; held_page = w.state.held_page; boxes = w.state.boxes; two_columns = w.state.two_columns }
 
--- a step of a column: it changes something else, or sends, records or ships
+-- a step of a column: it leaves the course and the frame as they are, or it sends, records or ships; or it is two such steps
 pub data ColumnStep (p : Params) (law : RecordLaw p) : Work → Work → Type 0 where
   still : {a b : Work} → course b ≡ course a → frame b ≡ frame a → ColumnStep p law a b
   in_turn : {a b c : Work} → ColumnStep p law a b → ColumnStep p law b c → ColumnStep p law a c

@@ -30,7 +30,7 @@ use Rattle.tb_output.specs.Out
 use Rattle.tb_output.specs.Firing.{page_work}
 use Rattle.tb_output.proofs.ColumnSteps.{RecordLaw, course, ColumnStep, still, in_turn, sends_one, place_float-step, place_next-step, all_wide_pages-step, put_out-step, float_columns-step}
 
--- a step of a firing: one of its columns, or a change of something else than what only sending, recording and shipping change
+-- a step of a firing: one of its columns, or a change of something that sending, recording and shipping leave alone
 pub data FiringStep (p : Params) (law : RecordLaw p) : Work → Work → Type 0 where
   by_columns : {a b : Work} → ColumnStep p law a b → FiringStep p law a b
   changes : {a b : Work} → course b ≡ course a → FiringStep p law a b

@@ -46,7 +46,7 @@ pub continues_if : (w : Work) (t : Bool) (b c : Work) → Continues w b → Cont
 continues_if w true b c x y = x
 continues_if w false b c x y = y
 
--- where nothing was refused, what is refused says nothing
+-- anything follows if a work both was and was not refused
 unrefused : {X : Type 0} {t : Bool} → t ≡ false → t ≡ true → X
 unrefused r h = absurd (grind (arith, r, h))
 
