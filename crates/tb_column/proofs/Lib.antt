@@ -1,3 +1,1 @@
 pub mod StoreLemmas
-pub mod ColumnLemmas
-pub mod FitsColumn
