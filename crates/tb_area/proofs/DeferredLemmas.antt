@@ -1,8 +1,12 @@
--- The deferred floats among entries.
-use Rattle.std.proofs.Common.{◌≡◌, ℕ, zero, suc, ◌+◌, ◌<◌, ◌≤◌, List, [], ◌∷◌, ◌++◌, length, take, drop, Some, slice_get, refl, ap, arith}
+-- The floats that wait, among entries.
+use Rattle.std.proofs.Common.{◌≡◌, ◌≢◌, ℕ, zero, suc, ◌+◌, ◌<◌, ◌≤◌, List, [], ◌∷◌, ◌++◌, length, take, drop, Some, slice_get, refl, sym, ap, subst, ◌∙◌, arith}
 use Rattle.tb_node.specs.declared.Float.{Float}
 use Rattle.tb_float.specs.declared.Entry.TheVariants as entries
-use Rattle.tb_float.specs.Lists.{HasFloatAt, float_entries}
+use Rattle.tb_float.specs.declared.Part.{Part}
+use Rattle.tb_float.specs.declared.Part.TheVariants as parts
+use Rattle.tb_float.specs.Lists.{FloatLists, HasFloatAt, IsWaiting, float_entries, floats_of, entries_of}
+use Rattle.tb_float.specs.Pool.{FloatPool, moved_float}
+use Rattle.tb_float.proofs.WaitingLemmas.{waiting-entries}
 
 -- each entry of a list of floats is a float
 pub float_stands : (fs : List Float) (k : ℕ) → k < length fs → HasFloatAt (float_entries fs) k
@@ -21,6 +25,35 @@ pub entry_there : (fs : List Float) (k : ℕ) (f : Float) → slice_get fs k ≡
 entry_there [] k f e = cc
 entry_there (g ∷ fs) zero f e = cc
 entry_there (g ∷ fs) (suc k) f e = entry_there fs k f e
+
+-- the same in a list in which floats wait
+pub waiting_stands : (from : Part) → IsWaiting from → (l : FloatLists) (k : ℕ) → k < length (floats_of from l) → HasFloatAt (entries_of from l) k
+waiting_stands from w l k lt = subst (λ es. HasFloatAt es k) (sym (waiting-entries from w l)) (float_stands (floats_of from l) k lt)
+
+pub waiting_there : (from : Part) → IsWaiting from → (l : FloatLists) (k : ℕ) (f : Float) → Some (entries.Float f) ≡ slice_get (entries_of from l) k → slice_get (floats_of from l) k ≡ Some f
+waiting_there from w l k f e = float_there (floats_of from l) k f (e ∙ ap (λ es. slice_get es k) (waiting-entries from w l))
+
+pub waiting_entry : (from : Part) → IsWaiting from → (l : FloatLists) (k : ℕ) (f : Float) → slice_get (floats_of from l) k ≡ Some f → slice_get (entries_of from l) k ≡ Some (entries.Float f)
+waiting_entry from w l k f e = ap (λ es. slice_get es k) (waiting-entries from w l) ∙ entry_there (floats_of from l) k f e
+
+-- a float that goes above both columns is another list's than those in which floats wait, and changes no size
+pub waits_apart : (from : Part) → IsWaiting from → from ≢ parts.Double
+waits_apart parts.Current w = absurd w
+waits_apart parts.Here w = absurd w
+waits_apart parts.Top w = absurd w
+waits_apart parts.Bottom w = absurd w
+waits_apart parts.Double w = absurd w
+waits_apart parts.Deferred w = λ e. absurd cc
+waits_apart parts.Second w = λ e. absurd cc
+
+pub size_stays : (from : Part) → IsWaiting from → (k : ℕ) (f : Float) (v : FloatPool) → (moved_float from k parts.Double f v).size ≡ v.size
+size_stays parts.Current w k f v = absurd w
+size_stays parts.Here w k f v = absurd w
+size_stays parts.Top w k f v = absurd w
+size_stays parts.Bottom w k f v = absurd w
+size_stays parts.Double w k f v = absurd w
+size_stays parts.Deferred w k f v = refl
+size_stays parts.Second w k f v = refl
 
 -- a float stands at each place of the list
 pub float_at_place : (fs : List Float) (k : ℕ) → k < length fs → (f : Float) × (slice_get fs k ≡ Some f)

@@ -2,7 +2,8 @@
 ghost use Rattle.std.specs.Prelude.{ℕ, ◌≡◌, ◌<◌, ◌≤◌, ◌+◌, [], List, length, take, drop, slice_get, Some, suc, if◌then◌else◌};
 ghost use Rattle.tb_node.specs.declared.Float.{Float as PlainFloat};
 ghost use Rattle.tb_float.specs.declared.Suppress.{Suppress};
-ghost use Rattle.tb_float.specs.Pool.{marked_floats};
+ghost use Rattle.tb_float.specs.Lists.{IsWaiting, floats_of};
+ghost use Rattle.tb_float.specs.Pool.{HasNoMarks};
 ghost use Rattle.tb_float.specs.Ranges.{AreFloatParams};
 ghost use Rattle.tb_area.specs.Area.{next_area_place, goes_double};
 ghost use Rattle.tb_area.specs.Filling.{filled, doubled, gone_to, gone_double, place_after, place_after_double};
@@ -21,7 +22,7 @@ pub fn fill_column(pool: &mut Pool, p: &Params, s: &Suppress)
     ensures lists { pool.new.lists ≡ filled p.now s.now [] pool.old.lists.deferred pool.old.lists }
     ensures order { (class : ℕ) → column_order class pool.new.lists ≡ column_order class pool.old.lists }
     ensures size { pool.new.size ≡ pool.old.size }
-    ensures unmarked { marked_floats pool.old ≡ [] → marked_floats pool.new ≡ [] }
+    ensures unmarked { HasNoMarks pool.old → HasNoMarks pool.new }
 {
     let mut place = 0;
     for _turn in 0..pool.len(Part::Deferred) {
@@ -38,7 +39,7 @@ fn try_next(pool: &mut Pool, p: &Params, s: &Suppress, k: usize) -> usize
     ensures next { (f : PlainFloat) → slice_get pool.old.lists.deferred k ≡ Some f → result ≡ place_after (next_area_place p.now pool.old.lists s.now (take k pool.old.lists.deferred) f) k }
     ensures near { result ≤ k + 1 }
     ensures size { pool.new.size ≡ pool.old.size }
-    ensures unmarked { marked_floats pool.old ≡ [] → marked_floats pool.new ≡ [] }
+    ensures unmarked { HasNoMarks pool.old → HasNoMarks pool.new }
 {
     match add_next(pool, p, s, k) {
         Where::Top => {
@@ -53,35 +54,38 @@ fn try_next(pool: &mut Pool, p: &Params, s: &Suppress, k: usize) -> usize
     }
 }
 
-/// The deferred floats that have a place above both columns of the next page go there, one after another (after LaTeX's
-/// `\@startdblcolumn`, ltoutput.dtx); the others stay in order. None is lost, and floats of one class keep their order.
-pub fn fill_double(pool: &mut Pool, p: &Params)
-    requires { AreFloatParams p.now }
-    ensures lists { (s : Suppress) → pool.new.lists ≡ doubled p.now s [] pool.old.lists.deferred pool.old.lists }
-    ensures order { (class : ℕ) → double_order class pool.new.lists ≡ double_order class pool.old.lists }
+/// The floats of a list in which floats wait that have a place above both columns of the next page go there, one after
+/// another (after LaTeX's `\@startdblcolumn`, ltoutput.dtx); the others stay in order. None is lost, and floats of one
+/// class keep their order.
+pub fn fill_double(pool: &mut Pool, p: &Params, from: Part)
+    requires params { AreFloatParams p.now }
+    requires waiting { IsWaiting from }
+    ensures lists { (s : Suppress) → pool.new.lists ≡ doubled from p.now s [] (floats_of from pool.old.lists) pool.old.lists }
+    ensures order { (class : ℕ) → double_order from class pool.new.lists ≡ double_order from class pool.old.lists }
     ensures size { pool.new.size ≡ pool.old.size }
-    ensures unmarked { marked_floats pool.old ≡ [] → marked_floats pool.new ≡ [] }
+    ensures unmarked { HasNoMarks pool.old → HasNoMarks pool.new }
 {
     let mut place = 0;
-    for _turn in 0..pool.len(Part::Deferred) {
-        place = try_double(pool, p, place);
+    for _turn in 0..pool.len(from) {
+        place = try_double(pool, p, from, place);
     }
 }
 
-// The deferred float at a place is tried for the space above both columns; the answer is the place of the one after it.
-fn try_double(pool: &mut Pool, p: &Params, k: usize) -> usize
+// The float at a place of the list is tried for the space above both columns; returns the place of the one after it.
+fn try_double(pool: &mut Pool, p: &Params, from: Part, k: usize) -> usize
     requires params { AreFloatParams p.now }
-    requires within { k < length pool.old.lists.deferred }
+    requires waiting { IsWaiting from }
+    requires within { k < length (floats_of from pool.old.lists) }
     requires small { k < 4096 }
-    ensures lists { (s : Suppress) (f : PlainFloat) → slice_get pool.old.lists.deferred k ≡ Some f → pool.new.lists ≡ gone_double (goes_double p.now pool.old.lists s (take k pool.old.lists.deferred) f) f (take k pool.old.lists.deferred) (drop (suc k) pool.old.lists.deferred) pool.old.lists }
-    ensures next { (s : Suppress) (f : PlainFloat) → slice_get pool.old.lists.deferred k ≡ Some f → result ≡ place_after_double (goes_double p.now pool.old.lists s (take k pool.old.lists.deferred) f) k }
+    ensures lists { (s : Suppress) (f : PlainFloat) → slice_get (floats_of from pool.old.lists) k ≡ Some f → pool.new.lists ≡ gone_double from (goes_double p.now pool.old.lists s (take k (floats_of from pool.old.lists)) f) f (take k (floats_of from pool.old.lists)) (drop (suc k) (floats_of from pool.old.lists)) pool.old.lists }
+    ensures next { (s : Suppress) (f : PlainFloat) → slice_get (floats_of from pool.old.lists) k ≡ Some f → result ≡ place_after_double (goes_double p.now pool.old.lists s (take k (floats_of from pool.old.lists)) f) k }
     ensures near { result ≤ k + 1 }
     ensures size { pool.new.size ≡ pool.old.size }
-    ensures unmarked { marked_floats pool.old ≡ [] → marked_floats pool.new ≡ [] }
+    ensures unmarked { HasNoMarks pool.old → HasNoMarks pool.new }
 {
-    match add_double(pool, p, k) {
+    match add_double(pool, p, from, k) {
         Where::Double => {
-            pool.move_to(Part::Deferred, k, Part::Double);
+            pool.move_to(from, k, Part::Double);
             k
         }
         _ => k + 1,

@@ -1,3 +1,9 @@
 pub mod StoreLemmas
-pub mod ColumnLemmas
-pub mod FitsColumn
+pub mod FloatLemmas
+pub mod MovingLemmas
+pub mod NoteLemmas
+pub mod ShownLemmas
+pub mod TextLemmas
+pub mod GatherLemmas
+pub mod ClosingLemmas
+pub mod PageLemmas

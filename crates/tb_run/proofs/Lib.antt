@@ -12,3 +12,6 @@ pub mod ItemLemmas
 pub mod BeginLemmas
 pub mod ServedItems
 pub mod GalleyItems
+pub mod GalleyClasses
+pub mod ItemAmounts
+pub mod GalleyNodeLemmas

@@ -1,5 +1,5 @@
 use Rattle.std.proofs.Common.{◌≡◌, ◌+◌, ◌≤◌, [], length, take, drop}
-use Rattle.tb_float.specs.Pool.{marked_floats}
+use Rattle.tb_float.specs.Pool.{HasNoMarks}
 use Rattle.tb_area.specs.Filling.{filled}
 use Rattle.tb_area.proofs.filling.fill_column.Given as goal
 
@@ -9,5 +9,5 @@ invariant-loop-turn l = record {
   count : length l.pool.lists.deferred + l._turn ≡ l.place + length l.initial.pool.lists.deferred;
   few : l.place ≤ l._turn;
   size : l.pool.size ≡ l.initial.pool.size;
-  unmarked : marked_floats l.initial.pool ≡ [] → marked_floats l.pool ≡ [];
+  unmarked : HasNoMarks l.initial.pool → HasNoMarks l.pool;
 }

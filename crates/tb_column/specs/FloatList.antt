@@ -1,0 +1,51 @@
+-- The nodes of floats as a store holds them.
+use Rattle.std.specs.Prelude.{pos, Bool, true, false, List, [], ◌∷◌, ◌++◌}
+use Rattle.tb_scaled.specs.declared.Glue.{Glue}
+use Rattle.tb_scaled.specs.Glue.{negated_glue}
+use Rattle.tb_node.specs.declared.Node.{Node}
+use Rattle.tb_node.specs.declared.Kind.{Kind}
+use Rattle.tb_node.specs.declared.Kind.TheVariants as kinds
+use Rattle.tb_node.specs.declared.What.TheVariants as what
+use Rattle.tb_node.specs.declared.Where.{Where}
+use Rattle.tb_node.specs.declared.Where.TheVariants as places
+use Rattle.tb_node.specs.declared.Float.{Float}
+use Rattle.tb_param.specs.declared.Params.{Params}
+use Rattle.tb_column.specs.declared.float_columns.PageGlue.{PageGlue}
+
+-- a node that is made here has line 0
+abbrev pub made_node : Kind → Node
+made_node k = record { line = 0; kind = k }
+
+-- the box of a float at a place; it has no depth
+abbrev pub float_box : Where → Float → Node
+float_box place f = made_node (kinds.Hbox (what.Float f.name f.class place f.line) f.height (pos 0))
+
+-- each float followed by glue
+abbrev pub boxes_with : Where → Glue → List Float → List Node
+boxes_with place sep [] = []
+boxes_with place sep (f ∷ fs) = float_box place f ∷ made_node (kinds.Skip sep) ∷ boxes_with place sep fs
+
+-- floats above the text: the last separator gives way to that from the text
+abbrev pub boxes_above : Where → Glue → Glue → List Float → List Node
+boxes_above place sep last [] = []
+boxes_above place sep last (f ∷ fs) = boxes_with place sep (f ∷ fs) ++ made_node (kinds.Skip (negated_glue sep)) ∷ made_node (kinds.Skip last) ∷ []
+
+-- floats below the text
+abbrev pub boxes_below : Where → Glue → Glue → List Float → List Node
+boxes_below place sep first [] = []
+boxes_below place sep first (f ∷ fs) = made_node (kinds.Skip first) ∷ boxes_with place sep (f ∷ fs) ++ made_node (kinds.Skip (negated_glue sep)) ∷ []
+
+-- each float after glue
+abbrev pub boxes_after : Glue → List Float → List Node
+boxes_after sep [] = []
+boxes_after sep (f ∷ fs) = made_node (kinds.Skip sep) ∷ float_box places.Page f ∷ boxes_after sep fs
+
+-- a column of floats alone, with this glue above, between and below
+abbrev pub page_list : PageGlue → List Float → List Node
+page_list g fs =
+    made_node (kinds.Skip g.above) ∷ made_node (kinds.Skip (negated_glue g.between)) ∷ boxes_after g.between fs ++ made_node (kinds.Skip g.below) ∷ []
+
+-- the glue of a page of wide floats, and of a column of single ones
+abbrev pub page_glue : Bool → Params → PageGlue
+page_glue true p = record { above = p.dblfptop; between = p.dblfpsep; below = p.dblfpbot }
+page_glue false p = record { above = p.fptop; between = p.fpsep; below = p.fpbot }

@@ -1,0 +1,27 @@
+-- The ranges of the parameters on which columns depend.
+use Rattle.tb_scaled.specs.declared.Glue.{Glue}
+use Rattle.tb_node.specs.Fit.{IsDimension, IsExtent}
+use Rattle.tb_param.specs.declared.Params.{Params}
+use Rattle.tb_float.specs.Ranges.{AreFloatParams}
+
+-- the amounts of glue are dimensions
+pub record IsSizedGlue (g : Glue) : Type 0 where
+  pub width : IsDimension g.width
+  pub stretch : IsDimension g.stretch
+  pub shrink : IsDimension g.shrink
+
+-- heights, limits and glue of a column lie in their ranges
+pub record AreColumnParams (p : Params) : Type 0 where
+  pub floats : AreFloatParams p
+  pub maxdepth : IsExtent p.maxdepth
+  pub skipfootins : IsSizedGlue p.skipfootins
+  pub floatsep : IsSizedGlue p.floatsep
+  pub textfloatsep : IsSizedGlue p.textfloatsep
+  pub dblfloatsep : IsSizedGlue p.dblfloatsep
+  pub dbltextfloatsep : IsSizedGlue p.dbltextfloatsep
+  pub fptop : IsSizedGlue p.fptop
+  pub fpsep : IsSizedGlue p.fpsep
+  pub fpbot : IsSizedGlue p.fpbot
+  pub dblfptop : IsSizedGlue p.dblfptop
+  pub dblfpsep : IsSizedGlue p.dblfpsep
+  pub dblfpbot : IsSizedGlue p.dblfpbot
