@@ -1,12 +1,12 @@
 -- A text is closed by glue: its ranges, its number and its sums.
-use Rattle.std.proofs.Common.{◌≡◌, sym, ap, subst, ◌∙◌, ℕ, ◌+◌, ◌<◌, ◌≤◌, ℤ, pos, neg_ℤ, ◌≤ℤ◌, Bool, true, false, List, [], ◌∷◌, ◌++◌, length, map, length-append, arith}
+use Rattle.std.proofs.Common.{◌≡◌, sym, ap, subst, ◌∙◌, ℕ, ◌<◌, ◌≤◌, ℤ, pos, neg_ℤ, ◌≤ℤ◌, Bool, true, false, List, [], ◌∷◌, ◌++◌, length, map, length-append, arith}
 use Rattle.std.specs.Prelude.{All, if◌then◌else◌}
 use Rattle.std.proofs.lemmas.Int.{ints}
 use Rattle.std.proofs.lemmas.List.{map-append}
 use Rattle.std.proofs.lemmas.List.Elements.{All-nil, All-cons, All-append, All-map}
 use Rattle.tb_scaled.specs.Scaled.{min_ℤ}
 use Rattle.tb_scaled.specs.declared.Glue.{Glue}
-use Rattle.tb_pool.specs.Lists.{Lists, IsLive, list_at, with_list}
+use Rattle.tb_pool.specs.Lists.{Lists, list_at, with_list}
 use Rattle.tb_pool.proofs.CallerLemmas.{list_same, live_same}
 use Rattle.tb_node.specs.declared.Node.{Node}
 use Rattle.tb_node.specs.declared.Kind.TheVariants as kinds

@@ -1,22 +1,20 @@
 -- Insertions of one class after another join a text.
-use Rattle.std.proofs.Common.{◌≡◌, ◌≢◌, refl, sym, ap, ◌∙◌, subst, ℕ, zero, suc, ◌+◌, ◌*◌, ◌<◌, ◌≤◌, ◌==◌, Bool, true, false, List, [], ◌∷◌, ◌++◌, length, map, take, get_or, append_assoc, append-nil, Some, unwrap_or, is_some, IsSome, arith}
+use Rattle.std.proofs.Common.{◌≡◌, ◌≢◌, refl, sym, ap, ◌∙◌, subst, ℕ, zero, suc, ◌+◌, ◌*◌, ◌<◌, ◌≤◌, ◌==◌, Bool, true, false, List, [], ◌∷◌, ◌++◌, length, take, get_or, append_assoc, append-nil, Some, unwrap_or, is_some, arith}
 use Rattle.std.specs.Prelude.{if◌then◌else◌}
 use Rattle.std.specs.List.{AllByRecursion}
 use Rattle.std.specs.FinMap.{get, insert}
 use Rattle.std.proofs.lemmas.List.{map-append}
-use Rattle.std.proofs.lemmas.List.Elements.{All-from_recursion}
 use Rattle.tb_pool.specs.Lists.{Lists, IsLive, list_at, with_list}
 use Rattle.tb_pool.specs.Frame.{IsNoneOf}
-use Rattle.tb_pool.proofs.FrameLemmas.{none-front, none-back, none-join}
+use Rattle.tb_pool.proofs.FrameLemmas.{none-front, none-back}
 use Rattle.tb_pool.proofs.MapLemmas.{get-insert_same, get-insert_other}
 use Rattle.tb_node.specs.declared.Node.{Node}
 use Rattle.tb_param.specs.declared.Params.{Params}
 use Rattle.tb_column.specs.declared.NoteBox.{NoteBox}
-use Rattle.tb_column.specs.Page.{IsPageList}
-use Rattle.tb_column.specs.Notes.{note_lists, AreRisingFrom, AreDistinct, IsNote, AreNotes}
+use Rattle.tb_column.specs.Notes.{note_lists, AreRisingFrom, AreDistinct}
 use Rattle.tb_column.specs.Changes.{AreJoined}
 use Rattle.tb_column.specs.TextList.{class_above, above_length, above_count, notes_list}
-use Rattle.tb_column.proofs.StoreLemmas.{list-get, live-get}
+use Rattle.tb_column.proofs.StoreLemmas.{list-get}
 
 -- ---- rising classes
 

@@ -21,7 +21,7 @@ use Rattle.tb_column.specs.Column.{notes_under_rule, class_below, notes_below, c
 use Rattle.tb_column.specs.Shown.{nodes_shown, column_shown}
 use Rattle.tb_column.specs.Page.{is_leaf_kind, AreLeaves}
 use Rattle.tb_column.specs.Notes.{note_shown, notes_shown, IsNote}
-use Rattle.tb_column.specs.TextList.{made_node, rule_above, class_above, notes_list, top_list, bottom_list, text_list, closing_by, closed_list, column_list}
+use Rattle.tb_column.specs.TextList.{made_node, rule_above, class_above, notes_list, top_list, bottom_list, text_list, closing_by, column_list}
 use Rattle.tb_column.proofs.FloatLemmas.{boxes_above-held, boxes_below-held}
 
 -- ---- nodes

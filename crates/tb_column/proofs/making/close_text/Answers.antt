@@ -1,10 +1,9 @@
-use Rattle.std.proofs.Common.{◌≡◌, ◌∙◌, rules, ap, sym, subst, map, List, [], ◌∷◌, ◌++◌, FitsSigned, w64}
+use Rattle.std.proofs.Common.{◌∙◌, rules, ap, sym, subst, [], ◌∷◌, ◌++◌, FitsSigned, w64}
 use Rattle.std.proofs.lemmas.Int.{to_z-of_z}
 use Rattle.tb_pool.specs.Lists.{list_at, with_list}
 use Rattle.tb_node.specs.declared.Node.{Node}
 use Rattle.tb_node.specs.Small.{IsAmount, IsSmall}
 use Rattle.tb_node.proofs.FitLemmas.{list_nodes_fit, list_sums_fit}
-use Rattle.tb_column.specs.TextList.{closed_list}
 use Rattle.tb_column.proofs.ClosingLemmas.{text_small, closing_is, closing_fits, closed_sums, closed_small, closed_page}
 use Rattle.tb_column.proofs.making.close_text.Goals as goal
 
