@@ -7,3 +7,4 @@ pub mod TextLemmas
 pub mod GatherLemmas
 pub mod ClosingLemmas
 pub mod PageLemmas
+pub mod RangeLemmas
