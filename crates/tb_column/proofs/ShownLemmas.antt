@@ -93,8 +93,8 @@ module _ (held : ℕ → List Node) (p : Params) (l : FloatLists) (store : Lists
   front-held =
       map-append (plain_of held) (top_list p l ++ list_at store body ++ notes_list p store notes) (bottom_list p l)
       ∙ ap (λ ns. ns ++ map (plain_of held) (bottom_list p l)) (
-        map-append (plain_of held) (top_list p l ++ list_at store body) (notes_list p store notes)
-        ∙ ap (λ ns. ns ++ map (plain_of held) (notes_list p store notes)) (map-append (plain_of held) (top_list p l) (list_at store body)))
+      map-append (plain_of held) (top_list p l ++ list_at store body) (notes_list p store notes)
+      ∙ ap (λ ns. ns ++ map (plain_of held) (notes_list p store notes)) (map-append (plain_of held) (top_list p l) (list_at store body)))
       ∙ (λ i. boxes_above-held held places.Top p.floatsep p.textfloatsep l.top i ++ body-held i ++ notes-held held p store notes each i ++ boxes_below-held held places.Bottom p.floatsep p.textfloatsep l.bottom i)
 
   glue-held : closing_by p.bottom (limited_depth p.maxdepth (map shape_of front)) ≡ closing_glue p texts

@@ -1,17 +1,16 @@
 //! Worked pages: insertions of two classes under a text, two columns under a wide float, and floats alone.
 
-ghost use Rattle.std.specs.Prelude.{◌≡◌, ◌≢◌, [], ◌∷◌, IfOk, OnOk};
-ghost use Rattle.tb_pool.specs.Lists.{IsLive};
-ghost use Rattle.tb_float.specs.Pool.{with_floats_after};
-ghost use Rattle.tb_float.specs.Ranges.{IsExtent};
+ghost use Rattle.std.specs.Prelude.{◌≡◌, ◌≢◌, length, IfOk};
+ghost use Rattle.tb_pool.specs.Lists.{IsLive, list_at};
 ghost use Rattle.tb_column.specs.Page.{IsPageList};
 ghost use Rattle.tb_column.specs.Ranges.{AreColumnParams, IsSizedGlue};
 ghost use Rattle.tb_column.specs.Changes.{IsOpened};
 
+use crate::nodes::push_made;
 use crate::{Column, ColumnKind, NoteBox, float_column, make_column, pair_tops};
 use std::alloc::AllocError;
 use std::test::Fail;
-use tb_float::{Part, Pool, new_pool};
+use tb_float::{Entry, Part, Pool, new_pool};
 use tb_node::{Float, Kind, Node, Places, What, name_of};
 use tb_param::{Choice, Params, defaults};
 use tb_pool::{ListId, Lists};
@@ -56,6 +55,9 @@ fn floats_stand_alone(rt: HostRuntime) -> Result<(), Fail> {
     let mut pool = new_pool(rt.alloc(), 3)?;
     for height in [10, 20, 40] {
         put(&mut pool, height, Part::Second)?;
+    }
+    if pool.len(Part::Second) != 3 {
+        return Err("not put")?;
     }
     pool.mark(Part::Second, 0);
     pool.mark(Part::Second, 1);
@@ -145,37 +147,27 @@ fn note_box(class: u8, list: ListId) -> NoteBox
 fn list_of(store: &mut Lists<Node>, height: u8, glue: Glue) -> Result<ListId, AllocError>
     requires { IsSizedGlue glue }
     ensures page { IfOk result (λ l. IsPageList store.new l) }
+    ensures two { IfOk result (λ l. length (list_at store.new l) ≡ 2) }
     ensures opened { IfOk result (λ l. IsOpened l store.old store.new) }
 {
     store.reserve(2)?;
     let l = store.add_list()?;
-    let text = Kind::Hbox {
-        what: What::Blank,
-        height: i64::from(height),
-        depth: 0,
-    };
-    store.push_back(
+    push_made(
+        store,
         l,
-        Node {
-            line: 1,
-            kind: text,
+        Kind::Hbox {
+            what: What::Blank,
+            height: i64::from(height),
+            depth: 0,
         },
     );
-    store.push_back(
-        l,
-        Node {
-            line: 1,
-            kind: Kind::Skip(glue),
-        },
-    );
+    push_made(store, l, Kind::Skip(glue));
     Ok(l)
 }
 
 // Puts a float of this height at the end of a list of a pool in which none was taken.
 fn put(pool: &mut Pool, height: u8, part: Part) -> Result<(), Fail>
-    requires apart { Part.Current ≢ part }
-    requires empty { pool.old.lists.current ≡ [] }
-    ensures { OnOk result ((f : Float) × IsExtent f.height × (pool.new ≡ with_floats_after part (f ∷ []) pool.old)) }
+    requires { Part.Current ≢ part }
 {
     let float = Float {
         line: 1,
@@ -194,6 +186,8 @@ fn put(pool: &mut Pool, height: u8, part: Part) -> Result<(), Fail>
     if pool.take(float).is_err() {
         return Err("full")?;
     }
-    pool.move_to(Part::Current, 0, part);
+    if let Some(Entry::Float(_)) = pool.entry(Part::Current, 0) {
+        pool.move_to(Part::Current, 0, part);
+    }
     Ok(())
 }

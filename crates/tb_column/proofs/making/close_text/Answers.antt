@@ -48,8 +48,8 @@ returns-clause-page c =
     let glue = simp to_z-of_z at c.closing_glue.ensures in
     let ns = list_at c.args.store.now c.args.body in
     closed_page c.args.p.now c.args.store.now c.push_back.new.self c.args.body c.requires.params.maxdepth c.requires.page c.requires.few (
-      c.push_back.ensures.pushed
-      ∙ ap (λ (n : Node). with_list c.args.store.now c.args.body (ns ++ n ∷ [])) (closing_is c.args.p.now ns c.list_sums-sums.result c.closing_glue.result c.made_node-glue.result sums glue c.made_node-glue.ensures))
+    c.push_back.ensures.pushed
+    ∙ ap (λ (n : Node). with_list c.args.store.now c.args.body (ns ++ n ∷ [])) (closing_is c.args.p.now ns c.list_sums-sums.result c.closing_glue.result c.made_node-glue.result sums glue c.made_node-glue.ensures))
 
 pub returns-clause-sums : goal.returns-clause-sums
 returns-clause-sums c =
