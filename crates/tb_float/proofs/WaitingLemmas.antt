@@ -19,6 +19,24 @@ floats-with parts.Double w fs l = absurd w
 floats-with parts.Deferred w fs l = refl
 floats-with parts.Second w fs l = refl
 
+pub with-floats-again : (from : Part) (fs gs : List Float) (l : FloatLists) → with_floats_of from fs (with_floats_of from gs l) ≡ with_floats_of from fs l
+with-floats-again parts.Current fs gs l = refl
+with-floats-again parts.Here fs gs l = refl
+with-floats-again parts.Top fs gs l = refl
+with-floats-again parts.Bottom fs gs l = refl
+with-floats-again parts.Double fs gs l = refl
+with-floats-again parts.Deferred fs gs l = refl
+with-floats-again parts.Second fs gs l = refl
+
+pub with-floats-same : (from : Part) → IsWaiting from → (l : FloatLists) → with_floats_of from (floats_of from l) l ≡ l
+with-floats-same parts.Current w l = absurd w
+with-floats-same parts.Here w l = absurd w
+with-floats-same parts.Top w l = absurd w
+with-floats-same parts.Bottom w l = absurd w
+with-floats-same parts.Double w l = absurd w
+with-floats-same parts.Deferred w l = refl
+with-floats-same parts.Second w l = refl
+
 -- the entries of such a list are floats
 pub waiting-entries : (from : Part) → IsWaiting from → (l : FloatLists) → entries_of from l ≡ float_entries (floats_of from l)
 waiting-entries parts.Current w l = absurd w
