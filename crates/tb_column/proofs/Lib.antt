@@ -2,3 +2,8 @@ pub mod StoreLemmas
 pub mod FloatLemmas
 pub mod MovingLemmas
 pub mod NoteLemmas
+pub mod ShownLemmas
+pub mod TextLemmas
+pub mod GatherLemmas
+pub mod ClosingLemmas
+pub mod PageLemmas

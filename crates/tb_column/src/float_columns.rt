@@ -1,5 +1,6 @@
 //! Makes a column of floats alone, and the wide floats above two columns.
-ghost use Rattle.std.specs.Prelude.{◌≡◌, ◌≢◌, ◌+◌, ◌*◌, ◌≤◌, ◌++◌, [], ◌∷◌, length, OnOk, OnErr, IfOk};
+ghost use Rattle.std.specs.Prelude.{◌≡◌, ◌≢◌, ◌+◌, ◌*◌, ◌≤◌, ◌++◌, [], ◌∷◌, length, None, OnOk, OnErr, IfOk};
+ghost use Rattle.std.specs.FinMap.{get};
 ghost use Rattle.tb_pool.specs.Lists.{IsLive, list_at, with_list};
 ghost use Rattle.tb_pool.specs.Frame.{OnlyChanged};
 ghost use Rattle.tb_scaled.specs.Amount.{IsAmount};
@@ -85,6 +86,31 @@ fn push_page(store: &mut Lists<Node>, pool: &mut Pool, l: ListId, from: Part, ar
     push_made(store, l, Kind::Skip(around.below));
 }
 
+// Puts the marked floats with their glue into a new list. Where there is no memory for it, the pool and all lists stay as
+// they were.
+fn open_page(
+    store: &mut Lists<Node>,
+    pool: &mut Pool,
+    p: &Params,
+    wide: bool,
+    from: Part,
+) -> Result<ListId, AllocError>
+    requires params { AreColumnParams p.now }
+    requires waiting { IsWaiting from }
+    ensures fresh { IfOk result (λ l. get store.old.lists l ≡ None) }
+    ensures lists { IfOk result (λ l. store.new.lists ≡ with_list store.old l (page_list (page_glue wide p.now) (marked_floats from pool.old))) }
+    ensures page { IfOk result (λ l. IsPageList store.new l) }
+    ensures pool { OnOk result (pool.new ≡ without_marked from pool.old) }
+    ensures err_lists { OnErr result (store.new.lists ≡ store.old.lists) }
+    ensures err_pool { OnErr result (pool.new ≡ pool.old) }
+{
+    store.reserve(2 * pool.len(from) + 3)?;
+    let list = store.add_list()?;
+    let around = page_glue(p, wide);
+    push_page(store, pool, list, from, &around);
+    Ok(list)
+}
+
 /// Makes a column of the marked floats of a list alone, in order, or a page of them where they are wide: glue above,
 /// between and below them, packed to this height in scaled points (ltoutput.dtx, `\@vtryfc`).
 ///
@@ -113,9 +139,7 @@ pub fn float_column(
     ensures err_lists { OnErr result (store.new.lists ≡ store.old.lists) }
     ensures err_pool { OnErr result (pool.new ≡ pool.old) }
 {
-    store.reserve(2 * pool.len(from) + 3)?;
-    let list = store.add_list()?;
-    push_page(store, pool, list, from, &page_glue(p, wide));
+    let list = open_page(store, pool, p, wide, from)?;
     Ok(Column {
         kind: ColumnKind::Floats,
         list,

@@ -1,9 +1,8 @@
 //! Makes a text column of its text, its insertions and its floats.
-ghost use Rattle.std.specs.Prelude.{◌≡◌, ◌+◌, ◌<◌, ◌≤◌, ◌≤ℤ◌, pos, map, ◌∷◌, length, OnOk, OnErr, IfOk};
-ghost use Rattle.tb_pool.specs.Lists.{IsLive, list_at, with_list};
+ghost use Rattle.std.specs.Prelude.{◌≡◌, ◌+◌, ◌<◌, ◌≤◌, map, ◌∷◌, length, OnOk, OnErr, IfOk};
+ghost use Rattle.tb_pool.specs.Lists.{list_at, with_list};
 ghost use Rattle.tb_pool.specs.Frame.{OnlyChanged};
-ghost use Rattle.tb_node.specs.Small.{IsAmount};
-ghost use Rattle.tb_node.specs.Fit.{NodesFit, SumsFit};
+ghost use Rattle.tb_node.specs.Small.{IsAmount, IsSmall};
 ghost use Rattle.tb_node.specs.Plain.{shape_of};
 ghost use Rattle.tb_node.specs.Sums.{sums_of};
 ghost use Rattle.tb_column.specs.Column.{is_ragged, text_column};
@@ -12,7 +11,7 @@ ghost use Rattle.tb_column.specs.Page.{IsPageList, IsPageColumn};
 ghost use Rattle.tb_column.specs.Ranges.{AreColumnParams};
 ghost use Rattle.tb_column.specs.Notes.{notes_shown, note_lists, note_count, AreNotes};
 ghost use Rattle.tb_column.specs.Changes.{AreJoined, without_text_floats};
-ghost use Rattle.tb_column.specs.TextList.{closing_by, closed_list};
+ghost use Rattle.tb_column.specs.TextList.{closing_by, text_list, closed_list};
 
 use crate::areas::{clear_here, put_above, put_below};
 use crate::nodes::made_node;
@@ -56,17 +55,48 @@ fn closing_glue(bottom: Choice, depth: i64) -> Glue
     }
 }
 
+// Puts the floats and the insertions of a page about its text. Where there is no memory for their nodes and for one more,
+// the pool and all lists stay as they were.
+fn gather(
+    store: &mut Lists<Node>,
+    pool: &mut Pool,
+    p: &Params,
+    body: ListId,
+    notes: &[NoteBox],
+) -> Result<(), AllocError>
+    requires params { AreColumnParams p.now }
+    requires body { IsPageList store.old body }
+    requires notes { AreNotes store.old body notes.now }
+    requires few { length (list_at store.old body) + note_count store.old notes.now ≤ 8355840 }
+    ensures text { OnOk result (list_at store.new body ≡ text_list p.now pool.old.lists store.old body notes.now) }
+    ensures page { OnOk result (IsPageList store.new body) }
+    ensures few { OnOk result (length (list_at store.new body) < 8388608) }
+    ensures lists { OnOk result (AreJoined body notes.now store.old store.new) }
+    ensures room { OnOk result (0 < store.new.spare) }
+    ensures pool { OnOk result (pool.new ≡ without_text_floats pool.old) }
+    ensures err_lists { OnErr result (store.new.lists ≡ store.old.lists) }
+    ensures err_pool { OnErr result (pool.new ≡ pool.old) }
+{
+    let tops = pool.len(Part::Top);
+    let bottoms = pool.len(Part::Bottom);
+    store.reserve(2 * (tops + bottoms) + above_count(notes) + 5)?;
+    put_above(store, pool, p, body)?;
+    join_notes(store, p, body, notes);
+    put_below(store, pool, p, body);
+    clear_here(pool);
+    Ok(())
+}
+
 // Ends a text column with the glue that takes its depth back, and returns the sums of the whole.
 fn close_text(store: &mut Lists<Node>, p: &Params, body: ListId) -> Sums
-    requires live { IsLive store.old body }
+    requires params { AreColumnParams p.now }
+    requires page { IsPageList store.old body }
+    requires few { length (list_at store.old body) < 8388608 }
     requires room { 0 < store.old.spare }
-    requires low { pos 0 ≤ℤ p.now.maxdepth }
-    requires limit { IsAmount p.now.maxdepth }
-    requires nodes { NodesFit (map shape_of (closed_list p.now (list_at store.old body))) }
-    requires sums { SumsFit p.now.maxdepth (map shape_of (closed_list p.now (list_at store.old body))) }
     ensures lists { store.new.lists ≡ with_list store.old body (closed_list p.now (list_at store.old body)) }
-    ensures live { IsLive store.new body }
+    ensures page { IsPageList store.new body }
     ensures sums { result ≡ sums_of p.now.maxdepth (map shape_of (closed_list p.now (list_at store.old body))) }
+    ensures small { IsSmall result }
 {
     let mut sums = list_sums(store, body, p.maxdepth);
     let glue = made_node(Kind::Skip(closing_glue(p.bottom, sums.depth)));
@@ -105,12 +135,7 @@ pub fn make_column(
     ensures err_pool { OnErr result (pool.new ≡ pool.old) }
 {
     let height = pool.column_height(p);
-    let floats = pool.len(Part::Top) + pool.len(Part::Bottom);
-    store.reserve(2 * floats + above_count(notes) + 5)?;
-    put_above(store, pool, p, body)?;
-    join_notes(store, p, body, notes);
-    put_below(store, pool, p, body);
-    clear_here(pool);
+    gather(store, pool, p, body, notes)?;
     let sums = close_text(store, p, body);
     Ok(Column {
         kind: ColumnKind::Text,

@@ -11,7 +11,8 @@ marked-none : (ms : List Bool) → marked_among ms [] ≡ []
 marked-none [] = refl
 marked-none (m ∷ ms) = refl
 
-marked-false : (n : ℕ) (fs : List Float) → marked_among (replicate n false) fs ≡ []
+-- where no mark is set, no float is marked
+pub marked-false : (n : ℕ) (fs : List Float) → marked_among (replicate n false) fs ≡ []
 marked-false zero fs = refl
 marked-false (suc n) [] = refl
 marked-false (suc n) (f ∷ fs) = marked-false n fs

@@ -22,7 +22,8 @@ rise-over : (c : ClassLine) (cs : List ClassLine) → do_classes_rise (c ∷ cs)
 rise-over c [] rise = refl
 rise-over c (d ∷ ds) rise = left_of (nat_lt c.number d.number) (do_classes_rise (d ∷ ds)) rise
 
-rise-rest : (c : ClassLine) (cs : List ClassLine) → do_classes_rise (c ∷ cs) ≡ true → do_classes_rise cs ≡ true
+-- so do those after the first
+pub rise-rest : (c : ClassLine) (cs : List ClassLine) → do_classes_rise (c ∷ cs) ≡ true → do_classes_rise cs ≡ true
 rise-rest c [] rise = refl
 rise-rest c (d ∷ ds) rise = right_of (nat_lt c.number d.number) (do_classes_rise (d ∷ ds)) rise
 

@@ -1,4 +1,5 @@
 //! The classes of insertions that a galley declares.
+
 use crate::pushing::push_at;
 use std::alloc::{AllocError, Global};
 use std::marker::Model;
@@ -35,10 +36,10 @@ impl Model for Classes {
 }
 
 impl Classes {
-    ghost use Rattle.std.specs.Prelude.{◌≡◌, ◌<◌, ◌≤◌, ◌↔◌, ◌++◌, ◌∷◌, ◌==◌, [], length, slice_get, OnOk, OnErr, IsNone};
+    ghost use Rattle.std.specs.Prelude.{◌≡◌, ◌<◌, ◌≤◌, ◌↔◌, ◌++◌, ◌∷◌, ◌==◌, [], length, slice_get, IfOk, IfErr, OnOk, OnErr, IsNone};
     ghost use Rattle.std.specs.List.{All};
     ghost use Rattle.std.specs.Option.{option_copied};
-    ghost use Rattle.tb_galley.specs.Classes.{with_class};
+    ghost use Rattle.tb_galley.specs.Classes.{with_class, IsAt, IsGapFor};
 
     /// No classes. It takes no memory.
     pub fn new(alloc: Global) -> Classes
@@ -64,13 +65,22 @@ impl Classes {
         ensures ok { OnOk result (self.new ≡ with_class class self.old) }
         ensures err { OnErr result (self.new ≡ self.old) }
     {
-        let place = place_of(self.items.as_slice(), class.number);
-        if place < self.items.len() && self.items[place].number == class.number {
-            self.items[place] = class;
-            return Ok(());
+        match self.search(class.number) {
+            Ok(place) => {
+                self.items[place] = class;
+                Ok(())
+            }
+            Err(place) => Ok(self.items.insert(place, class)?),
         }
-        self.items.insert(place, class)?;
-        Ok(())
+    }
+
+    // The place of the class of this number, or the place where it would go.
+    fn search(&self, number: u8) -> Result<usize, usize>
+        ensures found { IfOk result (IsAt self.now number) }
+        ensures absent { IfErr result (IsGapFor self.now number) }
+    {
+        self.items
+            .binary_search_by_key(&number, |class| class.number)
     }
 
     /// How many there are.
@@ -101,12 +111,4 @@ impl Classes {
     {
         self.items.as_slice()
     }
-}
-
-// The place of the first class whose number is not below this one.
-fn place_of(classes: &[ClassLine], number: u8) -> usize {
-    classes
-        .iter()
-        .position(|class| number <= class.number)
-        .unwrap_or(classes.len())
 }
