@@ -1,28 +1,18 @@
 -- The lists of a text column after it was made.
-use Rattle.std.proofs.Common.{◌≡◌, ◌≢◌, refl, sym, subst, ◌∙◌, ap, ℕ, ◌+◌, ◌≤◌, pos, false, List, [], ◌∷◌, ◌++◌, length, Option, None, Some, is_some, unwrap_or, arith}
-use Rattle.std.specs.Prelude.{All, int_lt}
+use Rattle.std.proofs.Common.{◌≡◌, refl, sym, ◌∙◌, ap, ℕ, pos, false, List, [], ◌∷◌, ◌++◌, Option, None, Some}
+use Rattle.std.specs.Prelude.{int_lt}
 use Rattle.std.specs.FinMap.{FinMap, get}
 use Rattle.std.specs.Ordering.{nat_cmp}
-use Rattle.tb_pool.specs.Lists.{Lists, list_at}
-use Rattle.tb_pool.specs.Frame.{IsNoneOf}
+use Rattle.tb_pool.specs.Lists.{Lists}
 use Rattle.tb_pool.proofs.MapLemmas.{get-remove_other}
 use Rattle.tb_node.specs.declared.Node.{Node}
-use Rattle.tb_node.specs.Fit.{IsSizedNode}
-use Rattle.tb_param.specs.declared.Params.{Params}
-use Rattle.tb_float.specs.Lists.{FloatLists, no_floats}
-use Rattle.tb_float.specs.Pool.{FloatPool}
 use Rattle.tb_column.specs.declared.Column.{Column}
-use Rattle.tb_column.specs.declared.NoteBox.{NoteBox}
-use Rattle.tb_column.specs.Column.{Notes, text_column}
 use Rattle.tb_column.specs.Shown.{nodes_shown, column_shown}
-use Rattle.tb_column.specs.Page.{AreLeaves, IsPageList, IsPageColumn}
-use Rattle.tb_column.specs.Ranges.{IsSizedGlue}
-use Rattle.tb_column.specs.Notes as boxes
-use Rattle.tb_column.specs.Changes.{AreJoined, without_text_floats}
-use Rattle.tb_output.specs.Footnotes.{CanJoin, notes_shown, foot_notes}
-use Rattle.tb_output.specs.Machine.{MachineView, IsMachine}
-use Rattle.tb_output.specs.Firing.{note_nodes, IsNotNotes, AreTextLists}
-use Rattle.tb_output.specs.Shipping.{IsEmptyNotes, without_notes, RestStands, shipped_machine, IsTextColumn, IsShipped}
+use Rattle.tb_column.specs.Page.{AreLeaves}
+use Rattle.tb_output.specs.Footnotes.{CanJoin}
+use Rattle.tb_output.specs.Machine.{MachineView}
+use Rattle.tb_output.specs.Firing.{IsNotNotes, AreTextLists}
+use Rattle.tb_output.specs.Shipping.{without_notes, RestStands, shipped_machine, IsTextColumn, IsShipped}
 use Rattle.tb_output.proofs.StandLemmas.{list-stands, nodes-stand}
 
 pub leaves-append : (xs ys : List Node) → AreLeaves xs → AreLeaves ys → AreLeaves (xs ++ ys)

@@ -7,7 +7,7 @@ use Rattle.tb_param.specs.Release.{has_second}
 use Rattle.tb_float.specs.declared.Entry.{Entry}
 use Rattle.tb_float.specs.declared.Entry.TheVariants as entries
 use Rattle.tb_float.specs.declared.Part.TheVariants as parts
-use Rattle.tb_float.specs.Lists.{FloatLists, live_count, without_place, HasFloatAt}
+use Rattle.tb_float.specs.Lists.{live_count, without_place, HasFloatAt}
 use Rattle.tb_float.specs.Pool.{FloatPool, with_current, moved_float}
 use Rattle.tb_output.specs.Queue.{HasRoomFor}
 use Rattle.tb_output.specs.Acting.{taken_into}

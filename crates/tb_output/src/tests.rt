@@ -224,11 +224,7 @@ fn params(maxpages: i64, maxdeadcycles: i64) -> Params
 }
 
 // A machine whose insertions are footnotes alone.
-fn made_machine(
-    alloc: Global,
-    store: &mut Lists<Node>,
-    p: &Params,
-) -> Result<Machine, AllocError>
+fn made_machine(alloc: Global, store: &mut Lists<Node>, p: &Params) -> Result<Machine, AllocError>
     requires { AreOutputParams p.now }
     ensures machine { IfOk result (λ m. IsMachine m store.new) }
     ensures floatless { IfOk result (λ m. IsFloatless m store.new) }
