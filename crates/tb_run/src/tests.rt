@@ -28,7 +28,8 @@ fn gives_the_nodes_of_floats(rt: HostRuntime) -> Result<(), Fail> {
     assert_eq!(rt;
         penalties(rt.alloc(), defaults(), items)?.as_slice(),
         [
-            -10_000, -10_001, -10_004, -10_003, -10_000, -10_001, -10_004, -10_002, -10_000, -10_001
+            -10_000, -10_001, -10_004, -10_003, -10_000, -10_001, -10_004, -10_002, -10_000,
+            -10_001
         ]
         .as_slice()
     );
@@ -40,7 +41,10 @@ fn gives_the_nodes_of_floats(rt: HostRuntime) -> Result<(), Fail> {
     ];
     assert_eq!(rt;
         penalties(rt.alloc(), earlier(), items)?.as_slice(),
-        [-10_000, -10_001, -10_000, -10_001, -10_004, -10_002, -10_000, -10_001].as_slice()
+        [
+            -10_000, -10_001, -10_000, -10_001, -10_004, -10_002, -10_000, -10_001
+        ]
+        .as_slice()
     );
     Ok(())
 }
@@ -65,11 +69,7 @@ fn gives_the_nodes_of_notes(rt: HostRuntime) -> Result<(), Fail> {
 }
 
 // The penalties among the nodes that wait of a galley with these items, of which none is a footnote.
-fn penalties(
-    alloc: Global,
-    params: Params,
-    kinds: [ItemKind; 4],
-) -> Result<Vec<i64>, AllocError>
+fn penalties(alloc: Global, params: Params, kinds: [ItemKind; 4]) -> Result<Vec<i64>, AllocError>
     requires { All (IsItem []) kinds }
 {
     let mut items = Items::new(alloc);
