@@ -10,3 +10,5 @@ pub mod RoomLemmas
 pub mod ParamLemmas
 pub mod RetireLemmas
 pub mod WaitingLemmas
+pub mod ClassLemmas
+pub mod RotateLemmas

@@ -2,3 +2,4 @@ pub mod CompanyLemmas
 pub mod LawLemmas
 pub mod WalkLemmas
 pub mod FirstLemmas
+pub mod ChosenLemmas

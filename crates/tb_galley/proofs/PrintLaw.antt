@@ -21,7 +21,7 @@ use Rattle.tb_param.proofs.AllSet.{all_set}
 use Rattle.tb_param.proofs.RowNames.{rows_found}
 use Rattle.tb_galley.specs.declared.Cause.TheVariants as causes
 use Rattle.tb_galley.specs.declared.contents.Content.TheVariants as contents
-use Rattle.tb_galley.specs.declared.ClassLine.{ClassLine}
+use Rattle.tb_galley.specs.declared.classes.ClassLine.{ClassLine}
 use Rattle.tb_galley.specs.declared.Galley.{Galley}
 use Rattle.tb_galley.specs.declared.Item.{Item}
 use Rattle.tb_galley.specs.declared.ItemKind.{ItemKind}

@@ -266,8 +266,10 @@ foot_back v = by_version (v == 1) refl
   where
     number : integer_of (decimal 254) ≡ Ok (pos 254)
     number = integer_back (pos 254) (omega arith)
+
     text : IsFit (range_slot (pos 0) (pos 1000) causes.Class) (decimal 254)
     text = range_fit (pos 0) (pos 1000) causes.Class (pos 254) (omega arith) (omega arith) refl
+
     by_version : (t : Bool) → (v == 1) ≡ t → ReadsAs (plain_known v) foot (class_fields t 254) (λ n. contents.Foot 254)
     by_version true e = record { fit = tt; short = omega arith; content = λ n. refl }
     by_version false e =

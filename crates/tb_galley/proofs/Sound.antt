@@ -23,7 +23,7 @@ use Rattle.tb_galley.specs.declared.Galley.{Galley}
 use Rattle.tb_galley.specs.declared.Item.{Item}
 use Rattle.tb_galley.specs.declared.ItemKind.{ItemKind}
 use Rattle.tb_galley.specs.declared.ItemKind.TheVariants as items
-use Rattle.tb_galley.specs.declared.ClassLine.{ClassLine}
+use Rattle.tb_galley.specs.declared.classes.ClassLine.{ClassLine}
 use Rattle.tb_galley.specs.Values.{is_class_among}
 use Rattle.tb_galley.specs.declared.Leaf.{Leaf}
 use Rattle.tb_galley.specs.declared.LeafKind.{LeafKind}
@@ -284,6 +284,7 @@ set_fits v [] field value ps known h = by_version (v == 1) (v == 2) (λ e. eqb-t
   where
     with_second : (x y : Bool) → y ≡ x → (not x || false) ≡ true → (not y || false) ≡ true
     with_second x y e h = subst (λ z. (not z || false) ≡ true) (sym e) h
+
     by_version : (one two : Bool) → (one ≡ true → v ≡ 1) → ((one && not (has_second ps)) || two) ≡ true → ((one && not (has_second (with_value field value ps))) || two) ≡ true
     by_version true true is h = or_true (not (has_second (with_value field value ps)))
       where

@@ -1,9 +1,9 @@
 -- One more class among those that were declared: they stay in their ranges, they rise, and none is lost.
-use Rattle.std.proofs.Common.{◌≡◌, ℕ, ◌<◌, Bool, true, false, ◌&&◌, ◌||◌, ◌==◌, nat_lt, List, [], ◌∷◌, map, if◌then◌else◌, refl, ap, sym, subst, ◌∙◌, arith}
+use Rattle.std.proofs.Common.{◌≡◌, ℕ, Bool, true, false, ◌||◌, ◌==◌, nat_lt, List, [], ◌∷◌, map, if◌then◌else◌, refl, ap, sym, subst, ◌∙◌, arith}
 use Rattle.std.specs.List.{list_all, list_any}
 use Rattle.std.proofs.lemmas.Bool.{eqb-true}
 use Rattle.std.proofs.lemmas.Bool.Decides.{nat_tests}
-use Rattle.tb_galley.specs.declared.ClassLine.{ClassLine}
+use Rattle.tb_galley.specs.declared.classes.ClassLine.{ClassLine}
 use Rattle.tb_galley.specs.Values.{is_class_among}
 use Rattle.tb_galley.specs.Grammar.{with_class}
 use Rattle.tb_galley.specs.Valid.{is_class, do_classes_rise}
@@ -22,7 +22,8 @@ rise-over : (c : ClassLine) (cs : List ClassLine) → do_classes_rise (c ∷ cs)
 rise-over c [] rise = refl
 rise-over c (d ∷ ds) rise = left_of (nat_lt c.number d.number) (do_classes_rise (d ∷ ds)) rise
 
-rise-rest : (c : ClassLine) (cs : List ClassLine) → do_classes_rise (c ∷ cs) ≡ true → do_classes_rise cs ≡ true
+-- so do those after the first
+pub rise-rest : (c : ClassLine) (cs : List ClassLine) → do_classes_rise (c ∷ cs) ≡ true → do_classes_rise cs ≡ true
 rise-rest c [] rise = refl
 rise-rest c (d ∷ ds) rise = right_of (nat_lt c.number d.number) (do_classes_rise (d ∷ ds)) rise
 

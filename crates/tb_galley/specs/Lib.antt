@@ -1,4 +1,5 @@
 pub mod Words
+pub mod Classes
 pub mod Values
 pub mod Faults
 pub mod Grammar

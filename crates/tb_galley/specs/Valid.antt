@@ -9,8 +9,9 @@ unfoldable pub use Rattle.tb_param.specs.Ranges.{are_params}
 use Rattle.tb_param.specs.Release.{has_second}
 use Rattle.tb_param.specs.Table.{is_within, is_dimen, is_glue}
 use Rattle.tb_param.specs.declared.Params.{Params}
+pub use Rattle.tb_galley.specs.Classes.{do_classes_rise}
 use Rattle.tb_galley.specs.Values.{is_class_among}
-use Rattle.tb_galley.specs.declared.ClassLine.{ClassLine}
+use Rattle.tb_galley.specs.declared.classes.ClassLine.{ClassLine}
 use Rattle.tb_galley.specs.declared.Leaf.{Leaf}
 use Rattle.tb_galley.specs.declared.LeafKind.{LeafKind}
 use Rattle.tb_galley.specs.declared.LeafKind.TheVariants as leaves
@@ -98,12 +99,6 @@ rise_from n (m ∷ ms) = nat_lt n m && rise_from m ms
 -- a class in its ranges
 abbrev pub is_class : ClassLine → Bool
 is_class c = nat_le c.number 253 && is_within (pos 0) (pos 10000) c.factor && is_size c.limit && is_glue c.skip
-
--- each class has a greater number than the one before it
-abbrev pub do_classes_rise : List ClassLine → Bool
-do_classes_rise [] = true
-do_classes_rise (c ∷ []) = true
-do_classes_rise (c ∷ d ∷ ds) = nat_lt c.number d.number && do_classes_rise (d ∷ ds)
 
 -- the class of a footnote is 254 or one of these; other items have none
 abbrev pub has_known_class : List ℕ → ItemKind → Bool

@@ -1,11 +1,13 @@
 //! What a content line says.
 ghost use Rattle.std.specs.Prelude.{◌≡◌};
-ghost use Rattle.tb_galley.specs.Reading.{left_of, Gives, float_left, margin_left, area_left, value_left, set_left, content_left};
+ghost use Rattle.tb_galley.specs.Machine.{known_in};
+ghost use Rattle.tb_galley.specs.Reading.{left_of, Gives, float_left, margin_left, area_left, value_left, set_left, class_left, foot_left, content_left};
 
+use crate::draft::Draft;
 use crate::fields::{At, Fields};
 use crate::{Cause, ClassLine, ItemKind, LeafKind, Word};
 use tb_node::{Area, Float, Margin};
-use tb_param::{Choice, Field, Form, Value, row};
+use tb_param::{Choice, Field, Form, Value, row_for};
 
 /// What a content line says.
 #[derive(Drop)]
@@ -97,15 +99,19 @@ fn value(form: Form, fields: &mut Fields<'_>) -> Result<Value, At>
             let on = fields.choice(b"off", b"on", Cause::WrongForm)?;
             Ok(Value::Word(if on { Choice::On } else { Choice::Off }))
         }
+        Form::Release => {
+            let last = fields.choice(b"2014", b"2015", Cause::WrongForm)?;
+            Ok(Value::Word(if last { Choice::R2015 } else { Choice::R2014 }))
+        }
     }
 }
 
 #[tactic(auto, unfolding(crate::specs::Reading::set_left))]
-fn set(fields: &mut Fields<'_>) -> Result<Content, At>
-    ensures { Gives result (left_of fields.new) (set_left (left_of fields.old)) }
+fn set(version: u8, fields: &mut Fields<'_>) -> Result<Content, At>
+    ensures { Gives result (left_of fields.new) (set_left version (left_of fields.old)) }
 {
     let number = fields.number;
-    let Some((_, field, form)) = row(fields.next()?) else {
+    let Some((_, field, form)) = row_for(version, fields.next()?) else {
         return Err(At {
             field: number,
             cause: Cause::UnknownParameter,
@@ -115,17 +121,55 @@ fn set(fields: &mut Fields<'_>) -> Result<Content, At>
     Ok(Content::Set { field, value })
 }
 
-/// What the fields after a line's word say.
+#[tactic(auto, unfolding(crate::specs::Reading::class_left))]
+fn class(line: u32, fields: &mut Fields<'_>) -> Result<ClassLine, At>
+    ensures { Gives result (left_of fields.new) (class_left line (left_of fields.old)) }
+{
+    let number = fields.integer_within(0, 253, Cause::Class)?;
+    let factor = fields.integer_within(0, 10_000, Cause::Parameter)?;
+    let limit = fields.dimension_from(0, Cause::Dimension)?;
+    let skip = fields.glue(Cause::UnknownWord)?;
+    Ok(ClassLine {
+        line,
+        number: number as u8,
+        factor,
+        limit,
+        skip,
+    })
+}
+
+// The class of a footnote that names none.
+const PLAIN_FOOT: u8 = 254;
+
+#[tactic(auto, unfolding(crate::specs::Reading::foot_left))]
+fn foot(draft: &Draft, fields: &mut Fields<'_>) -> Result<u8, At>
+    ensures { Gives result (left_of fields.new) (foot_left (known_in draft.now) (left_of fields.old)) }
+{
+    if draft.version == 1 || fields.is_at_end() {
+        return Ok(PLAIN_FOOT);
+    }
+    fields.class_among(draft.classes.as_slice())
+}
+
+/// What the fields after a line's word say, by what the lines before gave.
 #[tactic(auto, unfolding(crate::specs::Reading::content_left))]
-pub fn read_content(line: u32, word: Word, fields: &mut Fields<'_>) -> Result<Content, At>
-    ensures { Gives result (left_of fields.new) (content_left line word (left_of fields.old)) }
+pub fn read_content(
+    draft: &Draft,
+    line: u32,
+    word: Word,
+    fields: &mut Fields<'_>,
+) -> Result<Content, At>
+    ensures { Gives result (left_of fields.new) (content_left (known_in draft.now) line word (left_of fields.old)) }
 {
     match word {
         Word::Header => {
-            fields.word(b"1", Cause::NoHeader)?;
-            Ok(Content::Header)
+            let second = fields.choice(b"1", b"2", Cause::NoHeader)?;
+            Ok(Content::Header {
+                version: if second { 2 } else { 1 },
+            })
         }
-        Word::Setting => set(fields),
+        Word::Setting => set(draft.version, fields),
+        Word::Class => Ok(Content::Class(class(line, fields)?)),
         Word::Hbox => {
             let (name, height, depth) = fields.sized()?;
             Ok(Content::Plain(LeafKind::Hbox {
@@ -150,7 +194,9 @@ pub fn read_content(line: u32, word: Word, fields: &mut Fields<'_>) -> Result<Co
         }
         Word::Mark => Ok(Content::Item(ItemKind::Mark(fields.name()?))),
         Word::Note => Ok(Content::Item(ItemKind::Note(fields.name()?))),
-        Word::Foot => Ok(Content::Foot),
+        Word::Foot => Ok(Content::Foot {
+            class: foot(draft, fields)?,
+        }),
         Word::Endfoot => Ok(Content::Endfoot),
         Word::Float => {
             let (float, vert) = float(line, fields)?;

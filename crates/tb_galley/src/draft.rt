@@ -7,7 +7,7 @@ use crate::{Classes, Item, ItemKind, Items, Leaf, LeafKind, Leaves};
 use std::alloc::{AllocError, Global};
 use tb_param::Params;
 
-/// A foot that is open: its line and its leaves so far.
+/// A foot that is open: its line, its class and its leaves so far.
 #[derive(Drop)]
 pub struct OpenFoot {
     pub line: u32,
@@ -38,11 +38,15 @@ impl Draft {
         ensures { OnOk result (self.new ≡ with_content self.old line content) }
     {
         match content {
-            Content::Header => Ok(()),
+            Content::Header { version } => {
+                self.version = version;
+                Ok(())
+            }
             Content::Set { field, value } => {
                 self.params.put(field, value);
                 Ok(())
             }
+            Content::Class(class) => self.classes.declare(class),
             Content::Plain(kind) => match &mut self.foot {
                 Some(foot) => foot.leaves.push(Leaf { line, kind }),
                 None => self.items.push(Item {
@@ -51,15 +55,22 @@ impl Draft {
                 }),
             },
             Content::Item(kind) => self.add_item(line, kind),
-            Content::Foot => {
+            Content::Foot { class } => {
                 self.foot = Some(OpenFoot {
                     line,
+                    class,
                     leaves: Leaves::new(alloc),
                 });
                 Ok(())
             }
             Content::Endfoot => match self.foot.take() {
-                Some(foot) => self.add_item(foot.line, ItemKind::Foot(foot.leaves)),
+                Some(
+                    OpenFoot {
+                        line,
+                        class,
+                        leaves,
+                    },
+                ) => self.add_item(line, ItemKind::Foot { class, leaves }),
                 None => Ok(()),
             },
             Content::End => {

@@ -11,3 +11,7 @@ pub mod FootLemmas
 pub mod ItemLemmas
 pub mod BeginLemmas
 pub mod ServedItems
+pub mod GalleyItems
+pub mod GalleyClasses
+pub mod ItemAmounts
+pub mod GalleyNodeLemmas

@@ -4,3 +4,4 @@ pub mod PageMade
 pub mod Servable
 pub mod Turning
 pub mod Expanding
+pub mod GalleyNodes

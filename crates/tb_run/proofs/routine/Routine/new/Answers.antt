@@ -1,14 +1,31 @@
+use Rattle.std.proofs.Common.{◌≡◌, ◌∙◌, sym, subst, ap, List, [], ◌∷◌, ◌++◌, map}
+use Rattle.tb_insert.specs.declared.Class.{Class}
+use Rattle.tb_builder.specs.Contents.{Contents}
+use Rattle.tb_builder.specs.Owned.{ClassesFit}
+use Rattle.tb_galley.specs.declared.ClassLine.{ClassLine}
 use Rattle.tb_galley.specs.Expand.{expanded}
+use Rattle.tb_output.specs.State.{foot_class, first_state}
+use Rattle.tb_output.specs.Machine.{AreOutputClasses}
+use Rattle.tb_run.specs.Run.{class_of}
+use Rattle.tb_run.specs.Expanding.{AreItems}
+use Rattle.tb_run.proofs.AfterFiring.{foot-fits}
 use Rattle.tb_run.proofs.BeginLemmas.{begin-state, begin-ready}
 use Rattle.tb_run.proofs.routine.Routine.new.Goals as goal
 
+pub new_machine-requires-clause-classes : goal.new_machine-requires-clause-classes
+new_machine-requires-clause-classes c = ?
+
+pub new_builder-requires : goal.new_builder-requires
+new_builder-requires c = ?
+
+pub expand-requires-clause-can : goal.expand-requires-clause-can
+expand-requires-clause-can c = ?
+
+pub expand-requires-clause-items : goal.expand-requires-clause-items
+expand-requires-clause-items c = ?
+
 pub returns-clause-state : goal.returns-clause-state
-returns-clause-state c =
-    begin-state c.args.galley.now.params c.in_ok-machine.machine c.new_machine.new.store c.new_builder.new.store c.expand.new.store c.in_ok-builder.builder c.expand.new.builder c.foot_class.result (expanded c.args.galley.now) c.in_ok-machine.ensures.state
-    c.in_ok-machine.ensures.machine c.in_ok-machine.ensures.floatless c.in_ok-machine.ensures.params c.foot_class.ensures c.in_ok-builder.ensures.contents c.in_ok-builder.ensures.fresh c.in_ok-builder.ensures.others c.in_ok-expand.ensures
+returns-clause-state c = ?
 
 pub returns-clause-ready : goal.returns-clause-ready
-returns-clause-ready c =
-    begin-ready c.args.galley.now.params c.in_ok-machine.machine c.new_machine.new.store c.new_builder.new.store c.expand.new.store c.in_ok-builder.builder c.expand.new.builder c.foot_class.result (expanded c.args.galley.now) c.in_ok-machine.ensures.state
-    c.in_ok-machine.ensures.machine c.in_ok-machine.ensures.floatless c.in_ok-machine.ensures.params c.foot_class.ensures c.in_ok-builder.ensures.contents c.in_ok-builder.ensures.fresh c.in_ok-builder.ensures.others c.in_ok-expand.ensures
-    c.in_ok-machine.ensures.fault c.in_ok-machine.ensures.events c.requires.nodes
+returns-clause-ready c = ?

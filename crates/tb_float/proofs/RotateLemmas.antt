@@ -1,0 +1,98 @@
+-- The first float of a list goes behind the others.
+use Rattle.std.proofs.Common.{◌≡◌, ℕ, Bool, true, false, List, [], ◌∷◌, ◌++◌, length, map, refl, ap, ◌∙◌, arith}
+use Rattle.std.proofs.lemmas.Int.{ints}
+use Rattle.std.proofs.lemmas.List.{map-append, length-append}
+use Rattle.tb_pool.specs.Lists.{Lists, with_list}
+use Rattle.tb_node.specs.declared.Float.{Float}
+use Rattle.tb_float.specs.declared.Part.{Part}
+use Rattle.tb_float.specs.declared.Part.TheVariants as parts
+use Rattle.tb_float.specs.declared.Entry.{Entry}
+use Rattle.tb_float.specs.declared.Entry.TheVariants as entries
+use Rattle.tb_float.specs.declared.shelves.Shelves.{Shelves}
+use Rattle.tb_float.specs.declared.heights.Heights.{Heights}
+use Rattle.tb_float.specs.SlotView.{SlotView}
+use Rattle.tb_float.specs.Lists.{IsWaiting, float_before}
+use Rattle.tb_float.specs.Pool.{FloatPool, HasNoMarks, marked_among, rotated, with_first_behind}
+use Rattle.tb_float.specs.Rooms.{total_height}
+use Rattle.tb_float.specs.Stored.{shelf_of, slots_of, seen_pool, seen_lists, floats_in, is_float, holds_notes, AreSlotsOf, IsStored}
+use Rattle.tb_float.proofs.SlotLemmas.{floats_in-append, total_height-append, slots-append}
+use Rattle.tb_float.proofs.MarkLemmas.{HasAllMarks, marked-none, marked-append}
+use Rattle.tb_float.proofs.PoolLemmas.{IsPool, rewritten}
+
+-- ---- slots
+
+map-rotated : {X Y : Type 0} (f : X → Y) (xs : List X) → map f (rotated xs) ≡ rotated (map f xs)
+map-rotated f [] = refl
+map-rotated f (x ∷ xs) = map-append f xs (x ∷ [])
+
+length-rotated : {X : Type 0} (xs : List X) → length (rotated xs) ≡ length xs
+length-rotated [] = refl
+length-rotated (x ∷ xs) = omega (arith, length-append xs (x ∷ []))
+
+first-behind : (e : Entry) (fs : List Float) → is_float e ≡ true → fs ++ float_before e [] ≡ rotated (float_before e fs)
+first-behind (entries.Float f) fs is = refl
+first-behind (entries.Left m) fs is = absurd cc
+first-behind (entries.Right m) fs is = absurd cc
+
+floats_in-rotated : (p : Part) (ss : List SlotView) → holds_notes p ≡ false → AreSlotsOf p ss → floats_in (rotated ss) ≡ rotated (floats_in ss)
+floats_in-rotated p [] none h = refl
+floats_in-rotated p (s ∷ ss) none h = floats_in-append ss (s ∷ []) ∙ first-behind s.entry (floats_in ss) (h.0.float none)
+
+total-rotated : (ss : List SlotView) → total_height (floats_in (rotated ss)) ≡ total_height (floats_in ss)
+total-rotated [] = refl
+total-rotated (s ∷ ss) =
+    let one = floats_in (s ∷ []) in
+    let behind = ap total_height (floats_in-append ss (s ∷ [])) ∙ total_height-append (floats_in ss) one in
+    let before = ap total_height (floats_in-append (s ∷ []) ss) ∙ total_height-append one (floats_in ss) in
+    omega (arith, ints, behind, before)
+
+slots-rotated : (p : Part) (ss : List SlotView) → AreSlotsOf p ss → AreSlotsOf p (rotated ss)
+slots-rotated p [] h = tt
+slots-rotated p (s ∷ ss) h = slots-append p ss (s ∷ []) h.1 (h.0, tt)
+
+-- ---- the pool
+
+-- the first float of a list in which floats wait went behind the others
+pub first-went-behind : (store new : Lists SlotView) (sh : Shelves) (h : Heights) (size : ℕ) (p : Part) → IsWaiting p → IsStored store sh h size
+    → new.lists ≡ with_list store (shelf_of sh p) (rotated (slots_of store sh p)) → new.spare ≡ store.spare → IsPool new sh h size (with_first_behind p (seen_pool (slots_of store sh) size))
+first-went-behind store new sh h size parts.Deferred is stored e spare =
+    let at = slots_of store sh in
+    let ss = at parts.Deferred in
+    let slots = stored.sound.slots parts.Deferred in
+    let w = rewritten store new sh h size parts.Deferred (rotated ss) stored e spare (slots-rotated parts.Deferred ss slots) (length-rotated ss) (total-rotated ss) in
+    record {
+      stored = w.stored;
+      seen = ap (λ a. seen_pool a size) w.slots ∙ (λ i. record (seen_pool at size) { lists = record (seen_lists at) { deferred = floats_in-rotated parts.Deferred ss refl slots i }; marks = map-rotated {X = SlotView} (λ s. s.marked) ss i });
+    }
+first-went-behind store new sh h size parts.Second is stored e spare =
+    let at = slots_of store sh in
+    let ss = at parts.Second in
+    let slots = stored.sound.slots parts.Second in
+    let w = rewritten store new sh h size parts.Second (rotated ss) stored e spare (slots-rotated parts.Second ss slots) (length-rotated ss) (total-rotated ss) in
+    record {
+      stored = w.stored;
+      seen = ap (λ a. seen_pool a size) w.slots ∙ (λ i. record (seen_pool at size) { lists = record (seen_lists at) { second = floats_in-rotated parts.Second ss refl slots i }; second_marks = map-rotated {X = SlotView} (λ s. s.marked) ss i });
+    }
+first-went-behind store new sh h size parts.Current is stored e spare = absurd is
+first-went-behind store new sh h size parts.Here is stored e spare = absurd is
+first-went-behind store new sh h size parts.Top is stored e spare = absurd is
+first-went-behind store new sh h size parts.Bottom is stored e spare = absurd is
+first-went-behind store new sh h size parts.Double is stored e spare = absurd is
+
+-- ---- marks
+
+marked-rotated : (ms : List Bool) (fs : List Float) → length ms ≡ length fs → marked_among ms fs ≡ [] → marked_among (rotated ms) (rotated fs) ≡ []
+marked-rotated [] fs same none = refl
+marked-rotated (m ∷ ms) [] same none = marked-none (ms ++ m ∷ [])
+marked-rotated (true ∷ ms) (f ∷ fs) same none = cc
+marked-rotated (false ∷ ms) (f ∷ fs) same none = marked-append ms (false ∷ []) fs (f ∷ []) (omega arith) ∙ ap (λ gs. gs ++ []) none
+
+-- where none is marked, none is then
+pub unmarked-rotated : (p : Part) → IsWaiting p → (v : FloatPool) → HasAllMarks v → HasNoMarks v → HasNoMarks (with_first_behind p v)
+unmarked-rotated parts.Deferred is v same e = record { deferred = marked-rotated v.marks v.lists.deferred same.deferred e.deferred; second = e.second }
+unmarked-rotated parts.Second is v same e = record { deferred = e.deferred; second = marked-rotated v.second_marks v.lists.second same.second e.second }
+unmarked-rotated parts.Current is v same e = absurd is
+unmarked-rotated parts.Here is v same e = absurd is
+unmarked-rotated parts.Top is v same e = absurd is
+unmarked-rotated parts.Bottom is v same e = absurd is
+unmarked-rotated parts.Double is v same e = absurd is

@@ -1,0 +1,31 @@
+//! The classes of insertions that a machine serves.
+
+ghost use Rattle.std.specs.Prelude.{◌≡◌, IfOk};
+
+use std::alloc::{AllocError, Global};
+use std::marker::Model;
+use tb_insert::Class;
+
+/// Classes of insertions in rising number. They are seen as a list of [`Class`].
+#[derive(Drop)]
+pub(crate) struct Classes {
+    items: Vec<Class>,
+}
+
+impl Model for Classes {
+    ghost use Rattle.std.specs.Prelude.{List};
+    ghost use Rattle.tb_insert.specs.declared.Class.{Class};
+
+    ghost Value = { List Class };
+
+    ghost view = { λ a. a.items.items };
+}
+
+/// These classes.
+pub(crate) fn copied(alloc: Global, classes: &[Class]) -> Result<Classes, AllocError>
+    ensures { IfOk result (λ a. a ≡ classes.now) }
+{
+    Ok(Classes {
+        items: classes.to_vec(alloc)?,
+    })
+}
