@@ -212,7 +212,7 @@ below-full place sep first [] some = absurd (some refl)
 below-full place sep first (f ∷ fs) some = refl
 
 module _ (s : Lists Node) (l : ℕ) (live : IsLive s l) (place : Where) (sep g : Glue) (fs : List Float) (none : fs ≡ []) where
-  -- where there are no floats, nothing is put there
+  -- if there are no floats, nothing is put there
   pub above-none : s.lists ≡ with_list s l (list_at s l ++ boxes_above place sep g fs)
   above-none = with_list-same s s l live refl ∙ ap (with_list s l) (sym (append-nil (list_at s l)) ∙ ap (λ (hs : List Float). list_at s l ++ boxes_above place sep g hs) (sym none))
 

@@ -86,7 +86,7 @@ pub record JoinedSoFar (p : Params) (body : ℕ) (s0 : Lists Node) (done : List 
   pub lists : AreJoined body done s0 s
   pub spare : s.spare + above_count done ≡ s0.spare
 
--- what the map has where a list took all of another
+-- what the map has after a list took all of another
 module _ (s s' : Lists Node) (body : ℕ) (n : NoteBox) (xs : List Node) (text : n.list ≢ body) (e : s'.lists ≡ insert (with_list s body xs) n.list []) where
   get-body : get s'.lists body ≡ Some xs
   get-body = ap (λ m. get m body) e ∙ get-insert_other (with_list s body xs) n.list [] body (λ h. text (sym h)) ∙ get-insert_same s.lists body xs

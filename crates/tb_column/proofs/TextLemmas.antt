@@ -104,7 +104,7 @@ module _ (p : Params) (ranges : AreColumnParams p) (l : FloatLists) (store : Lis
         notes-length p store notes,
       )
 
-  -- it is short where its parts are
+  -- it is short if its parts are
   module _ (tops : length l.top ≤ 4096) (bottoms : length l.bottom ≤ 4096) (above : above_count notes ≤ 1024) (parts : length (list_at store body) + note_count store notes ≤ 8355840) where
     pub text-few : length (text_list p l store body notes) < 8388608
     text-few = omega (arith, tops, bottoms, above, parts, text-length)

@@ -93,7 +93,7 @@ fn put_before(store: &mut Lists<Node>, front: ListId, l: ListId)
     store.close(front);
 }
 
-/// Moves the floats at the top of a column before its text (ltoutput.dtx, `\@cflt`). Where there is no memory for a list
+/// Moves the floats at the top of a column before its text (ltoutput.dtx, `\@cflt`). If there is no memory for a list
 /// that helps, the pool and all lists stay as they were.
 pub(crate) fn put_above(
     store: &mut Lists<Node>,

@@ -86,7 +86,7 @@ fn push_page(store: &mut Lists<Node>, pool: &mut Pool, l: ListId, from: Part, ar
     push_made(store, l, Kind::Skip(around.below));
 }
 
-// Puts the marked floats with their glue into a new list. Where there is no memory for it, the pool and all lists stay as
+// Puts the marked floats with their glue into a new list. If there is no memory for it, the pool and all lists stay as
 // they were.
 fn open_page(
     store: &mut Lists<Node>,
@@ -111,10 +111,10 @@ fn open_page(
     Ok(list)
 }
 
-/// Makes a column of the marked floats of a list alone, in order, or a page of them where they are wide: glue above,
+/// Makes a column of the marked floats of a list alone, in order, or a page of them if they are wide: glue above,
 /// between and below them, packed to this height in scaled points (ltoutput.dtx, `\@vtryfc`).
 ///
-/// The marked floats leave the pool, and the column gets a new list. Where there is no memory for it, the pool and all
+/// The marked floats leave the pool, and the column gets a new list. If there is no memory for it, the pool and all
 /// lists stay as they were.
 pub fn float_column(
     store: &mut Lists<Node>,
@@ -150,7 +150,7 @@ pub fn float_column(
 /// Puts the wide floats that stand above two columns into a new list, with the glue below them (ltoutput.dtx,
 /// `\@combinedblfloats`).
 ///
-/// They leave the pool. Where there is no memory for the list, the pool and all lists stay as they were.
+/// They leave the pool. If there is no memory for the list, the pool and all lists stay as they were.
 pub fn pair_tops(store: &mut Lists<Node>, pool: &mut Pool, p: &Params) -> Result<ListId, AllocError>
     requires { AreColumnParams p.now }
 

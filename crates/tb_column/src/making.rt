@@ -55,7 +55,7 @@ fn closing_glue(bottom: Choice, depth: i64) -> Glue
     }
 }
 
-// Puts the floats and the insertions of a page about its text. Where there is no memory for their nodes and for one more,
+// Puts the floats and the insertions of a page about its text. If there is no memory for their nodes and for one more,
 // the pool and all lists stay as they were.
 fn gather(
     store: &mut Lists<Node>,
@@ -110,7 +110,7 @@ fn close_text(store: &mut Lists<Node>, p: &Params, body: ListId) -> Sums
 /// a page (ltoutput.dtx, `\@makecol` and `\@combinefloats`).
 ///
 /// The list of the text becomes the column's, and those of the insertions are emptied into it; no node is copied. The
-/// floats in the text, at its top and at its bottom leave the pool. Where there is no memory for the nodes that are
+/// floats in the text, at its top and at its bottom leave the pool. If there is no memory for the nodes that are
 /// made, the pool and all lists stay as they were.
 pub fn make_column(
     store: &mut Lists<Node>,
