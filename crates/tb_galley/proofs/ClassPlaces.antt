@@ -1,5 +1,5 @@
 -- Where a class stands among those of rising numbers, and what a write, an insert or a push there gives.
-use Rattle.std.proofs.Common.{◌≡◌, ℕ, zero, suc, ◌+◌, ◌<◌, ◌≤◌, Bool, true, false, ◌&&◌, ◌==◌, nat_lt, List, [], ◌∷◌, ◌++◌, length, get_or, set, Result, Ok, Err, IfOk, IfErr, OnOk, OnErr, if◌then◌else◌, refl, ap, sym, subst, ◌∙◌, arith}
+use Rattle.std.proofs.Common.{◌≡◌, ℕ, zero, suc, ◌<◌, ◌≤◌, true, false, ◌==◌, nat_lt, List, [], ◌∷◌, ◌++◌, length, get_or, set, Result, Ok, Err, IfOk, IfErr, OnOk, OnErr, if◌then◌else◌, refl, ap, sym, ◌∙◌, arith}
 use Rattle.std.specs.List.{All, insert}
 use Rattle.std.specs.List.Sorted.{IsSearchInRange, IsBinarySearchResult, IsNonDecreasingBy}
 use Rattle.std.specs.Ordering.{nat_cmp, ordering_index}
@@ -8,7 +8,7 @@ use Rattle.std.proofs.lemmas.List.Elements.{All-tail}
 use Rattle.std.proofs.lemmas.Bool.Decides.{nat_tests}
 use Rattle.tb_galley.specs.declared.classes.ClassLine.{ClassLine}
 use Rattle.tb_galley.specs.Classes.{do_classes_rise, with_class, IsAt, IsGapFor}
-use Rattle.tb_galley.proofs.Conjunctions.{both, left_of, right_of}
+use Rattle.tb_galley.proofs.Conjunctions.{both, left_of}
 use Rattle.tb_galley.proofs.WithClass.{rise-rest, rise-with}
 
 -- the number of the class at a place

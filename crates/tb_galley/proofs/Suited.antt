@@ -23,7 +23,7 @@ use Rattle.tb_galley.specs.declared.fields.At.{At}
 use Rattle.tb_galley.specs.Words.{LineWord, header, setting, class_line, hbox, rule, skip, kern, penalty, mark, note, foot, endfoot, float, margin, newpage, clearpage, pagebreak, nopagebreak, onecolumn, twocolumn, suppressfloats, end, Phase, Line, line_at, content_at, Spelled, line_words, word_in, word_of, is_leaf_word, Known, word_here}
 use Rattle.tb_galley.specs.Faults.{is_printable, place_causes, item_causes, missing_cause}
 use Rattle.tb_galley.specs.Grammar.{item_kind}
-use Rattle.tb_galley.specs.Reading.{Left, at_fault, settled, next_left, word_left, name_left, dimension_left, range_left, sized_left, glue_left, float_left, margin_left, area_left, value_left, set_by, set_left, choice_left, class_left, foot_left, mapped, end_left, finished, content_left}
+use Rattle.tb_galley.specs.Reading.{Left, at_fault, settled, next_left, name_left, dimension_left, range_left, sized_left, glue_left, float_left, margin_left, area_left, value_left, set_by, set_left, choice_left, class_left, foot_left, mapped, end_left, finished, content_left}
 use Rattle.tb_galley.specs.Line.{first_of, Said, said, worded_left, content_line, content_lines, line_left}
 use Rattle.tb_galley.specs.Valid.{is_leaf, is_item, weight_of, lines_of_item, is_class, has_known_class}
 use Rattle.tb_galley.specs.Values.{is_class_among}

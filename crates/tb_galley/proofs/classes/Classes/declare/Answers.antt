@@ -1,4 +1,3 @@
-use Rattle.std.proofs.Common.{sym}
 use Rattle.tb_galley.proofs.ClassPlaces.{set-at, insert-at, rise-set, rise-insert}
 use Rattle.tb_galley.proofs.classes.Classes.declare.Goals as goal
 
