@@ -15,9 +15,9 @@ use Rattle.tb_node.specs.Plain.{shape_of}
 use Rattle.tb_node.specs.Sums.{last_depth, limited_depth, sums_of}
 use Rattle.tb_node.specs.Add.{added_node}
 use Rattle.tb_node.specs.Small.{IsAmount, IsSmall, IsSmallShape}
-use Rattle.tb_node.specs.Fit.{NodesFit, SumsFit, IsDimension, IsExtent, IsSized, IsSizedNode}
+use Rattle.tb_node.specs.Fit.{SumsFit, IsDimension, IsExtent, IsSized, IsSizedNode}
 use Rattle.tb_node.proofs.AddLemmas.{sums-append}
-use Rattle.tb_node.proofs.FitLemmas.{last_depth_extent, nodes_fit, sums_fit, summable, whole_fits, sized-fits}
+use Rattle.tb_node.proofs.FitLemmas.{last_depth_extent, sums_fit, summable, whole_fits, sized-fits}
 use Rattle.tb_param.specs.declared.Params.{Params}
 use Rattle.tb_float.specs.Ranges.{IsWithin}
 use Rattle.tb_column.specs.Column.{is_ragged}
@@ -59,9 +59,6 @@ module _ (p : Params) (limit : IsExtent p.maxdepth) (ns : List Node) (sized : Al
 
     pub closed_small : IsSmall (sums_of p.maxdepth (map shape_of (closed_list p ns)))
     closed_small = whole_fits p.maxdepth (map shape_of (closed_list p ns)) (sums_fit p.maxdepth _ limit.low (summable _ closed_sized closed_few))
-
-  pub text_nodes_fit : NodesFit (map shape_of ns)
-  text_nodes_fit = nodes_fit _ (All-map IsSized shape_of _ sized)
 
   -- this node closes the text
   module _ (g : Node) (is : g ≡ made_node (kinds.Skip (closing_by p.bottom (limited_depth p.maxdepth (map shape_of ns))))) where

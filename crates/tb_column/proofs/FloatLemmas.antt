@@ -12,10 +12,8 @@ use Rattle.tb_node.specs.declared.Where.{Where}
 use Rattle.tb_node.specs.declared.Where.TheVariants as places
 use Rattle.tb_node.specs.declared.Float.{Float}
 use Rattle.tb_node.specs.Shape.{glue}
-use Rattle.tb_node.specs.Small.{IsSmallShape}
 use Rattle.tb_node.specs.Fit.{IsDimension, IsSized, IsSizedNode}
 use Rattle.tb_node.specs.Plain.{PlainNode, plain_of, made, skip}
-use Rattle.tb_node.proofs.FitLemmas.{sized-fits}
 use Rattle.tb_param.specs.declared.Params.{Params}
 use Rattle.tb_float.specs.Pool.{marked_among}
 use Rattle.tb_float.specs.Ranges.{IsSizedFloat}
@@ -90,10 +88,6 @@ negated_dimension z h = record { low = omega (arith, ints, h.high); high = omega
 
 negated_sized : (g : Glue) → IsSizedGlue g → IsSized (glue (negated_glue g))
 negated_sized g h = (negated_dimension g.width h.width, negated_dimension g.stretch h.stretch, negated_dimension g.shrink h.shrink)
-
--- what a negation asks of glue
-pub glue-small : (g : Glue) → IsSizedGlue g → IsSmallShape (glue g)
-glue-small g h = sized-fits (glue g) (glue_sized g h)
 
 float_sized : (place : Where) (f : Float) → IsSizedFloat f → IsSizedNode (float_box place f)
 float_sized place f h = (h, record { low = omega (arith, ints); high = omega (arith, ints) })

@@ -2,7 +2,7 @@
 use Rattle.std.proofs.Common.{◌≡◌, ◌≢◌, refl, sym, ap, ◌∙◌, ℕ, suc, ◌+◌, ◌*◌, ◌<◌, List, [], ◌∷◌, ◌++◌, length, append_assoc, append-nil, Some, slice_get, true, arith}
 use Rattle.std.proofs.lemmas.List.{nil_from_length}
 use Rattle.tb_pool.specs.Lists.{Lists, IsLive, list_at, with_list}
-use Rattle.tb_pool.proofs.CallerLemmas.{list_same, live_same}
+use Rattle.tb_pool.proofs.CallerLemmas.{list_same}
 use Rattle.tb_scaled.specs.declared.Glue.{Glue}
 use Rattle.tb_scaled.specs.Glue.{negated_glue}
 use Rattle.tb_node.specs.declared.Node.{Node}
@@ -108,14 +108,6 @@ module _ (from : Part) (waits : IsWaiting from) (sep : Glue) (l : ℕ) (s0 : Lis
 
   -- none is left
   module _ (s : Lists Node) (v : FloatPool) (so : MarkedSoFar from sep l s0 v0 s v) (none : marked_floats from v ≡ []) where
-    pub marked_all : s.lists ≡ with_list s0 l (list_at s0 l ++ boxes_after sep (marked_floats from v0))
-    marked_all =
-        so.lists
-        ∙ ap (with_list s0 l) (sym (append-nil (list_at s l)) ∙ ap (λ (fs : List Float). list_at s l ++ boxes_after sep fs) (sym none) ∙ so.nodes)
-
-    pub marked_spare : s.spare + 2 * length (marked_floats from v0) ≡ s0.spare
-    marked_spare = omega (arith, so.spare, ap (λ (fs : List Float). length fs) none)
-
     pub marked_left : unmarked_floats from v ≡ floats_of from v.lists → v ≡ without_marked from v0
     marked_left same = sym (all-left from v waits so.marks none same) ∙ so.pool
 
@@ -162,16 +154,6 @@ area_none parts.Deferred area v e = absurd area
 area_none parts.Second area v e = absurd area
 area_none parts.Double area v e = nil_from_length v.lists.double e
 
--- an area without floats is as it was
-pub area_same : (a : Part) → IsArea a → (v : FloatPool) → floats_of a v.lists ≡ [] → without_entries a v ≡ v
-area_same parts.Current area v e = absurd area
-area_same parts.Here area v e = absurd area
-area_same parts.Top area v e = ap (λ (fs : List Float). record v { lists = record v.lists { top = fs } }) (sym e)
-area_same parts.Bottom area v e = ap (λ (fs : List Float). record v { lists = record v.lists { bottom = fs } }) (sym e)
-area_same parts.Deferred area v e = absurd area
-area_same parts.Second area v e = absurd area
-area_same parts.Double area v e = ap (λ (fs : List Float). record v { lists = record v.lists { double = fs } }) (sym e)
-
 -- the entry is a float
 pub area_float : (a : Part) → IsArea a → (v : FloatPool) (e : Entry) → Some e ≡ slice_get (entries_of a v.lists) 0 → is_float e ≡ true
 area_float a area v e h = ap is_float (area_first a area v e h).is
@@ -208,22 +190,6 @@ module _ (a : Part) (area : IsArea a) (place : Where) (sep : Glue) (l : ℕ) (s0
         pool = ap (without_entries a) is ∙ area_rest a area v ∙ so.pool;
         spare = omega (arith, n1, n2, so.spare, ap (λ (fs : List Float). length fs) first);
       }
-
-  -- none is left
-  module _ (s : Lists Node) (v : FloatPool) (so : AreaSoFar a place sep l s0 v0 s v) (none : floats_of a v.lists ≡ []) where
-    pub area_all : s.lists ≡ with_list s0 l (list_at s0 l ++ boxes_with place sep (floats_of a v0.lists))
-    area_all =
-        so.lists
-        ∙ ap (with_list s0 l) (sym (append-nil (list_at s l)) ∙ ap (λ (fs : List Float). list_at s l ++ boxes_with place sep fs) (sym none) ∙ so.nodes)
-
-    pub area_live : IsLive s l
-    area_live = live_same s0 s l (list_at s l) so.lists
-
-    pub area_spare : s.spare + 2 * length (floats_of a v0.lists) ≡ s0.spare
-    area_spare = omega (arith, so.spare, ap (λ (fs : List Float). length fs) none)
-
-    pub area_left : v ≡ without_entries a v0
-    area_left = sym (area_same a area v none) ∙ so.pool
 
 -- ---- the floats with the glue round them
 

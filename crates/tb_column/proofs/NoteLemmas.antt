@@ -1,5 +1,5 @@
 -- Insertions of one class after another join a text.
-use Rattle.std.proofs.Common.{◌≡◌, ◌≢◌, refl, sym, ap, ◌∙◌, subst, ℕ, zero, suc, ◌+◌, ◌*◌, ◌<◌, ◌≤◌, ◌==◌, Bool, true, false, List, [], ◌∷◌, ◌++◌, length, take, get_or, append_assoc, append-nil, Some, unwrap_or, is_some, arith}
+use Rattle.std.proofs.Common.{◌≡◌, ◌≢◌, sym, ap, ◌∙◌, subst, ℕ, zero, suc, ◌+◌, ◌<◌, ◌≤◌, ◌==◌, Bool, true, false, List, [], ◌∷◌, ◌++◌, length, take, get_or, append_assoc, append-nil, Some, unwrap_or, is_some, arith}
 use Rattle.std.specs.Prelude.{if◌then◌else◌}
 use Rattle.std.specs.List.{AllByRecursion}
 use Rattle.std.specs.FinMap.{get, insert}
@@ -36,10 +36,6 @@ above_length-le class = by_test (class == 254)
 pub above_count-snoc : (ns : List NoteBox) (n : NoteBox) → above_count (ns ++ n ∷ []) ≡ above_count ns + above_length n.class
 above_count-snoc [] n = omega arith
 above_count-snoc (m ∷ ns) n = omega (arith, above_count-snoc ns n)
-
-pub above_count-le : (ns : List NoteBox) → above_count ns ≤ 4 * length ns
-above_count-le [] = omega arith
-above_count-le (n ∷ ns) = omega (arith, above_length-le n.class, above_count-le ns)
 
 -- those of the first classes, of the next one and of the others
 pub above_count-take : (ns : List NoteBox) (i : ℕ) (d : NoteBox) → i < length ns → above_count (take i ns) + above_length (get_or ns i d).class ≤ above_count ns
@@ -107,9 +103,6 @@ module _ (s s' : Lists Node) (body : ℕ) (n : NoteBox) (xs : List Node) (text :
   emptied-on (m ∷ ms) a b h = (get-others m.list a.0 b.0 ∙ h.0, emptied-on ms a.1 b.1 h.1)
 
 module _ (p : Params) (body : ℕ) (s0 : Lists Node) where
-  pub joined_begin : IsLive s0 body → JoinedSoFar p body s0 [] s0
-  joined_begin live = record { text = sym (append-nil (list_at s0 body)); live = live; lists = record { emptied = tt; others = λ q none. refl }; spare = omega arith }
-
   -- the list of the next class holds what it held
   pub next_same : (done : List NoteBox) (n : NoteBox) (s : Lists Node) → IsNextNote body done n → JoinedSoFar p body s0 done s → get s.lists n.list ≡ get s0.lists n.list
   next_same done n s next so = so.lists.others n.list ((λ e. next.text (sym e)), next.earlier)

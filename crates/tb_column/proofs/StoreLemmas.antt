@@ -5,7 +5,7 @@ use Rattle.std.specs.FinMap.{FinMap, get, insert, remove}
 use Rattle.std.specs.Ordering.{nat_cmp}
 use Rattle.tb_pool.specs.Lists.{Lists, IsLive, list_at, with_list}
 use Rattle.tb_pool.proofs.CallerLemmas.{list_same, list_other}
-use Rattle.tb_pool.proofs.MapLemmas.{get-insert_same, get-insert_other, insert_from_get, insert_twice_from_get, same_from_get, list_steps}
+use Rattle.tb_pool.proofs.MapLemmas.{get-insert_same, get-insert_other, insert_from_get, same_from_get, list_steps}
 use Rattle.tb_float.proofs.MoveLemmas.{joined-lists}
 
 module _ {T : Type 0} where
@@ -49,16 +49,6 @@ module _ {T : Type 0} where
       ∙ ap (λ t. insert (with_list old l (t ++ list_at mid q)) q []) (list_same old mid l (list_at old l ++ xs) e)
       ∙ ap (λ t. insert (with_list old l ((list_at old l ++ xs) ++ t)) q []) (list_other old mid l (list_at old l ++ xs) q ne e)
       ∙ ap (λ t. insert (with_list old l t) q []) (append_assoc (list_at old l) xs (list_at old q))
-
-  -- two lists are changed in either order
-  pub insert-order : (m : FinMap nat_cmp (List T)) (a b : ℕ) (x y : List T) → a ≢ b → insert (insert m b y) a x ≡ insert (insert m a x) b y
-  insert-order m a b x y ne = insert_twice_from_get m (insert (insert m b y) a x) a b x y ne (get-insert_same (insert m b y) a x)
-      (get-insert_other (insert m b y) a x b (λ e. ne (sym e)) ∙ get-insert_same m b y)
-      (λ q not_a not_b. get-insert_other (insert m b y) a x q not_a ∙ get-insert_other m b y q not_b)
-
-  -- the list is changed again after another
-  pub insert-again : (m : FinMap nat_cmp (List T)) (a b : ℕ) (x x' y : List T) → a ≢ b → insert (insert (insert m a x) b y) a x' ≡ insert (insert m a x') b y
-  insert-again m a b x x' y ne = insert-order (insert m a x) a b x' y ne ∙ ap (λ t. insert t b y) (insert-twice m a x x')
 
   closed-map : (m : FinMap nat_cmp (List T)) (front l : ℕ) (all : List T) → front ≢ l → remove (insert (insert m front []) l all) front ≡ remove (insert m l all) front
   closed-map m front l all apart = same_from_get _ _ (λ q. grind (arith, list_steps))
