@@ -1,4 +1,3 @@
 pub mod Joined
 pub mod CountLemmas
 pub mod PrintLemmas
-pub mod PrintableLemmas
