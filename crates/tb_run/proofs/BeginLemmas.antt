@@ -73,7 +73,7 @@ module _ (p : Params) (m : MachineView) (s t u : Lists Node) (b d : Builder) (cs
         between = holds ∙ ap (between_pages p) (sym begin-state);
         boxes = boxes-are;
         waiting = subst AreServable (sym (ap (λ (c : Contents). c.waiting) holds)) servable;
-        bounded = record { held = subst (λ x. held_count x ≤ 4194304) (sym begin-state) (omega (arith, servable.few)); few = omega arith };
+        bounded = record { held = subst (λ x. held_count x ≤ 4194304) (sym (begin-state ∙ ap (λ (xs : List Class). first_state p xs ns) alone)) (omega (arith, servable.few)); few = omega arith };
       };
       events = events;
     }

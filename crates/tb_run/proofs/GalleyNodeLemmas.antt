@@ -1,5 +1,5 @@
 -- The nodes of a valid galley, of all its items: their amounts are in their ranges, the output routine can serve them, and they are not too many.
-use Rattle.std.proofs.Common.{◌≡◌, refl, subst, ℕ, ◌+◌, ◌*◌, ◌≤◌, pos, neg_ℤ, Bool, true, false, List, [], ◌∷◌, ◌++◌, map, arith}
+use Rattle.std.proofs.Common.{refl, subst, ℕ, ◌*◌, ◌≤◌, pos, Bool, true, false, List, [], ◌∷◌, ◌++◌, arith}
 use Rattle.std.specs.Prelude.{All, IsTrue, ◌&&◌, ◌||◌, ◌==◌, nat_le, if◌then◌else◌}
 use Rattle.std.specs.List.{list_all, AllByRecursion}
 use Rattle.std.proofs.lemmas.Int.{ints}
@@ -8,26 +8,24 @@ use Rattle.std.proofs.lemmas.List.{length-map}
 use Rattle.std.proofs.lemmas.List.Elements.{All-nil, All-head, All-tail, All-append, All-from_recursion}
 use Rattle.tb_scaled.specs.Glue.{filling_glue}
 use Rattle.tb_node.specs.declared.Float.{Float}
-use Rattle.tb_node.specs.declared.Margin.{Margin}
 use Rattle.tb_node.specs.declared.Act.{Act}
 use Rattle.tb_node.specs.declared.Act.TheVariants as acts
 use Rattle.tb_node.specs.Names.{is_name, is_between}
 use Rattle.tb_node.specs.Shape.{glue}
 use Rattle.tb_node.specs.Fit.{IsDimension, IsExtent, IsSized}
-use Rattle.tb_node.specs.Plain.{Leaf as PlainLeaf, Matter, skip, whatsit, pen, matter_shape, kind_shape, PlainKind, plain, ins, act, PlainNode, blank_box, on_line, newpage_kinds, clearpage_kinds}
+use Rattle.tb_node.specs.Plain.{Leaf as PlainLeaf, matter_shape, kind_shape, PlainKind, act, blank_box, on_line, newpage_kinds, clearpage_kinds}
 use Rattle.tb_param.specs.declared.Params.{Params}
 use Rattle.tb_param.specs.Release.{has_second}
 use Rattle.tb_insert.specs.declared.Class.{Class}
 use Rattle.tb_builder.specs.Contents.{node_count}
 use Rattle.tb_builder.specs.Pageable.{IsSizedKind}
 use Rattle.tb_builder.proofs.PageableLemmas.{count-append}
-use Rattle.tb_galley.specs.declared.ClassLine.{ClassLine}
 use Rattle.tb_galley.specs.declared.Item.{Item}
 use Rattle.tb_galley.specs.declared.ItemKind.{ItemKind}
 use Rattle.tb_galley.specs.declared.ItemKind.TheVariants as items
 use Rattle.tb_galley.specs.declared.Galley.{Galley}
-use Rattle.tb_galley.specs.Expand.{break_strength, plain_leaf, with_firings, float_kinds, item_kinds, item_nodes, two_after, expanded}
-use Rattle.tb_galley.specs.Valid.{is_size, is_float, is_margin, is_item, weight_of, weight, has_known_class, IsValid}
+use Rattle.tb_galley.specs.Expand.{plain_leaf, with_firings, item_kinds, item_nodes, two_after, expanded}
+use Rattle.tb_galley.specs.Valid.{is_size, is_float, is_margin, is_item, weight_of, weight, IsValid}
 use Rattle.tb_galley.proofs.Conjunctions.{left_of, right_of}
 use Rattle.tb_output.specs.Acting.{IsSizedAct}
 use Rattle.tb_run.specs.Run.{classes_of}

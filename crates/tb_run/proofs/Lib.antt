@@ -15,3 +15,4 @@ pub mod GalleyItems
 pub mod GalleyClasses
 pub mod ItemAmounts
 pub mod GalleyNodeLemmas
+pub mod CountedLemmas

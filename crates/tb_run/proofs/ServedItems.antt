@@ -1,6 +1,6 @@
 -- The nodes of a valid galley can be served.
 use Rattle.std.proofs.Common.{◌≡◌, refl, subst, ℕ, zero, suc, ◌*◌, ◌≤◌, ℤ, pos, neg_ℤ, ◌≤ℤ◌, Bool, true, false, List, [], ◌∷◌, map, arith}
-use Rattle.std.specs.Prelude.{All, IsTrue, ◌&&◌, ◌==◌, nat_le}
+use Rattle.std.specs.Prelude.{All, IsTrue, ◌&&◌, nat_le}
 use Rattle.std.specs.List.{list_all}
 use Rattle.std.proofs.lemmas.Int.{ints}
 use Rattle.std.proofs.lemmas.Bool.Decides.{nat_tests}
@@ -8,9 +8,8 @@ use Rattle.std.proofs.lemmas.List.{length-map}
 use Rattle.std.proofs.lemmas.List.Elements.{All-nil, All-cons, All-append, All-from_recursion}
 use Rattle.tb_scaled.specs.declared.Glue.{Glue}
 use Rattle.tb_scaled.specs.Glue.{filling_glue}
-use Rattle.tb_node.specs.declared.Node.{Node}
 use Rattle.tb_node.specs.Shape.{glue}
-use Rattle.tb_node.specs.Fit.{IsDimension, IsExtent, IsPenalty, IsSized, IsSizedNode, IsSizedLeaf}
+use Rattle.tb_node.specs.Fit.{IsDimension, IsExtent, IsPenalty, IsSized, IsSizedLeaf}
 use Rattle.tb_node.specs.Plain.{Leaf as PlainLeaf, PlainNode, on_line, clearpage_kinds}
 use Rattle.tb_param.specs.declared.Params.{Params}
 use Rattle.tb_param.specs.Table.{is_within, is_dimen, is_glue}

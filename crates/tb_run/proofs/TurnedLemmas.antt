@@ -1,5 +1,5 @@
 -- A turn of the routine is a step of the run.
-use Rattle.std.proofs.Common.{◌≡◌, length, refl, sym, subst, ◌∙◌, ap, ℕ, zero, suc, ◌+◌, ◌-◌, ◌≤◌, ℤ, pos, Bool, true, false, List, [], ◌∷◌, ◌++◌, Option, None, Some, append_assoc, arith}
+use Rattle.std.proofs.Common.{◌≡◌, length, refl, sym, subst, ◌∙◌, ap, ℕ, zero, suc, ◌+◌, ◌-◌, ◌≤◌, ℤ, pos, Bool, true, false, List, [], ◌++◌, Option, None, Some, append_assoc, arith}
 use Rattle.std.specs.Prelude.{All, if◌then◌else◌, int_lt, pred, IfNone, ◌≤ℤ◌, ◌<ℤ◌}
 use Rattle.std.proofs.lemmas.Int.{ints}
 use Rattle.std.proofs.lemmas.Bool.{true≢false}
@@ -43,6 +43,9 @@ if-counted (Some e) a = tt
 -- what waits is held
 waits-held : (s : State) → node_count s.waiting ≤ held_count s
 waits-held s = omega arith
+
+below-test : (n : ℕ) (z : ℤ) → pos n <ℤ z → int_lt (pos n) z ≡ true
+below-test n z h = grind (arith, ints, h)
 
 pred-minus : (n : ℕ) → n - 1 ≡ pred n
 pred-minus zero = refl
@@ -117,10 +120,7 @@ module _ (p : Params) (r q : Routine) (page : Page) (runs : AreRunnable p) (read
   else-shown false x y e = refl
 
   alive-test : pos q.machine.dead_cycles <ℤ q.machine.params.maxdeadcycles → int_lt (pos (state_of r).dead_cycles) p.maxdeadcycles ≡ true
-  alive-test a = test (subst (λ (z : ℤ). pos r.machine.dead_cycles <ℤ z) (ap (λ (x : Params). x.maxdeadcycles) params-are) (subst (λ (v : MachineView). pos v.dead_cycles <ℤ q.machine.params.maxdeadcycles) h.machine a))
-    where
-      test : pos r.machine.dead_cycles <ℤ p.maxdeadcycles → int_lt (pos r.machine.dead_cycles) p.maxdeadcycles ≡ true
-      test b = grind (arith, ints, b)
+  alive-test a = below-test r.machine.dead_cycles p.maxdeadcycles (subst (λ (z : ℤ). pos r.machine.dead_cycles <ℤ z) (ap (λ (x : Params). x.maxdeadcycles) params-are) (subst (λ (v : MachineView). pos v.dead_cycles <ℤ q.machine.params.maxdeadcycles) h.machine a))
 
   -- where the firing was allowed, the step shows its work
   fires : pos q.machine.dead_cycles <ℤ q.machine.params.maxdeadcycles → step_shown (step p (state_of r)) ≡ work_shown p w
