@@ -5,5 +5,7 @@
 mod expanding;
 mod releasing;
 mod routine;
+#[cfg(test)]
+mod tests;
 
 pub use routine::{Ending, Routine};
