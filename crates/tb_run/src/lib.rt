@@ -5,7 +5,5 @@
 mod expanding;
 mod releasing;
 mod routine;
-#[cfg(test)]
-mod tests;
 
 pub use routine::{Ending, Routine};
