@@ -48,8 +48,8 @@ impl Pool {
         self.heights.raise(to, height);
     }
 
-    // Takes the marks from all entries of a list.
-    fn unmark(&mut self, p: Part)
+    /// No float of a list is chosen any more.
+    pub fn unmark(&mut self, p: Part)
         ensures { self.new ≡ without_marks p self.old }
     {
         match p {
