@@ -3,7 +3,6 @@ ghost use Rattle.std.specs.Prelude.{◌≡◌};
 ghost use Rattle.tb_galley.specs.Machine.{known_in};
 ghost use Rattle.tb_galley.specs.Reading.{left_of, Gives, float_left, margin_left, area_left, value_left, set_left, class_left, foot_left, content_left};
 
-use crate::classes::FOOT_CLASS;
 use crate::draft::Draft;
 use crate::fields::{At, Fields};
 use crate::{Cause, ClassLine, ItemKind, LeafKind, Word};
@@ -139,12 +138,15 @@ fn class(line: u32, fields: &mut Fields<'_>) -> Result<ClassLine, At>
     })
 }
 
+// The class of a footnote that names none.
+const PLAIN_FOOT: u8 = 254;
+
 #[tactic(auto, unfolding(crate::specs::Reading::foot_left))]
 fn foot(draft: &Draft, fields: &mut Fields<'_>) -> Result<u8, At>
     ensures { Gives result (left_of fields.new) (foot_left (known_in draft.now) (left_of fields.old)) }
 {
     if draft.version == 1 || fields.is_at_end() {
-        return Ok(FOOT_CLASS);
+        return Ok(PLAIN_FOOT);
     }
     fields.class_among(draft.classes.as_slice())
 }
