@@ -1,11 +1,8 @@
--- The floats that wait, among entries.
-use Rattle.std.proofs.Common.{◌≡◌, ◌≢◌, ℕ, zero, suc, ◌+◌, ◌<◌, List, [], ◌∷◌, length, drop, Some, slice_get, refl, sym, ap, subst, ◌∙◌, arith}
+-- The deferred floats among entries.
+use Rattle.std.proofs.Common.{◌≡◌, ℕ, zero, suc, ◌+◌, ◌<◌, ◌≤◌, List, [], ◌∷◌, ◌++◌, length, take, drop, Some, slice_get, refl, ap, arith}
 use Rattle.tb_node.specs.declared.Float.{Float}
 use Rattle.tb_float.specs.declared.Entry.TheVariants as entries
-use Rattle.tb_float.specs.declared.Part.{Part}
-use Rattle.tb_float.specs.declared.Part.TheVariants as parts
-use Rattle.tb_float.specs.Lists.{FloatLists, HasFloatAt, IsWaiting, float_entries, floats_of, entries_of}
-use Rattle.tb_float.proofs.WaitingLemmas.{waiting-entries}
+use Rattle.tb_float.specs.Lists.{HasFloatAt, float_entries}
 
 -- each entry of a list of floats is a float
 pub float_stands : (fs : List Float) (k : ℕ) → k < length fs → HasFloatAt (float_entries fs) k
@@ -25,31 +22,35 @@ entry_there [] k f e = cc
 entry_there (g ∷ fs) zero f e = cc
 entry_there (g ∷ fs) (suc k) f e = entry_there fs k f e
 
--- the same in a list in which floats wait
-pub waiting_stands : (from : Part) → IsWaiting from → (l : FloatLists) (k : ℕ) → k < length (floats_of from l) → HasFloatAt (entries_of from l) k
-waiting_stands from w l k lt = subst (λ es. HasFloatAt es k) (sym (waiting-entries from w l)) (float_stands (floats_of from l) k lt)
+-- a float stands at each place of the list
+pub float_at_place : (fs : List Float) (k : ℕ) → k < length fs → (f : Float) × (slice_get fs k ≡ Some f)
+float_at_place [] k lt = absurd (omega arith)
+float_at_place (f ∷ fs) zero lt = (f, refl)
+float_at_place (f ∷ fs) (suc k) lt = float_at_place fs k (omega arith)
 
-pub waiting_there : (from : Part) → IsWaiting from → (l : FloatLists) (k : ℕ) (f : Float) → Some (entries.Float f) ≡ slice_get (entries_of from l) k → slice_get (floats_of from l) k ≡ Some f
-waiting_there from w l k f e = float_there (floats_of from l) k f (e ∙ ap (λ es. slice_get es k) (waiting-entries from w l))
+pub place_within : (fs : List Float) (k : ℕ) (f : Float) → slice_get fs k ≡ Some f → k < length fs
+place_within [] k f e = cc
+place_within (g ∷ fs) zero f e = omega arith
+place_within (g ∷ fs) (suc k) f e = let h : k < length fs = place_within fs k f e in omega arith
 
-pub waiting_entry : (from : Part) → IsWaiting from → (l : FloatLists) (k : ℕ) (f : Float) → slice_get (floats_of from l) k ≡ Some f → slice_get (entries_of from l) k ≡ Some (entries.Float f)
-waiting_entry from w l k f e = ap (λ es. slice_get es k) (waiting-entries from w l) ∙ entry_there (floats_of from l) k f e
+-- ---- a float goes from its place, or stays before the next one
 
--- a list in which floats wait is not the one of the floats above both columns
-pub waits_apart : (from : Part) → IsWaiting from → from ≢ parts.Double
-waits_apart parts.Current w = absurd w
-waits_apart parts.Here w = absurd w
-waits_apart parts.Top w = absurd w
-waits_apart parts.Bottom w = absurd w
-waits_apart parts.Double w = absurd w
-waits_apart parts.Deferred w = λ e. absurd cc
-waits_apart parts.Second w = λ e. absurd cc
+pub take_more : (fs : List Float) (k : ℕ) (f : Float) → slice_get fs k ≡ Some f → take (suc k) fs ≡ take k fs ++ f ∷ []
+take_more [] k f e = cc
+take_more (g ∷ fs) zero f e = let same : g ≡ f = cc in ap (λ x. x ∷ []) same
+take_more (g ∷ fs) (suc k) f e = ap (λ xs. g ∷ xs) (take_more fs k f e)
 
--- the next of the floats that are left
-pub drop_next : (fs : List Float) (k : ℕ) → k < length fs → (f : Float) × (drop k fs ≡ f ∷ drop (k + 1) fs)
-drop_next [] k lt = absurd (omega arith)
-drop_next (f ∷ fs) zero lt = (f, refl)
-drop_next (f ∷ fs) (suc k) lt =
-    let next = drop_next fs k (omega arith) in
-    let one : suc (k + 1) ≡ suc k + 1 = omega arith in
-    (next.0, next.1 ∙ ap (λ n. next.0 ∷ drop n (f ∷ fs)) one)
+pub take_front : (fs rest : List Float) (k : ℕ) → k ≤ length fs → take k (take k fs ++ rest) ≡ take k fs
+take_front fs rest zero le = refl
+take_front [] rest (suc k) le = absurd (omega arith)
+take_front (f ∷ fs) rest (suc k) le = ap (λ xs. f ∷ xs) (take_front fs rest k (omega arith))
+
+pub drop_front : (fs rest : List Float) (k : ℕ) → k ≤ length fs → drop k (take k fs ++ rest) ≡ rest
+drop_front fs rest zero le = refl
+drop_front [] rest (suc k) le = absurd (omega arith)
+drop_front (f ∷ fs) rest (suc k) le = drop_front fs rest k (omega arith)
+
+pub length_parts : (fs : List Float) (k : ℕ) → k < length fs → length (take k fs ++ drop (suc k) fs) + 1 ≡ length fs
+length_parts [] k lt = absurd (omega arith)
+length_parts (f ∷ fs) zero lt = omega arith
+length_parts (f ∷ fs) (suc k) lt = let h : length (take k fs ++ drop (suc k) fs) + 1 ≡ length fs = length_parts fs k (omega arith) in omega arith

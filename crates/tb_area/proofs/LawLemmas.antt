@@ -176,7 +176,7 @@ current-kept p l s h w place f there = subst (KeepsLaws p l l.deferred f) (sym (
 pub next-kept : (p : Params) (l : FloatLists) (s : Suppress) (k : ℕ) (w : Where) → ((f : Float) → slice_get l.deferred k ≡ Some f → w ≡ next_place p l s (take k l.deferred) f) → (f : Float) → slice_get l.deferred k ≡ Some f → KeepsLaws p l (take k l.deferred) f w
 next-kept p l s k w place f there = subst (KeepsLaws p l (take k l.deferred) f) (sym (place f there)) (next-laws p l s (take k l.deferred) f)
 
-pub double-kept : (p : Params) (l : FloatLists) (fs : List Float) (k : ℕ) (w : Where) → ((s : Suppress) (f : Float) → slice_get fs k ≡ Some f → w ≡ double_place p l s (take k fs) f) → (f : Float) → slice_get fs k ≡ Some f → KeepsLaws p l (take k fs) f w
-double-kept p l fs k w place f there =
+pub double-kept : (p : Params) (l : FloatLists) (k : ℕ) (w : Where) → ((s : Suppress) (f : Float) → slice_get l.deferred k ≡ Some f → w ≡ double_place p l s (take k l.deferred) f) → (f : Float) → slice_get l.deferred k ≡ Some f → KeepsLaws p l (take k l.deferred) f w
+double-kept p l k w place f there =
     let s : Suppress = record { all = false; top = false; bottom = false } in
-    subst (KeepsLaws p l (take k fs) f) (sym (place s f there)) (double-laws p l s (take k fs) f)
+    subst (KeepsLaws p l (take k l.deferred) f) (sym (place s f there)) (double-laws p l s (take k l.deferred) f)

@@ -93,7 +93,7 @@ gone-order k at_top f before rest l e order = top-order k f l.top l.bottom befor
 gone-order k at_bottom f before rest l e order = bottom-order k f l.top l.bottom before rest order ∙ ap (λ d. of_class k (l.top ++ l.bottom ++ d)) (sym e)
 gone-order k deferred f before rest l e order = refl
 
-pub gone-deferred : (a : AreaPlace) (f : Float) (before rest : List Float) (l : FloatLists) → l.deferred ≡ before ++ f ∷ rest → (gone_to a f before rest l).deferred ≡ still_before a f before ++ rest
+gone-deferred : (a : AreaPlace) (f : Float) (before rest : List Float) (l : FloatLists) → l.deferred ≡ before ++ f ∷ rest → (gone_to a f before rest l).deferred ≡ still_before a f before ++ rest
 gone-deferred at_top f before rest l e = refl
 gone-deferred at_bottom f before rest l e = refl
 gone-deferred deferred f before rest l e = e ∙ sym (append_assoc before (f ∷ []) rest)
@@ -122,7 +122,7 @@ gone_double-order parts.Deferred w k false f before rest l e order = refl
 gone_double-order parts.Second w k true f before rest l e order = two-order k f l.double before rest order ∙ ap (λ d. of_class k (l.double ++ d)) (sym e)
 gone_double-order parts.Second w k false f before rest l e order = refl
 
-pub gone_double-waiting : (from : Part) → IsWaiting from → (b : Bool) (f : Float) (before rest : List Float) (l : FloatLists) → floats_of from l ≡ before ++ f ∷ rest → floats_of from (gone_double from b f before rest l) ≡ still_single b f before ++ rest
+gone_double-waiting : (from : Part) → IsWaiting from → (b : Bool) (f : Float) (before rest : List Float) (l : FloatLists) → floats_of from l ≡ before ++ f ∷ rest → floats_of from (gone_double from b f before rest l) ≡ still_single b f before ++ rest
 gone_double-waiting from w true f before rest l e = floats-with from w (before ++ rest) (record l { double = l.double ++ f ∷ [] })
 gone_double-waiting from w false f before rest l e = e ∙ sym (append_assoc before (f ∷ []) rest)
 

@@ -1,5 +1,5 @@
 -- Where the floats that wait go, one after another.
-use Rattle.std.specs.Prelude.{Bool, List, [], ◌∷◌, ◌++◌, if◌then◌else◌}
+use Rattle.std.specs.Prelude.{ℕ, suc, Bool, List, [], ◌∷◌, ◌++◌, if◌then◌else◌}
 use Rattle.tb_node.specs.declared.Float.{Float}
 use Rattle.tb_param.specs.declared.Params.{Params}
 use Rattle.tb_float.specs.declared.Suppress.{Suppress}
@@ -39,3 +39,12 @@ doubled from p s before [] l = l
 doubled from p s before (f ∷ rest) l =
     let goes = goes_double p l s before f in
     doubled from p s (still_single goes f before) rest (gone_double from goes f before rest l)
+
+-- the place of the next float that waits, where one was tried for the next column, or for the space above both
+abbrev pub place_after : AreaPlace → ℕ → ℕ
+place_after at_top k = k
+place_after at_bottom k = k
+place_after deferred k = suc k
+
+abbrev pub place_after_double : Bool → ℕ → ℕ
+place_after_double goes k = if goes then k else suc k

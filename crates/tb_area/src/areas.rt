@@ -1,45 +1,16 @@
-//! The decisions: the text, the top and the bottom, in their order, and above both columns.
-ghost use Rattle.std.specs.Prelude.{◌≡◌, List};
-ghost use Rattle.tb_node.specs.declared.Float.{Float as PlainFloat};
-ghost use Rattle.tb_float.specs.declared.Suppress.{Suppress};
-ghost use Rattle.tb_float.specs.Lists.{has_class};
-ghost use Rattle.tb_float.specs.Ranges.{AreFloatParams, IsExtent};
-ghost use Rattle.tb_area.specs.Area.{by_class, here_or_area, top_or_bottom, fits_above, bottom_or_deferred, goes_bottom, fits_below, where_of, next_place, double_place};
+//! The decisions: the text, the top and the bottom, in their order.
+ghost use Rattle.std.specs.Prelude.{◌≡◌};
+ghost use Rattle.tb_float.specs.Ranges.{AreFloatParams};
+ghost use Rattle.tb_area.specs.Area.{by_class, here_or_area, top_or_bottom, fits_above, bottom_or_deferred, goes_bottom, fits_below, where_of};
 ghost use Rattle.tb_area.specs.Required.{IsRequired};
 
 use crate::tries::{
-    beyond, fits_bottom, fits_column, fits_top, goes_double, is_above_its_class, may_enter,
-    next_separator, required_with, text_minimum, tries_bottom, tries_top,
+    beyond, fits_bottom, fits_column, fits_top, is_above_its_class, next_separator, tries_bottom,
+    tries_top,
 };
 use tb_float::{Part, Pool, Suppress};
 use tb_node::{Float, Where};
 use tb_param::Params;
-
-/// Where a deferred float goes in the next column, if it is known whether one of its class stands before it.
-pub(crate) fn next_place(pool: &Pool, p: &Params, s: &Suppress, earlier: bool, f: &Float) -> Where
-    requires params { AreFloatParams p.now }
-    requires extent { IsExtent f.now.height }
-    ensures { (before : List PlainFloat) → earlier ≡ has_class f.now.class before → result ≡ next_place p.now pool.now.lists s.now before f.now }
-{
-    let required = required_with(f.height, text_minimum(pool, p, f));
-    if may_enter(pool, p, s, earlier, required, f) {
-        area_place(pool, p, s, required, f)
-    } else {
-        Where::Deferred
-    }
-}
-
-/// Where a float that waits goes after a pair of columns, if it is known whether one of its class stands before it.
-pub(crate) fn double_place(pool: &Pool, p: &Params, earlier: bool, f: &Float) -> Where
-    requires { AreFloatParams p.now }
-    ensures { (s : Suppress) (before : List PlainFloat) → earlier ≡ has_class f.now.class before → result ≡ double_place p.now pool.now.lists s before f.now }
-{
-    if goes_double(pool, p, earlier, f) {
-        Where::Double
-    } else {
-        Where::Deferred
-    }
-}
 
 /// A float whose class stands at the bottom goes there or nowhere.
 pub(crate) fn by_class(pool: &Pool, p: &Params, s: &Suppress, required: i64, f: &Float) -> Where
@@ -71,8 +42,8 @@ fn here_or_area(pool: &Pool, p: &Params, s: &Suppress, required: i64, f: &Float)
     }
 }
 
-// The top, and then the bottom with the room that the top required.
-fn area_place(pool: &Pool, p: &Params, s: &Suppress, required: i64, f: &Float) -> Where
+/// The top, and then the bottom with the room that the top required.
+pub(crate) fn area_place(pool: &Pool, p: &Params, s: &Suppress, required: i64, f: &Float) -> Where
     requires params { AreFloatParams p.now }
     requires required { IsRequired 1 required }
     ensures { result ≡ where_of (top_or_bottom p.now pool.now.lists s.now required f.now) }

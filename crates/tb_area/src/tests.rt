@@ -1,7 +1,6 @@
 //! The decisions on worked values.
 ghost use Rattle.std.specs.Prelude.{◌≡◌, ◌≢◌, ◌≤◌};
 ghost use Rattle.tb_node.specs.Fit.{IsExtent};
-ghost use Rattle.tb_float.specs.Lists.{IsWaiting};
 ghost use Rattle.tb_float.specs.Ranges.{AreFloatParams};
 
 use crate::{add_current, add_double, add_next, fill_column, fill_double};
@@ -105,13 +104,12 @@ fn next(pool: &Pool, p: &Params, k: usize) -> Option<char>
     }
 }
 
-// Where a float that waits goes after a pair of columns.
-fn double(pool: &Pool, p: &Params, from: Part, k: usize) -> Option<char>
-    requires params { AreFloatParams p.now }
-    requires waiting { IsWaiting from }
+// Where a deferred float goes after a pair of columns.
+fn double(pool: &Pool, p: &Params, k: usize) -> Option<char>
+    requires { AreFloatParams p.now }
 {
-    if k < pool.len(from) {
-        Some(letter(add_double(pool, p, from, k)))
+    if k < pool.len(Part::Deferred) {
+        Some(letter(add_double(pool, p, k)))
     } else {
         None
     }
@@ -158,48 +156,14 @@ fn a_single_float_waits_for_the_double_one(rt: HostRuntime) -> Result<(), Fail> 
     assert_eq!(rt; place_current(&mut pool, &p, 20), Some('d'));
     assert_eq!(rt; next(&pool, &p, 0), Some('d'));
     assert_eq!(rt; next(&pool, &p, 1), Some('d'));
-    assert_eq!(rt; double(&pool, &p, Part::Deferred, 1), Some('d'));
-    assert_eq!(rt; double(&pool, &p, Part::Deferred, 0), Some('w'));
-    fill_double(&mut pool, &p, Part::Deferred);
+    assert_eq!(rt; double(&pool, &p, 1), Some('d'));
+    assert_eq!(rt; double(&pool, &p, 0), Some('w'));
+    fill_double(&mut pool, &p);
     assert_eq!(rt; (pool.len(Part::Double), pool.len(Part::Deferred)), (1, 1));
-    assert_eq!(rt; double(&pool, &p, Part::Deferred, 0), Some('d'));
+    assert_eq!(rt; double(&pool, &p, 0), Some('d'));
     assert_eq!(rt; next(&pool, &p, 0), Some('t'));
     assert_eq!(rt; next(&pool, &p, 1), None);
     fill_column(&mut pool, &p, &NOT_SUPPRESSED);
     assert_eq!(rt; (pool.len(Part::Top), pool.len(Part::Deferred)), (1, 0));
-    Ok(())
-}
-
-// The float is taken, and waits in one of the lists.
-fn wait(pool: &mut Pool, f: Float, list: Part) -> bool
-    requires extent { IsExtent f.height }
-    requires waiting { IsWaiting list }
-{
-    if pool.take(f).is_err() {
-        return false;
-    }
-    let Some(Entry::Float(_)) = pool.entry(Part::Current, 0) else {
-        return false;
-    };
-    pool.move_to(Part::Current, 0, list);
-    true
-}
-
-#[test]
-fn a_double_float_passes_a_single_one_of_its_class_in_release_2014(
-    rt: HostRuntime,
-) -> Result<(), Fail> {
-    let name = name_of(b"F").ok_or("name")?;
-    let p = plain_params(1);
-    let mut pool = new_pool(rt.alloc(), 18)?;
-    assert!(rt; wait(&mut pool, float_of(name, 1, false, "t", 20), Part::Deferred));
-    assert!(rt; wait(&mut pool, float_of(name, 1, true, "b", 30), Part::Second));
-    assert!(rt; wait(&mut pool, float_of(name, 1, true, "t", 30), Part::Second));
-    assert!(rt; wait(&mut pool, float_of(name, 2, true, "t", 30), Part::Second));
-    assert_eq!(rt; double(&pool, &p, Part::Second, 1), Some('d'));
-    assert_eq!(rt; double(&pool, &p, Part::Second, 2), Some('w'));
-    fill_double(&mut pool, &p, Part::Second);
-    assert_eq!(rt; (pool.len(Part::Double), pool.len(Part::Second)), (1, 2));
-    assert_eq!(rt; pool.len(Part::Deferred), 1);
     Ok(())
 }

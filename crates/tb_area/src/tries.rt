@@ -5,7 +5,7 @@ ghost use Rattle.tb_node.specs.declared.Float.{Float as PlainFloat};
 ghost use Rattle.tb_node.specs.Small.{IsAmount};
 ghost use Rattle.tb_float.specs.declared.Limit.TheVariants as limits;
 ghost use Rattle.tb_float.specs.declared.Suppress.{Suppress};
-ghost use Rattle.tb_float.specs.Lists.{HasFloatAt, IsWaiting, entries_of, floats_of, has_class};
+ghost use Rattle.tb_float.specs.Lists.{HasFloatAt, entries_of, has_class};
 ghost use Rattle.tb_float.specs.Ranges.{AreFloatParams, IsDimension, IsExtent, IsRoom, IsWithin};
 ghost use Rattle.tb_float.specs.Rooms.{column_height_of, column_room_of, double_room_of};
 ghost use Rattle.tb_area.specs.Area.{may_come, only_page, fits_column, fits_top, fits_bottom, is_above_its_class, tries_top, tries_bottom, text_minimum, next_separator, double_room_for, fits_double, goes_double, may_enter};
@@ -27,14 +27,13 @@ pub(crate) fn float_at(pool: &Pool, part: Part, k: usize) -> Float
     }
 }
 
-/// The float at a place of a list in which floats wait.
-pub(crate) fn waiting_float(pool: &Pool, from: Part, k: usize) -> Float
-    requires waiting { IsWaiting from }
-    requires within { k < length (floats_of from pool.now.lists) }
-    ensures value { slice_get (floats_of from pool.now.lists) k ≡ Some result }
+/// The deferred float at a place.
+pub(crate) fn deferred_float(pool: &Pool, k: usize) -> Float
+    requires { k < length pool.now.lists.deferred }
+    ensures value { slice_get pool.now.lists.deferred k ≡ Some result }
     ensures extent { IsExtent result.height }
 {
-    float_at(pool, from, k)
+    float_at(pool, Part::Deferred, k)
 }
 
 /// Whether the count of a limit lets one more float in.
@@ -186,7 +185,7 @@ pub(crate) fn next_separator(p: &Params, count: usize) -> i64
     }
 }
 
-/// Whether a float that waits goes above both columns, where it is known whether one of its class stands before it.
+/// Whether a deferred float goes above both columns, where it is known whether one of its class stands before it.
 pub(crate) fn goes_double(pool: &Pool, p: &Params, earlier: bool, f: &Float) -> bool
     requires { AreFloatParams p.now }
     ensures { (s : Suppress) (before : List PlainFloat) → earlier ≡ has_class f.now.class before → result ≡ goes_double p.now pool.now.lists s before f.now }

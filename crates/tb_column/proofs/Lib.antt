@@ -1,10 +1,3 @@
 pub mod StoreLemmas
-pub mod FloatLemmas
-pub mod MovingLemmas
-pub mod NoteLemmas
-pub mod ShownLemmas
-pub mod TextLemmas
-pub mod GatherLemmas
-pub mod ClosingLemmas
-pub mod PageLemmas
-pub mod RangeLemmas
+pub mod ColumnLemmas
+pub mod FitsColumn

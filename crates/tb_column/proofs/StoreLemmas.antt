@@ -1,16 +1,14 @@
 -- A store of which some lists were changed.
-use Rattle.std.proofs.Common.{◌≡◌, ◌≢◌, ℕ, List, [], ◌++◌, append_assoc, Option, Some, None, IsSome, is_some, unwrap_or, refl, sym, ap, ◌∙◌, arith}
+use Rattle.std.proofs.Common.{◌≡◌, ◌≢◌, ℕ, List, [], ◌++◌, append_assoc, Option, Some, None, IsSome, is_some, unwrap_or, refl, sym, ap, ◌∙◌}
 use Rattle.std.proofs.lemmas.Bool.{true≢false}
-use Rattle.std.specs.FinMap.{FinMap, get, insert, remove}
+use Rattle.std.specs.FinMap.{FinMap, get, insert}
 use Rattle.std.specs.Ordering.{nat_cmp}
 use Rattle.tb_pool.specs.Lists.{Lists, IsLive, list_at, with_list}
 use Rattle.tb_pool.proofs.CallerLemmas.{list_same, list_other}
-use Rattle.tb_pool.proofs.MapLemmas.{get-insert_same, get-insert_other, insert_from_get, same_from_get, list_steps}
-use Rattle.tb_float.proofs.MoveLemmas.{joined-lists}
+use Rattle.tb_pool.proofs.MapLemmas.{get-insert_same, get-insert_other, insert_from_get, insert_twice_from_get}
 
 module _ {T : Type 0} where
-  -- a list is changed twice
-  pub insert-twice : (m : FinMap nat_cmp (List T)) (l : ℕ) (xs ys : List T) → insert (insert m l xs) l ys ≡ insert m l ys
+  insert-twice : (m : FinMap nat_cmp (List T)) (l : ℕ) (xs ys : List T) → insert (insert m l xs) l ys ≡ insert m l ys
   insert-twice m l xs ys = insert_from_get m (insert (insert m l xs) l ys) l ys (get-insert_same (insert m l xs) l ys) (λ q ne. get-insert_other (insert m l xs) l ys q ne ∙ get-insert_other m l xs q ne)
 
   -- the list was changed twice
@@ -50,31 +48,12 @@ module _ {T : Type 0} where
       ∙ ap (λ t. insert (with_list old l ((list_at old l ++ xs) ++ t)) q []) (list_other old mid l (list_at old l ++ xs) q ne e)
       ∙ ap (λ t. insert (with_list old l t) q []) (append_assoc (list_at old l) xs (list_at old q))
 
-  closed-map : (m : FinMap nat_cmp (List T)) (front l : ℕ) (all : List T) → front ≢ l → remove (insert (insert m front []) l all) front ≡ remove (insert m l all) front
-  closed-map m front l all apart = same_from_get _ _ (λ q. grind (arith, list_steps))
+  -- two lists are changed in either order
+  pub insert-order : (m : FinMap nat_cmp (List T)) (a b : ℕ) (x y : List T) → a ≢ b → insert (insert m b y) a x ≡ insert (insert m a x) b y
+  insert-order m a b x y ne = insert_twice_from_get m (insert (insert m b y) a x) a b x y ne (get-insert_same (insert m b y) a x)
+      (get-insert_other (insert m b y) a x b (λ e. ne (sym e)) ∙ get-insert_same m b y)
+      (λ q not_a not_b. get-insert_other (insert m b y) a x q not_a ∙ get-insert_other m b y q not_b)
 
-  -- two joins put all of one list before another, and then it was closed
-  pub brought-before : (a b c d : Lists T) (front l : ℕ) → front ≢ l → b.lists ≡ insert (with_list a front (list_at a front ++ list_at a l)) l []
-      → c.lists ≡ insert (with_list b l (list_at b l ++ list_at b front)) front [] → d.lists ≡ remove c.lists front → d.lists ≡ remove (with_list a l (list_at a front ++ list_at a l)) front
-  brought-before a b c d front l apart e f g =
-      g ∙ ap (λ m. remove m front) (joined-lists a b c front l apart e f) ∙ closed-map a.lists front l (list_at a front ++ list_at a l) apart
-
-  -- a list that helps is another than those that live
-  pub helper-apart : (a : Lists T) (h l : ℕ) → get a.lists h ≡ None → IsLive a l → h ≢ l
-  helper-apart a h l fresh live same =
-      true≢false (sym live ∙ ap (λ (q : ℕ). is_some (get a.lists q)) (sym same) ∙ ap (λ (o : Option (List T)). is_some o) fresh)
-
-  helped-map : (m : FinMap nat_cmp (List T)) (h l : ℕ) (xs ys all : List T) → h ≢ l → get m h ≡ None → remove (insert (insert (insert m h xs) h ys) l all) h ≡ insert m l all
-  helped-map m h l xs ys all apart fresh = same_from_get _ _ (λ q. grind (arith, list_steps))
-
-  -- a list was opened, filled, brought before another and closed
-  pub helped : (a b c d : Lists T) (h l : ℕ) (xs : List T) → get a.lists h ≡ None → IsLive a l → b.lists ≡ with_list a h [] → c.lists ≡ with_list b h (list_at b h ++ xs)
-      → d.lists ≡ remove (with_list c l (list_at c h ++ list_at c l)) h → d.lists ≡ with_list a l (xs ++ list_at a l)
-  helped a b c d h l xs fresh live e f g =
-      let apart = helper-apart a h l fresh live in
-      let filled : list_at c h ≡ xs = list_same b c h (list_at b h ++ xs) f ∙ ap (λ (ys : List T). ys ++ xs) (list_same a b h [] e) in
-      let other : list_at c l ≡ list_at a l = list_other b c h (list_at b h ++ xs) l (λ s. apart (sym s)) f ∙ list_other a b h [] l (λ s. apart (sym s)) e in
-      g
-      ∙ (λ i. remove (insert c.lists l (filled i ++ other i)) h)
-      ∙ ap (λ m. remove (insert m l (xs ++ list_at a l)) h) (f ∙ ap (λ m. insert m h (list_at b h ++ xs)) e)
-      ∙ helped-map a.lists h l [] (list_at b h ++ xs) (xs ++ list_at a l) apart fresh
+  -- the list is changed again after another
+  pub insert-again : (m : FinMap nat_cmp (List T)) (a b : ℕ) (x x' y : List T) → a ≢ b → insert (insert (insert m a x) b y) a x' ≡ insert (insert m a x') b y
+  insert-again m a b x x' y ne = insert-order (insert m a x) a b x' y ne ∙ ap (λ t. insert t b y) (insert-twice m a x x')

@@ -1,32 +1,73 @@
-//! Makes a text column of its text, its insertions and its floats.
-ghost use Rattle.std.specs.Prelude.{◌≡◌, ◌+◌, ◌<◌, ◌≤◌, map, ◌∷◌, length, OnOk, OnErr, IfOk};
-ghost use Rattle.tb_pool.specs.Lists.{list_at, with_list};
-ghost use Rattle.tb_pool.specs.Frame.{OnlyChanged};
-ghost use Rattle.tb_node.specs.Small.{IsAmount, IsSmall};
+//! Makes a text column of the lists of its text and of its footnotes.
+ghost use Rattle.std.specs.Prelude.{◌≡◌, ◌+◌, ◌<◌, ◌≤◌, ◌≤ℤ◌, ◌≢◌, ℤ, pos, neg_ℤ, map, ◌++◌, ◌∷◌, [], OnOk, OnErr, IfOk};
+ghost use Rattle.tb_pool.specs.Lists.{IsLive, list_at, with_list};
+ghost use Rattle.tb_node.specs.Small.{IsAmount};
+ghost use Rattle.tb_node.specs.Fit.{NodesFit, SumsFit};
 ghost use Rattle.tb_node.specs.Plain.{shape_of};
 ghost use Rattle.tb_node.specs.Sums.{sums_of};
+ghost use Rattle.tb_float.specs.Lists.{no_floats};
 ghost use Rattle.tb_column.specs.Column.{is_ragged, text_column};
 ghost use Rattle.tb_column.specs.Shown.{nodes_shown, column_shown};
-ghost use Rattle.tb_column.specs.Page.{IsPageList, IsPageColumn};
-ghost use Rattle.tb_column.specs.Ranges.{AreColumnParams};
-ghost use Rattle.tb_column.specs.Notes.{notes_shown, note_lists, note_count, AreNotes};
-ghost use Rattle.tb_column.specs.Changes.{AreJoined, without_text_floats};
-ghost use Rattle.tb_column.specs.TextList.{closing_by, text_list, closed_list};
+ghost use Rattle.tb_column.specs.TextList.{IsApart, CanJoin, notes_shown, made_node, rule_above, notes_list, closing_by, closed_list, column_list, emptied};
 
-use crate::areas::{clear_here, put_above, put_below};
-use crate::nodes::made_node;
-use crate::notes::{above_count, join_notes};
-use crate::{Column, ColumnKind, NoteBox};
+use crate::{Column, ColumnKind};
 use std::alloc::AllocError;
-use tb_float::{Part, Pool};
 use tb_node::{Kind, Node, Sums, add, list_sums};
 use tb_pack::pack_sums;
 use tb_param::{Choice, Params};
 use tb_pool::{ListId, Lists};
 use tb_scaled::{Glue, Order};
 
-// The stretch of the glue at a ragged bottom is as small as LaTeX's (`\raggedbottom`: 0.0001fil).
+// The rule above footnotes stands between two kerns, and takes no room with them (LaTeX's \footnoterule: 3, 0.4 and
+// 2.6 points).
+const KERN_ABOVE: i64 = -196_608;
+
+const RULE_HEIGHT: i64 = 26_214;
+
+const KERN_BELOW: i64 = 170_394;
+
+// The stretch of the glue at a ragged bottom is as small as LaTeX's (\raggedbottom: 0.0001fil).
 const RAGGED_STRETCH: i64 = 7;
+
+// A node that no galley item gives.
+fn made_node(kind: Kind) -> Node
+    ensures { result ≡ made_node kind }
+{
+    Node { line: 0, kind }
+}
+
+// Puts such a node at the end of a list.
+fn push_made(store: &mut Lists<Node>, l: ListId, kind: Kind)
+    requires live { IsLive store.old l }
+    requires room { 0 < store.old.spare }
+    ensures lists { store.new.lists ≡ with_list store.old l (list_at store.old l ++ made_node kind ∷ []) }
+    ensures live { IsLive store.new l }
+    ensures spare { store.new.spare + 1 ≡ store.old.spare }
+{
+    store.push_back(l, made_node(kind));
+}
+
+// Puts glue and the rule above footnotes at the end of a list.
+fn push_rule(store: &mut Lists<Node>, l: ListId, skip: Glue)
+    requires live { IsLive store.old l }
+    requires room { 4 ≤ store.old.spare }
+    ensures lists { store.new.lists ≡ with_list store.old l (list_at store.old l ++ rule_above skip) }
+    ensures live { IsLive store.new l }
+    ensures spare { store.new.spare + 4 ≡ store.old.spare }
+{
+    push_made(store, l, Kind::Skip(skip));
+    push_made(store, l, Kind::Kern(KERN_ABOVE));
+    push_made(
+        store,
+        l,
+        Kind::Rule {
+            name: None,
+            height: RULE_HEIGHT,
+            depth: 0,
+        },
+    );
+    push_made(store, l, Kind::Kern(KERN_BELOW));
+}
 
 fn is_ragged(bottom: Choice) -> bool
     ensures { result ≡ is_ragged bottom }
@@ -36,8 +77,6 @@ fn is_ragged(bottom: Choice) -> bool
         Choice::Flush => false,
         Choice::On => false,
         Choice::Off => false,
-        Choice::R2014 => false,
-        Choice::R2015 => false,
     }
 }
 
@@ -55,48 +94,34 @@ fn closing_glue(bottom: Choice, depth: i64) -> Glue
     }
 }
 
-// Puts the floats and the insertions of a page about its text. If there is no memory for their nodes and for one more,
-// the pool and all lists stay as they were.
-fn gather(
-    store: &mut Lists<Node>,
-    pool: &mut Pool,
-    p: &Params,
-    body: ListId,
-    notes: &[NoteBox],
-) -> Result<(), AllocError>
-    requires params { AreColumnParams p.now }
-    requires body { IsPageList store.old body }
-    requires notes { AreNotes store.old body notes.now }
-    requires few { length (list_at store.old body) + note_count store.old notes.now ≤ 8355840 }
-    ensures text { OnOk result (list_at store.new body ≡ text_list p.now pool.old.lists store.old body notes.now) }
-    ensures page { OnOk result (IsPageList store.new body) }
-    ensures few { OnOk result (length (list_at store.new body) < 8388608) }
-    ensures lists { OnOk result (AreJoined body notes.now store.old store.new) }
-    ensures room { OnOk result (0 < store.new.spare) }
-    ensures pool { OnOk result (pool.new ≡ without_text_floats pool.old) }
-    ensures err_lists { OnErr result (store.new.lists ≡ store.old.lists) }
-    ensures err_pool { OnErr result (pool.new ≡ pool.old) }
+// Moves footnotes under their rule to the end of a list, where there are any.
+fn join_notes(store: &mut Lists<Node>, skip: Glue, body: ListId, notes: Option<ListId>)
+    requires live { IsLive store.old body }
+    requires notes { CanJoin store.old body notes }
+    requires room { 4 ≤ store.old.spare }
+    ensures lists { store.new.lists ≡ emptied notes (with_list store.old body (list_at store.old body ++ notes_list skip store.old notes)) }
+    ensures spare { store.old.spare ≤ store.new.spare + 4 }
 {
-    let tops = pool.len(Part::Top);
-    let bottoms = pool.len(Part::Bottom);
-    store.reserve(2 * (tops + bottoms) + above_count(notes) + 5)?;
-    put_above(store, pool, p, body)?;
-    join_notes(store, p, body, notes);
-    put_below(store, pool, p, body);
-    clear_here(pool);
-    Ok(())
+    match notes {
+        Some(notes) => {
+            push_rule(store, body, skip);
+            store.append(body, notes);
+        }
+        None => {}
+    }
 }
 
-// Ends a text column with the glue that takes its depth back, and returns the sums of the whole.
+// Ends a text column with the glue that takes its depth back, and answers the sums of the whole.
 fn close_text(store: &mut Lists<Node>, p: &Params, body: ListId) -> Sums
-    requires params { AreColumnParams p.now }
-    requires page { IsPageList store.old body }
-    requires few { length (list_at store.old body) < 8388608 }
+    requires live { IsLive store.old body }
     requires room { 0 < store.old.spare }
+    requires low { pos 0 ≤ℤ p.now.maxdepth }
+    requires limit { IsAmount p.now.maxdepth }
+    requires nodes { NodesFit (map shape_of (closed_list p.now (list_at store.old body))) }
+    requires sums { SumsFit p.now.maxdepth (map shape_of (closed_list p.now (list_at store.old body))) }
     ensures lists { store.new.lists ≡ with_list store.old body (closed_list p.now (list_at store.old body)) }
-    ensures page { IsPageList store.new body }
+    ensures live { IsLive store.new body }
     ensures sums { result ≡ sums_of p.now.maxdepth (map shape_of (closed_list p.now (list_at store.old body))) }
-    ensures small { IsSmall result }
 {
     let mut sums = list_sums(store, body, p.maxdepth);
     let glue = made_node(Kind::Skip(closing_glue(p.bottom, sums.depth)));
@@ -105,41 +130,39 @@ fn close_text(store: &mut Lists<Node>, p: &Params, body: ListId) -> Sums
     sums
 }
 
-/// Makes the text column of a page: the floats at its top, the text, the insertions of each class, the floats at its
-/// bottom, then the glue that takes the depth back, packed to the height in scaled points that the wide floats leave of
-/// a page (ltoutput.dtx, `\@makecol` and `\@combinefloats`).
+/// Makes the text column of a page without floats: the text, then its footnotes under their rule, then the glue that
+/// takes the depth back, packed to the page's height (ltoutput.dtx, \@makecol and \@combinefloats).
 ///
-/// The list of the text becomes the column's, and those of the insertions are emptied into it; no node is copied. The
-/// floats in the text, at its top and at its bottom leave the pool. If there is no memory for the nodes that are
-/// made, the pool and all lists stay as they were.
+/// The list of the text becomes the column's, and that of the footnotes is emptied into it; no node is copied. Where
+/// there is no memory for the nodes that are made, all lists stay as they were.
 pub fn make_column(
     store: &mut Lists<Node>,
-    pool: &mut Pool,
     p: &Params,
     body: ListId,
-    notes: &[NoteBox],
+    notes: Option<ListId>,
 ) -> Result<Column, AllocError>
-    requires params { AreColumnParams p.now }
-    requires body { IsPageList store.old body }
-    requires notes { AreNotes store.old body notes.now }
-    requires few { length (list_at store.old body) + note_count store.old notes.now ≤ 8355840 }
+    requires live { IsLive store.old body }
+    requires body { IsApart body (list_at store.old body) }
+    requires notes { CanJoin store.old body notes }
+    requires height { IsAmount p.now.textheight }
+    requires low { pos 0 ≤ℤ p.now.maxdepth }
+    requires limit { IsAmount p.now.maxdepth }
+    requires nodes { NodesFit (map shape_of (column_list p.now store.old body notes)) }
+    requires sums { SumsFit p.now.maxdepth (map shape_of (column_list p.now store.old body notes)) }
 
-    ensures column { IfOk result (λ c. column_shown store.new c ≡ text_column p.now pool.old.lists (nodes_shown store.old body) (notes_shown store.old notes.now)) }
+    ensures column { IfOk result (λ c. column_shown store.new c ≡ text_column p.now no_floats (nodes_shown store.old body) (notes_shown store.old notes)) }
     ensures list { IfOk result (λ c. c.list ≡ body) }
-    ensures page { IfOk result (λ c. IsPageColumn store.new c) }
+    ensures divisor { IfOk result (λ c. c.set.den ≢ pos 0) }
 
-    ensures lists { OnOk result (AreJoined body notes.now store.old store.new) }
-    ensures frame { OnOk result (OnlyChanged (body ∷ note_lists notes.now) (body ∷ note_lists notes.now) store.old store.new) }
-    ensures pool { OnOk result (pool.new ≡ without_text_floats pool.old) }
-    ensures err_lists { OnErr result (store.new.lists ≡ store.old.lists) }
-    ensures err_pool { OnErr result (pool.new ≡ pool.old) }
+    ensures lists { OnOk result (store.new.lists ≡ emptied notes (with_list store.old body (column_list p.now store.old body notes))) }
+    ensures err { OnErr result (store.new.lists ≡ store.old.lists) }
 {
-    let height = pool.column_height(p);
-    gather(store, pool, p, body, notes)?;
+    store.reserve(5)?;
+    join_notes(store, p.skipfootins, body, notes);
     let sums = close_text(store, p, body);
     Ok(Column {
         kind: ColumnKind::Text,
         list: body,
-        set: pack_sums(&sums, height),
+        set: pack_sums(&sums, p.textheight),
     })
 }

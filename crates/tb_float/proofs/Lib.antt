@@ -10,5 +10,3 @@ pub mod RoomLemmas
 pub mod ParamLemmas
 pub mod RetireLemmas
 pub mod WaitingLemmas
-pub mod ClassLemmas
-pub mod RotateLemmas

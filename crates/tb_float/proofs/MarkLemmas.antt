@@ -7,17 +7,16 @@ use Rattle.tb_float.specs.declared.Part.TheVariants as parts
 use Rattle.tb_float.specs.Lists.{without_place, floats_of, IsWaiting}
 use Rattle.tb_float.specs.Pool.{FloatPool, HasNoMarks, marks_of, unmarked_floats, marked_among, unmarked_among, marked_floats, first_marked, with_floats_after, with_floats_before, without_entry, without_entries, moved_float, joined_before, with_float_at}
 
-pub marked-none : (ms : List Bool) → marked_among ms [] ≡ []
+marked-none : (ms : List Bool) → marked_among ms [] ≡ []
 marked-none [] = refl
 marked-none (m ∷ ms) = refl
 
--- where no mark is set, no float is marked
-pub marked-false : (n : ℕ) (fs : List Float) → marked_among (replicate n false) fs ≡ []
+marked-false : (n : ℕ) (fs : List Float) → marked_among (replicate n false) fs ≡ []
 marked-false zero fs = refl
 marked-false (suc n) [] = refl
 marked-false (suc n) (f ∷ fs) = marked-false n fs
 
-pub marked-append : (ms ns : List Bool) (fs gs : List Float) → length ms ≡ length fs → marked_among (ms ++ ns) (fs ++ gs) ≡ marked_among ms fs ++ marked_among ns gs
+marked-append : (ms ns : List Bool) (fs gs : List Float) → length ms ≡ length fs → marked_among (ms ++ ns) (fs ++ gs) ≡ marked_among ms fs ++ marked_among ns gs
 marked-append [] ns [] gs e = refl
 marked-append [] ns (f ∷ fs) gs e = absurd (omega arith)
 marked-append (m ∷ ms) ns [] gs e = absurd (omega arith)

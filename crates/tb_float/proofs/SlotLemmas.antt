@@ -1,9 +1,8 @@
 -- What lists of slots show.
 use Rattle.std.proofs.Common.{◌≡◌, ◌≢◌, ℕ, zero, suc, ◌-◌, ◌≤◌, Bool, true, false, List, [], ◌∷◌, ◌++◌, length, take, map, Some, slice_get, refl, sym, ap, ◌∙◌, subst, arith, replicate}
-use Rattle.std.specs.Prelude.{◌+ℤ◌, ◌-ℤ◌, slice_set, All}
+use Rattle.std.specs.Prelude.{◌+ℤ◌, ◌-ℤ◌, slice_set}
 use Rattle.std.proofs.lemmas.Int.{ints}
 use Rattle.std.proofs.lemmas.List.{map-append}
-use Rattle.std.proofs.lemmas.List.Elements.{All-nil, All-cons}
 use Rattle.std.proofs.lemmas.Option.{same_Some}
 use Rattle.tb_node.specs.declared.Float.{Float}
 use Rattle.tb_float.specs.declared.Part.{Part}
@@ -11,7 +10,7 @@ use Rattle.tb_float.specs.declared.Entry.{Entry}
 use Rattle.tb_float.specs.declared.Entry.TheVariants as entries
 use Rattle.tb_float.specs.SlotView.{SlotView}
 use Rattle.tb_float.specs.Lists.{has_class, float_before, floats_among, float_entries, without_place}
-use Rattle.tb_float.specs.Ranges.{IsSizedEntry, IsSizedFloat}
+use Rattle.tb_float.specs.Ranges.{IsSizedEntry}
 use Rattle.tb_float.specs.Rooms.{total_height}
 use Rattle.tb_float.specs.Spans.{IsSumOf}
 use Rattle.tb_float.specs.Stored.{entries_in, floats_in, marks_in, is_float, holds_notes, holds_marks, IsSlotOf, AreSlotsOf, unmarked_slot}
@@ -87,16 +86,6 @@ module _ (p : Part) where
   length-floats_in [] no_notes h = refl
   length-floats_in (s ∷ ss) no_notes h =
       length-first s.entry (floats_in ss) (h.0.float no_notes) ∙ ap suc (length-floats_in ss no_notes h.1)
-
-  float-sized : (e : Entry) (fs : List Float) → IsSizedEntry e → All IsSizedFloat fs → All IsSizedFloat (float_before e fs)
-  float-sized (entries.Float f) fs is h = All-cons IsSizedFloat f fs is h
-  float-sized (entries.Left m) fs is h = h
-  float-sized (entries.Right m) fs is h = h
-
-  -- each float is sized
-  pub floats-sized : (ss : List SlotView) → AreSlotsOf p ss → All IsSizedFloat (floats_in ss)
-  floats-sized [] h = All-nil IsSizedFloat
-  floats-sized (s ∷ ss) h = float-sized s.entry (floats_in ss) h.0.sized (floats-sized ss h.1)
 
   -- where no marks stand, none is set
   pub marks-none : (ss : List SlotView) → holds_marks p ≡ false → AreSlotsOf p ss → marks_in ss ≡ replicate (length ss) false

@@ -6,7 +6,7 @@ use Rattle.tb_float.specs.declared.Entry.{Entry}
 use Rattle.tb_float.specs.declared.Entry.TheVariants as entries
 use Rattle.tb_float.specs.declared.Part.{Part}
 use Rattle.tb_float.specs.declared.Part.TheVariants as parts
-use Rattle.tb_float.specs.Lists.{FloatLists, without_place, float_entries, floats_of, with_floats_of}
+use Rattle.tb_float.specs.Lists.{FloatLists, without_place, float_entries, floats_of}
 
 -- the seven lists, a mark for each float that waits in the deferred or in the second list, and how many boxes may live
 pub record FloatPool : Type 0 where
@@ -114,15 +114,6 @@ with_marks_of parts.Second ms v = record v { second_marks = ms }
 -- the float at a place of a list is chosen for a column of floats
 abbrev pub with_mark : Part → ℕ → FloatPool → FloatPool
 with_mark from k v = with_marks_of from (slice_set (marks_of from v) k true) v
-
--- the first of these goes behind the others
-abbrev pub rotated : {X : Type 0} → List X → List X
-rotated [] = []
-rotated (x ∷ xs) = xs ++ x ∷ []
-
--- the first float of a list goes behind the others, with its mark
-abbrev pub with_first_behind : Part → FloatPool → FloatPool
-with_first_behind from v = with_marks_of from (rotated (marks_of from v)) (record v { lists = with_floats_of from (rotated (floats_of from v.lists)) v.lists })
 
 -- the floats whose marks are set, and the others; a float without a mark counts as not marked
 abbrev pub marked_among : List Bool → List Float → List Float

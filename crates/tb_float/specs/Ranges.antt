@@ -1,7 +1,6 @@
 -- The ranges of what the float calls are given, and of what they answer.
 use Rattle.std.specs.Prelude.{ℕ, ℤ, pos, neg_ℤ, ◌≤ℤ◌}
 pub use Rattle.tb_node.specs.Fit.{IsDimension, IsExtent}
-use Rattle.tb_node.specs.declared.Float.{Float}
 use Rattle.tb_node.specs.declared.Margin.{Margin}
 use Rattle.tb_param.specs.declared.Params.{Params}
 use Rattle.tb_float.specs.declared.Entry.{Entry}
@@ -50,12 +49,8 @@ pub record IsSizedMargin (m : Margin) : Type 0 where
   pub right_height : IsExtent m.right_height
   pub right_depth : IsExtent m.right_depth
 
--- the height of a float is in range
-abbrev pub IsSizedFloat : Float → Type 0
-IsSizedFloat f = IsExtent f.height
-
 -- the heights and depths of an entry are in range
 abbrev pub IsSizedEntry : Entry → Type 0
-IsSizedEntry (entries.Float f) = IsSizedFloat f
+IsSizedEntry (entries.Float f) = IsExtent f.height
 IsSizedEntry (entries.Left m) = IsSizedMargin m
 IsSizedEntry (entries.Right m) = IsSizedMargin m

@@ -2,4 +2,3 @@ pub mod CompanyLemmas
 pub mod LawLemmas
 pub mod WalkLemmas
 pub mod FirstLemmas
-pub mod ChosenLemmas

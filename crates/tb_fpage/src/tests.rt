@@ -1,6 +1,6 @@
 //! Columns of floats on worked values.
 ghost use Rattle.std.specs.Prelude.{◌≡◌, [], IfOk};
-ghost use Rattle.tb_float.specs.Pool.{HasNoMarks};
+ghost use Rattle.tb_float.specs.Pool.{marked_floats};
 ghost use Rattle.tb_float.specs.Ranges.{IsExtent};
 
 use crate::choose;
@@ -39,8 +39,8 @@ fn float_of(name: Name, places: Places, height: u8, class: u8) -> Float
 // The float is deferred, where the pool has room for it.
 fn defer(pool: &mut Pool, f: Float)
     requires extent { IsExtent f.height }
-    requires unmarked { HasNoMarks pool.old }
-    ensures { HasNoMarks pool.new }
+    requires unmarked { marked_floats pool.old ≡ [] }
+    ensures { marked_floats pool.new ≡ [] }
 {
     if pool.take(f).is_err() {
         return;
@@ -52,7 +52,7 @@ fn defer(pool: &mut Pool, f: Float)
 
 // A pool whose deferred floats may go to these places and have these heights and classes.
 fn deferred(rt: &HostRuntime, places: Places, floats: &[(u8, u8)]) -> Result<Pool, Fail>
-    ensures { IfOk result (λ pool. HasNoMarks pool) }
+    ensures { IfOk result (λ pool. marked_floats pool ≡ []) }
 {
     let name = name_of(b"F").ok_or("name")?;
     let mut pool = new_pool(rt.alloc(), 18)?;
@@ -64,13 +64,13 @@ fn deferred(rt: &HostRuntime, places: Places, floats: &[(u8, u8)]) -> Result<Poo
 
 // The height of the first marked float, which leaves the pool.
 fn next_marked(pool: &mut Pool) -> Option<i64> {
-    pool.retire_marked(Part::Deferred).map(|f| f.height)
+    pool.retire_marked().map(|f| f.height)
 }
 
 #[test]
 fn a_company_of_one_class_with_a_separator(rt: HostRuntime) -> Result<(), Fail> {
     let mut pool = deferred(&rt, ON_A_PAGE, &[(60, 1), (30, 1), (50, 2)])?;
-    assert!(rt; choose(&mut pool, 100, 50, 5, false, false, Part::Deferred));
+    assert!(rt; choose(&mut pool, 100, 50, 5, false, false));
     assert_eq!(rt; next_marked(&mut pool), Some(60));
     assert_eq!(rt; next_marked(&mut pool), Some(30));
     assert!(rt; next_marked(&mut pool).is_none());
@@ -81,7 +81,7 @@ fn a_company_of_one_class_with_a_separator(rt: HostRuntime) -> Result<(), Fail> 
 #[test]
 fn the_second_head_has_its_company_made(rt: HostRuntime) -> Result<(), Fail> {
     let mut pool = deferred(&rt, ON_A_PAGE, &[(30, 1), (70, 2)])?;
-    assert!(rt; choose(&mut pool, 90, 50, 0, false, false, Part::Deferred));
+    assert!(rt; choose(&mut pool, 90, 50, 0, false, false));
     assert_eq!(rt; next_marked(&mut pool), Some(70));
     assert!(rt; next_marked(&mut pool).is_none());
     Ok(())
@@ -90,7 +90,7 @@ fn the_second_head_has_its_company_made(rt: HostRuntime) -> Result<(), Fail> {
 #[test]
 fn a_class_that_failed_heads_no_company(rt: HostRuntime) -> Result<(), Fail> {
     let mut pool = deferred(&rt, ON_A_PAGE, &[(30, 1), (40, 1)])?;
-    assert!(rt; !choose(&mut pool, 60, 30, 0, false, false, Part::Deferred));
+    assert!(rt; !choose(&mut pool, 60, 30, 0, false, false));
     assert!(rt; next_marked(&mut pool).is_none());
     assert_eq!(rt; pool.len(Part::Deferred), 2);
     Ok(())
@@ -99,10 +99,10 @@ fn a_class_that_failed_heads_no_company(rt: HostRuntime) -> Result<(), Fail> {
 #[test]
 fn a_company_exceeds_the_minimum(rt: HostRuntime) -> Result<(), Fail> {
     let mut pool = deferred(&rt, ON_A_PAGE, &[(50, 1)])?;
-    assert!(rt; !choose(&mut pool, 100, 50, 0, false, false, Part::Deferred));
-    assert!(rt; !choose(&mut pool, 49, 0, 0, false, false, Part::Deferred));
-    assert!(rt; !choose(&mut pool, 100, 0, 0, false, true, Part::Deferred));
-    assert!(rt; choose(&mut pool, 100, 49, 0, false, false, Part::Deferred));
+    assert!(rt; !choose(&mut pool, 100, 50, 0, false, false));
+    assert!(rt; !choose(&mut pool, 49, 0, 0, false, false));
+    assert!(rt; !choose(&mut pool, 100, 0, 0, false, true));
+    assert!(rt; choose(&mut pool, 100, 49, 0, false, false));
     assert_eq!(rt; next_marked(&mut pool), Some(50));
     Ok(())
 }
@@ -110,8 +110,8 @@ fn a_company_exceeds_the_minimum(rt: HostRuntime) -> Result<(), Fail> {
 #[test]
 fn a_clear_takes_the_first_company(rt: HostRuntime) -> Result<(), Fail> {
     let mut pool = deferred(&rt, AT_THE_TOP, &[(20, 1), (90, 2), (30, 1)])?;
-    assert!(rt; !choose(&mut pool, 100, 0, 0, false, false, Part::Deferred));
-    assert!(rt; choose(&mut pool, 100, 60, 0, true, false, Part::Deferred));
+    assert!(rt; !choose(&mut pool, 100, 0, 0, false, false));
+    assert!(rt; choose(&mut pool, 100, 60, 0, true, false));
     assert_eq!(rt; next_marked(&mut pool), Some(20));
     assert_eq!(rt; next_marked(&mut pool), Some(30));
     assert!(rt; next_marked(&mut pool).is_none());

@@ -1,4 +1,4 @@
-//! A walk over the floats that wait, which gathers the company of a head.
+//! A walk over the deferred floats, which gathers the company of a head.
 ghost use Rattle.std.specs.Prelude.{◌≡◌, ◌<◌, ◌+ℤ◌, ◌∷◌, ◌++◌, [], ℕ, ℤ, List, slice_get, Some};
 ghost use Rattle.tb_float.specs.Ranges.{IsWithin};
 ghost use Rattle.tb_fpage.specs.Company.{Choice, suits, joins};
@@ -7,7 +7,7 @@ ghost use Rattle.tb_fpage.specs.Walked.{Stands, FailedAre, choice_at, taken, pas
 use crate::Wanted;
 use tb_node::Float;
 
-/// What is known of the floats that were passed.
+/// What is known of the deferred floats that were passed.
 #[derive(Drop)]
 pub(crate) struct Walk {
     /// The place of the company's head.

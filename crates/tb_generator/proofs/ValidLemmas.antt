@@ -12,13 +12,9 @@ use Rattle.tb_param.specs.Table.{row_of}
 use Rattle.tb_galley.specs.declared.Item.{Item}
 use Rattle.tb_galley.specs.declared.ItemKind.{ItemKind}
 use Rattle.tb_galley.specs.declared.ItemKind.TheVariants as items
-use Rattle.tb_galley.specs.Valid.{is_item, is_size, weight_of, weight, lines_of_item, named_lines, rise_from, has_known_class, fits_version, IsValid}
+use Rattle.tb_galley.specs.Valid.{is_item, is_size, weight_of, weight, lines_of_item, named_lines, rise_from, IsValid}
 use Rattle.tb_generator.specs.Generate.{next_seed, made_box, made_foot, made_float, made_by, made_item, made_items, made_params, generated, tbp, htp}
 use Rattle.tb_generator.proofs.NameLemmas.{named}
-
-version_fits : fits_version 1 [] made_params ≡ true
-unfolding made_params default_params
-version_fits = refl
 
 params_valid : are_params made_params ≡ true
 unfolding are_params made_params default_params row_of
@@ -38,7 +34,6 @@ itself n = grind (arith, nat_tests)
 -- what is needed of an item in place k
 record IsMade (k : ℕ) (i : ItemKind) : Type 0 where
   good : is_item k i ≡ true
-  known : has_known_class [] i ≡ true
   light : weight_of i + 2 * (k % 2) ≤ 3
   rises : (j : ℕ) (rest : List ℕ) → j < k → ((i : ℕ) → i ≤ k → rise_from i rest ≡ true) → rise_from j (lines_of_item k i ++ rest) ≡ true
 
@@ -51,19 +46,17 @@ no-line j k rest low later = later j (omega arith)
 box_made : (k : ℕ) → k ≤ 40000 → IsMade k (made_box k)
 box_made k few = record {
   good = both _ _ (both _ _ (named 98 k refl few) refl) refl;
-  known = refl;
   light = omega arith;
   rises = λ j rest low later. one-line j k rest low later;
 }
 
 module _ (k : ℕ) (few : k ≤ 40000) (even : k % 2 ≡ 0) where
   glue_made : IsMade k (items.Skip (glue_points 3 1 0))
-  glue_made = record { good = refl; known = refl; light = omega arith; rises = λ j rest low later. no-line j k rest low later }
+  glue_made = record { good = refl; light = omega arith; rises = λ j rest low later. no-line j k rest low later }
 
   foot_made : IsMade k (made_foot k)
   foot_made = record {
     good = both _ _ (both _ _ (both _ _ (named 102 k refl few) refl) refl) refl;
-    known = refl;
     light = omega arith;
     rises = λ j rest low later. one-line j k rest low later;
   }
@@ -71,7 +64,6 @@ module _ (k : ℕ) (few : k ≤ 40000) (even : k % 2 ≡ 0) where
   float_made : (class : ℕ) (places : Places) (height : ℕ) → is_between 1 26 class ≡ true → (places.h || places.t || places.b || places.p) ≡ true → height ≤ 100 → IsMade k (made_float k class places height)
   float_made class places height c p low = record {
     good = both _ _ (itself k) (both _ _ (both _ _ (both _ _ (named 120 k refl few) c) p) (small height low));
-    known = refl;
     light = omega arith;
     rises = λ j rest lower later. one-line j k rest lower later;
   }
@@ -98,10 +90,6 @@ items_good : (m k s : ℕ) → k + m ≤ 40001 → list_all (λ (n : Item). is_i
 items_good zero k s few = refl
 items_good (suc m) k s few = both _ _ (made k (next_seed s) (omega arith)).good (items_good m (k + 1) (next_seed s) (omega arith))
 
-feet_known : (m k s : ℕ) → k + m ≤ 40001 → list_all (λ (n : Item). has_known_class [] n.kind) (made_items m k s) ≡ true
-feet_known zero k s few = refl
-feet_known (suc m) k s few = both _ _ (made k (next_seed s) (omega arith)).known (feet_known m (k + 1) (next_seed s) (omega arith))
-
 items_light : (m k s : ℕ) → k + m ≤ 40001 → weight (made_items m k s) + k % 2 ≤ 2 * m + 1
 items_light zero k s few = omega arith
 items_light (suc m) k s few =
@@ -122,10 +110,7 @@ items_rise (suc m) k s j few low =
 pub generated_valid : (n : ℕ) → n ≤ 40000 → IsValid (generated n)
 generated_valid n few = record {
   params = params_valid;
-  version = version_fits;
-  classes = refl;
   items = items_good n 1 n (omega arith);
-  feet = feet_known n 1 n (omega arith);
   count = let light = items_light n 1 n (omega arith) in fits (weight (made_items n 1 n)) (omega (arith, light));
   lines = subst (λ z. rise_from 0 (named_lines (made_items n 1 n) ++ z ∷ []) ≡ true) last (items_rise n 1 n 0 (omega arith) (omega arith));
 }

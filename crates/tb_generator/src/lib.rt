@@ -8,8 +8,8 @@ ghost use Rattle.tb_galley.specs.Valid.{IsValid};
 ghost use Rattle.tb_generator.specs.Generate.{next_seed, letter_number, made_box, made_foot, made_float, made_by, made_item, made_params, generated};
 
 use std::alloc::{AllocError, Global};
-use tb_galley::{Classes, Galley, Item, ItemKind, Items, Leaf, LeafKind, Leaves};
-use tb_node::{FOOTNOTES, Float, Name, Places, name_of};
+use tb_galley::{Galley, Item, ItemKind, Items, Leaf, LeafKind, Leaves};
+use tb_node::{Float, Name, Places, name_of};
 use tb_param::{Choice, Params, defaults};
 use tb_scaled::{Glue, Order};
 use tb_text::put_number;
@@ -36,8 +36,8 @@ const HTP: Places = Places {
     p: true,
 };
 
-/// The galley of version 1 with so many items, 1 to 40000. Item k has line k: a box where k is odd, else glue, a footnote
-/// or a float, by a sequence of numbers that begins with `n`.
+/// The galley of so many items, 1 to 40000. Item k has line k: a box where k is odd, else glue, a footnote or a float, by a
+/// sequence of numbers that begins with `n`.
 ///
 /// It fails only where there is no memory.
 pub fn generate(alloc: Global, n: u32) -> Result<Galley, AllocError>
@@ -55,8 +55,6 @@ pub fn generate(alloc: Global, n: u32) -> Result<Galley, AllocError>
     }
     Ok(Galley {
         params: made_params(),
-        version: 1,
-        classes: Classes::new(alloc),
         items,
         end_line: n + 1,
     })
@@ -146,10 +144,7 @@ fn made_foot(alloc: Global, k: u32) -> Result<ItemKind, AllocError>
             depth: DEPTH,
         },
     })?;
-    Ok(ItemKind::Foot {
-        class: FOOTNOTES,
-        leaves,
-    })
+    Ok(ItemKind::Foot(leaves))
 }
 
 // A float of so many points in height.

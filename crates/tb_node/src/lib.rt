@@ -2,13 +2,11 @@
 #![tactic(auto)]
 
 mod names;
-mod signals;
 mod summing;
 #[cfg(test)]
 mod tests;
 
 pub use names::name_of;
-pub use signals::{CLEAR_PENALTY, FOOTNOTES, HOLD_PENALTY, PAR_PENALTY, VERT_PENALTY};
 use std::marker::Model;
 pub use summing::{add, list_sums, stretch_sums};
 use tb_pool::ListId;

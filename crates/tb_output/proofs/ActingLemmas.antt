@@ -41,7 +41,6 @@ module _ (m now : MachineView) (f : Float) where
   machine-float : (store : Lists Node) → IsMachine m store → IsMachine (with_float f m) store
   machine-float store is = record {
     params = is.params;
-    classes = is.classes;
     first = is.first;
     last = is.last;
     pool = is.pool;

@@ -13,8 +13,7 @@ use Rattle.tb_node.specs.declared.Node.{Node}
 use Rattle.tb_node.specs.Plain.{made, skip, plain_of}
 use Rattle.tb_node.specs.Fit.{IsSizedNode}
 use Rattle.tb_column.specs.Shown.{nodes_shown}
-use Rattle.tb_column.specs.Page.{AreLeaves}
-use Rattle.tb_column.specs.FloatList.{made_node}
+use Rattle.tb_column.specs.TextList.{AreLeaves, made_node}
 use Rattle.tb_output.specs.Shipping.{clear_list}
 use Rattle.tb_output.proofs.PutOutLemmas.{leaves-append}
 use Rattle.tb_output.proofs.OpenedLemmas.{IsOpened, opened-new, opened-same, opened-filled, opened-added}

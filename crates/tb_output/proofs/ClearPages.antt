@@ -16,7 +16,7 @@ use Rattle.tb_builder.proofs.FittingFired.{Topmost, AllTopmost, flat_box, Fitted
 use Rattle.tb_builder.proofs.PausedPages.{Paused, calm-both}
 use Rattle.tb_output.specs.Clear
 use Rattle.tb_output.specs.Out
-use Rattle.tb_output.proofs.Sorts.{kind_sort, sorts, sorts-calm, none, one, seen_all}
+use Rattle.tb_output.proofs.Sorts.{light, blank, kind_sort, sorts, sorts-calm, none, one, seen_all}
 use Rattle.tb_output.proofs.SortLemmas.{never-one}
 use Rattle.tb_output.proofs.AgainLemmas.{Idle}
 use Rattle.tb_output.proofs.WaitCosts.{kind_cost, wait_cost}

@@ -8,7 +8,7 @@ use Rattle.tb_node.specs.Plain.{PlainNode}
 use Rattle.tb_param.specs.declared.Params.{Params}
 use Rattle.tb_float.specs.declared.Part.{Part}
 use Rattle.tb_float.specs.declared.Part.TheVariants as parts
-use Rattle.tb_float.specs.Lists.{FloatLists, with_floats_of, wide_part, wide_waiting, with_wide_waiting}
+use Rattle.tb_float.specs.Lists.{FloatLists, with_floats_of, IsWaiting, wide_part, wide_waiting, with_wide_waiting}
 use Rattle.tb_float.specs.Rooms.{column_height_of}
 use Rattle.tb_float.proofs.WaitingLemmas.{wide-waits}
 use Rattle.tb_fpage.specs.declared.Wanted.{Wanted}

@@ -21,7 +21,7 @@ use Rattle.tb_output.specs.Columns
 use Rattle.tb_output.specs.Clear
 use Rattle.tb_output.specs.Text
 use Rattle.tb_output.specs.Out
-use Rattle.tb_output.proofs.Sorts.{Sort, hold, serve, clear, odd, pen_sort, kind_sort, sorts}
+use Rattle.tb_output.proofs.Sorts.{Sort, light, blank, hold, serve, clear, odd, pen_sort, kind_sort, sorts}
 use Rattle.tb_output.proofs.SortLemmas.{sorts-append}
 use Rattle.tb_output.proofs.AgainLemmas.{Again, Idle, BreakAgain, again-idle}
 use Rattle.tb_output.proofs.WaitCosts.{sort_cost, wait_cost, cost-append, IsInserted, AllInserted, ins-free}
@@ -299,6 +299,7 @@ module _ (p : Params) (m : ℕ) (s : State) (total a : ℕ) (kind : Kind) (phase
           narrow = λ k. (moved k).1;
         };
       }
+
     where
       b : Work
       b = Text.float_or_note p vert f.body w0

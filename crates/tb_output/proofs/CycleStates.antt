@@ -16,7 +16,7 @@ use Rattle.tb_builder.proofs.FittingFired.{Fitted}
 use Rattle.tb_builder.proofs.PausedPages.{Paused}
 use Rattle.tb_output.specs.State.{State, Work, footnotes}
 use Rattle.tb_output.specs.Out
-use Rattle.tb_output.proofs.Sorts.{sorts}
+use Rattle.tb_output.proofs.Sorts.{blank, clear, sorts}
 use Rattle.tb_output.proofs.AgainLemmas.{Again, Idle}
 use Rattle.tb_output.proofs.WaitCosts.{wait_cost}
 use Rattle.tb_output.proofs.FollowLemmas.{AllWait}

@@ -12,10 +12,9 @@ use Rattle.tb_column.specs.declared.Sheet.TheVariants as sheets
 use Rattle.tb_column.specs.declared.Sent.TheVariants as events
 use Rattle.tb_column.specs.Column.{PlainSent, one, shipped, text_column}
 use Rattle.tb_column.specs.Shown.{sent_shown}
-use Rattle.tb_column.specs.Page.{AreLeaves, IsPageList, IsPageColumn}
+use Rattle.tb_column.specs.TextList.{AreLeaves, notes_shown, foot_notes}
 use Rattle.tb_output.specs.State.{Work}
-use Rattle.tb_output.specs.Footnotes.{notes_shown, foot_notes}
-use Rattle.tb_output.specs.Machine.{MachineView, events_shown, machine_lists, IsNotAmong, IsMachine, IsFloatless}
+use Rattle.tb_output.specs.Machine.{MachineView, events_shown, machine_lists, IsNotAmong, IsPageList, IsPageColumn, IsMachine, IsFloatless}
 use Rattle.tb_output.specs.Firing.{foot_box, AreTextLists, IsPutBack, OthersStand}
 use Rattle.tb_output.specs.Shipping.{shipped_machine, HasPutOut, IsAtLimit, IsOutput, IsOverLimit}
 use Rattle.tb_output.proofs.FloatlessWork.{bare_state, IsDone, IsStopped}

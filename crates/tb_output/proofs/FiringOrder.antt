@@ -36,14 +36,13 @@ use Rattle.tb_output.specs.Columns
 use Rattle.tb_output.specs.Text
 use Rattle.tb_output.specs.Clear
 use Rattle.tb_output.proofs.StateWeights.{Paired}
+use Rattle.tb_output.proofs.TurnLemmas.{next-turned, put_out-turned, float_columns-turned, clear_wide-turned}
 use Rattle.tb_output.proofs.FillLemmas.{HasLists, fill_column-lists}
 use Rattle.tb_output.proofs.RisingLists.{all-front, all-join, all-of, IsAbove, Rises}
 use Rattle.tb_output.proofs.ClassLines.{FloatKind, Side, alike, narrow, wider, waits, PartedBy, IsReleased, wide-from, NotesFloatless, is_of, line_if, class_lines, float_lines, left_lines, sent_lines, lines-append, sent-append, AreFloatless, filled-lines, text_column-lines}
 use Rattle.tb_output.proofs.RecordLines.{IsCarried}
 use Rattle.tb_output.proofs.SparedLists.{waiting-double}
-use Rattle.tb_output.proofs.ColumnSteps.{no_law, place_float-step, place_next-step, put_out-step, float_columns-step, stays, sends-stays}
-use Rattle.tb_output.proofs.FiringSteps.{defer-step, clear_wide-step}
-use Rattle.tb_output.proofs.WorkSteps.{column-unrefused, firing-unrefused}
+use Rattle.tb_output.proofs.StayLemmas.{Stays, joined, placed-stays, sends-stays}
 use Rattle.tb_output.proofs.QuietLemmas.{AllAreas, AddsQuiet, next-added, fill-areas, fill-same}
 use Rattle.tb_output.proofs.FloatlessFeet.{HoldsFloatless, HoldFloatless, BoxesFloatless}
 use Rattle.tb_output.proofs.PageLines.{deeds, kind_deeds, deeds-append, kind_takes, take_lines, append-none, none-front, takes-append, AreEndless, endless-join}
@@ -143,7 +142,7 @@ module _ (k : FloatKind) (Known : ℕ → Type 0) (takes past : List ℕ) (old :
       let c = text_column p w.state.floats body (footnotes w.state) in
       let v = Columns.without_column_floats w in
       let u = records_also (output c) v in
-      let v_ok = column-unrefused (put_out-step p (no_law p) c v) ok in
+      let v_ok = ((put_out-turned p c v).by ok).0 in
       put_out_by-hand k Known (held ++ rest) takes past old p r c u ok
       (subst (λ (x : Work). InHand k Known (held ++ rest) takes past old (class_lines k c.nodes) x) (sym (records-now (output c) v v_ok))
       (subst (λ x. Spread k Known (held ++ rest) takes (past ++ sent_lines k w.sent) x (class_lines k c.nodes) v.state.floats w.state.two_columns w.state.first_column w.state.left_column) (append_assoc old w.records (output c ∷ []))
@@ -178,8 +177,8 @@ module _ (k : FloatKind) (Known : ℕ → Type 0) (takes past : List ℕ) (old :
   ordinary-ordered p r held rest body w free ok h =
       let a = Columns.put_out_text p body w in
       let b = Columns.all_float_columns p false a in
-      let b_ok = column-unrefused (place_next-step p (no_law p) [] b.state.floats.deferred b) ok in
-      let a_ok = column-unrefused (float_columns-step p (no_law p) false (length a.state.floats.deferred) a) b_ok in
+      let b_ok = ((next-turned p [] b.state.floats.deferred b).by ok).0 in
+      let a_ok = ((float_columns-turned p false (length a.state.floats.deferred) a).by b_ok).0 in
       fill_column-ordered p (held ++ rest) b (outer-rises Known held (class_lines k body) rest h.rising)
       (float_columns-hand k Known (held ++ rest) takes past old p r false (length a.state.floats.deferred) a b_ok (put_out_text-hand p r held rest body w free a_ok h))
 
@@ -233,7 +232,7 @@ module _ (k : FloatKind) (Known : ℕ → Type 0) (takes past : List ℕ) (old :
       let b = Columns.all_float_columns p true a in
       let c = Clear.clear_wide p b in
       let c_ok = rest-refused c ok in
-      let b_ok = firing-unrefused (clear_wide-step p (no_law p) b) c_ok in
+      let b_ok = ((clear_wide-turned p b).by c_ok).0 in
       clear_rest-ordered c (unfilled c (clear_wide-hand p r b c_ok (float_columns-hand k Known [] takes past old p r true (length a.state.floats.deferred) a b_ok
       (cleared k Known takes (past ++ sent_lines k w.sent) (old ++ w.records) w.state.floats w.state.two_columns w.state.first_column w.state.left_column h))))
 
@@ -328,22 +327,29 @@ module _ (k : FloatKind) (Known : ℕ → Type 0) (takes past : List ℕ) (old :
           by_places true = warned-ordered text (warnings.Ht f.name) (Place.place_float p places.Deferred (Text.with_top f) left w) w_ok (deferred-ordered (Text.with_top f) refl refl)
           by_places false = deferred-ordered f refl refl
 
+      defer-stays : Stays w (Text.defer p f left w)
+      defer-stays = by_places (Text.only_here f)
+        where
+          by_places : (t : Bool) → Stays w (if t then sends (warned (warnings.Ht f.name)) (Place.place_float p places.Deferred (Text.with_top f) left w) else Place.place_float p places.Deferred f left w)
+          by_places true = joined p w (Place.place_float p places.Deferred (Text.with_top f) left w) (sends (warned (warnings.Ht f.name)) (Place.place_float p places.Deferred (Text.with_top f) left w)) (placed-stays p places.Deferred (Text.with_top f) left w) (sends-stays p (warned (warnings.Ht f.name)) (Place.place_float p places.Deferred (Text.with_top f) left w))
+          by_places false = placed-stays p places.Deferred f left w
+
       deferred-gone : Gone k Known takes past old text w (Text.puts_interline p (Text.defer p f left w))
-      deferred-gone = let s = stays (defer-step p (no_law p) f left w) in interline-gone w (Text.defer p f left w) s.put_back s.held s.boxes defer-ordered
+      deferred-gone = interline-gone w (Text.defer p f left w) defer-stays.put_back defer-stays.held defer-stays.boxes defer-ordered
 
       goes-gone : (vert : Bool) (place : Where) → PassesNone l l.deferred f place → Gone k Known takes past old text w (Text.float_goes p vert f left w place)
       goes-gone vert places.Top n =
-          let s = stays (place_float-step p (no_law p) places.Top f left w tt) in
+          let s = placed-stays p places.Top f left w in
           interline-gone w (Place.place_float p places.Top f left w) s.put_back s.held s.boxes (top-ordered n.0 n.1 n.2)
       goes-gone vert places.Bottom n =
-          let s = stays (place_float-step p (no_law p) places.Bottom f left w tt) in
+          let s = placed-stays p places.Bottom f left w in
           interline-gone w (Place.place_float p places.Bottom f left w) s.put_back s.held s.boxes (bottom-ordered n)
       goes-gone vert places.Page n = absurd n
       goes-gone vert places.Double n = deferred-gone
       goes-gone vert places.Deferred n = deferred-gone
       goes-gone vert places.Here n =
           let v = Place.place_float p places.Here f left w in
-          let s = stays (place_float-step p (no_law p) places.Here f left w tt) in
+          let s = placed-stays p places.Here f left w in
           let line = Text.penalty_after p.interlinepenalty v.put_back in
           let x = interline-light k p.interlinepenalty (Text.glue_at_end (last_or (plain (pen p.interlinepenalty)) (map (λ (m : PlainNode). m.kind) v.put_back))) calm in
           let y = here-light k p vert f calm in
@@ -380,7 +386,7 @@ module _ (k : FloatKind) (Known : ℕ → Type 0) (takes past : List ℕ) (old :
 
         by_moved : (t : Bool) → Gone k Known takes past old text w (Text.puts_interline p (puts (Text.note_nodes depth m at) (if t then sends (warned (warnings.Moved m.name at.shift)) a else a)))
         by_moved true =
-            let s = sends-stays (warned (warnings.Moved m.name at.shift)) a in
+            let s = sends-stays p (warned (warnings.Moved m.name at.shift)) a in
             gone (sends (warned (warnings.Moved m.name at.shift)) a) s.put_back s.held s.boxes (warned-ordered text (warnings.Moved m.name at.shift) a ok a_ordered)
         by_moved false = gone a refl refl refl a_ordered
 

@@ -11,12 +11,12 @@ use Rattle.tb_builder.specs.Fired.{Boxed, Fired}
 use Rattle.tb_float.specs.Lists.{no_floats}
 use Rattle.tb_float.specs.Rooms.{column_room_of}
 use Rattle.tb_column.specs.Column.{one, text_column, PlainSent, shipped}
+use Rattle.tb_column.specs.TextList.{foot_notes}
 use Rattle.tb_output.specs.State.{output, State, foot_class, first_state, notes_in, Work, begun, records_also, puts}
 use Rattle.tb_output.specs.Ship.{after_column, ship_now}
 use Rattle.tb_output.specs.Columns.{ordinary, fill_column, all_float_columns, without_column_floats}
 use Rattle.tb_output.specs.Clear.{clear_again, cleared_front, clear}
 use Rattle.tb_output.specs.Out.{is_int, clear_penalty, hold_penalty, is_crowded, leave_column, with_goal, goal_by, next_goal, waiting_again, out}
-use Rattle.tb_output.specs.Footnotes.{foot_notes}
 use Rattle.tb_output.specs.Firing.{foot_box, fired_page, page_work}
 use Rattle.tb_output.specs.Shipping.{output_work}
 

@@ -11,7 +11,7 @@ use Rattle.tb_insert.specs.declared.Class.{Class}
 use Rattle.tb_builder.specs.declared.Builder.{Builder}
 use Rattle.tb_builder.specs.Owned.{Lacks, AllDiffer, AllLive, inner_of, inner_ids, Ids, ids_of, owned, HoldPlain, is_known, AllKnown, classes_of, IsOwned}
 use Rattle.tb_builder.specs.Handed.{ListJoins}
-use Rattle.tb_column.specs.Page.{is_leaf_kind, AreLeaves}
+use Rattle.tb_column.specs.TextList.{is_leaf_kind, AreLeaves}
 use Rattle.tb_output.specs.Machine.{IsNotAmong}
 use Rattle.tb_output.specs.Serving.{AreFree}
 use Rattle.tb_output.proofs.StandLemmas.{Stands}

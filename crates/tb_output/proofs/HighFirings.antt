@@ -1,5 +1,5 @@
 -- Each firing lowers what is left of the firings without a page, or ships a page, where the top skip is higher than a page.
-use Rattle.std.proofs.Common.{◌≡◌, refl, sym, ◌∙◌, ap, subst, ℕ, suc, ◌+◌, ◌*◌, ◌≤◌, inl, inr, ◌⊎◌, Bool, true, false, List, [], ◌∷◌, ◌++◌, length, arith}
+use Rattle.std.proofs.Common.{◌≡◌, refl, sym, ◌∙◌, ap, subst, ℕ, suc, ◌+◌, ◌*◌, ◌≤◌, inl, inr, ◌⊎◌, Bool, true, false, List, [], ◌∷◌, ◌++◌, length, Option, Some, None, arith}
 use Rattle.std.specs.Prelude.{int_le}
 use Rattle.std.specs.List.{AllByRecursion}
 use Rattle.tb_scaled.specs.Scaled.{eject_penalty}
@@ -21,8 +21,8 @@ use Rattle.tb_output.proofs.FollowLemmas.{waiting_floats}
 use Rattle.tb_output.proofs.ColumnOutcomes.{IsKept, last-out, first-out, last-ships, first-kept}
 use Rattle.tb_output.proofs.ClearOutcomes.{NoneWait, Fits, How, ClearOut}
 use Rattle.tb_output.proofs.ServeOutcomes.{way_floats}
-use Rattle.tb_output.proofs.CycleStates.{any, phase_cost, PhaseHolds, FloatsFit, GoalOut, goal-out}
-use Rattle.tb_output.proofs.CycleFirings.{FiresWell, QuietOut, after, true-false, clear-no-hold, output-cases, ordinary-again, none-again, cost-of, hold-quiet, serve-quiet, out-fit, o-fits, o-region, o-way, o-cost}
+use Rattle.tb_output.proofs.CycleStates.{any, second, phase_cost, PhaseHolds, FloatsFit, GoalOut, goal-out}
+use Rattle.tb_output.proofs.CycleFirings.{FiresWell, QuietOut, after, goal, true-false, clear-no-hold, output-cases, ordinary-again, none-again, cost-of, hold-quiet, serve-quiet, out-fit, o-fits, o-region, o-way, o-cost}
 use Rattle.tb_output.proofs.CycleClears.{left-of, cost, q-out, n-region, n-cost, n-fits, q-least}
 use Rattle.tb_output.proofs.CycleVoids.{bit, half_nodes, rest_nodes, c, v-back, v-cost, v-region, v-fits, v-cycles, v-least, is_second, paused}
 use Rattle.tb_output.proofs.EndedLemmas.{Ended}

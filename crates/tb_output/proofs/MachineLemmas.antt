@@ -12,7 +12,6 @@ use Rattle.tb_node.specs.declared.Node.{Node}
 use Rattle.tb_node.specs.Plain.{PlainNode, plain_of}
 use Rattle.tb_node.specs.Fit.{IsSizedNode}
 use Rattle.tb_param.specs.declared.Params.{Params}
-use Rattle.tb_insert.specs.declared.Class.{Class}
 use Rattle.tb_builder.specs.Fired.{Boxed}
 use Rattle.tb_float.specs.declared.Suppress.{Suppress}
 use Rattle.tb_float.specs.Lists.{no_floats}
@@ -23,22 +22,21 @@ use Rattle.tb_column.specs.declared.Sheet.TheVariants as sheets
 use Rattle.tb_column.specs.declared.Sent.{Sent}
 use Rattle.tb_column.specs.declared.Sent.TheVariants as events
 use Rattle.tb_column.specs.Shown.{nodes_shown}
-use Rattle.tb_column.specs.Page.{AreLeaves, IsPageList, IsPageColumn}
+use Rattle.tb_column.specs.TextList.{AreLeaves}
 use Rattle.tb_column.proofs.StoreLemmas.{list-get}
 use Rattle.tb_output.specs.declared.RunFault.{RunFault}
-use Rattle.tb_output.specs.State.{first_state, foot_class, void_boxes, no_suppress}
-use Rattle.tb_output.specs.Machine.{MachineView, state_shown, left_shown, sheet_lists, sent_lists, event_lists, left_lists, machine_lists, IsNotAmong, AreDistinct, IsPageSheet, IsPageSent, IsPageLeft, AreOutputParams, AreOutputClasses, IsMachine, IsFloatless}
-use Rattle.tb_output.specs.Firing.{IsNotNotes, AreNotesApart, OthersStand}
+use Rattle.tb_output.specs.State.{first_state, foot_class, no_suppress}
+use Rattle.tb_output.specs.Machine.{MachineView, state_shown, left_shown, sheet_lists, sent_lists, event_lists, left_lists, machine_lists, IsNotAmong, AreDistinct, IsPageList, IsPageColumn, IsPageSheet, IsPageSent, IsPageLeft, AreOutputParams, IsMachine, IsFloatless}
+use Rattle.tb_output.specs.Firing.{foot_box, IsNotNotes, AreNotesApart, OthersStand}
 use Rattle.tb_output.specs.Shipping.{shipped_machine}
 use Rattle.tb_output.proofs.FloatlessWork.{bare_state}
 use Rattle.tb_output.proofs.StandLemmas.{all-join, Stands, nodes-stand}
 
 -- ---- the beginning
 
-abbrev pub new_view : Params → List Class → ℕ → FloatPool → List Sent → Suppress → MachineView
-new_view p cs l pool es s = record {
+abbrev pub new_view : Params → ℕ → FloatPool → List Sent → Suppress → MachineView
+new_view p l pool es s = record {
   params = p;
-  classes = cs;
   goal = p.textheight;
   page = 1;
   dead_cycles = 0;
@@ -63,17 +61,17 @@ empty-list store l live e = record {
 }
 
 -- what stands at the beginning
-pub record Begins (p : Params) (cs : List Class) (m : MachineView) (store : Lists Node) : Type 0 where
-  pub state : (waiting : List PlainNode) → state_shown store (void_boxes cs) waiting m ≡ first_state p cs waiting
+pub record Begins (p : Params) (m : MachineView) (store : Lists Node) : Type 0 where
+  pub state : (waiting : List PlainNode) → state_shown store (foot_box None) waiting m ≡ first_state p (foot_class p ∷ []) waiting
   pub machine : IsMachine m store
-  pub floatless : cs ≡ foot_class p ∷ [] → IsFloatless m store
+  pub floatless : IsFloatless m store
 
-pub new-begins : (p : Params) (given cs : List Class) (store new : Lists Node) (l : ℕ) (pool : FloatPool) (es : List Sent) (s : Suppress) → AreOutputParams p → AreOutputClasses p given → cs ≡ given → pool.lists ≡ no_floats → pos pool.size ≡ p.pool → es ≡ [] → s ≡ no_suppress → new.lists ≡ with_list store l [] → Begins p given (new_view p cs l pool es s) new
-new-begins p given cs store new l pool es s ok rising same floats size none quiet opened = record {
+pub new-begins : (p : Params) (store new : Lists Node) (l : ℕ) (pool : FloatPool) (es : List Sent) (s : Suppress) → AreOutputParams p → pool.lists ≡ no_floats → pos pool.size ≡ p.pool → es ≡ [] → s ≡ no_suppress → new.lists ≡ with_list store l [] → Begins p (new_view p l pool es s) new
+new-begins p store new l pool es s ok floats size none quiet opened = record {
   state = λ waiting i. record {
     waiting = waiting;
-    classes = same i;
-    boxes = void_boxes given;
+    classes = foot_class p ∷ [];
+    boxes = foot_box None;
     held_page = held i;
     floats = floats i;
     goal = p.textheight;
@@ -87,7 +85,6 @@ new-begins p given cs store new l pool es s ok rising same floats size none quie
   };
   machine = record {
     params = ok;
-    classes = subst (AreOutputClasses p) (sym same) rising;
     first = omega arith;
     last = omega arith;
     pool = size;
@@ -96,8 +93,7 @@ new-begins p given cs store new l pool es s ok rising same floats size none quie
     events = subst (AllByRecursion (IsPageSent new)) (sym none) tt;
     apart = subst (λ (xs : List Sent). AreDistinct (l ∷ event_lists xs)) (sym none) (tt, tt);
   };
-  floatless = λ foot. record {
-    classes = same ∙ foot;
+  floatless = record {
     floats = floats;
     held_page = empty;
     goal = refl;
@@ -120,7 +116,7 @@ new-begins p given cs store new l pool es s ok rising same floats size none quie
 pub state-is : (m : MachineView) (store : Lists Node) (boxes : List Boxed) → IsFloatless m store → state_shown store boxes [] m ≡ bare_state m.params boxes m.page m.dead_cycles
 state-is m store boxes h = λ i. record {
   waiting = [];
-  classes = h.classes i;
+  classes = foot_class m.params ∷ [];
   boxes = boxes;
   held_page = held i;
   floats = h.floats i;
@@ -139,7 +135,6 @@ state-is m store boxes h = λ i. record {
 
 pub floatless-stands : (m : MachineView) (store new : Lists Node) → Stands store new m.held_page → IsFloatless m store → IsFloatless m new
 floatless-stands m store new e h = record {
-  classes = h.classes;
   floats = h.floats;
   held_page = list-get store new m.held_page e ∙ h.held_page;
   goal = h.goal;
@@ -158,7 +153,6 @@ state-stands m store new boxes waiting e is none = λ i. record (state_shown sto
 pub with-fault : (m : MachineView) (store : Lists Node) (f : Option RunFault) → IsMachine m store → IsMachine (record m { fault = f }) store
 with-fault m store f is = record {
   params = is.params;
-  classes = is.classes;
   first = is.first;
   last = is.last;
   held_page = is.held_page;
@@ -170,7 +164,6 @@ with-fault m store f is = record {
 
 pub floatless-shipped : (m : MachineView) (store : Lists Node) (c : Column) → IsFloatless m store → IsFloatless (shipped_machine c m) store
 floatless-shipped m store c h = record {
-  classes = h.classes;
   floats = h.floats;
   held_page = h.held_page;
   goal = h.goal;
@@ -248,7 +241,6 @@ page-within n limit h e = grind (arith, ints, h, e)
 pub machine-shipped : (m : MachineView) (store : Lists Node) (c : Column) → IsMachine m store → int_lt m.params.maxpages (pos m.page) ≡ false → IsPageColumn store c → IsNotAmong c.list (machine_lists m) → IsMachine (shipped_machine c m) store
 machine-shipped m store c is room column apart = record {
   params = is.params;
-  classes = is.classes;
   first = omega arith;
   last = page-within m.page m.params.maxpages is.params.maxpages.high room;
   pool = is.pool;

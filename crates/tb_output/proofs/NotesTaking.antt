@@ -18,7 +18,7 @@ use Rattle.tb_builder.specs.Running.{IsSound}
 use Rattle.tb_builder.specs.Handed.{NoPage, with_void, Taken}
 use Rattle.tb_builder.proofs.OwnedLemmas.{AllSame}
 use Rattle.tb_builder.proofs.FrameLemmas.{live_all_same, frame_owned, frame_contents, frame_sound, fresh_apart}
-use Rattle.tb_column.specs.Page.{is_leaf_kind, AreLeaves}
+use Rattle.tb_column.specs.TextList.{is_leaf_kind, AreLeaves}
 use Rattle.tb_output.specs.Firing.{foot_box}
 use Rattle.tb_output.specs.Serving.{notes_held, HasOnlyNotes, NotesTaken}
 use Rattle.tb_output.proofs.MachineLemmas.{not-new}

@@ -12,11 +12,11 @@ use Rattle.tb_node.specs.Fit.{IsSizedNode}
 use Rattle.tb_float.specs.Lists.{no_floats}
 use Rattle.tb_column.specs.Column.{text_column}
 use Rattle.tb_column.specs.Shown.{nodes_shown}
-use Rattle.tb_column.specs.Page.{AreLeaves}
+use Rattle.tb_column.specs.TextList.{AreLeaves, CanJoin, notes_shown, foot_notes}
+use Rattle.tb_column.proofs.ColumnLemmas.{leaves-apart}
 use Rattle.tb_column.proofs.StoreLemmas.{list-get, live-get}
 use Rattle.tb_output.specs.declared.RunFault.{RunFault}
 use Rattle.tb_output.specs.declared.RunFault.TheVariants as faults
-use Rattle.tb_output.specs.Footnotes.{CanJoin, notes_shown, foot_notes}
 use Rattle.tb_output.specs.Machine.{MachineView, IsMachine}
 use Rattle.tb_output.specs.Firing.{note_nodes, IsNotNotes, AreTextLists, OthersStand}
 use Rattle.tb_output.specs.Shipping.{RestStands, IsShipped, IsNotShipped, HasPutOut, HasNotPutOut}
@@ -37,11 +37,12 @@ notes-show : (store mid : Lists Node) (notes : Option ℕ) → NotesStand store 
 notes-show store mid None e = refl
 notes-show store mid (Some l) e = ap (λ (ns : List Node). Some (map leaf_of ns)) (list-get store mid l e)
 
-can-join : (store mid : Lists Node) (body : ℕ) (notes : Option ℕ) → NotesStand store mid notes → CanJoin store body notes → CanJoin mid body notes
-can-join store mid body None e h = tt
-can-join store mid body (Some l) e h = record {
+can-join : (store mid : Lists Node) (body : ℕ) (notes : Option ℕ) → NotesStand store mid notes → CanJoin store body notes → AreLeaves (list_at mid body) → CanJoin mid body notes
+can-join store mid body None e h leaves = tt
+can-join store mid body (Some l) e h leaves = record {
   live = live-get store mid l e h.live;
   apart = h.apart;
+  inner = leaves-apart l (list_at mid body) leaves;
   leaves = subst AreLeaves (sym (list-get store mid l e)) h.leaves;
 }
 
@@ -99,7 +100,7 @@ opened-added store mid next l body ns ys n live o e = record {
   rest = λ q a alive. get_other mid next body (list_at mid body ++ n ∷ []) q a e ∙ o.rest q a alive;
 }
 
-module _ (m : MachineView) (store mid : Lists Node) (l body : ℕ) (notes : Option ℕ) (ns ys : List Node) (is : IsMachine m store) (lists : AreTextLists 8355839 m store body notes)
+module _ (m : MachineView) (store mid : Lists Node) (l body : ℕ) (notes : Option ℕ) (ns ys : List Node) (is : IsMachine m store) (lists : AreTextLists 8388602 m store body notes)
     (o : IsOpened l ns ys store mid body) (leaves : AreLeaves ys) (sized : All IsSizedNode ys) (few : length ys ≤ length (list_at store body) + 1) where
   body-is : list_at mid body ≡ ys
   body-is = ap (λ (x : Option (List Node)). unwrap_or x []) o.text
@@ -108,14 +109,14 @@ module _ (m : MachineView) (store mid : Lists Node) (l body : ℕ) (notes : Opti
   notes-are = notes-stand store mid body notes o.rest lists.joins
 
   pub mid-machine : IsMachine m mid
-  mid-machine = machine-kept m store mid 8355839 body notes is lists (λ q a b live. o.rest q a live)
+  mid-machine = machine-kept m store mid 8388602 body notes is lists (λ q a b live. o.rest q a live)
 
-  pub mid-lists : AreTextLists 8355840 m mid body notes
+  pub mid-lists : AreTextLists 8388603 m mid body notes
   mid-lists = record {
     live = ap is_some o.text;
     leaves = subst AreLeaves (sym body-is) leaves;
     sized = subst (All IsSizedNode) (sym body-is) sized;
-    joins = can-join store mid body notes notes-are lists.joins;
+    joins = can-join store mid body notes notes-are lists.joins (subst AreLeaves (sym body-is) leaves);
     sized_notes = subst (All IsSizedNode) (sym (notes-same store mid notes notes-are)) lists.sized_notes;
     few = let a = ap length body-is in let b = ap length (notes-same store mid notes notes-are) in let h = lists.few in omega arith;
     body_apart = lists.body_apart;

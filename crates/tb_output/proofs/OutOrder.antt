@@ -21,11 +21,10 @@ use Rattle.tb_output.specs.Clear
 use Rattle.tb_output.specs.Out
 use Rattle.tb_output.proofs.StateWeights.{Paired}
 use Rattle.tb_output.proofs.WorkWeights.{is_serving}
+use Rattle.tb_output.proofs.TurnLemmas.{first-turned, goal-turned}
 use Rattle.tb_output.proofs.RisingLists.{all-join}
 use Rattle.tb_output.proofs.ClassLines.{FloatKind, Side, alike, narrow, wider, is_of, IsReleased, class_lines, sent_lines, lines-append}
-use Rattle.tb_output.proofs.ColumnSteps.{no_law, in_turn, place_next-step, all_wide_pages-step, put_out-step, float_columns-step, Stays, stays, sends-stays}
-use Rattle.tb_output.proofs.FiringSteps.{first_goes-step, next_goal-step}
-use Rattle.tb_output.proofs.WorkSteps.{firing-unrefused}
+use Rattle.tb_output.proofs.StayLemmas.{Stays, joined, next-stays, all_wide-stays, put_out-stays, float_columns-stays, sends-stays}
 use Rattle.tb_output.proofs.FloatlessFeet.{HoldsFloatless, HoldFloatless, BoxesFloatless}
 use Rattle.tb_output.proofs.PageLines.{deeds, deeds-append, take_lines, takes-append, none-front, AreEarly, AreEndless, early-none, early-join, lines-split}
 use Rattle.tb_output.proofs.ClassOrder.{Order}
@@ -98,8 +97,8 @@ after k a b c x y = record {
   boxes = λ b. y.boxes (x.boxes b);
 }
 
-same : (k : FloatKind) (a b : Work) → b.put_back ≡ a.put_back → b.state.held_page ≡ a.state.held_page → b.state.boxes ≡ a.state.boxes → b.state.two_columns ≡ a.state.two_columns → PutsNone k a b
-same k a b q h x c = nothing k a b (record { put_back = q; held = h; boxes = x; columns = c })
+same : (a : Work) → Stays a a
+same a = record { put_back = refl; held = refl; boxes = refl }
 
 none_if : (k : FloatKind) (a : Work) (t : Bool) (b c : Work) → PutsNone k a b → PutsNone k a c → PutsNone k a (if t then b else c)
 none_if k a true b c x y = x
@@ -111,15 +110,15 @@ clear_again-none k w = some k Clear.clear_again w refl refl refl (tt, (tt, (tt, 
 put_out_text-none : (k : FloatKind) (p : Params) (body : List PlainNode) (w : Work) → PutsNone k w (Columns.put_out_text p body w)
 put_out_text-none k p body w =
     let v = Columns.without_column_floats w in
-    let s = stays (put_out-step p (no_law p) (text_column p w.state.floats body (footnotes w.state)) v) in
+    let s = put_out-stays p (text_column p w.state.floats body (footnotes w.state)) v in
     record { more = []; put = s.put_back ∙ sym (append-nil w.put_back); lines = refl; takes = refl; does = refl; feet = tt; held = s.held; boxes = λ b. subst (BoxesFloatless k) (sym s.boxes) (emptied-floatless k w.state.boxes) }
 
 clear_wide-none : (k : FloatKind) (p : Params) (w : Work) → PutsNone k w (Clear.clear_wide p w)
 clear_wide-none k p w =
     let a = with_floats (Clear.double_again p w.state.floats) w in
-    none_if k w (not w.state.two_columns) w _ (same k w w refl refl refl refl)
+    none_if k w (not w.state.two_columns) w _ (nothing k w w (same w))
     (none_if k w w.state.first_column (Ship.all_wide_pages p true a) (puts (made blank_box ∷ Clear.clear_again) w)
-    (after k w a (Ship.all_wide_pages p true a) (same k w a refl refl refl refl) (nothing k a (Ship.all_wide_pages p true a) (stays (all_wide_pages-step p (no_law p) true a))))
+    (after k w a (Ship.all_wide_pages p true a) (nothing k w a (record { put_back = refl; held = refl; boxes = refl })) (nothing k a (Ship.all_wide_pages p true a) (all_wide-stays p true a)))
     (some k (made blank_box ∷ Clear.clear_again) w refl refl refl (tt, (tt, (tt, (tt, (tt, (tt, tt))))))))
 
 clear_floats-none : (k : FloatKind) (p : Params) (body : List PlainNode) (w : Work) → AreLight k body → class_lines k body ≡ [] → PutsNone k w (Clear.clear_floats p body w)
@@ -131,10 +130,10 @@ clear_floats-none k p body w light none =
     let c = Clear.clear_wide p b in
     let front = light-take k i body light in
     after k w z (Clear.clear_rest c) (some k (Clear.cleared_front p body) w (none-front (class_lines k (take i body)) (class_lines k (drop i body)) (lines-split k i body ∙ none)) front.takes front.does front.feet)
-    (after k z a (Clear.clear_rest c) (same k z a refl refl refl refl)
-    (after k a b (Clear.clear_rest c) (nothing k a b (stays (float_columns-step p (no_law p) true (length a.state.floats.deferred) a)))
+    (after k z a (Clear.clear_rest c) (nothing k z a (record { put_back = refl; held = refl; boxes = refl }))
+    (after k a b (Clear.clear_rest c) (nothing k a b (float_columns-stays p true (length a.state.floats.deferred) a))
     (after k b c (Clear.clear_rest c) (clear_wide-none k p b)
-    (none_if k c (has_floats c.state.floats.deferred || has_floats c.state.floats.second) (puts Clear.clear_again c) c (clear_again-none k c) (same k c c refl refl refl refl)))))
+    (none_if k c (has_floats c.state.floats.deferred || has_floats c.state.floats.second) (puts Clear.clear_again c) c (clear_again-none k c) (nothing k c c (same c))))))
 
 clear-none : (k : FloatKind) (p : Params) (body : List PlainNode) (w : Work) (o : List Notes) → AreLight k body → class_lines k body ≡ [] → PutsNone k w (Clear.clear_by p body w o)
 clear-none k p body w [] light none = clear_floats-none k p body w light none
@@ -169,7 +168,7 @@ module _ (k : FloatKind) (Known : ℕ → Type 0) (takes past : List ℕ) (old :
         let x = Columns.put_out_text p f.body w in
         let y = Columns.all_float_columns p false x in
         let c = Columns.ordinary p f.body w in
-        let s = stays (in_turn (put_out-step p (no_law p) (text_column p w.state.floats f.body (footnotes w.state)) z) (in_turn (float_columns-step p (no_law p) false (length x.state.floats.deferred) x) (place_next-step p (no_law p) [] y.state.floats.deferred y))) in
+        let s = joined p z x c (put_out-stays p (text_column p w.state.floats f.body (footnotes w.state)) z) (joined p x y c (float_columns-stays p false (length x.state.floats.deferred) x) (next-stays p [] y.state.floats.deferred y)) in
         let none = s.put_back ∙ b.empty in
         record {
           ordered = subst (λ t. Ordered k Known takes past old t c) (ap (λ ns. class_lines k ns ++ class_lines k f.rest) (sym s.held) ∙ ap (λ ns. class_lines k c.state.held_page ++ (class_lines k ns ++ class_lines k f.rest)) (sym none))
@@ -210,7 +209,7 @@ module _ (k : FloatKind) (Known : ℕ → Type 0) (takes past : List ℕ) (old :
       a = Text.list_back p (w.state.held_page ++ Text.without_firing_box f.body) w
 
       a_ok : a.refused ≡ false
-      a_ok = firing-unrefused (first_goes-step p (no_law p) vert _ _ _ w.state.floats.current a) ok
+      a_ok = ((first-turned p vert _ _ _ w.state.floats.current a).by ok).0
 
       rest : class_lines k f.rest ≡ []
       rest = b.ended (forced f.penalty h)
@@ -296,7 +295,7 @@ module _ (k : FloatKind) (Known : ℕ → Type 0) (takes past : List ℕ) (old :
   told-kept : (p : Params) (w : Work) → w.refused ≡ false → Settled k Known takes past old rest w → Settled k Known takes past old rest (sends (warned (warnings.Floats w.state.page)) w)
   told-kept p w ok s =
       let c = sends (warned (warnings.Floats w.state.page)) w in
-      let x = sends-stays (warned (warnings.Floats w.state.page)) w in
+      let x = sends-stays p (warned (warnings.Floats w.state.page)) w in
       record {
         ordered = subst (λ t. Ordered k Known takes past old t c) (ap (λ ns. class_lines k ns ++ (class_lines k w.put_back ++ class_lines k rest)) (sym x.held) ∙ ap (λ ns. class_lines k c.state.held_page ++ (class_lines k ns ++ class_lines k rest)) (sym x.put_back))
             (warned-ordered k Known takes past old (class_lines k w.state.held_page ++ (class_lines k w.put_back ++ class_lines k rest)) (warnings.Floats w.state.page) w ok s.ordered);
@@ -367,7 +366,7 @@ unfolding Out.out
 out-order k Known past old p r calm s f h ok columns = all (Out.next_goal p f.penalty (Out.output_by p f (begun (Out.after_page s f)))) (goal-settled k Known (take_lines k f.rest) past old f.rest p f.penalty (Out.output_by p f (begun (Out.after_page s f))) b_ok (output-settled k Known (take_lines k f.rest) past old p r calm f (begun (Out.after_page s f)) begins b_ok)) columns
   where
     b_ok : (Out.output_by p f (begun (Out.after_page s f))).refused ≡ false
-    b_ok = firing-unrefused (next_goal-step p (no_law p) f.penalty (Out.output_by p f (begun (Out.after_page s f)))) ok
+    b_ok = ((goal-turned p f.penalty (Out.output_by p f (begun (Out.after_page s f)))).by ok).0
 
     begins : Begins k Known (take_lines k f.rest) past old p r calm f (begun (Out.after_page s f))
     begins = record {

@@ -18,13 +18,12 @@ use Rattle.tb_param.specs.declared.Params.{Params}
 use Rattle.tb_break.specs.Split.{split_of}
 use Rattle.tb_builder.specs.declared.Page.{Page}
 use Rattle.tb_column.specs.Shown.{nodes_shown}
-use Rattle.tb_column.specs.Page.{AreLeaves}
+use Rattle.tb_column.specs.TextList.{AreLeaves, notes_shown}
 use Rattle.tb_output.specs.declared.RunFault.{RunFault}
 use Rattle.tb_output.specs.declared.RunFault.TheVariants as faults
 use Rattle.tb_output.specs.State.{State}
 use Rattle.tb_output.specs.Clear.{cleared_front}
 use Rattle.tb_output.specs.Out.{clear_penalty}
-use Rattle.tb_output.specs.Footnotes.{notes_shown}
 use Rattle.tb_output.specs.Machine.{MachineView, events_shown, machine_lists, IsNotAmong, IsMachine}
 use Rattle.tb_output.specs.Firing.{foot_box, fired_page, CanServe, OthersStand, TakesBody}
 use Rattle.tb_output.specs.Shipping.{clear_list, HasPutOut, HasNotPutOut, output_work, counted_work, IsOutput, IsOverLimit, IsNotOutput}
@@ -119,7 +118,7 @@ module _ (m now : MachineView) (store new : Lists Node) (page : Page) (notes : O
 
   put-out-kept : (l : ℕ) (ns : List Node) (text : List PlainNode) → MayGoBack ns → HasPutOut l ns text m now store new page.body notes → IsKept m now store new page.body notes
   put-out-kept l ns text back h = record {
-    machine = (put-out-ready m store new 8355839 page.body notes is served.lists l ns text now h back served.floatless).machine;
+    machine = (put-out-ready m store new 8388602 page.body notes is served.lists l ns text now h back served.floatless).machine;
     fault = ap (λ (v : MachineView). v.fault) h.machine;
     params = ap (λ (v : MachineView). v.params) h.machine;
     others = h.others;
@@ -130,14 +129,14 @@ module _ (m now : MachineView) (store new : Lists Node) (page : Page) (notes : O
   not-put-out-kept : (e : RunFault) → HasNotPutOut e m now store new page.body notes → IsKept m now store new page.body notes
   not-put-out-kept (faults.DeadCycles n) h = absurd h
   not-put-out-kept (faults.PageLimit n) h = record {
-    machine = subst (λ v. IsMachine v new) (sym h.machine) (machine-kept m store new 8355839 page.body notes is served.lists h.others);
+    machine = subst (λ v. IsMachine v new) (sym h.machine) (machine-kept m store new 8388602 page.body notes is served.lists h.others);
     fault = ap (λ (v : MachineView). v.fault) h.machine;
     params = ap (λ (v : MachineView). v.params) h.machine;
     others = h.others;
     lists = subst (TakesBody page.body m) (sym h.machine) (λ q ne apart. apart);
   }
   not-put-out-kept faults.Memory h = record {
-    machine = subst (λ v. IsMachine v new) (sym h.0) (machine-kept m store new 8355839 page.body notes is served.lists h.1);
+    machine = subst (λ v. IsMachine v new) (sym h.0) (machine-kept m store new 8388602 page.body notes is served.lists h.1);
     fault = ap (λ (v : MachineView). v.fault) h.0;
     params = ap (λ (v : MachineView). v.params) h.0;
     others = h.1;
@@ -151,15 +150,15 @@ module _ (m now : MachineView) (store new : Lists Node) (page : Page) (notes : O
 
   pub ready-if : (r : Result ℕ RunFault) (ns : List Node) (text : List PlainNode) → MayGoBack ns → IfOk r (λ l. HasPutOut l ns text m now store new page.body notes) → IfOk r (λ l. IsReady l now store new page.body)
   ready-if r ns text back =
-      if-ok r (λ l. HasPutOut l ns text m now store new page.body notes) (λ l. IsReady l now store new page.body) (λ l h. put-out-ready m store new 8355839 page.body notes is served.lists l ns text now h back served.floatless)
+      if-ok r (λ l. HasPutOut l ns text m now store new page.body notes) (λ l. IsReady l now store new page.body) (λ l h. put-out-ready m store new 8388602 page.body notes is served.lists l ns text now h back served.floatless)
 
   refusal-by : (e : RunFault) → (int_lt m.params.maxpages (pos m.page) ≡ true → IsStopped (counted_work m store page notes) m.page) → HasNotPutOut e m now store new page.body notes → IsNotOutput e m now store new (counted_work m store page notes)
   refusal-by (faults.DeadCycles n) stopped h = h
   refusal-by (faults.PageLimit n) stopped h =
       subst (λ v. IsOverLimit n m v store new (counted_work m store page notes)) (sym h.machine)
-      (over-limit m store new 8355839 page.body notes is served.lists n (counted_work m store page notes) (record { full = h.full; pages = h.pages; machine = refl; others = h.others }) (stopped h.full))
+      (over-limit m store new 8388602 page.body notes is served.lists n (counted_work m store page notes) (record { full = h.full; pages = h.pages; machine = refl; others = h.others }) (stopped h.full))
   refusal-by faults.Memory stopped h =
-      ap (λ (v : MachineView). events_shown new v.events) h.0 ∙ events-kept m store new 8355839 page.body notes is served.lists h.1
+      ap (λ (v : MachineView). events_shown new v.events) h.0 ∙ events-kept m store new 8388602 page.body notes is served.lists h.1
 
   -- ---- an ordinary page
 
@@ -167,7 +166,7 @@ module _ (m now : MachineView) (store new : Lists Node) (page : Page) (notes : O
     pub page-output : (l : ℕ) → HasPutOut l [] (nodes_shown store page.body) m now store new page.body notes → IsOutput l m now store new (counted_work m store page notes)
     page-output l h =
         subst (IsOutput l m now store new) (sym work-is)
-        (put-out-done m store new 8355839 page.body notes is served.lists l [] (nodes_shown store page.body) now h nothing-back served.floatless _ (page-shipped m.params (nodes_shown store page.body) (notes_shown store notes) page.penalty m.page m.dead_cycles eject h.room))
+        (put-out-done m store new 8388602 page.body notes is served.lists l [] (nodes_shown store page.body) now h nothing-back served.floatless _ (page-shipped m.params (nodes_shown store page.body) (notes_shown store notes) page.penalty m.page m.dead_cycles eject h.room))
 
     pub page-refusal : (e : RunFault) → HasNotPutOut e m now store new page.body notes → IsNotOutput e m now store new (counted_work m store page notes)
     page-refusal e = refusal-by e (λ full. subst (λ w. IsStopped w m.page) (sym work-is) (page-stopped m.params (nodes_shown store page.body) (notes_shown store notes) page.penalty m.page m.dead_cycles eject full))
@@ -192,7 +191,7 @@ module _ (m now : MachineView) (store new : Lists Node) (page : Page) (notes : O
     notes-output l h =
         subst (λ (o : Option ℕ). IsOutput l m now store new (counted_work m store page o)) (sym some)
         (subst (IsOutput l m now store new) (sym (work-is m now store new page (Some n) is served-notes))
-        (put-out-done m store new 8355839 page.body (Some n) is served-notes.lists l clear_list filled_text now h clear-back served.floatless _ (clear-shipped m.params (nodes_shown store page.body) (map leaf_of (list_at store n)) page.penalty m.page m.dead_cycles (low-penalty page.penalty served.penalty) below h.room)))
+        (put-out-done m store new 8388602 page.body (Some n) is served-notes.lists l clear_list filled_text now h clear-back served.floatless _ (clear-shipped m.params (nodes_shown store page.body) (map leaf_of (list_at store n)) page.penalty m.page m.dead_cycles (low-penalty page.penalty served.penalty) below h.room)))
 
     pub notes-refusal : (e : RunFault) → HasNotPutOut e m now store new page.body (Some n) → IsNotOutput e m now store new (counted_work m store page notes)
     notes-refusal e h =
@@ -224,8 +223,8 @@ module _ (m : MachineView) (store new : Lists Node) (page : Page) (notes : Optio
 
   pub front-ready : IsReady page.body m store new page.body
   front-ready = record {
-    machine = machine-kept m store new 8355839 page.body None is served-none.lists others-none;
-    floatless = floatless-kept m store new 8355839 page.body None is served-none.lists others-none served.floatless;
+    machine = machine-kept m store new 8388602 page.body None is served-none.lists others-none;
+    floatless = floatless-kept m store new 8388602 page.body None is served-none.lists others-none served.floatless;
     put_back = record {
       list = record {
         live = live_same store new page.body front cleared;
@@ -249,6 +248,6 @@ module _ (m : MachineView) (store new : Lists Node) (page : Page) (notes : Optio
       (record {
         served = done.served;
         put_back = front-shown ∙ sym done.put_back;
-        sent = events-kept m store new 8355839 page.body None is served-none.lists others-none ∙ sym (append-nil (events_shown store m.events)) ∙ ap (λ es. events_shown store m.events ++ es) (sym done.sent);
-        state = state-is m new (foot_box None) (floatless-kept m store new 8355839 page.body None is served-none.lists others-none served.floatless) ∙ sym done.state;
+        sent = events-kept m store new 8388602 page.body None is served-none.lists others-none ∙ sym (append-nil (events_shown store m.events)) ∙ ap (λ es. events_shown store m.events ++ es) (sym done.sent);
+        state = state-is m new (foot_box None) (floatless-kept m store new 8388602 page.body None is served-none.lists others-none served.floatless) ∙ sym done.state;
       }))

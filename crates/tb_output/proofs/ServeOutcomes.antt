@@ -1,6 +1,6 @@
 -- What a firing at a float or note does to the lists of floats: the float goes to one of them, and what is put back brings no firing.
 use Rattle.std.proofs.Common.{◌≡◌, refl, sym, ◌∙◌, ap, subst, ℕ, ℤ, ◌+◌, ◌≤◌, Bool, true, false, List, [], ◌∷◌, ◌++◌, Option, Some, None, map, arith}
-use Rattle.std.specs.Prelude.{int_le, if◌then◌else◌}
+use Rattle.std.specs.Prelude.{int_le, ◌-◌, if◌then◌else◌}
 use Rattle.tb_scaled.specs.Scaled.{eject_penalty}
 use Rattle.tb_scaled.specs.declared.Glue.{Glue}
 use Rattle.std.specs.List.{AllByRecursion}

@@ -17,10 +17,10 @@ use Rattle.tb_builder.specs.Owned.{Lacks, ClassesFit, ids_of, owned}
 use Rattle.tb_builder.specs.Running.{IsSound}
 use Rattle.tb_column.specs.declared.Column.{Column}
 use Rattle.tb_column.specs.declared.Sent.{Sent}
-use Rattle.tb_column.specs.Page.{AreLeaves}
+use Rattle.tb_column.specs.TextList.{AreLeaves, CanJoin}
+use Rattle.tb_column.proofs.ColumnLemmas.{leaves-apart}
 use Rattle.tb_column.proofs.StoreLemmas.{list-get, live-get}
 use Rattle.tb_output.specs.Out.{clear_penalty}
-use Rattle.tb_output.specs.Footnotes.{CanJoin}
 use Rattle.tb_output.specs.Machine.{MachineView, event_lists, left_lists, machine_lists, IsNotAmong, IsFloatless}
 use Rattle.tb_output.specs.Firing.{foot_box, note_nodes, AreNotesApart, CanServe}
 use Rattle.tb_output.specs.Serving.{AreFree, CanFire}
@@ -54,11 +54,11 @@ module _ (store new : Lists Node) (m : MachineView) (fresh : get store.lists m.h
   apart : (l : ℕ) → IsLive store l → IsNotAmong l (machine_lists m)
   apart l live = (not-new store m.held_page l fresh live, subst (λ o. IsNotAmong l (left_lists o ++ event_lists m.events)) (sym floatless.left_column) (subst (λ es. IsNotAmong l (event_lists es)) (sym none) tt))
 
-  join : (body : ℕ) (notes : Option ℕ) → AreTextNotes store body notes → CanJoin new body notes
-  join body None h = tt
-  join body (Some l) h =
+  join : (body : ℕ) (notes : Option ℕ) → AreLeaves (list_at new body) → AreTextNotes store body notes → CanJoin new body notes
+  join body None leaves h = tt
+  join body (Some l) leaves h =
       let t = text-kept store new l (stands l h.0.live) h.0 in
-      record { live = t.live; apart = h.1; leaves = t.leaves }
+      record { live = t.live; apart = h.1; inner = leaves-apart l (list_at new body) leaves; leaves = t.leaves }
 
   notes-sized : (body : ℕ) (notes : Option ℕ) → AreTextNotes store body notes → All IsSizedNode (note_nodes new notes) × (length (note_nodes new notes) ≤ 1)
   notes-sized body None h = (All-nil IsSizedNode, omega arith)
@@ -79,7 +79,7 @@ module _ (store new : Lists Node) (m : MachineView) (fresh : get store.lists m.h
           live = t.live;
           leaves = t.leaves;
           sized = t.sized;
-          joins = join page.body notes k;
+          joins = join page.body notes t.leaves k;
           sized_notes = s.0;
           few = let a = t.one in let b = s.1 in omega arith;
           body_apart = apart page.body h.live;

@@ -18,14 +18,14 @@ use Rattle.tb_builder.specs.Handed.{NoPage}
 use Rattle.tb_builder.proofs.OwnedLemmas.{AllSame}
 use Rattle.tb_builder.proofs.StoreSized.{leaves-back}
 use Rattle.tb_builder.proofs.FrameLemmas.{frame_owned, frame_contents, frame_sound}
-use Rattle.tb_column.specs.Page.{AreLeaves}
+use Rattle.tb_column.specs.TextList.{AreLeaves, CanJoin, notes_shown}
+use Rattle.tb_column.proofs.ColumnLemmas.{leaves-apart}
 use Rattle.tb_column.proofs.StoreLemmas.{list-get, live-get}
 use Rattle.tb_output.specs.declared.Turn.{Turn}
 use Rattle.tb_output.specs.declared.RunFault.{RunFault}
 use Rattle.tb_output.specs.declared.RunFault.TheVariants as faults
 use Rattle.tb_output.specs.State.{State}
 use Rattle.tb_output.specs.Out.{waiting_again, out}
-use Rattle.tb_output.specs.Footnotes.{CanJoin, notes_shown}
 use Rattle.tb_output.specs.Machine.{MachineView, state_shown, events_shown, machine_lists, IsNotAmong, IsMachine}
 use Rattle.tb_output.specs.Firing.{foot_box, firing_work, refusal_of, note_nodes, IsNotNotes, AreNotesApart, CanServe, IsTurn, IsRefusal, IsCutShort, OthersStand, IsPutBack, TakesBody}
 use Rattle.tb_output.specs.Serving.{notes_held, fired_in, whole_work, AreFree, CanFire, IsNotesList, NotesTaken, IsFired, CanGoBack, IsNoOthers, OthersStay, OthersFree}
@@ -80,7 +80,7 @@ module _ (m : MachineView) (b d : Builder) (store mid : Lists Node) (page : Page
 
   joins : (o : Option ℕ) → IsNotesList o d store mid → CanJoin mid page.body o
   joins None h = tt
-  joins (Some l) h = record { live = h.1; apart = λ e. not-new store l page.body h.0 can.live (sym e); leaves = h.2 }
+  joins (Some l) h = record { live = h.1; apart = λ e. not-new store l page.body h.0 can.live (sym e); inner = leaves-apart l (list_at mid page.body) body-leaves; leaves = h.2 }
 
   notes-sized : (o : Option ℕ) → notes_shown mid o ≡ notes_held b store → All IsSizedNode (note_nodes mid o) × (length (note_nodes mid o) ≤ length (content_of (notes_held b store)))
   notes-sized None e = (All-nil IsSizedNode, omega arith)

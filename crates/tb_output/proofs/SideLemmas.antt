@@ -1,5 +1,5 @@
 -- Which floats wait where: in release 2014 the wide ones wait in the second list and the others are single; in release 2015 that list is empty.
-use Rattle.std.proofs.Common.{◌≡◌, refl, sym, subst, Bool, true, false, List, [], ◌∷◌, ◌++◌, arith}
+use Rattle.std.proofs.Common.{◌≡◌, refl, sym, ◌∙◌, ap, subst, ℕ, zero, suc, Bool, true, false, List, [], ◌∷◌, ◌++◌, Option, Some, None, arith}
 use Rattle.std.specs.Prelude.{if◌then◌else◌}
 use Rattle.std.specs.List.{AllByRecursion}
 use Rattle.tb_node.specs.declared.Float.{Float}
@@ -9,7 +9,11 @@ use Rattle.tb_param.specs.declared.Params.{Params}
 use Rattle.tb_param.specs.Release.{has_second}
 use Rattle.tb_float.specs.declared.Part.{Part}
 use Rattle.tb_float.specs.declared.Part.TheVariants as parts
-use Rattle.tb_float.specs.Lists.{FloatLists, no_floats, with_floats_of, IsWaiting, wide_part}
+use Rattle.tb_float.specs.Lists.{FloatLists, no_floats, floats_of, with_floats_of, IsWaiting, wide_part, wide_waiting, with_wide_waiting}
+use Rattle.tb_float.proofs.WaitingLemmas.{wide-waits}
+use Rattle.tb_fpage.specs.declared.Wanted.{Wanted}
+use Rattle.tb_fpage.specs.Company.{Choice, company, left_floats}
+use Rattle.tb_fpage.proofs.FirstLemmas.{company-leaves}
 use Rattle.tb_output.specs.Place
 use Rattle.tb_output.specs.Clear
 use Rattle.tb_output.proofs.ColumnOutcomes.{NotDouble}

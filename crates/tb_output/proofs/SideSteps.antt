@@ -1,5 +1,5 @@
 -- The steps of a column and of a clear keep which floats wait where.
-use Rattle.std.proofs.Common.{◌≡◌, refl, sym, ◌∙◌, ap, subst, ℕ, zero, suc, Bool, true, false, List, [], ◌∷◌, ◌++◌, length, Option, Some, None}
+use Rattle.std.proofs.Common.{◌≡◌, refl, sym, ◌∙◌, ap, subst, ℕ, zero, suc, Bool, true, false, List, [], ◌∷◌, ◌++◌, length, Option, Some, None, arith}
 use Rattle.std.specs.Prelude.{not, ◌||◌, if◌then◌else◌}
 use Rattle.std.specs.List.{AllByRecursion}
 use Rattle.tb_scaled.specs.Glue.{filling_glue}
@@ -17,7 +17,7 @@ use Rattle.tb_fpage.specs.Company.{Choice, company, chosen_floats, left_floats}
 use Rattle.tb_fpage.proofs.FirstLemmas.{company-leaves}
 use Rattle.tb_area.specs.Area
 use Rattle.tb_column.specs.Column.{Notes, PlainColumn, PlainSheet, one, pair_sheet, text_column, single_floats_column, wide, wide_floats_column}
-use Rattle.tb_output.specs.State.{Work, Recorded, output, records_also, with_floats, footnotes, puts, has_floats}
+use Rattle.tb_output.specs.State.{State, Work, Recorded, output, records_also, with_floats, footnotes, puts, has_floats}
 use Rattle.tb_output.specs.Place
 use Rattle.tb_output.specs.Ship
 use Rattle.tb_output.specs.Columns

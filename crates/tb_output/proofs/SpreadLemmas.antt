@@ -20,8 +20,7 @@ use Rattle.tb_output.specs.State.{State, Work, Recorded, output, records_also, s
 use Rattle.tb_output.specs.Ship
 use Rattle.tb_output.specs.Columns
 use Rattle.tb_output.proofs.StateWeights.{ColumnsFit}
-use Rattle.tb_output.proofs.ColumnSteps.{no_law, put_out-step, put_out_by-step, wide_pages-step, place_double-step, float_columns-step}
-use Rattle.tb_output.proofs.WorkSteps.{column-unrefused}
+use Rattle.tb_output.proofs.TurnLemmas.{put_out-turned, put_out_by-turned, wide_pages-turned, double-turned, float_columns-turned}
 use Rattle.tb_output.proofs.FillLemmas.{HasLists, fill_double-lists}
 use Rattle.tb_output.proofs.RisingLists.{all-front, all-back, all-join, all-map, all-of, all-both, IsMissing, IsAbove, Rises, rises-front, rises-back, rises-across, rises-known, rises-more, across-back, across-unexcused, above-missing}
 use Rattle.tb_output.proofs.ClassLines.{FloatKind, Side, alike, narrow, wider, waits, PartedBy, Parted, WideFrom, IsReleased, wide-from, is_of, line_if, class_lines, float_lines, left_lines, sheet_lines, sent_lines, floats-append, sent-append, doubled-lines, company-lines, floats_above-lines, floats_column-lines}
@@ -575,7 +574,7 @@ module _ (k : FloatKind) (Known : ℕ → Type 0) (text takes past : List ℕ) (
       by_company None is ok again = h
       by_company (Some cs) is ok again =
           let v = Ship.ship_wide p cs w in
-          again v ok (ship_wide-open p r (Ship.wide_wanted p clearing) cs w is (column-unrefused (wide_pages-step p (no_law p) clearing n v) ok) h)
+          again v ok (ship_wide-open p r (Ship.wide_wanted p clearing) cs w is ((wide_pages-turned p clearing n v).by ok).0 h)
 
   pub all_wide-open : (p : Params) (r : IsReleased k p) (clearing : Bool) (w : Work) → (Ship.all_wide_pages p clearing w).refused ≡ false → IsOpen w → IsOpen (Ship.all_wide_pages p clearing w)
   all_wide-open p r clearing w ok h = wide_pages-open p r clearing (length (wide_waiting p w.state.floats)) w ok h
@@ -602,8 +601,8 @@ module _ (k : FloatKind) (Known : ℕ → Type 0) (text takes past : List ℕ) (
       let a = Ship.ship p sheet w in
       let b = Ship.without_double a in
       let d = Ship.all_wide_pages p false b in
-      let d_ok = column-unrefused (place_double-step p (no_law p) (wide_part p) [] (wide_waiting p d.state.floats) d) ok in
-      let b_ok = column-unrefused (wide_pages-step p (no_law p) false (length (wide_waiting p b.state.floats)) b) d_ok in
+      let d_ok = ((double-turned (wide_part p) p [] (wide_waiting p d.state.floats) d).by ok).0 in
+      let b_ok = ((wide_pages-turned p false (length (wide_waiting p b.state.floats)) b).by d_ok).0 in
       let lines = ap (λ y. y ++ (class_lines k (Ship.left_or c w.state.left_column).nodes ++ class_lines k c.nodes)) (floats_above-lines k places.Double p.dblfloatsep p.dbltextfloatsep l.double)
       ∙ ap (λ y. float_lines k l.double ++ (y ++ class_lines k c.nodes)) (left-lines k w.state.two_columns w.state.first_column w.state.left_column c t f h.columns) in
       let gone = shipped_pair k Known text takes (past ++ sent_lines k w.sent) (class_lines k c.nodes) (old ++ w.records) l w.state.two_columns w.state.first_column w.state.left_column h in
@@ -633,8 +632,8 @@ module _ (k : FloatKind) (Known : ℕ → Type 0) (text takes past : List ℕ) (
   pub put_out-hand : (p : Params) (r : IsReleased k p) (c : PlainColumn) (w : Work) → AllByRecursion (λ n. IsMissing n (class_lines k c.nodes)) text → (Ship.put_out p c w).refused ≡ false → InHand (class_lines k c.nodes) w → InHand [] (Ship.put_out p c w)
   put_out-hand p r c w apart ok h =
       let v = records_also (output c) w in
-      let v_ok = column-unrefused (put_out_by-step p (no_law p) c v) ok in
-      let w_ok = column-unrefused (put_out-step p (no_law p) c w) ok in
+      let v_ok = ((put_out_by-turned p c v).by ok).0 in
+      let w_ok = ((put_out-turned p c w).by ok).0 in
       put_out_by-hand p r c v ok (subst (λ (x : Work). InHand (class_lines k c.nodes) x) (sym (records-now (output c) w w_ok))
       (subst (λ x. Spread k Known text takes (past ++ sent_lines k w.sent) x (class_lines k c.nodes) w.state.floats w.state.two_columns w.state.first_column w.state.left_column) (append_assoc old w.records (output c ∷ []))
       (recorded k Known text takes (past ++ sent_lines k w.sent) (old ++ w.records) c w.state.floats w.state.two_columns w.state.first_column w.state.left_column apart h)))
@@ -658,4 +657,4 @@ module _ (k : FloatKind) (Known : ℕ → Type 0) (text takes past : List ℕ) (
       by_company None is ok again = h
       by_company (Some cs) is ok again =
           let v = Columns.put_out_company p cs w in
-          again v ok (company-hand p r (Columns.single_wanted p w.state.floats clearing) cs w is (column-unrefused (float_columns-step p (no_law p) clearing n v) ok) h)
+          again v ok (company-hand p r (Columns.single_wanted p w.state.floats clearing) cs w is ((float_columns-turned p clearing n v).by ok).0 h)

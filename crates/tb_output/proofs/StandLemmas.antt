@@ -16,9 +16,9 @@ use Rattle.tb_column.specs.declared.Sent.{Sent}
 use Rattle.tb_column.specs.declared.Sent.TheVariants as events
 use Rattle.tb_column.specs.Column.{PlainColumn, one, wide, two, shipped}
 use Rattle.tb_column.specs.Shown.{nodes_shown, column_shown, sheet_shown, sent_shown}
-use Rattle.tb_column.specs.Page.{is_leaf_kind, AreLeaves, IsPageList, IsPageColumn}
+use Rattle.tb_column.specs.TextList.{is_leaf_kind, AreLeaves}
 use Rattle.tb_column.proofs.StoreLemmas.{list-get, live-get}
-use Rattle.tb_output.specs.Machine.{MachineView, events_shown, sheet_lists, sent_lists, event_lists, left_lists, machine_lists, IsPageSheet, IsPageSent, IsPageLeft, IsMachine}
+use Rattle.tb_output.specs.Machine.{MachineView, events_shown, sheet_lists, sent_lists, event_lists, left_lists, machine_lists, IsPageList, IsPageColumn, IsPageSheet, IsPageSent, IsPageLeft, IsMachine}
 
 -- ---- what holds of all of two lists
 
@@ -121,7 +121,6 @@ module _ (store new : Lists Node) where
     pub machine-stands : IsMachine m new
     machine-stands = record {
       params = is.params;
-      classes = is.classes;
       first = is.first;
       last = is.last;
       pool = is.pool;

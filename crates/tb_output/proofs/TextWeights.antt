@@ -24,9 +24,7 @@ use Rattle.tb_output.specs.State.{Work, placed, puts, sends, records_also, with_
 use Rattle.tb_output.specs.Place
 use Rattle.tb_output.specs.Columns
 use Rattle.tb_output.specs.Text
-use Rattle.tb_output.proofs.ColumnSteps.{no_law}
-use Rattle.tb_output.proofs.FiringSteps.{first_goes-step}
-use Rattle.tb_output.proofs.WorkSteps.{firing-unrefused}
+use Rattle.tb_output.proofs.TurnLemmas.{first-turned}
 use Rattle.tb_output.proofs.StateWeights.{entries_weight, lists_weight, work_weight, Paired, Sound, Adds, added, then_kept, kept_then, adds_if, unchanged, puts-adds, records-adds, warns-adds}
 use Rattle.tb_output.proofs.FloatWeights.{placed-adds}
 use Rattle.tb_output.proofs.ColumnWeights.{notes_weight}
@@ -136,9 +134,9 @@ first-adds v p vert height depth page_height (entries.Left m ∷ entries.Right n
     let k : entries_weight v w.state.floats.current ≡ v.margin m.line + entries_weight v es = ap (entries_weight v) e in
     note-adds v p depth m (record w.state.floats { current = es }) w _ (λ s. subst Paired e s) (omega arith)
 first-adds v p vert height depth page_height (entries.Left m ∷ entries.Float f ∷ es) w e =
-    record { waits = note-waits v p depth m (record w.state.floats { current = es }) w (placed_note p w.state.page w.state.two_columns w.state.first_column height w.state.note_bottom m); classes = note-classes v p depth m (record w.state.floats { current = es }) w (placed_note p w.state.page w.state.two_columns w.state.first_column height w.state.note_bottom m); goes = λ r. firing-unrefused (first_goes-step p (no_law p) vert height depth page_height (entries.Left m ∷ entries.Float f ∷ es) w) r; by = λ r s. absurd (subst Paired e s.entries) }
+    record { waits = note-waits v p depth m (record w.state.floats { current = es }) w (placed_note p w.state.page w.state.two_columns w.state.first_column height w.state.note_bottom m); classes = note-classes v p depth m (record w.state.floats { current = es }) w (placed_note p w.state.page w.state.two_columns w.state.first_column height w.state.note_bottom m); goes = λ r. ((first-turned p vert height depth page_height (entries.Left m ∷ entries.Float f ∷ es) w).by r).0; by = λ r s. absurd (subst Paired e s.entries) }
 first-adds v p vert height depth page_height (entries.Left m ∷ entries.Left n ∷ es) w e =
-    record { waits = note-waits v p depth m (record w.state.floats { current = es }) w (placed_note p w.state.page w.state.two_columns w.state.first_column height w.state.note_bottom m); classes = note-classes v p depth m (record w.state.floats { current = es }) w (placed_note p w.state.page w.state.two_columns w.state.first_column height w.state.note_bottom m); goes = λ r. firing-unrefused (first_goes-step p (no_law p) vert height depth page_height (entries.Left m ∷ entries.Left n ∷ es) w) r; by = λ r s. absurd (subst Paired e s.entries) }
+    record { waits = note-waits v p depth m (record w.state.floats { current = es }) w (placed_note p w.state.page w.state.two_columns w.state.first_column height w.state.note_bottom m); classes = note-classes v p depth m (record w.state.floats { current = es }) w (placed_note p w.state.page w.state.two_columns w.state.first_column height w.state.note_bottom m); goes = λ r. ((first-turned p vert height depth page_height (entries.Left m ∷ entries.Left n ∷ es) w).by r).0; by = λ r s. absurd (subst Paired e s.entries) }
 first-adds v p vert height depth page_height (entries.Right m ∷ es) w e = interline-adds v p w
 first-adds v p vert height depth page_height [] w e = interline-adds v p w
 

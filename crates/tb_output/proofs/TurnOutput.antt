@@ -1,6 +1,6 @@
 -- A firing from the part of it that counts its dead cycle.
 use Rattle.std.proofs.Common.{◌≡◌, refl, sym, subst, ◌∙◌, ap, ℕ, ◌+◌, ◌<◌, ℤ, pos, ◌≤ℤ◌, ◌<ℤ◌, Bool, true, false, Option, None, Some, append-nil, arith}
-use Rattle.std.specs.Prelude.{IfNone, IfSome, int_lt, if◌then◌else◌}
+use Rattle.std.specs.Prelude.{IfNone, int_lt, if◌then◌else◌}
 use Rattle.std.proofs.lemmas.Int.{ints}
 use Rattle.tb_pool.specs.Lists.{Lists}
 use Rattle.tb_node.specs.declared.Node.{Node}
@@ -24,9 +24,6 @@ if-none (Some x) A a = tt
 
 pub of-none : {X : Type 0} (o : Option X) (A : Type 0) → o ≡ None → IfNone o A → A
 of-none o A e h = subst (λ x. IfNone x A) e h
-
-pub if-some : {X : Type 0} (o : Option X) (P : X → Type 0) → o ≡ None → IfSome o P
-if-some o P e = subst (λ x. IfSome x P) (sym e) tt
 
 not-below : (n : ℕ) (z : ℤ) → int_lt (pos n) z ≡ false → z ≤ℤ pos n
 not-below n z e = grind (arith, ints, e)
@@ -56,7 +53,6 @@ at-dead-cycles n m store e below = record { count = e; reached = not-below m.dea
 pub counted-served : (m : MachineView) (store : Lists Node) (page : Page) (notes : Option ℕ) → CanServe m store page notes → CanServe (counted m) store page notes
 counted-served m store page notes h = record {
   floatless = record {
-    classes = h.floatless.classes;
     floats = h.floatless.floats;
     held_page = h.floatless.held_page;
     goal = h.floatless.goal;

@@ -7,9 +7,9 @@ use Rattle.tb_param.specs.declared.Params.{Params}
 use Rattle.tb_builder.specs.declared.Page.{Page}
 use Rattle.tb_builder.specs.Fired.{Boxed, Fired}
 use Rattle.tb_column.specs.Shown.{nodes_shown}
+use Rattle.tb_column.specs.TextList.{notes_shown}
 use Rattle.tb_output.specs.State.{State}
 use Rattle.tb_output.specs.Out.{waiting_again, out}
-use Rattle.tb_output.specs.Footnotes.{notes_shown}
 use Rattle.tb_output.specs.Machine.{MachineView, state_shown}
 use Rattle.tb_output.specs.Firing.{foot_box, fired_page, page_work, firing_work}
 use Rattle.tb_output.proofs.FloatlessWork.{out-work}

@@ -9,14 +9,13 @@ use Rattle.tb_param.specs.declared.Params.{Params}
 use Rattle.tb_builder.specs.declared.Page.{Page}
 use Rattle.tb_builder.specs.Fired.{Boxed, Fired}
 use Rattle.tb_column.specs.Shown.{nodes_shown}
-use Rattle.tb_column.specs.Page.{AreLeaves, IsPageList}
+use Rattle.tb_column.specs.TextList.{AreLeaves, CanJoin, notes_shown}
 use Rattle.tb_output.specs.declared.Turn.{Turn}
 use Rattle.tb_output.specs.declared.RunFault.{RunFault}
 use Rattle.tb_output.specs.declared.RunFault.TheVariants as faults
 use Rattle.tb_output.specs.State.{State, Work, begun}
 use Rattle.tb_output.specs.Out.{clear_penalty, output_by, next_goal, after_page}
-use Rattle.tb_output.specs.Footnotes.{CanJoin, notes_shown}
-use Rattle.tb_output.specs.Machine.{MachineView, state_shown, events_shown, machine_lists, IsNotAmong, IsFloatless}
+use Rattle.tb_output.specs.Machine.{MachineView, state_shown, events_shown, machine_lists, IsNotAmong, IsPageList, IsFloatless}
 
 -- ---- the work of a firing
 
@@ -69,7 +68,7 @@ pub record AreTextLists (most : ℕ) (m : MachineView) (store : Lists Node) (bod
 pub record CanServe (m : MachineView) (store : Lists Node) (page : Page) (notes : Option ℕ) : Type 0 where
   pub floatless : IsFloatless m store
   pub penalty : clear_penalty ≤ℤ page.penalty
-  pub lists : AreTextLists 8355839 m store page.body notes
+  pub lists : AreTextLists 8388602 m store page.body notes
 
 -- ---- what stands after a firing
 

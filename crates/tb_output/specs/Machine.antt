@@ -1,12 +1,12 @@
 -- The output routine's machine as contracts see it.
-use Rattle.std.specs.Prelude.{◌≡◌, ◌≢◌, ◌≤◌, ◌<◌, ℕ, ℤ, pos, ◌≤ℤ◌, Bool, true, false, List, [], ◌∷◌, ◌++◌, map, Option, Some, None}
+use Rattle.std.specs.Prelude.{◌≡◌, ◌≢◌, ◌≤◌, ℕ, ℤ, pos, ◌≤ℤ◌, Bool, true, false, List, [], ◌∷◌, ◌++◌, length, map, All, Option, Some, None}
 use Rattle.std.specs.List.{AllByRecursion}
-use Rattle.tb_pool.specs.Lists.{Lists, list_at}
+use Rattle.tb_scaled.specs.declared.Glue.{Glue}
+use Rattle.tb_pool.specs.Lists.{Lists, IsLive, list_at}
 use Rattle.tb_node.specs.declared.Node.{Node}
 use Rattle.tb_node.specs.Plain.{PlainNode}
-use Rattle.tb_node.specs.Fit.{IsExtent}
+use Rattle.tb_node.specs.Fit.{IsExtent, IsDimension, IsSizedNode}
 use Rattle.tb_param.specs.declared.Params.{Params}
-use Rattle.tb_insert.specs.declared.Class.{Class}
 use Rattle.tb_builder.specs.Fired.{Boxed}
 use Rattle.tb_float.specs.declared.Suppress.{Suppress}
 use Rattle.tb_float.specs.Lists.{no_floats}
@@ -18,15 +18,13 @@ use Rattle.tb_column.specs.declared.Sent.{Sent}
 use Rattle.tb_column.specs.declared.Sent.TheVariants as events
 use Rattle.tb_column.specs.Column.{PlainColumn, PlainSent}
 use Rattle.tb_column.specs.Shown.{nodes_shown, column_shown, sent_shown}
-use Rattle.tb_column.specs.Page.{IsPageList, IsPageColumn}
-use Rattle.tb_column.specs.Ranges.{AreColumnParams}
+use Rattle.tb_column.specs.TextList.{AreLeaves}
 use Rattle.tb_output.specs.declared.RunFault.{RunFault}
 use Rattle.tb_output.specs.State.{State, no_suppress, foot_class}
 
--- between two firings: the state of the routine, with its classes of insertions, the names of its lists, the events that were not taken yet, and the fault that ended the run
+-- between two firings: the state of the routine, with the names of its lists, the events that were not taken yet, and the fault that ended the run
 pub record MachineView : Type 0 where
   pub params : Params
-  pub classes : List Class
   pub goal : ℤ
   pub page : ℕ
   pub dead_cycles : ℕ
@@ -47,11 +45,11 @@ abbrev pub left_shown : Lists Node → Option Column → Option PlainColumn
 left_shown store None = None
 left_shown store (Some c) = Some (column_shown store c)
 
--- the state that a machine stands for, where the insertion boxes hold this and these nodes wait
+-- the state that a machine of class 254 alone stands for, where the insertion boxes hold this and these nodes wait
 abbrev pub state_shown : Lists Node → List Boxed → List PlainNode → MachineView → State
 state_shown store boxes waiting m = record {
   waiting = waiting;
-  classes = m.classes;
+  classes = foot_class m.params ∷ [];
   boxes = boxes;
   held_page = nodes_shown store m.held_page;
   floats = m.pool.lists;
@@ -105,6 +103,18 @@ abbrev pub AreDistinct : List ℕ → Type 0
 AreDistinct [] = Unit {0}
 AreDistinct (l ∷ ls) = IsNotAmong l ls × AreDistinct ls
 
+-- a list of a page: live, of sized nodes that are neither insertions nor acts, and not too long to be summed
+pub record IsPageList (store : Lists Node) (l : ℕ) : Type 0 where
+  pub live : IsLive store l
+  pub leaves : AreLeaves (list_at store l)
+  pub sized : All IsSizedNode (list_at store l)
+  pub few : length (list_at store l) ≤ 8388608
+
+-- a column of such a list, whose glue has a share
+pub record IsPageColumn (store : Lists Node) (c : Column) : Type 0 where
+  pub list : IsPageList store c.list
+  pub share : c.set.den ≢ pos 0
+
 -- all lists of a page are such
 abbrev pub IsPageSheet : Lists Node → Sheet → Type 0
 IsPageSheet store (sheets.One c) = IsPageColumn store c
@@ -133,25 +143,25 @@ pub record IsPoolSize (z : ℤ) : Type 0 where
   pub low : pos 0 ≤ℤ z
   pub high : z ≤ℤ pos 4096
 
+-- the amounts of glue are dimensions
+pub record IsSizedGlue (g : Glue) : Type 0 where
+  pub width : IsDimension g.width
+  pub stretch : IsDimension g.stretch
+  pub shrink : IsDimension g.shrink
+
 -- the parameters of the routine lie in their ranges
 pub record AreOutputParams (p : Params) : Type 0 where
-  pub columns : AreColumnParams p
+  pub textheight : IsExtent p.textheight
+  pub maxdepth : IsExtent p.maxdepth
   pub splitmaxdepth : IsExtent p.splitmaxdepth
+  pub skipfootins : IsSizedGlue p.skipfootins
   pub maxdeadcycles : IsLimit p.maxdeadcycles
   pub maxpages : IsLimit p.maxpages
   pub pool : IsPoolSize p.pool
 
--- the classes in rising number, that of the footnotes last
-abbrev pub AreOutputClasses : Params → List Class → Type 0
-AreOutputClasses p [] = ⊥
-AreOutputClasses p (c ∷ []) = c ≡ foot_class p
-AreOutputClasses p (c ∷ d ∷ cs) = (c.number < d.number) × AreOutputClasses p (d ∷ cs)
-
--- the parameters, the classes and the page's number are in their ranges, the pool is as large as the parameters say, and the machine's lists are lists of pages,
--- no two of them the same
+-- the parameters and the page's number are in their ranges, the pool is as large as they say, and the machine's lists are lists of pages, no two of them the same
 pub record IsMachine (m : MachineView) (store : Lists Node) : Type 0 where
   pub params : AreOutputParams m.params
-  pub classes : AreOutputClasses m.params m.classes
   pub first : 1 ≤ m.page
   pub last : m.page ≤ 4194305
   pub pool : pos m.pool.size ≡ m.params.pool
@@ -160,9 +170,8 @@ pub record IsMachine (m : MachineView) (store : Lists Node) : Type 0 where
   pub events : AllByRecursion (IsPageSent store) m.events
   pub apart : AreDistinct (machine_lists m)
 
--- as in a run without floats and marginal notes, whose insertions are footnotes alone: one column, and all lists of floats and the held page are empty
+-- as in a run without floats and marginal notes: one column, and all lists of floats and the held page are empty
 pub record IsFloatless (m : MachineView) (store : Lists Node) : Type 0 where
-  pub classes : m.classes ≡ foot_class m.params ∷ []
   pub floats : m.pool.lists ≡ no_floats
   pub held_page : list_at store m.held_page ≡ []
   pub goal : m.goal ≡ m.params.textheight

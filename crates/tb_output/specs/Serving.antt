@@ -14,14 +14,13 @@ use Rattle.tb_builder.specs.Owned.{Lacks, ids_of, owned}
 use Rattle.tb_builder.specs.Running.{IsSound}
 use Rattle.tb_builder.specs.Handed.{ListJoins, NoPage}
 use Rattle.tb_column.specs.Shown.{nodes_shown}
-use Rattle.tb_column.specs.Page.{AreLeaves, IsPageList}
+use Rattle.tb_column.specs.TextList.{AreLeaves, notes_shown}
 use Rattle.tb_output.specs.declared.Turn.{Turn}
 use Rattle.tb_output.specs.declared.RunFault.{RunFault}
 use Rattle.tb_output.specs.declared.RunFault.TheVariants as faults
 use Rattle.tb_output.specs.State.{State, Work}
 use Rattle.tb_output.specs.Out.{clear_penalty, out}
-use Rattle.tb_output.specs.Footnotes.{notes_shown}
-use Rattle.tb_output.specs.Machine.{MachineView, state_shown, events_shown, machine_lists, IsNotAmong, IsFloatless}
+use Rattle.tb_output.specs.Machine.{MachineView, state_shown, events_shown, machine_lists, IsNotAmong, IsPageList, IsFloatless}
 use Rattle.tb_output.specs.Firing.{foot_box}
 
 -- ---- the page that fired
@@ -72,7 +71,7 @@ pub record CanFire (m : MachineView) (b : Builder) (store : Lists Node) (page : 
   pub leaves : AreLeaves (list_at store page.body)
   pub sized : All IsSizedNode (list_at store page.body)
   pub sized_notes : All IsSizedLeaf (content_of (notes_held b store))
-  pub few : length (list_at store page.body) + length (content_of (notes_held b store)) ≤ 8355839
+  pub few : length (list_at store page.body) + length (content_of (notes_held b store)) ≤ 8388602
   pub body_apart : IsNotAmong page.body (machine_lists m)
   pub body_free : AreFree b store (page.body ∷ [])
   pub machine_free : AreFree b store (machine_lists m)

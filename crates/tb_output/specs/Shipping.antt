@@ -17,14 +17,12 @@ use Rattle.tb_column.specs.declared.Sheet.TheVariants as sheets
 use Rattle.tb_column.specs.declared.Sent.TheVariants as events
 use Rattle.tb_column.specs.Column.{text_column}
 use Rattle.tb_column.specs.Shown.{nodes_shown, column_shown}
-use Rattle.tb_column.specs.FloatList.{made_node}
-use Rattle.tb_column.specs.Page.{IsPageList}
+use Rattle.tb_column.specs.TextList.{made_node, notes_shown, foot_notes}
 use Rattle.tb_output.specs.declared.RunFault.{RunFault}
 use Rattle.tb_output.specs.declared.RunFault.TheVariants as faults
 use Rattle.tb_output.specs.State.{State, Work, begun, no_suppress}
 use Rattle.tb_output.specs.Out.{output_by, next_goal}
-use Rattle.tb_output.specs.Footnotes.{notes_shown, foot_notes}
-use Rattle.tb_output.specs.Machine.{MachineView, state_shown, events_shown}
+use Rattle.tb_output.specs.Machine.{MachineView, state_shown, events_shown, IsPageList}
 use Rattle.tb_output.specs.Firing.{foot_box, fired_page, IsNotNotes, OthersStand}
 
 -- ---- lists
@@ -49,15 +47,6 @@ abbrev pub RestStands : Lists Node → Lists Node → ℕ → Option ℕ → Typ
 RestStands store new body notes = (q : ℕ) → q ≢ body → IsNotNotes q notes → get new.lists q ≡ get store.lists q
 
 -- ---- a page is shipped
-
--- the text column of these lists was made: the text's list is the column's, and the footnotes' is empty
-pub record IsTextColumn (c : Column) (m : MachineView) (store new : Lists Node) (body : ℕ) (notes : Option ℕ) : Type 0 where
-  pub shown : column_shown new c ≡ text_column m.params no_floats (nodes_shown store body) (foot_notes m.params (notes_shown store notes))
-  pub list : c.list ≡ body
-  pub share : c.set.den ≢ pos 0
-  pub page_list : IsPageList new body
-  pub empty : IsEmptyNotes new notes
-  pub rest : RestStands store new body notes
 
 -- the machine after this column was shipped as a page
 abbrev pub shipped_machine : Column → MachineView → MachineView

@@ -1,24 +1,22 @@
 //! What the routine does at an act: a float or a marginal note is taken, floats are kept out of an area, or the columns
 //! change (LaTeX, \@xfloat, \marginpar, \suppressfloats and \twocolumn).
 
-ghost use Rattle.std.specs.Prelude.{◌≡◌, ◌<◌, ◌&&◌, pos, List, OnOk, OnErr, IfErr, IsErr, option_to_list};
+ghost use Rattle.std.specs.Prelude.{◌≡◌, pos, List, OnOk, OnErr, IfErr, option_to_list};
 ghost use Rattle.tb_pool.specs.Lists.{Lists as ListMap};
 ghost use Rattle.tb_node.specs.declared.Node.{Node as NodeValue};
 ghost use Rattle.tb_node.specs.Plain.{PlainNode};
 ghost use Rattle.tb_node.specs.Fit.{IsExtent};
 ghost use Rattle.tb_scaled.specs.Scaled.{min_ℤ};
 ghost use Rattle.tb_builder.specs.Fired.{Boxed};
-ghost use Rattle.tb_param.specs.Release.{has_second};
-ghost use Rattle.tb_float.specs.Lists.{live_count};
 ghost use Rattle.tb_float.specs.Ranges.{IsSizedMargin};
 ghost use Rattle.tb_output.specs.Act.{full, large_warning, suppressed};
 ghost use Rattle.tb_output.specs.Machine.{AreOutputParams, IsMachine};
-ghost use Rattle.tb_output.specs.Acting.{IsSizedAct, IsActed, acted_in, line_of, TakesNoList, HasTaken, HasNoRoom, clipped, taken_into, with_float, with_note, with_suppressed, with_columns};
+ghost use Rattle.tb_output.specs.Acting.{IsSizedAct, IsActed, acted_in, line_of, TakesNoList, HasTaken, HasNoRoom, clipped, with_float, with_note, with_suppressed, with_columns};
 
 use crate::Machine;
 use crate::state::no_suppress;
 use tb_column::Warn;
-use tb_float::{Full, Part, Pool, Suppress};
+use tb_float::{Full, Suppress};
 use tb_node::{Act, Area, Float, Margin};
 use tb_param::Params;
 
@@ -67,7 +65,7 @@ impl Machine {
     {
         let warning = large(&f, &self.params);
         let taken = clipped(&f, self.params.textheight, self.two_columns);
-        take_into(&mut self.pool, &self.params, taken)?;
+        self.pool.take(taken)?;
         self.events.warn(warning);
         Ok(())
     }
@@ -98,32 +96,6 @@ impl Machine {
         self.left_column = None;
         self.suppress = no_suppress();
     }
-}
-
-// A float goes to the end of the current list, or of the list of those that wait for a page.
-fn take_into(pool: &mut Pool, p: &Params, f: Float) -> Result<(), Full>
-    requires { IsExtent f.height }
-    ensures room { OnOk result (live_count pool.old.lists < pool.old.size) }
-    ensures taken { OnOk result (pool.new ≡ taken_into p.now f pool.old) }
-    ensures full { IsErr result → live_count pool.old.lists ≡ pool.old.size }
-    ensures shown { IfErr result (λ e. e.live ≡ live_count pool.old.lists) }
-    ensures unchanged { OnErr result (pool.new ≡ pool.old) }
-{
-    let waits = waits_for_page(p, &f);
-    pool.take(f)?;
-    if !waits {
-        return Ok(());
-    }
-    let last = pool.len(Part::Current) - 1;
-    pool.move_to(Part::Current, last, Part::Second);
-    Ok(())
-}
-
-// A wide float waits for a page at once in release 2014 (ltoutput.dtx, \end@dblfloat).
-fn waits_for_page(p: &Params, f: &Float) -> bool
-    ensures { result ≡ (has_second p.now && f.now.wide) }
-{
-    p.has_second() && f.wide
 }
 
 // The warning that a float is higher than a page, where it is.

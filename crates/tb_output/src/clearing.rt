@@ -6,7 +6,6 @@ ghost use Rattle.tb_pool.specs.Lists.{list_at, with_list};
 ghost use Rattle.tb_node.specs.Plain.{made, skip};
 ghost use Rattle.tb_node.specs.Fit.{shapes};
 ghost use Rattle.tb_break.specs.Split.{split_of};
-ghost use Rattle.tb_float.specs.Lists.{no_floats};
 ghost use Rattle.tb_column.specs.Shown.{nodes_shown};
 ghost use Rattle.tb_output.specs.Machine.{IsMachine};
 ghost use Rattle.tb_output.specs.Firing.{AreTextLists};
@@ -24,7 +23,7 @@ impl Machine {
     // (ltoutput.dtx, \@doclearpage).
     pub(crate) fn clear_page(&self, store: &mut Lists<Node>, body: ListId)
         requires machine { IsMachine self.now store.old }
-        requires lists { AreTextLists 8355839 self.now store.old body None }
+        requires lists { AreTextLists 8388602 self.now store.old body None }
         ensures { store.new.lists ≡ with_list store.old body (take (split_of (pos 0) self.now.params.splitmaxdepth (shapes store.old body)).index (list_at store.old body)) }
     {
         let front = find(store, body, 0, self.params.splitmaxdepth).index;
@@ -39,8 +38,7 @@ impl Machine {
         notes: ListId,
     ) -> Result<ListId, RunFault>
         requires machine { IsMachine self.old store.old }
-        requires floatless { self.old.pool.lists ≡ no_floats }
-        requires lists { AreTextLists 8355839 self.old store.old body (Some notes) }
+        requires lists { AreTextLists 8388602 self.old store.old body (Some notes) }
         ensures ok { IfOk result (λ l. HasPutOut l clear_list (nodes_shown store.old body ++ made (skip filling_glue) ∷ []) self.old self.new store.old store.new body (Some notes)) }
         ensures err { IfErr result (λ e. HasNotPutOut e self.old self.new store.old store.new body (Some notes)) }
     {

@@ -1,18 +1,17 @@
 //! Text columns are made and shipped.
 
 ghost use Rattle.std.specs.Prelude.{◌≡◌, ◌≤◌, [], OnOk, OnErr, IfOk, IfErr};
-ghost use Rattle.tb_float.specs.Lists.{no_floats};
 ghost use Rattle.tb_column.specs.Shown.{nodes_shown};
 ghost use Rattle.tb_output.specs.Machine.{IsMachine};
 ghost use Rattle.tb_output.specs.Firing.{AreTextLists};
-ghost use Rattle.tb_output.specs.Shipping.{RestStands, shipped_machine, IsTextColumn, IsShipped, IsNotShipped, HasPutOut, HasNotPutOut};
+ghost use Rattle.tb_output.specs.Shipping.{shipped_machine, IsShipped, IsNotShipped, HasPutOut, HasNotPutOut};
 
 use crate::lists::close_notes;
 use crate::state::no_suppress;
 use crate::{Machine, RunFault};
 use std::alloc::AllocError;
-use tb_column::{Column, NoteBox, Sent, Sheet, make_column};
-use tb_node::{FOOTNOTES, Node};
+use tb_column::{Column, Sent, Sheet, make_column};
+use tb_node::Node;
 use tb_param::exceeds;
 use tb_pool::{ListId, Lists};
 
@@ -26,8 +25,7 @@ impl Machine {
         notes: Option<ListId>,
     ) -> Result<(), RunFault>
         requires machine { IsMachine self.old store.old }
-        requires floatless { self.old.pool.lists ≡ no_floats }
-        requires lists { AreTextLists 8355840 self.old store.old body notes }
+        requires lists { AreTextLists 8388603 self.old store.old body notes }
         ensures ok { OnOk result (IsShipped self.old self.new store.old store.new body notes) }
         ensures err { IfErr result (λ e. IsNotShipped e self.old self.new store.old store.new body notes) }
     {
@@ -37,35 +35,10 @@ impl Machine {
             });
         }
         let taken = notes;
-        let column = self.text_column(store, body, notes)?;
+        let column = make_column(store, &self.params, body, notes)?;
         close_notes(store, taken);
         self.ship(column)?;
         Ok(())
-    }
-
-    // Makes the text column of a page without floats.
-    fn text_column(
-        &mut self,
-        store: &mut Lists<Node>,
-        body: ListId,
-        notes: Option<ListId>,
-    ) -> Result<Column, AllocError>
-        requires machine { IsMachine self.old store.old }
-        requires floatless { self.old.pool.lists ≡ no_floats }
-        requires lists { AreTextLists 8355840 self.old store.old body notes }
-        ensures ok { IfOk result (λ c. IsTextColumn c self.old store.old store.new body notes) }
-        ensures err { OnErr result (RestStands store.old store.new body notes) }
-        ensures machine { self.new ≡ self.old }
-    {
-        let Some(list) = notes else {
-            return make_column(store, &mut self.pool, &self.params, body, &[]);
-        };
-        let footnotes = NoteBox {
-            class: FOOTNOTES,
-            skip: self.params.skipfootins,
-            list,
-        };
-        make_column(store, &mut self.pool, &self.params, body, &[footnotes])
     }
 
     // An ordinary page is put out (ltoutput.dtx, \@opcol); nothing goes back, so the list that it answers is empty.
@@ -76,8 +49,7 @@ impl Machine {
         notes: Option<ListId>,
     ) -> Result<ListId, RunFault>
         requires machine { IsMachine self.old store.old }
-        requires floatless { self.old.pool.lists ≡ no_floats }
-        requires lists { AreTextLists 8355839 self.old store.old body notes }
+        requires lists { AreTextLists 8388602 self.old store.old body notes }
         ensures ok { IfOk result (λ l. HasPutOut l [] (nodes_shown store.old body) self.old self.new store.old store.new body notes) }
         ensures err { IfErr result (λ e. HasNotPutOut e self.old self.new store.old store.new body notes) }
     {

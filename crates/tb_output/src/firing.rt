@@ -3,7 +3,7 @@
 ghost use Rattle.std.specs.Prelude.{◌≡◌, Err, None, IfOk, IfErr, OnOk, IfSome, IfNone};
 ghost use Rattle.tb_builder.specs.Contents.{contents_of};
 ghost use Rattle.tb_builder.specs.Running.{IsSound};
-ghost use Rattle.tb_output.specs.Machine.{machine_lists, IsLimit, IsMachine, IsFloatless};
+ghost use Rattle.tb_output.specs.Machine.{machine_lists, AreOutputParams, IsMachine, IsFloatless};
 ghost use Rattle.tb_output.specs.Firing.{foot_box, firing_work, refusal_of, CanServe, IsTurn, IsRefusal, IsCutShort, IsPutBack, OthersStand, TakesBody};
 ghost use Rattle.tb_output.specs.Shipping.{counted_work, IsOutput, IsNotOutput};
 ghost use Rattle.tb_output.specs.Serving.{whole_work, AreFree, CanFire, CanGoBack, IsFired, IsNoOthers, LeavesNotes, OthersFree, OthersStay};
@@ -99,7 +99,7 @@ impl Machine {
 
     // Why no firing is begun: the fault that stands, or that as many firings as may be were without a page.
     fn refusal(&self) -> Option<RunFault>
-        requires { IsLimit self.now.params.maxdeadcycles }
+        requires { AreOutputParams self.now.params }
         ensures { result ≡ refusal_of self.now }
     {
         if self.fault.is_some() {

@@ -8,8 +8,11 @@ ghost use Rattle.tb_output.specs.Serving.{HasOnlyNotes, NotesTaken};
 
 use std::alloc::AllocError;
 use tb_builder::Builder;
-use tb_node::{FOOTNOTES, Node};
+use tb_node::Node;
 use tb_pool::{ListId, Lists};
+
+// The class of the footnotes' insertions.
+const FOOTNOTES: u8 = 254;
 
 /// The footnotes of the page that fired, in a list that is opened for them. None where their box is void: one that was
 /// given an empty list is not.

@@ -2,7 +2,7 @@
 
 ghost use Rattle.std.specs.Prelude.{◌≡◌, ◌≤◌, ◌+◌, ◌<◌, [], ◌∷◌, ◌++◌, take};
 ghost use Rattle.tb_pool.specs.Lists.{IsLive, list_at, with_list};
-ghost use Rattle.tb_column.specs.FloatList.{made_node};
+ghost use Rattle.tb_column.specs.TextList.{made_node};
 ghost use Rattle.tb_output.specs.Shipping.{clear_list, IsEmptyNotes, without_notes};
 
 use tb_node::{Kind, Node, What};

@@ -1,22 +1,21 @@
 //! The machine's beginning, and what is asked of it between two firings.
 
-ghost use Rattle.std.specs.Prelude.{◌≡◌, ◌≤◌, pos, List, [], ◌∷◌, length, None, IfOk, IfSome, IfNone, OnErr};
+ghost use Rattle.std.specs.Prelude.{◌≡◌, ◌≤◌, pos, List, [], ◌∷◌, length, None, IfOk, IfSome, IfNone, OnOk};
 ghost use Rattle.std.specs.FinMap.{get};
 ghost use Rattle.tb_pool.specs.Lists.{Lists as ListMap, IsLive, list_at, with_list};
 ghost use Rattle.tb_node.specs.declared.Node.{Node as NodeValue};
 ghost use Rattle.tb_node.specs.Plain.{PlainNode};
 ghost use Rattle.tb_builder.specs.Fired.{Boxed};
-ghost use Rattle.tb_output.specs.State.{foot_class, void_boxes, first_state, ask_of, no_suppress};
-ghost use Rattle.tb_output.specs.Machine.{state_shown, IsMachine, IsFloatless, IsPoolSize, AreOutputParams, AreOutputClasses};
+ghost use Rattle.tb_output.specs.State.{first_state, ask_of, no_suppress};
+ghost use Rattle.tb_output.specs.Machine.{state_shown, IsMachine, IsFloatless, IsPoolSize, AreOutputParams};
+ghost use Rattle.tb_output.specs.Firing.{foot_box};
 
 use crate::Machine;
-use crate::classes::copied;
 use crate::events::Events;
 use std::alloc::{AllocError, Global};
 use tb_builder::Ask;
 use tb_column::Sent;
 use tb_float::{Part, Suppress, new_pool};
-use tb_insert::Class;
 use tb_node::Node;
 use tb_param::Params;
 use tb_pool::Lists;
@@ -41,37 +40,31 @@ fn pool_size(p: &Params) -> u64
     p.pool as u64
 }
 
-/// A machine before the first page that serves these classes of insertions, in one column, with an empty pool of floats.
-/// It opens a list for the held page.
+/// A machine before the first page, in one column, with an empty pool of floats. It opens a list for the held page.
 ///
 /// Where there is no memory, no list was opened.
 pub fn new_machine(
     alloc: Global,
     store: &mut Lists<Node>,
     p: &Params,
-    classes: &[Class],
 ) -> Result<Machine, AllocError>
     requires params { AreOutputParams p.now }
-    requires classes { AreOutputClasses p.now classes.now }
-    ensures state { IfOk result (λ m. (waiting : List PlainNode) → state_shown store.new (void_boxes classes.now) waiting m ≡ first_state p.now classes.now waiting) }
+    ensures state { IfOk result (λ m. (waiting : List PlainNode) → state_shown store.new (foot_box None) waiting m ≡ first_state p.now waiting) }
     ensures machine { IfOk result (λ m. IsMachine m store.new) }
-    ensures floatless { IfOk result (λ m. classes.now ≡ foot_class p.now ∷ [] → IsFloatless m store.new) }
+    ensures floatless { IfOk result (λ m. IsFloatless m store.new) }
     ensures params { IfOk result (λ m. m.params ≡ p.now) }
     ensures events { IfOk result (λ m. m.events ≡ []) }
     ensures fault { IfOk result (λ m. m.fault ≡ None) }
     ensures fresh { IfOk result (λ m. get store.old.lists m.held_page ≡ None) }
     ensures opened { IfOk result (λ m. store.new.lists ≡ with_list store.old m.held_page []) }
-    ensures err { OnErr result (store.new.lists ≡ store.old.lists) }
 {
     let size = pool_size(p);
-    let served = copied(alloc, classes)?;
     let pool = new_pool(alloc, size)?;
     let mut events = Events::new(alloc);
     events.keep_room(size as usize)?;
     let held_page = store.add_list()?;
     Ok(Machine {
         params: *p,
-        classes: served,
         goal: p.textheight,
         page: 1,
         dead_cycles: 0,

@@ -1,21 +1,20 @@
 //! Worked pages.
 
-ghost use Rattle.std.specs.Prelude.{◌≡◌, ◌≢◌, ℕ, [], All, length, None, IfOk};
+ghost use Rattle.std.specs.Prelude.{◌≡◌, ◌≢◌, ℕ, All, length, None, IfOk};
 ghost use Rattle.std.specs.FinMap.{get};
-ghost use Rattle.tb_pool.specs.Lists.{IsLive, list_at, with_list};
+ghost use Rattle.tb_pool.specs.Lists.{IsLive, list_at};
 ghost use Rattle.tb_node.specs.Fit.{IsSizedNode};
-ghost use Rattle.tb_column.specs.Page.{AreLeaves};
+ghost use Rattle.tb_column.specs.TextList.{AreLeaves};
 ghost use Rattle.tb_float.specs.Ranges.{IsSizedMargin};
 ghost use Rattle.tb_insert.specs.Arrived.{ClassFits};
-ghost use Rattle.tb_output.specs.State.{foot_class};
-ghost use Rattle.tb_output.specs.Machine.{AreOutputParams, IsLimit, IsMachine, IsFloatless};
+ghost use Rattle.tb_output.specs.Machine.{AreOutputParams, IsLimit};
 
-use crate::{Full, Machine, RunFault, Sent, Sheet, Warn, new_machine};
-use std::alloc::{AllocError, Global};
+use crate::{Full, RunFault, Sent, Sheet, Warn, new_machine};
+use std::alloc::AllocError;
 use std::test::Fail;
 use tb_builder::{Page, new_builder};
 use tb_insert::Class;
-use tb_node::{Act, Area, FOOTNOTES, Float, Kind, Margin, Name, Node, Places, What, name_of};
+use tb_node::{Act, Area, Float, Kind, Margin, Name, Node, Places, What, name_of};
 use tb_param::{Params, defaults};
 use tb_pool::{ListId, Lists};
 use tb_scaled::fixed;
@@ -26,7 +25,7 @@ fn ships_a_page_with_a_footnote(rt: HostRuntime) -> Result<(), Fail> {
     let mut store = Lists::new(rt.alloc());
     let body = text(&mut store)?;
     let notes = text(&mut store)?;
-    let mut machine = made_machine(rt.alloc(), &mut store, &params(1, 25))?;
+    let mut machine = new_machine(rt.alloc(), &mut store, &params(1, 25))?;
     let Ok(turn) = machine.fire_page(&mut store, page(body, -10_000), Some(notes)) else {
         return Err(Fail::from("refused"));
     };
@@ -51,7 +50,7 @@ fn clears_a_page_with_a_footnote(rt: HostRuntime) -> Result<(), Fail> {
     let mut store = Lists::new(rt.alloc());
     let body = text(&mut store)?;
     let notes = text(&mut store)?;
-    let mut machine = made_machine(rt.alloc(), &mut store, &params(1, 25))?;
+    let mut machine = new_machine(rt.alloc(), &mut store, &params(1, 25))?;
     let Ok(turn) = machine.fire_page(&mut store, page(body, -10_001), Some(notes)) else {
         return Err(Fail::from("refused"));
     };
@@ -73,7 +72,7 @@ fn clears_a_page_with_a_footnote(rt: HostRuntime) -> Result<(), Fail> {
 fn clears_a_page(rt: HostRuntime) -> Result<(), Fail> {
     let mut store = Lists::new(rt.alloc());
     let body = text(&mut store)?;
-    let mut machine = made_machine(rt.alloc(), &mut store, &params(1, 25))?;
+    let mut machine = new_machine(rt.alloc(), &mut store, &params(1, 25))?;
     let Ok(turn) = machine.fire_page(&mut store, page(body, -10_001), None) else {
         return Err(Fail::from("refused"));
     };
@@ -87,8 +86,8 @@ fn clears_a_page(rt: HostRuntime) -> Result<(), Fail> {
 fn fires_over_a_builder(rt: HostRuntime) -> Result<(), Fail> {
     let mut store = Lists::new(rt.alloc());
     let body = text(&mut store)?;
-    let mut builder = new_builder(rt.alloc(), &mut store, &[footnotes(&params(1, 25))])?;
-    let mut machine = made_machine(rt.alloc(), &mut store, &params(1, 25))?;
+    let mut builder = new_builder(rt.alloc(), &mut store, &[footnotes()])?;
+    let mut machine = new_machine(rt.alloc(), &mut store, &params(1, 25))?;
     let Ok(turn) = machine.fire(&mut store, &mut builder, page(body, -10_000)) else {
         return Err(Fail::from("refused"));
     };
@@ -111,7 +110,7 @@ fn fires_over_a_builder(rt: HostRuntime) -> Result<(), Fail> {
 fn refuses_at_the_limits(rt: HostRuntime) -> Result<(), Fail> {
     let mut store = Lists::new(rt.alloc());
     let body = text(&mut store)?;
-    let mut machine = made_machine(rt.alloc(), &mut store, &params(0, 25))?;
+    let mut machine = new_machine(rt.alloc(), &mut store, &params(0, 25))?;
     assert!(rt;
         matches!(
             machine.fire_page(&mut store, page(body, -10_000), None),
@@ -120,7 +119,7 @@ fn refuses_at_the_limits(rt: HostRuntime) -> Result<(), Fail> {
     );
     let mut store = Lists::new(rt.alloc());
     let body = text(&mut store)?;
-    let mut machine = made_machine(rt.alloc(), &mut store, &params(1, 0))?;
+    let mut machine = new_machine(rt.alloc(), &mut store, &params(1, 0))?;
     assert!(rt;
         matches!(
             machine.fire_page(&mut store, page(body, -10_000), None),
@@ -135,7 +134,7 @@ fn refuses_at_the_limits(rt: HostRuntime) -> Result<(), Fail> {
 fn takes_a_large_float(rt: HostRuntime) -> Result<(), Fail> {
     let name = name_of(b"F").ok_or("name")?;
     let mut store = Lists::new(rt.alloc());
-    let mut machine = made_machine(rt.alloc(), &mut store, &params(1, 25))?;
+    let mut machine = new_machine(rt.alloc(), &mut store, &params(1, 25))?;
     assert!(rt; machine.act(Act::Take(float(name, 40))).is_ok());
     assert!(rt;
         matches!(
@@ -152,7 +151,7 @@ fn takes_a_large_float(rt: HostRuntime) -> Result<(), Fail> {
 #[test]
 fn changes_columns(rt: HostRuntime) -> Result<(), Fail> {
     let mut store = Lists::new(rt.alloc());
-    let mut machine = made_machine(rt.alloc(), &mut store, &params(1, 25))?;
+    let mut machine = new_machine(rt.alloc(), &mut store, &params(1, 25))?;
     assert!(rt; machine.act(Act::Suppress(Area::Top)).is_ok());
     assert!(rt; machine.suppress.top);
     assert!(rt; machine.act(Act::Columns { two: true }).is_ok());
@@ -223,31 +222,16 @@ fn params(maxpages: i64, maxdeadcycles: i64) -> Params
     }
 }
 
-// A machine whose insertions are footnotes alone.
-fn made_machine(alloc: Global, store: &mut Lists<Node>, p: &Params) -> Result<Machine, AllocError>
-    requires { AreOutputParams p.now }
-    ensures machine { IfOk result (λ m. IsMachine m store.new) }
-    ensures floatless { IfOk result (λ m. IsFloatless m store.new) }
-    ensures params { IfOk result (λ m. m.params ≡ p.now) }
-    ensures events { IfOk result (λ m. m.events ≡ []) }
-    ensures fault { IfOk result (λ m. m.fault ≡ None) }
-    ensures fresh { IfOk result (λ m. get store.old.lists m.held_page ≡ None) }
-    ensures opened { IfOk result (λ m. store.new.lists ≡ with_list store.old m.held_page []) }
-{
-    new_machine(alloc, store, p, &[footnotes(p)])
-}
-
 // The class of the footnotes.
-fn footnotes(p: &Params) -> Class
-    requires { AreOutputParams p.now }
-    ensures class { result ≡ foot_class p.now }
+fn footnotes() -> Class
+    ensures number { result.number ≡ 254 }
     ensures fits { ClassFits result }
 {
     Class {
-        number: FOOTNOTES,
+        number: 254,
         factor: 1000,
-        limit: p.footlimit,
-        skip: p.skipfootins,
+        limit: 8_388_608,
+        skip: fixed(0),
     }
 }
 

@@ -1,3 +1,4 @@
 pub mod Joined
 pub mod CountLemmas
 pub mod PrintLemmas
+pub mod PrintableLemmas

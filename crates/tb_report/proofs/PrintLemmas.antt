@@ -11,7 +11,7 @@ use Rattle.tb_pack.specs.declared.Set.{Set}
 use Rattle.tb_pack.specs.Pack.{top_after}
 use Rattle.tb_pack.specs.Walk.{Walked, walked_past, HasPassed}
 use Rattle.tb_pack.proofs.WalkLemmas.{next_natural_fits, next_glue_fits}
-use Rattle.tb_column.proofs.ShownLemmas.{shapes-held}
+use Rattle.tb_column.proofs.ColumnLemmas.{shapes-held}
 use Rattle.tb_report.specs.Lines.{matter_line, node_line, item_lines}
 
 module _ (held : ℕ → List Node) where

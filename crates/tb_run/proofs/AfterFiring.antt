@@ -61,11 +61,11 @@ thousand = record { low = omega (arith, ints); high = omega (arith, ints) }
 
 module _ (p : Params) (h : AreRunnable p) where
   foot-sized : All IsSizedClass (foot_class p ∷ [])
-  foot-sized = All-cons IsSizedClass (foot_class p) [] (record { factor = refl; width = h.output.columns.skipfootins.width; stretch = h.output.columns.skipfootins.stretch; shrink = h.output.columns.skipfootins.shrink }) (All-nil IsSizedClass)
+  foot-sized = All-cons IsSizedClass (foot_class p) [] (record { factor = refl; width = h.output.skipfootins.width; stretch = h.output.skipfootins.stretch; shrink = h.output.skipfootins.shrink }) (All-nil IsSizedClass)
 
   -- the footnotes' class is a class
   pub foot-fits : ClassesFit (foot_class p ∷ [])
-  foot-fits = (refl, omega arith, record { factor = thousand; stretch = dimension-amount p.skipfootins.stretch h.output.columns.skipfootins.stretch; shrink = dimension-amount p.skipfootins.shrink h.output.columns.skipfootins.shrink }, tt)
+  foot-fits = (refl, omega arith, record { factor = thousand; stretch = dimension-amount p.skipfootins.stretch h.output.skipfootins.stretch; shrink = dimension-amount p.skipfootins.shrink h.output.skipfootins.shrink }, tt)
 
   module _ (waiting : List PlainNode) (page dead : ℕ) (k : AreServable waiting) where
     abbrev s : State
@@ -74,10 +74,10 @@ module _ (p : Params) (h : AreRunnable p) where
     -- all that is added up fits
     pub served-fits : NextFits (between_pages p s) (ask_of p s)
     served-fits = contents_fit (between_pages p s) (ask_of p s) (record {
-      goal = extent-goal p.textheight h.output.columns.floats.textheight;
-      limit = h.output.columns.maxdepth;
-      asked_goal = extent-goal p.textheight h.output.columns.floats.textheight;
-      asked_depth = h.output.columns.maxdepth;
+      goal = extent-goal p.textheight h.output.textheight;
+      limit = h.output.maxdepth;
+      asked_goal = extent-goal p.textheight h.output.textheight;
+      asked_depth = h.output.maxdepth;
       top_skip = h.topskip;
       classes = foot-sized;
       few_classes = omega arith;

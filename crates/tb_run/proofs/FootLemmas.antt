@@ -1,5 +1,5 @@
 -- The list of a footnote.
-use Rattle.std.proofs.Common.{◌≡◌, ◌≢◌, refl, sym, subst, ◌∙◌, ap, ℕ, ◌+◌, ◌<◌, ℤ, true, List, [], ◌∷◌, ◌++◌, length, map, take, get_or, None, Some, append-nil, arith}
+use Rattle.std.proofs.Common.{◌≡◌, refl, sym, subst, ◌∙◌, ap, ℕ, ◌+◌, ◌<◌, ℤ, true, List, [], ◌∷◌, ◌++◌, length, map, take, get_or, None, Some, append-nil, arith}
 use Rattle.std.specs.Prelude.{◌+ℤ◌, ◌-ℤ◌}
 use Rattle.std.specs.FinMap.{get}
 use Rattle.std.proofs.lemmas.Int.{ints}
@@ -21,7 +21,8 @@ use Rattle.tb_builder.specs.Running.{IsSound}
 use Rattle.tb_builder.specs.Handed.{NodesJoin, MayWait, NoPage}
 use Rattle.tb_builder.proofs.FrameLemmas.{live_all_same, frame_owned, frame_contents, frame_sound, insertion_joins, fresh_apart, empty_may_wait}
 use Rattle.tb_builder.proofs.OwnedLemmas.{AllSame, lacks-append}
-use Rattle.tb_builder.proofs.NewLemmas.{fresh_lacks}
+use Rattle.tb_output.proofs.MachineLemmas.{not-new}
+use Rattle.tb_output.proofs.NotesTaking.{opened-stands}
 use Rattle.tb_galley.specs.declared.Leaf.{Leaf}
 use Rattle.tb_galley.specs.declared.LeafKind.{LeafKind}
 use Rattle.tb_galley.specs.declared.LeafKind.TheVariants as leaves
@@ -86,11 +87,8 @@ module _ (b : Builder) (s e t : Lists Node) (l : ℕ) (ls : List Leaf) (can : Ca
   pub foot-live : IsLive t l
   foot-live = live_same e t l (list_at e l ++ leaf_list ls) put
 
-  not-new : (q : ℕ) → IsLive s q → q ≢ l
-  not-new q live x = (fresh_lacks s l (q ∷ []) fresh (live, tt)).0 (sym x)
-
   others-foot : (q : ℕ) → IsLive s q → get t.lists q ≡ get s.lists q
-  others-foot q live = get_other e t l (list_at e l ++ leaf_list ls) q (not-new q live) put ∙ get_other s e l [] q (not-new q live) opened
+  others-foot q live = get_other e t l (list_at e l ++ leaf_list ls) q (λ x. not-new s l q fresh live (sym x)) put ∙ opened-stands b s e l can.sound fresh opened q live
 
   same-foot : AllSame s t (owned (ids_of b) s)
   same-foot = live_all_same s t (owned (ids_of b) s) others-foot can.sound.own.live
@@ -107,14 +105,14 @@ module _ (b : Builder) (s e t : Lists Node) (l : ℕ) (ls : List Leaf) (can : Ca
   foot-apart : Lacks l (owned (ids_of b) t)
   foot-apart = subst (Lacks l) (sym foot-owned) (fresh_apart (ids_of b) s l can.sound.own fresh)
 
-  module _ (line class : ℕ) (i : Insertion) (class-is : i.class ≡ class) (list : i.list ≡ l) (known : has_class (contents_of b s).classes class ≡ true) where
+  module _ (line : ℕ) (i : Insertion) (class : i.class ≡ 254) (list : i.list ≡ l) where
     abbrev n : Node
     n = record { line = line; kind = kinds.Ins i }
 
     pub foot-joins : NodesJoin (ids_of b) t (n ∷ [])
     foot-joins =
         insertion_joins (ids_of b) t n l foot-sound.own (ap (λ x. Some x) list) foot-live foot-apart (subst AllPlain (sym foot-list) (list-plain ls))
-        (ap (has_class (classes_of (ids_of b))) class-is ∙ known)
+        (ap (has_class (classes_of (ids_of b))) class ∙ can.known)
 
     pub foot-may : MayWait (contents_of b t) (plain_of (list_at t) n)
     foot-may = empty_may_wait (contents_of b t) (plain_of (list_at t) n) (subst NoPage (sym foot-contents) can.empty)
@@ -126,19 +124,19 @@ module _ (b : Builder) (s e t : Lists Node) (l : ℕ) (ls : List Leaf) (can : Ca
       height-is : i.height ≡ size_of (map leaf_shape (map plain_leaf ls))
       height-is = height ∙ ap (λ ns. size_of (map shape_of ns)) foot-list ∙ ap size_of (list-shapes ls)
 
-      foot-is : plain_of (list_at t) n ∷ [] ≡ on_line line (foot_insertion p class (map plain_leaf ls) ∷ [])
+      foot-is : plain_of (list_at t) n ∷ [] ≡ on_line line (foot_insertion p 254 (map plain_leaf ls) ∷ [])
       foot-is = λ j. record {
         line = line;
-        kind = ins (record { class = class-is j; inner = inner-is j; height = height-is j; split_depth = depth j; split_top = top j; floating = floating j });
+        kind = ins (record { class = class j; inner = inner-is j; height = height-is j; split_depth = depth j; split_top = top j; floating = floating j });
       } ∷ []
 
       pub foot-waits : (d : Builder) (u : Lists Node) → IsSound d u → contents_of d u ≡ record (contents_of b t) { waiting = (contents_of b t).waiting ++ plain_of (list_at t) n ∷ [] }
           → ((q : ℕ) → Lacks q (owned (ids_of b) t) → get u.lists q ≡ get t.lists q) → ((q : ℕ) → Lacks q (owned (ids_of b) t ++ inner_ids (n ∷ [])) → Lacks q (owned (ids_of d) u))
-          → Waits (on_line line (foot_insertion p class (map plain_leaf ls) ∷ [])) b s d u
+          → Waits (on_line line (foot_insertion p 254 (map plain_leaf ls) ∷ [])) b s d u
       foot-waits d u sound contents others keeps = record {
         sound = sound;
         contents = contents ∙ (λ j. record (foot-contents j) { waiting = (foot-contents j).waiting ++ foot-is j });
         others = λ q live apart. others q (subst (Lacks q) (sym foot-owned) apart) ∙ others-foot q live;
         apart = λ q live apart.
-            keeps q (lacks-append q (owned (ids_of b) t) (inner_ids (n ∷ [])) (subst (Lacks q) (sym foot-owned) apart) ((λ x. not-new q live (x ∙ list)), tt));
+            keeps q (lacks-append q (owned (ids_of b) t) (inner_ids (n ∷ [])) (subst (Lacks q) (sym foot-owned) apart) ((λ x. not-new s l q fresh live (sym (x ∙ list))), tt));
       }

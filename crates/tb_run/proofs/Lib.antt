@@ -11,8 +11,3 @@ pub mod FootLemmas
 pub mod ItemLemmas
 pub mod BeginLemmas
 pub mod ServedItems
-pub mod GalleyItems
-pub mod GalleyClasses
-pub mod ItemAmounts
-pub mod GalleyNodeLemmas
-pub mod CountedLemmas

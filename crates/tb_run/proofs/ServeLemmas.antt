@@ -16,7 +16,7 @@ use Rattle.tb_builder.specs.Contents.{Contents, node_count, box_count}
 use Rattle.tb_builder.specs.Owned.{inner_of, inner_ids}
 use Rattle.tb_builder.specs.Handed.{NoPage}
 use Rattle.tb_builder.proofs.StoreSized.{list-back, list-length}
-use Rattle.tb_column.specs.Page.{is_leaf_kind, AreLeaves}
+use Rattle.tb_column.specs.TextList.{is_leaf_kind, AreLeaves}
 use Rattle.tb_output.specs.declared.RunFault.{RunFault}
 use Rattle.tb_output.specs.Out.{clear_penalty}
 use Rattle.tb_output.specs.Serving.{notes_held, HasOnlyNotes, CanFire}
@@ -80,7 +80,7 @@ module _ (p : Params) (r q : Routine) (page : Page) (h : IsFiring p r page q) wh
   body-count : length (list_at q.store page.body) ≤ node_count f.body
   body-count = let a = list-length q.store page.body in let b = ap node_count h.page_is.body in omega (arith, a, b)
 
-  few-nodes : length (list_at q.store page.body) + length (content_of (notes_held q.builder q.store)) ≤ 8355839
+  few-nodes : length (list_at q.store page.body) + length (content_of (notes_held q.builder q.store)) ≤ 8388602
   few-nodes =
       let a = body-count in let b = notes-count in let c = h.served.few in let d = h.few in
       let e = ap (λ o. length (content_of o)) notes-are in

@@ -1,5 +1,5 @@
 -- A turn of the routine is a step of the run.
-use Rattle.std.proofs.Common.{◌≡◌, length, refl, sym, subst, ◌∙◌, ap, ℕ, zero, suc, ◌+◌, ◌-◌, ◌≤◌, ℤ, pos, Bool, true, false, List, [], ◌++◌, Option, None, Some, append_assoc, arith}
+use Rattle.std.proofs.Common.{◌≡◌, length, refl, sym, subst, ◌∙◌, ap, ℕ, zero, suc, ◌+◌, ◌-◌, ◌≤◌, ℤ, pos, Bool, true, false, List, [], ◌∷◌, ◌++◌, Option, None, Some, append_assoc, arith}
 use Rattle.std.specs.Prelude.{All, if◌then◌else◌, int_lt, pred, IfNone, ◌≤ℤ◌, ◌<ℤ◌}
 use Rattle.std.proofs.lemmas.Int.{ints}
 use Rattle.std.proofs.lemmas.Bool.{true≢false}
@@ -20,7 +20,7 @@ use Rattle.tb_output.specs.declared.Turn.{Turn}
 use Rattle.tb_output.proofs.WholeFiring.{waits-after}
 use Rattle.tb_output.specs.declared.RunFault.{RunFault}
 use Rattle.tb_output.specs.declared.RunFault.TheVariants as faults
-use Rattle.tb_output.specs.State.{State, Work}
+use Rattle.tb_output.specs.State.{State, foot_class, Work}
 use Rattle.tb_output.specs.Out.{out}
 use Rattle.tb_output.specs.Machine.{MachineView, state_shown, events_shown, machine_lists, IsMachine, IsFloatless}
 use Rattle.tb_output.specs.Firing.{foot_box, AtPageLimit, IsRefusal}
@@ -33,7 +33,7 @@ use Rattle.tb_run.specs.PlainRun.{Shown, last, next, step_shown, plain_state}
 use Rattle.tb_run.specs.PageMade.{work_shown}
 use Rattle.tb_run.specs.Servable.{AreTame, AreRunnable, IsServedWork, IsCounted}
 use Rattle.tb_run.specs.Turning.{held_in, state_of, IsWhole, IsBounded, IsSettled, IsReady, after_page_fired, IsFiring, ending_shown, shown_by, turn_shown, over_limit}
-use Rattle.tb_run.proofs.WholeLemmas.{state-bare, state-plain, whole-classes, whole-bounded, few-within}
+use Rattle.tb_run.proofs.WholeLemmas.{state-bare, state-plain, whole-bounded, few-within}
 use Rattle.tb_run.proofs.AfterFiring.{served-work, counted-work}
 
 if-counted : {A : Type 0} (o : Option Ending) → A → IfNone o A
@@ -43,9 +43,6 @@ if-counted (Some e) a = tt
 -- what waits is held
 waits-held : (s : State) → node_count s.waiting ≤ held_count s
 waits-held s = omega arith
-
-below-test : (n : ℕ) (z : ℤ) → pos n <ℤ z → int_lt (pos n) z ≡ true
-below-test n z h = grind (arith, ints, h)
 
 pred-minus : (n : ℕ) → n - 1 ≡ pred n
 pred-minus zero = refl
@@ -120,7 +117,10 @@ module _ (p : Params) (r q : Routine) (page : Page) (runs : AreRunnable p) (read
   else-shown false x y e = refl
 
   alive-test : pos q.machine.dead_cycles <ℤ q.machine.params.maxdeadcycles → int_lt (pos (state_of r).dead_cycles) p.maxdeadcycles ≡ true
-  alive-test a = below-test r.machine.dead_cycles p.maxdeadcycles (subst (λ (z : ℤ). pos r.machine.dead_cycles <ℤ z) (ap (λ (x : Params). x.maxdeadcycles) params-are) (subst (λ (v : MachineView). pos v.dead_cycles <ℤ q.machine.params.maxdeadcycles) h.machine a))
+  alive-test a = test (subst (λ (z : ℤ). pos r.machine.dead_cycles <ℤ z) (ap (λ (x : Params). x.maxdeadcycles) params-are) (subst (λ (v : MachineView). pos v.dead_cycles <ℤ q.machine.params.maxdeadcycles) h.machine a))
+    where
+      test : pos r.machine.dead_cycles <ℤ p.maxdeadcycles → int_lt (pos r.machine.dead_cycles) p.maxdeadcycles ≡ true
+      test b = grind (arith, ints, b)
 
   -- where the firing was allowed, the step shows its work
   fires : pos q.machine.dead_cycles <ℤ q.machine.params.maxdeadcycles → step_shown (step p (state_of r)) ≡ work_shown p w
@@ -163,7 +163,7 @@ module _ (p : Params) (r q : Routine) (page : Page) (runs : AreRunnable p) (read
       pub after-whole : IsWhole now.params after
       after-whole = record { builder = sound; machine = machine; floatless = floatless; params = refl; fault = fault; apart = free }
 
-      after-holds : held_in after ≡ after_page_fired (state_of r).classes (record f { boxes = foot_box None })
+      after-holds : held_in after ≡ after_page_fired p (record f { boxes = foot_box None })
       after-holds = holds ∙ ap (λ (c : Contents). record c { boxes = foot_box None }) h.contents
 
       works : IsFired turn q.machine now b q.store store w
@@ -177,7 +177,7 @@ module _ (p : Params) (r q : Routine) (page : Page) (runs : AreRunnable p) (read
       module _ (last_q : Routine) (whole : IsWhole last_q.machine.params last_q)
           (contents : held_in last_q ≡ record (held_in after) { waiting = (held_in after).held ++ (back_nodes ++ (held_in after).waiting); held = [] })
           (machine_same : last_q.machine ≡ now) (events_same : events_shown last_q.store last_q.machine.events ≡ events_shown store now.events) where
-        left : held_in last_q ≡ record { classes = (state_of r).classes; boxes = foot_box None; page = []; waiting = f.held ++ (back_nodes ++ f.rest); held = []; frozen = None; stopped = false }
+        left : held_in last_q ≡ record { classes = foot_class p ∷ []; boxes = foot_box None; page = []; waiting = f.held ++ (back_nodes ++ f.rest); held = []; frozen = None; stopped = false }
         left = contents ∙ ap (λ (c : Contents). record c { waiting = c.held ++ (back_nodes ++ c.waiting); held = [] }) after-holds
 
         boxes-are : (held_in last_q).boxes ≡ foot_box None
@@ -261,13 +261,10 @@ module _ (p : Params) (r q : Routine) (page : Page) (runs : AreRunnable p) (read
           pub end-one : length end.machine.events ≤ 1
           end-one = subst (λ x. length x.machine.events ≤ 1) (sym same_end) after-one
 
-          last-whole : IsWhole p last_q
-          last-whole = subst (λ z. IsWhole z last_q) (ap (λ (v : MachineView). v.params) machine_same ∙ params ∙ params-are) whole
-
           last-settled : IsBounded 4194304 (record last_q { most = end.most }) → IsSettled p (record last_q { most = end.most })
           last-settled bounded = record {
-            whole = whole-bounded p last_q end.most last-whole;
-            between = left ∙ (λ i. record { classes = (whole-classes p r ready.settled.whole ∙ sym (whole-classes p last_q last-whole)) i; boxes = sym boxes-are i; page = []; waiting = sym (ap (λ (c : Contents). c.waiting) left) i; held = []; frozen = None; stopped = false });
+            whole = whole-bounded p last_q end.most (subst (λ z. IsWhole z last_q) (ap (λ (v : MachineView). v.params) machine_same ∙ params ∙ params-are) whole);
+            between = left ∙ (λ i. record { classes = foot_class (sym (subst (λ z. IsWhole z last_q) (ap (λ (v : MachineView). v.params) machine_same ∙ params ∙ params-are) whole).params i) ∷ []; boxes = sym boxes-are i; page = []; waiting = sym (ap (λ (c : Contents). c.waiting) left) i; held = []; frozen = None; stopped = false });
             boxes = boxes-are;
             waiting = record {
               sized = subst (All IsSizedOnPage) (sym waiting-served) work.sized;

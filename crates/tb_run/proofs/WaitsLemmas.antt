@@ -1,5 +1,5 @@
 -- Nodes are handed to the page builder.
-use Rattle.std.proofs.Common.{◌≡◌, refl, sym, subst, ◌∙◌, ap, ℕ, true, List, [], ◌∷◌, ◌++◌, None, IsSome, is_some, append_assoc, append-nil}
+use Rattle.std.proofs.Common.{◌≡◌, refl, sym, subst, ◌∙◌, ap, ℕ, true, List, [], ◌∷◌, ◌++◌, None, IsSome, append_assoc, append-nil}
 use Rattle.std.specs.Prelude.{option_to_list, Result, Ok, Err, OnOk}
 use Rattle.std.specs.FinMap.{get}
 use Rattle.std.proofs.lemmas.Bool.{true≢false}
@@ -11,7 +11,7 @@ use Rattle.tb_node.specs.Plain.{PlainNode, plain_kind, plain_of}
 use Rattle.tb_insert.specs.declared.Class.{Class}
 use Rattle.tb_builder.specs.declared.Builder.{Builder}
 use Rattle.tb_builder.specs.Contents.{Contents, contents_of}
-use Rattle.tb_builder.specs.Owned.{Lacks, inner_of, inner_ids, ids_of, owned, is_known, classes_of}
+use Rattle.tb_builder.specs.Owned.{Lacks, has_class, inner_of, inner_ids, ids_of, owned, is_plain, is_known, classes_of}
 use Rattle.tb_builder.specs.Running.{IsSound}
 use Rattle.tb_builder.specs.Handed.{NodesJoin, MayWait}
 use Rattle.tb_builder.proofs.FrameLemmas.{plain_joins, empty_may_wait}
@@ -22,6 +22,7 @@ pub waits-can : (ns : List PlainNode) (b : Builder) (s : Lists Node) (d : Builde
 waits-can ns b s d t h w = record {
   sound = w.sound;
   empty = record { page = ap (λ (c : Contents). c.page) w.contents ∙ h.empty.page; frozen = ap (λ (c : Contents). c.frozen) w.contents ∙ h.empty.frozen };
+  known = ap (λ (c : Contents). has_class c.classes 254) w.contents ∙ h.known;
 }
 
 -- one after the other
@@ -46,36 +47,48 @@ waits-nothing b s h = record {
 
 -- ---- one node
 
-lone-known : (cs : List Class) (k : Kind) → inner_of k ≡ None → is_known cs k ≡ true
-lone-known cs (kinds.Hbox what h d) e = refl
-lone-known cs (kinds.Rule name h d) e = refl
-lone-known cs (kinds.Skip g) e = refl
-lone-known cs (kinds.Kern w) e = refl
-lone-known cs (kinds.Pen p) e = refl
-lone-known cs (kinds.Mark name) e = refl
-lone-known cs (kinds.Note name) e = refl
-lone-known cs kinds.Whatsit e = refl
-lone-known cs (kinds.Ins i) e = absurd (true≢false (ap is_some e))
-lone-known cs (kinds.Act a) e = refl
+plain-inner : (k : Kind) → is_plain k ≡ true → inner_of k ≡ None
+plain-inner (kinds.Hbox what h d) e = refl
+plain-inner (kinds.Rule name h d) e = refl
+plain-inner (kinds.Skip g) e = refl
+plain-inner (kinds.Kern w) e = refl
+plain-inner (kinds.Pen p) e = refl
+plain-inner (kinds.Mark name) e = refl
+plain-inner (kinds.Note name) e = refl
+plain-inner kinds.Whatsit e = refl
+plain-inner (kinds.Ins i) e = absurd (true≢false (sym e))
+plain-inner (kinds.Act a) e = refl
 
-lone-alone : (held : ℕ → List Node) (k : Kind) → inner_of k ≡ None → plain_kind held k ≡ plain_kind (λ l. []) k
-lone-alone held (kinds.Hbox what h d) e = refl
-lone-alone held (kinds.Rule name h d) e = refl
-lone-alone held (kinds.Skip g) e = refl
-lone-alone held (kinds.Kern w) e = refl
-lone-alone held (kinds.Pen p) e = refl
-lone-alone held (kinds.Mark name) e = refl
-lone-alone held (kinds.Note name) e = refl
-lone-alone held kinds.Whatsit e = refl
-lone-alone held (kinds.Ins i) e = absurd (true≢false (ap is_some e))
-lone-alone held (kinds.Act a) e = refl
+plain-known : (cs : List Class) (k : Kind) → is_plain k ≡ true → is_known cs k ≡ true
+plain-known cs (kinds.Hbox what h d) e = refl
+plain-known cs (kinds.Rule name h d) e = refl
+plain-known cs (kinds.Skip g) e = refl
+plain-known cs (kinds.Kern w) e = refl
+plain-known cs (kinds.Pen p) e = refl
+plain-known cs (kinds.Mark name) e = refl
+plain-known cs (kinds.Note name) e = refl
+plain-known cs kinds.Whatsit e = refl
+plain-known cs (kinds.Ins i) e = absurd (true≢false (sym e))
+plain-known cs (kinds.Act a) e = refl
 
-module _ (b : Builder) (s : Lists Node) (line : ℕ) (k : Kind) (h : CanTake b s) (e : inner_of k ≡ None) where
+plain-alone : (held : ℕ → List Node) (k : Kind) → is_plain k ≡ true → plain_kind held k ≡ plain_kind (λ l. []) k
+plain-alone held (kinds.Hbox what h d) e = refl
+plain-alone held (kinds.Rule name h d) e = refl
+plain-alone held (kinds.Skip g) e = refl
+plain-alone held (kinds.Kern w) e = refl
+plain-alone held (kinds.Pen p) e = refl
+plain-alone held (kinds.Mark name) e = refl
+plain-alone held (kinds.Note name) e = refl
+plain-alone held kinds.Whatsit e = refl
+plain-alone held (kinds.Ins i) e = absurd (true≢false (sym e))
+plain-alone held (kinds.Act a) e = refl
+
+module _ (b : Builder) (s : Lists Node) (line : ℕ) (k : Kind) (h : CanTake b s) (e : is_plain k ≡ true) where
   abbrev n : Node
   n = record { line = line; kind = k }
 
   pub lone-joins : NodesJoin (ids_of b) s (n ∷ [])
-  lone-joins = plain_joins (ids_of b) s n h.sound.own e (lone-known (classes_of (ids_of b)) k e)
+  lone-joins = plain_joins (ids_of b) s n h.sound.own (plain-inner k e) (plain-known (classes_of (ids_of b)) k e)
 
   pub lone-may : MayWait (contents_of b s) (plain_of (list_at s) n)
   lone-may = empty_may_wait (contents_of b s) (plain_of (list_at s) n) h.empty
@@ -84,13 +97,13 @@ module _ (b : Builder) (s : Lists Node) (line : ℕ) (k : Kind) (h : CanTake b s
       → ((q : ℕ) → Lacks q (owned (ids_of b) s) → get t.lists q ≡ get s.lists q) → ((q : ℕ) → Lacks q (owned (ids_of b) s ++ inner_ids (n ∷ [])) → Lacks q (owned (ids_of d) t)) → Waits (lone line k ∷ []) b s d t
   lone-waits d t sound contents others keeps = record {
     sound = sound;
-    contents = contents ∙ ap (λ x. record (contents_of b s) { waiting = (contents_of b s).waiting ++ record { line = line; kind = x } ∷ [] }) (lone-alone (list_at s) k e);
+    contents = contents ∙ ap (λ x. record (contents_of b s) { waiting = (contents_of b s).waiting ++ record { line = line; kind = x } ∷ [] }) (plain-alone (list_at s) k e);
     others = λ q live apart. others q apart;
     apart = λ q live apart. keeps q (subst (λ xs. Lacks q (owned (ids_of b) s ++ xs)) (sym none) (subst (Lacks q) (sym (append-nil (owned (ids_of b) s))) apart));
   }
     where
       none : inner_ids (n ∷ []) ≡ []
-      none = ap (λ o. option_to_list o ++ []) e
+      none = ap (λ o. option_to_list o ++ []) (plain-inner k e)
 
 -- the same under an answer
 pub on-ok : {T E : Type 0} {A B : Type 0} (r : Result T E) → (A → B) → OnOk r A → OnOk r B

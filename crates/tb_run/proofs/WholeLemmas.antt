@@ -51,10 +51,6 @@ state-plain p r h =
     state-bare r.machine r.store (held_in r).boxes (held_in r).waiting h.whole.floatless h.boxes
     ∙ ap (λ q. plain_state q (held_in r).waiting r.machine.page r.machine.dead_cycles) h.whole.params
 
--- the footnotes' class is the only one
-pub whole-classes : (p : Params) (r : Routine) → IsWhole p r → r.machine.classes ≡ foot_class p ∷ []
-whole-classes p r h = h.floatless.classes ∙ ap (λ (q : Params). foot_class q ∷ []) h.params
-
 -- it is whole whatever is said of the most that is held
 pub whole-bounded : (p : Params) (r : Routine) (most : ℕ) → IsWhole p r → IsWhole p (record r { most = most })
 whole-bounded p r most h = record { builder = h.builder; machine = h.machine; floatless = h.floatless; params = h.params; fault = h.fault; apart = h.apart }
@@ -253,7 +249,7 @@ module _ (p : Params) (r : Routine) (ts : List Try) (q d : Routine) (ask : Ask) 
         let whole : (held_in q).page ++ (held_in q).waiting ≡ pruned_nodes p.topskip (held_in r).waiting = v.both in
         let n = laid-few p runs (held_in r).waiting r.machine.page r.machine.dead_cycles w in
         let e = ap node_count whole in
-        served-page (node_count (held_in r).waiting) p (held_in q) (ask_of p (state_of r)) runs (v.same.classes ∙ whole-classes p r ready.settled.whole) (v.same.boxes ∙ ready.settled.boxes)
+        served-page (node_count (held_in r).waiting) p (held_in q) (ask_of p (state_of r)) runs (v.same.classes ∙ ap (λ (x : Params). foot_class x ∷ []) ready.settled.whole.params) (v.same.boxes ∙ ready.settled.boxes)
         (subst (All IsSizedOnPage) (sym whole) (laid-sized p runs (held_in r).waiting r.machine.page r.machine.dead_cycles w)) (omega (arith, n, e))
         (subst IsTamePage (sym (fired-same p (state_of r) h.filled.events h.filled.records (state_of r) (held_in q) v))
         (subst (λ s. IsTamePage (fired_of (ask_of p s) s.classes s.boxes (page_reach p s))) (sym (state-plain p r ready.settled)) (tame-page p runs (held_in r).waiting r.machine.page r.machine.dead_cycles w)))
@@ -271,7 +267,7 @@ module _ (p : Params) (r : Routine) (ts : List Try) (q d : Routine) (ask : Ask) 
           served = fired-served o;
           few = ready.settled.waiting.few;
           page_is = n.page;
-          contents = n.after ∙ (λ i. record { classes = v.same.classes i; boxes = f.boxes; page = []; waiting = f.rest; held = f.held; frozen = None; stopped = false });
+          contents = n.after ∙ (λ i. record { classes = (v.same.classes ∙ ap (λ (x : Params). foot_class x ∷ []) ready.settled.whole.params) i; boxes = f.boxes; page = []; waiting = f.rest; held = f.held; frozen = None; stopped = false });
           whole = filled-whole p r ts q d ready h k sound m;
           machine = same;
           body = subst (λ (w : MachineView). IsNotAmong page.body (machine_lists w)) (sym same)

@@ -8,7 +8,6 @@ use Rattle.tb_node.specs.declared.Kind.TheVariants as kinds
 use Rattle.tb_node.specs.declared.Node.{Node}
 use Rattle.tb_node.specs.Fit.{IsSizedNode}
 use Rattle.tb_node.specs.Plain.{PlainNode, plain_of}
-use Rattle.tb_insert.specs.declared.Class.{Class}
 use Rattle.tb_galley.specs.declared.Leaf.{Leaf}
 use Rattle.tb_galley.specs.declared.LeafKind.{LeafKind}
 use Rattle.tb_galley.specs.declared.LeafKind.TheVariants as leaves
@@ -21,10 +20,11 @@ use Rattle.tb_builder.specs.Owned.{Lacks, has_class, ids_of, owned}
 use Rattle.tb_builder.specs.Running.{IsSound}
 use Rattle.tb_builder.specs.Handed.{NoPage}
 
--- the builder has no page
+-- the builder has no page, and a class for footnotes
 pub record CanTake (b : Builder) (s : Lists Node) : Type 0 where
   pub sound : IsSound b s
   pub empty : NoPage (contents_of b s)
+  pub known : has_class (contents_of b s).classes 254 ≡ true
 
 -- these nodes wait behind those that waited; lists that were not the builder's stand and are not its own
 pub record Waits (ns : List PlainNode) (b : Builder) (s : Lists Node) (d : Builder) (t : Lists Node) : Type 0 where
@@ -53,11 +53,26 @@ leaf_list ls = map (λ l. record { line = l.line; kind = leaf_kind l.kind }) ls
 
 -- ---- items
 
--- the class of a footnote is one of these, and its nodes are sized and not too many
-abbrev pub IsItem : List Class → ItemKind → Type 0
-IsItem cs (items.Foot class ls) = (has_class cs class ≡ true) × All IsSizedNode (leaf_list ls) × (length (leaf_list ls) ≤ 8388608)
-IsItem cs _ = Unit {0}
+-- an item that is served; a footnote has sized nodes, and not too many
+abbrev pub IsServedItem : ItemKind → Type 0
+IsServedItem (items.Hbox name h d) = Unit {0}
+IsServedItem (items.Rule name h d) = Unit {0}
+IsServedItem (items.Skip g) = Unit {0}
+IsServedItem (items.Kern w) = Unit {0}
+IsServedItem (items.Penalty q) = Unit {0}
+IsServedItem (items.Mark name) = Unit {0}
+IsServedItem (items.Note name) = Unit {0}
+IsServedItem (items.Foot class ls) = (class ≡ 254) × All IsSizedNode (leaf_list ls) × (length (leaf_list ls) ≤ 8388608)
+IsServedItem (items.Float f vert) = ⊥
+IsServedItem (items.Margin m vert) = ⊥
+IsServedItem items.NewPage = Unit {0}
+IsServedItem items.ClearPage = Unit {0}
+IsServedItem (items.PageBreak n) = Unit {0}
+IsServedItem (items.NoPageBreak n) = Unit {0}
+IsServedItem items.OneColumn = ⊥
+IsServedItem items.TwoColumn = ⊥
+IsServedItem (items.Suppress area) = ⊥
 
 -- the same of each item
-abbrev pub AreItems : List Class → List Item → Type 0
-AreItems cs = All (λ n. IsItem cs n.kind)
+abbrev pub AreItems : List Item → Type 0
+AreItems = All (λ n. IsServedItem n.kind)

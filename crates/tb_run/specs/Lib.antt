@@ -4,4 +4,3 @@ pub mod PageMade
 pub mod Servable
 pub mod Turning
 pub mod Expanding
-pub mod GalleyNodes

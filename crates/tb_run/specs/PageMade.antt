@@ -1,5 +1,5 @@
 -- A page that is filled over a page builder, as a step of the run.
-use Rattle.std.specs.Prelude.{◌≡◌, ℕ, ◌+◌, pred, pos, Bool, true, false, List, [], ◌++◌, map, length, None, int_lt, if◌then◌else◌}
+use Rattle.std.specs.Prelude.{◌≡◌, ℕ, ◌+◌, pred, pos, Bool, true, false, List, [], ◌∷◌, ◌++◌, map, length, None, int_lt, if◌then◌else◌}
 use Rattle.tb_scaled.specs.Scaled.{awful_bad}
 use Rattle.tb_param.specs.declared.Params.{Params}
 use Rattle.tb_break.specs.Best.{least_cost}

@@ -4,7 +4,6 @@ use Rattle.std.specs.List.{AllByRecursion}
 use Rattle.tb_pool.specs.Lists.{Lists, IsLive, list_at}
 use Rattle.tb_node.specs.declared.Node.{Node}
 use Rattle.tb_param.specs.declared.Params.{Params}
-use Rattle.tb_insert.specs.declared.Class.{Class}
 use Rattle.tb_builder.specs.declared.Try.{Try}
 use Rattle.tb_builder.specs.declared.Page.{Page}
 use Rattle.tb_builder.specs.Contents.{Contents, contents_of, node_count}
@@ -15,7 +14,7 @@ use Rattle.tb_builder.specs.Fired.{Fired}
 use Rattle.tb_column.specs.declared.Sent.{Sent}
 use Rattle.tb_column.specs.Column.{PlainSent}
 use Rattle.tb_column.specs.Shown.{sent_shown}
-use Rattle.tb_output.specs.State.{State}
+use Rattle.tb_output.specs.State.{State, foot_class}
 use Rattle.tb_output.specs.Machine.{state_shown, events_shown, sent_lists, machine_lists, IsNotAmong, AreDistinct, IsPageSent, IsMachine, IsFloatless}
 use Rattle.tb_output.specs.Firing.{foot_box}
 use Rattle.tb_run.specs.declared.routine.Routine.{Routine}
@@ -69,8 +68,8 @@ pub record IsReady (p : Params) (r : Routine) : Type 0 where
 -- ---- a page is filled
 
 -- the page that fired, after which this waits and is held
-abbrev pub after_page_fired : List Class → Fired → Contents
-after_page_fired cs f = record { classes = cs; boxes = f.boxes; page = []; waiting = f.rest; held = f.held; frozen = None; stopped = false }
+abbrev pub after_page_fired : Params → Fired → Contents
+after_page_fired p f = record { classes = foot_class p ∷ []; boxes = f.boxes; page = []; waiting = f.rest; held = f.held; frozen = None; stopped = false }
 
 -- a page fires: that of the step of the run
 pub record IsFiring (p : Params) (r : Routine) (page : Page) (q : Routine) : Type 0 where
@@ -79,7 +78,7 @@ pub record IsFiring (p : Params) (r : Routine) (page : Page) (q : Routine) : Typ
   pub served : IsServedPage (node_count (held_in r).waiting) fired
   pub few : node_count (held_in r).waiting ≤ 4194304
   pub page_is : PageIs page fired q.store
-  pub contents : held_in q ≡ after_page_fired (state_of r).classes fired
+  pub contents : held_in q ≡ after_page_fired p fired
   pub whole : IsWhole p q
   pub machine : q.machine ≡ r.machine
   pub body : IsNotAmong page.body (machine_lists q.machine)

@@ -1,43 +1,37 @@
 //! The nodes of a galley's items, as they wait at the page builder.
 
-ghost use Rattle.std.specs.Prelude.{◌≡◌, ◌≤◌, ◌∷◌, ◌++◌, ◌+ℤ◌, [], true, false, pos, neg_ℤ, map, length, Some, None, All, OnOk};
+ghost use Rattle.std.specs.Prelude.{◌≡◌, ◌≤◌, ◌∷◌, ◌++◌, ◌+ℤ◌, [], true, pos, neg_ℤ, map, length, Some, All, OnOk};
 ghost use Rattle.tb_pool.specs.Lists.{IsLive, list_at, with_list};
 ghost use Rattle.tb_node.specs.Small.{IsAmount};
 ghost use Rattle.tb_node.specs.Fit.{shapes, IsSizedNode};
 ghost use Rattle.tb_node.specs.Sums.{size_of};
-ghost use Rattle.tb_node.specs.Plain.{act, on_line, newpage_kinds, clearpage_kinds};
-ghost use Rattle.tb_builder.specs.Contents.{contents_of};
-ghost use Rattle.tb_builder.specs.Owned.{has_class, inner_of};
-ghost use Rattle.tb_galley.specs.Expand.{break_strength, plain_leaf, foot_insertion, with_firings, float_kinds, item_kinds, two_after, item_nodes, expanded};
-ghost use Rattle.tb_run.specs.Expanding.{CanTake, Waits, lone, leaf_kind, leaf_list, IsItem, AreItems};
+ghost use Rattle.tb_node.specs.Plain.{on_line, newpage_kinds, clearpage_kinds};
+ghost use Rattle.tb_builder.specs.Owned.{is_plain};
+ghost use Rattle.tb_galley.specs.Expand.{break_strength, plain_leaf, foot_insertion, item_kinds, item_nodes, expanded};
+ghost use Rattle.tb_run.specs.Expanding.{CanTake, Waits, lone, leaf_kind, leaf_list, IsServedItem, AreItems};
 
 use std::alloc::AllocError;
 use tb_builder::Builder;
 use tb_galley::{Galley, Item, ItemKind, Leaf, LeafKind};
-use tb_node::{
-    Act, CLEAR_PENALTY, Float, HOLD_PENALTY, Insertion, Kind, Name, Node, PAR_PENALTY,
-    VERT_PENALTY, What, list_sums,
-};
+use tb_node::{Insertion, Kind, Name, Node, What, list_sums};
 use tb_param::Params;
 use tb_pool::{ListId, Lists};
-use tb_scaled::{EJECT_PENALTY, INF_PENALTY, filling_glue};
+use tb_scaled::filling_glue;
 
-/// Hands over the nodes of a galley: those of its items in order, and those of a clear with the line of its end. The page
-/// is empty, and the builder has the class of each footnote.
+/// Hands over the nodes of a galley: those of its items in order, and those of a clear with the line of its end.
 pub(crate) fn expand(
     store: &mut Lists<Node>,
     builder: &mut Builder,
     galley: &Galley,
 ) -> Result<(), AllocError>
     requires can { CanTake builder.old store.old }
-    requires items { AreItems (contents_of builder.old store.old).classes galley.now.items }
+    requires items { AreItems galley.now.items }
     ensures { OnOk result (Waits (expanded galley.now) builder.old store.old builder.new store.new) }
 {
     expand_items(store, builder, &galley.params, galley.items.as_slice())?;
     put_clear(store, builder, galley.end_line)
 }
 
-// A galley begins in one column.
 fn expand_items(
     store: &mut Lists<Node>,
     builder: &mut Builder,
@@ -45,40 +39,26 @@ fn expand_items(
     items: &[Item],
 ) -> Result<(), AllocError>
     requires can { CanTake builder.old store.old }
-    requires items { AreItems (contents_of builder.old store.old).classes items.now }
-    ensures { OnOk result (Waits (item_nodes p.now false items.now) builder.old store.old builder.new store.new) }
+    requires items { AreItems items.now }
+    ensures { OnOk result (Waits (item_nodes p.now items.now) builder.old store.old builder.new store.new) }
 {
-    let mut two = false;
     for item in items {
-        put_item(store, builder, p, two, item.line, &item.kind)?;
-        two = two_after(two, &item.kind);
+        put_item(store, builder, p, item.line, &item.kind)?;
     }
     Ok(())
 }
 
-// Whether there are two columns after an item.
-fn two_after(two: bool, kind: &ItemKind) -> bool
-    ensures { result ≡ two_after two kind.now }
-{
-    match kind {
-        ItemKind::OneColumn => false,
-        ItemKind::TwoColumn => true,
-        _ => two,
-    }
-}
-
-// Hands over the nodes of an item; `two` says whether there are two columns before it.
+// Hands over the nodes of an item.
 fn put_item(
     store: &mut Lists<Node>,
     builder: &mut Builder,
     p: &Params,
-    two: bool,
     line: u32,
     kind: &ItemKind,
 ) -> Result<(), AllocError>
     requires can { CanTake builder.old store.old }
-    requires item { IsItem (contents_of builder.old store.old).classes kind.now }
-    ensures { OnOk result (Waits (on_line line (item_kinds p.now two kind.now)) builder.old store.old builder.new store.new) }
+    requires item { IsServedItem kind.now }
+    ensures { OnOk result (Waits (on_line line (item_kinds p.now kind.now)) builder.old store.old builder.new store.new) }
 {
     match kind {
         ItemKind::Hbox {
@@ -96,13 +76,7 @@ fn put_item(
         ItemKind::Penalty(penalty) => put(store, builder, line, Kind::Pen(*penalty)),
         ItemKind::Mark(name) => put(store, builder, line, Kind::Mark(*name)),
         ItemKind::Note(name) => put(store, builder, line, Kind::Note(*name)),
-        ItemKind::Foot { class, leaves } => {
-            put_foot(store, builder, p, line, *class, leaves.as_slice())
-        }
-        ItemKind::Float { float, vert } => put_float(store, builder, p, two, line, *float, *vert),
-        ItemKind::Margin { margin, vert } => {
-            put_with_firings(store, builder, line, Act::TakeMargin(*margin), *vert)
-        }
+        ItemKind::Foot(leaves) => put_foot(store, builder, p, line, leaves.as_slice()),
         ItemKind::NewPage => put_page_end(store, builder, line),
         ItemKind::ClearPage => put_clear(store, builder, line),
         ItemKind::PageBreak(strength) => {
@@ -111,9 +85,11 @@ fn put_item(
         ItemKind::NoPageBreak(strength) => {
             put(store, builder, line, Kind::Pen(break_strength(*strength)))
         }
-        ItemKind::OneColumn => put_columns(store, builder, line, false),
-        ItemKind::TwoColumn => put_columns(store, builder, line, true),
-        ItemKind::Suppress(area) => put_act(store, builder, line, Act::Suppress(*area)),
+        ItemKind::Float { .. } => unreachable!(),
+        ItemKind::Margin { .. } => unreachable!(),
+        ItemKind::OneColumn => unreachable!(),
+        ItemKind::TwoColumn => unreachable!(),
+        ItemKind::Suppress(_) => unreachable!(),
     }
 }
 
@@ -140,7 +116,7 @@ fn put_rule(
     )
 }
 
-// Hands over one node that is no insertion.
+// Hands over one node that is neither an insertion nor an act.
 fn put(
     store: &mut Lists<Node>,
     builder: &mut Builder,
@@ -148,22 +124,10 @@ fn put(
     kind: Kind,
 ) -> Result<(), AllocError>
     requires can { CanTake builder.old store.old }
-    requires lone { inner_of kind ≡ None }
+    requires plain { is_plain kind ≡ true }
     ensures { OnOk result (Waits (lone line kind ∷ []) builder.old store.old builder.new store.new) }
 {
     builder.contribute(store, Node { line, kind })
-}
-
-fn put_act(
-    store: &mut Lists<Node>,
-    builder: &mut Builder,
-    line: u32,
-    act: Act,
-) -> Result<(), AllocError>
-    requires can { CanTake builder.old store.old }
-    ensures { OnOk result (Waits (lone line (Kind.Act act) ∷ []) builder.old store.old builder.new store.new) }
-{
-    put(store, builder, line, Kind::Act(act))
 }
 
 fn put_box(
@@ -195,7 +159,7 @@ fn put_page_end(store: &mut Lists<Node>, builder: &mut Builder, line: u32) -> Re
     ensures { OnOk result (Waits (on_line line newpage_kinds) builder.old store.old builder.new store.new) }
 {
     put(store, builder, line, Kind::Skip(filling_glue()))?;
-    put(store, builder, line, Kind::Pen(EJECT_PENALTY))
+    put(store, builder, line, Kind::Pen(-10_000))
 }
 
 // A clear: the end of a page, and a blank box with the penalty at which the output routine puts out what it holds (LaTeX,
@@ -207,63 +171,7 @@ fn put_clear(store: &mut Lists<Node>, builder: &mut Builder, line: u32) -> Resul
     put_page_end(store, builder, line)?;
     put(store, builder, line, Kind::Whatsit)?;
     put_box(store, builder, line, What::Blank, 0, 0)?;
-    put(store, builder, line, Kind::Pen(CLEAR_PENALTY))
-}
-
-// A change of columns, after a clear (ltoutput.dtx, \twocolumn).
-fn put_columns(
-    store: &mut Lists<Node>,
-    builder: &mut Builder,
-    line: u32,
-    two: bool,
-) -> Result<(), AllocError>
-    requires can { CanTake builder.old store.old }
-    ensures { OnOk result (Waits (on_line line (clearpage_kinds ++ act (Act.Columns two) ∷ [])) builder.old store.old builder.new store.new) }
-{
-    put_clear(store, builder, line)?;
-    put_act(store, builder, line, Act::Columns { two })
-}
-
-// A float. In the release of 2014 a wide one in two columns is taken without a firing, since it waits for a later page in
-// any case.
-fn put_float(
-    store: &mut Lists<Node>,
-    builder: &mut Builder,
-    p: &Params,
-    two: bool,
-    line: u32,
-    float: Float,
-    vert: bool,
-) -> Result<(), AllocError>
-    requires can { CanTake builder.old store.old }
-    ensures { OnOk result (Waits (on_line line (float_kinds p.now two float vert)) builder.old store.old builder.new store.new) }
-{
-    let wide = float.wide;
-    let act = Act::Take(float);
-    if p.has_second() && two && wide {
-        put_act(store, builder, line, act)
-    } else {
-        put_with_firings(store, builder, line, act, vert)
-    }
-}
-
-// What takes a float or a marginal note, and the two firings that place it: at the first the page so far is held, and the
-// second says whether the item stands between paragraphs (ltoutput.dtx, \end@float).
-fn put_with_firings(
-    store: &mut Lists<Node>,
-    builder: &mut Builder,
-    line: u32,
-    act: Act,
-    vert: bool,
-) -> Result<(), AllocError>
-    requires can { CanTake builder.old store.old }
-    ensures { OnOk result (Waits (on_line line (with_firings act vert)) builder.old store.old builder.new store.new) }
-{
-    let penalty = if vert { VERT_PENALTY } else { PAR_PENALTY };
-    put_act(store, builder, line, act)?;
-    put(store, builder, line, Kind::Pen(HOLD_PENALTY))?;
-    put_box(store, builder, line, What::Blank, 0, 0)?;
-    put(store, builder, line, Kind::Pen(penalty))
+    put(store, builder, line, Kind::Pen(-10_001))
 }
 
 // A node of a footnote.
@@ -332,20 +240,18 @@ fn both(a: i64, b: i64) -> i64
     a + b
 }
 
-// A footnote: an insertion of its class with a list of its own.
+// A footnote: an insertion with a list of its own.
 fn put_foot(
     store: &mut Lists<Node>,
     builder: &mut Builder,
     p: &Params,
     line: u32,
-    class: u8,
     leaves: &[Leaf],
 ) -> Result<(), AllocError>
     requires can { CanTake builder.old store.old }
-    requires known { has_class (contents_of builder.old store.old).classes class ≡ true }
     requires sized { All IsSizedNode (leaf_list leaves.now) }
     requires few { length (leaf_list leaves.now) ≤ 8388608 }
-    ensures { OnOk result (Waits (on_line line (foot_insertion p.now class (map plain_leaf leaves.now) ∷ [])) builder.old store.old builder.new store.new) }
+    ensures { OnOk result (Waits (on_line line (foot_insertion p.now (map plain_leaf leaves.now) ∷ [])) builder.old store.old builder.new store.new) }
 {
     let list = store.add_list()?;
     put_leaves(store, list, leaves)?;
@@ -355,7 +261,7 @@ fn put_foot(
         Node {
             line,
             kind: Kind::Ins(Insertion {
-                class,
+                class: 254,
                 list,
                 height,
                 split_depth: p.footsplitdepth,
@@ -375,6 +281,6 @@ fn break_strength(strength: u8) -> i64
         1 => 51,
         2 => 151,
         3 => 301,
-        _ => INF_PENALTY,
+        _ => 10_000,
     }
 }

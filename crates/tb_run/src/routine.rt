@@ -10,7 +10,7 @@ ghost use Rattle.tb_output.specs.Machine.{events_shown, sent_lists, IsPageSent};
 ghost use Rattle.tb_output.specs.Serving.{CanGoBack};
 ghost use Rattle.tb_run.specs.Servable.{AreRunnable, AreServable};
 ghost use Rattle.tb_run.specs.Expanding.{AreItems};
-ghost use Rattle.tb_run.specs.Run.{class_of, classes_of, held_count, step};
+ghost use Rattle.tb_run.specs.Run.{held_count, step};
 ghost use Rattle.tb_run.specs.PlainRun.{step_shown, noted, NotesTries};
 ghost use Rattle.tb_run.specs.Turning.{held_in, state_of, IsWhole, IsReady, Fills, AreSentLists, IsBounded, IsSettled, IsEnded, turn_shown, sent_turn_shown, sent_count, over_limit};
 
@@ -19,9 +19,9 @@ use crate::releasing::end_sent;
 use std::alloc::{AllocError, Global};
 use tb_builder::{Ask, Builder, Event, Page, Try, new_builder};
 use tb_column::Sent;
-use tb_galley::{ClassLine, Galley};
+use tb_galley::Galley;
 use tb_insert::Class;
-use tb_node::{Act, FOOTNOTES, Node};
+use tb_node::{Act, Node};
 use tb_output::{Machine, RunFault, new_machine};
 use tb_param::{Params, exceeds};
 use tb_pool::{ListId, Lists};
@@ -76,35 +76,11 @@ fn foot_class(p: &Params) -> Class
     ensures { result ≡ foot_class p.now }
 {
     Class {
-        number: FOOTNOTES,
+        number: 254,
         factor: 1000,
         limit: p.footlimit,
         skip: p.skipfootins,
     }
-}
-
-// A class that a galley declares.
-fn class_of(line: &ClassLine) -> Class
-    ensures { result ≡ class_of line.now }
-{
-    Class {
-        number: line.number,
-        factor: line.factor,
-        limit: line.limit,
-        skip: line.skip,
-    }
-}
-
-// The classes of a galley in rising number, that of the footnotes last.
-fn classes_of(alloc: Global, galley: &Galley) -> Result<Vec<Class>, AllocError>
-    ensures { IfOk result (λ cs. cs.items ≡ classes_of galley.now) }
-{
-    let mut classes = Vec::new(alloc);
-    for line in galley.classes.as_slice() {
-        classes.push(class_of(line))?;
-    }
-    classes.push(foot_class(&galley.params))?;
-    Ok(classes)
 }
 
 /// What a turn sends, and how the run ends with it, if it does.
@@ -118,17 +94,15 @@ impl Routine {
     /// All nodes of a galley wait for its first page.
     pub fn new(alloc: Global, galley: &Galley) -> Result<Self, AllocError>
         requires params { AreRunnable galley.now.params }
-        requires items { AreItems (classes_of galley.now) galley.now.items }
-        requires classes { galley.now.classes ≡ [] }
+        requires items { AreItems galley.now.items }
         requires nodes { AreServable (expanded galley.now) }
-        ensures state { IfOk result (λ r. state_of r ≡ first_state galley.now.params (classes_of galley.now) (expanded galley.now)) }
+        ensures state { IfOk result (λ r. state_of r ≡ first_state galley.now.params (expanded galley.now)) }
         ensures ready { IfOk result (λ r. IsReady galley.now.params r) }
     {
         let mut store = Lists::new(alloc);
-        let classes = classes_of(alloc, galley)?;
-        let served = classes.as_slice();
-        let machine = new_machine(alloc, &mut store, &galley.params, served)?;
-        let mut builder = new_builder(alloc, &mut store, served)?;
+        let machine = new_machine(alloc, &mut store, &galley.params)?;
+        let classes = [foot_class(&galley.params)];
+        let mut builder = new_builder(alloc, &mut store, &classes)?;
         expand(&mut store, &mut builder, galley)?;
         Ok(Routine {
             store,

@@ -24,8 +24,7 @@ use Rattle.tb_output.proofs.ClosingStates.{Closing}
 use Rattle.tb_run.specs.Run.{Step, ends, goes_on, done, pool_full, dead_cycles, page_limit, node_limit, step, run_of}
 use Rattle.tb_top.specs.DeadCycles.{HasRoomForCycles, IsNotCycles, DeadCyclesAreFew}
 use Rattle.tb_top.proofs.FinishLemmas.{all-at, dim-extent}
-use Rattle.tb_top.proofs.ValidPenalties.{interline-calm}
-use Rattle.tb_top.proofs.ClassLemmas.{valid-differ, valid-fit}
+use Rattle.tb_top.proofs.ValidPenalties.{valid-items, interline-calm}
 use Rattle.tb_top.proofs.RunWeights.{Kept, page_of}
 use Rattle.tb_top.proofs.ClosingRuns.{StepCloses, step-closes, page_closes, empty}
 use Rattle.tb_top.proofs.ClosingStarts.{start-closing}
@@ -86,7 +85,7 @@ module _ (g : Galley) (valid : IsValid g) where
   deep = maxdepth-low g.params valid.params
 
   abbrev m : ℕ
-  m = most g (interline-calm g.params valid.params) (valid-differ g valid) (valid-fit g valid)
+  m = most g (interline-calm g.params valid.params) (valid-items g valid)
 
   stays : (s : State) → Kept s → Closing g.params s → StepStays (Closing g.params) (step g.params s)
   stays s c k = at (step g.params s) (step-closes g.params calm s c k)
@@ -103,13 +102,13 @@ module _ (g : Galley) (valid : IsValid g) where
   empties s c k = closing-changes g.params k.done s (acted_of (page_of g.params s).reached) (empty g.params calm s c k) (page_closes g.params calm s c k).acts_close
 
   low-bound : g.params.topskip ≤ℤ g.params.textheight → HasRoomForCycles g → IsNotCycles (run_of g).end
-  low-bound room = not-cycles g calm (valid-differ g valid) (valid-fit g valid) (Bounded g.params m) (λ s b. more s.dead_cycles (low-few g.params m calm low room deep s b)) (low-goes g.params m calm low room deep) (low-start g calm (valid-differ g valid) (valid-fit g valid)) (Closing g.params) empties stays (start-closing g (valid-fit g valid))
+  low-bound room = not-cycles g calm (valid-items g valid) (Bounded g.params m) (λ s b. more s.dead_cycles (low-few g.params m calm low room deep s b)) (low-goes g.params m calm low room deep) (low-start g calm (valid-items g valid)) (Closing g.params) empties stays (start-closing g (valid-items g valid))
     where
       more : (d : ℕ) → d ≤ m + 2 → d ≤ m + 3
       more d h = omega arith
 
   high-bound : g.params.textheight <ℤ g.params.topskip → HasRoomForCycles g → IsNotCycles (run_of g).end
-  high-bound high = not-cycles g calm (valid-differ g valid) (valid-fit g valid) (BoundedHigh g.params m) (high-few g.params m calm deep (textheight-low g.params valid.params) high) (high-goes g.params m calm deep (textheight-low g.params valid.params) high) (high-start g calm (valid-differ g valid) (valid-fit g valid)) (Closing g.params) empties stays (start-closing g (valid-fit g valid))
+  high-bound high = not-cycles g calm (valid-items g valid) (BoundedHigh g.params m) (high-few g.params m calm deep (textheight-low g.params valid.params) high) (high-goes g.params m calm deep (textheight-low g.params valid.params) high) (high-start g calm (valid-items g valid)) (Closing g.params) empties stays (start-closing g (valid-items g valid))
 
 -- the dead-cycle bound
 pub dead-cycle-bound : DeadCyclesAreFew

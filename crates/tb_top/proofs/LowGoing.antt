@@ -1,7 +1,8 @@
 -- A firing after the acts of its page keeps the bound, where the top skip is no higher than a page.
-use Rattle.std.proofs.Common.{◌≡◌, refl, sym, subst, ℕ, zero, suc, pos, ◌+◌, ◌*◌, ◌≤◌, inl, inr, ◌⊎◌, false, [], arith}
+use Rattle.std.proofs.Common.{◌≡◌, refl, sym, subst, ℕ, zero, suc, ℤ, pos, ◌+◌, ◌*◌, ◌≤◌, inl, inr, ◌⊎◌, false, [], ◌∷◌, arith}
 use Rattle.std.specs.Prelude.{◌≤ℤ◌, int_le}
 use Rattle.tb_scaled.specs.Scaled.{eject_penalty}
+use Rattle.tb_node.specs.Plain.{skip, act}
 use Rattle.tb_param.specs.declared.Params.{Params}
 use Rattle.tb_builder.specs.Fired.{Fired, frozen_for}
 use Rattle.tb_builder.proofs.CutLemmas.{acted_of}

@@ -12,12 +12,11 @@ use Rattle.tb_column.specs.declared.Sheet.TheVariants as sheets
 use Rattle.tb_column.specs.declared.Sent.{Sent}
 use Rattle.tb_column.specs.declared.Sent.TheVariants as events
 use Rattle.tb_column.specs.Shown.{nodes_shown, sheet_shown, sent_shown, IsLiveSheet, IsLiveSent}
-use Rattle.tb_column.specs.Page.{IsPageList, IsPageColumn}
 use Rattle.tb_node.specs.Plain.{plain_of}
 use Rattle.tb_report.specs.Totals.{sheet_nodes}
 use Rattle.tb_top.specs.Written.{node_total}
 use Rattle.tb_report.specs.Printable.{IsPrintableList, IsPrintable, IsPrintableSheet, IsPrintableSent}
-use Rattle.tb_output.specs.Machine.{IsPageSheet, IsPageSent}
+use Rattle.tb_output.specs.Machine.{IsPageList, IsPageColumn, IsPageSheet, IsPageSent}
 
 printable-list : (store : Lists Node) (l : ℕ) → IsPageList store l → IsPrintableList store l
 printable-list store l h = record {

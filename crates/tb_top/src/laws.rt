@@ -17,7 +17,7 @@ pub fn floats_keep_the_limits()
     ensures { LimitsHold }
 {}
 
-/// The float lists are emptied: at each change of columns and at the end of a run all seven lists of floats are empty, for
+/// The float lists are emptied: at each change of columns and at the end of a run all six lists of floats are empty, for
 /// every valid galley and whatever the end.
 pub fn lists_are_emptied()
     ensures { ListsAreEmptied }
@@ -32,9 +32,9 @@ pub fn each_ships_once()
 {}
 
 /// The floats of a class keep their order, where a run of a valid galley ends well: each ships before every later one of its
-/// class in the galley, in release 2014 of its class and its width as it was taken, save a float in the text that a break
-/// carried, which stands in a later column than the one in which it was placed. Ships are ordered by page; on a page, the
-/// floats above both columns, then the columns from left to right; in a column, by its list.
+/// class in the galley, save a float in the text that a break carried, which stands in a later column than the one in which
+/// it was placed. Ships are ordered by page; on a page, the floats above both columns, then the columns from left to right;
+/// in a column, by its list.
 pub fn classes_keep_their_order()
     ensures { ClassesKeepOrder }
 {}

@@ -24,10 +24,10 @@ use tb_words::{Mode, read_words};
 /// all else; where `err` fails the answer stays, and where there is no memory for the line it becomes `Memory`.
 ///
 /// After `Done` in report or trace mode the run of the galley kept the laws of whole runs: each box, rule, float and note
-/// shipped once, the text in its order, and the floats of each class (in release 2014 of each class and width) in theirs, but
-/// for those that a break carried; no float without `!` was placed past the limits of its area, and all float lists were
-/// empty at each change of columns and at the end. `DeadCycles` comes only where `maxdeadcycles` is less than sixteen and
-/// four for each float, marginal note, clearpage, onecolumn and twocolumn.
+/// shipped once, the text in its order, and the floats of each class in theirs, but for those that a break carried; no float
+/// without `!` was placed past the limits of its area, and all float lists were empty at each change of columns and at the
+/// end. `DeadCycles` comes only where `maxdeadcycles` is less than sixteen and four for each float, marginal note, clearpage,
+/// onecolumn and twocolumn.
 pub fn run<S: Source, K: Sink, E: Sink>(
     alloc: Global,
     words: &[String],

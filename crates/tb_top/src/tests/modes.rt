@@ -9,7 +9,7 @@ pub struct ModeRow {
     pub err: &'static [u8],
 }
 
-pub const MODE_ROWS: [ModeRow; 13] = [
+pub const MODE_ROWS: [ModeRow; 7] = [
     ModeRow {
         name: "mode report said",
         words: &["--mode", "report"],
@@ -19,7 +19,7 @@ pub const MODE_ROWS: [ModeRow; 13] = [
         err: b"",
     },
     ModeRow {
-        name: "trace of a page",
+        name: "trace",
         words: &["--mode", "trace"],
         input: b"galley 1\nset textheight 30\nset topskip 10\nset maxdepth 0\nbox a 10 0\nglue 0 plus 5\nbox b 10 0\nglue 0 plus 5\nbox c 10 0\nend\n",
         status: 0,
@@ -27,7 +27,7 @@ pub const MODE_ROWS: [ModeRow; 13] = [
         err: b"",
     },
     ModeRow {
-        name: "trace of equal costs",
+        name: "trace",
         words: &["--mode", "trace"],
         input: b"galley 1\nset textheight 30\nset topskip 10\nset maxdepth 0\nset baselineskip 0\nset bottom flush\nset skipfootins 0\nset footsplittop 10\nset intextsep 0\nset textfloatsep 0\nset floatsep 0\nset fptop 0\nset fpsep 0\nset fpbot 0\nset dbltextfloatsep 0\nbox a 12 0\nglue 0\nbox b 12 0\nglue 0\nbox c 12 0\nend\n",
         status: 0,
@@ -35,7 +35,7 @@ pub const MODE_ROWS: [ModeRow; 13] = [
         err: b"",
     },
     ModeRow {
-        name: "trace of a note before the first box",
+        name: "trace",
         words: &["--mode", "trace"],
         input: b"galley 1\nset textheight 30\nset topskip 10\nset maxdepth 0\nset baselineskip 0\nset bottom flush\nset skipfootins 0\nset footsplittop 10\nset intextsep 0\nset textfloatsep 0\nset floatsep 0\nset fptop 0\nset fpsep 0\nset fpbot 0\nset dbltextfloatsep 0\nnote n\nbox a 10 0\nend\n",
         status: 0,
@@ -62,54 +62,6 @@ pub const MODE_ROWS: [ModeRow; 13] = [
         name: "gen count 0",
         words: &["--mode", "gen", "--count", "0"],
         input: b"",
-        status: 2,
-        out: b"",
-        err: b"galley_pages: words refused\n",
-    },
-    ModeRow {
-        name: "mode of another name",
-        words: &["--mode=x"],
-        input: b"galley 1\nend\n",
-        status: 2,
-        out: b"",
-        err: b"galley_pages: words refused\n",
-    },
-    ModeRow {
-        name: "option cut short",
-        words: &["--mod", "print"],
-        input: b"galley 1\nend\n",
-        status: 2,
-        out: b"",
-        err: b"galley_pages: words refused\n",
-    },
-    ModeRow {
-        name: "count of none in report mode",
-        words: &["--count", "0"],
-        input: b"galley 1\nend\n",
-        status: 2,
-        out: b"",
-        err: b"galley_pages: words refused\n",
-    },
-    ModeRow {
-        name: "mode given twice",
-        words: &["--mode", "report", "--mode", "print"],
-        input: b"galley 1\nend\n",
-        status: 2,
-        out: b"",
-        err: b"galley_pages: words refused\n",
-    },
-    ModeRow {
-        name: "help",
-        words: &["--help"],
-        input: b"galley 1\nend\n",
-        status: 2,
-        out: b"",
-        err: b"galley_pages: words refused\n",
-    },
-    ModeRow {
-        name: "word without an option",
-        words: &["print"],
-        input: b"galley 1\nend\n",
         status: 2,
         out: b"",
         err: b"galley_pages: words refused\n",

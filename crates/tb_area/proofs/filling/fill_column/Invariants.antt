@@ -1,13 +1,13 @@
-use Rattle.std.proofs.Common.{◌≡◌, [], drop}
-use Rattle.tb_float.specs.declared.Part.TheVariants as parts
-use Rattle.tb_float.specs.Pool.{HasNoMarks}
+use Rattle.std.proofs.Common.{◌≡◌, ◌+◌, ◌≤◌, [], length, take, drop}
+use Rattle.tb_float.specs.Pool.{marked_floats}
 use Rattle.tb_area.specs.Filling.{filled}
-use Rattle.tb_area.specs.Turning.{IsOnWay}
 use Rattle.tb_area.proofs.filling.fill_column.Given as goal
 
 abbrev pub invariant-loop-turn : goal.invariant-loop-turn
 invariant-loop-turn l = record {
-  way : IsOnWay parts.Deferred (filled l.p l.s) l.earlier (drop l._turn l.initial.pool.lists.deferred) l.pool.lists (filled l.p l.s [] l.initial.pool.lists.deferred l.initial.pool.lists);
+  lists : filled l.p l.s (take l.place l.pool.lists.deferred) (drop l.place l.pool.lists.deferred) l.pool.lists ≡ filled l.p l.s [] l.initial.pool.lists.deferred l.initial.pool.lists;
+  count : length l.pool.lists.deferred + l._turn ≡ l.place + length l.initial.pool.lists.deferred;
+  few : l.place ≤ l._turn;
   size : l.pool.size ≡ l.initial.pool.size;
-  unmarked : HasNoMarks l.initial.pool → HasNoMarks l.pool;
+  unmarked : marked_floats l.initial.pool ≡ [] → marked_floats l.pool ≡ [];
 }

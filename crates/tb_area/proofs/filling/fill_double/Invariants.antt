@@ -1,14 +1,14 @@
-use Rattle.std.proofs.Common.{◌≡◌, [], drop}
+use Rattle.std.proofs.Common.{◌≡◌, ◌+◌, ◌≤◌, [], length, take, drop}
 use Rattle.tb_float.specs.declared.Suppress.{Suppress}
-use Rattle.tb_float.specs.Lists.{floats_of}
-use Rattle.tb_float.specs.Pool.{HasNoMarks}
+use Rattle.tb_float.specs.Pool.{marked_floats}
 use Rattle.tb_area.specs.Filling.{doubled}
-use Rattle.tb_area.specs.Turning.{IsOnWay}
 use Rattle.tb_area.proofs.filling.fill_double.Given as goal
 
 abbrev pub invariant-loop-turn : goal.invariant-loop-turn
 invariant-loop-turn l = record {
-  way : (s : Suppress) → IsOnWay l.from (doubled l.from l.p s) l.earlier (drop l._turn (floats_of l.from l.initial.pool.lists)) l.pool.lists (doubled l.from l.p s [] (floats_of l.from l.initial.pool.lists) l.initial.pool.lists);
+  lists : (s : Suppress) → doubled l.p s (take l.place l.pool.lists.deferred) (drop l.place l.pool.lists.deferred) l.pool.lists ≡ doubled l.p s [] l.initial.pool.lists.deferred l.initial.pool.lists;
+  count : length l.pool.lists.deferred + l._turn ≡ l.place + length l.initial.pool.lists.deferred;
+  few : l.place ≤ l._turn;
   size : l.pool.size ≡ l.initial.pool.size;
-  unmarked : HasNoMarks l.initial.pool → HasNoMarks l.pool;
+  unmarked : marked_floats l.initial.pool ≡ [] → marked_floats l.pool ≡ [];
 }

@@ -1,44 +1,43 @@
-use Rattle.std.proofs.Common.{true, false, refl, ap, ◌∙◌}
-use Rattle.tb_node.specs.declared.Where.TheVariants.{Double}
+use Rattle.std.proofs.Common.{◌≡◌, ◌+◌, Some, slice_get, take, drop, suc, refl, sym, ap, ◌∙◌, arith}
+use Rattle.tb_node.specs.declared.Float.{Float}
+use Rattle.tb_float.specs.declared.Suppress.{Suppress}
 use Rattle.tb_float.specs.Pool.{FloatPool}
-use Rattle.tb_area.proofs.DeferredLemmas.{waits_apart, waiting_stands, waiting_entry}
-use Rattle.tb_area.proofs.FillingLemmas.{is_double, is_not_double, double-decided, double-turned, size-double, size-behind}
+use Rattle.tb_area.specs.Area.{goes_double}
+use Rattle.tb_area.specs.Filling.{place_after_double, gone_double}
+use Rattle.tb_area.proofs.DeferredLemmas.{float_stands, entry_there}
+use Rattle.tb_area.proofs.FillingLemmas.{is_double, is_not_double, double_lists}
 use Rattle.tb_area.proofs.filling.try_double.Goals as goal
 
-pub move_to-requires : goal.move_to-requires
-move_to-requires c = record {
-  apart = waits_apart c.args.from c.requires.waiting;
-  float = waiting_stands c.args.from c.requires.waiting c.args.pool.now.lists 0 c.requires.some;
-}
+pub move_to-requires-clause-float : goal.move_to-requires-clause-float
+move_to-requires-clause-float c = float_stands c.args.pool.now.lists.deferred c.args.k c.requires.within
 
-pub returns-in-Double-clause-goes_on : goal.returns-in-Double-clause-goes_on
-returns-in-Double-clause-goes_on c = λ s f rest end way.
+pub returns-in-Double-clause-lists : goal.returns-in-Double-clause-lists
+returns-in-Double-clause-lists c = λ s f there.
     let v = c.args.pool.now in
-    let from = c.args.from in
-    let waits = c.requires.waiting in
-    let g = c.waiting_float-f.result in
-    let there = c.waiting_float-f.ensures.value in
-    let decided = double-decided from waits c.args.p.now s c.args.earlier.now f rest v.lists end way g c.has.result Double there c.has.ensures (c.in-Double.ensures s) in
-    double-turned from waits c.args.p.now s c.args.earlier.now f rest v.lists end way true g v c.move_to.new.self c.args.earlier.now refl there (is_double _ decided) (c.move_to.ensures.moved g (waiting_entry from waits v.lists 0 g there)) way.classes
+    let b = goes_double c.args.p.now v.lists s (take c.args.k v.lists.deferred) f in
+    double_lists v c.move_to.new.self c.args.k f b (is_double b (c.in-Double.ensures.place s f there)) (c.move_to.ensures.moved f (entry_there v.lists.deferred c.args.k f there))
+
+pub returns-in-Double-clause-next : goal.returns-in-Double-clause-next
+returns-in-Double-clause-next c = λ s f there.
+    let v = c.args.pool.now in
+    let b = goes_double c.args.p.now v.lists s (take c.args.k v.lists.deferred) f in
+    ap (λ t. place_after_double t c.args.k) (sym (is_double b (c.in-Double.ensures.place s f there)))
 
 pub returns-in-Double-clause-size : goal.returns-in-Double-clause-size
 returns-in-Double-clause-size c =
-    let g = c.waiting_float-f.result in
-    ap (λ (w : FloatPool). w.size) (c.move_to.ensures.moved g (waiting_entry c.args.from c.requires.waiting c.args.pool.now.lists 0 g c.waiting_float-f.ensures.value)) ∙ size-double c.args.from c.requires.waiting g c.args.pool.now
+    let h = float_stands c.args.pool.now.lists.deferred c.args.k c.requires.within in
+    ap (λ (w : FloatPool). w.size) (c.move_to.ensures.moved h.0 h.1)
 
 pub returns-in_default : goal.returns-in_default
 returns-in_default c =
-    let v = c.args.pool.now in
-    let from = c.args.from in
-    let waits = c.requires.waiting in
-    let g = c.waiting_float-f.result in
-    let there = c.waiting_float-f.ensures.value in
-    let r = c.double_place.result in
-    let kept = c.keep_first.ensures in
+    let l = c.args.pool.now.lists in
+    let k = c.args.k in
+    let before = take k l.deferred in
+    let stays = λ (s : Suppress) (f : Float) (there : slice_get l.deferred k ≡ Some f). is_not_double (goes_double c.args.p.now l s before f) c.add_double.result (c.add_double.ensures.place s f there) c.in_default.not-Double in
     record {
-      goes_on = λ s f rest end way.
-          let decided = double-decided from waits c.args.p.now s c.args.earlier.now f rest v.lists end way g c.has.result r there c.has.ensures (c.double_place.ensures s) in
-          double-turned from waits c.args.p.now s c.args.earlier.now f rest v.lists end way false g v c.keep_first.new.pool c.keep_first.new.earlier refl there (is_not_double _ r decided c.in_default.not-Double) kept.behind (kept.classes way.before way.classes);
-      size = ap (λ (w : FloatPool). w.size) kept.behind ∙ size-behind from v;
-      unmarked = kept.unmarked;
+      lists = λ s f there. ap (λ b. gone_double b f before (drop (suc k) l.deferred) l) (sym (stays s f there));
+      next = λ s f there. let one : k + 1 ≡ suc k = omega arith in one ∙ ap (λ b. place_after_double b k) (sym (stays s f there));
+      near = omega arith;
+      size = refl;
+      unmarked = λ h. h;
     }

@@ -1,10 +1,14 @@
-use Rattle.std.proofs.Common.{◌∙◌, rules, ap, sym, subst, [], ◌∷◌, ◌++◌, FitsSigned, w64}
+use Rattle.std.proofs.Common.{◌∙◌, rules, ap, sym, subst, map, ℤ, FitsSigned, w64}
 use Rattle.std.proofs.lemmas.Int.{to_z-of_z}
-use Rattle.tb_pool.specs.Lists.{list_at, with_list}
-use Rattle.tb_node.specs.declared.Node.{Node}
+use Rattle.tb_pool.specs.Lists.{list_at}
+use Rattle.tb_pool.proofs.CallerLemmas.{live_same}
+use Rattle.tb_node.specs.declared.Kind.TheVariants as kinds
 use Rattle.tb_node.specs.Small.{IsAmount, IsSmall}
-use Rattle.tb_node.proofs.FitLemmas.{list_nodes_fit, list_sums_fit}
-use Rattle.tb_column.proofs.ClosingLemmas.{text_small, closing_is, closing_fits, closed_sums, closed_small, closed_page}
+use Rattle.tb_node.specs.Plain.{shape_of}
+use Rattle.tb_node.proofs.FitLemmas.{whole_fits}
+use Rattle.tb_scaled.specs.declared.Glue.{Glue}
+use Rattle.tb_column.specs.TextList.{made_node, closing_by}
+use Rattle.tb_column.proofs.ColumnLemmas.{text_sums_fit, depth_fits, closing_fits, closed_sums}
 use Rattle.tb_column.proofs.making.close_text.Goals as goal
 
 pub closing_glue-requires : goal.closing_glue-requires
@@ -12,13 +16,15 @@ closing_glue-requires c =
     let limit : FitsSigned w64 c.args.p.now.maxdepth = search rules in
     let depth : FitsSigned w64 c.list_sums-sums.result.depth = search rules in
     let sums = simp to_z-of_z at c.list_sums-sums.ensures in
-    simp to_z-of_z (subst IsAmount (sym (ap (λ s. s.depth) sums)) (text_small c.args.p.now c.requires.params.maxdepth (list_at c.args.store.now c.args.body) c.requires.page.sized c.requires.few).depth)
+    let ns = list_at c.args.store.now c.args.body in
+    simp to_z-of_z (subst IsAmount (sym (ap (λ s. s.depth) sums)) (depth_fits c.args.p.now.maxdepth (map shape_of ns) (text_sums_fit c.args.p.now.maxdepth c.args.p.now ns c.requires.sums)))
 
 pub add-requires-clause-small : goal.add-requires-clause-small
 add-requires-clause-small c =
     let limit : FitsSigned w64 c.args.p.now.maxdepth = search rules in
     let sums = simp to_z-of_z at c.list_sums-sums.ensures in
-    subst IsSmall (sym sums) (text_small c.args.p.now c.requires.params.maxdepth (list_at c.args.store.now c.args.body) c.requires.page.sized c.requires.few)
+    let ns = list_at c.args.store.now c.args.body in
+    subst IsSmall (sym sums) (whole_fits c.args.p.now.maxdepth (map shape_of ns) (text_sums_fit c.args.p.now.maxdepth c.args.p.now ns c.requires.sums))
 
 pub add-requires-clause-node : goal.add-requires-clause-node
 add-requires-clause-node c =
@@ -26,30 +32,11 @@ add-requires-clause-node c =
     let depth : FitsSigned w64 c.list_sums-sums.result.depth = search rules in
     let sums = simp to_z-of_z at c.list_sums-sums.ensures in
     let glue = simp to_z-of_z at c.closing_glue.ensures in
-    let ns = list_at c.args.store.now c.args.body in
-    closing_fits c.args.p.now c.requires.params.maxdepth ns c.requires.page.sized c.made_node-glue.result
-    (closing_is c.args.p.now ns c.list_sums-sums.result c.closing_glue.result c.made_node-glue.result sums glue c.made_node-glue.ensures)
+    let is = c.made_node-glue.ensures ∙ ap (λ (g : Glue). made_node (kinds.Skip g)) glue ∙ ap (λ (z : ℤ). made_node (kinds.Skip (closing_by c.args.p.now.bottom z))) (ap (λ s. s.depth) sums) in
+    closing_fits c.args.p.now (list_at c.args.store.now c.args.body) c.made_node-glue.result is c.requires.nodes
 
-pub returns-clause-lists : goal.returns-clause-lists
-returns-clause-lists c =
-    let limit : FitsSigned w64 c.args.p.now.maxdepth = search rules in
-    let depth : FitsSigned w64 c.list_sums-sums.result.depth = search rules in
-    let sums = simp to_z-of_z at c.list_sums-sums.ensures in
-    let glue = simp to_z-of_z at c.closing_glue.ensures in
-    let ns = list_at c.args.store.now c.args.body in
-    c.push_back.ensures.pushed
-    ∙ ap (λ (n : Node). with_list c.args.store.now c.args.body (ns ++ n ∷ [])) (closing_is c.args.p.now ns c.list_sums-sums.result c.closing_glue.result c.made_node-glue.result sums glue c.made_node-glue.ensures)
-
-pub returns-clause-page : goal.returns-clause-page
-returns-clause-page c =
-    let limit : FitsSigned w64 c.args.p.now.maxdepth = search rules in
-    let depth : FitsSigned w64 c.list_sums-sums.result.depth = search rules in
-    let sums = simp to_z-of_z at c.list_sums-sums.ensures in
-    let glue = simp to_z-of_z at c.closing_glue.ensures in
-    let ns = list_at c.args.store.now c.args.body in
-    closed_page c.args.p.now c.args.store.now c.push_back.new.self c.args.body c.requires.params.maxdepth c.requires.page c.requires.few (
-    c.push_back.ensures.pushed
-    ∙ ap (λ (n : Node). with_list c.args.store.now c.args.body (ns ++ n ∷ [])) (closing_is c.args.p.now ns c.list_sums-sums.result c.closing_glue.result c.made_node-glue.result sums glue c.made_node-glue.ensures))
+pub returns-clause-live : goal.returns-clause-live
+returns-clause-live c = live_same c.args.store.now c.push_back.new.self c.args.body _ c.push_back.ensures.pushed
 
 pub returns-clause-sums : goal.returns-clause-sums
 returns-clause-sums c =
@@ -57,29 +44,6 @@ returns-clause-sums c =
     let depth : FitsSigned w64 c.list_sums-sums.result.depth = search rules in
     let sums = simp to_z-of_z at c.list_sums-sums.ensures in
     let glue = simp to_z-of_z at c.closing_glue.ensures in
+    let is = c.made_node-glue.ensures ∙ ap (λ (g : Glue). made_node (kinds.Skip g)) glue ∙ ap (λ (z : ℤ). made_node (kinds.Skip (closing_by c.args.p.now.bottom z))) (ap (λ s. s.depth) sums) in
     let added = simp to_z-of_z at c.add.ensures in
-    let ns = list_at c.args.store.now c.args.body in
-    closed_sums c.args.p.now c.requires.params.maxdepth ns c.requires.page.sized c.made_node-glue.result
-    (closing_is c.args.p.now ns c.list_sums-sums.result c.closing_glue.result c.made_node-glue.result sums glue c.made_node-glue.ensures)
-    c.list_sums-sums.result c.add.new.s sums added
-
-pub returns-clause-small : goal.returns-clause-small
-returns-clause-small c =
-    let limit : FitsSigned w64 c.args.p.now.maxdepth = search rules in
-    let depth : FitsSigned w64 c.list_sums-sums.result.depth = search rules in
-    let sums = simp to_z-of_z at c.list_sums-sums.ensures in
-    let glue = simp to_z-of_z at c.closing_glue.ensures in
-    let added = simp to_z-of_z at c.add.ensures in
-    let ns = list_at c.args.store.now c.args.body in
-    let closed = closed_sums c.args.p.now c.requires.params.maxdepth ns c.requires.page.sized c.made_node-glue.result
-    (closing_is c.args.p.now ns c.list_sums-sums.result c.closing_glue.result c.made_node-glue.result sums glue c.made_node-glue.ensures)
-    c.list_sums-sums.result c.add.new.s sums added in
-    subst IsSmall (sym closed) (closed_small c.args.p.now c.requires.params.maxdepth ns c.requires.page.sized c.requires.few)
-
-pub list_sums-sums-requires-clause-nodes : goal.list_sums-sums-requires-clause-nodes
-list_sums-sums-requires-clause-nodes c = list_nodes_fit c.args.store.now c.args.body c.requires.page.sized
-
-pub list_sums-sums-requires-clause-sums : goal.list_sums-sums-requires-clause-sums
-list_sums-sums-requires-clause-sums c =
-    let limit : FitsSigned w64 c.args.p.now.maxdepth = search rules in
-    simp to_z-of_z (list_sums_fit c.args.store.now c.args.body c.args.p.now.maxdepth c.requires.params.maxdepth.low c.requires.page.sized c.requires.page.few)
+    closed_sums c.args.p.now (list_at c.args.store.now c.args.body) c.made_node-glue.result is c.args.p.now.maxdepth c.list_sums-sums.result c.add.new.s sums added

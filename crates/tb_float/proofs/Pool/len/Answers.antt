@@ -1,13 +1,11 @@
-use Rattle.std.proofs.Common.{◌≡◌, length, sym, ap, subst, ◌∙◌, refl, arith}
-use Rattle.std.specs.Prelude.{All}
+use Rattle.std.proofs.Common.{◌≡◌, length, sym, ap, ◌∙◌, refl, arith}
 use Rattle.std.proofs.lemmas.List.{length-map}
 use Rattle.tb_pool.specs.Lists.{list_at}
 use Rattle.tb_float.specs.declared.Part.TheVariants as parts
 use Rattle.tb_float.specs.Lists.{entry_count}
-use Rattle.tb_float.specs.Ranges.{IsSizedFloat}
 use Rattle.tb_float.specs.Stored.{slots_of}
-use Rattle.tb_float.proofs.SlotLemmas.{length-floats_in, floats-sized}
-use Rattle.tb_float.proofs.SoundLemmas.{entry_count-seen, count-of, floats_of-seen}
+use Rattle.tb_float.proofs.SlotLemmas.{length-floats_in}
+use Rattle.tb_float.proofs.SoundLemmas.{entry_count-seen, count-of}
 use Rattle.tb_float.proofs.Pool.len.Goals as goal
 
 pub returns : goal.returns
@@ -22,5 +20,4 @@ returns c =
       marks = rw (← c.self.view_is) (length-map (at parts.Deferred) (λ s. s.marked) ∙ sym (length-floats_in parts.Deferred (at parts.Deferred) refl (slots parts.Deferred)));
       second_marks = rw (← c.self.view_is) (length-map (at parts.Second) (λ s. s.marked) ∙ sym (length-floats_in parts.Second (at parts.Second) refl (slots parts.Second)));
       small = omega (arith, length_is, count-of c.args.p at, places.within, places.small);
-      sized = rw (← c.self.view_is) (subst (All IsSizedFloat) (sym (floats_of-seen c.args.p at)) (floats-sized c.args.p (at c.args.p) (slots c.args.p)));
     }

@@ -1,4 +1,4 @@
-use Rattle.std.proofs.Common.{length, ap, ◌∙◌, arith}
+use Rattle.std.proofs.Common.{length, sym, ap, ◌∙◌, arith}
 use Rattle.std.specs.Prelude.{slice_set, true}
 use Rattle.tb_pool.specs.Lists.{with_list}
 use Rattle.tb_float.specs.SlotView.{SlotView}

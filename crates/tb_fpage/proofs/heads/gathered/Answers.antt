@@ -1,18 +1,16 @@
 use Rattle.std.proofs.Common.{List, sym, ◌∙◌, subst}
 use Rattle.tb_node.specs.declared.Float.{Float}
-use Rattle.tb_float.specs.Lists.{floats_of}
-use Rattle.tb_float.proofs.WaitingLemmas.{waiting-entries}
 use Rattle.tb_fpage.specs.Walked.{IsOnWay}
 use Rattle.tb_fpage.proofs.WalkLemmas.{next-float, next-is_float, no-float, on-way-start, on-way-next, on-way-end, on-way-room}
 use Rattle.tb_fpage.proofs.heads.gathered.Goals as goal
 
 pub loop-entry-init : goal.loop-entry-init
 loop-entry-init c =
-    let ds = floats_of c.args.from c.args.pool.now.lists in
+    let ds = c.args.pool.now.lists.deferred in
     record {
       can_next = tt;
       is_finite = tt;
-      walked = (ds, c.into_iter-entry-iterator.ensures.into_iter_gives ∙ c.entries-entry-items.ensures ∙ waiting-entries c.args.from c.requires.waiting c.args.pool.now.lists, on-way-start c.args.wanted.now c.to_head-walk.result c.args.place ds c.to_head-walk.ensures.place (c.to_head-walk.ensures.stands c.args.wanted.now.sep));
+      walked = (ds, c.into_iter-entry-iterator.ensures.into_iter_gives ∙ c.entries-entry-items.ensures, on-way-start c.args.wanted.now c.to_head-walk.result c.args.place ds c.to_head-walk.ensures.place (c.to_head-walk.ensures.stands c.args.wanted.now.sep));
     }
 
 pub float_in-requires : goal.float_in-requires
@@ -24,7 +22,7 @@ pub visit-requires : goal.visit-requires
 visit-requires c =
     let way = c.loop-entry.invariant.walked in
     let f = c.float_in.result in
-    let ds = floats_of c.args.from c.args.pool.now.lists in
+    let ds = c.args.pool.now.lists.deferred in
     let next = next-float c.in-Some.entry.now c.next.new.self way.0 f (sym c.in-Some.ensures.steps ∙ way.1) c.float_in.ensures in
     let room = on-way-room c.args.wanted.now c.loop-entry.walk c.args.place ds next.0 f c.requires.few (subst (λ (fs : List Float). IsOnWay c.loop-entry.walk c.args.wanted.now c.args.place ds fs) next.2 way.2) in
     record { room = room.0; height = room.1 }
@@ -33,7 +31,7 @@ pub loop-entry-preserved : goal.loop-entry-preserved
 loop-entry-preserved c =
     let way = c.loop-entry.invariant.walked in
     let f = c.float_in.result in
-    let ds = floats_of c.args.from c.args.pool.now.lists in
+    let ds = c.args.pool.now.lists.deferred in
     let next = next-float c.in-Some.entry.now c.next.new.self way.0 f (sym c.in-Some.ensures.steps ∙ way.1) c.float_in.ensures in
     record {
       can_next = tt;
@@ -44,6 +42,6 @@ loop-entry-preserved c =
 pub returns : goal.returns
 returns c = λ f got.
     let way = c.loop-entry.invariant.walked in
-    let ds = floats_of c.args.from c.args.pool.now.lists in
+    let ds = c.args.pool.now.lists.deferred in
     let none = no-float way.0 (sym c.in-None.ensures.steps.0 ∙ way.1) in
     on-way-end c.args.wanted.now c.loop-entry.walk c.args.place ds f got (subst (λ (fs : List Float). IsOnWay c.loop-entry.walk c.args.wanted.now c.args.place ds fs) none way.2)

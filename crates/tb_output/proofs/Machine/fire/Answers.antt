@@ -4,10 +4,10 @@ use Rattle.tb_builder.specs.Running.{IsSound}
 use Rattle.tb_output.specs.Machine.{MachineView, IsMachine}
 use Rattle.tb_output.specs.Firing.{IsRefusal}
 use Rattle.tb_output.specs.Serving.{whole_work}
-use Rattle.tb_output.proofs.TurnOutput.{if-none, if-some, begins-with}
+use Rattle.tb_output.proofs.TurnOutput.{if-none}
 use Rattle.tb_output.proofs.OutputLemmas.{if-ok, if-err}
 use Rattle.tb_output.proofs.MachineLemmas.{with-fault}
-use Rattle.tb_output.proofs.ServingLemmas.{can-begin, handed-machine, handed-served, refusal-is, after-sound, after-contents, others-stay, others-free, fired-is, may-go-back, machine-free}
+use Rattle.tb_output.proofs.ServingLemmas.{can-begin, handed-machine, handed-served, refusal-is, after-sound, after-contents, fired-is, may-go-back, machine-free}
 use Rattle.tb_output.proofs.RefusedFirings.{not-begun, same-sound, same-machine, no-memory}
 use Rattle.tb_output.proofs.Machine.fire.Goals as goal
 
@@ -59,12 +59,3 @@ returns-in-Err-clause-machine c =
 pub returns-in-Err-clause-builder : goal.returns-in-Err-clause-builder
 returns-in-Err-clause-builder c =
     subst (λ b. IsSound b c.take_notes.new.store) (sym c.in-Err.ensures.builder) (same-sound c.args.store.now c.take_notes.new.store c.in-Err.ensures.lists c.args.b.now c.requires.builder)
-
-pub returns-in-Ok-clause-again : goal.returns-in-Ok-clause-again
-returns-in-Ok-clause-again c = if-some c.args.self.now.fault _ (begins-with c.args.self.now (sym c.refusal.ensures ∙ c.in_default.is)).0
-
-pub returns-in-Ok-clause-others : goal.returns-in-Ok-clause-others
-returns-in-Ok-clause-others c = others-stay c.args.self.now c.args.b.now c.take_notes.new.b c.args.store.now c.take_notes.new.store c.args.page c.in-Ok.notes c.requires.machine (can-begin c.args.self.now c.args.b.now c.args.store.now c.args.page (sym c.refusal.ensures ∙ c.in_default.is) c.requires.page) c.in-Ok.ensures.taken c.serve.new.store c.serve.ensures.others
-
-pub returns-in-Ok-clause-free : goal.returns-in-Ok-clause-free
-returns-in-Ok-clause-free c = others-free c.args.self.now c.args.b.now c.take_notes.new.b c.args.store.now c.take_notes.new.store c.args.page c.in-Ok.notes c.requires.machine (can-begin c.args.self.now c.args.b.now c.args.store.now c.args.page (sym c.refusal.ensures ∙ c.in_default.is) c.requires.page) c.in-Ok.ensures.taken c.serve.new.store c.serve.ensures.others

@@ -72,21 +72,3 @@ returns-then-page-ge-EJECT_PENALTY-clause-lists c =
 pub returns-in-Some-clause-lists : goal.returns-in-Some-clause-lists
 returns-in-Some-clause-lists c =
     (notes-kept c.args.self.now c.clear_notes.new.self c.args.store.now c.clear_notes.new.store c.args.page c.args.notes c.in-Some.notes c.in-Some.is c.requires.machine c.requires.page c.clear_notes.result c.clear_notes.ensures.ok c.clear_notes.ensures.err).lists
-
-pub returns-then-page-ge-EJECT_PENALTY-clause-floatless : goal.returns-then-page-ge-EJECT_PENALTY-clause-floatless
-returns-then-page-ge-EJECT_PENALTY-clause-floatless c =
-    if-ok c.ordinary.result (λ l. IsReady l c.ordinary.new.self c.args.store.now c.ordinary.new.store c.args.page.body) _ (λ l h. h.floatless)
-    (ready-if c.args.self.now c.ordinary.new.self c.args.store.now c.ordinary.new.store c.args.page c.args.notes c.requires.machine c.requires.page c.ordinary.result [] (nodes_shown c.args.store.now c.args.page.body) nothing-back c.ordinary.ensures.ok)
-
-pub returns-then-page-ge-EJECT_PENALTY-clause-others : goal.returns-then-page-ge-EJECT_PENALTY-clause-others
-returns-then-page-ge-EJECT_PENALTY-clause-others c =
-    (kept-either c.args.self.now c.ordinary.new.self c.args.store.now c.ordinary.new.store c.args.page c.args.notes c.requires.machine c.requires.page c.ordinary.result [] (nodes_shown c.args.store.now c.args.page.body) nothing-back c.ordinary.ensures.ok c.ordinary.ensures.err).others
-
-pub returns-in-Some-clause-floatless : goal.returns-in-Some-clause-floatless
-returns-in-Some-clause-floatless c =
-    if-ok c.clear_notes.result (λ l. IsReady l c.clear_notes.new.self c.args.store.now c.clear_notes.new.store c.args.page.body) _ (λ l h. h.floatless)
-    (notes-ready c.args.self.now c.clear_notes.new.self c.args.store.now c.clear_notes.new.store c.args.page c.args.notes c.in-Some.notes c.in-Some.is c.requires.machine c.requires.page c.clear_notes.result c.clear_notes.ensures.ok)
-
-pub returns-in-Some-clause-others : goal.returns-in-Some-clause-others
-returns-in-Some-clause-others c =
-    (notes-kept c.args.self.now c.clear_notes.new.self c.args.store.now c.clear_notes.new.store c.args.page c.args.notes c.in-Some.notes c.in-Some.is c.requires.machine c.requires.page c.clear_notes.result c.clear_notes.ensures.ok c.clear_notes.ensures.err).others

@@ -1,10 +1,10 @@
 use Rattle.std.proofs.Common.{sym, ◌∙◌}
-use Rattle.tb_output.specs.Serving.{notes_held}
+use Rattle.tb_output.specs.Serving.{notes_in}
 use Rattle.tb_output.proofs.NotesTaking.{notes-known, none-taken, opened-sound, opened-awaits, opened-live, opened-apart, some-taken}
 use Rattle.tb_output.proofs.footnotes.take_notes.Goals as goal
 
 pub is_void-requires : goal.is_void-requires
-is_void-requires c = notes-known c.args.store.now c.args.b.now.boxes.items (notes_held c.args.b.now c.args.store.now) c.requires.only_notes
+is_void-requires c = notes-known c.args.store.now c.args.b.now.boxes.items (notes_in c.args.b.now c.args.store.now) c.requires.only_notes
 
 pub take_box-requires-clause-sound : goal.take_box-requires-clause-sound
 take_box-requires-clause-sound c = opened-sound c.args.b.now c.args.store.now c.add_list.new.self c.in_ok-notes.notes c.requires.sound c.in_ok-notes.ensures.fresh c.in_ok-notes.ensures.opened
@@ -13,7 +13,7 @@ pub take_box-requires-clause-empty : goal.take_box-requires-clause-empty
 take_box-requires-clause-empty c = opened-awaits c.args.b.now c.args.store.now c.add_list.new.self c.in_ok-notes.notes c.requires.sound c.in_ok-notes.ensures.fresh c.in_ok-notes.ensures.opened c.requires.awaits
 
 pub take_box-requires-clause-known : goal.take_box-requires-clause-known
-take_box-requires-clause-known c = notes-known c.args.store.now c.args.b.now.boxes.items (notes_held c.args.b.now c.args.store.now) c.requires.only_notes
+take_box-requires-clause-known c = notes-known c.args.store.now c.args.b.now.boxes.items (notes_in c.args.b.now c.args.store.now) c.requires.only_notes
 
 pub take_box-requires-clause-live : goal.take_box-requires-clause-live
 take_box-requires-clause-live c = opened-live c.args.b.now c.args.store.now c.add_list.new.self c.in_ok-notes.notes c.requires.sound c.in_ok-notes.ensures.fresh c.in_ok-notes.ensures.opened

@@ -2,7 +2,7 @@ use Rattle.std.proofs.Common.{◌∙◌, ap, ◌∷◌, [], ◌++◌}
 use Rattle.tb_scaled.specs.declared.Glue.{Glue}
 use Rattle.tb_pool.specs.Lists.{list_at, with_list}
 use Rattle.tb_node.specs.declared.Kind.TheVariants as kinds
-use Rattle.tb_column.specs.FloatList.{made_node}
+use Rattle.tb_column.specs.TextList.{made_node}
 use Rattle.tb_column.proofs.StoreLemmas.{with_list-added}
 use Rattle.tb_output.proofs.lists.push_clear.Goals as goal
 

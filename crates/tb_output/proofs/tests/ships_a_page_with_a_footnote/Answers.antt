@@ -13,5 +13,5 @@ fire_page-requires-clause-page g c =
     (record { live = c.in_ok-body.ensures.live; leaves = c.in_ok-body.ensures.leaves; sized = c.in_ok-body.ensures.sized; one = c.in_ok-body.ensures.one })
     in
     if-none c.in_ok-machine.machine.fault _
-    (can-serve c.text-2.new.store c.made_machine.new.store c.in_ok-machine.machine c.in_ok-machine.ensures.fresh c.in_ok-machine.ensures.opened c.in_ok-machine.ensures.events c.in_ok-machine.ensures.floatless c.page.result c.in_ok-body.body (Some c.in_ok-notes.notes) c.page.ensures.body (omega (arith, ints, c.page.ensures.penalty)) body
+    (can-serve c.text-2.new.store c.new_machine.new.store c.in_ok-machine.machine c.in_ok-machine.ensures.fresh c.in_ok-machine.ensures.opened c.in_ok-machine.ensures.events c.in_ok-machine.ensures.floatless c.page.result c.in_ok-body.body (Some c.in_ok-notes.notes) c.page.ensures.body (omega (arith, ints, c.page.ensures.penalty)) body
     (record { live = c.in_ok-notes.ensures.live; leaves = c.in_ok-notes.ensures.leaves; sized = c.in_ok-notes.ensures.sized; one = c.in_ok-notes.ensures.one }, apart))

@@ -1,9 +1,6 @@
-use Rattle.std.proofs.Common.{false, ◌∙◌, arith}
-use Rattle.tb_run.proofs.ItemLemmas.{columns-more, item-more}
+use Rattle.std.proofs.Common.{arith}
+use Rattle.tb_run.proofs.ItemLemmas.{item-more}
 use Rattle.tb_run.proofs.expanding.expand_items.Goals as goal
 
 pub loop-item-preserved : goal.loop-item-preserved
-loop-item-preserved c = (
-  c.two_after-two.ensures ∙ columns-more c.args.p.now false c.args.items.now c.loop-item.item-index c.item-item.result (omega arith) c.item-item.is c.loop-item.two c.loop-item.invariant.0,
-  item-more c.args.p.now false c.args.items.now c.loop-item.item-index c.item-item.result (omega arith) c.item-item.is c.loop-item.two c.loop-item.invariant.0 c.args.builder.now c.args.store.now c.loop-item.builder c.loop-item.store c.put_item.new.builder c.put_item.new.store c.loop-item.invariant.1 c.in_ok-put_item.ensures,
-)
+loop-item-preserved c = item-more c.args.p.now c.args.items.now c.loop-item.item-index c.item-item.result (omega arith) c.item-item.is c.args.builder.now c.args.store.now c.loop-item.builder c.loop-item.store c.put_item.new.builder c.put_item.new.store c.loop-item.invariant c.in_ok-put_item.ensures

@@ -27,10 +27,10 @@ pub contribute-requires-clause-sound : goal.contribute-requires-clause-sound
 contribute-requires-clause-sound c = foot-sound c.args.builder.now c.args.store.now c.add_list.new.self c.put_leaves.new.store c.in_ok-list.list c.args.leaves.now c.requires.can c.in_ok-list.ensures.fresh c.in_ok-list.ensures.opened c.in_ok-put_leaves.ensures
 
 pub contribute-requires-clause-joins : goal.contribute-requires-clause-joins
-contribute-requires-clause-joins c = foot-joins c.args.builder.now c.args.store.now c.add_list.new.self c.put_leaves.new.store c.in_ok-list.list c.args.leaves.now c.requires.can c.in_ok-list.ensures.fresh c.in_ok-list.ensures.opened c.in_ok-put_leaves.ensures c.args.line c.args.class (record { class = c.args.class; list = c.in_ok-list.list; height = to_z w64 (of_z w64 c.list_height-height.result); split_depth = to_z w64 (of_z w64 c.args.p.now.footsplitdepth); split_top = to_z w64 (of_z w64 c.args.p.now.footsplittop); floating = to_z w64 (of_z w64 c.args.p.now.footfloating) }) refl refl c.requires.known
+contribute-requires-clause-joins c = foot-joins c.args.builder.now c.args.store.now c.add_list.new.self c.put_leaves.new.store c.in_ok-list.list c.args.leaves.now c.requires.can c.in_ok-list.ensures.fresh c.in_ok-list.ensures.opened c.in_ok-put_leaves.ensures c.args.line (record { class = 254; list = c.in_ok-list.list; height = to_z w64 (of_z w64 c.list_height-height.result); split_depth = to_z w64 (of_z w64 c.args.p.now.footsplitdepth); split_top = to_z w64 (of_z w64 c.args.p.now.footsplittop); floating = to_z w64 (of_z w64 c.args.p.now.footfloating) }) refl refl
 
 pub contribute-requires-clause-may_wait : goal.contribute-requires-clause-may_wait
-contribute-requires-clause-may_wait c = foot-may c.args.builder.now c.args.store.now c.add_list.new.self c.put_leaves.new.store c.in_ok-list.list c.args.leaves.now c.requires.can c.in_ok-list.ensures.fresh c.in_ok-list.ensures.opened c.in_ok-put_leaves.ensures c.args.line c.args.class (record { class = c.args.class; list = c.in_ok-list.list; height = to_z w64 (of_z w64 c.list_height-height.result); split_depth = to_z w64 (of_z w64 c.args.p.now.footsplitdepth); split_top = to_z w64 (of_z w64 c.args.p.now.footsplittop); floating = to_z w64 (of_z w64 c.args.p.now.footfloating) }) refl refl c.requires.known
+contribute-requires-clause-may_wait c = foot-may c.args.builder.now c.args.store.now c.add_list.new.self c.put_leaves.new.store c.in_ok-list.list c.args.leaves.now c.requires.can c.in_ok-list.ensures.fresh c.in_ok-list.ensures.opened c.in_ok-put_leaves.ensures c.args.line (record { class = 254; list = c.in_ok-list.list; height = to_z w64 (of_z w64 c.list_height-height.result); split_depth = to_z w64 (of_z w64 c.args.p.now.footsplitdepth); split_top = to_z w64 (of_z w64 c.args.p.now.footsplittop); floating = to_z w64 (of_z w64 c.args.p.now.footfloating) }) refl refl
 
 pub returns : goal.returns
 returns c =
@@ -43,4 +43,4 @@ returns c =
     let top : to_z w64 (of_z w64 c.args.p.now.footsplittop) ≡ c.args.p.now.footsplittop = simp to_z-of_z refl in
     let floating : to_z w64 (of_z w64 c.args.p.now.footfloating) ≡ c.args.p.now.footfloating = simp to_z-of_z refl in
     on-ok c.contribute.result
-    (λ contents. foot-waits c.args.builder.now c.args.store.now c.add_list.new.self c.put_leaves.new.store c.in_ok-list.list c.args.leaves.now c.requires.can c.in_ok-list.ensures.fresh c.in_ok-list.ensures.opened c.in_ok-put_leaves.ensures c.args.line c.args.class (record { class = c.args.class; list = c.in_ok-list.list; height = to_z w64 (of_z w64 c.list_height-height.result); split_depth = to_z w64 (of_z w64 c.args.p.now.footsplitdepth); split_top = to_z w64 (of_z w64 c.args.p.now.footsplittop); floating = to_z w64 (of_z w64 c.args.p.now.footfloating) }) refl refl c.requires.known c.args.p.now height depth top floating c.contribute.new.self c.contribute.new.store c.contribute.ensures.sound contents c.contribute.ensures.others c.contribute.ensures.keeps) c.contribute.ensures.contents
+    (λ contents. foot-waits c.args.builder.now c.args.store.now c.add_list.new.self c.put_leaves.new.store c.in_ok-list.list c.args.leaves.now c.requires.can c.in_ok-list.ensures.fresh c.in_ok-list.ensures.opened c.in_ok-put_leaves.ensures c.args.line (record { class = 254; list = c.in_ok-list.list; height = to_z w64 (of_z w64 c.list_height-height.result); split_depth = to_z w64 (of_z w64 c.args.p.now.footsplitdepth); split_top = to_z w64 (of_z w64 c.args.p.now.footsplittop); floating = to_z w64 (of_z w64 c.args.p.now.footfloating) }) refl refl c.args.p.now height depth top floating c.contribute.new.self c.contribute.new.store c.contribute.ensures.sound contents c.contribute.ensures.others c.contribute.ensures.keeps) c.contribute.ensures.contents

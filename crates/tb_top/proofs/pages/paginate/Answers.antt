@@ -12,8 +12,7 @@ use Rattle.tb_top.proofs.LimitedRuns.{run-within}
 use Rattle.tb_top.proofs.CycleAnswers.{not-for-cycles}
 use Rattle.tb_top.proofs.PrintablePages.{printable-some, live-some, few-some}
 use Rattle.tb_run.proofs.WholeLemmas.{ready-counted}
-use Rattle.tb_run.proofs.ServedItems.{galley-classes, galley-served}
-use Rattle.tb_run.proofs.GalleyItems.{galley-items}
+use Rattle.tb_run.proofs.ServedItems.{galley-items, galley-served}
 use Rattle.tb_top.proofs.pages.paginate.Goals as goal
 
 pub returns-in_err-show-clause-refused : goal.returns-in_err-show-clause-refused
@@ -126,10 +125,7 @@ pub new-requires-clause-params : goal.new-requires-clause-params
 new-requires-clause-params g c = params-runnable c.args.galley.now.params c.requires.valid.params
 
 pub new-requires-clause-items : goal.new-requires-clause-items
-new-requires-clause-items g c = galley-items c.args.galley.now c.requires.valid
-
-pub new-requires-clause-classes : goal.new-requires-clause-classes
-new-requires-clause-classes g c = galley-classes c.args.galley.now c.requires.live
+new-requires-clause-items g c = galley-items c.args.galley.now (params-runnable c.args.galley.now.params c.requires.valid.params) c.requires.valid c.requires.live
 
 pub new-requires-clause-nodes : goal.new-requires-clause-nodes
 new-requires-clause-nodes g c = galley-served c.args.galley.now (params-runnable c.args.galley.now.params c.requires.valid.params) c.requires.valid c.requires.live

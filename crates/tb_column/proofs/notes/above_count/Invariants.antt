@@ -1,6 +1,0 @@
-use Rattle.std.proofs.Common.{◌≡◌, ◌*◌, ◌≤◌, take}
-use Rattle.tb_column.specs.TextList.{above_count}
-use Rattle.tb_column.proofs.notes.above_count.Given as goal
-
-abbrev pub invariant-loop-note : goal.invariant-loop-note
-invariant-loop-note l = record { value : l.count ≡ above_count (take l.note-index l.notes); bound : l.count ≤ 4 * l.note-index; few : l.note-index ≤ 256 }

@@ -1,6 +1,0 @@
-use Rattle.std.proofs.Common.{take}
-use Rattle.tb_column.proofs.NoteLemmas.{JoinedSoFar}
-use Rattle.tb_column.proofs.notes.join_notes.Given as goal
-
-abbrev pub invariant-loop-note : goal.invariant-loop-note
-invariant-loop-note l = JoinedSoFar l.p l.body l.fn.store (take l.note-index l.notes) l.store
