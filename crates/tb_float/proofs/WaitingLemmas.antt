@@ -85,15 +85,6 @@ with-marks-same parts.Double v = refl
 with-marks-same parts.Deferred v = refl
 with-marks-same parts.Second v = refl
 
-pub with-marks-again : (from : Part) (ms ns : List Bool) (v : FloatPool) → with_marks_of from ms (with_marks_of from ns v) ≡ with_marks_of from ms v
-with-marks-again parts.Current ms ns v = refl
-with-marks-again parts.Here ms ns v = refl
-with-marks-again parts.Top ms ns v = refl
-with-marks-again parts.Bottom ms ns v = refl
-with-marks-again parts.Double ms ns v = refl
-with-marks-again parts.Deferred ms ns v = refl
-with-marks-again parts.Second ms ns v = refl
-
 -- each float has one
 pub marks-count : (from : Part) → IsWaiting from → (v : FloatPool) → length v.marks ≡ length v.lists.deferred → length v.second_marks ≡ length v.lists.second → length (marks_of from v) ≡ length (floats_of from v.lists)
 marks-count parts.Current w v e f = absurd w
