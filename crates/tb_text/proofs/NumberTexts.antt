@@ -96,7 +96,7 @@ signed_back (negsuc n) = refl
 
 -- ---- numbers without a point
 
-some_digit : (ds : List ℕ) → 0 < length ds → (length ds == 0) ≡ false
+pub some_digit : (ds : List ℕ) → 0 < length ds → (length ds == 0) ≡ false
 some_digit ds h = grind (arith, nat_tests)
 
 capped_small : (m n : ℕ) → m ≡ n → n ≤ 4611686018427387904 → min m 4611686018427387904 ≡ n

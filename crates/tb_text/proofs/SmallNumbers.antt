@@ -1,5 +1,6 @@
 -- A field of a few digits and nothing else.
-use Rattle.std.proofs.Common.{◌≡◌, ℕ, ◌+◌, ◌-◌, ◌*◌, ◌^◌, ◌<◌, ◌≤◌, pos, ℤ, Bool, true, false, ◌&&◌, List, [], ◌∷◌, length, take, get_or, Ok, refl, ap, sym, ◌∙◌, arith}
+use Rattle.std.proofs.Common.{◌≡◌, ℕ, ◌+◌, ◌-◌, ◌*◌, ◌^◌, ◌<◌, ◌≤◌, pos, ℤ, Bool, true, false, ◌&&◌, List, [], ◌∷◌, length, take, get_or, Ok, Err, ◌++◌, if◌then◌else◌, refl, ap, sym, ◌∙◌, arith}
+use Rattle.std.specs.Prelude.{codes}
 use Rattle.std.specs.List.{list_all}
 use Rattle.std.specs.Int.Digits.{number_from_digits, AllBelowBase}
 use Rattle.std.proofs.lemmas.Int.Digits.{number_lt, number_push}
@@ -7,9 +8,10 @@ use Rattle.std.proofs.lemmas.List.{take_all, take_more, map-append, length-take}
 use Rattle.std.proofs.lemmas.List.Folds.{list_all_more}
 use Rattle.std.proofs.Math.Nat.{pow-le-pow_right}
 use Rattle.tb_scaled.specs.declared.Order.TheVariants.{Normal}
-use Rattle.tb_text.specs.Numbers.{is_digit, digit_values, number_of, after_whole, number_part, integer_by, integer_of, dimension_by, dimension_of, stretch_by, stretch_of}
+use Rattle.tb_text.specs.declared.TextFault.TheVariants.{BadNumber}
+use Rattle.tb_text.specs.Numbers.{is_digit, digit_values, number_of, after_whole, number_part, integer_by, integer_of, within_dimen, dimension_by, dimension_of, stretch_by, stretch_of}
 use Rattle.tb_text.proofs.Digits.{digit_small, length_values}
-use Rattle.tb_text.proofs.NumberTexts.{IsNumeralOf, nothing_more, plain_part, by_integer, by_dimension, by_stretch}
+use Rattle.tb_text.proofs.NumberTexts.{IsNumeralOf, nothing_more, plain_part, some_digit, by_integer, by_dimension, by_stretch}
 
 -- ---- one digit more
 
@@ -64,9 +66,24 @@ all_read n field numeral small = record {
   stretch = ap stretch_by (numeral_part n field numeral) ∙ by_stretch Normal false n field numeral small;
 }
 
-pub few_read : (field : List ℕ) (k n : ℕ) → 0 < length field → length field ≤ 9 → length field ≤ k → list_all is_digit (take k field) ≡ true → n ≡ number_of (take k field) → IsRead (pos n) field
-few_read field k n some few h digits e =
-    let whole : take k field ≡ field = take_all k field h in
-    let numeral : IsNumeralOf n field = record { digits = ap (list_all is_digit) (sym whole) ∙ digits; value = sym (e ∙ ap number_of whole); some = some } in
-    let below : number_of field < 1000000000 = below_power field 9 numeral.digits few in
-    all_read n field numeral (omega (arith, numeral.value))
+-- a few digits and nothing else
+pub record AreFewDigits (bs : List ℕ) (n : ℕ) : Type 0 where
+  pub numeral : IsNumeralOf n bs
+  pub small : n < 1000000000
+
+pub few_digits : (bs : List ℕ) (k n : ℕ) → 0 < length bs → length bs ≤ 9 → length bs ≤ k → list_all is_digit (take k bs) ≡ true → n ≡ number_of (take k bs) → AreFewDigits bs n
+few_digits bs k n some few h digits e =
+    let whole : take k bs ≡ bs = take_all bs k h in
+    let numeral : IsNumeralOf n bs = record { digits = ap (list_all is_digit) (sym whole) ∙ digits; value = sym (e ∙ ap number_of whole); some = some } in
+    let below : number_of bs < 1000000000 = below_power bs 9 numeral.digits few in
+    record { numeral = numeral; small = omega (arith, numeral.value) }
+
+pub few_read : (field : List ℕ) (n : ℕ) → list_all is_digit field ≡ true → 0 < length field → number_of field ≡ n → n < 1000000000 → IsRead (pos n) field
+few_read field n digits some value small = all_read n field (record { digits = digits; value = value; some = some }) (omega arith)
+
+-- a field of digits and `pt`
+pub points_read : (whole : List ℕ) (n : ℕ) → list_all is_digit whole ≡ true → 0 < length whole → number_of whole ≡ n → dimension_of (whole ++ codes "pt") ≡ within_dimen false (n * 65536)
+points_read whole n digits some value =
+    ap dimension_by (plain_part whole (codes "pt") digits some refl)
+    ∙ ap (λ t. if t && true then Err BadNumber else within_dimen false (number_of whole * 65536 + 0)) (some_digit whole some)
+    ∙ ap (within_dimen false) (let e : number_of whole * 65536 + 0 ≡ n * 65536 = omega (arith, ap (λ m. m * 65536) value) in e)

@@ -27,4 +27,4 @@ pub returns-clause-valid : goal.returns-clause-valid
 returns-clause-valid c =
     let none : 0 ≡ c.args.n + 1 - c.loop-k.k = omega arith in
     let all : c.loop-k.items ≡ made_items c.args.n 1 c.args.n = sym (append-nil c.loop-k.items) ∙ ap (λ m. c.loop-k.items ++ made_items m c.loop-k.k c.loop-k.seed) none ∙ c.loop-k.invariant.made in
-    subst IsValid (λ i. record { params = sym c.made_params.ensures i; version = 1; classes = sym c.new.ensures i; items = sym all i; end_line = c.args.n + 1 }) (generated_valid c.args.n c.requires.few)
+    subst IsValid (λ i. record { params = sym c.made_params.ensures i; version = 1; classes = sym c.new-classes.ensures i; items = sym all i; end_line = c.args.n + 1 }) (generated_valid c.args.n c.requires.few)

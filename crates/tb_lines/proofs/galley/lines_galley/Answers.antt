@@ -1,0 +1,19 @@
+use Rattle.std.proofs.Common.{ap, sym, subst, List, ℕ, Err}
+use Rattle.tb_lines.specs.declared.LinesFault.{LinesFault}
+use Rattle.tb_lines.specs.declared.LinesFault.TheVariants as faults
+use Rattle.tb_lines.specs.Reading.{reading}
+use Rattle.tb_lines.specs.Machine.{Answers}
+use Rattle.tb_lines.specs.Galley.{galley_of, refusal_of, lines_galley, GivesGalley}
+use Rattle.tb_lines.proofs.galley.lines_galley.Goals as goal
+
+refused : (bytes : List ℕ) (e : LinesFault) → Answers (Err e) (reading bytes) → GivesGalley (Err (refusal_of e)) (lines_galley bytes)
+unfolding lines_galley
+refused bytes (faults.At line field cause) h = ap galley_of h
+refused bytes faults.Memory h = tt
+
+pub returns-in-Ok : goal.returns-in-Ok
+unfolding lines_galley
+returns-in-Ok c = subst (λ answer. GivesGalley c.galley_of_text.result answer) (sym (ap galley_of c.in-Ok.ensures)) c.galley_of_text.ensures
+
+pub returns-in-Err : goal.returns-in-Err
+returns-in-Err c = subst (λ e. GivesGalley (Err e) (lines_galley c.args.bytes.now)) (sym c.refusal_of.ensures) (refused c.args.bytes.now c.in-Err.fault c.in-Err.ensures)
