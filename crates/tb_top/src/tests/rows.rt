@@ -8,7 +8,7 @@ pub struct Row {
     pub err: &'static [u8],
 }
 
-pub const ROWS: [Row; 29] = [
+pub const ROWS: [Row; 32] = [
     Row {
         name: "three boxes one page",
         input: b"galley 1\nset textheight 30\nset topskip 10\nset maxdepth 0\nbox a 10 0\nglue 0 plus 5\nbox b 10 0\nglue 0 plus 5\nbox c 10 0\nend\n",
@@ -211,5 +211,26 @@ pub const ROWS: [Row; 29] = [
         status: 3,
         out: b"",
         err: b"galley_pages: line 4 field 0: UnclosedFoot\n",
+    },
+    Row {
+        name: "clearpage within the bound on dead cycles",
+        input: b"galley 1\nset textheight 100\nset topskip 10\nset maxdepth 0\nset baselineskip 0\nset bottom flush\nset skipfootins 0\nset footsplittop 10\nset intextsep 0\nset textfloatsep 0\nset floatsep 0\nset fptop 0\nset fpsep 0\nset fpbot 0\nset dbltextfloatsep 0\nset maxdeadcycles 20\nclearpage\nend\n",
+        status: 0,
+        out: b"report 1\nend pages 0 boxes 0 floats 0 warnings 0\n",
+        err: b"",
+    },
+    Row {
+        name: "foot of an undeclared class",
+        input: b"galley 2\nfoot 4\nendfoot\nend\n",
+        status: 4,
+        out: b"",
+        err: b"galley_pages: line 2 field 2: Class\n",
+    },
+    Row {
+        name: "release 2013",
+        input: b"galley 2\nset textheight 100\nset topskip 10\nset maxdepth 0\nset baselineskip 0\nset bottom flush\nset skipfootins 0\nset footsplittop 10\nset intextsep 0\nset textfloatsep 0\nset floatsep 0\nset fptop 0\nset fpsep 0\nset fpbot 0\nset dbltextfloatsep 0\nset release 2013\nend\n",
+        status: 3,
+        out: b"",
+        err: b"galley_pages: line 16 field 3: WrongForm\n",
     },
 ];
