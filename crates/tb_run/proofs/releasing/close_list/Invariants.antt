@@ -1,7 +1,7 @@
 use Rattle.std.specs.Prelude.{◌≡◌, ◌≢◌, ℕ, length}
 use Rattle.std.specs.FinMap.{get}
 use Rattle.tb_pool.specs.Lists.{IsLive, list_at}
-use Rattle.tb_run.proofs.releasing.end_list.Given as goal
+use Rattle.tb_run.proofs.releasing.close_list.Given as goal
 
 abbrev pub invariant-nodes : goal.invariant-nodes
 invariant-nodes l = record {

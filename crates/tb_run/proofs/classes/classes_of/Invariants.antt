@@ -1,6 +1,6 @@
 use Rattle.std.proofs.Common.{◌≡◌, map, take}
 use Rattle.tb_run.specs.Run.{class_of}
-use Rattle.tb_run.proofs.routine.classes_of.Given as goal
+use Rattle.tb_run.proofs.classes.classes_of.Given as goal
 
 -- the classes before this place
 abbrev pub invariant-loop-line : goal.invariant-loop-line
