@@ -1,0 +1,326 @@
+-- Records as the lines of galleys. LaTeX's macros say a float, a clear and a new page by sequences of nodes with
+-- penalties that name them; a galley has a word for each.
+local log = require("galleyexport-log")
+local nodes = require("galleyexport-nodes")
+local floats = require("galleyexport-floats")
+local parameters = require("galleyexport-parameters")
+
+local M = {}
+
+-- The penalties that LaTeX's macros speak with.
+local NEW_PAGE, CLEAR, FLOAT_BEGINS, FLOAT_PAR, FLOAT_VERT = -10000, -10001, -10004, -10002, -10003
+local INFINITE_PENALTY = 10000
+local MOST_ITEMS = 100000
+local ORDERS = { [0] = "", "sfil", "sfil", "sfill", "sfilll" }
+local BREAK_PENALTIES = { [0] = 0, 51, 151, 301, 10000 }   -- of \pagebreak[n], without the sign
+
+local records = nodes.records
+local counts = { boxes = 0, footnotes = 0, floats = 0, margins = 0 }
+local two_columns = false
+local start_notes = 0      -- whatsits and marks that the class left on the page, by \onecolumn or \twocolumn
+local queued = 0           -- how many floats and marginal notes of the queue were written
+
+-- The document begins, in one column or in two.
+function M.begin(two)
+  two_columns = two
+  local n = tex.lists.page_head
+  while n do
+    if n.id == nodes.NODE.whatsit or n.id == nodes.NODE.mark then start_notes = start_notes + 1 end
+    n = n.next
+  end
+end
+
+-- ---- Sequences of records
+
+local function is_penalty(record, value)
+  return record and record.kind == "penalty" and record.value == value
+end
+
+-- The glue of 0 plus 1fil that \newpage and \clearpage put before their penalty.
+local function is_filling(record)
+  return record and record.kind == "glue" and record.width == 0 and record.stretch == 65536
+    and record.stretch_order == 2 and record.shrink == 0
+end
+
+-- The first place from k on whose record is of none of the kinds.
+local function past(k, kinds)
+  while records[k] and kinds[records[k].kind] do k = k + 1 end
+  return k
+end
+
+local ROOM = { glue = true, kern = true }
+local CLEARED = { glue = true, kern = true, mark = true, note = true }
+
+-- A float or marginal note begins at k: -10004, perhaps glue, an empty box, -10002 or -10003. Gives its last place.
+local function float_end(k)
+  if not is_penalty(records[k], FLOAT_BEGINS) then return nil end
+  local box = past(k + 1, ROOM)
+  local last = records[box + 1]
+  if records[box] and records[box].empty and (is_penalty(last, FLOAT_PAR) or is_penalty(last, FLOAT_VERT)) then
+    return box + 1
+  end
+end
+
+-- A clear begins at k: filling glue, -10000, a whatsit, perhaps glue, an empty box, -10001. Gives its last place.
+local function clear_end(k)
+  if not (is_filling(records[k]) and is_penalty(records[k + 1], NEW_PAGE)) then return nil end
+  local box = past(k + 2, CLEARED)
+  if records[box] and records[box].empty and is_penalty(records[box + 1], CLEAR) then return box + 1 end
+end
+
+-- ---- Lines of single records
+
+local function glue_text(record)
+  local text = tostring(record.width)
+  if record.stretch_order == 1 then log.lost("stretch of order fi (fil is written)", record.place) end
+  if record.shrink_order ~= 0 then log.lost("infinite shrink (written as finite)", record.place) end
+  if record.stretch ~= 0 then text = text .. " plus " .. record.stretch .. ORDERS[record.stretch_order] end
+  if record.shrink ~= 0 then text = text .. " minus " .. record.shrink end
+  return text
+end
+
+-- A box or rule. What is negative is written as a kern.
+local function put_box(put, record)
+  local height, depth = record.height, record.depth
+  if height < 0 or depth < 0 then log.lost("a box of negative height or depth (kerns are written)", record.place) end
+  if height < 0 then put("kern " .. height) end
+  put(string.format("%s %s %d %d", record.kind, record.name, math.max(height, 0), math.max(depth, 0)))
+  if depth < 0 then put("kern " .. depth) end
+end
+
+local PUT = {
+  box = put_box, rule = put_box,
+  glue = function(put, record)
+    if record.leaders then log.lost("leaders (their glue is kept)", record.place) end
+    put("glue " .. glue_text(record))
+  end,
+  kern = function(put, record) put("kern " .. record.width) end,
+  penalty = function(put, record)
+    local value = math.max(-INFINITE_PENALTY, math.min(INFINITE_PENALTY, record.value))
+    if record.value < -INFINITE_PENALTY then
+      log.lost(string.format("penalty %d, which speaks to another output routine (-10000 is written)", record.value),
+        record.place)
+    end
+    put("penalty " .. value)
+  end,
+  mark = function(put, record) put("mark " .. record.name) end,
+  note = function(put, record) put("note " .. record.name) end,
+  suppress = function(put, record) put(record.area == "" and "suppressfloats" or "suppressfloats " .. record.area) end,
+  title = function(_, record)
+    if not record.done then log.lost("\\twocolumn[..] away from its clear", record.place) end
+  end,
+}
+
+-- The word of a penalty that \pagebreak or \nopagebreak made, nil for any other.
+local function page_break(record)
+  local set = record.page_break
+  if not set or set == 0 or math.abs(set) > 5 then return nil end
+  local number = math.abs(set) - 1
+  if record.value ~= (set < 0 and -1 or 1) * BREAK_PENALTIES[number] then return nil end
+  return (set < 0 and "pagebreak " or "nopagebreak ") .. number
+end
+
+-- ---- Lines of a part
+
+local function put_float(put, record)
+  queued = queued + 1
+  local float = floats.queue[queued]
+  if not float then
+    log.lost("a float whose data did not come", record.place)
+    return
+  end
+  local vert = record.value == FLOAT_VERT
+  put(floats.line(float, vert and "vert" or "par"))
+  if float.kind == "margin" then
+    counts.margins = counts.margins + 1
+  else
+    counts.floats = counts.floats + 1
+    if vert and float.places % 2 == 1 then parameters.float_parskip(float.parskip) end
+  end
+end
+
+local function put_insertion(part, put, record)
+  local class = parameters.class_of(record)
+  if class then
+    part.classes[class] = true
+    put("foot " .. class.number)
+  else
+    parameters.footnote(record)
+    counts.footnotes = counts.footnotes + 1
+    put("foot")
+  end
+  for _, leaf in ipairs(record.leaves) do PUT[leaf.kind](put, leaf) end
+  put("endfoot")
+end
+
+local BEFORE_TITLE = { title = true, note = true, mark = true, glue = true, kern = true, suppress = true }
+
+-- The boxes over both columns at the head of what stands between the places first and last.
+local function titles_at(first, last)
+  local out, k = {}, first
+  while k <= last and (BEFORE_TITLE[records[k].kind] or (records[k].kind == "penalty" and records[k].value > NEW_PAGE)) do
+    if records[k].kind == "title" then out[#out + 1] = records[k] end
+    k = k + 1
+  end
+  return out
+end
+
+-- A galley has no word for a box over both columns. It is called as a float on a page of its own before, whose boxes
+-- are named skip; the float is then the first that the next page takes, and all below it stands as LaTeX has it.
+local function put_titles(part, put, titles)
+  if #titles == 0 then return end
+  part.titled = part.titled or counts.boxes == 0
+  local name = titles[1].float.name
+  put("# a box over both columns: called on a page of its own before")
+  put("box skip." .. name .. ".1 0 0")
+  for _, record in ipairs(titles) do
+    put(string.format("float %s %d double !t %d vert", record.float.name, floats.class(record.float), record.float.height))
+    record.done = true
+  end
+  put("newpage")
+  put("box skip." .. name .. ".2 0 0")
+  put("newpage")
+  put("note " .. name)
+end
+
+-- What a clear or float was made of has no line in a galley, and so no name on a page.
+local function unname(first, last)
+  for k = first, last do records[k].name = nil end
+end
+
+-- Puts the line or lines that begin with the record at k, and gives the next place. With `last_clear` at k or after,
+-- the clear is left out: it ends the galley.
+local function put_record(part, put, k, last_clear)
+  local record = records[k]
+  local float_last, clear_last = float_end(k), clear_end(k)
+  if float_last then
+    put_float(put, records[float_last])
+    unname(k, float_last)
+    return float_last + 1
+  elseif clear_last then
+    if clear_last < last_clear then put(records[clear_last].columns or "clearpage") end
+    unname(k, clear_last)
+    return clear_last + 1
+  elseif is_filling(record) and is_penalty(records[k + 1], NEW_PAGE) then
+    put("newpage")
+    return k + 2
+  elseif is_penalty(record, CLEAR) then
+    log.lost("penalty -10001 outside a clear (clearpage is written)", record.place)
+    if k < last_clear then put(record.columns or "clearpage") end
+  elseif record.kind == "insertion" then
+    put_insertion(part, put, record)
+  elseif record.kind == "penalty" and page_break(record) then
+    put(page_break(record))
+  else
+    if record.empty then record.name = "e" .. record.id
+    elseif record.kind == "box" then counts.boxes = counts.boxes + 1 end
+    PUT[record.kind](put, record)
+  end
+  return k + 1
+end
+
+-- Puts what stands between two clears. `ends_part`: the clear that ends it ends the galley too.
+local function put_stretch(part, stretch, ends_part)
+  local function put(line) part.lines[#part.lines + 1] = line end
+  put_titles(part, put, titles_at(stretch.first, stretch.last))
+  local last_clear = ends_part and stretch.last or math.huge
+  local k = stretch.first
+  while k <= stretch.last do k = put_record(part, put, k, last_clear) end
+end
+
+-- ---- Parts
+
+-- What stands between two clears, in order: first and last place, and the change of columns within.
+local function stretches()
+  local out, first = {}, 1
+  for k, record in ipairs(records) do
+    if is_penalty(record, CLEAR) then
+      out[#out + 1] = { first = first, last = k, columns = record.columns }
+      first = k + 1
+    end
+  end
+  out[#out + 1] = { first = first, last = #records }
+  return out
+end
+
+-- The galleys: stretches whose pages have the same measures.
+local function parts()
+  local out, values, two = {}, nil, two_columns
+  for k, stretch in ipairs(stretches()) do
+    local own = parameters.of_part(k - 1)
+    local part = out[#out]
+    if not part or (own and values and parameters.differ(own, values)) then
+      part = { lines = {}, classes = {}, stretches = {}, two_columns = two, first_clear = k - 1 }
+      out[#out + 1] = part
+    end
+    part.values = part.values or own
+    values = own or values
+    part.stretches[#part.stretches + 1] = stretch
+    if stretch.columns then two = stretch.columns == "twocolumn" end
+  end
+  return out
+end
+
+-- Marginal notes change sides by the page's number where `mparswitch` is on: a part whose first page is even in the
+-- document gets a page of its own before.
+local function set_parity(part, pages)
+  if parameters.value(part.values, "mparswitch") ~= "on" or counts.margins == 0 then return end
+  for _, page in ipairs(pages) do
+    if page.clears >= part.first_clear then
+      part.even = page.number % 2 == 0
+      return
+    end
+  end
+end
+
+-- A galley that is longer than the program takes is written all the same, and told.
+local function check_length(part, path)
+  local comments = 0
+  for _, line in ipairs(part.lines) do
+    if line:sub(1, 1) == "#" then comments = comments + 1 end
+  end
+  if #part.lines - comments > MOST_ITEMS then
+    log.lost(string.format("a galley of more than %d items (galley_pages refuses %s)", MOST_ITEMS, path), path)
+  end
+end
+
+local function write_part(part, path, title)
+  check_length(part, path)
+  local out = assert(io.open(path, "w"))
+  local function put(line) out:write(line, "\n") end
+  put(next(part.classes) and "galley 2" or "galley 1")
+  put("# " .. title)
+  for _, line in ipairs(parameters.lines(part.values)) do put(line) end
+  for _, line in ipairs(parameters.class_lines(part.classes)) do put(line) end
+  if part.two_columns then put("twocolumn") end
+  for k = 1, part.start_notes do put("note start." .. k) end
+  if part.even then
+    put("box skip.even 0 0")
+    put("newpage")
+  end
+  for _, line in ipairs(part.lines) do put(line) end
+  put("end")
+  out:close()
+end
+
+-- Writes all galleys of the document. Gives their number, and the counts of what stands in them.
+function M.write(job, pages)
+  parameters.settle()
+  local list = parts()
+  for _, part in ipairs(list) do
+    part.values = part.values or parameters.whole()
+    for k, stretch in ipairs(part.stretches) do put_stretch(part, stretch, k == #part.stretches) end
+  end
+  parameters.settle_parskip()
+  for k = queued + 1, #floats.queue do log.lost("a float that never reached the page builder", floats.queue[k].place) end
+  for k, part in ipairs(list) do
+    set_parity(part, pages)
+    part.start_notes = k == 1 and not part.titled and start_notes or 0
+    local title = string.format("%s%s, written by galleyexport from %s", job,
+      #list > 1 and string.format(", part %d of %d", k, #list) or "", status.banner:sub(1, 60))
+    write_part(part, job .. (k > 1 and "." .. k or "") .. ".galley", title)
+  end
+  return #list, counts
+end
+
+return M

@@ -1,0 +1,77 @@
+-- What the macros of galleyexport.sty call. Each subject has a file of its own beside this one:
+--   galleyexport-log          what a galley can't say, with its count and places
+--   galleyexport-nodes        the nodes that are contributed to the main vertical list, as records
+--   galleyexport-floats       floats, marginal notes, boxes over both columns
+--   galleyexport-parameters   parameters, and the classes of insertions
+--   galleyexport-pages        the columns and pages that LaTeX made
+--   galleyexport-galley       records as the lines of galleys
+-- The galley is written when the document ends, since a float's place and most parameters are known late.
+
+-- Modules stand where TEXINPUTS found the package.
+table.insert(package.searchers, 2, function(name)
+  local file = kpse.find_file(name .. ".lua", "tex") or kpse.find_file(name .. ".lua", "lua")
+  return file and loadfile(file)
+end)
+
+local M = {
+  log = require("galleyexport-log"),
+  nodes = require("galleyexport-nodes"),
+  floats = require("galleyexport-floats"),
+  parameters = require("galleyexport-parameters"),
+  pages = require("galleyexport-pages"),
+  galley = require("galleyexport-galley"),
+}
+
+-- The fault that stopped the export. The document itself goes on.
+local fault
+
+-- Does what a macro asks. A fault in it is told once, and no galley is written then.
+function M.call(what)
+  if fault then return end
+  local done, message = xpcall(what, debug.traceback)
+  if done then return end
+  fault = message
+  texio.write_nl("log", "galleyexport: " .. message)
+  tex.error("Package galleyexport Error: the galley of this document can't be written", {
+    "The export stopped at this line. The pages of the document are not touched;",
+    "the log has where the fault came." })
+end
+
+-- The page builder is about to run, for the reason `info`.
+local function before_page_builder(info)
+  M.call(function()
+    if info == "after_output" then
+      M.floats.suppressed(false)
+      M.nodes.skip_routine()
+    else
+      M.floats.suppressed(true)
+      M.parameters.enter(M.nodes.clears)
+      M.floats.titles()
+      M.nodes.take()
+    end
+  end)
+  return true
+end
+
+-- The document begins: nodes are followed from here on. What the class left on the page is counted.
+function M.begin(two_columns)
+  M.galley.begin(two_columns)
+  luatexbase.add_to_callback("buildpage_filter", before_page_builder, "galleyexport")
+end
+
+-- Each page is told in the log, between the places that TeX weighs for it.
+function M.trace()
+  M.pages.traced = true
+  texio.write_nl("log", "galleyexport: trace")
+end
+
+-- The document has ended: all files are written.
+function M.finish()
+  local parts, counts = M.galley.write(tex.jobname, M.pages.list)
+  M.pages.write(tex.jobname .. ".pages")
+  M.log.write(tex.jobname .. ".galleylog", string.format(
+    "%d records, %d boxes, %d footnotes, %d floats, %d marginal notes, %d pages, %d parts",
+    #M.nodes.records, counts.boxes, counts.footnotes, counts.floats, counts.margins, #M.pages.list, parts))
+end
+
+return M

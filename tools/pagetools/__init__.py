@@ -1,0 +1,1 @@
+"""What tools/compare, tools/tries and tools/picture share: the Python standard library alone."""

@@ -1,0 +1,186 @@
+"""Runs tools/paginate on our own paper and on documents that the system's packages bring, and prints a table."""
+import argparse
+import gzip
+import os
+import re
+import shutil
+import signal
+import subprocess
+import sys
+import tempfile
+
+from . import tries
+
+USAGE = """Runs tools/paginate on the paper in examples/document and on the documents of tools/documents that are
+installed, and prints how many of their pages are the same as LaTeX's: a table for tools/README.md. The exit status is 0
+where every page of the paper is the same, its stored report is what the program writes, and every document was
+paginated, without a change to what LaTeX weighs (one more run, without the exporter, shows that)."""
+
+TOOLS = os.path.dirname(os.path.dirname(os.path.abspath(__file__)))
+EXAMPLE = os.path.join(TOOLS, os.pardir, 'examples', 'document')
+PAPER = os.path.join(EXAMPLE, 'paper.tex')
+HEADER = ('Document', 'Pages', 'Columns', 'Same contents', 'and glue set', 'and every place', 'Floats and notes in place',
+          'Footnote lines in place', 'Places weighed the same')
+
+PAGES = re.compile(
+    r'^(?P<name>.*): LaTeX made (?P<pages>\d+) pages \((?P<columns>\d+) columns\), the report has \d+; '
+    r'(?P<contents>\d+) agree in contents, (?P<sets>\d+) in glue set, (?P<places>\d+) in every place; '
+    r'floats and notes in the same place (?P<floats>\d+ of \d+); footnote lines (?P<feet>\d+ of \d+)$', re.M)
+PLACES = re.compile(r'^TeX weighed (?P<weighed>\d+) places, (?P<same>\d+) were found the same', re.M)
+
+
+class Document:
+    """A line of tools/documents: the Debian package, the path below the TeX tree, and code that is to stand before."""
+
+    def __init__(self, package, path, code):
+        self.package, self.path, self.code = package, path, code
+        self.name = os.path.splitext(os.path.basename(path))[0]
+
+
+def documents(path):
+    with open(path, encoding='utf-8') as lines:
+        for line in lines:
+            words = line.split(None, 2)
+            if words and not words[0].startswith('#'):
+                yield Document(words[0], words[1], words[2].strip() if len(words) > 2 else '')
+
+
+def tree():
+    told = subprocess.run(['kpsewhich', '-var-value', 'TEXMFDIST'], stdout=subprocess.PIPE, check=True)
+    return told.stdout.decode().strip()
+
+
+def unpacked(document, root, folder):
+    """A copy of the document in the folder, with what stands beside it, since Debian packs sources; None where it is not
+    installed."""
+    source = os.path.join(root, document.path)
+    if not os.path.exists(source) and not os.path.exists(source + '.gz'):
+        return None
+    beside = os.path.dirname(source)
+    for name in os.listdir(beside):
+        path, target = os.path.join(beside, name), os.path.join(folder, name)
+        if name.endswith('.gz'):
+            with gzip.open(path) as packed, open(target[:-3], 'wb') as out:
+                shutil.copyfileobj(packed, out)
+        else:
+            os.symlink(path, target)
+    return os.path.join(folder, document.name + '.tex')
+
+
+def output(command, seconds, **options):
+    """What a command and all that it started say within so many seconds."""
+    with subprocess.Popen(command, stdin=subprocess.DEVNULL, stdout=subprocess.PIPE, stderr=subprocess.STDOUT,
+                          start_new_session=True, **options) as process:
+        try:
+            said, _ = process.communicate(timeout=seconds)
+        except subprocess.TimeoutExpired:
+            os.killpg(process.pid, signal.SIGKILL)
+            return '%s: it took more than %d seconds\n' % (os.path.basename(command[0]), seconds)
+    return said.decode('utf-8', 'replace')
+
+
+def paginate(source, out, code, seconds):
+    """What tools/paginate says of the document."""
+    command = [os.path.join(TOOLS, 'paginate'), source, '--out', out, '--no-pictures'] + (['--before', code] if code else [])
+    return output(command, seconds)
+
+
+def weighed(log):
+    """The lines of \\tracingpages in a log, as they stand."""
+    with open(log, encoding='utf-8', errors='replace') as lines:
+        text = lines.read().partition(tries.BEGIN)[2]
+    return [line for line in text.splitlines() if line.startswith('% t=')]
+
+
+def is_untouched(source, out, code, scratch, seconds):
+    """Whether LaTeX weighs the same places without the exporter. The auxiliary files are those of the run with it."""
+    name = os.path.splitext(os.path.basename(source))[0]
+    folder = tempfile.mkdtemp(dir=scratch)
+    for file in os.listdir(out):
+        if not file.endswith(('.pdf', '.log', '.galley', '.report', '.trace', '.pages')):
+            shutil.copy(os.path.join(out, file), folder)
+    with open(os.path.join(folder, 'plain.tex'), 'w', encoding='utf-8') as wrapper:
+        wrapper.write('%s\\AddToHook{begindocument/end}{\\tracingpages1 \\tracingonline0 \\wlog{%s}}\\input{%s}\n' % (
+            code, tries.BEGIN, os.path.abspath(source)))
+    paths = {'TEXINPUTS': '.:%s:' % os.path.dirname(os.path.abspath(source)), 'max_print_line': '100000'}
+    output(['lualatex', '-interaction=nonstopmode', '-jobname=' + name, 'plain.tex'], seconds, cwd=folder,
+           env=dict(os.environ, **paths))
+    return weighed(os.path.join(folder, name + '.log')) == weighed(os.path.join(out, name + '.log'))
+
+
+def stored_difference(program):
+    """'' where the program's report on the stored galley of the paper is the stored one, else what differs."""
+    with open(os.path.join(EXAMPLE, 'paper.galley'), 'rb') as galley:
+        report = subprocess.run([program], stdin=galley, stdout=subprocess.PIPE, check=False).stdout
+    with open(os.path.join(EXAMPLE, 'paper.report'), 'rb') as stored:
+        return '' if report == stored.read() else 'examples/document/paper.report is not what the program writes'
+
+
+def row(name, said):
+    """The cells of a document's row, None where it was not paginated."""
+    pages, places = PAGES.search(said), PLACES.search(said)
+    if not pages or not places:
+        return None
+    cell = pages.groupdict()
+    return (name, cell['pages'], cell['columns'], cell['contents'], cell['sets'], cell['places'], cell['floats'],
+            cell['feet'], '%s of %s' % (places.group('same'), places.group('weighed')))
+
+
+def total(rows):
+    """The sums over all rows: numbers, and pairs `A of B`."""
+    cells = ['all']
+    for column in range(1, len(HEADER)):
+        parts = [[int(n) for n in cells_of[column].split(' of ')] for cells_of in rows]
+        cells.append(' of '.join(str(sum(numbers)) for numbers in zip(*parts)))
+    return tuple(cells)
+
+
+def show(cells):
+    print('| %s |' % ' | '.join(cells), flush=True)
+
+
+def main(arguments):
+    parser = argparse.ArgumentParser(prog='check', description=USAGE)
+    parser.add_argument('names', nargs='*', help='these documents alone')
+    parser.add_argument('--documents', default=os.path.join(TOOLS, 'documents'), help='another list of documents')
+    parser.add_argument('--out', help='keep all files in this folder')
+    parser.add_argument('--seconds', type=int, default=900, help='how long one document may take (900)')
+    options = parser.parse_args(arguments)
+    if not shutil.which('lualatex'):
+        print('check: lualatex is not installed (Debian: texlive-luatex, texlive-latex-recommended)', file=sys.stderr)
+        return 3
+    program = subprocess.run([os.path.join(TOOLS, 'program')], stdout=subprocess.PIPE, check=True).stdout.decode().strip()
+    os.environ['GALLEY_PAGES'] = program
+    show(HEADER)
+    show(['---'] * len(HEADER))
+    rows, missing, failed = [], [], []
+    if stored_difference(program):
+        failed.append(('the stored example', stored_difference(program)))
+    with tempfile.TemporaryDirectory() as scratch:
+        root, out = tree(), options.out or os.path.join(scratch, 'out')
+        for document in [None] + list(documents(options.documents)):
+            name = document.name if document else 'our paper'
+            if options.names and name not in options.names:
+                continue
+            folder = tempfile.mkdtemp(dir=scratch)
+            source = unpacked(document, root, folder) if document else PAPER
+            if not source:
+                missing.append('%s (package %s)' % (name, document.package))
+                continue
+            code, own = document.code if document else '', os.path.join(out, name.replace(' ', '-'))
+            said = paginate(source, own, code, options.seconds)
+            cells = row(name, said)
+            if cells and not is_untouched(source, own, code, scratch, options.seconds):
+                failed.append((name, 'LaTeX weighs other places without the exporter'))
+            if cells:
+                rows.append(cells)
+                show(cells)
+            if not cells or (not document and cells[1] != cells[5]):
+                failed.append((name, said))
+    if rows:
+        show(total(rows))
+    for name in missing:
+        print('not installed: ' + name)
+    for name, said in failed:
+        print('%s: %s' % (name, '\n'.join(said.strip().splitlines()[-6:])))
+    return 1 if failed else 0

@@ -1,0 +1,221 @@
+"""Compares the pages that LaTeX made with those of a page report, item by item."""
+import argparse
+import difflib
+import os
+import sys
+from collections import Counter
+from dataclasses import dataclass
+
+from . import report
+
+USAGE = """Compares the pages that LaTeX made of a document (NAME.pages, by galleyexport) with the reports on its
+galleys. A line for each page tells whether it agrees in its contents (the same boxes, rules, footnotes, floats and
+notes in the same order and column, floats in the same area), in the natural height and glue set of each column, and in
+every place; then come the totals and the first difference. Pages that the exporter put in are left out. The exit status
+is 0 where all agrees, 1 where anything differs, 2 where a file can't be read."""
+
+# What no galley says and LaTeX's pages have otherwise: it takes no part in the comparison of contents and places.
+APART = ('mark', 'note', 'footrule')
+
+# The warnings of a report, by how LaTeX's own are told in its log.
+LATEX_WARNINGS = {'large': 'LaTeX Warning: Float too large for page', 'ht': 'float specifier changed to',
+                  'moved': 'LaTeX Warning: Marginpar on page', 'floats': 'contains only floats'}
+
+
+@dataclass
+class Verdict:
+    """How two pages that belong together agree. Either may be missing."""
+    latex: int           # numbers of the pages, 0 for a missing one
+    report: int
+    contents: bool = False
+    setting: bool = False
+    places: bool = False
+    rule: bool = True    # the footnote rule
+    difference: str = ''
+
+    def agrees(self):
+        return self.contents and self.setting and self.places and self.rule
+
+
+def key(item):
+    """What must be the same for an item to be the same."""
+    if item.kind in ('float', 'margin'):
+        return (item.kind, item.name, item.place)
+    return (item.kind, item.name)
+
+
+def contents(page):
+    """The items of a page in order, each with its column, and the kinds of its columns."""
+    out = [('page', page.kind)] + [(0,) + key(item) for item in page.wide]
+    for column in page.columns:
+        out.append((column.number, column.kind + ' column'))
+        out += [(column.number,) + key(item) for item in column.items if item.kind not in APART]
+    return out
+
+
+def rules(page):
+    """The sizes of the footnote rules of a page, without their places."""
+    return [(item.height, item.depth) for _, item in page.items() if item.kind == 'footrule']
+
+
+def settings(page):
+    return [(column.natural, column.setting) for column in page.columns]
+
+
+def words(entry):
+    if entry is None:
+        return 'nothing'
+    column = '' if entry[0] in ('page', 0) else 'in column %d ' % entry[0]
+    return column + ' '.join(str(word) for word in (entry if entry[0] == 'page' else entry[1:]))
+
+
+def contents_difference(a, b):
+    k = next(k for k in range(max(len(a), len(b))) if a[k:k + 1] != b[k:k + 1])
+    return 'LaTeX has %s, the report %s' % (words(a[k] if k < len(a) else None), words(b[k] if k < len(b) else None))
+
+
+def place_difference(page, other):
+    """The first item that stands in another place, '' where none does."""
+    for (number, item), (_, twin) in zip(
+            (x for x in page.items() if x[1].kind not in APART), (x for x in other.items() if x[1].kind not in APART)):
+        if (item.top, item.height, item.depth, item.number) != (twin.top, twin.height, twin.depth, twin.number):
+            return '%s %s in column %d: top %d, height %d, depth %d in LaTeX, %d, %d, %d in the report' % (
+                item.kind, item.name, number, item.top, item.height, item.depth, twin.top, twin.height, twin.depth)
+    return ''
+
+
+def compare_pages(page, other):
+    """The verdict on a page of LaTeX and one of the report."""
+    verdict = Verdict(page.number, other.number)
+    a, b = contents(page), contents(other)
+    verdict.contents = a == b
+    if not verdict.contents:
+        verdict.difference = contents_difference(a, b)
+        return verdict
+    verdict.rule = rules(page) == rules(other)
+    verdict.setting = (page.at, settings(page)) == (other.at, settings(other))
+    if not verdict.setting:
+        verdict.difference = '; '.join(
+            'column %d: natural height %d, set %s in LaTeX, %d, %s in the report' % (
+                c.number, c.natural, c.setting, d.natural, d.setting)
+            for c, d in zip(page.columns, other.columns) if (c.natural, c.setting) != (d.natural, d.setting)
+        ) or 'the columns begin at %d in LaTeX, at %d in the report' % (page.at, other.at)
+        return verdict
+    verdict.difference = place_difference(page, other)
+    verdict.places = not verdict.difference
+    if not verdict.difference and not verdict.rule:
+        verdict.difference = 'the footnote rule has another size, or stands on one of the two alone'
+    return verdict
+
+
+def pair(pages, others):
+    """Pages that belong together by their contents, so that a page too many does not shift the rest."""
+    a = [tuple(contents(page)) for page in pages]
+    b = [tuple(contents(page)) for page in others]
+    for _, i, i_end, j, j_end in difflib.SequenceMatcher(None, a, b, autojunk=False).get_opcodes():
+        for k in range(max(i_end - i, j_end - j)):
+            yield (pages[i + k] if i + k < i_end else None, others[j + k] if j + k < j_end else None)
+
+
+class Comparison:
+    """All pages of a document, and where its floats, notes and footnote lines stand."""
+
+    def __init__(self, pages, others):
+        self.verdicts = []
+        self.floats, self.boxes, self.footnotes = ({}, {}), ({}, {}), set()
+        for page, other in pair(pages, others):
+            for side, p in enumerate((page, other)):
+                if p:
+                    self._note(side, p, len(self.verdicts))
+            if page and other:
+                self.verdicts.append(compare_pages(page, other))
+            else:
+                self.verdicts.append(Verdict(page.number if page else 0, other.number if other else 0,
+                                             difference='the page stands in %s alone' % ('LaTeX' if page else 'the report')))
+
+    def _note(self, side, page, where):
+        below = 0                                    # the column whose footnotes have begun
+        for number, item in page.items():
+            if item.kind in ('float', 'margin'):
+                self.floats[side][item.name] = (where, number, item.place)
+                below = 0 if item.kind == 'float' else below
+            elif item.kind == 'footrule':
+                below = number
+            elif item.kind in ('box', 'rule'):
+                self.boxes[side][item.name] = (where, number)
+                if below == number:
+                    self.footnotes.add(item.name)
+
+    def count(self, what):
+        return sum(getattr(verdict, what) for verdict in self.verdicts)
+
+    def agrees(self):
+        return all(verdict.agrees() for verdict in self.verdicts)
+
+
+def shared(sides, names=None):
+    """How many of the names (all without them) stand in the same place on both sides, and how many there are."""
+    a, b = sides
+    names = set(a) | set(b) if names is None else names
+    return sum(1 for name in names if name in a and a[name] == b.get(name)), len(names)
+
+
+def table(comparison):
+    yield 'page  contents  glue set  places  of the report'
+    mark = {True: 'same', False: 'other'}
+    for verdict in comparison.verdicts:
+        yield '%4s  %-8s  %-8s  %-6s  %s%s' % (
+            verdict.latex or '-', mark[verdict.contents], mark[verdict.setting] if verdict.contents else '-',
+            mark[verdict.places] if verdict.setting else '-', verdict.report or '-',
+            '' if verdict.rule else '  another footnote rule')
+
+
+def summary(name, comparison, columns, theirs):
+    """The totals on one line, as tools/check takes them in."""
+    return ('%s: LaTeX made %d pages (%d columns), the report has %d; %d agree in contents, %d in glue set, %d in every '
+            'place; floats and notes in the same place %d of %d; footnote lines %d of %d') % (
+        (name, sum(1 for v in comparison.verdicts if v.latex), columns, theirs, comparison.count('contents'),
+         comparison.count('setting'), comparison.count('places')) + shared(comparison.floats)
+        + shared(comparison.boxes, comparison.footnotes))
+
+
+def warnings_line(log, warnings):
+    """The four warnings of the output routine, counted in LaTeX's log and in the reports; '' where they agree."""
+    with open(log, encoding='latin-1') as file:
+        text = file.read()
+    ours = Counter(warning.split()[0] for warning in warnings)
+    counts = [(kind, text.count(words), ours[kind]) for kind, words in LATEX_WARNINGS.items()]
+    if all(latex == here for _, latex, here in counts):
+        return ''
+    return 'warnings differ: ' + ', '.join('%s %d in LaTeX, %d in the report' % count for count in counts)
+
+
+def main(arguments):
+    parser = argparse.ArgumentParser(prog='compare', description=USAGE)
+    parser.add_argument('pages', help='NAME.pages')
+    parser.add_argument('reports', nargs='+', help='NAME.report, NAME.2.report ..: of all parts, in order')
+    parser.add_argument('--log', help="LaTeX's log, whose warnings are compared too")
+    parser.add_argument('--all', action='store_true', help='tell every difference, not the first alone')
+    parser.add_argument('--quiet', action='store_true', help='no line for each page')
+    options = parser.parse_args(arguments)
+    try:
+        latex = report.read(options.pages)
+        reports = [report.read(path) for path in options.reports]
+        warnings = warnings_line(options.log, [w for r in reports for w in r.warnings]) if options.log else ''
+    except (OSError, report.ReportFault) as fault:
+        print('compare: %s' % fault, file=sys.stderr)
+        return 2
+    others = [page for r in reports for page in r.pages if not page.is_skipped()]
+    for number, page in enumerate(others, 1):
+        page.number = number
+    comparison = Comparison(latex.pages, others)
+    if not options.quiet:
+        print('\n'.join(table(comparison)))
+    print(summary(os.path.splitext(os.path.basename(options.pages))[0], comparison,
+                  sum(len(page.columns) for page in latex.pages), len(others)))
+    differences = ['page %d: %s' % (v.latex or v.report, v.difference) for v in comparison.verdicts if v.difference]
+    if warnings:
+        differences.append(warnings)
+    if differences:
+        print('\n'.join(differences) if options.all else 'first difference: ' + differences[0])
+    return 0 if comparison.agrees() and not warnings else 1

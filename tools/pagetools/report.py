@@ -1,0 +1,169 @@
+"""Page reports, with the lines of a trace where they have them (docs/FORMATS.md). All dimensions are sp."""
+from dataclasses import dataclass, field
+from fractions import Fraction
+
+
+class ReportFault(Exception):
+    """A file that is no report, with the line that is none of a report's."""
+
+
+@dataclass
+class Item:
+    """A line below a column, or above the first: a box, rule, footrule, mark, note, float or marginal note."""
+    kind: str
+    name: str = ''
+    top: int = 0
+    height: int = 0
+    depth: int = 0
+    place: str = ''      # of a float: here, top, bottom, page or wide; of a marginal note: left or right
+    number: int = 0      # of a float: its class; of a marginal note: its shift
+
+    def bottom(self):
+        return self.top + self.height + self.depth
+
+
+@dataclass
+class Column:
+    number: int
+    kind: str            # text or floats
+    height: int
+    natural: int
+    sign: str            # none, stretch or shrink
+    order: str           # of the stretch
+    ratio: Fraction
+    amount: int          # what was stretched or shrunk
+    available: int       # how much stretch or shrink there was
+    overfull: int
+    setting: str         # the words of the report
+    items: list = field(default_factory=list)
+
+    def footnotes_top(self):
+        """The top of the footnote rule, None without one."""
+        return next((item.top for item in self.items if item.kind == 'footrule'), None)
+
+
+@dataclass
+class Try:
+    """A place that the page builder weighed. Badness and cost are words: `*` stands for an overfull page."""
+    line: int            # of the galley; 0 for a node that the output routine made
+    total: int
+    stretch: tuple       # by order
+    shrink: int
+    goal: int
+    badness: str
+    penalty: int
+    cost: str
+    best: bool           # the best place so far
+
+    def sums(self):
+        """All but the line: what TeX tells too."""
+        return (self.total, self.stretch, self.shrink, self.goal, self.badness, self.penalty, self.cost, self.best)
+
+
+@dataclass
+class Page:
+    number: int
+    kind: str            # one, two or wide
+    at: int = 0          # of a pair: how far its columns stand below the page's top
+    wide: list = field(default_factory=list)        # floats over both columns
+    columns: list = field(default_factory=list)
+    warnings: list = field(default_factory=list)    # lines without `warn`, that stand before the page
+    tries: list = field(default_factory=list)       # those that stand before the page
+
+    def items(self):
+        """Each item with the number of its column, 0 for the floats over both."""
+        for item in self.wide:
+            yield 0, item
+        for column in self.columns:
+            for item in column.items:
+                yield column.number, item
+
+    def is_skipped(self):
+        """Whether the exporter put the page in, for what a galley can't say."""
+        return any(item.name.startswith('skip.') for _, item in self.items())
+
+
+@dataclass
+class Report:
+    path: str
+    pages: list = field(default_factory=list)
+    warnings: list = field(default_factory=list)    # all of them
+    end: str = ''                                   # the last line, '' where the run was refused
+
+
+def _column(words):
+    column = Column(int(words[0]), words[1], int(words[3]), int(words[5]), words[7], 'normal', Fraction(0), 0, 1, 0,
+                    ' '.join(words[7:]))
+    rest = words[8:]
+    if column.sign == 'stretch':
+        column.order = rest.pop(0)
+    if column.sign != 'none':
+        column.amount, column.available = (int(n) for n in rest.pop(0).split('/'))
+        column.ratio = Fraction(column.amount, column.available)
+    if rest and rest[0] == 'overfull':
+        column.overfull = int(rest[1])
+    return column
+
+
+def _item(kind, words):
+    if kind == 'float':
+        return Item(kind, words[0], int(words[3]), int(words[4]), 0, words[2], int(words[1]))
+    if kind == 'margin':
+        return Item(kind, words[0], int(words[3]), int(words[4]), int(words[5]), words[1], int(words[2]))
+    if kind == 'footrule':
+        return Item(kind, '', int(words[0]), int(words[1]), int(words[2]))
+    if kind in ('mark', 'note'):
+        return Item(kind, words[0], int(words[1]))
+    return Item(kind, words[0], int(words[1]), int(words[2]), int(words[3]))
+
+
+def _try(words):
+    return Try(int(words[0]), int(words[2]), tuple(int(n) for n in words[4:8]), int(words[9]), int(words[11]), words[13],
+               int(words[15]), words[17], len(words) > 18)
+
+
+class _Reader:
+    """Reads the lines of a report one by one."""
+
+    def __init__(self, path):
+        self.report = Report(path)
+        self.warnings, self.tries = [], []          # since the last page
+
+    def take(self, word, words):
+        pages = self.report.pages
+        if word == 'page':
+            page = Page(int(words[0]), words[1], int(words[3]) if words[1] == 'two' else 0,
+                        warnings=self.warnings, tries=self.tries)
+            self.warnings, self.tries = [], []
+            pages.append(page)
+        elif word == 'column':
+            pages[-1].columns.append(_column(words))
+        elif word == 'try':
+            self.tries.append(_try(words))
+        elif word == 'warn':
+            self.warnings.append(' '.join(words))
+            self.report.warnings.append(' '.join(words))
+        elif word == 'end':
+            self.report.end = ' '.join(['end'] + words)
+        elif word in ('box', 'rule', 'footrule', 'mark', 'note', 'float', 'margin'):
+            page = pages[-1]
+            (page.columns[-1].items if page.columns else page.wide).append(_item(word, words))
+        elif word not in ('report', 'left'):
+            raise ValueError(word)
+
+
+def read(path):
+    """The report in a file. Comments (`#`), which galleyexport writes into its own reports, are passed over."""
+    reader = _Reader(path)
+    with open(path, encoding='latin-1') as lines:
+        for number, line in enumerate(lines, 1):
+            words = line.split()
+            if not words or words[0].startswith('#'):
+                continue
+            if number == 1 and words[0] != 'report':
+                raise ReportFault('%s is no page report: its first line is not `report 1`' % path)
+            try:
+                reader.take(words[0], words[1:])
+            except (ValueError, IndexError, ZeroDivisionError):
+                raise ReportFault('%s, line %d: no line of a page report: %s' % (path, number, line.strip())) from None
+    return reader.report

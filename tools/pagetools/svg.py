@@ -1,0 +1,126 @@
+"""One drawing in the form of SVG, in points. Colours are classes, each for a light and for a dark screen; on paper the
+light ones hold."""
+from html import escape
+
+# A class, what it is on a light ground, and on a dark one.
+STYLE = [
+    ('back', 'fill:#e9ebee', 'fill:#15171a'),
+    ('sheet', 'fill:#fdfdfb;stroke:#c4cad1;stroke-width:.8', 'fill:#1f2328;stroke:#3a4149'),
+    ('frame', 'fill:none;stroke:#5b6b7b;stroke-width:.7', 'stroke:#8794a2'),
+    ('box', 'fill:#fff;stroke:#9fb3c8;stroke-width:.4', 'fill:#2a3037;stroke:#52667b'),
+    ('rule', 'fill:#444', 'fill:#c8ced4'),
+    ('empty', 'stroke:#c9d3dd;stroke-width:.6', 'stroke:#4a545e'),
+    ('baseline', 'stroke:#d5dee8;stroke-width:.4', 'stroke:#3e4852'),
+    ('feet', 'fill:#f5f1e4', 'fill:#2b2a22'),
+    ('footrule', 'stroke:#111', 'stroke:#e6e6e6'),
+    ('title', 'fill:#222;font-weight:bold', 'fill:#e8ebee'),
+    ('words', 'fill:#1f2d3d', 'fill:#dbe2ea'),
+    ('quiet', 'fill:#66727f', 'fill:#98a3af'),
+    ('label', 'fill:#aab4bf', 'fill:#66717c'),
+    ('still', 'stroke:#9aa0a6;fill:#7b828a', 'stroke:#727b85;fill:#8d97a1'),
+    ('stretch', 'stroke:#2a9d4b;fill:#1f7a39', 'stroke:#45c26b;fill:#5bd07e'),
+    ('shrink', 'stroke:#e07b00;fill:#b96500', 'stroke:#f09a3e;fill:#f3aa5c'),
+    ('hinders', 'fill:#c0392b', 'fill:#ff7d6e'),
+    ('invites', 'fill:#2471a3', 'fill:#6cb8ea'),
+    ('tried', 'stroke:#9aa0a6;fill:#7b828a', 'stroke:#727b85;fill:#98a3af'),
+    ('best', 'stroke:#3b4754;fill:#2c3743', 'stroke:#d0d7de;fill:#dbe2ea'),
+    ('awful', 'stroke:#d98880;fill:#c0392b', 'stroke:#a8564c;fill:#ff7d6e'),
+    ('ends', 'stroke:#1f7a39;fill:#1f7a39;font-weight:bold', 'stroke:#5bd07e;fill:#5bd07e'),
+    ('margin', 'fill:#fff;stroke:#b08bc4;stroke-width:.6', 'fill:#2b2731;stroke:#9472ab'),
+    ('aside', 'fill:#7b4f94', 'fill:#cfa9e4'),
+    ('leader', 'stroke:#b08bc4;stroke-width:.4;stroke-dasharray:1.5 1.5', 'stroke:#9472ab'),
+    ('note', 'fill:#c2a500', 'fill:#e2c94a'),
+    ('mark', 'fill:#a04000', 'fill:#ef8c4f'),
+    ('overfull', 'fill:#d62728;fill-opacity:.35', 'fill:#ff6b6b'),
+    ('alarm', 'fill:#d62728;font-weight:bold', 'fill:#ff7d6e'),
+    ('warning', 'fill:#a86400', 'fill:#f0b45c'),
+    ('plate', 'fill:#fff;fill-opacity:.85', 'fill:#1f2328'),
+]
+
+# The classes of floats: their colour on a light ground and on a dark one. A class past the last begins again.
+FLOATS = [('#3d6a9b', '#7fb0e0'), ('#b5650a', '#f0a04b'), ('#3b8a42', '#74c97c'), ('#7d549a', '#c09be0'),
+          ('#a81a68', '#ee7cb8'), ('#277a72', '#5fc5ba'), ('#7a4608', '#cf9a55'), ('#555555', '#b3b3b3')]
+
+GENERAL = '''text{stroke:none!important;font-family:"DejaVu Sans",Helvetica,Arial,sans-serif}
+.spring{fill:none!important;stroke-width:.7}.tick{stroke-width:1.6}.thin{stroke-width:.5}'''
+
+
+def _float_rules(colour):
+    for number, colours in enumerate(FLOATS):
+        c = colours[colour]
+        yield '.hatch%d{fill:url(#h%d);stroke:%s;stroke-width:.9}' % (number, number, c)
+        yield '.ground%d{fill:%s;fill-opacity:.13}.stripe%d{stroke:%s;stroke-opacity:.4;stroke-width:1.2}' % (
+            number, c, number, c)
+        yield '.float%d{fill:%s;font-weight:bold}' % (number, c)
+
+
+def style():
+    light = ['.%s{%s}' % (name, light) for name, light, _ in STYLE] + list(_float_rules(0))
+    dark = ['.%s{%s}' % (name, dark) for name, _, dark in STYLE] + list(_float_rules(1))
+    return '<style>%s\n%s\n@media screen and (prefers-color-scheme:dark){\n%s\n}</style>' % (
+        GENERAL, '\n'.join(light), '\n'.join(dark))
+
+
+def patterns():
+    """The hatching of floats."""
+    return ''.join(
+        '<pattern id="h%d" width="6" height="6" patternUnits="userSpaceOnUse" patternTransform="rotate(45)">'
+        '<rect width="6" height="6" class="ground%d"/><line x1="0" y1="0" x2="0" y2="6" class="stripe%d"/></pattern>' % (
+            number, number, number) for number in range(len(FLOATS)))
+
+
+def float_number(number):
+    """The colour of a class of floats."""
+    return (number - 1) % len(FLOATS)
+
+
+class Drawing:
+    """Shapes, drawn one over the other. A `tip` is shown under the pointer."""
+
+    def __init__(self, width, height):
+        self.width, self.height, self.shapes = width, height, []
+
+    def _add(self, tag, attributes, content='', tip=''):
+        words = []
+        for name, value in attributes.items():
+            text = '%.2f' % value if isinstance(value, float) else escape(str(value))
+            words.append('%s="%s"' % (name.replace('_', '-'), text))
+        words = ' '.join(words)
+        inner = ('<title>%s</title>' % escape(tip) if tip else '') + content
+        self.shapes.append('<%s %s>%s</%s>' % (tag, words, inner, tag) if inner else '<%s %s/>' % (tag, words))
+
+    def rect(self, x, y, width, height, shape, tip='', radius=0.0):
+        size = {'x': float(x), 'y': float(y), 'width': max(float(width), 0.0), 'height': max(float(height), 0.0)}
+        if radius:
+            size['rx'] = float(radius)
+        self._add('rect', dict(size, **{'class': shape}), tip=tip)
+
+    def line(self, x, y, x2, y2, shape, tip='', width=None):
+        ends = {'x1': float(x), 'y1': float(y), 'x2': float(x2), 'y2': float(y2), 'class': shape}
+        if width is not None:
+            ends['style'] = 'stroke-width:%.2f' % width
+        self._add('line', ends, tip=tip)
+
+    def text(self, x, y, words, size, shape, anchor='start', tip=''):
+        self._add('text', {'x': float(x), 'y': float(y), 'font_size': float(size), 'text_anchor': anchor, 'class': shape},
+                  escape(words), tip)
+
+    def dot(self, x, y, shape, tip):
+        self._add('circle', {'cx': float(x), 'cy': float(y), 'r': 1.3, 'class': shape}, tip=tip)
+
+    def polygon(self, points, shape):
+        self._add('polygon', {'points': ' '.join('%.2f,%.2f' % point for point in points), 'class': shape})
+
+    def spring(self, x, top, bottom, shape, tip):
+        turns = max(2, min(40, int((bottom - top) / 2.2)))
+        step = (bottom - top) / turns
+        bends = [(x + (2.2 if k % 2 == 0 else -2.2), top + (k + 0.5) * step) for k in range(turns)]
+        points = ' '.join('%.2f,%.2f' % point for point in [(x, top)] + bends + [(x, bottom)])
+        self._add('polyline', {'points': points, 'class': shape + ' spring'}, tip=tip)
+
+    def write(self, path):
+        with open(path, 'w', encoding='utf-8') as out:
+            out.write('<svg xmlns="http://www.w3.org/2000/svg" width="%.0f" height="%.0f" viewBox="0 0 %.2f %.2f">\n' % (
+                self.width * 1.35, self.height * 1.35, self.width, self.height))
+            out.write(style() + '\n<defs>%s</defs>\n<rect width="100%%" height="100%%" class="back"/>\n' % patterns())
+            out.write('\n'.join(self.shapes) + '\n</svg>\n')
