@@ -10,10 +10,12 @@ use Rattle.tb_float.specs.Pool.{FloatPool}
 use Rattle.tb_column.specs.declared.Sent.{Sent}
 use Rattle.tb_column.specs.declared.Warn.{Warn}
 use Rattle.tb_output.specs.Act.{large_warning}
-use Rattle.tb_output.specs.Machine.{MachineView, sent_lists, event_lists, left_lists, machine_lists, AreDistinct, IsNotAmong, IsPageSent, IsMachine}
+use Rattle.tb_output.specs.Machine.{MachineView, sent_lists, event_lists, left_lists, machine_lists, IsPageSent, IsMachine}
+use Rattle.tb_pool.specs.Frame.{IsNoneOf}
+use Rattle.tb_column.specs.Notes.{AreDistinct}
 use Rattle.tb_output.specs.Acting.{warnings_sent, TakesNoList, clipped, taken_into, with_float, HasTaken, HasNoRoom}
 use Rattle.tb_output.proofs.StandLemmas.{all-join}
-use Rattle.tb_output.proofs.OutputLemmas.{either-way}
+use Rattle.tb_output.proofs.ResultLemmas.{either-way}
 
 -- ---- warnings have no lists
 
@@ -63,7 +65,7 @@ module _ (m now : MachineView) (f : Float) where
     -- no list becomes the machine's
     pub float-takes : TakesNoList m now
     float-takes q apart =
-        either-way r (λ x. HasTaken 1 m (with_float f m) now) (λ e. HasNoRoom 1 e.live m now) (IsNotAmong q (machine_lists now))
-        (λ x h. subst (λ v. IsNotAmong q (machine_lists v)) (sym h.machine) (subst (IsNotAmong q) float-lists apart))
-        (λ e h. subst (λ v. IsNotAmong q (machine_lists v)) (sym h.machine) apart)
+        either-way r (λ x. HasTaken 1 m (with_float f m) now) (λ e. HasNoRoom 1 e.live m now) (IsNoneOf q (machine_lists now))
+        (λ x h. subst (λ v. IsNoneOf q (machine_lists v)) (sym h.machine) (subst (IsNoneOf q) float-lists apart))
+        (λ e h. subst (λ v. IsNoneOf q (machine_lists v)) (sym h.machine) apart)
         ok err

@@ -22,7 +22,8 @@ use Rattle.tb_column.specs.declared.Sent.TheVariants as events
 use Rattle.tb_column.specs.declared.Warn.{Warn}
 use Rattle.tb_output.specs.State.{State, no_suppress}
 use Rattle.tb_output.specs.Act.{Acted, went, full, lists_with_taken, large_warning, suppressed, act_on}
-use Rattle.tb_output.specs.Machine.{MachineView, state_shown, machine_lists, IsNotAmong}
+use Rattle.tb_pool.specs.Frame.{IsNoneOf}
+use Rattle.tb_output.specs.Machine.{MachineView, state_shown, machine_lists}
 
 -- ---- what is asked
 
@@ -62,7 +63,7 @@ line_of (acts.Columns two) = 0
 
 -- a list that is none of the machine's before is none of it afterwards
 abbrev pub TakesNoList : MachineView → MachineView → Type 0
-TakesNoList m now = (q : ℕ) → IsNotAmong q (machine_lists m) → IsNotAmong q (machine_lists now)
+TakesNoList m now = (q : ℕ) → IsNoneOf q (machine_lists m) → IsNoneOf q (machine_lists now)
 
 -- ---- the machine after each act
 
