@@ -1,5 +1,5 @@
 -- What holds of the ends after a refusal and its line, and which answer the mode and the input decide.
-use Rattle.std.proofs.Common.{◌≡◌, ◌≢◌, ℕ, ◌≤◌, ◌⊎◌, List, [], ◌++◌, length, refl, sym, ◌∙◌, ap, subst, inl, inr, arith, append-nil, length-append, Bool, true, false, nat_lt, Option, None, Some, Ok}
+use Rattle.std.proofs.Common.{◌≡◌, ◌≢◌, ℕ, zero, suc, ◌≤◌, ◌⊎◌, List, [], ◌++◌, length, refl, sym, ◌∙◌, ap, subst, inl, inr, arith, append-nil, length-append, Bool, true, false, nat_lt, Option, None, Some, Ok, Err}
 use Rattle.std.specs.Prelude.{IfSome}
 use Rattle.std.specs.Io.KnownBytes.{Keeps, Appends}
 use Rattle.std.proofs.lemmas.Bool.Decides.{nat_tests}
@@ -15,6 +15,13 @@ use Rattle.tb_galley.specs.CauseText.{is_range_cause}
 use Rattle.tb_galley.specs.Grammar.{grammar, input_limit}
 use Rattle.tb_galley.specs.Valid.{IsValid}
 use Rattle.tb_galley.specs.Print.{printed}
+use Rattle.tb_lines.specs.declared.LinesCause.{LinesCause}
+use Rattle.tb_lines.specs.declared.LinesRefusal.{LinesRefusal}
+use Rattle.tb_lines.specs.declared.LinesRefusal.TheVariants as unbroken
+use Rattle.tb_lines.specs.Faults.{fault as lines_fault}
+use Rattle.tb_lines.specs.Galley.{faulty, no_breaks, lines_galley, GivesGalley as GivesLines}
+use Rattle.tb_lines.specs.RefusalText.{is_range_cause as is_range_of_lines}
+use Rattle.tb_lines.proofs.LongTexts.{long_text}
 use Rattle.tb_words.specs.declared.Mode.{Mode}
 use Rattle.tb_words.specs.declared.Mode.TheVariants as modes
 use Rattle.tb_words.specs.declared.WordsFault.{WordsFault}
@@ -23,20 +30,22 @@ use Rattle.tb_report.specs.declared.Totals.{Totals}
 use Rattle.tb_top.specs.declared.PageFault.{PageFault}
 use Rattle.tb_top.specs.declared.PageFault.TheVariants as pages
 use Rattle.tb_top.specs.declared.View.{View}
+use Rattle.tb_top.specs.declared.View.TheVariants as views
 use Rattle.tb_top.specs.declared.input.InputFault.{InputFault}
 use Rattle.tb_top.specs.declared.input.InputFault.TheVariants as inputs
 use Rattle.tb_top.specs.declared.refusal.Refusal.{Refusal}
 use Rattle.tb_top.specs.declared.refusal.Refusal.TheVariants as refusals
 use Rattle.tb_top.specs.declared.status.Status.{Status}
 use Rattle.tb_top.specs.declared.status.Status.TheVariants as answers
-use Rattle.tb_run.specs.Run.{End, done, pool_full, dead_cycles, page_limit, node_limit, run_of}
+use Rattle.tb_generator.specs.Generate.{generated}
+use Rattle.tb_run.specs.Run.{Run, End, done, pool_full, dead_cycles, page_limit, node_limit, run_of}
 use Rattle.tb_top.specs.Paginated.{view_text, end_fault, EndsWith, Paginates, Refuses}
-use Rattle.tb_top.specs.Report.{report, trace}
+use Rattle.tb_top.specs.Report.{report, trace, totals_of}
 use Rattle.tb_top.specs.Laws.{KeepsLaws}
-use Rattle.tb_top.specs.Answer.{Reply, answer_at, line_at, answer_for_cause, err_line, fault_reply, galley_reply, run_reply, text_reply, reply_to}
+use Rattle.tb_top.specs.Answer.{Reply, summary_line, summary_at, is_done, answer_at, line_at, answer_for_cause, answer_for_lines, err_line, fault_reply, no_lines_reply, lines_reply, galley_reply, run_reply, text_reply, reply_to}
 use Rattle.tb_top.specs.Outcome.{Stream, Failed, Gives, Reads, IsUnread, IsGalleyWith, ShowsRunOf, HasLawfulRun, LacksRoomForCycles, Decided, Finished, OutOfCycles, CutOff, StandsAfter, TellsLine, Says, Outcome, Succeeds, IsAnswer, input_of}
 use Rattle.tb_top.proofs.CycleAnswers.{no-room}
-use Rattle.tb_top.specs.Refusal.{galley_status, page_status, input_status, words_status, output_status, refusal_status, refusal_line, page_text, output_text, IsNoGalley}
+use Rattle.tb_top.specs.Refusal.{galley_status, page_status, lines_status, input_status, words_status, output_status, refusal_status, refusal_line, page_text, output_text, IsNoGalley}
 
 -- ---- a run that ended
 
@@ -171,6 +180,97 @@ module _ (m : Mode) (reply : Galley → Reply) (mode : ReadsGalleys m reply) (so
   left_by_reading kept (refusals.Words f) missing = absurd missing
   left_by_reading kept (refusals.Pages f) missing = absurd missing
   left_by_reading kept (refusals.Output f) missing = absurd missing
+  left_by_reading kept (refusals.Lines f) missing = absurd missing
+
+-- ---- the mode that runs a generated galley
+
+prefix-nothing : (old new : Option (List ℕ)) → AppendsPrefix old new [] → Appends old new []
+prefix-nothing old new (zero, a) = a
+prefix-nothing old new (suc n, a) = a
+
+pub appends-keeps : (old new : Option (List ℕ)) → Appends old new [] → Keeps old new
+appends-keeps None new a = tt
+appends-keeps (Some xs) None a = absurd a
+appends-keeps (Some xs) (Some ys) a = a ∙ append-nil xs
+
+module _ (n : ℕ) (source out : Stream) (left : Keeps source.before source.after) where
+  abbrev run_made : Run
+  run_made = run_of (generated n)
+
+  summary-read : Reads (modes.Generate n) source []
+  summary-read = (left, refl)
+
+  none-written : (e : End) (t : Totals) (f : PageFault) → end_fault e ≡ Some f → summary_at n t e ≡ []
+  none-written (done l) t f is = cc
+  none-written (pool_full line live) t f is = refl
+  none-written (dead_cycles k) t f is = refl
+  none-written (page_limit k) t f is = refl
+  none-written (node_limit k) t f is = refl
+
+  nothing-written : (f : PageFault) → EndsWith views.Silent run_made out.before out.after f → Appends out.before out.after (summary_at n (totals_of run_made.events) run_made.end)
+  nothing-written f r = subst (Appends out.before out.after) (sym (none-written run_made.end (totals_of run_made.events) f r.ended)) r.written
+
+  summary-ended : (f : PageFault) → EndsWith views.Silent run_made out.before out.after f → Decided (Some (modes.Generate n)) (page_status f) source out (err_line (page_text f))
+  summary-ended f r =
+      decided_by (modes.Generate n) [] source out summary-read _ _ _ refl (page_status-ended run_made.end f r.ended) (page_text-ended run_made.end f r.ended) (nothing-written f r)
+
+  out-of-cycles-made : IsValid (generated n) → (k : ℕ) → EndsWith views.Silent run_made out.before out.after (pages.DeadCycles k) → OutOfCycles (Some (modes.Generate n)) source out (err_line (page_text (pages.DeadCycles k)))
+  out-of-cycles-made valid k r =
+      shown_by (modes.Generate n) [] source out summary-read LacksRoomForCycles (no-room (generated n) valid views.Silent out.before out.after k r) answers.DeadCycles (err_line (page_text (pages.DeadCycles k))) _ refl
+      (page_status-ended run_made.end (pages.DeadCycles k) r.ended) (page_text-ended run_made.end (pages.DeadCycles k) r.ended) (nothing-written (pages.DeadCycles k) r)
+
+  -- what stands where the run is refused; it writes nothing
+  pub left_by_run : IsValid (generated n) → (f : PageFault) → Refuses views.Silent run_made out.before out.after f → (f ≡ pages.WriteFault → ⊥) → StandsAfter (Some (modes.Generate n)) (page_status f) source out (err_line (page_text f))
+  left_by_run valid (pages.PoolFull line live) r never = summary-ended (pages.PoolFull line live) r
+  left_by_run valid (pages.DeadCycles k) r never = out-of-cycles-made valid k r
+  left_by_run valid (pages.PageLimit k) r never = summary-ended (pages.PageLimit k) r
+  left_by_run valid (pages.NodeLimit k) r never = summary-ended (pages.NodeLimit k) r
+  left_by_run valid pages.WriteFault r never = absurd (never refl)
+  left_by_run valid pages.Memory r never = (inl (appends-keeps out.before out.after (prefix-nothing out.before out.after r)), refl)
+
+  well-written : (e : End) (t : Totals) → end_fault e ≡ None → (summary_at n t e ≡ summary_line n t) × (is_done e ≡ true) × (answers.Done ≡ answer_at e) × ([] ≡ line_at e)
+  well-written (done l) t is = (refl, refl, refl, refl)
+  well-written (pool_full line live) t is = cc
+  well-written (dead_cycles k) t is = cc
+  well-written (page_limit k) t is = cc
+  well-written (node_limit k) t is = cc
+
+  module _ (ended : end_fault run_made.end ≡ None) where
+    -- what stands where the line was written, or not
+    pub summary_well : HasLawfulRun (generated n) → Appends out.before out.after (summary_line n (totals_of run_made.events)) → Finished (Some (modes.Generate n)) source out []
+    summary_well laws a =
+        let w = well-written run_made.end (totals_of run_made.events) ended in
+        shown_by (modes.Generate n) [] source out summary-read HasLawfulRun laws answers.Done [] _ refl w.2 w.3 (subst (Appends out.before out.after) (sym w.0) a)
+
+    left_by_fault : (f : SinkFault) → (f ≡ outputs.Failed → Failed out) → CutOff (Some (modes.Generate n)) source out → StandsAfter (Some (modes.Generate n)) (output_status f) source out (err_line (output_text f))
+    left_by_fault outputs.Failed rose c = (c, rose refl, refl)
+    left_by_fault outputs.Memory rose c = (inr c, refl)
+
+    pub left_by_summary : (f : SinkFault) → AppendsPrefix out.before out.after (summary_line n (totals_of run_made.events)) → (f ≡ outputs.Failed → Failed out) → StandsAfter (Some (modes.Generate n)) (output_status f) source out (err_line (output_text f))
+    left_by_summary f a rose =
+        let w = well-written run_made.end (totals_of run_made.events) ended in
+        left_by_fault f rose (cut_off_by (modes.Generate n) [] source out summary-read _ refl w.1 (subst (AppendsPrefix out.before out.after) (sym w.0) a))
+
+-- ---- lines
+
+module _ (input : List ℕ) (source out : Stream) (read : Gives source.before source.after input) where
+  lines_status-stands : (range : Bool) (c : LinesCause) (line : List ℕ) → is_range_of_lines c ≡ range → Decided (Some modes.Lines) (answer_for_lines c) source out line → StandsAfter (Some modes.Lines) (answer_for_lines c) source out line
+  lines_status-stands true c line is d = rw is (rw is at d)
+  lines_status-stands false c line is d = rw is (rw is at d)
+
+  -- what stands where a text has no galley of lines
+  pub left_by_lines : Keeps out.before out.after → (f : LinesRefusal) → GivesLines (Err f) (lines_galley input) → StandsAfter (Some modes.Lines) (lines_status f) source out (refusal_line (refusals.Lines f))
+  left_by_lines kept (unbroken.At line field cause) h =
+      lines_status-stands (is_range_of_lines cause) cause (refusal_line (refusals.Lines (unbroken.At line field cause))) refl
+      (decided_by modes.Lines input source out read _ _ (no_lines_reply (faulty (lines_fault line field cause))) (ap lines_reply h) refl refl (nothing out.before out.after kept))
+  left_by_lines kept (unbroken.NoBreaks n) h =
+      decided_by modes.Lines input source out read _ _ (no_lines_reply (no_breaks n)) (ap lines_reply h) refl refl (nothing out.before out.after kept)
+  left_by_lines kept unbroken.Memory h = (inl kept, refl)
+
+-- what stands where a text was not read
+pub left_unread : (source out : Stream) → Keeps out.before out.after → (f : InputFault) → (f ≡ inputs.Failed → Failed source) → StandsAfter (Some modes.Lines) (input_status f) source out (refusal_line (refusals.Input f))
+left_unread source out kept inputs.Failed rose = (record { mode = modes.Lines; asked_for = refl; failed = rose refl; written = kept }, refl)
+left_unread source out kept inputs.Memory rose = (inl kept, refl)
 
 -- ---- the line of a refusal
 
@@ -189,6 +289,15 @@ page_status-refused (pages.PageLimit n) = λ same. cc
 page_status-refused (pages.NodeLimit n) = λ same. cc
 page_status-refused pages.WriteFault = λ same. cc
 page_status-refused pages.Memory = λ same. cc
+
+answer_for_lines-refused : (range : Bool) (c : LinesCause) → is_range_of_lines c ≡ range → answer_for_lines c ≢ answers.Done
+answer_for_lines-refused true c is = rw is (λ same. cc)
+answer_for_lines-refused false c is = rw is (λ same. cc)
+
+lines_status-refused : (f : LinesRefusal) → lines_status f ≢ answers.Done
+lines_status-refused (unbroken.At line field cause) = answer_for_lines-refused (is_range_of_lines cause) cause refl
+lines_status-refused (unbroken.NoBreaks n) = λ same. cc
+lines_status-refused unbroken.Memory = λ same. cc
 
 input_status-refused : (f : InputFault) → input_status f ≢ answers.Done
 input_status-refused inputs.Failed = λ same. cc
@@ -210,6 +319,7 @@ refusal_status-refused refusals.Memory = λ same. cc
 refusal_status-refused (refusals.Input f) = input_status-refused f
 refusal_status-refused (refusals.Galley f) = galley_status-refused f
 refusal_status-refused (refusals.Pages f) = page_status-refused f
+refusal_status-refused (refusals.Lines f) = lines_status-refused f
 
 prefix_told : (line : List ℕ) (err : Stream) → TellsLine line err → AppendsPrefix err.before err.after line
 prefix_told line err (inl all) = prefix_whole err.before err.after line all
@@ -229,6 +339,7 @@ module _ (asked : Option Mode) (source out err : Stream) (line : List ℕ) where
   stays answers.ReadFault ne left told = (line, left, told)
   stays answers.WriteFault ne left told = (line, left, told)
   stays answers.NodeLimit ne left told = (line, left, told)
+  stays answers.NoBreaks ne left told = (line, left, told)
 
   -- the outcome of a refusal, whatever became of its line
   pub Outcome-said : (status answer : Status) → status ≢ answers.Done → StandsAfter asked status source out line → Says status line answer err → Outcome asked answer source out err
@@ -261,10 +372,29 @@ galley_answer reply status (Some xs) (Some ys) input g is =
     let one = grammar-read (nat_lt input_limit (length input)) input ys refl g.ended in
     inl (is ∙ ap (λ r. (galley_reply reply r).answer) (one ∙ ap grammar (sym g.given)))
 
+-- what was read and what was left have one galley of lines, or one cause that there is none
+lines-read : (long : Bool) (input rest : List ℕ) → nat_lt input_limit (length input) ≡ long → (length input ≤ input_limit → rest ≡ []) → lines_galley input ≡ lines_galley (input ++ rest)
+lines-read true input rest is ended =
+    let long : nat_lt input_limit (length (input ++ rest)) ≡ true = simp length-append (grind (arith, nat_tests)) in
+    long_text input is ∙ sym (long_text (input ++ rest) long)
+lines-read false input rest is ended =
+    let short : length input ≤ input_limit = grind (arith, nat_tests) in
+    rw (ended short, append-nil) refl
+
+lines_answer : (status : Status) (before after : Option (List ℕ)) (input : List ℕ) → Gives before after input → status ≡ (lines_reply (lines_galley input)).answer
+    → IfSome before (λ left. (status ≡ (lines_reply (lines_galley left)).answer) ⊎ (status ≡ answers.Memory))
+lines_answer status None after input g is = tt
+lines_answer status (Some xs) None input g is = absurd g.given
+lines_answer status (Some xs) (Some ys) input g is =
+    let one = lines-read (nat_lt input_limit (length input)) input ys refl g.ended in
+    inl (is ∙ ap (λ r. (lines_reply r).answer) (one ∙ ap lines_galley (sym g.given)))
+
 IsAnswer-given : (m : Mode) (status : Status) (source : Stream) (input : List ℕ) → Reads m source input → status ≡ (reply_to m input).answer → IsAnswer m status source.before
 IsAnswer-given modes.Report status source input g is = galley_answer (λ g. run_reply (report (run_of g)) (run_of g)) status source.before source.after input g is
 IsAnswer-given modes.Trace status source input g is = galley_answer (λ g. run_reply (trace (run_of g)) (run_of g)) status source.before source.after input g is
 IsAnswer-given modes.Print status source input g is = galley_answer (λ g. text_reply (printed g)) status source.before source.after input g is
+IsAnswer-given modes.Lines status source input g is = lines_answer status source.before source.after input g is
+IsAnswer-given (modes.Generate n) status source input g is = inl is
 
 some_memory : (left : Option (List ℕ)) (P : List ℕ → Type 0) → IfSome left (λ input. P input ⊎ (answers.Memory ≡ answers.Memory))
 some_memory None P = tt
@@ -293,6 +423,7 @@ module _ (asked : Option Mode) (m : Mode) (source out : Stream) (well : Succeeds
   IsAnswer-stands answers.DeadCycles line left = IsAnswer-decided answers.DeadCycles line left.0
   IsAnswer-stands answers.PageLimit line left = IsAnswer-decided answers.PageLimit line left
   IsAnswer-stands answers.NodeLimit line left = IsAnswer-decided answers.NodeLimit line left
+  IsAnswer-stands answers.NoBreaks line left = IsAnswer-decided answers.NoBreaks line left
 
   pub IsAnswer-said : (status answer : Status) (line : List ℕ) (err : Stream) → StandsAfter asked status source out line → Says status line answer err → IsAnswer m answer source.before
   IsAnswer-said status answer line err left (inl same) = rw (same.0) (IsAnswer-stands status line left)
@@ -305,6 +436,8 @@ unread-failed : (m : Mode) (source : Stream) → IsUnread m source → Failed so
 unread-failed modes.Report source is = is
 unread-failed modes.Trace source is = is
 unread-failed modes.Print source is = is
+unread-failed modes.Lines source is = is
+unread-failed (modes.Generate n) source is = absurd is
 
 pub decided-asked : (asked : Option Mode) (answer : Status) (source out : Stream) (line : List ℕ) → Decided asked answer source out line → asked ≡ None → ⊥
 decided-asked asked answer source out line d none = let no : Some d.mode ≡ None = sym d.asked_for ∙ none in cc
@@ -322,6 +455,7 @@ module _ (asked : Option Mode) (source out err : Stream) where
   words-outcome answers.ReadFault o is = cc
   words-outcome answers.WriteFault o is = cc
   words-outcome answers.NodeLimit o is = cc
+  words-outcome answers.NoBreaks o is = cc
 
   pub read-outcome : (answer : Status) → Outcome asked answer source out err → answer ≡ answers.ReadFault → Failed source
   read-outcome answers.Done o is = cc
@@ -335,6 +469,7 @@ module _ (asked : Option Mode) (source out err : Stream) where
   read-outcome answers.ReadFault o is = unread-failed o.1.0.mode source o.1.0.failed
   read-outcome answers.WriteFault o is = cc
   read-outcome answers.NodeLimit o is = cc
+  read-outcome answers.NoBreaks o is = cc
 
   pub write-outcome : (answer : Status) → Outcome asked answer source out err → answer ≡ answers.WriteFault → Failed out
   write-outcome answers.Done o is = cc
@@ -348,6 +483,7 @@ module _ (asked : Option Mode) (source out err : Stream) where
   write-outcome answers.ReadFault o is = cc
   write-outcome answers.WriteFault o is = o.1.1
   write-outcome answers.NodeLimit o is = cc
+  write-outcome answers.NoBreaks o is = cc
 
   pub refused-outcome : (answer : Status) → Outcome asked answer source out err → asked ≡ None → (answer ≡ answers.Words) ⊎ (answer ≡ answers.Memory)
   refused-outcome answers.Done o is = absurd (decided-asked asked answers.Done source out _ o.0.0 is)
@@ -361,3 +497,4 @@ module _ (asked : Option Mode) (source out err : Stream) where
   refused-outcome answers.ReadFault o is = let no : Some o.1.0.mode ≡ None = sym o.1.0.asked_for ∙ is in cc
   refused-outcome answers.WriteFault o is = let no : Some o.1.0.mode ≡ None = sym o.1.0.asked_for ∙ is in cc
   refused-outcome answers.NodeLimit o is = absurd (decided-asked asked answers.NodeLimit source out _ o.1 is)
+  refused-outcome answers.NoBreaks o is = absurd (decided-asked asked answers.NoBreaks source out _ o.1 is)

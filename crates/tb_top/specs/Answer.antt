@@ -6,18 +6,33 @@ use Rattle.tb_galley.specs.declared.Galley.{Galley}
 use Rattle.tb_galley.specs.CauseText.{cause_name, is_range_cause}
 use Rattle.tb_galley.specs.Grammar.{grammar}
 use Rattle.tb_galley.specs.Print.{printed}
+use Rattle.tb_report.specs.declared.Totals.{Totals}
+use Rattle.tb_report.specs.Lines.{and_count, line}
+use Rattle.tb_generator.specs.Generate.{generated}
+use Rattle.tb_lines.specs.declared.LinesCause.{LinesCause}
+use Rattle.tb_lines.specs.Galley.{NoGalley, faulty, no_breaks, lines_galley}
+use Rattle.tb_lines.specs.RefusalText.{is_range_cause as is_range_of_lines, no_galley_text}
 use Rattle.tb_words.specs.declared.Mode.{Mode}
 use Rattle.tb_words.specs.declared.Mode.TheVariants as modes
 use Rattle.tb_top.specs.declared.status.Status.{Status}
 use Rattle.tb_top.specs.declared.status.Status.TheVariants as answers
 use Rattle.tb_run.specs.Run.{Run, End, done, pool_full, dead_cycles, page_limit, node_limit, run_of}
-use Rattle.tb_top.specs.Report.{report, trace}
+use Rattle.tb_top.specs.Report.{report, trace, totals_of}
 
 -- ---- the answer
 
 -- a fault of the galley is one of syntax or one of range
 abbrev pub answer_for_cause : Cause → Status
 answer_for_cause c = if is_range_cause c then answers.Range else answers.Syntax
+
+-- so is a fault of a text of paragraphs
+abbrev pub answer_for_lines : LinesCause → Status
+answer_for_lines c = if is_range_of_lines c then answers.Range else answers.Syntax
+
+-- the answer where a text has no galley of lines
+abbrev pub answer_without : NoGalley → Status
+answer_without (faulty f) = answer_for_lines f.cause
+answer_without (no_breaks n) = answers.NoBreaks
 
 -- the answer for a run that ends so
 abbrev pub answer_at : End → Status
@@ -100,13 +115,41 @@ run_reply text r = record { answer = answer_at r.end; written = text; line = lin
 abbrev pub text_reply : List ℕ → Reply
 text_reply text = record { answer = answers.Done; written = text; line = []; writes = true }
 
+-- the line about the run of a generated galley
+abbrev pub summary_line : ℕ → Totals → List ℕ
+summary_line n t = line (codes "gen" ++ and_count n ++ codes " pages" ++ and_count t.pages ++ codes " boxes" ++ and_count t.boxes ++ codes " floats" ++ and_count t.floats ++ codes " warnings" ++ and_count t.warnings)
+
+-- what is written about a run that ends so: nothing where it is refused
+abbrev pub summary_at : ℕ → Totals → End → List ℕ
+summary_at n t (done left) = summary_line n t
+summary_at n t _ = []
+
+abbrev pub is_done : End → Bool
+is_done (done left) = true
+is_done _ = false
+
+-- the run of a generated galley
+abbrev pub summary_reply : ℕ → Run → Reply
+summary_reply n r = record { answer = answer_at r.end; written = summary_at n (totals_of r.events) r.end; line = line_at r.end; writes = is_done r.end }
+
 -- of a galley, and else of its fault
 abbrev pub galley_reply : (Galley → Reply) → Result Galley Fault → Reply
 galley_reply reply (Ok g) = reply g
 galley_reply reply (Err f) = fault_reply f
+
+-- a text without a galley of lines
+abbrev pub no_lines_reply : NoGalley → Reply
+no_lines_reply why = record { answer = answer_without why; written = []; line = err_line (no_galley_text why); writes = false }
+
+-- of the galley of a text's lines, and else of why there is none
+abbrev pub lines_reply : Result (List ℕ) NoGalley → Reply
+lines_reply (Ok galley) = text_reply galley
+lines_reply (Err why) = no_lines_reply why
 
 -- by the mode; an input that is no galley has the reply of its first fault
 abbrev pub reply_to : Mode → List ℕ → Reply
 reply_to modes.Report input = galley_reply (λ g. run_reply (report (run_of g)) (run_of g)) (grammar input)
 reply_to modes.Trace input = galley_reply (λ g. run_reply (trace (run_of g)) (run_of g)) (grammar input)
 reply_to modes.Print input = galley_reply (λ g. text_reply (printed g)) (grammar input)
+reply_to modes.Lines input = lines_reply (lines_galley input)
+reply_to (modes.Generate n) input = summary_reply n (run_of (generated n))

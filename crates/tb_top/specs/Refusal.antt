@@ -12,12 +12,15 @@ use Rattle.tb_io.specs.declared.sink.SinkFault.{SinkFault}
 use Rattle.tb_io.specs.declared.sink.SinkFault.TheVariants as outputs
 use Rattle.tb_words.specs.declared.WordsFault.{WordsFault}
 use Rattle.tb_words.specs.declared.WordsFault.TheVariants as asked
+use Rattle.tb_lines.specs.declared.LinesRefusal.{LinesRefusal}
+use Rattle.tb_lines.specs.declared.LinesRefusal.TheVariants as unbroken
+use Rattle.tb_lines.specs.RefusalText.{refusal_text as lines_text}
 use Rattle.tb_top.specs.declared.refusal.Refusal.{Refusal}
 use Rattle.tb_top.specs.declared.refusal.Refusal.TheVariants as refusals
 use Rattle.tb_top.specs.declared.status.Status.{Status}
 use Rattle.tb_top.specs.declared.status.Status.TheVariants as answers
 use Rattle.tb_top.specs.Outcome.{Stream, Failed, Gives}
-use Rattle.tb_top.specs.Answer.{answer_for_cause, err_line, fault_text, pool_full_text, dead_cycles_text, page_limit_text, node_limit_text}
+use Rattle.tb_top.specs.Answer.{answer_for_cause, answer_for_lines, err_line, fault_text, pool_full_text, dead_cycles_text, page_limit_text, node_limit_text}
 
 -- ---- the answer
 
@@ -50,6 +53,12 @@ abbrev pub output_status : SinkFault → Status
 output_status outputs.Failed = answers.WriteFault
 output_status outputs.Memory = answers.Memory
 
+-- where a text has no galley of lines
+abbrev pub lines_status : LinesRefusal → Status
+lines_status (unbroken.At line field cause) = answer_for_lines cause
+lines_status (unbroken.NoBreaks n) = answers.NoBreaks
+lines_status unbroken.Memory = answers.Memory
+
 -- by the step that refused
 abbrev pub refusal_status : Refusal → Status
 refusal_status (refusals.Words f) = words_status f
@@ -58,6 +67,7 @@ refusal_status refusals.Memory = answers.Memory
 refusal_status (refusals.Input f) = input_status f
 refusal_status (refusals.Galley f) = galley_status f
 refusal_status (refusals.Pages f) = page_status f
+refusal_status (refusals.Lines f) = lines_status f
 
 -- ---- the line on err
 
@@ -98,6 +108,7 @@ refusal_text refusals.Memory = codes "out of memory"
 refusal_text (refusals.Input f) = input_text f
 refusal_text (refusals.Galley f) = galley_text f
 refusal_text (refusals.Pages f) = page_text f
+refusal_text (refusals.Lines f) = lines_text f
 
 -- its whole line
 abbrev pub refusal_line : Refusal → List ℕ
@@ -127,6 +138,7 @@ IsNoGalley source refusals.Memory = Unit {0}
 IsNoGalley source (refusals.Words f) = ⊥
 IsNoGalley source (refusals.Pages f) = ⊥
 IsNoGalley source (refusals.Output f) = ⊥
+IsNoGalley source (refusals.Lines f) = ⊥
 
 -- the source gave this galley
 pub record GivesGalley (source : Stream) (g : Galley) : Type 0 where

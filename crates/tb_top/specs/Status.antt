@@ -16,3 +16,4 @@ code_of answers.ReadFault = 8
 code_of answers.WriteFault = 9
 code_of answers.Memory = 10
 code_of answers.NodeLimit = 11
+code_of answers.NoBreaks = 15

@@ -1,14 +1,15 @@
 //! Why a run was refused, until its line is written.
 ghost use Rattle.std.specs.Prelude.{◌≡◌, ◌++◌, decimal, IfOk, OnOk};
-ghost use Rattle.tb_top.specs.Answer.{answer_for_cause, fault_text, pool_full_text};
-ghost use Rattle.tb_top.specs.Refusal.{refusal_status, galley_status, page_status, input_status, words_status, output_status, refusal_text, galley_text, page_text, input_text, words_text, output_text, refusal_line};
-ghost use Rattle.tb_top.specs.declared.refusal.Refusal.TheVariants.{Words, Input, Galley, Pages, Output, Memory};
+ghost use Rattle.tb_top.specs.Answer.{answer_for_cause, answer_for_lines, fault_text, pool_full_text};
+ghost use Rattle.tb_top.specs.Refusal.{refusal_status, galley_status, page_status, lines_status, input_status, words_status, output_status, refusal_text, galley_text, page_text, input_text, words_text, output_text, refusal_line};
+ghost use Rattle.tb_top.specs.declared.refusal.Refusal.TheVariants.{Words, Input, Galley, Pages, Lines, Output, Memory};
 
 use crate::input::InputFault;
 use crate::{PageFault, Status};
 use std::alloc::{AllocError, Global};
 use tb_galley::{Cause, Fault, GalleyFault, cause_text, is_range_cause};
 use tb_io::SinkFault;
+use tb_lines::{LinesCause, LinesRefusal, is_range_cause as is_range_of_lines, put_refusal};
 use tb_text::put_number;
 use tb_words::WordsFault;
 
@@ -23,6 +24,8 @@ pub enum Refusal {
     Galley(GalleyFault),
     /// The pages stopped before their end.
     Pages(PageFault),
+    /// What was read has no galley of lines.
+    Lines(LinesRefusal),
     /// A text was not written.
     Output(SinkFault),
     /// There was no memory for what was to be written.
@@ -61,6 +64,14 @@ impl From<PageFault> for Refusal {
     }
 }
 
+impl From<LinesRefusal> for Refusal {
+    ghost from_gives = { λ refusal e. e ≡ Lines refusal };
+
+    fn from(refusal: LinesRefusal) -> Self {
+        Refusal::Lines(refusal)
+    }
+}
+
 impl From<SinkFault> for Refusal {
     ghost from_gives = { λ fault e. e ≡ Output fault };
 
@@ -88,6 +99,7 @@ impl Refusal {
             Refusal::Galley(GalleyFault::At(fault)) => cause_status(fault.cause),
             Refusal::Galley(GalleyFault::Memory) => Status::Memory,
             Refusal::Pages(fault) => page_status(*fault),
+            Refusal::Lines(refusal) => lines_status(refusal),
             Refusal::Output(fault) => output_status(*fault),
             Refusal::Memory => Status::Memory,
         }
@@ -112,6 +124,7 @@ impl Refusal {
             Refusal::Galley(GalleyFault::At(fault)) => put_fault(line, fault),
             Refusal::Galley(GalleyFault::Memory) => line.extend_from_slice(b"out of memory"),
             Refusal::Pages(fault) => put_page_fault(line, *fault),
+            Refusal::Lines(refusal) => put_refusal(line, refusal),
             Refusal::Output(fault) => line.extend_from_slice(output_text(*fault)),
             Refusal::Memory => line.extend_from_slice(b"out of memory"),
         }
@@ -179,6 +192,30 @@ fn cause_status(cause: Cause) -> Status
         Status::Range
     } else {
         Status::Syntax
+    }
+}
+
+fn lines_cause_status(cause: LinesCause) -> Status
+    ensures { result ≡ answer_for_lines cause }
+{
+    if is_range_of_lines(cause) {
+        Status::Range
+    } else {
+        Status::Syntax
+    }
+}
+
+fn lines_status(refusal: &LinesRefusal) -> Status
+    ensures { result ≡ lines_status refusal.now }
+{
+    match *refusal {
+        LinesRefusal::At {
+            line: _,
+            field: _,
+            cause,
+        } => lines_cause_status(cause),
+        LinesRefusal::NoBreaks { paragraph: _ } => Status::NoBreaks,
+        LinesRefusal::Memory => Status::Memory,
     }
 }
 

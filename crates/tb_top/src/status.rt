@@ -27,6 +27,8 @@ pub enum Status {
     Memory,
     /// More nodes than `maxnodes` were held.
     NodeLimit,
+    /// No way to break a paragraph into lines is feasible.
+    NoBreaks,
 }
 
 impl Status {
@@ -46,6 +48,7 @@ impl Status {
             Status::WriteFault => 9,
             Status::Memory => 10,
             Status::NodeLimit => 11,
+            Status::NoBreaks => 15,
         }
     }
 }

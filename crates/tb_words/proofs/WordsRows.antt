@@ -12,6 +12,7 @@ words_rows = record {
   report = refl;
   trace = refl;
   print = refl;
+  lines = refl;
   with_equals = refl;
   another_mode = refl;
   count_left_out = refl;

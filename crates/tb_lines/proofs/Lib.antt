@@ -1,0 +1,28 @@
+pub mod BestWays
+pub mod Solutions
+pub mod Chosen
+pub mod LeastWays
+pub mod LineSums
+pub mod RunLemmas
+pub mod Offers
+pub mod ActiveBreaks
+pub mod FloorSteps
+pub mod WriteSteps
+pub mod Back
+pub mod First
+pub mod Led
+pub mod ReaderRuns
+pub mod SlotReads
+pub mod SameStep
+pub mod SmallDimensions
+pub mod VisibleFields
+pub mod AllWays
+pub mod LeastOf
+pub mod SolveSteps
+pub mod ValidContents
+pub mod ValidTexts
+pub mod GalleyLines
+pub mod Accepted
+mod Rows
+mod WorkedLines
+pub mod LongTexts

@@ -1,0 +1,110 @@
+//! What a content line says.
+ghost use Rattle.std.specs.Prelude.{◌≡◌, true, false, IfOk};
+ghost use Rattle.tb_lines.specs.Words.{is_inner_word};
+ghost use Rattle.tb_lines.specs.Reading.{holds_item};
+ghost use Rattle.tb_lines.specs.Slots.{IsForm};
+ghost use Rattle.tb_lines.specs.FromLeft.{left_of, Gives, value_left, set_left, word_left, space_left, pen_left, content_left};
+
+use crate::LinesCause;
+use crate::fields::{At, Fields};
+use crate::text::Item;
+use crate::words::{Form, Parameter, Word, form_of, parameter_of};
+use tb_node::Name;
+
+/// What a content line says.
+#[derive(Drop)]
+pub enum Content {
+    Header,
+    Set { parameter: Parameter, value: u32 },
+    Par(Name),
+    Item(Item),
+    Endpar,
+    End,
+}
+
+#[tactic(auto, unfolding(crate::specs::FromLeft::value_left))]
+fn read_value(form: Form, fields: &mut Fields<'_>) -> Result<u32, At>
+    requires { IsForm form }
+    ensures { Gives result (left_of fields.new) (value_left form (left_of fields.old)) }
+{
+    match form {
+        Form::Dimension { low } => fields.dimension_from(low, LinesCause::Parameter),
+        Form::Integer { high } => {
+            let number = fields.integer_within(0, high, LinesCause::Parameter)?;
+            Ok(number as u32)
+        }
+    }
+}
+
+#[tactic(auto, unfolding(crate::specs::FromLeft::set_left))]
+fn read_set(fields: &mut Fields<'_>) -> Result<Content, At>
+    ensures read { Gives result (left_of fields.new) (set_left (left_of fields.old)) }
+    ensures kind { IfOk result (λ k. holds_item k ≡ false) }
+{
+    let number = fields.number;
+    let Some(parameter) = parameter_of(fields.next()?) else {
+        return Err(At {
+            field: number,
+            cause: LinesCause::UnknownParameter,
+        });
+    };
+    let value = read_value(form_of(parameter), fields)?;
+    Ok(Content::Set { parameter, value })
+}
+
+#[tactic(auto, unfolding(crate::specs::FromLeft::word_left))]
+fn read_word(fields: &mut Fields<'_>) -> Result<Item, At>
+    ensures { Gives result (left_of fields.new) (word_left (left_of fields.old)) }
+{
+    let width = fields.dimension_from(0, LinesCause::Dimension)?;
+    let height = fields.dimension_from(0, LinesCause::Dimension)?;
+    let depth = fields.dimension_from(0, LinesCause::Dimension)?;
+    Ok(Item::Word {
+        width,
+        height,
+        depth,
+    })
+}
+
+#[tactic(auto, unfolding(crate::specs::FromLeft::space_left))]
+fn read_space(fields: &mut Fields<'_>) -> Result<Item, At>
+    ensures { Gives result (left_of fields.new) (space_left (left_of fields.old)) }
+{
+    let width = fields.dimension_from(0, LinesCause::Dimension)?;
+    let stretch = fields.dimension_from(0, LinesCause::Dimension)?;
+    let shrink = fields.dimension_from(0, LinesCause::Dimension)?;
+    Ok(Item::Space {
+        width,
+        stretch,
+        shrink,
+    })
+}
+
+#[tactic(auto, unfolding(crate::specs::FromLeft::pen_left))]
+fn read_pen(fields: &mut Fields<'_>) -> Result<Item, At>
+    ensures { Gives result (left_of fields.new) (pen_left (left_of fields.old)) }
+{
+    let penalty = fields.integer_within(-10_000, 10_000, LinesCause::Penalty)?;
+    Ok(Item::Penalty(penalty as i16))
+}
+
+/// What the fields after a line's word say.
+#[tactic(auto, unfolding(crate::specs::FromLeft::content_left))]
+pub fn read_content(word: Word, fields: &mut Fields<'_>) -> Result<Content, At>
+    ensures read { Gives result (left_of fields.new) (content_left word (left_of fields.old)) }
+    ensures kind { IfOk result (λ k. holds_item k ≡ true → is_inner_word word ≡ true) }
+{
+    match word {
+        Word::Lines => {
+            fields.header()?;
+            Ok(Content::Header)
+        }
+        Word::Setting => read_set(fields),
+        Word::Par => Ok(Content::Par(fields.name()?)),
+        Word::Word => Ok(Content::Item(read_word(fields)?)),
+        Word::Space => Ok(Content::Item(read_space(fields)?)),
+        Word::Pen => Ok(Content::Item(read_pen(fields)?)),
+        Word::Endpar => Ok(Content::Endpar),
+        Word::End => Ok(Content::End),
+    }
+}
