@@ -12,8 +12,9 @@ use Rattle.tb_insert.specs.Arrived.{ClassFits}
 use Rattle.tb_builder.specs.Reached.{holds_box}
 use Rattle.tb_builder.specs.Fired.{Boxed, content_of, box_content}
 use Rattle.tb_builder.specs.Contents.{Contents, void_box, nothing_yet, kind_count, node_count, box_count}
+use Rattle.tb_builder.specs.Owned.{ClassesFit}
 use Rattle.tb_builder.specs.Handed.{voided, with_void}
-use Rattle.tb_builder.specs.Pageable.{IsSizedOnPage, IsSizedClass, IsSizedBox}
+use Rattle.tb_builder.specs.Pageable.{IsSizedOnPage, IsFactor, IsSizedClass, IsSizedBox}
 use Rattle.tb_builder.specs.Kept.{laid_by, IsSizedContents, whole_count, AreBoxesOf}
 use Rattle.tb_builder.proofs.PageableLemmas.{count-append, pruned_sized}
 use Rattle.tb_builder.proofs.PrunedLemmas.{no_skip, pruned_nodes_longer, pruned_more, pruned_more-sized, front-sized, back-sized, whole_by, whole_by-is}
@@ -32,15 +33,18 @@ void_count : (cs : List Class) → box_count (map void_box cs) ≡ 0
 void_count [] = refl
 void_count (c ∷ cs) = let h : box_count (map void_box cs) ≡ 0 = void_count cs in omega arith
 
-pub nothing-sized : (cs : List Class) → All IsSizedClass cs → length cs ≤ 16 → IsSizedContents (nothing_yet cs)
-nothing-sized cs h few = record { nodes = All-nil IsSizedOnPage; held = All-nil IsSizedOnPage; boxes = void_sized cs; classes = h; few_classes = few; frozen = tt }
+pub nothing-sized : (cs : List Class) → All IsSizedClass cs → ClassesFit cs → IsSizedContents (nothing_yet cs)
+nothing-sized cs h fit = record { nodes = All-nil IsSizedOnPage; held = All-nil IsSizedOnPage; boxes = void_sized cs; classes = h; classes_fit = fit; frozen = tt }
 
 dimension_small : (z : ℤ) → IsDimension z → IsAmount z
 dimension_small z h = record { low = omega (arith, ints); high = omega (arith, ints) }
 
+factor_small : (z : ℤ) → IsFactor z → IsAmount z
+factor_small z h = record { low = omega (arith, ints); high = omega (arith, ints) }
+
 -- a sized class fits
 pub class-fits : (c : Class) → IsSizedClass c → ClassFits c
-class-fits c h = record { factor = subst IsAmount (sym h.factor) (record { low = omega (arith, ints); high = omega (arith, ints) }); stretch = dimension_small c.skip.stretch h.stretch; shrink = dimension_small c.skip.shrink h.shrink }
+class-fits c h = record { factor = factor_small c.factor h.factor; stretch = dimension_small c.skip.stretch h.stretch; shrink = dimension_small c.skip.shrink h.shrink }
 
 pub nothing-count : (cs : List Class) → whole_count (nothing_yet cs) ≡ 0
 nothing-count cs = let h = void_count cs in omega (arith, h)
@@ -88,7 +92,7 @@ module _ (ms : List PlainNode) where
     held = h.held;
     boxes = h.boxes;
     classes = h.classes;
-    few_classes = h.few_classes;
+    classes_fit = h.classes_fit;
     frozen = h.frozen;
   }
 
@@ -115,7 +119,7 @@ put_back-sized c ns e w r h = record {
   held = All-nil IsSizedOnPage;
   boxes = h.boxes;
   classes = h.classes;
-  few_classes = h.few_classes;
+  classes_fit = h.classes_fit;
   frozen = h.frozen;
 }
 
@@ -182,6 +186,6 @@ taken-sized c k h = record {
   held = h.held;
   boxes = voids_sized k c.boxes h.boxes;
   classes = h.classes;
-  few_classes = h.few_classes;
+  classes_fit = h.classes_fit;
   frozen = h.frozen;
 }

@@ -1,5 +1,5 @@
 -- What waits may be such that the next page has no insertions and fits up to a forced break: then it fires there, and the rest is what stood behind.
-use Rattle.std.proofs.Common.{◌≡◌, refl, sym, ◌∙◌, ap, subst, ℕ, ℤ, pos, ◌+◌, true, List, [], ◌∷◌, ◌++◌, map, length, take, drop, arith}
+use Rattle.std.proofs.Common.{◌≡◌, refl, sym, ◌∙◌, ap, subst, ℕ, ℤ, pos, true, List, [], ◌∷◌, ◌++◌, map, length, take, drop, arith}
 use Rattle.std.specs.Prelude.{◌+ℤ◌, ◌-ℤ◌, ◌≤ℤ◌, int_le}
 use Rattle.std.specs.List.{AllByRecursion}
 use Rattle.std.proofs.lemmas.Int.{ints}

@@ -1,5 +1,5 @@
 -- A page without insertions on which all fits up to a forced break breaks there.
-use Rattle.std.proofs.Common.{◌≡◌, refl, sym, ◌∙◌, ap, subst, ℕ, ℤ, pos, ◌+◌, Bool, true, false, ◌||◌, List, [], ◌∷◌, ◌++◌, map, length, Option, Some, None, inl, inr, ◌⊎◌, arith}
+use Rattle.std.proofs.Common.{◌≡◌, refl, sym, ◌∙◌, ap, subst, ℕ, ℤ, pos, Bool, true, false, ◌||◌, List, [], ◌∷◌, ◌++◌, map, length, Option, Some, None, inl, inr, ◌⊎◌, arith}
 use Rattle.std.specs.Prelude.{filter, ◌+ℤ◌, ◌-ℤ◌, ◌≤ℤ◌, int_lt, int_le, if◌then◌else◌}
 use Rattle.std.specs.List.{AllByRecursion}
 use Rattle.std.proofs.lemmas.Int.{ints}
@@ -8,7 +8,7 @@ use Rattle.std.proofs.lemmas.Option.{same_Some}
 use Rattle.tb_scaled.specs.declared.Order.TheVariants.{Normal}
 use Rattle.tb_scaled.specs.Scaled.{eject_penalty, inf_penalty, awful_bad, inf_bad, badness_of, min_ℤ}
 use Rattle.tb_node.specs.declared.Sums.{Sums}
-use Rattle.tb_node.specs.Shape.{Shape, glue, penalty}
+use Rattle.tb_node.specs.Shape.{Shape}
 use Rattle.tb_node.specs.Plain.{hbox, rule, skip, kerned, pen, mark, note, whatsit, PlainKind, plain, ins, act, PlainNode, node_shape, without_acts}
 use Rattle.tb_node.specs.Sums.{amount_at, room_of, size_of, depth_from, list_stretch, list_shrink, sums_of}
 use Rattle.tb_break.specs.Cost.{finite_stretch, stretches_infinitely, page_badness, cost_of_badness}

@@ -23,7 +23,8 @@ use Rattle.tb_builder.specs.Owned.{ClassesFit}
 use Rattle.tb_builder.specs.Next.{AskFits, NextFits, Stays, Without, FirstIs, fired_page, after_fired}
 use Rattle.tb_builder.specs.Pageable.{IsSizedOnPage, IsSizedClass, IsSizedBox, IsGoal}
 use Rattle.tb_builder.specs.Kept.{IsSizedAsk, IsSizedFreeze, laid_by, whole_list, IsSizedContents, whole_count, AreBoxesOf, fired_count}
-use Rattle.tb_builder.proofs.PageableLemmas.{count-append, IsSizedClassBox, IsSizedFrozen, class_boxes_sized, boxes_fit, laid_fits, pruned_sized}
+use Rattle.tb_builder.proofs.ChargeLemmas.{few_classes}
+use Rattle.tb_builder.proofs.PageableLemmas.{count-append, IsSizedClassBox, size_total, IsSizedFrozen, class_boxes_sized, class_boxes_total, boxes_fit, laid_fits, pruned_sized}
 use Rattle.tb_builder.proofs.VanishLemmas.{BeginsVanishing, break_vanishes}
 use Rattle.tb_builder.proofs.PrunedLemmas.{no_skip, pruned_nodes_longer, pruned_again, pruned_same, nodes_no_longer, front-sized, back-sized, laid_with, whole_by, whole_by-is}
 use Rattle.tb_builder.proofs.SizedLemmas.{FiredSized, fired_sized}
@@ -82,7 +83,8 @@ module _ (c : Contents) (ask : Ask) (sized : IsSizedContents c) (asked : IsSized
         goal = limits.0;
         limit = limits.1;
         classes = subst (All IsSizedClassBox) (sym e) (class_boxes_sized c.classes c.boxes sized.classes sized.boxes few);
-        few = omega (arith, ap length e, length-map {B = ClassBox} c.classes, sized.few_classes);
+        few = let a = few_classes c.classes sized.classes_fit in omega (arith, a, ap length e, length-map {B = ClassBox} c.classes);
+        total = let a = class_boxes_total c.classes c.boxes sized.classes_fit sized.boxes few in omega (arith, a, ap size_total e);
       }
 
   -- what `next` asks, of at most 2^22 nodes and the glue at the top
@@ -116,7 +118,7 @@ stays_sized c d ask a r s h = record {
   held = subst (All IsSizedOnPage) (sym s.held) r.held;
   boxes = subst (All IsSizedBox) (sym s.boxes) r.boxes;
   classes = subst (All IsSizedClass) (sym s.classes) r.classes;
-  few_classes = subst (λ cs. length cs ≤ 16) (sym s.classes) r.few_classes;
+  classes_fit = subst ClassesFit (sym s.classes) r.classes_fit;
   frozen = frozen_by d.frozen ask d.classes d.boxes (subst (λ z. IsGoal z.goal × IsExtent z.limit) (sym s.frozen_so) (limits_by c.frozen ask c.classes c.boxes a r.frozen));
 }
 
@@ -218,7 +220,7 @@ module _ (c : Contents) (ask : Ask) (r : IsSizedContents c) (stopped : c.stopped
     held = stopped-sized.held;
     boxes = stopped-sized.boxes;
     classes = r.classes;
-    few_classes = r.few_classes;
+    classes_fit = r.classes_fit;
     frozen = tt;
   }
 

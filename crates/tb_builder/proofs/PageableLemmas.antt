@@ -1,6 +1,6 @@
 -- What `next` asks holds of contents whose nodes are sized and not too many.
 use Rattle.std.proofs.Common.{◌≡◌, refl, sym, subst, ◌∙◌, ap, ℕ, ◌+◌, ◌*◌, ◌≤◌, ℤ, pos, ◌+ℤ◌, ◌-ℤ◌, Bool, true, false, List, [], ◌∷◌, ◌++◌, length, take, drop, Option, None, Some, length-append, arith}
-use Rattle.std.specs.Prelude.{map, All, ◌==◌, ◌||◌, ◌&&◌, int_le, nat_le, int_lt, if◌then◌else◌}
+use Rattle.std.specs.Prelude.{map, All, ◌==◌, ◌||◌, ◌&&◌, int_le, nat_le, int_lt, unsigned_abs, if◌then◌else◌}
 use Rattle.std.proofs.lemmas.Int.{ints}
 use Rattle.std.proofs.lemmas.List.{length-map, take-append-drop}
 use Rattle.std.proofs.lemmas.List.Elements.{All-nil, All-cons, All-head, All-tail, All-map, All-weaker, All-append, All-push, All-filter, All-take, All-drop}
@@ -25,8 +25,10 @@ use Rattle.tb_builder.specs.declared.Ask.{Ask}
 use Rattle.tb_builder.specs.Reached.{holds_box}
 use Rattle.tb_builder.specs.Fired.{Boxed, content_of, box_content, box_size, class_boxes}
 use Rattle.tb_builder.specs.Contents.{Contents, frozen_or, frozen_of, ahead_of, laid, kind_count, node_count, box_count}
+use Rattle.tb_builder.specs.Owned.{ClassesFit}
 use Rattle.tb_builder.specs.Next.{SizesFit, InsertedFits, KindFits, NodeFits, LaidFits, BoxesFit, NextFits}
-use Rattle.tb_builder.specs.Pageable.{IsSizedInserted, IsSizedKind, IsSizedOnPage, IsSizedClass, IsSizedBox, IsGoal, IsPageable}
+use Rattle.tb_builder.specs.Pageable.{IsSizedInserted, IsSizedKind, IsSizedOnPage, IsFactor, IsSizedClass, IsSizedBox, IsGoal, IsPageable}
+use Rattle.tb_builder.proofs.ChargeLemmas.{abs_of, of_abs, scaled_within, few_classes, in_boxes, boxes_once}
 
 -- ---- parts of lists
 
@@ -229,23 +231,26 @@ pub record IsSizedClassBox (c : ClassBox) : Type 0 where
   pub class : IsSizedClass c.class
   pub size : IsWithin 9007199254740992 c.size
 
+-- what all boxes hold
+abbrev pub size_total : List ClassBox → ℕ
+size_total [] = 0
+size_total (c ∷ cs) = unsigned_abs c.size + size_total cs
+
 pub record IsSizedFrozen (z : Frozen) : Type 0 where
   pub goal : IsGoal z.goal
   pub limit : IsExtent z.limit
   pub classes : All IsSizedClassBox z.classes
-  pub few : length z.classes ≤ 16
+  pub few : length z.classes ≤ 255
+  pub total : size_total z.classes ≤ 9007199254740992
 
 nothing_within : (b : ℕ) → IsWithin b (pos 0)
 nothing_within b = record { low = omega (arith, ints); high = omega (arith, ints) }
 
-whole_charge : (f v : ℤ) → f ≡ pos 1000 → scaled_by f v ≡ v
-whole_charge f v e = ap (λ x. scaled_by x v) e
-
-box_factor : (cs : List ClassBox) (k : ℕ) → All IsSizedClassBox cs → (class_box cs k).class.factor ≡ pos 1000
-box_factor [] k h = refl
+box_factor : (cs : List ClassBox) (k : ℕ) → All IsSizedClassBox cs → IsFactor (class_box cs k).class.factor
+box_factor [] k h = record { low = omega (arith, ints); high = omega (arith, ints) }
 box_factor (c ∷ cs) k h = by_test (c.class.number == k) (box_factor cs k (All-tail IsSizedClassBox c cs h))
   where
-    by_test : (b : Bool) → (class_box cs k).class.factor ≡ pos 1000 → (if b then c else class_box cs k).class.factor ≡ pos 1000
+    by_test : (b : Bool) → IsFactor (class_box cs k).class.factor → IsFactor (if b then c else class_box cs k).class.factor
     by_test true later = (All-head IsSizedClassBox c cs h).class.factor
     by_test false later = later
 
@@ -260,14 +265,14 @@ box_within (c ∷ cs) k h = by_test (c.class.number == k) (box_within cs k (All-
 more_within : (a b : ℕ) (x y : ℤ) → IsWithin a x → IsWithin b y → IsWithin (a + b) (x +ℤ y)
 more_within a b x y p q = record { low = omega (arith, ints); high = omega (arith, ints) }
 
-charge_within : (cs : List ClassBox) (ls : List Labelled) → All IsSizedClassBox cs → All LabelFits ls → IsWithin (2147483646 * inner_count ls) (insertion_charge cs ls)
+charge_within : (cs : List ClassBox) (ls : List Labelled) → All IsSizedClassBox cs → All LabelFits ls → IsWithin (21474836460 * inner_count ls) (insertion_charge cs ls)
 unfolding inner_count
 charge_within cs [] h l = record { low = omega (arith, ints); high = omega (arith, ints) }
 charge_within cs (m ∷ ms) h l =
     let here = (All-head LabelFits m ms l).taken_within in
-    wider (2147483646 * length m.inserted.inner + 2147483646 * inner_count ms) (2147483646 * (length m.inserted.inner + inner_count ms)) _ (omega arith)
-    (more_within (2147483646 * length m.inserted.inner) (2147483646 * inner_count ms) (scaled_by (class_box cs m.inserted.class).class.factor (taken m)) (insertion_charge cs ms)
-    (subst (IsWithin (2147483646 * length m.inserted.inner)) (sym (whole_charge (class_box cs m.inserted.class).class.factor (taken m) (box_factor cs m.inserted.class h))) here)
+    wider (10 * (2147483646 * length m.inserted.inner) + 21474836460 * inner_count ms) (21474836460 * (length m.inserted.inner + inner_count ms)) _ (omega arith)
+    (more_within (10 * (2147483646 * length m.inserted.inner)) (21474836460 * inner_count ms) (scaled_by (class_box cs m.inserted.class).class.factor (taken m)) (insertion_charge cs ms)
+    (scaled_within (2147483646 * length m.inserted.inner) (class_box cs m.inserted.class).class.factor (taken m) (box_factor cs m.inserted.class h) here)
     (charge_within cs ms h (All-tail LabelFits m ms l)))
 
 height_within : (cs : List ClassBox) (ls : List Labelled) (k : ℕ) → All IsSizedClassBox cs → All LabelFits ls → IsWithin (9007199254740992 + 2147483646 * inner_count ls) (class_height cs ls k)
@@ -290,14 +295,22 @@ penalties_within (m ∷ ms) l =
 dimension_within : (z : ℤ) → IsDimension z → IsWithin 1073741823 z
 dimension_within z h = record { low = omega (arith, ints); high = omega (arith, ints) }
 
-class_within : (cs : List ClassBox) → All IsSizedClassBox cs → IsWithin (9007200328482816 * length cs) (class_charge cs)
+class_within : (cs : List ClassBox) → All IsSizedClassBox cs → IsWithin (10 * size_total cs + 1073741823 * length cs) (class_charge cs)
 class_within [] h = record { low = omega (arith, ints); high = omega (arith, ints) }
 class_within (c ∷ cs) h =
     let here = All-head IsSizedClassBox c cs h in
-    wider ((9007199254740992 + 1073741823) + 9007200328482816 * length cs) (9007200328482816 * length (c ∷ cs)) _ (omega arith)
-    (more_within (9007199254740992 + 1073741823) (9007200328482816 * length cs) (scaled_by c.class.factor c.size +ℤ c.class.skip.width) (class_charge cs)
-    (more_within 9007199254740992 1073741823 (scaled_by c.class.factor c.size) c.class.skip.width (subst (IsWithin 9007199254740992) (sym (whole_charge c.class.factor c.size here.class.factor)) here.size) (dimension_within c.class.skip.width here.class.width))
+    wider ((10 * unsigned_abs c.size + 1073741823) + (10 * size_total cs + 1073741823 * length cs)) (10 * size_total (c ∷ cs) + 1073741823 * length (c ∷ cs)) _ (omega arith)
+    (more_within (10 * unsigned_abs c.size + 1073741823) (10 * size_total cs + 1073741823 * length cs) (scaled_by c.class.factor c.size +ℤ c.class.skip.width) (class_charge cs)
+    (more_within (10 * unsigned_abs c.size) 1073741823 (scaled_by c.class.factor c.size) c.class.skip.width (scaled_within (unsigned_abs c.size) c.class.factor c.size here.class.factor (of_abs (unsigned_abs c.size) c.size (omega arith))) (dimension_within c.class.skip.width here.class.width))
     (class_within cs (All-tail IsSizedClassBox c cs h)))
+
+total_met : (cs : List ClassBox) (is : List Inserted) → size_total (met_classes cs is) ≤ size_total cs
+total_met [] is = omega arith
+total_met (c ∷ cs) is = by_test (is_met is c.class.number) (total_met cs is)
+  where
+    by_test : (b : Bool) → size_total (met_classes cs is) ≤ size_total cs → size_total (if b then c ∷ met_classes cs is else met_classes cs is) ≤ size_total (c ∷ cs)
+    by_test true r = omega (arith, r)
+    by_test false r = omega (arith, r)
 
 few_met : (cs : List ClassBox) (is : List Inserted) → length (met_classes cs is) ≤ length cs
 few_met [] is = omega arith
@@ -313,8 +326,8 @@ met_sized cs is h = All-filter (λ c. is_met is c.class.number) IsSizedClassBox 
 skips_sized : (cs : List ClassBox) → All IsSizedClassBox cs → All IsSized (skip_shapes cs)
 skips_sized cs h = All-map IsSized (λ (c : ClassBox). glue c.class.skip) cs (All-weaker IsSizedClassBox (λ c. IsSized (glue c.class.skip)) (λ c s. (s.class.width, s.class.stretch, s.class.shrink)) cs h)
 
-goal_small : (goal charge taken : ℤ) (classes inner : ℕ) → classes ≤ 16 → inner ≤ 4194306 → IsGoal goal → IsWithin (9007200328482816 * classes) charge → IsWithin (2147483646 * inner) taken → IsAmount ((goal -ℤ charge) -ℤ taken)
-goal_small goal charge taken classes inner a b g c t = record { low = omega (arith, ints); high = omega (arith, ints) }
+goal_small : (goal charge taken : ℤ) (total classes inner : ℕ) → total ≤ 9007199254740992 → classes ≤ 255 → inner ≤ 4194306 → IsGoal goal → IsWithin (10 * total + 1073741823 * classes) charge → IsWithin (21474836460 * inner) taken → IsAmount ((goal -ℤ charge) -ℤ taken)
+goal_small goal charge taken total classes inner t a b g c i = record { low = omega (arith, ints); high = omega (arith, ints) }
 
 height_small : (inner : ℕ) (z : ℤ) → inner ≤ 4194306 → IsWithin (9007199254740992 + 2147483646 * inner) z → IsAmount z
 height_small inner z few h = record { low = omega (arith, ints); high = omega (arith, ints) }
@@ -322,7 +335,7 @@ height_small inner z few h = record { low = omega (arith, ints); high = omega (a
 penalties_small : (k : ℕ) (z : ℤ) → k ≤ 4194306 → IsWithin (1073741824 * k) z → IsAmount z
 penalties_small k z few h = record { low = omega (arith, ints); high = omega (arith, ints) }
 
-both_small : (k j : ℕ) (x y : ℤ) → k ≤ 8388608 → j ≤ 16 → IsWithin (1073741823 * k) x → IsWithin (1073741823 * j) y → IsAmount (x +ℤ y)
+both_small : (k j : ℕ) (x y : ℤ) → k ≤ 8388608 → j ≤ 255 → IsWithin (1073741823 * k) x → IsWithin (1073741823 * j) y → IsAmount (x +ℤ y)
 both_small k j x y a b p q = record { low = omega (arith, ints); high = omega (arith, ints) }
 
 page_fits : (z : Frozen) (ns : List PlainNode) → IsSizedFrozen z → All IsSizedOnPage ns → node_count ns ≤ 4194306 → PageFits z ns
@@ -330,13 +343,13 @@ page_fits z ns f s few =
     let ls = labelled z ns in
     let labels = labels_fit z ns s in
     let met = met_classes z.classes (insertions ls) in
-    let met_few : length met ≤ 16 = let a = few_met z.classes (insertions ls) in let b = f.few in omega arith in
+    let met_few : length met ≤ 255 = let a = few_met z.classes (insertions ls) in let b = f.few in omega arith in
     let met_all = met_sized z.classes (insertions ls) f.classes in
     let shapes : All IsSized (map node_shape ns) = All-map IsSized node_shape ns (All-weaker IsSizedOnPage (λ n. IsSized (node_shape n)) (λ n h. h.shape) ns s) in
     let short : length (map node_shape ns) ≤ 8388608 = let a = length_counted ns in omega (arith, length-map {B = Shape} ns) in
     let bare = summed-fits z.limit (map node_shape ns) f.limit.low (record { sized = shapes; few = short }) in
     let skips = skips_sized met met_all in
-    let skips_few : length (skip_shapes met) ≤ 16 = omega (arith, length-map {B = Shape} met) in
+    let skips_few : length (skip_shapes met) ≤ 255 = omega (arith, length-map {B = Shape} met) in
     let stretch : (o : Order) → IsAmount (list_stretch o (map node_shape ns) +ℤ list_stretch o (skip_shapes met)) = λ o. both_small (length (map node_shape ns)) (length (skip_shapes met)) (list_stretch o (map node_shape ns)) (list_stretch o (skip_shapes met)) short skips_few (list_stretch_within o (map node_shape ns) shapes) (list_stretch_within o (skip_shapes met) skips) in
     record {
       sums = record {
@@ -345,7 +358,7 @@ page_fits z ns f s few =
         stretch = (stretch Normal, (stretch Fil, (stretch Fill, (stretch Filll, tt))));
         shrink = both_small (length (map node_shape ns)) (length (skip_shapes met)) (list_shrink (map node_shape ns)) (list_shrink (skip_shapes met)) short skips_few (list_shrink_within (map node_shape ns) shapes) (list_shrink_within (skip_shapes met) skips);
       };
-      goal = goal_small z.goal (class_charge met) (insertion_charge z.classes ls) (length met) (inner_count ls) met_few (let a = labels.inner in omega arith) f.goal (class_within met met_all) (charge_within z.classes ls f.classes labels.all);
+      goal = goal_small z.goal (class_charge met) (insertion_charge z.classes ls) (size_total met) (length met) (inner_count ls) (let a = total_met z.classes (insertions ls) in let b = f.total in omega (arith, a, b)) met_few (let a = labels.inner in omega arith) f.goal (class_within met met_all) (charge_within z.classes ls f.classes labels.all);
       penalties = penalties_small (length ls) (penalties_of ls) (let a = labels.few in omega arith) (penalties_within ls labels.all);
       heights = λ k known. height_small (inner_count ls) (class_height z.classes ls k) (let a = labels.inner in omega arith) (height_within z.classes ls k f.classes labels.all);
     }
@@ -423,6 +436,20 @@ class_boxes_sized cs bs h b few =
     All-map IsSizedClassBox boxed cs (All-weaker IsSizedClass (λ c. IsSizedClassBox (boxed c))
     (λ c s. record { class = s; size = content_within (content_of (box_content bs c.number)) (content_sized bs c.number b) (let r = content_few bs c.number in omega (arith, r, few)) }) cs h)
 
+content_abs : (ls : List Leaf) → All IsSizedLeaf ls → unsigned_abs (size_of (map leaf_shape ls)) ≤ 2147483646 * length ls
+content_abs ls h = let a = abs_of (2147483646 * length (map leaf_shape ls)) (size_of (map leaf_shape ls)) (size_within (map leaf_shape ls) (leaves_sized ls h)) in omega (arith, a, length-map {B = Shape} ls leaf_shape)
+
+boxes_total : (cs : List Class) (bs : List Boxed) → All IsSizedBox bs → size_total (class_boxes cs bs) ≤ 2147483646 * in_boxes bs cs
+boxes_total [] bs b = omega arith
+boxes_total (c ∷ cs) bs b =
+    let here = content_abs (content_of (box_content bs c.number)) (content_sized bs c.number b) in
+    let later = boxes_total cs bs b in
+    omega (arith, here, later)
+
+-- what the boxes of classes hold, each of which counts once
+pub class_boxes_total : (cs : List Class) (bs : List Boxed) → ClassesFit cs → All IsSizedBox bs → box_count bs ≤ 4194304 → size_total (class_boxes cs bs) ≤ 9007199254740992
+class_boxes_total cs bs c b few = let a = boxes_total cs bs b in let once = boxes_once bs cs c in omega (arith, a, once, few)
+
 -- ---- the contents
 
 pub contents_fit : (c : Contents) (ask : Ask) → IsPageable c ask → NextFits c ask
@@ -458,5 +485,6 @@ contents_fit c ask p = record {
       goal = p.goal;
       limit = p.limit;
       classes = subst (All IsSizedClassBox) (sym classes) (class_boxes_sized c.classes c.boxes p.classes p.boxes (let a = p.few in omega arith));
-      few = let a = p.few_classes in omega (arith, ap length classes, length-map {B = ClassBox} c.classes);
+      few = let a = few_classes c.classes p.classes_fit in omega (arith, a, ap length classes, length-map {B = ClassBox} c.classes);
+      total = let a = class_boxes_total c.classes c.boxes p.classes_fit p.boxes (let f = p.few in omega arith) in omega (arith, a, ap size_total classes);
     }

@@ -1,5 +1,5 @@
 -- A page as a whole, out of sized nodes: what `next` asks where it begins, what is reached of it, and the page that fires.
-use Rattle.std.proofs.Common.{sym, subst, ℕ, zero, suc, ◌+◌, ◌≤◌, ℤ, Bool, true, false, List, [], ◌∷◌, ◌++◌, length, take, None, arith}
+use Rattle.std.proofs.Common.{sym, subst, ℕ, zero, suc, ◌+◌, ◌≤◌, ℤ, Bool, true, false, List, [], ◌∷◌, ◌++◌, take, None, arith}
 use Rattle.std.specs.Prelude.{All, if◌then◌else◌}
 use Rattle.std.specs.List.{AllByRecursion}
 use Rattle.std.proofs.lemmas.List.Elements.{All-nil, All-append}
@@ -30,9 +30,9 @@ use Rattle.tb_builder.proofs.CallLemmas.{list-sized, list-count}
 abbrev pub between : List Class → List Boxed → List PlainNode → Contents
 between cs bs waiting = record { classes = cs; boxes = bs; page = []; waiting = waiting; held = []; frozen = None; stopped = false }
 
-module _ (cs : List Class) (bs : List Boxed) (waiting : List PlainNode) (classes : All IsSizedClass cs) (few_classes : length cs ≤ 16) (boxes : All IsSizedBox bs) (nodes : All IsSizedOnPage waiting) where
+module _ (cs : List Class) (bs : List Boxed) (waiting : List PlainNode) (classes : All IsSizedClass cs) (classes_fit : ClassesFit cs) (boxes : All IsSizedBox bs) (nodes : All IsSizedOnPage waiting) where
   pub between-sized : IsSizedContents (between cs bs waiting)
-  between-sized = record { nodes = list-sized false [] waiting (All-nil IsSizedOnPage) nodes; held = All-nil IsSizedOnPage; boxes = boxes; classes = classes; few_classes = few_classes; frozen = tt }
+  between-sized = record { nodes = list-sized false [] waiting (All-nil IsSizedOnPage) nodes; held = All-nil IsSizedOnPage; boxes = boxes; classes = classes; classes_fit = classes_fit; frozen = tt }
 
   pub between-count : whole_count (between cs bs waiting) ≤ node_count waiting + box_count bs + 1
   between-count = let h = list-count false [] waiting in omega (arith, h)

@@ -27,11 +27,11 @@ use Rattle.tb_builder.specs.declared.Event.TheVariants as events
 use Rattle.tb_builder.specs.declared.Page.{Page}
 use Rattle.tb_builder.specs.declared.Builder.{Builder}
 use Rattle.tb_builder.specs.Contents.{Contents, contents_of, nothing_yet, kind_count, node_count, box_count}
-use Rattle.tb_builder.specs.Owned.{Lacks, inner_of, ids_of, owned, is_plain, AllPlain, is_known, has_class, classes_of}
+use Rattle.tb_builder.specs.Owned.{Lacks, ClassesFit, inner_of, ids_of, owned, is_plain, AllPlain, is_known, has_class, classes_of}
 use Rattle.tb_builder.specs.Running.{IsSound}
 use Rattle.tb_builder.specs.Next.{SizesFit, NextFits, NextIs}
 use Rattle.tb_builder.specs.Handed.{NodesJoin, NoPage}
-use Rattle.tb_builder.specs.Pageable.{IsSizedOnPage, IsSizedClass, IsSizedBox, IsGoal, IsPageable}
+use Rattle.tb_builder.specs.Pageable.{IsSizedOnPage, IsFactor, IsSizedClass, IsSizedBox, IsGoal, IsPageable}
 use Rattle.tb_builder.specs.Worked.{IsMatter, AtRest, IsReady, waits}
 use Rattle.tb_builder.proofs.MoveLemmas.{get_other}
 use Rattle.tb_builder.proofs.OwnedLemmas.{AllSame}
@@ -134,7 +134,7 @@ open_ready b s class ask sound e sized number goal depth top = record {
     asked_depth = depth;
     top_skip = top;
     classes = All-cons IsSizedClass class [] sized (All-nil IsSizedClass);
-    few_classes = omega arith;
+    classes_fit = subst ClassesFit (ap (λ (c : Contents). c.classes) e) sound.own.classes;
     boxes = All-cons IsSizedBox (record { number = class.number; content = None }) [] (All-nil IsSizedLeaf) (All-nil IsSizedBox);
     page = All-nil IsSizedOnPage;
     waiting = All-nil IsSizedOnPage;
@@ -172,7 +172,7 @@ module _ (b d : Builder) (s t : Lists Node) (n : PlainNode) (e : contents_of d t
       asked_depth = r.pageable.asked_depth;
       top_skip = r.pageable.top_skip;
       classes = r.pageable.classes;
-      few_classes = r.pageable.few_classes;
+      classes_fit = r.pageable.classes_fit;
       boxes = r.pageable.boxes;
       page = r.pageable.page;
       waiting = All-push IsSizedOnPage (contents_of b s).waiting n r.pageable.waiting sized;
@@ -254,7 +254,7 @@ nothing = record { low = omega (arith, ints); high = omega (arith, ints) }
 
 pub sized_class : (c : Class) → c.factor ≡ pos 1000 → c.skip ≡ fixed_glue (pos 0) → IsSizedClass c
 sized_class c factor skip = record {
-  factor = factor;
+  factor = subst IsFactor (sym factor) (record { low = omega (arith, ints); high = omega (arith, ints) });
   width = subst (λ (g : Glue). IsDimension g.width) (sym skip) nothing;
   stretch = subst (λ (g : Glue). IsDimension g.stretch) (sym skip) nothing;
   shrink = subst (λ (g : Glue). IsDimension g.shrink) (sym skip) nothing;

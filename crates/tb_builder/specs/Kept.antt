@@ -1,5 +1,5 @@
 -- What stays sized from call to call of a page builder, and how many nodes there are.
-use Rattle.std.specs.Prelude.{◌≡◌, ℕ, ◌+◌, ◌≤◌, ℤ, pos, Bool, true, false, List, [], ◌∷◌, ◌++◌, length, Option, Some, None, All}
+use Rattle.std.specs.Prelude.{◌≡◌, ℕ, ◌+◌, ℤ, pos, Bool, true, false, List, [], ◌∷◌, ◌++◌, Option, Some, None, All}
 use Rattle.tb_node.specs.Fit.{IsExtent}
 use Rattle.tb_node.specs.Plain.{PlainNode}
 use Rattle.tb_insert.specs.declared.Class.{Class}
@@ -7,6 +7,7 @@ use Rattle.tb_builder.specs.declared.Ask.{Ask}
 use Rattle.tb_builder.specs.Reached.{laid_out}
 use Rattle.tb_builder.specs.Fired.{Boxed, Fired}
 use Rattle.tb_builder.specs.Contents.{Contents, node_count, box_count}
+use Rattle.tb_builder.specs.Owned.{ClassesFit}
 use Rattle.tb_builder.specs.Pageable.{IsSizedOnPage, IsSizedClass, IsSizedBox, IsGoal}
 
 -- ---- what is asked
@@ -33,13 +34,13 @@ laid_by false page waiting = laid_out (pos 0) page waiting
 abbrev pub whole_list : Contents → List PlainNode
 whole_list c = laid_by c.stopped c.page c.waiting
 
--- all nodes and classes are sized, and so is what is frozen; there are at most 16 classes
+-- all nodes and classes are sized, and so is what is frozen; the numbers of the classes differ and are below 255
 pub record IsSizedContents (c : Contents) : Type 0 where
   pub nodes : All IsSizedOnPage (whole_list c)
   pub held : All IsSizedOnPage c.held
   pub boxes : All IsSizedBox c.boxes
   pub classes : All IsSizedClass c.classes
-  pub few_classes : length c.classes ≤ 16
+  pub classes_fit : ClassesFit c.classes
   pub frozen : IsSizedFreeze c.frozen
 
 -- ---- how many nodes there are

@@ -1,5 +1,5 @@
 -- Contents of which a page can be made, whatever is asked of their nodes: each node is sized, and there are not too many.
-use Rattle.std.specs.Prelude.{◌≡◌, ◌+◌, ◌≤◌, ℤ, pos, neg_ℤ, ◌≤ℤ◌, map, length, All}
+use Rattle.std.specs.Prelude.{◌≡◌, ◌+◌, ◌≤◌, ℤ, pos, neg_ℤ, ◌≤ℤ◌, map, All}
 use Rattle.tb_node.specs.Fit.{IsDimension, IsExtent, IsPenalty, IsSized, IsSizedLeaf}
 use Rattle.tb_node.specs.Plain.{leaf_shape, Inserted, PlainKind, plain, ins, act, PlainNode, node_shape}
 use Rattle.tb_node.specs.Sums.{size_of}
@@ -7,6 +7,7 @@ use Rattle.tb_insert.specs.declared.Class.{Class}
 use Rattle.tb_builder.specs.declared.Ask.{Ask}
 use Rattle.tb_builder.specs.Fired.{Boxed, content_of}
 use Rattle.tb_builder.specs.Contents.{Contents, frozen_of, node_count, box_count}
+use Rattle.tb_builder.specs.Owned.{ClassesFit}
 
 -- an insertion with sized nodes, whose height is the size of its list
 pub record IsSizedInserted (i : Inserted) : Type 0 where
@@ -27,9 +28,14 @@ pub record IsSizedOnPage (n : PlainNode) : Type 0 where
   pub shape : IsSized (node_shape n)
   pub kind : IsSizedKind n.kind
 
--- a class whose insertions count whole against the goal
+-- a factor: an insertion counts at most ten times against the goal
+pub record IsFactor (z : ℤ) : Type 0 where
+  pub low : pos 0 ≤ℤ z
+  pub high : z ≤ℤ pos 10000
+
+-- a class: its factor and the amounts of its skip are in their ranges
 pub record IsSizedClass (c : Class) : Type 0 where
-  pub factor : c.factor ≡ pos 1000
+  pub factor : IsFactor c.factor
   pub width : IsDimension c.skip.width
   pub stretch : IsDimension c.skip.stretch
   pub shrink : IsDimension c.skip.shrink
@@ -43,7 +49,7 @@ pub record IsGoal (z : ℤ) : Type 0 where
   pub low : neg_ℤ (pos 288230376151711744) ≤ℤ z
   pub high : z ≤ℤ pos 288230376151711744
 
--- at most 2^22 nodes, those of insertions and class boxes too, and at most 16 classes
+-- at most 2^22 nodes, those of insertions and class boxes too, and classes whose numbers differ and are below 255
 pub record IsPageable (c : Contents) (ask : Ask) : Type 0 where
   pub goal : IsGoal (frozen_of c ask).goal
   pub limit : IsExtent (frozen_of c ask).limit
@@ -51,7 +57,7 @@ pub record IsPageable (c : Contents) (ask : Ask) : Type 0 where
   pub asked_depth : IsExtent ask.max_depth
   pub top_skip : IsExtent ask.top_skip
   pub classes : All IsSizedClass c.classes
-  pub few_classes : length c.classes ≤ 16
+  pub classes_fit : ClassesFit c.classes
   pub boxes : All IsSizedBox c.boxes
   pub page : All IsSizedOnPage c.page
   pub waiting : All IsSizedOnPage c.waiting

@@ -3,9 +3,10 @@ use Rattle.std.proofs.Common.{◌≡◌, ℕ, zero, suc, ◌≤◌, Bool, true, 
 use Rattle.std.specs.Prelude.{slice_set}
 use Rattle.tb_node.specs.declared.Float.{Float}
 use Rattle.tb_float.specs.declared.Part.{Part}
-use Rattle.tb_float.specs.declared.Part.TheVariants as parts
-use Rattle.tb_float.specs.Lists.{without_place, floats_of, IsWaiting}
+use Rattle.tb_float.specs.declared.Entry.TheVariants as entries
+use Rattle.tb_float.specs.Lists.{without_place, float_entries, floats_of, IsWaiting}
 use Rattle.tb_float.specs.Pool.{FloatPool, HasNoMarks, marks_of, unmarked_floats, marked_among, unmarked_among, marked_floats, first_marked, with_floats_after, with_floats_before, without_entry, without_entries, moved_float, joined_before, with_float_at}
+use Rattle.tb_float.proofs.WaitingLemmas.{HasAllMarks, marks-count, none-chosen, contents-unmarked, contents-marked, floats-contents, marks-contents}
 
 pub marked-none : (ms : List Bool) → marked_among ms [] ≡ []
 marked-none [] = refl
@@ -43,50 +44,34 @@ marked-set zero f (false ∷ ms) (g ∷ fs) e = e
 marked-set (suc k) f (true ∷ ms) (g ∷ fs) e = cc
 marked-set (suc k) f (false ∷ ms) (g ∷ fs) e = marked-set k f ms fs e
 
--- each float that waits has its mark
-pub record HasAllMarks (v : FloatPool) : Type 0 where
-  pub deferred : length v.marks ≡ length v.lists.deferred
-  pub second : length v.second_marks ≡ length v.lists.second
-
 pub unmarked-without_entry : (p : Part) (k : ℕ) (v : FloatPool) → HasNoMarks v → HasNoMarks (without_entry p k v)
-unmarked-without_entry parts.Current k v e = record { deferred = e.deferred; second = e.second }
-unmarked-without_entry parts.Here k v e = record { deferred = e.deferred; second = e.second }
-unmarked-without_entry parts.Top k v e = record { deferred = e.deferred; second = e.second }
-unmarked-without_entry parts.Bottom k v e = record { deferred = e.deferred; second = e.second }
-unmarked-without_entry parts.Deferred k v e = record { deferred = marked-without k v.marks v.lists.deferred e.deferred; second = e.second }
-unmarked-without_entry parts.Double k v e = record { deferred = e.deferred; second = e.second }
-unmarked-without_entry parts.Second k v e = record { deferred = e.deferred; second = marked-without k v.second_marks v.lists.second e.second }
+unmarked-without_entry p k v e =
+    let ms = marks_of p v in
+    let fs = floats_of p v.lists in
+    contents-unmarked p (without_place k v.lists.current) (without_place k fs) (without_place k ms) v e (λ w. marked-without k ms fs (none-chosen p w v e))
 
 unmarked-after : (p : Part) (fs : List Float) (v : FloatPool) → HasAllMarks v → HasNoMarks v → HasNoMarks (with_floats_after p fs v)
-unmarked-after parts.Current fs v same e = record { deferred = e.deferred; second = e.second }
-unmarked-after parts.Here fs v same e = record { deferred = e.deferred; second = e.second }
-unmarked-after parts.Top fs v same e = record { deferred = e.deferred; second = e.second }
-unmarked-after parts.Bottom fs v same e = record { deferred = e.deferred; second = e.second }
-unmarked-after parts.Deferred fs v same e = record { deferred = marked-append v.marks (replicate (length fs) false) v.lists.deferred fs same.deferred ∙ ap (λ hs. hs ++ marked_among (replicate (length fs) false) fs) e.deferred ∙ marked-false (length fs) fs; second = e.second }
-unmarked-after parts.Double fs v same e = record { deferred = e.deferred; second = e.second }
-unmarked-after parts.Second fs v same e = record { deferred = e.deferred; second = marked-append v.second_marks (replicate (length fs) false) v.lists.second fs same.second ∙ ap (λ hs. hs ++ marked_among (replicate (length fs) false) fs) e.second ∙ marked-false (length fs) fs }
+unmarked-after p fs v same e =
+    let ms = marks_of p v in
+    let gs = floats_of p v.lists in
+    let ns = replicate (length fs) false in
+    contents-unmarked p (v.lists.current ++ float_entries fs) (gs ++ fs) (ms ++ ns) v e
+    (λ w. marked-append ms ns gs fs (marks-count p w v same.deferred same.second) ∙ ap (λ hs. hs ++ marked_among ns fs) (none-chosen p w v e) ∙ marked-false (length fs) fs)
 
 pub length-replicate_false : (n : ℕ) → length (replicate n false) ≡ n
 length-replicate_false zero = refl
 length-replicate_false (suc n) = omega (arith, length-replicate_false n)
 
 unmarked-before : (p : Part) (fs : List Float) (v : FloatPool) → HasNoMarks v → HasNoMarks (with_floats_before p fs v)
-unmarked-before parts.Current fs v e = record { deferred = e.deferred; second = e.second }
-unmarked-before parts.Here fs v e = record { deferred = e.deferred; second = e.second }
-unmarked-before parts.Top fs v e = record { deferred = e.deferred; second = e.second }
-unmarked-before parts.Bottom fs v e = record { deferred = e.deferred; second = e.second }
-unmarked-before parts.Deferred fs v e = record { deferred = marked-append (replicate (length fs) false) v.marks fs v.lists.deferred (length-replicate_false (length fs)) ∙ ap (λ hs. hs ++ marked_floats parts.Deferred v) (marked-false (length fs) fs) ∙ e.deferred; second = e.second }
-unmarked-before parts.Double fs v e = record { deferred = e.deferred; second = e.second }
-unmarked-before parts.Second fs v e = record { deferred = e.deferred; second = marked-append (replicate (length fs) false) v.second_marks fs v.lists.second (length-replicate_false (length fs)) ∙ ap (λ hs. hs ++ marked_floats parts.Second v) (marked-false (length fs) fs) ∙ e.second }
+unmarked-before p fs v e =
+    let ms = marks_of p v in
+    let gs = floats_of p v.lists in
+    let ns = replicate (length fs) false in
+    contents-unmarked p (float_entries fs ++ v.lists.current) (fs ++ gs) (ns ++ ms) v e
+    (λ w. marked-append ns ms fs gs (length-replicate_false (length fs)) ∙ ap (λ hs. hs ++ marked_floats p v) (marked-false (length fs) fs) ∙ none-chosen p w v e)
 
 unmarked-without_entries : (p : Part) (v : FloatPool) → HasNoMarks v → HasNoMarks (without_entries p v)
-unmarked-without_entries parts.Current v e = record { deferred = e.deferred; second = e.second }
-unmarked-without_entries parts.Here v e = record { deferred = e.deferred; second = e.second }
-unmarked-without_entries parts.Top v e = record { deferred = e.deferred; second = e.second }
-unmarked-without_entries parts.Bottom v e = record { deferred = e.deferred; second = e.second }
-unmarked-without_entries parts.Deferred v e = record { deferred = refl; second = e.second }
-unmarked-without_entries parts.Double v e = record { deferred = e.deferred; second = e.second }
-unmarked-without_entries parts.Second v e = record { deferred = e.deferred; second = refl }
+unmarked-without_entries p v e = contents-unmarked p [] [] [] v e (λ w. refl)
 
 length-without_same : {X Y : Type 0} (k : ℕ) (xs : List X) (ys : List Y) → length xs ≡ length ys → length (without_place k xs) ≡ length (without_place k ys)
 length-without_same zero [] [] e = refl
@@ -97,13 +82,10 @@ length-without_same zero (x ∷ xs) (y ∷ ys) e = omega arith
 length-without_same (suc k) (x ∷ xs) (y ∷ ys) e = ap suc (length-without_same k xs ys (omega arith))
 
 marks-without_entry : (p : Part) (k : ℕ) (v : FloatPool) → HasAllMarks v → HasAllMarks (without_entry p k v)
-marks-without_entry parts.Current k v e = record { deferred = e.deferred; second = e.second }
-marks-without_entry parts.Here k v e = record { deferred = e.deferred; second = e.second }
-marks-without_entry parts.Top k v e = record { deferred = e.deferred; second = e.second }
-marks-without_entry parts.Bottom k v e = record { deferred = e.deferred; second = e.second }
-marks-without_entry parts.Deferred k v e = record { deferred = length-without_same k v.marks v.lists.deferred e.deferred; second = e.second }
-marks-without_entry parts.Double k v e = record { deferred = e.deferred; second = e.second }
-marks-without_entry parts.Second k v e = record { deferred = e.deferred; second = length-without_same k v.second_marks v.lists.second e.second }
+marks-without_entry p k v e =
+    let ms = marks_of p v in
+    let fs = floats_of p v.lists in
+    contents-marked p (without_place k v.lists.current) (without_place k fs) (without_place k ms) v e (λ w. length-without_same k ms fs (marks-count p w v e.deferred e.second))
 
 pub unmarked-moved_float : (from : Part) (k : ℕ) (to : Part) (f : Float) (v : FloatPool) → HasAllMarks v → HasNoMarks v → HasNoMarks (moved_float from k to f v)
 unmarked-moved_float from k to f v same e =
@@ -113,13 +95,10 @@ pub unmarked-joined_before : (from to : Part) (v : FloatPool) → HasNoMarks v �
 unmarked-joined_before from to v e = unmarked-before to (floats_of from v.lists) (without_entries from v) (unmarked-without_entries from v e)
 
 pub unmarked-with_float_at : (p : Part) (k : ℕ) (f : Float) (v : FloatPool) → HasNoMarks v → HasNoMarks (with_float_at p k f v)
-unmarked-with_float_at parts.Current k f v e = record { deferred = e.deferred; second = e.second }
-unmarked-with_float_at parts.Here k f v e = record { deferred = e.deferred; second = e.second }
-unmarked-with_float_at parts.Top k f v e = record { deferred = e.deferred; second = e.second }
-unmarked-with_float_at parts.Bottom k f v e = record { deferred = e.deferred; second = e.second }
-unmarked-with_float_at parts.Deferred k f v e = record { deferred = marked-set k f v.marks v.lists.deferred e.deferred; second = e.second }
-unmarked-with_float_at parts.Double k f v e = record { deferred = e.deferred; second = e.second }
-unmarked-with_float_at parts.Second k f v e = record { deferred = e.deferred; second = marked-set k f v.second_marks v.lists.second e.second }
+unmarked-with_float_at p k f v e =
+    let ms = marks_of p v in
+    let fs = floats_of p v.lists in
+    contents-unmarked p (slice_set v.lists.current k (entries.Float f)) (slice_set fs k f) ms v e (λ w. marked-set k f ms fs (none-chosen p w v e))
 
 -- ---- the first marked float
 
@@ -154,10 +133,8 @@ first_marked-le (false ∷ ms) = omega (arith, first_marked-le ms)
 -- the marked and the unmarked floats of a list in which floats wait, once one has left
 pub left-over : (p : Part) (k : ℕ) (v : FloatPool) (ms : List Bool) (fs : List Float) → IsWaiting p → marks_of p v ≡ ms → floats_of p v.lists ≡ fs
     → (marked_floats p (without_entry p k v) ≡ marked_among (without_place k ms) (without_place k fs)) × (unmarked_floats p (without_entry p k v) ≡ unmarked_among (without_place k ms) (without_place k fs))
-left-over parts.Deferred k v ms fs is e f = ((λ i. marked_among (without_place k (e i)) (without_place k (f i))), (λ i. unmarked_among (without_place k (e i)) (without_place k (f i))))
-left-over parts.Second k v ms fs is e f = ((λ i. marked_among (without_place k (e i)) (without_place k (f i))), (λ i. unmarked_among (without_place k (e i)) (without_place k (f i))))
-left-over parts.Current k v ms fs is e f = absurd is
-left-over parts.Here k v ms fs is e f = absurd is
-left-over parts.Top k v ms fs is e f = absurd is
-left-over parts.Bottom k v ms fs is e f = absurd is
-left-over parts.Double k v ms fs is e f = absurd is
+left-over p k v ms fs is e f =
+    let es = without_place k v.lists.current in
+    let now_marks = marks-contents p is es (without_place k (floats_of p v.lists)) (without_place k (marks_of p v)) v ∙ ap (without_place k) e in
+    let now_floats = floats-contents p is es (without_place k (floats_of p v.lists)) (without_place k (marks_of p v)) v ∙ ap (without_place k) f in
+    ((λ i. marked_among (now_marks i) (now_floats i)), (λ i. unmarked_among (now_marks i) (now_floats i)))

@@ -3,10 +3,10 @@ use Rattle.std.proofs.Common.{◌≡◌, ℕ, suc, Bool, true, false, List, [], 
 use Rattle.std.specs.Prelude.{if◌then◌else◌}
 use Rattle.tb_node.specs.declared.Float.{Float}
 use Rattle.tb_float.specs.declared.Part.{Part}
-use Rattle.tb_float.specs.declared.Part.TheVariants as parts
-use Rattle.tb_float.specs.Lists.{IsWaiting, floats_of}
-use Rattle.tb_float.specs.Pool.{FloatPool, marks_of, without_entry, marked_among, marked_floats, unmarked_floats}
+use Rattle.tb_float.specs.Lists.{IsWaiting, floats_of, with_floats_of}
+use Rattle.tb_float.specs.Pool.{FloatPool, marks_of, with_marks_of, with_contents, without_entry, marked_among, marked_floats, unmarked_floats}
 use Rattle.tb_float.specs.Marked.{without_marked}
+use Rattle.tb_float.proofs.WaitingLemmas.{with-floats-same, with-marks-same, contents-again, contents-waiting}
 
 no-marks : (ms : List Bool) (fs : List Float) → length ms ≡ length fs → marked_among ms fs ≡ [] → ms ≡ replicate (length fs) false
 no-marks [] [] many none = refl
@@ -20,28 +20,16 @@ no-marks (m ∷ ms) (f ∷ fs) many none = by_mark m (λ h. no-marks ms fs (omeg
 
 -- one float left, and it was marked
 pub one-left : (from : Part) (v w : FloatPool) (k : ℕ) → IsWaiting from → w ≡ without_entry from k v → unmarked_floats from w ≡ unmarked_floats from v → without_marked from w ≡ without_marked from v
-one-left parts.Deferred v w k waits is same =
-    ap (λ (u : FloatPool). record u { lists = record u.lists { deferred = unmarked_floats parts.Deferred w }; marks = replicate (length (unmarked_floats parts.Deferred w)) false }) is
-    ∙ ap (λ (fs : List Float). record v { lists = record v.lists { deferred = fs }; marks = replicate (length fs) false }) same
-one-left parts.Second v w k waits is same =
-    ap (λ (u : FloatPool). record u { lists = record u.lists { second = unmarked_floats parts.Second w }; second_marks = replicate (length (unmarked_floats parts.Second w)) false }) is
-    ∙ ap (λ (fs : List Float). record v { lists = record v.lists { second = fs }; second_marks = replicate (length fs) false }) same
-one-left parts.Current v w k waits is same = absurd waits
-one-left parts.Here v w k waits is same = absurd waits
-one-left parts.Top v w k waits is same = absurd waits
-one-left parts.Bottom v w k waits is same = absurd waits
-one-left parts.Double v w k waits is same = absurd waits
+one-left from v w k waits is same =
+    let left = unmarked_floats from w in
+    let ms = replicate (length left) false in
+    sym (contents-waiting from waits [] left ms w) ∙ ap (with_contents from [] left ms) is ∙ contents-again from [] _ left _ ms _ v ∙ contents-waiting from waits [] left ms v
+    ∙ ap (λ fs. with_marks_of from (replicate (length fs) false) (record v { lists = with_floats_of from fs v.lists })) same
 
 -- none is marked any more
 pub all-left : (from : Part) (v : FloatPool) → IsWaiting from → length (marks_of from v) ≡ length (floats_of from v.lists) → marked_floats from v ≡ [] → unmarked_floats from v ≡ floats_of from v.lists → without_marked from v ≡ v
-all-left parts.Deferred v waits many none same =
-    ap (λ (fs : List Float). record v { lists = record v.lists { deferred = fs }; marks = replicate (length fs) false }) same
-    ∙ ap (λ (ms : List Bool). record v { marks = ms }) (sym (no-marks v.marks v.lists.deferred many none))
-all-left parts.Second v waits many none same =
-    ap (λ (fs : List Float). record v { lists = record v.lists { second = fs }; second_marks = replicate (length fs) false }) same
-    ∙ ap (λ (ms : List Bool). record v { second_marks = ms }) (sym (no-marks v.second_marks v.lists.second many none))
-all-left parts.Current v waits many none same = absurd waits
-all-left parts.Here v waits many none same = absurd waits
-all-left parts.Top v waits many none same = absurd waits
-all-left parts.Bottom v waits many none same = absurd waits
-all-left parts.Double v waits many none same = absurd waits
+all-left from v waits many none same =
+    let marks = no-marks (marks_of from v) (floats_of from v.lists) many none in
+    ap (λ fs. with_marks_of from (replicate (length fs) false) (record v { lists = with_floats_of from fs v.lists })) same
+    ∙ (λ i. with_marks_of from (sym marks i) (record v { lists = with-floats-same from waits v.lists i }))
+    ∙ with-marks-same from v

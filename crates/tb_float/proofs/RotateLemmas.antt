@@ -1,22 +1,23 @@
 -- The first float of a list goes behind the others.
-use Rattle.std.proofs.Common.{◌≡◌, ℕ, Bool, true, false, List, [], ◌∷◌, ◌++◌, length, map, refl, ap, ◌∙◌, arith}
+use Rattle.std.proofs.Common.{ℤ, ◌≡◌, ℕ, Bool, true, false, List, [], ◌∷◌, ◌++◌, length, map, refl, sym, ap, ◌∙◌, subst, arith}
 use Rattle.std.proofs.lemmas.Int.{ints}
 use Rattle.std.proofs.lemmas.List.{map-append, length-append}
 use Rattle.tb_pool.specs.Lists.{Lists, with_list}
 use Rattle.tb_node.specs.declared.Float.{Float}
 use Rattle.tb_float.specs.declared.Part.{Part}
-use Rattle.tb_float.specs.declared.Part.TheVariants as parts
 use Rattle.tb_float.specs.declared.Entry.{Entry}
 use Rattle.tb_float.specs.declared.Entry.TheVariants as entries
 use Rattle.tb_float.specs.declared.shelves.Shelves.{Shelves}
-use Rattle.tb_float.specs.declared.heights.Heights.{Heights}
+use Rattle.tb_float.specs.declared.by_part.ByPart.{ByPart}
 use Rattle.tb_float.specs.SlotView.{SlotView}
-use Rattle.tb_float.specs.Lists.{IsWaiting, float_before}
-use Rattle.tb_float.specs.Pool.{FloatPool, HasNoMarks, marked_among, rotated, with_first_behind}
+use Rattle.tb_float.specs.Lists.{IsWaiting, float_before, floats_of, with_floats_of, holds_notes}
+use Rattle.tb_float.specs.Pool.{FloatPool, HasNoMarks, marked_among, marks_of, with_marks_of, rotated, with_first_behind}
 use Rattle.tb_float.specs.Rooms.{total_height}
-use Rattle.tb_float.specs.Stored.{shelf_of, slots_of, seen_pool, seen_lists, floats_in, is_float, holds_notes, AreSlotsOf, IsStored}
+use Rattle.tb_float.specs.Stored.{shelf_of, slots_of, seen_pool, entries_in, floats_in, marks_in, is_float, AreSlotsOf, IsStored}
 use Rattle.tb_float.proofs.SlotLemmas.{floats_in-append, total_height-append, slots-append}
-use Rattle.tb_float.proofs.MarkLemmas.{HasAllMarks, marked-none, marked-append}
+use Rattle.tb_float.proofs.WaitingLemmas.{HasAllMarks, waiting-floats, marks-count, none-chosen, contents-waiting, contents-unmarked}
+use Rattle.tb_float.proofs.MarkLemmas.{marked-none, marked-append}
+use Rattle.tb_float.proofs.SoundLemmas.{floats_of-seen, marks_of-seen, seen-put}
 use Rattle.tb_float.proofs.PoolLemmas.{IsPool, rewritten}
 
 -- ---- slots
@@ -53,31 +54,22 @@ slots-rotated p (s ∷ ss) h = slots-append p ss (s ∷ []) h.1 (h.0, tt)
 -- ---- the pool
 
 -- the first float of a list in which floats wait went behind the others
-pub first-went-behind : (store new : Lists SlotView) (sh : Shelves) (h : Heights) (size : ℕ) (p : Part) → IsWaiting p → IsStored store sh h size
+pub first-went-behind : (store new : Lists SlotView) (sh : Shelves) (h : ByPart ℤ) (size : ℕ) (p : Part) → IsWaiting p → IsStored store sh h size
     → new.lists ≡ with_list store (shelf_of sh p) (rotated (slots_of store sh p)) → new.spare ≡ store.spare → IsPool new sh h size (with_first_behind p (seen_pool (slots_of store sh) size))
-first-went-behind store new sh h size parts.Deferred is stored e spare =
+first-went-behind store new sh h size p is stored e spare =
     let at = slots_of store sh in
-    let ss = at parts.Deferred in
-    let slots = stored.sound.slots parts.Deferred in
-    let w = rewritten store new sh h size parts.Deferred (rotated ss) stored e spare (slots-rotated parts.Deferred ss slots) (length-rotated ss) (total-rotated ss) in
+    let v = seen_pool at size in
+    let ss = at p in
+    let slots = stored.sound.slots p in
+    let w = rewritten store new sh h size p (rotated ss) stored e spare (slots-rotated p ss slots) (length-rotated ss) (total-rotated ss) in
+    let floats = floats_in-rotated p ss (waiting-floats p is) slots ∙ ap rotated (sym (floats_of-seen p at)) in
+    let marks = map-rotated {X = SlotView} (λ s. s.marked) ss ∙ ap rotated (sym (marks_of-seen p at size is)) in
     record {
       stored = w.stored;
-      seen = ap (λ a. seen_pool a size) w.slots ∙ (λ i. record (seen_pool at size) { lists = record (seen_lists at) { deferred = floats_in-rotated parts.Deferred ss refl slots i }; marks = map-rotated {X = SlotView} (λ s. s.marked) ss i });
+      seen = ap (λ a. seen_pool a size) w.slots ∙ seen-put p at (rotated ss) size
+          ∙ contents-waiting p is (entries_in (rotated ss)) (floats_in (rotated ss)) (marks_in (rotated ss)) v
+          ∙ (λ i. with_marks_of p (marks i) (record v { lists = with_floats_of p (floats i) v.lists }));
     }
-first-went-behind store new sh h size parts.Second is stored e spare =
-    let at = slots_of store sh in
-    let ss = at parts.Second in
-    let slots = stored.sound.slots parts.Second in
-    let w = rewritten store new sh h size parts.Second (rotated ss) stored e spare (slots-rotated parts.Second ss slots) (length-rotated ss) (total-rotated ss) in
-    record {
-      stored = w.stored;
-      seen = ap (λ a. seen_pool a size) w.slots ∙ (λ i. record (seen_pool at size) { lists = record (seen_lists at) { second = floats_in-rotated parts.Second ss refl slots i }; second_marks = map-rotated {X = SlotView} (λ s. s.marked) ss i });
-    }
-first-went-behind store new sh h size parts.Current is stored e spare = absurd is
-first-went-behind store new sh h size parts.Here is stored e spare = absurd is
-first-went-behind store new sh h size parts.Top is stored e spare = absurd is
-first-went-behind store new sh h size parts.Bottom is stored e spare = absurd is
-first-went-behind store new sh h size parts.Double is stored e spare = absurd is
 
 -- ---- marks
 
@@ -89,10 +81,8 @@ marked-rotated (false ∷ ms) (f ∷ fs) same none = marked-append ms (false ∷
 
 -- where none is marked, none is then
 pub unmarked-rotated : (p : Part) → IsWaiting p → (v : FloatPool) → HasAllMarks v → HasNoMarks v → HasNoMarks (with_first_behind p v)
-unmarked-rotated parts.Deferred is v same e = record { deferred = marked-rotated v.marks v.lists.deferred same.deferred e.deferred; second = e.second }
-unmarked-rotated parts.Second is v same e = record { deferred = e.deferred; second = marked-rotated v.second_marks v.lists.second same.second e.second }
-unmarked-rotated parts.Current is v same e = absurd is
-unmarked-rotated parts.Here is v same e = absurd is
-unmarked-rotated parts.Top is v same e = absurd is
-unmarked-rotated parts.Bottom is v same e = absurd is
-unmarked-rotated parts.Double is v same e = absurd is
+unmarked-rotated p is v same e =
+    let ms = marks_of p v in
+    let fs = floats_of p v.lists in
+    let none = marked-rotated ms fs (marks-count p is v same.deferred same.second) (none-chosen p is v e) in
+    subst HasNoMarks (contents-waiting p is [] (rotated fs) (rotated ms) v) (contents-unmarked p [] (rotated fs) (rotated ms) v e (λ w. none))

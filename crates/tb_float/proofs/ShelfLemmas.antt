@@ -1,14 +1,14 @@
 -- The shelves of a store: opened, and changed one at a time.
-use Rattle.std.proofs.Common.{◌≡◌, ◌≢◌, inl, inr, ℕ, List, [], ◌∷◌, Some, None, is_some, unwrap_or, refl, sym, ap, ◌∙◌, arith}
+use Rattle.std.proofs.Common.{◌≡◌, ◌≢◌, inl, inr, ℕ, zero, suc, List, [], ◌∷◌, ◌++◌, Some, None, slice_get, is_some, unwrap_or, refl, sym, ap, ◌∙◌, subst, arith}
+use Rattle.std.proofs.lemmas.Option.{same_Some}
 use Rattle.std.specs.FinMap.{get}
 use Rattle.tb_pool.specs.Lists.{Lists, IsLive, list_at, with_list}
 use Rattle.tb_pool.proofs.MapLemmas.{get-insert_same, get-insert_other, list_steps}
 use Rattle.tb_float.specs.declared.Part.{Part}
-use Rattle.tb_float.specs.declared.Part.TheVariants as parts
 use Rattle.tb_float.specs.declared.shelves.Shelves.{Shelves}
 use Rattle.tb_float.specs.SlotView.{SlotView}
 use Rattle.tb_float.specs.Stored.{shelf_of, slots_of, AreShelves}
-use Rattle.tb_float.proofs.PartLemmas.{part_cases, put, put-same, put-other}
+use Rattle.tb_float.proofs.PartLemmas.{part_index, part_index-apart, part_cases, part_values, value-at, put, put-same, put-other}
 
 -- ---- opening
 
@@ -35,130 +35,68 @@ pub record Opened (s : Lists SlotView) (ids : List ℕ) : Type 0 where
 pub opened-none : (s : Lists SlotView) → Opened s []
 opened-none s = record { all_open = tt; differ = tt }
 
+-- those that are open differ from a new id
 open-new : (s : Lists SlotView) (l m : ℕ) → IsOpen s m → get s.lists l ≡ None → m ≢ l
 open-new s l m is new e = let clash = sym is ∙ ap (get s.lists) e ∙ new in cc
 
-all-others : (s : Lists SlotView) (l : ℕ) (ids : List ℕ) → AllOpen s ids → get s.lists l ≡ None → AllOthers l ids
-all-others s l [] o new = tt
-all-others s l (m ∷ ms) o new = (open-new s l m o.0 new, all-others s l ms o.1 new)
-
-all-stay : (s t : Lists SlotView) (l : ℕ) (ids : List ℕ) → AllOpen s ids → get s.lists l ≡ None → t.lists ≡ with_list s l [] → AllOpen t ids
-all-stay s t l [] o new e = tt
+all-stay : (s t : Lists SlotView) (l : ℕ) (ids : List ℕ) → AllOpen s ids → get s.lists l ≡ None → t.lists ≡ with_list s l [] → AllOpen t (ids ++ l ∷ [])
+all-stay s t l [] o new e = (ap (λ w. get w l) e ∙ get-insert_same s.lists l [], tt)
 all-stay s t l (m ∷ ms) o new e =
     (ap (λ w. get w m) e ∙ get-insert_other s.lists l [] m (open-new s l m o.0 new) ∙ o.0, all-stay s t l ms o.1 new e)
 
+others-more : (m : ℕ) (ids : List ℕ) (l : ℕ) → AllOthers m ids → l ≢ m → AllOthers m (ids ++ l ∷ [])
+others-more m [] l o ne = (ne, tt)
+others-more m (x ∷ xs) l o ne = (o.0, others-more m xs l o.1 ne)
+
+differ-more : (s : Lists SlotView) (ids : List ℕ) (l : ℕ) → AllDiffer ids → AllOpen s ids → get s.lists l ≡ None → AllDiffer (ids ++ l ∷ [])
+differ-more s [] l d o new = (tt, tt)
+differ-more s (m ∷ ms) l d o new = (others-more m ms l d.0 (λ e. open-new s l m o.0 new (sym e)), differ-more s ms l d.1 o.1 new)
+
 -- one more list is opened
-pub opened-one : (s t : Lists SlotView) (l : ℕ) (ids : List ℕ) → Opened s ids → get s.lists l ≡ None → t.lists ≡ with_list s l [] → Opened t (l ∷ ids)
-opened-one s t l ids k new e = record {
-  all_open = (ap (λ w. get w l) e ∙ get-insert_same s.lists l [], all-stay s t l ids k.all_open new e);
-  differ = (all-others s l ids k.all_open new, k.differ);
-}
+pub opened-one : (s t : Lists SlotView) (l : ℕ) (ids : List ℕ) → Opened s ids → get s.lists l ≡ None → t.lists ≡ with_list s l [] → Opened t (ids ++ l ∷ [])
+opened-one s t l ids k new e = record { all_open = all-stay s t l ids k.all_open new e; differ = differ-more s ids l k.differ k.all_open new }
+
+-- an id among those that are open is open
+open-at : (s : Lists SlotView) (ids : List ℕ) (k l : ℕ) → AllOpen s ids → slice_get ids k ≡ Some l → IsOpen s l
+open-at s [] k l o e = absurd cc
+open-at s (m ∷ ms) zero l o e = subst (IsOpen s) (same_Some m l e) o.0
+open-at s (m ∷ ms) (suc k) l o e = open-at s ms k l o.1 e
+
+others-at : (l : ℕ) (ids : List ℕ) (k m : ℕ) → AllOthers l ids → slice_get ids k ≡ Some m → m ≢ l
+others-at l [] k m o e = absurd cc
+others-at l (x ∷ xs) zero m o e = λ q. o.0 (same_Some x m e ∙ q)
+others-at l (x ∷ xs) (suc k) m o e = others-at l xs k m o.1 e
+
+-- two ids at two places differ
+differ-at : (ids : List ℕ) (j k l m : ℕ) → AllDiffer ids → slice_get ids j ≡ Some l → slice_get ids k ≡ Some m → j ≢ k → l ≢ m
+differ-at [] j k l m d e f ne = absurd cc
+differ-at (x ∷ xs) zero zero l m d e f ne = absurd (ne refl)
+differ-at (x ∷ xs) zero (suc k) l m d e f ne = λ q. others-at x xs k m d.0 f (sym q ∙ sym (same_Some x l e))
+differ-at (x ∷ xs) (suc j) zero l m d e f ne = λ q. others-at x xs j l d.0 e (q ∙ sym (same_Some x m f))
+differ-at (x ∷ xs) (suc j) (suc k) l m d e f ne = differ-at xs j k l m d.1 e f (λ q. ne (ap suc q))
 
 abbrev pub shelf_ids : Shelves → List ℕ
-shelf_ids s = s.rest ∷ s.one ∷ s.second ∷ s.double ∷ s.deferred ∷ s.bottom ∷ s.top ∷ s.here ∷ s.current ∷ []
+shelf_ids s = s.one ∷ s.rest ∷ part_values s.lists
 
 pub shelves-opened : (t : Lists SlotView) (s : Shelves) → Opened t (shelf_ids s) → AreShelves t s
-shelves-opened t s k = by_parts k.all_open k.differ
-  where
-    by_parts : (o : AllOpen t (shelf_ids s)) (d : AllDiffer (shelf_ids s)) → AreShelves t s
-    by_parts o d = record {
-      live = live;
-      one_live = ap is_some (o.1.0);
-      rest_live = ap is_some (o.0);
-      apart = apart;
-      one_apart = one_apart;
-      rest_apart = rest_apart;
-      helpers_apart = d.0.0;
-      one_empty = ap (λ w. unwrap_or w []) (o.1.0);
-      rest_empty = ap (λ w. unwrap_or w []) (o.0);
+shelves-opened t s k =
+    let ids = part_values s.lists in
+    let o = k.all_open in
+    let d = k.differ in
+    record {
+      live = λ p. ap is_some (open-at t ids (part_index p) (shelf_of s p) o.1.1 (value-at p s.lists));
+      one_live = ap is_some (o.0);
+      rest_live = ap is_some (o.1.0);
+      apart = λ p q ne. differ-at ids (part_index p) (part_index q) (shelf_of s p) (shelf_of s q) d.1.1 (value-at p s.lists) (value-at q s.lists) (part_index-apart p q ne);
+      one_apart = λ p. others-at s.one ids (part_index p) (shelf_of s p) d.0.1 (value-at p s.lists);
+      rest_apart = λ p. others-at s.rest ids (part_index p) (shelf_of s p) d.1.0 (value-at p s.lists);
+      helpers_apart = λ e. d.0.0 (sym e);
+      one_empty = ap (λ w. unwrap_or w []) (o.0);
+      rest_empty = ap (λ w. unwrap_or w []) (o.1.0);
     }
-      where
-        live : (p : Part) → IsLive t (shelf_of s p)
-        live parts.Current = ap is_some (o.1.1.1.1.1.1.1.1.0)
-        live parts.Here = ap is_some (o.1.1.1.1.1.1.1.0)
-        live parts.Top = ap is_some (o.1.1.1.1.1.1.0)
-        live parts.Bottom = ap is_some (o.1.1.1.1.1.0)
-        live parts.Deferred = ap is_some (o.1.1.1.1.0)
-        live parts.Double = ap is_some (o.1.1.1.0)
-        live parts.Second = ap is_some (o.1.1.0)
-
-        apart : (p q : Part) → p ≢ q → shelf_of s p ≢ shelf_of s q
-        apart parts.Current parts.Current ne = absurd (ne refl)
-        apart parts.Current parts.Here ne = d.1.1.1.1.1.1.1.0.0
-        apart parts.Current parts.Top ne = d.1.1.1.1.1.1.0.1.0
-        apart parts.Current parts.Bottom ne = d.1.1.1.1.1.0.1.1.0
-        apart parts.Current parts.Deferred ne = d.1.1.1.1.0.1.1.1.0
-        apart parts.Current parts.Double ne = d.1.1.1.0.1.1.1.1.0
-        apart parts.Current parts.Second ne = d.1.1.0.1.1.1.1.1.0
-        apart parts.Here parts.Current ne = λ e. d.1.1.1.1.1.1.1.0.0 (sym e)
-        apart parts.Here parts.Here ne = absurd (ne refl)
-        apart parts.Here parts.Top ne = d.1.1.1.1.1.1.0.0
-        apart parts.Here parts.Bottom ne = d.1.1.1.1.1.0.1.0
-        apart parts.Here parts.Deferred ne = d.1.1.1.1.0.1.1.0
-        apart parts.Here parts.Double ne = d.1.1.1.0.1.1.1.0
-        apart parts.Here parts.Second ne = d.1.1.0.1.1.1.1.0
-        apart parts.Top parts.Current ne = λ e. d.1.1.1.1.1.1.0.1.0 (sym e)
-        apart parts.Top parts.Here ne = λ e. d.1.1.1.1.1.1.0.0 (sym e)
-        apart parts.Top parts.Top ne = absurd (ne refl)
-        apart parts.Top parts.Bottom ne = d.1.1.1.1.1.0.0
-        apart parts.Top parts.Deferred ne = d.1.1.1.1.0.1.0
-        apart parts.Top parts.Double ne = d.1.1.1.0.1.1.0
-        apart parts.Top parts.Second ne = d.1.1.0.1.1.1.0
-        apart parts.Bottom parts.Current ne = λ e. d.1.1.1.1.1.0.1.1.0 (sym e)
-        apart parts.Bottom parts.Here ne = λ e. d.1.1.1.1.1.0.1.0 (sym e)
-        apart parts.Bottom parts.Top ne = λ e. d.1.1.1.1.1.0.0 (sym e)
-        apart parts.Bottom parts.Bottom ne = absurd (ne refl)
-        apart parts.Bottom parts.Deferred ne = d.1.1.1.1.0.0
-        apart parts.Bottom parts.Double ne = d.1.1.1.0.1.0
-        apart parts.Bottom parts.Second ne = d.1.1.0.1.1.0
-        apart parts.Deferred parts.Current ne = λ e. d.1.1.1.1.0.1.1.1.0 (sym e)
-        apart parts.Deferred parts.Here ne = λ e. d.1.1.1.1.0.1.1.0 (sym e)
-        apart parts.Deferred parts.Top ne = λ e. d.1.1.1.1.0.1.0 (sym e)
-        apart parts.Deferred parts.Bottom ne = λ e. d.1.1.1.1.0.0 (sym e)
-        apart parts.Deferred parts.Deferred ne = absurd (ne refl)
-        apart parts.Deferred parts.Double ne = d.1.1.1.0.0
-        apart parts.Deferred parts.Second ne = d.1.1.0.1.0
-        apart parts.Double parts.Current ne = λ e. d.1.1.1.0.1.1.1.1.0 (sym e)
-        apart parts.Double parts.Here ne = λ e. d.1.1.1.0.1.1.1.0 (sym e)
-        apart parts.Double parts.Top ne = λ e. d.1.1.1.0.1.1.0 (sym e)
-        apart parts.Double parts.Bottom ne = λ e. d.1.1.1.0.1.0 (sym e)
-        apart parts.Double parts.Deferred ne = λ e. d.1.1.1.0.0 (sym e)
-        apart parts.Double parts.Double ne = absurd (ne refl)
-        apart parts.Double parts.Second ne = d.1.1.0.0
-        apart parts.Second parts.Current ne = λ e. d.1.1.0.1.1.1.1.1.0 (sym e)
-        apart parts.Second parts.Here ne = λ e. d.1.1.0.1.1.1.1.0 (sym e)
-        apart parts.Second parts.Top ne = λ e. d.1.1.0.1.1.1.0 (sym e)
-        apart parts.Second parts.Bottom ne = λ e. d.1.1.0.1.1.0 (sym e)
-        apart parts.Second parts.Deferred ne = λ e. d.1.1.0.1.0 (sym e)
-        apart parts.Second parts.Double ne = λ e. d.1.1.0.0 (sym e)
-        apart parts.Second parts.Second ne = absurd (ne refl)
-
-        one_apart : (p : Part) → shelf_of s p ≢ s.one
-        one_apart parts.Current = d.1.0.1.1.1.1.1.1.0
-        one_apart parts.Here = d.1.0.1.1.1.1.1.0
-        one_apart parts.Top = d.1.0.1.1.1.1.0
-        one_apart parts.Bottom = d.1.0.1.1.1.0
-        one_apart parts.Deferred = d.1.0.1.1.0
-        one_apart parts.Double = d.1.0.1.0
-        one_apart parts.Second = d.1.0.0
-
-        rest_apart : (p : Part) → shelf_of s p ≢ s.rest
-        rest_apart parts.Current = d.0.1.1.1.1.1.1.1.0
-        rest_apart parts.Here = d.0.1.1.1.1.1.1.0
-        rest_apart parts.Top = d.0.1.1.1.1.1.0
-        rest_apart parts.Bottom = d.0.1.1.1.1.0
-        rest_apart parts.Deferred = d.0.1.1.1.0
-        rest_apart parts.Double = d.0.1.1.0
-        rest_apart parts.Second = d.0.1.0
 
 pub shelves-empty : (t : Lists SlotView) (s : Shelves) → Opened t (shelf_ids s) → (p : Part) → slots_of t s p ≡ []
-shelves-empty t s k parts.Current = let o = k.all_open in ap (λ w. unwrap_or w []) (o.1.1.1.1.1.1.1.1.0)
-shelves-empty t s k parts.Here = let o = k.all_open in ap (λ w. unwrap_or w []) (o.1.1.1.1.1.1.1.0)
-shelves-empty t s k parts.Top = let o = k.all_open in ap (λ w. unwrap_or w []) (o.1.1.1.1.1.1.0)
-shelves-empty t s k parts.Bottom = let o = k.all_open in ap (λ w. unwrap_or w []) (o.1.1.1.1.1.0)
-shelves-empty t s k parts.Deferred = let o = k.all_open in ap (λ w. unwrap_or w []) (o.1.1.1.1.0)
-shelves-empty t s k parts.Double = let o = k.all_open in ap (λ w. unwrap_or w []) (o.1.1.1.0)
-shelves-empty t s k parts.Second = let o = k.all_open in ap (λ w. unwrap_or w []) (o.1.1.0)
+shelves-empty t s k p = let o = k.all_open in ap (λ w. unwrap_or w []) (open-at t (part_values s.lists) (part_index p) (shelf_of s p) o.1.1 (value-at p s.lists))
 
 -- ---- one list changes
 

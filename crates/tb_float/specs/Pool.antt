@@ -15,59 +15,50 @@ pub record FloatPool : Type 0 where
   pub second_marks : List Bool
   pub size : ℕ
 
+-- the pool with these lists and with these marks for the two in which floats wait
+abbrev pub pool_with : FloatLists → (Part → List Bool) → ℕ → FloatPool
+pool_with l ms size = record { lists = l; marks = ms parts.Deferred; second_marks = ms parts.Second; size = size }
+
+-- the marks of the floats that wait in a list; other lists have none
+abbrev pub marks_of : Part → FloatPool → List Bool
+marks_of parts.Deferred v = v.marks
+marks_of parts.Second v = v.second_marks
+marks_of p v = []
+
+-- the pool with these marks for one of its lists
+abbrev pub with_marks_of : Part → List Bool → FloatPool → FloatPool
+with_marks_of parts.Deferred ms v = record v { marks = ms }
+with_marks_of parts.Second ms v = record v { second_marks = ms }
+with_marks_of p ms v = v
+
+-- the pool where one of its lists holds these: entries where it is the current one; else floats, with these marks where they wait
+abbrev pub with_contents : Part → List Entry → List Float → List Bool → FloatPool → FloatPool
+with_contents parts.Current es fs ms v = record v { lists = record v.lists { current = es } }
+with_contents p es fs ms v = with_marks_of p ms (record v { lists = with_floats_of p fs v.lists })
+
 -- the boxes that were taken go to the end of the current list
 abbrev pub with_current : List Entry → FloatPool → FloatPool
 with_current es v = record v { lists = record v.lists { current = v.lists.current ++ es } }
 
 -- the entry at a place has left its list
 abbrev pub without_entry : Part → ℕ → FloatPool → FloatPool
-without_entry parts.Current k v = record v { lists = record v.lists { current = without_place k v.lists.current } }
-without_entry parts.Here k v = record v { lists = record v.lists { here = without_place k v.lists.here } }
-without_entry parts.Top k v = record v { lists = record v.lists { top = without_place k v.lists.top } }
-without_entry parts.Bottom k v = record v { lists = record v.lists { bottom = without_place k v.lists.bottom } }
-without_entry parts.Deferred k v = record v { lists = record v.lists { deferred = without_place k v.lists.deferred }; marks = without_place k v.marks }
-without_entry parts.Double k v = record v { lists = record v.lists { double = without_place k v.lists.double } }
-without_entry parts.Second k v = record v { lists = record v.lists { second = without_place k v.lists.second }; second_marks = without_place k v.second_marks }
+without_entry p k v = with_contents p (without_place k v.lists.current) (without_place k (floats_of p v.lists)) (without_place k (marks_of p v)) v
 
 -- floats that come after those of a list; none of them is marked
 abbrev pub with_floats_after : Part → List Float → FloatPool → FloatPool
-with_floats_after parts.Current fs v = record v { lists = record v.lists { current = v.lists.current ++ float_entries fs } }
-with_floats_after parts.Here fs v = record v { lists = record v.lists { here = v.lists.here ++ fs } }
-with_floats_after parts.Top fs v = record v { lists = record v.lists { top = v.lists.top ++ fs } }
-with_floats_after parts.Bottom fs v = record v { lists = record v.lists { bottom = v.lists.bottom ++ fs } }
-with_floats_after parts.Deferred fs v = record v { lists = record v.lists { deferred = v.lists.deferred ++ fs }; marks = v.marks ++ replicate (length fs) false }
-with_floats_after parts.Double fs v = record v { lists = record v.lists { double = v.lists.double ++ fs } }
-with_floats_after parts.Second fs v = record v { lists = record v.lists { second = v.lists.second ++ fs }; second_marks = v.second_marks ++ replicate (length fs) false }
+with_floats_after p fs v = with_contents p (v.lists.current ++ float_entries fs) (floats_of p v.lists ++ fs) (marks_of p v ++ replicate (length fs) false) v
 
 -- floats that come before those of a list; none of them is marked
 abbrev pub with_floats_before : Part → List Float → FloatPool → FloatPool
-with_floats_before parts.Current fs v = record v { lists = record v.lists { current = float_entries fs ++ v.lists.current } }
-with_floats_before parts.Here fs v = record v { lists = record v.lists { here = fs ++ v.lists.here } }
-with_floats_before parts.Top fs v = record v { lists = record v.lists { top = fs ++ v.lists.top } }
-with_floats_before parts.Bottom fs v = record v { lists = record v.lists { bottom = fs ++ v.lists.bottom } }
-with_floats_before parts.Deferred fs v = record v { lists = record v.lists { deferred = fs ++ v.lists.deferred }; marks = replicate (length fs) false ++ v.marks }
-with_floats_before parts.Double fs v = record v { lists = record v.lists { double = fs ++ v.lists.double } }
-with_floats_before parts.Second fs v = record v { lists = record v.lists { second = fs ++ v.lists.second }; second_marks = replicate (length fs) false ++ v.second_marks }
+with_floats_before p fs v = with_contents p (float_entries fs ++ v.lists.current) (fs ++ floats_of p v.lists) (replicate (length fs) false ++ marks_of p v) v
 
 -- all entries have left the list
 abbrev pub without_entries : Part → FloatPool → FloatPool
-without_entries parts.Current v = record v { lists = record v.lists { current = [] } }
-without_entries parts.Here v = record v { lists = record v.lists { here = [] } }
-without_entries parts.Top v = record v { lists = record v.lists { top = [] } }
-without_entries parts.Bottom v = record v { lists = record v.lists { bottom = [] } }
-without_entries parts.Deferred v = record v { lists = record v.lists { deferred = [] }; marks = [] }
-without_entries parts.Double v = record v { lists = record v.lists { double = [] } }
-without_entries parts.Second v = record v { lists = record v.lists { second = [] }; second_marks = [] }
+without_entries p v = with_contents p [] [] [] v
 
 -- no entry of the list is marked
 abbrev pub without_marks : Part → FloatPool → FloatPool
-without_marks parts.Current v = v
-without_marks parts.Here v = v
-without_marks parts.Top v = v
-without_marks parts.Bottom v = v
-without_marks parts.Deferred v = record v { marks = replicate (length v.marks) false }
-without_marks parts.Double v = v
-without_marks parts.Second v = record v { second_marks = replicate (length v.second_marks) false }
+without_marks p v = with_marks_of p (replicate (length (marks_of p v)) false) v
 
 -- a float goes from its place to the end of another list, and loses its mark
 abbrev pub moved_float : Part → ℕ → Part → Float → FloatPool → FloatPool
@@ -83,33 +74,7 @@ with_places places f = record f { places = places }
 
 -- another float stands at a place
 abbrev pub with_float_at : Part → ℕ → Float → FloatPool → FloatPool
-with_float_at parts.Current k f v = record v { lists = record v.lists { current = slice_set v.lists.current k (entries.Float f) } }
-with_float_at parts.Here k f v = record v { lists = record v.lists { here = slice_set v.lists.here k f } }
-with_float_at parts.Top k f v = record v { lists = record v.lists { top = slice_set v.lists.top k f } }
-with_float_at parts.Bottom k f v = record v { lists = record v.lists { bottom = slice_set v.lists.bottom k f } }
-with_float_at parts.Deferred k f v = record v { lists = record v.lists { deferred = slice_set v.lists.deferred k f } }
-with_float_at parts.Double k f v = record v { lists = record v.lists { double = slice_set v.lists.double k f } }
-with_float_at parts.Second k f v = record v { lists = record v.lists { second = slice_set v.lists.second k f } }
-
--- the marks of the floats that wait in a list; other lists have none
-abbrev pub marks_of : Part → FloatPool → List Bool
-marks_of parts.Current v = []
-marks_of parts.Here v = []
-marks_of parts.Top v = []
-marks_of parts.Bottom v = []
-marks_of parts.Deferred v = v.marks
-marks_of parts.Double v = []
-marks_of parts.Second v = v.second_marks
-
--- the pool with these marks for one of its lists
-abbrev pub with_marks_of : Part → List Bool → FloatPool → FloatPool
-with_marks_of parts.Current ms v = v
-with_marks_of parts.Here ms v = v
-with_marks_of parts.Top ms v = v
-with_marks_of parts.Bottom ms v = v
-with_marks_of parts.Deferred ms v = record v { marks = ms }
-with_marks_of parts.Double ms v = v
-with_marks_of parts.Second ms v = record v { second_marks = ms }
+with_float_at p k f v = with_contents p (slice_set v.lists.current k (entries.Float f)) (slice_set (floats_of p v.lists) k f) (marks_of p v) v
 
 -- the float at a place of a list is chosen for a column of floats
 abbrev pub with_mark : Part → ℕ → FloatPool → FloatPool

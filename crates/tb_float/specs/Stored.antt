@@ -1,5 +1,5 @@
 -- How the pool stores its lists. No public clause cites this module.
-use Rattle.std.specs.Prelude.{◌≡◌, ◌≢◌, ℕ, ◌+◌, ◌≤◌, Bool, true, false, List, [], ◌∷◌, length, map}
+use Rattle.std.specs.Prelude.{◌≡◌, ◌≢◌, ℕ, ℤ, ◌+◌, ◌≤◌, Bool, true, false, List, [], ◌∷◌, length, map}
 use Rattle.tb_node.specs.declared.Float.{Float}
 use Rattle.tb_pool.specs.Lists.{Lists, IsLive, list_at}
 use Rattle.tb_float.specs.declared.Entry.{Entry}
@@ -7,23 +7,17 @@ use Rattle.tb_float.specs.declared.Entry.TheVariants as entries
 use Rattle.tb_float.specs.declared.Part.{Part}
 use Rattle.tb_float.specs.declared.Part.TheVariants as parts
 use Rattle.tb_float.specs.declared.shelves.Shelves.{Shelves}
-use Rattle.tb_float.specs.declared.heights.Heights.{Heights}
-use Rattle.tb_float.specs.Lists.{FloatLists, floats_among}
-use Rattle.tb_float.specs.Pool.{FloatPool}
+use Rattle.tb_float.specs.declared.by_part.ByPart.{ByPart}
+use Rattle.tb_float.specs.Lists.{FloatLists, floats_among, lists_with, sum_of_lists, holds_notes, holds_marks}
+use Rattle.tb_float.specs.Pool.{FloatPool, pool_with}
 use Rattle.tb_float.specs.Ranges.{IsSizedEntry}
 use Rattle.tb_float.specs.Rooms.{total_height}
-use Rattle.tb_float.specs.Heights.{height_of}
+use Rattle.tb_float.specs.ByPart.{of_part}
 use Rattle.tb_float.specs.SlotView.{SlotView}
 
 -- the id of the list of a part
 abbrev pub shelf_of : Shelves → Part → ℕ
-shelf_of s parts.Current = s.current
-shelf_of s parts.Here = s.here
-shelf_of s parts.Top = s.top
-shelf_of s parts.Bottom = s.bottom
-shelf_of s parts.Deferred = s.deferred
-shelf_of s parts.Double = s.double
-shelf_of s parts.Second = s.second
+shelf_of s p = of_part s.lists p
 
 -- the slots of each list of a store
 abbrev pub slots_of : Lists SlotView → Shelves → Part → List SlotView
@@ -56,37 +50,10 @@ marks_in ss = map (λ s. s.marked) ss
 
 -- what contracts see of these lists of slots
 abbrev pub seen_lists : (Part → List SlotView) → FloatLists
-seen_lists at = record {
-  current = entries_in (at parts.Current);
-  here = floats_in (at parts.Here);
-  top = floats_in (at parts.Top);
-  bottom = floats_in (at parts.Bottom);
-  deferred = floats_in (at parts.Deferred);
-  double = floats_in (at parts.Double);
-  second = floats_in (at parts.Second);
-}
+seen_lists at = lists_with (entries_in (at parts.Current)) (λ p. floats_in (at p))
 
 abbrev pub seen_pool : (Part → List SlotView) → ℕ → FloatPool
-seen_pool at size = record { lists = seen_lists at; marks = marks_in (at parts.Deferred); second_marks = marks_in (at parts.Second); size = size }
-
--- notes stand in the current list alone, and marks in the two lists of floats that wait
-abbrev pub holds_notes : Part → Bool
-holds_notes parts.Current = true
-holds_notes parts.Here = false
-holds_notes parts.Top = false
-holds_notes parts.Bottom = false
-holds_notes parts.Deferred = false
-holds_notes parts.Double = false
-holds_notes parts.Second = false
-
-abbrev pub holds_marks : Part → Bool
-holds_marks parts.Current = false
-holds_marks parts.Here = false
-holds_marks parts.Top = false
-holds_marks parts.Bottom = false
-holds_marks parts.Deferred = true
-holds_marks parts.Double = false
-holds_marks parts.Second = true
+seen_pool at size = pool_with (seen_lists at) (λ p. marks_in (at p)) size
 
 abbrev pub is_float : Entry → Bool
 is_float (entries.Float f) = true
@@ -105,13 +72,12 @@ AreSlotsOf p (s ∷ ss) = IsSlotOf p s × AreSlotsOf p ss
 
 -- how many slots there are in all lists
 abbrev pub slot_count : (Part → List SlotView) → ℕ
-slot_count at =
-    length (at parts.Current) + length (at parts.Here) + length (at parts.Top) + length (at parts.Bottom) + length (at parts.Deferred) + length (at parts.Double) + length (at parts.Second)
+slot_count at = sum_of_lists (λ p. length (at p))
 
 -- each slot may stand where it does, and the sums are those of the lists
-pub record AreSound (at : Part → List SlotView) (heights : Heights) : Type 0 where
+pub record AreSound (at : Part → List SlotView) (heights : ByPart ℤ) : Type 0 where
   pub slots : (p : Part) → AreSlotsOf p (at p)
-  pub heights_are : (p : Part) → height_of heights p ≡ total_height (floats_in (at p))
+  pub heights_are : (p : Part) → of_part heights p ≡ total_height (floats_in (at p))
 
 -- no more boxes live than may, and each that may live has its place
 pub record HasPlaces (at : Part → List SlotView) (size spare : ℕ) : Type 0 where
@@ -119,7 +85,7 @@ pub record HasPlaces (at : Part → List SlotView) (size spare : ℕ) : Type 0 w
   pub room : size ≤ slot_count at + spare
   pub small : size ≤ 4096
 
-pub record IsStored (store : Lists SlotView) (shelves : Shelves) (heights : Heights) (size : ℕ) : Type 0 where
+pub record IsStored (store : Lists SlotView) (shelves : Shelves) (heights : ByPart ℤ) (size : ℕ) : Type 0 where
   pub shelves_are : AreShelves store shelves
   pub sound : AreSound (slots_of store shelves) heights
   pub places : HasPlaces (slots_of store shelves) size store.spare

@@ -20,9 +20,9 @@ impl Pool {
     {
         let slot = move_slot(
             &mut self.store,
-            self.shelves.of(from),
+            self.shelves.lists.of(from),
             k,
-            self.shelves.of(to),
+            self.shelves.lists.of(to),
             self.shelves.one,
             self.shelves.rest,
         );
@@ -39,8 +39,8 @@ impl Pool {
         ensures unmarked { HasNoMarks self.old → HasNoMarks self.new }
     {
         self.unmark(from);
-        let front = self.shelves.of(from);
-        let back = self.shelves.of(to);
+        let front = self.shelves.lists.of(from);
+        let back = self.shelves.lists.of(to);
         self.store.append(front, back);
         self.store.append(back, front);
         let height = self.heights.of(from);
@@ -48,14 +48,12 @@ impl Pool {
         self.heights.raise(to, height);
     }
 
-    // Takes the marks from all entries of a list.
-    fn unmark(&mut self, p: Part)
+    /// No float of a list is chosen any more.
+    pub fn unmark(&mut self, p: Part)
         ensures { self.new ≡ without_marks p self.old }
     {
-        match p {
-            Part::Deferred => self.unmark_waiting(Part::Deferred),
-            Part::Second => self.unmark_waiting(Part::Second),
-            _ => {}
+        if p.holds_marks() {
+            self.unmark_waiting(p);
         }
     }
 
@@ -64,7 +62,7 @@ impl Pool {
         requires { IsWaiting p }
         ensures { self.new ≡ without_marks p self.old }
     {
-        let list = self.shelves.of(p);
+        let list = self.shelves.lists.of(p);
         unmark_all(&mut self.store, list);
     }
 
@@ -76,7 +74,7 @@ impl Pool {
         ensures unchanged { IfNone result (self.new ≡ self.old) }
         ensures unmarked { HasNoMarks self.old → HasNoMarks self.new }
     {
-        let Some(slot) = self.store.pop_front(self.shelves.of(p)) else {
+        let Some(slot) = self.store.pop_front(self.shelves.lists.of(p)) else {
             return None;
         };
         self.heights.lower(p, entry_height(&slot.entry));
@@ -89,7 +87,7 @@ impl Pool {
         ensures set { (f : Float) → slice_get (entries_of p self.old.lists) k ≡ Some (Entry.Float f) → self.new ≡ with_float_at p k (with_places places f) self.old }
         ensures unmarked { HasNoMarks self.old → HasNoMarks self.new }
     {
-        let list = self.shelves.of(p);
+        let list = self.shelves.lists.of(p);
         let slot = slot_at(&self.store, list, k);
         let float = float_in(slot.entry);
         self.store.replace(
@@ -108,7 +106,7 @@ impl Pool {
         requires place { k < length (floats_of from self.old.lists) }
         ensures { self.new ≡ with_mark from k self.old }
     {
-        let list = self.shelves.of(from);
+        let list = self.shelves.lists.of(from);
         let slot = slot_at(&self.store, list, k);
         self.store.replace(
             list,
@@ -128,7 +126,7 @@ impl Pool {
         ensures rotated { self.new ≡ with_first_behind from self.old }
         ensures unmarked { HasNoMarks self.old → HasNoMarks self.new }
     {
-        let list = self.shelves.of(from);
+        let list = self.shelves.lists.of(from);
         rotate_slots(&mut self.store, list);
     }
 
@@ -143,7 +141,7 @@ impl Pool {
         ensures unchanged { IfNone result (self.new ≡ self.old) }
         ensures all_unmarked { IfNone result (unmarked_floats from self.old ≡ floats_of from self.old.lists) }
     {
-        let list = self.shelves.of(from);
+        let list = self.shelves.lists.of(from);
         let k = first_marked(&self.store, list);
         if k == self.store.len(list) {
             return None;

@@ -1,11 +1,10 @@
 //! The rooms that the floats in the lists leave, and the counts that are left.
 ghost use Rattle.std.specs.Prelude.{◌≡◌, ◌≤◌, ◌≤ℤ◌, ◌*ℤ◌, ◌-ℤ◌, ℤ, ℕ, List, length, pos, Bool, true, false};
 ghost use Rattle.tb_node.specs.declared.Float.{Float};
-ghost use Rattle.tb_float.specs.Lists.{floats_of};
+ghost use Rattle.tb_float.specs.Lists.{floats_of, holds_notes};
 ghost use Rattle.tb_float.specs.Ranges.{IsDimension, IsExtent, IsShare, IsCount, IsWithin, IsRoom, AreFloatParams};
 ghost use Rattle.tb_float.specs.Rooms.{total_height, floats_room, text_float_room, column_height_of, column_room_of, room_of, IsArea, limit_number, limit_used, is_suppressed, count_left_of, count_after, plain_count_after, area_taken};
 ghost use Rattle.tb_float.specs.Spans.{IsSumOf};
-ghost use Rattle.tb_float.specs.Stored.{holds_notes};
 ghost use Rattle.tb_scaled.specs.Scaled.{fraction_of};
 
 use crate::heights::{difference_of, sum_of};
@@ -54,7 +53,7 @@ impl Pool {
                 share_of(p.dbltopfraction, p.textheight),
                 self.area_taken(part, p.dbltextfloatsep.width, p.dblfloatsep.width),
             ),
-            Part::Current | Part::Here | Part::Deferred | Part::Second => unreachable!(),
+            _ => unreachable!(),
         }
     }
 

@@ -2,56 +2,37 @@
 ghost use Rattle.std.specs.Prelude.{◌≡◌, [], IfOk};
 ghost use Rattle.std.specs.FinMap.{empty};
 ghost use Rattle.tb_float.specs.declared.Part.{Part};
-ghost use Rattle.tb_float.specs.Stored.{shelf_of, slots_of, AreShelves};
+ghost use Rattle.tb_float.specs.Stored.{slots_of, AreShelves};
 
-use crate::{Part, Slot};
+use crate::Slot;
+use crate::by_part::ByPart;
 use std::alloc::AllocError;
 use tb_pool::{ListId, Lists};
 
-/// The list of each part, and two lists that are empty between calls and help to move an entry.
+/// Two lists that are empty between calls and help to move an entry, and the list of each part.
 #[derive(Clone, Copy)]
 pub(crate) struct Shelves {
-    pub(crate) current: ListId,
-    pub(crate) here: ListId,
-    pub(crate) top: ListId,
-    pub(crate) bottom: ListId,
-    pub(crate) deferred: ListId,
-    pub(crate) double: ListId,
-    pub(crate) second: ListId,
     pub(crate) one: ListId,
     pub(crate) rest: ListId,
+    pub(crate) lists: ByPart<ListId>,
 }
 
-impl Shelves {
-    pub(crate) fn of(&self, part: Part) -> ListId
-        ensures { result ≡ shelf_of self.now part }
-    {
-        match part {
-            Part::Current => self.current,
-            Part::Here => self.here,
-            Part::Top => self.top,
-            Part::Bottom => self.bottom,
-            Part::Deferred => self.deferred,
-            Part::Double => self.double,
-            Part::Second => self.second,
-        }
-    }
-}
-
-// Opens nine lists.
+// Opens the two helper lists and a list for each part.
 pub(crate) fn open_shelves(store: &mut Lists<Slot>) -> Result<Shelves, AllocError>
     requires { store.old.lists ≡ empty }
     ensures { IfOk result (λ s. AreShelves store.new s × ((p : Part) → slots_of store.new s p ≡ [])) }
 {
     Ok(Shelves {
-        current: store.add_list()?,
-        here: store.add_list()?,
-        top: store.add_list()?,
-        bottom: store.add_list()?,
-        deferred: store.add_list()?,
-        double: store.add_list()?,
-        second: store.add_list()?,
         one: store.add_list()?,
         rest: store.add_list()?,
+        lists: ByPart {
+            current: store.add_list()?,
+            here: store.add_list()?,
+            top: store.add_list()?,
+            bottom: store.add_list()?,
+            deferred: store.add_list()?,
+            double: store.add_list()?,
+            second: store.add_list()?,
+        },
     })
 }

@@ -13,7 +13,7 @@ use Rattle.tb_float.specs.Rooms.{floats_room, later_room}
 use Rattle.tb_fpage.specs.declared.Wanted.{Wanted}
 use Rattle.tb_fpage.specs.Company.{Choice, suits, passed_over, all_chosen, separated, company_height, joins, choices_from, company_of_head, is_head, is_made, company_from, company, chosen_floats, left_floats, of_class}
 use Rattle.tb_fpage.specs.Walked.{has_chosen}
-use Rattle.tb_fpage.proofs.WalkLemmas.{company-passed, company-first}
+use Rattle.tb_fpage.proofs.WalkLemmas.{left-append, company-passed, company-first}
 
 abbrev floats_of : List Choice → List Float
 floats_of cs = map (λ c. c.float) cs
@@ -35,14 +35,6 @@ chosen-append (c ∷ cs) ds = by_choice c.chosen _ _ _ (chosen-append cs ds)
     by_choice : (b : Bool) (x y z : List Float) → x ≡ y ++ z → (if b then c.float ∷ x else x) ≡ (if b then c.float ∷ y else y) ++ z
     by_choice true x y z is = ap (λ fs. c.float ∷ fs) is
     by_choice false x y z is = is
-
-left-append : (cs ds : List Choice) → left_floats (cs ++ ds) ≡ left_floats cs ++ left_floats ds
-left-append [] ds = refl
-left-append (c ∷ cs) ds = by_choice c.chosen _ _ _ (left-append cs ds)
-  where
-    by_choice : (b : Bool) (x y z : List Float) → x ≡ y ++ z → (if b then x else c.float ∷ x) ≡ (if b then y else c.float ∷ y) ++ z
-    by_choice true x y z is = is
-    by_choice false x y z is = ap (λ fs. c.float ∷ fs) is
 
 -- the height of a company is the room of its floats
 later-separated : (sep : ℤ) (cs : List Choice) → separated sep cs ≡ later_room sep (chosen_floats cs)

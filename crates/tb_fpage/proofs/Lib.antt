@@ -3,3 +3,4 @@ pub mod LawLemmas
 pub mod WalkLemmas
 pub mod FirstLemmas
 pub mod ChosenLemmas
+pub mod MarkingLemmas

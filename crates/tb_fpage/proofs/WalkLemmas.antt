@@ -1,21 +1,22 @@
 -- A walk over the deferred floats: what it holds after each.
-use Rattle.std.proofs.Common.{◌≡◌, ◌≢◌, ℕ, zero, suc, ◌+◌, ◌<◌, ◌≤◌, ◌==◌, Bool, true, false, not, ◌||◌, ◌&&◌, List, [], ◌∷◌, ◌++◌, length, map, take, drop, Some, slice_get, nat_lt, replicate, refl, sym, ap, ◌∙◌, subst, inl, inr, arith, FitsSigned, w64}
+use Rattle.std.proofs.Common.{◌≡◌, ◌≢◌, ℕ, zero, suc, ◌+◌, ◌<◌, ◌≤◌, ◌==◌, Bool, true, false, not, ◌||◌, ◌&&◌, List, [], ◌∷◌, ◌++◌, length, map, take, drop, Some, slice_get, nat_lt, refl, sym, ap, ◌∙◌, subst, arith, FitsSigned, w64}
 use Rattle.std.specs.Prelude.{ℤ, ◌+ℤ◌, int_le, slice_set, if◌then◌else◌}
 use Rattle.std.proofs.lemmas.Int.{ints}
-use Rattle.std.proofs.lemmas.Bool.{cases_eq, eq-eqb, ne_eqb}
 use Rattle.std.proofs.lemmas.Bool.Decides.{nat_tests}
 use Rattle.std.proofs.lemmas.Option.{same_Some}
 use Rattle.std.proofs.lemmas.List.{map-append, append_assoc, append-nil, length-append, length-map, take_more_set}
 use Rattle.tb_node.specs.declared.Float.{Float}
 use Rattle.tb_float.specs.declared.Entry.{Entry}
 use Rattle.tb_float.specs.declared.Entry.TheVariants as entries
-use Rattle.tb_float.specs.Lists.{float_entries}
+use Rattle.tb_float.specs.Lists.{float_entries, has_class}
+use Rattle.tb_float.specs.declared.classes.ClassSet.{ClassSet}
+use Rattle.tb_float.specs.Classes.{AreClassesOf}
 use Rattle.tb_float.specs.Ranges.{IsWithin}
 use Rattle.tb_float.specs.Stored.{is_float}
 use Rattle.tb_fpage.specs.declared.Wanted.{Wanted}
 use Rattle.tb_fpage.specs.declared.walk.Walk.{Walk}
-use Rattle.tb_fpage.specs.Company.{Choice, passed_over, all_chosen, separated, company_height, suits, joins, choices_from, company_of_head}
-use Rattle.tb_fpage.specs.Walked.{has_chosen, choice_at, choices_at, company_of_place, FailedAre, Stands, IsOnWay, taken, passed}
+use Rattle.tb_fpage.specs.Company.{Choice, passed_over, all_chosen, separated, company_height, suits, joins, choices_from, company_of_head, left_floats}
+use Rattle.tb_fpage.specs.Walked.{has_chosen, choice_at, choices_at, company_of_place, Stands, IsOnWay, taken, passed}
 
 -- ---- one more choice at the end
 
@@ -66,47 +67,31 @@ chosen-last (d ∷ cs) f = ap (λ b. d.chosen || b) (chosen-last cs f) ∙ or-tr
     or-true true = refl
     or-true false = refl
 
-all-chosen : (k : ℕ) (cs : List Choice) (f : Float) → all_chosen k (cs ++ record { float = f; chosen = true } ∷ []) ≡ all_chosen k cs
-all-chosen k [] f = by_class (f.class == k)
+-- each float of a class is in the company where none of them is left
+all-chosen : (k : ℕ) (cs : List Choice) → all_chosen k cs ≡ not (has_class k (left_floats cs))
+all-chosen k [] = refl
+all-chosen k (c ∷ cs) = by_choice c.chosen (c.float.class == k) refl (all-chosen k cs)
   where
-    by_class : (b : Bool) → ((not b || true) && true) ≡ true
-    by_class true = refl
-    by_class false = refl
-all-chosen k (c ∷ cs) f = ap (λ b. (not (c.float.class == k) || c.chosen) && b) (all-chosen k cs f)
+    by_choice : (b t : Bool) → (c.float.class == k) ≡ t → all_chosen k cs ≡ not (has_class k (left_floats cs)) → ((not t || b) && all_chosen k cs) ≡ not (has_class k (if b then left_floats cs else c.float ∷ left_floats cs))
+    by_choice true true e rest = rest
+    by_choice true false e rest = rest
+    by_choice false true e rest = ap (λ t. not (t || has_class k (left_floats cs))) (sym e)
+    by_choice false false e rest = rest ∙ ap (λ t. not (t || has_class k (left_floats cs))) (sym e)
 
-all-passed-other : (k : ℕ) (cs : List Choice) (f : Float) → k ≢ f.class → all_chosen k (cs ++ record { float = f; chosen = false } ∷ []) ≡ all_chosen k cs
-all-passed-other k [] f ne = ap (λ b. (not b || false) && true) (ne_eqb f.class k (λ e. ne (sym e)))
-all-passed-other k (c ∷ cs) f ne = ap (λ b. (not (c.float.class == k) || c.chosen) && b) (all-passed-other k cs f ne)
-
-all-passed-same : (cs : List Choice) (f : Float) → all_chosen f.class (cs ++ record { float = f; chosen = false } ∷ []) ≡ false
-all-passed-same [] f = ap (λ b. (not b || false) && true) (eq-eqb f.class f.class refl)
-all-passed-same (c ∷ cs) f = ap (λ b. (not (c.float.class == f.class) || c.chosen) && b) (all-passed-same cs f) ∙ no-more (not (c.float.class == f.class) || c.chosen)
+pub left-append : (cs ds : List Choice) → left_floats (cs ++ ds) ≡ left_floats cs ++ left_floats ds
+left-append [] ds = refl
+left-append (c ∷ cs) ds = by_choice c.chosen _ _ _ (left-append cs ds)
   where
-    no-more : (b : Bool) → (b && false) ≡ false
-    no-more true = refl
-    no-more false = refl
+    by_choice : (b : Bool) (x y z : List Float) → x ≡ y ++ z → (if b then x else c.float ∷ x) ≡ (if b then y else c.float ∷ y) ++ z
+    by_choice true x y z is = is
+    by_choice false x y z is = ap (λ fs. c.float ∷ fs) is
 
-get-set-same : {X : Type 0} (xs : List X) (i : ℕ) (x : X) → i < length xs → slice_get (slice_set xs i x) i ≡ Some x
-get-set-same [] i x lt = absurd (omega arith)
-get-set-same (y ∷ xs) zero x lt = refl
-get-set-same (y ∷ xs) (suc i) x lt = get-set-same xs i x (omega arith)
+-- a float that joins leaves the classes of those that stay behind as they are, and one that stays adds its own
+failed-chosen : (failed : ClassSet) (before : List Choice) (f : Float) → AreClassesOf failed (left_floats before) → AreClassesOf failed (left_floats (before ++ record { float = f; chosen = true } ∷ []))
+failed-chosen failed before f h = subst (AreClassesOf failed) (sym (left-append before (record { float = f; chosen = true } ∷ []) ∙ append-nil (left_floats before))) h
 
-get-set-other : {X : Type 0} (xs : List X) (i k : ℕ) (x : X) → k ≢ i → slice_get (slice_set xs i x) k ≡ slice_get xs k
-get-set-other [] i k x ne = refl
-get-set-other (y ∷ xs) zero zero x ne = absurd (ne refl)
-get-set-other (y ∷ xs) zero (suc k) x ne = refl
-get-set-other (y ∷ xs) (suc i) zero x ne = refl
-get-set-other (y ∷ xs) (suc i) (suc k) x ne = get-set-other xs i k x (λ e. ne (ap suc e))
-
--- a class that was passed over has failed, the others stand as they did
-pub failed-passed : (failed : List Bool) (before : List Choice) (f : Float) → length failed ≡ 256 → f.class < 256 → FailedAre failed before → FailedAre (slice_set failed f.class true) (before ++ record { float = f; chosen = false } ∷ [])
-failed-passed failed before f many low h = λ k below. elim (cases_eq k f.class) [
-  | inl same ↦ subst (λ j. slice_get (slice_set failed f.class true) j ≡ Some (not (all_chosen j (before ++ record { float = f; chosen = false } ∷ [])))) (sym same) (get-set-same failed f.class true (omega arith) ∙ ap (λ b. Some (not b)) (sym (all-passed-same before f)))
-  | inr ne ↦ get-set-other failed f.class k true ne ∙ h k below ∙ ap (λ b. Some (not b)) (sym (all-passed-other k before f ne))
-]
-
-failed-chosen : (failed : List Bool) (before : List Choice) (f : Float) → FailedAre failed before → FailedAre failed (before ++ record { float = f; chosen = true } ∷ [])
-failed-chosen failed before f h = λ k below. h k below ∙ ap (λ b. Some (not b)) (sym (all-chosen k before f))
+failed-passed : (failed : ClassSet) (before : List Choice) (f : Float) → AreClassesOf failed (left_floats before ++ f ∷ []) → AreClassesOf failed (left_floats (before ++ record { float = f; chosen = false } ∷ []))
+failed-passed failed before f h = subst (AreClassesOf failed) (sym (left-append before (record { float = f; chosen = false } ∷ []))) h
 
 -- ---- the walk
 
@@ -151,8 +136,8 @@ joined-stands w sep before f later room fits fits_height h =
     }
 
 -- a float stays behind
-pub passed-stands : (w : Walk) (sep : ℤ) (before : List Choice) (f : Float) → w.seen ≢ w.place → w.seen < length w.chosen → length w.failed ≡ 256 → f.class < 256 → Stands w sep before → Stands (passed f.class w) sep (before ++ record { float = f; chosen = false } ∷ [])
-passed-stands w sep before f apart room many few h =
+pub passed-stands : (w : Walk) (failed : ClassSet) (sep : ℤ) (before : List Choice) (f : Float) → w.seen ≢ w.place → w.seen < length w.chosen → AreClassesOf failed (left_floats before ++ f ∷ []) → Stands w sep before → Stands (passed failed w) sep (before ++ record { float = f; chosen = false } ∷ [])
+passed-stands w failed sep before f apart room classes h =
     let c : Choice = record { float = f; chosen = false } in
     let more = length-append before (c ∷ []) in
     let seen = h.seen in
@@ -164,29 +149,36 @@ passed-stands w sep before f apart room many few h =
       chosen = chosen-more w.chosen w.seen before f false room h.chosen;
       height = h.height ∙ sym (company-passed sep before f);
       within = record { low = omega (arith, ints); high = omega (arith, ints) };
-      failed = failed-passed w.failed before f many few h.failed;
+      failed = failed-passed failed before f classes;
       head = chosen-passed before f ∙ h.head ∙ same;
     }
 
 -- whether a later float joins, by what the walk holds
-joins-is : (z : Wanted) (w : Walk) (before : List Choice) (f : Float) (b : Bool) → Stands w z.sep before → w.place < w.seen → f.class < 256 → slice_get w.failed f.class ≡ Some b
+joins-is : (z : Wanted) (w : Walk) (before : List Choice) (f : Float) (b : Bool) → Stands w z.sep before → w.place < w.seen → b ≡ has_class f.class (left_floats before)
     → joins z before f ≡ (suits z f && not b && int_le (w.height +ℤ z.sep +ℤ f.height) z.height)
-joins-is z w before f b h later low got =
+joins-is z w before f b h later failed =
     let seen = h.seen in
     let some : has_chosen before ≡ true = h.head ∙ grind (arith, nat_tests) in
-    let failed : b ≡ not (all_chosen f.class before) = same_Some b (not (all_chosen f.class before)) (sym got ∙ h.failed f.class low) in
-    let all : all_chosen f.class before ≡ not b = sym (not-not (all_chosen f.class before)) ∙ ap not (sym failed) in
+    let all : all_chosen f.class before ≡ not b = all-chosen f.class before ∙ ap not (sym failed) in
     let height = company-chosen z.sep before f some ∙ ap (λ y. y +ℤ z.sep +ℤ f.height) (sym h.height) in
     ap (λ a. suits z f && a && int_le (company_height z.sep (before ++ record { float = f; chosen = true } ∷ [])) z.height) all ∙ ap (λ y. suits z f && not b && int_le y z.height) height
+
+-- one whose class failed does not, nor one that does not suit
+pub joins-failed : (z : Wanted) (w : Walk) (before : List Choice) (f : Float) (b : Bool) → Stands w z.sep before → w.place < w.seen → b ≡ has_class f.class (left_floats before) → not b ≡ false → joins z before f ≡ false
+joins-failed z w before f b h later failed not_may =
+    joins-is z w before f b h later failed ∙ ap (λ a. suits z f && a && int_le (w.height +ℤ z.sep +ℤ f.height) z.height) not_may ∙ and-false (suits z f) (int_le (w.height +ℤ z.sep +ℤ f.height) z.height)
   where
-    not-not : (a : Bool) → not (not a) ≡ a
-    not-not true = refl
-    not-not false = refl
+    and-false : (a b : Bool) → (a && false && b) ≡ false
+    and-false true b = refl
+    and-false false b = refl
+
+pub joins-unsuited : (z : Wanted) (before : List Choice) (f : Float) → suits z f ≡ false → joins z before f ≡ false
+joins-unsuited z before f not_suited = ap (λ a. a && all_chosen f.class before && int_le (company_height z.sep (before ++ record { float = f; chosen = true } ∷ [])) z.height) not_suited
 
 -- a later float that suits, and whose class did not fail, joins where it fits
-pub joins-fits : (z : Wanted) (w : Walk) (before : List Choice) (f : Float) (b : Bool) (height most : ℤ) → w.place < w.seen → f.class < 256 → slice_get w.failed f.class ≡ Some b → suits z f ≡ true → not b ≡ true → height ≡ w.height +ℤ z.sep +ℤ f.height → most ≡ z.height → Stands w z.sep before → int_le height most ≡ joins z before f
-joins-fits z w before f b height most later low got suit may is at h =
-    ap (λ y. int_le y most) is ∙ ap (λ y. int_le (w.height +ℤ z.sep +ℤ f.height) y) at ∙ sym (joins-is z w before f b h later low got ∙ ap (λ s. s && not b && int_le (w.height +ℤ z.sep +ℤ f.height) z.height) suit ∙ ap (λ s. s && int_le (w.height +ℤ z.sep +ℤ f.height) z.height) may)
+pub joins-fits : (z : Wanted) (w : Walk) (before : List Choice) (f : Float) (b : Bool) (height most : ℤ) → w.place < w.seen → b ≡ has_class f.class (left_floats before) → suits z f ≡ true → not b ≡ true → height ≡ w.height +ℤ z.sep +ℤ f.height → most ≡ z.height → Stands w z.sep before → int_le height most ≡ joins z before f
+joins-fits z w before f b height most later failed suit may is at h =
+    ap (λ y. int_le y most) is ∙ ap (λ y. int_le (w.height +ℤ z.sep +ℤ f.height) y) at ∙ sym (joins-is z w before f b h later failed ∙ ap (λ s. s && not b && int_le (w.height +ℤ z.sep +ℤ f.height) z.height) suit ∙ ap (λ s. s && int_le (w.height +ℤ z.sep +ℤ f.height) z.height) may)
 
 -- ---- the choices
 
@@ -214,19 +206,19 @@ visited-joined z w v before f height later room fits_sep fits joined is new h =
     let v_is : taken (w.height +ℤ z.sep +ℤ f.height) w ≡ v = sym (new ∙ ap (λ y. taken y w) is) in
     subst (λ (u : Walk). Stands u z.sep (before ++ record { float = f; chosen = choice_at z w.place before f } ∷ [])) v_is (subst (λ (b : Bool). Stands (taken (w.height +ℤ z.sep +ℤ f.height) w) z.sep (before ++ record { float = f; chosen = b } ∷ [])) choice (joined-stands w z.sep before f later room fits_sep fits h))
 
-visited-passed : (z : Wanted) (w v : Walk) (before : List Choice) (f : Float) → choice_at z w.place before f ≡ false → w.seen ≢ w.place → w.seen < length w.chosen → length w.failed ≡ 256 → f.class < 256 → v ≡ passed f.class w → Stands w z.sep before → Stands v z.sep (before ++ record { float = f; chosen = choice_at z w.place before f } ∷ [])
-visited-passed z w v before f choice apart room many low new h =
-    subst (λ (u : Walk). Stands u z.sep (before ++ record { float = f; chosen = choice_at z w.place before f } ∷ [])) (sym new) (subst (λ (b : Bool). Stands (passed f.class w) z.sep (before ++ record { float = f; chosen = b } ∷ [])) (sym choice) (passed-stands w z.sep before f apart room many low h))
+visited-passed : (z : Wanted) (w v : Walk) (before : List Choice) (f : Float) → choice_at z w.place before f ≡ false → w.seen ≢ w.place → w.seen < length w.chosen → v ≡ passed v.failed w → AreClassesOf v.failed (left_floats before ++ f ∷ []) → Stands w z.sep before → Stands v z.sep (before ++ record { float = f; chosen = choice_at z w.place before f } ∷ [])
+visited-passed z w v before f choice apart room new classes h =
+    subst (λ (u : Walk). Stands u z.sep (before ++ record { float = f; chosen = choice_at z w.place before f } ∷ [])) (sym new) (subst (λ (b : Bool). Stands (passed v.failed w) z.sep (before ++ record { float = f; chosen = b } ∷ [])) (sym choice) (passed-stands w v.failed z.sep before f apart room classes h))
 
-pub visited-before : (z : Wanted) (w v : Walk) (before : List Choice) (f : Float) → w.seen < w.place → w.seen < length w.chosen → length w.failed ≡ 256 → f.class < 256 → v ≡ passed f.class w → Stands w z.sep before → Stands v z.sep (before ++ record { float = f; chosen = choice_at z w.place before f } ∷ [])
-visited-before z w v before f early room many low new h =
+pub visited-before : (z : Wanted) (w v : Walk) (before : List Choice) (f : Float) → w.seen < w.place → w.seen < length w.chosen → v ≡ passed v.failed w → AreClassesOf v.failed (left_floats before ++ f ∷ []) → Stands w z.sep before → Stands v z.sep (before ++ record { float = f; chosen = choice_at z w.place before f } ∷ [])
+visited-before z w v before f early room new classes h =
     let seen = h.seen in
-    visited-passed z w v before f (choice-before z w.place before f (omega arith)) (λ is. absurd (omega (arith, is))) room many low new h
+    visited-passed z w v before f (choice-before z w.place before f (omega arith)) (λ is. absurd (omega (arith, is))) room new classes h
 
-pub visited-left : (z : Wanted) (w v : Walk) (before : List Choice) (f : Float) → w.place < w.seen → joins z before f ≡ false → w.seen < length w.chosen → length w.failed ≡ 256 → f.class < 256 → v ≡ passed f.class w → Stands w z.sep before → Stands v z.sep (before ++ record { float = f; chosen = choice_at z w.place before f } ∷ [])
-visited-left z w v before f later left room many low new h =
+pub visited-left : (z : Wanted) (w v : Walk) (before : List Choice) (f : Float) → w.place < w.seen → joins z before f ≡ false → w.seen < length w.chosen → v ≡ passed v.failed w → AreClassesOf v.failed (left_floats before ++ f ∷ []) → Stands w z.sep before → Stands v z.sep (before ++ record { float = f; chosen = choice_at z w.place before f } ∷ [])
+visited-left z w v before f later left room new classes h =
     let seen = h.seen in
-    visited-passed z w v before f (choice-later z w.place before f (omega arith) ∙ left) (λ is. absurd (omega (arith, is))) room many low new h
+    visited-passed z w v before f (choice-later z w.place before f (omega arith) ∙ left) (λ is. absurd (omega (arith, is))) room new classes h
 
 choices-later : (z : Wanted) (place : ℕ) (before : List Choice) (fs : List Float) → place < length before → choices_at z place before fs ≡ choices_from z before fs
 choices-later z place before [] later = refl
@@ -288,20 +280,6 @@ on-way-room z w place all fs f few way =
 
 -- ---- the entries
 
-entry-float : (fs : List Float) (k : ℕ) (e : Entry) → slice_get (float_entries fs) k ≡ Some e → (f : Float) × (e ≡ entries.Float f)
-entry-float [] k e got = cc
-entry-float (f ∷ fs) zero e got = (f, cc)
-entry-float (f ∷ fs) (suc k) e got = entry-float fs k e got
-
-pub entry-is_float : (fs : List Float) (k : ℕ) (e : Entry) → slice_get (float_entries fs) k ≡ Some e → is_float e ≡ true
-entry-is_float fs k e got = ap is_float (entry-float fs k e got).1
-
--- the float of an entry stands at its place
-pub float-at : (fs : List Float) (k : ℕ) (e : Entry) (f : Float) → slice_get (float_entries fs) k ≡ Some e → e ≡ entries.Float f → slice_get fs k ≡ Some f
-float-at [] k e f got is = cc
-float-at (g ∷ fs) zero e f got is = cc
-float-at (g ∷ fs) (suc k) e f got is = float-at fs k e f got is
-
 pub next-is_float : (e : Entry) (es : List Entry) (left : List Float) → e ∷ es ≡ float_entries left → is_float e ≡ true
 next-is_float e es [] is = cc
 next-is_float e es (f ∷ fs) is = let same : e ≡ entries.Float f = cc in ap is_float same
@@ -314,8 +292,3 @@ next-float e es (g ∷ fs) f is it = (fs, cc, cc)
 pub no-float : (left : List Float) → [] ≡ float_entries left → left ≡ []
 no-float [] is = refl
 no-float (f ∷ fs) is = cc
-
-pub get-replicate : {X : Type 0} (n k : ℕ) (x : X) → k < n → slice_get (replicate n x) k ≡ Some x
-get-replicate zero k x lt = absurd (omega arith)
-get-replicate (suc n) zero x lt = refl
-get-replicate (suc n) (suc k) x lt = get-replicate n k x (omega arith)

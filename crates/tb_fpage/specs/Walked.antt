@@ -1,10 +1,12 @@
 -- How a walk over the deferred floats stands. No public clause cites this module.
-use Rattle.std.specs.Prelude.{◌≡◌, ℕ, ◌+◌, ◌<◌, ◌*◌, ◌==◌, ℤ, Bool, true, false, not, ◌||◌, nat_lt, if◌then◌else◌, ◌&&◌, List, [], ◌∷◌, ◌++◌, length, map, take, drop, suc, slice_get, slice_set, Some}
+use Rattle.std.specs.Prelude.{◌≡◌, ℕ, ◌+◌, ◌≤◌, ◌*◌, ◌==◌, ℤ, Bool, true, false, ◌||◌, nat_lt, if◌then◌else◌, ◌&&◌, List, [], ◌∷◌, ◌++◌, length, map, take, drop, suc, slice_set}
 use Rattle.tb_node.specs.declared.Float.{Float}
+use Rattle.tb_float.specs.declared.classes.ClassSet.{ClassSet}
+use Rattle.tb_float.specs.Classes.{AreClassesOf}
 use Rattle.tb_float.specs.Ranges.{IsWithin}
 use Rattle.tb_fpage.specs.declared.Wanted.{Wanted}
 use Rattle.tb_fpage.specs.declared.walk.Walk.{Walk}
-use Rattle.tb_fpage.specs.Company.{Choice, company_height, company_of_head, all_chosen, joins, is_head, is_made}
+use Rattle.tb_fpage.specs.Company.{Choice, company_height, company_of_head, company_from, company, left_floats, joins, is_head, is_made}
 
 -- the company of the float at a place of a list
 abbrev pub company_of_place : Wanted → ℕ → List Float → Float → List Choice
@@ -29,25 +31,21 @@ abbrev pub choices_at : Wanted → ℕ → List Choice → List Float → List C
 choices_at z place before [] = before
 choices_at z place before (f ∷ fs) = choices_at z place (before ++ record { float = f; chosen = choice_at z place before f } ∷ []) fs
 
--- a class has failed where one of its floats was passed over
-abbrev pub FailedAre : List Bool → List Choice → Type 0
-FailedAre failed before = (k : ℕ) → k < 256 → slice_get failed k ≡ Some (not (all_chosen k before))
-
 -- the next float is in the company, which is so high with it
 abbrev pub taken : ℤ → Walk → Walk
 taken height w = record w { seen = w.seen + 1; height = height; chosen = slice_set w.chosen w.seen true }
 
--- the next float, of this class, stays behind
-abbrev pub passed : ℕ → Walk → Walk
-passed class w = record w { seen = w.seen + 1; failed = slice_set w.failed class true; chosen = slice_set w.chosen w.seen false }
+-- the next float stays behind, and the classes of those that do are these
+abbrev pub passed : ClassSet → Walk → Walk
+passed failed w = record w { seen = w.seen + 1; failed = failed; chosen = slice_set w.chosen w.seen false }
 
--- the choices so far, the height of the company, and the classes that have failed
+-- the choices so far, the height of the company, and the classes of the floats that stay behind
 pub record Stands (w : Walk) (sep : ℤ) (before : List Choice) : Type 0 where
   pub seen : w.seen ≡ length before
   pub chosen : take w.seen w.chosen ≡ map (λ c. c.chosen) before
   pub height : w.height ≡ company_height sep before
   pub within : IsWithin (36893488147419103232 * length before) w.height
-  pub failed : FailedAre w.failed before
+  pub failed : AreClassesOf w.failed (left_floats before)
   pub head : has_chosen before ≡ nat_lt w.place (length before)
 
 -- a walk to the head at a place that has these floats left of all
@@ -57,3 +55,10 @@ pub record IsOnWay (w : Walk) (z : Wanted) (place : ℕ) (all left : List Float)
   pub head : w.place ≡ place
   pub choices : choices_at z place before left ≡ choices_at z place [] all
   pub count : length before + length left ≡ length all
+
+-- no head before a place has a company that is made; these floats stand from there on, and the set has the classes of those before them
+pub record AreTried (z : Wanted) (earlier : ClassSet) (place : ℕ) (all left : List Float) : Type 0 where
+  pub left_are : left ≡ drop place all
+  pub within : place ≤ length all
+  pub classes : AreClassesOf earlier (take place all)
+  pub later : company_from z (take place all) left ≡ company z all

@@ -1,5 +1,5 @@
 //! Columns of floats on worked values.
-ghost use Rattle.std.specs.Prelude.{◌≡◌, [], IfOk};
+ghost use Rattle.std.specs.Prelude.{◌≢◌, IfOk};
 ghost use Rattle.tb_float.specs.Pool.{HasNoMarks};
 ghost use Rattle.tb_float.specs.Ranges.{IsExtent};
 
@@ -22,23 +22,24 @@ const AT_THE_TOP: Places = Places {
     p: false,
 };
 
-fn float_of(name: Name, places: Places, height: u8, class: u8) -> Float
+fn float_of(name: Name, wide: bool, places: Places, height: u8, class: u8) -> Float
     ensures { IsExtent result.height }
 {
     Float {
         line: 1,
         name,
         class,
-        wide: false,
+        wide,
         places,
         bang: false,
         height: i64::from(height),
     }
 }
 
-// The float is deferred, where the pool has room for it.
-fn defer(pool: &mut Pool, f: Float)
+// The float waits in the list, if the pool has room for it.
+fn wait(pool: &mut Pool, f: Float, list: Part)
     requires extent { IsExtent f.height }
+    requires apart { list ≢ Part.Current }
     requires unmarked { HasNoMarks pool.old }
     ensures { HasNoMarks pool.new }
 {
@@ -46,7 +47,7 @@ fn defer(pool: &mut Pool, f: Float)
         return;
     }
     if let Some(Entry::Float(_)) = pool.entry(Part::Current, 0) {
-        pool.move_to(Part::Current, 0, Part::Deferred);
+        pool.move_to(Part::Current, 0, list);
     }
 }
 
@@ -57,7 +58,11 @@ fn deferred(rt: &HostRuntime, places: Places, floats: &[(u8, u8)]) -> Result<Poo
     let name = name_of(b"F").ok_or("name")?;
     let mut pool = new_pool(rt.alloc(), 18)?;
     for (height, class) in floats {
-        defer(&mut pool, float_of(name, places, *height, *class));
+        wait(
+            &mut pool,
+            float_of(name, false, places, *height, *class),
+            Part::Deferred,
+        );
     }
     Ok(pool)
 }
@@ -115,5 +120,31 @@ fn a_clear_takes_the_first_company(rt: HostRuntime) -> Result<(), Fail> {
     assert_eq!(rt; next_marked(&mut pool), Some(20));
     assert_eq!(rt; next_marked(&mut pool), Some(30));
     assert!(rt; next_marked(&mut pool).is_none());
+    Ok(())
+}
+
+#[test]
+fn a_wide_company_is_of_the_second_list(rt: HostRuntime) -> Result<(), Fail> {
+    let name = name_of(b"F").ok_or("name")?;
+    let mut pool = deferred(&rt, ON_A_PAGE, &[(60, 1)])?;
+    for (class, height) in [(1, 60), (2, 50), (1, 20)] {
+        wait(
+            &mut pool,
+            float_of(name, true, ON_A_PAGE, height, class),
+            Part::Second,
+        );
+    }
+    assert!(rt; choose(&mut pool, 100, 50, 5, false, true, Part::Second));
+    assert!(rt; pool.retire_marked(Part::Deferred).is_none());
+    assert_eq!(rt;
+        pool.retire_marked(Part::Second).map(|f| f.height),
+        Some(60)
+    );
+    assert_eq!(rt;
+        pool.retire_marked(Part::Second).map(|f| f.height),
+        Some(20)
+    );
+    assert!(rt; pool.retire_marked(Part::Second).is_none());
+    assert_eq!(rt; (pool.len(Part::Deferred), pool.len(Part::Second)), (1, 1));
     Ok(())
 }

@@ -1,10 +1,13 @@
 //! A walk over the floats that wait, which gathers the company of a head.
-ghost use Rattle.std.specs.Prelude.{◌≡◌, ◌<◌, ◌+ℤ◌, ◌∷◌, ◌++◌, [], ℕ, ℤ, List, slice_get, Some};
+ghost use Rattle.std.specs.Prelude.{◌≡◌, ◌<◌, ◌+ℤ◌, ◌∷◌, ◌++◌, [], ℤ, List};
+ghost use Rattle.tb_node.specs.declared.Float.{Float as PlainFloat};
+ghost use Rattle.tb_float.specs.Classes.{AreClassesOf};
 ghost use Rattle.tb_float.specs.Ranges.{IsWithin};
 ghost use Rattle.tb_fpage.specs.Company.{Choice, suits, joins};
-ghost use Rattle.tb_fpage.specs.Walked.{Stands, FailedAre, choice_at, taken, passed};
+ghost use Rattle.tb_fpage.specs.Walked.{Stands, choice_at, taken, passed};
 
 use crate::Wanted;
+use tb_float::ClassSet;
 use tb_node::Float;
 
 /// What is known of the floats that were passed.
@@ -16,8 +19,8 @@ pub(crate) struct Walk {
     pub(crate) seen: usize,
     /// The height of the company so far, with its separators, in scaled points.
     pub(crate) height: i128,
-    /// For each class, whether one of its floats stays behind, so that no later one may join.
-    pub(crate) failed: [bool; 256],
+    /// The classes of the floats that stay behind, so that no later one of them may join.
+    pub(crate) failed: ClassSet,
     /// For each place, whether its float is in the company; a pool holds at most 4096 boxes.
     pub(crate) chosen: [bool; 4096],
 }
@@ -32,7 +35,7 @@ impl Walk {
             place,
             seen: 0,
             height: 0,
-            failed: no_classes(),
+            failed: ClassSet::none(),
             chosen: [false; 4096],
         }
     }
@@ -59,15 +62,8 @@ impl Walk {
         ensures { (before : List Choice) → Stands self.now wanted.now.sep before → self.now.place < self.now.seen → result ≡ joins wanted.now before f.now }
     {
         suits(wanted, f)
-            && !self.has_failed(f.class)
+            && !self.failed.has(f.class)
             && higher(self.height, wanted.sep, f.height) <= i128::from(wanted.height)
-    }
-
-    // Whether a float of this class was passed over.
-    fn has_failed(&self, class: u8) -> bool
-        ensures { slice_get self.now.failed class ≡ Some result }
-    {
-        self.failed[usize::from(class)]
     }
 
     // The next float is in the company, which is so high with it.
@@ -83,18 +79,13 @@ impl Walk {
     // The next float, of this class, stays behind.
     fn pass(&mut self, class: u8)
         requires { self.old.seen < 4096 }
-        ensures { self.new ≡ passed class self.old }
+        ensures walk { self.new ≡ passed self.new.failed self.old }
+        ensures failed { (fs : List PlainFloat) (f : PlainFloat) → f.class ≡ class → AreClassesOf self.old.failed fs → AreClassesOf self.new.failed (fs ++ f ∷ []) }
     {
         self.chosen[self.seen] = false;
-        self.failed[usize::from(class)] = true;
+        self.failed.add(class);
         self.seen += 1;
     }
-}
-
-fn no_classes() -> [bool; 256]
-    ensures { FailedAre result [] }
-{
-    [false; 256]
 }
 
 // The height with a separator and a float.

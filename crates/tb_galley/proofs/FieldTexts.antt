@@ -101,15 +101,15 @@ fit_none n m (s ∷ ss) (f ∷ fs) fit = no_cause n f (slot_cause s f) (value_ca
 
 -- ---- a whole line
 
--- a line that begins with this word's spelling
-pub record IsWord (head : List ℕ) (w : LineWord) : Type 0 where
+-- a line that begins with this word's spelling, where the word counts
+pub record IsWord (k : Known) (head : List ℕ) (w : LineWord) : Type 0 where
   pub text : IsText head
   pub short : length head ≤ 14
   pub content : begins_with 35 head ≡ false
   pub word : word_of head ≡ Some w
-  pub here : (k : Known) → word_here k (Some w) ≡ Some w
+  pub here : word_here k (Some w) ≡ Some w
 
-pub line_back : (p : Phase) (k : Known) (c n : ℕ) (head : List ℕ) (w : LineWord) (fs : List (List ℕ)) → IsWord head w → AllFit (word_slots k fs w) fs → tail_length fs ≤ 200
+pub line_back : (p : Phase) (k : Known) (c n : ℕ) (head : List ℕ) (w : LineWord) (fs : List (List ℕ)) → IsWord k head w → AllFit (word_slots k fs w) fs → tail_length fs ≤ 200
     → first_of (place_causes p (Some w)) ≡ None → first_of (item_causes c (Some w)) ≡ None
     → line_left p k c n (head ++ tail_text fs) ≡ Ok (Some (record { word = w; content = content_of n fs w }))
 unfolding line_left content_line
@@ -120,7 +120,7 @@ line_back p k c n head w fs is_word fit short place fits =
     ∙ ap (λ t. content_lines p k c (if t then [] else line_at n (head ∷ fs) ∷ [])) is_word.content
     ∙ ap (λ t. (if t then Ok (tt {0}) else at_fault 1 causes.NotAscii) >>= λ a. settled 1 (first_of (place_causes p (word_here k (word_of head)))) (tt {0}) >>= λ x. settled 1 (first_of (item_causes c (word_of head))) (tt {0}) >>= λ y. worded_left k (line_at n (head ∷ fs)) (word_here k (word_of head))) is_word.text.printable
     ∙ ap (λ o. settled 1 (first_of (place_causes p (word_here k o))) (tt {0}) >>= λ x. settled 1 (first_of (item_causes c o)) (tt {0}) >>= λ y. worded_left k (line_at n (head ∷ fs)) (word_here k o)) is_word.word
-    ∙ ap (λ o. settled 1 (first_of (place_causes p o)) (tt {0}) >>= λ x. settled 1 (first_of (item_causes c (Some w))) (tt {0}) >>= λ y. worded_left k (line_at n (head ∷ fs)) o) (is_word.here k)
+    ∙ ap (λ o. settled 1 (first_of (place_causes p o)) (tt {0}) >>= λ x. settled 1 (first_of (item_causes c (Some w))) (tt {0}) >>= λ y. worded_left k (line_at n (head ∷ fs)) o) is_word.here
     ∙ ap (λ o. settled 1 o (tt {0}) >>= λ x. settled 1 (first_of (item_causes c (Some w))) (tt {0}) >>= λ y. worded_left k (line_at n (head ∷ fs)) (Some w)) place
     ∙ ap (λ o. settled 1 o (tt {0}) >>= λ y. worded_left k (line_at n (head ∷ fs)) (Some w)) fits
     ∙ ap (λ r. said w r) (reads k n fs w ∙ ap (λ o. settle o (content_of n fs w)) (fit_none 2 (missing_cause w) (word_slots k fs w) fs fit))
@@ -132,7 +132,7 @@ line_back p k c n head w fs is_word fit short place fits =
 abbrev pub state : ℕ → Phase → ℕ → Draft → State
 state n p c d = record { lines = n; phase = p; count = c; draft = d; first = None }
 
-pub step_back : (n : ℕ) (p : Phase) (c : ℕ) (d : Draft) (head : List ℕ) (w : LineWord) (fs : List (List ℕ)) → IsWord head w → AllFit (word_slots (known_in d) fs w) fs → tail_length fs ≤ 200
+pub step_back : (n : ℕ) (p : Phase) (c : ℕ) (d : Draft) (head : List ℕ) (w : LineWord) (fs : List (List ℕ)) → IsWord (known_in d) head w → AllFit (word_slots (known_in d) fs w) fs → tail_length fs ≤ 200
     → first_of (place_causes p (Some w)) ≡ None → first_of (item_causes c (Some w)) ≡ None
     → take_said (state n p c d) (head ++ tail_text fs) ≡ state (n + 1) (next_phase p (Some w)) (count_with c (Some w)) (with_content d (n + 1) (content_of (n + 1) fs w))
 step_back n p c d head w fs is_word fit short place fits = ap (λ r. said_unless (state n p c d) r) (line_back p (known_in d) c (n + 1) head w fs is_word fit short place fits)

@@ -1,4 +1,4 @@
--- The canonical text of a valid galley whose items are served is read as the galley itself, but for its line numbers.
+-- The canonical text of a valid galley is read as the galley itself, but for its line numbers.
 use Rattle.std.proofs.Common.{◌≡◌, ℕ, zero, suc, ◌+◌, ◌≤◌, Bool, true, false, not, ◌&&◌, ◌||◌, ◌==◌, nat_lt, nat_le, List, [], ◌∷◌, ◌++◌, length, map, filter, Some, None, Ok, Err, if◌then◌else◌, refl, ap, sym, subst, ◌∙◌, ◌⊎◌, inl, inr, arith, append_assoc}
 use Rattle.std.specs.Prelude.{codes, decimal}
 use Rattle.std.specs.List.{list_all}
@@ -32,19 +32,21 @@ use Rattle.tb_galley.specs.declared.LeafKind.TheVariants as leaves
 use Rattle.tb_galley.specs.Words.{header, end, Phase, at_start, among_sets, among_items, ended}
 use Rattle.tb_galley.specs.Faults.{fault}
 use Rattle.tb_galley.specs.Grammar.{empty_draft, grammar, spelled, input_limit}
-use Rattle.tb_galley.specs.Machine.{start, verdict}
+use Rattle.tb_galley.specs.Machine.{State, start, verdict}
 use Rattle.tb_galley.specs.Print.{ended_line, set_lines, leaf_text, leaf_lines, item_text, item_lines, class_lines, header_text, foot_text, and_text, printed}
-use Rattle.tb_galley.specs.Valid.{weight_of, weight, fits_version, IsValid}
-use Rattle.tb_galley.specs.Live.{are_live_classes, HasLiveItems}
-use Rattle.tb_galley.specs.ReadBack.{unnumbered_leaf, unnumbered_kind, unnumbered_item, unnumbered_class, unnumbered, ReadsBack}
-use Rattle.tb_galley.proofs.Sound.{drafted}
+use Rattle.tb_galley.specs.Valid.{weight_of, weight, fits_version, is_class, do_classes_rise, has_known_class, IsValid}
+use Rattle.tb_galley.specs.ReadBack.{unnumbered_leaf, unnumbered_kind, unnumbered_item, unnumbered, ReadsBack}
+use Rattle.tb_galley.proofs.SoundLines.{drafted}
 use Rattle.tb_galley.proofs.SameStep.{left_exact}
 use Rattle.tb_galley.proofs.FieldTexts.{tail_text, nothing_more}
 use Rattle.tb_galley.proofs.Conjunctions.{both, left_of, right_of}
 use Rattle.tb_galley.proofs.SlotTexts.{spelling}
 use Rattle.tb_galley.proofs.KindTexts.{leaf_word, leaf_fields, leaf_is, item_is}
 use Rattle.tb_galley.proofs.ValueTexts.{value_fields, value_is, is_plain_row}
-use Rattle.tb_galley.proofs.PrintRuns.{Runs, then_lines, to_state, word_runs, set_text, plain_rows, is_in_range, is_known_row, class_fields, foot_line, set_all, sets_run, numbered_leaves, numbered_kind, numbered_items, leaf_line, kind_lines, takes_items, leaf_texts, item_state, item_texts, phase_past_items, items_run}
+use Rattle.tb_galley.specs.Values.{is_class_among}
+use Rattle.tb_galley.proofs.ClassTexts.{numbers_of, class_fields, line_fields, class_is}
+use Rattle.tb_galley.proofs.ClassRuns.{numbered_classes, class_texts, same_numbers, same_classes, still_classes, classes_run}
+use Rattle.tb_galley.proofs.PrintRuns.{Runs, then_lines, to_state, word_runs, set_text, plain_rows, is_in_range, is_known_row, foot_line, set_all, HasClasses, sets_run, numbered_leaves, numbered_kind, numbered_items, leaf_line, kind_lines, takes_items, leaf_texts, item_state, item_texts, phase_past_items, items_run}
 
 -- ---- the canonical text by its lines
 
@@ -56,9 +58,12 @@ version_field false = codes "2"
 abbrev header_line : ℕ → List ℕ
 header_line v = codes "galley" ++ tail_text (version_field (v == 1) ∷ [])
 
--- of a galley without classes
+-- the lines between the header and the items
+abbrev front_lines : Galley → List (List ℕ)
+front_lines g = map (set_text g.params) (rows_for g.version) ++ class_texts g.classes
+
 abbrev canonical_lines : Galley → List (List ℕ)
-canonical_lines g = header_line g.version ∷ (map (set_text g.params) (rows_for g.version) ++ (item_texts g.version g.items ++ codes "end" ∷ []))
+canonical_lines g = header_line g.version ∷ (front_lines g ++ (item_texts g.version g.items ++ codes "end" ∷ []))
 
 header_is : (v : ℕ) → header_text v ≡ joined_lines (header_line v ∷ [])
 header_is v = by_version (v == 1)
@@ -117,19 +122,23 @@ items_joined : (v : ℕ) (is : List Item) → item_lines v is ≡ joined_lines (
 items_joined v [] = refl
 items_joined v (i ∷ is) = (λ j. kind_joined v i.kind j ++ items_joined v is j) ∙ sym (joined_lines-append (kind_lines v i.kind) (item_texts v is))
 
--- a galley of live classes has none
-no_classes : (cs : List ClassLine) → are_live_classes cs ≡ true → cs ≡ []
-no_classes [] live = refl
-no_classes (c ∷ cs) live = cc
+classes_joined : (cs : List ClassLine) → class_lines cs ≡ joined_lines (class_texts cs)
+classes_joined [] = refl
+classes_joined (c ∷ cs) = (λ i. ended_line (class_is c i) ++ classes_joined cs i) ∙ ended_first (codes "class" ++ tail_text (line_fields c)) (joined_lines (class_texts cs))
 
-canonical_text : (g : Galley) → g.classes ≡ [] → printed g ≡ joined_lines (canonical_lines g)
+front_joined : (g : Galley) → set_lines g.params (rows_for g.version) ++ class_lines g.classes ≡ joined_lines (front_lines g)
+front_joined g =
+    (λ i. sets_joined g.params (rows_for g.version) i ++ classes_joined g.classes i)
+    ∙ sym (joined_lines-append (map (set_text g.params) (rows_for g.version)) (class_texts g.classes))
+
+canonical_text : (g : Galley) → printed g ≡ joined_lines (canonical_lines g)
 unfolding printed
-canonical_text g none =
+canonical_text g =
     let first : List ℕ = header_line g.version in
-    let sets : List (List ℕ) = map (set_text g.params) (rows_for g.version) in
+    let sets : List (List ℕ) = front_lines g in
     let texts : List (List ℕ) = item_texts g.version g.items in
-    (λ i. header_is g.version i ++ sets_joined g.params (rows_for g.version) i ++ class_lines (none i) ++ items_joined g.version g.items i ++ codes "end\n")
-    ∙ ap (λ t. t ++ joined_lines texts ++ codes "end\n") (nothing_more (joined_lines (first ∷ []) ++ joined_lines sets))
+    ap (λ t. (t ++ item_lines g.version g.items) ++ codes "end\n") (append_assoc (header_text g.version) (set_lines g.params (rows_for g.version)) (class_lines g.classes))
+    ∙ (λ i. ((header_is g.version i ++ front_joined g i) ++ items_joined g.version g.items i) ++ codes "end\n")
     ∙ ap (λ t. t ++ codes "end\n") (append_assoc (joined_lines (first ∷ [])) (joined_lines sets) (joined_lines texts))
     ∙ append_assoc (joined_lines (first ∷ [])) (joined_lines sets ++ joined_lines texts) (codes "end\n")
     ∙ ap (λ t. joined_lines (first ∷ []) ++ t)
@@ -142,15 +151,23 @@ canonical_text g none =
 
 -- how many lines stand before the items
 abbrev front : Galley → ℕ
-front g = 1 + length (rows_for g.version)
+front g = 1 + length (rows_for g.version) + length g.classes
+
+-- and before the classes
+abbrev sets_end : Galley → ℕ
+sets_end g = 1 + length (rows_for g.version)
+
+-- the classes as they are read
+abbrev classes_in : Galley → List ClassLine
+classes_in g = numbered_classes (sets_end g + 1) g.classes
 
 renumbered : Galley → Galley
-renumbered g = record { params = g.params; version = g.version; classes = []; items = numbered_items (front g + 1) g.items; end_line = front g + weight g.items + 1 }
+renumbered g = record { params = g.params; version = g.version; classes = classes_in g; items = numbered_items (front g + 1) g.items; end_line = front g + weight g.items + 1 }
 
-end_runs : (n : ℕ) (p : Phase) (c : ℕ) (ps : Params) (v e : ℕ) (is : List Item) → takes_items p ≡ true → Runs (item_state n p c ps v e is) (codes "end" ∷ []) (item_state (n + 1) ended c ps v (n + 1) is)
-end_runs n among_sets c ps v e is takes = word_runs n among_sets c (drafted ps v [] is None e) end [] (λ m. contents.End) refl (record { fit = tt; short = omega arith; content = λ m. refl }) refl refl
-end_runs n among_items c ps v e is takes = word_runs n among_items c (drafted ps v [] is None e) end [] (λ m. contents.End) refl (record { fit = tt; short = omega arith; content = λ m. refl }) refl refl
-end_runs n p c ps v e is takes = cc
+end_runs : (n : ℕ) (p : Phase) (c : ℕ) (ps : Params) (v : ℕ) (cs : List ClassLine) (e : ℕ) (is : List Item) → takes_items p ≡ true → Runs (item_state n p c ps v cs e is) (codes "end" ∷ []) (item_state (n + 1) ended c ps v cs (n + 1) is)
+end_runs n among_sets c ps v cs e is takes = word_runs n among_sets c (drafted ps v cs is None e) end [] (λ m. contents.End) refl (record { fit = tt; short = omega arith; content = λ m. refl }) refl refl
+end_runs n among_items c ps v cs e is takes = word_runs n among_items c (drafted ps v cs is None e) end [] (λ m. contents.End) refl (record { fit = tt; short = omega arith; content = λ m. refl }) refl refl
+end_runs n p c ps v cs e is takes = cc
 
 -- there are two versions
 version_cases : (v : ℕ) (cs : List ClassLine) (ps : Params) → fits_version v cs ps ≡ true → ((v ≡ 1) × (has_second ps ≡ false)) ⊎ (v ≡ 2)
@@ -164,7 +181,7 @@ version_cases v [] ps h = by_version (v == 1) (v == 2) (has_second ps) refl (λ 
 version_cases v (c ∷ cs) ps h = inr (eqb-true v 2 h)
 
 abbrev HeaderRuns : ℕ → Type 0
-HeaderRuns v = Runs start (header_line v ∷ []) (item_state 1 among_sets 0 default_params v 0 [])
+HeaderRuns v = Runs start (header_line v ∷ []) (item_state 1 among_sets 0 default_params v [] 0 [])
 
 header_runs : (v : ℕ) (cs : List ClassLine) (ps : Params) → ((v ≡ 1) × (has_second ps ≡ false)) ⊎ (v ≡ 2) → HeaderRuns v
 header_runs v cs ps (inl e) =
@@ -238,29 +255,58 @@ still_takes : (is : List Item) → takes_items (phase_past_items among_sets is) 
 still_takes [] = refl
 still_takes (i ∷ is) = refl
 
-galley_runs : (g : Galley) → IsValid g → HasLiveItems g
-    → Runs start (canonical_lines g) (item_state (front g + weight g.items + 1) ended (0 + weight g.items) g.params g.version (front g + weight g.items + 1) (numbered_items (front g + 1) g.items))
-galley_runs g valid live =
+-- version 1 has no classes
+first_version : (v : ℕ) (cs : List ClassLine) (ps : Params) → fits_version v cs ps ≡ true → (v == 1) ≡ true → cs ≡ []
+first_version v [] ps h one = refl
+first_version v (c ∷ cs) ps h one = unlike v h one
+  where
+    unlike : (v : ℕ) → (v == 2) ≡ true → (v == 1) ≡ true → (c ∷ cs) ≡ []
+    unlike v h k = absurd (let two : v ≡ 2 = eqb-true v 2 h in let one : v ≡ 1 = eqb-true v 1 k in omega arith)
+
+only_last : (cs : List ClassLine) (class : ℕ) → cs ≡ [] → is_class_among (numbers_of cs) class ≡ true → class ≡ 254
+only_last [] class none h = eqb-true class 254 (or_none (class == 254) h)
+  where
+    or_none : (a : Bool) → (a || false) ≡ true → a ≡ true
+    or_none true h = refl
+    or_none false h = h
+only_last (c ∷ cs) class none h = cc
+
+has_classes : (g : Galley) → IsValid g → HasClasses g.version (classes_in g)
+has_classes g valid = record {
+  good = still_classes (sets_end g + 1) g.classes (left_of (list_all is_class g.classes) (do_classes_rise g.classes) valid.classes);
+  first = λ class one h. only_last g.classes class (first_version g.version g.classes g.params valid.version one) (subst (λ ks. is_class_among ks class ≡ true) (same_numbers (sets_end g + 1) g.classes) h);
+}
+
+galley_runs : (g : Galley) → IsValid g
+    → Runs start (canonical_lines g) (item_state (front g + weight g.items + 1) ended (0 + weight g.items) g.params g.version (classes_in g) (front g + weight g.items + 1) (numbered_items (front g + 1) g.items))
+galley_runs g valid =
     let few : nat_le (weight g.items) 100000 ≡ true = valid.count in
     let v : ℕ = g.version in
+    let cs : List ClassLine = classes_in g in
     let rs : List Row = rows_for g.version in
+    let begun : State = item_state 1 among_sets 0 default_params g.version [] 0 [] in
+    let set : State = item_state (sets_end g) among_sets 0 g.params g.version [] 0 [] in
+    let declared : State = item_state (front g) among_sets 0 g.params g.version (classes_in g) 0 [] in
+    let written : State = item_state (front g + weight g.items) (phase_past_items among_sets g.items) (0 + weight g.items) g.params g.version (classes_in g) 0 (numbered_items (front g + 1) g.items) in
+    let done : State = item_state (front g + weight g.items + 1) ended (0 + weight g.items) g.params g.version (classes_in g) (front g + weight g.items + 1) (numbered_items (front g + 1) g.items) in
     let which : ((g.version ≡ 1) × (has_second g.params ≡ false)) ⊎ (g.version ≡ 2) = version_cases g.version g.classes g.params valid.version in
-    let sets : Runs (item_state 1 among_sets 0 default_params g.version 0 []) (map (set_text g.params) (rows_for g.version)) (item_state (front g) among_sets 0 g.params g.version 0 []) =
-    to_state (item_state 1 among_sets 0 default_params g.version 0 []) (item_state (front g) among_sets 0 (set_all g.params default_params (rows_for g.version)) g.version 0 []) (item_state (front g) among_sets 0 g.params g.version 0 []) (map (set_text g.params) (rows_for g.version))
-    (ap (λ ps. item_state (front g) among_sets 0 ps g.version 0 []) (each_set g.version g.params valid.params which))
+    let sets : Runs begun (map (set_text g.params) (rows_for g.version)) set =
+    to_state begun (item_state (sets_end g) among_sets 0 (set_all g.params default_params (rows_for g.version)) g.version [] 0 []) set (map (set_text g.params) (rows_for g.version))
+    (ap (λ ps. item_state (sets_end g) among_sets 0 ps g.version [] 0 []) (each_set g.version g.params valid.params which))
     (sets_run g.params default_params g.version 1 (rows_for g.version) (named_kept (is_known_row g.version) rows rows_found) (all_known (is_known_row g.version) rows) (all_kept is_plain_row (is_known_row g.version) rows plain_rows)
     (all_kept (is_in_range g.params) (is_known_row g.version) rows (params_in_range g.params valid.params))) in
-    let inner : Runs (item_state (front g) among_sets 0 g.params g.version 0 []) (item_texts g.version g.items) (item_state (front g + weight g.items) (phase_past_items among_sets g.items) (0 + weight g.items) g.params g.version 0 (numbered_items (front g + 1) g.items)) =
-    items_run (front g) among_sets 0 g.params g.version 0 [] g.items refl (few_items (weight g.items) few) valid.items live.live in
-    let last : Runs (item_state (front g + weight g.items) (phase_past_items among_sets g.items) (0 + weight g.items) g.params g.version 0 (numbered_items (front g + 1) g.items)) (codes "end" ∷ [])
-    (item_state (front g + weight g.items + 1) ended (0 + weight g.items) g.params g.version (front g + weight g.items + 1) (numbered_items (front g + 1) g.items)) =
-    end_runs (front g + weight g.items) (phase_past_items among_sets g.items) (0 + weight g.items) g.params g.version 0 (numbered_items (front g + 1) g.items) (still_takes g.items) in
-    then_lines start (item_state 1 among_sets 0 default_params g.version 0 []) (item_state (front g + weight g.items + 1) ended (0 + weight g.items) g.params g.version (front g + weight g.items + 1) (numbered_items (front g + 1) g.items))
-    (header_line g.version ∷ []) (map (set_text g.params) (rows_for g.version) ++ (item_texts g.version g.items ++ codes "end" ∷ [])) (header_runs g.version g.classes g.params which)
-    (then_lines (item_state 1 among_sets 0 default_params g.version 0 []) (item_state (front g) among_sets 0 g.params g.version 0 []) (item_state (front g + weight g.items + 1) ended (0 + weight g.items) g.params g.version (front g + weight g.items + 1) (numbered_items (front g + 1) g.items))
-    (map (set_text g.params) (rows_for g.version)) (item_texts g.version g.items ++ codes "end" ∷ []) sets
-    (then_lines (item_state (front g) among_sets 0 g.params g.version 0 []) (item_state (front g + weight g.items) (phase_past_items among_sets g.items) (0 + weight g.items) g.params g.version 0 (numbered_items (front g + 1) g.items))
-    (item_state (front g + weight g.items + 1) ended (0 + weight g.items) g.params g.version (front g + weight g.items + 1) (numbered_items (front g + 1) g.items)) (item_texts g.version g.items) (codes "end" ∷ []) inner last))
+    let classes : Runs set (class_texts g.classes) declared =
+    classes_run g.params g.version (sets_end g) g.classes (first_version g.version g.classes g.params valid.version) (left_of (list_all is_class g.classes) (do_classes_rise g.classes) valid.classes) (right_of (list_all is_class g.classes) (do_classes_rise g.classes) valid.classes) in
+    let known : list_all (λ (i : Item). has_known_class (numbers_of (classes_in g)) i.kind) g.items ≡ true =
+    subst (λ ks. list_all (λ (i : Item). has_known_class ks i.kind) g.items ≡ true) (sym (same_numbers (sets_end g + 1) g.classes)) valid.feet in
+    let inner : Runs declared (item_texts g.version g.items) written =
+    items_run (front g) among_sets 0 g.params g.version (classes_in g) 0 [] g.items (has_classes g valid) refl (few_items (weight g.items) few) valid.items known in
+    let last : Runs written (codes "end" ∷ []) done =
+    end_runs (front g + weight g.items) (phase_past_items among_sets g.items) (0 + weight g.items) g.params g.version (classes_in g) 0 (numbered_items (front g + 1) g.items) (still_takes g.items) in
+    then_lines start begun done (header_line g.version ∷ []) (front_lines g ++ (item_texts g.version g.items ++ codes "end" ∷ [])) (header_runs g.version g.classes g.params which)
+    (then_lines begun declared done (front_lines g) (item_texts g.version g.items ++ codes "end" ∷ [])
+    (then_lines begun set declared (map (set_text g.params) (rows_for g.version)) (class_texts g.classes) sets classes)
+    (then_lines declared written done (item_texts g.version g.items) (codes "end" ∷ []) inner last))
 
 -- ---- line numbers apart
 
@@ -279,23 +325,23 @@ unfolding numbered_items
 same_list n [] = refl
 same_list n (i ∷ is) = (λ j. record { line = 0; kind = same_kind n i.kind j } ∷ same_list (n + weight_of i.kind) is j)
 
-same_galley : (g : Galley) → g.classes ≡ [] → unnumbered (renumbered g) ≡ unnumbered g
+same_galley : (g : Galley) → unnumbered (renumbered g) ≡ unnumbered g
 unfolding renumbered
-same_galley g none = (λ j. record { params = g.params; version = g.version; classes = map unnumbered_class (sym none j); items = same_list (front g + 1) g.items j; end_line = 0 })
+same_galley g = (λ j. record { params = g.params; version = g.version; classes = same_classes (sets_end g + 1) g.classes j; items = same_list (front g + 1) g.items j; end_line = 0 })
 
--- the canonical text is read as the galley, whose items stand after the header and the sets
-is_read : (g : Galley) → IsValid g → HasLiveItems g → length (printed g) ≤ input_limit → grammar (printed g) ≡ Ok (renumbered g)
+-- the canonical text is read as the galley, whose items stand after the header, the sets and the classes
+is_read : (g : Galley) → IsValid g → length (printed g) ≤ input_limit → grammar (printed g) ≡ Ok (renumbered g)
 unfolding grammar renumbered
-is_read g valid live short =
+is_read g valid short =
     let fits : nat_lt input_limit (length (printed g)) ≡ false = not_long (length (printed g)) short in
-    let runs : Runs start (canonical_lines g) (item_state (front g + weight g.items + 1) ended (0 + weight g.items) g.params g.version (front g + weight g.items + 1) (numbered_items (front g + 1) g.items)) = galley_runs g valid live in
+    let runs : Runs start (canonical_lines g) (item_state (front g + weight g.items + 1) ended (0 + weight g.items) g.params g.version (classes_in g) (front g + weight g.items + 1) (numbered_items (front g + 1) g.items)) = galley_runs g valid in
     ap (λ t. if t then Err (fault 0 0 causes.InputSize) else spelled (lines_of (printed g))) fits
-    ∙ ap spelled (ap lines_of (canonical_text g (no_classes g.classes live.classes)) ∙ lines_of-joined (canonical_lines g) runs.clean)
+    ∙ ap spelled (ap lines_of (canonical_text g) ∙ lines_of-joined (canonical_lines g) runs.clean)
     ∙ sym (left_exact (canonical_lines g))
     ∙ ap verdict runs.ends
   where
     not_long : (k : ℕ) → k ≤ 8388608 → nat_lt 8388608 k ≡ false
     not_long k h = grind (arith, nat_tests)
 
-pub print_law : (g : Galley) → IsValid g → HasLiveItems g → length (printed g) ≤ input_limit → ReadsBack g
-print_law g valid live short = record { galley = renumbered g; read = is_read g valid live short; same = same_galley g (no_classes g.classes live.classes) }
+pub print_law : (g : Galley) → IsValid g → length (printed g) ≤ input_limit → ReadsBack g
+print_law g valid short = record { galley = renumbered g; read = is_read g valid short; same = same_galley g }

@@ -1,11 +1,7 @@
 -- The lines of the canonical text take the reader to the galley.
-use Rattle.std.proofs.Common.{◌≡◌, ℕ, ◌+◌, ◌≤◌, Bool, true, false, ◌&&◌, nat_le, ◌==◌, List, [], ◌∷◌, ◌++◌, length, map, Some, None, Ok, pos, if◌then◌else◌, refl, ap, sym, subst, ◌∙◌, arith, append_assoc}
-use Rattle.std.specs.Prelude.{codes, decimal}
-use Rattle.std.specs.Fmt.{signed_decimal}
-use Rattle.tb_text.specs.Numbers.{integer_of}
-use Rattle.tb_text.proofs.NumberTexts.{integer_back}
+use Rattle.std.proofs.Common.{◌≡◌, ℕ, ◌+◌, ◌≤◌, Bool, true, false, ◌&&◌, nat_le, ◌==◌, List, [], ◌∷◌, ◌++◌, length, map, Some, None, refl, ap, sym, ◌∙◌, arith, append_assoc}
+use Rattle.std.specs.Prelude.{codes}
 use Rattle.std.specs.List.{list_all, fold}
-use Rattle.std.proofs.lemmas.Bool.{eqb-true}
 use Rattle.std.proofs.lemmas.Bool.Decides.{nat_tests}
 use Rattle.std.proofs.lemmas.List.Sums.{fold-append}
 use Rattle.std.proofs.lemmas.List.Folds.{list_all-append}
@@ -25,32 +21,32 @@ use Rattle.tb_galley.specs.declared.ItemKind.TheVariants as items
 use Rattle.tb_galley.specs.declared.Leaf.{Leaf}
 use Rattle.tb_galley.specs.declared.LeafKind.{LeafKind}
 use Rattle.tb_galley.specs.declared.LeafKind.TheVariants as leaves
-use Rattle.tb_galley.specs.Words.{LineWord, Known, number_or, word_here, header, setting, class_line, foot, endfoot, Phase, at_start, among_sets, among_items, in_foot, ended, word_of, is_item_word}
-use Rattle.tb_galley.specs.Values.{word_slots, class_slot, range_slot, cause_of_read, is_foot_class}
+use Rattle.tb_galley.specs.Words.{LineWord, Known, word_here, header, setting, foot, endfoot, Phase, at_start, among_sets, among_items, in_foot, ended, word_of, is_item_word}
+use Rattle.tb_galley.specs.Values.{is_class_among, word_slots}
 use Rattle.tb_galley.specs.Faults.{place_causes, item_causes, cause_if}
 use Rattle.tb_galley.specs.Grammar.{Draft, item_kind, with_content}
 use Rattle.tb_galley.specs.Line.{first_of}
 use Rattle.tb_galley.specs.Machine.{State, known_in, next_phase, count_with, take_said}
-use Rattle.tb_galley.specs.Valid.{is_leaf, is_item, weight_of, weight}
-use Rattle.tb_galley.specs.Live.{is_live_item}
-use Rattle.tb_galley.proofs.Suited.{is_served}
-use Rattle.tb_galley.proofs.Sound.{drafted}
-use Rattle.tb_galley.proofs.FieldTexts.{IsText, IsWord, IsFit, AllFit, tail_text, line_clean, state, step_back}
-use Rattle.tb_galley.proofs.SlotTexts.{ReadsAs, spelling, range_fit, dimen_length}
+use Rattle.tb_galley.specs.declared.classes.ClassLine.{ClassLine}
+use Rattle.tb_galley.specs.Valid.{is_leaf, is_item, weight_of, weight, is_class, has_known_class}
+use Rattle.tb_galley.proofs.SoundLines.{drafted}
+use Rattle.tb_galley.proofs.FieldTexts.{IsText, IsWord, tail_text, line_clean, state, step_back}
+use Rattle.tb_galley.proofs.SlotTexts.{ReadsAs, spelling}
 use Rattle.tb_galley.proofs.KindTexts.{leaf_word, leaf_fields, leaf_back, is_single, item_word, item_fields, item_line, on_line_kind, item_back}
+use Rattle.tb_galley.proofs.ClassTexts.{numbers_of, known_by, class_fields, foot_back}
 use Rattle.tb_galley.proofs.ValueTexts.{value_fields, is_plain_row, set_back}
 use Rattle.tb_galley.proofs.Conjunctions.{both, left_of, right_of}
 
--- ---- words that are served are read
+-- ---- words are read
 
 word_text : (w : LineWord) → IsText (spelling w)
 word_text header = record { printable = refl; some = omega arith }
 word_text w = record { printable = refl; some = omega arith }
 
-found : (w : LineWord) → is_served w ≡ true → word_of (spelling w) ≡ Some w
+found : (w : LineWord) → word_of (spelling w) ≡ Some w
 unfolding word_of
-found header h = refl
-found w h = cc
+found header = refl
+found w = refl
 
 short_word : (w : LineWord) → length (spelling w) ≤ 14
 short_word header = omega arith
@@ -60,17 +56,8 @@ no_comment : (w : LineWord) → begins_with 35 (spelling w) ≡ false
 no_comment header = refl
 no_comment w = refl
 
-served_here : (w : LineWord) → is_served w ≡ true → (k : Known) → word_here k (Some w) ≡ Some w
-served_here class_line h k = cc
-served_here w h k = refl
-
-served_word : (w : LineWord) → is_served w ≡ true → IsWord (spelling w) w
-served_word w h = record { text = word_text w; short = short_word w; content = no_comment w; word = found w h; here = served_here w h }
-
-live_served : (k : ItemKind) → is_live_item k ≡ true → is_served (item_word k) ≡ true
-live_served (items.Hbox name h d) live = live
-live_served (items.Foot class ls) live = refl
-live_served k live = live
+is_word : (k : Known) (w : LineWord) → word_here k (Some w) ≡ Some w → IsWord k (spelling w) w
+is_word k w here = record { text = word_text w; short = short_word w; content = no_comment w; word = found w; here = here }
 
 -- ---- runs over lines
 
@@ -79,7 +66,7 @@ pub record Runs (s : State) (ls : List (List ℕ)) (t : State) : Type 0 where
   pub ends : fold take_said s ls ≡ t
   pub clean : list_all (λ l. list_all is_line_byte l) ls ≡ true
 
-no_lines : (s : State) → Runs s [] s
+pub no_lines : (s : State) → Runs s [] s
 no_lines s = record { ends = refl; clean = refl }
 
 pub then_lines : (s t u : State) (xs ys : List (List ℕ)) → Runs s xs t → Runs t ys u → Runs s (xs ++ ys) u
@@ -94,12 +81,12 @@ pub to_state : (s t u : State) (ls : List (List ℕ)) → t ≡ u → Runs s ls 
 to_state s t u ls same run = record { ends = run.ends ∙ same; clean = run.clean }
 
 -- a line whose fields are read as this content
-pub word_runs : (n : ℕ) (p : Phase) (c : ℕ) (d : Draft) (w : LineWord) (fs : List (List ℕ)) (says : ℕ → Content) → is_served w ≡ true → ReadsAs (known_in d) w fs says
+pub word_runs : (n : ℕ) (p : Phase) (c : ℕ) (d : Draft) (w : LineWord) (fs : List (List ℕ)) (says : ℕ → Content) → word_here (known_in d) (Some w) ≡ Some w → ReadsAs (known_in d) w fs says
     → first_of (place_causes p (Some w)) ≡ None → first_of (item_causes c (Some w)) ≡ None
     → Runs (state n p c d) ((spelling w ++ tail_text fs) ∷ []) (state (n + 1) (next_phase p (Some w)) (count_with c (Some w)) (with_content d (n + 1) (says (n + 1))))
-word_runs n p c d w fs says served reads place fits = record {
+word_runs n p c d w fs says here reads place fits = record {
   ends =
-      step_back n p c d (spelling w) w fs (served_word w served) reads.fit reads.short place fits
+      step_back n p c d (spelling w) w fs (is_word (known_in d) w here) reads.fit reads.short place fits
       ∙ ap (λ k. state (n + 1) (next_phase p (Some w)) (count_with c (Some w)) (with_content d (n + 1) k)) (reads.content (n + 1));
   clean = ap (λ t. t && true) (line_clean (spelling w) (word_slots (known_in d) fs w) fs (word_text w) reads.fit);
 }
@@ -153,11 +140,6 @@ numbered_items n (i ∷ is) = record { line = n; kind = numbered_kind n i.kind }
 
 unfoldable pub leaf_line : LeafKind → List ℕ
 leaf_line k = spelling (leaf_word k) ++ tail_text (leaf_fields k)
-
--- the class of a footnote is named in version 2
-abbrev pub class_fields : Bool → ℕ → List (List ℕ)
-class_fields true class = []
-class_fields false class = decimal class ∷ []
 
 abbrev pub foot_line : ℕ → ℕ → List ℕ
 foot_line v class = codes "foot" ++ tail_text (class_fields (v == 1) class)
@@ -224,132 +206,116 @@ foot_goes among_items c takes = record { place = refl; next = refl; count = refl
 foot_goes p c takes = cc
 
 -- a line of an item
-goes_runs : (n : ℕ) (p q : Phase) (c : ℕ) (d : Draft) (w : LineWord) (fs : List (List ℕ)) (says : ℕ → Content) → c + 1 ≤ 100000 → is_served w ≡ true → ReadsAs (known_in d) w fs says → GoesOn p q c w
+goes_runs : (n : ℕ) (p q : Phase) (c : ℕ) (d : Draft) (w : LineWord) (fs : List (List ℕ)) (says : ℕ → Content) → c + 1 ≤ 100000 → word_here (known_in d) (Some w) ≡ Some w → ReadsAs (known_in d) w fs says → GoesOn p q c w
     → Runs (state n p c d) ((spelling w ++ tail_text fs) ∷ []) (state (n + 1) q (c + 1) (with_content d (n + 1) (says (n + 1))))
-goes_runs n p q c d w fs says few served reads goes =
+goes_runs n p q c d w fs says few here reads goes =
     to_state (state n p c d) (state (n + 1) (next_phase p (Some w)) (count_with c (Some w)) (with_content d (n + 1) (says (n + 1)))) (state (n + 1) q (c + 1) (with_content d (n + 1) (says (n + 1)))) ((spelling w ++ tail_text fs) ∷ [])
     (λ i. state (n + 1) (goes.next i) (goes.count i) (with_content d (n + 1) (says (n + 1))))
-    (word_runs n p c d w fs says served reads goes.place (count_fits c w few))
+    (word_runs n p c d w fs says here reads goes.place (count_fits c w few))
 
-leaf_served : (k : LeafKind) → is_served (leaf_word k) ≡ true
-leaf_served (leaves.Hbox name h d) = refl
-leaf_served k = refl
+leaf_here : (known : Known) (k : LeafKind) → word_here known (Some (leaf_word k)) ≡ Some (leaf_word k)
+leaf_here known (leaves.Hbox name h d) = refl
+leaf_here known k = refl
+
+item_here : (known : Known) (k : ItemKind) → word_here known (Some (item_word k)) ≡ Some (item_word k)
+item_here known (items.Hbox name h d) = refl
+item_here known k = refl
 
 -- ---- footnotes
+
+-- the classes of a galley of the version are in their ranges, and version 1 has none
+pub record HasClasses (v : ℕ) (cs : List ClassLine) : Type 0 where
+  pub good : list_all is_class cs ≡ true
+  pub first : (class : ℕ) → (v == 1) ≡ true → is_class_among (numbers_of cs) class ≡ true → class ≡ 254
 
 abbrev pub leaf_texts : List Leaf → List (List ℕ)
 leaf_texts ls = map (λ (l : Leaf). leaf_line l.kind) ls
 
 -- a reader in an open foot, and one outside
-abbrev foot_state : ℕ → ℕ → Params → ℕ → List Item → ℕ → ℕ → List Leaf → State
-foot_state n c ps v before e line ls = state n in_foot c (drafted ps v [] before (Some (record { line = line; class = 254; leaves = ls })) e)
+abbrev foot_state : ℕ → ℕ → Params → ℕ → List ClassLine → List Item → ℕ → ℕ → ℕ → List Leaf → State
+foot_state n c ps v cs before e class line ls = state n in_foot c (drafted ps v cs before (Some (record { line = line; class = class; leaves = ls })) e)
 
-abbrev pub item_state : ℕ → Phase → ℕ → Params → ℕ → ℕ → List Item → State
-item_state n p c ps v e is = state n p c (drafted ps v [] is None e)
+abbrev pub item_state : ℕ → Phase → ℕ → Params → ℕ → List ClassLine → ℕ → List Item → State
+item_state n p c ps v cs e is = state n p c (drafted ps v cs is None e)
 
-same_foot : (a b x y : ℕ) (ps : Params) (v : ℕ) (before : List Item) (e line : ℕ) (ls ms : List Leaf) → a ≡ b → x ≡ y → ls ≡ ms → foot_state a x ps v before e line ls ≡ foot_state b y ps v before e line ms
-same_foot a b x y ps v before e line ls ms p q r = (λ i. foot_state (p i) (q i) ps v before e line (r i))
+same_foot : (a b x y : ℕ) (ps : Params) (v : ℕ) (cs : List ClassLine) (before : List Item) (e class line : ℕ) (ls ms : List Leaf) → a ≡ b → x ≡ y → ls ≡ ms → foot_state a x ps v cs before e class line ls ≡ foot_state b y ps v cs before e class line ms
+same_foot a b x y ps v cs before e class line ls ms p q r = (λ i. foot_state (p i) (q i) ps v cs before e class line (r i))
 
-same_items : (a b : ℕ) (p : Phase) (x y : ℕ) (ps : Params) (v : ℕ) (e : ℕ) (is js : List Item) → a ≡ b → x ≡ y → is ≡ js → item_state a p x ps v e is ≡ item_state b p y ps v e js
-same_items a b ph x y ps v e is js p q r = (λ i. item_state (p i) ph (q i) ps v e (r i))
+same_items : (a b : ℕ) (p : Phase) (x y : ℕ) (ps : Params) (v : ℕ) (cs : List ClassLine) (e : ℕ) (is js : List Item) → a ≡ b → x ≡ y → is ≡ js → item_state a p x ps v cs e is ≡ item_state b p y ps v cs e js
+same_items a b ph x y ps v cs e is js p q r = (λ i. item_state (p i) ph (q i) ps v cs e (r i))
 
 no_more : {X : Type 0} (xs : List X) → xs ++ [] ≡ xs
 no_more [] = refl
 no_more (x ∷ xs) = ap (λ ys. x ∷ ys) (no_more xs)
 
--- what is known where no class is declared
-abbrev pub plain_known : ℕ → Known
-plain_known v = record { version = v; classes = [] }
-
-foot_back : (v : ℕ) → ReadsAs (plain_known v) foot (class_fields (v == 1) 254) (λ n. contents.Foot 254)
-foot_back v = by_version (v == 1) refl
-  where
-    number : integer_of (decimal 254) ≡ Ok (pos 254)
-    number = integer_back (pos 254) (omega arith)
-
-    text : IsFit (range_slot (pos 0) (pos 1000) causes.Class) (decimal 254)
-    text = range_fit (pos 0) (pos 1000) causes.Class (pos 254) (omega arith) (omega arith) refl
-
-    by_version : (t : Bool) → (v == 1) ≡ t → ReadsAs (plain_known v) foot (class_fields t 254) (λ n. contents.Foot 254)
-    by_version true e = record { fit = tt; short = omega arith; content = λ n. refl }
-    by_version false e =
-        let short : length (signed_decimal (pos 254)) ≤ 11 = dimen_length (pos 254) (omega arith) in
-        record {
-          fit = subst (λ t. AllFit (if t then [] else class_slot [] ∷ []) (decimal 254 ∷ [])) (sym e) (record { text = text.text; slot = ap (λ r. cause_of_read (is_foot_class []) causes.Class r) number }, tt);
-          short = omega arith;
-          content = λ n. ap (λ r. contents.Foot (number_or r)) number;
-        }
-
-leaf_run : (n c : ℕ) (ps : Params) (v : ℕ) (before : List Item) (e line : ℕ) (so_far : List Leaf) (k : LeafKind) → c + 1 ≤ 100000 → is_leaf k ≡ true
-    → Runs (foot_state n c ps v before e line so_far) (leaf_line k ∷ []) (foot_state (n + 1) (c + 1) ps v before e line (so_far ++ record { line = n + 1; kind = k } ∷ []))
+leaf_run : (n c : ℕ) (ps : Params) (v : ℕ) (cs : List ClassLine) (before : List Item) (e class line : ℕ) (so_far : List Leaf) (k : LeafKind) → c + 1 ≤ 100000 → is_leaf k ≡ true
+    → Runs (foot_state n c ps v cs before e class line so_far) (leaf_line k ∷ []) (foot_state (n + 1) (c + 1) ps v cs before e class line (so_far ++ record { line = n + 1; kind = k } ∷ []))
 unfolding leaf_line
-leaf_run n c ps v before e line so_far k few good =
-    goes_runs n in_foot in_foot c (drafted ps v [] before (Some (record { line = line; class = 254; leaves = so_far })) e) (leaf_word k) (leaf_fields k) (λ m. contents.Plain k) few (leaf_served k) (leaf_back (plain_known v) k good) (inner_goes c k)
+leaf_run n c ps v cs before e class line so_far k few good =
+    goes_runs n in_foot in_foot c (drafted ps v cs before (Some (record { line = line; class = class; leaves = so_far })) e) (leaf_word k) (leaf_fields k) (λ m. contents.Plain k) few (leaf_here (known_by v cs) k) (leaf_back (known_by v cs) k good) (inner_goes c k)
 
-leaves_run : (n c : ℕ) (ps : Params) (v : ℕ) (before : List Item) (e line : ℕ) (so_far ls : List Leaf) → c + length ls ≤ 100000 → list_all (λ (l : Leaf). is_leaf l.kind) ls ≡ true
-    → Runs (foot_state n c ps v before e line so_far) (leaf_texts ls) (foot_state (n + length ls) (c + length ls) ps v before e line (so_far ++ numbered_leaves (n + 1) ls))
+leaves_run : (n c : ℕ) (ps : Params) (v : ℕ) (cs : List ClassLine) (before : List Item) (e class line : ℕ) (so_far ls : List Leaf) → c + length ls ≤ 100000 → list_all (λ (l : Leaf). is_leaf l.kind) ls ≡ true
+    → Runs (foot_state n c ps v cs before e class line so_far) (leaf_texts ls) (foot_state (n + length ls) (c + length ls) ps v cs before e class line (so_far ++ numbered_leaves (n + 1) ls))
 unfolding numbered_leaves
-leaves_run n c ps v before e line so_far [] few good =
-    to_state (foot_state n c ps v before e line so_far) (foot_state n c ps v before e line so_far) (foot_state (n + 0) (c + 0) ps v before e line (so_far ++ [])) []
-    (same_foot n (n + 0) c (c + 0) ps v before e line so_far (so_far ++ []) (omega arith) (omega arith) (sym (no_more so_far)))
-    (no_lines (foot_state n c ps v before e line so_far))
-leaves_run n c ps v before e line so_far (l ∷ ls) few good =
+leaves_run n c ps v cs before e class line so_far [] few good =
+    to_state (foot_state n c ps v cs before e class line so_far) (foot_state n c ps v cs before e class line so_far) (foot_state (n + 0) (c + 0) ps v cs before e class line (so_far ++ [])) []
+    (same_foot n (n + 0) c (c + 0) ps v cs before e class line so_far (so_far ++ []) (omega arith) (omega arith) (sym (no_more so_far)))
+    (no_lines (foot_state n c ps v cs before e class line so_far))
+leaves_run n c ps v cs before e class line so_far (l ∷ ls) few good =
     let leaf : Leaf = record { line = n + 1; kind = l.kind } in
-    then_lines (foot_state n c ps v before e line so_far) (foot_state (n + 1) (c + 1) ps v before e line (so_far ++ leaf ∷ []))
-    (foot_state (n + length (l ∷ ls)) (c + length (l ∷ ls)) ps v before e line (so_far ++ leaf ∷ numbered_leaves (n + 1 + 1) ls)) (leaf_line l.kind ∷ []) (leaf_texts ls)
-    (leaf_run n c ps v before e line so_far l.kind (omega arith) (left_of (is_leaf l.kind) (list_all (λ (m : Leaf). is_leaf m.kind) ls) good))
-    (to_state (foot_state (n + 1) (c + 1) ps v before e line (so_far ++ leaf ∷ []))
-    (foot_state (n + 1 + length ls) (c + 1 + length ls) ps v before e line ((so_far ++ leaf ∷ []) ++ numbered_leaves (n + 1 + 1) ls))
-    (foot_state (n + length (l ∷ ls)) (c + length (l ∷ ls)) ps v before e line (so_far ++ leaf ∷ numbered_leaves (n + 1 + 1) ls)) (leaf_texts ls)
-    (same_foot (n + 1 + length ls) (n + length (l ∷ ls)) (c + 1 + length ls) (c + length (l ∷ ls)) ps v before e line ((so_far ++ leaf ∷ []) ++ numbered_leaves (n + 1 + 1) ls) (so_far ++ leaf ∷ numbered_leaves (n + 1 + 1) ls)
+    then_lines (foot_state n c ps v cs before e class line so_far) (foot_state (n + 1) (c + 1) ps v cs before e class line (so_far ++ leaf ∷ []))
+    (foot_state (n + length (l ∷ ls)) (c + length (l ∷ ls)) ps v cs before e class line (so_far ++ leaf ∷ numbered_leaves (n + 1 + 1) ls)) (leaf_line l.kind ∷ []) (leaf_texts ls)
+    (leaf_run n c ps v cs before e class line so_far l.kind (omega arith) (left_of (is_leaf l.kind) (list_all (λ (m : Leaf). is_leaf m.kind) ls) good))
+    (to_state (foot_state (n + 1) (c + 1) ps v cs before e class line (so_far ++ leaf ∷ []))
+    (foot_state (n + 1 + length ls) (c + 1 + length ls) ps v cs before e class line ((so_far ++ leaf ∷ []) ++ numbered_leaves (n + 1 + 1) ls))
+    (foot_state (n + length (l ∷ ls)) (c + length (l ∷ ls)) ps v cs before e class line (so_far ++ leaf ∷ numbered_leaves (n + 1 + 1) ls)) (leaf_texts ls)
+    (same_foot (n + 1 + length ls) (n + length (l ∷ ls)) (c + 1 + length ls) (c + length (l ∷ ls)) ps v cs before e class line ((so_far ++ leaf ∷ []) ++ numbered_leaves (n + 1 + 1) ls) (so_far ++ leaf ∷ numbered_leaves (n + 1 + 1) ls)
     (omega arith) (omega arith) (append_assoc so_far (leaf ∷ []) (numbered_leaves (n + 1 + 1) ls)))
-    (leaves_run (n + 1) (c + 1) ps v before e line (so_far ++ leaf ∷ []) ls (omega arith) (right_of (is_leaf l.kind) (list_all (λ (m : Leaf). is_leaf m.kind) ls) good)))
+    (leaves_run (n + 1) (c + 1) ps v cs before e class line (so_far ++ leaf ∷ []) ls (omega arith) (right_of (is_leaf l.kind) (list_all (λ (m : Leaf). is_leaf m.kind) ls) good)))
 
-foot_run : (n : ℕ) (p : Phase) (c : ℕ) (ps : Params) (v : ℕ) (e : ℕ) (before : List Item) (ls : List Leaf) → takes_items p ≡ true → c + (length ls + 2) ≤ 100000 → list_all (λ (l : Leaf). is_leaf l.kind) ls ≡ true
-    → Runs (item_state n p c ps v e before) (kind_lines v (items.Foot 254 ls)) (item_state (n + (length ls + 2)) among_items (c + (length ls + 2)) ps v e (before ++ record { line = n + 1; kind = numbered_kind (n + 1) (items.Foot 254 ls) } ∷ []))
+foot_run : (n : ℕ) (p : Phase) (c : ℕ) (ps : Params) (v : ℕ) (cs : List ClassLine) (e : ℕ) (before : List Item) (class : ℕ) (ls : List Leaf) → HasClasses v cs → is_class_among (numbers_of cs) class ≡ true → takes_items p ≡ true → c + (length ls + 2) ≤ 100000 → list_all (λ (l : Leaf). is_leaf l.kind) ls ≡ true
+    → Runs (item_state n p c ps v cs e before) (kind_lines v (items.Foot class ls)) (item_state (n + (length ls + 2)) among_items (c + (length ls + 2)) ps v cs e (before ++ record { line = n + 1; kind = numbered_kind (n + 1) (items.Foot class ls) } ∷ []))
 unfolding kind_lines numbered_kind
-foot_run n p c ps v e before ls takes few good =
-    let after : List Item = before ++ record { line = n + 1; kind = items.Foot 254 (numbered_leaves (n + 1 + 1) ls) } ∷ [] in
-    let opened : Runs (item_state n p c ps v e before) (foot_line v 254 ∷ []) (foot_state (n + 1) (c + 1) ps v before e (n + 1) []) =
-    goes_runs n p in_foot c (drafted ps v [] before None e) foot (class_fields (v == 1) 254) (λ m. contents.Foot 254) (omega arith) refl (foot_back v) (foot_goes p c takes) in
-    let inner : Runs (foot_state (n + 1) (c + 1) ps v before e (n + 1) []) (leaf_texts ls) (foot_state (n + 1 + length ls) (c + 1 + length ls) ps v before e (n + 1) (numbered_leaves (n + 1 + 1) ls)) =
-    leaves_run (n + 1) (c + 1) ps v before e (n + 1) [] ls (omega arith) good in
-    let closed : Runs (foot_state (n + 1 + length ls) (c + 1 + length ls) ps v before e (n + 1) (numbered_leaves (n + 1 + 1) ls)) (codes "endfoot" ∷ []) (item_state (n + 1 + length ls + 1) among_items (c + 1 + length ls + 1) ps v e after) =
-    goes_runs (n + 1 + length ls) in_foot among_items (c + 1 + length ls) (drafted ps v [] before (Some (record { line = n + 1; class = 254; leaves = numbered_leaves (n + 1 + 1) ls })) e) endfoot [] (λ m. contents.Endfoot) (omega arith) (refl)
+foot_run n p c ps v cs e before class ls has known takes few good =
+    let after : List Item = before ++ record { line = n + 1; kind = items.Foot class (numbered_leaves (n + 1 + 1) ls) } ∷ [] in
+    let opened : Runs (item_state n p c ps v cs e before) (foot_line v class ∷ []) (foot_state (n + 1) (c + 1) ps v cs before e class (n + 1) []) =
+    goes_runs n p in_foot c (drafted ps v cs before None e) foot (class_fields (v == 1) class) (λ m. contents.Foot class) (omega arith) refl (foot_back v cs class has.good known (λ first. has.first class first known)) (foot_goes p c takes) in
+    let inner : Runs (foot_state (n + 1) (c + 1) ps v cs before e class (n + 1) []) (leaf_texts ls) (foot_state (n + 1 + length ls) (c + 1 + length ls) ps v cs before e class (n + 1) (numbered_leaves (n + 1 + 1) ls)) =
+    leaves_run (n + 1) (c + 1) ps v cs before e class (n + 1) [] ls (omega arith) good in
+    let closed : Runs (foot_state (n + 1 + length ls) (c + 1 + length ls) ps v cs before e class (n + 1) (numbered_leaves (n + 1 + 1) ls)) (codes "endfoot" ∷ []) (item_state (n + 1 + length ls + 1) among_items (c + 1 + length ls + 1) ps v cs e after) =
+    goes_runs (n + 1 + length ls) in_foot among_items (c + 1 + length ls) (drafted ps v cs before (Some (record { line = n + 1; class = class; leaves = numbered_leaves (n + 1 + 1) ls })) e) endfoot [] (λ m. contents.Endfoot) (omega arith) (refl)
     (record { fit = tt; short = omega arith; content = λ m. refl }) (record { place = refl; next = refl; count = refl }) in
-    to_state (item_state n p c ps v e before) (item_state (n + 1 + length ls + 1) among_items (c + 1 + length ls + 1) ps v e after) (item_state (n + (length ls + 2)) among_items (c + (length ls + 2)) ps v e after)
-    (foot_line v 254 ∷ (leaf_texts ls ++ codes "endfoot" ∷ []))
-    (same_items (n + 1 + length ls + 1) (n + (length ls + 2)) among_items (c + 1 + length ls + 1) (c + (length ls + 2)) ps v e after after (omega arith) (omega arith) refl)
-    (then_lines (item_state n p c ps v e before) (foot_state (n + 1) (c + 1) ps v before e (n + 1) []) (item_state (n + 1 + length ls + 1) among_items (c + 1 + length ls + 1) ps v e after)
-    (foot_line v 254 ∷ []) (leaf_texts ls ++ codes "endfoot" ∷ []) opened
-    (then_lines (foot_state (n + 1) (c + 1) ps v before e (n + 1) []) (foot_state (n + 1 + length ls) (c + 1 + length ls) ps v before e (n + 1) (numbered_leaves (n + 1 + 1) ls)) (item_state (n + 1 + length ls + 1) among_items (c + 1 + length ls + 1) ps v e after)
+    to_state (item_state n p c ps v cs e before) (item_state (n + 1 + length ls + 1) among_items (c + 1 + length ls + 1) ps v cs e after) (item_state (n + (length ls + 2)) among_items (c + (length ls + 2)) ps v cs e after)
+    (foot_line v class ∷ (leaf_texts ls ++ codes "endfoot" ∷ []))
+    (same_items (n + 1 + length ls + 1) (n + (length ls + 2)) among_items (c + 1 + length ls + 1) (c + (length ls + 2)) ps v cs e after after (omega arith) (omega arith) refl)
+    (then_lines (item_state n p c ps v cs e before) (foot_state (n + 1) (c + 1) ps v cs before e class (n + 1) []) (item_state (n + 1 + length ls + 1) among_items (c + 1 + length ls + 1) ps v cs e after)
+    (foot_line v class ∷ []) (leaf_texts ls ++ codes "endfoot" ∷ []) opened
+    (then_lines (foot_state (n + 1) (c + 1) ps v cs before e class (n + 1) []) (foot_state (n + 1 + length ls) (c + 1 + length ls) ps v cs before e class (n + 1) (numbered_leaves (n + 1 + 1) ls)) (item_state (n + 1 + length ls + 1) among_items (c + 1 + length ls + 1) ps v cs e after)
     (leaf_texts ls) (codes "endfoot" ∷ []) inner closed))
 
 -- ---- items
 
-plain_run : (n : ℕ) (p : Phase) (c : ℕ) (ps : Params) (v : ℕ) (e : ℕ) (before : List Item) (k : LeafKind) → takes_items p ≡ true → c + 1 ≤ 100000 → is_leaf k ≡ true
-    → Runs (item_state n p c ps v e before) (leaf_line k ∷ []) (item_state (n + 1) among_items (c + 1) ps v e (before ++ record { line = n + 1; kind = item_kind k } ∷ []))
+plain_run : (n : ℕ) (p : Phase) (c : ℕ) (ps : Params) (v : ℕ) (cs : List ClassLine) (e : ℕ) (before : List Item) (k : LeafKind) → takes_items p ≡ true → c + 1 ≤ 100000 → is_leaf k ≡ true
+    → Runs (item_state n p c ps v cs e before) (leaf_line k ∷ []) (item_state (n + 1) among_items (c + 1) ps v cs e (before ++ record { line = n + 1; kind = item_kind k } ∷ []))
 unfolding leaf_line
-plain_run n p c ps v e before k takes few good =
-    goes_runs n p among_items c (drafted ps v [] before None e) (leaf_word k) (leaf_fields k) (λ m. contents.Plain k) few (leaf_served k) (leaf_back (plain_known v) k good) (leaf_goes p c k takes)
+plain_run n p c ps v cs e before k takes few good =
+    goes_runs n p among_items c (drafted ps v cs before None e) (leaf_word k) (leaf_fields k) (λ m. contents.Plain k) few (leaf_here (known_by v cs) k) (leaf_back (known_by v cs) k good) (leaf_goes p c k takes)
 
-single_run : (n : ℕ) (p : Phase) (c : ℕ) (ps : Params) (v : ℕ) (e : ℕ) (before : List Item) (line : ℕ) (k : ItemKind) → takes_items p ≡ true → c + 1 ≤ 100000 → is_single k ≡ true → is_item line k ≡ true → is_live_item k ≡ true
-    → Runs (item_state n p c ps v e before) (item_line k ∷ []) (item_state (n + 1) among_items (c + 1) ps v e (before ++ record { line = n + 1; kind = on_line_kind (n + 1) k } ∷ []))
-single_run n p c ps v e before line k takes few single good live =
-    goes_runs n p among_items c (drafted ps v [] before None e) (item_word k) (item_fields k) (λ m. contents.Item (on_line_kind m k)) few (live_served k live) (item_back (plain_known v) line k single good) (single_goes p c k takes single)
+single_run : (n : ℕ) (p : Phase) (c : ℕ) (ps : Params) (v : ℕ) (cs : List ClassLine) (e : ℕ) (before : List Item) (line : ℕ) (k : ItemKind) → takes_items p ≡ true → c + 1 ≤ 100000 → is_single k ≡ true → is_item line k ≡ true
+    → Runs (item_state n p c ps v cs e before) (item_line k ∷ []) (item_state (n + 1) among_items (c + 1) ps v cs e (before ++ record { line = n + 1; kind = on_line_kind (n + 1) k } ∷ []))
+single_run n p c ps v cs e before line k takes few single good =
+    goes_runs n p among_items c (drafted ps v cs before None e) (item_word k) (item_fields k) (λ m. contents.Item (on_line_kind m k)) few (item_here (known_by v cs) k) (item_back (known_by v cs) line k single good) (single_goes p c k takes single)
 
-item_run : (n : ℕ) (p : Phase) (c : ℕ) (ps : Params) (v : ℕ) (e : ℕ) (before : List Item) (line : ℕ) (k : ItemKind) → takes_items p ≡ true → c + weight_of k ≤ 100000 → is_item line k ≡ true → is_live_item k ≡ true
-    → Runs (item_state n p c ps v e before) (kind_lines v k) (item_state (n + weight_of k) among_items (c + weight_of k) ps v e (before ++ record { line = n + 1; kind = numbered_kind (n + 1) k } ∷ []))
+item_run : (n : ℕ) (p : Phase) (c : ℕ) (ps : Params) (v : ℕ) (cs : List ClassLine) (e : ℕ) (before : List Item) (line : ℕ) (k : ItemKind) → HasClasses v cs → has_known_class (numbers_of cs) k ≡ true → takes_items p ≡ true → c + weight_of k ≤ 100000 → is_item line k ≡ true
+    → Runs (item_state n p c ps v cs e before) (kind_lines v k) (item_state (n + weight_of k) among_items (c + weight_of k) ps v cs e (before ++ record { line = n + 1; kind = numbered_kind (n + 1) k } ∷ []))
 unfolding kind_lines numbered_kind leaf_line
-item_run n p c ps v e before line (items.Hbox name h d) takes few good live = plain_run n p c ps v e before (leaves.Hbox name h d) takes few good
-item_run n p c ps v e before line (items.Rule name h d) takes few good live = plain_run n p c ps v e before (leaves.Rule name h d) takes few good
-item_run n p c ps v e before line (items.Skip g) takes few good live = plain_run n p c ps v e before (leaves.Skip g) takes few good
-item_run n p c ps v e before line (items.Kern w) takes few good live = plain_run n p c ps v e before (leaves.Kern w) takes few good
-item_run n p c ps v e before line (items.Penalty k) takes few good live = plain_run n p c ps v e before (leaves.Penalty k) takes few good
-item_run n p c ps v e before line (items.Foot class ls) takes few good live =
-    subst (λ k. Runs (item_state n p c ps v e before) (kind_lines v (items.Foot k ls)) (item_state (n + (length ls + 2)) among_items (c + (length ls + 2)) ps v e (before ++ record { line = n + 1; kind = numbered_kind (n + 1) (items.Foot k ls) } ∷ [])))
-    (sym (eqb-true class 254 live)) (foot_run n p c ps v e before ls takes few good)
-item_run n p c ps v e before line k takes few good live = single_run n p c ps v e before line k takes few refl good live
+item_run n p c ps v cs e before line (items.Hbox name h d) has known takes few good = plain_run n p c ps v cs e before (leaves.Hbox name h d) takes few good
+item_run n p c ps v cs e before line (items.Rule name h d) has known takes few good = plain_run n p c ps v cs e before (leaves.Rule name h d) takes few good
+item_run n p c ps v cs e before line (items.Skip g) has known takes few good = plain_run n p c ps v cs e before (leaves.Skip g) takes few good
+item_run n p c ps v cs e before line (items.Kern w) has known takes few good = plain_run n p c ps v cs e before (leaves.Kern w) takes few good
+item_run n p c ps v cs e before line (items.Penalty k) has known takes few good = plain_run n p c ps v cs e before (leaves.Penalty k) takes few good
+item_run n p c ps v cs e before line (items.Foot class ls) has known takes few good = foot_run n p c ps v cs e before class ls has known takes few good
+item_run n p c ps v cs e before line k has known takes few good = single_run n p c ps v cs e before line k takes few refl good
 
 abbrev pub item_texts : ℕ → List Item → List (List ℕ)
 item_texts v [] = []
@@ -359,29 +325,29 @@ abbrev pub phase_past_items : Phase → List Item → Phase
 phase_past_items p [] = p
 phase_past_items p (i ∷ is) = among_items
 
-pub items_run : (n : ℕ) (p : Phase) (c : ℕ) (ps : Params) (v : ℕ) (e : ℕ) (before is : List Item) → takes_items p ≡ true → c + weight is ≤ 100000
-    → list_all (λ (i : Item). is_item i.line i.kind) is ≡ true → list_all (λ (i : Item). is_live_item i.kind) is ≡ true
-    → Runs (item_state n p c ps v e before) (item_texts v is) (item_state (n + weight is) (phase_past_items p is) (c + weight is) ps v e (before ++ numbered_items (n + 1) is))
+pub items_run : (n : ℕ) (p : Phase) (c : ℕ) (ps : Params) (v : ℕ) (cs : List ClassLine) (e : ℕ) (before is : List Item) → HasClasses v cs → takes_items p ≡ true → c + weight is ≤ 100000
+    → list_all (λ (i : Item). is_item i.line i.kind) is ≡ true → list_all (λ (i : Item). has_known_class (numbers_of cs) i.kind) is ≡ true
+    → Runs (item_state n p c ps v cs e before) (item_texts v is) (item_state (n + weight is) (phase_past_items p is) (c + weight is) ps v cs e (before ++ numbered_items (n + 1) is))
 unfolding numbered_items
-items_run n p c ps v e before [] takes few good live =
-    to_state (item_state n p c ps v e before) (item_state n p c ps v e before) (item_state (n + 0) p (c + 0) ps v e (before ++ [])) []
-    (same_items n (n + 0) p c (c + 0) ps v e before (before ++ []) (omega arith) (omega arith) (sym (no_more before)))
-    (no_lines (item_state n p c ps v e before))
-items_run n p c ps v e before (i ∷ is) takes few good live =
+items_run n p c ps v cs e before [] has takes few good known =
+    to_state (item_state n p c ps v cs e before) (item_state n p c ps v cs e before) (item_state (n + 0) p (c + 0) ps v cs e (before ++ [])) []
+    (same_items n (n + 0) p c (c + 0) ps v cs e before (before ++ []) (omega arith) (omega arith) (sym (no_more before)))
+    (no_lines (item_state n p c ps v cs e before))
+items_run n p c ps v cs e before (i ∷ is) has takes few good known =
     let k : ℕ = weight_of i.kind in
     let item : Item = record { line = n + 1; kind = numbered_kind (n + 1) i.kind } in
-    then_lines (item_state n p c ps v e before) (item_state (n + weight_of i.kind) among_items (c + weight_of i.kind) ps v e (before ++ item ∷ []))
-    (item_state (n + weight (i ∷ is)) among_items (c + weight (i ∷ is)) ps v e (before ++ item ∷ numbered_items (n + 1 + weight_of i.kind) is)) (kind_lines v i.kind) (item_texts v is)
-    (item_run n p c ps v e before i.line i.kind takes (omega arith)
-    (left_of (is_item i.line i.kind) (list_all (λ (j : Item). is_item j.line j.kind) is) good) (left_of (is_live_item i.kind) (list_all (λ (j : Item). is_live_item j.kind) is) live))
-    (to_state (item_state (n + weight_of i.kind) among_items (c + weight_of i.kind) ps v e (before ++ item ∷ []))
-    (item_state (n + weight_of i.kind + weight is) (phase_past_items among_items is) (c + weight_of i.kind + weight is) ps v e ((before ++ item ∷ []) ++ numbered_items (n + weight_of i.kind + 1) is))
-    (item_state (n + weight (i ∷ is)) among_items (c + weight (i ∷ is)) ps v e (before ++ item ∷ numbered_items (n + 1 + weight_of i.kind) is)) (item_texts v is)
-    (ap (λ ph. item_state (n + weight_of i.kind + weight is) ph (c + weight_of i.kind + weight is) ps v e ((before ++ item ∷ []) ++ numbered_items (n + weight_of i.kind + 1) is)) (still_items is)
-    ∙ same_items (n + weight_of i.kind + weight is) (n + weight (i ∷ is)) among_items (c + weight_of i.kind + weight is) (c + weight (i ∷ is)) ps v e ((before ++ item ∷ []) ++ numbered_items (n + weight_of i.kind + 1) is) (before ++ item ∷ numbered_items (n + 1 + weight_of i.kind) is)
+    then_lines (item_state n p c ps v cs e before) (item_state (n + weight_of i.kind) among_items (c + weight_of i.kind) ps v cs e (before ++ item ∷ []))
+    (item_state (n + weight (i ∷ is)) among_items (c + weight (i ∷ is)) ps v cs e (before ++ item ∷ numbered_items (n + 1 + weight_of i.kind) is)) (kind_lines v i.kind) (item_texts v is)
+    (item_run n p c ps v cs e before i.line i.kind has (left_of (has_known_class (numbers_of cs) i.kind) (list_all (λ (j : Item). has_known_class (numbers_of cs) j.kind) is) known) takes (omega arith)
+    (left_of (is_item i.line i.kind) (list_all (λ (j : Item). is_item j.line j.kind) is) good))
+    (to_state (item_state (n + weight_of i.kind) among_items (c + weight_of i.kind) ps v cs e (before ++ item ∷ []))
+    (item_state (n + weight_of i.kind + weight is) (phase_past_items among_items is) (c + weight_of i.kind + weight is) ps v cs e ((before ++ item ∷ []) ++ numbered_items (n + weight_of i.kind + 1) is))
+    (item_state (n + weight (i ∷ is)) among_items (c + weight (i ∷ is)) ps v cs e (before ++ item ∷ numbered_items (n + 1 + weight_of i.kind) is)) (item_texts v is)
+    (ap (λ ph. item_state (n + weight_of i.kind + weight is) ph (c + weight_of i.kind + weight is) ps v cs e ((before ++ item ∷ []) ++ numbered_items (n + weight_of i.kind + 1) is)) (still_items is)
+    ∙ same_items (n + weight_of i.kind + weight is) (n + weight (i ∷ is)) among_items (c + weight_of i.kind + weight is) (c + weight (i ∷ is)) ps v cs e ((before ++ item ∷ []) ++ numbered_items (n + weight_of i.kind + 1) is) (before ++ item ∷ numbered_items (n + 1 + weight_of i.kind) is)
     (omega arith) (omega arith) (append_assoc before (item ∷ []) (numbered_items (n + weight_of i.kind + 1) is) ∙ ap (λ m. before ++ item ∷ numbered_items m is) (omega arith)))
-    (items_run (n + weight_of i.kind) among_items (c + weight_of i.kind) ps v e (before ++ item ∷ []) is refl (omega arith)
-    (right_of (is_item i.line i.kind) (list_all (λ (j : Item). is_item j.line j.kind) is) good) (right_of (is_live_item i.kind) (list_all (λ (j : Item). is_live_item j.kind) is) live)))
+    (items_run (n + weight_of i.kind) among_items (c + weight_of i.kind) ps v cs e (before ++ item ∷ []) is has refl (omega arith)
+    (right_of (is_item i.line i.kind) (list_all (λ (j : Item). is_item j.line j.kind) is) good) (right_of (has_known_class (numbers_of cs) i.kind) (list_all (λ (j : Item). has_known_class (numbers_of cs) j.kind) is) known)))
   where
     still_items : (is : List Item) → phase_past_items among_items is ≡ among_items
     still_items [] = refl

@@ -1,8 +1,7 @@
 -- What a line says suits its word and its place, and lies in its ranges.
-use Rattle.std.proofs.Common.{◌≡◌, ℕ, Bool, true, false, ◌||◌, ◌==◌, nat_lt, nat_abs, length, List, [], ◌∷◌, Option, Some, None, Result, Ok, Err, IfOk, if◌then◌else◌, refl, sym, subst, ◌⊎◌, inl, inr, arith, pos, negsuc}
-use Rattle.std.specs.Prelude.{bytes_eq, codes}
-use Rattle.std.specs.List.{list_all, list_any}
-use Rattle.std.proofs.lemmas.Bool.Decides.{nat_tests}
+use Rattle.std.proofs.Common.{◌≡◌, ℕ, Bool, true, false, ◌||◌, ◌==◌, nat_lt, nat_abs, length, List, [], ◌∷◌, Option, Some, None, Result, Ok, Err, IfOk, if◌then◌else◌, refl, sym, subst, ◌⊎◌, inl, inr, pos, negsuc}
+use Rattle.std.specs.Prelude.{codes}
+use Rattle.std.specs.List.{list_all}
 use Rattle.tb_node.specs.Names.{is_name}
 use Rattle.tb_text.specs.Lines.{fields_of, is_skipped}
 use Rattle.tb_param.specs.declared.params.Params.{Params}
@@ -20,75 +19,14 @@ use Rattle.tb_galley.specs.declared.ItemKind.TheVariants as items
 use Rattle.tb_galley.specs.declared.LeafKind.{LeafKind}
 use Rattle.tb_galley.specs.declared.LeafKind.TheVariants as leaves
 use Rattle.tb_galley.specs.declared.fields.At.{At}
-use Rattle.tb_galley.specs.Words.{LineWord, header, setting, class_line, hbox, rule, skip, kern, penalty, mark, note, foot, endfoot, float, margin, newpage, clearpage, pagebreak, nopagebreak, onecolumn, twocolumn, suppressfloats, end, Phase, Line, line_at, content_at, Spelled, line_words, word_in, word_of, is_leaf_word, Known, word_here}
+use Rattle.tb_galley.specs.Words.{LineWord, header, setting, class_line, hbox, rule, skip, kern, penalty, mark, note, foot, endfoot, float, margin, newpage, clearpage, pagebreak, nopagebreak, onecolumn, twocolumn, suppressfloats, end, Phase, Line, line_at, content_at, is_leaf_word, Known, word_here}
 use Rattle.tb_galley.specs.Faults.{is_printable, place_causes, item_causes, missing_cause}
-use Rattle.tb_galley.specs.Grammar.{item_kind}
 use Rattle.tb_galley.specs.Reading.{Left, at_fault, settled, next_left, name_left, dimension_left, range_left, sized_left, glue_left, float_left, margin_left, area_left, value_left, set_by, set_left, choice_left, class_left, foot_left, mapped, end_left, finished, content_left}
 use Rattle.tb_galley.specs.Line.{first_of, Said, said, worded_left, content_line, content_lines, line_left}
 use Rattle.tb_galley.specs.Valid.{is_leaf, is_item, weight_of, lines_of_item, is_class, has_known_class}
 use Rattle.tb_galley.specs.Values.{is_class_among}
-use Rattle.tb_galley.specs.Live.{is_live_item}
 use Rattle.tb_galley.proofs.SameStep.{here_cases}
 use Rattle.tb_galley.proofs.InRange.{bind_has, then_has, mapped_has, has_more, settled_has, always, is_sized, sized_has, name_has, dimension_has, range_has, glue_has, float_has, is_float_at, margin_has, is_margin_at, value_has, degree_at_most, class_has, foot_has}
-
--- ---- the words that are served
-
-abbrev word_rank : LineWord → ℕ
-word_rank header = 0
-word_rank setting = 1
-word_rank hbox = 2
-word_rank rule = 3
-word_rank skip = 4
-word_rank kern = 5
-word_rank penalty = 6
-word_rank mark = 7
-word_rank note = 8
-word_rank foot = 9
-word_rank endfoot = 10
-word_rank float = 11
-word_rank margin = 12
-word_rank newpage = 13
-word_rank clearpage = 14
-word_rank pagebreak = 15
-word_rank nopagebreak = 16
-word_rank onecolumn = 17
-word_rank twocolumn = 18
-word_rank suppressfloats = 19
-word_rank end = 20
-word_rank class_line = 21
-
-abbrev is_spelling : LineWord → Spelled → Bool
-is_spelling w s = word_rank s.word == word_rank w
-
--- whether the word is one of the live words
-abbrev pub is_served : LineWord → Bool
-is_served w = list_any (is_spelling w) line_words
-
-same_number : (n : ℕ) → (n == n) ≡ true
-same_number n = grind (arith, nat_tests)
-
-among_by : (s : Spelled) (ws : List Spelled) (text : List ℕ) (w : LineWord) → (word_in ws text ≡ Some w → list_any (is_spelling w) ws ≡ true)
-    → (t : Bool) → (if t then Some s.word else word_in ws text) ≡ Some w → list_any (is_spelling w) (s ∷ ws) ≡ true
-among_by s ws text w later true h =
-    let same : s.word ≡ w = cc in
-    subst (λ v. list_any (is_spelling v) (s ∷ ws) ≡ true) same (here (word_rank s.word == word_rank s.word) (list_any (is_spelling s.word) ws) (same_number (word_rank s.word)))
-  where
-    here : (a b : Bool) → a ≡ true → (a || b) ≡ true
-    here true b h = refl
-    here false b h = cc
-among_by s ws text w later false h = there (is_spelling w s) (list_any (is_spelling w) ws) (later h)
-  where
-    there : (a b : Bool) → b ≡ true → (a || b) ≡ true
-    there true b h = refl
-    there false b h = h
-
-among : (ws : List Spelled) (text : List ℕ) (w : LineWord) → word_in ws text ≡ Some w → list_any (is_spelling w) ws ≡ true
-among [] text w h = cc
-among (s ∷ ws) text w h = among_by s ws text w (λ (e : word_in ws text ≡ Some w). among ws text w e) (bytes_eq s.text text) h
-
-found_served : (text : List ℕ) (w : LineWord) → word_of text ≡ Some w → is_served w ≡ true
-unfolding word_of
-found_served text w h = among line_words text w h
 
 -- ---- what a line may say by its word
 
@@ -110,12 +48,10 @@ is_single_word _ = false
 pub record LeafSaid (w : LineWord) (k : LeafKind) : Type 0 where
   pub word : is_leaf_word w ≡ true
   pub range : is_leaf k ≡ true
-  pub live : is_served w ≡ true → is_live_item (item_kind k) ≡ true
 
 pub record ItemSaid (n : ℕ) (w : LineWord) (k : ItemKind) : Type 0 where
   pub word : is_single_word w ≡ true
   pub range : is_item n k ≡ true
-  pub live : is_served w ≡ true → is_live_item k ≡ true
   pub weight : weight_of k ≡ 1
   pub lines : (lines_of_item n k ≡ []) ⊎ (lines_of_item n k ≡ n ∷ [])
   pub known : (ks : List ℕ) → has_known_class ks k ≡ true
@@ -166,24 +102,24 @@ content_suits k n header l = mapped_has (λ c. Suits k n header c) (λ b. conten
     some_version false = refl
 content_suits k n setting l = bind_has (λ x. Suits k n setting x.0) (next_left l) (λ x. set_by l.number x.1 (row_for k.version x.0)) (λ x. set_suits k n l.number x.1 x.0 (row_for k.version x.0) refl)
 content_suits k n class_line l = made_has k n class_line (λ c. is_class c ≡ true) (λ c. contents.Class c) (class_left n l) (class_has n l) (λ c h. (refl, h))
-content_suits k n hbox l = made_has k n hbox (λ s. is_sized s ≡ true) (λ s. contents.Plain (leaves.Hbox s.0 s.1 s.2)) (sized_left l) (sized_has l) (λ s h. record { word = refl; range = h; live = λ served. served })
-content_suits k n rule l = made_has k n rule (λ s. is_sized s ≡ true) (λ s. contents.Plain (leaves.Rule s.0 s.1 s.2)) (sized_left l) (sized_has l) (λ s h. record { word = refl; range = h; live = λ served. served })
-content_suits k n skip l = made_has k n skip (λ g. is_glue g ≡ true) (λ g. contents.Plain (leaves.Skip g)) (glue_left causes.UnknownWord l) (glue_has causes.UnknownWord l) (λ g h. record { word = refl; range = h; live = λ served. served })
-content_suits k n kern l = made_has k n kern (λ v. is_dimen v ≡ true) (λ v. contents.Plain (leaves.Kern v)) (dimension_left l) (dimension_has l) (λ v h. record { word = refl; range = h; live = λ served. served })
-content_suits k n penalty l = made_has k n penalty (λ v. is_within (negsuc 9999) (pos 10000) v ≡ true) (λ v. contents.Plain (leaves.Penalty v)) (range_left (negsuc 9999) (pos 10000) causes.Penalty l) (range_has (negsuc 9999) (pos 10000) causes.Penalty l) (λ v h. record { word = refl; range = h; live = λ served. served })
-content_suits k n mark l = made_has k n mark (λ m. is_name m ≡ true) (λ m. contents.Item (items.Mark m)) (name_left l) (name_has l) (λ m h. record { word = refl; range = h; live = λ served. served; weight = refl; lines = inl refl; known = λ ks. refl })
-content_suits k n note l = made_has k n note (λ m. is_name m ≡ true) (λ m. contents.Item (items.Note m)) (name_left l) (name_has l) (λ m h. record { word = refl; range = h; live = λ served. served; weight = refl; lines = inl refl; known = λ ks. refl })
+content_suits k n hbox l = made_has k n hbox (λ s. is_sized s ≡ true) (λ s. contents.Plain (leaves.Hbox s.0 s.1 s.2)) (sized_left l) (sized_has l) (λ s h. record { word = refl; range = h })
+content_suits k n rule l = made_has k n rule (λ s. is_sized s ≡ true) (λ s. contents.Plain (leaves.Rule s.0 s.1 s.2)) (sized_left l) (sized_has l) (λ s h. record { word = refl; range = h })
+content_suits k n skip l = made_has k n skip (λ g. is_glue g ≡ true) (λ g. contents.Plain (leaves.Skip g)) (glue_left causes.UnknownWord l) (glue_has causes.UnknownWord l) (λ g h. record { word = refl; range = h })
+content_suits k n kern l = made_has k n kern (λ v. is_dimen v ≡ true) (λ v. contents.Plain (leaves.Kern v)) (dimension_left l) (dimension_has l) (λ v h. record { word = refl; range = h })
+content_suits k n penalty l = made_has k n penalty (λ v. is_within (negsuc 9999) (pos 10000) v ≡ true) (λ v. contents.Plain (leaves.Penalty v)) (range_left (negsuc 9999) (pos 10000) causes.Penalty l) (range_has (negsuc 9999) (pos 10000) causes.Penalty l) (λ v h. record { word = refl; range = h })
+content_suits k n mark l = made_has k n mark (λ m. is_name m ≡ true) (λ m. contents.Item (items.Mark m)) (name_left l) (name_has l) (λ m h. record { word = refl; range = h; weight = refl; lines = inl refl; known = λ ks. refl })
+content_suits k n note l = made_has k n note (λ m. is_name m ≡ true) (λ m. contents.Item (items.Note m)) (name_left l) (name_has l) (λ m h. record { word = refl; range = h; weight = refl; lines = inl refl; known = λ ks. refl })
 content_suits k n foot l = made_has k n foot (λ c. is_class_among k.classes c ≡ true) (λ c. contents.Foot c) (foot_left k l) (foot_has k l) (λ c h. (refl, h))
 content_suits k n endfoot l = refl
-content_suits k n float l = made_has k n float (λ f. is_float_at n f ≡ true) (λ f. contents.Item (items.Float f.0 f.1)) (float_left n l) (float_has n l) (λ f h. record { word = refl; range = h; live = λ served. served; weight = refl; lines = inr refl; known = λ ks. refl })
-content_suits k n margin l = made_has k n margin (λ m. is_margin_at n m ≡ true) (λ m. contents.Item (items.Margin m.0 m.1)) (margin_left n l) (margin_has n l) (λ m h. record { word = refl; range = h; live = λ served. served; weight = refl; lines = inr refl; known = λ ks. refl })
-content_suits k n newpage l = record { word = refl; range = refl; live = λ served. served; weight = refl; lines = inl refl; known = λ ks. refl }
-content_suits k n clearpage l = record { word = refl; range = refl; live = λ served. served; weight = refl; lines = inl refl; known = λ ks. refl }
-content_suits k n pagebreak l = made_has k n pagebreak (λ v. is_within (pos 0) (pos 4) v ≡ true) (λ v. contents.Item (items.PageBreak (nat_abs v))) (range_left (pos 0) (pos 4) causes.Penalty l) (range_has (pos 0) (pos 4) causes.Penalty l) (λ v h. record { word = refl; range = degree_at_most v h; live = λ served. served; weight = refl; lines = inl refl; known = λ ks. refl })
-content_suits k n nopagebreak l = made_has k n nopagebreak (λ v. is_within (pos 0) (pos 4) v ≡ true) (λ v. contents.Item (items.NoPageBreak (nat_abs v))) (range_left (pos 0) (pos 4) causes.Penalty l) (range_has (pos 0) (pos 4) causes.Penalty l) (λ v h. record { word = refl; range = degree_at_most v h; live = λ served. served; weight = refl; lines = inl refl; known = λ ks. refl })
-content_suits k n onecolumn l = record { word = refl; range = refl; live = λ served. served; weight = refl; lines = inl refl; known = λ ks. refl }
-content_suits k n twocolumn l = record { word = refl; range = refl; live = λ served. served; weight = refl; lines = inl refl; known = λ ks. refl }
-content_suits k n suppressfloats l = mapped_has (λ c. Suits k n suppressfloats c) (λ a. contents.Item (items.Suppress a)) (area_left l) (always (λ x. record { word = refl; range = refl; live = λ served. served; weight = refl; lines = inl refl; known = λ ks. refl }) (area_left l))
+content_suits k n float l = made_has k n float (λ f. is_float_at n f ≡ true) (λ f. contents.Item (items.Float f.0 f.1)) (float_left n l) (float_has n l) (λ f h. record { word = refl; range = h; weight = refl; lines = inr refl; known = λ ks. refl })
+content_suits k n margin l = made_has k n margin (λ m. is_margin_at n m ≡ true) (λ m. contents.Item (items.Margin m.0 m.1)) (margin_left n l) (margin_has n l) (λ m h. record { word = refl; range = h; weight = refl; lines = inr refl; known = λ ks. refl })
+content_suits k n newpage l = record { word = refl; range = refl; weight = refl; lines = inl refl; known = λ ks. refl }
+content_suits k n clearpage l = record { word = refl; range = refl; weight = refl; lines = inl refl; known = λ ks. refl }
+content_suits k n pagebreak l = made_has k n pagebreak (λ v. is_within (pos 0) (pos 4) v ≡ true) (λ v. contents.Item (items.PageBreak (nat_abs v))) (range_left (pos 0) (pos 4) causes.Penalty l) (range_has (pos 0) (pos 4) causes.Penalty l) (λ v h. record { word = refl; range = degree_at_most v h; weight = refl; lines = inl refl; known = λ ks. refl })
+content_suits k n nopagebreak l = made_has k n nopagebreak (λ v. is_within (pos 0) (pos 4) v ≡ true) (λ v. contents.Item (items.NoPageBreak (nat_abs v))) (range_left (pos 0) (pos 4) causes.Penalty l) (range_has (pos 0) (pos 4) causes.Penalty l) (λ v h. record { word = refl; range = degree_at_most v h; weight = refl; lines = inl refl; known = λ ks. refl })
+content_suits k n onecolumn l = record { word = refl; range = refl; weight = refl; lines = inl refl; known = λ ks. refl }
+content_suits k n twocolumn l = record { word = refl; range = refl; weight = refl; lines = inl refl; known = λ ks. refl }
+content_suits k n suppressfloats l = mapped_has (λ c. Suits k n suppressfloats c) (λ a. contents.Item (items.Suppress a)) (area_left l) (always (λ x. record { word = refl; range = refl; weight = refl; lines = inl refl; known = λ ks. refl }) (area_left l))
 content_suits k n end l = refl
 
 -- ---- a whole line
@@ -194,7 +130,6 @@ pub record SaidSuits (p : Phase) (k : Known) (count n : ℕ) (w : Said) : Type 0
   pub items : first_of (item_causes count (Some w.word)) ≡ None
   pub suits : Suits k n w.word w.content
   pub here : word_here k (Some w.word) ≡ Some w.word
-  pub served : is_served w.word ≡ true
 
 abbrev pub IfSaid : (Said → Type 0) → Option Said → Type 0
 IfSaid P None = Unit {0}
@@ -208,38 +143,38 @@ said_has : (P : Said → Type 0) (w : LineWord) (r : Result Content At) → IfOk
 said_has P w (Ok c) h = h
 said_has P w (Err e) h = tt
 
-worded_suits : (p : Phase) (k : Known) (count : ℕ) (l : Line) (w : LineWord) → word_of l.head ≡ Some w → first_of (place_causes p (Some w)) ≡ None → first_of (item_causes count (Some w)) ≡ None
+worded_suits : (p : Phase) (k : Known) (count : ℕ) (l : Line) (w : LineWord) → first_of (place_causes p (Some w)) ≡ None → first_of (item_causes count (Some w)) ≡ None
     → word_here k (Some w) ≡ Some w → IfOk (worded_left k l (Some w)) (IfSaid (SaidSuits p k count l.number))
-worded_suits p k count l w found place fits here =
+worded_suits p k count l w place fits here =
     said_has (SaidSuits p k count l.number) w (finished (content_left k l.number w (record { number = 2; missing = missing_cause w; fields = l.fields })))
     (has_more (λ c. Suits k l.number w c) (λ c. SaidSuits p k count l.number (record { word = w; content = c })) (finished (content_left k l.number w (record { number = 2; missing = missing_cause w; fields = l.fields })))
-    (λ c h. record { place = place; items = fits; suits = h; here = here; served = found_served l.head w found })
+    (λ c h. record { place = place; items = fits; suits = h; here = here })
     (finished_has (λ c. Suits k l.number w c) (content_left k l.number w (record { number = 2; missing = missing_cause w; fields = l.fields })) (content_suits k l.number w (record { number = 2; missing = missing_cause w; fields = l.fields }))))
 
-here_suits : (p : Phase) (k : Known) (count : ℕ) (l : Line) (w : LineWord) → word_of l.head ≡ Some w → first_of (place_causes p (word_here k (Some w))) ≡ None → first_of (item_causes count (Some w)) ≡ None
+here_suits : (p : Phase) (k : Known) (count : ℕ) (l : Line) (w : LineWord) → first_of (place_causes p (word_here k (Some w))) ≡ None → first_of (item_causes count (Some w)) ≡ None
     → (word_here k (Some w) ≡ None) ⊎ (word_here k (Some w) ≡ Some w) → IfOk (worded_left k l (word_here k (Some w))) (IfSaid (SaidSuits p k count l.number))
-here_suits p k count l w found place fits (inl e) = subst (λ o. IfOk (worded_left k l o) (IfSaid (SaidSuits p k count l.number))) (sym e) tt
-here_suits p k count l w found place fits (inr e) =
-    subst (λ o. IfOk (worded_left k l o) (IfSaid (SaidSuits p k count l.number))) (sym e) (worded_suits p k count l w found (subst (λ o. first_of (place_causes p o) ≡ None) e place) fits e)
+here_suits p k count l w place fits (inl e) = subst (λ o. IfOk (worded_left k l o) (IfSaid (SaidSuits p k count l.number))) (sym e) tt
+here_suits p k count l w place fits (inr e) =
+    subst (λ o. IfOk (worded_left k l o) (IfSaid (SaidSuits p k count l.number))) (sym e) (worded_suits p k count l w (subst (λ o. first_of (place_causes p o) ≡ None) e place) fits e)
 
-word_suits : (p : Phase) (k : Known) (count : ℕ) (l : Line) (o : Option LineWord) → word_of l.head ≡ o → first_of (place_causes p (word_here k o)) ≡ None → first_of (item_causes count o) ≡ None
+word_suits : (p : Phase) (k : Known) (count : ℕ) (l : Line) (o : Option LineWord) → first_of (place_causes p (word_here k o)) ≡ None → first_of (item_causes count o) ≡ None
     → IfOk (worded_left k l (word_here k o)) (IfSaid (SaidSuits p k count l.number))
-word_suits p k count l None found place fits = tt
-word_suits p k count l (Some w) found place fits = here_suits p k count l w found place fits (here_cases k w)
+word_suits p k count l None place fits = tt
+word_suits p k count l (Some w) place fits = here_suits p k count l w place fits (here_cases k w)
 
-content_line_suits : (p : Phase) (k : Known) (count : ℕ) (l : Line) → word_of l.head ≡ l.word → IfOk (content_line p k count l) (IfSaid (SaidSuits p k count l.number))
+content_line_suits : (p : Phase) (k : Known) (count : ℕ) (l : Line) → IfOk (content_line p k count l) (IfSaid (SaidSuits p k count l.number))
 unfolding content_line
-content_line_suits p k count l found =
+content_line_suits p k count l =
     bind_has (IfSaid (SaidSuits p k count l.number)) (if list_all is_printable l.head then Ok (tt {0}) else at_fault 1 causes.NotAscii) _
     (λ a. then_has (λ x. first_of (place_causes p (word_here k l.word)) ≡ None) (IfSaid (SaidSuits p k count l.number)) (settled 1 (first_of (place_causes p (word_here k l.word))) (tt {0})) _
     (settled_has (λ x. first_of (place_causes p (word_here k l.word)) ≡ None) 1 (first_of (place_causes p (word_here k l.word))) (tt {0}) (λ e. e))
     (λ x place. then_has (λ y. first_of (item_causes count l.word) ≡ None) (IfSaid (SaidSuits p k count l.number)) (settled 1 (first_of (item_causes count l.word)) (tt {0})) _
     (settled_has (λ y. first_of (item_causes count l.word) ≡ None) 1 (first_of (item_causes count l.word)) (tt {0}) (λ e. e))
-    (λ y fits. word_suits p k count l l.word found place fits)))
+    (λ y fits. word_suits p k count l l.word place fits)))
 
 lines_suit : (p : Phase) (k : Known) (count n : ℕ) (fs : List (List ℕ)) (t : Bool) → IfOk (content_lines p k count (if t then [] else line_at n fs ∷ [])) (IfSaid (SaidSuits p k count n))
 lines_suit p k count n fs true = tt
-lines_suit p k count n fs false = content_line_suits p k count (line_at n fs) refl
+lines_suit p k count n fs false = content_line_suits p k count (line_at n fs)
 
 long_suits : (p : Phase) (k : Known) (count n : ℕ) (ls : List Line) (t : Bool) → IfOk (content_lines p k count ls) (IfSaid (SaidSuits p k count n)) → IfOk (if t then at_fault 0 causes.LineLength else content_lines p k count ls) (IfSaid (SaidSuits p k count n))
 long_suits p k count n ls true h = tt

@@ -10,6 +10,5 @@ pub mod SaidBy
 pub mod Print
 pub mod Expand
 pub mod Valid
-pub mod Live
 pub mod CauseText
 pub mod ReadBack

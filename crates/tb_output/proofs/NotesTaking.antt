@@ -1,53 +1,67 @@
--- The footnotes of a page that fired are in a list of their own.
-use Rattle.std.proofs.Common.{◌≡◌, ◌≢◌, refl, sym, subst, ◌∙◌, ap, ℕ, true, false, List, [], ◌∷◌, ◌++◌, map, Option, None, Some, is_none, arith}
-use Rattle.std.specs.Prelude.{◌==◌, ◌||◌}
+-- The insertions of a page are taken out of the boxes of their classes, class by class.
+use Rattle.std.proofs.Common.{◌≡◌, ◌≢◌, refl, sym, subst, ◌∙◌, ap, ℕ, true, false, List, [], ◌∷◌, ◌++◌, map, Option, Some, None, is_none}
+use Rattle.std.specs.List.{AllByRecursion}
 use Rattle.std.specs.FinMap.{get}
 use Rattle.std.proofs.lemmas.Bool.{true≢false}
-use Rattle.tb_pool.specs.Lists.{Lists, IsLive, list_at, with_list}
-use Rattle.tb_pool.proofs.CallerLemmas.{get_other, list_same, live_same}
+use Rattle.tb_pool.specs.Lists.{Lists, list_at, with_list}
+use Rattle.tb_pool.specs.Frame.{IsNoneOf, OnlyChanged}
+use Rattle.tb_pool.proofs.CallerLemmas.{get_other}
 use Rattle.tb_node.specs.declared.Node.{Node}
 use Rattle.tb_node.specs.declared.Kind.{Kind}
 use Rattle.tb_node.specs.declared.Kind.TheVariants as kinds
 use Rattle.tb_node.specs.Plain.{Leaf, leaf_of}
+use Rattle.tb_insert.specs.declared.Class.{Class}
 use Rattle.tb_builder.specs.declared.Builder.{Builder}
-use Rattle.tb_builder.specs.declared.ClassList.{ClassList}
-use Rattle.tb_builder.specs.Fired.{Boxed, content_of, box_content}
-use Rattle.tb_builder.specs.Contents.{Contents, contents_of, boxed_of}
-use Rattle.tb_builder.specs.Owned.{Lacks, has_class, ids_of, owned, is_plain, AllPlain}
+use Rattle.tb_builder.specs.Fired.{content_of, box_content}
+use Rattle.tb_builder.specs.Contents.{Contents, contents_of}
+use Rattle.tb_builder.specs.Owned.{Lacks, ids_of, owned, is_plain, AllPlain}
 use Rattle.tb_builder.specs.Running.{IsSound}
 use Rattle.tb_builder.specs.Handed.{NoPage, with_void, Taken}
-use Rattle.tb_builder.proofs.OwnedLemmas.{AllSame}
-use Rattle.tb_builder.proofs.FrameLemmas.{live_all_same, frame_owned, frame_contents, frame_sound, fresh_apart}
+use Rattle.tb_builder.proofs.FrameLemmas.{opened_same, opened_empty, opened_apart, frame_owned, frame_contents, frame_sound}
+use Rattle.tb_builder.proofs.StoreSized.{boxes_of}
+use Rattle.tb_column.specs.declared.NoteBox.{NoteBox}
 use Rattle.tb_column.specs.Page.{is_leaf_kind, AreLeaves}
-use Rattle.tb_output.specs.Firing.{foot_box}
-use Rattle.tb_output.specs.Serving.{notes_held, HasOnlyNotes, NotesTaken}
-use Rattle.tb_output.proofs.MachineLemmas.{not-new}
+use Rattle.tb_column.specs.Notes.{note_shown}
+use Rattle.tb_output.specs.State.{with_notes}
+use Rattle.tb_output.specs.Firing.{builder_lists}
+use Rattle.tb_output.specs.Notes.{IsLeafList, AreOwnLists, BoxesTaken}
+use Rattle.tb_output.proofs.ApartLemmas.{apart-none, none-lacks, lacks-none, not-live}
+use Rattle.tb_output.proofs.BuilderLemmas.{beside-owned, beside-sound}
+use Rattle.tb_output.proofs.VoidBoxes.{void-same}
 
--- ---- the box of the footnotes
+-- ---- no list was opened
 
--- boxes of which that of the footnotes is the only one
-pub only-notes : (bs : List Boxed) (notes : Option (List Leaf)) → bs ≡ foot_box notes → HasOnlyNotes bs
-only-notes bs notes e = e ∙ ap (λ (xs : List Boxed). foot_box (box_content xs 254)) (sym e)
+module _ (b : Builder) (store new : Lists Node) (sound : IsSound b store) (same : new.lists ≡ store.lists) where
+  nothing-changed : OnlyChanged [] [] store new
+  nothing-changed = λ q live none. (ap (λ m. get m q) same, tt)
 
-abbrev first_number : List Boxed → ℕ
-first_number [] = 0
-first_number (b ∷ bs) = b.number
+  pub unopened-sound : IsSound b new
+  unopened-sound = beside-sound b [] [] store new sound nothing-changed (apart-none (builder_lists b store))
 
--- their class is one of the builder's
-pub notes-known : (s : Lists Node) (es : List ClassList) (notes : Option (List Leaf)) → map (boxed_of s) es ≡ foot_box notes → has_class (map (λ e. e.class) es) 254 ≡ true
-notes-known s [] notes e = let h : 0 ≡ 254 = ap first_number e in absurd (omega (arith, h))
-notes-known s (e ∷ es) notes same = subst (λ k. ((k == 254) || has_class (map (λ x. x.class) es) 254) ≡ true) (sym (ap first_number same)) refl
+  pub unopened-frame : OnlyChanged (builder_lists b store) (builder_lists b new) store new
+  unopened-frame = λ q live none. (ap (λ m. get m q) same, subst (IsNoneOf q) (sym (beside-owned b [] [] store new sound nothing-changed (apart-none (builder_lists b store)))) none)
 
-none-is : {X : Type 0} (o : Option X) → is_none o ≡ true → o ≡ None
-none-is None h = refl
-none-is (Some x) h = absurd (true≢false (sym h))
+-- ---- the box of a class is void
+
+pub void-taken : (c : Class) (b : Builder) (store : Lists Node) → IsSound b store → box_content (contents_of b store).boxes c.number ≡ None → BoxesTaken (c ∷ []) [] b b store store
+void-taken c b store sound none = record {
+  contents = λ i. record (contents_of b store) { boxes = sym (void-same (contents_of b store).classes (contents_of b store).boxes c.number sound.own.classes (boxes_of store b.boxes.items) none) i };
+  shown = sym (ap (λ o. with_notes c o []) none);
+  lists = tt;
+  own = record { apart = tt; fresh = λ q live free. tt; free = tt };
+}
+
+pub is-void : (o : Option (List Leaf)) → is_none o ≡ true → o ≡ None
+is-void None h = refl
+is-void (Some x) h = absurd (true≢false (sym h))
 
 -- a box that is not void shows its nodes
-some-is : (o : Option (List Leaf)) (ls : List Leaf) → is_none o ≡ false → ls ≡ content_of o → Some ls ≡ o
-some-is None ls h e = absurd (true≢false h)
-some-is (Some xs) ls h e = ap Some e
+full-is : (o : Option (List Leaf)) (ls : List Leaf) → is_none o ≡ false → ls ≡ content_of o → Some ls ≡ o
+full-is None ls h e = absurd (true≢false h)
+full-is (Some xs) ls h e = ap (λ x. Some x) e
 
--- neither an insertion nor an act
+-- ---- the box of a class is taken into a list that was opened for it
+
 plain-leaf : (k : Kind) → is_plain k ≡ true → is_leaf_kind k
 plain-leaf (kinds.Hbox what h d) p = tt
 plain-leaf (kinds.Rule name h d) p = tt
@@ -60,70 +74,46 @@ plain-leaf kinds.Whatsit p = tt
 plain-leaf (kinds.Ins i) p = absurd (true≢false (sym p))
 plain-leaf (kinds.Act a) p = absurd (true≢false (sym p))
 
-pub plain-leaves : (ns : List Node) → AllPlain ns → AreLeaves ns
+plain-leaves : (ns : List Node) → AllPlain ns → AreLeaves ns
 plain-leaves [] h = tt
 plain-leaves (n ∷ ns) h = (plain-leaf n.kind h.0, plain-leaves ns h.1)
 
--- ---- the box is void
-
-pub none-taken : (b : Builder) (store : Lists Node) → IsSound b store → HasOnlyNotes (contents_of b store).boxes → true ≡ is_none (notes_held b store) → NotesTaken None b b store store
-none-taken b store sound only void = record {
-  sound = sound;
-  contents = λ i. record (contents_of b store) { boxes = (only ∙ ap foot_box none) i };
-  shown = sym none;
-  list = tt;
-  others = λ q live lacks. refl;
-  free = λ q live lacks. lacks;
-}
-  where
-    none : notes_held b store ≡ None
-    none = none-is (notes_held b store) (sym void)
-
--- ---- a list was opened for them
-
 module _ (b : Builder) (store mid : Lists Node) (l : ℕ) (sound : IsSound b store) (fresh : get store.lists l ≡ None) (opened : mid.lists ≡ with_list store l []) where
-  pub opened-stands : (q : ℕ) → IsLive store q → get mid.lists q ≡ get store.lists q
-  opened-stands q live = get_other store mid l [] q (λ e. not-new store l q fresh live (sym e)) opened
+  pub list-sound : IsSound b mid
+  list-sound = frame_sound b store mid sound (opened_same b store mid l sound fresh opened)
 
-  own-same : AllSame store mid (owned (ids_of b) store)
-  own-same = live_all_same store mid (owned (ids_of b) store) opened-stands sound.own.live
+  list-contents : contents_of b mid ≡ contents_of b store
+  list-contents = frame_contents b store mid sound (opened_same b store mid l sound fresh opened)
 
-  pub opened-sound : IsSound b mid
-  opened-sound = frame_sound b store mid sound own-same
+  list-owned : builder_lists b mid ≡ builder_lists b store
+  list-owned = frame_owned b store mid sound (opened_same b store mid l sound fresh opened)
 
-  pub opened-contents : contents_of b mid ≡ contents_of b store
-  opened-contents = frame_contents b store mid sound own-same
+  pub list-awaits : NoPage (contents_of b store) → NoPage (contents_of b mid)
+  list-awaits h = subst NoPage (sym list-contents) h
 
-  opened-owned : owned (ids_of b) mid ≡ owned (ids_of b) store
-  opened-owned = frame_owned b store mid sound own-same
+  module _ (c : Class) (n : NoteBox) (d : Builder) (new : Lists Node) (is : n ≡ record { class = c.number; skip = c.skip; list = l }) (full : is_none (box_content (contents_of b store).boxes c.number) ≡ false)
+      (contents : contents_of d new ≡ record (contents_of b mid) { boxes = with_void c.number (contents_of b mid).boxes }) (taken : Taken mid new l (box_content (contents_of b mid).boxes c.number))
+      (keeps : (q : ℕ) → Lacks q (owned (ids_of b) mid) → Lacks q (owned (ids_of d) new)) where
+    joined : list_at new l ≡ taken.nodes
+    joined = taken.joined ∙ ap (λ (ns : List Node). ns ++ taken.nodes) (opened_empty b store mid l sound fresh opened)
 
-  pub opened-lacks : (q : ℕ) → Lacks q (owned (ids_of b) store) → Lacks q (owned (ids_of b) mid)
-  opened-lacks q h = subst (Lacks q) (sym opened-owned) h
+    leaves : map leaf_of (list_at new l) ≡ content_of (box_content (contents_of b store).boxes c.number)
+    leaves = ap (map leaf_of) joined ∙ taken.leaves ∙ ap (λ (x : Contents). content_of (box_content x.boxes c.number)) list-contents
 
-  pub opened-awaits : NoPage (contents_of b store) → NoPage (contents_of b mid)
-  opened-awaits h = subst NoPage (sym opened-contents) h
-
-  pub opened-live : IsLive mid l
-  opened-live = live_same store mid l [] opened
-
-  pub opened-apart : Lacks l (owned (ids_of b) mid)
-  opened-apart = subst (Lacks l) (sym opened-owned) (fresh_apart (ids_of b) store l sound.own fresh)
-
-  -- they were taken
-  module _ (d : Builder) (new : Lists Node) (only : HasOnlyNotes (contents_of b store).boxes) (full : false ≡ is_none (notes_held b store)) where
-    pub some-taken : IsSound d new → contents_of d new ≡ record (contents_of b mid) { boxes = with_void 254 (contents_of b mid).boxes } → Taken mid new l (notes_held b mid)
-        → ((q : ℕ) → q ≢ l → Lacks q (owned (ids_of b) mid) → get new.lists q ≡ get mid.lists q) → ((q : ℕ) → Lacks q (owned (ids_of b) mid) → Lacks q (owned (ids_of d) new)) → NotesTaken (Some l) b d store new
-    some-taken after contents taken others keeps = record {
-      sound = after;
-      contents = contents ∙ (λ i. record (opened-contents i) { boxes = with_void 254 (opened-contents i).boxes }) ∙ (λ i. record (contents_of b store) { boxes = with_void 254 (only i) });
-      shown = some-is (notes_held b store) (map leaf_of (list_at new l)) (sym full) leaves;
-      list = (fresh, taken.live, plain-leaves (list_at new l) (subst AllPlain (sym joined) taken.plain_nodes), keeps l opened-apart);
-      others = λ q live lacks. others q (λ e. not-new store l q fresh live (sym e)) (subst (Lacks q) (sym opened-owned) lacks) ∙ opened-stands q live;
-      free = λ q live lacks. keeps q (subst (Lacks q) (sym opened-owned) lacks);
+    pub box-taken : BoxesTaken (c ∷ []) (n ∷ []) b d store new
+    box-taken = record {
+      contents = contents ∙ (λ i. record (list-contents i) { boxes = with_void c.number (list-contents i).boxes });
+      shown = ap (λ (x : NoteBox). note_shown new x ∷ []) is ∙ ap (λ o. with_notes c o []) (full-is (box_content (contents_of b store).boxes c.number) (map leaf_of (list_at new l)) full leaves);
+      lists = subst (λ (x : NoteBox). AllByRecursion (IsLeafList new) (x.list ∷ [])) (sym is) (record { live = taken.live; leaves = plain-leaves (list_at new l) (subst AllPlain (sym joined) taken.plain_nodes) }, tt);
+      own = subst (λ (x : NoteBox). AreOwnLists (x.list ∷ []) b d store new) (sym is) (record {
+        apart = (tt, tt);
+        fresh = λ q live free. ((λ e. not-live store l q fresh live (sym e)), tt);
+        free = (lacks-none l (builder_lists d new) (keeps l (opened_apart b store mid l sound fresh opened)), tt);
+      });
     }
-      where
-        joined : list_at new l ≡ taken.nodes
-        joined = taken.joined ∙ ap (λ (ns : List Node). ns ++ taken.nodes) (list_same store mid l [] opened)
 
-        leaves : map leaf_of (list_at new l) ≡ content_of (notes_held b store)
-        leaves = ap (map leaf_of) joined ∙ taken.leaves ∙ ap (λ (c : Contents). content_of (box_content c.boxes 254)) opened-contents
+    pub box-frame : ((q : ℕ) → q ≢ l → Lacks q (owned (ids_of b) mid) → get new.lists q ≡ get mid.lists q) → OnlyChanged (builder_lists b store) (builder_lists d new) store new
+    box-frame others = λ q live none.
+        let differ : q ≢ l = not-live store l q fresh live in
+        let lacks : Lacks q (owned (ids_of b) mid) = subst (Lacks q) (sym list-owned) (none-lacks q (builder_lists b store) none) in
+        (others q differ lacks ∙ get_other store mid l [] q differ opened, lacks-none q (builder_lists d new) (keeps q lacks))

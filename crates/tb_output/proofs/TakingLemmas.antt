@@ -8,7 +8,7 @@ use Rattle.tb_float.specs.declared.Entry.{Entry}
 use Rattle.tb_float.specs.declared.Entry.TheVariants as entries
 use Rattle.tb_float.specs.declared.Part.TheVariants as parts
 use Rattle.tb_float.specs.Lists.{live_count, without_place, HasFloatAt}
-use Rattle.tb_float.specs.Pool.{FloatPool, with_current, moved_float}
+use Rattle.tb_float.specs.Pool.{FloatPool, HasNoMarks, with_current, moved_float}
 use Rattle.tb_output.specs.Queue.{HasRoomFor}
 use Rattle.tb_output.specs.Acting.{taken_into}
 
@@ -28,6 +28,10 @@ one-more false f v = omega (arith, length-append v.lists.current (entries.Float 
 -- a warning may have taken the room of one box
 pub room-after : (p : Params) (f : Float) (v now : FloatPool) (a b : ℕ) → now ≡ taken_into p f v → HasRoomFor v a → a ≤ b + 1 → HasRoomFor now b
 room-after p f v now a b e room less = subst (λ x. HasRoomFor x b) (sym e) (let one = one-more (has_second p && f.wide) f v in omega (arith, one, room, less))
+
+-- what is put into the current list has no mark
+pub current-unmarked : (es : List Entry) (v now : FloatPool) → now ≡ with_current es v → HasNoMarks v → HasNoMarks now
+current-unmarked es v now e h = subst HasNoMarks (sym e) (record { deferred = h.deferred; second = h.second })
 
 -- ---- the last of the current list
 

@@ -1,5 +1,5 @@
 -- What the machine answers at an act, against the definition of an act.
-use Rattle.std.specs.Prelude.{◌≡◌, ◌≤◌, ◌<◌, ◌+◌, ℕ, ℤ, Bool, true, false, ◌&&◌, List, [], ◌∷◌, ◌++◌, map, None, if◌then◌else◌}
+use Rattle.std.specs.Prelude.{◌≡◌, ◌≤◌, ◌<◌, ◌+◌, ℕ, ℤ, Bool, true, false, ◌&&◌, List, [], ◌∷◌, ◌++◌, map, Option, None, if◌then◌else◌}
 use Rattle.tb_scaled.specs.Scaled.{min_ℤ}
 use Rattle.tb_pool.specs.Lists.{Lists}
 use Rattle.tb_node.specs.declared.Act.{Act}
@@ -15,14 +15,16 @@ use Rattle.tb_param.specs.declared.Params.{Params}
 use Rattle.tb_param.specs.Release.{has_second}
 use Rattle.tb_float.specs.declared.Entry.TheVariants as entries
 use Rattle.tb_float.specs.Lists.{live_count}
-use Rattle.tb_float.specs.Pool.{FloatPool, with_current}
+use Rattle.tb_float.specs.Pool.{FloatPool, HasNoMarks, with_current}
 use Rattle.tb_float.specs.Ranges.{IsSizedMargin}
+use Rattle.tb_column.specs.declared.Column.{Column}
 use Rattle.tb_column.specs.declared.Sent.{Sent}
 use Rattle.tb_column.specs.declared.Sent.TheVariants as events
 use Rattle.tb_column.specs.declared.Warn.{Warn}
 use Rattle.tb_output.specs.State.{State, no_suppress}
 use Rattle.tb_output.specs.Act.{Acted, went, full, lists_with_taken, large_warning, suppressed, act_on}
-use Rattle.tb_output.specs.Machine.{MachineView, state_shown, machine_lists, IsNotAmong}
+use Rattle.tb_pool.specs.Frame.{IsNoneOf}
+use Rattle.tb_output.specs.Machine.{MachineView, state_shown, left_lists, machine_lists}
 
 -- ---- what is asked
 
@@ -60,9 +62,16 @@ line_of (acts.TakeMargin m) = m.line
 line_of (acts.Suppress area) = 0
 line_of (acts.Columns two) = 0
 
+-- the list of a first column that waits, where the act changes the columns
+abbrev pub dropped_lists : Act → Option Column → List ℕ
+dropped_lists (acts.Take f) left = []
+dropped_lists (acts.TakeMargin m) left = []
+dropped_lists (acts.Suppress area) left = []
+dropped_lists (acts.Columns two) left = left_lists left
+
 -- a list that is none of the machine's before is none of it afterwards
 abbrev pub TakesNoList : MachineView → MachineView → Type 0
-TakesNoList m now = (q : ℕ) → IsNotAmong q (machine_lists m) → IsNotAmong q (machine_lists now)
+TakesNoList m now = (q : ℕ) → IsNoneOf q (machine_lists m) → IsNoneOf q (machine_lists now)
 
 -- ---- the machine after each act
 
@@ -96,10 +105,11 @@ with_suppressed area m = record m { suppress = suppressed m.suppress area }
 abbrev pub with_columns : Bool → MachineView → MachineView
 with_columns two m = record m { two_columns = two; first_column = true; left_column = None; suppress = no_suppress }
 
--- so many boxes had room in the pool, and the machine is the next one
+-- so many boxes had room in the pool, and the machine is the next one; no float is chosen, if none was
 pub record HasTaken (boxes : ℕ) (m next now : MachineView) : Type 0 where
   pub room : live_count m.pool.lists + boxes ≤ m.pool.size
   pub machine : now ≡ next
+  pub unmarked : HasNoMarks m.pool → HasNoMarks next.pool
 
 -- so many boxes had no room in the pool, which holds so many, and the machine is as before
 pub record HasNoRoom (boxes live : ℕ) (m now : MachineView) : Type 0 where

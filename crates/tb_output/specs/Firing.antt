@@ -1,140 +1,158 @@
--- What the machine answers at a firing, against the definition of a firing.
-use Rattle.std.specs.Prelude.{◌≡◌, ◌≢◌, ◌≤◌, ◌+◌, ℕ, ℤ, pos, ◌≤ℤ◌, ◌<ℤ◌, true, false, List, [], ◌∷◌, ◌++◌, length, take, All, Option, Some, None, int_lt, if◌then◌else◌}
-use Rattle.std.specs.FinMap.{get}
-use Rattle.tb_pool.specs.Lists.{Lists, IsLive, list_at}
+-- The firing of a page of a page builder, against the definition of a firing.
+use Rattle.std.specs.Prelude.{◌≡◌, ◌+◌, ◌≤◌, ℕ, ℤ, pos, neg_ℤ, ◌≤ℤ◌, ◌<ℤ◌, true, false, List, ◌∷◌, ◌++◌, length, take, All, Option, Some, None, int_lt, if◌then◌else◌}
+use Rattle.std.specs.List.{AllByRecursion}
+use Rattle.tb_pool.specs.Lists.{Lists, list_at}
+use Rattle.tb_pool.specs.Frame.{IsNoneOf, OnlyChanged}
 use Rattle.tb_node.specs.declared.Node.{Node}
-use Rattle.tb_node.specs.Fit.{IsSizedNode}
-use Rattle.tb_node.specs.Plain.{Leaf, PlainNode}
+use Rattle.tb_node.specs.Fit.{IsSizedLeaf}
 use Rattle.tb_param.specs.declared.Params.{Params}
+use Rattle.tb_builder.specs.declared.Builder.{Builder}
 use Rattle.tb_builder.specs.declared.Page.{Page}
-use Rattle.tb_builder.specs.Fired.{Boxed, Fired}
+use Rattle.tb_builder.specs.Fired.{Boxed, Fired, content_of}
+use Rattle.tb_builder.specs.Contents.{contents_of, box_count}
+use Rattle.tb_builder.specs.Owned.{ids_of, owned}
+use Rattle.tb_builder.specs.Running.{IsSound}
+use Rattle.tb_builder.specs.Handed.{ListJoins, NoPage}
 use Rattle.tb_column.specs.Shown.{nodes_shown}
-use Rattle.tb_column.specs.Page.{AreLeaves, IsPageList}
+use Rattle.tb_column.specs.Page.{IsPageList}
 use Rattle.tb_output.specs.declared.Turn.{Turn}
 use Rattle.tb_output.specs.declared.RunFault.{RunFault}
 use Rattle.tb_output.specs.declared.RunFault.TheVariants as faults
 use Rattle.tb_output.specs.State.{State, Work, begun}
-use Rattle.tb_output.specs.Out.{clear_penalty, output_by, next_goal, after_page}
-use Rattle.tb_output.specs.Footnotes.{CanJoin, notes_shown}
-use Rattle.tb_output.specs.Machine.{MachineView, state_shown, events_shown, machine_lists, IsNotAmong, IsFloatless}
+use Rattle.tb_output.specs.Out.{hold_penalty, output_by, next_goal, after_page, out}
+use Rattle.tb_output.specs.Machine.{MachineView, state_shown, events_shown, machine_lists, IsMachine}
+use Rattle.tb_output.specs.Keeping.{AreNoneOf, KeepsFields, IsBack, back_lists}
 
 -- ---- the work of a firing
 
--- the insertion boxes, where that of the footnotes holds this and there is no other
-abbrev pub foot_box : Option (List Leaf) → List Boxed
-foot_box notes = record { number = 254; content = notes } ∷ []
-
--- a page with this body, these footnotes and this penalty, after which nothing is held and nothing waits
-abbrev pub fired_page : List PlainNode → Option (List Leaf) → ℤ → Fired
-fired_page body notes penalty = record { body = body; boxes = foot_box notes; held = []; rest = []; penalty = penalty; cost = pos 0; size = pos 0; line = 0 }
-
--- a firing, without what is held and what waits
+-- a firing, without what waits after it
 unfoldable pub page_work : Params → State → Fired → Work
 page_work p s f = next_goal p f.penalty (output_by p f (begun (after_page s f)))
 
--- the firing of a page of a store
-abbrev pub firing_work : MachineView → Lists Node → Page → Option ℕ → Work
-firing_work m store page notes =
-    page_work m.params (state_shown store (foot_box None) [] m) (fired_page (nodes_shown store page.body) (notes_shown store notes) page.penalty)
+-- the page that fired of a builder, with what the builder holds after it
+abbrev pub fired_in : Builder → Lists Node → Page → Fired
+fired_in b store page = record {
+  body = nodes_shown store page.body;
+  boxes = (contents_of b store).boxes;
+  held = (contents_of b store).held;
+  rest = (contents_of b store).waiting;
+  penalty = page.penalty;
+  cost = page.cost;
+  size = page.size;
+  line = page.line;
+}
 
--- ---- a page that the machine serves
+-- the state that a machine and a builder stand for
+abbrev pub state_in : MachineView → Builder → Lists Node → State
+state_in m b store = state_shown store (contents_of b store).boxes (contents_of b store).waiting m
 
--- the nodes of the footnotes, where there are any
-abbrev pub note_nodes : Lists Node → Option ℕ → List Node
-note_nodes store None = []
-note_nodes store (Some l) = list_at store l
+-- what the definition does at the firing of the page
+abbrev pub whole_work : MachineView → Builder → Lists Node → Page → Work
+whole_work m b store page = out m.params (state_in m b store) (fired_in b store page)
 
--- the list is not that of the footnotes
-abbrev pub IsNotNotes : ℕ → Option ℕ → Type 0
-IsNotNotes q None = Unit {0}
-IsNotNotes q (Some l) = q ≢ l
+-- ---- what is asked
 
--- the footnotes' list is none of these
-abbrev pub AreNotesApart : Option ℕ → List ℕ → Type 0
-AreNotesApart None ls = Unit {0}
-AreNotesApart (Some l) ls = IsNotAmong l ls
+-- how far down the marginal notes of a column may reach: less than 2^54 - 2^32 in absolute value
+pub record IsReach (z : ℤ) : Type 0 where
+  pub low : neg_ℤ (pos 18014394214514688) <ℤ z
+  pub high : z <ℤ pos 18014394214514688
 
--- the lists of a text column: sized nodes that are neither insertions nor acts, so many at most, in lists that are none of the machine's
-pub record AreTextLists (most : ℕ) (m : MachineView) (store : Lists Node) (body : ℕ) (notes : Option ℕ) : Type 0 where
-  pub live : IsLive store body
-  pub leaves : AreLeaves (list_at store body)
-  pub sized : All IsSizedNode (list_at store body)
-  pub joins : CanJoin store body notes
-  pub sized_notes : All IsSizedNode (note_nodes store notes)
-  pub few : length (list_at store body) + length (note_nodes store notes) ≤ most
-  pub body_apart : IsNotAmong body (machine_lists m)
-  pub notes_apart : AreNotesApart notes (machine_lists m)
+-- the lists of a builder
+abbrev pub builder_lists : Builder → Lists Node → List ℕ
+builder_lists b store = owned (ids_of b) store
 
--- a page that the machine serves: there are no floats, the penalty is none of a float or note, and there is room for the glue of a clear
-pub record CanServe (m : MachineView) (store : Lists Node) (page : Page) (notes : Option ℕ) : Type 0 where
-  pub floatless : IsFloatless m store
-  pub penalty : clear_penalty ≤ℤ page.penalty
-  pub lists : AreTextLists 8355839 m store page.body notes
+-- the nodes of each box are sized
+abbrev pub AreSizedBoxes : List Boxed → Type 0
+AreSizedBoxes bs = AllByRecursion (λ b. All IsSizedLeaf (content_of b.content)) bs
 
--- ---- what stands after a firing
+-- a page that fired of the builder, which awaits its `put_back`: the builder's classes are the machine's, the penalty is none below those of the routine,
+-- the nodes of page, boxes and held page are sized and not too many, and its list, the machine's and the builder's are apart
+pub record CanFire (m : MachineView) (b : Builder) (store : Lists Node) (page : Page) : Type 0 where
+  pub awaits : NoPage (contents_of b store)
+  pub classes : (contents_of b store).classes ≡ m.classes
+  pub penalty : hold_penalty ≤ℤ page.penalty
+  pub note_bottom : IsReach m.note_bottom
+  pub body : IsPageList store page.body
+  pub boxes : AreSizedBoxes (contents_of b store).boxes
+  pub few : length (list_at store page.body) + length (list_at store m.held_page) + box_count (contents_of b store).boxes ≤ 8355839
+  pub body_apart : IsNoneOf page.body (machine_lists m)
+  pub body_free : IsNoneOf page.body (builder_lists b store)
+  pub machine_free : AreNoneOf (machine_lists m) (builder_lists b store)
 
--- the fault that stands, or that as many firings as may be were without a page
-abbrev pub standing_or : MachineView → Option RunFault → Option RunFault
-standing_or m None = if int_lt (pos m.dead_cycles) m.params.maxdeadcycles then None else Some (faults.DeadCycles m.dead_cycles)
-standing_or m (Some e) = Some e
+-- ---- what holds after a firing
 
--- why a machine begins no firing, where it does not
-abbrev pub refusal_of : MachineView → Option RunFault
-refusal_of m = standing_or m m.fault
-
--- a turn is the work of the firing: what is put back, what is sent, and the state
-pub record IsTurn (t : Turn) (m now : MachineView) (store new : Lists Node) (w : Work) : Type 0 where
+-- the turn is the work of the definition: what is put back, what is sent, and the state, where what waits is that of the work
+pub record IsFired (t : Turn) (m now : MachineView) (b : Builder) (store new : Lists Node) (w : Work) : Type 0 where
   pub alive : pos m.dead_cycles <ℤ m.params.maxdeadcycles
   pub served : w.refused ≡ false
   pub put_back : nodes_shown new t.put_back ≡ w.put_back
-  pub goal : t.goal ≡ w.state.goal
   pub sent : events_shown new now.events ≡ events_shown store m.events ++ w.sent
-  pub state : state_shown new (foot_box None) [] now ≡ w.state
+  pub state : state_shown new (contents_of b new).boxes w.state.waiting now ≡ w.state
 
--- as many firings as may be were without a page; nothing changed
-pub record AtDeadCycles (n : ℕ) (m now : MachineView) (store new : Lists Node) : Type 0 where
-  pub count : n ≡ m.dead_cycles
-  pub reached : m.params.maxdeadcycles ≤ℤ pos m.dead_cycles
+-- the list may be handed to the builder's `put_back`, which it awaits, and the machine's lists are none of the builder's
+pub record CanGoBack (l : ℕ) (m : MachineView) (b : Builder) (store : Lists Node) : Type 0 where
+  pub back : IsBack l m store
+  pub awaits : NoPage (contents_of b store)
+  pub joins : ListJoins (ids_of b) store l
+  pub machine_free : AreNoneOf (machine_lists m) (builder_lists b store)
+
+-- the fault of a machine, or that as many firings as may be were without a page
+abbrev pub fault_or_cycles : MachineView → Option RunFault → Option RunFault
+fault_or_cycles m None = if int_lt (pos m.dead_cycles) m.params.maxdeadcycles then None else Some (faults.DeadCycles m.dead_cycles)
+fault_or_cycles m (Some e) = Some e
+
+-- why a machine begins no firing, where it does not
+abbrev pub refusal_of : MachineView → Option RunFault
+refusal_of m = fault_or_cycles m m.fault
+
+-- nothing changed
+pub record IsUntouched (m now : MachineView) (b later : Builder) (store new : Lists Node) : Type 0 where
   pub machine : now ≡ m
+  pub builder : later ≡ b
   pub lists : new ≡ store
 
--- the firing was to ship a page where as many as may be were shipped; what it sent before can be taken
-pub record AtPageLimit (n : ℕ) (m now : MachineView) (store new : Lists Node) (w : Work) : Type 0 where
+-- as many firings as may be were without a page; nothing changed
+pub record AtDeadCycles (n : ℕ) (m now : MachineView) (b later : Builder) (store new : Lists Node) : Type 0 where
+  pub count : n ≡ m.dead_cycles
+  pub reached : m.params.maxdeadcycles ≤ℤ pos m.dead_cycles
+  pub untouched : IsUntouched m now b later store new
+
+-- the firing was to ship a page when as many as may be were shipped; what it sent before can be taken
+pub record AtLastPage (n : ℕ) (m now : MachineView) (store new : Lists Node) (w : Work) : Type 0 where
   pub alive : pos m.dead_cycles <ℤ m.params.maxdeadcycles
   pub refused : w.refused ≡ true
   pub pages : n + 1 ≡ w.state.page
   pub sent : events_shown new now.events ≡ events_shown store m.events ++ w.sent
-  pub stands : now.fault ≡ Some (faults.PageLimit n)
+  pub kept : now.fault ≡ Some (faults.PageLimit n)
 
 -- there was no memory; of what the firing sends the first so many can be taken
-pub record WithoutMemory (m now : MachineView) (store new : Lists Node) (w : Work) : Type 0 where
+pub record OutOfMemory (m now : MachineView) (store new : Lists Node) (w : Work) : Type 0 where
   pub alive : pos m.dead_cycles <ℤ m.params.maxdeadcycles
   pub count : ℕ
   pub sent : events_shown new now.events ≡ events_shown store m.events ++ take count w.sent
-  pub stands : now.fault ≡ Some faults.Memory
+  pub kept : now.fault ≡ Some faults.Memory
 
--- the cause of a refusal, and what stands after it
-abbrev pub IsRefusal : RunFault → MachineView → MachineView → Lists Node → Lists Node → Work → Type 0
-IsRefusal (faults.DeadCycles n) m now store new w = AtDeadCycles n m now store new
-IsRefusal (faults.PageLimit n) m now store new w = AtPageLimit n m now store new w
-IsRefusal faults.Memory m now store new w = WithoutMemory m now store new w
+-- the cause of a refusal, and what holds after it
+abbrev pub IsRefusal : RunFault → MachineView → MachineView → Builder → Builder → Lists Node → Lists Node → Work → Type 0
+IsRefusal (faults.DeadCycles n) m now b later store new w = AtDeadCycles n m now b later store new
+IsRefusal (faults.PageLimit n) m now b later store new w = AtLastPage n m now store new w
+IsRefusal faults.Memory m now b later store new w = OutOfMemory m now store new w
 
--- why a firing that was begun was not ended, and what stands then
-abbrev pub IsCutShort : RunFault → MachineView → MachineView → Lists Node → Lists Node → Work → Type 0
-IsCutShort (faults.DeadCycles n) m now store new w = ⊥
-IsCutShort (faults.PageLimit n) m now store new w = AtPageLimit n m now store new w
-IsCutShort faults.Memory m now store new w = WithoutMemory m now store new w
+-- machine and builder are sound, with parameters and classes as before, and of the lists that were live only the page's and their own changed, or are their own now
+pub record KeepsAll (body : ℕ) (m now : MachineView) (b later : Builder) (store new : Lists Node) : Type 0 where
+  pub machine : IsMachine now new
+  pub builder : IsSound later new
+  pub frame : OnlyChanged (body ∷ builder_lists b store ++ machine_lists m) (builder_lists later new ++ machine_lists now) store new
+  pub params : now.params ≡ m.params
+  pub classes : now.classes ≡ m.classes
 
--- the list that goes back after a page with this body: such as that of a page, none of the machine's, and no other list that was live
-pub record IsPutBack (m : MachineView) (store new : Lists Node) (body l : ℕ) : Type 0 where
-  pub list : IsPageList new l
-  pub apart : IsNotAmong l (machine_lists m)
-  pub own : (q : ℕ) → q ≢ body → IsLive store q → l ≢ q
+-- ---- a firing that was begun, with the list that goes back
 
--- each other list that was live is as before
-abbrev pub OthersStand : Lists Node → Lists Node → ℕ → Option ℕ → Type 0
-OthersStand store new body notes = (q : ℕ) → q ≢ body → IsNotNotes q notes → IsLive store q → get new.lists q ≡ get store.lists q
-
--- a list that is neither the machine's nor the body's is none of the machine's afterwards
-abbrev pub TakesBody : ℕ → MachineView → MachineView → Type 0
-TakesBody body m now = (q : ℕ) → q ≢ body → IsNotAmong q (machine_lists m) → IsNotAmong q (machine_lists now)
+-- the same, and the fault is as before
+pub record KeepsServing (body l : ℕ) (m now : MachineView) (b later : Builder) (store new : Lists Node) : Type 0 where
+  pub machine : IsMachine now new
+  pub builder : IsSound later new
+  pub back : IsBack l now new
+  pub apart : AreNoneOf (back_lists new l ++ machine_lists now) (builder_lists later new)
+  pub frame : OnlyChanged (body ∷ builder_lists b store ++ (back_lists store l ++ machine_lists m)) (builder_lists later new ++ (back_lists new l ++ machine_lists now)) store new
+  pub fields : KeepsFields m now

@@ -1,16 +1,17 @@
 -- The output routine's machine as contracts see it.
-use Rattle.std.specs.Prelude.{◌≡◌, ◌≢◌, ◌≤◌, ◌<◌, ℕ, ℤ, pos, ◌≤ℤ◌, Bool, true, false, List, [], ◌∷◌, ◌++◌, map, Option, Some, None}
+use Rattle.std.specs.Prelude.{◌≡◌, ◌≤◌, ℕ, suc, ℤ, pos, ◌≤ℤ◌, Bool, false, List, [], ◌∷◌, ◌++◌, map, Option, Some, None, IsSome}
 use Rattle.std.specs.List.{AllByRecursion}
-use Rattle.tb_pool.specs.Lists.{Lists, list_at}
+use Rattle.tb_pool.specs.Lists.{Lists}
 use Rattle.tb_node.specs.declared.Node.{Node}
 use Rattle.tb_node.specs.Plain.{PlainNode}
-use Rattle.tb_node.specs.Fit.{IsExtent}
+use Rattle.tb_node.specs.Fit.{IsDimension, IsExtent, IsPenalty}
 use Rattle.tb_param.specs.declared.Params.{Params}
 use Rattle.tb_insert.specs.declared.Class.{Class}
 use Rattle.tb_builder.specs.Fired.{Boxed}
+use Rattle.tb_builder.specs.Pageable.{IsGoal}
 use Rattle.tb_float.specs.declared.Suppress.{Suppress}
-use Rattle.tb_float.specs.Lists.{no_floats}
-use Rattle.tb_float.specs.Pool.{FloatPool}
+use Rattle.tb_float.specs.Pool.{FloatPool, HasNoMarks}
+use Rattle.tb_float.specs.Ranges.{IsShare}
 use Rattle.tb_column.specs.declared.Column.{Column}
 use Rattle.tb_column.specs.declared.Sheet.{Sheet}
 use Rattle.tb_column.specs.declared.Sheet.TheVariants as sheets
@@ -18,12 +19,13 @@ use Rattle.tb_column.specs.declared.Sent.{Sent}
 use Rattle.tb_column.specs.declared.Sent.TheVariants as events
 use Rattle.tb_column.specs.Column.{PlainColumn, PlainSent}
 use Rattle.tb_column.specs.Shown.{nodes_shown, column_shown, sent_shown}
+use Rattle.tb_column.specs.Notes.{AreDistinct}
 use Rattle.tb_column.specs.Page.{IsPageList, IsPageColumn}
-use Rattle.tb_column.specs.Ranges.{AreColumnParams}
+use Rattle.tb_column.specs.Ranges.{IsSizedGlue, AreColumnParams}
 use Rattle.tb_output.specs.declared.RunFault.{RunFault}
-use Rattle.tb_output.specs.State.{State, no_suppress, foot_class}
+use Rattle.tb_output.specs.State.{State}
 
--- between two firings: the state of the routine, with its classes of insertions, the names of its lists, the events that were not taken yet, and the fault that ended the run
+-- between two firings: the state of the routine, with the names of its lists, the events that were not taken yet, and the fault that ended the run
 pub record MachineView : Type 0 where
   pub params : Params
   pub classes : List Class
@@ -96,32 +98,23 @@ left_lists (Some c) = c.list ∷ []
 abbrev pub machine_lists : MachineView → List ℕ
 machine_lists m = m.held_page ∷ left_lists m.left_column ++ event_lists m.events
 
--- none of these is the list
-abbrev pub IsNotAmong : ℕ → List ℕ → Type 0
-IsNotAmong l qs = AllByRecursion (λ q. q ≢ l) qs
-
--- no two of these are the same
-abbrev pub AreDistinct : List ℕ → Type 0
-AreDistinct [] = Unit {0}
-AreDistinct (l ∷ ls) = IsNotAmong l ls × AreDistinct ls
-
--- all lists of a page are such
+-- all lists of a page may stand on one
 abbrev pub IsPageSheet : Lists Node → Sheet → Type 0
 IsPageSheet store (sheets.One c) = IsPageColumn store c
 IsPageSheet store (sheets.Wide c) = IsPageColumn store c
 IsPageSheet store (sheets.Two tops at left right) = IsPageList store tops × IsPageColumn store left × IsPageColumn store right
 
--- all lists of an event are such
+-- all lists of an event may stand on a page
 abbrev pub IsPageSent : Lists Node → Sent → Type 0
 IsPageSent store (events.Warn w) = Unit {0}
 IsPageSent store (events.Ship page sheet) = IsPageSheet store sheet
 
--- the list of the left column is such, where there is one
+-- the list of the left column may stand on a page, if there is one
 abbrev pub IsPageLeft : Lists Node → Option Column → Type 0
 IsPageLeft store None = Unit {0}
 IsPageLeft store (Some c) = IsPageColumn store c
 
--- ---- what stands between two calls
+-- ---- what holds between two calls
 
 -- a limit on pages or firings
 pub record IsLimit (z : ℤ) : Type 0 where
@@ -136,38 +129,35 @@ pub record IsPoolSize (z : ℤ) : Type 0 where
 -- the parameters of the routine lie in their ranges
 pub record AreOutputParams (p : Params) : Type 0 where
   pub columns : AreColumnParams p
+  pub floatpagefraction : IsShare p.floatpagefraction
+  pub dblfloatpagefraction : IsShare p.dblfloatpagefraction
+  pub baselineskip : IsExtent p.baselineskip
+  pub intextsep : IsSizedGlue p.intextsep
+  pub parskip : IsSizedGlue p.parskip
+  pub interlinepenalty : IsPenalty p.interlinepenalty
+  pub marginparpush : IsExtent p.marginparpush
   pub splitmaxdepth : IsExtent p.splitmaxdepth
   pub maxdeadcycles : IsLimit p.maxdeadcycles
   pub maxpages : IsLimit p.maxpages
   pub pool : IsPoolSize p.pool
 
--- the classes in rising number, that of the footnotes last
-abbrev pub AreOutputClasses : Params → List Class → Type 0
-AreOutputClasses p [] = ⊥
-AreOutputClasses p (c ∷ []) = c ≡ foot_class p
-AreOutputClasses p (c ∷ d ∷ cs) = (c.number < d.number) × AreOutputClasses p (d ∷ cs)
+-- the numbers of the classes rise strictly from this one on, and the amounts of their glue are dimensions
+abbrev pub AreClassesFrom : ℕ → List Class → Type 0
+AreClassesFrom k [] = Unit {0}
+AreClassesFrom k (c ∷ cs) = (k ≤ c.number) × IsSizedGlue c.skip × AreClassesFrom (suc c.number) cs
 
--- the parameters, the classes and the page's number are in their ranges, the pool is as large as the parameters say, and the machine's lists are lists of pages,
--- no two of them the same
+-- the parameters, the classes and the page's number are in their ranges, the pool is as large as the parameters say and chooses no float,
+-- a second column has a first one, and the machine's lists may stand on pages, no two of them the same
 pub record IsMachine (m : MachineView) (store : Lists Node) : Type 0 where
   pub params : AreOutputParams m.params
-  pub classes : AreOutputClasses m.params m.classes
+  pub classes : AreClassesFrom 0 m.classes
+  pub goal : IsGoal m.goal
   pub first : 1 ≤ m.page
   pub last : m.page ≤ 4194305
   pub pool : pos m.pool.size ≡ m.params.pool
+  pub unmarked : HasNoMarks m.pool
+  pub left : m.first_column ≡ false → IsSome m.left_column
   pub held_page : IsPageList store m.held_page
   pub left_column : IsPageLeft store m.left_column
   pub events : AllByRecursion (IsPageSent store) m.events
   pub apart : AreDistinct (machine_lists m)
-
--- as in a run without floats and marginal notes, whose insertions are footnotes alone: one column, and all lists of floats and the held page are empty
-pub record IsFloatless (m : MachineView) (store : Lists Node) : Type 0 where
-  pub classes : m.classes ≡ foot_class m.params ∷ []
-  pub floats : m.pool.lists ≡ no_floats
-  pub held_page : list_at store m.held_page ≡ []
-  pub goal : m.goal ≡ m.params.textheight
-  pub two_columns : m.two_columns ≡ false
-  pub first_column : m.first_column ≡ true
-  pub left_column : m.left_column ≡ None
-  pub note_bottom : m.note_bottom ≡ pos 0
-  pub suppress : m.suppress ≡ no_suppress

@@ -10,10 +10,12 @@ ghost use Rattle.tb_scaled.specs.Scaled.{min_ℤ};
 ghost use Rattle.tb_builder.specs.Fired.{Boxed};
 ghost use Rattle.tb_param.specs.Release.{has_second};
 ghost use Rattle.tb_float.specs.Lists.{live_count};
+ghost use Rattle.tb_float.specs.Pool.{HasNoMarks};
 ghost use Rattle.tb_float.specs.Ranges.{IsSizedMargin};
 ghost use Rattle.tb_output.specs.Act.{full, large_warning, suppressed};
-ghost use Rattle.tb_output.specs.Machine.{AreOutputParams, IsMachine};
-ghost use Rattle.tb_output.specs.Acting.{IsSizedAct, IsActed, acted_in, line_of, TakesNoList, HasTaken, HasNoRoom, clipped, taken_into, with_float, with_note, with_suppressed, with_columns};
+ghost use Rattle.tb_output.specs.Keeping.{AreNoneOf};
+ghost use Rattle.tb_output.specs.Machine.{AreOutputParams, IsMachine, machine_lists};
+ghost use Rattle.tb_output.specs.Acting.{IsSizedAct, IsActed, acted_in, line_of, TakesNoList, dropped_lists, HasTaken, HasNoRoom, clipped, taken_into, with_float, with_note, with_suppressed, with_columns};
 
 use crate::Machine;
 use crate::state::no_suppress;
@@ -21,13 +23,15 @@ use tb_column::Warn;
 use tb_float::{Full, Part, Pool, Suppress};
 use tb_node::{Act, Area, Float, Margin};
 use tb_param::Params;
+use tb_pool::ListId;
 
 impl Machine {
     /// Does what an act says, when the page builder reaches it. It takes no memory: room is kept for the warning that a
     /// float is higher than a page.
     ///
     /// Full exactly where the pool has no room for the float, or for both boxes of the marginal note; nothing changes
-    /// then. At a change of columns a first column that waits is dropped, and its list stays in the store.
+    /// then. At a change of columns a first column that waits is dropped; its list, which `dropped_by` names before the act,
+    /// stays in the store.
     pub fn act(&mut self, a: Act) -> Result<(), Full>
         requires params { AreOutputParams self.old.params }
         requires pool { pos self.old.pool.size ≡ self.old.params.pool }
@@ -43,6 +47,7 @@ impl Machine {
         ensures size { self.new.pool.size ≡ self.old.pool.size }
         ensures marks { self.new.pool.marks ≡ self.old.pool.marks }
         ensures lists { TakesNoList self.old self.new }
+        ensures dropped { (store : ListMap NodeValue) → IsMachine self.old store → AreNoneOf (dropped_lists a self.old.left_column) (machine_lists self.new) }
     {
         match a {
             Act::Take(f) => self.take_float(f),
@@ -56,6 +61,18 @@ impl Machine {
                 Ok(())
             }
         }
+    }
+
+    /// The list of a first column that waits for the second, where the act changes the columns. It is the caller's after the
+    /// act.
+    pub fn dropped_by(&self, a: &Act) -> Option<ListId>
+        ensures { option_to_list result ≡ dropped_lists a.now self.now.left_column }
+    {
+        let Act::Columns { two: _ } = a else {
+            return None;
+        };
+        let left = self.left_column?;
+        Some(left.list)
     }
 
     // A float is taken, with a warning where it is higher than a page.
@@ -105,6 +122,7 @@ fn take_into(pool: &mut Pool, p: &Params, f: Float) -> Result<(), Full>
     requires { IsExtent f.height }
     ensures room { OnOk result (live_count pool.old.lists < pool.old.size) }
     ensures taken { OnOk result (pool.new ≡ taken_into p.now f pool.old) }
+    ensures unmarked { OnOk result (HasNoMarks pool.old → HasNoMarks pool.new) }
     ensures full { IsErr result → live_count pool.old.lists ≡ pool.old.size }
     ensures shown { IfErr result (λ e. e.live ≡ live_count pool.old.lists) }
     ensures unchanged { OnErr result (pool.new ≡ pool.old) }

@@ -9,7 +9,7 @@ use tb_insert::Class;
 /// Classes of insertions in rising number. They are seen as a list of [`Class`].
 #[derive(Drop)]
 pub(crate) struct Classes {
-    items: Vec<Class>,
+    pub(crate) items: Vec<Class>,
 }
 
 impl Model for Classes {

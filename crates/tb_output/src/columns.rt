@@ -1,105 +1,283 @@
-//! Text columns are made and shipped.
+//! Columns are made and put out, and the next one is begun.
 
-ghost use Rattle.std.specs.Prelude.{◌≡◌, ◌≤◌, [], OnOk, OnErr, IfOk, IfErr};
-ghost use Rattle.tb_float.specs.Lists.{no_floats};
-ghost use Rattle.tb_column.specs.Shown.{nodes_shown};
-ghost use Rattle.tb_output.specs.Machine.{IsMachine};
-ghost use Rattle.tb_output.specs.Firing.{AreTextLists};
-ghost use Rattle.tb_output.specs.Shipping.{RestStands, shipped_machine, IsTextColumn, IsShipped, IsNotShipped, HasPutOut, HasNotPutOut};
+ghost use Rattle.std.specs.Prelude.{◌≡◌, ◌≢◌, ℕ, pos, List, ◌∷◌, [], Some, OnOk, OnErr, IfOk, IfErr, IsTrue, MatchBool, false};
+ghost use Rattle.std.specs.List.{AllByRecursion};
+ghost use Rattle.std.specs.FinMap.{get};
+ghost use Rattle.tb_scaled.specs.Amount.{IsAmount};
+ghost use Rattle.tb_pool.specs.Frame.{IsNoneOf};
+ghost use Rattle.tb_float.specs.Lists.{IsWaiting};
+ghost use Rattle.tb_float.specs.Pool.{HasNoMarks, marked_floats, without_marks};
+ghost use Rattle.tb_float.specs.Marked.{without_marked};
+ghost use Rattle.tb_float.specs.Ranges.{AreFloatParams, IsWithin};
+ghost use Rattle.tb_float.specs.Rooms.{column_height_of};
+ghost use Rattle.tb_fpage.specs.Chosen.{IsChosen};
+ghost use Rattle.tb_column.specs.Column.{text_column, float_column_of};
+ghost use Rattle.tb_column.specs.Shown.{nodes_shown, column_shown};
+ghost use Rattle.tb_column.specs.Notes.{AreDistinct, notes_shown, note_lists};
+ghost use Rattle.tb_column.specs.Page.{IsPageColumn};
+ghost use Rattle.tb_column.specs.Changes.{IsOpened};
+ghost use Rattle.tb_output.specs.Ship.{put_out, put_out_by};
+ghost use Rattle.tb_output.specs.Columns.{without_column_floats, put_out_text, single_wanted, all_float_columns, ordinary};
+ghost use Rattle.tb_output.specs.Machine.{machine_lists, AreOutputParams, IsMachine};
+ghost use Rattle.tb_output.specs.Working.{shows, shows_notes, IsCutShort, Does};
+ghost use Rattle.tb_output.specs.Keeping.{AreTextLists, HasFloats, KeepsMachine};
+ghost use Rattle.tb_output.specs.Shipping.{with_left, with_column_done, filled_lists};
+ghost use Rattle.tb_output.specs.Turns.{column_done, NoColumn, ChoosesNone};
 
-use crate::lists::close_notes;
-use crate::state::no_suppress;
+use crate::state::{no_suppress, pool_size};
 use crate::{Machine, RunFault};
 use std::alloc::AllocError;
-use tb_column::{Column, NoteBox, Sent, Sheet, make_column};
-use tb_node::{FOOTNOTES, Node};
-use tb_param::exceeds;
+use tb_column::{Column, NoteBox, Sheet, float_column, make_column};
+use tb_float::{Part, share_of};
+use tb_fpage::choose;
+use tb_node::Node;
 use tb_pool::{ListId, Lists};
 
 impl Machine {
-    // Makes the text column of a page and ships it, unless as many pages as there may be were shipped. The list of the
-    // text becomes the column's, and that of the footnotes is closed.
-    pub(crate) fn put_out_text(
-        &mut self,
-        store: &mut Lists<Node>,
-        body: ListId,
-        notes: Option<ListId>,
-    ) -> Result<(), RunFault>
-        requires machine { IsMachine self.old store.old }
-        requires floatless { self.old.pool.lists ≡ no_floats }
-        requires lists { AreTextLists 8355840 self.old store.old body notes }
-        ensures ok { OnOk result (IsShipped self.old self.new store.old store.new body notes) }
-        ensures err { IfErr result (λ e. IsNotShipped e self.old self.new store.old store.new body notes) }
-    {
-        if exceeds(self.page, self.params.maxpages) {
-            return Err(RunFault::PageLimit {
-                pages: self.page - 1,
-            });
-        }
-        let taken = notes;
-        let column = self.text_column(store, body, notes)?;
-        close_notes(store, taken);
-        self.ship(column)?;
-        Ok(())
-    }
-
-    // Makes the text column of a page without floats.
-    fn text_column(
-        &mut self,
-        store: &mut Lists<Node>,
-        body: ListId,
-        notes: Option<ListId>,
-    ) -> Result<Column, AllocError>
-        requires machine { IsMachine self.old store.old }
-        requires floatless { self.old.pool.lists ≡ no_floats }
-        requires lists { AreTextLists 8355840 self.old store.old body notes }
-        ensures ok { IfOk result (λ c. IsTextColumn c self.old store.old store.new body notes) }
-        ensures err { OnErr result (RestStands store.old store.new body notes) }
-        ensures machine { self.new ≡ self.old }
-    {
-        let Some(list) = notes else {
-            return make_column(store, &mut self.pool, &self.params, body, &[]);
-        };
-        let footnotes = NoteBox {
-            class: FOOTNOTES,
-            skip: self.params.skipfootins,
-            list,
-        };
-        make_column(store, &mut self.pool, &self.params, body, &[footnotes])
-    }
-
-    // An ordinary page is put out (ltoutput.dtx, \@opcol); nothing goes back, so the list that it answers is empty.
+    /// An ordinary page: its text column is put out, then columns of floats while there are some, and the next text
+    /// column gets its floats (ltoutput.dtx, \@specialoutput and \@opcol).
     pub(crate) fn ordinary(
         &mut self,
         store: &mut Lists<Node>,
         body: ListId,
-        notes: Option<ListId>,
-    ) -> Result<ListId, RunFault>
+        notes: &[NoteBox],
+    ) -> Result<(), RunFault>
         requires machine { IsMachine self.old store.old }
-        requires floatless { self.old.pool.lists ≡ no_floats }
-        requires lists { AreTextLists 8355839 self.old store.old body notes }
-        ensures ok { IfOk result (λ l. HasPutOut l [] (nodes_shown store.old body) self.old self.new store.old store.new body notes) }
-        ensures err { IfErr result (λ e. HasNotPutOut e self.old self.new store.old store.new body notes) }
+        requires lists { AreTextLists 8355840 (machine_lists self.old) store.old body notes.now }
+        ensures ok { OnOk result (Does (shows_notes notes.now self.old store.old) (shows self.new store.new) (ordinary self.old.params (nodes_shown store.old body))) }
+        ensures err { IfErr result (λ e. Does (shows_notes notes.now self.old store.old) (IsCutShort e self.new store.new) (ordinary self.old.params (nodes_shown store.old body))) }
+        ensures keeps { KeepsMachine (body ∷ note_lists notes.now) self.old self.new store.old store.new }
     {
-        let put_back = store.add_list()?;
         self.put_out_text(store, body, notes)?;
-        Ok(put_back)
+        self.float_columns(store, false)?;
+        self.fill_column();
+        Ok(())
     }
 
-    // Ships a column as a page. After it nothing is suppressed, and no marginal note stands in the next column yet.
-    fn ship(&mut self, column: Column) -> Result<(), AllocError>
-        requires { self.old.page ≤ 4194305 }
-        ensures ok { OnOk result (self.new ≡ shipped_machine column self.old) }
-        ensures err { OnErr result (self.new ≡ self.old) }
+    /// The text column of a page is made and put out (ltoutput.dtx, \@makecol).
+    pub(crate) fn put_out_text(
+        &mut self,
+        store: &mut Lists<Node>,
+        body: ListId,
+        notes: &[NoteBox],
+    ) -> Result<(), RunFault>
+        requires machine { IsMachine self.old store.old }
+        requires lists { AreTextLists 8355840 (machine_lists self.old) store.old body notes.now }
+        ensures ok { OnOk result (Does (shows_notes notes.now self.old store.old) (shows self.new store.new) (put_out_text self.old.params (nodes_shown store.old body))) }
+        ensures err { IfErr result (λ e. Does (shows_notes notes.now self.old store.old) (IsCutShort e self.new store.new) (put_out_text self.old.params (nodes_shown store.old body))) }
+        ensures keeps { KeepsMachine (body ∷ note_lists notes.now) self.old self.new store.old store.new }
     {
-        self.events.push(Sent::Ship {
-            page: self.page,
-            sheet: Sheet::One(column),
-        })?;
-        self.page += 1;
-        self.dead_cycles = 0;
+        let column = self.take_text(store, body, notes)?;
+        self.put_out(store, column)
+    }
+
+    // Makes the text column of a page, with the floats that stand in its areas; they leave the pool, and the lists of the
+    // insertions are closed. Where memory is lacking, all is as before.
+    fn take_text(
+        &mut self,
+        store: &mut Lists<Node>,
+        body: ListId,
+        notes: &[NoteBox],
+    ) -> Result<Column, AllocError>
+        requires machine { IsMachine self.old store.old }
+        requires lists { AreTextLists 8355840 (machine_lists self.old) store.old body notes.now }
+        ensures ok { OnOk result (Does (shows_notes notes.now self.old store.old) (shows self.new store.new) without_column_floats) }
+        ensures shown { IfOk result (λ c. column_shown store.new c ≡ text_column self.old.params self.old.pool.lists (nodes_shown store.old body) (notes_shown store.old notes.now)) }
+        ensures column { IfOk result (λ c. IsPageColumn store.new c) }
+        ensures list { IfOk result (λ c. c.list ≡ body) }
+        ensures err { OnErr result (store.new.lists ≡ store.old.lists) }
+        ensures machine { OnErr result (self.new ≡ self.old) }
+        ensures apart { OnOk result (IsNoneOf body (machine_lists self.new)) }
+        ensures keeps { KeepsMachine (body ∷ note_lists notes.now) self.old self.new store.old store.new }
+    {
+        self.events.keep_room(pool_size(&self.params) as usize)?;
+        let column = make_column(store, &mut self.pool, &self.params, body, notes)?;
+        close_notes(store, notes);
+        Ok(column)
+    }
+
+    /// A column is put out: it is a page, the first column of one, or the second; then no marginal note stands in the
+    /// next one, and nothing is suppressed (ltoutput.dtx, \@outputpage and \@outputdblcol).
+    pub(crate) fn put_out(
+        &mut self,
+        store: &mut Lists<Node>,
+        column: Column,
+    ) -> Result<(), RunFault>
+        requires machine { IsMachine self.old store.old }
+        requires column { IsPageColumn store.old column }
+        requires apart { IsNoneOf column.list (machine_lists self.old) }
+        ensures ok { OnOk result (Does (shows self.old store.old) (shows self.new store.new) (put_out self.old.params (column_shown store.old column))) }
+        ensures err { IfErr result (λ e. Does (shows self.old store.old) (IsCutShort e self.new store.new) (put_out self.old.params (column_shown store.old column))) }
+        ensures keeps { KeepsMachine (column.list ∷ []) self.old self.new store.old store.new }
+    {
+        self.put_by(store, column)?;
+        self.end_column();
+        Ok(())
+    }
+
+    // The column is a page, the first column of one, or the second.
+    fn put_by(&mut self, store: &mut Lists<Node>, column: Column) -> Result<(), RunFault>
+        requires machine { IsMachine self.old store.old }
+        requires column { IsPageColumn store.old column }
+        requires apart { IsNoneOf column.list (machine_lists self.old) }
+        ensures ok { OnOk result (Does (shows self.old store.old) (shows self.new store.new) (put_out_by self.old.params (column_shown store.old column))) }
+        ensures err { IfErr result (λ e. Does (shows self.old store.old) (IsCutShort e self.new store.new) (put_out_by self.old.params (column_shown store.old column))) }
+        ensures keeps { KeepsMachine (column.list ∷ []) self.old self.new store.old store.new }
+    {
+        if !self.two_columns {
+            return self.ship(Sheet::One(column));
+        }
+        if self.first_column {
+            self.keep_left(column);
+            return Ok(());
+        }
+        self.ship_pair(store, column)
+    }
+
+    // The first of two columns waits for the second.
+    fn keep_left(&mut self, column: Column)
+        ensures { self.new ≡ with_left column self.old }
+    {
+        self.left_column = Some(column);
+        self.first_column = false;
+    }
+
+    // No marginal note stands in the next column yet, and nothing is kept out of it.
+    fn end_column(&mut self)
+        ensures { self.new ≡ with_column_done self.old }
+    {
         self.note_bottom = 0;
         self.suppress = no_suppress();
+    }
+
+    /// Columns of floats are put out while there are some (ltoutput.dtx, \@tryfcolumn).
+    pub(crate) fn float_columns(
+        &mut self,
+        store: &mut Lists<Node>,
+        clearing: bool,
+    ) -> Result<(), RunFault>
+        requires { IsMachine self.old store.old }
+        ensures ok { OnOk result (Does (shows self.old store.old) (shows self.new store.new) (all_float_columns self.old.params clearing)) }
+        ensures err { IfErr result (λ e. Does (shows self.old store.old) (IsCutShort e self.new store.new) (all_float_columns self.old.params clearing)) }
+        ensures keeps { KeepsMachine [] self.old self.new store.old store.new }
+    {
+        for _turn in 0..self.pool.len(Part::Deferred) {
+            if !self.put_out_floats(store, clearing)? {
+                return Ok(());
+            }
+        }
         Ok(())
+    }
+
+    // A column of floats is put out, if there is one; false where there is none.
+    fn put_out_floats(&mut self, store: &mut Lists<Node>, clearing: bool) -> Result<bool, RunFault>
+        requires { IsMachine self.old store.old }
+        ensures ok { IfOk result (λ more. MatchBool more (Does (shows self.old store.old) (shows self.new store.new) (column_done self.old.params clearing)) (NoColumn clearing self.old self.new store.old store.new)) }
+        ensures err { IfErr result (λ e. Does (shows self.old store.old) (IsCutShort e self.new store.new) (column_done self.old.params clearing)) }
+        ensures keeps { KeepsMachine [] self.old self.new store.old store.new }
+    {
+        let height = self.pool.column_height(&self.params);
+        if !self.choose_column(height, clearing) {
+            return Ok(false);
+        }
+        let column = self.take_floats(store, height, false, Part::Deferred)?;
+        self.put_out(store, column)?;
+        Ok(true)
+    }
+
+    // Chooses deferred floats for a column of this height, if some make one.
+    fn choose_column(&mut self, height: i64, clearing: bool) -> bool
+        requires params { AreOutputParams self.old.params }
+        requires unmarked { HasNoMarks self.old.pool }
+        requires height { height ≡ column_height_of self.old.params self.old.pool.lists }
+        requires within { IsWithin 35184372088832 height }
+        ensures chosen { IsTrue result → IsChosen (single_wanted self.old.params self.old.pool.lists clearing) Part.Deferred self.old.pool self.new.pool }
+        ensures none { result ≡ false → ChoosesNone Part.Deferred (single_wanted self.old.params self.old.pool.lists clearing) self.old self.new }
+        ensures rest { self.new ≡ record self.old { pool = self.new.pool } }
+    {
+        let minimum = share_of(self.params.floatpagefraction, height);
+        let sep = self.params.fpsep.width;
+        choose(
+            &mut self.pool,
+            height,
+            minimum,
+            sep,
+            clearing,
+            false,
+            Part::Deferred,
+        )
+    }
+
+    /// Makes a column of the floats of a list that were chosen; they leave the pool. Where memory is lacking, no float of
+    /// the list is chosen any more, and all else is as before.
+    pub(crate) fn take_floats(
+        &mut self,
+        store: &mut Lists<Node>,
+        height: i64,
+        wide: bool,
+        from: Part,
+    ) -> Result<Column, AllocError>
+        requires params { AreOutputParams self.old.params }
+        requires size { pos self.old.pool.size ≡ self.old.params.pool }
+        requires height { IsAmount height }
+        requires waiting { IsWaiting from }
+        requires marked { marked_floats from self.old.pool ≢ [] }
+        ensures shown { IfOk result (λ c. column_shown store.new c ≡ float_column_of wide self.old.params height (marked_floats from self.old.pool)) }
+        ensures column { IfOk result (λ c. IsPageColumn store.new c) }
+        ensures opened { IfOk result (λ c. IsOpened c.list store.old store.new) }
+        ensures machine { OnOk result (self.new ≡ record self.old { pool = without_marked from self.old.pool }) }
+        ensures err { OnErr result (store.new.lists ≡ store.old.lists) }
+        ensures unchosen { OnErr result (self.new ≡ record self.old { pool = without_marks from self.old.pool }) }
+    {
+        match self.make_floats(store, height, wide, from) {
+            Ok(column) => Ok(column),
+            Err(error) => {
+                self.pool.unmark(from);
+                Err(error)
+            }
+        }
+    }
+
+    // The same, but the floats stay chosen where memory is lacking.
+    fn make_floats(
+        &mut self,
+        store: &mut Lists<Node>,
+        height: i64,
+        wide: bool,
+        from: Part,
+    ) -> Result<Column, AllocError>
+        requires params { AreOutputParams self.old.params }
+        requires size { pos self.old.pool.size ≡ self.old.params.pool }
+        requires height { IsAmount height }
+        requires waiting { IsWaiting from }
+        requires marked { marked_floats from self.old.pool ≢ [] }
+        ensures shown { IfOk result (λ c. column_shown store.new c ≡ float_column_of wide self.old.params height (marked_floats from self.old.pool)) }
+        ensures column { IfOk result (λ c. IsPageColumn store.new c) }
+        ensures opened { IfOk result (λ c. IsOpened c.list store.old store.new) }
+        ensures machine { OnOk result (self.new ≡ record self.old { pool = without_marked from self.old.pool }) }
+        ensures err { OnErr result (store.new.lists ≡ store.old.lists) }
+        ensures same { OnErr result (self.new ≡ self.old) }
+    {
+        self.events.keep_room(pool_size(&self.params) as usize)?;
+        float_column(store, &mut self.pool, &self.params, height, wide, from)
+    }
+
+    // Deferred floats go to the top and bottom of the next column (ltoutput.dtx, \@startcolumn).
+    fn fill_column(&mut self)
+        requires { AreFloatParams self.old.params }
+        ensures { HasFloats (filled_lists self.old) self.old self.new }
+    {
+        tb_area::fill_column(&mut self.pool, &self.params, &self.suppress);
+    }
+}
+
+// Closes the lists of insertions, which are empty.
+fn close_notes(store: &mut Lists<Node>, notes: &[NoteBox])
+    requires empty { AllByRecursion (λ n. get store.old.lists n.list ≡ Some []) notes.now }
+    requires apart { AreDistinct (note_lists notes.now) }
+    ensures { (q : ℕ) → IsNoneOf q (note_lists notes.now) → get store.new.lists q ≡ get store.old.lists q }
+{
+    for note in notes {
+        store.close(note.list);
     }
 }

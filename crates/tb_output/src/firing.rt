@@ -1,33 +1,48 @@
 //! A firing of the output routine (ltoutput.dtx, \output).
 
-ghost use Rattle.std.specs.Prelude.{◌≡◌, Err, None, IfOk, IfErr, OnOk, IfSome, IfNone};
-ghost use Rattle.tb_builder.specs.Contents.{contents_of};
+ghost use Rattle.std.specs.Prelude.{◌≡◌, ◌≢◌, ◌+◌, ◌≤◌, ◌<ℤ◌, [], ◌∷◌, ◌++◌, length, int_le, Err, None, IfOk, IfErr, OnOk, IfSome, IfNone};
+ghost use Rattle.tb_pool.specs.Lists.{list_at};
+ghost use Rattle.tb_pool.specs.Frame.{IsNoneOf, OnlyChanged};
+ghost use Rattle.tb_scaled.specs.Scaled.{eject_penalty};
+ghost use Rattle.tb_builder.specs.Contents.{contents_of, box_count};
+ghost use Rattle.tb_builder.specs.Handed.{NoPage};
 ghost use Rattle.tb_builder.specs.Running.{IsSound};
-ghost use Rattle.tb_output.specs.Machine.{machine_lists, IsLimit, IsMachine, IsFloatless};
-ghost use Rattle.tb_output.specs.Firing.{foot_box, firing_work, refusal_of, CanServe, IsTurn, IsRefusal, IsCutShort, IsPutBack, OthersStand, TakesBody};
-ghost use Rattle.tb_output.specs.Shipping.{counted_work, IsOutput, IsNotOutput};
-ghost use Rattle.tb_output.specs.Serving.{whole_work, AreFree, CanFire, CanGoBack, IsFired, IsNoOthers, LeavesNotes, OthersFree, OthersStay};
+ghost use Rattle.tb_column.specs.Shown.{nodes_shown};
+ghost use Rattle.tb_column.specs.Notes.{note_lists, note_count};
+ghost use Rattle.tb_column.specs.Page.{IsPageList};
+ghost use Rattle.tb_output.specs.Out.{hold_penalty, hold, output_by};
+ghost use Rattle.tb_output.specs.Machine.{machine_lists, AreOutputParams, AreClassesFrom, IsMachine};
+ghost use Rattle.tb_output.specs.Shipping.{with_held};
+ghost use Rattle.tb_output.specs.Notes.{AreKnownNotes, NotesTaken};
+ghost use Rattle.tb_output.specs.Working.{shows, shows_back, shows_boxes, shows_page, shows_all, IsCutShort, Does};
+ghost use Rattle.tb_output.specs.Keeping.{AreTextLists, IsBack, back_lists, KeepsMachine, KeepsBack};
+ghost use Rattle.tb_output.specs.Firing.{whole_work, fired_in, builder_lists, refusal_of, IsReach, AreSizedBoxes, CanFire, CanGoBack, IsFired, IsRefusal, IsUntouched, KeepsAll, KeepsServing};
+ghost use Rattle.tb_output.specs.Turns.{page_output, served};
 
-use crate::footnotes::take_notes;
+use crate::goal::is_signal;
+use crate::lists::drop_list;
+use crate::notes::take_notes;
 use crate::{Machine, RunFault, Turn};
+use std::alloc::AllocError;
 use tb_builder::{Builder, Page};
-use tb_node::Node;
+use tb_column::NoteBox;
+use tb_node::{CLEAR_PENALTY, HOLD_PENALTY, Node, PAR_PENALTY};
 use tb_param::is_below;
 use tb_pool::{ListId, Lists};
 use tb_scaled::EJECT_PENALTY;
 
 impl Machine {
-    /// Serves a page that fired of the builder, which awaits its `put_back`: the footnotes are taken out of the box of
-    /// class 254, and the page is shipped, or cleared where its penalty is -10001. The turn says what goes back before
-    /// what waits.
+    /// Serves a page that fired of the builder, which awaits its `put_back`. By the penalty of its break the page is
+    /// shipped, cleared (-10001), held (-10004), or the float or marginal note at its end gets its place (-10002 and
+    /// -10003). The turn says what goes back before what waits; `ask` says what the next page is made for.
     ///
-    /// The list of the page is the machine's then, and that of the turn is the caller's. So far a penalty must be at
-    /// least -10001: those below are for floats and marginal notes.
+    /// The list of the page is the machine's then, and that of the turn is the caller's. The insertions of the page are
+    /// taken out of the builder's boxes, unless it is held.
     ///
-    /// After so many firings without a page as `maxdeadcycles` says, it answers `DeadCycles` and changes nothing; the
-    /// footnotes stay in their box. Where as many pages were shipped as `maxpages` says, and another is due, it answers
-    /// `PageLimit`; where there is no memory, `Memory`. After these two the events that were sent can still be taken,
-    /// and each later firing answers the same (ltoutput.dtx, \output).
+    /// After so many firings without a page as `maxdeadcycles` says, it returns `DeadCycles` and changes nothing. If as
+    /// many pages were shipped as `maxpages` says, and another is due, it returns `PageLimit`; if memory is lacking,
+    /// `Memory`. After these two the events that were sent can still be taken, and each later firing returns the same and
+    /// changes nothing (ltoutput.dtx, \output).
     pub fn fire(
         &mut self,
         store: &mut Lists<Node>,
@@ -39,67 +54,30 @@ impl Machine {
         requires page { IfNone self.old.fault (CanFire self.old b.old store.old page) }
 
         ensures turn { IfOk result (λ t. IsFired t self.old self.new b.new store.old store.new (whole_work self.old b.old store.old page)) }
-        ensures contents { OnOk result (contents_of b.new store.new ≡ record (contents_of b.old store.old) { boxes = foot_box None }) }
-        ensures refused { IfNone self.old.fault (IfErr result (λ e. IsRefusal e self.old self.new store.old store.new (whole_work self.old b.old store.old page))) }
-        ensures box_left { IfErr result (λ e. LeavesNotes e b.old b.new) }
-        ensures again { IfSome self.old.fault (λ e. result ≡ Err e) }
-
-        ensures machine { IsMachine self.new store.new }
-        ensures builder { IsSound b.new store.new }
-        ensures floatless { IfOk result (λ _. IsFloatless self.new store.new) }
+        ensures contents { OnOk result (contents_of b.new store.new ≡ record (contents_of b.old store.old) { boxes = (whole_work self.old b.old store.old page).state.boxes }) }
+        ensures put_back { IfOk result (λ t. CanGoBack t.put_back self.new b.new store.new) }
         ensures goes_on { OnOk result (self.new.fault ≡ None) }
-        ensures params { self.new.params ≡ self.old.params }
-        ensures put_back { IfOk result (λ t. CanGoBack self.new b.new store.new t.put_back) }
-        ensures apart { IfOk result (λ _. AreFree b.new store.new (machine_lists self.new)) }
-        ensures opened { IfOk result (λ t. IsNoOthers b.old store.old page.body t.put_back) }
-        ensures others { OthersStay b.old store.old store.new page.body }
-        ensures free { OthersFree b.old b.new store.old store.new }
-        ensures lists { TakesBody page.body self.old self.new }
+
+        ensures refused { IfNone self.old.fault (IfErr result (λ e. IsRefusal e self.old self.new b.old b.new store.old store.new (whole_work self.old b.old store.old page))) }
+        ensures again { IfSome self.old.fault (λ e. (result ≡ Err e) × IsUntouched self.old self.new b.old b.new store.old store.new) }
+        ensures keeps { KeepsAll page.body self.old self.new b.old b.new store.old store.new }
     {
         if let Some(fault) = self.refusal() {
             return Err(fault);
         }
-        match take_notes(store, b) {
-            Ok(notes) => self.serve(store, page, notes),
-            Err(_) => {
-                self.fault = Some(RunFault::Memory);
-                Err(RunFault::Memory)
+        self.dead_cycles += 1;
+        match self.serve(store, b, page) {
+            Ok(put_back) => Ok(Turn { put_back }),
+            Err(fault) => {
+                self.fault = Some(fault);
+                Err(fault)
             }
         }
     }
 
-    /// Serves a page whose footnotes, where there are any, were taken into a list: `fire` without its builder. The list
-    /// of the footnotes is the machine's then, as that of the page is.
-    pub fn fire_page(
-        &mut self,
-        store: &mut Lists<Node>,
-        page: Page,
-        notes: Option<ListId>,
-    ) -> Result<Turn, RunFault>
-        requires machine { IsMachine self.old store.old }
-        requires page { IfNone self.old.fault (CanServe self.old store.old page notes) }
-
-        ensures turn { IfOk result (λ t. IsTurn t self.old self.new store.old store.new (firing_work self.old store.old page notes)) }
-        ensures refused { IfNone self.old.fault (IfErr result (λ e. IsRefusal e self.old self.new store.old store.new (firing_work self.old store.old page notes))) }
-        ensures again { IfSome self.old.fault (λ e. result ≡ Err e) }
-
-        ensures machine { IsMachine self.new store.new }
-        ensures floatless { IfOk result (λ _. IsFloatless self.new store.new) }
-        ensures put_back { IfOk result (λ t. IsPutBack self.new store.old store.new page.body t.put_back) }
-        ensures goes_on { OnOk result (self.new.fault ≡ None) }
-        ensures params { self.new.params ≡ self.old.params }
-        ensures others { OthersStand store.old store.new page.body notes }
-        ensures lists { TakesBody page.body self.old self.new }
-    {
-        if let Some(fault) = self.refusal() {
-            return Err(fault);
-        }
-        self.serve(store, page, notes)
-    }
-
-    // Why no firing is begun: the fault that stands, or that as many firings as may be were without a page.
+    // Why no firing is begun: a fault that was returned before, or that as many firings as may be were without a page.
     fn refusal(&self) -> Option<RunFault>
-        requires { IsLimit self.now.params.maxdeadcycles }
+        requires { AreOutputParams self.now.params }
         ensures { result ≡ refusal_of self.now }
     {
         if self.fault.is_some() {
@@ -113,71 +91,132 @@ impl Machine {
         None
     }
 
-    // Serves the page with the list of its footnotes, where there are any. Both lists are the machine's then.
+    // Serves the page, whose firing was counted, and returns the list that goes back.
     fn serve(
         &mut self,
         store: &mut Lists<Node>,
+        b: &mut Builder,
         page: Page,
-        notes: Option<ListId>,
-    ) -> Result<Turn, RunFault>
+    ) -> Result<ListId, RunFault>
         requires machine { IsMachine self.old store.old }
-        requires page { CanServe self.old store.old page notes }
-        requires begins { refusal_of self.old ≡ None }
-
-        ensures turn { IfOk result (λ t. IsTurn t self.old self.new store.old store.new (firing_work self.old store.old page notes)) }
-        ensures refused { IfErr result (λ e. IsCutShort e self.old self.new store.old store.new (firing_work self.old store.old page notes)) }
-
-        ensures machine { IsMachine self.new store.new }
-        ensures floatless { IfOk result (λ _. IsFloatless self.new store.new) }
-        ensures put_back { IfOk result (λ t. IsPutBack self.new store.old store.new page.body t.put_back) }
-        ensures goes_on { OnOk result (self.new.fault ≡ None) }
-        ensures params { self.new.params ≡ self.old.params }
-        ensures others { OthersStand store.old store.new page.body notes }
-        ensures lists { TakesBody page.body self.old self.new }
+        requires builder { IsSound b.old store.old }
+        requires page { CanFire self.old b.old store.old page }
+        ensures ok { IfOk result (λ back. Does (shows_boxes b.old self.old store.old) (shows_all back b.new self.new store.new) (served self.old.params (fired_in b.old store.old page))) }
+        ensures err { IfErr result (λ e. Does (shows_boxes b.old self.old store.old) (IsCutShort e self.new store.new) (served self.old.params (fired_in b.old store.old page))) }
+        ensures contents { OnOk result (contents_of b.new store.new ≡ record (contents_of b.old store.old) { boxes = (contents_of b.new store.new).boxes }) }
+        ensures back { IfOk result (λ back. CanGoBack back self.new b.new store.new) }
+        ensures keeps { KeepsAll page.body self.old self.new b.old b.new store.old store.new }
+        ensures fault { self.new.fault ≡ self.old.fault }
     {
-        self.dead_cycles += 1;
-        match self.output(store, page, notes) {
-            Ok(put_back) => Ok(Turn {
-                put_back,
-                goal: self.goal,
-            }),
-            Err(fault) => {
-                self.fault = Some(fault);
-                Err(fault)
-            }
-        }
+        let back = store.add_list()?;
+        self.output(store, b, &page, back)?;
+        self.next_goal(store, page.penalty, back)?;
+        Ok(back)
     }
 
-    // Does what the penalty asks for. Without floats all room of the next column is free, so the goal stays.
+    // Does what the penalty asks for.
     fn output(
         &mut self,
         store: &mut Lists<Node>,
-        page: Page,
-        notes: Option<ListId>,
-    ) -> Result<ListId, RunFault>
+        b: &mut Builder,
+        page: &Page,
+        back: ListId,
+    ) -> Result<(), RunFault>
         requires machine { IsMachine self.old store.old }
-        requires page { CanServe self.old store.old page notes }
-
-        ensures ok { IfOk result (λ l. IsOutput l self.old self.new store.old store.new (counted_work self.old store.old page notes)) }
-        ensures err { IfErr result (λ e. IsNotOutput e self.old self.new store.old store.new (counted_work self.old store.old page notes)) }
-
-        ensures machine { IsMachine self.new store.new }
-        ensures floatless { IfOk result (λ _. IsFloatless self.new store.new) }
-        ensures put_back { IfOk result (IsPutBack self.new store.old store.new page.body) }
-        ensures fault { self.new.fault ≡ self.old.fault }
-        ensures params { self.new.params ≡ self.old.params }
-        ensures others { OthersStand store.old store.new page.body notes }
-        ensures lists { TakesBody page.body self.old self.new }
+        requires builder { IsSound b.old store.old }
+        requires page { CanFire self.old b.old store.old page.now }
+        requires back { IsBack back self.old store.old }
+        requires empty { list_at store.old back ≡ [] }
+        requires back_body { page.now.body ≢ back }
+        requires back_free { IsNoneOf back (builder_lists b.old store.old) }
+        ensures ok { OnOk result (Does (shows_all back b.old self.old store.old) (shows_all back b.new self.new store.new) (output_by self.old.params (fired_in b.old store.old page.now))) }
+        ensures err { IfErr result (λ e. Does (shows_all back b.old self.old store.old) (IsCutShort e self.new store.new) (output_by self.old.params (fired_in b.old store.old page.now))) }
+        ensures contents { OnOk result (contents_of b.new store.new ≡ record (contents_of b.old store.old) { boxes = (contents_of b.new store.new).boxes }) }
+        ensures keeps { KeepsServing page.now.body back self.old self.new b.old b.new store.old store.new }
     {
-        if page.penalty >= EJECT_PENALTY {
+        if is_signal(page.penalty, HOLD_PENALTY) {
+            self.hold(store, page.body);
+            return Ok(());
+        }
+        let notes = self.take_notes(store, b)?;
+        self.output_page(store, page, &notes, back)
+    }
+
+    // Takes the insertions of the page out of the boxes of their classes.
+    fn take_notes(
+        &self,
+        store: &mut Lists<Node>,
+        b: &mut Builder,
+    ) -> Result<Vec<NoteBox>, AllocError>
+        requires sound { IsSound b.old store.old }
+        requires awaits { NoPage (contents_of b.old store.old) }
+        requires classes { AreClassesFrom 0 self.now.classes }
+        requires known { (contents_of b.old store.old).classes ≡ self.now.classes }
+        requires sized { AreSizedBoxes (contents_of b.old store.old).boxes }
+        requires few { box_count (contents_of b.old store.old).boxes ≤ 8388608 }
+        ensures taken { IfOk result (λ notes. NotesTaken self.now.classes notes.items b.old b.new store.old store.new) }
+        ensures sound { IsSound b.new store.new }
+        ensures frame { OnlyChanged (builder_lists b.old store.old) (builder_lists b.new store.new) store.old store.new }
+    {
+        take_notes(self.alloc, store, b, &self.classes)
+    }
+
+    // The page is held until the next firing, and what was held before is dropped.
+    fn hold(&mut self, store: &mut Lists<Node>, body: ListId)
+        requires machine { IsMachine self.old store.old }
+        requires body { IsPageList store.old body }
+        requires apart { IsNoneOf body (machine_lists self.old) }
+        ensures done { Does (shows self.old store.old) (shows self.new store.new) (hold (nodes_shown store.old body)) }
+        ensures keeps { KeepsMachine (body ∷ []) self.old self.new store.old store.new }
+    {
+        let before = self.exchange_held(body);
+        drop_list(store, before);
+    }
+
+    // Another page is held from now on; returns the list of the one before.
+    fn exchange_held(&mut self, body: ListId) -> ListId
+        ensures before { result ≡ self.old.held_page }
+        ensures machine { self.new ≡ with_held body self.old }
+    {
+        let before = self.held_page;
+        self.held_page = body;
+        before
+    }
+
+    // Does what the penalty asks for, after the insertions of the page were taken.
+    fn output_page(
+        &mut self,
+        store: &mut Lists<Node>,
+        page: &Page,
+        notes: &[NoteBox],
+        back: ListId,
+    ) -> Result<(), RunFault>
+        requires machine { IsMachine self.old store.old }
+        requires back { IsBack back self.old store.old }
+        requires empty { list_at store.old back ≡ [] }
+        requires note_bottom { IsReach self.old.note_bottom }
+        requires lists { AreTextLists 8355839 (back_lists store.old back ++ machine_lists self.old) store.old page.now.body notes.now }
+        requires known { AreKnownNotes self.old.classes notes.now }
+        requires few { length (list_at store.old page.now.body) + length (list_at store.old self.old.held_page) + note_count store.old notes.now ≤ 8355839 }
+        requires penalty { hold_penalty <ℤ page.now.penalty }
+        ensures ok { OnOk result (Does (shows_page back notes.now self.old store.old) (shows_back back self.new store.new) (page_output self.old.params page.now.penalty (nodes_shown store.old page.now.body))) }
+        ensures err { IfErr result (λ e. Does (shows_page back notes.now self.old store.old) (IsCutShort e self.new store.new) (page_output self.old.params page.now.penalty (nodes_shown store.old page.now.body))) }
+        ensures keeps { KeepsBack back (page.now.body ∷ note_lists notes.now) self.old self.new store.old store.new }
+    {
+        if is_ordinary(page.penalty) {
             return self.ordinary(store, page.body, notes);
         }
-        match notes {
-            Some(notes) => self.clear_notes(store, page.body, notes),
-            None => {
-                self.clear_page(store, page.body);
-                Ok(page.body)
-            }
+        if is_signal(page.penalty, CLEAR_PENALTY) {
+            return self.clear(store, page.body, notes, back);
         }
+        let vert = !is_signal(page.penalty, PAR_PENALTY);
+        self.float_or_note(store, page.body, notes, vert, back)
     }
+}
+
+// Whether a page of this penalty is put out as it is.
+fn is_ordinary(penalty: i64) -> bool
+    ensures { result ≡ int_le eject_penalty penalty }
+{
+    penalty >= EJECT_PENALTY
 }

@@ -6,8 +6,8 @@ ghost use Rattle.tb_pool.specs.Lists.{Lists as ListMap, IsLive, list_at, with_li
 ghost use Rattle.tb_node.specs.declared.Node.{Node as NodeValue};
 ghost use Rattle.tb_node.specs.Plain.{PlainNode};
 ghost use Rattle.tb_builder.specs.Fired.{Boxed};
-ghost use Rattle.tb_output.specs.State.{foot_class, void_boxes, first_state, ask_of, no_suppress};
-ghost use Rattle.tb_output.specs.Machine.{state_shown, IsMachine, IsFloatless, IsPoolSize, AreOutputParams, AreOutputClasses};
+ghost use Rattle.tb_output.specs.State.{first_state, ask_of, no_suppress, void_boxes};
+ghost use Rattle.tb_output.specs.Machine.{state_shown, IsMachine, IsPoolSize, AreOutputParams, AreClassesFrom};
 
 use crate::Machine;
 use crate::classes::copied;
@@ -32,8 +32,8 @@ pub(crate) fn no_suppress() -> Suppress
     }
 }
 
-// How many boxes the pool of floats may hold.
-fn pool_size(p: &Params) -> u64
+/// How many boxes the pool of floats may hold.
+pub(crate) fn pool_size(p: &Params) -> u64
     requires { IsPoolSize p.now.pool }
     ensures size { pos result ≡ p.now.pool }
     ensures most { result ≤ 4096 }
@@ -41,10 +41,10 @@ fn pool_size(p: &Params) -> u64
     p.pool as u64
 }
 
-/// A machine before the first page that serves these classes of insertions, in one column, with an empty pool of floats.
-/// It opens a list for the held page.
+/// A machine before the first page, in one column, with an empty pool of floats, for these classes of insertions, whose
+/// numbers rise. It opens a list for the held page.
 ///
-/// Where there is no memory, no list was opened.
+/// Where memory is lacking, no list was opened.
 pub fn new_machine(
     alloc: Global,
     store: &mut Lists<Node>,
@@ -52,11 +52,11 @@ pub fn new_machine(
     classes: &[Class],
 ) -> Result<Machine, AllocError>
     requires params { AreOutputParams p.now }
-    requires classes { AreOutputClasses p.now classes.now }
+    requires classes { AreClassesFrom 0 classes.now }
     ensures state { IfOk result (λ m. (waiting : List PlainNode) → state_shown store.new (void_boxes classes.now) waiting m ≡ first_state p.now classes.now waiting) }
     ensures machine { IfOk result (λ m. IsMachine m store.new) }
-    ensures floatless { IfOk result (λ m. classes.now ≡ foot_class p.now ∷ [] → IsFloatless m store.new) }
     ensures params { IfOk result (λ m. m.params ≡ p.now) }
+    ensures classes { IfOk result (λ m. m.classes ≡ classes.now) }
     ensures events { IfOk result (λ m. m.events ≡ []) }
     ensures fault { IfOk result (λ m. m.fault ≡ None) }
     ensures fresh { IfOk result (λ m. get store.old.lists m.held_page ≡ None) }
@@ -64,14 +64,15 @@ pub fn new_machine(
     ensures err { OnErr result (store.new.lists ≡ store.old.lists) }
 {
     let size = pool_size(p);
-    let served = copied(alloc, classes)?;
+    let known = copied(alloc, classes)?;
     let pool = new_pool(alloc, size)?;
     let mut events = Events::new(alloc);
     events.keep_room(size as usize)?;
     let held_page = store.add_list()?;
     Ok(Machine {
+        alloc,
         params: *p,
-        classes: served,
+        classes: known,
         goal: p.textheight,
         page: 1,
         dead_cycles: 0,
@@ -112,6 +113,13 @@ impl Machine {
             },
             top_skip: self.params.topskip,
         }
+    }
+
+    /// How many nodes may be held.
+    pub fn max_nodes(&self) -> i64
+        ensures { result ≡ self.now.params.maxnodes }
+    {
+        self.params.maxnodes
     }
 
     /// How many nodes the held page has.

@@ -1,6 +1,6 @@
 -- The items of a valid galley can be handed over.
 use Rattle.std.proofs.Common.{◌≡◌, refl, ℕ, ◌≤◌, Bool, true, false, List, [], ◌∷◌, ◌++◌, map, arith}
-use Rattle.std.specs.Prelude.{All, IsTrue, ◌||◌, ◌==◌}
+use Rattle.std.specs.Prelude.{All, IsTrue, ◌||◌, ◌==◌, nat_le}
 use Rattle.std.specs.List.{list_all, list_any}
 use Rattle.std.proofs.lemmas.Bool.Decides.{nat_tests}
 use Rattle.std.proofs.lemmas.List.{length-map}
@@ -22,7 +22,8 @@ use Rattle.tb_galley.specs.Valid.{is_leaf, is_item, weight_of, weight, has_known
 use Rattle.tb_output.specs.State.{foot_class}
 use Rattle.tb_run.specs.Run.{class_of, classes_of}
 use Rattle.tb_run.specs.Expanding.{leaf_kind, leaf_list, IsItem, AreItems}
-use Rattle.tb_run.proofs.ServedItems.{and-first, and-second, both-extents, glue-sized, dimen-dimension, penalty-sized, most}
+use Rattle.tb_galley.proofs.Conjunctions.{left_of, right_of}
+use Rattle.tb_run.proofs.ItemAmounts.{dimen-dimension, both-extents, glue-sized, penalty-served}
 
 -- ---- footnotes
 
@@ -34,13 +35,13 @@ leaf-node-sized l v = by_kind l.kind v
     by_kind (leaves.Rule name h d) v = both-extents _ h d v
     by_kind (leaves.Skip g) v = glue-sized g v
     by_kind (leaves.Kern w) v = dimen-dimension w v
-    by_kind (leaves.Penalty q) v = penalty-sized q v
+    by_kind (leaves.Penalty q) v = (penalty-served q v).sized
 
 nodes-sized : (ls : List Leaf) → IsTrue (list_all (λ (l : Leaf). is_leaf l.kind) ls) → All IsSizedNode (leaf_list ls)
 nodes-sized [] v = All-nil IsSizedNode
 nodes-sized (l ∷ ls) v =
-    All-cons IsSizedNode _ (leaf_list ls) (leaf-node-sized l (and-first (is_leaf l.kind) (list_all (λ (m : Leaf). is_leaf m.kind) ls) v))
-    (nodes-sized ls (and-second (is_leaf l.kind) (list_all (λ (m : Leaf). is_leaf m.kind) ls) v))
+    All-cons IsSizedNode _ (leaf_list ls) (leaf-node-sized l (left_of (is_leaf l.kind) (list_all (λ (m : Leaf). is_leaf m.kind) ls) v))
+    (nodes-sized ls (right_of (is_leaf l.kind) (list_all (λ (m : Leaf). is_leaf m.kind) ls) v))
 
 -- ---- classes
 
@@ -60,6 +61,9 @@ class-known p [] n h = last-known n h
 class-known p (c ∷ cs) n h = passed-by (n == 254) (c.number == n) (list_any (λ k. k == n) (numbers cs)) (has_class (map class_of cs ++ foot_class p ∷ []) n) (class-known p cs n) h
 
 -- ---- items
+
+most : (n : ℕ) → IsTrue (nat_le n 100000) → n ≤ 100000
+most n h = grind (arith, nat_tests, h)
 
 module _ (g : Galley) where
   one-item : (l : ℕ) (k : ItemKind) → IsTrue (is_item l k) → IsTrue (has_known_class (numbers g.classes) k) → weight_of k ≤ 100000 → IsItem (classes_of g) k
@@ -88,8 +92,8 @@ module _ (g : Galley) where
   all-items [] v known w = All-nil (λ (n : Item). IsItem (classes_of g) n.kind)
   all-items (n ∷ ns) v known w =
       All-cons (λ (m : Item). IsItem (classes_of g) m.kind) n ns
-      (one-item n.line n.kind (and-first (is_item n.line n.kind) _ v) (and-first (known_item n) _ known) (omega (arith, w)))
-      (all-items ns (and-second (is_item n.line n.kind) _ v) (and-second (known_item n) _ known) (omega (arith, w)))
+      (one-item n.line n.kind (left_of (is_item n.line n.kind) _ v) (left_of (known_item n) _ known) (omega (arith, w)))
+      (all-items ns (right_of (is_item n.line n.kind) _ v) (right_of (known_item n) _ known) (omega (arith, w)))
 
   pub galley-items : IsValid g → AreItems (classes_of g) g.items
   galley-items v = all-items g.items v.items v.feet (most (weight g.items) v.count)

@@ -1,7 +1,7 @@
--- The nodes that a galley gives, by what the output routine asks of them.
+-- The nodes that wait at the page builder, by what the output routine asks of them.
 use Rattle.std.specs.Prelude.{◌≡◌, ◌≤◌, ◌≤ℤ◌, true, List, All}
 use Rattle.tb_node.specs.Fit.{IsExtent, IsPenalty}
-use Rattle.tb_node.specs.Plain.{hbox, rule, skip, kerned, pen, mark, note, whatsit, PlainKind, plain, ins, act, PlainNode}
+use Rattle.tb_node.specs.Plain.{hbox, rule, skip, kerned, pen, mark, note, whatsit, Matter, PlainKind, plain, ins, act, PlainNode}
 use Rattle.tb_param.specs.declared.Params.{Params}
 use Rattle.tb_insert.specs.declared.Class.{Class}
 use Rattle.tb_builder.specs.Contents.{node_count}
@@ -10,16 +10,20 @@ use Rattle.tb_builder.specs.Pageable.{IsSizedOnPage}
 use Rattle.tb_output.specs.Acting.{IsSizedAct}
 use Rattle.tb_output.specs.Out.{hold_penalty}
 
--- a penalty is not below that at which a page is held, the class of an insertion is one of these, and an act has its amounts in their ranges
+-- a penalty is not below that at which a page is held
+abbrev pub IsMild : Matter → Type 0
+IsMild (hbox what h d) = Unit {0}
+IsMild (rule name h d) = Unit {0}
+IsMild (skip g) = Unit {0}
+IsMild (kerned w) = Unit {0}
+IsMild (pen q) = hold_penalty ≤ℤ q
+IsMild (mark name) = Unit {0}
+IsMild (note name) = Unit {0}
+IsMild whatsit = Unit {0}
+
+-- a penalty is mild, the class of an insertion is one of these, and an act has its amounts in their ranges
 abbrev pub IsServable : List Class → PlainKind → Type 0
-IsServable cs (plain (hbox what h d)) = Unit {0}
-IsServable cs (plain (rule name h d)) = Unit {0}
-IsServable cs (plain (skip g)) = Unit {0}
-IsServable cs (plain (kerned w)) = Unit {0}
-IsServable cs (plain (pen q)) = hold_penalty ≤ℤ q
-IsServable cs (plain (mark name)) = Unit {0}
-IsServable cs (plain (note name)) = Unit {0}
-IsServable cs (plain whatsit) = Unit {0}
+IsServable cs (plain m) = IsMild m
 IsServable cs (ins i) = has_class cs i.class ≡ true
 IsServable cs (act a) = IsSizedAct a
 

@@ -1,7 +1,7 @@
 pub mod Run
-pub mod PlainRun
-pub mod PageMade
-pub mod Servable
-pub mod Turning
-pub mod Expanding
 pub mod GalleyNodes
+pub mod Served
+pub mod Expanding
+pub mod Happened
+pub mod Turning
+pub mod Filling

@@ -2,8 +2,11 @@
 //! machine serves it.
 #![tactic(auto)]
 
+mod classes;
 mod expanding;
+mod happening;
 mod releasing;
 mod routine;
 
+pub use happening::{Event, Happening};
 pub use routine::{Ending, Routine};

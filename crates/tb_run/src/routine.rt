@@ -1,29 +1,36 @@
 //! The output routine over one store: the page builder fills a page, and the machine serves it.
 
-ghost use Rattle.std.specs.Prelude.{◌≡◌, ◌≤◌, ◌≤ℤ◌, ◌+◌, ◌++◌, ◌∷◌, [], pos, length, None, IfOk, OnOk, IfNone, IfSome};
+ghost use Rattle.std.specs.Prelude.{◌≡◌, ◌≤◌, ◌≤ℤ◌, ◌+◌, ◌++◌, [], map, pos, IfOk, IfErr, IfNone, IfSome, OnOk, OnErr};
 ghost use Rattle.std.specs.List.{AllByRecursion};
 ghost use Rattle.std.specs.FinMap.{get};
-ghost use Rattle.tb_builder.specs.Contents.{plain_list};
+ghost use Rattle.std.specs.Prelude.{List, None};
+ghost use Rattle.tb_node.specs.Plain.{PlainNode};
+ghost use Rattle.tb_builder.specs.Fired.{Boxed};
+ghost use Rattle.tb_builder.specs.Contents.{contents_of, plain_list};
 ghost use Rattle.tb_galley.specs.Expand.{expanded};
-ghost use Rattle.tb_output.specs.State.{foot_class, first_state, ask_of};
-ghost use Rattle.tb_output.specs.Machine.{events_shown, sent_lists, IsPageSent};
-ghost use Rattle.tb_output.specs.Serving.{CanGoBack};
-ghost use Rattle.tb_run.specs.Servable.{AreRunnable, AreServable};
+ghost use Rattle.tb_output.specs.State.{first_state};
+ghost use Rattle.tb_output.specs.Acting.{IsSizedAct, line_of};
+ghost use Rattle.tb_output.specs.Machine.{events_shown, state_shown};
+ghost use Rattle.tb_output.specs.Firing.{CanFire, CanGoBack, fired_in};
+ghost use Rattle.tb_run.specs.GalleyNodes.{AreGalleyNodes};
+ghost use Rattle.tb_run.specs.Served.{AreRunnable, AreRunClasses, IsServedPage};
 ghost use Rattle.tb_run.specs.Expanding.{AreItems};
-ghost use Rattle.tb_run.specs.Run.{class_of, classes_of, held_count, step};
-ghost use Rattle.tb_run.specs.PlainRun.{step_shown, noted, NotesTries};
-ghost use Rattle.tb_run.specs.Turning.{held_in, state_of, IsWhole, IsReady, Fills, AreSentLists, IsBounded, IsSettled, IsEnded, turn_shown, sent_turn_shown, sent_count, over_limit};
+ghost use Rattle.tb_run.specs.Run.{classes_of, held_count, step};
+ghost use Rattle.tb_run.specs.Happened.{happened_lists};
+ghost use Rattle.tb_run.specs.Turning.{held_in, state_of, IsWhole, IsBounded, IsReady, AreHappened, ArePages, IsTurned, IsEnded, over_limit, with_events};
+ghost use Rattle.tb_run.specs.Filling.{Fills, Serves, IsBoundedPage, HasActed, HasNotActed, sent_happenings};
 
+use crate::Happening;
+use crate::classes::classes_of;
 use crate::expanding::expand;
-use crate::releasing::end_sent;
+use crate::happening::{note_sent, note_try};
+use crate::releasing::{close_happened, close_list};
 use std::alloc::{AllocError, Global};
-use tb_builder::{Ask, Builder, Event, Page, Try, new_builder};
-use tb_column::Sent;
-use tb_galley::{ClassLine, Galley};
-use tb_insert::Class;
-use tb_node::{Act, FOOTNOTES, Node};
-use tb_output::{Machine, RunFault, new_machine};
-use tb_param::{Params, exceeds};
+use tb_builder::{Builder, Event, Page, new_builder};
+use tb_galley::Galley;
+use tb_node::{Act, Node};
+use tb_output::{Full, Machine, RunFault, new_machine};
+use tb_param::exceeds;
 use tb_pool::{ListId, Lists};
 
 /// Between two firings: one store, the page builder with the nodes that wait, and the output routine's machine.
@@ -33,7 +40,6 @@ pub struct Routine {
     pub store: Lists<Node>,
     /// Holds what waits.
     pub builder: Builder,
-    /// Its events can be taken after each turn.
     pub machine: Machine,
     /// A bound on the nodes that are held, so that they need not be counted after each firing.
     pub most: u64,
@@ -42,87 +48,53 @@ pub struct Routine {
 // No galley has more nodes.
 const MOST_NODES: u64 = 4_194_304;
 
-// A firing adds no more nodes to those that wait: the glue above the first box, and those of a clear that comes again.
-const ADDED_NODES: u64 = 6;
+// A firing adds no more nodes to those that are held: an insertion of each class, the glue above the first box, and the
+// nodes of floats, notes, blank columns and clears.
+const ADDED_NODES: u64 = 300;
 
 /// How a run ends.
 #[derive(Clone, Copy)]
 pub enum Ending {
     /// Nothing fires any more; what is on the page is left.
     Done,
-    /// The page fired after so many firings without a page.
-    DeadCycles { count: u64 },
-    /// A page was to be shipped after so many pages.
-    PageLimit { pages: u64 },
+    /// The item on this line found no room in the pool of floats, which holds so many boxes.
+    PoolFull { line: u32, live: u64 },
+    /// A firing was refused, or came to the page limit. The fault is not `Memory`.
+    Fault(RunFault),
     /// More nodes than `maxnodes` were held: so many.
     NodeLimit { count: u64 },
 }
 
-// Puts a place that was tried at the end of a list, where it is wanted.
-fn note(tries: &mut Vec<Try>, wanted: bool, tried: Try) -> Result<(), AllocError>
-    ensures { OnOk result (tries.new.items ≡ tries.old.items ++ noted wanted (tried ∷ [])) }
-{
-    if wanted {
-        tries.push(tried)?;
-    }
-    Ok(())
-}
-
-// Nothing is done at an act: what is served so far has none, so none is reached.
-fn no_act(_act: Act) {}
-
-// The footnotes' class: each counts whole against the page, up to `footlimit`.
-fn foot_class(p: &Params) -> Class
-    ensures { result ≡ foot_class p.now }
-{
-    Class {
-        number: FOOTNOTES,
-        factor: 1000,
-        limit: p.footlimit,
-        skip: p.skipfootins,
-    }
-}
-
-// A class that a galley declares.
-fn class_of(line: &ClassLine) -> Class
-    ensures { result ≡ class_of line.now }
-{
-    Class {
-        number: line.number,
-        factor: line.factor,
-        limit: line.limit,
-        skip: line.skip,
-    }
-}
-
-// The classes of a galley in rising number, that of the footnotes last.
-fn classes_of(alloc: Global, galley: &Galley) -> Result<Vec<Class>, AllocError>
-    ensures { IfOk result (λ cs. cs.items ≡ classes_of galley.now) }
-{
-    let mut classes = Vec::new(alloc);
-    for line in galley.classes.as_slice() {
-        classes.push(class_of(line))?;
-    }
-    classes.push(foot_class(&galley.params))?;
-    Ok(classes)
-}
-
-/// What a turn sends, and how the run ends with it, if it does.
+// What a page comes to: it fires, or the run ends before.
 #[derive(Clone, Copy)]
-pub struct Turn {
-    pub sent: Option<Sent>,
-    pub ending: Option<Ending>,
+enum Filled {
+    Fires(Page),
+    Ends(Ending),
+}
+
+// The line of the item that an act takes into the pool of floats.
+fn line_of(act: &Act) -> u32
+    ensures { result ≡ line_of act.now }
+{
+    match act {
+        Act::Take(float) => float.line,
+        Act::TakeMargin(margin) => margin.line,
+        Act::Suppress(_) => 0,
+        Act::Columns { two: _ } => 0,
+    }
 }
 
 impl Routine {
     /// All nodes of a galley wait for its first page.
     pub fn new(alloc: Global, galley: &Galley) -> Result<Self, AllocError>
         requires params { AreRunnable galley.now.params }
+        requires classes { AreRunClasses (classes_of galley.now) }
         requires items { AreItems (classes_of galley.now) galley.now.items }
-        requires classes { galley.now.classes ≡ [] }
-        requires nodes { AreServable (expanded galley.now) }
+        requires nodes { AreGalleyNodes (classes_of galley.now) (expanded galley.now) }
+
         ensures state { IfOk result (λ r. state_of r ≡ first_state galley.now.params (classes_of galley.now) (expanded galley.now)) }
-        ensures ready { IfOk result (λ r. IsReady galley.now.params r) }
+        ensures params { IfOk result (λ r. r.machine.params ≡ galley.now.params) }
+        ensures ready { IfOk result IsReady }
     {
         let mut store = Lists::new(alloc);
         let classes = classes_of(alloc, galley)?;
@@ -138,143 +110,162 @@ impl Routine {
         })
     }
 
-    // Fills the next page of what waits. None where it does not fire: then nothing waits any more. The places that are
-    // tried go to the end of `tries`, where they are wanted.
-    fn fill(
-        &mut self,
-        p: &Params,
-        ask: &Ask,
-        wanted: bool,
-        tries: &mut Vec<Try>,
-    ) -> Result<Option<Page>, AllocError>
-        requires ready { IsReady p.now self.old }
-        requires params { AreRunnable p.now }
-        requires ask { ask.now ≡ ask_of p.now (state_of self.old) }
-        ensures { IfOk result (λ o. Fills p.now wanted self.old tries.old.items o self.new tries.new.items) }
+    /// The ending where more nodes are held than `maxnodes`: those that wait, those of the held page and those of
+    /// insertions, in their boxes too.
+    ///
+    /// They are counted only where the bound on them passes `maxnodes`; their number is the bound then.
+    pub fn node_limit(&mut self) -> Option<Ending>
+        requires whole { IsWhole self.old }
+        requires bounded { IsBounded 8388608 self.old }
+
+        ensures limit { result ≡ over_limit self.old.machine.params (held_count (state_of self.old)) }
+        ensures same { self.new ≡ record self.old { most = self.new.most } }
+        ensures bounded { IsBounded 8388608 self.new }
+        ensures within { IfNone result (pos self.new.most ≤ℤ self.old.machine.params.maxnodes) }
     {
+        let limit = self.machine.max_nodes();
+        if !exceeds(self.most, limit) {
+            return None;
+        }
+        self.most = self.builder.nodes(&self.store) + self.machine.held_nodes(&self.store);
+        if exceeds(self.most, limit) {
+            return Some(Ending::NodeLimit { count: self.most });
+        }
+        None
+    }
+
+    /// Makes the next page of what waits, and fires it: it is shipped, or its penalty asks for something else (TeX: The
+    /// Program §994, §1012; ltoutput.dtx, \output). Returns how the run ends with it, if it does.
+    ///
+    /// It is the step of the run: `happened` holds what the output routine sent in the step, and where they are wanted the
+    /// places that were tried, all in their order. The lists of the pages that were sent are the caller's until
+    /// [`Self::done_with`]. What `happened` held before is gone. Where memory is lacking, the run can not go on.
+    pub fn turn(
+        &mut self,
+        wanted: bool,
+        happened: &mut Vec<Happening>,
+    ) -> Result<Option<Ending>, AllocError>
+        requires { IsReady self.old }
+
+        ensures turned { IfOk result (λ o. IsTurned wanted self.old happened.new.items o self.new) }
+        ensures ready { IfOk result (λ o. IfNone o (IsReady self.new)) }
+        ensures params { OnOk result (self.new.machine.params ≡ self.old.machine.params) }
+        ensures ended { OnOk result (IsEnded self.new) }
+        ensures pages { OnOk result (ArePages self.new.store happened.new.items) }
+        ensures lists { IfOk result (λ o. IfNone o (AreHappened self.new happened.new.items)) }
+    {
+        happened.clear();
+        let page = match self.fill(wanted, happened)? {
+            Filled::Fires(page) => page,
+            Filled::Ends(ending) => return Ok(Some(ending)),
+        };
+        let ending = self.serve(page)?;
+        self.hand_over(happened)?;
+        Ok(ending)
+    }
+
+    /// Closes the lists of what a turn sent, once it was written: their places in the store are free then.
+    pub fn done_with(&mut self, happened: &[Happening])
+        requires ready { IsReady self.old }
+        requires lists { AreHappened self.old happened.now }
+
+        ensures ready { IsReady self.new }
+        ensures state { state_of self.new ≡ state_of self.old }
+        ensures machine { self.new.machine ≡ self.old.machine }
+        ensures closed { AllByRecursion (λ l. get self.new.store.lists l ≡ None) (happened_lists happened.now) }
+    {
+        close_happened(&mut self.store, happened);
+    }
+
+    // Fills the next page of what waits, up to its firing or the end of the run. The acts that are reached are done.
+    fn fill(&mut self, wanted: bool, happened: &mut Vec<Happening>) -> Result<Filled, AllocError>
+        requires ready { IsReady self.old }
+        requires empty { happened.old.items ≡ [] }
+        ensures { IfOk result (λ o. Fills wanted self.old o self.new happened.new.items) }
+    {
+        let ask = self.machine.ask();
         'next: loop {
-            let event = self.builder.next(&mut self.store, ask)?;
-            match event {
-                Event::Try(tried) => note(tries, wanted, tried)?,
-                Event::Act(act) => no_act(act),
-                Event::Fired(page) => return Ok(Some(page)),
-                Event::Empty => return Ok(None),
+            match self.builder.next(&mut self.store, &ask)? {
+                Event::Try(tried) => note_try(happened, wanted, tried)?,
+                Event::Act(act) => {
+                    if let Err(full) = self.act(act) {
+                        return Ok(Filled::Ends(Ending::PoolFull {
+                            line: line_of(&act),
+                            live: full.live,
+                        }));
+                    }
+                    self.hand_over(happened)?;
+                }
+                Event::Fired(page) => return Ok(Filled::Fires(page)),
+                Event::Empty => return Ok(Filled::Ends(Ending::Done)),
             }
+        }
+    }
+
+    // Does what an act says. A first column that it drops is closed.
+    fn act(&mut self, act: Act) -> Result<(), Full>
+        requires whole { IsWhole self.old }
+        requires act { IsSizedAct act }
+        ensures ok { OnOk result (HasActed act self.old self.new) }
+        ensures err { IfErr result (λ e. HasNotActed act e.live self.old self.new) }
+    {
+        let dropped = self.machine.dropped_by(&act);
+        self.machine.act(act)?;
+        if let Some(list) = dropped {
+            close_list(&mut self.store, list);
+        }
+        Ok(())
+    }
+
+    // The machine serves a page that fired, and what it puts back waits. What is sent is with the machine.
+    fn serve(&mut self, page: Page) -> Result<Option<Ending>, AllocError>
+        requires whole { IsWhole self.old }
+        requires page { CanFire self.old.machine self.old.builder self.old.store page }
+        requires bounded { IsBoundedPage page self.old }
+        requires params { AreRunnable self.old.machine.params }
+        requires classes { AreRunClasses self.old.machine.classes }
+        requires served { IsServedPage (state_of self.old) (fired_in self.old.builder self.old.store page) }
+        ensures { IfOk result (λ o. Serves page self.old o self.new) }
+    {
+        match self.machine.fire(&mut self.store, &mut self.builder, page) {
+            Ok(turn) => {
+                self.put_back(turn.put_back);
+                self.most += ADDED_NODES;
+                Ok(self.node_limit())
+            }
+            Err(RunFault::Memory) => Err(AllocError),
+            Err(fault) => Ok(Some(Ending::Fault(fault))),
         }
     }
 
     // Puts the nodes of a list back before what waits, and closes the list.
     fn put_back(&mut self, list: ListId)
-        requires whole { IsWhole self.old.machine.params self.old }
-        requires list { CanGoBack self.old.machine self.old.builder self.old.store list }
-        ensures whole { IsWhole self.new.machine.params self.new }
+        requires whole { IsWhole self.old }
+        requires list { CanGoBack list self.old.machine self.old.builder self.old.store }
+        ensures whole { IsWhole self.new }
         ensures contents { held_in self.new ≡ record (held_in self.old) {
           waiting = (held_in self.old).held ++ (plain_list self.old.store list ++ (held_in self.old).waiting);
           held = [];
         } }
         ensures machine { self.new.machine ≡ self.old.machine }
+        ensures most { self.new.most ≡ self.old.most }
+        ensures state { (boxes : List Boxed) (waiting : List PlainNode) → state_shown self.new.store boxes waiting self.new.machine ≡ state_shown self.old.store boxes waiting self.old.machine }
         ensures events { events_shown self.new.store self.new.machine.events ≡ events_shown self.old.store self.old.machine.events }
     {
         self.builder.put_back(&mut self.store, list);
         self.store.close(list);
     }
 
-    /// The ending where more nodes are held than `maxnodes`: those that wait, those of footnotes counted too.
-    ///
-    /// They are counted only where the bound on them passes `maxnodes`; their number is the bound then.
-    pub fn node_limit(&mut self, p: &Params) -> Option<Ending>
-        requires whole { IsWhole self.old.machine.params self.old }
-        requires bounded { IsBounded 8388608 self.old }
-
-        ensures limit { result ≡ over_limit p.now (held_count (state_of self.old)) }
-        ensures same { self.new ≡ record self.old { most = self.new.most } }
-        ensures bounded { IsBounded 8388608 self.new }
-        ensures within { IfNone result (pos self.new.most ≤ℤ p.now.maxnodes) }
+    // Appends what the machine sent and was not taken yet.
+    fn hand_over(&mut self, happened: &mut Vec<Happening>) -> Result<(), AllocError>
+        ensures events { OnOk result (happened.new.items ≡ happened.old.items ++ sent_happenings self.old.machine.events) }
+        ensures machine { OnOk result (self.new ≡ with_events [] self.old) }
     {
-        if !exceeds(self.most, p.maxnodes) {
-            return None;
-        }
-        self.most = self.builder.nodes(&self.store) + self.machine.held_nodes(&self.store);
-        if exceeds(self.most, p.maxnodes) {
-            return Some(Ending::NodeLimit { count: self.most });
-        }
-        None
-    }
-
-    // Makes the next page of what waits, and fires it. What is sent is with the machine.
-    fn make_page(
-        &mut self,
-        p: &Params,
-        wanted: bool,
-        tries: &mut Vec<Try>,
-    ) -> Result<Option<Ending>, AllocError>
-        requires ready { IsReady p.now self.old }
-        requires params { AreRunnable p.now }
-
-        ensures step { IfOk result (λ o. turn_shown self.new o ≡ step_shown (step p.now (state_of self.old))) }
-        ensures settled { IfOk result (λ o. IfNone o (IsSettled p.now self.new)) }
-        ensures ended { OnOk result (IsEnded self.new) }
-        ensures one { OnOk result (length self.new.machine.events ≤ 1) }
-        ensures counted { IfOk result (λ o. IfNone o (self.new.machine.page ≡ self.old.machine.page + length self.new.machine.events)) }
-        ensures tries { OnOk result (NotesTries wanted (step p.now (state_of self.old)) tries.old.items tries.new.items) }
-    {
-        let ask = self.machine.ask();
-        let most = self.most + ADDED_NODES;
-        let Some(page) = self.fill(p, &ask, wanted, tries)? else {
-            return Ok(Some(Ending::Done));
-        };
-        match self.machine.fire(&mut self.store, &mut self.builder, page) {
-            Ok(turn) => {
-                self.put_back(turn.put_back);
-                self.most = most;
-                Ok(self.node_limit(p))
-            }
-            Err(RunFault::DeadCycles { count }) => Ok(Some(Ending::DeadCycles { count })),
-            Err(RunFault::PageLimit { pages }) => Ok(Some(Ending::PageLimit { pages })),
-            Err(RunFault::Memory) => Err(AllocError),
-        }
-    }
-
-    /// Makes the next page of what waits, and fires it: it is shipped with its footnotes, or its penalty asks for
-    /// something else (TeX: The Program §994, §1012; ltoutput.dtx, \output). Answers what is sent, and how the run ends,
-    /// if it does.
-    ///
-    /// What it answers is the step of the run. The lists of a page that it sends are the caller's from then on. The places
-    /// that it tries go to the end of `tries`, where they are wanted; all of them come before what it sends.
-    pub fn turn(
-        &mut self,
-        p: &Params,
-        wanted: bool,
-        tries: &mut Vec<Try>,
-    ) -> Result<Turn, AllocError>
-        requires ready { IsReady p.now self.old }
-        requires params { AreRunnable p.now }
-
-        ensures step { IfOk result (λ t. sent_turn_shown self.new t ≡ step_shown (step p.now (state_of self.old))) }
-        ensures ready { IfOk result (λ t. IfNone t.ending (IsReady p.now self.new)) }
-        ensures ended { OnOk result (IsEnded self.new) }
-        ensures sent { IfOk result (λ t. IfSome t.sent (IsPageSent self.new.store)) }
-        ensures lists { IfOk result (λ t. IfNone t.ending (IfSome t.sent (AreSentLists self.new))) }
-        ensures counted { IfOk result (λ t. IfNone t.ending (self.new.machine.page ≡ self.old.machine.page + sent_count t.sent)) }
-        ensures tries { OnOk result (NotesTries wanted (step p.now (state_of self.old)) tries.old.items tries.new.items) }
-    {
-        let ending = self.make_page(p, wanted, tries)?;
-        let sent = self.machine.sent();
-        Ok(Turn { sent, ending })
-    }
-
-    /// Ends the lists of what a turn sent, once it was written: their places in the store are free then.
-    pub fn done_with(&mut self, sent: Option<Sent>)
-        requires ready { IsReady self.old.machine.params self.old }
-        requires lists { IfSome sent (AreSentLists self.old) }
-
-        ensures ready { IsReady self.new.machine.params self.new }
-        ensures state { state_of self.new ≡ state_of self.old }
-        ensures machine { self.new.machine ≡ self.old.machine }
-        ensures ended { IfSome sent (λ e. AllByRecursion (λ l. get self.new.store.lists l ≡ None) (sent_lists e)) }
-    {
-        if let Some(sent) = sent {
-            end_sent(&mut self.store, sent);
+        'events: loop {
+            let Some(sent) = self.machine.sent() else {
+                return Ok(());
+            };
+            note_sent(happened, sent)?;
         }
     }
 }

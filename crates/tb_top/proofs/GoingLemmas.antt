@@ -6,13 +6,11 @@ use Rattle.tb_io.specs.Faults.{Rose}
 use Rattle.tb_io.specs.Held.{AppendsPrefix}
 use Rattle.tb_io.proofs.Appended.{Appends-twice, prefix_whole, prefix_longer, prefix_on}
 use Rattle.tb_param.specs.declared.Params.{Params}
-use Rattle.tb_node.specs.Plain.{PlainKind, PlainNode}
-use Rattle.tb_builder.specs.declared.Try.{Try}
+use Rattle.tb_node.specs.Plain.{PlainNode}
 use Rattle.tb_column.specs.Column.{PlainSent, warned, shipped}
 use Rattle.tb_report.specs.declared.Totals.{Totals}
-use Rattle.tb_report.specs.Lines.{sent_lines, end_lines}
-use Rattle.tb_report.specs.Totals.{is_item_box, is_float_box, one_if, count_kinds, sheet_nodes, no_totals, with_sent, AreCounts}
-use Rattle.tb_trace.specs.Lines.{try_line}
+use Rattle.tb_report.specs.Lines.{end_lines}
+use Rattle.tb_report.specs.Totals.{is_item_box, is_float_box, count_kinds, sheet_nodes, no_totals, with_sent}
 use Rattle.tb_galley.specs.declared.Galley.{Galley}
 use Rattle.tb_galley.specs.Expand.{expanded}
 use Rattle.tb_output.specs.State.{State, Recorded, first_state}
@@ -23,8 +21,8 @@ use Rattle.tb_top.specs.declared.PageFault.TheVariants as faults
 use Rattle.tb_run.specs.Run.{Run, RunEvent, offered, sent, End, done, node_limit, Step, ends, goes_on, held_count, step, run_by, run_from, firings_left, run_of_state, run_of, classes_of}
 use Rattle.tb_top.specs.Report.{totals_of, event_lines, traced_lines, all_lines, closing_lines, report, trace}
 use Rattle.tb_top.specs.Paginated.{view_text, end_fault, Paginates, EndsWith, Refuses}
-use Rattle.tb_run.specs.PlainRun.{sent_among, Shown, last, next, step_shown, noted, IsLed}
-use Rattle.tb_top.specs.Written.{node_total, viewed, is_traced, try_lines, all_sent_lines, with_all, IsShown, IsWriteFault}
+use Rattle.tb_run.specs.Happened.{noted, step_events}
+use Rattle.tb_top.specs.Written.{viewed, is_traced, with_events, IsShown, IsWriteFault}
 use Rattle.tb_top.proofs.FuelLemmas.{Turns, step-turns}
 
 -- ---- totals
@@ -57,7 +55,7 @@ joined-sent (shipped page sheet) t u = λ i. record {
 }
 
 -- the totals of events, after those so far
-joined-events : (es rest : List RunEvent) (t : Totals) → joined t (totals_of (es ++ rest)) ≡ joined (with_all (sent_among es) t) (totals_of rest)
+joined-events : (es rest : List RunEvent) (t : Totals) → joined t (totals_of (es ++ rest)) ≡ joined (with_events es t) (totals_of rest)
 joined-events [] rest t = refl
 joined-events (offered a ∷ es) rest t = joined-events es rest t
 joined-events (sent e ∷ es) rest t = joined-sent e t (totals_of (es ++ rest)) ∙ joined-events es rest (with_sent e t)
@@ -74,29 +72,24 @@ lines-append : (v : View) (es rest : List RunEvent) → all_lines (event_text v)
 lines-append v [] rest = refl
 lines-append v (e ∷ es) rest = ap (λ ls. event_text v e ++ ls) (lines-append v es rest) ∙ sym (append_assoc (event_text v e) (all_lines (event_text v) es) (all_lines (event_text v) rest))
 
-sent-text : (v : View) (e : PlainSent) → event_text v (sent e) ≡ sent_lines e
-sent-text views.Report e = refl
-sent-text views.Trace e = refl
-sent-text views.Silent e = refl
+-- the lines of what a view notes are what it shows
+pub noted-lines : (v : View) (es : List RunEvent) → all_lines traced_lines (noted (is_traced v) es) ≡ all_lines (event_text v) es
+noted-lines views.Report [] = refl
+noted-lines views.Report (offered t ∷ es) = noted-lines views.Report es
+noted-lines views.Report (sent e ∷ es) = ap (λ ls. traced_lines (sent e) ++ ls) (noted-lines views.Report es)
+noted-lines views.Trace [] = refl
+noted-lines views.Trace (offered t ∷ es) = ap (λ ls. traced_lines (offered t) ++ ls) (noted-lines views.Trace es)
+noted-lines views.Trace (sent e ∷ es) = ap (λ ls. traced_lines (sent e) ++ ls) (noted-lines views.Trace es)
+noted-lines views.Silent [] = refl
+noted-lines views.Silent (offered t ∷ es) = noted-lines views.Silent es
+noted-lines views.Silent (sent e ∷ es) = ap (λ ls. traced_lines (sent e) ++ ls) (noted-lines views.Silent es)
 
-sent-lines : (v : View) (es : List PlainSent) → all_lines (event_text v) (map sent es) ≡ all_sent_lines es
-sent-lines v [] = refl
-sent-lines v (e ∷ es) = λ i. sent-text v e i ++ sent-lines v es i
-
-tries-lines : (v : View) (ts : List Try) → all_lines (event_text v) (map offered ts) ≡ try_lines (noted (is_traced v) ts)
-tries-lines views.Report [] = refl
-tries-lines views.Report (t ∷ ts) = tries-lines views.Report ts
-tries-lines views.Trace [] = refl
-tries-lines views.Trace (t ∷ ts) = ap (λ ls. try_line t ++ ls) (tries-lines views.Trace ts)
-tries-lines views.Silent [] = refl
-tries-lines views.Silent (t ∷ ts) = tries-lines views.Silent ts
-
--- the lines of a step: those of its tries, where the view shows them, and then those of what it sends
-abbrev pub turn_lines : View → List Try → List PlainSent → List ℕ
-turn_lines v ts es = try_lines (noted (is_traced v) ts) ++ all_sent_lines es
-
-turn-lines : (v : View) (ts : List Try) (es : List PlainSent) → all_lines (event_text v) (map offered ts ++ map sent es) ≡ turn_lines v ts es
-turn-lines v ts es = lines-append v (map offered ts) (map sent es) ∙ (λ i. tries-lines v ts i ++ sent-lines v es i)
+-- what is noted counts as much
+pub noted-events : (wanted : Bool) (es : List RunEvent) (t : Totals) → with_events (noted wanted es) t ≡ with_events es t
+noted-events wanted [] t = refl
+noted-events true (offered a ∷ es) t = noted-events true es t
+noted-events false (offered a ∷ es) t = noted-events false es t
+noted-events wanted (sent e ∷ es) t = noted-events wanted es (with_sent e t)
 
 viewed-append : (v : View) (a b : List ℕ) → viewed v (a ++ b) ≡ viewed v a ++ viewed v b
 viewed-append views.Report a b = refl
@@ -146,19 +139,13 @@ pub record Closing (v : View) (e : End) (old now : Option (List ℕ)) (t : Total
   pub totals : totals_of whole.events ≡ t
 
 -- a step that goes on, and one that ends
-pub record Steps (p : Params) (s s' : State) (ts : List Try) (es : List PlainSent) : Type 0 where
-  pub events : List RunEvent
-  pub is : sent_among events ≡ es
-  pub led : events ≡ map offered ts ++ map sent es
+pub record Steps (p : Params) (s s' : State) (es : List RunEvent) : Type 0 where
   pub page : 1 ≤ s'.page
   pub fewer : firings_left p s' < firings_left p s
-  pub later : (fuel : ℕ) → ((run_from p (suc fuel) s).events ≡ events ++ (run_from p fuel s').events) × ((run_from p (suc fuel) s).end ≡ (run_from p fuel s').end)
+  pub later : (fuel : ℕ) → ((run_from p (suc fuel) s).events ≡ es ++ (run_from p fuel s').events) × ((run_from p (suc fuel) s).end ≡ (run_from p fuel s').end)
 
-pub record Stops (p : Params) (s : State) (e : End) (ts : List Try) (es : List PlainSent) : Type 0 where
-  pub events : List RunEvent
-  pub is : sent_among events ≡ es
-  pub led : events ≡ map offered ts ++ map sent es
-  pub later : (fuel : ℕ) → ((run_from p (suc fuel) s).events ≡ events) × ((run_from p (suc fuel) s).end ≡ e)
+pub record Stops (p : Params) (s : State) (e : End) (es : List RunEvent) : Type 0 where
+  pub later : (fuel : ℕ) → ((run_from p (suc fuel) s).events ≡ es) × ((run_from p (suc fuel) s).end ≡ e)
 
 run-on : (p : Params) (s s' : State) (fuel : ℕ) (es : List RunEvent) (rs : List Recorded) → step p s ≡ goes_on es rs s'
     → ((run_from p (suc fuel) s).events ≡ es ++ (run_from p fuel s').events) × ((run_from p (suc fuel) s).end ≡ (run_from p fuel s').end)
@@ -169,85 +156,67 @@ run-last : (p : Params) (s : State) (fuel : ℕ) (es : List RunEvent) (rs : List
 unfolding run_from
 run-last p s fuel es rs e k = (ap (λ st. (run_by (λ u. run_from p fuel u) st).events) k, ap (λ st. (run_by (λ u. run_from p fuel u) st).end) k)
 
-step-on : (p : Params) (s s' : State) (ts : List Try) (es : List PlainSent) (st : Step) → step p s ≡ st → step_shown st ≡ next es s' → IsLed ts st → 1 ≤ s.page → Steps p s s' ts es
-step-on p s s' ts es (ends evs rs e) is shown led page = cc
-step-on p s s' ts es (goes_on evs rs u) is shown led page =
-    let same : u ≡ s' = cc in
-    let sends : sent_among evs ≡ es = cc in
+pub steps : (p : Params) (s s' : State) (es : List RunEvent) (rs : List Recorded) → step p s ≡ goes_on es rs s' → 1 ≤ s.page → Steps p s s' es
+steps p s s' es rs is page =
     let turns = subst (Turns p s) is (step-turns p s page) in
-    subst (λ x. Steps p s x ts es) same (record {
-      events = evs;
-      is = sends;
-      led = led ∙ ap (λ xs. map offered ts ++ map sent xs) sends;
-      page = turns.0;
-      fewer = turns.1;
-      later = λ fuel. run-on p s u fuel evs rs is;
-    })
+    record { page = turns.0; fewer = turns.1; later = λ fuel. run-on p s s' fuel es rs is }
 
-step-last : (p : Params) (s : State) (e : End) (ts : List Try) (es : List PlainSent) (st : Step) → step p s ≡ st → step_shown st ≡ last es e → IsLed ts st → Stops p s e ts es
-step-last p s e ts es (goes_on evs rs u) is shown led = cc
-step-last p s e ts es (ends evs rs f) is shown led =
-    let same : f ≡ e = cc in
-    let sends : sent_among evs ≡ es = cc in
-    subst (λ x. Stops p s x ts es) same (record { events = evs; is = sends; led = led ∙ ap (λ xs. map offered ts ++ map sent xs) sends; later = λ fuel. run-last p s fuel evs rs f is })
-
-pub steps : (p : Params) (s s' : State) (ts : List Try) (es : List PlainSent) → step_shown (step p s) ≡ next es s' → IsLed ts (step p s) → 1 ≤ s.page → Steps p s s' ts es
-steps p s s' ts es shown led page = step-on p s s' ts es (step p s) refl shown led page
-
-pub stops : (p : Params) (s : State) (e : End) (ts : List Try) (es : List PlainSent) → step_shown (step p s) ≡ last es e → IsLed ts (step p s) → Stops p s e ts es
-stops p s e ts es shown led = step-last p s e ts es (step p s) refl shown led
+pub stops : (p : Params) (s : State) (e : End) (es : List RunEvent) (rs : List Recorded) → step p s ≡ ends es rs e → Stops p s e es
+stops p s e es rs is = record { later = λ fuel. run-last p s fuel es rs e is }
 
 -- ---- one turn further
 
-tail-on : (v : View) (ts : List Try) (es : List PlainSent) (all : List RunEvent) (r r' : Run) (events : List RunEvent) → events ≡ map offered ts ++ map sent es → r.events ≡ events ++ r'.events → r.end ≡ r'.end → tail_lines v all r ≡ turn_lines v ts es ++ tail_lines v all r'
-tail-on v ts es all r r' events led e f =
-    (λ i. all_lines (event_text v) (e i) ++ closing_lines (f i) all)
-    ∙ ap (λ ls. ls ++ closing_lines r'.end all) (lines-append v events r'.events ∙ ap (λ ls. ls ++ all_lines (event_text v) r'.events) (ap (all_lines (event_text v)) led ∙ turn-lines v ts es))
-    ∙ append_assoc (turn_lines v ts es) (all_lines (event_text v) r'.events) (closing_lines r'.end all)
+-- the lines of a step in what a view shows
+abbrev pub turn_lines : View → List RunEvent → List ℕ
+turn_lines v es = all_lines (event_text v) es
 
-tail-last : (v : View) (ts : List Try) (es : List PlainSent) (all : List RunEvent) (r : Run) (events : List RunEvent) (e : End) → events ≡ map offered ts ++ map sent es → r.events ≡ events → r.end ≡ e → tail_lines v all r ≡ turn_lines v ts es ++ closing_lines e all
-tail-last v ts es all r events e led a b =
-    (λ i. all_lines (event_text v) (a i) ++ closing_lines (b i) all)
-    ∙ ap (λ ls. ls ++ closing_lines e all) (ap (all_lines (event_text v)) led ∙ turn-lines v ts es)
+tail-on : (v : View) (all : List RunEvent) (r r' : Run) (es : List RunEvent) → r.events ≡ es ++ r'.events → r.end ≡ r'.end → tail_lines v all r ≡ turn_lines v es ++ tail_lines v all r'
+tail-on v all r r' es e f =
+    (λ i. all_lines (event_text v) (e i) ++ closing_lines (f i) all)
+    ∙ ap (λ ls. ls ++ closing_lines r'.end all) (lines-append v es r'.events)
+    ∙ append_assoc (turn_lines v es) (all_lines (event_text v) r'.events) (closing_lines r'.end all)
+
+tail-last : (v : View) (all : List RunEvent) (r : Run) (es : List RunEvent) (e : End) → r.events ≡ es → r.end ≡ e → tail_lines v all r ≡ turn_lines v es ++ closing_lines e all
+tail-last v all r es e a b = λ i. all_lines (event_text v) (a i) ++ closing_lines (b i) all
 
 module _ (p : Params) (v : View) (old now new : Option (List ℕ)) (t : Totals) (whole : Run) where
   appended-on : (written more : List ℕ) → Appends old now (viewed v written) → Appends now new (viewed v more) → Appends old new (viewed v (written ++ more))
   appended-on written more a b = subst (Appends old new) (sym (viewed-append v written more)) (Appends-twice old now new (viewed v written) (viewed v more) a b)
 
-  goes-by : (s s' : State) (ts : List Try) (es : List PlainSent) (written : List ℕ) (fuel : ℕ) → Appends old now (viewed v written) → firings_left p s < fuel → whole_text v whole ≡ written ++ tail_lines v whole.events (run_from p fuel s)
-      → whole.end ≡ (run_from p fuel s).end → totals_of whole.events ≡ joined t (totals_of (run_from p fuel s).events) → Steps p s s' ts es → Appends now new (viewed v (turn_lines v ts es))
-      → Going p v s' old new (with_all es t) whole
-  goes-by s s' ts es written zero a enough text end totals st b = absurd (omega arith)
-  goes-by s s' ts es written (suc fuel) a enough text end totals st b =
+  goes-by : (s s' : State) (es : List RunEvent) (written : List ℕ) (fuel : ℕ) → Appends old now (viewed v written) → firings_left p s < fuel → whole_text v whole ≡ written ++ tail_lines v whole.events (run_from p fuel s)
+      → whole.end ≡ (run_from p fuel s).end → totals_of whole.events ≡ joined t (totals_of (run_from p fuel s).events) → Steps p s s' es → Appends now new (viewed v (turn_lines v es))
+      → Going p v s' old new (with_events es t) whole
+  goes-by s s' es written zero a enough text end totals st b = absurd (omega arith)
+  goes-by s s' es written (suc fuel) a enough text end totals st b =
       let fewer = st.fewer in
       record {
         page = st.page;
-        written = written ++ turn_lines v ts es;
+        written = written ++ turn_lines v es;
         fuel = fuel;
-        appended = appended-on written (turn_lines v ts es) a b;
+        appended = appended-on written (turn_lines v es) a b;
         enough = omega arith;
-        text = text ∙ ap (λ ls. written ++ ls) (tail-on v ts es whole.events (run_from p (suc fuel) s) (run_from p fuel s') st.events st.led (st.later fuel).0 (st.later fuel).1) ∙ sym (append_assoc written (turn_lines v ts es) (tail_lines v whole.events (run_from p fuel s')));
+        text = text ∙ ap (λ ls. written ++ ls) (tail-on v whole.events (run_from p (suc fuel) s) (run_from p fuel s') es (st.later fuel).0 (st.later fuel).1) ∙ sym (append_assoc written (turn_lines v es) (tail_lines v whole.events (run_from p fuel s')));
         end = end ∙ (st.later fuel).1;
-        totals = totals ∙ ap (λ xs. joined t (totals_of xs)) (st.later fuel).0 ∙ joined-events st.events (run_from p fuel s').events t ∙ ap (λ xs. joined (with_all xs t) (totals_of (run_from p fuel s').events)) st.is;
+        totals = totals ∙ ap (λ xs. joined t (totals_of xs)) (st.later fuel).0 ∙ joined-events es (run_from p fuel s').events t;
       }
 
-  pub goes : (s s' : State) (ts : List Try) (es : List PlainSent) → Going p v s old now t whole → step_shown (step p s) ≡ next es s' → IsLed ts (step p s) → Appends now new (viewed v (turn_lines v ts es)) → Going p v s' old new (with_all es t) whole
-  goes s s' ts es g shown led b = goes-by s s' ts es g.written g.fuel g.appended g.enough g.text g.end g.totals (steps p s s' ts es shown led g.page) b
+  pub goes : (s s' : State) (es : List RunEvent) (rs : List Recorded) → Going p v s old now t whole → step p s ≡ goes_on es rs s' → Appends now new (viewed v (turn_lines v es)) → Going p v s' old new (with_events es t) whole
+  goes s s' es rs g is b = goes-by s s' es g.written g.fuel g.appended g.enough g.text g.end g.totals (steps p s s' es rs is g.page) b
 
-  closes-by : (s : State) (e : End) (ts : List Try) (es : List PlainSent) (written : List ℕ) (fuel : ℕ) → Appends old now (viewed v written) → firings_left p s < fuel → whole_text v whole ≡ written ++ tail_lines v whole.events (run_from p fuel s)
-      → whole.end ≡ (run_from p fuel s).end → totals_of whole.events ≡ joined t (totals_of (run_from p fuel s).events) → Stops p s e ts es → Appends now new (viewed v (turn_lines v ts es))
-      → Closing v e old new (with_all es t) whole
-  closes-by s e ts es written zero a enough text end totals st b = absurd (omega arith)
-  closes-by s e ts es written (suc fuel) a enough text end totals st b = record {
-    written = written ++ turn_lines v ts es;
-    appended = appended-on written (turn_lines v ts es) a b;
-    text = text ∙ ap (λ ls. written ++ ls) (tail-last v ts es whole.events (run_from p (suc fuel) s) st.events e st.led (st.later fuel).0 (st.later fuel).1) ∙ sym (append_assoc written (turn_lines v ts es) (closing_lines e whole.events));
+  closes-by : (s : State) (e : End) (es : List RunEvent) (written : List ℕ) (fuel : ℕ) → Appends old now (viewed v written) → firings_left p s < fuel → whole_text v whole ≡ written ++ tail_lines v whole.events (run_from p fuel s)
+      → whole.end ≡ (run_from p fuel s).end → totals_of whole.events ≡ joined t (totals_of (run_from p fuel s).events) → Stops p s e es → Appends now new (viewed v (turn_lines v es))
+      → Closing v e old new (with_events es t) whole
+  closes-by s e es written zero a enough text end totals st b = absurd (omega arith)
+  closes-by s e es written (suc fuel) a enough text end totals st b = record {
+    written = written ++ turn_lines v es;
+    appended = appended-on written (turn_lines v es) a b;
+    text = text ∙ ap (λ ls. written ++ ls) (tail-last v whole.events (run_from p (suc fuel) s) es e (st.later fuel).0 (st.later fuel).1) ∙ sym (append_assoc written (turn_lines v es) (closing_lines e whole.events));
     end = end ∙ (st.later fuel).1;
-    totals = totals ∙ ap (λ xs. joined t (totals_of xs)) ((st.later fuel).0 ∙ sym (append-nil st.events)) ∙ joined-events st.events [] t ∙ joined-nothing (with_all (sent_among st.events) t) ∙ ap (λ xs. with_all xs t) st.is;
+    totals = totals ∙ ap (λ xs. joined t (totals_of xs)) ((st.later fuel).0 ∙ sym (append-nil es)) ∙ joined-events es [] t ∙ joined-nothing (with_events es t);
   }
 
-  pub closes : (s : State) (e : End) (ts : List Try) (es : List PlainSent) → Going p v s old now t whole → step_shown (step p s) ≡ last es e → IsLed ts (step p s) → Appends now new (viewed v (turn_lines v ts es)) → Closing v e old new (with_all es t) whole
-  closes s e ts es g shown led b = closes-by s e ts es g.written g.fuel g.appended g.enough g.text g.end g.totals (stops p s e ts es shown led) b
+  pub closes : (s : State) (e : End) (es : List RunEvent) (rs : List Recorded) → Going p v s old now t whole → step p s ≡ ends es rs e → Appends now new (viewed v (turn_lines v es)) → Closing v e old new (with_events es t) whole
+  closes s e es rs g is b = closes-by s e es g.written g.fuel g.appended g.enough g.text g.end g.totals (stops p s e es rs is) b
 
   -- ---- a run that is cut off while a turn is written
 
@@ -256,20 +225,19 @@ module _ (p : Params) (v : View) (old now new : Option (List ℕ)) (t : Totals) 
       prefix_on old now new (view_text v whole) (viewed v written) (viewed v more) (viewed v rest) a b
       (sym (viewed-whole v whole) ∙ ap (viewed v) text ∙ viewed-append v written (more ++ rest) ∙ ap (λ ls. viewed v written ++ ls) (viewed-append v more rest))
 
-  cut-next : (s s' : State) (ts : List Try) (es : List PlainSent) (written : List ℕ) (fuel : ℕ) → firings_left p s < fuel → whole_text v whole ≡ written ++ tail_lines v whole.events (run_from p fuel s) → Steps p s s' ts es
-      → (rest : List ℕ) × (whole_text v whole ≡ written ++ (turn_lines v ts es ++ rest))
-  cut-next s s' ts es written zero enough text st = absurd (omega arith)
-  cut-next s s' ts es written (suc fuel) enough text st = (tail_lines v whole.events (run_from p fuel s'), text ∙ ap (λ ls. written ++ ls) (tail-on v ts es whole.events (run_from p (suc fuel) s) (run_from p fuel s') st.events st.led (st.later fuel).0 (st.later fuel).1))
+  cut-next : (s s' : State) (es : List RunEvent) (written : List ℕ) (fuel : ℕ) → firings_left p s < fuel → whole_text v whole ≡ written ++ tail_lines v whole.events (run_from p fuel s) → Steps p s s' es
+      → (rest : List ℕ) × (whole_text v whole ≡ written ++ (turn_lines v es ++ rest))
+  cut-next s s' es written zero enough text st = absurd (omega arith)
+  cut-next s s' es written (suc fuel) enough text st = (tail_lines v whole.events (run_from p fuel s'), text ∙ ap (λ ls. written ++ ls) (tail-on v whole.events (run_from p (suc fuel) s) (run_from p fuel s') es (st.later fuel).0 (st.later fuel).1))
 
-  cut-last : (s : State) (e : End) (ts : List Try) (es : List PlainSent) (written : List ℕ) (fuel : ℕ) → firings_left p s < fuel → whole_text v whole ≡ written ++ tail_lines v whole.events (run_from p fuel s) → Stops p s e ts es
-      → (rest : List ℕ) × (whole_text v whole ≡ written ++ (turn_lines v ts es ++ rest))
-  cut-last s e ts es written zero enough text st = absurd (omega arith)
-  cut-last s e ts es written (suc fuel) enough text st = (closing_lines e whole.events, text ∙ ap (λ ls. written ++ ls) (tail-last v ts es whole.events (run_from p (suc fuel) s) st.events e st.led (st.later fuel).0 (st.later fuel).1))
+  cut-last : (s : State) (e : End) (es : List RunEvent) (written : List ℕ) (fuel : ℕ) → firings_left p s < fuel → whole_text v whole ≡ written ++ tail_lines v whole.events (run_from p fuel s) → Stops p s e es
+      → (rest : List ℕ) × (whole_text v whole ≡ written ++ (turn_lines v es ++ rest))
+  cut-last s e es written zero enough text st = absurd (omega arith)
+  cut-last s e es written (suc fuel) enough text st = (closing_lines e whole.events, text ∙ ap (λ ls. written ++ ls) (tail-last v whole.events (run_from p (suc fuel) s) es e (st.later fuel).0 (st.later fuel).1))
 
-  pub cut-short : (s : State) (ts : List Try) (es : List PlainSent) (shown : Shown) → Going p v s old now t whole → step_shown (step p s) ≡ shown → IsLed ts (step p s) → AppendsPrefix now new (viewed v (turn_lines v ts es))
-      → ((s' : State) × (shown ≡ next es s')) ⊎ ((e : End) × (shown ≡ last es e)) → AppendsPrefix old new (view_text v whole)
-  cut-short s ts es shown g is led b (inl k) = let c = cut-next s k.0 ts es g.written g.fuel g.enough g.text (steps p s k.0 ts es (is ∙ k.1) led g.page) in cut-on g.written (turn_lines v ts es) c.0 c.1 g.appended b
-  cut-short s ts es shown g is led b (inr k) = let c = cut-last s k.0 ts es g.written g.fuel g.enough g.text (stops p s k.0 ts es (is ∙ k.1) led) in cut-on g.written (turn_lines v ts es) c.0 c.1 g.appended b
+  pub cut-short : (s : State) (st : Step) → Going p v s old now t whole → step p s ≡ st → AppendsPrefix now new (viewed v (turn_lines v (step_events st))) → AppendsPrefix old new (view_text v whole)
+  cut-short s (goes_on es rs s') g is b = let c = cut-next s s' es g.written g.fuel g.enough g.text (steps p s s' es rs is g.page) in cut-on g.written (turn_lines v es) c.0 c.1 g.appended b
+  cut-short s (ends es rs e) g is b = let c = cut-last s e es g.written g.fuel g.enough g.text (stops p s e es rs is) in cut-on g.written (turn_lines v es) c.0 c.1 g.appended b
 
 -- nothing was written of this turn
 pub prefix-now : (p : Params) (v : View) (s : State) (old now : Option (List ℕ)) (t : Totals) (whole : Run) → Going p v s old now t whole → AppendsPrefix old now (view_text v whole)
@@ -309,38 +277,6 @@ pub prefix-first : (v : View) (g : Galley) (old now : Option (List ℕ)) → App
 prefix-first v g old now b =
     subst (AppendsPrefix old now) (sym (viewed-append v header (tail_lines v (run_of g).events (run_of g))) ∙ viewed-whole v (run_of g))
     (prefix_longer old now (viewed v header) (viewed v (tail_lines v (run_of g).events (run_of g))) b)
-
--- ---- what was counted
-
--- so many pages were shipped before this one, each with at most 3 · 2^23 nodes
-pub record IsTally (t : Totals) (page : ℕ) : Type 0 where
-  pub pages : t.pages + t.warnings + 1 ≡ page
-  pub boxes : t.boxes ≤ 25165824 * (t.pages + t.warnings)
-  pub floats : t.floats ≤ 25165824 * (t.pages + t.warnings)
-
-pub tally-nothing : IsTally no_totals 1
-tally-nothing = record { pages = omega arith; boxes = omega arith; floats = omega arith }
-
-one-most : (t : Bool) → one_if t ≤ 1
-one-most true = omega arith
-one-most false = omega arith
-
-count-most : (test : PlainKind → Bool) (ns : List PlainNode) → count_kinds test ns ≤ length ns
-count-most test [] = omega arith
-count-most test (n ∷ ns) = let a = one-most (test n.kind) in let b = count-most test ns in omega arith
-
-pub tally-sent : (t : Totals) (page : ℕ) (e : PlainSent) → IsTally t page → node_total e ≤ 25165824 → IsTally (with_sent e t) (page + 1)
-tally-sent t page (warned w) h few = let a = h.pages in let b = h.boxes in let c = h.floats in record { pages = omega arith; boxes = omega arith; floats = omega arith }
-tally-sent t page (shipped n sheet) h few =
-    let a = h.pages in
-    let b = h.boxes in
-    let c = h.floats in
-    let d = count-most is_item_box (sheet_nodes sheet) in
-    let e = count-most is_float_box (sheet_nodes sheet) in
-    record { pages = omega arith; boxes = omega arith; floats = omega arith }
-
-pub tally-counts : (t : Totals) (page : ℕ) → IsTally t page → page ≤ 4194306 → AreCounts t
-tally-counts t page h most = let a = h.pages in let b = h.boxes in let c = h.floats in record { pages = omega arith; boxes = omega arith; floats = omega arith; warnings = omega arith }
 
 -- ---- the end
 

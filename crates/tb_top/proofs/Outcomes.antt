@@ -1,5 +1,5 @@
 -- What holds of the ends after a refusal and its line, and which answer the mode and the input decide.
-use Rattle.std.proofs.Common.{◌≡◌, ◌≢◌, ℕ, ◌≤◌, ◌⊎◌, List, [], ◌++◌, length, refl, sym, ◌∙◌, ap, subst, inl, inr, arith, append-nil, length-append, Bool, true, false, nat_lt, Option, None, Some, Ok}
+use Rattle.std.proofs.Common.{◌≡◌, ◌≢◌, ℕ, zero, suc, ◌≤◌, ◌⊎◌, List, [], ◌++◌, length, refl, sym, ◌∙◌, ap, subst, inl, inr, arith, append-nil, length-append, Bool, true, false, nat_lt, Option, None, Some, Ok}
 use Rattle.std.specs.Prelude.{IfSome}
 use Rattle.std.specs.Io.KnownBytes.{Keeps, Appends}
 use Rattle.std.proofs.lemmas.Bool.Decides.{nat_tests}
@@ -23,17 +23,19 @@ use Rattle.tb_report.specs.declared.Totals.{Totals}
 use Rattle.tb_top.specs.declared.PageFault.{PageFault}
 use Rattle.tb_top.specs.declared.PageFault.TheVariants as pages
 use Rattle.tb_top.specs.declared.View.{View}
+use Rattle.tb_top.specs.declared.View.TheVariants as views
 use Rattle.tb_top.specs.declared.input.InputFault.{InputFault}
 use Rattle.tb_top.specs.declared.input.InputFault.TheVariants as inputs
 use Rattle.tb_top.specs.declared.refusal.Refusal.{Refusal}
 use Rattle.tb_top.specs.declared.refusal.Refusal.TheVariants as refusals
 use Rattle.tb_top.specs.declared.status.Status.{Status}
 use Rattle.tb_top.specs.declared.status.Status.TheVariants as answers
-use Rattle.tb_run.specs.Run.{End, done, pool_full, dead_cycles, page_limit, node_limit, run_of}
+use Rattle.tb_generator.specs.Generate.{generated}
+use Rattle.tb_run.specs.Run.{Run, End, done, pool_full, dead_cycles, page_limit, node_limit, run_of}
 use Rattle.tb_top.specs.Paginated.{view_text, end_fault, EndsWith, Paginates, Refuses}
-use Rattle.tb_top.specs.Report.{report, trace}
+use Rattle.tb_top.specs.Report.{report, trace, totals_of}
 use Rattle.tb_top.specs.Laws.{KeepsLaws}
-use Rattle.tb_top.specs.Answer.{Reply, answer_at, line_at, answer_for_cause, err_line, fault_reply, galley_reply, run_reply, text_reply, reply_to}
+use Rattle.tb_top.specs.Answer.{Reply, summary_line, summary_at, is_done, answer_at, line_at, answer_for_cause, err_line, fault_reply, galley_reply, run_reply, text_reply, reply_to}
 use Rattle.tb_top.specs.Outcome.{Stream, Failed, Gives, Reads, IsUnread, IsGalleyWith, ShowsRunOf, HasLawfulRun, LacksRoomForCycles, Decided, Finished, OutOfCycles, CutOff, StandsAfter, TellsLine, Says, Outcome, Succeeds, IsAnswer, input_of}
 use Rattle.tb_top.proofs.CycleAnswers.{no-room}
 use Rattle.tb_top.specs.Refusal.{galley_status, page_status, input_status, words_status, output_status, refusal_status, refusal_line, page_text, output_text, IsNoGalley}
@@ -172,6 +174,75 @@ module _ (m : Mode) (reply : Galley → Reply) (mode : ReadsGalleys m reply) (so
   left_by_reading kept (refusals.Pages f) missing = absurd missing
   left_by_reading kept (refusals.Output f) missing = absurd missing
 
+-- ---- the mode that runs a generated galley
+
+prefix-nothing : (old new : Option (List ℕ)) → AppendsPrefix old new [] → Appends old new []
+prefix-nothing old new (zero, a) = a
+prefix-nothing old new (suc n, a) = a
+
+pub appends-keeps : (old new : Option (List ℕ)) → Appends old new [] → Keeps old new
+appends-keeps None new a = tt
+appends-keeps (Some xs) None a = absurd a
+appends-keeps (Some xs) (Some ys) a = a ∙ append-nil xs
+
+module _ (n : ℕ) (source out : Stream) (left : Keeps source.before source.after) where
+  abbrev run_made : Run
+  run_made = run_of (generated n)
+
+  summary-read : Reads (modes.Generate n) source []
+  summary-read = (left, refl)
+
+  none-written : (e : End) (t : Totals) (f : PageFault) → end_fault e ≡ Some f → summary_at n t e ≡ []
+  none-written (done l) t f is = cc
+  none-written (pool_full line live) t f is = refl
+  none-written (dead_cycles k) t f is = refl
+  none-written (page_limit k) t f is = refl
+  none-written (node_limit k) t f is = refl
+
+  nothing-written : (f : PageFault) → EndsWith views.Silent run_made out.before out.after f → Appends out.before out.after (summary_at n (totals_of run_made.events) run_made.end)
+  nothing-written f r = subst (Appends out.before out.after) (sym (none-written run_made.end (totals_of run_made.events) f r.ended)) r.written
+
+  summary-ended : (f : PageFault) → EndsWith views.Silent run_made out.before out.after f → Decided (Some (modes.Generate n)) (page_status f) source out (err_line (page_text f))
+  summary-ended f r =
+      decided_by (modes.Generate n) [] source out summary-read _ _ _ refl (page_status-ended run_made.end f r.ended) (page_text-ended run_made.end f r.ended) (nothing-written f r)
+
+  out-of-cycles-made : IsValid (generated n) → (k : ℕ) → EndsWith views.Silent run_made out.before out.after (pages.DeadCycles k) → OutOfCycles (Some (modes.Generate n)) source out (err_line (page_text (pages.DeadCycles k)))
+  out-of-cycles-made valid k r =
+      shown_by (modes.Generate n) [] source out summary-read LacksRoomForCycles (no-room (generated n) valid views.Silent out.before out.after k r) answers.DeadCycles (err_line (page_text (pages.DeadCycles k))) _ refl
+      (page_status-ended run_made.end (pages.DeadCycles k) r.ended) (page_text-ended run_made.end (pages.DeadCycles k) r.ended) (nothing-written (pages.DeadCycles k) r)
+
+  -- what stands where the run is refused; it writes nothing
+  pub left_by_run : IsValid (generated n) → (f : PageFault) → Refuses views.Silent run_made out.before out.after f → (f ≡ pages.WriteFault → ⊥) → StandsAfter (Some (modes.Generate n)) (page_status f) source out (err_line (page_text f))
+  left_by_run valid (pages.PoolFull line live) r never = summary-ended (pages.PoolFull line live) r
+  left_by_run valid (pages.DeadCycles k) r never = out-of-cycles-made valid k r
+  left_by_run valid (pages.PageLimit k) r never = summary-ended (pages.PageLimit k) r
+  left_by_run valid (pages.NodeLimit k) r never = summary-ended (pages.NodeLimit k) r
+  left_by_run valid pages.WriteFault r never = absurd (never refl)
+  left_by_run valid pages.Memory r never = (inl (appends-keeps out.before out.after (prefix-nothing out.before out.after r)), refl)
+
+  well-written : (e : End) (t : Totals) → end_fault e ≡ None → (summary_at n t e ≡ summary_line n t) × (is_done e ≡ true) × (answers.Done ≡ answer_at e) × ([] ≡ line_at e)
+  well-written (done l) t is = (refl, refl, refl, refl)
+  well-written (pool_full line live) t is = cc
+  well-written (dead_cycles k) t is = cc
+  well-written (page_limit k) t is = cc
+  well-written (node_limit k) t is = cc
+
+  module _ (ended : end_fault run_made.end ≡ None) where
+    -- what stands where the line was written, or not
+    pub summary_well : HasLawfulRun (generated n) → Appends out.before out.after (summary_line n (totals_of run_made.events)) → Finished (Some (modes.Generate n)) source out []
+    summary_well laws a =
+        let w = well-written run_made.end (totals_of run_made.events) ended in
+        shown_by (modes.Generate n) [] source out summary-read HasLawfulRun laws answers.Done [] _ refl w.2 w.3 (subst (Appends out.before out.after) (sym w.0) a)
+
+    left_by_fault : (f : SinkFault) → (f ≡ outputs.Failed → Failed out) → CutOff (Some (modes.Generate n)) source out → StandsAfter (Some (modes.Generate n)) (output_status f) source out (err_line (output_text f))
+    left_by_fault outputs.Failed rose c = (c, rose refl, refl)
+    left_by_fault outputs.Memory rose c = (inr c, refl)
+
+    pub left_by_summary : (f : SinkFault) → AppendsPrefix out.before out.after (summary_line n (totals_of run_made.events)) → (f ≡ outputs.Failed → Failed out) → StandsAfter (Some (modes.Generate n)) (output_status f) source out (err_line (output_text f))
+    left_by_summary f a rose =
+        let w = well-written run_made.end (totals_of run_made.events) ended in
+        left_by_fault f rose (cut_off_by (modes.Generate n) [] source out summary-read _ refl w.1 (subst (AppendsPrefix out.before out.after) (sym w.0) a))
+
 -- ---- the line of a refusal
 
 answer_for_cause-refused : (range : Bool) (c : Cause) → is_range_cause c ≡ range → answer_for_cause c ≢ answers.Done
@@ -265,6 +336,7 @@ IsAnswer-given : (m : Mode) (status : Status) (source : Stream) (input : List �
 IsAnswer-given modes.Report status source input g is = galley_answer (λ g. run_reply (report (run_of g)) (run_of g)) status source.before source.after input g is
 IsAnswer-given modes.Trace status source input g is = galley_answer (λ g. run_reply (trace (run_of g)) (run_of g)) status source.before source.after input g is
 IsAnswer-given modes.Print status source input g is = galley_answer (λ g. text_reply (printed g)) status source.before source.after input g is
+IsAnswer-given (modes.Generate n) status source input g is = inl is
 
 some_memory : (left : Option (List ℕ)) (P : List ℕ → Type 0) → IfSome left (λ input. P input ⊎ (answers.Memory ≡ answers.Memory))
 some_memory None P = tt
@@ -305,6 +377,7 @@ unread-failed : (m : Mode) (source : Stream) → IsUnread m source → Failed so
 unread-failed modes.Report source is = is
 unread-failed modes.Trace source is = is
 unread-failed modes.Print source is = is
+unread-failed (modes.Generate n) source is = absurd is
 
 pub decided-asked : (asked : Option Mode) (answer : Status) (source out : Stream) (line : List ℕ) → Decided asked answer source out line → asked ≡ None → ⊥
 decided-asked asked answer source out line d none = let no : Some d.mode ≡ None = sym d.asked_for ∙ none in cc

@@ -6,12 +6,15 @@ use Rattle.tb_galley.specs.declared.Galley.{Galley}
 use Rattle.tb_galley.specs.CauseText.{cause_name, is_range_cause}
 use Rattle.tb_galley.specs.Grammar.{grammar}
 use Rattle.tb_galley.specs.Print.{printed}
+use Rattle.tb_report.specs.declared.Totals.{Totals}
+use Rattle.tb_report.specs.Lines.{and_count, line}
+use Rattle.tb_generator.specs.Generate.{generated}
 use Rattle.tb_words.specs.declared.Mode.{Mode}
 use Rattle.tb_words.specs.declared.Mode.TheVariants as modes
 use Rattle.tb_top.specs.declared.status.Status.{Status}
 use Rattle.tb_top.specs.declared.status.Status.TheVariants as answers
 use Rattle.tb_run.specs.Run.{Run, End, done, pool_full, dead_cycles, page_limit, node_limit, run_of}
-use Rattle.tb_top.specs.Report.{report, trace}
+use Rattle.tb_top.specs.Report.{report, trace, totals_of}
 
 -- ---- the answer
 
@@ -100,6 +103,23 @@ run_reply text r = record { answer = answer_at r.end; written = text; line = lin
 abbrev pub text_reply : List ℕ → Reply
 text_reply text = record { answer = answers.Done; written = text; line = []; writes = true }
 
+-- the line about the run of a generated galley
+abbrev pub summary_line : ℕ → Totals → List ℕ
+summary_line n t = line (codes "gen" ++ and_count n ++ codes " pages" ++ and_count t.pages ++ codes " boxes" ++ and_count t.boxes ++ codes " floats" ++ and_count t.floats ++ codes " warnings" ++ and_count t.warnings)
+
+-- what is written about a run that ends so: nothing where it is refused
+abbrev pub summary_at : ℕ → Totals → End → List ℕ
+summary_at n t (done left) = summary_line n t
+summary_at n t _ = []
+
+abbrev pub is_done : End → Bool
+is_done (done left) = true
+is_done _ = false
+
+-- the run of a generated galley
+abbrev pub summary_reply : ℕ → Run → Reply
+summary_reply n r = record { answer = answer_at r.end; written = summary_at n (totals_of r.events) r.end; line = line_at r.end; writes = is_done r.end }
+
 -- of a galley, and else of its fault
 abbrev pub galley_reply : (Galley → Reply) → Result Galley Fault → Reply
 galley_reply reply (Ok g) = reply g
@@ -110,3 +130,4 @@ abbrev pub reply_to : Mode → List ℕ → Reply
 reply_to modes.Report input = galley_reply (λ g. run_reply (report (run_of g)) (run_of g)) (grammar input)
 reply_to modes.Trace input = galley_reply (λ g. run_reply (trace (run_of g)) (run_of g)) (grammar input)
 reply_to modes.Print input = galley_reply (λ g. text_reply (printed g)) (grammar input)
+reply_to (modes.Generate n) input = summary_reply n (run_of (generated n))

@@ -8,4 +8,7 @@ pub mod Answer
 pub mod Outcome
 pub mod Refusal
 pub mod Rows
+pub mod FloatRows
+pub mod ColumnRows
+pub mod VersionRows
 pub mod Written

@@ -1,19 +1,20 @@
 -- What `paginate` writes, piece by piece.
-use Rattle.std.specs.Prelude.{◌≡◌, ◌≤◌, ℕ, Bool, true, false, List, [], ◌∷◌, ◌++◌, length, Option, Result, IfErr, OnOk, OnErr}
+use Rattle.std.specs.Prelude.{◌≡◌, ◌≤◌, ◌⊎◌, ℕ, Bool, true, false, List, [], ◌∷◌, ◌++◌, length, Option, Result, IfErr, OnOk, OnErr}
 use Rattle.std.specs.Io.KnownBytes.{Appends}
 use Rattle.tb_io.specs.Faults.{Rose}
 use Rattle.tb_io.specs.Held.{AppendsPrefix}
-use Rattle.tb_builder.specs.declared.Try.{Try}
 use Rattle.tb_column.specs.Column.{PlainSent, warned, shipped}
 use Rattle.tb_column.specs.Shown.{nodes_shown}
 use Rattle.tb_report.specs.declared.Totals.{Totals}
-use Rattle.tb_report.specs.Lines.{sent_lines, end_lines}
+use Rattle.tb_report.specs.Lines.{end_lines}
 use Rattle.tb_report.specs.Totals.{with_sent, sheet_nodes}
-use Rattle.tb_trace.specs.Lines.{try_line}
 use Rattle.tb_top.specs.declared.View.{View}
 use Rattle.tb_top.specs.declared.View.TheVariants as views
 use Rattle.tb_top.specs.declared.PageFault.{PageFault}
 use Rattle.tb_top.specs.declared.PageFault.TheVariants as faults
+use Rattle.tb_output.specs.declared.RunFault.{RunFault}
+use Rattle.tb_output.specs.declared.RunFault.TheVariants as refused
+use Rattle.tb_run.specs.Run.{RunEvent, offered, sent, End}
 use Rattle.tb_run.specs.declared.routine.Routine.{Routine}
 use Rattle.tb_run.specs.declared.routine.Ending.{Ending}
 use Rattle.tb_run.specs.declared.routine.Ending.TheVariants as endings
@@ -36,19 +37,17 @@ IsShown views.Report = Unit {0}
 IsShown views.Trace = Unit {0}
 IsShown views.Silent = ⊥
 
--- the lines of places that were tried
-abbrev pub try_lines : List Try → List ℕ
-try_lines [] = []
-try_lines (t ∷ ts) = try_line t ++ try_lines ts
+-- the totals with what is sent among events
+abbrev pub with_events : List RunEvent → Totals → Totals
+with_events [] t = t
+with_events (offered a ∷ es) t = with_events es t
+with_events (sent e ∷ es) t = with_events es (with_sent e t)
 
--- the lines of what is sent, and the totals with it
-abbrev pub all_sent_lines : List PlainSent → List ℕ
-all_sent_lines [] = []
-all_sent_lines (e ∷ es) = sent_lines e ++ all_sent_lines es
-
-abbrev pub with_all : List PlainSent → Totals → Totals
-with_all [] t = t
-with_all (e ∷ es) t = with_all es (with_sent e t)
+-- what is sent among events
+abbrev pub sent_among : List RunEvent → List PlainSent
+sent_among [] = []
+sent_among (offered t ∷ es) = sent_among es
+sent_among (sent e ∷ es) = e ∷ sent_among es
 
 -- writing failed: there was no memory, or the sink failed, which a silent view does not ask of it
 abbrev pub IsWriteFault : View → ℕ → ℕ → PageFault → Type 0
@@ -70,14 +69,23 @@ pub record Shows {T : Type 0} (v : View) (held_old held_new : Option (List ℕ))
 abbrev pub last_lines : Routine → Totals → List ℕ
 last_lines r t = end_lines (nodes_shown r.store r.builder.page) t
 
--- a refusal: that of the ending, where nothing more is written, or a failure at the last lines
+-- the refusal of a fault of the output routine's machine; it is none for want of memory
+abbrev pub IsFaultRefusal : RunFault → PageFault → Type 0
+IsFaultRefusal (refused.DeadCycles n) f = f ≡ faults.DeadCycles n
+IsFaultRefusal (refused.PageLimit n) f = f ≡ faults.PageLimit n
+IsFaultRefusal refused.Memory f = f ≡ faults.Memory
+
+-- the refusal of an ending
+abbrev pub IsRefusalOf : Ending → PageFault → Type 0
+IsRefusalOf endings.Done f = ⊥
+IsRefusalOf (endings.PoolFull line live) f = f ≡ faults.PoolFull line live
+IsRefusalOf (endings.Fault e) f = IsFaultRefusal e f
+IsRefusalOf (endings.NodeLimit n) f = f ≡ faults.NodeLimit n
+
+-- the ending is a refusal, and nothing more is written; or the run is done, and writing its last lines failed
 abbrev pub StopsWith : View → Routine → Totals → Ending → Option (List ℕ) → Option (List ℕ) → ℕ → ℕ → PageFault → Type 0
-StopsWith v r t e held_old held_new before now faults.Memory = (e ≡ endings.Done) × AppendsPrefix held_old held_new (viewed v (last_lines r t))
-StopsWith v r t e held_old held_new before now faults.WriteFault = (e ≡ endings.Done) × AppendsPrefix held_old held_new (viewed v (last_lines r t)) × Rose before now × IsShown v
-StopsWith v r t e held_old held_new before now (faults.PoolFull line live) = ⊥
-StopsWith v r t e held_old held_new before now (faults.DeadCycles n) = (e ≡ endings.DeadCycles n) × (held_new ≡ held_old)
-StopsWith v r t e held_old held_new before now (faults.PageLimit n) = (e ≡ endings.PageLimit n) × (held_new ≡ held_old)
-StopsWith v r t e held_old held_new before now (faults.NodeLimit n) = (e ≡ endings.NodeLimit n) × (held_new ≡ held_old)
+StopsWith v r t e held_old held_new before now f =
+    (IsRefusalOf e f × (held_new ≡ held_old)) ⊎ ((e ≡ endings.Done) × IsWriteFault v before now f × AppendsPrefix held_old held_new (viewed v (last_lines r t)))
 
 -- the run ended well: its totals are answered, and its last lines are written
 pub record EndsWell (v : View) (r : Routine) (t : Totals) (e : Ending) (held_old held_new : Option (List ℕ)) (u : Totals) : Type 0 where

@@ -10,6 +10,7 @@ mod pages;
 mod refusal;
 mod rows;
 mod status;
+mod summary;
 mod top;
 
 pub use laws::{

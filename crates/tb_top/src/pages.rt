@@ -1,33 +1,31 @@
 //! From a galley to the text of its run.
 
-ghost use Rattle.std.specs.Prelude.{◌≡◌, ◌≢◌, ◌≤◌, ◌++◌, Err, OnOk, IfOk, IfErr, IfSome};
+ghost use Rattle.std.specs.Prelude.{◌≡◌, ◌≢◌, ◌≤◌, ◌∷◌, [], ◌++◌, Err, OnOk, IfOk, IfErr};
 ghost use Rattle.tb_io.specs.Faults.{Rose};
 ghost use Rattle.tb_galley.specs.Valid.{IsValid};
-ghost use Rattle.tb_galley.specs.Live.{HasLiveItems};
-ghost use Rattle.tb_column.specs.Shown.{IsLiveSent};
-ghost use Rattle.tb_report.specs.Printable.{IsPrintableSent};
+ghost use Rattle.tb_pool.specs.Lists.{IsLive};
 ghost use Rattle.tb_report.specs.Totals.{AreCounts};
 ghost use Rattle.tb_run.specs.Run.{run_of};
+ghost use Rattle.tb_run.specs.Happened.{event_of, events_of};
+ghost use Rattle.tb_run.specs.Turning.{IsPage, ArePages};
 ghost use Rattle.tb_top.specs.Laws.{KeepsLaws, WithinLimits};
 ghost use Rattle.tb_top.specs.DeadCycles.{HasRoomForCycles};
 ghost use Rattle.tb_top.specs.Paginated.{Paginates, Refuses, IsNotForCycles};
-ghost use Rattle.tb_pool.specs.Lists.{IsLive};
-ghost use Rattle.tb_run.specs.Turning.{sent_by};
-ghost use Rattle.tb_top.specs.Written.{Shows, all_sent_lines, try_lines, is_traced, with_all, EndsWell, StopsWith};
+ghost use Rattle.tb_top.specs.Report.{traced_lines, all_lines};
+ghost use Rattle.tb_top.specs.Written.{Shows, viewed, with_events, is_traced, EndsWell, StopsWith, IsFaultRefusal};
 
 #[cfg(test)]
 mod tests;
 
 use crate::{PageFault, View};
 use std::alloc::{AllocError, Global};
-use tb_builder::Try;
-use tb_column::Sent;
 use tb_galley::Galley;
 use tb_io::{Sink, SinkFault, write_all};
 use tb_node::Node;
+use tb_output::RunFault;
 use tb_pool::Lists;
 use tb_report::{HEADER, Totals, end_text, put_sent};
-use tb_run::{Ending, Routine};
+use tb_run::{Ending, Happening, Routine};
 use tb_trace::put_try;
 
 impl From<AllocError> for PageFault {
@@ -43,9 +41,9 @@ impl From<AllocError> for PageFault {
 /// Makes the pages of a galley and writes what a view shows of the run, piece by piece: the report, with the places that
 /// were tried or without, or nothing. Answers what was shipped.
 ///
-/// The run ends well where nothing fires any more, or is refused: the page fired too often without a page shipped
-/// (`DeadCycles`), too many pages would be shipped (`PageLimit`), or too many nodes wait at the start or after a firing
-/// (`NodeLimit`). Its text up to there is written then. A run that ended well has shipped each box, rule, float and
+/// The run ends well where nothing fires any more, or is refused: a float or marginal note found no room (`PoolFull`), the
+/// page fired too often without a page shipped (`DeadCycles`), too many pages would be shipped (`PageLimit`), or too many
+/// nodes wait at the start or after a firing (`NodeLimit`). Its text up to there is written then. A run that ended well has shipped each box, rule, float and
 /// note of the galley once, the boxes and rules of the text in their order, and the floats of each class (in release
 /// 2014 of each class and width) in theirs, but for those that a break carried; and the totals show it. Whatever the end, no float without `!` was placed past the
 /// limits of its list. The answer is not `DeadCycles` where `maxdeadcycles` is at least sixteen and four for each float,
@@ -58,7 +56,6 @@ pub fn paginate<K: Sink>(
     out: &mut K,
 ) -> Result<Totals, PageFault>
     requires valid { IsValid galley.now }
-    requires live { HasLiveItems galley.now }
 
     ensures done { IfOk result (Paginates view (run_of galley.now) (K.held out.old) (K.held out.new)) }
     ensures laws { IfOk result (KeepsLaws galley.now) }
@@ -71,30 +68,20 @@ pub fn paginate<K: Sink>(
     ensures later { K.faults out.old ≤ K.faults out.new }
 {
     show(view, HEADER, out)?;
-    let p = &galley.params;
     let mut routine = Routine::new(alloc, galley)?;
     let mut totals = Totals::new();
-    let mut tries = Vec::new(alloc);
+    let mut happened = Vec::new(alloc);
     let mut text = Vec::new(alloc);
-    if let Some(ending) = routine.node_limit(p) {
+    if let Some(ending) = routine.node_limit() {
         return finish(alloc, &routine, view, &totals, ending, out);
     }
     'firing: loop {
-        tries.clear();
-        let turn = routine.turn(p, is_traced(view), &mut tries)?;
-        send(
-            &routine.store,
-            &tries,
-            turn.sent,
-            view,
-            &mut totals,
-            &mut text,
-            out,
-        )?;
-        if let Some(ending) = turn.ending {
+        let ending = routine.turn(is_traced(view), &mut happened)?;
+        send(&routine.store, &happened, view, &mut totals, &mut text, out)?;
+        if let Some(ending) = ending {
             return finish(alloc, &routine, view, &totals, ending, out);
         }
-        routine.done_with(turn.sent);
+        routine.done_with(&happened);
     }
 }
 
@@ -123,57 +110,90 @@ fn is_traced(view: View) -> bool
     }
 }
 
-// Puts the lines of places that were tried at the end of a text.
-fn put_tries(text: &mut Vec<u8>, tries: &[Try]) -> Result<(), AllocError>
-    ensures { OnOk result (text.new.items ≡ text.old.items ++ try_lines tries.now) }
-{
-    for tried in tries {
-        put_try(text, tried)?;
-    }
-    Ok(())
-}
-
-// Counts what the routine sends, and puts its lines at the end of a text.
-fn put_counted(
-    text: &mut Vec<u8>,
-    store: &Lists<Node>,
-    sent: Option<Sent>,
-    totals: &mut Totals,
-) -> Result<(), AllocError>
-    requires printable { IfSome sent (IsPrintableSent store.now) }
-    requires live { IfSome sent (IsLiveSent store.now) }
-    requires room { AreCounts (with_all (sent_by store.now sent) totals.old) }
-    ensures lines { OnOk result (text.new.items ≡ text.old.items ++ all_sent_lines (sent_by store.now sent)) }
-    ensures counted { OnOk result (totals.new ≡ with_all (sent_by store.now sent) totals.old) }
-{
-    let Some(sent) = sent else {
-        return Ok(());
-    };
-    totals.count(store, &sent);
-    put_sent(text, store, &sent)
-}
-
-// Counts what the routine sends, and writes the lines of the places that were tried and then its own. They are put
-// together in a text that is used again.
+// Counts what was sent, and writes the lines of what happened, in a text that is used again.
 fn send<K: Sink>(
     store: &Lists<Node>,
-    tries: &[Try],
-    sent: Option<Sent>,
+    happened: &[Happening],
     view: View,
     totals: &mut Totals,
     text: &mut Vec<u8>,
     out: &mut K,
 ) -> Result<(), PageFault>
-    requires printable { IfSome sent (IsPrintableSent store.now) }
-    requires live { IfSome sent (IsLiveSent store.now) }
-    requires room { AreCounts (with_all (sent_by store.now sent) totals.old) }
-    ensures shown { Shows view (K.held out.old) (K.held out.new) (K.faults out.old) (K.faults out.new) (try_lines tries.now ++ all_sent_lines (sent_by store.now sent)) result }
-    ensures counted { OnOk result (totals.new ≡ with_all (sent_by store.now sent) totals.old) }
+    requires pages { ArePages store.now happened.now }
+    requires room { AreCounts (with_events (events_of store.now happened.now) totals.old) }
+    ensures shown { Shows view (K.held out.old) (K.held out.new) (K.faults out.old) (K.faults out.new) (all_lines traced_lines (events_of store.now happened.now)) result }
+    ensures counted { OnOk result (totals.new ≡ with_events (events_of store.now happened.now) totals.old) }
 {
+    count_happened(store, happened, totals);
     text.clear();
-    put_tries(text, tries)?;
-    put_counted(text, store, sent, totals)?;
+    put_happened(text, store, happened, view)?;
     show(view, text.as_slice(), out)
+}
+
+// Counts the pages and warnings that were sent.
+fn count_happened(store: &Lists<Node>, happened: &[Happening], totals: &mut Totals)
+    requires pages { ArePages store.now happened.now }
+    requires room { AreCounts (with_events (events_of store.now happened.now) totals.old) }
+    ensures { totals.new ≡ with_events (events_of store.now happened.now) totals.old }
+{
+    for happening in happened {
+        count_happening(store, happening, totals);
+    }
+}
+
+fn count_happening(store: &Lists<Node>, happening: &Happening, totals: &mut Totals)
+    requires page { IsPage store.now happening.now }
+    requires room { AreCounts (with_events (event_of store.now happening.now ∷ []) totals.old) }
+    ensures { totals.new ≡ with_events (event_of store.now happening.now ∷ []) totals.old }
+{
+    match happening {
+        Happening::Tried(_) => {}
+        Happening::Sent(event) => totals.count(store, &event.sent),
+    }
+}
+
+// Appends the lines of what happened to a text, unless the view shows nothing.
+fn put_happened(
+    text: &mut Vec<u8>,
+    store: &Lists<Node>,
+    happened: &[Happening],
+    view: View,
+) -> Result<(), AllocError>
+    requires pages { ArePages store.now happened.now }
+    ensures { OnOk result (viewed view text.new.items ≡ viewed view (text.old.items ++ all_lines traced_lines (events_of store.now happened.now))) }
+{
+    match view {
+        View::Silent => Ok(()),
+        View::Report | View::Trace => put_lines(text, store, happened),
+    }
+}
+
+fn put_lines(
+    text: &mut Vec<u8>,
+    store: &Lists<Node>,
+    happened: &[Happening],
+) -> Result<(), AllocError>
+    requires pages { ArePages store.now happened.now }
+    ensures { OnOk result (text.new.items ≡ text.old.items ++ all_lines traced_lines (events_of store.now happened.now)) }
+{
+    for happening in happened {
+        put_happening(text, store, happening)?;
+    }
+    Ok(())
+}
+
+fn put_happening(
+    text: &mut Vec<u8>,
+    store: &Lists<Node>,
+    happening: &Happening,
+) -> Result<(), AllocError>
+    requires { IsPage store.now happening.now }
+    ensures { OnOk result (text.new.items ≡ text.old.items ++ traced_lines (event_of store.now happening.now)) }
+{
+    match happening {
+        Happening::Tried(tried) => put_try(text, tried),
+        Happening::Sent(event) => put_sent(text, store, &event.sent),
+    }
 }
 
 // The end of a run: the lines of what is left and the last line, where it ends well, or its refusal.
@@ -196,8 +216,19 @@ fn finish<K: Sink>(
             show(view, &text, out)?;
             Ok(*totals)
         }
-        Ending::DeadCycles { count } => Err(PageFault::DeadCycles { count }),
-        Ending::PageLimit { pages } => Err(PageFault::PageLimit { pages }),
+        Ending::PoolFull { line, live } => Err(PageFault::PoolFull { line, live }),
+        Ending::Fault(fault) => Err(refusal_of(fault)),
         Ending::NodeLimit { count } => Err(PageFault::NodeLimit { count }),
+    }
+}
+
+// The refusal of a fault of the output routine.
+fn refusal_of(fault: RunFault) -> PageFault
+    ensures { IsFaultRefusal fault result }
+{
+    match fault {
+        RunFault::DeadCycles { count } => PageFault::DeadCycles { count },
+        RunFault::PageLimit { pages } => PageFault::PageLimit { pages },
+        RunFault::Memory => PageFault::Memory,
     }
 }

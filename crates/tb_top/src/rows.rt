@@ -1,8 +1,14 @@
 //! Worked rows of the definitions.
 ghost use Rattle.tb_top.specs.Rows.{WorkedRows};
+ghost use Rattle.tb_top.specs.FloatRows.{FloatRows};
+ghost use Rattle.tb_top.specs.ColumnRows.{ColumnRows};
+ghost use Rattle.tb_top.specs.VersionRows.{VersionRows};
 
 /// The definitions against which [`run`](crate::run) is proved give the worked rows: from the bytes
 /// of each galley the answer, the report and the line on `err`.
 pub fn check_rows()
-    ensures { WorkedRows }
+    ensures text { WorkedRows }
+    ensures floats { FloatRows }
+    ensures columns { ColumnRows }
+    ensures versions { VersionRows }
 {}

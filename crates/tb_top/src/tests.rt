@@ -1,13 +1,22 @@
 // Whole runs over ends in memory.
+mod column_rows;
+mod float_rows;
+mod long_page;
 mod modes;
 mod rows;
+mod version_rows;
 
 use super::*;
+use column_rows::COLUMN_ROWS;
+use float_rows::FLOAT_ROWS;
+use long_page::{long_galley, long_report};
 use modes::MODE_ROWS;
-use rows::ROWS;
+use rows::{ROWS, Row};
 use std::alloc::Global;
+use std::process::Abort;
 use std::test::Fail;
 use tb_io::{MemSink, MemSource};
+use version_rows::VERSION_ROWS;
 
 // What a run left.
 #[derive(Drop)]
@@ -50,14 +59,49 @@ fn run_with(
     Ok(Left { status, out, err })
 }
 
-#[test]
-fn rows_have_their_answers(rt: HostRuntime) -> Result<(), Fail> {
-    for row in &ROWS {
+// Runs each row, and tells where it differs.
+fn check(rt: &impl Abort, alloc: Global, rows: &[Row]) -> Result<(), Fail> {
+    for row in rows {
         let name = row.name;
-        let left = run_on(rt.alloc(), row.input, &NONE)?;
+        let left = run_on(alloc, row.input, &NONE)?;
         assert_eq!(rt; left.status, row.status, "{name}");
         assert_eq!(rt; left.out.held(), row.out, "{name}");
         assert_eq!(rt; left.err.held(), row.err, "{name}");
+    }
+    Ok(())
+}
+
+#[test]
+fn rows_have_their_answers(rt: HostRuntime) -> Result<(), Fail> {
+    check(&rt, rt.alloc(), &ROWS)?;
+    check(&rt, rt.alloc(), &FLOAT_ROWS)?;
+    check(&rt, rt.alloc(), &COLUMN_ROWS)?;
+    check(&rt, rt.alloc(), &VERSION_ROWS)
+}
+
+#[test]
+fn long_page_is_built_again_at_each_float(rt: HostRuntime) -> Result<(), Fail> {
+    let alloc = rt.alloc();
+    let left = run_on(alloc, &long_galley(alloc)?, &NONE)?;
+    assert_eq!(rt; left.status, 0);
+    assert!(rt; left.out.held() == long_report(alloc)?.as_slice());
+    Ok(())
+}
+
+#[test]
+fn generated_galleys_are_run(rt: HostRuntime) -> Result<(), Fail> {
+    let alloc = rt.alloc();
+    for count in ["1", "1000"] {
+        let words = vec![in alloc;
+            String::from_str(alloc, "galley_pages")?,
+            String::from_str(alloc, "--mode=gen")?,
+            String::from_str(alloc, "--count")?,
+            String::from_str(alloc, count)?,
+        ]?;
+        let left = run_with(alloc, &words, b"", &NONE)?;
+        assert_eq!(rt; left.status, 0, "{count}");
+        assert!(rt; left.out.held().starts_with(b"gen "), "{count}");
+        assert!(rt; left.out.held().ends_with(b"\n"), "{count}");
     }
     Ok(())
 }

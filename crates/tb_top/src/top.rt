@@ -1,17 +1,20 @@
 //! The top call.
 ghost use Rattle.std.specs.Prelude.{◌≡◌, ◌⊎◌, Some, None, map, string_bytes, IfOk, IfErr};
+ghost use Rattle.std.specs.Io.KnownBytes.{Keeps};
 ghost use Rattle.tb_io.specs.Faults.{Rose};
-ghost use Rattle.tb_galley.specs.Live.{HasLiveItems};
 ghost use Rattle.tb_galley.specs.Valid.{IsValid};
-ghost use Rattle.tb_words.specs.Words.{asked};
-ghost use Rattle.tb_top.specs.Outcome.{stream, Outcome, StandsAfter, Succeeds, IsAnswer, Says};
+ghost use Rattle.tb_generator.specs.Generate.{generated};
+ghost use Rattle.tb_words.specs.Words.{asked, IsCount};
+ghost use Rattle.tb_top.specs.Outcome.{Stream, stream, Outcome, StandsAfter, Succeeds, IsAnswer, Says};
 ghost use Rattle.tb_top.specs.Refusal.{served_status, served_line, refusal_status, refusal_line, IsNoGalley, GivesGalley};
 
 use crate::input::read_input;
 use crate::refusal::Refusal;
+use crate::summary::summary_text;
 use crate::{Status, View, paginate};
 use std::alloc::Global;
 use tb_galley::{Galley, parse, print};
+use tb_generator::generate;
 use tb_io::{Sink, SinkFault, Source, write_all};
 use tb_words::{Mode, read_words};
 
@@ -76,6 +79,7 @@ fn serve<S: Source, K: Sink>(
         Mode::Report => write_report(alloc, source, out),
         Mode::Trace => write_trace(alloc, source, out),
         Mode::Print => write_canonical(alloc, source, out),
+        Mode::Generate { count } => write_summary(alloc, count, out),
     }
 }
 
@@ -128,11 +132,24 @@ fn write_canonical<S: Source, K: Sink>(
     Ok(())
 }
 
+// Runs a generated galley, and writes one line about it. Nothing is read.
+fn write_summary<K: Sink>(alloc: Global, count: u32, out: &mut K) -> Result<(), Refusal>
+    requires { IsCount count }
+    ensures { (source : Stream) → Keeps source.before source.after → StandsAfter (Some (Mode.Generate count)) (served_status result) source
+        (stream (K.held out.old) (K.held out.new) (K.faults out.old) (K.faults out.new))
+        (served_line result) }
+{
+    let galley = generate(alloc, count)?;
+    let totals = paginate(alloc, &galley, View::Silent, out)?;
+    let line = summary_text(alloc, count, &totals)?;
+    write_all(out, &line)?;
+    Ok(())
+}
+
 // Reads the whole input, and the galley in it.
 fn read_galley<S: Source>(alloc: Global, source: &mut S) -> Result<Galley, Refusal>
     ensures read { IfOk result (GivesGalley (stream (S.left source.old) (S.left source.new) (S.faults source.old) (S.faults source.new))) }
     ensures valid { IfOk result IsValid }
-    ensures live { IfOk result HasLiveItems }
     ensures refused { IfErr result (IsNoGalley (stream (S.left source.old) (S.left source.new) (S.faults source.old) (S.faults source.new))) }
 {
     let input = read_input(alloc, source)?;

@@ -2,7 +2,7 @@
 use Rattle.std.specs.Prelude.{◌≡◌, List, [], ◌∷◌, codes, Some, None}
 use Rattle.clap.specs.Words.{Text}
 use Rattle.tb_words.specs.Words.{asked}
-use Rattle.tb_words.specs.declared.Mode.TheVariants.{Report, Trace, Print}
+use Rattle.tb_words.specs.declared.Mode.TheVariants.{Report, Trace, Print, Generate}
 
 -- the words after the program's name
 abbrev pub named : List Text → List Text
@@ -20,11 +20,11 @@ pub record WordsRows : Type 0 where
   pub with_equals : asked (named (codes "--mode=print" ∷ [])) ≡ Some Print
   pub another_mode : asked (named (codes "--mode" ∷ codes "nothing" ∷ [])) ≡ None
   -- the count, with its default; it is checked in every mode
-  pub count_left_out : asked (named (codes "--mode" ∷ codes "gen" ∷ [])) ≡ None
-  pub count_given : asked (named (codes "--mode" ∷ codes "gen" ∷ codes "--count" ∷ codes "7" ∷ [])) ≡ None
-  pub count_first : asked (named (codes "--count=40000" ∷ codes "--mode=gen" ∷ [])) ≡ None
-  pub count_with_plus : asked (named (codes "--mode" ∷ codes "gen" ∷ codes "--count" ∷ codes "+7" ∷ [])) ≡ None
-  pub count_with_zeros : asked (named (codes "--mode" ∷ codes "gen" ∷ codes "--count" ∷ codes "007" ∷ [])) ≡ None
+  pub count_left_out : asked (named (codes "--mode" ∷ codes "gen" ∷ [])) ≡ Some (Generate 1000)
+  pub count_given : asked (named (codes "--mode" ∷ codes "gen" ∷ codes "--count" ∷ codes "7" ∷ [])) ≡ Some (Generate 7)
+  pub count_first : asked (named (codes "--count=40000" ∷ codes "--mode=gen" ∷ [])) ≡ Some (Generate 40000)
+  pub count_with_plus : asked (named (codes "--mode" ∷ codes "gen" ∷ codes "--count" ∷ codes "+7" ∷ [])) ≡ Some (Generate 7)
+  pub count_with_zeros : asked (named (codes "--mode" ∷ codes "gen" ∷ codes "--count" ∷ codes "007" ∷ [])) ≡ Some (Generate 7)
   pub count_zero : asked (named (codes "--mode" ∷ codes "gen" ∷ codes "--count" ∷ codes "0" ∷ [])) ≡ None
   pub count_too_large : asked (named (codes "--mode" ∷ codes "gen" ∷ codes "--count" ∷ codes "40001" ∷ [])) ≡ None
   pub count_of_a_report : asked (named (codes "--count" ∷ codes "7" ∷ [])) ≡ Some Report

@@ -4,9 +4,9 @@
 //! they ask for.
 #![tactic(auto)]
 
-ghost use Rattle.std.specs.Prelude.{◌≡◌, Some, None, map, string_bytes, IfOk, IsErrOf};
+ghost use Rattle.std.specs.Prelude.{◌≡◌, Some, None, map, string_bytes, IfOk, IfSome, IsErrOf};
 ghost use Rattle.clap.specs.Words.{app_of, found_of, kind_of, rows_of};
-ghost use Rattle.tb_words.specs.Words.{asked, command, fault_by, mode_in, mode_named};
+ghost use Rattle.tb_words.specs.Words.{asked, command, count_in, fault_by, mode_in, mode_named, IsServed, HasCount, IsCount};
 ghost use Rattle.tb_words.specs.declared.WordsFault.TheVariants.{Memory};
 
 use clap::builder::ValueParser;
@@ -27,6 +27,8 @@ pub enum Mode {
     Trace,
     /// Reads a galley and writes its canonical text.
     Print,
+    /// Reads nothing, runs the generated galley of so many items, 1 to 40000, and writes one line about it.
+    Generate { count: u32 },
 }
 
 /// Why there is no mode.
@@ -66,6 +68,7 @@ impl From<clap::Error> for WordsFault {
 pub fn read_words(alloc: Global, words: &[String]) -> Result<Mode, WordsFault>
     ensures asked { IfOk result (λ mode. asked (map string_bytes words.now) ≡ Some mode) }
     ensures refused { IsErrOf result WordsFault.Refused → asked (map string_bytes words.now) ≡ None }
+    ensures served { IfOk result IsServed }
 {
     let command = command(alloc)?;
     let matches = command.try_get_matches_from(words)?;
@@ -93,20 +96,36 @@ fn command<'a>(alloc: Global) -> Result<Command<'a>, AllocError>
 
 // The mode that was matched, where it is served.
 fn mode_in(matches: &ArgMatches<'_>) -> Option<Mode>
-    ensures { result ≡ mode_in (rows_of (found_of matches.now)) }
+    requires { HasCount (found_of matches.now) }
+    ensures mode { result ≡ mode_in (rows_of (found_of matches.now)) }
+    ensures served { IfSome result IsServed }
 {
+    let count = count_in(matches);
     let name = matches.get_str("mode")?;
-    mode_named(name)
+    mode_named(name, count)
+}
+
+// The count that was matched.
+fn count_in(matches: &ArgMatches<'_>) -> u32
+    requires { HasCount (found_of matches.now) }
+    ensures count { result ≡ count_in (rows_of (found_of matches.now)) }
+    ensures served { IsCount result }
+{
+    match matches.get_one::<u32>("count") {
+        Some(count) => count,
+        None => unreachable!(),
+    }
 }
 
 // The mode of this name, where it is served.
-fn mode_named(name: &str) -> Option<Mode>
-    ensures { result ≡ mode_named name.now }
+fn mode_named(name: &str, count: u32) -> Option<Mode>
+    ensures { result ≡ mode_named name.now count }
 {
     match name {
         "report" => Some(Mode::Report),
         "trace" => Some(Mode::Trace),
         "print" => Some(Mode::Print),
+        "gen" => Some(Mode::Generate { count }),
         _ => None,
     }
 }

@@ -5,10 +5,10 @@ use Rattle.tb_float.proofs.new_pool.Goals as goal
 
 pub invariant_of-result : goal.invariant_of-result
 invariant_of-result c =
-    let made = stored-new c.open_shelves.new.store c.reserve.new.self c.in_ok-shelves.shelves c.none.result c.args.size c.in_ok-shelves.ensures.0 c.in_ok-shelves.ensures.1 c.in_ok-reserve.ensures.lists c.in_ok-reserve.ensures.room c.requires c.none.ensures in
+    let made = stored-new c.open_shelves.new.store c.reserve.new.self c.in_ok-shelves.shelves c.all.result c.args.size c.in_ok-shelves.ensures.0 c.in_ok-shelves.ensures.1 c.in_ok-reserve.ensures.lists c.in_ok-reserve.ensures.room c.requires c.all.ensures in
     made.stored
 
 pub returns : goal.returns
 returns c =
-    let made = stored-new c.open_shelves.new.store c.reserve.new.self c.in_ok-shelves.shelves c.none.result c.args.size c.in_ok-shelves.ensures.0 c.in_ok-shelves.ensures.1 c.in_ok-reserve.ensures.lists c.in_ok-reserve.ensures.room c.requires c.none.ensures in
+    let made = stored-new c.open_shelves.new.store c.reserve.new.self c.in_ok-shelves.shelves c.all.result c.args.size c.in_ok-shelves.ensures.0 c.in_ok-shelves.ensures.1 c.in_ok-reserve.ensures.lists c.in_ok-reserve.ensures.room c.requires c.all.ensures in
     ap (λ at. seen_pool at c.args.size) made.slots

@@ -9,7 +9,7 @@ pub struct ModeRow {
     pub err: &'static [u8],
 }
 
-pub const MODE_ROWS: [ModeRow; 13] = [
+pub const MODE_ROWS: [ModeRow; 14] = [
     ModeRow {
         name: "mode report said",
         words: &["--mode", "report"],
@@ -40,6 +40,14 @@ pub const MODE_ROWS: [ModeRow; 13] = [
         input: b"galley 1\nset textheight 30\nset topskip 10\nset maxdepth 0\nset baselineskip 0\nset bottom flush\nset skipfootins 0\nset footsplittop 10\nset intextsep 0\nset textfloatsep 0\nset floatsep 0\nset fptop 0\nset fpsep 0\nset fpbot 0\nset dbltextfloatsep 0\nnote n\nbox a 10 0\nend\n",
         status: 0,
         out: b"report 1\ntry 17 t 0 s 0 0 0 0 z 0 g 30 b 10000 p 0 c 100000 #\ntry 18 t 10 s 0 0 0 0 z 0 g 30 b 10000 p 0 c 100000 #\ntry 18 t 10 s 0 65536 0 0 z 0 g 30 b 0 p -10000 c -10000 #\npage 1 one\ncolumn 1 text height 30 natural 10 set stretch fil 20/65536\nnote n 0\nbox a 0 10 0\ntry 18 t 0 s 0 0 0 0 z 0 g 30 b 10000 p 0 c 100000 #\ntry 18 t 10 s 0 0 0 0 z 0 g 30 b 10000 p -10001 c -10001 #\nend pages 1 boxes 1 floats 0 warnings 0\n",
+        err: b"",
+    },
+    ModeRow {
+        name: "trace of a class of factor 500",
+        words: &["--mode", "trace"],
+        input: b"galley 2\nset textheight 40000\nset topskip 10\nset maxdepth 0\nset baselineskip 0\nset bottom flush\nset skipfootins 0\nset footsplittop 10\nset intextsep 0\nset textfloatsep 0\nset floatsep 0\nset fptop 0\nset fpsep 0\nset fpbot 0\nset dbltextfloatsep 0\nclass 3 500 100000 0\nbox a 10000 0\nfoot 3\nbox f 20000 0\nendfoot\nend\n",
+        status: 0,
+        out: b"report 1\ntry 21 t 10000 s 0 0 0 0 z 0 g 30000 b 10000 p 0 c 100000 #\ntry 21 t 10000 s 0 65536 0 0 z 0 g 30000 b 0 p -10000 c -10000 #\npage 1 one\ncolumn 1 text height 40000 natural 30000 set stretch fil 10000/65536\nbox a 0 10000 0\nbox f 20000 20000 0\ntry 21 t 0 s 0 0 0 0 z 0 g 40000 b 10000 p 0 c 100000 #\ntry 21 t 10 s 0 0 0 0 z 0 g 40000 b 10000 p -10001 c -10001 #\nend pages 1 boxes 2 floats 0 warnings 0\n",
         err: b"",
     },
     ModeRow {

@@ -3,7 +3,7 @@ use Rattle.tb_builder.specs.declared.Event.{Event}
 use Rattle.tb_builder.specs.Contents.{contents_of}
 use Rattle.tb_builder.specs.Next.{NextIs}
 use Rattle.tb_builder.proofs.PageableLemmas.{contents_fit}
-use Rattle.tb_builder.proofs.WorkedLemmas.{fits_again, held_again, known_again, fired_no_page}
+use Rattle.tb_builder.proofs.WorkedLemmas.{fits_again, held_again, known_again, fired_no_page, fired_live}
 use Rattle.tb_builder.proofs.tests.fires.Goals as goal
 
 pub loop-init : goal.loop-init
@@ -27,6 +27,13 @@ returns-in-Fired-clause-rest c =
       no_page = fired_no_page c.loop.p.builder.stopped c.in-Fired.page before after c.loop.p.ask c.next.new.store h;
       known = known_again c.loop.p.builder.stopped _ before after c.loop.p.ask c.next.new.store c.loop.invariant.known h;
     }
+
+pub returns-in-Fired-clause-body : goal.returns-in-Fired-clause-body
+returns-in-Fired-clause-body c =
+    let before = contents_of c.loop.p.builder c.loop.p.store in
+    let after = contents_of c.next.new.self c.next.new.store in
+    fired_live c.loop.p.builder.stopped c.in-Fired.page before after c.loop.p.ask c.next.new.store
+    (subst (λ (e : Event). NextIs c.loop.p.builder.stopped e before c.loop.p.ask after c.next.new.store) c.in-Fired.is c.in-Ok.ensures.event)
 
 pub loop-preserved : goal.loop-preserved
 loop-preserved c =

@@ -1,12 +1,13 @@
-use Rattle.std.proofs.Common.{sym, ap, ◌∙◌, subst, FitsSigned, w64, rules}
+use Rattle.std.proofs.Common.{ℤ, sym, ap, ◌∙◌, subst, FitsSigned, w64, rules}
 use Rattle.std.proofs.lemmas.Int.{to_z-of_z}
-use Rattle.tb_float.specs.declared.heights.Heights.{Heights}
+use Rattle.tb_float.specs.declared.by_part.ByPart.{ByPart}
 use Rattle.tb_float.specs.Pool.{HasNoMarks, joined_before, with_floats_before, without_entries}
 use Rattle.tb_float.specs.Ranges.{IsRoom}
-use Rattle.tb_float.specs.Heights.{height_of}
+use Rattle.tb_float.specs.ByPart.{of_part}
 use Rattle.tb_float.specs.Stored.{slots_of, shelf_of, seen_pool, IsStored}
 use Rattle.tb_float.proofs.MoveLemmas.{joined-lists, live-joined}
-use Rattle.tb_float.proofs.SoundLemmas.{sums-are_rooms, height-other, floats_of-seen}
+use Rattle.tb_float.proofs.SoundLemmas.{sums-are_rooms, floats_of-seen}
+use Rattle.tb_float.proofs.PartLemmas.{part-other}
 use Rattle.tb_float.proofs.PoolLemmas.{joined-front, bare-list, joined-without_marks, sums-moved}
 use Rattle.tb_float.proofs.MarkLemmas.{unmarked-joined_before}
 use Rattle.tb_float.proofs.Pool.join_front.Goals as goal
@@ -41,7 +42,7 @@ raise-requires c =
     let at = slots_of i.store i.shelves in
     let f : FitsSigned w64 c.of-height.result = search rules in
     let room = sums-are_rooms at i.heights i.size i.store.spare c.args.from c.self.invariant.sound c.self.invariant.places in
-    let other = ap (λ h. height_of h c.args.to) c.lower.ensures ∙ height-other c.args.from c.args.to _ i.heights (λ e. c.requires.apart (sym e)) in
+    let other = ap (λ h. of_part h c.args.to) c.lower.ensures ∙ part-other c.args.from c.args.to _ i.heights (λ e. c.requires.apart (sym e)) in
     record {
       before = subst IsRoom (sym other) (sums-are_rooms at i.heights i.size i.store.spare c.args.to c.self.invariant.sound c.self.invariant.places);
       more = simp to_z-of_z (subst IsRoom (sym c.of-height.ensures) room);
@@ -60,7 +61,7 @@ invariant_of-self c =
     let made = joined-front i.store c.append-2.new.self i.shelves i.heights i.size c.args.from c.args.to c.self.invariant c.requires.apart bare joined (c.append-2.ensures.spare ∙ c.append.ensures.spare) in
     let lowered = simp to_z-of_z at c.lower.ensures in
     let raised = simp to_z-of_z at c.raise.ensures in
-    subst (λ (g : Heights). IsStored c.append-2.new.self i.shelves g i.size) (sym (sums-moved i.heights c.lower.new.self c.raise.new.self c.args.from c.args.to c.of-height.result (height_of i.heights c.args.from) c.of-height.ensures lowered raised)) made.stored
+    subst (λ (g : ByPart ℤ). IsStored c.append-2.new.self i.shelves g i.size) (sym (sums-moved i.heights c.lower.new.self c.raise.new.self c.args.from c.args.to c.of-height.result (of_part i.heights c.args.from) c.of-height.ensures lowered raised)) made.stored
 
 pub returns : goal.returns
 returns c =

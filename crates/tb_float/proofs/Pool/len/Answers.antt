@@ -1,13 +1,12 @@
-use Rattle.std.proofs.Common.{◌≡◌, length, sym, ap, subst, ◌∙◌, refl, arith}
+use Rattle.std.proofs.Common.{◌≡◌, length, sym, ap, subst, ◌∙◌, arith}
 use Rattle.std.specs.Prelude.{All}
-use Rattle.std.proofs.lemmas.List.{length-map}
 use Rattle.tb_pool.specs.Lists.{list_at}
-use Rattle.tb_float.specs.declared.Part.TheVariants as parts
 use Rattle.tb_float.specs.Lists.{entry_count}
 use Rattle.tb_float.specs.Ranges.{IsSizedFloat}
 use Rattle.tb_float.specs.Stored.{slots_of}
-use Rattle.tb_float.proofs.SlotLemmas.{length-floats_in, floats-sized}
+use Rattle.tb_float.proofs.SlotLemmas.{floats-sized}
 use Rattle.tb_float.proofs.SoundLemmas.{entry_count-seen, count-of, floats_of-seen}
+use Rattle.tb_float.proofs.PoolLemmas.{all-marks}
 use Rattle.tb_float.proofs.Pool.len.Goals as goal
 
 pub returns : goal.returns
@@ -16,11 +15,12 @@ returns c =
     let at = slots_of i.store i.shelves in
     let slots = c.self.invariant.sound.slots in
     let length_is : c.len.result ≡ length (at c.args.p) = c.len.ensures ∙ ap (λ l. length (list_at i.store l)) c.of.ensures in
+    let marked = all-marks at i.size slots in
     let places = c.self.invariant.places in
     record {
       value = length_is ∙ sym (entry_count-seen c.args.p at (slots c.args.p)) ∙ ap (λ v. entry_count c.args.p v.lists) c.self.view_is;
-      marks = rw (← c.self.view_is) (length-map (at parts.Deferred) (λ s. s.marked) ∙ sym (length-floats_in parts.Deferred (at parts.Deferred) refl (slots parts.Deferred)));
-      second_marks = rw (← c.self.view_is) (length-map (at parts.Second) (λ s. s.marked) ∙ sym (length-floats_in parts.Second (at parts.Second) refl (slots parts.Second)));
+      marks = rw (← c.self.view_is) marked.deferred;
+      second_marks = rw (← c.self.view_is) marked.second;
       small = omega (arith, length_is, count-of c.args.p at, places.within, places.small);
       sized = rw (← c.self.view_is) (subst (All IsSizedFloat) (sym (floats_of-seen c.args.p at)) (floats-sized c.args.p (at c.args.p) (slots c.args.p)));
     }

@@ -7,7 +7,8 @@ use Rattle.tb_float.specs.Pool.{with_mark}
 use Rattle.tb_float.specs.Stored.{slots_of, shelf_of}
 use Rattle.tb_float.proofs.SlotLemmas.{length-floats_in}
 use Rattle.tb_float.proofs.SoundLemmas.{floats_of-seen}
-use Rattle.tb_float.proofs.PoolLemmas.{mark-set, waiting-floats}
+use Rattle.tb_float.proofs.WaitingLemmas.{waiting-floats}
+use Rattle.tb_float.proofs.PoolLemmas.{mark-set}
 use Rattle.tb_float.proofs.Pool.mark.Goals as goal
 
 pub slot_at-slot-requires : goal.slot_at-slot-requires

@@ -1,17 +1,18 @@
-use Rattle.std.proofs.Common.{◌≡◌, [], Some, slice_get, sym, ap, ◌∙◌, subst, FitsSigned, w64, rules}
+use Rattle.std.proofs.Common.{ℤ, ◌≡◌, [], Some, slice_get, sym, ap, ◌∙◌, subst, FitsSigned, w64, rules}
 use Rattle.std.proofs.lemmas.Int.{to_z-of_z}
 use Rattle.std.proofs.lemmas.Option.{slice_get_within}
 use Rattle.tb_pool.specs.Lists.{list_at}
-use Rattle.tb_float.specs.declared.heights.Heights.{Heights}
+use Rattle.tb_float.specs.declared.by_part.ByPart.{ByPart}
 use Rattle.tb_float.specs.Lists.{float_before}
 use Rattle.tb_float.specs.Pool.{HasNoMarks, moved_float, with_floats_after, without_entry}
 use Rattle.tb_float.specs.Ranges.{IsRoom}
 use Rattle.tb_float.specs.Rooms.{total_height}
-use Rattle.tb_float.specs.Heights.{height_of}
+use Rattle.tb_float.specs.ByPart.{of_part}
 use Rattle.tb_float.specs.Stored.{slots_of, seen_pool, is_float, IsStored}
+use Rattle.tb_float.proofs.PartLemmas.{part-other}
 use Rattle.tb_float.proofs.PoolLemmas.{float-there, float-is, all-marks, moved-to, entry-is_room, sums-moved}
 use Rattle.tb_float.proofs.SlotLemmas.{slot-there}
-use Rattle.tb_float.proofs.SoundLemmas.{sums-are_rooms, height-other}
+use Rattle.tb_float.proofs.SoundLemmas.{sums-are_rooms}
 use Rattle.tb_float.proofs.MarkLemmas.{unmarked-moved_float}
 use Rattle.tb_float.proofs.Pool.move_to.Goals as goal
 
@@ -56,7 +57,7 @@ raise-requires c =
     let got : slice_get (at c.args.from) c.args.k ≡ Some s = ap (λ l. slice_get (list_at i.store l) c.args.k) (sym c.of.ensures) ∙ c.move_slot-slot.ensures.was in
     let height_is : c.entry_height-height.result ≡ total_height (float_before s.entry []) = c.entry_height-height.ensures ∙ ap (λ r. total_height (float_before r.entry [])) c.slot.view_is in
     let sized = (slot-there c.args.from c.args.k (at c.args.from) s (c.self.invariant.sound.slots c.args.from) got).sized in
-    let other = ap (λ h. height_of h c.args.to) c.lower.ensures ∙ height-other c.args.from c.args.to _ i.heights (λ e. c.requires.apart (sym e)) in
+    let other = ap (λ h. of_part h c.args.to) c.lower.ensures ∙ part-other c.args.from c.args.to _ i.heights (λ e. c.requires.apart (sym e)) in
     record {
       before = subst IsRoom (sym other) (sums-are_rooms at i.heights i.size i.store.spare c.args.to c.self.invariant.sound c.self.invariant.places);
       more = simp to_z-of_z (subst IsRoom (sym height_is) (entry-is_room s.entry sized));
@@ -76,7 +77,7 @@ invariant_of-self c =
     let made = moved-to i.store c.move_slot-slot.new.store i.shelves i.heights i.size c.args.from c.args.to c.args.k s c.self.invariant c.requires.apart got (ap is_float is) moved c.move_slot-slot.ensures.spare in
     let lowered = simp to_z-of_z at c.lower.ensures in
     let raised = simp to_z-of_z at c.raise.ensures in
-    subst (λ (g : Heights). IsStored c.move_slot-slot.new.store i.shelves g i.size) (sym (sums-moved i.heights c.lower.new.self c.raise.new.self c.args.from c.args.to c.entry_height-height.result (total_height (float_before s.entry [])) height_is lowered raised)) made.stored
+    subst (λ (g : ByPart ℤ). IsStored c.move_slot-slot.new.store i.shelves g i.size) (sym (sums-moved i.heights c.lower.new.self c.raise.new.self c.args.from c.args.to c.entry_height-height.result (total_height (float_before s.entry [])) height_is lowered raised)) made.stored
 
 pub returns-clause-moved : goal.returns-clause-moved
 returns-clause-moved c = λ f e.

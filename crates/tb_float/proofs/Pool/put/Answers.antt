@@ -1,11 +1,11 @@
-use Rattle.std.proofs.Common.{◌<◌, [], ◌∷◌, sym, ap, ◌∙◌, subst, FitsSigned, w64, rules, arith}
+use Rattle.std.proofs.Common.{ℤ, ◌<◌, [], ◌∷◌, sym, ap, ◌∙◌, subst, FitsSigned, w64, rules, arith}
 use Rattle.std.specs.Prelude.{◌+ℤ◌}
 use Rattle.std.proofs.lemmas.Int.{to_z-of_z}
 use Rattle.tb_float.specs.declared.Part.TheVariants as parts
-use Rattle.tb_float.specs.declared.heights.Heights.{Heights}
+use Rattle.tb_float.specs.declared.by_part.ByPart.{ByPart}
 use Rattle.tb_float.specs.Lists.{live_count}
 use Rattle.tb_float.specs.Pool.{with_current}
-use Rattle.tb_float.specs.Heights.{height_of, with_height}
+use Rattle.tb_float.specs.ByPart.{of_part, with_part}
 use Rattle.tb_float.specs.Stored.{slots_of, seen_lists, IsStored}
 use Rattle.tb_float.proofs.SoundLemmas.{sums-are_rooms, live_count-seen}
 use Rattle.tb_float.proofs.PoolLemmas.{put-in}
@@ -32,10 +32,10 @@ invariant_of-self c =
     let i = c.self.inside in
     let f : FitsSigned w64 c.entry_height.result = search rules in
     let raised = simp to_z-of_z at c.raise.ensures in
-    let heights = raised ∙ ap (λ z. with_height parts.Current (height_of i.heights parts.Current +ℤ z) i.heights) c.entry_height.ensures in
+    let heights = raised ∙ ap (λ z. with_part parts.Current (of_part i.heights parts.Current +ℤ z) i.heights) c.entry_height.ensures in
     let room : live_count (seen_lists (slots_of i.store i.shelves)) < i.size = rw (← c.self.view_is) at c.requires.room in
     let made = put-in i.store c.push_back.new.self i.shelves i.heights i.size c.args.entry c.self.invariant c.requires.sized room c.push_back.ensures.pushed c.push_back.ensures.spare in
-    subst (λ (g : Heights). IsStored c.push_back.new.self i.shelves g i.size) (sym heights) made.stored
+    subst (λ (g : ByPart ℤ). IsStored c.push_back.new.self i.shelves g i.size) (sym heights) made.stored
 
 pub returns : goal.returns
 returns c =

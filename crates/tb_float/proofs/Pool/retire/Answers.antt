@@ -1,15 +1,15 @@
-use Rattle.std.proofs.Common.{◌≡◌, [], ◌∷◌, Some, drop, length, slice_get, sym, ap, ◌∙◌, subst, FitsSigned, w64, rules, arith}
+use Rattle.std.proofs.Common.{ℤ, ◌≡◌, [], ◌∷◌, Some, drop, length, slice_get, sym, ap, ◌∙◌, subst, FitsSigned, w64, rules, arith}
 use Rattle.std.specs.Prelude.{◌-ℤ◌}
 use Rattle.std.specs.Option.{option_map}
 use Rattle.std.proofs.lemmas.Int.{to_z-of_z}
 use Rattle.std.proofs.lemmas.Option.{slice_get-map}
 use Rattle.tb_pool.specs.Lists.{with_list}
-use Rattle.tb_float.specs.declared.heights.Heights.{Heights}
+use Rattle.tb_float.specs.declared.by_part.ByPart.{ByPart}
 use Rattle.tb_float.specs.Lists.{entries_of, entry_count, float_before}
 use Rattle.tb_float.specs.Pool.{HasNoMarks, without_entry}
 use Rattle.tb_float.specs.Ranges.{IsRoom}
 use Rattle.tb_float.specs.Rooms.{total_height}
-use Rattle.tb_float.specs.Heights.{height_of, with_height}
+use Rattle.tb_float.specs.ByPart.{of_part, with_part}
 use Rattle.tb_float.specs.Stored.{slots_of, shelf_of, IsStored}
 use Rattle.tb_float.proofs.SlotLemmas.{slot-there}
 use Rattle.tb_float.proofs.SoundLemmas.{sums-are_rooms, entries_of-seen, entry_count-seen}
@@ -45,8 +45,8 @@ invariant_of-self-2 c =
     let written = rest ∙ ap (with_list i.store (shelf_of i.shelves c.args.p)) (sym (without-first (at c.args.p))) in
     let made = taken-out i.store c.pop_front.new.self i.shelves i.heights i.size c.args.p 0 s c.self.invariant got written c.in-Some.ensures.spare in
     let lowered = simp to_z-of_z at c.lower.ensures in
-    let heights = lowered ∙ ap (λ z. with_height c.args.p (height_of i.heights c.args.p -ℤ z) i.heights) height_is in
-    subst (λ (g : Heights). IsStored c.pop_front.new.self i.shelves g i.size) (sym heights) made.stored
+    let heights = lowered ∙ ap (λ z. with_part c.args.p (of_part i.heights c.args.p -ℤ z) i.heights) height_is in
+    subst (λ (g : ByPart ℤ). IsStored c.pop_front.new.self i.shelves g i.size) (sym heights) made.stored
 
 pub returns-clause-first : goal.returns-clause-first
 returns-clause-first c =

@@ -1,19 +1,20 @@
-use Rattle.std.proofs.Common.{◌≡◌, [], ◌∷◌, length, slice_get, refl, sym, ap, ◌∙◌, subst, FitsSigned, w64, rules, arith}
+use Rattle.std.proofs.Common.{ℤ, ◌≡◌, [], ◌∷◌, length, slice_get, refl, sym, ap, ◌∙◌, subst, FitsSigned, w64, rules, arith}
 use Rattle.std.specs.Prelude.{◌-ℤ◌}
 use Rattle.std.proofs.lemmas.Int.{to_z-of_z}
 use Rattle.std.proofs.lemmas.List.{length-map}
 use Rattle.tb_float.specs.declared.Entry.TheVariants as entries
-use Rattle.tb_float.specs.declared.heights.Heights.{Heights}
+use Rattle.tb_float.specs.declared.by_part.ByPart.{ByPart}
 use Rattle.tb_float.specs.SlotView.{SlotView}
 use Rattle.tb_float.specs.Lists.{float_before, floats_of}
 use Rattle.tb_float.specs.Pool.{marks_of, marked_among, unmarked_among, marked_floats, unmarked_floats, first_marked, without_entry}
 use Rattle.tb_float.specs.Ranges.{IsRoom}
 use Rattle.tb_float.specs.Rooms.{total_height}
-use Rattle.tb_float.specs.Heights.{height_of, with_height}
+use Rattle.tb_float.specs.ByPart.{of_part, with_part}
 use Rattle.tb_float.specs.Stored.{slots_of, seen_pool, floats_in, marks_in, is_float, IsStored}
 use Rattle.tb_float.proofs.SlotLemmas.{slot-there, float-at_slot}
-use Rattle.tb_float.proofs.SoundLemmas.{sums-are_rooms, floats_of-seen}
-use Rattle.tb_float.proofs.PoolLemmas.{taken-out, entry-is_room, marks-shown, waiting-floats, marks_of-seen}
+use Rattle.tb_float.proofs.SoundLemmas.{marks_of-seen, sums-are_rooms, floats_of-seen}
+use Rattle.tb_float.proofs.WaitingLemmas.{waiting-floats}
+use Rattle.tb_float.proofs.PoolLemmas.{taken-out, entry-is_room, marks-shown}
 use Rattle.tb_float.proofs.MarkLemmas.{first-marked, none-marked, first_marked-le, left-over}
 use Rattle.tb_float.proofs.Pool.retire_marked.Goals as goal
 
@@ -85,8 +86,8 @@ invariant_of-self c =
     let taken = rw c.of-list.ensures at c.take_slot-slot.ensures.taken in
     let made = taken-out i.store c.take_slot-slot.new.store i.shelves i.heights i.size c.args.from c.first_marked-k.result s c.self.invariant was taken c.take_slot-slot.ensures.spare in
     let lowered = simp to_z-of_z at c.lower.ensures in
-    let heights = lowered ∙ ap (λ z. with_height c.args.from (height_of i.heights c.args.from -ℤ z) i.heights) height_is in
-    subst (λ (g : Heights). IsStored c.take_slot-slot.new.store i.shelves g i.size) (sym heights) made.stored
+    let heights = lowered ∙ ap (λ z. with_part c.args.from (of_part i.heights c.args.from -ℤ z) i.heights) height_is in
+    subst (λ (g : ByPart ℤ). IsStored c.take_slot-slot.new.store i.shelves g i.size) (sym heights) made.stored
 
 pub returns : goal.returns
 returns c =

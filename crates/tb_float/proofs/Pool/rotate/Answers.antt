@@ -4,7 +4,8 @@ use Rattle.tb_float.specs.Pool.{HasNoMarks, with_first_behind}
 use Rattle.tb_float.specs.Stored.{slots_of, seen_pool}
 use Rattle.tb_float.proofs.SlotLemmas.{length-floats_in}
 use Rattle.tb_float.proofs.SoundLemmas.{floats_of-seen}
-use Rattle.tb_float.proofs.PoolLemmas.{all-marks, waiting-floats}
+use Rattle.tb_float.proofs.WaitingLemmas.{waiting-floats}
+use Rattle.tb_float.proofs.PoolLemmas.{all-marks}
 use Rattle.tb_float.proofs.RotateLemmas.{first-went-behind, unmarked-rotated}
 use Rattle.tb_float.proofs.Pool.rotate.Goals as goal
 

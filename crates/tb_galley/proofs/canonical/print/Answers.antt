@@ -18,4 +18,4 @@ returns-clause-text c =
     c.in_ok-put.ensures
 
 pub returns-clause-reads_back : goal.returns-clause-reads_back
-returns-clause-reads_back c valid live short = print_law c.args.galley.now valid live short
+returns-clause-reads_back c valid short = print_law c.args.galley.now valid short

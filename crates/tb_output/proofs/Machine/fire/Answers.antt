@@ -1,70 +1,39 @@
-use Rattle.std.proofs.Common.{sym, ◌∙◌, subst, Some}
-use Rattle.tb_output.specs.declared.RunFault.TheVariants as faults
-use Rattle.tb_builder.specs.Running.{IsSound}
-use Rattle.tb_output.specs.Machine.{MachineView, IsMachine}
-use Rattle.tb_output.specs.Firing.{IsRefusal}
-use Rattle.tb_output.specs.Serving.{whole_work}
-use Rattle.tb_output.proofs.TurnOutput.{if-none, if-some, begins-with}
-use Rattle.tb_output.proofs.OutputLemmas.{if-ok, if-err}
-use Rattle.tb_output.proofs.MachineLemmas.{with-fault}
-use Rattle.tb_output.proofs.ServingLemmas.{can-begin, handed-machine, handed-served, refusal-is, after-sound, after-contents, others-stay, others-free, fired-is, may-go-back, machine-free}
-use Rattle.tb_output.proofs.RefusedFirings.{not-begun, same-sound, same-machine, no-memory}
+use Rattle.std.proofs.Common.{◌<◌, ◌+◌, ap, sym, subst, ◌∙◌, FitsSigned, w64, rules, arith}
+use Rattle.std.proofs.lemmas.Int.{to_z-of_z}
+use Rattle.tb_output.specs.Machine.{MachineView}
+use Rattle.tb_output.specs.Working.{shows_boxes, shows_all, IsCutShort, Does}
+use Rattle.tb_output.specs.Firing.{fired_in, whole_work, IsFired, IsRefusal}
+use Rattle.tb_output.specs.Turns.{served}
+use Rattle.tb_output.proofs.FireLemmas.{counted, faulted, is-begun, count-below, if-none, is-refused, is-fired, fired-contents, fired-refused}
 use Rattle.tb_output.proofs.Machine.fire.Goals as goal
 
 pub returns-in-Some-clause-refused : goal.returns-in-Some-clause-refused
-returns-in-Some-clause-refused c = not-begun c.args.self.now c.args.store.now _ c.in-Some.fault (sym c.refusal.ensures ∙ c.in-Some.is)
+returns-in-Some-clause-refused c =
+    is-refused c.args.self.now c.args.b.now c.args.store.now (whole_work c.args.self.now c.args.b.now c.args.store.now c.args.page) c.in-Some.fault (sym c.refusal.ensures ∙ c.in-Some.is)
 
-pub serve-requires-clause-machine : goal.serve-requires-clause-machine
-serve-requires-clause-machine c =
-    handed-machine c.args.self.now c.args.b.now c.take_notes.new.b c.args.store.now c.take_notes.new.store c.args.page c.in-Ok.notes c.requires.machine (can-begin c.args.self.now c.args.b.now c.args.store.now c.args.page (sym c.refusal.ensures ∙ c.in_default.is) c.requires.page) c.in-Ok.ensures.taken
-
-pub serve-requires-clause-page : goal.serve-requires-clause-page
-serve-requires-clause-page c =
-    handed-served c.args.self.now c.args.b.now c.take_notes.new.b c.args.store.now c.take_notes.new.store c.args.page c.in-Ok.notes c.requires.machine (can-begin c.args.self.now c.args.b.now c.args.store.now c.args.page (sym c.refusal.ensures ∙ c.in_default.is) c.requires.page) c.in-Ok.ensures.taken
+pub overflow_add-self : goal.overflow_add-self
+overflow_add-self c =
+    let few : c.self.inside.dead_cycles + 1 < 4194305 =
+    count-below c.args.self.now c.self.inside.dead_cycles (ap (λ (m : MachineView). m.dead_cycles) c.self.view_is) (is-begun c.args.self.now (sym c.refusal.ensures ∙ c.in_default.is)) c.requires.machine.params in
+    omega (arith, few)
 
 pub returns-in-Ok-clause-turn : goal.returns-in-Ok-clause-turn
 returns-in-Ok-clause-turn c =
-    if-ok c.serve.result _ _ (fired-is c.args.self.now c.args.b.now c.take_notes.new.b c.args.store.now c.take_notes.new.store c.args.page c.in-Ok.notes c.requires.machine (can-begin c.args.self.now c.args.b.now c.args.store.now c.args.page (sym c.refusal.ensures ∙ c.in_default.is) c.requires.page) c.in-Ok.ensures.taken c.serve.new.store c.serve.ensures.others c.serve.new.self) c.serve.ensures.turn
+    let done = subst (λ (m : MachineView). Does (shows_boxes c.args.b.now m c.args.store.now) (shows_all c.in-Ok.put_back c.serve.new.b c.serve.new.self c.serve.new.store) (served m.params (fired_in c.args.b.now c.args.store.now c.args.page)))
+    (ap counted c.self.view_is) c.in-Ok.ensures.ok in
+    is-fired c.args.self.now c.args.b.now c.args.store.now c.args.page (is-begun c.args.self.now (sym c.refusal.ensures ∙ c.in_default.is)) c.serve.new.b c.serve.new.self c.serve.new.store c.in-Ok.put_back done
 
 pub returns-in-Ok-clause-contents : goal.returns-in-Ok-clause-contents
 returns-in-Ok-clause-contents c =
-    if-ok c.serve.result _ _ (λ t h. after-contents c.args.self.now c.args.b.now c.take_notes.new.b c.args.store.now c.take_notes.new.store c.args.page c.in-Ok.notes c.requires.machine (can-begin c.args.self.now c.args.b.now c.args.store.now c.args.page (sym c.refusal.ensures ∙ c.in_default.is) c.requires.page) c.in-Ok.ensures.taken c.serve.new.store c.serve.ensures.others) c.serve.ensures.turn
-
-pub returns-in-Ok-clause-refused : goal.returns-in-Ok-clause-refused
-returns-in-Ok-clause-refused c =
-    if-none c.args.self.now.fault _ (if-err c.serve.result _ _ (refusal-is c.args.self.now c.args.b.now c.take_notes.new.b c.args.store.now c.take_notes.new.store c.args.page c.in-Ok.notes c.requires.machine (can-begin c.args.self.now c.args.b.now c.args.store.now c.args.page (sym c.refusal.ensures ∙ c.in_default.is) c.requires.page) c.in-Ok.ensures.taken c.serve.new.self c.serve.new.store) c.serve.ensures.refused)
-
-pub returns-in-Ok-clause-builder : goal.returns-in-Ok-clause-builder
-returns-in-Ok-clause-builder c =
-    after-sound c.args.self.now c.args.b.now c.take_notes.new.b c.args.store.now c.take_notes.new.store c.args.page c.in-Ok.notes c.requires.machine (can-begin c.args.self.now c.args.b.now c.args.store.now c.args.page (sym c.refusal.ensures ∙ c.in_default.is) c.requires.page) c.in-Ok.ensures.taken c.serve.new.store c.serve.ensures.others
-
-pub returns-in-Ok-clause-put_back : goal.returns-in-Ok-clause-put_back
-returns-in-Ok-clause-put_back c =
-    if-ok c.serve.result _ _ (λ t h. may-go-back c.args.self.now c.args.b.now c.take_notes.new.b c.args.store.now c.take_notes.new.store c.args.page c.in-Ok.notes c.requires.machine (can-begin c.args.self.now c.args.b.now c.args.store.now c.args.page (sym c.refusal.ensures ∙ c.in_default.is) c.requires.page) c.in-Ok.ensures.taken c.serve.new.store c.serve.ensures.others c.serve.new.self t.put_back h) c.serve.ensures.put_back
-
-pub returns-in-Ok-clause-apart : goal.returns-in-Ok-clause-apart
-returns-in-Ok-clause-apart c =
-    if-ok c.serve.result _ _ (λ t h. machine-free c.args.self.now c.args.b.now c.take_notes.new.b c.args.store.now c.take_notes.new.store c.args.page c.in-Ok.notes c.requires.machine (can-begin c.args.self.now c.args.b.now c.args.store.now c.args.page (sym c.refusal.ensures ∙ c.in_default.is) c.requires.page) c.in-Ok.ensures.taken c.serve.new.store c.serve.ensures.others c.serve.new.self c.serve.ensures.lists) c.serve.ensures.turn
+    let done = subst (λ (m : MachineView). Does (shows_boxes c.args.b.now m c.args.store.now) (shows_all c.in-Ok.put_back c.serve.new.b c.serve.new.self c.serve.new.store) (served m.params (fired_in c.args.b.now c.args.store.now c.args.page)))
+    (ap counted c.self.view_is) c.in-Ok.ensures.ok in
+    fired-contents c.args.self.now c.args.b.now c.args.store.now c.args.page (is-begun c.args.self.now (sym c.refusal.ensures ∙ c.in_default.is)) c.serve.new.b c.serve.new.self c.serve.new.store c.in-Ok.put_back done c.in-Ok.ensures.contents
 
 pub returns-in-Err-clause-refused : goal.returns-in-Err-clause-refused
 returns-in-Err-clause-refused c =
-    if-none c.args.self.now.fault _ (subst (λ (x : MachineView). IsRefusal faults.Memory c.args.self.now (record x { fault = Some faults.Memory }) c.args.store.now c.take_notes.new.store (whole_work c.args.self.now c.args.b.now c.args.store.now c.args.page)) (sym c.self.view_is)
-    (no-memory c.args.store.now c.take_notes.new.store c.in-Err.ensures.lists c.args.self.now c.requires.machine _ (sym c.refusal.ensures ∙ c.in_default.is)))
-
-pub returns-in-Err-clause-machine : goal.returns-in-Err-clause-machine
-returns-in-Err-clause-machine c =
-    subst (λ (x : MachineView). IsMachine (record x { fault = Some faults.Memory }) c.take_notes.new.store) (sym c.self.view_is)
-    (with-fault c.args.self.now c.take_notes.new.store (Some faults.Memory) (same-machine c.args.store.now c.take_notes.new.store c.in-Err.ensures.lists c.args.self.now c.requires.machine))
-
-pub returns-in-Err-clause-builder : goal.returns-in-Err-clause-builder
-returns-in-Err-clause-builder c =
-    subst (λ b. IsSound b c.take_notes.new.store) (sym c.in-Err.ensures.builder) (same-sound c.args.store.now c.take_notes.new.store c.in-Err.ensures.lists c.args.b.now c.requires.builder)
-
-pub returns-in-Ok-clause-again : goal.returns-in-Ok-clause-again
-returns-in-Ok-clause-again c = if-some c.args.self.now.fault _ (begins-with c.args.self.now (sym c.refusal.ensures ∙ c.in_default.is)).0
-
-pub returns-in-Ok-clause-others : goal.returns-in-Ok-clause-others
-returns-in-Ok-clause-others c = others-stay c.args.self.now c.args.b.now c.take_notes.new.b c.args.store.now c.take_notes.new.store c.args.page c.in-Ok.notes c.requires.machine (can-begin c.args.self.now c.args.b.now c.args.store.now c.args.page (sym c.refusal.ensures ∙ c.in_default.is) c.requires.page) c.in-Ok.ensures.taken c.serve.new.store c.serve.ensures.others
-
-pub returns-in-Ok-clause-free : goal.returns-in-Ok-clause-free
-returns-in-Ok-clause-free c = others-free c.args.self.now c.args.b.now c.take_notes.new.b c.args.store.now c.take_notes.new.store c.args.page c.in-Ok.notes c.requires.machine (can-begin c.args.self.now c.args.b.now c.args.store.now c.args.page (sym c.refusal.ensures ∙ c.in_default.is) c.requires.page) c.in-Ok.ensures.taken c.serve.new.store c.serve.ensures.others
+    let cut = subst (λ (m : MachineView). Does (shows_boxes c.args.b.now m c.args.store.now) (IsCutShort c.in-Err.fault c.serve.new.self c.serve.new.store) (served m.params (fired_in c.args.b.now c.args.store.now c.args.page)))
+    (ap counted c.self.view_is) c.in-Err.ensures.err in
+    if-none c.args.self.now.fault _
+    (subst (λ (v : MachineView). IsRefusal c.in-Err.fault c.args.self.now v c.args.b.now c.serve.new.b c.args.store.now c.serve.new.store (whole_work c.args.self.now c.args.b.now c.args.store.now c.args.page))
+    (sym (ap (faulted c.in-Err.fault) c.self-2.view_is))
+    (fired-refused c.args.self.now c.args.b.now c.args.store.now c.args.page (is-begun c.args.self.now (sym c.refusal.ensures ∙ c.in_default.is)) c.serve.new.b c.serve.new.self c.serve.new.store c.in-Err.fault cut))

@@ -1,92 +1,109 @@
-use Rattle.std.proofs.Common.{[], FitsSigned, w64, rules}
-use Rattle.std.proofs.lemmas.Int.{to_z-of_z}
-use Rattle.tb_column.specs.Shown.{nodes_shown}
-use Rattle.tb_output.proofs.FiringLemmas.{IsReady}
-use Rattle.tb_output.proofs.OutputLemmas.{if-ok, if-err, nothing-back, kept-either, ready-if, page-output, page-refusal, notes-kept, notes-ready, notes-output, notes-refusal, front-others, front-ready, front-output}
+use Rattle.std.proofs.Common.{◌≡◌, sym, subst, ◌∙◌, true, false, FitsSigned, w64, rules, arith}
+use Rattle.std.specs.Prelude.{ℤ, ◌<ℤ◌, ◌≤ℤ◌}
+use Rattle.std.proofs.lemmas.Int.{to_z-of_z, ints}
+use Rattle.tb_output.specs.Out.{hold_penalty, is_int}
+use Rattle.tb_output.specs.Notes.{NotesTaken}
+use Rattle.tb_output.proofs.GoalLemmas.{int-is}
+use Rattle.tb_output.proofs.OutputLemmas.{held-alone, held-serving, held-all, middle-shown, middle-back, middle-empty, untaken-cut, untaken-serving, page-few, page-lists, page-serving, page-contents, page-all, page-cut}
+use Rattle.tb_output.proofs.ResultLemmas.{memory-err, ok-map, err-map}
 use Rattle.tb_output.proofs.Machine.output.Goals as goal
 
-pub returns-then-page-ge-EJECT_PENALTY-clause-ok : goal.returns-then-page-ge-EJECT_PENALTY-clause-ok
-returns-then-page-ge-EJECT_PENALTY-clause-ok c =
-    let penalty : FitsSigned w64 c.args.page.penalty = search rules in
-    let eject = simp to_z-of_z at c.if-page-ge-EJECT_PENALTY.true in
-    if-ok c.ordinary.result _ _ (page-output c.args.self.now c.ordinary.new.self c.args.store.now c.ordinary.new.store c.args.page c.args.notes c.requires.machine c.requires.page eject) c.ordinary.ensures.ok
+-- a page that is not held has a higher penalty
+above-hold : (n : ℤ) → hold_penalty ≤ℤ n → is_int n hold_penalty ≡ false → hold_penalty <ℤ n
+above-hold n low e = let differ : n ≡ hold_penalty → ⊥ = λ same. (let both : false ≡ true = sym e ∙ int-is n hold_penalty same in cc) in grind (arith, ints, low, differ)
 
-pub returns-then-page-ge-EJECT_PENALTY-clause-err : goal.returns-then-page-ge-EJECT_PENALTY-clause-err
-returns-then-page-ge-EJECT_PENALTY-clause-err c =
-    let penalty : FitsSigned w64 c.args.page.penalty = search rules in
-    let eject = simp to_z-of_z at c.if-page-ge-EJECT_PENALTY.true in
-    if-err c.ordinary.result _ _ (page-refusal c.args.self.now c.ordinary.new.self c.args.store.now c.ordinary.new.store c.args.page c.args.notes c.requires.machine c.requires.page eject) c.ordinary.ensures.err
+pub returns-then-is_signal-clause-ok : goal.returns-then-is_signal-clause-ok
+returns-then-is_signal-clause-ok c =
+    let m = c.args.self.now in
+    let s = c.args.store.now in
+    let fits : FitsSigned w64 c.args.page.now.penalty = search rules in
+    let held : is_int c.args.page.now.penalty hold_penalty ≡ true = sym (simp to_z-of_z at c.is_signal.ensures) ∙ c.if-is_signal.true in
+    held-all m c.args.b.now s c.args.back c.args.page.now c.requires.machine c.requires.builder c.requires.page c.requires.back c.requires.empty c.requires.back_body c.requires.back_free c.hold.new.self c.hold.new.store c.hold.ensures.keeps held c.hold.ensures.done
 
-pub returns-then-page-ge-EJECT_PENALTY-clause-machine : goal.returns-then-page-ge-EJECT_PENALTY-clause-machine
-returns-then-page-ge-EJECT_PENALTY-clause-machine c =
-    (kept-either c.args.self.now c.ordinary.new.self c.args.store.now c.ordinary.new.store c.args.page c.args.notes c.requires.machine c.requires.page c.ordinary.result [] (nodes_shown c.args.store.now c.args.page.body) nothing-back c.ordinary.ensures.ok c.ordinary.ensures.err).machine
+pub returns-then-is_signal-clause-contents : goal.returns-then-is_signal-clause-contents
+returns-then-is_signal-clause-contents c =
+    let m = c.args.self.now in
+    let s = c.args.store.now in
+    held-alone m c.args.b.now s c.args.back c.args.page.now c.requires.machine c.requires.builder c.requires.page c.requires.back c.requires.empty c.requires.back_body c.requires.back_free c.hold.new.self c.hold.new.store c.hold.ensures.keeps
 
-pub returns-then-page-ge-EJECT_PENALTY-clause-put_back : goal.returns-then-page-ge-EJECT_PENALTY-clause-put_back
-returns-then-page-ge-EJECT_PENALTY-clause-put_back c =
-    if-ok c.ordinary.result (λ l. IsReady l c.ordinary.new.self c.args.store.now c.ordinary.new.store c.args.page.body) _ (λ l h. h.put_back)
-    (ready-if c.args.self.now c.ordinary.new.self c.args.store.now c.ordinary.new.store c.args.page c.args.notes c.requires.machine c.requires.page c.ordinary.result [] (nodes_shown c.args.store.now c.args.page.body) nothing-back c.ordinary.ensures.ok)
+pub returns-then-is_signal-clause-keeps : goal.returns-then-is_signal-clause-keeps
+returns-then-is_signal-clause-keeps c =
+    let m = c.args.self.now in
+    let s = c.args.store.now in
+    held-serving m c.args.b.now s c.args.back c.args.page.now c.requires.machine c.requires.builder c.requires.page c.requires.back c.requires.empty c.requires.back_body c.requires.back_free c.hold.new.self c.hold.new.store c.hold.ensures.keeps
 
-pub returns-in-Some-clause-ok : goal.returns-in-Some-clause-ok
-returns-in-Some-clause-ok c =
-    let penalty : FitsSigned w64 c.args.page.penalty = search rules in
-    let below = simp to_z-of_z at c.if-page-ge-EJECT_PENALTY.false in
-    if-ok c.clear_notes.result _ _ (notes-output c.args.self.now c.clear_notes.new.self c.args.store.now c.clear_notes.new.store c.args.page c.args.notes c.in-Some.notes c.in-Some.is c.requires.machine c.requires.page below) c.clear_notes.ensures.ok
+pub take_notes-requires-clause-few : goal.take_notes-requires-clause-few
+take_notes-requires-clause-few c = let few = c.requires.page.few in omega (arith, few)
 
-pub returns-in-Some-clause-err : goal.returns-in-Some-clause-err
-returns-in-Some-clause-err c =
-    let penalty : FitsSigned w64 c.args.page.penalty = search rules in
-    let below = simp to_z-of_z at c.if-page-ge-EJECT_PENALTY.false in
-    if-err c.clear_notes.result _ _ (notes-refusal c.args.self.now c.clear_notes.new.self c.args.store.now c.clear_notes.new.store c.args.page c.args.notes c.in-Some.notes c.in-Some.is c.requires.machine c.requires.page below) c.clear_notes.ensures.err
+pub returns-in_err-notes-clause-err : goal.returns-in_err-notes-clause-err
+returns-in_err-notes-clause-err c =
+    let m = c.args.self.now in
+    let s = c.args.store.now in
+    memory-err c.from_residual.result _ c.from_residual.ensures.1
+    (untaken-cut m c.args.b.now s c.args.back c.args.page.now c.requires.machine c.requires.builder c.requires.page c.requires.back c.requires.empty c.requires.back_body c.requires.back_free c.take_notes.new.b c.take_notes.new.store c.take_notes.ensures.sound c.take_notes.ensures.frame)
 
-pub returns-in-Some-clause-machine : goal.returns-in-Some-clause-machine
-returns-in-Some-clause-machine c =
-    (notes-kept c.args.self.now c.clear_notes.new.self c.args.store.now c.clear_notes.new.store c.args.page c.args.notes c.in-Some.notes c.in-Some.is c.requires.machine c.requires.page c.clear_notes.result c.clear_notes.ensures.ok c.clear_notes.ensures.err).machine
+pub returns-in_err-notes-clause-keeps : goal.returns-in_err-notes-clause-keeps
+returns-in_err-notes-clause-keeps c =
+    let m = c.args.self.now in
+    let s = c.args.store.now in
+    untaken-serving m c.args.b.now s c.args.back c.args.page.now c.requires.machine c.requires.builder c.requires.page c.requires.back c.requires.empty c.requires.back_body c.requires.back_free c.take_notes.new.b c.take_notes.new.store c.take_notes.ensures.sound c.take_notes.ensures.frame
 
-pub returns-in-Some-clause-put_back : goal.returns-in-Some-clause-put_back
-returns-in-Some-clause-put_back c =
-    if-ok c.clear_notes.result (λ l. IsReady l c.clear_notes.new.self c.args.store.now c.clear_notes.new.store c.args.page.body) _ (λ l h. h.put_back)
-    (notes-ready c.args.self.now c.clear_notes.new.self c.args.store.now c.clear_notes.new.store c.args.page c.args.notes c.in-Some.notes c.in-Some.is c.requires.machine c.requires.page c.clear_notes.result c.clear_notes.ensures.ok)
+pub output_page-requires : goal.output_page-requires
+output_page-requires c =
+    let m = c.args.self.now in
+    let s = c.args.store.now in
+    let fits : FitsSigned w64 c.args.page.now.penalty = search rules in
+    let differ : is_int c.args.page.now.penalty hold_penalty ≡ false = sym (simp to_z-of_z at c.is_signal.ensures) ∙ c.if-is_signal.false in
+    let taken = subst (λ ns. NotesTaken m.classes ns c.args.b.now c.take_notes.new.b s c.take_notes.new.store) (sym c.deref.ensures.value) c.in_ok-notes.ensures.taken in
+    record {
+      machine = (middle-shown m c.args.b.now s c.args.back c.args.page.now c.requires.machine c.requires.builder c.requires.page c.requires.back c.requires.empty c.requires.back_body c.requires.back_free c.take_notes.new.b c.take_notes.new.store c.take_notes.ensures.sound c.take_notes.ensures.frame).machine;
+      back = middle-back m c.args.b.now s c.args.back c.args.page.now c.requires.machine c.requires.builder c.requires.page c.requires.back c.requires.empty c.requires.back_body c.requires.back_free c.take_notes.new.b c.take_notes.new.store c.take_notes.ensures.sound c.take_notes.ensures.frame;
+      empty = middle-empty m c.args.b.now s c.args.back c.args.page.now c.requires.machine c.requires.builder c.requires.page c.requires.back c.requires.empty c.requires.back_body c.requires.back_free c.take_notes.new.b c.take_notes.new.store c.take_notes.ensures.sound c.take_notes.ensures.frame;
+      note_bottom = c.requires.page.note_bottom;
+      lists = page-lists m c.args.b.now s c.args.back c.args.page.now c.requires.machine c.requires.builder c.requires.page c.requires.back c.requires.empty c.requires.back_body c.requires.back_free c.take_notes.new.b c.take_notes.new.store c.take_notes.ensures.sound c.take_notes.ensures.frame c.deref.result.now taken;
+      known = taken.known;
+      few = page-few m c.args.b.now s c.args.back c.args.page.now c.requires.machine c.requires.builder c.requires.page c.requires.back c.requires.empty c.requires.back_body c.requires.back_free c.take_notes.new.b c.take_notes.new.store c.take_notes.ensures.sound c.take_notes.ensures.frame c.deref.result.now taken;
+      penalty = above-hold c.args.page.now.penalty c.requires.page.penalty differ;
+    }
 
-pub returns-in-None-clause-ok : goal.returns-in-None-clause-ok
-returns-in-None-clause-ok c =
-    let penalty : FitsSigned w64 c.args.page.penalty = search rules in
-    let below = simp to_z-of_z at c.if-page-ge-EJECT_PENALTY.false in
-    front-output c.args.self.now c.args.store.now c.clear_page.new.store c.args.page c.args.notes c.in-None.is c.requires.machine c.requires.page c.clear_page.ensures below
+pub returns-clause-ok : goal.returns-clause-ok
+returns-clause-ok c =
+    let m = c.args.self.now in
+    let s = c.args.store.now in
+    let fits : FitsSigned w64 c.args.page.now.penalty = search rules in
+    let differ : is_int c.args.page.now.penalty hold_penalty ≡ false = sym (simp to_z-of_z at c.is_signal.ensures) ∙ c.if-is_signal.false in
+    let taken = subst (λ ns. NotesTaken m.classes ns c.args.b.now c.take_notes.new.b s c.take_notes.new.store) (sym c.deref.ensures.value) c.in_ok-notes.ensures.taken in
+    ok-map c.output_page.result _ _
+    (page-all m c.args.b.now s c.args.back c.args.page.now c.requires.machine c.requires.builder c.requires.page c.requires.back c.requires.empty c.requires.back_body c.requires.back_free c.take_notes.new.b c.take_notes.new.store c.take_notes.ensures.sound c.take_notes.ensures.frame
+    c.deref.result.now taken c.output_page.new.self c.output_page.new.store c.output_page.ensures.keeps (above-hold c.args.page.now.penalty c.requires.page.penalty differ))
+    c.output_page.ensures.ok
 
-pub returns-in-None-clause-machine : goal.returns-in-None-clause-machine
-returns-in-None-clause-machine c = (front-ready c.args.self.now c.args.store.now c.clear_page.new.store c.args.page c.args.notes c.in-None.is c.requires.machine c.requires.page c.clear_page.ensures).machine
+pub returns-clause-err : goal.returns-clause-err
+returns-clause-err c =
+    let m = c.args.self.now in
+    let s = c.args.store.now in
+    let fits : FitsSigned w64 c.args.page.now.penalty = search rules in
+    let differ : is_int c.args.page.now.penalty hold_penalty ≡ false = sym (simp to_z-of_z at c.is_signal.ensures) ∙ c.if-is_signal.false in
+    let taken = subst (λ ns. NotesTaken m.classes ns c.args.b.now c.take_notes.new.b s c.take_notes.new.store) (sym c.deref.ensures.value) c.in_ok-notes.ensures.taken in
+    err-map c.output_page.result _ _
+    (λ e. page-cut m c.args.b.now s c.args.back c.args.page.now c.requires.machine c.requires.builder c.requires.page c.requires.back c.requires.empty c.requires.back_body c.requires.back_free c.take_notes.new.b c.take_notes.new.store c.take_notes.ensures.sound c.take_notes.ensures.frame
+    c.deref.result.now taken c.output_page.new.self c.output_page.new.store c.output_page.ensures.keeps e (above-hold c.args.page.now.penalty c.requires.page.penalty differ))
+    c.output_page.ensures.err
 
-pub returns-in-None-clause-floatless : goal.returns-in-None-clause-floatless
-returns-in-None-clause-floatless c = (front-ready c.args.self.now c.args.store.now c.clear_page.new.store c.args.page c.args.notes c.in-None.is c.requires.machine c.requires.page c.clear_page.ensures).floatless
+pub returns-clause-contents : goal.returns-clause-contents
+returns-clause-contents c =
+    let m = c.args.self.now in
+    let s = c.args.store.now in
+    let taken = subst (λ ns. NotesTaken m.classes ns c.args.b.now c.take_notes.new.b s c.take_notes.new.store) (sym c.deref.ensures.value) c.in_ok-notes.ensures.taken in
+    ok-map c.output_page.result _ _
+    (λ done. page-contents m c.args.b.now s c.args.back c.args.page.now c.requires.machine c.requires.builder c.requires.page c.requires.back c.requires.empty c.requires.back_body c.requires.back_free c.take_notes.new.b c.take_notes.new.store c.take_notes.ensures.sound c.take_notes.ensures.frame
+    c.deref.result.now taken c.output_page.new.self c.output_page.new.store c.output_page.ensures.keeps)
+    c.output_page.ensures.ok
 
-pub returns-in-None-clause-put_back : goal.returns-in-None-clause-put_back
-returns-in-None-clause-put_back c = (front-ready c.args.self.now c.args.store.now c.clear_page.new.store c.args.page c.args.notes c.in-None.is c.requires.machine c.requires.page c.clear_page.ensures).put_back
-
-pub returns-in-None-clause-others : goal.returns-in-None-clause-others
-returns-in-None-clause-others c = front-others c.args.self.now c.args.store.now c.clear_page.new.store c.args.page c.args.notes c.in-None.is c.requires.machine c.requires.page c.clear_page.ensures
-
-pub returns-then-page-ge-EJECT_PENALTY-clause-lists : goal.returns-then-page-ge-EJECT_PENALTY-clause-lists
-returns-then-page-ge-EJECT_PENALTY-clause-lists c =
-    (kept-either c.args.self.now c.ordinary.new.self c.args.store.now c.ordinary.new.store c.args.page c.args.notes c.requires.machine c.requires.page c.ordinary.result [] (nodes_shown c.args.store.now c.args.page.body) nothing-back c.ordinary.ensures.ok c.ordinary.ensures.err).lists
-
-pub returns-in-Some-clause-lists : goal.returns-in-Some-clause-lists
-returns-in-Some-clause-lists c =
-    (notes-kept c.args.self.now c.clear_notes.new.self c.args.store.now c.clear_notes.new.store c.args.page c.args.notes c.in-Some.notes c.in-Some.is c.requires.machine c.requires.page c.clear_notes.result c.clear_notes.ensures.ok c.clear_notes.ensures.err).lists
-
-pub returns-then-page-ge-EJECT_PENALTY-clause-floatless : goal.returns-then-page-ge-EJECT_PENALTY-clause-floatless
-returns-then-page-ge-EJECT_PENALTY-clause-floatless c =
-    if-ok c.ordinary.result (λ l. IsReady l c.ordinary.new.self c.args.store.now c.ordinary.new.store c.args.page.body) _ (λ l h. h.floatless)
-    (ready-if c.args.self.now c.ordinary.new.self c.args.store.now c.ordinary.new.store c.args.page c.args.notes c.requires.machine c.requires.page c.ordinary.result [] (nodes_shown c.args.store.now c.args.page.body) nothing-back c.ordinary.ensures.ok)
-
-pub returns-then-page-ge-EJECT_PENALTY-clause-others : goal.returns-then-page-ge-EJECT_PENALTY-clause-others
-returns-then-page-ge-EJECT_PENALTY-clause-others c =
-    (kept-either c.args.self.now c.ordinary.new.self c.args.store.now c.ordinary.new.store c.args.page c.args.notes c.requires.machine c.requires.page c.ordinary.result [] (nodes_shown c.args.store.now c.args.page.body) nothing-back c.ordinary.ensures.ok c.ordinary.ensures.err).others
-
-pub returns-in-Some-clause-floatless : goal.returns-in-Some-clause-floatless
-returns-in-Some-clause-floatless c =
-    if-ok c.clear_notes.result (λ l. IsReady l c.clear_notes.new.self c.args.store.now c.clear_notes.new.store c.args.page.body) _ (λ l h. h.floatless)
-    (notes-ready c.args.self.now c.clear_notes.new.self c.args.store.now c.clear_notes.new.store c.args.page c.args.notes c.in-Some.notes c.in-Some.is c.requires.machine c.requires.page c.clear_notes.result c.clear_notes.ensures.ok)
-
-pub returns-in-Some-clause-others : goal.returns-in-Some-clause-others
-returns-in-Some-clause-others c =
-    (notes-kept c.args.self.now c.clear_notes.new.self c.args.store.now c.clear_notes.new.store c.args.page c.args.notes c.in-Some.notes c.in-Some.is c.requires.machine c.requires.page c.clear_notes.result c.clear_notes.ensures.ok c.clear_notes.ensures.err).others
+pub returns-clause-keeps : goal.returns-clause-keeps
+returns-clause-keeps c =
+    let m = c.args.self.now in
+    let s = c.args.store.now in
+    let taken = subst (λ ns. NotesTaken m.classes ns c.args.b.now c.take_notes.new.b s c.take_notes.new.store) (sym c.deref.ensures.value) c.in_ok-notes.ensures.taken in
+    page-serving m c.args.b.now s c.args.back c.args.page.now c.requires.machine c.requires.builder c.requires.page c.requires.back c.requires.empty c.requires.back_body c.requires.back_free c.take_notes.new.b c.take_notes.new.store c.take_notes.ensures.sound c.take_notes.ensures.frame
+    c.deref.result.now taken c.output_page.new.self c.output_page.new.store c.output_page.ensures.keeps

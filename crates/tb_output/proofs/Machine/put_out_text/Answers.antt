@@ -1,30 +1,47 @@
-use Rattle.std.proofs.Common.{◌≡◌, refl, sym, subst, ap, ◌∙◌, pos, false, FitsSigned, w64, rules, arith}
-use Rattle.std.specs.Prelude.{int_lt}
-use Rattle.std.proofs.lemmas.Int.{to_z-of_z, ints}
-use Rattle.tb_output.specs.Machine.{MachineView, IsMachine}
-use Rattle.tb_output.specs.Shipping.{shipped_machine}
-use Rattle.tb_output.proofs.RefusalLemmas.{memory-err}
-use Rattle.tb_output.proofs.PutOutLemmas.{rest-stands, was-shipped}
+use Rattle.std.proofs.Common.{sym, subst, ◌∷◌, []}
+use Rattle.tb_pool.specs.Frame.{IsNoneOf}
+use Rattle.tb_column.specs.Notes.{note_lists}
+use Rattle.tb_column.specs.Shown.{nodes_shown, column_shown}
+use Rattle.tb_output.specs.Machine.{machine_lists}
+use Rattle.tb_output.specs.Columns.{put_out_text}
+use Rattle.tb_output.specs.Ship.{put_out}
+use Rattle.tb_output.specs.Working.{shows, IsCutShort, Does}
+use Rattle.tb_output.specs.Keeping.{KeepsMachine}
+use Rattle.tb_output.proofs.ResultLemmas.{memory-err, ok-map, err-map}
+use Rattle.tb_output.proofs.TakingText.{text-out, text-fails}
+use Rattle.tb_output.proofs.KeepLemmas.{keeps-then}
+use Rattle.tb_output.proofs.WorkSteps.{continues-put_out_text}
 use Rattle.tb_output.proofs.Machine.put_out_text.Goals as goal
 
-pub returns-then-exceeds-clause-err : goal.returns-then-exceeds-clause-err
-returns-then-exceeds-clause-err c =
-    let is = subst (λ (x : MachineView). IsMachine x c.args.store.now) (sym c.self.view_is) c.requires.machine in
-    let limit : FitsSigned w64 c.self.inside.params.maxpages = search (rules, ints, is.params.maxpages) in
-    let exceeds = simp to_z-of_z at c.exceeds.ensures in
-    let first = is.first in
-    rw (← c.self.view_is) (record { full = sym exceeds ∙ c.if-exceeds.true; pages = omega (arith, first); machine = refl; lists = refl })
+pub put_out-requires-clause-apart : goal.put_out-requires-clause-apart
+put_out-requires-clause-apart c = subst (λ q. IsNoneOf q (machine_lists c.take_text.new.self)) (sym c.in_ok-column.ensures.list) c.in_ok-column.ensures.apart
 
-pub returns-in_err-ship-clause-err : goal.returns-in_err-ship-clause-err
-returns-in_err-ship-clause-err c =
-    memory-err c.from_residual-in_err-ship.result _ c.from_residual-in_err-ship.ensures.1
-    (c.in_err-ship.ensures.err ∙ c.in_ok-column.ensures.machine, rest-stands c.args.self.now c.args.store.now c.args.body c.args.notes c.requires.lists c.text_column.new.store c.in_ok-column.column c.in_ok-column.ensures.ok c.close_notes.new.store c.close_notes.ensures)
+pub returns-in_err-column-clause-err : goal.returns-in_err-column-clause-err
+returns-in_err-column-clause-err c =
+    memory-err c.from_residual.result _ c.from_residual.ensures.1
+    (text-fails c.args.self.now c.take_text.new.self c.args.store.now c.take_text.new.store c.args.notes.now (put_out_text c.args.self.now.params (nodes_shown c.args.store.now c.args.body)) c.requires.machine c.in_err-column.ensures.machine c.in_err-column.ensures.err (continues-put_out_text c.args.self.now.params (nodes_shown c.args.store.now c.args.body)))
+
+pub returns-in_err-column-clause-keeps : goal.returns-in_err-column-clause-keeps
+returns-in_err-column-clause-keeps c = c.take_text.ensures.keeps
 
 pub returns-clause-ok : goal.returns-clause-ok
 returns-clause-ok c =
-    let is = subst (λ (x : MachineView). IsMachine x c.args.store.now) (sym c.self.view_is) c.requires.machine in
-    let limit : FitsSigned w64 c.self.inside.params.maxpages = search (rules, ints, is.params.maxpages) in
-    let exceeds = simp to_z-of_z at c.exceeds.ensures in
-    let room = subst (λ (x : MachineView). int_lt x.params.maxpages (pos x.page) ≡ false) c.self.view_is (sym exceeds ∙ c.if-exceeds.false) in
-    let ship = c.in_ok-ship.ensures.ok ∙ ap (shipped_machine c.in_ok-column.column) c.in_ok-column.ensures.machine in
-    was-shipped c.args.self.now c.args.store.now c.args.body c.args.notes c.requires.lists c.text_column.new.store c.in_ok-column.column c.in_ok-column.ensures.ok c.close_notes.new.store c.close_notes.ensures c.ship.new.self room ship
+    let m = c.args.self.now in
+    let mid = c.take_text.new.self in
+    let s = c.take_text.new.store in
+    ok-map c.put_out.result _ _ (λ does. text-out m mid c.args.store.now s c.args.body c.args.notes.now (shows c.put_out.new.self c.put_out.new.store) (column_shown s c.in_ok-column.column) c.in_ok-column.ensures.shown c.in_ok-column.ensures.ok
+    (subst (λ p. Does (shows mid s) (shows c.put_out.new.self c.put_out.new.store) (put_out p (column_shown s c.in_ok-column.column))) c.take_text.ensures.keeps.fields.params does)) c.put_out.ensures.ok
+
+pub returns-clause-err : goal.returns-clause-err
+returns-clause-err c =
+    let m = c.args.self.now in
+    let mid = c.take_text.new.self in
+    let s = c.take_text.new.store in
+    err-map c.put_out.result _ _ (λ e does. text-out m mid c.args.store.now s c.args.body c.args.notes.now (IsCutShort e c.put_out.new.self c.put_out.new.store) (column_shown s c.in_ok-column.column) c.in_ok-column.ensures.shown c.in_ok-column.ensures.ok
+    (subst (λ p. Does (shows mid s) (IsCutShort e c.put_out.new.self c.put_out.new.store) (put_out p (column_shown s c.in_ok-column.column))) c.take_text.ensures.keeps.fields.params does)) c.put_out.ensures.err
+
+pub returns-clause-keeps : goal.returns-clause-keeps
+returns-clause-keeps c =
+    let lists = c.args.body ∷ note_lists c.args.notes.now in
+    let k = subst (λ q. KeepsMachine (q ∷ []) c.take_text.new.self c.put_out.new.self c.take_text.new.store c.put_out.new.store) c.in_ok-column.ensures.list c.put_out.ensures.keeps in
+    keeps-then lists (c.args.body ∷ []) c.args.self.now c.take_text.new.self c.put_out.new.self c.args.store.now c.take_text.new.store c.put_out.new.store c.take_text.ensures.keeps k (λ q live none. (none.0, tt))

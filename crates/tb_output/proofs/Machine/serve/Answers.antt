@@ -1,40 +1,75 @@
-use Rattle.std.proofs.Common.{◌≡◌, ap, sym, subst, true, pos, Some, ◌<◌, FitsSigned, w64, rules}
-use Rattle.std.specs.Prelude.{int_lt}
+use Rattle.std.proofs.Common.{◌∙◌, FitsSigned, w64, rules}
 use Rattle.std.proofs.lemmas.Int.{to_z-of_z}
-use Rattle.tb_output.specs.declared.Turn.{Turn}
-use Rattle.tb_output.specs.Machine.{MachineView}
-use Rattle.tb_output.specs.Firing.{firing_work, CanServe, IsTurn, IsCutShort, TakesBody}
-use Rattle.tb_output.proofs.TurnOutput.{begins-with, few-cycles, counted-served, turn-by, refused-by}
+use Rattle.tb_output.specs.Firing.{fired_in}
+use Rattle.tb_output.proofs.ApartLemmas.{not-live}
+use Rattle.tb_output.proofs.FiringLemmas.{opened-machine, opened-sound, opened-fire, opened-back, opened-empty, opened-free, serving-all, serving-then}
+use Rattle.tb_output.proofs.ServeLemmas.{unserved-cut, unserved-keeps, routine-cut, goal-cut, goal-all, all-contents, all-back}
+use Rattle.tb_output.proofs.ResultLemmas.{same-err, memory-err}
 use Rattle.tb_output.proofs.Machine.serve.Goals as goal
 
-pub overflow_add-self : goal.overflow_add-self
-overflow_add-self c =
-    let few : c.self.inside.dead_cycles < 4194304 = subst (λ (x : MachineView). x.dead_cycles < 4194304) (sym c.self.view_is) (few-cycles c.args.self.now c.requires.machine.params.maxdeadcycles c.requires.begins) in
-    search (rules, few)
+pub returns-in_err-back-clause-err : goal.returns-in_err-back-clause-err
+returns-in_err-back-clause-err c =
+    memory-err c.from_residual.result _ c.from_residual.ensures.1 (unserved-cut c.args.self.now c.args.b.now c.args.store.now c.add_list.new.self c.requires.machine c.requires.builder c.in_err-back.ensures.err (fired_in c.args.b.now c.args.store.now c.args.page))
 
-pub output-requires-clause-page : goal.output-requires-clause-page
-output-requires-clause-page c =
-    counted-served _ c.args.store.now c.args.page c.args.notes (subst (λ (x : MachineView). CanServe x c.args.store.now c.args.page c.args.notes) (sym c.self.view_is) c.requires.page)
+pub returns-in_err-back-clause-keeps : goal.returns-in_err-back-clause-keeps
+returns-in_err-back-clause-keeps c = unserved-keeps c.args.self.now c.args.b.now c.args.store.now c.add_list.new.self c.requires.machine c.requires.builder c.in_err-back.ensures.err c.args.page.body
 
-pub returns-in-Ok-clause-turn : goal.returns-in-Ok-clause-turn
-returns-in-Ok-clause-turn c =
-    let below = subst (λ (x : MachineView). int_lt (pos x.dead_cycles) x.params.maxdeadcycles ≡ true) (sym c.self.view_is) (begins-with c.args.self.now c.requires.begins).1 in
-    let height : FitsSigned w64 c.self-2.inside.goal = search rules in
-    let t : Turn = record { put_back = c.in-Ok.put_back; goal = c.self-2.inside.goal } in
-    let turn = turn-by _ c.output.new.self c.args.store.now c.output.new.store c.args.page c.args.notes below t (ap (λ (x : MachineView). x.goal) c.self-2.view_is) c.in-Ok.ensures.ok in
-    simp to_z-of_z (subst (λ (x : MachineView). IsTurn t x c.output.new.self c.args.store.now c.output.new.store (firing_work x c.args.store.now c.args.page c.args.notes)) c.self.view_is turn)
+pub output-requires : goal.output-requires
+output-requires c =
+    record {
+      machine = (opened-machine c.args.store.now c.add_list.new.self c.in_ok-back.back c.in_ok-back.ensures.fresh c.in_ok-back.ensures.opened c.args.self.now c.args.b.now c.args.page c.requires.machine c.requires.builder).machine;
+      builder = opened-sound c.args.store.now c.add_list.new.self c.in_ok-back.back c.in_ok-back.ensures.fresh c.in_ok-back.ensures.opened c.args.self.now c.args.b.now c.args.page c.requires.machine c.requires.builder;
+      page = opened-fire c.args.store.now c.add_list.new.self c.in_ok-back.back c.in_ok-back.ensures.fresh c.in_ok-back.ensures.opened c.args.self.now c.args.b.now c.args.page c.requires.machine c.requires.builder c.requires.page;
+      back = opened-back c.args.store.now c.add_list.new.self c.in_ok-back.back c.in_ok-back.ensures.fresh c.in_ok-back.ensures.opened c.args.self.now c.args.b.now c.args.page c.requires.machine c.requires.builder;
+      empty = opened-empty c.args.store.now c.add_list.new.self c.in_ok-back.back c.in_ok-back.ensures.fresh c.in_ok-back.ensures.opened;
+      back_body = not-live c.args.store.now c.in_ok-back.back c.args.page.body c.in_ok-back.ensures.fresh c.requires.page.body.live;
+      back_free = opened-free c.args.store.now c.add_list.new.self c.in_ok-back.back c.in_ok-back.ensures.fresh c.in_ok-back.ensures.opened c.args.self.now c.args.b.now c.args.page c.requires.machine c.requires.builder;
+    }
 
-pub returns-in-Ok-clause-lists : goal.returns-in-Ok-clause-lists
-returns-in-Ok-clause-lists c = subst (λ (x : MachineView). TakesBody c.args.page.body x c.output.new.self) c.self.view_is c.in-Ok.ensures.lists
+pub returns-in_err-output-clause-err : goal.returns-in_err-output-clause-err
+returns-in_err-output-clause-err c =
+    same-err c.from_residual-in_err-output.result _ _ c.from_residual-in_err-output.ensures.1 (routine-cut c.args.self.now c.args.b.now c.args.store.now c.add_list.new.self c.in_ok-back.back c.args.page c.requires.machine c.requires.builder c.requires.page c.in_ok-back.ensures.fresh c.in_ok-back.ensures.opened c.output.new.self c.output.new.b c.output.new.store _ c.in_err-output.ensures.err)
 
-pub returns-in-Err-clause-refused : goal.returns-in-Err-clause-refused
-returns-in-Err-clause-refused c =
-    let below = subst (λ (x : MachineView). int_lt (pos x.dead_cycles) x.params.maxdeadcycles ≡ true) (sym c.self.view_is) (begins-with c.args.self.now c.requires.begins).1 in
-    let refused = refused-by _ c.output.new.self c.args.store.now c.output.new.store c.args.page c.args.notes below c.in-Err.fault c.in-Err.ensures.err in
-    let stands = subst (λ (x : MachineView). IsCutShort c.in-Err.fault x (record c.output.new.self { fault = Some c.in-Err.fault }) c.args.store.now c.output.new.store (firing_work x c.args.store.now c.args.page c.args.notes)) c.self.view_is refused in
-    subst (λ (x : MachineView). IsCutShort c.in-Err.fault c.args.self.now (record x { fault = Some c.in-Err.fault }) c.args.store.now c.output.new.store (firing_work c.args.self.now c.args.store.now c.args.page c.args.notes)) (sym c.self-2.view_is) stands
+pub returns-in_err-output-clause-keeps : goal.returns-in_err-output-clause-keeps
+returns-in_err-output-clause-keeps c = serving-all c.args.store.now c.add_list.new.self c.in_ok-back.back c.in_ok-back.ensures.fresh c.in_ok-back.ensures.opened c.args.self.now c.args.b.now c.args.page c.requires.machine c.requires.builder c.output.new.self c.output.new.b c.output.new.store c.args.page.body c.output.ensures.keeps
 
-pub returns-in-Err-clause-lists : goal.returns-in-Err-clause-lists
-returns-in-Err-clause-lists c =
-    subst (λ (x : MachineView). TakesBody c.args.page.body c.args.self.now x) (sym c.self-2.view_is)
-    (subst (λ (x : MachineView). TakesBody c.args.page.body x c.output.new.self) c.self.view_is c.in-Err.ensures.lists)
+pub returns-in_err-output-clause-fault : goal.returns-in_err-output-clause-fault
+returns-in_err-output-clause-fault c = c.output.ensures.keeps.fields.fault
+
+pub next_goal-requires : goal.next_goal-requires
+next_goal-requires c = record { machine = c.output.ensures.keeps.machine; back = c.output.ensures.keeps.back }
+
+pub returns-in_err-next_goal-clause-err : goal.returns-in_err-next_goal-clause-err
+returns-in_err-next_goal-clause-err c =
+    let fits : FitsSigned w64 c.args.page.penalty = search rules in
+    same-err c.from_residual-in_err-next_goal.result _ _ c.from_residual-in_err-next_goal.ensures.1
+    (goal-cut c.args.self.now c.args.b.now c.args.store.now c.add_list.new.self c.in_ok-back.back c.args.page c.requires.machine c.requires.builder c.requires.page c.in_ok-back.ensures.fresh c.in_ok-back.ensures.opened c.output.new.self c.output.new.b c.output.new.store c.output.ensures.keeps c.in_ok-output.ensures.ok _ c.next_goal.new.self c.next_goal.new.store (simp to_z-of_z at c.in_err-next_goal.ensures.err))
+
+pub returns-in_err-next_goal-clause-keeps : goal.returns-in_err-next_goal-clause-keeps
+returns-in_err-next_goal-clause-keeps c =
+    serving-all c.args.store.now c.add_list.new.self c.in_ok-back.back c.in_ok-back.ensures.fresh c.in_ok-back.ensures.opened c.args.self.now c.args.b.now c.args.page c.requires.machine c.requires.builder c.next_goal.new.self c.output.new.b c.next_goal.new.store c.args.page.body
+    (serving-then c.args.page.body c.in_ok-back.back c.args.self.now c.output.new.self c.next_goal.new.self c.args.b.now c.output.new.b c.add_list.new.self c.output.new.store c.next_goal.new.store c.output.ensures.keeps c.next_goal.ensures.keeps)
+
+pub returns-in_err-next_goal-clause-fault : goal.returns-in_err-next_goal-clause-fault
+returns-in_err-next_goal-clause-fault c = c.next_goal.ensures.keeps.fields.fault ∙ c.output.ensures.keeps.fields.fault
+
+pub returns-clause-ok : goal.returns-clause-ok
+returns-clause-ok c =
+    let fits : FitsSigned w64 c.args.page.penalty = search rules in
+    goal-all c.args.self.now c.args.b.now c.args.store.now c.add_list.new.self c.in_ok-back.back c.args.page c.requires.machine c.requires.builder c.requires.page c.in_ok-back.ensures.fresh c.in_ok-back.ensures.opened c.output.new.self c.output.new.b c.output.new.store c.output.ensures.keeps c.in_ok-output.ensures.ok c.next_goal.new.self c.next_goal.new.store c.next_goal.ensures.keeps (simp to_z-of_z at c.in_ok-next_goal.ensures.ok)
+
+pub returns-clause-contents : goal.returns-clause-contents
+returns-clause-contents c = all-contents c.args.self.now c.args.b.now c.args.store.now c.add_list.new.self c.in_ok-back.back c.args.page c.requires.machine c.requires.builder c.requires.page c.in_ok-back.ensures.fresh c.in_ok-back.ensures.opened c.output.new.self c.output.new.b c.output.new.store c.output.ensures.keeps c.in_ok-output.ensures.ok c.in_ok-output.ensures.contents c.next_goal.new.self c.next_goal.new.store c.next_goal.ensures.keeps
+
+pub returns-clause-back : goal.returns-clause-back
+returns-clause-back c =
+    all-back c.args.self.now c.args.b.now c.args.store.now c.add_list.new.self c.in_ok-back.back c.args.page c.requires.machine c.requires.builder c.requires.page c.in_ok-back.ensures.fresh c.in_ok-back.ensures.opened c.output.new.self c.output.new.b c.output.new.store c.output.ensures.keeps c.in_ok-output.ensures.ok c.in_ok-output.ensures.contents c.next_goal.new.self c.next_goal.new.store c.next_goal.ensures.keeps
+    (serving-then c.args.page.body c.in_ok-back.back c.args.self.now c.output.new.self c.next_goal.new.self c.args.b.now c.output.new.b c.add_list.new.self c.output.new.store c.next_goal.new.store c.output.ensures.keeps c.next_goal.ensures.keeps)
+
+pub returns-clause-keeps : goal.returns-clause-keeps
+returns-clause-keeps c =
+    serving-all c.args.store.now c.add_list.new.self c.in_ok-back.back c.in_ok-back.ensures.fresh c.in_ok-back.ensures.opened c.args.self.now c.args.b.now c.args.page c.requires.machine c.requires.builder c.next_goal.new.self c.output.new.b c.next_goal.new.store c.args.page.body
+    (serving-then c.args.page.body c.in_ok-back.back c.args.self.now c.output.new.self c.next_goal.new.self c.args.b.now c.output.new.b c.add_list.new.self c.output.new.store c.next_goal.new.store c.output.ensures.keeps c.next_goal.ensures.keeps)
+
+pub returns-clause-fault : goal.returns-clause-fault
+returns-clause-fault c = c.next_goal.ensures.keeps.fields.fault ∙ c.output.ensures.keeps.fields.fault

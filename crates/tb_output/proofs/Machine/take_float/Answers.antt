@@ -1,7 +1,7 @@
 use Rattle.std.proofs.Common.{ap, ◌∙◌, ◌++◌, FitsSigned, w64, rules, arith}
 use Rattle.std.proofs.lemmas.Int.{to_z-of_z}
 use Rattle.tb_output.specs.Acting.{warnings_sent}
-use Rattle.tb_output.proofs.ActingLemmas.{float-taken}
+use Rattle.tb_output.proofs.ActingLemmas.{float-taken, float-unmarked}
 use Rattle.tb_output.proofs.TakingLemmas.{room-after}
 use Rattle.tb_output.proofs.Machine.take_float.Goals as goal
 
@@ -11,7 +11,7 @@ returns-clause-ok c =
     let room = c.in_ok-take_into.ensures.room in
     let taken = simp to_z-of_z at c.clipped-taken.ensures.value in
     let sent = c.warn.ensures.sent ∙ ap (λ ws. c.self.inside.events.sent ++ warnings_sent ws) c.large-warning.ensures in
-    rw (← c.self.view_is) (record { room = omega (arith, room); machine = float-taken _ c.args.f c.clipped-taken.result c.take_into.new.pool c.warn.new.self.sent taken c.in_ok-take_into.ensures.taken sent })
+    rw (← c.self.view_is) (record { room = omega (arith, room); machine = float-taken _ c.args.f c.clipped-taken.result c.take_into.new.pool c.warn.new.self.sent taken c.in_ok-take_into.ensures.taken sent; unmarked = float-unmarked c.self.inside.params c.self.inside.two_columns c.args.f c.clipped-taken.result c.self.inside.pool c.take_into.new.pool taken c.in_ok-take_into.ensures.taken c.in_ok-take_into.ensures.unmarked })
 
 pub invariant_of-self-2 : goal.invariant_of-self-2
 invariant_of-self-2 c = room-after c.self.inside.params c.clipped-taken.result c.self.inside.pool c.take_into.new.pool _ _ c.in_ok-take_into.ensures.taken c.self.invariant c.warn.ensures.room

@@ -1,5 +1,17 @@
 use Rattle.tb_top.proofs.WorkedRows.{worked_rows}
+use Rattle.tb_top.proofs.FloatRowLemmas.{float_rows}
+use Rattle.tb_top.proofs.ColumnRowLemmas.{column_rows}
+use Rattle.tb_top.proofs.VersionRowLemmas.{version_rows}
 use Rattle.tb_top.proofs.rows.check_rows.Goals as goal
 
-pub returns : goal.returns
-returns c = worked_rows
+pub returns-clause-text : goal.returns-clause-text
+returns-clause-text c = worked_rows
+
+pub returns-clause-floats : goal.returns-clause-floats
+returns-clause-floats c = float_rows
+
+pub returns-clause-columns : goal.returns-clause-columns
+returns-clause-columns c = column_rows
+
+pub returns-clause-versions : goal.returns-clause-versions
+returns-clause-versions c = version_rows

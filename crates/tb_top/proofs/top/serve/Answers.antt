@@ -1,4 +1,5 @@
-use Rattle.std.proofs.Common.{ap, Err}
+use Rattle.std.proofs.Common.{ap, subst, Err}
+use Rattle.tb_words.specs.Words.{IsServed}
 use Rattle.std.proofs.lemmas.Result.{err_from_is_err_and}
 use Rattle.tb_top.proofs.Outcomes.{left_by_words, keeps-same}
 use Rattle.tb_top.proofs.top.serve.Goals as goal
@@ -16,3 +17,9 @@ returns-in-Trace g c = rw (c.in_ok-mode.ensures.asked, c.in-Trace.is) c.write_tr
 
 pub returns-in-Print : goal.returns-in-Print
 returns-in-Print g c = rw (c.in_ok-mode.ensures.asked, c.in-Print.is) c.write_canonical.ensures
+
+pub write_summary-requires : goal.write_summary-requires
+write_summary-requires g c = subst IsServed c.in-Generate.is c.in_ok-mode.ensures.served
+
+pub returns-in-Generate : goal.returns-in-Generate
+returns-in-Generate g c = rw (c.in_ok-mode.ensures.asked, c.in-Generate.is) (c.write_summary.ensures _ (keeps-same _))

@@ -1,6 +1,6 @@
-use Rattle.std.proofs.Common.{◌≡◌, ◌<◌, length, arith, rules, FitsSigned, w64, true, sym, ◌∙◌}
+use Rattle.std.proofs.Common.{◌≡◌, ◌<◌, length, arith, rules, FitsSigned, w64, true, refl, sym, ◌∙◌}
 use Rattle.std.proofs.lemmas.Int.{ints}
-use Rattle.tb_fpage.specs.Company.{joins}
+use Rattle.tb_fpage.specs.Company.{joins, left_floats}
 use Rattle.tb_fpage.proofs.WalkLemmas.{visited-head, visited-joined, visited-before, visited-left}
 use Rattle.tb_fpage.proofs.walk.Walk.visit.Goals as goal
 use Rattle.tb_fpage.proofs.walk.Walk.visit.Goals.{else-self-2-via-then-self-2+else-joins, else-self-2-via-else-self-2}
@@ -30,9 +30,8 @@ returns-else-self-2-clause-stands c = λ before h.
     let w = c.args.self.now in
     let f = c.args.f.now in
     let room : w.seen < length w.chosen = search rules in
-    let many : length w.failed ≡ 256 = search rules in
-    let low : f.class < 256 = omega arith in
+    let classes = c.pass.ensures.failed (left_floats before) f refl h.failed in
     elim c.else-self-2.branch [
-      | else-self-2-via-then-self-2+else-joins b ↦ visited-left z w c.pass.new.self before f b.if-self-2.true (sym (b.joins.ensures before h b.if-self-2.true) ∙ b.if-joins.false) room many low c.pass.ensures h
-      | else-self-2-via-else-self-2 b ↦ visited-before z w c.pass.new.self before f (omega (arith, c.if-self.false, b.if-self-2.false)) room many low c.pass.ensures h
+      | else-self-2-via-then-self-2+else-joins b ↦ visited-left z w c.pass.new.self before f b.if-self-2.true (sym (b.joins.ensures before h b.if-self-2.true) ∙ b.if-joins.false) room c.pass.ensures.walk classes h
+      | else-self-2-via-else-self-2 b ↦ visited-before z w c.pass.new.self before f (omega (arith, c.if-self.false, b.if-self-2.false)) room c.pass.ensures.walk classes h
     ]

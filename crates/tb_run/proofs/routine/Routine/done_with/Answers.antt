@@ -1,11 +1,11 @@
-use Rattle.std.proofs.Common.{subst}
-use Rattle.std.specs.Prelude.{IfSome}
-use Rattle.tb_run.specs.Turning.{AreSentLists}
-use Rattle.tb_run.proofs.SentLemmas.{ended-state, ended-ready}
+use Rattle.tb_run.proofs.DoneLemmas.{pages-live, done-state, done-ready}
 use Rattle.tb_run.proofs.routine.Routine.done_with.Goals as goal
 
-pub returns-in-Some-clause-ready : goal.returns-in-Some-clause-ready
-returns-in-Some-clause-ready c = ended-ready c.args.self.now c.end_sent.new.store c.in-Some.sent c.requires.ready (subst (λ o. IfSome o (AreSentLists c.args.self.now)) c.in-Some.is c.requires.lists) c.end_sent.ensures.others
+pub close_happened-requires-clause-live : goal.close_happened-requires-clause-live
+close_happened-requires-clause-live c = pages-live c.args.self.now.store c.args.happened.now c.requires.lists.pages
 
-pub returns-in-Some-clause-state : goal.returns-in-Some-clause-state
-returns-in-Some-clause-state c = ended-state c.args.self.now c.end_sent.new.store c.in-Some.sent c.requires.ready (subst (λ o. IfSome o (AreSentLists c.args.self.now)) c.in-Some.is c.requires.lists) c.end_sent.ensures.others
+pub returns-clause-ready : goal.returns-clause-ready
+returns-clause-ready c = done-ready c.args.self.now c.close_happened.new.store c.args.happened.now c.requires.ready c.requires.lists c.close_happened.ensures.others
+
+pub returns-clause-state : goal.returns-clause-state
+returns-clause-state c = done-state c.args.self.now c.close_happened.new.store c.args.happened.now c.requires.ready c.requires.lists c.close_happened.ensures.others

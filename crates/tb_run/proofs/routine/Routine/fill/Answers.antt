@@ -1,53 +1,56 @@
-use Rattle.std.proofs.Common.{refl, sym, subst}
-use Rattle.tb_builder.specs.Next.{NextFits}
+use Rattle.std.proofs.Common.{refl, subst, sym}
+use Rattle.std.specs.Prelude.{◌<◌}
 use Rattle.tb_run.specs.declared.routine.Routine.{Routine}
+use Rattle.tb_run.specs.declared.routine.Ending.TheVariants as endings
 use Rattle.tb_run.specs.Turning.{held_in}
-use Rattle.tb_run.proofs.WholeLemmas.{trying-start, trying-more, filling-fits, filling-none_held, try-filling, act-never, fill-over, fill-fires, led-over, led-fires}
+use Rattle.tb_run.specs.Filling.{IsFilledLast}
+use Rattle.tb_run.proofs.FillingLemmas.{IsUnderway, left_of_page, underway-start, underway-fits, next-whole, underway-tried, fewer-tried, act-fits, underway-acted, fewer-acted, filled-full, filled-over}
+use Rattle.tb_run.proofs.FiringLemmas.{filled-fires}
 use Rattle.tb_run.proofs.routine.Routine.fill.Goals as goal
 
 pub next-init : goal.next-init
-next-init c = trying-start c.args.p.now c.args.wanted c.args.self.now c.args.tries.now.items c.requires.ready
-
-pub next-requires-clause-none_held : goal.next-requires-clause-none_held
-next-requires-clause-none_held c = filling-none_held c.args.p.now c.args.self.now c.next.invariant.tries c.next.self c.next.invariant.filling
+next-init c =
+    underway-start c.args.wanted c.args.self.now c.args.happened.now.items c.requires.ready c.requires.empty
 
 pub next-requires-clause-fits : goal.next-requires-clause-fits
 next-requires-clause-fits c =
-    subst (NextFits (held_in c.next.self)) (sym c.requires.ask) (filling-fits c.args.p.now c.args.self.now c.next.invariant.tries c.next.self c.requires.params c.requires.ready c.next.invariant.filling)
+    underway-fits c.args.wanted c.args.self.now c.next.self c.next.self c.next.happened.items c.requires.ready c.next.invariant c.ask-ask.result (c.ask-ask.ensures c.args.self.now.store (held_in c.args.self.now).boxes (held_in c.args.self.now).waiting)
 
--- a place was tried, and noted where it is wanted
-pub next-preserved-in-Continue-branch-2 : goal.next-preserved-in-Continue-branch-2
-next-preserved-in-Continue-branch-2 c =
-    let d : Routine = record { store = c.next-in-next.new.store; builder = c.next-in-next.new.self; machine = c.next.self.machine; most = c.next.self.most } in
-    trying-more c.args.p.now c.args.wanted c.args.self.now c.args.tries.now.items c.next.self d c.next.tries.items _ c.in-Try.tried c.next.invariant
-    (try-filling c.args.p.now c.args.self.now c.next.invariant.tries c.next.self d c.args.ask.now c.requires.params c.requires.ready c.requires.ask c.next.invariant.filling c.in_ok-event.ensures.keeps c.in_ok-event.event c.in_ok-event.ensures.event c.in_ok-event.ensures.sound refl c.in-Try.tried c.in-Try.is)
-    c.in_ok-note-in-Try.ensures
+pub next-smaller-in-Continue-branch-3 : goal.next-smaller-in-Continue-branch-3
+next-smaller-in-Continue-branch-3 c =
+    fewer-tried c.args.wanted c.args.self.now c.next.self (record { store = c.next-in-next.new.store; builder = c.next-in-next.new.self; machine = c.next.self.machine; most = c.next.self.most }) c.next.happened.items c.requires.ready c.next.invariant c.ask-ask.result (c.ask-ask.ensures c.args.self.now.store (held_in c.args.self.now).boxes (held_in c.args.self.now).waiting) c.in_ok-tried.field-0 c.in_ok-tried.ensures.event c.in_ok-tried.ensures.sound c.in_ok-tried.ensures.keeps refl refl c.in-Try.tried c.in-Try.is
+
+pub next-preserved-in-Continue-branch-3 : goal.next-preserved-in-Continue-branch-3
+next-preserved-in-Continue-branch-3 c =
+    underway-tried c.args.wanted c.args.self.now c.next.self (record { store = c.next-in-next.new.store; builder = c.next-in-next.new.self; machine = c.next.self.machine; most = c.next.self.most }) c.next.happened.items c.requires.ready c.next.invariant c.ask-ask.result (c.ask-ask.ensures c.args.self.now.store (held_in c.args.self.now).boxes (held_in c.args.self.now).waiting) c.in_ok-tried.field-0 c.in_ok-tried.ensures.event c.in_ok-tried.ensures.sound c.in_ok-tried.ensures.keeps refl refl c.in-Try.tried c.in-Try.is c.note_try.new.happened.items c.in_ok-note_try-in-Try.ensures
+
+pub act-requires-clause-whole : goal.act-requires-clause-whole
+act-requires-clause-whole c =
+    next-whole c.args.wanted c.args.self.now c.next.self (record { store = c.next-in-next.new.store; builder = c.next-in-next.new.self; machine = c.next.self.machine; most = c.next.self.most }) c.next.happened.items c.requires.ready c.next.invariant c.ask-ask.result (c.ask-ask.ensures c.args.self.now.store (held_in c.args.self.now).boxes (held_in c.args.self.now).waiting) c.in_ok-tried.field-0 c.in_ok-tried.ensures.event c.in_ok-tried.ensures.sound c.in_ok-tried.ensures.keeps refl refl
+
+pub act-requires-clause-act : goal.act-requires-clause-act
+act-requires-clause-act c =
+    act-fits c.args.wanted c.args.self.now c.next.self (record { store = c.next-in-next.new.store; builder = c.next-in-next.new.self; machine = c.next.self.machine; most = c.next.self.most }) c.next.happened.items c.requires.ready c.next.invariant c.ask-ask.result (c.ask-ask.ensures c.args.self.now.store (held_in c.args.self.now).boxes (held_in c.args.self.now).waiting) c.in_ok-tried.field-0 c.in_ok-tried.ensures.event c.in_ok-tried.ensures.sound c.in_ok-tried.ensures.keeps refl refl c.in-Act.act c.in-Act.is
+
+pub returns-in-Err : goal.returns-in-Err
+returns-in-Err c =
+    subst (λ n. IsFilledLast c.args.wanted c.args.self.now (endings.PoolFull n c.in-Err.full.live) c.act.new.self c.next.happened.items) (sym c.line_of.ensures)
+    (filled-full c.args.wanted c.args.self.now c.next.self (record { store = c.next-in-next.new.store; builder = c.next-in-next.new.self; machine = c.next.self.machine; most = c.next.self.most }) c.next.happened.items c.requires.ready c.next.invariant c.ask-ask.result (c.ask-ask.ensures c.args.self.now.store (held_in c.args.self.now).boxes (held_in c.args.self.now).waiting) c.in_ok-tried.field-0 c.in_ok-tried.ensures.event c.in_ok-tried.ensures.sound c.in_ok-tried.ensures.keeps refl refl c.in-Act.act c.in-Act.is c.act.new.self c.in-Err.full.live c.in-Err.ensures.err)
+
+pub next-smaller : goal.next-smaller
+next-smaller c =
+    subst (λ (x : Routine). left_of_page c.args.self.now x < left_of_page c.args.self.now c.next.self) (sym c.in_ok-hand_over-in-Act.ensures.machine)
+    (fewer-acted c.args.wanted c.args.self.now c.next.self (record { store = c.next-in-next.new.store; builder = c.next-in-next.new.self; machine = c.next.self.machine; most = c.next.self.most }) c.next.happened.items c.requires.ready c.next.invariant c.ask-ask.result (c.ask-ask.ensures c.args.self.now.store (held_in c.args.self.now).boxes (held_in c.args.self.now).waiting) c.in_ok-tried.field-0 c.in_ok-tried.ensures.event c.in_ok-tried.ensures.sound c.in_ok-tried.ensures.keeps refl refl c.in-Act.act c.in-Act.is c.act.new.self c.in_default.ensures.ok)
 
 pub next-preserved : goal.next-preserved
 next-preserved c =
-    let d : Routine = record { store = c.next-in-next.new.store; builder = c.next-in-next.new.self; machine = c.next.self.machine; most = c.next.self.most } in
-    absurd (act-never c.args.p.now c.args.self.now c.next.invariant.tries c.next.self d c.args.ask.now c.requires.params c.requires.ready c.requires.ask c.next.invariant.filling c.in_ok-event.ensures.keeps c.in_ok-event.event c.in_ok-event.ensures.event c.in_ok-event.ensures.sound refl c.in-Act.act c.in-Act.is)
+    subst (λ (x : Routine). IsUnderway c.args.wanted c.args.self.now x c.hand_over.new.happened.items) (sym c.in_ok-hand_over-in-Act.ensures.machine)
+    (underway-acted c.args.wanted c.args.self.now c.next.self (record { store = c.next-in-next.new.store; builder = c.next-in-next.new.self; machine = c.next.self.machine; most = c.next.self.most }) c.next.happened.items c.requires.ready c.next.invariant c.ask-ask.result (c.ask-ask.ensures c.args.self.now.store (held_in c.args.self.now).boxes (held_in c.args.self.now).waiting) c.in_ok-tried.field-0 c.in_ok-tried.ensures.event c.in_ok-tried.ensures.sound c.in_ok-tried.ensures.keeps refl refl c.in-Act.act c.in-Act.is c.act.new.self c.in_default.ensures.ok c.hand_over.new.happened.items c.in_ok-hand_over-in-Act.ensures.events)
 
 pub returns-in-Fired : goal.returns-in-Fired
 returns-in-Fired c =
-    let d : Routine = record { store = c.next-in-next.new.store; builder = c.next-in-next.new.self; machine = c.next.self.machine; most = c.next.self.most } in
-    record {
-      made = fill-fires c.args.p.now c.args.self.now c.next.invariant.tries c.next.self d c.args.ask.now c.requires.params c.requires.ready c.requires.ask c.next.invariant.filling c.in_ok-event.ensures.keeps c.in_ok-event.event c.in_ok-event.ensures.event c.in_ok-event.ensures.sound refl c.in-Fired.page c.in-Fired.is c.in_ok-event.ensures.body;
-      tries = record {
-        tries = c.next.invariant.tries;
-        led = led-fires c.args.p.now c.args.self.now c.next.invariant.tries c.next.self d c.args.ask.now c.requires.params c.requires.ready c.requires.ask c.next.invariant.filling c.in_ok-event.ensures.keeps c.in_ok-event.event c.in_ok-event.ensures.event c.in_ok-event.ensures.sound refl c.in-Fired.page c.in-Fired.is;
-        grown = c.next.invariant.grown;
-      };
-    }
+    filled-fires c.args.wanted c.args.self.now c.next.self (record { store = c.next-in-next.new.store; builder = c.next-in-next.new.self; machine = c.next.self.machine; most = c.next.self.most }) c.next.happened.items c.requires.ready c.next.invariant c.ask-ask.result (c.ask-ask.ensures c.args.self.now.store (held_in c.args.self.now).boxes (held_in c.args.self.now).waiting) c.in_ok-tried.field-0 c.in_ok-tried.ensures.event c.in_ok-tried.ensures.sound c.in_ok-tried.ensures.keeps refl refl c.in-Fired.page c.in-Fired.is c.in_ok-tried.ensures.body
 
 pub returns-in-Empty : goal.returns-in-Empty
 returns-in-Empty c =
-    let d : Routine = record { store = c.next-in-next.new.store; builder = c.next-in-next.new.self; machine = c.next.self.machine; most = c.next.self.most } in
-    record {
-      made = fill-over c.args.p.now c.args.self.now c.next.invariant.tries c.next.self d c.args.ask.now c.requires.params c.requires.ready c.requires.ask c.next.invariant.filling c.in_ok-event.ensures.keeps c.in_ok-event.event c.in_ok-event.ensures.event c.in_ok-event.ensures.sound refl c.in-Empty.is;
-      tries = record {
-        tries = c.next.invariant.tries;
-        led = led-over c.args.p.now c.args.self.now c.next.invariant.tries c.next.self d c.args.ask.now c.requires.params c.requires.ready c.requires.ask c.next.invariant.filling c.in_ok-event.ensures.keeps c.in_ok-event.event c.in_ok-event.ensures.event c.in_ok-event.ensures.sound refl c.in-Empty.is;
-        grown = c.next.invariant.grown;
-      };
-    }
+    filled-over c.args.wanted c.args.self.now c.next.self (record { store = c.next-in-next.new.store; builder = c.next-in-next.new.self; machine = c.next.self.machine; most = c.next.self.most }) c.next.happened.items c.requires.ready c.next.invariant c.ask-ask.result (c.ask-ask.ensures c.args.self.now.store (held_in c.args.self.now).boxes (held_in c.args.self.now).waiting) c.in_ok-tried.field-0 c.in_ok-tried.ensures.event c.in_ok-tried.ensures.sound c.in_ok-tried.ensures.keeps refl refl c.in-Empty.is

@@ -1,29 +1,22 @@
-use Rattle.std.proofs.Common.{◌≡◌, ◌∙◌, refl, sym, subst, ap, List, [], ◌∷◌, ◌++◌, map}
+use Rattle.std.proofs.Common.{◌≡◌, ◌∙◌, sym, subst, ap, List}
 use Rattle.tb_insert.specs.declared.Class.{Class}
 use Rattle.tb_builder.specs.Contents.{Contents}
 use Rattle.tb_builder.specs.Owned.{ClassesFit}
-use Rattle.tb_galley.specs.declared.Galley.{Galley}
-use Rattle.tb_galley.specs.declared.classes.ClassLine.{ClassLine}
 use Rattle.tb_galley.specs.Expand.{expanded}
-use Rattle.tb_output.specs.State.{foot_class, first_state}
-use Rattle.tb_output.specs.Machine.{AreOutputClasses}
-use Rattle.tb_run.specs.Run.{class_of, classes_of}
+use Rattle.tb_output.specs.State.{first_state}
+use Rattle.tb_output.specs.Machine.{AreClassesFrom}
+use Rattle.tb_run.specs.GalleyNodes.{AreGalleyNodes}
+use Rattle.tb_run.specs.Run.{classes_of}
+use Rattle.tb_run.specs.Served.{AreRunClasses}
 use Rattle.tb_run.specs.Expanding.{AreItems}
-use Rattle.tb_run.proofs.AfterFiring.{foot-fits}
 use Rattle.tb_run.proofs.BeginLemmas.{begin-state, begin-ready}
 use Rattle.tb_run.proofs.routine.Routine.new.Goals as goal
 
--- a galley without classes has that of the footnotes alone
-foot-alone : (g : Galley) (cs : List Class) → cs ≡ classes_of g → g.classes ≡ [] → cs ≡ foot_class g.params ∷ []
-foot-alone g cs is none = is ∙ ap (λ (ls : List ClassLine). map class_of ls ++ foot_class g.params ∷ []) none
-
 pub new_machine-requires-clause-classes : goal.new_machine-requires-clause-classes
-new_machine-requires-clause-classes c =
-    subst (AreOutputClasses c.args.galley.now.params) (sym (foot-alone c.args.galley.now c.as_slice-served.result.now (c.as_slice-served.ensures.value ∙ c.in_ok-classes.ensures) c.requires.classes)) refl
+new_machine-requires-clause-classes c = subst (AreClassesFrom 0) (sym (c.as_slice-served.ensures.value ∙ c.in_ok-classes.ensures)) c.requires.classes.rising
 
 pub new_builder-requires : goal.new_builder-requires
-new_builder-requires c =
-    subst ClassesFit (sym (foot-alone c.args.galley.now c.as_slice-served.result.now (c.as_slice-served.ensures.value ∙ c.in_ok-classes.ensures) c.requires.classes)) (foot-fits c.args.galley.now.params c.requires.params)
+new_builder-requires c = subst ClassesFit (sym (c.as_slice-served.ensures.value ∙ c.in_ok-classes.ensures)) c.requires.classes.fit
 
 pub expand-requires-clause-can : goal.expand-requires-clause-can
 expand-requires-clause-can c =
@@ -38,15 +31,15 @@ expand-requires-clause-items c =
 pub returns-clause-state : goal.returns-clause-state
 returns-clause-state c =
     let is : c.as_slice-served.result.now ≡ classes_of c.args.galley.now = c.as_slice-served.ensures.value ∙ c.in_ok-classes.ensures in
-    let alone = foot-alone c.args.galley.now c.as_slice-served.result.now is c.requires.classes in
-    begin-state c.args.galley.now.params c.in_ok-machine.machine c.new_machine.new.store c.new_builder.new.store c.expand.new.store c.in_ok-builder.builder c.expand.new.builder c.as_slice-served.result.now (expanded c.args.galley.now) alone c.in_ok-machine.ensures.state
-    c.in_ok-machine.ensures.machine (c.in_ok-machine.ensures.floatless alone) c.in_ok-machine.ensures.params c.in_ok-builder.ensures.contents c.in_ok-builder.ensures.fresh c.in_ok-builder.ensures.others c.in_ok-expand.ensures
+    let e = c.in_ok-machine.ensures in
+    begin-state c.args.galley.now.params c.in_ok-machine.machine c.new_machine.new.store c.new_builder.new.store c.expand.new.store c.in_ok-builder.builder c.expand.new.builder c.as_slice-served.result.now (expanded c.args.galley.now) e.state e.machine e.params e.classes e.fault e.events
+    c.in_ok-builder.ensures.contents c.in_ok-builder.ensures.fresh c.in_ok-builder.ensures.others c.in_ok-expand.ensures
     ∙ ap (λ (cs : List Class). first_state c.args.galley.now.params cs (expanded c.args.galley.now)) is
 
 pub returns-clause-ready : goal.returns-clause-ready
 returns-clause-ready c =
     let is : c.as_slice-served.result.now ≡ classes_of c.args.galley.now = c.as_slice-served.ensures.value ∙ c.in_ok-classes.ensures in
-    let alone = foot-alone c.args.galley.now c.as_slice-served.result.now is c.requires.classes in
-    begin-ready c.args.galley.now.params c.in_ok-machine.machine c.new_machine.new.store c.new_builder.new.store c.expand.new.store c.in_ok-builder.builder c.expand.new.builder c.as_slice-served.result.now (expanded c.args.galley.now) alone c.in_ok-machine.ensures.state
-    c.in_ok-machine.ensures.machine (c.in_ok-machine.ensures.floatless alone) c.in_ok-machine.ensures.params c.in_ok-builder.ensures.contents c.in_ok-builder.ensures.fresh c.in_ok-builder.ensures.others c.in_ok-expand.ensures
-    c.in_ok-machine.ensures.fault c.in_ok-machine.ensures.events c.requires.nodes
+    let e = c.in_ok-machine.ensures in
+    begin-ready c.args.galley.now.params c.in_ok-machine.machine c.new_machine.new.store c.new_builder.new.store c.expand.new.store c.in_ok-builder.builder c.expand.new.builder c.as_slice-served.result.now (expanded c.args.galley.now) e.state e.machine e.params e.classes e.fault e.events
+    c.in_ok-builder.ensures.contents c.in_ok-builder.ensures.fresh c.in_ok-builder.ensures.others c.in_ok-expand.ensures c.requires.params (subst AreRunClasses (sym is) c.requires.classes)
+    (subst (λ (cs : List Class). AreGalleyNodes cs (expanded c.args.galley.now)) (sym is) c.requires.nodes)

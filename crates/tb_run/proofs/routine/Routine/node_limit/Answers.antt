@@ -1,4 +1,5 @@
-use Rattle.std.proofs.Common.{◌∙◌, sym, ◌+◌, FitsSigned, w64, rules, arith}
+use Rattle.std.proofs.Common.{◌∙◌, ap, pos, sym, ◌+◌, FitsSigned, w64, rules, arith}
+use Rattle.std.specs.Prelude.{int_lt}
 use Rattle.std.proofs.lemmas.Int.{to_z-of_z}
 use Rattle.tb_run.specs.Run.{held_count}
 use Rattle.tb_run.specs.Turning.{state_of}
@@ -7,20 +8,35 @@ use Rattle.tb_run.proofs.routine.Routine.node_limit.Goals as goal
 
 pub returns-then-not-exceeds-clause-limit : goal.returns-then-not-exceeds-clause-limit
 returns-then-not-exceeds-clause-limit c =
-    let limit : FitsSigned w64 c.args.p.now.maxnodes = search rules in
+    let limit : FitsSigned w64 c.max_nodes-limit.result = search rules in
     let test = simp to_z-of_z at c.exceeds.ensures in
-    none-over c.args.p.now _ c.args.self.now.most c.requires.bounded.held (sym test ∙ c.if-not-exceeds.true)
+    none-over c.args.self.now.machine.params _ c.args.self.now.most c.requires.bounded.held (ap (λ z. int_lt z (pos c.args.self.now.most)) (sym c.max_nodes-limit.ensures) ∙ sym test ∙ c.if-not-exceeds.true)
 
 pub returns-then-exceeds-clause-limit : goal.returns-then-exceeds-clause-limit
 returns-then-exceeds-clause-limit c =
-    let limit : FitsSigned w64 c.args.p.now.maxnodes = search rules in
+    let limit : FitsSigned w64 c.max_nodes-limit.result = search rules in
     let test = simp to_z-of_z at c.exceeds-2.ensures in
-    some-over c.args.p.now (held_count (state_of c.args.self.now)) (c.nodes.result + c.held_nodes.result)
-    (counted-all c.args.self.now.machine.params c.args.self.now c.requires.whole c.requires.bounded c.nodes.result c.held_nodes.result c.nodes.ensures c.held_nodes.ensures) (sym test ∙ c.if-exceeds.true)
+    some-over c.args.self.now.machine.params (held_count (state_of c.args.self.now)) (c.nodes.result + c.held_nodes.result)
+    (counted-all c.args.self.now c.requires.whole c.requires.bounded c.nodes.result c.held_nodes.result c.nodes.ensures c.held_nodes.ensures)
+    (ap (λ z. int_lt z (pos (c.nodes.result + c.held_nodes.result))) (sym c.max_nodes-limit.ensures) ∙ sym test ∙ c.if-exceeds.true)
+
+pub returns-then-exceeds-clause-bounded : goal.returns-then-exceeds-clause-bounded
+returns-then-exceeds-clause-bounded c =
+    let same = counted-all c.args.self.now c.requires.whole c.requires.bounded c.nodes.result c.held_nodes.result c.nodes.ensures c.held_nodes.ensures in
+    let held = c.requires.bounded.held in
+    let few = c.requires.bounded.few in
+    record { held = omega (arith, same); few = omega (arith, same, held, few) }
 
 pub returns-clause-limit : goal.returns-clause-limit
 returns-clause-limit c =
-    let limit : FitsSigned w64 c.args.p.now.maxnodes = search rules in
+    let limit : FitsSigned w64 c.max_nodes-limit.result = search rules in
     let test = simp to_z-of_z at c.exceeds-2.ensures in
-    let same = counted-all c.args.self.now.machine.params c.args.self.now c.requires.whole c.requires.bounded c.nodes.result c.held_nodes.result c.nodes.ensures c.held_nodes.ensures in
-    none-over c.args.p.now _ (c.nodes.result + c.held_nodes.result) (omega (arith, same)) (sym test ∙ c.if-exceeds.false)
+    let same = counted-all c.args.self.now c.requires.whole c.requires.bounded c.nodes.result c.held_nodes.result c.nodes.ensures c.held_nodes.ensures in
+    none-over c.args.self.now.machine.params _ (c.nodes.result + c.held_nodes.result) (omega (arith, same)) (ap (λ z. int_lt z (pos (c.nodes.result + c.held_nodes.result))) (sym c.max_nodes-limit.ensures) ∙ sym test ∙ c.if-exceeds.false)
+
+pub returns-clause-bounded : goal.returns-clause-bounded
+returns-clause-bounded c =
+    let same = counted-all c.args.self.now c.requires.whole c.requires.bounded c.nodes.result c.held_nodes.result c.nodes.ensures c.held_nodes.ensures in
+    let held = c.requires.bounded.held in
+    let few = c.requires.bounded.few in
+    record { held = omega (arith, same); few = omega (arith, same, held, few) }

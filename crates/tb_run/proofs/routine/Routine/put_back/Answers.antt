@@ -1,14 +1,17 @@
 use Rattle.std.proofs.Common.{◌∙◌}
-use Rattle.tb_run.proofs.BackLemmas.{closed-contents, closed-whole, closed-events}
+use Rattle.tb_run.proofs.WholeLemmas.{back-contents, back-shown, back-whole}
 use Rattle.tb_run.proofs.routine.Routine.put_back.Goals as goal
 
 pub returns-clause-whole : goal.returns-clause-whole
-returns-clause-whole c = closed-whole c.args.self.now c.put_back.new.store c.close.new.self c.put_back.new.self c.args.list c.requires.whole c.requires.list c.put_back.ensures.sound c.put_back.ensures.others c.put_back.ensures.keeps c.close.ensures.closed
+returns-clause-whole c = back-whole c.args.self.now c.put_back.new.store c.close.new.self c.put_back.new.self c.args.list c.requires.whole c.requires.list c.put_back.ensures.sound c.put_back.ensures.others c.put_back.ensures.keeps c.close.ensures.closed
 
 pub returns-clause-contents : goal.returns-clause-contents
 returns-clause-contents c =
-    closed-contents c.args.self.now c.put_back.new.store c.close.new.self c.put_back.new.self c.args.list c.requires.whole c.requires.list c.put_back.ensures.sound c.put_back.ensures.others c.put_back.ensures.keeps c.close.ensures.closed
+    back-contents c.args.self.now c.put_back.new.store c.close.new.self c.put_back.new.self c.args.list c.requires.whole c.requires.list c.put_back.ensures.sound c.put_back.ensures.others c.put_back.ensures.keeps c.close.ensures.closed
     ∙ c.put_back.ensures.contents
 
 pub returns-clause-events : goal.returns-clause-events
-returns-clause-events c = closed-events c.args.self.now c.put_back.new.store c.close.new.self c.put_back.new.self c.args.list c.requires.whole c.requires.list c.put_back.ensures.sound c.put_back.ensures.others c.put_back.ensures.keeps c.close.ensures.closed
+returns-clause-events c = (back-shown c.args.self.now c.put_back.new.store c.close.new.self c.put_back.new.self c.args.list c.requires.whole c.requires.list c.put_back.ensures.sound c.put_back.ensures.others c.put_back.ensures.keeps c.close.ensures.closed).events
+
+pub returns-clause-state : goal.returns-clause-state
+returns-clause-state c = (back-shown c.args.self.now c.put_back.new.store c.close.new.self c.put_back.new.self c.args.list c.requires.whole c.requires.list c.put_back.ensures.sound c.put_back.ensures.others c.put_back.ensures.keeps c.close.ensures.closed).state

@@ -1,0 +1,401 @@
+-- A reader is sound: what it has drafted so far is in its ranges; each line of a known content keeps it so.
+use Rattle.std.proofs.Common.{◌≡◌, ℕ, ◌+◌, ◌≤◌, ◌<◌, Bool, true, false, ◌&&◌, not, ◌||◌, ◌==◌, nat_lt, nat_le, length, map, List, [], ◌∷◌, ◌++◌, Option, Some, None, refl, ap, sym, subst, ◌∙◌, ◌⊎◌, inl, inr, arith, append_assoc, length-append}
+use Rattle.std.specs.Prelude.{is_some, is_none}
+use Rattle.std.proofs.lemmas.Bool.{eqb-true}
+use Rattle.std.specs.List.{list_all}
+use Rattle.std.proofs.lemmas.Bool.Decides.{nat_tests}
+use Rattle.std.proofs.lemmas.List.Folds.{list_all-append}
+use Rattle.tb_param.specs.declared.params.Params.{Params}
+use Rattle.tb_param.specs.declared.fields.Field.{Field}
+use Rattle.tb_param.specs.declared.Value.{Value}
+use Rattle.tb_param.specs.Ranges.{are_params}
+use Rattle.tb_param.specs.Fields.{with_value}
+use Rattle.tb_param.specs.declared.fields.Field.TheVariants as fields
+use Rattle.tb_param.specs.Table.{is_known_in}
+use Rattle.tb_param.specs.Release.{has_second}
+use Rattle.tb_galley.specs.declared.Cause.TheVariants as causes
+use Rattle.tb_galley.specs.declared.contents.Content.TheVariants as contents
+use Rattle.tb_galley.specs.declared.Item.{Item}
+use Rattle.tb_galley.specs.declared.ItemKind.{ItemKind}
+use Rattle.tb_galley.specs.declared.ItemKind.TheVariants as items
+use Rattle.tb_galley.specs.declared.classes.ClassLine.{ClassLine}
+use Rattle.tb_galley.specs.Values.{is_class_among}
+use Rattle.tb_galley.specs.declared.Leaf.{Leaf}
+use Rattle.tb_galley.specs.declared.LeafKind.{LeafKind}
+use Rattle.tb_galley.specs.Words.{header, setting, Phase, at_start, among_sets, among_items, in_foot, ended}
+use Rattle.tb_galley.specs.Faults.{place_causes, cause_if}
+use Rattle.tb_galley.specs.Grammar.{OpenFoot, Draft, with_item, with_plain, with_foot, with_content}
+use Rattle.tb_galley.specs.Line.{first_of}
+use Rattle.tb_galley.specs.Machine.{next_phase}
+use Rattle.tb_galley.specs.Valid.{is_leaf, is_item, weight_of, weight, leaf_lines, lines_of_item, named_lines, rise_from, is_class, do_classes_rise, has_known_class, fits_version}
+use Rattle.tb_galley.proofs.Suited.{SetsInRange}
+
+-- ---- lists that rise
+
+-- the list rises, and its last number is below this one
+abbrev pub Rises : List ℕ → ℕ → Type 0
+Rises xs a = rise_from 0 (xs ++ a ∷ []) ≡ true
+
+below_and : (a b c : ℕ) (more less : Bool) → (nat_lt a b && more) ≡ true → b ≤ c → (more ≡ true → less ≡ true) → (nat_lt a c && less) ≡ true
+below_and a b c more less h k f = grind (arith, nat_tests)
+
+rises_later_from : (m : ℕ) (xs : List ℕ) (a b : ℕ) → rise_from m (xs ++ a ∷ []) ≡ true → a ≤ b → rise_from m (xs ++ b ∷ []) ≡ true
+rises_later_from m [] a b h k = below_and m a b true true h k (λ e. e)
+rises_later_from m (x ∷ xs) a b h k = below_and m x x (rise_from x (xs ++ a ∷ [])) (rise_from x (xs ++ b ∷ [])) h (omega arith) (λ e. rises_later_from x xs a b e k)
+
+rises_more_from : (m : ℕ) (xs : List ℕ) (a b : ℕ) → rise_from m (xs ++ a ∷ []) ≡ true → a < b → rise_from m ((xs ++ a ∷ []) ++ b ∷ []) ≡ true
+rises_more_from m [] a b h k = let below : nat_lt a b ≡ true = grind (arith, nat_tests) in below_and m a a true (nat_lt a b && true) h (omega arith) (λ e. ap (λ t. t && true) below)
+rises_more_from m (x ∷ xs) a b h k = below_and m x x (rise_from x (xs ++ a ∷ [])) (rise_from x ((xs ++ a ∷ []) ++ b ∷ [])) h (omega arith) (λ e. rises_more_from x xs a b e k)
+
+pub nothing_more : {X : Type 0} (xs : List X) → xs ++ [] ≡ xs
+nothing_more [] = refl
+nothing_more (x ∷ xs) = ap (λ ys. x ∷ ys) (nothing_more xs)
+
+-- ---- one item more
+
+weight-append : (is : List Item) (i : Item) → weight (is ++ i ∷ []) ≡ weight is + weight_of i.kind
+weight-append [] i = omega arith
+weight-append (j ∷ is) i = let more : weight (is ++ i ∷ []) ≡ weight is + weight_of i.kind = weight-append is i in omega arith
+
+named-append : (is : List Item) (i : Item) → named_lines (is ++ i ∷ []) ≡ named_lines is ++ lines_of_item i.line i.kind
+named-append [] i = nothing_more (lines_of_item i.line i.kind)
+named-append (j ∷ is) i = ap (λ ls. lines_of_item j.line j.kind ++ ls) (named-append is i) ∙ sym (append_assoc (lines_of_item j.line j.kind) (named_lines is) (lines_of_item i.line i.kind))
+
+leaf_lines-append : (ls : List Leaf) (l : Leaf) → leaf_lines (ls ++ l ∷ []) ≡ leaf_lines ls ++ l.line ∷ []
+leaf_lines-append [] l = refl
+leaf_lines-append (m ∷ ls) l = ap (λ ns. m.line ∷ ns) (leaf_lines-append ls l)
+
+all_more : {X : Type 0} (p : X → Bool) (xs : List X) (x : X) → list_all p xs ≡ true → p x ≡ true → list_all p (xs ++ x ∷ []) ≡ true
+all_more p xs x h k = list_all-append p xs (x ∷ []) ∙ hold (list_all p xs) (p x) h k
+  where
+    hold : (a b : Bool) → a ≡ true → b ≡ true → (a && (b && true)) ≡ true
+    hold true true h k = refl
+    hold true false h k = k
+    hold false b h k = h
+
+-- ---- a sound state
+
+abbrev open_leaves : Option OpenFoot → List Leaf
+open_leaves None = []
+open_leaves (Some o) = o.leaves
+
+-- how many lines of items the open foot has so far
+abbrev open_weight : Option OpenFoot → ℕ
+open_weight None = 0
+open_weight (Some o) = length o.leaves + 1
+
+-- a foot is open exactly in its phase
+abbrev foot_fits : Phase → Option OpenFoot → Bool
+foot_fits at_start o = is_none o
+foot_fits among_sets o = is_none o
+foot_fits among_items o = is_none o
+foot_fits in_foot o = is_some o
+foot_fits ended o = is_none o
+
+-- the line that comes next; after the end that of the end
+abbrev last_line : Phase → ℕ → ℕ → ℕ
+last_line at_start n e = n + 1
+last_line among_sets n e = n + 1
+last_line among_items n e = n + 1
+last_line in_foot n e = n + 1
+last_line ended n e = e
+
+-- the lines so far that must rise
+abbrev lines_so_far : Draft → List ℕ
+lines_so_far d = named_lines d.items ++ leaf_lines (open_leaves d.foot)
+
+-- the classes that were declared
+abbrev pub numbers : List ClassLine → List ℕ
+numbers cs = map (λ (c : ClassLine). c.number) cs
+
+-- the class of the open foot is one of these
+abbrev is_known_foot : List ℕ → Option OpenFoot → Bool
+is_known_foot ks None = true
+is_known_foot ks (Some o) = is_class_among ks o.class
+
+-- before the header the version counts as 1
+abbrev is_fresh : Phase → ℕ → Bool
+is_fresh at_start v = v == 1
+is_fresh among_sets v = true
+is_fresh among_items v = true
+is_fresh in_foot v = true
+is_fresh ended v = true
+
+-- the version knows what the draft has, and the classes of feet were declared
+pub record Classed (p : Phase) (d : Draft) : Type 0 where
+  pub version : fits_version d.version d.classes d.params ≡ true
+  pub fresh : is_fresh p d.version ≡ true
+  pub classes : (list_all is_class d.classes && do_classes_rise d.classes) ≡ true
+  pub feet : list_all (λ (i : Item). has_known_class (numbers d.classes) i.kind) d.items ≡ true
+  pub foot : is_known_foot (numbers d.classes) d.foot ≡ true
+
+pub record Sound (n : ℕ) (p : Phase) (c : ℕ) (d : Draft) : Type 0 where
+  pub params : are_params d.params ≡ true
+  pub items : list_all (λ (i : Item). is_item i.line i.kind) d.items ≡ true
+  pub leaves : list_all (λ (l : Leaf). is_leaf l.kind) (open_leaves d.foot) ≡ true
+  pub classed : Classed p d
+  pub weight : weight d.items + open_weight d.foot ≤ c
+  pub count : c ≤ 100000
+  pub phase : foot_fits p d.foot ≡ true
+  pub lines : Rises (lines_so_far d) (last_line p n d.end_line)
+
+abbrev pub drafted : Params → ℕ → List ClassLine → List Item → Option OpenFoot → ℕ → Draft
+drafted ps v cs is ft e = record { params = ps; version = v; classes = cs; items = is; foot = ft; end_line = e }
+
+-- ---- a line without content
+
+later_line : (p : Phase) (n e : ℕ) → last_line p n e ≤ last_line p (n + 1) e
+later_line at_start n e = omega arith
+later_line among_sets n e = omega arith
+later_line among_items n e = omega arith
+later_line in_foot n e = omega arith
+later_line ended n e = omega arith
+
+pub past_line : (n : ℕ) (p : Phase) (c : ℕ) (d : Draft) → Sound n p c d → Sound (n + 1) p c d
+past_line n p c d s = record {
+  params = s.params;
+  items = s.items;
+  leaves = s.leaves;
+  classed = s.classed;
+  weight = s.weight;
+  count = s.count;
+  phase = s.phase;
+  lines = rises_later_from 0 (lines_so_far d) (last_line p n d.end_line) (last_line p (n + 1) d.end_line) s.lines (later_line p n d.end_line);
+}
+
+-- ---- the header and the sets
+
+pub fits_two : (v : ℕ) (cs : List ClassLine) (ps : Params) → (v == 2) ≡ true → fits_version v cs ps ≡ true
+fits_two v [] ps h = or_right ((v == 1) && not (has_second ps)) (v == 2) h
+  where
+    or_right : (a b : Bool) → b ≡ true → (a || b) ≡ true
+    or_right true b h = refl
+    or_right false b h = h
+fits_two v (c ∷ cs) ps h = h
+
+-- a draft that fits version 1 fits each version
+fits_each : (v : ℕ) (cs : List ClassLine) (ps : Params) → ((v == 1) || (v == 2)) ≡ true → fits_version 1 cs ps ≡ true → fits_version v cs ps ≡ true
+fits_each v [] ps some h = either (v == 1) (v == 2) (not (has_second ps)) some h
+  where
+    either : (a b x : Bool) → (a || b) ≡ true → (x || false) ≡ true → ((a && x) || b) ≡ true
+    either true b true some h = refl
+    either true b false some h = cc
+    either false b x some h = some
+fits_each v (c ∷ cs) ps some h = cc
+
+header_fits : (u v : ℕ) (cs : List ClassLine) (ps : Params) → (u == 1) ≡ true → ((v == 1) || (v == 2)) ≡ true → fits_version u cs ps ≡ true → fits_version v cs ps ≡ true
+header_fits u v cs ps one some h = fits_each v cs ps some (subst (λ n. fits_version n cs ps ≡ true) (eqb-true u 1 one) h)
+
+pub header_line : (n : ℕ) (p : Phase) (c : ℕ) (d : Draft) (v : ℕ) → ((v == 1) || (v == 2)) ≡ true → first_of (place_causes p (Some header)) ≡ None → Sound n p c d
+    → Sound (n + 1) (next_phase p (Some header)) c (record d { version = v })
+header_line n at_start c d v some place s =
+    let next : Sound (n + 1) at_start c d = past_line n at_start c d s in
+    record {
+      params = next.params;
+      items = next.items;
+      leaves = next.leaves;
+      classed = record {
+        version = header_fits d.version v d.classes d.params s.classed.fresh some s.classed.version;
+        fresh = refl;
+        classes = s.classed.classes;
+        feet = s.classed.feet;
+        foot = s.classed.foot;
+      };
+      weight = next.weight;
+      count = next.count;
+      phase = next.phase;
+      lines = next.lines;
+    }
+header_line n among_sets c d v some place s = cc
+header_line n among_items c d v some place s = cc
+header_line n in_foot c d v some place s = cc
+header_line n ended c d v some place s = cc
+
+-- the release stays where another parameter is set
+keeps_release : (field : Field) (value : Value) (ps : Params) → is_known_in 1 field ≡ true → has_second (with_value field value ps) ≡ has_second ps
+keeps_release fields.Textheight value ps known = refl
+keeps_release fields.Topskip value ps known = refl
+keeps_release fields.Maxdepth value ps known = refl
+keeps_release fields.Baselineskip value ps known = refl
+keeps_release fields.Bottom value ps known = refl
+keeps_release fields.Topnumber value ps known = refl
+keeps_release fields.Bottomnumber value ps known = refl
+keeps_release fields.Totalnumber value ps known = refl
+keeps_release fields.Dbltopnumber value ps known = refl
+keeps_release fields.Topfraction value ps known = refl
+keeps_release fields.Bottomfraction value ps known = refl
+keeps_release fields.Textfraction value ps known = refl
+keeps_release fields.Floatpagefraction value ps known = refl
+keeps_release fields.Dbltopfraction value ps known = refl
+keeps_release fields.Dblfloatpagefraction value ps known = refl
+keeps_release fields.Floatsep value ps known = refl
+keeps_release fields.Textfloatsep value ps known = refl
+keeps_release fields.Intextsep value ps known = refl
+keeps_release fields.Dblfloatsep value ps known = refl
+keeps_release fields.Dbltextfloatsep value ps known = refl
+keeps_release fields.Fptop value ps known = refl
+keeps_release fields.Fpsep value ps known = refl
+keeps_release fields.Fpbot value ps known = refl
+keeps_release fields.Dblfptop value ps known = refl
+keeps_release fields.Dblfpsep value ps known = refl
+keeps_release fields.Dblfpbot value ps known = refl
+keeps_release fields.Skipfootins value ps known = refl
+keeps_release fields.Footlimit value ps known = refl
+keeps_release fields.Footsplittop value ps known = refl
+keeps_release fields.Footsplitdepth value ps known = refl
+keeps_release fields.Footfloating value ps known = refl
+keeps_release fields.Splittopskip value ps known = refl
+keeps_release fields.Splitmaxdepth value ps known = refl
+keeps_release fields.Floatingpenalty value ps known = refl
+keeps_release fields.Interlinepenalty value ps known = refl
+keeps_release fields.Parskip value ps known = refl
+keeps_release fields.Marginparpush value ps known = refl
+keeps_release fields.Mparswitch value ps known = refl
+keeps_release fields.Reversemargin value ps known = refl
+keeps_release fields.Pool value ps known = refl
+keeps_release fields.Maxdeadcycles value ps known = refl
+keeps_release fields.Maxpages value ps known = refl
+keeps_release fields.Maxnodes value ps known = refl
+keeps_release fields.Release value ps known = cc
+
+-- a parameter that the version knows
+set_fits : (v : ℕ) (cs : List ClassLine) (field : Field) (value : Value) (ps : Params) → is_known_in v field ≡ true → fits_version v cs ps ≡ true → fits_version v cs (with_value field value ps) ≡ true
+set_fits v [] field value ps known h = by_version (v == 1) (v == 2) (λ e. eqb-true v 1 e) h
+  where
+    with_second : (x y : Bool) → y ≡ x → (not x || false) ≡ true → (not y || false) ≡ true
+    with_second x y e h = subst (λ z. (not z || false) ≡ true) (sym e) h
+
+    by_version : (one two : Bool) → (one ≡ true → v ≡ 1) → ((one && not (has_second ps)) || two) ≡ true → ((one && not (has_second (with_value field value ps))) || two) ≡ true
+    by_version true true is h = or_true (not (has_second (with_value field value ps)))
+      where
+        or_true : (a : Bool) → (a || true) ≡ true
+        or_true true = refl
+        or_true false = refl
+    by_version true false is h = with_second (has_second ps) (has_second (with_value field value ps)) (keeps_release field value ps (subst (λ n. is_known_in n field ≡ true) (is refl) known)) h
+    by_version false two is h = h
+set_fits v (c ∷ cs) field value ps known h = h
+
+pub set_line : (n : ℕ) (p : Phase) (c : ℕ) (d : Draft) (field : Field) (value : Value) → first_of (place_causes p (Some setting)) ≡ None → SetsInRange field value → is_known_in d.version field ≡ true → Sound n p c d
+    → Sound (n + 1) (next_phase p (Some setting)) c (record d { params = with_value field value d.params })
+set_line n at_start c d field value place good known s = cc
+set_line n among_sets c d field value place good known s =
+    let next : Sound (n + 1) among_sets c d = past_line n among_sets c d s in
+    record {
+      params = good d.params s.params;
+      items = next.items;
+      leaves = next.leaves;
+      classed = record {
+        version = set_fits d.version d.classes field value d.params known s.classed.version;
+        fresh = refl;
+        classes = s.classed.classes;
+        feet = s.classed.feet;
+        foot = s.classed.foot;
+      };
+      weight = next.weight;
+      count = next.count;
+      phase = next.phase;
+      lines = next.lines;
+    }
+set_line n among_items c d field value place good known s = cc
+set_line n in_foot c d field value place good known s = cc
+set_line n ended c d field value place good known s = cc
+
+-- ---- items
+
+pub items_left : (c : ℕ) (t : Bool) → t ≡ nat_le 100000 c → first_of (cause_if t causes.Items) ≡ None → c + 1 ≤ 100000
+items_left c true e h = cc
+items_left c false e h = grind (arith, nat_tests)
+
+more_lines : (xs named : List ℕ) (m n : ℕ) → (named ≡ []) ⊎ (named ≡ m ∷ []) → m < n → Rises xs m → Rises (xs ++ named) n
+more_lines xs named m n (inl e) k h =
+    subst (λ ns. Rises (xs ++ ns) n) (sym e) (subst (λ ns. Rises ns n) (sym (nothing_more xs)) (rises_later_from 0 xs m n h (omega arith)))
+more_lines xs named m n (inr e) k h = subst (λ ns. Rises (xs ++ ns) n) (sym e) (rises_more_from 0 xs m n h k)
+
+-- an item of one line, with no foot open
+pub item_line : (n c : ℕ) (ps : Params) (v : ℕ) (cs : List ClassLine) (is : List Item) (e : ℕ) (k : ItemKind) → c + 1 ≤ 100000 → is_item (n + 1) k ≡ true → weight_of k ≡ 1 → has_known_class (numbers cs) k ≡ true
+    → (lines_of_item (n + 1) k ≡ []) ⊎ (lines_of_item (n + 1) k ≡ (n + 1) ∷ [])
+    → (p : Phase) → last_line p n e ≡ n + 1 → Sound n p c (drafted ps v cs is None e) → Sound (n + 1) among_items (c + 1) (with_item (drafted ps v cs is None e) (n + 1) k)
+item_line n c ps v cs is e k fits good one known named p next s =
+    let i : Item = record { line = n + 1; kind = k } in
+    let heavier : weight (is ++ i ∷ []) ≡ weight is + weight_of k = weight-append is i in
+    let before : Rises (named_lines is) (n + 1) = subst (λ a. Rises (named_lines is) a) next (subst (λ ns. Rises ns (last_line p n e)) (nothing_more (named_lines is)) s.lines) in
+    let light : weight is + 0 ≤ c = s.weight in
+    record {
+      params = s.params;
+      items = all_more (λ (j : Item). is_item j.line j.kind) is i s.items good;
+      leaves = refl;
+      classed = record { version = s.classed.version; fresh = refl; classes = s.classed.classes; feet = all_more (λ (j : Item). has_known_class (numbers cs) j.kind) is i s.classed.feet known; foot = refl };
+      weight = omega arith;
+      count = fits;
+      phase = refl;
+      lines =
+          subst (λ ns. Rises ns (n + 1 + 1)) (sym (nothing_more (named_lines (is ++ i ∷ [])) ∙ named-append is i))
+          (more_lines (named_lines is) (lines_of_item (n + 1) k) (n + 1) (n + 1 + 1) named (omega arith) before);
+    }
+
+-- a line of an open foot
+pub leaf_line : (n c : ℕ) (ps : Params) (v : ℕ) (cs : List ClassLine) (is : List Item) (o : OpenFoot) (e : ℕ) (k : LeafKind) → c + 1 ≤ 100000 → is_leaf k ≡ true → Sound n in_foot c (drafted ps v cs is (Some o) e)
+    → Sound (n + 1) in_foot (c + 1) (with_plain (drafted ps v cs is (Some o) e) (n + 1) k (Some o))
+leaf_line n c ps v cs is o e k fits good s =
+    let l : Leaf = record { line = n + 1; kind = k } in
+    let longer : length (o.leaves ++ l ∷ []) ≡ length o.leaves + 1 = length-append o.leaves (l ∷ []) in
+    let light : weight is + (length o.leaves + 1) ≤ c = s.weight in
+    record {
+      params = s.params;
+      items = s.items;
+      leaves = all_more (λ (m : Leaf). is_leaf m.kind) o.leaves l s.leaves good;
+      classed = record { version = s.classed.version; fresh = refl; classes = s.classed.classes; feet = s.classed.feet; foot = s.classed.foot };
+      weight = omega arith;
+      count = fits;
+      phase = refl;
+      lines =
+          subst (λ ns. Rises ns (n + 1 + 1)) (append_assoc (named_lines is) (leaf_lines o.leaves) ((n + 1) ∷ []) ∙ ap (λ ns. named_lines is ++ ns) (sym (leaf_lines-append o.leaves l)))
+          (rises_more_from 0 (named_lines is ++ leaf_lines o.leaves) (n + 1) (n + 1 + 1) s.lines (omega arith));
+    }
+
+pub foot_line : (n c : ℕ) (ps : Params) (v : ℕ) (cs : List ClassLine) (is : List Item) (e : ℕ) → (class : ℕ) → c + 1 ≤ 100000 → is_class_among (numbers cs) class ≡ true → (p : Phase) → last_line p n e ≡ n + 1 → Sound n p c (drafted ps v cs is None e)
+    → Sound (n + 1) in_foot (c + 1) (with_content (drafted ps v cs is None e) (n + 1) (contents.Foot class))
+foot_line n c ps v cs is e class fits known p next s =
+    let light : weight is + 0 ≤ c = s.weight in
+    record {
+      params = s.params;
+      items = s.items;
+      leaves = refl;
+      classed = record { version = s.classed.version; fresh = refl; classes = s.classed.classes; feet = s.classed.feet; foot = known };
+      weight = omega arith;
+      count = fits;
+      phase = refl;
+      lines = rises_later_from 0 (named_lines is ++ []) (last_line p n e) (n + 1 + 1) s.lines (omega arith);
+    }
+
+pub endfoot_line : (n c : ℕ) (ps : Params) (v : ℕ) (cs : List ClassLine) (is : List Item) (o : OpenFoot) (e : ℕ) → c + 1 ≤ 100000 → Sound n in_foot c (drafted ps v cs is (Some o) e)
+    → Sound (n + 1) among_items (c + 1) (with_foot (drafted ps v cs is (Some o) e) (Some o))
+endfoot_line n c ps v cs is o e fits s =
+    let i : Item = record { line = o.line; kind = items.Foot o.class o.leaves } in
+    let heavier : weight (is ++ i ∷ []) ≡ weight is + (length o.leaves + 2) = weight-append is i in
+    let light : weight is + (length o.leaves + 1) ≤ c = s.weight in
+    record {
+      params = s.params;
+      items = all_more (λ (j : Item). is_item j.line j.kind) is i s.items s.leaves;
+      leaves = refl;
+      classed = record { version = s.classed.version; fresh = refl; classes = s.classed.classes; feet = all_more (λ (j : Item). has_known_class (numbers cs) j.kind) is i s.classed.feet s.classed.foot; foot = refl };
+      weight = omega arith;
+      count = fits;
+      phase = refl;
+      lines =
+          subst (λ ns. Rises ns (n + 1 + 1)) (sym (nothing_more (named_lines (is ++ i ∷ [])) ∙ named-append is i))
+          (rises_later_from 0 (named_lines is ++ leaf_lines o.leaves) (n + 1) (n + 1 + 1) s.lines (omega arith));
+    }
+
+pub end_line : (n c : ℕ) (ps : Params) (v : ℕ) (cs : List ClassLine) (is : List Item) (e : ℕ) (p : Phase) → last_line p n e ≡ n + 1 → Sound n p c (drafted ps v cs is None e)
+    → Sound (n + 1) ended c (drafted ps v cs is None (n + 1))
+end_line n c ps v cs is e p next s = record {
+  params = s.params;
+  items = s.items;
+  leaves = s.leaves;
+  classed = record { version = s.classed.version; fresh = refl; classes = s.classed.classes; feet = s.classed.feet; foot = s.classed.foot };
+  weight = s.weight;
+  count = s.count;
+  phase = refl;
+  lines = subst (λ a. Rises (named_lines is ++ []) a) next s.lines;
+}

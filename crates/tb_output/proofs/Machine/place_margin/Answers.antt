@@ -1,0 +1,113 @@
+use Rattle.std.proofs.Common.{◌≡◌, refl, sym, subst, [], FitsSigned, w64, to_z, of_z, rules}
+use Rattle.std.proofs.lemmas.Int.{to_z-of_z}
+use Rattle.tb_scaled.specs.Amount.{IsAmount}
+use Rattle.tb_output.specs.contracts.Machine.{the_view}
+use Rattle.tb_output.specs.Machine.{MachineView}
+use Rattle.tb_output.specs.PutBack.{note_list}
+use Rattle.tb_output.specs.Keeping.{HasGrown}
+use Rattle.tb_output.specs.Turns.{note_placed}
+use Rattle.tb_output.proofs.ResultLemmas.{memory-err, ok-map, err-map}
+use Rattle.tb_output.proofs.SizeLemmas.{amount-cast, amount-passed, extent-amount}
+use Rattle.tb_output.proofs.StepLemmas.{no-room, keeps-on}
+use Rattle.tb_output.proofs.TextSteps.{continues-note_placed}
+use Rattle.tb_output.proofs.MarginSteps.{reach-amount, note-place, warning-memory, told-keeps, note-memory, stands-keeps, note-whole, note-cut}
+use Rattle.tb_output.proofs.Machine.place_margin.Goals as goal
+
+pub place_note-at-requires-clause-bottom : goal.place_note-at-requires-clause-bottom
+place_note-at-requires-clause-bottom c =
+    subst (λ (m : MachineView). IsAmount (to_z w64 (of_z w64 m.note_bottom))) (sym c.self.view_is) (amount-passed c.args.self.now.note_bottom (reach-amount c.args.self.now.note_bottom c.requires.note_bottom))
+
+pub returns-in_err-retire_note-clause-err : goal.returns-in_err-retire_note-clause-err
+returns-in_err-retire_note-clause-err c =
+    memory-err c.from_residual.result _ c.from_residual.ensures.1
+    (no-room c.args.back c.args.self.now c.retire_note.new.self c.args.store.now c.args.store.now (note_placed c.args.self.now.params c.args.size.now c.args.m.now) c.requires.machine c.requires.back c.in_err-retire_note.ensures.err refl (continues-note_placed c.args.self.now.params c.args.size.now c.args.m.now)).does
+
+pub returns-in_err-retire_note-clause-keeps : goal.returns-in_err-retire_note-clause-keeps
+returns-in_err-retire_note-clause-keeps c =
+    (no-room c.args.back c.args.self.now c.retire_note.new.self c.args.store.now c.args.store.now (note_placed c.args.self.now.params c.args.size.now c.args.m.now) c.requires.machine c.requires.back c.in_err-retire_note.ensures.err refl (continues-note_placed c.args.self.now.params c.args.size.now c.args.m.now)).keeps
+
+pub returns-in_err-warn_moved-clause-err : goal.returns-in_err-warn_moved-clause-err
+returns-in_err-warn_moved-clause-err c =
+    let place = note-place c.args.self.now (the_view c.self.inside) c.args.size.now c.args.m.now c.place_note-at.result c.self.view_is c.requires.height c.requires.note_bottom c.place_note-at.ensures in
+    let fits : FitsSigned w64 c.place_note-at.result.bottom = search rules in
+    let set : c.set_note_bottom.new.self ≡ record c.retire_note.new.self { note_bottom = c.place_note-at.result.bottom } = simp to_z-of_z at c.set_note_bottom.ensures in
+    memory-err c.from_residual-in_err-warn_moved.result _ c.from_residual-in_err-warn_moved.ensures.1
+    (warning-memory c.args.back c.args.self.now c.args.store.now c.requires.machine c.requires.back c.args.size.now c.args.m.now c.place_note-at.result place c.retire_note.new.self c.in_ok-retire_note.ensures.ok c.set_note_bottom.new.self set c.warn_moved.new.self c.in_err-warn_moved.ensures.err).does
+
+pub returns-in_err-warn_moved-clause-keeps : goal.returns-in_err-warn_moved-clause-keeps
+returns-in_err-warn_moved-clause-keeps c =
+    let place = note-place c.args.self.now (the_view c.self.inside) c.args.size.now c.args.m.now c.place_note-at.result c.self.view_is c.requires.height c.requires.note_bottom c.place_note-at.ensures in
+    let fits : FitsSigned w64 c.place_note-at.result.bottom = search rules in
+    let set : c.set_note_bottom.new.self ≡ record c.retire_note.new.self { note_bottom = c.place_note-at.result.bottom } = simp to_z-of_z at c.set_note_bottom.ensures in
+    (warning-memory c.args.back c.args.self.now c.args.store.now c.requires.machine c.requires.back c.args.size.now c.args.m.now c.place_note-at.result place c.retire_note.new.self c.in_ok-retire_note.ensures.ok c.set_note_bottom.new.self set c.warn_moved.new.self c.in_err-warn_moved.ensures.err).keeps
+
+pub push_note-requires-clause-back : goal.push_note-requires-clause-back
+push_note-requires-clause-back c =
+    let place = note-place c.args.self.now (the_view c.self.inside) c.args.size.now c.args.m.now c.place_note-at.result c.self.view_is c.requires.height c.requires.note_bottom c.place_note-at.ensures in
+    let fits : FitsSigned w64 c.place_note-at.result.bottom = search rules in
+    let set : c.set_note_bottom.new.self ≡ record c.retire_note.new.self { note_bottom = c.place_note-at.result.bottom } = simp to_z-of_z at c.set_note_bottom.ensures in
+    (told-keeps c.args.back c.args.self.now c.args.store.now c.requires.machine c.requires.back c.args.size.now c.args.m.now c.place_note-at.result place c.retire_note.new.self c.in_ok-retire_note.ensures.ok c.set_note_bottom.new.self set c.warn_moved.new.self c.in_ok-warn_moved.ensures.ok).back.live
+
+pub returns-in_err-push_note-clause-err : goal.returns-in_err-push_note-clause-err
+returns-in_err-push_note-clause-err c =
+    let place = note-place c.args.self.now (the_view c.self.inside) c.args.size.now c.args.m.now c.place_note-at.result c.self.view_is c.requires.height c.requires.note_bottom c.place_note-at.ensures in
+    let fits : FitsSigned w64 c.place_note-at.result.bottom = search rules in
+    let set : c.set_note_bottom.new.self ≡ record c.retire_note.new.self { note_bottom = c.place_note-at.result.bottom } = simp to_z-of_z at c.set_note_bottom.ensures in
+    memory-err c.from_residual-in_err-push_note.result _ c.from_residual-in_err-push_note.ensures.1
+    (note-memory c.args.back c.args.self.now c.args.store.now c.requires.machine c.requires.back c.args.size.now c.args.m.now c.place_note-at.result place c.retire_note.new.self c.in_ok-retire_note.ensures.ok c.set_note_bottom.new.self set c.warn_moved.new.self c.in_ok-warn_moved.ensures.ok c.push_note.new.store c.in_err-push_note.ensures.err).does
+
+pub returns-in_err-push_note-clause-keeps : goal.returns-in_err-push_note-clause-keeps
+returns-in_err-push_note-clause-keeps c =
+    let place = note-place c.args.self.now (the_view c.self.inside) c.args.size.now c.args.m.now c.place_note-at.result c.self.view_is c.requires.height c.requires.note_bottom c.place_note-at.ensures in
+    let fits : FitsSigned w64 c.place_note-at.result.bottom = search rules in
+    let set : c.set_note_bottom.new.self ≡ record c.retire_note.new.self { note_bottom = c.place_note-at.result.bottom } = simp to_z-of_z at c.set_note_bottom.ensures in
+    (note-memory c.args.back c.args.self.now c.args.store.now c.requires.machine c.requires.back c.args.size.now c.args.m.now c.place_note-at.result place c.retire_note.new.self c.in_ok-retire_note.ensures.ok c.set_note_bottom.new.self set c.warn_moved.new.self c.in_ok-warn_moved.ensures.ok c.push_note.new.store c.in_err-push_note.ensures.err).keeps
+
+pub put_interline-requires-clause-machine : goal.put_interline-requires-clause-machine
+put_interline-requires-clause-machine c =
+    let place = note-place c.args.self.now (the_view c.self.inside) c.args.size.now c.args.m.now c.place_note-at.result c.self.view_is c.requires.height c.requires.note_bottom c.place_note-at.ensures in
+    let fits : FitsSigned w64 c.place_note-at.result.bottom = search rules in
+    let set : c.set_note_bottom.new.self ≡ record c.retire_note.new.self { note_bottom = c.place_note-at.result.bottom } = simp to_z-of_z at c.set_note_bottom.ensures in
+    let grown : HasGrown c.args.back (note_list c.args.size.now.depth c.args.m.now c.place_note-at.result) [] c.args.store.now c.push_note.new.store =
+    subst (λ d. HasGrown c.args.back (note_list d c.args.m.now c.place_note-at.result) [] c.args.store.now c.push_note.new.store) (amount-cast c.args.size.now.depth (extent-amount c.args.size.now.depth c.requires.depth)) c.in_ok-push_note.ensures.ok in
+    (stands-keeps c.args.back c.args.self.now c.args.store.now c.requires.machine c.requires.back c.args.size.now c.args.m.now c.place_note-at.result place c.retire_note.new.self c.in_ok-retire_note.ensures.ok c.set_note_bottom.new.self set c.warn_moved.new.self c.in_ok-warn_moved.ensures.ok c.push_note.new.store c.requires.depth grown).machine
+
+pub put_interline-requires-clause-back : goal.put_interline-requires-clause-back
+put_interline-requires-clause-back c =
+    let place = note-place c.args.self.now (the_view c.self.inside) c.args.size.now c.args.m.now c.place_note-at.result c.self.view_is c.requires.height c.requires.note_bottom c.place_note-at.ensures in
+    let fits : FitsSigned w64 c.place_note-at.result.bottom = search rules in
+    let set : c.set_note_bottom.new.self ≡ record c.retire_note.new.self { note_bottom = c.place_note-at.result.bottom } = simp to_z-of_z at c.set_note_bottom.ensures in
+    let grown : HasGrown c.args.back (note_list c.args.size.now.depth c.args.m.now c.place_note-at.result) [] c.args.store.now c.push_note.new.store =
+    subst (λ d. HasGrown c.args.back (note_list d c.args.m.now c.place_note-at.result) [] c.args.store.now c.push_note.new.store) (amount-cast c.args.size.now.depth (extent-amount c.args.size.now.depth c.requires.depth)) c.in_ok-push_note.ensures.ok in
+    (stands-keeps c.args.back c.args.self.now c.args.store.now c.requires.machine c.requires.back c.args.size.now c.args.m.now c.place_note-at.result place c.retire_note.new.self c.in_ok-retire_note.ensures.ok c.set_note_bottom.new.self set c.warn_moved.new.self c.in_ok-warn_moved.ensures.ok c.push_note.new.store c.requires.depth grown).back
+
+pub returns-clause-ok : goal.returns-clause-ok
+returns-clause-ok c =
+    let place = note-place c.args.self.now (the_view c.self.inside) c.args.size.now c.args.m.now c.place_note-at.result c.self.view_is c.requires.height c.requires.note_bottom c.place_note-at.ensures in
+    let fits : FitsSigned w64 c.place_note-at.result.bottom = search rules in
+    let set : c.set_note_bottom.new.self ≡ record c.retire_note.new.self { note_bottom = c.place_note-at.result.bottom } = simp to_z-of_z at c.set_note_bottom.ensures in
+    let grown : HasGrown c.args.back (note_list c.args.size.now.depth c.args.m.now c.place_note-at.result) [] c.args.store.now c.push_note.new.store =
+    subst (λ d. HasGrown c.args.back (note_list d c.args.m.now c.place_note-at.result) [] c.args.store.now c.push_note.new.store) (amount-cast c.args.size.now.depth (extent-amount c.args.size.now.depth c.requires.depth)) c.in_ok-push_note.ensures.ok in
+    ok-map c.put_interline.result _ _
+    (note-whole c.args.back c.args.self.now c.args.store.now c.requires.machine c.requires.back c.args.size.now c.args.m.now c.place_note-at.result place c.retire_note.new.self c.in_ok-retire_note.ensures.ok c.set_note_bottom.new.self set c.warn_moved.new.self c.in_ok-warn_moved.ensures.ok c.push_note.new.store c.requires.depth grown c.put_interline.new.store)
+    c.put_interline.ensures.ok
+
+pub returns-clause-err : goal.returns-clause-err
+returns-clause-err c =
+    let place = note-place c.args.self.now (the_view c.self.inside) c.args.size.now c.args.m.now c.place_note-at.result c.self.view_is c.requires.height c.requires.note_bottom c.place_note-at.ensures in
+    let fits : FitsSigned w64 c.place_note-at.result.bottom = search rules in
+    let set : c.set_note_bottom.new.self ≡ record c.retire_note.new.self { note_bottom = c.place_note-at.result.bottom } = simp to_z-of_z at c.set_note_bottom.ensures in
+    let grown : HasGrown c.args.back (note_list c.args.size.now.depth c.args.m.now c.place_note-at.result) [] c.args.store.now c.push_note.new.store =
+    subst (λ d. HasGrown c.args.back (note_list d c.args.m.now c.place_note-at.result) [] c.args.store.now c.push_note.new.store) (amount-cast c.args.size.now.depth (extent-amount c.args.size.now.depth c.requires.depth)) c.in_ok-push_note.ensures.ok in
+    err-map c.put_interline.result _ _
+    (λ e. note-cut c.args.back c.args.self.now c.args.store.now c.requires.machine c.requires.back c.args.size.now c.args.m.now c.place_note-at.result place c.retire_note.new.self c.in_ok-retire_note.ensures.ok c.set_note_bottom.new.self set c.warn_moved.new.self c.in_ok-warn_moved.ensures.ok c.push_note.new.store c.requires.depth grown e c.put_interline.new.store)
+    c.put_interline.ensures.err
+
+pub returns-clause-keeps : goal.returns-clause-keeps
+returns-clause-keeps c =
+    let place = note-place c.args.self.now (the_view c.self.inside) c.args.size.now c.args.m.now c.place_note-at.result c.self.view_is c.requires.height c.requires.note_bottom c.place_note-at.ensures in
+    let fits : FitsSigned w64 c.place_note-at.result.bottom = search rules in
+    let set : c.set_note_bottom.new.self ≡ record c.retire_note.new.self { note_bottom = c.place_note-at.result.bottom } = simp to_z-of_z at c.set_note_bottom.ensures in
+    let grown : HasGrown c.args.back (note_list c.args.size.now.depth c.args.m.now c.place_note-at.result) [] c.args.store.now c.push_note.new.store =
+    subst (λ d. HasGrown c.args.back (note_list d c.args.m.now c.place_note-at.result) [] c.args.store.now c.push_note.new.store) (amount-cast c.args.size.now.depth (extent-amount c.args.size.now.depth c.requires.depth)) c.in_ok-push_note.ensures.ok in
+    keeps-on c.args.back c.args.self.now c.warn_moved.new.self c.warn_moved.new.self c.args.store.now c.push_note.new.store c.put_interline.new.store (stands-keeps c.args.back c.args.self.now c.args.store.now c.requires.machine c.requires.back c.args.size.now c.args.m.now c.place_note-at.result place c.retire_note.new.self c.in_ok-retire_note.ensures.ok c.set_note_bottom.new.self set c.warn_moved.new.self c.in_ok-warn_moved.ensures.ok c.push_note.new.store c.requires.depth grown) c.put_interline.ensures.keeps

@@ -1,0 +1,107 @@
+use Rattle.std.proofs.Common.{refl, sym, subst, ◌∙◌, ap, [], FitsSigned, w64, rules, arith}
+use Rattle.std.specs.Prelude.{ℤ}
+use Rattle.std.proofs.lemmas.Int.{to_z-of_z, ints}
+use Rattle.tb_scaled.specs.Amount.{IsAmount}
+use Rattle.tb_node.specs.Fit.{IsExtent}
+use Rattle.tb_float.specs.Lists.{wide_part, wide_waiting}
+use Rattle.tb_float.specs.Pool.{marked_floats}
+use Rattle.tb_output.specs.Ship.{wide_wanted}
+use Rattle.tb_output.specs.Machine.{MachineView, AreOutputParams}
+use Rattle.tb_output.specs.Keeping.{KeepsMachine}
+use Rattle.tb_output.specs.Turns.{wide_done}
+use Rattle.tb_output.proofs.CompanyHeads.{some-chosen}
+use Rattle.tb_output.proofs.CompanyLemmas.{continues-wide_done}
+use Rattle.tb_output.proofs.FloatPages.{source-is, wide-taken, page-shipped, page-not, page-keeps, page-kept, wide-keeps, wide-cut, page-machine}
+use Rattle.tb_output.proofs.KeepLemmas.{keeps-same}
+use Rattle.tb_output.proofs.ResultLemmas.{memory-err, same-err}
+use Rattle.tb_output.proofs.Machine.ship_wide.Goals as goal
+
+-- no floats make a page
+pub returns-then-not-choose_wide-clause-ok : goal.returns-then-not-choose_wide-clause-ok
+returns-then-not-choose_wide-clause-ok c =
+    let none = c.choose_wide.ensures.none c.if-not-choose_wide.true in
+    record { none = none.none; machine = none.machine; lists = refl }
+
+pub returns-then-not-choose_wide-clause-keeps : goal.returns-then-not-choose_wide-clause-keeps
+returns-then-not-choose_wide-clause-keeps c =
+    let none = c.choose_wide.ensures.none c.if-not-choose_wide.true in
+    subst (λ n. KeepsMachine [] c.args.self.now n c.args.store.now c.args.store.now) (sym none.machine) (keeps-same [] c.args.self.now c.args.store.now c.args.store.now c.requires refl)
+
+-- a height is an amount
+extent-amount : (z : ℤ) → IsExtent z → IsAmount z
+extent-amount z h = let low = h.low in let high = h.high in record { low = omega (arith, ints); high = omega (arith, ints) }
+
+pub take_floats-requires-clause-height : goal.take_floats-requires-clause-height
+take_floats-requires-clause-height c =
+    let i = c.self.inside in
+    let params : AreOutputParams i.params = subst AreOutputParams (ap (λ (v : MachineView). v.params) (sym (c.self.view_is ∙ c.choose_wide.ensures.rest))) c.requires.params in
+    let high : FitsSigned w64 i.params.textheight = search rules in
+    rw to_z-of_z (extent-amount i.params.textheight params.columns.floats.textheight)
+
+-- a company has a float
+pub take_floats-requires-clause-marked : goal.take_floats-requires-clause-marked
+take_floats-requires-clause-marked c =
+    let m = c.args.self.now in
+    let chosen = c.choose_wide.ensures.chosen c.if-not-choose_wide.false in
+    λ none. some-chosen (wide_wanted m.params c.args.clearing) (wide_waiting m.params m.pool.lists) chosen.choices chosen.found
+    (sym chosen.marked ∙ ap (λ f. marked_floats f c.choose_wide.new.self.pool) (sym (source-is m c.choose_wide.new.self c.wide_part-from.result c.choose_wide.ensures.rest (c.wide_part-from.ensures.value ∙ ap (λ (v : MachineView). wide_part v.params) c.self.view_is))) ∙ none)
+
+-- there was no memory
+pub returns-in_err-column-clause-err : goal.returns-in_err-column-clause-err
+returns-in_err-column-clause-err c =
+    let m = c.args.self.now in
+    memory-err c.from_residual.result _ c.from_residual.ensures.1
+    (wide-cut c.args.clearing m c.choose_wide.new.self c.take_floats.new.self c.args.store.now c.take_floats.new.store c.wide_part-from.result c.requires (c.choose_wide.ensures.chosen c.if-not-choose_wide.false) c.choose_wide.ensures.rest
+    (c.wide_part-from.ensures.value ∙ ap (λ (v : MachineView). wide_part v.params) c.self.view_is) c.in_err-column.ensures.unchosen c.in_err-column.ensures.err (wide_done m.params c.args.clearing) (continues-wide_done m.params c.args.clearing))
+
+pub returns-in_err-column-clause-keeps : goal.returns-in_err-column-clause-keeps
+returns-in_err-column-clause-keeps c =
+    let m = c.args.self.now in
+    wide-keeps c.args.clearing m c.choose_wide.new.self c.take_floats.new.self c.args.store.now c.take_floats.new.store c.wide_part-from.result c.requires (c.choose_wide.ensures.chosen c.if-not-choose_wide.false) c.choose_wide.ensures.rest
+    (c.wide_part-from.ensures.value ∙ ap (λ (v : MachineView). wide_part v.params) c.self.view_is) c.in_err-column.ensures.unchosen c.in_err-column.ensures.err
+
+pub ship-requires : goal.ship-requires
+ship-requires c =
+    let m = c.args.self.now in
+    let mid = c.choose_wide.new.self in
+    let now = c.take_floats.new.self in
+    let s = c.args.store.now in
+    let t = c.take_floats.new.store in
+    let high : FitsSigned w64 c.self.inside.params.textheight = search rules in
+    let h = wide-taken c.args.clearing m mid now s t c.in_ok-column.column c.wide_part-from.result c.self.inside.params.textheight c.requires (c.choose_wide.ensures.chosen c.if-not-choose_wide.false) c.choose_wide.ensures.rest
+    (c.wide_part-from.ensures.value ∙ ap (λ (v : MachineView). wide_part v.params) c.self.view_is) c.in_ok-column.ensures.machine c.in_ok-column.ensures.opened (ap (λ (v : MachineView). v.params.textheight) c.self.view_is) (simp to_z-of_z at c.in_ok-column.ensures.shown) in
+    let is = page-machine c.args.clearing m mid now s t c.in_ok-column.column h in
+    record { first = is.first; last = is.last }
+
+-- the page was not shipped
+pub returns-in_err-ship : goal.returns-in_err-ship
+returns-in_err-ship c =
+    let m = c.args.self.now in
+    let mid = c.choose_wide.new.self in
+    let now = c.take_floats.new.self in
+    let s = c.args.store.now in
+    let t = c.take_floats.new.store in
+    let high : FitsSigned w64 c.self.inside.params.textheight = search rules in
+    let h = wide-taken c.args.clearing m mid now s t c.in_ok-column.column c.wide_part-from.result c.self.inside.params.textheight c.requires (c.choose_wide.ensures.chosen c.if-not-choose_wide.false) c.choose_wide.ensures.rest
+    (c.wide_part-from.ensures.value ∙ ap (λ (v : MachineView). wide_part v.params) c.self.view_is) c.in_ok-column.ensures.machine c.in_ok-column.ensures.opened (ap (λ (v : MachineView). v.params.textheight) c.self.view_is) (simp to_z-of_z at c.in_ok-column.ensures.shown) in
+    record {
+      ok = search rules;
+      err = same-err c.from_residual-in_err-ship.result _ _ c.from_residual-in_err-ship.ensures.1 (page-not c.args.clearing m mid now s t c.in_ok-column.column h c.ship.new.self _ c.in_err-ship.ensures.err);
+      keeps = page-kept c.args.clearing m mid now s t c.in_ok-column.column h c.ship.new.self _ c.in_err-ship.ensures.err;
+    }
+
+pub returns : goal.returns
+returns c =
+    let m = c.args.self.now in
+    let mid = c.choose_wide.new.self in
+    let now = c.take_floats.new.self in
+    let s = c.args.store.now in
+    let t = c.take_floats.new.store in
+    let high : FitsSigned w64 c.self.inside.params.textheight = search rules in
+    let h = wide-taken c.args.clearing m mid now s t c.in_ok-column.column c.wide_part-from.result c.self.inside.params.textheight c.requires (c.choose_wide.ensures.chosen c.if-not-choose_wide.false) c.choose_wide.ensures.rest
+    (c.wide_part-from.ensures.value ∙ ap (λ (v : MachineView). wide_part v.params) c.self.view_is) c.in_ok-column.ensures.machine c.in_ok-column.ensures.opened (ap (λ (v : MachineView). v.params.textheight) c.self.view_is) (simp to_z-of_z at c.in_ok-column.ensures.shown) in
+    record {
+      ok = page-shipped c.args.clearing m mid now s t c.in_ok-column.column h c.ship.new.self c.in_ok-ship.ensures.ok;
+      err = tt;
+      keeps = page-keeps c.args.clearing m mid now s t c.in_ok-column.column h c.ship.new.self c.in_ok-column.ensures.column c.in_ok-ship.ensures.ok;
+    }

@@ -1,0 +1,56 @@
+-- The insertions of a page are taken out of the boxes of their classes.
+use Rattle.std.specs.Prelude.{◌≡◌, ◌≤◌, ℕ, true, List, [], ◌∷◌}
+use Rattle.std.specs.List.{AllByRecursion}
+use Rattle.tb_pool.specs.Lists.{Lists, IsLive, list_at}
+use Rattle.tb_pool.specs.Frame.{IsNoneOf}
+use Rattle.tb_node.specs.declared.Node.{Node}
+use Rattle.tb_insert.specs.declared.Class.{Class}
+use Rattle.tb_builder.specs.declared.Builder.{Builder}
+use Rattle.tb_builder.specs.Fired.{Boxed}
+use Rattle.tb_builder.specs.Contents.{contents_of, box_count}
+use Rattle.tb_builder.specs.Handed.{with_void}
+use Rattle.tb_builder.specs.Owned.{has_class}
+use Rattle.tb_column.specs.declared.NoteBox.{NoteBox}
+use Rattle.tb_column.specs.Notes.{notes_shown, note_lists, note_count, AreDistinct, AreRisingFrom, IsNote}
+use Rattle.tb_column.specs.Page.{AreLeaves}
+use Rattle.tb_output.specs.State.{notes_in}
+use Rattle.tb_output.specs.Columns.{emptied_boxes}
+use Rattle.tb_output.specs.Firing.{builder_lists}
+use Rattle.tb_output.specs.Keeping.{AreNoneOf}
+
+-- the boxes, where those of these classes are void
+abbrev pub with_voids : List Class → List Boxed → List Boxed
+with_voids [] bs = bs
+with_voids (c ∷ cs) bs = with_voids cs (with_void c.number bs)
+
+-- a list that is live, where neither an insertion nor an act stands
+pub record IsLeafList (store : Lists Node) (l : ℕ) : Type 0 where
+  pub live : IsLive store l
+  pub leaves : AreLeaves (list_at store l)
+
+-- lists of their own: of those that were live and not the builder's it is none, and none is the builder's now
+pub record AreOwnLists (ls : List ℕ) (b now : Builder) (store new : Lists Node) : Type 0 where
+  pub apart : AreDistinct ls
+  pub fresh : (q : ℕ) → IsLive store q → IsNoneOf q (builder_lists b store) → IsNoneOf q ls
+  pub free : AreNoneOf ls (builder_lists now new)
+
+-- the boxes of these classes were taken, each that was not void into a list of its own
+pub record BoxesTaken (classes : List Class) (notes : List NoteBox) (b now : Builder) (store new : Lists Node) : Type 0 where
+  pub contents : contents_of now new ≡ record (contents_of b store) { boxes = with_voids classes (contents_of b store).boxes }
+  pub shown : notes_shown new notes ≡ notes_in classes (contents_of b store).boxes
+  pub lists : AllByRecursion (IsLeafList new) (note_lists notes)
+  pub own : AreOwnLists (note_lists notes) b now store new
+
+-- the insertions are of these classes
+abbrev pub AreKnownNotes : List Class → List NoteBox → Type 0
+AreKnownNotes cs ns = AllByRecursion (λ n. has_class cs n.class ≡ true) ns
+
+-- each box that was not void was taken into a list of its own, which may stand on a page, and all boxes are void
+pub record NotesTaken (classes : List Class) (notes : List NoteBox) (b now : Builder) (store new : Lists Node) : Type 0 where
+  pub contents : contents_of now new ≡ record (contents_of b store) { boxes = emptied_boxes (contents_of b store).boxes }
+  pub shown : notes_shown new notes ≡ notes_in classes (contents_of b store).boxes
+  pub rising : AreRisingFrom 0 notes
+  pub each : AllByRecursion (IsNote new) notes
+  pub known : AreKnownNotes classes notes
+  pub few : note_count new notes ≤ box_count (contents_of b store).boxes
+  pub own : AreOwnLists (note_lists notes) b now store new

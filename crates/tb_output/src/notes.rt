@@ -1,0 +1,73 @@
+//! The insertions of a page are taken out of the boxes of their classes.
+
+ghost use Rattle.std.specs.Prelude.{◌≡◌, ◌≤◌, true, [], ◌∷◌, IfOk, option_to_list};
+ghost use Rattle.tb_pool.specs.Frame.{OnlyChanged};
+ghost use Rattle.tb_builder.specs.Contents.{contents_of, box_count};
+ghost use Rattle.tb_builder.specs.Running.{IsSound};
+ghost use Rattle.tb_builder.specs.Handed.{NoPage};
+ghost use Rattle.tb_builder.specs.Owned.{has_class};
+ghost use Rattle.tb_output.specs.Machine.{AreClassesFrom};
+ghost use Rattle.tb_output.specs.Firing.{builder_lists, AreSizedBoxes};
+ghost use Rattle.tb_output.specs.Notes.{BoxesTaken, NotesTaken};
+
+use crate::classes::Classes;
+use std::alloc::{AllocError, Global};
+use tb_builder::Builder;
+use tb_column::NoteBox;
+use tb_insert::Class;
+use tb_node::Node;
+use tb_pool::Lists;
+
+/// The insertions of the page that fired, in lists that are opened for them, by rising class. A class whose box is void
+/// has none there; one whose box was given an empty list has an empty one.
+///
+/// Where memory is lacking, some boxes may be void already.
+pub(crate) fn take_notes(
+    alloc: Global,
+    store: &mut Lists<Node>,
+    b: &mut Builder,
+    classes: &Classes,
+) -> Result<Vec<NoteBox>, AllocError>
+    requires sound { IsSound b.old store.old }
+    requires awaits { NoPage (contents_of b.old store.old) }
+    requires classes { AreClassesFrom 0 classes.now }
+    requires known { (contents_of b.old store.old).classes ≡ classes.now }
+    requires sized { AreSizedBoxes (contents_of b.old store.old).boxes }
+    requires few { box_count (contents_of b.old store.old).boxes ≤ 8388608 }
+    ensures taken { IfOk result (λ notes. NotesTaken classes.now notes.items b.old b.new store.old store.new) }
+    ensures sound { IsSound b.new store.new }
+    ensures frame { OnlyChanged (builder_lists b.old store.old) (builder_lists b.new store.new) store.old store.new }
+{
+    let mut notes = Vec::new(alloc);
+    for class in &classes.items {
+        if let Some(note) = take_class(store, b, class)? {
+            notes.push(note)?;
+        }
+    }
+    Ok(notes)
+}
+
+// Takes the box of one class into a list that is opened for it. None if the box is void.
+fn take_class(
+    store: &mut Lists<Node>,
+    b: &mut Builder,
+    class: &Class,
+) -> Result<Option<NoteBox>, AllocError>
+    requires sound { IsSound b.old store.old }
+    requires awaits { NoPage (contents_of b.old store.old) }
+    requires known { has_class (contents_of b.old store.old).classes class.now.number ≡ true }
+    ensures taken { IfOk result (λ note. BoxesTaken (class.now ∷ []) (option_to_list note) b.old b.new store.old store.new) }
+    ensures sound { IsSound b.new store.new }
+    ensures frame { OnlyChanged (builder_lists b.old store.old) (builder_lists b.new store.new) store.old store.new }
+{
+    if b.is_void(class.number) {
+        return Ok(None);
+    }
+    let list = store.add_list()?;
+    b.take_box(store, class.number, list);
+    Ok(Some(NoteBox {
+        class: class.number,
+        skip: class.skip,
+        list,
+    }))
+}

@@ -1,0 +1,207 @@
+//! Floats and marginal notes that were met in the text.
+
+ghost use Rattle.std.specs.Prelude.{◌≡◌, ◌≢◌, ◌≤◌, ◌+◌, ◌-◌, ◌-ℤ◌, ◌+ℤ◌, ◌∷◌, [], ◌++◌, All, length, take, ◌*◌, IfOk, IfErr, OnOk, OnErr};
+ghost use Rattle.std.specs.List.{AllByRecursion};
+ghost use Rattle.tb_scaled.specs.Amount.{IsAmount};
+ghost use Rattle.tb_pool.specs.Lists.{IsLive, list_at};
+ghost use Rattle.tb_pool.specs.Frame.{IsNoneOf};
+ghost use Rattle.tb_node.specs.Fit.{IsExtent, IsSizedNode, shapes};
+ghost use Rattle.tb_node.specs.Sums.{size_of, last_depth};
+ghost use Rattle.tb_float.specs.Ranges.{IsWithin};
+ghost use Rattle.tb_column.specs.Shown.{nodes_shown};
+ghost use Rattle.tb_column.specs.Notes.{IsNote, AreRisingFrom, notes_shown, note_lists, note_count};
+ghost use Rattle.tb_column.specs.Page.{IsPageList};
+ghost use Rattle.tb_column.specs.FloatList.{made_node};
+ghost use Rattle.tb_output.specs.Text.{notes_height, list_back, float_or_note, without_firing_box};
+ghost use Rattle.tb_output.specs.Machine.{machine_lists, IsMachine};
+ghost use Rattle.tb_output.specs.Working.{shows_back, shows_page, IsCutShort, Does};
+ghost use Rattle.tb_output.specs.Keeping.{AreTextLists, HasGrown, IsBack, back_lists, KeepsBack};
+ghost use Rattle.tb_output.specs.PutBack.{insertion_of, insertions_again};
+ghost use Rattle.tb_output.specs.Firing.{IsReach};
+ghost use Rattle.tb_output.specs.Notes.{AreKnownNotes};
+ghost use Rattle.tb_output.specs.Turns.{IsTextSize, HasTextBack};
+
+use crate::lists::{push_made, shorten};
+use crate::{Machine, RunFault};
+use std::alloc::AllocError;
+use tb_column::NoteBox;
+use tb_node::{Insertion, Kind, Node, What, Where, list_sums};
+use tb_param::Params;
+use tb_pool::{ListId, Lists};
+use tb_scaled::MAX_DIMEN;
+
+/// The size of the page so far, in sp.
+#[derive(Clone, Copy)]
+pub(crate) struct TextSize {
+    /// The height and the depth of its text.
+    pub height: i64,
+    pub depth: i64,
+    /// What text and insertions take together.
+    pub page: i64,
+}
+
+impl Machine {
+    /// The first float or marginal note that was taken gets its place, and all else of the page goes back
+    /// (ltoutput.dtx, \@specialoutput and \@addtocurcol).
+    pub(crate) fn float_or_note(
+        &mut self,
+        store: &mut Lists<Node>,
+        body: ListId,
+        notes: &[NoteBox],
+        vert: bool,
+        back: ListId,
+    ) -> Result<(), RunFault>
+        requires machine { IsMachine self.old store.old }
+        requires back { IsBack back self.old store.old }
+        requires empty { list_at store.old back ≡ [] }
+        requires note_bottom { IsReach self.old.note_bottom }
+        requires lists { AreTextLists 8355839 (back_lists store.old back ++ machine_lists self.old) store.old body notes.now }
+        requires known { AreKnownNotes self.old.classes notes.now }
+        requires few { length (list_at store.old body) + length (list_at store.old self.old.held_page) + note_count store.old notes.now ≤ 8355839 }
+        ensures ok { OnOk result (Does (shows_page back notes.now self.old store.old) (shows_back back self.new store.new) (float_or_note self.old.params vert (nodes_shown store.old body))) }
+        ensures err { IfErr result (λ e. Does (shows_page back notes.now self.old store.old) (IsCutShort e self.new store.new) (float_or_note self.old.params vert (nodes_shown store.old body))) }
+        ensures keeps { KeepsBack back (body ∷ note_lists notes.now) self.old self.new store.old store.new }
+    {
+        let size = self.list_back(store, body, notes, back)?;
+        self.place_first(store, &size, vert, back)
+    }
+
+    // The page so far and its insertions go back; its size is returned.
+    fn list_back(
+        &self,
+        store: &mut Lists<Node>,
+        body: ListId,
+        notes: &[NoteBox],
+        back: ListId,
+    ) -> Result<TextSize, AllocError>
+        requires machine { IsMachine self.now store.old }
+        requires back { IsBack back self.now store.old }
+        requires empty { list_at store.old back ≡ [] }
+        requires lists { AreTextLists 8355839 (back_lists store.old back ++ machine_lists self.now) store.old body notes.now }
+        requires known { AreKnownNotes self.now.classes notes.now }
+        requires few { length (list_at store.old body) + length (list_at store.old self.now.held_page) + note_count store.old notes.now ≤ 8355839 }
+        ensures ok { OnOk result (Does (shows_page back notes.now self.now store.old) (shows_back back self.now store.new) (list_back self.now.params (nodes_shown store.old self.now.held_page ++ without_firing_box (nodes_shown store.old body)))) }
+        ensures size { IfOk result (λ z. IsTextSize z (nodes_shown store.old self.now.held_page ++ without_firing_box (nodes_shown store.old body)) (notes_shown store.old notes.now)) }
+        ensures err { OnErr result (Does (shows_page back notes.now self.now store.old) (IsCutShort RunFault.Memory self.now store.new) (list_back self.now.params (nodes_shown store.old self.now.held_page ++ without_firing_box (nodes_shown store.old body)))) }
+        ensures keeps { KeepsBack back (body ∷ note_lists notes.now) self.now self.now store.old store.new }
+    {
+        self.text_back(store, body, back);
+        let size = text_size(store, back, notes);
+        insertions_back(store, &self.params, notes, back)?;
+        Ok(size)
+    }
+
+    // The held page and the page go back, without the box and the glue that stand last on it.
+    fn text_back(&self, store: &mut Lists<Node>, body: ListId, back: ListId)
+        requires held { IsLive store.old self.now.held_page }
+        requires body { IsLive store.old body }
+        requires back { IsLive store.old back }
+        requires held_apart { self.now.held_page ≢ body }
+        requires back_apart { back ≢ self.now.held_page }
+        requires body_apart { back ≢ body }
+        ensures { HasTextBack back self.now.held_page body store.old store.new }
+    {
+        let count = store.len(body);
+        shorten(store, body, if count < 2 { 0 } else { count - 2 });
+        store.append(back, self.held_page);
+        store.append(back, body);
+        store.close(body);
+    }
+}
+
+// The size of a text with these insertions.
+fn text_size(store: &Lists<Node>, text: ListId, notes: &[NoteBox]) -> TextSize
+    requires live { IsLive store.now text }
+    requires sized { All IsSizedNode (list_at store.now text) }
+    requires few { length (list_at store.now text) ≤ 8388608 }
+    requires notes { AllByRecursion (IsNote store.now) notes.now }
+    requires rising { AreRisingFrom 0 notes.now }
+    requires few_notes { note_count store.now notes.now ≤ 8388608 }
+    ensures depth { result.depth ≡ last_depth (shapes store.now text) }
+    ensures height { result.height ≡ size_of (shapes store.now text) -ℤ result.depth }
+    ensures page { result.page ≡ result.height +ℤ result.depth +ℤ notes_height (notes_shown store.now notes.now) }
+    ensures small_height { IsAmount result.height }
+    ensures small_page { IsAmount result.page }
+    ensures extent { IsExtent result.depth }
+{
+    let sums = list_sums(store, text, MAX_DIMEN);
+    let text = sum_of(sums.total, sums.depth);
+    TextSize {
+        height: sums.total,
+        depth: sums.depth,
+        page: sum_of(text, notes_height(store, notes)),
+    }
+}
+
+// What insertions take of a page, each class with the glue above it.
+fn notes_height(store: &Lists<Node>, notes: &[NoteBox]) -> i64
+    requires notes { AllByRecursion (IsNote store.now) notes.now }
+    requires rising { AreRisingFrom 0 notes.now }
+    requires few { note_count store.now notes.now ≤ 8388608 }
+    ensures value { result ≡ notes_height (notes_shown store.now notes.now) }
+    ensures within { IsWithin 18014948265590784 result }
+{
+    let mut height = 0;
+    for note in notes {
+        // A class is below 256, so there are no more of them.
+        let _class = note.class;
+        height = sum_of(
+            height,
+            sum_of(list_height(store, note.list), note.skip.width),
+        );
+    }
+    height
+}
+
+// The height plus the depth of a list.
+fn list_height(store: &Lists<Node>, l: ListId) -> i64
+    requires { IsPageList store.now l }
+    ensures value { result ≡ size_of (shapes store.now l) }
+    ensures within { IsWithin (2147483646 * length (list_at store.now l)) result }
+{
+    let sums = list_sums(store, l, MAX_DIMEN);
+    sum_of(sums.total, sums.depth)
+}
+
+fn sum_of(a: i64, b: i64) -> i64
+    requires first { IsAmount a }
+    requires second { IsAmount b }
+    ensures { result ≡ a +ℤ b }
+{
+    a + b
+}
+
+// The insertions of each class go back as one insertion. Where memory is lacking, all is as before.
+fn insertions_back(
+    store: &mut Lists<Node>,
+    p: &Params,
+    notes: &[NoteBox],
+    back: ListId,
+) -> Result<(), AllocError>
+    requires back { IsLive store.old back }
+    requires notes { AllByRecursion (IsNote store.old) notes.now }
+    requires apart { IsNoneOf back (note_lists notes.now) }
+    ensures ok { OnOk result (HasGrown back (insertions_again p.now store.old notes.now) [] store.old store.new) }
+    ensures err { OnErr result (store.new.lists ≡ store.old.lists) }
+{
+    store.reserve(notes.len())?;
+    for note in notes {
+        let height = list_height(store, note.list);
+        push_made(store, back, insertion(p, note, height));
+    }
+    Ok(())
+}
+
+// The insertions of a class as one insertion.
+fn insertion(p: &Params, note: &NoteBox, height: i64) -> Kind
+    ensures { made_node result ≡ insertion_of p.now note.now height }
+{
+    Kind::Ins(Insertion {
+        class: note.class,
+        list: note.list,
+        height,
+        split_depth: p.splitmaxdepth,
+        split_top: p.splittopskip,
+        floating: p.floatingpenalty,
+    })
+}

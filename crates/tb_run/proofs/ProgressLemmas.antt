@@ -1,0 +1,69 @@
+-- The acts and places of a page one after another.
+use Rattle.std.proofs.Common.{◌≡◌, refl, sym, ◌∙◌, ap, ℕ, ℤ, List, [], ◌∷◌, ◌++◌, map, Some, None, append_assoc, append-nil}
+use Rattle.tb_scaled.specs.Scaled.{min_ℤ, awful_bad}
+use Rattle.tb_node.specs.declared.Act.{Act}
+use Rattle.tb_param.specs.declared.Params.{Params}
+use Rattle.tb_break.specs.Best.{Breakpoint, least_cost}
+use Rattle.tb_break.proofs.BestLemmas.{least-append}
+use Rattle.tb_builder.specs.Reached.{Reached, acted, tried, try_of, breakpoints}
+use Rattle.tb_column.specs.Column.{warned}
+use Rattle.tb_output.specs.State.{State, Recorded}
+use Rattle.tb_output.specs.Act.{Acted, went, full, act_on}
+use Rattle.tb_run.specs.Run.{RunEvent, offered, sent, Progress, after_events, progress_by, progress}
+
+-- the least cost after these
+abbrev pub least_after : List Reached → ℤ → ℤ
+least_after [] z = z
+least_after (acted a ∷ rs) z = least_after rs z
+least_after (tried line b ∷ rs) z = least_after rs (min_ℤ z b.cost)
+
+least-both : (bs : List Breakpoint) (rs : List Reached) → least_after rs (least_cost bs) ≡ least_cost (bs ++ breakpoints rs)
+least-both bs [] = ap least_cost (sym (append-nil bs))
+least-both bs (acted a ∷ rs) = least-both bs rs
+least-both bs (tried line b ∷ rs) = ap (least_after rs) (sym (least-append bs b)) ∙ least-both (bs ++ b ∷ []) rs ∙ ap least_cost (append_assoc bs (b ∷ []) (breakpoints rs))
+
+pub least-is : (rs : List Reached) → least_after rs awful_bad ≡ least_cost (breakpoints rs)
+least-is rs = least-both [] rs
+
+events-after : (es fs : List RunEvent) (rs qs : List Recorded) (q : Progress) → after_events es rs (after_events fs qs q) ≡ after_events (es ++ fs) (rs ++ qs) q
+events-after es fs rs qs q = λ i. record q { events = sym (append_assoc es fs q.events) i; records = sym (append_assoc rs qs q.records) i }
+
+-- after these, the rest goes on from their state
+pub progress-append : (p : Params) (rs more : List Reached) (least : ℤ) (s : State) → (progress p rs least s).fault ≡ None
+    → progress p (rs ++ more) least s ≡ after_events (progress p rs least s).events (progress p rs least s).records (progress p more (least_after rs least) (progress p rs least s).state)
+progress-append p [] more least s none = refl
+progress-append p (acted a ∷ rs) more least s none = by_act (act_on p s a) (λ s' h. progress-append p rs more least s' h) none
+  where
+    by_act : (o : Acted) → ((s' : State) → (progress p rs least s').fault ≡ None → progress p (rs ++ more) least s' ≡ after_events (progress p rs least s').events (progress p rs least s').records (progress p more (least_after rs least) (progress p rs least s').state))
+        → (progress_by (λ s'. progress p rs least s') s o).fault ≡ None
+        → progress_by (λ s'. progress p (rs ++ more) least s') s o
+        ≡ after_events (progress_by (λ s'. progress p rs least s') s o).events (progress_by (λ s'. progress p rs least s') s o).records (progress p more (least_after rs least) (progress_by (λ s'. progress p rs least s') s o).state)
+    by_act (went s' ws qs) later h =
+        ap (after_events (map (λ w. sent (warned w)) ws) qs) (later s' h)
+        ∙ events-after (map (λ w. sent (warned w)) ws) (progress p rs least s').events qs (progress p rs least s').records (progress p more (least_after rs least) (progress p rs least s').state)
+    by_act (full line live) later h = cc
+progress-append p (tried line b ∷ rs) more least s none =
+    ap (after_events (offered (try_of line b least) ∷ []) []) (progress-append p rs more (min_ℤ least b.cost) s none)
+    ∙ events-after (offered (try_of line b least) ∷ []) (progress p rs (min_ℤ least b.cost) s).events [] (progress p rs (min_ℤ least b.cost) s).records (progress p more (least_after rs (min_ℤ least b.cost)) (progress p rs (min_ℤ least b.cost) s).state)
+
+-- ---- one more
+
+module _ (p : Params) (rs : List Reached) (s : State) (none : (progress p rs awful_bad s).fault ≡ None) where
+  abbrev q : Progress
+  q = progress p rs awful_bad s
+
+  -- a place was tried
+  pub progress-tried : (line : ℕ) (b : Breakpoint) → progress p (rs ++ tried line b ∷ []) awful_bad s ≡ record { state = q.state; events = q.events ++ offered (try_of line b (least_cost (breakpoints rs))) ∷ []; records = q.records; fault = None }
+  progress-tried line b =
+      progress-append p rs (tried line b ∷ []) awful_bad s none
+      ∙ (λ i. record { state = q.state; events = q.events ++ offered (try_of line b (least-is rs i)) ∷ []; records = append-nil q.records i; fault = None })
+
+  -- an act was done, or found no room
+  pub progress-acted : (a : Act) → progress p (rs ++ acted a ∷ []) awful_bad s ≡ after_events q.events q.records (progress_by (λ t. progress p [] (least_after rs awful_bad) t) q.state (act_on p q.state a))
+  progress-acted a = progress-append p rs (acted a ∷ []) awful_bad s none
+
+  pub progress-stuck : (a : Act) (more : List Reached) (line live : ℕ) → act_on p q.state a ≡ full line live → progress p (rs ++ acted a ∷ more) awful_bad s ≡ record { state = q.state; events = q.events; records = q.records; fault = Some (line, live) }
+  progress-stuck a more line live e =
+      progress-append p rs (acted a ∷ more) awful_bad s none
+      ∙ ap (λ o. after_events q.events q.records (progress_by (λ t. progress p more (least_after rs awful_bad) t) q.state o)) e
+      ∙ (λ i. record { state = q.state; events = append-nil q.events i; records = append-nil q.records i; fault = Some (line, live) })

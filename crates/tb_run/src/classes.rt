@@ -1,0 +1,47 @@
+//! The classes of a galley.
+
+ghost use Rattle.std.specs.Prelude.{◌≡◌, IfOk};
+ghost use Rattle.tb_output.specs.State.{foot_class};
+ghost use Rattle.tb_run.specs.Run.{class_of, classes_of};
+
+use std::alloc::{AllocError, Global};
+use tb_galley::{ClassLine, Galley};
+use tb_insert::Class;
+use tb_node::FOOTNOTES;
+use tb_param::Params;
+
+// The footnotes' class: each counts whole against the page, up to `footlimit`.
+fn foot_class(p: &Params) -> Class
+    ensures { result ≡ foot_class p.now }
+{
+    Class {
+        number: FOOTNOTES,
+        factor: 1000,
+        limit: p.footlimit,
+        skip: p.skipfootins,
+    }
+}
+
+// A class that a galley declares.
+fn class_of(line: &ClassLine) -> Class
+    ensures { result ≡ class_of line.now }
+{
+    Class {
+        number: line.number,
+        factor: line.factor,
+        limit: line.limit,
+        skip: line.skip,
+    }
+}
+
+/// The classes of a galley in rising number, that of the footnotes last.
+pub(crate) fn classes_of(alloc: Global, galley: &Galley) -> Result<Vec<Class>, AllocError>
+    ensures { IfOk result (λ cs. cs.items ≡ classes_of galley.now) }
+{
+    let mut classes = Vec::new(alloc);
+    for line in galley.classes.as_slice() {
+        classes.push(class_of(line))?;
+    }
+    classes.push(foot_class(&galley.params))?;
+    Ok(classes)
+}

@@ -1,0 +1,11 @@
+use Rattle.std.proofs.Common.{◌≡◌, drop}
+use Rattle.tb_run.specs.Happened.{events_of}
+use Rattle.tb_run.specs.Turning.{ArePages}
+use Rattle.tb_top.specs.Written.{with_events}
+use Rattle.tb_top.proofs.pages.count_happened.Given as goal
+
+abbrev pub invariant-loop-happening : goal.invariant-loop-happening
+invariant-loop-happening l = record {
+  counted : with_events (events_of l.store (drop l.happening-index l.happened)) l.totals ≡ with_events (events_of l.store l.fn.happened) l.fn.totals;
+  pages : ArePages l.store (drop l.happening-index l.happened);
+}

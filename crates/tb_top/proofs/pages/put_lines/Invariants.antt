@@ -1,0 +1,11 @@
+use Rattle.std.proofs.Common.{◌≡◌, ◌++◌, drop}
+use Rattle.tb_run.specs.Happened.{events_of}
+use Rattle.tb_run.specs.Turning.{ArePages}
+use Rattle.tb_top.specs.Report.{all_lines, traced_lines}
+use Rattle.tb_top.proofs.pages.put_lines.Given as goal
+
+abbrev pub invariant-loop-happening : goal.invariant-loop-happening
+invariant-loop-happening l = record {
+  lines : l.text.items ++ all_lines traced_lines (events_of l.store (drop l.happening-index l.happened)) ≡ l.fn.text.items ++ all_lines traced_lines (events_of l.store l.fn.happened);
+  pages : ArePages l.store (drop l.happening-index l.happened);
+}

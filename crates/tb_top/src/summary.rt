@@ -1,0 +1,20 @@
+//! The line about the run of a generated galley.
+ghost use Rattle.std.specs.Prelude.{◌≡◌, IfOk};
+ghost use Rattle.tb_top.specs.Answer.{summary_line};
+
+use std::alloc::{AllocError, Global};
+use tb_report::{Totals, end_line, put_total};
+
+/// The line of the totals of so many generated items.
+pub fn summary_text(alloc: Global, count: u32, t: &Totals) -> Result<Vec<u8>, AllocError>
+    ensures { IfOk result (λ text. text.items ≡ summary_line count t.now) }
+{
+    let mut out = Vec::new(alloc);
+    put_total(&mut out, b"gen", u64::from(count))?;
+    put_total(&mut out, b" pages", t.pages)?;
+    put_total(&mut out, b" boxes", t.boxes)?;
+    put_total(&mut out, b" floats", t.floats)?;
+    put_total(&mut out, b" warnings", t.warnings)?;
+    end_line(&mut out)?;
+    Ok(out)
+}
