@@ -7,6 +7,8 @@ pub mod Machine
 pub mod Reading
 pub mod Line
 pub mod SaidBy
+pub mod Unfinished
+pub mod Pieces
 pub mod Print
 pub mod Expand
 pub mod Valid

@@ -115,7 +115,8 @@ impl<'a> Prepared<'a> {
         }
     }
 
-    // The demerits of the line from a break, or the paragraph's start, to another; `None` if it is not feasible.
+    // The demerits of the line from a break, or the paragraph's start, to another; `None` if it is not feasible. It is
+    // asked of each pair of breaks that is tried, so it stands in the loop over them.
     #[inline(always)]
     fn line_demerits(&self, from: Option<usize>, to: usize) -> Option<i64>
         requires within { is_within from to ≡ true }
@@ -151,7 +152,7 @@ impl<'a> Prepared<'a> {
         with_offer(to, best, Some(from), offer)
     }
 
-    // The way from the start to a break.
+    // The way from the start to a break. It is apart from the loop over breaks, which has a line's demerits in it.
     #[inline(never)]
     fn start_row(&self, forced: Option<usize>, to: usize) -> Option<Best>
         requires inside { to < length self.now.entries.now }

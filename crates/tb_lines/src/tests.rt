@@ -1,6 +1,6 @@
 use crate::{
     LinesCause, LinesFault, LinesRefusal, break_par, cause_text, check_lines, galleys_are_accepted,
-    is_range_cause, lines_galley, put_refusal, read_lines, solutions_are_least,
+    is_range_cause, line_text, lines_galley, put_refusal, read_lines, solutions_are_least,
 };
 use std::alloc::Global;
 use std::test::Fail;
@@ -8,6 +8,10 @@ use std::test::Fail;
 // Two lines of two words each: 200 demerits.
 const FOUR_WORDS: &[u8] =
     b"lines 1\nset hsize 100\nset baselineskip 12\npar p\nword 45 7 2\nspace 10 5 4\nword 45 7 2\nspace 10 5 4\nword 45 7 2\nspace 10 5 4\nword 45 7 2\nendpar\nend\n";
+
+// The galley of its lines.
+const TWO_LINES: &[u8] =
+    b"galley 1\nbox p.1 7 2\npenalty 300\nglue 3 plus 0 minus 0\nbox p.2 7 2\nend\n";
 
 // What is answered to a text: the galley, or what stands in its place in one line.
 fn answer(alloc: Global, text: &[u8]) -> Result<Vec<u8>, Fail> {
@@ -27,10 +31,7 @@ fn answer(alloc: Global, text: &[u8]) -> Result<Vec<u8>, Fail> {
 #[test]
 fn answers_texts(rt: HostRuntime) -> Result<(), Fail> {
     let rows: [(&[u8], &[u8]); 22] = [
-        (
-            FOUR_WORDS,
-            b"galley 1\nbox p.1 7 2\npenalty 300\nglue 3 plus 0 minus 0\nbox p.2 7 2\nend\n",
-        ),
+        (FOUR_WORDS, TWO_LINES),
         (
             b"lines 1\nset hsize 100\npar q\nword 120 7 2\nendpar\nend",
             b"no breaks 1",
@@ -114,6 +115,26 @@ fn reads_breaks_and_writes(rt: HostRuntime) -> Result<(), Fail> {
             })
         )
     );
+    Ok(())
+}
+
+// The lines of a solution as they are written.
+#[test]
+fn writes_the_lines_of_a_solution(rt: HostRuntime) -> Result<(), Fail> {
+    let alloc = rt.alloc();
+    let Ok(text) = read_lines(alloc, FOUR_WORDS) else {
+        return Err(Fail::new("not read"));
+    };
+    if text.paragraphs() != 1 {
+        return Err(Fail::new("not one paragraph"));
+    }
+    let Some(solution) = break_par(alloc, &text, 0)? else {
+        return Err(Fail::new("not broken"));
+    };
+    let mut solutions = Vec::new(alloc);
+    solutions.push(solution)?;
+    let galley = line_text(alloc, &text, solutions.as_slice())?;
+    assert!(rt; galley.as_slice() == TWO_LINES);
     Ok(())
 }
 

@@ -4,8 +4,8 @@ use Rattle.std.specs.Prelude.{filter}
 use Rattle.std.specs.List.{list_all, slice_split, onto_first}
 use Rattle.std.specs.Str.Lines.{strip_carriage_return}
 use Rattle.std.proofs.lemmas.List.Splits.{length-slice_split}
-use Rattle.tb_text.specs.Lines.{is_feed, is_blank, is_mark, is_nonempty, lines_in, lines_of, fields_of}
-use Rattle.tb_text.proofs.FirstLine.{lines_in-cons}
+use Rattle.std.proofs.lemmas.Grind.{common_steps}
+use Rattle.tb_text.specs.Lines.{is_feed, is_blank, is_mark, is_nonempty, IsUnended, lines_in, lines_of, fields_of}
 
 split_by : {X : Type 0} (b : X) (xs : List X) (parts : List (List X)) (t : Bool) → t ≡ false → (if t then [] ∷ (xs ∷ parts) else onto_first b (xs ∷ parts)) ≡ (b ∷ xs) ∷ parts
 split_by b xs parts true h = cc
@@ -70,6 +70,22 @@ no_feed (b ∷ l) h =
 some_part : (p : ℕ → Bool) (bs : List ℕ) → 0 < length (slice_split p bs)
 some_part p bs = omega (arith, length-slice_split p bs)
 
+lines_in-cons : (x : List ℕ) (parts : List (List ℕ)) → 0 < length parts → lines_in (x ∷ parts) ≡ strip_carriage_return x ∷ lines_in parts
+lines_in-cons x [] h = absurd (omega arith)
+lines_in-cons x (y ∷ more) h = refl
+
+lines_in_one : (x : List ℕ) → 0 < length x → lines_in (x ∷ []) ≡ strip_carriage_return x ∷ []
+lines_in_one [] h = absurd (omega arith)
+lines_in_one (b ∷ x) h = grind (arith, common_steps)
+
+-- the line before a line feed
+pub lines_of-first : (line rest : List ℕ) → IsUnended line → lines_of (line ++ 10 ∷ rest) ≡ strip_carriage_return line ∷ lines_of rest
+lines_of-first line rest h = ap lines_in (split-first is_feed line 10 rest h refl) ∙ lines_in-cons line (slice_split is_feed rest) (some_part is_feed rest)
+
+-- the line that ends with the text
+pub lines_of-last : (line : List ℕ) → IsUnended line → 0 < length line → lines_of line ≡ strip_carriage_return line ∷ []
+lines_of-last line h some = ap lines_in (split-all is_feed line h) ∙ lines_in_one line some
+
 -- lines that each end with a line feed
 abbrev pub joined_lines : List (List ℕ) → List ℕ
 joined_lines [] = []
@@ -79,6 +95,5 @@ pub lines_of-joined : (ls : List (List ℕ)) → list_all (λ l. list_all is_lin
 lines_of-joined [] h = refl
 lines_of-joined (l ∷ ls) h =
     let clean : list_all is_line_byte l ≡ true = left_of (list_all is_line_byte l) (list_all (λ m. list_all is_line_byte m) ls) h in
-    ap lines_in (split-first is_feed l 10 (joined_lines ls) (no_feed l clean) refl)
-    ∙ lines_in-cons l (slice_split is_feed (joined_lines ls)) (some_part is_feed (joined_lines ls))
+    lines_of-first l (joined_lines ls) (no_feed l clean)
     ∙ (λ i. unstripped l clean i ∷ lines_of-joined ls (right_of (list_all is_line_byte l) (list_all (λ m. list_all is_line_byte m) ls) h) i)

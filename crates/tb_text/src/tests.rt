@@ -1,10 +1,17 @@
-use crate::{dimension, fraction, integer, put_number, split_field, split_line, stretch};
+use crate::{
+    dimension, fraction, integer, put_number, split_at_feed, split_field, split_line, stretch,
+    without_return,
+};
 use std::test::Fail;
 use tb_scaled::Order;
 
 // Each call once.
 #[test]
 fn reads_and_writes(rt: HostRuntime) -> Result<(), Fail> {
+    let (line, rest) = split_at_feed(b" set \tpool 4\r\nend").unwrap_or((b"", b""));
+    assert!(rt; without_return(line) == b" set \tpool 4".as_slice());
+    assert!(rt; rest == b"end".as_slice());
+    assert!(rt; split_at_feed(rest).is_none());
     let (line, rest) = split_line(b" set \tpool 4\r\nend");
     assert!(rt; line == b" set \tpool 4".as_slice());
     assert!(rt; rest == b"end".as_slice());
