@@ -23,7 +23,7 @@ use crate::measuring::list_size;
 use crate::moving::{
     act_of, drop_first, first_of, glue_follows, insertion_of, is_box, shift, top_node,
 };
-use crate::trying::{started, stops};
+use crate::trying::stops;
 use crate::{Ask, Builder, Event};
 use std::alloc::AllocError;
 use tb_break::{is_lasting, place_penalty};
@@ -138,7 +138,7 @@ impl Builder {
             return;
         }
         self.frozen = Some((ask.goal, ask.max_depth));
-        self.course = started(ask.goal, ask.max_depth, self.course.lasting);
+        self.course.restart(ask.goal, ask.max_depth);
     }
 
     // The first node that waits, an insertion, goes on the page.

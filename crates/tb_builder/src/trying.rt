@@ -22,7 +22,7 @@ use tb_insert::{Class, new_account};
 use tb_node::{Insertion, Node, Sums};
 use tb_pool::Lists;
 
-// The course of a page of marks, notes and whatsits, whose goal and depth limit are frozen now.
+/// The course of a page of marks, notes and whatsits, whose goal and depth limit (sp) are frozen now.
 pub fn started(goal: i64, max_depth: i64, lasting: bool) -> Course
     requires low { pos 0 ≤ℤ max_depth }
     requires limit { IsAmount max_depth }
@@ -51,7 +51,7 @@ fn made_try(line: u32, sums: Sums, goal: i64, offer: Offer, penalty: i64) -> Try
     }
 }
 
-// The page fires at the place that was tried: it is overfull there, or the break is forced.
+/// The page fires at the place that was tried: it is overfull there, or the break is forced (TeX: The Program §1005).
 pub fn stops(t: &Try) -> bool
     ensures { result ≡ (int_le awful_bad t.now.cost || int_le t.now.penalty (negsuc 9999)) }
 {
@@ -59,6 +59,19 @@ pub fn stops(t: &Try) -> bool
 }
 
 impl Course {
+    // Begins the course of the next page, as `started` makes it, in place: a course is too large to be made for each page
+    // and moved.
+    pub(crate) fn restart(&mut self, goal: i64, max_depth: i64)
+        requires low { pos 0 ≤ℤ max_depth }
+        requires limit { IsAmount max_depth }
+        ensures { (z : Frozen) (page : List PlainNode) → z.goal ≡ goal → z.limit ≡ max_depth → Differ z.classes → AllLoose page → self.old.lasting ≡ ends_lasting (page_shapes page)
+            → CourseStands z self.new page [] }
+    {
+        self.scan = new_scan(max_depth);
+        self.account.restart(goal);
+        self.best_goal = 0;
+    }
+
     // Marks the page so far, where the place at its end is the best.
     fn mark_if(&mut self, champion: bool, goal: i64)
         ensures marks { (z : Frozen) (page : List PlainNode) → Marks z self.old self.new page champion goal }

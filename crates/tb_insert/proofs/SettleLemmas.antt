@@ -1,8 +1,7 @@
 -- What the parts of `settle` add up to.
-use Rattle.std.proofs.Common.{◌≡◌, refl, sym, subst, ◌∙◌, ap, ℤ, ◌+ℤ◌, ◌-ℤ◌}
+use Rattle.std.proofs.Common.{◌≡◌, ◌∙◌, ap, ℤ, ◌+ℤ◌, ◌-ℤ◌}
 use Rattle.tb_node.specs.declared.Sums.{Sums}
 use Rattle.tb_node.specs.Plain.{Inserted}
-use Rattle.tb_node.specs.Small.{IsAmount}
 use Rattle.tb_break.specs.Scan.{Scanned}
 use Rattle.tb_insert.specs.declared.Class.{Class}
 use Rattle.tb_insert.specs.declared.Entry.{Entry}

@@ -14,17 +14,16 @@ use Rattle.tb_node.specs.declared.Sums.{Sums}
 use Rattle.tb_node.specs.Small.{IsAmount, IsSmall}
 use Rattle.tb_node.specs.Shape.{Shape, box, glue, kern, penalty, other}
 use Rattle.tb_node.specs.Plain.{PlainKind, plain, ins, act, PlainNode, node_shape, inserted_of, Inserted, is_insertion_kind}
-use Rattle.tb_node.specs.Sums.{sums_of, size_of, last_depth, depth_from, list_stretch, stretch_of, list_shrink, stretches}
+use Rattle.tb_node.specs.Sums.{sums_of, size_of, list_stretch, stretch_of, list_shrink}
 use Rattle.tb_node.specs.Add.{added_node, stretched_sums, more_at, order_index, stretch_with, shrink_with}
 use Rattle.tb_node.proofs.AddLemmas.{sums-append, added_stretches, size-append, depth-append, stretch-append, shrink-append}
 use Rattle.tb_break.specs.Scan.{Scanned}
 use Rattle.tb_insert.specs.declared.Class.{Class}
-use Rattle.tb_insert.specs.declared.Entry.{Entry}
 use Rattle.tb_insert.specs.declared.Account.{Account}
 use Rattle.tb_insert.specs.Terms.{Terms, sums_with, added_amounts}
-use Rattle.tb_insert.specs.Account.{Frozen, Label, Labelled, labelled, labelled_with, label_of, terms_after, terms_of_labels, is_met, insertions, class_box, met_classes, skip_shapes, class_height}
-use Rattle.tb_insert.specs.Running.{Differ, numbered, boxed, AccountStands, EntryStands, ScanStands, ComesTo, met_scan}
-use Rattle.tb_insert.specs.Arrived.{InnerFits, ClassFits, ArriveFits, PageFits, entry_of, blank_entry}
+use Rattle.tb_insert.specs.Account.{Frozen, Labelled, labelled, labelled_with, label_of, terms_after, terms_of_labels, is_met, insertions, class_box}
+use Rattle.tb_insert.specs.Running.{Differ, numbered, boxed, AccountStands, EntryStands, ScanStands, ComesTo, entry_of, met_scan}
+use Rattle.tb_insert.specs.Arrived.{InnerFits, ClassFits, ArriveFits, PageFits}
 use Rattle.tb_insert.proofs.AccountLemmas.{TermsNext, terms_next, labelled-append, new_skip}
 use Rattle.tb_insert.proofs.StandsLemmas.{goal_next, height_next, penalties_next}
 
@@ -218,4 +217,4 @@ arrive_fits store a s i line class size index z page marked number most stands c
     known = subst (λ k. numbered z.classes k ≡ true) number co.numbered_so
 
     entry : EntryStands (entry_of a i.class) z a.newest a.mark (labelled z page) (labelled z marked) i.class
-    entry = stands.entries i.class blank_entry most
+    entry = stands.entries i.class most

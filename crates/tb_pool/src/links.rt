@@ -8,7 +8,7 @@ use crate::{Ends, Node};
 use slab::Slab;
 use std::mem;
 
-// Puts a value where there is none.
+/// Puts a value where there is none.
 pub fn fill<T>(place: &mut Option<T>, v: T)
     requires { place.old ≡ None }
     ensures { place.new ≡ Some v }
@@ -19,7 +19,7 @@ pub fn fill<T>(place: &mut Option<T>, v: T)
     }
 }
 
-// Links the last node of a list to the first of another, where each has one.
+/// Links the last node of a list to the first of another, if each has one.
 pub fn link<T>(nodes: &mut Slab<Node<T>>, front: Ends, back: Ends)
     requires last_there { 0 < front.len → ContainsKey nodes.old front.last }
     requires first_there { 0 < back.len → ContainsKey nodes.old back.first }
@@ -32,7 +32,7 @@ pub fn link<T>(nodes: &mut Slab<Node<T>>, front: Ends, back: Ends)
     nodes[back.first].prev = front.last;
 }
 
-// The key of the node at place k of a list, by the nearer end.
+/// The key of the node at place k of a list, found from the nearer end.
 pub fn key_at<T>(nodes: &Slab<Node<T>>, ends: Ends, k: usize) -> usize
     requires within { k < ends.len }
     requires path { HasPath nodes.now ends }

@@ -1,4 +1,4 @@
-use Rattle.std.proofs.Common.{◌≡◌, sym, subst, ℤ, ◌^◌, FitsSigned, w64, rules}
+use Rattle.std.proofs.Common.{◌≡◌, sym, subst, ◌^◌, FitsSigned, w64, rules}
 use Rattle.std.specs.Prelude.{◌*ℤ◌}
 use Rattle.std.specs.Int.{w128}
 use Rattle.std.proofs.lemmas.Int.{to_z-of_z}
