@@ -1,5 +1,5 @@
 -- The floats that wait, among entries.
-use Rattle.std.proofs.Common.{◌≡◌, ◌≢◌, ℕ, zero, suc, ◌+◌, ◌<◌, List, [], ◌∷◌, length, drop, Some, slice_get, refl, sym, ap, subst, ◌∙◌, arith}
+use Rattle.std.proofs.Common.{◌≡◌, ◌≢◌, ℕ, zero, suc, ◌<◌, List, [], ◌∷◌, length, Some, slice_get, refl, sym, ap, subst, ◌∙◌, arith}
 use Rattle.tb_node.specs.declared.Float.{Float}
 use Rattle.tb_float.specs.declared.Entry.TheVariants as entries
 use Rattle.tb_float.specs.declared.Part.{Part}
@@ -45,11 +45,8 @@ waits_apart parts.Double w = absurd w
 waits_apart parts.Deferred w = λ e. absurd cc
 waits_apart parts.Second w = λ e. absurd cc
 
--- the next of the floats that are left
-pub drop_next : (fs : List Float) (k : ℕ) → k < length fs → (f : Float) × (drop k fs ≡ f ∷ drop (k + 1) fs)
-drop_next [] k lt = absurd (omega arith)
-drop_next (f ∷ fs) zero lt = (f, refl)
-drop_next (f ∷ fs) (suc k) lt =
-    let next = drop_next fs k (omega arith) in
-    let one : suc (k + 1) ≡ suc k + 1 = omega arith in
-    (next.0, next.1 ∙ ap (λ n. next.0 ∷ drop n (f ∷ fs)) one)
+-- the float at a place
+pub there_some : (fs : List Float) (k : ℕ) → k < length fs → (f : Float) × (slice_get fs k ≡ Some f)
+there_some [] k lt = absurd (omega arith)
+there_some (f ∷ fs) zero lt = (f, refl)
+there_some (f ∷ fs) (suc k) lt = there_some fs k (omega arith)

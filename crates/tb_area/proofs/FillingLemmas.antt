@@ -1,9 +1,9 @@
--- A walk over the floats that wait: its start, a turn, and its end.
-use Rattle.std.proofs.Common.{◌≡◌, ◌≢◌, ℕ, ◌+◌, ◌<◌, ◌≤◌, Bool, true, false, List, [], ◌∷◌, ◌++◌, length, drop, Some, slice_get, refl, sym, ap, subst, ◌∙◌, append_assoc, arith}
-use Rattle.std.specs.Prelude.{if◌then◌else◌}
+-- A walk over the floats that wait: its start, a float that stays, one that goes, and its end.
+use Rattle.std.proofs.Common.{◌≡◌, ◌≢◌, ℕ, zero, suc, ◌+◌, ◌<◌, ◌≤◌, Bool, true, false, List, [], ◌∷◌, ◌++◌, length, take, drop, Some, slice_get, refl, sym, ap, subst, ◌∙◌, arith}
+use Rattle.std.specs.Prelude.{if◌then◌else◌, All}
 use Rattle.std.proofs.Math.ListN.{drop_of_length-le}
-use Rattle.std.proofs.lemmas.List.{append-nil, length-append, length-drop}
-use Rattle.std.proofs.lemmas.Option.{same_Some}
+use Rattle.std.proofs.lemmas.List.{length-append, length-take-le}
+use Rattle.std.proofs.lemmas.Option.{slice_get_within, get_or_from_slice_get}
 use Rattle.tb_node.specs.declared.Float.{Float}
 use Rattle.tb_node.specs.declared.Where.{Where}
 use Rattle.tb_node.specs.declared.Where.TheVariants.{Top, Bottom, Double, Deferred}
@@ -11,15 +11,15 @@ use Rattle.tb_param.specs.declared.params.Params.{Params}
 use Rattle.tb_float.specs.declared.Part.{Part}
 use Rattle.tb_float.specs.declared.Part.TheVariants as parts
 use Rattle.tb_float.specs.declared.Suppress.{Suppress}
-use Rattle.tb_float.specs.declared.classes.ClassSet.{ClassSet}
 use Rattle.tb_float.specs.Classes.{AreClassesOf}
-use Rattle.tb_float.specs.Lists.{FloatLists, floats_of, with_floats_of, without_place, has_class, IsWaiting}
-use Rattle.tb_float.specs.Pool.{FloatPool, moved_float, rotated, marks_of, with_first_behind}
-use Rattle.tb_float.proofs.WaitingLemmas.{floats-with, with-floats-again, with-floats-same, lists-marked, size-marked}
+use Rattle.tb_float.specs.Lists.{FloatLists, floats_of, without_place, IsWaiting}
+use Rattle.tb_float.specs.Pool.{FloatPool, HasNoMarks, moved_float}
+use Rattle.tb_float.specs.Ranges.{IsSizedFloat, IsExtent}
+use Rattle.tb_float.proofs.ListLemmas.{slice_get-drop, without_place-parts, length-without_place, take-at, whole-at, take-front, drop-front}
+use Rattle.tb_area.specs.declared.filling.Kept.{Kept}
 use Rattle.tb_area.specs.Area.{AreaPlace, at_top, at_bottom, deferred, where_of, next_area_place, next_place, goes_double, double_place}
 use Rattle.tb_area.specs.Filling.{gone_to, still_before, filled, gone_double, still_single, doubled}
-use Rattle.tb_area.specs.Turning.{IsOnWay}
-use Rattle.tb_area.proofs.DeferredLemmas.{drop_next}
+use Rattle.tb_area.specs.Kept.{IsOnWay}
 use Rattle.tb_area.proofs.OrderLemmas.{gone-deferred, gone_double-waiting}
 
 abbrev Walk : Type 0
@@ -27,56 +27,52 @@ Walk = List Float → List Float → FloatLists → FloatLists
 
 -- ---- start and end
 
-pub way-start : (from : Part) → IsWaiting from → (walk : Walk) (s : ClassSet) (l : FloatLists) → AreClassesOf s [] → IsOnWay from walk s (floats_of from l) l (walk [] (floats_of from l) l)
-way-start from w walk s l classes = record {
-  before = [];
-  lists = l;
-  whole = refl;
-  turned = sym (ap (λ fs. with_floats_of from fs l) (append-nil (floats_of from l)) ∙ with-floats-same from w l);
-  classes = classes;
-  ends = refl;
+pub way-start : (from : Part) (walk : Walk) (w : Kept) (l : FloatLists) → w.count ≡ 0 → AreClassesOf w.classes [] → IsOnWay from walk w l (walk [] (floats_of from l) l)
+way-start from walk w l none classes = record {
+  within = omega (arith, none);
+  classes = subst (λ n. AreClassesOf w.classes (take n (floats_of from l))) (sym none) classes;
+  ends = ap (λ n. walk (take n (floats_of from l)) (drop n (floats_of from l)) l) none;
 }
 
--- where none is left, the lists of the pool are those with which the walk ends
-way-end : (from : Part) → IsWaiting from → (walk : Walk) (s : ClassSet) (m end : FloatLists) → ((before : List Float) (l : FloatLists) → walk before [] l ≡ l) → IsOnWay from walk s [] m end → m ≡ end
-way-end from w walk s m end stops way =
-    let all : way.before ≡ floats_of from way.lists = sym (way.whole ∙ append-nil way.before) in
-    way.turned ∙ ap (λ fs. with_floats_of from fs way.lists) all ∙ with-floats-same from w way.lists ∙ sym (stops way.before way.lists) ∙ way.ends
+-- where none is left, the lists are those with which the walk ends
+pub way-over : (from : Part) (walk : Walk) (w : Kept) (l end : FloatLists) → ((before : List Float) (m : FloatLists) → walk before [] m ≡ m) → length (floats_of from l) ≤ w.count → IsOnWay from walk w l end → l ≡ end
+way-over from walk w l end stops over way =
+    let fs = floats_of from l in
+    sym (stops (take w.count fs) l) ∙ ap (λ left. walk (take w.count fs) left l) (sym (drop_of_length-le fs over)) ∙ way.ends
 
--- the pool's list has the floats that are left first
-way-first : (from : Part) → IsWaiting from → (walk : Walk) (s : ClassSet) (left : List Float) (m end : FloatLists) (way : IsOnWay from walk s left m end) → floats_of from m ≡ left ++ way.before
-way-first from w walk s left m end way = ap (floats_of from) way.turned ∙ floats-with from w (left ++ way.before) way.lists
+-- ---- the next float stays
 
--- ---- a walk over the floats of a list, of which the first so many were tried
+pub way-stays : (from : Part) (walk : Walk) (w v : Kept) (l end : FloatLists) (f : Float) → v.count ≡ w.count + 1 → slice_get (floats_of from l) w.count ≡ Some f → ((before : List Float) → AreClassesOf w.classes before → AreClassesOf v.classes (before ++ f ∷ [])) → ((before rest : List Float) → AreClassesOf w.classes before → walk before (f ∷ rest) l ≡ walk (before ++ f ∷ []) rest l) → IsOnWay from walk w l end → IsOnWay from walk v l end
+way-stays from walk w v l end f more there classes stays way =
+    let fs = floats_of from l in
+    let k = w.count in
+    let at : v.count ≡ suc k = omega (arith, more) in
+    record {
+      within = omega (arith, more, slice_get_within fs k f there);
+      classes = subst (AreClassesOf v.classes) (sym (ap (λ n. take n fs) at ∙ take-at fs k f there)) (classes (take k fs) way.classes);
+      ends =
+          ap (λ n. walk (take n fs) (drop n fs) l) at ∙ ap (λ b. walk b (drop (suc k) fs) l) (take-at fs k f there) ∙ sym (stays (take k fs) (drop (suc k) fs) way.classes)
+          ∙ ap (λ left. walk (take k fs) left l) (sym (slice_get-drop k fs f there)) ∙ way.ends;
+    }
 
-pub way-over : (from : Part) → IsWaiting from → (walk : Walk) (s : ClassSet) (fs : List Float) (k : ℕ) (m end : FloatLists) → length fs ≤ k → ((before : List Float) (l : FloatLists) → walk before [] l ≡ l) → IsOnWay from walk s (drop k fs) m end → m ≡ end
-way-over from w walk s fs k m end over stops way =
-    way-end from w walk s m end stops (subst (λ (left : List Float). IsOnWay from walk s left m end) (drop_of_length-le fs over) way)
+-- ---- the next float goes
 
-pub way-some : (from : Part) → IsWaiting from → (walk : Walk) (s : ClassSet) (fs : List Float) (k : ℕ) (m end : FloatLists) → k < length fs → IsOnWay from walk s (drop k fs) m end → 0 < length (floats_of from m)
-way-some from w walk s fs k m end lt way =
-    let first = ap length (way-first from w walk s (drop k fs) m end way) in
-    omega (arith, first, length-append (drop k fs) way.before, length-drop k fs)
+way-goes : (from : Part) (walk : Walk) (w : Kept) (l m end : FloatLists) (f : Float) → slice_get (floats_of from l) w.count ≡ Some f → floats_of from m ≡ take w.count (floats_of from l) ++ drop (suc w.count) (floats_of from l) → walk (take w.count (floats_of from l)) (f ∷ drop (suc w.count) (floats_of from l)) l ≡ walk (take w.count (floats_of from l)) (drop (suc w.count) (floats_of from l)) m → IsOnWay from walk w l end → IsOnWay from walk w m end
+way-goes from walk w l m end f there are goes way =
+    let fs = floats_of from l in
+    let k = w.count in
+    let rest = drop (suc k) fs in
+    let front : take k (floats_of from m) ≡ take k fs = ap (take k) are ∙ take-front k fs rest way.within in
+    let back : drop k (floats_of from m) ≡ rest = ap (drop k) are ∙ drop-front k fs rest way.within in
+    record {
+      within = omega (arith, ap length are, length-append (take k fs) rest, length-take-le k fs way.within);
+      classes = subst (AreClassesOf w.classes) (sym front) way.classes;
+      ends = ap (λ b. walk b (drop k (floats_of from m)) m) front ∙ ap (λ left. walk (take k fs) left m) back ∙ sym goes ∙ ap (λ left. walk (take k fs) left l) (sym (slice_get-drop k fs f there)) ∙ way.ends;
+    }
 
-pub way-next : (from : Part) (walk : Walk) (s : ClassSet) (fs : List Float) (k : ℕ) (m end : FloatLists) → k < length fs → IsOnWay from walk s (drop k fs) m end → (f : Float) × IsOnWay from walk s (f ∷ drop (k + 1) fs) m end
-way-next from walk s fs k m end lt way =
-    let next = drop_next fs k lt in
-    (next.0, subst (λ (left : List Float). IsOnWay from walk s left m end) next.1 way)
-
--- ---- the first float of a list goes behind the others
-
-lists-behind : (from : Part) (v : FloatPool) → (with_first_behind from v).lists ≡ with_floats_of from (rotated (floats_of from v.lists)) v.lists
-lists-behind from v = lists-marked from (rotated (marks_of from v)) (record v { lists = with_floats_of from (rotated (floats_of from v.lists)) v.lists })
-
-pub size-behind : (from : Part) (v : FloatPool) → (with_first_behind from v).size ≡ v.size
-size-behind from v = size-marked from (rotated (marks_of from v)) (record v { lists = with_floats_of from (rotated (floats_of from v.lists)) v.lists })
-
--- the lists of the pool when the first of them stays
-kept-lists : (from : Part) → IsWaiting from → (v w : FloatPool) (f : Float) (before rest : List Float) (l : FloatLists) → v.lists ≡ with_floats_of from (f ∷ rest ++ before) l → w ≡ with_first_behind from v → w.lists ≡ with_floats_of from (rest ++ (before ++ f ∷ [])) l
-kept-lists from waits v w f before rest l was is =
-    let all : floats_of from v.lists ≡ f ∷ rest ++ before = ap (floats_of from) was ∙ floats-with from waits (f ∷ rest ++ before) l in
-    ap (λ (u : FloatPool). u.lists) is ∙ lists-behind from v ∙ ap (λ fs. with_floats_of from (rotated fs) v.lists) all ∙ ap (with_floats_of from ((rest ++ before) ++ f ∷ [])) was
-    ∙ with-floats-again from ((rest ++ before) ++ f ∷ []) (f ∷ rest ++ before) l ∙ ap (λ fs. with_floats_of from fs l) (append_assoc rest before (f ∷ []))
+-- the height of a float of a list is in range
+pub sized-at : (fs : List Float) (k : ℕ) (f : Float) → All IsSizedFloat fs → slice_get fs k ≡ Some f → IsExtent f.height
+sized-at fs k f sized there = subst (λ g. IsSizedFloat g) (get_or_from_slice_get fs k f f there) (sized k f (slice_get_within fs k f there))
 
 -- ---- the next column
 
@@ -90,40 +86,75 @@ is_bottom at_top e = absurd (cc)
 is_bottom at_bottom e = refl
 is_bottom deferred e = absurd (cc)
 
-pub is_deferred : (a : AreaPlace) (w : Where) → w ≡ where_of a → w ≢ Top → w ≢ Bottom → a ≡ deferred
-is_deferred at_top w e t b = absurd (t e)
-is_deferred at_bottom w e t b = absurd (b e)
-is_deferred deferred w e t b = refl
+is_deferred : (a : AreaPlace) → Deferred ≡ where_of a → a ≡ deferred
+is_deferred at_top e = absurd (cc)
+is_deferred at_bottom e = absurd (cc)
+is_deferred deferred e = refl
 
--- the float went to an area, or behind the others
-abbrev pub IsMoved : AreaPlace → Float → FloatPool → FloatPool → Type 0
-IsMoved at_top f v w = w ≡ moved_float parts.Deferred 0 parts.Top f v
-IsMoved at_bottom f v w = w ≡ moved_float parts.Deferred 0 parts.Bottom f v
-IsMoved deferred f v w = w ≡ with_first_behind parts.Deferred v
+-- a float that has no place stays
+pub area-stays : (p : Params) (s : Suppress) (l : FloatLists) (f : Float) (before rest : List Float) → Deferred ≡ next_place p l s before f → filled p s before (f ∷ rest) l ≡ filled p s (before ++ f ∷ []) rest l
+area-stays p s l f before rest e = ap (λ a. filled p s (still_before a f before) rest (gone_to a f before rest l)) (is_deferred (next_area_place p l s before f) e)
 
-turned-area : (a : AreaPlace) (f : Float) (v w : FloatPool) (before rest : List Float) (l : FloatLists) → v.lists ≡ with_floats_of parts.Deferred (f ∷ rest ++ before) l → IsMoved a f v w → w.lists ≡ with_floats_of parts.Deferred (rest ++ still_before a f before) (gone_to a f before rest l)
-turned-area at_top f v w before rest l was is = ap (λ (u : FloatPool). u.lists) is ∙ ap (λ (k : FloatLists). record k { top = k.top ++ f ∷ []; deferred = without_place 0 k.deferred }) was
-turned-area at_bottom f v w before rest l was is = ap (λ (u : FloatPool). u.lists) is ∙ ap (λ (k : FloatLists). record k { bottom = k.bottom ++ f ∷ []; deferred = without_place 0 k.deferred }) was
-turned-area deferred f v w before rest l was is = kept-lists parts.Deferred tt v w f before rest l was is
+pub area-goes : (p : Params) (s : Suppress) (w : Kept) (l m end : FloatLists) (f : Float) (a : AreaPlace) → ((before : List Float) → still_before a f before ≡ before) → slice_get l.deferred w.count ≡ Some f → next_area_place p l s (take w.count l.deferred) f ≡ a → m ≡ gone_to a f (take w.count l.deferred) (drop (suc w.count) l.deferred) l → IsOnWay parts.Deferred (filled p s) w l end → IsOnWay parts.Deferred (filled p s) w m end
+area-goes p s w l m end f a still there decided moved way =
+    let before = take w.count l.deferred in
+    let rest = drop (suc w.count) l.deferred in
+    let gone = gone_to a f before rest l in
+    subst (λ (n : FloatLists). IsOnWay parts.Deferred (filled p s) w n end) (sym moved)
+    (way-goes parts.Deferred (filled p s) w l gone end f there
+    (gone-deferred a f before rest l (whole-at l.deferred w.count f there) ∙ ap (λ b. b ++ rest) (still before))
+    (ap (λ c. filled p s (still_before c f before) rest (gone_to c f before rest l)) decided ∙ ap (λ b. filled p s b rest gone) (still before)) way)
 
-module _ (p : Params) (s : Suppress) (earlier : ClassSet) (f : Float) (rest : List Float) (m end : FloatLists) (way : IsOnWay parts.Deferred (filled p s) earlier (f ∷ rest) m end) where
-  area-first : (g : Float) → slice_get m.deferred 0 ≡ Some g → g ≡ f
-  area-first g there = same_Some g f (sym there ∙ ap (λ fs. slice_get fs 0) (way-first parts.Deferred tt (filled p s) earlier (f ∷ rest) m end way))
+-- where the float at a place would go neither to the top nor to the bottom, and none is left if it stays, none is left
+pub area-over : (fs : List Float) (k : ℕ) (r : Where) (a : Float → AreaPlace) → ((f : Float) → slice_get fs k ≡ Some f → r ≡ where_of (a f)) → r ≢ Top → r ≢ Bottom → (r ≡ Deferred → length fs ≤ k) → length fs ≤ k
+area-over [] k r a goes top bottom stays = omega arith
+area-over (f ∷ fs) zero r a goes top bottom stays = by_place (a f) (goes f refl)
+  where
+    by_place : (b : AreaPlace) → r ≡ where_of b → length (f ∷ fs) ≤ 0
+    by_place at_top e = absurd (top e)
+    by_place at_bottom e = absurd (bottom e)
+    by_place deferred e = stays e
+area-over (f ∷ fs) (suc k) r a goes top bottom stays =
+    omega (arith, area-over fs k r a goes top bottom (λ e. omega (arith, stays e)))
 
-  -- what was decided on the first float in the pool is what the walk decides on it
-  pub area-decided : (g : Float) (b : Bool) (r : Where) → slice_get m.deferred 0 ≡ Some g → ((before : List Float) → AreClassesOf earlier before → b ≡ has_class g.class before) → ((before : List Float) → b ≡ has_class g.class before → r ≡ next_place p m s before g) → r ≡ where_of (next_area_place p way.lists s way.before f)
-  area-decided g b r there had placed =
-      placed way.before (had way.before way.classes) ∙ ap (λ h. next_place p m s way.before h) (area-first g there) ∙ ap (λ k. next_place p k s way.before f) way.turned
+-- the lists where the float at a place went to the top or the bottom
+pub gone-top : (k : ℕ) (f : Float) (v : FloatPool) → (moved_float parts.Deferred k parts.Top f v).lists ≡ gone_to at_top f (take k v.lists.deferred) (drop (suc k) v.lists.deferred) v.lists
+gone-top k f v = ap (λ (fs : List Float). record v.lists { top = v.lists.top ++ f ∷ []; deferred = fs }) (without_place-parts k v.lists.deferred)
 
-  pub area-turned : (a : AreaPlace) (g : Float) (v w : FloatPool) (later : ClassSet) → v.lists ≡ m → slice_get m.deferred 0 ≡ Some g → next_area_place p way.lists s way.before f ≡ a → IsMoved a g v w → AreClassesOf later (still_before a g way.before) → IsOnWay parts.Deferred (filled p s) later rest w.lists end
-  area-turned a g v w later same there is moved classes = record {
-    before = still_before a f way.before;
-    lists = gone_to a f way.before rest way.lists;
-    whole = gone-deferred a f way.before rest way.lists way.whole;
-    turned = turned-area a f v w way.before rest way.lists (same ∙ way.turned) (subst (λ (h : Float). IsMoved a h v w) (area-first g there) moved);
-    classes = subst (λ (h : Float). AreClassesOf later (still_before a h way.before)) (area-first g there) classes;
-    ends = ap (λ b. filled p s (still_before b f way.before) rest (gone_to b f way.before rest way.lists)) (sym is) ∙ way.ends;
-  }
+pub gone-bottom : (k : ℕ) (f : Float) (v : FloatPool) → (moved_float parts.Deferred k parts.Bottom f v).lists ≡ gone_to at_bottom f (take k v.lists.deferred) (drop (suc k) v.lists.deferred) v.lists
+gone-bottom k f v = ap (λ (fs : List Float). record v.lists { bottom = v.lists.bottom ++ f ∷ []; deferred = fs }) (without_place-parts k v.lists.deferred)
+
+-- the float at a place went to an area
+pub record IsMoved (p : Params) (s : Suppress) (k : ℕ) (f : Float) (a : AreaPlace) (v u : FloatPool) : Type 0 where
+  pub there : slice_get v.lists.deferred k ≡ Some f
+  pub decided : next_area_place p v.lists s (take k v.lists.deferred) f ≡ a
+  pub still : (before : List Float) → still_before a f before ≡ before
+  pub lists : u.lists ≡ gone_to a f (take k v.lists.deferred) (drop (suc k) v.lists.deferred) v.lists
+  pub fewer : u.lists.deferred ≡ without_place k v.lists.deferred
+  pub size : u.size ≡ v.size
+  pub unmarked : HasNoMarks v → HasNoMarks u
+
+pub moved-top : (p : Params) (s : Suppress) (k : ℕ) (f : Float) (v u : FloatPool) → slice_get v.lists.deferred k ≡ Some f → Top ≡ next_place p v.lists s (take k v.lists.deferred) f → u ≡ moved_float parts.Deferred k parts.Top f v → (HasNoMarks v → HasNoMarks u) → IsMoved p s k f at_top v u
+moved-top p s k f v u there goes is unmarked = record {
+  there = there;
+  decided = is_top _ goes;
+  still = λ before. refl;
+  lists = ap (λ (t : FloatPool). t.lists) is ∙ gone-top k f v;
+  fewer = ap (λ (t : FloatPool). t.lists.deferred) is;
+  size = ap (λ (t : FloatPool). t.size) is;
+  unmarked = unmarked;
+}
+
+pub moved-bottom : (p : Params) (s : Suppress) (k : ℕ) (f : Float) (v u : FloatPool) → slice_get v.lists.deferred k ≡ Some f → Bottom ≡ next_place p v.lists s (take k v.lists.deferred) f → u ≡ moved_float parts.Deferred k parts.Bottom f v → (HasNoMarks v → HasNoMarks u) → IsMoved p s k f at_bottom v u
+moved-bottom p s k f v u there goes is unmarked = record {
+  there = there;
+  decided = is_bottom _ goes;
+  still = λ before. refl;
+  lists = ap (λ (t : FloatPool). t.lists) is ∙ gone-bottom k f v;
+  fewer = ap (λ (t : FloatPool). t.lists.deferred) is;
+  size = ap (λ (t : FloatPool). t.size) is;
+  unmarked = unmarked;
+}
 
 -- ---- above both columns
 
@@ -131,59 +162,63 @@ pub is_double : (b : Bool) → Double ≡ (if b then Double else Deferred) → b
 is_double true e = refl
 is_double false e = absurd (cc)
 
-pub is_not_double : (b : Bool) (w : Where) → w ≡ (if b then Double else Deferred) → w ≢ Double → b ≡ false
-is_not_double true w e n = absurd (n e)
-is_not_double false w e n = refl
+is_single : (b : Bool) → Deferred ≡ (if b then Double else Deferred) → b ≡ false
+is_single true e = absurd (cc)
+is_single false e = refl
 
--- the float went above both columns, or behind the others
-abbrev pub IsMovedDouble : Part → Bool → Float → FloatPool → FloatPool → Type 0
-IsMovedDouble from true f v w = w ≡ moved_float from 0 parts.Double f v
-IsMovedDouble from false f v w = w ≡ with_first_behind from v
+pub double-stays : (from : Part) (p : Params) (s : Suppress) (l : FloatLists) (f : Float) (before rest : List Float) → Deferred ≡ double_place p l s before f → doubled from p s before (f ∷ rest) l ≡ doubled from p s (before ++ f ∷ []) rest l
+double-stays from p s l f before rest e = ap (λ b. doubled from p s (still_single b f before) rest (gone_double from b f before rest l)) (is_single (goes_double p l s before f) e)
 
-turned-double : (from : Part) → IsWaiting from → (b : Bool) (f : Float) (v w : FloatPool) (before rest : List Float) (l : FloatLists) → v.lists ≡ with_floats_of from (f ∷ rest ++ before) l → IsMovedDouble from b f v w → w.lists ≡ with_floats_of from (rest ++ still_single b f before) (gone_double from b f before rest l)
-turned-double parts.Current waits b f v w before rest l was is = absurd waits
-turned-double parts.Here waits b f v w before rest l was is = absurd waits
-turned-double parts.Top waits b f v w before rest l was is = absurd waits
-turned-double parts.Bottom waits b f v w before rest l was is = absurd waits
-turned-double parts.Double waits b f v w before rest l was is = absurd waits
-turned-double parts.Deferred waits true f v w before rest l was is = ap (λ (u : FloatPool). u.lists) is ∙ ap (λ (k : FloatLists). record k { double = k.double ++ f ∷ []; deferred = without_place 0 k.deferred }) was
-turned-double parts.Second waits true f v w before rest l was is = ap (λ (u : FloatPool). u.lists) is ∙ ap (λ (k : FloatLists). record k { double = k.double ++ f ∷ []; second = without_place 0 k.second }) was
-turned-double parts.Deferred waits false f v w before rest l was is = kept-lists parts.Deferred waits v w f before rest l was is
-turned-double parts.Second waits false f v w before rest l was is = kept-lists parts.Second waits v w f before rest l was is
+pub double-goes : (from : Part) → IsWaiting from → (p : Params) (s : Suppress) (w : Kept) (l m end : FloatLists) (f : Float) → slice_get (floats_of from l) w.count ≡ Some f → goes_double p l s (take w.count (floats_of from l)) f ≡ true → m ≡ gone_double from true f (take w.count (floats_of from l)) (drop (suc w.count) (floats_of from l)) l → IsOnWay from (doubled from p s) w l end → IsOnWay from (doubled from p s) w m end
+double-goes from waits p s w l m end f there decided moved way =
+    let fs = floats_of from l in
+    let before = take w.count fs in
+    let rest = drop (suc w.count) fs in
+    subst (λ (n : FloatLists). IsOnWay from (doubled from p s) w n end) (sym moved)
+    (way-goes from (doubled from p s) w l (gone_double from true f before rest l) end f there
+    (gone_double-waiting from waits true f before rest l (whole-at fs w.count f there))
+    (ap (λ b. doubled from p s (still_single b f before) rest (gone_double from b f before rest l)) decided) way)
 
--- the decision does not look at the lists in which floats wait
-double-apart : (from : Part) → IsWaiting from → (p : Params) (s : Suppress) (before fs : List Float) (f : Float) (l : FloatLists) → double_place p (with_floats_of from fs l) s before f ≡ double_place p l s before f
-double-apart parts.Current waits p s before fs f l = absurd waits
-double-apart parts.Here waits p s before fs f l = absurd waits
-double-apart parts.Top waits p s before fs f l = absurd waits
-double-apart parts.Bottom waits p s before fs f l = absurd waits
-double-apart parts.Double waits p s before fs f l = absurd waits
-double-apart parts.Deferred waits p s before fs f l = refl
-double-apart parts.Second waits p s before fs f l = refl
+-- where the float at a place would not go above both columns, and none is left if it stays, none is left
+pub double-over : (fs : List Float) (k : ℕ) (r : Where) (a : Float → Bool) → ((f : Float) → slice_get fs k ≡ Some f → r ≡ (if a f then Double else Deferred)) → r ≢ Double → (r ≡ Deferred → length fs ≤ k) → length fs ≤ k
+double-over [] k r a goes above stays = omega arith
+double-over (f ∷ fs) zero r a goes above stays = by_place (a f) (goes f refl)
+  where
+    by_place : (b : Bool) → r ≡ (if b then Double else Deferred) → length (f ∷ fs) ≤ 0
+    by_place true e = absurd (above e)
+    by_place false e = stays e
+double-over (f ∷ fs) (suc k) r a goes above stays =
+    omega (arith, double-over fs k r a goes above (λ e. omega (arith, stays e)))
 
-pub size-double : (from : Part) → IsWaiting from → (f : Float) (v : FloatPool) → (moved_float from 0 parts.Double f v).size ≡ v.size
-size-double parts.Current waits f v = absurd waits
-size-double parts.Here waits f v = absurd waits
-size-double parts.Top waits f v = absurd waits
-size-double parts.Bottom waits f v = absurd waits
-size-double parts.Double waits f v = absurd waits
-size-double parts.Deferred waits f v = refl
-size-double parts.Second waits f v = refl
+pub gone-double : (from : Part) → IsWaiting from → (k : ℕ) (f : Float) (v : FloatPool) → (moved_float from k parts.Double f v).lists ≡ gone_double from true f (take k (floats_of from v.lists)) (drop (suc k) (floats_of from v.lists)) v.lists
+gone-double parts.Current waits k f v = absurd waits
+gone-double parts.Here waits k f v = absurd waits
+gone-double parts.Top waits k f v = absurd waits
+gone-double parts.Bottom waits k f v = absurd waits
+gone-double parts.Double waits k f v = absurd waits
+gone-double parts.Deferred waits k f v = ap (λ (fs : List Float). record v.lists { double = v.lists.double ++ f ∷ []; deferred = fs }) (without_place-parts k v.lists.deferred)
+gone-double parts.Second waits k f v = ap (λ (fs : List Float). record v.lists { double = v.lists.double ++ f ∷ []; second = fs }) (without_place-parts k v.lists.second)
 
-module _ (from : Part) (waits : IsWaiting from) (p : Params) (s : Suppress) (earlier : ClassSet) (f : Float) (rest : List Float) (m end : FloatLists) (way : IsOnWay from (doubled from p s) earlier (f ∷ rest) m end) where
-  double-first : (g : Float) → slice_get (floats_of from m) 0 ≡ Some g → g ≡ f
-  double-first g there = same_Some g f (sym there ∙ ap (λ fs. slice_get fs 0) (way-first from waits (doubled from p s) earlier (f ∷ rest) m end way))
+-- the list has one float less then
+pub double-parts : (from : Part) → IsWaiting from → (k : ℕ) (f : Float) (v : FloatPool) → floats_of from (moved_float from k parts.Double f v).lists ≡ without_place k (floats_of from v.lists)
+double-parts parts.Current waits k f v = absurd waits
+double-parts parts.Here waits k f v = absurd waits
+double-parts parts.Top waits k f v = absurd waits
+double-parts parts.Bottom waits k f v = absurd waits
+double-parts parts.Double waits k f v = absurd waits
+double-parts parts.Deferred waits k f v = refl
+double-parts parts.Second waits k f v = refl
 
-  pub double-decided : (g : Float) (b : Bool) (r : Where) → slice_get (floats_of from m) 0 ≡ Some g → ((before : List Float) → AreClassesOf earlier before → b ≡ has_class g.class before) → ((before : List Float) → b ≡ has_class g.class before → r ≡ double_place p m s before g) → r ≡ double_place p way.lists s way.before f
-  double-decided g b r there had placed =
-      placed way.before (had way.before way.classes) ∙ ap (λ h. double_place p m s way.before h) (double-first g there) ∙ ap (λ k. double_place p k s way.before f) way.turned ∙ double-apart from waits p s way.before (f ∷ rest ++ way.before) f way.lists
+pub size-double : (from : Part) → IsWaiting from → (k : ℕ) (f : Float) (v : FloatPool) → (moved_float from k parts.Double f v).size ≡ v.size
+size-double parts.Current waits k f v = absurd waits
+size-double parts.Here waits k f v = absurd waits
+size-double parts.Top waits k f v = absurd waits
+size-double parts.Bottom waits k f v = absurd waits
+size-double parts.Double waits k f v = absurd waits
+size-double parts.Deferred waits k f v = refl
+size-double parts.Second waits k f v = refl
 
-  pub double-turned : (b : Bool) (g : Float) (v w : FloatPool) (later : ClassSet) → v.lists ≡ m → slice_get (floats_of from m) 0 ≡ Some g → goes_double p way.lists s way.before f ≡ b → IsMovedDouble from b g v w → AreClassesOf later (still_single b g way.before) → IsOnWay from (doubled from p s) later rest w.lists end
-  double-turned b g v w later same there is moved classes = record {
-    before = still_single b f way.before;
-    lists = gone_double from b f way.before rest way.lists;
-    whole = gone_double-waiting from waits b f way.before rest way.lists way.whole;
-    turned = turned-double from waits b f v w way.before rest way.lists (same ∙ way.turned) (subst (λ (h : Float). IsMovedDouble from b h v w) (double-first g there) moved);
-    classes = subst (λ (h : Float). AreClassesOf later (still_single b h way.before)) (double-first g there) classes;
-    ends = ap (λ a. doubled from p s (still_single a f way.before) rest (gone_double from a f way.before rest way.lists)) (sym is) ∙ way.ends;
-  }
+-- ---- one float fewer is left
+
+pub fewer-left : (fs gs : List Float) (k turn n : ℕ) → gs ≡ without_place k fs → k < length fs → turn + length fs ≤ n → (turn + 1) + length gs ≤ n
+fewer-left fs gs k turn n is lt le = omega (arith, ap length is, length-without_place k fs lt)

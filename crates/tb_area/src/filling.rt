@@ -1,20 +1,53 @@
-//! The floats that wait go to the next column, or above both columns of the next page, in one walk over their list.
-ghost use Rattle.std.specs.Prelude.{ℕ, ◌≡◌, ◌<◌, [], ◌∷◌, ◌++◌, List, length};
+//! The floats that wait go to the next column, or above both columns of the next page: one walk over their list, which
+//! reads until a float has a place, moves it, and goes on behind those that stay.
+ghost use Rattle.std.specs.Prelude.{ℕ, ◌≡◌, ◌≢◌, ◌<◌, ◌≤◌, ◌+◌, [], ◌∷◌, ◌++◌, List, length, take, slice_get, Some};
 ghost use Rattle.tb_node.specs.declared.Float.{Float as PlainFloat};
 ghost use Rattle.tb_float.specs.declared.Suppress.{Suppress};
 ghost use Rattle.tb_float.specs.Classes.{AreClassesOf};
 ghost use Rattle.tb_float.specs.Lists.{FloatLists, IsWaiting, floats_of};
-ghost use Rattle.tb_float.specs.Pool.{HasNoMarks, with_first_behind};
-ghost use Rattle.tb_float.specs.Ranges.{AreFloatParams};
+ghost use Rattle.tb_float.specs.Pool.{HasNoMarks};
+ghost use Rattle.tb_float.specs.Ranges.{AreFloatParams, IsExtent};
+ghost use Rattle.tb_area.specs.Area.{next_place, double_place};
 ghost use Rattle.tb_area.specs.Filling.{filled, doubled};
 ghost use Rattle.tb_area.specs.Laws.{column_order, double_order};
-ghost use Rattle.tb_area.specs.Turning.{IsOnWay};
+ghost use Rattle.tb_area.specs.Kept.{IsOnWay};
 
 use crate::areas::{double_place, next_place};
-use crate::tries::waiting_float;
+use crate::tries::float_in;
 use tb_float::{ClassSet, Part, Pool, Suppress};
 use tb_node::{Float, Where};
 use tb_param::Params;
+
+// The floats that were tried and stay: they stand first in their list.
+#[derive(Drop)]
+struct Kept {
+    // How many they are.
+    count: usize,
+    classes: ClassSet,
+}
+
+impl Kept {
+    // No float was tried yet.
+    fn none() -> Kept
+        ensures count { result.count ≡ 0 }
+        ensures classes { AreClassesOf result.classes [] }
+    {
+        Kept {
+            count: 0,
+            classes: ClassSet::none(),
+        }
+    }
+
+    // The next float stays too.
+    fn keep(&mut self, f: &Float)
+        requires { self.old.count < 4096 }
+        ensures count { self.new.count ≡ self.old.count + 1 }
+        ensures classes { (before : List PlainFloat) → AreClassesOf self.old.classes before → AreClassesOf self.new.classes (before ++ f.now ∷ []) }
+    {
+        self.classes.add(f.class);
+        self.count += 1;
+    }
+}
 
 /// The deferred floats that have a place at the top or the bottom of the next column go there, one after another (after
 /// LaTeX's `\@startcolumn`, ltoutput.dtx); the others stay in order. None is lost, and floats of one class ship in the
@@ -26,25 +59,48 @@ pub fn fill_column(pool: &mut Pool, p: &Params, s: &Suppress)
     ensures size { pool.new.size ≡ pool.old.size }
     ensures unmarked { HasNoMarks pool.old → HasNoMarks pool.new }
 {
-    let mut earlier = ClassSet::none();
+    let mut kept = Kept::none();
     for _turn in 0..pool.len(Part::Deferred) {
-        try_next(pool, p, s, &mut earlier);
+        match next_moved(pool, p, s, &mut kept) {
+            Where::Top => pool.move_to(Part::Deferred, kept.count, Part::Top),
+            Where::Bottom => pool.move_to(Part::Deferred, kept.count, Part::Bottom),
+            _ => return,
+        }
     }
 }
 
-// The first deferred float is tried for the next column. The set has the classes of those that stay.
-fn try_next(pool: &mut Pool, p: &Params, s: &Suppress, earlier: &mut ClassSet)
-    requires params { AreFloatParams p.now }
-    requires some { 0 < length pool.old.lists.deferred }
-    ensures goes_on { (f : PlainFloat) (rest : List PlainFloat) (end : FloatLists) → IsOnWay Part.Deferred (filled p.now s.now) earlier.old (f ∷ rest) pool.old.lists end → IsOnWay Part.Deferred (filled p.now s.now) earlier.new rest pool.new.lists end }
-    ensures size { pool.new.size ≡ pool.old.size }
-    ensures unmarked { HasNoMarks pool.old → HasNoMarks pool.new }
+// Where the next deferred float goes that has a place in the next column: it stands behind those that stay. None of
+// those that are left has a place exactly if it returns deferred.
+fn next_moved(pool: &Pool, p: &Params, s: &Suppress, kept: &mut Kept) -> Where
+    requires { AreFloatParams p.now }
+    ensures way { (end : FloatLists) → IsOnWay Part.Deferred (filled p.now s.now) kept.old pool.now.lists end → IsOnWay Part.Deferred (filled p.now s.now) kept.new pool.now.lists end }
+    ensures within { result ≢ Where.Deferred → kept.new.count < length pool.now.lists.deferred }
+    ensures place { (end : FloatLists) (f : PlainFloat) → IsOnWay Part.Deferred (filled p.now s.now) kept.old pool.now.lists end → slice_get pool.now.lists.deferred kept.new.count ≡ Some f → result ≡ next_place p.now pool.now.lists s.now (take kept.new.count pool.now.lists.deferred) f }
+    ensures over { result ≡ Where.Deferred → length pool.now.lists.deferred ≤ kept.new.count }
 {
-    let f = waiting_float(pool, Part::Deferred, 0);
-    match next_place(pool, p, s, earlier.has(f.class), &f) {
-        Where::Top => pool.move_to(Part::Deferred, 0, Part::Top),
-        Where::Bottom => pool.move_to(Part::Deferred, 0, Part::Bottom),
-        _ => keep_first(pool, Part::Deferred, &f, earlier),
+    if kept.count >= pool.len(Part::Deferred) {
+        return Where::Deferred;
+    }
+    for entry in pool.entries_from(Part::Deferred, kept.count) {
+        let f = float_in(entry);
+        match place_behind(pool, p, s, kept, f) {
+            Where::Deferred => kept.keep(f),
+            place => return place,
+        }
+    }
+    Where::Deferred
+}
+
+// Where a deferred float goes in the next column behind those that stay; a float of their classes stays.
+fn place_behind(pool: &Pool, p: &Params, s: &Suppress, kept: &Kept, f: &Float) -> Where
+    requires params { AreFloatParams p.now }
+    requires extent { IsExtent f.now.height }
+    ensures { (before : List PlainFloat) → AreClassesOf kept.now.classes before → result ≡ next_place p.now pool.now.lists s.now before f.now }
+{
+    if kept.classes.has(f.class) {
+        Where::Deferred
+    } else {
+        next_place(pool, p, s, false, f)
     }
 }
 
@@ -59,37 +115,46 @@ pub fn fill_double(pool: &mut Pool, p: &Params, from: Part)
     ensures size { pool.new.size ≡ pool.old.size }
     ensures unmarked { HasNoMarks pool.old → HasNoMarks pool.new }
 {
-    let mut earlier = ClassSet::none();
+    let mut kept = Kept::none();
     for _turn in 0..pool.len(from) {
-        try_double(pool, p, from, &mut earlier);
+        match next_double(pool, p, from, &mut kept) {
+            Where::Double => pool.move_to(from, kept.count, Part::Double),
+            _ => return,
+        }
     }
 }
 
-// The first float of the list is tried for the space above both columns. The set has the classes of those that stay.
-fn try_double(pool: &mut Pool, p: &Params, from: Part, earlier: &mut ClassSet)
+// Where the next float of the list goes that has a place above both columns: it stands behind those that stay. None of
+// those that are left has a place exactly if it returns deferred.
+fn next_double(pool: &Pool, p: &Params, from: Part, kept: &mut Kept) -> Where
     requires params { AreFloatParams p.now }
     requires waiting { IsWaiting from }
-    requires some { 0 < length (floats_of from pool.old.lists) }
-    ensures goes_on { (s : Suppress) (f : PlainFloat) (rest : List PlainFloat) (end : FloatLists) → IsOnWay from (doubled from p.now s) earlier.old (f ∷ rest) pool.old.lists end → IsOnWay from (doubled from p.now s) earlier.new rest pool.new.lists end }
-    ensures size { pool.new.size ≡ pool.old.size }
-    ensures unmarked { HasNoMarks pool.old → HasNoMarks pool.new }
+    ensures way { (s : Suppress) (end : FloatLists) → IsOnWay from (doubled from p.now s) kept.old pool.now.lists end → IsOnWay from (doubled from p.now s) kept.new pool.now.lists end }
+    ensures within { result ≢ Where.Deferred → kept.new.count < length (floats_of from pool.now.lists) }
+    ensures place { (s : Suppress) (end : FloatLists) (f : PlainFloat) → IsOnWay from (doubled from p.now s) kept.old pool.now.lists end → slice_get (floats_of from pool.now.lists) kept.new.count ≡ Some f → result ≡ double_place p.now pool.now.lists s (take kept.new.count (floats_of from pool.now.lists)) f }
+    ensures over { result ≡ Where.Deferred → length (floats_of from pool.now.lists) ≤ kept.new.count }
 {
-    let f = waiting_float(pool, from, 0);
-    match double_place(pool, p, earlier.has(f.class), &f) {
-        Where::Double => pool.move_to(from, 0, Part::Double),
-        _ => keep_first(pool, from, &f, earlier),
+    if kept.count >= pool.len(from) {
+        return Where::Deferred;
     }
+    for entry in pool.entries_from(from, kept.count) {
+        let f = float_in(entry);
+        match double_behind(pool, p, kept, f) {
+            Where::Deferred => kept.keep(f),
+            place => return place,
+        }
+    }
+    Where::Deferred
 }
 
-// The first float of the list stays: it goes behind the others, so that the next one stands first, and its class is in
-// the set.
-fn keep_first(pool: &mut Pool, from: Part, f: &Float, earlier: &mut ClassSet)
-    requires waiting { IsWaiting from }
-    requires some { 0 < length (floats_of from pool.old.lists) }
-    ensures behind { pool.new ≡ with_first_behind from pool.old }
-    ensures unmarked { HasNoMarks pool.old → HasNoMarks pool.new }
-    ensures classes { (before : List PlainFloat) → AreClassesOf earlier.old before → AreClassesOf earlier.new (before ++ f.now ∷ []) }
+// Where a float of the list goes behind those that stay; a float of their classes stays.
+fn double_behind(pool: &Pool, p: &Params, kept: &Kept, f: &Float) -> Where
+    requires { AreFloatParams p.now }
+    ensures { (s : Suppress) (before : List PlainFloat) → AreClassesOf kept.now.classes before → result ≡ double_place p.now pool.now.lists s before f.now }
 {
-    earlier.add(f.class);
-    pool.rotate(from);
+    if kept.classes.has(f.class) {
+        Where::Deferred
+    } else {
+        double_place(pool, p, false, f)
+    }
 }

@@ -11,4 +11,4 @@ pub mod ParamLemmas
 pub mod RetireLemmas
 pub mod WaitingLemmas
 pub mod ClassLemmas
-pub mod RotateLemmas
+pub mod EntryLemmas

@@ -80,15 +80,6 @@ with_float_at p k f v = with_contents p (slice_set v.lists.current k (entries.Fl
 abbrev pub with_mark : Part → ℕ → FloatPool → FloatPool
 with_mark from k v = with_marks_of from (slice_set (marks_of from v) k true) v
 
--- the first of these goes behind the others
-abbrev pub rotated : {X : Type 0} → List X → List X
-rotated [] = []
-rotated (x ∷ xs) = xs ++ x ∷ []
-
--- the first float of a list goes behind the others, with its mark
-abbrev pub with_first_behind : Part → FloatPool → FloatPool
-with_first_behind from v = with_marks_of from (rotated (marks_of from v)) (record v { lists = with_floats_of from (rotated (floats_of from v.lists)) v.lists })
-
 -- the floats whose marks are set, and the others; a float without a mark counts as not marked
 abbrev pub marked_among : List Bool → List Float → List Float
 marked_among [] fs = []

@@ -5,7 +5,7 @@ ghost use Rattle.tb_float.specs.Classes.{AreClassesOf};
 ghost use Rattle.tb_float.specs.Lists.{has_class};
 
 /// A set of classes of floats, so that a walk over a list knows at each float whether one of its class stands before it.
-#[derive(Drop)]
+#[derive(Clone, Copy)]
 pub struct ClassSet {
     flags: [bool; 256],
 }

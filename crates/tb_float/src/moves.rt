@@ -2,10 +2,10 @@
 ghost use Rattle.std.specs.Prelude.{◌≡◌, ◌≢◌, ◌<◌, ◌↔◌, [], ◌∷◌, slice_get, Some, IsNone, OnSome, IfSome, IfNone, length, drop};
 ghost use Rattle.tb_node.specs.declared.Float.{Float};
 ghost use Rattle.tb_float.specs.Lists.{entries_of, floats_of, entry_count, HasFloatAt, IsWaiting, float_entries};
-ghost use Rattle.tb_float.specs.Pool.{moved_float, joined_before, with_places, with_float_at, with_mark, with_first_behind, without_entry, without_marks, HasNoMarks, marks_of, marked_floats, unmarked_floats, first_marked};
+ghost use Rattle.tb_float.specs.Pool.{moved_float, joined_before, with_places, with_float_at, with_mark, without_entry, without_marks, HasNoMarks, marks_of, marked_floats, unmarked_floats, first_marked};
 
 use crate::slots::{
-    entry_height, first_marked, float_in, move_slot, rotate_slots, slot_at, take_slot, unmark_all,
+    entry_height, first_marked, float_in, move_slot, slot_at, take_slot, unmark_all,
 };
 use crate::{Entry, Part, Pool, Slot};
 use tb_node::{Float, Places};
@@ -116,18 +116,6 @@ impl Pool {
                 marked: true,
             },
         );
-    }
-
-    /// The first float of a list in which floats wait goes behind the others, with its mark. A walk over the list takes
-    /// each float in turn so, and after as many turns as there are floats they stand as before.
-    pub fn rotate(&mut self, from: Part)
-        requires waiting { IsWaiting from }
-        requires some { 0 < length (floats_of from self.old.lists) }
-        ensures rotated { self.new ≡ with_first_behind from self.old }
-        ensures unmarked { HasNoMarks self.old → HasNoMarks self.new }
-    {
-        let list = self.shelves.lists.of(from);
-        rotate_slots(&mut self.store, list);
     }
 
     /// The first marked float of a list in which floats wait leaves the pool. None exactly where none is marked; no float of the

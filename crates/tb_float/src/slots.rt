@@ -4,7 +4,7 @@ ghost use Rattle.std.specs.FinMap.{insert};
 ghost use Rattle.tb_pool.specs.Lists.{IsLive, list_at, with_list};
 ghost use Rattle.tb_float.specs.SlotView.{SlotView};
 ghost use Rattle.tb_float.specs.Lists.{without_place, has_class, float_before};
-ghost use Rattle.tb_float.specs.Pool.{first_marked, rotated};
+ghost use Rattle.tb_float.specs.Pool.{first_marked};
 ghost use Rattle.tb_float.specs.Rooms.{total_height};
 ghost use Rattle.tb_float.specs.Stored.{unmarked_slot, floats_in, marks_in, is_float};
 
@@ -95,20 +95,6 @@ pub(crate) fn take_slot(store: &mut Lists<Slot>, from: ListId, k: usize, one: Li
     };
     store.append(from, one);
     slot
-}
-
-/// The first slot of a list goes behind the others.
-#[tactic(auto, using(tb_pool::proofs::MapLemmas::list_steps))]
-pub(crate) fn rotate_slots(store: &mut Lists<Slot>, l: ListId)
-    requires live { IsLive store.old l }
-    requires some { 0 < length (list_at store.old l) }
-    ensures rotated { store.new.lists ≡ with_list store.old l (rotated (list_at store.old l)) }
-    ensures spare { store.new.spare ≡ store.old.spare }
-{
-    let Some(slot) = store.pop_front(l) else {
-        unreachable!()
-    };
-    store.push_back(l, slot);
 }
 
 /// Takes the marks from all entries of a list.

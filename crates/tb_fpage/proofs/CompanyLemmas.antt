@@ -1,14 +1,17 @@
 -- The company of the first head whose company is made, place by place.
-use Rattle.std.proofs.Common.{◌≡◌, ℕ, zero, suc, ◌+◌, ◌<◌, Bool, true, false, List, [], ◌∷◌, ◌++◌, length, take, drop, Option, Some, None, slice_get, refl, sym, ap, subst, ◌∙◌, add-one, arith}
-use Rattle.std.specs.Prelude.{ℤ, IfSome, IfNone, is_some, if◌then◌else◌}
-use Rattle.std.proofs.lemmas.List.{length-append}
+use Rattle.std.proofs.Common.{◌≡◌, ℕ, zero, suc, ◌+◌, ◌<◌, ◌≤◌, Bool, true, false, List, [], ◌∷◌, ◌++◌, length, take, drop, Some, None, slice_get, refl, sym, ap, subst, ◌∙◌, add-one, arith, FitsSigned, w64}
+use Rattle.std.specs.Prelude.{ℤ, if◌then◌else◌}
+use Rattle.std.proofs.lemmas.List.{length-append, length-take-le}
 use Rattle.std.proofs.lemmas.Option.{same_Some}
 use Rattle.tb_node.specs.declared.Float.{Float}
+use Rattle.tb_float.proofs.ListLemmas.{take-at}
 use Rattle.tb_float.specs.declared.classes.ClassSet.{ClassSet}
 use Rattle.tb_float.specs.Classes.{AreClassesOf}
 use Rattle.tb_fpage.specs.declared.Wanted.{Wanted}
 use Rattle.tb_fpage.specs.Company.{Choice, wanted_of, choices_from, company, company_from, joins}
-use Rattle.tb_fpage.specs.Walked.{company_of_place, is_made_at, AreTried}
+use Rattle.tb_fpage.specs.Walked.{company_of_place, is_made_at, after_head, head_choices, Stands, IsOnWay, AreTried, IsAfterHead}
+use Rattle.tb_fpage.specs.declared.walk.Walk.{Walk}
+use Rattle.tb_fpage.proofs.WalkLemmas.{head-stands}
 
 -- ---- places of lists
 
@@ -27,11 +30,6 @@ module _ {X : Type 0} where
   drop-at [] k x got = cc
   drop-at (y ∷ xs) zero x got = ap (λ z. z ∷ xs) (same_Some y x got)
   drop-at (y ∷ xs) (suc k) x got = drop-at xs k x got
-
-  pub take-at : (xs : List X) (k : ℕ) (x : X) → slice_get xs k ≡ Some x → take (suc k) xs ≡ take k xs ++ x ∷ []
-  take-at [] k x got = cc
-  take-at (y ∷ xs) zero x got = ap (λ z. z ∷ []) (same_Some y x got)
-  take-at (y ∷ xs) (suc k) x got = ap (λ zs. y ∷ zs) (take-at xs k x got)
 
 -- ---- the company
 
@@ -97,13 +95,28 @@ tried-next z earlier next place all rest f t none classes =
 pub tried-end : (z : Wanted) (earlier : ClassSet) (place : ℕ) (all : List Float) → AreTried z earlier place all [] → company z all ≡ None
 tried-end z earlier place all t = sym t.later
 
-module _ {X : Type 0} where
-  -- what is known of something, if there is something
-  pub some-also : (P Q : X → Type 0) (o : Option X) → ((x : X) → P x → Q x) → IfSome o P → IfSome o Q
-  some-also P Q None also h = tt
-  some-also P Q (Some x) also h = also x h
+-- ---- a walk starts at a head
 
-  -- what is known if there is nothing
-  pub none-then : (o : Option X) (P : Type 0) → is_some o ≡ false → IfNone o P → P
-  none-then None P none h = h
-  none-then (Some x) P none h = cc
+pub on-way-start : (z : Wanted) (w : Walk) (earlier : ClassSet) (place : ℕ) (all : List Float) (f : Float) (height : ℤ) → w ≡ after_head place height earlier → slice_get all place ≡ Some f → height ≡ f.height → FitsSigned w64 f.height → AreClassesOf earlier (take place all) → IsOnWay w z all (company_of_place z place all f)
+on-way-start z w earlier place all f height new there is fits classes =
+    let within : place ≤ length all = omega (arith, get-within all place f there) in
+    let one : place + 1 ≡ suc place = omega arith in
+    record {
+      before = head_choices (take place all) f;
+      stands = subst (λ (u : Walk). Stands u z.sep (head_choices (take place all) f)) (sym new) (head-stands earlier z.sep (take place all) f place height (sym (length-take-le place all within)) is fits classes);
+      ends = ap (λ (u : Walk). choices_from z (head_choices (take place all) f) (drop u.seen all)) new ∙ ap (λ n. choices_from z (head_choices (take place all) f) (drop n all)) one;
+    }
+
+-- a walk that has passed the head whose company is made
+pub tried-head : (z : Wanted) (earlier : ClassSet) (place : ℕ) (all rest : List Float) (f : Float) (height : ℤ) → AreTried z earlier place all (f ∷ rest) → is_made_at z place all f ≡ true → height ≡ f.height → FitsSigned w64 f.height → IsAfterHead (after_head place height earlier) z all
+tried-head z earlier place all rest f height t made is fits =
+    let there = tried-there z earlier place all rest f t in
+    let many : length (take place all) ≡ place = length-take-le place all t.within in
+    record {
+      place = place;
+      head = f;
+      there = there;
+      seen = refl;
+      stands = head-stands earlier z.sep (take place all) f place height (sym many) is fits t.classes;
+      made = tried-found z earlier place all rest f t made;
+    }

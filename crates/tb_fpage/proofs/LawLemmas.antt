@@ -12,8 +12,7 @@ use Rattle.tb_float.specs.Pool.{marked_among, unmarked_among}
 use Rattle.tb_float.specs.Rooms.{floats_room, later_room}
 use Rattle.tb_fpage.specs.declared.Wanted.{Wanted}
 use Rattle.tb_fpage.specs.Company.{Choice, suits, passed_over, all_chosen, separated, company_height, joins, choices_from, company_of_head, is_head, is_made, company_from, company, chosen_floats, left_floats, of_class}
-use Rattle.tb_fpage.specs.Walked.{has_chosen}
-use Rattle.tb_fpage.proofs.WalkLemmas.{left-append, company-passed, company-first}
+use Rattle.tb_fpage.proofs.WalkLemmas.{left-append, company-passed, company-first, passed-left, passed-none}
 
 abbrev floats_of : List Choice → List Float
 floats_of cs = map (λ c. c.float) cs
@@ -123,14 +122,6 @@ passed-floats (f ∷ fs) = ap (λ gs. f ∷ gs) (passed-floats fs)
 passed-chosen : (fs : List Float) → chosen_floats (passed_over fs) ≡ []
 passed-chosen [] = refl
 passed-chosen (f ∷ fs) = passed-chosen fs
-
-passed-left : (fs : List Float) → left_floats (passed_over fs) ≡ fs
-passed-left [] = refl
-passed-left (f ∷ fs) = ap (λ gs. f ∷ gs) (passed-left fs)
-
-passed-none : (fs : List Float) → has_chosen (passed_over fs) ≡ false
-passed-none [] = refl
-passed-none (f ∷ fs) = passed-none fs
 
 in-order-passed : (fs : List Float) → InOrder (passed_over fs)
 in-order-passed fs = λ k.

@@ -1,93 +1,121 @@
--- The floats of a list are marked in one walk: each goes behind the others, marked if it is chosen.
-use Rattle.std.proofs.Common.{◌≡◌, ℕ, zero, suc, ◌<◌, ◌≤◌, Bool, true, false, List, [], ◌∷◌, ◌++◌, length, take, drop, Some, slice_get, refl, sym, ap, ◌∙◌, append_assoc, arith}
+-- The floats of a company are marked along a walk: its head, and then those that join.
+use Rattle.std.proofs.Common.{◌≡◌, ℕ, zero, suc, ◌+◌, ◌-◌, ◌≤◌, Bool, true, false, List, [], ◌∷◌, ◌++◌, length, map, take, drop, Some, slice_get, refl, sym, ap, subst, ◌∙◌, arith}
 use Rattle.std.specs.Prelude.{slice_set, if◌then◌else◌}
 use Rattle.std.proofs.Math.ListN.{drop_of_length-le}
-use Rattle.std.proofs.lemmas.List.{append-nil}
+use Rattle.std.proofs.lemmas.List.{append-nil, append_assoc, map-append, length-map}
 use Rattle.tb_node.specs.declared.Float.{Float}
 use Rattle.tb_float.specs.declared.Part.{Part}
 use Rattle.tb_float.specs.declared.Part.TheVariants as parts
-use Rattle.tb_float.specs.Lists.{floats_of, with_floats_of, IsWaiting}
-use Rattle.tb_float.specs.Pool.{FloatPool, marked_among, marks_of, with_marks_of, with_mark, rotated, with_first_behind}
-use Rattle.tb_float.proofs.WaitingLemmas.{with-floats-same, with-marks-same}
-use Rattle.tb_fpage.proofs.CompanyLemmas.{drop-at, take-at}
+use Rattle.tb_float.specs.Lists.{floats_of, IsWaiting}
+use Rattle.tb_float.specs.Pool.{FloatPool, marked_among, marks_of, with_marks_of, with_mark}
+use Rattle.tb_float.proofs.WaitingLemmas.{marks-with, lists-marked}
+use Rattle.tb_fpage.specs.declared.Wanted.{Wanted}
+use Rattle.tb_fpage.specs.declared.walk.Walk.{Walk}
+use Rattle.tb_fpage.specs.Company.{Choice, choices_from, company, joins}
+use Rattle.tb_fpage.specs.Walked.{Stands, IsAfterHead, IsMarking, head_choices, company_of_place}
+use Rattle.tb_fpage.proofs.WalkLemmas.{left-next, on-way-ends, on-way-end}
 
--- the pool where these floats, with these marks, stand in one of its lists
-abbrev pub with_turned : Part → List Bool → List Float → FloatPool → FloatPool
-with_turned from ms fs v = with_marks_of from ms (record v { lists = with_floats_of from fs v.lists })
+-- ---- marks
 
-turned-behind : (from : Part) → IsWaiting from → (ms : List Bool) (fs : List Float) (v : FloatPool) → with_first_behind from (with_turned from ms fs v) ≡ with_turned from (rotated ms) (rotated fs) v
-turned-behind parts.Current w ms fs v = absurd w
-turned-behind parts.Here w ms fs v = absurd w
-turned-behind parts.Top w ms fs v = absurd w
-turned-behind parts.Bottom w ms fs v = absurd w
-turned-behind parts.Double w ms fs v = absurd w
-turned-behind parts.Deferred w ms fs v = refl
-turned-behind parts.Second w ms fs v = refl
-
-turned-mark : (from : Part) → IsWaiting from → (ms : List Bool) (fs : List Float) (v : FloatPool) → with_mark from 0 (with_turned from ms fs v) ≡ with_turned from (slice_set ms 0 true) fs v
-turned-mark parts.Current w ms fs v = absurd w
-turned-mark parts.Here w ms fs v = absurd w
-turned-mark parts.Top w ms fs v = absurd w
-turned-mark parts.Bottom w ms fs v = absurd w
-turned-mark parts.Double w ms fs v = absurd w
-turned-mark parts.Deferred w ms fs v = refl
-turned-mark parts.Second w ms fs v = refl
-
-pub turned-floats : (from : Part) → IsWaiting from → (ms : List Bool) (fs : List Float) (v : FloatPool) → floats_of from (with_turned from ms fs v).lists ≡ fs
-turned-floats parts.Current w ms fs v = absurd w
-turned-floats parts.Here w ms fs v = absurd w
-turned-floats parts.Top w ms fs v = absurd w
-turned-floats parts.Bottom w ms fs v = absurd w
-turned-floats parts.Double w ms fs v = absurd w
-turned-floats parts.Deferred w ms fs v = refl
-turned-floats parts.Second w ms fs v = refl
-
-turned-same : (from : Part) → IsWaiting from → (ms : List Bool) (v : FloatPool) → with_turned from ms (floats_of from v.lists) v ≡ with_marks_of from ms v
-turned-same from w ms v = ap (λ l. with_marks_of from ms (record v { lists = l })) (with-floats-same from w v.lists)
-
-first-passed : (from : Part) → IsWaiting from → (b : Bool) (ms : List Bool) (f : Float) (fs : List Float) (v : FloatPool) → with_first_behind from (if b then with_mark from 0 (with_turned from (false ∷ ms) (f ∷ fs) v) else with_turned from (false ∷ ms) (f ∷ fs) v) ≡ with_turned from (ms ++ b ∷ []) (fs ++ f ∷ []) v
-first-passed from w true ms f fs v = ap (with_first_behind from) (turned-mark from w (false ∷ ms) (f ∷ fs) v) ∙ turned-behind from w (true ∷ ms) (f ∷ fs) v
-first-passed from w false ms f fs v = turned-behind from w (false ∷ ms) (f ∷ fs) v
-
--- ---- the walk: the floats from a place on, as they were, and then those that were passed, with their marks
-
-pub marking-start : (from : Part) → IsWaiting from → (chosen : List Bool) (v : FloatPool) → v ≡ with_turned from (marks_of from v ++ []) (floats_of from v.lists ++ []) v
-marking-start from w chosen v =
-    sym (ap (λ ms. with_turned from ms (floats_of from v.lists ++ []) v) (append-nil (marks_of from v)) ∙ ap (λ fs. with_turned from (marks_of from v) fs v) (append-nil (floats_of from v.lists)) ∙ turned-same from w (marks_of from v) v ∙ with-marks-same from v)
-
-pub marking-turn : (from : Part) → IsWaiting from → (v : FloatPool) (marks chosen : List Bool) (fs : List Float) (k : ℕ) (f : Float) (b : Bool) → slice_get marks k ≡ Some false → slice_get chosen k ≡ Some b → slice_get fs k ≡ Some f
-    → with_first_behind from (if b then with_mark from 0 (with_turned from (drop k marks ++ take k chosen) (drop k fs ++ take k fs) v) else with_turned from (drop k marks ++ take k chosen) (drop k fs ++ take k fs) v)
-    ≡ with_turned from (drop (suc k) marks ++ take (suc k) chosen) (drop (suc k) fs ++ take (suc k) fs) v
-marking-turn from w v marks chosen fs k f b was now there =
-    let ms = drop (suc k) marks ++ take k chosen in
-    let gs = drop (suc k) fs ++ take k fs in
-    ap (λ xs. with_first_behind from (if b then with_mark from 0 (with_turned from (xs ++ take k chosen) (drop k fs ++ take k fs) v) else with_turned from (xs ++ take k chosen) (drop k fs ++ take k fs) v)) (drop-at marks k false was)
-    ∙ ap (λ xs. with_first_behind from (if b then with_mark from 0 (with_turned from (false ∷ ms) (xs ++ take k fs) v) else with_turned from (false ∷ ms) (xs ++ take k fs) v)) (drop-at fs k f there)
-    ∙ first-passed from w b ms f gs v
-    ∙ ap (λ xs. with_turned from xs (gs ++ f ∷ []) v) (append_assoc (drop (suc k) marks) (take k chosen) (b ∷ []) ∙ ap (λ xs. drop (suc k) marks ++ xs) (sym (take-at chosen k b now)))
-    ∙ ap (λ xs. with_turned from (drop (suc k) marks ++ take (suc k) chosen) xs v) (append_assoc (drop (suc k) fs) (take k fs) (f ∷ []) ∙ ap (λ xs. drop (suc k) fs ++ xs) (sym (take-at fs k f there)))
-
-take-all : (k : ℕ) (fs : List Float) → length fs ≤ k → take k fs ≡ fs
-take-all zero [] le = refl
-take-all (suc k) [] le = refl
-take-all zero (f ∷ fs) le = absurd (omega arith)
-take-all (suc k) (f ∷ fs) le = ap (λ gs. f ∷ gs) (take-all k fs (omega arith))
-
-pub marking-end : (from : Part) → IsWaiting from → (v : FloatPool) (chosen : List Bool) (k : ℕ) → length (marks_of from v) ≤ k → length (floats_of from v.lists) ≤ k
-    → with_turned from (drop k (marks_of from v) ++ take k chosen) (drop k (floats_of from v.lists) ++ take k (floats_of from v.lists)) v ≡ with_marks_of from (take k chosen) v
-marking-end from w v chosen k many few =
-    let fs = floats_of from v.lists in
-    ap (λ xs. with_turned from (xs ++ take k chosen) (drop k fs ++ take k fs) v) (drop_of_length-le (marks_of from v) many)
-    ∙ ap (λ xs. with_turned from (take k chosen) xs v) (ap (λ xs. xs ++ take k fs) (drop_of_length-le fs few) ∙ take-all k fs few) ∙ turned-same from w (take k chosen) v
-
--- ---- no float was marked before
-
+-- no float was marked before
 unmarked-first : (m : Bool) (ms : List Bool) (f : Float) (fs : List Float) → marked_among (m ∷ ms) (f ∷ fs) ≡ [] → (m ≡ false) × (marked_among ms fs ≡ [])
 unmarked-first true ms f fs none = cc
 unmarked-first false ms f fs none = (refl, none)
 
-pub unmarked-at : (ms : List Bool) (fs : List Float) (k : ℕ) → length ms ≡ length fs → marked_among ms fs ≡ [] → k < length ms → slice_get ms k ≡ Some false
-unmarked-at [] fs k many none lt = absurd (omega arith)
-unmarked-at (m ∷ ms) [] k many none lt = absurd (omega arith)
-unmarked-at (m ∷ ms) (f ∷ fs) zero many none lt = let first = unmarked-first m ms f fs none in ap Some first.0
-unmarked-at (m ∷ ms) (f ∷ fs) (suc k) many none lt = let first = unmarked-first m ms f fs none in unmarked-at ms fs k (omega arith) first.1 (omega arith)
+unmarked-are : (ms : List Bool) (fs : List Float) → length ms ≡ length fs → marked_among ms fs ≡ [] → ms ≡ map (λ f. false) fs
+unmarked-are [] [] many none = refl
+unmarked-are [] (f ∷ fs) many none = absurd (omega (arith, many))
+unmarked-are (m ∷ ms) [] many none = absurd (omega (arith, many))
+unmarked-are (m ∷ ms) (f ∷ fs) many none =
+    let first = unmarked-first m ms f fs none in
+    ap (λ b. b ∷ ms) first.0 ∙ ap (λ bs. false ∷ bs) (unmarked-are ms fs (omega (arith, many)) first.1)
+
+-- the head is marked
+head-marked : (fs : List Float) (k : ℕ) (f : Float) → slice_get fs k ≡ Some f → slice_set (map (λ g. false) fs) k true ≡ map (λ c. c.chosen) (head_choices (take k fs) f) ++ map (λ g. false) (drop (suc k) fs)
+head-marked [] k f there = cc
+head-marked (g ∷ fs) zero f there = refl
+head-marked (g ∷ fs) (suc k) f there = ap (λ bs. false ∷ bs) (head-marked fs k f there)
+
+set-after : (bs cs : List Bool) (b : Bool) → slice_set (bs ++ b ∷ cs) (length bs) true ≡ (bs ++ true ∷ []) ++ cs
+set-after [] cs b = refl
+set-after (d ∷ bs) cs b = ap (λ xs. d ∷ xs) (set-after bs cs b)
+
+-- the next float is marked, or not
+marks-more : (before : List Choice) (f : Float) (b : Bool) (rest : List Bool) (n : ℕ) → n ≡ length before → (if b then slice_set (map (λ c. c.chosen) before ++ false ∷ rest) n true else (map (λ c. c.chosen) before ++ false ∷ rest)) ≡ map (λ c. c.chosen) (before ++ record { float = f; chosen = b } ∷ []) ++ rest
+marks-more before f true rest n at =
+    let bs = map (λ (c : Choice). c.chosen) before in
+    ap (λ k. slice_set (bs ++ false ∷ rest) k true) (at ∙ sym (length-map before (λ c. c.chosen))) ∙ set-after bs rest false ∙ ap (λ xs. xs ++ rest) (sym (map-append (λ c. c.chosen) before (record { float = f; chosen = true } ∷ [])))
+marks-more before f false rest n at =
+    let bs = map (λ (c : Choice). c.chosen) before in
+    sym (append_assoc bs (false ∷ []) rest) ∙ ap (λ xs. xs ++ rest) (sym (map-append (λ c. c.chosen) before (record { float = f; chosen = false } ∷ [])))
+
+-- ---- the walk
+
+pub marking-start : (z : Wanted) (w : Walk) (all : List Float) (marks : List Bool) → length marks ≡ length all → marked_among marks all ≡ [] → IsAfterHead w z all → IsMarking w z all (slice_set marks (w.seen - 1) true)
+marking-start z w all marks many none h =
+    let at : w.seen ≡ suc h.place = omega (arith, h.seen) in
+    let place : w.seen - 1 ≡ h.place = omega (arith, h.seen) in
+    record {
+      choices = company_of_place z h.place all h.head;
+      made = h.made;
+      way = record {
+        before = head_choices (take h.place all) h.head;
+        stands = h.stands;
+        ends = ap (λ n. choices_from z (head_choices (take h.place all) h.head) (drop n all)) at;
+      };
+      marked =
+          ap (λ ms. slice_set ms (w.seen - 1) true) (unmarked-are marks all many none) ∙ ap (λ n. slice_set (map (λ f. false) all) n true) place
+          ∙ head-marked all h.place h.head h.there ∙ ap (λ n. map (λ c. c.chosen) (head_choices (take h.place all) h.head) ++ map (λ f. false) (drop n all)) (sym at);
+    }
+
+marking-next : (z : Wanted) (w v : Walk) (all rest : List Float) (f : Float) (b : Bool) (marks : List Bool) → v.seen ≡ w.seen + 1 → f ∷ rest ≡ drop w.seen all → ((before : List Choice) → Stands w z.sep before → b ≡ joins z before f) → ((before : List Choice) → Stands w z.sep before → Stands v z.sep (before ++ record { float = f; chosen = b } ∷ [])) → IsMarking w z all marks → IsMarking v z all (if b then slice_set marks w.seen true else marks)
+marking-next z w v all rest f b marks further left decided stands m =
+    let before = m.way.before in
+    let bs = map (λ (c : Choice). c.chosen) before in
+    record {
+      choices = m.choices;
+      made = m.made;
+      way = record {
+        before = before ++ record { float = f; chosen = b } ∷ [];
+        stands = stands before m.way.stands;
+        ends = on-way-ends z w v all rest f b m.choices further left m.way (decided before m.way.stands);
+      };
+      marked =
+          ap (λ ms. if b then slice_set ms w.seen true else ms) (m.marked ∙ ap (λ fs. bs ++ map (λ g. false) fs) (sym left))
+          ∙ marks-more before f b (map (λ g. false) rest) w.seen m.way.stands.seen
+          ∙ ap (λ fs. map (λ c. c.chosen) (before ++ record { float = f; chosen = b } ∷ []) ++ map (λ g. false) fs) (left-next w v all rest f further left);
+    }
+
+pub marking-joined : (z : Wanted) (w v : Walk) (all rest : List Float) (f : Float) (b : Bool) (marks : List Bool) → v.seen ≡ w.seen + 1 → f ∷ rest ≡ drop w.seen all → ((before : List Choice) → Stands w z.sep before → b ≡ joins z before f) → ((before : List Choice) → Stands w z.sep before → Stands v z.sep (before ++ record { float = f; chosen = b } ∷ [])) → IsMarking w z all marks → b ≡ true → IsMarking v z all (slice_set marks w.seen true)
+marking-joined z w v all rest f b marks further left decided stands m is =
+    subst (λ (d : Bool). IsMarking v z all (if d then slice_set marks w.seen true else marks)) is (marking-next z w v all rest f b marks further left decided stands m)
+
+pub marking-passed : (z : Wanted) (w v : Walk) (all rest : List Float) (f : Float) (b : Bool) (marks : List Bool) → v.seen ≡ w.seen + 1 → f ∷ rest ≡ drop w.seen all → ((before : List Choice) → Stands w z.sep before → b ≡ joins z before f) → ((before : List Choice) → Stands w z.sep before → Stands v z.sep (before ++ record { float = f; chosen = b } ∷ [])) → IsMarking w z all marks → b ≡ false → IsMarking v z all marks
+marking-passed z w v all rest f b marks further left decided stands m is =
+    subst (λ (d : Bool). IsMarking v z all (if d then slice_set marks w.seen true else marks)) is (marking-next z w v all rest f b marks further left decided stands m)
+
+-- where none is left, the marks are those of the company
+pub marking-over : (z : Wanted) (w : Walk) (all : List Float) (marks : List Bool) → [] ≡ drop w.seen all → IsMarking w z all marks → (choices : List Choice) × (company z all ≡ Some choices) × (marks ≡ map (λ c. c.chosen) choices)
+marking-over z w all marks none m =
+    (m.choices, m.made, m.marked ∙ ap (λ fs. map (λ c. c.chosen) m.way.before ++ map (λ f. false) fs) (sym none) ∙ append-nil (map (λ c. c.chosen) m.way.before) ∙ ap (map (λ c. c.chosen)) (on-way-end z w all m.choices none m.way))
+
+pub none-left : (w : Walk) (all : List Float) → length all ≤ w.seen → [] ≡ drop w.seen all
+none-left w all over = sym (drop_of_length-le all over)
+
+-- ---- the pool, which changes by its marks alone
+
+marks-again : (from : Part) (ms ns : List Bool) (v : FloatPool) → with_marks_of from ms (with_marks_of from ns v) ≡ with_marks_of from ms v
+marks-again parts.Deferred ms ns v = refl
+marks-again parts.Second ms ns v = refl
+marks-again p ms ns v = refl
+
+pub marks-set : (from : Part) → IsWaiting from → (k : ℕ) (u t : FloatPool) → t ≡ with_mark from k u → marks_of from t ≡ slice_set (marks_of from u) k true
+marks-set from w k u t is = ap (marks_of from) is ∙ marks-with from w (slice_set (marks_of from u) k true) u
+
+pub marked-again : (from : Part) → IsWaiting from → (k : ℕ) (u t v : FloatPool) → u ≡ with_marks_of from (marks_of from u) v → t ≡ with_mark from k u → t ≡ with_marks_of from (marks_of from t) v
+marked-again from w k u t v was is =
+    let ns = slice_set (marks_of from u) k true in
+    is ∙ ap (with_marks_of from ns) was ∙ marks-again from ns (marks_of from u) v ∙ ap (λ ms. with_marks_of from ms v) (sym (marks-set from w k u t is))
+
+pub floats-kept : (from : Part) (ms : List Bool) (u v : FloatPool) → u ≡ with_marks_of from ms v → floats_of from u.lists ≡ floats_of from v.lists
+floats-kept from ms u v is = ap (λ (t : FloatPool). floats_of from t.lists) is ∙ ap (floats_of from) (lists-marked from ms v)

@@ -1,31 +1,32 @@
-//! The heads of companies: one walk over the floats that wait finds them, and a walk for each gathers its company.
-ghost use Rattle.std.specs.Prelude.{◌≡◌, ◌≤◌, ◌<◌, List, [], length, take, slice_get, Some, None, IfSome, IfNone, true, false, if◌then◌else◌};
+//! The heads of companies: one walk over the floats that wait finds them, a walk from each gathers its company, and the
+//! company that makes the column is marked by the same walk.
+ghost use Rattle.std.specs.Prelude.{◌≡◌, ◌≤◌, ◌<◌, List, [], length, map, take, slice_get, slice_set, Some, None, IfSome, IfNone, true, false, ◌||◌, int_lt};
 ghost use Rattle.tb_node.specs.declared.Float.{Float as PlainFloat};
-ghost use Rattle.tb_float.specs.Lists.{IsWaiting, floats_of, has_class};
-ghost use Rattle.tb_float.specs.Pool.{marked_floats, with_mark, with_marks_of, with_first_behind};
+ghost use Rattle.tb_float.specs.Classes.{AreClassesOf};
+ghost use Rattle.tb_float.specs.Lists.{IsWaiting, floats_of};
+ghost use Rattle.tb_float.specs.Pool.{marked_floats, marks_of, with_marks_of};
 ghost use Rattle.tb_float.specs.Stored.{is_float};
-ghost use Rattle.tb_fpage.specs.Company.{Choice, company, is_head, is_made};
-ghost use Rattle.tb_fpage.specs.Walked.{Stands, company_of_place, is_made_at};
+ghost use Rattle.tb_fpage.specs.Company.{Choice, company, company_height, is_head};
+ghost use Rattle.tb_fpage.specs.Walked.{IsAfterHead, IsMarking, company_of_place, is_made_at};
 
 use crate::Wanted;
 use crate::walk::{Walk, suits};
 use tb_float::{ClassSet, Entry, Part, Pool};
 use tb_node::Float;
 
-/// The company of the first head whose company is made.
-pub(crate) fn first_company(pool: &Pool, wanted: &Wanted, from: Part) -> Option<Walk>
+/// A walk that has passed the first head whose company is made.
+pub(crate) fn first_head(pool: &Pool, wanted: &Wanted, from: Part) -> Option<Walk>
     requires waiting { IsWaiting from }
     requires few { length (floats_of from pool.now.lists) ≤ 4096 }
-    ensures made { IfSome result (λ w. (choices : List Choice) × (company wanted.now (floats_of from pool.now.lists) ≡ Some choices) × Stands w wanted.now.sep choices) }
+    ensures made { IfSome result (λ w. IsAfterHead w wanted.now (floats_of from pool.now.lists)) }
     ensures none { IfNone result (company wanted.now (floats_of from pool.now.lists) ≡ None) }
 {
     let mut earlier = ClassSet::none();
     let mut place = 0;
     for entry in pool.entries(from) {
-        let f = float_in(*entry);
-        let company = company_at(pool, wanted, from, place, earlier.has(f.class), &f);
-        if company.is_some() {
-            return company;
+        let f = float_in(entry);
+        if is_made_at(pool, wanted, from, place, &earlier, f) {
+            return Some(Walk::after_head(place, f.height, earlier));
         }
         earlier.add(f.class);
         place += 1;
@@ -33,44 +34,68 @@ pub(crate) fn first_company(pool: &Pool, wanted: &Wanted, from: Part) -> Option<
     None
 }
 
-// The company of the float at a place, if it is a head and its company is made.
-fn company_at(
+// Whether the float at a place is a head and its company is made, if the set has the classes of the floats before it.
+fn is_made_at(
     pool: &Pool,
     wanted: &Wanted,
     from: Part,
     place: usize,
-    earlier: bool,
+    earlier: &ClassSet,
     f: &Float,
-) -> Option<Walk>
+) -> bool
     requires waiting { IsWaiting from }
     requires few { length (floats_of from pool.now.lists) ≤ 4096 }
     requires there { slice_get (floats_of from pool.now.lists) place ≡ Some f.now }
-    requires earlier { earlier ≡ has_class f.now.class (take place (floats_of from pool.now.lists)) }
-    ensures made { IfSome result (λ w. (is_made_at wanted.now place (floats_of from pool.now.lists) f.now ≡ true) × Stands w wanted.now.sep (company_of_place wanted.now place (floats_of from pool.now.lists) f.now)) }
-    ensures none { IfNone result (is_made_at wanted.now place (floats_of from pool.now.lists) f.now ≡ false) }
+    requires classes { AreClassesOf earlier.now (take place (floats_of from pool.now.lists)) }
+    ensures { result ≡ is_made_at wanted.now place (floats_of from pool.now.lists) f.now }
 {
-    if !is_head(wanted, earlier, f) {
-        return None;
-    }
-    let company = gathered(pool, wanted, from, place);
-    if is_made(wanted, &company) {
-        Some(company)
-    } else {
-        None
-    }
+    is_head(wanted, earlier, f)
+        && is_made(
+            wanted,
+            company_height(pool, wanted, from, place, earlier, f),
+        )
 }
 
-// Whether a float is a head, if it is known whether one of its class stands before it.
-fn is_head(wanted: &Wanted, earlier: bool, f: &Float) -> bool
-    ensures { (before : List PlainFloat) → earlier ≡ has_class f.now.class before → result ≡ is_head wanted.now before f.now }
+// Whether a float is a head, if the set has the classes of the floats before it.
+fn is_head(wanted: &Wanted, earlier: &ClassSet, f: &Float) -> bool
+    ensures { (before : List PlainFloat) → AreClassesOf earlier.now before → result ≡ is_head wanted.now before f.now }
 {
-    suits(wanted, f) && !earlier
+    !earlier.has(f.class) && suits(wanted, f)
+}
+
+// Whether a company that is so high is made.
+fn is_made(wanted: &Wanted, height: i128) -> bool
+    ensures { result ≡ (wanted.now.clearing || int_lt wanted.now.minimum height) }
+{
+    wanted.clearing || i128::from(wanted.minimum) < height
+}
+
+// The height of the company of the float at a place, if the set has the classes of the floats before it.
+fn company_height(
+    pool: &Pool,
+    wanted: &Wanted,
+    from: Part,
+    place: usize,
+    earlier: &ClassSet,
+    f: &Float,
+) -> i128
+    requires waiting { IsWaiting from }
+    requires few { length (floats_of from pool.now.lists) ≤ 4096 }
+    requires there { slice_get (floats_of from pool.now.lists) place ≡ Some f.now }
+    requires classes { AreClassesOf earlier.now (take place (floats_of from pool.now.lists)) }
+    ensures { result ≡ company_height wanted.now.sep (company_of_place wanted.now place (floats_of from pool.now.lists) f.now) }
+{
+    let mut walk = Walk::after_head(place, f.height, *earlier);
+    for entry in pool.entries_from(from, walk.seen) {
+        walk.visit(wanted, float_in(entry));
+    }
+    walk.height
 }
 
 // The float of an entry that is one.
-fn float_in(entry: Entry) -> Float
-    requires { is_float entry ≡ true }
-    ensures { entry ≡ Entry.Float result }
+fn float_in(entry: &Entry) -> &Float
+    requires { is_float entry.now ≡ true }
+    ensures { entry.now ≡ Entry.Float result.now }
 {
     match entry {
         Entry::Float(f) => f,
@@ -78,46 +103,38 @@ fn float_in(entry: Entry) -> Float
     }
 }
 
-// The company of the float at a place.
-fn gathered(pool: &Pool, wanted: &Wanted, from: Part, place: usize) -> Walk
+/// Marks the floats of a company that is made: its head, which a walk has passed last, and those after it that join.
+pub(crate) fn mark_company(pool: &mut Pool, wanted: &Wanted, from: Part, walk: &mut Walk)
+    requires waiting { IsWaiting from }
+    requires few { length (floats_of from pool.old.lists) ≤ 4096 }
+    requires unmarked { marked_floats from pool.old ≡ [] }
+    requires head { IsAfterHead walk.old wanted.now (floats_of from pool.old.lists) }
+    ensures { (choices : List Choice) × (company wanted.now (floats_of from pool.old.lists) ≡ Some choices) × (pool.new ≡ with_marks_of from (map (λ c. c.chosen) choices) pool.old) }
+{
+    let count = pool.len(from);
+    pool.mark(from, walk.seen - 1);
+    for _joined in 0..count {
+        let Some(place) = next_joined(pool, wanted, from, walk) else {
+            return;
+        };
+        pool.mark(from, place);
+    }
+}
+
+// The place of the next float that joins. None exactly if no later one does; the walk is over then.
+fn next_joined(pool: &Pool, wanted: &Wanted, from: Part, walk: &mut Walk) -> Option<usize>
     requires waiting { IsWaiting from }
     requires few { length (floats_of from pool.now.lists) ≤ 4096 }
-    ensures { (f : PlainFloat) → slice_get (floats_of from pool.now.lists) place ≡ Some f → Stands result wanted.now.sep (company_of_place wanted.now place (floats_of from pool.now.lists) f) }
+    requires marking { IsMarking walk.old wanted.now (floats_of from pool.now.lists) (marks_of from pool.now) }
+    ensures further { IfSome result (λ k. walk.old.seen < walk.new.seen) }
+    ensures within { IfSome result (λ k. k < length (floats_of from pool.now.lists)) }
+    ensures marking { IfSome result (λ k. IsMarking walk.new wanted.now (floats_of from pool.now.lists) (slice_set (marks_of from pool.now) k true)) }
+    ensures over { IfNone result ((choices : List Choice) × (company wanted.now (floats_of from pool.now.lists) ≡ Some choices) × (marks_of from pool.now ≡ map (λ c. c.chosen) choices)) }
 {
-    let mut walk = Walk::to_head(place);
-    for entry in pool.entries(from) {
-        walk.visit(wanted, &float_in(*entry));
+    for entry in pool.entries_from(from, walk.seen) {
+        if walk.visit(wanted, float_in(entry)) {
+            return Some(walk.seen - 1);
+        }
     }
-    walk
-}
-
-// Whether a company that was gathered is made.
-fn is_made(wanted: &Wanted, company: &Walk) -> bool
-    ensures { (choices : List Choice) → Stands company.now wanted.now.sep choices → result ≡ is_made wanted.now choices }
-{
-    wanted.clearing || i128::from(wanted.minimum) < company.height
-}
-
-/// Marks the floats of a company that was gathered, in one walk.
-pub(crate) fn mark_company(pool: &mut Pool, company: &Walk, from: Part)
-    requires waiting { IsWaiting from }
-    requires unmarked { marked_floats from pool.old ≡ [] }
-    requires all { company.now.seen ≡ length (floats_of from pool.old.lists) }
-    ensures { pool.new ≡ with_marks_of from (take company.now.seen company.now.chosen) pool.old }
-{
-    for k in 0..pool.len(from) {
-        pass_first(pool, from, company.chosen[k]);
-    }
-}
-
-// The first float of the list is marked if it is chosen, and goes behind the others.
-fn pass_first(pool: &mut Pool, from: Part, chosen: bool)
-    requires waiting { IsWaiting from }
-    requires some { 0 < length (floats_of from pool.old.lists) }
-    ensures { pool.new ≡ with_first_behind from (if chosen then with_mark from 0 pool.old else pool.old) }
-{
-    if chosen {
-        pool.mark(from, 0);
-    }
-    pool.rotate(from);
+    None
 }

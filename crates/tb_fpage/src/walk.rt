@@ -1,68 +1,64 @@
-//! A walk over the floats that wait, which gathers the company of a head.
-ghost use Rattle.std.specs.Prelude.{◌≡◌, ◌<◌, ◌+ℤ◌, ◌∷◌, ◌++◌, [], ℤ, List};
+//! A walk over the floats after a head, which decides on each whether it joins the head's company.
+ghost use Rattle.std.specs.Prelude.{◌≡◌, ◌<◌, ◌+◌, ◌+ℤ◌, ◌∷◌, ◌++◌, [], List};
 ghost use Rattle.tb_node.specs.declared.Float.{Float as PlainFloat};
 ghost use Rattle.tb_float.specs.Classes.{AreClassesOf};
 ghost use Rattle.tb_float.specs.Ranges.{IsWithin};
 ghost use Rattle.tb_fpage.specs.Company.{Choice, suits, joins};
-ghost use Rattle.tb_fpage.specs.Walked.{Stands, choice_at, taken, passed};
+ghost use Rattle.tb_fpage.specs.Walked.{Stands, after_head, taken, passed};
 
 use crate::Wanted;
 use tb_float::ClassSet;
 use tb_node::Float;
 
-/// What is known of the floats that were passed.
+/// What is known of the floats that were passed; the head of the company is among them.
 #[derive(Drop)]
 pub(crate) struct Walk {
-    /// The place of the company's head.
-    pub(crate) place: usize,
     /// How many floats were passed.
     pub(crate) seen: usize,
     /// The height of the company so far, with its separators, in scaled points.
     pub(crate) height: i128,
     /// The classes of the floats that stay behind, so that no later one of them may join.
     pub(crate) failed: ClassSet,
-    /// For each place, whether its float is in the company; a pool holds at most 4096 boxes.
-    pub(crate) chosen: [bool; 4096],
 }
 
 impl Walk {
-    /// A walk to the head at a place, before the first float.
-    pub(crate) fn to_head(place: usize) -> Walk
-        ensures place { result.place ≡ place }
-        ensures stands { (sep : ℤ) → Stands result sep [] }
+    /// A walk that has passed the head, which stands at a place and is so high; the floats before it, which have these
+    /// classes, stay behind.
+    pub(crate) fn after_head(place: usize, height: i64, earlier: ClassSet) -> Walk
+        requires { place < 4096 }
+        ensures { result ≡ after_head place height earlier }
     {
         Walk {
-            place,
-            seen: 0,
-            height: 0,
-            failed: ClassSet::none(),
-            chosen: [false; 4096],
+            seen: place + 1,
+            height: i128::from(height),
+            failed: earlier,
         }
     }
 
-    /// Decides on the next float: those before the head stay behind, the head is in, and so are later ones that join.
-    pub(crate) fn visit(&mut self, wanted: &Wanted, f: &Float)
+    /// Decides on the next float, and returns whether it joins the company.
+    pub(crate) fn visit(&mut self, wanted: &Wanted, f: &Float) -> bool
         requires room { self.old.seen < 4096 }
         requires height { IsWithin 151115727451828646838272 self.old.height }
-        ensures place { self.new.place ≡ self.old.place }
-        ensures stands { (before : List Choice) → Stands self.old wanted.now.sep before → Stands self.new wanted.now.sep (before ++ record { float = f.now; chosen = choice_at wanted.now self.old.place before f.now } ∷ []) }
+        ensures seen { self.new.seen ≡ self.old.seen + 1 }
+        ensures joins { (before : List Choice) → Stands self.old wanted.now.sep before → result ≡ joins wanted.now before f.now }
+        ensures stands { (before : List Choice) → Stands self.old wanted.now.sep before → Stands self.new wanted.now.sep (before ++ record { float = f.now; chosen = result } ∷ []) }
     {
-        if self.seen == self.place {
-            self.take(i128::from(f.height));
-        } else if self.seen > self.place && self.joins(wanted, f) {
+        if self.joins(wanted, f) {
             self.take(higher(self.height, wanted.sep, f.height));
+            true
         } else {
             self.pass(f.class);
+            false
         }
     }
 
-    // Whether a float after the head joins its company.
+    // Whether the next float joins the company.
     fn joins(&self, wanted: &Wanted, f: &Float) -> bool
         requires { IsWithin 151115727451828646838272 self.now.height }
-        ensures { (before : List Choice) → Stands self.now wanted.now.sep before → self.now.place < self.now.seen → result ≡ joins wanted.now before f.now }
+        ensures { (before : List Choice) → Stands self.now wanted.now.sep before → result ≡ joins wanted.now before f.now }
     {
-        suits(wanted, f)
-            && !self.failed.has(f.class)
+        !self.failed.has(f.class)
+            && suits(wanted, f)
             && higher(self.height, wanted.sep, f.height) <= i128::from(wanted.height)
     }
 
@@ -71,7 +67,6 @@ impl Walk {
         requires { self.old.seen < 4096 }
         ensures { self.new ≡ taken height self.old }
     {
-        self.chosen[self.seen] = true;
         self.height = height;
         self.seen += 1;
     }
@@ -82,7 +77,6 @@ impl Walk {
         ensures walk { self.new ≡ passed self.new.failed self.old }
         ensures failed { (fs : List PlainFloat) (f : PlainFloat) → f.class ≡ class → AreClassesOf self.old.failed fs → AreClassesOf self.new.failed (fs ++ f ∷ []) }
     {
-        self.chosen[self.seen] = false;
         self.failed.add(class);
         self.seen += 1;
     }

@@ -2,10 +2,10 @@ use Rattle.std.proofs.Common.{◌≡◌, sym, ap, ◌∙◌, arith, w64}
 use Rattle.std.proofs.lemmas.Int.{ints}
 use mir.Val.{to_z, of_z}
 use Rattle.tb_float.specs.Lists.{floats_of}
-use Rattle.tb_float.specs.Pool.{marks_of, with_marks_of}
+use Rattle.tb_float.specs.Pool.{marks_of}
 use Rattle.tb_fpage.specs.Company.{wanted_of, company}
 use Rattle.tb_fpage.proofs.CompanyLemmas.{wanted-is}
-use Rattle.tb_fpage.proofs.ChosenLemmas.{length-company, is-chosen}
+use Rattle.tb_fpage.proofs.ChosenLemmas.{is-chosen}
 use Rattle.tb_fpage.proofs.LawLemmas.{order-unmarked, order-company, fits-company, high-company}
 use Rattle.tb_fpage.proofs.choose.Goals as goal
 
@@ -13,11 +13,6 @@ pub returns-in_default-clause-class_order : goal.returns-in_default-clause-class
 returns-in_default-clause-class_order c =
     let v = c.args.pool.now in
     order-unmarked (marks_of c.args.from v) (floats_of c.args.from v.lists) c.requires.unmarked
-
-pub mark_company-requires-clause-all : goal.mark_company-requires-clause-all
-mark_company-requires-clause-all c =
-    let found = c.in-Some.ensures.made in
-    found.2.seen ∙ length-company _ (floats_of c.args.from c.args.pool.now.lists) found.0 found.1
 
 pub returns : goal.returns
 returns c =
@@ -27,9 +22,8 @@ returns c =
     let v = c.args.pool.now in
     let from = c.args.from in
     let fs = floats_of from v.lists in
-    let found = c.in-Some.ensures.made in
-    let set = c.mark_company.ensures ∙ ap (λ ms. with_marks_of from ms v) found.2.chosen in
-    let is = is-chosen z from v c.mark_company.new.pool found.0 c.requires.waiting (ap (λ y. company y fs) (sym same) ∙ found.1) set in
+    let found = c.mark_company.ensures in
+    let is = is-chosen z from v c.mark_company.new.pool found.0 c.requires.waiting (ap (λ y. company y fs) (sym same) ∙ found.1) found.2 in
     record {
       chosen = λ _. is;
       none = λ e. absurd cc;

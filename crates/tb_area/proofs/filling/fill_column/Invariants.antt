@@ -1,13 +1,14 @@
-use Rattle.std.proofs.Common.{◌≡◌, [], drop}
+use Rattle.std.proofs.Common.{◌≡◌, ◌≤◌, ◌+◌, [], length}
 use Rattle.tb_float.specs.declared.Part.TheVariants as parts
 use Rattle.tb_float.specs.Pool.{HasNoMarks}
 use Rattle.tb_area.specs.Filling.{filled}
-use Rattle.tb_area.specs.Turning.{IsOnWay}
+use Rattle.tb_area.specs.Kept.{IsOnWay}
 use Rattle.tb_area.proofs.filling.fill_column.Given as goal
 
 abbrev pub invariant-loop-turn : goal.invariant-loop-turn
 invariant-loop-turn l = record {
-  way : IsOnWay parts.Deferred (filled l.p l.s) l.earlier (drop l._turn l.initial.pool.lists.deferred) l.pool.lists (filled l.p l.s [] l.initial.pool.lists.deferred l.initial.pool.lists);
+  way : IsOnWay parts.Deferred (filled l.p l.s) l.kept l.pool.lists (filled l.p l.s [] l.initial.pool.lists.deferred l.initial.pool.lists);
+  fewer : l._turn + length l.pool.lists.deferred ≤ length l.initial.pool.lists.deferred;
   size : l.pool.size ≡ l.initial.pool.size;
   unmarked : HasNoMarks l.initial.pool → HasNoMarks l.pool;
 }
