@@ -28,7 +28,7 @@ use Rattle.tb_output.proofs.ClearOutcomes.{NoneWait, Fits, Single, Wide}
 use Rattle.tb_output.proofs.SideLemmas.{Sides}
 use Rattle.tb_output.proofs.ServeOutcomes.{current_floats, AllCurrent, way_floats}
 use Rattle.tb_output.proofs.CycleStates.{IsSecond, FloatsFit}
-use Rattle.tb_output.proofs.CycleFirings.{none-left}
+use Rattle.tb_output.proofs.CycleBreaks.{none-left}
 
 -- the entries of the current list change
 current-sides : (from : Part) (es : List Entry) (l : FloatLists) → Sides from l → Sides from (record l { current = es })

@@ -1,5 +1,5 @@
 -- Ids of lists that are apart.
-use Rattle.std.proofs.Common.{◌≡◌, ◌≢◌, refl, sym, subst, ◌∙◌, ap, ℕ, List, [], ◌∷◌, ◌++◌, Option, None, Some, IsSome}
+use Rattle.std.proofs.Common.{◌≡◌, ◌≢◌, sym, subst, ℕ, List, [], ◌∷◌, ◌++◌, Option, None, IsSome}
 use Rattle.std.specs.FinMap.{get}
 use Rattle.std.specs.List.{AllByRecursion}
 use Rattle.tb_pool.specs.Lists.{Lists, IsLive}
@@ -9,7 +9,7 @@ use Rattle.tb_node.specs.declared.Node.{Node}
 use Rattle.tb_builder.specs.Owned.{Lacks, AllDiffer}
 use Rattle.tb_column.specs.Notes.{AreDistinct}
 use Rattle.tb_output.specs.Keeping.{AreNoneOf}
-use Rattle.tb_output.proofs.StandLemmas.{all-front, all-back, all-join, all-map}
+use Rattle.tb_output.proofs.StandLemmas.{all-map}
 
 -- ---- none of these is any of those
 

@@ -1,19 +1,14 @@
 -- A clear: the steps of the work.
 use Rattle.std.proofs.Common.{◌≡◌, ◌≢◌, refl, sym, subst, ◌∙◌, ap, ℕ, zero, suc, pos, Bool, true, false, List, [], ◌∷◌, ◌++◌, map, take, length, append-nil, Option, Some, None, IsSome, arith}
-use Rattle.std.specs.Prelude.{All, not, ◌||◌, if◌then◌else◌, unwrap_or}
+use Rattle.std.specs.Prelude.{not, ◌||◌, if◌then◌else◌, unwrap_or}
 use Rattle.std.specs.FinMap.{FinMap, get, insert, remove}
 use Rattle.std.specs.Ordering.{nat_cmp}
-use Rattle.std.specs.List.{AllByRecursion}
 use Rattle.std.proofs.lemmas.Int.{ints}
 use Rattle.std.proofs.lemmas.List.{take-map}
 use Rattle.std.proofs.lemmas.List.Elements.{All-from_recursion, All-take}
-use Rattle.tb_scaled.specs.Glue.{filling_glue}
 use Rattle.tb_pool.specs.Lists.{Lists, IsLive, list_at, with_list}
-use Rattle.tb_pool.specs.Frame.{IsNoneOf}
 use Rattle.tb_pool.proofs.CallerLemmas.{list_same, list_other}
 use Rattle.tb_pool.proofs.MapLemmas.{get-insert_same, get-insert_other, get-remove_other}
-use Rattle.tb_node.specs.declared.Float.{Float}
-use Rattle.tb_node.specs.declared.Kind.TheVariants as kinds
 use Rattle.tb_node.specs.declared.Node.{Node}
 use Rattle.tb_node.specs.Plain.{PlainNode, plain_of, node_shape, shape_of, made, blank_box}
 use Rattle.tb_node.specs.Fit.{IsSizedNode, shapes}
@@ -23,8 +18,6 @@ use Rattle.tb_builder.specs.Owned.{inner_ids}
 use Rattle.tb_builder.proofs.CourseLemmas.{shape_is}
 use Rattle.tb_column.specs.Page.{AreLeaves, IsPageList}
 use Rattle.tb_param.specs.declared.Params.{Params}
-use Rattle.tb_float.specs.Lists.{FloatLists}
-use Rattle.tb_column.specs.Column.{PlainSent}
 use Rattle.tb_column.specs.Shown.{nodes_shown}
 use Rattle.tb_output.specs.declared.RunFault.{RunFault}
 use Rattle.tb_output.specs.declared.RunFault.TheVariants as faults
@@ -34,7 +27,7 @@ use Rattle.tb_output.specs.Columns.{all_float_columns}
 use Rattle.tb_output.specs.Clear.{clear_again, deferred_again, double_again, cleared_front, clear_wide, clear_rest}
 use Rattle.tb_output.specs.PutBack.{clear_list, blank_clear_list}
 use Rattle.tb_output.specs.Machine.{MachineView, machine_lists, IsMachine}
-use Rattle.tb_output.specs.Working.{ShowsWork, ShowsBack, shows, shows_back, IsCutShort, Does}
+use Rattle.tb_output.specs.Working.{ShowsBack, shows, shows_back, IsCutShort, Does}
 use Rattle.tb_output.specs.Keeping.{AreNoneOf, HasFloats, HasGrown, IsBack, back_lists, KeepsMachine, KeepsBack}
 use Rattle.tb_output.proofs.ApartLemmas.{apart-none, apart-swap}
 use Rattle.tb_output.proofs.StandLemmas.{IsShownBy}

@@ -23,7 +23,8 @@ use Rattle.tb_output.proofs.WideLemmas.{KeepsDouble, clear_by-double}
 use Rattle.tb_output.proofs.SideSteps.{text_out-sides}
 use Rattle.tb_output.proofs.ServeOutcomes.{current_floats, way_floats}
 use Rattle.tb_output.proofs.CycleStates.{Kind, any, doubled, once, topped, ready, halted, clean, single, closed, credit, Holds, Phase, starting, second, ending, phase_cost, PhaseHolds, FloatsFit, Bounded, GoalOut, goal-out}
-use Rattle.tb_output.proofs.CycleFirings.{clear-sort, FiresWell, after, finish, finish-shipped, none-count, none-left, true-false, text-fits}
+use Rattle.tb_output.proofs.CycleFirings.{text-fits}
+use Rattle.tb_output.proofs.CycleBreaks.{clear-sort, FiresWell, after, finish, finish-shipped, none-count, none-left, true-false}
 
 -- a clear of an item, or one of the routine, of which there is one fewer then
 pub left-of : (a : ℕ) → (a ≡ 0) ⊎ (a ≡ left_after a clear + 1)

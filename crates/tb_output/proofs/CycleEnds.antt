@@ -19,7 +19,7 @@ use Rattle.tb_output.proofs.ClearOutcomes.{Fits}
 use Rattle.tb_output.proofs.ServeOutcomes.{Served, served, way_floats}
 use Rattle.tb_output.proofs.EndedLemmas.{Ended, ended-both, free-ended}
 use Rattle.tb_output.proofs.CycleStates.{Kind, credit, Holds, Phase, phase_cost, PhaseHolds, FloatsFit, goal-out}
-use Rattle.tb_output.proofs.CycleFirings.{FiresWell, waits, output-cases}
+use Rattle.tb_output.proofs.CycleBreaks.{FiresWell, waits, output-cases}
 use Rattle.tb_output.proofs.CycleVoids.{half_nodes, rest_nodes, v-back, c}
 
 again-ended : Ended false Clear.clear_again

@@ -20,13 +20,15 @@ use Rattle.tb_output.proofs.SortLemmas.{sorts-append}
 use Rattle.tb_output.proofs.AgainLemmas.{Again, Idle, left_after, again-idle, again-clear}
 use Rattle.tb_output.proofs.WaitCosts.{wait_cost, cost-append}
 use Rattle.tb_output.proofs.FollowLemmas.{waiting_floats}
-use Rattle.tb_output.proofs.ClearOutcomes.{NoneWait, Fits, Single, WaitsWell, How, ClearOut, clear-out, halves, more, gathered, gathered-count, halved-state, clear-all}
+use Rattle.tb_output.proofs.ClearOutcomes.{NoneWait, Fits, Single, WaitsWell, How, ClearOut, halves, more, gathered, gathered-count, halved-state, clear-all}
+use Rattle.tb_output.proofs.ClearCases.{clear-out}
 use Rattle.tb_output.proofs.WideLemmas.{KeepsDouble, clear_by-double}
 use Rattle.tb_output.proofs.SideLemmas.{narrow-lists, wide-second, none-second}
 use Rattle.tb_output.proofs.SideSteps.{clear_by-sides}
 use Rattle.tb_output.proofs.ServeOutcomes.{AllCurrent, current_floats, way_floats}
 use Rattle.tb_output.proofs.CycleStates.{Kind, any, doubled, once, topped, ready, halted, clean, single, closed, credit, IsSecond, Holds, Phase, starting, second, ending, phase_cost, PhaseHolds, FloatsFit, Bounded, GoalOut, goal-out}
-use Rattle.tb_output.proofs.CycleFirings.{FiresWell, after, waits, finish, finish-shipped, none-count, none-left, true-false, clear-no-hold, some-or-none, at-ordinary, at-serve, at-hold, output-cases}
+use Rattle.tb_output.proofs.CycleFirings.{at-ordinary, at-serve, at-hold}
+use Rattle.tb_output.proofs.CycleBreaks.{FiresWell, after, waits, finish, finish-shipped, none-count, none-left, true-false, clear-no-hold, some-or-none, output-cases}
 use Rattle.tb_output.proofs.CycleClears.{left-of, region, cost, at-most-one, not-once, not-halted, with-notes}
 
 -- ---- what is put back behind the front

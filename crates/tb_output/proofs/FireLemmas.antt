@@ -10,7 +10,7 @@ use Rattle.tb_builder.specs.Contents.{contents_of}
 use Rattle.tb_builder.specs.Running.{IsSound}
 use Rattle.tb_output.specs.declared.RunFault.{RunFault}
 use Rattle.tb_output.specs.declared.RunFault.TheVariants as faults
-use Rattle.tb_output.specs.State.{State, Work, begun}
+use Rattle.tb_output.specs.State.{Work, begun}
 use Rattle.tb_output.specs.Out.{after_page, waiting_again, out}
 use Rattle.tb_output.specs.Machine.{MachineView, state_shown, events_shown, AreOutputParams, IsMachine}
 use Rattle.tb_output.specs.Working.{shows_boxes, shows_all, IsCutShort, Does}

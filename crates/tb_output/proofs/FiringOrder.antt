@@ -47,7 +47,9 @@ use Rattle.tb_output.proofs.WorkSteps.{column-unrefused, firing-unrefused}
 use Rattle.tb_output.proofs.QuietLemmas.{AllAreas, AddsQuiet, next-added, fill-areas, fill-same}
 use Rattle.tb_output.proofs.FloatlessFeet.{HoldsFloatless, HoldFloatless, BoxesFloatless}
 use Rattle.tb_output.proofs.PageLines.{deeds, kind_deeds, deeds-append, kind_takes, take_lines, append-none, none-front, takes-append, AreEndless, endless-join}
-use Rattle.tb_output.proofs.SpreadLemmas.{IsBehind, IsUnseen, Spread, InHand, IsOpen, quietly, double_again, records-now, sends-now, no-first, all_wide-open, put_out_by-hand, float_columns-hand}
+use Rattle.tb_output.proofs.SpreadLemmas.{IsBehind, IsUnseen, Spread, no-first}
+use Rattle.tb_output.proofs.SpreadSteps.{quietly, double_again}
+use Rattle.tb_output.proofs.SpreadFirings.{InHand, IsOpen, records-now, sends-now, all_wide-open, put_out_by-hand, float_columns-hand}
 use Rattle.tb_output.proofs.ClassOrder.{Order}
 use Rattle.tb_output.proofs.ColumnOrder.{text_hand, outer-rises, settled, cleared}
 use Rattle.tb_output.proofs.TakenOrder.{to_top, to_bottom, to_deferred, to_here}

@@ -1,32 +1,31 @@
 -- The goal of the next page, and a column that stays blank.
-use Rattle.std.proofs.Common.{◌≡◌, refl, sym, subst, ◌∙◌, ap, ℕ, ℤ, pos, Bool, true, false, List, [], ◌∷◌, ◌++◌, map, arith}
-use Rattle.std.specs.Prelude.{All, not, ◌&&◌, ◌-ℤ◌, negsuc, if◌then◌else◌}
+use Rattle.std.proofs.Common.{◌≡◌, refl, sym, ◌∙◌, ap, ℕ, ℤ, pos, Bool, true, false, List, [], ◌++◌, map, arith}
+use Rattle.std.specs.Prelude.{not, ◌&&◌, ◌-ℤ◌, negsuc, if◌then◌else◌}
 use Rattle.std.proofs.lemmas.Bool.Decides.{nat_tests}
 use Rattle.std.proofs.lemmas.Int.{ints}
 use Rattle.std.proofs.lemmas.List.Elements.{All-from_recursion}
 use Rattle.tb_builder.specs.Pageable.{IsGoal}
 use Rattle.tb_pool.specs.Lists.{Lists, list_at}
 use Rattle.tb_node.specs.declared.Node.{Node}
-use Rattle.tb_node.specs.Plain.{PlainNode, plain_of}
+use Rattle.tb_node.specs.Plain.{plain_of}
 use Rattle.tb_node.specs.Fit.{IsSizedNode}
 use Rattle.tb_column.specs.declared.Warn.TheVariants as warnings
 use Rattle.tb_column.specs.declared.Sent.TheVariants as events
 use Rattle.tb_column.specs.Column.{PlainSent}
-use Rattle.tb_column.specs.Shown.{nodes_shown}
 use Rattle.tb_scaled.specs.Scaled.{is_zero, max_dimen}
 use Rattle.tb_param.specs.declared.Params.{Params}
 use Rattle.tb_float.specs.Rooms.{column_room_of}
 use Rattle.tb_output.specs.State.{State, Work}
 use Rattle.tb_output.specs.Out.{hold_penalty, is_int, blank_column, is_crowded, leave_column, with_goal, goal_by, next_goal}
 use Rattle.tb_output.specs.PutBack.{blank_list}
-use Rattle.tb_output.specs.Machine.{MachineView, machine_lists, IsMachine}
+use Rattle.tb_output.specs.Machine.{MachineView, IsMachine}
 use Rattle.tb_output.specs.Shipping.{with_warning}
 use Rattle.tb_output.specs.Working.{ShowsWork, ShowsBack, shows_back, Does}
 use Rattle.tb_output.specs.Keeping.{HasGrown, IsBack, KeepsBack}
 use Rattle.tb_output.proofs.KeepLemmas.{MayGoBack, grown-machine, grown-shows, grown-keeps, keeps-back_then, keeps-back_alone}
 use Rattle.tb_output.proofs.ApartLemmas.{apart-none}
 use Rattle.tb_output.proofs.WarnLemmas.{shown-joined, warned-back}
-use Rattle.tb_output.proofs.WorkingLemmas.{shown_work, does-shown_with}
+use Rattle.tb_output.proofs.WorkingLemmas.{does-shown_with}
 
 -- ---- a column that stays blank
 

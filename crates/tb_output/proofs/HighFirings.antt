@@ -22,7 +22,8 @@ use Rattle.tb_output.proofs.ColumnOutcomes.{IsKept, last-out, first-out, last-sh
 use Rattle.tb_output.proofs.ClearOutcomes.{NoneWait, Fits, How, ClearOut}
 use Rattle.tb_output.proofs.ServeOutcomes.{way_floats}
 use Rattle.tb_output.proofs.CycleStates.{any, phase_cost, PhaseHolds, FloatsFit, GoalOut, goal-out}
-use Rattle.tb_output.proofs.CycleFirings.{FiresWell, QuietOut, after, true-false, clear-no-hold, output-cases, ordinary-again, none-again, cost-of, hold-quiet, serve-quiet, out-fit, o-fits, o-region, o-way, o-cost}
+use Rattle.tb_output.proofs.CycleFirings.{none-again, cost-of, hold-quiet, serve-quiet, out-fit, o-fits, o-region, o-way, o-cost}
+use Rattle.tb_output.proofs.CycleBreaks.{FiresWell, QuietOut, after, true-false, clear-no-hold, output-cases, ordinary-again}
 use Rattle.tb_output.proofs.CycleClears.{left-of, cost, q-out, n-region, n-cost, n-fits, q-least}
 use Rattle.tb_output.proofs.CycleVoids.{bit, half_nodes, rest_nodes, c, v-back, v-cost, v-region, v-fits, v-cycles, v-least, is_second, paused}
 use Rattle.tb_output.proofs.EndedLemmas.{Ended}

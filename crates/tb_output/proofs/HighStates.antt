@@ -12,7 +12,7 @@ use Rattle.tb_output.proofs.WaitCosts.{wait_cost, cost-append, ins-free, AllInse
 use Rattle.tb_output.proofs.SpacedLemmas.{Spaced, spaced-both, free-spaced, free-alone}
 use Rattle.tb_output.proofs.ServeOutcomes.{way_floats}
 use Rattle.tb_output.proofs.CycleStates.{IsSecond, Phase, starting, second, ending, PhaseHolds, FloatsFit}
-use Rattle.tb_output.proofs.CycleFirings.{fits-same, after, goal, waits, wait-total, after-region}
+use Rattle.tb_output.proofs.CycleBreaks.{fits-same, after, goal, waits, wait-total, after-region}
 
 -- nothing is known; the next page does not break at a clear without footnotes; no clear of the routine is to come; the column that is made next is a second one; it is one that ends with the next firing
 pub data Stage : Type 0 where

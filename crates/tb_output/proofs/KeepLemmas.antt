@@ -1,17 +1,17 @@
 -- How what a call changes goes on from call to call.
-use Rattle.std.proofs.Common.{◌≡◌, ◌≢◌, refl, sym, subst, ◌∙◌, ap, ℕ, ◌≤◌, List, [], ◌∷◌, ◌++◌, length, map, append-nil, append_assoc, Option, None, Some, IsSome, true}
+use Rattle.std.proofs.Common.{◌≡◌, refl, sym, subst, ◌∙◌, ap, ℕ, List, [], ◌∷◌, ◌++◌, map, append-nil, Option, None, IsSome, true}
 use Rattle.std.specs.Prelude.{All, option_to_list}
 use Rattle.std.specs.FinMap.{get}
 use Rattle.std.specs.List.{AllByRecursion}
 use Rattle.std.proofs.lemmas.List.{map-append}
 use Rattle.std.proofs.lemmas.List.Elements.{All-append}
 use Rattle.tb_pool.specs.Lists.{Lists, IsLive, list_at}
-use Rattle.tb_pool.specs.Frame.{IsNoneOf, OnlyChanged}
-use Rattle.tb_pool.proofs.FrameLemmas.{none-front, none-back, none-join, frame-then, frame-among, frame-same}
+use Rattle.tb_pool.specs.Frame.{IsNoneOf}
+use Rattle.tb_pool.proofs.FrameLemmas.{none-front, none-back, none-join}
 use Rattle.tb_node.specs.declared.Node.{Node}
 use Rattle.tb_node.specs.declared.Kind.{Kind}
 use Rattle.tb_node.specs.declared.Kind.TheVariants as kinds
-use Rattle.tb_node.specs.Plain.{PlainNode, plain_of}
+use Rattle.tb_node.specs.Plain.{plain_of}
 use Rattle.tb_node.specs.Fit.{IsSizedNode}
 use Rattle.tb_insert.specs.declared.Class.{Class}
 use Rattle.tb_builder.specs.Owned.{inner_of, inner_ids, is_known, AllKnown}
@@ -21,7 +21,7 @@ use Rattle.tb_column.specs.Page.{is_leaf_kind, AreLeaves, IsPageList}
 use Rattle.tb_column.specs.Notes.{AreDistinct}
 use Rattle.tb_output.specs.Machine.{MachineView, machine_lists, IsMachine}
 use Rattle.tb_output.specs.Keeping.{AreNoneOf, KeepsFields, KeepsMachine, HasGrown, back_lists, IsBack, KeepsBack}
-use Rattle.tb_output.proofs.StandLemmas.{Stands, all-front, all-back, all-join, list-same, live-same, list-stands, leaves-shown, machine-live, frame-stands, frame-free, IsShownBy, stands-shown, lists-shown}
+use Rattle.tb_output.proofs.StandLemmas.{Stands, all-front, all-back, list-same, live-same, list-stands, leaves-shown, frame-stands, frame-free, IsShownBy, stands-shown, lists-shown}
 use Rattle.tb_output.proofs.ApartLemmas
 
 -- ---- the fields

@@ -1,5 +1,5 @@
 -- A clear of a page with insertions: the page is filled with glue and put out, and a further clear goes back.
-use Rattle.std.proofs.Common.{◌≡◌, refl, sym, subst, ◌∙◌, ap, ℕ, ◌+◌, ◌≤◌, ◌==◌, true, false, List, [], ◌∷◌, ◌++◌, map, length, length-append, Option, Some, IsSome, arith}
+use Rattle.std.proofs.Common.{◌≡◌, refl, sym, subst, ◌∙◌, ap, ℕ, ◌+◌, ◌==◌, true, false, List, [], ◌∷◌, ◌++◌, map, length, length-append, Option, IsSome, arith}
 use Rattle.std.specs.Prelude.{All}
 use Rattle.std.specs.List.{AllByRecursion}
 use Rattle.std.proofs.lemmas.Bool.{eqb-true}
@@ -10,16 +10,16 @@ use Rattle.tb_scaled.specs.declared.Glue.{Glue}
 use Rattle.tb_scaled.specs.Glue.{filling_glue}
 use Rattle.tb_pool.specs.Lists.{Lists, list_at, with_list}
 use Rattle.tb_pool.specs.Frame.{IsNoneOf}
-use Rattle.tb_pool.proofs.FrameLemmas.{none-front, none-back}
+use Rattle.tb_pool.proofs.FrameLemmas.{none-back}
 use Rattle.tb_node.specs.declared.Kind.TheVariants as kinds
 use Rattle.tb_node.specs.declared.Node.{Node}
 use Rattle.tb_node.specs.Plain.{PlainNode, plain_of, leaf_of, made, skip}
 use Rattle.tb_node.specs.Fit.{IsSizedNode}
 use Rattle.tb_param.specs.declared.Params.{Params}
 use Rattle.tb_column.specs.declared.NoteBox.{NoteBox}
-use Rattle.tb_column.specs.Column.{PlainSent, text_column}
+use Rattle.tb_column.specs.Column.{text_column}
 use Rattle.tb_column.specs.FloatList.{made_node}
-use Rattle.tb_column.specs.Notes.{IsNote, AreNotes, note_shown, notes_shown, note_lists, note_count}
+use Rattle.tb_column.specs.Notes.{IsNote, AreNotes, notes_shown, note_lists, note_count}
 use Rattle.tb_column.specs.Page.{AreLeaves, IsPageList}
 use Rattle.tb_column.specs.Shown.{nodes_shown}
 use Rattle.tb_column.proofs.FloatLemmas.{leaves-append}

@@ -1,8 +1,7 @@
 -- Nodes that are put at the end of a list, one after another.
-use Rattle.std.proofs.Common.{◌≡◌, ◌≢◌, refl, sym, subst, ◌∙◌, ap, ℕ, ℤ, List, [], ◌∷◌, ◌++◌, append-nil, length, map, suc, ◌-◌, ◌<◌, Bool, true, false, Option, Some, None, arith}
+use Rattle.std.proofs.Common.{◌≡◌, refl, sym, subst, ◌∙◌, ap, ℕ, ℤ, List, [], ◌∷◌, ◌++◌, append-nil, length, map, suc, ◌-◌, ◌<◌, Bool, true, false, Option, Some, None, arith}
 use Rattle.std.specs.FinMap.{get, insert}
 use Rattle.tb_pool.specs.Lists.{Lists, list_at, with_list}
-use Rattle.tb_pool.specs.Frame.{IsNoneOf}
 use Rattle.tb_pool.proofs.MapLemmas.{get-insert_same, get-insert_other}
 use Rattle.tb_scaled.specs.Scaled.{is_zero}
 use Rattle.tb_node.specs.declared.Node.{Node}

@@ -4,7 +4,7 @@ use Rattle.std.specs.Prelude.{All}
 use Rattle.std.specs.List.{AllByRecursion}
 use Rattle.std.specs.FinMap.{get}
 use Rattle.tb_pool.specs.Lists.{Lists, IsLive, list_at}
-use Rattle.tb_pool.specs.Frame.{IsNoneOf, OnlyChanged}
+use Rattle.tb_pool.specs.Frame.{OnlyChanged}
 use Rattle.tb_node.specs.declared.Kind.{Kind}
 use Rattle.tb_node.specs.declared.Kind.TheVariants as kinds
 use Rattle.tb_node.specs.declared.Node.{Node}
@@ -19,7 +19,6 @@ use Rattle.tb_column.specs.declared.Sent.TheVariants as events
 use Rattle.tb_column.specs.Column.{PlainColumn, one, wide, two, shipped}
 use Rattle.tb_column.specs.Shown.{nodes_shown, column_shown, sheet_shown, sent_shown}
 use Rattle.tb_column.specs.Page.{is_leaf_kind, AreLeaves, IsPageList, IsPageColumn}
-use Rattle.tb_column.specs.Notes.{AreDistinct}
 use Rattle.tb_output.specs.Machine.{MachineView, state_shown, left_shown, events_shown, sheet_lists, sent_lists, event_lists, left_lists, machine_lists, IsPageSheet, IsPageSent, IsPageLeft, IsMachine}
 use Rattle.tb_output.specs.Keeping.{AreNoneOf}
 

@@ -1,7 +1,6 @@
 -- Calls of a firing one after another: what they do to the work, and what they keep.
-use Rattle.std.proofs.Common.{◌≡◌, refl, sym, subst, ◌∙◌, ap, ℕ, pos, false, List, [], ◌∷◌, ◌++◌, map}
+use Rattle.std.proofs.Common.{◌≡◌, refl, sym, subst, ◌∙◌, ap, ℕ, pos, false, List, [], ◌++◌, map}
 use Rattle.tb_pool.specs.Lists.{Lists, list_at}
-use Rattle.tb_pool.specs.Frame.{IsNoneOf}
 use Rattle.tb_node.specs.declared.Node.{Node}
 use Rattle.tb_node.specs.Plain.{PlainNode, plain_of}
 use Rattle.tb_float.specs.Lists.{FloatLists}
@@ -9,11 +8,10 @@ use Rattle.tb_column.specs.Column.{PlainSent}
 use Rattle.tb_column.specs.declared.Warn.{Warn}
 use Rattle.tb_column.specs.declared.Sent.TheVariants as events
 use Rattle.tb_column.specs.Column.{warned}
-use Rattle.tb_column.specs.Page.{AreLeaves}
 use Rattle.tb_output.specs.declared.RunFault.{RunFault}
 use Rattle.tb_output.specs.declared.RunFault.TheVariants as faults
 use Rattle.tb_output.specs.State.{Work, puts, sends}
-use Rattle.tb_output.specs.Machine.{MachineView, machine_lists, state_shown, events_shown, IsMachine}
+use Rattle.tb_output.specs.Machine.{MachineView, state_shown, events_shown, IsMachine}
 use Rattle.tb_output.specs.Shipping.{with_warning}
 use Rattle.tb_output.specs.Working.{ShowsWork, ShowsBack, shows_back, IsCutShort, Does, Continues}
 use Rattle.tb_output.specs.Keeping.{HasFloats, HasGrown, IsBack, back_lists, KeepsBack}

@@ -1,12 +1,11 @@
 -- The first float or marginal note gets its place: the steps of the work.
-use Rattle.std.proofs.Common.{◌≡◌, refl, sym, subst, ◌∙◌, ap, ℕ, suc, ℤ, pos, ◌+◌, ◌≤◌, Bool, true, false, List, [], ◌∷◌, ◌++◌, map, drop, length, length-append, Option, Some, None, arith}
+use Rattle.std.proofs.Common.{◌≡◌, refl, sym, subst, ◌∙◌, ap, ℕ, suc, ℤ, Bool, true, false, List, [], ◌∷◌, ◌++◌, map, drop, length, length-append, Option, Some, None, arith}
 use Rattle.std.specs.Prelude.{neg_ℤ, if◌then◌else◌, OnSome, IfNone}
 use Rattle.std.specs.List.{slice_get, slice_set}
 use Rattle.std.proofs.lemmas.Int.{ints}
 use Rattle.std.proofs.lemmas.List.{length-set}
 use Rattle.std.proofs.lemmas.List.Elements.{All-from_recursion}
 use Rattle.tb_scaled.specs.declared.Glue.{Glue}
-use Rattle.tb_scaled.specs.Glue.{negated_glue}
 use Rattle.tb_pool.specs.declared.ListId.{ListId}
 use Rattle.tb_pool.specs.Lists.{Lists, list_at}
 use Rattle.tb_node.specs.declared.Float.{Float}
@@ -33,23 +32,20 @@ use Rattle.tb_column.specs.declared.Warn.TheVariants as warnings
 use Rattle.tb_column.specs.declared.Sent.TheVariants as events
 use Rattle.tb_column.specs.Column.{PlainSent, warned}
 use Rattle.tb_column.specs.Shown.{nodes_shown}
-use Rattle.tb_column.specs.Page.{AreLeaves}
 use Rattle.tb_column.specs.Ranges.{IsSizedGlue}
-use Rattle.tb_column.specs.FloatList.{made_node, float_box}
 use Rattle.tb_output.specs.declared.texts.TextSize.{TextSize}
 use Rattle.tb_output.specs.State.{Work, puts, sends, with_floats}
 use Rattle.tb_output.specs.Place.{joined_to, place_float}
-use Rattle.tb_output.specs.Text.{glue_at_end, penalty_nodes, penalty_after, puts_interline, here_nodes, note_nodes, only_here, with_top, defer, moved_warning, with_note_bottom, note_goes, note_at, float_goes, first_goes}
+use Rattle.tb_output.specs.Text.{glue_at_end, penalty_nodes, penalty_after, puts_interline, here_nodes, note_nodes, only_here, with_top, defer, moved_warning, with_note_bottom, note_goes}
 use Rattle.tb_output.specs.PutBack.{glue_of_kind, last_glue, interline_by, interline_list, here_list, note_list}
 use Rattle.tb_output.specs.Machine.{MachineView, IsMachine, AreOutputParams}
 use Rattle.tb_output.specs.Queue.{HasRoomFor}
 use Rattle.tb_output.specs.Shipping.{with_warning}
-use Rattle.tb_output.specs.Turns.{IsColumnPart, IsAreaPart, place_of, without_first, without_note, HasDeferred, float_placed, float_decided, note_placed, first_placed}
+use Rattle.tb_output.specs.Turns.{IsColumnPart, IsAreaPart, place_of, without_first, without_note, HasDeferred, float_placed, note_placed}
 use Rattle.tb_output.specs.declared.RunFault.{RunFault}
 use Rattle.tb_output.specs.declared.RunFault.TheVariants as faults
 use Rattle.tb_output.specs.Working.{ShowsBack, shows_back, IsCutShort, Does, Continues}
 use Rattle.tb_output.specs.Keeping.{HasFloats, HasGrown, IsBack, back_lists, KeepsBack}
-use Rattle.tb_area.specs.Area.{current_place}
 use Rattle.tb_output.proofs.ApartLemmas.{apart-none}
 use Rattle.tb_output.proofs.KeepLemmas.{MayGoBack, keeps-back_alone, keeps-back_same}
 use Rattle.tb_output.proofs.PushLemmas.{last-sized}
@@ -398,69 +394,6 @@ pub note-same : (l : ℕ) (m : MachineView) (store : Lists Node) (z : TextSize) 
     → puts_interline m.params (puts (note_nodes z.depth note at) (moved_warning note at (with_note_bottom at.bottom (with_floats (without_note w.state.floats) w)))) ≡ note_placed m.params z note w
 note-same l m store z note at e before w h =
     ap (note_goes m.params z.depth note (without_note w.state.floats) w) (e ∙ (λ i. placed_note m.params (h.0.state i).page (h.0.state i).two_columns (h.0.state i).first_column z.height (h.0.state i).note_bottom note))
-
--- ---- the first of the current list
-
-entry-same : (f g : Float) → entries.Float f ≡ entries.Float g → f ≡ g
-entry-same f g e = cc
-
--- a float goes where the routine decides
-pub decided-same : (l : ℕ) (m : MachineView) (store : Lists Node) (vert : Bool) (f : Float) (height : ℤ) (place : Where) → place ≡ current_place m.params m.pool.lists m.suppress height f
-    → (before : List PlainSent) (w : Work) → shows_back l m store before w → float_placed m.params vert f place w ≡ float_decided m.params vert f height w
-decided-same l m store vert f height place e before w h =
-    ap (λ (p : Where). float_placed m.params vert f p w) (e ∙ (λ i. current_place m.params (h.0.state i).floats (h.0.state i).suppress height f))
-
-first-float : (p : Params) (vert : Bool) (z : TextSize) (w : Work) (es : List Entry) (f : Float) → w.state.floats.current ≡ es → slice_get es 0 ≡ Some (entries.Float f) → float_decided p vert f z.page w ≡ first_placed p vert z w
-first-float p vert z w [] f e h = let none : None ≡ Some (entries.Float f) = h in absurd cc
-first-float p vert z w (x ∷ es) f e h =
-    let some : Some x ≡ Some (entries.Float f) = h in
-    let same : x ≡ entries.Float f = cc in
-    let list : w.state.floats.current ≡ entries.Float f ∷ es = e ∙ ap (λ y. y ∷ es) same in
-    ap (λ (ds : List Entry). float_goes p vert f (record w.state.floats { current = drop 1 ds }) w (current_place p w.state.floats w.state.suppress z.page f)) list
-    ∙ ap (λ (ds : List Entry). first_goes p vert z.height z.depth z.page ds w) (sym list)
-
-pub float-first : (l : ℕ) (m : MachineView) (store : Lists Node) (vert : Bool) (z : TextSize) (f : Float) → slice_get m.pool.lists.current 0 ≡ Some (entries.Float f)
-    → (before : List PlainSent) (w : Work) → shows_back l m store before w → float_decided m.params vert f z.page w ≡ first_placed m.params vert z w
-float-first l m store vert z f there before w h = first-float m.params vert z w m.pool.lists.current f (λ i. (sym h.0.state i).floats.current) there
-
-first-note : (p : Params) (vert : Bool) (z : TextSize) (w : Work) (es : List Entry) (m : Margin) → w.state.floats.current ≡ es → slice_get es 0 ≡ Some (entries.Left m) → note_placed p z m w ≡ first_placed p vert z w
-first-note p vert z w [] m e h = let none : None ≡ Some (entries.Left m) = h in absurd cc
-first-note p vert z w (x ∷ []) m e h =
-    let some : Some x ≡ Some (entries.Left m) = h in
-    let same : x ≡ entries.Left m = cc in
-    let list : w.state.floats.current ≡ entries.Left m ∷ [] = e ∙ ap (λ y. y ∷ []) same in
-    ap (λ (ds : List Entry). note_at p z.height z.depth m (record w.state.floats { current = drop 2 ds }) w) list
-    ∙ ap (λ (ds : List Entry). first_goes p vert z.height z.depth z.page ds w) (sym list)
-first-note p vert z w (x ∷ y ∷ es) m e h =
-    let some : Some x ≡ Some (entries.Left m) = h in
-    let same : x ≡ entries.Left m = cc in
-    let list : w.state.floats.current ≡ entries.Left m ∷ y ∷ es = e ∙ ap (λ d. d ∷ y ∷ es) same in
-    ap (λ (ds : List Entry). note_at p z.height z.depth m (record w.state.floats { current = drop 2 ds }) w) list
-    ∙ ap (λ (ds : List Entry). first_goes p vert z.height z.depth z.page ds w) (sym list)
-
-pub note-first : (l : ℕ) (m : MachineView) (store : Lists Node) (vert : Bool) (z : TextSize) (note : Margin) → slice_get m.pool.lists.current 0 ≡ Some (entries.Left note)
-    → (before : List PlainSent) (w : Work) → shows_back l m store before w → note_placed m.params z note w ≡ first_placed m.params vert z w
-note-first l m store vert z note there before w h = first-note m.params vert z w m.pool.lists.current note (λ i. (sym h.0.state i).floats.current) there
-
--- neither a float nor a note comes first
-first-none : (p : Params) (vert : Bool) (z : TextSize) (w : Work) (es : List Entry) → w.state.floats.current ≡ es → slice_get es 0 ≡ None → puts_interline p w ≡ first_placed p vert z w
-first-none p vert z w [] e h = ap (λ (ds : List Entry). first_goes p vert z.height z.depth z.page ds w) (sym e)
-first-none p vert z w (x ∷ es) e h = let some : Some x ≡ None = h in absurd cc
-
-pub none-first : (l : ℕ) (m : MachineView) (store : Lists Node) (vert : Bool) (z : TextSize) → slice_get m.pool.lists.current 0 ≡ None
-    → (before : List PlainSent) (w : Work) → shows_back l m store before w → puts_interline m.params w ≡ first_placed m.params vert z w
-none-first l m store vert z none before w h = first-none m.params vert z w m.pool.lists.current (λ i. (sym h.0.state i).floats.current) none
-
-first-right : (p : Params) (vert : Bool) (z : TextSize) (w : Work) (es : List Entry) (m : Margin) → w.state.floats.current ≡ es → slice_get es 0 ≡ Some (entries.Right m) → puts_interline p w ≡ first_placed p vert z w
-first-right p vert z w [] m e h = let none : None ≡ Some (entries.Right m) = h in absurd cc
-first-right p vert z w (x ∷ es) m e h =
-    let some : Some x ≡ Some (entries.Right m) = h in
-    let same : x ≡ entries.Right m = cc in
-    ap (λ (ds : List Entry). first_goes p vert z.height z.depth z.page ds w) (sym (e ∙ ap (λ y. y ∷ es) same))
-
-pub right-first : (l : ℕ) (m : MachineView) (store : Lists Node) (vert : Bool) (z : TextSize) (note : Margin) → slice_get m.pool.lists.current 0 ≡ Some (entries.Right note)
-    → (before : List PlainSent) (w : Work) → shows_back l m store before w → puts_interline m.params w ≡ first_placed m.params vert z w
-right-first l m store vert z note there before w h = first-right m.params vert z w m.pool.lists.current note (λ i. (sym h.0.state i).floats.current) there
 
 -- ---- the penalty between the lines comes after a step
 

@@ -1,6 +1,5 @@
 -- A machine after a warning was sent.
-use Rattle.std.proofs.Common.{◌≡◌, refl, sym, subst, ◌∙◌, ap, ℕ, List, [], ◌∷◌, ◌++◌, map, append_assoc, append-nil}
-use Rattle.std.specs.List.{AllByRecursion}
+use Rattle.std.proofs.Common.{◌≡◌, refl, sym, subst, ◌∙◌, ap, ℕ, List, [], ◌∷◌, ◌++◌, append_assoc, append-nil}
 use Rattle.std.proofs.lemmas.List.{map-append}
 use Rattle.tb_pool.specs.Lists.{Lists}
 use Rattle.tb_node.specs.declared.Node.{Node}
@@ -11,13 +10,13 @@ use Rattle.tb_column.specs.Column.{PlainSent, warned}
 use Rattle.tb_column.specs.Notes.{AreDistinct}
 use Rattle.tb_column.specs.Shown.{sent_shown}
 use Rattle.tb_output.specs.Machine.{MachineView, events_shown, sent_lists, event_lists, left_lists, machine_lists, IsPageSent, IsMachine}
-use Rattle.tb_output.specs.State.{Work, sends}
+use Rattle.tb_output.specs.State.{sends}
 use Rattle.tb_output.specs.Shipping.{with_warning}
-use Rattle.tb_output.specs.Working.{ShowsWork, shows, Does}
-use Rattle.tb_output.specs.Keeping.{KeepsMachine, KeepsFields, IsBack, KeepsBack}
+use Rattle.tb_output.specs.Working.{shows, Does}
+use Rattle.tb_output.specs.Keeping.{KeepsFields, IsBack, KeepsBack}
 use Rattle.tb_output.proofs.StandLemmas.{all-join}
-use Rattle.tb_output.proofs.KeepLemmas.{keeps-alone, keeps-back_alone}
-use Rattle.tb_output.proofs.WorkingLemmas.{shown_work, does-shown}
+use Rattle.tb_output.proofs.KeepLemmas.{keeps-back_alone}
+use Rattle.tb_output.proofs.WorkingLemmas.{does-shown}
 
 pub lists-joined : (es fs : List Sent) → event_lists (es ++ fs) ≡ event_lists es ++ event_lists fs
 lists-joined [] fs = refl

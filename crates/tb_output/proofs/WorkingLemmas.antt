@@ -1,5 +1,5 @@
 -- How what a step does to a work goes on from step to step.
-use Rattle.std.proofs.Common.{◌≡◌, refl, sym, subst, ◌∙◌, ap, ℕ, zero, suc, ◌+◌, List, [], ◌∷◌, ◌++◌, length, take, append_assoc, append-nil, Result, Ok, Err}
+use Rattle.std.proofs.Common.{◌≡◌, refl, sym, subst, ◌∙◌, ap, ℕ, zero, suc, List, [], ◌∷◌, ◌++◌, length, take}
 use Rattle.std.specs.Prelude.{false}
 use Rattle.std.proofs.Math.Seq.{take-length}
 use Rattle.tb_pool.specs.Lists.{Lists}

@@ -28,7 +28,7 @@ pub record IsLeafList (store : Lists Node) (l : ℕ) : Type 0 where
   pub live : IsLive store l
   pub leaves : AreLeaves (list_at store l)
 
--- lists of their own: of those that were live and not the builder's it is none, and none is the builder's now
+-- no two of the lists are the same, each was the builder's before or was not live then, and none is the builder's now
 pub record AreOwnLists (ls : List ℕ) (b now : Builder) (store new : Lists Node) : Type 0 where
   pub apart : AreDistinct ls
   pub fresh : (q : ℕ) → IsLive store q → IsNoneOf q (builder_lists b store) → IsNoneOf q ls

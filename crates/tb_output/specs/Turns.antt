@@ -16,7 +16,7 @@ use Rattle.tb_node.specs.Plain.{PlainNode, node_shape, made, skip}
 use Rattle.tb_node.specs.Sums.{size_of, last_depth}
 use Rattle.tb_float.specs.declared.Part.{Part}
 use Rattle.tb_float.specs.declared.Part.TheVariants as parts
-use Rattle.tb_float.specs.Lists.{FloatLists, floats_of, wide_part, wide_waiting}
+use Rattle.tb_float.specs.Lists.{FloatLists, floats_of, wide_waiting}
 use Rattle.tb_fpage.specs.declared.Wanted.{Wanted}
 use Rattle.tb_fpage.specs.Company.{company}
 use Rattle.tb_area.specs.Area.{current_place}

@@ -1,4 +1,4 @@
-use Rattle.std.proofs.Common.{◌≡◌, sym, subst, ◌∙◌, [], ◌∷◌, ◌++◌}
+use Rattle.std.proofs.Common.{sym, subst, ◌∙◌, ◌∷◌, ◌++◌}
 use Rattle.tb_column.specs.Notes.{note_lists}
 use Rattle.tb_output.specs.Machine.{machine_lists}
 use Rattle.tb_output.specs.Keeping.{AreTextLists, KeepsBack, back_lists}

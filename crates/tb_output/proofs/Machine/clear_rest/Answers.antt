@@ -1,4 +1,4 @@
-use Rattle.std.proofs.Common.{◌≡◌, refl, sym, subst, ◌∙◌, [], Bool}
+use Rattle.std.proofs.Common.{refl, sym, subst, ◌∙◌, [], Bool}
 use Rattle.std.specs.Prelude.{if◌then◌else◌}
 use Rattle.tb_output.specs.PutBack.{clear_list}
 use Rattle.tb_output.specs.Keeping.{HasGrown}

@@ -1,4 +1,4 @@
-use Rattle.std.proofs.Common.{◌≡◌, refl, sym, subst, Bool, true, false, []}
+use Rattle.std.proofs.Common.{◌≡◌, refl, subst, true, false, []}
 use Rattle.tb_output.specs.Machine.{MachineView}
 use Rattle.tb_output.specs.Clear.{clear_wide}
 use Rattle.tb_output.specs.PutBack.{blank_clear_list}

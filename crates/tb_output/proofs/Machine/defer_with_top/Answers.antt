@@ -1,6 +1,3 @@
-use Rattle.std.proofs.Common.{◌≡◌, sym, subst, ap, ◌∙◌}
-use Rattle.tb_float.specs.declared.Entry.TheVariants as entries
-use Rattle.tb_output.specs.Machine.{MachineView}
 use Rattle.tb_output.proofs.TextSteps.{deferred-with_top, warned-first, set-there}
 use Rattle.tb_output.proofs.Machine.defer_with_top.Goals as goal
 

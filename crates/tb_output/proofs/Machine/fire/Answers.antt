@@ -1,8 +1,7 @@
-use Rattle.std.proofs.Common.{◌<◌, ◌+◌, ap, sym, subst, ◌∙◌, FitsSigned, w64, rules, arith}
-use Rattle.std.proofs.lemmas.Int.{to_z-of_z}
+use Rattle.std.proofs.Common.{◌<◌, ◌+◌, ap, sym, subst, ◌∙◌, arith}
 use Rattle.tb_output.specs.Machine.{MachineView}
 use Rattle.tb_output.specs.Working.{shows_boxes, shows_all, IsCutShort, Does}
-use Rattle.tb_output.specs.Firing.{fired_in, whole_work, IsFired, IsRefusal}
+use Rattle.tb_output.specs.Firing.{fired_in, whole_work, IsRefusal}
 use Rattle.tb_output.specs.Turns.{served}
 use Rattle.tb_output.proofs.FireLemmas.{counted, faulted, is-begun, count-below, if-none, is-refused, is-fired, fired-contents, fired-refused}
 use Rattle.tb_output.proofs.Machine.fire.Goals as goal

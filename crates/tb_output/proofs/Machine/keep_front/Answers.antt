@@ -1,4 +1,4 @@
-use Rattle.std.proofs.Common.{◌≡◌, ◌∙◌, ap, sym, subst, ℤ, pos, [], ◌∷◌, take, FitsSigned, w64, rules}
+use Rattle.std.proofs.Common.{◌≡◌, ◌∙◌, ap, sym, subst, pos, [], ◌∷◌, take, FitsSigned, w64, rules}
 use Rattle.std.proofs.lemmas.Int.{to_z-of_z, ints}
 use Rattle.tb_pool.specs.Lists.{list_at, with_list}
 use Rattle.tb_pool.proofs.CallerLemmas.{live_same, live_other}

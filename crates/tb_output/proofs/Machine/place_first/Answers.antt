@@ -8,7 +8,7 @@ use Rattle.tb_output.specs.Turns.{float_decided, note_placed, first_placed}
 use Rattle.tb_output.specs.Working.{shows_back, IsCutShort}
 use Rattle.tb_output.proofs.ResultLemmas.{ok-map, err-map}
 use Rattle.tb_output.proofs.WorkingLemmas.{does-same}
-use Rattle.tb_output.proofs.TextSteps.{float-first, note-first, none-first, right-first}
+use Rattle.tb_output.proofs.CurrentFirst.{float-first, note-first, none-first, right-first}
 use Rattle.tb_output.proofs.Machine.place_first.Goals as goal
 
 pub returns-in-Some-Float-clause-ok : goal.returns-in-Some-Float-clause-ok

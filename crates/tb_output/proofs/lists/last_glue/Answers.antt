@@ -1,4 +1,4 @@
-use Rattle.std.proofs.Common.{◌≡◌, sym, ap, ◌∙◌, ◌-◌, length}
+use Rattle.std.proofs.Common.{sym, ap, ◌∙◌, ◌-◌}
 use Rattle.std.specs.List.{slice_get}
 use Rattle.tb_pool.specs.Lists.{list_at}
 use Rattle.tb_node.specs.declared.Node.{Node}
