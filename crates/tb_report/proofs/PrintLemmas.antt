@@ -28,15 +28,15 @@ module _ (held : ℕ → List Node) where
   node_line-held (kinds.Note name) top = refl
   node_line-held kinds.Whatsit top = refl
 
-  map-end : (ns : List Node) (n : Node) → map (plain_of held) (ns ++ n ∷ []) ≡ map (plain_of held) ns ++ plain_of held n ∷ []
+  pub map-end : (ns : List Node) (n : Node) → map (plain_of held) (ns ++ n ∷ []) ≡ map (plain_of held) ns ++ plain_of held n ∷ []
   map-end [] n = refl
   map-end (m ∷ ms) n = ap (λ t. plain_of held m ∷ t) (map-end ms n)
 
-  shapes-end : (ns : List Node) (n : Node) → map shape_of (ns ++ n ∷ []) ≡ map shape_of ns ++ shape_of n ∷ []
+  pub shapes-end : (ns : List Node) (n : Node) → map shape_of (ns ++ n ∷ []) ≡ map shape_of ns ++ shape_of n ∷ []
   shapes-end [] n = refl
   shapes-end (m ∷ ms) n = ap (λ t. shape_of m ∷ t) (shapes-end ms n)
 
-  shapes-cut : (ns : List Node) (n : Node) (rest : List Node) → map shape_of (ns ++ n ∷ rest) ≡ map shape_of ns ++ shape_of n ∷ map shape_of rest
+  pub shapes-cut : (ns : List Node) (n : Node) (rest : List Node) → map shape_of (ns ++ n ∷ rest) ≡ map shape_of ns ++ shape_of n ∷ map shape_of rest
   shapes-cut [] n rest = refl
   shapes-cut (m ∷ ms) n rest = ap (λ t. shape_of m ∷ t) (shapes-cut ms n rest)
 

@@ -7,7 +7,8 @@ use crate::writing::{end_line, put, put_amount, put_count, put_field, put_named,
 use std::alloc::AllocError;
 use tb_node::{Kind, Name, Node, Side, What, Where};
 
-fn where_text(place: Where) -> &'static [u8]
+/// The word of a place of a float.
+pub fn where_text(place: Where) -> &'static [u8]
     ensures { result.now ≡ where_text place }
 {
     match place {
@@ -20,7 +21,8 @@ fn where_text(place: Where) -> &'static [u8]
     }
 }
 
-fn side_text(side: Side) -> &'static [u8]
+/// The word of the side of a marginal note.
+pub fn side_text(side: Side) -> &'static [u8]
     ensures { result.now ≡ side_text side }
 {
     match side {

@@ -51,8 +51,8 @@ fn put_column(
     put_items(out, store, column.list, column.set)
 }
 
-// The set of a list that keeps its natural size.
-fn unset() -> Set
+/// The set of a list that keeps its natural size, as the double floats above two columns do.
+pub fn unset() -> Set
     ensures { result ≡ unset }
 {
     Set {

@@ -12,8 +12,8 @@ pub fn put(out: &mut Vec<u8>, text: &[u8]) -> Result<(), AllocError>
     out.extend_from_slice(text)
 }
 
-// A space and a text.
-pub(crate) fn put_text(out: &mut Vec<u8>, text: &[u8]) -> Result<(), AllocError>
+/// Appends a space and a text. It fails only where there is no memory; a part may then stand.
+pub fn put_text(out: &mut Vec<u8>, text: &[u8]) -> Result<(), AllocError>
     ensures { OnOk result (out.new.items ≡ out.old.items ++ and_text text.now) }
 {
     put(out, b" ")?;
@@ -35,8 +35,8 @@ pub fn put_amount(out: &mut Vec<u8>, amount: i64) -> Result<(), AllocError>
     put_field(out, i128::from(amount))
 }
 
-// A space and a count.
-pub(crate) fn put_count(out: &mut Vec<u8>, count: u64) -> Result<(), AllocError>
+/// Appends a space and a count. It fails only where there is no memory; a part may then stand.
+pub fn put_count(out: &mut Vec<u8>, count: u64) -> Result<(), AllocError>
     ensures { OnOk result (out.new.items ≡ out.old.items ++ and_count count) }
 {
     put_field(out, i128::from(count))
@@ -59,8 +59,8 @@ pub fn put_measure(out: &mut Vec<u8>, word: &[u8], amount: i64) -> Result<(), Al
     put_amount(out, amount)
 }
 
-// A word and what follows it.
-pub(crate) fn put_named(out: &mut Vec<u8>, word: &[u8], name: &[u8]) -> Result<(), AllocError>
+/// Appends a word and what follows it. It fails only where there is no memory; a part may then stand.
+pub fn put_named(out: &mut Vec<u8>, word: &[u8], name: &[u8]) -> Result<(), AllocError>
     ensures { OnOk result (out.new.items ≡ out.old.items ++ (word.now ++ name.now)) }
 {
     put(out, word)?;

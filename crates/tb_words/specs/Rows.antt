@@ -2,7 +2,7 @@
 use Rattle.std.specs.Prelude.{◌≡◌, List, [], ◌∷◌, codes, Some, None}
 use Rattle.clap.specs.Words.{Text}
 use Rattle.tb_words.specs.Words.{asked}
-use Rattle.tb_words.specs.declared.Mode.TheVariants.{Report, Trace, Print, Lines, Generate}
+use Rattle.tb_words.specs.declared.Mode.TheVariants.{Report, Trace, Print, Lines, Dvi, DviList, Generate}
 
 -- the words after the program's name
 abbrev pub named : List Text → List Text
@@ -18,6 +18,8 @@ pub record WordsRows : Type 0 where
   pub trace : asked (named (codes "--mode" ∷ codes "trace" ∷ [])) ≡ Some Trace
   pub print : asked (named (codes "--mode" ∷ codes "print" ∷ [])) ≡ Some Print
   pub lines : asked (named (codes "--mode" ∷ codes "lines" ∷ [])) ≡ Some Lines
+  pub dvi : asked (named (codes "--mode" ∷ codes "dvi" ∷ [])) ≡ Some Dvi
+  pub dvilist : asked (named (codes "--mode" ∷ codes "dvilist" ∷ [])) ≡ Some DviList
   pub with_equals : asked (named (codes "--mode=print" ∷ [])) ≡ Some Print
   pub another_mode : asked (named (codes "--mode" ∷ codes "nothing" ∷ [])) ≡ None
   -- the count, with its default; it is checked in every mode

@@ -48,6 +48,8 @@ mode_named name count =
     else if bytes_eq name (codes "trace") then Some modes.Trace
     else if bytes_eq name (codes "print") then Some modes.Print
     else if bytes_eq name (codes "lines") then Some modes.Lines
+    else if bytes_eq name (codes "dvi") then Some modes.Dvi
+    else if bytes_eq name (codes "dvilist") then Some modes.DviList
     else if bytes_eq name (codes "gen") then Some (modes.Generate count)
     else None
 
@@ -69,6 +71,8 @@ IsServed modes.Report = Unit {0}
 IsServed modes.Trace = Unit {0}
 IsServed modes.Print = Unit {0}
 IsServed modes.Lines = Unit {0}
+IsServed modes.Dvi = Unit {0}
+IsServed modes.DviList = Unit {0}
 IsServed (modes.Generate count) = IsCount count
 
 -- a count was found, in its range

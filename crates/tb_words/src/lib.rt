@@ -29,6 +29,10 @@ pub enum Mode {
     Print,
     /// Reads a text of paragraphs and writes the galley of their lines.
     Lines,
+    /// Reads a galley and writes its pages as a DVI file.
+    Dvi,
+    /// Reads a DVI file and writes what its pages show, line by line.
+    DviList,
     /// Reads nothing, runs the generated galley of so many items, 1 to 40000, and writes one line about it.
     Generate { count: u32 },
 }
@@ -128,6 +132,8 @@ fn mode_named(name: &str, count: u32) -> Option<Mode>
         "trace" => Some(Mode::Trace),
         "print" => Some(Mode::Print),
         "lines" => Some(Mode::Lines),
+        "dvi" => Some(Mode::Dvi),
+        "dvilist" => Some(Mode::DviList),
         "gen" => Some(Mode::Generate { count }),
         _ => None,
     }

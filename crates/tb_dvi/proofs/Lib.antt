@@ -1,0 +1,15 @@
+pub mod Rows
+pub mod LawLemmas
+pub mod FileLaw
+pub mod ByteLemmas
+pub mod Joining
+pub mod NearLemmas
+pub mod NumberLemmas
+pub mod PlacingLemmas
+pub mod PageLemmas
+pub mod BoundLemmas
+pub mod StepLemmas
+pub mod ListLemmas
+pub mod ProgressLemmas
+mod RunLemmas
+pub mod FrontLemmas
