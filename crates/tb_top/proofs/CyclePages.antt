@@ -28,7 +28,7 @@ use Rattle.tb_output.proofs.WaitCosts.{AllInserted, all-inserted, sort_cost, wai
 use Rattle.tb_output.proofs.EndedLemmas.{Ended, flat_last, ended-pruned, ended-acts, ended-behind, ended-spent}
 use Rattle.tb_output.proofs.ClearPages.{OneFlat, one-flat, clear-ended, FrontFits, front-fits}
 use Rattle.tb_output.proofs.CycleStates.{Kind, any, doubled, once, topped, ready, halted, clean, single, closed, Holds, Phase, starting, second, ending, PhaseHolds}
-use Rattle.tb_output.proofs.CycleFirings.{clear-sort, FiresWell}
+use Rattle.tb_output.proofs.CycleBreaks.{clear-sort, FiresWell}
 use Rattle.tb_top.proofs.RunWeights.{Kept, page_of}
 use Rattle.tb_top.proofs.ClosingRuns.{void-given}
 

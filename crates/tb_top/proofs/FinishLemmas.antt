@@ -124,11 +124,11 @@ pub record ClosesAt (v : View) (r : Routine) (ending : Ending) (old now : Option
 
 -- ---- the first state
 
-over-some : (p : Params) (n : ℕ) (e : Ending) (t : Bool) → int_lt p.maxnodes (pos n) ≡ t → (if t then Some (endings.NodeLimit n) else None) ≡ Some e → (int_lt p.maxnodes (pos n) ≡ true) × (e ≡ endings.NodeLimit n)
+pub over-some : (p : Params) (n : ℕ) (e : Ending) (t : Bool) → int_lt p.maxnodes (pos n) ≡ t → (if t then Some (endings.NodeLimit n) else None) ≡ Some e → (int_lt p.maxnodes (pos n) ≡ true) × (e ≡ endings.NodeLimit n)
 over-some p n e true h k = (h, cc)
 over-some p n e false h k = cc
 
-over-none : (p : Params) (n : ℕ) (t : Bool) → int_lt p.maxnodes (pos n) ≡ t → (if t then Some (endings.NodeLimit n) else None) ≡ None → int_lt p.maxnodes (pos n) ≡ false
+pub over-none : (p : Params) (n : ℕ) (t : Bool) → int_lt p.maxnodes (pos n) ≡ t → (if t then Some (endings.NodeLimit n) else None) ≡ None → int_lt p.maxnodes (pos n) ≡ false
 over-none p n true h k = cc
 over-none p n false h k = h
 

@@ -29,7 +29,8 @@ use Rattle.tb_top.proofs.ShippedRuns.{lists-emptied}
 use Rattle.tb_top.proofs.ShippedOnce.{ships-once}
 use Rattle.tb_top.proofs.ValidPenalties.{interline-calm}
 use Rattle.tb_top.proofs.ClassLemmas.{valid-differ, valid-fit}
-use Rattle.tb_top.proofs.OrderedRuns.{events_lines, RunOrder, run-order}
+use Rattle.tb_top.proofs.OrderedRuns.{RunOrder, run-order}
+use Rattle.tb_top.proofs.FloatlessNodes.{events_lines}
 use Rattle.tb_top.proofs.GalleyLines.{of_kind, galley-suits, LinesRise, galley-rise, later-above, IsOfClass, start-order, one-class, floats-among}
 use Rattle.tb_top.proofs.OrderTests.{some-class, StandsBefore, any-class, class-before, among-in, in-among, before-comes, rises-before, outputs, HoldsNot, past-front, late-carried}
 

@@ -1,13 +1,11 @@
 -- A run keeps the order of a class: from firing to firing, where the lists are empty at each change of columns.
-use Rattle.std.proofs.Common.{◌≡◌, refl, sym, ◌∙◌, ap, subst, ℕ, zero, suc, pos, ◌+◌, ◌<◌, ◌⊎◌, inl, inr, Bool, true, false, List, [], ◌∷◌, ◌++◌, map, take, Option, Some, None, append_assoc, append-nil, arith}
+use Rattle.std.proofs.Common.{◌≡◌, refl, sym, ◌∙◌, ap, subst, ℕ, zero, suc, pos, ◌+◌, ◌<◌, ◌⊎◌, inl, inr, Bool, true, false, List, [], ◌∷◌, ◌++◌, map, take, Option, Some, None, append_assoc, append-nil}
 use Rattle.std.specs.Prelude.{ℤ, pred, int_lt, int_le, ◌&&◌, if◌then◌else◌}
 use Rattle.std.specs.List.{AllByRecursion}
 use Rattle.tb_scaled.specs.Scaled.{awful_bad, min_ℤ, eject_penalty}
 use Rattle.tb_node.specs.declared.Act.{Act}
 use Rattle.tb_node.specs.declared.Act.TheVariants as acts
-use Rattle.tb_node.specs.declared.What.TheVariants as what
-use Rattle.tb_node.specs.Plain.{Matter, hbox, rule, skip, kerned, pen, mark, note, whatsit, Leaf, PlainKind, plain, ins, act, PlainNode}
-use Rattle.tb_node.proofs.Weights.{Weight, matter_weight, leaves_weight, kind_weight, nodes_weight}
+use Rattle.tb_node.specs.Plain.{PlainNode}
 use Rattle.tb_param.specs.declared.Params.{Params}
 use Rattle.tb_param.specs.Release.{has_second}
 use Rattle.tb_break.specs.Prune.{pruned_nodes}
@@ -19,22 +17,22 @@ use Rattle.tb_builder.proofs.CutLemmas.{acted_of, CutAt, AllIns, held-ins}
 use Rattle.tb_float.specs.declared.Entry.{Entry}
 use Rattle.tb_float.specs.declared.Entry.TheVariants as entries
 use Rattle.tb_float.specs.Lists.{FloatLists, floats_among, live_count}
-use Rattle.tb_column.specs.declared.Warn.{Warn}
-use Rattle.tb_column.specs.Column.{PlainColumn, PlainSent, warned, shipped}
+use Rattle.tb_column.specs.Column.{PlainColumn, warned, shipped}
 use Rattle.tb_output.specs.State.{State, Work, Recorded, emptied, ask_of}
 use Rattle.tb_output.specs.Act.{Acted, went, full, act_on, lists_with_taken, taken_float}
 use Rattle.tb_output.specs.Out
 use Rattle.tb_output.specs.Out.{out}
-use Rattle.tb_output.proofs.StateWeights.{ColumnsFit, class_numbers, left_weight}
+use Rattle.tb_output.proofs.StateWeights.{ColumnsFit, class_numbers}
 use Rattle.tb_output.proofs.WorkWeights.{Careful}
 use Rattle.tb_output.proofs.BreakSorts.{at-clear}
 use Rattle.tb_output.proofs.SortLemmas.{Seen, BreakStands, PageStands, pen_sort, page-careful}
 use Rattle.tb_output.proofs.RisingLists.{all-front, all-back, all-join, all-map, IsAmong, IsMissing, IsAbove, Rises, rises-front, rises-more, rises-without}
-use Rattle.tb_output.proofs.ClassLines.{FloatKind, Side, alike, narrow, wider, waits, PartedBy, Parted, IsReleased, is_new, is_of, line_if, kind_lines, class_lines, float_lines, left_lines, sheet_lines, sent_lines, floats-append}
+use Rattle.tb_output.proofs.ClassLines.{FloatKind, Side, alike, narrow, wider, waits, PartedBy, Parted, IsReleased, is_new, is_of, line_if, class_lines, float_lines, left_lines, sent_lines, floats-append}
 use Rattle.tb_output.proofs.RecordLines.{record_lines, placed-more, IsLate, late-more, IsCarried, carried-more}
 use Rattle.tb_output.proofs.QuietLemmas.{AreQuiet, quiet-lines}
 use Rattle.tb_output.proofs.FloatlessFeet.{BoxesFloatless}
-use Rattle.tb_output.proofs.PageLines.{deeds, all-done, act_lines, acts_lines, take_lines, FiredLines, fired-lines, all-taken}
+use Rattle.tb_output.proofs.PageLines.{deeds, act_lines, acts_lines, take_lines}
+use Rattle.tb_output.proofs.FiringLines.{all-done, FiredLines, fired-lines, all-taken}
 use Rattle.tb_output.proofs.SpreadLemmas.{IsBehind, later_lines, IsUnseen, unseen-quiet}
 use Rattle.tb_output.proofs.ClassOrder.{with-second, IsInText, AreInText, ahead_lines, order_lines, Order}
 use Rattle.tb_output.proofs.TakenOrder.{first-of}
@@ -43,118 +41,11 @@ use Rattle.tb_output.proofs.ClosingStates.{Closing}
 use Rattle.tb_top.proofs.ClosingRuns.{progressed, acts-after, fired_closes, StepCloses, step-closes}
 use Rattle.tb_node.specs.declared.Float.{Float}
 use Rattle.tb_output.proofs.OutOrder.{IsOnSide, Suits, InOrder, FiresInOrder, out-order}
-use Rattle.tb_run.specs.Run.{Run, RunEvent, offered, sent, done, dead_cycles, page_limit, node_limit, Progress, progress_by, progress, Step, ends, goes_on, held_count, after_firing, fire, after_progress, step, run_by, run_from}
+use Rattle.tb_run.specs.Run.{Run, sent, done, dead_cycles, page_limit, node_limit, Progress, progress_by, progress, Step, ends, goes_on, held_count, after_firing, fire, after_progress, step, run_by, run_from}
 use Rattle.tb_top.specs.Laws.{IsEmptied, EndsDone}
-use Rattle.tb_top.proofs.RunWeights.{ActFits, ActsFit, After, progress-adds, Kept, page_of, cut, cut_feet, cut_stands, StepWeighs, step-weighs}
+use Rattle.tb_top.proofs.RunWeights.{After, progress-adds, Kept, page_of, cut, cut_feet, cut_stands, StepWeighs, step-weighs}
 use Rattle.tb_float.proofs.SlotLemmas.{floats_among-append}
-
--- ---- events
-
--- the lines of a class in what events ship
-abbrev pub events_lines : FloatKind → List RunEvent → List ℕ
-events_lines k [] = []
-events_lines k (offered t ∷ es) = events_lines k es
-events_lines k (sent (warned w) ∷ es) = events_lines k es
-events_lines k (sent (shipped page sheet) ∷ es) = sheet_lines k sheet ++ events_lines k es
-
-pub events-lines-append : (k : FloatKind) (xs ys : List RunEvent) → events_lines k (xs ++ ys) ≡ events_lines k xs ++ events_lines k ys
-events-lines-append k [] ys = refl
-events-lines-append k (offered t ∷ xs) ys = events-lines-append k xs ys
-events-lines-append k (sent (warned w) ∷ xs) ys = events-lines-append k xs ys
-events-lines-append k (sent (shipped page sheet) ∷ xs) ys = ap (λ l. sheet_lines k sheet ++ l) (events-lines-append k xs ys) ∙ sym (append_assoc (sheet_lines k sheet) (events_lines k xs) (events_lines k ys))
-
-sent-events-lines : (k : FloatKind) (es : List PlainSent) → events_lines k (map sent es) ≡ sent_lines k es
-sent-events-lines k [] = refl
-sent-events-lines k (warned w ∷ es) = sent-events-lines k es
-sent-events-lines k (shipped page sheet ∷ es) = ap (λ l. sheet_lines k sheet ++ l) (sent-events-lines k es)
-
-warnings-lines : (k : FloatKind) (ws : List Warn) → events_lines k (map (λ w. sent (warned w)) ws) ≡ []
-warnings-lines k [] = refl
-warnings-lines k (w ∷ ws) = warnings-lines k ws
-
--- ---- weights that count nothing, or each float
-
-abbrev nothing_weighs : Weight
-nothing_weighs = record { box = λ n. 0; float = λ n. 0; margin = λ n. 0 }
-
-abbrev floats_count : Weight
-floats_count = record { box = λ n. 0; float = λ n. 1; margin = λ n. 0 }
-
-nothing-matter : (n : ℕ) (m : Matter) → matter_weight nothing_weighs n m ≡ 0
-nothing-matter n (hbox (what.Text name) h d) = refl
-nothing-matter n (hbox what.Blank h d) = refl
-nothing-matter n (hbox (what.Float name class place item) h d) = refl
-nothing-matter n (hbox (what.Margin name side shift height depth item) h d) = refl
-nothing-matter n (rule None h d) = refl
-nothing-matter n (rule (Some name) h d) = refl
-nothing-matter n (skip g) = refl
-nothing-matter n (kerned w) = refl
-nothing-matter n (pen p) = refl
-nothing-matter n (mark name) = refl
-nothing-matter n (note name) = refl
-nothing-matter n whatsit = refl
-
-nothing-leaves : (ls : List Leaf) → leaves_weight nothing_weighs ls ≡ 0
-nothing-leaves [] = refl
-nothing-leaves (l ∷ ls) =
-    let a : matter_weight nothing_weighs l.line l.matter ≡ 0 = nothing-matter l.line l.matter in
-    let b : leaves_weight nothing_weighs ls ≡ 0 = nothing-leaves ls in
-    omega arith
-
-nothing-kind : (n : ℕ) (d : PlainKind) → kind_weight nothing_weighs n d ≡ 0
-nothing-kind n (plain m) = nothing-matter n m
-nothing-kind n (ins i) = nothing-leaves i.inner
-nothing-kind n (act (acts.Take f)) = refl
-nothing-kind n (act (acts.TakeMargin m)) = refl
-nothing-kind n (act (acts.Suppress area)) = refl
-nothing-kind n (act (acts.Columns two)) = refl
-
-nothing-nodes : (ns : List PlainNode) → nodes_weight nothing_weighs ns ≡ 0
-nothing-nodes [] = refl
-nothing-nodes (n ∷ ns) =
-    let a : kind_weight nothing_weighs n.line n.kind ≡ 0 = nothing-kind n.line n.kind in
-    let b : nodes_weight nothing_weighs ns ≡ 0 = nothing-nodes ns in
-    omega arith
-
-nothing-left : (o : Option PlainColumn) → left_weight nothing_weighs o ≡ 0
-nothing-left None = refl
-nothing-left (Some c) = nothing-nodes c.nodes
-
--- where nothing weighs, a change of columns drops nothing that weighs
-nothing-fits : (o : Option PlainColumn) (ds : List Act) → ActsFit nothing_weighs o ds
-nothing-fits o [] = tt
-nothing-fits o (a ∷ ds) = (by_act a, nothing-fits o ds)
-  where
-    by_act : (a : Act) → ActFits nothing_weighs o a
-    by_act (acts.Take f) = tt
-    by_act (acts.TakeMargin m) = tt
-    by_act (acts.Suppress area) = tt
-    by_act (acts.Columns two) = nothing-left o
-
-one-float : (k : FloatKind) (n l : ℕ) (d : PlainKind) → kind_weight floats_count l d + n ≡ 0 → kind_lines k d ≡ []
-one-float k n l (plain (hbox (what.Text name) h d)) e = refl
-one-float k n l (plain (hbox what.Blank h d)) e = refl
-one-float k n l (plain (hbox (what.Float name class place item) h d)) e = let never : ⊥ = omega arith in absurd never
-one-float k n l (plain (hbox (what.Margin name side shift height depth item) h d)) e = refl
-one-float k n l (plain (rule name h d)) e = refl
-one-float k n l (plain (skip g)) e = refl
-one-float k n l (plain (kerned w)) e = refl
-one-float k n l (plain (pen p)) e = refl
-one-float k n l (plain (mark name)) e = refl
-one-float k n l (plain (note name)) e = refl
-one-float k n l (plain whatsit) e = refl
-one-float k n l (ins i) e = refl
-one-float k n l (act a) e = refl
-
--- a list in which no float weighs has no float's box
-no-floats : (k : FloatKind) (ns : List PlainNode) → nodes_weight floats_count ns ≡ 0 → class_lines k ns ≡ []
-no-floats k [] e = refl
-no-floats k (n ∷ ns) e =
-    let a : kind_lines k n.kind ≡ [] = one-float k (nodes_weight floats_count ns) n.line n.kind e in
-    ap (λ l. l ++ class_lines k ns) a ∙ no-floats k ns (second (kind_weight floats_count n.line n.kind) (nodes_weight floats_count ns) e)
-  where
-    second : (a b : ℕ) → a + b ≡ 0 → b ≡ 0
-    second a b e = omega arith
+use Rattle.tb_top.proofs.FloatlessNodes.{events_lines, events-lines-append, sent-events-lines, warnings-lines, nothing_weighs, floats_count, nothing-fits, no-floats}
 
 -- ---- a clear
 

@@ -42,22 +42,25 @@ use Rattle.tb_run.specs.Run.{Run, End, done, pool_full, dead_cycles, page_limit,
 use Rattle.tb_top.specs.Paginated.{view_text, end_fault, EndsWith, Paginates, Refuses}
 use Rattle.tb_top.specs.Report.{report, trace, totals_of}
 use Rattle.tb_top.specs.Laws.{KeepsLaws}
-use Rattle.tb_top.specs.Answer.{Reply, summary_line, summary_at, is_done, answer_at, line_at, answer_for_cause, answer_for_lines, err_line, fault_reply, no_lines_reply, lines_reply, galley_reply, run_reply, text_reply, reply_to}
+use Rattle.tb_top.specs.Answer.{Reply, dvi_reply, listing_reply, summary_line, summary_at, is_done, answer_at, line_at, answer_for_cause, answer_for_lines, err_line, fault_reply, no_lines_reply, lines_reply, galley_reply, run_reply, text_reply, reply_to}
 use Rattle.tb_top.specs.Outcome.{Stream, Failed, Gives, Reads, IsUnread, IsGalleyWith, ShowsRunOf, HasLawfulRun, LacksRoomForCycles, Decided, Finished, OutOfCycles, CutOff, StandsAfter, TellsLine, Says, Outcome, Succeeds, IsAnswer, input_of}
 use Rattle.tb_top.proofs.CycleAnswers.{no-room}
+use Rattle.tb_top.specs.declared.dvi_refusal.DviRefusal.{DviRefusal}
+use Rattle.tb_top.specs.declared.dvi_refusal.DviRefusal.TheVariants as undvi
+use Rattle.tb_top.specs.DviRefusal.{dvi_status}
 use Rattle.tb_top.specs.Refusal.{galley_status, page_status, lines_status, input_status, words_status, output_status, refusal_status, refusal_line, page_text, output_text, IsNoGalley}
 
 -- ---- a run that ended
 
 -- the end of a run that is not refused
-answer_at-well : (e : End) → end_fault e ≡ None → answers.Done ≡ answer_at e
+pub answer_at-well : (e : End) → end_fault e ≡ None → answers.Done ≡ answer_at e
 answer_at-well (done left) is = refl
 answer_at-well (pool_full line live) is = cc
 answer_at-well (dead_cycles n) is = cc
 answer_at-well (page_limit n) is = cc
 answer_at-well (node_limit n) is = cc
 
-line_at-well : (e : End) → end_fault e ≡ None → [] ≡ line_at e
+pub line_at-well : (e : End) → end_fault e ≡ None → [] ≡ line_at e
 line_at-well (done left) is = refl
 line_at-well (pool_full line live) is = cc
 line_at-well (dead_cycles n) is = cc
@@ -65,14 +68,14 @@ line_at-well (page_limit n) is = cc
 line_at-well (node_limit n) is = cc
 
 -- the refusal of a run has the answer and the line of the run's end
-page_status-ended : (e : End) (f : PageFault) → end_fault e ≡ Some f → page_status f ≡ answer_at e
+pub page_status-ended : (e : End) (f : PageFault) → end_fault e ≡ Some f → page_status f ≡ answer_at e
 page_status-ended (done left) f is = cc
 page_status-ended (pool_full line live) f is = let same : pages.PoolFull line live ≡ f = cc in rw (← same) refl
 page_status-ended (dead_cycles n) f is = let same : pages.DeadCycles n ≡ f = cc in rw (← same) refl
 page_status-ended (page_limit n) f is = let same : pages.PageLimit n ≡ f = cc in rw (← same) refl
 page_status-ended (node_limit n) f is = let same : pages.NodeLimit n ≡ f = cc in rw (← same) refl
 
-page_text-ended : (e : End) (f : PageFault) → end_fault e ≡ Some f → err_line (page_text f) ≡ line_at e
+pub page_text-ended : (e : End) (f : PageFault) → end_fault e ≡ Some f → err_line (page_text f) ≡ line_at e
 page_text-ended (done left) f is = cc
 page_text-ended (pool_full line live) f is = let same : pages.PoolFull line live ≡ f = cc in rw (← same) refl
 page_text-ended (dead_cycles n) f is = let same : pages.DeadCycles n ≡ f = cc in rw (← same) refl
@@ -80,16 +83,16 @@ page_text-ended (page_limit n) f is = let same : pages.PageLimit n ≡ f = cc in
 page_text-ended (node_limit n) f is = let same : pages.NodeLimit n ≡ f = cc in rw (← same) refl
 
 module _ (m : Mode) (input : List ℕ) (source out : Stream) (read : Reads m source input) where
-  decided_by : (answer : Status) (line : List ℕ) (r : Reply) → reply_to m input ≡ r → answer ≡ r.answer → line ≡ r.line → Appends out.before out.after r.written → Decided (Some m) answer source out line
+  pub decided_by : (answer : Status) (line : List ℕ) (r : Reply) → reply_to m input ≡ r → answer ≡ r.answer → line ≡ r.line → Appends out.before out.after r.written → Decided (Some m) answer source out line
   decided_by answer line r is a l w = record { mode = m; asked_for = refl; input = input; read = read; answered = rw is a; written = rw is w; told = rw is l }
 
   -- with what holds of the galley whose run is shown
-  shown_by : (P : Galley → Type 0) → ShowsRunOf P m input → (answer : Status) (line : List ℕ) (r : Reply) → reply_to m input ≡ r → answer ≡ r.answer → line ≡ r.line → Appends out.before out.after r.written
+  pub shown_by : (P : Galley → Type 0) → ShowsRunOf P m input → (answer : Status) (line : List ℕ) (r : Reply) → reply_to m input ≡ r → answer ≡ r.answer → line ≡ r.line → Appends out.before out.after r.written
       → (d : Decided (Some m) answer source out line) × ShowsRunOf P d.mode d.input
   unfolding decided_by
   shown_by P h answer line r is a l w = (decided_by answer line r is a l w, h)
 
-  cut_off_by : (r : Reply) → reply_to m input ≡ r → r.writes ≡ true → AppendsPrefix out.before out.after r.written → CutOff (Some m) source out
+  pub cut_off_by : (r : Reply) → reply_to m input ≡ r → r.writes ≡ true → AppendsPrefix out.before out.after r.written → CutOff (Some m) source out
   cut_off_by r is w part = record { mode = m; asked_for = refl; input = input; read = read; writes = rw is w; written = rw is part }
 
   module _ (v : View) (g : Galley) (is : reply_to m input ≡ run_reply (view_text v (run_of g)) (run_of g)) (shows : (P : Galley → Type 0) → P g → ShowsRunOf P m input) where
@@ -129,7 +132,7 @@ pub galley_with : (input : List ℕ) (g : Galley) → grammar input ≡ Ok g →
 galley_with input g is P h = record { galley = g; parsed = is; holds = h }
 
 -- what stays has grown by nothing
-nothing : (before after : Option (List ℕ)) → Keeps before after → Appends before after []
+pub nothing : (before after : Option (List ℕ)) → Keeps before after → Appends before after []
 nothing None after kept = tt
 nothing (Some xs) None kept = absurd kept
 nothing (Some xs) (Some ys) kept = kept ∙ sym (append-nil xs)
@@ -160,6 +163,9 @@ trace_reads = record { reads = λ s input g. g; unread = λ s f. f; replies = λ
 pub print_reads : ReadsGalleys modes.Print (λ g. text_reply (printed g))
 print_reads = record { reads = λ s input g. g; unread = λ s f. f; replies = λ input. refl }
 
+pub dvi_reads : ReadsGalleys modes.Dvi (λ g. dvi_reply g.params.textheight (run_of g))
+dvi_reads = record { reads = λ s input g. g; unread = λ s f. f; replies = λ input. refl }
+
 pub replies_to : (m : Mode) (reply : Galley → Reply) → ReadsGalleys m reply → (input : List ℕ) (g : Galley) → grammar input ≡ Ok g → reply_to m input ≡ reply g
 replies_to m reply mode input g is = mode.replies input ∙ ap (galley_reply reply) is
 
@@ -181,6 +187,7 @@ module _ (m : Mode) (reply : Galley → Reply) (mode : ReadsGalleys m reply) (so
   left_by_reading kept (refusals.Pages f) missing = absurd missing
   left_by_reading kept (refusals.Output f) missing = absurd missing
   left_by_reading kept (refusals.Lines f) missing = absurd missing
+  left_by_reading kept (refusals.Dvi f) missing = absurd missing
 
 -- ---- the mode that runs a generated galley
 
@@ -268,9 +275,9 @@ module _ (input : List ℕ) (source out : Stream) (read : Gives source.before so
   left_by_lines kept unbroken.Memory h = (inl kept, refl)
 
 -- what stands where a text was not read
-pub left_unread : (source out : Stream) → Keeps out.before out.after → (f : InputFault) → (f ≡ inputs.Failed → Failed source) → StandsAfter (Some modes.Lines) (input_status f) source out (refusal_line (refusals.Input f))
-left_unread source out kept inputs.Failed rose = (record { mode = modes.Lines; asked_for = refl; failed = rose refl; written = kept }, refl)
-left_unread source out kept inputs.Memory rose = (inl kept, refl)
+pub left_unread : (m : Mode) (source out : Stream) → (Failed source → IsUnread m source) → Keeps out.before out.after → (f : InputFault) → (f ≡ inputs.Failed → Failed source) → StandsAfter (Some m) (input_status f) source out (refusal_line (refusals.Input f))
+left_unread m source out unread kept inputs.Failed rose = (record { mode = m; asked_for = refl; failed = unread (rose refl); written = kept }, refl)
+left_unread m source out unread kept inputs.Memory rose = (inl kept, refl)
 
 -- ---- the line of a refusal
 
@@ -311,6 +318,10 @@ output_status-refused : (f : SinkFault) → output_status f ≢ answers.Done
 output_status-refused outputs.Failed = λ same. cc
 output_status-refused outputs.Memory = λ same. cc
 
+dvi_status-refused : (f : DviRefusal) → dvi_status f ≢ answers.Done
+dvi_status-refused (undvi.TooFar page) = λ same. cc
+dvi_status-refused (undvi.At byte cause) = λ same. cc
+
 -- no refusal is answered as Done
 pub refusal_status-refused : (r : Refusal) → refusal_status r ≢ answers.Done
 refusal_status-refused (refusals.Words f) = words_status-refused f
@@ -320,6 +331,7 @@ refusal_status-refused (refusals.Input f) = input_status-refused f
 refusal_status-refused (refusals.Galley f) = galley_status-refused f
 refusal_status-refused (refusals.Pages f) = page_status-refused f
 refusal_status-refused (refusals.Lines f) = lines_status-refused f
+refusal_status-refused (refusals.Dvi f) = dvi_status-refused f
 
 prefix_told : (line : List ℕ) (err : Stream) → TellsLine line err → AppendsPrefix err.before err.after line
 prefix_told line err (inl all) = prefix_whole err.before err.after line all
@@ -339,6 +351,8 @@ module _ (asked : Option Mode) (source out err : Stream) (line : List ℕ) where
   stays answers.ReadFault ne left told = (line, left, told)
   stays answers.WriteFault ne left told = (line, left, told)
   stays answers.NodeLimit ne left told = (line, left, told)
+  stays answers.TooFar ne left told = (line, left, told)
+  stays answers.Dvi ne left told = (line, left, told)
   stays answers.NoBreaks ne left told = (line, left, told)
 
   -- the outcome of a refusal, whatever became of its line
@@ -389,11 +403,29 @@ lines_answer status (Some xs) (Some ys) input g is =
     let one = lines-read (nat_lt input_limit (length input)) input ys refl g.ended in
     inl (is ∙ ap (λ r. (lines_reply r).answer) (one ∙ ap lines_galley (sym g.given)))
 
+-- what was read and what was left have one listing
+listing-read : (long : Bool) (input rest : List ℕ) → nat_lt input_limit (length input) ≡ long → (length input ≤ input_limit → rest ≡ []) → listing_reply input ≡ listing_reply (input ++ rest)
+listing-read true input rest is ended =
+    let long : nat_lt input_limit (length (input ++ rest)) ≡ true = simp length-append (grind (arith, nat_tests)) in
+    rw (is, long) refl
+listing-read false input rest is ended =
+    let short : length input ≤ input_limit = grind (arith, nat_tests) in
+    rw (ended short, append-nil) refl
+
+listing_answer : (status : Status) (before after : Option (List ℕ)) (input : List ℕ) → Gives before after input → status ≡ (listing_reply input).answer → IfSome before (λ left. (status ≡ (listing_reply left).answer) ⊎ (status ≡ answers.Memory))
+listing_answer status None after input g is = tt
+listing_answer status (Some xs) None input g is = absurd g.given
+listing_answer status (Some xs) (Some ys) input g is =
+    let one = listing-read (nat_lt input_limit (length input)) input ys refl g.ended in
+    inl (is ∙ ap (λ (r : Reply). r.answer) (one ∙ ap listing_reply (sym g.given)))
+
 IsAnswer-given : (m : Mode) (status : Status) (source : Stream) (input : List ℕ) → Reads m source input → status ≡ (reply_to m input).answer → IsAnswer m status source.before
 IsAnswer-given modes.Report status source input g is = galley_answer (λ g. run_reply (report (run_of g)) (run_of g)) status source.before source.after input g is
 IsAnswer-given modes.Trace status source input g is = galley_answer (λ g. run_reply (trace (run_of g)) (run_of g)) status source.before source.after input g is
 IsAnswer-given modes.Print status source input g is = galley_answer (λ g. text_reply (printed g)) status source.before source.after input g is
 IsAnswer-given modes.Lines status source input g is = lines_answer status source.before source.after input g is
+IsAnswer-given modes.Dvi status source input g is = galley_answer (λ g. dvi_reply g.params.textheight (run_of g)) status source.before source.after input g is
+IsAnswer-given modes.DviList status source input g is = listing_answer status source.before source.after input g is
 IsAnswer-given (modes.Generate n) status source input g is = inl is
 
 some_memory : (left : Option (List ℕ)) (P : List ℕ → Type 0) → IfSome left (λ input. P input ⊎ (answers.Memory ≡ answers.Memory))
@@ -423,78 +455,10 @@ module _ (asked : Option Mode) (m : Mode) (source out : Stream) (well : Succeeds
   IsAnswer-stands answers.DeadCycles line left = IsAnswer-decided answers.DeadCycles line left.0
   IsAnswer-stands answers.PageLimit line left = IsAnswer-decided answers.PageLimit line left
   IsAnswer-stands answers.NodeLimit line left = IsAnswer-decided answers.NodeLimit line left
+  IsAnswer-stands answers.TooFar line left = IsAnswer-decided answers.TooFar line left
+  IsAnswer-stands answers.Dvi line left = IsAnswer-decided answers.Dvi line left
   IsAnswer-stands answers.NoBreaks line left = IsAnswer-decided answers.NoBreaks line left
 
   pub IsAnswer-said : (status answer : Status) (line : List ℕ) (err : Stream) → StandsAfter asked status source out line → Says status line answer err → IsAnswer m answer source.before
   IsAnswer-said status answer line err left (inl same) = rw (same.0) (IsAnswer-stands status line left)
   IsAnswer-said status answer line err left (inr want) = rw (want.0) IsAnswer-memory
-
--- ---- what the outcome says of the refusals that the input does not decide
-
--- only a source that failed leaves a mode unread
-unread-failed : (m : Mode) (source : Stream) → IsUnread m source → Failed source
-unread-failed modes.Report source is = is
-unread-failed modes.Trace source is = is
-unread-failed modes.Print source is = is
-unread-failed modes.Lines source is = is
-unread-failed (modes.Generate n) source is = absurd is
-
-pub decided-asked : (asked : Option Mode) (answer : Status) (source out : Stream) (line : List ℕ) → Decided asked answer source out line → asked ≡ None → ⊥
-decided-asked asked answer source out line d none = let no : Some d.mode ≡ None = sym d.asked_for ∙ none in cc
-
-module _ (asked : Option Mode) (source out err : Stream) where
-  pub words-outcome : (answer : Status) → Outcome asked answer source out err → answer ≡ answers.Words → asked ≡ None
-  words-outcome answers.Done o is = cc
-  words-outcome answers.Memory o is = cc
-  words-outcome answers.Words o is = o.1.0.none
-  words-outcome answers.Syntax o is = cc
-  words-outcome answers.Range o is = cc
-  words-outcome answers.PoolFull o is = cc
-  words-outcome answers.DeadCycles o is = cc
-  words-outcome answers.PageLimit o is = cc
-  words-outcome answers.ReadFault o is = cc
-  words-outcome answers.WriteFault o is = cc
-  words-outcome answers.NodeLimit o is = cc
-  words-outcome answers.NoBreaks o is = cc
-
-  pub read-outcome : (answer : Status) → Outcome asked answer source out err → answer ≡ answers.ReadFault → Failed source
-  read-outcome answers.Done o is = cc
-  read-outcome answers.Memory o is = cc
-  read-outcome answers.Words o is = cc
-  read-outcome answers.Syntax o is = cc
-  read-outcome answers.Range o is = cc
-  read-outcome answers.PoolFull o is = cc
-  read-outcome answers.DeadCycles o is = cc
-  read-outcome answers.PageLimit o is = cc
-  read-outcome answers.ReadFault o is = unread-failed o.1.0.mode source o.1.0.failed
-  read-outcome answers.WriteFault o is = cc
-  read-outcome answers.NodeLimit o is = cc
-  read-outcome answers.NoBreaks o is = cc
-
-  pub write-outcome : (answer : Status) → Outcome asked answer source out err → answer ≡ answers.WriteFault → Failed out
-  write-outcome answers.Done o is = cc
-  write-outcome answers.Memory o is = cc
-  write-outcome answers.Words o is = cc
-  write-outcome answers.Syntax o is = cc
-  write-outcome answers.Range o is = cc
-  write-outcome answers.PoolFull o is = cc
-  write-outcome answers.DeadCycles o is = cc
-  write-outcome answers.PageLimit o is = cc
-  write-outcome answers.ReadFault o is = cc
-  write-outcome answers.WriteFault o is = o.1.1
-  write-outcome answers.NodeLimit o is = cc
-  write-outcome answers.NoBreaks o is = cc
-
-  pub refused-outcome : (answer : Status) → Outcome asked answer source out err → asked ≡ None → (answer ≡ answers.Words) ⊎ (answer ≡ answers.Memory)
-  refused-outcome answers.Done o is = absurd (decided-asked asked answers.Done source out _ o.0.0 is)
-  refused-outcome answers.Memory o is = inr refl
-  refused-outcome answers.Words o is = inl refl
-  refused-outcome answers.Syntax o is = absurd (decided-asked asked answers.Syntax source out _ o.1 is)
-  refused-outcome answers.Range o is = absurd (decided-asked asked answers.Range source out _ o.1 is)
-  refused-outcome answers.PoolFull o is = absurd (decided-asked asked answers.PoolFull source out _ o.1 is)
-  refused-outcome answers.DeadCycles o is = absurd (decided-asked asked answers.DeadCycles source out _ o.1.0 is)
-  refused-outcome answers.PageLimit o is = absurd (decided-asked asked answers.PageLimit source out _ o.1 is)
-  refused-outcome answers.ReadFault o is = let no : Some o.1.0.mode ≡ None = sym o.1.0.asked_for ∙ is in cc
-  refused-outcome answers.WriteFault o is = let no : Some o.1.0.mode ≡ None = sym o.1.0.asked_for ∙ is in cc
-  refused-outcome answers.NodeLimit o is = absurd (decided-asked asked answers.NodeLimit source out _ o.1 is)
-  refused-outcome answers.NoBreaks o is = absurd (decided-asked asked answers.NoBreaks source out _ o.1 is)

@@ -30,7 +30,7 @@ printable-list store l h = record {
 printable-column : (store : Lists Node) (c : Column) → IsPageColumn store c → IsPrintable store c
 printable-column store c h = record { list = printable-list store c.list h.list; share = h.share }
 
-printable-sheet : (store : Lists Node) (s : Sheet) → IsPageSheet store s → IsPrintableSheet store s
+pub printable-sheet : (store : Lists Node) (s : Sheet) → IsPageSheet store s → IsPrintableSheet store s
 printable-sheet store (sheets.One c) h = printable-column store c h
 printable-sheet store (sheets.Wide c) h = printable-column store c h
 printable-sheet store (sheets.Two tops at left right) h = (printable-list store tops h.0, printable-column store left h.1, printable-column store right h.2)

@@ -59,7 +59,7 @@ grown (sent (shipped n sheet) ∷ es) t few =
     record { pages = omega (arith, a); warnings = omega (arith, b); boxes = omega (arith, c, e, h); floats = omega (arith, d, f, h) }
 
 -- the same events are sent, whatever is noted
-noted-among : (wanted : Bool) (es : List RunEvent) → sent_among (noted wanted es) ≡ sent_among es
+pub noted-among : (wanted : Bool) (es : List RunEvent) → sent_among (noted wanted es) ≡ sent_among es
 noted-among wanted [] = refl
 noted-among true (offered a ∷ es) = noted-among true es
 noted-among false (offered a ∷ es) = noted-among false es

@@ -1,10 +1,12 @@
 -- What a mode and an input decide: the answer, what is written and the line on err, where no end fails and memory suffices.
-use Rattle.std.specs.Prelude.{ℕ, Bool, true, false, List, [], ◌∷◌, ◌++◌, codes, decimal, Result, Ok, Err, if◌then◌else◌}
+use Rattle.std.specs.Prelude.{ℕ, ℤ, nat_lt, Bool, true, false, List, [], ◌∷◌, ◌++◌, length, codes, decimal, Option, Some, None, Result, Ok, Err, if◌then◌else◌}
 use Rattle.tb_galley.specs.declared.Cause.{Cause}
 use Rattle.tb_galley.specs.declared.Fault.{Fault}
 use Rattle.tb_galley.specs.declared.Galley.{Galley}
 use Rattle.tb_galley.specs.CauseText.{cause_name, is_range_cause}
-use Rattle.tb_galley.specs.Grammar.{grammar}
+use Rattle.tb_galley.specs.Grammar.{grammar, input_limit}
+use Rattle.tb_galley.specs.Faults.{fault}
+use Rattle.tb_galley.specs.declared.Cause.TheVariants as causes
 use Rattle.tb_galley.specs.Print.{printed}
 use Rattle.tb_report.specs.declared.Totals.{Totals}
 use Rattle.tb_report.specs.Lines.{and_count, line}
@@ -12,12 +14,19 @@ use Rattle.tb_generator.specs.Generate.{generated}
 use Rattle.tb_lines.specs.declared.LinesCause.{LinesCause}
 use Rattle.tb_lines.specs.Galley.{NoGalley, faulty, no_breaks, lines_galley}
 use Rattle.tb_lines.specs.RefusalText.{is_range_cause as is_range_of_lines, no_galley_text}
+use Rattle.tb_dvi.specs.declared.DviCause.{DviCause}
+use Rattle.tb_dvi.specs.File.{first_too_far}
+use Rattle.tb_dvi.specs.Progress.{run_bytes}
+use Rattle.tb_dvi.specs.Machine.{Item, Fault as Failure, listed}
+use Rattle.tb_dvi.specs.Listing.{listing}
+use Rattle.tb_dvi.specs.Refusing.{cause_line, far_line}
 use Rattle.tb_words.specs.declared.Mode.{Mode}
 use Rattle.tb_words.specs.declared.Mode.TheVariants as modes
 use Rattle.tb_top.specs.declared.status.Status.{Status}
 use Rattle.tb_top.specs.declared.status.Status.TheVariants as answers
 use Rattle.tb_run.specs.Run.{Run, End, done, pool_full, dead_cycles, page_limit, node_limit, run_of}
 use Rattle.tb_top.specs.Report.{report, trace, totals_of}
+use Rattle.tb_top.specs.DviPages.{run_pages}
 
 -- ---- the answer
 
@@ -146,10 +155,38 @@ abbrev pub lines_reply : Result (List ℕ) NoGalley → Reply
 lines_reply (Ok galley) = text_reply galley
 lines_reply (Err why) = no_lines_reply why
 
+-- the DVI file of a run: the pages before the first out of range, if there is one; else all, and the end of the file if the run ended well
+abbrev pub dvi_file : ℤ → Run → List ℕ
+dvi_file textheight r = run_bytes textheight (run_pages r) (is_done r.end)
+
+-- of a run whose first page out of range is this one, if there is one
+abbrev pub dvi_reply_by : Option ℕ → ℤ → Run → Reply
+dvi_reply_by None textheight r = run_reply (dvi_file textheight r) r
+dvi_reply_by (Some page) textheight r = record { answer = answers.TooFar; written = dvi_file textheight r; line = err_line (far_line page); writes = true }
+
+-- of a run whose pages are written as a DVI file
+abbrev pub dvi_reply : ℤ → Run → Reply
+dvi_reply textheight r = dvi_reply_by (first_too_far 27 (run_pages r)) textheight r
+
+-- a DVI file whose first command that fails is at this byte
+abbrev pub cause_reply : ℕ → DviCause → Reply
+cause_reply byte cause = record { answer = answers.Dvi; written = []; line = err_line (cause_line byte cause); writes = false }
+
+-- of what is listed of a file, and else of its first command that fails
+abbrev pub listed_reply : Result (List Item) Failure → Reply
+listed_reply (Ok items) = text_reply (listing items)
+listed_reply (Err e) = cause_reply e.byte e.cause
+
+-- of a DVI file, unless it is too long
+abbrev pub listing_reply : List ℕ → Reply
+listing_reply input = if nat_lt input_limit (length input) then fault_reply (fault 0 0 causes.InputSize) else listed_reply (listed input)
+
 -- by the mode; an input that is no galley has the reply of its first fault
 abbrev pub reply_to : Mode → List ℕ → Reply
 reply_to modes.Report input = galley_reply (λ g. run_reply (report (run_of g)) (run_of g)) (grammar input)
 reply_to modes.Trace input = galley_reply (λ g. run_reply (trace (run_of g)) (run_of g)) (grammar input)
 reply_to modes.Print input = galley_reply (λ g. text_reply (printed g)) (grammar input)
 reply_to modes.Lines input = lines_reply (lines_galley input)
+reply_to modes.Dvi input = galley_reply (λ g. dvi_reply g.params.textheight (run_of g)) (grammar input)
+reply_to modes.DviList input = listing_reply input
 reply_to (modes.Generate n) input = summary_reply n (run_of (generated n))

@@ -6,6 +6,7 @@ pub mod Firings
 pub mod Status
 pub mod Answer
 pub mod Outcome
+pub mod Input
 pub mod Refusal
 pub mod Rows
 pub mod FloatRows
@@ -13,3 +14,7 @@ pub mod ColumnRows
 pub mod VersionRows
 pub mod LinesRows
 pub mod Written
+pub mod DviPages
+pub mod DviRefusal
+pub mod DviFiles
+pub mod DviWritten

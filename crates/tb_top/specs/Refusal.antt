@@ -17,6 +17,10 @@ use Rattle.tb_lines.specs.declared.LinesRefusal.TheVariants as unbroken
 use Rattle.tb_lines.specs.RefusalText.{refusal_text as lines_text}
 use Rattle.tb_top.specs.declared.refusal.Refusal.{Refusal}
 use Rattle.tb_top.specs.declared.refusal.Refusal.TheVariants as refusals
+use Rattle.tb_top.specs.declared.dvi_pages.DviRunFault.{DviRunFault}
+use Rattle.tb_top.specs.declared.dvi_pages.DviRunFault.TheVariants as undone
+use Rattle.tb_top.specs.declared.dvi_refusal.DviRefusal.TheVariants as dvi
+use Rattle.tb_top.specs.DviRefusal.{dvi_status, dvi_text}
 use Rattle.tb_top.specs.declared.status.Status.{Status}
 use Rattle.tb_top.specs.declared.status.Status.TheVariants as answers
 use Rattle.tb_top.specs.Outcome.{Stream, Failed, Gives}
@@ -68,6 +72,7 @@ refusal_status (refusals.Input f) = input_status f
 refusal_status (refusals.Galley f) = galley_status f
 refusal_status (refusals.Pages f) = page_status f
 refusal_status (refusals.Lines f) = lines_status f
+refusal_status (refusals.Dvi f) = dvi_status f
 
 -- ---- the line on err
 
@@ -109,10 +114,16 @@ refusal_text (refusals.Input f) = input_text f
 refusal_text (refusals.Galley f) = galley_text f
 refusal_text (refusals.Pages f) = page_text f
 refusal_text (refusals.Lines f) = lines_text f
+refusal_text (refusals.Dvi f) = dvi_text f
 
 -- its whole line
 abbrev pub refusal_line : Refusal → List ℕ
 refusal_line r = err_line (refusal_text r)
+
+-- the refusal of a galley's pages that have no whole DVI file
+abbrev pub dvi_fault : DviRunFault → Refusal
+dvi_fault (undone.Pages f) = refusals.Pages f
+dvi_fault (undone.TooFar page) = refusals.Dvi (dvi.TooFar page)
 
 -- ---- of a run before it tells
 
@@ -139,6 +150,7 @@ IsNoGalley source (refusals.Words f) = ⊥
 IsNoGalley source (refusals.Pages f) = ⊥
 IsNoGalley source (refusals.Output f) = ⊥
 IsNoGalley source (refusals.Lines f) = ⊥
+IsNoGalley source (refusals.Dvi f) = ⊥
 
 -- the source gave this galley
 pub record GivesGalley (source : Stream) (g : Galley) : Type 0 where

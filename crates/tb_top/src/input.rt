@@ -1,10 +1,13 @@
-//! Reads the whole input.
-ghost use Rattle.std.specs.Prelude.{◌≡◌, ◌≤◌, IfOk, IsErrOf};
+//! Reads the input, piece by piece.
+ghost use Rattle.std.specs.Prelude.{◌≡◌, ◌++◌, ℕ, List, [], IfOk, OnOk, IsErrOf};
 ghost use Rattle.tb_io.specs.Faults.{Rose};
+ghost use Rattle.tb_galley.specs.Pieces.{fed};
 ghost use Rattle.tb_top.specs.Outcome.{Gives};
+ghost use Rattle.tb_top.specs.Input.{HasRead};
 ghost use Rattle.tb_top.specs.declared.input.InputFault.TheVariants.{Failed, Memory};
 
 use std::alloc::{AllocError, Global};
+use tb_galley::Reader;
 use tb_io::Source;
 
 /// Why the input was not read.
@@ -32,25 +35,64 @@ impl From<tb_io::Failed> for InputFault {
     }
 }
 
-// More bytes than this are no galley, and so the rest is not read.
-const INPUT_LIMIT: usize = 8_388_608;
+/// What the pieces of an input are joined in.
+pub trait Input {
+    /// It was given these bytes.
+    ghost holds: { Self → List ℕ → Type 0 };
+
+    /// Takes one more piece.
+    fn append(&mut self, piece: &[u8]) -> Result<(), AllocError>
+        ensures { (bytes : List ℕ) → holds self.old bytes → OnOk result (holds self.new (bytes ++ piece.now)) };
+}
+
+// A reader of galleys keeps what the lines gave.
+impl Input for Reader {
+    ghost holds = { λ reader bytes. reader ≡ fed bytes };
+
+    fn append(&mut self, piece: &[u8]) -> Result<(), AllocError> {
+        self.feed(piece)
+    }
+}
+
+// A vector keeps all bytes.
+impl Input for Vec<u8> {
+    ghost holds = { λ text bytes. text.items ≡ bytes };
+
+    fn append(&mut self, piece: &[u8]) -> Result<(), AllocError> {
+        self.extend_from_slice(piece)
+    }
+}
+
+// More bytes than this are no input, and so the rest is not read.
+const INPUT_LIMIT: u64 = 8_388_608;
 
 const PIECE: usize = 4096;
 
-/// Reads to the end, or until more bytes than a galley may have were taken.
-pub fn read_input<S: Source>(alloc: Global, source: &mut S) -> Result<Vec<u8>, InputFault>
-    ensures read { IfOk result (λ input. Gives (S.left source.old) (S.left source.new) input.items) }
-    ensures later { S.faults source.old ≤ S.faults source.new }
+/// Reads into an empty input, to the end or until more bytes than an input may have were taken, and not a piece later.
+pub fn read_input<S: Source, I: Input>(source: &mut S, input: &mut I) -> Result<(), InputFault>
+    requires { I.holds input.old [] }
+    ensures read { OnOk result (HasRead I.holds (S.left source.old) (S.left source.new) input.new) }
     ensures failed { IsErrOf result InputFault.Failed → Rose (S.faults source.old) (S.faults source.new) }
 {
-    let mut input = Vec::new(alloc);
+    let mut taken = 0;
     let mut buf = [0u8; PIECE];
-    'reading: while input.len() <= INPUT_LIMIT {
+    'reading: while taken <= INPUT_LIMIT {
         let count = source.read(&mut buf)?;
         if count == 0 {
-            return Ok(input);
+            return Ok(());
         }
-        input.extend_from_slice(&buf[..count])?;
+        input.append(&buf[..count])?;
+        taken += count as u64;
     }
-    Ok(input)
+    Ok(())
+}
+
+/// Reads the whole input as one text.
+pub fn read_text<S: Source>(alloc: Global, source: &mut S) -> Result<Vec<u8>, InputFault>
+    ensures read { IfOk result (λ text. Gives (S.left source.old) (S.left source.new) text.items) }
+    ensures failed { IsErrOf result InputFault.Failed → Rose (S.faults source.old) (S.faults source.new) }
+{
+    let mut text = Vec::new(alloc);
+    read_input(source, &mut text)?;
+    Ok(text)
 }

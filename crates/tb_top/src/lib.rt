@@ -4,6 +4,9 @@
 //! [`paginate`] and writes what the mode asks for, or says on `err` why not.
 #![tactic(auto)]
 
+mod dvi_listing;
+mod dvi_pages;
+mod dvi_refusal;
 mod input;
 mod laws;
 mod pages;

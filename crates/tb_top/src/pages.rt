@@ -86,7 +86,7 @@ pub fn paginate<K: Sink>(
 }
 
 // Writes bytes of the report, where the view shows them.
-fn show<K: Sink>(view: View, bytes: &[u8], out: &mut K) -> Result<(), PageFault>
+pub(crate) fn show<K: Sink>(view: View, bytes: &[u8], out: &mut K) -> Result<(), PageFault>
     ensures { Shows view (K.held out.old) (K.held out.new) (K.faults out.old) (K.faults out.new) bytes.now result }
 {
     match view {
@@ -223,7 +223,7 @@ fn finish<K: Sink>(
 }
 
 // The refusal of a fault of the output routine.
-fn refusal_of(fault: RunFault) -> PageFault
+pub(crate) fn refusal_of(fault: RunFault) -> PageFault
     ensures { IsFaultRefusal fault result }
 {
     match fault {

@@ -1,9 +1,11 @@
 //! Why a run was refused, until its line is written.
 ghost use Rattle.std.specs.Prelude.{◌≡◌, ◌++◌, decimal, IfOk, OnOk};
 ghost use Rattle.tb_top.specs.Answer.{answer_for_cause, answer_for_lines, fault_text, pool_full_text};
-ghost use Rattle.tb_top.specs.Refusal.{refusal_status, galley_status, page_status, lines_status, input_status, words_status, output_status, refusal_text, galley_text, page_text, input_text, words_text, output_text, refusal_line};
+ghost use Rattle.tb_top.specs.Refusal.{refusal_status, galley_status, page_status, lines_status, input_status, words_status, output_status, refusal_text, galley_text, page_text, input_text, words_text, output_text, refusal_line, dvi_fault};
 ghost use Rattle.tb_top.specs.declared.refusal.Refusal.TheVariants.{Words, Input, Galley, Pages, Lines, Output, Memory};
 
+use crate::dvi_pages::DviRunFault;
+use crate::dvi_refusal::{DviRefusal, dvi_status, put_dvi};
 use crate::input::InputFault;
 use crate::{PageFault, Status};
 use std::alloc::{AllocError, Global};
@@ -26,6 +28,8 @@ pub enum Refusal {
     Pages(PageFault),
     /// What was read has no galley of lines.
     Lines(LinesRefusal),
+    /// There is no DVI file, or no listing of one.
+    Dvi(DviRefusal),
     /// A text was not written.
     Output(SinkFault),
     /// There was no memory for what was to be written.
@@ -72,6 +76,17 @@ impl From<LinesRefusal> for Refusal {
     }
 }
 
+impl From<DviRunFault> for Refusal {
+    ghost from_gives = { λ fault e. e ≡ dvi_fault fault };
+
+    fn from(fault: DviRunFault) -> Self {
+        match fault {
+            DviRunFault::Pages(fault) => Refusal::Pages(fault),
+            DviRunFault::TooFar { page } => Refusal::Dvi(DviRefusal::TooFar { page }),
+        }
+    }
+}
+
 impl From<SinkFault> for Refusal {
     ghost from_gives = { λ fault e. e ≡ Output fault };
 
@@ -100,6 +115,7 @@ impl Refusal {
             Refusal::Galley(GalleyFault::Memory) => Status::Memory,
             Refusal::Pages(fault) => page_status(*fault),
             Refusal::Lines(refusal) => lines_status(refusal),
+            Refusal::Dvi(refusal) => dvi_status(*refusal),
             Refusal::Output(fault) => output_status(*fault),
             Refusal::Memory => Status::Memory,
         }
@@ -125,6 +141,7 @@ impl Refusal {
             Refusal::Galley(GalleyFault::Memory) => line.extend_from_slice(b"out of memory"),
             Refusal::Pages(fault) => put_page_fault(line, *fault),
             Refusal::Lines(refusal) => put_refusal(line, refusal),
+            Refusal::Dvi(refusal) => put_dvi(line, *refusal),
             Refusal::Output(fault) => line.extend_from_slice(output_text(*fault)),
             Refusal::Memory => line.extend_from_slice(b"out of memory"),
         }

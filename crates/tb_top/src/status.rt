@@ -27,6 +27,10 @@ pub enum Status {
     Memory,
     /// More nodes than `maxnodes` were held.
     NodeLimit,
+    /// A page is out of the range of DVI.
+    TooFar,
+    /// What was read is no DVI file that can be listed.
+    Dvi,
     /// No way to break a paragraph into lines is feasible.
     NoBreaks,
 }
@@ -48,6 +52,8 @@ impl Status {
             Status::WriteFault => 9,
             Status::Memory => 10,
             Status::NodeLimit => 11,
+            Status::TooFar => 13,
+            Status::Dvi => 14,
             Status::NoBreaks => 15,
         }
     }

@@ -1,5 +1,7 @@
 // Whole runs over ends in memory.
 mod column_rows;
+mod cuts;
+mod ends;
 mod float_rows;
 mod long_page;
 mod modes;
@@ -40,6 +42,13 @@ const NONE: Failing<'static> = Failing {
     lines: &[],
 };
 
+// A galley of 125 bytes.
+const INPUT: &[u8] =
+    b"galley 1\nset textheight 30\nset topskip 10\nset maxdepth 0\nset bottom flush\nbox a 12 0\nglue 0\nbox b 12 0\nglue 0\nbox c 12 0\nend\n";
+
+const REPORT: &[u8] =
+    b"report 1\npage 1 one\ncolumn 1 text height 30 natural 24 set none\nbox a 0 12 0\nbox b 12 12 0\npage 2 one\ncolumn 1 text height 30 natural 12 set stretch fil 18/65536\nbox c 0 12 0\nend pages 2 boxes 3 floats 0 warnings 0\n";
+
 // Runs with no words on an input that is read by pieces of 50 bytes.
 fn run_on(alloc: Global, input: &[u8], failing: &Failing<'_>) -> Result<Left, Fail> {
     run_with(alloc, &[], input, failing)
@@ -52,18 +61,30 @@ fn run_with(
     input: &[u8],
     failing: &Failing<'_>,
 ) -> Result<Left, Fail> {
-    let mut source = MemSource::new(input.to_vec(alloc)?, 50, failing.reads.to_vec(alloc)?);
+    run_by(alloc, words, input, 50, failing)
+}
+
+// The same on an input that is read by pieces of this size, or of one byte where it is 0.
+fn run_by(
+    alloc: Global,
+    words: &[String],
+    input: &[u8],
+    piece: usize,
+    failing: &Failing<'_>,
+) -> Result<Left, Fail> {
+    let piece = piece.max(1);
+    let mut source = MemSource::new(input.to_vec(alloc)?, piece, failing.reads.to_vec(alloc)?);
     let mut out = MemSink::new(alloc, failing.writes.to_vec(alloc)?);
     let mut err = MemSink::new(alloc, failing.lines.to_vec(alloc)?);
     let status = run(alloc, words, &mut source, &mut out, &mut err).code();
     Ok(Left { status, out, err })
 }
 
-// Runs each row, and tells where it differs.
-fn check(rt: &impl Abort, alloc: Global, rows: &[Row]) -> Result<(), Fail> {
+// Runs each row on an input that is read by pieces of this size, and tells where it differs.
+fn check(rt: &impl Abort, alloc: Global, rows: &[Row], piece: usize) -> Result<(), Fail> {
     for row in rows {
         let name = row.name;
-        let left = run_on(alloc, row.input, &NONE)?;
+        let left = run_by(alloc, &[], row.input, piece, &NONE)?;
         assert_eq!(rt; left.status, row.status, "{name}");
         assert_eq!(rt; left.out.held(), row.out, "{name}");
         assert_eq!(rt; left.err.held(), row.err, "{name}");
@@ -73,10 +94,10 @@ fn check(rt: &impl Abort, alloc: Global, rows: &[Row]) -> Result<(), Fail> {
 
 #[test]
 fn rows_have_their_answers(rt: HostRuntime) -> Result<(), Fail> {
-    check(&rt, rt.alloc(), &ROWS)?;
-    check(&rt, rt.alloc(), &FLOAT_ROWS)?;
-    check(&rt, rt.alloc(), &COLUMN_ROWS)?;
-    check(&rt, rt.alloc(), &VERSION_ROWS)
+    check(&rt, rt.alloc(), &ROWS, 50)?;
+    check(&rt, rt.alloc(), &FLOAT_ROWS, 50)?;
+    check(&rt, rt.alloc(), &COLUMN_ROWS, 50)?;
+    check(&rt, rt.alloc(), &VERSION_ROWS, 50)
 }
 
 #[test]
@@ -120,64 +141,6 @@ fn modes_have_their_answers(rt: HostRuntime) -> Result<(), Fail> {
         assert_eq!(rt; left.out.held(), row.out, "{name}");
         assert_eq!(rt; left.err.held(), row.err, "{name}");
     }
-    Ok(())
-}
-
-// An input of 125 bytes: four reads, the last at its end.
-const INPUT: &[u8] =
-    b"galley 1\nset textheight 30\nset topskip 10\nset maxdepth 0\nset bottom flush\nbox a 12 0\nglue 0\nbox b 12 0\nglue 0\nbox c 12 0\nend\n";
-
-const REPORT: &[u8] =
-    b"report 1\npage 1 one\ncolumn 1 text height 30 natural 24 set none\nbox a 0 12 0\nbox b 12 12 0\npage 2 one\ncolumn 1 text height 30 natural 12 set stretch fil 18/65536\nbox c 0 12 0\nend pages 2 boxes 3 floats 0 warnings 0\n";
-
-#[test]
-fn each_failing_call_is_answered(rt: HostRuntime) -> Result<(), Fail> {
-    let alloc = rt.alloc();
-    for call in 1..=4 {
-        let left = run_on(
-            alloc,
-            INPUT,
-            &Failing {
-                reads: &[call],
-                ..NONE
-            },
-        )?;
-        assert_eq!(rt; left.status, 8, "at read {call}");
-        assert_eq!(rt; left.out.held(), b"".as_slice());
-        assert_eq!(rt; left.err.held(), b"galley_pages: read fault\n".as_slice());
-    }
-    assert_eq!(rt;
-        run_on(
-            alloc,
-            INPUT,
-            &Failing {
-                reads: &[5],
-                ..NONE
-            }
-        )?
-        .status,
-        0
-    );
-    let mut failed = 0;
-    for call in 1..=9 {
-        let left = run_on(
-            alloc,
-            INPUT,
-            &Failing {
-                writes: &[call],
-                ..NONE
-            },
-        )?;
-        assert!(rt; REPORT.starts_with(left.out.held()), "at write {call}");
-        if left.status == 0 {
-            assert_eq!(rt; left.err.held(), b"".as_slice());
-        } else {
-            assert_eq!(rt; left.status, 9, "at write {call}");
-            assert_eq!(rt; left.err.held(), b"galley_pages: write fault\n".as_slice());
-            failed = call;
-        }
-    }
-    assert!(rt; 0 < failed && failed < 9);
     Ok(())
 }
 

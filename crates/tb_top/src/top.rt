@@ -8,27 +8,30 @@ ghost use Rattle.tb_words.specs.Words.{asked, IsCount};
 ghost use Rattle.tb_top.specs.Outcome.{Stream, stream, Outcome, StandsAfter, Succeeds, IsAnswer, Says};
 ghost use Rattle.tb_top.specs.Refusal.{served_status, served_line, refusal_status, refusal_line, IsNoGalley, GivesGalley};
 
-use crate::input::read_input;
+use crate::dvi_listing::listing_of;
+use crate::dvi_pages::paginate_dvi;
+use crate::input::{read_input, read_text};
 use crate::refusal::Refusal;
 use crate::summary::summary_text;
 use crate::{Status, View, paginate};
 use std::alloc::Global;
-use tb_galley::{Galley, parse, print};
+use tb_galley::{Galley, new_reader, print};
 use tb_generator::generate;
 use tb_io::{Sink, SinkFault, Source, write_all};
 use tb_lines::lines_galley;
 use tb_words::{Mode, read_words};
 
 /// Does what the words ask for: reads a galley from `source` and writes its report, its report with the places that were
-/// tried, or its canonical text to `out`, or reads a text of paragraphs and writes the galley of their lines, or says on
-/// `err` why not.
+/// tried, its canonical text or the DVI file of its pages to `out`, or reads a text of paragraphs and writes the galley of
+/// their lines, or reads a DVI file and writes what its pages show, or says on `err` why not.
 ///
 /// `words` are the program's name and the words after it; an empty list is read as the name alone. They are read by one
-/// command of `clap`, as [`tb_words`] says. The whole galley is read and parsed before anything is written. Reading stops
-/// at the end of input, or once more than 8388608 bytes were taken. Each answer but `Done` writes one line to `err`, after
-/// all else; where `err` fails the answer stays, and where there is no memory for the line it becomes `Memory`.
+/// command of `clap`, as [`tb_words`] says. The whole galley is read and parsed before anything is written, in pieces of at
+/// most 4096 bytes. Reading stops at the end of input, or once more than 8388608 bytes were taken, and not a piece later. Each
+/// answer but `Done` writes one line to `err`, after all else; where `err` fails the answer stays, and where there is no memory
+/// for the line it becomes `Memory`.
 ///
-/// After `Done` in report or trace mode the run of the galley kept the laws of whole runs: each box, rule, float and note
+/// After `Done` in report, trace or dvi mode the run of the galley kept the laws of whole runs: each box, rule, float and note
 /// shipped once, the text in its order, and the floats of each class (in release 2014 of each class and width) in theirs, but
 /// for those that a break carried; no float without `!` was placed past the limits of its area, and all float lists were
 /// empty at each change of columns and at the end. `DeadCycles` comes only where `maxdeadcycles` is less than sixteen and
@@ -82,6 +85,8 @@ fn serve<S: Source, K: Sink>(
         Mode::Trace => write_trace(alloc, source, out),
         Mode::Print => write_canonical(alloc, source, out),
         Mode::Lines => write_lines(alloc, source, out),
+        Mode::Dvi => write_dvi(alloc, source, out),
+        Mode::DviList => write_listing(alloc, source, out),
         Mode::Generate { count } => write_summary(alloc, count, out),
     }
 }
@@ -146,9 +151,38 @@ fn write_lines<S: Source, K: Sink>(
         (stream (K.held out.old) (K.held out.new) (K.faults out.old) (K.faults out.new))
         (served_line result) }
 {
-    let input = read_input(alloc, source)?;
+    let input = read_text(alloc, source)?;
     let galley = lines_galley(alloc, &input)?;
     write_all(out, &galley)?;
+    Ok(())
+}
+
+// Reads a galley and writes its pages as a DVI file.
+fn write_dvi<S: Source, K: Sink>(alloc: Global, source: &mut S, out: &mut K) -> Result<(), Refusal>
+    ensures { StandsAfter (Some Mode.Dvi) (served_status result)
+        (stream (S.left source.old) (S.left source.new) (S.faults source.old) (S.faults source.new))
+        (stream (K.held out.old) (K.held out.new) (K.faults out.old) (K.faults out.new))
+        (served_line result) }
+{
+    let galley = read_galley(alloc, source)?;
+    paginate_dvi(alloc, &galley, out)?;
+    Ok(())
+}
+
+// Reads a DVI file and writes what its pages show.
+fn write_listing<S: Source, K: Sink>(
+    alloc: Global,
+    source: &mut S,
+    out: &mut K,
+) -> Result<(), Refusal>
+    ensures { StandsAfter (Some Mode.DviList) (served_status result)
+        (stream (S.left source.old) (S.left source.new) (S.faults source.old) (S.faults source.new))
+        (stream (K.held out.old) (K.held out.new) (K.faults out.old) (K.faults out.new))
+        (served_line result) }
+{
+    let input = read_text(alloc, source)?;
+    let listing = listing_of(alloc, &input)?;
+    write_all(out, &listing)?;
     Ok(())
 }
 
@@ -166,14 +200,15 @@ fn write_summary<K: Sink>(alloc: Global, count: u32, out: &mut K) -> Result<(), 
     Ok(())
 }
 
-// Reads the whole input, and the galley in it.
+// Reads the galley in the input, of which no more is kept than what its lines gave.
 fn read_galley<S: Source>(alloc: Global, source: &mut S) -> Result<Galley, Refusal>
     ensures read { IfOk result (GivesGalley (stream (S.left source.old) (S.left source.new) (S.faults source.old) (S.faults source.new))) }
     ensures valid { IfOk result IsValid }
     ensures refused { IfErr result (IsNoGalley (stream (S.left source.old) (S.left source.new) (S.faults source.old) (S.faults source.new))) }
 {
-    let input = read_input(alloc, source)?;
-    let galley = parse(alloc, &input)?;
+    let mut reader = new_reader(alloc);
+    read_input(source, &mut reader)?;
+    let galley = reader.finish()?;
     Ok(galley)
 }
 

@@ -1,6 +1,8 @@
-// Worked rows with two columns, marginal notes and suppressed areas.
+//! Worked rows with two columns.
+
 use super::rows::Row;
 
+/// Worked rows with two columns, marginal notes and suppressed areas.
 pub const COLUMN_ROWS: [Row; 10] = [
     Row {
         name: "act between kern and glue",

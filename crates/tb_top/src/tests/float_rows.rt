@@ -1,6 +1,8 @@
-// Worked rows with floats in one column.
+//! Worked rows with floats.
+
 use super::rows::Row;
 
+/// Worked rows with floats in one column.
 pub const FLOAT_ROWS: [Row; 18] = [
     Row {
         name: "float of 79 goes here",

@@ -1,4 +1,4 @@
-// A page of 20000 boxes that is built again at each of 400 floats, which all stand in its text.
+//! A page of 20000 boxes that is built again at each of 400 floats, which are all placed in its text.
 
 use std::alloc::{AllocError, Global};
 use tb_text::put_number;
@@ -17,6 +17,7 @@ fn put_line(out: &mut Vec<u8>, before: &[u8], number: u32, after: &[u8]) -> Resu
     out.extend_from_slice(after)
 }
 
+/// The galley of this page, as bytes. It fails only for want of memory.
 pub fn long_galley(alloc: Global) -> Result<Vec<u8>, AllocError> {
     let mut out = Vec::from_slice(alloc, SETS)?;
     for k in 1..BOXES + 1 {
@@ -29,7 +30,8 @@ pub fn long_galley(alloc: Global) -> Result<Vec<u8>, AllocError> {
     Ok(out)
 }
 
-// The top skip leaves 9sp above the first box, each box is 1sp high, and so is each float.
+/// The report of this page, as bytes: the top skip leaves 9sp above the first box, and each box and each float is 1sp
+/// high. It fails only for want of memory.
 pub fn long_report(alloc: Global) -> Result<Vec<u8>, AllocError> {
     let mut out = Vec::from_slice(
         alloc,

@@ -1,13 +1,20 @@
-// The worked rows: what is read, the exit status, and what stands on out and err after the run.
+//! Worked rows of the page builder: text, footnotes and refusals.
 
+/// A worked row: a galley, and what a run with no words makes of it.
 pub struct Row {
+    /// Its name, printed if the run differs.
     pub name: &'static str,
+    /// What is read.
     pub input: &'static [u8],
+    /// The exit status.
     pub status: u8,
+    /// What is on standard output after the run.
     pub out: &'static [u8],
+    /// What is on standard error after the run.
     pub err: &'static [u8],
 }
 
+/// The worked rows with text and footnotes alone, and those of each refusal.
 pub const ROWS: [Row; 32] = [
     Row {
         name: "three boxes one page",

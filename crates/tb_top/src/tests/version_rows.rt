@@ -1,6 +1,8 @@
-// Worked rows of galley version 2 and release 2014.
+//! Worked rows of other versions.
+
 use super::rows::Row;
 
+/// Worked rows of galley version 2 and of release 2014.
 pub const VERSION_ROWS: [Row; 4] = [
     Row {
         name: "class of factor 500",

@@ -26,3 +26,9 @@ write_summary-requires g c = subst IsServed c.in-Generate.is c.in_ok-mode.ensure
 
 pub returns-in-Generate : goal.returns-in-Generate
 returns-in-Generate g c = rw (c.in_ok-mode.ensures.asked, c.in-Generate.is) (c.write_summary.ensures _ (keeps-same _))
+
+pub returns-in-Dvi : goal.returns-in-Dvi
+returns-in-Dvi g c = rw (c.in_ok-mode.ensures.asked, c.in-Dvi.is) c.write_dvi.ensures
+
+pub returns-in-DviList : goal.returns-in-DviList
+returns-in-DviList g c = rw (c.in_ok-mode.ensures.asked, c.in-DviList.is) c.write_listing.ensures

@@ -11,7 +11,7 @@ use Rattle.tb_top.proofs.top.write_lines.Goals as goal
 pub returns-in_err-input : goal.returns-in_err-input
 returns-in_err-input g c =
     let p = err_from_is_err_and c.from_residual.result c.from_residual.ensures.1 in
-    rw (p.1, p.2) (left_unread _ _ (keeps-same _) c.in_err-input.field-0.0 (λ is. c.in_err-input.ensures.failed (ap Err is)))
+    rw (p.1, p.2) (left_unread Lines _ _ (λ f. f) (keeps-same _) c.in_err-input.field-0.0 (λ is. c.in_err-input.ensures.failed (ap Err is)))
 
 pub returns-in_err-galley : goal.returns-in_err-galley
 returns-in_err-galley g c =

@@ -1,0 +1,18 @@
+use Rattle.std.proofs.Common.{◌≡◌, ◌≤◌}
+use Rattle.tb_dvi.specs.Progress.{IsInFile}
+use Rattle.tb_run.specs.Run.{run_of, firings_left}
+use Rattle.tb_run.specs.Turning.{IsReady, state_of}
+use Rattle.tb_top.proofs.DviGoing.{Going}
+use Rattle.tb_top.proofs.dvi_pages.paginate_dvi.Given as goal
+
+abbrev pub invariant-firing : goal.invariant-firing
+invariant-firing g l = record {
+  ready : IsReady l.routine;
+  params : l.routine.machine.params ≡ l.fn.galley.params;
+  in_file : IsInFile l.progress;
+  going : Going l.fn.galley.params (state_of l.routine) (g.K.Sink.held l.fn.out) (g.K.Sink.held l.out) l.progress (run_of l.fn.galley);
+  later : g.K.Sink.faults l.fn.out ≤ g.K.Sink.faults l.out;
+}
+
+abbrev pub decreases-firing : goal.decreases-firing
+decreases-firing g l = firings_left l.fn.galley.params (state_of l.routine)

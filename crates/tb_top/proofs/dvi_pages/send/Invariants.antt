@@ -1,0 +1,17 @@
+use Rattle.std.proofs.Common.{◌≤◌, ℕ, List, Option, drop}
+use Rattle.tb_dvi.specs.File.{Page}
+use Rattle.tb_dvi.specs.Progress.{IsInFile}
+use Rattle.tb_run.specs.Happened.{events_of}
+use Rattle.tb_run.specs.Turning.{ArePages}
+use Rattle.tb_top.specs.DviPages.{event_pages}
+use Rattle.tb_top.specs.DviWritten.{HoldsPages}
+use Rattle.tb_top.proofs.DviSending.{Sending}
+use Rattle.tb_top.proofs.dvi_pages.send.Given as goal
+
+abbrev pub invariant-loop-happening : goal.invariant-loop-happening
+invariant-loop-happening g l = record {
+  in_file : IsInFile l.progress;
+  sent : (start : Option (List ℕ)) (ps : List Page) → HoldsPages start (g.K.Sink.held l.fn.out) l.fn.progress ps → Sending start (g.K.Sink.held l.out) l.progress ps (event_pages (events_of l.store l.fn.happened)) (event_pages (events_of l.store (drop l.happening-index l.happened)));
+  later : g.K.Sink.faults l.fn.out ≤ g.K.Sink.faults l.out;
+  pages : ArePages l.store (drop l.happening-index l.happened);
+}

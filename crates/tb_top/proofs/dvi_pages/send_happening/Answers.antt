@@ -1,0 +1,13 @@
+use Rattle.std.proofs.Common.{◌≡◌, ◌∙◌, ap, sym, [], ◌++◌, append-nil}
+use Rattle.tb_run.specs.declared.happening.Happening.TheVariants.{Sent}
+use Rattle.tb_column.specs.declared.Sent.TheVariants.{Warn}
+use Rattle.tb_top.proofs.DviSending.{holds-same}
+use Rattle.tb_top.proofs.dvi_pages.send_happening.Goals as goal
+
+pub returns-in-Tried-clause-sent : goal.returns-in-Tried-clause-sent
+returns-in-Tried-clause-sent g c start ps h = rw c.in-Tried.is (holds-same start _ _ ps h (ps ++ []) (append-nil ps))
+
+pub returns-in-Warn-clause-sent : goal.returns-in-Warn-clause-sent
+returns-in-Warn-clause-sent g c start ps h =
+    let warned : c.args.happening.now ≡ Sent (Warn c.in-Warn.field-0) = c.in-Sent.is ∙ ap Sent (sym c.event.view_is ∙ c.in-Warn.is) in
+    rw warned (holds-same start _ _ ps h (ps ++ []) (append-nil ps))

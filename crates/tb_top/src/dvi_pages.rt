@@ -1,0 +1,218 @@
+//! From a galley to the DVI file of its pages.
+
+ghost use Rattle.std.specs.Prelude.{◌≡◌, ◌≤◌, ◌∷◌, [], ◌++◌, List, ℕ, Option, FitsSigned, Err, IfErr, IfNone, IfSome, OnOk};
+ghost use Rattle.std.specs.Int.{w32};
+ghost use Rattle.tb_io.specs.Faults.{Rose};
+ghost use Rattle.tb_galley.specs.Valid.{IsValid};
+ghost use Rattle.tb_column.specs.Shown.{sent_shown, sheet_shown};
+ghost use Rattle.tb_output.specs.Machine.{IsPageSheet};
+ghost use Rattle.tb_dvi.specs.File.{Page, sheet_page};
+ghost use Rattle.tb_dvi.specs.Progress.{IsInFile};
+ghost use Rattle.tb_run.specs.Happened.{event_of, events_of};
+ghost use Rattle.tb_run.specs.Turning.{IsPage, ArePages};
+ghost use Rattle.tb_top.specs.DviPages.{event_pages};
+ghost use Rattle.tb_top.specs.DviFiles.{WritesFile, RefusesFile};
+ghost use Rattle.tb_top.specs.DviWritten.{HoldsPages, SendsPages, IsWriteFailure, EndsFile, StopsFile};
+ghost use Rattle.tb_top.specs.Written.{IsRefusalOf};
+
+use crate::pages::{refusal_of, show};
+use crate::{PageFault, View};
+use std::alloc::{AllocError, Global};
+use tb_column::{Sent, Sheet};
+use tb_dvi::{DviFault, Progress, pre_bytes};
+use tb_galley::Galley;
+use tb_io::Sink;
+use tb_node::Node;
+use tb_param::Params;
+use tb_pool::Lists;
+use tb_run::{Ending, Happening, Routine};
+
+/// Why a galley's pages have no whole DVI file.
+#[derive(Clone, Copy)]
+pub enum DviRunFault {
+    /// The run or its writing stopped.
+    Pages(PageFault),
+    /// This page is out of the range of DVI.
+    TooFar { page: u64 },
+}
+
+impl From<AllocError> for DviRunFault {
+    ghost use Rattle.tb_top.specs.declared.PageFault.TheVariants as faults;
+    ghost use Rattle.tb_top.specs.declared.dvi_pages.DviRunFault.TheVariants.{Pages};
+
+    ghost from_gives = { λ _ e. e ≡ Pages faults.Memory };
+
+    fn from(_: AllocError) -> Self {
+        DviRunFault::Pages(PageFault::Memory)
+    }
+}
+
+impl From<PageFault> for DviRunFault {
+    ghost use Rattle.tb_top.specs.declared.dvi_pages.DviRunFault.TheVariants.{Pages};
+
+    ghost from_gives = { λ fault e. e ≡ Pages fault };
+
+    fn from(fault: PageFault) -> Self {
+        DviRunFault::Pages(fault)
+    }
+}
+
+impl From<DviFault> for DviRunFault {
+    ghost use Rattle.tb_top.specs.DviWritten.{page_failure};
+
+    ghost from_gives = { λ fault e. e ≡ page_failure fault };
+
+    fn from(fault: DviFault) -> Self {
+        match fault {
+            DviFault::TooFar { page } => DviRunFault::TooFar { page },
+            DviFault::Memory => DviRunFault::Pages(PageFault::Memory),
+        }
+    }
+}
+
+/// Makes the pages of a galley and writes them as a DVI file, page by page: the preamble, each page as it is shipped, and
+/// the end of the file if the run ends well.
+///
+/// It fails as `paginate` does, and if a page is out of range (`TooFar`): an item is too far up or down for four bytes, or
+/// the page would end past place 2147483000. The preamble and the pages before are written then. After `WriteFault`,
+/// which comes only if `out` failed, and after `Memory` a prefix of them is written.
+pub fn paginate_dvi<K: Sink>(alloc: Global, galley: &Galley, out: &mut K) -> Result<(), DviRunFault>
+    requires valid { IsValid galley.now }
+    ensures done { OnOk result (WritesFile galley.now (K.held out.old) (K.held out.new)) }
+    ensures refused { IfErr result (RefusesFile galley.now (K.held out.old) (K.held out.new)) }
+    ensures cause { result ≡ Err (DviRunFault.Pages PageFault.WriteFault) → Rose (K.faults out.old) (K.faults out.new) }
+{
+    let start = pre_bytes(alloc)?;
+    show(View::Report, &start, out)?;
+    let mut routine = Routine::new(alloc, galley)?;
+    let mut progress = Progress::new();
+    let mut happened = Vec::new(alloc);
+    let mut text = Vec::new(alloc);
+    if let Some(ending) = routine.node_limit() {
+        return finish(alloc, &galley.params, &progress, ending, out);
+    }
+    'firing: loop {
+        let ending = routine.turn(false, &mut happened)?;
+        send(
+            alloc,
+            &routine.store,
+            &happened,
+            &mut progress,
+            &mut text,
+            out,
+        )?;
+        if let Some(ending) = ending {
+            return finish(alloc, &galley.params, &progress, ending, out);
+        }
+        routine.done_with(&happened);
+    }
+}
+
+// Writes the pages that were sent.
+fn send<K: Sink>(
+    alloc: Global,
+    store: &Lists<Node>,
+    happened: &[Happening],
+    progress: &mut Progress,
+    text: &mut Vec<u8>,
+    out: &mut K,
+) -> Result<(), DviRunFault>
+    requires pages { ArePages store.now happened.now }
+    requires in_file { IsInFile progress.old }
+    ensures in_file { IsInFile progress.new }
+    ensures sent { (start : Option (List ℕ)) (ps : List Page) → HoldsPages start (K.held out.old) progress.old ps → SendsPages result start (K.held out.new) progress.new (ps ++ event_pages (events_of store.now happened.now)) }
+    ensures cause { IfErr result (IsWriteFailure (K.faults out.old) (K.faults out.new)) }
+    ensures later { K.faults out.old ≤ K.faults out.new }
+{
+    for happening in happened {
+        send_happening(alloc, store, happening, progress, text, out)?;
+    }
+    Ok(())
+}
+
+// Writes a page that was sent; a place that was tried and a warning have none.
+fn send_happening<K: Sink>(
+    alloc: Global,
+    store: &Lists<Node>,
+    happening: &Happening,
+    progress: &mut Progress,
+    text: &mut Vec<u8>,
+    out: &mut K,
+) -> Result<(), DviRunFault>
+    requires page { IsPage store.now happening.now }
+    requires in_file { IsInFile progress.old }
+    ensures in_file { IsInFile progress.new }
+    ensures sent { (start : Option (List ℕ)) (ps : List Page) → HoldsPages start (K.held out.old) progress.old ps → SendsPages result start (K.held out.new) progress.new (ps ++ event_pages (event_of store.now happening.now ∷ [])) }
+    ensures cause { IfErr result (IsWriteFailure (K.faults out.old) (K.faults out.new)) }
+    ensures later { K.faults out.old ≤ K.faults out.new }
+{
+    match happening {
+        Happening::Tried(_) => Ok(()),
+        Happening::Sent(event) => match &event.sent {
+            Sent::Warn(_) => Ok(()),
+            Sent::Ship { page, sheet } => {
+                send_page(alloc, store, *page, sheet, progress, text, out)
+            }
+        },
+    }
+}
+
+// Writes the next page, in a text that is used again.
+fn send_page<K: Sink>(
+    alloc: Global,
+    store: &Lists<Node>,
+    number: u64,
+    sheet: &Sheet,
+    progress: &mut Progress,
+    text: &mut Vec<u8>,
+    out: &mut K,
+) -> Result<(), DviRunFault>
+    requires sheet { IsPageSheet store.now sheet.now }
+    requires in_file { IsInFile progress.old }
+    ensures in_file { IsInFile progress.new }
+    ensures sent { (start : Option (List ℕ)) (ps : List Page) → HoldsPages start (K.held out.old) progress.old ps → SendsPages result start (K.held out.new) progress.new (ps ++ sheet_page number (sheet_shown store.now sheet.now) ∷ []) }
+    ensures cause { IfErr result (IsWriteFailure (K.faults out.old) (K.faults out.new)) }
+    ensures later { K.faults out.old ≤ K.faults out.new }
+{
+    text.clear();
+    progress.put_next(text, alloc, store, number, sheet)?;
+    show(View::Report, text.as_slice(), out)?;
+    Ok(())
+}
+
+// The refusal of an ending, but of that of a run that ended well.
+fn fault_of(ending: Ending) -> Option<PageFault>
+    ensures none { IfNone result (ending ≡ Ending.Done) }
+    ensures some { IfSome result (IsRefusalOf ending) }
+{
+    match ending {
+        Ending::Done => None,
+        Ending::PoolFull { line, live } => Some(PageFault::PoolFull { line, live }),
+        Ending::Fault(fault) => Some(refusal_of(fault)),
+        Ending::NodeLimit { count } => Some(PageFault::NodeLimit { count }),
+    }
+}
+
+// The end of a run: the end of the file if it ends well, or its refusal.
+fn finish<K: Sink>(
+    alloc: Global,
+    params: &Params,
+    progress: &Progress,
+    ending: Ending,
+    out: &mut K,
+) -> Result<(), DviRunFault>
+    requires in_file { IsInFile progress.now }
+    requires height { FitsSigned w32 params.now.textheight }
+    ensures done { OnOk result (EndsFile params.now.textheight progress.now ending (K.held out.old) (K.held out.new)) }
+    ensures refused { IfErr result (StopsFile params.now.textheight progress.now ending (K.held out.old) (K.held out.new)) }
+    ensures cause { result ≡ Err (DviRunFault.Pages PageFault.WriteFault) → Rose (K.faults out.old) (K.faults out.new) }
+    ensures later { K.faults out.old ≤ K.faults out.new }
+{
+    if let Some(fault) = fault_of(ending) {
+        return Err(DviRunFault::Pages(fault));
+    }
+    let mut text = Vec::new(alloc);
+    progress.put_end(&mut text, params)?;
+    show(View::Report, &text, out)?;
+    Ok(())
+}

@@ -1,0 +1,98 @@
+//! Ends that fail: each call that a run makes, in turn.
+use super::rows::ROWS;
+use super::*;
+
+// The worked row of equal costs, and the same galley with few sets: what is read, its report, and how many reads of 50 bytes
+// it takes, with the one that finds the end.
+fn runs() -> [(&'static [u8], &'static [u8], u64); 2] {
+    let row = &ROWS[3];
+    [(row.input, row.out, 7), (INPUT, REPORT, 4)]
+}
+
+// A read that fails gives the answer ReadFault and nothing else.
+#[test]
+fn each_failing_read_is_answered(rt: HostRuntime) -> Result<(), Fail> {
+    for (input, report, reads) in runs() {
+        for call in 1..12 {
+            let calls = [call];
+            let failing = Failing {
+                reads: &calls,
+                ..NONE
+            };
+            let left = run_on(rt.alloc(), input, &failing)?;
+            if call <= reads {
+                assert_eq!(rt; left.status, 8, "at read {call}");
+                assert_eq!(rt; left.out.held(), b"".as_slice(), "at read {call}");
+                assert_eq!(rt; left.err.held(), b"galley_pages: read fault\n".as_slice());
+            } else {
+                assert_eq!(rt; left.status, 0, "at read {call}");
+                assert_eq!(rt; left.out.held(), report, "at read {call}");
+            }
+        }
+    }
+    Ok(())
+}
+
+// A write that fails gives the answer WriteFault and leaves a prefix of the report, the first one nothing.
+#[test]
+fn each_failing_write_is_answered(rt: HostRuntime) -> Result<(), Fail> {
+    for (input, report, _) in runs() {
+        let mut writes = 0;
+        for call in 1..=16 {
+            let calls = [call];
+            let failing = Failing {
+                writes: &calls,
+                ..NONE
+            };
+            let left = run_on(rt.alloc(), input, &failing)?;
+            if left.status == 0 {
+                assert_eq!(rt; left.out.held(), report, "at write {call}");
+                assert_eq!(rt; left.err.held(), b"".as_slice());
+            } else {
+                assert_eq!(rt; writes, call - 1, "the calls that are made come first");
+                assert_eq!(rt; left.status, 9, "at write {call}");
+                assert!(rt; report.starts_with(left.out.held()), "at write {call}");
+                assert!(rt; left.out.held() != report, "at write {call}");
+                assert_eq!(rt; left.err.held(), b"galley_pages: write fault\n".as_slice());
+                writes = call;
+            }
+            if call == 1 {
+                assert_eq!(rt; left.out.held(), b"".as_slice());
+            }
+        }
+        assert!(rt; 1 < writes && writes < 16);
+    }
+    Ok(())
+}
+
+// Where err fails too, the answer stays.
+#[test]
+fn failing_err_keeps_the_answer(rt: HostRuntime) -> Result<(), Fail> {
+    let first = [1];
+    let read = Failing {
+        reads: &first,
+        lines: &first,
+        ..NONE
+    };
+    let write = Failing {
+        writes: &first,
+        lines: &first,
+        ..NONE
+    };
+    let line = Failing {
+        lines: &first,
+        ..NONE
+    };
+    let rows = [
+        (INPUT, read, 8),
+        (INPUT, write, 9),
+        (b"".as_slice(), line, 3),
+    ];
+    for (input, failing, status) in rows {
+        let left = run_on(rt.alloc(), input, &failing)?;
+        assert_eq!(rt; left.status, status);
+        assert_eq!(rt; left.out.held(), b"".as_slice());
+        assert_eq!(rt; left.err.held(), b"".as_slice());
+    }
+    Ok(())
+}
