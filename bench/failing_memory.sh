@@ -1,0 +1,134 @@
+#!/usr/bin/env bash
+# Makes each allocation of a whole run of the program fail in turn, for galleys with footnotes, double floats, marginal
+# notes and floats, and prints how many of these runs ended as they may, as 'N of M': Done with the whole report, or
+# Memory (10) with a prefix of the report, and on standard error the line that says so. Fails where N is less than M.
+# Nothing is proved.
+#
+# usage: bench/failing_memory.sh
+#
+# `rt try --fail-alloc N` builds the program for one N. So the program that it builds is kept by a link, and N is changed in
+# it for each run.
+set -euo pipefail
+
+crate=$(cd "$(dirname "${BASH_SOURCE[0]}")/../crates/galley_pages" && pwd)
+work=$(mktemp -d)
+trap 'rm -rf "$work"' EXIT
+
+python3 - "$crate" "$work" <<'PY'
+import glob
+import os
+import subprocess
+import sys
+import time
+
+crate, work = sys.argv[1:]
+NUMBER = 0x7A5B3C1D  # no run makes as many allocations
+IN_CODE = NUMBER.to_bytes(4, "little")
+ENDED = 10  # so many runs without a failure: no allocation is left
+LINE = b"galley_pages: out of memory\n"
+
+PRELUDE = """galley 1
+set textheight {height}
+set topskip 10
+set maxdepth 0
+set baselineskip 0
+set bottom flush
+set skipfootins 0
+set footsplittop 10
+set intextsep 0
+set textfloatsep 0
+set floatsep 0
+set fptop 0
+set fpsep 0
+set fpbot 0
+set dbltextfloatsep 0
+"""
+
+
+def galley(height, lines):
+    return PRELUDE.format(height=height) + lines.replace(" / ", "\n") + "\n"
+
+
+def article():
+    """An article page with all defaults."""
+    after = {
+        1: "foot\nbox f1 6.65pt 2.85pt\nendfoot\n",
+        3: "float figA 1 single tbp 100pt par\n",
+        5: "foot\nbox f2 6.65pt 2.85pt\nendfoot\n",
+        6: "float tabA 2 single ht 60pt vert\n",
+        9: "note idx\n",
+    }
+    boxes = [f"box p{k} 7pt 2pt\n{after.get(k, '')}" for k in range(1, 13)]
+    return "galley 1\n" + "glue 0pt plus 1pt\nglue 3pt\n".join(boxes) + "end\n"
+
+
+GALLEYS = {
+    "footnote": galley(30, "box a 10 0 / foot / box f 20 0 / endfoot / end"),
+    "split footnote": galley(30, "box a 10 0 / foot / box f 10 0 / glue 0 / box g 11 0 / endfoot / end"),
+    "double float": galley(
+        100,
+        "twocolumn / box a 20 0 / float W 1 double t 30 par / float S 1 single ht 20 par / newpage / box b 10 0 / newpage / box c 10 0 / end",
+    ),
+    "marginal notes": galley(
+        100,
+        "set marginparpush 2 / box a 10 2 / margin m 8 4 8 4 par / box b 6 2 / margin n 8 4 8 4 par / newpage / box c 10 0 / margin q 8 4 8 4 par / end",
+    ),
+    "article page": article(),
+}
+
+
+def program():
+    """Returns the bytes of the program, built so that allocation NUMBER fails."""
+    room, kept = f"{work}/build", f"{work}/kept"
+    os.mkdir(room)
+    words = ["rt", "try", "--fail-alloc", str(NUMBER)]
+    with open(f"{work}/said", "wb") as said, open(f"{crate}/stdin", "rb") as read:
+        built = subprocess.Popen(words, cwd=crate, env={**os.environ, "TMPDIR": room}, stdin=read, stdout=said, stderr=said)
+        while built.poll() is None:
+            for file in glob.glob(f"{room}/*/**/program*", recursive=True):
+                if not os.path.exists(kept) and os.path.isfile(file):
+                    os.link(file, kept)
+            time.sleep(0.02)
+    if not os.path.exists(kept):
+        sys.exit(open(f"{work}/said").read() + "the program was not built")
+    text = open(kept, "rb").read()
+    if IN_CODE not in text:
+        sys.exit("the number of the allocation is not found in the program")
+    return text
+
+
+def run(text, number, read):
+    """Runs the program with its allocation of this number failing. Returns its status and what it wrote."""
+    file = f"{work}/program"
+    with open(file, "wb") as out:
+        out.write(text.replace(IN_CODE, number.to_bytes(4, "little")))
+    os.chmod(file, 0o700)
+    ran = subprocess.run([file], input=read.encode(), capture_output=True, timeout=60)
+    return ran.returncode, ran.stdout, ran.stderr
+
+
+def told(line):
+    """Returns the lines of the program on standard error, to which the checked build adds its own."""
+    return b"".join(it for it in line.splitlines(True) if it.startswith(b"galley_pages"))
+
+
+text = program()
+failed = 0
+for name, read in GALLEYS.items():
+    status, report, line = run(text, NUMBER, read)
+    if status or told(line):
+        sys.exit(f"{name}: status {status} where no allocation fails: {line.decode()}")
+    number, last, wrong = 0, 0, 0
+    while number < last + ENDED:
+        number += 1
+        status, out, line = run(text, number, read)
+        if status == 0 and out == report and not told(line):
+            continue
+        last = number
+        if status != 10 or not report.startswith(out) or told(line) not in (LINE, b""):
+            wrong += 1
+            print(f"{name}, allocation {number}: status {status}: {line.decode(errors='replace').strip()}")
+    failed += wrong
+    print(f"{name}: {last - wrong} of {last}", flush=True)
+sys.exit(failed > 0)
+PY
