@@ -1,6 +1,5 @@
 mod Rows
 pub mod BestLemmas
-pub mod EmptyLemmas
 pub mod ScanLemmas
 pub mod FindLemmas
 pub mod StoreLemmas

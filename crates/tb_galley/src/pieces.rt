@@ -192,7 +192,7 @@ pub fn new_reader(alloc: Global) -> Reader
 
 impl Reader {
     /// Reads one more piece, which may end anywhere and may be empty. The first fault of the text is kept for `finish`.
-    /// After an error, for which memory ran out, every later call of `feed` and `finish` answers the same, and `taken`
+    /// After an error, for which memory ran out, every later call of `feed` and `finish` returns the same, and `taken`
     /// stays as it was before.
     pub fn feed(&mut self, piece: &[u8]) -> Result<(), AllocError>
         ensures ok { OnOk result (self.new ≡ fed_more self.old piece.now) }
@@ -217,7 +217,7 @@ impl Reader {
         self.taken
     }
 
-    /// What [`parse`] answers for all pieces joined: the galley, or the first fault.
+    /// What [`parse`] returns for all pieces joined: the galley, or the first fault.
     pub fn finish(self) -> Result<Galley, GalleyFault>
         ensures grammar { (bytes : List ℕ) → self ≡ fed bytes → Answers result (grammar bytes) }
         ensures valid { IfOk result IsValid }
