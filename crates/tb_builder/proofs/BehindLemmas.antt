@@ -11,7 +11,7 @@ use Rattle.tb_node.specs.Small.{IsSmall}
 use Rattle.tb_node.specs.Plain.{PlainNode, plain_of, node_shape, shape_of, shape_of_kind}
 use Rattle.tb_node.specs.Add.{added_node}
 use Rattle.tb_break.specs.Best.{Breakpoint, is_stop}
-use Rattle.tb_break.specs.Prune.{pruned_nodes}
+use Rattle.tb_break.specs.Prune.{pruned_nodes, glue_before, top_glue}
 use Rattle.tb_insert.specs.Account.{Frozen}
 use Rattle.tb_builder.specs.declared.Ask.{Ask}
 use Rattle.tb_builder.specs.declared.Builder.{Builder}
@@ -20,14 +20,16 @@ use Rattle.tb_builder.specs.declared.Event.{Event}
 use Rattle.tb_builder.specs.declared.Event.TheVariants as events
 use Rattle.tb_builder.specs.Reached.{also_reached, tried, holds_box}
 use Rattle.tb_builder.specs.Contents.{Contents, contents_of, frozen_of, laid}
-use Rattle.tb_builder.specs.Running.{CourseStands, Underway, kept_frozen, AllLasting, act_of_kind, insertion_of_kind}
+use Rattle.tb_builder.specs.Running.{CourseStands, Underway, kept_frozen, AllLasting, act_of_kind, insertion_of_kind, height_of}
 use Rattle.tb_builder.specs.Next.{LaidFits, NextFits}
+use Rattle.tb_builder.specs.Past.{ComesPast}
 use Rattle.tb_builder.specs.Turn.{Moves, Shifted, Passes, StepIs, StepFits, TurnIs, places_on}
-use Rattle.tb_builder.proofs.CourseLemmas.{shape_is}
+use Rattle.tb_builder.proofs.CourseLemmas.{shape_is, no_act}
 use Rattle.tb_builder.proofs.TurnLemmas.{holds_now, lasting_penalty, ahead_closed}
 use Rattle.tb_builder.proofs.StepLemmas.{passed_step, step_sums}
 use Rattle.tb_builder.proofs.SteppedLemmas.{turn_of_step}
-use Rattle.tb_builder.proofs.FirstBoxLemmas.{step_fits, Topped}
+use Rattle.tb_builder.proofs.PastLemmas.{past-first, past-stepped}
+use Rattle.tb_builder.proofs.FirstBoxLemmas.{step_fits, top_at, Topped}
 
 -- one move after another
 pub moves_after : (b d e : Builder) (s t r : Lists Node) → Moves b s d t → Moves d t e r → Moves b s e r
@@ -173,6 +175,7 @@ module _ (b d e : Builder) (s t r : Lists Node) (ask : Ask) (n g : Node) (ns : L
       h.lays on (λ go. absurd (true≢false (sym stop ∙ go))) (λ s. still stop) step_is
       (λ none. absurd (stop_tried (kept_frozen (contents_of d t)) e.course (contents_of d t) (contents_of e r) on o st stop none))
       (λ none. absurd (stop_tried (kept_frozen (contents_of d t)) e.course (contents_of d t) (contents_of e r) on o st stop none))
+      (past-stepped o (frozen_of (contents_of b s) ask) e.course ask (contents_of b s) (contents_of d t) (contents_of e r) on step_is (λ go. absurd (true≢false (sym stop ∙ go))))
     where
       -- what waits is the top glue and the box, which are pruned to themselves
       still : e.stopped ≡ true → laid (contents_of e r) ask ≡ (contents_of e r).page ++ (contents_of e r).waiting
@@ -199,13 +202,35 @@ module _ (b d e : Builder) (s t r : Lists Node) (ask : Ask) (n g : Node) (ns : L
         → list_at s b.waiting ≡ n ∷ ns → list_at y x.waiting ≡ ns → TurnIs b s ask o x y
     opening_goes x y last shifted has_box put first behind =
         let passed = box_passes z (laid (contents_of b s) ask) e r n ns fits.laid_fits boxed list_is going whole x.course (contents_of x y) shifted (put z (places_on z (contents_of e r)) going.course) in
+        let after = step_after z e.course (contents_of d t) (contents_of e r) on o x.course (contents_of x y) step_is go passed.0 passed.1 (shifted.stopped ∙ go) in
         turn_of_step b x s y ask o (contents_of d t) (moves_after b d x s t y h.moves (moves_after d e x t r y moves last)) (shifted.frozen ∙ frozen ∙ h.frozen)
         (has_box ∙ sym (box_opens z (laid (contents_of b s) ask) e r n ns fits.laid_fits boxed list_is going whole (contents_of x y) shifted))
         (λ c. absurd (true≢false (sym has_box ∙ c))) h.lays on (λ c. has_box) (λ stop. absurd (true≢false (sym stop ∙ shifted.stopped ∙ go)))
-        (step_after z e.course (contents_of d t) (contents_of e r) on o x.course (contents_of x y) step_is go passed.0 passed.1 (shifted.stopped ∙ go))
+        after
         (λ none c. absurd (true≢false (sym has_box ∙ c)))
         (λ none. shorter first behind)
+        (past-stepped o z x.course ask (contents_of b s) (contents_of d t) (contents_of x y) on after (λ still. record { comes = came first behind (passed.0.whole ∙ whole); shorter = shorter first behind }))
       where
+        plain_n : PlainNode
+        plain_n = plain_of (list_at s) n
+
+        rest : List PlainNode
+        rest = map (plain_of (list_at s)) ns
+
+        top : PlainNode
+        top = plain_of (list_at s) (glue_before n (top_glue ask.top_skip (height_of (shape_of n))))
+
+        no_box : holds_box (contents_of b s).page ≡ false
+        no_box = ap holds_box (sym h.page) ∙ h.closed
+
+        came : list_at s b.waiting ≡ n ∷ ns → list_at y x.waiting ≡ ns → (contents_of x y).page ++ (contents_of x y).waiting ≡ laid (contents_of b s) ask → ComesPast (contents_of x y).waiting (contents_of b s) (contents_of x y) ask
+        came first behind all =
+            let waits : (contents_of b s).waiting ≡ plain_n ∷ rest = ap (map (plain_of (list_at s))) first in
+            past-first plain_n top rest (contents_of b s) (contents_of x y) ask waits
+            (all ∙ ap (λ w. (contents_of b s).page ++ w) (ahead_closed (contents_of b s) ask no_box ∙ ap (pruned_nodes ask.top_skip) waits ∙ top_at (list_at s) ask.top_skip n rest boxed))
+            (length-map (list_at y x.waiting) (plain_of (list_at y)) ∙ ap length behind ∙ sym (length-map ns (plain_of (list_at s))))
+            no_box (top_at (list_at s) ask.top_skip n [] boxed) (no_act (list_at s) n.kind (boxed_act n.kind boxed))
+
         shorter : list_at s b.waiting ≡ n ∷ ns → list_at y x.waiting ≡ ns → length (contents_of x y).waiting < length (contents_of b s).waiting
         shorter first behind =
             let l : length (contents_of x y).waiting ≡ length ns = length-map (list_at y x.waiting) (plain_of (list_at y)) ∙ ap length behind in

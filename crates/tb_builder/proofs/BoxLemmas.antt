@@ -334,7 +334,7 @@ module _ (b : Builder) (s t : Lists Node) (into number : ℕ) (e : ClassList) (s
 
     pub taken_sound : IsSound d t
     taken_sound =
-        sound_from b d s t sound (subst (λ i. IsOwned i t) (sym ids) own_taken) opened (ap (λ (c : Contents). c.page) taken_contents)
+        sound_from b d s t sound (subst (λ i. IsOwned i t) (sym ids) own_taken) opened frozen stopped (ap (λ (c : Contents). c.page) taken_contents)
         (page_free d.frozen d.stopped d.course (contents_of b s) (contents_of d t) (frozen ∙ none.frozen) (ap (λ (c : Contents). c.page) taken_contents)
         (subst (λ k. PageStands d.frozen d.stopped k (contents_of b s)) (sym course) (subst (λ x. PageStands d.frozen x b.course (contents_of b s)) (sym stopped) (subst (λ x. PageStands x b.stopped b.course (contents_of b s)) (sym frozen) sound.page))))
 

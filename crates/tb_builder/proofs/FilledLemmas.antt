@@ -21,8 +21,9 @@ use Rattle.tb_builder.specs.Reached.{holds_box}
 use Rattle.tb_builder.specs.Places.{page_shapes, glue_first, page_places, NoStop}
 use Rattle.tb_builder.specs.Contents.{Contents, contents_of, frozen_of, ahead_of, laid, reach_ahead, places_of}
 use Rattle.tb_builder.specs.Owned.{ids_of, inner_of}
-use Rattle.tb_builder.specs.Running.{CourseStands, Underway, places_by, kept_frozen, page_frozen, frozen_with, AllLoose, AllLasting, PageStands, IsSound, act_of_kind, insertion_of_kind}
+use Rattle.tb_builder.specs.Running.{CourseStands, Underway, places_by, kept_frozen, page_frozen, frozen_with, AllLoose, AllLasting, PageStands, freezes, IsSound, act_of_kind, insertion_of_kind}
 use Rattle.tb_builder.specs.Next.{NextFits, BoxesFit, LaidFits, Stays, FirstIs, NextIs}
+use Rattle.tb_builder.specs.Past.{ComesPast}
 use Rattle.tb_builder.specs.Turn.{Moves, StepIs, StepFits, Turns, TurnIs, Filled}
 use Rattle.tb_builder.proofs.MoveLemmas.{Written, written_drop}
 use Rattle.tb_builder.proofs.FillLemmas.{moves_from, page_from, waiting_from}
@@ -30,7 +31,9 @@ use Rattle.tb_builder.proofs.TurnLemmas.{acts_turn, empty_turn, ahead_open, lays
 use Rattle.tb_builder.proofs.MeetLemmas.{stays_from}
 use Rattle.tb_builder.proofs.SteppedLemmas.{turn_of_step}
 use Rattle.tb_builder.proofs.FirstBoxLemmas.{opened_frozen, kept_is_frozen, underway_of, step_fits}
-use Rattle.tb_builder.proofs.BehindLemmas.{none_going}
+use Rattle.tb_builder.proofs.BehindLemmas.{none_going, step_going}
+use Rattle.tb_builder.proofs.CourseLemmas.{no_act}
+use Rattle.tb_builder.proofs.PastLemmas.{past-none, event-after, past-open, past-stepped}
 use Rattle.tb_builder.proofs.WithoutLemmas.{without_fits}
 
 -- ---- an act
@@ -99,6 +102,7 @@ module _ (b : Builder) (s t : Lists Node) (ask : Ask) (n : Node) (ns : List Node
       opened = sound.opened ∙ sym (ap holds_box page_is);
       closed = λ e. subst AllLasting (sym page_is) (sound.closed e);
       page = subst (λ x. PageStands b.frozen x b.course (contents_of b t)) (sym on) (stands_by b.frozen (subst (λ x. PageStands b.frozen x b.course (contents_of b s)) on sound.page));
+      met = λ some go. ap freezes page_is ∙ sound.met some on;
     };
     others = moves.others;
     keeps = moves.keeps;
@@ -106,6 +110,7 @@ module _ (b : Builder) (s t : Lists Node) (ask : Ask) (n : Node) (ns : List Node
     shorter = λ e. cc;
     stays = stays_from b b s t ask moves (inl refl);
     turned = acts_turn (contents_of b s) (contents_of b t) ask n.line a waits page_is (stays_from b b s t ask moves (inl refl)).frozen_so on;
+    past = record { line = n.line; comes = past-none (record { line = n.line; kind = act a } ∷ (contents_of b t).waiting) (contents_of b s) (contents_of b t) ask waits page_is };
   }
 
 -- ---- nothing waits
@@ -120,6 +125,7 @@ filled_empty b s ask sound on none = record {
   keeps = λ q h. h;
   stays = stays_here (contents_of b s) ask;
   first = empty_turn (contents_of b s) ask (ap (map (plain_of (list_at s))) none) on;
+  past = past-none (contents_of b s).waiting (contents_of b s) (contents_of b s) ask refl refl;
 }
 
 -- ---- a turn, and then more
@@ -152,6 +158,7 @@ filled_later b d x s t y ask e turn later = record {
   keeps = λ q h. later.keeps q (turn.keeps q h);
   stays = stays_after (contents_of b s) (contents_of d t) (contents_of x y) ask turn.stays later.stays;
   first = first_before e (contents_of b s) (contents_of d t) (contents_of x y) ask turn.turned later.first;
+  past = event-after e (contents_of b s) (contents_of d t) (contents_of x y) ask turn.past later.past;
 }
 
 -- a turn that ends with an event
@@ -162,6 +169,7 @@ filled_now b d s t ask e turn = record {
   keeps = turn.keeps;
   stays = turn.stays;
   first = turn.turned;
+  past = turn.past;
 }
 
 -- ---- a page that is laid out
@@ -190,13 +198,21 @@ module _ (b : Builder) (s : Lists Node) (ask : Ask) (n : Node) (ns : List Node) 
   pub open_turn : (e : Builder) (r : Lists Node) (o : Option Event) → Moves b s e r → StepIs o (kept_frozen (contents_of b s)) e.course (contents_of b s) (contents_of e r) → e.opened ≡ b.opened → e.frozen ≡ b.frozen
       → (holds_box (contents_of b s).page ≡ true → holds_box (contents_of e r).page ≡ true)
       → ((ms : List Node) → e.stopped ≡ false → list_at s b.waiting ≡ n ∷ ms → list_at r e.waiting ≡ ms)
-      → TurnIs b s ask o e r
-  open_turn e r o moves st same frozen still behind =
+      → act_of_kind n.kind ≡ None → TurnIs b s ask o e r
+  open_turn e r o moves st same frozen still behind lone =
       turn_of_step b e s r ask o (contents_of b s) moves (frozen ∙ frozen_now) (same ∙ opened ∙ sym (still holds)) (λ c. absurd (true≢false (sym (same ∙ opened) ∙ c)))
       (lays_open (frozen_of (contents_of b s) ask) ask (contents_of b s) refl holds) on (λ go. same ∙ opened) (λ stop. ap (λ w. (contents_of e r).page ++ w) (ahead_open (contents_of e r) ask (still holds))) (subst (λ z. StepIs o z e.course (contents_of b s) (contents_of e r)) kept_is st)
       (λ none c. absurd (true≢false (sym (same ∙ opened) ∙ c)))
       (λ none. shorter (behind ns (none_going (kept_frozen (contents_of b s)) e.course (contents_of b s) (contents_of e r) on o st none) first))
+      (past-stepped o (kept_frozen (contents_of b s)) e.course ask (contents_of b s) (contents_of b s) (contents_of e r) on st
+      (λ go. record { comes = came (behind ns go first) (step_going (kept_frozen (contents_of b s)) e.course (contents_of b s) (contents_of e r) on o st go).1; shorter = shorter (behind ns go first) }))
     where
+      came : list_at r e.waiting ≡ ns → (contents_of e r).page ++ (contents_of e r).waiting ≡ (contents_of b s).page ++ (contents_of b s).waiting → ComesPast (contents_of e r).waiting (contents_of b s) (contents_of e r) ask
+      came h all =
+          past-open (plain_of (list_at s) n) (map (plain_of (list_at s)) ns) (contents_of b s) (contents_of e r) ask (ap (map (plain_of (list_at s))) first) all
+          (length-map (list_at r e.waiting) (plain_of (list_at r)) ∙ ap length h ∙ sym (length-map ns (plain_of (list_at s))))
+          holds (no_act (list_at s) n.kind lone)
+
       shorter : list_at r e.waiting ≡ ns → length (contents_of e r).waiting < length (contents_of b s).waiting
       shorter h =
           let l : length (contents_of e r).waiting ≡ length ns = length-map (list_at r e.waiting) (plain_of (list_at r)) ∙ ap length h in

@@ -1,5 +1,5 @@
 -- A page fires: what the builder held before, and what it holds afterwards.
-use Rattle.std.proofs.Common.{◌≡◌, ◌≢◌, refl, sym, subst, ◌∙◌, ap, ℕ, ◌≤◌, ℤ, true, false, List, [], ◌∷◌, ◌++◌, map, length, take, drop, Option, Some, None, is_some, append_assoc}
+use Rattle.std.proofs.Common.{◌≡◌, ◌≢◌, refl, sym, subst, ◌∙◌, ap, ℕ, ◌≤◌, ℤ, true, false, List, [], ◌∷◌, ◌++◌, map, length, take, drop, Option, Some, None, is_some, IsSome, append_assoc}
 use Rattle.std.specs.FinMap.{get}
 use Rattle.std.proofs.lemmas.Bool.{true≢false}
 use Rattle.std.proofs.lemmas.List.{length-map, take-append-drop}
@@ -285,6 +285,7 @@ module _ (b : Builder) (s e t : Lists Node) (body : ℕ) (x : Best) (sound : IsS
           loose = subst AllLoose (sym page_then) tt;
           lasting_is = sym (ap (λ ps. ends_lasting (page_shapes ps)) page_then);
         });
+        met = λ some on. absurd (true≢false (sym (subst IsSome (ap (λ (y : Builder). y.frozen) clear) some)));
       }
 
       keeps_then : (q : ℕ) → Lacks q (owned (ids_of b) s) → Lacks q (owned (ids_of d) u)

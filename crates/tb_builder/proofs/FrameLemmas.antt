@@ -76,7 +76,7 @@ module _ (b : Builder) (s t : Lists Node) (sound : IsSound b s) (same : AllSame 
 
   pub frame_sound : IsSound b t
   frame_sound =
-      sound_from b b s t sound (holds_own (ids_of b) s t (list_at s b.held) (list_at s b.page) (list_at s b.waiting) own holds_same) refl (ap (λ (c : Contents). c.page) frame_contents)
+      sound_from b b s t sound (holds_own (ids_of b) s t (list_at s b.held) (list_at s b.page) (list_at s b.waiting) own holds_same) refl refl refl (ap (λ (c : Contents). c.page) frame_contents)
       (subst (PageStands b.frozen b.stopped b.course) (sym frame_contents) sound.page)
 
 -- a list was opened

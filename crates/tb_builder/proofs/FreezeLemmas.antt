@@ -11,7 +11,7 @@ use Rattle.tb_node.specs.declared.Kind.TheVariants as kinds
 use Rattle.tb_node.specs.Fit.{shapes, NodesFit, SumsFit}
 use Rattle.tb_node.specs.Shape.{other, is_box, is_discardable}
 use Rattle.tb_node.specs.Sums.{size_of}
-use Rattle.tb_node.specs.Plain.{skip, shape_of_kind, Inserted, inserted_of, plain, ins, PlainNode, plain_of, plain_kind, node_shape, shape_of, is_act_kind}
+use Rattle.tb_node.specs.Plain.{skip, shape_of_kind, Inserted, inserted_of, plain, ins, PlainNode, plain_of, plain_kind, node_shape, shape_of, is_act_kind, is_insertion_kind}
 use Rattle.tb_break.specs.Legal.{ends_lasting}
 use Rattle.tb_break.specs.Best.{Breakpoint, best_or}
 use Rattle.tb_break.specs.Scan.{Scanned, Offered}
@@ -269,6 +269,9 @@ insertion_shape n i e = by_kind n.kind e
     by_kind kinds.Whatsit e = cc
     by_kind (kinds.Ins j) e = refl
     by_kind (kinds.Act a) e = cc
+
+pub insertion_plain : (held : ℕ → List Node) (n : Node) (i : Insertion) → insertion_of_kind n.kind ≡ Some i → is_insertion_kind (plain_of held n).kind ≡ true
+insertion_plain held n i e = ap (λ (m : PlainNode). is_insertion_kind m.kind) (plain_insertion held n i e)
 
 pub insertion_act : (n : Node) (i : Insertion) → insertion_of_kind n.kind ≡ Some i → act_of_kind n.kind ≡ None
 insertion_act n i e = by_kind n.kind e

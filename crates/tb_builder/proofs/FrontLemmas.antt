@@ -179,7 +179,7 @@ module _ (b : Builder) (s t : Lists Node) (l : ℕ) (sound : IsSound b s) (j : L
 
   pub put_sound : IsSound b t
   put_sound =
-      sound_from b b s t sound (holds_own (ids_of b) s t [] [] (list_at s b.held ++ (list_at s l ++ list_at s b.waiting)) sound.own (back_holds (ids_of b) s t l sound.own j no_page w)) refl
+      sound_from b b s t sound (holds_own (ids_of b) s t [] [] (list_at s b.held ++ (list_at s l ++ list_at s b.waiting)) sound.own (back_holds (ids_of b) s t l sound.own j no_page w)) refl refl refl
       (ap (λ (c : Contents). c.page) put_contents) (page_free b.frozen b.stopped b.course (contents_of b s) (contents_of b t) none.frozen (ap (λ (c : Contents). c.page) put_contents) sound.page)
 
   pub put_others : (q : ℕ) → q ≢ l → Lacks q (owned (ids_of b) s) → get t.lists q ≡ get s.lists q

@@ -1,5 +1,5 @@
 -- Nodes that are handed over join the builder's lists.
-use Rattle.std.proofs.Common.{◌≡◌, ◌≢◌, refl, sym, subst, ◌∙◌, ap, ℕ, List, [], ◌∷◌, ◌++◌, map, append_assoc}
+use Rattle.std.proofs.Common.{◌≡◌, ◌≢◌, refl, sym, subst, ◌∙◌, ap, ℕ, List, [], ◌∷◌, ◌++◌, map, IsSome, append_assoc}
 use Rattle.std.specs.FinMap.{FinMap, get}
 use Rattle.std.specs.Ordering.{nat_cmp}
 use Rattle.std.proofs.lemmas.List.{map-append}
@@ -10,7 +10,7 @@ use Rattle.tb_builder.specs.declared.Builder.{Builder}
 use Rattle.tb_builder.specs.Reached.{holds_box}
 use Rattle.tb_builder.specs.Owned.{Lacks, AllDiffer, AllLive, inner_ids, Ids, ids_of, nodes_of, box_ids, own_ids, owned, HoldPlain, AllKnown, classes_of, IsOwned}
 use Rattle.tb_builder.specs.Contents.{Contents, contents_of, plain_list}
-use Rattle.tb_builder.specs.Running.{AllLasting, PageStands, IsSound}
+use Rattle.tb_builder.specs.Running.{AllLasting, PageStands, freezes, IsSound}
 use Rattle.tb_builder.specs.Handed.{NodesJoin, MayWait}
 use Rattle.tb_builder.proofs.OwnedLemmas.{Apart, AllSame, lacks-append, lacks-left, lacks-right, differ-left, differ-right, differ-apart, differ-append, live-append, live-left, live-right, plain-append, plain-left, plain-right, known-append, same_from, lists_same, live_same, plain_same, void_same, boxes_same, view_same, inner-append, same-left, same-right}
 use Rattle.tb_builder.proofs.MoveLemmas.{list_same, list_other, get_other, live_same_one, live_other}
@@ -80,12 +80,13 @@ module _ (b : Ids) (s t : Lists Node) (hs xs ys : List Node) (own : IsOwned b s)
 
 -- ---- the builder stands
 
-pub sound_from : (b d : Builder) (s t : Lists Node) → IsSound b s → IsOwned (ids_of d) t → d.opened ≡ b.opened → (contents_of d t).page ≡ (contents_of b s).page → PageStands d.frozen d.stopped d.course (contents_of d t) → IsSound d t
-sound_from b d s t sound own opened page stands = record {
+pub sound_from : (b d : Builder) (s t : Lists Node) → IsSound b s → IsOwned (ids_of d) t → d.opened ≡ b.opened → d.frozen ≡ b.frozen → d.stopped ≡ b.stopped → (contents_of d t).page ≡ (contents_of b s).page → PageStands d.frozen d.stopped d.course (contents_of d t) → IsSound d t
+sound_from b d s t sound own opened frozen stopped page stands = record {
   own = own;
   opened = opened ∙ sound.opened ∙ ap holds_box (sym page);
   closed = λ e. subst AllLasting (sym page) (sound.closed (sym opened ∙ e));
   page = stands;
+  met = λ some on. ap freezes page ∙ sound.met (subst IsSome frozen some) (sym stopped ∙ on);
 }
 
 -- ---- a node comes behind what waits
@@ -180,7 +181,7 @@ module _ (b : Builder) (s t : Lists Node) (n : Node) (sound : IsSound b s) (j : 
 
   pub contribute_sound : MayWait (contents_of b s) (plain_of (list_at s) n) → IsSound b t
   contribute_sound may =
-      sound_from b b s t sound (holds_own (ids_of b) s t (list_at s b.held) (list_at s b.page) (list_at s b.waiting ++ n ∷ []) sound.own (grown_holds (ids_of b) s t n sound.own j e)) refl (ap (λ (c : Contents). c.page) contributed)
+      sound_from b b s t sound (holds_own (ids_of b) s t (list_at s b.held) (list_at s b.page) (list_at s b.waiting ++ n ∷ []) sound.own (grown_holds (ids_of b) s t n sound.own j e)) refl refl refl (ap (λ (c : Contents). c.page) contributed)
       (subst (PageStands b.frozen b.stopped b.course) (sym contributed) (page_grows b.frozen b.stopped b.course (contents_of b s) (plain_of (list_at s) n) may sound.page))
 
 -- the store kept its lists, and then the node was put

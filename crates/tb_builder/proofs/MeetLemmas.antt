@@ -1,11 +1,11 @@
 -- A turn on a page: an insertion comes, or a node passes before the first box.
-use Rattle.std.proofs.Common.{◌≡◌, ◌⊎◌, inl, inr, refl, sym, subst, ◌∙◌, ap, ◌<◌, ◌≤◌, ℤ, Bool, true, false, List, [], ◌∷◌, ◌++◌, length, map, Option, None, Some, arith}
+use Rattle.std.proofs.Common.{◌≡◌, ◌⊎◌, inl, inr, refl, sym, subst, ◌∙◌, ap, ◌<◌, ◌≤◌, ℤ, Bool, true, false, List, [], ◌∷◌, ◌++◌, length, map, Option, None, Some, IsSome, arith}
 use Rattle.std.specs.Prelude.{not}
 use Rattle.std.proofs.lemmas.List.{map-append}
 use Rattle.tb_pool.specs.Lists.{Lists, list_at}
 use Rattle.tb_node.specs.declared.Node.{Node}
 use Rattle.tb_node.specs.Shape.{other, is_box, is_discardable}
-use Rattle.tb_node.specs.Plain.{PlainNode, plain_of, node_shape, shape_of, is_act_kind}
+use Rattle.tb_node.specs.Plain.{PlainNode, plain_of, node_shape, shape_of, is_act_kind, is_insertion_kind}
 use Rattle.tb_break.specs.Legal.{ends_lasting}
 use Rattle.tb_insert.specs.Account.{Frozen, terms_after}
 use Rattle.tb_builder.specs.declared.Ask.{Ask}
@@ -15,13 +15,15 @@ use Rattle.tb_builder.specs.Reached.{holds_box}
 use Rattle.tb_builder.specs.Places.{page_shapes, NoStop}
 use Rattle.tb_builder.specs.Contents.{Contents, contents_of, frozen_or, frozen_of}
 use Rattle.tb_builder.specs.Owned.{ids_of}
-use Rattle.tb_builder.specs.Running.{CourseStands, Underway, places_by, frozen_with, page_frozen, is_loose, AllLoose, AllLasting, PageStands, IsSound, act_of_kind}
+use Rattle.tb_builder.specs.Running.{CourseStands, Underway, places_by, frozen_with, page_frozen, is_loose, AllLoose, AllLasting, PageStands, freezes, IsSound, act_of_kind}
 use Rattle.tb_builder.specs.Next.{Stays}
 use Rattle.tb_builder.specs.Turn.{Moves, TurnIs}
 use Rattle.tb_builder.proofs.MoveLemmas.{Written}
 use Rattle.tb_builder.proofs.FillLemmas.{moves_from, page_from, waiting_from}
 use Rattle.tb_builder.proofs.CourseLemmas.{shape_is, no_act}
 use Rattle.tb_builder.proofs.TurnLemmas.{Same, same_frozen, same_keeps, lasts_turn, drops_turn, lasting-append, loose-append, holds_same, lasting_places}
+use Rattle.tb_builder.proofs.FreezingNodes.{freezes-more, insertion-freezes}
+use Rattle.tb_builder.proofs.PastLemmas.{past-lasting, past-vanished, gone_act}
 use Rattle.tb_builder.proofs.FreezeLemmas.{underway_stays, course_loose, lasts_loose, gone_at}
 
 -- a page that is underway, with the goal that is frozen
@@ -60,13 +62,14 @@ module _ (b d : Builder) (s t : Lists Node) (ask : Ask) (n : Node) (ns : List No
   paged : (contents_of d t).page ≡ (contents_of b s).page ++ plain_of (list_at s) n ∷ []
   paged = page_from b d s t (list_at s b.page ++ n ∷ []) ns same sound.own w ∙ map-append (plain_of (list_at s)) (list_at s b.page) (n ∷ [])
 
-  pub lasts_in : (d.frozen ≡ b.frozen ⊎ (d.frozen ≡ Some (frozen_with b.frozen ask))) → PageStands d.frozen d.stopped d.course (contents_of d t) → TurnIs b s ask None d t
-  lasts_in f page = record {
+  pub lasts_in : (d.frozen ≡ b.frozen ⊎ (d.frozen ≡ Some (frozen_with b.frozen ask))) → (IsSome d.frozen → freezes ((contents_of b s).page ++ plain_of (list_at s) n ∷ []) ≡ true) → PageStands d.frozen d.stopped d.course (contents_of d t) → TurnIs b s ask None d t
+  lasts_in f meets page = record {
     sound = record {
       own = moves.own;
       opened = opened ∙ sound.opened ∙ sym (ap holds_box paged ∙ holds_same (contents_of b s).page (plain_of (list_at s) n) (ap is_box plain_shape));
       closed = λ e. subst AllLasting (sym paged) (lasting-append (contents_of b s).page (plain_of (list_at s) n) (sound.closed (sym opened ∙ e)) (ap is_discardable plain_shape));
       page = page;
+      met = λ some go. ap freezes paged ∙ meets some;
     };
     others = moves.others;
     keeps = moves.keeps;
@@ -74,16 +77,17 @@ module _ (b d : Builder) (s t : Lists Node) (ask : Ask) (n : Node) (ns : List No
     shorter = λ e. shorter_by waits;
     stays = stays_from b d s t ask moves f;
     turned = lasts_turn (contents_of b s) (contents_of d t) ask (plain_of (list_at s) n) waits paged (stays_from b d s t ask moves f).frozen_so on plain_shape plain_act;
+    past = past-lasting (plain_of (list_at s) n) (contents_of b s) (contents_of d t) ask waits paged plain_shape plain_act;
   }
 
   -- an insertion came
-  pub met : (k : Course) (f : ℤ × ℤ) → d.frozen ≡ Some f → f ≡ frozen_with b.frozen ask → Underway (frozen_of (contents_of b s) ask) k (contents_of b s).page (contents_of b s).waiting
+  pub met : (k : Course) (f : ℤ × ℤ) → is_insertion_kind (plain_of (list_at s) n).kind ≡ true → d.frozen ≡ Some f → f ≡ frozen_with b.frozen ask → Underway (frozen_of (contents_of b s) ask) k (contents_of b s).page (contents_of b s).waiting
       → CourseStands (frozen_of (contents_of b s) ask) d.course ((contents_of b s).page ++ plain_of (list_at s) n ∷ []) (places_by (frozen_of (contents_of b s) ask) (contents_of b s).page (contents_of b s).waiting)
       → TurnIs b s ask None d t
-  met k f is e u h =
+  met k f ins is e u h =
       let frozen = is ∙ ap Some e in
       let st = stays_from b d s t ask moves (inr frozen) in
-      lasts_in (inr frozen) (stands_some d.frozen f d.stopped d.course (contents_of d t) ask is is on
+      lasts_in (inr frozen) (λ some. insertion-freezes (contents_of b s).page (plain_of (list_at s) n) ins) (stands_some d.frozen f d.stopped d.course (contents_of d t) ask is is on
       (subst (λ z. Underway z d.course (contents_of d t).page (contents_of d t).waiting) (sym st.frozen_so)
       (underway_stays (frozen_of (contents_of b s) ask) k d.course (contents_of b s) (contents_of d t) (plain_of (list_at s) n) waits paged plain_shape plain_act u h)))
 
@@ -103,7 +107,7 @@ module _ (b d : Builder) (s t : Lists Node) (ask : Ask) (n : Node) (ns : List No
 
   pub passed_loose : d.frozen ≡ b.frozen → b.stopped ≡ false → is_loose (plain_of (list_at s) n).kind ≡ true → d.course.scan ≡ b.course.scan → d.course.account ≡ b.course.account → d.course.best_goal ≡ b.course.best_goal → d.course.lasting ≡ true → TurnIs b s ask None d t
   passed_loose same_frozen on' loose scan account goal lasting =
-      lasts_in (inl same_frozen) (loose_by b.frozen refl same_frozen on' loose scan account goal lasting (subst (λ x. PageStands b.frozen x b.course (contents_of b s)) on' sound.page))
+      lasts_in (inl same_frozen) (λ some. freezes-more (contents_of b s).page (plain_of (list_at s) n ∷ []) (sound.met (subst IsSome same_frozen some) on')) (loose_by b.frozen refl same_frozen on' loose scan account goal lasting (subst (λ x. PageStands b.frozen x b.course (contents_of b s)) on' sound.page))
 
 -- ---- glue, a kern or a penalty vanishes before the first box
 
@@ -141,6 +145,7 @@ module _ (b d : Builder) (s t : Lists Node) (ask : Ask) (n : Node) (ns : List No
       closed = λ e. still_lasting;
       page = subst (λ x. PageStands x d.stopped d.course (contents_of d t)) (sym frozen) (subst (λ x. PageStands b.frozen x d.course (contents_of d t)) (sym (stopped ∙ on)) (subst (λ k. PageStands b.frozen false k (contents_of d t)) (sym course)
           (stands_by b.frozen refl (subst (λ x. PageStands b.frozen x b.course (contents_of b s)) on sound.page))));
+      met = λ some go. ap freezes dropped_page ∙ sound.met (subst IsSome frozen some) on;
     };
     others = dropped_moves.others;
     keeps = dropped_moves.keeps;
@@ -149,4 +154,5 @@ module _ (b d : Builder) (s t : Lists Node) (ask : Ask) (n : Node) (ns : List No
     stays = stays_from b d s t ask dropped_moves (inl frozen);
     turned = drops_turn (contents_of b s) (contents_of d t) ask (plain_of (list_at s) n) dropped_waits dropped_page (stays_from b d s t ask dropped_moves (inl frozen)).frozen_so (stopped ∙ on) (sym sound.opened ∙ closed) (sound.closed closed)
         (gone_at (list_at s) ask.top_skip n.line n.kind (contents_of d t).waiting gone);
+    past = past-vanished (plain_of (list_at s) n) (contents_of b s) (contents_of d t) ask dropped_waits dropped_page (sym sound.opened ∙ closed) (gone_at (list_at s) ask.top_skip n.line n.kind [] gone) (gone_act (list_at s) n.line n.kind gone);
   }

@@ -1,5 +1,5 @@
 -- Lists are opened for a new builder.
-use Rattle.std.proofs.Common.{◌≡◌, ◌≢◌, refl, sym, subst, ◌∙◌, ap, ℕ, ◌+◌, ◌<◌, pos, true, false, List, [], ◌∷◌, ◌++◌, length, map, take, get_or, None, is_some, append-nil, add-one}
+use Rattle.std.proofs.Common.{◌≡◌, ◌≢◌, refl, sym, subst, ◌∙◌, ap, ℕ, ◌+◌, ◌<◌, pos, true, false, List, [], ◌∷◌, ◌++◌, length, map, take, get_or, None, is_some, IsSome, append-nil, add-one}
 use Rattle.std.specs.FinMap.{get}
 use Rattle.std.proofs.Math.Seq.{take-suc}
 use Rattle.std.proofs.lemmas.Bool.{true≢false}
@@ -165,6 +165,7 @@ module _ (s t : Lists Node) (b : Builder) (cs : List Class) (o : Opened s t (own
     opened = opened ∙ ap (λ (c : Contents). holds_box c.page) (sym new_contents);
     closed = λ e. subst (λ (c : Contents). AllLasting c.page) (sym new_contents) tt;
     page = subst (λ x. PageStands x b.stopped b.course (contents_of b t)) (sym frozen) (subst (λ x. PageStands None x b.course (contents_of b t)) (sym stopped) (subst (λ (c : Contents). Unfrozen b.course c.page) (sym new_contents) empty_page));
+    met = λ some on. absurd (true≢false (sym (subst IsSome frozen some)));
   }
     where
       empty_page : Unfrozen b.course []

@@ -91,7 +91,7 @@ inserted_fits i s few =
       top = extent_amount i.split_top s.split_top;
     }
 
-kind_fits : (k : PlainKind) → IsSizedKind k → kind_count k ≤ 4194306 → KindFits k
+kind_fits : (k : PlainKind) → IsSizedKind k → kind_count k ≤ 8388608 → KindFits k
 kind_fits (plain m) s few = tt
 kind_fits (ins i) s few = inserted_fits i s (omega (arith, few))
 kind_fits (act a) s few = tt
@@ -326,19 +326,19 @@ met_sized cs is h = All-filter (λ c. is_met is c.class.number) IsSizedClassBox 
 skips_sized : (cs : List ClassBox) → All IsSizedClassBox cs → All IsSized (skip_shapes cs)
 skips_sized cs h = All-map IsSized (λ (c : ClassBox). glue c.class.skip) cs (All-weaker IsSizedClassBox (λ c. IsSized (glue c.class.skip)) (λ c s. (s.class.width, s.class.stretch, s.class.shrink)) cs h)
 
-goal_small : (goal charge taken : ℤ) (total classes inner : ℕ) → total ≤ 9007199254740992 → classes ≤ 255 → inner ≤ 4194306 → IsGoal goal → IsWithin (10 * total + 1073741823 * classes) charge → IsWithin (21474836460 * inner) taken → IsAmount ((goal -ℤ charge) -ℤ taken)
+goal_small : (goal charge taken : ℤ) (total classes inner : ℕ) → total ≤ 9007199254740992 → classes ≤ 255 → inner ≤ 8388608 → IsGoal goal → IsWithin (10 * total + 1073741823 * classes) charge → IsWithin (21474836460 * inner) taken → IsAmount ((goal -ℤ charge) -ℤ taken)
 goal_small goal charge taken total classes inner t a b g c i = record { low = omega (arith, ints); high = omega (arith, ints) }
 
-height_small : (inner : ℕ) (z : ℤ) → inner ≤ 4194306 → IsWithin (9007199254740992 + 2147483646 * inner) z → IsAmount z
+height_small : (inner : ℕ) (z : ℤ) → inner ≤ 8388608 → IsWithin (9007199254740992 + 2147483646 * inner) z → IsAmount z
 height_small inner z few h = record { low = omega (arith, ints); high = omega (arith, ints) }
 
-penalties_small : (k : ℕ) (z : ℤ) → k ≤ 4194306 → IsWithin (1073741824 * k) z → IsAmount z
+penalties_small : (k : ℕ) (z : ℤ) → k ≤ 8388608 → IsWithin (1073741824 * k) z → IsAmount z
 penalties_small k z few h = record { low = omega (arith, ints); high = omega (arith, ints) }
 
 both_small : (k j : ℕ) (x y : ℤ) → k ≤ 8388608 → j ≤ 255 → IsWithin (1073741823 * k) x → IsWithin (1073741823 * j) y → IsAmount (x +ℤ y)
 both_small k j x y a b p q = record { low = omega (arith, ints); high = omega (arith, ints) }
 
-page_fits : (z : Frozen) (ns : List PlainNode) → IsSizedFrozen z → All IsSizedOnPage ns → node_count ns ≤ 4194306 → PageFits z ns
+page_fits : (z : Frozen) (ns : List PlainNode) → IsSizedFrozen z → All IsSizedOnPage ns → node_count ns ≤ 8388608 → PageFits z ns
 page_fits z ns f s few =
     let ls = labelled z ns in
     let labels = labels_fit z ns s in
@@ -365,10 +365,10 @@ page_fits z ns f s few =
 
 -- ---- what is laid out
 
-node_fits : (n : PlainNode) → IsSizedOnPage n → kind_count n.kind ≤ 4194306 → NodeFits n
+node_fits : (n : PlainNode) → IsSizedOnPage n → kind_count n.kind ≤ 8388608 → NodeFits n
 node_fits n s few = record { small = sized-fits (node_shape n) s.shape; kind_fits = kind_fits n.kind s.kind few }
 
-pub laid_fits : (z : Frozen) (ns : List PlainNode) → IsSizedFrozen z → All IsSizedOnPage ns → node_count ns ≤ 4194306 → LaidFits z ns
+pub laid_fits : (z : Frozen) (ns : List PlainNode) → IsSizedFrozen z → All IsSizedOnPage ns → node_count ns ≤ 8388608 → LaidFits z ns
 laid_fits z ns f s few = record {
   pages = λ before rest e. page_fits z before f (front IsSizedOnPage before rest (subst (All IsSizedOnPage) (sym e) s)) (omega (arith, few, count-append before rest, ap node_count e));
   nodes = λ before n rest e. node_fits n (inside IsSizedOnPage before n rest (subst (All IsSizedOnPage) (sym e) s)) (omega (arith, few, count-append before (n ∷ rest), ap node_count e));

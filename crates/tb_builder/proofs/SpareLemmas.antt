@@ -1,5 +1,5 @@
 -- What holds of a builder stays where a store has the same lists, and other spare places.
-use Rattle.std.proofs.Common.{◌≡◌, refl, sym, subst, ◌∙◌, ap, ℕ, false, List, [], ◌++◌, is_some, unwrap_or}
+use Rattle.std.proofs.Common.{◌≡◌, refl, sym, subst, ◌∙◌, ap, ℕ, true, false, List, [], ◌++◌, is_some, unwrap_or, IsSome}
 use Rattle.std.specs.FinMap.{FinMap, get}
 use Rattle.std.specs.Ordering.{nat_cmp}
 use Rattle.tb_pool.specs.Lists.{Lists, IsLive, list_at}
@@ -9,7 +9,7 @@ use Rattle.tb_builder.specs.declared.Builder.{Builder}
 use Rattle.tb_builder.specs.Reached.{holds_box}
 use Rattle.tb_builder.specs.Contents.{Contents, contents_of}
 use Rattle.tb_builder.specs.Owned.{Ids, ids_of, owned, Lacks, classes_of, IsOwned, Keeps}
-use Rattle.tb_builder.specs.Running.{AllLasting, PageStands, IsSound}
+use Rattle.tb_builder.specs.Running.{AllLasting, PageStands, freezes, IsSound}
 use Rattle.tb_builder.specs.Next.{NextFits}
 use Rattle.tb_builder.proofs.OwnedLemmas.{known-right}
 use Rattle.tb_builder.proofs.MoveLemmas.{written_own}
@@ -53,6 +53,7 @@ module _ (s t : Lists Node) (same : t.lists ≡ s.lists) where
     opened = subst (λ (c : Contents). b.opened ≡ holds_box c.page) (sym (contents_still b)) sound.opened;
     closed = subst (λ (c : Contents). b.opened ≡ false → AllLasting c.page) (sym (contents_still b)) sound.closed;
     page = subst (PageStands b.frozen b.stopped b.course) (sym (contents_still b)) sound.page;
+    met = subst (λ (c : Contents). IsSome b.frozen → b.stopped ≡ false → freezes c.page ≡ true) (sym (contents_still b)) sound.met;
   }
 
   pub fits_still : (b : Builder) (ask : Ask) → NextFits (contents_of b s) ask → NextFits (contents_of b t) ask

@@ -13,8 +13,10 @@ use Rattle.tb_builder.specs.declared.Event.TheVariants as events
 use Rattle.tb_builder.specs.Reached.{holds_box}
 use Rattle.tb_builder.specs.Contents.{Contents, contents_of, frozen_of, laid}
 use Rattle.tb_builder.specs.Running.{CourseStands, Underway, AtStop, places_by, page_frozen, frozen_with, AllLasting, PageStands}
+use Rattle.tb_builder.specs.Past.{TurnPast}
 use Rattle.tb_builder.specs.Turn.{Moves, StopsThere, StepIs, TurnBy, TurnIs, places_on}
 use Rattle.tb_builder.proofs.TurnLemmas.{Lays, lays_open, turns_on, goes_on, stops_there, made_on, frozen_as}
+use Rattle.tb_builder.proofs.FreezingNodes.{box-freezes}
 use Rattle.tb_builder.proofs.MeetLemmas.{stays_from}
 
 -- what is answered
@@ -71,13 +73,14 @@ module _ (b d : Builder) (s t : Lists Node) (ask : Ask) (o : Option Event) (m : 
   page_same : page_frozen (frozen_with b.frozen ask) (contents_of d t).classes (contents_of d t).boxes ≡ frozen_of (contents_of b s) ask
   page_same = (λ i. page_frozen (frozen_with b.frozen ask) (moves.classes i) (moves.boxes i)) ∙ frozen_as b.frozen ask (contents_of b s).classes (contents_of b s).boxes
 
-  pub turn_of_step : (o ≡ None → d.opened ≡ false → (b.opened ≡ false) × (s.spare ≤ t.spare)) → (o ≡ None → length (contents_of d t).waiting < length (contents_of b s).waiting) → TurnIs b s ask o d t
-  turn_of_step room shorter = record {
+  pub turn_of_step : (o ≡ None → d.opened ≡ false → (b.opened ≡ false) × (s.spare ≤ t.spare)) → (o ≡ None → length (contents_of d t).waiting < length (contents_of b s).waiting) → TurnPast o (contents_of b s) (contents_of d t) ask → TurnIs b s ask o d t
+  turn_of_step room shorter past = record {
     sound = record {
       own = moves.own;
       opened = opened;
       closed = closed;
       page = subst (λ x. PageStands x d.stopped d.course (contents_of d t)) (sym frozen) (stepped_page (frozen_of (contents_of b s) ask) d.course m (contents_of d t) (frozen_with b.frozen ask) page_same o d.stopped refl on st);
+      met = λ some go. box-freezes (contents_of d t).page (sym opened ∙ later go);
     };
     others = moves.others;
     keeps = moves.keeps;
@@ -85,4 +88,5 @@ module _ (b d : Builder) (s t : Lists Node) (ask : Ask) (o : Option Event) (m : 
     shorter = shorter;
     stays = stays_from b d s t ask moves (inr frozen);
     turned = stepped_turn o (frozen_of (contents_of b s) ask) d.course ask (contents_of b s) m (contents_of d t) lays on same (λ go. lays_open (frozen_of (contents_of b s) ask) ask (contents_of d t) same (sym opened ∙ later go)) still st;
+    past = past;
   }

@@ -19,6 +19,7 @@ use Rattle.tb_builder.specs.Contents.{Contents, contents_of, laid, reach_ahead, 
 use Rattle.tb_builder.specs.Owned.{ids_of, owned, Lacks, IsOwned}
 use Rattle.tb_builder.specs.Running.{CourseStands, Underway, places_by, IsSound, act_of_kind, insertion_of_kind}
 use Rattle.tb_builder.specs.Next.{FirstIs, Stays, stopped_with}
+use Rattle.tb_builder.specs.Past.{EventPast, TurnPast}
 
 -- the lists are the builder's still, and lists that were not its own stay as they are and are not its own
 pub record Moves (b : Builder) (s : Lists Node) (d : Builder) (t : Lists Node) : Type 0 where
@@ -115,6 +116,7 @@ pub record TurnIs (b : Builder) (s : Lists Node) (ask : Ask) (o : Option Event) 
   pub shorter : o ≡ None → length (contents_of d t).waiting < length (contents_of b s).waiting
   pub stays : Stays (contents_of b s) (contents_of d t) ask
   pub turned : TurnBy o (contents_of b s) (contents_of d t) ask
+  pub past : TurnPast o (contents_of b s) (contents_of d t) ask
 
 -- the page was filled up to an event
 pub record Filled (b : Builder) (s : Lists Node) (ask : Ask) (e : Event) (d : Builder) (t : Lists Node) : Type 0 where
@@ -123,3 +125,4 @@ pub record Filled (b : Builder) (s : Lists Node) (ask : Ask) (e : Event) (d : Bu
   pub keeps : (q : ℕ) → Lacks q (owned (ids_of b) s) → Lacks q (owned (ids_of d) t)
   pub stays : Stays (contents_of b s) (contents_of d t) ask
   pub first : FirstIs e (laid (contents_of b s) ask) (reach_ahead (contents_of b s) ask) (places_of (contents_of b s) ask) ask (contents_of d t)
+  pub past : EventPast e (contents_of b s) (contents_of d t) ask

@@ -17,16 +17,17 @@ ghost use Rattle.tb_builder.specs.Reached.{holds_box};
 ghost use Rattle.tb_builder.specs.Contents.{contents_of};
 ghost use Rattle.tb_builder.specs.Running.{IsSound, CourseStands, Underway, AllLoose, kept_frozen, frozen_with, act_of_kind, insertion_of_kind};
 ghost use Rattle.tb_builder.specs.Next.{AskFits, NextFits, NextIs, IsGivenOut};
+ghost use Rattle.tb_builder.specs.Past.{EventPast};
 ghost use Rattle.tb_builder.specs.Turn.{Moves, Shifted, StepIs, StepFits, TriesOn, TurnIs, Filled};
 
 use crate::measuring::list_size;
 use crate::moving::{
-    act_of, drop_first, first_of, glue_follows, insertion_of, is_box, shift, top_node,
+    act_of, drop_first, first_of, insertion_of, is_box, is_matter, penalty_of, top_node,
 };
 use crate::trying::stops;
 use crate::{Ask, Builder, Event};
 use std::alloc::AllocError;
-use tb_break::{is_lasting, place_penalty};
+use tb_break::is_lasting;
 use tb_node::{Insertion, Node};
 use tb_pool::Lists;
 
@@ -42,6 +43,7 @@ impl Builder {
         requires fits { NextFits (contents_of self.old store.old) ask.now }
         requires none_held { (contents_of self.old store.old).held ≡ [] }
         ensures event { IfOk result (λ e. NextIs self.old.stopped e (contents_of self.old store.old) ask.now (contents_of self.new store.new) store.new) }
+        ensures past { IfOk result (λ e. self.old.stopped ≡ false → EventPast e (contents_of self.old store.old) (contents_of self.new store.new) ask.now) }
         ensures sound { IsSound self.new store.new }
         ensures keeps { Keeps (ids_of self.old) store.old (ids_of self.new) store.new }
         ensures body { IfOk result (λ e. IsGivenOut e store.old (ids_of self.new) store.new) }
@@ -72,7 +74,8 @@ impl Builder {
         Event::Empty
     }
 
-    // The first node that waits goes on the page, vanishes or is handed out, or the place before it is a stop.
+    // The first node that waits goes on the page, vanishes or is handed out, or the place before it is a stop. Each node
+    // comes by here, so what is rare has functions of its own.
     fn turn(&mut self, store: &mut Lists<Node>, ask: &Ask, n: &Node) -> Option<Event>
         requires sound { IsSound self.old store.old }
         requires on { self.old.stopped ≡ false }
@@ -81,17 +84,47 @@ impl Builder {
         requires first { slice_get (list_at store.old self.old.waiting) 0 ≡ Some n.now }
         ensures { TurnIs self.old store.old ask.now result self.new store.new }
     {
-        if let Some(act) = act_of(n) {
-            drop_first(store, self.waiting);
-            return Some(Event::Act(act));
-        }
-        if let Some(i) = insertion_of(n) {
-            self.meet(store, ask, n, &i);
-            return None;
+        if !is_matter(n) {
+            return self.act_or_insert(store, ask, n);
         }
         if self.opened {
             return self.reach(store, n);
         }
+        self.begin(store, ask, n)
+    }
+
+    // The first node that waits is an act, which is handed out, or an insertion, which goes on the page.
+    fn act_or_insert(&mut self, store: &mut Lists<Node>, ask: &Ask, n: &Node) -> Option<Event>
+        requires sound { IsSound self.old store.old }
+        requires on { self.old.stopped ≡ false }
+        requires fits { NextFits (contents_of self.old store.old) ask.now }
+        requires first { slice_get (list_at store.old self.old.waiting) 0 ≡ Some n.now }
+        requires other { act_of_kind n.now.kind ≡ None → IsSome (insertion_of_kind n.now.kind) }
+        ensures { TurnIs self.old store.old ask.now result self.new store.new }
+    {
+        if let Some(act) = act_of(n) {
+            drop_first(store, self.waiting);
+            return Some(Event::Act(act));
+        }
+        let Some(i) = insertion_of(n) else {
+            unreachable!()
+        };
+        self.meet(store, ask, n, &i);
+        None
+    }
+
+    // On a page without a box, the first node that waits is no act and no insertion.
+    fn begin(&mut self, store: &mut Lists<Node>, ask: &Ask, n: &Node) -> Option<Event>
+        requires sound { IsSound self.old store.old }
+        requires on { self.old.stopped ≡ false }
+        requires closed { self.old.opened ≡ false }
+        requires fits { NextFits (contents_of self.old store.old) ask.now }
+        requires room { 0 < store.old.spare }
+        requires first { slice_get (list_at store.old self.old.waiting) 0 ≡ Some n.now }
+        requires no_act { act_of_kind n.now.kind ≡ None }
+        requires no_insertion { insertion_of_kind n.now.kind ≡ None }
+        ensures { TurnIs self.old store.old ask.now result self.new store.new }
+    {
         if is_box(n) {
             return self.open_page(store, ask, n);
         }
@@ -155,7 +188,7 @@ impl Builder {
         let size = list_size(store, own.list);
         let index = store.len(self.page);
         self.course.join(store, i, index, &own.class, size);
-        shift(store, self.waiting, self.page, self.rest);
+        store.move_first(self.waiting, self.page);
     }
 
     // On a page without a box, the first node that waits is no box, insertion or act: a mark, a note or a whatsit goes
@@ -172,7 +205,7 @@ impl Builder {
     {
         if is_lasting(n) {
             self.course.lasting = true;
-            shift(store, self.waiting, self.page, self.rest);
+            store.move_first(self.waiting, self.page);
             return;
         }
         drop_first(store, self.waiting);
@@ -194,8 +227,7 @@ impl Builder {
         ensures frozen { self.new.frozen ≡ self.old.frozen }
         ensures ids { ids_of self.new ≡ ids_of self.old }
     {
-        let glue_next = glue_follows(store, self.waiting);
-        let Some(penalty) = place_penalty(n, self.course.lasting, glue_next) else {
+        let Some(penalty) = penalty_of(store, self.waiting, n, self.course.lasting) else {
             self.put(store, n);
             return None;
         };
@@ -247,6 +279,6 @@ impl Builder {
         ensures ids { ids_of self.new ≡ ids_of self.old }
     {
         self.course.put(n);
-        shift(store, self.waiting, self.page, self.rest);
+        store.move_first(self.waiting, self.page);
     }
 }

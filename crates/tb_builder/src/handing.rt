@@ -1,13 +1,13 @@
 //! Nodes and lists are handed to a builder, and its lists are shown.
 
-ghost use Rattle.std.specs.Prelude.{◌≡◌, ◌≢◌, ◌++◌, ◌∷◌, [], Some, ℕ, OnOk, OnErr};
+ghost use Rattle.std.specs.Prelude.{◌≡◌, ◌≢◌, ◌++◌, ◌∷◌, [], Some, false, ℕ, OnOk, OnErr};
 ghost use Rattle.std.specs.FinMap.{get};
 ghost use Rattle.tb_pool.specs.Lists.{IsLive, list_at};
 ghost use Rattle.tb_node.specs.Plain.{plain_of};
 ghost use Rattle.tb_builder.specs.Contents.{contents_of, plain_list};
 ghost use Rattle.tb_builder.specs.Owned.{ids_of, owned, inner_ids, Lacks};
 ghost use Rattle.tb_builder.specs.Running.{IsSound};
-ghost use Rattle.tb_builder.specs.Handed.{NodesJoin, ListJoins, MayWait, InFront, NoPage};
+ghost use Rattle.tb_builder.specs.Handed.{NodesJoin, ListJoins, MayWait, InFront, NoPage, ends_in_kern};
 
 use crate::Builder;
 use std::alloc::AllocError;
@@ -66,6 +66,27 @@ impl Builder {
         ensures keeps { (q : ℕ) → Lacks q (owned (ids_of self.old) store.old ++ inner_ids (list_at store.old list)) → Lacks q (owned (ids_of self.new) store.new) }
     {
         put_in_front(store, self.held, list, self.waiting);
+    }
+
+    /// The nodes of the list come before all that waits, where the last event of `next` was not the Try of a stop and
+    /// the page's last node is no kern. The lists of insertions among them are the builder's from then on, and the list
+    /// is empty. Takes no memory.
+    pub fn put_first(&mut self, store: &mut Lists<Node>, list: ListId)
+        requires sound { IsSound self.old store.old }
+        requires going { (contents_of self.old store.old).stopped ≡ false }
+        requires no_kern { ends_in_kern (contents_of self.old store.old).page ≡ false }
+        requires joins { ListJoins (ids_of self.old) store.old list }
+        ensures sound { IsSound self.new store.new }
+        ensures contents { contents_of self.new store.new ≡ record (contents_of self.old store.old) { waiting = plain_list store.old list ++ (contents_of self.old store.old).waiting } }
+        ensures same { self.new ≡ self.old }
+        ensures spare { store.new.spare ≡ store.old.spare }
+        ensures emptied { get store.new.lists list ≡ Some [] }
+        ensures others { (q : ℕ) → q ≢ list → Lacks q (owned (ids_of self.old) store.old) → get store.new.lists q ≡ get store.old.lists q }
+        ensures keeps { (q : ℕ) → Lacks q (owned (ids_of self.old) store.old ++ inner_ids (list_at store.old list)) → Lacks q (owned (ids_of self.new) store.new) }
+        ensures owns { (q : ℕ) → Lacks q (owned (ids_of self.new) store.new) → Lacks q (owned (ids_of self.old) store.old ++ inner_ids (list_at store.old list)) }
+    {
+        store.append(list, self.waiting);
+        store.append(self.waiting, list);
     }
 
     /// The list that holds the nodes that wait.

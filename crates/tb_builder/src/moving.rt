@@ -1,7 +1,6 @@
 //! Nodes at the front of a list: what they are, and how they go from one list to another.
 
-ghost use Rattle.std.specs.Prelude.{◌≡◌, ◌≢◌, ◌<◌, ◌≤◌, ◌+◌, ◌-ℤ◌, pos, ℕ, List, [], ◌∷◌, ◌++◌, true, slice_get, drop, length};
-ghost use Rattle.std.specs.FinMap.{insert};
+ghost use Rattle.std.specs.Prelude.{◌≡◌, ◌≢◌, ◌<◌, ◌≤◌, ◌+◌, ◌-ℤ◌, ◌<ℤ◌, pos, ℕ, Bool, true, false, None, IsSome, IfSome, List, ◌∷◌, slice_get, drop};
 ghost use Rattle.tb_pool.specs.Lists.{IsLive, list_at, with_list};
 ghost use Rattle.tb_scaled.specs.Scaled.{max_ℤ};
 ghost use Rattle.tb_node.specs.declared.Node.{Node as NodeOf};
@@ -9,9 +8,10 @@ ghost use Rattle.tb_node.specs.Shape.{is_discardable, is_box};
 ghost use Rattle.tb_node.specs.Plain.{shape_of};
 ghost use Rattle.tb_node.specs.Small.{IsAmount, IsSmallShape};
 ghost use Rattle.tb_break.specs.Prune.{glue_before, top_glue};
+ghost use Rattle.tb_break.specs.Finding.{penalty_by};
 ghost use Rattle.tb_builder.specs.Running.{act_of_kind, insertion_of_kind, height_of, nodes_glue_first};
 
-use tb_break::is_glue;
+use tb_break::{is_glue, place_penalty};
 use tb_node::{Act, Insertion, Kind, Node};
 use tb_pool::{Iter, ListId, Lists};
 use tb_scaled::fixed;
@@ -34,6 +34,15 @@ pub fn insertion_of(n: &Node) -> Option<Insertion>
         Kind::Ins(i) => Some(i),
         _ => None,
     }
+}
+
+/// Whether a node is neither an act nor an insertion.
+pub fn is_matter(n: &Node) -> bool
+    ensures no_act { result ≡ true → act_of_kind n.now.kind ≡ None }
+    ensures no_insertion { result ≡ true → insertion_of_kind n.now.kind ≡ None }
+    ensures other { result ≡ false → act_of_kind n.now.kind ≡ None → IsSome (insertion_of_kind n.now.kind) }
+{
+    !matches!(n.kind, Kind::Ins(_) | Kind::Act(_))
 }
 
 /// Whether a node is a box or a rule.
@@ -95,6 +104,27 @@ pub fn first_of(store: &Lists<Node>, l: ListId) -> Option<Node>
     store.get(l, 0).copied()
 }
 
+// Whether a node is a kern.
+fn is_kern(n: &Node) -> bool
+    ensures { result ≡ false → (lasting follows : Bool) → penalty_by lasting follows (shape_of n.now) ≡ penalty_by lasting false (shape_of n.now) }
+{
+    matches!(n.kind, Kind::Kern(_))
+}
+
+/// The penalty of the place before the first node of a list, `n`, where it is legal, by whether a node that does not
+/// vanish stands before it. Only before a kern is it asked whether glue follows.
+pub fn penalty_of(store: &Lists<Node>, l: ListId, n: &Node, lasting: bool) -> Option<i64>
+    requires live { IsLive store.now l }
+    requires node { IsSmallShape (shape_of n.now) }
+    ensures value { result ≡ penalty_by lasting (nodes_glue_first (drop 1 (list_at store.now l))) (shape_of n.now) }
+    ensures legal { IfSome result (λ p. IsAmount p × (p <ℤ pos 10000)) }
+{
+    if !is_kern(n) {
+        return place_penalty(n, lasting, false);
+    }
+    place_penalty(n, lasting, glue_follows(store, l))
+}
+
 fn skip_one(nodes: &mut Iter<'_, Node>)
     ensures { nodes.new ≡ drop 1 nodes.old }
 {
@@ -127,23 +157,4 @@ pub fn drop_first(store: &mut Lists<Node>, l: ListId)
     ensures spare { store.old.spare ≤ store.new.spare }
 {
     store.pop_front(l);
-}
-
-/// The first node of a list that has one goes to the end of another, by links alone; on the way the rest is in a list
-/// that is empty before and afterwards.
-pub fn shift(store: &mut Lists<Node>, from: ListId, to: ListId, between: ListId)
-    requires from_live { IsLive store.old from }
-    requires to_live { IsLive store.old to }
-    requires between_live { IsLive store.old between }
-    requires apart { to ≢ from }
-    requires between_to { between ≢ to }
-    requires between_from { between ≢ from }
-    requires between_empty { list_at store.old between ≡ [] }
-    requires some { 0 < length (list_at store.old from) }
-    ensures shifted { (n : NodeOf) (ns : List NodeOf) → list_at store.old from ≡ n ∷ ns → store.new.lists ≡ insert (with_list store.old from ns) to (list_at store.old to ++ n ∷ []) }
-    ensures spare { store.new.spare ≡ store.old.spare }
-{
-    store.cut(from, 1, between);
-    store.append(to, from);
-    store.append(from, between);
 }

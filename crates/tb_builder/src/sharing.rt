@@ -18,7 +18,7 @@ ghost use Rattle.tb_builder.specs.Running.{insertion_of_kind};
 ghost use Rattle.tb_builder.specs.Firing.{share_up_to, share_told, opened, box_list, BeginsVanishing, IsShareWithin, Gives, Drops, Settles, SortsTo, Sorted, IsMarkedAt, EachFits};
 
 use crate::measuring::pruned_size;
-use crate::moving::{drop_first, first_of, insertion_of, shift};
+use crate::moving::{drop_first, first_of, insertion_of};
 use crate::splitting::{give_front, pass_on};
 use crate::{Builder, Course, Share};
 use tb_node::{Insertion, Kind, Node};
@@ -202,7 +202,7 @@ impl Builder {
             return;
         };
         let Some(i) = insertion_of(&n) else {
-            shift(store, self.page, body, self.rest);
+            store.move_first(self.page, body);
             return;
         };
         let share = self.course.share_at(i.class, index);

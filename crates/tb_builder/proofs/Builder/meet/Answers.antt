@@ -14,7 +14,7 @@ use Rattle.tb_builder.proofs.OwnedLemmas.{live-left}
 use Rattle.tb_builder.proofs.ClassLemmas.{list_live, list_fits}
 use Rattle.tb_builder.proofs.MoveLemmas.{written_shift}
 use Rattle.tb_builder.proofs.FillLemmas.{first_is}
-use Rattle.tb_builder.proofs.FreezeLemmas.{frozen_course, first_known, comes_to, class_is, meets_fits, plain_insertion, insertion_shape, insertion_act}
+use Rattle.tb_builder.proofs.FreezeLemmas.{frozen_course, first_known, comes_to, class_is, meets_fits, plain_insertion, insertion_plain, insertion_shape, insertion_act}
 use Rattle.tb_builder.proofs.ClassLemmas.{number_is}
 use Rattle.tb_builder.proofs.MeetLemmas.{met}
 use Rattle.tb_builder.proofs.Builder.meet.Goals as goal
@@ -76,9 +76,9 @@ returns c =
     let joined = c.join.ensures z before.page bs c.args.n.now.line u.course
     (subst (λ k. ComesTo z before.page c.freeze.new.self.course.scan c.class_list-own.result.class (to_z w64 (of_z w64 c.list_size-size.result)) k) (sym index) (subst (λ x. ComesTo z before.page c.freeze.new.self.course.scan c.class_list-own.result.class x (length (list_at s b.page))) (sym size) co)) in
     let d : Builder = record c.freeze.new.self { course = c.join.new.self } in
-    let shifted = c.shift.ensures.shifted c.args.n.now f.0 (ap (λ (j : Ids). list_at s j.waiting) c.freeze.ensures.ids ∙ f.1) ∙ ap (λ (j : Ids). insert (with_list s j.waiting f.0) j.page (list_at s j.page ++ c.args.n.now ∷ [])) c.freeze.ensures.ids in
-    met b d s c.shift.new.store c.args.ask.now c.args.n.now f.0 c.requires.sound (c.freeze.ensures.stopped ∙ c.requires.on) c.freeze.ensures.ids f.1
-    (written_shift (ids_of b) s c.shift.new.store c.args.n.now f.0 c.requires.sound.own f.1 shifted) (omega (arith, c.shift.ensures.spare)) c.freeze.ensures.opened
+    let shifted = c.move_first.ensures.moved c.args.n.now f.0 (ap (λ (j : Ids). list_at s j.waiting) c.freeze.ensures.ids ∙ f.1) ∙ ap (λ (j : Ids). insert (with_list s j.waiting f.0) j.page (list_at s j.page ++ c.args.n.now ∷ [])) c.freeze.ensures.ids in
+    met b d s c.move_first.new.self c.args.ask.now c.args.n.now f.0 c.requires.sound (c.freeze.ensures.stopped ∙ c.requires.on) c.freeze.ensures.ids f.1
+    (written_shift (ids_of b) s c.move_first.new.self c.args.n.now f.0 c.requires.sound.own f.1 shifted) (omega (arith, c.move_first.ensures.spare)) c.freeze.ensures.opened
     (insertion_shape c.args.n.now c.args.i.now c.requires.insertion) (insertion_act c.args.n.now c.args.i.now c.requires.insertion)
-    c.freeze.new.self.course (frozen_with b.frozen c.args.ask.now) c.freeze.ensures.frozen refl u
+    c.freeze.new.self.course (frozen_with b.frozen c.args.ask.now) (insertion_plain held c.args.n.now c.args.i.now c.requires.insertion) c.freeze.ensures.frozen refl u
     (subst (λ m. CourseStands z c.join.new.self (before.page ++ m ∷ []) bs) (sym (plain_insertion held c.args.n.now c.args.i.now c.requires.insertion)) joined)

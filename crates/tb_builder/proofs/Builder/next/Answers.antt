@@ -2,6 +2,7 @@ use Rattle.std.proofs.Common.{◌≡◌, sym, subst}
 use Rattle.tb_builder.specs.Contents.{Contents, contents_of}
 use Rattle.tb_builder.specs.Next.{NextIs, FirstIs, Stays}
 use Rattle.tb_builder.specs.Contents.{laid, reach_ahead, places_of}
+use Rattle.tb_builder.specs.Past.{EventPast}
 use Rattle.tb_builder.specs.Running.{IsSound}
 use Rattle.tb_builder.specs.declared.Event.TheVariants as events
 use Rattle.tb_builder.proofs.NextLemmas.{fired_keeps}
@@ -39,3 +40,9 @@ returns-clause-event c =
 
 pub returns-clause-keeps : goal.returns-clause-keeps
 returns-clause-keeps c = keeps_filled c.args.store.now c.reserve.new.self c.reserve.ensures.lists c.args.self.now c.fill.new.self c.fill.new.store c.fill.ensures.others c.fill.ensures.keeps
+
+pub returns-then-self-clause-past : goal.returns-then-self-clause-past
+returns-then-self-clause-past c = λ on. tt
+
+pub returns-clause-past : goal.returns-clause-past
+returns-clause-past c = λ on. subst (λ (b : Contents). EventPast c.fill.result b (contents_of c.fill.new.self c.fill.new.store) c.args.ask.now) (contents_still c.args.store.now c.reserve.new.self c.reserve.ensures.lists c.args.self.now) c.fill.ensures.past

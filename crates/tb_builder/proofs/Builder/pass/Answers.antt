@@ -15,8 +15,8 @@ returns-then-is_lasting c =
     let s = c.args.store.now in
     let d : Builder = record b { course = record b.course { lasting = true } } in
     let lasts = sym c.is_lasting.ensures ∙ c.if-is_lasting.true in
-    passed_loose b d s c.shift.new.store c.args.ask.now c.args.n.now f.0 c.requires.sound c.requires.on refl f.1
-    (written_shift (ids_of b) s c.shift.new.store c.args.n.now f.0 c.requires.sound.own f.1 (c.shift.ensures.shifted c.args.n.now f.0 f.1)) (omega (arith, c.shift.ensures.spare)) refl
+    passed_loose b d s c.move_first.new.self c.args.ask.now c.args.n.now f.0 c.requires.sound c.requires.on refl f.1
+    (written_shift (ids_of b) s c.move_first.new.self c.args.n.now f.0 c.requires.sound.own f.1 (c.move_first.ensures.moved c.args.n.now f.0 f.1)) (omega (arith, c.move_first.ensures.spare)) refl
     (loose_kind_shape c.args.n.now.kind c.requires.no_box lasts) c.requires.no_act refl c.requires.on (loose_node (list_at s) c.args.n.now.kind c.requires.no_act c.requires.no_insertion c.requires.no_box lasts) refl refl refl refl
 
 pub returns : goal.returns

@@ -14,7 +14,7 @@ returns-in_default-insertion_of-clause-sorts c =
     let s = c.args.store.now in
     let f = first_is (list_at s b.page) c.in-Some.n (sym c.first_of.ensures ∙ c.in-Some.is) in
     let none = sym c.insertion_of.ensures ∙ c.in_default-insertion_of.is in
-    plain_sorts b s c.shift.new.store c.in-Some.n f.0 c.args.body c.requires.own f.1 none c.requires.body_apart c.requires.body_plain (c.shift.ensures.shifted c.in-Some.n f.0 f.1)
+    plain_sorts b s c.move_first.new.self c.in-Some.n f.0 c.args.body c.requires.own f.1 none c.requires.body_apart c.requires.body_plain (c.move_first.ensures.moved c.in-Some.n f.0 f.1)
 
 pub returns-in_default-insertion_of-clause-sorted : goal.returns-in_default-insertion_of-clause-sorted
 returns-in_default-insertion_of-clause-sorted c =
@@ -22,7 +22,7 @@ returns-in_default-insertion_of-clause-sorted c =
     let s = c.args.store.now in
     let f = first_is (list_at s b.page) c.in-Some.n (sym c.first_of.ensures ∙ c.in-Some.is) in
     let none = sym c.insertion_of.ensures ∙ c.in_default-insertion_of.is in
-    λ z page marked before boxes a e h. sorted_plain b s c.shift.new.store c.in-Some.n f.0 c.args.body c.requires.own f.1 none c.requires.body_apart c.requires.body_plain (c.shift.ensures.shifted c.in-Some.n f.0 f.1) z boxes marked before h
+    λ z page marked before boxes a e h. sorted_plain b s c.move_first.new.self c.in-Some.n f.0 c.args.body c.requires.own f.1 none c.requires.body_apart c.requires.body_plain (c.move_first.ensures.moved c.in-Some.n f.0 f.1) z boxes marked before h
 
 pub returns-in_default-insertion_of-clause-left : goal.returns-in_default-insertion_of-clause-left
 returns-in_default-insertion_of-clause-left c =
@@ -30,7 +30,7 @@ returns-in_default-insertion_of-clause-left c =
     let s = c.args.store.now in
     let f = first_is (list_at s b.page) c.in-Some.n (sym c.first_of.ensures ∙ c.in-Some.is) in
     let none = sym c.insertion_of.ensures ∙ c.in_default-insertion_of.is in
-    plain_left b s c.shift.new.store c.in-Some.n f.0 c.args.body c.requires.own f.1 none c.requires.body_apart c.requires.body_plain (c.shift.ensures.shifted c.in-Some.n f.0 f.1)
+    plain_left b s c.move_first.new.self c.in-Some.n f.0 c.args.body c.requires.own f.1 none c.requires.body_apart c.requires.body_plain (c.move_first.ensures.moved c.in-Some.n f.0 f.1)
 
 pub share_at-share-requires : goal.share_at-share-requires
 share_at-share-requires c =
