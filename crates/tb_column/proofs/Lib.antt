@@ -8,3 +8,5 @@ pub mod GatherLemmas
 pub mod ClosingLemmas
 pub mod PageLemmas
 pub mod RangeLemmas
+pub mod Within
+pub mod PrintedLines

@@ -28,7 +28,8 @@ use tb_scaled::{Glue, Order};
 // The stretch of the glue at a ragged bottom is as small as LaTeX's (`\raggedbottom`: 0.0001fil).
 const RAGGED_STRETCH: i64 = 7;
 
-fn is_ragged(bottom: Choice) -> bool
+/// Whether this word for the bottom of a column says that it is ragged.
+pub fn is_ragged(bottom: Choice) -> bool
     ensures { result ≡ is_ragged bottom }
 {
     match bottom {

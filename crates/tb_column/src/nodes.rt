@@ -13,9 +13,9 @@ pub(crate) fn made_node(kind: Kind) -> Node
     Node { line: 0, kind }
 }
 
-/// Puts such a node at the end of a list.
+/// Puts a node that no galley item gives at the end of a list, in a place that is spare.
 #[tactic(auto, using(tb_pool::proofs::MapLemmas::list_steps))]
-pub(crate) fn push_made(store: &mut Lists<Node>, l: ListId, kind: Kind)
+pub fn push_made(store: &mut Lists<Node>, l: ListId, kind: Kind)
     requires live { IsLive store.old l }
     requires room { 0 < store.old.spare }
     ensures lists { store.new.lists ≡ with_list store.old l (list_at store.old l ++ made_node kind ∷ []) }
@@ -25,8 +25,8 @@ pub(crate) fn push_made(store: &mut Lists<Node>, l: ListId, kind: Kind)
     store.push_back(l, made_node(kind));
 }
 
-/// Puts the box of a float at the end of a list; it has no depth.
-pub(crate) fn push_float(store: &mut Lists<Node>, l: ListId, place: Where, float: &Float)
+/// Puts the box of a float at the end of a list, in a place that is spare; it has the float's height and no depth.
+pub fn push_float(store: &mut Lists<Node>, l: ListId, place: Where, float: &Float)
     requires live { IsLive store.old l }
     requires room { 0 < store.old.spare }
     ensures lists { store.new.lists ≡ with_list store.old l (list_at store.old l ++ float_box place float.now ∷ []) }

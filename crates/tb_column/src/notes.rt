@@ -24,8 +24,9 @@ const RULE_HEIGHT: i64 = 26_214;
 
 const KERN_BELOW: i64 = 170_394;
 
-// Puts glue and the rule above footnotes at the end of a list.
-fn push_rule(store: &mut Lists<Node>, l: ListId, skip: Glue)
+/// Puts what stands above footnotes at the end of a list, in four places that are spare: this glue, and the rule between
+/// two kerns.
+pub fn push_rule(store: &mut Lists<Node>, l: ListId, skip: Glue)
     requires live { IsLive store.old l }
     requires room { 4 ≤ store.old.spare }
     ensures lists { store.new.lists ≡ with_list store.old l (list_at store.old l ++ rule_above skip) }

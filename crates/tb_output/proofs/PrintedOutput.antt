@@ -27,9 +27,9 @@ use Rattle.tb_output.proofs.BreakSorts.{at-clear, at-serve, at-hold}
 use Rattle.tb_output.proofs.BoxesFirst.{HasReal, one-unreal, unreal-quiet}
 use Rattle.tb_output.proofs.SparedLists.{ordinary-takes}
 use Rattle.tb_output.proofs.ServedLists.{float_or_note-serves}
-use Rattle.tb_output.proofs.Within.{Within, itself, within-same, within-within, both-within, within-front, before-within}
-use Rattle.tb_output.proofs.PrintedLines.{printed, prints, left_prints, sent_prints, shown, prints-append, AllPlain, plain-both}
-use Rattle.tb_output.proofs.PrintedFirings.{Fits, WorkPlain, Prints, then_kept, fewer, prints_if, same, unchanged, warns-prints, all_wide-prints, put_out_text-prints, float_columns-prints, ordinary-prints, float_or_note-prints}
+use Rattle.tb_column.proofs.Within.{Within, itself, within-same, within-within, both-within, within-front, before-within}
+use Rattle.tb_column.proofs.PrintedLines.{printed, prints, left_prints, sent_prints, prints-append, AllPlain, plain-both}
+use Rattle.tb_output.proofs.PrintedFirings.{shown, Fits, WorkPlain, Prints, then_kept, fewer, prints_if, same, unchanged, warns-prints, all_wide-prints, put_out_text-prints, float_columns-prints, ordinary-prints, float_or_note-prints}
 
 -- ---- what the steps of a page show
 
