@@ -1,0 +1,64 @@
+-- Lists that are none of the builder's change, and lists that can join the builder's.
+use Rattle.std.proofs.Common.{◌≡◌, ◌≢◌, refl, sym, subst, ℕ, true, List, [], ◌∷◌, ◌++◌, append-nil}
+use Rattle.std.specs.Prelude.{option_to_list}
+use Rattle.std.specs.FinMap.{get}
+use Rattle.std.proofs.lemmas.Bool.{true≢false}
+use Rattle.tb_pool.specs.Lists.{Lists, IsLive, list_at}
+use Rattle.tb_node.specs.declared.Node.{Node}
+use Rattle.tb_node.specs.declared.Kind.{Kind}
+use Rattle.tb_node.specs.declared.Kind.TheVariants as kinds
+use Rattle.tb_insert.specs.declared.Class.{Class}
+use Rattle.tb_builder.specs.Owned.{Lacks, AllDiffer, AllLive, inner_ids, Ids, owned, is_plain, AllPlain, HoldPlain, AllKnown, classes_of, IsOwned}
+use Rattle.tb_builder.specs.Handed.{NodesJoin, ListJoins}
+use Rattle.tb_builder.proofs.OwnedLemmas.{AllSame}
+use Rattle.tb_builder.proofs.WorkedLemmas.{matter_inner, matter_known}
+use Rattle.tb_column.specs.Page.{is_leaf_kind, AreLeaves}
+
+-- two lists that are none of these changed
+pub same-two : (s t : Lists Node) (l m : ℕ) → ((q : ℕ) → q ≢ l → q ≢ m → get t.lists q ≡ get s.lists q) → (xs : List ℕ) → Lacks l xs → Lacks m xs → AllSame s t xs
+same-two s t l m h [] a b = tt
+same-two s t l m h (x ∷ xs) a b = (h x (λ e. a.0 (sym e)) (λ e. b.0 (sym e)), same-two s t l m h xs a.1 b.1)
+
+pub same-one : (s t : Lists Node) (l : ℕ) → ((q : ℕ) → q ≢ l → get t.lists q ≡ get s.lists q) → (xs : List ℕ) → Lacks l xs → AllSame s t xs
+same-one s t l h xs a = same-two s t l l (λ q n m. h q n) xs a a
+
+-- ---- nodes that are neither insertions nor acts
+
+plain-leaf : (k : Kind) → is_plain k ≡ true → is_leaf_kind k
+plain-leaf (kinds.Hbox what h d) p = tt
+plain-leaf (kinds.Rule name h d) p = tt
+plain-leaf (kinds.Skip g) p = tt
+plain-leaf (kinds.Kern w) p = tt
+plain-leaf (kinds.Pen q) p = tt
+plain-leaf (kinds.Mark name) p = tt
+plain-leaf (kinds.Note name) p = tt
+plain-leaf kinds.Whatsit p = tt
+plain-leaf (kinds.Ins i) p = absurd (true≢false (sym p))
+plain-leaf (kinds.Act a) p = absurd (true≢false (sym p))
+
+pub plain-leaves : (ns : List Node) → AllPlain ns → AreLeaves ns
+plain-leaves [] h = tt
+plain-leaves (n ∷ ns) h = (plain-leaf n.kind h.0, plain-leaves ns h.1)
+
+all-known : (cs : List Class) (ns : List Node) → AllPlain ns → AllKnown cs ns
+all-known cs [] h = tt
+all-known cs (n ∷ ns) h = (matter_known cs n.kind h.0, all-known cs ns h.1)
+
+pub plain-ids : (ns : List Node) → AllPlain ns → inner_ids ns ≡ []
+plain-ids [] h = refl
+plain-ids (n ∷ ns) h = λ i. option_to_list (matter_inner n.kind h.0 i) ++ plain-ids ns h.1 i
+
+-- such a list can join the builder's
+pub plain-joins : (b : Ids) (s : Lists Node) (l : ℕ) → IsOwned b s → IsLive s l → Lacks l (owned b s) → AllPlain (list_at s l) → ListJoins b s l
+plain-joins b s l own live apart plain =
+    let none = sym (plain-ids (list_at s l) plain) in
+    record {
+      live = live;
+      apart = subst (λ is. Lacks l (owned b s ++ is)) none (subst (Lacks l) (sym (append-nil (owned b s))) apart);
+      nodes = record {
+        live = subst (AllLive s) none tt;
+        differ = subst (λ is. AllDiffer (owned b s ++ is)) none (subst AllDiffer (sym (append-nil (owned b s))) own.differ);
+        plain_lists = subst (HoldPlain s) none tt;
+        known = all-known (classes_of b) (list_at s l) plain;
+      };
+    }

@@ -1,0 +1,12 @@
+pub mod MakeupRowsLemmas
+pub mod StepLemmas
+pub mod ReasonLemmas
+pub mod OurLemmas
+pub mod WeightLemmas
+pub mod OrderLemmas
+pub mod GalleyLemmas
+pub mod PlainPages
+pub mod BesideLemmas
+pub mod PutLemmas
+pub mod GrowLemmas
+pub mod FireLemmas

@@ -1,0 +1,10 @@
+pub mod Expand
+pub mod Suited
+pub mod Take
+pub mod Firing
+pub mod Run
+pub mod Steps
+pub mod Calls
+pub mod Making
+pub mod Report
+pub mod Rows

@@ -1,0 +1,76 @@
+//! Plain TeX's page makeup: floats that go where they stand or to the top of a page, and pages of one column.
+#![tactic(auto)]
+
+mod firing;
+mod taking;
+
+ghost use Rattle.std.specs.Prelude.{◌≡◌};
+ghost use Rattle.tb_plain.specs.Rows.{MakeupRows};
+ghost use Rattle.tb_plain.specs.Steps.{StepsAgree, EndsHaveReasons};
+ghost use Rattle.tb_plain.specs.Calls.{AreMakeupParams, IsPlain};
+
+use std::alloc::AllocError;
+use tb_column::Column;
+use tb_param::Params;
+use tb_pool::ListId;
+
+/// The page makeup between two calls: the parameters, and the number of the next page.
+#[derive(Clone, Copy)]
+pub struct Plain {
+    params: Params,
+    page: u64,
+}
+
+/// A page that ships: its number, its column, and the list of the nodes that go back before what waits. Both lists are the
+/// caller's.
+#[derive(Clone, Copy)]
+pub struct PlainPage {
+    pub page: u64,
+    pub column: Column,
+    pub put_back: ListId,
+}
+
+/// Why no page ships.
+#[derive(Clone, Copy, Debug, PartialEq, Eq)]
+pub enum PlainFault {
+    /// A page was to be shipped after so many pages.
+    PageLimit { pages: u64 },
+    /// There was no memory.
+    Memory,
+}
+
+impl From<AllocError> for PlainFault {
+    ghost use Rattle.tb_plain.specs.declared.PlainFault.TheVariants.{Memory};
+
+    ghost from_gives = { λ _ e. e ≡ Memory };
+
+    fn from(_: AllocError) -> Self {
+        PlainFault::Memory
+    }
+}
+
+/// The page makeup before the first page.
+pub fn new_plain(p: &Params) -> Plain
+    requires { AreMakeupParams p.now }
+    ensures params { result.params ≡ p.now }
+    ensures page { result.page ≡ 1 }
+    ensures plain { IsPlain result }
+{
+    Plain {
+        params: *p,
+        page: 1,
+    }
+}
+
+/// The worked rows of the page makeup hold.
+pub fn check_makeup_rows()
+    ensures { MakeupRows }
+{}
+
+/// The run of a galley is defined: each step takes an act, ships a page or ends the last page, so the bound on the steps,
+/// with which a run starts, is never met. A run ends since it is done, or since as many pages as may be are shipped, or since
+/// more nodes wait than may be.
+pub fn makeup_runs_are_defined()
+    ensures bounds { StepsAgree }
+    ensures reasons { EndsHaveReasons }
+{}
