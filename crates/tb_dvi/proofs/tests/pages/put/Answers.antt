@@ -1,6 +1,6 @@
 use Rattle.tb_node.specs.Fit.{IsSizedNode}
 use Rattle.tb_pool.proofs.CallerLemmas.{length-pushed, All-pushed}
-use Rattle.tb_dvi.proofs.tests.put.Goals as goal
+use Rattle.tb_dvi.proofs.tests.pages.put.Goals as goal
 
 pub returns-clause-sized : goal.returns-clause-sized
 returns-clause-sized c = All-pushed c.args.store.now c.push_back.new.self c.args.list _ IsSizedNode c.push_back.ensures.pushed c.requires.sized c.requires.node

@@ -1,6 +1,6 @@
 use Rattle.std.proofs.Common.{pos, rules, arith}
 use Rattle.tb_node.proofs.FitLemmas.{list_nodes_fit, list_sums_fit}
-use Rattle.tb_dvi.proofs.tests.column.Goals as goal
+use Rattle.tb_dvi.proofs.tests.pages.column.Goals as goal
 
 pub pack-requires-clause-nodes : goal.pack-requires-clause-nodes
 pack-requires-clause-nodes c = list_nodes_fit c.args.store.now c.args.list c.requires.sized
