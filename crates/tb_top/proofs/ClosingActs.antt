@@ -19,7 +19,7 @@ use Rattle.tb_column.specs.Column.{PlainColumn}
 use Rattle.tb_output.specs.State.{State, Recorded}
 use Rattle.tb_output.specs.Act.{Acted, went, full, act_on, taken_float}
 use Rattle.tb_output.proofs.StateWeights.{left_weight}
-use Rattle.tb_output.proofs.PrintedLines.{left_prints, LeftPlain}
+use Rattle.tb_column.proofs.PrintedLines.{left_prints, LeftPlain}
 use Rattle.tb_output.proofs.Closings.{owed_after, never, Still, act_token}
 use Rattle.tb_output.proofs.ClosingPages.{ActsClose, owed_acts, ways_acts, AllStill}
 use Rattle.tb_output.proofs.ClosingStates.{ways_of}

@@ -13,6 +13,7 @@ use Rattle.tb_top.proofs.ShippedRuns.{lists-emptied}
 use Rattle.tb_top.proofs.ShippedOnce.{ships-once}
 use Rattle.tb_top.proofs.OrderedGalleys.{classes-keep-order}
 use Rattle.tb_top.proofs.ShippedTotals.{totals-shown}
+use Rattle.tb_top.proofs.WritablePages.{files-list}
 
 some-fault : (f : PageFault) → Some f ≡ None → ⊥
 some-fault f e = let no : IsSome None = subst IsSome e tt in no
@@ -37,4 +38,5 @@ keeps-laws g valid v old new t h =
       class_order = classes-keep-order g valid d;
       area_limits = run-within g;
       empty_lists = lists-emptied g valid;
+      dvi_file = files-list g valid d;
     }

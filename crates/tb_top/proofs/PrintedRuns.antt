@@ -23,8 +23,8 @@ use Rattle.tb_output.proofs.SortLemmas.{none, pruned-stands, sorts, sorts-append
 use Rattle.tb_run.specs.Run.{Run, RunEvent, offered, sent, End, done, pool_full, dead_cycles, page_limit, node_limit, Progress, progress_by, progress, Step, ends, goes_on, held_count, after_firing, fire, after_progress, step, run_by, run_from, firings_left, classes_of, run_of}
 use Rattle.tb_top.specs.Laws.{EndsDone}
 use Rattle.tb_output.proofs.BoxesFirst.{HasReal}
-use Rattle.tb_output.proofs.Within.{Within, itself, within-within, both-within}
-use Rattle.tb_output.proofs.PrintedLines.{prints, sheet_prints, sent_prints, left_prints, prints-append, SheetPlain, SentPlain, LeftPlain}
+use Rattle.tb_column.proofs.Within.{Within, itself, within-within, both-within}
+use Rattle.tb_column.proofs.PrintedLines.{prints, sheet_prints, sent_prints, left_prints, prints-append, SheetPlain, SentPlain, LeftPlain}
 use Rattle.tb_output.proofs.PrintedOutput.{state_prints, pruned-prints, acts-prints, body-prints, spent-prints, OutReads, out-reads}
 use Rattle.tb_output.proofs.ClosingStates.{Closing}
 use Rattle.tb_top.proofs.ClosingActs.{ActsClosed}

@@ -18,3 +18,4 @@ pub mod DviPages
 pub mod DviRefusal
 pub mod DviFiles
 pub mod DviWritten
+pub mod MakeupLaws

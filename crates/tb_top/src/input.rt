@@ -2,7 +2,7 @@
 ghost use Rattle.std.specs.Prelude.{◌≡◌, ◌++◌, ℕ, List, [], IfOk, OnOk, IsErrOf};
 ghost use Rattle.tb_io.specs.Faults.{Rose};
 ghost use Rattle.tb_galley.specs.Pieces.{fed};
-ghost use Rattle.tb_top.specs.Outcome.{Gives};
+ghost use Rattle.tb_top.specs.Outcome.{Gives, StopsReading};
 ghost use Rattle.tb_top.specs.Input.{HasRead};
 ghost use Rattle.tb_top.specs.declared.input.InputFault.TheVariants.{Failed, Memory};
 
@@ -69,10 +69,12 @@ const INPUT_LIMIT: u64 = 8_388_608;
 const PIECE: usize = 4096;
 
 /// Reads into an empty input, to the end or until more bytes than an input may have were taken, and not a piece later.
+/// Whatever it returns, no more was taken.
 pub fn read_input<S: Source, I: Input>(source: &mut S, input: &mut I) -> Result<(), InputFault>
     requires { I.holds input.old [] }
     ensures read { OnOk result (HasRead I.holds (S.left source.old) (S.left source.new) input.new) }
     ensures failed { IsErrOf result InputFault.Failed → Rose (S.faults source.old) (S.faults source.new) }
+    ensures stops { StopsReading (S.left source.old) (S.left source.new) }
 {
     let mut taken = 0;
     let mut buf = [0u8; PIECE];
@@ -91,6 +93,7 @@ pub fn read_input<S: Source, I: Input>(source: &mut S, input: &mut I) -> Result<
 pub fn read_text<S: Source>(alloc: Global, source: &mut S) -> Result<Vec<u8>, InputFault>
     ensures read { IfOk result (λ text. Gives (S.left source.old) (S.left source.new) text.items) }
     ensures failed { IsErrOf result InputFault.Failed → Rose (S.faults source.old) (S.faults source.new) }
+    ensures stops { StopsReading (S.left source.old) (S.left source.new) }
 {
     let mut text = Vec::new(alloc);
     read_input(source, &mut text)?;

@@ -2,7 +2,8 @@
 
 ghost use Rattle.tb_top.specs.DeadCycles.{DeadCyclesAreFew};
 ghost use Rattle.tb_top.specs.Firings.{BoundsAgree, EndsHaveReasons};
-ghost use Rattle.tb_top.specs.Laws.{ClassesKeepOrder, EachShipsOnce, LimitsHold, ListsAreEmptied, TotalsAreKept};
+ghost use Rattle.tb_top.specs.MakeupLaws.{EachMakesUpOnce};
+ghost use Rattle.tb_top.specs.Laws.{ClassesKeepOrder, EachShipsOnce, FilesListTheirPages, LimitsHold, ListsAreEmptied, TotalsAreKept};
 
 /// The run of a galley is defined: each firing ships a page or adds to the dead cycles, so the bound on the firings, with
 /// which a run starts, is never met.
@@ -43,4 +44,17 @@ pub fn classes_keep_their_order()
 /// float, marginal note, clear and change of columns, and sixteen besides.
 pub fn dead_cycles_are_few()
     ensures { DeadCyclesAreFew }
+{}
+
+/// Plain TeX's page makeup, where the run of a valid galley that it serves is done: the boxes and rules outside feet ship in the
+/// order of the galley, and each box and rule of a foot, and each float, exactly once. The totals of the run are those of the
+/// galley.
+pub fn each_makes_up_once()
+    ensures { EachMakesUpOnce }
+{}
+
+/// DVI files list their pages: where a run of a valid galley ends well, each of its pages is in range and its DVI file has at
+/// most 8388608 bytes, the lister's machine on the file lists exactly the placements of the run, page by page.
+pub fn dvi_files_list_their_pages()
+    ensures { FilesListTheirPages }
 {}

@@ -17,8 +17,8 @@ mod summary;
 mod top;
 
 pub use laws::{
-    classes_keep_their_order, dead_cycles_are_few, each_ships_once, floats_keep_the_limits,
-    lists_are_emptied, runs_are_defined,
+    classes_keep_their_order, dead_cycles_are_few, dvi_files_list_their_pages, each_makes_up_once,
+    each_ships_once, floats_keep_the_limits, lists_are_emptied, runs_are_defined,
 };
 pub use pages::paginate;
 pub use rows::check_rows;

@@ -43,12 +43,13 @@ impl From<AllocError> for PageFault {
 ///
 /// The run ends well where nothing fires any more, or is refused: a float or marginal note found no room (`PoolFull`), the
 /// page fired too often without a page shipped (`DeadCycles`), too many pages would be shipped (`PageLimit`), or too many
-/// nodes wait at the start or after a firing (`NodeLimit`). Its text up to there is written then. A run that ended well has shipped each box, rule, float and
-/// note of the galley once, the boxes and rules of the text in their order, and the floats of each class (in release
-/// 2014 of each class and width) in theirs, but for those that a break carried; and the totals show it. Whatever the end, no float without `!` was placed past the
-/// limits of its list. The answer is not `DeadCycles` where `maxdeadcycles` is at least sixteen and four for each float,
-/// marginal note, clearpage, onecolumn and twocolumn. After `WriteFault`, which comes only where `out` failed and never at
-/// a silent view, and after `Memory` a prefix of the run's text is written.
+/// nodes wait at the start or after a firing (`NodeLimit`). Its text up to there is written then. A run that ended well has
+/// shipped each box, rule, float and note of the galley once, the boxes and rules of the text in their order, and the floats
+/// of each class (in release 2014 of each class and width) in theirs, but for those that a break carried; the totals show it,
+/// and its DVI file, if in range and of at most 8388608 bytes, lists its placements. Whatever the end, no float without `!`
+/// was placed past the limits of its list. The answer is not `DeadCycles` where `maxdeadcycles` is at least sixteen and four
+/// for each float, marginal note, clearpage, onecolumn and twocolumn. After `WriteFault`, which comes only where `out` failed
+/// and never at a silent view, and after `Memory` a prefix of the run's text is written.
 pub fn paginate<K: Sink>(
     alloc: Global,
     galley: &Galley,

@@ -12,7 +12,7 @@ use super::*;
 use column_rows::COLUMN_ROWS;
 use float_rows::FLOAT_ROWS;
 use long_page::{long_galley, long_report};
-use modes::MODE_ROWS;
+use modes::{MODE_ROWS, ModeRow};
 use rows::{ROWS, Row};
 use std::alloc::Global;
 use std::process::Abort;
@@ -80,6 +80,15 @@ fn run_by(
     Ok(Left { status, out, err })
 }
 
+// The program's name and the words of a row.
+fn words_of(alloc: Global, row: &ModeRow) -> Result<Vec<String>, Fail> {
+    let mut words = vec![in alloc; String::from_str(alloc, "galley_pages")?]?;
+    for word in row.words {
+        words.push(String::from_str(alloc, word)?)?;
+    }
+    Ok(words)
+}
+
 // Runs each row on an input that is read by pieces of this size, and tells where it differs.
 fn check(rt: &impl Abort, alloc: Global, rows: &[Row], piece: usize) -> Result<(), Fail> {
     for row in rows {
@@ -132,11 +141,7 @@ fn modes_have_their_answers(rt: HostRuntime) -> Result<(), Fail> {
     let alloc = rt.alloc();
     for row in &MODE_ROWS {
         let name = row.name;
-        let mut words = vec![in alloc; String::from_str(alloc, "galley_pages")?]?;
-        for word in row.words {
-            words.push(String::from_str(alloc, word)?)?;
-        }
-        let left = run_with(alloc, &words, row.input, &NONE)?;
+        let left = run_with(alloc, &words_of(alloc, row)?, row.input, &NONE)?;
         assert_eq!(rt; left.status, row.status, "{name}");
         assert_eq!(rt; left.out.held(), row.out, "{name}");
         assert_eq!(rt; left.err.held(), row.err, "{name}");

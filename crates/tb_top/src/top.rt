@@ -5,7 +5,7 @@ ghost use Rattle.tb_io.specs.Faults.{Rose};
 ghost use Rattle.tb_galley.specs.Valid.{IsValid};
 ghost use Rattle.tb_generator.specs.Generate.{generated};
 ghost use Rattle.tb_words.specs.Words.{asked, IsCount};
-ghost use Rattle.tb_top.specs.Outcome.{Stream, stream, Outcome, StandsAfter, Succeeds, IsAnswer, Says};
+ghost use Rattle.tb_top.specs.Outcome.{Stream, stream, Outcome, StandsAfter, StopsReading, Succeeds, IsAnswer, Says};
 ghost use Rattle.tb_top.specs.Refusal.{served_status, served_line, refusal_status, refusal_line, IsNoGalley, GivesGalley};
 
 use crate::dvi_listing::listing_of;
@@ -27,15 +27,16 @@ use tb_words::{Mode, read_words};
 ///
 /// `words` are the program's name and the words after it; an empty list is read as the name alone. They are read by one
 /// command of `clap`, as [`tb_words`] says. The whole galley is read and parsed before anything is written, in pieces of at
-/// most 4096 bytes. Reading stops at the end of input, or once more than 8388608 bytes were taken, and not a piece later. Each
-/// answer but `Done` writes one line to `err`, after all else; where `err` fails the answer stays, and where there is no memory
-/// for the line it becomes `Memory`.
+/// most 4096 bytes. Reading stops at the end of input, or once more than 8388608 bytes were taken, and not a piece later,
+/// whatever is returned. Each answer but `Done` writes one line to `err`, after all else; where `err` fails the answer stays,
+/// and where there is no memory for the line it becomes `Memory`.
 ///
 /// After `Done` in report, trace or dvi mode the run of the galley kept the laws of whole runs: each box, rule, float and note
 /// shipped once, the text in its order, and the floats of each class (in release 2014 of each class and width) in theirs, but
 /// for those that a break carried; no float without `!` was placed past the limits of its area, and all float lists were
-/// empty at each change of columns and at the end. `DeadCycles` comes only where `maxdeadcycles` is less than sixteen and
-/// four for each float, marginal note, clearpage, onecolumn and twocolumn.
+/// empty at each change of columns and at the end. The DVI file of the run, if each page is in range and it has at most
+/// 8388608 bytes, lists exactly the placements of the run, page by page. `DeadCycles` comes only where `maxdeadcycles` is less
+/// than sixteen and four for each float, marginal note, clearpage, onecolumn and twocolumn.
 pub fn run<S: Source, K: Sink, E: Sink>(
     alloc: Global,
     words: &[String],
@@ -48,6 +49,9 @@ pub fn run<S: Source, K: Sink, E: Sink>(
         (stream (S.left source.old) (S.left source.new) (S.faults source.old) (S.faults source.new))
         (stream (K.held out.old) (K.held out.new) (K.faults out.old) (K.faults out.new))
         (stream (E.held err.old) (E.held err.new) (E.faults err.old) (E.faults err.new)) }
+
+    // Reading stops, whatever is returned.
+    ensures stops { StopsReading (S.left source.old) (S.left source.new) }
 
     // When each refusal comes that the input does not decide.
     ensures words { result ≡ Status.Words → asked (map string_bytes words.now) ≡ None }
@@ -74,10 +78,11 @@ fn serve<S: Source, K: Sink>(
     source: &mut S,
     out: &mut K,
 ) -> Result<(), Refusal>
-    ensures { StandsAfter (asked (map string_bytes words.now)) (served_status result)
+    ensures stands { StandsAfter (asked (map string_bytes words.now)) (served_status result)
         (stream (S.left source.old) (S.left source.new) (S.faults source.old) (S.faults source.new))
         (stream (K.held out.old) (K.held out.new) (K.faults out.old) (K.faults out.new))
         (served_line result) }
+    ensures stops { StopsReading (S.left source.old) (S.left source.new) }
 {
     let mode = read_words(alloc, words)?;
     match mode {
@@ -97,10 +102,11 @@ fn write_report<S: Source, K: Sink>(
     source: &mut S,
     out: &mut K,
 ) -> Result<(), Refusal>
-    ensures { StandsAfter (Some Mode.Report) (served_status result)
+    ensures stands { StandsAfter (Some Mode.Report) (served_status result)
         (stream (S.left source.old) (S.left source.new) (S.faults source.old) (S.faults source.new))
         (stream (K.held out.old) (K.held out.new) (K.faults out.old) (K.faults out.new))
         (served_line result) }
+    ensures stops { StopsReading (S.left source.old) (S.left source.new) }
 {
     let galley = read_galley(alloc, source)?;
     paginate(alloc, &galley, View::Report, out)?;
@@ -113,10 +119,11 @@ fn write_trace<S: Source, K: Sink>(
     source: &mut S,
     out: &mut K,
 ) -> Result<(), Refusal>
-    ensures { StandsAfter (Some Mode.Trace) (served_status result)
+    ensures stands { StandsAfter (Some Mode.Trace) (served_status result)
         (stream (S.left source.old) (S.left source.new) (S.faults source.old) (S.faults source.new))
         (stream (K.held out.old) (K.held out.new) (K.faults out.old) (K.faults out.new))
         (served_line result) }
+    ensures stops { StopsReading (S.left source.old) (S.left source.new) }
 {
     let galley = read_galley(alloc, source)?;
     paginate(alloc, &galley, View::Trace, out)?;
@@ -129,10 +136,11 @@ fn write_canonical<S: Source, K: Sink>(
     source: &mut S,
     out: &mut K,
 ) -> Result<(), Refusal>
-    ensures { StandsAfter (Some Mode.Print) (served_status result)
+    ensures stands { StandsAfter (Some Mode.Print) (served_status result)
         (stream (S.left source.old) (S.left source.new) (S.faults source.old) (S.faults source.new))
         (stream (K.held out.old) (K.held out.new) (K.faults out.old) (K.faults out.new))
         (served_line result) }
+    ensures stops { StopsReading (S.left source.old) (S.left source.new) }
 {
     let galley = read_galley(alloc, source)?;
     let text = print(alloc, &galley)?;
@@ -146,10 +154,11 @@ fn write_lines<S: Source, K: Sink>(
     source: &mut S,
     out: &mut K,
 ) -> Result<(), Refusal>
-    ensures { StandsAfter (Some Mode.Lines) (served_status result)
+    ensures stands { StandsAfter (Some Mode.Lines) (served_status result)
         (stream (S.left source.old) (S.left source.new) (S.faults source.old) (S.faults source.new))
         (stream (K.held out.old) (K.held out.new) (K.faults out.old) (K.faults out.new))
         (served_line result) }
+    ensures stops { StopsReading (S.left source.old) (S.left source.new) }
 {
     let input = read_text(alloc, source)?;
     let galley = lines_galley(alloc, &input)?;
@@ -159,10 +168,11 @@ fn write_lines<S: Source, K: Sink>(
 
 // Reads a galley and writes its pages as a DVI file.
 fn write_dvi<S: Source, K: Sink>(alloc: Global, source: &mut S, out: &mut K) -> Result<(), Refusal>
-    ensures { StandsAfter (Some Mode.Dvi) (served_status result)
+    ensures stands { StandsAfter (Some Mode.Dvi) (served_status result)
         (stream (S.left source.old) (S.left source.new) (S.faults source.old) (S.faults source.new))
         (stream (K.held out.old) (K.held out.new) (K.faults out.old) (K.faults out.new))
         (served_line result) }
+    ensures stops { StopsReading (S.left source.old) (S.left source.new) }
 {
     let galley = read_galley(alloc, source)?;
     paginate_dvi(alloc, &galley, out)?;
@@ -175,10 +185,11 @@ fn write_listing<S: Source, K: Sink>(
     source: &mut S,
     out: &mut K,
 ) -> Result<(), Refusal>
-    ensures { StandsAfter (Some Mode.DviList) (served_status result)
+    ensures stands { StandsAfter (Some Mode.DviList) (served_status result)
         (stream (S.left source.old) (S.left source.new) (S.faults source.old) (S.faults source.new))
         (stream (K.held out.old) (K.held out.new) (K.faults out.old) (K.faults out.new))
         (served_line result) }
+    ensures stops { StopsReading (S.left source.old) (S.left source.new) }
 {
     let input = read_text(alloc, source)?;
     let listing = listing_of(alloc, &input)?;
@@ -205,6 +216,7 @@ fn read_galley<S: Source>(alloc: Global, source: &mut S) -> Result<Galley, Refus
     ensures read { IfOk result (GivesGalley (stream (S.left source.old) (S.left source.new) (S.faults source.old) (S.faults source.new))) }
     ensures valid { IfOk result IsValid }
     ensures refused { IfErr result (IsNoGalley (stream (S.left source.old) (S.left source.new) (S.faults source.old) (S.faults source.new))) }
+    ensures stops { StopsReading (S.left source.old) (S.left source.new) }
 {
     let mut reader = new_reader(alloc);
     read_input(source, &mut reader)?;

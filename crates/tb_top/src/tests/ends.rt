@@ -96,3 +96,61 @@ fn failing_err_keeps_the_answer(rt: HostRuntime) -> Result<(), Fail> {
     }
     Ok(())
 }
+
+// In each mode a first read or a first write that fails is told, and nothing is written. Refused words are refused before.
+#[test]
+fn first_fault_of_each_mode(rt: HostRuntime) -> Result<(), Fail> {
+    let alloc = rt.alloc();
+    let first = [1];
+    let reads = Failing {
+        reads: &first,
+        ..NONE
+    };
+    let writes = Failing {
+        writes: &first,
+        ..NONE
+    };
+    for row in &MODE_ROWS {
+        let name = row.name;
+        let words = words_of(alloc, row)?;
+        let unread = run_with(alloc, &words, row.input, &reads)?;
+        let (status, line) = match row.status {
+            2 => (2, row.err),
+            _ => (8, b"galley_pages: read fault\n".as_slice()),
+        };
+        assert_eq!(rt; unread.status, status, "{name}");
+        assert_eq!(rt; unread.out.held(), b"".as_slice(), "{name}");
+        assert_eq!(rt; unread.err.held(), line, "{name}");
+        let unwritten = run_with(alloc, &words, row.input, &writes)?;
+        let (status, line) = match row.status {
+            0 => (9, b"galley_pages: write fault\n".as_slice()),
+            refused => (refused, row.err),
+        };
+        assert_eq!(rt; unwritten.status, status, "{name}");
+        assert_eq!(rt; unwritten.out.held(), b"".as_slice(), "{name}");
+        assert_eq!(rt; unwritten.err.held(), line, "{name}");
+    }
+    Ok(())
+}
+
+// After a read that fails no more is taken: what follows it is whole for the next run.
+#[test]
+fn nothing_is_read_after_a_fault(rt: HostRuntime) -> Result<(), Fail> {
+    let alloc = rt.alloc();
+    let mut input = vec![in alloc; b'#'; 100]?;
+    input.extend_from_slice(INPUT)?;
+    let mut source = MemSource::new(input, 50, [3].to_vec(alloc)?);
+    let mut out = MemSink::new(alloc, Vec::new(alloc));
+    let mut err = MemSink::new(alloc, Vec::new(alloc));
+    assert_eq!(rt;
+        run(alloc, &[], &mut source, &mut out, &mut err),
+        Status::ReadFault
+    );
+    assert_eq!(rt; out.held(), b"".as_slice());
+    assert_eq!(rt;
+        run(alloc, &[], &mut source, &mut out, &mut err),
+        Status::Done
+    );
+    assert_eq!(rt; out.held(), REPORT);
+    Ok(())
+}

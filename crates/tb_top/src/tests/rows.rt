@@ -15,7 +15,7 @@ pub struct Row {
 }
 
 /// The worked rows with text and footnotes alone, and those of each refusal.
-pub const ROWS: [Row; 32] = [
+pub const ROWS: [Row; 33] = [
     Row {
         name: "three boxes one page",
         input: b"galley 1\nset textheight 30\nset topskip 10\nset maxdepth 0\nbox a 10 0\nglue 0 plus 5\nbox b 10 0\nglue 0 plus 5\nbox c 10 0\nend\n",
@@ -134,6 +134,13 @@ pub const ROWS: [Row; 32] = [
         status: 4,
         out: b"",
         err: b"galley_pages: line 2 field 3: Dimension\n",
+    },
+    Row {
+        name: "line of 256 bytes",
+        input: b"galley 1\n#xxxxxxxxxxxxxxxxxxxxxxxxxxxxxxxxxxxxxxxxxxxxxxxxxxxxxxxxxxxxxxxxxxxxxxxxxxxxxxxxxxxxxxxxxxxxxxxxxxxxxxxxxxxxxxxxxxxxxxxxxxxxxxxxxxxxxxxxxxxxxxxxxxxxxxxxxxxxxxxxxxxxxxxxxxxxxxxxxxxxxxxxxxxxxxxxxxxxxxxxxxxxxxxxxxxxxxxxxxxxxxxxxxxxxxxxxxxxxxxxxxxxxxxxxxxxxxx\nend\n",
+        status: 4,
+        out: b"",
+        err: b"galley_pages: line 2 field 0: LineLength\n",
     },
     Row {
         name: "page limit",

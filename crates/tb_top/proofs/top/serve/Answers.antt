@@ -4,31 +4,31 @@ use Rattle.std.proofs.lemmas.Result.{err_from_is_err_and}
 use Rattle.tb_top.proofs.Outcomes.{left_by_words, keeps-same}
 use Rattle.tb_top.proofs.top.serve.Goals as goal
 
-pub returns-in_err-mode : goal.returns-in_err-mode
-returns-in_err-mode g c =
+pub returns-in_err-mode-clause-stands : goal.returns-in_err-mode-clause-stands
+returns-in_err-mode-clause-stands g c =
     let p = err_from_is_err_and c.from_residual.result c.from_residual.ensures.1 in
     rw (p.1, p.2) (left_by_words _ _ _ (keeps-same _) (keeps-same _) c.in_err-mode.field-0.0 (λ is. c.in_err-mode.ensures.refused (ap Err is)))
 
-pub returns-in-Report : goal.returns-in-Report
-returns-in-Report g c = rw (c.in_ok-mode.ensures.asked, c.in-Report.is) c.write_report.ensures
+pub returns-in-Report-clause-stands : goal.returns-in-Report-clause-stands
+returns-in-Report-clause-stands g c = rw (c.in_ok-mode.ensures.asked, c.in-Report.is) c.write_report.ensures.stands
 
-pub returns-in-Trace : goal.returns-in-Trace
-returns-in-Trace g c = rw (c.in_ok-mode.ensures.asked, c.in-Trace.is) c.write_trace.ensures
+pub returns-in-Trace-clause-stands : goal.returns-in-Trace-clause-stands
+returns-in-Trace-clause-stands g c = rw (c.in_ok-mode.ensures.asked, c.in-Trace.is) c.write_trace.ensures.stands
 
-pub returns-in-Print : goal.returns-in-Print
-returns-in-Print g c = rw (c.in_ok-mode.ensures.asked, c.in-Print.is) c.write_canonical.ensures
+pub returns-in-Print-clause-stands : goal.returns-in-Print-clause-stands
+returns-in-Print-clause-stands g c = rw (c.in_ok-mode.ensures.asked, c.in-Print.is) c.write_canonical.ensures.stands
 
-pub returns-in-Lines : goal.returns-in-Lines
-returns-in-Lines g c = rw (c.in_ok-mode.ensures.asked, c.in-Lines.is) c.write_lines.ensures
+pub returns-in-Lines-clause-stands : goal.returns-in-Lines-clause-stands
+returns-in-Lines-clause-stands g c = rw (c.in_ok-mode.ensures.asked, c.in-Lines.is) c.write_lines.ensures.stands
 
 pub write_summary-requires : goal.write_summary-requires
 write_summary-requires g c = subst IsServed c.in-Generate.is c.in_ok-mode.ensures.served
 
-pub returns-in-Generate : goal.returns-in-Generate
-returns-in-Generate g c = rw (c.in_ok-mode.ensures.asked, c.in-Generate.is) (c.write_summary.ensures _ (keeps-same _))
+pub returns-in-Generate-clause-stands : goal.returns-in-Generate-clause-stands
+returns-in-Generate-clause-stands g c = rw (c.in_ok-mode.ensures.asked, c.in-Generate.is) (c.write_summary.ensures _ (keeps-same _))
 
-pub returns-in-Dvi : goal.returns-in-Dvi
-returns-in-Dvi g c = rw (c.in_ok-mode.ensures.asked, c.in-Dvi.is) c.write_dvi.ensures
+pub returns-in-Dvi-clause-stands : goal.returns-in-Dvi-clause-stands
+returns-in-Dvi-clause-stands g c = rw (c.in_ok-mode.ensures.asked, c.in-Dvi.is) c.write_dvi.ensures.stands
 
-pub returns-in-DviList : goal.returns-in-DviList
-returns-in-DviList g c = rw (c.in_ok-mode.ensures.asked, c.in-DviList.is) c.write_listing.ensures
+pub returns-in-DviList-clause-stands : goal.returns-in-DviList-clause-stands
+returns-in-DviList-clause-stands g c = rw (c.in_ok-mode.ensures.asked, c.in-DviList.is) c.write_listing.ensures.stands

@@ -5,14 +5,14 @@ use Rattle.tb_words.specs.declared.Mode.TheVariants.{Print}
 use Rattle.tb_top.proofs.Outcomes.{text_well, replies_to, print_reads, keeps-same}
 use Rattle.tb_top.proofs.top.write_canonical.Goals as goal
 
-pub returns : goal.returns
-returns g c =
+pub returns-clause-stands : goal.returns-clause-stands
+returns-clause-stands g c =
     let given = c.in_ok-galley.ensures.read in
     text_well Print given.input _ _ given.read _ (replies_to Print _ print_reads given.input c.in_ok-galley.galley given.galley)
     (subst (λ text. Appends (g.K.Sink.held c.args.out.now) (g.K.Sink.held c.write_all.new.out) text) (c.deref.ensures.value ∙ c.in_ok-text.ensures.text) c.in_ok-write_all.ensures.ok)
     tt
 
-pub returns-in_err-text : goal.returns-in_err-text
-returns-in_err-text g c =
+pub returns-in_err-text-clause-stands : goal.returns-in_err-text-clause-stands
+returns-in_err-text-clause-stands g c =
     let p = err_from_is_err_and c.from_residual-in_err-text.result c.from_residual-in_err-text.ensures.1 in
     rw (p.1, p.2) (inl (keeps-same _), refl)

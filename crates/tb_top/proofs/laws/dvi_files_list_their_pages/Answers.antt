@@ -1,0 +1,5 @@
+use Rattle.tb_top.proofs.WritablePages.{files-list}
+use Rattle.tb_top.proofs.laws.dvi_files_list_their_pages.Goals as goal
+
+pub returns : goal.returns
+returns _ = files-list

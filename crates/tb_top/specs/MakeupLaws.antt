@@ -1,0 +1,28 @@
+-- Laws of whole runs of plain TeX's page makeup.
+use Rattle.std.specs.Prelude.{◌≡◌, not, List, [], ◌∷◌, ◌++◌, filter, IsPermutation}
+use Rattle.tb_node.specs.Plain.{PlainNode}
+use Rattle.tb_galley.specs.declared.Galley.{Galley}
+use Rattle.tb_galley.specs.Valid.{IsValid}
+use Rattle.tb_column.specs.Column.{PlainSent, warned, shipped}
+use Rattle.tb_report.specs.Totals.{sheet_nodes}
+use Rattle.tb_plain.specs.Suited.{IsSuited}
+use Rattle.tb_plain.specs.Run.{MakeupRun, done, makeup_of}
+use Rattle.tb_plain.specs.Report.{sent_totals}
+use Rattle.tb_top.specs.Laws.{text_line, foot_line, lines_by, galley_floats, float_lines, box_lines_of, float_lines_of, node_lines, is_in, HasTotals}
+
+-- the nodes of the pages that are shipped, in order
+abbrev pub sent_nodes : List PlainSent → List PlainNode
+sent_nodes [] = []
+sent_nodes (warned w ∷ es) = sent_nodes es
+sent_nodes (shipped page sheet ∷ es) = sheet_nodes sheet ++ sent_nodes es
+
+-- each box, rule and float ships once, and the text in order; the totals are those of the galley
+pub record MakesUpOnce (g : Galley) (r : MakeupRun) : Type 0 where
+  pub text : filter (λ n. not (is_in (lines_by foot_line g.items) n)) (node_lines box_lines_of (sent_nodes r.sent)) ≡ lines_by text_line g.items
+  pub feet : IsPermutation (filter (is_in (lines_by foot_line g.items)) (node_lines box_lines_of (sent_nodes r.sent))) (lines_by foot_line g.items)
+  pub floats : IsPermutation (node_lines float_lines_of (sent_nodes r.sent)) (float_lines (galley_floats g.items))
+  pub totals : HasTotals g (sent_totals r.sent)
+
+-- so it is where the run of a valid galley that is served is done
+abbrev pub EachMakesUpOnce : Type 0
+EachMakesUpOnce = (g : Galley) → IsValid g → IsSuited g → (makeup_of g).end ≡ done → MakesUpOnce g (makeup_of g)
