@@ -1,6 +1,6 @@
 #!/usr/bin/env bash
 # Writes two galleys as DVI, a page with floats and one with marginal notes, and says which of the tools that are installed
-# take the files: dvitype, dvips, dvisvgm, dvipdfmx, dvipng. The program is proved and built first.
+# take the files: dvitype, dvips, dvisvgm, dvipdfmx, dvipng. The program is that of `tools/program`.
 set -eu
 top=$(cd "$(dirname "$0")/.." && pwd)
 work=$(mktemp -d)
@@ -27,12 +27,11 @@ box f 8pt 2pt
 endfoot
 end
 GALLEY
-cd "$top/crates/galley_pages"
-rt run < stdin > /dev/null
+program=$("$top/tools/program")
 cd "$work"
 for name in floats notes; do
-    "$top/crates/galley_pages/out/galley_pages" --mode dvi < "$name.galley" > "$name.dvi"
-    "$top/crates/galley_pages/out/galley_pages" --mode dvilist < "$name.dvi" > "$name.list"
+    "$program" --mode dvi < "$name.galley" > "$name.dvi"
+    "$program" --mode dvilist < "$name.dvi" > "$name.list"
     echo "$name: $(wc -c < "$name.dvi") bytes, $(tail -n 1 "$name.list")"
     for tool in "dvitype $name.dvi" "dvips -q -o $name.ps $name.dvi" "dvisvgm -v3 -n $name.dvi" "dvipdfmx -q -o $name.pdf $name.dvi" "dvipng -q -o $name.png $name.dvi"; do
         command=${tool%% *}

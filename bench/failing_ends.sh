@@ -72,10 +72,13 @@ fail_input() {
   expect "$1 with a closed input" 8 'read fault'
 }
 
-for mode in report trace print; do fail_output "$mode" "$galley"; done
+"$program" --mode dvi < "$galley" > "$work/dvi"
+
+for mode in report trace print dvi; do fail_output "$mode" "$galley"; done
 fail_output lines "$text"
+fail_output dvilist "$work/dvi"
 fail_output gen /dev/null
-for mode in report trace print lines; do fail_input "$mode"; done
+for mode in report trace print lines dvi dvilist; do fail_input "$mode"; done
 
 whole /dev/null --mode gen
 run --mode gen <&- > "$work/out" 2> "$work/err"
