@@ -39,7 +39,7 @@ use Rattle.tb_run.specs.declared.happening.Happening.{Happening}
 use Rattle.tb_run.specs.declared.routine.Routine.{Routine}
 use Rattle.tb_run.specs.Run.{RunEvent, held_count}
 use Rattle.tb_run.specs.Served.{AreRunClasses, IsTextKind, notes_left, IsServedPage}
-use Rattle.tb_run.specs.Turning.{held_in, state_of, IsWhole, IsSettled, IsReady}
+use Rattle.tb_run.specs.Turning.{held_in, state_of, IsConsistent, IsBetweenFirings, IsReady}
 use Rattle.tb_run.specs.Filling.{firing_step, IsBoundedPage, IsFiring}
 use Rattle.tb_run.proofs.ServedFirings.{reach_where}
 use Rattle.tb_run.proofs.CountedLemmas.{leaves-count}
@@ -78,7 +78,7 @@ page-quiet b s h on = by_frozen b.frozen b.stopped on h.page
 reach-within : (n : ℕ) (z : ℤ) → IsWithin (reach_where n) z → IsReach z
 reach-within n z h = let l = h.low in let u = h.high in record { low = omega (arith, ints, l); high = omega (arith, ints, u) }
 
--- what waits and stands in boxes is of no account to a firing
+-- what waits and what is in boxes is of no account to a firing
 firing-same : (p : Params) (es : List RunEvent) (rs : List Recorded) (store : Lists Node) (bs cs : List Boxed) (ns ms : List PlainNode) (m : MachineView) (f : Fired)
     → firing_step p es rs (state_shown store bs ns m) f ≡ firing_step p es rs (state_shown store cs ms m) f
 unfolding out
@@ -112,7 +112,7 @@ module _ (wanted : Bool) (r q d : Routine) (hs : List Happening) (ready : IsRead
   few : held_count s ≤ 4194304
   few = let a = ready.settled.bounded.held in let b = ready.settled.bounded.few in omega (arith, a, b)
 
-  whole : IsWhole d
+  whole : IsConsistent d
   whole = next-whole wanted r q d hs ready h ask asked e event sound keeps same most
 
   t-now : state_now r d ≡ state_now r q
@@ -134,7 +134,7 @@ module _ (wanted : Bool) (r q d : Routine) (hs : List Happening) (ready : IsRead
     line = fires.1.page.line i;
   }
 
-  abbrev set : IsSettled r
+  abbrev set : IsBetweenFirings r
   set = ready.settled
 
   served : IsServedPage (state_now r q) f

@@ -28,7 +28,7 @@ use Rattle.tb_run.specs.declared.routine.Filled.TheVariants as filled
 use Rattle.tb_run.specs.Run.{RunEvent, dead_cycles, Step, ends, after_firing, held_count, step}
 use Rattle.tb_run.specs.Served.{AreRunClasses, IsServed, IsServedPage}
 use Rattle.tb_run.specs.Happened.{events_of, noted, step_events, happened_lists}
-use Rattle.tb_run.specs.Turning.{held_in, state_of, IsWhole, IsBounded, between_pages, EndsAs, IsEnded}
+use Rattle.tb_run.specs.Turning.{held_in, state_of, IsConsistent, IsBounded, between_pages, EndsAs, IsEnded}
 
 -- what was sent, as happenings
 abbrev pub sent_happenings : List Sent → List Happening
@@ -36,21 +36,21 @@ sent_happenings es = map (λ e. happenings.Sent e) es
 
 -- ---- an act
 
--- the machine stands for the state after the act, and the warnings were sent
+-- the machine shows the state after the act, and the warnings were sent
 abbrev pub HasDone : List Boxed → List PlainNode → Routine → Routine → Acted → Type 0
 HasDone boxes waiting r q (went s ws rs) = (state_shown q.store boxes waiting q.machine ≡ s) × (q.machine.events ≡ r.machine.events ++ warnings_sent ws)
 HasDone boxes waiting r q (full line live) = ⊥
 
 -- the act was done, and the builder holds what it held
 pub record HasActed (a : Act) (r q : Routine) : Type 0 where
-  pub whole : IsWhole q
+  pub whole : IsConsistent q
   pub acted : (boxes : List Boxed) (waiting : List PlainNode) → HasDone boxes waiting r q (act_on r.machine.params (state_shown r.store boxes waiting r.machine) a)
   pub contents : held_in q ≡ held_in r
   pub builder : q.builder ≡ r.builder
   pub params : q.machine.params ≡ r.machine.params
   pub most : q.most ≡ r.most
 
--- the pool was full, with so many boxes; nothing changed
+-- the pool was full, with this many boxes; nothing changed
 pub record HasNotActed (a : Act) (live : ℕ) (r q : Routine) : Type 0 where
   pub full_pool : (boxes : List Boxed) (waiting : List PlainNode) → act_on r.machine.params (state_shown r.store boxes waiting r.machine) a ≡ full (line_of a) live
   pub same : q ≡ r
@@ -72,10 +72,10 @@ pub record AreQuiet (wanted : Bool) (hs : List Happening) (es : List RunEvent) :
 pub record IsFilledLast (wanted : Bool) (r : Routine) (e : Ending) (q : Routine) (hs : List Happening) : Type 0 where
   pub quiet : AreQuiet wanted hs (step_events (step r.machine.params (state_of r)))
   pub ended : EndsAs q (Some e) (step r.machine.params (state_of r))
-  pub whole : IsWhole q
+  pub whole : IsConsistent q
   pub params : q.machine.params ≡ r.machine.params
 
--- with the page that fires, so many nodes are held
+-- with the page that fires, this many nodes are held
 pub record IsBoundedPage (page : Page) (q : Routine) : Type 0 where
   pub held : fired_count (fired_in q.builder q.store page) + node_count (state_of q).held_page ≤ q.most + 1
   pub few : q.most ≤ 4194304
@@ -86,7 +86,7 @@ pub record IsFiring (wanted : Bool) (r : Routine) (page : Page) (q : Routine) (h
   pub records : List Recorded
   pub quiet : AreQuiet wanted hs events
   pub step_is : step r.machine.params (state_of r) ≡ firing_step r.machine.params events records (state_of q) (fired_in q.builder q.store page)
-  pub whole : IsWhole q
+  pub whole : IsConsistent q
   pub can : CanFire q.machine q.builder q.store page
   pub taken : q.machine.events ≡ []
   pub params : q.machine.params ≡ r.machine.params
@@ -103,23 +103,23 @@ Fills wanted r (filled.Ends e) q hs = IsFilledLast wanted r e q hs
 
 -- ---- the page is served
 
--- the firing was allowed and went through: the routine stands for the state after it
+-- the firing was allowed and went through: the routine shows the state after it
 pub record IsServedOn (page : Page) (r q : Routine) : Type 0 where
   pub alive : pos r.machine.dead_cycles <ℤ r.machine.params.maxdeadcycles
   pub done : (whole_work r.machine r.builder r.store page).refused ≡ false
   pub state : state_of q ≡ (whole_work r.machine r.builder r.store page).state
   pub sent : events_shown q.store q.machine.events ≡ events_shown r.store r.machine.events ++ (whole_work r.machine r.builder r.store page).sent
-  pub whole : IsWhole q
+  pub whole : IsConsistent q
   pub between : held_in q ≡ between_pages (state_of q)
   pub served : IsServed (held_in q).waiting (state_of q)
   pub bounded : IsBounded 8388608 q
 
--- no more than so many nodes are held
+-- no more than this many nodes are held
 pub record IsWithinLimit (q : Routine) : Type 0 where
   pub test : int_lt q.machine.params.maxnodes (pos (held_count (state_of q))) ≡ false
   pub within : pos q.most ≤ℤ q.machine.params.maxnodes
 
--- more than so many nodes are held
+-- more than this many nodes are held
 pub record IsOverLimit (n : ℕ) (q : Routine) : Type 0 where
   pub test : int_lt q.machine.params.maxnodes (pos (held_count (state_of q))) ≡ true
   pub count : n ≡ held_count (state_of q)
@@ -137,11 +137,13 @@ pub record IsDead (n : ℕ) (r q : Routine) : Type 0 where
   pub reached : r.machine.params.maxdeadcycles ≤ℤ pos r.machine.dead_cycles
   pub same : q ≡ r
 
+-- a fault of the firing came exactly when the definition has it
 abbrev pub IsFaultOf : RunFault → Page → Routine → Routine → Type 0
 IsFaultOf (faults.DeadCycles n) page r q = IsDead n r q
 IsFaultOf (faults.PageLimit n) page r q = IsLimited n page r q
 IsFaultOf faults.Memory page r q = ⊥
 
+-- after a page was served the run goes on within its limit, or ends so
 abbrev pub ServesTo : Page → Routine → Option Ending → Routine → Type 0
 ServesTo page r None q = IsServedOn page r q × IsWithinLimit q
 ServesTo page r (Some endings.Done) q = ⊥

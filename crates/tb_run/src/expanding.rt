@@ -67,8 +67,8 @@ fn two_after(two: bool, kind: &ItemKind) -> bool
     }
 }
 
-// Hands over the nodes of an item; `two` says whether there are two columns before it.
-fn put_item(
+/// Hands over the nodes of an item; `two` says whether there are two columns before it.
+pub fn put_item(
     store: &mut Lists<Node>,
     builder: &mut Builder,
     p: &Params,
@@ -140,8 +140,8 @@ fn put_rule(
     )
 }
 
-// Hands over one node that is no insertion.
-fn put(
+/// Hands over one node that is no insertion.
+pub fn put(
     store: &mut Lists<Node>,
     builder: &mut Builder,
     line: u32,
@@ -248,7 +248,7 @@ fn put_float(
 }
 
 // What takes a float or a marginal note, and the two firings that place it: at the first the page so far is held, and the
-// second says whether the item stands between paragraphs (ltoutput.dtx, \end@float).
+// second says whether the item is between paragraphs (ltoutput.dtx, \end@float).
 fn put_with_firings(
     store: &mut Lists<Node>,
     builder: &mut Builder,
