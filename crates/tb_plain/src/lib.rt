@@ -1,8 +1,10 @@
-//! Plain TeX's page makeup: floats that go where they stand or to the top of a page, and pages of one column.
+//! Plain TeX's page makeup: floats that go into the text or to the top of a page, and pages of one column.
 #![tactic(auto)]
 
 mod firing;
 mod taking;
+#[cfg(test)]
+mod tests;
 
 ghost use Rattle.std.specs.Prelude.{◌≡◌};
 ghost use Rattle.tb_plain.specs.Rows.{MakeupRows};
@@ -13,6 +15,9 @@ use std::alloc::AllocError;
 use tb_column::Column;
 use tb_param::Params;
 use tb_pool::ListId;
+
+/// The class of the floats that go to the top of a page; factor 1000, no limit and no skip (plain.tex, \topins).
+pub const TOP_FLOATS: u8 = 253;
 
 /// The page makeup between two calls: the parameters, and the number of the next page.
 #[derive(Clone, Copy)]
@@ -33,7 +38,7 @@ pub struct PlainPage {
 /// Why no page ships.
 #[derive(Clone, Copy, Debug, PartialEq, Eq)]
 pub enum PlainFault {
-    /// A page was to be shipped after so many pages.
+    /// A page was to be shipped after this many pages.
     PageLimit { pages: u64 },
     /// There was no memory.
     Memory,
