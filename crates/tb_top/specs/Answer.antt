@@ -1,4 +1,4 @@
--- What a mode and an input decide: the answer, what is written and the line on err, where no end fails and memory suffices.
+-- What a mode and an input decide if no end fails and memory suffices: the status, what is written, and the line on err.
 use Rattle.std.specs.Prelude.{ℕ, ℤ, nat_lt, Bool, true, false, List, [], ◌∷◌, ◌++◌, length, codes, decimal, Option, Some, None, Result, Ok, Err, if◌then◌else◌}
 use Rattle.tb_galley.specs.declared.Cause.{Cause}
 use Rattle.tb_galley.specs.declared.Fault.{Fault}
@@ -14,6 +14,9 @@ use Rattle.tb_generator.specs.Generate.{generated}
 use Rattle.tb_lines.specs.declared.LinesCause.{LinesCause}
 use Rattle.tb_lines.specs.Galley.{NoGalley, faulty, no_breaks, lines_galley}
 use Rattle.tb_lines.specs.RefusalText.{is_range_cause as is_range_of_lines, no_galley_text}
+use Rattle.tb_plain.specs.Run.{MakeupRun, MakeupEnd, done as made, page_limit as at_pages, node_limit as at_nodes, makeup_of}
+use Rattle.tb_plain.specs.Report.{makeup_report, unsuited_text}
+use Rattle.tb_plain.specs.Suited.{first_unsuited}
 use Rattle.tb_dvi.specs.declared.DviCause.{DviCause}
 use Rattle.tb_dvi.specs.File.{first_too_far}
 use Rattle.tb_dvi.specs.Progress.{run_bytes}
@@ -28,7 +31,7 @@ use Rattle.tb_run.specs.Run.{Run, End, done, pool_full, dead_cycles, page_limit,
 use Rattle.tb_top.specs.Report.{report, trace, totals_of}
 use Rattle.tb_top.specs.DviPages.{run_pages}
 
--- ---- the answer
+-- ---- the status
 
 -- a fault of the galley is one of syntax or one of range
 abbrev pub answer_for_cause : Cause → Status
@@ -38,18 +41,24 @@ answer_for_cause c = if is_range_cause c then answers.Range else answers.Syntax
 abbrev pub answer_for_lines : LinesCause → Status
 answer_for_lines c = if is_range_of_lines c then answers.Range else answers.Syntax
 
--- the answer where a text has no galley of lines
+-- the status if a text has no galley of lines
 abbrev pub answer_without : NoGalley → Status
 answer_without (faulty f) = answer_for_lines f.cause
 answer_without (no_breaks n) = answers.NoBreaks
 
--- the answer for a run that ends so
+-- the status of a run that ends so
 abbrev pub answer_at : End → Status
 answer_at (done left) = answers.Done
 answer_at (pool_full line live) = answers.PoolFull
 answer_at (dead_cycles n) = answers.DeadCycles
 answer_at (page_limit n) = answers.PageLimit
 answer_at (node_limit n) = answers.NodeLimit
+
+-- the answer for a run of the page makeup that ends so
+abbrev pub makeup_answer : MakeupEnd → Status
+makeup_answer made = answers.Done
+makeup_answer (at_pages n) = answers.PageLimit
+makeup_answer (at_nodes n) = answers.NodeLimit
 
 -- ---- the line on err
 
@@ -61,19 +70,19 @@ err_line text = codes "galley_pages: " ++ (text ++ 10 ∷ [])
 abbrev pub fault_text : Fault → List ℕ
 fault_text f = codes "line " ++ (decimal f.line ++ (codes " field " ++ (decimal f.field ++ (codes ": " ++ cause_name f.cause))))
 
--- a float or marginal note was taken while so many boxes were live
+-- a float or marginal note was taken while this many boxes were live
 abbrev pub pool_full_text : ℕ → ℕ → List ℕ
 pool_full_text line live = codes "line " ++ (decimal line ++ (codes ": float pool full at " ++ decimal live))
 
--- the page fired after so many firings without a page
+-- the page fired after this many firings without a page
 abbrev pub dead_cycles_text : ℕ → List ℕ
 dead_cycles_text n = codes "dead cycles " ++ decimal n
 
--- a page was to be shipped after so many pages
+-- a page was to be shipped after this many pages
 abbrev pub page_limit_text : ℕ → List ℕ
 page_limit_text n = codes "page limit " ++ decimal n
 
--- so many nodes were held
+-- this many nodes were held
 abbrev pub node_limit_text : ℕ → List ℕ
 node_limit_text n = codes "node limit at " ++ decimal n
 
@@ -85,7 +94,13 @@ line_at (dead_cycles n) = err_line (dead_cycles_text n)
 line_at (page_limit n) = err_line (page_limit_text n)
 line_at (node_limit n) = err_line (node_limit_text n)
 
--- ---- the lines of the answers that the input does not decide
+-- the same of a run of the page makeup
+abbrev pub makeup_line : MakeupEnd → List ℕ
+makeup_line made = []
+makeup_line (at_pages n) = err_line (page_limit_text n)
+makeup_line (at_nodes n) = err_line (node_limit_text n)
+
+-- ---- the lines of the statuses that the input does not decide
 
 -- words after the program's name
 abbrev pub words_line : List ℕ
@@ -105,7 +120,7 @@ memory_line = err_line (codes "out of memory")
 
 -- ---- what a mode makes of what it reads
 
--- the answer, what is written, the line on err, and whether it comes to writing
+-- the status, what is written, the line on err, and whether it comes to writing
 pub record Reply : Type 0 where
   pub answer : Status
   pub written : List ℕ
@@ -128,11 +143,12 @@ text_reply text = record { answer = answers.Done; written = text; line = []; wri
 abbrev pub summary_line : ℕ → Totals → List ℕ
 summary_line n t = line (codes "gen" ++ and_count n ++ codes " pages" ++ and_count t.pages ++ codes " boxes" ++ and_count t.boxes ++ codes " floats" ++ and_count t.floats ++ codes " warnings" ++ and_count t.warnings)
 
--- what is written about a run that ends so: nothing where it is refused
+-- what is written about a run that ends so: nothing if it is refused
 abbrev pub summary_at : ℕ → Totals → End → List ℕ
 summary_at n t (done left) = summary_line n t
 summary_at n t _ = []
 
+-- the run ends well
 abbrev pub is_done : End → Bool
 is_done (done left) = true
 is_done _ = false
@@ -181,6 +197,23 @@ listed_reply (Err e) = cause_reply e.byte e.cause
 abbrev pub listing_reply : List ℕ → Reply
 listing_reply input = if nat_lt input_limit (length input) then fault_reply (fault 0 0 causes.InputSize) else listed_reply (listed input)
 
+-- a run of the page makeup, with its report
+abbrev pub makeup_run_reply : MakeupRun → Reply
+makeup_run_reply r = record { answer = makeup_answer r.end; written = makeup_report r; line = makeup_line r.end; writes = true }
+
+-- a galley whose first item that the page makeup does not serve stands on this line
+abbrev pub unsuited_reply : ℕ → Reply
+unsuited_reply n = record { answer = answers.Unsuited; written = []; line = err_line (unsuited_text n); writes = false }
+
+-- of a galley by its first item that is not served, if there is one
+abbrev pub makeup_reply_by : Option ℕ → Galley → Reply
+makeup_reply_by None g = makeup_run_reply (makeup_of g)
+makeup_reply_by (Some n) g = unsuited_reply n
+
+-- of a galley whose pages the page makeup makes
+abbrev pub makeup_reply : Galley → Reply
+makeup_reply g = makeup_reply_by (first_unsuited g) g
+
 -- by the mode; an input that is no galley has the reply of its first fault
 abbrev pub reply_to : Mode → List ℕ → Reply
 reply_to modes.Report input = galley_reply (λ g. run_reply (report (run_of g)) (run_of g)) (grammar input)
@@ -189,4 +222,5 @@ reply_to modes.Print input = galley_reply (λ g. text_reply (printed g)) (gramma
 reply_to modes.Lines input = lines_reply (lines_galley input)
 reply_to modes.Dvi input = galley_reply (λ g. dvi_reply g.params.textheight (run_of g)) (grammar input)
 reply_to modes.DviList input = listing_reply input
+reply_to modes.Plain input = galley_reply makeup_reply (grammar input)
 reply_to (modes.Generate n) input = summary_reply n (run_of (generated n))

@@ -9,6 +9,7 @@ mod dvi_pages;
 mod dvi_refusal;
 mod input;
 mod laws;
+mod makeup_pages;
 mod pages;
 mod refusal;
 mod rows;
@@ -20,9 +21,11 @@ pub use laws::{
     classes_keep_their_order, dead_cycles_are_few, dvi_files_list_their_pages, each_makes_up_once,
     each_ships_once, floats_keep_the_limits, lists_are_emptied, runs_are_defined,
 };
+pub use makeup_pages::{PlainRunFault, paginate_plain};
 pub use pages::paginate;
 pub use rows::check_rows;
 pub use status::Status;
+pub use tb_makeup::first_unsuited;
 pub use tb_report::Totals;
 pub use top::run;
 
@@ -42,11 +45,11 @@ pub enum View {
 pub enum PageFault {
     /// A float or marginal note of this line was taken while this many boxes were live.
     PoolFull { line: u32, live: u64 },
-    /// The page fired after so many firings without a page.
+    /// The page fired after this many firings without a page.
     DeadCycles { count: u64 },
-    /// A page was to be shipped after so many pages.
+    /// A page was to be shipped after this many pages.
     PageLimit { pages: u64 },
-    /// More nodes than `maxnodes` were held: so many.
+    /// This many nodes were held, more than `maxnodes`.
     NodeLimit { count: u64 },
     /// The sink failed.
     WriteFault,

@@ -1,8 +1,8 @@
-//! The answers of `run`, and their exit statuses.
+//! What `run` returns, and its exit codes.
 ghost use Rattle.std.specs.Prelude.{◌≡◌};
 ghost use Rattle.tb_top.specs.Status.{code_of};
 
-/// How a run ended. Each answer but `Done` has one line on `err`.
+/// How a run ended. Each status but `Done` has one line on `err`.
 #[derive(Clone, Copy, Debug, PartialEq, Eq)]
 pub enum Status {
     /// The input was read to its end, is a galley, and its report was written.
@@ -27,6 +27,8 @@ pub enum Status {
     Memory,
     /// More nodes than `maxnodes` were held.
     NodeLimit,
+    /// An item of the galley is not served by plain TeX's page makeup.
+    Unsuited,
     /// A page is out of the range of DVI.
     TooFar,
     /// What was read is no DVI file that can be listed.
@@ -52,6 +54,7 @@ impl Status {
             Status::WriteFault => 9,
             Status::Memory => 10,
             Status::NodeLimit => 11,
+            Status::Unsuited => 12,
             Status::TooFar => 13,
             Status::Dvi => 14,
             Status::NoBreaks => 15,
