@@ -52,6 +52,24 @@ fn made_try(line: u32, sums: Sums, goal: i64, offer: Offer, penalty: i64) -> Try
     }
 }
 
+/// What a builder keeps while no place was tried.
+pub fn no_try() -> Try {
+    Try {
+        line: 0,
+        sums: Sums {
+            total: 0,
+            depth: 0,
+            stretch: [0; 4],
+            shrink: 0,
+        },
+        goal: 0,
+        badness: 0,
+        penalty: 0,
+        cost: 0,
+        champion: false,
+    }
+}
+
 /// The page fires at the place that was tried: it is overfull there, or the break is forced (TeX: The Program §1005).
 pub fn stops(t: &Try) -> bool
     ensures { result ≡ (int_le awful_bad t.now.cost || int_le t.now.penalty (negsuc 9999)) }
@@ -87,6 +105,7 @@ impl Course {
     }
 
     // Tries the legal place at the end of the page, which has so many nodes.
+    #[inline(always)]
     pub(crate) fn offer(&mut self, index: usize, line: u32, penalty: i64) -> Try
         requires terms { TermsFit self.old }
         requires low { IsAmount penalty }
@@ -103,6 +122,7 @@ impl Course {
     }
 
     // A node that is no insertion goes to the end of the page.
+    #[inline(always)]
     pub(crate) fn put(&mut self, n: &Node)
         requires node { IsSmallShape (shape_of n.now) }
         requires fits { IsSmall (added_node self.old.scan.max_depth self.old.scan.sums (shape_of n.now)) }

@@ -61,10 +61,6 @@ not-pages k n false e = cc
 -- ---- the page fired
 
 module _ (r : Makeup) (page : Page) (made : PlainPage) (now : Plain) (d : Builder) (t : Lists Node) (can : CanFire r.builder r.store page) (fired : HasFired made r.plain now r.builder r.store d t page) where
-  -- its number was counted, and nothing is put back yet
-  abbrev pub fired_makeup : Makeup
-  fired_makeup = record { store = t; builder = d; plain = now; ask = r.ask; limit = r.limit }
-
   abbrev f : Fired
   f = fired_with r.builder r.store page
 
