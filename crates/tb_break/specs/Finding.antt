@@ -38,7 +38,7 @@ kind_of_shape other = Last
 abbrev pub scan_place : Scanned → ℕ → ℤ → ℤ → Breakpoint
 scan_place s index height p = breakpoint_at index s.sums height p (pos 0)
 
--- what `find` answers for a place at which a node of this kind stands
+-- what `find` returns for a place at which a node of this kind stands
 abbrev pub found_of : PlaceKind → Breakpoint → Found
 found_of kind b = record { index = b.place; kind = kind; penalty = b.penalty; size = b.sums.total +ℤ b.sums.depth; cost = b.cost }
 

@@ -1,4 +1,4 @@
--- What the page builder answers, and what it asks of what it is given.
+-- What the page builder returns, and what it asks of what it is given.
 use Rattle.std.specs.Prelude.{◌≡◌, ℕ, ℤ, pos, neg_ℤ, ◌<ℤ◌, ◌≤ℤ◌, Bool, true, false, List, [], ◌∷◌, ◌++◌, map, take, length, Some, None}
 use Rattle.std.specs.FinMap.{get}
 use Rattle.tb_pool.specs.Lists.{Lists, IsLive, list_at}
@@ -187,7 +187,7 @@ IsGivenOut (events.Act a) s b r = Unit {0}
 IsGivenOut (events.Fired p) s b r = (get s.lists p.body ≡ None) × (inner_ids (list_at r p.body) ≡ []) × Lacks p.body (owned b r)
 IsGivenOut events.Empty s b r = Unit {0}
 
--- what `next` answers: after a stop the page that fires, else the first event past the page so far
+-- what `next` returns: after a stop the page that fires, else the first event past the page so far
 abbrev pub NextIs : Bool → Event → Contents → Ask → Contents → Lists Node → Type 0
 NextIs true e c ask d s = FiresWith e c ask d s
 NextIs false e c ask d s = FirstIs e (laid c ask) (reach_ahead c ask) (places_of c ask) ask d × Stays c d ask

@@ -26,7 +26,8 @@ fn made_sums(sums: Sums, goal: i64) -> PageSums
 }
 
 impl Builder {
-    /// The sums and the goal of the page so far, with its insertions; the goal is 1073741823 while none is frozen.
+    /// The sums and the goal of the page so far, with its insertions, in sp; the goal is 1073741823 while none is frozen
+    /// (TeX: The Program §421).
     pub fn page_sums(&self) -> PageSums
         ensures sums { (s : StoreOf NodeOf) → IsSound self.now s → result ≡ page_sums_of (contents_of self.now s) }
         ensures total { IsAmount result.total }

@@ -12,7 +12,7 @@ use crate::{Entry, Slot};
 use tb_node::Float;
 use tb_pool::{ListId, Lists};
 
-/// The slot at a place goes to the end of another list, without its mark and by its links alone; answers it as it was.
+/// The slot at a place goes to the end of another list, without its mark and by its links alone; returns it as it was.
 #[tactic(auto, using(tb_pool::proofs::MapLemmas::list_steps))]
 pub(crate) fn move_slot(
     store: &mut Lists<Slot>,
@@ -42,7 +42,7 @@ pub(crate) fn move_slot(
     slot
 }
 
-// Takes the mark from the first slot of a list, and answers the slot as it was.
+// Takes the mark from the first slot of a list, and returns the slot as it was.
 fn unmark_first(store: &mut Lists<Slot>, l: ListId) -> Slot
     requires live { IsLive store.old l }
     requires some { 0 < length (list_at store.old l) }

@@ -1,4 +1,4 @@
--- What the machine answers at an act, against the definition of an act.
+-- What the machine returns at an act, against the definition of an act.
 use Rattle.std.specs.Prelude.{◌≡◌, ◌≤◌, ◌<◌, ◌+◌, ℕ, ℤ, Bool, true, false, ◌&&◌, List, [], ◌∷◌, ◌++◌, map, Option, None, if◌then◌else◌}
 use Rattle.tb_scaled.specs.Scaled.{min_ℤ}
 use Rattle.tb_pool.specs.Lists.{Lists}

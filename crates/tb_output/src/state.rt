@@ -91,7 +91,7 @@ pub fn new_machine(
 impl Machine {
     /// The next event that was not taken yet. None exactly where there is none.
     ///
-    /// The lists of a page that it answers are the caller's from then on.
+    /// The lists of a page that it returns are the caller's from then on.
     pub fn sent(&mut self) -> Option<Sent>
         ensures some { IfSome result (λ e. self.old ≡ record self.new { events = e ∷ self.new.events }) }
         ensures none { IfNone result ((self.old.events ≡ []) × (self.new ≡ self.old)) }

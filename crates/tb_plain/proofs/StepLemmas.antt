@@ -133,7 +133,7 @@ held_of-acts line whole i = refl
 held_of-acts line (split f) i = unless-acts line i _
 held_of-acts line late i = refl
 
-held-acts : (ls : List Labelled) → act_count (held_insertions ls) ≡ 0
+pub held-acts : (ls : List Labelled) → act_count (held_insertions ls) ≡ 0
 held-acts [] = refl
 held-acts (l ∷ ls) =
     let a : act_count (on_line l.line (held_of l.label l.inserted)) ≡ 0 = held_of-acts l.line l.label l.inserted in
@@ -141,7 +141,7 @@ held-acts (l ∷ ls) =
     let h : act_count (held_insertions ls) ≡ 0 = held-acts ls in
     omega arith
 
-spent-acts : (ns : List PlainNode) → act_count (with_spent_break ns) ≡ act_count ns
+pub spent-acts : (ns : List PlainNode) → act_count (with_spent_break ns) ≡ act_count ns
 spent-acts [] = refl
 spent-acts (n ∷ ns) = by_kind n.kind
   where
@@ -162,14 +162,14 @@ drop-acts zero ns = omega arith
 drop-acts (suc k) [] = omega arith
 drop-acts (suc k) (n ∷ ns) = let h : act_count (drop k ns) ≤ act_count ns = drop-acts k ns in omega arith
 
-back-acts : (p : Params) (f : Fired) → act_count (put_back_after p f) ≡ 0
+pub back-acts : (p : Params) (f : Fired) → act_count (put_back_after p f) ≡ 0
 back-acts p f = by_test (int_le f.penalty (negsuc 19999) && holds_any f.held)
   where
     by_test : (t : Bool) → act_count (if t then page_for_held p else []) ≡ 0
     by_test true = refl
     by_test false = refl
 
-fired-acts : (p : Params) (w : Reach) → act_count (waiting_after p (fired_of (makeup_ask p) (makeup_classes p) void_boxes w)) ≤ act_count w.passed + act_count w.beyond
+pub fired-acts : (p : Params) (w : Reach) → act_count (waiting_after p (fired_of (makeup_ask p) (makeup_classes p) void_boxes w)) ≤ act_count w.passed + act_count w.beyond
 fired-acts p w =
     let f = fired_of (makeup_ask p) (makeup_classes p) void_boxes w in
     let k = (page_break w).place in
@@ -193,7 +193,7 @@ taken-acts p s f = by_places f.places.h (int_lt s.goal (with_float p s f)) (f.pl
     by_places false g true = refl
     by_places false g false = refl
 
-put-acts : (p : Params) (s : PageSums) (a : Act) → act_count (act_nodes p s a) ≡ 0
+pub put-acts : (p : Params) (s : PageSums) (a : Act) → act_count (act_nodes p s a) ≡ 0
 put-acts p s (acts.Take f) = taken-acts p s f
 put-acts p s (acts.TakeMargin m) = refl
 put-acts p s (acts.Suppress area) = refl
@@ -254,11 +254,11 @@ act-falls p s (at_act before a after) n e h = (n, λ fuel enough. by_enough fuel
         inl (omega arith)
     by_enough fuel (inr less) = absurd (no-first (first_act s.waiting) before after a (ap first_act (sym less.0)) e)
 
-page-less : (m n : ℕ) → 1 ≤ n → n ≤ m → m - pred (n + 1) + 1 ≡ m - pred n
+pub page-less : (m n : ℕ) → 1 ≤ n → n ≤ m → m - pred (n + 1) + 1 ≡ m - pred n
 page-less m zero h k = let no : ⊥ = omega arith in absurd no
 page-less m (suc n) h k = omega arith
 
-within : (m : ℤ) (n : ℕ) → int_lt m (pos n) ≡ false → n ≤ nat_abs m
+pub within : (m : ℤ) (n : ℕ) → int_lt m (pos n) ≡ false → n ≤ nat_abs m
 within m n h = grind (arith, ints, h)
 
 firing-falls : (p : Params) (s : MakeupState) (f : Fired) → 1 ≤ s.number → act_count (waiting_after p f) ≤ all_acts s → Falls p s (firing_step p s.number f)
@@ -282,7 +282,7 @@ firing-falls p s f n h = by_pages (int_lt p.maxpages (pos s.number)) refl
     by_pages true e = tt
     by_pages false e = by_nodes (int_lt p.maxnodes (pos (node_count (waiting_after p f)))) (within p.maxpages s.number e)
 
-ejected-fires : (p : Params) (s : MakeupState) → s.waiting ≡ ejecting_nodes → (makeup_reach p s).fires ≡ true
+pub ejected-fires : (p : Params) (s : MakeupState) → s.waiting ≡ ejecting_nodes → (makeup_reach p s).fires ≡ true
 ejected-fires p s e = ap (λ ns. (reach_of (makeup_ask p) (makeup_classes p) void_boxes s.page ns).fires) e ∙ by_box (holds_box s.page)
   where
     terms : List PlainNode → Terms

@@ -49,6 +49,6 @@ abbrev pub reply_for : Result Galley Fault → Reply
 reply_for (Ok g) = reply_of g (first_unsuited g)
 reply_for (Err f) = faulty f
 
--- what the mode answers to these bytes
+-- what the mode returns for these bytes
 abbrev pub makeup_reply : List ℕ → Reply
 makeup_reply input = reply_for (grammar input)

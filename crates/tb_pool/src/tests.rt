@@ -28,8 +28,9 @@ fn moves_values_between_lists(rt: HostRuntime) -> Result<(), Fail> {
         sum = sum.wrapping_mul(10).wrapping_add(*v);
     }
     assert_eq!(rt; sum, 45);
+    lists.move_first(b, a);
     assert_eq!(rt; lists.pop_back(b), Some(5));
-    assert_eq!(rt; lists.pop_back(b), Some(4));
+    assert_eq!(rt; lists.pop_back(a), Some(4));
     assert_eq!(rt; lists.pop_back(b), None);
     assert_eq!(rt; lists.pop_front(b), None);
     lists.close(b);

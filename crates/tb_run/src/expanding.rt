@@ -67,8 +67,8 @@ fn two_after(two: bool, kind: &ItemKind) -> bool
     }
 }
 
-// Hands over the nodes of an item; `two` says whether there are two columns before it.
-fn put_item(
+/// Hands over the nodes of an item; `two` says whether there are two columns before it.
+pub fn put_item(
     store: &mut Lists<Node>,
     builder: &mut Builder,
     p: &Params,
@@ -140,8 +140,8 @@ fn put_rule(
     )
 }
 
-// Hands over one node that is no insertion.
-fn put(
+/// Hands over one node that is no insertion.
+pub fn put(
     store: &mut Lists<Node>,
     builder: &mut Builder,
     line: u32,

@@ -47,7 +47,7 @@ pub(crate) fn note_try(
 }
 
 /// Appends what the output routine sent.
-pub(crate) fn note_sent(happened: &mut Vec<Happening>, sent: Sent) -> Result<(), AllocError>
+pub fn note_sent(happened: &mut Vec<Happening>, sent: Sent) -> Result<(), AllocError>
     ensures { OnOk result (happened.new.items ≡ happened.old.items ++ Happening.Sent sent ∷ []) }
 {
     happened.push(Happening::Sent(Event { sent }))?;

@@ -8,5 +8,7 @@ mod happening;
 mod releasing;
 mod routine;
 
-pub use happening::{Event, Happening};
+pub use expanding::{put, put_item};
+pub use happening::{Event, Happening, note_sent};
+pub use releasing::close_happened;
 pub use routine::{Ending, Routine};

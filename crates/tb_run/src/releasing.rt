@@ -15,7 +15,7 @@ use tb_node::Node;
 use tb_pool::{ListId, Lists};
 
 /// Closes the lists of the pages that were sent.
-pub(crate) fn close_happened(store: &mut Lists<Node>, happened: &[Happening])
+pub fn close_happened(store: &mut Lists<Node>, happened: &[Happening])
     requires live { AllByRecursion (IsLive store.old) (happened_lists happened.now) }
     requires distinct { AreDistinct (happened_lists happened.now) }
     ensures closed { AllByRecursion (λ l. get store.new.lists l ≡ None) (happened_lists happened.now) }

@@ -84,4 +84,5 @@ module _ (input : List ℕ) (source out : Stream) (read : Gives source.before so
   left_by_listing (refusals.Input f) h = absurd h
   left_by_listing (refusals.Pages f) h = absurd h
   left_by_listing (refusals.Lines f) h = absurd h
+  left_by_listing (refusals.Unsuited n) h = absurd h
   left_by_listing (refusals.Output f) h = absurd h

@@ -91,7 +91,7 @@ noted-events true (offered a ∷ es) t = noted-events true es t
 noted-events false (offered a ∷ es) t = noted-events false es t
 noted-events wanted (sent e ∷ es) t = noted-events wanted es (with_sent e t)
 
-viewed-append : (v : View) (a b : List ℕ) → viewed v (a ++ b) ≡ viewed v a ++ viewed v b
+pub viewed-append : (v : View) (a b : List ℕ) → viewed v (a ++ b) ≡ viewed v a ++ viewed v b
 viewed-append views.Report a b = refl
 viewed-append views.Trace a b = refl
 viewed-append views.Silent a b = refl
@@ -319,7 +319,7 @@ fault-rose v before now start (faults.DeadCycles n) h le e = absurd h
 fault-rose v before now start (faults.PageLimit n) h le e = absurd h
 fault-rose v before now start (faults.NodeLimit n) h le e = absurd h
 
-silent-shown : (v : View) → v ≡ views.Silent → IsShown v → ⊥
+pub silent-shown : (v : View) → v ≡ views.Silent → IsShown v → ⊥
 silent-shown v s k = subst IsShown s k
 
 pub fault-shown : (v : View) (before now : ℕ) (f : PageFault) → IsWriteFault v before now f → v ≡ views.Silent → f ≡ faults.WriteFault → ⊥

@@ -14,6 +14,7 @@ unread-failed modes.Print source is = is
 unread-failed modes.Lines source is = is
 unread-failed modes.Dvi source is = is
 unread-failed modes.DviList source is = is
+unread-failed modes.Plain source is = is
 unread-failed (modes.Generate n) source is = absurd is
 
 pub decided-asked : (asked : Option Mode) (answer : Status) (source out : Stream) (line : List ℕ) → Decided asked answer source out line → asked ≡ None → ⊥
@@ -32,6 +33,7 @@ module _ (asked : Option Mode) (source out err : Stream) where
   words-outcome answers.ReadFault o is = cc
   words-outcome answers.WriteFault o is = cc
   words-outcome answers.NodeLimit o is = cc
+  words-outcome answers.Unsuited o is = cc
   words-outcome answers.TooFar o is = cc
   words-outcome answers.Dvi o is = cc
   words-outcome answers.NoBreaks o is = cc
@@ -48,6 +50,7 @@ module _ (asked : Option Mode) (source out err : Stream) where
   read-outcome answers.ReadFault o is = unread-failed o.1.0.mode source o.1.0.failed
   read-outcome answers.WriteFault o is = cc
   read-outcome answers.NodeLimit o is = cc
+  read-outcome answers.Unsuited o is = cc
   read-outcome answers.TooFar o is = cc
   read-outcome answers.Dvi o is = cc
   read-outcome answers.NoBreaks o is = cc
@@ -64,6 +67,7 @@ module _ (asked : Option Mode) (source out err : Stream) where
   write-outcome answers.ReadFault o is = cc
   write-outcome answers.WriteFault o is = o.1.1
   write-outcome answers.NodeLimit o is = cc
+  write-outcome answers.Unsuited o is = cc
   write-outcome answers.TooFar o is = cc
   write-outcome answers.Dvi o is = cc
   write-outcome answers.NoBreaks o is = cc
@@ -80,6 +84,7 @@ module _ (asked : Option Mode) (source out err : Stream) where
   refused-outcome answers.ReadFault o is = let no : Some o.1.0.mode ≡ None = sym o.1.0.asked_for ∙ is in cc
   refused-outcome answers.WriteFault o is = let no : Some o.1.0.mode ≡ None = sym o.1.0.asked_for ∙ is in cc
   refused-outcome answers.NodeLimit o is = absurd (decided-asked asked answers.NodeLimit source out _ o.1 is)
+  refused-outcome answers.Unsuited o is = absurd (decided-asked asked answers.Unsuited source out _ o.1 is)
   refused-outcome answers.TooFar o is = absurd (decided-asked asked answers.TooFar source out _ o.1 is)
   refused-outcome answers.Dvi o is = absurd (decided-asked asked answers.Dvi source out _ o.1 is)
   refused-outcome answers.NoBreaks o is = absurd (decided-asked asked answers.NoBreaks source out _ o.1 is)

@@ -42,7 +42,7 @@ use Rattle.tb_run.specs.Run.{Run, End, done, pool_full, dead_cycles, page_limit,
 use Rattle.tb_top.specs.Paginated.{view_text, end_fault, EndsWith, Paginates, Refuses}
 use Rattle.tb_top.specs.Report.{report, trace, totals_of}
 use Rattle.tb_top.specs.Laws.{KeepsLaws}
-use Rattle.tb_top.specs.Answer.{Reply, dvi_reply, listing_reply, summary_line, summary_at, is_done, answer_at, line_at, answer_for_cause, answer_for_lines, err_line, fault_reply, no_lines_reply, lines_reply, galley_reply, run_reply, text_reply, reply_to}
+use Rattle.tb_top.specs.Answer.{Reply, dvi_reply, makeup_reply, listing_reply, summary_line, summary_at, is_done, answer_at, line_at, answer_for_cause, answer_for_lines, err_line, fault_reply, no_lines_reply, lines_reply, galley_reply, run_reply, text_reply, reply_to}
 use Rattle.tb_top.specs.Outcome.{Stream, Failed, Gives, Reads, IsUnread, IsGalleyWith, ShowsRunOf, HasLawfulRun, LacksRoomForCycles, Decided, Finished, OutOfCycles, CutOff, StandsAfter, TellsLine, Says, Outcome, Succeeds, IsAnswer, input_of}
 use Rattle.tb_top.proofs.CycleAnswers.{no-room}
 use Rattle.tb_top.specs.declared.dvi_refusal.DviRefusal.{DviRefusal}
@@ -166,6 +166,9 @@ print_reads = record { reads = λ s input g. g; unread = λ s f. f; replies = λ
 pub dvi_reads : ReadsGalleys modes.Dvi (λ g. dvi_reply g.params.textheight (run_of g))
 dvi_reads = record { reads = λ s input g. g; unread = λ s f. f; replies = λ input. refl }
 
+pub makeup_reads : ReadsGalleys modes.Plain makeup_reply
+makeup_reads = record { reads = λ s input g. g; unread = λ s f. f; replies = λ input. refl }
+
 pub replies_to : (m : Mode) (reply : Galley → Reply) → ReadsGalleys m reply → (input : List ℕ) (g : Galley) → grammar input ≡ Ok g → reply_to m input ≡ reply g
 replies_to m reply mode input g is = mode.replies input ∙ ap (galley_reply reply) is
 
@@ -188,6 +191,7 @@ module _ (m : Mode) (reply : Galley → Reply) (mode : ReadsGalleys m reply) (so
   left_by_reading kept (refusals.Output f) missing = absurd missing
   left_by_reading kept (refusals.Lines f) missing = absurd missing
   left_by_reading kept (refusals.Dvi f) missing = absurd missing
+  left_by_reading kept (refusals.Unsuited n) missing = absurd missing
 
 -- ---- the mode that runs a generated galley
 
@@ -332,6 +336,7 @@ refusal_status-refused (refusals.Galley f) = galley_status-refused f
 refusal_status-refused (refusals.Pages f) = page_status-refused f
 refusal_status-refused (refusals.Lines f) = lines_status-refused f
 refusal_status-refused (refusals.Dvi f) = dvi_status-refused f
+refusal_status-refused (refusals.Unsuited n) = λ same. cc
 
 prefix_told : (line : List ℕ) (err : Stream) → TellsLine line err → AppendsPrefix err.before err.after line
 prefix_told line err (inl all) = prefix_whole err.before err.after line all
@@ -351,6 +356,7 @@ module _ (asked : Option Mode) (source out err : Stream) (line : List ℕ) where
   stays answers.ReadFault ne left told = (line, left, told)
   stays answers.WriteFault ne left told = (line, left, told)
   stays answers.NodeLimit ne left told = (line, left, told)
+  stays answers.Unsuited ne left told = (line, left, told)
   stays answers.TooFar ne left told = (line, left, told)
   stays answers.Dvi ne left told = (line, left, told)
   stays answers.NoBreaks ne left told = (line, left, told)
@@ -426,6 +432,7 @@ IsAnswer-given modes.Print status source input g is = galley_answer (λ g. text_
 IsAnswer-given modes.Lines status source input g is = lines_answer status source.before source.after input g is
 IsAnswer-given modes.Dvi status source input g is = galley_answer (λ g. dvi_reply g.params.textheight (run_of g)) status source.before source.after input g is
 IsAnswer-given modes.DviList status source input g is = listing_answer status source.before source.after input g is
+IsAnswer-given modes.Plain status source input g is = galley_answer makeup_reply status source.before source.after input g is
 IsAnswer-given (modes.Generate n) status source input g is = inl is
 
 some_memory : (left : Option (List ℕ)) (P : List ℕ → Type 0) → IfSome left (λ input. P input ⊎ (answers.Memory ≡ answers.Memory))
@@ -455,6 +462,7 @@ module _ (asked : Option Mode) (m : Mode) (source out : Stream) (well : Succeeds
   IsAnswer-stands answers.DeadCycles line left = IsAnswer-decided answers.DeadCycles line left.0
   IsAnswer-stands answers.PageLimit line left = IsAnswer-decided answers.PageLimit line left
   IsAnswer-stands answers.NodeLimit line left = IsAnswer-decided answers.NodeLimit line left
+  IsAnswer-stands answers.Unsuited line left = IsAnswer-decided answers.Unsuited line left
   IsAnswer-stands answers.TooFar line left = IsAnswer-decided answers.TooFar line left
   IsAnswer-stands answers.Dvi line left = IsAnswer-decided answers.Dvi line left
   IsAnswer-stands answers.NoBreaks line left = IsAnswer-decided answers.NoBreaks line left

@@ -29,7 +29,7 @@ one-most : (t : Bool) → one_if t ≤ 1
 one-most true = omega arith
 one-most false = omega arith
 
-count-most : (test : PlainKind → Bool) (ns : List PlainNode) → count_kinds test ns ≤ length ns
+pub count-most : (test : PlainKind → Bool) (ns : List PlainNode) → count_kinds test ns ≤ length ns
 count-most test [] = omega arith
 count-most test (n ∷ ns) = let a = one-most (test n.kind) in let b = count-most test ns in omega arith
 

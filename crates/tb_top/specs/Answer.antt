@@ -14,6 +14,9 @@ use Rattle.tb_generator.specs.Generate.{generated}
 use Rattle.tb_lines.specs.declared.LinesCause.{LinesCause}
 use Rattle.tb_lines.specs.Galley.{NoGalley, faulty, no_breaks, lines_galley}
 use Rattle.tb_lines.specs.RefusalText.{is_range_cause as is_range_of_lines, no_galley_text}
+use Rattle.tb_plain.specs.Run.{MakeupRun, MakeupEnd, done as made, page_limit as at_pages, node_limit as at_nodes, makeup_of}
+use Rattle.tb_plain.specs.Report.{makeup_report, unsuited_text}
+use Rattle.tb_plain.specs.Suited.{first_unsuited}
 use Rattle.tb_dvi.specs.declared.DviCause.{DviCause}
 use Rattle.tb_dvi.specs.File.{first_too_far}
 use Rattle.tb_dvi.specs.Progress.{run_bytes}
@@ -51,6 +54,12 @@ answer_at (dead_cycles n) = answers.DeadCycles
 answer_at (page_limit n) = answers.PageLimit
 answer_at (node_limit n) = answers.NodeLimit
 
+-- the answer for a run of the page makeup that ends so
+abbrev pub makeup_answer : MakeupEnd → Status
+makeup_answer made = answers.Done
+makeup_answer (at_pages n) = answers.PageLimit
+makeup_answer (at_nodes n) = answers.NodeLimit
+
 -- ---- the line on err
 
 -- a line of the program on err
@@ -84,6 +93,12 @@ line_at (pool_full line live) = err_line (pool_full_text line live)
 line_at (dead_cycles n) = err_line (dead_cycles_text n)
 line_at (page_limit n) = err_line (page_limit_text n)
 line_at (node_limit n) = err_line (node_limit_text n)
+
+-- the same of a run of the page makeup
+abbrev pub makeup_line : MakeupEnd → List ℕ
+makeup_line made = []
+makeup_line (at_pages n) = err_line (page_limit_text n)
+makeup_line (at_nodes n) = err_line (node_limit_text n)
 
 -- ---- the lines of the answers that the input does not decide
 
@@ -181,6 +196,23 @@ listed_reply (Err e) = cause_reply e.byte e.cause
 abbrev pub listing_reply : List ℕ → Reply
 listing_reply input = if nat_lt input_limit (length input) then fault_reply (fault 0 0 causes.InputSize) else listed_reply (listed input)
 
+-- a run of the page makeup, with its report
+abbrev pub makeup_run_reply : MakeupRun → Reply
+makeup_run_reply r = record { answer = makeup_answer r.end; written = makeup_report r; line = makeup_line r.end; writes = true }
+
+-- a galley whose first item that the page makeup does not serve stands on this line
+abbrev pub unsuited_reply : ℕ → Reply
+unsuited_reply n = record { answer = answers.Unsuited; written = []; line = err_line (unsuited_text n); writes = false }
+
+-- of a galley by its first item that is not served, if there is one
+abbrev pub makeup_reply_by : Option ℕ → Galley → Reply
+makeup_reply_by None g = makeup_run_reply (makeup_of g)
+makeup_reply_by (Some n) g = unsuited_reply n
+
+-- of a galley whose pages the page makeup makes
+abbrev pub makeup_reply : Galley → Reply
+makeup_reply g = makeup_reply_by (first_unsuited g) g
+
 -- by the mode; an input that is no galley has the reply of its first fault
 abbrev pub reply_to : Mode → List ℕ → Reply
 reply_to modes.Report input = galley_reply (λ g. run_reply (report (run_of g)) (run_of g)) (grammar input)
@@ -189,4 +221,5 @@ reply_to modes.Print input = galley_reply (λ g. text_reply (printed g)) (gramma
 reply_to modes.Lines input = lines_reply (lines_galley input)
 reply_to modes.Dvi input = galley_reply (λ g. dvi_reply g.params.textheight (run_of g)) (grammar input)
 reply_to modes.DviList input = listing_reply input
+reply_to modes.Plain input = galley_reply makeup_reply (grammar input)
 reply_to (modes.Generate n) input = summary_reply n (run_of (generated n))

@@ -39,3 +39,4 @@ IsNoListing reply (refusals.Input f) = ⊥
 IsNoListing reply (refusals.Pages f) = ⊥
 IsNoListing reply (refusals.Lines f) = ⊥
 IsNoListing reply (refusals.Output f) = ⊥
+IsNoListing reply (refusals.Unsuited n) = ⊥

@@ -13,9 +13,12 @@ pub mod FloatRows
 pub mod ColumnRows
 pub mod VersionRows
 pub mod LinesRows
+pub mod MakeupRows
 pub mod Written
 pub mod DviPages
 pub mod DviRefusal
 pub mod DviFiles
 pub mod DviWritten
 pub mod MakeupLaws
+pub mod MakeupPages
+pub mod MakeupWritten

@@ -17,6 +17,9 @@ use Rattle.tb_lines.specs.declared.LinesRefusal.TheVariants as unbroken
 use Rattle.tb_lines.specs.RefusalText.{refusal_text as lines_text}
 use Rattle.tb_top.specs.declared.refusal.Refusal.{Refusal}
 use Rattle.tb_top.specs.declared.refusal.Refusal.TheVariants as refusals
+use Rattle.tb_top.specs.declared.makeup_pages.PlainRunFault.{PlainRunFault}
+use Rattle.tb_top.specs.declared.makeup_pages.PlainRunFault.TheVariants as unmade
+use Rattle.tb_plain.specs.Report.{unsuited_text}
 use Rattle.tb_top.specs.declared.dvi_pages.DviRunFault.{DviRunFault}
 use Rattle.tb_top.specs.declared.dvi_pages.DviRunFault.TheVariants as undone
 use Rattle.tb_top.specs.declared.dvi_refusal.DviRefusal.TheVariants as dvi
@@ -73,6 +76,7 @@ refusal_status (refusals.Galley f) = galley_status f
 refusal_status (refusals.Pages f) = page_status f
 refusal_status (refusals.Lines f) = lines_status f
 refusal_status (refusals.Dvi f) = dvi_status f
+refusal_status (refusals.Unsuited n) = answers.Unsuited
 
 -- ---- the line on err
 
@@ -115,6 +119,7 @@ refusal_text (refusals.Galley f) = galley_text f
 refusal_text (refusals.Pages f) = page_text f
 refusal_text (refusals.Lines f) = lines_text f
 refusal_text (refusals.Dvi f) = dvi_text f
+refusal_text (refusals.Unsuited n) = unsuited_text n
 
 -- its whole line
 abbrev pub refusal_line : Refusal → List ℕ
@@ -124,6 +129,13 @@ refusal_line r = err_line (refusal_text r)
 abbrev pub dvi_fault : DviRunFault → Refusal
 dvi_fault (undone.Pages f) = refusals.Pages f
 dvi_fault (undone.TooFar page) = refusals.Dvi (dvi.TooFar page)
+
+-- the refusal of a run under plain TeX's page makeup
+abbrev pub makeup_refusal : PlainRunFault → Refusal
+makeup_refusal (unmade.PageLimit n) = refusals.Pages (pages.PageLimit n)
+makeup_refusal (unmade.NodeLimit n) = refusals.Pages (pages.NodeLimit n)
+makeup_refusal unmade.WriteFault = refusals.Pages pages.WriteFault
+makeup_refusal unmade.Memory = refusals.Pages pages.Memory
 
 -- ---- of a run before it tells
 
@@ -151,6 +163,7 @@ IsNoGalley source (refusals.Pages f) = ⊥
 IsNoGalley source (refusals.Output f) = ⊥
 IsNoGalley source (refusals.Lines f) = ⊥
 IsNoGalley source (refusals.Dvi f) = ⊥
+IsNoGalley source (refusals.Unsuited n) = ⊥
 
 -- the source gave this galley
 pub record GivesGalley (source : Stream) (g : Galley) : Type 0 where

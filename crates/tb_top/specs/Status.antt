@@ -16,6 +16,7 @@ code_of answers.ReadFault = 8
 code_of answers.WriteFault = 9
 code_of answers.Memory = 10
 code_of answers.NodeLimit = 11
+code_of answers.Unsuited = 12
 code_of answers.TooFar = 13
 code_of answers.Dvi = 14
 code_of answers.NoBreaks = 15

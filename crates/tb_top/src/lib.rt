@@ -9,6 +9,7 @@ mod dvi_pages;
 mod dvi_refusal;
 mod input;
 mod laws;
+mod makeup_pages;
 mod pages;
 mod refusal;
 mod rows;
@@ -20,9 +21,11 @@ pub use laws::{
     classes_keep_their_order, dead_cycles_are_few, dvi_files_list_their_pages, each_makes_up_once,
     each_ships_once, floats_keep_the_limits, lists_are_emptied, runs_are_defined,
 };
+pub use makeup_pages::{PlainRunFault, paginate_plain};
 pub use pages::paginate;
 pub use rows::check_rows;
 pub use status::Status;
+pub use tb_makeup::first_unsuited;
 pub use tb_report::Totals;
 pub use top::run;
 

@@ -132,7 +132,7 @@ fn send<K: Sink>(
 }
 
 // Counts the pages and warnings that were sent.
-fn count_happened(store: &Lists<Node>, happened: &[Happening], totals: &mut Totals)
+pub(crate) fn count_happened(store: &Lists<Node>, happened: &[Happening], totals: &mut Totals)
     requires pages { ArePages store.now happened.now }
     requires room { AreCounts (with_events (events_of store.now happened.now) totals.old) }
     ensures { totals.new ≡ with_events (events_of store.now happened.now) totals.old }
@@ -154,7 +154,7 @@ fn count_happening(store: &Lists<Node>, happening: &Happening, totals: &mut Tota
 }
 
 // Appends the lines of what happened to a text, unless the view shows nothing.
-fn put_happened(
+pub(crate) fn put_happened(
     text: &mut Vec<u8>,
     store: &Lists<Node>,
     happened: &[Happening],

@@ -1,12 +1,14 @@
 //! Why a run was refused, until its line is written.
 ghost use Rattle.std.specs.Prelude.{◌≡◌, ◌++◌, decimal, IfOk, OnOk};
+ghost use Rattle.tb_plain.specs.Report.{unsuited_text};
 ghost use Rattle.tb_top.specs.Answer.{answer_for_cause, answer_for_lines, fault_text, pool_full_text};
-ghost use Rattle.tb_top.specs.Refusal.{refusal_status, galley_status, page_status, lines_status, input_status, words_status, output_status, refusal_text, galley_text, page_text, input_text, words_text, output_text, refusal_line, dvi_fault};
+ghost use Rattle.tb_top.specs.Refusal.{refusal_status, galley_status, page_status, lines_status, input_status, words_status, output_status, refusal_text, galley_text, page_text, input_text, words_text, output_text, refusal_line, dvi_fault, makeup_refusal};
 ghost use Rattle.tb_top.specs.declared.refusal.Refusal.TheVariants.{Words, Input, Galley, Pages, Lines, Output, Memory};
 
 use crate::dvi_pages::DviRunFault;
 use crate::dvi_refusal::{DviRefusal, dvi_status, put_dvi};
 use crate::input::InputFault;
+use crate::makeup_pages::PlainRunFault;
 use crate::{PageFault, Status};
 use std::alloc::{AllocError, Global};
 use tb_galley::{Cause, Fault, GalleyFault, cause_text, is_range_cause};
@@ -30,6 +32,8 @@ pub enum Refusal {
     Lines(LinesRefusal),
     /// There is no DVI file, or no listing of one.
     Dvi(DviRefusal),
+    /// The item on this line is not served by plain TeX's page makeup.
+    Unsuited { line: u32 },
     /// A text was not written.
     Output(SinkFault),
     /// There was no memory for what was to be written.
@@ -87,6 +91,19 @@ impl From<DviRunFault> for Refusal {
     }
 }
 
+impl From<PlainRunFault> for Refusal {
+    ghost from_gives = { λ fault e. e ≡ makeup_refusal fault };
+
+    fn from(fault: PlainRunFault) -> Self {
+        Refusal::Pages(match fault {
+            PlainRunFault::PageLimit { pages } => PageFault::PageLimit { pages },
+            PlainRunFault::NodeLimit { count } => PageFault::NodeLimit { count },
+            PlainRunFault::WriteFault => PageFault::WriteFault,
+            PlainRunFault::Memory => PageFault::Memory,
+        })
+    }
+}
+
 impl From<SinkFault> for Refusal {
     ghost from_gives = { λ fault e. e ≡ Output fault };
 
@@ -116,6 +133,7 @@ impl Refusal {
             Refusal::Pages(fault) => page_status(*fault),
             Refusal::Lines(refusal) => lines_status(refusal),
             Refusal::Dvi(refusal) => dvi_status(*refusal),
+            Refusal::Unsuited { line: _ } => Status::Unsuited,
             Refusal::Output(fault) => output_status(*fault),
             Refusal::Memory => Status::Memory,
         }
@@ -142,6 +160,7 @@ impl Refusal {
             Refusal::Pages(fault) => put_page_fault(line, *fault),
             Refusal::Lines(refusal) => put_refusal(line, refusal),
             Refusal::Dvi(refusal) => put_dvi(line, *refusal),
+            Refusal::Unsuited { line: at } => put_unsuited(line, *at),
             Refusal::Output(fault) => line.extend_from_slice(output_text(*fault)),
             Refusal::Memory => line.extend_from_slice(b"out of memory"),
         }
@@ -271,6 +290,13 @@ fn put_pool_full(line: &mut Vec<u8>, at: u32, live: u64) -> Result<(), AllocErro
 {
     put_counted(line, b"line ", u64::from(at))?;
     put_counted(line, b": float pool full at ", live)
+}
+
+fn put_unsuited(line: &mut Vec<u8>, at: u32) -> Result<(), AllocError>
+    ensures { OnOk result (line.new.items ≡ line.old.items ++ unsuited_text at) }
+{
+    put_counted(line, b"line ", u64::from(at))?;
+    line.extend_from_slice(b": not served in this mode")
 }
 
 fn put_page_fault(line: &mut Vec<u8>, fault: PageFault) -> Result<(), AllocError>

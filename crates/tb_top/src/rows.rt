@@ -4,6 +4,7 @@ ghost use Rattle.tb_top.specs.FloatRows.{FloatRows};
 ghost use Rattle.tb_top.specs.ColumnRows.{ColumnRows};
 ghost use Rattle.tb_top.specs.VersionRows.{VersionRows};
 ghost use Rattle.tb_top.specs.LinesRows.{LinesRows};
+ghost use Rattle.tb_top.specs.MakeupRows.{MakeupRows};
 
 /// The definitions against which [`run`](crate::run) is proved give the worked rows: from the bytes
 /// of each galley the answer, the report and the line on `err`.
@@ -13,4 +14,5 @@ pub fn check_rows()
     ensures columns { ColumnRows }
     ensures versions { VersionRows }
     ensures lines { LinesRows }
+    ensures makeup { MakeupRows }
 {}

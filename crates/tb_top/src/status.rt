@@ -27,6 +27,8 @@ pub enum Status {
     Memory,
     /// More nodes than `maxnodes` were held.
     NodeLimit,
+    /// An item of the galley is not served by plain TeX's page makeup.
+    Unsuited,
     /// A page is out of the range of DVI.
     TooFar,
     /// What was read is no DVI file that can be listed.
@@ -52,6 +54,7 @@ impl Status {
             Status::WriteFault => 9,
             Status::Memory => 10,
             Status::NodeLimit => 11,
+            Status::Unsuited => 12,
             Status::TooFar => 13,
             Status::Dvi => 14,
             Status::NoBreaks => 15,

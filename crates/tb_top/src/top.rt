@@ -13,7 +13,7 @@ use crate::dvi_pages::paginate_dvi;
 use crate::input::{read_input, read_text};
 use crate::refusal::Refusal;
 use crate::summary::summary_text;
-use crate::{Status, View, paginate};
+use crate::{Status, View, first_unsuited, paginate, paginate_plain};
 use std::alloc::Global;
 use tb_galley::{Galley, new_reader, print};
 use tb_generator::generate;
@@ -22,7 +22,7 @@ use tb_lines::lines_galley;
 use tb_words::{Mode, read_words};
 
 /// Does what the words ask for: reads a galley from `source` and writes its report, its report with the places that were
-/// tried, its canonical text or the DVI file of its pages to `out`, or reads a text of paragraphs and writes the galley of
+/// tried, its report under plain TeX's page makeup, its canonical text or the DVI file of its pages to `out`, or reads a text of paragraphs and writes the galley of
 /// their lines, or reads a DVI file and writes what its pages show, or says on `err` why not.
 ///
 /// `words` are the program's name and the words after it; an empty list is read as the name alone. They are read by one
@@ -37,6 +37,8 @@ use tb_words::{Mode, read_words};
 /// empty at each change of columns and at the end. The DVI file of the run, if each page is in range and it has at most
 /// 8388608 bytes, lists exactly the placements of the run, page by page. `DeadCycles` comes only where `maxdeadcycles` is less
 /// than sixteen and four for each float, marginal note, clearpage, onecolumn and twocolumn.
+/// After `Done` in plain mode each box, rule and float shipped once, and the text in its order; `Unsuited` comes exactly if an
+/// item of the galley is not served there.
 pub fn run<S: Source, K: Sink, E: Sink>(
     alloc: Global,
     words: &[String],
@@ -92,6 +94,7 @@ fn serve<S: Source, K: Sink>(
         Mode::Lines => write_lines(alloc, source, out),
         Mode::Dvi => write_dvi(alloc, source, out),
         Mode::DviList => write_listing(alloc, source, out),
+        Mode::Plain => write_makeup(alloc, source, out),
         Mode::Generate { count } => write_summary(alloc, count, out),
     }
 }
@@ -176,6 +179,26 @@ fn write_dvi<S: Source, K: Sink>(alloc: Global, source: &mut S, out: &mut K) -> 
 {
     let galley = read_galley(alloc, source)?;
     paginate_dvi(alloc, &galley, out)?;
+    Ok(())
+}
+
+// Reads a galley and writes the report of its run under plain TeX's page makeup, which serves each of its items.
+fn write_makeup<S: Source, K: Sink>(
+    alloc: Global,
+    source: &mut S,
+    out: &mut K,
+) -> Result<(), Refusal>
+    ensures stands { StandsAfter (Some Mode.Plain) (served_status result)
+        (stream (S.left source.old) (S.left source.new) (S.faults source.old) (S.faults source.new))
+        (stream (K.held out.old) (K.held out.new) (K.faults out.old) (K.faults out.new))
+        (served_line result) }
+    ensures stops { StopsReading (S.left source.old) (S.left source.new) }
+{
+    let galley = read_galley(alloc, source)?;
+    if let Some(line) = first_unsuited(&galley) {
+        return Err(Refusal::Unsuited { line });
+    }
+    paginate_plain(alloc, &galley, View::Report, out)?;
     Ok(())
 }
 

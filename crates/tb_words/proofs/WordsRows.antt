@@ -15,6 +15,7 @@ words_rows = record {
   lines = refl;
   dvi = refl;
   dvilist = refl;
+  plain = refl;
   with_equals = refl;
   another_mode = refl;
   count_left_out = refl;

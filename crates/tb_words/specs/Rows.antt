@@ -2,7 +2,7 @@
 use Rattle.std.specs.Prelude.{◌≡◌, List, [], ◌∷◌, codes, Some, None}
 use Rattle.clap.specs.Words.{Text}
 use Rattle.tb_words.specs.Words.{asked}
-use Rattle.tb_words.specs.declared.Mode.TheVariants.{Report, Trace, Print, Lines, Dvi, DviList, Generate}
+use Rattle.tb_words.specs.declared.Mode.TheVariants.{Report, Trace, Print, Lines, Dvi, DviList, Plain, Generate}
 
 -- the words after the program's name
 abbrev pub named : List Text → List Text
@@ -20,6 +20,7 @@ pub record WordsRows : Type 0 where
   pub lines : asked (named (codes "--mode" ∷ codes "lines" ∷ [])) ≡ Some Lines
   pub dvi : asked (named (codes "--mode" ∷ codes "dvi" ∷ [])) ≡ Some Dvi
   pub dvilist : asked (named (codes "--mode" ∷ codes "dvilist" ∷ [])) ≡ Some DviList
+  pub plain : asked (named (codes "--mode" ∷ codes "plain" ∷ [])) ≡ Some Plain
   pub with_equals : asked (named (codes "--mode=print" ∷ [])) ≡ Some Print
   pub another_mode : asked (named (codes "--mode" ∷ codes "nothing" ∷ [])) ≡ None
   -- the count, with its default; it is checked in every mode

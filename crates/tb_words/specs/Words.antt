@@ -50,6 +50,7 @@ mode_named name count =
     else if bytes_eq name (codes "lines") then Some modes.Lines
     else if bytes_eq name (codes "dvi") then Some modes.Dvi
     else if bytes_eq name (codes "dvilist") then Some modes.DviList
+    else if bytes_eq name (codes "plain") then Some modes.Plain
     else if bytes_eq name (codes "gen") then Some (modes.Generate count)
     else None
 
@@ -73,6 +74,7 @@ IsServed modes.Print = Unit {0}
 IsServed modes.Lines = Unit {0}
 IsServed modes.Dvi = Unit {0}
 IsServed modes.DviList = Unit {0}
+IsServed modes.Plain = Unit {0}
 IsServed (modes.Generate count) = IsCount count
 
 -- a count was found, in its range

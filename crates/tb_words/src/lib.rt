@@ -33,6 +33,8 @@ pub enum Mode {
     Dvi,
     /// Reads a DVI file and writes what its pages show, line by line.
     DviList,
+    /// Reads a galley and writes the report of its run under plain TeX's page makeup.
+    Plain,
     /// Reads nothing, runs the generated galley of so many items, 1 to 40000, and writes one line about it.
     Generate { count: u32 },
 }
@@ -134,6 +136,7 @@ fn mode_named(name: &str, count: u32) -> Option<Mode>
         "lines" => Some(Mode::Lines),
         "dvi" => Some(Mode::Dvi),
         "dvilist" => Some(Mode::DviList),
+        "plain" => Some(Mode::Plain),
         "gen" => Some(Mode::Generate { count }),
         _ => None,
     }

@@ -26,14 +26,14 @@ pub(super) const FLOATS: &[Row] = &[
     (Held, "3"),
     (
         Fire(&[0], PAR_PENALTY),
-        "100: g0 b10 g5 g-5 p7 g5 g3 H20 p7 g3",
+        "100: g0 b10 g5 g-5 p7 g5 g3 here20 p7 g3",
     ),
     (Held, "0"),
     (Take("h", 20), ""),
     (Glued(&[10], HOLD_PENALTY), HELD),
     (
         Fire(&[0], VERT_PENALTY),
-        "100: g0 b10 g5 g-5 p7 g5 g3 H20 p7 g3 g-4",
+        "100: g0 b10 g5 g-5 p7 g5 g3 here20 p7 g3 g-4",
     ),
     (Open, ""),
     (Take("t", 30), ""),
@@ -45,7 +45,7 @@ pub(super) const FLOATS: &[Row] = &[
     (Fire(&[10], EJECT_PENALTY), "100:"),
     (
         Event,
-        "page 1, 60 of 100: T30 g0 g0 g0 g0 b10 g0 B20 g0 g0 g0",
+        "page 1, 60 of 100: top30 g0 g0 g0 g0 b10 g0 bottom20 g0 g0 g0",
     ),
     (Event, ""),
 ];
@@ -59,8 +59,8 @@ pub(super) const DEFERRED: &[Row] = &[
     (Fire(&[10], EJECT_PENALTY), "100:"),
     (Event, "ht"),
     (Event, "page 1, 60 of 100: g0 b60 g0"),
-    (Event, "page 2, 60 of 100: T50 g0 g0 g0 g0 b10 g0"),
-    (Event, "page 3, 60 of 100: g0 g0 g0 P60 g0"),
+    (Event, "page 2, 60 of 100: top50 g0 g0 g0 g0 b10 g0"),
+    (Event, "page 3, 60 of 100: g0 g0 g0 page60 g0"),
     (Event, ""),
 ];
 
@@ -71,11 +71,11 @@ pub(super) const CLEARS: &[Row] = &[
     (Take("p", 20), ""),
     (Place(&[10]), "100: g0 b10 p7"),
     (Fire(&[10], CLEAR_PENALTY), "100: g0 b10"),
-    (Event, "page 1, 20 of 100: g0 g0 g0 P20 g0"),
+    (Event, "page 1, 20 of 100: g0 g0 g0 page20 g0"),
     (Take("t", 30), ""),
     (Place(&[10]), "70: g0 b10 p7"),
     (Fire(&[10], CLEAR_PENALTY), "100: g0 b10"),
-    (Event, "page 2, 30 of 100: g0 g0 g0 P30 g0"),
+    (Event, "page 2, 30 of 100: g0 g0 g0 page30 g0"),
     (Event, ""),
 ];
 
@@ -123,7 +123,7 @@ pub(super) const ACTS: &[Row] = &[
     (Take("wt", 30), ""),
     (Place(&[20]), "70: g0 b20 p7"),
     (Fire(&[20], EJECT_PENALTY), "100:"),
-    (Event, "page 1, 50 of 100: T30 g0 g0 g0 g0 b20 g0"),
+    (Event, "page 1, 50 of 100: top30 g0 g0 g0 g0 b20 g0"),
     (Event, ""),
 ];
 
@@ -143,7 +143,7 @@ pub(super) const COLUMNS: &[Row] = &[
     ),
     (
         Event,
-        "page 2 two at 30 D30 g0 g0 g0, 30 of 70: g0 b30 g0, 40 of 70: g0 b40 g0",
+        "page 2 two at 30 double30 g0 g0 g0, 30 of 70: g0 b30 g0, 40 of 70: g0 b40 g0",
     ),
     (Event, ""),
     (Take("wp", 20), ""),
@@ -159,7 +159,7 @@ pub(super) const COLUMNS: &[Row] = &[
         Event,
         "page 3 two at 0, 10 of 100: g0 b10 g0, 0 of 100: g0 b0 g0",
     ),
-    (Event, "page 4 wide, 20 of 100: g0 g0 g0 P20 g0"),
+    (Event, "page 4 wide, 20 of 100: g0 g0 g0 page20 g0"),
     (Event, ""),
 ];
 
@@ -167,19 +167,22 @@ pub(super) const COLUMNS: &[Row] = &[
 pub(super) const NOTES: &[Row] = &[
     (Note, ""),
     (Deep(&[10], HOLD_PENALTY), HELD),
-    (Fire(&[0], PAR_PENALTY), "100: g0 b10 k-2 R0 b0 p7"),
+    (Fire(&[0], PAR_PENALTY), "100: g0 b10 k-2 right0 b0 p7"),
     (Event, ""),
     (Note, ""),
     (Deep(&[10, 6], HOLD_PENALTY), HELD),
-    (Fire(&[0], PAR_PENALTY), "100: g0 b10 g0 b6 k-2 R6 b0 p7"),
+    (
+        Fire(&[0], PAR_PENALTY),
+        "100: g0 b10 g0 b6 k-2 right6 b0 p7",
+    ),
     (Event, "moved 6"),
     (Fire(&[10], EJECT_PENALTY), "100:"),
     (Columns(true), ""),
     (Note, ""),
-    (Place(&[10]), "100: g0 b10 k0 L0 b0 p7"),
+    (Place(&[10]), "100: g0 b10 k0 left0 b0 p7"),
     (Fire(&[10], EJECT_PENALTY), "100:"),
     (Note, ""),
-    (Place(&[10]), "100: g0 b10 k0 R0 b0 p7"),
+    (Place(&[10]), "100: g0 b10 k0 right0 b0 p7"),
 ];
 
 // A wide float keeps a later one of its class from the column until it is shipped.
@@ -195,7 +198,7 @@ pub(super) const WIDE_2015: &[Row] = &[
         Event,
         "page 1 two at 0, 10 of 100: g0 b10 g0, 10 of 100: g0 b10 g0",
     ),
-    (Event, "page 2 wide, 60 of 100: g0 g0 g0 P60 g0"),
+    (Event, "page 2 wide, 60 of 100: g0 g0 g0 page60 g0"),
 ];
 
 // In the release before it does not.
@@ -208,9 +211,9 @@ pub(super) const WIDE_2014: &[Row] = &[
     (Fire(&[10], EJECT_PENALTY), "100:"),
     (
         Event,
-        "page 1 two at 0, 30 of 100: T20 g0 g0 g0 g0 b10 g0, 10 of 100: g0 b10 g0",
+        "page 1 two at 0, 30 of 100: top20 g0 g0 g0 g0 b10 g0, 10 of 100: g0 b10 g0",
     ),
-    (Event, "page 2 wide, 60 of 100: g0 g0 g0 P60 g0"),
+    (Event, "page 2 wide, 60 of 100: g0 g0 g0 page60 g0"),
 ];
 
 pub(super) const DEAD_CYCLES: &[Row] = &[

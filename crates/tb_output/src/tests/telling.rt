@@ -10,55 +10,55 @@ use tb_column::Column;
 use tb_node::{Kind, Node, Side, What, Where};
 use tb_pool::{ListId, Lists};
 
-// Each node of a list: a letter, and its height, its width, its penalty or its shift.
+// Each node of a list: a word, and its height, its width, its penalty or its shift.
 pub(super) fn list_text(alloc: Global, store: &Lists<Node>, l: ListId) -> Result<String, AllocError>
     requires { IsLive store.now l }
 {
     let mut all = String::new(alloc);
     for node in store.iter(l) {
-        let (letter, amount) = told(node);
-        all.push_str(format!(in alloc; " {letter}{amount}")?.as_str())?;
+        let (word, amount) = told(node);
+        all.push_str(format!(in alloc; " {word}{amount}")?.as_str())?;
     }
     Ok(all)
 }
 
-fn told(n: &Node) -> (char, i64) {
+fn told(n: &Node) -> (&'static str, i64) {
     match n.kind {
         Kind::Hbox { what, height, .. } => told_box(&what, height),
-        Kind::Rule { height, .. } => ('r', height),
-        Kind::Skip(g) => ('g', g.width),
-        Kind::Kern(width) => ('k', width),
-        Kind::Pen(penalty) => ('p', penalty),
-        Kind::Ins(i) => ('i', i.height),
-        Kind::Whatsit => ('w', 0),
-        _ => ('?', 0),
+        Kind::Rule { height, .. } => ("r", height),
+        Kind::Skip(g) => ("g", g.width),
+        Kind::Kern(width) => ("k", width),
+        Kind::Pen(penalty) => ("p", penalty),
+        Kind::Ins(i) => ("i", i.height),
+        Kind::Whatsit => ("w", 0),
+        _ => ("?", 0),
     }
 }
 
-// Floats and marginal notes have capital letters.
-fn told_box(what: &What, height: i64) -> (char, i64) {
+// A float is named by its place, a marginal note by its side.
+fn told_box(what: &What, height: i64) -> (&'static str, i64) {
     match what {
-        What::Float { place, .. } => (letter_of(*place), height),
-        What::Margin { side, shift, .. } => (side_letter(*side), *shift),
-        _ => ('b', height),
+        What::Float { place, .. } => (place_word(*place), height),
+        What::Margin { side, shift, .. } => (side_word(*side), *shift),
+        _ => ("b", height),
     }
 }
 
-fn letter_of(place: Where) -> char {
+fn place_word(place: Where) -> &'static str {
     match place {
-        Where::Here => 'H',
-        Where::Top => 'T',
-        Where::Bottom => 'B',
-        Where::Page => 'P',
-        Where::Double => 'D',
-        Where::Deferred => '?',
+        Where::Here => "here",
+        Where::Top => "top",
+        Where::Bottom => "bottom",
+        Where::Page => "page",
+        Where::Double => "double",
+        Where::Deferred => "?",
     }
 }
 
-fn side_letter(side: Side) -> char {
+fn side_word(side: Side) -> &'static str {
     match side {
-        Side::Left => 'L',
-        Side::Right => 'R',
+        Side::Left => "left",
+        Side::Right => "right",
     }
 }
 

@@ -17,7 +17,7 @@ pub struct ModeRow {
 }
 
 /// The worked rows of each mode, and of words that are refused.
-pub const MODE_ROWS: [ModeRow; 23] = [
+pub const MODE_ROWS: [ModeRow; 26] = [
     ModeRow {
         name: "mode report said",
         words: &["--mode", "report"],
@@ -201,5 +201,29 @@ pub const MODE_ROWS: [ModeRow; 23] = [
         status: 14,
         out: b"",
         err: b"galley_pages: byte 27: Truncated\n",
+    },
+    ModeRow {
+        name: "float of plain mode that just fits",
+        words: &["--mode", "plain"],
+        input: b"galley 1\nset textheight 100\nset topskip 10\nset maxdepth 0\nset baselineskip 0\nset bottom flush\nset skipfootins 0\nset footsplittop 10\nset intextsep 0\nset textfloatsep 0\nset floatsep 0\nset fptop 0\nset fpsep 0\nset fpbot 0\nset dbltextfloatsep 0\nbox a 20 0\nfloat F 1 single h 80 par\nbox b 10 0\nend\n",
+        status: 0,
+        out: b"report 1\npage 1 one\ncolumn 1 text height 100 natural 100 set none\nbox a 0 20 0\nfloat F 1 here 20 80\npage 2 one\ncolumn 1 text height 100 natural 10 set stretch fill 90/65536\nbox b 0 10 0\nend pages 2 boxes 2 floats 1 warnings 0\n",
+        err: b"",
+    },
+    ModeRow {
+        name: "float of plain mode that is too high",
+        words: &["--mode", "plain"],
+        input: b"galley 1\nset textheight 100\nset topskip 10\nset maxdepth 0\nset baselineskip 0\nset bottom flush\nset skipfootins 0\nset footsplittop 10\nset intextsep 0\nset textfloatsep 0\nset floatsep 0\nset fptop 0\nset fpsep 0\nset fpbot 0\nset dbltextfloatsep 0\nbox a 20 0\nfloat F 1 single h 81 par\nbox b 10 0\nend\n",
+        status: 0,
+        out: b"report 1\npage 1 one\ncolumn 1 text height 100 natural 30 set stretch fill 70/65536\nbox a 0 20 0\nbox b 20 10 0\npage 2 one\ncolumn 1 text height 100 natural 81 set stretch fill 19/65536\nfloat F 1 top 0 81\nend pages 2 boxes 2 floats 1 warnings 0\n",
+        err: b"",
+    },
+    ModeRow {
+        name: "two columns in plain mode",
+        words: &["--mode", "plain"],
+        input: b"galley 1\nset textheight 100\nset topskip 10\nset maxdepth 0\nset baselineskip 0\nset bottom flush\nset skipfootins 0\nset footsplittop 10\nset intextsep 0\nset textfloatsep 0\nset floatsep 0\nset fptop 0\nset fpsep 0\nset fpbot 0\nset dbltextfloatsep 0\ntwocolumn\nend\n",
+        status: 12,
+        out: b"",
+        err: b"galley_pages: line 16: not served in this mode\n",
     },
 ];

@@ -3,6 +3,7 @@ use Rattle.tb_top.proofs.FloatRowLemmas.{float_rows}
 use Rattle.tb_top.proofs.ColumnRowLemmas.{column_rows}
 use Rattle.tb_top.proofs.VersionRowLemmas.{version_rows}
 use Rattle.tb_top.proofs.LinesRowLemmas.{lines_rows}
+use Rattle.tb_top.proofs.MakeupRowLemmas.{makeup_rows}
 use Rattle.tb_top.proofs.rows.check_rows.Goals as goal
 
 pub returns-clause-text : goal.returns-clause-text
@@ -19,3 +20,6 @@ returns-clause-versions c = version_rows
 
 pub returns-clause-lines : goal.returns-clause-lines
 returns-clause-lines c = lines_rows
+
+pub returns-clause-makeup : goal.returns-clause-makeup
+returns-clause-makeup c = makeup_rows

@@ -32,3 +32,6 @@ returns-in-Dvi-clause-stands g c = rw (c.in_ok-mode.ensures.asked, c.in-Dvi.is) 
 
 pub returns-in-DviList-clause-stands : goal.returns-in-DviList-clause-stands
 returns-in-DviList-clause-stands g c = rw (c.in_ok-mode.ensures.asked, c.in-DviList.is) c.write_listing.ensures.stands
+
+pub returns-in-Plain-clause-stands : goal.returns-in-Plain-clause-stands
+returns-in-Plain-clause-stands g c = rw (c.in_ok-mode.ensures.asked, c.in-Plain.is) c.write_makeup.ensures.stands

@@ -1,0 +1,21 @@
+-- Worked rows of plain mode. The checker computes them from the definitions.
+use Rattle.std.proofs.Common.{refl}
+use Rattle.std.specs.Fmt.{digits}
+use Rattle.tb_scaled.specs.Scaled.{badness_of}
+use Rattle.tb_param.specs.Defaults.{default_params}
+use Rattle.tb_param.specs.Table.{row_of}
+use Rattle.tb_galley.specs.Words.{word_of}
+use Rattle.tb_galley.specs.Grammar.{grammar}
+use Rattle.tb_break.specs.Cost.{page_badness, cost_of_badness}
+use Rattle.tb_plain.specs.Expand.{made_up}
+use Rattle.tb_plain.specs.Run.{makeup_of, makeup_from, makeup_step}
+use Rattle.tb_plain.specs.Report.{makeup_report}
+use Rattle.tb_top.specs.MakeupRows.{MakeupRows}
+
+pub makeup_rows : MakeupRows
+unfolding grammar row_of word_of makeup_report makeup_of makeup_from makeup_step made_up default_params digits page_badness cost_of_badness badness_of
+makeup_rows = record {
+  float_fits = record { answered = refl; written = refl; told = refl };
+  float_goes_to_the_top = record { answered = refl; written = refl; told = refl };
+  two_columns = record { answered = refl; written = refl; told = refl };
+}

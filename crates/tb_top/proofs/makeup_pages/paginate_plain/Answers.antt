@@ -1,0 +1,206 @@
+use Rattle.std.proofs.Common.{◌∙◌, ◌+◌, ◌≤◌, refl, ap, sym, subst, ◌≡◌, ◌<◌, ℕ, List, [], Option, None, Err, arith}
+use Rattle.std.specs.Prelude.{IfNone, IfErr, Result}
+use Rattle.std.proofs.lemmas.Result.{err_from_is_err_and, IfErr-weaker, IfOk-weaker}
+use Rattle.std.specs.Io.KnownBytes.{Appends}
+use Rattle.tb_io.specs.Held.{AppendsPrefix}
+use Rattle.tb_io.proofs.Appended.{prefix_whole}
+use Rattle.tb_param.specs.declared.Params.{Params}
+use Rattle.tb_report.specs.Totals.{AreCounts}
+use Rattle.tb_builder.specs.Contents.{Contents, box_count}
+use Rattle.tb_run.specs.Happened.{events_of}
+use Rattle.tb_run.specs.Turning.{ArePages}
+use Rattle.tb_plain.specs.declared.Plain.{Plain}
+use Rattle.tb_plain.specs.Run.{makeup_of}
+use Rattle.tb_makeup.specs.declared.running.Makeup.{Makeup}
+use Rattle.tb_makeup.specs.declared.running.MakeupEnding.{MakeupEnding}
+use Rattle.tb_makeup.specs.Turning.{state_of, turns_left, GoesTo, AreHappened}
+use Rattle.tb_top.specs.declared.makeup_pages.PlainRunFault.{PlainRunFault}
+use Rattle.tb_top.specs.declared.makeup_pages.PlainRunFault.TheVariants as faults
+use Rattle.tb_top.specs.MakeupLaws.{MakesUpOnce}
+use Rattle.tb_top.specs.MakeupPages.{MakesPages}
+use Rattle.tb_top.specs.Report.{all_lines, traced_lines}
+use Rattle.tb_top.specs.Written.{viewed, with_events}
+use Rattle.tb_top.proofs.MakeupClosing.{ended-done, refuses-cut, ends-well, stops-with, stops-cause, stops-shown}
+use Rattle.tb_top.proofs.MakeupGoing.{prefix-now, prefix-first, start-closing, start-going, turn-cut, turn-closing, turn-fewer, turn-counts, turn-going}
+use Rattle.tb_top.proofs.MakeupOnce.{makes-up-once}
+use Rattle.tb_top.proofs.MakeupStarts.{makeup-params, makeup-items, makeup-nodes, makeup-room}
+use Rattle.tb_top.proofs.MakeupTotals.{makeup-few}
+use Rattle.tb_top.proofs.RunParams.{few-firings}
+use Rattle.tb_top.proofs.makeup_pages.paginate_plain.Goals as goal
+
+none-at : {A : Type 0} (o : Option MakeupEnding) → o ≡ None → IfNone o A → A
+none-at {A} o none h = subst (λ x. IfNone x A) none h
+
+err-at : {T : Type 0} (r : Result T PlainRunFault) (P : PlainRunFault → Type 0) (f : PlainRunFault) → IfErr r P → r ≡ Err f → P f
+err-at r P f h is = subst (λ x. IfErr x P) is h
+
+pub new-requires-clause-params : goal.new-requires-clause-params
+new-requires-clause-params g c = makeup-params c.args.galley.now.params c.requires.valid.params
+
+pub new-requires-clause-items : goal.new-requires-clause-items
+new-requires-clause-items g c = makeup-items c.args.galley.now c.requires.valid c.requires.suited
+
+pub new-requires-clause-nodes : goal.new-requires-clause-nodes
+new-requires-clause-nodes g c = makeup-nodes c.args.galley.now c.requires.valid c.requires.suited
+
+pub new-requires-clause-few : goal.new-requires-clause-few
+new-requires-clause-few g c = makeup-room c.args.galley.now c.requires.valid c.requires.suited
+
+pub node_limit-requires-clause-sound : goal.node_limit-requires-clause-sound
+node_limit-requires-clause-sound g c = c.in_ok-makeup.ensures.ready.sound
+
+pub node_limit-requires-clause-few : goal.node_limit-requires-clause-few
+node_limit-requires-clause-few g c = let few = c.in_ok-makeup.ensures.ready.nodes.few in omega (arith, few)
+
+pub node_limit-requires-clause-void : goal.node_limit-requires-clause-void
+node_limit-requires-clause-void g c = ap (λ (h : Contents). box_count h.boxes) c.in_ok-makeup.ensures.ready.holds
+
+pub returns-in_err-show-clause-refused : goal.returns-in_err-show-clause-refused
+returns-in_err-show-clause-refused g c =
+    let p = err_from_is_err_and c.from_residual.result c.from_residual.ensures.1 in
+    rw (p.1, p.2) (refuses-cut c.args.view (makeup_of c.args.galley.now) _ _ _ _ _ c.in_err-show.ensures.cause (prefix-first c.args.view c.args.galley.now _ _ c.in_err-show.ensures.part))
+
+pub returns-in_err-makeup-clause-refused : goal.returns-in_err-makeup-clause-refused
+returns-in_err-makeup-clause-refused g c =
+    let p = err_from_is_err_and c.from_residual-in_err-makeup.result c.from_residual-in_err-makeup.ensures.1 in
+    rw (p.1, p.2) (prefix-first c.args.view c.args.galley.now _ _ (prefix_whole _ _ _ c.in_ok-show.ensures.whole))
+
+-- ---- more nodes wait at the start than may be
+
+pub returns-in-Some-clause-done : goal.returns-in-Some-clause-done
+returns-in-Some-clause-done g c =
+    let r = c.in_ok-makeup.makeup in
+    let closing = start-closing c.args.view c.args.galley.now r _ _ c.new-totals.result c.node_limit.result c.in_ok-makeup.ensures.state c.in_ok-makeup.ensures.params c.in_ok-makeup.ensures.ready.limit c.in_ok-show.ensures.whole c.new-totals.ensures c.node_limit.ensures c.in-Some.ending c.in-Some.is in
+    IfOk-weaker c.finish.result _ _ (λ u h. ends-well c.args.view c.new-totals.result (makeup_of c.args.galley.now) _ _ _ c.in-Some.ending u closing h) c.finish.ensures.done
+
+pub returns-in-Some-clause-laws : goal.returns-in-Some-clause-laws
+returns-in-Some-clause-laws g c =
+    let r = c.in_ok-makeup.makeup in
+    let closing = start-closing c.args.view c.args.galley.now r _ _ c.new-totals.result c.node_limit.result c.in_ok-makeup.ensures.state c.in_ok-makeup.ensures.params c.in_ok-makeup.ensures.ready.limit c.in_ok-show.ensures.whole c.new-totals.ensures c.node_limit.ensures c.in-Some.ending c.in-Some.is in
+    IfOk-weaker c.finish.result _ (λ _. MakesUpOnce c.args.galley.now (makeup_of c.args.galley.now))
+    (λ u h. makes-up-once c.args.galley.now c.requires.valid c.requires.suited (ended-done (makeup_of c.args.galley.now).end (ends-well c.args.view c.new-totals.result (makeup_of c.args.galley.now) _ _ _ c.in-Some.ending u closing h).ended)) c.finish.ensures.done
+
+pub returns-in-Some-clause-refused : goal.returns-in-Some-clause-refused
+returns-in-Some-clause-refused g c =
+    let r = c.in_ok-makeup.makeup in
+    let closing = start-closing c.args.view c.args.galley.now r _ _ c.new-totals.result c.node_limit.result c.in_ok-makeup.ensures.state c.in_ok-makeup.ensures.params c.in_ok-makeup.ensures.ready.limit c.in_ok-show.ensures.whole c.new-totals.ensures c.node_limit.ensures c.in-Some.ending c.in-Some.is in
+    IfErr-weaker c.finish.result _ _ (λ f h. stops-with c.args.view c.new-totals.result (makeup_of c.args.galley.now) _ _ _ c.in-Some.ending _ _ f closing h) c.finish.ensures.refused
+
+pub returns-in-Some-clause-cause : goal.returns-in-Some-clause-cause
+returns-in-Some-clause-cause g c = λ is. stops-cause c.args.view c.new-totals.result c.in-Some.ending _ _ _ _ _ c.in_ok-show.ensures.later (err-at c.finish.result _ faults.WriteFault c.finish.ensures.refused is)
+
+pub returns-in-Some-clause-silent : goal.returns-in-Some-clause-silent
+returns-in-Some-clause-silent g c = λ silent is. stops-shown c.args.view c.new-totals.result c.in-Some.ending _ _ _ _ silent (err-at c.finish.result _ faults.WriteFault c.finish.ensures.refused is)
+
+pub page-init : goal.page-init
+page-init g c = record {
+  ready = c.in_ok-makeup.ensures.ready;
+  params = c.in_ok-makeup.ensures.params;
+  going = start-going c.args.view c.args.galley.now c.in_ok-makeup.makeup _ _ c.new-totals.result c.node_limit.result c.in_ok-makeup.ensures.state c.in_ok-makeup.ensures.params c.in_ok-makeup.ensures.ready.limit c.in_ok-show.ensures.whole c.new-totals.ensures c.node_limit.ensures c.in_default.is;
+  later = c.in_ok-show.ensures.later;
+}
+
+-- ---- a turn
+
+pub returns-in_err-ending-clause-refused : goal.returns-in_err-ending-clause-refused
+returns-in_err-ending-clause-refused g c =
+    let p = err_from_is_err_and c.from_residual-in_err-ending.result c.from_residual-in_err-ending.ensures.1 in
+    rw (p.1, p.2) (prefix-now c.args.galley.now.params c.args.view (state_of c.page.makeup) _ _ c.page.totals (makeup_of c.args.galley.now) c.page.invariant.going)
+
+pub send-requires-clause-pages : goal.send-requires-clause-pages
+send-requires-clause-pages g c = subst (λ hs. ArePages c.turn.new.self.store hs) (sym c.deref.ensures.value) c.in_ok-ending.ensures.pages
+
+-- where the makeup goes, by the galley's parameters
+module _ (p : Params) where
+  goes-at : (r q : Makeup) (es : List _) (o : Option MakeupEnding) → r.plain.params ≡ p → GoesTo q o r.plain.params es (state_of r) → GoesTo q o p es (state_of r)
+  goes-at r q es o is h = subst (λ (x : Params). GoesTo q o x es (state_of r)) is h
+
+pub send-requires-clause-room : goal.send-requires-clause-room
+send-requires-clause-room g c =
+    let turned = c.in_ok-ending.ensures.turned in
+    let p = c.args.galley.now.params in
+    let goes = goes-at p c.page.makeup c.turn.new.self turned.es c.in_ok-ending.ending c.page.invariant.params turned.goes in
+    subst (λ hs. AreCounts (with_events (events_of c.turn.new.self.store hs) c.page.totals)) (sym c.deref.ensures.value)
+    (turn-counts p c.args.view (state_of c.page.makeup) _ _ c.page.totals (makeup_of c.args.galley.now) c.page.invariant.going c.turn.new.self c.turn.new.happened.items c.in_ok-ending.ending turned.es turned.events goes c.in_ok-ending.ensures.pages
+    (few-firings p c.requires.valid.params).pages (makeup-few c.args.galley.now))
+
+pub returns-in_err-send-clause-refused : goal.returns-in_err-send-clause-refused
+returns-in_err-send-clause-refused g c =
+    let turned = c.in_ok-ending.ensures.turned in
+    let params = c.args.galley.now.params in
+    let goes = goes-at params c.page.makeup c.turn.new.self turned.es c.in_ok-ending.ending c.page.invariant.params turned.goes in
+    let p = err_from_is_err_and c.from_residual-in_err-send.result c.from_residual-in_err-send.ensures.1 in
+    let part = subst (λ hs. AppendsPrefix (g.K.Sink.held c.page.out) (g.K.Sink.held c.send.new.out) (viewed c.args.view (all_lines traced_lines (events_of c.turn.new.self.store hs)))) c.deref.ensures.value c.in_err-send.ensures.shown.part in
+    rw (p.1, p.2)
+    (refuses-cut c.args.view (makeup_of c.args.galley.now) _ _ _ _ _ c.in_err-send.ensures.shown.cause
+    (turn-cut params c.args.view (state_of c.page.makeup) _ _ c.page.totals (makeup_of c.args.galley.now) c.page.invariant.going c.turn.new.self c.turn.new.happened.items c.in_ok-ending.ending turned.es turned.events goes _ part))
+
+pub returns-in-Some-ending-clause-done : goal.returns-in-Some-ending-clause-done
+returns-in-Some-ending-clause-done g c =
+    let turned = c.in_ok-ending.ensures.turned in
+    let params = c.args.galley.now.params in
+    let goes = goes-at params c.page.makeup c.turn.new.self turned.es c.in_ok-ending.ending c.page.invariant.params turned.goes in
+    let whole = subst (λ hs. Appends (g.K.Sink.held c.page.out) (g.K.Sink.held c.send.new.out) (viewed c.args.view (all_lines traced_lines (events_of c.turn.new.self.store hs)))) c.deref.ensures.value c.in_ok-send.ensures.shown.whole in
+    let counted = c.in_ok-send.ensures.counted ∙ ap (λ hs. with_events (events_of c.turn.new.self.store hs) c.page.totals) c.deref.ensures.value in
+    let closing = turn-closing params c.args.view (state_of c.page.makeup) _ _ c.page.totals (makeup_of c.args.galley.now) c.page.invariant.going c.turn.new.self c.turn.new.happened.items c.in_ok-ending.ending turned.es turned.events goes _ c.send.new.totals c.in-Some-ending.ending c.in-Some-ending.is whole counted in
+    IfOk-weaker c.finish-in-Some-ending.result _ _ (λ u h. ends-well c.args.view c.send.new.totals (makeup_of c.args.galley.now) _ _ _ c.in-Some-ending.ending u closing h) c.finish-in-Some-ending.ensures.done
+
+pub returns-in-Some-ending-clause-laws : goal.returns-in-Some-ending-clause-laws
+returns-in-Some-ending-clause-laws g c =
+    let turned = c.in_ok-ending.ensures.turned in
+    let params = c.args.galley.now.params in
+    let goes = goes-at params c.page.makeup c.turn.new.self turned.es c.in_ok-ending.ending c.page.invariant.params turned.goes in
+    let whole = subst (λ hs. Appends (g.K.Sink.held c.page.out) (g.K.Sink.held c.send.new.out) (viewed c.args.view (all_lines traced_lines (events_of c.turn.new.self.store hs)))) c.deref.ensures.value c.in_ok-send.ensures.shown.whole in
+    let counted = c.in_ok-send.ensures.counted ∙ ap (λ hs. with_events (events_of c.turn.new.self.store hs) c.page.totals) c.deref.ensures.value in
+    let closing = turn-closing params c.args.view (state_of c.page.makeup) _ _ c.page.totals (makeup_of c.args.galley.now) c.page.invariant.going c.turn.new.self c.turn.new.happened.items c.in_ok-ending.ending turned.es turned.events goes _ c.send.new.totals c.in-Some-ending.ending c.in-Some-ending.is whole counted in
+    IfOk-weaker c.finish-in-Some-ending.result _ (λ _. MakesUpOnce c.args.galley.now (makeup_of c.args.galley.now))
+    (λ u h. makes-up-once c.args.galley.now c.requires.valid c.requires.suited (ended-done (makeup_of c.args.galley.now).end (ends-well c.args.view c.send.new.totals (makeup_of c.args.galley.now) _ _ _ c.in-Some-ending.ending u closing h).ended)) c.finish-in-Some-ending.ensures.done
+
+pub returns-in-Some-ending-clause-refused : goal.returns-in-Some-ending-clause-refused
+returns-in-Some-ending-clause-refused g c =
+    let turned = c.in_ok-ending.ensures.turned in
+    let params = c.args.galley.now.params in
+    let goes = goes-at params c.page.makeup c.turn.new.self turned.es c.in_ok-ending.ending c.page.invariant.params turned.goes in
+    let whole = subst (λ hs. Appends (g.K.Sink.held c.page.out) (g.K.Sink.held c.send.new.out) (viewed c.args.view (all_lines traced_lines (events_of c.turn.new.self.store hs)))) c.deref.ensures.value c.in_ok-send.ensures.shown.whole in
+    let counted = c.in_ok-send.ensures.counted ∙ ap (λ hs. with_events (events_of c.turn.new.self.store hs) c.page.totals) c.deref.ensures.value in
+    let closing = turn-closing params c.args.view (state_of c.page.makeup) _ _ c.page.totals (makeup_of c.args.galley.now) c.page.invariant.going c.turn.new.self c.turn.new.happened.items c.in_ok-ending.ending turned.es turned.events goes _ c.send.new.totals c.in-Some-ending.ending c.in-Some-ending.is whole counted in
+    IfErr-weaker c.finish-in-Some-ending.result _ _ (λ f h. stops-with c.args.view c.send.new.totals (makeup_of c.args.galley.now) _ _ _ c.in-Some-ending.ending _ _ f closing h) c.finish-in-Some-ending.ensures.refused
+
+pub returns-in-Some-ending-clause-cause : goal.returns-in-Some-ending-clause-cause
+returns-in-Some-ending-clause-cause g c = λ is.
+    let start = c.page.invariant.later in
+    let later = c.in_ok-send.ensures.shown.later in
+    stops-cause c.args.view c.send.new.totals c.in-Some-ending.ending _ _ _ _ _ (omega (arith, start, later)) (err-at c.finish-in-Some-ending.result _ faults.WriteFault c.finish-in-Some-ending.ensures.refused is)
+
+pub returns-in-Some-ending-clause-silent : goal.returns-in-Some-ending-clause-silent
+returns-in-Some-ending-clause-silent g c = λ silent is. stops-shown c.args.view c.send.new.totals c.in-Some-ending.ending _ _ _ _ silent (err-at c.finish-in-Some-ending.result _ faults.WriteFault c.finish-in-Some-ending.ensures.refused is)
+
+pub done_with-requires-clause-ready : goal.done_with-requires-clause-ready
+done_with-requires-clause-ready g c = none-at c.in_ok-ending.ending c.in_default-ending.is c.in_ok-ending.ensures.ready
+
+pub done_with-requires-clause-lists : goal.done_with-requires-clause-lists
+done_with-requires-clause-lists g c = subst (AreHappened c.turn.new.self) (sym c.deref-in-page.ensures.value) (none-at c.in_ok-ending.ending c.in_default-ending.is c.in_ok-ending.ensures.lists)
+
+pub page-smaller : goal.page-smaller
+page-smaller g c =
+    let turned = c.in_ok-ending.ensures.turned in
+    let params = c.args.galley.now.params in
+    let goes = goes-at params c.page.makeup c.turn.new.self turned.es c.in_ok-ending.ending c.page.invariant.params turned.goes in
+    let fewer = turn-fewer params c.args.view (state_of c.page.makeup) _ _ c.page.totals (makeup_of c.args.galley.now) c.page.invariant.going c.turn.new.self c.turn.new.happened.items c.in_ok-ending.ending turned.es turned.events goes c.in_default-ending.is in
+    subst (λ s. turns_left c.args.galley.now.params s < turns_left c.args.galley.now.params (state_of c.page.makeup)) (sym c.done_with.ensures.state) fewer
+
+pub page-preserved : goal.page-preserved
+page-preserved g c =
+    let turned = c.in_ok-ending.ensures.turned in
+    let params = c.args.galley.now.params in
+    let goes = goes-at params c.page.makeup c.turn.new.self turned.es c.in_ok-ending.ending c.page.invariant.params turned.goes in
+    let whole = subst (λ hs. Appends (g.K.Sink.held c.page.out) (g.K.Sink.held c.send.new.out) (viewed c.args.view (all_lines traced_lines (events_of c.turn.new.self.store hs)))) c.deref.ensures.value c.in_ok-send.ensures.shown.whole in
+    let counted = c.in_ok-send.ensures.counted ∙ ap (λ hs. with_events (events_of c.turn.new.self.store hs) c.page.totals) c.deref.ensures.value in
+    let start = c.page.invariant.later in
+    let later = c.in_ok-send.ensures.shown.later in
+    record {
+      ready = c.done_with.ensures.ready;
+      params = ap (λ (m : Plain). m.params) c.done_with.ensures.plain ∙ c.in_ok-ending.ensures.params ∙ c.page.invariant.params;
+      going = turn-going params c.args.view (state_of c.page.makeup) _ _ c.page.totals (makeup_of c.args.galley.now) c.page.invariant.going c.turn.new.self c.turn.new.happened.items c.in_ok-ending.ending turned.es turned.events goes c.in_ok-ending.ensures.pages _ c.send.new.totals (state_of c.done_with.new.self) c.done_with.ensures.state c.in_default-ending.is whole counted;
+      later = omega (arith, start, later);
+    }

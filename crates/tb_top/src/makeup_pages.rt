@@ -1,0 +1,163 @@
+//! From a galley to the text of its run under plain TeX's page makeup.
+
+ghost use Rattle.std.specs.Prelude.{◌≡◌, ◌≢◌, ◌≤◌, [], Err, OnOk, IfOk, IfErr};
+ghost use Rattle.tb_io.specs.Faults.{Rose};
+ghost use Rattle.tb_galley.specs.Valid.{IsValid};
+ghost use Rattle.tb_report.specs.Lines.{end_lines};
+ghost use Rattle.tb_report.specs.Totals.{AreCounts};
+ghost use Rattle.tb_plain.specs.Run.{makeup_of};
+ghost use Rattle.tb_plain.specs.Suited.{IsSuited};
+ghost use Rattle.tb_run.specs.Happened.{events_of};
+ghost use Rattle.tb_run.specs.Turning.{ArePages};
+ghost use Rattle.tb_top.specs.MakeupLaws.{MakesUpOnce};
+ghost use Rattle.tb_top.specs.MakeupPages.{MakesPages, RefusesPages};
+ghost use Rattle.tb_top.specs.MakeupWritten.{Shows, EndsWell, StopsWith};
+ghost use Rattle.tb_top.specs.Report.{traced_lines, all_lines};
+ghost use Rattle.tb_top.specs.Written.{with_events};
+
+use crate::View;
+use crate::pages::{count_happened, put_happened};
+use std::alloc::{AllocError, Global};
+use tb_galley::Galley;
+use tb_io::{Sink, SinkFault, write_all};
+use tb_makeup::{Makeup, MakeupEnding};
+use tb_node::Node;
+use tb_pool::Lists;
+use tb_report::{HEADER, Totals, end_line, put_total};
+use tb_run::Happening;
+
+/// Why a run under plain TeX's page makeup or its writing stopped.
+#[derive(Clone, Copy, Debug, PartialEq, Eq)]
+pub enum PlainRunFault {
+    /// A page was to be shipped after so many pages.
+    PageLimit { pages: u64 },
+    /// More nodes than `maxnodes` waited: so many.
+    NodeLimit { count: u64 },
+    /// The sink failed.
+    WriteFault,
+    /// There was no memory.
+    Memory,
+}
+
+impl From<AllocError> for PlainRunFault {
+    ghost use Rattle.tb_top.specs.declared.makeup_pages.PlainRunFault.TheVariants.{Memory};
+
+    ghost from_gives = { λ _ e. e ≡ Memory };
+
+    fn from(_: AllocError) -> Self {
+        PlainRunFault::Memory
+    }
+}
+
+/// Makes the pages of a galley by plain TeX's page makeup and writes what a view shows of the run, page by page: the report,
+/// or nothing. No places that were tried are shown. Returns what was shipped.
+///
+/// The run ends well if nothing waits any more and the page is empty, or is refused: too many pages would be shipped
+/// (`PageLimit`), or too many nodes wait at the start or after a firing (`NodeLimit`). Its text up to there is written then.
+/// A run that ended well has shipped each box, rule and float of the galley once, the boxes and rules of the text in their
+/// order, and the totals show it. After `WriteFault`, which comes only if `out` failed and never at a silent view, and after
+/// `Memory` a prefix of the run's text is written.
+pub fn paginate_plain<K: Sink>(
+    alloc: Global,
+    galley: &Galley,
+    view: View,
+    out: &mut K,
+) -> Result<Totals, PlainRunFault>
+    requires valid { IsValid galley.now }
+    requires suited { IsSuited galley.now }
+
+    ensures done { IfOk result (MakesPages view (makeup_of galley.now) (K.held out.old) (K.held out.new)) }
+    ensures laws { OnOk result (MakesUpOnce galley.now (makeup_of galley.now)) }
+    ensures refused { IfErr result (RefusesPages view (makeup_of galley.now) (K.held out.old) (K.held out.new)) }
+
+    ensures cause { result ≡ Err PlainRunFault.WriteFault → Rose (K.faults out.old) (K.faults out.new) }
+    ensures silent { view ≡ View.Silent → result ≢ Err PlainRunFault.WriteFault }
+    ensures later { K.faults out.old ≤ K.faults out.new }
+{
+    show(view, HEADER, out)?;
+    let mut makeup = Makeup::new(alloc, galley)?;
+    let mut totals = Totals::new();
+    let mut happened = Vec::new(alloc);
+    let mut text = Vec::new(alloc);
+    if let Some(ending) = makeup.node_limit() {
+        return finish(alloc, view, &totals, ending, out);
+    }
+    'page: loop {
+        let ending = makeup.turn(&mut happened)?;
+        send(&makeup.store, &happened, view, &mut totals, &mut text, out)?;
+        if let Some(ending) = ending {
+            return finish(alloc, view, &totals, ending, out);
+        }
+        makeup.done_with(&happened);
+    }
+}
+
+// Writes bytes of the report, if the view shows them.
+fn show<K: Sink>(view: View, bytes: &[u8], out: &mut K) -> Result<(), PlainRunFault>
+    ensures { Shows view (K.held out.old) (K.held out.new) (K.faults out.old) (K.faults out.new) bytes.now result }
+{
+    match view {
+        View::Silent => Ok(()),
+        View::Report | View::Trace => match write_all(out, bytes) {
+            Ok(()) => Ok(()),
+            Err(SinkFault::Failed) => Err(PlainRunFault::WriteFault),
+            Err(SinkFault::Memory) => Err(PlainRunFault::Memory),
+        },
+    }
+}
+
+// Counts the page that was sent, and writes its lines, in a text that is used again.
+fn send<K: Sink>(
+    store: &Lists<Node>,
+    happened: &[Happening],
+    view: View,
+    totals: &mut Totals,
+    text: &mut Vec<u8>,
+    out: &mut K,
+) -> Result<(), PlainRunFault>
+    requires pages { ArePages store.now happened.now }
+    requires room { AreCounts (with_events (events_of store.now happened.now) totals.old) }
+    ensures shown { Shows view (K.held out.old) (K.held out.new) (K.faults out.old) (K.faults out.new) (all_lines traced_lines (events_of store.now happened.now)) result }
+    ensures counted { OnOk result (totals.new ≡ with_events (events_of store.now happened.now) totals.old) }
+{
+    count_happened(store, happened, totals);
+    text.clear();
+    put_happened(text, store, happened, view)?;
+    show(view, text.as_slice(), out)
+}
+
+// The line of the totals. Nothing is left of a run that ended well.
+fn end_text(alloc: Global, t: &Totals) -> Result<Vec<u8>, AllocError>
+    ensures { IfOk result (λ text. text.items ≡ end_lines [] t.now) }
+{
+    let mut out = Vec::new(alloc);
+    put_total(&mut out, b"end pages", t.pages)?;
+    put_total(&mut out, b" boxes", t.boxes)?;
+    put_total(&mut out, b" floats", t.floats)?;
+    put_total(&mut out, b" warnings", t.warnings)?;
+    end_line(&mut out)?;
+    Ok(out)
+}
+
+// The end of a run: its last line if it ends well, or its refusal.
+fn finish<K: Sink>(
+    alloc: Global,
+    view: View,
+    totals: &Totals,
+    ending: MakeupEnding,
+    out: &mut K,
+) -> Result<Totals, PlainRunFault>
+    ensures done { IfOk result (EndsWell view totals.now ending (K.held out.old) (K.held out.new)) }
+    ensures refused { IfErr result (StopsWith view totals.now ending (K.held out.old) (K.held out.new) (K.faults out.old) (K.faults out.new)) }
+    ensures later { K.faults out.old ≤ K.faults out.new }
+{
+    match ending {
+        MakeupEnding::Done => {
+            let text = end_text(alloc, totals)?;
+            show(view, &text, out)?;
+            Ok(*totals)
+        }
+        MakeupEnding::PageLimit { pages } => Err(PlainRunFault::PageLimit { pages }),
+        MakeupEnding::NodeLimit { count } => Err(PlainRunFault::NodeLimit { count }),
+    }
+}
