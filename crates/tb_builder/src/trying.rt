@@ -21,6 +21,7 @@ use tb_break::{Offer, is_lasting, new_scan};
 use tb_insert::{Class, new_account};
 use tb_node::{Insertion, Node, Sums};
 use tb_pool::Lists;
+use tb_scaled::{AWFUL_BAD, EJECT_PENALTY};
 
 /// The course of a page of marks, notes and whatsits, whose goal and depth limit (sp) are frozen now.
 pub fn started(goal: i64, max_depth: i64, lasting: bool) -> Course
@@ -55,7 +56,7 @@ fn made_try(line: u32, sums: Sums, goal: i64, offer: Offer, penalty: i64) -> Try
 pub fn stops(t: &Try) -> bool
     ensures { result ≡ (int_le awful_bad t.now.cost || int_le t.now.penalty (negsuc 9999)) }
 {
-    t.cost >= 1073741823 || t.penalty <= -10000
+    t.cost >= AWFUL_BAD || t.penalty <= EJECT_PENALTY
 }
 
 impl Course {
