@@ -1,6 +1,9 @@
 //! Values moved between lists.
 
-use crate::Lists;
+ghost use Rattle.std.specs.Prelude.{◌≢◌, ◌<◌, length};
+ghost use Rattle.tb_pool.specs.Lists.{IsLive, list_at};
+
+use crate::{ListId, Lists};
 use std::test::Fail;
 
 #[tactic(auto, using(crate::proofs::MapLemmas::list_steps))]
@@ -28,12 +31,38 @@ fn moves_values_between_lists(rt: HostRuntime) -> Result<(), Fail> {
         sum = sum.wrapping_mul(10).wrapping_add(*v);
     }
     assert_eq!(rt; sum, 45);
-    lists.move_first(b, a);
     assert_eq!(rt; lists.pop_back(b), Some(5));
-    assert_eq!(rt; lists.pop_back(a), Some(4));
+    assert_eq!(rt; lists.pop_back(b), Some(4));
     assert_eq!(rt; lists.pop_back(b), None);
     assert_eq!(rt; lists.pop_front(b), None);
     lists.close(b);
     assert_eq!(rt; lists.spare(), 2);
+    Ok(())
+}
+
+// The first value of a list goes to the end of another.
+fn move_value(lists: &mut Lists<u64>, from: ListId, to: ListId)
+    requires from_live { IsLive lists.old from }
+    requires to_live { IsLive lists.old to }
+    requires apart { from ≢ to }
+    requires some { 0 < length (list_at lists.old from) }
+    ensures from { IsLive lists.new from }
+    ensures to { IsLive lists.new to }
+{
+    lists.move_first(from, to);
+}
+
+#[tactic(auto, using(crate::proofs::MapLemmas::list_steps))]
+#[test]
+fn moves_the_first_value(rt: HostRuntime) -> Result<(), Fail> {
+    let mut lists = Lists::new(rt.alloc());
+    let a = lists.add_list()?;
+    let b = lists.add_list()?;
+    lists.reserve(2)?;
+    lists.push_back(a, 1u64);
+    lists.push_back(a, 2);
+    move_value(&mut lists, a, b);
+    assert_eq!(rt; lists.pop_back(b), Some(1));
+    assert_eq!(rt; lists.pop_back(a), Some(2));
     Ok(())
 }
