@@ -1,2 +1,3 @@
+pub mod LedDigits
 pub mod NameLemmas
 pub mod ValidLemmas

@@ -1,18 +1,18 @@
 //! Generated galleys: large valid inputs, each made from a number.
 #![tactic(auto)]
 
-ghost use Rattle.std.specs.Prelude.{◌≡◌, ◌<◌, ◌≤◌, ◌++◌, decimal, true, IfOk, OnOk};
+ghost use Rattle.std.specs.Prelude.{◌≡◌, ◌<◌, ◌≤◌, true, IfOk};
 ghost use Rattle.tb_param.specs.Defaults.{glue_points};
 ghost use Rattle.tb_node.specs.Names.{is_alphanumeric};
 ghost use Rattle.tb_galley.specs.Valid.{IsValid};
 ghost use Rattle.tb_generator.specs.Generate.{next_seed, letter_number, made_box, made_foot, made_float, made_by, made_item, made_params, generated};
 
+use itoa::write_digits;
 use std::alloc::{AllocError, Global};
 use tb_galley::{Classes, Galley, Item, ItemKind, Items, Leaf, LeafKind, Leaves};
 use tb_node::{FOOTNOTES, Float, Name, Places, name_of};
 use tb_param::{Choice, Params, defaults};
 use tb_scaled::{Glue, Order};
-use tb_text::put_number;
 
 // One point in scaled points.
 const POINT: i64 = 65_536;
@@ -89,7 +89,7 @@ fn made_item(alloc: Global, k: u32, seed: u64) -> Result<ItemKind, AllocError>
     ensures { IfOk result (λ i. i ≡ made_item k seed) }
 {
     if k % 2 == 1 {
-        return made_box(alloc, k);
+        return Ok(made_box(k));
     }
     made_by(alloc, k, seed, seed / 65_536 % 32)
 }
@@ -104,9 +104,9 @@ fn made_by(alloc: Global, k: u32, seed: u64, draw: u64) -> Result<ItemKind, Allo
     } else if draw < 30 {
         made_foot(alloc, k)
     } else if draw == 30 {
-        made_float(alloc, k, 1, TBP, 50 + (seed % 50) as u32)
+        Ok(made_float(k, 1, TBP, 50 + (seed % 50) as u32))
     } else {
-        made_float(alloc, k, 2, HTP, 20 + (seed % 30) as u32)
+        Ok(made_float(k, 2, HTP, 20 + (seed % 30) as u32))
     }
 }
 
@@ -121,15 +121,15 @@ fn glue() -> Glue
     }
 }
 
-fn made_box(alloc: Global, k: u32) -> Result<ItemKind, AllocError>
+fn made_box(k: u32) -> ItemKind
     requires { k ≤ 40000 }
-    ensures { IfOk result (λ i. i ≡ made_box k) }
+    ensures { result ≡ made_box k }
 {
-    Ok(ItemKind::Hbox {
-        name: letter_number(alloc, b'b', k)?,
+    ItemKind::Hbox {
+        name: letter_number(b'b', k),
         height: HEIGHT,
         depth: DEPTH,
-    })
+    }
 }
 
 fn made_foot(alloc: Global, k: u32) -> Result<ItemKind, AllocError>
@@ -137,7 +137,7 @@ fn made_foot(alloc: Global, k: u32) -> Result<ItemKind, AllocError>
     ensures { IfOk result (λ i. i ≡ made_foot k) }
 {
     let mut leaves = Leaves::new(alloc);
-    let name = letter_number(alloc, b'f', k)?;
+    let name = letter_number(b'f', k);
     leaves.push(Leaf {
         line: k,
         kind: LeafKind::Hbox {
@@ -153,49 +153,37 @@ fn made_foot(alloc: Global, k: u32) -> Result<ItemKind, AllocError>
 }
 
 // A float of so many points in height.
-fn made_float(
-    alloc: Global,
-    k: u32,
-    class: u8,
-    places: Places,
-    height: u32,
-) -> Result<ItemKind, AllocError>
+fn made_float(k: u32, class: u8, places: Places, height: u32) -> ItemKind
     requires few { k ≤ 40000 }
     requires low { height ≤ 100 }
-    ensures { IfOk result (λ i. i ≡ made_float k class places height) }
+    ensures { result ≡ made_float k class places height }
 {
     let float = Float {
         line: k,
-        name: letter_number(alloc, b'x', k)?,
+        name: letter_number(b'x', k),
         class,
         wide: false,
         places,
         bang: false,
         height: i64::from(height) * POINT,
     };
-    Ok(ItemKind::Float {
+    ItemKind::Float {
         float,
         vert: class == 2,
-    })
-}
-
-// Puts a number in decimal at the end of a text.
-fn put_decimal(out: &mut Vec<u8>, number: u32) -> Result<(), AllocError>
-    ensures { OnOk result (out.new.items ≡ out.old.items ++ decimal number) }
-{
-    put_number(out, i128::from(number))
+    }
 }
 
 // A letter, and a number after it.
-fn letter_number(alloc: Global, letter: u8, k: u32) -> Result<Name, AllocError>
+fn letter_number(letter: u8, k: u32) -> Name
     requires letter { is_alphanumeric letter ≡ true }
     requires few { k ≤ 40000 }
-    ensures { IfOk result (λ name. name ≡ letter_number letter k) }
+    ensures { result ≡ letter_number letter k }
 {
-    let mut text = Vec::from_slice(alloc, &[letter])?;
-    put_decimal(&mut text, k)?;
-    match name_of(&text) {
-        Some(name) => Ok(name),
+    let mut text = [0; 6];
+    let start = write_digits(u64::from(k), &mut text, 6);
+    text[start - 1] = letter;
+    match name_of(&text[start - 1..]) {
+        Some(name) => name,
         None => unreachable!(),
     }
 }
