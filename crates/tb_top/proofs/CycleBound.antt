@@ -1,4 +1,4 @@
--- A run of a valid galley does not end for its dead cycles, where the limit has room for what its items can bring.
+-- A run of a valid galley does not end for its dead cycles, if the limit has room for what its items can bring.
 use Rattle.std.proofs.Common.{◌≡◌, refl, ap, ℕ, pos, ◌+◌, Bool, true, false, List, [], ◌∷◌, arith, ℤ, ◌≤◌}
 use Rattle.std.specs.Prelude.{◌≤ℤ◌, IsTrue, int_le, int_lt, if◌then◌else◌, ◌<ℤ◌}
 use Rattle.std.proofs.lemmas.Int.{ints}

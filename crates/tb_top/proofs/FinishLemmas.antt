@@ -237,7 +237,7 @@ few-wait r ready =
 few-within : (n : ℕ) (most : ℤ) → pos n ≤ℤ most → most ≤ℤ pos 4194304 → n ≤ 4194304
 few-within n most h k = grind (arith, ints, h, k)
 
--- where no limit is passed, the routine is ready still
+-- if no limit is passed, the routine is ready still
 pub limit-ready : (r q : Routine) (o : Option Ending) → IsReady r → q ≡ record r { most = q.most } → IsBounded 8388608 q → IfNone o (pos q.most ≤ℤ r.machine.params.maxnodes) → o ≡ None → IsReady q
 limit-ready r q o ready same bounded within none =
     subst IsReady (sym same) (again (subst (IsBounded 4194304) same (record { held = bounded.held; few = few-within q.most r.machine.params.maxnodes (none-at o none within) ready.settled.params.maxnodes.high })))

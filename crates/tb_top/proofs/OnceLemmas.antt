@@ -12,11 +12,11 @@ use Rattle.tb_top.proofs.ShippedLines.{AllOut}
 
 -- ---- tests on lists of lines
 
--- how often a line stands in a list
+-- how often a line is in a list
 abbrev pub counted : ℕ → Measure
 counted n = record { of = λ xs. count n xs; nothing = refl; adds = count-append n }
 
--- how often it stands among those that pass a test
+-- how often it is among those that pass a test
 abbrev counted_if : (ℕ → Bool) → ℕ → Measure
 counted_if f n = record { of = λ xs. count n (filter f xs); nothing = refl; adds = λ xs ys. ap (count n) (filter-append f xs ys) ∙ count-append n (filter f xs) (filter f ys) }
 
