@@ -11,6 +11,7 @@ abbrev pub total_in : Option Best → Option ℤ
 total_in None = None
 total_in (Some b) = Some b.total
 
+-- the least demerits up to a break; 0 for the start of the paragraph
 abbrev pub reached : (ℕ → Option Best) → Option ℕ → Option ℤ
 reached table None = Some (pos 0)
 reached table (Some i) = total_in (table i)
@@ -44,6 +45,7 @@ abbrev pub row_in : Option (Option Best) → Option Best
 row_in None = None
 row_in (Some b) = b
 
+-- the row of a break in a table
 abbrev pub row_at : List (Option Best) → ℕ → Option Best
 row_at rows k = row_in (slice_get rows k)
 

@@ -100,6 +100,7 @@ phase_after ls = fold (λ p (l : Line). next_phase p l.word) at_start ls
 abbrev pub count_with : ℕ → Option LineWord → ℕ
 count_with n w = if word_passes counts_word w then n + 1 else n
 
+-- how many lines count, of these
 abbrev pub count_after : List Line → ℕ
 count_after ls = fold (λ n (l : Line). count_with n l.word) 0 ls
 
@@ -115,6 +116,7 @@ inside_with n (Some par) = Some 0
 inside_with n (Some endpar) = None
 inside_with n (Some w) = if is_inner_word w then one_more n else n
 
+-- how many items the open paragraph has after these lines, if one is open
 abbrev pub inside_after : List Line → Option ℕ
 inside_after ls = fold (λ n (l : Line). inside_with n l.word) None ls
 

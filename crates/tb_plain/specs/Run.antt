@@ -167,6 +167,7 @@ one_act (plain m) = 0
 one_act (ins i) = 0
 one_act (act a) = 1
 
+-- how many acts a list has
 abbrev pub act_count : List PlainNode → ℕ
 act_count [] = 0
 act_count (n ∷ ns) = one_act n.kind + act_count ns

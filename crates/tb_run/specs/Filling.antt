@@ -137,11 +137,13 @@ pub record IsDead (n : ℕ) (r q : Routine) : Type 0 where
   pub reached : r.machine.params.maxdeadcycles ≤ℤ pos r.machine.dead_cycles
   pub same : q ≡ r
 
+-- a fault of the firing came exactly when the definition has it
 abbrev pub IsFaultOf : RunFault → Page → Routine → Routine → Type 0
 IsFaultOf (faults.DeadCycles n) page r q = IsDead n r q
 IsFaultOf (faults.PageLimit n) page r q = IsLimited n page r q
 IsFaultOf faults.Memory page r q = ⊥
 
+-- after a page was served the run goes on within its limit, or ends so
 abbrev pub ServesTo : Page → Routine → Option Ending → Routine → Type 0
 ServesTo page r None q = IsServedOn page r q × IsWithinLimit q
 ServesTo page r (Some endings.Done) q = ⊥

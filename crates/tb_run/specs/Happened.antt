@@ -14,6 +14,7 @@ abbrev pub event_of : Lists Node → Happening → RunEvent
 event_of store (happenings.Tried t) = offered t
 event_of store (happenings.Sent e) = sent (sent_shown store e)
 
+-- the events of what happened
 abbrev pub events_of : Lists Node → List Happening → List RunEvent
 events_of store hs = map (event_of store) hs
 
@@ -41,6 +42,7 @@ abbrev pub happening_lists : Happening → List ℕ
 happening_lists (happenings.Tried t) = []
 happening_lists (happenings.Sent e) = sent_lists e
 
+-- all lists of what happened
 abbrev pub happened_lists : List Happening → List ℕ
 happened_lists [] = []
 happened_lists (h ∷ hs) = happening_lists h ++ happened_lists hs

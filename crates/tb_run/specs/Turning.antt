@@ -110,6 +110,7 @@ abbrev pub IsPage : Lists Node → Happening → Type 0
 IsPage store (happenings.Tried t) = Unit {0}
 IsPage store (happenings.Sent e) = IsPageSent store e
 
+-- the lists of all that was sent may be on a page
 abbrev pub ArePages : Lists Node → List Happening → Type 0
 ArePages store hs = AllByRecursion (IsPage store) hs
 

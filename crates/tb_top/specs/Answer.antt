@@ -148,6 +148,7 @@ abbrev pub summary_at : ℕ → Totals → End → List ℕ
 summary_at n t (done left) = summary_line n t
 summary_at n t _ = []
 
+-- the run ends well
 abbrev pub is_done : End → Bool
 is_done (done left) = true
 is_done _ = false

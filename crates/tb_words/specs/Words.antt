@@ -67,6 +67,7 @@ pub record IsCount (n : ℕ) : Type 0 where
   pub some : 1 ≤ n
   pub few : n ≤ 40000
 
+-- the mode is one that the program has, with a count in its range
 abbrev pub IsServed : Mode → Type 0
 IsServed modes.Report = Unit {0}
 IsServed modes.Trace = Unit {0}
