@@ -91,7 +91,7 @@ box_line name k s = codes "box " ++ name ++ codes "." ++ decimal k ++ codes " " 
 abbrev pub penalty_before : LineParams → ℕ → ℕ → List ℕ
 penalty_before ps k count = if k == 1 then [] else penalty_line (penalty_after ps (k - 1) count)
 
--- one line, with what stands between it and the one before it
+-- one line, with what comes between it and the one before it
 abbrev pub one_line : LineParams → List ℕ → ℕ → ℕ → Option ℕ → Size → List ℕ
 one_line ps name count k above s = penalty_before ps k count ++ space_before ps k above s.height ++ box_line name k s
 

@@ -70,7 +70,7 @@ penalty_at es k = penalty_in (slice_get es k)
 abbrev pub is_forced : List Entry → ℕ → Bool
 is_forced es k = int_eq (penalty_at es k) (negsuc 9999)
 
--- without what stands before the first word; without a word nothing is left
+-- without what is before the first word; without a word nothing is left
 abbrev pub from_word : List Entry → List Entry
 from_word [] = []
 from_word (e ∷ es) = if is_word e then e ∷ es else from_word es

@@ -61,6 +61,6 @@ Follows table None (i ∷ js) = ⊥
 Follows table (Some i) [] = ⊥
 Follows table (Some i) (k ∷ js) = (i ≡ k) × ((b : Best) × (table k ≡ Some b) × Follows table b.from js)
 
--- a row that another row names stands before it
+-- a row that another row names is before it
 abbrev pub AreLinked : List (Option Best) → Type 0
 AreLinked rows = (k : ℕ) (b : Best) (i : ℕ) → row_at rows k ≡ Some b → b.from ≡ Some i → (i < k) × ((c : Best) × (row_at rows i ≡ Some c))

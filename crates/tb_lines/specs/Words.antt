@@ -66,7 +66,7 @@ word_passes test (Some w) = test w
 
 -- ---- what the lines before a line say of its place
 
--- what stands in a paragraph
+-- what may come in a paragraph
 abbrev pub is_inner_word : LineWord → Bool
 is_inner_word word = true
 is_inner_word space = true
@@ -83,7 +83,7 @@ abbrev pub later_phase : Phase → Phase → Phase
 later_phase ended next = ended
 later_phase _ next = next
 
--- where a line stands after a line with this word
+-- where a line is after a line with this word
 abbrev pub next_phase : Phase → Option LineWord → Phase
 next_phase p None = p
 next_phase p (Some header) = later_phase p among_sets
@@ -92,7 +92,7 @@ next_phase p (Some endpar) = later_phase p among_pars
 next_phase p (Some end) = ended
 next_phase p (Some _) = p
 
--- where a line stands after these content lines
+-- where a line is after these content lines
 abbrev pub phase_after : List Line → Phase
 phase_after ls = fold (λ p (l : Line). next_phase p l.word) at_start ls
 

@@ -37,7 +37,7 @@ pub record Run : Type 0 where
 
 -- ---- the acts and places of a page
 
--- after the acts and places of a page: the state, the events, the records, and the line and number where the pool was full
+-- after the acts and places of a page: the state, the events, the records, and the line and number at which the pool was full
 pub record Progress : Type 0 where
   pub state : State
   pub events : List RunEvent
@@ -79,7 +79,7 @@ after_firing p es rs w =
     if w.refused then ends events records (page_limit (pred w.state.page))
     else (if int_lt p.maxnodes (pos held) then ends events records (node_limit held) else goes_on events records w.state)
 
--- the firing of a page, where it is allowed
+-- the firing of a page, if it is allowed
 abbrev pub fire : Params → Reach → Progress → Step
 fire p w q =
     let fired = after_firing p q.events q.records (out p q.state (fired_of (ask_of p q.state) q.state.classes q.state.boxes w)) in

@@ -91,7 +91,7 @@ pub record IsServed (ns : List PlainNode) (s : State) : Type 0 where
 
 -- ---- a page that fires
 
--- the same where this page fires: no node of its body is an insertion or an act, and each class has a box
+-- the same when this page fires: no node of its body is an insertion or an act, and each class has a box
 pub record IsServedPage (s : State) (f : Fired) : Type 0 where
   pub body : All IsSizedOnPage f.body
   pub text : AllByRecursion (λ n. IsTextKind n.kind) f.body
