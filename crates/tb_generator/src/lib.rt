@@ -36,7 +36,7 @@ const HTP: Places = Places {
     p: true,
 };
 
-/// The galley of version 1 with `count` items, 1 to 40000. Item k has line k: a box if k is odd, else glue, a footnote
+/// The galley of version 1 with `n` items, 1 to 40000. Item k has line k: a box if k is odd, else glue, a footnote
 /// or a float, by a sequence of numbers that begins with `n`.
 ///
 /// It fails only if memory runs out.
