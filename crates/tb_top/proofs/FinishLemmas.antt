@@ -77,7 +77,7 @@ no-write (endings.Fault refused.Memory) h = cc
 no-write (endings.NodeLimit n) h = cc
 
 module _ (v : View) (r : Routine) (t : Totals) (e : Ending) (old new : Option (List ℕ)) (before now : ℕ) where
-  -- it comes where the sink's faults rose
+  -- it comes only if the sink's faults rose
   pub stops-cause : (start : ℕ) → start ≤ before → StopsWith v r t e old new before now faults.WriteFault → Rose start now
   stops-cause start le (inl h) = absurd (no-write e h.0)
   stops-cause start le (inr h) = fault-rose v before now start faults.WriteFault h.1 le refl

@@ -1,4 +1,4 @@
--- What is known of the page that fires where the top skip is higher than a page: before a clear it breaks at its top glue, if a mark, note or whatsit comes first.
+-- What is known of the page that fires if the top skip is higher than a page: before a clear it breaks at its top glue, if a mark, note or whatsit comes first.
 use Rattle.std.proofs.Common.{◌≡◌, refl, sym, ◌∙◌, ap, subst, ℕ, zero, suc, ℤ, pos, ◌+◌, ◌≤◌, Bool, true, false, List, [], ◌∷◌, ◌++◌, take, drop, length, arith}
 use Rattle.std.specs.Prelude.{◌≤ℤ◌, ◌<ℤ◌}
 use Rattle.std.proofs.lemmas.Int.{ints}

@@ -55,7 +55,7 @@ clear-frees b s rest q h k r = at-clear (b ≡ false) (BreakStands b s rest) q h
 
 -- ---- acts
 
--- the floats in the text, where quiet records are added
+-- the floats in the text, when quiet records are added
 text_quietly : (k : FloatKind) (rs more : List Recorded) (before : List ℕ) (l : FloatLists) (column : Option PlainColumn) (text : List ℕ) → AreQuiet more → AreInText k rs before l column text → AreInText k (rs ++ more) before l column text
 text_quietly k rs more before l column text q h = all-map (IsInText k rs (float_lines k l.top) (float_lines k l.here) (ahead_lines k before l column)) (IsInText k (rs ++ more) (float_lines k l.top) (float_lines k l.here) (ahead_lines k before l column)) (λ n x. record {
   placed = placed-more k n rs more x.placed;
