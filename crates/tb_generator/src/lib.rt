@@ -152,7 +152,7 @@ fn made_foot(alloc: Global, k: u32) -> Result<ItemKind, AllocError>
     })
 }
 
-// A float of this height in points.
+// A float of so many points in height.
 fn made_float(
     alloc: Global,
     k: u32,
