@@ -1,7 +1,7 @@
 #!/usr/bin/env bash
 # Runs the program on the inputs of make_inputs.py and prints a table: the instructions (by valgrind), what a program without
-# proofs takes, the most memory, and how many times the instructions of half the input the whole takes. The program is proved
-# and built by LLVM first.
+# proofs takes, the most memory (by GNU time), and how many times the instructions of half the input the whole takes. The
+# program is proved and built by LLVM first.
 # bench/run.sh            all inputs
 # bench/run.sh text       one of them as a report, with the functions that cost most
 set -eu
@@ -21,13 +21,12 @@ million() {
   awk '/refs:/ {gsub(",", "", $NF); printf "%.1f", $NF / 1e6}' "$work/log"
 }
 
-# memory INPUT WORDS..: the most memory of a run, in MB
+# memory INPUT WORDS..: the most memory of a run, in MB, by GNU time
 memory() {
-  python3 - "$@" <<'PY'
-import resource, subprocess, sys
-subprocess.run([sys.argv[2]] + sys.argv[3:], stdin=open(sys.argv[1]), stdout=subprocess.DEVNULL, stderr=subprocess.DEVNULL)
-print(f"{resource.getrusage(resource.RUSAGE_CHILDREN).ru_maxrss / 1024:.1f}")
-PY
+  local input=$1
+  shift
+  /usr/bin/time -f %M -o "$work/memory" "$@" < "$input" > "$work/out" 2> "$work/log" || true
+  awk '{printf "%.1f", $1 / 1024}' "$work/memory"
 }
 
 # row LABEL WITHOUT_PROOFS INPUT HALF WORDS..: a line of the table; a dash for no half

@@ -36,10 +36,10 @@ const HTP: Places = Places {
     p: true,
 };
 
-/// The galley of version 1 with so many items, 1 to 40000. Item k has line k: a box where k is odd, else glue, a footnote
+/// The galley of version 1 with `n` items, 1 to 40000. Item k has line k: a box if k is odd, else glue, a footnote
 /// or a float, by a sequence of numbers that begins with `n`.
 ///
-/// It fails only where there is no memory.
+/// It fails only if memory runs out.
 pub fn generate(alloc: Global, n: u32) -> Result<Galley, AllocError>
     requires some { 1 ≤ n }
     requires few { n ≤ 40000 }

@@ -62,7 +62,7 @@ solution_least : (ps : LineParams) (items : List Item) (o : Option (List ℕ × 
 solution_least ps items None h = h
 solution_least ps items (Some w) h = subst (λ js. IsLeast ps (list_of items) js w.1) (sym (reverse-reverse w.0)) h
 
--- what the function gives is LINES, or no way is feasible
+-- what the function gives is the least solution, or no way is feasible
 pub least_is : (ps : LineParams) (items : List Item) → MatchOption (least_of ps items) (HasNone ps (list_of items)) (λ s. IsLeastOf ps items s)
 unfolding least_of
 least_is ps items =
@@ -71,7 +71,7 @@ least_is ps items =
     solution_least ps items (first_least ps es (ways_before es (length es)))
     (first_least_is ps es last.0 (first_least ps es (ways_before es (length es))) last.1 last.2 (first_is ps es (ways_before es (length es)) (ways_descend es (length es))))
 
--- ---- LINES is one
+-- ---- there is one least solution
 
 or_false : (a b : Bool) → (a || b) ≡ false → (a ≡ false) × (b ≡ false)
 or_false true b h = absurd (true≢false h)
@@ -114,7 +114,7 @@ by_both ps items None (Some t) h k = absurd (h (reverse t.breaks) t.total k.solu
 by_both ps items (Some s) None h k = absurd (k (reverse s.breaks) s.total h.solution h.sum)
 by_both ps items (Some s) (Some t) h k = let r = least_one ps (list_of items) (reverse s.breaks) (reverse t.breaks) s.total t.total h k in ap Some (same_solution s t r.0 r.1)
 
--- whoever gives LINES gives what the function gives
+-- a least solution is what the function gives
 pub least_exact : (ps : LineParams) (items : List Item) (o : Option SolutionView) → MatchOption o (HasNone ps (list_of items)) (λ s. IsLeastOf ps items s) → o ≡ least_of ps items
 least_exact ps items o h = by_both ps items o (least_of ps items) h (least_is ps items)
 

@@ -71,7 +71,7 @@ take_part [] (suc a) (suc j) le = refl
 take_part (e ∷ es) (suc a) zero le = absurd (omega arith)
 take_part (e ∷ es) (suc a) (suc j) le = ap (λ ys. e ∷ ys) (take_part es a j (omega arith))
 
--- a line before break j is what stands after its start
+-- a line before break j is what comes after its start
 line_is : (es : List Entry) (q : Option ℕ) (j : ℕ) → is_within q j ≡ true → j ≤ length es → line_between es q j ≡ drop (line_start es q j) (take j es)
 line_is es None j b in' = refl
 line_is es (Some i) j b in' = let lt : i < j = grind (arith, nat_tests) in from_word-drop es (i + 1) j (omega arith) in'

@@ -26,7 +26,7 @@ none_right (Some a) = refl
 pub no_offer : (ps : LineParams) (es : List Entry) (table : ℕ → Option Best) (j : ℕ) (q : Option ℕ) → step_demerits ps es q j ≡ None → offer (step_demerits ps es) table j q ≡ None
 no_offer ps es table j q h = ap (sum_of_both (reached table q)) h ∙ none_right (reached table q)
 
--- past the last forced break a line may stand in a solution
+-- past the last forced break a line may be in a solution
 pub step_is : (ps : LineParams) (es : List Entry) (j low i : ℕ) (forced : Option ℕ) → is_legal es j ≡ true → forced ≡ last_forced es j → is_up_to forced (Some low) ≡ true → low ≤ i → i < j
     → step_demerits ps es (Some i) j ≡ line_demerits ps es (Some i) j
 step_is ps es j low i forced legal e up le lt =

@@ -56,7 +56,7 @@ place_said : (s : State) (i : Option ℕ) (v : LineWord) (head : List ℕ) (fs :
 place_said s i v head fs [] = item_said s v head fs ((counts_word v && nat_le 25000 s.count) || (is_inner_word v && is_full i))
 place_said s i v head fs (c ∷ cs) = refl
 
--- no word may stand there
+-- no word may come there
 no_word : (s : State) (i : Option ℕ) (head : List ℕ) (fs : List (List ℕ)) (p : Phase)
     → Same s (lined None head fs ∷ []) (settled 1 (first_of (place_causes p None)) (tt {0}) >>= λ x. settled 1 (first_of (item_causes s.count i None)) (tt {0}) >>= λ y. worded_left (lined None head fs) None)
     (first_at 1 ((place_causes p None ++ item_causes s.count i None) ∷ later_causes None fs))

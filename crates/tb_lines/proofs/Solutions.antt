@@ -1,4 +1,4 @@
--- The feasible solutions of a paragraph are the ways through the lines that may stand in one.
+-- The feasible solutions of a paragraph are the ways through the lines that may be in one.
 use Rattle.std.proofs.Common.{◌≡◌, refl, sym, ◌∙◌, ap, inl, inr, ℕ, zero, suc, ◌<◌, ◌≤◌, ℤ, Bool, true, false, List, [], ◌∷◌, Option, None, Some, arith}
 use Rattle.std.specs.Prelude.{nat_lt, ◌&&◌, if◌then◌else◌}
 use Rattle.std.specs.List.{AllByRecursion}

@@ -193,7 +193,7 @@ content_ok end l y h = let e : (contents.End, l) ≡ y = cc in subst (λ p. IsSa
 
 -- ---- a line
 
--- a word with what its line says, after so many lines that count and so many items of the open paragraph
+-- a word with what its line says, after this many lines that count and this many items of the open paragraph
 pub record IsValidSaid (count : ℕ) (inside : Option ℕ) (w : Said) : Type 0 where
   pub content : IsValidContent w.content
   pub counts : adds_weight w.content ≡ true → counts_word w.word ≡ true

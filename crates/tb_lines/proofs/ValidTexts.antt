@@ -28,7 +28,7 @@ abbrev open_weight : Option Paragraph → ℕ
 open_weight None = 0
 open_weight (Some p) = length p.items + 1
 
--- a draft whose values are in their ranges, after so many lines that count
+-- a draft whose values are in their ranges, after this many lines that count
 record IsValidDraft (d : Draft) (count : ℕ) : Type 0 where
   params : IsValidParams d.params
   closed : AllByRecursion IsValidParagraph d.paragraphs

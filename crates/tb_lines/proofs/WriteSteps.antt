@@ -44,7 +44,7 @@ size_more es k d s new lt h e =
 pub size_done : (es : List Entry) (k : ℕ) (s : Size) → length es ≤ k → joined_size s (size_of (drop k es)) ≡ size_of es → s ≡ size_of es
 size_done es k s le h = sym (joined_none s) ∙ ap (joined_size s) (sym (at_drop_all size_of es k le)) ∙ h
 
--- what stands before the first word has no size
+-- what is before the first word has no size
 no_word_size : (e : Entry) → is_word e ≡ false → entry_size e ≡ no_size
 no_word_size (item (word w h d)) e = absurd (cc)
 no_word_size (item (space w st sh)) e = refl
@@ -59,7 +59,7 @@ size_from_word (e ∷ es) = tested (size_from_word es) (is_word e) refl
     tested rest true h = refl
     tested rest false h = rest ∙ sym (none_joined (size_of es)) ∙ ap (λ s. joined_size s (size_of es)) (sym (no_word_size e h))
 
--- where what stands after a break begins
+-- where what comes after a break begins
 abbrev pub place_after : Option ℕ → ℕ
 place_after None = 0
 place_after (Some i) = i + 1

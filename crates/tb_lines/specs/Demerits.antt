@@ -9,6 +9,7 @@ use Rattle.tb_lines.specs.declared.text.LineParams.{LineParams}
 use Rattle.tb_lines.specs.declared.running.Sums.{Sums}
 use Rattle.tb_lines.specs.Paragraph.{line_between, penalty_at}
 
+-- the sums of nothing
 abbrev pub no_sums : Sums
 no_sums = record { width = 0; stretch = 0; shrink = 0; fills = 0 }
 
@@ -18,6 +19,7 @@ item_sums (word w h d) = record { width = w; stretch = 0; shrink = 0; fills = 0 
 item_sums (space w st sh) = record { width = w; stretch = st; shrink = sh; fills = 0 }
 item_sums (penalty p) = no_sums
 
+-- the sums of an entry; the glue at the end counts as one fil
 abbrev pub entry_sums : Entry → Sums
 entry_sums (item i) = item_sums i
 entry_sums fill = record { width = 0; stretch = 0; shrink = 0; fills = 1 }

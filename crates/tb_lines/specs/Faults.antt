@@ -31,7 +31,7 @@ ascii_causes f = cause_if (not (list_all is_printable f)) causes.NotAscii
 
 -- ---- the word of a line, and its place: at field 1
 
--- the causes of a word by where its line stands
+-- the causes of a word by where its line is
 abbrev pub word_causes : Phase → LineWord → List LinesCause
 word_causes at_start header = []
 word_causes at_start _ = causes.NoHeader ∷ []

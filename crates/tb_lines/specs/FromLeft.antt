@@ -95,7 +95,7 @@ range_left low high c l = field_read (range_slot low high c) integer_in l
 unfoldable pub header_left : Left → Result (Unit {0} × Left) At
 header_left l = field_read header_slot (λ f. tt) l
 
--- nothing more stands on the line
+-- nothing more is on the line
 abbrev pub finished : {X : Type 0} → Result (X × Left) At → Result X At
 finished r = do
   x ← r

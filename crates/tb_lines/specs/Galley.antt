@@ -39,7 +39,7 @@ abbrev pub solution_of : Option (List ℕ × ℤ) → Option SolutionView
 solution_of None = None
 solution_of (Some w) = Some (record { breaks = reverse w.0; total = w.1 })
 
--- LINES of a paragraph's items; none if no way to break them is feasible
+-- the least solution of a paragraph's items; none if no way to break them is feasible
 unfoldable pub least_of : LineParams → List Item → Option SolutionView
 least_of ps items = solution_of (first_least ps (list_of items) (ways_before (list_of items) (length (list_of items))))
 
@@ -73,7 +73,7 @@ abbrev pub galley_by : Text → Result (List SolutionView) ℕ → Result (List 
 galley_by t (Ok ss) = Ok (line_text t ss)
 galley_by t (Err n) = Err (no_breaks n)
 
--- LINETEXT of LINES of a text
+-- the galley of the lines of a text
 abbrev pub galley_of_text : Text → Result (List ℕ) NoGalley
 galley_of_text t = galley_by t (solutions_from t.params 1 t.paragraphs)
 
@@ -82,7 +82,7 @@ abbrev pub galley_of : Result Text Fault → Result (List ℕ) NoGalley
 galley_of (Err f) = Err (faulty f)
 galley_of (Ok t) = galley_of_text t
 
--- LINETEXT of LINES of the text that an input spells, or why there is none
+-- the galley of the lines of the text that an input spells, or why there is none
 unfoldable pub lines_galley : List ℕ → Result (List ℕ) NoGalley
 lines_galley bytes = galley_of (reading bytes)
 

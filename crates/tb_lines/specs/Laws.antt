@@ -7,7 +7,7 @@ use Rattle.tb_lines.specs.Least.{IsLeastOf, HasNone}
 use Rattle.tb_lines.specs.Galley.{least_of, lines_galley}
 use Rattle.tb_lines.specs.Accepted.{IsAccepted}
 
--- the solution of a paragraph is LINES, over all solutions; it has none exactly if no solution is feasible
+-- the solution of a paragraph is the least of all its solutions; it has none exactly if no solution is feasible
 abbrev pub SolutionsAreLeast : Type 0
 SolutionsAreLeast = (ps : LineParams) (items : List Item) → MatchOption (least_of ps items) (HasNone ps (list_of items)) (λ s. IsLeastOf ps items s)
 

@@ -63,6 +63,6 @@ pub record IsLeast (ps : LineParams) (es : List Entry) (js : List ℕ) (total : 
 abbrev pub HasNone : LineParams → List Entry → Type 0
 HasNone ps es = (js : List ℕ) (d : ℤ) → IsSolution es js → total_demerits ps es js ≡ Some d → ⊥
 
--- LINES of a paragraph's items: the least solution of their list; a solution's breaks rise
+-- the least solution of the list of a paragraph's items; its breaks rise
 abbrev pub IsLeastOf : LineParams → List Item → SolutionView → Type 0
 IsLeastOf ps items s = IsLeast ps (list_of items) (reverse s.breaks) s.total

@@ -14,6 +14,7 @@ use Rattle.tb_lines.specs.Least.{IsLeastOf}
 
 -- ---- the sizes of lines
 
+-- the size of nothing
 abbrev pub no_size : Size
 no_size = record { height = 0; depth = 0 }
 
@@ -53,9 +54,11 @@ AreWithin k n (j ∷ js) = (k ≤ j) × (j < n) × AreWithin (j + 1) n js
 
 -- ---- the text of a line
 
+-- glue of this width
 abbrev pub width_text : ℕ → List ℕ
 width_text w = codes "glue " ++ decimal w
 
+-- the end of a line of glue that neither stretches nor shrinks
 abbrev pub fixed_text : List ℕ
 fixed_text = codes " plus 0 minus 0\n"
 
@@ -80,6 +83,7 @@ abbrev pub space_before : LineParams → ℕ → Option ℕ → ℕ → List ℕ
 space_before ps k None height = []
 space_before ps k (Some above) height = (if k == 1 then glue_line ps.par_skip else []) ++ glue_line (interline ps above height)
 
+-- the box of line k of a paragraph
 abbrev pub box_line : List ℕ → ℕ → Size → List ℕ
 box_line name k s = codes "box " ++ name ++ codes "." ++ decimal k ++ codes " " ++ decimal s.height ++ codes " " ++ decimal s.depth ++ 10 ∷ []
 
@@ -87,7 +91,7 @@ box_line name k s = codes "box " ++ name ++ codes "." ++ decimal k ++ codes " " 
 abbrev pub penalty_before : LineParams → ℕ → ℕ → List ℕ
 penalty_before ps k count = if k == 1 then [] else penalty_line (penalty_after ps (k - 1) count)
 
--- one line, with what stands between it and the one before it
+-- one line, with what comes between it and the one before it
 abbrev pub one_line : LineParams → List ℕ → ℕ → ℕ → Option ℕ → Size → List ℕ
 one_line ps name count k above s = penalty_before ps k count ++ space_before ps k above s.height ++ box_line name k s
 
@@ -107,6 +111,7 @@ depth_after above (s ∷ ss) = depth_after (Some s.depth) ss
 abbrev pub paragraph_text : LineParams → Option ℕ → Paragraph → SolutionView → List ℕ
 paragraph_text ps above p s = lines_text ps p.name (length (paragraph_sizes p s)) 1 above (paragraph_sizes p s)
 
+-- the depth of the last line of a paragraph, after a line of this depth
 abbrev pub paragraph_depth : Option ℕ → Paragraph → SolutionView → Option ℕ
 paragraph_depth above p s = depth_after above (paragraph_sizes p s)
 
@@ -116,7 +121,7 @@ paragraphs_text ps above [] ss = []
 paragraphs_text ps above (p ∷ pars) [] = []
 paragraphs_text ps above (p ∷ pars) (s ∷ ss) = paragraph_text ps above p s ++ paragraphs_text ps (paragraph_depth above p s) pars ss
 
--- LINETEXT: the galley of the lines that these solutions make
+-- the galley of the lines that these solutions make
 unfoldable pub line_text : Text → List SolutionView → List ℕ
 line_text t ss = codes "galley 1\n" ++ paragraphs_text t.params None t.paragraphs ss ++ codes "end\n"
 

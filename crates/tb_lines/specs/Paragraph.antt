@@ -16,10 +16,12 @@ is_word_item (word w h d) = true
 is_word_item (space w st sh) = false
 is_word_item (penalty p) = false
 
+-- the entry is a word
 abbrev pub is_word : Entry → Bool
 is_word (item i) = is_word_item i
 is_word fill = false
 
+-- an entry is there, and passes a test
 abbrev pub passes : (Entry → Bool) → Option Entry → Bool
 passes test None = false
 passes test (Some e) = test e
@@ -35,6 +37,7 @@ is_legal_item behind (word w h d) = false
 is_legal_item behind (space w st sh) = behind
 is_legal_item behind (penalty p) = int_lt p (pos 10000)
 
+-- a line may end at the entry, by whether a word is before it
 abbrev pub is_legal_entry : Bool → Entry → Bool
 is_legal_entry behind (item i) = is_legal_item behind i
 is_legal_entry behind fill = false
@@ -49,14 +52,17 @@ item_penalty (word w h d) = pos 0
 item_penalty (space w st sh) = pos 0
 item_penalty (penalty p) = p
 
+-- the penalty of a break at the entry
 abbrev pub entry_penalty : Entry → ℤ
 entry_penalty (item i) = item_penalty i
 entry_penalty fill = pos 0
 
+-- the same, 0 if there is none
 abbrev pub penalty_in : Option Entry → ℤ
 penalty_in None = pos 0
 penalty_in (Some e) = entry_penalty e
 
+-- the penalty of a break at this place of a list
 abbrev pub penalty_at : List Entry → ℕ → ℤ
 penalty_at es k = penalty_in (slice_get es k)
 
@@ -64,7 +70,7 @@ penalty_at es k = penalty_in (slice_get es k)
 abbrev pub is_forced : List Entry → ℕ → Bool
 is_forced es k = int_eq (penalty_at es k) (negsuc 9999)
 
--- without what stands before the first word; without a word nothing is left
+-- without what is before the first word; without a word nothing is left
 abbrev pub from_word : List Entry → List Entry
 from_word [] = []
 from_word (e ∷ es) = if is_word e then e ∷ es else from_word es

@@ -14,7 +14,7 @@ pub record AreSmall (k : ℕ) (s : Sums) : Type 0 where
   pub shrink : s.shrink ≤ 4294967295 * k
   pub fills : s.fills ≤ k
 
--- the sums of what stands before each place
+-- the sums of what is before each place
 pub record AreRunning (es : List Entry) (sums : List Sums) : Type 0 where
   pub long : length sums ≡ length es + 1
   pub each : (k : ℕ) → k ≤ length es → slice_get sums k ≡ Some (sums_of (take k es))

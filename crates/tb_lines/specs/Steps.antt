@@ -1,4 +1,4 @@
--- The lines that may stand in a solution, by the last forced break before their end.
+-- The lines that may be in a solution, by the last forced break before their end.
 use Rattle.std.specs.Prelude.{ℕ, zero, suc, ℤ, Bool, true, false, ◌&&◌, nat_lt, nat_le, List, Option, Some, None, if◌then◌else◌}
 use Rattle.tb_lines.specs.declared.entries.Entry.{Entry}
 use Rattle.tb_lines.specs.declared.text.LineParams.{LineParams}

@@ -11,6 +11,7 @@ abbrev pub total_in : Option Best → Option ℤ
 total_in None = None
 total_in (Some b) = Some b.total
 
+-- the least demerits up to a break; 0 for the start of the paragraph
 abbrev pub reached : (ℕ → Option Best) → Option ℕ → Option ℤ
 reached table None = Some (pos 0)
 reached table (Some i) = total_in (table i)
@@ -44,6 +45,7 @@ abbrev pub row_in : Option (Option Best) → Option Best
 row_in None = None
 row_in (Some b) = b
 
+-- the row of a break in a table
 abbrev pub row_at : List (Option Best) → ℕ → Option Best
 row_at rows k = row_in (slice_get rows k)
 
@@ -59,6 +61,6 @@ Follows table None (i ∷ js) = ⊥
 Follows table (Some i) [] = ⊥
 Follows table (Some i) (k ∷ js) = (i ≡ k) × ((b : Best) × (table k ≡ Some b) × Follows table b.from js)
 
--- a row that another row names stands before it
+-- a row that another row names is before it
 abbrev pub AreLinked : List (Option Best) → Type 0
 AreLinked rows = (k : ℕ) (b : Best) (i : ℕ) → row_at rows k ≡ Some b → b.from ≡ Some i → (i < k) × ((c : Best) × (row_at rows i ≡ Some c))

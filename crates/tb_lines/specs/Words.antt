@@ -66,7 +66,7 @@ word_passes test (Some w) = test w
 
 -- ---- what the lines before a line say of its place
 
--- what stands in a paragraph
+-- what may come in a paragraph
 abbrev pub is_inner_word : LineWord → Bool
 is_inner_word word = true
 is_inner_word space = true
@@ -83,7 +83,7 @@ abbrev pub later_phase : Phase → Phase → Phase
 later_phase ended next = ended
 later_phase _ next = next
 
--- where a line stands after a line with this word
+-- where a line is after a line with this word
 abbrev pub next_phase : Phase → Option LineWord → Phase
 next_phase p None = p
 next_phase p (Some header) = later_phase p among_sets
@@ -92,7 +92,7 @@ next_phase p (Some endpar) = later_phase p among_pars
 next_phase p (Some end) = ended
 next_phase p (Some _) = p
 
--- where a line stands after these content lines
+-- where a line is after these content lines
 abbrev pub phase_after : List Line → Phase
 phase_after ls = fold (λ p (l : Line). next_phase p l.word) at_start ls
 
@@ -100,6 +100,7 @@ phase_after ls = fold (λ p (l : Line). next_phase p l.word) at_start ls
 abbrev pub count_with : ℕ → Option LineWord → ℕ
 count_with n w = if word_passes counts_word w then n + 1 else n
 
+-- how many lines count, of these
 abbrev pub count_after : List Line → ℕ
 count_after ls = fold (λ n (l : Line). count_with n l.word) 0 ls
 
@@ -115,6 +116,7 @@ inside_with n (Some par) = Some 0
 inside_with n (Some endpar) = None
 inside_with n (Some w) = if is_inner_word w then one_more n else n
 
+-- how many items the open paragraph has after these lines, if one is open
 abbrev pub inside_after : List Line → Option ℕ
 inside_after ls = fold (λ n (l : Line). inside_with n l.word) None ls
 

@@ -11,7 +11,7 @@ const FORCED: i16 = -10_000;
 
 const FORBIDDEN: i16 = 10_000;
 
-/// What stands in a paragraph's list: its items, and the glue that fills its last line.
+/// What a paragraph's list has: its items, and the glue that fills its last line.
 #[derive(Clone, Copy)]
 pub enum Entry {
     Item(Item),

@@ -42,19 +42,19 @@ pub enum LinesCause {
     NotAscii,
     /// The first line with content is not `lines 1`, or there is none.
     NoHeader,
-    /// A line with content stands after `end`.
+    /// A line with content comes after `end`.
     AfterEnd,
-    /// The field is none of the words that may stand there.
+    /// The field is none of the words that may come there.
     UnknownWord,
-    /// `set` stands after a paragraph.
+    /// `set` comes after a paragraph.
     SetAfterItem,
-    /// `par` stands in a paragraph.
+    /// `par` comes in a paragraph.
     NestedPar,
-    /// `set` stands in a paragraph, or `word`, `space` or `pen` outside one.
+    /// `set` comes in a paragraph, or `word`, `space` or `pen` outside one.
     NotInPar,
-    /// `endpar` stands outside a paragraph.
+    /// `endpar` comes outside a paragraph.
     StrayEndpar,
-    /// `end` or the end of the text stands in a paragraph.
+    /// `end` or the end of the text comes in a paragraph.
     UnclosedPar,
     /// It is the 25001st line of the words `par`, `word`, `space` and `pen`, or a paragraph's 5001st item.
     Items,
@@ -66,7 +66,7 @@ pub enum LinesCause {
     UnknownParameter,
     /// The field is no number.
     BadNumber,
-    /// The number has no unit that may stand there.
+    /// The number has no unit that may come there.
     BadUnit,
     /// The field is no name of at most 58 bytes.
     BadName,
@@ -83,7 +83,7 @@ pub enum LinesCause {
 /// Why a text was not read.
 #[derive(Drop)]
 pub enum LinesFault {
-    /// The text's first fault. What is wrong with a line as a whole stands at its field 0, what is wrong with the whole text
+    /// The text's first fault. What is wrong with a line as a whole is at its field 0, what is wrong with the whole text
     /// at field 0 of the line after its last, and `InputSize` at line 0.
     At {
         line: u32,

@@ -26,8 +26,8 @@ const INPUT_LIMIT: usize = 8_388_608;
 
 const MAX_LINE: usize = 255;
 
-/// A fault of a text, with its line and field. What is wrong with a line as a whole stands at its field 0; what is wrong
-/// with a whole text stands at field 0 of the line after its last, and `InputSize` at line 0.
+/// A fault of a text, with its line and field. What is wrong with a line as a whole is at its field 0; what is wrong
+/// with a whole text is at field 0 of the line after its last, and `InputSize` at line 0.
 #[derive(Clone, Copy)]
 pub struct Fault {
     pub line: u32,
@@ -232,7 +232,7 @@ fn read_text(alloc: Global, bytes: &[u8]) -> Result<Result<Text, Fault>, AllocEr
 }
 
 /// Reads a text. `At` comes exactly if it has a fault, with the first one: that of the earliest line, in it of the earliest
-/// field, and there of the cause that stands first in [`LinesCause`]. A text
+/// field, and there of the cause that is first in [`LinesCause`]. A text
 /// that is given has all its values in their ranges.
 pub fn read_lines(alloc: Global, bytes: &[u8]) -> Result<Text, LinesFault>
     ensures grammar { Answers result (reading bytes.now) }

@@ -78,7 +78,7 @@ fn put_no_breaks(out: &mut Vec<u8>, paragraph: usize) -> Result<(), AllocError>
 }
 
 /// Appends why a text has no galley of lines: `line L field F: CAUSE`, `paragraph N: no feasible breaks` or
-/// `out of memory`. `Err` comes only for want of memory; a part of the text may stand in `out` then.
+/// `out of memory`. `Err` comes only if memory runs out; a part of the text may be in `out` then.
 pub fn put_refusal(out: &mut Vec<u8>, refusal: &LinesRefusal) -> Result<(), AllocError>
     ensures { OnOk result (out.new.items ≡ out.old.items ++ refusal_text refusal.now) }
 {

@@ -8,7 +8,7 @@ use crate::entries::{Entry, is_legal, is_word};
 use crate::text::Item;
 use std::alloc::{AllocError, Global};
 
-/// The sums of what stands between two places of a paragraph's list, in sp.
+/// The sums of what is between two places of a paragraph's list, in sp.
 #[derive(Clone, Copy)]
 pub struct Sums {
     pub width: u64,
@@ -96,7 +96,7 @@ pub fn between(start: &Sums, end: &Sums) -> Sums
     }
 }
 
-/// The sums of what stands before each place.
+/// The sums of what is before each place.
 pub fn running_sums(alloc: Global, entries: &[Entry]) -> Result<Vec<Sums>, AllocError>
     requires { length entries.now ≤ 65536 }
     ensures { IfOk result (λ v. AreRunning entries.now v.items) }
@@ -111,7 +111,7 @@ pub fn running_sums(alloc: Global, entries: &[Entry]) -> Result<Vec<Sums>, Alloc
     Ok(sums)
 }
 
-// The first word from a place on, by what stands there and the first word from the next place on.
+// The first word from a place on, by what is there and the first word from the next place on.
 fn start_at(entry: &Entry, place: usize, next: usize) -> usize
     ensures { result ≡ (if is_word entry.now then place else next) }
 {

@@ -116,7 +116,7 @@ impl<'a> Prepared<'a> {
     }
 
     // The demerits of the line from a break, or the paragraph's start, to another; `None` if it is not feasible. It is
-    // asked of each pair of breaks that is tried, so it stands in the loop over them.
+    // asked of each pair of breaks that is tried, so it is in the loop over them.
     #[inline(always)]
     fn line_demerits(&self, from: Option<usize>, to: usize) -> Option<i64>
         requires within { is_within from to ≡ true }

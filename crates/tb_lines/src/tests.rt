@@ -13,7 +13,7 @@ const FOUR_WORDS: &[u8] =
 const TWO_LINES: &[u8] =
     b"galley 1\nbox p.1 7 2\npenalty 300\nglue 3 plus 0 minus 0\nbox p.2 7 2\nend\n";
 
-// What is answered to a text: the galley, or what stands in its place in one line.
+// What a text gives: the galley, or in one line why there is none.
 fn answer(alloc: Global, text: &[u8]) -> Result<Vec<u8>, Fail> {
     Ok(match lines_galley(alloc, text) {
         Ok(galley) => galley,

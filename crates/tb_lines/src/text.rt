@@ -5,7 +5,7 @@ use std::alloc::{AllocError, Global};
 use std::marker::Model;
 use tb_node::Name;
 
-/// What stands in a paragraph. Each dimension is at most 1073741823 sp.
+/// What a paragraph has. Each dimension is at most 1073741823 sp.
 #[derive(Clone, Copy)]
 pub enum Item {
     /// A word, which is never broken.

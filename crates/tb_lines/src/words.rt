@@ -1,4 +1,4 @@
-//! The words of lines and of `set` lines, and where each line may stand.
+//! The words of lines and of `set` lines, and where each line may come.
 ghost use Rattle.std.specs.Prelude.{◌≡◌, ◌<◌, ◌+◌, map, false, true, IsNone, Option};
 ghost use Rattle.tb_lines.specs.Words.{word_in, word_of, spelled_words, counts_word, is_inner_word, later_phase, next_phase, count_with, is_full};
 ghost use Rattle.tb_lines.specs.Slots.{parameter_in, parameter_of, spelled_parameters, form_of, missing_cause};
@@ -65,7 +65,7 @@ const PARAMETERS: [(&[u8], Parameter); 8] = [
     (b"parskip", Parameter::ParSkip),
 ];
 
-/// Where a line stands: first, after the header and sets alone, after a paragraph, in a paragraph, or after the end.
+/// Where a line is: first, after the header and sets alone, after a paragraph, in a paragraph, or after the end.
 #[derive(Clone, Copy)]
 pub enum Phase {
     Start,
@@ -150,7 +150,7 @@ pub fn missing_cause(word: Word) -> LinesCause
     }
 }
 
-/// Why the word may not stand in this phase.
+/// Why the word may not come in this phase.
 pub fn place_cause(phase: Phase, word: Option<Word>) -> Option<LinesCause>
     ensures { result ≡ first_of (place_causes phase word) }
 {

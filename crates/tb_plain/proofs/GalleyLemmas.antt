@@ -64,7 +64,7 @@ made-ours g h = class-both ours (makeup_nodes g.params g.items) (on_line g.end_l
 
 -- ---- the run
 
--- where the run of a suited galley is done, it ships what its nodes weigh, and the lines of the text's boxes and rules stand in
+-- if the run of a suited galley is done, it ships what its nodes weigh, and the lines of the text's boxes and rules are in
 -- their order among those shipped
 pub record ShipsAll (g : Galley) (r : MakeupRun) : Type 0 where
   pub weighs : r.end ≡ done → (v : Weight) → NoMargin v → sent_weight v r.sent ≡ nodes_weight v (made_up g)

@@ -170,7 +170,7 @@ above-leaves : (p : Params) (void : Bool) → AreLeaves (above_feet p void)
 above-leaves p true = tt
 above-leaves p false = (tt, (tt, (tt, (tt, tt))))
 
--- what stands above them, and they
+-- what comes above them, and they
 feet-shown : (p : Params) (o : Option (List Leaf)) (held : ℕ → List Node) → map (plain_of held) (above_feet p (is_none o)) ++ map leaf_node (content_of o) ≡ feet_below p o
 feet-shown p None held = refl
 feet-shown p (Some ls) held = refl

@@ -125,7 +125,7 @@ fired-prints p w =
     ∙ append_assoc (prints (take k w.passed)) (prints (drop k w.passed)) (prints w.beyond)
     ∙ (λ i. sym (prints-insertions (take k w.passed)) i ++ sym waiting i)
 
--- the body stands within the column
+-- the body is within the column
 body-within : (p : Params) (f : Fired) → Within (prints f.body) (prints (makeup_column_nodes p f))
 body-within p f = within-body (map leaf_node (content_of (box_content f.boxes 253))) f.body (feet_below p (box_content f.boxes 254)) (if is_ragged p.bottom then ragged_end p f.body else [])
   where

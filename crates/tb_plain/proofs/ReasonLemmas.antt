@@ -42,7 +42,7 @@ module _ (limit : ℤ) (terms : List PlainNode → Terms) where
   none-met before [] e = refl
   none-met before (n ∷ rest) e = node-met before n rest (reach_from limit terms (before ++ without_acts (n ∷ [])) rest) n.kind (omega (arith, e)) (none-met (before ++ without_acts (n ∷ [])) rest (omega (arith, e)))
 
--- no act stands before the first
+-- no act comes before the first
 abbrev NoneBefore : AtAct → List PlainNode → Type 0
 NoneBefore no_act ns = act_count ns ≡ 0
 NoneBefore (at_act before a after) ns = act_count before ≡ 0
@@ -77,7 +77,7 @@ RunReason p s es done = Unit {0}
 RunReason p s es (page_limit n) = (pred s.number + length es ≡ n) × (p.maxpages ≤ℤ pos n)
 RunReason p s es (node_limit n) = p.maxnodes <ℤ pos n
 
--- a page that ships is numbered, and no act stands on a page
+-- a page that ships is numbered, and no act is on a page
 abbrev StepReason : Params → MakeupState → MakeupStep → Type 0
 StepReason p s (ends es e) = RunReason p s es e
 StepReason p s (goes_on es t) = (pred s.number + length es ≡ pred t.number) × (act_count t.page ≡ 0)

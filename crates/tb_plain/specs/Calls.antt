@@ -99,7 +99,7 @@ pub record CanFire (b : Builder) (s : Lists Node) (page : Page) : Type 0 where
   pub boxes : All IsSizedBox (contents_of b s).boxes
   pub few : length (list_at s page.body) + box_count (contents_of b s).boxes ≤ 8388602
 
--- the page is that of the definition under its number, both boxes are void, and what is put back stands in the list of the body, which the builder
+-- the page is that of the definition under its number, both boxes are void, and what is put back is in the list of the body, which the builder
 -- awaits; the column has a list that was opened for it; no other list changed or was opened, but for the builder's
 pub record HasFired (r : PlainPage) (m now : Plain) (b : Builder) (s : Lists Node) (d : Builder) (t : Lists Node) (page : Page) : Type 0 where
   pub within : pos m.page ≤ℤ m.params.maxpages

@@ -11,7 +11,7 @@ use Rattle.tb_galley.specs.declared.ItemKind.TheVariants as items
 use Rattle.tb_galley.specs.declared.Galley.{Galley}
 use Rattle.tb_galley.specs.Expand.{item_kinds}
 
--- glue of width 0 with the stretch 1fill, which fills what is left, also where other glue has the stretch of fil
+-- glue of width 0 with the stretch 1fill, which fills what is left, also if other glue has the stretch of fil
 abbrev pub clearing_glue : Glue
 clearing_glue = record { width = pos 0; stretch = pos 65536; order = Fill; shrink = pos 0 }
 

@@ -14,7 +14,7 @@ use Rattle.tb_plain.specs.Expand.{clearing_glue, clearing_penalty}
 abbrev pub ragged_end : Params → List PlainNode → List PlainNode
 ragged_end p body = made (kerned (neg_ℤ (min_ℤ (last_depth (map node_shape body)) p.maxdepth))) ∷ made (skip filling_glue) ∷ []
 
--- the footnotes under their rule, where their box is not void
+-- the footnotes under their rule, if their box is not void
 abbrev pub feet_below : Params → Option (List Leaf) → List PlainNode
 feet_below p None = []
 feet_below p (Some ns) = notes_under_rule p ns
@@ -34,11 +34,11 @@ abbrev pub holds_any : List PlainNode → Bool
 holds_any [] = false
 holds_any (n ∷ ns) = true
 
--- an empty page on which what is held may stand, with the break of a clear
+-- an empty page on which what is held may come, with the break of a clear
 abbrev pub page_for_held : Params → List PlainNode
 page_for_held p =
     made blank_box ∷ made (kerned (neg_ℤ p.topskip)) ∷ made (pen (pos 10000)) ∷ made (skip clearing_glue) ∷ made (pen clearing_penalty) ∷ []
 
--- what is put back: after a clear, where insertions are held, a page for them
+-- what is put back: after a clear, if insertions are held, a page for them
 abbrev pub put_back_after : Params → Fired → List PlainNode
 put_back_after p f = if int_le f.penalty clearing_penalty && holds_any f.held then page_for_held p else []

@@ -28,7 +28,7 @@ use Rattle.tb_plain.specs.Take.{with_float, here_nodes, top_leaves, page_leaves,
 
 -- ---- a float
 
--- where a float goes: h asks for the text, and the top where it does not fit there; else t or b ask for the top, and p alone for a page
+-- where a float goes: h asks for the text, and the top if it does not fit there; else t or b ask for the top, and p alone for a page
 abbrev pub place_of : Params → PageSums → Float → Place
 place_of p s f =
     if f.places.h then (if int_lt s.goal (with_float p s f) then ways.Top else ways.Here) else (if f.places.t || f.places.b then ways.Top else ways.Page)
@@ -76,7 +76,7 @@ pub record IsPutFirst (l : ℕ) (b : Builder) (s : Lists Node) (d : Builder) (t 
 
 -- ---- a column
 
--- what stands above footnotes, unless their box is void
+-- what comes above footnotes, unless their box is void
 abbrev pub above_feet : Params → Bool → List Node
 above_feet p void = if void then [] else rule_above p.skipfootins
 
@@ -84,7 +84,7 @@ above_feet p void = if void then [] else rule_above p.skipfootins
 abbrev pub end_list : Params → ℤ → List Node
 end_list p depth = if is_ragged p.bottom then made_node (kinds.Kern (neg_ℤ depth)) ∷ made_node (kinds.Skip filling_glue) ∷ [] else []
 
--- an empty page on which what is held may stand, with the break of a clear
+-- an empty page on which what is held may come, with the break of a clear
 abbrev pub held_list : Params → List Node
 held_list p =
     made_node (kinds.Hbox Blank (pos 0) (pos 0))
@@ -94,7 +94,7 @@ held_list p =
     ∷ made_node (kinds.Pen clearing_penalty)
     ∷ []
 
--- what is put back after a page of this penalty, with so many held insertions
+-- what is put back after a page of this penalty, with this many held insertions
 abbrev pub back_list : Params → ℤ → ℕ → List Node
 back_list p penalty held = if int_le penalty clearing_penalty && nat_lt 0 held then held_list p else []
 

@@ -20,7 +20,7 @@ abbrev pub all_lines : List PlainSent → List ℕ
 all_lines [] = []
 all_lines (e ∷ es) = sent_lines e ++ all_lines es
 
--- the last line, where a run is done; nothing is left then
+-- the last line, if a run is done; nothing is left then
 abbrev pub closing_lines : MakeupEnd → List PlainSent → List ℕ
 closing_lines done es = end_lines [] (sent_totals es)
 closing_lines _ es = []

@@ -15,9 +15,9 @@ pub record MakeupRows : Type 0 where
   pub held_footnote : makeup_reply (codes "galley 1\nset textheight 100\nset topskip 10\nset maxdepth 0\nset baselineskip 0\nset bottom flush\nset skipfootins 0\nset footsplittop 10\nbox a 60 0\nfoot\nbox f 30 0\nglue 0\nbox g 30 0\nendfoot\nend\n") ≡ reports (codes "report 1\npage 1 one\ncolumn 1 text height 100 natural 90 set stretch fill 10/65536\nbox a 0 60 0\nfootrule -196538 26214 0\nbox f 70 30 0\npage 2 one\ncolumn 1 text height 100 natural 30 set stretch fill 70/65536\nfootrule -196538 26214 0\nbox g 70 30 0\nend pages 2 boxes 3 floats 0 warnings 0\n") done
   -- a note that is left has a page of its own
   pub note_has_a_page : makeup_reply (codes "galley 1\nset textheight 100\nset topskip 10\nset maxdepth 0\nset baselineskip 0\nset bottom flush\nset skipfootins 0\nset footsplittop 10\nbox a 10 0\nnewpage\nnote n\nend\n") ≡ reports (codes "report 1\npage 1 one\ncolumn 1 text height 100 natural 10 set stretch fil 90/65536\nbox a 0 10 0\npage 2 one\ncolumn 1 text height 100 natural 10 set stretch fill 90/65536\nnote n 0\nend pages 2 boxes 1 floats 0 warnings 0\n") done
-  -- a second page, where one is allowed
+  -- a second page, if one is allowed
   pub page_limit : makeup_reply (codes "galley 1\nset textheight 100\nset topskip 10\nset maxdepth 0\nset baselineskip 0\nset bottom flush\nset skipfootins 0\nset footsplittop 10\nset maxpages 1\nbox a 10 0\nnewpage\nbox b 10 0\nend\n") ≡ reports (codes "report 1\npage 1 one\ncolumn 1 text height 100 natural 10 set stretch fil 90/65536\nbox a 0 10 0\n") (page_limit 1)
-  -- a float that just fits stands in the text
+  -- a float that just fits goes into the text
   pub float_fits : makeup_reply (codes "galley 1\nset textheight 100\nset topskip 10\nset maxdepth 0\nset baselineskip 0\nset bottom flush\nset skipfootins 0\nset footsplittop 10\nset intextsep 0\nset textfloatsep 0\nset floatsep 0\nset fptop 0\nset fpsep 0\nset fpbot 0\nset dbltextfloatsep 0\nbox a 20 0\nfloat F 1 single h 80 par\nbox b 10 0\nend\n") ≡ reports (codes "report 1\npage 1 one\ncolumn 1 text height 100 natural 100 set none\nbox a 0 20 0\nfloat F 1 here 20 80\npage 2 one\ncolumn 1 text height 100 natural 10 set stretch fill 90/65536\nbox b 0 10 0\nend pages 2 boxes 2 floats 1 warnings 0\n") done
   -- one that does not fit goes to the top of a page; it is held, and has a page of its own
   pub float_goes_to_the_top : makeup_reply (codes "galley 1\nset textheight 100\nset topskip 10\nset maxdepth 0\nset baselineskip 0\nset bottom flush\nset skipfootins 0\nset footsplittop 10\nset intextsep 0\nset textfloatsep 0\nset floatsep 0\nset fptop 0\nset fpsep 0\nset fpbot 0\nset dbltextfloatsep 0\nbox a 20 0\nfloat F 1 single h 81 par\nbox b 10 0\nend\n") ≡ reports (codes "report 1\npage 1 one\ncolumn 1 text height 100 natural 30 set stretch fill 70/65536\nbox a 0 20 0\nbox b 20 10 0\npage 2 one\ncolumn 1 text height 100 natural 81 set stretch fill 19/65536\nfloat F 1 top 0 81\nend pages 2 boxes 2 floats 1 warnings 0\n") done

@@ -99,7 +99,7 @@ pub data MakeupStep : Type 0 where
   ends : List PlainSent → MakeupEnd → MakeupStep
   goes_on : List PlainSent → MakeupState → MakeupStep
 
--- what stands before the act went to the page, and what the act puts first waits before what stands after it; an act that is
+-- what came before the act went to the page, and what the act puts first waits before what comes after it; an act that is
 -- reached waits, so there is one
 abbrev pub act_step : Params → MakeupState → AtAct → MakeupStep
 act_step p s no_act = ends [] (page_limit (pred s.number))
@@ -111,7 +111,7 @@ act_step p s (at_act before a after) =
 abbrev pub waiting_after : Params → Fired → List PlainNode
 waiting_after p f = f.held ++ (put_back_after p f ++ f.rest)
 
--- the page is shipped, and the run ends there where more nodes wait than may be
+-- the page is shipped, and the run ends there if more nodes wait than may be
 abbrev pub shipping_step : Params → ℕ → Fired → MakeupStep
 shipping_step p number f =
     let sent = shipped number (one (makeup_column p f)) ∷ [] in
@@ -119,17 +119,17 @@ shipping_step p number f =
     let count = node_count (waiting_after p f) in
     if int_lt p.maxnodes (pos count) then ends sent (node_limit count) else goes_on sent next
 
--- a page fires: where as many pages as may be are shipped, the run ends
+-- a page fires: if as many pages as may be are shipped, the run ends
 abbrev pub firing_step : Params → ℕ → Fired → MakeupStep
 firing_step p number f =
     let ships = shipping_step p number f in
     if int_lt p.maxpages (pos number) then ends [] (page_limit (pred number)) else ships
 
--- what ends a page on which something stands when nothing waits any more
+-- what ends a page that has a node when nothing waits any more
 abbrev pub ejecting_nodes : List PlainNode
 ejecting_nodes = made blank_box ∷ made (skip clearing_glue) ∷ made (pen (negsuc 1073741823)) ∷ []
 
--- nothing waits: a page on which something stands is ended, and without one the run is done
+-- nothing waits: a page that has a node is ended, and without one the run is done
 abbrev pub last_step : MakeupState → List PlainNode → MakeupStep
 last_step s page = if holds_any page then goes_on [] (record s { page = page; waiting = ejecting_nodes }) else ends [] done
 
@@ -167,6 +167,7 @@ one_act (plain m) = 0
 one_act (ins i) = 0
 one_act (act a) = 1
 
+-- how many acts a list has
 abbrev pub act_count : List PlainNode → ℕ
 act_count [] = 0
 act_count (n ∷ ns) = one_act n.kind + act_count ns
@@ -175,7 +176,7 @@ act_count (n ∷ ns) = one_act n.kind + act_count ns
 abbrev pub steps_left : Params → MakeupState → ℕ
 steps_left p s = act_count s.page + act_count s.waiting + 2 * (nat_abs p.maxpages - pred s.number) + 1
 
--- the run from a state, which ends at once where more nodes wait than may be
+-- the run from a state, which ends at once if more nodes wait than may be
 abbrev pub makeup_of_state : Params → MakeupState → MakeupRun
 makeup_of_state p s =
     let run = makeup_from p (suc (steps_left p s)) s in

@@ -1,4 +1,4 @@
--- A float is taken: it goes where it stands, or becomes an insertion at the top of a page or a page of its own.
+-- A float is taken: it goes into the text, or becomes an insertion at the top of a page or a page of its own.
 use Rattle.std.specs.Prelude.{ℤ, pos, negsuc, ◌+ℤ◌, ◌-ℤ◌, ◌||◌, List, [], ◌∷◌, map, int_lt, if◌then◌else◌}
 use Rattle.tb_scaled.specs.Glue.{fixed_glue}
 use Rattle.tb_scaled.specs.Scaled.{max_dimen}
@@ -57,7 +57,7 @@ here_nodes p f =
 abbrev pub with_float : Params → PageSums → Float → ℤ
 with_float p s f = f.height +ℤ p.intextsep.width +ℤ s.total -ℤ s.shrink
 
--- what a float puts before all that waits, where the page so far has these sums: h asks for the text, and the top where it does
+-- what a float puts before all that waits, if the page so far has these sums: h asks for the text, and the top if it does
 -- not fit there; else t or b ask for the top, and p alone for a page
 abbrev pub taken_nodes : Params → PageSums → Float → List PlainNode
 taken_nodes p s f =

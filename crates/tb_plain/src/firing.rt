@@ -38,11 +38,11 @@ const CLEARING_PENALTY: i64 = -20_000;
 
 impl Plain {
     /// A page fires, which awaits its `put_back`: it ships as one column, with the top floats above its text and the
-    /// footnotes below, and both boxes are void then. After a clear, where insertions are held, a page on which they can
-    /// stand goes back; else nothing does (plain.tex, \plainoutput and \dosupereject).
+    /// footnotes below, and both boxes are void then. After a clear, if insertions are held, a page on which they can
+    /// come goes back; else nothing does (plain.tex, \plainoutput and \dosupereject).
     ///
     /// The list of the page becomes that of what goes back, and the column gets a new one. If as many pages were shipped as
-    /// `maxpages` says, it returns `PageLimit`; where memory is lacking, `Memory`. After these the page makeup, the builder
+    /// `maxpages` says, it returns `PageLimit`; if memory runs out, `Memory`. After these the page makeup, the builder
     /// and all lists are as before.
     pub fn fire(
         &mut self,
@@ -86,7 +86,7 @@ impl Plain {
     }
 }
 
-// A new list, and places for the nodes that a firing makes. Where memory is lacking, all lists are as before.
+// A new list, and places for the nodes that a firing makes. If memory runs out, all lists are as before.
 fn open_list(store: &mut Lists<Node>) -> Result<ListId, AllocError>
     ensures fresh { IfOk result (λ l. get store.old.lists l ≡ None) }
     ensures opened { IfOk result (λ l. store.new.lists ≡ with_list store.old l []) }
@@ -190,7 +190,7 @@ fn gather_feet(store: &mut Lists<Node>, b: &mut Builder, p: &Params, list: ListI
     b.take_box(store, FOOT_CLASS, list);
 }
 
-// Puts what stands above footnotes at the end of a list, unless their box is void.
+// Puts what comes above footnotes at the end of a list, unless their box is void.
 fn push_above_feet(store: &mut Lists<Node>, p: &Params, list: ListId, void: bool)
     requires live { IsLive store.old list }
     requires room { 4 ≤ store.old.spare }
@@ -238,7 +238,7 @@ fn goes_back(page: &Page) -> bool
     page.penalty <= CLEARING_PENALTY && page.held > 0
 }
 
-// A page on which held insertions can stand, and the break of a clear. The kern takes the glue at the top of the page back.
+// A page on which held insertions can come, and the break of a clear. The kern takes the glue at the top of the page back.
 fn push_page_for_held(store: &mut Lists<Node>, p: &Params, l: ListId)
     requires params { AreMakeupParams p.now }
     requires live { IsLive store.old l }

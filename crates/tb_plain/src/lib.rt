@@ -1,4 +1,4 @@
-//! Plain TeX's page makeup: floats that go where they stand or to the top of a page, and pages of one column.
+//! Plain TeX's page makeup: floats that go into the text or to the top of a page, and pages of one column.
 #![tactic(auto)]
 
 mod firing;
@@ -33,7 +33,7 @@ pub struct PlainPage {
 /// Why no page ships.
 #[derive(Clone, Copy, Debug, PartialEq, Eq)]
 pub enum PlainFault {
-    /// A page was to be shipped after so many pages.
+    /// A page was to be shipped after this many pages.
     PageLimit { pages: u64 },
     /// There was no memory.
     Memory,

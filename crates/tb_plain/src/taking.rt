@@ -41,11 +41,11 @@ struct TopLists {
 }
 
 impl Plain {
-    /// A float is taken: it goes before all that waits where h asks for the text and the page has room for it. Else it goes
-    /// into an insertion, which stands before all that waits and brings it to the top of a page, or on a page of its own
+    /// A float is taken: it goes before all that waits if h asks for the text and the page has room for it. Else it goes
+    /// into an insertion, which comes before all that waits and brings it to the top of a page, or on a page of its own
     /// (plain.tex, \endinsert).
     ///
-    /// Where memory is lacking, the builder and all lists are as before.
+    /// If memory runs out, the builder and all lists are as before.
     pub fn act(
         &mut self,
         store: &mut Lists<Node>,
@@ -114,7 +114,7 @@ fn with_float(p: &Params, sums: &PageSums, f: &Float) -> i64
     f.height + p.intextsep.width + sums.total - sums.shrink
 }
 
-// The float between glue, where it stands.
+// The float between glue, in the text.
 fn put_here(
     store: &mut Lists<Node>,
     b: &mut Builder,
@@ -131,7 +131,7 @@ fn put_here(
     Ok(())
 }
 
-// A new list of the float between glue. Where memory is lacking, all lists are as before.
+// A new list of the float between glue. If memory runs out, all lists are as before.
 fn here_list(store: &mut Lists<Node>, p: &Params, f: &Float) -> Result<ListId, AllocError>
     ensures fresh { IfOk result (λ l. get store.old.lists l ≡ None) }
     ensures lists { IfOk result (λ l. store.new.lists ≡ with_list store.old l (here_list p.now f.now)) }
@@ -203,7 +203,7 @@ fn sum_of(a: i64, b: i64) -> i64
     a + b
 }
 
-// Two lists, and places for five nodes. Where memory is lacking, all lists are as before.
+// Two lists, and places for five nodes. If memory runs out, all lists are as before.
 fn top_lists(store: &mut Lists<Node>) -> Result<TopLists, AllocError>
     ensures opened { IfOk result (λ r. AreOpened r.list r.inner store.old store.new) }
     ensures room { OnOk result (5 ≤ store.new.spare) }

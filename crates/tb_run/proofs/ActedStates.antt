@@ -59,7 +59,7 @@ pub taken-append : (xs ys : List Entry) → notes_taken (xs ++ ys) ≡ notes_tak
 taken-append [] ys = omega arith
 taken-append (x ∷ xs) ys = let e = taken-append xs ys in omega (arith, e)
 
--- the next state keeps what an act leaves, its entries are sized, and it has so many notes more in its current list
+-- the next state keeps what an act leaves, its entries are sized, and it has this many more notes in its current list
 record Goes (p : Params) (n : ℕ) (s t : State) : Type 0 where
   keeps : ActKeeps p s t
   entries : AllByRecursion IsSizedEntry t.floats.current
@@ -91,7 +91,7 @@ module _ (p : Params) (s : State) (runs : AreRunnable p) (sized : AllByRecursion
   goes-is : (n : ℕ) (t u : State) → t ≡ u → Goes p n s t → Goes p n s u
   goes-is n t u e h = subst (Goes p n s) e h
 
-  -- where an act was done
+  -- if an act was done
   acted-goes : (a : Act) (t : State) (ws : List Warn) (rs : List Recorded) → IsSizedAct a → act_on p s a ≡ went t ws rs → Goes p (act_notes a) s t
   acted-goes (acts.Take f) t ws rs h e = by_room (int_le p.pool (pos (live_count s.floats))) e
     where

@@ -53,7 +53,7 @@ module _ (r : Routine) (m : MachineView) (a : Act) (whole : IsWhole r) (machine 
   done-by store boxes waiting same (went s ws rs) h = (same ∙ h.state, h.sent)
   done-by store boxes waiting same (full line live) h = h
 
-  -- where it was closed
+  -- if it was closed
   module _ (new : Lists Node) (others : (q : ℕ) → IsNoneOf q (dropped_lists a r.machine.left_column) → get new.lists q ≡ get r.store.lists q) where
     shown : IsShownBy m r.store new
     shown = closed-shown m r.store new (dropped_lists a r.machine.left_column) is others (dropped r.store whole.machine)

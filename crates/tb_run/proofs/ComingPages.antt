@@ -153,7 +153,7 @@ module _ (p : Params) (s : State) (runs : AreRunnable p) (classes : AreRunClasse
       pub fired-mild : hold_penalty ≤ℤ f.penalty
       fired-mild = subst (λ (g : Fired). hold_penalty ≤ℤ g.penalty) (sym is) (mild-break s.classes (drop k c.page ++ c.waiting) rest-served)
 
-      -- no more nodes than waited and stood in boxes, and the top glue
+      -- no more nodes than waited and were in boxes, and the top glue
       pub fired-few : fired_count f ≤ node_count s.waiting + 1 + box_count s.boxes
       fired-few =
           let most = fired_fewer c ask (subst ClassesFit (sym h.classes) classes.fit) (subst (λ bs. AreBoxesOf c.classes bs) (sym h.boxes) (subst (λ cs. AreBoxesOf cs s.boxes) (sym h.classes) of)) in

@@ -55,7 +55,7 @@ module _ (r : Routine) (new : Lists Node) (hs : List Happening) (ready : IsReady
   shown : IsShownBy r.machine r.store new
   shown = closed-shown r.machine r.store new closed whole.machine others h.machine
 
-  -- it stands for the same state
+  -- it shows the same state
   pub done-state : state_of after ≡ state_of r
   done-state = (λ i. state_shown new (contents i).boxes (contents i).waiting r.machine) ∙ shown.state (held_in r).boxes (held_in r).waiting
 

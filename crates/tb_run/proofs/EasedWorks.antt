@@ -1,4 +1,4 @@
--- The steps of a column leave the classes and how far down notes reach, or no note stands in the next column.
+-- The steps of a column leave the classes and how far down notes reach, or no note is in the next column.
 use Rattle.std.proofs.Common.{◌≡◌, refl, ◌∙◌, ℕ, zero, suc, ◌+◌, ℤ, pos, inl, inr, ◌⊎◌, Bool, true, false, List, [], ◌∷◌, ◌++◌, length, Option, Some, None}
 use Rattle.std.specs.Prelude.{int_lt, not, if◌then◌else◌}
 use Rattle.tb_node.specs.declared.Float.{Float}

@@ -65,7 +65,7 @@ taken-whole q w = record { builder = w.builder; machine = taken-machine q.machin
 
 -- ---- so far
 
--- the state where these boxes and nodes were at the start of the page
+-- the state, with these boxes and nodes at the start of the page
 abbrev pub state_now : Routine → Routine → State
 state_now r q = state_shown q.store (state_of r).boxes (state_of r).waiting q.machine
 

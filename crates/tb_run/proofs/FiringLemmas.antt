@@ -78,7 +78,7 @@ page-quiet b s h on = by_frozen b.frozen b.stopped on h.page
 reach-within : (n : ℕ) (z : ℤ) → IsWithin (reach_where n) z → IsReach z
 reach-within n z h = let l = h.low in let u = h.high in record { low = omega (arith, ints, l); high = omega (arith, ints, u) }
 
--- what waits and stands in boxes is of no account to a firing
+-- what waits and what is in boxes is of no account to a firing
 firing-same : (p : Params) (es : List RunEvent) (rs : List Recorded) (store : Lists Node) (bs cs : List Boxed) (ns ms : List PlainNode) (m : MachineView) (f : Fired)
     → firing_step p es rs (state_shown store bs ns m) f ≡ firing_step p es rs (state_shown store cs ms m) f
 unfolding out

@@ -68,7 +68,7 @@ module _ (cs : List Class) where
   blank-are : IsSized (matter_shape blank_box) × Unit {0} × Unit {0}
   blank-are = ((zero-extent, zero-extent), tt, tt)
 
-  -- a clear, and what stands behind it
+  -- a clear, and what comes behind it
   clear-then : (ks : List PlainKind) → AreKinds ks → AreKinds (clearpage_kinds ++ ks)
   clear-then ks h = (newpage-are.0, (newpage-are.1.0, ((tt, tt, tt), (blank-are, ((record { low = omega (arith, ints); high = omega (arith, ints) }, tt, omega (arith, ints)), h)))))
 

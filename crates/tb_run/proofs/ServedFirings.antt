@@ -30,11 +30,11 @@ use Rattle.tb_run.proofs.FiredNodes.{every-take}
 use Rattle.tb_run.proofs.BackNodes.{AreBack, AreText, back-append, text-back, clear-back, blank-back, count-take, emptied-sized, emptied-count}
 use Rattle.tb_run.proofs.EasedWorks.{Eases, all_columns-eases, put_out-eases, next-eases, all_wide-eases}
 
--- how far notes may reach where so many of them have no place yet
+-- how far notes may reach if this many of them have no place yet
 abbrev pub reach_where : ℕ → ℕ
 reach_where left = 9007199254740992 + 4294967296 * (600006 - left)
 
--- where so many notes wait, and no more nodes than these go back, are held and stand in boxes
+-- if this many notes wait, and no more nodes than these go back, are held and are in boxes
 pub record Kept (cs : List Class) (left most : ℕ) (w : Work) : Type 0 where
   pub back : AreBack cs w.put_back
   pub held : AreText w.state.held_page
@@ -110,7 +110,7 @@ module _ (cs : List Class) (left : ℕ) where
     few = let f = k.few in let e = count-append w.put_back ns in omega (arith, f, e);
   }
 
-  -- so many more at most
+  -- at most this many more
   pub kept-puts_few : (n k : ℕ) (ns : List PlainNode) (w : Work) → AreBack cs ns → node_count ns ≤ k → Kept cs left n w → Kept cs left (n + k) (puts ns w)
   kept-puts_few n k ns w b few h = kept-more (n + node_count ns) (n + k) (puts ns w) (omega (arith, few)) (kept-puts n ns w b h)
 

@@ -127,7 +127,7 @@ module _ (p : Params) (s : State) (f : Fired) (runs : AreRunnable p) (classes : 
       let c = classes-few s.classes classes.rising classes.fit in
       omega (arith, e, a, b, few, c)
 
-  -- the state can be served again, where what goes back is sized
+  -- the state can be served again, if what goes back is sized
   pub out-served : AllByRecursion IsSizedPlain (out p s f).put_back → IsServed (out p s f).state.waiting (out p s f).state
   out-served sized =
       let nodes = back-nodes s.classes w1.put_back kept-work.back (subst (AllByRecursion IsSizedPlain) back-is sized) in

@@ -46,7 +46,7 @@ use Rattle.tb_run.proofs.ServedFirings.{reach_where, Kept, within-more, AnyFloat
 
 -- ---- how far notes reach
 
--- the height of a text of so many nodes
+-- the height of a text of this many nodes
 pub text-height : (ns : List Shape) → All IsSized ns → length ns ≤ 4194305 → IsWithin 9007203549708288 (size_of ns -ℤ last_depth ns)
 text-height ns sized few =
     let size = fits.size_within ns sized in
@@ -78,7 +78,7 @@ side-depth : (side : Side) (m : Margin) → IsSizedMargin m → IsExtent (note_d
 side-depth sides.Left m h = h.left_depth
 side-depth sides.Right m h = h.right_depth
 
--- where a note is placed
+-- if a note is placed
 note-reach : (p : Params) (page : ℕ) (two first : Bool) (high bottom : ℤ) (m : Margin) (n : ℕ) → AreRunnable p → IsSizedMargin m → IsWithin 9007203549708288 high → IsWithin n bottom → 9007203549708288 ≤ n
     → IsWithin (n + 4294967296) (placed_note p page two first high bottom m).bottom
 note-reach p page two first high bottom m n runs sized at reach most =

@@ -121,7 +121,7 @@ module _ (r : Routine) (page : Page) (whole : IsWhole r) (can : CanFire r.machin
       pub after-bounded : IsBounded 8388608 (record q { most = q.most + 300 })
       after-bounded = record { held = let a = after-held in omega (arith, a, most); few = let a = bounded.few in omega (arith, a, most) }
 
-      -- the nodes were counted, where that was to be done
+      -- the nodes were counted, if that was to be done
       module _ (o : Option Ending) (end : Routine) (over : o ≡ over_limit q.machine.params (held_count (state_of q))) (same : end ≡ record q { most = end.most }) (end_bounded : IsBounded 8388608 end) (within : IfNone o (pos end.most ≤ℤ q.machine.params.maxnodes)) where
         abbrev of_most : ℕ → Routine
         of_most k = record q { most = k }

@@ -103,7 +103,7 @@ module _ (es : List RunEvent) (rs : List Recorded) (q d : Routine) (page : Page)
   sent-is : events_shown d.store d.machine.events ≡ events_shown q.store q.machine.events ++ w.sent → es ++ map sent w.sent ≡ es ++ map sent (events_shown d.store d.machine.events)
   sent-is e = ap (λ xs. es ++ map sent xs) (sym (e ∙ ap (λ xs. events_shown q.store xs ++ w.sent) taken))
 
-  -- where the firing was allowed
+  -- if the firing was allowed
   alive-is : pos q.machine.dead_cycles <ℤ p.maxdeadcycles → st ≡ after_firing p es rs w
   alive-is a = then-step (int_lt (pos q.machine.dead_cycles) p.maxdeadcycles) (after_firing p es rs w) _ (below-test q.machine.dead_cycles p.maxdeadcycles a)
 

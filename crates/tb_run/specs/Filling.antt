@@ -36,7 +36,7 @@ sent_happenings es = map (λ e. happenings.Sent e) es
 
 -- ---- an act
 
--- the machine stands for the state after the act, and the warnings were sent
+-- the machine shows the state after the act, and the warnings were sent
 abbrev pub HasDone : List Boxed → List PlainNode → Routine → Routine → Acted → Type 0
 HasDone boxes waiting r q (went s ws rs) = (state_shown q.store boxes waiting q.machine ≡ s) × (q.machine.events ≡ r.machine.events ++ warnings_sent ws)
 HasDone boxes waiting r q (full line live) = ⊥
@@ -50,7 +50,7 @@ pub record HasActed (a : Act) (r q : Routine) : Type 0 where
   pub params : q.machine.params ≡ r.machine.params
   pub most : q.most ≡ r.most
 
--- the pool was full, with so many boxes; nothing changed
+-- the pool was full, with this many boxes; nothing changed
 pub record HasNotActed (a : Act) (live : ℕ) (r q : Routine) : Type 0 where
   pub full_pool : (boxes : List Boxed) (waiting : List PlainNode) → act_on r.machine.params (state_shown r.store boxes waiting r.machine) a ≡ full (line_of a) live
   pub same : q ≡ r
@@ -75,7 +75,7 @@ pub record IsFilledLast (wanted : Bool) (r : Routine) (e : Ending) (q : Routine)
   pub whole : IsWhole q
   pub params : q.machine.params ≡ r.machine.params
 
--- with the page that fires, so many nodes are held
+-- with the page that fires, this many nodes are held
 pub record IsBoundedPage (page : Page) (q : Routine) : Type 0 where
   pub held : fired_count (fired_in q.builder q.store page) + node_count (state_of q).held_page ≤ q.most + 1
   pub few : q.most ≤ 4194304
@@ -103,7 +103,7 @@ Fills wanted r (filled.Ends e) q hs = IsFilledLast wanted r e q hs
 
 -- ---- the page is served
 
--- the firing was allowed and went through: the routine stands for the state after it
+-- the firing was allowed and went through: the routine shows the state after it
 pub record IsServedOn (page : Page) (r q : Routine) : Type 0 where
   pub alive : pos r.machine.dead_cycles <ℤ r.machine.params.maxdeadcycles
   pub done : (whole_work r.machine r.builder r.store page).refused ≡ false
@@ -114,12 +114,12 @@ pub record IsServedOn (page : Page) (r q : Routine) : Type 0 where
   pub served : IsServed (held_in q).waiting (state_of q)
   pub bounded : IsBounded 8388608 q
 
--- no more than so many nodes are held
+-- no more than this many nodes are held
 pub record IsWithinLimit (q : Routine) : Type 0 where
   pub test : int_lt q.machine.params.maxnodes (pos (held_count (state_of q))) ≡ false
   pub within : pos q.most ≤ℤ q.machine.params.maxnodes
 
--- more than so many nodes are held
+-- more than this many nodes are held
 pub record IsOverLimit (n : ℕ) (q : Routine) : Type 0 where
   pub test : int_lt q.machine.params.maxnodes (pos (held_count (state_of q))) ≡ true
   pub count : n ≡ held_count (state_of q)
@@ -137,11 +137,13 @@ pub record IsDead (n : ℕ) (r q : Routine) : Type 0 where
   pub reached : r.machine.params.maxdeadcycles ≤ℤ pos r.machine.dead_cycles
   pub same : q ≡ r
 
+-- a fault of the firing came exactly when the definition has it
 abbrev pub IsFaultOf : RunFault → Page → Routine → Routine → Type 0
 IsFaultOf (faults.DeadCycles n) page r q = IsDead n r q
 IsFaultOf (faults.PageLimit n) page r q = IsLimited n page r q
 IsFaultOf faults.Memory page r q = ⊥
 
+-- after a page was served the run goes on within its limit, or ends so
 abbrev pub ServesTo : Page → Routine → Option Ending → Routine → Type 0
 ServesTo page r None q = IsServedOn page r q × IsWithinLimit q
 ServesTo page r (Some endings.Done) q = ⊥

@@ -32,7 +32,7 @@ pub record IsGalleyNode (cs : List Class) (n : PlainNode) : Type 0 where
   pub sized : IsSizedOnPage n
   pub servable : IsServable cs n.kind
 
--- the same of each node, of which there are at most so many, those of insertions too
+-- the same of each node, of which there are at most this many, those of insertions too
 pub record AreGalleyNodes (cs : List Class) (ns : List PlainNode) : Type 0 where
   pub nodes : All (IsGalleyNode cs) ns
   pub few : node_count ns ≤ 600005

@@ -14,10 +14,11 @@ abbrev pub event_of : Lists Node → Happening → RunEvent
 event_of store (happenings.Tried t) = offered t
 event_of store (happenings.Sent e) = sent (sent_shown store e)
 
+-- the events of what happened
 abbrev pub events_of : Lists Node → List Happening → List RunEvent
 events_of store hs = map (event_of store) hs
 
--- a place that was tried, where it is wanted
+-- a place that was tried, if it is wanted
 abbrev pub noted_try : Bool → Try → List Happening
 noted_try wanted t = if wanted then happenings.Tried t ∷ [] else []
 
@@ -26,7 +27,7 @@ abbrev pub noted_event : Bool → RunEvent → List RunEvent
 noted_event wanted (offered t) = if wanted then offered t ∷ [] else []
 noted_event wanted (sent e) = sent e ∷ []
 
--- all that is sent, and the tries where they are wanted
+-- all that is sent, and the tries if they are wanted
 abbrev pub noted : Bool → List RunEvent → List RunEvent
 noted wanted [] = []
 noted wanted (e ∷ es) = noted_event wanted e ++ noted wanted es
@@ -41,6 +42,7 @@ abbrev pub happening_lists : Happening → List ℕ
 happening_lists (happenings.Tried t) = []
 happening_lists (happenings.Sent e) = sent_lists e
 
+-- all lists of what happened
 abbrev pub happened_lists : List Happening → List ℕ
 happened_lists [] = []
 happened_lists (h ∷ hs) = happening_lists h ++ happened_lists hs

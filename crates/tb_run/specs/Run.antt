@@ -29,6 +29,7 @@ pub data End : Type 0 where
   page_limit : ℕ → End
   node_limit : ℕ → End
 
+-- what a run shows, what it records for its laws, and how it ends
 pub record Run : Type 0 where
   pub events : List RunEvent
   pub records : List Recorded
@@ -36,16 +37,18 @@ pub record Run : Type 0 where
 
 -- ---- the acts and places of a page
 
--- after the acts and places of a page: the state, the events, the records, and the line and number where the pool was full
+-- after the acts and places of a page: the state, the events, the records, and the line and number at which the pool was full
 pub record Progress : Type 0 where
   pub state : State
   pub events : List RunEvent
   pub records : List Recorded
   pub fault : Option (ℕ × ℕ)
 
+-- a progress that these events and records come before
 abbrev pub after_events : List RunEvent → List Recorded → Progress → Progress
 after_events es rs q = record q { events = es ++ q.events; records = rs ++ q.records }
 
+-- the progress by what an act led to: with its warnings, or up to the full pool
 abbrev pub progress_by : (State → Progress) → State → Acted → Progress
 progress_by later s (went s' ws rs) = after_events (map (λ w. sent (warned w)) ws) rs (later s')
 progress_by later s (full line live) = record { state = s; events = []; records = []; fault = Some (line, live) }
@@ -58,6 +61,7 @@ progress p (tried line b ∷ rs) least s = after_events (offered (try_of line b 
 
 -- ---- one page and the firing after it
 
+-- a step that ends the run, or after which it goes on; each with its events and records
 pub data Step : Type 0 where
   ends : List RunEvent → List Recorded → End → Step
   goes_on : List RunEvent → List Recorded → State → Step
@@ -66,6 +70,7 @@ pub data Step : Type 0 where
 abbrev pub held_count : State → ℕ
 held_count s = node_count s.waiting + node_count s.held_page + box_count s.boxes
 
+-- a firing by its work: the run ends at the page limit or the node limit, or goes on
 abbrev pub after_firing : Params → List RunEvent → List Recorded → Work → Step
 after_firing p es rs w =
     let events = es ++ map sent w.sent in
@@ -74,19 +79,22 @@ after_firing p es rs w =
     if w.refused then ends events records (page_limit (pred w.state.page))
     else (if int_lt p.maxnodes (pos held) then ends events records (node_limit held) else goes_on events records w.state)
 
--- the firing of a page, where it is allowed
+-- the firing of a page, if it is allowed
 abbrev pub fire : Params → Reach → Progress → Step
 fire p w q =
     let fired = after_firing p q.events q.records (out p q.state (fired_of (ask_of p q.state) q.state.classes q.state.boxes w)) in
     if int_lt (pos q.state.dead_cycles) p.maxdeadcycles then fired else ends q.events q.records (dead_cycles q.state.dead_cycles)
 
+-- a step by the progress of its page: it ends at a full pool, fires, or is done when nothing fires
 abbrev pub after_progress : Params → Reach → Progress → Option (ℕ × ℕ) → Step
 after_progress p w q None = let fired = fire p w q in if w.fires then fired else ends q.events (q.records ++ emptied q.state.floats ∷ []) (done w.passed)
 after_progress p w q (Some f) = ends q.events q.records (pool_full f.0 f.1)
 
+-- a step by what is reached
 abbrev pub step_of : Params → State → Reach → Step
 step_of p s w = let q = progress p w.reached awful_bad s in after_progress p w q q.fault
 
+-- one step of a run: a page and its firing
 unfoldable pub step : Params → State → Step
 step p s = step_of p s (reach_of (ask_of p s) s.classes s.boxes [] s.waiting)
 
@@ -96,6 +104,7 @@ step p s = step_of p s (reach_of (ask_of p s) s.classes s.boxes [] s.waiting)
 abbrev pub run_after : List RunEvent → List Recorded → Run → Run
 run_after es rs r = record r { events = es ++ r.events; records = rs ++ r.records }
 
+-- a run by its first step
 abbrev pub run_by : (State → Run) → Step → Run
 run_by later (ends es rs e) = record { events = es; records = rs; end = e }
 run_by later (goes_on es rs s) = run_after es rs (later s)
@@ -109,6 +118,7 @@ run_from p (suc fuel) s = run_by (λ s'. run_from p fuel s') (step p s)
 abbrev pub firings_left : Params → State → ℕ
 firings_left p s = (nat_abs p.maxpages - pred s.page) * (nat_abs p.maxdeadcycles + 1) + (nat_abs p.maxdeadcycles - s.dead_cycles)
 
+-- the run from a state, which ends at once if it holds too many nodes
 abbrev pub run_of_state : Params → State → Run
 run_of_state p s =
     let run = run_from p (suc (firings_left p s)) s in

@@ -39,12 +39,14 @@ pub record AreRunClasses (cs : List Class) : Type 0 where
 
 -- ---- marginal notes that have no place yet
 
+-- how many marginal notes an act takes
 abbrev pub act_notes : Act → ℕ
 act_notes (acts.Take f) = 0
 act_notes (acts.TakeMargin m) = 1
 act_notes (acts.Suppress area) = 0
 act_notes (acts.Columns two) = 0
 
+-- how many marginal notes a node takes
 abbrev pub kind_notes : PlainKind → ℕ
 kind_notes (plain m) = 0
 kind_notes (ins i) = 0
@@ -55,6 +57,7 @@ abbrev pub notes_waiting : List PlainNode → ℕ
 notes_waiting [] = 0
 notes_waiting (n ∷ ns) = kind_notes n.kind + notes_waiting ns
 
+-- how many marginal notes a box of the pool is: each note counts once, at its left box
 abbrev pub entry_notes : Entry → ℕ
 entry_notes (entries.Float f) = 0
 entry_notes (entries.Left m) = 1
@@ -88,7 +91,7 @@ pub record IsServed (ns : List PlainNode) (s : State) : Type 0 where
 
 -- ---- a page that fires
 
--- the same where this page fires: no node of its body is an insertion or an act, and each class has a box
+-- the same when this page fires: no node of its body is an insertion or an act, and each class has a box
 pub record IsServedPage (s : State) (f : Fired) : Type 0 where
   pub body : All IsSizedOnPage f.body
   pub text : AllByRecursion (λ n. IsTextKind n.kind) f.body

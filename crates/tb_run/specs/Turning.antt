@@ -27,7 +27,7 @@ use Rattle.tb_run.specs.Happened.{events_of, noted, step_events, happened_lists}
 abbrev pub held_in : Routine → Contents
 held_in r = contents_of r.builder r.store
 
--- the state that the routine stands for
+-- the state that the routine shows
 abbrev pub state_of : Routine → State
 state_of r = state_shown r.store (held_in r).boxes (held_in r).waiting r.machine
 
@@ -62,7 +62,7 @@ pub record IsSettled (r : Routine) : Type 0 where
   pub served : IsServed (held_in r).waiting (state_of r)
   pub bounded : IsBounded 4194304 r
 
--- the same where each event was taken
+-- the same, and each event was taken
 pub record IsReady (r : Routine) : Type 0 where
   pub settled : IsSettled r
   pub events : r.machine.events ≡ []
@@ -75,14 +75,14 @@ IsFaultEnd (faults.DeadCycles n) e = e ≡ dead_cycles n
 IsFaultEnd (faults.PageLimit n) e = e ≡ page_limit n
 IsFaultEnd faults.Memory e = ⊥
 
--- the end of a run at an ending, where it left the routine like this
+-- the end of a run at an ending, if it left the routine like this
 abbrev pub IsEnd : Routine → Ending → End → Type 0
 IsEnd r endings.Done e = e ≡ done (held_in r).page
 IsEnd r (endings.PoolFull line live) e = e ≡ pool_full line live
 IsEnd r (endings.Fault f) e = IsFaultEnd f e
 IsEnd r (endings.NodeLimit n) e = e ≡ node_limit n
 
--- the step ends the run, or leads to the state that the routine stands for
+-- the step ends the run, or leads to the state that the routine shows
 abbrev pub EndsAs : Routine → Option Ending → Step → Type 0
 EndsAs r None (ends es rs e) = ⊥
 EndsAs r None (goes_on es rs s) = state_of r ≡ s
@@ -94,7 +94,7 @@ pub record IsTurned (wanted : Bool) (r : Routine) (hs : List Happening) (o : Opt
   pub events : events_of q.store hs ≡ noted wanted (step_events (step r.machine.params (state_of r)))
   pub ended : EndsAs q o (step r.machine.params (state_of r))
 
--- the ending where more than `maxnodes` nodes are held
+-- the ending if more than `maxnodes` nodes are held
 abbrev pub over_limit : Params → ℕ → Option Ending
 over_limit p n = if int_lt p.maxnodes (pos n) then Some (endings.NodeLimit n) else None
 
@@ -105,11 +105,12 @@ pub record IsEnded (r : Routine) : Type 0 where
 
 -- ---- what was sent
 
--- the lists of a page that was sent may stand on a page
+-- the lists of a page that was sent are such as a page may have
 abbrev pub IsPage : Lists Node → Happening → Type 0
 IsPage store (happenings.Tried t) = Unit {0}
 IsPage store (happenings.Sent e) = IsPageSent store e
 
+-- the lists of all that was sent may be on a page
 abbrev pub ArePages : Lists Node → List Happening → Type 0
 ArePages store hs = AllByRecursion (IsPage store) hs
 

@@ -248,7 +248,7 @@ fn put_float(
 }
 
 // What takes a float or a marginal note, and the two firings that place it: at the first the page so far is held, and the
-// second says whether the item stands between paragraphs (ltoutput.dtx, \end@float).
+// second says whether the item is between paragraphs (ltoutput.dtx, \end@float).
 fn put_with_firings(
     store: &mut Lists<Node>,
     builder: &mut Builder,

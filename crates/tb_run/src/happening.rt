@@ -9,7 +9,7 @@ use tb_builder::Try;
 use tb_column::Sent;
 
 /// What the output routine sent: a type of this crate, since the checker does not find the modules of what a [`Sent`]
-/// holds where it fills in a type parameter. It is seen as that [`Sent`].
+/// holds when it fills in a type parameter. It is seen as that [`Sent`].
 #[derive(Clone, Copy)]
 pub struct Event {
     pub sent: Sent,
@@ -32,7 +32,7 @@ pub enum Happening {
     Sent(Event),
 }
 
-/// Appends a place that was tried, where it is wanted.
+/// Appends a place that was tried, if it is wanted.
 pub(crate) fn note_try(
     happened: &mut Vec<Happening>,
     wanted: bool,

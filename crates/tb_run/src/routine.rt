@@ -57,11 +57,11 @@ const ADDED_NODES: u64 = 300;
 pub enum Ending {
     /// Nothing fires any more; what is on the page is left.
     Done,
-    /// The item on this line found no room in the pool of floats, which holds so many boxes.
+    /// The item on this line found no room in the pool of floats, which holds `live` boxes.
     PoolFull { line: u32, live: u64 },
     /// A firing was refused, or came to the page limit. The fault is not `Memory`.
     Fault(RunFault),
-    /// More nodes than `maxnodes` were held: so many.
+    /// `count` nodes were held, more than `maxnodes`.
     NodeLimit { count: u64 },
 }
 
@@ -110,10 +110,10 @@ impl Routine {
         })
     }
 
-    /// The ending where more nodes are held than `maxnodes`: those that wait, those of the held page and those of
+    /// The ending if more nodes are held than `maxnodes`: those that wait, those of the held page and those of
     /// insertions, in their boxes too.
     ///
-    /// They are counted only where the bound on them passes `maxnodes`; their number is the bound then.
+    /// They are counted only if the bound on them passes `maxnodes`; their number is the bound then.
     pub fn node_limit(&mut self) -> Option<Ending>
         requires whole { IsWhole self.old }
         requires bounded { IsBounded 8388608 self.old }
@@ -137,9 +137,9 @@ impl Routine {
     /// Makes the next page of what waits, and fires it: it is shipped, or its penalty asks for something else (TeX: The
     /// Program §994, §1012; ltoutput.dtx, \output). Returns how the run ends with it, if it does.
     ///
-    /// It is the step of the run: `happened` holds what the output routine sent in the step, and where they are wanted the
+    /// It is the step of the run: `happened` holds what the output routine sent in the step, and if they are wanted the
     /// places that were tried, all in their order. The lists of the pages that were sent are the caller's until
-    /// [`Self::done_with`]. What `happened` held before is gone. Where memory is lacking, the run can not go on.
+    /// [`Self::done_with`]. What `happened` held before is gone. If memory runs out, the run can not go on.
     pub fn turn(
         &mut self,
         wanted: bool,

@@ -1,4 +1,4 @@
--- Where the limit on dead cycles has room for a galley, no refusal is for them.
+-- If the limit on dead cycles has room for a galley, no refusal is for them.
 use Rattle.std.proofs.Common.{◌≡◌, ℕ, List, Option, Some}
 use Rattle.tb_galley.specs.declared.Galley.{Galley}
 use Rattle.tb_galley.specs.Valid.{IsValid}

@@ -1,4 +1,4 @@
--- A run of a valid galley does not end for its dead cycles, where the limit has room for what its items can bring.
+-- A run of a valid galley does not end for its dead cycles, if the limit has room for what its items can bring.
 use Rattle.std.proofs.Common.{◌≡◌, refl, ap, ℕ, pos, ◌+◌, Bool, true, false, List, [], ◌∷◌, arith, ℤ, ◌≤◌}
 use Rattle.std.specs.Prelude.{◌≤ℤ◌, IsTrue, int_le, int_lt, if◌then◌else◌, ◌<ℤ◌}
 use Rattle.std.proofs.lemmas.Int.{ints}
@@ -34,7 +34,7 @@ use Rattle.tb_top.proofs.LowGoing.{low-few, low-goes}
 use Rattle.tb_top.proofs.HighGoing.{high-few, high-goes}
 use Rattle.tb_top.proofs.CycleStarts.{most, low-start, high-start, not-cycles}
 
--- ---- where what waits closes, the columns change only with no float on the way
+-- ---- if what waits closes, the columns change only with no float on the way
 
 went-by : (P : State → Type 0) (u : Bool) (line live : ℕ) (t : State) (ws : List Warn) (rs : List Recorded) → P t → AfterWent P (if u then full line live else went t ws rs)
 went-by P true line live t ws rs h = tt

@@ -135,7 +135,7 @@ module _ (p : Params) (s : State) (kept : Kept s) (ended : Ended false s.waiting
     front : Out.is_int page.penalty Out.clear_penalty ≡ true → FrontFits (Clear.cleared_front p page.body)
     front h = front-fits p page.body (flat h)
 
-    -- where no more is known of the state than its phase
+    -- if no more is known of the state than its phase
     pub any-well : (a : ℕ) (kind : Kind) (phase : Phase) → (kind ≡ halted → ⊥) → (kind ≡ once → ⊥) → (kind ≡ ready → ⊥) → (phase ≡ ending → int_le eject_penalty page.penalty ≡ true) → Again a (sorts s.waiting) → FiresWell p t (wait_cost page.rest + sort_cost (pen_sort page.penalty)) a kind phase page
     any-well a kind phase not_halted not_once not_ready ends r = record {
       region = rest-again a r;
@@ -150,11 +150,11 @@ module _ (p : Params) (s : State) (kept : Kept s) (ended : Ended false s.waiting
       blank = λ h i. let x = front h in (ap held_insertions (none-there i), x.fits, x.idle, x.cost);
     }
 
-    -- where no clear of the routine is to come
+    -- if no clear of the routine is to come
     pub closed-well : (a : ℕ) (phase : Phase) → a ≡ 0 → (phase ≡ ending → ⊥) → Again a (sorts s.waiting) → FiresWell p t (wait_cost page.rest + sort_cost (pen_sort page.penalty)) a closed phase page
     closed-well a phase e going r = any-well a closed phase (λ i. cc) (λ i. cc) (λ i. cc) (λ i. absurd (going i)) r
 
-    -- where nothing else is known
+    -- if nothing else is known
     pub phase-well : (a : ℕ) (phase : Phase) → PhaseHolds s phase → Again a (sorts s.waiting) → FiresWell p t (wait_cost page.rest + sort_cost (pen_sort page.penalty)) a any phase page
     phase-well a phase at r = any-well a any phase (λ i. cc) (λ i. cc) (λ i. cc) (phase-ends phase at) r
 

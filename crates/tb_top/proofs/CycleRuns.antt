@@ -1,4 +1,4 @@
--- A run in which the columns change only where no float is on the way has few firings without a page, where each firing keeps a bound.
+-- A run in which the columns change only when no float is on the way has few firings without a page, if each firing keeps a bound.
 use Rattle.std.proofs.Common.{◌≡◌, refl, sym, subst, ℕ, zero, suc, ℤ, pos, ◌+◌, ◌≤◌, Bool, true, false, List, [], ◌∷◌, ◌++◌, map, Option, Some, None, arith}
 use Rattle.std.specs.Prelude.{pred, int_lt, int_le, if◌then◌else◌}
 use Rattle.tb_scaled.specs.Scaled.{awful_bad, min_ℤ, eject_penalty}
@@ -24,7 +24,7 @@ use Rattle.tb_top.proofs.RunWeights.{Kept, page_of, StepWeighs, step-weighs, Act
 
 -- ---- acts
 
--- each change of columns among these acts comes where no float is on the way
+-- each change of columns among these acts comes when no float is on the way
 abbrev pub AfterWent : (State → Type 0) → Acted → Type 0
 AfterWent P (went t ws rs) = P t
 AfterWent P (full line live) = Unit {0}
@@ -33,7 +33,7 @@ abbrev pub ChangesEmpty : Params → State → List Act → Type 0
 ChangesEmpty p s [] = Unit {0}
 ChangesEmpty p s (a ∷ rest) = EmptyAt s a × AfterWent (λ t. ChangesEmpty p t rest) (act_on p s a)
 
--- after acts, where the pool was never full
+-- after acts, if the pool was never full
 abbrev Reaches : Params → ℕ → State → Progress → Type 0
 Reaches p n s q = q.fault ≡ None → Acts p n s q.state
 
@@ -208,7 +208,7 @@ module _ (p : Params) (calm : int_le p.interlinepenalty eject_penalty ≡ false)
   by-step I later h (ends es rs (page_limit n)) k i = tt
   by-step I later h (ends es rs (node_limit n)) k i = tt
 
-  -- with an invariant under which the columns change only where no float is on the way
+  -- with an invariant under which the columns change only when no float is on the way
   pub run-cycles : (I : State → Type 0) → ((s : State) → Cycled s → I s → ChangesEmpty p s (acted_of (page_of p s).reached)) → ((s : State) → Cycled s → I s → StepStays I (step p s)) → (fuel : ℕ) (s : State) → Cycled s → I s → RunCycles top (run_from p fuel s).end
   unfolding run_from
   run-cycles I empties keeps zero s c i = few s c.bounded

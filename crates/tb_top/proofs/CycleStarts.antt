@@ -38,7 +38,7 @@ use Rattle.tb_output.proofs.BreakSorts.{at-ordinary}
 high-cost : (q : ℤ) → int_le eject_penalty q ≡ true → sort_cost (pen_sort q) ≡ 0
 high-cost q h = at-ordinary (sort_cost (pen_sort q) ≡ 0) (λ x. pen_sort q ≡ x) q h (λ e. ap sort_cost e) (λ e. ap sort_cost e) refl
 
--- an item costs four at most, and nothing where it is no float, note, clear or change of columns
+-- an item costs four at most, and nothing if it is no float, note, clear or change of columns
 item-cost : (ks : List ℕ) (p : Params) (two : Bool) (line : ℕ) (k : ItemKind) → ItemFits ks k → wait_cost (on_line line (item_kinds p two k)) ≤ 4 * is_cycling k
 item-cost ks p two line (items.Penalty n) f = let h : sort_cost (pen_sort n) ≡ 0 = high-cost n f in omega arith
 item-cost ks p two line (items.Float x vert) f = by_taking (has_second p && two && x.wide) vert
@@ -88,7 +88,7 @@ start-cost g f =
 no-cost : (x : ℕ) → x ≤ 0 → x ≡ 0
 no-cost x h = omega arith
 
--- ---- each clear of the items stands behind its box
+-- ---- each clear of the items comes behind its box
 
 clear-ended : (line : ℕ) → Ended false (on_line line clearpage_kinds)
 clear-ended line = (tt, (λ h. cc, (tt, (tt, (λ h. refl, tt)))))
@@ -122,7 +122,7 @@ unfolding expanded
 start-ended g f =
     ended-both false (item_nodes g.params false g.items) (on_line g.end_line clearpage_kinds) (items-ended (numbers g) g.params false g.items f) (clear-ended g.end_line)
 
--- ---- a whatsit stands before each clear of the items
+-- ---- a whatsit comes before each clear of the items
 
 clear-spaced : (line : ℕ) → Spaced false (on_line line clearpage_kinds)
 clear-spaced line = (tt, (λ h. cc, (tt, (tt, (λ h. refl, tt)))))
@@ -228,7 +228,7 @@ module _ (g : Galley) (calm : int_le g.params.interlinepenalty eject_penalty ≡
   no-reason (page_limit n) h k c = tt
   no-reason (node_limit n) h k c = tt
 
-  -- with a bound that each firing keeps, and an invariant by which the columns change only where no float is on the way, the run does not end for its dead cycles
+  -- with a bound that each firing keeps, and an invariant by which the columns change only when no float is on the way, the run does not end for its dead cycles
   module _ (B : State → Type 0) (few : (s : State) → B s → s.dead_cycles ≤ most + 3) (goes : Goes g.params B) (start : B first)
       (I : State → Type 0) (empties : (s : State) → Kept s → I s → ChangesEmpty g.params s (acted_of (page_of g.params s).reached)) (keeps : (s : State) → Kept s → I s → StepStays I (step g.params s)) (begins : I first) where
     pub not-cycles : HasRoomForCycles g → IsNotCycles (run_of g).end

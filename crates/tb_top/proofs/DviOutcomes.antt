@@ -1,4 +1,4 @@
--- What stands after a DVI file was written or listed, or not.
+-- What holds after a DVI file was written or listed, or not.
 use Rattle.std.proofs.Common.{◌≡◌, refl, sym, ◌∙◌, ap, ℕ, inl, inr, List, [], Option, None, Some, Ok, Err}
 use Rattle.std.specs.Io.KnownBytes.{Keeps, Appends}
 use Rattle.tb_io.specs.Held.{AppendsPrefix}
@@ -38,7 +38,7 @@ module _ (input : List ℕ) (source out : Stream) (read : Gives source.before so
   lawful : IsValid g → WritesFile g out.before out.after → HasLawfulRun g
   lawful valid w = keeps-laws g valid views.Silent None None (totals_of (run_of g).events) (record { ended = w.ended; totals = refl; written = tt })
 
-  -- what stands where the file was written
+  -- what holds if the file was written
   pub dvi_well : IsValid g → WritesFile g out.before out.after → Finished (Some modes.Dvi) source out []
   dvi_well valid w =
       shown_by modes.Dvi input source out read HasLawfulRun (galley_with input g is HasLawfulRun (lawful valid w)) answers.Done [] _ (replied None w.near)
@@ -64,7 +64,7 @@ module _ (input : List ℕ) (source out : Stream) (read : Gives source.before so
   by-pages valid pages.WriteFault r rose = (cut (far_page g) refl r, rose refl, refl)
   by-pages valid pages.Memory r rose = (inr (cut (far_page g) refl r), refl)
 
-  -- what stands after a refusal of `paginate_dvi`
+  -- what holds after a refusal of `paginate_dvi`
   pub left_by_file : IsValid g → (e : DviRunFault) → RefusesFile g out.before out.after e → (e ≡ undone.Pages pages.WriteFault → Failed out) → StandsAfter (Some modes.Dvi) (refusal_status (dvi_fault e)) source out (refusal_line (dvi_fault e))
   left_by_file valid (undone.Pages f) r rose = by-pages valid f r (λ e. rose (ap undone.Pages e))
   left_by_file valid (undone.TooFar page) r rose = decided_by modes.Dvi input source out read _ _ _ (replied (Some page) r.0) refl refl r.1
@@ -72,7 +72,7 @@ module _ (input : List ℕ) (source out : Stream) (read : Gives source.before so
 -- ---- a listing
 
 module _ (input : List ℕ) (source out : Stream) (read : Gives source.before source.after input) (kept : Keeps out.before out.after) where
-  -- what stands where a file is not listed
+  -- what holds if a file is not listed
   pub left_by_listing : (r : Refusal) → IsNoListing (listing_reply input) r → StandsAfter (Some modes.DviList) (refusal_status r) source out (refusal_line r)
   left_by_listing (refusals.Galley (unread.At f)) h =
       rw (h.0) (decided_by modes.DviList input source out read _ _ (fault_reply too_long) h.1 refl refl (nothing out.before out.after kept))

@@ -38,7 +38,7 @@ among-sent : (es : List PlainSent) → sent_among (map sent es) ≡ es
 among-sent [] = refl
 among-sent (e ∷ es) = ap (λ xs. e ∷ xs) (among-sent es)
 
--- so many warnings at most, and so many pages
+-- at most this many warnings, and this many pages
 record Counts (warnings pages : ℕ) (es : List RunEvent) : Type 0 where
   few : warning_count (sent_among es) ≤ warnings
   all : page_count (sent_among es) ≡ pages
@@ -128,7 +128,7 @@ pub record SendsIn (p : Params) (s : State) (es : List RunEvent) : Type 0 where
   pub warnings : warning_count (sent_among es) ≤ length s.waiting + 3
   pub limit : s.page ≤ nat_abs p.maxpages + 1 → page_count (sent_among es) + s.page ≤ nat_abs p.maxpages + 1
 
--- where it goes on, the page number rose by the pages
+-- if it goes on, the page number rose by the pages
 abbrev pub SendsBy : Params → State → Step → Type 0
 SendsBy p s (ends es rs e) = SendsIn p s es
 SendsBy p s (goes_on es rs t) = SendsIn p s es × (page_count (sent_among es) + s.page ≡ t.page)

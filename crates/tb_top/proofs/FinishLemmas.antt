@@ -77,7 +77,7 @@ no-write (endings.Fault refused.Memory) h = cc
 no-write (endings.NodeLimit n) h = cc
 
 module _ (v : View) (r : Routine) (t : Totals) (e : Ending) (old new : Option (List ℕ)) (before now : ℕ) where
-  -- it comes where the sink's faults rose
+  -- it comes only if the sink's faults rose
   pub stops-cause : (start : ℕ) → start ≤ before → StopsWith v r t e old new before now faults.WriteFault → Rose start now
   stops-cause start le (inl h) = absurd (no-write e h.0)
   stops-cause start le (inr h) = fault-rose v before now start faults.WriteFault h.1 le refl
@@ -237,7 +237,7 @@ few-wait r ready =
 few-within : (n : ℕ) (most : ℤ) → pos n ≤ℤ most → most ≤ℤ pos 4194304 → n ≤ 4194304
 few-within n most h k = grind (arith, ints, h, k)
 
--- where no limit is passed, the routine is ready still
+-- if no limit is passed, the routine is ready still
 pub limit-ready : (r q : Routine) (o : Option Ending) → IsReady r → q ≡ record r { most = q.most } → IsBounded 8388608 q → IfNone o (pos q.most ≤ℤ r.machine.params.maxnodes) → o ≡ None → IsReady q
 limit-ready r q o ready same bounded within none =
     subst IsReady (sym same) (again (subst (IsBounded 4194304) same (record { held = bounded.held; few = few-within q.most r.machine.params.maxnodes (none-at o none within) ready.settled.params.maxnodes.high })))

@@ -84,7 +84,7 @@ nothing-left : (o : Option PlainColumn) → left_weight nothing_weighs o ≡ 0
 nothing-left None = refl
 nothing-left (Some c) = nothing-nodes c.nodes
 
--- where nothing weighs, a change of columns drops nothing that weighs
+-- if nothing weighs, a change of columns drops nothing that weighs
 pub nothing-fits : (o : Option PlainColumn) (ds : List Act) → ActsFit nothing_weighs o ds
 nothing-fits o [] = tt
 nothing-fits o (a ∷ ds) = (by_act a, nothing-fits o ds)

@@ -267,7 +267,7 @@ own-line has d c n t = ap (λ b. line_if (b && has n) n) (itself c) ∙ ap (λ b
     itself : (c : ℕ) → (c == c) ≡ true
     itself c = grind arith
 
--- each line stands in one class alone
+-- each line is in one class alone
 pub one-class : (has : ℕ → Bool) (d : Side) (m n a b : ℕ) (fs : List Float) → LinesRise m fs → IsAmong n (float_lines (of_kind has d a) fs) → IsAmong n (float_lines (of_kind has d b) fs) → a ≡ b
 one-class has d m n a b [] h i j = absurd i
 one-class has d m n a b (f ∷ fs) h i j =

@@ -103,14 +103,14 @@ viewed-nothing views.Silent = refl
 
 -- ---- the run from here
 
--- the lines of a part of the run, where the whole run has these events
+-- the lines of a part of the run, if the whole run has these events
 abbrev pub tail_lines : View → List RunEvent → Run → List ℕ
 tail_lines v all r = all_lines (event_text v) r.events ++ closing_lines r.end all
 
 abbrev pub header : List ℕ
 header = codes "report 1\n"
 
--- the whole text, also where the view shows nothing
+-- the whole text, also if the view shows nothing
 abbrev pub whole_text : View → Run → List ℕ
 whole_text v r = header ++ tail_lines v r.events r
 
@@ -302,7 +302,7 @@ module _ (v : View) (old mid new : Option (List ℕ)) (t : Totals) (whole : Run)
         (subst (Appends old mid) (sym (sym (viewed-whole v whole) ∙ ap (viewed v) (c.text ∙ ap (λ ls. c.written ++ ls) none ∙ append-nil c.written))) c.appended);
   }
 
--- a failed write or want of memory, after a prefix
+-- a failed write, or no memory, after a prefix
 pub refuses-cut : (v : View) (whole : Run) (old new : Option (List ℕ)) (before now : ℕ) (f : PageFault) → IsWriteFault v before now f → AppendsPrefix old new (view_text v whole) → Refuses v whole old new f
 refuses-cut v whole old new before now faults.Memory h b = b
 refuses-cut v whole old new before now faults.WriteFault h b = b

@@ -1,4 +1,4 @@
--- A firing after the acts of its page keeps the bound, where the top skip is higher than a page.
+-- A firing after the acts of its page keeps the bound, if the top skip is higher than a page.
 use Rattle.std.proofs.Common.{◌≡◌, refl, sym, subst, ℕ, zero, suc, pos, ◌+◌, ◌*◌, ◌≤◌, inl, inr, ◌⊎◌, true, false, [], arith}
 use Rattle.std.specs.Prelude.{◌≤ℤ◌, ◌<ℤ◌, int_le}
 use Rattle.tb_scaled.specs.Scaled.{eject_penalty}
@@ -49,7 +49,7 @@ module _ (p : Params) (m : ℕ) (calm : int_le p.interlinepenalty eject_penalty 
     abbrev acts : ℕ
     acts = acts_cost (acted_of (page_of p s).reached)
 
-    -- where no clear of the routine is to come
+    -- if no clear of the routine is to come
     closed-goes : b.again ≡ 0 → (x : Stage) → StageHolds p t 0 x → (x ≡ guarded → ⊥) → (x ≡ last → ⊥) → t.dead_cycles + total t + 2 * way_floats t.floats + stage_cost x ≤ m + 3 + 3 * 0 → Going t
     closed-goes z x holds unguarded going bound r =
         let weight : total t + 2 * way_floats t.floats ≤ m + 3 * 0 = sums (total t) (way_floats t.floats) (way_floats s.floats) (wait_cost s.waiting) (acts_cost (acted_of (page_of p s).reached)) b.again (reached-cost p s kept ended) a.way b.weight z in
@@ -100,7 +100,7 @@ module _ (p : Params) (m : ℕ) (calm : int_le p.interlinepenalty eject_penalty 
             by_second (inr i) = closed-goes z cleared refl (λ i. cc) (λ i. cc) (later t.dead_cycles s.dead_cycles (total t) (way_floats t.floats) (way_floats s.floats) (wait_cost s.waiting) (acts_cost (acted_of (page_of p s).reached)) b.again a.cycles (reached-cost p s kept ended) i (subst (λ (y : Stage). s.dead_cycles + wait_cost s.waiting + 2 * way_floats s.floats + stage_cost y ≤ m + 3 + 3 * b.again) e b.bound) z)
         by_stage last e h = absurd (no-end b.again z (b.coming e))
 
-    -- where clears of the routine are to come, no act was reached
+    -- if clears of the routine are to come, no act was reached
     open-goes : (n : ℕ) → b.again ≡ suc n → Going s
     open-goes n e r =
         let weight : total s + 2 * way_floats s.floats ≤ m + 3 * b.again = sums (total s) (way_floats s.floats) (wait_cost s.waiting) (acts_cost (acted_of (page_of p s).reached)) b.again (reached-cost p s kept ended) b.weight in

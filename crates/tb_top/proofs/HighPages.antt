@@ -1,4 +1,4 @@
--- What is known of the page that fires where the top skip is higher than a page: before a clear it breaks at its top glue, where a mark, note or whatsit comes first.
+-- What is known of the page that fires if the top skip is higher than a page: before a clear it breaks at its top glue, if a mark, note or whatsit comes first.
 use Rattle.std.proofs.Common.{◌≡◌, refl, sym, ◌∙◌, ap, subst, ℕ, zero, suc, ℤ, pos, ◌+◌, ◌≤◌, Bool, true, false, List, [], ◌∷◌, ◌++◌, take, drop, length, arith}
 use Rattle.std.specs.Prelude.{◌≤ℤ◌, ◌<ℤ◌}
 use Rattle.std.proofs.lemmas.Int.{ints}
@@ -120,7 +120,7 @@ module _ (p : Params) (s : State) (kept : Kept s) (ended : Ended false s.waiting
     abbrev behind : List PlainNode
     behind = drop (k p s kept ended) (w p s kept ended).passed ++ (w p s kept ended).beyond
 
-    -- no act and no insertion stands before the clear, so what was laid out is the page and the rest
+    -- no act and no insertion comes before the clear, so what was laid out is the page and the rest
     laid : pruned_nodes p.topskip s.waiting ≡ before ++ behind
     laid =
         let x = cut p s kept ended in
@@ -148,7 +148,7 @@ module _ (p : Params) (s : State) (kept : Kept s) (ended : Ended false s.waiting
     shaped : pruned_nodes p.topskip s.waiting ≡ top.lasting ++ record { line = top.line; kind = plain (skip (top_glue p.topskip (pos 0))) } ∷ flat_box one.line what.Blank ∷ break_at at.line Out.clear_penalty ∷ at.tail
     shaped = whole ∙ ap (λ ns. ns ++ flat_box one.line what.Blank ∷ break_at at.line Out.clear_penalty ∷ at.tail) top.whole ∙ append_assoc top.lasting (record { line = top.line; kind = plain (skip (top_glue p.topskip (pos 0))) } ∷ []) (flat_box one.line what.Blank ∷ break_at at.line Out.clear_penalty ∷ at.tail)
 
-    -- a lasting node stands before the clear
+    -- a lasting node comes before the clear
     has-first : HasFirst top.lasting
     has-first = by_list top.lasting (subst (Spaced false) shaped (spaced-pruned p.topskip false s.waiting spaced))
       where

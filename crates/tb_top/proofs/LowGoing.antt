@@ -1,4 +1,4 @@
--- A firing after the acts of its page keeps the bound, where the top skip is no higher than a page.
+-- A firing after the acts of its page keeps the bound, if the top skip is no higher than a page.
 use Rattle.std.proofs.Common.{◌≡◌, refl, sym, subst, ℕ, zero, suc, pos, ◌+◌, ◌*◌, ◌≤◌, inl, inr, ◌⊎◌, false, [], arith}
 use Rattle.std.specs.Prelude.{◌≤ℤ◌, int_le}
 use Rattle.tb_scaled.specs.Scaled.{eject_penalty}
@@ -41,7 +41,7 @@ module _ (p : Params) (m : ℕ) (calm : int_le p.interlinepenalty eject_penalty 
     abbrev total : State → ℕ
     total x = wait_cost (page x).rest + sort_cost (pen_sort (page x).penalty)
 
-    -- where no clear of the routine is to come
+    -- if no clear of the routine is to come
     closed-goes : b.again ≡ 0 → (phase : Phase) → PhaseHolds t phase → (phase ≡ ending → ⊥) → t.dead_cycles + total t + 2 * way_floats t.floats + 0 + phase_cost phase ≤ m + 2 + 2 * 0 → Going t
     closed-goes z phase at going bound r =
         let well = closed-well p s kept ended t a.classes a.boxes a.held (frozen_for (ask_of p t) t.classes t.boxes) 0 phase refl going tt in
@@ -72,7 +72,7 @@ module _ (p : Params) (m : ℕ) (calm : int_le p.interlinepenalty eject_penalty 
             by_second (inr i) = closed-goes z starting tt (λ i. cc) (later t.dead_cycles s.dead_cycles (total t) (way_floats t.floats) (way_floats s.floats) (wait_cost s.waiting) (acts_cost (acted_of (page_of p s).reached)) (credit b.kind) b.again a.cycles (reached-cost p s kept ended) i (subst (λ (y : Phase). s.dead_cycles + wait_cost s.waiting + 2 * way_floats s.floats + credit b.kind + phase_cost y ≤ m + 2 + 2 * b.again) e b.bound) z)
         by_phase ending e h = absurd (no-end b.again z (b.coming e))
 
-    -- where clears of the routine are to come, no act was reached
+    -- if clears of the routine are to come, no act was reached
     open-goes : Going s
     open-goes r =
         let well = open-well p s kept ended low room deep b.again b.kind b.phase b.region b.holds b.at in

@@ -1,4 +1,4 @@
--- Lists of lines: where as many are shown as stand in the text and in feet, and the text stands within what is shown, the text
+-- Lists of lines: if as many are shown as are in the text and in feet, and the text is within what is shown, the text
 -- is shown in its order, and the feet once.
 use Rattle.std.proofs.Common.{◌≡◌, refl, sym, ◌∙◌, ap, subst, ℕ, ◌+◌, ◌≤◌, inl, inr, Bool, true, false, List, [], ◌∷◌, ◌++◌, length, filter, IsPermutation, arith, length-append}
 use Rattle.std.specs.Prelude.{not, ◌==◌, ◌||◌, if◌then◌else◌}
@@ -12,11 +12,11 @@ use Rattle.tb_top.proofs.ShippedLines.{AllOut}
 
 -- ---- tests on lists of lines
 
--- how often a line stands in a list
+-- how often a line is in a list
 abbrev pub counted : ℕ → Measure
 counted n = record { of = λ xs. count n xs; nothing = refl; adds = count-append n }
 
--- how often it stands among those that pass a test
+-- how often it is among those that pass a test
 abbrev counted_if : (ℕ → Bool) → ℕ → Measure
 counted_if f n = record { of = λ xs. count n (filter f xs); nothing = refl; adds = λ xs ys. ap (count n) (filter-append f xs ys) ∙ count-append n (filter f xs) (filter f ys) }
 
@@ -40,7 +40,7 @@ none-passes f (x ∷ xs) h = by_test (f x) h.0 (none-passes f xs h.1)
     by_test true e k = let no : ⊥ = grind (arith, e) in absurd no
     by_test false e k = k
 
--- what passes stands within what passes
+-- what passes is within what passes
 within-passing : (f : ℕ → Bool) (xs ys : List ℕ) → AllByRecursion (λ x. f x ≡ true) xs → Within xs ys → Within xs (filter f ys)
 within-passing f [] ys a h = tt
 within-passing f (x ∷ xs) [] a h = absurd h
@@ -91,7 +91,7 @@ module _ (fs ts shown : List ℕ) (out : AllOut fs ts) (boxes : (m : Measure) �
   text_passes : filter outside ts ≡ ts
   text_passes = all-pass outside ts (outs-pass fs ts out)
 
-  -- the text stands within what is shown outside feet, which is no longer
+  -- the text is within what is shown outside feet, which is no longer
   text_within : Within ts (filter outside shown)
   text_within = within-passing outside ts shown (outs-pass fs ts out) within
 

@@ -84,7 +84,7 @@ module _ (g : Galley) (valid : IsValid g) (r : Run) (has : ℕ → Bool) (d : Si
   rising : LinesRise 0 (galley_floats g.items)
   rising = galley-rise g valid
 
-  -- a line that is known in one class and stands in another is of that class
+  -- a line that is known in one class and is in another is of that class
   class-is : (k c n : ℕ) → IsOfClass g (of_kind has d k) n → IsOfClass g (of_kind has d c) n → c ≡ k
   class-is k c n i j = one-class has d 0 n c k (galley_floats g.items) rising j i
 
@@ -127,7 +127,7 @@ module _ (g : Galley) (valid : IsValid g) (r : Run) (has : ℕ → Bool) (d : Si
       past : (m : ℕ) → m < outputs c.front → IsTrue (is_past n m 0 (c.front ++ output c.column ∷ c.back))
       past m l = past-front n m 0 c.front c.column c.back (front-lacks k n t i c.front known c.missing) (among-in n (node_lines float_lines_of c.column.nodes) (any-class (of_kind has d k) n c.column.nodes c.there)) (omega (arith, l))
 
-  -- two floats of one class, the first of which stands before the other
+  -- two floats of one class, the first of which comes before the other
   pub pair-order : (f h : Float) → f.line < h.line → has f.line ≡ true → has h.line ≡ true → IsAmong f.line (float_lines (of_kind has d f.class) (galley_floats g.items)) → IsAmong h.line (float_lines (of_kind has d h.class) (galley_floats g.items)) → IsAmong f.line (shipped_floats r) → IsAmong h.line (shipped_floats r)
       → f.class ≡ h.class → IsTrue (comes_before f.line h.line (shipped_floats r) || is_carried r f.line)
   pair-order f h l t u fi hi fs hs same =
@@ -184,7 +184,7 @@ width-above v n (f ∷ fs) h = by_width (beq f.wide v) (width-above v n fs h.1)
     by_width true m = (h.0, m)
     by_width false m = m
 
--- and no other, where lines rise
+-- and no other, if lines rise
 one-width : (m : ℕ) (fs : List Float) → LinesRise m fs → (v : Bool) → AllByRecursion (λ f. IsAmong f.line (width_lines v fs) → f.wide ≡ v) fs
 one-width m [] h v = tt
 one-width m (f ∷ fs) h v = (

@@ -1,4 +1,4 @@
--- A run keeps the order of a class: from firing to firing, where the lists are empty at each change of columns.
+-- A run keeps the order of a class: from firing to firing, if the lists are empty at each change of columns.
 use Rattle.std.proofs.Common.{◌≡◌, refl, sym, ◌∙◌, ap, subst, ℕ, zero, suc, pos, ◌+◌, ◌<◌, ◌⊎◌, inl, inr, Bool, true, false, List, [], ◌∷◌, ◌++◌, map, take, Option, Some, None, append_assoc, append-nil}
 use Rattle.std.specs.Prelude.{ℤ, pred, int_lt, int_le, ◌&&◌, if◌then◌else◌}
 use Rattle.std.specs.List.{AllByRecursion}
@@ -55,7 +55,7 @@ clear-frees b s rest q h k r = at-clear (b ≡ false) (BreakStands b s rest) q h
 
 -- ---- acts
 
--- the floats in the text, where quiet records are added
+-- the floats in the text, when quiet records are added
 text_quietly : (k : FloatKind) (rs more : List Recorded) (before : List ℕ) (l : FloatLists) (column : Option PlainColumn) (text : List ℕ) → AreQuiet more → AreInText k rs before l column text → AreInText k (rs ++ more) before l column text
 text_quietly k rs more before l column text q h = all-map (IsInText k rs (float_lines k l.top) (float_lines k l.here) (ahead_lines k before l column)) (IsInText k (rs ++ more) (float_lines k l.top) (float_lines k l.here) (ahead_lines k before l column)) (λ n x. record {
   placed = placed-more k n rs more x.placed;
@@ -102,7 +102,7 @@ module _ (k : FloatKind) (Known : ℕ → Type 0) (text before : List ℕ) where
     single = h.single;
   }
 
-  -- a change of columns drops a left column, where nothing stands above the columns
+  -- a change of columns drops a left column, if nothing stands above the columns
   changed : (takes : List ℕ) (rs : List Recorded) (l : FloatLists) (two first now : Bool) (column : Option PlainColumn) → l.double ≡ [] → Order k Known text takes before rs l two first column → Order k Known text takes before rs l now true None
   changed takes rs l two first now column d h = record {
     order = subst (Rises Known (λ n. IsCarried k n rs)) (append_assoc before (float_lines k l.double) rest)
@@ -163,14 +163,14 @@ no-line : (t : Bool) (n : ℕ) → (t ≡ true → ⊥) → line_if t n ≡ []
 no-line true n h = absurd (h refl)
 no-line false n h = refl
 
--- where all kinds but wide ones of release 2014 may be taken last
+-- if all kinds but wide ones of release 2014 may be taken last
 parted-more : (k : FloatKind) (l : FloatLists) (es : List Entry) (d : Side) → (d ≡ wider → float_lines k (floats_among es) ≡ float_lines k (floats_among l.current)) → PartedBy d k l → PartedBy d k (record l { current = es })
 parted-more k l es alike e x = x
 parted-more k l es narrow e x = x
 parted-more k l es wider e x = (e refl ∙ x.0, x.1)
 
 module _ (k : FloatKind) (Known : ℕ → Type 0) (p : Params) (r : IsReleased k p) (text past : List ℕ) where
-  -- the class in order in a state, where these lines are still to be taken
+  -- the class in order in a state, if these lines are still to be taken
   abbrev StateOrder : List ℕ → List Recorded → State → Type 0
   StateOrder takes rs s = Order k Known text takes past rs s.floats s.two_columns s.first_column s.left_column
 

@@ -1,4 +1,4 @@
--- What holds of the ends after a refusal and its line, and which answer the mode and the input decide.
+-- What holds of the ends after a refusal and its line, and which status the mode and the input decide.
 use Rattle.std.proofs.Common.{◌≡◌, ◌≢◌, ℕ, zero, suc, ◌≤◌, ◌⊎◌, List, [], ◌++◌, length, refl, sym, ◌∙◌, ap, subst, inl, inr, arith, append-nil, length-append, Bool, true, false, nat_lt, Option, None, Some, Ok, Err}
 use Rattle.std.specs.Prelude.{IfSome}
 use Rattle.std.specs.Io.KnownBytes.{Keeps, Appends}
@@ -67,7 +67,7 @@ line_at-well (dead_cycles n) is = cc
 line_at-well (page_limit n) is = cc
 line_at-well (node_limit n) is = cc
 
--- the refusal of a run has the answer and the line of the run's end
+-- the refusal of a run has the status and the line of the run's end
 pub page_status-ended : (e : End) (f : PageFault) → end_fault e ≡ Some f → page_status f ≡ answer_at e
 page_status-ended (done left) f is = cc
 page_status-ended (pool_full line live) f is = let same : pages.PoolFull line live ≡ f = cc in rw (← same) refl
@@ -96,7 +96,7 @@ module _ (m : Mode) (input : List ℕ) (source out : Stream) (read : Reads m sou
   cut_off_by r is w part = record { mode = m; asked_for = refl; input = input; read = read; writes = rw is w; written = rw is part }
 
   module _ (v : View) (g : Galley) (is : reply_to m input ≡ run_reply (view_text v (run_of g)) (run_of g)) (shows : (P : Galley → Type 0) → P g → ShowsRunOf P m input) where
-    -- what stands where `paginate` answers well
+    -- what holds if `paginate` returns Ok
     pub pages_well : (t : Totals) → Paginates v (run_of g) out.before out.after t → KeepsLaws g t → Finished (Some m) source out []
     pages_well t p laws =
         shown_by HasLawfulRun (shows HasLawfulRun (subst (KeepsLaws g) p.totals laws)) answers.Done [] _ is (answer_at-well (run_of g).end p.ended) (line_at-well (run_of g).end p.ended) p.written
@@ -109,7 +109,7 @@ module _ (m : Mode) (input : List ℕ) (source out : Stream) (read : Reads m sou
         shown_by LacksRoomForCycles (shows LacksRoomForCycles (no-room g valid v out.before out.after n r)) answers.DeadCycles (err_line (page_text (pages.DeadCycles n))) _ is
         (page_status-ended (run_of g).end (pages.DeadCycles n) r.ended) (page_text-ended (run_of g).end (pages.DeadCycles n) r.ended) r.written
 
-    -- what stands after a refusal of `paginate`
+    -- what holds after a refusal of `paginate`
     pub left_by_pages : IsValid g → (f : PageFault) → Refuses v (run_of g) out.before out.after f → (f ≡ pages.WriteFault → Failed out) → StandsAfter (Some m) (page_status f) source out (err_line (page_text f))
     left_by_pages valid (pages.PoolFull line live) r rose = pages_ended (pages.PoolFull line live) r
     left_by_pages valid (pages.DeadCycles n) r rose = out_of_cycles valid n r
@@ -119,7 +119,7 @@ module _ (m : Mode) (input : List ℕ) (source out : Stream) (read : Reads m sou
     left_by_pages valid pages.Memory r rose = (inr (cut_off_by _ is refl r), refl)
 
   module _ (text : List ℕ) (is : reply_to m input ≡ text_reply text) where
-    -- what stands where a text was written, or not
+    -- what holds if a text was written, or not
     pub text_well : Appends out.before out.after text → ShowsRunOf HasLawfulRun m input → Finished (Some m) source out []
     text_well w laws = shown_by HasLawfulRun laws answers.Done [] _ is refl refl w
 
@@ -141,7 +141,7 @@ pub keeps-same : (told : Option (List ℕ)) → Keeps told told
 keeps-same None = tt
 keeps-same (Some xs) = refl
 
--- what stands where the words ask for no mode
+-- what holds if the words ask for no mode
 pub left_by_words : (mode : Option Mode) (source out : Stream) → Keeps source.before source.after → Keeps out.before out.after → (f : WordsFault) → (f ≡ asked.Refused → mode ≡ None) → StandsAfter mode (words_status f) source out (refusal_line (refusals.Words f))
 left_by_words mode source out left held asked.Refused none = (record { none = none refl; read = left; written = held }, refl)
 left_by_words mode source out left held asked.Memory none = (inl held, refl)
@@ -177,7 +177,7 @@ module _ (m : Mode) (reply : Galley → Reply) (mode : ReadsGalleys m reply) (so
   fault_status true c line is d = rw is (rw is at d)
   fault_status false c line is d = rw is (rw is at d)
 
-  -- what stands where there is no galley
+  -- what holds if there is no galley
   pub left_by_reading : Keeps out.before out.after → (r : Refusal) → IsNoGalley source r → StandsAfter (Some m) (refusal_status r) source out (refusal_line r)
   left_by_reading kept (refusals.Input inputs.Failed) missing = (record { mode = m; asked_for = refl; failed = mode.unread source missing; written = kept }, refl)
   left_by_reading kept (refusals.Input inputs.Memory) missing = (inl kept, refl)
@@ -230,7 +230,7 @@ module _ (n : ℕ) (source out : Stream) (left : Keeps source.before source.afte
       shown_by (modes.Generate n) [] source out summary-read LacksRoomForCycles (no-room (generated n) valid views.Silent out.before out.after k r) answers.DeadCycles (err_line (page_text (pages.DeadCycles k))) _ refl
       (page_status-ended run_made.end (pages.DeadCycles k) r.ended) (page_text-ended run_made.end (pages.DeadCycles k) r.ended) (nothing-written (pages.DeadCycles k) r)
 
-  -- what stands where the run is refused; it writes nothing
+  -- what holds if the run is refused; it writes nothing
   pub left_by_run : IsValid (generated n) → (f : PageFault) → Refuses views.Silent run_made out.before out.after f → (f ≡ pages.WriteFault → ⊥) → StandsAfter (Some (modes.Generate n)) (page_status f) source out (err_line (page_text f))
   left_by_run valid (pages.PoolFull line live) r never = summary-ended (pages.PoolFull line live) r
   left_by_run valid (pages.DeadCycles k) r never = out-of-cycles-made valid k r
@@ -247,7 +247,7 @@ module _ (n : ℕ) (source out : Stream) (left : Keeps source.before source.afte
   well-written (node_limit k) t is = cc
 
   module _ (ended : end_fault run_made.end ≡ None) where
-    -- what stands where the line was written, or not
+    -- what holds if the line was written, or not
     pub summary_well : HasLawfulRun (generated n) → Appends out.before out.after (summary_line n (totals_of run_made.events)) → Finished (Some (modes.Generate n)) source out []
     summary_well laws a =
         let w = well-written run_made.end (totals_of run_made.events) ended in
@@ -269,7 +269,7 @@ module _ (input : List ℕ) (source out : Stream) (read : Gives source.before so
   lines_status-stands true c line is d = rw is (rw is at d)
   lines_status-stands false c line is d = rw is (rw is at d)
 
-  -- what stands where a text has no galley of lines
+  -- what holds if a text has no galley of lines
   pub left_by_lines : Keeps out.before out.after → (f : LinesRefusal) → GivesLines (Err f) (lines_galley input) → StandsAfter (Some modes.Lines) (lines_status f) source out (refusal_line (refusals.Lines f))
   left_by_lines kept (unbroken.At line field cause) h =
       lines_status-stands (is_range_of_lines cause) cause (refusal_line (refusals.Lines (unbroken.At line field cause))) refl
@@ -278,7 +278,7 @@ module _ (input : List ℕ) (source out : Stream) (read : Gives source.before so
       decided_by modes.Lines input source out read _ _ (no_lines_reply (no_breaks n)) (ap lines_reply h) refl refl (nothing out.before out.after kept)
   left_by_lines kept unbroken.Memory h = (inl kept, refl)
 
--- what stands where a text was not read
+-- what holds if a text was not read
 pub left_unread : (m : Mode) (source out : Stream) → (Failed source → IsUnread m source) → Keeps out.before out.after → (f : InputFault) → (f ≡ inputs.Failed → Failed source) → StandsAfter (Some m) (input_status f) source out (refusal_line (refusals.Input f))
 left_unread m source out unread kept inputs.Failed rose = (record { mode = m; asked_for = refl; failed = unread (rose refl); written = kept }, refl)
 left_unread m source out unread kept inputs.Memory rose = (inl kept, refl)
@@ -343,7 +343,7 @@ prefix_told line err (inl all) = prefix_whole err.before err.after line all
 prefix_told line err (inr part) = part.1
 
 module _ (asked : Option Mode) (source out err : Stream) (line : List ℕ) where
-  -- a refusal whose line was told
+  -- a refusal whose line was written
   stays : (status : Status) → status ≢ answers.Done → StandsAfter asked status source out line → TellsLine line err → Outcome asked status source out err
   stays answers.Done ne left told = absurd (ne refl)
   stays answers.Memory ne left told = record { refusal = answers.Memory; refused = ne; line = line; stands = left; told = prefix_told line err told }
@@ -367,7 +367,7 @@ module _ (asked : Option Mode) (source out err : Stream) (line : List ℕ) where
   Outcome-said status answer ne left (inr want) =
       rw (want.0) (record { refusal = status; refused = ne; line = line; stands = left; told = want.1 })
 
--- ---- the answer that the mode and the input decide
+-- ---- the status that the mode and the input decide
 
 -- all inputs that are too long have one fault
 grammar-long : (a b : List ℕ) → nat_lt input_limit (length a) ≡ true → nat_lt input_limit (length b) ≡ true → grammar a ≡ grammar b
@@ -383,7 +383,7 @@ grammar-read false input rest is ended =
     let short : length input ≤ input_limit = grind (arith, nat_tests) in
     rw (ended short, append-nil) refl
 
--- an answer that what was read decides is that of what was left
+-- a status that what was read decides is that of what was left
 galley_answer : (reply : Galley → Reply) (status : Status) (before after : Option (List ℕ)) (input : List ℕ) → Gives before after input → status ≡ (galley_reply reply (grammar input)).answer
     → IfSome before (λ left. (status ≡ (galley_reply reply (grammar left)).answer) ⊎ (status ≡ answers.Memory))
 galley_answer reply status None after input g is = tt
@@ -449,7 +449,7 @@ module _ (asked : Option Mode) (m : Mode) (source out : Stream) (well : Succeeds
   IsAnswer-decided : (status : Status) (line : List ℕ) → Decided asked status source out line → IsAnswer m status source.before
   IsAnswer-decided status line d = subst (λ (n : Mode). IsAnswer n status source.before) (same_mode d.mode d.asked_for) (IsAnswer-given d.mode status source d.input d.read d.answered)
 
-  -- where neither the source nor out failed
+  -- if neither the source nor out failed
   pub IsAnswer-stands : (status : Status) (line : List ℕ) → StandsAfter asked status source out line → IsAnswer m status source.before
   IsAnswer-stands answers.Words line left = let no : Some m ≡ None = sym well.asked_for ∙ left.0.none in cc
   IsAnswer-stands answers.ReadFault line left = absurd (well.read (subst (λ (n : Mode). IsUnread n source) (same_mode left.0.mode left.0.asked_for) left.0.failed))

@@ -67,7 +67,7 @@ pub few-sent : (store : Lists Node) (e : Sent) → IsPageSent store e → node_t
 few-sent store (events.Warn w) h = omega arith
 few-sent store (events.Ship page sheet) h = sheet-few store sheet h
 
--- the same of what a turn sends, where it sends anything
+-- the same of what a turn sends, if it sends anything
 module _ (store : Lists Node) where
   pub printable-some : (o : Option Sent) → IfSome o (IsPageSent store) → IfSome o (IsPrintableSent store)
   printable-some None h = tt

@@ -90,7 +90,7 @@ counts-first : (e : RunEvent) (es : List RunEvent) (t : Totals) → AreCounts (w
 counts-first (offered a) es t h = counts-before es t h
 counts-first (sent e) es t h = counts-before es (with_sent e t) h
 
--- the counts with the next one are in range, where those with all are
+-- the counts with the next one are in range, if those with all are
 pub counts-next : (store : Lists Node) (hs : List Happening) (k : ℕ) (h : Happening) (old now : Totals) → k < length hs → h ≡ get_or hs k h
     → with_events (events_of store (drop k hs)) now ≡ with_events (events_of store hs) old → AreCounts (with_events (events_of store hs) old) → AreCounts (with_events (event_of store h ∷ []) now)
 counts-next store hs k h old now lt is same room =

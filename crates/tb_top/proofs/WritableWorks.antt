@@ -1,4 +1,4 @@
--- A firing keeps the nodes and floats of the galley: what it sends and leaves has bytes in a DVI file, where what it began
+-- A firing keeps the nodes and floats of the galley: what it sends and leaves has bytes in a DVI file, if what it began
 -- with has, and each page has a number up to the page limit.
 use Rattle.std.proofs.Common.{◌≡◌, refl, ℕ, zero, suc, ◌+◌, ℤ, pos, Bool, true, false, List, [], ◌∷◌, ◌++◌, length, Option, Some, None}
 use Rattle.std.specs.Prelude.{◌==◌, ◌-◌, not, ◌&&◌, ◌||◌, int_lt, if◌then◌else◌}

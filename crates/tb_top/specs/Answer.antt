@@ -1,4 +1,4 @@
--- What a mode and an input decide: the answer, what is written and the line on err, where no end fails and memory suffices.
+-- What a mode and an input decide if no end fails and memory suffices: the status, what is written, and the line on err.
 use Rattle.std.specs.Prelude.{ℕ, ℤ, nat_lt, Bool, true, false, List, [], ◌∷◌, ◌++◌, length, codes, decimal, Option, Some, None, Result, Ok, Err, if◌then◌else◌}
 use Rattle.tb_galley.specs.declared.Cause.{Cause}
 use Rattle.tb_galley.specs.declared.Fault.{Fault}
@@ -31,7 +31,7 @@ use Rattle.tb_run.specs.Run.{Run, End, done, pool_full, dead_cycles, page_limit,
 use Rattle.tb_top.specs.Report.{report, trace, totals_of}
 use Rattle.tb_top.specs.DviPages.{run_pages}
 
--- ---- the answer
+-- ---- the status
 
 -- a fault of the galley is one of syntax or one of range
 abbrev pub answer_for_cause : Cause → Status
@@ -41,12 +41,12 @@ answer_for_cause c = if is_range_cause c then answers.Range else answers.Syntax
 abbrev pub answer_for_lines : LinesCause → Status
 answer_for_lines c = if is_range_of_lines c then answers.Range else answers.Syntax
 
--- the answer where a text has no galley of lines
+-- the status if a text has no galley of lines
 abbrev pub answer_without : NoGalley → Status
 answer_without (faulty f) = answer_for_lines f.cause
 answer_without (no_breaks n) = answers.NoBreaks
 
--- the answer for a run that ends so
+-- the status of a run that ends so
 abbrev pub answer_at : End → Status
 answer_at (done left) = answers.Done
 answer_at (pool_full line live) = answers.PoolFull
@@ -70,19 +70,19 @@ err_line text = codes "galley_pages: " ++ (text ++ 10 ∷ [])
 abbrev pub fault_text : Fault → List ℕ
 fault_text f = codes "line " ++ (decimal f.line ++ (codes " field " ++ (decimal f.field ++ (codes ": " ++ cause_name f.cause))))
 
--- a float or marginal note was taken while so many boxes were live
+-- a float or marginal note was taken while this many boxes were live
 abbrev pub pool_full_text : ℕ → ℕ → List ℕ
 pool_full_text line live = codes "line " ++ (decimal line ++ (codes ": float pool full at " ++ decimal live))
 
--- the page fired after so many firings without a page
+-- the page fired after this many firings without a page
 abbrev pub dead_cycles_text : ℕ → List ℕ
 dead_cycles_text n = codes "dead cycles " ++ decimal n
 
--- a page was to be shipped after so many pages
+-- a page was to be shipped after this many pages
 abbrev pub page_limit_text : ℕ → List ℕ
 page_limit_text n = codes "page limit " ++ decimal n
 
--- so many nodes were held
+-- this many nodes were held
 abbrev pub node_limit_text : ℕ → List ℕ
 node_limit_text n = codes "node limit at " ++ decimal n
 
@@ -100,7 +100,7 @@ makeup_line made = []
 makeup_line (at_pages n) = err_line (page_limit_text n)
 makeup_line (at_nodes n) = err_line (node_limit_text n)
 
--- ---- the lines of the answers that the input does not decide
+-- ---- the lines of the statuses that the input does not decide
 
 -- words after the program's name
 abbrev pub words_line : List ℕ
@@ -120,7 +120,7 @@ memory_line = err_line (codes "out of memory")
 
 -- ---- what a mode makes of what it reads
 
--- the answer, what is written, the line on err, and whether it comes to writing
+-- the status, what is written, the line on err, and whether it comes to writing
 pub record Reply : Type 0 where
   pub answer : Status
   pub written : List ℕ
@@ -143,11 +143,12 @@ text_reply text = record { answer = answers.Done; written = text; line = []; wri
 abbrev pub summary_line : ℕ → Totals → List ℕ
 summary_line n t = line (codes "gen" ++ and_count n ++ codes " pages" ++ and_count t.pages ++ codes " boxes" ++ and_count t.boxes ++ codes " floats" ++ and_count t.floats ++ codes " warnings" ++ and_count t.warnings)
 
--- what is written about a run that ends so: nothing where it is refused
+-- what is written about a run that ends so: nothing if it is refused
 abbrev pub summary_at : ℕ → Totals → End → List ℕ
 summary_at n t (done left) = summary_line n t
 summary_at n t _ = []
 
+-- the run ends well
 abbrev pub is_done : End → Bool
 is_done (done left) = true
 is_done _ = false

@@ -18,11 +18,11 @@ pub record ColumnRows : Type 0 where
   pub pool_full_at_a_marginal_note : Replies Report (codes "galley 1\nset textheight 100\nset topskip 10\nset maxdepth 0\nset baselineskip 0\nset bottom flush\nset skipfootins 0\nset footsplittop 10\nset intextsep 0\nset textfloatsep 0\nset floatsep 0\nset fptop 0\nset fpsep 0\nset fpbot 0\nset dbltextfloatsep 0\nset pool 2\nbox a 60 0\nfloat F 1 single b 50 par\nmargin m 5 0 5 0 par\nend\n") PoolFull (codes "report 1\n") (codes "galley_pages: line 19: float pool full at 1\n")
   -- a page of wide floats
   pub wide_page : Replies Report (codes "galley 1\nset textheight 100\nset topskip 10\nset maxdepth 0\nset baselineskip 0\nset bottom flush\nset skipfootins 0\nset footsplittop 10\nset intextsep 0\nset textfloatsep 0\nset floatsep 0\nset fptop 0\nset fpsep 0\nset fpbot 0\nset dbltextfloatsep 0\nset dblfptop 0\nset dblfpbot 0\ntwocolumn\nbox a 10 0\nfloat W 1 double p 60 par\nnewpage\nbox b 10 0\nend\n") Done (codes "report 1\npage 1 two at 0\ncolumn 1 text height 100 natural 10 set stretch fil 90/65536\nbox a 0 10 0\ncolumn 2 text height 100 natural 10 set stretch fil 90/65536\nbox b 0 10 0\npage 2 wide\ncolumn 1 floats height 100 natural 60 set none\nfloat W 1 page 0 60\nend pages 2 boxes 2 floats 1 warnings 0\n") []
-  -- marginal notes stand left of the first column and right of the second
+  -- marginal notes are left of the first column and right of the second
   pub notes_beside_two_columns : Replies Report (codes "galley 1\nset textheight 100\nset topskip 10\nset maxdepth 0\nset baselineskip 0\nset bottom flush\nset skipfootins 0\nset footsplittop 10\nset intextsep 0\nset textfloatsep 0\nset floatsep 0\nset fptop 0\nset fpsep 0\nset fpbot 0\nset dbltextfloatsep 0\nset marginparpush 2\ntwocolumn\nbox a 10 0\nmargin m 8 4 8 4 par\nnewpage\nbox b 10 0\nmargin n 8 4 8 4 par\nend\n") Done (codes "report 1\npage 1 two at 0\ncolumn 1 text height 100 natural 10 set stretch fil 90/65536\nbox a 0 10 0\nmargin m left 0 10 8 4\ncolumn 2 text height 100 natural 10 set stretch fil 90/65536\nbox b 0 10 0\nmargin n right 0 10 8 4\nend pages 1 boxes 2 floats 0 warnings 0\n") []
-  -- with `mparswitch` marginal notes stand left on even pages
+  -- with `mparswitch` marginal notes are left on even pages
   pub notes_change_sides : Replies Report (codes "galley 1\nset textheight 100\nset topskip 10\nset maxdepth 0\nset baselineskip 0\nset bottom flush\nset skipfootins 0\nset footsplittop 10\nset intextsep 0\nset textfloatsep 0\nset floatsep 0\nset fptop 0\nset fpsep 0\nset fpbot 0\nset dbltextfloatsep 0\nset marginparpush 2\nset mparswitch on\nbox a 10 0\nmargin m 8 4 8 4 par\nnewpage\nbox b 10 0\nmargin n 8 4 8 4 par\nend\n") Done (codes "report 1\npage 1 one\ncolumn 1 text height 100 natural 10 set stretch fil 90/65536\nbox a 0 10 0\nmargin m right 0 10 8 4\npage 2 one\ncolumn 1 text height 100 natural 10 set stretch fil 90/65536\nbox b 0 10 0\nmargin n left 0 10 8 4\nend pages 2 boxes 2 floats 0 warnings 0\n") []
-  -- with `reversemargin` they stand on the other side
+  -- with `reversemargin` they are on the other side
   pub notes_on_reversed_sides : Replies Report (codes "galley 1\nset textheight 100\nset topskip 10\nset maxdepth 0\nset baselineskip 0\nset bottom flush\nset skipfootins 0\nset footsplittop 10\nset intextsep 0\nset textfloatsep 0\nset floatsep 0\nset fptop 0\nset fpsep 0\nset fpbot 0\nset dbltextfloatsep 0\nset marginparpush 2\nset mparswitch on\nset reversemargin on\nbox a 10 0\nmargin m 8 4 8 4 par\nnewpage\nbox b 10 0\nmargin n 8 4 8 4 par\nend\n") Done (codes "report 1\npage 1 one\ncolumn 1 text height 100 natural 10 set stretch fil 90/65536\nbox a 0 10 0\nmargin m left 0 10 8 4\npage 2 one\ncolumn 1 text height 100 natural 10 set stretch fil 90/65536\nbox b 0 10 0\nmargin n right 0 10 8 4\nend pages 2 boxes 2 floats 0 warnings 0\n") []
   -- marginal notes push each other down
   pub marginal_notes : Replies Report (codes "galley 1\nset textheight 100\nset topskip 10\nset maxdepth 0\nset baselineskip 0\nset bottom flush\nset skipfootins 0\nset footsplittop 10\nset intextsep 0\nset textfloatsep 0\nset floatsep 0\nset fptop 0\nset fpsep 0\nset fpbot 0\nset dbltextfloatsep 0\nset marginparpush 2\nbox a 10 2\nmargin m 8 4 8 4 par\nbox b 6 2\nmargin n 8 4 8 4 par\nnewpage\nbox c 10 0\nmargin q 8 4 8 4 par\nend\n") Done (codes "report 1\nwarn moved n 6\npage 1 one\ncolumn 1 text height 100 natural 20 set stretch fil 80/65536\nbox a 0 10 2\nmargin m right 0 10 8 4\nbox b 12 6 2\nmargin n right 6 18 8 4\npage 2 one\ncolumn 1 text height 100 natural 10 set stretch fil 90/65536\nbox c 0 10 0\nmargin q right 0 10 8 4\nend pages 2 boxes 3 floats 0 warnings 1\n") []

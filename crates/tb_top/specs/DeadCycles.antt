@@ -33,6 +33,6 @@ IsNotCycles (dead_cycles n) = ⊥
 IsNotCycles (page_limit n) = Unit {0}
 IsNotCycles (node_limit n) = Unit {0}
 
--- no run of a valid galley ends for its dead cycles, where their limit has room for it
+-- no run of a valid galley ends for its dead cycles if their limit has room for it
 abbrev pub DeadCyclesAreFew : Type 0
 DeadCyclesAreFew = (g : Galley) → IsValid g → HasRoomForCycles g → IsNotCycles (run_of g).end

@@ -37,7 +37,7 @@ pub record Writes (g : Galley) (old new : Option (List ℕ)) (end : Option PageF
 abbrev pub WritesFile : Galley → Option (List ℕ) → Option (List ℕ) → Type 0
 WritesFile g old new = Writes g old new None
 
--- after each refusal of the run: after a failed write or want of memory a prefix of the file is written
+-- after each refusal of the run: after a failed write, or if memory ran out, a prefix of the file is written
 abbrev pub RefusesPages : Galley → Option (List ℕ) → Option (List ℕ) → PageFault → Type 0
 RefusesPages g old new (faults.PoolFull line live) = Writes g old new (Some (faults.PoolFull line live))
 RefusesPages g old new (faults.DeadCycles n) = Writes g old new (Some (faults.DeadCycles n))

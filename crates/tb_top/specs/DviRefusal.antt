@@ -1,4 +1,4 @@
--- The answer and the text of each refusal of a DVI file.
+-- The status and the text of each refusal of a DVI file.
 use Rattle.std.specs.Prelude.{◌≡◌, ℕ, List}
 use Rattle.tb_galley.specs.declared.Cause.TheVariants as causes
 use Rattle.tb_galley.specs.declared.Fault.{Fault}
@@ -13,7 +13,7 @@ use Rattle.tb_top.specs.declared.status.Status.{Status}
 use Rattle.tb_top.specs.declared.status.Status.TheVariants as answers
 use Rattle.tb_top.specs.Answer.{Reply, fault_reply, cause_reply}
 
--- the answer
+-- the status
 abbrev pub dvi_status : DviRefusal → Status
 dvi_status (dvi.TooFar page) = answers.TooFar
 dvi_status (dvi.At byte cause) = answers.Dvi

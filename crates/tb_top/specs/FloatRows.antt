@@ -6,7 +6,7 @@ use Rattle.tb_top.specs.Rows.{Replies}
 
 -- each input with what the definitions give
 pub record FloatRows : Type 0 where
-  -- a float that fits stands in the text
+  -- a float that fits goes into the text
   pub float_of_79_goes_here : Replies Report (codes "galley 1\nset textheight 100\nset topskip 10\nset maxdepth 0\nset baselineskip 0\nset bottom flush\nset skipfootins 0\nset footsplittop 10\nset intextsep 0\nset textfloatsep 0\nset floatsep 0\nset fptop 0\nset fpsep 0\nset fpbot 0\nset dbltextfloatsep 0\nbox a 20 0\nfloat F 1 single ht 79 par\nend\n") Done (codes "report 1\npage 1 one\ncolumn 1 text height 100 natural 99 set stretch fil 1/65536\nbox a 0 20 0\nfloat F 1 here 20 79\nend pages 1 boxes 1 floats 1 warnings 0\n") []
   -- one that is too high waits for the next column
   pub float_of_80_is_deferred : Replies Report (codes "galley 1\nset textheight 100\nset topskip 10\nset maxdepth 0\nset baselineskip 0\nset bottom flush\nset skipfootins 0\nset footsplittop 10\nset intextsep 0\nset textfloatsep 0\nset floatsep 0\nset fptop 0\nset fpsep 0\nset fpbot 0\nset dbltextfloatsep 0\nbox a 20 0\nfloat F 1 single ht 80 par\nend\n") Done (codes "report 1\npage 1 one\ncolumn 1 text height 100 natural 20 set stretch fil 80/65536\nbox a 0 20 0\npage 2 one\ncolumn 1 floats height 100 natural 80 set none\nfloat F 1 page 0 80\nend pages 2 boxes 1 floats 1 warnings 0\n") []

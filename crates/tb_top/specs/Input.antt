@@ -10,7 +10,7 @@ pub record HasRead {T : Type 0} (holds : T → List ℕ → Type 0) (left_before
   pub read : Gives left_before left_after input
   pub held : holds here input
 
--- the source gave so many bytes so far, and this holds them
+-- the source gave this many bytes so far, and this holds them
 pub record IsRead {T : Type 0} (holds : T → List ℕ → Type 0) (left_before left_after : Option (List ℕ)) (here : T) (taken : ℕ) : Type 0 where
   pub input : List ℕ
   pub given : Consumes left_before left_after input

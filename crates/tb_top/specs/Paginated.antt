@@ -1,4 +1,4 @@
--- What `paginate` answers and writes.
+-- What `paginate` returns and writes.
 use Rattle.std.specs.Prelude.{◌≡◌, ℕ, List, [], Option, Some, None}
 use Rattle.std.specs.Io.KnownBytes.{Appends}
 use Rattle.tb_io.specs.Held.{AppendsPrefix}
@@ -35,7 +35,7 @@ pub record EndsWith (v : View) (r : Run) (old new : Option (List ℕ)) (e : Page
   pub ended : end_fault r.end ≡ Some e
   pub written : Appends old new (view_text v r)
 
--- what stands after each refusal: after a failed write or want of memory a prefix of the text was written
+-- what holds after each refusal: after a failed write or want of memory a prefix of the text was written
 abbrev pub Refuses : View → Run → Option (List ℕ) → Option (List ℕ) → PageFault → Type 0
 Refuses v r old new (faults.PoolFull line live) = EndsWith v r old new (faults.PoolFull line live)
 Refuses v r old new (faults.DeadCycles n) = EndsWith v r old new (faults.DeadCycles n)

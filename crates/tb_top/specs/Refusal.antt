@@ -1,4 +1,4 @@
--- The answer and the line of each refusal.
+-- The status and the line of each refusal.
 use Rattle.std.specs.Prelude.{◌≡◌, ℕ, List, [], codes, Result, Ok, Err}
 use Rattle.tb_galley.specs.declared.Galley.{Galley}
 use Rattle.tb_galley.specs.declared.GalleyFault.{GalleyFault}
@@ -29,14 +29,14 @@ use Rattle.tb_top.specs.declared.status.Status.TheVariants as answers
 use Rattle.tb_top.specs.Outcome.{Stream, Failed, Gives}
 use Rattle.tb_top.specs.Answer.{answer_for_cause, answer_for_lines, err_line, fault_text, pool_full_text, dead_cycles_text, page_limit_text, node_limit_text}
 
--- ---- the answer
+-- ---- the status
 
--- where there is no galley
+-- if there is no galley
 abbrev pub galley_status : GalleyFault → Status
 galley_status (unread.At f) = answer_for_cause f.cause
 galley_status unread.Memory = answers.Memory
 
--- where the pages stopped
+-- if the pages stopped
 abbrev pub page_status : PageFault → Status
 page_status (pages.PoolFull line live) = answers.PoolFull
 page_status (pages.DeadCycles n) = answers.DeadCycles
@@ -45,22 +45,22 @@ page_status (pages.NodeLimit n) = answers.NodeLimit
 page_status pages.WriteFault = answers.WriteFault
 page_status pages.Memory = answers.Memory
 
--- where the input was not read
+-- if the input was not read
 abbrev pub input_status : InputFault → Status
 input_status inputs.Failed = answers.ReadFault
 input_status inputs.Memory = answers.Memory
 
--- where no mode was asked for
+-- if no mode was asked for
 abbrev pub words_status : WordsFault → Status
 words_status asked.Refused = answers.Words
 words_status asked.Memory = answers.Memory
 
--- where a text was not written
+-- if a text was not written
 abbrev pub output_status : SinkFault → Status
 output_status outputs.Failed = answers.WriteFault
 output_status outputs.Memory = answers.Memory
 
--- where a text has no galley of lines
+-- if a text has no galley of lines
 abbrev pub lines_status : LinesRefusal → Status
 lines_status (unbroken.At line field cause) = answer_for_lines cause
 lines_status (unbroken.NoBreaks n) = answers.NoBreaks
@@ -80,12 +80,12 @@ refusal_status (refusals.Unsuited n) = answers.Unsuited
 
 -- ---- the line on err
 
--- where there is no galley
+-- if there is no galley
 abbrev pub galley_text : GalleyFault → List ℕ
 galley_text (unread.At f) = fault_text f
 galley_text unread.Memory = codes "out of memory"
 
--- where the pages stopped
+-- if the pages stopped
 abbrev pub page_text : PageFault → List ℕ
 page_text (pages.PoolFull line live) = pool_full_text line live
 page_text (pages.DeadCycles n) = dead_cycles_text n
@@ -94,17 +94,17 @@ page_text (pages.NodeLimit n) = node_limit_text n
 page_text pages.WriteFault = codes "write fault"
 page_text pages.Memory = codes "out of memory"
 
--- where the input was not read
+-- if the input was not read
 abbrev pub input_text : InputFault → List ℕ
 input_text inputs.Failed = codes "read fault"
 input_text inputs.Memory = codes "out of memory"
 
--- where no mode was asked for
+-- if no mode was asked for
 abbrev pub words_text : WordsFault → List ℕ
 words_text asked.Refused = codes "words refused"
 words_text asked.Memory = codes "out of memory"
 
--- where a text was not written
+-- if a text was not written
 abbrev pub output_text : SinkFault → List ℕ
 output_text outputs.Failed = codes "write fault"
 output_text outputs.Memory = codes "out of memory"
@@ -139,7 +139,7 @@ makeup_refusal unmade.Memory = refusals.Pages pages.Memory
 
 -- ---- of a run before it tells
 
--- the answer of a run that was served, or refused
+-- the status of a run that was served, or refused
 abbrev pub served_status : {T : Type 0} → Result T Refusal → Status
 served_status (Ok v) = answers.Done
 served_status (Err r) = refusal_status r

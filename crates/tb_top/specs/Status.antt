@@ -1,4 +1,4 @@
--- The exit status of each answer.
+-- The exit code of each status.
 use Rattle.std.specs.Prelude.{ℕ}
 use Rattle.tb_top.specs.declared.status.Status.{Status}
 use Rattle.tb_top.specs.declared.status.Status.TheVariants as answers

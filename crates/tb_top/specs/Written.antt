@@ -69,7 +69,7 @@ pub record Shows {T : Type 0} (v : View) (held_old held_new : Option (List ℕ))
 abbrev pub last_lines : Routine → Totals → List ℕ
 last_lines r t = end_lines (nodes_shown r.store r.builder.page) t
 
--- the refusal of a fault of the output routine's machine; it is none for want of memory
+-- the refusal of a fault of the output routine's machine; it is none if memory ran out
 abbrev pub IsFaultRefusal : RunFault → PageFault → Type 0
 IsFaultRefusal (refused.DeadCycles n) f = f ≡ faults.DeadCycles n
 IsFaultRefusal (refused.PageLimit n) f = f ≡ faults.PageLimit n

@@ -15,7 +15,7 @@ pub enum DviRefusal {
     At { byte: u64, cause: DviCause },
 }
 
-/// The answer of the run.
+/// The status of the run.
 pub fn dvi_status(refusal: DviRefusal) -> Status
     ensures { result ≡ dvi_status refusal }
 {

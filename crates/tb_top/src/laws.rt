@@ -24,7 +24,7 @@ pub fn lists_are_emptied()
     ensures { ListsAreEmptied }
 {}
 
-/// Each ships once, where a run of a valid galley ends well: the boxes and rules outside feet in the order of the galley, and
+/// Each ships once if a run of a valid galley ends well: the boxes and rules outside feet in the order of the galley, and
 /// each box and rule of a foot, each float and each marginal note exactly once. The totals of the run are those of the
 /// galley.
 pub fn each_ships_once()
@@ -32,28 +32,28 @@ pub fn each_ships_once()
     ensures totals { TotalsAreKept }
 {}
 
-/// The floats of a class keep their order, where a run of a valid galley ends well: each ships before every later one of its
+/// The floats of a class keep their order if a run of a valid galley ends well: each ships before every later one of its
 /// class in the galley, in release 2014 of its class and its width as it was taken, save a float in the text that a break
-/// carried, which stands in a later column than the one in which it was placed. Ships are ordered by page; on a page, the
+/// carried, which is in a later column than the one in which it was placed. Ships are ordered by page; on a page, the
 /// floats above both columns, then the columns from left to right; in a column, by its list.
 pub fn classes_keep_their_order()
     ensures { ClassesKeepOrder }
 {}
 
-/// Dead cycles are few: a run of a valid galley does not end for its dead cycles, where their limit allows four for each
+/// Dead cycles are few: a run of a valid galley does not end for its dead cycles if their limit allows four for each
 /// float, marginal note, clear and change of columns, and sixteen besides.
 pub fn dead_cycles_are_few()
     ensures { DeadCyclesAreFew }
 {}
 
-/// Plain TeX's page makeup, where the run of a valid galley that it serves is done: the boxes and rules outside feet ship in the
+/// Plain TeX's page makeup, if the run of a valid galley that it serves is done: the boxes and rules outside feet ship in the
 /// order of the galley, and each box and rule of a foot, and each float, exactly once. The totals of the run are those of the
 /// galley.
 pub fn each_makes_up_once()
     ensures { EachMakesUpOnce }
 {}
 
-/// DVI files list their pages: where a run of a valid galley ends well, each of its pages is in range and its DVI file has at
+/// DVI files list their pages: if a run of a valid galley ends well, each of its pages is in range and its DVI file has at
 /// most 8388608 bytes, the lister's machine on the file lists exactly the placements of the run, page by page.
 pub fn dvi_files_list_their_pages()
     ensures { FilesListTheirPages }

@@ -45,11 +45,11 @@ pub enum View {
 pub enum PageFault {
     /// A float or marginal note of this line was taken while this many boxes were live.
     PoolFull { line: u32, live: u64 },
-    /// The page fired after so many firings without a page.
+    /// The page fired after this many firings without a page.
     DeadCycles { count: u64 },
-    /// A page was to be shipped after so many pages.
+    /// A page was to be shipped after this many pages.
     PageLimit { pages: u64 },
-    /// More nodes than `maxnodes` were held: so many.
+    /// This many nodes were held, more than `maxnodes`.
     NodeLimit { count: u64 },
     /// The sink failed.
     WriteFault,

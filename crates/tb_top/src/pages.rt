@@ -39,16 +39,16 @@ impl From<AllocError> for PageFault {
 }
 
 /// Makes the pages of a galley and writes what a view shows of the run, piece by piece: the report, with the places that
-/// were tried or without, or nothing. Answers what was shipped.
+/// were tried or without, or nothing. Returns what was shipped.
 ///
-/// The run ends well where nothing fires any more, or is refused: a float or marginal note found no room (`PoolFull`), the
+/// The run ends well if nothing fires any more, or is refused: a float or marginal note found no room (`PoolFull`), the
 /// page fired too often without a page shipped (`DeadCycles`), too many pages would be shipped (`PageLimit`), or too many
 /// nodes wait at the start or after a firing (`NodeLimit`). Its text up to there is written then. A run that ended well has
 /// shipped each box, rule, float and note of the galley once, the boxes and rules of the text in their order, and the floats
 /// of each class (in release 2014 of each class and width) in theirs, but for those that a break carried; the totals show it,
 /// and its DVI file, if in range and of at most 8388608 bytes, lists its placements. Whatever the end, no float without `!`
-/// was placed past the limits of its list. The answer is not `DeadCycles` where `maxdeadcycles` is at least sixteen and four
-/// for each float, marginal note, clearpage, onecolumn and twocolumn. After `WriteFault`, which comes only where `out` failed
+/// was placed past the limits of its list. `DeadCycles` is not returned if `maxdeadcycles` is at least sixteen and four
+/// for each float, marginal note, clearpage, onecolumn and twocolumn. After `WriteFault`, which comes only if `out` failed
 /// and never at a silent view, and after `Memory` a prefix of the run's text is written.
 pub fn paginate<K: Sink>(
     alloc: Global,
@@ -86,7 +86,7 @@ pub fn paginate<K: Sink>(
     }
 }
 
-// Writes bytes of the report, where the view shows them.
+// Writes bytes of the report, if the view shows them.
 pub(crate) fn show<K: Sink>(view: View, bytes: &[u8], out: &mut K) -> Result<(), PageFault>
     ensures { Shows view (K.held out.old) (K.held out.new) (K.faults out.old) (K.faults out.new) bytes.now result }
 {
@@ -197,7 +197,7 @@ fn put_happening(
     }
 }
 
-// The end of a run: the lines of what is left and the last line, where it ends well, or its refusal.
+// The end of a run: the lines of what is left and the last line, if it ends well, or its refusal.
 fn finish<K: Sink>(
     alloc: Global,
     routine: &Routine,

@@ -121,7 +121,7 @@ impl From<AllocError> for Refusal {
 }
 
 impl Refusal {
-    /// The answer of the run.
+    /// The status of the run.
     pub fn status(&self) -> Status
         ensures { result ≡ refusal_status self.now }
     {

@@ -7,7 +7,7 @@ ghost use Rattle.tb_top.specs.LinesRows.{LinesRows};
 ghost use Rattle.tb_top.specs.MakeupRows.{MakeupRows};
 
 /// The definitions against which [`run`](crate::run) is proved give the worked rows: from the bytes
-/// of each galley the answer, the report and the line on `err`.
+/// of each galley the status, the report and the line on `err`.
 pub fn check_rows()
     ensures text { WorkedRows }
     ensures floats { FloatRows }

@@ -1,8 +1,8 @@
-//! The answers of `run`, and their exit statuses.
+//! What `run` returns, and its exit codes.
 ghost use Rattle.std.specs.Prelude.{◌≡◌};
 ghost use Rattle.tb_top.specs.Status.{code_of};
 
-/// How a run ended. Each answer but `Done` has one line on `err`.
+/// How a run ended. Each status but `Done` has one line on `err`.
 #[derive(Clone, Copy, Debug, PartialEq, Eq)]
 pub enum Status {
     /// The input was read to its end, is a galley, and its report was written.

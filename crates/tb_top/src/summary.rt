@@ -5,7 +5,7 @@ ghost use Rattle.tb_top.specs.Answer.{summary_line};
 use std::alloc::{AllocError, Global};
 use tb_report::{Totals, end_line, put_total};
 
-/// The line of the totals of so many generated items.
+/// The line of the totals of this many generated items.
 pub fn summary_text(alloc: Global, count: u32, t: &Totals) -> Result<Vec<u8>, AllocError>
     ensures { IfOk result (λ text. text.items ≡ summary_line count t.now) }
 {

@@ -64,7 +64,7 @@ fn run_with(
     run_by(alloc, words, input, 50, failing)
 }
 
-// The same on an input that is read by pieces of this size, or of one byte where it is 0.
+// The same on an input that is read by pieces of this size, or of one byte if it is 0.
 fn run_by(
     alloc: Global,
     words: &[String],
@@ -89,7 +89,7 @@ fn words_of(alloc: Global, row: &ModeRow) -> Result<Vec<String>, Fail> {
     Ok(words)
 }
 
-// Runs each row on an input that is read by pieces of this size, and tells where it differs.
+// Runs each row on an input that is read by pieces of this size, and says where it differs.
 fn check(rt: &impl Abort, alloc: Global, rows: &[Row], piece: usize) -> Result<(), Fail> {
     for row in rows {
         let name = row.name;

@@ -41,7 +41,7 @@ number_in text = digits_value 10 (without_leading_plus text)
 abbrev pub count_in : List Row → ℕ
 count_in rows = unwrap_or (option_map number_in (one_of (codes "count") rows)) 0
 
--- the mode of this name, where it is served
+-- the mode of this name, if it is served
 abbrev pub mode_named : Text → ℕ → Option Mode
 mode_named name count =
     if bytes_eq name (codes "report") then Some modes.Report
@@ -54,11 +54,11 @@ mode_named name count =
     else if bytes_eq name (codes "gen") then Some (modes.Generate count)
     else None
 
--- the mode among the matches, where it is served
+-- the mode among the matches, if it is served
 abbrev pub mode_in : List Row → Option Mode
 mode_in rows = option_and_then (λ name. mode_named name (count_in rows)) (first_of (codes "mode") rows)
 
--- the mode that the words ask for: none where the command refuses them or the mode is none that is served
+-- the mode that the words ask for: none if the command refuses them or the mode is none that is served
 unfoldable pub asked : List Text → Option Mode
 asked words = if takes_words words then mode_in (matches_of command words) else None
 
@@ -67,6 +67,7 @@ pub record IsCount (n : ℕ) : Type 0 where
   pub some : 1 ≤ n
   pub few : n ≤ 40000
 
+-- the mode is one that the program has, with a count in its range
 abbrev pub IsServed : Mode → Type 0
 IsServed modes.Report = Unit {0}
 IsServed modes.Trace = Unit {0}

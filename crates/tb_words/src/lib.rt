@@ -35,7 +35,7 @@ pub enum Mode {
     DviList,
     /// Reads a galley and writes the report of its run under plain TeX's page makeup.
     Plain,
-    /// Reads nothing, runs the generated galley of so many items, 1 to 40000, and writes one line about it.
+    /// Reads nothing, runs the generated galley of this many items, 1 to 40000, and writes one line about it.
     Generate { count: u32 },
 }
 
@@ -70,7 +70,7 @@ impl From<clap::Error> for WordsFault {
 
 /// What the words ask for: the program's name and the words after it.
 ///
-/// An empty list is read as the name alone. `Refused` comes exactly where the command refuses the words for another cause
+/// An empty list is read as the name alone. `Refused` comes exactly if the command refuses the words for another cause
 /// than memory, or the mode is none that is served; the command's own help and usage requests are refusals too.
 #[tactic(auto, unfolding(crate::specs::Words::asked))]
 pub fn read_words(alloc: Global, words: &[String]) -> Result<Mode, WordsFault>
@@ -102,7 +102,7 @@ fn command<'a>(alloc: Global) -> Result<Command<'a>, AllocError>
     Command::new(alloc, "galley_pages").arg(mode)?.arg(count)
 }
 
-// The mode that was matched, where it is served.
+// The mode that was matched, if it is served.
 fn mode_in(matches: &ArgMatches<'_>) -> Option<Mode>
     requires { HasCount (found_of matches.now) }
     ensures mode { result ≡ mode_in (rows_of (found_of matches.now)) }
@@ -125,7 +125,7 @@ fn count_in(matches: &ArgMatches<'_>) -> u32
     }
 }
 
-// The mode of this name, where it is served.
+// The mode of this name, if it is served.
 fn mode_named(name: &str, count: u32) -> Option<Mode>
     ensures { result ≡ mode_named name.now count }
 {

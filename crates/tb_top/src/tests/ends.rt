@@ -9,7 +9,7 @@ fn runs() -> [(&'static [u8], &'static [u8], u64); 2] {
     [(row.input, row.out, 7), (INPUT, REPORT, 4)]
 }
 
-// A read that fails gives the answer ReadFault and nothing else.
+// A read that fails gives the status ReadFault and nothing else.
 #[test]
 fn each_failing_read_is_answered(rt: HostRuntime) -> Result<(), Fail> {
     for (input, report, reads) in runs() {
@@ -33,7 +33,7 @@ fn each_failing_read_is_answered(rt: HostRuntime) -> Result<(), Fail> {
     Ok(())
 }
 
-// A write that fails gives the answer WriteFault and leaves a prefix of the report, the first one nothing.
+// A write that fails gives the status WriteFault and leaves a prefix of the report, the first one nothing.
 #[test]
 fn each_failing_write_is_answered(rt: HostRuntime) -> Result<(), Fail> {
     for (input, report, _) in runs() {
@@ -65,7 +65,7 @@ fn each_failing_write_is_answered(rt: HostRuntime) -> Result<(), Fail> {
     Ok(())
 }
 
-// Where err fails too, the answer stays.
+// If err fails too, the status stays.
 #[test]
 fn failing_err_keeps_the_answer(rt: HostRuntime) -> Result<(), Fail> {
     let first = [1];
@@ -97,7 +97,7 @@ fn failing_err_keeps_the_answer(rt: HostRuntime) -> Result<(), Fail> {
     Ok(())
 }
 
-// In each mode a first read or a first write that fails is told, and nothing is written. Refused words are refused before.
+// In each mode a first read or a first write that fails is reported, and nothing is written. Refused words are refused before.
 #[test]
 fn first_fault_of_each_mode(rt: HostRuntime) -> Result<(), Fail> {
     let alloc = rt.alloc();

@@ -17,7 +17,7 @@ fn put_line(out: &mut Vec<u8>, before: &[u8], number: u32, after: &[u8]) -> Resu
     out.extend_from_slice(after)
 }
 
-/// The galley of this page, as bytes. It fails only for want of memory.
+/// The galley of this page, as bytes. It fails only if memory runs out.
 pub fn long_galley(alloc: Global) -> Result<Vec<u8>, AllocError> {
     let mut out = Vec::from_slice(alloc, SETS)?;
     for k in 1..BOXES + 1 {
@@ -31,7 +31,7 @@ pub fn long_galley(alloc: Global) -> Result<Vec<u8>, AllocError> {
 }
 
 /// The report of this page, as bytes: the top skip leaves 9sp above the first box, and each box and each float is 1sp
-/// high. It fails only for want of memory.
+/// high. It fails only if memory runs out.
 pub fn long_report(alloc: Global) -> Result<Vec<u8>, AllocError> {
     let mut out = Vec::from_slice(
         alloc,
