@@ -71,12 +71,12 @@ taking-sized : (p : Params) (l : ℕ) (f : Float) (vert : Bool) → All IsSizedO
 taking-sized p l f vert = All-from_recursion IsSizedOnPage (on_line l (makeup_kinds p (items.Float f vert))) (record { shape = tt; kind = tt }, (record { shape = tt; kind = tt }, tt))
 
 module _ (cs : List Class) (p : Params) where
-  sized : (ns : List PlainNode) → All (IsGalleyNode cs) ns → All IsSizedOnPage ns
-  sized ns h = All-weaker (IsGalleyNode cs) IsSizedOnPage (λ n k. k.sized) ns h
+  sized : (l : ℕ) (k : ItemKind) → All (IsGalleyNode cs) (on_line l (item_kinds p false k)) → All IsSizedOnPage (on_line l (item_kinds p false k))
+  sized l k h = All-weaker (IsGalleyNode cs) IsSizedOnPage (λ n g. g.sized) (on_line l (item_kinds p false k)) h
 
   float-height : (l : ℕ) (f : Float) (vert alone : Bool) → All (IsGalleyNode cs) (on_line l (if alone then act (acts.Take f) ∷ [] else with_firings (acts.Take f) vert)) → IsExtent f.height
-  float-height l f vert true h = (All-head (IsGalleyNode cs) _ _ h).servable
-  float-height l f vert false h = (All-head (IsGalleyNode cs) _ _ h).servable
+  float-height l f vert true h = (h 0 (record { line = l; kind = act (acts.Take f) }) (omega arith)).servable
+  float-height l f vert false h = (h 0 (record { line = l; kind = act (acts.Take f) }) (omega arith)).servable
 
   -- an item that is served keeps one column, has sized nodes, its act stands behind a whatsit, and its class is known
   record Fits (l : ℕ) (k : ItemKind) : Type 0 where
@@ -89,21 +89,21 @@ module _ (cs : List Class) (p : Params) where
   not-served e = absurd (true≢false (sym e))
 
   fits : (l : ℕ) (k : ItemKind) → is_suited k ≡ true → IsItem cs k → All (IsGalleyNode cs) (on_line l (item_kinds p false k)) → Fits l k
-  fits l (items.Hbox name h d) s i a = record { one_column = refl; nodes = sized _ a; led = (tt, tt); item = tt }
-  fits l (items.Rule name h d) s i a = record { one_column = refl; nodes = sized _ a; led = (tt, tt); item = tt }
-  fits l (items.Skip g) s i a = record { one_column = refl; nodes = sized _ a; led = (tt, tt); item = tt }
-  fits l (items.Kern w) s i a = record { one_column = refl; nodes = sized _ a; led = (tt, tt); item = tt }
-  fits l (items.Penalty q) s i a = record { one_column = refl; nodes = sized _ a; led = (tt, tt); item = tt }
-  fits l (items.Mark name) s i a = record { one_column = refl; nodes = sized _ a; led = (tt, tt); item = tt }
-  fits l (items.Note name) s i a = record { one_column = refl; nodes = sized _ a; led = (tt, tt); item = tt }
-  fits l (items.Foot class ls) s i a = record { one_column = refl; nodes = sized _ a; led = (tt, tt); item = (foot-known p class s, i.1, i.2) }
+  fits l (items.Hbox name h d) s i a = record { one_column = refl; nodes = sized l (items.Hbox name h d) a; led = (tt, tt); item = tt }
+  fits l (items.Rule name h d) s i a = record { one_column = refl; nodes = sized l (items.Rule name h d) a; led = (tt, tt); item = tt }
+  fits l (items.Skip g) s i a = record { one_column = refl; nodes = sized l (items.Skip g) a; led = (tt, tt); item = tt }
+  fits l (items.Kern w) s i a = record { one_column = refl; nodes = sized l (items.Kern w) a; led = (tt, tt); item = tt }
+  fits l (items.Penalty q) s i a = record { one_column = refl; nodes = sized l (items.Penalty q) a; led = (tt, tt); item = tt }
+  fits l (items.Mark name) s i a = record { one_column = refl; nodes = sized l (items.Mark name) a; led = (tt, tt); item = tt }
+  fits l (items.Note name) s i a = record { one_column = refl; nodes = sized l (items.Note name) a; led = (tt, tt); item = tt }
+  fits l (items.Foot class ls) s i a = record { one_column = refl; nodes = sized l (items.Foot class ls) a; led = (tt, tt); item = (foot-known p class s, i.1, i.2) }
   fits l (items.Float f vert) s i a =
       record { one_column = refl; nodes = taking-sized p l f vert; led = (tt, ((refl, float-height l f vert (has_second p && false && f.wide) a), tt)); item = tt }
   fits l (items.Margin m vert) s i a = not-served s
-  fits l items.NewPage s i a = record { one_column = refl; nodes = sized _ a; led = (tt, (tt, tt)); item = tt }
+  fits l items.NewPage s i a = record { one_column = refl; nodes = sized l items.NewPage a; led = (tt, (tt, tt)); item = tt }
   fits l items.ClearPage s i a = record { one_column = refl; nodes = clearing-sized l; led = (tt, (tt, tt)); item = tt }
-  fits l (items.PageBreak n) s i a = record { one_column = refl; nodes = sized _ a; led = (tt, tt); item = tt }
-  fits l (items.NoPageBreak n) s i a = record { one_column = refl; nodes = sized _ a; led = (tt, tt); item = tt }
+  fits l (items.PageBreak n) s i a = record { one_column = refl; nodes = sized l (items.PageBreak n) a; led = (tt, tt); item = tt }
+  fits l (items.NoPageBreak n) s i a = record { one_column = refl; nodes = sized l (items.NoPageBreak n) a; led = (tt, tt); item = tt }
   fits l items.OneColumn s i a = not-served s
   fits l items.TwoColumn s i a = not-served s
   fits l (items.Suppress area) s i a = not-served s
