@@ -10,7 +10,7 @@ use Rattle.std.proofs.lemmas.List.Elements.{All-nil, All-cons, All-head, All-tai
 use Rattle.tb_node.specs.declared.Float.{Float}
 use Rattle.tb_node.specs.declared.Act.TheVariants as acts
 use Rattle.tb_node.specs.Fit.{IsExtent}
-use Rattle.tb_node.specs.Plain.{Leaf as PlainLeaf, act, PlainNode, on_line}
+use Rattle.tb_node.specs.Plain.{Leaf as PlainLeaf, act, PlainNode, on_line, clearpage_kinds}
 use Rattle.tb_param.specs.declared.Params.{Params}
 use Rattle.tb_param.specs.Release.{has_second}
 use Rattle.tb_insert.specs.declared.Class.{Class}
@@ -186,7 +186,7 @@ module _ (g : Galley) (foot : AreFootParams g.params) (valid : IsValid g) (suite
   items-fit =
       let front = item_nodes g.params false g.items in
       let nodes = subst (All (IsGalleyNode (classes_of g))) (sym (expanded-is g)) (galley-nodes g foot valid).nodes in
-      all-fit (classes_of g) g.params g.items suited (galley-items g valid) (all-front (IsGalleyNode (classes_of g)) front _ nodes)
+      all-fit (classes_of g) g.params g.items suited (galley-items g valid) (all-front (IsGalleyNode (classes_of g)) front (on_line g.end_line clearpage_kinds) nodes)
 
   pub suited-items : AreItems (makeup_classes g.params) g.items
   suited-items = items-fit.known

@@ -1,6 +1,5 @@
-use Rattle.std.proofs.Common.{subst, false}
-use Rattle.std.specs.Prelude.{OnOk}
-use Rattle.tb_node.specs.Plain.{PlainKind, on_line}
+use Rattle.std.proofs.Common.{subst}
+use Rattle.tb_node.specs.Plain.{on_line}
 use Rattle.tb_run.specs.Expanding.{Waits}
 use Rattle.tb_run.proofs.WaitsLemmas.{on-ok}
 use Rattle.tb_makeup.proofs.ItemLemmas.{kinds-same}
