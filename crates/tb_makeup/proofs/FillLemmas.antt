@@ -141,13 +141,10 @@ module _ (p : Params) (h : AreMakeupParams p) (f : Float) (height : IsExtent f.h
   here-sized = All-from_recursion IsSizedOnPage (here_nodes p f) (glue-sized, (record { shape = (height, zero-extent); kind = tt }, (pen-sized (negsuc 199) (record { low = omega (arith, ints); high = omega (arith, ints) }), (glue-sized, tt))))
 
   inserted-sized : (ls : List Leaf) → All IsSizedLeaf ls → All IsSizedOnPage (top_insertion ls ∷ [])
-  inserted-sized ls k = All-from_recursion IsSizedOnPage (top_insertion ls ∷ []) (
-    record {
-      shape = tt;
-      kind = record { inner = k; height = refl; split_depth = record { low = omega (arith, ints); high = omega (arith, ints) }; split_top = zero-extent; floating = record { low = omega (arith, ints); high = omega (arith, ints) } };
-    },
-    tt,
-  )
+  inserted-sized ls k = All-from_recursion IsSizedOnPage (top_insertion ls ∷ []) (record {
+    shape = tt;
+    kind = record { inner = k; height = refl; split_depth = record { low = omega (arith, ints); high = omega (arith, ints) }; split_top = zero-extent; floating = record { low = omega (arith, ints); high = omega (arith, ints) } };
+  }, tt)
 
   top-leaves-sized : All IsSizedLeaf (top_leaves p f)
   top-leaves-sized = All-from_recursion IsSizedLeaf (top_leaves p f) (record { low = omega (arith, ints); high = omega (arith, ints) }, ((height, zero-extent), (record { low = omega (arith, ints); high = omega (arith, ints) }, ((h.intextsep.width, h.intextsep.stretch, h.intextsep.shrink), tt))))
