@@ -1,8 +1,11 @@
+pub mod ItemLemmas
 pub mod RunLemmas
 pub mod LedLemmas
 pub mod HoldLemmas
 pub mod ComingLemmas
 pub mod FillLemmas
+pub mod StartLemmas
+pub mod BeginLemmas
 pub mod FiredLemmas
 pub mod UnderwayLemmas
 pub mod TurnedLemmas

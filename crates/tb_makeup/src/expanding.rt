@@ -83,11 +83,7 @@ fn put_take(
 }
 
 // The end of a page, and of those that held insertions need (plain.tex, \supereject).
-fn put_clearing(
-    store: &mut Lists<Node>,
-    builder: &mut Builder,
-    line: u32,
-) -> Result<(), AllocError>
+fn put_clearing(store: &mut Lists<Node>, builder: &mut Builder, line: u32) -> Result<(), AllocError>
     requires can { CanTake builder.old store.old }
     ensures { OnOk result (Waits (on_line line clearing_kinds) builder.old store.old builder.new store.new) }
 {
