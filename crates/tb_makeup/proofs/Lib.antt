@@ -6,3 +6,7 @@ pub mod FillLemmas
 pub mod FiredLemmas
 pub mod UnderwayLemmas
 pub mod TurnedLemmas
+pub mod BackLemmas
+pub mod ShipLemmas
+pub mod TurnLemmas
+pub mod DoneLemmas

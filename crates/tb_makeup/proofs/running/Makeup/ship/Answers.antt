@@ -1,0 +1,24 @@
+use Rattle.std.proofs.Common.{refl, ◌∙◌, ◌++◌, ◌∷◌, []}
+use Rattle.tb_run.specs.declared.happening.Happening.TheVariants as happenings
+use Rattle.tb_makeup.proofs.ShipLemmas.{still-awaits, waiting-few, boxes-void, ships, same-sound}
+use Rattle.tb_makeup.proofs.running.Makeup.ship.Goals as goal
+
+pub put_back-requires-clause-awaits : goal.put_back-requires-clause-awaits
+put_back-requires-clause-awaits c = still-awaits c.args.self.now c.args.page c.in-Ok.made c.fire.new.self c.fire.new.b c.fire.new.store c.requires.can c.in-Ok.ensures.fires
+
+pub node_limit-requires-clause-few : goal.node_limit-requires-clause-few
+node_limit-requires-clause-few c =
+    waiting-few c.args.self.now c.args.page c.in-Ok.made c.fire.new.self c.fire.new.b c.fire.new.store c.requires.can c.in-Ok.ensures.fires
+    c.put_back.new.self c.put_back.ensures.sound c.put_back.ensures.contents c.put_back.ensures.others c.put_back.ensures.keeps c.put_back.ensures.plain c.put_back.ensures.ask c.put_back.ensures.limit c.requires.few
+
+pub node_limit-requires-clause-void : goal.node_limit-requires-clause-void
+node_limit-requires-clause-void c =
+    boxes-void c.args.self.now c.args.page c.in-Ok.made c.fire.new.self c.fire.new.b c.fire.new.store c.requires.can c.in-Ok.ensures.fires
+    c.put_back.new.self c.put_back.ensures.sound c.put_back.ensures.contents c.put_back.ensures.others c.put_back.ensures.keeps c.put_back.ensures.plain c.put_back.ensures.ask c.put_back.ensures.limit c.requires.void
+
+pub returns-in-Ok : goal.returns-in-Ok
+returns-in-Ok c =
+    ships c.args.self.now c.args.page c.in-Ok.made c.fire.new.self c.fire.new.b c.fire.new.store c.requires.can c.in-Ok.ensures.fires
+    c.put_back.new.self c.put_back.ensures.sound c.put_back.ensures.contents c.put_back.ensures.others c.put_back.ensures.keeps c.put_back.ensures.plain c.put_back.ensures.ask c.put_back.ensures.limit
+    c.note_sent.new.happened.items (c.in_ok-note_sent.ensures ∙ (λ i. c.requires.empty i ++ happenings.Sent (c.sent_page.ensures i) ∷ []))
+    c.node_limit.result c.node_limit.ensures
