@@ -1,9 +1,10 @@
 -- What a turn of the page makeup comes to.
-use Rattle.std.proofs.Common.{◌≡◌, sym, subst, ◌∙◌, ap, List, [], ◌∷◌, map, Option, Some, None}
+use Rattle.std.proofs.Common.{◌≡◌, sym, subst, ◌∙◌, ap, ◌≤◌, List, [], ◌∷◌, map, Option, Some, None}
 use Rattle.std.specs.Prelude.{IfNone}
 use Rattle.tb_pool.specs.Lists.{IsLive}
 use Rattle.tb_builder.specs.declared.Page.{Page}
-use Rattle.tb_builder.specs.Fired.{Fired}
+use Rattle.tb_builder.specs.Contents.{Contents, node_count, box_count}
+use Rattle.tb_builder.specs.Handed.{with_void}
 use Rattle.tb_column.specs.Column.{PlainSent, shipped, one}
 use Rattle.tb_run.specs.declared.happening.Happening.{Happening}
 use Rattle.tb_run.specs.Run.{sent}
@@ -11,12 +12,13 @@ use Rattle.tb_run.specs.Happened.{events_of}
 use Rattle.tb_run.specs.Turning.{ArePages}
 use Rattle.tb_plain.specs.declared.Plain.{Plain}
 use Rattle.tb_plain.specs.Firing.{makeup_column}
-use Rattle.tb_plain.specs.Calls.{fired_with}
+use Rattle.tb_plain.specs.Run.{waiting_after}
+use Rattle.tb_plain.specs.Calls.{IsPlain, fired_with}
 use Rattle.tb_makeup.specs.declared.running.Makeup.{Makeup}
 use Rattle.tb_makeup.specs.declared.running.MakeupEnding.{MakeupEnding}
 use Rattle.tb_makeup.specs.declared.running.MakeupEnding.TheVariants as endings
-use Rattle.tb_makeup.specs.Turning.{IsReady, IsTurned, AreHappened}
-use Rattle.tb_makeup.specs.Filling.{IsFiring, IsOver, Fills, HasShipped, IsAtLimit, Ships, Finishes}
+use Rattle.tb_makeup.specs.Turning.{held_in, IsReady, IsTurned, AreHappened}
+use Rattle.tb_makeup.specs.Filling.{IsFiring, IsOver, HasShipped, Ships, Finishes}
 use Rattle.tb_makeup.proofs.TurnedLemmas.{sent-same, shipped-goes, shipped-ready, shipped-limit, shipped-pages, over-done, over-goes, over-ready}
 
 -- what a turn shows, and what the makeup is after it
@@ -29,6 +31,16 @@ pub record TurnsTo (r : Makeup) (hs : List Happening) (o : Option MakeupEnding) 
   pub lists : IfNone o (AreHappened q hs)
 
 -- ---- the page fires
+
+module _ (r d : Makeup) (page : Page) (ready : IsReady r) (h : IsFiring r page d) where
+  pub fired-plain : IsPlain d.plain
+  fired-plain = subst IsPlain (sym h.same.plain) ready.plain
+
+  pub fired-few : node_count (waiting_after d.plain.params (fired_with d.builder d.store page)) ≤ 8388608
+  fired-few = subst (λ (x : Plain). node_count (waiting_after x.params (fired_with d.builder d.store page)) ≤ 8388608) (sym h.same.plain) h.after.few
+
+  pub fired-void : box_count (with_void 254 (with_void 253 (held_in d).boxes)) ≡ 0
+  fired-void = ap box_count h.void
 
 module _ (r d q : Makeup) (page : Page) (hs : List Happening) (ready : IsReady r) (h : IsFiring r page d) where
   abbrev es : List PlainSent
@@ -68,6 +80,9 @@ module _ (r d q : Makeup) (page : Page) (hs : List Happening) (ready : IsReady r
   }
 
 -- ---- nothing waits
+
+pub over-waiting : (r d : Makeup) → IsOver r d → (held_in d).waiting ≡ []
+over-waiting r d h = ap (λ (c : Contents). c.waiting) h.holds
 
 module _ (r d q : Makeup) (hs : List Happening) (ready : IsReady r) (h : IsOver r d) (none : hs ≡ []) where
   pub over-turns : (o : Option MakeupEnding) → Finishes d o q → TurnsTo r hs o q
