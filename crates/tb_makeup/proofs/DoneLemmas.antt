@@ -7,7 +7,7 @@ use Rattle.tb_node.specs.declared.Node.{Node}
 use Rattle.tb_run.specs.declared.happening.Happening.{Happening}
 use Rattle.tb_run.specs.Happened.{happened_lists}
 use Rattle.tb_run.proofs.WholeLemmas.{closed-contents, closed-sound}
-use Rattle.tb_plain.specs.Run.{MakeupState, builder_holds}
+use Rattle.tb_plain.specs.Run.{builder_holds}
 use Rattle.tb_makeup.specs.declared.running.Makeup.{Makeup}
 use Rattle.tb_makeup.specs.Turning.{held_in, state_of, AreRunNodes, Phase, IsReady, AreHappened}
 

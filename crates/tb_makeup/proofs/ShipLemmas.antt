@@ -1,14 +1,14 @@
 -- A page ships, and what is put back waits.
-use Rattle.std.proofs.Common.{◌≡◌, ◌≢◌, refl, sym, subst, ◌∙◌, ap, ℕ, ◌+◌, ◌≤◌, ℤ, pos, Bool, true, false, List, [], ◌∷◌, ◌++◌, Option, Some, None, arith}
-use Rattle.std.specs.Prelude.{min, int_lt, ◌<ℤ◌, if◌then◌else◌}
+use Rattle.std.proofs.Common.{◌≡◌, ◌≢◌, sym, subst, ◌∙◌, ap, ℕ, ◌+◌, ◌≤◌, ℤ, pos, Bool, true, false, List, [], ◌∷◌, ◌++◌, Option, Some, None, arith}
+use Rattle.std.specs.Prelude.{min, int_lt, if◌then◌else◌}
 use Rattle.std.specs.FinMap.{get}
-use Rattle.tb_pool.specs.Lists.{Lists, IsLive, list_at}
+use Rattle.tb_pool.specs.Lists.{Lists, list_at}
 use Rattle.tb_node.specs.declared.Node.{Node}
 use Rattle.tb_node.specs.Plain.{PlainNode}
 use Rattle.tb_builder.specs.declared.Builder.{Builder}
 use Rattle.tb_builder.specs.declared.Page.{Page}
 use Rattle.tb_builder.specs.Fired.{Fired}
-use Rattle.tb_builder.specs.Contents.{Contents, contents_of, node_count, box_count, contents_count, plain_list}
+use Rattle.tb_builder.specs.Contents.{Contents, contents_of, node_count, box_count, plain_list}
 use Rattle.tb_builder.specs.Owned.{Lacks, inner_ids, ids_of, owned}
 use Rattle.tb_builder.specs.Running.{IsSound}
 use Rattle.tb_builder.specs.Handed.{NoPage, with_void}
@@ -30,13 +30,12 @@ use Rattle.tb_run.specs.Turning.{ArePages}
 use Rattle.tb_plain.specs.declared.Plain.{Plain}
 use Rattle.tb_plain.specs.declared.PlainPage.{PlainPage}
 use Rattle.tb_plain.specs.Calls.{CanFire, HasFired, fired_with}
-use Rattle.tb_plain.specs.Firing.{makeup_column}
 use Rattle.tb_plain.specs.Run.{waiting_after}
 use Rattle.tb_makeup.specs.declared.running.Makeup.{Makeup}
 use Rattle.tb_makeup.specs.declared.running.MakeupEnding.{MakeupEnding}
 use Rattle.tb_makeup.specs.declared.running.MakeupEnding.TheVariants as endings
-use Rattle.tb_makeup.specs.Turning.{held_in, over_limit, AreHappened}
-use Rattle.tb_makeup.specs.Filling.{HasShipped, IsAtLimit, Ships}
+use Rattle.tb_makeup.specs.Turning.{held_in, over_limit}
+use Rattle.tb_makeup.specs.Filling.{HasShipped, Ships}
 use Rattle.tb_makeup.proofs.BackLemmas.{back-inner}
 
 -- ---- the nodes that wait, against the limit on them

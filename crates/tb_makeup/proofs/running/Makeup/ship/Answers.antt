@@ -1,4 +1,4 @@
-use Rattle.std.proofs.Common.{refl, ◌∙◌, ◌++◌, ◌∷◌, []}
+use Rattle.std.proofs.Common.{◌∙◌, ◌++◌, ◌∷◌, []}
 use Rattle.tb_run.specs.declared.happening.Happening.TheVariants as happenings
 use Rattle.tb_makeup.proofs.ShipLemmas.{still-awaits, waiting-few, boxes-void, ships, same-sound}
 use Rattle.tb_makeup.proofs.running.Makeup.ship.Goals as goal

@@ -19,8 +19,8 @@ pub returns-in-Some : goal.returns-in-Some
 returns-in-Some c =
     let h : IsFiring c.args.self.now c.in-Some.page c.fill.new.self = subst (λ x. Fills c.args.self.now x c.fill.new.self) c.in-Some.is c.in_ok-page.ensures in
     let all =
-        IfOk-weaker c.ship.result _ (λ o. TurnsTo c.args.self.now c.ship.new.happened.items o c.ship.new.self) (fired-turns c.args.self.now c.fill.new.self c.ship.new.self c.in-Some.page c.ship.new.happened.items c.requires h)
-        c.ship.ensures in
+    IfOk-weaker c.ship.result _ (λ o. TurnsTo c.args.self.now c.ship.new.happened.items o c.ship.new.self) (fired-turns c.args.self.now c.fill.new.self c.ship.new.self c.in-Some.page c.ship.new.happened.items c.requires h)
+    c.ship.ensures in
     record {
       turned = IfOk-weaker c.ship.result _ _ (λ o x. x.turned) all;
       ready = IfOk-weaker c.ship.result _ _ (λ o x. x.ready) all;
@@ -39,8 +39,8 @@ pub returns-in-None : goal.returns-in-None
 returns-in-None c =
     let h : IsOver c.args.self.now c.fill.new.self = subst (λ x. Fills c.args.self.now x c.fill.new.self) c.in-None.is c.in_ok-page.ensures in
     let all =
-        IfOk-weaker c.finish.result _ (λ o. TurnsTo c.args.self.now c.clear.new.self.items o c.finish.new.self) (over-turns c.args.self.now c.fill.new.self c.finish.new.self c.clear.new.self.items c.requires h c.clear.ensures.items)
-        c.finish.ensures in
+    IfOk-weaker c.finish.result _ (λ o. TurnsTo c.args.self.now c.clear.new.self.items o c.finish.new.self) (over-turns c.args.self.now c.fill.new.self c.finish.new.self c.clear.new.self.items c.requires h c.clear.ensures.items)
+    c.finish.ensures in
     record {
       turned = IfOk-weaker c.finish.result _ _ (λ o x. x.turned) all;
       ready = IfOk-weaker c.finish.result _ _ (λ o x. x.ready) all;
