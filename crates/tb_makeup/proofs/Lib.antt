@@ -9,3 +9,7 @@ pub mod BeginLemmas
 pub mod FiredLemmas
 pub mod UnderwayLemmas
 pub mod TurnedLemmas
+pub mod BackLemmas
+pub mod ShipLemmas
+pub mod TurnLemmas
+pub mod DoneLemmas

@@ -129,7 +129,7 @@ module _ (r d q : Makeup) (page : Page) (ready : IsReady r) (h : IsFiring r page
       shipped-goes = (
         h.takes.run ∙ run-goes p h.s (next p h.s.number f) (es p h.s.number f) one-number (omega arith) (h.step ∙ fire-goes p h.s.number f within-now over-now) ∙ ap (λ x. run_after (es p h.s.number f) (run_at p x)) (sym state-now),
         subst (λ x. turns_left p x < turns_left p (state_of r)) (sym state-now)
-        (subst (λ n. 2 * (nat_abs p.maxpages - pred (h.s.number + 1)) + 1 < 2 * (nat_abs p.maxpages - pred n) + (if holds_any (state_of r).page then 0 else 1)) h.takes.number (turn-less p.maxpages h.s.number (if holds_any (state_of r).page then 0 else 1) one-number within-now)),
+            (subst (λ n. 2 * (nat_abs p.maxpages - pred (h.s.number + 1)) + 1 < 2 * (nat_abs p.maxpages - pred n) + (if holds_any (state_of r).page then 0 else 1)) h.takes.number (turn-less p.maxpages h.s.number (if holds_any (state_of r).page then 0 else 1) one-number within-now)),
       )
 
       nodes-now : AreRunNodes (next p h.s.number f) × (node_total (next p h.s.number f) + 10 ≤ 7500000)

@@ -3,10 +3,10 @@
 ghost use Rattle.std.specs.Prelude.{◌≡◌, ◌≢◌, ◌≤◌, ◌+◌, ◌++◌, ℕ, [], None, IfOk, IfNone, OnOk};
 ghost use Rattle.std.specs.List.{AllByRecursion};
 ghost use Rattle.std.specs.FinMap.{get};
-ghost use Rattle.tb_pool.specs.Lists.{IsLive};
+ghost use Rattle.tb_pool.specs.Lists.{IsLive, list_at};
 ghost use Rattle.tb_builder.specs.Contents.{node_count, box_count, plain_list};
 ghost use Rattle.tb_builder.specs.Running.{IsSound};
-ghost use Rattle.tb_builder.specs.Owned.{Lacks, ids_of, inner_of, owned};
+ghost use Rattle.tb_builder.specs.Owned.{Lacks, ids_of, inner_ids, inner_of, owned};
 ghost use Rattle.tb_builder.specs.Handed.{ListJoins, MayWait, NoPage, with_void};
 ghost use Rattle.tb_run.specs.Expanding.{lone, AreItems};
 ghost use Rattle.tb_run.specs.Happened.{happened_lists};
@@ -20,8 +20,8 @@ ghost use Rattle.tb_makeup.specs.Filling.{Fills, Ships, Contributes, Ejects, Fin
 use crate::expanding::{clearing_glue, expand};
 use std::alloc::{AllocError, Global};
 use tb_builder::{Ask, Builder, Event, Page, new_builder};
-use tb_galley::Galley;
 use tb_column::{Sent, Sheet};
+use tb_galley::Galley;
 use tb_insert::Class;
 use tb_node::{FOOTNOTES, Kind, Node, What};
 use tb_param::{Params, exceeds};
@@ -219,7 +219,7 @@ impl Makeup {
           held = [];
         } }
         ensures others { (q : ℕ) → q ≢ list → Lacks q (owned (ids_of self.old.builder) self.old.store) → get self.new.store.lists q ≡ get self.old.store.lists q }
-        ensures apart { (q : ℕ) → IsLive self.old.store q → q ≢ list → Lacks q (owned (ids_of self.old.builder) self.old.store) → Lacks q (owned (ids_of self.new.builder) self.new.store) }
+        ensures keeps { (q : ℕ) → Lacks q (owned (ids_of self.old.builder) self.old.store ++ inner_ids (list_at self.old.store list)) → Lacks q (owned (ids_of self.new.builder) self.new.store) }
         ensures plain { self.new.plain ≡ self.old.plain }
         ensures ask { self.new.ask ≡ self.old.ask }
         ensures limit { self.new.limit ≡ self.old.limit }
