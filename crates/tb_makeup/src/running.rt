@@ -20,8 +20,8 @@ ghost use Rattle.tb_makeup.specs.Filling.{Fills, Ships, Contributes, Ejects, Fin
 use crate::expanding::{clearing_glue, expand};
 use std::alloc::{AllocError, Global};
 use tb_builder::{Ask, Builder, Event, Page, new_builder};
-use tb_galley::Galley;
 use tb_column::{Sent, Sheet};
+use tb_galley::Galley;
 use tb_insert::Class;
 use tb_node::{FOOTNOTES, Kind, Node, What};
 use tb_param::{Params, exceeds};
