@@ -1,5 +1,5 @@
 -- A page that is filled, event by event, as steps of the run.
-use Rattle.std.proofs.Common.{◌≡◌, refl, sym, ◌∙◌, ap, subst, ℕ, ◌<◌, Bool, true, false, List, [], ◌∷◌, ◌++◌, length, None}
+use Rattle.std.proofs.Common.{◌≡◌, refl, sym, ◌∙◌, ap, subst, ℕ, Bool, true, false, List, [], ◌∷◌, ◌++◌}
 use Rattle.std.specs.Prelude.{if◌then◌else◌}
 use Rattle.std.proofs.lemmas.Bool.{true≢false}
 use Rattle.tb_pool.specs.Lists.{Lists}
@@ -13,22 +13,21 @@ use Rattle.tb_builder.specs.declared.Ask.{Ask}
 use Rattle.tb_builder.specs.declared.Builder.{Builder}
 use Rattle.tb_builder.specs.declared.Event.{Event}
 use Rattle.tb_builder.specs.declared.Event.TheVariants as events
-use Rattle.tb_builder.specs.declared.Page.{Page}
 use Rattle.tb_builder.specs.declared.Try.{Try}
 use Rattle.tb_builder.specs.Reached.{Reached, acted, tried, Reach, reach_from, laid_out}
-use Rattle.tb_builder.specs.Fired.{Fired, frozen_for, reach_of, fired_of}
-use Rattle.tb_builder.specs.Contents.{Contents, contents_of, frozen_of, laid, reach_ahead}
-use Rattle.tb_builder.specs.Next.{NextIs, Stays, ActedIs, fired_page}
+use Rattle.tb_builder.specs.Fired.{frozen_for, reach_of, fired_of}
+use Rattle.tb_builder.specs.Contents.{Contents, contents_of, laid, reach_ahead}
+use Rattle.tb_builder.specs.Next.{NextIs, Stays, fired_page}
 use Rattle.tb_builder.specs.Paging.{HasCome, HasStopped, HasEnded, ComesToTry, ComesTo}
-use Rattle.tb_builder.specs.Past.{IsPast, ComesPast, TriesPast, ActsPast, EventPast}
+use Rattle.tb_builder.specs.Past.{ComesPast, ActsPast, EventPast}
 use Rattle.tb_builder.specs.Places.{NoActs}
 use Rattle.tb_builder.specs.Running.{IsSound}
 use Rattle.tb_builder.proofs.PagingLemmas.{paging_next}
-use Rattle.tb_builder.proofs.PastLemmas.{past-none, past-after, laid-more}
+use Rattle.tb_builder.proofs.PastLemmas.{past-none, past-after}
 use Rattle.tb_builder.proofs.SoFarLemmas.{AllTried, ComesSoFar, comes-so-far}
 use Rattle.tb_builder.specs.Summed.{page_sums_of}
 use Rattle.tb_plain.specs.Take.{act_nodes}
-use Rattle.tb_plain.specs.Run.{MakeupState, MakeupStep, goes_on, makeup_ask, makeup_classes, void_boxes, builder_holds, makeup_reach, AtAct, no_act, at_act, after_node, first_act_by, first_act, meets_act, act_step, firing_step, last_step, step_of, makeup_step}
+use Rattle.tb_plain.specs.Run.{MakeupState, goes_on, makeup_ask, makeup_classes, void_boxes, builder_holds, makeup_reach, at_act, after_node, first_act_by, first_act, meets_act, act_step, firing_step, last_step, step_of, makeup_step}
 use Rattle.tb_makeup.proofs.HoldLemmas.{Holds, holds-state, state-holds}
 
 -- ---- the first act

@@ -1,38 +1,34 @@
 -- The nodes of a state while a page is filled: what is added up fits, and an act adds few nodes.
-use Rattle.std.proofs.Common.{◌≡◌, refl, sym, ◌∙◌, ap, subst, ℕ, ◌+◌, ◌*◌, ◌<◌, ◌≤◌, ℤ, pos, negsuc, Bool, true, false, List, [], ◌∷◌, ◌++◌, length, map, Some, None, arith}
-use Rattle.std.specs.Prelude.{All, ◌||◌, ◌≤ℤ◌, int_lt, if◌then◌else◌}
+use Rattle.std.proofs.Common.{◌≡◌, refl, sym, ◌∙◌, ap, subst, ℕ, ◌+◌, ◌≤◌, ℤ, pos, negsuc, Bool, true, false, List, [], ◌∷◌, ◌++◌, length, arith}
+use Rattle.std.specs.Prelude.{All, ◌||◌, int_lt, if◌then◌else◌}
 use Rattle.std.proofs.lemmas.Int.{ints}
 use Rattle.std.proofs.lemmas.Bool.{true≢false}
-use Rattle.std.proofs.lemmas.List.{length-append}
-use Rattle.std.proofs.lemmas.List.Elements.{All-nil, All-cons, All-append, All-from_recursion}
-use Rattle.tb_scaled.specs.declared.Glue.{Glue}
+use Rattle.std.proofs.lemmas.List.Elements.{All-nil, All-append, All-from_recursion}
 use Rattle.tb_node.specs.declared.Act.{Act}
 use Rattle.tb_node.specs.declared.Act.TheVariants as acts
 use Rattle.tb_node.specs.declared.Float.{Float}
-use Rattle.tb_node.specs.Fit.{IsDimension, IsExtent, IsPenalty, IsSized, IsSizedLeaf}
+use Rattle.tb_node.specs.Fit.{IsDimension, IsExtent, IsPenalty, IsSizedLeaf}
 use Rattle.tb_node.specs.Small.{IsAmount}
 use Rattle.tb_node.specs.Plain.{hbox, rule, skip, kerned, pen, mark, note, whatsit, Leaf, PlainKind, plain, ins, act, PlainNode, is_act_kind}
 use Rattle.tb_param.specs.declared.Params.{Params}
-use Rattle.tb_insert.specs.declared.Class.{Class}
 use Rattle.tb_break.specs.Prune.{pruned_nodes}
 use Rattle.tb_builder.specs.Reached.{holds_box, laid_out}
 use Rattle.tb_builder.specs.Fired.{frozen_for}
 use Rattle.tb_builder.specs.Contents.{Contents, frozen_of, laid, node_count, box_count}
-use Rattle.tb_builder.specs.Next.{AskFits, NextFits}
+use Rattle.tb_builder.specs.Next.{NextFits}
 use Rattle.tb_builder.specs.Owned.{ClassesFit}
-use Rattle.tb_builder.specs.Pageable.{IsSizedOnPage, IsSizedClass, IsSizedBox, IsGoal, IsSizedInserted}
+use Rattle.tb_builder.specs.Pageable.{IsSizedOnPage, IsSizedClass, IsSizedBox, IsGoal}
 use Rattle.tb_builder.specs.Places.{NoActs}
 use Rattle.tb_builder.proofs.PageableLemmas.{count-append, IsSizedFrozen, boxes_fit, class_boxes_sized, class_boxes_total, laid_fits, pruned_sized}
 use Rattle.tb_builder.proofs.CallLemmas.{class-fits}
 use Rattle.tb_builder.proofs.PrunedLemmas.{pruned_nodes_longer, front-sized, back-sized}
 use Rattle.tb_builder.specs.declared.PageSums.{PageSums}
-use Rattle.tb_column.specs.Ranges.{IsSizedGlue}
 use Rattle.tb_plain.specs.Take.{top_class, with_float, taken_nodes, act_nodes, here_nodes, top_leaves, page_leaves, top_insertion}
 use Rattle.tb_plain.specs.Run.{MakeupState, makeup_ask, makeup_classes, void_boxes, act_count}
 use Rattle.tb_plain.specs.Calls.{AreMakeupParams, IsTake}
-use Rattle.tb_plain.proofs.StepLemmas.{acts-append, acts-laid, put-acts}
+use Rattle.tb_plain.proofs.StepLemmas.{acts-append, put-acts}
 use Rattle.tb_makeup.specs.Led.{Led}
-use Rattle.tb_makeup.specs.Turning.{AreRunParams, AreRunNodes, node_total}
+use Rattle.tb_makeup.specs.Turning.{AreRunNodes, node_total}
 use Rattle.tb_makeup.proofs.HoldLemmas.{Holds}
 use Rattle.tb_makeup.proofs.LedLemmas.{led-both, led-none, led-takes}
 
@@ -141,10 +137,13 @@ module _ (p : Params) (h : AreMakeupParams p) (f : Float) (height : IsExtent f.h
   here-sized = All-from_recursion IsSizedOnPage (here_nodes p f) (glue-sized, (record { shape = (height, zero-extent); kind = tt }, (pen-sized (negsuc 199) (record { low = omega (arith, ints); high = omega (arith, ints) }), (glue-sized, tt))))
 
   inserted-sized : (ls : List Leaf) → All IsSizedLeaf ls → All IsSizedOnPage (top_insertion ls ∷ [])
-  inserted-sized ls k = All-from_recursion IsSizedOnPage (top_insertion ls ∷ []) (record {
-    shape = tt;
-    kind = record { inner = k; height = refl; split_depth = record { low = omega (arith, ints); high = omega (arith, ints) }; split_top = zero-extent; floating = record { low = omega (arith, ints); high = omega (arith, ints) } };
-  }, tt)
+  inserted-sized ls k = All-from_recursion IsSizedOnPage (top_insertion ls ∷ []) (
+    record {
+      shape = tt;
+      kind = record { inner = k; height = refl; split_depth = record { low = omega (arith, ints); high = omega (arith, ints) }; split_top = zero-extent; floating = record { low = omega (arith, ints); high = omega (arith, ints) } };
+    },
+    tt,
+  )
 
   top-leaves-sized : All IsSizedLeaf (top_leaves p f)
   top-leaves-sized = All-from_recursion IsSizedLeaf (top_leaves p f) (record { low = omega (arith, ints); high = omega (arith, ints) }, ((height, zero-extent), (record { low = omega (arith, ints); high = omega (arith, ints) }, ((h.intextsep.width, h.intextsep.stretch, h.intextsep.shrink), tt))))
@@ -233,14 +232,3 @@ module _ (p : Params) (m : AreMakeupParams p) (s : MakeupState) (nodes : AreRunN
 
   pub acted-takes : IsTake a
   acted-takes = takes.0
-
-  -- what waits is less, where each act counts for more than it puts
-  pub acted-fewer : length (put ++ after) + 5 * act_count (put ++ after) < length s.waiting + 5 * act_count s.waiting
-  acted-fewer =
-      let a3 = acts-append put after in
-      let a4 = put-acts p sums a in
-      let a5 = few.length_is in
-      let a6 = length-append put after in
-      let b2 = ap act_count waits ∙ acts-append before (record { line = line; kind = act a } ∷ after) in
-      let b3 = ap length waits ∙ length-append before (record { line = line; kind = act a } ∷ after) in
-      omega (arith, a3, a4, a5, a6, b2, b3)

@@ -1,10 +1,9 @@
 -- Acts stay behind their whatsits.
-use Rattle.std.proofs.Common.{◌≡◌, refl, sym, ◌∙◌, ap, subst, ℕ, zero, suc, ℤ, Bool, true, false, List, [], ◌∷◌, ◌++◌, map, take, drop, Some, None, append_assoc}
+use Rattle.std.proofs.Common.{◌≡◌, refl, sym, ◌∙◌, ap, subst, ℕ, ℤ, Bool, true, false, List, [], ◌∷◌, ◌++◌, map}
 use Rattle.std.specs.Prelude.{if◌then◌else◌}
 use Rattle.std.proofs.lemmas.Bool.{true≢false}
 use Rattle.tb_node.specs.declared.Act.{Act}
-use Rattle.tb_node.specs.Shape.{Shape}
-use Rattle.tb_node.specs.Plain.{hbox, rule, skip, kerned, pen, mark, note, whatsit, PlainKind, plain, ins, act, PlainNode, node_shape, is_act_kind, without_acts}
+use Rattle.tb_node.specs.Plain.{hbox, rule, skip, kerned, pen, mark, note, whatsit, PlainKind, plain, ins, act, PlainNode, node_shape, is_act_kind}
 use Rattle.tb_break.specs.Prune.{pruned_nodes}
 use Rattle.tb_break.specs.Legal.{last_or}
 use Rattle.tb_builder.specs.Reached.{holds_box, laid_out}

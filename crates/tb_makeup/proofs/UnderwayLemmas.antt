@@ -1,28 +1,25 @@
 -- The page makeup while a page is filled.
-use Rattle.std.proofs.Common.{◌≡◌, inl, inr, refl, sym, ◌∙◌, ap, subst, ℕ, ◌+◌, ◌*◌, ◌<◌, ◌≤◌, Bool, true, false, List, [], ◌∷◌, ◌++◌, length, map, None, arith}
-use Rattle.std.specs.Prelude.{All, ◌⊎◌, if◌then◌else◌}
-use Rattle.std.specs.List.{AllByRecursion}
+use Rattle.std.proofs.Common.{◌≡◌, inl, inr, refl, sym, ◌∙◌, ap, subst, ℕ, ◌+◌, ◌*◌, ◌<◌, ◌≤◌, Bool, true, false, List, [], ◌∷◌, ◌++◌, length, map, arith}
+use Rattle.std.specs.Prelude.{All, ◌⊎◌}
 use Rattle.std.proofs.lemmas.Int.{ints}
 use Rattle.std.proofs.lemmas.Bool.{true≢false}
 use Rattle.std.proofs.lemmas.List.Elements.{All-from_recursion}
 use Rattle.std.proofs.lemmas.List.{append-nil, length-append}
-use Rattle.tb_pool.specs.Lists.{Lists, list_at}
+use Rattle.tb_pool.specs.Lists.{list_at}
 use Rattle.tb_node.specs.declared.Act.{Act}
 use Rattle.tb_node.specs.declared.Kind.{Kind}
 use Rattle.tb_node.specs.declared.Kind.TheVariants as kinds
 use Rattle.tb_node.specs.declared.Node.{Node}
 use Rattle.tb_node.specs.Plain.{PlainNode, act, plain_of, plain_kind}
 use Rattle.tb_param.specs.declared.Params.{Params}
-use Rattle.tb_insert.specs.declared.Class.{Class}
-use Rattle.tb_builder.specs.declared.Ask.{Ask}
 use Rattle.tb_builder.specs.declared.Event.{Event}
 use Rattle.tb_builder.specs.declared.Event.TheVariants as events
 use Rattle.tb_builder.specs.declared.Page.{Page}
 use Rattle.tb_builder.specs.declared.PageSums.{PageSums}
 use Rattle.tb_builder.specs.declared.Try.{Try}
-use Rattle.tb_builder.specs.Reached.{Reach, laid_out}
-use Rattle.tb_builder.specs.Fired.{Fired, Boxed, fired_of}
-use Rattle.tb_builder.specs.Contents.{Contents, contents_of, plain_list, node_count, box_count}
+use Rattle.tb_builder.specs.Reached.{laid_out}
+use Rattle.tb_builder.specs.Fired.{Fired}
+use Rattle.tb_builder.specs.Contents.{Contents, plain_list, node_count, box_count}
 use Rattle.tb_builder.specs.Kept.{fired_count}
 use Rattle.tb_builder.specs.Handed.{ends_in_kern, with_void}
 use Rattle.tb_builder.specs.Next.{NextIs, NextFits, IsGivenOut, FiredIs, fired_page, after_fired}
@@ -38,17 +35,17 @@ use Rattle.tb_builder.proofs.WholeLemmas.{IsMatterKind, AreMatter}
 use Rattle.tb_column.specs.Page.{is_leaf_kind, AreLeaves}
 use Rattle.tb_plain.specs.declared.Plain.{Plain}
 use Rattle.tb_plain.specs.Take.{act_nodes}
-use Rattle.tb_plain.specs.Run.{MakeupState, makeup_step, firing_step, last_step, builder_holds, makeup_ask, makeup_classes, void_boxes, makeup_reach, run_after, act_count, ejecting_nodes}
-use Rattle.tb_plain.specs.Calls.{IsPlain, IsTake, CanAct, HasActed, CanFire, fired_with}
+use Rattle.tb_plain.specs.Run.{MakeupState, firing_step, builder_holds, makeup_ask, makeup_classes, act_count, ejecting_nodes}
+use Rattle.tb_plain.specs.Calls.{IsTake, CanAct, HasActed, fired_with}
 use Rattle.tb_plain.proofs.StepLemmas.{acts-append, put-acts, ejected-fires}
 use Rattle.tb_makeup.specs.declared.running.Makeup.{Makeup}
 use Rattle.tb_makeup.specs.Led.{Led}
-use Rattle.tb_makeup.specs.Turning.{held_in, state_of, run_at, node_total, Phase, begins, ejects, AreRunNodes, AreAfter, IsReady}
+use Rattle.tb_makeup.specs.Turning.{held_in, state_of, node_total, Phase, begins, ejects, AreRunNodes, AreAfter, IsReady}
 use Rattle.tb_makeup.specs.Filling.{Continues, Takes, IsFiring, IsOver}
 use Rattle.tb_makeup.proofs.RunLemmas.{run-goes}
-use Rattle.tb_makeup.proofs.LedLemmas.{EndsLed, led-ends, led-no-kern}
-use Rattle.tb_makeup.proofs.HoldLemmas.{Holds, holds-state}
-use Rattle.tb_makeup.proofs.ComingLemmas.{IsComing, coming-start, coming-tried, acted-past, acted-holds, acted-going, reached, acted-step, acted-state, over-step, over-fires, over-waits, over-holds, over-going, over-past, fires-step, fired-same}
+use Rattle.tb_makeup.proofs.LedLemmas.{led-ends, led-no-kern}
+use Rattle.tb_makeup.proofs.HoldLemmas.{holds-state}
+use Rattle.tb_makeup.proofs.ComingLemmas.{IsComing, coming-start, coming-tried, acted-past, acted-holds, acted-going, acted-step, acted-state, over-step, over-fires, over-waits, over-holds, over-going, over-past, fires-step, fired-same}
 use Rattle.tb_makeup.proofs.FillLemmas.{zero-extent, zero-dimension, run-fits, laid-sized, laid-count, none-laid, acted-nodes, acted-total, acted-takes, put-few}
 use Rattle.tb_makeup.proofs.FiredLemmas.{labels, void-after, fired, fired-sized, fired-few, fired-text, fired-after}
 
@@ -199,9 +196,6 @@ module _ (r q d : Makeup) (ready : IsReady r) (h : IsUnderway r q) where
 
       pub act-takes : IsTake a
       act-takes = acted-takes p ready.params.makeup h.s h.takes.nodes came.before (held_in d).waiting line a came.is.waiting came.is.no_acts (page_sums_of (held_in d))
-
-      pub act-plain : IsPlain d.plain
-      act-plain = subst IsPlain (sym continues.plain) ready.plain
 
       pub act-can : CanAct d.builder d.store
       act-can = record {
