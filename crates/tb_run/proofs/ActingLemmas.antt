@@ -17,7 +17,7 @@ use Rattle.tb_output.specs.Keeping.{AreNoneOf}
 use Rattle.tb_output.proofs.ApartLemmas.{apart-swap}
 use Rattle.tb_output.proofs.StandLemmas.{all-front, machine-live, IsShownBy}
 use Rattle.tb_run.specs.declared.routine.Routine.{Routine}
-use Rattle.tb_run.specs.Turning.{IsWhole}
+use Rattle.tb_run.specs.Turning.{IsConsistent}
 use Rattle.tb_run.specs.Filling.{HasDone, HasActed}
 use Rattle.tb_run.proofs.WholeLemmas.{closed-owned, closed-contents, closed-sound, closed-shown}
 
@@ -28,7 +28,7 @@ dropped-all P (acts.TakeMargin n) m h = tt
 dropped-all P (acts.Suppress area) m h = tt
 dropped-all P (acts.Columns two) m h = all-front P (left_lists m.left_column) (event_lists m.events) h.1
 
-module _ (r : Routine) (m : MachineView) (a : Act) (whole : IsWhole r) (machine : (store : Lists Node) → IsMachine r.machine store → IsMachine m store) (fault : m.fault ≡ r.machine.fault) (params : m.params ≡ r.machine.params) (takes : TakesNoList r.machine m)
+module _ (r : Routine) (m : MachineView) (a : Act) (whole : IsConsistent r) (machine : (store : Lists Node) → IsMachine r.machine store → IsMachine m store) (fault : m.fault ≡ r.machine.fault) (params : m.params ≡ r.machine.params) (takes : TakesNoList r.machine m)
     (dropped : (store : Lists Node) → IsMachine r.machine store → AreNoneOf (dropped_lists a r.machine.left_column) (machine_lists m))
     (acted : (store : Lists Node) (boxes : List Boxed) (waiting : List PlainNode) → IsActed store boxes waiting r.machine m (acted_in store boxes waiting r.machine a)) where
   -- the dropped list is live, and none of the builder's or the machine's

@@ -16,7 +16,7 @@ use Rattle.tb_column.specs.Page.{is_leaf_kind, AreLeaves}
 use Rattle.tb_run.specs.declared.routine.Routine.{Routine}
 use Rattle.tb_run.specs.declared.routine.Ending.TheVariants as endings
 use Rattle.tb_run.specs.Run.{held_count}
-use Rattle.tb_run.specs.Turning.{held_in, state_of, IsWhole, IsBounded, over_limit}
+use Rattle.tb_run.specs.Turning.{held_in, state_of, IsConsistent, IsBounded, over_limit}
 
 -- ---- a list of a page
 
@@ -77,7 +77,7 @@ pub at-most : (z : ℤ) (n : ℕ) → int_lt z (pos n) ≡ false → pos n ≤�
 at-most z n e = grind (arith, ints, e)
 
 -- the nodes that are counted are those that are held
-pub counted-all : (r : Routine) → IsWhole r → IsBounded 8388608 r → (nodes held : ℕ) → nodes ≡ contents_count (held_in r) → held ≡ length (list_at r.store r.machine.held_page) → nodes + held ≡ held_count (state_of r)
+pub counted-all : (r : Routine) → IsConsistent r → IsBounded 8388608 r → (nodes held : ℕ) → nodes ≡ contents_count (held_in r) → held ≡ length (list_at r.store r.machine.held_page) → nodes + held ≡ held_count (state_of r)
 counted-all r whole bounded nodes held e f =
     by_number (node_count (held_in r).waiting) (box_count (held_in r).boxes) (node_count (map (plain_of (list_at r.store)) (list_at r.store r.machine.held_page))) (leaves-count (list_at r.store) (list_at r.store r.machine.held_page) whole.machine.held_page.leaves) e f bounded.held
     bounded.few

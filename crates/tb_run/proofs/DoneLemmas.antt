@@ -18,7 +18,7 @@ use Rattle.tb_run.specs.declared.routine.Routine.{Routine}
 use Rattle.tb_run.specs.Run.{held_count}
 use Rattle.tb_run.specs.Served.{IsServed}
 use Rattle.tb_run.specs.Happened.{happening_lists, happened_lists}
-use Rattle.tb_run.specs.Turning.{held_in, state_of, IsWhole, between_pages, IsReady, IsPage, ArePages, AreHappened}
+use Rattle.tb_run.specs.Turning.{held_in, state_of, IsConsistent, between_pages, IsReady, IsPage, ArePages, AreHappened}
 use Rattle.tb_run.proofs.WholeLemmas.{closed-owned, closed-contents, closed-sound, closed-shown}
 
 -- ---- lists of pages are live
@@ -46,7 +46,7 @@ module _ (r : Routine) (new : Lists Node) (hs : List Happening) (ready : IsReady
   abbrev closed : List ℕ
   closed = happened_lists hs
 
-  whole : IsWhole r
+  whole : IsConsistent r
   whole = ready.settled.whole
 
   contents : held_in after ≡ held_in r
@@ -59,7 +59,7 @@ module _ (r : Routine) (new : Lists Node) (hs : List Happening) (ready : IsReady
   pub done-state : state_of after ≡ state_of r
   done-state = (λ i. state_shown new (contents i).boxes (contents i).waiting r.machine) ∙ shown.state (held_in r).boxes (held_in r).waiting
 
-  done-whole : IsWhole after
+  done-whole : IsConsistent after
   done-whole = record {
     builder = closed-sound r.builder r.store new closed whole.builder others h.builder;
     machine = shown.machine;

@@ -32,7 +32,7 @@ use Rattle.tb_run.specs.declared.routine.Routine.{Routine}
 use Rattle.tb_run.specs.declared.routine.Ending.TheVariants as endings
 use Rattle.tb_run.specs.Run.{RunEvent, offered, sent, held_count}
 use Rattle.tb_run.specs.Happened.{noted_try, noted, step_events}
-use Rattle.tb_run.specs.Turning.{held_in, state_of, with_events, IsWhole, IsReady, EndsAs}
+use Rattle.tb_run.specs.Turning.{held_in, state_of, with_events, IsConsistent, IsReady, EndsAs}
 use Rattle.tb_run.specs.Filling.{sent_happenings, HasDone, HasActed, HasNotActed, AreQuiet, IsFilledLast}
 use Rattle.tb_run.proofs.WholeLemmas.{built-shown, built-whole}
 use Rattle.tb_run.proofs.HappenedLemmas.{lists-append, events-append, noted-append, noted-warned, try-noted, try-lists, warned-events, warned-lists}
@@ -60,7 +60,7 @@ taken-machine m store is = record {
 pub taken-all : (P : ℕ → Type 0) (m : MachineView) → AllByRecursion P (machine_lists m) → AllByRecursion P (machine_lists (record m { events = [] }))
 taken-all P m h = (h.0, subst (AllByRecursion P) (sym (append-nil (left_lists m.left_column))) (all-front P (left_lists m.left_column) (event_lists m.events) h.1))
 
-pub taken-whole : (q : Routine) → IsWhole q → IsWhole (with_events [] q)
+pub taken-whole : (q : Routine) → IsConsistent q → IsConsistent (with_events [] q)
 taken-whole q w = record { builder = w.builder; machine = taken-machine q.machine q.store w.machine; fault = w.fault; apart = taken-all (λ l. IsNoneOf l (builder_lists q.builder q.store)) q.machine w.apart }
 
 -- ---- so far
@@ -74,7 +74,7 @@ pub record IsUnderway (wanted : Bool) (r q : Routine) (hs : List Happening) : Ty
   pub rs : List Reached
   pub coming : IsComing r.machine.params (state_of r) rs (held_in q) (state_now r q)
   pub quiet : AreQuiet wanted hs (so_far r.machine.params (state_of r) rs).events
-  pub whole : IsWhole q
+  pub whole : IsConsistent q
   pub taken : q.machine.events ≡ []
   pub params : q.machine.params ≡ r.machine.params
   pub most : q.most ≡ r.most
@@ -141,7 +141,7 @@ module _ (wanted : Bool) (r q d : Routine) (hs : List Happening) (ready : IsRead
     pub next-is : (f : Event) → e ≡ f → NextIs (held_in q).stopped f (held_in q) (ask_of p s) (held_in d) d.store
     next-is f is = subst (λ x. NextIs (held_in q).stopped f (held_in q) x (held_in d) d.store) asked (subst (λ x. NextIs (held_in q).stopped x (held_in q) ask (held_in d) d.store) is event)
 
-    pub next-whole : IsWhole d
+    pub next-whole : IsConsistent d
     next-whole = built-whole q d h.whole keeps sound same
 
     -- the machine shows the same state
@@ -252,7 +252,7 @@ module _ (wanted : Bool) (r q d : Routine) (hs : List Happening) (ready : IsRead
           record {
             quiet = subst (λ st. AreQuiet wanted hs (step_events st)) (sym is_step) h.quiet;
             ended = subst (EndsAs now (Some (endings.PoolFull (line_of a) live))) (sym is_step) refl;
-            whole = subst IsWhole (sym k.same) next-whole;
+            whole = subst IsConsistent (sym k.same) next-whole;
             params = ap (λ (x : Routine). x.machine.params) k.same ∙ next-params;
           }
 

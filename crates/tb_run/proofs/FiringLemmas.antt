@@ -39,7 +39,7 @@ use Rattle.tb_run.specs.declared.happening.Happening.{Happening}
 use Rattle.tb_run.specs.declared.routine.Routine.{Routine}
 use Rattle.tb_run.specs.Run.{RunEvent, held_count}
 use Rattle.tb_run.specs.Served.{AreRunClasses, IsTextKind, notes_left, IsServedPage}
-use Rattle.tb_run.specs.Turning.{held_in, state_of, IsWhole, IsSettled, IsReady}
+use Rattle.tb_run.specs.Turning.{held_in, state_of, IsConsistent, IsBetweenFirings, IsReady}
 use Rattle.tb_run.specs.Filling.{firing_step, IsBoundedPage, IsFiring}
 use Rattle.tb_run.proofs.ServedFirings.{reach_where}
 use Rattle.tb_run.proofs.CountedLemmas.{leaves-count}
@@ -112,7 +112,7 @@ module _ (wanted : Bool) (r q d : Routine) (hs : List Happening) (ready : IsRead
   few : held_count s ≤ 4194304
   few = let a = ready.settled.bounded.held in let b = ready.settled.bounded.few in omega (arith, a, b)
 
-  whole : IsWhole d
+  whole : IsConsistent d
   whole = next-whole wanted r q d hs ready h ask asked e event sound keeps same most
 
   t-now : state_now r d ≡ state_now r q
@@ -134,7 +134,7 @@ module _ (wanted : Bool) (r q d : Routine) (hs : List Happening) (ready : IsRead
     line = fires.1.page.line i;
   }
 
-  abbrev set : IsSettled r
+  abbrev set : IsBetweenFirings r
   set = ready.settled
 
   served : IsServedPage (state_now r q) f

@@ -22,7 +22,7 @@ use Rattle.tb_run.specs.declared.routine.Ending.{Ending}
 use Rattle.tb_run.specs.declared.routine.Ending.TheVariants as endings
 use Rattle.tb_run.specs.Run.{held_count}
 use Rattle.tb_run.specs.Served.{AreRunnable, AreRunClasses, IsServed, IsServedPage}
-use Rattle.tb_run.specs.Turning.{held_in, state_of, IsWhole, IsBounded, between_pages, IsEnded, over_limit}
+use Rattle.tb_run.specs.Turning.{held_in, state_of, IsConsistent, IsBounded, between_pages, IsEnded, over_limit}
 use Rattle.tb_run.specs.Filling.{IsBoundedPage, IsServedOn, ServesTo, Serves}
 use Rattle.tb_run.proofs.CountedLemmas.{shown-sized}
 use Rattle.tb_run.proofs.ServedOut.{out-count, out-served}
@@ -44,7 +44,7 @@ work-waits : (p : Params) (s : State) (f : Fired) → (out p s f).state.waiting 
 unfolding out
 work-waits p s f = append_assoc f.held (out p s f).put_back f.rest
 
-module _ (r : Routine) (page : Page) (whole : IsWhole r) (can : CanFire r.machine r.builder r.store page) (bounded : IsBoundedPage page r) (runs : AreRunnable r.machine.params) (known : AreRunClasses r.machine.classes) (served : IsServedPage (state_of r) (fired_in r.builder r.store page)) where
+module _ (r : Routine) (page : Page) (whole : IsConsistent r) (can : CanFire r.machine r.builder r.store page) (bounded : IsBoundedPage page r) (runs : AreRunnable r.machine.params) (known : AreRunClasses r.machine.classes) (served : IsServedPage (state_of r) (fired_in r.builder r.store page)) where
   abbrev f : Fired
   f = fired_in r.builder r.store page
 
@@ -62,10 +62,10 @@ module _ (r : Routine) (page : Page) (whole : IsWhole r) (can : CanFire r.machin
     abbrev between_both : Routine
     between_both = record { store = store; builder = b; machine = m; most = r.most }
 
-    pub fired-whole : IsWhole between_both
+    pub fired-whole : IsConsistent between_both
     fired-whole = record { builder = keeps.builder; machine = keeps.machine; fault = goes_on; apart = back.machine_free }
 
-    module _ (q : Routine) (q_whole : IsWhole q)
+    module _ (q : Routine) (q_whole : IsConsistent q)
         (q_contents : held_in q ≡ record (held_in between_both) { waiting = (held_in between_both).held ++ (plain_list store turn.put_back ++ (held_in between_both).waiting); held = [] })
         (machine : q.machine ≡ m) (most : q.most ≡ r.most) (state : (boxes : List Boxed) (waiting : List PlainNode) → state_shown q.store boxes waiting q.machine ≡ state_shown store boxes waiting m) (events : events_shown q.store q.machine.events ≡ events_shown store m.events) where
       abbrev as_left : Contents

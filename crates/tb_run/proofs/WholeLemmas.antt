@@ -18,7 +18,7 @@ use Rattle.tb_output.specs.Keeping.{AreNoneOf, back_lists}
 use Rattle.tb_output.proofs.ApartLemmas.{apart-swap, distinct-apart, none-lacks, lacks-none}
 use Rattle.tb_output.proofs.StandLemmas.{Stands, machine-live, IsShownBy, stands-shown}
 use Rattle.tb_run.specs.declared.routine.Routine.{Routine}
-use Rattle.tb_run.specs.Turning.{held_in, IsWhole}
+use Rattle.tb_run.specs.Turning.{held_in, IsConsistent}
 
 pub same-all : (s t : Lists Node) (xs : List ℕ) → AllByRecursion (Stands s t) xs → AllSame s t xs
 same-all s t [] h = tt
@@ -36,14 +36,14 @@ module _ (s t : Lists Node) (b d : Builder) (k : Keeps (ids_of b) s (ids_of d) t
   kept-free (l ∷ ls) live none = (lacks-none l (builder_lists d t) (k.apart l live.0 (none-lacks l (builder_lists b s) none.0)), kept-free ls live.1 none.1)
 
 -- the machine shows the same, and the routine is whole
-module _ (q d : Routine) (whole : IsWhole q) (k : Keeps (ids_of q.builder) q.store (ids_of d.builder) d.store) (sound : IsSound d.builder d.store) (same : d.machine ≡ q.machine) where
+module _ (q d : Routine) (whole : IsConsistent q) (k : Keeps (ids_of q.builder) q.store (ids_of d.builder) d.store) (sound : IsSound d.builder d.store) (same : d.machine ≡ q.machine) where
   live : AllByRecursion (IsLive q.store) (machine_lists q.machine)
   live = machine-live q.machine q.store whole.machine
 
   pub built-shown : IsShownBy q.machine q.store d.store
   built-shown = stands-shown q.machine q.store d.store whole.machine (kept-stand q.store d.store q.builder d.builder k (machine_lists q.machine) live whole.apart)
 
-  pub built-whole : IsWhole d
+  pub built-whole : IsConsistent d
   built-whole = record {
     builder = sound;
     machine = subst (λ m. IsMachine m d.store) (sym same) built-shown.machine;
@@ -76,7 +76,7 @@ closed-shown m store new closed is others free = stands-shown m store new is (st
 
 -- ---- what goes back before what waits
 
-module _ (r : Routine) (t u : Lists Node) (d : Builder) (l : ℕ) (whole : IsWhole r) (back : CanGoBack l r.machine r.builder r.store) (sound : IsSound d t)
+module _ (r : Routine) (t u : Lists Node) (d : Builder) (l : ℕ) (whole : IsConsistent r) (back : CanGoBack l r.machine r.builder r.store) (sound : IsSound d t)
     (others : (q : ℕ) → q ≢ l → Lacks q (owned (ids_of r.builder) r.store) → get t.lists q ≡ get r.store.lists q) (keeps : (q : ℕ) → Lacks q (owned (ids_of r.builder) r.store ++ inner_ids (list_at r.store l)) → Lacks q (owned (ids_of d) t))
     (closed : u.lists ≡ remove t.lists l) where
   closed-other : (q : ℕ) → q ≢ l → get u.lists q ≡ get t.lists q
@@ -118,5 +118,5 @@ module _ (r : Routine) (t u : Lists Node) (d : Builder) (l : ℕ) (whole : IsWho
   pub back-shown : IsShownBy r.machine r.store u
   back-shown = stands-shown r.machine r.store u whole.machine stand.0
 
-  pub back-whole : IsWhole after
+  pub back-whole : IsConsistent after
   back-whole = record { builder = frame_sound d t u sound same-kept; machine = back-shown.machine; fault = whole.fault; apart = stand.1 }

@@ -28,7 +28,7 @@ use Rattle.tb_run.specs.declared.routine.Filled.TheVariants as filled
 use Rattle.tb_run.specs.Run.{RunEvent, dead_cycles, Step, ends, after_firing, held_count, step}
 use Rattle.tb_run.specs.Served.{AreRunClasses, IsServed, IsServedPage}
 use Rattle.tb_run.specs.Happened.{events_of, noted, step_events, happened_lists}
-use Rattle.tb_run.specs.Turning.{held_in, state_of, IsWhole, IsBounded, between_pages, EndsAs, IsEnded}
+use Rattle.tb_run.specs.Turning.{held_in, state_of, IsConsistent, IsBounded, between_pages, EndsAs, IsEnded}
 
 -- what was sent, as happenings
 abbrev pub sent_happenings : List Sent → List Happening
@@ -43,7 +43,7 @@ HasDone boxes waiting r q (full line live) = ⊥
 
 -- the act was done, and the builder holds what it held
 pub record HasActed (a : Act) (r q : Routine) : Type 0 where
-  pub whole : IsWhole q
+  pub whole : IsConsistent q
   pub acted : (boxes : List Boxed) (waiting : List PlainNode) → HasDone boxes waiting r q (act_on r.machine.params (state_shown r.store boxes waiting r.machine) a)
   pub contents : held_in q ≡ held_in r
   pub builder : q.builder ≡ r.builder
@@ -72,7 +72,7 @@ pub record AreQuiet (wanted : Bool) (hs : List Happening) (es : List RunEvent) :
 pub record IsFilledLast (wanted : Bool) (r : Routine) (e : Ending) (q : Routine) (hs : List Happening) : Type 0 where
   pub quiet : AreQuiet wanted hs (step_events (step r.machine.params (state_of r)))
   pub ended : EndsAs q (Some e) (step r.machine.params (state_of r))
-  pub whole : IsWhole q
+  pub whole : IsConsistent q
   pub params : q.machine.params ≡ r.machine.params
 
 -- with the page that fires, this many nodes are held
@@ -86,7 +86,7 @@ pub record IsFiring (wanted : Bool) (r : Routine) (page : Page) (q : Routine) (h
   pub records : List Recorded
   pub quiet : AreQuiet wanted hs events
   pub step_is : step r.machine.params (state_of r) ≡ firing_step r.machine.params events records (state_of q) (fired_in q.builder q.store page)
-  pub whole : IsWhole q
+  pub whole : IsConsistent q
   pub can : CanFire q.machine q.builder q.store page
   pub taken : q.machine.events ≡ []
   pub params : q.machine.params ≡ r.machine.params
@@ -109,7 +109,7 @@ pub record IsServedOn (page : Page) (r q : Routine) : Type 0 where
   pub done : (whole_work r.machine r.builder r.store page).refused ≡ false
   pub state : state_of q ≡ (whole_work r.machine r.builder r.store page).state
   pub sent : events_shown q.store q.machine.events ≡ events_shown r.store r.machine.events ++ (whole_work r.machine r.builder r.store page).sent
-  pub whole : IsWhole q
+  pub whole : IsConsistent q
   pub between : held_in q ≡ between_pages (state_of q)
   pub served : IsServed (held_in q).waiting (state_of q)
   pub bounded : IsBounded 8388608 q

@@ -38,7 +38,7 @@ with_events es r = record r { machine = record r.machine { events = es } }
 -- ---- between two firings
 
 -- the builder and the machine are as their last calls left them, with lists of their own, and no fault was returned
-pub record IsWhole (r : Routine) : Type 0 where
+pub record IsConsistent (r : Routine) : Type 0 where
   pub builder : IsSound r.builder r.store
   pub machine : IsMachine r.machine r.store
   pub fault : r.machine.fault ≡ None
@@ -54,8 +54,8 @@ abbrev pub between_pages : State → Contents
 between_pages s = record { classes = s.classes; boxes = s.boxes; page = []; waiting = s.waiting; held = []; frozen = None; stopped = false }
 
 -- a page can be filled and served, whatever waits
-pub record IsSettled (r : Routine) : Type 0 where
-  pub whole : IsWhole r
+pub record IsBetweenFirings (r : Routine) : Type 0 where
+  pub whole : IsConsistent r
   pub params : AreRunnable r.machine.params
   pub classes : AreRunClasses r.machine.classes
   pub between : held_in r ≡ between_pages (state_of r)
@@ -64,7 +64,7 @@ pub record IsSettled (r : Routine) : Type 0 where
 
 -- the same, and each event was taken
 pub record IsReady (r : Routine) : Type 0 where
-  pub settled : IsSettled r
+  pub settled : IsBetweenFirings r
   pub events : r.machine.events ≡ []
 
 -- ---- what a turn shows

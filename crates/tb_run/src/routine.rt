@@ -17,7 +17,7 @@ ghost use Rattle.tb_run.specs.Served.{AreRunnable, AreRunClasses, IsServedPage};
 ghost use Rattle.tb_run.specs.Expanding.{AreItems};
 ghost use Rattle.tb_run.specs.Run.{classes_of, held_count, step};
 ghost use Rattle.tb_run.specs.Happened.{happened_lists};
-ghost use Rattle.tb_run.specs.Turning.{held_in, state_of, IsWhole, IsBounded, IsReady, AreHappened, ArePages, IsTurned, IsEnded, over_limit, with_events};
+ghost use Rattle.tb_run.specs.Turning.{held_in, state_of, IsConsistent, IsBounded, IsReady, AreHappened, ArePages, IsTurned, IsEnded, over_limit, with_events};
 ghost use Rattle.tb_run.specs.Filling.{Fills, Serves, IsBoundedPage, HasActed, HasNotActed, sent_happenings};
 
 use crate::Happening;
@@ -115,7 +115,7 @@ impl Routine {
     ///
     /// They are counted only if the bound on them passes `maxnodes`; their number is the bound then.
     pub fn node_limit(&mut self) -> Option<Ending>
-        requires whole { IsWhole self.old }
+        requires whole { IsConsistent self.old }
         requires bounded { IsBounded 8388608 self.old }
 
         ensures limit { result ≡ over_limit self.old.machine.params (held_count (state_of self.old)) }
@@ -204,7 +204,7 @@ impl Routine {
 
     // Does what an act says. A first column that it drops is closed.
     fn act(&mut self, act: Act) -> Result<(), Full>
-        requires whole { IsWhole self.old }
+        requires whole { IsConsistent self.old }
         requires act { IsSizedAct act }
         ensures ok { OnOk result (HasActed act self.old self.new) }
         ensures err { IfErr result (λ e. HasNotActed act e.live self.old self.new) }
@@ -219,7 +219,7 @@ impl Routine {
 
     // The machine serves a page that fired, and what it puts back waits. What is sent is with the machine.
     fn serve(&mut self, page: Page) -> Result<Option<Ending>, AllocError>
-        requires whole { IsWhole self.old }
+        requires whole { IsConsistent self.old }
         requires page { CanFire self.old.machine self.old.builder self.old.store page }
         requires bounded { IsBoundedPage page self.old }
         requires params { AreRunnable self.old.machine.params }
@@ -240,9 +240,9 @@ impl Routine {
 
     // Puts the nodes of a list back before what waits, and closes the list.
     fn put_back(&mut self, list: ListId)
-        requires whole { IsWhole self.old }
+        requires whole { IsConsistent self.old }
         requires list { CanGoBack list self.old.machine self.old.builder self.old.store }
-        ensures whole { IsWhole self.new }
+        ensures whole { IsConsistent self.new }
         ensures contents { held_in self.new ≡ record (held_in self.old) {
           waiting = (held_in self.old).held ++ (plain_list self.old.store list ++ (held_in self.old).waiting);
           held = [];
