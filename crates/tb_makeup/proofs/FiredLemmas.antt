@@ -1,30 +1,29 @@
 -- What waits after a page that fires.
-use Rattle.std.proofs.Common.{◌≡◌, refl, sym, ◌∙◌, ap, subst, ℕ, zero, suc, ◌+◌, ◌≤◌, ℤ, pos, negsuc, Bool, true, false, List, [], ◌∷◌, ◌++◌, map, take, drop, Some, None, arith}
-use Rattle.std.specs.Prelude.{All, ◌&&◌, neg_ℤ, ◌≤ℤ◌, int_le, if◌then◌else◌}
-use Rattle.std.specs.List.{AllByRecursion}
+use Rattle.std.proofs.Common.{◌≡◌, refl, sym, subst, ℕ, zero, suc, ◌+◌, ◌≤◌, ℤ, negsuc, Bool, true, false, List, [], ◌∷◌, ◌++◌, map, take, drop, Some, None, arith}
+use Rattle.std.specs.Prelude.{All, ◌&&◌, neg_ℤ, int_le, if◌then◌else◌}
 use Rattle.std.proofs.lemmas.Int.{ints}
 use Rattle.std.proofs.lemmas.List.Elements.{All-nil, All-append, All-from_recursion}
 use Rattle.tb_node.specs.Fit.{IsDimension, IsExtent}
 use Rattle.tb_node.specs.Plain.{Leaf, Inserted, PlainKind, plain, ins, act, PlainNode, is_act_kind, without_acts, on_line}
 use Rattle.tb_param.specs.declared.Params.{Params}
 use Rattle.tb_insert.specs.Account.{Labelled, Label, whole, split, late, labelled, terms_after}
-use Rattle.tb_builder.specs.Reached.{Reach, reach_from, laid_out}
-use Rattle.tb_builder.specs.Fired.{Fired, Boxed, box_after, given_to, is_given, page_break, unless_empty, held_of, held_insertions, with_spent_break, frozen_for, fired_of}
-use Rattle.tb_builder.specs.Contents.{node_count, box_count}
+use Rattle.tb_builder.specs.Reached.{Reach, laid_out}
+use Rattle.tb_builder.specs.Fired.{Fired, Boxed, box_after, given_to, is_given, page_break, unless_empty, held_of, held_insertions, frozen_for, fired_of}
+use Rattle.tb_builder.specs.Contents.{node_count}
 use Rattle.tb_builder.specs.Handed.{with_void}
-use Rattle.tb_builder.specs.Kept.{IsSizedAsk, AreBoxesOf, fired_count}
-use Rattle.tb_builder.specs.Pageable.{IsSizedOnPage, IsSizedBox}
+use Rattle.tb_builder.specs.Kept.{IsSizedAsk, fired_count}
+use Rattle.tb_builder.specs.Pageable.{IsSizedOnPage}
 use Rattle.tb_builder.specs.Places.{NoActs}
 use Rattle.tb_builder.proofs.CutLemmas.{CutAt, reach-cut, ActFree, AllFree, acts-free}
 use Rattle.tb_builder.proofs.PageableLemmas.{count-append}
 use Rattle.tb_builder.proofs.SizedLemmas.{FiredSized}
 use Rattle.tb_builder.proofs.WholeLemmas.{AreMatter, fired_of-sized, fired_of-fewer, fired-matter}
 use Rattle.tb_plain.specs.Firing.{holds_any, page_for_held, put_back_after}
-use Rattle.tb_plain.specs.Run.{MakeupState, makeup_ask, makeup_classes, void_boxes, makeup_reach, waiting_after, one_act, act_count}
+use Rattle.tb_plain.specs.Run.{MakeupState, makeup_ask, makeup_classes, void_boxes, makeup_reach, one_act, act_count}
 use Rattle.tb_plain.specs.Calls.{AreMakeupParams}
 use Rattle.tb_plain.proofs.StepLemmas.{acts-laid, reach-acts, fired-acts}
 use Rattle.tb_makeup.specs.Led.{Led}
-use Rattle.tb_makeup.specs.Turning.{AreRunNodes, node_total, AreAfter}
+use Rattle.tb_makeup.specs.Turning.{AreRunNodes, AreAfter}
 use Rattle.tb_makeup.proofs.LedLemmas.{led-both, led-none, led-back, led-free, led-laid, led-spent}
 use Rattle.tb_makeup.proofs.FillLemmas.{extent-goal, zero-extent, zero-dimension, classes-fit, boxes-sized}
 

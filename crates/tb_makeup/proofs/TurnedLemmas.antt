@@ -1,8 +1,7 @@
 -- A turn of the page makeup, as steps of the run.
-use Rattle.std.proofs.Common.{◌≡◌, refl, sym, ◌∙◌, ap, subst, ℕ, suc, ◌+◌, ◌*◌, ◌-◌, ◌<◌, ◌≤◌, ℤ, pos, Bool, true, false, List, [], ◌∷◌, ◌++◌, Option, Some, None, arith}
-use Rattle.std.specs.Prelude.{All, pred, nat_abs, int_lt, ◌≤ℤ◌, ◌<ℤ◌, if◌then◌else◌}
+use Rattle.std.proofs.Common.{◌≡◌, refl, sym, ◌∙◌, ap, subst, ℕ, ◌+◌, ◌*◌, ◌-◌, ◌<◌, ◌≤◌, ℤ, pos, Bool, true, false, List, [], ◌∷◌, Option, Some, None, arith}
+use Rattle.std.specs.Prelude.{pred, nat_abs, int_lt, ◌≤ℤ◌, ◌<ℤ◌, if◌then◌else◌}
 use Rattle.std.proofs.lemmas.Int.{ints}
-use Rattle.std.proofs.lemmas.Bool.{true≢false}
 use Rattle.std.proofs.lemmas.List.Elements.{All-nil}
 use Rattle.tb_node.specs.Plain.{PlainNode}
 use Rattle.tb_param.specs.declared.Params.{Params}
@@ -15,12 +14,11 @@ use Rattle.tb_builder.specs.Pageable.{IsSizedOnPage}
 use Rattle.tb_builder.specs.Running.{IsSound, freezes}
 use Rattle.tb_column.specs.Column.{PlainSent, shipped, one}
 use Rattle.tb_plain.specs.Firing.{holds_any, makeup_column}
-use Rattle.tb_plain.specs.Run.{MakeupState, MakeupStep, ends, goes_on, done, page_limit, node_limit, makeup_step, shipping_step, firing_step, last_step, builder_holds, makeup_ask, makeup_classes, void_boxes, run_after, act_count, ejecting_nodes, waiting_after}
+use Rattle.tb_plain.specs.Run.{MakeupState, ends, goes_on, done, page_limit, node_limit, shipping_step, firing_step, builder_holds, makeup_ask, makeup_classes, void_boxes, run_after, ejecting_nodes, waiting_after}
 use Rattle.tb_plain.specs.Calls.{AreMakeupParams, IsPlain, fired_with}
 use Rattle.tb_plain.specs.declared.Plain.{Plain}
 use Rattle.tb_plain.proofs.StepLemmas.{page-less}
 use Rattle.tb_makeup.specs.declared.running.Makeup.{Makeup}
-use Rattle.tb_makeup.specs.declared.running.MakeupEnding.{MakeupEnding}
 use Rattle.tb_makeup.specs.declared.running.MakeupEnding.TheVariants as endings
 use Rattle.tb_makeup.specs.Turning.{held_in, state_of, over_limit, run_at, node_total, begins, ejects, AreRunParams, AreRunNodes, IsReady, GoesTo, turns_left}
 use Rattle.tb_makeup.specs.Filling.{IsFiring, IsOver, Ejects}

@@ -1,13 +1,10 @@
 -- A page that is filled and ships, as part of a turn. No public clause cites this module.
-use Rattle.std.specs.Prelude.{◌≡◌, ℕ, ◌+◌, ◌≤◌, ◌⊎◌, pos, ◌<ℤ◌, ◌≤ℤ◌, true, false, List, [], ◌∷◌, ◌++◌, Option, Some, None, All}
-use Rattle.tb_param.specs.declared.Params.{Params}
+use Rattle.std.specs.Prelude.{◌≡◌, ℕ, ◌+◌, ◌≤◌, ◌⊎◌, pos, ◌<ℤ◌, ◌≤ℤ◌, true, false, List, [], ◌∷◌, ◌++◌, Option, Some, None}
 use Rattle.tb_builder.specs.declared.Page.{Page}
-use Rattle.tb_builder.specs.Fired.{Fired}
 use Rattle.tb_node.specs.Plain.{PlainNode}
 use Rattle.tb_builder.specs.Contents.{node_count}
 use Rattle.tb_builder.specs.Handed.{with_void}
 use Rattle.tb_builder.specs.Running.{IsSound}
-use Rattle.tb_builder.specs.Pageable.{IsSizedOnPage}
 use Rattle.tb_column.specs.Column.{shipped, one}
 use Rattle.tb_run.specs.declared.happening.Happening.{Happening}
 use Rattle.tb_run.specs.Run.{sent}
@@ -18,7 +15,6 @@ use Rattle.tb_plain.specs.Run.{MakeupState, makeup_step, firing_step, last_step,
 use Rattle.tb_makeup.specs.declared.running.Makeup.{Makeup}
 use Rattle.tb_makeup.specs.declared.running.MakeupEnding.{MakeupEnding}
 use Rattle.tb_makeup.specs.declared.running.MakeupEnding.TheVariants as endings
-use Rattle.tb_makeup.specs.Led.{Led}
 use Rattle.tb_makeup.specs.Turning.{held_in, state_of, node_total, over_limit, AreRunNodes, AreAfter, run_at, AreHappened}
 
 -- the parameters, what pages are made for and the limit are as before

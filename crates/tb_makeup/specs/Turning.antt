@@ -1,7 +1,5 @@
 -- The page makeup between two firings, and what one of its turns shows.
-use Rattle.std.specs.Prelude.{◌≡◌, ℕ, suc, pred, nat_abs, ◌+◌, ◌*◌, ◌-◌, ◌<◌, ◌≤◌, ℤ, pos, ◌≤ℤ◌, int_lt, false, List, [], ◌++◌, map, Option, Some, None, All, if◌then◌else◌}
-use Rattle.tb_pool.specs.Lists.{Lists}
-use Rattle.tb_node.specs.declared.Node.{Node}
+use Rattle.std.specs.Prelude.{◌≡◌, ℕ, suc, pred, nat_abs, ◌+◌, ◌*◌, ◌-◌, ◌<◌, ◌≤◌, ℤ, pos, ◌≤ℤ◌, int_lt, false, List, [], map, Option, Some, None, All, if◌then◌else◌}
 use Rattle.tb_param.specs.declared.Params.{Params}
 use Rattle.tb_builder.specs.Fired.{Fired}
 use Rattle.tb_builder.specs.Contents.{Contents, contents_of, node_count}
@@ -13,7 +11,7 @@ use Rattle.tb_column.specs.Notes.{AreDistinct}
 use Rattle.tb_output.specs.Firing.{builder_lists}
 use Rattle.tb_output.specs.Keeping.{AreNoneOf}
 use Rattle.tb_run.specs.declared.happening.Happening.{Happening}
-use Rattle.tb_run.specs.Run.{RunEvent, sent}
+use Rattle.tb_run.specs.Run.{sent}
 use Rattle.tb_run.specs.Happened.{events_of, happened_lists}
 use Rattle.tb_run.specs.Turning.{ArePages}
 use Rattle.tb_plain.specs.Firing.{holds_any}
