@@ -1,6 +1,6 @@
 -- Nodes come to the builder of a worked page, and its page fires.
-use Rattle.std.proofs.Common.{◌≡◌, refl, sym, subst, ◌∙◌, ap, ℕ, ◌+◌, ◌<◌, ◌≤◌, pos, Bool, true, false, List, [], ◌∷◌, ◌++◌, length, map, take, get_or, None, Some, is_some, unwrap_or, add_assoc, add-one, arith}
-use Rattle.std.specs.Prelude.{All}
+use Rattle.std.proofs.Common.{◌≡◌, refl, sym, subst, ◌∙◌, ap, ℕ, ◌+◌, ◌<◌, ◌≤◌, ℤ, pos, Bool, true, false, List, [], ◌∷◌, ◌++◌, append-nil, length, map, take, get_or, Option, None, Some, is_some, unwrap_or, add_assoc, add-one, arith}
+use Rattle.std.specs.Prelude.{All, option_to_list}
 use Rattle.std.specs.FinMap.{get}
 use Rattle.std.proofs.Math.Seq.{take-suc}
 use Rattle.std.proofs.lemmas.Bool.{true≢false}
@@ -26,11 +26,12 @@ use Rattle.tb_builder.specs.declared.Event.{Event}
 use Rattle.tb_builder.specs.declared.Event.TheVariants as events
 use Rattle.tb_builder.specs.declared.Page.{Page}
 use Rattle.tb_builder.specs.declared.Builder.{Builder}
+use Rattle.tb_builder.specs.declared.Course.{Course}
 use Rattle.tb_builder.specs.Contents.{Contents, contents_of, nothing_yet, kind_count, node_count, box_count}
-use Rattle.tb_builder.specs.Owned.{Lacks, ClassesFit, inner_of, ids_of, owned, is_plain, AllPlain, is_known, has_class, classes_of}
-use Rattle.tb_builder.specs.Running.{IsSound}
+use Rattle.tb_builder.specs.Owned.{Lacks, AllDiffer, AllLive, ClassesFit, inner_of, inner_ids, Ids, IsOwned, ids_of, owned, is_plain, AllPlain, HoldPlain, is_known, AllKnown, has_class, classes_of}
+use Rattle.tb_builder.specs.Running.{IsSound, PageStands}
 use Rattle.tb_builder.specs.Next.{SizesFit, NextFits, NextIs}
-use Rattle.tb_builder.specs.Handed.{NodesJoin, NoPage}
+use Rattle.tb_builder.specs.Handed.{NodesJoin, ListJoins, NoPage, ends_in_kern}
 use Rattle.tb_builder.specs.Pageable.{IsSizedOnPage, IsFactor, IsSizedClass, IsSizedBox, IsGoal, IsPageable}
 use Rattle.tb_builder.specs.Worked.{IsMatter, AtRest, IsReady, waits}
 use Rattle.tb_builder.proofs.MoveLemmas.{get_other}
@@ -97,6 +98,30 @@ matter_known cs (kinds.Act a) p = refl
 pub matter_plain : (ns : List Node) → All IsMatter ns → AllPlain ns
 matter_plain [] h = tt
 matter_plain (n ∷ ns) h = ((All-head IsMatter n ns h).plain, matter_plain ns (All-tail IsMatter n ns h))
+
+plain_ids : (ns : List Node) → AllPlain ns → inner_ids ns ≡ []
+plain_ids [] h = refl
+plain_ids (n ∷ ns) h = λ i. option_to_list (matter_inner n.kind h.0 i) ++ plain_ids ns h.1 i
+
+plain_known : (cs : List Class) (ns : List Node) → AllPlain ns → AllKnown cs ns
+plain_known cs [] h = tt
+plain_known cs (n ∷ ns) h = (matter_known cs n.kind h.0, plain_known cs ns h.1)
+
+-- a list of such nodes that is none of the builder's
+list_joins : (b : Ids) (s : Lists Node) (l : ℕ) → IsOwned b s → IsLive s l → AllPlain (list_at s l) → Lacks l (owned b s) → ListJoins b s l
+list_joins b s l own live plain apart = record {
+  live = live;
+  apart = subst (λ xs. Lacks l (owned b s ++ xs)) no_ids (subst (Lacks l) (sym (append-nil (owned b s))) apart);
+  nodes = record {
+    live = subst (AllLive s) no_ids tt;
+    differ = subst (λ xs. AllDiffer (owned b s ++ xs)) no_ids (subst AllDiffer (sym (append-nil (owned b s))) own.differ);
+    plain_lists = subst (HoldPlain s) no_ids tt;
+    known = plain_known (classes_of b) (list_at s l) plain;
+  };
+}
+  where
+    no_ids : [] ≡ inner_ids (list_at s l)
+    no_ids = sym (plain_ids (list_at s l) plain)
 
 pub matter_sized : (ns : List Node) → All IsMatter ns → All IsSizedNode ns
 matter_sized ns h = All-weaker IsMatter IsSizedNode (λ n m. m.sized) ns h
@@ -292,7 +317,19 @@ rest_from b d s t r sound page frozen classes = record {
   known = subst (λ cs. has_class cs 254 ≡ true) (sym classes) r.known;
 }
 
--- ---- an insertion of worked nodes
+-- no stop was tried last
+pub rest_going : (b : Builder) (s : Lists Node) → AtRest b s → b.stopped ≡ false
+rest_going b s r = by_frozen b.frozen b.stopped b.course (contents_of b s) r.no_page.frozen r.sound.page
+  where
+    by_frozen : (o : Option (ℤ × ℤ)) (st : Bool) (k : Course) (c : Contents) → o ≡ None → PageStands o st k c → st ≡ false
+    by_frozen None false k c e p = refl
+    by_frozen None true k c e p = absurd p
+    by_frozen (Some f) st k c e p = absurd (true≢false (ap is_some e))
+
+pub rest_no_kern : (b : Builder) (s : Lists Node) → AtRest b s → ends_in_kern (contents_of b s).page ≡ false
+rest_no_kern b s r = ap ends_in_kern r.no_page.page
+
+-- ---- a list of worked nodes, or an insertion of them
 
 module _ (b : Builder) (s t : Lists Node) (l : ℕ) (nodes : List Node) (ask : Ask) (r : IsReady b s ask) (fresh : get s.lists l ≡ None) (made : get t.lists l ≡ Some nodes) (others : (q : ℕ) → IsLive s q → get t.lists q ≡ get s.lists q) (matter : All IsMatter nodes) where
   same_owned : AllSame s t (owned (ids_of b) s)
@@ -312,6 +349,11 @@ module _ (b : Builder) (s t : Lists Node) (l : ℕ) (nodes : List Node) (ask : A
 
   pub note_shapes : length nodes ≤ 8388608 → SizesFit (shapes t l)
   note_shapes few = subst (λ ns. SizesFit (map shape_of ns)) (sym list_made) (sizes_fit (map shape_of nodes) (All-map IsSized shape_of nodes (matter_sized nodes matter)) (let e = length-map {B = Shape} nodes shape_of in omega arith))
+
+  pub note_list_joins : ListJoins (ids_of b) t l
+  note_list_joins =
+      list_joins (ids_of b) t l note_sound.own (ap is_some made) (subst AllPlain (sym list_made) (matter_plain nodes matter))
+      (subst (Lacks l) (sym (frame_owned b s t r.rest.sound same_owned)) (fresh_lacks s l (owned (ids_of b) s) fresh r.rest.sound.own.live))
 
   module _ (n : Node) (i : Insertion) (kind : n.kind ≡ kinds.Ins i) (list_is : i.list ≡ l) (class_is : i.class ≡ 254) where
     pub note_joins : NodesJoin (ids_of b) t (n ∷ [])

@@ -234,6 +234,35 @@ fn put_nothing_back(alloc: Global, p: &mut Paged) -> Result<Vec<(char, i64)>, Al
     told_list(alloc, &p.store, p.builder.waiting())
 }
 
+// What waits after these nodes were put first.
+fn put_before_all(
+    alloc: Global,
+    p: &mut Paged,
+    nodes: &[Node],
+) -> Result<Vec<(char, i64)>, AllocError>
+    requires ready { IsReady p.old.builder p.old.store p.old.ask }
+    requires matter { All IsMatter nodes.now }
+    ensures { IsSound p.new.builder p.new.store }
+{
+    let list = make_list(&mut p.store, nodes)?;
+    p.builder.put_first(&mut p.store, list);
+    told_list(alloc, &p.store, p.builder.waiting())
+}
+
+// The event that comes next.
+fn next_event(p: &mut Paged) -> Result<Event, AllocError>
+    requires { IsReady p.old.builder p.old.store p.old.ask }
+    ensures { IsSound p.new.builder p.new.store }
+{
+    p.builder.next(&mut p.store, &p.ask)
+}
+
+// The total, the shrink and the goal of the page so far.
+fn told_sums(p: &Paged) -> (i64, i64, i64) {
+    let sums = p.builder.page_sums();
+    (sums.total, sums.shrink, sums.goal)
+}
+
 #[test]
 fn an_insertion_that_fits(rt: HostRuntime) -> Result<(), Fail> {
     let mut p = one_note(rt.alloc(), 1073741823, 30, &[make_box(20)])?;
@@ -298,5 +327,26 @@ fn a_second_insertion_sends_the_break_back(rt: HostRuntime) -> Result<(), Fail> 
         told_list(rt.alloc(), &p.store, page.body)?.as_slice(),
         [('g', 0), ('b', 10)].as_slice()
     );
+    Ok(())
+}
+
+#[test]
+fn nodes_that_are_put_first(rt: HostRuntime) -> Result<(), Fail> {
+    let mut p = open(rt.alloc(), 1073741823, 30)?;
+    give(&mut p, &[make_box(10), forced()])?;
+    let waiting = put_before_all(rt.alloc(), &mut p, &[make_box(7), fill()])?;
+    assert_eq!(rt;
+        waiting.as_slice(),
+        [('b', 7), ('g', 0), ('b', 10), ('p', -10000)].as_slice()
+    );
+    Ok(())
+}
+
+#[test]
+fn the_sums_of_the_page_so_far(rt: HostRuntime) -> Result<(), Fail> {
+    let mut p = one_note(rt.alloc(), 1073741823, 30, &[make_box(20)])?;
+    assert_eq!(rt; told_sums(&p), (0, 0, 1073741823));
+    next_event(&mut p)?;
+    assert_eq!(rt; told_sums(&p), (10, 0, 10));
     Ok(())
 }
