@@ -7,10 +7,9 @@ ghost use Rattle.tb_node.specs.Fit.{IsExtent};
 ghost use Rattle.tb_node.specs.Plain.{plain_of};
 ghost use Rattle.tb_builder.specs.Contents.{contents_of, nothing_yet};
 ghost use Rattle.tb_builder.specs.Owned.{has_class};
-ghost use Rattle.tb_builder.specs.Running.{IsSound};
 ghost use Rattle.tb_builder.specs.Worked.{IsMatter, IsReady, waits};
 ghost use Rattle.tb_plain.specs.Run.{makeup_ask, makeup_classes};
-ghost use Rattle.tb_plain.specs.Calls.{AreMakeupParams, IsPlain, CanAct, CanFire};
+ghost use Rattle.tb_plain.specs.Calls.{AreMakeupParams, CanAct, CanFire};
 
 use super::*;
 use std::alloc::Global;

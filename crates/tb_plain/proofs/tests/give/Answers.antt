@@ -1,4 +1,4 @@
-use Rattle.std.proofs.Common.{◌≡◌, ◌∙◌, sym, subst, ap, ◌+◌, ◌≤◌, arith}
+use Rattle.std.proofs.Common.{◌∙◌, sym, subst, ap, ◌+◌, ◌≤◌}
 use Rattle.tb_pool.specs.Lists.{list_at}
 use Rattle.tb_node.specs.Plain.{plain_of}
 use Rattle.tb_builder.specs.Contents.{contents_of}
