@@ -10,3 +10,4 @@ pub mod BesideLemmas
 pub mod PutLemmas
 pub mod GrowLemmas
 pub mod FireLemmas
+pub mod WorkedLemmas

@@ -3,6 +3,8 @@
 
 mod firing;
 mod taking;
+#[cfg(test)]
+mod tests;
 
 ghost use Rattle.std.specs.Prelude.{◌≡◌};
 ghost use Rattle.tb_plain.specs.Rows.{MakeupRows};

@@ -1,0 +1,12 @@
+use Rattle.std.proofs.Common.{arith}
+use Rattle.tb_plain.proofs.WorkedLemmas.{extent_of, no_glue}
+use Rattle.tb_plain.proofs.tests.params.Goals as goal
+
+pub returns : goal.returns
+returns c = record {
+  textheight = extent_of 100 (omega arith);
+  maxdepth = extent_of 0 (omega arith);
+  topskip = extent_of 10 (omega arith);
+  skipfootins = no_glue _ c.fixed-p.ensures;
+  intextsep = no_glue _ c.fixed-p-2.ensures;
+}
