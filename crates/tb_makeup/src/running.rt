@@ -25,7 +25,7 @@ use tb_galley::Galley;
 use tb_insert::Class;
 use tb_node::{FOOTNOTES, Kind, Node, What};
 use tb_param::{Params, exceeds};
-use tb_plain::{Plain, PlainFault, PlainPage, new_plain};
+use tb_plain::{Plain, PlainFault, PlainPage, TOP_FLOATS, new_plain};
 use tb_pool::{ListId, Lists};
 use tb_run::{Happening, close_happened, note_sent};
 use tb_scaled::{MAX_DIMEN, fixed};
@@ -58,9 +58,6 @@ pub enum MakeupEnding {
 
 // The penalty that ends the last page (plain.tex, \bye).
 const LAST_PENALTY: i64 = -1_073_741_824;
-
-// The class of top floats.
-const TOP_FLOATS: u8 = 253;
 
 // The class of top floats and that of the footnotes.
 fn makeup_classes(alloc: Global, p: &Params) -> Result<Vec<Class>, AllocError>

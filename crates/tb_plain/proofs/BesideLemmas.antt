@@ -9,7 +9,7 @@ use Rattle.tb_node.specs.declared.Kind.{Kind}
 use Rattle.tb_node.specs.declared.Kind.TheVariants as kinds
 use Rattle.tb_insert.specs.declared.Class.{Class}
 use Rattle.tb_builder.specs.Owned.{Lacks, AllDiffer, AllLive, inner_ids, Ids, owned, is_plain, AllPlain, HoldPlain, AllKnown, classes_of, IsOwned}
-use Rattle.tb_builder.specs.Handed.{NodesJoin, ListJoins}
+use Rattle.tb_builder.specs.Handed.{ListJoins}
 use Rattle.tb_builder.proofs.OwnedLemmas.{AllSame}
 use Rattle.tb_builder.proofs.WorkedLemmas.{matter_inner, matter_known}
 use Rattle.tb_column.specs.Page.{is_leaf_kind, AreLeaves}

@@ -1,17 +1,16 @@
 -- A page that fires becomes a column, and what goes back after it.
-use Rattle.std.proofs.Common.{◌≡◌, ◌≢◌, refl, sym, ap, subst, ◌∙◌, ℕ, ◌<◌, ◌≤◌, ◌+◌, ℤ, pos, negsuc, neg_ℤ, ◌≤ℤ◌, Bool, true, false, List, [], ◌∷◌, ◌++◌, map, length, length-append, Option, None, Some, unwrap_or, is_some, arith}
+use Rattle.std.proofs.Common.{◌≡◌, ◌≢◌, refl, sym, ap, subst, ◌∙◌, ℕ, ◌≤◌, ◌+◌, ℤ, pos, negsuc, neg_ℤ, ◌≤ℤ◌, Bool, true, false, List, [], ◌∷◌, ◌++◌, map, length, length-append, Option, None, Some, unwrap_or, is_some, arith}
 use Rattle.std.specs.Prelude.{All, ◌&&◌, nat_lt, int_le, int_lt, if◌then◌else◌}
 use Rattle.std.specs.FinMap.{get}
 use Rattle.std.proofs.lemmas.Int.{ints}
 use Rattle.std.proofs.lemmas.Bool.Decides.{nat_tests}
-use Rattle.std.proofs.lemmas.List.{map-append, length-map}
+use Rattle.std.proofs.lemmas.List.{length-map}
 use Rattle.std.proofs.lemmas.List.Elements.{All-nil, All-cons, All-head, All-tail, All-append, All-map}
 use Rattle.tb_scaled.specs.Scaled.{min_ℤ}
 use Rattle.tb_scaled.specs.Glue.{filling_glue}
-use Rattle.tb_pool.specs.Lists.{Lists, IsLive, list_at, with_list}
+use Rattle.tb_pool.specs.Lists.{Lists, list_at, with_list}
 use Rattle.tb_pool.proofs.CallerLemmas.{list_same, live_same, get_other}
 use Rattle.tb_node.specs.declared.Node.{Node}
-use Rattle.tb_node.specs.Shape.{Shape}
 use Rattle.tb_node.specs.declared.Kind.TheVariants as node_kinds
 use Rattle.tb_node.specs.Plain.{rule, skip, kerned, Leaf, leaf_node, PlainNode, plain_of, node_shape, shape_of, made}
 use Rattle.tb_node.specs.Sums.{last_depth, limited_depth}
@@ -34,7 +33,7 @@ use Rattle.tb_builder.proofs.NewLemmas.{fresh_lacks}
 use Rattle.tb_builder.proofs.PageableLemmas.{content_sized}
 use Rattle.tb_column.specs.declared.Column.{Column}
 use Rattle.tb_column.specs.declared.ColumnKind.TheVariants as kinds
-use Rattle.tb_column.specs.Column.{is_ragged, notes_under_rule}
+use Rattle.tb_column.specs.Column.{is_ragged}
 use Rattle.tb_column.specs.Shown.{nodes_shown, column_shown}
 use Rattle.tb_column.specs.Page.{AreLeaves, IsPageList, IsPageColumn}
 use Rattle.tb_column.specs.FloatList.{made_node}
@@ -46,7 +45,7 @@ use Rattle.tb_plain.specs.Expand.{clearing_penalty}
 use Rattle.tb_plain.specs.Firing.{ragged_end, feet_below, makeup_column_nodes, makeup_column, holds_any, page_for_held, put_back_after}
 use Rattle.tb_plain.specs.Making.{end_list, held_list, back_list, Grows}
 use Rattle.tb_plain.specs.Calls.{AreMakeupParams, CanFire, fired_with, HasFired}
-use Rattle.tb_plain.proofs.BesideLemmas.{same-one, plain-joins}
+use Rattle.tb_plain.proofs.BesideLemmas.{plain-joins}
 use Rattle.tb_plain.proofs.GrowLemmas.{grows-then, grows-among, put-grows, put-sound, put-contents, put-owned, other-box, two-counts, shown-anywhere}
 
 -- ---- the end of the column

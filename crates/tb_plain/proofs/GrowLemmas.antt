@@ -1,28 +1,25 @@
 -- A list grows by nodes that are neither insertions nor acts, while the builder's boxes are emptied into it.
-use Rattle.std.proofs.Common.{◌≡◌, ◌≢◌, refl, sym, ap, subst, ◌∙◌, ℕ, ◌<◌, ◌≤◌, ◌+◌, ℤ, pos, neg_ℤ, Bool, true, false, List, [], ◌∷◌, ◌++◌, map, length, Option, None, Some, unwrap_or, is_some, is_none, append_assoc, append-nil, arith}
+use Rattle.std.proofs.Common.{◌≡◌, ◌≢◌, refl, sym, ap, subst, ◌∙◌, ℕ, ◌≤◌, ◌+◌, Bool, true, false, List, [], ◌∷◌, ◌++◌, map, length, Option, None, Some, unwrap_or, is_some, is_none, append_assoc, append-nil, arith}
 use Rattle.std.specs.Prelude.{◌==◌, if◌then◌else◌}
 use Rattle.std.specs.FinMap.{get, insert}
-use Rattle.std.proofs.lemmas.Bool.{true≢false}
 use Rattle.std.proofs.lemmas.Bool.Decides.{nat_tests}
 use Rattle.std.proofs.lemmas.List.{map-append}
 use Rattle.tb_pool.specs.Lists.{Lists, IsLive, list_at, with_list}
 use Rattle.tb_pool.proofs.MapLemmas.{get-insert_same, get-insert_other}
 use Rattle.tb_pool.proofs.CallerLemmas.{list_same, live_same, get_other}
 use Rattle.tb_node.specs.declared.Node.{Node}
-use Rattle.tb_node.specs.Plain.{Leaf, leaf_of, leaf_node, PlainNode, plain_of}
+use Rattle.tb_node.specs.Plain.{Leaf, leaf_node, PlainNode, plain_of}
 use Rattle.tb_param.specs.declared.Params.{Params}
 use Rattle.tb_builder.specs.declared.Builder.{Builder}
 use Rattle.tb_builder.specs.Fired.{Boxed, box_content, content_of}
 use Rattle.tb_builder.specs.Contents.{Contents, contents_of, box_count}
 use Rattle.tb_builder.specs.Owned.{Lacks, has_class, ids_of, owned}
 use Rattle.tb_builder.specs.Running.{IsSound}
-use Rattle.tb_builder.specs.Handed.{NoPage, voided, with_void, Taken}
+use Rattle.tb_builder.specs.Handed.{NoPage, with_void, Taken}
 use Rattle.tb_builder.proofs.OwnedLemmas.{AllSame}
 use Rattle.tb_builder.proofs.FrameLemmas.{frame_owned, frame_contents, frame_sound}
-use Rattle.tb_column.specs.Column.{notes_under_rule}
 use Rattle.tb_column.specs.Shown.{nodes_shown}
 use Rattle.tb_column.specs.Page.{AreLeaves}
-use Rattle.tb_column.specs.TextList.{rule_above}
 use Rattle.tb_column.proofs.StoreLemmas.{with_list-same}
 use Rattle.tb_column.proofs.FloatLemmas.{leaves-append}
 use Rattle.tb_column.proofs.ShownLemmas.{leaves-held}

@@ -18,20 +18,15 @@ ghost use Rattle.tb_plain.specs.Firing.{feet_below, makeup_column_nodes, makeup_
 ghost use Rattle.tb_plain.specs.Making.{above_feet, end_list, held_list, back_list, Grows};
 ghost use Rattle.tb_plain.specs.Calls.{AreMakeupParams, IsPlain, CanFire, fired_with, HasFired, IsRefused};
 
-use crate::{Plain, PlainFault, PlainPage};
+use crate::{Plain, PlainFault, PlainPage, TOP_FLOATS};
 use std::alloc::AllocError;
 use tb_builder::{Builder, Page};
 use tb_column::{Column, ColumnKind, is_ragged, push_made, push_rule};
-use tb_node::{Kind, Node, What, list_sums};
+use tb_node::{FOOTNOTES, Kind, Node, What, list_sums};
 use tb_pack::pack;
 use tb_param::{Params, exceeds};
 use tb_pool::{ListId, Lists};
 use tb_scaled::{Glue, INF_PENALTY, Order, filling_glue};
-
-// The classes of top floats and of footnotes.
-const TOP_CLASS: u8 = 253;
-
-const FOOT_CLASS: u8 = 254;
 
 // The penalty of a clear (plain.tex, \supereject).
 const CLEARING_PENALTY: i64 = -20_000;
@@ -170,7 +165,7 @@ fn gather_text(store: &mut Lists<Node>, b: &mut Builder, body: ListId, list: Lis
     ensures emptied { get store.new.lists body ≡ Some [] }
     ensures spare { store.new.spare ≡ store.old.spare }
 {
-    b.take_box(store, TOP_CLASS, list);
+    b.take_box(store, TOP_FLOATS, list);
     store.append(list, body);
 }
 
@@ -185,9 +180,9 @@ fn gather_feet(store: &mut Lists<Node>, b: &mut Builder, p: &Params, list: ListI
     ensures grows { Grows list (list ∷ []) (feet_below p.now (box_content (contents_of b.old store.old).boxes 254)) (with_void 254 (contents_of b.old store.old).boxes) b.old store.old b.new store.new }
     ensures spare { store.old.spare ≤ store.new.spare + 4 }
 {
-    let void = b.is_void(FOOT_CLASS);
+    let void = b.is_void(FOOTNOTES);
     push_above_feet(store, p, list, void);
-    b.take_box(store, FOOT_CLASS, list);
+    b.take_box(store, FOOTNOTES, list);
 }
 
 // Puts what comes above footnotes at the end of a list, unless their box is void.

@@ -16,6 +16,9 @@ use tb_column::Column;
 use tb_param::Params;
 use tb_pool::ListId;
 
+/// The class of the floats that go to the top of a page; factor 1000, no limit and no skip (plain.tex, \topins).
+pub const TOP_FLOATS: u8 = 253;
+
 /// The page makeup between two calls: the parameters, and the number of the next page.
 #[derive(Clone, Copy)]
 pub struct Plain {

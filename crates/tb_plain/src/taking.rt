@@ -13,7 +13,7 @@ ghost use Rattle.tb_plain.specs.Take.{with_float, here_nodes, top_leaves, page_l
 ghost use Rattle.tb_plain.specs.Making.{place_of, here_list, top_list, page_list, top_node, AreOpened, IsPutFirst};
 ghost use Rattle.tb_plain.specs.Calls.{AreMakeupParams, IsPlain, IsTake, CanAct, HasPut, HasActed};
 
-use crate::Plain;
+use crate::{Plain, TOP_FLOATS};
 use std::alloc::AllocError;
 use tb_builder::{Builder, PageSums};
 use tb_column::{push_float, push_made};
@@ -21,9 +21,6 @@ use tb_node::{Act, Float, Insertion, Kind, Node, Where};
 use tb_param::Params;
 use tb_pool::{ListId, Lists};
 use tb_scaled::{INF_PENALTY, MAX_DIMEN};
-
-// The class of floats that go to the top of a page.
-const TOP_CLASS: u8 = 253;
 
 // Where a float goes: into the text, to the top of a page, or on a page of its own.
 #[derive(Clone, Copy)]
@@ -254,7 +251,7 @@ fn push_insertion(store: &mut Lists<Node>, lists: &TopLists, height: i64)
         store,
         lists.list,
         Kind::Ins(Insertion {
-            class: TOP_CLASS,
+            class: TOP_FLOATS,
             list: lists.inner,
             height,
             split_depth: MAX_DIMEN,

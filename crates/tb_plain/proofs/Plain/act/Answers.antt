@@ -1,4 +1,4 @@
-use Rattle.std.proofs.Common.{◌≡◌, sym, subst, ap, ◌∙◌, List}
+use Rattle.std.proofs.Common.{sym, subst, ap, ◌∙◌, List}
 use Rattle.std.specs.Prelude.{OnOk}
 use Rattle.tb_node.specs.Plain.{PlainNode}
 use Rattle.tb_builder.specs.declared.PageSums.{PageSums}

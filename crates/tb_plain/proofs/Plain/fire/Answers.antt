@@ -1,7 +1,7 @@
 use Rattle.std.proofs.Common.{sym, ◌∙◌, rules, FitsSigned, w64}
 use Rattle.std.proofs.lemmas.Int.{to_z-of_z}
 use Rattle.tb_pool.proofs.CallerLemmas.{list_same, live_same}
-use Rattle.tb_plain.proofs.FireLemmas.{open-can, open-apart, open-free, has-fired, is-within}
+use Rattle.tb_plain.proofs.FireLemmas.{open-can, open-free, has-fired, is-within}
 use Rattle.tb_plain.proofs.Plain.fire.Goals as goal
 
 pub make_column-column-requires-clause-page : goal.make_column-column-requires-clause-page

@@ -1,4 +1,4 @@
-use Rattle.std.proofs.Common.{◌≡◌, sym, ap, ◌∙◌, ◌++◌, rules}
+use Rattle.std.proofs.Common.{sym, ap, ◌∙◌, ◌++◌, rules}
 use Rattle.tb_pool.specs.Lists.{list_at, with_list}
 use Rattle.tb_plain.specs.Making.{back_list}
 use Rattle.tb_plain.proofs.GrowLemmas.{none-put}

@@ -1,4 +1,4 @@
-use Rattle.std.proofs.Common.{◌≡◌, ◌≢◌, ap, sym, subst, map, pos, rules, FitsSigned, w64}
+use Rattle.std.proofs.Common.{◌≡◌, rules, FitsSigned, w64}
 use Rattle.std.proofs.lemmas.Int.{to_z-of_z}
 use Rattle.tb_node.specs.Fit.{shapes}
 use Rattle.tb_pack.specs.Pack.{packed}

@@ -1,4 +1,4 @@
-use Rattle.std.proofs.Common.{◌≡◌, refl, ◌∙◌, is_some, ap, rules, FitsSigned, w64}
+use Rattle.std.proofs.Common.{refl, ◌∙◌, is_some, ap, rules, FitsSigned, w64}
 use Rattle.std.proofs.lemmas.Int.{to_z-of_z}
 use Rattle.tb_pool.proofs.CallerLemmas.{live_other}
 use Rattle.tb_plain.specs.Take.{top_leaves}
