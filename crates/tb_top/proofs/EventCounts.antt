@@ -34,7 +34,7 @@ among-append [] ys = refl
 among-append (offered t ∷ xs) ys = among-append xs ys
 among-append (sent e ∷ xs) ys = ap (λ es. e ∷ es) (among-append xs ys)
 
-among-sent : (es : List PlainSent) → sent_among (map sent es) ≡ es
+pub among-sent : (es : List PlainSent) → sent_among (map sent es) ≡ es
 among-sent [] = refl
 among-sent (e ∷ es) = ap (λ xs. e ∷ xs) (among-sent es)
 
