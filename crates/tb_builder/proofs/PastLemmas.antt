@@ -22,7 +22,7 @@ use Rattle.tb_builder.specs.Past.{ComesPast, TriesPast, EventPast, TurnPast}
 
 -- ---- what is laid out
 
-holds-both : (xs ys : List PlainNode) → holds_box (xs ++ ys) ≡ (holds_box xs || holds_box ys)
+pub holds-both : (xs ys : List PlainNode) → holds_box (xs ++ ys) ≡ (holds_box xs || holds_box ys)
 holds-both [] ys = refl
 holds-both (x ∷ xs) ys = ap (λ b. is_box (node_shape x) || b) (holds-both xs ys) ∙ assoc (is_box (node_shape x)) (holds_box xs) (holds_box ys)
   where

@@ -1,5 +1,5 @@
 -- One node more: what a turn of the page builder changes.
-use Rattle.std.specs.Prelude.{◌≡◌, ℕ, ◌<◌, ◌≤◌, true, false, List, [], ◌∷◌, ◌++◌, length, Option, Some, None}
+use Rattle.std.specs.Prelude.{◌≡◌, ℕ, ◌<◌, ◌≤◌, Bool, true, false, List, [], ◌∷◌, ◌++◌, length, Option, Some, None}
 use Rattle.std.specs.FinMap.{get}
 use Rattle.tb_pool.specs.Lists.{Lists}
 use Rattle.tb_node.specs.declared.Node.{Node}
@@ -84,6 +84,11 @@ StepIs (Some (events.Try t)) z k c d = TriesOn z t k c d
 StepIs (Some (events.Act a)) z k c d = ⊥
 StepIs (Some (events.Fired p)) z k c d = ⊥
 StepIs (Some events.Empty) z k c d = ⊥
+
+-- the event of a step: the place was tried, or there is none
+abbrev pub event_of : Bool → Try → Option Event
+event_of false t = None
+event_of true t = Some (events.Try t)
 
 -- what a step asks of the node: all that is added up with it fits
 pub record StepFits (z : Frozen) (page : List PlainNode) (held : ℕ → List Node) (n : Node) : Type 0 where

@@ -18,12 +18,10 @@ ghost use Rattle.tb_builder.specs.Contents.{contents_of};
 ghost use Rattle.tb_builder.specs.Running.{IsSound, CourseStands, Underway, AllLoose, kept_frozen, frozen_with, act_of_kind, insertion_of_kind};
 ghost use Rattle.tb_builder.specs.Next.{AskFits, NextFits, NextIs, IsGivenOut};
 ghost use Rattle.tb_builder.specs.Past.{EventPast};
-ghost use Rattle.tb_builder.specs.Turn.{Moves, Shifted, StepIs, StepFits, TriesOn, TurnIs, Filled};
+ghost use Rattle.tb_builder.specs.Turn.{Moves, Shifted, StepIs, StepFits, event_of, TurnIs, Filled};
 
 use crate::measuring::list_size;
-use crate::moving::{
-    act_of, drop_first, first_of, insertion_of, is_box, is_matter, penalty_of, top_node,
-};
+use crate::moving::{act_of, drop_first, insertion_of, is_box, is_matter, penalty_of, top_node};
 use crate::trying::stops;
 use crate::{Ask, Builder, Event};
 use std::alloc::AllocError;
@@ -58,7 +56,8 @@ impl Builder {
         Ok(self.fill(store, ask))
     }
 
-    // The nodes that wait go on the page, up to the next event.
+    // The nodes that wait go on the page, up to the next event. Most of them are no event and go on a page that is laid
+    // out: such a node is not copied.
     fn fill(&mut self, store: &mut Lists<Node>, ask: &Ask) -> Event
         requires sound { IsSound self.old store.old }
         requires on { self.old.stopped ≡ false }
@@ -66,12 +65,28 @@ impl Builder {
         requires room { 0 < store.old.spare }
         ensures { Filled self.old store.old ask.now result self.new store.new }
     {
-        while let Some(n) = first_of(store, self.waiting) {
-            if let Some(event) = self.turn(store, ask, &n) {
-                return event;
+        while let Some(n) = store.first(self.waiting) {
+            if !self.goes_on(n) {
+                let n = *n;
+                if let Some(event) = self.turn(store, ask, &n) {
+                    return event;
+                }
+                continue;
+            }
+            if self.step(store) {
+                return Event::Try(self.tried);
             }
         }
         Event::Empty
+    }
+
+    // The page is laid out, and the node is no act and no insertion.
+    fn goes_on(&self, n: &Node) -> bool
+        ensures opened { result ≡ true → self.now.opened ≡ true }
+        ensures no_act { result ≡ true → act_of_kind n.now.kind ≡ None }
+        ensures no_insertion { result ≡ true → insertion_of_kind n.now.kind ≡ None }
+    {
+        self.opened && is_matter(n)
     }
 
     // The first node that waits goes on the page, vanishes or is handed out, or the place before it is a stop. Each node
@@ -211,8 +226,8 @@ impl Builder {
         drop_first(store, self.waiting);
     }
 
-    // The first node that waits on a page that is laid out, no act and no insertion: its place is tried where it is
-    // legal, and it goes on the page unless that is a stop.
+    // The first node that waits on a page that is laid out, no act and no insertion, goes a step, and its event, if there
+    // is one, is told.
     fn reach(&mut self, store: &mut Lists<Node>, n: &Node) -> Option<Event>
         requires own { IsOwned (ids_of self.old) store.old }
         requires first { slice_get (list_at store.old self.old.waiting) 0 ≡ Some n.now }
@@ -227,39 +242,44 @@ impl Builder {
         ensures frozen { self.new.frozen ≡ self.old.frozen }
         ensures ids { ids_of self.new ≡ ids_of self.old }
     {
-        let Some(penalty) = penalty_of(store, self.waiting, n, self.course.lasting) else {
-            self.put(store, n);
-            return None;
-        };
-        Some(self.attempt(store, n, penalty))
+        if self.step(store) {
+            return Some(Event::Try(self.tried));
+        }
+        None
     }
 
-    // Tries the place before the first node that waits, and puts the node on the page unless the place is a stop.
-    fn attempt(&mut self, store: &mut Lists<Node>, n: &Node, penalty: i64) -> Event
+    // The first node that waits on a page that is laid out, no act and no insertion: its place is tried if it is legal,
+    // and it goes on the page unless that is a stop. Whether it was tried; `tried` is what came of it.
+    fn step(&mut self, store: &mut Lists<Node>) -> bool
         requires own { IsOwned (ids_of self.old) store.old }
-        requires first { slice_get (list_at store.old self.old.waiting) 0 ≡ Some n.now }
+        requires some { IsSome (slice_get (list_at store.old self.old.waiting) 0) }
         requires on { self.old.stopped ≡ false }
         requires underway { Underway (kept_frozen (contents_of self.old store.old)) self.old.course (contents_of self.old store.old).page (contents_of self.old store.old).waiting }
-        requires fits { StepFits (kept_frozen (contents_of self.old store.old)) (contents_of self.old store.old).page (list_at store.old) n.now }
-        requires low { IsAmount penalty }
-        requires legal { penalty <ℤ pos 10000 }
+        requires fits { (n : NodeOf) → slice_get (list_at store.old self.old.waiting) 0 ≡ Some n → StepFits (kept_frozen (contents_of self.old store.old)) (contents_of self.old store.old).page (list_at store.old) n }
         ensures moves { Moves self.old store.old self.new store.new }
-        ensures tried { (ns : List PlainNode) → (contents_of self.old store.old).waiting ≡ plain_of (list_at store.old) n.now ∷ ns
-            → node_penalty self.old.course.lasting (glue_first ns) (plain_of (list_at store.old) n.now) ≡ Some penalty
-            → StepIs (Some result) (kept_frozen (contents_of self.old store.old)) self.new.course (contents_of self.old store.old) (contents_of self.new store.new) }
-        ensures behind { (ns : List NodeOf) → self.new.stopped ≡ false → list_at store.old self.old.waiting ≡ n.now ∷ ns → list_at store.new self.new.waiting ≡ ns }
+        ensures step { StepIs (event_of result self.new.tried) (kept_frozen (contents_of self.old store.old)) self.new.course (contents_of self.old store.old) (contents_of self.new store.new) }
+        ensures behind { (n : NodeOf) (ns : List NodeOf) → self.new.stopped ≡ false → list_at store.old self.old.waiting ≡ n ∷ ns → list_at store.new self.new.waiting ≡ ns }
         ensures boxed { holds_box (contents_of self.old store.old).page ≡ true → holds_box (contents_of self.new store.new).page ≡ true }
         ensures opened { self.new.opened ≡ self.old.opened }
         ensures frozen { self.new.frozen ≡ self.old.frozen }
         ensures ids { ids_of self.new ≡ ids_of self.old }
     {
-        let made = self.course.offer(store.len(self.page), n.line, penalty);
-        if stops(&made) {
+        let Some(n) = store.first(self.waiting) else {
+            unreachable!()
+        };
+        let Some(penalty) = penalty_of(store, self.waiting, n, self.course.lasting) else {
+            self.course.put(n);
+            store.move_first(self.waiting, self.page);
+            return false;
+        };
+        self.tried = self.course.offer(store.len(self.page), n.line, penalty);
+        if stops(&self.tried) {
             self.stopped = true;
-            return Event::Try(made);
+            return true;
         }
-        self.put(store, n);
-        Event::Try(made)
+        self.course.put(n);
+        store.move_first(self.waiting, self.page);
+        true
     }
 
     // The first node that waits, which is no insertion, goes on the page.

@@ -8,7 +8,7 @@ ghost use Rattle.tb_builder.specs.Owned.{ids_of, owned, Lacks, ClassesFit};
 ghost use Rattle.tb_builder.specs.Running.{IsSound};
 ghost use Rattle.tb_builder.specs.Opened.{VoidBoxes};
 
-use crate::trying::started;
+use crate::trying::{no_try, started};
 use crate::{Builder, ClassList};
 use std::alloc::{AllocError, Global};
 use tb_insert::Class;
@@ -63,6 +63,7 @@ pub fn new_builder(
         frozen: None,
         opened: false,
         stopped: false,
+        tried: no_try(),
         course: started(0, 0, false),
     })
 }

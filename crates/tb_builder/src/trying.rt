@@ -52,6 +52,24 @@ fn made_try(line: u32, sums: Sums, goal: i64, offer: Offer, penalty: i64) -> Try
     }
 }
 
+/// What a builder keeps while no place was tried.
+pub fn no_try() -> Try {
+    Try {
+        line: 0,
+        sums: Sums {
+            total: 0,
+            depth: 0,
+            stretch: [0; 4],
+            shrink: 0,
+        },
+        goal: 0,
+        badness: 0,
+        penalty: 0,
+        cost: 0,
+        champion: false,
+    }
+}
+
 /// The page fires at the place that was tried: it is overfull there, or the break is forced (TeX: The Program §1005).
 pub fn stops(t: &Try) -> bool
     ensures { result ≡ (int_le awful_bad t.now.cost || int_le t.now.penalty (negsuc 9999)) }

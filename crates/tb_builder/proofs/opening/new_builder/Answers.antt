@@ -30,7 +30,7 @@ returns-clause-sound c =
     let two = opened_first c.args.store.now c.add_list.new.self c.add_list-2.new.self _ c.in_ok-held.held one c.in_ok-held.ensures.fresh c.in_ok-held.ensures.opened in
     let three = opened_first c.args.store.now c.add_list-2.new.self c.add_list-3.new.self _ c.in_ok-waiting.waiting two c.in_ok-waiting.ensures.fresh c.in_ok-waiting.ensures.opened in
     let four = opened_first c.args.store.now c.add_list-3.new.self c.add_list-4.new.self _ c.in_ok-page.page three c.in_ok-page.ensures.fresh c.in_ok-page.ensures.opened in
-    let b : Builder = record { boxes = c.in_ok-boxes.boxes; page = c.in_ok-page.page; waiting = c.in_ok-waiting.waiting; held = c.in_ok-held.held; rest = c.in_ok-rest.rest; frozen = None; opened = false; stopped = false; course = c.started.result } in
+    let b : Builder = record { boxes = c.in_ok-boxes.boxes; page = c.in_ok-page.page; waiting = c.in_ok-waiting.waiting; held = c.in_ok-held.held; rest = c.in_ok-rest.rest; frozen = None; opened = false; stopped = false; tried = c.no_try.result; course = c.started.result } in
     let o : Opened c.args.store.now c.add_list-4.new.self (own_ids (ids_of b)) = four in
     new_sound c.args.store.now c.add_list-4.new.self b c.args.classes.now o c.in_ok-boxes.ensures.boxes.classes c.in_ok-boxes.ensures.boxes.void c.requires refl refl refl (started_lasting c.started.result c.started.ensures)
 
@@ -40,7 +40,7 @@ returns-clause-contents c =
     let two = opened_first c.args.store.now c.add_list.new.self c.add_list-2.new.self _ c.in_ok-held.held one c.in_ok-held.ensures.fresh c.in_ok-held.ensures.opened in
     let three = opened_first c.args.store.now c.add_list-2.new.self c.add_list-3.new.self _ c.in_ok-waiting.waiting two c.in_ok-waiting.ensures.fresh c.in_ok-waiting.ensures.opened in
     let four = opened_first c.args.store.now c.add_list-3.new.self c.add_list-4.new.self _ c.in_ok-page.page three c.in_ok-page.ensures.fresh c.in_ok-page.ensures.opened in
-    let b : Builder = record { boxes = c.in_ok-boxes.boxes; page = c.in_ok-page.page; waiting = c.in_ok-waiting.waiting; held = c.in_ok-held.held; rest = c.in_ok-rest.rest; frozen = None; opened = false; stopped = false; course = c.started.result } in
+    let b : Builder = record { boxes = c.in_ok-boxes.boxes; page = c.in_ok-page.page; waiting = c.in_ok-waiting.waiting; held = c.in_ok-held.held; rest = c.in_ok-rest.rest; frozen = None; opened = false; stopped = false; tried = c.no_try.result; course = c.started.result } in
     let o : Opened c.args.store.now c.add_list-4.new.self (own_ids (ids_of b)) = four in
     new_contents c.args.store.now c.add_list-4.new.self b c.args.classes.now o c.in_ok-boxes.ensures.boxes.classes c.in_ok-boxes.ensures.boxes.void c.requires refl refl
 
@@ -50,7 +50,7 @@ returns-clause-fresh c =
     let two = opened_first c.args.store.now c.add_list.new.self c.add_list-2.new.self _ c.in_ok-held.held one c.in_ok-held.ensures.fresh c.in_ok-held.ensures.opened in
     let three = opened_first c.args.store.now c.add_list-2.new.self c.add_list-3.new.self _ c.in_ok-waiting.waiting two c.in_ok-waiting.ensures.fresh c.in_ok-waiting.ensures.opened in
     let four = opened_first c.args.store.now c.add_list-3.new.self c.add_list-4.new.self _ c.in_ok-page.page three c.in_ok-page.ensures.fresh c.in_ok-page.ensures.opened in
-    let b : Builder = record { boxes = c.in_ok-boxes.boxes; page = c.in_ok-page.page; waiting = c.in_ok-waiting.waiting; held = c.in_ok-held.held; rest = c.in_ok-rest.rest; frozen = None; opened = false; stopped = false; course = c.started.result } in
+    let b : Builder = record { boxes = c.in_ok-boxes.boxes; page = c.in_ok-page.page; waiting = c.in_ok-waiting.waiting; held = c.in_ok-held.held; rest = c.in_ok-rest.rest; frozen = None; opened = false; stopped = false; tried = c.no_try.result; course = c.started.result } in
     let o : Opened c.args.store.now c.add_list-4.new.self (own_ids (ids_of b)) = four in
     new_fresh c.args.store.now c.add_list-4.new.self b c.args.classes.now o c.in_ok-boxes.ensures.boxes.classes c.in_ok-boxes.ensures.boxes.void c.requires refl refl
 
