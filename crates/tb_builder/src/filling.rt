@@ -1,6 +1,6 @@
 //! A page is filled: the nodes that wait go on it one by one, up to the next event.
 
-ghost use Rattle.std.specs.Prelude.{◌≡◌, ◌≢◌, ◌<◌, ◌<ℤ◌, ◌≤◌, ◌+◌, pos, ℕ, List, [], ◌∷◌, ◌++◌, Bool, true, false, Some, None, IsSome, IfOk, OnErr, slice_get};
+ghost use Rattle.std.specs.Prelude.{◌≡◌, ◌≢◌, ◌<◌, ◌<ℤ◌, ◌≤◌, ◌+◌, pos, ℕ, List, [], ◌∷◌, ◌++◌, Bool, true, false, Some, None, IsSome, IfOk, OnOk, OnErr, slice_get};
 ghost use Rattle.tb_pool.specs.Lists.{IsLive, list_at};
 ghost use Rattle.tb_node.specs.declared.Node.{Node as NodeOf};
 ghost use Rattle.tb_node.specs.Shape.{is_box};
@@ -52,8 +52,19 @@ impl Builder {
             let page = self.fire(store)?;
             return Ok(Event::Fired(page));
         }
-        store.reserve(1)?;
+        self.make_room(store)?;
         Ok(self.fill(store, ask))
+    }
+
+    // Makes room for the top glue, unless the page has it.
+    fn make_room(&self, store: &mut Lists<Node>) -> Result<(), AllocError>
+        ensures room { OnOk result (self.now.opened ≡ false → 0 < store.new.spare) }
+        ensures lists { store.new.lists ≡ store.old.lists }
+    {
+        if self.opened {
+            return Ok(());
+        }
+        store.reserve(1)
     }
 
     // The nodes that wait go on the page, up to the next event. Most of them are no event and go on a page that is laid
@@ -62,7 +73,7 @@ impl Builder {
         requires sound { IsSound self.old store.old }
         requires on { self.old.stopped ≡ false }
         requires fits { NextFits (contents_of self.old store.old) ask.now }
-        requires room { 0 < store.old.spare }
+        requires room { self.old.opened ≡ false → 0 < store.old.spare }
         ensures { Filled self.old store.old ask.now result self.new store.new }
     {
         while let Some(n) = store.first(self.waiting) {
@@ -91,6 +102,7 @@ impl Builder {
 
     // The first node that waits goes on the page, vanishes or is handed out, or the place before it is a stop. Each node
     // comes by here, so what is rare has functions of its own.
+    #[inline(never)]
     fn turn(&mut self, store: &mut Lists<Node>, ask: &Ask, n: &Node) -> Option<Event>
         requires sound { IsSound self.old store.old }
         requires on { self.old.stopped ≡ false }
@@ -250,6 +262,7 @@ impl Builder {
 
     // The first node that waits on a page that is laid out, no act and no insertion: its place is tried if it is legal,
     // and it goes on the page unless that is a stop. Whether it was tried; `tried` is what came of it.
+    #[inline(always)]
     fn step(&mut self, store: &mut Lists<Node>) -> bool
         requires own { IsOwned (ids_of self.old) store.old }
         requires some { IsSome (slice_get (list_at store.old self.old.waiting) 0) }

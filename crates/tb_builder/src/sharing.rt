@@ -18,7 +18,7 @@ ghost use Rattle.tb_builder.specs.Running.{insertion_of_kind};
 ghost use Rattle.tb_builder.specs.Firing.{share_up_to, share_told, opened, box_list, BeginsVanishing, IsShareWithin, Gives, Drops, Settles, SortsTo, Sorted, IsMarkedAt, EachFits};
 
 use crate::measuring::pruned_size;
-use crate::moving::{drop_first, first_of, insertion_of};
+use crate::moving::{drop_first, insertion_of};
 use crate::splitting::{give_front, pass_on};
 use crate::{Builder, Course, Share};
 use tb_node::{Insertion, Kind, Node};
@@ -198,13 +198,14 @@ impl Builder {
         ensures left { length (list_at store.new self.old.page) + 1 ≡ length (list_at store.old self.old.page) }
         ensures spare { store.old.spare ≤ store.new.spare }
     {
-        let Some(n) = first_of(store, self.page) else {
+        let Some(n) = store.first(self.page) else {
             return;
         };
-        let Some(i) = insertion_of(&n) else {
+        let Some(i) = insertion_of(n) else {
             store.move_first(self.page, body);
             return;
         };
+        let n = *n;
         let share = self.course.share_at(i.class, index);
         self.settle(store, &n, &i, share);
     }

@@ -21,14 +21,14 @@ returns-then-self-clause-event c =
 pub returns-then-self-clause-keeps : goal.returns-then-self-clause-keeps
 returns-then-self-clause-keeps c = fired_keeps c.args.self.now c.fire.new.self c.args.store.now c.fire.new.store c.in_ok-page.page c.in_ok-page.ensures.fires
 
-pub returns-in_err-reserve-clause-sound : goal.returns-in_err-reserve-clause-sound
-returns-in_err-reserve-clause-sound c = sound_still c.args.store.now c.reserve.new.self c.reserve.ensures.lists c.args.self.now c.requires.sound
+pub returns-in_err-make_room-clause-sound : goal.returns-in_err-make_room-clause-sound
+returns-in_err-make_room-clause-sound c = sound_still c.args.store.now c.make_room.new.store c.make_room.ensures.lists c.args.self.now c.requires.sound
 
 pub fill-requires-clause-sound : goal.fill-requires-clause-sound
-fill-requires-clause-sound c = sound_still c.args.store.now c.reserve.new.self c.reserve.ensures.lists c.args.self.now c.requires.sound
+fill-requires-clause-sound c = sound_still c.args.store.now c.make_room.new.store c.make_room.ensures.lists c.args.self.now c.requires.sound
 
 pub fill-requires-clause-fits : goal.fill-requires-clause-fits
-fill-requires-clause-fits c = fits_still c.args.store.now c.reserve.new.self c.reserve.ensures.lists c.args.self.now c.args.ask.now c.requires.fits
+fill-requires-clause-fits c = fits_still c.args.store.now c.make_room.new.store c.make_room.ensures.lists c.args.self.now c.args.ask.now c.requires.fits
 
 pub returns-clause-event : goal.returns-clause-event
 returns-clause-event c =
@@ -36,13 +36,13 @@ returns-clause-event c =
     let ask = c.args.ask.now in
     let e = c.fill.result in
     subst (λ s. NextIs s e (contents_of c.args.self.now c.args.store.now) ask d c.fill.new.store) (sym c.if-self.false)
-    (subst (λ (b : Contents). FirstIs e (laid b ask) (reach_ahead b ask) (places_of b ask) ask d × Stays b d ask) (contents_still c.args.store.now c.reserve.new.self c.reserve.ensures.lists c.args.self.now) (c.fill.ensures.first, c.fill.ensures.stays))
+    (subst (λ (b : Contents). FirstIs e (laid b ask) (reach_ahead b ask) (places_of b ask) ask d × Stays b d ask) (contents_still c.args.store.now c.make_room.new.store c.make_room.ensures.lists c.args.self.now) (c.fill.ensures.first, c.fill.ensures.stays))
 
 pub returns-clause-keeps : goal.returns-clause-keeps
-returns-clause-keeps c = keeps_filled c.args.store.now c.reserve.new.self c.reserve.ensures.lists c.args.self.now c.fill.new.self c.fill.new.store c.fill.ensures.others c.fill.ensures.keeps
+returns-clause-keeps c = keeps_filled c.args.store.now c.make_room.new.store c.make_room.ensures.lists c.args.self.now c.fill.new.self c.fill.new.store c.fill.ensures.others c.fill.ensures.keeps
 
 pub returns-then-self-clause-past : goal.returns-then-self-clause-past
 returns-then-self-clause-past c = λ on. tt
 
 pub returns-clause-past : goal.returns-clause-past
-returns-clause-past c = λ on. subst (λ (b : Contents). EventPast c.fill.result b (contents_of c.fill.new.self c.fill.new.store) c.args.ask.now) (contents_still c.args.store.now c.reserve.new.self c.reserve.ensures.lists c.args.self.now) c.fill.ensures.past
+returns-clause-past c = λ on. subst (λ (b : Contents). EventPast c.fill.result b (contents_of c.fill.new.self c.fill.new.store) c.args.ask.now) (contents_still c.args.store.now c.make_room.new.store c.make_room.ensures.lists c.args.self.now) c.fill.ensures.past
