@@ -113,6 +113,7 @@ fn is_kern(n: &Node) -> bool
 
 /// The penalty of the place before the first node of a list, `n`, where it is legal, by whether a node that does not
 /// vanish stands before it. Only before a kern is it asked whether glue follows.
+#[inline(always)]
 pub fn penalty_of(store: &Lists<Node>, l: ListId, n: &Node, lasting: bool) -> Option<i64>
     requires live { IsLive store.now l }
     requires node { IsSmallShape (shape_of n.now) }
@@ -135,6 +136,7 @@ fn skip_one(nodes: &mut Iter<'_, Node>)
 }
 
 /// Glue stands first behind the first node of the list, where acts are looked past.
+#[inline(never)]
 pub fn glue_follows(store: &Lists<Node>, l: ListId) -> bool
     requires { IsLive store.now l }
     ensures { result ≡ nodes_glue_first (drop 1 (list_at store.now l)) }

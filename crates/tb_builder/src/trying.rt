@@ -105,6 +105,7 @@ impl Course {
     }
 
     // Tries the legal place at the end of the page, which has so many nodes.
+    #[inline(always)]
     pub(crate) fn offer(&mut self, index: usize, line: u32, penalty: i64) -> Try
         requires terms { TermsFit self.old }
         requires low { IsAmount penalty }
@@ -121,6 +122,7 @@ impl Course {
     }
 
     // A node that is no insertion goes to the end of the page.
+    #[inline(always)]
     pub(crate) fn put(&mut self, n: &Node)
         requires node { IsSmallShape (shape_of n.now) }
         requires fits { IsSmall (added_node self.old.scan.max_depth self.old.scan.sums (shape_of n.now)) }
