@@ -24,7 +24,7 @@ use Rattle.tb_builder.specs.Owned.{Lacks, inner_ids, ids_of, owned, IsOwned}
 use Rattle.tb_builder.specs.declared.Ask.{Ask}
 use Rattle.tb_builder.specs.declared.Page.{Page}
 use Rattle.tb_builder.specs.Next.{NodeFits, FiredIs}
-use Rattle.tb_builder.specs.Running.{IsSound}
+use Rattle.tb_builder.specs.Running.{IsSound, insertion_of_kind}
 
 -- what a label gives: an insertion that is split at its list's end gives all
 abbrev pub share_of : Label → Inserted → Share
@@ -158,6 +158,11 @@ pub record IsMarkedAt (a : Account) (index : ℕ) (rest : List PlainNode) : Type
   pub before : List PlainNode
   pub stands : AccountStands a z page (before ++ rest)
   pub index_is : index ≡ length before
+
+-- no node of the list is an insertion
+abbrev pub NoInsertions : List Node → Type 0
+NoInsertions [] = Unit {0}
+NoInsertions (n ∷ ns) = (insertion_of_kind n.kind ≡ None) × NoInsertions ns
 
 -- each node of the list fits
 abbrev pub EachFits : List PlainNode → Type 0

@@ -9,6 +9,7 @@ ghost use Rattle.tb_node.specs.Plain.{shape_of};
 ghost use Rattle.tb_node.specs.Small.{IsAmount, IsSmallShape};
 ghost use Rattle.tb_break.specs.Prune.{glue_before, top_glue};
 ghost use Rattle.tb_break.specs.Finding.{penalty_by};
+ghost use Rattle.tb_builder.specs.Firing.{NoInsertions};
 ghost use Rattle.tb_builder.specs.Running.{act_of_kind, insertion_of_kind, height_of, nodes_glue_first};
 
 use tb_break::{is_glue, place_penalty};
@@ -43,6 +44,26 @@ pub fn is_matter(n: &Node) -> bool
     ensures other { result ≡ false → act_of_kind n.now.kind ≡ None → IsSome (insertion_of_kind n.now.kind) }
 {
     !matches!(n.kind, Kind::Ins(_) | Kind::Act(_))
+}
+
+// Whether a node is an insertion.
+fn is_insertion(n: &Node) -> bool
+    ensures { result ≡ false → insertion_of_kind n.now.kind ≡ None }
+{
+    matches!(n.kind, Kind::Ins(_))
+}
+
+/// Whether a node of the list is an insertion.
+pub fn has_insertion(store: &Lists<Node>, l: ListId) -> bool
+    requires { IsLive store.now l }
+    ensures { result ≡ false → NoInsertions (list_at store.now l) }
+{
+    for n in store.iter(l) {
+        if is_insertion(n) {
+            return true;
+        }
+    }
+    false
 }
 
 /// Whether a node is a box or a rule.

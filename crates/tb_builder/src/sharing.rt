@@ -18,7 +18,7 @@ ghost use Rattle.tb_builder.specs.Running.{insertion_of_kind};
 ghost use Rattle.tb_builder.specs.Firing.{share_up_to, share_told, opened, box_list, BeginsVanishing, IsShareWithin, Gives, Drops, Settles, SortsTo, Sorted, IsMarkedAt, EachFits};
 
 use crate::measuring::pruned_size;
-use crate::moving::{drop_first, insertion_of};
+use crate::moving::{drop_first, has_insertion, insertion_of};
 use crate::splitting::{give_front, pass_on};
 use crate::{Builder, Course, Share};
 use tb_node::{Insertion, Kind, Node};
@@ -210,7 +210,8 @@ impl Builder {
         self.settle(store, &n, &i, share);
     }
 
-    // The nodes of the page, up to its break, go to the body, and its insertions where their shares say.
+    // The nodes of the page, up to its break, go to the body, and its insertions where their shares say: all at once if
+    // it has none.
     pub(crate) fn sort_page(&mut self, store: &mut Lists<Node>, body: ListId)
         requires own { IsOwned (ids_of self.old) store.old }
         requires body_live { IsLive store.old body }
@@ -225,6 +226,10 @@ impl Builder {
             → Sorted z (contents_of self.old store.old).boxes (contents_of self.old store.old).page (contents_of self.new store.new) (plain_list store.new body) (contents_of self.old store.old).page }
         ensures empty { list_at store.new self.old.page ≡ [] }
     {
+        if !has_insertion(store, self.page) {
+            store.append(body, self.page);
+            return;
+        }
         for index in 0..store.len(self.page) {
             self.sort_first(store, body, index);
         }

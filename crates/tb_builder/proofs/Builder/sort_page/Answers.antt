@@ -1,7 +1,24 @@
-use Rattle.std.proofs.Common.{◌≡◌, length, arith, ◌≤◌, ◌+◌}
+use Rattle.std.proofs.Common.{◌≡◌, refl, ap, length, arith, ◌≤◌, ◌+◌, [], ◌++◌}
 use Rattle.tb_pool.specs.Lists.{list_at}
+use Rattle.tb_builder.specs.Owned.{inner_ids}
+use Rattle.tb_builder.specs.Contents.{contents_of}
+use Rattle.tb_builder.proofs.MoveLemmas.{wrote_two}
+use Rattle.tb_builder.proofs.BodyLemmas.{page_joins}
 use Rattle.tb_builder.proofs.SortingLemmas.{sorting_begins, sorting_next, page_left, still_marked, still_fits, none_left, all_sorted}
 use Rattle.tb_builder.proofs.Builder.sort_page.Goals as goal
+
+pub returns-then-not-has_insertion : goal.returns-then-not-has_insertion
+returns-then-not-has_insertion c =
+    let b = c.args.self.now in
+    let s = c.args.store.now in
+    let t = c.append.new.self in
+    let body = c.args.body in
+    let joined = page_joins (list_at s b.page) b s t body c.requires.own c.requires.body_live refl (c.has_insertion.ensures c.if-not-has_insertion.true) c.requires.body_apart (ap inner_ids c.requires.body_empty) c.append.ensures.spare c.append.ensures.joined in
+    record {
+      sorts = joined.sorts;
+      sorted = λ z page a. joined.sorted z (contents_of b s).boxes (contents_of b s).page [] ((sorting_begins b s body c.requires.own c.requires.body_live c.requires.body_empty c.requires.none_held c.requires.room).sorted z page a);
+      empty = (wrote_two s t body b.page (list_at s body ++ list_at s b.page) [] c.requires.body_apart.0 c.append.ensures.joined).second;
+    }
 
 pub loop-index-init : goal.loop-index-init
 loop-index-init c = sorting_begins c.args.self.now c.args.store.now c.args.body c.requires.own c.requires.body_live c.requires.body_empty c.requires.none_held c.requires.room
