@@ -1,0 +1,14 @@
+use Rattle.std.proofs.Common.{◌≡◌, true, []}
+use Rattle.tb_builder.specs.Contents.{contents_of}
+use Rattle.tb_builder.specs.Owned.{has_class}
+use Rattle.tb_builder.specs.Running.{IsSound}
+use Rattle.tb_builder.specs.Next.{NextFits}
+use Rattle.fillbench.proofs.fires.Given as goal
+
+abbrev pub invariant-loop : goal.invariant-loop
+invariant-loop l = record {
+  sound : IsSound l.p.builder l.p.store;
+  fits : NextFits (contents_of l.p.builder l.p.store) l.p.ask;
+  none_held : (contents_of l.p.builder l.p.store).held ≡ [];
+  known : has_class (contents_of l.p.builder l.p.store).classes 254 ≡ true;
+}
