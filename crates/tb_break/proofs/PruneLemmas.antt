@@ -100,6 +100,14 @@ topped-length : (t : ℤ) (ns : List Node) → length (topped t ns) ≤ length n
 topped-length t [] = omega arith
 topped-length t (n ∷ ns) = with_front-length (top_at t (shape_of n) n) (n ∷ ns)
 
+-- no top glue comes before a node that is no box or rule
+pub untopped : (t : ℤ) (s : Shape) (n : Node) → is_box s ≡ false → top_at t s n ≡ None
+untopped t (box h d) n e = cc
+untopped t (glue g) n e = refl
+untopped t (kern w) n e = refl
+untopped t (penalty p) n e = refl
+untopped t other n e = refl
+
 -- a pruned list has at most one node more
 pub length-pruned_list : (t : ℤ) (ns : List Node) → length (pruned_list t ns) ≤ length ns + 1
 length-pruned_list t ns =

@@ -1,16 +1,15 @@
 //! The top of a page: what vanishes there, and the glue before the first box (TeX: The Program §968).
 
-ghost use Rattle.std.specs.Prelude.{◌≡◌, ◌<◌, ◌≤◌, ◌+◌, ◌-ℤ◌, ℕ, List, [], ◌∷◌, ◌++◌, pos, length, Some, None, false};
+ghost use Rattle.std.specs.Prelude.{◌≡◌, ◌<◌, ◌≤◌, ◌+◌, ◌-ℤ◌, ℕ, List, [], ◌∷◌, ◌++◌, pos, length, Some, true, false};
 ghost use Rattle.tb_scaled.specs.Scaled.{max_ℤ};
-ghost use Rattle.tb_scaled.specs.Glue.{fixed_glue};
 ghost use Rattle.tb_pool.specs.Lists.{IsLive, list_at, with_list};
 ghost use Rattle.tb_node.specs.declared.Node.{Node as NodeOf};
 ghost use Rattle.tb_node.specs.Small.{IsAmount, IsSmallShape};
 ghost use Rattle.tb_node.specs.Plain.{shape_of};
-ghost use Rattle.tb_node.specs.Shape.{is_box};
+ghost use Rattle.tb_node.specs.Shape.{height_of, is_box};
 ghost use Rattle.tb_break.specs.Finding.{shapes, NodesFit};
-ghost use Rattle.tb_break.specs.Prune.{glue_before, pruned_list};
-ghost use Rattle.tb_break.specs.Turning.{before_box, from_box, turned, turned_at, moved, moved_at, top_at, topped};
+ghost use Rattle.tb_break.specs.Prune.{glue_before, pruned_list, top_glue};
+ghost use Rattle.tb_break.specs.Turning.{before_box, from_box, turned, turned_at, moved, moved_at, topped};
 
 use crate::is_lasting;
 use tb_node::{Kind, Node};
@@ -85,8 +84,9 @@ fn keep(store: &mut Lists<Node>, l: ListId, n: Node) -> usize
     0
 }
 
-// The node is a box or rule.
-fn is_box(n: &Node) -> bool
+/// Whether a node is a box or a rule.
+#[inline]
+pub fn is_box(n: &Node) -> bool
     ensures { result ≡ is_box (shape_of n.now) }
 {
     matches!(n.kind, Kind::Hbox { .. } | Kind::Rule { .. })
@@ -104,29 +104,43 @@ fn put_top_glue(store: &mut Lists<Node>, l: ListId, top_skip: i64)
     let Some(first) = store.get(l, 0) else {
         return;
     };
-    let Some(glue) = top_node(first, top_skip) else {
+    if !is_box(first) {
         return;
-    };
+    }
+    let glue = top_node(first, top_skip);
     store.push_front(l, glue);
 }
 
-// The top glue before a node, where that is a box or rule.
-fn top_node(n: &Node, top_skip: i64) -> Option<Node>
+/// The glue that comes before the first box or rule of a page: what its height lacks of the top skip, in sp, with its line
+/// (TeX: The Program §969).
+#[inline]
+pub fn top_node(n: &Node, top_skip: i64) -> Node
     requires top_skip { IsAmount top_skip }
+    requires boxed { is_box (shape_of n.now) ≡ true }
     requires node { IsSmallShape (shape_of n.now) }
-    ensures { result ≡ top_at top_skip (shape_of n.now) n.now }
+    ensures { result ≡ glue_before n.now (top_glue top_skip (height_of (shape_of n.now))) }
+{
+    Node {
+        line: n.line,
+        kind: Kind::Skip(fixed(room_above(top_skip, height_of(n)))),
+    }
+}
+
+// The height of a box or rule.
+fn height_of(n: &Node) -> i64
+    ensures { result ≡ height_of (shape_of n.now) }
 {
     match n.kind {
-        Kind::Hbox { height, .. } => Some(make_glue(n, room_above(top_skip, height))),
-        Kind::Rule { height, .. } => Some(make_glue(n, room_above(top_skip, height))),
-        Kind::Skip(_) => None,
-        Kind::Kern(_) => None,
-        Kind::Pen(_) => None,
-        Kind::Mark(_) => None,
-        Kind::Note(_) => None,
-        Kind::Whatsit => None,
-        Kind::Ins(_) => None,
-        Kind::Act(_) => None,
+        Kind::Hbox { height, .. } => height,
+        Kind::Rule { height, .. } => height,
+        Kind::Skip(_) => 0,
+        Kind::Kern(_) => 0,
+        Kind::Pen(_) => 0,
+        Kind::Mark(_) => 0,
+        Kind::Note(_) => 0,
+        Kind::Whatsit => 0,
+        Kind::Ins(_) => 0,
+        Kind::Act(_) => 0,
     }
 }
 
@@ -140,16 +154,6 @@ fn room_above(top_skip: i64, height: i64) -> i64
         0
     } else {
         top_skip - height
-    }
-}
-
-// A node of glue of this width, with the line of a node.
-fn make_glue(n: &Node, width: i64) -> Node
-    ensures { result ≡ glue_before n.now (fixed_glue width) }
-{
-    Node {
-        line: n.line,
-        kind: Kind::Skip(fixed(width)),
     }
 }
 

@@ -22,7 +22,7 @@ use Rattle.tb_insert.specs.declared.Class.{Class}
 use Rattle.tb_insert.specs.declared.Account.{Account}
 use Rattle.tb_insert.specs.Terms.{Terms, sums_with, added_amounts}
 use Rattle.tb_insert.specs.Account.{Frozen, Labelled, labelled, labelled_with, label_of, terms_after, terms_of_labels, is_met, insertions, class_box}
-use Rattle.tb_insert.specs.Running.{Differ, numbered, boxed, AccountStands, EntryStands, ScanStands, ComesTo, entry_of, met_scan}
+use Rattle.tb_insert.specs.Running.{Differ, numbered, boxed, IsAccountOf, EntryStands, IsScanOfPage, ComesTo, entry_of, met_scan}
 use Rattle.tb_insert.specs.Arrived.{InnerFits, ClassFits, ArriveFits, PageFits}
 use Rattle.tb_insert.proofs.AccountLemmas.{TermsNext, terms_next, labelled-append, new_skip}
 use Rattle.tb_insert.proofs.StandsLemmas.{goal_next, height_next, penalties_next}
@@ -116,7 +116,7 @@ skip_sums limit ns t u g false a b c d a' b' c' d' et eu ea eb ec ed es = λ i. 
         ∙ sym (ap (λ x. more_at (order_index g.order) g.stretch (added_amounts (sums_of limit ns).stretch x)) et)
 
 -- a node that takes no room changes no sum
-sums-other : (limit : ℤ) (ns : List Shape) → sums_of limit (ns ++ other ∷ []) ≡ sums_of limit ns
+pub sums-other : (limit : ℤ) (ns : List Shape) → sums_of limit (ns ++ other ∷ []) ≡ sums_of limit ns
 sums-other limit ns = λ i. record {
   total = ((size-append ns other ∙ nothing (size_of ns)) i) -ℤ min_ℤ (depth-append (pos 0) ns other i) limit;
   depth = min_ℤ (depth-append (pos 0) ns other i) limit;
@@ -138,7 +138,7 @@ met_depth true s class = refl
 met_depth false s class = refl
 
 module _ (z : Frozen) (page : List PlainNode) (s : Scanned) (line : ℕ) (i : Inserted) (m : Bool) (class : Class) (size : ℤ)
-    (differ : Differ z.classes) (known : numbered z.classes i.class ≡ true) (own : class_box z.classes i.class ≡ boxed class size) (met : m ≡ is_met (insertions (labelled z page)) i.class) (scan : ScanStands s z page) where
+    (differ : Differ z.classes) (known : numbered z.classes i.class ≡ true) (own : class_box z.classes i.class ≡ boxed class size) (met : m ≡ is_met (insertions (labelled z page)) i.class) (scan : IsScanOfPage s z page) where
   n : PlainNode
   n = record { line = line; kind = ins i }
 
@@ -157,7 +157,7 @@ module _ (z : Frozen) (page : List PlainNode) (s : Scanned) (line : ℕ) (i : In
       ∙ sym (ap (λ ls. sums_with (sums_of z.limit (map node_shape page)) (terms_of_labels z ls)) (labelled-append z page (record { line = line; kind = ins i })))
 
   -- the insertion goes on the page
-  pub scan_arrives : (t : Scanned) → t ≡ record (met_scan m s class) { sums = added_node (met_scan m s class).max_depth (met_scan m s class).sums other } → ScanStands t z (page ++ record { line = line; kind = ins i } ∷ [])
+  pub scan_arrives : (t : Scanned) → t ≡ record (met_scan m s class) { sums = added_node (met_scan m s class).max_depth (met_scan m s class).sums other } → IsScanOfPage t z (page ++ record { line = line; kind = ins i } ∷ [])
   scan_arrives t add = record {
     under = ap (λ (x : Scanned). x.max_depth) add ∙ depth;
     sums = ap (λ (x : Scanned). x.sums) add ∙ (λ j. added_node (depth j) (skipped j) other) ∙ sym whole;
@@ -180,7 +180,7 @@ labelled-plain z page n h = labelled-append z page n ∙ by_kind n.line n.kind h
     by_kind line (act x) e = refl
 
 -- a node that is no insertion goes on the page
-pub scan_plain : (z : Frozen) (page : List PlainNode) (s t : Scanned) (n : PlainNode) → is_insertion_kind n.kind ≡ false → ScanStands s z page → t ≡ record s { sums = added_node s.max_depth s.sums (node_shape n) } → ScanStands t z (page ++ n ∷ [])
+pub scan_plain : (z : Frozen) (page : List PlainNode) (s t : Scanned) (n : PlainNode) → is_insertion_kind n.kind ≡ false → IsScanOfPage s z page → t ≡ record s { sums = added_node s.max_depth s.sums (node_shape n) } → IsScanOfPage t z (page ++ n ∷ [])
 scan_plain z page s t n h scan add = record {
   under = ap (λ (x : Scanned). x.max_depth) add ∙ scan.under;
   sums = ap (λ (x : Scanned). x.sums) add ∙ (λ j. added_node (scan.under j) (scan.sums j) (node_shape n)) ∙ sym whole;
@@ -195,7 +195,7 @@ scan_plain z page s t n h scan add = record {
 
 -- where the amounts after the insertion fit, it may arrive
 pub arrive_fits : (store : Lists Node) (a : Account) (s : Scanned) (i : Insertion) (line : ℕ) (class : Class) (size : ℤ) (index : ℕ) (z : Frozen) (page marked : List PlainNode)
-    → class.number ≡ i.class → i.class < 255 → AccountStands a z page marked → ComesTo z page s class size index → InnerFits store i → ClassFits class
+    → class.number ≡ i.class → i.class < 255 → IsAccountOf a z page marked → ComesTo z page s class size index → InnerFits store i → ClassFits class
     → PageFits z (page ++ record { line = line; kind = ins (inserted_of (list_at store) i) } ∷ [])
     → ArriveFits store a s i class size
 arrive_fits store a s i line class size index z page marked number most stands co inner fits after = record {

@@ -3,8 +3,8 @@ use Rattle.std.specs.Prelude.{◌≡◌, false, List, [], ◌∷◌, ◌++◌}
 use Rattle.tb_node.specs.Plain.{PlainNode, is_insertion_kind}
 use Rattle.tb_insert.specs.declared.Account.{Account}
 use Rattle.tb_insert.specs.Account.{Frozen}
-use Rattle.tb_insert.specs.Running.{AccountStands}
+use Rattle.tb_insert.specs.Running.{IsAccountOf}
 
 -- an account of a page is one of the page with a node more that is no insertion
 abbrev pub PlainNodesJoin : Type 0
-PlainNodesJoin = (a : Account) (z : Frozen) (page marked : List PlainNode) (n : PlainNode) → is_insertion_kind n.kind ≡ false → AccountStands a z page marked → AccountStands a z (page ++ n ∷ []) marked
+PlainNodesJoin = (a : Account) (z : Frozen) (page marked : List PlainNode) (n : PlainNode) → is_insertion_kind n.kind ≡ false → IsAccountOf a z page marked → IsAccountOf a z (page ++ n ∷ []) marked

@@ -171,11 +171,3 @@ pub fn less_of(a: i128, b: i128) -> i64
 {
     (a - b) as i64
 }
-
-/// The sum of two amounts, in scaled points.
-pub fn sum_of(a: i64, b: i64) -> i64
-    requires { IsAmount (a +ℤ b) }
-    ensures { result ≡ a +ℤ b }
-{
-    a + b
-}

@@ -11,7 +11,7 @@ ghost use Rattle.tb_node.specs.Fit.{shapes, NodesFit, SumsFit};
 
 use crate::{Kind, Node, Sums};
 use tb_pool::{ListId, Lists};
-use tb_scaled::{Glue, Order};
+use tb_scaled::{Glue, Order, sum};
 
 // The depth, but no more than the limit.
 fn kept_depth(max_depth: i64, depth: i64) -> i64
@@ -45,15 +45,6 @@ fn lay(s: &mut Sums, room: i64, depth: i64, max_depth: i64)
     s.depth = kept;
 }
 
-// One more amount, where both are small.
-fn sum_of(a: i64, b: i64) -> i64
-    requires a { IsAmount a }
-    requires b { IsAmount b }
-    ensures { result ≡ a +ℤ b }
-{
-    a + b
-}
-
 // The place of an order among the four amounts.
 fn order_place(o: Order) -> usize
     ensures value { result ≡ order_index o }
@@ -74,7 +65,7 @@ fn raise(amounts: &mut [i64; 4], k: usize, v: i64)
     requires more { IsAmount v }
     ensures { amounts.new ≡ more_at k v amounts.old }
 {
-    amounts[k] = sum_of(amounts[k], v);
+    amounts[k] = sum(amounts[k], v);
 }
 
 fn lay_box(s: &mut Sums, height: i64, depth: i64, max_depth: i64)
@@ -85,7 +76,7 @@ fn lay_box(s: &mut Sums, height: i64, depth: i64, max_depth: i64)
     requires limit { IsAmount max_depth }
     ensures { s.new ≡ added_node max_depth s.old (box height depth) }
 {
-    let room = sum_of(height, depth);
+    let room = sum(height, depth);
     lay(s, room, depth, max_depth);
 }
 
@@ -130,7 +121,7 @@ pub fn stretch_sums(s: &mut Sums, g: Glue)
     ensures { s.new ≡ stretched_sums s.old g }
 {
     raise(&mut s.stretch, order_place(g.order), g.stretch);
-    s.shrink = sum_of(s.shrink, g.shrink);
+    s.shrink = sum(s.shrink, g.shrink);
 }
 
 /// The sums of a list of the store under a depth limit, in one walk.

@@ -1,6 +1,6 @@
 //! Where the nodes of a set list stand.
 
-ghost use Rattle.std.specs.Prelude.{◌≡◌, ◌≢◌, ◌∷◌, ◌++◌, [], List, ℤ, pos, ◌+ℤ◌, ◌*ℤ◌, ◌<ℤ◌, FitsSigned};
+ghost use Rattle.std.specs.Prelude.{◌≡◌, ◌≢◌, ◌∷◌, ◌++◌, [], List, ℤ, pos, ◌*ℤ◌, ◌<ℤ◌, FitsSigned};
 ghost use Rattle.std.specs.Int.{w64};
 ghost use Rattle.tb_scaled.specs.declared.Glue.{Glue as GlueOf};
 ghost use Rattle.tb_scaled.specs.declared.Order.{Order as OrderOf};
@@ -16,7 +16,7 @@ ghost use Rattle.tb_pack.specs.Walk.{walked_past, glue_of, top_of, HasPassed};
 use crate::{Set, Sign};
 use std::marker::Model;
 use tb_node::{Kind, Node};
-use tb_scaled::{Glue, Order};
+use tb_scaled::{Glue, Order, sum};
 
 /// The top, in scaled points, of a node in a set list: what stands before it has this natural size, and this sum of the
 /// stretch of the set order or of the shrink.
@@ -123,13 +123,6 @@ impl Tops {
         self.natural = sum(self.natural, room_of(n));
         self.glue = sum(self.glue, glue_of(&self.set, n));
     }
-}
-
-fn sum(a: i64, b: i64) -> i64
-    requires { FitsSigned w64 (a +ℤ b) }
-    ensures { result ≡ a +ℤ b }
-{
-    a + b
 }
 
 // The room that a node takes.

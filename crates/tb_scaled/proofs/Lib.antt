@@ -1,2 +1,3 @@
 mod Rows
 pub mod Cubes
+pub mod AmountLemmas

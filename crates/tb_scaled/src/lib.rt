@@ -1,7 +1,8 @@
 //! Arithmetic on dimensions in scaled points (65536 to a point), glue and badness.
 #![tactic(auto)]
 
-ghost use Rattle.std.specs.Prelude.{◌≡◌, ◌<◌, ◌≤◌, ◌≤ℤ◌, ◌<ℤ◌, neg_ℤ, pos, length, slice_index, EachIndex, int_div};
+ghost use Rattle.std.specs.Prelude.{◌≡◌, ◌<◌, ◌≤◌, ◌≤ℤ◌, ◌<ℤ◌, ◌+ℤ◌, ◌-ℤ◌, neg_ℤ, pos, length, slice_index, EachIndex, int_div, FitsSigned};
+ghost use Rattle.std.specs.Int.{w64};
 ghost use Rattle.tb_scaled.specs.Amount.{IsAmount};
 ghost use Rattle.tb_scaled.specs.Scaled.{badness_of, cubed_ratio, rounded_decimals, fraction_of};
 ghost use Rattle.tb_scaled.specs.Glue.{filling_glue, fixed_glue, negated_glue};
@@ -94,6 +95,24 @@ fn negated(amount: i64) -> i64
     ensures { result ≡ neg_ℤ amount }
 {
     -amount
+}
+
+/// The sum of two sizes, in scaled points, if it fits 64 bits.
+#[inline]
+pub fn sum(a: i64, b: i64) -> i64
+    requires { FitsSigned w64 (a +ℤ b) }
+    ensures { result ≡ a +ℤ b }
+{
+    a + b
+}
+
+/// How much more the first of two sizes is than the second, in scaled points, if that fits 64 bits.
+#[inline]
+pub fn difference(a: i64, b: i64) -> i64
+    requires { FitsSigned w64 (a -ℤ b) }
+    ensures { result ≡ a -ℤ b }
+{
+    a - b
 }
 
 /// The badness of setting glue with a total `s` of stretch or shrink to the amount `t`, both in scaled points: about 100

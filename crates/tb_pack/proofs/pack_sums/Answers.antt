@@ -10,7 +10,7 @@ returns c = record {
       let total : FitsSigned w64 c.args.sums.now.total = search rules in
       let depth : FitsSigned w64 c.args.sums.now.depth = search rules in
       let excess : FitsSigned w64 c.difference.result = search rules in
-      let difference = simp to_z-of_z at c.difference.ensures.value in
+      let difference = simp to_z-of_z at c.difference.ensures in
       let set = simp to_z-of_z at c.set_glue.ensures in
       packed-by c.args.height limit ns c.args.sums.now c.set_glue.result is (rw difference at set);
 }
