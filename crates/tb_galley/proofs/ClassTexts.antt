@@ -13,7 +13,8 @@ use Rattle.tb_galley.specs.declared.contents.Content.TheVariants as contents
 use Rattle.tb_galley.specs.declared.classes.ClassLine.{ClassLine}
 use Rattle.tb_galley.specs.Words.{class_line, foot, Known, number_or}
 use Rattle.tb_galley.specs.Values.{range_slot, class_slot, is_class_among, is_foot_class}
-use Rattle.tb_galley.specs.Print.{and_number, and_text, class_text}
+use Rattle.tb_galley.specs.Print.{class_text}
+use Rattle.tb_text.specs.Fields.{and_number, and_text, and_count}
 use Rattle.tb_galley.specs.Valid.{is_size, is_class}
 use Rattle.tb_galley.proofs.FieldTexts.{IsFit, AllFit, tail_text}
 use Rattle.tb_galley.proofs.SlotTexts.{ReadsAs, range_fit, size_fit, glue_fields, glue_is, glue_fit, glue_short, glue_back, dimension_read, integer_read, size_small, dimen_length, within_small, read_none}
@@ -26,7 +27,7 @@ line_fields c = decimal c.number ∷ signed_decimal c.factor ∷ signed_decimal 
 
 pub class_is : (c : ClassLine) → class_text c ≡ codes "class" ++ tail_text (line_fields c)
 class_is c =
-    ap (λ t. codes "class" ++ and_text (decimal c.number) ++ and_number c.factor ++ and_number c.limit ++ t) (glue_is c.skip)
+    ap (λ t. codes "class" ++ and_count c.number ++ and_number c.factor ++ and_number c.limit ++ t) (glue_is c.skip)
     ∙ four (codes "class") (decimal c.number) (signed_decimal c.factor) (signed_decimal c.limit) (glue_fields c.skip)
   where
     four : (w a b d : List ℕ) (fs : List (List ℕ)) → (((w ++ 32 ∷ a) ++ 32 ∷ b) ++ 32 ∷ d) ++ tail_text fs ≡ w ++ tail_text (a ∷ b ∷ d ∷ fs)

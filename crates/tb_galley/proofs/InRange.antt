@@ -136,7 +136,7 @@ stretch_has l = field_has (λ v. is_dimen v.0 ≡ true) stretch_slot stretch_in 
 least_dimen : (low v : ℤ) → not (int_lt v low) ≡ true → is_dimen v ≡ true → is_within low (pos 1073741823) v ≡ true
 least_dimen low v h k = grind arith
 
-least_has : (low : ℤ) (c : Cause) (l : Left) → IfOk (least_left low c l) (λ x. is_within low (pos 1073741823) x.0 ≡ true)
+pub least_has : (low : ℤ) (c : Cause) (l : Left) → IfOk (least_left low c l) (λ x. is_within low (pos 1073741823) x.0 ≡ true)
 unfolding least_left
 least_has low c l =
     field_has (λ v. is_within low (pos 1073741823) v ≡ true) (least_slot low c) dimension_in

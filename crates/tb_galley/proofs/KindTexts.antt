@@ -22,7 +22,8 @@ use Rattle.tb_galley.specs.Words.{LineWord, Known, hbox, rule, skip, kern, penal
 use Rattle.tb_galley.specs.Values.{name_slot, least_slot, range_slot, word_slot, word_slots, are_places}
 use Rattle.tb_galley.specs.Faults.{is_printable}
 use Rattle.tb_galley.specs.Grammar.{read_or, content_of, places_at, has_byte}
-use Rattle.tb_galley.specs.Print.{and_number, and_text, ended_line, places_text, text_if, sized_text, leaf_text, paragraph_text, wide_text, float_text, margin_text, item_text}
+use Rattle.tb_galley.specs.Print.{places_text, text_if, sized_text, leaf_text, paragraph_text, wide_text, float_text, margin_text, item_text}
+use Rattle.tb_text.specs.Fields.{and_number, and_text, line, and_count}
 use Rattle.tb_galley.specs.Valid.{is_size, is_leaf, is_float, is_margin, is_item}
 use Rattle.tb_galley.proofs.FieldTexts.{IsFit, AllFit, tail_text, tail_length, nothing_more}
 use Rattle.tb_galley.proofs.SlotTexts.{ReadsAs, within_small, dimen_small, dimension_fit, size_fit, range_fit, name_text, name_fit, spelling, dimension_read, integer_read, size_small, dimen_length, glue_fields, glue_is, word_text, glue_fit, glue_short, glue_back}
@@ -255,7 +256,7 @@ in_turn w a b c d e f =
 
 float_is : (f : Float) (vert : Bool) → float_text f ++ paragraph_text vert ≡ codes "float" ++ tail_text (float_fields f vert)
 float_is f vert =
-    (λ i. (codes "float" ++ and_text f.name ++ and_text (decimal f.class) ++ wide_is f.wide i ++ places_text f.bang f.places ++ and_number f.height) ++ paragraph_is vert i)
+    (λ i. (codes "float" ++ and_text f.name ++ and_count f.class ++ wide_is f.wide i ++ places_text f.bang f.places ++ and_number f.height) ++ paragraph_is vert i)
     ∙ six (codes "float") f.name (decimal f.class) (wide_field f.wide) (places_field f.bang f.places) (signed_decimal f.height) (paragraph_field vert)
 
 margin_is : (m : Margin) (vert : Bool) → margin_text m ++ paragraph_text vert ≡ codes "margin" ++ tail_text (margin_fields m vert)
@@ -264,22 +265,22 @@ margin_is m vert =
     ∙ in_turn (codes "margin") (and_text m.name) (and_number m.left_height) (and_number m.left_depth) (and_number m.right_height) (and_number m.right_depth) (32 ∷ paragraph_field vert)
     ∙ six (codes "margin") m.name (signed_decimal m.left_height) (signed_decimal m.left_depth) (signed_decimal m.right_height) (signed_decimal m.right_depth) (paragraph_field vert)
 
-pub item_is : (version : ℕ) (k : ItemKind) → is_single k ≡ true → item_text version k ≡ ended_line (item_line k)
+pub item_is : (version : ℕ) (k : ItemKind) → is_single k ≡ true → item_text version k ≡ line (item_line k)
 unfolding area_fields
 item_is version (items.Hbox name h d) single = cc
 item_is version (items.Rule name h d) single = cc
 item_is version (items.Skip g) single = cc
 item_is version (items.Kern w) single = cc
 item_is version (items.Penalty p) single = cc
-item_is version (items.Mark name) single = ap (λ t. ended_line (codes "mark " ++ t)) (sym (nothing_more name))
-item_is version (items.Note name) single = ap (λ t. ended_line (codes "note " ++ t)) (sym (nothing_more name))
+item_is version (items.Mark name) single = ap (λ t. line (codes "mark " ++ t)) (sym (nothing_more name))
+item_is version (items.Note name) single = ap (λ t. line (codes "note " ++ t)) (sym (nothing_more name))
 item_is version (items.Foot class ls) single = cc
-item_is version (items.Float f vert) single = ap ended_line (float_is f vert)
-item_is version (items.Margin m vert) single = ap ended_line (margin_is m vert)
+item_is version (items.Float f vert) single = ap line (float_is f vert)
+item_is version (items.Margin m vert) single = ap line (margin_is m vert)
 item_is version items.NewPage single = refl
 item_is version items.ClearPage single = refl
-item_is version (items.PageBreak k) single = ap (λ t. ended_line (codes "pagebreak " ++ t)) (sym (nothing_more (decimal k)))
-item_is version (items.NoPageBreak k) single = ap (λ t. ended_line (codes "nopagebreak " ++ t)) (sym (nothing_more (decimal k)))
+item_is version (items.PageBreak k) single = ap (λ t. line (codes "pagebreak " ++ t)) (sym (nothing_more (decimal k)))
+item_is version (items.NoPageBreak k) single = ap (λ t. line (codes "nopagebreak " ++ t)) (sym (nothing_more (decimal k)))
 item_is version items.OneColumn single = refl
 item_is version items.TwoColumn single = refl
 item_is version (items.Suppress areas.All) single = refl

@@ -33,7 +33,8 @@ use Rattle.tb_galley.specs.Words.{header, end, Phase, at_start, among_sets, amon
 use Rattle.tb_galley.specs.Faults.{fault}
 use Rattle.tb_galley.specs.Grammar.{empty_draft, grammar, spelled, input_limit}
 use Rattle.tb_galley.specs.Machine.{State, start, verdict}
-use Rattle.tb_galley.specs.Print.{ended_line, set_lines, leaf_text, leaf_lines, item_text, item_lines, class_lines, header_text, foot_text, and_text, printed}
+use Rattle.tb_galley.specs.Print.{set_lines, leaf_text, leaf_lines, item_text, item_lines, class_lines, header_text, foot_text, printed}
+use Rattle.tb_text.specs.Fields.{line, and_text, and_count}
 use Rattle.tb_galley.specs.Valid.{weight_of, weight, fits_version, is_class, do_classes_rise, has_known_class, IsValid}
 use Rattle.tb_galley.specs.ReadBack.{unnumbered_leaf, unnumbered_kind, unnumbered_item, unnumbered, ReadsBack}
 use Rattle.tb_galley.proofs.SoundLines.{drafted}
@@ -75,35 +76,35 @@ header_is v = by_version (v == 1)
 foot_is : (v class : ℕ) → foot_text v class ≡ joined_lines (foot_line v class ∷ [])
 foot_is v class = by_version (v == 1)
   where
-    by_version : (t : Bool) → (if t then codes "foot\n" else ended_line (codes "foot" ++ and_text (decimal class))) ≡ joined_lines ((codes "foot" ++ tail_text (class_fields t class)) ∷ [])
+    by_version : (t : Bool) → (if t then codes "foot\n" else line (codes "foot" ++ and_count class)) ≡ joined_lines ((codes "foot" ++ tail_text (class_fields t class)) ∷ [])
     by_version true = refl
-    by_version false = ap (λ d. ended_line (codes "foot " ++ d)) (sym (nothing_more (decimal class)))
+    by_version false = ap (λ d. line (codes "foot " ++ d)) (sym (nothing_more (decimal class)))
 
 joined_lines-append : (xs ys : List (List ℕ)) → joined_lines (xs ++ ys) ≡ joined_lines xs ++ joined_lines ys
 joined_lines-append [] ys = refl
 joined_lines-append (x ∷ xs) ys = ap (λ t. x ++ 10 ∷ t) (joined_lines-append xs ys) ∙ sym (append_assoc x (10 ∷ joined_lines xs) (joined_lines ys))
 
-ended_first : (t rest : List ℕ) → ended_line t ++ rest ≡ t ++ 10 ∷ rest
+ended_first : (t rest : List ℕ) → line t ++ rest ≡ t ++ 10 ∷ rest
 ended_first t rest = append_assoc t (10 ∷ []) rest
 
 sets_joined : (g : Params) (rs : List Row) → set_lines g rs ≡ joined_lines (map (set_text g) rs)
 unfolding set_text
 sets_joined g [] = refl
 sets_joined g (r ∷ rs) =
-    (λ i. ended_line (codes "set " ++ r.name ++ value_is (value_of r.field g) i) ++ sets_joined g rs i)
+    (λ i. line (codes "set " ++ r.name ++ value_is (value_of r.field g) i) ++ sets_joined g rs i)
     ∙ ended_first (codes "set " ++ r.name ++ tail_text (value_fields (value_of r.field g))) (joined_lines (map (set_text g) rs))
 
 leaves_joined : (ls : List Leaf) (rest : List (List ℕ)) → leaf_lines ls ++ joined_lines rest ≡ joined_lines (leaf_texts ls ++ rest)
 unfolding leaf_line
 leaves_joined [] rest = refl
 leaves_joined (l ∷ ls) rest =
-    append_assoc (ended_line (leaf_text l.kind)) (leaf_lines ls) (joined_lines rest)
-    ∙ (λ i. ended_line (leaf_is l.kind i) ++ leaves_joined ls rest i)
+    append_assoc (line (leaf_text l.kind)) (leaf_lines ls) (joined_lines rest)
+    ∙ (λ i. line (leaf_is l.kind i) ++ leaves_joined ls rest i)
     ∙ ended_first (spelling (leaf_word l.kind) ++ tail_text (leaf_fields l.kind)) (joined_lines (leaf_texts ls ++ rest))
 
-leaf_joined : (k : LeafKind) → ended_line (leaf_text k) ≡ joined_lines (leaf_line k ∷ [])
+leaf_joined : (k : LeafKind) → line (leaf_text k) ≡ joined_lines (leaf_line k ∷ [])
 unfolding leaf_line
-leaf_joined k = ap ended_line (leaf_is k)
+leaf_joined k = ap line (leaf_is k)
 
 kind_joined : (v : ℕ) (k : ItemKind) → item_text v k ≡ joined_lines (kind_lines v k)
 unfolding kind_lines leaf_line
@@ -124,7 +125,7 @@ items_joined v (i ∷ is) = (λ j. kind_joined v i.kind j ++ items_joined v is j
 
 classes_joined : (cs : List ClassLine) → class_lines cs ≡ joined_lines (class_texts cs)
 classes_joined [] = refl
-classes_joined (c ∷ cs) = (λ i. ended_line (class_is c i) ++ classes_joined cs i) ∙ ended_first (codes "class" ++ tail_text (line_fields c)) (joined_lines (class_texts cs))
+classes_joined (c ∷ cs) = (λ i. line (class_is c i) ++ classes_joined cs i) ∙ ended_first (codes "class" ++ tail_text (line_fields c)) (joined_lines (class_texts cs))
 
 front_joined : (g : Galley) → set_lines g.params (rows_for g.version) ++ class_lines g.classes ≡ joined_lines (front_lines g)
 front_joined g =

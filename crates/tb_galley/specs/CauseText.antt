@@ -1,7 +1,8 @@
 -- The name of each cause of a fault, and its kind.
-use Rattle.std.specs.Prelude.{ℕ, Bool, true, false, List, codes}
+use Rattle.std.specs.Prelude.{ℕ, Bool, true, false, List, ◌++◌, codes, decimal}
 use Rattle.tb_galley.specs.declared.Cause.{Cause}
 use Rattle.tb_galley.specs.declared.Cause.TheVariants as causes
+use Rattle.tb_galley.specs.declared.Fault.{Fault}
 
 -- the name that the line on err gives
 abbrev pub cause_name : Cause → List ℕ
@@ -16,6 +17,10 @@ cause_name causes.NestedFoot = codes "NestedFoot"
 cause_name causes.NotInFoot = codes "NotInFoot"
 cause_name causes.StrayEndfoot = codes "StrayEndfoot"
 cause_name causes.UnclosedFoot = codes "UnclosedFoot"
+cause_name causes.NestedPar = codes "NestedPar"
+cause_name causes.NotInPar = codes "NotInPar"
+cause_name causes.StrayEndpar = codes "StrayEndpar"
+cause_name causes.UnclosedPar = codes "UnclosedPar"
 cause_name causes.Items = codes "Items"
 cause_name causes.MissingField = codes "MissingField"
 cause_name causes.ExtraField = codes "ExtraField"
@@ -41,3 +46,7 @@ is_range_cause causes.Penalty = true
 is_range_cause causes.Class = true
 is_range_cause causes.Parameter = true
 is_range_cause _ = false
+
+-- where an input is at fault, and why
+abbrev pub fault_text : Fault → List ℕ
+fault_text f = codes "line " ++ (decimal f.line ++ (codes " field " ++ (decimal f.field ++ (codes ": " ++ cause_name f.cause))))

@@ -5,9 +5,6 @@ use std::alloc::{AllocError, Global};
 use std::marker::Model;
 use tb_scaled::Glue;
 
-/// The class of a footnote that names none, which no `class` line declares.
-pub(crate) const FOOT_CLASS: u8 = 254;
-
 /// A class of insertions that a galley of version 2 declares, with the number of its line: its own number, 1000 times the
 /// share of a page that its insertions take, the greatest height of them on a page, and the glue above them. Heights are in
 /// scaled points.

@@ -3,11 +3,10 @@ ghost use Rattle.std.specs.Prelude.{◌≡◌};
 ghost use Rattle.tb_galley.specs.Machine.{known_in};
 ghost use Rattle.tb_galley.specs.Reading.{left_of, Gives, float_left, margin_left, area_left, value_left, set_left, class_left, foot_left, content_left};
 
-use crate::classes::FOOT_CLASS;
 use crate::draft::Draft;
 use crate::fields::{At, Fields};
 use crate::{Cause, ClassLine, ItemKind, LeafKind, Word};
-use tb_node::{Area, Float, Margin};
+use tb_node::{Area, FOOTNOTES, Float, Margin};
 use tb_param::{Choice, Field, Form, Value, row_for};
 
 /// What a content line says.
@@ -144,7 +143,7 @@ fn foot(draft: &Draft, fields: &mut Fields<'_>) -> Result<u8, At>
     ensures { Gives result (left_of fields.new) (foot_left (known_in draft.now) (left_of fields.old)) }
 {
     if draft.version == 1 || fields.is_at_end() {
-        return Ok(FOOT_CLASS);
+        return Ok(FOOTNOTES);
     }
     fields.class_among(draft.classes.as_slice())
 }

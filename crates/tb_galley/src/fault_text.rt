@@ -1,8 +1,10 @@
-//! The texts of causes, and their kinds.
-ghost use Rattle.std.specs.Prelude.{◌≡◌};
-ghost use Rattle.tb_galley.specs.CauseText.{cause_name, is_range_cause};
+//! The texts of faults, and the kinds of their causes.
+ghost use Rattle.std.specs.Prelude.{◌≡◌, ◌++◌, OnOk};
+ghost use Rattle.tb_galley.specs.CauseText.{cause_name, is_range_cause, fault_text};
 
-use crate::Cause;
+use crate::{Cause, Fault};
+use std::alloc::AllocError;
+use tb_text::put_number;
 
 /// The name of the cause, as the line on err gives it: `line L field F: CAUSE`.
 pub fn cause_text(cause: Cause) -> &'static [u8]
@@ -20,6 +22,10 @@ pub fn cause_text(cause: Cause) -> &'static [u8]
         Cause::NotInFoot => b"NotInFoot",
         Cause::StrayEndfoot => b"StrayEndfoot",
         Cause::UnclosedFoot => b"UnclosedFoot",
+        Cause::NestedPar => b"NestedPar",
+        Cause::NotInPar => b"NotInPar",
+        Cause::StrayEndpar => b"StrayEndpar",
+        Cause::UnclosedPar => b"UnclosedPar",
         Cause::Items => b"Items",
         Cause::MissingField => b"MissingField",
         Cause::ExtraField => b"ExtraField",
@@ -52,4 +58,17 @@ pub fn is_range_cause(cause: Cause) -> bool
             | Cause::Class
             | Cause::Parameter
     )
+}
+
+/// Appends where an input is at fault, and why: `line L field F: CAUSE`. `Err` comes only if memory runs out; a part of the
+/// text may be in `out` then.
+pub fn put_fault(out: &mut Vec<u8>, fault: &Fault) -> Result<(), AllocError>
+    ensures { OnOk result (out.new.items ≡ out.old.items ++ fault_text fault.now) }
+{
+    out.extend_from_slice(b"line ")?;
+    put_number(out, i128::from(fault.line))?;
+    out.extend_from_slice(b" field ")?;
+    put_number(out, i128::from(fault.field))?;
+    out.extend_from_slice(b": ")?;
+    out.extend_from_slice(cause_text(fault.cause))
 }

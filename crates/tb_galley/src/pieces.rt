@@ -15,7 +15,8 @@ use std::alloc::{AllocError, Global};
 use std::marker::Model;
 use tb_text::{split_at_feed, without_return};
 
-const INPUT_LIMIT: u64 = 8_388_608;
+/// An input, as a galley, has no more bytes than this.
+pub const INPUT_LIMIT: u64 = 8_388_608;
 
 /// What the bytes so far gave.
 #[derive(Drop)]

@@ -35,7 +35,7 @@ use Rattle.tb_lines.specs.Solution.{SolutionView}
 use Rattle.tb_lines.specs.Paragraph.{list_of, passes, after_word, is_legal_entry, is_legal, is_word, from_word, line_between}
 use Rattle.tb_lines.specs.Least.{IsAfter, IsFalling, IsSolution, IsLeastOf}
 use Rattle.tb_lines.specs.LineText.{entry_size, size_of, line_sizes, paragraph_sizes, AreLeast, line_text}
-use Rattle.tb_lines.specs.Faults.{Fault}
+use Rattle.tb_galley.specs.declared.Fault.{Fault}
 use Rattle.tb_lines.specs.Reading.{reading}
 use Rattle.tb_lines.specs.Galley.{solutions_from, galley_by, galley_of, lines_galley}
 use Rattle.tb_lines.specs.Accepted.{IsAccepted}

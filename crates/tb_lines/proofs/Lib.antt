@@ -9,13 +9,11 @@ pub mod ActiveBreaks
 pub mod FloorSteps
 pub mod WriteSteps
 pub mod Back
-pub mod First
 pub mod Led
 pub mod ReaderRuns
 pub mod SlotReads
 pub mod SameStep
-pub mod SmallDimensions
-pub mod VisibleFields
+pub mod VisibleWords
 pub mod AllWays
 pub mod LeastOf
 pub mod SolveSteps

@@ -1,8 +1,8 @@
 -- A text that is too long has one fault, whatever it says.
 use Rattle.std.proofs.Common.{◌≡◌, ap, ℕ, true, nat_lt, List, length, Err, if◌then◌else◌}
 use Rattle.tb_text.specs.Lines.{lines_of}
-use Rattle.tb_lines.specs.declared.LinesCause.TheVariants.{InputSize}
-use Rattle.tb_lines.specs.Faults.{fault}
+use Rattle.tb_galley.specs.declared.Cause.TheVariants.{InputSize}
+use Rattle.tb_galley.specs.Faults.{fault}
 use Rattle.tb_lines.specs.Reading.{spelled_text, reading}
 use Rattle.tb_lines.specs.Galley.{faulty, galley_of, lines_galley}
 

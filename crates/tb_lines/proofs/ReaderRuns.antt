@@ -3,15 +3,19 @@ use Rattle.std.proofs.Common.{◌≡◌, ℕ, ◌+◌, Bool, true, false, List, 
 use Rattle.std.specs.List.{fold}
 use Rattle.std.proofs.lemmas.List.Sums.{fold-append}
 use Rattle.tb_text.specs.Lines.{fields_of, is_skipped}
-use Rattle.tb_lines.specs.declared.LinesCause.{LinesCause}
+use Rattle.tb_galley.specs.declared.Cause.{Cause}
+use Rattle.tb_galley.specs.declared.Fault.{Fault}
+use Rattle.tb_galley.specs.Grammar.{field_at}
+use Rattle.tb_galley.specs.Machine.{first_cause}
+use Rattle.tb_galley.proofs.First.{first_among, or_first, least_first}
+use Rattle.tb_galley.proofs.SoundLines.{nothing_more}
 use Rattle.tb_lines.specs.declared.text.Item.{Item}
 use Rattle.tb_lines.specs.declared.text.Paragraph.{Paragraph}
 use Rattle.tb_lines.specs.Words.{LineWord, header, setting, par, word, space, pen, endpar, end, Line, line_at, content_at, at_start, next_phase, phase_after, count_with, count_after, inside_with, one_more}
 use Rattle.tb_lines.specs.Slots.{Parameter, parameter_of}
-use Rattle.tb_lines.specs.Faults.{Fault, line_causes, end_causes, causes_from}
-use Rattle.tb_lines.specs.Reading.{Draft, field_at, set_content, content_of, with_item, with_closed, with_content, with_word, with_line, empty_draft, inside_in, content_from, text_of, text_unless, spelled_text}
-use Rattle.tb_lines.specs.Machine.{State, first_cause, past_content, take_unless, take_line, start, end_with, verdict}
-use Rattle.tb_lines.proofs.First.{first_among, or_first, least_first}
+use Rattle.tb_lines.specs.Faults.{line_causes, end_causes, causes_from}
+use Rattle.tb_lines.specs.Reading.{Draft, set_content, content_of, with_item, with_closed, with_content, with_word, with_line, empty_draft, inside_in, content_from, text_of, text_unless, spelled_text}
+use Rattle.tb_lines.specs.Machine.{State, past_content, take_unless, take_line, start, end_with, verdict}
 use Rattle.tb_lines.proofs.Led.{all_led}
 
 -- ---- the reader's state after some lines, the content lines among which are shown
@@ -27,10 +31,6 @@ past_more n before l i = record {
   draft = sym (fold-append with_line empty_draft before (l ∷ [])) i;
   first = None;
 }
-
-nothing_more : (before : List Line) → before ++ [] ≡ before
-nothing_more [] = refl
-nothing_more (l ∷ ls) = ap (λ ms. l ∷ ms) (nothing_more ls)
 
 past : (n : ℕ) (before : List Line) (t : Bool) (l : Line)
     → past_content (state_after n before) (if t then [] else l ∷ []) ≡ state_after (n + 1) (before ++ (if t then [] else l ∷ []))
@@ -75,7 +75,7 @@ held : (s : State) (f : Fault) (lines : List (List ℕ)) → verdict (fold take_
 held s f [] = refl
 held s f (bytes ∷ lines) = held s f lines
 
-at_end : (n : ℕ) (before : List Line) (cs : List LinesCause)
+at_end : (n : ℕ) (before : List Line) (cs : List Cause)
     → end_with (state_after n before) cs ≡ text_unless (fold with_line empty_draft (before ++ [])) (or_first (first_cause (n + 1) 0 (cs ∷ [])) None)
 at_end n before [] = ap (λ ls. Ok (text_of (fold with_line empty_draft ls))) (sym (nothing_more before))
 at_end n before (c ∷ cs) = refl

@@ -2,7 +2,7 @@
 use Rattle.std.proofs.Common.{◌≡◌, refl, pos, List, [], ◌∷◌}
 use Rattle.std.specs.Fmt.{digits}
 use Rattle.std.specs.Prelude.{Some, None, Ok, Err, codes, negsuc}
-use Rattle.tb_lines.specs.declared.LinesCause.TheVariants.{NestedPar}
+use Rattle.tb_galley.specs.declared.Cause.TheVariants.{NestedPar}
 use Rattle.tb_lines.specs.declared.text.Item.{Item}
 use Rattle.tb_lines.specs.declared.text.Item.TheVariants.{Word as word, Space as space, Penalty as penalty}
 use Rattle.tb_lines.specs.declared.text.LineParams.{LineParams}
@@ -14,7 +14,7 @@ use Rattle.tb_lines.specs.Least.{total_demerits}
 use Rattle.tb_lines.specs.LineText.{line_text}
 use Rattle.tb_lines.specs.Words.{word_of}
 use Rattle.tb_lines.specs.Slots.{parameter_of}
-use Rattle.tb_lines.specs.Faults.{fault}
+use Rattle.tb_galley.specs.Faults.{fault}
 use Rattle.tb_lines.specs.Reading.{reading, default_params}
 
 params : LineParams

@@ -2,27 +2,25 @@
 use Rattle.std.proofs.Common.{◌≡◌, ℕ, ◌+◌, Bool, true, false, not, ◌||◌, ◌&&◌, nat_lt, nat_le, List, [], ◌∷◌, ◌++◌, length, Option, Some, None, Result, Ok, if◌then◌else◌, refl, ap, ◌∙◌, sym}
 use Rattle.std.specs.List.{list_all, fold}
 use Rattle.tb_text.specs.Lines.{fields_of, is_skipped}
-use Rattle.tb_lines.specs.declared.LinesCause.{LinesCause}
-use Rattle.tb_lines.specs.declared.LinesCause.TheVariants as causes
-use Rattle.tb_lines.specs.declared.fields.At.{At}
-use Rattle.tb_lines.specs.Words.{LineWord, Line, content_at, Phase, at_start, among_sets, among_pars, in_par, ended, counts_word, is_inner_word, is_full, word_of, first_field, other_fields}
-use Rattle.tb_lines.specs.Slots.{is_printable, word_slots, missing_cause}
-use Rattle.tb_lines.specs.Faults.{Fault, fault, cause_if, first_of, place_causes, item_causes, later_causes, value_causes, all_content_causes, line_causes}
+use Rattle.tb_galley.specs.declared.Cause.{Cause}
+use Rattle.tb_galley.specs.declared.Cause.TheVariants as causes
+use Rattle.tb_galley.specs.declared.Fault.{Fault}
+use Rattle.tb_galley.specs.declared.fields.At.{At}
+use Rattle.tb_galley.specs.Words.{first_field, other_fields}
+use Rattle.tb_galley.specs.Faults.{is_printable, cause_if, value_causes}
+use Rattle.tb_galley.specs.Line.{first_of}
+use Rattle.tb_galley.specs.Machine.{first_cause}
+use Rattle.tb_galley.specs.Reading.{at_fault, settled, ◌>>=◌}
+use Rattle.tb_galley.proofs.Slots.{first_at, settle}
+use Rattle.tb_galley.proofs.SameStep.{on_line, first_on_line}
+use Rattle.tb_lines.specs.Words.{LineWord, Line, content_at, Phase, at_start, among_sets, among_pars, in_par, ended, counts_word, is_inner_word, is_full, word_of}
+use Rattle.tb_lines.specs.Slots.{word_slots, missing_cause}
+use Rattle.tb_lines.specs.Faults.{place_causes, item_causes, later_causes, all_content_causes, line_causes}
 use Rattle.tb_lines.specs.Reading.{content_of, inside_in, spelled_text}
-use Rattle.tb_lines.specs.FromLeft.{at_fault, settled, ◌>>=◌}
 use Rattle.tb_lines.specs.Line.{Said, said, worded_left, content_line, content_lines, line_left}
-use Rattle.tb_lines.specs.Machine.{State, first_cause, past_content, take_unless, take_by, take_line, start, said_unless, said_first, take_said, verdict}
-use Rattle.tb_lines.proofs.SlotReads.{first_at, settle, reads}
+use Rattle.tb_lines.specs.Machine.{State, past_content, take_unless, take_by, take_line, start, said_unless, said_first, take_said, verdict}
+use Rattle.tb_lines.proofs.SlotReads.{reads}
 use Rattle.tb_lines.proofs.ReaderRuns.{reader_exact}
-
-abbrev on_line : ℕ → Option At → Option Fault
-on_line n None = None
-on_line n (Some e) = Some (fault n e.field e.cause)
-
-first_on_line : (n k : ℕ) (cells : List (List LinesCause)) → first_cause n k cells ≡ on_line n (first_at k cells)
-first_on_line n k [] = refl
-first_on_line n k ([] ∷ cells) = first_on_line n (k + 1) cells
-first_on_line n k ((c ∷ cs) ∷ cells) = refl
 
 abbrev take_with : State → List Line → Option Fault → State
 take_with s ls (Some f) = record s { first = Some f }
@@ -50,7 +48,7 @@ item_said : (s : State) (v : LineWord) (head : List ℕ) (fs : List (List ℕ)) 
 item_said s v head fs true = refl
 item_said s v head fs false = word_said s v head fs
 
-place_said : (s : State) (i : Option ℕ) (v : LineWord) (head : List ℕ) (fs : List (List ℕ)) (xs : List LinesCause)
+place_said : (s : State) (i : Option ℕ) (v : LineWord) (head : List ℕ) (fs : List (List ℕ)) (xs : List Cause)
     → Same s (lined (Some v) head fs ∷ []) (settled 1 (first_of xs) (tt {0}) >>= λ x. settled 1 (first_of (item_causes s.count i (Some v))) (tt {0}) >>= λ y. worded_left (lined (Some v) head fs) (Some v))
     (first_at 1 ((xs ++ item_causes s.count i (Some v)) ∷ later_causes (Some v) fs))
 place_said s i v head fs [] = item_said s v head fs ((counts_word v && nat_le 25000 s.count) || (is_inner_word v && is_full i))

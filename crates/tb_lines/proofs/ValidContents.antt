@@ -1,29 +1,32 @@
 -- What is read from a line without a fault has its values in their ranges.
-use Rattle.std.proofs.Common.{◌≡◌, refl, sym, ◌∙◌, ap, subst, ℕ, ◌+◌, ◌≤◌, ℤ, pos, negsuc, nat_abs, Bool, true, false, not, ◌&&◌, ◌||◌, nat_lt, nat_le, List, [], ◌∷◌, length, Option, Some, None, Result, Ok, Err, if◌then◌else◌, arith}
+use Rattle.std.proofs.Common.{◌≡◌, refl, sym, ◌∙◌, ap, subst, ℕ, ◌+◌, ◌≤◌, ℤ, pos, negsuc, nat_abs, Bool, true, false, not, ◌&&◌, ◌||◌, nat_lt, nat_le, List, [], ◌∷◌, length, Option, Some, None, Result, Ok, Err, IfOk, if◌then◌else◌, arith}
 use Rattle.std.specs.Prelude.{◌≤ℤ◌, int_lt}
 use Rattle.std.specs.List.{list_all}
 use Rattle.std.proofs.lemmas.Int.{ints}
 use Rattle.std.proofs.lemmas.Bool.{true≢false}
 use Rattle.std.proofs.lemmas.Bool.Decides.{nat_tests}
-use Rattle.tb_text.specs.declared.TextFault.{TextFault}
 use Rattle.tb_text.specs.Lines.{fields_of, is_skipped}
-use Rattle.tb_text.specs.Numbers.{integer_of, dimension_of}
-use Rattle.tb_lines.specs.declared.LinesCause.{LinesCause}
-use Rattle.tb_lines.specs.declared.LinesCause.TheVariants as causes
-use Rattle.tb_lines.specs.declared.fields.At.{At}
+use Rattle.tb_param.specs.Table.{is_within}
+use Rattle.tb_galley.specs.declared.Cause.{Cause}
+use Rattle.tb_galley.specs.declared.Cause.TheVariants as causes
+use Rattle.tb_galley.specs.declared.fields.At.{At}
+use Rattle.tb_galley.specs.Faults.{is_printable, cause_if}
+use Rattle.tb_galley.specs.Values.{Slot, cause_unless, slot_cause}
+use Rattle.tb_galley.specs.Line.{first_of}
+use Rattle.tb_galley.specs.Reading.{Left, ◌>>=◌, at_fault, next_left, settled, field_read, least_left, range_left, end_left, finished, mapped}
+use Rattle.tb_galley.proofs.InRange.{least_has, range_has}
 use Rattle.tb_lines.specs.declared.text.Item.{Item}
 use Rattle.tb_lines.specs.declared.text.Item.TheVariants as items
 use Rattle.tb_lines.specs.declared.words.Form.TheVariants as forms
 use Rattle.tb_lines.specs.declared.words.Parameter.TheVariants as parameters
 use Rattle.tb_lines.specs.declared.contents.Content.TheVariants as contents
 use Rattle.tb_lines.specs.Words.{LineWord, header, setting, par, word, space, pen, endpar, end, Phase, Line, line_at, content_at, counts_word, is_inner_word, is_full}
-use Rattle.tb_lines.specs.Slots.{Parameter, Form, form_of, parameter_of, Slot, name_slot, least_slot, range_slot, is_printable, is_par_name, cause_of_read, cause_unless, slot_cause, missing_cause}
-use Rattle.tb_lines.specs.Faults.{cause_if, first_of, place_causes, item_causes}
-use Rattle.tb_lines.specs.Reading.{Content, holds_item, read_or_zero, dimension_in, integer_in}
-use Rattle.tb_lines.specs.FromLeft.{Left, ◌>>=◌, at_fault, next_left, settled, field_read, name_left, least_left, range_left, header_left, end_left, finished, mapped, value_left, set_by, set_left, sizes_left, word_left, space_left, pen_left, content_left}
+use Rattle.tb_lines.specs.Slots.{Parameter, Form, form_of, parameter_of, name_slot, is_par_name, missing_cause}
+use Rattle.tb_lines.specs.Faults.{place_causes, item_causes}
+use Rattle.tb_lines.specs.Reading.{Content, holds_item}
+use Rattle.tb_lines.specs.FromLeft.{name_left, size_left, header_left, value_left, set_by, set_left, sizes_left, word_left, space_left, pen_left, content_left}
 use Rattle.tb_lines.specs.Line.{Said, said, worded_left, content_line, content_lines, line_left}
 use Rattle.tb_lines.specs.ValidText.{IsSize, IsValidItem}
-use Rattle.tb_lines.proofs.SmallDimensions.{small_dimension}
 
 -- ---- readings that have no fault
 
@@ -31,7 +34,7 @@ bind_ok : {A B : Type 0} (r : Result A At) (f : A → Result B At) (y : B) → (
 bind_ok (Ok x) f y h = (x, refl, h)
 bind_ok (Err e) f y h = absurd (cc)
 
-settled_ok : {X : Type 0} (n : ℕ) (o : Option LinesCause) (x y : X) → settled n o x ≡ Ok y → (o ≡ None) × (x ≡ y)
+settled_ok : {X : Type 0} (n : ℕ) (o : Option Cause) (x y : X) → settled n o x ≡ Ok y → (o ≡ None) × (x ≡ y)
 settled_ok n None x y h = (refl, cc)
 settled_ok n (Some c) x y h = absurd (cc)
 
@@ -45,38 +48,31 @@ field_ok s value l y h =
     let e = settled_ok l.number (slot_cause s b.0.0) (value b.0.0, b.0.1) y b.2 in
     (b.0.0, e.0, ap (λ p. p.0) e.1)
 
-read_ok : (test : ℤ → Bool) (c : LinesCause) (r : Result ℤ TextFault) → cause_of_read test c r ≡ None → (v : ℤ) × (r ≡ Ok v) × (test v ≡ true)
-read_ok test c (Ok v) h = (v, refl, tested (test v) h)
-  where
-    tested : (t : Bool) → (if t then None else Some c) ≡ None → t ≡ true
-    tested true e = refl
-    tested false e = absurd (cc)
-read_ok test c (Err e) h = absurd (cc)
+-- what holds of each value that is read holds of this one
+has : {X : Type 0} (P : X → Type 0) (r : Result X At) (x : X) → r ≡ Ok x → IfOk r P → P x
+has P (Ok y) x is h = let same : y ≡ x = cc in subst P same h
+has P (Err e) x is h = absurd (cc)
 
-size_of_dimension : (low v : ℤ) → pos 0 ≤ℤ low → not (int_lt v low) ≡ true → v ≤ℤ pos 1073741823 → (nat_abs low ≤ nat_abs v) × (nat_abs v ≤ 1073741823)
-size_of_dimension (pos a) (pos n) h t s = (grind (arith, nat_tests, ints), omega (arith, ints))
-size_of_dimension (pos a) (negsuc n) h t s = absurd (grind (arith, nat_tests, ints))
-size_of_dimension (negsuc a) v h t s = absurd (omega (arith, ints))
-
-least_ok : (low : ℤ) (c : LinesCause) (l : Left) (y : ℕ × Left) → pos 0 ≤ℤ low → least_left low c l ≡ Ok y → (nat_abs low ≤ y.0) × (y.0 ≤ 1073741823)
-unfolding least_left
-least_ok low c l y at_least h =
-    let r = field_ok (least_slot low c) dimension_in l y h in
-    let v = read_ok (λ v. not (int_lt v low)) c (dimension_of r.0) r.1 in
-    let is : nat_abs v.0 ≡ y.0 = ap (λ x. nat_abs (read_or_zero x)) (sym v.1) ∙ r.2 in
-    let s = size_of_dimension low v.0 at_least v.2 (small_dimension r.0 v.0 v.1) in
-    (subst (λ n. nat_abs low ≤ n) is s.0, subst (λ n. n ≤ 1073741823) is s.1)
-
-within_range : (low high v : ℤ) → not (int_lt v low || int_lt high v) ≡ true → (low ≤ℤ v) × (v ≤ℤ high)
+within_range : (low high v : ℤ) → is_within low high v ≡ true → (low ≤ℤ v) × (v ≤ℤ high)
 within_range low high v h = (grind (arith, ints), grind (arith, ints))
 
-range_ok : (low high : ℤ) (c : LinesCause) (l : Left) (y : ℤ × Left) → range_left low high c l ≡ Ok y → (low ≤ℤ y.0) × (y.0 ≤ℤ high)
-unfolding range_left
-range_ok low high c l y h =
-    let r = field_ok (range_slot low high c) integer_in l y h in
-    let v = read_ok (λ v. not (int_lt v low || int_lt high v)) c (integer_of r.0) r.1 in
-    let is : v.0 ≡ y.0 = ap read_or_zero (sym v.1) ∙ r.2 in
-    subst (λ z. (low ≤ℤ z) × (z ≤ℤ high)) is (within_range low high v.0 v.2)
+pub least_ok : (low : ℤ) (c : Cause) (l : Left) (y : ℤ × Left) → least_left low c l ≡ Ok y → (low ≤ℤ y.0) × (y.0 ≤ℤ pos 1073741823)
+least_ok low c l y h = within_range low (pos 1073741823) y.0 (has (λ x. is_within low (pos 1073741823) x.0 ≡ true) (least_left low c l) y h (least_has low c l))
+
+size_of_dimension : (low v : ℤ) → pos 0 ≤ℤ low → low ≤ℤ v → v ≤ℤ pos 1073741823 → (nat_abs low ≤ nat_abs v) × (nat_abs v ≤ 1073741823)
+size_of_dimension (pos a) (pos n) h t s = (omega (arith, ints), omega (arith, ints))
+size_of_dimension (pos a) (negsuc n) h t s = absurd (omega (arith, ints))
+size_of_dimension (negsuc a) v h t s = absurd (omega (arith, ints))
+
+size_ok : (low : ℤ) (c : Cause) (l : Left) (y : ℕ × Left) → pos 0 ≤ℤ low → size_left low c l ≡ Ok y → (nat_abs low ≤ y.0) × (y.0 ≤ 1073741823)
+unfolding size_left
+size_ok low c l y at_least h =
+    let m = mapped_ok nat_abs (least_left low c l) y h in
+    let r = least_ok low c l m.0 m.1 in
+    subst (λ n. (nat_abs low ≤ n) × (n ≤ 1073741823)) m.2 (size_of_dimension low m.0.0 at_least r.0 r.1)
+
+range_ok : (low high : ℤ) (c : Cause) (l : Left) (y : ℤ × Left) → range_left low high c l ≡ Ok y → (low ≤ℤ y.0) × (y.0 ≤ℤ high)
+range_ok low high c l y h = within_range low high y.0 (has (λ x. is_within low high x.0 ≡ true) (range_left low high c l) y h (range_has low high c l))
 
 name_ok : (l : Left) (y : List ℕ × Left) → name_left l ≡ Ok y → is_par_name y.0 ≡ true
 unfolding name_left
@@ -126,7 +122,7 @@ low_is parameters.ParSkip = omega (arith, ints)
 
 value_ok : (form : Form) (l : Left) (y : ℕ × Left) → IsLow form → value_left form l ≡ Ok y → IsFormValue form y.0
 unfolding value_left
-value_ok (forms.Dimension low) l y is h = least_ok low causes.Parameter l y is h
+value_ok (forms.Dimension low) l y is h = size_ok low causes.Parameter l y is h
 value_ok (forms.Integer high) l y is h =
     let m = mapped_ok nat_abs (range_left (pos 0) high causes.Parameter l) y h in
     let r = range_ok (pos 0) high causes.Parameter l m.0 m.1 in
@@ -151,13 +147,13 @@ set_ok l y h =
 
 sizes_ok : (l : Left) (y : (ℕ × ℕ × ℕ) × Left) → sizes_left l ≡ Ok y → IsSize y.0.0 × IsSize y.0.1 × IsSize y.0.2
 sizes_ok l y h =
-    let a = bind_ok (least_left (pos 0) causes.Dimension l) (λ a. least_left (pos 0) causes.Dimension a.1 >>= λ b. least_left (pos 0) causes.Dimension b.1 >>= λ c. Ok ((a.0, b.0, c.0), c.1)) y h in
-    let b = bind_ok (least_left (pos 0) causes.Dimension a.0.1) (λ b. least_left (pos 0) causes.Dimension b.1 >>= λ c. Ok ((a.0.0, b.0, c.0), c.1)) y a.2 in
-    let c = bind_ok (least_left (pos 0) causes.Dimension b.0.1) (λ c. Ok ((a.0.0, b.0.0, c.0), c.1)) y b.2 in
+    let a = bind_ok (size_left (pos 0) causes.Dimension l) (λ a. size_left (pos 0) causes.Dimension a.1 >>= λ b. size_left (pos 0) causes.Dimension b.1 >>= λ c. Ok ((a.0, b.0, c.0), c.1)) y h in
+    let b = bind_ok (size_left (pos 0) causes.Dimension a.0.1) (λ b. size_left (pos 0) causes.Dimension b.1 >>= λ c. Ok ((a.0.0, b.0, c.0), c.1)) y a.2 in
+    let c = bind_ok (size_left (pos 0) causes.Dimension b.0.1) (λ c. Ok ((a.0.0, b.0.0, c.0), c.1)) y b.2 in
     let same : ((a.0.0, b.0.0, c.0.0), c.0.1) ≡ y = cc in
     let zero_is : pos 0 ≤ℤ pos 0 = omega (arith, ints) in
     subst (λ p. IsSize p.0.0 × IsSize p.0.1 × IsSize p.0.2) same
-    ((least_ok (pos 0) causes.Dimension l a.0 zero_is a.1).1, (least_ok (pos 0) causes.Dimension a.0.1 b.0 zero_is b.1).1, (least_ok (pos 0) causes.Dimension b.0.1 c.0 zero_is c.1).1)
+    ((size_ok (pos 0) causes.Dimension l a.0 zero_is a.1).1, (size_ok (pos 0) causes.Dimension a.0.1 b.0 zero_is b.1).1, (size_ok (pos 0) causes.Dimension b.0.1 c.0 zero_is c.1).1)
 
 word_ok : (l : Left) (y : Item × Left) → word_left l ≡ Ok y → IsValidItem y.0
 unfolding word_left

@@ -4,9 +4,11 @@ use Rattle.std.specs.Prelude.{MatchOption}
 use Rattle.std.specs.List.{fold, AllByRecursion}
 use Rattle.std.proofs.lemmas.Bool.Decides.{nat_tests}
 use Rattle.tb_text.specs.Lines.{lines_of}
-use Rattle.tb_lines.specs.declared.LinesCause.{LinesCause}
-use Rattle.tb_lines.specs.declared.LinesCause.TheVariants.{InputSize}
-use Rattle.tb_lines.specs.declared.fields.At.{At}
+use Rattle.tb_galley.specs.declared.Cause.{Cause}
+use Rattle.tb_galley.specs.declared.Cause.TheVariants.{InputSize}
+use Rattle.tb_galley.specs.declared.Fault.{Fault}
+use Rattle.tb_galley.specs.declared.fields.At.{At}
+use Rattle.tb_galley.specs.Faults.{fault}
 use Rattle.tb_lines.specs.declared.text.Item.{Item}
 use Rattle.tb_lines.specs.declared.text.LineParams.{LineParams}
 use Rattle.tb_lines.specs.declared.text.Paragraph.{Paragraph}
@@ -15,7 +17,7 @@ use Rattle.tb_lines.specs.declared.words.Parameter.TheVariants as parameters
 use Rattle.tb_lines.specs.declared.contents.Content.TheVariants as contents
 use Rattle.tb_lines.specs.Words.{LineWord, counts_word, count_with, is_full}
 use Rattle.tb_lines.specs.Slots.{Parameter, form_of}
-use Rattle.tb_lines.specs.Faults.{Fault, fault, end_causes}
+use Rattle.tb_lines.specs.Faults.{end_causes}
 use Rattle.tb_lines.specs.Reading.{Draft, Content, with_value, with_item, with_closed, with_content, inside_in, text_of, spelled_text, reading}
 use Rattle.tb_lines.specs.Line.{Said, line_left}
 use Rattle.tb_lines.specs.Machine.{State, start, end_with, verdict_by, verdict, said_unless, said_first, take_said}
@@ -146,7 +148,7 @@ draft_text d count h = record { params = h.params; paragraphs = h.closed; few = 
 verdict_valid : (s : State) (t : Text) → IsValidState s → verdict s ≡ Ok t → IsValidText t
 verdict_valid s t h v = by_first s.first refl v
   where
-    by_end : IsValidDraft s.draft s.count → (cs : List LinesCause) → end_with s cs ≡ Ok t → IsValidText t
+    by_end : IsValidDraft s.draft s.count → (cs : List Cause) → end_with s cs ≡ Ok t → IsValidText t
     by_end d [] e = let same : text_of s.draft ≡ t = cc in subst (λ (x : Text). IsValidText x) same (draft_text s.draft s.count d)
     by_end d (c ∷ cs) e = absurd (cc)
 

@@ -14,7 +14,8 @@ use Rattle.tb_lines.specs.Solution.{SolutionView}
 use Rattle.tb_lines.specs.Paragraph.{list_of, is_legal, is_forced}
 use Rattle.tb_lines.specs.Least.{total_demerits}
 use Rattle.tb_lines.specs.LineText.{line_text}
-use Rattle.tb_lines.specs.Faults.{Fault, fault}
+use Rattle.tb_galley.specs.declared.Fault.{Fault}
+use Rattle.tb_galley.specs.Faults.{fault}
 use Rattle.tb_lines.specs.Reading.{reading}
 
 -- all ways to break the list before place n, read from the last break, the lexicographically greatest first: a legal break is taken or not, a forced one is taken

@@ -1,13 +1,16 @@
 -- Reading a line: its word and what it says, nothing if it is skipped, or the first field at fault.
 use Rattle.std.specs.Prelude.{ℕ, nat_lt, List, [], ◌∷◌, length, Option, Some, None, Result, Ok, Err, if◌then◌else◌}
 use Rattle.std.specs.List.{list_all}
-use Rattle.tb_lines.specs.declared.LinesCause.TheVariants as causes
-use Rattle.tb_lines.specs.declared.fields.At.{At}
+use Rattle.tb_galley.specs.declared.Cause.TheVariants as causes
+use Rattle.tb_galley.specs.declared.fields.At.{At}
+use Rattle.tb_galley.specs.Faults.{is_printable}
+use Rattle.tb_galley.specs.Line.{first_of}
+use Rattle.tb_galley.specs.Reading.{◌>>=◌, at_fault, settled, finished}
 use Rattle.tb_lines.specs.Words.{LineWord, Phase, Line, content_at}
-use Rattle.tb_lines.specs.Slots.{is_printable, missing_cause}
-use Rattle.tb_lines.specs.Faults.{first_of, place_causes, item_causes}
+use Rattle.tb_lines.specs.Slots.{missing_cause}
+use Rattle.tb_lines.specs.Faults.{place_causes, item_causes}
 use Rattle.tb_lines.specs.Reading.{Content}
-use Rattle.tb_lines.specs.FromLeft.{◌>>=◌, at_fault, settled, finished, content_left}
+use Rattle.tb_lines.specs.FromLeft.{content_left}
 
 -- a line's word, and what it says
 pub record Said : Type 0 where

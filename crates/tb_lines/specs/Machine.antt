@@ -1,21 +1,18 @@
 -- How the reader goes, line by line.
 use Rattle.std.specs.Prelude.{◌≡◌, ℕ, ◌+◌, List, [], ◌∷◌, Option, Some, None, Result, Ok, Err}
-use Rattle.tb_lines.specs.declared.LinesCause.{LinesCause}
+use Rattle.tb_galley.specs.declared.Cause.{Cause}
+use Rattle.tb_galley.specs.declared.Fault.{Fault}
+use Rattle.tb_galley.specs.declared.fields.At.{At}
+use Rattle.tb_galley.specs.Faults.{fault}
+use Rattle.tb_galley.specs.Machine.{first_cause}
 use Rattle.tb_lines.specs.declared.LinesFault.{LinesFault}
 use Rattle.tb_lines.specs.declared.LinesFault.TheVariants as whys
-use Rattle.tb_lines.specs.declared.fields.At.{At}
 use Rattle.tb_lines.specs.declared.text.Text.{Text}
 pub use Rattle.tb_lines.specs.declared.reader.Reader.{Reader as State}
 use Rattle.tb_lines.specs.Words.{at_start, Line, content_at, next_phase, count_with}
-use Rattle.tb_lines.specs.Faults.{Fault, fault, line_causes, end_causes}
+use Rattle.tb_lines.specs.Faults.{line_causes, end_causes}
 use Rattle.tb_lines.specs.Reading.{with_line, with_content, empty_draft, inside_in, text_of}
 use Rattle.tb_lines.specs.Line.{Said, line_left}
-
--- the first cause of a line from this field on
-abbrev pub first_cause : ℕ → ℕ → List (List LinesCause) → Option Fault
-first_cause line field [] = None
-first_cause line field ([] ∷ later) = first_cause line (field + 1) later
-first_cause line field ((c ∷ cs) ∷ later) = Some (fault line field c)
 
 -- after a line without a fault
 abbrev pub past_content : State → List Line → State
@@ -41,7 +38,7 @@ abbrev pub start : State
 start = record { lines = 0; phase = at_start; count = 0; draft = empty_draft; first = None }
 
 -- at the end without a fault so far
-abbrev pub end_with : State → List LinesCause → Result Text Fault
+abbrev pub end_with : State → List Cause → Result Text Fault
 end_with s [] = Ok (text_of s.draft)
 end_with s (c ∷ cs) = Err (fault (s.lines + 1) 0 c)
 

@@ -1,9 +1,7 @@
 -- The text that an input spells, or its first fault.
-use Rattle.std.specs.Prelude.{◌≡◌, ℕ, ℤ, pos, nat_abs, Bool, true, false, nat_lt, List, [], ◌∷◌, ◌++◌, length, Option, Some, None, Result, Ok, Err, slice_get, unwrap_or, if◌then◌else◌}
+use Rattle.std.specs.Prelude.{◌≡◌, ℕ, nat_abs, Bool, true, false, nat_lt, List, [], ◌∷◌, ◌++◌, length, Option, Some, None, Result, Ok, Err, if◌then◌else◌}
 use Rattle.std.specs.List.{fold}
-use Rattle.tb_text.specs.declared.TextFault.{TextFault}
 use Rattle.tb_text.specs.Lines.{lines_of}
-use Rattle.tb_text.specs.Numbers.{integer_of, dimension_of}
 use Rattle.tb_lines.specs.declared.text.Item.{Item}
 use Rattle.tb_lines.specs.declared.text.Item.TheVariants as items
 use Rattle.tb_lines.specs.declared.text.LineParams.{LineParams}
@@ -12,46 +10,37 @@ use Rattle.tb_lines.specs.declared.text.Text.{Text}
 pub use Rattle.tb_lines.specs.declared.draft.Draft.{Draft}
 pub use Rattle.tb_lines.specs.declared.contents.Content.{Content}
 use Rattle.tb_lines.specs.declared.contents.Content.TheVariants as contents
-use Rattle.tb_lines.specs.declared.LinesCause.TheVariants.{InputSize}
+use Rattle.tb_galley.specs.declared.Cause.TheVariants.{InputSize}
+use Rattle.tb_galley.specs.declared.Fault.{Fault}
+use Rattle.tb_galley.specs.Faults.{fault, first_fault}
+use Rattle.tb_galley.specs.Grammar.{field_at}
+use Rattle.tb_galley.specs.Reading.{dimension_in, integer_in}
 use Rattle.tb_lines.specs.Words.{LineWord, header, setting, par, word, space, pen, endpar, end, Line, content_at, is_full}
 use Rattle.tb_lines.specs.declared.words.Parameter.TheVariants as parameters
 use Rattle.tb_lines.specs.declared.words.Form.TheVariants as forms
 use Rattle.tb_lines.specs.Slots.{Parameter, Form, form_of, parameter_of}
-use Rattle.tb_lines.specs.Faults.{Fault, fault, faults, first_fault}
+use Rattle.tb_lines.specs.Faults.{faults}
 
 -- ---- values of fields; a field that is absent or at fault is read as nothing
 
--- the field at this place after the word, counted from 0
-abbrev pub field_at : List (List ℕ) → ℕ → List ℕ
-field_at fs n = unwrap_or (slice_get fs n) []
-
--- the value that is read, or 0 if none is
-abbrev pub read_or_zero : Result ℤ TextFault → ℤ
-read_or_zero (Ok v) = v
-read_or_zero (Err e) = pos 0
-
--- a field as a dimension
-abbrev pub dimension_in : List ℕ → ℕ
-dimension_in f = nat_abs (read_or_zero (dimension_of f))
-
--- a field as an integer
-abbrev pub integer_in : List ℕ → ℤ
-integer_in f = read_or_zero (integer_of f)
+-- a field as a dimension of at least 0
+abbrev pub size_in : List ℕ → ℕ
+size_in f = nat_abs (dimension_in f)
 
 -- a field as the value of a parameter
 abbrev pub value_in : Form → List ℕ → ℕ
-value_in (forms.Dimension low) f = dimension_in f
+value_in (forms.Dimension low) f = size_in f
 value_in (forms.Integer high) f = nat_abs (integer_in f)
 
 -- ---- what a line says
 
 -- a word of this width, height and depth
 abbrev pub word_item : List ℕ → List ℕ → List ℕ → Item
-word_item w h d = items.Word (dimension_in w) (dimension_in h) (dimension_in d)
+word_item w h d = items.Word (size_in w) (size_in h) (size_in d)
 
 -- a space of this width, stretch and shrink
 abbrev pub space_item : List ℕ → List ℕ → List ℕ → Item
-space_item w st sh = items.Space (dimension_in w) (dimension_in st) (dimension_in sh)
+space_item w st sh = items.Space (size_in w) (size_in st) (size_in sh)
 
 -- a `set` line, by its parameter; one of an unknown parameter is at fault, and counts as an end
 abbrev pub set_content : List (List ℕ) → Option Parameter → Content

@@ -1,7 +1,7 @@
 -- Worked rows: texts with their galleys.
 use Rattle.std.specs.Prelude.{◌≡◌, Ok, Err, codes}
-use Rattle.tb_lines.specs.declared.LinesCause.TheVariants.{NestedPar}
-use Rattle.tb_lines.specs.Faults.{fault}
+use Rattle.tb_galley.specs.declared.Cause.TheVariants.{NestedPar}
+use Rattle.tb_galley.specs.Faults.{fault}
 use Rattle.tb_lines.specs.Galley.{faulty, no_breaks, lines_galley}
 
 -- each text with what the definition gives

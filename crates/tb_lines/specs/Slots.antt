@@ -1,20 +1,16 @@
--- The fields after a line's word: what each must be, and what is wrong with it.
-use Rattle.std.specs.Prelude.{map, ℕ, ℤ, pos, negsuc, ◌≤ℤ◌, Bool, not, ◌||◌, ◌&&◌, nat_le, int_lt, List, [], ◌∷◌, length, Option, Some, None, Result, Ok, Err, codes, bytes_eq, if◌then◌else◌}
+-- The fields after a line's word: what each must be.
+use Rattle.std.specs.Prelude.{map, ℕ, ℤ, pos, negsuc, ◌≤ℤ◌, Bool, true, false, ◌&&◌, nat_le, List, [], ◌∷◌, length, Option, Some, None, codes, bytes_eq, if◌then◌else◌}
 use Rattle.std.specs.Borrow.{Bor}
 use Rattle.tb_node.specs.Names.{is_name}
-use Rattle.tb_text.specs.declared.TextFault.{TextFault}
-use Rattle.tb_text.specs.declared.TextFault.TheVariants as faults
-use Rattle.tb_text.specs.Numbers.{integer_of, dimension_of}
-use Rattle.tb_lines.specs.declared.LinesCause.{LinesCause}
-use Rattle.tb_lines.specs.declared.LinesCause.TheVariants as causes
+use Rattle.tb_galley.specs.declared.Cause.{Cause}
+use Rattle.tb_galley.specs.declared.Cause.TheVariants as causes
+use Rattle.tb_galley.specs.Values.{Slot, least_slot, range_slot, test_slot, size_slot}
 pub use Rattle.tb_lines.specs.declared.words.Parameter.{Parameter}
 use Rattle.tb_lines.specs.declared.words.Parameter.TheVariants as parameters
 pub use Rattle.tb_lines.specs.declared.words.Form.{Form}
 use Rattle.tb_lines.specs.declared.words.Form.TheVariants as forms
 use Rattle.tb_lines.specs.declared.words.TheConstants.{PARAMETERS}
 use Rattle.tb_lines.specs.Words.{LineWord, header, setting, par, word, space, pen, endpar, end}
-
--- ---- parameters
 
 -- a parameter and its name
 pub record Named : Type 0 where
@@ -56,49 +52,26 @@ IsForm (forms.Integer high) = high ≤ℤ pos 10000
 
 -- ---- slots
 
--- what a field must be: a paragraph's name, a parameter's name, a dimension of at least so much, an integer in a range, or the header's number
-pub data Slot : Type 0 where
-  name_slot : Slot
-  parameter_slot : Slot
-  least_slot : ℤ → LinesCause → Slot
-  range_slot : ℤ → ℤ → LinesCause → Slot
-  header_slot : Slot
-
--- a visible character of ASCII
-abbrev pub is_printable : ℕ → Bool
-is_printable b = nat_le 33 b && nat_le b 126
-
--- the cause of a field that is no number
-abbrev pub text_cause : TextFault → LinesCause
-text_cause faults.BadNumber = causes.BadNumber
-text_cause faults.BadUnit = causes.BadUnit
-text_cause faults.Dimension = causes.Dimension
-
--- the cause of a field that is read as shown; a value that fails the test has the given cause
-abbrev pub cause_of_read : (ℤ → Bool) → LinesCause → Result ℤ TextFault → Option LinesCause
-cause_of_read in_range c (Ok v) = if in_range v then None else Some c
-cause_of_read in_range c (Err e) = Some (text_cause e)
-
--- a cause unless a test holds
-abbrev pub cause_unless : Bool → LinesCause → Option LinesCause
-cause_unless ok c = if ok then None else Some c
-
--- a name that is no parameter's is unknown
-abbrev pub parameter_cause : Option Parameter → Option LinesCause
-parameter_cause None = Some causes.UnknownParameter
-parameter_cause (Some p) = None
-
 -- a name of at most 58 bytes
 abbrev pub is_par_name : List ℕ → Bool
 is_par_name f = is_name f && nat_le (length f) 58
 
--- what is wrong with a field in its slot
-abbrev pub slot_cause : Slot → List ℕ → Option LinesCause
-slot_cause name_slot f = cause_unless (is_par_name f) causes.BadName
-slot_cause parameter_slot f = parameter_cause (parameter_of f)
-slot_cause (least_slot low c) f = cause_of_read (λ v. not (int_lt v low)) c (dimension_of f)
-slot_cause (range_slot low high c) f = cause_of_read (λ v. not (int_lt v low || int_lt high v)) c (integer_of f)
-slot_cause header_slot f = cause_unless (bytes_eq f (codes "1")) causes.NoHeader
+-- a parameter has the name
+abbrev pub is_known : Option Parameter → Bool
+is_known None = false
+is_known (Some p) = true
+
+-- the name of a paragraph
+abbrev pub name_slot : Slot
+name_slot = test_slot is_par_name causes.BadName
+
+-- the name of a parameter
+abbrev pub parameter_slot : Slot
+parameter_slot = test_slot (λ f. is_known (parameter_of f)) causes.UnknownParameter
+
+-- the number of the header
+abbrev pub header_slot : Slot
+header_slot = test_slot (λ f. bytes_eq f (codes "1")) causes.NoHeader
 
 -- the slot of a value
 abbrev pub form_slot : Form → Slot
@@ -114,10 +87,6 @@ parameter_slots (Some p) = form_slot (form_of p) ∷ []
 abbrev pub set_slots : List (List ℕ) → List Slot
 set_slots [] = parameter_slot ∷ []
 set_slots (f ∷ fs) = parameter_slot ∷ parameter_slots (parameter_of f)
-
--- a dimension of at least 0
-abbrev pub size_slot : Slot
-size_slot = least_slot (pos 0) causes.Dimension
 
 -- a penalty
 abbrev pub penalty_slot : Slot
@@ -135,6 +104,6 @@ word_slots fs endpar = []
 word_slots fs end = []
 
 -- the cause if a field is absent
-abbrev pub missing_cause : LineWord → LinesCause
+abbrev pub missing_cause : LineWord → Cause
 missing_cause header = causes.NoHeader
 missing_cause _ = causes.MissingField

@@ -8,6 +8,7 @@ pub use Rattle.tb_lines.specs.declared.words.Phase.{Phase}
 pub use Rattle.tb_lines.specs.declared.words.Phase.TheVariants.{Start as at_start, Sets as among_sets, Items as among_pars, Par as in_par, Ended as ended}
 use Rattle.tb_lines.specs.declared.words.TheConstants.{WORDS}
 use Rattle.tb_text.specs.Lines.{fields_of, is_skipped}
+use Rattle.tb_galley.specs.Words.{first_field, other_fields}
 
 -- a word and its spelling
 pub record Spelled : Type 0 where
@@ -34,16 +35,6 @@ word_in (w ∷ ws) text = if bytes_eq w.text text then Some w.word else word_in 
 -- the word that a first field is
 unfoldable pub word_of : List ℕ → Option LineWord
 word_of text = word_in line_words text
-
--- the first field, or nothing
-abbrev pub first_field : List (List ℕ) → List ℕ
-first_field [] = []
-first_field (f ∷ fs) = f
-
--- the fields after the first
-abbrev pub other_fields : List (List ℕ) → List (List ℕ)
-other_fields [] = []
-other_fields (f ∷ fs) = fs
 
 -- a line with content: its first field, the word that this is, and the other fields
 pub record Line : Type 0 where

@@ -3,12 +3,13 @@ ghost use Rattle.std.specs.Prelude.{◌≡◌, true, false, IfOk};
 ghost use Rattle.tb_lines.specs.Words.{is_inner_word};
 ghost use Rattle.tb_lines.specs.Reading.{holds_item};
 ghost use Rattle.tb_lines.specs.Slots.{IsForm};
-ghost use Rattle.tb_lines.specs.FromLeft.{left_of, Gives, value_left, set_left, word_left, space_left, pen_left, content_left};
+ghost use Rattle.tb_galley.specs.Reading.{left_of, Gives};
+ghost use Rattle.tb_lines.specs.FromLeft.{value_left, set_left, word_left, space_left, pen_left, content_left};
 
-use crate::LinesCause;
-use crate::fields::{At, Fields};
+use crate::reading::{read_header, read_name, read_size};
 use crate::text::Item;
 use crate::words::{Form, Parameter, Word, form_of, parameter_of};
+use tb_galley::{At, Cause, Fields};
 use tb_node::Name;
 
 /// What a content line says.
@@ -28,9 +29,9 @@ fn read_value(form: Form, fields: &mut Fields<'_>) -> Result<u32, At>
     ensures { Gives result (left_of fields.new) (value_left form (left_of fields.old)) }
 {
     match form {
-        Form::Dimension { low } => fields.dimension_from(low, LinesCause::Parameter),
+        Form::Dimension { low } => read_size(fields, low, Cause::Parameter),
         Form::Integer { high } => {
-            let number = fields.integer_within(0, high, LinesCause::Parameter)?;
+            let number = fields.integer_within(0, high, Cause::Parameter)?;
             Ok(number as u32)
         }
     }
@@ -43,10 +44,7 @@ fn read_set(fields: &mut Fields<'_>) -> Result<Content, At>
 {
     let number = fields.number;
     let Some(parameter) = parameter_of(fields.next()?) else {
-        return Err(At {
-            field: number,
-            cause: LinesCause::UnknownParameter,
-        });
+        return Err(At::new(number, Cause::UnknownParameter));
     };
     let value = read_value(form_of(parameter), fields)?;
     Ok(Content::Set { parameter, value })
@@ -56,9 +54,9 @@ fn read_set(fields: &mut Fields<'_>) -> Result<Content, At>
 fn read_word(fields: &mut Fields<'_>) -> Result<Item, At>
     ensures { Gives result (left_of fields.new) (word_left (left_of fields.old)) }
 {
-    let width = fields.dimension_from(0, LinesCause::Dimension)?;
-    let height = fields.dimension_from(0, LinesCause::Dimension)?;
-    let depth = fields.dimension_from(0, LinesCause::Dimension)?;
+    let width = read_size(fields, 0, Cause::Dimension)?;
+    let height = read_size(fields, 0, Cause::Dimension)?;
+    let depth = read_size(fields, 0, Cause::Dimension)?;
     Ok(Item::Word {
         width,
         height,
@@ -70,9 +68,9 @@ fn read_word(fields: &mut Fields<'_>) -> Result<Item, At>
 fn read_space(fields: &mut Fields<'_>) -> Result<Item, At>
     ensures { Gives result (left_of fields.new) (space_left (left_of fields.old)) }
 {
-    let width = fields.dimension_from(0, LinesCause::Dimension)?;
-    let stretch = fields.dimension_from(0, LinesCause::Dimension)?;
-    let shrink = fields.dimension_from(0, LinesCause::Dimension)?;
+    let width = read_size(fields, 0, Cause::Dimension)?;
+    let stretch = read_size(fields, 0, Cause::Dimension)?;
+    let shrink = read_size(fields, 0, Cause::Dimension)?;
     Ok(Item::Space {
         width,
         stretch,
@@ -84,7 +82,7 @@ fn read_space(fields: &mut Fields<'_>) -> Result<Item, At>
 fn read_pen(fields: &mut Fields<'_>) -> Result<Item, At>
     ensures { Gives result (left_of fields.new) (pen_left (left_of fields.old)) }
 {
-    let penalty = fields.integer_within(-10_000, 10_000, LinesCause::Penalty)?;
+    let penalty = fields.integer_within(-10_000, 10_000, Cause::Penalty)?;
     Ok(Item::Penalty(penalty as i16))
 }
 
@@ -96,11 +94,11 @@ pub fn read_content(word: Word, fields: &mut Fields<'_>) -> Result<Content, At>
 {
     match word {
         Word::Lines => {
-            fields.header()?;
+            read_header(fields)?;
             Ok(Content::Header)
         }
         Word::Setting => read_set(fields),
-        Word::Par => Ok(Content::Par(fields.name()?)),
+        Word::Par => Ok(Content::Par(read_name(fields)?)),
         Word::Word => Ok(Content::Item(read_word(fields)?)),
         Word::Space => Ok(Content::Item(read_space(fields)?)),
         Word::Pen => Ok(Content::Item(read_pen(fields)?)),

@@ -9,7 +9,6 @@ mod contents;
 mod demerits;
 mod draft;
 mod entries;
-mod fields;
 mod galley;
 mod laws;
 mod reader;
@@ -27,58 +26,10 @@ pub use breaking::{Solution, break_par};
 pub use galley::lines_galley;
 pub use laws::{check_lines, galleys_are_accepted, solutions_are_least};
 pub use reader::read_lines;
-pub use refusal_text::{cause_text, is_range_cause, put_refusal};
+pub use refusal_text::put_refusal;
+pub use tb_galley::{Cause as LinesCause, cause_text, is_range_cause};
 pub use text::{Item, Items, LineParams, Paragraph, Paragraphs, Text};
 pub use writing::line_text;
-
-/// What is wrong with a text. If several things are wrong at one field, the earlier one of these is its fault.
-#[derive(Clone, Copy, Debug, PartialEq, Eq)]
-pub enum LinesCause {
-    /// The text has more than 8388608 bytes.
-    InputSize,
-    /// The line has more than 255 bytes, its end not counted.
-    LineLength,
-    /// The field has a byte that is neither a blank nor a visible character of ASCII.
-    NotAscii,
-    /// The first line with content is not `lines 1`, or there is none.
-    NoHeader,
-    /// A line with content comes after `end`.
-    AfterEnd,
-    /// The field is none of the words that may come there.
-    UnknownWord,
-    /// `set` comes after a paragraph.
-    SetAfterItem,
-    /// `par` comes in a paragraph.
-    NestedPar,
-    /// `set` comes in a paragraph, or `word`, `space` or `pen` outside one.
-    NotInPar,
-    /// `endpar` comes outside a paragraph.
-    StrayEndpar,
-    /// `end` or the end of the text comes in a paragraph.
-    UnclosedPar,
-    /// It is the 25001st line of the words `par`, `word`, `space` and `pen`, or a paragraph's 5001st item.
-    Items,
-    /// The field is needed and is absent.
-    MissingField,
-    /// It is the first field too many.
-    ExtraField,
-    /// No parameter has this name.
-    UnknownParameter,
-    /// The field is no number.
-    BadNumber,
-    /// The number has no unit that may come there.
-    BadUnit,
-    /// The field is no name of at most 58 bytes.
-    BadName,
-    /// The dimension is greater than the greatest dimension, or below 0.
-    Dimension,
-    /// The penalty is not from -10000 to 10000.
-    Penalty,
-    /// The value is out of the parameter's range.
-    Parameter,
-    /// The text ends without `end`, outside a paragraph.
-    NoEnd,
-}
 
 /// Why a text was not read.
 #[derive(Drop)]

@@ -2,53 +2,29 @@
 ghost use Rattle.std.specs.Prelude.{◌≡◌, ◌<◌, ◌≤◌, ◌+◌, length, OnOk, IfOk, IfSome, Option, None};
 ghost use Rattle.std.specs.List.{fold, list_all};
 ghost use Rattle.tb_lines.specs.Words.{word_of};
-ghost use Rattle.tb_lines.specs.Slots.{is_printable};
-ghost use Rattle.tb_text.specs.Lines.{begins_with, lines_of};
-ghost use Rattle.tb_lines.specs.Faults.{first_of, end_causes};
+ghost use Rattle.tb_text.specs.Lines.{lines_of};
+ghost use Rattle.tb_galley.specs.Faults.{is_printable};
+ghost use Rattle.tb_galley.specs.Line.{first_of};
+ghost use Rattle.tb_lines.specs.Faults.{end_causes};
 ghost use Rattle.tb_lines.specs.Reading.{reading, HasRoom, inside_in};
 ghost use Rattle.tb_lines.specs.Line.{said_by, line_left};
 ghost use Rattle.tb_lines.specs.ValidText.{IsValidText};
 ghost use Rattle.tb_lines.specs.Machine.{start, take_said, verdict, Answers};
 
+use crate::LinesFault;
 use crate::contents::{Content, read_content};
 use crate::draft::Draft;
-use crate::fields::{At, Fields};
-use crate::reading::is_printable;
 use crate::text::Text;
 use crate::words::{
     Phase, Word, count_with, item_cause, missing_cause, next_phase, place_cause, word_of,
 };
-use crate::{LinesCause, LinesFault};
 use std::alloc::{AllocError, Global};
+use tb_galley::{At, Cause, Fault, Fields, begins_comment, is_printable};
 use tb_text::{split_field, split_line};
 
-const INPUT_LIMIT: usize = 8_388_608;
+const INPUT_LIMIT: usize = tb_galley::INPUT_LIMIT as usize;
 
 const MAX_LINE: usize = 255;
-
-/// A fault of a text, with its line and field. What is wrong with a line as a whole is at its field 0; what is wrong
-/// with a whole text is at field 0 of the line after its last, and `InputSize` at line 0.
-#[derive(Clone, Copy)]
-pub struct Fault {
-    pub line: u32,
-    pub field: u32,
-    pub cause: LinesCause,
-}
-
-fn at(field: u32, cause: LinesCause) -> At
-    ensures { result ≡ record { field = field; cause = cause } }
-{
-    At { field, cause }
-}
-
-fn begins_comment(field: &[u8]) -> bool
-    ensures { result ≡ begins_with 35 field.now }
-{
-    match field {
-        [first, ..] => *first == b'#',
-        [] => false,
-    }
-}
 
 // Whether a first field has visible characters only, by the word that it is: the known words have no others.
 fn is_visible(head: &[u8], word: Option<Word>) -> bool
@@ -73,7 +49,7 @@ fn read_line(
     ensures room { IfOk result (λ o. IfSome o (λ w. HasRoom inside w.1)) }
 {
     if line.len() > MAX_LINE {
-        return Err(at(0, LinesCause::LineLength));
+        return Err(At::new(0, Cause::LineLength));
     }
     let Some((head, rest)) = split_field(line) else {
         return Ok(None);
@@ -83,16 +59,16 @@ fn read_line(
     }
     let word = word_of(head);
     if !is_visible(head, word) {
-        return Err(at(1, LinesCause::NotAscii));
+        return Err(At::new(1, Cause::NotAscii));
     }
     if let Some(cause) = place_cause(phase, word) {
-        return Err(at(1, cause));
+        return Err(At::new(1, cause));
     }
     let Some(word) = word else {
         return Ok(None);
     };
     if let Some(cause) = item_cause(count, inside, word) {
-        return Err(at(1, cause));
+        return Err(At::new(1, cause));
     }
     let mut fields = Fields {
         rest,
@@ -190,13 +166,13 @@ impl Reader {
     }
 }
 
-fn end_cause(phase: Phase) -> Option<LinesCause>
+fn end_cause(phase: Phase) -> Option<Cause>
     ensures { result ≡ first_of (end_causes phase) }
 {
     match phase {
-        Phase::Start => Some(LinesCause::NoHeader),
-        Phase::Sets | Phase::Items => Some(LinesCause::NoEnd),
-        Phase::Par => Some(LinesCause::UnclosedPar),
+        Phase::Start => Some(Cause::NoHeader),
+        Phase::Sets | Phase::Items => Some(Cause::NoEnd),
+        Phase::Par => Some(Cause::UnclosedPar),
         Phase::Ended => None,
     }
 }
@@ -224,7 +200,7 @@ fn read_text(alloc: Global, bytes: &[u8]) -> Result<Result<Text, Fault>, AllocEr
         return Ok(Err(Fault {
             line: 0,
             field: 0,
-            cause: LinesCause::InputSize,
+            cause: Cause::InputSize,
         }));
     }
     let reader = read_all(alloc, bytes)?;
@@ -232,7 +208,7 @@ fn read_text(alloc: Global, bytes: &[u8]) -> Result<Result<Text, Fault>, AllocEr
 }
 
 /// Reads a text. `At` comes exactly if it has a fault, with the first one: that of the earliest line, in it of the earliest
-/// field, and there of the cause that is first in [`LinesCause`]. A text
+/// field, and there of the cause that is first in [`Cause`]. A text
 /// that is given has all its values in their ranges.
 pub fn read_lines(alloc: Global, bytes: &[u8]) -> Result<Text, LinesFault>
     ensures grammar { Answers result (reading bytes.now) }

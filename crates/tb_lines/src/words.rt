@@ -2,9 +2,10 @@
 ghost use Rattle.std.specs.Prelude.{◌≡◌, ◌<◌, ◌+◌, map, false, true, IsNone, Option};
 ghost use Rattle.tb_lines.specs.Words.{word_in, word_of, spelled_words, counts_word, is_inner_word, later_phase, next_phase, count_with, is_full};
 ghost use Rattle.tb_lines.specs.Slots.{parameter_in, parameter_of, spelled_parameters, form_of, missing_cause};
-ghost use Rattle.tb_lines.specs.Faults.{first_of, place_causes, item_causes};
+ghost use Rattle.tb_galley.specs.Line.{first_of};
+ghost use Rattle.tb_lines.specs.Faults.{place_causes, item_causes};
 
-use crate::LinesCause;
+use tb_galley::Cause;
 
 /// A word that begins a line.
 #[derive(Clone, Copy)]
@@ -141,17 +142,17 @@ fn is_inner(word: Word) -> bool
 }
 
 /// The cause of a refusal if a field after this word is missing.
-pub fn missing_cause(word: Word) -> LinesCause
+pub fn missing_cause(word: Word) -> Cause
     ensures { result ≡ missing_cause word }
 {
     match word {
-        Word::Lines => LinesCause::NoHeader,
-        _ => LinesCause::MissingField,
+        Word::Lines => Cause::NoHeader,
+        _ => Cause::MissingField,
     }
 }
 
 /// Why the word may not come in this phase.
-pub fn place_cause(phase: Phase, word: Option<Word>) -> Option<LinesCause>
+pub fn place_cause(phase: Phase, word: Option<Word>) -> Option<Cause>
     ensures { result ≡ first_of (place_causes phase word) }
 {
     match phase {
@@ -159,50 +160,50 @@ pub fn place_cause(phase: Phase, word: Option<Word>) -> Option<LinesCause>
         Phase::Sets => sets_cause(word),
         Phase::Items => items_cause(word),
         Phase::Par => par_cause(word),
-        Phase::Ended => Some(LinesCause::AfterEnd),
+        Phase::Ended => Some(Cause::AfterEnd),
     }
 }
 
-fn start_cause(word: Option<Word>) -> Option<LinesCause>
+fn start_cause(word: Option<Word>) -> Option<Cause>
     ensures { result ≡ first_of (place_causes Phase.Start word) }
 {
     match word {
         Some(Word::Lines) => None,
-        _ => Some(LinesCause::NoHeader),
+        _ => Some(Cause::NoHeader),
     }
 }
 
-fn sets_cause(word: Option<Word>) -> Option<LinesCause>
+fn sets_cause(word: Option<Word>) -> Option<Cause>
     ensures { result ≡ first_of (place_causes Phase.Sets word) }
 {
     match word {
-        None | Some(Word::Lines) => Some(LinesCause::UnknownWord),
+        None | Some(Word::Lines) => Some(Cause::UnknownWord),
         Some(Word::Setting | Word::Par | Word::End) => None,
-        Some(Word::Endpar) => Some(LinesCause::StrayEndpar),
-        Some(_) => Some(LinesCause::NotInPar),
+        Some(Word::Endpar) => Some(Cause::StrayEndpar),
+        Some(_) => Some(Cause::NotInPar),
     }
 }
 
-fn items_cause(word: Option<Word>) -> Option<LinesCause>
+fn items_cause(word: Option<Word>) -> Option<Cause>
     ensures { result ≡ first_of (place_causes Phase.Items word) }
 {
     match word {
-        None | Some(Word::Lines) => Some(LinesCause::UnknownWord),
-        Some(Word::Setting) => Some(LinesCause::SetAfterItem),
+        None | Some(Word::Lines) => Some(Cause::UnknownWord),
+        Some(Word::Setting) => Some(Cause::SetAfterItem),
         Some(Word::Par | Word::End) => None,
-        Some(Word::Endpar) => Some(LinesCause::StrayEndpar),
-        Some(_) => Some(LinesCause::NotInPar),
+        Some(Word::Endpar) => Some(Cause::StrayEndpar),
+        Some(_) => Some(Cause::NotInPar),
     }
 }
 
-fn par_cause(word: Option<Word>) -> Option<LinesCause>
+fn par_cause(word: Option<Word>) -> Option<Cause>
     ensures { result ≡ first_of (place_causes Phase.Par word) }
 {
     match word {
-        None | Some(Word::Lines) => Some(LinesCause::UnknownWord),
-        Some(Word::Setting) => Some(LinesCause::NotInPar),
-        Some(Word::Par) => Some(LinesCause::NestedPar),
-        Some(Word::End) => Some(LinesCause::UnclosedPar),
+        None | Some(Word::Lines) => Some(Cause::UnknownWord),
+        Some(Word::Setting) => Some(Cause::NotInPar),
+        Some(Word::Par) => Some(Cause::NestedPar),
+        Some(Word::End) => Some(Cause::UnclosedPar),
         Some(_) => None,
     }
 }
@@ -221,12 +222,12 @@ fn is_full(inside: Option<usize>) -> bool
 }
 
 /// Whether the line is one too many, after this many lines that count, and this many items of the open paragraph.
-pub fn item_cause(count: u32, inside: Option<usize>, word: Word) -> Option<LinesCause>
+pub fn item_cause(count: u32, inside: Option<usize>, word: Word) -> Option<Cause>
     ensures value { result ≡ first_of (item_causes count inside (Option.Some word)) }
     ensures room { IsNone result → is_inner_word word ≡ true → is_full inside ≡ false }
 {
     if (counts(word) && count >= MAX_ITEMS) || (is_inner(word) && is_full(inside)) {
-        Some(LinesCause::Items)
+        Some(Cause::Items)
     } else {
         None
     }

@@ -1,5 +1,5 @@
 use Rattle.std.proofs.Common.{◌∙◌, sym}
-use Rattle.tb_lines.proofs.VisibleFields.{word_visible}
+use Rattle.tb_lines.proofs.VisibleWords.{word_visible}
 use Rattle.tb_lines.proofs.reader.is_visible.Goals as goal
 
 pub returns-in-Some : goal.returns-in-Some

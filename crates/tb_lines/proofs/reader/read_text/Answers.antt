@@ -1,8 +1,8 @@
 use Rattle.std.proofs.Common.{◌≡◌, ◌∙◌, ap, sym, true, false, nat_lt, length, Err, if◌then◌else◌, arith, rules}
 use Rattle.std.proofs.lemmas.Bool.Decides.{nat_tests}
 use Rattle.tb_text.specs.Lines.{lines_of}
-use Rattle.tb_lines.specs.declared.LinesCause.TheVariants.{InputSize}
-use Rattle.tb_lines.specs.Faults.{fault}
+use Rattle.tb_galley.specs.declared.Cause.TheVariants.{InputSize}
+use Rattle.tb_galley.specs.Faults.{fault}
 use Rattle.tb_lines.specs.Reading.{reading, spelled_text}
 use Rattle.tb_lines.specs.Machine.{verdict}
 use Rattle.tb_lines.proofs.SameStep.{left_exact}

@@ -9,4 +9,4 @@ returns-in-Some-name_of c =
 
 pub returns-in-None : goal.returns-in-None
 returns-in-None c =
-    no_name (left_of c.args.self.now) c.in-Some.field.now (fields_of c.in-Some.rest.now) c.in-Some.ensures.fields c.in-None.ensures c.no_name_cause.result c.no_name_cause.ensures
+    no_name (left_of c.args.self.now) c.in-Some.field.now (fields_of c.in-Some.rest.now) c.in-Some.ensures.fields c.in-None.ensures c.cause_in.result c.cause_in.ensures

@@ -1,12 +1,11 @@
--- A field that is read as a dimension, and one that is a line's word, has visible characters only.
-use Rattle.std.proofs.Common.{Some, ◌≡◌, refl, sym, subst, ℕ, suc, ◌+◌, ℤ, Bool, true, false, not, ◌&&◌, ◌||◌, ◌==◌, List, [], ◌∷◌, drop, codes, bytes_eq, Ok, Err, if◌then◌else◌, arith}
+-- A field that is read as a dimension has printable bytes only.
+use Rattle.std.proofs.Common.{◌≡◌, refl, sym, subst, ℕ, suc, ◌+◌, ℤ, Bool, true, false, not, ◌&&◌, ◌||◌, ◌==◌, List, [], ◌∷◌, drop, codes, bytes_eq, Ok, Err, if◌then◌else◌, arith}
 use Rattle.std.specs.List.{list_all, prefix_len}
 use Rattle.std.proofs.lemmas.Slice.Eq.{bytes_eq-Decides}
 use Rattle.std.proofs.lemmas.Bool.Decides.{nat_tests}
 use Rattle.tb_text.specs.declared.TextFault.TheVariants.{BadNumber, BadUnit}
 use Rattle.tb_text.specs.Numbers.{is_digit, NumberPart, digits_at, past_digits, after_whole, unsigned_part, number_part, has_no_digit, has_unit, within_dimen, in_points, whole_of, dimension_by, dimension_of}
-use Rattle.tb_lines.specs.Words.{LineWord, Spelled, line_words, word_in, word_of}
-use Rattle.tb_lines.specs.Slots.{is_printable}
+use Rattle.tb_galley.specs.Faults.{is_printable}
 
 abbrev are_visible : List ℕ → Bool
 are_visible bs = list_all is_printable bs
@@ -78,19 +77,3 @@ unit_visible n v h = by_tests (has_no_digit n) (has_unit n (codes "pt")) (not n.
 
 pub dimension_visible : (f : List ℕ) (v : ℤ) → dimension_of f ≡ Ok v → are_visible f ≡ true
 dimension_visible f v h = number_visible f (unit_visible (number_part f) v h)
-
--- ---- words
-
-visible_words : (ws : List Spelled) → list_all (λ (s : Spelled). are_visible s.text) ws ≡ true → (text : List ℕ) (w : LineWord) → word_in ws text ≡ Some w → are_visible text ≡ true
-visible_words [] v text w h = absurd (cc)
-visible_words (s ∷ ws) v text w h =
-    let parts : (are_visible s.text ≡ true) × (list_all (λ (r : Spelled). are_visible r.text) ws ≡ true) = halves (are_visible s.text) (list_all (λ (r : Spelled). are_visible r.text) ws) v in
-    by_test (λ g. visible_words ws parts.1 text w g) parts.0 (bytes_eq s.text text) refl h
-  where
-    by_test : (word_in ws text ≡ Some w → are_visible text ≡ true) → are_visible s.text ≡ true → (t : Bool) → bytes_eq s.text text ≡ t → (if t then Some s.word else word_in ws text) ≡ Some w → are_visible text ≡ true
-    by_test rest here true e h = let same : s.text ≡ text = (bytes_eq-Decides s.text text).0 e in subst (λ xs. are_visible xs ≡ true) same here
-    by_test rest here false e h = rest h
-
-pub word_visible : (text : List ℕ) (w : LineWord) → word_of text ≡ Some w → are_visible text ≡ true
-unfolding word_of
-word_visible text w h = visible_words line_words refl text w h
