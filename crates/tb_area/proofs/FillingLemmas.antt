@@ -2,6 +2,7 @@
 use Rattle.std.proofs.Common.{◌≡◌, ◌≢◌, ℕ, zero, suc, ◌+◌, ◌<◌, ◌≤◌, Bool, true, false, List, [], ◌∷◌, ◌++◌, length, take, drop, Some, slice_get, refl, sym, ap, subst, ◌∙◌, arith}
 use Rattle.std.specs.Prelude.{if◌then◌else◌, All}
 use Rattle.std.proofs.Math.ListN.{drop_of_length-le}
+use Rattle.std.proofs.Math.Seq.{take-length}
 use Rattle.std.proofs.lemmas.List.{length-append, length-take-le}
 use Rattle.std.proofs.lemmas.Option.{slice_get_within, get_or_from_slice_get}
 use Rattle.tb_node.specs.declared.Float.{Float}
@@ -11,8 +12,8 @@ use Rattle.tb_param.specs.declared.params.Params.{Params}
 use Rattle.tb_float.specs.declared.Part.{Part}
 use Rattle.tb_float.specs.declared.Part.TheVariants as parts
 use Rattle.tb_float.specs.declared.Suppress.{Suppress}
-use Rattle.tb_float.specs.Classes.{AreClassesOf}
-use Rattle.tb_float.specs.Lists.{FloatLists, floats_of, without_place, IsWaiting}
+use Rattle.tb_float.specs.Classes.{AreClassesOf, AreOfClasses, HasLeft}
+use Rattle.tb_float.specs.Lists.{FloatLists, floats_of, has_class, without_place, IsWaiting}
 use Rattle.tb_float.specs.Pool.{FloatPool, HasNoMarks, moved_float}
 use Rattle.tb_float.specs.Ranges.{IsSizedFloat, IsExtent}
 use Rattle.tb_float.proofs.ListLemmas.{slice_get-drop, without_place-parts, length-without_place, take-at, whole-at, take-front, drop-front}
@@ -21,16 +22,18 @@ use Rattle.tb_area.specs.Area.{AreaPlace, at_top, at_bottom, deferred, where_of,
 use Rattle.tb_area.specs.Filling.{gone_to, still_before, filled, gone_double, still_single, doubled}
 use Rattle.tb_area.specs.Kept.{IsOnWay}
 use Rattle.tb_area.proofs.OrderLemmas.{gone-deferred, gone_double-waiting}
+use Rattle.tb_area.proofs.FullLemmas.{has-there, left-without, all-classes, walk-closed, entry-closed, double-closed}
 
 abbrev Walk : Type 0
 Walk = List Float → List Float → FloatLists → FloatLists
 
 -- ---- start and end
 
-pub way-start : (from : Part) (walk : Walk) (w : Kept) (l : FloatLists) → w.count ≡ 0 → AreClassesOf w.classes [] → IsOnWay from walk w l (walk [] (floats_of from l) l)
-way-start from walk w l none classes = record {
+pub way-start : (from : Part) (walk : Walk) (w : Kept) (l : FloatLists) → w.count ≡ 0 → AreClassesOf w.classes [] → HasLeft w.classes (floats_of from l) → IsOnWay from walk w l (walk [] (floats_of from l) l)
+way-start from walk w l none classes left = record {
   within = omega (arith, none);
   classes = subst (λ n. AreClassesOf w.classes (take n (floats_of from l))) (sym none) classes;
+  left = left;
   ends = ap (λ n. walk (take n (floats_of from l)) (drop n (floats_of from l)) l) none;
 }
 
@@ -42,17 +45,34 @@ way-over from walk w l end stops over way =
 
 -- ---- the next float stays
 
-pub way-stays : (from : Part) (walk : Walk) (w v : Kept) (l end : FloatLists) (f : Float) → v.count ≡ w.count + 1 → slice_get (floats_of from l) w.count ≡ Some f → ((before : List Float) → AreClassesOf w.classes before → AreClassesOf v.classes (before ++ f ∷ [])) → ((before rest : List Float) → AreClassesOf w.classes before → walk before (f ∷ rest) l ≡ walk (before ++ f ∷ []) rest l) → IsOnWay from walk w l end → IsOnWay from walk v l end
-way-stays from walk w v l end f more there classes stays way =
+pub way-stays : (from : Part) (walk : Walk) (w v : Kept) (l end : FloatLists) (f : Float) → v.count ≡ w.count + 1 → slice_get (floats_of from l) w.count ≡ Some f → ((before : List Float) → AreClassesOf w.classes before → AreClassesOf v.classes (before ++ f ∷ [])) → ((all : List Float) → has_class f.class all ≡ true → HasLeft w.classes all → HasLeft v.classes all) → ((before rest : List Float) → AreClassesOf w.classes before → walk before (f ∷ rest) l ≡ walk (before ++ f ∷ []) rest l) → IsOnWay from walk w l end → IsOnWay from walk v l end
+way-stays from walk w v l end f more there classes left stays way =
     let fs = floats_of from l in
     let k = w.count in
     let at : v.count ≡ suc k = omega (arith, more) in
     record {
       within = omega (arith, more, slice_get_within fs k f there);
       classes = subst (AreClassesOf v.classes) (sym (ap (λ n. take n fs) at ∙ take-at fs k f there)) (classes (take k fs) way.classes);
+      left = left fs (has-there fs k f there) way.left;
       ends =
           ap (λ n. walk (take n fs) (drop n fs) l) at ∙ ap (λ b. walk b (drop (suc k) fs) l) (take-at fs k f there) ∙ sym (stays (take k fs) (drop (suc k) fs) way.classes)
           ∙ ap (λ left. walk (take k fs) left l) (sym (slice_get-drop k fs f there)) ∙ way.ends;
+    }
+
+-- ---- all others stay
+
+-- where each float is of the class of one that stays, and one of such a class always stays, all others stay
+way-full : (from : Part) (walk : Walk) (w v : Kept) (l end : FloatLists) → v.count ≡ length (floats_of from l) → v.classes ≡ w.classes → AreOfClasses (take w.count (floats_of from l)) (floats_of from l) → ((before rest : List Float) (f : Float) → has_class f.class before ≡ true → walk before (f ∷ rest) l ≡ walk (before ++ f ∷ []) rest l) → IsOnWay from walk w l end → IsOnWay from walk v l end
+way-full from walk w v l end all same full stays way =
+    let fs = floats_of from l in
+    let taken : take v.count fs ≡ fs = ap (λ n. take n fs) all ∙ take-length fs in
+    record {
+      within = omega (arith, all);
+      classes = subst (λ s. AreClassesOf s (take v.count fs)) (sym same) (subst (AreClassesOf w.classes) (sym taken) (all-classes w.classes w.count fs way.classes full));
+      left = subst (λ s. HasLeft s fs) (sym same) way.left;
+      ends =
+          ap (λ b. walk b (drop v.count fs) l) taken ∙ ap (λ left. walk fs left l) (drop_of_length-le fs (omega (arith, all)))
+          ∙ sym (walk-closed walk l w.count fs stays full) ∙ way.ends;
     }
 
 -- ---- the next float goes
@@ -67,6 +87,7 @@ way-goes from walk w l m end f there are goes way =
     record {
       within = omega (arith, ap length are, length-append (take k fs) rest, length-take-le k fs way.within);
       classes = subst (AreClassesOf w.classes) (sym front) way.classes;
+      left = subst (HasLeft w.classes) (sym are) (left-without w.classes k fs way.left);
       ends = ap (λ b. walk b (drop k (floats_of from m)) m) front ∙ ap (λ left. walk (take k fs) left m) back ∙ sym goes ∙ ap (λ left. walk (take k fs) left l) (sym (slice_get-drop k fs f there)) ∙ way.ends;
     }
 
@@ -94,6 +115,10 @@ is_deferred deferred e = refl
 -- a float that has no place stays
 pub area-stays : (p : Params) (s : Suppress) (l : FloatLists) (f : Float) (before rest : List Float) → Deferred ≡ next_place p l s before f → filled p s before (f ∷ rest) l ≡ filled p s (before ++ f ∷ []) rest l
 area-stays p s l f before rest e = ap (λ a. filled p s (still_before a f before) rest (gone_to a f before rest l)) (is_deferred (next_area_place p l s before f) e)
+
+pub area-full : (p : Params) (s : Suppress) (w v : Kept) (l end : FloatLists) → v.count ≡ length l.deferred → v.classes ≡ w.classes → AreOfClasses (take w.count l.deferred) l.deferred → IsOnWay parts.Deferred (filled p s) w l end → IsOnWay parts.Deferred (filled p s) v l end
+area-full p s w v l end all same full way =
+    way-full parts.Deferred (filled p s) w v l end all same full (λ before rest f has. area-stays p s l f before rest (entry-closed p s l f before has)) way
 
 pub area-goes : (p : Params) (s : Suppress) (w : Kept) (l m end : FloatLists) (f : Float) (a : AreaPlace) → ((before : List Float) → still_before a f before ≡ before) → slice_get l.deferred w.count ≡ Some f → next_area_place p l s (take w.count l.deferred) f ≡ a → m ≡ gone_to a f (take w.count l.deferred) (drop (suc w.count) l.deferred) l → IsOnWay parts.Deferred (filled p s) w l end → IsOnWay parts.Deferred (filled p s) w m end
 area-goes p s w l m end f a still there decided moved way =
@@ -168,6 +193,10 @@ is_single false e = refl
 
 pub double-stays : (from : Part) (p : Params) (s : Suppress) (l : FloatLists) (f : Float) (before rest : List Float) → Deferred ≡ double_place p l s before f → doubled from p s before (f ∷ rest) l ≡ doubled from p s (before ++ f ∷ []) rest l
 double-stays from p s l f before rest e = ap (λ b. doubled from p s (still_single b f before) rest (gone_double from b f before rest l)) (is_single (goes_double p l s before f) e)
+
+pub double-full : (from : Part) (p : Params) (s : Suppress) (w v : Kept) (l end : FloatLists) → v.count ≡ length (floats_of from l) → v.classes ≡ w.classes → AreOfClasses (take w.count (floats_of from l)) (floats_of from l) → IsOnWay from (doubled from p s) w l end → IsOnWay from (doubled from p s) v l end
+double-full from p s w v l end all same full way =
+    way-full from (doubled from p s) w v l end all same full (λ before rest f has. double-stays from p s l f before rest (double-closed p s l f before has)) way
 
 pub double-goes : (from : Part) → IsWaiting from → (p : Params) (s : Suppress) (w : Kept) (l m end : FloatLists) (f : Float) → slice_get (floats_of from l) w.count ≡ Some f → goes_double p l s (take w.count (floats_of from l)) f ≡ true → m ≡ gone_double from true f (take w.count (floats_of from l)) (drop (suc w.count) (floats_of from l)) l → IsOnWay from (doubled from p s) w l end → IsOnWay from (doubled from p s) w m end
 double-goes from waits p s w l m end f there decided moved way =

@@ -3,3 +3,4 @@ pub mod ChoiceLemmas
 pub mod LawLemmas
 pub mod FillingLemmas
 pub mod OrderLemmas
+pub mod FullLemmas

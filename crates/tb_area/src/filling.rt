@@ -1,10 +1,11 @@
 //! The floats that wait go to the next column, or above both columns of the next page: one walk over their list, which
-//! reads until a float has a place, moves it, and goes on behind those that stay.
-ghost use Rattle.std.specs.Prelude.{ℕ, ◌≡◌, ◌≢◌, ◌<◌, ◌≤◌, ◌+◌, [], ◌∷◌, ◌++◌, List, length, take, slice_get, Some};
+//! reads until a float has a place, moves it, and goes on behind those that stay. It ends where floats of all classes
+//! stay, since no later one can go then.
+ghost use Rattle.std.specs.Prelude.{ℕ, ◌≡◌, ◌≢◌, ◌<◌, ◌≤◌, ◌+◌, [], ◌∷◌, ◌++◌, List, length, take, slice_get, Some, true};
 ghost use Rattle.tb_node.specs.declared.Float.{Float as PlainFloat};
 ghost use Rattle.tb_float.specs.declared.Suppress.{Suppress};
-ghost use Rattle.tb_float.specs.Classes.{AreClassesOf};
-ghost use Rattle.tb_float.specs.Lists.{FloatLists, IsWaiting, floats_of};
+ghost use Rattle.tb_float.specs.Classes.{AreClassesOf, HasLeft};
+ghost use Rattle.tb_float.specs.Lists.{FloatLists, IsWaiting, floats_of, has_class};
 ghost use Rattle.tb_float.specs.Pool.{HasNoMarks};
 ghost use Rattle.tb_float.specs.Ranges.{AreFloatParams, IsExtent};
 ghost use Rattle.tb_area.specs.Area.{next_place, double_place};
@@ -28,13 +29,14 @@ struct Kept {
 
 impl Kept {
     // No float was tried yet.
-    fn none() -> Kept
+    fn none(pool: &Pool) -> Kept
         ensures count { result.count ≡ 0 }
         ensures classes { AreClassesOf result.classes [] }
+        ensures left { (p : Part) → HasLeft result.classes (floats_of p pool.now.lists) }
     {
         Kept {
             count: 0,
-            classes: ClassSet::none(),
+            classes: pool.no_classes(),
         }
     }
 
@@ -43,6 +45,7 @@ impl Kept {
         requires { self.old.count < 4096 }
         ensures count { self.new.count ≡ self.old.count + 1 }
         ensures classes { (before : List PlainFloat) → AreClassesOf self.old.classes before → AreClassesOf self.new.classes (before ++ f.now ∷ []) }
+        ensures left { (all : List PlainFloat) → has_class f.now.class all ≡ true → HasLeft self.old.classes all → HasLeft self.new.classes all }
     {
         self.classes.add(f.class);
         self.count += 1;
@@ -59,7 +62,7 @@ pub fn fill_column(pool: &mut Pool, p: &Params, s: &Suppress)
     ensures size { pool.new.size ≡ pool.old.size }
     ensures unmarked { HasNoMarks pool.old → HasNoMarks pool.new }
 {
-    let mut kept = Kept::none();
+    let mut kept = Kept::none(pool);
     for _turn in 0..pool.len(Part::Deferred) {
         match next_moved(pool, p, s, &mut kept) {
             Where::Top => pool.move_to(Part::Deferred, kept.count, Part::Top),
@@ -82,6 +85,10 @@ fn next_moved(pool: &Pool, p: &Params, s: &Suppress, kept: &mut Kept) -> Where
         return Where::Deferred;
     }
     for entry in pool.entries_from(Part::Deferred, kept.count) {
+        if kept.classes.is_full() {
+            kept.count = pool.len(Part::Deferred);
+            return Where::Deferred;
+        }
         let f = float_in(entry);
         match place_behind(pool, p, s, kept, f) {
             Where::Deferred => kept.keep(f),
@@ -115,7 +122,7 @@ pub fn fill_double(pool: &mut Pool, p: &Params, from: Part)
     ensures size { pool.new.size ≡ pool.old.size }
     ensures unmarked { HasNoMarks pool.old → HasNoMarks pool.new }
 {
-    let mut kept = Kept::none();
+    let mut kept = Kept::none(pool);
     for _turn in 0..pool.len(from) {
         match next_double(pool, p, from, &mut kept) {
             Where::Double => pool.move_to(from, kept.count, Part::Double),
@@ -138,6 +145,10 @@ fn next_double(pool: &Pool, p: &Params, from: Part, kept: &mut Kept) -> Where
         return Where::Deferred;
     }
     for entry in pool.entries_from(from, kept.count) {
+        if kept.classes.is_full() {
+            kept.count = pool.len(from);
+            return Where::Deferred;
+        }
         let f = float_in(entry);
         match double_behind(pool, p, kept, f) {
             Where::Deferred => kept.keep(f),

@@ -1,11 +1,12 @@
 -- A set of classes through a walk.
-use Rattle.std.proofs.Common.{◌≡◌, ◌≢◌, ℕ, zero, suc, ◌<◌, ◌==◌, ◌||◌, Bool, true, false, List, [], ◌∷◌, ◌++◌, length, Some, slice_get, replicate, refl, sym, ap, subst, ◌∙◌, inl, inr, arith}
-use Rattle.std.specs.Prelude.{slice_set}
+use Rattle.std.proofs.Common.{◌≡◌, ◌≢◌, ℕ, zero, suc, ◌+◌, ◌-◌, ◌<◌, ◌≤◌, ◌==◌, ◌||◌, ◌&&◌, not, Bool, true, false, List, [], ◌∷◌, ◌++◌, length, drop, Some, slice_get, replicate, refl, sym, ap, subst, ◌∙◌, inl, inr, arith}
+use Rattle.std.specs.Prelude.{slice_set, if◌then◌else◌}
+use Rattle.std.proofs.lemmas.Option.{slice_get_within, same_Some}
 use Rattle.std.proofs.lemmas.Bool.{cases_eq, eq-eqb, ne_eqb}
 use Rattle.tb_node.specs.declared.Float.{Float}
 use Rattle.tb_float.specs.declared.classes.ClassSet.{ClassSet}
 use Rattle.tb_float.specs.Lists.{has_class}
-use Rattle.tb_float.specs.Classes.{AreClassesOf}
+use Rattle.tb_float.specs.Classes.{AreClassesOf, AreKnown, AreOfClasses, HasLeft, set_count, open_count}
 
 pub get-replicate : {X : Type 0} (n k : ℕ) (x : X) → k < n → slice_get (replicate n x) k ≡ Some x
 get-replicate zero k x lt = absurd (omega arith)
@@ -45,3 +46,110 @@ one-class-more s t fs f low many is h = λ k lt. ap (λ xs. slice_get xs k) is �
       | inl same ↦ subst (λ j. slice_get (slice_set s.flags f.class true) j ≡ Some (has_class j (fs ++ f ∷ []))) (sym same) (get-set-same s.flags f.class true (omega arith) ∙ ap Some (sym (has-same fs f f.class (eq-eqb f.class f.class refl))))
       | inr ne ↦ get-set-other s.flags f.class k true ne ∙ h k lt ∙ ap Some (sym (has-other fs f k (ne_eqb f.class k (λ e. ne (sym e)))))
     ]
+
+-- ---- classes that are known
+
+pub known-grows : (known : List Bool) (k : ℕ) (fs : List Float) → AreKnown known fs → AreKnown (slice_set known k true) fs
+known-grows known k [] h = tt
+known-grows known k (f ∷ fs) h = (set-more known k f.class h.0, known-grows known k fs h.1)
+  where
+    set-more : (xs : List Bool) (i j : ℕ) → slice_get xs j ≡ Some true → slice_get (slice_set xs i true) j ≡ Some true
+    set-more [] i j h = cc
+    set-more (x ∷ xs) zero zero h = refl
+    set-more (x ∷ xs) zero (suc j) h = h
+    set-more (x ∷ xs) (suc i) zero h = h
+    set-more (x ∷ xs) (suc i) (suc j) h = set-more xs i j h
+
+pub known-one : (known : List Bool) (f : Float) → f.class < length known → AreKnown (slice_set known f.class true) (f ∷ [])
+known-one known f low = (get-set-same known f.class true low, tt)
+
+pub nat-same : (a b : ℕ) → (a == b) ≡ true → a ≡ b
+nat-same a b e = elim (cases_eq a b) [
+  | inl same ↦ same
+  | inr ne ↦ let no : false ≡ true = sym (ne_eqb a b ne) ∙ e in cc
+]
+
+-- the class of a float that stands among those that are known
+known-class : (known : List Bool) (k : ℕ) (fs : List Float) → AreKnown known fs → has_class k fs ≡ true → slice_get known k ≡ Some true
+known-class known k [] h has = cc
+known-class known k (f ∷ fs) h has = by_test (f.class == k) refl (λ o. known-class known k fs h.1 o) has
+  where
+    by_test : (t : Bool) → (f.class == k) ≡ t → (has_class k fs ≡ true → slice_get known k ≡ Some true) → (t || has_class k fs) ≡ true → slice_get known k ≡ Some true
+    by_test true e later o = subst (λ n. slice_get known n ≡ Some true) (nat-same f.class k e) h.0
+    by_test false e later o = later o
+
+-- ---- how many are left
+
+open-none : (n : ℕ) (ks : List Bool) → length ks ≡ n → open_count (replicate n false) ks ≡ set_count ks
+open-none zero [] e = refl
+open-none zero (k ∷ ks) e = absurd (omega (arith, e))
+open-none (suc n) [] e = absurd (omega (arith, e))
+open-none (suc n) (k ∷ ks) e = ap (λ m. (if k then 1 else 0) + m) (open-none n ks (omega (arith, e)))
+
+open-again : (bs ks : List Bool) (i : ℕ) → slice_get bs i ≡ Some true → open_count (slice_set bs i true) ks ≡ open_count bs ks
+open-again [] ks i e = refl
+open-again (b ∷ bs) [] zero e = refl
+open-again (b ∷ bs) [] (suc i) e = refl
+open-again (b ∷ bs) (k ∷ ks) zero e = let same : b ≡ true = cc in ap (λ t. (if not t && k then 1 else 0) + open_count bs ks) (sym same)
+open-again (b ∷ bs) (k ∷ ks) (suc i) e = ap (λ m. (if not b && k then 1 else 0) + m) (open-again bs ks i e)
+
+open-less : (bs ks : List Bool) (i : ℕ) → slice_get bs i ≡ Some false → slice_get ks i ≡ Some true → open_count bs ks ≡ open_count (slice_set bs i true) ks + 1
+open-less [] ks i e f = cc
+open-less (b ∷ bs) [] i e f = cc
+open-less (b ∷ bs) (k ∷ ks) zero e f =
+    let off : b ≡ false = cc in
+    let on : k ≡ true = cc in
+    (λ j. (if not (off j) && on j then 1 else 0) + open_count bs ks) ∙ omega arith
+open-less (b ∷ bs) (k ∷ ks) (suc i) e f = let less = open-less bs ks i e f in omega (arith, less)
+
+open-over : (bs ks : List Bool) (i : ℕ) → length bs ≡ length ks → open_count bs ks ≡ 0 → slice_get ks i ≡ Some true → slice_get bs i ≡ Some true
+open-over [] [] i many none e = cc
+open-over [] (k ∷ ks) i many none e = absurd (omega (arith, many))
+open-over (b ∷ bs) [] i many none e = absurd (omega (arith, many))
+open-over (b ∷ bs) (k ∷ ks) zero many none e = let on : k ≡ true = cc in by_flags b k on none
+  where
+    by_flags : (b k : Bool) → k ≡ true → (if not b && k then 1 else 0) + open_count bs ks ≡ 0 → slice_get (b ∷ bs) 0 ≡ Some true
+    by_flags true k on none = refl
+    by_flags false true on none = absurd (omega (arith, none))
+    by_flags false false on none = cc
+open-over (b ∷ bs) (k ∷ ks) (suc i) many none e = open-over bs ks i (omega (arith, many)) (omega (arith, none)) e
+
+pub left-none : (s known : ClassSet) (fs : List Float) → length known.flags ≡ 256 → s.flags ≡ replicate 256 false → s.left ≡ set_count known.flags → AreKnown known.flags fs → HasLeft s fs
+left-none s known fs many empty left are = record {
+  known = known.flags;
+  size = many;
+  are = are;
+  left = left ∙ sym (open-none 256 known.flags many) ∙ ap (λ bs. open_count bs known.flags) (sym empty);
+}
+
+pub left-full : (s : ClassSet) (fs all : List Float) → length s.flags ≡ 256 → s.left ≡ 0 → AreClassesOf s fs → HasLeft s all → AreOfClasses fs all
+left-full s fs all many none are h = λ k has.
+    let known = known-class h.known k all h.are has in
+    let within = slice_get_within h.known k true known in
+    let set = open-over s.flags h.known k (many ∙ sym h.size) (sym h.left ∙ none) known in
+    same_Some _ _ (sym (are k (omega (arith, within, h.size))) ∙ set)
+
+-- a class more is in the set
+pub left-added : (s t : ClassSet) (k : ℕ) (b : Bool) (all : List Float) → slice_get s.flags k ≡ Some b → t.flags ≡ slice_set s.flags k true → t.left ≡ (if b then s.left else s.left - 1) → has_class k all ≡ true → HasLeft s all → HasLeft t all
+left-added s t k b all got flags left has h = record {
+  known = h.known;
+  size = h.size;
+  are = h.are;
+  left = left ∙ by_flag b got ∙ ap (λ bs. open_count bs h.known) (sym flags);
+}
+  where
+    by_flag : (b : Bool) → slice_get s.flags k ≡ Some b → (if b then s.left else s.left - 1) ≡ open_count (slice_set s.flags k true) h.known
+    by_flag true g = h.left ∙ sym (open-again s.flags h.known k g)
+    by_flag false g = let less = open-less s.flags h.known k g (known-class h.known k all h.are has) in omega (arith, h.left, less)
+
+-- ---- flags are counted
+
+pub count-drop : (bs : List Bool) (i : ℕ) (b : Bool) → slice_get bs i ≡ Some b → set_count (drop i bs) ≡ (if b then 1 else 0) + set_count (drop (suc i) bs)
+count-drop [] i b e = cc
+count-drop (c ∷ bs) zero b e = let same : c ≡ b = cc in ap (λ t. (if t then 1 else 0) + set_count bs) same
+count-drop (c ∷ bs) (suc i) b e = count-drop bs i b e
+
+pub count-few : (bs : List Bool) → set_count bs ≤ length bs
+count-few [] = omega arith
+count-few (true ∷ bs) = omega (arith, count-few bs)
+count-few (false ∷ bs) = omega (arith, count-few bs)

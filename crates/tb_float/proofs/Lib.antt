@@ -12,3 +12,4 @@ pub mod RetireLemmas
 pub mod WaitingLemmas
 pub mod ClassLemmas
 pub mod EntryLemmas
+pub mod TrackLemmas

@@ -81,7 +81,7 @@ length-without_same k (x ∷ xs) [] e = absurd (omega arith)
 length-without_same zero (x ∷ xs) (y ∷ ys) e = omega arith
 length-without_same (suc k) (x ∷ xs) (y ∷ ys) e = ap suc (length-without_same k xs ys (omega arith))
 
-marks-without_entry : (p : Part) (k : ℕ) (v : FloatPool) → HasAllMarks v → HasAllMarks (without_entry p k v)
+pub marks-without_entry : (p : Part) (k : ℕ) (v : FloatPool) → HasAllMarks v → HasAllMarks (without_entry p k v)
 marks-without_entry p k v e =
     let ms = marks_of p v in
     let fs = floats_of p v.lists in
@@ -124,6 +124,12 @@ none-marked (true ∷ ms) (f ∷ fs) same e = absurd (omega arith)
 none-marked (false ∷ ms) (f ∷ fs) same e =
     let rest = none-marked ms fs (omega arith) (omega arith) in
     (rest.0, ap (λ hs. f ∷ hs) rest.1)
+
+pub unmarked-all : (ms : List Bool) (fs : List Float) → marked_among ms fs ≡ [] → unmarked_among ms fs ≡ fs
+unmarked-all [] fs e = refl
+unmarked-all (m ∷ ms) [] e = refl
+unmarked-all (true ∷ ms) (f ∷ fs) e = cc
+unmarked-all (false ∷ ms) (f ∷ fs) e = ap (λ hs. f ∷ hs) (unmarked-all ms fs e)
 
 pub first_marked-le : (ms : List Bool) → first_marked ms ≤ length ms
 first_marked-le [] = omega arith

@@ -14,6 +14,8 @@ use Rattle.tb_float.specs.Ranges.{IsSizedEntry}
 use Rattle.tb_float.specs.Rooms.{total_height}
 use Rattle.tb_float.specs.ByPart.{of_part}
 use Rattle.tb_float.specs.SlotView.{SlotView}
+use Rattle.tb_float.specs.declared.classes.ClassSet.{ClassSet}
+use Rattle.tb_float.specs.Classes.{Tracks}
 
 -- the id of the list of a part
 abbrev pub shelf_of : Shelves → Part → ℕ
@@ -89,3 +91,8 @@ pub record IsStored (store : Lists SlotView) (shelves : Shelves) (heights : ByPa
   pub shelves_are : AreShelves store shelves
   pub sound : AreSound (slots_of store shelves) heights
   pub places : HasPlaces (slots_of store shelves) size store.spare
+
+-- the pool is stored, and what it knows of classes and of marks holds
+pub record IsPooled (store : Lists SlotView) (shelves : Shelves) (heights : ByPart ℤ) (size : ℕ) (known : ClassSet) (chosen : ℕ) : Type 0 where
+  pub stored : IsStored store shelves heights size
+  pub tracked : Tracks known.flags chosen (seen_pool (slots_of store shelves) size)

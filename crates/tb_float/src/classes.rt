@@ -1,13 +1,15 @@
 //! Which classes a walk over floats has passed.
-ghost use Rattle.std.specs.Prelude.{◌≡◌, [], ◌∷◌, ◌++◌, List};
+ghost use Rattle.std.specs.Prelude.{◌≡◌, ◌-◌, [], ◌∷◌, ◌++◌, List, IsTrue, true, slice_set, if◌then◌else◌};
 ghost use Rattle.tb_node.specs.declared.Float.{Float};
-ghost use Rattle.tb_float.specs.Classes.{AreClassesOf};
+ghost use Rattle.tb_float.specs.Classes.{AreClassesOf, AreKnown, AreOfClasses, HasLeft, set_count};
 ghost use Rattle.tb_float.specs.Lists.{has_class};
 
 /// A set of classes of floats, so that a walk over a list knows at each float whether one of its class stands before it.
 #[derive(Clone, Copy)]
 pub struct ClassSet {
     flags: [bool; 256],
+    // How many classes of a list are not in the set, if it was made for one. No list has more.
+    left: usize,
 }
 
 impl ClassSet {
@@ -17,7 +19,26 @@ impl ClassSet {
     {
         ClassSet {
             flags: [false; 256],
+            left: 0,
         }
+    }
+
+    // The set without classes, for lists of floats whose classes are all in another set.
+    pub(crate) fn none_of(known: &ClassSet) -> ClassSet
+        ensures classes { AreClassesOf result [] }
+        ensures left { (fs : List Float) → AreKnown known.now.flags fs → HasLeft result fs }
+    {
+        ClassSet {
+            flags: [false; 256],
+            left: count(&known.flags),
+        }
+    }
+
+    /// Whether no class of the list that the set was made for is left: all of its floats are of classes in the set.
+    pub fn is_full(&self) -> bool
+        ensures { IsTrue result → (fs all : List Float) → AreClassesOf self.now fs → HasLeft self.now all → AreOfClasses fs all }
+    {
+        self.left == 0
     }
 
     /// Whether the class is in the set.
@@ -29,8 +50,32 @@ impl ClassSet {
 
     /// The class is in the set from now on.
     pub fn add(&mut self, class: u8)
-        ensures { (fs : List Float) (f : Float) → f.class ≡ class → AreClassesOf self.old fs → AreClassesOf self.new (fs ++ f ∷ []) }
+        ensures classes { (fs : List Float) (f : Float) → f.class ≡ class → AreClassesOf self.old fs → AreClassesOf self.new (fs ++ f ∷ []) }
+        ensures left { (all : List Float) → has_class class all ≡ true → HasLeft self.old all → HasLeft self.new all }
+        ensures flags { self.new.flags ≡ slice_set self.old.flags class true }
     {
-        self.flags[usize::from(class)] = true;
+        let place = usize::from(class);
+        self.left = left_after(self.left, self.flags[place]);
+        self.flags[place] = true;
     }
+}
+
+// How many classes are left after one that was in the set before or not.
+fn left_after(left: usize, was: bool) -> usize
+    ensures { result ≡ (if was then left else left - 1) }
+{
+    if was || left == 0 { left } else { left - 1 }
+}
+
+// How many flags are set.
+fn count(flags: &[bool; 256]) -> usize
+    ensures { result ≡ set_count flags.now }
+{
+    let mut set = 0;
+    for flag in flags {
+        if *flag {
+            set += 1;
+        }
+    }
+    set
 }

@@ -1,5 +1,5 @@
 //! Entries that go from list to list, and out of the pool.
-ghost use Rattle.std.specs.Prelude.{◌≡◌, ◌≢◌, ◌<◌, ◌↔◌, [], ◌∷◌, slice_get, Some, IsNone, OnSome, IfSome, IfNone, length, drop};
+ghost use Rattle.std.specs.Prelude.{◌≡◌, ◌≢◌, ◌<◌, ◌≤◌, ◌+◌, ℕ, ◌↔◌, [], ◌∷◌, slice_get, Some, IsNone, OnSome, IfSome, IfNone, length, drop};
 ghost use Rattle.tb_node.specs.declared.Float.{Float};
 ghost use Rattle.tb_float.specs.Lists.{entries_of, floats_of, entry_count, HasFloatAt, IsWaiting, float_entries};
 ghost use Rattle.tb_float.specs.Pool.{moved_float, joined_before, with_places, with_float_at, with_mark, without_entry, without_marks, HasNoMarks, marks_of, marked_floats, unmarked_floats, first_marked};
@@ -116,6 +116,7 @@ impl Pool {
                 marked: true,
             },
         );
+        self.chosen = one_more(self.chosen);
     }
 
     /// The first marked float of a list in which floats wait leaves the pool. None exactly where none is marked; no float of the
@@ -129,15 +130,26 @@ impl Pool {
         ensures unchanged { IfNone result (self.new ≡ self.old) }
         ensures all_unmarked { IfNone result (unmarked_floats from self.old ≡ floats_of from self.old.lists) }
     {
+        if self.chosen == 0 {
+            return None;
+        }
         let list = self.shelves.lists.of(from);
         let k = first_marked(&self.store, list);
         if k == self.store.len(list) {
             return None;
         }
         let slot = take_slot(&mut self.store, list, k, self.shelves.one);
+        self.chosen -= 1;
         self.heights.lower(from, entry_height(&slot.entry));
         Some(float_in(slot.entry))
     }
+}
+
+// A number of floats and one more. No more than 4096 wait.
+fn one_more(count: usize) -> usize
+    ensures { (k : ℕ) → k ≤ count + 1 → k ≤ 4096 → k ≤ result }
+{
+    if count < 4096 { count + 1 } else { count }
 }
 
 // The float with other places.

@@ -9,7 +9,7 @@ use Rattle.tb_float.specs.declared.classes.ClassSet.{ClassSet}
 use Rattle.tb_float.specs.Classes.{AreClassesOf}
 use Rattle.tb_fpage.specs.declared.Wanted.{Wanted}
 use Rattle.tb_fpage.specs.Company.{Choice, wanted_of, choices_from, company, company_from, joins}
-use Rattle.tb_fpage.specs.Walked.{company_of_place, is_made_at, after_head, head_choices, Stands, IsOnWay, AreTried, IsAfterHead}
+use Rattle.tb_fpage.specs.Walked.{company_of_place, is_made_at, after_head, head_choices, EndsBy, CompanyEndsBy, IsWalkOf, IsOnWay, AreTried, IsAfterHead}
 use Rattle.tb_fpage.specs.declared.walk.Walk.{Walk}
 use Rattle.tb_fpage.proofs.WalkLemmas.{head-stands}
 
@@ -78,6 +78,10 @@ pub tried-found : (z : Wanted) (earlier : ClassSet) (place : ℕ) (all rest : Li
 tried-found z earlier place all rest f t made =
     sym t.later ∙ ap (company_from z (take place all)) t.left_are ∙ company-here z place all f (tried-there z earlier place all rest f t) made
 
+pub tried-ends : (z : Wanted) (earlier : ClassSet) (place : ℕ) (all rest : List Float) (f : Float) (last : ℕ) → AreTried z earlier place all (f ∷ rest) → is_made_at z place all f ≡ true → EndsBy last (company_of_place z place all f) → CompanyEndsBy last z all
+tried-ends z earlier place all rest f last t made ends = λ choices is.
+    subst (EndsBy last) (same_Some _ _ (sym (tried-found z earlier place all rest f t made) ∙ is)) ends
+
 pub tried-next : (z : Wanted) (earlier next : ClassSet) (place : ℕ) (all rest : List Float) (f : Float) → AreTried z earlier place all (f ∷ rest) → is_made_at z place all f ≡ false → AreClassesOf next (take place all ++ f ∷ []) → AreTried z next (place + 1) all rest
 tried-next z earlier next place all rest f t none classes =
     let got = tried-there z earlier place all rest f t in
@@ -103,7 +107,7 @@ on-way-start z w earlier place all f height new there is fits classes =
     let one : place + 1 ≡ suc place = omega arith in
     record {
       before = head_choices (take place all) f;
-      stands = subst (λ (u : Walk). Stands u z.sep (head_choices (take place all) f)) (sym new) (head-stands earlier z.sep (take place all) f place height (sym (length-take-le place all within)) is fits classes);
+      stands = subst (λ (u : Walk). IsWalkOf u z.sep (head_choices (take place all) f)) (sym new) (head-stands earlier z.sep (take place all) f place height (sym (length-take-le place all within)) is fits classes);
       ends = ap (λ (u : Walk). choices_from z (head_choices (take place all) f) (drop u.seen all)) new ∙ ap (λ n. choices_from z (head_choices (take place all) f) (drop n all)) one;
     }
 

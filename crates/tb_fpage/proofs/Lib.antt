@@ -4,3 +4,4 @@ pub mod WalkLemmas
 pub mod FirstLemmas
 pub mod ChosenLemmas
 pub mod MarkingLemmas
+pub mod FullLemmas

@@ -1,5 +1,5 @@
 -- The floats of a company are marked along a walk: its head, and then those that join.
-use Rattle.std.proofs.Common.{◌≡◌, ℕ, zero, suc, ◌+◌, ◌-◌, ◌≤◌, Bool, true, false, List, [], ◌∷◌, ◌++◌, length, map, take, drop, Some, slice_get, refl, sym, ap, subst, ◌∙◌, arith}
+use Rattle.std.proofs.Common.{◌≡◌, ℕ, zero, suc, ◌+◌, ◌-◌, ◌≤◌, Bool, true, false, ◌||◌, List, [], ◌∷◌, ◌++◌, length, map, take, drop, Some, slice_get, refl, sym, ap, subst, ◌∙◌, arith}
 use Rattle.std.specs.Prelude.{slice_set, if◌then◌else◌}
 use Rattle.std.proofs.Math.ListN.{drop_of_length-le}
 use Rattle.std.proofs.lemmas.List.{append-nil, append_assoc, map-append, length-map}
@@ -12,7 +12,7 @@ use Rattle.tb_float.proofs.WaitingLemmas.{marks-with, lists-marked}
 use Rattle.tb_fpage.specs.declared.Wanted.{Wanted}
 use Rattle.tb_fpage.specs.declared.walk.Walk.{Walk}
 use Rattle.tb_fpage.specs.Company.{Choice, choices_from, company, joins}
-use Rattle.tb_fpage.specs.Walked.{Stands, IsAfterHead, IsMarking, head_choices, company_of_place}
+use Rattle.tb_fpage.specs.Walked.{IsWalkOf, has_chosen, CompanyEndsBy, IsAfterHead, IsMarking, head_choices, company_of_place}
 use Rattle.tb_fpage.proofs.WalkLemmas.{left-next, on-way-ends, on-way-end}
 
 -- ---- marks
@@ -68,7 +68,7 @@ marking-start z w all marks many none h =
           ∙ head-marked all h.place h.head h.there ∙ ap (λ n. map (λ c. c.chosen) (head_choices (take h.place all) h.head) ++ map (λ f. false) (drop n all)) (sym at);
     }
 
-marking-next : (z : Wanted) (w v : Walk) (all rest : List Float) (f : Float) (b : Bool) (marks : List Bool) → v.seen ≡ w.seen + 1 → f ∷ rest ≡ drop w.seen all → ((before : List Choice) → Stands w z.sep before → b ≡ joins z before f) → ((before : List Choice) → Stands w z.sep before → Stands v z.sep (before ++ record { float = f; chosen = b } ∷ [])) → IsMarking w z all marks → IsMarking v z all (if b then slice_set marks w.seen true else marks)
+marking-next : (z : Wanted) (w v : Walk) (all rest : List Float) (f : Float) (b : Bool) (marks : List Bool) → v.seen ≡ w.seen + 1 → f ∷ rest ≡ drop w.seen all → ((before : List Choice) → IsWalkOf w z.sep before → b ≡ joins z before f) → ((before : List Choice) → IsWalkOf w z.sep before → IsWalkOf v z.sep (before ++ record { float = f; chosen = b } ∷ [])) → IsMarking w z all marks → IsMarking v z all (if b then slice_set marks w.seen true else marks)
 marking-next z w v all rest f b marks further left decided stands m =
     let before = m.way.before in
     let bs = map (λ (c : Choice). c.chosen) before in
@@ -86,11 +86,11 @@ marking-next z w v all rest f b marks further left decided stands m =
           ∙ ap (λ fs. map (λ c. c.chosen) (before ++ record { float = f; chosen = b } ∷ []) ++ map (λ g. false) fs) (left-next w v all rest f further left);
     }
 
-pub marking-joined : (z : Wanted) (w v : Walk) (all rest : List Float) (f : Float) (b : Bool) (marks : List Bool) → v.seen ≡ w.seen + 1 → f ∷ rest ≡ drop w.seen all → ((before : List Choice) → Stands w z.sep before → b ≡ joins z before f) → ((before : List Choice) → Stands w z.sep before → Stands v z.sep (before ++ record { float = f; chosen = b } ∷ [])) → IsMarking w z all marks → b ≡ true → IsMarking v z all (slice_set marks w.seen true)
+pub marking-joined : (z : Wanted) (w v : Walk) (all rest : List Float) (f : Float) (b : Bool) (marks : List Bool) → v.seen ≡ w.seen + 1 → f ∷ rest ≡ drop w.seen all → ((before : List Choice) → IsWalkOf w z.sep before → b ≡ joins z before f) → ((before : List Choice) → IsWalkOf w z.sep before → IsWalkOf v z.sep (before ++ record { float = f; chosen = b } ∷ [])) → IsMarking w z all marks → b ≡ true → IsMarking v z all (slice_set marks w.seen true)
 marking-joined z w v all rest f b marks further left decided stands m is =
     subst (λ (d : Bool). IsMarking v z all (if d then slice_set marks w.seen true else marks)) is (marking-next z w v all rest f b marks further left decided stands m)
 
-pub marking-passed : (z : Wanted) (w v : Walk) (all rest : List Float) (f : Float) (b : Bool) (marks : List Bool) → v.seen ≡ w.seen + 1 → f ∷ rest ≡ drop w.seen all → ((before : List Choice) → Stands w z.sep before → b ≡ joins z before f) → ((before : List Choice) → Stands w z.sep before → Stands v z.sep (before ++ record { float = f; chosen = b } ∷ [])) → IsMarking w z all marks → b ≡ false → IsMarking v z all marks
+pub marking-passed : (z : Wanted) (w v : Walk) (all rest : List Float) (f : Float) (b : Bool) (marks : List Bool) → v.seen ≡ w.seen + 1 → f ∷ rest ≡ drop w.seen all → ((before : List Choice) → IsWalkOf w z.sep before → b ≡ joins z before f) → ((before : List Choice) → IsWalkOf w z.sep before → IsWalkOf v z.sep (before ++ record { float = f; chosen = b } ∷ [])) → IsMarking w z all marks → b ≡ false → IsMarking v z all marks
 marking-passed z w v all rest f b marks further left decided stands m is =
     subst (λ (d : Bool). IsMarking v z all (if d then slice_set marks w.seen true else marks)) is (marking-next z w v all rest f b marks further left decided stands m)
 
@@ -98,6 +98,40 @@ marking-passed z w v all rest f b marks further left decided stands m is =
 pub marking-over : (z : Wanted) (w : Walk) (all : List Float) (marks : List Bool) → [] ≡ drop w.seen all → IsMarking w z all marks → (choices : List Choice) × (company z all ≡ Some choices) × (marks ≡ map (λ c. c.chosen) choices)
 marking-over z w all marks none m =
     (m.choices, m.made, m.marked ∙ ap (λ fs. map (λ c. c.chosen) m.way.before ++ map (λ f. false) fs) (sym none) ∙ append-nil (map (λ c. c.chosen) m.way.before) ∙ ap (map (λ c. c.chosen)) (on-way-end z w all m.choices none m.way))
+
+-- the choices on the floats that are left come behind those so far
+left-choices : (z : Wanted) (before : List Choice) (fs : List Float) → (cs : List Choice) × (choices_from z before fs ≡ before ++ cs) × (length cs ≡ length fs)
+left-choices z before [] = ([], sym (append-nil before), refl)
+left-choices z before (f ∷ fs) =
+    let c : Choice = record { float = f; chosen = joins z before f } in
+    let more = left-choices z (before ++ c ∷ []) fs in
+    (c ∷ more.0, more.1 ∙ append_assoc before (c ∷ []) more.0, ap suc more.2)
+
+unchosen-first : (b : Bool) (cs : List Choice) → (b || has_chosen cs) ≡ false → (b ≡ false) × (has_chosen cs ≡ false)
+unchosen-first true cs h = cc
+unchosen-first false cs h = (refl, h)
+
+unchosen-marks : (cs : List Choice) (fs : List Float) → length cs ≡ length fs → has_chosen cs ≡ false → map (λ f. false) fs ≡ map (λ c. c.chosen) cs
+unchosen-marks [] [] many none = refl
+unchosen-marks [] (f ∷ fs) many none = absurd (omega (arith, many))
+unchosen-marks (c ∷ cs) [] many none = absurd (omega (arith, many))
+unchosen-marks (c ∷ cs) (f ∷ fs) many none =
+    let first = unchosen-first c.chosen cs none in
+    ap (λ b. b ∷ map (λ g. false) fs) (sym first.0) ∙ ap (λ bs. c.chosen ∷ bs) (unchosen-marks cs fs (omega (arith, many)) first.1)
+
+drop-first : (before cs : List Choice) → drop (length before) (before ++ cs) ≡ cs
+drop-first [] cs = refl
+drop-first (b ∷ before) cs = drop-first before cs
+
+-- where the last of the company was passed, the marks are those of the company
+pub marking-full : (z : Wanted) (w : Walk) (all : List Float) (marks : List Bool) (last : ℕ) → w.seen ≡ last → CompanyEndsBy last z all → IsMarking w z all marks → (choices : List Choice) × (company z all ≡ Some choices) × (marks ≡ map (λ c. c.chosen) choices)
+marking-full z w all marks last at ends m =
+    let before = m.way.before in
+    let more = left-choices z before (drop w.seen all) in
+    let are : before ++ more.0 ≡ m.choices = sym more.1 ∙ m.way.ends in
+    let behind : drop last m.choices ≡ more.0 = ap (λ n. drop n m.choices) (sym at ∙ m.way.stands.seen) ∙ ap (drop (length before)) (sym are) ∙ drop-first before more.0 in
+    let none : has_chosen more.0 ≡ false = ap has_chosen (sym behind) ∙ ends m.choices m.made in
+    (m.choices, m.made, m.marked ∙ ap (λ bs. map (λ (c : Choice). c.chosen) before ++ bs) (unchosen-marks more.0 (drop w.seen all) more.2 none) ∙ sym (map-append (λ (c : Choice). c.chosen) before more.0) ∙ ap (map (λ (c : Choice). c.chosen)) are)
 
 pub none-left : (w : Walk) (all : List Float) → length all ≤ w.seen → [] ≡ drop w.seen all
 none-left w all over = sym (drop_of_length-le all over)

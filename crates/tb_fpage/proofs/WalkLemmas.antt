@@ -1,6 +1,7 @@
 -- A walk over the floats after a head: what it holds after each.
 use Rattle.std.proofs.Common.{◌≡◌, ℕ, zero, suc, ◌+◌, ◌<◌, ◌≤◌, ◌==◌, Bool, true, false, not, ◌||◌, ◌&&◌, List, [], ◌∷◌, ◌++◌, length, drop, refl, sym, ap, ◌∙◌, subst, arith, FitsSigned, w64}
 use Rattle.std.specs.Prelude.{ℤ, ◌+ℤ◌, int_le, if◌then◌else◌}
+use Rattle.std.proofs.Math.ListN.{drop_of_length-le}
 use Rattle.std.proofs.lemmas.Int.{ints}
 use Rattle.std.proofs.lemmas.List.{append-nil, length-append, length-map}
 use Rattle.tb_node.specs.declared.Float.{Float}
@@ -10,11 +11,10 @@ use Rattle.tb_float.specs.Lists.{float_entries, has_class}
 use Rattle.tb_float.specs.declared.classes.ClassSet.{ClassSet}
 use Rattle.tb_float.specs.Classes.{AreClassesOf}
 use Rattle.tb_float.specs.Ranges.{IsWithin}
-use Rattle.tb_float.specs.Stored.{is_float}
 use Rattle.tb_fpage.specs.declared.Wanted.{Wanted}
 use Rattle.tb_fpage.specs.declared.walk.Walk.{Walk}
 use Rattle.tb_fpage.specs.Company.{Choice, passed_over, all_chosen, separated, company_height, suits, joins, choices_from, left_floats}
-use Rattle.tb_fpage.specs.Walked.{has_chosen, head_choices, after_head, Stands, IsOnWay, taken, passed}
+use Rattle.tb_fpage.specs.Walked.{has_chosen, EndsBy, head_choices, after_head, IsWalkOf, IsOnWay, taken, passed}
 
 -- ---- one more choice at the end
 
@@ -66,7 +66,7 @@ chosen-last (d ∷ cs) f = ap (λ b. d.chosen || b) (chosen-last cs f) ∙ or-tr
     or-true false = refl
 
 -- each float of a class is in the company where none of them is left
-all-chosen : (k : ℕ) (cs : List Choice) → all_chosen k cs ≡ not (has_class k (left_floats cs))
+pub all-chosen : (k : ℕ) (cs : List Choice) → all_chosen k cs ≡ not (has_class k (left_floats cs))
 all-chosen k [] = refl
 all-chosen k (c ∷ cs) = by_choice c.chosen (c.float.class == k) refl (all-chosen k cs)
   where
@@ -100,10 +100,24 @@ pub passed-none : (fs : List Float) → has_chosen (passed_over fs) ≡ false
 passed-none [] = refl
 passed-none (f ∷ fs) = passed-none fs
 
+-- ---- the last of a company
+
+drop-within : {X : Type 0} (k : ℕ) (xs ys : List X) → k ≤ length xs → drop k (xs ++ ys) ≡ drop k xs ++ ys
+drop-within zero xs ys le = refl
+drop-within (suc k) [] ys le = absurd (omega (arith, le))
+drop-within (suc k) (x ∷ xs) ys le = drop-within k xs ys (omega (arith, le))
+
+-- a float that stays behind is not the last, and one that joins is
+pub ends-passed : (last : ℕ) (cs : List Choice) (f : Float) → last ≤ length cs → EndsBy last cs → EndsBy last (cs ++ record { float = f; chosen = false } ∷ [])
+ends-passed last cs f le h = ap has_chosen (drop-within last cs (record { float = f; chosen = false } ∷ []) le) ∙ chosen-passed (drop last cs) f ∙ h
+
+ends-all : (last : ℕ) (cs : List Choice) → length cs ≤ last → EndsBy last cs
+ends-all last cs le = ap has_chosen (drop_of_length-le cs le)
+
 -- ---- the walk
 
 -- the head is in its company
-pub head-stands : (earlier : ClassSet) (sep : ℤ) (before : List Float) (f : Float) (place : ℕ) (height : ℤ) → place ≡ length before → height ≡ f.height → FitsSigned w64 f.height → AreClassesOf earlier before → Stands (after_head place height earlier) sep (head_choices before f)
+pub head-stands : (earlier : ClassSet) (sep : ℤ) (before : List Float) (f : Float) (place : ℕ) (height : ℤ) → place ≡ length before → height ≡ f.height → FitsSigned w64 f.height → AreClassesOf earlier before → IsWalkOf (after_head place height earlier) sep (head_choices before f)
 head-stands earlier sep before f place height at is fits classes =
     let c : Choice = record { float = f; chosen = true } in
     let many : length (passed_over before) ≡ length before = length-map before (λ g. record { float = g; chosen = false }) in
@@ -111,6 +125,8 @@ head-stands earlier sep before f place height at is fits classes =
     let size = fits.sfits in
     record {
       seen = omega arith;
+      last = ends-all (place + 1) (head_choices before f) (omega arith);
+      last_within = omega arith;
       height = is ∙ sym (company-first sep (passed_over before) f (passed-none before));
       within = record { low = omega (arith, ints); high = omega (arith, ints) };
       failed = failed-chosen earlier (passed_over before) f (subst (AreClassesOf earlier) (sym (passed-left before)) classes);
@@ -118,7 +134,7 @@ head-stands earlier sep before f place height at is fits classes =
     }
 
 -- a later float joins
-joined-stands : (w : Walk) (sep : ℤ) (before : List Choice) (f : Float) (height : ℤ) → height ≡ w.height +ℤ sep +ℤ f.height → FitsSigned w64 sep → FitsSigned w64 f.height → Stands w sep before → Stands (taken height w) sep (before ++ record { float = f; chosen = true } ∷ [])
+joined-stands : (w : Walk) (sep : ℤ) (before : List Choice) (f : Float) (height : ℤ) → height ≡ w.height +ℤ sep +ℤ f.height → FitsSigned w64 sep → FitsSigned w64 f.height → IsWalkOf w sep before → IsWalkOf (taken height w) sep (before ++ record { float = f; chosen = true } ∷ [])
 joined-stands w sep before f height is fits fits_height h =
     let c : Choice = record { float = f; chosen = true } in
     let more = length-append before (c ∷ []) in
@@ -129,38 +145,43 @@ joined-stands w sep before f height is fits fits_height h =
     let size = fits_height.sfits in
     record {
       seen = omega arith;
+      last = ends-all (w.seen + 1) (before ++ c ∷ []) (omega arith);
+      last_within = omega arith;
       height = is ∙ ap (λ z. z +ℤ sep +ℤ f.height) h.height ∙ sym (company-chosen sep before f h.head);
       within = record { low = omega (arith, ints); high = omega (arith, ints) };
       failed = failed-chosen w.failed before f h.failed;
       head = chosen-last before f;
     }
 
-pub visited-joined : (w v : Walk) (sep : ℤ) (before : List Choice) (f : Float) (height : ℤ) → v ≡ taken height w → height ≡ w.height +ℤ sep +ℤ f.height → FitsSigned w64 sep → FitsSigned w64 f.height → Stands w sep before → Stands v sep (before ++ record { float = f; chosen = true } ∷ [])
+pub visited-joined : (w v : Walk) (sep : ℤ) (before : List Choice) (f : Float) (height : ℤ) → v ≡ taken height w → height ≡ w.height +ℤ sep +ℤ f.height → FitsSigned w64 sep → FitsSigned w64 f.height → IsWalkOf w sep before → IsWalkOf v sep (before ++ record { float = f; chosen = true } ∷ [])
 visited-joined w v sep before f height new is fits fits_height h =
-    subst (λ (u : Walk). Stands u sep (before ++ record { float = f; chosen = true } ∷ [])) (sym new) (joined-stands w sep before f height is fits fits_height h)
+    subst (λ (u : Walk). IsWalkOf u sep (before ++ record { float = f; chosen = true } ∷ [])) (sym new) (joined-stands w sep before f height is fits fits_height h)
 
 -- a float stays behind
-passed-stands : (w : Walk) (failed : ClassSet) (sep : ℤ) (before : List Choice) (f : Float) → AreClassesOf failed (left_floats before ++ f ∷ []) → Stands w sep before → Stands (passed failed w) sep (before ++ record { float = f; chosen = false } ∷ [])
+passed-stands : (w : Walk) (failed : ClassSet) (sep : ℤ) (before : List Choice) (f : Float) → AreClassesOf failed (left_floats before ++ f ∷ []) → IsWalkOf w sep before → IsWalkOf (passed failed w) sep (before ++ record { float = f; chosen = false } ∷ [])
 passed-stands w failed sep before f classes h =
     let c : Choice = record { float = f; chosen = false } in
     let more = length-append before (c ∷ []) in
     let seen = h.seen in
     let low = h.within.low in
     let high = h.within.high in
+    let within = h.last_within in
     record {
       seen = omega arith;
+      last = ends-passed w.last before f h.last_within h.last;
+      last_within = omega arith;
       height = h.height ∙ sym (company-passed sep before f);
       within = record { low = omega (arith, ints); high = omega (arith, ints) };
       failed = failed-passed failed before f classes;
       head = chosen-passed before f ∙ h.head;
     }
 
-pub visited-passed : (w v : Walk) (sep : ℤ) (before : List Choice) (f : Float) → v ≡ passed v.failed w → AreClassesOf v.failed (left_floats before ++ f ∷ []) → Stands w sep before → Stands v sep (before ++ record { float = f; chosen = false } ∷ [])
+pub visited-passed : (w v : Walk) (sep : ℤ) (before : List Choice) (f : Float) → v ≡ passed v.failed w → AreClassesOf v.failed (left_floats before ++ f ∷ []) → IsWalkOf w sep before → IsWalkOf v sep (before ++ record { float = f; chosen = false } ∷ [])
 visited-passed w v sep before f new classes h =
-    subst (λ (u : Walk). Stands u sep (before ++ record { float = f; chosen = false } ∷ [])) (sym new) (passed-stands w v.failed sep before f classes h)
+    subst (λ (u : Walk). IsWalkOf u sep (before ++ record { float = f; chosen = false } ∷ [])) (sym new) (passed-stands w v.failed sep before f classes h)
 
 -- whether a later float joins, by what the walk holds
-joins-is : (z : Wanted) (w : Walk) (before : List Choice) (f : Float) (b : Bool) → Stands w z.sep before → b ≡ has_class f.class (left_floats before)
+joins-is : (z : Wanted) (w : Walk) (before : List Choice) (f : Float) (b : Bool) → IsWalkOf w z.sep before → b ≡ has_class f.class (left_floats before)
     → joins z before f ≡ (suits z f && not b && int_le (w.height +ℤ z.sep +ℤ f.height) z.height)
 joins-is z w before f b h failed =
     let all : all_chosen f.class before ≡ not b = all-chosen f.class before ∙ ap not (sym failed) in
@@ -168,7 +189,7 @@ joins-is z w before f b h failed =
     ap (λ a. suits z f && a && int_le (company_height z.sep (before ++ record { float = f; chosen = true } ∷ [])) z.height) all ∙ ap (λ y. suits z f && not b && int_le y z.height) height
 
 -- one whose class failed does not, nor one that does not suit
-pub joins-failed : (z : Wanted) (w : Walk) (before : List Choice) (f : Float) (b : Bool) → Stands w z.sep before → b ≡ has_class f.class (left_floats before) → not b ≡ false → joins z before f ≡ false
+pub joins-failed : (z : Wanted) (w : Walk) (before : List Choice) (f : Float) (b : Bool) → IsWalkOf w z.sep before → b ≡ has_class f.class (left_floats before) → not b ≡ false → joins z before f ≡ false
 joins-failed z w before f b h failed not_may =
     joins-is z w before f b h failed ∙ ap (λ a. suits z f && a && int_le (w.height +ℤ z.sep +ℤ f.height) z.height) not_may ∙ and-false (suits z f) (int_le (w.height +ℤ z.sep +ℤ f.height) z.height)
   where
@@ -180,7 +201,7 @@ pub joins-unsuited : (z : Wanted) (before : List Choice) (f : Float) → suits z
 joins-unsuited z before f not_suited = ap (λ a. a && all_chosen f.class before && int_le (company_height z.sep (before ++ record { float = f; chosen = true } ∷ [])) z.height) not_suited
 
 -- a later float that suits, and whose class did not fail, joins where it fits
-pub joins-fits : (z : Wanted) (w : Walk) (before : List Choice) (f : Float) (b : Bool) (height most : ℤ) → b ≡ has_class f.class (left_floats before) → suits z f ≡ true → not b ≡ true → height ≡ w.height +ℤ z.sep +ℤ f.height → most ≡ z.height → Stands w z.sep before → int_le height most ≡ joins z before f
+pub joins-fits : (z : Wanted) (w : Walk) (before : List Choice) (f : Float) (b : Bool) (height most : ℤ) → b ≡ has_class f.class (left_floats before) → suits z f ≡ true → not b ≡ true → height ≡ w.height +ℤ z.sep +ℤ f.height → most ≡ z.height → IsWalkOf w z.sep before → int_le height most ≡ joins z before f
 joins-fits z w before f b height most failed suit may is at h =
     ap (λ y. int_le y most) is ∙ ap (λ y. int_le (w.height +ℤ z.sep +ℤ f.height) y) at ∙ sym (joins-is z w before f b h failed ∙ ap (λ s. s && not b && int_le (w.height +ℤ z.sep +ℤ f.height) z.height) suit ∙ ap (λ s. s && int_le (w.height +ℤ z.sep +ℤ f.height) z.height) may)
 
@@ -211,7 +232,7 @@ on-way-ends z w v all rest f b choices further left way decided =
     ∙ ap (λ fs. choices_from z (way.before ++ record { float = f; chosen = joins z way.before f } ∷ []) fs) (sym (left-next w v all rest f further left))
     ∙ ap (choices_from z way.before) left ∙ way.ends
 
-pub on-way-next : (z : Wanted) (w v : Walk) (all rest : List Float) (f : Float) (b : Bool) (choices : List Choice) → v.seen ≡ w.seen + 1 → f ∷ rest ≡ drop w.seen all → ((before : List Choice) → Stands w z.sep before → b ≡ joins z before f) → ((before : List Choice) → Stands w z.sep before → Stands v z.sep (before ++ record { float = f; chosen = b } ∷ [])) → IsOnWay w z all choices → IsOnWay v z all choices
+pub on-way-next : (z : Wanted) (w v : Walk) (all rest : List Float) (f : Float) (b : Bool) (choices : List Choice) → v.seen ≡ w.seen + 1 → f ∷ rest ≡ drop w.seen all → ((before : List Choice) → IsWalkOf w z.sep before → b ≡ joins z before f) → ((before : List Choice) → IsWalkOf w z.sep before → IsWalkOf v z.sep (before ++ record { float = f; chosen = b } ∷ [])) → IsOnWay w z all choices → IsOnWay v z all choices
 on-way-next z w v all rest f b choices further left decided stands way = record {
   before = way.before ++ record { float = f; chosen = b } ∷ [];
   stands = stands way.before way.stands;

@@ -23,7 +23,7 @@ has_chosen (c ∷ cs) = c.chosen || has_chosen cs
 
 -- the walk that has passed the head at a place, where the floats before it have these classes
 abbrev pub after_head : ℕ → ℤ → ClassSet → Walk
-after_head place height earlier = record { seen = place + 1; height = height; failed = earlier }
+after_head place height earlier = record { seen = place + 1; last = place + 1; height = height; failed = earlier }
 
 -- the choices on the floats before a head, and on the head
 abbrev pub head_choices : List Float → Float → List Choice
@@ -31,15 +31,25 @@ head_choices before f = passed_over before ++ record { float = f; chosen = true 
 
 -- the next float is in the company, which is so high with it
 abbrev pub taken : ℤ → Walk → Walk
-taken height w = record w { seen = w.seen + 1; height = height }
+taken height w = record w { seen = w.seen + 1; last = w.seen + 1; height = height }
 
 -- the next float stays behind, and the classes of those that do are these
 abbrev pub passed : ClassSet → Walk → Walk
 passed failed w = record w { seen = w.seen + 1; failed = failed }
 
+-- the last float of the company stands before this place
+abbrev pub EndsBy : ℕ → List Choice → Type 0
+EndsBy last cs = has_chosen (drop last cs) ≡ false
+
+-- the last float of the company that makes the column stands before this place
+abbrev pub CompanyEndsBy : ℕ → Wanted → List Float → Type 0
+CompanyEndsBy last z fs = (choices : List Choice) → company z fs ≡ Some choices → EndsBy last choices
+
 -- the choices so far, the height of the company, and the classes of the floats that stay behind
-pub record Stands (w : Walk) (sep : ℤ) (before : List Choice) : Type 0 where
+pub record IsWalkOf (w : Walk) (sep : ℤ) (before : List Choice) : Type 0 where
   pub seen : w.seen ≡ length before
+  pub last : EndsBy w.last before
+  pub last_within : w.last ≤ length before
   pub height : w.height ≡ company_height sep before
   pub within : IsWithin (36893488147419103232 * length before) w.height
   pub failed : AreClassesOf w.failed (left_floats before)
@@ -48,7 +58,7 @@ pub record Stands (w : Walk) (sep : ℤ) (before : List Choice) : Type 0 where
 -- a walk that makes these choices of all floats
 pub record IsOnWay (w : Walk) (z : Wanted) (all : List Float) (choices : List Choice) : Type 0 where
   pub before : List Choice
-  pub stands : Stands w z.sep before
+  pub stands : IsWalkOf w z.sep before
   pub ends : choices_from z before (drop w.seen all) ≡ choices
 
 -- a walk that has just passed the head of the company that makes the column
@@ -57,7 +67,7 @@ pub record IsAfterHead (w : Walk) (z : Wanted) (all : List Float) : Type 0 where
   pub head : Float
   pub there : slice_get all place ≡ Some head
   pub seen : w.seen ≡ place + 1
-  pub stands : Stands w z.sep (head_choices (take place all) head)
+  pub stands : IsWalkOf w z.sep (head_choices (take place all) head)
   pub made : company z all ≡ Some (company_of_place z place all head)
 
 -- a walk that chooses the company that makes the column, where the floats that were chosen so far have these marks

@@ -1,10 +1,11 @@
 //! A walk over the floats after a head, which decides on each whether it joins the head's company.
-ghost use Rattle.std.specs.Prelude.{◌≡◌, ◌<◌, ◌+◌, ◌+ℤ◌, ◌∷◌, ◌++◌, [], List};
+ghost use Rattle.std.specs.Prelude.{◌≡◌, ◌<◌, ◌+◌, ◌+ℤ◌, ◌∷◌, ◌++◌, [], List, true};
 ghost use Rattle.tb_node.specs.declared.Float.{Float as PlainFloat};
-ghost use Rattle.tb_float.specs.Classes.{AreClassesOf};
+ghost use Rattle.tb_float.specs.Classes.{AreClassesOf, HasLeft};
+ghost use Rattle.tb_float.specs.Lists.{has_class};
 ghost use Rattle.tb_float.specs.Ranges.{IsWithin};
 ghost use Rattle.tb_fpage.specs.Company.{Choice, suits, joins};
-ghost use Rattle.tb_fpage.specs.Walked.{Stands, after_head, taken, passed};
+ghost use Rattle.tb_fpage.specs.Walked.{IsWalkOf, after_head, taken, passed};
 
 use crate::Wanted;
 use tb_float::ClassSet;
@@ -15,6 +16,8 @@ use tb_node::Float;
 pub(crate) struct Walk {
     /// How many floats were passed.
     pub(crate) seen: usize,
+    /// How many floats were passed when the last one so far joined.
+    pub(crate) last: usize,
     /// The height of the company so far, with its separators, in scaled points.
     pub(crate) height: i128,
     /// The classes of the floats that stay behind, so that no later one of them may join.
@@ -30,6 +33,7 @@ impl Walk {
     {
         Walk {
             seen: place + 1,
+            last: place + 1,
             height: i128::from(height),
             failed: earlier,
         }
@@ -40,8 +44,9 @@ impl Walk {
         requires room { self.old.seen < 4096 }
         requires height { IsWithin 151115727451828646838272 self.old.height }
         ensures seen { self.new.seen ≡ self.old.seen + 1 }
-        ensures joins { (before : List Choice) → Stands self.old wanted.now.sep before → result ≡ joins wanted.now before f.now }
-        ensures stands { (before : List Choice) → Stands self.old wanted.now.sep before → Stands self.new wanted.now.sep (before ++ record { float = f.now; chosen = result } ∷ []) }
+        ensures joins { (before : List Choice) → IsWalkOf self.old wanted.now.sep before → result ≡ joins wanted.now before f.now }
+        ensures stands { (before : List Choice) → IsWalkOf self.old wanted.now.sep before → IsWalkOf self.new wanted.now.sep (before ++ record { float = f.now; chosen = result } ∷ []) }
+        ensures left { (all : List PlainFloat) → has_class f.now.class all ≡ true → HasLeft self.old.failed all → HasLeft self.new.failed all }
     {
         if self.joins(wanted, f) {
             self.take(higher(self.height, wanted.sep, f.height));
@@ -55,7 +60,7 @@ impl Walk {
     // Whether the next float joins the company.
     fn joins(&self, wanted: &Wanted, f: &Float) -> bool
         requires { IsWithin 151115727451828646838272 self.now.height }
-        ensures { (before : List Choice) → Stands self.now wanted.now.sep before → result ≡ joins wanted.now before f.now }
+        ensures { (before : List Choice) → IsWalkOf self.now wanted.now.sep before → result ≡ joins wanted.now before f.now }
     {
         !self.failed.has(f.class)
             && suits(wanted, f)
@@ -69,6 +74,7 @@ impl Walk {
     {
         self.height = height;
         self.seen += 1;
+        self.last = self.seen;
     }
 
     // The next float, of this class, stays behind.
@@ -76,6 +82,7 @@ impl Walk {
         requires { self.old.seen < 4096 }
         ensures walk { self.new ≡ passed self.new.failed self.old }
         ensures failed { (fs : List PlainFloat) (f : PlainFloat) → f.class ≡ class → AreClassesOf self.old.failed fs → AreClassesOf self.new.failed (fs ++ f ∷ []) }
+        ensures left { (all : List PlainFloat) → has_class class all ≡ true → HasLeft self.old.failed all → HasLeft self.new.failed all }
     {
         self.failed.add(class);
         self.seen += 1;

@@ -8,9 +8,20 @@ use Rattle.tb_area.specs.Filling.{filled}
 use Rattle.tb_area.specs.Laws.{column_order}
 use Rattle.tb_area.proofs.DeferredLemmas.{waiting_stands, waiting_entry, there_some}
 use Rattle.tb_area.proofs.OrderLemmas.{fill-order}
-use Rattle.tb_area.proofs.FillingLemmas.{IsMoved, moved-top, moved-bottom, area-goes, area-over, way-over, fewer-left}
+use Rattle.tb_area.proofs.FillingLemmas.{IsMoved, moved-top, moved-bottom, area-goes, area-over, way-start, way-over, fewer-left}
 use Rattle.tb_area.proofs.filling.fill_column.Goals as goal
 use Rattle.tb_area.proofs.filling.fill_column.Goals.{in-Top, in-Bottom}
+
+pub loop-turn-init : goal.loop-turn-init
+loop-turn-init c =
+    let v = c.args.pool.now in
+    let kept = c.none-kept in
+    record {
+      way = way-start parts.Deferred (filled c.args.p.now c.args.s.now) kept.result v.lists kept.ensures.count kept.ensures.classes (kept.ensures.left parts.Deferred);
+      fewer = omega arith;
+      size = refl;
+      unmarked = λ h. h;
+    }
 
 pub move_to-requires-clause-float : goal.move_to-requires-clause-float
 move_to-requires-clause-float c = waiting_stands parts.Deferred tt c.loop-turn.pool.lists c.next_moved.new.kept.count (c.in-Top.ensures.within (λ e. absurd cc))

@@ -8,8 +8,20 @@ use Rattle.tb_area.specs.Filling.{doubled}
 use Rattle.tb_area.specs.Laws.{double_order}
 use Rattle.tb_area.proofs.DeferredLemmas.{waiting_stands, waiting_entry, there_some}
 use Rattle.tb_area.proofs.OrderLemmas.{double-order}
-use Rattle.tb_area.proofs.FillingLemmas.{is_double, way-over, double-goes, double-parts, gone-double, size-double, double-over, fewer-left}
+use Rattle.tb_area.proofs.FillingLemmas.{is_double, way-start, way-over, double-goes, double-parts, gone-double, size-double, double-over, fewer-left}
 use Rattle.tb_area.proofs.filling.fill_double.Goals as goal
+
+pub loop-turn-init : goal.loop-turn-init
+loop-turn-init c =
+    let v = c.args.pool.now in
+    let from = c.args.from in
+    let kept = c.none-kept in
+    record {
+      way = λ s. way-start from (doubled from c.args.p.now s) kept.result v.lists kept.ensures.count kept.ensures.classes (kept.ensures.left from);
+      fewer = omega arith;
+      size = refl;
+      unmarked = λ h. h;
+    }
 
 pub move_to-requires-clause-float : goal.move_to-requires-clause-float
 move_to-requires-clause-float c = waiting_stands c.args.from c.requires.waiting c.loop-turn.pool.lists c.next_double.new.kept.count (c.in-Double.ensures.within (λ e. absurd cc))

@@ -1,11 +1,12 @@
-use Rattle.std.proofs.Common.{◌≡◌, suc, take, drop, sym, ap, ◌∙◌, arith}
+use Rattle.std.proofs.Common.{◌≡◌, suc, take, drop, refl, sym, ap, ◌∙◌, arith}
 use Rattle.std.proofs.lemmas.Option.{same_Some, slice_get_within}
 use Rattle.tb_float.specs.Lists.{float_entries, floats_of}
 use Rattle.tb_float.proofs.EntryLemmas.{drop-entries, next-is_float, next-entry, no-entry}
-use Rattle.tb_float.proofs.WaitingLemmas.{waiting-entries}
+use Rattle.tb_float.proofs.WaitingLemmas.{waiting-entries, waiting-count}
+use Rattle.tb_area.specs.declared.filling.Kept.{Kept}
 use Rattle.tb_area.specs.Area.{double_place}
 use Rattle.tb_area.specs.Filling.{doubled}
-use Rattle.tb_area.proofs.FillingLemmas.{way-stays, double-stays}
+use Rattle.tb_area.proofs.FillingLemmas.{way-stays, double-stays, double-full}
 use Rattle.tb_area.proofs.filling.next_double.Goals as goal
 
 pub loop-entry-init : goal.loop-entry-init
@@ -39,7 +40,7 @@ loop-entry-preserved c =
       can_next = tt;
       is_finite = tt;
       left = next.1 ∙ ap (λ n. float_entries (drop n fs)) one;
-      way = λ s end h. way-stays from (doubled from p s) w v l end f c.keep.ensures.count next.0 c.keep.ensures.classes (λ before rest classes. double-stays from p s l f before rest (c.in-Deferred.ensures s before classes)) (c.loop-entry.invariant.way s end h);
+      way = λ s end h. way-stays from (doubled from p s) w v l end f c.keep.ensures.count next.0 c.keep.ensures.classes c.keep.ensures.left (λ before rest classes. double-stays from p s l f before rest (c.in-Deferred.ensures s before classes)) (c.loop-entry.invariant.way s end h);
     }
 
 pub returns-in_default : goal.returns-in_default
@@ -65,3 +66,20 @@ returns-clause-place c = λ s end f h got.
 
 pub returns-clause-over : goal.returns-clause-over
 returns-clause-over c = λ e. no-entry (floats_of c.args.from c.args.pool.now.lists) c.loop-entry.kept.count (sym c.in-None.ensures.steps.0 ∙ c.loop-entry.invariant.left)
+
+pub returns-then-is_full : goal.returns-then-is_full
+returns-then-is_full c =
+    let from = c.args.from in
+    let l = c.args.pool.now.lists in
+    let fs = floats_of from l in
+    let w = c.loop-entry.kept in
+    let v : Kept = record w { count = c.len-kept.result } in
+    let all = c.len-kept.ensures.value ∙ waiting-count from c.requires.waiting l in
+    record {
+      way = λ s end h.
+          let way = c.loop-entry.invariant.way s end h in
+          double-full from c.args.p.now s w v l end all refl (c.is_full.ensures c.if-is_full.true (take w.count fs) fs way.classes way.left) way;
+      within = λ ne. absurd (ne refl);
+      place = λ s end f h got. absurd (omega (arith, all, slice_get_within fs v.count f got));
+      over = λ e. omega (arith, all);
+    }

@@ -1,11 +1,12 @@
-use Rattle.std.proofs.Common.{◌≡◌, suc, take, drop, sym, ap, ◌∙◌, arith}
+use Rattle.std.proofs.Common.{◌≡◌, suc, take, drop, refl, sym, ap, ◌∙◌, arith}
 use Rattle.std.proofs.lemmas.Option.{same_Some, slice_get_within}
 use Rattle.tb_float.specs.declared.Part.TheVariants as parts
 use Rattle.tb_float.specs.Lists.{float_entries}
 use Rattle.tb_float.proofs.EntryLemmas.{drop-entries, next-is_float, next-entry, no-entry}
+use Rattle.tb_area.specs.declared.filling.Kept.{Kept}
 use Rattle.tb_area.specs.Area.{next_place}
 use Rattle.tb_area.specs.Filling.{filled}
-use Rattle.tb_area.proofs.FillingLemmas.{way-stays, area-stays, sized-at}
+use Rattle.tb_area.proofs.FillingLemmas.{way-stays, area-stays, area-full, sized-at}
 use Rattle.tb_area.proofs.filling.next_moved.Goals as goal
 
 pub loop-entry-init : goal.loop-entry-init
@@ -42,7 +43,7 @@ loop-entry-preserved c =
       can_next = tt;
       is_finite = tt;
       left = next.1 ∙ ap (λ n. float_entries (drop n l.deferred)) one;
-      way = λ end h. way-stays parts.Deferred (filled p s) w v l end f c.keep.ensures.count next.0 c.keep.ensures.classes (λ before rest classes. area-stays p s l f before rest (c.in-Deferred.ensures before classes)) (c.loop-entry.invariant.way end h);
+      way = λ end h. way-stays parts.Deferred (filled p s) w v l end f c.keep.ensures.count next.0 c.keep.ensures.classes c.keep.ensures.left (λ before rest classes. area-stays p s l f before rest (c.in-Deferred.ensures before classes)) (c.loop-entry.invariant.way end h);
     }
 
 pub returns-in_default : goal.returns-in_default
@@ -68,3 +69,18 @@ returns-clause-place c = λ end f h got.
 
 pub returns-clause-over : goal.returns-clause-over
 returns-clause-over c = λ e. no-entry c.args.pool.now.lists.deferred c.loop-entry.kept.count (sym c.in-None.ensures.steps.0 ∙ c.loop-entry.invariant.left)
+
+pub returns-then-is_full : goal.returns-then-is_full
+returns-then-is_full c =
+    let l = c.args.pool.now.lists in
+    let w = c.loop-entry.kept in
+    let v : Kept = record w { count = c.len-kept.result } in
+    let all = c.len-kept.ensures.value in
+    record {
+      way = λ end h.
+          let way = c.loop-entry.invariant.way end h in
+          area-full c.args.p.now c.args.s.now w v l end all refl (c.is_full.ensures c.if-is_full.true (take w.count l.deferred) l.deferred way.classes way.left) way;
+      within = λ ne. absurd (ne refl);
+      place = λ end f h got. absurd (omega (arith, all, slice_get_within l.deferred v.count f got));
+      over = λ e. omega (arith, all);
+    }

@@ -11,12 +11,12 @@ pub taken-requires : goal.taken-requires
 taken-requires c =
     let i = c.self.inside in
     let at = slots_of i.store i.shelves in
-    let slots = c.self.invariant.sound.slots c.args.part in
+    let slots = c.self.invariant.stored.sound.slots c.args.part in
     let f = c.ranges.first in
     let b = c.ranges.between in
     let h : FitsSigned w64 c.of.result = search rules in
     let count : c.len.result ≡ length (at c.args.part) = c.len.ensures.value ∙ ap (λ v. entry_count c.args.part v.lists) (sym c.self.view_is) ∙ entry_count-seen c.args.part at slots in
-    let sum : c.of.result ≡ total_height (floats_in (at c.args.part)) = c.of.ensures ∙ c.self.invariant.sound.heights_are c.args.part in
+    let sum : c.of.result ≡ total_height (floats_in (at c.args.part)) = c.of.ensures ∙ c.self.invariant.stored.sound.heights_are c.args.part in
     simp to_z-of_z (record {
       first = c.requires.first;
       between = c.requires.between;
@@ -28,13 +28,13 @@ pub returns : goal.returns
 returns c =
     let i = c.self.inside in
     let at = slots_of i.store i.shelves in
-    let slots = c.self.invariant.sound.slots c.args.part in
+    let slots = c.self.invariant.stored.sound.slots c.args.part in
     let f = c.ranges.first in
     let b = c.ranges.between in
     let h : FitsSigned w64 c.of.result = search rules in
     let r : FitsSigned w64 c.taken.result = search rules in
     let count : c.len.result ≡ length (at c.args.part) = c.len.ensures.value ∙ ap (λ v. entry_count c.args.part v.lists) (sym c.self.view_is) ∙ entry_count-seen c.args.part at slots in
-    let sum : c.of.result ≡ total_height (floats_in (at c.args.part)) = c.of.ensures ∙ c.self.invariant.sound.heights_are c.args.part in
+    let sum : c.of.result ≡ total_height (floats_in (at c.args.part)) = c.of.ensures ∙ c.self.invariant.stored.sound.heights_are c.args.part in
     let floats = sym (floats_of-seen c.args.part at) ∙ ap (λ v. floats_of c.args.part v.lists) c.self.view_is in
     let value = simp to_z-of_z at c.taken.ensures.value in
     simp to_z-of_z (record {

@@ -9,4 +9,4 @@ pub returns : goal.returns
 returns c =
     let i = c.self.inside in
     let at = slots_of i.store i.shelves in
-    ap entries_in (c.iter.ensures ∙ ap (list_at i.store) c.of.ensures) ∙ sym (entries_of-seen c.args.p at (c.self.invariant.sound.slots c.args.p)) ∙ ap (λ v. entries_of c.args.p v.lists) c.self.view_is
+    ap entries_in (c.iter.ensures ∙ ap (list_at i.store) c.of.ensures) ∙ sym (entries_of-seen c.args.p at (c.self.invariant.stored.sound.slots c.args.p)) ∙ ap (λ v. entries_of c.args.p v.lists) c.self.view_is

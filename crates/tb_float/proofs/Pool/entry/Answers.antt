@@ -13,7 +13,7 @@ pub returns-in-Some : goal.returns-in-Some
 returns-in-Some c =
     let i = c.self.inside in
     let at = slots_of i.store i.shelves in
-    let slots = c.self.invariant.sound.slots in
+    let slots = c.self.invariant.stored.sound.slots in
     let got : slice_get (at c.args.p) c.args.k ≡ Some c.in-Some.slot.now = ap (λ l. slice_get (list_at i.store l) c.args.k) (sym c.of.ensures) ∙ sym c.in-Some.ensures in
     let seen = ap (λ v. slice_get (entries_of c.args.p v.lists) c.args.k) (sym c.self.view_is) ∙ ap (λ es. slice_get es c.args.k) (entries_of-seen c.args.p at (slots c.args.p)) ∙ slice_get-map (λ s. s.entry) (at c.args.p) c.args.k ∙ ap (option_map (λ s. s.entry)) got in
     record {
@@ -25,7 +25,7 @@ pub returns-in-None : goal.returns-in-None
 returns-in-None c =
     let i = c.self.inside in
     let at = slots_of i.store i.shelves in
-    let slots = c.self.invariant.sound.slots in
+    let slots = c.self.invariant.stored.sound.slots in
     let got : slice_get (at c.args.p) c.args.k ≡ None = ap (λ l. slice_get (list_at i.store l) c.args.k) (sym c.of.ensures) ∙ sym c.in-None.ensures in
     let seen = ap (λ v. slice_get (entries_of c.args.p v.lists) c.args.k) (sym c.self.view_is) ∙ ap (λ es. slice_get es c.args.k) (entries_of-seen c.args.p at (slots c.args.p)) ∙ slice_get-map (λ s. s.entry) (at c.args.p) c.args.k ∙ ap (option_map (λ s. s.entry)) got in
     record { value = sym seen; sized = tt }

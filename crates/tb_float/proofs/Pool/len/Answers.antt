@@ -13,10 +13,10 @@ pub returns : goal.returns
 returns c =
     let i = c.self.inside in
     let at = slots_of i.store i.shelves in
-    let slots = c.self.invariant.sound.slots in
+    let slots = c.self.invariant.stored.sound.slots in
     let length_is : c.len.result ≡ length (at c.args.p) = c.len.ensures ∙ ap (λ l. length (list_at i.store l)) c.of.ensures in
     let marked = all-marks at i.size slots in
-    let places = c.self.invariant.places in
+    let places = c.self.invariant.stored.places in
     record {
       value = length_is ∙ sym (entry_count-seen c.args.p at (slots c.args.p)) ∙ ap (λ v. entry_count c.args.p v.lists) c.self.view_is;
       marks = rw (← c.self.view_is) marked.deferred;

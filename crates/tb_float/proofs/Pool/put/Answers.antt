@@ -9,22 +9,23 @@ use Rattle.tb_float.specs.ByPart.{of_part, with_part}
 use Rattle.tb_float.specs.Stored.{slots_of, seen_lists, IsStored}
 use Rattle.tb_float.proofs.SoundLemmas.{sums-are_rooms, live_count-seen}
 use Rattle.tb_float.proofs.PoolLemmas.{put-in}
+use Rattle.tb_float.proofs.TrackLemmas.{pooled, tracked-put}
 use Rattle.tb_float.proofs.Pool.put.Goals as goal
 
 pub raise-requires-clause-before : goal.raise-requires-clause-before
 raise-requires-clause-before c =
     let i = c.self.inside in
-    sums-are_rooms (slots_of i.store i.shelves) i.heights i.size i.store.spare parts.Current c.self.invariant.sound c.self.invariant.places
+    sums-are_rooms (slots_of i.store i.shelves) i.heights i.size i.store.spare parts.Current c.self.invariant.stored.sound c.self.invariant.stored.places
 
 pub push_back-requires-clause-live : goal.push_back-requires-clause-live
-push_back-requires-clause-live c = c.self.invariant.shelves_are.live parts.Current
+push_back-requires-clause-live c = c.self.invariant.stored.shelves_are.live parts.Current
 
 pub push_back-requires-clause-room : goal.push_back-requires-clause-room
 push_back-requires-clause-room c =
     let i = c.self.inside in
-    let live = live_count-seen (slots_of i.store i.shelves) c.self.invariant.sound.slots in
+    let live = live_count-seen (slots_of i.store i.shelves) c.self.invariant.stored.sound.slots in
     let room : live_count (seen_lists (slots_of i.store i.shelves)) < i.size = rw (← c.self.view_is) at c.requires.room in
-    let places = c.self.invariant.places in
+    let places = c.self.invariant.stored.places in
     omega arith
 
 pub invariant_of-self : goal.invariant_of-self
@@ -34,12 +35,13 @@ invariant_of-self c =
     let raised = simp to_z-of_z at c.raise.ensures in
     let heights = raised ∙ ap (λ z. with_part parts.Current (of_part i.heights parts.Current +ℤ z) i.heights) c.entry_height.ensures in
     let room : live_count (seen_lists (slots_of i.store i.shelves)) < i.size = rw (← c.self.view_is) at c.requires.room in
-    let made = put-in i.store c.push_back.new.self i.shelves i.heights i.size c.args.entry c.self.invariant c.requires.sized room c.push_back.ensures.pushed c.push_back.ensures.spare in
-    subst (λ (g : ByPart ℤ). IsStored c.push_back.new.self i.shelves g i.size) (sym heights) made.stored
+    let made = put-in i.store c.push_back.new.self i.shelves i.heights i.size c.args.entry c.self.invariant.stored c.requires.sized room c.push_back.ensures.pushed c.push_back.ensures.spare in
+    let stored = subst (λ (g : ByPart ℤ). IsStored c.push_back.new.self i.shelves g i.size) (sym heights) made.stored in
+    pooled c.push_back.new.self i.shelves c.raise.new.self i.size c.know.new.known i.chosen _ stored made.seen (tracked-put i.known.flags c.know.new.known.flags i.chosen c.args.entry _ c.self.invariant.tracked c.know.ensures.more c.know.ensures.float)
 
 pub returns : goal.returns
 returns c =
     let i = c.self.inside in
     let room : live_count (seen_lists (slots_of i.store i.shelves)) < i.size = rw (← c.self.view_is) at c.requires.room in
-    let made = put-in i.store c.push_back.new.self i.shelves i.heights i.size c.args.entry c.self.invariant c.requires.sized room c.push_back.ensures.pushed c.push_back.ensures.spare in
+    let made = put-in i.store c.push_back.new.self i.shelves i.heights i.size c.args.entry c.self.invariant.stored c.requires.sized room c.push_back.ensures.pushed c.push_back.ensures.spare in
     made.seen ∙ ap (with_current (c.args.entry ∷ [])) c.self.view_is

@@ -15,6 +15,7 @@ use Rattle.tb_float.proofs.SlotLemmas.{slot-there}
 use Rattle.tb_float.proofs.SoundLemmas.{sums-are_rooms, entries_of-seen, entry_count-seen}
 use Rattle.tb_float.proofs.PoolLemmas.{taken-out, entry-is_room, without-first}
 use Rattle.tb_float.proofs.MarkLemmas.{unmarked-without_entry}
+use Rattle.tb_float.proofs.TrackLemmas.{pooled, tracked-without}
 use Rattle.tb_float.proofs.Pool.retire.Goals as goal
 
 pub lower-requires : goal.lower-requires
@@ -26,9 +27,9 @@ lower-requires c =
     let popped : at c.args.p ≡ s ∷ drop 1 (at c.args.p) = rw c.of.ensures at c.in-Some.ensures.popped in
     let got : slice_get (at c.args.p) 0 ≡ Some s = ap (λ ss. slice_get ss 0) popped in
     let height_is : c.entry_height.result ≡ total_height (float_before s.entry []) = c.entry_height.ensures ∙ ap (λ r. total_height (float_before r.entry [])) c.slot.view_is in
-    let sized = (slot-there c.args.p 0 (at c.args.p) s (c.self.invariant.sound.slots c.args.p) got).sized in
+    let sized = (slot-there c.args.p 0 (at c.args.p) s (c.self.invariant.stored.sound.slots c.args.p) got).sized in
     record {
-      before = sums-are_rooms at i.heights i.size i.store.spare c.args.p c.self.invariant.sound c.self.invariant.places;
+      before = sums-are_rooms at i.heights i.size i.store.spare c.args.p c.self.invariant.stored.sound c.self.invariant.stored.places;
       less = simp to_z-of_z (subst IsRoom (sym height_is) (entry-is_room s.entry sized));
     }
 
@@ -43,10 +44,11 @@ invariant_of-self-2 c =
     let height_is : c.entry_height.result ≡ total_height (float_before s.entry []) = c.entry_height.ensures ∙ ap (λ r. total_height (float_before r.entry [])) c.slot.view_is in
     let rest = rw c.of.ensures at c.in-Some.ensures.rest in
     let written = rest ∙ ap (with_list i.store (shelf_of i.shelves c.args.p)) (sym (without-first (at c.args.p))) in
-    let made = taken-out i.store c.pop_front.new.self i.shelves i.heights i.size c.args.p 0 s c.self.invariant got written c.in-Some.ensures.spare in
+    let made = taken-out i.store c.pop_front.new.self i.shelves i.heights i.size c.args.p 0 s c.self.invariant.stored got written c.in-Some.ensures.spare in
     let lowered = simp to_z-of_z at c.lower.ensures in
     let heights = lowered ∙ ap (λ z. with_part c.args.p (of_part i.heights c.args.p -ℤ z) i.heights) height_is in
-    subst (λ (g : ByPart ℤ). IsStored c.pop_front.new.self i.shelves g i.size) (sym heights) made.stored
+    let stored = subst (λ (g : ByPart ℤ). IsStored c.pop_front.new.self i.shelves g i.size) (sym heights) made.stored in
+    pooled c.pop_front.new.self i.shelves c.lower.new.self i.size i.known i.chosen _ stored made.seen (tracked-without i.known.flags i.chosen c.args.p 0 _ c.self.invariant.tracked)
 
 pub returns-clause-first : goal.returns-clause-first
 returns-clause-first c =
@@ -55,7 +57,7 @@ returns-clause-first c =
     let s = c.in-Some.slot in
     let popped : at c.args.p ≡ s ∷ drop 1 (at c.args.p) = rw c.of.ensures at c.in-Some.ensures.popped in
     let got : slice_get (at c.args.p) 0 ≡ Some s = ap (λ ss. slice_get ss 0) popped in
-    let seen = ap (λ v. slice_get (entries_of c.args.p v.lists) 0) (sym c.self.view_is) ∙ ap (λ es. slice_get es 0) (entries_of-seen c.args.p at (c.self.invariant.sound.slots c.args.p)) ∙ slice_get-map (λ r. r.entry) (at c.args.p) 0 ∙ ap (option_map (λ r. r.entry)) got in
+    let seen = ap (λ v. slice_get (entries_of c.args.p v.lists) 0) (sym c.self.view_is) ∙ ap (λ es. slice_get es 0) (entries_of-seen c.args.p at (c.self.invariant.stored.sound.slots c.args.p)) ∙ slice_get-map (λ r. r.entry) (at c.args.p) 0 ∙ ap (option_map (λ r. r.entry)) got in
     ap (λ r. Some r.entry) c.slot.view_is ∙ sym seen
 
 pub returns-clause-empty : goal.returns-clause-empty
@@ -63,7 +65,7 @@ returns-clause-empty c =
     let i = c.self.inside in
     let at = slots_of i.store i.shelves in
     let popped : at c.args.p ≡ c.in-Some.slot ∷ drop 1 (at c.args.p) = rw c.of.ensures at c.in-Some.ensures.popped in
-    let counted = ap (λ v. entry_count c.args.p v.lists) (sym c.self.view_is) ∙ entry_count-seen c.args.p at (c.self.invariant.sound.slots c.args.p) ∙ ap length popped in
+    let counted = ap (λ v. entry_count c.args.p v.lists) (sym c.self.view_is) ∙ entry_count-seen c.args.p at (c.self.invariant.stored.sound.slots c.args.p) ∙ ap length popped in
     (λ e. cc, λ e. absurd (omega (arith, sym counted ∙ e)))
 
 pub returns-clause-rest : goal.returns-clause-rest
@@ -75,7 +77,7 @@ returns-clause-rest c =
     let got : slice_get (at c.args.p) 0 ≡ Some s = ap (λ ss. slice_get ss 0) popped in
     let rest = rw c.of.ensures at c.in-Some.ensures.rest in
     let written = rest ∙ ap (with_list i.store (shelf_of i.shelves c.args.p)) (sym (without-first (at c.args.p))) in
-    let made = taken-out i.store c.pop_front.new.self i.shelves i.heights i.size c.args.p 0 s c.self.invariant got written c.in-Some.ensures.spare in
+    let made = taken-out i.store c.pop_front.new.self i.shelves i.heights i.size c.args.p 0 s c.self.invariant.stored got written c.in-Some.ensures.spare in
     made.seen ∙ ap (without_entry c.args.p 0) c.self.view_is
 
 pub returns-clause-unmarked : goal.returns-clause-unmarked
@@ -87,5 +89,5 @@ returns-clause-unmarked c = λ none.
     let got : slice_get (at c.args.p) 0 ≡ Some s = ap (λ ss. slice_get ss 0) popped in
     let rest = rw c.of.ensures at c.in-Some.ensures.rest in
     let written = rest ∙ ap (with_list i.store (shelf_of i.shelves c.args.p)) (sym (without-first (at c.args.p))) in
-    let made = taken-out i.store c.pop_front.new.self i.shelves i.heights i.size c.args.p 0 s c.self.invariant got written c.in-Some.ensures.spare in
+    let made = taken-out i.store c.pop_front.new.self i.shelves i.heights i.size c.args.p 0 s c.self.invariant.stored got written c.in-Some.ensures.spare in
     subst HasNoMarks (sym (made.seen ∙ ap (without_entry c.args.p 0) c.self.view_is)) (unmarked-without_entry c.args.p 0 c.args.self.now none)

@@ -1,4 +1,4 @@
-use Rattle.std.proofs.Common.{ℤ, ◌≡◌, [], ◌∷◌, length, slice_get, refl, sym, ap, ◌∙◌, subst, FitsSigned, w64, rules, arith}
+use Rattle.std.proofs.Common.{ℤ, ◌-◌, ◌≡◌, [], ◌∷◌, length, slice_get, refl, sym, ap, ◌∙◌, subst, FitsSigned, w64, rules, arith}
 use Rattle.std.specs.Prelude.{◌-ℤ◌}
 use Rattle.std.proofs.lemmas.Int.{to_z-of_z}
 use Rattle.std.proofs.lemmas.List.{length-map}
@@ -15,14 +15,31 @@ use Rattle.tb_float.proofs.SlotLemmas.{slot-there, float-at_slot}
 use Rattle.tb_float.proofs.SoundLemmas.{marks_of-seen, sums-are_rooms, floats_of-seen}
 use Rattle.tb_float.proofs.WaitingLemmas.{waiting-floats}
 use Rattle.tb_float.proofs.PoolLemmas.{taken-out, entry-is_room, marks-shown}
-use Rattle.tb_float.proofs.MarkLemmas.{first-marked, none-marked, first_marked-le, left-over}
+use Rattle.tb_float.proofs.MarkLemmas.{unmarked-all, first-marked, none-marked, first_marked-le, left-over}
+use Rattle.tb_float.specs.Classes.{Tracks}
+use Rattle.tb_float.proofs.TrackLemmas.{pooled, tracked-fewer, all-unmarked}
 use Rattle.tb_float.proofs.Pool.retire_marked.Goals as goal
 
 pub first_marked-k-requires : goal.first_marked-k-requires
-first_marked-k-requires c = rw c.of-list.ensures (c.self.invariant.shelves_are.live c.args.from)
+first_marked-k-requires c = rw c.of-list.ensures (c.self.invariant.stored.shelves_are.live c.args.from)
 
 pub len-requires : goal.len-requires
-len-requires c = rw c.of-list.ensures (c.self.invariant.shelves_are.live c.args.from)
+len-requires c = rw c.of-list.ensures (c.self.invariant.stored.shelves_are.live c.args.from)
+
+pub returns-then-self-eq0-clause-none : goal.returns-then-self-eq0-clause-none
+returns-then-self-eq0-clause-none c =
+    let i = c.self.inside in
+    let v = seen_pool (slots_of i.store i.shelves) i.size in
+    let none = all-unmarked c.args.from i.known.flags v c.requires (subst (λ n. Tracks i.known.flags n v) c.if-self-eq0.true c.self.invariant.tracked) in
+    (λ e. sym (ap (marked_floats c.args.from) c.self.view_is) ∙ none, λ e. refl)
+
+pub returns-then-self-eq0-clause-all_unmarked : goal.returns-then-self-eq0-clause-all_unmarked
+returns-then-self-eq0-clause-all_unmarked c =
+    let i = c.self.inside in
+    let v = seen_pool (slots_of i.store i.shelves) i.size in
+    let none = all-unmarked c.args.from i.known.flags v c.requires (subst (λ n. Tracks i.known.flags n v) c.if-self-eq0.true c.self.invariant.tracked) in
+    let old = c.args.self.now in
+    unmarked-all (marks_of c.args.from old) (floats_of c.args.from old.lists) (sym (ap (marked_floats c.args.from) c.self.view_is) ∙ none)
 
 pub returns-then-k-len-clause-none : goal.returns-then-k-len-clause-none
 returns-then-k-len-clause-none c =
@@ -32,7 +49,7 @@ returns-then-k-len-clause-none c =
     let len_is : c.len.result ≡ length (at c.args.from) = rw c.of-list.ensures at c.len.ensures in
     let marks_are : marks_of c.args.from (seen_pool at i.size) ≡ marks_in (at c.args.from) = marks_of-seen c.args.from at i.size c.requires in
     let floats_are : floats_of c.args.from (seen_pool at i.size).lists ≡ floats_in (at c.args.from) = floats_of-seen c.args.from at in
-    let slots = c.self.invariant.sound.slots c.args.from in
+    let slots = c.self.invariant.stored.sound.slots c.args.from in
     let end = none-marked (marks_in (at c.args.from)) (floats_in (at c.args.from)) (marks-shown c.args.from at (waiting-floats c.args.from c.requires) slots) (omega (arith, k_first, c.if-k-len.true, len_is, length-map (at c.args.from) (λ s. s.marked))) in
     (λ e. sym (ap (marked_floats c.args.from) c.self.view_is) ∙ (λ j. marked_among (marks_are j) (floats_are j)) ∙ end.0, λ e. refl)
 
@@ -44,7 +61,7 @@ returns-then-k-len-clause-all_unmarked c =
     let len_is : c.len.result ≡ length (at c.args.from) = rw c.of-list.ensures at c.len.ensures in
     let marks_are : marks_of c.args.from (seen_pool at i.size) ≡ marks_in (at c.args.from) = marks_of-seen c.args.from at i.size c.requires in
     let floats_are : floats_of c.args.from (seen_pool at i.size).lists ≡ floats_in (at c.args.from) = floats_of-seen c.args.from at in
-    let slots = c.self.invariant.sound.slots c.args.from in
+    let slots = c.self.invariant.stored.sound.slots c.args.from in
     let end = none-marked (marks_in (at c.args.from)) (floats_in (at c.args.from)) (marks-shown c.args.from at (waiting-floats c.args.from c.requires) slots) (omega (arith, k_first, c.if-k-len.true, len_is, length-map (at c.args.from) (λ s. s.marked))) in
     sym (ap (unmarked_floats c.args.from) c.self.view_is) ∙ (λ j. unmarked_among (marks_are j) (floats_are j)) ∙ end.1 ∙ sym floats_are ∙ ap (λ v. floats_of c.args.from v.lists) c.self.view_is
 
@@ -63,9 +80,9 @@ lower-requires c =
     let s = c.take_slot-slot.result in
     let height_is : c.entry_height.result ≡ total_height (float_before s.entry []) = c.entry_height.ensures ∙ ap (λ r. total_height (float_before r.entry [])) c.slot.view_is in
     let was = rw c.of-list.ensures at c.take_slot-slot.ensures.was in
-    let sized = (slot-there c.args.from c.first_marked-k.result (at c.args.from) s (c.self.invariant.sound.slots c.args.from) was).sized in
+    let sized = (slot-there c.args.from c.first_marked-k.result (at c.args.from) s (c.self.invariant.stored.sound.slots c.args.from) was).sized in
     record {
-      before = sums-are_rooms at i.heights i.size i.store.spare c.args.from c.self.invariant.sound c.self.invariant.places;
+      before = sums-are_rooms at i.heights i.size i.store.spare c.args.from c.self.invariant.stored.sound c.self.invariant.stored.places;
       less = simp to_z-of_z (subst IsRoom (sym height_is) (entry-is_room s.entry sized));
     }
 
@@ -73,7 +90,7 @@ pub float_in-requires : goal.float_in-requires
 float_in-requires c =
     let at = slots_of c.self.inside.store c.self.inside.shelves in
     let was = rw c.of-list.ensures at c.take_slot-slot.ensures.was in
-    let there = slot-there c.args.from c.first_marked-k.result (at c.args.from) c.take_slot-slot.result (c.self.invariant.sound.slots c.args.from) was in
+    let there = slot-there c.args.from c.first_marked-k.result (at c.args.from) c.take_slot-slot.result (c.self.invariant.stored.sound.slots c.args.from) was in
     ap (λ (s : SlotView). is_float s.entry) c.slot.view_is ∙ there.float (waiting-floats c.args.from c.requires)
 
 pub invariant_of-self : goal.invariant_of-self
@@ -84,10 +101,25 @@ invariant_of-self c =
     let height_is : c.entry_height.result ≡ total_height (float_before s.entry []) = c.entry_height.ensures ∙ ap (λ r. total_height (float_before r.entry [])) c.slot.view_is in
     let was = rw c.of-list.ensures at c.take_slot-slot.ensures.was in
     let taken = rw c.of-list.ensures at c.take_slot-slot.ensures.taken in
-    let made = taken-out i.store c.take_slot-slot.new.store i.shelves i.heights i.size c.args.from c.first_marked-k.result s c.self.invariant was taken c.take_slot-slot.ensures.spare in
+    let made = taken-out i.store c.take_slot-slot.new.store i.shelves i.heights i.size c.args.from c.first_marked-k.result s c.self.invariant.stored was taken c.take_slot-slot.ensures.spare in
     let lowered = simp to_z-of_z at c.lower.ensures in
     let heights = lowered ∙ ap (λ z. with_part c.args.from (of_part i.heights c.args.from -ℤ z) i.heights) height_is in
-    subst (λ (g : ByPart ℤ). IsStored c.take_slot-slot.new.store i.shelves g i.size) (sym heights) made.stored
+    let stored = subst (λ (g : ByPart ℤ). IsStored c.take_slot-slot.new.store i.shelves g i.size) (sym heights) made.stored in
+    let at = slots_of i.store i.shelves in
+    let ms = marks_in (at c.args.from) in
+    let fs = floats_in (at c.args.from) in
+    let k = c.first_marked-k.result in
+    let v = seen_pool at i.size in
+    let slots = c.self.invariant.stored.sound.slots c.args.from in
+    let k_is : k ≡ first_marked ms = rw c.of-list.ensures at c.first_marked-k.ensures in
+    let marks_are : marks_of c.args.from v ≡ ms = marks_of-seen c.args.from at i.size c.requires in
+    let floats_are : floats_of c.args.from v.lists ≡ fs = floats_of-seen c.args.from at in
+    let is : s.entry ≡ entries.Float c.float_in.result = ap (λ (r : SlotView). r.entry) (sym c.slot.view_is) ∙ c.float_in.ensures in
+    let there = float-at_slot c.args.from k (at c.args.from) s c.float_in.result (waiting-floats c.args.from c.requires) slots was is in
+    let left = left-over c.args.from (first_marked ms) v ms fs c.requires marks_are floats_are in
+    let first = first-marked ms fs c.float_in.result (marks-shown c.args.from at (waiting-floats c.args.from c.requires) slots) (ap (slice_get fs) (sym k_is) ∙ there) in
+    let marked = (λ j. marked_among (marks_are j) (floats_are j)) ∙ first.marked ∙ ap (λ hs. c.float_in.result ∷ hs) (sym left.0) ∙ ap (λ j. c.float_in.result ∷ marked_floats c.args.from (without_entry c.args.from j v)) (sym k_is) in
+    pooled c.take_slot-slot.new.store i.shelves c.lower.new.self i.size i.known (i.chosen - 1) _ stored made.seen (tracked-fewer i.known.flags i.chosen c.args.from k c.float_in.result v c.requires c.self.invariant.tracked marked)
 
 pub returns : goal.returns
 returns c =
@@ -98,13 +130,13 @@ returns c =
     let k = c.first_marked-k.result in
     let s = c.take_slot-slot.result in
     let f = c.float_in.result in
-    let slots = c.self.invariant.sound.slots c.args.from in
+    let slots = c.self.invariant.stored.sound.slots c.args.from in
     let k_is : k ≡ first_marked ms = rw c.of-list.ensures at c.first_marked-k.ensures in
     let was = rw c.of-list.ensures at c.take_slot-slot.ensures.was in
     let taken = rw c.of-list.ensures at c.take_slot-slot.ensures.taken in
     let marks_are : marks_of c.args.from (seen_pool at i.size) ≡ marks_in (at c.args.from) = marks_of-seen c.args.from at i.size c.requires in
     let floats_are : floats_of c.args.from (seen_pool at i.size).lists ≡ floats_in (at c.args.from) = floats_of-seen c.args.from at in
-    let made = taken-out i.store c.take_slot-slot.new.store i.shelves i.heights i.size c.args.from k s c.self.invariant was taken c.take_slot-slot.ensures.spare in
+    let made = taken-out i.store c.take_slot-slot.new.store i.shelves i.heights i.size c.args.from k s c.self.invariant.stored was taken c.take_slot-slot.ensures.spare in
     let is : s.entry ≡ entries.Float f = ap (λ (r : SlotView). r.entry) (sym c.slot.view_is) ∙ c.float_in.ensures in
     let there = float-at_slot c.args.from k (at c.args.from) s f (waiting-floats c.args.from c.requires) slots was is in
     let left = left-over c.args.from (first_marked ms) (seen_pool at i.size) ms fs c.requires marks_are floats_are in

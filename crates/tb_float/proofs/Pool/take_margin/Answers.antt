@@ -7,7 +7,7 @@ use Rattle.tb_float.proofs.Pool.take_margin.Goals as goal
 pub overflow_sub-self-inside : goal.overflow_sub-self-inside
 overflow_sub-self-inside c =
     let i = c.self.inside in
-    let live = live_count-seen (slots_of i.store i.shelves) c.self.invariant.sound.slots in
+    let live = live_count-seen (slots_of i.store i.shelves) c.self.invariant.stored.sound.slots in
     let seen = ap (λ v. live_count v.lists) c.self.view_is in
-    let places = c.self.invariant.places in
+    let places = c.self.invariant.stored.places in
     omega (arith, c.live-live.ensures)

@@ -13,13 +13,13 @@ pub sum_of-requires-clause-a : goal.sum_of-requires-clause-a
 sum_of-requires-clause-a c =
     let i = c.self.inside in
     let h : FitsSigned w64 i.heights.here = search rules in
-    simp to_z-of_z (sums-are_rooms (slots_of i.store i.shelves) i.heights i.size i.store.spare parts.Here c.self.invariant.sound c.self.invariant.places)
+    simp to_z-of_z (sums-are_rooms (slots_of i.store i.shelves) i.heights i.size i.store.spare parts.Here c.self.invariant.stored.sound c.self.invariant.stored.places)
 
 pub returns : goal.returns
 returns c =
     let i = c.self.inside in
     let at = slots_of i.store i.shelves in
-    let slots = c.self.invariant.sound.slots parts.Here in
+    let slots = c.self.invariant.stored.sound.slots parts.Here in
     let fs = floats_in (at parts.Here) in
     let h : FitsSigned w64 i.heights.here = search rules in
     let w : FitsSigned w64 c.args.p.now.intextsep.width = search rules in
@@ -28,7 +28,7 @@ returns c =
     let here = ap (λ v. v.lists.here) c.self.view_is in
     let count : c.len.result ≡ length fs = c.len.ensures.value ∙ ap length (sym here) in
     let many : length fs ≡ length (at parts.Here) = length-floats_in parts.Here (at parts.Here) refl slots in
-    let sum : i.heights.here ≡ total_height fs = c.self.invariant.sound.heights_are parts.Here in
+    let sum : i.heights.here ≡ total_height fs = c.self.invariant.stored.sound.heights_are parts.Here in
     let bound = slots-sum parts.Here (at parts.Here) slots in
     let all = simp to_z-of_z at c.sum_of.ensures in
     let times = simp to_z-of_z at c.times.ensures.value in

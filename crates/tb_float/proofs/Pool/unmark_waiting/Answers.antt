@@ -1,20 +1,22 @@
 use Rattle.std.proofs.Common.{ap, ◌∙◌}
 use Rattle.tb_float.specs.Pool.{without_marks}
 use Rattle.tb_float.proofs.PoolLemmas.{unmarked-store}
+use Rattle.tb_float.proofs.TrackLemmas.{pooled, tracked-unmarked}
 use Rattle.tb_float.proofs.Pool.unmark_waiting.Goals as goal
 
 pub unmark_all-requires : goal.unmark_all-requires
-unmark_all-requires c = rw c.of-list.ensures (c.self.invariant.shelves_are.live c.args.p)
+unmark_all-requires c = rw c.of-list.ensures (c.self.invariant.stored.shelves_are.live c.args.p)
 
 pub invariant_of-self : goal.invariant_of-self
 invariant_of-self c =
     let i = c.self.inside in
     let unmarked = rw c.of-list.ensures at c.unmark_all.ensures.unmarked in
-    (unmarked-store i.store c.unmark_all.new.store i.shelves i.heights i.size c.args.p c.requires c.self.invariant unmarked c.unmark_all.ensures.spare).stored
+    let made = unmarked-store i.store c.unmark_all.new.store i.shelves i.heights i.size c.args.p c.requires c.self.invariant.stored unmarked c.unmark_all.ensures.spare in
+    pooled c.unmark_all.new.store i.shelves i.heights i.size i.known i.chosen _ made.stored made.seen (tracked-unmarked i.known.flags i.chosen c.args.p _ c.self.invariant.tracked)
 
 pub returns : goal.returns
 returns c =
     let i = c.self.inside in
     let unmarked = rw c.of-list.ensures at c.unmark_all.ensures.unmarked in
-    let made = unmarked-store i.store c.unmark_all.new.store i.shelves i.heights i.size c.args.p c.requires c.self.invariant unmarked c.unmark_all.ensures.spare in
+    let made = unmarked-store i.store c.unmark_all.new.store i.shelves i.heights i.size c.args.p c.requires c.self.invariant.stored unmarked c.unmark_all.ensures.spare in
     made.seen ∙ ap (without_marks c.args.p) c.self.view_is

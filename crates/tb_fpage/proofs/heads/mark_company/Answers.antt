@@ -3,7 +3,7 @@ use Rattle.tb_float.specs.Lists.{floats_of}
 use Rattle.tb_float.specs.Pool.{marks_of}
 use Rattle.tb_float.proofs.WaitingLemmas.{marks-count, with-marks-same}
 use Rattle.tb_fpage.specs.Walked.{IsMarking}
-use Rattle.tb_fpage.proofs.MarkingLemmas.{marking-start, marks-set, marked-again}
+use Rattle.tb_fpage.proofs.MarkingLemmas.{marking-start, marks-set, marked-again, floats-kept}
 use Rattle.tb_fpage.proofs.heads.mark_company.Goals as goal
 
 pub loop-joined-init : goal.loop-joined-init
@@ -12,7 +12,7 @@ loop-joined-init c =
     let from = c.args.from in
     let waits = c.requires.waiting in
     let all = floats_of from v.lists in
-    let w = c.args.walk.now in
+    let w = c.args.found.walk in
     let z = c.args.wanted.now in
     let many : length (marks_of from v) ≡ length all = marks-count from waits v c.len-count.ensures.marks c.len-count.ensures.second_marks in
     record {
@@ -20,3 +20,9 @@ loop-joined-init c =
       marking = subst (λ (ms : List Bool). IsMarking w z all ms) (sym (marks-set from waits (w.seen - 1) v c.mark.new.self c.mark.ensures)) (marking-start z w all (marks_of from v) many c.requires.unmarked c.requires.head);
       turns = omega arith;
     }
+
+pub next_joined-requires-clause-marking : goal.next_joined-requires-clause-marking
+next_joined-requires-clause-marking c =
+    let from = c.args.from in
+    let u = c.loop-joined.pool in
+    subst (λ fs. IsMarking c.loop-joined.walk c.args.wanted.now fs (marks_of from u)) (sym (floats-kept from (marks_of from u) u c.args.pool.now c.loop-joined.invariant.kept)) c.loop-joined.invariant.marking

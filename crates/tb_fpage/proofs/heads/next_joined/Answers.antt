@@ -6,7 +6,7 @@ use Rattle.tb_float.proofs.WaitingLemmas.{waiting-entries}
 use Rattle.tb_fpage.specs.Walked.{IsMarking}
 use Rattle.tb_float.proofs.EntryLemmas.{drop-entries, next-is_float}
 use Rattle.tb_fpage.proofs.WalkLemmas.{next-float, no-float, left-next, on-way-room}
-use Rattle.tb_fpage.proofs.MarkingLemmas.{marking-joined, marking-passed, marking-over}
+use Rattle.tb_fpage.proofs.MarkingLemmas.{marking-joined, marking-passed, marking-over, marking-full}
 use Rattle.tb_fpage.proofs.heads.next_joined.Goals as goal
 
 pub loop-entry-init : goal.loop-entry-init
@@ -69,3 +69,8 @@ returns-clause-over c =
     let w = c.loop-entry.walk in
     let none : [] ≡ drop w.seen all = sym (no-float (drop w.seen all) (sym c.in-None.ensures.steps.0 ∙ c.loop-entry.invariant.left)) in
     marking-over c.args.wanted.now w all _ none c.loop-entry.invariant.marking
+
+pub returns-then-walk-last-clause-over : goal.returns-then-walk-last-clause-over
+returns-then-walk-last-clause-over c =
+    let all = floats_of c.args.from c.args.pool.now.lists in
+    marking-full c.args.wanted.now c.loop-entry.walk all _ c.args.last c.if-walk-last.true c.requires.last c.loop-entry.invariant.marking

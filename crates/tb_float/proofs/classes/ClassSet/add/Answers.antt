@@ -1,11 +1,22 @@
-use Rattle.std.proofs.Common.{◌≡◌, ◌<◌, true, length, arith, rules, sym, ap, ◌∙◌}
-use Rattle.std.specs.Prelude.{slice_set}
-use Rattle.tb_float.proofs.ClassLemmas.{one-class-more}
+use Rattle.std.proofs.Common.{◌≡◌, ◌<◌, true, false, length, arith, rules, sym, ap, ◌∙◌}
+use Rattle.std.specs.Prelude.{slice_get, slice_set}
+use Rattle.std.proofs.lemmas.Option.{slice_get-get_or}
+use Rattle.tb_float.proofs.ClassLemmas.{one-class-more, left-added}
 use Rattle.tb_float.proofs.classes.ClassSet.add.Goals as goal
 
-pub returns : goal.returns
-returns c = λ fs f is h.
+pub returns-clause-classes : goal.returns-clause-classes
+returns-clause-classes c = λ fs f is h.
     let s = c.args.self.now in
     let many : length s.flags ≡ 256 = search rules in
     let low : f.class < 256 = omega (arith, is) in
-    one-class-more s (record { flags = slice_set s.flags c.from.result true }) fs f low many (ap (λ k. slice_set s.flags k true) (c.from.ensures ∙ sym is)) h
+    one-class-more s (record { flags = slice_set s.flags c.from-place.result true; left = c.left_after-self.result }) fs f low many (ap (λ k. slice_set s.flags k true) (c.from-place.ensures ∙ sym is)) h
+
+pub returns-clause-left : goal.returns-clause-left
+returns-clause-left c = λ all has h.
+    let s = c.args.self.now in
+    let many : length s.flags ≡ 256 = search rules in
+    let got = ap (slice_get s.flags) (sym c.from-place.ensures) ∙ slice_get-get_or s.flags c.from-place.result false (omega arith) in
+    left-added s (record { flags = slice_set s.flags c.from-place.result true; left = c.left_after-self.result }) c.args.class _ all got (ap (λ k. slice_set s.flags k true) c.from-place.ensures) c.left_after-self.ensures has h
+
+pub returns-clause-flags : goal.returns-clause-flags
+returns-clause-flags c = ap (λ k. slice_set c.args.self.now.flags k true) c.from-place.ensures

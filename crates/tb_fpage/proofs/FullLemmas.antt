@@ -1,0 +1,114 @@
+-- Where no class is left, no later float joins a company, and none is a head.
+use Rattle.std.proofs.Common.{◌≡◌, ℕ, zero, suc, ◌≤◌, ◌==◌, Bool, true, false, not, ◌||◌, ◌&&◌, List, [], ◌∷◌, ◌++◌, length, take, drop, Some, None, slice_get, refl, sym, ap, ◌∙◌, subst, arith}
+use Rattle.std.specs.Prelude.{ℤ, int_le, Option, if◌then◌else◌}
+use Rattle.std.proofs.lemmas.Bool.{eq-eqb}
+use Rattle.std.proofs.lemmas.List.{append-nil, append_assoc, length-append}
+use Rattle.tb_node.specs.declared.Float.{Float}
+use Rattle.tb_float.specs.declared.classes.ClassSet.{ClassSet}
+use Rattle.tb_float.specs.Lists.{has_class}
+use Rattle.tb_float.specs.Classes.{AreOfClasses}
+use Rattle.tb_fpage.specs.declared.Wanted.{Wanted}
+use Rattle.tb_fpage.specs.declared.walk.Walk.{Walk}
+use Rattle.tb_fpage.specs.Company.{Choice, passed_over, company_height, suits, joins, choices_from, left_floats, is_made, company_of_head, company_from, company}
+use Rattle.tb_fpage.specs.Walked.{EndsBy, IsOnWay, AreTried}
+use Rattle.tb_fpage.proofs.WalkLemmas.{all-chosen, left-append, company-passed, ends-passed}
+
+-- ---- classes in lists
+
+or-true : (b : Bool) → (b || true) ≡ true
+or-true true = refl
+or-true false = refl
+
+has-first : (f : Float) (fs : List Float) → has_class f.class (f ∷ fs) ≡ true
+has-first f fs = ap (λ b. b || has_class f.class fs) (eq-eqb f.class f.class refl)
+
+has-later : (k : ℕ) (f : Float) (fs : List Float) → has_class k fs ≡ true → has_class k (f ∷ fs) ≡ true
+has-later k f fs h = ap (λ b. (f.class == k) || b) h ∙ or-true (f.class == k)
+
+has-more : (k : ℕ) (fs gs : List Float) → has_class k fs ≡ true → has_class k (fs ++ gs) ≡ true
+has-more k [] gs h = cc
+has-more k (f ∷ fs) gs h = by_test (f.class == k) h (λ e. has-more k fs gs e)
+  where
+    by_test : (t : Bool) → (t || has_class k fs) ≡ true → (has_class k fs ≡ true → has_class k (fs ++ gs) ≡ true) → (t || has_class k (fs ++ gs)) ≡ true
+    by_test true e later = refl
+    by_test false e later = later e
+
+has-drop : (k n : ℕ) (fs : List Float) → has_class k (drop n fs) ≡ true → has_class k fs ≡ true
+has-drop k zero fs h = h
+has-drop k (suc n) [] h = h
+has-drop k (suc n) (f ∷ fs) h = has-later k f fs (has-drop k n fs h)
+
+-- a float that stands in a list has its class there
+pub has-there : (fs : List Float) (n : ℕ) (f : Float) → slice_get fs n ≡ Some f → has_class f.class fs ≡ true
+has-there [] n f got = cc
+has-there (g ∷ fs) zero f got = let same : g ≡ f = cc in subst (λ (x : Float). has_class x.class (g ∷ fs) ≡ true) same (has-first g fs)
+has-there (g ∷ fs) (suc n) f got = has-later f.class g fs (has-there fs n f got)
+
+pub has-left : (fs rest : List Float) (n : ℕ) (f : Float) → f ∷ rest ≡ drop n fs → has_class f.class fs ≡ true
+has-left fs rest n f left = has-drop f.class n fs (ap (has_class f.class) (sym left) ∙ has-first f rest)
+
+classes-after : (fs all : List Float) (n : ℕ) → AreOfClasses fs all → AreOfClasses fs (drop n all)
+classes-after fs all n h = λ k e. h k (has-drop k n all e)
+
+classes-next : (before fs : List Float) (f : Float) → AreOfClasses before (f ∷ fs) → AreOfClasses (before ++ f ∷ []) fs
+classes-next before fs f h = λ k e. has-more k before (f ∷ []) (h k (has-later k f fs e))
+
+-- ---- no later float joins
+
+joins-closed : (z : Wanted) (before : List Choice) (f : Float) → has_class f.class (left_floats before) ≡ true → joins z before f ≡ false
+joins-closed z before f h =
+    ap (λ a. suits z f && a && int_le (company_height z.sep (before ++ record { float = f; chosen = true } ∷ [])) z.height) (all-chosen f.class before ∙ ap not h)
+    ∙ and-false (suits z f) (int_le (company_height z.sep (before ++ record { float = f; chosen = true } ∷ [])) z.height)
+  where
+    and-false : (a b : Bool) → (a && false && b) ≡ false
+    and-false true b = refl
+    and-false false b = refl
+
+choices-closed : (z : Wanted) (before : List Choice) (fs : List Float) → AreOfClasses (left_floats before) fs → choices_from z before fs ≡ before ++ passed_over fs
+choices-closed z before [] h = sym (append-nil before)
+choices-closed z before (f ∷ fs) h =
+    let c : Choice = record { float = f; chosen = false } in
+    ap (λ b. choices_from z (before ++ record { float = f; chosen = b } ∷ []) fs) (joins-closed z before f (h f.class (has-first f fs)))
+    ∙ choices-closed z (before ++ c ∷ []) fs (subst (λ gs. AreOfClasses gs fs) (sym (left-append before (c ∷ []))) (classes-next (left_floats before) fs f h))
+    ∙ append_assoc before (c ∷ []) (passed_over fs)
+
+height-closed : (sep : ℤ) (before : List Choice) (fs : List Float) → company_height sep (before ++ passed_over fs) ≡ company_height sep before
+height-closed sep before [] = ap (company_height sep) (append-nil before)
+height-closed sep before (f ∷ fs) =
+    let c : Choice = record { float = f; chosen = false } in
+    ap (company_height sep) (sym (append_assoc before (c ∷ []) (passed_over fs))) ∙ height-closed sep (before ++ c ∷ []) fs ∙ company-passed sep before f
+
+ends-closed : (last : ℕ) (before : List Choice) (fs : List Float) → last ≤ length before → EndsBy last before → EndsBy last (before ++ passed_over fs)
+ends-closed last before [] le h = subst (EndsBy last) (sym (append-nil before)) h
+ends-closed last before (f ∷ fs) le h =
+    let c : Choice = record { float = f; chosen = false } in
+    subst (EndsBy last) (append_assoc before (c ∷ []) (passed_over fs)) (ends-closed last (before ++ c ∷ []) fs (omega (arith, le, length-append before (c ∷ []))) (ends-passed last before f le h))
+
+-- a walk with no class left has the height and the last float of the company
+pub full-height : (z : Wanted) (w : Walk) (all : List Float) (choices : List Choice) (way : IsOnWay w z all choices) → AreOfClasses (left_floats way.before) all → w.height ≡ company_height z.sep choices
+full-height z w all choices way h =
+    way.stands.height ∙ sym (height-closed z.sep way.before (drop w.seen all))
+    ∙ ap (company_height z.sep) (sym (choices-closed z way.before (drop w.seen all) (classes-after (left_floats way.before) all w.seen h)) ∙ way.ends)
+
+pub full-ends : (z : Wanted) (w : Walk) (all : List Float) (choices : List Choice) (way : IsOnWay w z all choices) → AreOfClasses (left_floats way.before) all → EndsBy w.last choices
+full-ends z w all choices way h =
+    subst (EndsBy w.last) (sym (choices-closed z way.before (drop w.seen all) (classes-after (left_floats way.before) all w.seen h)) ∙ way.ends)
+    (ends-closed w.last way.before (drop w.seen all) way.stands.last_within way.stands.last)
+
+-- ---- none is a head
+
+company-closed : (z : Wanted) (before fs : List Float) → AreOfClasses before fs → company_from z before fs ≡ None
+company-closed z before [] h = refl
+company-closed z before (f ∷ fs) h =
+    let cs = company_of_head z before f fs in
+    let later = company_from z (before ++ f ∷ []) fs in
+    ap (λ b. if (suits z f && not b) && is_made z cs then Some cs else later) (h f.class (has-first f fs))
+    ∙ no-head (suits z f) (is_made z cs) (Some cs) later ∙ company-closed z (before ++ f ∷ []) fs (classes-next before fs f h)
+  where
+    no-head : (s m : Bool) (x y : Option (List Choice)) → (if (s && not true) && m then x else y) ≡ y
+    no-head true m x y = refl
+    no-head false m x y = refl
+
+pub tried-full : (z : Wanted) (earlier : ClassSet) (place : ℕ) (all left : List Float) → AreTried z earlier place all left → AreOfClasses (take place all) all → company z all ≡ None
+tried-full z earlier place all left t h =
+    sym t.later ∙ ap (company_from z (take place all)) t.left_are ∙ company-closed z (take place all) (drop place all) (classes-after (take place all) all place h)
