@@ -2,7 +2,7 @@
 use Rattle.std.specs.Prelude.{ℕ, ℤ, ◌+◌, Bool, true, false, List, [], ◌∷◌, ◌++◌, map, length, min, Option, Some, None, if◌then◌else◌}
 use Rattle.tb_pool.specs.Lists.{Lists, list_at}
 use Rattle.tb_node.specs.declared.Node.{Node}
-use Rattle.tb_node.specs.Plain.{Leaf, leaf_of, PlainKind, plain, ins, act, PlainNode, plain_of}
+use Rattle.tb_node.specs.Plain.{Leaf, leaf_of, PlainKind, plain, ins, act, PlainNode, plain_list}
 use Rattle.tb_break.specs.Best.{Breakpoint}
 use Rattle.tb_break.specs.Prune.{pruned_nodes}
 use Rattle.tb_insert.specs.declared.Class.{Class}
@@ -34,10 +34,6 @@ abbrev pub nothing_yet : List Class → Contents
 nothing_yet cs = record { classes = cs; boxes = map void_box cs; page = []; waiting = []; held = []; frozen = None; stopped = false }
 
 -- ---- in a store
-
--- a list of the store as the definitions see it
-abbrev pub plain_list : Lists Node → ℕ → List PlainNode
-plain_list store l = map (plain_of (list_at store)) (list_at store l)
 
 -- the list of a class box as the definitions see it
 abbrev pub leaf_list : Lists Node → ℕ → List Leaf

@@ -1,6 +1,6 @@
 -- A page fires: what becomes of the insertions before its break, as the account of the page tells it, and what the
 -- builder holds on the way.
-use Rattle.std.specs.Prelude.{◌≡◌, ◌≢◌, ◌≤◌, map, ℕ, ◌==◌, Bool, true, false, List, [], ◌∷◌, ◌++◌, length, take, drop, nat_lt, nat_le, Option, Some, None, if◌then◌else◌}
+use Rattle.std.specs.Prelude.{◌≡◌, ◌≢◌, ◌≤◌, map, ℕ, ◌==◌, Bool, true, false, List, [], ◌∷◌, ◌++◌, length, take, drop, nat_lt, nat_le, Option, Some, None, is_some, if◌then◌else◌}
 use Rattle.std.specs.FinMap.{get}
 use Rattle.tb_pool.specs.Lists.{Lists, IsLive, list_at}
 use Rattle.tb_node.specs.declared.Node.{Node}
@@ -13,7 +13,7 @@ use Rattle.tb_node.specs.Plain.{Leaf, leaf_of, Inserted, inserted_of, PlainKind,
 use Rattle.tb_break.specs.Prune.{pruned_leaves}
 use Rattle.tb_insert.specs.declared.Account.{Account}
 use Rattle.tb_insert.specs.Account.{Frozen, Label, whole, split, late, labelled}
-use Rattle.tb_insert.specs.Running.{AccountStands}
+use Rattle.tb_insert.specs.Running.{IsAccountOf}
 use Rattle.tb_builder.specs.declared.Share.{Share}
 use Rattle.tb_builder.specs.declared.Share.TheVariants.{All, Front, Nothing}
 use Rattle.tb_builder.specs.declared.ClassList.{ClassList}
@@ -24,7 +24,7 @@ use Rattle.tb_builder.specs.Owned.{Lacks, inner_ids, ids_of, owned, IsOwned}
 use Rattle.tb_builder.specs.declared.Ask.{Ask}
 use Rattle.tb_builder.specs.declared.Page.{Page}
 use Rattle.tb_builder.specs.Next.{NodeFits, FiredIs}
-use Rattle.tb_builder.specs.Running.{IsSound}
+use Rattle.tb_builder.specs.Running.{IsSound, insertion_of_kind}
 
 -- what a label gives: an insertion that is split at its list's end gives all
 abbrev pub share_of : Label → Inserted → Share
@@ -107,7 +107,7 @@ pub record Sorts (b : Builder) (s : Lists Node) (d : Builder) (t : Lists Node) :
   pub waiting : (contents_of d t).waiting ≡ (contents_of b s).waiting
 
 -- of an insertion that is first on the page, these nodes went to the box of its class, and these are left
-pub record Gives (b : Builder) (s : Lists Node) (d : Builder) (t : Lists Node) (n : Node) (i : Insertion) (gave kept : List Node) : Type 0 where
+pub record GivesToBox (b : Builder) (s : Lists Node) (d : Builder) (t : Lists Node) (n : Node) (i : Insertion) (gave kept : List Node) : Type 0 where
   pub sorts : Sorts b s d t
   pub page : list_at t b.page ≡ list_at s b.page
   pub behind : (ns : List Node) → list_at s b.page ≡ n ∷ ns → map (plain_of (list_at t)) ns ≡ map (plain_of (list_at s)) ns
@@ -122,16 +122,47 @@ pub record Takes (b : Builder) (s : Lists Node) (d : Builder) (t : Lists Node) (
   pub held : (contents_of d t).held ≡ (contents_of b s).held ++ more
 
 -- the same, where the boxes stay
-pub record Drops (b : Builder) (s : Lists Node) (d : Builder) (t : Lists Node) (n : Node) (more : List PlainNode) : Type 0 where
+pub record LeavesPage (b : Builder) (s : Lists Node) (d : Builder) (t : Lists Node) (n : Node) (more : List PlainNode) : Type 0 where
   pub takes : Takes b s d t n more
   pub boxes : (contents_of d t).boxes ≡ (contents_of b s).boxes
 
 -- the insertion that was first on the page went where its share says
-pub record Settles (b : Builder) (s : Lists Node) (d : Builder) (t : Lists Node) (n : Node) (i : Insertion) (share : Share) : Type 0 where
+pub record SharesOut (b : Builder) (s : Lists Node) (d : Builder) (t : Lists Node) (n : Node) (i : Insertion) (share : Share) : Type 0 where
   pub takes : Takes b s d t n (on_line n.line (share_held share (inserted_of (list_at s) i)))
   pub boxes : (contents_of d t).boxes ≡ map (box_shared share (inserted_of (list_at s) i)) (contents_of b s).boxes
 
+-- ---- the insertions of a list
+
+-- the node is an insertion
+abbrev pub is_insertion : Node → Bool
+is_insertion n = is_some (insertion_of_kind n.kind)
+
+-- none of the nodes is an insertion
+abbrev pub NoInsertions : List Node → Type 0
+NoInsertions [] = Unit {0}
+NoInsertions (n ∷ ns) = (is_insertion n ≡ false) × NoInsertions ns
+
+-- the first node is an insertion
+abbrev pub begins_with_insertion : List Node → Bool
+begins_with_insertion [] = false
+begins_with_insertion (n ∷ ns) = is_insertion n
+
+-- the first insertion of the list has this place
+pub record InsertionAt (ns : List Node) (place : ℕ) : Type 0 where
+  pub ahead : List Node
+  pub behind : List Node
+  pub parts : ns ≡ ahead ++ behind
+  pub place_is : place ≡ length ahead
+  pub plain : NoInsertions ahead
+  pub first : begins_with_insertion behind ≡ true
+
 -- ---- the page is sorted, from its front, into its body, the boxes and what is held
+
+-- the list is none of the builder's, and holds no insertion
+pub record IsBody (b : Builder) (s : Lists Node) (body : ℕ) : Type 0 where
+  pub live : IsLive s body
+  pub apart : Lacks body (owned (ids_of b) s)
+  pub plain : inner_ids (list_at s body) ≡ []
 
 -- the lists stay the builder's but for the body, and the body holds no insertion
 pub record SortsTo (b : Builder) (s : Lists Node) (d : Builder) (t : Lists Node) (body : ℕ) : Type 0 where
@@ -156,7 +187,7 @@ pub record IsMarkedAt (a : Account) (index : ℕ) (rest : List PlainNode) : Type
   pub z : Frozen
   pub page : List PlainNode
   pub before : List PlainNode
-  pub stands : AccountStands a z page (before ++ rest)
+  pub stands : IsAccountOf a z page (before ++ rest)
   pub index_is : index ≡ length before
 
 -- each node of the list fits

@@ -8,7 +8,7 @@ use Rattle.tb_node.specs.Fit.{NodesFit, SumsFit}
 use Rattle.tb_node.specs.Small.{IsAmount, IsSmallShape}
 use Rattle.tb_node.specs.Shape.{Shape}
 use Rattle.tb_node.specs.Sums.{size_of}
-use Rattle.tb_node.specs.Plain.{leaf_shape, Inserted, PlainKind, plain, ins, act, PlainNode, node_shape}
+use Rattle.tb_node.specs.Plain.{leaf_shape, Inserted, PlainKind, plain, ins, act, PlainNode, node_shape, plain_list}
 use Rattle.tb_break.specs.Best.{Breakpoint, is_stop, least_cost}
 use Rattle.tb_insert.specs.Account.{Frozen, labelled}
 use Rattle.tb_insert.specs.Arrived.{PageFits}
@@ -20,7 +20,7 @@ use Rattle.tb_builder.specs.declared.Event.TheVariants as events
 use Rattle.tb_builder.specs.Reached.{acted, tried, Reach, also_reached, try_of, breakpoints}
 use Rattle.tb_builder.specs.Fired.{Boxed, content_of, Fired, page_break, fired_by}
 use Rattle.tb_builder.specs.Owned.{Lacks, inner_ids, Ids, owned}
-use Rattle.tb_builder.specs.Contents.{Contents, plain_list, frozen_of, laid, reach_ahead, reach_whole, places_of}
+use Rattle.tb_builder.specs.Contents.{Contents, frozen_of, laid, reach_ahead, reach_whole, places_of}
 
 -- ---- what is asked
 
@@ -79,7 +79,7 @@ pub record NextFits (c : Contents) (ask : Ask) : Type 0 where
 -- ---- what is answered
 
 -- what stays while a page is filled
-pub record Stays (c d : Contents) (ask : Ask) : Type 0 where
+pub record KeepsBoxes (c d : Contents) (ask : Ask) : Type 0 where
   pub classes : d.classes ≡ c.classes
   pub boxes : d.boxes ≡ c.boxes
   pub held : d.held ≡ c.held
@@ -88,7 +88,7 @@ pub record Stays (c d : Contents) (ask : Ask) : Type 0 where
 
 -- ns is the page so far and what follows it, w what is reached of it past the page, and bs are the page's places.
 -- The place did not stop: what is reached after it is reached from the contents now.
-pub record Goes (ns : List PlainNode) (w : Reach) (bs : List Breakpoint) (ask : Ask) (line : ℕ) (b : Breakpoint) (d : Contents) : Type 0 where
+pub record GoesPast (ns : List PlainNode) (w : Reach) (bs : List Breakpoint) (ask : Ask) (line : ℕ) (b : Breakpoint) (d : Contents) : Type 0 where
   pub reach : w ≡ also_reached (tried line b) (reach_ahead d ask)
   pub places : places_of d ask ≡ bs ++ b ∷ []
   pub whole : laid d ask ≡ ns
@@ -99,7 +99,7 @@ abbrev pub stopped_with : List PlainNode → List PlainNode → ℕ → Breakpoi
 stopped_with page waiting line b = record { reached = tried line b ∷ []; passed = page; beyond = waiting; fires = true }
 
 -- the place is the stop: the page, what waits and the places up to the stop are those of the whole list
-pub record Stops (ns : List PlainNode) (w : Reach) (bs : List Breakpoint) (ask : Ask) (line : ℕ) (b : Breakpoint) (d : Contents) : Type 0 where
+pub record IsTheStop (ns : List PlainNode) (w : Reach) (bs : List Breakpoint) (ask : Ask) (line : ℕ) (b : Breakpoint) (d : Contents) : Type 0 where
   pub reach : w ≡ stopped_with d.page d.waiting line b
   pub reached : breakpoints (reach_whole d ask).reached ≡ bs ++ b ∷ []
   pub passed : (reach_whole d ask).passed ≡ d.page
@@ -113,8 +113,8 @@ pub record TriedIs (t : Try) (ns : List PlainNode) (w : Reach) (bs : List Breakp
   pub line : ℕ
   pub place : Breakpoint
   pub made : t ≡ try_of line place (least_cost bs)
-  pub goes : is_stop place ≡ false → Goes ns w bs ask line place d
-  pub stops : is_stop place ≡ true → Stops ns w bs ask line place d
+  pub goes : is_stop place ≡ false → GoesPast ns w bs ask line place d
+  pub stops : is_stop place ≡ true → IsTheStop ns w bs ask line place d
 
 -- the list without one act
 pub record Without (a : Act) (ns ms : List PlainNode) : Type 0 where
@@ -190,4 +190,4 @@ IsGivenOut events.Empty s b r = Unit {0}
 -- what `next` returns: after a stop the page that fires, else the first event past the page so far
 abbrev pub NextIs : Bool → Event → Contents → Ask → Contents → Lists Node → Type 0
 NextIs true e c ask d s = FiresWith e c ask d s
-NextIs false e c ask d s = FirstIs e (laid c ask) (reach_ahead c ask) (places_of c ask) ask d × Stays c d ask
+NextIs false e c ask d s = FirstIs e (laid c ask) (reach_ahead c ask) (places_of c ask) ask d × KeepsBoxes c d ask

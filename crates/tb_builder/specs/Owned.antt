@@ -162,6 +162,6 @@ pub record IsOwned (b : Ids) (s : Lists Node) : Type 0 where
   pub known : AllKnown (classes_of b) (nodes_of b s)
 
 -- lists that are not the builder's stay as they are, and are not its own afterwards
-pub record Keeps (b : Ids) (s : Lists Node) (d : Ids) (t : Lists Node) : Type 0 where
+pub record KeepsOthers (b : Ids) (s : Lists Node) (d : Ids) (t : Lists Node) : Type 0 where
   pub others : (q : ℕ) → IsLive s q → Lacks q (owned b s) → get t.lists q ≡ get s.lists q
   pub apart : (q : ℕ) → IsLive s q → Lacks q (owned b s) → Lacks q (owned d t)

@@ -17,12 +17,12 @@ use Rattle.tb_builder.specs.declared.Builder.{Builder}
 use Rattle.tb_builder.specs.Reached.{tried, Reach, also_reached, reach_from, try_of, breakpoints}
 use Rattle.tb_builder.specs.Contents.{Contents, contents_of, laid, reach_ahead, places_of}
 use Rattle.tb_builder.specs.Owned.{ids_of, owned, Lacks, IsOwned}
-use Rattle.tb_builder.specs.Running.{CourseStands, Underway, places_by, IsSound, act_of_kind, insertion_of_kind}
-use Rattle.tb_builder.specs.Next.{FirstIs, Stays, stopped_with}
+use Rattle.tb_builder.specs.Running.{IsCourseOf, Underway, places_by, IsSound, act_of_kind, insertion_of_kind}
+use Rattle.tb_builder.specs.Next.{FirstIs, KeepsBoxes, stopped_with}
 use Rattle.tb_builder.specs.Past.{EventPast, TurnPast}
 
 -- the lists are the builder's still, and lists that were not its own stay as they are and are not its own
-pub record Moves (b : Builder) (s : Lists Node) (d : Builder) (t : Lists Node) : Type 0 where
+pub record ChangesPage (b : Builder) (s : Lists Node) (d : Builder) (t : Lists Node) : Type 0 where
   pub own : IsOwned (ids_of d) t
   pub others : (q : ℕ) → Lacks q (owned (ids_of b) s) → get t.lists q ≡ get s.lists q
   pub keeps : (q : ℕ) → Lacks q (owned (ids_of b) s) → Lacks q (owned (ids_of d) t)
@@ -46,7 +46,7 @@ abbrev pub places_on : Frozen → Contents → List Breakpoint
 places_on z c = places_by z c.page c.waiting
 
 -- a node went on the page, and nothing was reached by it
-pub record Passes (z : Frozen) (c d : Contents) : Type 0 where
+pub record GoesUntried (z : Frozen) (c d : Contents) : Type 0 where
   pub reach : reach_on z c ≡ reach_on z d
   pub places : places_on z d ≡ places_on z c
   pub whole : d.page ++ d.waiting ≡ c.page ++ c.waiting
@@ -64,7 +64,7 @@ pub record StopsThere (z : Frozen) (line : ℕ) (b : Breakpoint) (k : Course) (c
   pub page : d.page ≡ c.page
   pub waiting : d.waiting ≡ c.waiting
   pub stopped : d.stopped ≡ true
-  pub course : CourseStands z k d.page (places_on z c ++ b ∷ [])
+  pub course : IsCourseOf z k d.page (places_on z c ++ b ∷ [])
   pub reached : breakpoints (reach_from z.limit (terms_after z) [] (d.page ++ d.waiting)).reached ≡ places_on z c ++ b ∷ []
   pub passed : (reach_from z.limit (terms_after z) [] (d.page ++ d.waiting)).passed ≡ d.page
   pub beyond : (reach_from z.limit (terms_after z) [] (d.page ++ d.waiting)).beyond ≡ d.waiting
@@ -79,7 +79,7 @@ pub record TriesOn (z : Frozen) (t : Try) (k : Course) (c d : Contents) : Type 0
 
 -- the first node that waits, no act and no insertion, was tried where it is a legal place, and went on the page unless it stops
 abbrev pub StepIs : Option Event → Frozen → Course → Contents → Contents → Type 0
-StepIs None z k c d = Passes z c d × Underway z k d.page d.waiting × (d.stopped ≡ c.stopped)
+StepIs None z k c d = GoesUntried z c d × Underway z k d.page d.waiting × (d.stopped ≡ c.stopped)
 StepIs (Some (events.Try t)) z k c d = TriesOn z t k c d
 StepIs (Some (events.Act a)) z k c d = ⊥
 StepIs (Some (events.Fired p)) z k c d = ⊥
@@ -101,7 +101,7 @@ pub record StepFits (z : Frozen) (page : List PlainNode) (held : ℕ → List No
 -- ---- a turn
 
 -- nothing was reached in the turn
-pub record Turns (c d : Contents) (ask : Ask) : Type 0 where
+pub record ReachesNothing (c d : Contents) (ask : Ask) : Type 0 where
   pub reach : reach_ahead c ask ≡ reach_ahead d ask
   pub places : places_of d ask ≡ places_of c ask
   pub whole : laid d ask ≡ laid c ask
@@ -109,7 +109,7 @@ pub record Turns (c d : Contents) (ask : Ask) : Type 0 where
 
 -- the turn answered nothing, or the first event of what is reached
 abbrev pub TurnBy : Option Event → Contents → Contents → Ask → Type 0
-TurnBy None c d ask = Turns c d ask
+TurnBy None c d ask = ReachesNothing c d ask
 TurnBy (Some e) c d ask = FirstIs e (laid c ask) (reach_ahead c ask) (places_of c ask) ask d
 
 -- one turn of the builder: what it answered, and what stands then
@@ -119,7 +119,7 @@ pub record TurnIs (b : Builder) (s : Lists Node) (ask : Ask) (o : Option Event) 
   pub keeps : (q : ℕ) → Lacks q (owned (ids_of b) s) → Lacks q (owned (ids_of d) t)
   pub room : o ≡ None → d.opened ≡ false → (b.opened ≡ false) × (s.spare ≤ t.spare)
   pub shorter : o ≡ None → length (contents_of d t).waiting < length (contents_of b s).waiting
-  pub stays : Stays (contents_of b s) (contents_of d t) ask
+  pub stays : KeepsBoxes (contents_of b s) (contents_of d t) ask
   pub turned : TurnBy o (contents_of b s) (contents_of d t) ask
   pub past : TurnPast o (contents_of b s) (contents_of d t) ask
 
@@ -128,6 +128,6 @@ pub record Filled (b : Builder) (s : Lists Node) (ask : Ask) (e : Event) (d : Bu
   pub sound : IsSound d t
   pub others : (q : ℕ) → Lacks q (owned (ids_of b) s) → get t.lists q ≡ get s.lists q
   pub keeps : (q : ℕ) → Lacks q (owned (ids_of b) s) → Lacks q (owned (ids_of d) t)
-  pub stays : Stays (contents_of b s) (contents_of d t) ask
+  pub stays : KeepsBoxes (contents_of b s) (contents_of d t) ask
   pub first : FirstIs e (laid (contents_of b s) ask) (reach_ahead (contents_of b s) ask) (places_of (contents_of b s) ask) ask (contents_of d t)
   pub past : EventPast e (contents_of b s) (contents_of d t) ask

@@ -2,8 +2,8 @@
 
 ghost use Rattle.std.specs.Prelude.{◌≡◌, ◌+◌, min, option_to_list, map};
 ghost use Rattle.tb_pool.specs.Lists.{IsLive, list_at};
-ghost use Rattle.tb_node.specs.Plain.{plain_of};
-ghost use Rattle.tb_builder.specs.Contents.{contents_of, plain_list, kind_count, node_count, boxed_of, box_count, contents_count};
+ghost use Rattle.tb_node.specs.Plain.{plain_of, plain_list};
+ghost use Rattle.tb_builder.specs.Contents.{contents_of, kind_count, node_count, boxed_of, box_count, contents_count};
 ghost use Rattle.tb_builder.specs.Owned.{inner_of, inner_ids, box_ids, AllLive, VoidEmpty};
 ghost use Rattle.tb_builder.specs.Running.{IsSound};
 

@@ -1,6 +1,6 @@
 //! A page is filled: the nodes that wait go on it one by one, up to the next event.
 
-ghost use Rattle.std.specs.Prelude.{◌≡◌, ◌≢◌, ◌<◌, ◌<ℤ◌, ◌≤◌, ◌+◌, pos, ℕ, List, [], ◌∷◌, ◌++◌, Bool, true, false, Some, None, IsSome, IfOk, OnOk, OnErr, slice_get};
+ghost use Rattle.std.specs.Prelude.{◌≡◌, ◌≢◌, ◌<◌, ◌<ℤ◌, ◌≤◌, ◌+◌, pos, ℕ, List, [], ◌∷◌, ◌++◌, Bool, true, false, Some, None, IsSome, IfOk, OnOk, OnErr, slice_get, length, drop};
 ghost use Rattle.tb_pool.specs.Lists.{IsLive, list_at};
 ghost use Rattle.tb_node.specs.declared.Node.{Node as NodeOf};
 ghost use Rattle.tb_node.specs.Shape.{is_box};
@@ -11,21 +11,23 @@ ghost use Rattle.tb_break.specs.Best.{Breakpoint};
 ghost use Rattle.tb_break.specs.Legal.{ends_lasting};
 ghost use Rattle.tb_insert.specs.Account.{Frozen};
 ghost use Rattle.tb_insert.specs.Running.{Differ};
-ghost use Rattle.tb_builder.specs.Owned.{ids_of, owned, Lacks, IsOwned, Keeps};
+ghost use Rattle.tb_builder.specs.Owned.{ids_of, owned, Lacks, IsOwned, KeepsOthers};
 ghost use Rattle.tb_builder.specs.Places.{page_shapes, node_penalty, glue_first};
 ghost use Rattle.tb_builder.specs.Reached.{holds_box};
 ghost use Rattle.tb_builder.specs.Contents.{contents_of};
-ghost use Rattle.tb_builder.specs.Running.{IsSound, CourseStands, Underway, AllLoose, kept_frozen, frozen_with, act_of_kind, insertion_of_kind};
+ghost use Rattle.tb_builder.specs.Running.{IsSound, IsCourseOf, Underway, AllLoose, kept_frozen, frozen_with, act_of_kind, insertion_of_kind};
 ghost use Rattle.tb_builder.specs.Next.{AskFits, NextFits, NextIs, IsGivenOut};
 ghost use Rattle.tb_builder.specs.Past.{EventPast};
-ghost use Rattle.tb_builder.specs.Turn.{Moves, Shifted, StepIs, StepFits, event_of, TurnIs, Filled};
+ghost use Rattle.tb_builder.specs.Calls.{ComesAfter, IsNoPlace};
+ghost use Rattle.tb_builder.specs.Walked.{moved, LeadsOn};
+ghost use Rattle.tb_builder.specs.Turn.{ChangesPage, Shifted, StepIs, StepFits, event_of, TurnIs, Filled};
 
 use crate::measuring::list_size;
-use crate::moving::{act_of, drop_first, insertion_of, is_box, is_matter, penalty_of, top_node};
+use crate::moving::{act_of, drop_first, insertion_of, is_matter, is_walked, penalty_of};
 use crate::trying::stops;
 use crate::{Ask, Builder, Event};
 use std::alloc::AllocError;
-use tb_break::is_lasting;
+use tb_break::{is_box, is_lasting, place_penalty, top_node};
 use tb_node::{Insertion, Node};
 use tb_pool::Lists;
 
@@ -44,7 +46,7 @@ impl Builder {
         ensures event { IfOk result (λ e. NextIs self.old.stopped e (contents_of self.old store.old) ask.now (contents_of self.new store.new) store.new) }
         ensures past { IfOk result (λ e. self.old.stopped ≡ false → EventPast e (contents_of self.old store.old) (contents_of self.new store.new) ask.now) }
         ensures sound { IsSound self.new store.new }
-        ensures keeps { Keeps (ids_of self.old) store.old (ids_of self.new) store.new }
+        ensures keeps { KeepsOthers (ids_of self.old) store.old (ids_of self.new) store.new }
         ensures body { IfOk result (λ e. IsGivenOut e store.old (ids_of self.new) store.new) }
         ensures builder { OnErr result (self.new ≡ self.old) }
         ensures lists { OnErr result (store.new.lists ≡ store.old.lists) }
@@ -55,6 +57,118 @@ impl Builder {
         }
         self.make_room(store)?;
         Ok(self.fill(store, ask))
+    }
+
+    /// The next event that is no place: as [`Self::next`] called until it returns none, where the places that it tries are
+    /// passed over.
+    ///
+    /// If memory is lacking, some of the places may have been passed over already.
+    pub fn next_without_tries(
+        &mut self,
+        store: &mut Lists<Node>,
+        ask: &Ask,
+    ) -> Result<Event, AllocError>
+        requires sound { IsSound self.old store.old }
+        requires fits { NextFits (contents_of self.old store.old) ask.now }
+        requires none_held { (contents_of self.old store.old).held ≡ [] }
+        ensures comes { IfOk result (λ e. ComesAfter self.old store.old ask.now e self.new store.new) }
+        ensures no_place { IfOk result IsNoPlace }
+        ensures sound { IsSound self.new store.new }
+        ensures keeps { KeepsOthers (ids_of self.old) store.old (ids_of self.new) store.new }
+    {
+        'places: loop {
+            self.pass_nodes(store, ask);
+            match self.next(store, ask)? {
+                Event::Try(_) => {}
+                Event::Act(act) => return Ok(Event::Act(act)),
+                Event::Fired(page) => return Ok(Event::Fired(page)),
+                Event::Empty => return Ok(Event::Empty),
+            }
+        }
+    }
+
+    // The first nodes that wait go on a page that is laid out, all at once, as far as the walk goes.
+    fn pass_nodes(&mut self, store: &mut Lists<Node>, ask: &Ask)
+        requires sound { IsSound self.old store.old }
+        requires fits { NextFits (contents_of self.old store.old) ask.now }
+        ensures leads { LeadsOn self.old store.old ask.now self.new store.new }
+        ensures stopped { self.old.stopped ≡ true → self.new.stopped ≡ true }
+        ensures few { length (contents_of self.new store.new).waiting ≤ length (contents_of self.old store.old).waiting }
+    {
+        if !self.opened || self.stopped {
+            return;
+        }
+        let passed = self.walk(store, ask);
+        if passed == 0 {
+            return;
+        }
+        store.cut(self.waiting, passed, self.rest);
+        store.append(self.page, self.waiting);
+        store.append(self.waiting, self.rest);
+    }
+
+    // How many of the first nodes that wait go on the page: those before a stop, or before a node that is left to `next`.
+    // The places before them are tried.
+    fn walk(&mut self, store: &Lists<Node>, ask: &Ask) -> usize
+        requires sound { IsSound self.old store.now }
+        requires on { self.old.stopped ≡ false }
+        requires opened { self.old.opened ≡ true }
+        requires fits { NextFits (contents_of self.old store.now) ask.now }
+        ensures within { result ≤ length (list_at store.now self.old.waiting) }
+        ensures leads { LeadsOn self.old store.now ask.now self.new (moved (ids_of self.old) store.now result) }
+        ensures ids { ids_of self.new ≡ ids_of self.old }
+    {
+        let before = store.len(self.page);
+        let all = store.len(self.waiting);
+        let mut passed = 0;
+        for n in store.iter(self.waiting) {
+            if !self.passes(store, ask, n, before, passed) {
+                return passed;
+            }
+            passed += 1;
+        }
+        all
+    }
+
+    // Whether the next node goes on the page, which had so many nodes before those that the walk passed.
+    #[inline(always)]
+    fn passes(
+        &mut self,
+        store: &Lists<Node>,
+        ask: &Ask,
+        n: &Node,
+        before: usize,
+        passed: usize,
+    ) -> bool
+        requires sound { IsSound self.old (moved (ids_of self.old) store.now passed) }
+        requires on { self.old.stopped ≡ false }
+        requires opened { self.old.opened ≡ true }
+        requires fits { NextFits (contents_of self.old (moved (ids_of self.old) store.now passed)) ask.now }
+        requires first { drop passed (list_at store.now self.old.waiting) ≡ n.now ∷ drop (passed + 1) (list_at store.now self.old.waiting) }
+        requires before { before ≡ length (list_at store.now self.old.page) }
+        ensures goes { result ≡ true → LeadsOn self.old (moved (ids_of self.old) store.now passed) ask.now self.new (moved (ids_of self.old) store.now (passed + 1)) }
+        ensures on { result ≡ true → self.new.stopped ≡ false }
+        ensures ends { result ≡ false → LeadsOn self.old (moved (ids_of self.old) store.now passed) ask.now self.new (moved (ids_of self.old) store.now passed) }
+        ensures opened { self.new.opened ≡ true }
+        ensures ids { ids_of self.new ≡ ids_of self.old }
+    {
+        if !is_walked(n) {
+            return false;
+        }
+        let Some(penalty) = place_penalty(n, self.course.lasting, false) else {
+            self.course.put(n);
+            return true;
+        };
+        let Some(index) = before.checked_add(passed) else {
+            return false;
+        };
+        let tried = self.course.offer(index, n.line, penalty);
+        if stops(&tried) {
+            self.stopped = true;
+            return false;
+        }
+        self.course.put(n);
+        true
     }
 
     // Makes room for the top glue, unless the page has it.
@@ -188,7 +302,7 @@ impl Builder {
     fn freeze(&mut self, ask: &Ask)
         requires asked { AskFits ask.now }
         ensures first { self.old.frozen ≡ None → (z : Frozen) (page : List PlainNode) → z.goal ≡ ask.now.goal → z.limit ≡ ask.now.max_depth → Differ z.classes → AllLoose page
-            → self.old.course.lasting ≡ ends_lasting (page_shapes page) → CourseStands z self.new.course page [] }
+            → self.old.course.lasting ≡ ends_lasting (page_shapes page) → IsCourseOf z self.new.course page [] }
         ensures again { IsSome self.old.frozen → self.new ≡ self.old }
         ensures frozen { self.new.frozen ≡ Some (frozen_with self.old.frozen ask.now) }
         ensures ids { ids_of self.new ≡ ids_of self.old }
@@ -247,7 +361,7 @@ impl Builder {
         requires on { self.old.stopped ≡ false }
         requires underway { Underway (kept_frozen (contents_of self.old store.old)) self.old.course (contents_of self.old store.old).page (contents_of self.old store.old).waiting }
         requires fits { StepFits (kept_frozen (contents_of self.old store.old)) (contents_of self.old store.old).page (list_at store.old) n.now }
-        ensures moves { Moves self.old store.old self.new store.new }
+        ensures moves { ChangesPage self.old store.old self.new store.new }
         ensures step { StepIs result (kept_frozen (contents_of self.old store.old)) self.new.course (contents_of self.old store.old) (contents_of self.new store.new) }
         ensures behind { (ns : List NodeOf) → self.new.stopped ≡ false → list_at store.old self.old.waiting ≡ n.now ∷ ns → list_at store.new self.new.waiting ≡ ns }
         ensures boxed { holds_box (contents_of self.old store.old).page ≡ true → holds_box (contents_of self.new store.new).page ≡ true }
@@ -270,7 +384,7 @@ impl Builder {
         requires on { self.old.stopped ≡ false }
         requires underway { Underway (kept_frozen (contents_of self.old store.old)) self.old.course (contents_of self.old store.old).page (contents_of self.old store.old).waiting }
         requires fits { (n : NodeOf) → slice_get (list_at store.old self.old.waiting) 0 ≡ Some n → StepFits (kept_frozen (contents_of self.old store.old)) (contents_of self.old store.old).page (list_at store.old) n }
-        ensures moves { Moves self.old store.old self.new store.new }
+        ensures moves { ChangesPage self.old store.old self.new store.new }
         ensures step { StepIs (event_of result self.new.tried) (kept_frozen (contents_of self.old store.old)) self.new.course (contents_of self.old store.old) (contents_of self.new store.new) }
         ensures behind { (n : NodeOf) (ns : List NodeOf) → self.new.stopped ≡ false → list_at store.old self.old.waiting ≡ n ∷ ns → list_at store.new self.new.waiting ≡ ns }
         ensures boxed { holds_box (contents_of self.old store.old).page ≡ true → holds_box (contents_of self.new store.new).page ≡ true }
@@ -304,10 +418,10 @@ impl Builder {
         requires fits { IsSmall (added_node self.old.course.scan.max_depth self.old.course.scan.sums (shape_of n.now)) }
         requires no_act { act_of_kind n.now.kind ≡ None }
         requires no_insertion { insertion_of_kind n.now.kind ≡ None }
-        ensures moves { Moves self.old store.old self.new store.new }
+        ensures moves { ChangesPage self.old store.old self.new store.new }
         ensures shifted { Shifted (plain_of (list_at store.old) n.now) (contents_of self.old store.old) (contents_of self.new store.new) }
-        ensures course { (z : Frozen) (bs : List Breakpoint) → CourseStands z self.old.course (contents_of self.old store.old).page bs
-            → CourseStands z self.new.course ((contents_of self.old store.old).page ++ plain_of (list_at store.old) n.now ∷ []) bs }
+        ensures course { (z : Frozen) (bs : List Breakpoint) → IsCourseOf z self.old.course (contents_of self.old store.old).page bs
+            → IsCourseOf z self.new.course ((contents_of self.old store.old).page ++ plain_of (list_at store.old) n.now ∷ []) bs }
         ensures behind { (ns : List NodeOf) → list_at store.old self.old.waiting ≡ n.now ∷ ns → list_at store.new self.new.waiting ≡ ns }
         ensures opened { self.new.opened ≡ self.old.opened }
         ensures ids { ids_of self.new ≡ ids_of self.old }

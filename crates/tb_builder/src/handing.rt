@@ -3,8 +3,8 @@
 ghost use Rattle.std.specs.Prelude.{◌≡◌, ◌≢◌, ◌++◌, ◌∷◌, [], Some, false, ℕ, OnOk, OnErr};
 ghost use Rattle.std.specs.FinMap.{get};
 ghost use Rattle.tb_pool.specs.Lists.{IsLive, list_at};
-ghost use Rattle.tb_node.specs.Plain.{plain_of};
-ghost use Rattle.tb_builder.specs.Contents.{contents_of, plain_list};
+ghost use Rattle.tb_node.specs.Plain.{plain_of, plain_list};
+ghost use Rattle.tb_builder.specs.Contents.{contents_of};
 ghost use Rattle.tb_builder.specs.Owned.{ids_of, owned, inner_ids, Lacks};
 ghost use Rattle.tb_builder.specs.Running.{IsSound};
 ghost use Rattle.tb_builder.specs.Handed.{NodesJoin, ListJoins, MayWait, InFront, NoPage, ends_in_kern};

@@ -11,6 +11,7 @@ ghost use Rattle.tb_builder.specs.Room.{IsWide, RoomFits};
 
 use tb_node::{Kind, Node};
 use tb_pool::{ListId, Lists};
+use tb_scaled::sum;
 
 // The room that a node takes.
 fn room(n: &Node) -> i64
@@ -18,8 +19,8 @@ fn room(n: &Node) -> i64
     ensures { result ≡ room_of (shape_of n.now) }
 {
     match n.kind {
-        Kind::Hbox { height, depth, .. } => both(height, depth),
-        Kind::Rule { height, depth, .. } => both(height, depth),
+        Kind::Hbox { height, depth, .. } => sum(height, depth),
+        Kind::Rule { height, depth, .. } => sum(height, depth),
         Kind::Skip(g) => g.width,
         Kind::Kern(w) => w,
         Kind::Pen(_) => 0,
@@ -29,13 +30,6 @@ fn room(n: &Node) -> i64
         Kind::Ins(_) => 0,
         Kind::Act(_) => 0,
     }
-}
-
-fn both(a: i64, b: i64) -> i64
-    requires { IsWide (a +ℤ b) }
-    ensures { result ≡ a +ℤ b }
-{
-    a + b
 }
 
 /// The room that a list takes, in sp.
@@ -55,7 +49,7 @@ pub fn pruned_size(store: &Lists<Node>, l: ListId) -> i64
 {
     let mut total = 0;
     for n in store.iter(l) {
-        total = both(total, room(n));
+        total = sum(total, room(n));
     }
     total
 }

@@ -1,20 +1,18 @@
 //! Nodes at the front of a list: what they are, and how they go from one list to another.
 
-ghost use Rattle.std.specs.Prelude.{◌≡◌, ◌≢◌, ◌<◌, ◌≤◌, ◌+◌, ◌-ℤ◌, ◌<ℤ◌, pos, ℕ, Bool, true, false, None, IsSome, IfSome, List, ◌∷◌, slice_get, drop};
+ghost use Rattle.std.specs.Prelude.{◌≡◌, ◌≢◌, ◌<◌, ◌≤◌, ◌+◌, ◌<ℤ◌, pos, ℕ, Bool, true, false, None, IsSome, IfSome, IfNone, List, ◌∷◌, slice_get, drop};
 ghost use Rattle.tb_pool.specs.Lists.{IsLive, list_at, with_list};
-ghost use Rattle.tb_scaled.specs.Scaled.{max_ℤ};
 ghost use Rattle.tb_node.specs.declared.Node.{Node as NodeOf};
-ghost use Rattle.tb_node.specs.Shape.{is_discardable, is_box};
+ghost use Rattle.tb_node.specs.Shape.{is_discardable};
 ghost use Rattle.tb_node.specs.Plain.{shape_of};
 ghost use Rattle.tb_node.specs.Small.{IsAmount, IsSmallShape};
-ghost use Rattle.tb_break.specs.Prune.{glue_before, top_glue};
 ghost use Rattle.tb_break.specs.Finding.{penalty_by};
-ghost use Rattle.tb_builder.specs.Running.{act_of_kind, insertion_of_kind, height_of, nodes_glue_first};
+ghost use Rattle.tb_builder.specs.Running.{act_of_kind, insertion_of_kind, nodes_glue_first};
+ghost use Rattle.tb_builder.specs.Firing.{is_insertion, NoInsertions, InsertionAt};
 
 use tb_break::{is_glue, place_penalty};
 use tb_node::{Act, Insertion, Kind, Node};
 use tb_pool::{Iter, ListId, Lists};
-use tb_scaled::fixed;
 
 /// A node that is an act, if it is one.
 pub fn act_of(n: &Node) -> Option<Act>
@@ -36,6 +34,30 @@ pub fn insertion_of(n: &Node) -> Option<Insertion>
     }
 }
 
+// Whether a node is an insertion.
+fn is_insertion(n: &Node) -> bool
+    ensures { result ≡ is_insertion n.now }
+{
+    matches!(n.kind, Kind::Ins(_))
+}
+
+/// The place of the first insertion of a list.
+pub fn insertion_place(store: &Lists<Node>, l: ListId) -> Option<usize>
+    requires { IsLive store.now l }
+    ensures some { IfSome result (λ k. InsertionAt (list_at store.now l) k) }
+    ensures none { IfNone result (NoInsertions (list_at store.now l)) }
+{
+    let count = store.len(l);
+    let mut left = count;
+    for n in store.iter(l) {
+        if is_insertion(n) {
+            return Some(count - left);
+        }
+        left -= 1;
+    }
+    None
+}
+
 /// Whether a node is neither an act nor an insertion.
 pub fn is_matter(n: &Node) -> bool
     ensures no_act { result ≡ true → act_of_kind n.now.kind ≡ None }
@@ -45,55 +67,13 @@ pub fn is_matter(n: &Node) -> bool
     !matches!(n.kind, Kind::Ins(_) | Kind::Act(_))
 }
 
-/// Whether a node is a box or a rule.
-pub fn is_box(n: &Node) -> bool
-    ensures { result ≡ is_box (shape_of n.now) }
+/// Whether a node is neither an act nor an insertion, nor a kern, of whose place the nodes behind it decide.
+pub fn is_walked(n: &Node) -> bool
+    ensures no_act { result ≡ true → act_of_kind n.now.kind ≡ None }
+    ensures no_insertion { result ≡ true → insertion_of_kind n.now.kind ≡ None }
+    ensures no_kern { result ≡ true → (lasting follows : Bool) → penalty_by lasting follows (shape_of n.now) ≡ penalty_by lasting false (shape_of n.now) }
 {
-    matches!(n.kind, Kind::Hbox { .. } | Kind::Rule { .. })
-}
-
-/// The glue that comes before the first box or rule of a page.
-pub fn top_node(n: &Node, top_skip: i64) -> Node
-    requires top_skip { IsAmount top_skip }
-    requires boxed { is_box (shape_of n.now) ≡ true }
-    requires node { IsSmallShape (shape_of n.now) }
-    ensures { result ≡ glue_before n.now (top_glue top_skip (height_of (shape_of n.now))) }
-{
-    Node {
-        line: n.line,
-        kind: Kind::Skip(fixed(room_above(top_skip, height_of(n)))),
-    }
-}
-
-// The height of a box or rule.
-fn height_of(n: &Node) -> i64
-    ensures { result ≡ height_of (shape_of n.now) }
-{
-    match n.kind {
-        Kind::Hbox { height, .. } => height,
-        Kind::Rule { height, .. } => height,
-        Kind::Skip(_) => 0,
-        Kind::Kern(_) => 0,
-        Kind::Pen(_) => 0,
-        Kind::Mark(_) => 0,
-        Kind::Note(_) => 0,
-        Kind::Whatsit => 0,
-        Kind::Ins(_) => 0,
-        Kind::Act(_) => 0,
-    }
-}
-
-// What a box of this height lacks of the top skip.
-fn room_above(top_skip: i64, height: i64) -> i64
-    requires top_skip { IsAmount top_skip }
-    requires height { IsAmount height }
-    ensures { result ≡ max_ℤ (top_skip -ℤ height) (pos 0) }
-{
-    if top_skip < height {
-        0
-    } else {
-        top_skip - height
-    }
+    !matches!(n.kind, Kind::Kern(_) | Kind::Ins(_) | Kind::Act(_))
 }
 
 /// The first node of a list.

@@ -1,25 +1,25 @@
 //! What becomes of the insertions before a break.
 
-ghost use Rattle.std.specs.Prelude.{◌≡◌, ◌<◌, ◌≤◌, ◌+◌, List, [], ◌∷◌, ◌++◌, map, length, take, drop, true, slice_get};
+ghost use Rattle.std.specs.Prelude.{◌≡◌, ◌<◌, ◌≤◌, ◌+◌, ℕ, List, [], ◌∷◌, ◌++◌, map, length, take, drop, true, slice_get};
 ghost use Rattle.tb_pool.specs.Lists.{IsLive, list_at};
 ghost use Rattle.tb_node.specs.Fit.{shapes, NodesFit};
 ghost use Rattle.tb_node.specs.Small.{IsAmount};
-ghost use Rattle.tb_node.specs.Plain.{PlainNode, plain_of, inserted_of, on_line};
+ghost use Rattle.tb_node.specs.Plain.{PlainNode, plain_of, inserted_of, on_line, plain_list};
 ghost use Rattle.tb_node.specs.declared.Kind.TheVariants.{Ins as an_insertion};
 ghost use Rattle.tb_break.specs.Prune.{pruned_list};
 ghost use Rattle.tb_insert.specs.Account.{Frozen, labelled};
-ghost use Rattle.tb_insert.specs.Running.{AccountStands, cut_in, last_let_in};
+ghost use Rattle.tb_insert.specs.Running.{IsAccountOf, cut_in, last_let_in};
 ghost use Rattle.tb_builder.specs.Owned.{Lacks, owned, inner_ids, has_class, ids_of, inner_of, is_known, classes_of, IsOwned};
 ghost use Rattle.tb_builder.specs.Fired.{Boxed, unless_empty};
-ghost use Rattle.tb_builder.specs.Contents.{leaf_list, plain_list, contents_of};
+ghost use Rattle.tb_builder.specs.Contents.{leaf_list, contents_of};
 ghost use Rattle.tb_builder.specs.Next.{SizesFit};
 ghost use Rattle.tb_builder.specs.Room.{RoomFits};
 ghost use Rattle.tb_builder.specs.Running.{insertion_of_kind};
-ghost use Rattle.tb_builder.specs.Firing.{share_up_to, share_told, opened, box_list, BeginsVanishing, IsShareWithin, Gives, Drops, Settles, SortsTo, Sorted, IsMarkedAt, EachFits};
+ghost use Rattle.tb_builder.specs.Firing.{share_up_to, share_told, opened, box_list, BeginsVanishing, IsShareWithin, GivesToBox, LeavesPage, SharesOut, SortsTo, Sorted, IsMarkedAt, EachFits, NoInsertions, begins_with_insertion, IsBody};
 
 use crate::measuring::pruned_size;
-use crate::moving::{drop_first, insertion_of};
-use crate::splitting::{give_front, pass_on};
+use crate::moving::{drop_first, insertion_of, insertion_place};
+use crate::splitting::{give_front, move_front, pass_on};
 use crate::{Builder, Course, Share};
 use tb_node::{Insertion, Kind, Node};
 use tb_pool::{ListId, Lists};
@@ -55,7 +55,7 @@ impl Course {
     // What becomes of the insertion of this class at this place of the page, where the page breaks at its best place.
     pub(crate) fn share_at(&self, class: u8, index: usize) -> Share
         requires { class < 255 }
-        ensures { (z : Frozen) (page marked : List PlainNode) → AccountStands self.now.account z page marked
+        ensures { (z : Frozen) (page marked : List PlainNode) → IsAccountOf self.now.account z page marked
             → result ≡ share_told (cut_in (labelled z marked) class) (last_let_in (labelled z marked) class) index }
     {
         share_told(
@@ -86,7 +86,7 @@ impl Builder {
         requires own { IsOwned (ids_of self.old) store.old }
         requires first { slice_get (list_at store.old self.old.page) 0 ≡ Some n.now }
         requires insertion { insertion_of_kind n.now.kind ≡ Some i.now }
-        ensures gives { Gives self.old store.old self.new store.new n.now i.now (list_at store.old i.now.list) [] }
+        ensures gives { GivesToBox self.old store.old self.new store.new n.now i.now (list_at store.old i.now.list) [] }
         ensures spare { store.new.spare ≡ store.old.spare }
     {
         let own = self.open_box(i.class);
@@ -104,7 +104,7 @@ impl Builder {
         requires room { 0 < store.old.spare }
         requires top { IsAmount i.now.split_top }
         requires nodes { NodesFit (shapes store.old i.now.list) }
-        ensures gives { Gives self.old store.old self.new store.new n.now i.now (take place (list_at store.old i.now.list)) (pruned_list i.now.split_top (drop place (list_at store.old i.now.list))) }
+        ensures gives { GivesToBox self.old store.old self.new store.new n.now i.now (take place (list_at store.old i.now.list)) (pruned_list i.now.split_top (drop place (list_at store.old i.now.list))) }
         ensures spare { store.old.spare ≤ store.new.spare }
     {
         let own = self.open_box(i.class);
@@ -117,7 +117,7 @@ impl Builder {
         requires first { slice_get (list_at store.old self.now.page) 0 ≡ Some n.now }
         requires insertion { insertion_of_kind n.now.kind ≡ Some i.now }
         requires empty { list_at store.old i.now.list ≡ [] }
-        ensures drops { Drops self.now store.old self.now store.new n.now [] }
+        ensures drops { LeavesPage self.now store.old self.now store.new n.now [] }
         ensures spare { store.old.spare ≤ store.new.spare }
     {
         drop_first(store, self.page);
@@ -131,7 +131,7 @@ impl Builder {
         requires insertion { insertion_of_kind n.now.kind ≡ Some i.now }
         requires same { inner_of held.kind ≡ inner_of n.now.kind }
         requires known { is_known (classes_of (ids_of self.now)) held.kind ≡ true }
-        ensures drops { Drops self.now store.old self.now store.new n.now (plain_of (list_at store.old) held ∷ []) }
+        ensures drops { LeavesPage self.now store.old self.now store.new n.now (plain_of (list_at store.old) held ∷ []) }
         ensures spare { store.new.spare ≡ store.old.spare }
     {
         pass_on(store, self.page, self.held, held);
@@ -143,7 +143,7 @@ impl Builder {
         requires first { slice_get (list_at store.old self.now.page) 0 ≡ Some n.now }
         requires insertion { insertion_of_kind n.now.kind ≡ Some i.now }
         requires fits { RoomFits (shapes store.old i.now.list) }
-        ensures drops { Drops self.now store.old self.now store.new n.now (on_line n.now.line (unless_empty (inserted_of (list_at store.old) i.now) (leaf_list store.old i.now.list))) }
+        ensures drops { LeavesPage self.now store.old self.now store.new n.now (on_line n.now.line (unless_empty (inserted_of (list_at store.old) i.now) (leaf_list store.old i.now.list))) }
         ensures spare { store.old.spare ≤ store.new.spare }
     {
         if store.len(i.list) == 0 {
@@ -164,7 +164,7 @@ impl Builder {
         requires top { IsAmount i.now.split_top }
         requires nodes { NodesFit (shapes store.old i.now.list) }
         requires sizes { SizesFit (shapes store.old i.now.list) }
-        ensures settles { Settles self.old store.old self.new store.new n.now i.now share }
+        ensures settles { SharesOut self.old store.old self.new store.new n.now i.now share }
         ensures spare { store.old.spare ≤ store.new.spare }
     {
         match share {
@@ -180,30 +180,42 @@ impl Builder {
         }
     }
 
-    // The first node of the page, which has this place on the page that fires, goes to the body, or, an insertion,
-    // where its share says.
-    fn sort_first(&mut self, store: &mut Lists<Node>, body: ListId, index: usize)
+    // The nodes before a place of the page, none of them an insertion, go to the body.
+    fn sort_run(&self, store: &mut Lists<Node>, body: ListId, place: usize)
+        requires own { IsOwned (ids_of self.now) store.old }
+        requires body { IsBody self.now store.old body }
+        requires within { place ≤ length (list_at store.old self.now.page) }
+        requires plain { NoInsertions (take place (list_at store.old self.now.page)) }
+        ensures sorts { SortsTo self.now store.old self.now store.new body }
+        ensures sorted { (z : Frozen) (marked before : List PlainNode) (boxes : List Boxed)
+            → Sorted z boxes marked (contents_of self.now store.old) (plain_list store.old body) before
+            → Sorted z boxes marked (contents_of self.now store.new) (plain_list store.new body) (before ++ take place (contents_of self.now store.old).page) }
+        ensures page { list_at store.new self.now.page ≡ drop place (list_at store.old self.now.page) }
+        ensures spare { store.new.spare ≡ store.old.spare }
+    {
+        move_front(store, body, self.page, self.rest, place);
+    }
+
+    // The insertion that is first on the page, and has this place on the page that fires, goes where its share says.
+    fn sort_first(&mut self, store: &mut Lists<Node>, index: usize)
         requires own { IsOwned (ids_of self.old) store.old }
-        requires body_live { IsLive store.old body }
-        requires body_apart { Lacks body (owned (ids_of self.old) store.old) }
-        requires body_plain { inner_ids (list_at store.old body) ≡ [] }
-        requires some { 0 < length (list_at store.old self.old.page) }
+        requires first { begins_with_insertion (list_at store.old self.old.page) ≡ true }
         requires room { 0 < store.old.spare }
         requires fits { EachFits (contents_of self.old store.old).page }
         requires marked { IsMarkedAt self.old.course.account index (contents_of self.old store.old).page }
-        ensures sorts { SortsTo self.old store.old self.new store.new body }
-        ensures sorted { (z : Frozen) (page marked before : List PlainNode) (boxes : List Boxed) → AccountStands self.old.course.account z page marked → index ≡ length before
+        ensures sorts { (body : ℕ) → IsBody self.old store.old body → SortsTo self.old store.old self.new store.new body }
+        ensures sorted { (body : ℕ) → IsBody self.old store.old body
+            → (z : Frozen) (page marked before : List PlainNode) (boxes : List Boxed) → IsAccountOf self.old.course.account z page marked → index ≡ length before
             → Sorted z boxes marked (contents_of self.old store.old) (plain_list store.old body) before
             → Sorted z boxes marked (contents_of self.new store.new) (plain_list store.new body) (before ++ take 1 (contents_of self.old store.old).page) }
         ensures left { length (list_at store.new self.old.page) + 1 ≡ length (list_at store.old self.old.page) }
         ensures spare { store.old.spare ≤ store.new.spare }
     {
         let Some(n) = store.get(self.page, 0) else {
-            return;
+            unreachable!();
         };
         let Some(i) = insertion_of(n) else {
-            store.move_first(self.page, body);
-            return;
+            unreachable!();
         };
         let n = *n;
         let share = self.course.share_at(i.class, index);
@@ -221,13 +233,20 @@ impl Builder {
         requires fits { EachFits (contents_of self.old store.old).page }
         requires marked { IsMarkedAt self.old.course.account 0 (contents_of self.old store.old).page }
         ensures sorts { SortsTo self.old store.old self.new store.new body }
-        ensures sorted { (z : Frozen) (page : List PlainNode) → AccountStands self.old.course.account z page (contents_of self.old store.old).page
+        ensures sorted { (z : Frozen) (page : List PlainNode) → IsAccountOf self.old.course.account z page (contents_of self.old store.old).page
             → Sorted z (contents_of self.old store.old).boxes (contents_of self.old store.old).page (contents_of self.new store.new) (plain_list store.new body) (contents_of self.old store.old).page }
         ensures empty { list_at store.new self.old.page ≡ [] }
     {
-        for index in 0..store.len(self.page) {
-            self.sort_first(store, body, index);
+        if !self.course.account.has_insertion() {
+            store.append(body, self.page);
+            return;
         }
+        let count = store.len(self.page);
+        'insertions: while let Some(ahead) = insertion_place(store, self.page) {
+            self.sort_run(store, body, ahead);
+            self.sort_first(store, count - store.len(self.page));
+        }
+        store.append(body, self.page);
     }
 }
 

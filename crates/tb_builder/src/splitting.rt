@@ -1,4 +1,4 @@
-//! An insertion is split where the page breaks.
+//! The front of a list goes to another, as when an insertion is split where the page breaks.
 
 ghost use Rattle.std.specs.Prelude.{◌≡◌, ◌≢◌, ◌<◌, ◌≤◌, ◌+◌, ◌++◌, List, [], ◌∷◌, take, drop, length};
 ghost use Rattle.std.specs.FinMap.{insert};
@@ -13,7 +13,26 @@ use tb_break::prune;
 use tb_node::Node;
 use tb_pool::{ListId, Lists};
 
-/// What stands before a place of a list goes to the end of another. The rest, of which the first node vanishes, stays,
+/// What comes before a place of a list goes to the end of another. On the way the rest is in a list that is empty before
+/// and afterwards.
+pub fn move_front(store: &mut Lists<Node>, to: ListId, from: ListId, between: ListId, place: usize)
+    requires to_live { IsLive store.old to }
+    requires from_live { IsLive store.old from }
+    requires between_live { IsLive store.old between }
+    requires to_apart { to ≢ from }
+    requires between_apart { between ≢ to }
+    requires between_from { between ≢ from }
+    requires between_empty { list_at store.old between ≡ [] }
+    requires within { place ≤ length (list_at store.old from) }
+    ensures moved { store.new.lists ≡ insert (with_list store.old from (drop place (list_at store.old from))) to (list_at store.old to ++ take place (list_at store.old from)) }
+    ensures spare { store.new.spare ≡ store.old.spare }
+{
+    store.cut(from, place, between);
+    store.append(to, from);
+    store.append(from, between);
+}
+
+/// What comes before a place of a list goes to the end of another. The rest, of which the first node vanishes, stays,
 /// pruned for the top of a page; on the way it is in a list that is empty before and afterwards.
 pub fn give_front(
     store: &mut Lists<Node>,
@@ -38,9 +57,7 @@ pub fn give_front(
     ensures given { store.new.lists ≡ insert (with_list store.old to (list_at store.old to ++ take place (list_at store.old from))) from (pruned_list top_skip (drop place (list_at store.old from))) }
     ensures spare { store.old.spare ≤ store.new.spare }
 {
-    store.cut(from, place, between);
-    store.append(to, from);
-    store.append(from, between);
+    move_front(store, to, from, between, place);
     prune(store, from, top_skip);
 }
 

@@ -257,6 +257,21 @@ fn next_event(p: &mut Paged) -> Result<Event, AllocError>
     p.builder.next(&mut p.store, &p.ask)
 }
 
+// The event that comes next, where places are passed over.
+fn passed_over(p: &mut Paged) -> Result<Event, AllocError>
+    requires { IsReady p.old.builder p.old.store p.old.ask }
+    ensures { IsSound p.new.builder p.new.store }
+{
+    p.builder.next_without_tries(&mut p.store, &p.ask)
+}
+
+fn page_of(event: Event) -> Option<Page> {
+    match event {
+        Event::Fired(page) => Some(page),
+        _ => None,
+    }
+}
+
 // The total, the shrink and the goal of the page so far.
 fn told_sums(p: &Paged) -> (i64, i64, i64) {
     let sums = p.builder.page_sums();
@@ -348,5 +363,16 @@ fn the_sums_of_the_page_so_far(rt: HostRuntime) -> Result<(), Fail> {
     assert_eq!(rt; told_sums(&p), (0, 0, 1073741823));
     next_event(&mut p)?;
     assert_eq!(rt; told_sums(&p), (10, 0, 10));
+    Ok(())
+}
+
+#[test]
+fn places_that_are_passed_over(rt: HostRuntime) -> Result<(), Fail> {
+    let mut p = open(rt.alloc(), 1073741823, 45)?;
+    give(&mut p, &[make_box(10), no_glue(), make_box(10)])?;
+    give(&mut p, &[no_glue(), make_box(20), fill(), forced()])?;
+    let page = page_of(passed_over(&mut p)?).ok_or("no page")?;
+    assert_eq!(rt; (page.penalty, page.size, page.cost), (-10000, 45, -10000));
+    assert_eq!(rt; p.builder.nodes(&p.store), 1);
     Ok(())
 }

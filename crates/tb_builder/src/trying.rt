@@ -13,8 +13,8 @@ ghost use Rattle.tb_insert.specs.Account.{Frozen};
 ghost use Rattle.tb_insert.specs.Running.{Differ, ComesTo};
 ghost use Rattle.tb_insert.specs.Arrived.{ArriveFits};
 ghost use Rattle.tb_builder.specs.Places.{page_shapes};
-ghost use Rattle.tb_builder.specs.Running.{CourseStands, AllLoose, act_of_kind, insertion_of_kind};
-ghost use Rattle.tb_builder.specs.Offer.{OfferIs, Marks, TermsFit};
+ghost use Rattle.tb_builder.specs.Running.{IsCourseOf, AllLoose, act_of_kind, insertion_of_kind};
+ghost use Rattle.tb_builder.specs.Offer.{OfferIs, MarksBest, TermsFit};
 
 use crate::{Course, Try};
 use tb_break::{Offer, is_lasting, new_scan};
@@ -28,7 +28,7 @@ pub fn started(goal: i64, max_depth: i64, lasting: bool) -> Course
     requires low { pos 0 ≤ℤ max_depth }
     requires limit { IsAmount max_depth }
     ensures { (z : Frozen) (page : List PlainNode) → z.goal ≡ goal → z.limit ≡ max_depth → Differ z.classes → AllLoose page → lasting ≡ ends_lasting (page_shapes page)
-        → CourseStands z result page [] }
+        → IsCourseOf z result page [] }
 {
     Course {
         scan: new_scan(max_depth),
@@ -84,7 +84,7 @@ impl Course {
         requires low { pos 0 ≤ℤ max_depth }
         requires limit { IsAmount max_depth }
         ensures { (z : Frozen) (page : List PlainNode) → z.goal ≡ goal → z.limit ≡ max_depth → Differ z.classes → AllLoose page → self.old.lasting ≡ ends_lasting (page_shapes page)
-            → CourseStands z self.new page [] }
+            → IsCourseOf z self.new page [] }
     {
         self.scan = new_scan(max_depth);
         self.account.restart(goal);
@@ -93,7 +93,7 @@ impl Course {
 
     // Marks the page so far, where the place at its end is the best.
     fn mark_if(&mut self, champion: bool, goal: i64)
-        ensures marks { (z : Frozen) (page : List PlainNode) → Marks z self.old self.new page champion goal }
+        ensures marks { (z : Frozen) (page : List PlainNode) → MarksBest z self.old self.new page champion goal }
         ensures scan { self.new.scan ≡ self.old.scan }
         ensures lasting { self.new.lasting ≡ self.old.lasting }
     {
@@ -110,7 +110,7 @@ impl Course {
         requires terms { TermsFit self.old }
         requires low { IsAmount penalty }
         requires legal { penalty <ℤ pos 10000 }
-        ensures { (z : Frozen) (page : List PlainNode) (bs : List Breakpoint) → CourseStands z self.old page bs → index ≡ length page → OfferIs z self.new page bs result line penalty }
+        ensures { (z : Frozen) (page : List PlainNode) (bs : List Breakpoint) → IsCourseOf z self.old page bs → index ≡ length page → OfferIs z self.new page bs result line penalty }
     {
         let sums = self.scan.sums();
         let goal = self.account.goal();
@@ -126,8 +126,8 @@ impl Course {
     pub(crate) fn put(&mut self, n: &Node)
         requires node { IsSmallShape (shape_of n.now) }
         requires fits { IsSmall (added_node self.old.scan.max_depth self.old.scan.sums (shape_of n.now)) }
-        ensures { (z : Frozen) (page : List PlainNode) (bs : List Breakpoint) (held : ℕ → List NodeOf) → CourseStands z self.old page bs → act_of_kind n.now.kind ≡ None → insertion_of_kind n.now.kind ≡ None
-            → CourseStands z self.new (page ++ plain_of held n.now ∷ []) bs }
+        ensures { (z : Frozen) (page : List PlainNode) (bs : List Breakpoint) (held : ℕ → List NodeOf) → IsCourseOf z self.old page bs → act_of_kind n.now.kind ≡ None → insertion_of_kind n.now.kind ≡ None
+            → IsCourseOf z self.new (page ++ plain_of held n.now ∷ []) bs }
     {
         self.scan.add(n);
         self.lasting = is_lasting(n);
@@ -145,8 +145,8 @@ impl Course {
         requires number { class.now.number ≡ ins.now.class }
         requires most { ins.now.class < 255 }
         requires fits { ArriveFits store.now self.old.account self.old.scan ins.now class.now box_size }
-        ensures { (z : Frozen) (page : List PlainNode) (bs : List Breakpoint) (line : ℕ) → CourseStands z self.old page bs → ComesTo z page self.old.scan class.now box_size index
-            → CourseStands z self.new (page ++ record { line = line; kind = an_insertion (inserted_of (list_at store.now) ins.now) } ∷ []) bs }
+        ensures { (z : Frozen) (page : List PlainNode) (bs : List Breakpoint) (line : ℕ) → IsCourseOf z self.old page bs → ComesTo z page self.old.scan class.now box_size index
+            → IsCourseOf z self.new (page ++ record { line = line; kind = an_insertion (inserted_of (list_at store.now) ins.now) } ∷ []) bs }
     {
         self.account
             .arrive(store, ins, index, class, box_size, &mut self.scan);

@@ -1,7 +1,7 @@
 use Rattle.std.proofs.Common.{sym, ◌∙◌}
 use Rattle.tb_pool.specs.Lists.{list_at}
-use Rattle.tb_builder.proofs.FillLemmas.{first_is}
-use Rattle.tb_builder.proofs.FilledLemmas.{acted_turn}
+use Rattle.tb_builder.proofs.Turns.FillLemmas.{first_is}
+use Rattle.tb_builder.proofs.Events.FilledLemmas.{acted_turn}
 use Rattle.tb_builder.proofs.Builder.act_or_insert.Goals as goal
 
 pub returns-in-Some : goal.returns-in-Some

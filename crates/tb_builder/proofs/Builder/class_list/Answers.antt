@@ -1,6 +1,6 @@
 use Rattle.std.proofs.Common.{sym, ◌∙◌}
 use Rattle.std.proofs.lemmas.Bool.{true≢false}
-use Rattle.tb_builder.proofs.ClassLemmas.{first_at, none_at}
+use Rattle.tb_builder.proofs.LegalPlaces.ClassLemmas.{first_at, none_at}
 use Rattle.tb_builder.proofs.Builder.class_list.Goals as goal
 
 pub unreachable-requires : goal.unreachable-requires

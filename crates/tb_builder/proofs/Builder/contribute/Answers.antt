@@ -1,8 +1,8 @@
 use Rattle.std.proofs.Common.{◌∷◌, [], sym, subst}
 use Rattle.tb_builder.specs.Owned.{Lacks, ids_of, owned, inner_ids}
-use Rattle.tb_builder.proofs.OwnedLemmas.{lacks-left}
-use Rattle.tb_builder.proofs.SpareLemmas.{sound_still, owned_still}
-use Rattle.tb_builder.proofs.JoinLemmas.{pushed_after, contribute_sound, contributed, grown_others, grown_keeps}
+use Rattle.tb_builder.proofs.Ownership.OwnedLemmas.{lacks-left}
+use Rattle.tb_builder.proofs.Ownership.SpareLemmas.{sound_still, owned_still}
+use Rattle.tb_builder.proofs.Handover.JoinLemmas.{pushed_after, contribute_sound, contributed, grown_others, grown_keeps}
 use Rattle.tb_builder.proofs.Builder.contribute.Goals as goal
 
 pub returns-clause-sound : goal.returns-clause-sound

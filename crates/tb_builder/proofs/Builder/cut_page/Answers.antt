@@ -1,7 +1,7 @@
 use Rattle.std.proofs.Common.{◌∙◌, ap}
 use Rattle.tb_pool.specs.Lists.{list_at}
 use Rattle.tb_builder.specs.Fired.{line_at, penalty_at}
-use Rattle.tb_builder.proofs.CutPageLemmas.{cuts_of, waiting_lives, plain_turned}
+use Rattle.tb_builder.proofs.Cutting.CutPageLemmas.{cuts_of, waiting_lives, plain_turned}
 use Rattle.tb_builder.proofs.Builder.cut_page.Goals as goal
 
 pub spend_break-requires : goal.spend_break-requires

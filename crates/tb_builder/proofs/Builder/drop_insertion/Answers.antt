@@ -2,10 +2,10 @@ use Rattle.std.proofs.Common.{◌∙◌, ap, arith}
 use Rattle.std.specs.FinMap.{remove}
 use Rattle.tb_pool.specs.Lists.{list_at}
 use Rattle.tb_builder.specs.Owned.{ids_of}
-use Rattle.tb_builder.proofs.FillLemmas.{first_is}
-use Rattle.tb_builder.proofs.StoreMoves.{one_other, live_kept, list_kept}
-use Rattle.tb_builder.proofs.GiveLemmas.{list_live, lacks_own}
-use Rattle.tb_builder.proofs.SettleLemmas.{drops_of}
+use Rattle.tb_builder.proofs.Turns.FillLemmas.{first_is}
+use Rattle.tb_builder.proofs.Ownership.StoreMoves.{one_other, live_kept, list_kept}
+use Rattle.tb_builder.proofs.Sorting.GiveLemmas.{list_live, lacks_own}
+use Rattle.tb_builder.proofs.Sorting.SettleLemmas.{drops_of}
 use Rattle.tb_builder.proofs.Builder.drop_insertion.Goals as goal
 
 pub close-requires : goal.close-requires

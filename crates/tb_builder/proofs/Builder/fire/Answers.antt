@@ -3,7 +3,7 @@ use Rattle.std.proofs.lemmas.Int.{to_z-of_z}
 use Rattle.std.specs.FinMap.{get, insert}
 use Rattle.tb_pool.specs.Lists.{list_at}
 use Rattle.tb_builder.specs.declared.Builder.{Builder}
-use Rattle.tb_builder.proofs.FireLemmas.{opened_own, index_within, cut_live, cut_apart, cut_empty, cut_held, cut_fits, cut_marked, fires_of}
+use Rattle.tb_builder.proofs.FiredPages.FireLemmas.{opened_own, index_within, cut_live, cut_apart, cut_empty, cut_held, cut_fits, cut_marked, fires_of}
 use Rattle.tb_builder.proofs.Builder.fire.Goals as goal
 
 pub cut_page-at-requires-clause-own : goal.cut_page-at-requires-clause-own

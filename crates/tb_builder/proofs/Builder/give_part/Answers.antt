@@ -6,10 +6,10 @@ use Rattle.tb_node.specs.Small.{IsAmount}
 use Rattle.tb_break.specs.Prune.{pruned_list}
 use Rattle.tb_builder.specs.declared.Builder.{Builder}
 use Rattle.tb_builder.specs.Owned.{ids_of}
-use Rattle.tb_builder.proofs.FillLemmas.{first_is}
-use Rattle.tb_builder.proofs.RestLemmas.{plain-take, plain-drop, plain-pruned}
-use Rattle.tb_builder.proofs.GiveLemmas.{class_there, box_is_live, list_live, list_plain, box_not_list, rest_not_box, rest_not_list}
-use Rattle.tb_builder.proofs.SettleLemmas.{gives_of}
+use Rattle.tb_builder.proofs.Turns.FillLemmas.{first_is}
+use Rattle.tb_builder.proofs.Sorting.RestLemmas.{plain-take, plain-drop, plain-pruned}
+use Rattle.tb_builder.proofs.Sorting.GiveLemmas.{class_there, box_is_live, list_live, list_plain, box_not_list, rest_not_box, rest_not_list}
+use Rattle.tb_builder.proofs.Sorting.SettleLemmas.{gives_of}
 use Rattle.tb_builder.proofs.Builder.give_part.Goals as goal
 
 pub open_box-own-requires : goal.open_box-own-requires

@@ -1,6 +1,6 @@
 use Rattle.tb_pool.specs.Lists.{list_at}
-use Rattle.tb_builder.proofs.FillLemmas.{first_is}
-use Rattle.tb_builder.proofs.SettleLemmas.{holds_of}
+use Rattle.tb_builder.proofs.Turns.FillLemmas.{first_is}
+use Rattle.tb_builder.proofs.Sorting.SettleLemmas.{holds_of}
 use Rattle.tb_builder.proofs.Builder.hold.Goals as goal
 
 pub returns : goal.returns

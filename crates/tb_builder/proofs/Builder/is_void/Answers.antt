@@ -1,4 +1,4 @@
-use Rattle.tb_builder.proofs.BoxLemmas.{void_is}
+use Rattle.tb_builder.proofs.Handover.BoxLemmas.{void_is}
 use Rattle.tb_builder.proofs.Builder.is_void.Goals as goal
 
 pub returns : goal.returns

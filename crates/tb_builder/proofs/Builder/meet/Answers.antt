@@ -9,14 +9,14 @@ use Rattle.tb_node.specs.Fit.{shapes}
 use Rattle.tb_builder.specs.declared.Builder.{Builder}
 use Rattle.tb_builder.specs.Owned.{Ids, ids_of, has_class, box_ids, inner_ids, nodes_of, IsClassList}
 use Rattle.tb_builder.specs.Contents.{contents_of, frozen_of}
-use Rattle.tb_builder.specs.Running.{CourseStands, places_by, frozen_with, PageStands}
-use Rattle.tb_builder.proofs.OwnedLemmas.{live-left}
-use Rattle.tb_builder.proofs.ClassLemmas.{list_live, list_fits}
-use Rattle.tb_builder.proofs.MoveLemmas.{written_shift}
-use Rattle.tb_builder.proofs.FillLemmas.{first_is}
-use Rattle.tb_builder.proofs.FreezeLemmas.{frozen_course, first_known, comes_to, class_is, meets_fits, plain_insertion, insertion_plain, insertion_shape, insertion_act}
-use Rattle.tb_builder.proofs.ClassLemmas.{number_is}
-use Rattle.tb_builder.proofs.MeetLemmas.{met}
+use Rattle.tb_builder.specs.Running.{IsCourseOf, places_by, frozen_with, IsPageSoFar}
+use Rattle.tb_builder.proofs.Ownership.OwnedLemmas.{live-left}
+use Rattle.tb_builder.proofs.LegalPlaces.ClassLemmas.{list_live, list_fits}
+use Rattle.tb_builder.proofs.Turns.MoveLemmas.{written_shift}
+use Rattle.tb_builder.proofs.Turns.FillLemmas.{first_is}
+use Rattle.tb_builder.proofs.Turns.FreezeLemmas.{frozen_course, first_known, comes_to, class_is, meets_fits, plain_insertion, insertion_plain, insertion_shape, insertion_act}
+use Rattle.tb_builder.proofs.LegalPlaces.ClassLemmas.{number_is}
+use Rattle.tb_builder.proofs.Turns.MeetLemmas.{met}
 use Rattle.tb_builder.proofs.Builder.meet.Goals as goal
 
 pub class_list-own-requires : goal.class_list-own-requires
@@ -45,7 +45,7 @@ join-requires-clause-most c =
     let own = subst (λ (j : Ids). IsClassList j.boxes c.args.i.now.class c.class_list-own.result) c.freeze.ensures.ids c.class_list-own.ensures in
     let f = first_is (list_at c.args.store.now c.args.self.now.waiting) c.args.n.now c.requires.first in
     let before = contents_of c.args.self.now c.args.store.now in
-    let u = frozen_course before c.args.self.now.course c.freeze.new.self.course c.args.ask.now c.args.self.now.frozen refl (subst (λ x. PageStands c.args.self.now.frozen x c.args.self.now.course before) c.requires.on c.requires.sound.page) c.requires.sound.own.classes c.freeze.ensures.first (λ some. ap (λ (x : Builder). x.course) (c.freeze.ensures.again some)) in
+    let u = frozen_course before c.args.self.now.course c.freeze.new.self.course c.args.ask.now c.args.self.now.frozen refl (subst (λ x. IsPageSoFar c.args.self.now.frozen x c.args.self.now.course before) c.requires.on c.requires.sound.page) c.requires.sound.own.classes c.freeze.ensures.first (λ some. ap (λ (x : Builder). x.course) (c.freeze.ensures.again some)) in
     subst (λ k. k < 255) (number_is c.args.store.now (ids_of c.args.self.now).boxes c.args.i.now.class c.class_list-own.result own) (class_is (ids_of c.args.self.now) c.args.store.now before c.args.ask.now c.freeze.new.self.course c.args.n.now f.0 c.args.i.now c.class_list-own.result c.requires.sound.own refl refl refl refl c.requires.fits f.1 c.requires.insertion own u).0
 
 pub join-requires-clause-fits : goal.join-requires-clause-fits
@@ -53,7 +53,7 @@ join-requires-clause-fits c =
     let own = subst (λ (j : Ids). IsClassList j.boxes c.args.i.now.class c.class_list-own.result) c.freeze.ensures.ids c.class_list-own.ensures in
     let f = first_is (list_at c.args.store.now c.args.self.now.waiting) c.args.n.now c.requires.first in
     let before = contents_of c.args.self.now c.args.store.now in
-    let u = frozen_course before c.args.self.now.course c.freeze.new.self.course c.args.ask.now c.args.self.now.frozen refl (subst (λ x. PageStands c.args.self.now.frozen x c.args.self.now.course before) c.requires.on c.requires.sound.page) c.requires.sound.own.classes c.freeze.ensures.first (λ some. ap (λ (x : Builder). x.course) (c.freeze.ensures.again some)) in
+    let u = frozen_course before c.args.self.now.course c.freeze.new.self.course c.args.ask.now c.args.self.now.frozen refl (subst (λ x. IsPageSoFar c.args.self.now.frozen x c.args.self.now.course before) c.requires.on c.requires.sound.page) c.requires.sound.own.classes c.freeze.ensures.first (λ some. ap (λ (x : Builder). x.course) (c.freeze.ensures.again some)) in
     let r : FitsSigned w64 c.list_size-size.result = search rules in
     let size : to_z w64 (of_z w64 c.list_size-size.result) ≡ size_of (shapes c.args.store.now c.class_list-own.result.list) = to_z-of_z w64 c.list_size-size.result r ∙ c.list_size-size.ensures in
     subst (λ x. ArriveFits c.args.store.now c.freeze.new.self.course.account c.freeze.new.self.course.scan c.args.i.now c.class_list-own.result.class x) (sym size) (meets_fits (ids_of c.args.self.now) c.args.store.now before c.args.ask.now c.freeze.new.self.course c.args.n.now f.0 c.args.i.now c.class_list-own.result c.requires.sound.own refl refl refl refl c.requires.fits f.1 c.requires.insertion own u)
@@ -63,7 +63,7 @@ returns c =
     let own = subst (λ (j : Ids). IsClassList j.boxes c.args.i.now.class c.class_list-own.result) c.freeze.ensures.ids c.class_list-own.ensures in
     let f = first_is (list_at c.args.store.now c.args.self.now.waiting) c.args.n.now c.requires.first in
     let before = contents_of c.args.self.now c.args.store.now in
-    let u = frozen_course before c.args.self.now.course c.freeze.new.self.course c.args.ask.now c.args.self.now.frozen refl (subst (λ x. PageStands c.args.self.now.frozen x c.args.self.now.course before) c.requires.on c.requires.sound.page) c.requires.sound.own.classes c.freeze.ensures.first (λ some. ap (λ (x : Builder). x.course) (c.freeze.ensures.again some)) in
+    let u = frozen_course before c.args.self.now.course c.freeze.new.self.course c.args.ask.now c.args.self.now.frozen refl (subst (λ x. IsPageSoFar c.args.self.now.frozen x c.args.self.now.course before) c.requires.on c.requires.sound.page) c.requires.sound.own.classes c.freeze.ensures.first (λ some. ap (λ (x : Builder). x.course) (c.freeze.ensures.again some)) in
     let r : FitsSigned w64 c.list_size-size.result = search rules in
     let size : to_z w64 (of_z w64 c.list_size-size.result) ≡ size_of (shapes c.args.store.now c.class_list-own.result.list) = to_z-of_z w64 c.list_size-size.result r ∙ c.list_size-size.ensures in
     let b = c.args.self.now in
@@ -81,4 +81,4 @@ returns c =
     (written_shift (ids_of b) s c.move_first.new.self c.args.n.now f.0 c.requires.sound.own f.1 shifted) (omega (arith, c.move_first.ensures.spare)) c.freeze.ensures.opened
     (insertion_shape c.args.n.now c.args.i.now c.requires.insertion) (insertion_act c.args.n.now c.args.i.now c.requires.insertion)
     c.freeze.new.self.course (frozen_with b.frozen c.args.ask.now) (insertion_plain held c.args.n.now c.args.i.now c.requires.insertion) c.freeze.ensures.frozen refl u
-    (subst (λ m. CourseStands z c.join.new.self (before.page ++ m ∷ []) bs) (sym (plain_insertion held c.args.n.now c.args.i.now c.requires.insertion)) joined)
+    (subst (λ m. IsCourseOf z c.join.new.self (before.page ++ m ∷ []) bs) (sym (plain_insertion held c.args.n.now c.args.i.now c.requires.insertion)) joined)

@@ -1,12 +1,12 @@
 use Rattle.std.proofs.Common.{◌≡◌, sym, subst}
 use Rattle.tb_builder.specs.Contents.{Contents, contents_of}
-use Rattle.tb_builder.specs.Next.{NextIs, FirstIs, Stays}
+use Rattle.tb_builder.specs.Next.{NextIs, FirstIs, KeepsBoxes}
 use Rattle.tb_builder.specs.Contents.{laid, reach_ahead, places_of}
 use Rattle.tb_builder.specs.Past.{EventPast}
 use Rattle.tb_builder.specs.Running.{IsSound}
 use Rattle.tb_builder.specs.declared.Event.TheVariants as events
-use Rattle.tb_builder.proofs.NextLemmas.{fired_keeps}
-use Rattle.tb_builder.proofs.SpareLemmas.{contents_still, sound_still, fits_still, keeps_filled}
+use Rattle.tb_builder.proofs.Events.NextLemmas.{fired_keeps}
+use Rattle.tb_builder.proofs.Ownership.SpareLemmas.{contents_still, sound_still, fits_still, keeps_filled}
 use Rattle.tb_builder.proofs.Builder.next.Goals as goal
 
 pub returns-in_err-page-clause-sound : goal.returns-in_err-page-clause-sound
@@ -36,7 +36,7 @@ returns-clause-event c =
     let ask = c.args.ask.now in
     let e = c.fill.result in
     subst (λ s. NextIs s e (contents_of c.args.self.now c.args.store.now) ask d c.fill.new.store) (sym c.if-self.false)
-    (subst (λ (b : Contents). FirstIs e (laid b ask) (reach_ahead b ask) (places_of b ask) ask d × Stays b d ask) (contents_still c.args.store.now c.make_room.new.store c.make_room.ensures.lists c.args.self.now) (c.fill.ensures.first, c.fill.ensures.stays))
+    (subst (λ (b : Contents). FirstIs e (laid b ask) (reach_ahead b ask) (places_of b ask) ask d × KeepsBoxes b d ask) (contents_still c.args.store.now c.make_room.new.store c.make_room.ensures.lists c.args.self.now) (c.fill.ensures.first, c.fill.ensures.stays))
 
 pub returns-clause-keeps : goal.returns-clause-keeps
 returns-clause-keeps c = keeps_filled c.args.store.now c.make_room.new.store c.make_room.ensures.lists c.args.self.now c.fill.new.self c.fill.new.store c.fill.ensures.others c.fill.ensures.keeps

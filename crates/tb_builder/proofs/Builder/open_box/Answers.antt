@@ -1,7 +1,7 @@
 use Rattle.std.proofs.Common.{◌∙◌, sym, refl}
 use Rattle.std.proofs.lemmas.Bool.{true≢false}
-use Rattle.tb_builder.proofs.ClassLemmas.{first_at, none_at}
-use Rattle.tb_builder.proofs.OpenLemmas.{opened_at, list_opened}
+use Rattle.tb_builder.proofs.LegalPlaces.ClassLemmas.{first_at, none_at}
+use Rattle.tb_builder.proofs.Sorting.OpenLemmas.{opened_at, list_opened}
 use Rattle.tb_builder.proofs.Builder.open_box.Goals as goal
 
 pub unreachable-requires : goal.unreachable-requires

@@ -4,11 +4,11 @@ use Rattle.std.specs.Prelude.{slice_get}
 use Rattle.tb_pool.specs.Lists.{list_at}
 use Rattle.tb_builder.specs.declared.Builder.{Builder}
 use Rattle.tb_builder.specs.Contents.{contents_of}
-use Rattle.tb_builder.specs.Running.{PageStands}
-use Rattle.tb_builder.proofs.FillLemmas.{first_is}
-use Rattle.tb_builder.proofs.FreezeLemmas.{frozen_course}
-use Rattle.tb_builder.proofs.FirstBoxLemmas.{box_small, topped}
-use Rattle.tb_builder.proofs.BehindLemmas.{opening_stops, opening_sums, opening_goes}
+use Rattle.tb_builder.specs.Running.{IsPageSoFar}
+use Rattle.tb_builder.proofs.Turns.FillLemmas.{first_is}
+use Rattle.tb_builder.proofs.Turns.FreezeLemmas.{frozen_course}
+use Rattle.tb_builder.proofs.Turns.FirstBoxLemmas.{box_small, topped}
+use Rattle.tb_builder.proofs.Turns.BehindLemmas.{opening_stops, opening_sums, opening_goes}
 use Rattle.tb_builder.proofs.Builder.open_page.Goals as goal
 
 pub top_node-glue-requires-clause-node : goal.top_node-glue-requires-clause-node
@@ -23,7 +23,7 @@ reach-event-requires-clause-own c =
     let ask = c.args.ask.now in
     let n = c.args.n.now in
     let f = first_is (list_at s b.waiting) n c.requires.first in
-    let u = frozen_course (contents_of b s) b.course c.freeze.new.self.course ask b.frozen refl (subst (λ x. PageStands b.frozen x b.course (contents_of b s)) c.requires.on c.requires.sound.page) c.requires.sound.own.classes c.freeze.ensures.first (λ some. ap (λ (x : Builder). x.course) (c.freeze.ensures.again some)) in
+    let u = frozen_course (contents_of b s) b.course c.freeze.new.self.course ask b.frozen refl (subst (λ x. IsPageSoFar b.frozen x b.course (contents_of b s)) c.requires.on c.requires.sound.page) c.requires.sound.own.classes c.freeze.ensures.first (λ some. ap (λ (x : Builder). x.course) (c.freeze.ensures.again some)) in
     let k : FitsSigned w64 c.args.ask.now.top_skip = search rules in
     let glue = simp to_z-of_z at c.top_node-glue.ensures in
     let h = topped b c.freeze.new.self s c.push_front.new.self ask n c.top_node-glue.result f.0 c.requires.sound c.requires.on c.requires.closed c.requires.fits c.requires.boxed f.1 c.freeze.ensures.ids c.freeze.ensures.frozen glue c.push_front.ensures.pushed u in
@@ -36,7 +36,7 @@ reach-event-requires-clause-first c =
     let ask = c.args.ask.now in
     let n = c.args.n.now in
     let f = first_is (list_at s b.waiting) n c.requires.first in
-    let u = frozen_course (contents_of b s) b.course c.freeze.new.self.course ask b.frozen refl (subst (λ x. PageStands b.frozen x b.course (contents_of b s)) c.requires.on c.requires.sound.page) c.requires.sound.own.classes c.freeze.ensures.first (λ some. ap (λ (x : Builder). x.course) (c.freeze.ensures.again some)) in
+    let u = frozen_course (contents_of b s) b.course c.freeze.new.self.course ask b.frozen refl (subst (λ x. IsPageSoFar b.frozen x b.course (contents_of b s)) c.requires.on c.requires.sound.page) c.requires.sound.own.classes c.freeze.ensures.first (λ some. ap (λ (x : Builder). x.course) (c.freeze.ensures.again some)) in
     let k : FitsSigned w64 c.args.ask.now.top_skip = search rules in
     let glue = simp to_z-of_z at c.top_node-glue.ensures in
     let h = topped b c.freeze.new.self s c.push_front.new.self ask n c.top_node-glue.result f.0 c.requires.sound c.requires.on c.requires.closed c.requires.fits c.requires.boxed f.1 c.freeze.ensures.ids c.freeze.ensures.frozen glue c.push_front.ensures.pushed u in
@@ -49,7 +49,7 @@ reach-event-requires-clause-underway c =
     let ask = c.args.ask.now in
     let n = c.args.n.now in
     let f = first_is (list_at s b.waiting) n c.requires.first in
-    let u = frozen_course (contents_of b s) b.course c.freeze.new.self.course ask b.frozen refl (subst (λ x. PageStands b.frozen x b.course (contents_of b s)) c.requires.on c.requires.sound.page) c.requires.sound.own.classes c.freeze.ensures.first (λ some. ap (λ (x : Builder). x.course) (c.freeze.ensures.again some)) in
+    let u = frozen_course (contents_of b s) b.course c.freeze.new.self.course ask b.frozen refl (subst (λ x. IsPageSoFar b.frozen x b.course (contents_of b s)) c.requires.on c.requires.sound.page) c.requires.sound.own.classes c.freeze.ensures.first (λ some. ap (λ (x : Builder). x.course) (c.freeze.ensures.again some)) in
     let k : FitsSigned w64 c.args.ask.now.top_skip = search rules in
     let glue = simp to_z-of_z at c.top_node-glue.ensures in
     let h = topped b c.freeze.new.self s c.push_front.new.self ask n c.top_node-glue.result f.0 c.requires.sound c.requires.on c.requires.closed c.requires.fits c.requires.boxed f.1 c.freeze.ensures.ids c.freeze.ensures.frozen glue c.push_front.ensures.pushed u in
@@ -62,7 +62,7 @@ reach-event-requires-clause-fits c =
     let ask = c.args.ask.now in
     let n = c.args.n.now in
     let f = first_is (list_at s b.waiting) n c.requires.first in
-    let u = frozen_course (contents_of b s) b.course c.freeze.new.self.course ask b.frozen refl (subst (λ x. PageStands b.frozen x b.course (contents_of b s)) c.requires.on c.requires.sound.page) c.requires.sound.own.classes c.freeze.ensures.first (λ some. ap (λ (x : Builder). x.course) (c.freeze.ensures.again some)) in
+    let u = frozen_course (contents_of b s) b.course c.freeze.new.self.course ask b.frozen refl (subst (λ x. IsPageSoFar b.frozen x b.course (contents_of b s)) c.requires.on c.requires.sound.page) c.requires.sound.own.classes c.freeze.ensures.first (λ some. ap (λ (x : Builder). x.course) (c.freeze.ensures.again some)) in
     let k : FitsSigned w64 c.args.ask.now.top_skip = search rules in
     let glue = simp to_z-of_z at c.top_node-glue.ensures in
     let h = topped b c.freeze.new.self s c.push_front.new.self ask n c.top_node-glue.result f.0 c.requires.sound c.requires.on c.requires.closed c.requires.fits c.requires.boxed f.1 c.freeze.ensures.ids c.freeze.ensures.frozen glue c.push_front.ensures.pushed u in
@@ -75,7 +75,7 @@ returns-then-self c =
     let ask = c.args.ask.now in
     let n = c.args.n.now in
     let f = first_is (list_at s b.waiting) n c.requires.first in
-    let u = frozen_course (contents_of b s) b.course c.freeze.new.self.course ask b.frozen refl (subst (λ x. PageStands b.frozen x b.course (contents_of b s)) c.requires.on c.requires.sound.page) c.requires.sound.own.classes c.freeze.ensures.first (λ some. ap (λ (x : Builder). x.course) (c.freeze.ensures.again some)) in
+    let u = frozen_course (contents_of b s) b.course c.freeze.new.self.course ask b.frozen refl (subst (λ x. IsPageSoFar b.frozen x b.course (contents_of b s)) c.requires.on c.requires.sound.page) c.requires.sound.own.classes c.freeze.ensures.first (λ some. ap (λ (x : Builder). x.course) (c.freeze.ensures.again some)) in
     let k : FitsSigned w64 c.args.ask.now.top_skip = search rules in
     let glue = simp to_z-of_z at c.top_node-glue.ensures in
     let h = topped b c.freeze.new.self s c.push_front.new.self ask n c.top_node-glue.result f.0 c.requires.sound c.requires.on c.requires.closed c.requires.fits c.requires.boxed f.1 c.freeze.ensures.ids c.freeze.ensures.frozen glue c.push_front.ensures.pushed u in
@@ -89,7 +89,7 @@ put-requires-clause-first c =
     let ask = c.args.ask.now in
     let n = c.args.n.now in
     let f = first_is (list_at s b.waiting) n c.requires.first in
-    let u = frozen_course (contents_of b s) b.course c.freeze.new.self.course ask b.frozen refl (subst (λ x. PageStands b.frozen x b.course (contents_of b s)) c.requires.on c.requires.sound.page) c.requires.sound.own.classes c.freeze.ensures.first (λ some. ap (λ (x : Builder). x.course) (c.freeze.ensures.again some)) in
+    let u = frozen_course (contents_of b s) b.course c.freeze.new.self.course ask b.frozen refl (subst (λ x. IsPageSoFar b.frozen x b.course (contents_of b s)) c.requires.on c.requires.sound.page) c.requires.sound.own.classes c.freeze.ensures.first (λ some. ap (λ (x : Builder). x.course) (c.freeze.ensures.again some)) in
     let k : FitsSigned w64 c.args.ask.now.top_skip = search rules in
     let glue = simp to_z-of_z at c.top_node-glue.ensures in
     let h = topped b c.freeze.new.self s c.push_front.new.self ask n c.top_node-glue.result f.0 c.requires.sound c.requires.on c.requires.closed c.requires.fits c.requires.boxed f.1 c.freeze.ensures.ids c.freeze.ensures.frozen glue c.push_front.ensures.pushed u in
@@ -107,7 +107,7 @@ put-requires-clause-fits c =
     let ask = c.args.ask.now in
     let n = c.args.n.now in
     let f = first_is (list_at s b.waiting) n c.requires.first in
-    let u = frozen_course (contents_of b s) b.course c.freeze.new.self.course ask b.frozen refl (subst (λ x. PageStands b.frozen x b.course (contents_of b s)) c.requires.on c.requires.sound.page) c.requires.sound.own.classes c.freeze.ensures.first (λ some. ap (λ (x : Builder). x.course) (c.freeze.ensures.again some)) in
+    let u = frozen_course (contents_of b s) b.course c.freeze.new.self.course ask b.frozen refl (subst (λ x. IsPageSoFar b.frozen x b.course (contents_of b s)) c.requires.on c.requires.sound.page) c.requires.sound.own.classes c.freeze.ensures.first (λ some. ap (λ (x : Builder). x.course) (c.freeze.ensures.again some)) in
     let k : FitsSigned w64 c.args.ask.now.top_skip = search rules in
     let glue = simp to_z-of_z at c.top_node-glue.ensures in
     let h = topped b c.freeze.new.self s c.push_front.new.self ask n c.top_node-glue.result f.0 c.requires.sound c.requires.on c.requires.closed c.requires.fits c.requires.boxed f.1 c.freeze.ensures.ids c.freeze.ensures.frozen glue c.push_front.ensures.pushed u in
@@ -122,7 +122,7 @@ returns c =
     let ask = c.args.ask.now in
     let n = c.args.n.now in
     let f = first_is (list_at s b.waiting) n c.requires.first in
-    let u = frozen_course (contents_of b s) b.course c.freeze.new.self.course ask b.frozen refl (subst (λ x. PageStands b.frozen x b.course (contents_of b s)) c.requires.on c.requires.sound.page) c.requires.sound.own.classes c.freeze.ensures.first (λ some. ap (λ (x : Builder). x.course) (c.freeze.ensures.again some)) in
+    let u = frozen_course (contents_of b s) b.course c.freeze.new.self.course ask b.frozen refl (subst (λ x. IsPageSoFar b.frozen x b.course (contents_of b s)) c.requires.on c.requires.sound.page) c.requires.sound.own.classes c.freeze.ensures.first (λ some. ap (λ (x : Builder). x.course) (c.freeze.ensures.again some)) in
     let k : FitsSigned w64 c.args.ask.now.top_skip = search rules in
     let glue = simp to_z-of_z at c.top_node-glue.ensures in
     let h = topped b c.freeze.new.self s c.push_front.new.self ask n c.top_node-glue.result f.0 c.requires.sound c.requires.on c.requires.closed c.requires.fits c.requires.boxed f.1 c.freeze.ensures.ids c.freeze.ensures.frozen glue c.push_front.ensures.pushed u in

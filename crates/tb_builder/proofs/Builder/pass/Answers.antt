@@ -2,10 +2,10 @@ use Rattle.std.proofs.Common.{refl, sym, ◌∙◌, true, arith}
 use Rattle.tb_pool.specs.Lists.{list_at}
 use Rattle.tb_builder.specs.declared.Builder.{Builder}
 use Rattle.tb_builder.specs.Owned.{ids_of}
-use Rattle.tb_builder.proofs.MoveLemmas.{written_shift, written_drop}
-use Rattle.tb_builder.proofs.FillLemmas.{first_is}
-use Rattle.tb_builder.proofs.FreezeLemmas.{loose_node, loose_kind_shape, no_inner}
-use Rattle.tb_builder.proofs.MeetLemmas.{passed_loose, passed_gone}
+use Rattle.tb_builder.proofs.Turns.MoveLemmas.{written_shift, written_drop}
+use Rattle.tb_builder.proofs.Turns.FillLemmas.{first_is}
+use Rattle.tb_builder.proofs.Turns.FreezeLemmas.{loose_node, loose_kind_shape, no_inner}
+use Rattle.tb_builder.proofs.Turns.MeetLemmas.{passed_loose, passed_gone}
 use Rattle.tb_builder.proofs.Builder.pass.Goals as goal
 
 pub returns-then-is_lasting : goal.returns-then-is_lasting

@@ -1,4 +1,4 @@
-use Rattle.tb_builder.proofs.FrontLemmas.{put_contents, put_sound, put_others, put_keeps}
+use Rattle.tb_builder.proofs.Handover.FrontLemmas.{put_contents, put_sound, put_others, put_keeps}
 use Rattle.tb_builder.proofs.Builder.put_back.Goals as goal
 
 pub returns-clause-sound : goal.returns-clause-sound

@@ -1,6 +1,6 @@
 use Rattle.std.proofs.Common.{[]}
-use Rattle.tb_builder.proofs.MoveLemmas.{wrote_two}
-use Rattle.tb_builder.proofs.FirstLemmas.{before_it, first_contents, first_sound, first_others, first_kept, first_owned}
+use Rattle.tb_builder.proofs.Turns.MoveLemmas.{wrote_two}
+use Rattle.tb_builder.proofs.Handover.FirstLemmas.{before_it, first_contents, first_sound, first_others, first_kept, first_owned}
 use Rattle.tb_builder.proofs.Builder.put_first.Goals as goal
 
 pub append-requires-2-clause-first_live : goal.append-requires-2-clause-first_live

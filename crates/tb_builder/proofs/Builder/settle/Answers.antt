@@ -3,11 +3,11 @@ use Rattle.tb_pool.specs.Lists.{list_at}
 use Rattle.tb_node.specs.Plain.{shape_of}
 use Rattle.tb_builder.specs.Owned.{ids_of}
 use Rattle.tb_builder.specs.Room.{RoomFits}
-use Rattle.tb_builder.specs.Firing.{Settles}
-use Rattle.tb_builder.proofs.FillLemmas.{first_is}
-use Rattle.tb_builder.proofs.RestLemmas.{room-rest}
-use Rattle.tb_builder.proofs.GiveLemmas.{first_known}
-use Rattle.tb_builder.proofs.SettleLemmas.{settles_all, settles_front, settles_none}
+use Rattle.tb_builder.specs.Firing.{SharesOut}
+use Rattle.tb_builder.proofs.Turns.FillLemmas.{first_is}
+use Rattle.tb_builder.proofs.Sorting.RestLemmas.{room-rest}
+use Rattle.tb_builder.proofs.Sorting.GiveLemmas.{first_known}
+use Rattle.tb_builder.proofs.Sorting.SettleLemmas.{settles_all, settles_front, settles_none}
 use Rattle.tb_builder.proofs.Builder.settle.Goals as goal
 
 pub keep_rest-requires-clause-fits : goal.keep_rest-requires-clause-fits
@@ -24,15 +24,15 @@ hold-requires-clause-known c =
 
 pub returns-in-All-clause-settles : goal.returns-in-All-clause-settles
 returns-in-All-clause-settles c =
-    subst (Settles c.args.self.now c.args.store.now c.give_all.new.self c.drop_insertion.new.store c.args.n.now c.args.i.now) (sym c.in-All.is)
+    subst (SharesOut c.args.self.now c.args.store.now c.give_all.new.self c.drop_insertion.new.store c.args.n.now c.args.i.now) (sym c.in-All.is)
     (settles_all c.args.self.now c.give_all.new.self c.args.store.now c.give_all.new.store c.drop_insertion.new.store c.args.n.now c.args.i.now c.give_all.ensures.gives c.drop_insertion.ensures.drops)
 
 pub returns-in-Front-clause-settles : goal.returns-in-Front-clause-settles
 returns-in-Front-clause-settles c =
-    subst (Settles c.args.self.now c.args.store.now c.give_part.new.self c.keep_rest.new.store c.args.n.now c.args.i.now) (sym c.in-Front.is)
+    subst (SharesOut c.args.self.now c.args.store.now c.give_part.new.self c.keep_rest.new.store c.args.n.now c.args.i.now) (sym c.in-Front.is)
     (settles_front c.args.self.now c.give_part.new.self c.args.store.now c.give_part.new.store c.keep_rest.new.store c.args.n.now c.args.i.now c.in-Front.place c.give_part.ensures.gives c.keep_rest.ensures.drops)
 
 pub returns-in-Nothing-clause-settles : goal.returns-in-Nothing-clause-settles
 returns-in-Nothing-clause-settles c =
-    subst (Settles c.args.self.now c.args.store.now c.args.self.now c.hold.new.store c.args.n.now c.args.i.now) (sym c.in-Nothing.is)
+    subst (SharesOut c.args.self.now c.args.store.now c.args.self.now c.hold.new.store c.args.n.now c.args.i.now) (sym c.in-Nothing.is)
     (settles_none c.args.self.now c.args.store.now c.hold.new.store c.args.n.now c.args.i.now c.requires.insertion c.hold.ensures.drops)

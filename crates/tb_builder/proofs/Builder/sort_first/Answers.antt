@@ -1,36 +1,26 @@
 use Rattle.std.proofs.Common.{◌∙◌, sym, ap, ◌++◌}
+use Rattle.std.specs.Option.{option_copied}
 use Rattle.tb_pool.specs.Lists.{list_at}
+use Rattle.tb_node.specs.Plain.{plain_list}
 use Rattle.tb_insert.specs.Account.{labelled}
 use Rattle.tb_insert.specs.Running.{cut_in, last_let_in}
 use Rattle.tb_builder.specs.Firing.{share_told}
-use Rattle.tb_builder.specs.Contents.{contents_of, plain_list}
-use Rattle.tb_builder.proofs.FillLemmas.{first_is}
-use Rattle.tb_builder.proofs.SortLemmas.{first_class, first_nodes, first_sizes, first_top, marked_within, sorted_insertion, settled_sorts, settled_body, settled_left, plain_sorts, plain_left, sorted_plain}
+use Rattle.tb_builder.specs.Contents.{contents_of}
+use Rattle.tb_builder.proofs.Turns.FillLemmas.{first_is}
+use Rattle.tb_builder.proofs.Events.FilledLemmas.{none_first}
+use Rattle.tb_builder.proofs.Sorting.SortLemmas.{first_class, first_nodes, first_sizes, first_top, marked_within, sorted_insertion, settled_sorts, settled_body, settled_left, never_empty, first_insertion}
 use Rattle.tb_builder.proofs.Builder.sort_first.Goals as goal
 
-pub returns-in_default-insertion_of-clause-sorts : goal.returns-in_default-insertion_of-clause-sorts
-returns-in_default-insertion_of-clause-sorts c =
-    let b = c.args.self.now in
-    let s = c.args.store.now in
-    let f = first_is (list_at s b.page) c.in-Some.n.now (sym c.in-Some.ensures) in
-    let none = sym c.insertion_of.ensures ∙ c.in_default-insertion_of.is in
-    plain_sorts b s c.move_first.new.self c.in-Some.n.now f.0 c.args.body c.requires.own f.1 none c.requires.body_apart c.requires.body_plain (c.move_first.ensures.moved c.in-Some.n.now f.0 f.1)
+pub unreachable-requires : goal.unreachable-requires
+unreachable-requires c =
+    let ns = list_at c.args.store.now c.args.self.now.page in
+    never_empty ns (none_first ns (sym c.get.ensures ∙ ap option_copied c.in_default.is)) c.requires.first
 
-pub returns-in_default-insertion_of-clause-sorted : goal.returns-in_default-insertion_of-clause-sorted
-returns-in_default-insertion_of-clause-sorted c =
-    let b = c.args.self.now in
+pub unreachable-requires-in_default-insertion_of : goal.unreachable-requires-in_default-insertion_of
+unreachable-requires-in_default-insertion_of c =
     let s = c.args.store.now in
-    let f = first_is (list_at s b.page) c.in-Some.n.now (sym c.in-Some.ensures) in
-    let none = sym c.insertion_of.ensures ∙ c.in_default-insertion_of.is in
-    λ z page marked before boxes a e h. sorted_plain b s c.move_first.new.self c.in-Some.n.now f.0 c.args.body c.requires.own f.1 none c.requires.body_apart c.requires.body_plain (c.move_first.ensures.moved c.in-Some.n.now f.0 f.1) z boxes marked before h
-
-pub returns-in_default-insertion_of-clause-left : goal.returns-in_default-insertion_of-clause-left
-returns-in_default-insertion_of-clause-left c =
-    let b = c.args.self.now in
-    let s = c.args.store.now in
-    let f = first_is (list_at s b.page) c.in-Some.n.now (sym c.in-Some.ensures) in
-    let none = sym c.insertion_of.ensures ∙ c.in_default-insertion_of.is in
-    plain_left b s c.move_first.new.self c.in-Some.n.now f.0 c.args.body c.requires.own f.1 none c.requires.body_apart c.requires.body_plain (c.move_first.ensures.moved c.in-Some.n.now f.0 f.1)
+    let f = first_is (list_at s c.args.self.now.page) c.in-Some.n.now (sym c.in-Some.ensures) in
+    first_insertion (list_at s c.args.self.now.page) c.in-Some.n.now f.0 f.1 c.requires.first (sym c.insertion_of.ensures ∙ c.in_default-insertion_of.is)
 
 pub share_at-share-requires : goal.share_at-share-requires
 share_at-share-requires c =
@@ -81,14 +71,17 @@ returns c =
     let settled = c.settle.ensures.settles in
     let d = c.settle.new.self in
     let t = c.settle.new.store in
+    let n = c.in-Some.n.now in
+    let i = c.in-Some-insertion_of.i in
+    let share = c.share_at-share.result in
     record {
-      sorts = settled_sorts b d s t c.in-Some.n.now c.in-Some-insertion_of.i c.share_at-share.result c.args.body settled c.requires.body_apart c.requires.body_live c.requires.body_plain;
-      sorted = λ z page marked before boxes a e h.
-          sorted_insertion b s c.in-Some.n.now f.0 c.in-Some-insertion_of.i c.requires.own f.1 is z before c.args.index c.share_at-share.result e
-          (c.share_at-share.ensures z page marked a ∙ ap (λ ps. share_told (cut_in (labelled z ps) c.in-Some-insertion_of.i.class) (last_let_in (labelled z ps) c.in-Some-insertion_of.i.class) c.args.index) (sym h.whole))
-          boxes marked (plain_list s c.args.body) (plain_list t c.args.body) (contents_of d t)
-          (settled_body b d s t c.in-Some.n.now c.in-Some-insertion_of.i c.share_at-share.result c.args.body settled c.requires.body_apart c.requires.body_plain)
+      sorts = λ body free. settled_sorts b d s t n i share body settled free;
+      sorted = λ body free z page marked before boxes a e h.
+          sorted_insertion b s n f.0 i c.requires.own f.1 is z before c.args.index share e
+          (c.share_at-share.ensures z page marked a ∙ ap (λ ps. share_told (cut_in (labelled z ps) i.class) (last_let_in (labelled z ps) i.class) c.args.index) (sym h.whole))
+          boxes marked (plain_list s body) (plain_list t body) (contents_of d t)
+          (settled_body b d s t n i share body settled free)
           (settled.takes.page f.0 f.1) settled.boxes settled.takes.held h;
-      left = settled_left b d s t c.in-Some.n.now c.in-Some-insertion_of.i c.share_at-share.result c.args.body settled c.requires.body_apart f.0 f.1;
+      left = settled_left b d s t n i share settled f.0 f.1;
       spare = c.settle.ensures.spare;
     }

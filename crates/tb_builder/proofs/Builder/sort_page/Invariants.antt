@@ -1,5 +1,10 @@
-use Rattle.tb_builder.proofs.SortingLemmas.{Sorting}
+use Rattle.std.proofs.Common.{length}
+use Rattle.tb_pool.specs.Lists.{list_at}
+use Rattle.tb_builder.proofs.Sorting.SortingLemmas.{Sorting}
 use Rattle.tb_builder.proofs.Builder.sort_page.Given as goal
 
-abbrev pub invariant-loop-index : goal.invariant-loop-index
-invariant-loop-index l = Sorting l.fn.self l.fn.store l.self l.store l.body l.index
+abbrev pub invariant-insertions : goal.invariant-insertions
+invariant-insertions l = Sorting l.fn.self l.fn.store l.self l.store l.body
+
+abbrev pub decreases-insertions : goal.decreases-insertions
+decreases-insertions l = length (list_at l.store l.self.page)

@@ -10,10 +10,10 @@ use Rattle.tb_builder.specs.Owned.{ids_of}
 use Rattle.tb_builder.specs.Reached.{holds_box}
 use Rattle.tb_builder.specs.Running.{kept_frozen, nodes_glue_first}
 use Rattle.tb_builder.specs.Turn.{places_on}
-use Rattle.tb_builder.proofs.MoveLemmas.{written_shift}
-use Rattle.tb_builder.proofs.PastLemmas.{holds-both}
-use Rattle.tb_builder.proofs.FillLemmas.{first_is, moves_from, shifted_from}
-use Rattle.tb_builder.proofs.StepLemmas.{step_sums, penalty_first, plain_first, passed_step, tried_stops, tried_goes}
+use Rattle.tb_builder.proofs.Turns.MoveLemmas.{written_shift}
+use Rattle.tb_builder.proofs.Turns.PastLemmas.{holds-both}
+use Rattle.tb_builder.proofs.Turns.FillLemmas.{first_is, moves_from, shifted_from}
+use Rattle.tb_builder.proofs.Turns.StepLemmas.{step_sums, penalty_first, plain_first, passed_step, tried_stops, tried_goes}
 use Rattle.tb_builder.proofs.Builder.step.Goals as goal
 
 pub put-requires-clause-fits : goal.put-requires-clause-fits

@@ -1,6 +1,6 @@
 use Rattle.tb_pool.specs.Lists.{list_at}
-use Rattle.tb_builder.proofs.FillLemmas.{first_is}
-use Rattle.tb_builder.proofs.FilledLemmas.{open_underway, open_fits, open_turn}
+use Rattle.tb_builder.proofs.Turns.FillLemmas.{first_is}
+use Rattle.tb_builder.proofs.Events.FilledLemmas.{open_underway, open_fits, open_turn}
 use Rattle.tb_builder.proofs.Builder.turn.Goals as goal
 
 pub reach-requires-clause-underway : goal.reach-requires-clause-underway

@@ -2,8 +2,8 @@ use Rattle.std.proofs.Common.{◌∙◌, ap, sym, subst, FitsSigned, w64, rules}
 use Rattle.std.proofs.lemmas.Int.{to_z-of_z}
 use Rattle.tb_node.specs.Small.{IsAmount}
 use Rattle.tb_break.specs.declared.Offer.{Offer}
-use Rattle.tb_builder.specs.Offer.{Marks}
-use Rattle.tb_builder.proofs.CourseLemmas.{course_offered, made_is}
+use Rattle.tb_builder.specs.Offer.{MarksBest}
+use Rattle.tb_builder.proofs.LegalPlaces.CourseLemmas.{course_offered, made_is}
 use Rattle.tb_builder.proofs.Course.offer.Goals as goal
 
 pub offer-offer-requires-clause-goal : goal.offer-offer-requires-clause-goal
@@ -32,7 +32,7 @@ returns c = λ z page bs h i.
     let pens_is = c.penalties.ensures z page h.marked h.account in
     let test = ap (λ (o : Offer). o.champion) value in
     let scan = c.mark_if.ensures.scan ∙ kept in
-    let mm : Marks z c.args.self.now c.mark_if.new.self page c.offer-offer.result.champion c.goal-goal.result = record { taken = m.taken; goal_is = m.goal_is; kept = m.kept; goal_kept = m.goal_kept } in
+    let mm : MarksBest z c.args.self.now c.mark_if.new.self page c.offer-offer.result.champion c.goal-goal.result = record { taken = m.taken; goal_is = m.goal_is; kept = m.kept; goal_kept = m.goal_kept } in
     record {
       made = made_is z c.args.self.now c.mark_if.new.self page bs c.args.penalty c.goal-goal.result c.penalties.result c.args.index c.offer-offer.result.champion h c.requires.legal i goal_is pens_is test scan mm c.mark_if.ensures.lasting c.made_try.result c.args.line c.offer-offer.result c.sums-sums.result c.sums-sums.ensures.value value made;
       course = course_offered z c.args.self.now c.mark_if.new.self page bs c.args.penalty c.goal-goal.result c.penalties.result c.args.index c.offer-offer.result.champion h c.requires.legal i goal_is pens_is test scan mm c.mark_if.ensures.lasting;

@@ -1,5 +1,5 @@
 use Rattle.std.proofs.Common.{refl}
-use Rattle.tb_builder.proofs.CourseLemmas.{course_put_node}
+use Rattle.tb_builder.proofs.LegalPlaces.CourseLemmas.{course_put_node}
 use Rattle.tb_builder.proofs.Course.put.Goals as goal
 
 pub returns : goal.returns

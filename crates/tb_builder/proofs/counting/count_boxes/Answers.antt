@@ -3,7 +3,7 @@ use Rattle.std.proofs.Math.Seq.{drop-length}
 use Rattle.tb_pool.specs.Lists.{IsLive, list_at}
 use Rattle.tb_builder.specs.declared.ClassList.{ClassList}
 use Rattle.tb_builder.specs.Contents.{boxed_of, box_count}
-use Rattle.tb_builder.proofs.CountLemmas.{Boxing, boxing_begins, boxing_live, boxing_next, boxing_ends}
+use Rattle.tb_builder.proofs.Amounts.CountLemmas.{Boxing, boxing_begins, boxing_live, boxing_next, boxing_ends}
 use Rattle.tb_builder.proofs.counting.count_boxes.Goals as goal
 
 pub loop-entry-init : goal.loop-entry-init

@@ -1,6 +1,6 @@
 use Rattle.std.proofs.Common.{map, drop}
 use Rattle.tb_builder.specs.Contents.{boxed_of, box_count}
-use Rattle.tb_builder.proofs.CountLemmas.{Boxing}
+use Rattle.tb_builder.proofs.Amounts.CountLemmas.{Boxing}
 use Rattle.tb_builder.proofs.counting.count_boxes.Given as goal
 
 abbrev pub invariant-loop-entry : goal.invariant-loop-entry

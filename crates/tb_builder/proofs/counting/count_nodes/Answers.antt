@@ -1,25 +1,25 @@
-use Rattle.std.proofs.Common.{◌∙◌, sym, subst, map}
+use Rattle.std.proofs.Common.{◌∙◌, sym, subst}
 use Rattle.tb_pool.specs.Lists.{list_at}
-use Rattle.tb_node.specs.Plain.{plain_of}
+use Rattle.tb_node.specs.Plain.{plain_list}
 use Rattle.tb_builder.specs.Contents.{node_count}
-use Rattle.tb_builder.proofs.CountLemmas.{Counting, counting_begins, counting_live, counting_next, counting_ends}
+use Rattle.tb_builder.proofs.Amounts.CountLemmas.{Counting, counting_begins, counting_live, counting_next, counting_ends}
 use Rattle.tb_builder.proofs.counting.count_nodes.Goals as goal
 
 pub loop-n-init : goal.loop-n-init
 loop-n-init c = record {
   can_next = tt;
   is_finite = tt;
-  counting = subst (λ it. Counting c.args.store.now 18446744073709551615 (node_count (map (plain_of (list_at c.args.store.now)) (list_at c.args.store.now c.args.l))) it 0) (sym (c.into_iter-n-iterator.ensures.into_iter_gives ∙ c.iter-n-items.ensures)) (counting_begins c.args.store.now 18446744073709551615 (list_at c.args.store.now c.args.l) c.requires.inner);
+  counting = subst (λ it. Counting c.args.store.now 18446744073709551615 (node_count (plain_list c.args.store.now c.args.l)) it 0) (sym (c.into_iter-n-iterator.ensures.into_iter_gives ∙ c.iter-n-items.ensures)) (counting_begins c.args.store.now 18446744073709551615 (list_at c.args.store.now c.args.l) c.requires.inner);
 }
 
 pub count_of-requires : goal.count_of-requires
 count_of-requires c =
-    let s = subst (λ it. Counting c.args.store.now 18446744073709551615 (node_count (map (plain_of (list_at c.args.store.now)) (list_at c.args.store.now c.args.l))) it c.loop-n.total) c.in-Some.ensures.steps c.loop-n.invariant.counting in
+    let s = subst (λ it. Counting c.args.store.now 18446744073709551615 (node_count (plain_list c.args.store.now c.args.l)) it c.loop-n.total) c.in-Some.ensures.steps c.loop-n.invariant.counting in
     counting_live c.args.store.now 18446744073709551615 _ c.loop-n.total c.in-Some.n.now c.next.new.self s
 
 pub loop-n-preserved : goal.loop-n-preserved
 loop-n-preserved c =
-    let s = subst (λ it. Counting c.args.store.now 18446744073709551615 (node_count (map (plain_of (list_at c.args.store.now)) (list_at c.args.store.now c.args.l))) it c.loop-n.total) c.in-Some.ensures.steps c.loop-n.invariant.counting in
+    let s = subst (λ it. Counting c.args.store.now 18446744073709551615 (node_count (plain_list c.args.store.now c.args.l)) it c.loop-n.total) c.in-Some.ensures.steps c.loop-n.invariant.counting in
     record {
       can_next = tt;
       is_finite = tt;
@@ -28,5 +28,5 @@ loop-n-preserved c =
 
 pub returns : goal.returns
 returns c =
-    counting_ends c.args.store.now 18446744073709551615 (node_count (map (plain_of (list_at c.args.store.now)) (list_at c.args.store.now c.args.l))) c.loop-n.total
-    (subst (λ it. Counting c.args.store.now 18446744073709551615 (node_count (map (plain_of (list_at c.args.store.now)) (list_at c.args.store.now c.args.l))) it c.loop-n.total) c.in-None.ensures.steps.0 c.loop-n.invariant.counting)
+    counting_ends c.args.store.now 18446744073709551615 (node_count (plain_list c.args.store.now c.args.l)) c.loop-n.total
+    (subst (λ it. Counting c.args.store.now 18446744073709551615 (node_count (plain_list c.args.store.now c.args.l)) it c.loop-n.total) c.in-None.ensures.steps.0 c.loop-n.invariant.counting)

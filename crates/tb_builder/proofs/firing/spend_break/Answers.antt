@@ -5,7 +5,7 @@ use Rattle.tb_node.specs.Plain.{plain_of}
 use Rattle.tb_break.proofs.StoreLemmas.{none_first, with_list-same}
 use Rattle.tb_builder.specs.Fired.{line_at, penalty_at}
 use Rattle.tb_builder.specs.Firing.{spent_nodes}
-use Rattle.tb_builder.proofs.FillLemmas.{first_is}
+use Rattle.tb_builder.proofs.Turns.FillLemmas.{first_is}
 use Rattle.tb_builder.proofs.firing.spend_break.Goals as goal
 
 pub returns-in_default-clause-spent : goal.returns-in_default-clause-spent

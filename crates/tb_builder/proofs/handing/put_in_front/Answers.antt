@@ -1,6 +1,6 @@
 use Rattle.std.proofs.Common.{sym, ap, ◌∙◌, is_some, []}
-use Rattle.tb_builder.proofs.MoveLemmas.{wrote_two}
-use Rattle.tb_builder.proofs.FrontLemmas.{in_front}
+use Rattle.tb_builder.proofs.Turns.MoveLemmas.{wrote_two}
+use Rattle.tb_builder.proofs.Handover.FrontLemmas.{in_front}
 use Rattle.tb_builder.proofs.handing.put_in_front.Goals as goal
 
 pub append-requires-2-clause-first_live : goal.append-requires-2-clause-first_live

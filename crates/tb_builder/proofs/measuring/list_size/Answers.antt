@@ -1,5 +1,5 @@
 use Rattle.tb_node.specs.Fit.{shapes}
-use Rattle.tb_builder.proofs.SizeLemmas.{room_fits}
+use Rattle.tb_builder.proofs.Ownership.SizeLemmas.{room_fits}
 use Rattle.tb_builder.proofs.measuring.list_size.Goals as goal
 
 pub pruned_size-requires-clause-fits : goal.pruned_size-requires-clause-fits

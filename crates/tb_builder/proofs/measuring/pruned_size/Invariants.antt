@@ -1,5 +1,5 @@
 use Rattle.tb_pool.specs.Lists.{list_at}
-use Rattle.tb_builder.proofs.SizeLemmas.{Sized}
+use Rattle.tb_builder.proofs.Ownership.SizeLemmas.{Sized}
 use Rattle.tb_builder.proofs.measuring.pruned_size.Given as goal
 
 abbrev pub invariant-loop-n : goal.invariant-loop-n

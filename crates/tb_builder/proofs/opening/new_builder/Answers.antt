@@ -3,7 +3,7 @@ use Rattle.std.specs.FinMap.{get}
 use Rattle.tb_builder.specs.declared.Builder.{Builder}
 use Rattle.tb_builder.specs.Owned.{box_ids, own_ids, ids_of}
 use Rattle.tb_builder.specs.Opened.{Opened}
-use Rattle.tb_builder.proofs.NewLemmas.{opened_first, new_contents, new_fresh, new_sound, started_lasting}
+use Rattle.tb_builder.proofs.Ownership.NewLemmas.{opened_first, new_contents, new_fresh, new_sound, started_lasting}
 use Rattle.tb_builder.proofs.opening.new_builder.Goals as goal
 
 pub returns-in_err-held-clause-others : goal.returns-in_err-held-clause-others

@@ -1,6 +1,6 @@
 use Rattle.std.proofs.Common.{sym, subst, []}
 use Rattle.tb_builder.specs.Opened.{VoidBoxes}
-use Rattle.tb_builder.proofs.NewLemmas.{boxes_begin, boxes_step, opened_first}
+use Rattle.tb_builder.proofs.Ownership.NewLemmas.{boxes_begin, boxes_step, opened_first}
 use Rattle.tb_builder.proofs.opening.void_boxes.Goals as goal
 
 pub loop-class-init : goal.loop-class-init

@@ -2,8 +2,8 @@ use Rattle.std.proofs.Common.{subst}
 use Rattle.tb_builder.specs.declared.Event.{Event}
 use Rattle.tb_builder.specs.Contents.{contents_of}
 use Rattle.tb_builder.specs.Next.{NextIs}
-use Rattle.tb_builder.proofs.PageableLemmas.{contents_fit}
-use Rattle.tb_builder.proofs.WorkedLemmas.{fits_again, held_again, known_again, fired_no_page, fired_live}
+use Rattle.tb_builder.proofs.Ranges.PageableLemmas.{contents_fit}
+use Rattle.tb_builder.proofs.Worked.WorkedLemmas.{fits_again, held_again, known_again, fired_no_page, fired_live}
 use Rattle.tb_builder.proofs.tests.fires.Goals as goal
 
 pub loop-init : goal.loop-init

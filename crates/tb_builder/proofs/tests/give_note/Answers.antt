@@ -6,9 +6,9 @@ use Rattle.tb_builder.specs.declared.Builder.{Builder}
 use Rattle.tb_builder.specs.Contents.{contents_of}
 use Rattle.tb_builder.specs.Owned.{ids_of, owned}
 use Rattle.tb_builder.specs.Worked.{IsReady, waits}
-use Rattle.tb_builder.proofs.SpareLemmas.{sound_still, contents_still}
-use Rattle.tb_builder.proofs.FrameLemmas.{live_all_same, frame_sound, frame_contents, empty_may_wait}
-use Rattle.tb_builder.proofs.WorkedLemmas.{ready_still, waits_still, ready_more, waits_more, note_sound, note_ready, note_waits, note_shapes, note_joins, note_sized, note_counts, note_room, note_count, same_count, extent_of, penalty_of}
+use Rattle.tb_builder.proofs.Ownership.SpareLemmas.{sound_still, contents_still}
+use Rattle.tb_builder.proofs.Ownership.FrameLemmas.{live_all_same, frame_sound, frame_contents, empty_may_wait}
+use Rattle.tb_builder.proofs.Worked.WorkedLemmas.{ready_still, waits_still, ready_more, waits_more, note_sound, note_ready, note_waits, note_shapes, note_joins, note_sized, note_counts, note_room, note_count, same_count, extent_of, penalty_of}
 use Rattle.tb_builder.proofs.tests.give_note.Goals as goal
 
 pub returns-in_err-list-clause-ready : goal.returns-in_err-list-clause-ready

@@ -1,5 +1,5 @@
 use Rattle.tb_builder.specs.Contents.{contents_of}
-use Rattle.tb_builder.proofs.PageableLemmas.{contents_fit}
+use Rattle.tb_builder.proofs.Ranges.PageableLemmas.{contents_fit}
 use Rattle.tb_builder.proofs.tests.next_event.Goals as goal
 
 pub next-requires-clause-fits : goal.next-requires-clause-fits

@@ -1,5 +1,5 @@
 use Rattle.tb_builder.specs.Owned.{ids_of}
-use Rattle.tb_builder.proofs.FrameLemmas.{empty_joins}
+use Rattle.tb_builder.proofs.Ownership.FrameLemmas.{empty_joins}
 use Rattle.tb_builder.proofs.tests.put_nothing_back.Goals as goal
 
 pub put_back-requires-clause-joins : goal.put_back-requires-clause-joins

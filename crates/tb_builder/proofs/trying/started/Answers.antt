@@ -1,6 +1,6 @@
 use Rattle.std.proofs.Common.{FitsSigned, w64}
 use Rattle.std.proofs.lemmas.Int.{to_z-of_z}
-use Rattle.tb_builder.proofs.CourseLemmas.{course_started}
+use Rattle.tb_builder.proofs.LegalPlaces.CourseLemmas.{course_started}
 use Rattle.tb_builder.proofs.trying.started.Goals as goal
 
 pub returns : goal.returns

@@ -1,0 +1,71 @@
+-- The scan of a page, when a node without room goes on it.
+use Rattle.std.proofs.Common.{◌≡◌, refl, sym, ◌∙◌, ap, ℕ, ℤ, pos, Bool, true, false, List, [], ◌∷◌, ◌++◌, arith}
+use Rattle.std.specs.Prelude.{◌+ℤ◌, ◌-ℤ◌, map}
+use Rattle.std.proofs.lemmas.List.{map-append}
+use Rattle.std.proofs.lemmas.Int.{ints}
+use Rattle.tb_scaled.specs.Scaled.{min_ℤ}
+use Rattle.tb_scaled.specs.declared.Order.{Order}
+use Rattle.tb_scaled.specs.declared.Order.TheVariants.{Normal, Fil, Fill, Filll}
+use Rattle.tb_node.specs.Shape.{Shape, other}
+use Rattle.tb_node.specs.Plain.{ins, PlainNode, node_shape, Inserted, is_insertion_kind}
+use Rattle.tb_node.specs.Sums.{sums_of, size_of, list_stretch, list_shrink, stretches}
+use Rattle.tb_node.proofs.AddLemmas.{size-append, depth-append, stretch-append, shrink-append}
+use Rattle.tb_break.specs.Scan.{Scanned, empty_scan}
+use Rattle.tb_insert.specs.declared.Class.{Class}
+use Rattle.tb_insert.specs.Terms.{Terms, sums_with}
+use Rattle.tb_insert.specs.Account.{ClassBox, Frozen, labelled, terms_after, terms_of_labels, is_met, insertions, class_box, met_classes, skip_shapes}
+use Rattle.tb_insert.specs.Running.{Differ, numbered, boxed, IsScanOfPage, met_scan}
+use Rattle.tb_insert.proofs.TermLemmas.{skipped, labelled-plain}
+
+nothing : (a : ℤ) → a +ℤ pos 0 ≡ a
+nothing a = omega (arith, ints)
+
+four : {a a' b b' c c' d d' : ℤ} → a ≡ a' → b ≡ b' → c ≡ c' → d ≡ d' → (a ∷ b ∷ c ∷ d ∷ []) ≡ (a' ∷ b' ∷ c' ∷ d' ∷ [])
+four p q r s = λ i. p i ∷ q i ∷ r i ∷ s i ∷ []
+
+-- a node that takes no room changes no sum
+sums-other : (limit : ℤ) (ns : List Shape) → sums_of limit (ns ++ other ∷ []) ≡ sums_of limit ns
+sums-other limit ns = λ i. record {
+  total = ((size-append ns other ∙ nothing (size_of ns)) i) -ℤ min_ℤ (depth-append (pos 0) ns other i) limit;
+  depth = min_ℤ (depth-append (pos 0) ns other i) limit;
+  stretch = four (by_order Normal) (by_order Fil) (by_order Fill) (by_order Filll) i;
+  shrink = (shrink-append ns other ∙ nothing (list_shrink ns)) i;
+}
+  where
+    by_order : (o : Order) → list_stretch o (ns ++ other ∷ []) ≡ list_stretch o ns
+    by_order o = stretch-append o ns other ∙ nothing (list_stretch o ns)
+
+-- a node that takes no room and is no insertion goes on the page
+pub scan_loose : (z : Frozen) (page : List PlainNode) (s : Scanned) (n : PlainNode) → is_insertion_kind n.kind ≡ false → node_shape n ≡ other → IsScanOfPage s z page → IsScanOfPage s z (page ++ n ∷ [])
+scan_loose z page s n h e scan = record {
+  under = scan.under;
+  sums = scan.sums ∙ sym (ap (λ ls. sums_with (sums_of z.limit (map node_shape (page ++ n ∷ []))) (terms_of_labels z ls)) (labelled-plain z page n h)
+      ∙ ap (λ x. sums_with x (terms_after z page)) (ap (sums_of z.limit) (map-append node_shape page (n ∷ []) ∙ ap (λ x. map node_shape page ++ x ∷ []) e) ∙ sums-other z.limit (map node_shape page)));
+}
+
+met_depth : (m : Bool) (s : Scanned) (class : Class) → (met_scan m s class).max_depth ≡ s.max_depth
+met_depth true s class = refl
+met_depth false s class = refl
+
+-- an insertion of a class goes on the page, and the skip of the class joins the sums where it is the first
+pub scan_meets : (z : Frozen) (page : List PlainNode) (s : Scanned) (line : ℕ) (i : Inserted) (m : Bool) (class : Class) (size : ℤ) → Differ z.classes → numbered z.classes i.class ≡ true → class_box z.classes i.class ≡ boxed class size → m ≡ is_met (insertions (labelled z page)) i.class → IsScanOfPage s z page
+    → IsScanOfPage (met_scan m s class) z (page ++ record { line = line; kind = ins i } ∷ [])
+scan_meets z page s line i m class size differ known own met scan = record {
+  under = met_depth m s class ∙ scan.under;
+  sums = skipped z page s line i m class size differ known own met scan
+      ∙ sym (ap (λ x. sums_with x (terms_after z (page ++ record { line = line; kind = ins i } ∷ []))) (ap (sums_of z.limit) (map-append node_shape page (record { line = line; kind = ins i } ∷ [])) ∙ sums-other z.limit (map node_shape page)));
+}
+
+none_met : (cs : List ClassBox) → met_classes cs [] ≡ []
+none_met [] = refl
+none_met (c ∷ cs) = none_met cs
+
+-- a scan that took nothing has the sums of the empty page
+pub scan_new : (z : Frozen) (limit : ℤ) (s : Scanned) → s ≡ empty_scan limit → z.limit ≡ limit → IsScanOfPage s z []
+scan_new z limit s e l = record {
+  under = ap (λ (x : Scanned). x.max_depth) e ∙ sym l;
+  sums = ap (λ (x : Scanned). x.sums) e ∙ ap (λ x. sums_of x []) (sym l) ∙ sym (ap (λ cs. sums_with (sums_of z.limit []) (skip_terms cs)) (none_met z.classes));
+}
+  where
+    skip_terms : List ClassBox → Terms
+    skip_terms cs = record { goal = (terms_after z []).goal; penalties = pos 0; stretch = stretches (skip_shapes cs); shrink = list_shrink (skip_shapes cs) }

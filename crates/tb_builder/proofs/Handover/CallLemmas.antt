@@ -1,0 +1,191 @@
+-- The contents of a builder are sized where it is made, and stay so where nodes are contributed or put back and where a box is taken.
+use Rattle.std.proofs.Common.{◌≡◌, refl, sym, subst, ◌∙◌, ap, ℕ, ℤ, ◌+◌, ◌≤◌, pos, Bool, true, false, List, [], ◌∷◌, ◌++◌, length, map, None, arith}
+use Rattle.std.specs.Prelude.{All, if◌then◌else◌, ◌==◌}
+use Rattle.std.proofs.lemmas.List.Elements.{All-nil, All-cons, All-head, All-tail, All-append}
+use Rattle.std.proofs.lemmas.Int.{ints}
+use Rattle.tb_node.specs.Fit.{IsDimension, IsSizedLeaf}
+use Rattle.tb_node.specs.Small.{IsAmount}
+use Rattle.tb_node.specs.Plain.{PlainNode}
+use Rattle.tb_break.specs.Prune.{pruned_nodes}
+use Rattle.tb_insert.specs.declared.Class.{Class}
+use Rattle.tb_insert.specs.Arrived.{ClassFits}
+use Rattle.tb_builder.specs.Reached.{holds_box}
+use Rattle.tb_builder.specs.Fired.{Boxed, content_of, box_content}
+use Rattle.tb_builder.specs.Contents.{Contents, void_box, nothing_yet, kind_count, node_count, box_count}
+use Rattle.tb_builder.specs.Owned.{ClassesFit}
+use Rattle.tb_builder.specs.Handed.{voided, with_void}
+use Rattle.tb_builder.specs.Pageable.{IsSizedOnPage, IsFactor, IsSizedClass, IsSizedBox}
+use Rattle.tb_builder.specs.Kept.{laid_by, IsSizedContents, whole_count, AreBoxesOf}
+use Rattle.tb_builder.proofs.Ranges.PageableLemmas.{count-append, pruned_sized}
+use Rattle.tb_builder.proofs.Ranges.PrunedLemmas.{no_skip, pruned_nodes_longer, pruned_more, pruned_more-sized, front-sized, back-sized, whole_by, whole_by-is}
+
+-- ---- a builder is made
+
+pub void_boxed : (cs : List Class) → AreBoxesOf cs (map void_box cs)
+void_boxed [] = tt
+void_boxed (c ∷ cs) = (refl, void_boxed cs)
+
+void_sized : (cs : List Class) → All IsSizedBox (map void_box cs)
+void_sized [] = All-nil IsSizedBox
+void_sized (c ∷ cs) = All-cons IsSizedBox (void_box c) (map void_box cs) (All-nil IsSizedLeaf) (void_sized cs)
+
+void_count : (cs : List Class) → box_count (map void_box cs) ≡ 0
+void_count [] = refl
+void_count (c ∷ cs) = let h : box_count (map void_box cs) ≡ 0 = void_count cs in omega arith
+
+pub nothing-sized : (cs : List Class) → All IsSizedClass cs → ClassesFit cs → IsSizedContents (nothing_yet cs)
+nothing-sized cs h fit = record { nodes = All-nil IsSizedOnPage; held = All-nil IsSizedOnPage; boxes = void_sized cs; classes = h; classes_fit = fit; frozen = tt }
+
+dimension_small : (z : ℤ) → IsDimension z → IsAmount z
+dimension_small z h = record { low = omega (arith, ints); high = omega (arith, ints) }
+
+factor_small : (z : ℤ) → IsFactor z → IsAmount z
+factor_small z h = record { low = omega (arith, ints); high = omega (arith, ints) }
+
+-- a sized class fits
+pub class-fits : (c : Class) → IsSizedClass c → ClassFits c
+class-fits c h = record { factor = factor_small c.factor h.factor; stretch = dimension_small c.skip.stretch h.stretch; shrink = dimension_small c.skip.shrink h.shrink }
+
+pub nothing-count : (cs : List Class) → whole_count (nothing_yet cs) ≡ 0
+nothing-count cs = let h = void_count cs in omega (arith, h)
+
+-- ---- what waits is known
+
+laid_plain : (s t : Bool) (page waiting : List PlainNode) → All IsSizedOnPage page → All IsSizedOnPage waiting → All IsSizedOnPage (whole_by s t page waiting)
+laid_plain true t page waiting h k = All-append IsSizedOnPage page waiting h k
+laid_plain false true page waiting h k = All-append IsSizedOnPage page waiting h k
+laid_plain false false page waiting h k = All-append IsSizedOnPage page (pruned_nodes (pos 0) waiting) h (pruned_sized (pos 0) waiting no_skip k)
+
+laid_count : (s t : Bool) (page waiting : List PlainNode) → node_count (whole_by s t page waiting) ≤ node_count page + node_count waiting + 1
+laid_count true t page waiting = let e = count-append page waiting in omega (arith, e)
+laid_count false true page waiting = let e = count-append page waiting in omega (arith, e)
+laid_count false false page waiting = let e = count-append page (pruned_nodes (pos 0) waiting) in let h = pruned_nodes_longer (pos 0) waiting in omega (arith, e, h)
+
+-- the list that counts is sized where the page so far and what waits are, and has at most one node more
+pub list-sized : (s : Bool) (page waiting : List PlainNode) → All IsSizedOnPage page → All IsSizedOnPage waiting → All IsSizedOnPage (laid_by s page waiting)
+list-sized s page waiting h k = subst (All IsSizedOnPage) (whole_by-is s page waiting) (laid_plain s (holds_box page) page waiting h k)
+
+pub list-count : (s : Bool) (page waiting : List PlainNode) → node_count (laid_by s page waiting) ≤ node_count page + node_count waiting + 1
+list-count s page waiting = let e = ap node_count (whole_by-is s page waiting) in let h = laid_count s (holds_box page) page waiting in omega (arith, e, h)
+
+-- ---- nodes are contributed
+
+module _ (ms : List PlainNode) where
+  more_by : (s t : Bool) (page waiting : List PlainNode) → All IsSizedOnPage ms → All IsSizedOnPage (whole_by s t page waiting)
+      → All IsSizedOnPage (whole_by s t page (waiting ++ ms))
+  more_by true t page waiting r h = All-append IsSizedOnPage page (waiting ++ ms) (front-sized page waiting h) (All-append IsSizedOnPage waiting ms (back-sized page waiting h) r)
+  more_by false true page waiting r h = All-append IsSizedOnPage page (waiting ++ ms) (front-sized page waiting h) (All-append IsSizedOnPage waiting ms (back-sized page waiting h) r)
+  more_by false false page waiting r h =
+      All-append IsSizedOnPage page (pruned_nodes (pos 0) (waiting ++ ms)) (front-sized page (pruned_nodes (pos 0) waiting) h)
+      (pruned_more-sized (pos 0) no_skip ms r waiting (back-sized page (pruned_nodes (pos 0) waiting) h))
+
+  more_count : (s t : Bool) (page waiting : List PlainNode)
+      → node_count (whole_by s t page (waiting ++ ms)) ≤ node_count (whole_by s t page waiting) + node_count ms + 1
+  more_count true t page waiting = let a = count-append page (waiting ++ ms) in let b = count-append waiting ms in let c = count-append page waiting in omega (arith, a, b, c)
+  more_count false true page waiting = let a = count-append page (waiting ++ ms) in let b = count-append waiting ms in let c = count-append page waiting in omega (arith, a, b, c)
+  more_count false false page waiting = let a = count-append page (pruned_nodes (pos 0) (waiting ++ ms)) in let b = pruned_more (pos 0) ms waiting in let c = count-append page (pruned_nodes (pos 0) waiting) in omega (arith, a, b, c)
+
+  -- sized nodes come to the end of what waits
+  pub more-sized : (c : Contents) → All IsSizedOnPage ms → IsSizedContents c → IsSizedContents (record c { waiting = c.waiting ++ ms })
+  more-sized c r h = record {
+    nodes = subst (All IsSizedOnPage) (whole_by-is c.stopped c.page (c.waiting ++ ms)) (more_by c.stopped (holds_box c.page) c.page c.waiting r (subst (All IsSizedOnPage) (sym (whole_by-is c.stopped c.page c.waiting)) h.nodes));
+    held = h.held;
+    boxes = h.boxes;
+    classes = h.classes;
+    classes_fit = h.classes_fit;
+    frozen = h.frozen;
+  }
+
+  pub more-count : (c : Contents) → whole_count (record c { waiting = c.waiting ++ ms }) ≤ whole_count c + node_count ms + 1
+  more-count c =
+      let a = more_count c.stopped (holds_box c.page) c.page c.waiting in
+      let b = ap node_count (whole_by-is c.stopped c.page c.waiting) in
+      let e = ap node_count (whole_by-is c.stopped c.page (c.waiting ++ ms)) in
+      omega (arith, a, b, e)
+
+-- a sized node is contributed
+pub contributed-sized : (c : Contents) (n : PlainNode) → IsSizedOnPage n → IsSizedContents c → IsSizedContents (record c { waiting = c.waiting ++ n ∷ [] })
+contributed-sized c n r h = more-sized (n ∷ []) c (All-cons IsSizedOnPage n [] r (All-nil IsSizedOnPage)) h
+
+pub contributed-count : (c : Contents) (n : PlainNode) → whole_count (record c { waiting = c.waiting ++ n ∷ [] }) ≤ whole_count c + kind_count n.kind + 1
+contributed-count c n = let h = more-count (n ∷ []) c in omega (arith, h)
+
+-- ---- nodes are put back
+
+-- on an empty page what is held and sized nodes come before what waits
+pub put_back-sized : (c : Contents) (ns : List PlainNode) → c.page ≡ [] → All IsSizedOnPage c.waiting → All IsSizedOnPage ns → IsSizedContents c → IsSizedContents (record c { waiting = c.held ++ (ns ++ c.waiting); held = [] })
+put_back-sized c ns e w r h = record {
+  nodes = list-sized c.stopped c.page (c.held ++ (ns ++ c.waiting)) (subst (All IsSizedOnPage) (sym e) (All-nil IsSizedOnPage)) (All-append IsSizedOnPage c.held (ns ++ c.waiting) h.held (All-append IsSizedOnPage ns c.waiting r w));
+  held = All-nil IsSizedOnPage;
+  boxes = h.boxes;
+  classes = h.classes;
+  classes_fit = h.classes_fit;
+  frozen = h.frozen;
+}
+
+pub put_back-count : (c : Contents) (ns : List PlainNode) → c.page ≡ [] → whole_count (record c { waiting = c.held ++ (ns ++ c.waiting); held = [] }) ≤ node_count c.held + node_count ns + node_count c.waiting + box_count c.boxes + 1
+put_back-count c ns e =
+    let a = list-count c.stopped c.page (c.held ++ (ns ++ c.waiting)) in
+    let b = count-append c.held (ns ++ c.waiting) in
+    let d = count-append ns c.waiting in
+    let f = ap node_count e in
+    omega (arith, a, b, d, f)
+
+-- ---- a box is taken
+
+voided_sized : (k : ℕ) (b : Boxed) → IsSizedBox b → IsSizedBox (voided k b)
+voided_sized k b h = by_test (b.number == k)
+  where
+    by_test : (t : Bool) → IsSizedBox (if t then record b { content = None } else b)
+    by_test true = All-nil IsSizedLeaf
+    by_test false = h
+
+voided_number : (k : ℕ) (b : Boxed) → (voided k b).number ≡ b.number
+voided_number k b = by_test (b.number == k)
+  where
+    by_test : (t : Bool) → (if t then record b { content = None } else b).number ≡ b.number
+    by_test true = refl
+    by_test false = refl
+
+voids_sized : (k : ℕ) (bs : List Boxed) → All IsSizedBox bs → All IsSizedBox (with_void k bs)
+voids_sized k [] h = All-nil IsSizedBox
+voids_sized k (b ∷ bs) h = All-cons IsSizedBox (voided k b) (with_void k bs) (voided_sized k b (All-head IsSizedBox b bs h)) (voids_sized k bs (All-tail IsSizedBox b bs h))
+
+-- each class has its box still
+pub voids_boxed : (k : ℕ) (cs : List Class) (bs : List Boxed) → AreBoxesOf cs bs → AreBoxesOf cs (with_void k bs)
+voids_boxed k [] [] h = tt
+voids_boxed k [] (b ∷ bs) h = absurd h
+voids_boxed k (c ∷ cs) [] h = absurd h
+voids_boxed k (c ∷ cs) (b ∷ bs) h = (voided_number k b ∙ h.0, voids_boxed k cs bs h.1)
+
+voids_fewer : (k : ℕ) (bs : List Boxed) → box_count (with_void k bs) ≤ box_count bs
+voids_fewer k [] = omega arith
+voids_fewer k (b ∷ bs) = by_test (b.number == k) (voids_fewer k bs)
+  where
+    by_test : (t : Bool) → box_count (with_void k bs) ≤ box_count bs → length (content_of (if t then record b { content = None } else b).content) + box_count (with_void k bs) ≤ length (content_of b.content) + box_count bs
+    by_test true h = omega (arith, h)
+    by_test false h = omega (arith, h)
+
+-- how many nodes the box of a number has
+abbrev pub held_length : List Boxed → ℕ → ℕ
+held_length bs k = length (content_of (box_content bs k))
+
+-- the nodes that are taken are no longer counted
+pub taken-fewer : (k : ℕ) (bs : List Boxed) → box_count (with_void k bs) + held_length bs k ≤ box_count bs
+taken-fewer k [] = omega arith
+taken-fewer k (b ∷ bs) = by_test (b.number == k) (taken-fewer k bs) (voids_fewer k bs)
+  where
+    by_test : (t : Bool) → box_count (with_void k bs) + held_length bs k ≤ box_count bs → box_count (with_void k bs) ≤ box_count bs
+        → (length (content_of (if t then record b { content = None } else b).content) + box_count (with_void k bs)) + length (content_of (if t then b.content else box_content bs k)) ≤ length (content_of b.content) + box_count bs
+    by_test true h l = omega (arith, l)
+    by_test false h l = omega (arith, h)
+
+pub taken-sized : (c : Contents) (k : ℕ) → IsSizedContents c → IsSizedContents (record c { boxes = with_void k c.boxes })
+taken-sized c k h = record {
+  nodes = h.nodes;
+  held = h.held;
+  boxes = voids_sized k c.boxes h.boxes;
+  classes = h.classes;
+  classes_fit = h.classes_fit;
+  frozen = h.frozen;
+}

@@ -1,0 +1,162 @@
+-- Sized nodes of a store as the definitions see them, and back.
+use Rattle.std.proofs.Common.{◌≡◌, refl, sym, ◌∙◌, ap, ℕ, ◌≤◌, true, List, [], ◌∷◌, length, map, arith}
+use Rattle.std.specs.Prelude.{All}
+use Rattle.std.specs.List.{AllByRecursion}
+use Rattle.std.proofs.lemmas.Bool.{true≢false}
+use Rattle.std.proofs.lemmas.List.Elements.{All-from_recursion, recursion_from_All}
+use Rattle.tb_pool.specs.Lists.{Lists, list_at}
+use Rattle.tb_node.specs.declared.Node.{Node}
+use Rattle.tb_node.specs.declared.Kind.{Kind}
+use Rattle.tb_node.specs.declared.Kind.TheVariants as kinds
+use Rattle.tb_node.specs.declared.Insertion.{Insertion}
+use Rattle.tb_node.specs.Fit.{IsExtent, IsPenalty, IsSized, IsSizedNode, IsSizedLeaf}
+use Rattle.tb_node.specs.Sums.{size_of}
+use Rattle.tb_node.specs.Plain.{matter_shape, matter_of, leaf_of, inserted_of, plain_kind, plain_of, shape_of, shape_of_kind, kind_shape, plain_list}
+use Rattle.tb_insert.proofs.AccountLemmas.{leaf_shapes}
+use Rattle.tb_builder.specs.declared.ClassList.{ClassList}
+use Rattle.tb_builder.specs.Contents.{boxed_of, kind_count, node_count}
+use Rattle.tb_builder.specs.Owned.{is_plain, AllPlain}
+use Rattle.tb_builder.specs.Pageable.{IsSizedInserted, IsSizedOnPage}
+use Rattle.tb_builder.specs.Kept.{AreBoxesOf}
+use Rattle.tb_builder.proofs.Events.WholeLemmas.{IsMatterKind, AreMatter}
+
+-- ---- nodes of an insertion's list, or of a class box
+
+leaf_sized : (k : Kind) → IsSized (shape_of_kind k) → IsSized (matter_shape (matter_of k))
+leaf_sized (kinds.Hbox what h d) s = s
+leaf_sized (kinds.Rule name h d) s = s
+leaf_sized (kinds.Skip g) s = s
+leaf_sized (kinds.Kern w) s = s
+leaf_sized (kinds.Pen p) s = s
+leaf_sized (kinds.Mark name) s = s
+leaf_sized (kinds.Note name) s = s
+leaf_sized kinds.Whatsit s = s
+leaf_sized (kinds.Ins i) s = s
+leaf_sized (kinds.Act a) s = s
+
+leaves_by : (ns : List Node) → AllByRecursion IsSizedNode ns → AllByRecursion IsSizedLeaf (map leaf_of ns)
+leaves_by [] h = tt
+leaves_by (n ∷ ns) h = (leaf_sized n.kind h.0, leaves_by ns h.1)
+
+-- the nodes of a list of the store
+pub leaves-sized : (ns : List Node) → All IsSizedNode ns → All IsSizedLeaf (map leaf_of ns)
+leaves-sized ns h = All-from_recursion IsSizedLeaf (map leaf_of ns) (leaves_by ns (recursion_from_All IsSizedNode ns h))
+
+sized_leaf : (k : Kind) → IsSized (matter_shape (matter_of k)) → IsSized (shape_of_kind k)
+sized_leaf (kinds.Hbox what h d) s = s
+sized_leaf (kinds.Rule name h d) s = s
+sized_leaf (kinds.Skip g) s = s
+sized_leaf (kinds.Kern w) s = s
+sized_leaf (kinds.Pen p) s = s
+sized_leaf (kinds.Mark name) s = s
+sized_leaf (kinds.Note name) s = s
+sized_leaf kinds.Whatsit s = s
+sized_leaf (kinds.Ins i) s = s
+sized_leaf (kinds.Act a) s = s
+
+leaves_back : (ns : List Node) → AllByRecursion IsSizedLeaf (map leaf_of ns) → AllByRecursion IsSizedNode ns
+leaves_back [] h = tt
+leaves_back (n ∷ ns) h = (sized_leaf n.kind h.0, leaves_back ns h.1)
+
+-- the nodes that a class box had are sized
+pub leaves-back : (ns : List Node) → All IsSizedLeaf (map leaf_of ns) → All IsSizedNode ns
+leaves-back ns h = All-from_recursion IsSizedNode ns (leaves_back ns (recursion_from_All IsSizedLeaf (map leaf_of ns) h))
+
+-- an insertion whose list has sized nodes, and whose height is that of the list
+pub insertion-sized : (held : ℕ → List Node) (i : Insertion) → All IsSizedNode (held i.list) → i.height ≡ size_of (map shape_of (held i.list)) → IsExtent i.split_depth → IsExtent i.split_top → IsPenalty i.floating → IsSizedInserted (inserted_of held i)
+insertion-sized held i h size depth top floating = record {
+  inner = leaves-sized (held i.list) h;
+  height = size ∙ sym (ap size_of (leaf_shapes (held i.list)));
+  split_depth = depth;
+  split_top = top;
+  floating = floating;
+}
+
+-- ---- nodes of a page
+
+module _ (held : ℕ → List Node) where
+  plain_kind_sized : (line : ℕ) (k : Kind) → is_plain k ≡ true → IsSized (shape_of_kind k) → IsSizedOnPage (record { line = line; kind = plain_kind held k })
+  plain_kind_sized line (kinds.Hbox what h d) p s = record { shape = s; kind = tt }
+  plain_kind_sized line (kinds.Rule name h d) p s = record { shape = s; kind = tt }
+  plain_kind_sized line (kinds.Skip g) p s = record { shape = s; kind = tt }
+  plain_kind_sized line (kinds.Kern w) p s = record { shape = s; kind = tt }
+  plain_kind_sized line (kinds.Pen q) p s = record { shape = s; kind = tt }
+  plain_kind_sized line (kinds.Mark name) p s = record { shape = s; kind = tt }
+  plain_kind_sized line (kinds.Note name) p s = record { shape = s; kind = tt }
+  plain_kind_sized line kinds.Whatsit p s = record { shape = s; kind = tt }
+  plain_kind_sized line (kinds.Ins i) p s = absurd (true≢false (sym p))
+  plain_kind_sized line (kinds.Act a) p s = record { shape = tt; kind = tt }
+
+  -- a sized node that is neither an insertion nor an act
+  pub node-sized : (n : Node) → is_plain n.kind ≡ true → IsSizedNode n → IsSizedOnPage (plain_of held n)
+  node-sized n p s = plain_kind_sized n.line n.kind p s
+
+  plain_by : (ns : List Node) → AllPlain ns → AllByRecursion IsSizedNode ns → AllByRecursion IsSizedOnPage (map (plain_of held) ns)
+  plain_by [] p s = tt
+  plain_by (n ∷ ns) p s = (node-sized n p.0 s.0, plain_by ns p.1 s.1)
+
+  pub plain-sized : (ns : List Node) → AllPlain ns → All IsSizedNode ns → All IsSizedOnPage (map (plain_of held) ns)
+  plain-sized ns p s = All-from_recursion IsSizedOnPage (map (plain_of held) ns) (plain_by ns p (recursion_from_All IsSizedNode ns s))
+
+  kind_back : (k : Kind) → IsSized (kind_shape (plain_kind held k)) → IsSized (shape_of_kind k)
+  kind_back (kinds.Hbox what h d) s = s
+  kind_back (kinds.Rule name h d) s = s
+  kind_back (kinds.Skip g) s = s
+  kind_back (kinds.Kern w) s = s
+  kind_back (kinds.Pen q) s = s
+  kind_back (kinds.Mark name) s = s
+  kind_back (kinds.Note name) s = s
+  kind_back kinds.Whatsit s = s
+  kind_back (kinds.Ins i) s = tt
+  kind_back (kinds.Act a) s = tt
+
+  nodes_back : (ns : List Node) → AllByRecursion IsSizedOnPage (map (plain_of held) ns) → AllByRecursion IsSizedNode ns
+  nodes_back [] h = tt
+  nodes_back (n ∷ ns) h = (kind_back n.kind h.0.shape, nodes_back ns h.1)
+
+  counted : (k : Kind) → 1 ≤ kind_count (plain_kind held k)
+  counted (kinds.Hbox what h d) = omega arith
+  counted (kinds.Rule name h d) = omega arith
+  counted (kinds.Skip g) = omega arith
+  counted (kinds.Kern w) = omega arith
+  counted (kinds.Pen q) = omega arith
+  counted (kinds.Mark name) = omega arith
+  counted (kinds.Note name) = omega arith
+  counted kinds.Whatsit = omega arith
+  counted (kinds.Ins i) = omega arith
+  counted (kinds.Act a) = omega arith
+
+  length_by : (ns : List Node) → length ns ≤ node_count (map (plain_of held) ns)
+  length_by [] = omega arith
+  length_by (n ∷ ns) = let h = length_by ns in let k = counted n.kind in omega (arith, h, k)
+
+-- a list that the definitions see as sized has sized nodes
+pub list-back : (store : Lists Node) (l : ℕ) → All IsSizedOnPage (plain_list store l) → All IsSizedNode (list_at store l)
+list-back store l h = All-from_recursion IsSizedNode (list_at store l) (nodes_back (list_at store) (list_at store l) (recursion_from_All IsSizedOnPage (plain_list store l) h))
+
+-- and there are at most as many as count
+pub list-length : (store : Lists Node) (l : ℕ) → length (list_at store l) ≤ node_count (plain_list store l)
+list-length store l = length_by (list_at store) (list_at store l)
+
+-- where neither insertions nor acts are seen, the store's nodes are none
+module _ (held : ℕ → List Node) where
+  kind_plain : (k : Kind) → IsMatterKind (plain_kind held k) → is_plain k ≡ true
+  kind_plain (kinds.Hbox what h d) m = refl
+  kind_plain (kinds.Rule name h d) m = refl
+  kind_plain (kinds.Skip g) m = refl
+  kind_plain (kinds.Kern w) m = refl
+  kind_plain (kinds.Pen q) m = refl
+  kind_plain (kinds.Mark name) m = refl
+  kind_plain (kinds.Note name) m = refl
+  kind_plain kinds.Whatsit m = refl
+  kind_plain (kinds.Ins i) m = absurd m
+  kind_plain (kinds.Act a) m = absurd m
+
+  pub matter-plain : (ns : List Node) → AreMatter (map (plain_of held) ns) → AllPlain ns
+  matter-plain [] m = tt
+  matter-plain (n ∷ ns) m = (kind_plain n.kind m.0, matter-plain ns m.1)
+
+-- each class of a builder has its box
+pub boxes_of : (s : Lists Node) (es : List ClassList) → AreBoxesOf (map (λ e. e.class) es) (map (boxed_of s) es)
+boxes_of s [] = tt
+boxes_of s (e ∷ es) = (refl, boxes_of s es)

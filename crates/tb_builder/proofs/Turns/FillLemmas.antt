@@ -1,0 +1,48 @@
+-- What the builder holds, after its lists were written.
+use Rattle.std.proofs.Common.{◌≡◌, sym, subst, ◌∙◌, ap, List, [], ◌∷◌, ◌++◌, map, Some}
+use Rattle.std.specs.Prelude.{slice_get}
+use Rattle.std.proofs.lemmas.List.{map-append}
+use Rattle.tb_pool.specs.Lists.{Lists, list_at}
+use Rattle.tb_node.specs.declared.Node.{Node}
+use Rattle.tb_node.specs.Plain.{plain_of, plain_list}
+use Rattle.tb_break.proofs.StoreLemmas.{some_first}
+use Rattle.tb_builder.specs.declared.Builder.{Builder}
+use Rattle.tb_builder.specs.Owned.{Lacks, Ids, ids_of, owned, IsOwned}
+use Rattle.tb_builder.specs.Contents.{contents_of, boxed_of}
+use Rattle.tb_builder.specs.Turn.{ChangesPage, Shifted}
+use Rattle.tb_builder.proofs.Turns.MoveLemmas.{Written, written_own, written_others, written_keeps, written_held, written_page, written_waiting, written_boxes}
+
+-- the first node, and what comes after it
+pub first_is : (ns : List Node) (n : Node) → slice_get ns 0 ≡ Some n → (ms : List Node) × (ns ≡ n ∷ ms)
+first_is ns n e = some_first ns n (sym e)
+
+module _ (b d : Builder) (s t : Lists Node) (xs ys : List Node) (same : ids_of d ≡ ids_of b) (own : IsOwned (ids_of b) s) (w : Written (ids_of b) s t xs ys) where
+  pub moves_from : ChangesPage b s d t
+  moves_from = record {
+    own = subst (λ i. IsOwned i t) (sym same) (written_own (ids_of b) s t xs ys own w);
+    others = λ q h. written_others (ids_of b) s t xs ys own w q h;
+    keeps = λ q h. subst (λ i. Lacks q (owned i t)) (sym same) (written_keeps (ids_of b) s t xs ys own w q h);
+    classes = ap (λ (i : Ids). map (λ e. e.class) i.boxes) same;
+    boxes = ap (λ (i : Ids). map (boxed_of t) i.boxes) same ∙ written_boxes (ids_of b) s t xs ys own w;
+    held = ap (λ (i : Ids). plain_list t i.held) same ∙ written_held (ids_of b) s t xs ys own w;
+  }
+
+  pub page_from : (contents_of d t).page ≡ map (plain_of (list_at s)) xs
+  page_from = ap (λ (i : Ids). plain_list t i.page) same ∙ written_page (ids_of b) s t xs ys own w
+
+  pub waiting_from : (contents_of d t).waiting ≡ map (plain_of (list_at s)) ys
+  waiting_from = ap (λ (i : Ids). plain_list t i.waiting) same ∙ written_waiting (ids_of b) s t xs ys own w
+
+-- the first node that waits went on the page
+pub shifted_from : (b d : Builder) (s t : Lists Node) (n : Node) (ns : List Node) → ids_of d ≡ ids_of b → IsOwned (ids_of b) s → list_at s b.waiting ≡ n ∷ ns → Written (ids_of b) s t (list_at s b.page ++ n ∷ []) ns
+    → d.frozen ≡ b.frozen → d.stopped ≡ b.stopped → Shifted (plain_of (list_at s) n) (contents_of b s) (contents_of d t)
+shifted_from b d s t n ns same own first w frozen stopped = record {
+  waiting = ap (map (plain_of (list_at s))) first ∙ ap (λ ms. plain_of (list_at s) n ∷ ms) (sym (waiting_from b d s t (list_at s b.page ++ n ∷ []) ns same own w));
+  page = page_from b d s t (list_at s b.page ++ n ∷ []) ns same own w ∙ map-append (plain_of (list_at s)) (list_at s b.page) (n ∷ []);
+  frozen = frozen;
+  stopped = stopped;
+}
+
+-- the tail of a list that begins with this node
+pub behind_is : (xs ys zs : List Node) (n : Node) → xs ≡ n ∷ ys → xs ≡ n ∷ zs → ys ≡ zs
+behind_is xs ys zs n e f = let g : (n ∷ ys) ≡ (n ∷ zs) = sym e ∙ f in cc

@@ -1,0 +1,2 @@
+-- Tests, in reading order.
+pub mod WorkedLemmas
