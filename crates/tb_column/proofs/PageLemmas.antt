@@ -11,7 +11,7 @@ use Rattle.tb_node.specs.declared.Node.{Node}
 use Rattle.tb_node.specs.declared.Float.{Float}
 use Rattle.tb_node.specs.declared.Where.TheVariants as places
 use Rattle.tb_node.specs.Fit.{IsSizedNode}
-use Rattle.tb_node.specs.Plain.{plain_of, node_shape, shape_of, made, skip}
+use Rattle.tb_node.specs.Plain.{plain_of, node_shape, shape_of, made, skip, plain_list}
 use Rattle.tb_param.specs.declared.Params.{Params}
 use Rattle.tb_pack.specs.declared.Set.{Set}
 use Rattle.tb_pack.specs.Pack.{packed}
@@ -25,7 +25,7 @@ use Rattle.tb_float.specs.Ranges.{IsSizedFloat}
 use Rattle.tb_column.specs.declared.ColumnKind.TheVariants as column_kinds
 use Rattle.tb_column.specs.declared.float_columns.PageGlue.{PageGlue}
 use Rattle.tb_column.specs.Column.{floats_after, floats_column, float_column_of, pair_floats}
-use Rattle.tb_column.specs.Shown.{nodes_shown, column_shown}
+use Rattle.tb_column.specs.Shown.{column_shown}
 use Rattle.tb_column.specs.Page.{AreLeaves, IsPageList}
 use Rattle.tb_column.specs.Ranges.{AreColumnParams}
 use Rattle.tb_column.specs.Changes.{IsOpened}
@@ -102,7 +102,7 @@ module _ (old new : Lists Node) (l : ℕ) (is_wide : Bool) (p : Params) (fs : Li
   abbrev g : PageGlue
   g = page_glue is_wide p
 
-  page-shown : nodes_shown new l ≡ made (skip g.above) ∷ made (skip (negated_glue g.between)) ∷ floats_after g.between fs ++ made (skip g.below) ∷ []
+  page-shown : plain_list new l ≡ made (skip g.above) ∷ made (skip (negated_glue g.between)) ∷ floats_after g.between fs ++ made (skip g.below) ∷ []
   page-shown = ap (map (plain_of (list_at new))) (list_same old new l (page_list g fs) made_lists) ∙ page_list-held (list_at new) g fs
 
   pub page-column : (height : ℤ) (s : Set) → s ≡ packed height (pos 0) (map shape_of (list_at new l))
@@ -123,7 +123,7 @@ module _ (old new : Lists Node) (l : ℕ) (is_wide : Bool) (p : Params) (fs : Li
 -- ---- the floats above a pair
 
 module _ (old new : Lists Node) (l : ℕ) (p : Params) (fs : FloatLists) (made_lists : new.lists ≡ with_list old l (boxes_above places.Double p.dblfloatsep p.dbltextfloatsep fs.double)) where
-  pub pair-shown : nodes_shown new l ≡ pair_floats p fs
+  pub pair-shown : plain_list new l ≡ pair_floats p fs
   pair-shown =
       ap (map (plain_of (list_at new))) (list_same old new l (boxes_above places.Double p.dblfloatsep p.dbltextfloatsep fs.double) made_lists)
       ∙ boxes_above-held (list_at new) places.Double p.dblfloatsep p.dbltextfloatsep fs.double

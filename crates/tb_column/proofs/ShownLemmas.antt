@@ -9,7 +9,7 @@ use Rattle.tb_node.specs.declared.Kind.{Kind}
 use Rattle.tb_node.specs.declared.Kind.TheVariants as kinds
 use Rattle.tb_node.specs.declared.Where.TheVariants as places
 use Rattle.tb_node.specs.Sums.{limited_depth}
-use Rattle.tb_node.specs.Plain.{PlainNode, plain, plain_kind, plain_of, made, skip, matter_of, leaf_of, leaf_node, kind_shape, node_shape, shape_of_kind, shape_of}
+use Rattle.tb_node.specs.Plain.{PlainNode, plain, plain_kind, plain_of, made, skip, matter_of, leaf_of, leaf_node, kind_shape, node_shape, shape_of_kind, shape_of, plain_list}
 use Rattle.tb_param.specs.declared.Params.{Params}
 use Rattle.tb_pack.specs.declared.Set.{Set}
 use Rattle.tb_pack.specs.Pack.{packed}
@@ -18,7 +18,7 @@ use Rattle.tb_float.specs.Rooms.{column_height_of}
 use Rattle.tb_column.specs.declared.ColumnKind.TheVariants as column_kinds
 use Rattle.tb_column.specs.declared.NoteBox.{NoteBox}
 use Rattle.tb_column.specs.Column.{notes_under_rule, class_below, notes_below, closing_glue, text_nodes, text_column}
-use Rattle.tb_column.specs.Shown.{nodes_shown, column_shown}
+use Rattle.tb_column.specs.Shown.{column_shown}
 use Rattle.tb_column.specs.Page.{is_leaf_kind, AreLeaves}
 use Rattle.tb_column.specs.Notes.{note_shown, notes_shown, IsNote}
 use Rattle.tb_column.specs.TextList.{made_node, rule_above, class_above, notes_list, top_list, bottom_list, text_list, closing_by, column_list}
@@ -84,9 +84,9 @@ module _ (held : ℕ → List Node) (p : Params) (l : FloatLists) (store : Lists
   front = text_list p l store body notes
 
   abbrev texts : List PlainNode
-  texts = text_nodes p l (nodes_shown store body) (notes_shown store notes)
+  texts = text_nodes p l (plain_list store body) (notes_shown store notes)
 
-  body-held : map (plain_of held) (list_at store body) ≡ nodes_shown store body
+  body-held : map (plain_of held) (list_at store body) ≡ plain_list store body
   body-held = leaves-held held (list_at store body) leaves ∙ sym (leaves-held (list_at store) (list_at store body) leaves)
 
   front-held : map (plain_of held) front ≡ texts
@@ -108,10 +108,10 @@ module _ (held : ℕ → List Node) (p : Params) (l : FloatLists) (store : Lists
 -- the column of this list, packed to the column's height
 pub column-made : (p : Params) (l : FloatLists) (old new : Lists Node) (body : ℕ) (notes : List NoteBox) → AreLeaves (list_at old body) → AllByRecursion (IsNote old) notes
     → list_at new body ≡ column_list p l old body notes → (height : ℤ) (s : Set) → height ≡ column_height_of p l → s ≡ packed height p.maxdepth (map shape_of (column_list p l old body notes))
-    → column_shown new (record { kind = column_kinds.Text; list = body; set = s }) ≡ text_column p l (nodes_shown old body) (notes_shown old notes)
+    → column_shown new (record { kind = column_kinds.Text; list = body; set = s }) ≡ text_column p l (plain_list old body) (notes_shown old notes)
 column-made p l old new body notes leaves each holds height s high e =
-    let texts = text_nodes p l (nodes_shown old body) (notes_shown old notes) in
-    let nodes : nodes_shown new body ≡ texts ++ made (skip (closing_glue p texts)) ∷ [] =
+    let texts = text_nodes p l (plain_list old body) (notes_shown old notes) in
+    let nodes : plain_list new body ≡ texts ++ made (skip (closing_glue p texts)) ∷ [] =
     ap (map (plain_of (list_at new))) holds ∙ column-held (list_at new) p l old body notes leaves each in
     let sized : map shape_of (column_list p l old body notes) ≡ map node_shape (texts ++ made (skip (closing_glue p texts)) ∷ []) =
     sym (shapes-held (list_at new) (column_list p l old body notes)) ∙ ap (map node_shape) (column-held (list_at new) p l old body notes leaves each) in

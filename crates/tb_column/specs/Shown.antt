@@ -1,8 +1,7 @@
 -- Columns, pages and events as the definitions see them, in a store that holds their lists.
-use Rattle.std.specs.Prelude.{ℕ, List, map}
-use Rattle.tb_pool.specs.Lists.{Lists, IsLive, list_at}
+use Rattle.tb_pool.specs.Lists.{Lists, IsLive}
 use Rattle.tb_node.specs.declared.Node.{Node}
-use Rattle.tb_node.specs.Plain.{PlainNode, plain_of}
+use Rattle.tb_node.specs.Plain.{plain_list}
 use Rattle.tb_column.specs.declared.Column.{Column}
 use Rattle.tb_column.specs.declared.Sheet.{Sheet}
 use Rattle.tb_column.specs.declared.Sheet.TheVariants as sheets
@@ -10,19 +9,15 @@ use Rattle.tb_column.specs.declared.Sent.{Sent}
 use Rattle.tb_column.specs.declared.Sent.TheVariants as events
 use Rattle.tb_column.specs.Column.{PlainColumn, PlainSheet, one, wide, two, PlainSent, warned, shipped}
 
--- the nodes of a list, where each insertion carries its own list
-abbrev pub nodes_shown : Lists Node → ℕ → List PlainNode
-nodes_shown store l = map (plain_of (list_at store)) (list_at store l)
-
 -- a column with the nodes of its list
 abbrev pub column_shown : Lists Node → Column → PlainColumn
-column_shown store c = record { kind = c.kind; nodes = nodes_shown store c.list; set = c.set }
+column_shown store c = record { kind = c.kind; nodes = plain_list store c.list; set = c.set }
 
 -- a page with its columns, and the wide floats above two of them
 abbrev pub sheet_shown : Lists Node → Sheet → PlainSheet
 sheet_shown store (sheets.One c) = one (column_shown store c)
 sheet_shown store (sheets.Wide c) = wide (column_shown store c)
-sheet_shown store (sheets.Two tops at left right) = two (nodes_shown store tops) at (column_shown store left) (column_shown store right)
+sheet_shown store (sheets.Two tops at left right) = two (plain_list store tops) at (column_shown store left) (column_shown store right)
 
 -- a warning, or a page under its number
 abbrev pub sent_shown : Lists Node → Sent → PlainSent

@@ -4,11 +4,12 @@ ghost use Rattle.std.specs.FinMap.{get};
 ghost use Rattle.tb_pool.specs.Lists.{IsLive, list_at, with_list};
 ghost use Rattle.tb_pool.specs.Frame.{OnlyChanged};
 ghost use Rattle.tb_scaled.specs.Amount.{IsAmount};
+ghost use Rattle.tb_node.specs.Plain.{plain_list};
 ghost use Rattle.tb_float.specs.Lists.{IsWaiting, floats_of};
 ghost use Rattle.tb_float.specs.Pool.{marks_of, marked_floats, without_entries};
 ghost use Rattle.tb_float.specs.Marked.{without_marked};
 ghost use Rattle.tb_column.specs.Column.{float_column_of, pair_floats};
-ghost use Rattle.tb_column.specs.Shown.{nodes_shown, column_shown};
+ghost use Rattle.tb_column.specs.Shown.{column_shown};
 ghost use Rattle.tb_column.specs.Page.{IsPageList, IsPageColumn};
 ghost use Rattle.tb_column.specs.Ranges.{IsSizedGlue, AreColumnParams};
 ghost use Rattle.tb_column.specs.Changes.{IsOpened};
@@ -154,7 +155,7 @@ pub fn float_column(
 pub fn pair_tops(store: &mut Lists<Node>, pool: &mut Pool, p: &Params) -> Result<ListId, AllocError>
     requires { AreColumnParams p.now }
 
-    ensures floats { IfOk result (λ l. nodes_shown store.new l ≡ pair_floats p.now pool.old.lists) }
+    ensures floats { IfOk result (λ l. plain_list store.new l ≡ pair_floats p.now pool.old.lists) }
     ensures page { IfOk result (λ l. IsPageList store.new l) }
 
     ensures opened { IfOk result (λ l. IsOpened l store.old store.new) }

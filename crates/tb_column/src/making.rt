@@ -3,10 +3,10 @@ ghost use Rattle.std.specs.Prelude.{◌≡◌, ◌+◌, ◌<◌, ◌≤◌, map,
 ghost use Rattle.tb_pool.specs.Lists.{list_at, with_list};
 ghost use Rattle.tb_pool.specs.Frame.{OnlyChanged};
 ghost use Rattle.tb_node.specs.Small.{IsAmount, IsSmall};
-ghost use Rattle.tb_node.specs.Plain.{shape_of};
+ghost use Rattle.tb_node.specs.Plain.{shape_of, plain_list};
 ghost use Rattle.tb_node.specs.Sums.{sums_of};
 ghost use Rattle.tb_column.specs.Column.{is_ragged, text_column};
-ghost use Rattle.tb_column.specs.Shown.{nodes_shown, column_shown};
+ghost use Rattle.tb_column.specs.Shown.{column_shown};
 ghost use Rattle.tb_column.specs.Page.{IsPageList, IsPageColumn};
 ghost use Rattle.tb_column.specs.Ranges.{AreColumnParams};
 ghost use Rattle.tb_column.specs.Notes.{notes_shown, note_lists, note_count, AreNotes};
@@ -125,7 +125,7 @@ pub fn make_column(
     requires notes { AreNotes store.old body notes.now }
     requires few { length (list_at store.old body) + note_count store.old notes.now ≤ 8355840 }
 
-    ensures column { IfOk result (λ c. column_shown store.new c ≡ text_column p.now pool.old.lists (nodes_shown store.old body) (notes_shown store.old notes.now)) }
+    ensures column { IfOk result (λ c. column_shown store.new c ≡ text_column p.now pool.old.lists (plain_list store.old body) (notes_shown store.old notes.now)) }
     ensures list { IfOk result (λ c. c.list ≡ body) }
     ensures page { IfOk result (λ c. IsPageColumn store.new c) }
 

@@ -8,13 +8,10 @@ ghost use Rattle.tb_column.specs.TextList.{rule_above, class_above, above_length
 
 use crate::NoteBox;
 use crate::nodes::push_made;
-use tb_node::{Kind, Node};
+use tb_node::{FOOTNOTES, Kind, Node};
 use tb_param::Params;
 use tb_pool::{ListId, Lists};
 use tb_scaled::Glue;
-
-// The class of footnotes: they stand under a rule, and below all other insertions.
-const FOOT_CLASS: u8 = 254;
 
 // The rule above footnotes stands between two kerns, and takes no room with them (LaTeX's `\footnoterule`: 3, 0.4 and
 // 2.6 points).
@@ -51,7 +48,7 @@ pub fn push_rule(store: &mut Lists<Node>, l: ListId, skip: Glue)
 fn above_length(class: u8) -> usize
     ensures { result ≡ above_length class }
 {
-    if class == FOOT_CLASS { 4 } else { 1 }
+    if class == FOOTNOTES { 4 } else { 1 }
 }
 
 /// How many nodes stand above the insertions of these classes together.
@@ -75,7 +72,7 @@ fn push_class(store: &mut Lists<Node>, p: &Params, l: ListId, note: &NoteBox)
     ensures live { IsLive store.new l }
     ensures spare { store.new.spare + above_length note.now.class ≡ store.old.spare }
 {
-    if note.class == FOOT_CLASS {
+    if note.class == FOOTNOTES {
         push_rule(store, l, p.skipfootins);
     } else {
         push_made(store, l, Kind::Skip(note.skip));

@@ -3,7 +3,7 @@ use Rattle.std.proofs.Common.{◌≡◌, refl, ◌∙◌, ap, sym, ℕ, zero, su
 use Rattle.std.proofs.lemmas.List.{drop_all}
 use Rattle.std.proofs.lemmas.List.Concat.{flat_map-append}
 use Rattle.std.specs.Prelude.{codes}
-use Rattle.tb_report.specs.Lines.{line}
+use Rattle.tb_text.specs.Fields.{line}
 use Rattle.tb_dvi.specs.declared.lister.Lister.{Lister}
 use Rattle.tb_dvi.specs.declared.lister.ListFault.{ListFault}
 use Rattle.tb_dvi.specs.declared.lister.ListFault.TheVariants as faults
@@ -12,7 +12,7 @@ use Rattle.tb_dvi.specs.declared.DviCause.TheVariants as causes
 use Rattle.tb_dvi.specs.Machine.{Item, ended, State, Step, op_of, op_step, before, followed, run, pre_length, at_start, listed_after, listed}
 use Rattle.tb_dvi.specs.Listing.{item_line, listing}
 use Rattle.tb_dvi.specs.Refusing.{Misses}
-use Rattle.tb_dvi.specs.Stepping.{IsInBounds, state_of, Stops, Ends, Passes}
+use Rattle.tb_dvi.specs.Stepping.{IsInBounds, state_of, CommandStops, Ends, CommandPasses}
 use Rattle.tb_dvi.proofs.LawLemmas.{before-before, before-none}
 
 -- bytes that a command took are passed
@@ -63,7 +63,7 @@ module _ (bytes : List ℕ) (place : ℕ) (l : Lister) (now : Reading bytes plac
         ∙ (λ i. run 0 place (state_of l) (sym is i ∷ drop (one i) bytes))
 
     -- it fails
-    pub fails_here : (e : ListFault) → Stops e place (op_step place (op_of b) (drop (place + 1) bytes) (state_of l)) → Misses e (listed bytes)
+    pub fails_here : (e : ListFault) → CommandStops e place (op_step place (op_of b) (drop (place + 1) bytes) (state_of l)) → Misses e (listed bytes)
     fails_here (faults.At byte cause) stops =
         now.goes_on ∙ ap (before now.items) (command_here ∙ ap (λ t. followed place l.pages t (λ skip s. run skip (suc place) s (drop (place + 1) bytes))) stops.1)
         ∙ ap (λ p. Err (record { byte = p; cause = cause })) (sym stops.0)
@@ -81,7 +81,7 @@ module _ (bytes : List ℕ) (place : ℕ) (l : Lister) (now : Reading bytes plac
     )
 
     -- the file goes on
-    pub goes_here : (next : ℕ) (new : Lister) → Passes place next (length (drop (place + 1) bytes)) l new (op_step place (op_of b) (drop (place + 1) bytes) (state_of l)) → Reading bytes next new
+    pub goes_here : (next : ℕ) (new : Lister) → CommandPasses place next (length (drop (place + 1) bytes)) l new (op_step place (op_of b) (drop (place + 1) bytes) (state_of l)) → Reading bytes next new
     goes_here next new p = record {
       items = now.items ++ p.takes.items;
       goes_on =

@@ -3,7 +3,7 @@ use Rattle.std.proofs.Common.{◌≡◌, ◌∙◌, ap, sym, ℕ, List, [], ◌�
 use Rattle.tb_dvi.specs.declared.lister.Lister.{Lister}
 use Rattle.tb_dvi.specs.Machine.{Item, Step}
 use Rattle.tb_dvi.specs.Listing.{item_line}
-use Rattle.tb_dvi.specs.Stepping.{IsInBounds, Takes, Passes}
+use Rattle.tb_dvi.specs.Stepping.{IsInBounds, Takes, CommandPasses}
 use Rattle.tb_dvi.proofs.BoundLemmas.{more}
 
 -- nothing is listed
@@ -15,6 +15,6 @@ pub one_line : (item : Item) (old new : List ℕ) → new ≡ old ++ item_line i
 one_line item old new e = e ∙ ap (λ t. old ++ t) (sym (append-nil (item_line item)))
 
 -- the next command follows the bytes of this one
-pub passes : (place next len size : ℕ) (old new : Lister) (step : Step) → size ≤ len → next ≡ place + 1 + size → Takes size old new step → IsInBounds (suc place) new → Passes place next len old new step
+pub passes : (place next len size : ℕ) (old new : Lister) (step : Step) → size ≤ len → next ≡ place + 1 + size → Takes size old new step → IsInBounds (suc place) new → CommandPasses place next len old new step
 passes place next len size old new step enough after takes bounds =
     record { size = size; enough = enough; after = after; takes = takes; bounds = more (suc place) next new (omega (arith, after)) bounds }

@@ -1,6 +1,6 @@
 -- The lines of a listing, as bytes, and what a page of placements lists.
 use Rattle.std.specs.Prelude.{◌≡◌, ◌≤◌, All, Ok, ℕ, ◌+◌, ◌/◌, ◌%◌, ℤ, pos, not, ◌&&◌, ◌==◌, nat_lt, nat_le, if◌then◌else◌, List, [], ◌∷◌, ◌++◌, flat_map, length, Option, Some, None, codes}
-use Rattle.tb_report.specs.Lines.{and_number, and_count, and_text, line}
+use Rattle.tb_text.specs.Fields.{and_number, and_count, and_text, line}
 use Rattle.tb_dvi.specs.Placement.{Placement}
 use Rattle.tb_dvi.specs.File.{Page, IsWritablePage, first_too_far, file_bytes}
 use Rattle.tb_dvi.specs.Machine.{Item, opened, special, ruled, ended, listed}

@@ -7,7 +7,8 @@ use Rattle.tb_node.specs.Plain.{Matter, hbox, rule, skip, kerned, pen, mark, not
 use Rattle.tb_pack.specs.declared.Set.{Set}
 use Rattle.tb_pack.specs.Pack.{top_after}
 use Rattle.tb_column.specs.Column.{PlainColumn, PlainSheet, one, wide, two}
-use Rattle.tb_report.specs.Lines.{and_count, and_text, where_text, side_text, unset}
+use Rattle.tb_report.specs.Lines.{where_text, side_text, unset}
+use Rattle.tb_text.specs.Fields.{and_count, and_text}
 
 -- a label at a place of the page, and the height of the rule there, if it has one
 pub record Placement : Type 0 where

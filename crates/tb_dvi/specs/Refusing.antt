@@ -1,6 +1,6 @@
 -- What is refused, and its line.
 use Rattle.std.specs.Prelude.{◌≡◌, ℕ, List, ◌++◌, Result, Err, codes}
-use Rattle.tb_report.specs.Lines.{and_count}
+use Rattle.tb_text.specs.Fields.{and_count}
 use Rattle.tb_dvi.specs.declared.DviCause.{DviCause}
 use Rattle.tb_dvi.specs.declared.DviCause.TheVariants as causes
 use Rattle.tb_dvi.specs.declared.lister.ListFault.{ListFault}

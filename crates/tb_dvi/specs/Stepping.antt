@@ -70,17 +70,17 @@ pub record Takes (size : ℕ) (old new : Lister) (step : Step) : Type 0 where
   pub listed : new.out.items ≡ old.out.items ++ flat_map item_line items
 
 -- the command at this place fails, or there was no memory
-abbrev pub Stops : ListFault → ℕ → Step → Type 0
-Stops (faults.At byte cause) place step = (byte ≡ place) × (step ≡ fails cause)
-Stops faults.Memory place step = Unit {0}
+abbrev pub CommandStops : ListFault → ℕ → Step → Type 0
+CommandStops (faults.At byte cause) place step = (byte ≡ place) × (step ≡ fails cause)
+CommandStops faults.Memory place step = Unit {0}
 
 -- the command at this place is taken, or fails
 abbrev pub TakesOr : Result (Unit {0}) ListFault → ℕ → ℕ → Lister → Lister → Step → Type 0
 TakesOr (Ok u) place size old new step = Takes size old new step
-TakesOr (Err e) place size old new step = Stops e place step
+TakesOr (Err e) place size old new step = CommandStops e place step
 
 -- the next command is at this place
-pub record Passes (place next len : ℕ) (old new : Lister) (step : Step) : Type 0 where
+pub record CommandPasses (place next len : ℕ) (old new : Lister) (step : Step) : Type 0 where
   pub size : ℕ
   pub enough : size ≤ len
   pub after : next ≡ place + 1 + size
@@ -95,10 +95,10 @@ pub record Ends (old new : Lister) (step : Step) : Type 0 where
 -- the command at this place ends the file, or fails
 abbrev pub EndsOr : Result (Unit {0}) ListFault → ℕ → Lister → Lister → Step → Type 0
 EndsOr (Ok u) place old new step = Ends old new step
-EndsOr (Err e) place old new step = Stops e place step
+EndsOr (Err e) place old new step = CommandStops e place step
 
 -- the command at this place, with so many bytes after its first, is taken, or ends the file, or fails
 abbrev pub Steps : Result Next ListFault → ℕ → ℕ → Lister → Lister → Step → Type 0
-Steps (Ok (nexts.At next)) place len old new step = Passes place next len old new step
+Steps (Ok (nexts.At next)) place len old new step = CommandPasses place next len old new step
 Steps (Ok nexts.End) place len old new step = Ends old new step
-Steps (Err e) place len old new step = Stops e place step
+Steps (Err e) place len old new step = CommandStops e place step

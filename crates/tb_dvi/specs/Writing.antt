@@ -3,7 +3,7 @@ use Rattle.std.specs.Prelude.{◌≡◌, ◌≢◌, ℕ, ℤ, pos, ◌+ℤ◌, F
 use Rattle.std.specs.Int.{w32}
 use Rattle.tb_pool.specs.Lists.{Lists}
 use Rattle.tb_node.specs.declared.Node.{Node}
-use Rattle.tb_column.specs.Shown.{nodes_shown}
+use Rattle.tb_node.specs.Plain.{plain_list}
 use Rattle.tb_report.specs.Printable.{IsPrintableList}
 use Rattle.tb_dvi.specs.declared.placing.Extent.{Extent}
 use Rattle.tb_dvi.specs.declared.placing.PlaceFault.{PlaceFault}
@@ -16,7 +16,7 @@ use Rattle.tb_dvi.specs.File.{Page, placement_bytes, page_bytes, has_far, is_too
 
 -- a part of a page with the nodes of its list
 abbrev pub part_shown : Lists Node → Part → PlainPart
-part_shown store p = record { h = p.h; at = p.at; nodes = nodes_shown store p.list; set = p.set }
+part_shown store p = record { h = p.h; at = p.at; nodes = plain_list store p.list; set = p.set }
 
 -- the parts of a page with the nodes of their lists
 abbrev pub parts_shown : Lists Node → List Part → List PlainPart

@@ -5,7 +5,7 @@ ghost use Rattle.tb_dvi.specs.File.{signed_4, low_4, four, two_bytes, units, pre
 
 use std::alloc::{AllocError, Global};
 use tb_param::Params;
-use tb_report::put;
+use tb_text::put;
 
 // A number with a sign in four bytes.
 pub(crate) fn put_signed(out: &mut Vec<u8>, number: i32) -> Result<(), AllocError>

@@ -13,7 +13,7 @@ use crate::numbers::{signed_number, unsigned_number};
 use crate::stack::Stack;
 use crate::text::{put_end, put_page, put_rule, put_special};
 use std::alloc::{AllocError, Global};
-use tb_report::put;
+use tb_text::put;
 
 /// Why a file is not listed.
 #[derive(Clone, Copy)]

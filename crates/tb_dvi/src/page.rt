@@ -14,7 +14,8 @@ use tb_column::{Column, Sheet};
 use tb_node::Node;
 use tb_pack::{Set, Tops};
 use tb_pool::{ListId, Lists};
-use tb_report::{put, unset};
+use tb_report::unset;
+use tb_text::put;
 
 /// A part of a page: a list that begins `at` scaled points from the page's top and `h` from its left side, and how its
 /// glue is set.

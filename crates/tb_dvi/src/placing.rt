@@ -1,6 +1,7 @@
 //! The bytes of a page's items.
 ghost use Rattle.std.specs.Prelude.{◌≡◌, ◌++◌, ℤ, pos, negsuc, ◌+ℤ◌, ◌≤ℤ◌, ◌∷◌, [], List, codes, Option, OnOk};
-ghost use Rattle.tb_report.specs.Lines.{and_count, and_text, where_text, side_text};
+ghost use Rattle.tb_report.specs.Lines.{where_text, side_text};
+ghost use Rattle.tb_text.specs.Fields.{and_count, and_text};
 ghost use Rattle.tb_node.specs.Plain.{matter_of};
 ghost use Rattle.tb_dvi.specs.Placement.{box_spot, rule_label, matter_spot, spot_placed};
 ghost use Rattle.tb_dvi.specs.File.{near, rule_bytes};
@@ -9,7 +10,8 @@ ghost use Rattle.tb_dvi.specs.Writing.{Writes, Shows};
 use crate::bytes::{put_four, put_low, put_signed};
 use std::alloc::AllocError;
 use tb_node::{Kind, Name, Node, Side, What, Where};
-use tb_report::{put, put_count, put_named, put_text, side_text, where_text};
+use tb_report::{put_named, side_text, where_text};
+use tb_text::{put, put_count, put_text};
 
 /// Why an item is not written.
 pub(crate) enum PlaceFault {

@@ -4,7 +4,8 @@ ghost use Rattle.tb_dvi.specs.Refusing.{cause_text, cause_line, far_line};
 
 use crate::DviCause;
 use std::alloc::AllocError;
-use tb_report::{put, put_total};
+use tb_report::put_total;
+use tb_text::put;
 
 // The word of a cause.
 fn cause_text(cause: DviCause) -> &'static [u8]

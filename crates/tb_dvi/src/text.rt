@@ -4,7 +4,8 @@ ghost use Rattle.tb_dvi.specs.Machine.{opened, special, ruled, ended};
 ghost use Rattle.tb_dvi.specs.Listing.{hex_digit, shown_byte, shown, item_line};
 
 use std::alloc::AllocError;
-use tb_report::{end_line, put, put_amount, put_measure, put_total};
+use tb_report::{put_measure, put_total};
+use tb_text::{end_line, put, put_amount};
 
 // A hexadecimal digit in lower case.
 fn hex_digit(digit: u8) -> u8

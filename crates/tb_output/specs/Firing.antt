@@ -5,6 +5,7 @@ use Rattle.tb_pool.specs.Lists.{Lists, list_at}
 use Rattle.tb_pool.specs.Frame.{IsNoneOf, OnlyChanged}
 use Rattle.tb_node.specs.declared.Node.{Node}
 use Rattle.tb_node.specs.Fit.{IsSizedLeaf}
+use Rattle.tb_node.specs.Plain.{plain_list}
 use Rattle.tb_param.specs.declared.Params.{Params}
 use Rattle.tb_builder.specs.declared.Builder.{Builder}
 use Rattle.tb_builder.specs.declared.Page.{Page}
@@ -13,7 +14,6 @@ use Rattle.tb_builder.specs.Contents.{contents_of, box_count}
 use Rattle.tb_builder.specs.Owned.{ids_of, owned}
 use Rattle.tb_builder.specs.Running.{IsSound}
 use Rattle.tb_builder.specs.Handed.{ListJoins, NoPage}
-use Rattle.tb_column.specs.Shown.{nodes_shown}
 use Rattle.tb_column.specs.Page.{IsPageList}
 use Rattle.tb_output.specs.declared.Turn.{Turn}
 use Rattle.tb_output.specs.declared.RunFault.{RunFault}
@@ -32,7 +32,7 @@ page_work p s f = next_goal p f.penalty (output_by p f (begun (after_page s f)))
 -- the page that fired of a builder, with what the builder holds after it
 abbrev pub fired_in : Builder → Lists Node → Page → Fired
 fired_in b store page = record {
-  body = nodes_shown store page.body;
+  body = plain_list store page.body;
   boxes = (contents_of b store).boxes;
   held = (contents_of b store).held;
   rest = (contents_of b store).waiting;
@@ -85,7 +85,7 @@ pub record CanFire (m : MachineView) (b : Builder) (store : Lists Node) (page : 
 pub record IsFired (t : Turn) (m now : MachineView) (b : Builder) (store new : Lists Node) (w : Work) : Type 0 where
   pub alive : pos m.dead_cycles <ℤ m.params.maxdeadcycles
   pub served : w.refused ≡ false
-  pub put_back : nodes_shown new t.put_back ≡ w.put_back
+  pub put_back : plain_list new t.put_back ≡ w.put_back
   pub sent : events_shown new now.events ≡ events_shown store m.events ++ w.sent
   pub state : state_shown new (contents_of b new).boxes w.state.waiting now ≡ w.state
 

@@ -3,7 +3,7 @@ use Rattle.std.specs.Prelude.{◌≡◌, ◌≤◌, ℕ, suc, ℤ, pos, ◌≤�
 use Rattle.std.specs.List.{AllByRecursion}
 use Rattle.tb_pool.specs.Lists.{Lists}
 use Rattle.tb_node.specs.declared.Node.{Node}
-use Rattle.tb_node.specs.Plain.{PlainNode}
+use Rattle.tb_node.specs.Plain.{PlainNode, plain_list}
 use Rattle.tb_node.specs.Fit.{IsExtent, IsPenalty}
 use Rattle.tb_param.specs.declared.Params.{Params}
 use Rattle.tb_insert.specs.declared.Class.{Class}
@@ -18,7 +18,7 @@ use Rattle.tb_column.specs.declared.Sheet.TheVariants as sheets
 use Rattle.tb_column.specs.declared.Sent.{Sent}
 use Rattle.tb_column.specs.declared.Sent.TheVariants as events
 use Rattle.tb_column.specs.Column.{PlainColumn, PlainSent}
-use Rattle.tb_column.specs.Shown.{nodes_shown, column_shown, sent_shown}
+use Rattle.tb_column.specs.Shown.{column_shown, sent_shown}
 use Rattle.tb_column.specs.Notes.{AreDistinct}
 use Rattle.tb_column.specs.Page.{IsPageList, IsPageColumn}
 use Rattle.tb_column.specs.Ranges.{IsSizedGlue, AreColumnParams}
@@ -55,7 +55,7 @@ state_shown store boxes waiting m = record {
   waiting = waiting;
   classes = m.classes;
   boxes = boxes;
-  held_page = nodes_shown store m.held_page;
+  held_page = plain_list store m.held_page;
   floats = m.pool.lists;
   goal = m.goal;
   two_columns = m.two_columns;

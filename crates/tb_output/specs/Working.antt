@@ -2,11 +2,11 @@
 use Rattle.std.specs.Prelude.{◌≡◌, ◌+◌, ℕ, true, false, List, [], ◌++◌, take}
 use Rattle.tb_pool.specs.Lists.{Lists}
 use Rattle.tb_node.specs.declared.Node.{Node}
+use Rattle.tb_node.specs.Plain.{plain_list}
 use Rattle.tb_builder.specs.declared.Builder.{Builder}
 use Rattle.tb_builder.specs.Contents.{contents_of}
 use Rattle.tb_column.specs.declared.NoteBox.{NoteBox}
 use Rattle.tb_column.specs.Column.{PlainSent}
-use Rattle.tb_column.specs.Shown.{nodes_shown}
 use Rattle.tb_column.specs.Notes.{notes_shown}
 use Rattle.tb_output.specs.declared.RunFault.{RunFault}
 use Rattle.tb_output.specs.declared.RunFault.TheVariants as faults
@@ -24,7 +24,7 @@ pub record ShowsWork (before : List PlainSent) (m : MachineView) (store : Lists 
 
 -- what goes back is the nodes of this list
 abbrev pub ShowsBack : ℕ → Lists Node → Work → Type 0
-ShowsBack back store w = nodes_shown store back ≡ w.put_back
+ShowsBack back store w = plain_list store back ≡ w.put_back
 
 -- the insertions of the work's boxes were taken into these lists
 abbrev pub HoldsNotes : List NoteBox → Lists Node → Work → Type 0

@@ -3,8 +3,8 @@
 ghost use Rattle.std.specs.Prelude.{◌≡◌, ◌≢◌, ◌||◌, pos, ◌∷◌, [], ◌++◌, take, if◌then◌else◌, OnOk, OnErr, IfErr};
 ghost use Rattle.tb_pool.specs.Lists.{IsLive, list_at};
 ghost use Rattle.tb_node.specs.Fit.{IsExtent, shapes};
+ghost use Rattle.tb_node.specs.Plain.{plain_list};
 ghost use Rattle.tb_break.specs.Split.{split_of};
-ghost use Rattle.tb_column.specs.Shown.{nodes_shown};
 ghost use Rattle.tb_column.specs.Notes.{note_lists};
 ghost use Rattle.tb_column.specs.Page.{IsPageList};
 ghost use Rattle.tb_output.specs.State.{has_floats};
@@ -38,8 +38,8 @@ impl Machine {
         requires machine { IsMachine self.old store.old }
         requires back { IsBack back self.old store.old }
         requires lists { AreTextLists 8355839 (back_lists store.old back ++ machine_lists self.old) store.old body notes.now }
-        ensures ok { OnOk result (Does (shows_page back notes.now self.old store.old) (shows_back back self.new store.new) (clear self.old.params (nodes_shown store.old body))) }
-        ensures err { IfErr result (λ e. Does (shows_page back notes.now self.old store.old) (IsCutShort e self.new store.new) (clear self.old.params (nodes_shown store.old body))) }
+        ensures ok { OnOk result (Does (shows_page back notes.now self.old store.old) (shows_back back self.new store.new) (clear self.old.params (plain_list store.old body))) }
+        ensures err { IfErr result (λ e. Does (shows_page back notes.now self.old store.old) (IsCutShort e self.new store.new) (clear self.old.params (plain_list store.old body))) }
         ensures keeps { KeepsBack back (body ∷ note_lists notes.now) self.old self.new store.old store.new }
     {
         if notes.is_empty() {
@@ -59,8 +59,8 @@ impl Machine {
         requires machine { IsMachine self.old store.old }
         requires back { IsBack back self.old store.old }
         requires lists { AreTextLists 8355839 (back_lists store.old back ++ machine_lists self.old) store.old body notes.now }
-        ensures ok { OnOk result (Does (shows_page back notes.now self.old store.old) (shows_back back self.new store.new) (clear_noted self.old.params (nodes_shown store.old body))) }
-        ensures err { IfErr result (λ e. Does (shows_page back notes.now self.old store.old) (IsCutShort e self.new store.new) (clear_noted self.old.params (nodes_shown store.old body))) }
+        ensures ok { OnOk result (Does (shows_page back notes.now self.old store.old) (shows_back back self.new store.new) (clear_noted self.old.params (plain_list store.old body))) }
+        ensures err { IfErr result (λ e. Does (shows_page back notes.now self.old store.old) (IsCutShort e self.new store.new) (clear_noted self.old.params (plain_list store.old body))) }
         ensures keeps { KeepsBack back (body ∷ note_lists notes.now) self.old self.new store.old store.new }
     {
         store.reserve(1)?;
@@ -80,8 +80,8 @@ impl Machine {
         requires machine { IsMachine self.old store.old }
         requires back { IsBack back self.old store.old }
         requires lists { AreTextLists 8355839 (back_lists store.old back ++ machine_lists self.old) store.old body [] }
-        ensures ok { OnOk result (Does (shows_back back self.old store.old) (shows_back back self.new store.new) (clear_floats self.old.params (nodes_shown store.old body))) }
-        ensures err { IfErr result (λ e. Does (shows_back back self.old store.old) (IsCutShort e self.new store.new) (clear_floats self.old.params (nodes_shown store.old body))) }
+        ensures ok { OnOk result (Does (shows_back back self.old store.old) (shows_back back self.new store.new) (clear_floats self.old.params (plain_list store.old body))) }
+        ensures err { IfErr result (λ e. Does (shows_back back self.old store.old) (IsCutShort e self.new store.new) (clear_floats self.old.params (plain_list store.old body))) }
         ensures keeps { KeepsBack back (body ∷ []) self.old self.new store.old store.new }
     {
         self.keep_front(store, body, back);

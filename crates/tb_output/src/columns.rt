@@ -5,6 +5,7 @@ ghost use Rattle.std.specs.List.{AllByRecursion};
 ghost use Rattle.std.specs.FinMap.{get};
 ghost use Rattle.tb_scaled.specs.Amount.{IsAmount};
 ghost use Rattle.tb_pool.specs.Frame.{IsNoneOf};
+ghost use Rattle.tb_node.specs.Plain.{plain_list};
 ghost use Rattle.tb_float.specs.Lists.{IsWaiting};
 ghost use Rattle.tb_float.specs.Pool.{HasNoMarks, marked_floats, without_marks};
 ghost use Rattle.tb_float.specs.Marked.{without_marked};
@@ -12,7 +13,7 @@ ghost use Rattle.tb_float.specs.Ranges.{AreFloatParams, IsWithin};
 ghost use Rattle.tb_float.specs.Rooms.{column_height_of};
 ghost use Rattle.tb_fpage.specs.Chosen.{IsChosen};
 ghost use Rattle.tb_column.specs.Column.{text_column, float_column_of};
-ghost use Rattle.tb_column.specs.Shown.{nodes_shown, column_shown};
+ghost use Rattle.tb_column.specs.Shown.{column_shown};
 ghost use Rattle.tb_column.specs.Notes.{AreDistinct, notes_shown, note_lists};
 ghost use Rattle.tb_column.specs.Page.{IsPageColumn};
 ghost use Rattle.tb_column.specs.Changes.{IsOpened};
@@ -44,8 +45,8 @@ impl Machine {
     ) -> Result<(), RunFault>
         requires machine { IsMachine self.old store.old }
         requires lists { AreTextLists 8355840 (machine_lists self.old) store.old body notes.now }
-        ensures ok { OnOk result (Does (shows_notes notes.now self.old store.old) (shows self.new store.new) (ordinary self.old.params (nodes_shown store.old body))) }
-        ensures err { IfErr result (λ e. Does (shows_notes notes.now self.old store.old) (IsCutShort e self.new store.new) (ordinary self.old.params (nodes_shown store.old body))) }
+        ensures ok { OnOk result (Does (shows_notes notes.now self.old store.old) (shows self.new store.new) (ordinary self.old.params (plain_list store.old body))) }
+        ensures err { IfErr result (λ e. Does (shows_notes notes.now self.old store.old) (IsCutShort e self.new store.new) (ordinary self.old.params (plain_list store.old body))) }
         ensures keeps { KeepsMachine (body ∷ note_lists notes.now) self.old self.new store.old store.new }
     {
         self.put_out_text(store, body, notes)?;
@@ -63,8 +64,8 @@ impl Machine {
     ) -> Result<(), RunFault>
         requires machine { IsMachine self.old store.old }
         requires lists { AreTextLists 8355840 (machine_lists self.old) store.old body notes.now }
-        ensures ok { OnOk result (Does (shows_notes notes.now self.old store.old) (shows self.new store.new) (put_out_text self.old.params (nodes_shown store.old body))) }
-        ensures err { IfErr result (λ e. Does (shows_notes notes.now self.old store.old) (IsCutShort e self.new store.new) (put_out_text self.old.params (nodes_shown store.old body))) }
+        ensures ok { OnOk result (Does (shows_notes notes.now self.old store.old) (shows self.new store.new) (put_out_text self.old.params (plain_list store.old body))) }
+        ensures err { IfErr result (λ e. Does (shows_notes notes.now self.old store.old) (IsCutShort e self.new store.new) (put_out_text self.old.params (plain_list store.old body))) }
         ensures keeps { KeepsMachine (body ∷ note_lists notes.now) self.old self.new store.old store.new }
     {
         let column = self.take_text(store, body, notes)?;
@@ -82,7 +83,7 @@ impl Machine {
         requires machine { IsMachine self.old store.old }
         requires lists { AreTextLists 8355840 (machine_lists self.old) store.old body notes.now }
         ensures ok { OnOk result (Does (shows_notes notes.now self.old store.old) (shows self.new store.new) without_column_floats) }
-        ensures shown { IfOk result (λ c. column_shown store.new c ≡ text_column self.old.params self.old.pool.lists (nodes_shown store.old body) (notes_shown store.old notes.now)) }
+        ensures shown { IfOk result (λ c. column_shown store.new c ≡ text_column self.old.params self.old.pool.lists (plain_list store.old body) (notes_shown store.old notes.now)) }
         ensures column { IfOk result (λ c. IsPageColumn store.new c) }
         ensures list { IfOk result (λ c. c.list ≡ body) }
         ensures err { OnErr result (store.new.lists ≡ store.old.lists) }

@@ -4,10 +4,10 @@ ghost use Rattle.std.specs.Prelude.{◌≡◌, ◌≢◌, ◌+◌, ◌≤◌, �
 ghost use Rattle.tb_pool.specs.Lists.{list_at};
 ghost use Rattle.tb_pool.specs.Frame.{IsNoneOf, OnlyChanged};
 ghost use Rattle.tb_scaled.specs.Scaled.{eject_penalty};
+ghost use Rattle.tb_node.specs.Plain.{plain_list};
 ghost use Rattle.tb_builder.specs.Contents.{contents_of, box_count};
 ghost use Rattle.tb_builder.specs.Handed.{NoPage};
 ghost use Rattle.tb_builder.specs.Running.{IsSound};
-ghost use Rattle.tb_column.specs.Shown.{nodes_shown};
 ghost use Rattle.tb_column.specs.Notes.{note_lists, note_count};
 ghost use Rattle.tb_column.specs.Page.{IsPageList};
 ghost use Rattle.tb_output.specs.Out.{hold_penalty, hold, output_by};
@@ -166,7 +166,7 @@ impl Machine {
         requires machine { IsMachine self.old store.old }
         requires body { IsPageList store.old body }
         requires apart { IsNoneOf body (machine_lists self.old) }
-        ensures done { Does (shows self.old store.old) (shows self.new store.new) (hold (nodes_shown store.old body)) }
+        ensures done { Does (shows self.old store.old) (shows self.new store.new) (hold (plain_list store.old body)) }
         ensures keeps { KeepsMachine (body ∷ []) self.old self.new store.old store.new }
     {
         let before = self.exchange_held(body);
@@ -199,8 +199,8 @@ impl Machine {
         requires known { AreKnownNotes self.old.classes notes.now }
         requires few { length (list_at store.old page.now.body) + length (list_at store.old self.old.held_page) + note_count store.old notes.now ≤ 8355839 }
         requires penalty { hold_penalty <ℤ page.now.penalty }
-        ensures ok { OnOk result (Does (shows_page back notes.now self.old store.old) (shows_back back self.new store.new) (page_output self.old.params page.now.penalty (nodes_shown store.old page.now.body))) }
-        ensures err { IfErr result (λ e. Does (shows_page back notes.now self.old store.old) (IsCutShort e self.new store.new) (page_output self.old.params page.now.penalty (nodes_shown store.old page.now.body))) }
+        ensures ok { OnOk result (Does (shows_page back notes.now self.old store.old) (shows_back back self.new store.new) (page_output self.old.params page.now.penalty (plain_list store.old page.now.body))) }
+        ensures err { IfErr result (λ e. Does (shows_page back notes.now self.old store.old) (IsCutShort e self.new store.new) (page_output self.old.params page.now.penalty (plain_list store.old page.now.body))) }
         ensures keeps { KeepsBack back (page.now.body ∷ note_lists notes.now) self.old self.new store.old store.new }
     {
         if is_ordinary(page.penalty) {

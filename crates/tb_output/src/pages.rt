@@ -3,13 +3,14 @@
 ghost use Rattle.std.specs.Prelude.{◌≡◌, ◌≤◌, pos, ◌-ℤ◌, ◌∷◌, [], List, false, Some, IsSome, OnOk, OnErr, IfOk, IfErr, IsTrue, MatchBool};
 ghost use Rattle.tb_scaled.specs.Amount.{IsAmount};
 ghost use Rattle.tb_pool.specs.Frame.{IsNoneOf};
+ghost use Rattle.tb_node.specs.Plain.{plain_list};
 ghost use Rattle.tb_float.specs.Lists.{IsWaiting, wide_part};
 ghost use Rattle.tb_float.specs.Pool.{HasNoMarks};
 ghost use Rattle.tb_float.specs.Ranges.{AreFloatParams};
 ghost use Rattle.tb_float.specs.Rooms.{column_height_of};
 ghost use Rattle.tb_fpage.specs.Chosen.{IsChosen};
 ghost use Rattle.tb_column.specs.Column.{pair_floats};
-ghost use Rattle.tb_column.specs.Shown.{nodes_shown, column_shown};
+ghost use Rattle.tb_column.specs.Shown.{column_shown};
 ghost use Rattle.tb_column.specs.Page.{IsPageList, IsPageColumn};
 ghost use Rattle.tb_column.specs.Changes.{IsOpened};
 ghost use Rattle.tb_output.specs.Ship.{wide_wanted, all_wide_pages, ship_pair};
@@ -119,7 +120,7 @@ impl Machine {
     fn take_tops(&mut self, store: &mut Lists<Node>) -> Result<ListId, AllocError>
         requires params { AreOutputParams self.old.params }
         requires size { pos self.old.pool.size ≡ self.old.params.pool }
-        ensures tops { IfOk result (λ l. nodes_shown store.new l ≡ pair_floats self.old.params self.old.pool.lists) }
+        ensures tops { IfOk result (λ l. plain_list store.new l ≡ pair_floats self.old.params self.old.pool.lists) }
         ensures page { IfOk result (λ l. IsPageList store.new l) }
         ensures opened { IfOk result (λ l. IsOpened l store.old store.new) }
         ensures machine { OnOk result (self.new ≡ without_doubles self.old) }

@@ -7,8 +7,8 @@ ghost use Rattle.tb_pool.specs.Lists.{IsLive, list_at};
 ghost use Rattle.tb_pool.specs.Frame.{IsNoneOf};
 ghost use Rattle.tb_node.specs.Fit.{IsExtent, IsSizedNode, shapes};
 ghost use Rattle.tb_node.specs.Sums.{size_of, last_depth};
+ghost use Rattle.tb_node.specs.Plain.{plain_list};
 ghost use Rattle.tb_float.specs.Ranges.{IsWithin};
-ghost use Rattle.tb_column.specs.Shown.{nodes_shown};
 ghost use Rattle.tb_column.specs.Notes.{IsNote, AreRisingFrom, notes_shown, note_lists, note_count};
 ghost use Rattle.tb_column.specs.Page.{IsPageList};
 ghost use Rattle.tb_column.specs.FloatList.{made_node};
@@ -58,8 +58,8 @@ impl Machine {
         requires lists { AreTextLists 8355839 (back_lists store.old back ++ machine_lists self.old) store.old body notes.now }
         requires known { AreKnownNotes self.old.classes notes.now }
         requires few { length (list_at store.old body) + length (list_at store.old self.old.held_page) + note_count store.old notes.now ≤ 8355839 }
-        ensures ok { OnOk result (Does (shows_page back notes.now self.old store.old) (shows_back back self.new store.new) (float_or_note self.old.params vert (nodes_shown store.old body))) }
-        ensures err { IfErr result (λ e. Does (shows_page back notes.now self.old store.old) (IsCutShort e self.new store.new) (float_or_note self.old.params vert (nodes_shown store.old body))) }
+        ensures ok { OnOk result (Does (shows_page back notes.now self.old store.old) (shows_back back self.new store.new) (float_or_note self.old.params vert (plain_list store.old body))) }
+        ensures err { IfErr result (λ e. Does (shows_page back notes.now self.old store.old) (IsCutShort e self.new store.new) (float_or_note self.old.params vert (plain_list store.old body))) }
         ensures keeps { KeepsBack back (body ∷ note_lists notes.now) self.old self.new store.old store.new }
     {
         let size = self.list_back(store, body, notes, back)?;
@@ -80,9 +80,9 @@ impl Machine {
         requires lists { AreTextLists 8355839 (back_lists store.old back ++ machine_lists self.now) store.old body notes.now }
         requires known { AreKnownNotes self.now.classes notes.now }
         requires few { length (list_at store.old body) + length (list_at store.old self.now.held_page) + note_count store.old notes.now ≤ 8355839 }
-        ensures ok { OnOk result (Does (shows_page back notes.now self.now store.old) (shows_back back self.now store.new) (list_back self.now.params (nodes_shown store.old self.now.held_page ++ without_firing_box (nodes_shown store.old body)))) }
-        ensures size { IfOk result (λ z. IsTextSize z (nodes_shown store.old self.now.held_page ++ without_firing_box (nodes_shown store.old body)) (notes_shown store.old notes.now)) }
-        ensures err { OnErr result (Does (shows_page back notes.now self.now store.old) (IsCutShort RunFault.Memory self.now store.new) (list_back self.now.params (nodes_shown store.old self.now.held_page ++ without_firing_box (nodes_shown store.old body)))) }
+        ensures ok { OnOk result (Does (shows_page back notes.now self.now store.old) (shows_back back self.now store.new) (list_back self.now.params (plain_list store.old self.now.held_page ++ without_firing_box (plain_list store.old body)))) }
+        ensures size { IfOk result (λ z. IsTextSize z (plain_list store.old self.now.held_page ++ without_firing_box (plain_list store.old body)) (notes_shown store.old notes.now)) }
+        ensures err { OnErr result (Does (shows_page back notes.now self.now store.old) (IsCutShort RunFault.Memory self.now store.new) (list_back self.now.params (plain_list store.old self.now.held_page ++ without_firing_box (plain_list store.old body)))) }
         ensures keeps { KeepsBack back (body ∷ note_lists notes.now) self.now self.now store.old store.new }
     {
         self.text_back(store, body, back);

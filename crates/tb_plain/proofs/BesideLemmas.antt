@@ -10,8 +10,8 @@ use Rattle.tb_node.specs.declared.Kind.TheVariants as kinds
 use Rattle.tb_insert.specs.declared.Class.{Class}
 use Rattle.tb_builder.specs.Owned.{Lacks, AllDiffer, AllLive, inner_ids, Ids, owned, is_plain, AllPlain, HoldPlain, AllKnown, classes_of, IsOwned}
 use Rattle.tb_builder.specs.Handed.{ListJoins}
-use Rattle.tb_builder.proofs.OwnedLemmas.{AllSame}
-use Rattle.tb_builder.proofs.WorkedLemmas.{matter_inner, matter_known}
+use Rattle.tb_builder.proofs.Ownership.OwnedLemmas.{AllSame}
+use Rattle.tb_builder.proofs.Worked.WorkedLemmas.{matter_inner, matter_known}
 use Rattle.tb_column.specs.Page.{is_leaf_kind, AreLeaves}
 
 -- two lists that are none of these changed

@@ -12,7 +12,7 @@ use Rattle.tb_pool.specs.Lists.{Lists, list_at, with_list}
 use Rattle.tb_pool.proofs.CallerLemmas.{list_same, live_same, get_other}
 use Rattle.tb_node.specs.declared.Node.{Node}
 use Rattle.tb_node.specs.declared.Kind.TheVariants as node_kinds
-use Rattle.tb_node.specs.Plain.{rule, skip, kerned, Leaf, leaf_node, PlainNode, plain_of, node_shape, shape_of, made}
+use Rattle.tb_node.specs.Plain.{rule, skip, kerned, Leaf, leaf_node, PlainNode, plain_of, node_shape, shape_of, made, plain_list}
 use Rattle.tb_node.specs.Sums.{last_depth, limited_depth}
 use Rattle.tb_node.specs.Fit.{IsDimension, IsExtent, IsSized, IsSizedNode, IsSizedPlain, IsSizedLeaf, shapes}
 use Rattle.tb_node.proofs.FitLemmas.{last_depth_extent}
@@ -27,14 +27,14 @@ use Rattle.tb_builder.specs.Owned.{Lacks, has_class, ids_of, owned, AllPlain}
 use Rattle.tb_builder.specs.Pageable.{IsSizedBox}
 use Rattle.tb_builder.specs.Running.{IsSound}
 use Rattle.tb_builder.specs.Handed.{ListJoins, NoPage, with_void}
-use Rattle.tb_builder.proofs.OwnedLemmas.{AllSame}
-use Rattle.tb_builder.proofs.FrameLemmas.{opened_same, frame_owned, frame_contents, frame_sound, fresh_apart}
-use Rattle.tb_builder.proofs.NewLemmas.{fresh_lacks}
-use Rattle.tb_builder.proofs.PageableLemmas.{content_sized}
+use Rattle.tb_builder.proofs.Ownership.OwnedLemmas.{AllSame}
+use Rattle.tb_builder.proofs.Ownership.FrameLemmas.{opened_same, frame_owned, frame_contents, frame_sound, fresh_apart}
+use Rattle.tb_builder.proofs.Ownership.NewLemmas.{fresh_lacks}
+use Rattle.tb_builder.proofs.Ranges.PageableLemmas.{content_sized}
 use Rattle.tb_column.specs.declared.Column.{Column}
 use Rattle.tb_column.specs.declared.ColumnKind.TheVariants as kinds
 use Rattle.tb_column.specs.Column.{is_ragged}
-use Rattle.tb_column.specs.Shown.{nodes_shown, column_shown}
+use Rattle.tb_column.specs.Shown.{column_shown}
 use Rattle.tb_column.specs.Page.{AreLeaves, IsPageList, IsPageColumn}
 use Rattle.tb_column.specs.FloatList.{made_node}
 use Rattle.tb_column.specs.Ranges.{IsSizedGlue}
@@ -68,13 +68,13 @@ end-leaves p depth = by_test (is_ragged p.bottom)
     by_test false = tt
 
 end-shown : (p : Params) (s : Lists Node) (body : ℕ) (depth : ℤ) (held : ℕ → List Node) → depth ≡ limited_depth p.maxdepth (shapes s body)
-    → map (plain_of held) (end_list p depth) ≡ (if is_ragged p.bottom then ragged_end p (nodes_shown s body) else [])
+    → map (plain_of held) (end_list p depth) ≡ (if is_ragged p.bottom then ragged_end p (plain_list s body) else [])
 end-shown p s body depth held e = by_test (is_ragged p.bottom)
   where
-    same : depth ≡ min_ℤ (last_depth (map node_shape (nodes_shown s body))) p.maxdepth
+    same : depth ≡ min_ℤ (last_depth (map node_shape (plain_list s body))) p.maxdepth
     same = e ∙ ap (limited_depth p.maxdepth) (sym (shapes-held (list_at s) (list_at s body)))
 
-    by_test : (x : Bool) → map (plain_of held) (if x then ragged_list depth else []) ≡ (if x then ragged_end p (nodes_shown s body) else [])
+    by_test : (x : Bool) → map (plain_of held) (if x then ragged_list depth else []) ≡ (if x then ragged_end p (plain_list s body) else [])
     by_test true = ap (λ d. map (plain_of held) (ragged_list d)) same
     by_test false = refl
 
@@ -88,13 +88,13 @@ body-extent p ns limit sized = least (last_depth (map shape_of ns)) p.maxdepth (
 -- ---- all that the column holds, step by step
 
 module _ (p : Params) (b c d : Builder) (s r t u : Lists Node) (page : Page) (l : ℕ) (can : CanFire b s page) (free : Lacks l (owned (ids_of b) s)) (apart : l ≢ page.body)
-    (text : Grows l (l ∷ page.body ∷ []) (map leaf_node (content_of (box_content (contents_of b s).boxes 253)) ++ nodes_shown s page.body) (with_void 253 (contents_of b s).boxes) b s c r)
+    (text : Grows l (l ∷ page.body ∷ []) (map leaf_node (content_of (box_content (contents_of b s).boxes 253)) ++ plain_list s page.body) (with_void 253 (contents_of b s).boxes) b s c r)
     (feet : Grows l (l ∷ []) (feet_below p (box_content (contents_of c r).boxes 254)) (with_void 254 (contents_of c r).boxes) c r d t) where
   abbrev boxes : List Boxed
   boxes = (contents_of b s).boxes
 
   abbrev text_nodes : List PlainNode
-  text_nodes = map leaf_node (content_of (box_content boxes 253)) ++ nodes_shown s page.body
+  text_nodes = map leaf_node (content_of (box_content boxes 253)) ++ plain_list s page.body
 
   boxes-are : (contents_of c r).boxes ≡ with_void 253 boxes
   boxes-are = ap (λ (x : Contents). x.boxes) text.contents
@@ -122,16 +122,16 @@ module _ (p : Params) (b c d : Builder) (s r t u : Lists Node) (page : Page) (l 
   end-free = two-grow.keeps l free
 
   module _ (depth : ℤ) (is : depth ≡ limited_depth p.maxdepth (shapes s page.body)) (put : u.lists ≡ with_list t l (list_at t l ++ end_list p depth)) where
-    end-grows : Grows l (l ∷ []) (if is_ragged p.bottom then ragged_end p (nodes_shown s page.body) else []) (with_void 254 (with_void 253 boxes)) d t d u
+    end-grows : Grows l (l ∷ []) (if is_ragged p.bottom then ragged_end p (plain_list s page.body) else []) (with_void 254 (with_void 253 boxes)) d t d u
     end-grows =
-        subst (λ (bs : List Boxed). Grows l (l ∷ []) (if is_ragged p.bottom then ragged_end p (nodes_shown s page.body) else []) bs d t d u) (ap (λ (x : Contents). x.boxes) two-grow.contents)
-        (put-grows d t u l two-grow.sound end-free (end_list p depth) put (if is_ragged p.bottom then ragged_end p (nodes_shown s page.body) else []) (end-leaves p depth) (λ held. end-shown p s page.body depth held is))
+        subst (λ (bs : List Boxed). Grows l (l ∷ []) (if is_ragged p.bottom then ragged_end p (plain_list s page.body) else []) bs d t d u) (ap (λ (x : Contents). x.boxes) two-grow.contents)
+        (put-grows d t u l two-grow.sound end-free (end_list p depth) put (if is_ragged p.bottom then ragged_end p (plain_list s page.body) else []) (end-leaves p depth) (λ held. end-shown p s page.body depth held is))
 
     pub all-grow : Grows l (l ∷ page.body ∷ []) (makeup_column_nodes p (fired_with b s page)) (with_void 254 (with_void 253 boxes)) b s d u
     all-grow =
-        grows-then l (l ∷ page.body ∷ []) (text_nodes ++ feet_below p (box_content boxes 254)) (if is_ragged p.bottom then ragged_end p (nodes_shown s page.body) else [])
+        grows-then l (l ∷ page.body ∷ []) (text_nodes ++ feet_below p (box_content boxes 254)) (if is_ragged p.bottom then ragged_end p (plain_list s page.body) else [])
         (with_void 254 (with_void 253 boxes)) (with_void 254 (with_void 253 boxes)) b d d s t u two-grow
-        (grows-among l (l ∷ []) (l ∷ page.body ∷ []) (if is_ragged p.bottom then ragged_end p (nodes_shown s page.body) else []) (with_void 254 (with_void 253 boxes)) d d t u among end-grows)
+        (grows-among l (l ∷ []) (l ∷ page.body ∷ []) (if is_ragged p.bottom then ragged_end p (plain_list s page.body) else []) (with_void 254 (with_void 253 boxes)) d d t u among end-grows)
 
     pub still-emptied : get r.lists page.body ≡ Some [] → get u.lists page.body ≡ Some []
     still-emptied e = get_other t u l (list_at t l ++ end_list p depth) page.body (λ x. apart (sym x)) put ∙ feet.others page.body ((λ x. apart (sym x)), tt) body-free ∙ e
@@ -148,8 +148,8 @@ AreSized ns = All IsSizedPlain ns
 leaves-sized : (ls : List Leaf) → All IsSizedLeaf ls → AreSized (map leaf_node ls)
 leaves-sized ls h = All-map IsSizedPlain leaf_node ls h
 
-shown-sized : (s : Lists Node) (l : ℕ) → All IsSizedNode (list_at s l) → AreSized (nodes_shown s l)
-shown-sized s l h = unmap IsSized node_shape (nodes_shown s l) (subst (All IsSized) (sym (shapes-held (list_at s) (list_at s l))) (All-map IsSized shape_of (list_at s l) h))
+shown-sized : (s : Lists Node) (l : ℕ) → All IsSizedNode (list_at s l) → AreSized (plain_list s l)
+shown-sized s l h = unmap IsSized node_shape (plain_list s l) (subst (All IsSized) (sym (shapes-held (list_at s) (list_at s l))) (All-map IsSized shape_of (list_at s l) h))
 
 kept : (limit d : ℤ) → pos 0 ≤ℤ limit → IsExtent d → IsDimension (neg_ℤ (min_ℤ d limit))
 kept limit d low h = record { low = grind (arith, ints); high = grind (arith, ints) }
@@ -228,7 +228,7 @@ module _ (l : ℕ) (mine : List ℕ) (ns : List PlainNode) (bs : List Boxed) (b 
   grown-is : list_at t l ≡ g.nodes
   grown-is = g.joined ∙ ap (λ xs. xs ++ g.nodes) empty
 
-  grown-shown : nodes_shown t l ≡ ns
+  grown-shown : plain_list t l ≡ ns
   grown-shown = ap (map (plain_of (list_at t))) grown-is ∙ g.shown (list_at t)
 
   grown-shapes : shapes t l ≡ map node_shape ns
@@ -258,7 +258,7 @@ module _ (t u : Lists Node) (c : Column) (same : get u.lists c.list ≡ get t.li
 
   pub column-still : AreLeaves (list_at t c.list) → column_shown u c ≡ column_shown t c
   column-still leaves =
-      let nodes : nodes_shown u c.list ≡ nodes_shown t c.list = ap (map (plain_of (list_at u))) list-still ∙ shown-anywhere t c.list (list_at u) leaves in
+      let nodes : plain_list u c.list ≡ plain_list t c.list = ap (map (plain_of (list_at u))) list-still ∙ shown-anywhere t c.list (list_at u) leaves in
       λ i. record { kind = c.kind; nodes = nodes i; set = c.set }
 
   pub page-still : IsPageColumn t c → IsPageColumn u c
@@ -353,7 +353,7 @@ module _ (b : Builder) (s o : Lists Node) (page : Page) (l : ℕ) (can : CanFire
     few = subst (λ (c : Contents). length (list_at o page.body) + box_count c.boxes ≤ 8388602) (sym open-contents) (subst (λ (ns : List Node). length ns + box_count (contents_of b s).boxes ≤ 8388602) (sym body-list) can.few);
   }
 
-  open-shown : nodes_shown o page.body ≡ nodes_shown s page.body
+  open-shown : plain_list o page.body ≡ plain_list s page.body
   open-shown = ap (map (plain_of (list_at o))) body-list ∙ shown-anywhere s page.body (list_at o) can.body.leaves
 
   pub open-fired : fired_with b o page ≡ fired_with b s page

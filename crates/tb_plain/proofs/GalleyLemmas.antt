@@ -13,8 +13,8 @@ use Rattle.tb_builder.specs.Contents.{node_count}
 use Rattle.tb_plain.specs.Expand.{clearing_kinds, makeup_kinds, makeup_nodes, made_up}
 use Rattle.tb_plain.specs.Suited.{is_suited, unsuited_among, IsSuited}
 use Rattle.tb_plain.specs.Run.{done, node_limit, MakeupRun, steps_left, first_makeup, makeup_from, makeup_of}
-use Rattle.tb_builder.proofs.PageWeights.{IsOnce}
-use Rattle.tb_builder.proofs.CutLemmas.{class-both}
+use Rattle.tb_builder.proofs.FiredPages.PageWeights.{IsOnce}
+use Rattle.tb_builder.proofs.Cutting.CutLemmas.{class-both}
 use Rattle.tb_plain.proofs.OurLemmas.{ours, AllOurs}
 use Rattle.tb_plain.proofs.WeightLemmas.{NoMargin, sent_weight, run-keeps}
 use Rattle.tb_column.proofs.Within.{Within}

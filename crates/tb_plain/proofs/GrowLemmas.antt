@@ -8,7 +8,7 @@ use Rattle.tb_pool.specs.Lists.{Lists, IsLive, list_at, with_list}
 use Rattle.tb_pool.proofs.MapLemmas.{get-insert_same, get-insert_other}
 use Rattle.tb_pool.proofs.CallerLemmas.{list_same, live_same, get_other}
 use Rattle.tb_node.specs.declared.Node.{Node}
-use Rattle.tb_node.specs.Plain.{Leaf, leaf_node, PlainNode, plain_of}
+use Rattle.tb_node.specs.Plain.{Leaf, leaf_node, PlainNode, plain_of, plain_list}
 use Rattle.tb_param.specs.declared.Params.{Params}
 use Rattle.tb_builder.specs.declared.Builder.{Builder}
 use Rattle.tb_builder.specs.Fired.{Boxed, box_content, content_of}
@@ -16,9 +16,8 @@ use Rattle.tb_builder.specs.Contents.{Contents, contents_of, box_count}
 use Rattle.tb_builder.specs.Owned.{Lacks, has_class, ids_of, owned}
 use Rattle.tb_builder.specs.Running.{IsSound}
 use Rattle.tb_builder.specs.Handed.{NoPage, with_void, Taken}
-use Rattle.tb_builder.proofs.OwnedLemmas.{AllSame}
-use Rattle.tb_builder.proofs.FrameLemmas.{frame_owned, frame_contents, frame_sound}
-use Rattle.tb_column.specs.Shown.{nodes_shown}
+use Rattle.tb_builder.proofs.Ownership.OwnedLemmas.{AllSame}
+use Rattle.tb_builder.proofs.Ownership.FrameLemmas.{frame_owned, frame_contents, frame_sound}
 use Rattle.tb_column.specs.Page.{AreLeaves}
 use Rattle.tb_column.proofs.StoreLemmas.{with_list-same}
 use Rattle.tb_column.proofs.FloatLemmas.{leaves-append}
@@ -138,7 +137,7 @@ pub none-put : (s : Lists Node) (l : ℕ) (xs : List Node) → IsLive s l → xs
 none-put s l xs live e = with_list-same s s l live refl ∙ ap (with_list s l) (sym (append-nil (list_at s l)) ∙ ap (λ ys. list_at s l ++ ys) (sym e))
 
 -- what neither insertions nor acts show in one store they show in each
-pub shown-anywhere : (s : Lists Node) (l : ℕ) (held : ℕ → List Node) → AreLeaves (list_at s l) → map (plain_of held) (list_at s l) ≡ nodes_shown s l
+pub shown-anywhere : (s : Lists Node) (l : ℕ) (held : ℕ → List Node) → AreLeaves (list_at s l) → map (plain_of held) (list_at s l) ≡ plain_list s l
 shown-anywhere s l held leaves = leaves-held held (list_at s l) leaves ∙ sym (leaves-held (list_at s) (list_at s l) leaves)
 
 -- ---- the text
@@ -152,14 +151,14 @@ module _ (b d : Builder) (s r t : Lists Node) (l body : ℕ) (ns : List PlainNod
   pub text-emptied : get t.lists body ≡ Some []
   text-emptied = join-emptied d r t l body top.sound (top.keeps l free) (top.keeps body body_free) apart joined
 
-  body-grows : Grows l (l ∷ body ∷ []) (nodes_shown s body) bs d r d t
+  body-grows : Grows l (l ∷ body ∷ []) (plain_list s body) bs d r d t
   body-grows =
-      subst (λ (cs : List Boxed). Grows l (l ∷ body ∷ []) (nodes_shown s body) cs d r d t) (ap (λ (c : Contents). c.boxes) top.contents)
-      (join-grows d r t l body top.sound (top.keeps l free) (top.keeps body body_free) apart joined (nodes_shown s body) (subst AreLeaves (sym body-is) leaves)
+      subst (λ (cs : List Boxed). Grows l (l ∷ body ∷ []) (plain_list s body) cs d r d t) (ap (λ (c : Contents). c.boxes) top.contents)
+      (join-grows d r t l body top.sound (top.keeps l free) (top.keeps body body_free) apart joined (plain_list s body) (subst AreLeaves (sym body-is) leaves)
       (λ held. ap (map (plain_of held)) body-is ∙ shown-anywhere s body held leaves))
 
-  pub text-grows : Grows l (l ∷ body ∷ []) (ns ++ nodes_shown s body) bs b s d t
-  text-grows = grows-then l (l ∷ body ∷ []) ns (nodes_shown s body) bs bs b d d s r t (grows-among l (l ∷ []) (l ∷ body ∷ []) ns bs b d s r (λ q h. (h.0, tt)) top) body-grows
+  pub text-grows : Grows l (l ∷ body ∷ []) (ns ++ plain_list s body) bs b s d t
+  text-grows = grows-then l (l ∷ body ∷ []) ns (plain_list s body) bs bs b d d s r t (grows-among l (l ∷ []) (l ∷ body ∷ []) ns bs b d s r (λ q h. (h.0, tt)) top) body-grows
 
 -- ---- footnotes
 

@@ -13,7 +13,7 @@ use Rattle.tb_builder.specs.Reached.{Reach, holds_box, laid_out}
 use Rattle.tb_builder.specs.Fired.{Fired, page_break, spent_kind, with_spent_break, unless_empty, held_of, held_insertions, box_content, content_of, frozen_for, fired_of}
 use Rattle.tb_builder.specs.Contents.{node_count}
 use Rattle.tb_builder.specs.Summed.{page_sums_of}
-use Rattle.tb_builder.proofs.CutLemmas.{CutAt, reach-cut}
+use Rattle.tb_builder.proofs.Cutting.CutLemmas.{CutAt, reach-cut}
 use Rattle.tb_column.specs.Column.{PlainSent, one, shipped, is_ragged}
 use Rattle.tb_plain.specs.Expand.{clearing_penalty}
 use Rattle.tb_plain.specs.Take.{top_insertion, top_leaves, page_leaves, here_nodes, with_float, taken_nodes, act_nodes}

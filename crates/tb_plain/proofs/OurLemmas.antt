@@ -6,8 +6,8 @@ use Rattle.tb_break.specs.Prune.{pruned_nodes}
 use Rattle.tb_insert.specs.Account.{Labelled}
 use Rattle.tb_builder.specs.Reached.{holds_box, laid_out}
 use Rattle.tb_builder.specs.Fired.{held_insertions}
-use Rattle.tb_builder.proofs.PageWeights.{AllOfClass, LabelsOfClass}
-use Rattle.tb_builder.proofs.CutLemmas.{class-both, class-pruned, held-ins, inserted-class}
+use Rattle.tb_builder.proofs.FiredPages.PageWeights.{AllOfClass, LabelsOfClass}
+use Rattle.tb_builder.proofs.Cutting.CutLemmas.{class-both, class-pruned, held-ins, inserted-class}
 
 -- the class of top floats and that of footnotes
 abbrev pub ours : List ℕ

@@ -8,7 +8,7 @@ use Rattle.tb_insert.specs.Account.{terms_after}
 use Rattle.tb_builder.specs.Reached.{Reach, laid_out}
 use Rattle.tb_builder.specs.Fired.{Fired, page_break, box_content, content_of, frozen_for, fired_of}
 use Rattle.tb_builder.specs.Contents.{node_count}
-use Rattle.tb_builder.proofs.CutLemmas.{ActFree, AllFree, acts-free, CutAt, reach-cut}
+use Rattle.tb_builder.proofs.Cutting.CutLemmas.{ActFree, AllFree, acts-free, CutAt, reach-cut}
 use Rattle.tb_column.specs.Column.{PlainSent, one, shipped, is_ragged}
 use Rattle.tb_column.proofs.PrintedLines.{AllPlain, SentPlain, plain-both, sent-plain, leaves-plain}
 use Rattle.tb_plain.specs.Expand.{made_up}

@@ -11,7 +11,7 @@ use Rattle.tb_insert.specs.Account.{terms_after}
 use Rattle.tb_builder.specs.Reached.{tried, Reach, also_reached, laid_out, page_place, stopped_at, reach_at_place, reach_at, reach_node, reach_from}
 use Rattle.tb_builder.specs.Fired.{Fired, frozen_for, fired_of}
 use Rattle.tb_builder.specs.Contents.{node_count}
-use Rattle.tb_builder.proofs.CutLemmas.{CutAt, reach-cut}
+use Rattle.tb_builder.proofs.Cutting.CutLemmas.{CutAt, reach-cut}
 use Rattle.tb_column.specs.Column.{PlainSent, shipped, one}
 use Rattle.tb_plain.specs.Expand.{made_up}
 use Rattle.tb_plain.specs.Firing.{makeup_column}

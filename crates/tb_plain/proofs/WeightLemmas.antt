@@ -14,8 +14,8 @@ use Rattle.tb_builder.specs.Reached.{Reached, acted, tried, Reach, laid_out}
 use Rattle.tb_builder.specs.Fired.{Fired, page_break, given_to, is_given, content_of, box_content, box_after, frozen_for, fired_of}
 use Rattle.tb_builder.specs.Contents.{node_count}
 use Rattle.tb_builder.specs.Summed.{page_sums_of}
-use Rattle.tb_builder.proofs.PageWeights.{laid_out-weight, acted_weight, reach-weight, boxes_weight, fired-weight, labelled-class}
-use Rattle.tb_builder.proofs.CutLemmas.{CutAt, reach-cut, class-both, class-take, class-drop, class-passed, spent-class}
+use Rattle.tb_builder.proofs.FiredPages.PageWeights.{laid_out-weight, acted_weight, reach-weight, boxes_weight, fired-weight, labelled-class}
+use Rattle.tb_builder.proofs.Cutting.CutLemmas.{CutAt, reach-cut, class-both, class-take, class-drop, class-passed, spent-class}
 use Rattle.tb_column.specs.Column.{one, PlainSent, warned, shipped, is_ragged}
 use Rattle.tb_report.specs.Totals.{sheet_nodes}
 use Rattle.tb_plain.specs.Expand.{clearing_penalty}

@@ -34,11 +34,11 @@ use Rattle.tb_builder.specs.Owned.{ClassesFit, has_class, ids_of}
 use Rattle.tb_builder.specs.Pageable.{IsSizedOnPage, IsSizedClass, IsSizedBox, IsGoal, IsPageable}
 use Rattle.tb_builder.specs.Running.{IsSound}
 use Rattle.tb_builder.specs.Worked.{IsReady}
-use Rattle.tb_builder.proofs.CallLemmas.{class-fits, list-sized, list-count}
-use Rattle.tb_builder.proofs.KeptLemmas.{kept-fits, event-sized, event-fewer, stopped-sized, stopped-fewer}
-use Rattle.tb_builder.proofs.SizedLemmas.{FiredSized}
-use Rattle.tb_builder.proofs.StoreSized.{list-back, list-length, matter-plain, boxes_of}
-use Rattle.tb_builder.proofs.WholeLemmas.{AreMatter, fired-matter}
+use Rattle.tb_builder.proofs.Handover.CallLemmas.{class-fits, list-sized, list-count}
+use Rattle.tb_builder.proofs.Ranges.KeptLemmas.{kept-fits, event-sized, event-fewer, stopped-sized, stopped-fewer}
+use Rattle.tb_builder.proofs.Ranges.SizedLemmas.{FiredSized}
+use Rattle.tb_builder.proofs.Ownership.StoreSized.{list-back, list-length, matter-plain, boxes_of}
+use Rattle.tb_builder.proofs.Events.WholeLemmas.{AreMatter, fired-matter}
 use Rattle.tb_column.specs.Ranges.{IsSizedGlue}
 use Rattle.tb_plain.specs.Take.{top_class}
 use Rattle.tb_plain.specs.Run.{makeup_ask, makeup_classes, void_boxes}

@@ -6,7 +6,7 @@ use Rattle.tb_node.specs.declared.Node.{Node}
 use Rattle.tb_node.specs.declared.Act.{Act}
 use Rattle.tb_node.specs.declared.Act.TheVariants as acts
 use Rattle.tb_node.specs.Fit.{IsExtent}
-use Rattle.tb_node.specs.Plain.{PlainNode}
+use Rattle.tb_node.specs.Plain.{PlainNode, plain_list}
 use Rattle.tb_param.specs.declared.Params.{Params}
 use Rattle.tb_builder.specs.declared.Builder.{Builder}
 use Rattle.tb_builder.specs.declared.Page.{Page}
@@ -17,7 +17,7 @@ use Rattle.tb_builder.specs.Pageable.{IsSizedBox}
 use Rattle.tb_builder.specs.Running.{IsSound}
 use Rattle.tb_builder.specs.Handed.{ListJoins, NoPage, ends_in_kern, with_void}
 use Rattle.tb_builder.specs.Summed.{page_sums_of}
-use Rattle.tb_column.specs.Shown.{nodes_shown, column_shown}
+use Rattle.tb_column.specs.Shown.{column_shown}
 use Rattle.tb_column.specs.Page.{IsPageList, IsPageColumn}
 use Rattle.tb_column.specs.Ranges.{IsSizedGlue}
 use Rattle.tb_plain.specs.declared.Plain.{Plain}
@@ -76,7 +76,7 @@ HasActed p a b s d t = HasPut (act_nodes p (page_sums_of (contents_of b s)) a) b
 -- the page that fired of a builder, with what the builder holds after it
 abbrev pub fired_with : Builder → Lists Node → Page → Fired
 fired_with b s page = record {
-  body = nodes_shown s page.body;
+  body = plain_list s page.body;
   boxes = (contents_of b s).boxes;
   held = (contents_of b s).held;
   rest = (contents_of b s).waiting;
@@ -106,7 +106,7 @@ pub record HasFired (r : PlainPage) (m now : Plain) (b : Builder) (s : Lists Nod
   pub number : r.page ≡ m.page
   pub next : now ≡ record m { page = m.page + 1 }
   pub column : column_shown t r.column ≡ makeup_column m.params (fired_with b s page)
-  pub put_back : nodes_shown t r.put_back ≡ put_back_after m.params (fired_with b s page)
+  pub put_back : plain_list t r.put_back ≡ put_back_after m.params (fired_with b s page)
   pub contents : contents_of d t ≡ record (contents_of b s) { boxes = with_void 254 (with_void 253 (contents_of b s).boxes) }
   pub sound : IsSound d t
   pub joins : ListJoins (ids_of d) t r.put_back

@@ -9,12 +9,12 @@ use Rattle.tb_node.specs.declared.Kind.TheVariants as kinds
 use Rattle.tb_node.specs.declared.What.TheVariants.{Blank}
 use Rattle.tb_node.specs.declared.Where.TheVariants as places
 use Rattle.tb_node.specs.declared.Float.{Float}
-use Rattle.tb_node.specs.Plain.{PlainNode, plain_of}
+use Rattle.tb_node.specs.Plain.{PlainNode, plain_of, plain_list}
 use Rattle.tb_param.specs.declared.Params.{Params}
 use Rattle.tb_builder.specs.declared.Builder.{Builder}
 use Rattle.tb_builder.specs.declared.PageSums.{PageSums}
 use Rattle.tb_builder.specs.Fired.{Boxed}
-use Rattle.tb_builder.specs.Contents.{contents_of, plain_list}
+use Rattle.tb_builder.specs.Contents.{contents_of}
 use Rattle.tb_builder.specs.Owned.{Lacks, inner_ids, ids_of, owned}
 use Rattle.tb_builder.specs.Running.{IsSound}
 use Rattle.tb_column.specs.Column.{is_ragged}

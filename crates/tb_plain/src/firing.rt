@@ -5,14 +5,14 @@ ghost use Rattle.std.specs.FinMap.{get};
 ghost use Rattle.tb_pool.specs.Lists.{IsLive, list_at, with_list};
 ghost use Rattle.tb_node.specs.Fit.{IsExtent, shapes};
 ghost use Rattle.tb_node.specs.Sums.{limited_depth};
-ghost use Rattle.tb_node.specs.Plain.{leaf_node};
+ghost use Rattle.tb_node.specs.Plain.{leaf_node, plain_list};
 ghost use Rattle.tb_builder.specs.Fired.{box_content, content_of};
 ghost use Rattle.tb_builder.specs.Contents.{contents_of};
 ghost use Rattle.tb_builder.specs.Owned.{Lacks, has_class, ids_of, owned};
 ghost use Rattle.tb_builder.specs.Running.{IsSound};
 ghost use Rattle.tb_builder.specs.Handed.{NoPage, with_void};
 ghost use Rattle.tb_column.specs.Page.{AreLeaves, IsPageList, IsPageColumn};
-ghost use Rattle.tb_column.specs.Shown.{nodes_shown, column_shown};
+ghost use Rattle.tb_column.specs.Shown.{column_shown};
 ghost use Rattle.tb_plain.specs.Expand.{clearing_glue, clearing_penalty};
 ghost use Rattle.tb_plain.specs.Firing.{feet_below, makeup_column_nodes, makeup_column};
 ghost use Rattle.tb_plain.specs.Making.{above_feet, end_list, held_list, back_list, Grows};
@@ -161,7 +161,7 @@ fn gather_text(store: &mut Lists<Node>, b: &mut Builder, body: ListId, list: Lis
     requires body_free { Lacks body (owned (ids_of b.old) store.old) }
     requires apart { list ≢ body }
     requires leaves { AreLeaves (list_at store.old body) }
-    ensures grows { Grows list (list ∷ body ∷ []) (map leaf_node (content_of (box_content (contents_of b.old store.old).boxes 253)) ++ nodes_shown store.old body) (with_void 253 (contents_of b.old store.old).boxes) b.old store.old b.new store.new }
+    ensures grows { Grows list (list ∷ body ∷ []) (map leaf_node (content_of (box_content (contents_of b.old store.old).boxes 253)) ++ plain_list store.old body) (with_void 253 (contents_of b.old store.old).boxes) b.old store.old b.new store.new }
     ensures emptied { get store.new.lists body ≡ Some [] }
     ensures spare { store.new.spare ≡ store.old.spare }
 {

@@ -3,8 +3,7 @@ use Rattle.std.proofs.Common.{◌≡◌, ◌∙◌, ap, sym, ℕ, ◌+◌, ◌<�
 use Rattle.std.proofs.lemmas.List.{length-map}
 use Rattle.tb_pool.specs.Lists.{Lists, list_at}
 use Rattle.tb_node.specs.declared.Node.{Node}
-use Rattle.tb_node.specs.Plain.{PlainKind, PlainNode}
-use Rattle.tb_column.specs.Shown.{nodes_shown}
+use Rattle.tb_node.specs.Plain.{PlainKind, PlainNode, plain_list}
 use Rattle.tb_column.specs.Column.{PlainColumn, one, shipped}
 use Rattle.tb_report.specs.declared.Totals.{Totals}
 use Rattle.tb_report.specs.Totals.{one_if, count_kinds, is_item_box, is_float_box, with_sent, AreCounts}
@@ -31,8 +30,8 @@ pub count_kinds-le : (test : PlainKind → Bool) (ns : List PlainNode) → count
 count_kinds-le test [] = omega arith
 count_kinds-le test (n ∷ ns) = omega (arith, one_if-le (test n.kind), count_kinds-le test ns)
 
-pub count_shown-le : (test : PlainKind → Bool) (store : Lists Node) (l : ℕ) → count_kinds test (nodes_shown store l) ≤ length (list_at store l)
-count_shown-le test store l = omega (arith, count_kinds-le test (nodes_shown store l), length-map {B = PlainNode} (list_at store l))
+pub count_shown-le : (test : PlainKind → Bool) (store : Lists Node) (l : ℕ) → count_kinds test (plain_list store l) ≤ length (list_at store l)
+count_shown-le test store l = omega (arith, count_kinds-le test (plain_list store l), length-map {B = PlainNode} (list_at store l))
 
 -- a page of one column can be counted
 pub page_counts : (t : Totals) (page : ℕ) (c : PlainColumn) → t.pages + 1 < 2 ^ 64 → t.boxes + length c.nodes < 2 ^ 64 → t.floats + length c.nodes < 2 ^ 64 → t.warnings < 2 ^ 64 → AreCounts (with_sent (shipped page (one c)) t)

@@ -12,8 +12,8 @@ use tb_pool::{ListId, Lists};
 impl Totals {
     ghost use Rattle.std.specs.Prelude.{◌≡◌};
     ghost use Rattle.tb_pool.specs.Lists.{IsLive};
-    ghost use Rattle.tb_node.specs.Plain.{plain, matter_of};
-    ghost use Rattle.tb_column.specs.Shown.{nodes_shown, sheet_shown, sent_shown, IsLiveSheet, IsLiveSent};
+    ghost use Rattle.tb_node.specs.Plain.{plain, matter_of, plain_list};
+    ghost use Rattle.tb_column.specs.Shown.{sheet_shown, sent_shown, IsLiveSheet, IsLiveSent};
     ghost use Rattle.tb_report.specs.Totals.{with_kind, with_nodes, with_sent, no_totals, sheet_nodes, AreCounts};
 
     /// Nothing is shipped yet.
@@ -67,8 +67,8 @@ impl Totals {
 
     fn count_list(&mut self, store: &Lists<Node>, list: ListId)
         requires live { IsLive store.now list }
-        requires room { AreCounts (with_nodes (nodes_shown store.now list) self.old) }
-        ensures { self.new ≡ with_nodes (nodes_shown store.now list) self.old }
+        requires room { AreCounts (with_nodes (plain_list store.now list) self.old) }
+        ensures { self.new ≡ with_nodes (plain_list store.now list) self.old }
     {
         for node in store.iter(list) {
             self.count_node(node);

@@ -1,15 +1,16 @@
 //! The lines at the end of a report.
 ghost use Rattle.std.specs.Prelude.{◌≡◌, ◌++◌, ◌∷◌, [], map, codes, OnOk, IfOk};
 ghost use Rattle.tb_pool.specs.Lists.{IsLive, list_at};
-ghost use Rattle.tb_node.specs.Plain.{plain, matter_of};
-ghost use Rattle.tb_column.specs.Shown.{nodes_shown};
-ghost use Rattle.tb_report.specs.Lines.{and_number, and_count, line, left_line, left_lines, end_lines};
+ghost use Rattle.tb_node.specs.Plain.{plain, matter_of, plain_list};
+ghost use Rattle.tb_report.specs.Lines.{left_line, left_lines, end_lines};
+ghost use Rattle.tb_text.specs.Fields.{and_number, and_count, line};
 
 use crate::Totals;
-use crate::writing::{end_line, put_line, put_total};
+use crate::writing::{put_line, put_total};
 use std::alloc::{AllocError, Global};
 use tb_node::{Kind, Node};
 use tb_pool::{ListId, Lists};
+use tb_text::end_line;
 
 // The line of a mark or a note that is left on the page; other nodes have none.
 fn put_left(out: &mut Vec<u8>, node: &Node) -> Result<(), AllocError>
@@ -31,7 +32,7 @@ fn put_left(out: &mut Vec<u8>, node: &Node) -> Result<(), AllocError>
 
 fn put_left_nodes(out: &mut Vec<u8>, store: &Lists<Node>, left: ListId) -> Result<(), AllocError>
     requires { IsLive store.now left }
-    ensures { OnOk result (out.new.items ≡ out.old.items ++ left_lines (nodes_shown store.now left)) }
+    ensures { OnOk result (out.new.items ≡ out.old.items ++ left_lines (plain_list store.now left)) }
 {
     for node in store.iter(left) {
         put_left(out, node)?;
@@ -67,7 +68,7 @@ pub fn end_text(
     t: &Totals,
 ) -> Result<Vec<u8>, AllocError>
     requires { IsLive store.now left }
-    ensures { IfOk result (λ text. text.items ≡ end_lines (nodes_shown store.now left) t.now) }
+    ensures { IfOk result (λ text. text.items ≡ end_lines (plain_list store.now left) t.now) }
 {
     let mut out = Vec::new(alloc);
     put_left_nodes(&mut out, store, left)?;

@@ -1,14 +1,15 @@
 //! The line of a column, before its items.
 ghost use Rattle.std.specs.Prelude.{◌≡◌, ◌++◌, ◌∷◌, [], ℤ, pos, codes, OnOk};
 ghost use Rattle.std.specs.Fmt.{signed_decimal};
-ghost use Rattle.tb_report.specs.Lines.{and_number, and_count, and_text, line, order_text, ratio_text, sign_text, over_text, set_text, kind_text};
+ghost use Rattle.tb_report.specs.Lines.{order_text, ratio_text, sign_text, over_text, set_text, kind_text};
+ghost use Rattle.tb_text.specs.Fields.{and_number, and_count, and_text, line};
 
-use crate::writing::{end_line, put, put_amount, put_measure, put_text, put_total};
+use crate::writing::{put_measure, put_total};
 use std::alloc::AllocError;
 use tb_column::ColumnKind;
 use tb_pack::{Set, Sign};
 use tb_scaled::Order;
-use tb_text::put_number;
+use tb_text::{end_line, put, put_amount, put_number, put_text};
 
 fn order_text(order: Order) -> &'static [u8]
     ensures { result.now ≡ order_text order }

@@ -1,11 +1,13 @@
 //! The line of a node.
 ghost use Rattle.std.specs.Prelude.{◌≡◌, ◌++◌, ◌∷◌, [], ℤ, pos, codes, OnOk, Some, None};
 ghost use Rattle.tb_node.specs.Plain.{matter_of};
-ghost use Rattle.tb_report.specs.Lines.{and_number, and_count, and_text, line, where_text, side_text, box_line, rule_line, matter_line};
+ghost use Rattle.tb_report.specs.Lines.{where_text, side_text, box_line, rule_line, matter_line};
+ghost use Rattle.tb_text.specs.Fields.{and_number, and_count, and_text, line};
 
-use crate::writing::{end_line, put, put_amount, put_count, put_field, put_named, put_text};
+use crate::writing::put_named;
 use std::alloc::AllocError;
 use tb_node::{Kind, Name, Node, Side, What, Where};
+use tb_text::{end_line, put, put_amount, put_count, put_field, put_text, write_field, write_text};
 
 /// The word of a place of a float.
 pub fn where_text(place: Where) -> &'static [u8]
@@ -39,12 +41,34 @@ fn end_at(out: &mut Vec<u8>, top: i128) -> Result<(), AllocError>
     end_line(out)
 }
 
-// A top, a height and a depth, and the end of the line.
+// A top, a height and a depth, and the end of the line. Hardly any is below 0, and then they are written at once.
 fn end_box(out: &mut Vec<u8>, top: i128, height: i64, depth: i64) -> Result<(), AllocError>
+    ensures { OnOk result (out.new.items ≡ out.old.items ++ line (and_number top ++ and_number height ++ and_number depth)) }
+{
+    if top < 0 || top > i128::from(u64::MAX) || height < 0 || depth < 0 {
+        return end_any_box(out, top, height, depth);
+    }
+    end_plain_box(out, top as u64, height as u64, depth as u64)
+}
+
+#[cold]
+#[inline(never)]
+fn end_any_box(out: &mut Vec<u8>, top: i128, height: i64, depth: i64) -> Result<(), AllocError>
     ensures { OnOk result (out.new.items ≡ out.old.items ++ line (and_number top ++ and_number height ++ and_number depth)) }
 {
     put_field(out, top)?;
     end_sizes(out, height, depth)
+}
+
+fn end_plain_box(out: &mut Vec<u8>, top: u64, height: u64, depth: u64) -> Result<(), AllocError>
+    ensures { OnOk result (out.new.items ≡ out.old.items ++ line (and_count top ++ and_count height ++ and_count depth)) }
+{
+    let mut text = [0; 64];
+    let at = write_text(b"\n", &mut text, 64);
+    let at = write_field(depth, &mut text, at);
+    let at = write_field(height, &mut text, at);
+    let start = write_field(top, &mut text, at);
+    put(out, &text[start..])
 }
 
 // A height and a depth, and the end of the line.

@@ -1,22 +1,24 @@
 //! The lines of a page.
 ghost use Rattle.std.specs.Prelude.{◌≡◌, ◌≢◌, ◌++◌, ◌∷◌, [], ℤ, pos, map, codes, OnOk, IfOk};
 ghost use Rattle.tb_pool.specs.Lists.{IsLive, list_at};
-ghost use Rattle.tb_node.specs.Plain.{matter_of, shape_of, plain_of};
+ghost use Rattle.tb_node.specs.Plain.{matter_of, shape_of, plain_of, plain_list};
 ghost use Rattle.tb_node.specs.Fit.{shapes};
-ghost use Rattle.tb_column.specs.Shown.{nodes_shown, column_shown, sheet_shown, sent_shown};
+ghost use Rattle.tb_column.specs.Shown.{column_shown, sheet_shown, sent_shown};
 ghost use Rattle.tb_report.specs.Printable.{IsPrintableList, IsPrintable, IsPrintableSheet, IsPrintableSent};
-ghost use Rattle.tb_report.specs.Lines.{and_number, and_count, line, item_lines, column_lines, unset, sheet_lines, sent_lines};
+ghost use Rattle.tb_report.specs.Lines.{item_lines, column_lines, unset, sheet_lines, sent_lines};
+ghost use Rattle.tb_text.specs.Fields.{and_number, and_count, line};
 
 use crate::heads::put_head;
 use crate::items::put_node;
 use crate::warnings::put_warning;
-use crate::writing::{end_line, put, put_measure, put_total};
+use crate::writing::{put_measure, put_total};
 use std::alloc::{AllocError, Global};
 use tb_column::{Column, Sent, Sheet};
 use tb_node::Node;
 use tb_pack::{Set, Sign, Tops};
 use tb_pool::{ListId, Lists};
 use tb_scaled::Order;
+use tb_text::{end_line, put};
 
 // The lines of a list's nodes, whose glue is set like this.
 fn put_items(
@@ -27,7 +29,7 @@ fn put_items(
 ) -> Result<(), AllocError>
     requires list { IsPrintableList store.now list }
     requires share { set.den ≢ pos 0 }
-    ensures { OnOk result (out.new.items ≡ out.old.items ++ item_lines set [] (nodes_shown store.now list)) }
+    ensures { OnOk result (out.new.items ≡ out.old.items ++ item_lines set [] (plain_list store.now list)) }
 {
     let mut tops = Tops::new(set);
     for node in store.iter(list) {

@@ -1,11 +1,13 @@
 //! The lines of warnings.
 ghost use Rattle.std.specs.Prelude.{◌≡◌, ◌++◌, ◌∷◌, [], ℤ, pos, codes, OnOk};
-ghost use Rattle.tb_report.specs.Lines.{and_number, and_count, line, warn_line};
+ghost use Rattle.tb_report.specs.Lines.{warn_line};
+ghost use Rattle.tb_text.specs.Fields.{and_number, and_count, line};
 
-use crate::writing::{end_line, put_amount, put_line, put_named, put_total};
+use crate::writing::{put_line, put_named, put_total};
 use std::alloc::AllocError;
 use tb_column::Warn;
 use tb_node::Name;
+use tb_text::{end_line, put_amount};
 
 // A line of a word, a name and an amount.
 fn put_by(out: &mut Vec<u8>, word: &[u8], name: &Name, by: i64) -> Result<(), AllocError>

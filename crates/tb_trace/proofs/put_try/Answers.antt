@@ -1,5 +1,5 @@
 use Rattle.std.proofs.Common.{◌≡◌, ◌∙◌, ap, ℕ, List, [], ◌∷◌, ◌++◌, append_assoc, codes}
-use Rattle.tb_report.specs.Lines.{and_number, and_count}
+use Rattle.tb_text.specs.Fields.{and_number, and_count}
 use Rattle.tb_trace.specs.Lines.{and_cost, and_numbers, champion_text}
 use Rattle.tb_trace.proofs.put_try.Goals as goal
 

@@ -1,6 +1,6 @@
 use Rattle.std.proofs.Common.{◌++◌}
 use Rattle.std.specs.Prelude.{codes}
-use Rattle.tb_report.specs.Lines.{and_count}
+use Rattle.tb_text.specs.Fields.{and_count}
 use Rattle.tb_dvi.proofs.Joining.{joins-last}
 use Rattle.tb_dvi.proofs.refusing.put_far.Goals as goal
 

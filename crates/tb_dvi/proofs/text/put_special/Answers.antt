@@ -1,6 +1,6 @@
 use Rattle.std.proofs.Common.{◌≡◌, ◌++◌, ◌∷◌, [], List, ℕ, codes, FitsSigned, w64}
 use Rattle.std.proofs.lemmas.Int.{to_z-of_z}
-use Rattle.tb_report.specs.Lines.{and_number, and_text}
+use Rattle.tb_text.specs.Fields.{and_number, and_text}
 use Rattle.tb_dvi.specs.Listing.{shown}
 use Rattle.tb_dvi.proofs.Joining.{joins, joins-last}
 use Rattle.tb_dvi.proofs.text.put_special.Goals as goal

@@ -2,7 +2,7 @@ use Rattle.std.proofs.Common.{sym, subst}
 use Rattle.tb_output.specs.Keeping.{AreNoneOf}
 use Rattle.tb_output.specs.Machine.{machine_lists}
 use Rattle.tb_output.specs.Acting.{dropped_lists}
-use Rattle.tb_output.proofs.ActingLemmas.{float-stands, float-takes, columns-drop}
+use Rattle.tb_output.proofs.Acts.ActingLemmas.{float-stands, float-takes, columns-drop}
 use Rattle.tb_output.proofs.Machine.act.Goals as goal
 
 pub returns-in-Take-clause-machine : goal.returns-in-Take-clause-machine

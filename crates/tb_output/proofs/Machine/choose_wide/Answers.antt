@@ -10,7 +10,7 @@ use Rattle.tb_fpage.specs.Chosen.{IsChosen}
 use Rattle.tb_output.specs.Ship.{wide_wanted}
 use Rattle.tb_output.specs.Machine.{MachineView, AreOutputParams}
 use Rattle.tb_output.specs.contracts.Machine.{the_view}
-use Rattle.tb_output.proofs.CompanyLemmas.{chosen-room, pool-same}
+use Rattle.tb_output.proofs.Clears.CompanyLemmas.{chosen-room, pool-same}
 use Rattle.tb_output.proofs.Machine.choose_wide.Goals as goal
 
 pub invariant_of-self : goal.invariant_of-self

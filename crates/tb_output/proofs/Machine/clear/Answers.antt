@@ -3,8 +3,8 @@ use Rattle.tb_column.specs.Notes.{note_lists}
 use Rattle.tb_output.specs.Machine.{machine_lists}
 use Rattle.tb_output.specs.Keeping.{AreTextLists, KeepsBack, back_lists}
 use Rattle.tb_output.specs.Working.{shows_back, IsCutShort}
-use Rattle.tb_output.proofs.ResultLemmas.{ok-map, err-map}
-use Rattle.tb_output.proofs.NotedSteps.{no-notes, some-notes, noteless-clear, noted-clear}
+use Rattle.tb_output.proofs.Working.ResultLemmas.{ok-map, err-map}
+use Rattle.tb_output.proofs.Clears.NotedSteps.{no-notes, some-notes, noteless-clear, noted-clear}
 use Rattle.tb_output.proofs.Machine.clear.Goals as goal
 
 pub clear_floats-requires-clause-lists : goal.clear_floats-requires-clause-lists

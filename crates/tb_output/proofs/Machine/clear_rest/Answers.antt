@@ -2,8 +2,8 @@ use Rattle.std.proofs.Common.{refl, sym, subst, ◌∙◌, [], Bool}
 use Rattle.std.specs.Prelude.{if◌then◌else◌}
 use Rattle.tb_output.specs.PutBack.{clear_list}
 use Rattle.tb_output.specs.Keeping.{HasGrown}
-use Rattle.tb_output.proofs.PushLemmas.{grown-of, grown-none}
-use Rattle.tb_output.proofs.ClearSteps.{live-some}
+use Rattle.tb_output.proofs.InText.PushLemmas.{grown-of, grown-none}
+use Rattle.tb_output.proofs.Clears.ClearSteps.{live-some}
 use Rattle.tb_output.proofs.Machine.clear_rest.Goals as goal
 
 pub returns-in_ok-push_clear-clause-ok : goal.returns-in_ok-push_clear-clause-ok

@@ -2,11 +2,11 @@ use Rattle.std.proofs.Common.{◌≡◌, refl, subst, true, false, []}
 use Rattle.tb_output.specs.Machine.{MachineView}
 use Rattle.tb_output.specs.Clear.{clear_wide}
 use Rattle.tb_output.specs.PutBack.{blank_clear_list}
-use Rattle.tb_output.proofs.ResultLemmas.{memory-err, ok-map, err-map}
-use Rattle.tb_output.proofs.PushLemmas.{grown-of}
-use Rattle.tb_output.proofs.StepLemmas.{no-room}
-use Rattle.tb_output.proofs.WorkSteps.{continues-clear_wide}
-use Rattle.tb_output.proofs.ClearSteps.{single-done, second-done, double-done, first-done, first-cut, first-keeps}
+use Rattle.tb_output.proofs.Working.ResultLemmas.{memory-err, ok-map, err-map}
+use Rattle.tb_output.proofs.InText.PushLemmas.{grown-of}
+use Rattle.tb_output.proofs.Working.StepLemmas.{no-room}
+use Rattle.tb_output.proofs.StepLaws.WorkSteps.{continues-clear_wide}
+use Rattle.tb_output.proofs.Clears.ClearSteps.{single-done, second-done, double-done, first-done, first-cut, first-keeps}
 use Rattle.tb_output.proofs.Machine.clear_wide.Goals as goal
 
 pub returns-then-not-self-clause-ok : goal.returns-then-not-self-clause-ok

@@ -3,7 +3,7 @@ use Rattle.tb_output.specs.contracts.Machine.{the_view}
 use Rattle.tb_output.specs.Clear.{double_again}
 use Rattle.tb_output.specs.Machine.{MachineView}
 use Rattle.tb_output.specs.Keeping.{HasFloats}
-use Rattle.tb_output.proofs.JoinLemmas.{double-apart, double-room, double-has}
+use Rattle.tb_output.proofs.Clears.JoinLemmas.{double-apart, double-room, double-has}
 use Rattle.tb_output.proofs.Machine.defer_double.Goals as goal
 
 pub join_front-requires-clause-apart : goal.join_front-requires-clause-apart

@@ -1,4 +1,4 @@
-use Rattle.tb_output.proofs.TextSteps.{deferred-with_top, warned-first, set-there}
+use Rattle.tb_output.proofs.InText.TextSteps.{deferred-with_top, warned-first, set-there}
 use Rattle.tb_output.proofs.Machine.defer_with_top.Goals as goal
 
 pub let_top-requires : goal.let_top-requires

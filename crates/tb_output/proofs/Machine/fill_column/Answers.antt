@@ -1,6 +1,6 @@
 use Rattle.std.proofs.Common.{refl, ◌∙◌, ap, []}
 use Rattle.tb_float.specs.Lists.{live_count}
-use Rattle.tb_output.proofs.FloatMoves.{filled-count, room-stays}
+use Rattle.tb_output.proofs.ColumnPages.FloatMoves.{filled-count, room-stays}
 use Rattle.tb_output.proofs.Machine.fill_column.Goals as goal
 
 -- the floats move, and as many boxes live as before

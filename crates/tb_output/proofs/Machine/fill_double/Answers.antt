@@ -1,6 +1,6 @@
 use Rattle.std.proofs.Common.{◌∙◌, ap, refl, []}
 use Rattle.tb_float.specs.Lists.{live_count, floats_of}
-use Rattle.tb_output.proofs.FloatMoves.{doubled-count, room-stays}
+use Rattle.tb_output.proofs.ColumnPages.FloatMoves.{doubled-count, room-stays}
 use Rattle.tb_output.proofs.Machine.fill_double.Goals as goal
 
 -- the floats move, and as many boxes live as before

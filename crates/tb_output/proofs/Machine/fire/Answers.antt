@@ -3,7 +3,7 @@ use Rattle.tb_output.specs.Machine.{MachineView}
 use Rattle.tb_output.specs.Working.{shows_boxes, shows_all, IsCutShort, Does}
 use Rattle.tb_output.specs.Firing.{fired_in, whole_work, IsRefusal}
 use Rattle.tb_output.specs.Turns.{served}
-use Rattle.tb_output.proofs.FireLemmas.{counted, faulted, is-begun, count-below, if-none, is-refused, is-fired, fired-contents, fired-refused}
+use Rattle.tb_output.proofs.Firings.FireLemmas.{counted, faulted, is-begun, count-below, if-none, is-refused, is-fired, fired-contents, fired-refused}
 use Rattle.tb_output.proofs.Machine.fire.Goals as goal
 
 pub returns-in-Some-clause-refused : goal.returns-in-Some-clause-refused

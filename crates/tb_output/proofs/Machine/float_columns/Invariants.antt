@@ -1,5 +1,5 @@
 use Rattle.std.proofs.Common.{◌-◌, length}
-use Rattle.tb_output.proofs.FloatTurns.{ColumnsLeft}
+use Rattle.tb_output.proofs.ColumnPages.FloatTurns.{ColumnsLeft}
 use Rattle.tb_output.proofs.Machine.float_columns.Given as goal
 
 abbrev pub invariant-loop-turn : goal.invariant-loop-turn

@@ -1,17 +1,17 @@
 use Rattle.std.proofs.Common.{sym, subst, ◌∙◌, ap, ◌∷◌, []}
 use Rattle.std.specs.FinMap.{remove}
-use Rattle.tb_column.specs.Shown.{nodes_shown}
+use Rattle.tb_node.specs.Plain.{plain_list}
 use Rattle.tb_output.specs.Out.{hold}
 use Rattle.tb_output.specs.Machine.{MachineView}
 use Rattle.tb_output.specs.Working.{shows, Does}
 use Rattle.tb_output.specs.Keeping.{KeepsMachine}
-use Rattle.tb_output.proofs.HoldLemmas.{held-keeps, held-done}
+use Rattle.tb_output.proofs.Firings.HoldLemmas.{held-keeps, held-done}
 use Rattle.tb_output.proofs.Machine.hold.Goals as goal
 
 pub returns-clause-done : goal.returns-clause-done
 returns-clause-done c =
     let dropped = c.drop_list.ensures ∙ ap (remove c.args.store.now.lists) c.exchange_held-before.ensures.before in
-    subst (λ (v : MachineView). Does (shows c.args.self.now c.args.store.now) (shows v c.drop_list.new.store) (hold (nodes_shown c.args.store.now c.args.body))) (sym c.exchange_held-before.ensures.machine)
+    subst (λ (v : MachineView). Does (shows c.args.self.now c.args.store.now) (shows v c.drop_list.new.store) (hold (plain_list c.args.store.now c.args.body))) (sym c.exchange_held-before.ensures.machine)
     (held-done c.args.body c.args.self.now c.args.store.now c.drop_list.new.store c.requires.machine c.requires.body c.requires.apart dropped)
 
 pub returns-clause-keeps : goal.returns-clause-keeps

@@ -8,7 +8,7 @@ use Rattle.tb_break.specs.declared.Found.{Found}
 use Rattle.tb_break.specs.Split.{split_of}
 use Rattle.tb_output.specs.Machine.{MachineView}
 use Rattle.tb_output.specs.Keeping.{HasGrown}
-use Rattle.tb_output.proofs.ClearSteps.{front-kept, front-emptied}
+use Rattle.tb_output.proofs.Clears.ClearSteps.{front-kept, front-emptied}
 use Rattle.tb_output.proofs.Machine.keep_front.Goals as goal
 
 pub find-front-requires-clause-nodes : goal.find-front-requires-clause-nodes

@@ -7,7 +7,7 @@ use Rattle.tb_float.specs.Pool.{with_float_at, with_places}
 use Rattle.tb_output.specs.contracts.Machine.{the_view}
 use Rattle.tb_output.specs.Machine.{MachineView}
 use Rattle.tb_output.specs.Text.{with_top}
-use Rattle.tb_output.proofs.TextSteps.{set-room}
+use Rattle.tb_output.proofs.InText.TextSteps.{set-room}
 use Rattle.tb_output.proofs.Machine.let_top.Goals as goal
 
 pub set_places-requires : goal.set_places-requires

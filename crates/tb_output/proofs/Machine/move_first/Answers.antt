@@ -6,7 +6,7 @@ use Rattle.tb_output.specs.Machine.{MachineView}
 use Rattle.tb_output.specs.Keeping.{HasFloats}
 use Rattle.tb_output.specs.Place.{joined_to}
 use Rattle.tb_output.specs.Turns.{place_of, without_first}
-use Rattle.tb_output.proofs.TextSteps.{column-apart, moved-has, moved-room}
+use Rattle.tb_output.proofs.InText.TextSteps.{column-apart, moved-has, moved-room}
 use Rattle.tb_output.proofs.Machine.move_first.Goals as goal
 
 pub move_to-requires-clause-apart : goal.move_to-requires-clause-apart

@@ -7,9 +7,9 @@ use Rattle.tb_output.specs.Out.{hold_penalty, is_int, is_crowded, leave_column, 
 use Rattle.tb_output.specs.Machine.{MachineView}
 use Rattle.tb_output.specs.Working.{shows_back, IsCutShort, Does}
 use Rattle.tb_output.specs.Keeping.{KeepsBack}
-use Rattle.tb_output.proofs.GoalLemmas.{goal-keeps, goal-done, goal-held, goal-crowded, goal-room}
-use Rattle.tb_output.proofs.ResultLemmas.{ok-map, err-map}
-use Rattle.tb_output.proofs.WorkingLemmas.{does-same}
+use Rattle.tb_output.proofs.Firings.GoalLemmas.{goal-keeps, goal-done, goal-held, goal-crowded, goal-room}
+use Rattle.tb_output.proofs.Working.ResultLemmas.{ok-map, err-map}
+use Rattle.tb_output.proofs.Working.WorkingLemmas.{does-same}
 use Rattle.tb_output.proofs.Machine.next_goal.Goals as goal
 
 pub returns-then-is_signal-clause-ok : goal.returns-then-is_signal-clause-ok

@@ -4,10 +4,10 @@ use Rattle.tb_output.specs.Place.{place_float}
 use Rattle.tb_output.specs.Text.{puts_interline}
 use Rattle.tb_output.specs.State.{Work}
 use Rattle.tb_output.specs.Working.{shows_back, IsCutShort}
-use Rattle.tb_output.proofs.ResultLemmas.{ok-map, err-map}
-use Rattle.tb_output.proofs.WorkingLemmas.{does-same}
-use Rattle.tb_output.proofs.StepLemmas.{Done, keeps-on}
-use Rattle.tb_output.proofs.TextSteps.{area-column, area-done, area-places, then-interline, then-interline_cut}
+use Rattle.tb_output.proofs.Working.ResultLemmas.{ok-map, err-map}
+use Rattle.tb_output.proofs.Working.WorkingLemmas.{does-same}
+use Rattle.tb_output.proofs.Working.StepLemmas.{Done, keeps-on}
+use Rattle.tb_output.proofs.InText.TextSteps.{area-column, area-done, area-places, then-interline, then-interline_cut}
 use Rattle.tb_output.proofs.Machine.place_area.Goals as goal
 
 pub move_first-requires-clause-first : goal.move_first-requires-clause-first

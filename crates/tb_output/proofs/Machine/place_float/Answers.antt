@@ -7,9 +7,9 @@ use Rattle.tb_float.specs.Ranges.{AreFloatParams}
 use Rattle.tb_output.specs.Machine.{MachineView}
 use Rattle.tb_output.specs.Turns.{float_placed, float_decided}
 use Rattle.tb_output.specs.Working.{shows_back, IsCutShort}
-use Rattle.tb_output.proofs.ResultLemmas.{ok-map, err-map}
-use Rattle.tb_output.proofs.WorkingLemmas.{does-same}
-use Rattle.tb_output.proofs.CurrentFirst.{decided-same}
+use Rattle.tb_output.proofs.Working.ResultLemmas.{ok-map, err-map}
+use Rattle.tb_output.proofs.Working.WorkingLemmas.{does-same}
+use Rattle.tb_output.proofs.ClassesRise.CurrentFirst.{decided-same}
 use Rattle.tb_output.proofs.Machine.place_float.Goals as goal
 
 pub add_current-place-requires-clause-params : goal.add_current-place-requires-clause-params

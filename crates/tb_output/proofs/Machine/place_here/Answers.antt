@@ -4,9 +4,9 @@ use Rattle.tb_column.specs.Ranges.{IsSizedGlue}
 use Rattle.tb_output.specs.Machine.{MachineView}
 use Rattle.tb_output.specs.Keeping.{HasGrown}
 use Rattle.tb_output.specs.PutBack.{here_list}
-use Rattle.tb_output.proofs.ResultLemmas.{memory-err, same-err}
-use Rattle.tb_output.proofs.StepLemmas.{keeps-on}
-use Rattle.tb_output.proofs.TextSteps.{area-done, here-cut, here-whole, here-memory}
+use Rattle.tb_output.proofs.Working.ResultLemmas.{memory-err, same-err}
+use Rattle.tb_output.proofs.Working.StepLemmas.{keeps-on}
+use Rattle.tb_output.proofs.InText.TextSteps.{area-done, here-cut, here-whole, here-memory}
 use Rattle.tb_output.proofs.Machine.place_here.Goals as goal
 
 pub move_first-requires-clause-first : goal.move_first-requires-clause-first

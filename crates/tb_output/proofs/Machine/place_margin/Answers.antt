@@ -6,11 +6,11 @@ use Rattle.tb_output.specs.Machine.{MachineView}
 use Rattle.tb_output.specs.PutBack.{note_list}
 use Rattle.tb_output.specs.Keeping.{HasGrown}
 use Rattle.tb_output.specs.Turns.{note_placed}
-use Rattle.tb_output.proofs.ResultLemmas.{memory-err, ok-map, err-map}
-use Rattle.tb_output.proofs.SizeLemmas.{amount-cast, amount-passed, extent-amount}
-use Rattle.tb_output.proofs.StepLemmas.{no-room, keeps-on}
-use Rattle.tb_output.proofs.TextSteps.{continues-note_placed}
-use Rattle.tb_output.proofs.MarginSteps.{reach-amount, note-place, warning-memory, told-keeps, note-memory, stands-keeps, note-whole, note-cut}
+use Rattle.tb_output.proofs.Working.ResultLemmas.{memory-err, ok-map, err-map}
+use Rattle.tb_output.proofs.ColumnPages.SizeLemmas.{amount-cast, amount-passed, extent-amount}
+use Rattle.tb_output.proofs.Working.StepLemmas.{no-room, keeps-on}
+use Rattle.tb_output.proofs.InText.TextSteps.{continues-note_placed}
+use Rattle.tb_output.proofs.InText.MarginSteps.{reach-amount, note-place, warning-memory, told-keeps, note-memory, stands-keeps, note-whole, note-cut}
 use Rattle.tb_output.proofs.Machine.place_margin.Goals as goal
 
 pub place_note-at-requires-clause-bottom : goal.place_note-at-requires-clause-bottom

@@ -6,10 +6,10 @@ use Rattle.tb_output.specs.Ship.{keep_left}
 use Rattle.tb_output.specs.Machine.{MachineView}
 use Rattle.tb_output.specs.Working.{shows, IsCutShort, Does}
 use Rattle.tb_output.specs.Keeping.{KeepsMachine}
-use Rattle.tb_output.proofs.KeepLemmas.{keeps-same}
-use Rattle.tb_output.proofs.PuttingOut.{left-shows, left-keeps, out-one, out-first, out-second}
-use Rattle.tb_output.proofs.ResultLemmas.{ok-map, err-map, either-way}
-use Rattle.tb_output.proofs.ShipLemmas.{ship-does, ship-fails, shipped-keeps, unshipped-same}
+use Rattle.tb_output.proofs.Working.KeepLemmas.{keeps-same}
+use Rattle.tb_output.proofs.ColumnPages.PuttingOut.{left-shows, left-keeps, out-one, out-first, out-second}
+use Rattle.tb_output.proofs.Working.ResultLemmas.{ok-map, err-map, either-way}
+use Rattle.tb_output.proofs.ColumnPages.ShipLemmas.{ship-does, ship-fails, shipped-keeps, unshipped-same}
 use Rattle.tb_output.proofs.Machine.put_by.Goals as goal
 
 -- a page of one column

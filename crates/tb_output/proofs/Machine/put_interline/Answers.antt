@@ -5,11 +5,11 @@ use Rattle.tb_node.specs.Fit.{IsPenalty}
 use Rattle.tb_output.specs.Machine.{MachineView}
 use Rattle.tb_output.specs.Text.{puts_interline}
 use Rattle.tb_output.specs.PutBack.{interline_list}
-use Rattle.tb_output.proofs.PushLemmas.{grown-of}
-use Rattle.tb_output.proofs.ResultLemmas.{memory-err}
-use Rattle.tb_output.proofs.StepLemmas.{no-room}
-use Rattle.tb_output.proofs.TextSteps.{interline-done}
-use Rattle.tb_output.proofs.WorkSteps.{continues-puts_interline}
+use Rattle.tb_output.proofs.InText.PushLemmas.{grown-of}
+use Rattle.tb_output.proofs.Working.ResultLemmas.{memory-err}
+use Rattle.tb_output.proofs.Working.StepLemmas.{no-room}
+use Rattle.tb_output.proofs.InText.TextSteps.{interline-done}
+use Rattle.tb_output.proofs.StepLaws.WorkSteps.{continues-puts_interline}
 use Rattle.tb_output.proofs.Machine.put_interline.Goals as goal
 
 pub returns-in_err-push_interline-clause-err : goal.returns-in_err-push_interline-clause-err

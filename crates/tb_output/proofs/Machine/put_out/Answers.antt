@@ -3,8 +3,8 @@ use Rattle.tb_column.specs.Shown.{column_shown}
 use Rattle.tb_output.specs.Ship.{put_out}
 use Rattle.tb_output.specs.Working.{shows, Does}
 use Rattle.tb_output.specs.Keeping.{KeepsMachine}
-use Rattle.tb_output.proofs.ResultLemmas.{same-err}
-use Rattle.tb_output.proofs.PuttingOut.{put_out-does, put_out-fails, done-keeps}
+use Rattle.tb_output.proofs.Working.ResultLemmas.{same-err}
+use Rattle.tb_output.proofs.ColumnPages.PuttingOut.{put_out-does, put_out-fails, done-keeps}
 use Rattle.tb_output.proofs.Machine.put_out.Goals as goal
 
 pub returns-in_err-put_by-clause-err : goal.returns-in_err-put_by-clause-err

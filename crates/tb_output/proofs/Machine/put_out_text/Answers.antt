@@ -1,16 +1,17 @@
 use Rattle.std.proofs.Common.{sym, subst, ◌∷◌, []}
 use Rattle.tb_pool.specs.Frame.{IsNoneOf}
+use Rattle.tb_node.specs.Plain.{plain_list}
 use Rattle.tb_column.specs.Notes.{note_lists}
-use Rattle.tb_column.specs.Shown.{nodes_shown, column_shown}
+use Rattle.tb_column.specs.Shown.{column_shown}
 use Rattle.tb_output.specs.Machine.{machine_lists}
 use Rattle.tb_output.specs.Columns.{put_out_text}
 use Rattle.tb_output.specs.Ship.{put_out}
 use Rattle.tb_output.specs.Working.{shows, IsCutShort, Does}
 use Rattle.tb_output.specs.Keeping.{KeepsMachine}
-use Rattle.tb_output.proofs.ResultLemmas.{memory-err, ok-map, err-map}
-use Rattle.tb_output.proofs.TakingText.{text-out, text-fails}
-use Rattle.tb_output.proofs.KeepLemmas.{keeps-then}
-use Rattle.tb_output.proofs.WorkSteps.{continues-put_out_text}
+use Rattle.tb_output.proofs.Working.ResultLemmas.{memory-err, ok-map, err-map}
+use Rattle.tb_output.proofs.ColumnPages.TakingText.{text-out, text-fails}
+use Rattle.tb_output.proofs.Working.KeepLemmas.{keeps-then}
+use Rattle.tb_output.proofs.StepLaws.WorkSteps.{continues-put_out_text}
 use Rattle.tb_output.proofs.Machine.put_out_text.Goals as goal
 
 pub put_out-requires-clause-apart : goal.put_out-requires-clause-apart
@@ -19,7 +20,7 @@ put_out-requires-clause-apart c = subst (λ q. IsNoneOf q (machine_lists c.take_
 pub returns-in_err-column-clause-err : goal.returns-in_err-column-clause-err
 returns-in_err-column-clause-err c =
     memory-err c.from_residual.result _ c.from_residual.ensures.1
-    (text-fails c.args.self.now c.take_text.new.self c.args.store.now c.take_text.new.store c.args.notes.now (put_out_text c.args.self.now.params (nodes_shown c.args.store.now c.args.body)) c.requires.machine c.in_err-column.ensures.machine c.in_err-column.ensures.err (continues-put_out_text c.args.self.now.params (nodes_shown c.args.store.now c.args.body)))
+    (text-fails c.args.self.now c.take_text.new.self c.args.store.now c.take_text.new.store c.args.notes.now (put_out_text c.args.self.now.params (plain_list c.args.store.now c.args.body)) c.requires.machine c.in_err-column.ensures.machine c.in_err-column.ensures.err (continues-put_out_text c.args.self.now.params (plain_list c.args.store.now c.args.body)))
 
 pub returns-in_err-column-clause-keeps : goal.returns-in_err-column-clause-keeps
 returns-in_err-column-clause-keeps c = c.take_text.ensures.keeps

@@ -1,7 +1,7 @@
 use Rattle.std.proofs.Common.{ap, sym, ◌∙◌, true, false, FitsSigned, w64, rules}
 use Rattle.std.proofs.lemmas.Int.{to_z-of_z}
 use Rattle.tb_output.specs.Machine.{MachineView}
-use Rattle.tb_output.proofs.FireLemmas.{refusal-is}
+use Rattle.tb_output.proofs.Firings.FireLemmas.{refusal-is}
 use Rattle.tb_output.proofs.Machine.refusal.Goals as goal
 
 pub returns-then-not-is_below : goal.returns-then-not-is_below

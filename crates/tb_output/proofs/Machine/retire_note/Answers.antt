@@ -4,7 +4,7 @@ use Rattle.tb_output.specs.Machine.{MachineView}
 use Rattle.tb_output.specs.Queue.{HasRoomFor}
 use Rattle.tb_output.specs.Keeping.{HasFloats}
 use Rattle.tb_output.specs.Turns.{without_note}
-use Rattle.tb_output.proofs.TextSteps.{retired-is, retired-has}
+use Rattle.tb_output.proofs.InText.TextSteps.{retired-is, retired-has}
 use Rattle.tb_output.proofs.Machine.retire_note.Goals as goal
 
 pub invariant_of-self : goal.invariant_of-self

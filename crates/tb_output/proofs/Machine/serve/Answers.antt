@@ -1,10 +1,10 @@
 use Rattle.std.proofs.Common.{◌∙◌, FitsSigned, w64, rules}
 use Rattle.std.proofs.lemmas.Int.{to_z-of_z}
 use Rattle.tb_output.specs.Firing.{fired_in}
-use Rattle.tb_output.proofs.ApartLemmas.{not-live}
-use Rattle.tb_output.proofs.FiringLemmas.{opened-machine, opened-sound, opened-fire, opened-back, opened-empty, opened-free, serving-all, serving-then}
-use Rattle.tb_output.proofs.ServeLemmas.{unserved-cut, unserved-keeps, routine-cut, goal-cut, goal-all, all-contents, all-back}
-use Rattle.tb_output.proofs.ResultLemmas.{same-err, memory-err}
+use Rattle.tb_output.proofs.Working.ApartLemmas.{not-live}
+use Rattle.tb_output.proofs.Firings.FiringLemmas.{opened-machine, opened-sound, opened-fire, opened-back, opened-empty, opened-free, serving-all, serving-then}
+use Rattle.tb_output.proofs.Firings.ServeLemmas.{unserved-cut, unserved-keeps, routine-cut, goal-cut, goal-all, all-contents, all-back}
+use Rattle.tb_output.proofs.Working.ResultLemmas.{same-err, memory-err}
 use Rattle.tb_output.proofs.Machine.serve.Goals as goal
 
 pub returns-in_err-back-clause-err : goal.returns-in_err-back-clause-err

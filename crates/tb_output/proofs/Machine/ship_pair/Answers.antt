@@ -8,15 +8,15 @@ use Rattle.tb_output.specs.Ship.{ship_pair}
 use Rattle.tb_output.specs.Working.{shows, IsCutShort, Does}
 use Rattle.tb_output.specs.Keeping.{KeepsMachine}
 use Rattle.tb_output.specs.Shipping.{HasShipped, without_doubles, doubled_lists}
-use Rattle.tb_output.proofs.ResultLemmas.{memory-err, same-err}
-use Rattle.tb_output.proofs.WorkSteps.{continues-ship_pair}
-use Rattle.tb_output.proofs.WorkingLemmas.{no-memory}
-use Rattle.tb_output.proofs.StandLemmas.{lists-shown}
-use Rattle.tb_output.proofs.KeepLemmas.{keeps-same, keeps-then}
-use Rattle.tb_output.proofs.FloatMoves.{fill_double-does, floats-keep}
-use Rattle.tb_output.proofs.PairLemmas.{pair_shipped, failed-of, pair-does, pair-fails, pair-kept, pair-keeps}
-use Rattle.tb_output.proofs.ShipLemmas.{unshipped-same}
-use Rattle.tb_output.proofs.StepsInTurn.{pair-all, pair-cut}
+use Rattle.tb_output.proofs.Working.ResultLemmas.{memory-err, same-err}
+use Rattle.tb_output.proofs.StepLaws.WorkSteps.{continues-ship_pair}
+use Rattle.tb_output.proofs.Working.WorkingLemmas.{no-memory}
+use Rattle.tb_output.proofs.Working.StandLemmas.{lists-shown}
+use Rattle.tb_output.proofs.Working.KeepLemmas.{keeps-same, keeps-then}
+use Rattle.tb_output.proofs.ColumnPages.FloatMoves.{fill_double-does, floats-keep}
+use Rattle.tb_output.proofs.ColumnPages.PairLemmas.{pair_shipped, failed-of, pair-does, pair-fails, pair-kept, pair-keeps}
+use Rattle.tb_output.proofs.ColumnPages.ShipLemmas.{unshipped-same}
+use Rattle.tb_output.proofs.ColumnPages.StepsInTurn.{pair-all, pair-cut}
 use Rattle.tb_output.proofs.Machine.ship_pair.Goals as goal
 
 pub left-left-requires : goal.left-left-requires

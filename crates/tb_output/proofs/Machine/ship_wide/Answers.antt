@@ -9,11 +9,11 @@ use Rattle.tb_output.specs.Ship.{wide_wanted}
 use Rattle.tb_output.specs.Machine.{MachineView, AreOutputParams}
 use Rattle.tb_output.specs.Keeping.{KeepsMachine}
 use Rattle.tb_output.specs.Turns.{wide_done}
-use Rattle.tb_output.proofs.CompanyHeads.{some-chosen}
-use Rattle.tb_output.proofs.CompanyLemmas.{continues-wide_done}
-use Rattle.tb_output.proofs.FloatPages.{source-is, wide-taken, page-shipped, page-not, page-keeps, page-kept, wide-keeps, wide-cut, page-machine}
-use Rattle.tb_output.proofs.KeepLemmas.{keeps-same}
-use Rattle.tb_output.proofs.ResultLemmas.{memory-err, same-err}
+use Rattle.tb_output.proofs.DeadCycles.CompanyHeads.{some-chosen}
+use Rattle.tb_output.proofs.Clears.CompanyLemmas.{continues-wide_done}
+use Rattle.tb_output.proofs.ColumnPages.FloatPages.{source-is, wide-taken, page-shipped, page-not, page-keeps, page-kept, wide-keeps, wide-cut, page-machine}
+use Rattle.tb_output.proofs.Working.KeepLemmas.{keeps-same}
+use Rattle.tb_output.proofs.Working.ResultLemmas.{memory-err, same-err}
 use Rattle.tb_output.proofs.Machine.ship_wide.Goals as goal
 
 -- no floats make a page

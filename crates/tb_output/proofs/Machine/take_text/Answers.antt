@@ -1,14 +1,15 @@
 use Rattle.std.proofs.Common.{◌≡◌, refl, sym, subst, ◌∙◌, ◌∷◌}
+use Rattle.tb_node.specs.Plain.{plain_list}
 use Rattle.tb_column.specs.Column.{text_column}
-use Rattle.tb_column.specs.Shown.{nodes_shown, column_shown}
+use Rattle.tb_column.specs.Shown.{column_shown}
 use Rattle.tb_column.specs.Notes.{note_lists, notes_shown}
 use Rattle.tb_column.specs.Changes.{without_text_floats}
 use Rattle.tb_output.specs.Machine.{MachineView, AreOutputParams}
 use Rattle.tb_output.specs.Keeping.{KeepsMachine}
 use Rattle.tb_output.specs.contracts.Machine.{the_view}
-use Rattle.tb_output.proofs.FloatMoves.{pool-moved}
-use Rattle.tb_output.proofs.KeepLemmas.{keeps-same}
-use Rattle.tb_output.proofs.TakingText.{text-does, text-keeps, text-shows}
+use Rattle.tb_output.proofs.ColumnPages.FloatMoves.{pool-moved}
+use Rattle.tb_output.proofs.Working.KeepLemmas.{keeps-same}
+use Rattle.tb_output.proofs.ColumnPages.TakingText.{text-does, text-keeps, text-shows}
 use Rattle.tb_output.proofs.Machine.take_text.Goals as goal
 
 pub returns-clause-ok : goal.returns-clause-ok
@@ -29,7 +30,7 @@ make_column-requires-clause-params c =
 pub returns-clause-shown : goal.returns-clause-shown
 returns-clause-shown c =
     let s = c.make_column.new.store in
-    let made = subst (λ (m : MachineView). column_shown s c.in_ok-column.column ≡ text_column m.params m.pool.lists (nodes_shown c.args.store.now c.args.body) (notes_shown c.args.store.now c.args.notes.now)) c.self.view_is c.in_ok-column.ensures.column in
+    let made = subst (λ (m : MachineView). column_shown s c.in_ok-column.column ≡ text_column m.params m.pool.lists (plain_list c.args.store.now c.args.body) (notes_shown c.args.store.now c.args.notes.now)) c.self.view_is c.in_ok-column.ensures.column in
     text-shows c.args.self.now _ c.args.store.now s c.close_notes.new.store c.args.body c.args.notes.now c.requires.machine c.requires.lists c.in_ok-column.ensures.lists c.close_notes.ensures
     (pool-moved without_text_floats (the_view c.self.inside) c.args.self.now c.make_column.new.pool c.keep_room.new.self.sent c.self.view_is c.in_ok-column.ensures.pool c.keep_room.ensures.sent)
     c.in_ok-column.column c.in_ok-column.ensures.list c.in_ok-column.ensures.page ∙ made

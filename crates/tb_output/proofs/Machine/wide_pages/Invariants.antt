@@ -1,6 +1,6 @@
 use Rattle.std.proofs.Common.{◌-◌, length}
 use Rattle.tb_float.specs.Lists.{wide_waiting}
-use Rattle.tb_output.proofs.FloatTurns.{PagesLeft}
+use Rattle.tb_output.proofs.ColumnPages.FloatTurns.{PagesLeft}
 use Rattle.tb_output.proofs.Machine.wide_pages.Given as goal
 
 abbrev pub invariant-loop-turn : goal.invariant-loop-turn

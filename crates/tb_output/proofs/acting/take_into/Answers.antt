@@ -1,6 +1,6 @@
 use Rattle.std.proofs.Common.{sym, ◌∙◌, ap, ◌-◌, [], ◌∷◌}
 use Rattle.tb_float.specs.declared.Entry.TheVariants as entries
-use Rattle.tb_output.proofs.TakingLemmas.{current-unmarked, taken-current, float-there, taken-second}
+use Rattle.tb_output.proofs.Acts.TakingLemmas.{current-unmarked, taken-current, float-there, taken-second}
 use Rattle.tb_output.proofs.acting.take_into.Goals as goal
 
 pub returns-then-not-waits-clause-taken : goal.returns-then-not-waits-clause-taken

@@ -1,5 +1,5 @@
 use Rattle.std.proofs.Common.{◌<◌, length, arith}
-use Rattle.tb_output.proofs.ClosingNotes.{closed-begin, closed-live, closed-empty, closed-next}
+use Rattle.tb_output.proofs.Firings.ClosingNotes.{closed-begin, closed-live, closed-empty, closed-next}
 use Rattle.tb_output.proofs.columns.close_notes.Goals as goal
 
 pub loop-note-init : goal.loop-note-init

@@ -1,4 +1,4 @@
-use Rattle.tb_output.proofs.ClosingNotes.{ClosedSoFar}
+use Rattle.tb_output.proofs.Firings.ClosingNotes.{ClosedSoFar}
 use Rattle.tb_output.proofs.columns.close_notes.Given as goal
 
 abbrev pub invariant-loop-note : goal.invariant-loop-note

@@ -1,7 +1,7 @@
 use Rattle.std.proofs.Common.{◌∙◌, ap}
 use Rattle.std.specs.FinMap.{remove}
 use Rattle.tb_pool.proofs.CallerLemmas.{live_same, list_same}
-use Rattle.tb_output.proofs.PushLemmas.{remove-inserted}
+use Rattle.tb_output.proofs.InText.PushLemmas.{remove-inserted}
 use Rattle.tb_output.proofs.lists.drop_list.Goals as goal
 
 pub close-requires-clause-live : goal.close-requires-clause-live

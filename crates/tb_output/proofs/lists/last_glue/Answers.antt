@@ -3,7 +3,7 @@ use Rattle.std.specs.List.{slice_get}
 use Rattle.tb_pool.specs.Lists.{list_at}
 use Rattle.tb_node.specs.declared.Node.{Node}
 use Rattle.tb_output.specs.PutBack.{glue_of_kind}
-use Rattle.tb_output.proofs.PushLemmas.{last-glue_is, last-there}
+use Rattle.tb_output.proofs.InText.PushLemmas.{last-glue_is, last-there}
 use Rattle.tb_output.proofs.lists.last_glue.Goals as goal
 
 pub returns-in-Some : goal.returns-in-Some

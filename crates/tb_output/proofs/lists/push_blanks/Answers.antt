@@ -1,5 +1,5 @@
 use Rattle.tb_column.proofs.StoreLemmas.{with_list-added}
-use Rattle.tb_output.proofs.PushLemmas.{pushed-first}
+use Rattle.tb_output.proofs.InText.PushLemmas.{pushed-first}
 use Rattle.tb_output.proofs.lists.push_blanks.Goals as goal
 
 pub returns-then-both-clause-ok : goal.returns-then-both-clause-ok

@@ -1,4 +1,4 @@
-use Rattle.tb_output.proofs.PushLemmas.{pushed-first}
+use Rattle.tb_output.proofs.InText.PushLemmas.{pushed-first}
 use Rattle.tb_output.proofs.lists.push_clear.Goals as goal
 
 pub returns-clause-ok : goal.returns-clause-ok

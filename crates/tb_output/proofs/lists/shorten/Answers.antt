@@ -1,5 +1,5 @@
 use Rattle.std.proofs.Common.{arith}
-use Rattle.tb_output.proofs.ShortenLemmas.{not-shortened, one-off, short-enough}
+use Rattle.tb_output.proofs.InText.ShortenLemmas.{not-shortened, one-off, short-enough}
 use Rattle.tb_output.proofs.lists.shorten.Goals as goal
 
 pub last-init : goal.last-init

@@ -1,6 +1,6 @@
 use Rattle.std.proofs.Common.{length}
 use Rattle.tb_pool.specs.Lists.{list_at}
-use Rattle.tb_output.proofs.ShortenLemmas.{Shortened}
+use Rattle.tb_output.proofs.InText.ShortenLemmas.{Shortened}
 use Rattle.tb_output.proofs.lists.shorten.Given as goal
 
 abbrev pub invariant-last : goal.invariant-last

@@ -8,7 +8,7 @@ use Rattle.tb_node.specs.declared.Kind.{Kind}
 use Rattle.tb_column.specs.FloatList.{made_node}
 use Rattle.tb_column.proofs.StoreLemmas.{with_list-added}
 use Rattle.tb_output.specs.PutBack.{note_list}
-use Rattle.tb_output.proofs.PushLemmas.{pushed-first, grown-of}
+use Rattle.tb_output.proofs.InText.PushLemmas.{pushed-first, grown-of}
 use Rattle.tb_output.proofs.margins.push_note.Goals as goal
 
 pub returns-clause-ok : goal.returns-clause-ok

@@ -2,7 +2,7 @@ use Rattle.std.proofs.Common.{◌≡◌, ◌+◌, ◌<◌, ◌≤◌, ◌∙◌,
 use Rattle.std.specs.Prelude.{option_to_list}
 use Rattle.tb_scaled.specs.declared.Order.TheVariants as orders
 use Rattle.tb_insert.specs.declared.Class.{Class}
-use Rattle.tb_output.proofs.ClassesTaken.{TakenSoFar, none-so-far, so-far-awaits, so-far-known, so-far-next, all-taken}
+use Rattle.tb_output.proofs.Firings.ClassesTaken.{TakenSoFar, none-so-far, so-far-awaits, so-far-known, so-far-next, all-taken}
 use Rattle.tb_output.proofs.notes.take_notes.Goals as goal
 use Rattle.tb_output.proofs.notes.take_notes.Goals.{in-Some+in_ok-push, in_default}
 

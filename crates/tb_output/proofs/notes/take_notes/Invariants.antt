@@ -1,4 +1,4 @@
-use Rattle.tb_output.proofs.ClassesTaken.{TakenSoFar}
+use Rattle.tb_output.proofs.Firings.ClassesTaken.{TakenSoFar}
 use Rattle.tb_output.proofs.notes.take_notes.Given as goal
 
 abbrev pub invariant-loop-class : goal.invariant-loop-class

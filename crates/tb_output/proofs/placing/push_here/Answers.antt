@@ -6,7 +6,7 @@ use Rattle.tb_node.specs.declared.Kind.TheVariants as kinds
 use Rattle.tb_column.specs.FloatList.{made_node}
 use Rattle.tb_column.proofs.StoreLemmas.{with_list-added}
 use Rattle.tb_output.specs.PutBack.{here_list}
-use Rattle.tb_output.proofs.PushLemmas.{pushed-first, dimension-small, grown-of}
+use Rattle.tb_output.proofs.InText.PushLemmas.{pushed-first, dimension-small, grown-of}
 use Rattle.tb_output.proofs.placing.push_here.Goals as goal
 
 pub negate-requires-clause-width : goal.negate-requires-clause-width

@@ -1,6 +1,6 @@
 use Rattle.std.proofs.Common.{◌∙◌, FitsSigned, w64, rules}
 use Rattle.std.proofs.lemmas.Int.{to_z-of_z, ints}
-use Rattle.tb_output.proofs.StartLemmas.{new-state, new-stands}
+use Rattle.tb_output.proofs.Acts.StartLemmas.{new-state, new-stands}
 use Rattle.tb_output.proofs.state.new_machine.Goals as goal
 
 pub returns-clause-state : goal.returns-clause-state

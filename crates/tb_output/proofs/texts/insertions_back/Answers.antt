@@ -9,9 +9,9 @@ use Rattle.tb_column.specs.Notes.{IsNote}
 use Rattle.tb_column.specs.FloatList.{made_node}
 use Rattle.tb_output.specs.PutBack.{insertion_of, insertions_again}
 use Rattle.tb_output.specs.Keeping.{HasGrown}
-use Rattle.tb_output.proofs.StandLemmas.{list-stands}
-use Rattle.tb_output.proofs.SizeLemmas.{within-amount, amount-cast}
-use Rattle.tb_output.proofs.BackLemmas.{notes-apart, again-begun, again-stands, again-more}
+use Rattle.tb_output.proofs.Working.StandLemmas.{list-stands}
+use Rattle.tb_output.proofs.ColumnPages.SizeLemmas.{within-amount, amount-cast}
+use Rattle.tb_output.proofs.InText.BackLemmas.{notes-apart, again-begun, again-stands, again-more}
 use Rattle.tb_output.proofs.texts.insertions_back.Goals as goal
 
 pub list_height-height-requires : goal.list_height-height-requires

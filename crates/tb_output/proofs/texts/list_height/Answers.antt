@@ -3,7 +3,7 @@ use Rattle.std.proofs.lemmas.Int.{ints}
 use Rattle.tb_pool.specs.Lists.{list_at}
 use Rattle.tb_node.proofs.FitLemmas.{list_nodes_fit, list_sums_fit}
 use Rattle.tb_float.specs.Ranges.{IsWithin}
-use Rattle.tb_output.proofs.SizeLemmas.{are-sums, list-size, amount-cast, amount-passed, extent-amount}
+use Rattle.tb_output.proofs.ColumnPages.SizeLemmas.{are-sums, list-size, amount-cast, amount-passed, extent-amount}
 use Rattle.tb_output.proofs.texts.list_height.Goals as goal
 
 pub list_sums-sums-requires-clause-nodes : goal.list_sums-sums-requires-clause-nodes

@@ -5,7 +5,7 @@ use Rattle.tb_pool.specs.Lists.{list_at}
 use Rattle.tb_column.specs.declared.NoteBox.{NoteBox}
 use Rattle.tb_column.specs.Notes.{IsNote}
 use Rattle.tb_column.proofs.NoteLemmas.{rising-at}
-use Rattle.tb_output.proofs.SizeLemmas.{IsHeightSoFar, height-begun, class-height, height-next, height-all, within-amount, amount-passed}
+use Rattle.tb_output.proofs.ColumnPages.SizeLemmas.{IsHeightSoFar, height-begun, class-height, height-next, height-all, within-amount, amount-passed}
 use Rattle.tb_output.proofs.texts.notes_height.Goals as goal
 
 pub loop-note-init : goal.loop-note-init

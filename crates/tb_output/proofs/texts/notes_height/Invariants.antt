@@ -1,5 +1,5 @@
 use Rattle.std.proofs.Common.{drop}
-use Rattle.tb_output.proofs.SizeLemmas.{IsHeightSoFar}
+use Rattle.tb_output.proofs.ColumnPages.SizeLemmas.{IsHeightSoFar}
 use Rattle.tb_output.proofs.texts.notes_height.Given as goal
 
 abbrev pub invariant-loop-note : goal.invariant-loop-note

@@ -1,7 +1,6 @@
 use Rattle.std.proofs.Common.{◌≡◌, map}
 use Rattle.tb_pool.specs.Lists.{list_at}
-use Rattle.tb_node.specs.Plain.{plain_of}
-use Rattle.tb_column.specs.Shown.{nodes_shown}
+use Rattle.tb_node.specs.Plain.{plain_of, plain_list}
 use Rattle.tb_report.specs.Totals.{with_nodes}
 use Rattle.tb_report.proofs.Totals.count_list.Given as goal
 
@@ -9,5 +8,5 @@ abbrev pub invariant-loop-node : goal.invariant-loop-node
 invariant-loop-node l = record {
   can_next : (goal.iterator-loop-node).can_next l.node-iterator;
   is_finite : (goal.iterator-loop-node).is_finite l.node-iterator;
-  whole : with_nodes (map (plain_of (list_at l.fn.store)) l.node-iterator) l.self ≡ with_nodes (nodes_shown l.fn.store l.fn.list) l.fn.self;
+  whole : with_nodes (map (plain_of (list_at l.fn.store)) l.node-iterator) l.self ≡ with_nodes (plain_list l.fn.store l.fn.list) l.fn.self;
 }

@@ -1,7 +1,8 @@
 use Rattle.std.proofs.Common.{◌++◌, ◌∷◌, [], FitsSigned, w64}
 use Rattle.std.specs.Int.{w128}
 use Rattle.std.proofs.lemmas.Int.{to_z-of_z}
-use Rattle.tb_report.specs.Lines.{and_number, and_text, side_text, line}
+use Rattle.tb_report.specs.Lines.{side_text}
+use Rattle.tb_text.specs.Fields.{and_number, and_text, line}
 use Rattle.tb_report.proofs.Joined.{on_joined, line-three}
 use Rattle.tb_report.proofs.items.put_noted.Goals as goal
 

@@ -1,5 +1,5 @@
 use Rattle.std.proofs.Common.{◌∙◌}
-use Rattle.tb_output.proofs.SceneLemmas.{if-none}
+use Rattle.tb_output.proofs.Firings.SceneLemmas.{if-none}
 use Rattle.tb_output.proofs.tests.scene.fire_over.Goals as goal
 
 pub fire-fired-requires-clause-page : goal.fire-fired-requires-clause-page

@@ -6,7 +6,7 @@ use Rattle.tb_builder.specs.Contents.{contents_of, nothing_yet}
 use Rattle.tb_builder.specs.Owned.{ClassesFit}
 use Rattle.tb_column.specs.Page.{IsPageList}
 use Rattle.tb_output.specs.Scenes.{scene_classes, IsReady}
-use Rattle.tb_output.proofs.SceneLemmas.{classes-fit, scene-stays, may-fire}
+use Rattle.tb_output.proofs.Firings.SceneLemmas.{classes-fit, scene-stays, may-fire}
 use Rattle.tb_output.proofs.tests.scene.fire_text.Goals as goal
 
 pub new_builder-requires : goal.new_builder-requires

@@ -1,6 +1,6 @@
 use Rattle.std.proofs.Common.{refl, FitsSigned, w64}
 use Rattle.std.proofs.lemmas.Int.{to_z-of_z}
-use Rattle.tb_output.proofs.SceneLemmas.{not-below, few-held}
+use Rattle.tb_output.proofs.Firings.SceneLemmas.{not-below, few-held}
 use Rattle.tb_output.proofs.tests.scene.is_ready.Goals as goal
 
 pub returns : goal.returns

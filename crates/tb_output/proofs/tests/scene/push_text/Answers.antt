@@ -1,5 +1,5 @@
 use Rattle.tb_pool.proofs.CallerLemmas.{length-pushed, get_other}
-use Rattle.tb_output.proofs.SceneLemmas.{page-more}
+use Rattle.tb_output.proofs.Firings.SceneLemmas.{page-more}
 use Rattle.tb_output.proofs.tests.scene.push_text.Goals as goal
 
 pub returns-clause-page : goal.returns-clause-page

@@ -1,5 +1,5 @@
 use Rattle.std.proofs.Common.{arith}
-use Rattle.tb_output.proofs.SceneLemmas.{opened-empty}
+use Rattle.tb_output.proofs.Firings.SceneLemmas.{opened-empty}
 use Rattle.tb_output.proofs.tests.scene.text_list.Goals as goal
 
 pub loop-height-init : goal.loop-height-init

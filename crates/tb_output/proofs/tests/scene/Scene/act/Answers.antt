@@ -1,7 +1,7 @@
 use Rattle.std.proofs.Common.{[], sym, subst, ◌∙◌}
 use Rattle.tb_output.specs.Machine.{MachineView}
 use Rattle.tb_output.specs.Scenes.{IsScene}
-use Rattle.tb_output.proofs.SceneLemmas.{acted-classes}
+use Rattle.tb_output.proofs.Firings.SceneLemmas.{acted-classes}
 use Rattle.tb_output.proofs.tests.scene.Scene.act.Goals as goal
 
 pub invariant_of-self : goal.invariant_of-self

@@ -1,7 +1,7 @@
 use Rattle.std.proofs.Common.{sym, subst}
 use Rattle.tb_output.specs.Machine.{MachineView}
 use Rattle.tb_output.specs.Scenes.{IsScene}
-use Rattle.tb_output.proofs.SceneLemmas.{without-event}
+use Rattle.tb_output.proofs.Firings.SceneLemmas.{without-event}
 use Rattle.tb_output.proofs.tests.scene.Scene.next_event.Goals as goal
 use Rattle.tb_output.proofs.tests.scene.Scene.next_event.Goals.{in-Some, in-None}
 

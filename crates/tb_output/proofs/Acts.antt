@@ -1,0 +1,5 @@
+-- Acts, in reading order.
+pub mod StartLemmas
+pub mod TakingLemmas
+pub mod ActingLemmas
+pub mod WarnLemmas

@@ -1,0 +1,90 @@
+-- A machine after a float was taken.
+use Rattle.std.proofs.Common.{◌≡◌, refl, sym, subst, ap, ◌∙◌, Bool, List, [], ◌∷◌, ◌++◌, Result}
+use Rattle.std.specs.Prelude.{OnOk, IfErr}
+use Rattle.std.specs.List.{AllByRecursion}
+use Rattle.tb_pool.specs.Lists.{Lists}
+use Rattle.tb_node.specs.declared.Float.{Float}
+use Rattle.tb_node.specs.declared.Node.{Node}
+use Rattle.tb_param.specs.declared.Params.{Params}
+use Rattle.tb_float.specs.declared.Full.{Full}
+use Rattle.tb_float.specs.Pool.{FloatPool, HasNoMarks}
+use Rattle.tb_column.specs.declared.Sent.{Sent}
+use Rattle.tb_column.specs.declared.Warn.{Warn}
+use Rattle.tb_output.specs.Act.{large_warning}
+use Rattle.tb_output.specs.Machine.{MachineView, sent_lists, event_lists, left_lists, machine_lists, IsPageSent, IsMachine}
+use Rattle.tb_pool.specs.Frame.{IsNoneOf}
+use Rattle.tb_column.specs.Notes.{AreDistinct}
+use Rattle.tb_output.specs.Acting.{warnings_sent, TakesNoList, clipped, taken_into, with_float, with_columns, HasTaken, HasNoRoom}
+use Rattle.tb_output.specs.Keeping.{AreNoneOf}
+use Rattle.tb_pool.proofs.FrameLemmas.{none-front}
+use Rattle.tb_output.proofs.Working.StandLemmas.{all-join}
+use Rattle.tb_output.proofs.Working.ApartLemmas.{apart-cons, distinct-apart}
+use Rattle.tb_output.proofs.Working.ResultLemmas.{either-way}
+
+-- ---- warnings have no lists
+
+no-lists : (ws : List Warn) → event_lists (warnings_sent ws) ≡ []
+no-lists [] = refl
+no-lists (w ∷ ws) = no-lists ws
+
+lists-warned : (es : List Sent) (ws : List Warn) → event_lists es ≡ event_lists (es ++ warnings_sent ws)
+lists-warned [] ws = sym (no-lists ws)
+lists-warned (e ∷ es) ws = ap (λ ls. sent_lists e ++ ls) (lists-warned es ws)
+
+page-warnings : (store : Lists Node) (ws : List Warn) → AllByRecursion (IsPageSent store) (warnings_sent ws)
+page-warnings store [] = tt
+page-warnings store (w ∷ ws) = (tt, page-warnings store ws)
+
+-- ---- a float was taken
+
+pub float-taken : (m : MachineView) (f taken : Float) (v : FloatPool) (es : List Sent) → taken ≡ clipped m.params.textheight m.two_columns f → v ≡ taken_into m.params taken m.pool → es ≡ m.events ++ warnings_sent (large_warning m.params f) → record m { pool = v; events = es } ≡ with_float f m
+float-taken m f taken v es t p e = λ i. record m { pool = (p ∙ ap (λ x. taken_into m.params x m.pool) t) i; events = e i }
+
+pub float-unmarked : (p : Params) (two : Bool) (f taken : Float) (pool v : FloatPool) → taken ≡ clipped p.textheight two f → v ≡ taken_into p taken pool → (HasNoMarks pool → HasNoMarks v) → HasNoMarks pool → HasNoMarks (taken_into p (clipped p.textheight two f) pool)
+float-unmarked p two f taken pool v t e free h = subst HasNoMarks (e ∙ ap (λ x. taken_into p x pool) t) (free h)
+
+module _ (m now : MachineView) (f : Float) where
+  float-lists : machine_lists m ≡ machine_lists (with_float f m)
+  float-lists = ap (λ ls. m.held_page ∷ left_lists m.left_column ++ ls) (lists-warned m.events (large_warning m.params f))
+
+  machine-float : (store : Lists Node) → (HasNoMarks m.pool → HasNoMarks (with_float f m).pool) → IsMachine m store → IsMachine (with_float f m) store
+  machine-float store free is = record {
+    params = is.params;
+    classes = is.classes;
+    goal = is.goal;
+    first = is.first;
+    last = is.last;
+    pool = is.pool;
+    unmarked = free is.unmarked;
+    left = is.left;
+    held_page = is.held_page;
+    left_column = is.left_column;
+    events = all-join (IsPageSent store) m.events (warnings_sent (large_warning m.params f)) is.events (page-warnings store (large_warning m.params f));
+    apart = subst AreDistinct float-lists is.apart;
+  }
+
+  module _ {T : Type 0} (r : Result T Full) (ok : OnOk r (HasTaken 1 m (with_float f m) now)) (err : IfErr r (λ e. HasNoRoom 1 e.live m now)) where
+    -- what stands between two calls stands whether there was room or not
+    pub float-stands : (store : Lists Node) → IsMachine m store → IsMachine now store
+    float-stands store is =
+        either-way r (λ x. HasTaken 1 m (with_float f m) now) (λ e. HasNoRoom 1 e.live m now) (IsMachine now store)
+        (λ x h. subst (λ v. IsMachine v store) (sym h.machine) (machine-float store h.unmarked is))
+        (λ e h. subst (λ v. IsMachine v store) (sym h.machine) is)
+        ok err
+
+    -- no list becomes the machine's
+    pub float-takes : TakesNoList m now
+    float-takes q apart =
+        either-way r (λ x. HasTaken 1 m (with_float f m) now) (λ e. HasNoRoom 1 e.live m now) (IsNoneOf q (machine_lists now))
+        (λ x h. subst (λ v. IsNoneOf q (machine_lists v)) (sym h.machine) (subst (IsNoneOf q) float-lists apart))
+        (λ e h. subst (λ v. IsNoneOf q (machine_lists v)) (sym h.machine) apart)
+        ok err
+
+-- ---- the columns change
+
+-- the list of the column that is dropped is the machine's no longer
+pub columns-drop : (two : Bool) (m now : MachineView) → now ≡ with_columns two m → (store : Lists Node) → IsMachine m store → AreNoneOf (left_lists m.left_column) (machine_lists now)
+columns-drop two m now e store is =
+    subst (λ v. AreNoneOf (left_lists m.left_column) (machine_lists v)) (sym e)
+    (apart-cons (left_lists m.left_column) m.held_page (event_lists m.events) (none-front m.held_page (left_lists m.left_column) (event_lists m.events) is.apart.0)
+    (distinct-apart (left_lists m.left_column) (event_lists m.events) is.apart.1))

@@ -1,0 +1,217 @@
+-- A clear of a page with insertions: the page is filled with glue and put out, and a further clear goes back.
+use Rattle.std.proofs.Common.{◌≡◌, refl, sym, subst, ◌∙◌, ap, ℕ, ◌+◌, ◌==◌, true, false, List, [], ◌∷◌, ◌++◌, map, length, length-append, Option, IsSome, arith}
+use Rattle.std.specs.Prelude.{All}
+use Rattle.std.specs.List.{AllByRecursion}
+use Rattle.std.proofs.lemmas.Bool.{eqb-true}
+use Rattle.std.proofs.lemmas.Int.{ints}
+use Rattle.std.proofs.lemmas.List.{map-append}
+use Rattle.std.proofs.lemmas.List.Elements.{All-append, All-from_recursion}
+use Rattle.tb_scaled.specs.declared.Glue.{Glue}
+use Rattle.tb_scaled.specs.Glue.{filling_glue}
+use Rattle.tb_pool.specs.Lists.{Lists, list_at, with_list}
+use Rattle.tb_pool.specs.Frame.{IsNoneOf}
+use Rattle.tb_pool.proofs.FrameLemmas.{none-back}
+use Rattle.tb_node.specs.declared.Kind.TheVariants as kinds
+use Rattle.tb_node.specs.declared.Node.{Node}
+use Rattle.tb_node.specs.Plain.{PlainNode, plain_of, leaf_of, made, skip, plain_list}
+use Rattle.tb_node.specs.Fit.{IsSizedNode}
+use Rattle.tb_param.specs.declared.Params.{Params}
+use Rattle.tb_column.specs.declared.NoteBox.{NoteBox}
+use Rattle.tb_column.specs.Column.{text_column}
+use Rattle.tb_column.specs.FloatList.{made_node}
+use Rattle.tb_column.specs.Notes.{IsNote, AreNotes, notes_shown, note_lists, note_count}
+use Rattle.tb_column.specs.Page.{AreLeaves, IsPageList}
+use Rattle.tb_column.proofs.FloatLemmas.{leaves-append}
+use Rattle.tb_output.specs.declared.RunFault.{RunFault}
+use Rattle.tb_output.specs.declared.RunFault.TheVariants as faults
+use Rattle.tb_output.specs.State.{Work, puts, footnotes}
+use Rattle.tb_output.specs.Columns.{without_column_floats, put_out_text}
+use Rattle.tb_output.specs.Clear.{clear_again, clear_floats, clear_by, clear}
+use Rattle.tb_output.specs.PutBack.{clear_list}
+use Rattle.tb_output.specs.Turns.{clear_noted}
+use Rattle.tb_output.specs.Machine.{MachineView, machine_lists, IsMachine}
+use Rattle.tb_output.specs.Working.{shows, shows_back, shows_notes, shows_page, IsCutShort, Does}
+use Rattle.tb_output.specs.Keeping.{AreNoneOf, AreTextLists, HasGrown, IsBack, back_lists, KeepsMachine, KeepsBack}
+use Rattle.tb_output.proofs.Working.ApartLemmas.{apart-back, apart-swap}
+use Rattle.tb_output.proofs.Working.StandLemmas.{Stands, all-front, list-same, list-stands, leaves-shown, IsShownBy, stands-shown, lists-shown}
+use Rattle.tb_output.proofs.Working.KeepLemmas.{fields-same, keeps-then, keeps-more, keeps-beside, beside-shows, keeps-back_same, keeps-back_then}
+use Rattle.tb_output.proofs.InText.PushLemmas.{pushed-first, grown-of}
+use Rattle.tb_output.proofs.Working.WorkingLemmas.{Fact, does-then, shows-moved, cut-then, no-memory_given}
+use Rattle.tb_output.proofs.StepLaws.WorkSteps.{continues-then, continues-puts, continues-put_out_text}
+use Rattle.tb_output.proofs.StepLaws.ColumnSteps.{no_law, stays, put_out-step}
+use Rattle.tb_output.proofs.Working.StepLemmas.{Done, Cut, no-room}
+use Rattle.tb_output.proofs.Clears.ClearSteps.{clear-done}
+
+-- ---- the lists of insertions that stand as they were
+
+module _ (store new : Lists Node) where
+  pub notes-same : (ns : List NoteBox) → AllByRecursion (Stands store new) (note_lists ns) → notes_shown new ns ≡ notes_shown store ns
+  notes-same [] h = refl
+  notes-same (n ∷ ns) h = λ i. record { class = n.class; skip = n.skip; inner = map leaf_of (list-same store new n.list h.0 i) } ∷ notes-same ns h.1 i
+
+  pub count-same : (ns : List NoteBox) → AllByRecursion (Stands store new) (note_lists ns) → note_count new ns ≡ note_count store ns
+  count-same [] h = refl
+  count-same (n ∷ ns) h = λ i. length (list-same store new n.list h.0 i) + count-same ns h.1 i
+
+  each-stand : (ns : List NoteBox) → AllByRecursion (Stands store new) (note_lists ns) → AllByRecursion (IsNote store) ns → AllByRecursion (IsNote new) ns
+  each-stand [] h k = tt
+  each-stand (n ∷ ns) h k = (record { list = list-stands store new n.list h.0 k.0.list; skip = k.0.skip }, each-stand ns h.1 k.1)
+
+  pub notes-stand : (body : ℕ) (ns : List NoteBox) → AllByRecursion (Stands store new) (note_lists ns) → AreNotes store body ns → AreNotes new body ns
+  notes-stand body ns h k = record { rising = k.rising; apart = k.apart; each = each-stand ns h k.each }
+
+-- a page that is put out puts nothing back
+pub put_out_text-stays : (p : Params) (body : List PlainNode) (w : Work) → (put_out_text p body w).put_back ≡ w.put_back
+put_out_text-stays p body w = (stays (put_out-step p (no_law p) (text_column p w.state.floats body (footnotes w.state)) (without_column_floats w))).put_back
+
+-- ---- the page is filled
+
+-- the glue at its end
+abbrev pub filling : List Node
+filling = made_node (kinds.Skip filling_glue) ∷ []
+
+pub filled-of : (store mid middle : Lists Node) (body : ℕ) (g : Glue) → mid.lists ≡ store.lists → g ≡ filling_glue → middle.lists ≡ with_list mid body (list_at mid body ++ made_node (kinds.Skip g) ∷ []) → HasGrown body filling [] store middle
+filled-of store mid middle body g same e put =
+    grown-of store middle body filling []
+    (pushed-first store mid middle body filling same (put ∙ ap (λ (x : Glue). with_list mid body (list_at mid body ++ made_node (kinds.Skip x) ∷ [])) e))
+
+filling-sized : All IsSizedNode filling
+filling-sized = All-from_recursion IsSizedNode filling ((record { low = omega (arith, ints); high = omega (arith, ints) }, record { low = omega (arith, ints); high = omega (arith, ints) }, record { low = omega (arith, ints); high = omega (arith, ints) }), tt)
+
+module _ (l body : ℕ) (notes : List NoteBox) (m : MachineView) (store : Lists Node) (is : IsMachine m store) (back : IsBack l m store) (lists : AreTextLists 8355839 (back_lists store l ++ machine_lists m) store body notes) where
+  abbrev mine : List ℕ
+  mine = body ∷ note_lists notes
+
+  away : AreNoneOf (back_lists store l) mine
+  away = all-front (λ q. IsNoneOf q mine) (back_lists store l) (machine_lists m) (apart-swap mine (back_lists store l ++ machine_lists m) lists.apart)
+
+  -- there was no memory for the glue
+  module _ (now : MachineView) (new : Lists Node) (unchanged : now ≡ m) (same : new.lists ≡ store.lists) where
+    pub unfilled-cut : Does (shows_page l notes m store) (IsCutShort faults.Memory now new) (clear_noted m.params (plain_list store body))
+    unfilled-cut = subst (λ x. Does (shows_page l notes m store) (IsCutShort faults.Memory x new) (clear_noted m.params (plain_list store body))) (sym unchanged)
+        (no-memory_given (shows_page l notes m store) m m store new (clear_noted m.params (plain_list store body)) (λ b w h. h.0) (lists-shown m store new is same).events
+        (λ w. continues-then (continues-put_out_text m.params (plain_list store body ++ made (skip filling_glue) ∷ []) w) (continues-puts clear_again _)))
+
+    pub unfilled-keeps : KeepsBack l mine m now store new
+    unfilled-keeps = subst (λ x. KeepsBack l mine m x store new) (sym unchanged) (keeps-back_same l mine m store new is back same away)
+
+  module _ (middle : Lists Node) (grown : HasGrown body filling [] store middle) where
+    stand-but : (ls : List ℕ) → IsNoneOf body ls → AllByRecursion (Stands store middle) ls
+    stand-but [] h = tt
+    stand-but (q ∷ ls) h = (grown.others q h.0 tt, stand-but ls h.1)
+
+    own-stand : AllByRecursion (Stands store middle) (machine_lists m)
+    own-stand = stand-but (machine_lists m) (none-back body (back_lists store l) (machine_lists m) lists.apart.0)
+
+    note-stand : AllByRecursion (Stands store middle) (note_lists notes)
+    note-stand = stand-but (note_lists notes) lists.notes.apart.0
+
+    filled-shown : IsShownBy m store middle
+    filled-shown = stands-shown m store middle is own-stand
+
+    filled-list : list_at middle body ≡ list_at store body ++ filling
+    filled-list = rw grown.list refl
+
+    filled-nodes : plain_list middle body ≡ plain_list store body ++ made (skip filling_glue) ∷ []
+    filled-nodes =
+        ap (map (plain_of (list_at middle))) filled-list
+        ∙ map-append (plain_of (list_at middle)) (list_at store body) filling
+        ∙ ap (λ ns. ns ++ made (skip filling_glue) ∷ []) (leaves-shown (list_at middle) (list_at store) (list_at store body) lists.text.leaves)
+
+    filled-few : length (list_at middle body) ≡ length (list_at store body) + 1
+    filled-few = ap length filled-list ∙ length-append (list_at store body) filling
+
+    filled-page : IsPageList middle body
+    filled-page = record {
+      live = subst (λ (o : Option (List Node)). IsSome o) (sym grown.list) refl;
+      leaves = subst AreLeaves (sym filled-list) (leaves-append (list_at store body) filling lists.text.leaves (tt, tt));
+      sized = subst (All IsSizedNode) (sym filled-list) (All-append IsSizedNode (list_at store body) filling lists.text.sized filling-sized);
+      few = omega (arith, filled-few, lists.few);
+    }
+
+    -- it may be put out
+    pub filled-lists : AreTextLists 8355840 (machine_lists m) middle body notes
+    filled-lists = record {
+      text = filled-page;
+      notes = notes-stand store middle body notes note-stand lists.notes;
+      few = omega (arith, filled-few, count-same store middle notes note-stand, lists.few);
+      apart = apart-back mine (back_lists store l) (machine_lists m) lists.apart;
+    }
+
+    pub filled-machine : IsMachine m middle
+    filled-machine = filled-shown.machine
+
+    filled-keeps : KeepsMachine (body ∷ []) m m store middle
+    filled-keeps = record {
+      machine = filled-shown.machine;
+      frame = λ q live none. (grown.others q (λ e. none.0 (sym e)) tt, none.1);
+      fields = fields-same m;
+    }
+
+    -- and is put out
+    module _ (now : MachineView) (new : Lists Node) (k : KeepsMachine mine m now middle new) where
+      whole : KeepsMachine mine m now store new
+      whole = keeps-then mine mine m m now store middle new (keeps-more (body ∷ []) mine m m store middle filled-keeps (λ q none. (none.0, tt))) k (λ q live none. none)
+
+      pub out-keeps : KeepsBack l mine m now store new
+      out-keeps = keeps-beside mine m now store new l back whole away
+
+      abbrev out_step : Work → Work
+      out_step w = put_out_text m.params (plain_list store body ++ made (skip filling_glue) ∷ []) w
+
+      filled-does : (to : Fact) → Does (shows_notes notes m middle) to (put_out_text m.params (plain_list middle body)) → Does (shows_page l notes m store) to out_step
+      filled-does to does before w h = subst (λ ns. to before (put_out_text m.params ns w)) filled-nodes
+          (does before w (shows-moved m m store middle before w filled-shown.events (filled-shown.state w.state.boxes w.state.waiting) h.0, h.2 ∙ sym (notes-same store middle notes note-stand)))
+
+      pub out-cut : (e : RunFault) → Does (shows_notes notes m middle) (IsCutShort e now new) (put_out_text m.params (plain_list middle body)) → Does (shows_page l notes m store) (IsCutShort e now new) (clear_noted m.params (plain_list store body))
+      out-cut e does = cut-then (shows_page l notes m store) e now new out_step (puts clear_again) (filled-does (IsCutShort e now new) does) (λ w. continues-puts clear_again w)
+
+      module _ (does : Does (shows_notes notes m middle) (shows now new) (put_out_text m.params (plain_list middle body))) where
+        out-does : Does (shows_page l notes m store) (shows_back l now new) out_step
+        out-does before w h = (
+          filled-does (shows now new) does before w h,
+          beside-shows mine m now store new l back whole away ∙ h.1 ∙ sym (put_out_text-stays m.params (plain_list store body ++ made (skip filling_glue) ∷ []) w),
+        )
+
+        -- there was no memory for the further clear
+        module _ (last : Lists Node) (same : last.lists ≡ new.lists) where
+          unput : Cut faults.Memory l now now new last (puts clear_again)
+          unput = no-room l now now new last (puts clear_again) whole.machine out-keeps.back refl same (continues-puts clear_again)
+
+          pub unput-cut : Does (shows_page l notes m store) (IsCutShort faults.Memory now last) (clear_noted m.params (plain_list store body))
+          unput-cut = does-then (shows_page l notes m store) (shows_back l now new) (IsCutShort faults.Memory now last) out_step (puts clear_again) out-does unput.does
+
+          pub unput-keeps : KeepsBack l mine m now store last
+          unput-keeps = keeps-back_then l mine [] m now now store new last out-keeps unput.keeps (λ q live none. tt)
+
+        -- it went back
+        module _ (last : Lists Node) (more : HasGrown l clear_list [] new last) where
+          again : Done l now now new last (puts clear_again)
+          again = clear-done l now new last whole.machine out-keeps.back more
+
+          pub noted-done : Does (shows_page l notes m store) (shows_back l now last) (clear_noted m.params (plain_list store body))
+          noted-done = does-then (shows_page l notes m store) (shows_back l now new) (shows_back l now last) out_step (puts clear_again) out-does again.does
+
+          pub noted-keeps : KeepsBack l mine m now store last
+          noted-keeps = keeps-back_then l mine [] m now now store new last out-keeps again.keeps (λ q live none. tt)
+
+-- ---- with and without insertions
+
+pub no-notes : (ns : List NoteBox) → (length ns == 0) ≡ true → ns ≡ []
+no-notes [] h = refl
+no-notes (n ∷ ns) h = let e = eqb-true (length (n ∷ ns)) 0 h in absurd (omega (arith, e))
+
+pub some-notes : (ns : List NoteBox) → (length ns == 0) ≡ false → ns ≡ [] → ⊥
+some-notes [] h e = cc
+some-notes (n ∷ ns) h e = cc
+
+module _ (l body : ℕ) (m : MachineView) (store : Lists Node) (to : Fact) where
+  abbrev page_nodes : List PlainNode
+  page_nodes = plain_list store body
+
+  pub noteless-clear : (notes : List NoteBox) → notes ≡ [] → Does (shows_back l m store) to (clear_floats m.params page_nodes) → Does (shows_page l notes m store) to (clear m.params page_nodes)
+  noteless-clear notes none does before w h = subst (λ v. to before v) (ap (λ ns. clear_by m.params page_nodes w ns) (sym (h.2 ∙ ap (notes_shown store) none))) (does before w (h.0, h.1))
+
+  pub noted-clear : (notes : List NoteBox) → (notes ≡ [] → ⊥) → Does (shows_page l notes m store) to (clear_noted m.params page_nodes) → Does (shows_page l notes m store) to (clear m.params page_nodes)
+  noted-clear [] some does before w h = absurd (some refl)
+  noted-clear (n ∷ ns) some does before w h = subst (λ v. to before v) (ap (λ ms. clear_by m.params page_nodes w ms) (sym h.2)) (does before w h)

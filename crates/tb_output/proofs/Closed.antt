@@ -1,0 +1,12 @@
+-- What waits stands well, and closes, in reading order.
+pub mod Sorts
+pub mod SortLemmas
+pub mod PutLemmas
+pub mod PlaceLemmas
+pub mod Closings
+pub mod ClosingPages
+pub mod ServedLists
+pub mod ClearPages
+pub mod ClearedLists
+pub mod ClosingStates
+pub mod ClosingFirings

@@ -1,0 +1,458 @@
+-- What putting out a column leads to: a page, or the first of two columns that is kept.
+use Rattle.std.proofs.Common.{◌≡◌, refl, sym, ◌∙◌, ap, subst, ℕ, zero, suc, pos, ◌+◌, ◌≤◌, inl, inr, ◌⊎◌, Bool, true, false, List, [], ◌∷◌, ◌++◌, length, Option, Some, None, arith}
+use Rattle.std.specs.Prelude.{int_lt, not, if◌then◌else◌}
+use Rattle.tb_node.specs.declared.Float.{Float}
+use Rattle.tb_node.specs.declared.Where.{Where}
+use Rattle.tb_node.specs.declared.Where.TheVariants as places
+use Rattle.tb_node.specs.Plain.{PlainNode}
+use Rattle.tb_param.specs.declared.Params.{Params}
+use Rattle.tb_float.specs.declared.Part.{Part}
+use Rattle.tb_float.specs.declared.Part.TheVariants as parts
+use Rattle.tb_float.specs.Lists.{FloatLists, with_floats_of, wide_part, wide_waiting, with_wide_waiting}
+use Rattle.tb_float.specs.Rooms.{column_height_of}
+use Rattle.tb_float.proofs.WaitingLemmas.{wide-waits}
+use Rattle.tb_fpage.specs.declared.Wanted.{Wanted}
+use Rattle.tb_fpage.specs.Company.{Choice, company, chosen_floats, left_floats}
+use Rattle.tb_area.specs.Area
+use Rattle.tb_column.specs.Column.{PlainColumn, PlainSheet, shipped, one, pair_sheet, text_column, single_floats_column}
+use Rattle.tb_output.specs.State.{State, Work, Recorded, placed, output, records_also, with_floats, footnotes}
+use Rattle.tb_output.specs.Place
+use Rattle.tb_output.specs.Ship
+use Rattle.tb_output.specs.Columns
+use Rattle.tb_output.proofs.StepLaws.FollowLemmas.{waiting_floats, AllWait, Follows, follows-then, follows-undoubled, follows-wide_pages, follows-double, follows-next, follows-put_out, follows-company, follows-float_columns, follows-pair_rest}
+
+-- ---- a page that is shipped
+
+pub ship-cycles : (p : Params) (sheet : PlainSheet) (w : Work) → (Ship.ship p sheet w).refused ≡ false → (Ship.ship p sheet w).state.dead_cycles ≡ 0
+ship-cycles p sheet w = by_refused w.refused (int_lt p.maxpages (pos w.state.page)) refl
+  where
+    turned : Work
+    turned = record w { state = record w.state { page = w.state.page + 1; dead_cycles = 0 } }
+
+    by_sent : (x : Bool) → (if x then turned else record turned { sent = w.sent ++ shipped w.state.page sheet ∷ [] }).state.dead_cycles ≡ 0
+    by_sent true = refl
+    by_sent false = refl
+
+    by_refused : (t u : Bool) → w.refused ≡ t → (if t then w else (if u then record w { refused = true } else Ship.ship_now sheet w)).refused ≡ false → (if t then w else (if u then record w { refused = true } else Ship.ship_now sheet w)).state.dead_cycles ≡ 0
+    by_refused true u r h = let no : ⊥ = grind (arith, r, h) in absurd no
+    by_refused false true r h = let no : ⊥ = grind (arith, h) in absurd no
+    by_refused false false r h = by_sent w.refused
+
+pub ship-lists : (p : Params) (sheet : PlainSheet) (w : Work) → ((Ship.ship p sheet w).state.floats ≡ w.state.floats) × ((Ship.ship p sheet w).state.first_column ≡ w.state.first_column)
+ship-lists p sheet w = by_refused w.refused (int_lt p.maxpages (pos w.state.page)) w.refused
+  where
+    turned : Work
+    turned = record w { state = record w.state { page = w.state.page + 1; dead_cycles = 0 } }
+
+    by_refused : (t u x : Bool) → ((if t then w else (if u then record w { refused = true } else (if x then turned else record turned { sent = w.sent ++ shipped w.state.page sheet ∷ [] }))).state.floats ≡ w.state.floats) × ((if t then w else (if u then record w { refused = true } else (if x then turned else record turned { sent = w.sent ++ shipped w.state.page sheet ∷ [] }))).state.first_column ≡ w.state.first_column)
+    by_refused true u x = (refl, refl)
+    by_refused false true x = (refl, refl)
+    by_refused false false true = (refl, refl)
+    by_refused false false false = (refl, refl)
+
+pub stays-zero : (a b : ℕ) → a ≡ 0 → (b ≡ a) ⊎ (b ≡ 0) → b ≡ 0
+stays-zero a b h (inl e) = e ∙ h
+stays-zero a b h (inr e) = e
+
+-- ---- the column that is made next stays the same one
+
+abbrev pub SameColumn : Work → Work → Type 0
+SameColumn a b = b.state.first_column ≡ a.state.first_column
+
+records-column : (r : Recorded) (w : Work) → ((records_also r w).state ≡ w.state) × ((records_also r w).refused ≡ w.refused)
+records-column r w = by_refused w.refused
+  where
+    by_refused : (t : Bool) → ((if t then w else record w { records = w.records ++ r ∷ [] }).state ≡ w.state) × ((if t then w else record w { records = w.records ++ r ∷ [] }).refused ≡ w.refused)
+    by_refused true = (refl, refl)
+    by_refused false = (refl, refl)
+
+placed-column : (p : Params) (place : Where) (f : Float) (left : FloatLists) (w : Work) → SameColumn w (Place.place_float p place f left w)
+placed-column p place f left w = by_record (Place.is_placed place)
+  where
+    r : Recorded
+    r = placed f place w.state.floats (column_height_of p w.state.floats)
+
+    by_record : (t : Bool) → SameColumn w (with_floats (Place.joined_to place f left) (if t then records_also r w else w))
+    by_record true = ap (λ s. s.first_column) (records-column r w).0
+    by_record false = refl
+
+waiting-column : (from : Part) (p : Params) (place : Where) (f : Float) (before rest : List Float) (w : Work) → SameColumn w (Place.place_waiting from p place f before rest w)
+waiting-column from p place f before rest w = by_place (Place.is_placed place)
+  where
+    by_place : (t : Bool) → SameColumn w (if t then Place.place_float p place f (with_floats_of from (before ++ rest) w.state.floats) w else w)
+    by_place true = placed-column p place f (with_floats_of from (before ++ rest) w.state.floats) w
+    by_place false = refl
+
+double-column : (from : Part) (p : Params) (before fs : List Float) (w : Work) → SameColumn w (Place.place_double from p before fs w)
+double-column from p before [] w = refl
+double-column from p before (f ∷ rest) w =
+    let place = Area.double_place p w.state.floats w.state.suppress before f in
+    let w' = Place.place_waiting from p place f before rest w in
+    double-column from p (Place.still_deferred place f before) rest w' ∙ waiting-column from p place f before rest w
+
+pub next-column : (p : Params) (before fs : List Float) (w : Work) → SameColumn w (Place.place_next p before fs w)
+next-column p before [] w = refl
+next-column p before (f ∷ rest) w =
+    let place = Area.next_place p w.state.floats w.state.suppress before f in
+    let w' = Place.place_waiting parts.Deferred p place f before rest w in
+    next-column p (Place.still_deferred place f before) rest w' ∙ waiting-column parts.Deferred p place f before rest w
+
+wide_by-column : (p : Params) (again : Work → Work) → ((w : Work) → SameColumn w (again w)) → (w : Work) (o : Option (List Choice)) → SameColumn w (Ship.wide_pages_by again p w o)
+wide_by-column p again h w None = refl
+wide_by-column p again h w (Some cs) = h (Ship.ship_wide p cs w) ∙ (ship-lists p _ (with_floats (with_wide_waiting p (left_floats cs) w.state.floats) w)).1
+
+pub wide-column : (p : Params) (clearing : Bool) (n : ℕ) (w : Work) → SameColumn w (Ship.wide_pages p clearing n w)
+wide-column p clearing zero w = refl
+wide-column p clearing (suc n) w = wide_by-column p (λ w'. Ship.wide_pages p clearing n w') (λ w'. wide-column p clearing n w') w (company (Ship.wide_wanted p clearing) (wide_waiting p w.state.floats))
+
+-- ---- floats of the next column leave the double ones alone
+
+abbrev pub NotDouble : Where → Type 0
+NotDouble places.Here = Unit {0}
+NotDouble places.Top = Unit {0}
+NotDouble places.Bottom = Unit {0}
+NotDouble places.Page = Unit {0}
+NotDouble places.Double = ⊥
+NotDouble places.Deferred = Unit {0}
+
+pub area-single : (a : Area.AreaPlace) → NotDouble (Area.where_of a)
+area-single Area.at_top = tt
+area-single Area.at_bottom = tt
+area-single Area.deferred = tt
+
+pub joined-single : (place : Where) (f : Float) (l : FloatLists) → NotDouble place → (Place.joined_to place f l).double ≡ l.double
+joined-single places.Here f l h = refl
+joined-single places.Top f l h = refl
+joined-single places.Bottom f l h = refl
+joined-single places.Page f l h = refl
+joined-single places.Double f l h = absurd h
+joined-single places.Deferred f l h = refl
+
+deferred-single : (p : Params) (place : Where) (f : Float) (before rest : List Float) (w : Work) → NotDouble place → (Place.place_waiting parts.Deferred p place f before rest w).state.floats.double ≡ w.state.floats.double
+deferred-single p place f before rest w h = by_place (Place.is_placed place)
+  where
+    l : FloatLists
+    l = record w.state.floats { deferred = before ++ rest }
+
+    by_place : (t : Bool) → (if t then Place.place_float p place f l w else w).state.floats.double ≡ w.state.floats.double
+    by_place true = joined-single place f l h
+    by_place false = refl
+
+pub next-single : (p : Params) (before fs : List Float) (w : Work) → (Place.place_next p before fs w).state.floats.double ≡ w.state.floats.double
+next-single p before [] w = refl
+next-single p before (f ∷ rest) w =
+    let place = Area.next_place p w.state.floats w.state.suppress before f in
+    let w' = Place.place_waiting parts.Deferred p place f before rest w in
+    next-single p (Place.still_deferred place f before) rest w' ∙ deferred-single p place f before rest w (area-single (Area.next_area_place p w.state.floats w.state.suppress before f))
+
+-- ---- placing floats is no firing
+
+placed-cycles : (p : Params) (place : Where) (f : Float) (before rest : List Float) (w : Work) → (Place.place_waiting parts.Deferred p place f before rest w).state.dead_cycles ≡ w.state.dead_cycles
+placed-cycles p place f before rest w = by_place (Place.is_placed place)
+  where
+    l : FloatLists
+    l = record w.state.floats { deferred = before ++ rest }
+
+    r : Recorded
+    r = placed f place w.state.floats (column_height_of p w.state.floats)
+
+    by_record : (t : Bool) → (with_floats (Place.joined_to place f l) (if t then records_also r w else w)).state.dead_cycles ≡ w.state.dead_cycles
+    by_record true = ap (λ s. s.dead_cycles) (records-column r w).0
+    by_record false = refl
+
+    by_place : (t : Bool) → (if t then Place.place_float p place f l w else w).state.dead_cycles ≡ w.state.dead_cycles
+    by_place true = by_record (Place.is_placed place)
+    by_place false = refl
+
+next-cycles : (p : Params) (before fs : List Float) (w : Work) → (Place.place_next p before fs w).state.dead_cycles ≡ w.state.dead_cycles
+next-cycles p before [] w = refl
+next-cycles p before (f ∷ rest) w =
+    let place = Area.next_place p w.state.floats w.state.suppress before f in
+    let w' = Place.place_waiting parts.Deferred p place f before rest w in
+    next-cycles p (Place.still_deferred place f before) rest w' ∙ placed-cycles p place f before rest w
+
+-- ---- a column is put out
+
+-- the last column of a page ships it
+abbrev pub IsLast : State → Type 0
+IsLast s = (s.two_columns ≡ false) ⊎ (s.first_column ≡ false)
+
+module _ (P : Float → Type 0) (p : Params) where
+  pair-cycles : (c : PlainColumn) (w : Work) → (Ship.ship_pair p c w).refused ≡ false → (Ship.ship_pair p c w).state.dead_cycles ≡ 0
+  pair-cycles c w h =
+      let a = Ship.ship p (pair_sheet p w.state.floats (Ship.left_or c w.state.left_column) c) w in
+      let x : Follows P (Ship.ship p (pair_sheet p w.state.floats (Ship.left_or c w.state.left_column) c) w) (Ship.ship_pair p c w) = follows-pair_rest P p c w in
+      stays-zero a.state.dead_cycles (Ship.ship_pair p c w).state.dead_cycles (ship-cycles p _ w (x.goes h)) (x.cycles h)
+
+  -- the double floats leave with the pair, and a first column begins
+  pair-first : (c : PlainColumn) (w : Work) → ((Ship.ship_pair p c w).state.first_column ≡ true) × (waiting_floats (Ship.ship_pair p c w).state.floats + length w.state.floats.double ≤ waiting_floats w.state.floats)
+  pair-first c w =
+      let a = Ship.ship p (pair_sheet p w.state.floats (Ship.left_or c w.state.left_column) c) w in
+      let b = Ship.without_double a in
+      let d = Ship.all_wide_pages p false b in
+      let x : Follows P (Ship.without_double (Ship.ship p (pair_sheet p w.state.floats (Ship.left_or c w.state.left_column) c) w)) (Ship.ship_pair p c w) = follows-then P b d (Ship.ship_pair p c w) (follows-wide_pages P p false (length (wide_waiting p b.state.floats)) b) (follows-double P (wide_part p) (wide-waits p) p [] (wide_waiting p d.state.floats) d refl) in
+      let u : waiting_floats (Ship.without_double (Ship.ship p (pair_sheet p w.state.floats (Ship.left_or c w.state.left_column) c) w)).state.floats + length (Ship.ship p (pair_sheet p w.state.floats (Ship.left_or c w.state.left_column) c) w).state.floats.double ≤ waiting_floats (Ship.ship p (pair_sheet p w.state.floats (Ship.left_or c w.state.left_column) c) w).state.floats = (follows-undoubled P a).1 in
+      let l = (ship-lists p (pair_sheet p w.state.floats (Ship.left_or c w.state.left_column) c) w).0 in (
+        double-column (wide_part p) p [] (wide_waiting p d.state.floats) d ∙ wide-column p false (length (wide_waiting p b.state.floats)) b,
+        sums (waiting_floats w.state.floats) (waiting_floats a.state.floats) (waiting_floats b.state.floats) (waiting_floats (Ship.ship_pair p c w).state.floats) (length w.state.floats.double) (length a.state.floats.double) (ap waiting_floats l) (ap (λ k. length k.double) l) u x.floats,
+      )
+    where
+      sums : (w a b r d e : ℕ) → a ≡ w → e ≡ d → b + e ≤ a → r ≤ b → r + d ≤ w
+      sums w a b r d e h i j k = omega arith
+
+  by-cycles : (c : PlainColumn) (a : Work) → IsLast a.state → (Ship.put_out_by p c a).refused ≡ false → (Ship.put_out_by p c a).state.dead_cycles ≡ 0
+  by-cycles c a l = by_columns a.state.two_columns a.state.first_column l
+    where
+      by_columns : (t f : Bool) → (t ≡ false) ⊎ (f ≡ false) → (if not t then Ship.ship p (one c) a else (if f then Ship.keep_left c a else Ship.ship_pair p c a)).refused ≡ false → (if not t then Ship.ship p (one c) a else (if f then Ship.keep_left c a else Ship.ship_pair p c a)).state.dead_cycles ≡ 0
+      by_columns false f l h = ship-cycles p (one c) a h
+      by_columns true false l h = pair-cycles c a h
+      by_columns true true (inl e) h = let no : ⊥ = grind (arith, e) in absurd no
+      by_columns true true (inr e) h = let no : ⊥ = grind (arith, e) in absurd no
+
+  pub last-ships : (c : PlainColumn) (w : Work) → IsLast w.state → (Ship.put_out p c w).refused ≡ false → (Ship.put_out p c w).state.dead_cycles ≡ 0
+  last-ships c w l h = by-cycles c (records_also (output c) w) (subst IsLast (sym (records-column (output c) w).0) l) h
+
+  -- the first of two columns is kept
+  pub record IsKept (w b : Work) : Type 0 where
+    pub first : b.state.first_column ≡ false
+    pub floats : b.state.floats ≡ w.state.floats
+    pub cycles : b.state.dead_cycles ≡ w.state.dead_cycles
+
+  by-kept : (c : PlainColumn) (a : Work) → a.state.two_columns ≡ true → a.state.first_column ≡ true → IsKept a (Ship.put_out_by p c a)
+  by-kept c a t f = by_columns a.state.two_columns a.state.first_column t f
+    where
+      by_columns : (x y : Bool) → x ≡ true → y ≡ true → IsKept a (if not x then Ship.ship p (one c) a else (if y then Ship.keep_left c a else Ship.ship_pair p c a))
+      by_columns false y h k = let no : ⊥ = grind (arith, h) in absurd no
+      by_columns true false h k = let no : ⊥ = grind (arith, k) in absurd no
+      by_columns true true h k = record { first = refl; floats = refl; cycles = refl }
+
+  pub first-kept : (c : PlainColumn) (w : Work) → w.state.two_columns ≡ true → w.state.first_column ≡ true → IsKept w (Ship.put_out p c w)
+  first-kept c w t f =
+      let e = (records-column (output c) w).0 in
+      let k = by-kept c (records_also (output c) w) (ap (λ s. s.two_columns) e ∙ t) (ap (λ s. s.first_column) e ∙ f) in
+      record { first = k.first; floats = k.floats ∙ ap (λ s. s.floats) e; cycles = k.cycles ∙ ap (λ s. s.dead_cycles) e }
+
+  -- the second takes the double floats with it, and a first column begins
+  pub record IsPaired (w b : Work) : Type 0 where
+    pub first : b.state.first_column ≡ true
+    pub floats : waiting_floats b.state.floats + length w.state.floats.double ≤ waiting_floats w.state.floats
+
+  by-paired : (c : PlainColumn) (a : Work) → a.state.two_columns ≡ true → a.state.first_column ≡ false → IsPaired a (Ship.put_out_by p c a)
+  by-paired c a t f = by_columns a.state.two_columns a.state.first_column t f
+    where
+      by_columns : (x y : Bool) → x ≡ true → y ≡ false → IsPaired a (if not x then Ship.ship p (one c) a else (if y then Ship.keep_left c a else Ship.ship_pair p c a))
+      by_columns false y h k = let no : ⊥ = grind (arith, h) in absurd no
+      by_columns true true h k = let no : ⊥ = grind (arith, k) in absurd no
+      by_columns true false h k = record { first = (pair-first c a).0; floats = (pair-first c a).1 }
+
+  pub second-pairs : (c : PlainColumn) (w : Work) → w.state.two_columns ≡ true → w.state.first_column ≡ false → IsPaired w (Ship.put_out p c w)
+  second-pairs c w t f =
+      let e = (records-column (output c) w).0 in
+      let k = by-paired c (records_also (output c) w) (ap (λ s. s.two_columns) e ∙ t) (ap (λ s. s.first_column) e ∙ f) in
+      record { first = k.first; floats = subst (λ (l : FloatLists). waiting_floats (Ship.put_out p c w).state.floats + length l.double ≤ waiting_floats l) (ap (λ s. s.floats) e) k.floats }
+
+  -- ---- columns of floats
+
+  -- none is made, or one and those after it
+  abbrev pub Columned : Bool → Work → Work → Type 0
+  Columned clearing w r = (r ≡ w) ⊎ ((cs : List Choice) × (company (Columns.single_wanted p w.state.floats clearing) w.state.floats.deferred ≡ Some cs) × Follows P (Columns.put_out_company p cs w) r)
+
+  columned-by : (clearing : Bool) (n : ℕ) (w : Work) (o : Option (List Choice)) → company (Columns.single_wanted p w.state.floats clearing) w.state.floats.deferred ≡ o → Columned clearing w (Columns.float_columns_by (λ w'. Columns.float_columns p clearing n w') p w o)
+  columned-by clearing n w None e = inl refl
+  columned-by clearing n w (Some cs) e = inr (cs, e, follows-float_columns P p clearing n (Columns.put_out_company p cs w))
+
+  pub columned : (clearing : Bool) (n : ℕ) (w : Work) → Columned clearing w (Columns.float_columns p clearing n w)
+  columned clearing zero w = inl refl
+  columned clearing (suc n) w = columned-by clearing n w (company (Columns.single_wanted p w.state.floats clearing) w.state.floats.deferred) refl
+
+  -- none is made, and there is no company; or one, and then none or one and those after it
+  abbrev pub AllColumned : Bool → Work → Work → Type 0
+  AllColumned clearing w r =
+      ((company (Columns.single_wanted p w.state.floats clearing) w.state.floats.deferred ≡ None) × (r ≡ w))
+      ⊎ ((cs : List Choice) × (company (Columns.single_wanted p w.state.floats clearing) w.state.floats.deferred ≡ Some cs) × Columned clearing (Columns.put_out_company p cs w) r)
+
+  no-company : (z : Wanted) (fs : List Float) → length fs ≤ 0 → company z fs ≡ None
+  no-company z [] h = refl
+  no-company z (f ∷ fs) h = let no : ⊥ = omega arith in absurd no
+
+  all-columned-by : (clearing : Bool) (n : ℕ) (w : Work) (o : Option (List Choice)) → company (Columns.single_wanted p w.state.floats clearing) w.state.floats.deferred ≡ o → AllColumned clearing w (Columns.float_columns_by (λ w'. Columns.float_columns p clearing n w') p w o)
+  all-columned-by clearing n w None e = inl (e, refl)
+  all-columned-by clearing n w (Some cs) e = inr (cs, e, columned clearing n (Columns.put_out_company p cs w))
+
+  all-columned-in : (clearing : Bool) (n : ℕ) (w : Work) → length w.state.floats.deferred ≤ n → AllColumned clearing w (Columns.float_columns p clearing n w)
+  all-columned-in clearing zero w h = inl (no-company (Columns.single_wanted p w.state.floats clearing) w.state.floats.deferred h, refl)
+  all-columned-in clearing (suc n) w h = all-columned-by clearing n w (company (Columns.single_wanted p w.state.floats clearing) w.state.floats.deferred) refl
+
+  pub all-columned : (clearing : Bool) (w : Work) → AllColumned clearing w (Columns.all_float_columns p clearing w)
+  all-columned clearing w = all-columned-in clearing (length w.state.floats.deferred) w (omega arith)
+
+  -- ---- an ordinary firing
+
+  -- the text column takes the floats of its areas
+  pub text-follows : (w : Work) → waiting_floats (Columns.without_column_floats w).state.floats + (length w.state.floats.top + length w.state.floats.bottom) ≡ waiting_floats w.state.floats
+  text-follows w = omega arith
+
+  -- the text column goes, with the floats of its areas
+  taken-follows : (w : Work) → AllWait P w.state.floats → AllWait P (Columns.without_column_floats w).state.floats
+  taken-follows w h = record { top = tt; bottom = tt; deferred = h.deferred; double = h.double; second = h.second }
+
+  -- after an ordinary firing of a page's last column the page is out, and where no column of floats came, a first column begins without the floats of the areas
+  pub record LastOut (w b : Work) : Type 0 where
+    pub goes : b.refused ≡ false → w.refused ≡ false
+    pub cycles : b.refused ≡ false → b.state.dead_cycles ≡ 0
+    pub fewer : (waiting_floats b.state.floats + 1 ≤ waiting_floats w.state.floats) ⊎ ((w.state.two_columns ≡ true → b.state.first_column ≡ true) × (waiting_floats b.state.floats + (length w.state.floats.top + length w.state.floats.bottom) ≤ waiting_floats w.state.floats) × (w.state.two_columns ≡ true → waiting_floats b.state.floats + (length w.state.floats.top + length w.state.floats.bottom + length w.state.floats.double) ≤ waiting_floats w.state.floats))
+
+  -- of the first of two columns: a page is out and a float went, or the column is kept and the double floats stay
+  pub record FirstOut (w b : Work) : Type 0 where
+    pub goes : b.refused ≡ false → w.refused ≡ false
+    pub by : b.refused ≡ false → ((b.state.dead_cycles ≡ 0) × (waiting_floats b.state.floats + 1 ≤ waiting_floats w.state.floats)) ⊎ ((b.state.first_column ≡ false) × (b.state.floats.double ≡ w.state.floats.double) × (waiting_floats b.state.floats + (length w.state.floats.top + length w.state.floats.bottom) ≤ waiting_floats w.state.floats) × (b.state.dead_cycles ≡ w.state.dead_cycles))
+
+  -- what both do to the rest of the work
+  pub record TextOut (w b : Work) : Type 0 where
+    pub columns : b.state.two_columns ≡ w.state.two_columns
+    pub boxes : b.state.boxes ≡ Columns.emptied_boxes w.state.boxes
+    pub back : b.put_back ≡ w.put_back
+    pub current : b.state.floats.current ≡ w.state.floats.current
+    pub floats : waiting_floats b.state.floats ≤ waiting_floats w.state.floats
+    pub all : AllWait P w.state.floats → AllWait P b.state.floats
+
+  pub text-out : (body : List PlainNode) (w b : Work) → Follows P (Columns.put_out_text p body w) b → TextOut w b
+  text-out body w b y =
+      let v = Columns.without_column_floats w in
+      let x : Follows P (Columns.without_column_floats w) (Columns.put_out_text p body w) = follows-put_out P p (text_column p w.state.floats body (footnotes w.state)) v in
+      let z : Follows P (Columns.without_column_floats w) b = follows-then P v (Columns.put_out_text p body w) b x y in
+      let e : waiting_floats (Columns.without_column_floats w).state.floats + (length w.state.floats.top + length w.state.floats.bottom) ≡ waiting_floats w.state.floats = text-follows w in
+      record {
+        columns = z.columns;
+        boxes = z.boxes;
+        back = z.back;
+        current = z.current;
+        floats = sums (waiting_floats w.state.floats) (waiting_floats v.state.floats) (waiting_floats b.state.floats) (length w.state.floats.top + length w.state.floats.bottom) e z.floats;
+        all = λ h. z.all (taken-follows w h);
+      }
+    where
+      sums : (w v b n : ℕ) → v + n ≡ w → b ≤ v → b ≤ w
+      sums w v b n h k = omega arith
+
+  ordinary-rest : (body : List PlainNode) (w : Work) → Follows P (Columns.put_out_text p body w) (Columns.ordinary p body w)
+  ordinary-rest body w =
+      let a = Columns.put_out_text p body w in
+      let b = Columns.all_float_columns p false a in
+      follows-then P a b (Columns.ordinary p body w) (follows-float_columns P p false (length a.state.floats.deferred) a) (follows-next P p [] b.state.floats.deferred b refl)
+
+  pub ordinary-out : (body : List PlainNode) (w : Work) → TextOut w (Columns.ordinary p body w)
+  ordinary-out body w = text-out body w (Columns.ordinary p body w) (ordinary-rest body w)
+
+  counted : (w v a b n : ℕ) → v + n ≡ w → a ≤ v → b ≤ a → b + n ≤ w
+  counted w v a b n h k i = omega arith
+
+  counted-more : (w v a b n d : ℕ) → v + n ≡ w → a + d ≤ v → b ≤ a → b + (n + d) ≤ w
+  counted-more w v a b n d h k i = omega arith
+
+  counted-less : (w v a b c n : ℕ) → v + n ≡ w → a ≤ v → b + 1 ≤ a → c ≤ b → c + 1 ≤ w
+  counted-less w v a b c n h k i j = omega arith
+
+  pub last-out : (body : List PlainNode) (w : Work) → IsLast w.state → LastOut w (Columns.ordinary p body w)
+  last-out body w l =
+      record {
+        goes = λ h. x.goes (y.goes h);
+        cycles = λ h. stays-zero a.state.dead_cycles b.state.dead_cycles (last-ships c v l (y.goes h)) (y.cycles h);
+        fewer = by_columns (columned false (length a.state.floats.deferred) a);
+      }
+    where
+      v : Work
+      v = Columns.without_column_floats w
+
+      c : PlainColumn
+      c = text_column p w.state.floats body (footnotes w.state)
+
+      a : Work
+      a = Columns.put_out_text p body w
+
+      d : Work
+      d = Columns.all_float_columns p false a
+
+      b : Work
+      b = Columns.ordinary p body w
+
+      x : Follows P v a
+      x = follows-put_out P p c v
+
+      y : Follows P a b
+      y = ordinary-rest body w
+
+      n : Follows P d b
+      n = follows-next P p [] d.state.floats.deferred d refl
+
+      e : waiting_floats v.state.floats + (length w.state.floats.top + length w.state.floats.bottom) ≡ waiting_floats w.state.floats
+      e = text-follows w
+
+      first : (f : Bool) → w.state.first_column ≡ f → d ≡ a → w.state.two_columns ≡ true → b.state.first_column ≡ true
+      first true f h t = by_last l
+        where
+          by_last : IsLast w.state → b.state.first_column ≡ true
+          by_last (inl k) = let no : ⊥ = grind (arith, k, t) in absurd no
+          by_last (inr k) = let no : ⊥ = grind (arith, k, f) in absurd no
+      first false f h t = next-column p [] d.state.floats.deferred d ∙ ap (λ (z : Work). z.state.first_column) h ∙ (second-pairs c v t f).first
+
+      with_double : (f : Bool) → w.state.first_column ≡ f → w.state.two_columns ≡ true → waiting_floats b.state.floats + (length w.state.floats.top + length w.state.floats.bottom + length w.state.floats.double) ≤ waiting_floats w.state.floats
+      with_double true f t = by_last l
+        where
+          by_last : IsLast w.state → waiting_floats b.state.floats + (length w.state.floats.top + length w.state.floats.bottom + length w.state.floats.double) ≤ waiting_floats w.state.floats
+          by_last (inl k) = let no : ⊥ = grind (arith, k, t) in absurd no
+          by_last (inr k) = let no : ⊥ = grind (arith, k, f) in absurd no
+      with_double false f t = counted-more (waiting_floats w.state.floats) (waiting_floats v.state.floats) (waiting_floats a.state.floats) (waiting_floats b.state.floats) (length w.state.floats.top + length w.state.floats.bottom) (length w.state.floats.double) e (second-pairs c v t f).floats y.floats
+
+      by_columns : Columned false a d → (waiting_floats b.state.floats + 1 ≤ waiting_floats w.state.floats) ⊎ ((w.state.two_columns ≡ true → b.state.first_column ≡ true) × (waiting_floats b.state.floats + (length w.state.floats.top + length w.state.floats.bottom) ≤ waiting_floats w.state.floats) × (w.state.two_columns ≡ true → waiting_floats b.state.floats + (length w.state.floats.top + length w.state.floats.bottom + length w.state.floats.double) ≤ waiting_floats w.state.floats))
+      by_columns (inl h) = inr (first w.state.first_column refl h, counted (waiting_floats w.state.floats) (waiting_floats v.state.floats) (waiting_floats a.state.floats) (waiting_floats b.state.floats) (length w.state.floats.top + length w.state.floats.bottom) e x.floats y.floats, with_double w.state.first_column refl)
+      by_columns (inr h) = inl (counted-less (waiting_floats w.state.floats) (waiting_floats v.state.floats) (waiting_floats a.state.floats) (waiting_floats (Columns.put_out_company p h.0 a).state.floats) (waiting_floats b.state.floats) (length w.state.floats.top + length w.state.floats.bottom) e x.floats (follows-company P p false a h.0 h.1).1 (follows-then P (Columns.put_out_company p h.0 a) d b h.2 n).floats)
+
+  pub first-out : (body : List PlainNode) (w : Work) → w.state.two_columns ≡ true → w.state.first_column ≡ true → FirstOut w (Columns.ordinary p body w)
+  first-out body w t f = record { goes = λ h. x.goes (y.goes h); by = λ h. by_columns h (columned false (length a.state.floats.deferred) a) }
+    where
+      v : Work
+      v = Columns.without_column_floats w
+
+      c : PlainColumn
+      c = text_column p w.state.floats body (footnotes w.state)
+
+      a : Work
+      a = Columns.put_out_text p body w
+
+      d : Work
+      d = Columns.all_float_columns p false a
+
+      b : Work
+      b = Columns.ordinary p body w
+
+      x : Follows P v a
+      x = follows-put_out P p c v
+
+      y : Follows P a b
+      y = ordinary-rest body w
+
+      n : Follows P d b
+      n = follows-next P p [] d.state.floats.deferred d refl
+
+      k : IsKept v a
+      k = first-kept c v t f
+
+      e : waiting_floats v.state.floats + (length w.state.floats.top + length w.state.floats.bottom) ≡ waiting_floats w.state.floats
+      e = text-follows w
+
+      ships : (cs : List Choice) → Follows P (Columns.put_out_company p cs a) d → b.refused ≡ false → b.state.dead_cycles ≡ 0
+      ships cs g h =
+          let z : Follows P (Columns.put_out_company p cs a) b = follows-then P (Columns.put_out_company p cs a) d b g n in
+          stays-zero (Columns.put_out_company p cs a).state.dead_cycles b.state.dead_cycles (last-ships (single_floats_column p (column_height_of p a.state.floats) (chosen_floats cs)) (Ship.with_deferred (left_floats cs) a) (inr k.first) (z.goes h)) (z.cycles h)
+
+      same_cycles : d ≡ a → b.state.dead_cycles ≡ w.state.dead_cycles
+      same_cycles h = next-cycles p [] d.state.floats.deferred d ∙ ap (λ (z : Work). z.state.dead_cycles) h ∙ k.cycles
+
+      by_columns : b.refused ≡ false → Columned false a d → ((b.state.dead_cycles ≡ 0) × (waiting_floats b.state.floats + 1 ≤ waiting_floats w.state.floats)) ⊎ ((b.state.first_column ≡ false) × (b.state.floats.double ≡ w.state.floats.double) × (waiting_floats b.state.floats + (length w.state.floats.top + length w.state.floats.bottom) ≤ waiting_floats w.state.floats) × (b.state.dead_cycles ≡ w.state.dead_cycles))
+      by_columns r (inl h) = inr (
+        next-column p [] d.state.floats.deferred d ∙ ap (λ (z : Work). z.state.first_column) h ∙ k.first,
+        next-single p [] d.state.floats.deferred d ∙ ap (λ (z : Work). z.state.floats.double) h ∙ ap (λ (l : FloatLists). l.double) k.floats,
+        counted (waiting_floats w.state.floats) (waiting_floats v.state.floats) (waiting_floats a.state.floats) (waiting_floats b.state.floats) (length w.state.floats.top + length w.state.floats.bottom) e x.floats y.floats,
+        same_cycles h,
+      )
+      by_columns r (inr h) = inl (ships h.0 h.2 r, counted-less (waiting_floats w.state.floats) (waiting_floats v.state.floats) (waiting_floats a.state.floats) (waiting_floats (Columns.put_out_company p h.0 a).state.floats) (waiting_floats b.state.floats) (length w.state.floats.top + length w.state.floats.bottom) e x.floats (follows-company P p false a h.0 h.1).1 (follows-then P (Columns.put_out_company p h.0 a) d b h.2 n).floats)

@@ -1,0 +1,16 @@
+-- The firing, in reading order.
+pub mod ClassesTaken
+pub mod TakenLists
+pub mod NotesTaking
+pub mod ClosingNotes
+pub mod VoidBoxes
+pub mod HoldLemmas
+pub mod OutputLemmas
+pub mod OutputTurns
+pub mod GoalLemmas
+pub mod ServedWork
+pub mod ServingLemmas
+pub mod ServeLemmas
+pub mod FiringLemmas
+pub mod FireLemmas
+pub mod SceneLemmas

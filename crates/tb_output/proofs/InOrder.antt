@@ -1,0 +1,3 @@
+-- The text ships in order, in reading order.
+pub mod PrintedFirings
+pub mod PrintedOutput

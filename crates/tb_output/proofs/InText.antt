@@ -1,0 +1,7 @@
+-- Floats and notes in the text, in reading order.
+pub mod ShortenLemmas
+pub mod PushLemmas
+pub mod BackLemmas
+pub mod ListSteps
+pub mod MarginSteps
+pub mod TextSteps

@@ -1,0 +1,85 @@
+-- Each float that a firing places keeps the limits of its list.
+use Rattle.std.proofs.Common.{◌≡◌, refl, sym, ap, subst, pos, ◌+◌, Bool, true, false, List, [], ◌∷◌, ◌++◌}
+use Rattle.std.specs.Prelude.{int_lt, if◌then◌else◌}
+use Rattle.std.specs.List.{AllByRecursion}
+use Rattle.tb_param.specs.declared.Params.{Params}
+use Rattle.tb_builder.specs.Fired.{Fired}
+use Rattle.tb_float.specs.Rooms.{column_height_of}
+use Rattle.tb_area.specs.Laws.{KeepsLimits}
+use Rattle.tb_column.specs.Column.{PlainSheet, PlainSent, shipped}
+use Rattle.tb_output.specs.State.{State, Work, Recorded, placed, output, emptied, sends, records_also}
+use Rattle.tb_output.specs.Ship
+use Rattle.tb_output.specs.Out
+use Rattle.tb_output.specs.Firing.{page_work}
+use Rattle.tb_output.proofs.StepLaws.ColumnSteps.{RecordLaw, ColumnStep, still, in_turn, sends_one, records_one, ships_one}
+use Rattle.tb_output.proofs.StepLaws.FiringSteps.{FiringStep, by_columns, changes, afterwards, page_work-step}
+
+-- the float that was placed had the mark `!`, or kept the limits with the lists and the column height just before
+abbrev pub IsLimited : Params → Recorded → Type 0
+IsLimited p (placed f place l height) = f.bang ≡ false → (height ≡ column_height_of p l) × KeepsLimits p l f place
+IsLimited p (output c) = Unit {0}
+IsLimited p (emptied l) = Unit {0}
+
+abbrev pub AreLimited : Params → List Recorded → Type 0
+AreLimited p rs = AllByRecursion (IsLimited p) rs
+
+pub limited-append : (p : Params) (rs qs : List Recorded) → AreLimited p rs → AreLimited p qs → AreLimited p (rs ++ qs)
+limited-append p [] qs a b = b
+limited-append p (r ∷ rs) qs a b = (a.0, limited-append p rs qs a.1 b)
+
+-- ---- what a firing records
+
+sends-records : (e : PlainSent) (w : Work) → (sends e w).records ≡ w.records
+sends-records e w = by_refused w.refused
+  where
+    by_refused : (t : Bool) → (if t then w else record w { sent = w.sent ++ e ∷ [] }).records ≡ w.records
+    by_refused true = refl
+    by_refused false = refl
+
+ship-records : (p : Params) (sheet : PlainSheet) (w : Work) → (Ship.ship p sheet w).records ≡ w.records
+ship-records p sheet w = by_refused w.refused (int_lt p.maxpages (pos w.state.page))
+  where
+    by_refused : (t u : Bool) → (if t then w else (if u then record w { refused = true } else Ship.ship_now sheet w)).records ≡ w.records
+    by_refused true u = refl
+    by_refused false true = refl
+    by_refused false false = sends-records (shipped w.state.page sheet) (record w { state = record w.state { page = w.state.page + 1; dead_cycles = 0 } })
+
+module _ (p : Params) (law : RecordLaw p) where
+  abbrev AllLawful : List Recorded → Type 0
+  AllLawful rs = AllByRecursion law.holds rs
+
+  same : (rs qs : List Recorded) → qs ≡ rs → AllLawful rs → AllLawful qs
+  same rs qs e h = subst AllLawful (sym e) h
+
+  one-more : (r : Recorded) (rs : List Recorded) → law.holds r → AllLawful rs → AllLawful (rs ++ r ∷ [])
+  one-more r [] k h = (k, tt)
+  one-more r (q ∷ rs) k h = (h.0, one-more r rs k h.1)
+
+  also-lawful : (r : Recorded) (w : Work) → law.holds r → AllLawful w.records → AllLawful (records_also r w).records
+  also-lawful r w k h = by_refused w.refused
+    where
+      by_refused : (t : Bool) → AllLawful (if t then w else record w { records = w.records ++ r ∷ [] }).records
+      by_refused true = h
+      by_refused false = one-more r w.records k h
+
+  -- if all that the first records is lawful, all that the second records is
+  column-lawful : {a b : Work} → ColumnStep p law a b → AllLawful a.records → AllLawful b.records
+  column-lawful {a} {b} (still c f) h = same a.records b.records (ap (λ x. x.records) c) h
+  column-lawful (in_turn x y) h = column-lawful y (column-lawful x h)
+  column-lawful (sends_one e w) h = same w.records (sends e w).records (sends-records e w) h
+  column-lawful (records_one r w k) h = also-lawful r w k h
+  column-lawful (ships_one sheet w) h = same w.records (Ship.ship p sheet w).records (ship-records p sheet w) h
+
+  firing-lawful : {a b : Work} → FiringStep p law a b → AllLawful a.records → AllLawful b.records
+  firing-lawful (by_columns x) h = column-lawful x h
+  firing-lawful {a} {b} (changes c) h = same a.records b.records (ap (λ x. x.records) c) h
+  firing-lawful (afterwards x y) h = firing-lawful y (firing-lawful x h)
+
+-- what is so of placements within the limits and of columns is so of all that a firing records
+pub out-records : (p : Params) (law : RecordLaw p) (s : State) (f : Fired) → AllByRecursion law.holds (Out.out p s f).records
+unfolding Out.out page_work
+out-records p law s f = firing-lawful p law (page_work-step p law s f) tt
+
+-- a firing places floats within the limits alone
+pub out-keeps : (p : Params) (s : State) (f : Fired) → AreLimited p (Out.out p s f).records
+out-keeps p s f = out-records p (record { holds = IsLimited p; at_place = λ f place l k. λ plain. (refl, k plain); at_output = λ c. tt }) s f

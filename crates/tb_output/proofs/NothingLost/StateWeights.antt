@@ -1,0 +1,182 @@
+-- What the parts of a state weigh, and by how much a step of a firing adds to it.
+use Rattle.std.proofs.Common.{◌≡◌, refl, ◌∙◌, ℕ, pos, ◌+◌, Bool, true, false, List, [], ◌∷◌, ◌++◌, map, Option, Some, None, arith}
+use Rattle.std.specs.Prelude.{int_lt, if◌then◌else◌}
+use Rattle.tb_node.specs.declared.Float.{Float}
+use Rattle.tb_node.specs.Plain.{PlainNode}
+use Rattle.tb_node.proofs.Weights.{Weight, nodes_weight, weight-append}
+use Rattle.tb_param.specs.declared.Params.{Params}
+use Rattle.tb_insert.specs.declared.Class.{Class}
+use Rattle.tb_builder.specs.Fired.{Boxed}
+use Rattle.tb_builder.proofs.FiredPages.PageWeights.{boxes_weight, hits}
+use Rattle.tb_float.specs.declared.Entry.{Entry}
+use Rattle.tb_float.specs.declared.Entry.TheVariants as entries
+use Rattle.tb_float.specs.Lists.{FloatLists}
+use Rattle.tb_column.specs.Column.{PlainColumn, PlainSheet, PlainSent, warned, shipped, one, wide, two}
+use Rattle.tb_column.specs.declared.Warn.{Warn}
+use Rattle.tb_output.specs.State.{State, Work, Recorded, puts, sends, records_also}
+use Rattle.tb_output.specs.Ship
+
+-- ---- what the parts of a state weigh
+
+abbrev pub floats_weight : Weight → List Float → ℕ
+floats_weight v [] = 0
+floats_weight v (f ∷ fs) = v.float f.line + floats_weight v fs
+
+abbrev pub entries_weight : Weight → List Entry → ℕ
+entries_weight v [] = 0
+entries_weight v (entries.Float f ∷ es) = v.float f.line + entries_weight v es
+entries_weight v (entries.Left m ∷ es) = v.margin m.line + entries_weight v es
+entries_weight v (entries.Right m ∷ es) = entries_weight v es
+
+-- a float of the here list stands in the text as a box, which weighs
+abbrev pub lists_weight : Weight → FloatLists → ℕ
+lists_weight v l = entries_weight v l.current + floats_weight v l.top + floats_weight v l.bottom + floats_weight v l.deferred + floats_weight v l.double + floats_weight v l.second
+
+abbrev pub left_weight : Weight → Option PlainColumn → ℕ
+left_weight v None = 0
+left_weight v (Some c) = nodes_weight v c.nodes
+
+abbrev pub state_weight : Weight → State → ℕ
+state_weight v s = nodes_weight v s.waiting + boxes_weight v s.boxes + nodes_weight v s.held_page + lists_weight v s.floats + left_weight v s.left_column
+
+abbrev pub sheet_weight : Weight → PlainSheet → ℕ
+sheet_weight v (one c) = nodes_weight v c.nodes
+sheet_weight v (wide c) = nodes_weight v c.nodes
+sheet_weight v (two tops at left right) = nodes_weight v tops + nodes_weight v left.nodes + nodes_weight v right.nodes
+
+abbrev pub sent_weight : Weight → List PlainSent → ℕ
+sent_weight v [] = 0
+sent_weight v (warned w ∷ es) = sent_weight v es
+sent_weight v (shipped page sheet ∷ es) = sheet_weight v sheet + sent_weight v es
+
+abbrev pub work_weight : Weight → Work → ℕ
+work_weight v w = state_weight v w.state + nodes_weight v w.put_back + sent_weight v w.sent
+
+pub floats-append : (v : Weight) (xs ys : List Float) → floats_weight v (xs ++ ys) ≡ floats_weight v xs + floats_weight v ys
+floats-append v [] ys = omega arith
+floats-append v (x ∷ xs) ys = let h : floats_weight v (xs ++ ys) ≡ floats_weight v xs + floats_weight v ys = floats-append v xs ys in omega arith
+
+sent-append : (v : Weight) (xs ys : List PlainSent) → sent_weight v (xs ++ ys) ≡ sent_weight v xs + sent_weight v ys
+sent-append v [] ys = omega arith
+sent-append v (warned w ∷ xs) ys = sent-append v xs ys
+sent-append v (shipped page sheet ∷ xs) ys = let h : sent_weight v (xs ++ ys) ≡ sent_weight v xs + sent_weight v ys = sent-append v xs ys in omega arith
+
+-- ---- the invariant of a state
+
+-- the numbers of classes
+abbrev pub class_numbers : List Class → List ℕ
+class_numbers cs = map (λ (c : Class). c.number) cs
+
+-- a box for each class, and no number twice
+abbrev pub BoxesFit : List Class → List Boxed → Type 0
+BoxesFit [] [] = Unit {0}
+BoxesFit [] (b ∷ bs) = ⊥
+BoxesFit (c ∷ cs) [] = ⊥
+BoxesFit (c ∷ cs) (b ∷ bs) = (b.number ≡ c.number) × (hits c.number (class_numbers cs) ≡ 0) × BoxesFit cs bs
+
+-- the second of two columns has a first one, and no other has
+abbrev pub ColumnsFit : Bool → Bool → Option PlainColumn → Type 0
+ColumnsFit t true None = Unit {0}
+ColumnsFit t true (Some c) = ⊥
+ColumnsFit true false None = ⊥
+ColumnsFit true false (Some c) = Unit {0}
+ColumnsFit false false o = ⊥
+
+-- the two boxes of a note stand side by side
+abbrev pub Paired : List Entry → Type 0
+Paired [] = Unit {0}
+Paired (entries.Float f ∷ es) = Paired es
+Paired (entries.Left m ∷ []) = ⊥
+Paired (entries.Left m ∷ entries.Float f ∷ es) = ⊥
+Paired (entries.Left m ∷ entries.Left n ∷ es) = ⊥
+Paired (entries.Left m ∷ entries.Right n ∷ es) = Paired es
+Paired (entries.Right m ∷ es) = ⊥
+
+pub record Sound (s : State) : Type 0 where
+  pub box : BoxesFit s.classes s.boxes
+  pub columns : ColumnsFit s.two_columns s.first_column s.left_column
+  pub entries : Paired s.floats.current
+
+-- the nodes that wait and the classes are kept; where the second is not refused, the first is not; and the second is then sound where the first is, and weighs so much more
+pub record Adds (v : Weight) (n : ℕ) (a b : Work) : Type 0 where
+  pub waits : b.state.waiting ≡ a.state.waiting
+  pub classes : b.state.classes ≡ a.state.classes
+  pub goes : b.refused ≡ false → a.refused ≡ false
+  pub by : b.refused ≡ false → Sound a.state → Sound b.state × (work_weight v b ≡ work_weight v a + n)
+
+pub added : (v : Weight) (i j : ℕ) (a b c : Work) → Adds v i a b → Adds v j b c → Adds v (i + j) a c
+added v i j a b c x y = record { waits = y.waits ∙ x.waits; classes = y.classes ∙ x.classes; goes = λ r. x.goes (y.goes r); by = λ r s. all r (x.by (y.goes r) s) }
+  where
+    all : c.refused ≡ false → Sound b.state × (work_weight v b ≡ work_weight v a + i) → Sound c.state × (work_weight v c ≡ work_weight v a + (i + j))
+    all r h =
+        let k = y.by r h.0 in
+        let d : work_weight v b ≡ work_weight v a + i = h.1 in
+        let e : work_weight v c ≡ work_weight v b + j = k.1 in
+        (k.0, sums (work_weight v a) (work_weight v b) (work_weight v c) d e)
+      where
+        sums : (x y z : ℕ) → y ≡ x + i → z ≡ y + j → z ≡ x + (i + j)
+        sums x y z d e = omega arith
+
+-- the same, where one of the two adds nothing
+pub then_kept : (v : Weight) (n : ℕ) (a b c : Work) → Adds v n a b → Adds v 0 b c → Adds v n a c
+then_kept v n a b c x y = let h : Adds v (n + 0) a c = added v n 0 a b c x y in rw (same-sum n) at h
+  where
+    same-sum : (n : ℕ) → n + 0 ≡ n
+    same-sum n = omega arith
+
+pub kept_then : (v : Weight) (n : ℕ) (a b c : Work) → Adds v 0 a b → Adds v n b c → Adds v n a c
+kept_then v n a b c x y = let h : Adds v (0 + n) a c = added v 0 n a b c x y in rw (same-sum n) at h
+  where
+    same-sum : (n : ℕ) → 0 + n ≡ n
+    same-sum n = omega arith
+
+pub adds_if : (v : Weight) (n : ℕ) (a : Work) (t : Bool) (b c : Work) → Adds v n a b → Adds v n a c → Adds v n a (if t then b else c)
+adds_if v n a true b c x y = x
+adds_if v n a false b c x y = y
+
+pub unchanged : (v : Weight) (a : Work) → Adds v 0 a a
+unchanged v a = record { waits = refl; classes = refl; goes = λ r. r; by = λ r s. (s, omega arith) }
+
+-- ---- the small steps
+
+pub puts-adds : (v : Weight) (ns : List PlainNode) (w : Work) → Adds v (nodes_weight v ns) w (puts ns w)
+puts-adds v ns w =
+    let e : nodes_weight v (w.put_back ++ ns) ≡ nodes_weight v w.put_back + nodes_weight v ns = weight-append v w.put_back ns in
+    record { waits = refl; classes = refl; goes = λ r. r; by = λ r s. (s, sums (state_weight v w.state) (nodes_weight v w.put_back) (nodes_weight v (w.put_back ++ ns)) (sent_weight v w.sent) (nodes_weight v ns) e) }
+  where
+    sums : (x p q y n : ℕ) → q ≡ p + n → x + q + y ≡ x + p + y + n
+    sums x p q y n e = omega arith
+
+pub records-adds : (v : Weight) (r : Recorded) (w : Work) → Adds v 0 w (records_also r w)
+records-adds v r w = adds_if v 0 w w.refused w (record w { records = w.records ++ r ∷ [] }) (unchanged v w) (record { waits = refl; classes = refl; goes = λ k. k; by = λ k s. (s, omega arith) })
+
+pub warns-adds : (v : Weight) (e : Warn) (w : Work) → Adds v 0 w (sends (warned e) w)
+warns-adds v e w = adds_if v 0 w w.refused w (record w { sent = w.sent ++ warned e ∷ [] }) (unchanged v w) (record { waits = refl; classes = refl; goes = λ k. k; by = λ k s. (s, sums (state_weight v w.state + nodes_weight v w.put_back) (sent_weight v w.sent) (sent_weight v (w.sent ++ warned e ∷ [])) (sent-append v w.sent (warned e ∷ []))) })
+  where
+    sums : (x y z : ℕ) → z ≡ y + 0 → x + z ≡ x + y + 0
+    sums x y z e = omega arith
+
+-- a page that is shipped
+pub shipped-adds : (v : Weight) (p : Params) (sheet : PlainSheet) (w : Work) → Adds v (sheet_weight v sheet) w (Ship.ship p sheet w)
+shipped-adds v p sheet w = by_refused w.refused refl
+  where
+    sums : (x y z n : ℕ) → z ≡ y + (n + 0) → x + z ≡ x + y + n
+    sums x y z n e = omega arith
+
+    turned : Work
+    turned = record w { state = record w.state { page = w.state.page + 1; dead_cycles = 0 } }
+
+    sent_now : Adds v (sheet_weight v sheet) w (record turned { sent = w.sent ++ shipped w.state.page sheet ∷ [] })
+    sent_now = record { waits = refl; classes = refl; goes = λ k. k; by = λ k s. (record { box = s.box; columns = s.columns; entries = s.entries }, sums (state_weight v w.state + nodes_weight v w.put_back) (sent_weight v w.sent) (sent_weight v (w.sent ++ shipped w.state.page sheet ∷ [])) (sheet_weight v sheet) (sent-append v w.sent (shipped w.state.page sheet ∷ []))) }
+
+    now : (t : Bool) → w.refused ≡ t → t ≡ false → Adds v (sheet_weight v sheet) w (if t then turned else record turned { sent = w.sent ++ shipped w.state.page sheet ∷ [] })
+    now true r h = let no : ⊥ = grind (arith, h) in absurd no
+    now false r h = sent_now
+
+    by_limit : w.refused ≡ false → (u : Bool) → Adds v (sheet_weight v sheet) w (if u then record w { refused = true } else Ship.ship_now sheet w)
+    by_limit r true = record { waits = refl; classes = refl; goes = λ k. let no : ⊥ = grind (arith, k) in absurd no; by = λ k s. let no : ⊥ = grind (arith, k) in absurd no }
+    by_limit r false = now w.refused refl r
+
+    by_refused : (t : Bool) → w.refused ≡ t → Adds v (sheet_weight v sheet) w (if t then w else (if int_lt p.maxpages (pos w.state.page) then record w { refused = true } else Ship.ship_now sheet w))
+    by_refused true h = record { waits = refl; classes = refl; goes = λ k. k; by = λ k s. let no : ⊥ = grind (arith, k, h) in absurd no }
+    by_refused false h = by_limit h (int_lt p.maxpages (pos w.state.page))

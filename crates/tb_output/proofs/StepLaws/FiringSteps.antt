@@ -1,0 +1,148 @@
+-- What a firing is made of: steps of its columns, and changes of what is put back, of the held page, the insertion boxes and the
+-- goal.
+use Rattle.std.proofs.Common.{◌≡◌, refl, Bool, true, false, List, [], ◌∷◌, ◌++◌, length}
+use Rattle.std.specs.Prelude.{ℤ, int_le, not, ◌||◌, if◌then◌else◌}
+use Rattle.tb_node.specs.declared.Float.{Float}
+use Rattle.tb_node.specs.declared.Margin.{Margin}
+use Rattle.tb_node.specs.declared.Where.{Where}
+use Rattle.tb_node.specs.declared.Where.TheVariants as places
+use Rattle.tb_node.specs.Plain.{PlainNode, made, blank_box, skip}
+use Rattle.tb_scaled.specs.Glue.{filling_glue}
+use Rattle.tb_scaled.specs.Scaled.{eject_penalty, max_dimen}
+use Rattle.tb_param.specs.declared.Params.{Params}
+use Rattle.tb_builder.specs.Fired.{Fired}
+use Rattle.tb_float.specs.declared.Entry.{Entry}
+use Rattle.tb_float.specs.declared.Entry.TheVariants as entries
+use Rattle.tb_float.specs.Lists.{FloatLists}
+use Rattle.tb_float.specs.Rooms.{column_height_of, column_room_of}
+use Rattle.tb_area.specs.Area.{current_place}
+use Rattle.tb_area.proofs.LawLemmas.{current-laws}
+use Rattle.tb_margin.specs.declared.Placed.{Placed}
+use Rattle.tb_column.specs.Column.{Notes, PlainSent, warned}
+use Rattle.tb_column.specs.declared.Warn.TheVariants as warnings
+use Rattle.tb_output.specs.State.{State, Work, placed, begun, puts, sends, with_floats, footnotes, has_floats}
+use Rattle.tb_output.specs.Place
+use Rattle.tb_output.specs.Ship
+use Rattle.tb_output.specs.Columns
+use Rattle.tb_output.specs.Text
+use Rattle.tb_output.specs.Clear
+use Rattle.tb_output.specs.Out
+use Rattle.tb_output.specs.Firing.{page_work}
+use Rattle.tb_output.proofs.StepLaws.ColumnSteps.{RecordLaw, course, ColumnStep, still, in_turn, sends_one, place_float-step, place_next-step, all_wide_pages-step, put_out-step, float_columns-step}
+
+-- a step of a firing: one of its columns, or a change of something that sending, recording and shipping leave alone
+pub data FiringStep (p : Params) (law : RecordLaw p) : Work → Work → Type 0 where
+  by_columns : {a b : Work} → ColumnStep p law a b → FiringStep p law a b
+  changes : {a b : Work} → course b ≡ course a → FiringStep p law a b
+  afterwards : {a b c : Work} → FiringStep p law a b → FiringStep p law b c → FiringStep p law a c
+
+module _ (p : Params) (law : RecordLaw p) where
+  abbrev Step : Work → Work → Type 0
+  Step = FiringStep p law
+
+  step_if : (a : Work) (t : Bool) (b c : Work) → Step a b → Step a c → Step a (if t then b else c)
+  step_if a true b c x y = x
+  step_if a false b c x y = y
+
+  sends-step : (e : PlainSent) (w : Work) → Step w (sends e w)
+  sends-step e w = by_columns (sends_one e w)
+
+  pub put_out_text-step : (body : List PlainNode) (w : Work) → Step w (Columns.put_out_text p body w)
+  put_out_text-step body w = afterwards {b = Columns.without_column_floats w} (changes refl) (by_columns (put_out-step p law _ _))
+
+  pub ordinary-step : (body : List PlainNode) (w : Work) → Step w (Columns.ordinary p body w)
+  ordinary-step body w =
+      let a = Columns.put_out_text p body w in
+      let b = Columns.all_float_columns p false a in
+      afterwards (put_out_text-step body w) (by_columns (in_turn (float_columns-step p law false (length a.state.floats.deferred) a) (place_next-step p law [] b.state.floats.deferred b)))
+
+  -- ---- floats and notes in the text
+
+  interline-step : (a w : Work) → Step a w → Step a (Text.puts_interline p w)
+  interline-step a w x = afterwards {b = w} x (changes refl)
+
+  pub defer-step : (f : Float) (left : FloatLists) (w : Work) → ColumnStep p law w (Text.defer p f left w)
+  defer-step f left w = by_places (Text.only_here f)
+    where
+      a : Work
+      a = Place.place_float p places.Deferred (Text.with_top f) left w
+
+      by_places : (t : Bool) → ColumnStep p law w (if t then sends (warned (warnings.Ht f.name)) a else Place.place_float p places.Deferred f left w)
+      by_places true = in_turn {b = a} (still refl refl) (sends_one (warned (warnings.Ht f.name)) a)
+      by_places false = still refl refl
+
+  pub float_goes-step : (vert : Bool) (f : Float) (left : FloatLists) (w : Work) (place : Where) → law.holds (placed f place w.state.floats (column_height_of p w.state.floats)) → Step w (Text.float_goes p vert f left w place)
+  float_goes-step vert f left w places.Here h =
+      let a = Place.place_float p places.Here f left w in
+      afterwards {b = Text.puts_interline p a} (interline-step w a (by_columns (place_float-step p law places.Here f left w h))) (changes refl)
+  float_goes-step vert f left w places.Top h = interline-step w _ (by_columns (place_float-step p law places.Top f left w h))
+  float_goes-step vert f left w places.Bottom h = interline-step w _ (by_columns (place_float-step p law places.Bottom f left w h))
+  float_goes-step vert f left w places.Page h = interline-step w _ (by_columns (defer-step f left w))
+  float_goes-step vert f left w places.Double h = interline-step w _ (by_columns (defer-step f left w))
+  float_goes-step vert f left w places.Deferred h = interline-step w _ (by_columns (defer-step f left w))
+
+  pub note_goes-step : (depth : ℤ) (m : Margin) (left : FloatLists) (w : Work) (at : Placed) → Step w (Text.note_goes p depth m left w at)
+  note_goes-step depth m left w at =
+      let a = Text.with_note_bottom at.bottom (with_floats left w) in
+      let b = Text.moved_warning m at a in
+      afterwards {b = a} (changes refl)
+      (afterwards {b = b} (step_if a at.moved (sends (warned (warnings.Moved m.name at.shift)) a) a (sends-step (warned (warnings.Moved m.name at.shift)) a) (changes refl)) (changes refl))
+
+  pub first_goes-step : (vert : Bool) (height depth page_height : ℤ) (es : List Entry) (w : Work) → Step w (Text.first_goes p vert height depth page_height es w)
+  first_goes-step vert height depth page_height (entries.Float f ∷ es) w =
+      let place = current_place p w.state.floats w.state.suppress page_height f in
+      float_goes-step vert f _ w place (law.at_place f place w.state.floats (current-laws p w.state.floats w.state.suppress page_height f).limits)
+  first_goes-step vert height depth page_height (entries.Left m ∷ []) w = note_goes-step depth m _ w _
+  first_goes-step vert height depth page_height (entries.Left m ∷ e ∷ es) w = note_goes-step depth m _ w _
+  first_goes-step vert height depth page_height (entries.Right m ∷ es) w = changes refl
+  first_goes-step vert height depth page_height [] w = changes refl
+
+  pub float_or_note-step : (vert : Bool) (body : List PlainNode) (w : Work) → Step w (Text.float_or_note p vert body w)
+  float_or_note-step vert body w =
+      afterwards {b = Text.list_back p (w.state.held_page ++ Text.without_firing_box body) w} (changes refl) (first_goes-step vert _ _ _ w.state.floats.current _)
+
+  -- ---- a clear
+
+  pub clear_wide-step : (w : Work) → Step w (Clear.clear_wide p w)
+  clear_wide-step w = by_number w.state.two_columns
+    where
+      a : Work
+      a = with_floats (Clear.double_again p w.state.floats) w
+
+      by_number : (t : Bool) → Step w (if not t then w else (if w.state.first_column then Ship.all_wide_pages p true a else puts (made blank_box ∷ Clear.clear_again) w))
+      by_number false = changes refl
+      by_number true = step_if w w.state.first_column (Ship.all_wide_pages p true a) (puts (made blank_box ∷ Clear.clear_again) w) (afterwards {b = a} (changes refl) (by_columns (all_wide_pages-step p law true a))) (changes refl)
+
+  pub clear_floats-step : (body : List PlainNode) (w : Work) → Step w (Clear.clear_floats p body w)
+  clear_floats-step body w =
+      let a = with_floats (Clear.deferred_again w.state.floats) (puts (Clear.cleared_front p body) w) in
+      let b = Columns.all_float_columns p true a in
+      let c = Clear.clear_wide p b in
+      afterwards {b = a} (changes refl)
+      (afterwards {b = b} (by_columns (float_columns-step p law true (length a.state.floats.deferred) a))
+      (afterwards (clear_wide-step b) (step_if c (has_floats c.state.floats.deferred || has_floats c.state.floats.second) (puts Clear.clear_again c) c (changes refl) (changes refl))))
+
+  pub clear_by-step : (body : List PlainNode) (w : Work) (notes : List Notes) → Step w (Clear.clear_by p body w notes)
+  clear_by-step body w [] = clear_floats-step body w
+  clear_by-step body w (n ∷ notes) = afterwards (put_out_text-step (body ++ made (skip filling_glue) ∷ []) w) (changes refl)
+
+  -- ---- a firing
+
+  pub output_by-step : (f : Fired) (w : Work) → Step w (Out.output_by p f w)
+  output_by-step f w =
+      step_if w (int_le eject_penalty f.penalty) (Columns.ordinary p f.body w) _ (ordinary-step f.body w)
+      (step_if w (Out.is_int f.penalty Out.clear_penalty) (Clear.clear p f.body w) _ (clear_by-step f.body w (footnotes w.state))
+      (step_if w (Out.is_int f.penalty Out.par_penalty) (Text.float_or_note p false f.body w) _ (float_or_note-step false f.body w)
+      (step_if w (Out.is_int f.penalty Out.vert_penalty) (Text.float_or_note p true f.body w) (Out.hold f.body w) (float_or_note-step true f.body w) (changes refl))))
+
+  pub next_goal-step : (n : ℤ) (w : Work) → Step w (Out.next_goal p n w)
+  next_goal-step n w =
+      let room = column_room_of p w.state.floats in
+      let told = sends (warned (warnings.Floats w.state.page)) w in
+      step_if w (Out.is_int n Out.hold_penalty) (Out.with_goal max_dimen w) (Out.goal_by p room w) (changes refl)
+      (step_if w (Out.is_crowded p room) (Out.leave_column w) (Out.with_goal room w) (afterwards {b = told} (sends-step (warned (warnings.Floats w.state.page)) w) (changes refl)) (changes refl))
+
+  -- a firing without what waits after it
+  pub page_work-step : (s : State) (f : Fired) → Step (begun (Out.after_page s f)) (page_work p s f)
+  unfolding page_work
+  page_work-step s f = afterwards (output_by-step f (begun (Out.after_page s f))) (next_goal-step f.penalty (Out.output_by p f (begun (Out.after_page s f))))

@@ -1,0 +1,240 @@
+-- Each step of a firing continues the work before it.
+use Rattle.std.proofs.Common.{◌≡◌, refl, sym, ◌∙◌, ap, pos, ◌+◌, Bool, true, false, List, [], ◌∷◌, ◌++◌, append_assoc, append-nil, length, arith}
+use Rattle.std.specs.Prelude.{ℕ, ℤ, ◌&&◌, int_lt, not, ◌||◌, if◌then◌else◌}
+use Rattle.tb_node.specs.declared.Float.{Float}
+use Rattle.tb_node.specs.declared.Margin.{Margin}
+use Rattle.tb_node.specs.declared.Where.{Where}
+use Rattle.tb_node.specs.Plain.{PlainNode}
+use Rattle.tb_param.specs.declared.Params.{Params}
+use Rattle.tb_builder.specs.Fired.{Fired}
+use Rattle.tb_float.specs.declared.Entry.{Entry}
+use Rattle.tb_float.specs.declared.Part.{Part}
+use Rattle.tb_float.specs.Lists.{FloatLists, wide_part, wide_waiting}
+use Rattle.tb_fpage.specs.Company.{Choice}
+use Rattle.tb_margin.specs.declared.Placed.{Placed}
+use Rattle.tb_column.specs.Column.{PlainColumn, PlainSheet, PlainSent, shipped, warned}
+use Rattle.tb_column.specs.declared.Warn.TheVariants as warnings
+use Rattle.tb_output.specs.State.{State, Work, Recorded, begun, puts, sends, records_also, with_floats, footnotes, has_floats}
+use Rattle.tb_output.specs.Place
+use Rattle.tb_output.specs.Ship
+use Rattle.tb_output.specs.Columns
+use Rattle.tb_output.specs.Text
+use Rattle.tb_output.specs.Clear
+use Rattle.tb_output.specs.Out
+use Rattle.tb_output.specs.Firing.{page_work}
+use Rattle.tb_output.specs.Working.{Continues}
+use Rattle.tb_output.proofs.StepLaws.ColumnSteps.{RecordLaw, no_law, course, ColumnStep, still, in_turn, sends_one, records_one, ships_one, place_float-step, place_waiting-step, place_next-step, place_double-step, ship_wide-step, wide_pages-step, all_wide_pages-step, ship_pair-step, put_out_by-step, put_out-step, put_out_company-step, float_columns-step}
+use Rattle.tb_output.proofs.StepLaws.FiringSteps.{FiringStep, by_columns, changes, afterwards, put_out_text-step, ordinary-step, defer-step, float_goes-step, note_goes-step, first_goes-step, float_or_note-step, clear_wide-step, clear_floats-step, clear_by-step, output_by-step, next_goal-step, page_work-step}
+
+-- what is sent, the refusal, the page, the classes and what waits are as they were
+pub continues-same : {w next : Work} → next.sent ≡ w.sent → next.refused ≡ w.refused → next.state.page ≡ w.state.page → next.state.classes ≡ w.state.classes → next.state.waiting ≡ w.state.waiting → Continues w next
+continues-same {w} {next} s r q c n = record { more = []; sent = s ∙ sym (append-nil w.sent); refused = λ h. (r ∙ h, s, q); classes = c; waiting = n }
+
+pub continues-then : {a b c : Work} → Continues a b → Continues b c → Continues a c
+continues-then {a} {b} {c} x y = record {
+  more = x.more ++ y.more;
+  sent = y.sent ∙ ap (λ l. l ++ y.more) x.sent ∙ append_assoc a.sent x.more y.more;
+  refused = λ h.
+      let k : (b.refused ≡ true) × (b.sent ≡ a.sent) × (b.state.page ≡ a.state.page) = x.refused h in
+      let l : (c.refused ≡ true) × (c.sent ≡ b.sent) × (c.state.page ≡ b.state.page) = y.refused k.0 in
+      (l.0, l.1 ∙ k.1, l.2 ∙ k.2);
+  classes = y.classes ∙ x.classes;
+  waiting = y.waiting ∙ x.waiting;
+}
+
+pub continues_if : (w : Work) (t : Bool) (b c : Work) → Continues w b → Continues w c → Continues w (if t then b else c)
+continues_if w true b c x y = x
+continues_if w false b c x y = y
+
+-- anything follows if a work both was and was not refused
+unrefused : {X : Type 0} {t : Bool} → t ≡ false → t ≡ true → X
+unrefused r h = absurd (grind (arith, r, h))
+
+-- a step that the page limit stops
+continues-unless : (w next : Work) → (w.refused ≡ false → Continues w next) → Continues w (if w.refused then w else next)
+continues-unless w next h = by_refused w.refused refl
+  where
+    by_refused : (t : Bool) → w.refused ≡ t → Continues w (if t then w else next)
+    by_refused true r = continues-same refl refl refl refl refl
+    by_refused false r = h r
+
+pub continues-puts : (ns : List PlainNode) (w : Work) → Continues w (puts ns w)
+continues-puts ns w = continues-same refl refl refl refl refl
+
+pub continues-sends : (e : PlainSent) (w : Work) → Continues w (sends e w)
+continues-sends e w = continues-unless w (record w { sent = w.sent ++ e ∷ [] }) (λ r. record { more = e ∷ []; sent = refl; refused = λ h. unrefused r h; classes = refl; waiting = refl })
+
+pub continues-records : (r : Recorded) (w : Work) → Continues w (records_also r w)
+continues-records r w = continues-unless w (record w { records = w.records ++ r ∷ [] }) (λ h. continues-same refl refl refl refl refl)
+
+pub continues-ship : (p : Params) (sheet : PlainSheet) (w : Work) → Continues w (Ship.ship p sheet w)
+continues-ship p sheet w = continues-unless w (if int_lt p.maxpages (pos w.state.page) then record w { refused = true } else Ship.ship_now sheet w) (λ r. continues_if w (int_lt p.maxpages (pos w.state.page)) (record w { refused = true }) (Ship.ship_now sheet w) (limited r) (now r w.refused r))
+  where
+    limited : w.refused ≡ false → Continues w (record w { refused = true })
+    limited r = record { more = []; sent = sym (append-nil w.sent); refused = λ h. unrefused r h; classes = refl; waiting = refl }
+
+    counted : Work
+    counted = record w { state = record w.state { page = w.state.page + 1; dead_cycles = 0 } }
+
+    now : w.refused ≡ false → (t : Bool) → t ≡ false → Continues w (if t then counted else record counted { sent = counted.sent ++ shipped w.state.page sheet ∷ [] })
+    now r true h = unrefused h refl
+    now r false h = record { more = shipped w.state.page sheet ∷ []; sent = refl; refused = λ k. unrefused r k; classes = refl; waiting = refl }
+
+continues-course : {w next : Work} → course next ≡ course w → Continues w next
+continues-course c = continues-same (ap (λ x. x.sent) c) (ap (λ x. x.refused) c) (ap (λ x. x.page) c) (ap (λ x. x.classes) c) (ap (λ x. x.waiting) c)
+
+pub column-continues : {p : Params} {law : RecordLaw p} {a b : Work} → ColumnStep p law a b → Continues a b
+column-continues (still c f) = continues-course c
+column-continues (in_turn x y) = continues-then (column-continues x) (column-continues y)
+column-continues (sends_one e w) = continues-sends e w
+column-continues (records_one r w h) = continues-records r w
+column-continues {p} (ships_one sheet w) = continues-ship p sheet w
+
+pub continues : {p : Params} {law : RecordLaw p} {a b : Work} → FiringStep p law a b → Continues a b
+continues (by_columns x) = column-continues x
+continues (changes c) = continues-course c
+continues (afterwards x y) = continues-then (continues x) (continues y)
+
+-- a step that is not refused comes after no refusal
+pub unrefused-before : {a b : Work} → Continues a b → b.refused ≡ false → a.refused ≡ false
+unrefused-before {a} {b} x h = by_refused a.refused refl
+  where
+    by_refused : (t : Bool) → a.refused ≡ t → t ≡ false
+    by_refused true r = unrefused h (x.refused r).0
+    by_refused false r = refl
+
+pub column-unrefused : {p : Params} {law : RecordLaw p} {a b : Work} → ColumnStep p law a b → b.refused ≡ false → a.refused ≡ false
+column-unrefused x h = unrefused-before (column-continues x) h
+
+pub firing-unrefused : {p : Params} {law : RecordLaw p} {a b : Work} → FiringStep p law a b → b.refused ≡ false → a.refused ≡ false
+firing-unrefused x h = unrefused-before (continues x) h
+
+-- ---- floats
+
+pub continues-lists : (l : FloatLists) (w : Work) → Continues w (with_floats l w)
+continues-lists l w = continues-same refl refl refl refl refl
+
+pub continues-place_float : (p : Params) (place : Where) (f : Float) (left : FloatLists) (w : Work) → Continues w (Place.place_float p place f left w)
+continues-place_float p place f left w = column-continues (place_float-step p (no_law p) place f left w tt)
+
+pub continues-place_waiting : (from : Part) (p : Params) (place : Where) (f : Float) (before rest : List Float) (w : Work) → Continues w (Place.place_waiting from p place f before rest w)
+continues-place_waiting from p place f before rest w = column-continues (place_waiting-step p (no_law p) from place f before rest w tt)
+
+pub continues-place_next : (p : Params) (before fs : List Float) (w : Work) → Continues w (Place.place_next p before fs w)
+continues-place_next p before fs w = column-continues (place_next-step p (no_law p) before fs w)
+
+pub continues-place_double : (from : Part) (p : Params) (before fs : List Float) (w : Work) → Continues w (Place.place_double from p before fs w)
+continues-place_double from p before fs w = column-continues (place_double-step p (no_law p) from before fs w)
+
+-- ---- pages and columns
+
+pub continues-ship_wide : (p : Params) (cs : List Choice) (w : Work) → Continues w (Ship.ship_wide p cs w)
+continues-ship_wide p cs w = column-continues (ship_wide-step p (no_law p) cs w)
+
+pub continues-wide_pages : (p : Params) (clearing : Bool) (n : ℕ) (w : Work) → Continues w (Ship.wide_pages p clearing n w)
+continues-wide_pages p clearing n w = column-continues (wide_pages-step p (no_law p) clearing n w)
+
+pub continues-all_wide_pages : (p : Params) (clearing : Bool) (w : Work) → Continues w (Ship.all_wide_pages p clearing w)
+continues-all_wide_pages p clearing w = column-continues (all_wide_pages-step p (no_law p) clearing w)
+
+pub continues-fill_double : (p : Params) (w : Work) → Continues w (Ship.fill_double p w)
+continues-fill_double p w = column-continues (place_double-step p (no_law p) (wide_part p) [] (wide_waiting p w.state.floats) w)
+
+pub continues-ship_pair : (p : Params) (c : PlainColumn) (w : Work) → Continues w (Ship.ship_pair p c w)
+continues-ship_pair p c w = column-continues (ship_pair-step p (no_law p) c w)
+
+pub continues-put_out_by : (p : Params) (c : PlainColumn) (w : Work) → Continues w (Ship.put_out_by p c w)
+continues-put_out_by p c w = column-continues (put_out_by-step p (no_law p) c w)
+
+pub continues-after_column : (w : Work) → Continues w (Ship.after_column w)
+continues-after_column w = continues-same refl refl refl refl refl
+
+pub continues-put_out : (p : Params) (c : PlainColumn) (w : Work) → Continues w (Ship.put_out p c w)
+continues-put_out p c w = column-continues (put_out-step p (no_law p) c w)
+
+pub continues-put_out_text : (p : Params) (body : List PlainNode) (w : Work) → Continues w (Columns.put_out_text p body w)
+continues-put_out_text p body w = continues (put_out_text-step p (no_law p) body w)
+
+pub continues-put_out_company : (p : Params) (cs : List Choice) (w : Work) → Continues w (Columns.put_out_company p cs w)
+continues-put_out_company p cs w = column-continues (put_out_company-step p (no_law p) cs w)
+
+pub continues-float_columns : (p : Params) (clearing : Bool) (n : ℕ) (w : Work) → Continues w (Columns.float_columns p clearing n w)
+continues-float_columns p clearing n w = column-continues (float_columns-step p (no_law p) clearing n w)
+
+pub continues-all_float_columns : (p : Params) (clearing : Bool) (w : Work) → Continues w (Columns.all_float_columns p clearing w)
+continues-all_float_columns p clearing w = continues-float_columns p clearing (length w.state.floats.deferred) w
+
+pub continues-fill_column : (p : Params) (w : Work) → Continues w (Columns.fill_column p w)
+continues-fill_column p w = continues-place_next p [] w.state.floats.deferred w
+
+pub continues-ordinary : (p : Params) (body : List PlainNode) (w : Work) → Continues w (Columns.ordinary p body w)
+continues-ordinary p body w = continues (ordinary-step p (no_law p) body w)
+
+-- ---- floats and notes in the text
+
+pub continues-puts_interline : (p : Params) (w : Work) → Continues w (Text.puts_interline p w)
+continues-puts_interline p w = continues-same refl refl refl refl refl
+
+pub continues-list_back : (p : Params) (ns : List PlainNode) (w : Work) → Continues w (Text.list_back p ns w)
+continues-list_back p ns w = continues-same refl refl refl refl refl
+
+pub continues-defer : (p : Params) (f : Float) (left : FloatLists) (w : Work) → Continues w (Text.defer p f left w)
+continues-defer p f left w = column-continues (defer-step p (no_law p) f left w)
+
+pub continues-float_goes : (p : Params) (vert : Bool) (f : Float) (left : FloatLists) (w : Work) (place : Where) → Continues w (Text.float_goes p vert f left w place)
+continues-float_goes p vert f left w place = continues (float_goes-step p (no_law p) vert f left w place tt)
+
+pub continues-note_goes : (p : Params) (depth : ℤ) (m : Margin) (left : FloatLists) (w : Work) (at : Placed) → Continues w (Text.note_goes p depth m left w at)
+continues-note_goes p depth m left w at = continues (note_goes-step p (no_law p) depth m left w at)
+
+pub continues-first_goes : (p : Params) (vert : Bool) (height depth page_height : ℤ) (es : List Entry) (w : Work) → Continues w (Text.first_goes p vert height depth page_height es w)
+continues-first_goes p vert height depth page_height es w = continues (first_goes-step p (no_law p) vert height depth page_height es w)
+
+pub continues-float_or_note : (p : Params) (vert : Bool) (body : List PlainNode) (w : Work) → Continues w (Text.float_or_note p vert body w)
+continues-float_or_note p vert body w = continues (float_or_note-step p (no_law p) vert body w)
+
+-- ---- a clear
+
+pub continues-clear_wide : (p : Params) (w : Work) → Continues w (Clear.clear_wide p w)
+continues-clear_wide p w = continues (clear_wide-step p (no_law p) w)
+
+pub continues-clear_rest : (w : Work) → Continues w (Clear.clear_rest w)
+continues-clear_rest w = continues_if w (has_floats w.state.floats.deferred || has_floats w.state.floats.second) (puts Clear.clear_again w) w (continues-puts Clear.clear_again w) (continues-same refl refl refl refl refl)
+
+pub continues-clear_floats : (p : Params) (body : List PlainNode) (w : Work) → Continues w (Clear.clear_floats p body w)
+continues-clear_floats p body w = continues (clear_floats-step p (no_law p) body w)
+
+pub continues-clear : (p : Params) (body : List PlainNode) (w : Work) → Continues w (Clear.clear p body w)
+continues-clear p body w = continues (clear_by-step p (no_law p) body w (footnotes w.state))
+
+-- ---- a firing
+
+pub continues-hold : (body : List PlainNode) (w : Work) → Continues w (Out.hold body w)
+continues-hold body w = continues-same refl refl refl refl refl
+
+pub continues-output_by : (p : Params) (f : Fired) (w : Work) → Continues w (Out.output_by p f w)
+continues-output_by p f w = continues (output_by-step p (no_law p) f w)
+
+pub continues-with_goal : (g : ℤ) (w : Work) → Continues w (Out.with_goal g w)
+continues-with_goal g w = continues-same refl refl refl refl refl
+
+pub continues-leave_column : (w : Work) → Continues w (Out.leave_column w)
+continues-leave_column w =
+    continues-then (continues-sends (warned (warnings.Floats w.state.page)) w) (continues-puts (if w.state.two_columns && not w.state.first_column then Out.blank_column ++ Out.blank_column else Out.blank_column) _)
+
+pub continues-next_goal : (p : Params) (n : ℤ) (w : Work) → Continues w (Out.next_goal p n w)
+continues-next_goal p n w = continues (next_goal-step p (no_law p) n w)
+
+-- a firing without what waits after it
+pub continues-page_work : (p : Params) (s : State) (f : Fired) → Continues (begun (Out.after_page s f)) (page_work p s f)
+continues-page_work p s f = continues (page_work-step p (no_law p) s f)
+
+-- a whole firing
+pub out-is : (p : Params) (s : State) (f : Fired) → Out.out p s f ≡ Out.waiting_again f (page_work p s f)
+unfolding page_work Out.out
+out-is p s f = refl
+
+-- a firing sends what its work sends, is refused where that is, and keeps the classes
+pub continues-out : (p : Params) (s : State) (f : Fired) → ((Out.out p s f).sent ≡ (page_work p s f).sent) × ((Out.out p s f).refused ≡ (page_work p s f).refused) × ((Out.out p s f).state.page ≡ (page_work p s f).state.page) × ((Out.out p s f).state.classes ≡ s.classes)
+unfolding page_work Out.out
+continues-out p s f = (refl, refl, refl, (continues-page_work p s f).classes)
