@@ -1,5 +1,5 @@
 -- A page that is filled and ships, as part of a turn. No public clause cites this module.
-use Rattle.std.specs.Prelude.{◌≡◌, ℕ, ◌+◌, ◌≤◌, ◌⊎◌, pos, ◌<ℤ◌, ◌≤ℤ◌, true, false, List, [], ◌∷◌, ◌++◌, Option, Some, None}
+use Rattle.std.specs.Prelude.{◌≡◌, ℕ, ◌+◌, ◌*◌, ◌≤◌, ◌⊎◌, pos, ◌<ℤ◌, ◌≤ℤ◌, true, false, List, [], ◌∷◌, ◌++◌, Option, Some, None}
 use Rattle.tb_builder.specs.declared.Page.{Page}
 use Rattle.tb_node.specs.Plain.{PlainNode}
 use Rattle.tb_builder.specs.Contents.{node_count}
@@ -11,25 +11,32 @@ use Rattle.tb_run.specs.Run.{sent}
 use Rattle.tb_run.specs.Happened.{events_of}
 use Rattle.tb_plain.specs.Calls.{CanFire, fired_with}
 use Rattle.tb_plain.specs.Firing.{holds_any, makeup_column}
-use Rattle.tb_plain.specs.Run.{MakeupState, makeup_step, firing_step, last_step, builder_holds, void_boxes, ejecting_nodes, waiting_after}
+use Rattle.tb_plain.specs.Run.{MakeupState, makeup_step, firing_step, last_step, builder_holds, void_boxes, act_count, ejecting_nodes, waiting_after}
 use Rattle.tb_makeup.specs.declared.running.Makeup.{Makeup}
 use Rattle.tb_makeup.specs.declared.running.MakeupEnding.{MakeupEnding}
 use Rattle.tb_makeup.specs.declared.running.MakeupEnding.TheVariants as endings
-use Rattle.tb_makeup.specs.Turning.{held_in, state_of, node_total, over_limit, AreRunNodes, AreAfter, run_at, AreHappened}
+use Rattle.tb_makeup.specs.Turning.{held_in, state_of, node_total, over_limit, AreRunNodes, AreAfter, IsBounded, run_at, AreHappened}
 
--- the parameters, what pages are made for and the limit are as before
+-- the parameters, what pages are made for, the limit and the bound on nodes are as before
 pub record Continues (r q : Makeup) : Type 0 where
   pub plain : q.plain ≡ r.plain
   pub ask : q.ask ≡ r.ask
   pub limit : q.limit ≡ r.limit
+  pub bound : q.bound ≡ r.bound
 
 -- the floats of a page were taken up to this state, from which the run goes on
 pub record Takes (r : Makeup) (s : MakeupState) : Type 0 where
   pub run : run_at r.plain.params (state_of r) ≡ run_at r.plain.params s
   pub nodes : AreRunNodes s
   pub total : node_total s ≤ node_total (state_of r)
+  pub acts : act_count s.waiting ≤ act_count (state_of r).waiting
   pub number : s.number ≡ r.plain.page
   pub phase : ((state_of r).page ≡ []) ⊎ (s.waiting ≡ ejecting_nodes)
+
+-- six nodes more than before the page wait after it at most, with those that acts can add, and no more acts
+pub record HasGrown (r : Makeup) (waiting : List PlainNode) : Type 0 where
+  pub total : node_count waiting + 5 * act_count waiting ≤ node_total (state_of r) + 6
+  pub acts : act_count waiting ≤ act_count (state_of r).waiting
 
 -- the page fires
 pub record IsFiring (r : Makeup) (page : Page) (q : Makeup) : Type 0 where
@@ -38,6 +45,7 @@ pub record IsFiring (r : Makeup) (page : Page) (q : Makeup) : Type 0 where
   pub step : makeup_step r.plain.params s ≡ firing_step r.plain.params s.number (fired_with q.builder q.store page)
   pub can : CanFire q.builder q.store page
   pub after : AreAfter r.plain.params (fired_with q.builder q.store page)
+  pub grown : HasGrown r (waiting_after r.plain.params (fired_with q.builder q.store page))
   pub classes : (held_in q).classes ≡ (builder_holds r.plain.params s).classes
   pub stopped : (held_in q).stopped ≡ false
   pub void : with_void 254 (with_void 253 (held_in q).boxes) ≡ void_boxes
@@ -52,6 +60,7 @@ pub record IsOver (r q : Makeup) : Type 0 where
   pub holds : held_in q ≡ builder_holds r.plain.params (record s { page = (held_in q).page; waiting = [] })
   pub sound : IsSound q.builder q.store
   pub nodes : AreRunNodes (record s { page = (held_in q).page; waiting = ejecting_nodes })
+  pub grown : node_total (record s { page = (held_in q).page; waiting = ejecting_nodes }) ≤ node_total (state_of r) + 4
   pub same : Continues r q
 
 -- what the page comes to
@@ -60,6 +69,10 @@ Fills r (Some page) q = IsFiring r page q
 Fills r None q = IsOver r q
 
 -- ---- the page ships
+
+-- what waits after the page is bounded, but for ten nodes
+abbrev pub IsBoundedPage : Page → Makeup → Type 0
+IsBoundedPage page r = IsBounded 10 (record { page = []; waiting = waiting_after r.plain.params (fired_with r.builder r.store page); number = r.plain.page + 1 }) r.bound
 
 -- the page shipped under the next number, and what is put back waits
 pub record HasShipped (page : Page) (r q : Makeup) (hs : List Happening) : Type 0 where
@@ -82,7 +95,7 @@ pub record IsAtLimit (n : ℕ) (r q : Makeup) (hs : List Happening) : Type 0 whe
 
 -- what the page that fires comes to
 abbrev pub Ships : Page → Makeup → Option MakeupEnding → Makeup → List Happening → Type 0
-Ships page r None q hs = HasShipped page r q hs × (over_limit r.limit (node_count (waiting_after r.plain.params (fired_with r.builder r.store page))) ≡ None)
+Ships page r None q hs = HasShipped page r q hs × (over_limit r.limit (node_count (waiting_after r.plain.params (fired_with r.builder r.store page))) ≡ None) × IsBounded 0 (state_of q) q.bound
 Ships page r (Some endings.Done) q hs = ⊥
 Ships page r (Some (endings.PageLimit n)) q hs = IsAtLimit n r q hs
 Ships page r (Some (endings.NodeLimit n)) q hs = HasShipped page r q hs × (over_limit r.limit (node_count (waiting_after r.plain.params (fired_with r.builder r.store page))) ≡ Some (endings.NodeLimit n))

@@ -22,6 +22,6 @@ LedBy b (ins i) = Unit {0}
 LedBy b (act a) = (b ≡ true) × IsTake a
 
 -- the same of each act of a list, by whether a whatsit stands before the list
-abbrev pub Led : Bool → List PlainNode → Type 0
-Led b [] = Unit {0}
-Led b (n ∷ ns) = LedBy b n.kind × Led (is_whatsit n.kind) ns
+abbrev pub ActsAreLed : Bool → List PlainNode → Type 0
+ActsAreLed b [] = Unit {0}
+ActsAreLed b (n ∷ ns) = LedBy b n.kind × ActsAreLed (is_whatsit n.kind) ns

@@ -18,9 +18,10 @@ use Rattle.tb_plain.specs.Firing.{holds_any}
 use Rattle.tb_plain.specs.Run.{MakeupState, MakeupRun, MakeupEnd, done, page_limit, node_limit, builder_holds, makeup_ask, makeup_from, steps_left, act_count, run_after, ejecting_nodes, waiting_after}
 use Rattle.tb_plain.specs.Calls.{AreMakeupParams, IsPlain}
 use Rattle.tb_makeup.specs.declared.running.Makeup.{Makeup}
+use Rattle.tb_makeup.specs.declared.running.NodeBound.{NodeBound}
 use Rattle.tb_makeup.specs.declared.running.MakeupEnding.{MakeupEnding}
 use Rattle.tb_makeup.specs.declared.running.MakeupEnding.TheVariants as endings
-use Rattle.tb_makeup.specs.Led.{Led}
+use Rattle.tb_makeup.specs.Led.{ActsAreLed}
 
 -- what the builder holds
 abbrev pub held_in : Makeup → Contents
@@ -47,14 +48,14 @@ pub record AreRunNodes (s : MakeupState) : Type 0 where
   pub page : All IsSizedOnPage s.page
   pub waiting : All IsSizedOnPage s.waiting
   pub quiet : NoActs s.page
-  pub led : Led false s.waiting
+  pub led : ActsAreLed false s.waiting
   pub acts : act_count s.waiting ≤ 600005
   pub few : node_total s ≤ 7500000
 
 -- what waits after a page that fires: its nodes are sized and not too many
 pub record AreAfter (p : Params) (f : Fired) : Type 0 where
   pub sized : All IsSizedOnPage (waiting_after p f)
-  pub led : Led false (waiting_after p f)
+  pub led : ActsAreLed false (waiting_after p f)
   pub acts : act_count (waiting_after p f) ≤ 600005
   pub few : node_count (waiting_after p f) ≤ 8388608
 
@@ -62,6 +63,17 @@ pub record AreAfter (p : Params) (f : Fired) : Type 0 where
 pub data Phase (s : MakeupState) : Type 0 where
   begins : s.page ≡ [] → node_total s + 10 ≤ 7500000 → Phase s
   ejects : s.waiting ≡ ejecting_nodes → Phase s
+
+-- no more nodes than the bound says and so many more, with those that their acts can add, and no more acts; the bound is not too large
+pub record IsBounded (more : ℕ) (s : MakeupState) (b : NodeBound) : Type 0 where
+  pub total : node_total s ≤ b.most + more
+  pub acts : act_count s.waiting ≤ b.acts
+  pub few_nodes : b.most ≤ 7500000
+  pub few_acts : b.acts ≤ 600005
+
+-- the nodes that the bound does not say: those that end a page on which something stands, and the glue above its first box
+abbrev pub unsaid_nodes : MakeupState → ℕ
+unsaid_nodes s = if holds_any s.page then 4 else 0
 
 -- a page can be filled and shipped
 pub record IsReady (r : Makeup) : Type 0 where
@@ -73,6 +85,7 @@ pub record IsReady (r : Makeup) : Type 0 where
   pub holds : held_in r ≡ builder_holds r.plain.params (state_of r)
   pub nodes : AreRunNodes (state_of r)
   pub phase : Phase (state_of r)
+  pub bounded : IsBounded (unsaid_nodes (state_of r)) (state_of r) r.bound
 
 -- ---- what a turn shows
 

@@ -1,10 +1,12 @@
 //! The nodes of a galley's items, as they wait at the page builder.
 
-ghost use Rattle.std.specs.Prelude.{◌≡◌, ◌∷◌, [], OnOk};
+ghost use Rattle.std.specs.Prelude.{◌≡◌, ◌≤◌, ℕ, ◌∷◌, [], OnOk};
 ghost use Rattle.tb_node.specs.Plain.{whatsit, plain, act, on_line};
 ghost use Rattle.tb_builder.specs.Contents.{contents_of};
 ghost use Rattle.tb_run.specs.Expanding.{CanTake, Waits, IsItem, AreItems};
 ghost use Rattle.tb_plain.specs.Expand.{clearing_glue, clearing_kinds, makeup_kinds, makeup_nodes, made_up};
+ghost use Rattle.tb_param.specs.declared.Params.{Params};
+ghost use Rattle.tb_plain.specs.Run.{act_count};
 
 use std::alloc::AllocError;
 use tb_builder::Builder;
@@ -89,6 +91,32 @@ fn put_clearing(store: &mut Lists<Node>, builder: &mut Builder, line: u32) -> Re
 {
     put(store, builder, line, Kind::Skip(clearing_glue()))?;
     put(store, builder, line, Kind::Pen(CLEARING_PENALTY))
+}
+
+/// How many acts the nodes of a galley have.
+pub(crate) fn act_count(galley: &Galley) -> u64
+    ensures { result ≡ act_count (made_up galley.now) }
+{
+    let mut count = 0;
+    for item in galley.items.as_slice() {
+        count += acts_of(&item.kind);
+    }
+    count
+}
+
+// How many acts an item has. Of the items that are served only floats have one.
+fn acts_of(kind: &ItemKind) -> u64
+    ensures count { (p : Params) (line : ℕ) → act_count (on_line line (makeup_kinds p kind.now)) ≡ result }
+    ensures few { result ≤ 1 }
+{
+    match kind {
+        ItemKind::Float { .. } => 1,
+        ItemKind::Margin { .. } => 1,
+        ItemKind::OneColumn => 1,
+        ItemKind::TwoColumn => 1,
+        ItemKind::Suppress(_) => 1,
+        _ => 0,
+    }
 }
 
 // Glue that fills what is left of a page, also beside glue whose stretch is fil.

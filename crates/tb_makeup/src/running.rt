@@ -1,10 +1,11 @@
 //! The page makeup over one store: the page builder fills a page, and it ships.
 
-ghost use Rattle.std.specs.Prelude.{◌≡◌, ◌≢◌, ◌≤◌, ◌+◌, ◌++◌, ℕ, [], None, IfOk, IfNone, OnOk};
+ghost use Rattle.std.specs.Prelude.{◌≡◌, ◌≢◌, ◌≤◌, ◌≤ℤ◌, ◌+◌, ◌++◌, ℕ, pos, [], None, IfOk, IfNone, OnOk};
 ghost use Rattle.std.specs.List.{AllByRecursion};
 ghost use Rattle.std.specs.FinMap.{get};
 ghost use Rattle.tb_pool.specs.Lists.{IsLive, list_at};
-ghost use Rattle.tb_builder.specs.Contents.{node_count, box_count, plain_list};
+ghost use Rattle.tb_node.specs.Plain.{plain_list};
+ghost use Rattle.tb_builder.specs.Contents.{node_count, box_count};
 ghost use Rattle.tb_builder.specs.Running.{IsSound};
 ghost use Rattle.tb_builder.specs.Owned.{Lacks, ids_of, inner_ids, inner_of, owned};
 ghost use Rattle.tb_builder.specs.Handed.{ListJoins, MayWait, NoPage, with_void};
@@ -14,10 +15,10 @@ ghost use Rattle.tb_run.specs.Turning.{ArePages};
 ghost use Rattle.tb_plain.specs.Expand.{made_up};
 ghost use Rattle.tb_plain.specs.Calls.{IsPlain, CanFire, fired_with};
 ghost use Rattle.tb_plain.specs.Run.{makeup_ask, makeup_classes, first_makeup, waiting_after};
-ghost use Rattle.tb_makeup.specs.Turning.{held_in, state_of, over_limit, node_total, AreRunParams, AreRunNodes, IsReady, IsTurned, AreHappened};
-ghost use Rattle.tb_makeup.specs.Filling.{Fills, Ships, Contributes, Ejects, Finishes};
+ghost use Rattle.tb_makeup.specs.Turning.{held_in, state_of, over_limit, node_total, AreRunParams, AreRunNodes, IsBounded, IsReady, IsTurned, AreHappened};
+ghost use Rattle.tb_makeup.specs.Filling.{Fills, IsBoundedPage, Ships, Contributes, Ejects, Finishes};
 
-use crate::expanding::{clearing_glue, expand};
+use crate::expanding::{act_count, clearing_glue, expand};
 use std::alloc::{AllocError, Global};
 use tb_builder::{Ask, Builder, Event, Page, new_builder};
 use tb_column::{Sent, Sheet};
@@ -43,7 +44,26 @@ pub struct Makeup {
     pub ask: Ask,
     /// The most nodes that may wait.
     pub limit: i64,
+    bound: NodeBound,
 }
+
+// A bound on the nodes that wait and are on the page, so that they need not be counted after each page.
+#[derive(Clone, Copy)]
+pub(crate) struct NodeBound {
+    // The nodes, with those that the acts among them can add.
+    most: u64,
+    // The acts.
+    acts: u64,
+}
+
+// No galley has more nodes, with those that its acts can add.
+const MOST_NODES: u64 = 7_500_000;
+
+// A page adds no more nodes to those that wait: the glue above its first box, what ends it, and the page of held insertions.
+const ADDED_NODES: u64 = 10;
+
+// An act puts no more nodes than these and one in its place.
+const ACT_NODES: u64 = 5;
 
 /// How a run ends.
 #[derive(Clone, Copy)]
@@ -105,12 +125,17 @@ impl Makeup {
         let classes = makeup_classes(alloc, &galley.params)?;
         let mut builder = new_builder(alloc, &mut store, classes.as_slice())?;
         expand(&mut store, &mut builder, galley)?;
+        let bound = NodeBound {
+            most: MOST_NODES,
+            acts: act_count(galley),
+        };
         Ok(Makeup {
             store,
             builder,
             plain: new_plain(&galley.params),
             ask: makeup_ask(&galley.params),
             limit: galley.params.maxnodes,
+            bound,
         })
     }
 
@@ -121,11 +146,7 @@ impl Makeup {
         requires void { box_count (held_in self.now).boxes ≡ 0 }
         ensures { result ≡ over_limit self.now.limit (node_count (held_in self.now).waiting) }
     {
-        let count = self.builder.nodes(&self.store);
-        if exceeds(count, self.limit) {
-            return Some(MakeupEnding::NodeLimit { count });
-        }
-        None
+        over_limit(self.builder.nodes(&self.store), self.limit)
     }
 
     /// Makes the next page of what waits, and ships it; or, where nothing waits any more, ends the last page or the run.
@@ -172,8 +193,8 @@ impl Makeup {
         ensures { IfOk result (λ o. Fills self.old o self.new) }
     {
         'next: loop {
-            match self.builder.next(&mut self.store, &self.ask)? {
-                Event::Try(_) => {}
+            match self.builder.next_without_tries(&mut self.store, &self.ask)? {
+                Event::Try(_) => unreachable!(),
                 Event::Act(act) => self.plain.act(&mut self.store, &mut self.builder, act)?,
                 Event::Fired(page) => return Ok(Some(page)),
                 Event::Empty => return Ok(None),
@@ -191,6 +212,8 @@ impl Makeup {
         requires can { CanFire self.old.builder self.old.store page }
         requires few { node_count (waiting_after self.old.plain.params (fired_with self.old.builder self.old.store page)) ≤ 8388608 }
         requires void { box_count (with_void 254 (with_void 253 (held_in self.old).boxes)) ≡ 0 }
+        requires bounded { IsBoundedPage page self.old }
+        requires limit { self.old.limit ≤ℤ pos 4194304 }
         requires empty { happened.old.items ≡ [] }
         ensures { IfOk result (λ o. Ships page self.old o self.new happened.new.items) }
     {
@@ -198,11 +221,33 @@ impl Makeup {
             Ok(made) => {
                 self.put_back(made.put_back);
                 note_sent(happened, sent_page(&made))?;
-                Ok(self.node_limit())
+                Ok(self.limit_after_page())
             }
             Err(PlainFault::PageLimit { pages }) => Ok(Some(MakeupEnding::PageLimit { pages })),
             Err(PlainFault::Memory) => Err(AllocError),
         }
+    }
+
+    // The ending where more nodes wait than `maxnodes` once a page was shipped. They are counted only if the bound on them
+    // passes `maxnodes`; it is their number then, with what the acts can add.
+    fn limit_after_page(&mut self) -> Option<MakeupEnding>
+        requires sound { IsSound self.old.builder self.old.store }
+        requires few { node_count (held_in self.old).waiting ≤ 8388608 }
+        requires void { box_count (held_in self.old).boxes ≡ 0 }
+        requires empty { (held_in self.old).page ≡ [] }
+        requires bounded { IsBounded 10 (state_of self.old) self.old.bound }
+        requires limit { self.old.limit ≤ℤ pos 4194304 }
+        ensures limit { result ≡ over_limit self.old.limit (node_count (held_in self.old).waiting) }
+        ensures same { self.new ≡ record self.old { bound = self.new.bound } }
+        ensures bounded { IfNone result (IsBounded 0 (state_of self.new) self.new.bound) }
+    {
+        self.bound.most += ADDED_NODES;
+        if !exceeds(self.bound.most, self.limit) {
+            return None;
+        }
+        let count = self.builder.nodes(&self.store);
+        self.bound.most = count + ACT_NODES * self.bound.acts;
+        over_limit(count, self.limit)
     }
 
     // Puts the nodes of a list back before what waits, and closes the list.
@@ -220,6 +265,7 @@ impl Makeup {
         ensures plain { self.new.plain ≡ self.old.plain }
         ensures ask { self.new.ask ≡ self.old.ask }
         ensures limit { self.new.limit ≡ self.old.limit }
+        ensures bound { self.new.bound ≡ self.old.bound }
     {
         self.builder.put_back(&mut self.store, list);
         self.store.close(list);
@@ -264,6 +310,16 @@ impl Makeup {
         self.builder
             .contribute(&mut self.store, Node { line: 0, kind })
     }
+}
+
+// The ending where so many nodes wait, if they are more than the limit.
+fn over_limit(count: u64, limit: i64) -> Option<MakeupEnding>
+    ensures { result ≡ over_limit limit count }
+{
+    if exceeds(count, limit) {
+        return Some(MakeupEnding::NodeLimit { count });
+    }
+    None
 }
 
 // A page that ships, as what is sent.

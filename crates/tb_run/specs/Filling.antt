@@ -5,7 +5,10 @@ use Rattle.tb_node.specs.declared.Act.{Act}
 use Rattle.tb_node.specs.declared.Node.{Node}
 use Rattle.tb_node.specs.Plain.{PlainNode}
 use Rattle.tb_param.specs.declared.Params.{Params}
+use Rattle.tb_builder.specs.declared.Ask.{Ask}
+use Rattle.tb_builder.specs.declared.Event.{Event}
 use Rattle.tb_builder.specs.declared.Page.{Page}
+use Rattle.tb_builder.specs.Calls.{PassedOver, ComesBy}
 use Rattle.tb_builder.specs.Fired.{Boxed, Fired}
 use Rattle.tb_builder.specs.Kept.{fired_count}
 use Rattle.tb_builder.specs.Contents.{node_count}
@@ -33,6 +36,16 @@ use Rattle.tb_run.specs.Turning.{held_in, state_of, IsConsistent, IsBounded, bet
 -- what was sent, as happenings
 abbrev pub sent_happenings : List Sent → List Happening
 sent_happenings es = map (λ e. happenings.Sent e) es
+
+-- ---- the next event
+
+-- the builder came to this event; if places are wanted none was passed over before it
+pub record HasComeTo (wanted : Bool) (e : Event) (ask : Ask) (r q : Routine) : Type 0 where
+  pub passed : List PassedOver
+  pub comes : ComesBy passed r.builder r.store ask e q.builder q.store
+  pub none : wanted ≡ true → passed ≡ []
+  pub machine : q.machine ≡ r.machine
+  pub most : q.most ≡ r.most
 
 -- ---- an act
 

@@ -4,9 +4,11 @@ ghost use Rattle.std.specs.Prelude.{◌≡◌, ◌≤◌, ◌≤ℤ◌, ◌+◌,
 ghost use Rattle.std.specs.List.{AllByRecursion};
 ghost use Rattle.std.specs.FinMap.{get};
 ghost use Rattle.std.specs.Prelude.{List, None};
-ghost use Rattle.tb_node.specs.Plain.{PlainNode};
+ghost use Rattle.tb_node.specs.Plain.{PlainNode, plain_list};
 ghost use Rattle.tb_builder.specs.Fired.{Boxed};
-ghost use Rattle.tb_builder.specs.Contents.{contents_of, plain_list};
+ghost use Rattle.tb_builder.specs.Contents.{contents_of};
+ghost use Rattle.tb_builder.specs.Next.{NextFits};
+ghost use Rattle.tb_builder.specs.Running.{IsSound};
 ghost use Rattle.tb_galley.specs.Expand.{expanded};
 ghost use Rattle.tb_output.specs.State.{first_state};
 ghost use Rattle.tb_output.specs.Acting.{IsSizedAct, line_of};
@@ -18,7 +20,7 @@ ghost use Rattle.tb_run.specs.Expanding.{AreItems};
 ghost use Rattle.tb_run.specs.Run.{classes_of, held_count, step};
 ghost use Rattle.tb_run.specs.Happened.{happened_lists};
 ghost use Rattle.tb_run.specs.Turning.{held_in, state_of, IsConsistent, IsBounded, IsReady, AreHappened, ArePages, IsTurned, IsEnded, over_limit, with_events};
-ghost use Rattle.tb_run.specs.Filling.{Fills, Serves, IsBoundedPage, HasActed, HasNotActed, sent_happenings};
+ghost use Rattle.tb_run.specs.Filling.{HasComeTo, Fills, Serves, IsBoundedPage, HasActed, HasNotActed, sent_happenings};
 
 use crate::Happening;
 use crate::classes::classes_of;
@@ -26,7 +28,7 @@ use crate::expanding::expand;
 use crate::happening::{note_sent, note_try};
 use crate::releasing::{close_happened, close_list};
 use std::alloc::{AllocError, Global};
-use tb_builder::{Builder, Event, Page, new_builder};
+use tb_builder::{Ask, Builder, Event, Page, new_builder};
 use tb_galley::Galley;
 use tb_node::{Act, Node};
 use tb_output::{Full, Machine, RunFault, new_machine};
@@ -185,7 +187,7 @@ impl Routine {
     {
         let ask = self.machine.ask();
         'next: loop {
-            match self.builder.next(&mut self.store, &ask)? {
+            match self.next_event(wanted, &ask)? {
                 Event::Try(tried) => note_try(happened, wanted, tried)?,
                 Event::Act(act) => {
                     if let Err(full) = self.act(act) {
@@ -200,6 +202,19 @@ impl Routine {
                 Event::Empty => return Ok(Filled::Ends(Ending::Done)),
             }
         }
+    }
+
+    // The next event of the builder. Places are passed over unless they are wanted.
+    fn next_event(&mut self, wanted: bool, ask: &Ask) -> Result<Event, AllocError>
+        requires sound { IsSound self.old.builder self.old.store }
+        requires fits { NextFits (held_in self.old) ask.now }
+        requires none_held { (held_in self.old).held ≡ [] }
+        ensures { IfOk result (λ e. HasComeTo wanted e ask.now self.old self.new) }
+    {
+        if wanted {
+            return self.builder.next(&mut self.store, ask);
+        }
+        self.builder.next_without_tries(&mut self.store, ask)
     }
 
     // Does what an act says. A first column that it drops is closed.

@@ -1,9 +1,9 @@
 use Rattle.std.proofs.Common.{subst}
 use Rattle.tb_node.specs.Plain.{on_line}
 use Rattle.tb_run.specs.Expanding.{Waits}
-use Rattle.tb_run.proofs.WaitsLemmas.{waits-then, on-ok}
+use Rattle.tb_run.proofs.FromGalley.WaitsLemmas.{waits-then, on-ok}
 use Rattle.tb_plain.specs.Expand.{clearing_kinds, makeup_nodes}
-use Rattle.tb_makeup.proofs.ItemLemmas.{made_up-is}
+use Rattle.tb_makeup.proofs.FromGalley.ItemLemmas.{made_up-is}
 use Rattle.tb_makeup.proofs.expanding.expand.Goals as goal
 
 pub returns : goal.returns

@@ -1,5 +1,5 @@
 use Rattle.std.proofs.Common.{arith}
-use Rattle.tb_makeup.proofs.ItemLemmas.{item-more}
+use Rattle.tb_makeup.proofs.FromGalley.ItemLemmas.{item-more}
 use Rattle.tb_makeup.proofs.expanding.expand_items.Goals as goal
 
 pub loop-item-preserved : goal.loop-item-preserved

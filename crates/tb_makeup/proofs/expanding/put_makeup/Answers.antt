@@ -1,8 +1,8 @@
 use Rattle.std.proofs.Common.{subst}
 use Rattle.tb_node.specs.Plain.{on_line}
 use Rattle.tb_run.specs.Expanding.{Waits}
-use Rattle.tb_run.proofs.WaitsLemmas.{on-ok}
-use Rattle.tb_makeup.proofs.ItemLemmas.{kinds-same}
+use Rattle.tb_run.proofs.FromGalley.WaitsLemmas.{on-ok}
+use Rattle.tb_makeup.proofs.FromGalley.ItemLemmas.{kinds-same}
 use Rattle.tb_makeup.proofs.expanding.put_makeup.Goals as goal
 
 pub returns-in_default : goal.returns-in_default

@@ -2,8 +2,8 @@ use Rattle.std.proofs.Common.{false, subst}
 use Rattle.tb_node.specs.Plain.{on_line, clearpage_kinds}
 use Rattle.tb_galley.specs.Expand.{item_nodes}
 use Rattle.tb_run.specs.Expanding.{Waits}
-use Rattle.tb_run.proofs.ItemLemmas.{expanded-is}
-use Rattle.tb_run.proofs.WaitsLemmas.{waits-then, on-ok}
+use Rattle.tb_run.proofs.FromGalley.ItemLemmas.{expanded-is}
+use Rattle.tb_run.proofs.FromGalley.WaitsLemmas.{waits-then, on-ok}
 use Rattle.tb_run.proofs.expanding.expand.Goals as goal
 
 pub returns : goal.returns

@@ -1,5 +1,5 @@
 use Rattle.std.proofs.Common.{false, ◌∙◌, arith}
-use Rattle.tb_run.proofs.ItemLemmas.{columns-more, item-more}
+use Rattle.tb_run.proofs.FromGalley.ItemLemmas.{columns-more, item-more}
 use Rattle.tb_run.proofs.expanding.expand_items.Goals as goal
 
 pub loop-item-preserved : goal.loop-item-preserved

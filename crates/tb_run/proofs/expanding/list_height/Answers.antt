@@ -8,7 +8,7 @@ use Rattle.tb_node.specs.declared.Sums.{Sums}
 use Rattle.tb_node.specs.Fit.{shapes, IsSizedNode}
 use Rattle.tb_node.specs.Sums.{sums_of, size_of, limited_depth}
 use Rattle.tb_node.proofs.FitLemmas.{list_nodes_fit, list_sums_fit, whole_fits}
-use Rattle.tb_run.proofs.FootLemmas.{sum-size}
+use Rattle.tb_run.proofs.FromGalley.FootLemmas.{sum-size}
 use Rattle.tb_run.proofs.expanding.list_height.Goals as goal
 
 pub list_sums-sums-requires-clause-nodes : goal.list_sums-sums-requires-clause-nodes

@@ -1,4 +1,4 @@
-use Rattle.tb_run.proofs.WaitsLemmas.{lone-joins, lone-may, lone-waits, on-ok}
+use Rattle.tb_run.proofs.FromGalley.WaitsLemmas.{lone-joins, lone-may, lone-waits, on-ok}
 use Rattle.tb_run.proofs.expanding.put.Goals as goal
 
 pub contribute-requires-clause-joins : goal.contribute-requires-clause-joins

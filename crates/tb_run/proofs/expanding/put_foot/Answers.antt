@@ -7,8 +7,8 @@ use Rattle.tb_node.specs.declared.Node.{Node}
 use Rattle.tb_node.specs.Fit.{IsSizedNode}
 use Rattle.tb_node.specs.Plain.{shape_of}
 use Rattle.tb_node.specs.Sums.{size_of}
-use Rattle.tb_run.proofs.FootLemmas.{foot-list, foot-live, foot-sound, foot-joins, foot-may, foot-waits}
-use Rattle.tb_run.proofs.WaitsLemmas.{on-ok}
+use Rattle.tb_run.proofs.FromGalley.FootLemmas.{foot-list, foot-live, foot-sound, foot-joins, foot-may, foot-waits}
+use Rattle.tb_run.proofs.FromGalley.WaitsLemmas.{on-ok}
 use Rattle.tb_run.proofs.expanding.put_foot.Goals as goal
 
 pub put_leaves-requires : goal.put_leaves-requires

@@ -1,5 +1,5 @@
 use Rattle.std.proofs.Common.{arith}
-use Rattle.tb_run.proofs.HappenedLemmas.{here-distinct, here-live, closed-more, others-more}
+use Rattle.tb_run.proofs.Turns.HappenedLemmas.{here-distinct, here-live, closed-more, others-more}
 use Rattle.tb_run.proofs.releasing.close_happened.Goals as goal
 
 pub close_happening-requires-clause-live : goal.close_happening-requires-clause-live

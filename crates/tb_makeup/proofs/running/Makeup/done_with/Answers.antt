@@ -1,5 +1,5 @@
-use Rattle.tb_run.proofs.DoneLemmas.{pages-live}
-use Rattle.tb_makeup.proofs.DoneLemmas.{done-state, done-ready}
+use Rattle.tb_run.proofs.Turns.DoneLemmas.{pages-live}
+use Rattle.tb_makeup.proofs.Turns.DoneLemmas.{done-state, done-ready}
 use Rattle.tb_makeup.proofs.running.Makeup.done_with.Goals as goal
 
 pub close_happened-requires-clause-live : goal.close_happened-requires-clause-live

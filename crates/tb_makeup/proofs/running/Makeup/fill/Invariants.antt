@@ -1,4 +1,4 @@
-use Rattle.tb_makeup.proofs.UnderwayLemmas.{IsUnderway, left_of_page}
+use Rattle.tb_makeup.proofs.Filled.UnderwayLemmas.{IsUnderway, left_of_page}
 use Rattle.tb_makeup.proofs.running.Makeup.fill.Given as goal
 
 abbrev pub invariant-next : goal.invariant-next

@@ -1,5 +1,5 @@
 use Rattle.std.proofs.Common.{◌∙◌}
-use Rattle.tb_makeup.proofs.BackLemmas.{back-sound, back-contents, back-others, back-keeps}
+use Rattle.tb_makeup.proofs.Shipping.BackLemmas.{back-sound, back-contents, back-others, back-keeps}
 use Rattle.tb_makeup.proofs.running.Makeup.put_back.Goals as goal
 
 pub returns-clause-sound : goal.returns-clause-sound

@@ -1,7 +1,7 @@
 use Rattle.std.proofs.Common.{subst}
 use Rattle.std.proofs.lemmas.Result.{IfOk-weaker}
 use Rattle.tb_makeup.specs.Filling.{Fills, IsFiring, IsOver}
-use Rattle.tb_makeup.proofs.TurnLemmas.{TurnsTo, fired-plain, fired-few, fired-void, fired-turns, over-waiting, over-turns}
+use Rattle.tb_makeup.proofs.Turns.TurnLemmas.{TurnsTo, fired-plain, fired-few, fired-void, fired-bounded, fired-limit, fired-turns, over-waiting, over-turns}
 use Rattle.tb_makeup.proofs.running.Makeup.turn.Goals as goal
 
 pub ship-requires : goal.ship-requires
@@ -12,6 +12,8 @@ ship-requires c =
       can = h.can;
       few = fired-few c.args.self.now c.fill.new.self c.in-Some.page c.requires h;
       void = fired-void c.args.self.now c.fill.new.self c.in-Some.page c.requires h;
+      bounded = fired-bounded c.args.self.now c.fill.new.self c.in-Some.page c.requires h;
+      limit = fired-limit c.args.self.now c.fill.new.self c.in-Some.page c.requires h;
       empty = c.clear.ensures.items;
     }
 

@@ -9,7 +9,7 @@ use Rattle.tb_run.specs.GalleyNodes.{AreGalleyNodes}
 use Rattle.tb_run.specs.Run.{classes_of}
 use Rattle.tb_run.specs.Served.{AreRunClasses}
 use Rattle.tb_run.specs.Expanding.{AreItems}
-use Rattle.tb_run.proofs.BeginLemmas.{begin-state, begin-ready}
+use Rattle.tb_run.proofs.Turns.BeginLemmas.{begin-state, begin-ready}
 use Rattle.tb_run.proofs.routine.Routine.new.Goals as goal
 
 pub new_machine-requires-clause-classes : goal.new_machine-requires-clause-classes

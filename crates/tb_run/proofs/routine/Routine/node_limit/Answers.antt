@@ -3,7 +3,7 @@ use Rattle.std.specs.Prelude.{int_lt}
 use Rattle.std.proofs.lemmas.Int.{to_z-of_z}
 use Rattle.tb_run.specs.Run.{held_count}
 use Rattle.tb_run.specs.Turning.{state_of}
-use Rattle.tb_run.proofs.CountedLemmas.{none-over, some-over, counted-all}
+use Rattle.tb_run.proofs.Turns.CountedLemmas.{none-over, some-over, counted-all}
 use Rattle.tb_run.proofs.routine.Routine.node_limit.Goals as goal
 
 pub returns-then-not-exceeds-clause-limit : goal.returns-then-not-exceeds-clause-limit

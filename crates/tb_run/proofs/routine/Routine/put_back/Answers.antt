@@ -1,5 +1,5 @@
 use Rattle.std.proofs.Common.{◌∙◌}
-use Rattle.tb_run.proofs.WholeLemmas.{back-contents, back-shown, back-whole}
+use Rattle.tb_run.proofs.Turns.WholeLemmas.{back-contents, back-shown, back-whole}
 use Rattle.tb_run.proofs.routine.Routine.put_back.Goals as goal
 
 pub returns-clause-whole : goal.returns-clause-whole

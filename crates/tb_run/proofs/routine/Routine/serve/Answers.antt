@@ -1,4 +1,4 @@
-use Rattle.tb_run.proofs.ServingLemmas.{after-bounded, serves}
+use Rattle.tb_run.proofs.Turns.ServingLemmas.{after-bounded, serves}
 use Rattle.tb_run.proofs.routine.Routine.serve.Goals as goal
 
 pub node_limit-requires-clause-bounded : goal.node_limit-requires-clause-bounded

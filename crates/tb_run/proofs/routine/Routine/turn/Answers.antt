@@ -4,7 +4,7 @@ use Rattle.tb_run.specs.declared.routine.Routine.{Routine}
 use Rattle.tb_run.specs.Served.{AreRunnable}
 use Rattle.tb_run.specs.Turning.{IsReady, IsTurned, ArePages, AreHappened}
 use Rattle.tb_run.specs.Filling.{Fills, IsFiring}
-use Rattle.tb_run.proofs.TurnLemmas.{last-turned, last-pages, served-turned, served-ready, served-pages, served-lists}
+use Rattle.tb_run.proofs.Turns.TurnLemmas.{last-turned, last-pages, served-turned, served-ready, served-pages, served-lists}
 use Rattle.tb_run.proofs.routine.Routine.turn.Goals as goal
 
 pub returns-in-Ends-clause-turned : goal.returns-in-Ends-clause-turned

@@ -1,0 +1,8 @@
+-- A page is filled, in reading order.
+pub mod RunLemmas
+pub mod LedLemmas
+pub mod HoldLemmas
+pub mod ComingLemmas
+pub mod FillLemmas
+pub mod UnderwayLemmas
+pub mod PassingLemmas

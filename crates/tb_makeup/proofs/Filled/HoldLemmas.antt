@@ -1,0 +1,67 @@
+-- What a builder holds while a page is filled, as the state of the run.
+use Rattle.std.proofs.Common.{◌≡◌, refl, sym, ◌∙◌, ap, subst, ℕ, ℤ, Bool, true, false, ◌||◌, List, [], ◌∷◌, Option, None, Some}
+use Rattle.std.specs.Prelude.{IsSome, if◌then◌else◌}
+use Rattle.std.proofs.lemmas.Bool.{true≢false}
+use Rattle.tb_pool.specs.Lists.{Lists}
+use Rattle.tb_node.specs.declared.Node.{Node}
+use Rattle.tb_node.specs.Shape.{is_box}
+use Rattle.tb_node.specs.Plain.{hbox, rule, skip, kerned, pen, mark, note, whatsit, PlainKind, plain, ins, act, PlainNode, node_shape, is_insertion_kind}
+use Rattle.tb_param.specs.declared.Params.{Params}
+use Rattle.tb_insert.specs.declared.Class.{Class}
+use Rattle.tb_insert.specs.Account.{Frozen}
+use Rattle.tb_builder.specs.declared.Builder.{Builder}
+use Rattle.tb_builder.specs.declared.Course.{Course}
+use Rattle.tb_builder.specs.Fired.{Boxed, frozen_for}
+use Rattle.tb_builder.specs.Contents.{Contents, contents_of, frozen_or, frozen_of}
+use Rattle.tb_builder.specs.Running.{IsSound, IsPageSoFar, AllLoose, is_loose, freezes}
+use Rattle.tb_plain.specs.Run.{MakeupState, makeup_ask, makeup_classes, void_boxes, builder_holds}
+
+loose-kind : (l : ℕ) (k : PlainKind) → is_loose k ≡ true → (let n : PlainNode = record { line = l; kind = k } in (is_box (node_shape n) || is_insertion_kind k) ≡ false)
+loose-kind l (plain (hbox w h d)) e = absurd (true≢false (sym e))
+loose-kind l (plain (rule name h d)) e = absurd (true≢false (sym e))
+loose-kind l (plain (skip g)) e = absurd (true≢false (sym e))
+loose-kind l (plain (kerned w)) e = absurd (true≢false (sym e))
+loose-kind l (plain (pen p)) e = absurd (true≢false (sym e))
+loose-kind l (plain (mark name)) e = refl
+loose-kind l (plain (note name)) e = refl
+loose-kind l (plain whatsit) e = refl
+loose-kind l (ins i) e = absurd (true≢false (sym e))
+loose-kind l (act a) e = absurd (true≢false (sym e))
+
+loose-free : (ns : List PlainNode) → AllLoose ns → freezes ns ≡ false
+loose-free [] h = refl
+loose-free (n ∷ ns) h = ap (λ b. b || freezes ns) (loose-kind n.line n.kind h.0) ∙ loose-free ns h.1
+
+-- the goal and the depth limit, by whether they are frozen
+frozen-by : (p : Params) (o : Option (ℤ × ℤ)) (k : Course) (c : Contents) → IsPageSoFar o false k c → (IsSome o → freezes c.page ≡ true) → frozen_or o (makeup_ask p) (makeup_classes p) void_boxes ≡ frozen_for (makeup_ask p) (makeup_classes p) void_boxes
+    → o ≡ (if freezes c.page then Some (p.textheight, p.maxdepth) else None)
+frozen-by p None k c st met e = sym (ap (λ b. if b then Some (p.textheight, p.maxdepth) else None) (loose-free c.page st.loose))
+frozen-by p (Some f) k c st met e =
+    (λ i. Some ((ap (λ (z : Frozen). z.goal) e i), (ap (λ (z : Frozen). z.limit) e i)))
+    ∙ sym (ap (λ b. if b then Some (p.textheight, p.maxdepth) else None) (met refl))
+
+pub record Holds (p : Params) (c : Contents) : Type 0 where
+  pub classes : c.classes ≡ makeup_classes p
+  pub boxes : c.boxes ≡ void_boxes
+  pub held : c.held ≡ []
+  pub frozen : frozen_of c (makeup_ask p) ≡ frozen_for (makeup_ask p) (makeup_classes p) void_boxes
+
+-- a sound builder holds what the state says
+pub holds-state : (p : Params) (b : Builder) (s : Lists Node) (number : ℕ) → IsSound b s → b.stopped ≡ false → Holds p (contents_of b s)
+    → contents_of b s ≡ builder_holds p (record { page = (contents_of b s).page; waiting = (contents_of b s).waiting; number = number })
+holds-state p b s number sound going h =
+    let c : Contents = contents_of b s in
+    let frozen : frozen_or b.frozen (makeup_ask p) (makeup_classes p) void_boxes ≡ frozen_for (makeup_ask p) (makeup_classes p) void_boxes = ((λ i. frozen_or b.frozen (makeup_ask p) (sym h.classes i) (sym h.boxes i)) ∙ h.frozen) in
+    let o = frozen-by p b.frozen b.course c (subst (λ x. IsPageSoFar b.frozen x b.course c) going sound.page) (λ some. sound.met some going) frozen in
+    (λ i. holding (h.classes i) (h.boxes i) c.page c.waiting (h.held i) (o i) (going i))
+  where
+    holding : List Class → List Boxed → List PlainNode → List PlainNode → List PlainNode → Option (ℤ × ℤ) → Bool → Contents
+    holding classes boxes page waiting held frozen stopped = record { classes = classes; boxes = boxes; page = page; waiting = waiting; held = held; frozen = frozen; stopped = stopped }
+
+-- and what the state says is held so
+pub state-holds : (p : Params) (s : MakeupState) → Holds p (builder_holds p s)
+state-holds p s = record { classes = refl; boxes = refl; held = refl; frozen = by_test (freezes s.page) }
+  where
+    by_test : (b : Bool) → frozen_or (if b then Some (p.textheight, p.maxdepth) else None) (makeup_ask p) (makeup_classes p) void_boxes ≡ frozen_for (makeup_ask p) (makeup_classes p) void_boxes
+    by_test true = refl
+    by_test false = refl

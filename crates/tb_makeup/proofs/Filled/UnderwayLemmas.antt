@@ -1,0 +1,424 @@
+-- The page makeup while a page is filled.
+use Rattle.std.proofs.Common.{◌≡◌, inl, inr, refl, sym, ◌∙◌, ap, subst, ℕ, ◌+◌, ◌*◌, ◌<◌, ◌≤◌, Bool, true, false, List, [], ◌∷◌, ◌++◌, length, map, arith}
+use Rattle.std.specs.Prelude.{All, ◌⊎◌}
+use Rattle.std.proofs.lemmas.Int.{ints}
+use Rattle.std.proofs.lemmas.Bool.{true≢false}
+use Rattle.std.proofs.lemmas.List.Elements.{All-from_recursion}
+use Rattle.std.proofs.lemmas.List.{append-nil, length-append}
+use Rattle.tb_pool.specs.Lists.{list_at}
+use Rattle.tb_node.specs.declared.Act.{Act}
+use Rattle.tb_node.specs.declared.Kind.{Kind}
+use Rattle.tb_node.specs.declared.Kind.TheVariants as kinds
+use Rattle.tb_node.specs.declared.Node.{Node}
+use Rattle.tb_node.specs.Plain.{PlainNode, act, plain_of, plain_kind, plain_list}
+use Rattle.tb_param.specs.declared.Params.{Params}
+use Rattle.tb_builder.specs.declared.Event.{Event}
+use Rattle.tb_builder.specs.declared.Event.TheVariants as events
+use Rattle.tb_builder.specs.declared.Page.{Page}
+use Rattle.tb_builder.specs.declared.PageSums.{PageSums}
+use Rattle.tb_builder.specs.declared.Try.{Try}
+use Rattle.tb_builder.specs.Reached.{laid_out}
+use Rattle.tb_builder.specs.Fired.{Fired}
+use Rattle.tb_builder.specs.Contents.{Contents, node_count, box_count}
+use Rattle.tb_builder.specs.Kept.{fired_count}
+use Rattle.tb_builder.specs.Handed.{ends_in_kern, with_void}
+use Rattle.tb_builder.specs.Next.{NextIs, NextFits, IsGivenOut, FiredIs, fired_page, after_fired}
+use Rattle.tb_builder.specs.Owned.{ids_of, has_class}
+use Rattle.tb_builder.specs.Pageable.{IsSizedOnPage, IsSizedBox}
+use Rattle.tb_builder.specs.Places.{NoActs}
+use Rattle.tb_builder.specs.Past.{ComesPast, EventPast}
+use Rattle.tb_builder.specs.Running.{IsSound}
+use Rattle.tb_builder.specs.Summed.{page_sums_of}
+use Rattle.tb_builder.proofs.Ranges.SizedLemmas.{FiredSized}
+use Rattle.tb_builder.proofs.Ownership.StoreSized.{list-back, list-length}
+use Rattle.tb_builder.proofs.Events.WholeLemmas.{IsMatterKind, AreMatter}
+use Rattle.tb_column.specs.Page.{is_leaf_kind, AreLeaves}
+use Rattle.tb_plain.specs.declared.Plain.{Plain}
+use Rattle.tb_plain.specs.Take.{act_nodes}
+use Rattle.tb_plain.specs.Run.{MakeupState, firing_step, builder_holds, makeup_ask, makeup_classes, act_count, ejecting_nodes, waiting_after}
+use Rattle.tb_plain.specs.Calls.{IsTake, CanAct, HasActed, fired_with}
+use Rattle.tb_plain.proofs.StepLemmas.{acts-append, put-acts, ejected-fires}
+use Rattle.tb_makeup.specs.declared.running.Makeup.{Makeup}
+use Rattle.tb_makeup.specs.Led.{ActsAreLed}
+use Rattle.tb_makeup.specs.Turning.{held_in, state_of, node_total, Phase, begins, ejects, AreRunNodes, AreAfter, IsReady}
+use Rattle.tb_makeup.specs.Filling.{Continues, Takes, HasGrown, IsFiring, IsOver}
+use Rattle.tb_makeup.proofs.Filled.RunLemmas.{run-goes}
+use Rattle.tb_makeup.proofs.Filled.LedLemmas.{led-ends, led-no-kern}
+use Rattle.tb_makeup.proofs.Filled.HoldLemmas.{holds-state}
+use Rattle.tb_makeup.proofs.Filled.ComingLemmas.{IsComing, coming-start, coming-tried, acted-past, acted-holds, acted-going, acted-step, acted-state, over-step, over-fires, over-waits, over-holds, over-going, over-past, fires-step, fired-same}
+use Rattle.tb_makeup.proofs.Filled.FillLemmas.{zero-extent, zero-dimension, run-fits, laid-sized, laid-count, none-laid, acted-nodes, acted-total, acted-acts, acted-takes, put-few}
+use Rattle.tb_makeup.proofs.Shipping.FiredLemmas.{labels, void-after, fired, fired-sized, fired-few, fired-text, fired-after, Grows, fired-grows}
+
+-- ---- so far
+
+-- floats were taken up to a state, and the builder is on its page
+pub record IsUnderway (r q : Makeup) : Type 0 where
+  pub s : MakeupState
+  pub takes : Takes r s
+  pub coming : IsComing r.plain.params s (held_in q)
+  pub sound : IsSound q.builder q.store
+  pub same : Continues r q
+
+-- calls of the builder that are left, at most
+abbrev pub calls_left : Bool → ℕ → ℕ
+calls_left true n = 0
+calls_left false n = n + 1
+
+abbrev pub left_of_page : Makeup → ℕ
+left_of_page q = calls_left (held_in q).stopped (length (held_in q).waiting + 5 * act_count (held_in q).waiting)
+
+start-phase : (s : MakeupState) → Phase s → (s.page ≡ []) ⊎ (s.waiting ≡ ejecting_nodes)
+start-phase s (begins e few) = inl e
+start-phase s (ejects e) = inr e
+
+pub underway-start : (r : Makeup) → IsReady r → IsUnderway r r
+underway-start r h = record {
+  s = state_of r;
+  takes = record { run = refl; nodes = h.nodes; total = omega arith; acts = omega arith; number = refl; phase = start-phase (state_of r) h.phase };
+  coming = coming-start r.plain.params (state_of r) (held_in r) h.holds;
+  sound = h.sound;
+  same = record { plain = refl; ask = refl; limit = refl; bound = refl };
+}
+
+-- ---- nodes of a page
+
+matter-leaf : (held : ℕ → List Node) (k : Kind) → IsMatterKind (plain_kind held k) → is_leaf_kind k
+matter-leaf held (kinds.Hbox what h d) t = tt
+matter-leaf held (kinds.Rule name h d) t = tt
+matter-leaf held (kinds.Skip g) t = tt
+matter-leaf held (kinds.Kern w) t = tt
+matter-leaf held (kinds.Pen q) t = tt
+matter-leaf held (kinds.Mark name) t = tt
+matter-leaf held (kinds.Note name) t = tt
+matter-leaf held kinds.Whatsit t = tt
+matter-leaf held (kinds.Ins i) t = absurd t
+matter-leaf held (kinds.Act a) t = absurd t
+
+matter-leaves : (held : ℕ → List Node) (ns : List Node) → AreMatter (map (plain_of held) ns) → AreLeaves ns
+matter-leaves held [] h = tt
+matter-leaves held (n ∷ ns) h = (matter-leaf held n.kind h.0, matter-leaves held ns h.1)
+
+ejecting-sized : All IsSizedOnPage ejecting_nodes
+ejecting-sized = All-from_recursion IsSizedOnPage ejecting_nodes (
+  record { shape = (zero-extent, zero-extent); kind = tt },
+  (
+    record { shape = (zero-dimension, record { low = omega (arith, ints); high = omega (arith, ints) }, zero-dimension); kind = tt },
+    (record { shape = record { low = omega (arith, ints); high = omega (arith, ints) }; kind = tt }, tt),
+  ),
+)
+
+-- ---- the next event
+
+module _ (r q d : Makeup) (ready : IsReady r) (h : IsUnderway r q) where
+  abbrev p : Params
+  p = r.plain.params
+
+  asked : q.ask ≡ makeup_ask p
+  asked = h.same.ask ∙ ready.ask
+
+  -- all that is added up fits
+  pub underway-fits : NextFits (held_in q) q.ask
+  underway-fits = subst (NextFits (held_in q)) (sym asked) (run-fits p ready.params.makeup h.s (held_in q) h.takes.nodes h.coming.holds h.coming.all)
+
+  pub underway-none : (held_in q).held ≡ []
+  underway-none = h.coming.holds.held
+
+  module _ (e : Event) (event : NextIs q.builder.stopped e (held_in q) q.ask (held_in d) d.store) (past : q.builder.stopped ≡ false → EventPast e (held_in q) (held_in d) q.ask) (sound : IsSound d.builder d.store) (same : Continues q d) where
+    next-is : (f : Event) → e ≡ f → NextIs (held_in q).stopped f (held_in q) (makeup_ask p) (held_in d) d.store
+    next-is f is = subst (λ x. NextIs (held_in q).stopped f (held_in q) x (held_in d) d.store) asked (subst (λ x. NextIs (held_in q).stopped x (held_in q) q.ask (held_in d) d.store) is event)
+
+    past-is : (f : Event) → e ≡ f → q.builder.stopped ≡ false → EventPast f (held_in q) (held_in d) (makeup_ask p)
+    past-is f is on = subst (λ x. EventPast f (held_in q) (held_in d) x) asked (subst (λ x. EventPast x (held_in q) (held_in d) q.ask) is (past on))
+
+    continues : Continues r d
+    continues = record { plain = same.plain ∙ h.same.plain; ask = same.ask ∙ h.same.ask; limit = same.limit ∙ h.same.limit; bound = same.bound ∙ h.same.bound }
+
+    -- ---- a place was tried
+
+    module _ (x : Try) (is : e ≡ events.Try x) where
+      going : (b : Bool) → q.builder.stopped ≡ b → NextIs b (events.Try x) (held_in q) (makeup_ask p) (held_in d) d.store → q.builder.stopped ≡ false
+      going true off n = absurd n
+      going false off n = off
+
+      on : q.builder.stopped ≡ false
+      on = going q.builder.stopped refl (next-is (events.Try x) is)
+
+      pub underway-tried : IsUnderway r d
+      underway-tried = record {
+        s = h.s;
+        takes = h.takes;
+        coming = coming-tried p h.s q.builder q.store h.coming h.sound on (held_in d) d.store x (next-is (events.Try x) is) (past-is (events.Try x) is on);
+        sound = sound;
+        same = continues;
+      }
+
+      pub fewer-tried : left_of_page d < left_of_page q
+      fewer-tried = subst (λ b. left_of_page d < calls_left b (length (held_in q).waiting + 5 * act_count (held_in q).waiting)) (sym on) (by_stop d.builder.stopped refl)
+        where
+          by_stop : (b : Bool) → d.builder.stopped ≡ b → calls_left b (length (held_in d).waiting + 5 * act_count (held_in d).waiting) < length (held_in q).waiting + 5 * act_count (held_in q).waiting + 1
+          by_stop true e = omega arith
+          by_stop false e =
+              let t = past-is (events.Try x) is on e in
+              let l = t.shorter in
+              let a = ap act_count t.comes.is.waiting ∙ acts-append t.comes.before (held_in d).waiting in
+              omega (arith, l, a)
+
+    -- ---- an act was reached
+
+    module _ (a : Act) (is : e ≡ events.Act a) where
+      going-act : (b : Bool) → q.builder.stopped ≡ b → NextIs b (events.Act a) (held_in q) (makeup_ask p) (held_in d) d.store → q.builder.stopped ≡ false
+      going-act true off n = absurd n
+      going-act false off n = off
+
+      on-act : q.builder.stopped ≡ false
+      on-act = going-act q.builder.stopped refl (next-is (events.Act a) is)
+
+      n : NextIs (held_in q).stopped (events.Act a) (held_in q) (makeup_ask p) (held_in d) d.store
+      n = next-is (events.Act a) is
+
+      abbrev line : ℕ
+      line = (past-is (events.Act a) is on-act).line
+
+      abbrev came : ComesPast (record { line = line; kind = act a } ∷ (held_in d).waiting) (builder_holds p h.s) (held_in d) (makeup_ask p)
+      came = acted-past p h.s q.builder q.store h.coming h.sound on-act (held_in d) d.store a n (past-is (events.Act a) is on-act)
+
+      holding : held_in d ≡ builder_holds p (record h.s { page = laid_out p.topskip h.s.page came.before; waiting = (held_in d).waiting })
+      holding = acted-state p h.s q.builder q.store h.coming h.sound on-act (held_in d) d.store a n (past-is (events.Act a) is on-act) d.builder refl sound
+
+      abbrev sums : PageSums
+      sums = page_sums_of (builder_holds p (record h.s { page = laid_out p.topskip h.s.page came.before; waiting = (held_in d).waiting }))
+
+      abbrev put : List PlainNode
+      put = act_nodes p sums a
+
+      abbrev now : MakeupState
+      now = record h.s { page = laid_out p.topskip h.s.page came.before; waiting = put ++ (held_in d).waiting }
+
+      pub act-takes : IsTake a
+      act-takes = acted-takes p ready.params.makeup h.s h.takes.nodes came.before (held_in d).waiting line a came.is.waiting came.is.no_acts (page_sums_of (held_in d))
+
+      pub act-can : CanAct d.builder d.store
+      act-can = record {
+        sound = sound;
+        going = acted-going p h.s q.builder q.store h.coming h.sound on-act (held_in d) d.store a n (past-is (events.Act a) is on-act);
+        no_kern =
+            ap ends_in_kern came.is.page
+            ∙ led-no-kern p.topskip h.s.page came.before (led-ends came.before line a (held_in d).waiting (subst (ActsAreLed false) came.is.waiting h.takes.nodes.led));
+        known = ap (λ cs. has_class cs 253) (acted-holds p h.s q.builder q.store h.coming h.sound on-act (held_in d) d.store a n (past-is (events.Act a) is on-act)).classes;
+      }
+
+      one-number : 1 ≤ h.s.number
+      one-number = let f = ready.plain.first in let g = h.takes.number in omega (arith, f, g)
+
+      no-eject : h.s.waiting ≡ ejecting_nodes → ⊥
+      no-eject e =
+          let b = ap act_count (sym e ∙ came.is.waiting) ∙ acts-append came.before (record { line = line; kind = act a } ∷ (held_in d).waiting) in
+          omega (arith, b)
+
+      still-phase : ((state_of r).page ≡ []) ⊎ (h.s.waiting ≡ ejecting_nodes) → ((state_of r).page ≡ []) ⊎ (now.waiting ≡ ejecting_nodes)
+      still-phase (inl e) = inl e
+      still-phase (inr e) = absurd (no-eject e)
+
+      -- it was done
+      module _ (f : Makeup) (acted : HasActed d.plain.params a d.builder d.store f.builder f.store) (kept : Continues d f) where
+        sums-same : page_sums_of (held_in d) ≡ page_sums_of (builder_holds p (record h.s { page = laid_out p.topskip h.s.page came.before; waiting = (held_in d).waiting }))
+        sums-same = ap page_sums_of holding
+
+        put-same : act_nodes d.plain.params (page_sums_of (held_in d)) a ≡ put
+        put-same = (λ i. act_nodes (ap (λ (x : Plain). x.params) continues.plain i) (sums-same i) a)
+
+        holds-now : held_in f ≡ builder_holds p now
+        holds-now = acted.contents ∙ (λ i. record (holding i) { waiting = put-same i ++ (held_in d).waiting })
+
+        pub underway-acted : IsUnderway r f
+        underway-acted = record {
+          s = now;
+          takes = record {
+            run = h.takes.run ∙ run-goes p h.s now [] one-number one-number (acted-step p h.s q.builder q.store h.coming h.sound on-act (held_in d) d.store a n (past-is (events.Act a) is on-act));
+            nodes = acted-nodes p ready.params.makeup h.s h.takes.nodes came.before (held_in d).waiting line a came.is.waiting came.is.no_acts sums;
+            total = (let b = acted-total p ready.params.makeup h.s h.takes.nodes came.before (held_in d).waiting line a came.is.waiting came.is.no_acts sums in let t = h.takes.total in omega (arith, b, t));
+            acts = (let b = acted-acts p ready.params.makeup h.s h.takes.nodes came.before (held_in d).waiting line a came.is.waiting came.is.no_acts sums in let t = h.takes.acts in omega (arith, b, t));
+            number = h.takes.number;
+            phase = still-phase h.takes.phase;
+          };
+          coming = coming-start p now (held_in f) holds-now;
+          sound = acted.sound;
+          same = record { plain = kept.plain ∙ continues.plain; ask = kept.ask ∙ continues.ask; limit = kept.limit ∙ continues.limit; bound = kept.bound ∙ continues.bound };
+        }
+
+        pub fewer-acted : left_of_page f < left_of_page q
+        fewer-acted =
+            subst (λ b. calls_left b (length (held_in f).waiting + 5 * act_count (held_in f).waiting) < left_of_page q) (sym (ap (λ (x : Contents). x.stopped) holds-now))
+            (subst (λ b. length (held_in f).waiting + 5 * act_count (held_in f).waiting + 1 < calls_left b (length (held_in q).waiting + 5 * act_count (held_in q).waiting)) (sym on-act)
+            (let t = (past-is (events.Act a) is on-act).comes in
+            let w1 = ap (λ (x : Contents). length x.waiting) holds-now ∙ length-append put (held_in d).waiting in
+            let w2 = ap (λ (x : Contents). act_count x.waiting) holds-now ∙ acts-append put (held_in d).waiting in
+            let w3 = put-acts p sums a in
+            let w4 = (put-few p sums a act-takes).length_is in
+            let v1 = ap length t.is.waiting ∙ length-append t.before (record { line = line; kind = act a } ∷ (held_in d).waiting) in
+            let v2 = ap act_count t.is.waiting ∙ acts-append t.before (record { line = line; kind = act a } ∷ (held_in d).waiting) in
+            omega (arith, w1, w2, w3, w4, v1, v2)))
+
+    -- ---- nothing waits any more
+
+    module _ (is : e ≡ events.Empty) where
+      going-over : (b : Bool) → q.builder.stopped ≡ b → NextIs b events.Empty (held_in q) (makeup_ask p) (held_in d) d.store → q.builder.stopped ≡ false
+      going-over true off n = absurd n
+      going-over false off n = off
+
+      on-over : q.builder.stopped ≡ false
+      on-over = going-over q.builder.stopped refl (next-is events.Empty is)
+
+      none-waits : (held_in d).waiting ≡ []
+      none-waits = over-waits p h.s q.builder q.store h.coming h.sound on-over (held_in d) d.store (next-is events.Empty is)
+
+      abbrev over-came : ComesPast (held_in d).waiting (builder_holds p h.s) (held_in d) (makeup_ask p)
+      over-came = over-past p h.s q.builder q.store h.coming h.sound on-over (held_in d) d.store (next-is events.Empty is) (past-is events.Empty is on-over)
+
+      all-came : h.s.waiting ≡ over-came.before
+      all-came = over-came.is.waiting ∙ ap (λ ns. over-came.before ++ ns) none-waits ∙ append-nil over-came.before
+
+      over-begun : ((state_of r).page ≡ []) ⊎ (h.s.waiting ≡ ejecting_nodes) → (state_of r).page ≡ []
+      over-begun (inl x) = x
+      over-begun (inr x) = absurd (true≢false (sym (ejected-fires p h.s x) ∙ over-fires p h.s q.builder q.store h.coming h.sound on-over (held_in d) d.store (next-is events.Empty is)))
+
+      page-is : (held_in d).page ≡ laid_out p.topskip h.s.page over-came.before
+      page-is = over-came.is.page
+
+      over-nodes : node_total h.s + 10 ≤ 7500000 → AreRunNodes (record h.s { page = (held_in d).page; waiting = ejecting_nodes })
+      over-nodes room =
+          let nodes = h.takes.nodes in
+          let m = ready.params.makeup in
+          let sized : All IsSizedOnPage over-came.before = subst (All IsSizedOnPage) all-came nodes.waiting in
+          let b = laid-count p.topskip h.s.page over-came.before in
+          let c = ap node_count all-came in
+          let e = ap node_count page-is in
+          record {
+            page = subst (All IsSizedOnPage) (sym page-is) (laid-sized p.topskip h.s.page over-came.before m.topskip nodes.page sized);
+            waiting = ejecting-sized;
+            quiet = subst NoActs (sym page-is) (none-laid p.topskip h.s.page over-came.before nodes.quiet over-came.is.no_acts);
+            led = (tt, (tt, (tt, tt)));
+            acts = omega arith;
+            few = omega (arith, room, b, c, e);
+          }
+
+      over-grown : node_total (record h.s { page = (held_in d).page; waiting = ejecting_nodes }) ≤ node_total (state_of r) + 4
+      over-grown =
+          let b = laid-count p.topskip h.s.page over-came.before in
+          let c = ap node_count all-came in
+          let e = ap node_count page-is in
+          let t = h.takes.total in
+          omega (arith, b, c, e, t)
+
+      begun-room : Phase (state_of r) → (state_of r).page ≡ [] → node_total (state_of r) + 10 ≤ 7500000
+      begun-room (begins e few) x = few
+      begun-room (ejects e) x = let c = ap node_count e in let g = ap act_count e in let k = ap node_count x in omega (arith, c, g, k)
+
+      pub filled-over : IsOver r d
+      filled-over =
+          let begun = over-begun h.takes.phase in
+          let room = begun-room ready.phase begun in
+          let t = h.takes.total in
+          record {
+            s = h.s;
+            takes = h.takes;
+            begun = begun;
+            step = over-step p h.s q.builder q.store h.coming h.sound on-over (held_in d) d.store (next-is events.Empty is);
+            holds =
+                holds-state p d.builder d.store h.s.number sound (over-going p h.s q.builder q.store h.coming h.sound on-over (held_in d) d.store (next-is events.Empty is)) (over-holds p h.s q.builder q.store h.coming h.sound on-over (held_in d) d.store (next-is events.Empty is))
+                ∙ ap (λ ns. builder_holds p (record { page = (held_in d).page; waiting = ns; number = h.s.number })) none-waits;
+            sound = sound;
+            nodes = over-nodes (omega (arith, room, t));
+            grown = over-grown;
+            same = continues;
+          }
+
+    -- ---- the page fires
+
+    module _ (page : Page) (is : e ≡ events.Fired page) (given : IsGivenOut e q.store (ids_of d.builder) d.store) where
+      at-stop : (b : Bool) → q.builder.stopped ≡ b → NextIs b (events.Fired page) (held_in q) (makeup_ask p) (held_in d) d.store → (q.builder.stopped ≡ true) × FiredIs page (held_in q) (makeup_ask p) (held_in d) d.store
+      at-stop true off n = (off, n)
+      at-stop false off n = absurd n.0
+
+      fires : (q.builder.stopped ≡ true) × FiredIs page (held_in q) (makeup_ask p) (held_in d) d.store
+      fires = at-stop q.builder.stopped refl (next-is (events.Fired page) is)
+
+      abbrev f : Fired
+      f = fired_page (held_in q) (makeup_ask p)
+
+      left : IsGivenOut (events.Fired page) q.store (ids_of d.builder) d.store
+      left = subst (λ x. IsGivenOut x q.store (ids_of d.builder) d.store) is given
+
+      f-is : f ≡ fired p ready.params.makeup h.s h.takes.nodes
+      f-is = fired-same p h.s (held_in q) h.coming fires.0
+
+      after : held_in d ≡ after_fired (held_in q) f
+      after = fires.1.after
+
+      with-is : fired_with d.builder d.store page ≡ f
+      with-is = λ i. record {
+        body = fires.1.page.body i;
+        boxes = (after i).boxes;
+        held = (after i).held;
+        rest = (after i).waiting;
+        penalty = fires.1.page.penalty i;
+        cost = fires.1.page.cost i;
+        size = fires.1.page.size i;
+        line = fires.1.page.line i;
+      }
+
+      sized-is : FiredSized f
+      sized-is = subst FiredSized (sym f-is) (fired-sized p ready.params.makeup h.s h.takes.nodes)
+
+      few-is : fired_count f ≤ node_count h.s.page + node_count h.s.waiting + 1
+      few-is = let a = fired-few p ready.params.makeup h.s h.takes.nodes in let b = ap fired_count f-is in omega (arith, a, b)
+
+      classes-are : (held_in d).classes ≡ makeup_classes p
+      classes-are = ap (λ (c : Contents). c.classes) after ∙ h.coming.holds.classes
+
+      text-is : AreMatter (plain_list d.store page.body)
+      text-is = subst AreMatter (sym fires.1.page.body) (subst (λ (g : Fired). AreMatter g.body) (sym f-is) (fired-text p ready.params.makeup h.s h.takes.nodes))
+
+      grown-is : HasGrown r (waiting_after p (fired_with d.builder d.store page))
+      grown-is =
+          let g = subst (Grows p h.s) (sym (with-is ∙ f-is)) (fired-grows p ready.params.makeup h.s h.takes.nodes) in
+          let a = g.total in
+          let b = g.acts in
+          let t = h.takes.total in
+          let u = h.takes.acts in
+          record { total = omega (arith, a, t); acts = omega (arith, b, u) }
+
+      pub filled-fires : IsFiring r page d
+      filled-fires = record {
+        s = h.s;
+        takes = h.takes;
+        step = fires-step p h.s (held_in q) h.coming fires.0 ∙ ap (firing_step p h.s.number) (sym with-is);
+        can = record {
+          sound = sound;
+          awaits = record { page = ap (λ (c : Contents). c.page) after; frozen = ap (λ (c : Contents). c.frozen) after };
+          top = ap (λ cs. has_class cs 253) classes-are;
+          foot = ap (λ cs. has_class cs 254) classes-are;
+          held = fires.1.page.held ∙ ap length (sym (ap (λ (c : Contents). c.held) after));
+          body = record {
+            live = fires.1.page.live;
+            leaves = matter-leaves (list_at d.store) (list_at d.store page.body) text-is;
+            sized = list-back d.store page.body (subst (All IsSizedOnPage) (sym fires.1.page.body) sized-is.body);
+            few = (let a = list-length d.store page.body in let b = ap node_count fires.1.page.body in let c = few-is in let k = h.takes.nodes.few in omega (arith, a, b, c, k));
+          };
+          free = left.2;
+          boxes = subst (All IsSizedBox) (sym (ap (λ (c : Contents). c.boxes) after)) sized-is.boxes;
+          few =
+              (let a = list-length d.store page.body in
+              let b = ap node_count fires.1.page.body in
+              let c = few-is in
+              let k = h.takes.nodes.few in
+              let g = ap (λ (c : Contents). box_count c.boxes) after in
+              omega (arith, a, b, c, k, g));
+        };
+        after = subst (AreAfter p) (sym (with-is ∙ f-is)) (fired-after p ready.params.makeup h.s h.takes.nodes);
+        grown = grown-is;
+        classes = classes-are;
+        stopped = ap (λ (c : Contents). c.stopped) after;
+        void = ap (λ (c : Contents). with_void 254 (with_void 253 c.boxes)) after ∙ ap (λ (g : Fired). with_void 254 (with_void 253 g.boxes)) f-is ∙ void-after (labels p h.s);
+        same = continues;
+      }

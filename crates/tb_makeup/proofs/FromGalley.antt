@@ -1,0 +1,4 @@
+-- The nodes of a galley, in reading order.
+pub mod ItemLemmas
+pub mod StartLemmas
+pub mod BeginLemmas

@@ -1,0 +1,155 @@
+-- A page ships, and what is put back waits.
+use Rattle.std.proofs.Common.{◌≡◌, ◌≢◌, refl, sym, subst, ◌∙◌, ap, ℕ, ◌+◌, ◌≤◌, ℤ, pos, Bool, true, false, List, [], ◌∷◌, ◌++◌, Option, Some, None, arith}
+use Rattle.std.specs.Prelude.{min, int_lt, IfNone, ◌≤ℤ◌, if◌then◌else◌}
+use Rattle.std.specs.FinMap.{get}
+use Rattle.std.proofs.lemmas.Int.{ints}
+use Rattle.tb_pool.specs.Lists.{Lists, list_at}
+use Rattle.tb_node.specs.declared.Node.{Node}
+use Rattle.tb_node.specs.Plain.{PlainNode, plain_list}
+use Rattle.tb_builder.specs.declared.Builder.{Builder}
+use Rattle.tb_builder.specs.declared.Page.{Page}
+use Rattle.tb_builder.specs.Fired.{Fired}
+use Rattle.tb_builder.specs.Contents.{Contents, contents_of, node_count, box_count}
+use Rattle.tb_builder.specs.Owned.{Lacks, inner_ids, ids_of, owned}
+use Rattle.tb_builder.specs.Running.{IsSound}
+use Rattle.tb_builder.specs.Handed.{NoPage, with_void}
+use Rattle.tb_builder.proofs.Ownership.FrameLemmas.{frame_sound, live_all_same}
+use Rattle.tb_builder.proofs.Ownership.OwnedLemmas.{lacks-append}
+use Rattle.tb_column.specs.declared.Sent.TheVariants as sents
+use Rattle.tb_column.specs.declared.Sheet.TheVariants as sheets
+use Rattle.tb_column.specs.Column.{shipped, one}
+use Rattle.tb_column.specs.Notes.{AreDistinct}
+use Rattle.tb_output.specs.Firing.{builder_lists}
+use Rattle.tb_output.specs.Keeping.{AreNoneOf}
+use Rattle.tb_output.proofs.Working.ApartLemmas.{not-live, lacks-none}
+use Rattle.tb_output.proofs.Working.StandLemmas.{column-stands, column-shows}
+use Rattle.tb_run.specs.declared.happening.Happening.{Happening}
+use Rattle.tb_run.specs.declared.happening.Happening.TheVariants as happenings
+use Rattle.tb_run.specs.Run.{sent}
+use Rattle.tb_run.specs.Happened.{events_of, happened_lists}
+use Rattle.tb_run.specs.Turning.{ArePages}
+use Rattle.tb_plain.specs.declared.Plain.{Plain}
+use Rattle.tb_plain.specs.declared.PlainPage.{PlainPage}
+use Rattle.tb_plain.specs.Calls.{CanFire, HasFired, fired_with}
+use Rattle.tb_plain.specs.Run.{waiting_after}
+use Rattle.tb_makeup.specs.declared.running.Makeup.{Makeup}
+use Rattle.tb_makeup.specs.declared.running.MakeupEnding.{MakeupEnding}
+use Rattle.tb_makeup.specs.declared.running.MakeupEnding.TheVariants as endings
+use Rattle.tb_makeup.specs.Turning.{held_in, state_of, over_limit, IsBounded}
+use Rattle.tb_makeup.specs.Filling.{IsBoundedPage, HasShipped, Ships}
+use Rattle.tb_makeup.proofs.Shipping.BackLemmas.{back-inner}
+
+-- ---- the nodes that wait, against the limit on them
+
+-- where the boxes are void, the nodes that are counted are those that wait
+pub counted : (w b n : ℕ) → w ≤ 8388608 → b ≡ 0 → n ≡ min (w + b) 18446744073709551615 → n ≡ w
+counted w b n few void e = grind (arith, few, void, e)
+
+pub some-over : (limit : ℤ) (n w : ℕ) → n ≡ w → int_lt limit (pos n) ≡ true → Some (endings.NodeLimit n) ≡ over_limit limit w
+some-over limit n w same e = subst (λ x. Some (endings.NodeLimit n) ≡ over_limit limit x) same (sym (ap (λ t. if t then Some (endings.NodeLimit n) else None) e))
+
+-- the bound does not pass the limit
+pub bounded-none : (limit : ℤ) (w t m : ℕ) → w ≤ t → t ≤ m → int_lt limit (pos m) ≡ false → None ≡ over_limit limit w
+bounded-none limit w t m a b e =
+    let f : int_lt limit (pos w) ≡ false = grind (arith, ints, a, b, e) in
+    sym (ap (λ x. if x then Some (endings.NodeLimit w) else None) f)
+
+-- no more nodes wait than the limit
+pub within-limit : (limit : ℤ) (w m : ℕ) → limit ≤ℤ pos m → None ≡ over_limit limit w → w ≤ m
+within-limit limit w m few e = by_test (int_lt limit (pos w)) refl e
+  where
+    by_test : (t : Bool) → int_lt limit (pos w) ≡ t → None ≡ (if t then Some (endings.NodeLimit w) else None) → w ≤ m
+    by_test true is e = cc
+    by_test false is e = grind (arith, ints, few, is)
+
+pub none-over : (limit : ℤ) (n w : ℕ) → n ≡ w → int_lt limit (pos n) ≡ false → None ≡ over_limit limit w
+none-over limit n w same e = subst (λ x. None ≡ over_limit limit x) same (sym (ap (λ t. if t then Some (endings.NodeLimit n) else None) e))
+
+not-done : (n : ℕ) (t : Bool) → Some endings.Done ≡ (if t then Some (endings.NodeLimit n) else None) → ⊥
+not-done n true e = cc
+not-done n false e = cc
+
+not-pages : (k n : ℕ) (t : Bool) → Some (endings.PageLimit k) ≡ (if t then Some (endings.NodeLimit n) else None) → ⊥
+not-pages k n true e = cc
+not-pages k n false e = cc
+
+-- ---- the page fired
+
+module _ (r : Makeup) (page : Page) (made : PlainPage) (now : Plain) (d : Builder) (t : Lists Node) (can : CanFire r.builder r.store page) (fired : HasFired made r.plain now r.builder r.store d t page) where
+  abbrev f : Fired
+  f = fired_with r.builder r.store page
+
+  pub still-awaits : NoPage (contents_of d t)
+  still-awaits = record { page = ap (λ (c : Contents). c.page) fired.contents ∙ can.awaits.page; frozen = ap (λ (c : Contents). c.frozen) fired.contents ∙ can.awaits.frozen }
+
+  abbrev back : Contents → List PlainNode → Contents
+  back c ns = record c { waiting = c.held ++ (ns ++ c.waiting); held = [] }
+
+  column-free : Lacks made.column.list (owned (ids_of d) t ++ inner_ids (list_at t made.put_back))
+  column-free =
+      lacks-append made.column.list (owned (ids_of d) t) (inner_ids (list_at t made.put_back)) fired.free
+      (subst (Lacks made.column.list) (sym (back-inner r.plain.params f (list_at t) (list_at t made.put_back) fired.put_back)) tt)
+
+  column-apart : made.column.list ≢ made.put_back
+  column-apart = λ e. not-live r.store made.column.list page.body fired.fresh can.body.live (sym (e ∙ fired.body))
+
+  module _ (q : Makeup) (sound : IsSound q.builder q.store) (contents : held_in q ≡ back (contents_of d t) (plain_list t made.put_back))
+      (others : (l : ℕ) → l ≢ made.put_back → Lacks l (owned (ids_of d) t) → get q.store.lists l ≡ get t.lists l)
+      (keeps : (l : ℕ) → Lacks l (owned (ids_of d) t ++ inner_ids (list_at t made.put_back)) → Lacks l (owned (ids_of q.builder) q.store))
+      (plain : q.plain ≡ now) (ask : q.ask ≡ r.ask) (limit : q.limit ≡ r.limit) where
+    pub contents-now : held_in q ≡ record (held_in r) { boxes = with_void 254 (with_void 253 (held_in r).boxes); waiting = waiting_after r.plain.params f; held = [] }
+    contents-now = contents ∙ (λ i. back (fired.contents i) (fired.put_back i))
+
+    -- the nodes that wait now
+    pub waiting-now : (held_in q).waiting ≡ waiting_after r.plain.params f
+    waiting-now = ap (λ (c : Contents). c.waiting) contents-now
+
+    pub waiting-few : node_count (waiting_after r.plain.params f) ≤ 8388608 → node_count (held_in q).waiting ≤ 8388608
+    waiting-few few = subst (λ ns. node_count ns ≤ 8388608) (sym waiting-now) few
+
+    pub boxes-void : box_count (with_void 254 (with_void 253 (held_in r).boxes)) ≡ 0 → box_count (held_in q).boxes ≡ 0
+    boxes-void void = ap (λ (c : Contents). box_count c.boxes) contents-now ∙ void
+
+    pub page-none : (held_in q).page ≡ []
+    page-none = ap (λ (c : Contents). c.page) contents-now ∙ can.awaits.page
+
+    pub still-bounded : q.bound ≡ r.bound → IsBoundedPage page r → IsBounded 10 (state_of q) q.bound
+    still-bounded same h =
+        subst (IsBounded 10 (state_of q)) (sym same)
+        (subst (λ s. IsBounded 10 s r.bound) (λ i. record { page = sym page-none i; waiting = sym waiting-now i; number = ap (λ (x : Plain). x.page) (sym (plain ∙ fired.next)) i }) h)
+
+    column-same : get q.store.lists made.column.list ≡ get t.lists made.column.list
+    column-same = others made.column.list column-apart fired.free
+
+    module _ (hs : List Happening) (noted : hs ≡ happenings.Sent (sents.Ship made.page (sheets.One made.column)) ∷ []) where
+      has-shipped : HasShipped page r q hs
+      has-shipped = record {
+        within = fired.within;
+        number = plain ∙ fired.next;
+        sound = sound;
+        contents = contents-now;
+        events = ap (events_of q.store) noted ∙ (λ i. sent (shipped (fired.number i) (one ((column-shows t q.store made.column column-same fired.sized ∙ fired.column) i))) ∷ []);
+        happened = record {
+          pages = subst (ArePages q.store) (sym noted) (column-stands t q.store made.column column-same fired.sized, tt);
+          distinct = subst (λ xs. AreDistinct (happened_lists xs)) (sym noted) (tt, tt);
+          builder = subst (λ xs. AreNoneOf (happened_lists xs) (builder_lists q.builder q.store)) (sym noted) (lacks-none made.column.list (builder_lists q.builder q.store) (keeps made.column.list column-free), tt);
+        };
+        ask = ask;
+        limit = limit;
+      }
+
+      ships-by : (o : Option MakeupEnding) → IfNone o (IsBounded 0 (state_of q) q.bound) → o ≡ over_limit r.limit (node_count (waiting_after r.plain.params f)) → Ships page r o q hs
+      ships-by None b e = (has-shipped, sym e, b)
+      ships-by (Some endings.Done) b e = absurd (not-done (node_count (waiting_after r.plain.params f)) (int_lt r.limit (pos (node_count (waiting_after r.plain.params f)))) e)
+      ships-by (Some (endings.PageLimit k)) b e = absurd (not-pages k (node_count (waiting_after r.plain.params f)) (int_lt r.limit (pos (node_count (waiting_after r.plain.params f)))) e)
+      ships-by (Some (endings.NodeLimit k)) b e = (has-shipped, sym e)
+
+      -- what the page comes to, by the nodes that wait now
+      pub ships : (o : Option MakeupEnding) → IfNone o (IsBounded 0 (state_of q) q.bound) → o ≡ over_limit q.limit (node_count (held_in q).waiting) → Ships page r o q hs
+      ships o b e = ships-by o b (e ∙ (λ i. over_limit (limit i) (node_count (waiting-now i))))
+
+-- ---- no page ships
+
+-- all lists are as before
+pub same-sound : (b d : Builder) (s t : Lists Node) → IsSound b s → d ≡ b → t.lists ≡ s.lists → IsSound d t
+same-sound b d s t sound same lists = subst (λ x. IsSound x t) (sym same) (frame_sound b s t sound (live_all_same s t (owned (ids_of b) s) (λ q live. ap (λ m. get m q) lists) sound.own.live))

@@ -1,0 +1,9 @@
+-- A page is filled, in reading order.
+pub mod ProgressLemmas
+pub mod ActedStates
+pub mod ActingLemmas
+pub mod ComingPages
+pub mod ComingLemmas
+pub mod FillingLemmas
+pub mod FiringLemmas
+pub mod PassingLemmas

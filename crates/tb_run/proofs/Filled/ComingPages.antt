@@ -1,0 +1,192 @@
+-- The page that is filled fits, and so does the page that fires.
+use Rattle.std.proofs.Common.{◌≡◌, sym, subst, ap, ℕ, ◌+◌, ◌≤◌, ℤ, pos, ◌≤ℤ◌, Bool, true, false, List, [], ◌∷◌, ◌++◌, map, take, drop, Some, arith}
+use Rattle.std.specs.Prelude.{All, if◌then◌else◌}
+use Rattle.std.specs.List.{AllByRecursion}
+use Rattle.std.proofs.lemmas.Int.{ints}
+use Rattle.std.proofs.lemmas.List.{length-map}
+use Rattle.std.proofs.lemmas.List.Elements.{All-nil, All-from_recursion, recursion_from_All}
+use Rattle.tb_node.specs.Fit.{IsExtent}
+use Rattle.tb_node.specs.Plain.{PlainNode}
+use Rattle.tb_param.specs.declared.Params.{Params}
+use Rattle.tb_insert.specs.declared.Class.{Class}
+use Rattle.tb_insert.specs.Account.{ClassBox, Labelled, labelled}
+use Rattle.tb_builder.specs.declared.Ask.{Ask}
+use Rattle.tb_builder.specs.Reached.{Reached, Reach}
+use Rattle.tb_builder.specs.Fired.{Boxed, Fired, page_break, content_of, given_to, box_after, is_given, frozen_for, fired_of}
+use Rattle.tb_builder.specs.Contents.{Contents, frozen_of, laid, node_count, box_count}
+use Rattle.tb_builder.specs.Kept.{fired_count, AreBoxesOf}
+use Rattle.tb_builder.specs.Next.{BoxesFit, NextFits, fired_page}
+use Rattle.tb_builder.specs.Owned.{ClassesFit}
+use Rattle.tb_builder.specs.Pageable.{IsSizedOnPage, IsSizedBox, IsGoal}
+use Rattle.tb_builder.specs.Places.{NoActs}
+use Rattle.tb_builder.proofs.LegalPlaces.ChargeLemmas.{few_classes}
+use Rattle.tb_builder.proofs.Ranges.PageableLemmas.{IsSizedFrozen, laid_fits, class_boxes_sized, class_boxes_total, contents_fit}
+use Rattle.tb_builder.proofs.Ranges.SizedLemmas.{FiredSized, fired_sized}
+use Rattle.tb_builder.proofs.FiredPages.FiredCounts.{fired_fewer}
+use Rattle.tb_output.specs.State.{State, ask_of, has_floats}
+use Rattle.tb_output.specs.Out.{hold_penalty}
+use Rattle.tb_run.specs.GalleyNodes.{IsServable, IsGalleyNode}
+use Rattle.tb_run.specs.Run.{held_count}
+use Rattle.tb_run.specs.Served.{AreRunnable, AreRunClasses, notes_waiting, notes_left, IsTextKind, IsServed, IsServedPage}
+use Rattle.tb_run.specs.Turning.{between_pages}
+use Rattle.tb_run.proofs.ServedAgain.FiredNodes.{every-front, every-back, every-append, every-take, every-drop, no_acts-take, text-body, served-spent, mild-break, known-labels, held-known, nodes-both, nodes-sized, nodes-served, notes-append, notes-drop, notes-spent, notes-held}
+use Rattle.tb_run.proofs.ServedAgain.ServedFirings.{reach_where, within-more}
+use Rattle.tb_run.proofs.Filled.ComingLemmas.{IsComing, whole_nodes, stopped-nodes, fired-is}
+
+extent-zero : IsExtent (pos 0)
+extent-zero = record { low = omega (arith, ints); high = omega (arith, ints) }
+
+extent-goal : (z : ℤ) → IsExtent z → IsGoal z
+extent-goal z h = record { low = let a = h.low in grind (arith, ints, a); high = let a = h.high in grind (arith, ints, a) }
+
+-- each class keeps its box
+boxes-after : (ls : List Labelled) (cs : List Class) (bs : List Boxed) → AreBoxesOf cs bs → AreBoxesOf cs (map (box_after ls) bs)
+boxes-after ls [] [] h = tt
+boxes-after ls [] (b ∷ bs) h = absurd h
+boxes-after ls (c ∷ cs) [] h = absurd h
+boxes-after ls (c ∷ cs) (b ∷ bs) h = (by_test (is_given b.number ls), boxes-after ls cs bs h.1)
+  where
+    by_test : (t : Bool) → (if t then record b { content = Some (content_of b.content ++ given_to b.number ls) } else b).number ≡ c.number
+    by_test true = h.0
+    by_test false = h.0
+
+module _ (p : Params) (s : State) (runs : AreRunnable p) (classes : AreRunClasses s.classes) (goal : IsGoal s.goal) (served : IsServed s.waiting s) (few : held_count s ≤ 4194304) where
+  abbrev ask : Ask
+  ask = ask_of p s
+
+  depth : IsExtent ask.max_depth
+  depth = by_test (has_floats s.floats.bottom)
+    where
+      by_test : (t : Bool) → IsExtent (if t then pos 0 else p.maxdepth)
+      by_test true = extent-zero
+      by_test false = runs.output.columns.maxdepth
+
+  start : NextFits (between_pages s) ask
+  start = contents_fit (between_pages s) ask (record {
+    goal = goal;
+    limit = depth;
+    asked_goal = goal;
+    asked_depth = depth;
+    top_skip = runs.topskip;
+    classes = classes.sized;
+    classes_fit = classes.fit;
+    boxes = served.boxes;
+    page = All-nil IsSizedOnPage;
+    waiting = nodes-sized s.classes s.waiting served.nodes;
+    few = omega (arith, few);
+  })
+
+  frozen-sized : IsSizedFrozen (frozen_for ask s.classes s.boxes)
+  frozen-sized = record {
+    goal = goal;
+    limit = depth;
+    classes = class_boxes_sized s.classes s.boxes classes.sized served.boxes (omega (arith, few));
+    few = let a = few_classes s.classes classes.fit in let b = length-map {B = ClassBox} s.classes in omega (arith, a, b);
+    total = class_boxes_total s.classes s.boxes classes.fit served.boxes (omega (arith, few));
+  }
+
+  module _ (rs : List Reached) (c : Contents) (t : State) (h : IsComing p s rs c t) where
+    abbrev ns : List PlainNode
+    ns = whole_nodes p s c
+
+    same-classes : t.classes ≡ s.classes
+    same-classes = h.keeps.classes
+
+    ns-nodes : All (IsGalleyNode s.classes) ns
+    ns-nodes = subst (λ cs. All (IsGalleyNode cs) ns) same-classes h.served.nodes
+
+    -- all that is added up fits
+    pub coming-fits : NextFits c ask
+    coming-fits = record {
+      asked = start.asked;
+      boxes = subst BoxesFit (sym h.boxes) start.boxes;
+      laid_fits =
+          laid_fits (frozen_of c ask) (laid c ask) (subst IsSizedFrozen (sym h.frozen) frozen-sized) (subst (All IsSizedOnPage) (sym h.all) (nodes-sized s.classes ns ns-nodes))
+          (let f = h.few in let e = ap node_count h.all in omega (arith, f, e, few));
+    }
+
+    -- ---- the page that fires
+
+    module _ (off : c.stopped ≡ true) (quiet : NoActs c.page) (of : AreBoxesOf s.classes s.boxes) where
+      abbrev f : Fired
+      f = fired_page c ask
+
+      abbrev last : Reach
+      last = record { reached = rs; passed = c.page; beyond = c.waiting; fires = true }
+
+      abbrev k : ℕ
+      k = (page_break last).place
+
+      abbrev ls : List Labelled
+      ls = labelled (frozen_for ask c.classes c.boxes) (take k c.page)
+
+      both : All (IsGalleyNode s.classes) (c.page ++ c.waiting)
+      both = subst (All (IsGalleyNode s.classes)) (stopped-nodes p s c off) ns-nodes
+
+      both-served : AllByRecursion (λ n. IsServable s.classes n.kind) (c.page ++ c.waiting)
+      both-served = nodes-served s.classes (c.page ++ c.waiting) both
+
+      both-sized : AllByRecursion IsSizedOnPage (c.page ++ c.waiting)
+      both-sized = recursion_from_All IsSizedOnPage (c.page ++ c.waiting) (nodes-sized s.classes (c.page ++ c.waiting) both)
+
+      page-served : AllByRecursion (λ n. IsServable s.classes n.kind) c.page
+      page-served = every-front (λ (n : PlainNode). IsServable s.classes n.kind) c.page c.waiting both-served
+
+      waiting-served : AllByRecursion (λ n. IsServable s.classes n.kind) c.waiting
+      waiting-served = every-back (λ (n : PlainNode). IsServable s.classes n.kind) c.page c.waiting both-served
+
+      parts : FiredSized f
+      parts =
+          fired_sized c ask (All-from_recursion IsSizedOnPage c.page (every-front IsSizedOnPage c.page c.waiting both-sized)) (All-from_recursion IsSizedOnPage c.waiting (every-back IsSizedOnPage c.page c.waiting both-sized))
+          (subst (All IsSizedBox) (sym h.boxes) served.boxes)
+
+      is : f ≡ fired_of ask c.classes c.boxes last
+      is = fired-is p s rs c t h off
+
+      front-served : AllByRecursion (λ n. IsServable s.classes n.kind) (take k c.page)
+      front-served = every-take (λ (n : PlainNode). IsServable s.classes n.kind) k c.page page-served
+
+      rest-served : AllByRecursion (λ n. IsServable s.classes n.kind) (drop k c.page ++ c.waiting)
+      rest-served = every-append (λ (n : PlainNode). IsServable s.classes n.kind) (drop k c.page) c.waiting (every-drop (λ (n : PlainNode). IsServable s.classes n.kind) k c.page page-served) waiting-served
+
+      -- its penalty is none below those of the routine
+      pub fired-mild : hold_penalty ≤ℤ f.penalty
+      fired-mild = subst (λ (g : Fired). hold_penalty ≤ℤ g.penalty) (sym is) (mild-break s.classes (drop k c.page ++ c.waiting) rest-served)
+
+      -- no more nodes than waited and were in boxes, and the top glue
+      pub fired-few : fired_count f ≤ node_count s.waiting + 1 + box_count s.boxes
+      fired-few =
+          let most = fired_fewer c ask (subst ClassesFit (sym h.classes) classes.fit) (subst (λ bs. AreBoxesOf c.classes bs) (sym h.boxes) (subst (λ cs. AreBoxesOf cs s.boxes) (sym h.classes) of)) in
+          let a = h.few in
+          let b = ap node_count (stopped-nodes p s c off) in
+          let d = ap box_count h.boxes in
+          omega (arith, most, a, b, d)
+
+      left-fewer : notes_waiting (f.held ++ f.rest) ≤ notes_waiting ns
+      left-fewer =
+          let a = notes-append f.held f.rest in
+          let b = ap (λ (g : Fired). notes_waiting g.held) is in
+          let d = notes-held ls in
+          let e = ap (λ (g : Fired). notes_waiting g.rest) is in
+          let g = notes-spent (drop k c.page ++ c.waiting) in
+          let i = notes-append (drop k c.page) c.waiting in
+          let j = notes-drop k c.page in
+          let l = notes-append c.page c.waiting in
+          let m = ap notes_waiting (stopped-nodes p s c off) in
+          omega (arith, a, b, d, e, g, i, j, l, m)
+
+      pub fired-served : IsServedPage t f
+      fired-served =
+          let e = sym same-classes in
+          record {
+            body = parts.body;
+            text = subst (λ (g : Fired). AllByRecursion (λ n. IsTextKind n.kind) g.body) (sym is) (text-body s.classes (take k c.page) (no_acts-take k c.page quiet) front-served);
+            back = subst (λ cs. All (IsGalleyNode cs) f.held) e (nodes-both s.classes f.held parts.held (subst (λ (g : Fired). AllByRecursion (λ n. IsServable s.classes n.kind) g.held) (sym is) (held-known s.classes ls (known-labels s.classes (frozen_for ask c.classes c.boxes) (take k c.page) front-served))));
+            rest = subst (λ cs. All (IsGalleyNode cs) f.rest) e (nodes-both s.classes f.rest parts.rest (subst (λ (g : Fired). AllByRecursion (λ n. IsServable s.classes n.kind) g.rest) (sym is) (served-spent s.classes (drop k c.page ++ c.waiting) rest-served)));
+            boxes = parts.boxes;
+            boxes_of = subst (λ cs. AreBoxesOf cs f.boxes) e (subst (λ (g : Fired). AreBoxesOf s.classes g.boxes) (sym is) (boxes-after ls s.classes c.boxes (subst (AreBoxesOf s.classes) (sym h.boxes) of)));
+            held = h.served.held;
+            entries = h.served.entries;
+            notes = let a = h.served.notes in let b = left-fewer in omega (arith, a, b);
+            bottom = within-more (reach_where (notes_left ns t)) (reach_where (notes_left (f.held ++ f.rest) t)) t.note_bottom (let b = left-fewer in omega (arith, b)) h.served.bottom;
+          }

@@ -1,0 +1,8 @@
+-- A turn, in reading order.
+pub mod HappenedLemmas
+pub mod CountedLemmas
+pub mod WholeLemmas
+pub mod ServingLemmas
+pub mod DoneLemmas
+pub mod BeginLemmas
+pub mod TurnLemmas

@@ -1,0 +1,86 @@
+-- The nodes that are held, against the limit on them.
+use Rattle.std.proofs.Common.{◌≡◌, refl, sym, subst, ap, ℕ, ◌+◌, ◌≤◌, ℤ, pos, true, false, List, [], ◌∷◌, length, map, None, Some, arith}
+use Rattle.std.specs.Prelude.{All, int_lt, min, ◌≤ℤ◌, if◌then◌else◌}
+use Rattle.std.specs.List.{AllByRecursion}
+use Rattle.std.proofs.lemmas.Int.{ints}
+use Rattle.std.proofs.lemmas.List.Elements.{recursion_from_All}
+use Rattle.tb_pool.specs.Lists.{list_at}
+use Rattle.tb_node.specs.declared.Kind.{Kind}
+use Rattle.tb_node.specs.declared.Kind.TheVariants as kinds
+use Rattle.tb_node.specs.declared.Node.{Node}
+use Rattle.tb_node.specs.Fit.{IsSizedNode, IsSizedPlain}
+use Rattle.tb_node.specs.Plain.{plain_of, plain_kind, plain_list}
+use Rattle.tb_param.specs.declared.Params.{Params}
+use Rattle.tb_builder.specs.Contents.{contents_count, kind_count, node_count, box_count}
+use Rattle.tb_column.specs.Page.{is_leaf_kind, AreLeaves}
+use Rattle.tb_run.specs.declared.routine.Routine.{Routine}
+use Rattle.tb_run.specs.declared.routine.Ending.TheVariants as endings
+use Rattle.tb_run.specs.Run.{held_count}
+use Rattle.tb_run.specs.Turning.{held_in, state_of, IsConsistent, IsBounded, over_limit}
+
+-- ---- a list of a page
+
+leaf-one : (held : ℕ → List Node) (k : Kind) → is_leaf_kind k → kind_count (plain_kind held k) ≡ 1
+leaf-one held (kinds.Hbox what h d) l = refl
+leaf-one held (kinds.Rule name h d) l = refl
+leaf-one held (kinds.Skip g) l = refl
+leaf-one held (kinds.Kern w) l = refl
+leaf-one held (kinds.Pen q) l = refl
+leaf-one held (kinds.Mark name) l = refl
+leaf-one held (kinds.Note name) l = refl
+leaf-one held kinds.Whatsit l = refl
+leaf-one held (kinds.Ins i) l = absurd l
+leaf-one held (kinds.Act a) l = absurd l
+
+-- its nodes count as one each
+pub leaves-count : (held : ℕ → List Node) (ns : List Node) → AreLeaves ns → node_count (map (plain_of held) ns) ≡ length ns
+leaves-count held [] h = refl
+leaves-count held (n ∷ ns) h = let a = leaf-one held n.kind h.0 in let b = leaves-count held ns h.1 in omega (arith, a, b)
+
+kind-sized : (held : ℕ → List Node) (l : ℕ) (k : Kind) → IsSizedNode (record { line = l; kind = k }) → IsSizedPlain (plain_of held (record { line = l; kind = k }))
+kind-sized held l (kinds.Hbox what h d) s = s
+kind-sized held l (kinds.Rule name h d) s = s
+kind-sized held l (kinds.Skip g) s = s
+kind-sized held l (kinds.Kern w) s = s
+kind-sized held l (kinds.Pen q) s = s
+kind-sized held l (kinds.Mark name) s = s
+kind-sized held l (kinds.Note name) s = s
+kind-sized held l kinds.Whatsit s = s
+kind-sized held l (kinds.Ins i) s = s
+kind-sized held l (kinds.Act a) s = s
+
+shown-by : (held : ℕ → List Node) (ns : List Node) → AllByRecursion IsSizedNode ns → AllByRecursion IsSizedPlain (map (plain_of held) ns)
+shown-by held [] h = tt
+shown-by held (n ∷ ns) h = (kind-sized held n.line n.kind h.0, shown-by held ns h.1)
+
+-- what a store shows of sized nodes is sized
+pub shown-sized : (held : ℕ → List Node) (ns : List Node) → All IsSizedNode ns → AllByRecursion IsSizedPlain (map (plain_of held) ns)
+shown-sized held ns h = shown-by held ns (recursion_from_All IsSizedNode ns h)
+
+-- ---- the limit
+
+not-over : (z : ℤ) (a b : ℕ) → a ≤ b → int_lt z (pos b) ≡ false → int_lt z (pos a) ≡ false
+not-over z a b less e = grind (arith, ints, less, e)
+
+small-min : (x : ℕ) → x ≤ 8388608 → min x 18446744073709551615 ≡ x
+small-min x h = grind (arith, h)
+
+-- a number that is not over the limit
+pub none-over : (p : Params) (a b : ℕ) → a ≤ b → int_lt p.maxnodes (pos b) ≡ false → None ≡ over_limit p a
+none-over p a b less e = sym (ap (λ t. if t then Some (endings.NodeLimit a) else None) (not-over p.maxnodes a b less e))
+
+-- a number that is over it
+pub some-over : (p : Params) (a b : ℕ) → b ≡ a → int_lt p.maxnodes (pos b) ≡ true → Some (endings.NodeLimit b) ≡ over_limit p a
+some-over p a b same e = subst (λ n. Some (endings.NodeLimit b) ≡ over_limit p n) same (sym (ap (λ t. if t then Some (endings.NodeLimit b) else None) e))
+
+pub at-most : (z : ℤ) (n : ℕ) → int_lt z (pos n) ≡ false → pos n ≤ℤ z
+at-most z n e = grind (arith, ints, e)
+
+-- the nodes that are counted are those that are held
+pub counted-all : (r : Routine) → IsConsistent r → IsBounded 8388608 r → (nodes held : ℕ) → nodes ≡ contents_count (held_in r) → held ≡ length (list_at r.store r.machine.held_page) → nodes + held ≡ held_count (state_of r)
+counted-all r whole bounded nodes held e f =
+    by_number (node_count (held_in r).waiting) (box_count (held_in r).boxes) (node_count (plain_list r.store r.machine.held_page)) (leaves-count (list_at r.store) (list_at r.store r.machine.held_page) whole.machine.held_page.leaves) e f bounded.held
+    bounded.few
+  where
+    by_number : (w b h : ℕ) → h ≡ length (list_at r.store r.machine.held_page) → nodes ≡ min (w + b) 18446744073709551615 → held ≡ length (list_at r.store r.machine.held_page) → w + h + b ≤ r.most → r.most ≤ 8388608 → nodes + held ≡ w + h + b
+    by_number w b h long void is at few = let m = small-min (w + b) (omega (arith, at, few)) in omega (arith, m, long, void, is, at)

@@ -1,0 +1,82 @@
+-- The routine once what was sent is done with.
+use Rattle.std.proofs.Common.{◌≡◌, sym, subst, ◌∙◌, ap, ℕ, ◌≤◌, List, [], ◌∷◌}
+use Rattle.std.specs.List.{AllByRecursion}
+use Rattle.std.specs.FinMap.{get}
+use Rattle.tb_pool.specs.Lists.{Lists, IsLive}
+use Rattle.tb_pool.specs.Frame.{IsNoneOf}
+use Rattle.tb_node.specs.declared.Node.{Node}
+use Rattle.tb_column.specs.declared.Sent.TheVariants as sents
+use Rattle.tb_column.specs.declared.Sheet.{Sheet}
+use Rattle.tb_column.specs.declared.Sheet.TheVariants as sheets
+use Rattle.tb_output.specs.State.{State}
+use Rattle.tb_output.specs.Machine.{state_shown, sheet_lists, machine_lists, IsPageSheet}
+use Rattle.tb_output.specs.Keeping.{AreNoneOf}
+use Rattle.tb_output.proofs.Working.StandLemmas.{all-join, IsShownBy}
+use Rattle.tb_run.specs.declared.happening.Happening.{Happening}
+use Rattle.tb_run.specs.declared.happening.Happening.TheVariants as happenings
+use Rattle.tb_run.specs.declared.routine.Routine.{Routine}
+use Rattle.tb_run.specs.Run.{held_count}
+use Rattle.tb_run.specs.Served.{IsServed}
+use Rattle.tb_run.specs.Happened.{happening_lists, happened_lists}
+use Rattle.tb_run.specs.Turning.{held_in, state_of, IsConsistent, between_pages, IsReady, IsPage, ArePages, AreHappened}
+use Rattle.tb_run.proofs.Turns.WholeLemmas.{closed-owned, closed-contents, closed-sound, closed-shown}
+
+-- ---- lists of pages are live
+
+sheet-live : (store : Lists Node) (s : Sheet) → IsPageSheet store s → AllByRecursion (IsLive store) (sheet_lists s)
+sheet-live store (sheets.One c) h = (h.list.live, tt)
+sheet-live store (sheets.Wide c) h = (h.list.live, tt)
+sheet-live store (sheets.Two tops at left right) h = (h.0.live, (h.1.list.live, (h.2.list.live, tt)))
+
+page-live : (store : Lists Node) (x : Happening) → IsPage store x → AllByRecursion (IsLive store) (happening_lists x)
+page-live store (happenings.Tried t) h = tt
+page-live store (happenings.Sent (sents.Warn w)) h = tt
+page-live store (happenings.Sent (sents.Ship page sheet)) h = sheet-live store sheet h
+
+pub pages-live : (store : Lists Node) (hs : List Happening) → ArePages store hs → AllByRecursion (IsLive store) (happened_lists hs)
+pages-live store [] h = tt
+pages-live store (x ∷ hs) h = all-join (IsLive store) (happening_lists x) (happened_lists hs) (page-live store x h.0) (pages-live store hs h.1)
+
+-- ---- they are closed
+
+module _ (r : Routine) (new : Lists Node) (hs : List Happening) (ready : IsReady r) (h : AreHappened r hs) (others : (q : ℕ) → IsNoneOf q (happened_lists hs) → get new.lists q ≡ get r.store.lists q) where
+  abbrev after : Routine
+  after = record r { store = new }
+
+  abbrev closed : List ℕ
+  closed = happened_lists hs
+
+  whole : IsConsistent r
+  whole = ready.settled.whole
+
+  contents : held_in after ≡ held_in r
+  contents = closed-contents r.builder r.store new closed whole.builder others h.builder
+
+  shown : IsShownBy r.machine r.store new
+  shown = closed-shown r.machine r.store new closed whole.machine others h.machine
+
+  -- it shows the same state
+  pub done-state : state_of after ≡ state_of r
+  done-state = (λ i. state_shown new (contents i).boxes (contents i).waiting r.machine) ∙ shown.state (held_in r).boxes (held_in r).waiting
+
+  done-whole : IsConsistent after
+  done-whole = record {
+    builder = closed-sound r.builder r.store new closed whole.builder others h.builder;
+    machine = shown.machine;
+    fault = whole.fault;
+    apart = subst (AreNoneOf (machine_lists r.machine)) (sym (closed-owned r.builder r.store new closed whole.builder others h.builder)) whole.apart;
+  }
+
+  -- and is ready for its next turn
+  pub done-ready : IsReady after
+  done-ready = record {
+    settled = record {
+      whole = done-whole;
+      params = ready.settled.params;
+      classes = ready.settled.classes;
+      between = contents ∙ ready.settled.between ∙ ap between_pages (sym done-state);
+      served = subst (λ (t : State). IsServed t.waiting t) (sym done-state) ready.settled.served;
+      bounded = record { held = subst (λ (t : State). held_count t ≤ r.most) (sym done-state) ready.settled.bounded.held; few = ready.settled.bounded.few };
+    };
+    events = ready.events;
+  }

@@ -1,0 +1,154 @@
+-- The routine after the machine served a page.
+use Rattle.std.proofs.Common.{◌≡◌, refl, sym, subst, ◌∙◌, ap, ℕ, ◌+◌, ◌≤◌, ℤ, pos, ◌≤ℤ◌, Bool, true, false, List, [], ◌++◌, Option, Some, None, append_assoc, arith}
+use Rattle.std.specs.Prelude.{int_lt, IfNone, if◌then◌else◌}
+use Rattle.std.specs.List.{AllByRecursion}
+use Rattle.tb_pool.specs.Lists.{Lists, list_at}
+use Rattle.tb_node.specs.declared.Node.{Node}
+use Rattle.tb_node.specs.Fit.{IsSizedPlain}
+use Rattle.tb_node.specs.Plain.{PlainNode, plain_list}
+use Rattle.tb_param.specs.declared.Params.{Params}
+use Rattle.tb_builder.specs.declared.Builder.{Builder}
+use Rattle.tb_builder.specs.declared.Page.{Page}
+use Rattle.tb_builder.specs.Fired.{Boxed, Fired}
+use Rattle.tb_builder.specs.Contents.{Contents, contents_of, node_count}
+use Rattle.tb_builder.specs.Running.{IsSound, IsPageSoFar}
+use Rattle.tb_output.specs.declared.Turn.{Turn}
+use Rattle.tb_output.specs.State.{State, Work}
+use Rattle.tb_output.specs.Out.{out}
+use Rattle.tb_output.specs.Machine.{MachineView, state_shown, events_shown, IsMachine}
+use Rattle.tb_output.specs.Firing.{fired_in, whole_work, CanFire, CanGoBack, IsFired, KeepsAll}
+use Rattle.tb_run.specs.declared.routine.Routine.{Routine}
+use Rattle.tb_run.specs.declared.routine.Ending.{Ending}
+use Rattle.tb_run.specs.declared.routine.Ending.TheVariants as endings
+use Rattle.tb_run.specs.Run.{held_count}
+use Rattle.tb_run.specs.Served.{AreRunnable, AreRunClasses, IsServed, IsServedPage}
+use Rattle.tb_run.specs.Turning.{held_in, state_of, IsConsistent, IsBounded, between_pages, IsEnded, over_limit}
+use Rattle.tb_run.specs.Filling.{IsBoundedPage, IsServedOn, ServesTo, Serves}
+use Rattle.tb_run.proofs.Turns.CountedLemmas.{shown-sized}
+use Rattle.tb_run.proofs.ServedAgain.ServedOut.{out-count, out-served}
+
+-- a builder without a page has no stop behind it
+pub no-stop : (b : Builder) (s : Lists Node) → IsSound b s → (contents_of b s).frozen ≡ None → b.stopped ≡ false
+no-stop b s h e = by_frozen b.frozen b.stopped e h.page
+  where
+    by_frozen : (o : Option (ℤ × ℤ)) (t : Bool) → o ≡ None → IsPageSoFar o t b.course (contents_of b s) → t ≡ false
+    by_frozen None true n p = absurd p
+    by_frozen None false n p = refl
+    by_frozen (Some f) t n p = cc
+
+pub sound-ended : (r : Routine) → IsSound r.builder r.store → IsMachine r.machine r.store → IsEnded r
+sound-ended r b m = record { machine = m; page = b.own.live.0 }
+
+-- what waits after a firing
+work-waits : (p : Params) (s : State) (f : Fired) → (out p s f).state.waiting ≡ f.held ++ ((out p s f).put_back ++ f.rest)
+unfolding out
+work-waits p s f = append_assoc f.held (out p s f).put_back f.rest
+
+module _ (r : Routine) (page : Page) (whole : IsConsistent r) (can : CanFire r.machine r.builder r.store page) (bounded : IsBoundedPage page r) (runs : AreRunnable r.machine.params) (known : AreRunClasses r.machine.classes) (served : IsServedPage (state_of r) (fired_in r.builder r.store page)) where
+  abbrev f : Fired
+  f = fired_in r.builder r.store page
+
+  abbrev w : Work
+  w = whole_work r.machine r.builder r.store page
+
+  fits : node_count f.body + node_count (state_of r).held_page ≤ 4194305
+  fits = let a = bounded.held in let b = bounded.few in omega (arith, a, b)
+
+  held-sized : AllByRecursion IsSizedPlain (state_of r).held_page
+  held-sized = shown-sized (list_at r.store) (list_at r.store r.machine.held_page) whole.machine.held_page.sized
+
+  module _ (m : MachineView) (b : Builder) (store : Lists Node) (turn : Turn) (fired : IsFired turn r.machine m b r.store store w) (contents : contents_of b store ≡ record (contents_of r.builder r.store) { boxes = w.state.boxes }) (back : CanGoBack turn.put_back m b store) (goes_on : m.fault ≡ None)
+      (keeps : KeepsAll page.body r.machine m r.builder b r.store store) where
+    abbrev between_both : Routine
+    between_both = record { store = store; builder = b; machine = m; most = r.most }
+
+    pub fired-whole : IsConsistent between_both
+    fired-whole = record { builder = keeps.builder; machine = keeps.machine; fault = goes_on; apart = back.machine_free }
+
+    module _ (q : Routine) (q_whole : IsConsistent q)
+        (q_contents : held_in q ≡ record (held_in between_both) { waiting = (held_in between_both).held ++ (plain_list store turn.put_back ++ (held_in between_both).waiting); held = [] })
+        (machine : q.machine ≡ m) (most : q.most ≡ r.most) (state : (boxes : List Boxed) (waiting : List PlainNode) → state_shown q.store boxes waiting q.machine ≡ state_shown store boxes waiting m) (events : events_shown q.store q.machine.events ≡ events_shown store m.events) where
+      abbrev as_left : Contents
+      as_left = record (contents_of r.builder r.store) { boxes = w.state.boxes; waiting = f.held ++ (plain_list store turn.put_back ++ f.rest); held = [] }
+
+      left : held_in q ≡ as_left
+      left = q_contents ∙ ap (λ (c : Contents). record c { waiting = c.held ++ (plain_list store turn.put_back ++ c.waiting); held = [] }) contents
+
+      waits : (held_in q).waiting ≡ w.state.waiting
+      waits =
+          ap (λ (c : Contents). c.waiting) left
+          ∙ ap (λ ns. f.held ++ (ns ++ f.rest)) fired.put_back
+          ∙ sym (work-waits r.machine.params (state_of r) f)
+
+      -- the state after the firing
+      pub after-state : state_of q ≡ w.state
+      after-state =
+          state (held_in q).boxes (held_in q).waiting
+          ∙ (λ i. state_shown store ((ap (λ (c : Contents). c.boxes) left ∙ sym (ap (λ (c : Contents). c.boxes) contents)) i) (waits i) m)
+          ∙ fired.state
+
+      after-classes : (held_in q).classes ≡ (state_of q).classes
+      after-classes = ap (λ (c : Contents). c.classes) left ∙ can.classes ∙ sym keeps.classes ∙ sym (ap (λ (v : MachineView). v.classes) machine)
+
+      after-stopped : (held_in q).stopped ≡ false
+      after-stopped = no-stop q.builder q.store q_whole.builder (ap (λ (c : Contents). c.frozen) left ∙ can.awaits.frozen)
+
+      after-between : held_in q ≡ between_pages (state_of q)
+      after-between = λ i. record {
+        classes = after-classes i;
+        boxes = (held_in q).boxes;
+        page = (ap (λ (c : Contents). c.page) left ∙ can.awaits.page) i;
+        waiting = (held_in q).waiting;
+        held = ap (λ (c : Contents). c.held) left i;
+        frozen = (ap (λ (c : Contents). c.frozen) left ∙ can.awaits.frozen) i;
+        stopped = after-stopped i;
+      }
+
+      back-sized : AllByRecursion IsSizedPlain w.put_back
+      back-sized = subst (AllByRecursion IsSizedPlain) fired.put_back (shown-sized (list_at store) (list_at store turn.put_back) back.back.sized)
+
+      after-served : IsServed (held_in q).waiting (state_of q)
+      after-served =
+          subst (λ (t : State). IsServed t.waiting t) (sym after-state) (out-served r.machine.params (state_of r) f runs known served held-sized fits back-sized)
+
+      after-held : held_count (state_of q) ≤ r.most + 300
+      after-held =
+          let a = out-count r.machine.params (state_of r) f runs known served held-sized fits in
+          let b = bounded.held in
+          let e = ap held_count after-state in
+          omega (arith, a, b, e)
+
+      pub after-bounded : IsBounded 8388608 (record q { most = q.most + 300 })
+      after-bounded = record { held = let a = after-held in omega (arith, a, most); few = let a = bounded.few in omega (arith, a, most) }
+
+      -- the nodes were counted, if that was to be done
+      module _ (o : Option Ending) (end : Routine) (over : o ≡ over_limit q.machine.params (held_count (state_of q))) (same : end ≡ record q { most = end.most }) (end_bounded : IsBounded 8388608 end) (within : IfNone o (pos end.most ≤ℤ q.machine.params.maxnodes)) where
+        abbrev of_most : ℕ → Routine
+        of_most k = record q { most = k }
+
+        served-on : (k : ℕ) → IsBounded 8388608 (of_most k) → IsServedOn page r (of_most k)
+        served-on k few = record {
+          alive = fired.alive;
+          done = fired.served;
+          state = after-state;
+          sent = events ∙ fired.sent;
+          whole = record { builder = q_whole.builder; machine = q_whole.machine; fault = q_whole.fault; apart = q_whole.apart };
+          between = after-between;
+          served = after-served;
+          bounded = few;
+        }
+
+        serves-by : (k : ℕ) → IsBounded 8388608 (of_most k) → (t : Bool) → int_lt q.machine.params.maxnodes (pos (held_count (state_of q))) ≡ t → (x : Option Ending) → x ≡ (if t then Some (endings.NodeLimit (held_count (state_of q))) else None) → IfNone x (pos k ≤ℤ q.machine.params.maxnodes)
+            → ServesTo page r x (of_most k)
+        serves-by k few true e None is n = cc
+        serves-by k few true e (Some x) is n = subst (λ (z : Option Ending). ServesTo page r z (of_most k)) (sym is) (served-on k few, record { test = e; count = refl })
+        serves-by k few false e None is n = (served-on k few, record { test = e; within = n })
+        serves-by k few false e (Some x) is n = cc
+
+        pub serves : Serves page r o end
+        serves = record {
+          served = subst (ServesTo page r o) (sym same) (serves-by end.most (subst (IsBounded 8388608) same end_bounded) (int_lt q.machine.params.maxnodes (pos (held_count (state_of q)))) refl o over within);
+          ended = subst IsEnded (sym same) (sound-ended (of_most end.most) q_whole.builder q_whole.machine);
+          params = ap (λ (x : Routine). x.machine.params) same ∙ ap (λ (v : MachineView). v.params) machine ∙ keeps.params;
+          classes = ap (λ (x : Routine). x.machine.classes) same ∙ ap (λ (v : MachineView). v.classes) machine ∙ keeps.classes;
+        }

@@ -1,0 +1,122 @@
+-- The routine stays whole when lists that are none of its own change.
+use Rattle.std.proofs.Common.{◌≡◌, ◌≢◌, sym, subst, ◌∙◌, ap, ℕ, List, [], ◌∷◌, ◌++◌}
+use Rattle.std.specs.List.{AllByRecursion}
+use Rattle.std.specs.FinMap.{get, remove}
+use Rattle.tb_pool.specs.Lists.{Lists, IsLive, list_at}
+use Rattle.tb_pool.specs.Frame.{IsNoneOf}
+use Rattle.tb_pool.proofs.MapLemmas.{get-remove_other}
+use Rattle.tb_node.specs.declared.Node.{Node}
+use Rattle.tb_builder.specs.declared.Builder.{Builder}
+use Rattle.tb_builder.specs.Contents.{contents_of}
+use Rattle.tb_builder.specs.Owned.{Lacks, inner_ids, ids_of, owned, KeepsOthers}
+use Rattle.tb_builder.specs.Running.{IsSound}
+use Rattle.tb_builder.proofs.Ownership.FrameLemmas.{frame_owned, frame_contents, frame_sound}
+use Rattle.tb_builder.proofs.Ownership.OwnedLemmas.{AllSame, lacks-append}
+use Rattle.tb_output.specs.Machine.{MachineView, machine_lists, IsMachine}
+use Rattle.tb_output.specs.Firing.{builder_lists, CanGoBack}
+use Rattle.tb_output.specs.Keeping.{AreNoneOf, back_lists}
+use Rattle.tb_output.proofs.Working.ApartLemmas.{apart-swap, distinct-apart, none-lacks, lacks-none}
+use Rattle.tb_output.proofs.Working.StandLemmas.{Stands, machine-live, IsShownBy, stands-shown}
+use Rattle.tb_run.specs.declared.routine.Routine.{Routine}
+use Rattle.tb_run.specs.Turning.{held_in, IsConsistent}
+
+pub same-all : (s t : Lists Node) (xs : List ℕ) → AllByRecursion (Stands s t) xs → AllSame s t xs
+same-all s t [] h = tt
+same-all s t (x ∷ xs) h = (h.0, same-all s t xs h.1)
+
+-- ---- a call of the builder
+
+module _ (s t : Lists Node) (b d : Builder) (k : KeepsOthers (ids_of b) s (ids_of d) t) where
+  kept-stand : (ls : List ℕ) → AllByRecursion (IsLive s) ls → AreNoneOf ls (builder_lists b s) → AllByRecursion (Stands s t) ls
+  kept-stand [] live none = tt
+  kept-stand (l ∷ ls) live none = (k.others l live.0 (none-lacks l (builder_lists b s) none.0), kept-stand ls live.1 none.1)
+
+  kept-free : (ls : List ℕ) → AllByRecursion (IsLive s) ls → AreNoneOf ls (builder_lists b s) → AreNoneOf ls (builder_lists d t)
+  kept-free [] live none = tt
+  kept-free (l ∷ ls) live none = (lacks-none l (builder_lists d t) (k.apart l live.0 (none-lacks l (builder_lists b s) none.0)), kept-free ls live.1 none.1)
+
+-- the machine shows the same, and the routine is whole
+module _ (q d : Routine) (whole : IsConsistent q) (k : KeepsOthers (ids_of q.builder) q.store (ids_of d.builder) d.store) (sound : IsSound d.builder d.store) (same : d.machine ≡ q.machine) where
+  live : AllByRecursion (IsLive q.store) (machine_lists q.machine)
+  live = machine-live q.machine q.store whole.machine
+
+  pub built-shown : IsShownBy q.machine q.store d.store
+  built-shown = stands-shown q.machine q.store d.store whole.machine (kept-stand q.store d.store q.builder d.builder k (machine_lists q.machine) live whole.apart)
+
+  pub built-whole : IsConsistent d
+  built-whole = record {
+    builder = sound;
+    machine = subst (λ m. IsMachine m d.store) (sym same) built-shown.machine;
+    fault = ap (λ (m : MachineView). m.fault) same ∙ whole.fault;
+    apart = subst (λ (m : MachineView). AreNoneOf (machine_lists m) (builder_lists d.builder d.store)) (sym same) (kept-free q.store d.store q.builder d.builder k (machine_lists q.machine) live whole.apart);
+  }
+
+-- ---- lists that are closed
+
+pub stand-others : (store new : Lists Node) (closed : List ℕ) → ((q : ℕ) → IsNoneOf q closed → get new.lists q ≡ get store.lists q) → (ls : List ℕ) → AreNoneOf ls closed → AllByRecursion (Stands store new) ls
+stand-others store new closed others [] h = tt
+stand-others store new closed others (l ∷ ls) h = (others l h.0, stand-others store new closed others ls h.1)
+
+-- none of them the builder's or the machine's
+module _ (b : Builder) (store new : Lists Node) (closed : List ℕ) (sound : IsSound b store) (others : (q : ℕ) → IsNoneOf q closed → get new.lists q ≡ get store.lists q) (free : AreNoneOf closed (builder_lists b store)) where
+  same : AllSame store new (builder_lists b store)
+  same = same-all store new (builder_lists b store) (stand-others store new closed others (builder_lists b store) (apart-swap closed (builder_lists b store) free))
+
+  pub closed-owned : builder_lists b new ≡ builder_lists b store
+  closed-owned = frame_owned b store new sound same
+
+  pub closed-contents : contents_of b new ≡ contents_of b store
+  closed-contents = frame_contents b store new sound same
+
+  pub closed-sound : IsSound b new
+  closed-sound = frame_sound b store new sound same
+
+pub closed-shown : (m : MachineView) (store new : Lists Node) (closed : List ℕ) → IsMachine m store → ((q : ℕ) → IsNoneOf q closed → get new.lists q ≡ get store.lists q) → AreNoneOf closed (machine_lists m) → IsShownBy m store new
+closed-shown m store new closed is others free = stands-shown m store new is (stand-others store new closed others (machine_lists m) (apart-swap closed (machine_lists m) free))
+
+-- ---- what goes back before what waits
+
+module _ (r : Routine) (t u : Lists Node) (d : Builder) (l : ℕ) (whole : IsConsistent r) (back : CanGoBack l r.machine r.builder r.store) (sound : IsSound d t)
+    (others : (q : ℕ) → q ≢ l → Lacks q (owned (ids_of r.builder) r.store) → get t.lists q ≡ get r.store.lists q) (keeps : (q : ℕ) → Lacks q (owned (ids_of r.builder) r.store ++ inner_ids (list_at r.store l)) → Lacks q (owned (ids_of d) t))
+    (closed : u.lists ≡ remove t.lists l) where
+  closed-other : (q : ℕ) → q ≢ l → get u.lists q ≡ get t.lists q
+  closed-other q ne = ap (λ m. get m q) closed ∙ get-remove_other t.lists l q ne
+
+  all-other : (xs : List ℕ) → Lacks l xs → AllSame t u xs
+  all-other [] h = tt
+  all-other (x ∷ xs) h = (closed-other x (λ e. h.0 (sym e)), all-other xs h.1)
+
+  same-kept : AllSame t u (owned (ids_of d) t)
+  same-kept = all-other (owned (ids_of d) t) (keeps l back.joins.apart)
+
+  abbrev after : Routine
+  after = record { store = u; builder = d; machine = r.machine; most = r.most }
+
+  pub back-contents : held_in after ≡ contents_of d t
+  back-contents = frame_contents d t u sound same-kept
+
+  apart-back : AreNoneOf (machine_lists r.machine) (back_lists r.store l)
+  apart-back = apart-swap (back_lists r.store l) (machine_lists r.machine) (distinct-apart (back_lists r.store l) (machine_lists r.machine) back.back.apart)
+
+  lists-stand : (ls : List ℕ) → AreNoneOf ls (back_lists r.store l) → AreNoneOf ls (builder_lists r.builder r.store) → AllByRecursion (Stands r.store u) ls × AreNoneOf ls (builder_lists d u)
+  lists-stand [] h k = (tt, tt)
+  lists-stand (q ∷ ls) h k =
+      let rest = lists-stand ls h.1 k.1 in
+      let ne : q ≢ l = (λ e. h.0.0 (sym e)) in
+      let lacks = none-lacks q (builder_lists r.builder r.store) k.0 in (
+        (closed-other q ne ∙ others q ne lacks, rest.0),
+        (
+          lacks-none q (builder_lists d u)
+              (subst (Lacks q) (sym (frame_owned d t u sound same-kept)) (keeps q (lacks-append q (owned (ids_of r.builder) r.store) (inner_ids (list_at r.store l)) lacks (none-lacks q (inner_ids (list_at r.store l)) h.0.1)))),
+          rest.1,
+        ),
+      )
+
+  stand : AllByRecursion (Stands r.store u) (machine_lists r.machine) × AreNoneOf (machine_lists r.machine) (builder_lists d u)
+  stand = lists-stand (machine_lists r.machine) apart-back whole.apart
+
+  pub back-shown : IsShownBy r.machine r.store u
+  back-shown = stands-shown r.machine r.store u whole.machine stand.0
+
+  pub back-whole : IsConsistent after
+  back-whole = record { builder = frame_sound d t u sound same-kept; machine = back-shown.machine; fault = whole.fault; apart = stand.1 }
