@@ -3,17 +3,16 @@ use Rattle.std.specs.Prelude.{ℕ, ℤ, nat_lt, Bool, true, false, List, [], ◌
 use Rattle.tb_galley.specs.declared.Cause.{Cause}
 use Rattle.tb_galley.specs.declared.Fault.{Fault}
 use Rattle.tb_galley.specs.declared.Galley.{Galley}
-use Rattle.tb_galley.specs.CauseText.{cause_name, is_range_cause}
+use Rattle.tb_galley.specs.CauseText.{is_range_cause, fault_text}
 use Rattle.tb_galley.specs.Grammar.{grammar, input_limit}
 use Rattle.tb_galley.specs.Faults.{fault}
 use Rattle.tb_galley.specs.declared.Cause.TheVariants as causes
 use Rattle.tb_galley.specs.Print.{printed}
 use Rattle.tb_report.specs.declared.Totals.{Totals}
-use Rattle.tb_report.specs.Lines.{and_count, line}
+use Rattle.tb_text.specs.Fields.{and_count, line}
 use Rattle.tb_generator.specs.Generate.{generated}
-use Rattle.tb_lines.specs.declared.LinesCause.{LinesCause}
 use Rattle.tb_lines.specs.Galley.{NoGalley, faulty, no_breaks, lines_galley}
-use Rattle.tb_lines.specs.RefusalText.{is_range_cause as is_range_of_lines, no_galley_text}
+use Rattle.tb_lines.specs.RefusalText.{no_galley_text}
 use Rattle.tb_plain.specs.Run.{MakeupRun, MakeupEnd, done as made, page_limit as at_pages, node_limit as at_nodes, makeup_of}
 use Rattle.tb_plain.specs.Report.{makeup_report, unsuited_text}
 use Rattle.tb_plain.specs.Suited.{first_unsuited}
@@ -33,17 +32,13 @@ use Rattle.tb_top.specs.DviPages.{run_pages}
 
 -- ---- the status
 
--- a fault of the galley is one of syntax or one of range
+-- a fault of a galley or of a text of paragraphs is one of syntax or one of range
 abbrev pub answer_for_cause : Cause → Status
 answer_for_cause c = if is_range_cause c then answers.Range else answers.Syntax
 
--- so is a fault of a text of paragraphs
-abbrev pub answer_for_lines : LinesCause → Status
-answer_for_lines c = if is_range_of_lines c then answers.Range else answers.Syntax
-
 -- the status if a text has no galley of lines
 abbrev pub answer_without : NoGalley → Status
-answer_without (faulty f) = answer_for_lines f.cause
+answer_without (faulty f) = answer_for_cause f.cause
 answer_without (no_breaks n) = answers.NoBreaks
 
 -- the status of a run that ends so
@@ -65,10 +60,6 @@ makeup_answer (at_nodes n) = answers.NodeLimit
 -- a line of the program on err
 abbrev pub err_line : List ℕ → List ℕ
 err_line text = codes "galley_pages: " ++ (text ++ 10 ∷ [])
-
--- where the galley is at fault, and why
-abbrev pub fault_text : Fault → List ℕ
-fault_text f = codes "line " ++ (decimal f.line ++ (codes " field " ++ (decimal f.field ++ (codes ": " ++ cause_name f.cause))))
 
 -- a float or marginal note was taken while this many boxes were live
 abbrev pub pool_full_text : ℕ → ℕ → List ℕ

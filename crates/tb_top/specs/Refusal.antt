@@ -3,6 +3,7 @@ use Rattle.std.specs.Prelude.{◌≡◌, ℕ, List, [], codes, Result, Ok, Err}
 use Rattle.tb_galley.specs.declared.Galley.{Galley}
 use Rattle.tb_galley.specs.declared.GalleyFault.{GalleyFault}
 use Rattle.tb_galley.specs.declared.GalleyFault.TheVariants as unread
+use Rattle.tb_galley.specs.CauseText.{fault_text}
 use Rattle.tb_galley.specs.Grammar.{grammar}
 use Rattle.tb_top.specs.declared.PageFault.{PageFault}
 use Rattle.tb_top.specs.declared.PageFault.TheVariants as pages
@@ -27,7 +28,7 @@ use Rattle.tb_top.specs.DviRefusal.{dvi_status, dvi_text}
 use Rattle.tb_top.specs.declared.status.Status.{Status}
 use Rattle.tb_top.specs.declared.status.Status.TheVariants as answers
 use Rattle.tb_top.specs.Outcome.{Stream, Failed, Gives}
-use Rattle.tb_top.specs.Answer.{answer_for_cause, answer_for_lines, err_line, fault_text, pool_full_text, dead_cycles_text, page_limit_text, node_limit_text}
+use Rattle.tb_top.specs.Answer.{answer_for_cause, err_line, pool_full_text, dead_cycles_text, page_limit_text, node_limit_text}
 
 -- ---- the status
 
@@ -62,7 +63,7 @@ output_status outputs.Memory = answers.Memory
 
 -- if a text has no galley of lines
 abbrev pub lines_status : LinesRefusal → Status
-lines_status (unbroken.At line field cause) = answer_for_lines cause
+lines_status (unbroken.At line field cause) = answer_for_cause cause
 lines_status (unbroken.NoBreaks n) = answers.NoBreaks
 lines_status unbroken.Memory = answers.Memory
 

@@ -1,10 +1,10 @@
 -- What `paginate` writes, piece by piece.
 use Rattle.std.specs.Prelude.{◌≡◌, ◌≤◌, ◌⊎◌, ℕ, Bool, true, false, List, [], ◌∷◌, ◌++◌, length, Option, Result, IfErr, OnOk, OnErr}
 use Rattle.std.specs.Io.KnownBytes.{Appends}
+use Rattle.tb_node.specs.Plain.{plain_list}
 use Rattle.tb_io.specs.Faults.{Rose}
 use Rattle.tb_io.specs.Held.{AppendsPrefix}
 use Rattle.tb_column.specs.Column.{PlainSent, warned, shipped}
-use Rattle.tb_column.specs.Shown.{nodes_shown}
 use Rattle.tb_report.specs.declared.Totals.{Totals}
 use Rattle.tb_report.specs.Lines.{end_lines}
 use Rattle.tb_report.specs.Totals.{with_sent, sheet_nodes}
@@ -67,7 +67,7 @@ pub record Shows {T : Type 0} (v : View) (held_old held_new : Option (List ℕ))
 
 -- the lines of what is left on the page, and the last line
 abbrev pub last_lines : Routine → Totals → List ℕ
-last_lines r t = end_lines (nodes_shown r.store r.builder.page) t
+last_lines r t = end_lines (plain_list r.store r.builder.page) t
 
 -- the refusal of a fault of the output routine's machine; it is none if memory ran out
 abbrev pub IsFaultRefusal : RunFault → PageFault → Type 0

@@ -10,7 +10,7 @@ use tb_dvi::{ListFault, list};
 use tb_galley::{Cause, Fault, GalleyFault};
 
 // More bytes than this are not listed.
-const INPUT_LIMIT: usize = 8_388_608;
+const INPUT_LIMIT: usize = tb_galley::INPUT_LIMIT as usize;
 
 /// What the pages of a DVI file show, line by line. It is refused if the file is longer than 8388608 bytes, at the first
 /// command that fails, or if there is no memory.

@@ -7,7 +7,7 @@ ghost use Rattle.tb_top.specs.Input.{HasRead};
 ghost use Rattle.tb_top.specs.declared.input.InputFault.TheVariants.{Failed, Memory};
 
 use std::alloc::{AllocError, Global};
-use tb_galley::Reader;
+use tb_galley::{INPUT_LIMIT, Reader};
 use tb_io::Source;
 
 /// Why the input was not read.
@@ -62,9 +62,6 @@ impl Input for Vec<u8> {
         self.extend_from_slice(piece)
     }
 }
-
-// More bytes than this are no input, and so the rest is not read.
-const INPUT_LIMIT: u64 = 8_388_608;
 
 const PIECE: usize = 4096;
 

@@ -23,8 +23,9 @@ use tb_io::{Sink, SinkFault, write_all};
 use tb_makeup::{Makeup, MakeupEnding};
 use tb_node::Node;
 use tb_pool::Lists;
-use tb_report::{HEADER, Totals, end_line, put_total};
+use tb_report::{HEADER, Totals, put_total};
 use tb_run::Happening;
+use tb_text::end_line;
 
 /// Why a run under plain TeX's page makeup or its writing stopped.
 #[derive(Clone, Copy, Debug, PartialEq, Eq)]

@@ -1,7 +1,7 @@
 //! Why a run was refused, until its line is written.
 ghost use Rattle.std.specs.Prelude.{◌≡◌, ◌++◌, decimal, IfOk, OnOk};
 ghost use Rattle.tb_plain.specs.Report.{unsuited_text};
-ghost use Rattle.tb_top.specs.Answer.{answer_for_cause, answer_for_lines, fault_text, pool_full_text};
+ghost use Rattle.tb_top.specs.Answer.{answer_for_cause, pool_full_text};
 ghost use Rattle.tb_top.specs.Refusal.{refusal_status, galley_status, page_status, lines_status, input_status, words_status, output_status, refusal_text, galley_text, page_text, input_text, words_text, output_text, refusal_line, dvi_fault, makeup_refusal};
 ghost use Rattle.tb_top.specs.declared.refusal.Refusal.TheVariants.{Words, Input, Galley, Pages, Lines, Output, Memory};
 
@@ -11,9 +11,9 @@ use crate::input::InputFault;
 use crate::makeup_pages::PlainRunFault;
 use crate::{PageFault, Status};
 use std::alloc::{AllocError, Global};
-use tb_galley::{Cause, Fault, GalleyFault, cause_text, is_range_cause};
+use tb_galley::{Cause, GalleyFault, is_range_cause, put_fault};
 use tb_io::SinkFault;
-use tb_lines::{LinesCause, LinesRefusal, is_range_cause as is_range_of_lines, put_refusal};
+use tb_lines::{LinesRefusal, put_refusal};
 use tb_text::put_number;
 use tb_words::WordsFault;
 
@@ -231,16 +231,6 @@ fn cause_status(cause: Cause) -> Status
     }
 }
 
-fn lines_cause_status(cause: LinesCause) -> Status
-    ensures { result ≡ answer_for_lines cause }
-{
-    if is_range_of_lines(cause) {
-        Status::Range
-    } else {
-        Status::Syntax
-    }
-}
-
 fn lines_status(refusal: &LinesRefusal) -> Status
     ensures { result ≡ lines_status refusal.now }
 {
@@ -249,7 +239,7 @@ fn lines_status(refusal: &LinesRefusal) -> Status
             line: _,
             field: _,
             cause,
-        } => lines_cause_status(cause),
+        } => cause_status(cause),
         LinesRefusal::NoBreaks { paragraph: _ } => Status::NoBreaks,
         LinesRefusal::Memory => Status::Memory,
     }
@@ -274,15 +264,6 @@ fn put_counted(line: &mut Vec<u8>, words: &[u8], number: u64) -> Result<(), Allo
 {
     line.extend_from_slice(words)?;
     put_number(line, i128::from(number))
-}
-
-fn put_fault(line: &mut Vec<u8>, fault: &Fault) -> Result<(), AllocError>
-    ensures { OnOk result (line.new.items ≡ line.old.items ++ fault_text fault.now) }
-{
-    put_counted(line, b"line ", u64::from(fault.line))?;
-    put_counted(line, b" field ", u64::from(fault.field))?;
-    line.extend_from_slice(b": ")?;
-    line.extend_from_slice(cause_text(fault.cause))
 }
 
 fn put_pool_full(line: &mut Vec<u8>, at: u32, live: u64) -> Result<(), AllocError>

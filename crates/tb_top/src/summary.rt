@@ -3,7 +3,8 @@ ghost use Rattle.std.specs.Prelude.{◌≡◌, IfOk};
 ghost use Rattle.tb_top.specs.Answer.{summary_line};
 
 use std::alloc::{AllocError, Global};
-use tb_report::{Totals, end_line, put_total};
+use tb_report::{Totals, put_total};
+use tb_text::end_line;
 
 /// The line of the totals of this many generated items.
 pub fn summary_text(alloc: Global, count: u32, t: &Totals) -> Result<Vec<u8>, AllocError>

@@ -14,14 +14,14 @@ use Rattle.tb_run.specs.declared.happening.Happening.{Happening}
 use Rattle.tb_run.specs.Run.{run_of, held_count, firings_left, step}
 use Rattle.tb_run.specs.Happened.{events_of, noted, step_events}
 use Rattle.tb_run.specs.Turning.{state_of, over_limit, EndsAs, IsTurned, ArePages, AreHappened}
-use Rattle.tb_run.proofs.GalleyRuns.{galley-classes}
-use Rattle.tb_run.proofs.GalleyItems.{galley-items}
-use Rattle.tb_run.proofs.GalleyNodeLemmas.{galley-nodes}
+use Rattle.tb_run.proofs.FromGalley.GalleyRuns.{galley-classes}
+use Rattle.tb_run.proofs.FromGalley.GalleyItems.{galley-items}
+use Rattle.tb_run.proofs.FromGalley.GalleyNodeLemmas.{galley-nodes}
 use Rattle.tb_top.specs.DviPages.{event_pages}
 use Rattle.tb_top.specs.DviWritten.{HoldsPages, FailsAmong}
-use Rattle.tb_top.proofs.DviGoing.{prefix-first, refuses-cut, refuses-among, going-short, start-closing, start-going, turn-fails, turn-closing, turn-going, turn-fewer, ends-well, stops-with, height-fits}
-use Rattle.tb_top.proofs.FinishLemmas.{none-at, limit-ready}
-use Rattle.tb_top.proofs.RunParams.{params-runnable}
+use Rattle.tb_top.proofs.DviFiles.DviGoing.{prefix-first, refuses-cut, refuses-among, going-short, start-closing, start-going, turn-fails, turn-closing, turn-going, turn-fewer, ends-well, stops-with, height-fits}
+use Rattle.tb_top.proofs.Written.FinishLemmas.{none-at, limit-ready}
+use Rattle.tb_top.proofs.Written.RunParams.{params-runnable}
 use Rattle.tb_top.proofs.dvi_pages.paginate_dvi.Goals as goal
 
 module _ (p : Params) where

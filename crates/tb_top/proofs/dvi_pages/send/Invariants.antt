@@ -5,7 +5,7 @@ use Rattle.tb_run.specs.Happened.{events_of}
 use Rattle.tb_run.specs.Turning.{ArePages}
 use Rattle.tb_top.specs.DviPages.{event_pages}
 use Rattle.tb_top.specs.DviWritten.{HoldsPages}
-use Rattle.tb_top.proofs.DviSending.{Sending}
+use Rattle.tb_top.proofs.DviFiles.DviSending.{Sending}
 use Rattle.tb_top.proofs.dvi_pages.send.Given as goal
 
 abbrev pub invariant-loop-happening : goal.invariant-loop-happening

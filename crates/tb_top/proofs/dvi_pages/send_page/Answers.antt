@@ -5,8 +5,8 @@ use Rattle.tb_io.specs.Held.{AppendsPrefix}
 use Rattle.tb_column.specs.Shown.{sheet_shown}
 use Rattle.tb_dvi.specs.File.{Page, sheet_page, page_bytes}
 use Rattle.tb_top.specs.DviWritten.{HoldsPages}
-use Rattle.tb_top.proofs.PrintablePages.{printable-sheet}
-use Rattle.tb_top.proofs.DviSending.{holds-more, short-more, misses-page}
+use Rattle.tb_top.proofs.Written.PrintablePages.{printable-sheet}
+use Rattle.tb_top.proofs.DviFiles.DviSending.{holds-more, short-more, misses-page}
 use Rattle.tb_top.proofs.dvi_pages.send_page.Goals as goal
 
 pub put_next-requires-clause-sheet : goal.put_next-requires-clause-sheet

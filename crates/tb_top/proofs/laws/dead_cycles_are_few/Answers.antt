@@ -1,4 +1,4 @@
-use Rattle.tb_top.proofs.CycleBound.{dead-cycle-bound}
+use Rattle.tb_top.proofs.DeadCycles.CycleBound.{dead-cycle-bound}
 use Rattle.tb_top.proofs.laws.dead_cycles_are_few.Goals as goal
 
 pub returns : goal.returns

@@ -1,5 +1,5 @@
-use Rattle.tb_top.proofs.ShippedOnce.{ships-once}
-use Rattle.tb_top.proofs.ShippedTotals.{totals-shown}
+use Rattle.tb_top.proofs.OnceEach.ShippedOnce.{ships-once}
+use Rattle.tb_top.proofs.OnceEach.ShippedTotals.{totals-shown}
 use Rattle.tb_top.proofs.laws.each_ships_once.Goals as goal
 
 pub returns-clause-once : goal.returns-clause-once

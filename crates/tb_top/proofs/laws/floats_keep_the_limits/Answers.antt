@@ -1,4 +1,4 @@
-use Rattle.tb_top.proofs.LimitedRuns.{run-within}
+use Rattle.tb_top.proofs.Limits.LimitedRuns.{run-within}
 use Rattle.tb_top.proofs.laws.floats_keep_the_limits.Goals as goal
 
 pub returns : goal.returns

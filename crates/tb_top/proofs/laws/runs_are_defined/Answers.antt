@@ -1,4 +1,4 @@
-use Rattle.tb_top.proofs.FuelLemmas.{same-run, run-reason}
+use Rattle.tb_top.proofs.Written.FuelLemmas.{same-run, run-reason}
 use Rattle.tb_top.proofs.laws.runs_are_defined.Goals as goal
 
 pub returns-clause-bounds : goal.returns-clause-bounds

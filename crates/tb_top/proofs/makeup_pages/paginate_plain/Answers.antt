@@ -20,12 +20,12 @@ use Rattle.tb_top.specs.MakeupLaws.{MakesUpOnce}
 use Rattle.tb_top.specs.MakeupPages.{MakesPages}
 use Rattle.tb_top.specs.Report.{all_lines, traced_lines}
 use Rattle.tb_top.specs.Written.{viewed, with_events}
-use Rattle.tb_top.proofs.MakeupClosing.{ended-done, refuses-cut, ends-well, stops-with, stops-cause, stops-shown}
-use Rattle.tb_top.proofs.MakeupGoing.{prefix-now, prefix-first, start-closing, start-going, turn-cut, turn-closing, turn-fewer, turn-counts, turn-going}
-use Rattle.tb_top.proofs.MakeupOnce.{makes-up-once}
-use Rattle.tb_top.proofs.MakeupStarts.{makeup-params, makeup-items, makeup-nodes, makeup-room}
-use Rattle.tb_top.proofs.MakeupTotals.{makeup-few}
-use Rattle.tb_top.proofs.RunParams.{few-firings}
+use Rattle.tb_top.proofs.Plain.MakeupClosing.{ended-done, refuses-cut, ends-well, stops-with, stops-cause, stops-shown}
+use Rattle.tb_top.proofs.Plain.MakeupGoing.{prefix-now, prefix-first, start-closing, start-going, turn-cut, turn-closing, turn-fewer, turn-counts, turn-going}
+use Rattle.tb_top.proofs.Plain.MakeupOnce.{makes-up-once}
+use Rattle.tb_top.proofs.Plain.MakeupStarts.{makeup-params, makeup-items, makeup-nodes, makeup-room}
+use Rattle.tb_top.proofs.Plain.MakeupTotals.{makeup-few}
+use Rattle.tb_top.proofs.Written.RunParams.{few-firings}
 use Rattle.tb_top.proofs.makeup_pages.paginate_plain.Goals as goal
 
 none-at : {A : Type 0} (o : Option MakeupEnding) → o ≡ None → IfNone o A → A

@@ -1,5 +1,5 @@
 use Rattle.std.proofs.Common.{◌<◌, length, arith}
-use Rattle.tb_top.proofs.TallyLemmas.{counts-next}
+use Rattle.tb_top.proofs.Written.TallyLemmas.{counts-next}
 use Rattle.tb_top.proofs.pages.count_happened.Goals as goal
 
 pub count_happening-requires-clause-room : goal.count_happening-requires-clause-room

@@ -1,7 +1,7 @@
 use Rattle.std.proofs.Common.{◌∙◌, ap, subst, inr}
 use Rattle.std.proofs.lemmas.Result.{err_from_is_err_and}
+use Rattle.tb_node.specs.Plain.{plain_list}
 use Rattle.tb_io.specs.Held.{AppendsPrefix}
-use Rattle.tb_column.specs.Shown.{nodes_shown}
 use Rattle.tb_report.specs.Lines.{end_lines}
 use Rattle.tb_top.specs.Written.{viewed}
 use Rattle.tb_top.proofs.pages.finish.Goals as goal
@@ -10,5 +10,5 @@ pub returns-in_err-show-in-Done-clause-refused : goal.returns-in_err-show-in-Don
 returns-in_err-show-in-Done-clause-refused g c =
     let p = err_from_is_err_and c.from_residual-in_err-show-in-Done.result c.from_residual-in_err-show-in-Done.ensures.1 in
     let r = c.args.routine.now in
-    let text = c.deref.ensures.value ∙ c.in_ok-text-in-Done.ensures ∙ ap (λ l. end_lines (nodes_shown r.store l) c.args.totals.now) c.on_page.ensures in
+    let text = c.deref.ensures.value ∙ c.in_ok-text-in-Done.ensures ∙ ap (λ l. end_lines (plain_list r.store l) c.args.totals.now) c.on_page.ensures in
     rw (p.1, p.2) (inr (c.in-Done.is, c.in_err-show-in-Done.ensures.cause, subst (λ ls. AppendsPrefix (g.K.Sink.held c.args.out.now) (g.K.Sink.held c.show.new.out) (viewed c.args.view ls)) text c.in_err-show-in-Done.ensures.part))

@@ -20,16 +20,16 @@ use Rattle.tb_top.specs.declared.View.{View}
 use Rattle.tb_top.specs.declared.PageFault.TheVariants as faults
 use Rattle.tb_top.specs.Report.{all_lines, traced_lines}
 use Rattle.tb_top.specs.Written.{is_traced, viewed, with_events}
-use Rattle.tb_top.proofs.GoingLemmas.{prefix-first, prefix-now, refuses-cut}
-use Rattle.tb_top.proofs.TallyLemmas.{IsTally, AreFewFirings}
-use Rattle.tb_top.proofs.FinishLemmas.{ends-well, stops-with, start-closing, start-going, start-tally, turn-cut, turn-closing, turn-going, turn-fewer, turn-counts, turn-tally, none-at, limit-ready, few-wait, stops-cause, stops-shown, err-at}
-use Rattle.tb_top.proofs.RunParams.{params-runnable, few-firings}
-use Rattle.tb_top.proofs.LawfulRuns.{keeps-laws}
-use Rattle.tb_top.proofs.LimitedRuns.{run-within}
-use Rattle.tb_top.proofs.CycleAnswers.{not-for-cycles}
-use Rattle.tb_run.proofs.GalleyRuns.{galley-classes}
-use Rattle.tb_run.proofs.GalleyItems.{galley-items}
-use Rattle.tb_run.proofs.GalleyNodeLemmas.{galley-nodes}
+use Rattle.tb_top.proofs.Written.GoingLemmas.{prefix-first, prefix-now, refuses-cut}
+use Rattle.tb_top.proofs.Written.TallyLemmas.{IsTally, AreFewFirings}
+use Rattle.tb_top.proofs.Written.FinishLemmas.{ends-well, stops-with, start-closing, start-going, start-tally, turn-cut, turn-closing, turn-going, turn-fewer, turn-counts, turn-tally, none-at, limit-ready, few-wait, stops-cause, stops-shown, err-at}
+use Rattle.tb_top.proofs.Written.RunParams.{params-runnable, few-firings}
+use Rattle.tb_top.proofs.Joined.LawfulRuns.{keeps-laws}
+use Rattle.tb_top.proofs.Limits.LimitedRuns.{run-within}
+use Rattle.tb_top.proofs.Ends.CycleAnswers.{not-for-cycles}
+use Rattle.tb_run.proofs.FromGalley.GalleyRuns.{galley-classes}
+use Rattle.tb_run.proofs.FromGalley.GalleyItems.{galley-items}
+use Rattle.tb_run.proofs.FromGalley.GalleyNodeLemmas.{galley-nodes}
 use Rattle.tb_top.proofs.pages.paginate.Goals as goal
 
 module _ (p : Params) (wanted : Bool) where

@@ -1,8 +1,8 @@
 use Rattle.std.proofs.Common.{◌≡◌, ◌≤◌}
 use Rattle.tb_run.specs.Run.{run_of, firings_left}
 use Rattle.tb_run.specs.Turning.{IsReady, state_of}
-use Rattle.tb_top.proofs.GoingLemmas.{Going}
-use Rattle.tb_top.proofs.TallyLemmas.{IsTally}
+use Rattle.tb_top.proofs.Written.GoingLemmas.{Going}
+use Rattle.tb_top.proofs.Written.TallyLemmas.{IsTally}
 use Rattle.tb_top.proofs.pages.paginate.Given as goal
 
 abbrev pub invariant-firing : goal.invariant-firing

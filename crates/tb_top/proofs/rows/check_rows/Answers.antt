@@ -1,9 +1,9 @@
-use Rattle.tb_top.proofs.WorkedRows.{worked_rows}
-use Rattle.tb_top.proofs.FloatRowLemmas.{float_rows}
-use Rattle.tb_top.proofs.ColumnRowLemmas.{column_rows}
-use Rattle.tb_top.proofs.VersionRowLemmas.{version_rows}
-use Rattle.tb_top.proofs.LinesRowLemmas.{lines_rows}
-use Rattle.tb_top.proofs.MakeupRowLemmas.{makeup_rows}
+use Rattle.tb_top.proofs.WorkedTexts.WorkedRows.{worked_rows}
+use Rattle.tb_top.proofs.WorkedTexts.FloatRowLemmas.{float_rows}
+use Rattle.tb_top.proofs.WorkedTexts.ColumnRowLemmas.{column_rows}
+use Rattle.tb_top.proofs.WorkedTexts.VersionRowLemmas.{version_rows}
+use Rattle.tb_top.proofs.WorkedTexts.LinesRowLemmas.{lines_rows}
+use Rattle.tb_top.proofs.WorkedTexts.MakeupRowLemmas.{makeup_rows}
 use Rattle.tb_top.proofs.rows.check_rows.Goals as goal
 
 pub returns-clause-text : goal.returns-clause-text

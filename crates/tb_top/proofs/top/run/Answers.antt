@@ -1,5 +1,5 @@
-use Rattle.tb_top.proofs.Outcomes.{Outcome-said, IsAnswer-stands, IsAnswer-said, refusal_status-refused}
-use Rattle.tb_top.proofs.OutcomeCauses.{words-outcome, read-outcome, write-outcome, refused-outcome, decided-asked}
+use Rattle.tb_top.proofs.Ends.Outcomes.{Outcome-said, IsAnswer-stands, IsAnswer-said, refusal_status-refused}
+use Rattle.tb_top.proofs.Ends.OutcomeCauses.{words-outcome, read-outcome, write-outcome, refused-outcome, decided-asked}
 use Rattle.tb_top.proofs.top.run.Goals as goal
 
 pub returns-in-Ok-clause-refused : goal.returns-in-Ok-clause-refused

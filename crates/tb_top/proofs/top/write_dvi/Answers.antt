@@ -1,8 +1,8 @@
 use Rattle.std.proofs.Common.{ap, Err}
 use Rattle.std.proofs.lemmas.Result.{err_from_is_err_and}
 use Rattle.tb_words.specs.declared.Mode.TheVariants.{Dvi}
-use Rattle.tb_top.proofs.Outcomes.{left_by_reading, dvi_reads, keeps-same}
-use Rattle.tb_top.proofs.DviOutcomes.{dvi_well, left_by_file}
+use Rattle.tb_top.proofs.Ends.Outcomes.{left_by_reading, dvi_reads, keeps-same}
+use Rattle.tb_top.proofs.DviFiles.DviOutcomes.{dvi_well, left_by_file}
 use Rattle.tb_top.proofs.top.write_dvi.Goals as goal
 
 pub returns-in_err-galley-clause-stands : goal.returns-in_err-galley-clause-stands

@@ -5,7 +5,7 @@ use Rattle.tb_io.specs.Held.{AppendsPrefix}
 use Rattle.tb_lines.specs.Galley.{lines_galley, GivesGalley as GivesLines}
 use Rattle.tb_words.specs.declared.Mode.TheVariants.{Lines}
 use Rattle.tb_top.specs.Answer.{lines_reply}
-use Rattle.tb_top.proofs.Outcomes.{text_well, left_by_text, left_by_lines, left_unread, keeps-same}
+use Rattle.tb_top.proofs.Ends.Outcomes.{text_well, left_by_text, left_by_lines, left_unread, keeps-same}
 use Rattle.tb_top.proofs.top.write_lines.Goals as goal
 
 pub returns-in_err-input-clause-stands : goal.returns-in_err-input-clause-stands

@@ -5,8 +5,8 @@ use Rattle.tb_io.specs.Held.{AppendsPrefix}
 use Rattle.tb_words.specs.declared.Mode.TheVariants.{DviList}
 use Rattle.tb_top.specs.Answer.{listing_reply}
 use Rattle.tb_top.specs.DviRefusal.{IsNoListing}
-use Rattle.tb_top.proofs.Outcomes.{text_well, left_by_text, left_unread, keeps-same}
-use Rattle.tb_top.proofs.DviOutcomes.{left_by_listing}
+use Rattle.tb_top.proofs.Ends.Outcomes.{text_well, left_by_text, left_unread, keeps-same}
+use Rattle.tb_top.proofs.DviFiles.DviOutcomes.{left_by_listing}
 use Rattle.tb_top.proofs.top.write_listing.Goals as goal
 
 pub returns-in_err-input-clause-stands : goal.returns-in_err-input-clause-stands

@@ -1,8 +1,8 @@
 use Rattle.std.proofs.Common.{◌∙◌, ap, sym, Err}
 use Rattle.std.proofs.lemmas.Result.{err_from_is_err_and}
 use Rattle.tb_words.specs.declared.Mode.TheVariants.{Plain}
-use Rattle.tb_top.proofs.Outcomes.{left_by_reading, makeup_reads, keeps-same}
-use Rattle.tb_top.proofs.MakeupOutcomes.{left_unsuited, left_by_makeup, makeup_well}
+use Rattle.tb_top.proofs.Ends.Outcomes.{left_by_reading, makeup_reads, keeps-same}
+use Rattle.tb_top.proofs.Plain.MakeupOutcomes.{left_unsuited, left_by_makeup, makeup_well}
 use Rattle.tb_top.proofs.top.write_makeup.Goals as goal
 
 pub returns-in_err-galley-clause-stands : goal.returns-in_err-galley-clause-stands

@@ -13,7 +13,7 @@ use Rattle.tb_top.specs.Answer.{summary_line}
 use Rattle.tb_generator.specs.Generate.{generated}
 use Rattle.tb_top.specs.Report.{totals_of}
 use Rattle.tb_top.specs.Paginated.{Paginates, Refuses}
-use Rattle.tb_top.proofs.Outcomes.{left_by_run, summary_well, left_by_summary, appends-keeps, keeps-same}
+use Rattle.tb_top.proofs.Ends.Outcomes.{left_by_run, summary_well, left_by_summary, appends-keeps, keeps-same}
 use Rattle.tb_top.proofs.top.write_summary.Goals as goal
 
 pub returns-in_err-galley : goal.returns-in_err-galley

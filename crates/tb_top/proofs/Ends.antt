@@ -1,0 +1,4 @@
+-- What holds at the ends, in reading order.
+pub mod Outcomes
+pub mod OutcomeCauses
+pub mod CycleAnswers

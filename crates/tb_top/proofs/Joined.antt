@@ -1,0 +1,2 @@
+-- The laws together, in reading order.
+pub mod LawfulRuns

@@ -1,0 +1,2 @@
+-- Limits of areas, in reading order.
+pub mod LimitedRuns

@@ -1,0 +1,98 @@
+-- The end of a run of the page makeup.
+use Rattle.std.proofs.Common.{◌≡◌, refl, sym, subst, ◌∙◌, ap, ℕ, ◌≤◌, ◌⊎◌, inl, inr, List, [], ◌++◌, append-nil, Option, Some, None, arith}
+use Rattle.std.specs.Io.KnownBytes.{Appends}
+use Rattle.tb_io.specs.Faults.{Rose}
+use Rattle.tb_io.specs.Held.{AppendsPrefix}
+use Rattle.tb_io.proofs.Appended.{Appends-twice, prefix_on}
+use Rattle.tb_report.specs.declared.Totals.{Totals}
+use Rattle.tb_report.specs.Lines.{end_lines}
+use Rattle.tb_plain.specs.Run.{MakeupRun, MakeupEnd, done, page_limit, node_limit}
+use Rattle.tb_plain.specs.Report.{all_lines as page_lines, closing_lines, sent_totals}
+use Rattle.tb_makeup.specs.declared.running.MakeupEnding.{MakeupEnding}
+use Rattle.tb_makeup.specs.declared.running.MakeupEnding.TheVariants as endings
+use Rattle.tb_makeup.specs.Turning.{end_of}
+use Rattle.tb_top.specs.declared.View.{View}
+use Rattle.tb_top.specs.declared.View.TheVariants as views
+use Rattle.tb_top.specs.declared.makeup_pages.PlainRunFault.{PlainRunFault}
+use Rattle.tb_top.specs.declared.makeup_pages.PlainRunFault.TheVariants as faults
+use Rattle.tb_top.specs.MakeupPages.{makeup_text, makeup_fault, MakesPages, StopsRun, RefusesPages}
+use Rattle.tb_top.specs.MakeupWritten.{IsWriteFault, IsRefusalOf, StopsWith, EndsWell}
+use Rattle.tb_top.specs.Written.{viewed, IsShown}
+use Rattle.tb_top.proofs.Written.GoingLemmas.{header, viewed-append, silent-shown}
+use Rattle.tb_top.proofs.Plain.MakeupGoing.{Closing, view-text}
+use Rattle.tb_top.proofs.Plain.MakeupTotals.{all-totals}
+
+-- a run that ended well is done
+pub ended-done : (e : MakeupEnd) → makeup_fault e ≡ None → e ≡ done
+ended-done done is = refl
+ended-done (page_limit n) is = cc
+ended-done (node_limit n) is = cc
+
+-- a failed write or want of memory, after a prefix
+pub refuses-cut : (v : View) (whole : MakeupRun) (old new : Option (List ℕ)) (before now : ℕ) (f : PlainRunFault) → IsWriteFault v before now f → AppendsPrefix old new (makeup_text v whole) → RefusesPages v whole old new f
+refuses-cut v whole old new before now faults.Memory h b = b
+refuses-cut v whole old new before now faults.WriteFault h b = b
+refuses-cut v whole old new before now (faults.PageLimit n) h b = absurd h
+refuses-cut v whole old new before now (faults.NodeLimit n) h b = absurd h
+
+module _ (v : View) (t : Totals) (whole : MakeupRun) (old mid new : Option (List ℕ)) where
+  -- the text of a run that is done, with its last line
+  done-text : (c : Closing v done old mid t whole) → makeup_text v whole ≡ viewed v (header ++ page_lines c.shipped) ++ viewed v (end_lines [] t)
+  done-text c =
+      let first = header ++ page_lines c.shipped in
+      ap (makeup_text v) c.run ∙ view-text v (record { sent = c.shipped; end = done }) ∙ viewed-append v first (end_lines [] (sent_totals c.shipped)) ∙ ap (λ (u : Totals). viewed v first ++ viewed v (end_lines [] u)) (sym (c.totals ∙ all-totals c.shipped))
+
+  -- that of a run that is refused, which has none
+  stopped-text : (e : MakeupEnd) → (c : Closing v e old mid t whole) → closing_lines e c.shipped ≡ [] → makeup_text v whole ≡ viewed v (header ++ page_lines c.shipped)
+  stopped-text e c none =
+      let first = header ++ page_lines c.shipped in
+      ap (makeup_text v) c.run ∙ view-text v (record { sent = c.shipped; end = e }) ∙ ap (λ ls. viewed v (first ++ ls)) none ∙ ap (viewed v) (append-nil first)
+
+  done-well : (u : Totals) → Closing v done old mid t whole → u ≡ t → Appends mid new (viewed v (end_lines [] t)) → MakesPages v whole old new u
+  done-well u c is b = record {
+    ended = ap (λ (r : MakeupRun). makeup_fault r.end) c.run;
+    totals = is ∙ c.totals ∙ all-totals c.shipped ∙ sym (ap (λ (r : MakeupRun). sent_totals r.sent) c.run);
+    written = subst (Appends old new) (sym (done-text c)) (Appends-twice old mid new (viewed v (header ++ page_lines c.shipped)) (viewed v (end_lines [] t)) c.appended b);
+  }
+
+  done-cut : Closing v done old mid t whole → AppendsPrefix mid new (viewed v (end_lines [] t)) → AppendsPrefix old new (makeup_text v whole)
+  done-cut c b =
+      let first = viewed v (header ++ page_lines c.shipped) in
+      let last = viewed v (end_lines [] t) in
+      prefix_on old mid new (makeup_text v whole) first last [] c.appended b (done-text c ∙ ap (λ ls. first ++ ls) (sym (append-nil last)))
+
+  stops-run : (e : MakeupEnd) (f : PlainRunFault) → (c : Closing v e old mid t whole) → makeup_fault e ≡ Some f → closing_lines e c.shipped ≡ [] → new ≡ mid → StopsRun v whole old new f
+  stops-run e f c fault none same = record {
+    ended = ap (λ (r : MakeupRun). makeup_fault r.end) c.run ∙ fault;
+    written = subst (λ x. Appends old x (makeup_text v whole)) (sym same) (subst (Appends old mid) (sym (stopped-text e c none)) c.appended);
+  }
+
+  pub ends-well : (e : MakeupEnding) (u : Totals) → Closing v (end_of e) old mid t whole → EndsWell v t e mid new u → MakesPages v whole old new u
+  ends-well e u c h = done-well u (subst (λ x. Closing v (end_of x) old mid t whole) h.ending c) h.totals h.written
+
+  by-ending : (e : MakeupEnding) (f : PlainRunFault) → Closing v (end_of e) old mid t whole → IsRefusalOf e f → new ≡ mid → RefusesPages v whole old new f
+  by-ending endings.Done f c h kept = absurd h
+  by-ending (endings.PageLimit n) f c h kept = rw h (stops-run (page_limit n) (faults.PageLimit n) c refl refl kept)
+  by-ending (endings.NodeLimit n) f c h kept = rw h (stops-run (node_limit n) (faults.NodeLimit n) c refl refl kept)
+
+  pub stops-with : (e : MakeupEnding) (before now : ℕ) (f : PlainRunFault) → Closing v (end_of e) old mid t whole → StopsWith v t e mid new before now f → RefusesPages v whole old new f
+  stops-with e before now f c (inl h) = by-ending e f c h.0 h.1
+  stops-with e before now f c (inr h) = refuses-cut v whole old new before now f h.1 (done-cut (subst (λ x. Closing v (end_of x) old mid t whole) h.0 c) h.2)
+
+-- ---- a refusal for a failed write
+
+no-write : (e : MakeupEnding) → IsRefusalOf e faults.WriteFault → ⊥
+no-write endings.Done h = h
+no-write (endings.PageLimit n) h = cc
+no-write (endings.NodeLimit n) h = cc
+
+module _ (v : View) (t : Totals) (e : MakeupEnding) (old new : Option (List ℕ)) (before now : ℕ) where
+  -- it comes if the sink's faults rose
+  pub stops-cause : (start : ℕ) → start ≤ before → StopsWith v t e old new before now faults.WriteFault → Rose start now
+  stops-cause start le (inl h) = absurd (no-write e h.0)
+  stops-cause start le (inr h) = let rose = h.1.0 in omega (arith, rose)
+
+  -- and never at a silent view
+  pub stops-shown : v ≡ views.Silent → StopsWith v t e old new before now faults.WriteFault → ⊥
+  stops-shown silent (inl h) = no-write e h.0
+  stops-shown silent (inr h) = silent-shown v silent h.1.1

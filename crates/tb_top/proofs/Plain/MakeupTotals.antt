@@ -1,0 +1,194 @@
+-- What a run of the page makeup counts stays in the range of the counts: pages by their limit, boxes and floats by the nodes of a page.
+use Rattle.std.proofs.Common.{◌≡◌, refl, sym, subst, ◌∙◌, ap, ℕ, zero, suc, pos, ◌+◌, ◌*◌, ◌-◌, ◌^◌, ◌<◌, ◌≤◌, Bool, true, false, List, [], ◌∷◌, ◌++◌, map, length, length-append, arith}
+use Rattle.std.specs.Prelude.{ℤ, pred, nat_abs, int_lt, if◌then◌else◌}
+use Rattle.std.proofs.lemmas.Int.{ints}
+use Rattle.tb_pool.specs.Lists.{Lists}
+use Rattle.tb_node.specs.declared.Node.{Node}
+use Rattle.tb_node.specs.Plain.{PlainNode}
+use Rattle.tb_param.specs.declared.Params.{Params}
+use Rattle.tb_galley.specs.declared.Galley.{Galley}
+use Rattle.tb_builder.specs.Fired.{Fired, fired_of}
+use Rattle.tb_builder.specs.Reached.{Reach}
+use Rattle.tb_builder.specs.Contents.{node_count}
+use Rattle.tb_column.specs.Column.{PlainSent, warned, shipped, one}
+use Rattle.tb_report.specs.declared.Totals.{Totals}
+use Rattle.tb_report.specs.Totals.{is_item_box, is_float_box, count_kinds, sheet_nodes, no_totals, with_sent, AreCounts}
+use Rattle.tb_run.specs.declared.happening.Happening.{Happening}
+use Rattle.tb_run.specs.Run.{RunEvent, sent}
+use Rattle.tb_run.specs.Happened.{events_of, noted}
+use Rattle.tb_run.specs.Turning.{ArePages}
+use Rattle.tb_plain.specs.Expand.{made_up}
+use Rattle.tb_plain.specs.Firing.{holds_any, makeup_column}
+use Rattle.tb_plain.specs.Report.{sent_totals}
+use Rattle.tb_plain.specs.Run.{MakeupState, MakeupRun, MakeupStep, ends, goes_on, page_limit, node_limit, AtAct, no_act, at_act, first_act, meets_act, makeup_ask, makeup_classes, void_boxes, makeup_reach, act_step, waiting_after, shipping_step, firing_step, last_step, makeup_step, run_by, makeup_from, first_makeup, steps_left, makeup_of, done, ejecting_nodes}
+use Rattle.tb_top.specs.Written.{node_total, sent_among, with_events}
+use Rattle.tb_top.proofs.Written.EventCounts.{among-sent}
+use Rattle.tb_top.proofs.Written.TallyLemmas.{AreFewNodes, count-most, step-few}
+
+-- ---- totals
+
+-- the totals with what is sent
+abbrev pub with_all : List PlainSent → Totals → Totals
+with_all [] t = t
+with_all (e ∷ es) t = with_all es (with_sent e t)
+
+pub with-events : (es : List PlainSent) (t : Totals) → with_events (map (λ e. sent e) es) t ≡ with_all es t
+with-events [] t = refl
+with-events (e ∷ es) t = with-events es (with_sent e t)
+
+pub all-append : (es rest : List PlainSent) (t : Totals) → with_all (es ++ rest) t ≡ with_all rest (with_all es t)
+all-append [] rest t = refl
+all-append (e ∷ es) rest t = all-append es rest (with_sent e t)
+
+swapped : (a b c : ℕ) → a + b + c ≡ a + c + b
+swapped a b c = omega arith
+
+sent-swap : (e f : PlainSent) (t : Totals) → with_sent e (with_sent f t) ≡ with_sent f (with_sent e t)
+sent-swap (warned v) (warned w) t = refl
+sent-swap (warned w) (shipped n x) t = refl
+sent-swap (shipped n x) (warned w) t = refl
+sent-swap (shipped n x) (shipped m y) t = λ i. record {
+  pages = t.pages + 1 + 1;
+  boxes = swapped t.boxes (count_kinds is_item_box (sheet_nodes y)) (count_kinds is_item_box (sheet_nodes x)) i;
+  floats = swapped t.floats (count_kinds is_float_box (sheet_nodes y)) (count_kinds is_float_box (sheet_nodes x)) i;
+  warnings = t.warnings;
+}
+
+sent-first : (e : PlainSent) (es : List PlainSent) (t : Totals) → with_all es (with_sent e t) ≡ with_sent e (with_all es t)
+sent-first e [] t = refl
+sent-first e (f ∷ es) t = ap (with_all es) (sent-swap f e t) ∙ sent-first e es (with_sent f t)
+
+-- counted one after another, what is sent has its totals
+pub all-totals : (es : List PlainSent) → with_all es no_totals ≡ sent_totals es
+all-totals [] = refl
+all-totals (e ∷ es) = sent-first e es no_totals ∙ ap (with_sent e) (all-totals es)
+
+-- ---- the nodes of pages
+
+pub few-append : (es rest : List PlainSent) → AreFewNodes es → AreFewNodes rest → AreFewNodes (es ++ rest)
+few-append [] rest a b = b
+few-append (e ∷ es) rest a b = (a.0, few-append es rest a.1 b)
+
+noted-sent : (es : List PlainSent) → map (λ e. sent e) es ≡ noted false (map (λ e. sent e) es)
+noted-sent [] = refl
+noted-sent (e ∷ es) = ap (λ (xs : List RunEvent). sent e ∷ xs) (noted-sent es)
+
+-- what a turn sends has not too many nodes
+pub few-sent : (store : Lists Node) (hs : List Happening) (es : List PlainSent) → ArePages store hs → events_of store hs ≡ map (λ e. sent e) es → AreFewNodes es
+few-sent store hs es pages is = subst AreFewNodes (among-sent es) (step-few store hs false (map (λ e. sent e) es) pages (is ∙ noted-sent es))
+
+record HasAdded (n : ℕ) (t u : Totals) : Type 0 where
+  pages : u.pages ≤ t.pages + n
+  warnings : u.warnings ≤ t.warnings + n
+  boxes : u.boxes ≤ t.boxes + 25165824 * n
+  floats : u.floats ≤ t.floats + 25165824 * n
+
+added : (es : List PlainSent) (t : Totals) → AreFewNodes es → HasAdded (length es) t (with_all es t)
+added [] t few = record { pages = omega arith; warnings = omega arith; boxes = omega arith; floats = omega arith }
+added (warned w ∷ es) t few =
+    let g = added es (with_sent (warned w) t) few.1 in
+    let a = g.pages in let b = g.warnings in let c = g.boxes in let d = g.floats in
+    record { pages = omega (arith, a); warnings = omega (arith, b); boxes = omega (arith, c); floats = omega (arith, d) }
+added (shipped n sheet ∷ es) t few =
+    let g = added es (with_sent (shipped n sheet) t) few.1 in
+    let a = g.pages in let b = g.warnings in let c = g.boxes in let d = g.floats in
+    let e = count-most is_item_box (sheet_nodes sheet) in
+    let f = count-most is_float_box (sheet_nodes sheet) in
+    let h = few.0 in
+    record { pages = omega (arith, a); warnings = omega (arith, b); boxes = omega (arith, c, e, h); floats = omega (arith, d, f, h) }
+
+pub few-counts : (es : List PlainSent) → AreFewNodes es → length es ≤ 1000000 → AreCounts (with_all es no_totals)
+few-counts es few l =
+    let g = added es no_totals few in
+    let a = g.pages in let b = g.warnings in let c = g.boxes in let d = g.floats in
+    record { pages = omega (arith, a, l); boxes = omega (arith, c, l); floats = omega (arith, d, l); warnings = omega (arith, b, l) }
+
+-- ---- the pages of a run
+
+-- a step ships no more pages than are left
+abbrev ShipsFew : Params → MakeupState → MakeupStep → Type 0
+ShipsFew p s (ends es e) = length es ≤ nat_abs p.maxpages - pred s.number
+ShipsFew p s (goes_on es u) = (1 ≤ u.number) × (length es + (nat_abs p.maxpages - pred u.number) ≤ nat_abs p.maxpages - pred s.number)
+
+page-less : (m n : ℕ) → 1 ≤ n → n ≤ m → 1 + (m - pred (n + 1)) ≤ m - pred n
+page-less m zero h k = let no : ⊥ = omega arith in absurd no
+page-less m (suc n) h k = omega arith
+
+page-left : (m n : ℕ) → 1 ≤ n → n ≤ m → 1 ≤ m - pred n
+page-left m zero h k = let no : ⊥ = omega arith in absurd no
+page-left m (suc n) h k = omega arith
+
+within : (m : ℤ) (n : ℕ) → int_lt m (pos n) ≡ false → n ≤ nat_abs m
+within m n h = grind (arith, ints, h)
+
+act-few : (p : Params) (s : MakeupState) (a : AtAct) → 1 ≤ s.number → ShipsFew p s (act_step p s a)
+act-few p s no_act n = omega arith
+act-few p s (at_act before a after) n = (n, omega arith)
+
+firing-few : (p : Params) (s : MakeupState) (f : Fired) → 1 ≤ s.number → ShipsFew p s (firing_step p s.number f)
+firing-few p s f n = by_pages (int_lt p.maxpages (pos s.number)) refl
+  where
+    sends : List PlainSent
+    sends = shipped s.number (one (makeup_column p f)) ∷ []
+
+    after : MakeupState
+    after = record { page = []; waiting = waiting_after p f; number = s.number + 1 }
+
+    by_nodes : (t : Bool) → s.number ≤ nat_abs p.maxpages → ShipsFew p s (if t then ends sends (node_limit (node_count (waiting_after p f))) else goes_on sends after)
+    by_nodes true k = page-left (nat_abs p.maxpages) s.number n k
+    by_nodes false k = (omega arith, page-less (nat_abs p.maxpages) s.number n k)
+
+    by_pages : (t : Bool) → int_lt p.maxpages (pos s.number) ≡ t → ShipsFew p s (if t then ends [] (page_limit (pred s.number)) else shipping_step p s.number f)
+    by_pages true e = omega arith
+    by_pages false e = by_nodes (int_lt p.maxnodes (pos (node_count (waiting_after p f)))) (within p.maxpages s.number e)
+
+last-few : (p : Params) (s : MakeupState) (page : List PlainNode) → 1 ≤ s.number → ShipsFew p s (last_step s page)
+last-few p s page n = by_any (holds_any page)
+  where
+    by_any : (t : Bool) → ShipsFew p s (if t then goes_on [] (record s { page = page; waiting = ejecting_nodes }) else ends [] done)
+    by_any true = (n, omega arith)
+    by_any false = omega arith
+
+ships-few : (p : Params) (s : MakeupState) → 1 ≤ s.number → ShipsFew p s (makeup_step p s)
+unfolding makeup_step
+ships-few p s n = by_act (meets_act w.reached)
+  where
+    w : Reach
+    w = makeup_reach p s
+
+    fired : Fired
+    fired = fired_of (makeup_ask p) (makeup_classes p) void_boxes w
+
+    by_fires : (t : Bool) → ShipsFew p s (if t then firing_step p s.number fired else last_step s w.passed)
+    by_fires true = firing-few p s fired n
+    by_fires false = last-few p s w.passed n
+
+    by_act : (t : Bool) → ShipsFew p s (if t then act_step p s (first_act s.waiting) else (if w.fires then firing_step p s.number fired else last_step s w.passed))
+    by_act true = act-few p s (first_act s.waiting) n
+    by_act false = by_fires w.fires
+
+run-by-few : (p : Params) (fuel : ℕ) (s : MakeupState) → ((u : MakeupState) → 1 ≤ u.number → length (makeup_from p fuel u).sent ≤ nat_abs p.maxpages - pred u.number) → (t : MakeupStep) → ShipsFew p s t
+    → length (run_by (λ u. makeup_from p fuel u) t).sent ≤ nat_abs p.maxpages - pred s.number
+run-by-few p fuel s later (ends es e) h = h
+run-by-few p fuel s later (goes_on es u) h =
+    let a = length-append es (makeup_from p fuel u).sent in
+    let b = later u h.0 in
+    let c = h.1 in
+    omega (arith, a, b, c)
+
+run-few : (p : Params) (fuel : ℕ) (s : MakeupState) → 1 ≤ s.number → length (makeup_from p fuel s).sent ≤ nat_abs p.maxpages - pred s.number
+unfolding makeup_from
+run-few p zero s n = omega arith
+run-few p (suc fuel) s n = run-by-few p fuel s (λ u k. run-few p fuel u k) (makeup_step p s) (ships-few p s n)
+
+-- a run ships no more pages than may be
+pub makeup-few : (g : Galley) → length (makeup_of g).sent ≤ nat_abs g.params.maxpages
+unfolding makeup_of
+makeup-few g = by_nodes (int_lt g.params.maxnodes (pos (node_count s.waiting)))
+  where
+    s : MakeupState
+    s = first_makeup (made_up g)
+
+    by_nodes : (t : Bool) → length (if t then (let r : MakeupRun = record { sent = []; end = node_limit (node_count s.waiting) } in r) else makeup_from g.params (suc (steps_left g.params s)) s).sent ≤ nat_abs g.params.maxpages
+    by_nodes true = omega arith
+    by_nodes false = let a : length (makeup_from g.params (suc (steps_left g.params s)) s).sent ≤ nat_abs g.params.maxpages - 0 = run-few g.params (suc (steps_left g.params s)) s (omega arith) in omega (arith, a)

@@ -1,0 +1,9 @@
+-- Worked rows, in reading order.
+mod Texts
+mod AllWords
+pub mod WorkedRows
+pub mod FloatRowLemmas
+pub mod ColumnRowLemmas
+pub mod VersionRowLemmas
+pub mod LinesRowLemmas
+pub mod MakeupRowLemmas

@@ -1,0 +1,10 @@
+-- A run is written, in reading order.
+pub mod RunParams
+pub mod OutputParams
+pub mod ClassLemmas
+pub mod EventCounts
+pub mod TallyLemmas
+pub mod PrintablePages
+pub mod GoingLemmas
+pub mod FinishLemmas
+pub mod FuelLemmas

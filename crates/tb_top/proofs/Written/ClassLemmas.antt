@@ -1,0 +1,154 @@
+-- The classes of a valid galley have different numbers, and each footnote's class is one of them.
+use Rattle.std.proofs.Common.{◌≡◌, refl, ap, subst, ℕ, suc, ◌<◌, ◌≤◌, ℤ, pos, Bool, true, false, ◌&&◌, ◌||◌, ◌==◌, nat_lt, nat_le, List, [], ◌∷◌, ◌++◌, map, arith}
+use Rattle.std.specs.Prelude.{IsTrue, int_le, neg_ℤ, if◌then◌else◌}
+use Rattle.std.specs.List.{list_all, list_any}
+use Rattle.std.proofs.lemmas.Int.{ints}
+use Rattle.std.proofs.lemmas.Bool.{eqb-true}
+use Rattle.std.proofs.lemmas.Bool.Decides.{nat_tests}
+use Rattle.tb_scaled.specs.Scaled.{eject_penalty}
+use Rattle.tb_param.specs.declared.Params.{Params}
+use Rattle.tb_galley.specs.declared.ClassLine.{ClassLine}
+use Rattle.tb_galley.specs.declared.Item.{Item}
+use Rattle.tb_galley.specs.declared.ItemKind.{ItemKind}
+use Rattle.tb_galley.specs.declared.ItemKind.TheVariants as items
+use Rattle.tb_galley.specs.declared.Galley.{Galley}
+use Rattle.tb_galley.specs.Values.{is_class_among}
+use Rattle.tb_galley.specs.Valid.{is_class, is_size, is_item, do_classes_rise, has_known_class, IsValid}
+use Rattle.tb_param.specs.Table.{is_within, is_glue}
+use Rattle.tb_insert.specs.declared.Class.{Class}
+use Rattle.tb_builder.proofs.FiredPages.PageWeights.{hits, IsOnce}
+use Rattle.tb_galley.specs.Expand.{expanded}
+use Rattle.tb_output.specs.State.{foot_class, first_state, void_boxes}
+use Rattle.tb_output.proofs.NothingLost.StateWeights.{class_numbers}
+use Rattle.tb_output.proofs.Closed.PutLemmas.{AreAmong}
+use Rattle.tb_run.specs.Run.{class_of, classes_of}
+use Rattle.tb_top.proofs.NothingLost.RunWeights.{Kept, fit-among}
+use Rattle.tb_top.proofs.NothingLost.StartLemmas.{start-kept, ItemFits, ItemsFit, NumbersDiffer, void-fit}
+
+first : (a b : Bool) → IsTrue (a && b) → IsTrue a
+first true b h = refl
+first false b h = h
+
+second : (a b : Bool) → IsTrue (a && b) → IsTrue b
+second true b h = h
+second false b h = cc
+
+-- ---- the numbers differ
+
+-- all classes have greater numbers
+abbrev AreAbove : ℕ → List ClassLine → Type 0
+AreAbove n [] = Unit {0}
+AreAbove n (c ∷ cs) = (n < c.number) × AreAbove n cs
+
+above-more : (n m : ℕ) (cs : List ClassLine) → n < m → AreAbove m cs → AreAbove n cs
+above-more n m [] h a = tt
+above-more n m (c ∷ cs) h a = (omega (arith, h, a.0), above-more n m cs h a.1)
+
+less : (n m : ℕ) → IsTrue (nat_lt n m) → n < m
+less n m h = grind (arith, nat_tests, h)
+
+rising-above : (c : ClassLine) (cs : List ClassLine) → IsTrue (do_classes_rise (c ∷ cs)) → AreAbove c.number cs
+rising-above c [] h = tt
+rising-above c (d ∷ ds) h =
+    let n = less c.number d.number (first (nat_lt c.number d.number) (do_classes_rise (d ∷ ds)) h) in
+    (n, above-more c.number d.number ds n (rising-above d ds (second (nat_lt c.number d.number) (do_classes_rise (d ∷ ds)) h)))
+
+rising-rest : (c : ClassLine) (cs : List ClassLine) → IsTrue (do_classes_rise (c ∷ cs)) → IsTrue (do_classes_rise cs)
+rising-rest c [] h = refl
+rising-rest c (d ∷ ds) h = second (nat_lt c.number d.number) (do_classes_rise (d ∷ ds)) h
+
+small : (c : ClassLine) → IsTrue (is_class c) → c.number ≤ 253
+small c h = by_test (nat_le c.number 253) (is_within (pos 0) (pos 10000) c.factor) (is_size c.limit) (is_glue c.skip) h (λ k. grind (arith, nat_tests, k))
+  where
+    by_test : (t u v w : Bool) → IsTrue (t && u && v && w) → (IsTrue t → c.number ≤ 253) → c.number ≤ 253
+    by_test true u v w h k = k refl
+    by_test false u v w h k = cc
+
+-- the classes of a galley with these class lines
+abbrev with_foot : Params → List ClassLine → List Class
+with_foot p cs = map class_of cs ++ foot_class p ∷ []
+
+none-above : (p : Params) (n : ℕ) (cs : List ClassLine) → n ≤ 253 → AreAbove n cs → hits n (class_numbers (with_foot p cs)) ≡ 0
+none-above p n [] h a = by_number (n == 254) (λ e. eqb-true n 254 e)
+  where
+    by_number : (t : Bool) → (t ≡ true → n ≡ 254) → (if t then suc (hits n []) else hits n []) ≡ 0
+    by_number true k = absurd (omega (arith, h, k refl))
+    by_number false k = refl
+none-above p n (c ∷ cs) h a = by_number (n == c.number) (λ e. eqb-true n c.number e) (none-above p n cs h a.1)
+  where
+    by_number : (t : Bool) → (t ≡ true → n ≡ c.number) → hits n (class_numbers (with_foot p cs)) ≡ 0 → (if t then suc (hits n (class_numbers (with_foot p cs))) else hits n (class_numbers (with_foot p cs))) ≡ 0
+    by_number true k e = absurd (omega (arith, a.0, k refl))
+    by_number false k e = e
+
+lines-differ : (p : Params) (cs : List ClassLine) → IsTrue (list_all is_class cs) → IsTrue (do_classes_rise cs) → NumbersDiffer (with_foot p cs)
+lines-differ p [] v r = (refl, tt)
+lines-differ p (c ∷ cs) v r =
+    (none-above p c.number cs (small c (first (is_class c) (list_all is_class cs) v)) (rising-above c cs r), lines-differ p cs (second (is_class c) (list_all is_class cs) v) (rising-rest c cs r))
+
+pub valid-differ : (g : Galley) → IsValid g → NumbersDiffer (classes_of g)
+valid-differ g v =
+    lines-differ g.params g.classes (first (list_all is_class g.classes) (do_classes_rise g.classes) v.classes) (second (list_all is_class g.classes) (do_classes_rise g.classes) v.classes)
+
+-- ---- the class of a footnote
+
+-- a number of one of the classes is once among them
+one-of : (ks : List ℕ) (n : ℕ) (cs : List Class) → AreAmong ks cs → IsTrue (list_any (λ (c : Class). c.number == n) cs) → IsOnce ks n
+one-of ks n [] a h = cc
+one-of ks n (c ∷ cs) a h = by_number (c.number == n) (λ e. eqb-true c.number n e) (λ k. one-of ks n cs a.1 k) h
+  where
+    by_number : (t : Bool) → (t ≡ true → c.number ≡ n) → (IsTrue (list_any (λ (d : Class). d.number == n) cs) → IsOnce ks n) → IsTrue (t || list_any (λ (d : Class). d.number == n) cs) → IsOnce ks n
+    by_number true e again h = subst (IsOnce ks) (e refl) a.0
+    by_number false e again h = again h
+
+swapped : (n : ℕ) → IsTrue (n == 254) → IsTrue (254 == n)
+swapped n h = grind (arith, h)
+
+is-declared : (p : Params) (n : ℕ) (cs : List ClassLine) → IsTrue (is_class_among (map (λ (c : ClassLine). c.number) cs) n) → IsTrue (list_any (λ (c : Class). c.number == n) (with_foot p cs))
+is-declared p n [] h = by_foot (n == 254) (swapped n) h
+  where
+    by_foot : (t : Bool) → (IsTrue t → IsTrue (254 == n)) → IsTrue (t || false) → IsTrue ((254 == n) || false)
+    by_foot true k h = ap (λ u. u || false) (k refl)
+    by_foot false k h = cc
+is-declared p n (c ∷ cs) h = by_here (n == 254) (c.number == n) (list_any (λ (k : ℕ). k == n) (map (λ (d : ClassLine). d.number) cs)) (is-declared p n cs) h
+  where
+    by_here : (f t r : Bool) → (IsTrue (f || r) → IsTrue (list_any (λ (d : Class). d.number == n) (with_foot p cs))) → IsTrue (f || (t || r)) → IsTrue (t || list_any (λ (d : Class). d.number == n) (with_foot p cs))
+    by_here f true r again h = refl
+    by_here f false r again h = again h
+
+high : (n : ℤ) → IsTrue (is_within (neg_ℤ (pos 10000)) (pos 10000) n) → int_le eject_penalty n ≡ true
+high n h = grind (arith, ints, h)
+
+item-fits : (g : Galley) → IsValid g → (line : ℕ) (k : ItemKind) → IsTrue (is_item line k) → IsTrue (has_known_class (map (λ (c : ClassLine). c.number) g.classes) k) → ItemFits (class_numbers (classes_of g)) k
+item-fits g v line (items.Hbox name h d) i c = tt
+item-fits g v line (items.Rule name h d) i c = tt
+item-fits g v line (items.Skip s) i c = tt
+item-fits g v line (items.Kern w) i c = tt
+item-fits g v line (items.Penalty n) i c = high n i
+item-fits g v line (items.Mark name) i c = tt
+item-fits g v line (items.Note name) i c = tt
+item-fits g v line (items.Foot class ls) i c =
+    one-of (class_numbers (classes_of g)) class (classes_of g) (fit-among (classes_of g) (void_boxes (classes_of g)) (void-fit (classes_of g) (valid-differ g v))) (is-declared g.params class g.classes c)
+item-fits g v line (items.Float f vert) i c = tt
+item-fits g v line (items.Margin m vert) i c = tt
+item-fits g v line items.NewPage i c = tt
+item-fits g v line items.ClearPage i c = tt
+item-fits g v line (items.PageBreak n) i c = tt
+item-fits g v line (items.NoPageBreak n) i c = tt
+item-fits g v line items.OneColumn i c = tt
+item-fits g v line items.TwoColumn i c = tt
+item-fits g v line (items.Suppress area) i c = tt
+
+items-fit : (g : Galley) → IsValid g → (ns : List Item) → IsTrue (list_all (λ (n : Item). is_item n.line n.kind) ns) → IsTrue (list_all (λ (n : Item). has_known_class (map (λ (c : ClassLine). c.number) g.classes) n.kind) ns) → ItemsFit (class_numbers (classes_of g)) ns
+items-fit g v [] i c = tt
+items-fit g v (n ∷ ns) i c =
+    let ks = map (λ (c : ClassLine). c.number) g.classes in (
+      item-fits g v n.line n.kind (first (is_item n.line n.kind) (list_all (λ (m : Item). is_item m.line m.kind) ns) i) (first (has_known_class ks n.kind) (list_all (λ (m : Item). has_known_class ks m.kind) ns) c),
+      items-fit g v ns (second (is_item n.line n.kind) (list_all (λ (m : Item). is_item m.line m.kind) ns) i) (second (has_known_class ks n.kind) (list_all (λ (m : Item). has_known_class ks m.kind) ns) c),
+    )
+
+pub valid-fit : (g : Galley) → IsValid g → ItemsFit (class_numbers (classes_of g)) g.items
+valid-fit g v = items-fit g v g.items v.items v.feet
+
+-- a run of a valid galley begins with a state that keeps what runs keep
+pub valid-kept : (g : Galley) → IsValid g → Kept (first_state g.params (classes_of g) (expanded g))
+valid-kept g v = start-kept g (valid-differ g v) (valid-fit g v)

@@ -1,0 +1,258 @@
+-- The end of a run of the routine, and the parameters that it asks for.
+use Rattle.std.proofs.Common.{◌≡◌, refl, sym, subst, ◌∙◌, ap, ℕ, zero, suc, ◌+◌, ◌<◌, ◌≤◌, ◌⊎◌, inl, inr, ℤ, pos, ◌≤ℤ◌, Bool, true, false, List, [], ◌∷◌, ◌++◌, length, slice_get, Option, None, Some, Result, Err, arith}
+use Rattle.tb_io.specs.Faults.{Rose}
+use Rattle.std.specs.Prelude.{IfErr, int_lt, if◌then◌else◌, ◌&&◌, IsTrue, IfSome, IfNone}
+use Rattle.std.specs.List.{list_all}
+use Rattle.std.specs.Io.KnownBytes.{Appends}
+use Rattle.tb_io.specs.Held.{AppendsPrefix}
+use Rattle.std.proofs.lemmas.Int.{ints}
+use Rattle.tb_node.specs.Fit.{IsExtent}
+use Rattle.tb_node.specs.Plain.{PlainKind, plain, ins, act, PlainNode}
+use Rattle.tb_builder.specs.Contents.{kind_count, node_count}
+use Rattle.tb_param.specs.declared.Params.{Params}
+use Rattle.tb_param.specs.Table.{Row, is_within, out_of_range}
+use Rattle.tb_param.specs.Ranges.{is_no_fault}
+use Rattle.tb_galley.specs.declared.Galley.{Galley}
+use Rattle.tb_galley.specs.Expand.{expanded}
+use Rattle.tb_report.specs.Totals.{no_totals, AreCounts}
+use Rattle.tb_report.specs.declared.Totals.{Totals}
+use Rattle.tb_output.specs.declared.RunFault.{RunFault}
+use Rattle.tb_output.specs.declared.RunFault.TheVariants as refused
+use Rattle.tb_output.specs.Machine.{IsLimit}
+use Rattle.tb_output.specs.State.{State, first_state}
+use Rattle.tb_run.specs.declared.happening.Happening.{Happening}
+use Rattle.tb_run.specs.declared.routine.Routine.{Routine}
+use Rattle.tb_run.specs.declared.routine.Ending.{Ending}
+use Rattle.tb_run.specs.declared.routine.Ending.TheVariants as endings
+use Rattle.tb_run.specs.Run.{Run, RunEvent, End, done, pool_full, dead_cycles, page_limit, node_limit, held_count, Step, ends, goes_on, step, run_of, firings_left, classes_of}
+use Rattle.tb_run.specs.Happened.{events_of, noted, step_events}
+use Rattle.tb_run.specs.Turning.{held_in, state_of, IsFaultEnd, IsEnd, EndsAs, over_limit, ArePages, IsReady, IsBounded}
+use Rattle.tb_top.specs.declared.View.{View}
+use Rattle.tb_top.specs.declared.View.TheVariants as views
+use Rattle.tb_top.specs.declared.PageFault.{PageFault}
+use Rattle.tb_top.specs.declared.PageFault.TheVariants as faults
+use Rattle.tb_top.specs.Report.{all_lines, traced_lines, closing_lines}
+use Rattle.tb_top.specs.Paginated.{view_text, end_fault, Paginates, EndsWith, Refuses}
+use Rattle.tb_top.specs.Written.{viewed, is_traced, with_events, sent_among, IsFaultRefusal, IsRefusalOf, EndsWell, StopsWith}
+use Rattle.tb_top.proofs.Written.EventCounts.{SendsBy, step-sends}
+use Rattle.tb_top.proofs.Written.TallyLemmas.{IsTally, AreFewFirings, AreFewNodes, tally-first, tally-counts, tally-next, step-few}
+use Rattle.tb_top.proofs.Written.GoingLemmas.{Going, Closing, header, turn_lines, noted-lines, noted-events, begins, begins-over, goes, closes, cut-short, steps, done-well, done-cut, refused-end, refuses-cut, fault-rose, fault-shown}
+
+-- ---- the end
+
+module _ (v : View) (r : Routine) (t : Totals) (whole : Run) (old mid new : Option (List ℕ)) where
+  pub ends-well : (ending : Ending) (e : End) (u : Totals) → IsEnd r ending e → Closing v e old mid t whole → EndsWell v r t ending mid new u → Paginates v whole old new u
+  ends-well ending e u is c h =
+      let left : e ≡ done (held_in r).page = subst (λ x. IsEnd r x e) h.ending is in
+      done-well v old mid new t whole (held_in r).page u (subst (λ x. Closing v x old mid t whole) left c) h.totals h.written
+
+  refused-at : (e d : End) (f g : PageFault) → e ≡ d → f ≡ g → end_fault d ≡ Some g → closing_lines d whole.events ≡ [] → new ≡ mid → Closing v e old mid t whole → EndsWith v whole old new g
+  refused-at e d f g is same fault none kept c = refused-end v old mid new t whole d g (subst (λ x. Closing v x old mid t whole) is c) fault none kept
+
+  by-fault : (x : RunFault) (e : End) (f : PageFault) → IsFaultEnd x e → IsFaultRefusal x f → new ≡ mid → Closing v e old mid t whole → Refuses v whole old new f
+  by-fault (refused.DeadCycles n) e f is h kept c = rw h (refused-at e (dead_cycles n) f (faults.DeadCycles n) is h refl refl kept c)
+  by-fault (refused.PageLimit n) e f is h kept c = rw h (refused-at e (page_limit n) f (faults.PageLimit n) is h refl refl kept c)
+  by-fault refused.Memory e f is h kept c = absurd is
+
+  by-ending : (ending : Ending) (e : End) (f : PageFault) → IsEnd r ending e → IsRefusalOf ending f → new ≡ mid → Closing v e old mid t whole → Refuses v whole old new f
+  by-ending endings.Done e f is h kept c = absurd h
+  by-ending (endings.PoolFull line live) e f is h kept c = rw h (refused-at e (pool_full line live) f (faults.PoolFull line live) is h refl refl kept c)
+  by-ending (endings.Fault x) e f is h kept c = by-fault x e f is h kept c
+  by-ending (endings.NodeLimit n) e f is h kept c = rw h (refused-at e (node_limit n) f (faults.NodeLimit n) is h refl refl kept c)
+
+  pub stops-with : (ending : Ending) (e : End) (before now : ℕ) (f : PageFault) → IsEnd r ending e → Closing v e old mid t whole → StopsWith v r t ending mid new before now f → Refuses v whole old new f
+  stops-with ending e before now f is c (inl h) = by-ending ending e f is h.0 h.1 c
+  stops-with ending e before now f is c (inr h) =
+      let left : e ≡ done (held_in r).page = subst (λ x. IsEnd r x e) h.0 is in
+      refuses-cut v whole old new before now f h.1 (done-cut v old mid new t whole (held_in r).page (subst (λ x. Closing v x old mid t whole) left c) h.2)
+
+-- ---- a refusal for a failed write
+
+no-write : (e : Ending) → IsRefusalOf e faults.WriteFault → ⊥
+no-write endings.Done h = h
+no-write (endings.PoolFull line live) h = cc
+no-write (endings.Fault (refused.DeadCycles n)) h = cc
+no-write (endings.Fault (refused.PageLimit n)) h = cc
+no-write (endings.Fault refused.Memory) h = cc
+no-write (endings.NodeLimit n) h = cc
+
+module _ (v : View) (r : Routine) (t : Totals) (e : Ending) (old new : Option (List ℕ)) (before now : ℕ) where
+  -- it comes only if the sink's faults rose
+  pub stops-cause : (start : ℕ) → start ≤ before → StopsWith v r t e old new before now faults.WriteFault → Rose start now
+  stops-cause start le (inl h) = absurd (no-write e h.0)
+  stops-cause start le (inr h) = fault-rose v before now start faults.WriteFault h.1 le refl
+
+  -- and never at a silent view
+  pub stops-shown : v ≡ views.Silent → StopsWith v r t e old new before now faults.WriteFault → ⊥
+  stops-shown silent (inl h) = no-write e h.0
+  stops-shown silent (inr h) = fault-shown v before now faults.WriteFault h.1 silent refl
+
+-- what holds of an error that was returned
+pub err-at : {T : Type 0} (r : Result T PageFault) (P : PageFault → Type 0) (f : PageFault) → IfErr r P → r ≡ Err f → P f
+err-at r P f h is = subst (λ x. IfErr x P) is h
+
+-- ---- the parameters
+
+pub all-at : (f : Row → Bool) (rs : List Row) (k : ℕ) (r : Row) → slice_get rs k ≡ Some r → IsTrue (list_all f rs) → IsTrue (f r)
+all-at f [] k r e h = cc
+all-at f (x ∷ xs) zero r e h = let same : x ≡ r = cc in subst (λ y. IsTrue (f y)) same (first (f x) (list_all f xs) h)
+  where
+    first : (a b : Bool) → IsTrue (a && b) → IsTrue a
+    first true b h = refl
+    first false b h = h
+all-at f (x ∷ xs) (suc k) r e h = all-at f xs k r e (second (f x) (list_all f xs) h)
+  where
+    second : (a b : Bool) → IsTrue (a && b) → IsTrue b
+    second true b h = h
+    second false b h = cc
+
+pub in-range : (t : Bool) → IsTrue (is_no_fault (out_of_range t)) → IsTrue t
+in-range true h = refl
+in-range false h = cc
+
+pub dim-extent : (low v : ℤ) → pos 0 ≤ℤ low → IsTrue (is_no_fault (out_of_range (is_within low (pos 1073741823) v))) → IsExtent v
+dim-extent low v n h = let k = in-range (is_within low (pos 1073741823) v) h in record { low = grind (arith, ints, n, k); high = grind (arith, ints, n, k) }
+
+pub int-limit : (low high v : ℤ) → pos 0 ≤ℤ low → high ≤ℤ pos 4194304 → IsTrue (is_no_fault (out_of_range (is_within low high v))) → IsLimit v
+int-limit low high v n m h = let k = in-range (is_within low high v) h in record { low = grind (arith, ints, n, m, k); high = grind (arith, ints, n, m, k) }
+
+-- the run ends as this ending says, and its last lines are left
+pub record ClosesAt (v : View) (r : Routine) (ending : Ending) (old now : Option (List ℕ)) (t : Totals) (whole : Run) : Type 0 where
+  pub end : End
+  pub is : IsEnd r ending end
+  pub closing : Closing v end old now t whole
+
+-- ---- the first state
+
+pub over-some : (p : Params) (n : ℕ) (e : Ending) (t : Bool) → int_lt p.maxnodes (pos n) ≡ t → (if t then Some (endings.NodeLimit n) else None) ≡ Some e → (int_lt p.maxnodes (pos n) ≡ true) × (e ≡ endings.NodeLimit n)
+over-some p n e true h k = (h, cc)
+over-some p n e false h k = cc
+
+pub over-none : (p : Params) (n : ℕ) (t : Bool) → int_lt p.maxnodes (pos n) ≡ t → (if t then Some (endings.NodeLimit n) else None) ≡ None → int_lt p.maxnodes (pos n) ≡ false
+over-none p n true h k = cc
+over-none p n false h k = h
+
+-- the run of a galley from its first state, which the routine stands for
+module _ (v : View) (g : Galley) (r : Routine) (old now : Option (List ℕ)) (t : Totals) (o : Option Ending) (is : state_of r ≡ first_state g.params (classes_of g) (expanded g)) (a : Appends old now (viewed v header)) (nothing : t ≡ no_totals) (over : o ≡ over_limit g.params (held_count (state_of r))) where
+  pub start-closing : (ending : Ending) → o ≡ Some ending → ClosesAt v r ending old now t (run_of g)
+  start-closing ending some =
+      let k = over-some g.params (held_count (state_of r)) ending (int_lt g.params.maxnodes (pos (held_count (state_of r)))) refl (sym over ∙ some) in
+      record {
+        end = node_limit (held_count (state_of r));
+        is = rw (k.1) refl;
+        closing = subst (λ x. Closing v (node_limit (held_count (state_of r))) old now x (run_of g)) (sym nothing) (begins-over v g (state_of r) old now is a (k.0));
+      }
+
+  pub start-going : o ≡ None → Going g.params v (state_of r) old now t (run_of g)
+  start-going none = subst (λ x. Going g.params v (state_of r) old now x (run_of g)) (sym nothing) (begins v g (state_of r) old now is a (over-none g.params (held_count (state_of r)) (int_lt g.params.maxnodes (pos (held_count (state_of r)))) refl (sym over ∙ none)))
+
+  pub start-tally : AreFewFirings g.params → IsTally g.params t (state_of r)
+  start-tally few = subst (λ x. IsTally g.params x (state_of r)) (sym nothing) (tally-first g.params (state_of r) few (ap (λ (s : State). s.page) is) (ap (λ (s : State). s.dead_cycles) is))
+
+-- ---- a turn
+
+-- a step with what shows it: the routine after it, what happened, and how the run ended
+module _ (p : Params) (v : View) (s : State) (old now : Option (List ℕ)) (t : Totals) (whole : Run) (going : Going p v s old now t whole) (q : Routine) (hs : List Happening) (o : Option Ending)
+    (events : events_of q.store hs ≡ noted (is_traced v) (step_events (step p s))) (ended : EndsAs q o (step p s)) where
+  lines-are : all_lines traced_lines (events_of q.store hs) ≡ turn_lines v (step_events (step p s))
+  lines-are = ap (all_lines traced_lines) events ∙ noted-lines v (step_events (step p s))
+
+  totals-are : with_events (events_of q.store hs) t ≡ with_events (step_events (step p s)) t
+  totals-are = ap (λ es. with_events es t) events ∙ noted-events (is_traced v) (step_events (step p s)) t
+
+  -- writing what happened was cut short
+  pub turn-cut : (mid : Option (List ℕ)) → AppendsPrefix now mid (viewed v (all_lines traced_lines (events_of q.store hs))) → AppendsPrefix old mid (view_text v whole)
+  turn-cut mid b = cut-short p v old now mid t whole s (step p s) going refl (subst (λ ls. AppendsPrefix now mid (viewed v ls)) lines-are b)
+
+  closes-by-step : (mid : Option (List ℕ)) (ending : Ending) (st : Step) → step p s ≡ st → EndsAs q (Some ending) st → Appends now mid (viewed v (turn_lines v (step_events st))) → ClosesAt v q ending old mid (with_events (step_events st) t) whole
+  closes-by-step mid ending (goes_on es rs u) is h b = absurd h
+  closes-by-step mid ending (ends es rs e) is h b = record { end = e; is = h; closing = closes p v old now mid t whole s e es rs going is b }
+
+  pub turn-closing : (mid : Option (List ℕ)) (u : Totals) (ending : Ending) → o ≡ Some ending → Appends now mid (viewed v (all_lines traced_lines (events_of q.store hs))) → u ≡ with_events (events_of q.store hs) t → ClosesAt v q ending old mid u whole
+  turn-closing mid u ending some b counted =
+      subst (λ x. ClosesAt v q ending old mid x whole) (sym (counted ∙ totals-are))
+      (closes-by-step mid ending (step p s) refl (subst (λ x. EndsAs q x (step p s)) some ended) (subst (λ ls. Appends now mid (viewed v ls)) lines-are b))
+
+  goes-by-step : (mid : Option (List ℕ)) (st : Step) → step p s ≡ st → EndsAs q None st → Appends now mid (viewed v (turn_lines v (step_events st))) → Going p v (state_of q) old mid (with_events (step_events st) t) whole
+  goes-by-step mid (ends es rs e) is h b = absurd h
+  goes-by-step mid (goes_on es rs u) is h b = subst (λ x. Going p v x old mid (with_events es t) whole) (sym h) (goes p v old now mid t whole s u es rs going is b)
+
+  -- the lists of what was sent were closed since
+  pub turn-going : (mid : Option (List ℕ)) (u : Totals) (after : State) → after ≡ state_of q → o ≡ None → Appends now mid (viewed v (all_lines traced_lines (events_of q.store hs))) → u ≡ with_events (events_of q.store hs) t → Going p v after old mid u whole
+  turn-going mid u after same none b counted =
+      subst (λ x. Going p v x old mid u whole) (sym same)
+      (subst (λ x. Going p v (state_of q) old mid x whole) (sym (counted ∙ totals-are))
+      (goes-by-step mid (step p s) refl (subst (λ x. EndsAs q x (step p s)) none ended) (subst (λ ls. Appends now mid (viewed v ls)) lines-are b)))
+
+  fewer-by-step : (st : Step) → step p s ≡ st → EndsAs q None st → firings_left p (state_of q) < firings_left p s
+  fewer-by-step (ends es rs e) is h = absurd h
+  fewer-by-step (goes_on es rs u) is h = subst (λ x. firings_left p x < firings_left p s) (sym h) (steps p s u es rs is going.page).fewer
+
+  pub turn-fewer : o ≡ None → firings_left p (state_of q) < firings_left p s
+  turn-fewer none = fewer-by-step (step p s) refl (subst (λ x. EndsAs q x (step p s)) none ended)
+
+  -- ---- what is counted
+
+  module _ (few : AreFewFirings p) (tally : IsTally p t s) (waiting : length s.waiting ≤ 4194304) (pages : ArePages q.store hs) where
+    nodes : AreFewNodes (sent_among (step_events (step p s)))
+    nodes = step-few q.store hs (is_traced v) (step_events (step p s)) pages events
+
+    counts-by-step : (st : Step) → SendsBy p s st → AreFewNodes (sent_among (step_events st)) → AreCounts (with_events (step_events st) t)
+    counts-by-step (ends es rs e) h ns = tally-counts p t s es few tally h waiting ns
+    counts-by-step (goes_on es rs u) h ns = tally-counts p t s es few tally h.0 waiting ns
+
+    pub turn-counts : AreCounts (with_events (events_of q.store hs) t)
+    turn-counts = subst AreCounts (sym totals-are) (counts-by-step (step p s) (step-sends p s) nodes)
+
+    tally-by-step : (st : Step) → SendsBy p s st → AreFewNodes (sent_among (step_events st)) → EndsAs q None st → firings_left p (state_of q) < firings_left p s → IsTally p (with_events (step_events st) t) (state_of q)
+    tally-by-step (ends es rs e) h ns k fewer = absurd k
+    tally-by-step (goes_on es rs u) h ns k fewer = tally-next p t s es few tally h.0 waiting ns (state_of q) (h.1 ∙ ap (λ (x : State). x.page) (sym k)) fewer
+
+    pub turn-tally : (u : Totals) (after : State) → after ≡ state_of q → o ≡ None → u ≡ with_events (events_of q.store hs) t → IsTally p u after
+    turn-tally u after same none counted =
+        subst (IsTally p u) (sym same)
+        (subst (λ x. IsTally p x (state_of q)) (sym (counted ∙ totals-are))
+        (tally-by-step (step p s) (step-sends p s) nodes (subst (λ x. EndsAs q x (step p s)) none ended) (turn-fewer none)))
+
+pub none-at : {A : Type 0} (o : Option Ending) → o ≡ None → IfNone o A → A
+none-at {A} o none h = subst (λ x. IfNone x A) none h
+
+one-at-least : (k : PlainKind) → 1 ≤ kind_count k
+one-at-least (plain m) = omega arith
+one-at-least (ins i) = omega arith
+one-at-least (act a) = omega arith
+
+nodes-counted : (ns : List PlainNode) → length ns ≤ node_count ns
+nodes-counted [] = omega arith
+nodes-counted (n ∷ ns) = let one = one-at-least n.kind in let rest = nodes-counted ns in omega (arith, one, rest)
+
+-- a routine that is ready has not too many nodes that wait
+pub few-wait : (r : Routine) → IsReady r → length (state_of r).waiting ≤ 4194304
+few-wait r ready =
+    let a = nodes-counted (state_of r).waiting in
+    let b = ready.settled.bounded.held in
+    let c = ready.settled.bounded.few in
+    omega (arith, a, b, c)
+
+few-within : (n : ℕ) (most : ℤ) → pos n ≤ℤ most → most ≤ℤ pos 4194304 → n ≤ 4194304
+few-within n most h k = grind (arith, ints, h, k)
+
+-- if no limit is passed, the routine is ready still
+pub limit-ready : (r q : Routine) (o : Option Ending) → IsReady r → q ≡ record r { most = q.most } → IsBounded 8388608 q → IfNone o (pos q.most ≤ℤ r.machine.params.maxnodes) → o ≡ None → IsReady q
+limit-ready r q o ready same bounded within none =
+    subst IsReady (sym same) (again (subst (IsBounded 4194304) same (record { held = bounded.held; few = few-within q.most r.machine.params.maxnodes (none-at o none within) ready.settled.params.maxnodes.high })))
+  where
+    again : IsBounded 4194304 (record r { most = q.most }) → IsReady (record r { most = q.most })
+    again k =
+        let old = ready.settled in
+        record {
+          settled = record {
+            whole = record { builder = old.whole.builder; machine = old.whole.machine; fault = old.whole.fault; apart = old.whole.apart };
+            params = old.params;
+            classes = old.classes;
+            between = old.between;
+            served = old.served;
+            bounded = k;
+          };
+          events = ready.events;
+        }
