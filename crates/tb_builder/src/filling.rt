@@ -1,4 +1,4 @@
-//! A page is filled: the nodes that wait go on it one by one, up to the next event.
+//! A page is filled: the waiting nodes go on it one by one, up to the next event.
 
 ghost use Rattle.std.specs.Prelude.{◌≡◌, ◌≢◌, ◌<◌, ◌<ℤ◌, ◌≤◌, ◌+◌, pos, ℕ, List, [], ◌∷◌, ◌++◌, Bool, true, false, Some, None, IsSome, IfOk, OnOk, OnErr, slice_get, length, drop};
 ghost use Rattle.tb_pool.specs.Lists.{IsLive, list_at};
@@ -32,12 +32,11 @@ use tb_node::{Insertion, Node};
 use tb_pool::Lists;
 
 impl Builder {
-    /// The next event. A legal place, or an act, is reached of what waits: the nodes before it are on the page then. After
-    /// a place that is a stop the page fires at the following call. Where nothing is left to be reached, the event is
-    /// Empty, and no node waits (TeX: The Program §994 to §1028). A page that fired awaits its `put_back` before the next
-    /// call.
+    /// The next event: the next legal place or act among the waiting nodes. The nodes before it are on the page then.
+    /// After a place that is a stop, the next call fires the page. If no place or act is left, the event is Empty, and
+    /// no node waits (TeX: The Program §994 to §1028). After a page fired, `put_back` must come before the next call.
     ///
-    /// Memory is taken first: where that fails, the builder and all lists are as before.
+    /// Memory is taken first: if that fails, the builder and all lists are as before.
     #[inline(always)]
     pub fn next(&mut self, store: &mut Lists<Node>, ask: &Ask) -> Result<Event, AllocError>
         requires sound { IsSound self.old store.old }
@@ -59,10 +58,10 @@ impl Builder {
         Ok(self.fill(store, ask))
     }
 
-    /// The next event that is no place: as [`Self::next`] called until it returns none, where the places that it tries are
-    /// passed over.
+    /// The next event that is no place: as if [`Self::next`] were called until it returns one, and the places that it
+    /// tries were passed over.
     ///
-    /// If memory is lacking, some of the places may have been passed over already.
+    /// If there is no memory, some of the places may have been passed over already.
     pub fn next_without_tries(
         &mut self,
         store: &mut Lists<Node>,
@@ -87,7 +86,7 @@ impl Builder {
         }
     }
 
-    // The first nodes that wait go on a page that is laid out, all at once, as far as the walk goes.
+    // The first waiting nodes go on a page that is laid out, all at once, as far as the walk goes.
     fn pass_nodes(&mut self, store: &mut Lists<Node>, ask: &Ask)
         requires sound { IsSound self.old store.old }
         requires fits { NextFits (contents_of self.old store.old) ask.now }
@@ -107,7 +106,7 @@ impl Builder {
         store.append(self.waiting, self.rest);
     }
 
-    // How many of the first nodes that wait go on the page: those before a stop, or before a node that is left to `next`.
+    // How many of the first waiting nodes go on the page: those before a stop, or before a node that is left to `next`.
     // The places before them are tried.
     fn walk(&mut self, store: &Lists<Node>, ask: &Ask) -> usize
         requires sound { IsSound self.old store.now }
@@ -130,7 +129,7 @@ impl Builder {
         all
     }
 
-    // Whether the next node goes on the page, which had so many nodes before those that the walk passed.
+    // Whether the next node goes on the page, which had `before` nodes before those that the walk passed.
     #[inline(always)]
     fn passes(
         &mut self,
@@ -182,7 +181,7 @@ impl Builder {
         store.reserve(1)
     }
 
-    // The nodes that wait go on the page, up to the next event. Most of them are no event and go on a page that is laid
+    // The waiting nodes go on the page, up to the next event. Most of them are no event and go on a page that is laid
     // out: such a node is not copied.
     fn fill(&mut self, store: &mut Lists<Node>, ask: &Ask) -> Event
         requires sound { IsSound self.old store.old }
@@ -206,7 +205,7 @@ impl Builder {
         Event::Empty
     }
 
-    // The page is laid out, and the node is no act and no insertion.
+    // Whether the page is laid out, and the node is no act and no insertion.
     fn goes_on(&self, n: &Node) -> bool
         ensures opened { result ≡ true → self.now.opened ≡ true }
         ensures no_act { result ≡ true → act_of_kind n.now.kind ≡ None }
@@ -215,8 +214,8 @@ impl Builder {
         self.opened && is_matter(n)
     }
 
-    // The first node that waits goes on the page, vanishes or is handed out, or the place before it is a stop. Each node
-    // comes by here, so what is rare has functions of its own.
+    // The first waiting node goes on the page, vanishes or is handed out, or the place before it is a stop. Each node
+    // comes by here, so rare cases have functions of their own.
     #[inline(never)]
     fn turn(&mut self, store: &mut Lists<Node>, ask: &Ask, n: &Node) -> Option<Event>
         requires sound { IsSound self.old store.old }
@@ -235,7 +234,7 @@ impl Builder {
         self.begin(store, ask, n)
     }
 
-    // The first node that waits is an act, which is handed out, or an insertion, which goes on the page.
+    // The first waiting node is an act, which is handed out, or an insertion, which goes on the page.
     fn act_or_insert(&mut self, store: &mut Lists<Node>, ask: &Ask, n: &Node) -> Option<Event>
         requires sound { IsSound self.old store.old }
         requires on { self.old.stopped ≡ false }
@@ -255,7 +254,7 @@ impl Builder {
         None
     }
 
-    // On a page without a box, the first node that waits is no act and no insertion.
+    // On a page without a box, the first waiting node is no act and no insertion.
     fn begin(&mut self, store: &mut Lists<Node>, ask: &Ask, n: &Node) -> Option<Event>
         requires sound { IsSound self.old store.old }
         requires on { self.old.stopped ≡ false }
@@ -274,7 +273,7 @@ impl Builder {
         None
     }
 
-    // The first box or rule of the page is the first node that waits: it goes on the page behind the top glue, unless the
+    // The first box or rule of the page is the first waiting node: it goes on the page after the top glue, unless the
     // place before that glue is a stop.
     fn open_page(&mut self, store: &mut Lists<Node>, ask: &Ask, n: &Node) -> Option<Event>
         requires sound { IsSound self.old store.old }
@@ -298,7 +297,7 @@ impl Builder {
         event
     }
 
-    // Freezes the goal and the depth limit of the page, where they are not frozen yet.
+    // Freezes the goal and the depth limit of the page, unless they are frozen already.
     fn freeze(&mut self, ask: &Ask)
         requires asked { AskFits ask.now }
         ensures first { self.old.frozen ≡ None → (z : Frozen) (page : List PlainNode) → z.goal ≡ ask.now.goal → z.limit ≡ ask.now.max_depth → Differ z.classes → AllLoose page
@@ -316,7 +315,7 @@ impl Builder {
         self.course.restart(ask.goal, ask.max_depth);
     }
 
-    // The first node that waits, an insertion, goes on the page.
+    // The first waiting node, an insertion, goes on the page.
     fn meet(&mut self, store: &mut Lists<Node>, ask: &Ask, n: &Node, i: &Insertion)
         requires sound { IsSound self.old store.old }
         requires on { self.old.stopped ≡ false }
@@ -333,8 +332,8 @@ impl Builder {
         store.move_first(self.waiting, self.page);
     }
 
-    // On a page without a box, the first node that waits is no box, insertion or act: a mark, a note or a whatsit goes
-    // on the page, and glue, a kern or a penalty vanishes.
+    // On a page without a box, the first waiting node is no box, insertion or act: a mark, a note or a whatsit goes on
+    // the page, and glue, a kern or a penalty vanishes.
     fn pass(&mut self, store: &mut Lists<Node>, ask: &Ask, n: &Node)
         requires sound { IsSound self.old store.old }
         requires on { self.old.stopped ≡ false }
@@ -353,8 +352,8 @@ impl Builder {
         drop_first(store, self.waiting);
     }
 
-    // The first node that waits on a page that is laid out, no act and no insertion, goes a step, and its event, if there
-    // is one, is told.
+    // Takes one step with the first waiting node on a page that is laid out, which is no act and no insertion. Returns
+    // its event, if there is one.
     fn reach(&mut self, store: &mut Lists<Node>, n: &Node) -> Option<Event>
         requires own { IsOwned (ids_of self.old) store.old }
         requires first { slice_get (list_at store.old self.old.waiting) 0 ≡ Some n.now }
@@ -375,8 +374,8 @@ impl Builder {
         None
     }
 
-    // The first node that waits on a page that is laid out, no act and no insertion: its place is tried if it is legal,
-    // and it goes on the page unless that is a stop. Whether it was tried; `tried` is what came of it.
+    // The first waiting node on a page that is laid out, no act and no insertion: its place is tried if it is legal,
+    // and the node goes on the page unless that is a stop. Returns whether it was tried; `tried` has the result.
     #[inline(always)]
     fn step(&mut self, store: &mut Lists<Node>) -> bool
         requires own { IsOwned (ids_of self.old) store.old }
@@ -410,7 +409,7 @@ impl Builder {
         true
     }
 
-    // The first node that waits, which is no insertion, goes on the page.
+    // The first waiting node, which is no insertion, goes on the page.
     fn put(&mut self, store: &mut Lists<Node>, n: &Node)
         requires own { IsOwned (ids_of self.old) store.old }
         requires first { slice_get (list_at store.old self.old.waiting) 0 ≡ Some n.now }

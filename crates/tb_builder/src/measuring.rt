@@ -41,7 +41,7 @@ pub fn list_size(store: &Lists<Node>, l: ListId) -> i64
     pruned_size(store, l)
 }
 
-/// The room that a list takes which may have been pruned, in sp.
+/// The room that a list takes, which may have been pruned, in sp.
 pub fn pruned_size(store: &Lists<Node>, l: ListId) -> i64
     requires live { IsLive store.now l }
     requires fits { RoomFits (shapes store.now l) }

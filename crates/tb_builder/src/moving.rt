@@ -14,7 +14,7 @@ use tb_break::{is_glue, place_penalty};
 use tb_node::{Act, Insertion, Kind, Node};
 use tb_pool::{Iter, ListId, Lists};
 
-/// A node that is an act, if it is one.
+/// The act, if the node is one.
 pub fn act_of(n: &Node) -> Option<Act>
     ensures { result ≡ act_of_kind n.now.kind }
 {
@@ -24,7 +24,7 @@ pub fn act_of(n: &Node) -> Option<Act>
     }
 }
 
-/// A node that is an insertion, if it is one.
+/// The insertion, if the node is one.
 pub fn insertion_of(n: &Node) -> Option<Insertion>
     ensures { result ≡ insertion_of_kind n.now.kind }
 {
@@ -67,7 +67,7 @@ pub fn is_matter(n: &Node) -> bool
     !matches!(n.kind, Kind::Ins(_) | Kind::Act(_))
 }
 
-/// Whether a node is neither an act nor an insertion, nor a kern, of whose place the nodes behind it decide.
+/// Whether a node is neither an act nor an insertion, nor a kern, whose place depends on the nodes after it.
 pub fn is_walked(n: &Node) -> bool
     ensures no_act { result ≡ true → act_of_kind n.now.kind ≡ None }
     ensures no_insertion { result ≡ true → insertion_of_kind n.now.kind ≡ None }
@@ -91,8 +91,8 @@ fn is_kern(n: &Node) -> bool
     matches!(n.kind, Kind::Kern(_))
 }
 
-/// The penalty of the place before the first node of a list, `n`, where it is legal, by whether a node that does not
-/// vanish stands before it. Only before a kern is it asked whether glue follows.
+/// The penalty of the place before the first node of a list, `n`, if it is legal; `lasting` says whether a node that
+/// does not vanish comes before the place. Only for a kern is it asked whether glue follows.
 #[inline(always)]
 pub fn penalty_of(store: &Lists<Node>, l: ListId, n: &Node, lasting: bool) -> Option<i64>
     requires live { IsLive store.now l }
@@ -115,7 +115,7 @@ fn skip_one(nodes: &mut Iter<'_, Node>)
     }
 }
 
-/// Glue stands first behind the first node of the list, where acts are looked past.
+/// Whether glue comes next after the first node of the list, acts aside.
 #[inline(never)]
 pub fn glue_follows(store: &Lists<Node>, l: ListId) -> bool
     requires { IsLive store.now l }
@@ -131,7 +131,7 @@ pub fn glue_follows(store: &Lists<Node>, l: ListId) -> bool
     false
 }
 
-/// Takes off the first node of a list that has one.
+/// Takes off the first node of a list that is not empty.
 #[tactic(auto, using(tb_pool::proofs::MapLemmas::list_steps))]
 pub fn drop_first(store: &mut Lists<Node>, l: ListId)
     requires { IsLive store.old l }

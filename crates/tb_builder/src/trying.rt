@@ -23,7 +23,7 @@ use tb_node::{Insertion, Node, Sums};
 use tb_pool::Lists;
 use tb_scaled::{AWFUL_BAD, EJECT_PENALTY};
 
-/// The course of a page of marks, notes and whatsits, whose goal and depth limit (sp) are frozen now.
+/// The course of a page of marks, notes and whatsits whose goal and depth limit (sp) are frozen now.
 pub fn started(goal: i64, max_depth: i64, lasting: bool) -> Course
     requires low { pos 0 ≤ℤ max_depth }
     requires limit { IsAmount max_depth }
@@ -52,7 +52,7 @@ fn made_try(line: u32, sums: Sums, goal: i64, offer: Offer, penalty: i64) -> Try
     }
 }
 
-/// What a builder keeps while no place was tried.
+/// What a builder keeps until a place is tried.
 pub fn no_try() -> Try {
     Try {
         line: 0,
@@ -70,7 +70,8 @@ pub fn no_try() -> Try {
     }
 }
 
-/// The page fires at the place that was tried: it is overfull there, or the break is forced (TeX: The Program §1005).
+/// Whether the page fires at the place that was tried: it is overfull there, or the break is forced (TeX: The Program
+/// §1005).
 pub fn stops(t: &Try) -> bool
     ensures { result ≡ (int_le awful_bad t.now.cost || int_le t.now.penalty (negsuc 9999)) }
 {
@@ -78,8 +79,8 @@ pub fn stops(t: &Try) -> bool
 }
 
 impl Course {
-    // Begins the course of the next page, as `started` makes it, in place: a course is too large to be made for each page
-    // and moved.
+    // Begins the course of the next page as `started` makes it, but in place: a course is too large to be made and
+    // moved for each page.
     pub(crate) fn restart(&mut self, goal: i64, max_depth: i64)
         requires low { pos 0 ≤ℤ max_depth }
         requires limit { IsAmount max_depth }
@@ -91,7 +92,7 @@ impl Course {
         self.best_goal = 0;
     }
 
-    // Marks the page so far, where the place at its end is the best.
+    // Marks the page so far, if the place at its end is the best.
     fn mark_if(&mut self, champion: bool, goal: i64)
         ensures marks { (z : Frozen) (page : List PlainNode) → MarksBest z self.old self.new page champion goal }
         ensures scan { self.new.scan ≡ self.old.scan }
@@ -104,7 +105,7 @@ impl Course {
         self.best_goal = goal;
     }
 
-    // Tries the legal place at the end of the page, which has so many nodes.
+    // Tries the legal place at the end of the page, which has `index` nodes.
     #[inline(always)]
     pub(crate) fn offer(&mut self, index: usize, line: u32, penalty: i64) -> Try
         requires terms { TermsFit self.old }
@@ -133,7 +134,7 @@ impl Course {
         self.lasting = is_lasting(n);
     }
 
-    // An insertion goes to the end of the page, which has so many nodes.
+    // An insertion goes to the end of the page, which has `index` nodes.
     pub(crate) fn join(
         &mut self,
         store: &Lists<Node>,

@@ -76,7 +76,7 @@ class_back k c good =
 abbrev pub numbers_of : List ClassLine → List ℕ
 numbers_of cs = map (λ (c : ClassLine). c.number) cs
 
--- what is known where a galley of the version has declared these classes
+-- what is known if a galley of the version has declared these classes
 abbrev pub known_by : ℕ → List ClassLine → Known
 known_by v cs = record { version = v; classes = numbers_of cs }
 

@@ -101,7 +101,7 @@ fit_none n m (s ∷ ss) (f ∷ fs) fit = no_cause n f (slot_cause s f) (value_ca
 
 -- ---- a whole line
 
--- a line that begins with this word's spelling, where the word counts
+-- a line that begins with this word's spelling, if the word counts
 pub record IsWord (k : Known) (head : List ℕ) (w : LineWord) : Type 0 where
   pub text : IsText head
   pub short : length head ≤ 14

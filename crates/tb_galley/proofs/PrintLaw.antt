@@ -150,7 +150,7 @@ canonical_text g =
 
 -- ---- the law
 
--- how many lines stand before the items
+-- how many lines come before the items
 abbrev front : Galley → ℕ
 front g = 1 + length (rows_for g.version) + length g.classes
 
@@ -330,7 +330,7 @@ same_galley : (g : Galley) → unnumbered (renumbered g) ≡ unnumbered g
 unfolding renumbered
 same_galley g = (λ j. record { params = g.params; version = g.version; classes = same_classes (sets_end g + 1) g.classes j; items = same_list (front g + 1) g.items j; end_line = 0 })
 
--- the canonical text is read as the galley, whose items stand after the header, the sets and the classes
+-- the canonical text is read as the galley, whose items come after the header, the sets and the classes
 is_read : (g : Galley) → IsValid g → length (printed g) ≤ input_limit → grammar (printed g) ≡ Ok (renumbered g)
 unfolding grammar renumbered
 is_read g valid short =

@@ -1,4 +1,4 @@
--- What a line says suits its word and its place, and lies in its ranges.
+-- What a line says suits its word and its place, and is in its ranges.
 use Rattle.std.proofs.Common.{◌≡◌, ℕ, Bool, true, false, ◌||◌, ◌==◌, nat_lt, nat_abs, length, List, [], ◌∷◌, Option, Some, None, Result, Ok, Err, IfOk, if◌then◌else◌, refl, sym, subst, ◌⊎◌, inl, inr, pos, negsuc}
 use Rattle.std.specs.Prelude.{codes}
 use Rattle.std.specs.List.{list_all}
@@ -30,7 +30,7 @@ use Rattle.tb_galley.proofs.InRange.{bind_has, then_has, mapped_has, has_more, s
 
 -- ---- what a line may say by its word
 
--- an item that takes one line and stands outside feet alone
+-- an item that takes one line and is outside feet alone
 abbrev pub is_single_word : LineWord → Bool
 is_single_word mark = true
 is_single_word note = true
@@ -88,7 +88,7 @@ set_suits k n m l name (Some r) found =
     (has_more (λ x. fits r.form x.0 ≡ true) (λ x. Suits k n setting (contents.Set r.field x.0)) (value_left r.form l)
     (λ x good. (refl, (λ p h. stays_in_range name r x.0 p row.0 good h), row.1)) (value_has r.form l))
 
--- content that is made of what is read, where it suits wherever the reading is in its range
+-- content that is made of what is read, if it suits whenever the reading is in its range
 made_has : {X : Type 0} (k : Known) (n : ℕ) (w : LineWord) (P : X → Type 0) (f : X → Content) (r : Result (X × Left) At) → IfOk r (λ x. P x.0) → ((x : X) → P x → Suits k n w (f x))
     → IfOk (mapped f r) (λ x. Suits k n w x.0)
 made_has k n w P f r h good = mapped_has (λ c. Suits k n w c) f r (has_more (λ x. P x.0) (λ x. Suits k n w (f x.0)) r (λ x in_x. good x.0 in_x) h)
@@ -124,7 +124,7 @@ content_suits k n end l = refl
 
 -- ---- a whole line
 
--- a line that is read in this phase after so many lines of items
+-- a line that is read in this phase after this many lines of items
 pub record SaidSuits (p : Phase) (k : Known) (count n : ℕ) (w : Said) : Type 0 where
   pub place : first_of (place_causes p (Some w.word)) ≡ None
   pub items : first_of (item_causes count (Some w.word)) ≡ None

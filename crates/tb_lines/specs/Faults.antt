@@ -72,7 +72,7 @@ end_causes among_pars = causes.NoEnd ∷ []
 end_causes in_par = causes.UnclosedPar ∷ []
 end_causes ended = []
 
--- the causes at each field of each of these lines, and at the end of the text; the content lines before them are shown
+-- the causes at each field of each of these lines, and at the end of the text; the content lines before them are given
 abbrev pub causes_from : List Line → List (List ℕ) → List (List (List Cause))
 causes_from before [] = (end_causes (phase_after before) ∷ []) ∷ []
 causes_from before (bytes ∷ lines) = line_causes (phase_after before) (count_after before) (inside_after before) bytes ∷ causes_from (before ++ content_at bytes) lines

@@ -34,7 +34,7 @@ parameter_in (p ∷ ps) text = if bytes_eq p.text text then Some p.parameter els
 unfoldable pub parameter_of : List ℕ → Option Parameter
 parameter_of text = parameter_in (map named PARAMETERS) text
 
--- how the value of a parameter is written: a dimension of at least so much, or an integer from 0 to so much
+-- how the value of a parameter is written: a dimension of at least this much, or an integer from 0 to this much
 abbrev pub form_of : Parameter → Form
 form_of parameters.Hsize = forms.Dimension (pos 1)
 form_of parameters.Tolerance = forms.Integer (pos 10000)

@@ -266,7 +266,7 @@ fn put_paragraphs(
     Ok(())
 }
 
-/// The galley of the lines that the least solutions of a text's paragraphs make, one for each paragraph, in order.
+/// The galley of the lines of a text, given the least solution of each paragraph, in order.
 #[tactic(auto, unfolding(crate::specs::LineText::line_text))]
 pub fn line_text(alloc: Global, text: &Text, solutions: &[Solution]) -> Result<Vec<u8>, AllocError>
     requires { AreLeast text.now.params text.now.paragraphs solutions.now }

@@ -1,4 +1,4 @@
-//! Floats and marginal notes that were met in the text.
+//! Floats and marginal notes met in the text.
 
 ghost use Rattle.std.specs.Prelude.{◌≡◌, ◌≢◌, ◌≤◌, ◌+◌, ◌-◌, ◌-ℤ◌, ◌+ℤ◌, ◌∷◌, [], ◌++◌, All, length, take, ◌*◌, IfOk, IfErr, OnOk, OnErr};
 ghost use Rattle.std.specs.List.{AllByRecursion};
@@ -36,13 +36,13 @@ pub(crate) struct TextSize {
     /// The height and the depth of its text.
     pub height: i64,
     pub depth: i64,
-    /// What text and insertions take together.
+    /// The text and the insertions together.
     pub page: i64,
 }
 
 impl Machine {
-    /// The first float or marginal note that was taken gets its place, and all else of the page goes back
-    /// (ltoutput.dtx, \@specialoutput and \@addtocurcol).
+    /// Gives the first float or marginal note that was taken its place; all else of the page goes back (ltoutput.dtx,
+    /// \@specialoutput and \@addtocurcol).
     pub(crate) fn float_or_note(
         &mut self,
         store: &mut Lists<Node>,
@@ -66,7 +66,7 @@ impl Machine {
         self.place_first(store, &size, vert, back)
     }
 
-    // The page so far and its insertions go back; its size is returned.
+    // The page so far and its insertions go back; returns its size.
     fn list_back(
         &self,
         store: &mut Lists<Node>,
@@ -91,7 +91,7 @@ impl Machine {
         Ok(size)
     }
 
-    // The held page and the page go back, without the box and the glue that stand last on it.
+    // The held page and the page go back, without the box and the glue at the end of the page.
     fn text_back(&self, store: &mut Lists<Node>, body: ListId, back: ListId)
         requires held { IsLive store.old self.now.held_page }
         requires body { IsLive store.old body }
@@ -171,7 +171,7 @@ fn sum_of(a: i64, b: i64) -> i64
     a + b
 }
 
-// The insertions of each class go back as one insertion. Where memory is lacking, all is as before.
+// The insertions of each class go back as one insertion. If there is no memory, all is as before.
 fn insertions_back(
     store: &mut Lists<Node>,
     p: &Params,

@@ -38,9 +38,9 @@ struct TopLists {
 }
 
 impl Plain {
-    /// A float is taken: it goes before all that waits if h asks for the text and the page has room for it. Else it goes
-    /// into an insertion, which comes before all that waits and brings it to the top of a page, or on a page of its own
-    /// (plain.tex, \endinsert).
+    /// A float is taken: it goes before all that waits if h asks for the text and the page has room for it. Otherwise it
+    /// goes into an insertion, which comes before all that waits and brings it to the top of a page, or on a page of its
+    /// own (plain.tex, \endinsert).
     ///
     /// If memory runs out, the builder and all lists are as before.
     pub fn act(

@@ -60,7 +60,7 @@ fn end_totals(out: &mut Vec<u8>, t: &Totals) -> Result<(), AllocError>
 /// The end of the report of a run that is done: a line for each mark and note that is left on the page, in order, and
 /// the line of the totals.
 ///
-/// It fails only where there is no memory for the text.
+/// It fails only if there is no memory for the text.
 pub fn end_text(
     alloc: Global,
     store: &Lists<Node>,

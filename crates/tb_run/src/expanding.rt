@@ -247,7 +247,7 @@ fn put_float(
     }
 }
 
-// What takes a float or a marginal note, and the two firings that place it: at the first the page so far is held, and the
+// The act of a float or a marginal note, and the two firings that place it: at the first the page so far is held, and the
 // second says whether the item is between paragraphs (ltoutput.dtx, \end@float).
 fn put_with_firings(
     store: &mut Lists<Node>,
@@ -366,7 +366,7 @@ fn put_foot(
     )
 }
 
-// The penalty that a strength from 0 to 4 stands for (LaTeX, \@getpen).
+// The penalty of a strength from 0 to 4 (LaTeX, \@getpen).
 fn break_strength(strength: u8) -> i64
     ensures { result ≡ break_strength strength }
 {

@@ -1,5 +1,6 @@
 //! The run of a galley, page by page: the page builder fills a page over one store of nodes, and the output routine's
 //! machine serves it.
+//! machine serves it.
 #![tactic(auto)]
 
 mod classes;

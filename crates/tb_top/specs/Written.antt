@@ -87,7 +87,7 @@ abbrev pub StopsWith : View → Routine → Totals → Ending → Option (List �
 StopsWith v r t e held_old held_new before now f =
     (IsRefusalOf e f × (held_new ≡ held_old)) ⊎ ((e ≡ endings.Done) × IsWriteFault v before now f × AppendsPrefix held_old held_new (viewed v (last_lines r t)))
 
--- the run ended well: its totals are answered, and its last lines are written
+-- the run ended well: its totals are returned, and its last lines are written
 pub record EndsWell (v : View) (r : Routine) (t : Totals) (e : Ending) (held_old held_new : Option (List ℕ)) (u : Totals) : Type 0 where
   pub ending : e ≡ endings.Done
   pub totals : u ≡ t

@@ -180,7 +180,7 @@ fn send_page<K: Sink>(
     Ok(())
 }
 
-// The refusal of an ending, but of that of a run that ended well.
+// The refusal of an ending; a run that ended well has none.
 fn fault_of(ending: Ending) -> Option<PageFault>
     ensures none { IfNone result (ending ≡ Ending.Done) }
     ensures some { IfSome result (IsRefusalOf ending) }

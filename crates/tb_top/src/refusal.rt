@@ -17,7 +17,7 @@ use tb_lines::{LinesRefusal, put_refusal};
 use tb_text::put_number;
 use tb_words::WordsFault;
 
-/// Why a run was refused, with what the line on `err` shows of it.
+/// Why a run was refused, with what its line on `err` shows.
 #[derive(Drop)]
 pub enum Refusal {
     /// The words ask for no mode.

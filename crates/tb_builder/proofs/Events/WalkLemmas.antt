@@ -1,4 +1,4 @@
--- Nodes that wait go on a page together: what calls of `next` come to after single turns, and the lists of a walk.
+-- Waiting nodes go on a page together: what calls of `next` come to after single turns, and the lists of a walk.
 use Rattle.std.proofs.Common.{◌≡◌, ◌≢◌, refl, sym, subst, ◌∙◌, ap, ℕ, zero, suc, ◌+◌, ◌≤◌, Bool, true, false, List, [], ◌∷◌, ◌++◌, length, take, drop, map, Option, None, Some, is_some, unwrap_or, inl, inr, append-nil, append_assoc, arith}
 use Rattle.std.specs.Prelude.{ℤ, negsuc, int_le, ◌||◌}
 use Rattle.std.specs.FinMap.{get, insert}
@@ -42,7 +42,7 @@ use Rattle.tb_builder.proofs.Turns.PastLemmas.{event-after, holds-both}
 turn_keeps : (b d : Builder) (s t : Lists Node) (ask : Ask) (o : Option Event) → TurnIs b s ask o d t → KeepsOthers (ids_of b) s (ids_of d) t
 turn_keeps b d s t ask o turn = record { others = λ q live out. turn.others q out; apart = λ q live out. turn.keeps q out }
 
--- an event that is no page that fires gives nothing out
+-- an event that is no page that fires gives no list out
 given_here : (e : Event) (c x : Contents) (s t y : Lists Node) (i : Ids) (ask : Ask) → FirstIs e (laid c ask) (reach_ahead c ask) (places_of c ask) ask x → IsGivenOut e s i y
 given_here (events.Try p) c x s t y i ask f = tt
 given_here (events.Act a) c x s t y i ask f = tt
@@ -125,7 +125,7 @@ module _ (ask : Ask) where
 list_there : (s : Lists Node) (l : ℕ) → IsLive s l → get s.lists l ≡ Some (list_at s l)
 list_there s l live = let v = has_value (get s.lists l) live in v.1 ∙ ap Some (sym (ap (λ o. unwrap_or o []) v.1))
 
--- the first node of what is left is the next that is taken
+-- the first node of the rest is the next that is taken
 pub taken_more : (xs : List Node) (k : ℕ) (n : Node) (ms : List Node) → drop k xs ≡ n ∷ ms → take (k + 1) xs ≡ take k xs ++ n ∷ []
 taken_more [] zero n ms e = cc
 taken_more [] (suc k) n ms e = cc
@@ -142,7 +142,7 @@ left_rest (x ∷ xs) (suc k) n ms e =
     let shift : suc k + 1 ≡ suc (k + 1) = omega arith in
     left_rest xs k n ms e ∙ ap (λ m. drop m (x ∷ xs)) (sym shift)
 
--- where something is left, not all was taken
+-- if something is left, not all was taken
 pub left_more : (xs : List Node) (k : ℕ) (n : Node) (ms : List Node) → drop k xs ≡ n ∷ ms → k + 1 ≤ length xs
 left_more xs k n ms e = omega (arith, length-drop k xs, ap length e)
 
@@ -171,14 +171,14 @@ module _ (b : Ids) (s : Lists Node) (apart : b.waiting ≢ b.page) where
   pub moved_page : (k : ℕ) → list_at (moved b s k) b.page ≡ list_at s b.page ++ take k (list_at s b.waiting)
   moved_page k = ap (λ o. unwrap_or o []) (at_page k)
 
-  -- lists with this page and these that wait
+  -- lists with this page and these waiting nodes
   moved_is : (k : ℕ) (t : Lists Node) → get t.lists b.waiting ≡ Some (without k) → get t.lists b.page ≡ Some (page_with k) → ((q : ℕ) → q ≢ b.waiting → q ≢ b.page → get t.lists q ≡ get s.lists q) → t.spare ≡ s.spare → t ≡ moved b s k
   unfolding moved
   moved_is k t w p others spare =
       let same = insert_twice_from_get s.lists t.lists b.waiting b.page (without k) (page_with k) apart w p others in
       λ i. record { lists = same i; spare = spare i }
 
-  -- one node more
+  -- one more node
   pub moved_step : (k : ℕ) (n : Node) → drop k (list_at s b.waiting) ≡ n ∷ drop (k + 1) (list_at s b.waiting)
       → (moved b s (k + 1)).lists ≡ insert (with_list (moved b s k) b.waiting (drop (k + 1) (list_at s b.waiting))) b.page (list_at (moved b s k) b.page ++ n ∷ [])
   moved_step k n e =
@@ -195,7 +195,7 @@ module _ (b : Ids) (s : Lists Node) (own : IsOwned b s) where
   pub apart_waiting : b.waiting ≢ b.page
   apart_waiting e = own.differ.0.0 (sym e)
 
-  -- no more nodes wait
+  -- no more nodes wait than before
   pub moved_few : (k : ℕ) → length (list_at (moved b s k) b.waiting) ≤ length (list_at s b.waiting)
   moved_few k = omega (arith, ap length (moved_waiting b s apart_waiting k), length-drop k (list_at s b.waiting))
 
@@ -209,7 +209,7 @@ module _ (b : Ids) (s : Lists Node) (own : IsOwned b s) where
   waiting_rest : b.waiting ≢ b.rest
   waiting_rest = own.differ.1.0.1.0
 
-  -- the first k nodes that wait go in three steps: first what follows them goes to the spare list
+  -- the first k waiting nodes go in three steps: first the nodes after them go to the spare list
   module _ (k : ℕ) (t : Lists Node) (cut : t.lists ≡ insert (with_list s b.waiting (take k (list_at s b.waiting))) b.rest (drop k (list_at s b.waiting))) where
     cut_wrote : Wrote s t b.waiting b.rest (take k (list_at s b.waiting)) (drop k (list_at s b.waiting))
     cut_wrote = wrote_two s t b.waiting b.rest (take k (list_at s b.waiting)) (drop k (list_at s b.waiting)) waiting_rest cut
@@ -240,7 +240,7 @@ module _ (b : Ids) (s : Lists Node) (own : IsOwned b s) where
       rest_left : list_at v b.rest ≡ drop k (list_at s b.waiting)
       rest_left = ap (λ o. unwrap_or o []) rest_same ∙ cut_wrote.second
 
-      -- and what follows them comes back
+      -- and the nodes after them come back
       module _ (y : Lists Node) (back : y.lists ≡ insert (with_list v b.waiting (list_at v b.waiting ++ list_at v b.rest)) b.rest []) where
         back_wrote : Wrote v y b.waiting b.rest (list_at v b.waiting ++ list_at v b.rest) []
         back_wrote = wrote_two v y b.waiting b.rest (list_at v b.waiting ++ list_at v b.rest) [] waiting_rest back

@@ -189,7 +189,7 @@ module _ (z : Frozen) (k l : Course) (page : List PlainNode) (bs : List Breakpoi
   pub course_offered : IsCourseOf z l page (bs ++ place_here z page p ∷ [])
   course_offered = by_champion t refl
 
-  -- what is made of the place
+  -- the try of the place
   pub made_is : (made : Try) (line : ℕ) (o : Offer) (sums : Sums) → sums ≡ k.scan.sums → o ≡ offer_of k.scan.best (breakpoint_at index k.scan.sums goal p pens)
       → made ≡ record { line = line; sums = sums; goal = goal; badness = o.badness; penalty = p; cost = o.cost; champion = o.champion }
       → made ≡ try_of line (place_here z page p) (least_cost bs)

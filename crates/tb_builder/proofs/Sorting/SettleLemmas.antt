@@ -1,4 +1,4 @@
--- What a builder holds once the insertion that is first on its page gave to its box, went or was held.
+-- What a builder holds once the insertion at the front of its page gave to its box, went or was held.
 use Rattle.std.proofs.Common.{◌≡◌, refl, sym, subst, ◌∙◌, ap, ℕ, ℤ, true, List, [], ◌∷◌, ◌++◌, map, length, Some, append-nil, take, drop}
 use Rattle.std.specs.FinMap.{insert, remove}
 use Rattle.std.proofs.lemmas.List.{map-append, map-id, take-map, drop-map}
@@ -113,7 +113,7 @@ module _ (b d : Builder) (s t u : Lists Node) (n : Node) (i : Insertion) (gave k
   pub gives_boxes : (contents_of d u).boxes ≡ map (box_with i.class (map leaf_of gave)) (contents_of b s).boxes
   gives_boxes = drops.boxes ∙ gives.boxes
 
--- what is held of an insertion depends on its list alone and on what stays of it
+-- what is held of an insertion depends only on its list and on what is left of it
 unless_same : (i j : Inserted) (ns : List Leaf) → ((ms : List Leaf) → again_with i ms ≡ again_with j ms) → unless_empty i ns ≡ unless_empty j ns
 unless_same i j [] e = refl
 unless_same i j (n ∷ ns) e = ap (λ k. k ∷ []) (e (n ∷ ns))

@@ -75,7 +75,7 @@ label_within z ls before i =
     (label_choice i (has_split ls i.class) ((int_le scaled (pos 0) || int_le scaled (room +ℤ shrink)) && int_le (height +ℤ i.height) c.class.limit)
     (split_of height_there i.split_depth (map leaf_shape i.inner)) (split-vanishes height_there i.split_depth (map leaf_shape i.inner)))
 
--- ---- what is known of the first node
+-- ---- facts about the first node
 
 class_below : (cs : List Class) (k : ℕ) → ClassesFit cs → has_class cs k ≡ true → k < 255
 class_below [] k fit h = absurd (true≢false (sym h))
@@ -174,7 +174,7 @@ module _ (b d : Builder) (s t : Lists Node) (n : Node) (i : Insertion) (share : 
   pub settled_body : plain_list t body ≡ plain_list s body
   settled_body = ap (map (plain_of (list_at t))) (list_kept s t body body_same) ∙ view_same s t (list_at s body) (subst (AllSame s t) (sym free.plain) tt)
 
--- the page is a node shorter
+-- the page is one node shorter
 module _ (b d : Builder) (s t : Lists Node) (n : Node) (i : Insertion) (share : Share) (settled : SharesOut b s d t n i share) where
   pub settled_left : (ns : List Node) → list_at s b.page ≡ n ∷ ns → length (list_at t b.page) + 1 ≡ length (list_at s b.page)
   settled_left ns first =
@@ -225,7 +225,7 @@ labels-none z held before (n ∷ ns) h =
     ∙ labels-none z held (before ++ m ∷ []) ns h.1
     ∙ labelled-push z before m ∙ plain_labels z (labelled z before) before n.line m.kind (no_insertion held n.kind (none_there (insertion_of_kind n.kind) h.0))
 
--- labels stay once there is one
+-- once there is a label, there is one later
 labels_stay : (z : Frozen) (l : Labelled) (ls : List Labelled) (before ns : List PlainNode) → has_insertion (labelled_from z (l ∷ ls) before ns) ≡ true
 labels_stay z l ls before [] = refl
 labels_stay z l ls before (n ∷ ns) = by_kind n.kind (λ ms. labels_stay z l ms (before ++ n ∷ []) ns)
@@ -235,7 +235,7 @@ labels_stay z l ls before (n ∷ ns) = by_kind n.kind (λ ms. labels_stay z l ms
     by_kind (ins i) later = later (ls ++ record { index = length before; line = n.line; inserted = i; label = label_of z (l ∷ ls) before i } ∷ [])
     by_kind (act a) later = later ls
 
--- nodes without a label are no insertions
+-- if no node has a label, none is an insertion
 pub none_labelled : (z : Frozen) (held : ℕ → List Node) (before : List PlainNode) (ns : List Node) → has_insertion (labelled_from z [] before (map (plain_of held) ns)) ≡ false → NoInsertions ns
 none_labelled z held before [] h = tt
 none_labelled z held before (n ∷ ns) h = by_insertion (insertion_of_kind n.kind) refl (none_labelled z held (before ++ plain_of held n ∷ []) ns)
@@ -247,7 +247,7 @@ none_labelled z held before (n ∷ ns) h = by_insertion (insertion_of_kind n.kin
         absurd (true≢false (sym (labels_stay z (record { index = length before; line = n.line; inserted = inserted_of held i; label = label_of z [] before (inserted_of held i) }) [] (before ++ plain_of held n ∷ []) (map (plain_of held) ns))
         ∙ ap (λ (p : PlainNode). has_insertion (labelled_from z (labelled_with z [] before n.line p.kind) (before ++ plain_of held n ∷ []) (map (plain_of held) ns))) (sym (plain_insertion held n i e)) ∙ h))
 
--- a list that begins with an insertion has one
+-- a list that begins with an insertion is not empty
 pub never_empty : (ns : List Node) → ns ≡ [] → begins_with_insertion ns ≡ true → ⊥
 never_empty ns e h = true≢false (sym h ∙ ap begins_with_insertion e)
 
@@ -310,7 +310,7 @@ module _ (b : Builder) (s t : Lists Node) (xs ns : List Node) (body : ℕ) (own 
     body_plain = ap inner_ids (list_got t body (list_at s body ++ xs) g.second) ∙ bare_still;
   }
 
-  -- the page is what is left
+  -- the page is the rest
   pub run_left : list_at t b.page ≡ ns
   run_left = list_got t b.page ns g.first
 

@@ -58,9 +58,9 @@ frozen_course c k l ask None e st fit first again = record {
 frozen_course c k l ask (Some f) e st fit first again =
     subst (λ o. Underway (frozen_or o ask c.classes c.boxes) l c.page c.waiting) (sym e) (subst (λ x. Underway (page_frozen f c.classes c.boxes) x c.page c.waiting) (sym (again refl)) st)
 
--- ---- nodes that wait
+-- ---- waiting nodes
 
--- the list of the first insertion that waits is live, and its class is one of the classes
+-- the list of the first waiting insertion is live, and its class is one of the classes
 pub first_inner : (b : Ids) (s : Lists Node) (n : Node) (ns : List Node) (i : Insertion) → IsOwned b s → list_at s b.waiting ≡ n ∷ ns → insertion_of_kind n.kind ≡ Some i → IsLive s i.list
 first_inner b s n ns i own first e =
     let all : AllLive s (inner_ids (list_at s b.page ++ list_at s b.waiting)) = live-right s (inner_ids (list_at s b.held)) (inner_ids (list_at s b.page ++ list_at s b.waiting)) (subst (AllLive s) (inner-append (list_at s b.held) (list_at s b.page ++ list_at s b.waiting)) (live-right s (box_ids b.boxes) (inner_ids (nodes_of b s)) own.live.1.1.1.1)) in
@@ -114,7 +114,7 @@ plain_insertion held n i e = by_kind n.kind e
         with_insertion line x = record { line = line; kind = ins (inserted_of held x) }
     by_kind (kinds.Act a) e = cc
 
--- what lies ahead begins with a node that lasts and is no box
+-- what is ahead begins with a node that lasts and is no box
 pub ahead_first : (c : Contents) (ask : Ask) (n : PlainNode) (ns : List PlainNode) → c.waiting ≡ n ∷ ns → node_shape n ≡ other → (rest : List PlainNode) × (ahead_of c ask ≡ n ∷ rest)
 ahead_first c ask n ns first shape = by_box (holds_box c.page) refl
   where

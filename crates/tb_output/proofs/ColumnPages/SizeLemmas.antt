@@ -1,4 +1,4 @@
--- The sizes of lists that may stand on a page, and of the insertions of a page.
+-- The sizes of lists that may be on a page, and of the insertions of a page.
 use Rattle.std.proofs.Common.{◌≡◌, refl, sym, subst, ◌∙◌, ap, ℕ, ℤ, pos, ◌+◌, ◌*◌, ◌≤◌, ◌+ℤ◌, ◌-ℤ◌, ◌≤ℤ◌, List, [], ◌∷◌, map, length, w64, to_z, of_z, arith}
 use Rattle.std.specs.Prelude.{All, neg_ℤ}
 use Rattle.std.proofs.lemmas.Int.{ints}
@@ -102,7 +102,7 @@ leaf-shapes (n ∷ ns) = λ i. leaf-shape n.kind i ∷ leaf-shapes ns i
 
 -- ---- the insertions of a page
 
--- the height of the insertions of the first k classes, where these are left of all
+-- the height of the insertions of the first k classes, with these left of all
 pub record IsHeightSoFar (store : Lists Node) (all left : List NoteBox) (k : ℕ) (height : ℤ) : Type 0 where
   pub value : height +ℤ notes_height (notes_shown store left) ≡ notes_height (notes_shown store all)
   pub most : ℕ

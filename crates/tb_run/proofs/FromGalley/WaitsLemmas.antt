@@ -92,7 +92,7 @@ module _ (b : Builder) (s : Lists Node) (line : ℕ) (k : Kind) (h : CanTake b s
       none : inner_ids (n ∷ []) ≡ []
       none = ap (λ o. option_to_list o ++ []) e
 
--- the same under an answer
+-- the same for an `Ok`
 pub on-ok : {T E : Type 0} {A B : Type 0} (r : Result T E) → (A → B) → OnOk r A → OnOk r B
 on-ok (Ok x) f a = f a
 on-ok (Err e) f a = tt

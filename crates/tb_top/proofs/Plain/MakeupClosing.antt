@@ -28,7 +28,7 @@ ended-done done is = refl
 ended-done (page_limit n) is = cc
 ended-done (node_limit n) is = cc
 
--- a failed write or want of memory, after a prefix
+-- a failed write or lack of memory, after a prefix
 pub refuses-cut : (v : View) (whole : MakeupRun) (old new : Option (List ℕ)) (before now : ℕ) (f : PlainRunFault) → IsWriteFault v before now f → AppendsPrefix old new (makeup_text v whole) → RefusesPages v whole old new f
 refuses-cut v whole old new before now faults.Memory h b = b
 refuses-cut v whole old new before now faults.WriteFault h b = b

@@ -132,7 +132,7 @@ pub over-none : (p : Params) (n : ℕ) (t : Bool) → int_lt p.maxnodes (pos n) 
 over-none p n true h k = cc
 over-none p n false h k = h
 
--- the run of a galley from its first state, which the routine stands for
+-- the run of a galley from its first state, which the routine shows
 module _ (v : View) (g : Galley) (r : Routine) (old now : Option (List ℕ)) (t : Totals) (o : Option Ending) (is : state_of r ≡ first_state g.params (classes_of g) (expanded g)) (a : Appends old now (viewed v header)) (nothing : t ≡ no_totals) (over : o ≡ over_limit g.params (held_count (state_of r))) where
   pub start-closing : (ending : Ending) → o ≡ Some ending → ClosesAt v r ending old now t (run_of g)
   start-closing ending some =

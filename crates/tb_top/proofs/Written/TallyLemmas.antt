@@ -99,7 +99,7 @@ counts-next store hs k h old now lt is same room =
 
 -- ---- the tally
 
--- in this state so much was counted: a page for each step of the page number, and less than 2^23 warnings for each firing
+-- in this state this much was counted: a page for each step of the page number, and less than 2^23 warnings for each firing
 pub record IsTally (p : Params) (t : Totals) (s : State) : Type 0 where
   pub pages : t.pages + 1 ≡ s.page
   pub limit : s.page ≤ nat_abs p.maxpages + 1

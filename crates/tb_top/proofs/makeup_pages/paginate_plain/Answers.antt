@@ -110,7 +110,7 @@ returns-in_err-ending-clause-refused g c =
 pub send-requires-clause-pages : goal.send-requires-clause-pages
 send-requires-clause-pages g c = subst (λ hs. ArePages c.turn.new.self.store hs) (sym c.deref.ensures.value) c.in_ok-ending.ensures.pages
 
--- where the makeup goes, by the galley's parameters
+-- what the makeup goes on to, by the galley's parameters
 module _ (p : Params) where
   goes-at : (r q : Makeup) (es : List _) (o : Option MakeupEnding) → r.plain.params ≡ p → GoesTo q o r.plain.params es (state_of r) → GoesTo q o p es (state_of r)
   goes-at r q es o is h = subst (λ (x : Params). GoesTo q o x es (state_of r)) is h
