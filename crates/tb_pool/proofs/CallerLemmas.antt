@@ -1,4 +1,4 @@
--- What callers use of a store of lists after a call: the list that was changed, and each other list.
+-- What callers use of a store of lists after a call: the list that changed, and each other list.
 use Rattle.std.proofs.Common.{◌≡◌, ◌≢◌, refl, sym, ap, subst, ◌∙◌, ℕ, ◌+◌, List, [], ◌∷◌, ◌++◌, length, length-append, unwrap_or, IsSome}
 use Rattle.std.specs.Prelude.{All}
 use Rattle.std.specs.FinMap.{get}
@@ -6,7 +6,7 @@ use Rattle.std.proofs.lemmas.List.Elements.{All-push}
 use Rattle.tb_pool.specs.Lists.{Lists, IsLive, list_at, with_list}
 use Rattle.tb_pool.proofs.MapLemmas.{get-insert_same, get-insert_other}
 
--- one list was changed: it has its new values and is live, and every other id has what it had
+-- one list changed: it has its new values and is live, and every other id has what it had
 module _ {T : Type 0} (s t : Lists T) (l : ℕ) (xs : List T) where
   pub list_same : t.lists ≡ with_list s l xs → list_at t l ≡ xs
   list_same e = ap (λ m. unwrap_or (get m l) []) e ∙ ap (λ o. unwrap_or o []) (get-insert_same s.lists l xs)

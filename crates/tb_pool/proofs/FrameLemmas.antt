@@ -1,4 +1,4 @@
--- How 'only these lists changed' goes on from call to call.
+-- 'Only these lists changed' is carried on from call to call.
 use Rattle.std.proofs.Common.{◌≡◌, refl, sym, subst, ◌∙◌, ℕ, List, [], ◌∷◌, ◌++◌, IsSome}
 use Rattle.tb_pool.specs.Lists.{Lists, IsLive, list_at}
 use Rattle.tb_pool.specs.Frame.{IsNoneOf, OnlyChanged}
@@ -18,7 +18,7 @@ none-join q [] ys h k = k
 none-join q (x ∷ xs) ys h k = (h.0, none-join q xs ys h.1 k)
 
 module _ {T : Type 0} where
-  -- what another list held is what it holds, and it stays live
+  -- another list holds what it held, and stays live
   pub frame-list : (mine ours : List ℕ) (store new : Lists T) → OnlyChanged mine ours store new → (q : ℕ) → IsLive store q → IsNoneOf q mine → list_at new q ≡ list_at store q
   frame-list mine ours store new frame q live none = let same = (frame q live none).0 in rw same refl
 
@@ -36,7 +36,7 @@ module _ {T : Type 0} where
       let second = two q (frame-live mine between store middle one q live none) first.1 in
       (second.0 ∙ first.0, second.1)
 
-  -- a call that is handed some of our lists leaves the others
+  -- a call that gets some of our lists leaves the others
   pub frame-among : (mine ours more left : List ℕ) (store new : Lists T) → OnlyChanged mine ours store new
       → ((q : ℕ) → IsNoneOf q more → IsNoneOf q mine) → ((q : ℕ) → IsNoneOf q more → IsNoneOf q ours → IsNoneOf q left)
       → OnlyChanged more left store new

@@ -14,7 +14,7 @@ use Rattle.tb_pool.proofs.ChainLemmas.{IsChain-stays, IsChain-append, IsChain-dr
 use Rattle.tb_pool.proofs.ShapeLemmas.{put, put_same, put_other, put_both, listed-two, items-shaped, when_eq, when_ne}
 use Rattle.tb_pool.proofs.JoinLemmas.{last_node, first_node}
 
--- the ends of a list of this node alone
+-- the ends of a list that has only this node
 abbrev pub alone : ℕ → Ends
 alone key = record { first = key; last = key; len = 1 }
 
@@ -120,7 +120,7 @@ module _ {T : Type 0} (nodes : Slab (Node T)) (heads : Slab Ends) (free spare pl
             r_last ∙ of_a.last (omega (arith, shorter)) ∙ sym (get_or-drop 1 ks (length (drop 1 ks) - 1) 0 ∙ ap (λ i. get_or ks i 0) shift);
       }
 
-  -- a store in which the first of a list went behind another is sound, and is seen so
+  -- after the first node of a list went to the end of another the store is sound, and contracts see just that change
   pub move_done : (r z : Ends) → r.len + 1 ≡ d.len → r.first ≡ next_at (get nodes d.first) → r.last ≡ d.last
       → z.len ≡ e.len + 1 → (0 < e.len → z.first ≡ e.first) → (e.len ≡ 0 → z.first ≡ d.first) → z.last ≡ d.first
       → IsSound new (with_value (with_value heads a r) b z) free spare places

@@ -45,7 +45,7 @@ pub fn key_at<T>(nodes: &Slab<Node<T>>, ends: Ends, k: usize) -> usize
     }
 }
 
-// The key of the node that is k after the first.
+// The key of the node `k` places after the first.
 fn key_forward<T>(nodes: &Slab<Node<T>>, ends: Ends, k: usize) -> usize
     requires within { k < ends.len }
     requires path { HasPath nodes.now ends }
@@ -58,7 +58,7 @@ fn key_forward<T>(nodes: &Slab<Node<T>>, ends: Ends, k: usize) -> usize
     key
 }
 
-// The key of the node that is k before the last.
+// The key of the node `k` places before the last.
 fn key_backward<T>(nodes: &Slab<Node<T>>, ends: Ends, k: usize) -> usize
     requires within { k < ends.len }
     requires path { HasPath nodes.now ends }

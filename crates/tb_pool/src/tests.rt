@@ -37,6 +37,9 @@ fn moves_values_between_lists(rt: HostRuntime) -> Result<(), Fail> {
     assert_eq!(rt; lists.pop_front(b), None);
     lists.close(b);
     assert_eq!(rt; lists.spare(), 2);
+    lists.clear(a);
+    assert_eq!(rt; lists.len(a), 0);
+    assert_eq!(rt; lists.spare(), 3);
     Ok(())
 }
 
