@@ -88,7 +88,7 @@ shrink_within other s = nothing_within
 more_within : (b k : ℕ) (x y : ℤ) → IsWithin b x → IsWithin (b * k) y → IsWithin (b * suc k) (x +ℤ y)
 more_within b k x y p q = record { low = omega (arith, ints); high = omega (arith, ints) }
 
--- the room of a list is at most that of its nodes' greatest
+-- the room of a list is at most its length times the greatest room of a node
 pub size_within : (ns : List Shape) → All IsSized ns → IsWithin (2147483646 * length ns) (size_of ns)
 size_within [] h = record { low = omega (arith, ints); high = omega (arith, ints) }
 size_within (n ∷ ns) h = more_within 2147483646 (length ns) (room_of n) (size_of ns) (room_within n (All-head IsSized n ns h)) (size_within ns (All-tail IsSized n ns h))
@@ -112,11 +112,11 @@ depth_from_extent : (d : ℤ) (ns : List Shape) → IsExtent d → All IsSized n
 depth_from_extent d [] p h = p
 depth_from_extent d (n ∷ ns) p h = depth_from_extent (depth_after d n) ns (depth_extent d n p (All-head IsSized n ns h)) (All-tail IsSized n ns h)
 
--- the depth at the end of such a list is that of a box
+-- the depth at the end of such a list is in the range of a depth
 pub last_depth_extent : (ns : List Shape) → All IsSized ns → IsExtent (last_depth ns)
 last_depth_extent ns h = depth_from_extent (pos 0) ns (record { low = omega (arith, ints); high = omega (arith, ints) }) h
 
--- the depth that counts is that of a box too, under each limit that is not below 0
+-- so is the depth up to a limit that is not below 0
 limited_extent : (limit d : ℤ) → pos 0 ≤ℤ limit → IsExtent d → IsExtent (min_ℤ d limit)
 limited_extent limit d l p = record { low = grind (arith, ints); high = grind (arith, ints) }
 
@@ -151,7 +151,7 @@ sums_fit limit ns low h before rest e =
 pub summable : (ns : List Node) → All IsSizedNode ns → length ns ≤ 8388608 → IsSummable (map shape_of ns)
 summable ns h few = record { sized = All-map IsSized shape_of ns h; few = omega (arith, few, length-map {B = Shape} ns) }
 
--- what a caller of `list_sums` or of a vertical split owes of a list whose nodes are sized
+-- what a caller of `list_sums` or of a vertical split must show of a list whose nodes are sized
 pub list_nodes_fit : (store : Lists Node) (l : ℕ) → All IsSizedNode (list_at store l) → NodesFit (shapes store l)
 list_nodes_fit store l h = nodes_fit (shapes store l) (All-map IsSized shape_of (list_at store l) h)
 

@@ -5,3 +5,4 @@ pub mod NameMade
 pub mod Weights
 pub mod FitLemmas
 pub mod SumLemmas
+pub mod ExtentLemmas

@@ -1,4 +1,4 @@
--- The table of the bytes that may stand in a name.
+-- The table of the bytes that may be in a name.
 use Rattle.std.proofs.Common.{◌≡◌, ℕ, zero, suc, ◌<◌, Bool, true, false, ◌&&◌, slice_index_or, refl, arith, ⊎_elim}
 use Rattle.std.proofs.Math.Nat.{eq-or-lt_of_le}
 use Rattle.tb_node.specs.declared.names.TheConstants.{NAME_BYTES}

@@ -10,7 +10,7 @@ use Rattle.tb_node.specs.Small.{IsSmall, IsSmallShape}
 use Rattle.tb_node.specs.Fit.{NodesFit, SumsFit}
 use Rattle.tb_node.proofs.AddLemmas.{sums-append}
 
--- the sums are those of a front of the list, and these nodes are left
+-- the sums are those of the first nodes of the list, and these nodes are left
 pub record Summing (limit : ℤ) (ns : List Shape) (s : Sums) (rest : List Shape) : Type 0 where
   pub before : List Shape
   pub whole : before ++ rest ≡ ns

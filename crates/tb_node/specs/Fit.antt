@@ -1,4 +1,4 @@
--- When the sums of a list fit: what a call asks of a list that it adds up.
+-- When the sums of a list fit: what a call requires of a list that it adds up.
 use Rattle.std.specs.Prelude.{◌≡◌, ℕ, ◌≤◌, ℤ, pos, neg_ℤ, ◌≤ℤ◌, List, ◌∷◌, ◌++◌, length, map, All}
 use Rattle.tb_pool.specs.Lists.{Lists, list_at}
 use Rattle.tb_scaled.specs.Scaled.{max_dimen}

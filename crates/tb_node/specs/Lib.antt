@@ -2,6 +2,7 @@ pub mod NameField
 pub mod NodeView
 pub mod Shape
 pub mod Plain
+pub mod Roles
 pub mod Sums
 pub mod Names
 pub mod Add

@@ -2,13 +2,16 @@
 #![tactic(auto)]
 
 mod names;
+mod roles;
 mod signals;
+mod sizes;
 mod summing;
 #[cfg(test)]
 mod tests;
 
 pub use names::name_of;
 pub use signals::{CLEAR_PENALTY, FOOTNOTES, HOLD_PENALTY, PAR_PENALTY, VERT_PENALTY};
+pub use sizes::list_extent;
 use std::marker::Model;
 pub use summing::{add, list_sums, stretch_sums};
 use tb_pool::ListId;
@@ -49,7 +52,7 @@ impl Name {
     }
 }
 
-/// The side on which a marginal note stands.
+/// The side that a marginal note is on.
 #[derive(Clone, Copy)]
 pub enum Side {
     /// Left of the column.
@@ -58,7 +61,7 @@ pub enum Side {
     Right,
 }
 
-/// Where a float stands on a page, or the list that it goes to.
+/// Where a float is on a page, or the list that it goes to.
 #[derive(Clone, Copy)]
 pub enum Where {
     /// In the text, where it came.
@@ -88,7 +91,7 @@ pub enum What {
         name: Name,
         /// Its class.
         class: u8,
-        /// Where it stands.
+        /// Where it is.
         place: Where,
         /// The line of the float in the galley.
         item: u32,
@@ -97,7 +100,7 @@ pub enum What {
     Margin {
         /// The note's name.
         name: Name,
-        /// The side that it stands on.
+        /// The side that it is on.
         side: Side,
         /// By how much it was moved down.
         shift: i64,
@@ -115,19 +118,19 @@ pub enum What {
 pub struct Insertion {
     /// Its class.
     pub class: u8,
-    /// The list of its material, which holds no insertion and no act.
+    /// Its list, which holds no insertion and no act.
     pub list: ListId,
     /// The height plus the depth of its list.
     pub height: i64,
-    /// The depth limit of its list's front where it is split.
+    /// The depth limit of the front of its list, if it is split.
     pub split_depth: i64,
-    /// The top skip of the rest where it is split.
+    /// The top skip of the rest, if it is split.
     pub split_top: i64,
     /// The penalty for an insertion that floats to a later page.
     pub floating: i64,
 }
 
-/// The areas that floats can be kept out of on a page.
+/// The areas of a page that floats can be kept out of.
 #[derive(Clone, Copy)]
 pub enum Area {
     /// The top and the bottom.
@@ -232,9 +235,9 @@ pub enum Kind {
     Pen(i64),
     /// A mark.
     Mark(Name),
-    /// A note, which takes no room and shows where it came to stand.
+    /// A note, which takes no room and is reported where it is placed.
     Note(Name),
-    /// A node that takes no room and shows nothing.
+    /// A node that takes no room and is not reported.
     Whatsit,
     /// An insertion.
     Ins(Insertion),
@@ -263,15 +266,35 @@ impl Model for Node {
     ghost inverse = { λ v. record { line = v.line; kind = v.kind } };
 }
 
+/// What a node is in a page's list. All but insertions and acts is matter, which may be in any list.
+#[derive(Clone, Copy)]
+pub enum Role {
+    /// A box, a rule, glue, a kern, a penalty, a mark, a note or a whatsit.
+    Matter,
+    /// An insertion.
+    Insertion(Insertion),
+    /// An act of the output routine.
+    Act(Act),
+}
+
 /// The sums of a list's nodes under a depth limit (TeX: The Program §982).
 #[derive(Clone, Copy)]
 pub struct Sums {
     /// The natural size of the list without its depth.
     pub total: i64,
-    /// The depth of the last box or rule, where no glue and no kern follows it, and at most the limit.
+    /// The depth of the last box or rule, at most the limit; 0 if glue or a kern follows it.
     pub depth: i64,
     /// The stretch of each order: normal, fil, fill, filll.
     pub stretch: [i64; 4],
     /// The shrink.
     pub shrink: i64,
+}
+
+/// What a list takes, in sp.
+#[derive(Clone, Copy)]
+pub struct Extent {
+    /// The heights and depths of its boxes and rules, and the widths of its glue and kerns.
+    pub room: i64,
+    /// The depth of the last box or rule; 0 if glue or a kern follows it.
+    pub depth: i64,
 }

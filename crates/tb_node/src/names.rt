@@ -6,7 +6,7 @@ ghost use Rattle.tb_node.specs.Names.{is_name, is_alphanumeric, is_name_byte};
 
 use crate::Name;
 
-/// These bytes as a name; `None` where they are none.
+/// These bytes as a name; `None` if they are no name.
 pub fn name_of(bytes: &[u8]) -> Option<Name>
     ensures { result ≡ if is_name bytes.now then Some bytes.now else None }
 {
@@ -51,7 +51,8 @@ fn is_name_byte(byte: u8) -> bool
     NAME_BYTES[usize::from(byte)]
 }
 
-// Whether each byte may stand in a name: letters, digits, `.`, `_` and `-`. A look here is half the cost of the tests.
+// Whether each byte may be in a name: letters, digits, `.`, `_` and `-`. A look-up here costs half of what the tests
+// do.
 const NAME_BYTES: [bool; 256] = [
     false, false, false, false, false, false, false, false, false, false, false, false, false,
     false, false, false, false, false, false, false, false, false, false, false, false, false,

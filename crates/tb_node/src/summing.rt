@@ -21,7 +21,7 @@ fn kept_depth(max_depth: i64, depth: i64) -> i64
     if max_depth < depth { max_depth } else { depth }
 }
 
-// A total with the depth before it and the room of a node, less the depth that is kept.
+// A total, with the depth before a node and the node's room added, less the depth that is kept.
 fn laid(total: i64, depth: i64, room: i64, kept: i64) -> i64
     requires total { IsAmount total }
     requires depth { IsAmount depth }
@@ -32,7 +32,7 @@ fn laid(total: i64, depth: i64, room: i64, kept: i64) -> i64
     total + depth + room - kept
 }
 
-// The room and the new depth go into the total; what is deeper than the limit counts at once.
+// Adds a room with a new depth: the depth is kept up to the limit, and what is beyond the limit stays in the total.
 fn lay(s: &mut Sums, room: i64, depth: i64, max_depth: i64)
     requires small { IsSmall s.old }
     requires room { IsAmount room }
@@ -45,7 +45,7 @@ fn lay(s: &mut Sums, room: i64, depth: i64, max_depth: i64)
     s.depth = kept;
 }
 
-// The place of an order among the four amounts.
+// The index of an order among the four amounts.
 fn order_place(o: Order) -> usize
     ensures value { result ≡ order_index o }
     ensures small { result < 4 }
@@ -58,7 +58,7 @@ fn order_place(o: Order) -> usize
     }
 }
 
-// The amount at a place with more.
+// The amount at an index grows by this.
 fn raise(amounts: &mut [i64; 4], k: usize, v: i64)
     requires place { k < 4 }
     requires small { IsAmount (slice_index_or amounts.old k (pos 0)) }
@@ -80,7 +80,7 @@ fn lay_box(s: &mut Sums, height: i64, depth: i64, max_depth: i64)
     lay(s, room, depth, max_depth);
 }
 
-/// Adds a node to the sums of the list that it follows, under the depth limit of those sums (TeX: The Program §1002 to
+/// Adds a node to the sums of the list before it, under the depth limit of those sums (TeX: The Program §1002 to
 /// §1004).
 pub fn add(s: &mut Sums, n: &Node, max_depth: i64)
     requires small { IsSmall s.old }
@@ -112,7 +112,7 @@ fn lay_glue(s: &mut Sums, g: Glue, max_depth: i64)
     stretch_sums(s, g);
 }
 
-/// Adds the stretch and the shrink of glue to the sums, and not its width (TeX: The Program §1009).
+/// Adds the stretch and the shrink of glue to the sums, but not its width (TeX: The Program §1009).
 pub fn stretch_sums(s: &mut Sums, g: Glue)
     requires stretch { AreAmounts s.old.stretch }
     requires shrink { IsAmount s.old.shrink }

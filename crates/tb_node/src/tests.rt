@@ -6,7 +6,7 @@ ghost use Rattle.tb_node.specs.declared.Node.{Node as NodeOf};
 ghost use Rattle.tb_node.specs.Fit.{IsSizedNode, IsSized};
 ghost use Rattle.tb_node.specs.Plain.{shape_of_kind};
 
-use crate::{Kind, Node, What, list_sums, name_of};
+use crate::{Kind, Node, What, list_extent, list_sums, name_of};
 use std::test::Fail;
 use tb_pool::{ListId, Lists};
 use tb_scaled::{Glue, Order};
@@ -55,6 +55,9 @@ fn adds_up_a_list(rt: HostRuntime) -> Result<(), Fail> {
     assert_eq!(rt; sums.depth, 1);
     assert_eq!(rt; sums.stretch, [0, 2, 0, 0]);
     assert_eq!(rt; sums.shrink, 1);
+    let extent = list_extent(&lists, l);
+    assert_eq!(rt; extent.room, 31);
+    assert_eq!(rt; extent.depth, 3);
     Ok(())
 }
 
