@@ -1,4 +1,4 @@
--- What a decision is where its tests are known.
+-- What a decision is if its tests are known.
 use Rattle.std.proofs.Common.{◌≡◌, Bool, true, false, List, sym, ap, ◌∙◌}
 use Rattle.std.specs.Prelude.{ℤ, ◌+ℤ◌, ◌&&◌, if◌then◌else◌}
 use Rattle.tb_scaled.specs.Scaled.{max_ℤ}
@@ -21,7 +21,7 @@ pub bottom_by : (p : Params) (l : FloatLists) (s : Suppress) (r : ℤ) (f : Floa
 bottom_by p l s r f true e = ap (λ b. where_of (if b then at_bottom else deferred)) e
 bottom_by p l s r f false e = ap (λ b. where_of (if b then at_bottom else deferred)) e
 
--- the top is tried with so much required
+-- the top is tried with this much required
 pub top_tried : (p : Params) (l : FloatLists) (s : Suppress) (r above : ℤ) (f : Float) → tries_top p l s f ≡ true → above ≡ r +ℤ next_separator p l.top → where_of (top_or_bottom p l s r f) ≡ where_of (if fits_above p l above f then at_top else bottom_or_deferred p l s above f)
 top_tried p l s r above f e is =
     ap (λ b. where_of (if b then (if fits_above p l (r +ℤ next_separator p l.top) f then at_top else bottom_or_deferred p l s (r +ℤ next_separator p l.top) f) else bottom_or_deferred p l s r f)) e ∙ ap (λ a. where_of (if fits_above p l a f then at_top else bottom_or_deferred p l s a f)) (sym is)
@@ -38,7 +38,7 @@ pub not_here : (p : Params) (l : FloatLists) (s : Suppress) (r : ℤ) (f : Float
 not_here p l s r f w e goes =
     goes ∙ ap (λ b. if b then (if fits_column p l (r +ℤ p.intextsep.width) then Here else where_of (top_or_bottom p l s (r +ℤ p.intextsep.width) f)) else where_of (top_or_bottom p l s r f)) (sym e)
 
--- the text is tried with so much required
+-- the text is tried with this much required
 here_tried : (p : Params) (l : FloatLists) (s : Suppress) (r inside : ℤ) (f : Float) → f.places.h ≡ true → inside ≡ r +ℤ p.intextsep.width → here_or_area p l s r f ≡ (if fits_column p l inside then Here else where_of (top_or_bottom p l s inside f))
 here_tried p l s r inside f e is =
     ap (λ b. if b then (if fits_column p l (r +ℤ p.intextsep.width) then Here else where_of (top_or_bottom p l s (r +ℤ p.intextsep.width) f)) else where_of (top_or_bottom p l s r f)) e ∙ ap (λ a. if fits_column p l a then Here else where_of (top_or_bottom p l s a f)) (sym is)

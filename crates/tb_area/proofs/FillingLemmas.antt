@@ -37,7 +37,7 @@ way-start from walk w l none classes left = record {
   ends = ap (λ n. walk (take n (floats_of from l)) (drop n (floats_of from l)) l) none;
 }
 
--- where none is left, the lists are those with which the walk ends
+-- if none is left, the lists are those with which the walk ends
 pub way-over : (from : Part) (walk : Walk) (w : Kept) (l end : FloatLists) → ((before : List Float) (m : FloatLists) → walk before [] m ≡ m) → length (floats_of from l) ≤ w.count → IsOnWay from walk w l end → l ≡ end
 way-over from walk w l end stops over way =
     let fs = floats_of from l in
@@ -61,7 +61,7 @@ way-stays from walk w v l end f more there classes left stays way =
 
 -- ---- all others stay
 
--- where each float is of the class of one that stays, and one of such a class always stays, all others stay
+-- if each float is of the class of one that stays, and one of such a class always stays, all others stay
 way-full : (from : Part) (walk : Walk) (w v : Kept) (l end : FloatLists) → v.count ≡ length (floats_of from l) → v.classes ≡ w.classes → AreOfClasses (take w.count (floats_of from l)) (floats_of from l) → ((before rest : List Float) (f : Float) → has_class f.class before ≡ true → walk before (f ∷ rest) l ≡ walk (before ++ f ∷ []) rest l) → IsOnWay from walk w l end → IsOnWay from walk v l end
 way-full from walk w v l end all same full stays way =
     let fs = floats_of from l in
@@ -130,7 +130,7 @@ area-goes p s w l m end f a still there decided moved way =
     (gone-deferred a f before rest l (whole-at l.deferred w.count f there) ∙ ap (λ b. b ++ rest) (still before))
     (ap (λ c. filled p s (still_before c f before) rest (gone_to c f before rest l)) decided ∙ ap (λ b. filled p s b rest gone) (still before)) way)
 
--- where the float at a place would go neither to the top nor to the bottom, and none is left if it stays, none is left
+-- if the float at a place goes neither to the top nor to the bottom, and none is left if it stays, none is left
 pub area-over : (fs : List Float) (k : ℕ) (r : Where) (a : Float → AreaPlace) → ((f : Float) → slice_get fs k ≡ Some f → r ≡ where_of (a f)) → r ≢ Top → r ≢ Bottom → (r ≡ Deferred → length fs ≤ k) → length fs ≤ k
 area-over [] k r a goes top bottom stays = omega arith
 area-over (f ∷ fs) zero r a goes top bottom stays = by_place (a f) (goes f refl)
@@ -142,7 +142,7 @@ area-over (f ∷ fs) zero r a goes top bottom stays = by_place (a f) (goes f ref
 area-over (f ∷ fs) (suc k) r a goes top bottom stays =
     omega (arith, area-over fs k r a goes top bottom (λ e. omega (arith, stays e)))
 
--- the lists where the float at a place went to the top or the bottom
+-- the lists after the float at a place went to the top or the bottom
 pub gone-top : (k : ℕ) (f : Float) (v : FloatPool) → (moved_float parts.Deferred k parts.Top f v).lists ≡ gone_to at_top f (take k v.lists.deferred) (drop (suc k) v.lists.deferred) v.lists
 gone-top k f v = ap (λ (fs : List Float). record v.lists { top = v.lists.top ++ f ∷ []; deferred = fs }) (without_place-parts k v.lists.deferred)
 
@@ -208,7 +208,7 @@ double-goes from waits p s w l m end f there decided moved way =
     (gone_double-waiting from waits true f before rest l (whole-at fs w.count f there))
     (ap (λ b. doubled from p s (still_single b f before) rest (gone_double from b f before rest l)) decided) way)
 
--- where the float at a place would not go above both columns, and none is left if it stays, none is left
+-- if the float at a place does not go above both columns, and none is left if it stays, none is left
 pub double-over : (fs : List Float) (k : ℕ) (r : Where) (a : Float → Bool) → ((f : Float) → slice_get fs k ≡ Some f → r ≡ (if a f then Double else Deferred)) → r ≢ Double → (r ≡ Deferred → length fs ≤ k) → length fs ≤ k
 double-over [] k r a goes above stays = omega arith
 double-over (f ∷ fs) zero r a goes above stays = by_place (a f) (goes f refl)

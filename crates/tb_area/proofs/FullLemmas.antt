@@ -1,4 +1,4 @@
--- Where floats of all classes stay, no later float goes.
+-- If floats of all classes stay, no later float goes.
 use Rattle.std.proofs.Common.{◌≡◌, ℕ, zero, suc, ◌==◌, Bool, true, false, not, ◌||◌, ◌&&◌, List, [], ◌∷◌, ◌++◌, take, drop, Some, slice_get, refl, sym, ap, subst, ◌∙◌}
 use Rattle.std.specs.Prelude.{◌+ℤ◌, if◌then◌else◌}
 use Rattle.std.proofs.lemmas.Bool.{eq-eqb}
@@ -48,7 +48,7 @@ has-there (g ∷ fs) (suc n) f got = has-later f.class g fs (has-there fs n f go
 has-take : (k n : ℕ) (fs : List Float) → has_class k (take n fs) ≡ true → has_class k fs ≡ true
 has-take k n fs h = subst (λ gs. has_class k gs ≡ true) (take-append-drop n fs) (has-more k (take n fs) (drop n fs) h)
 
--- a set with the classes of the first floats has those of all where no other class is left
+-- a set with the classes of the first floats has those of all if no other class is left
 pub all-classes : (s : ClassSet) (n : ℕ) (fs : List Float) → AreClassesOf s (take n fs) → AreOfClasses (take n fs) fs → AreClassesOf s fs
 all-classes s n fs are full = λ k low. are k low ∙ ap Some (same (has_class k (take n fs)) (has_class k fs) (has-take k n fs) (full k))
   where
@@ -57,7 +57,7 @@ all-classes s n fs are full = λ k low. are k low ∙ ap Some (same (has_class k
     same false true there back = back refl
     same false false there back = refl
 
--- where a float leaves the list, the classes of the others are still counted
+-- if a float leaves the list, the classes of the others are still counted
 known-without : (known : List Bool) (n : ℕ) (fs : List Float) → AreKnown known fs → AreKnown known (take n fs ++ drop (suc n) fs)
 known-without known zero [] h = tt
 known-without known (suc n) [] h = tt

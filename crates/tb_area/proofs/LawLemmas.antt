@@ -54,7 +54,7 @@ share-fits share taken height false e plain = grind (arith, ints)
 
 -- ---- the decisions
 
--- what holds where a float may enter a column
+-- what holds if a float may enter a column
 record Enters (p : Params) (l : FloatLists) (before : List Float) (f : Float) : Type 0 where
   single : f.wide ≡ false
   first : HasNone f before
@@ -168,7 +168,7 @@ double-by p l s before f true e =
 pub double-laws : (p : Params) (l : FloatLists) (s : Suppress) (before : List Float) (f : Float) → KeepsLaws p l before f (double_place p l s before f)
 double-laws p l s before f = double-by p l s before f (goes_double p l s before f) refl
 
--- ---- the same of what a call answers
+-- ---- the same of what a call returns
 
 pub current-kept : (p : Params) (l : FloatLists) (s : Suppress) (h : ℤ) (w : Where) → ((f : Float) → slice_get l.current 0 ≡ Some (entries.Float f) → w ≡ current_place p l s h f) → (f : Float) → slice_get l.current 0 ≡ Some (entries.Float f) → KeepsLaws p l l.deferred f w
 current-kept p l s h w place f there = subst (KeepsLaws p l l.deferred f) (sym (place f there)) (current-laws p l s h f)

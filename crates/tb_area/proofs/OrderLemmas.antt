@@ -32,7 +32,7 @@ none-of k (f ∷ fs) e =
 of-append : (k : ℕ) (xs ys : List Float) → of_class k (xs ++ ys) ≡ of_class k xs ++ of_class k ys
 of-append k xs ys = filter-append (λ f. f.class == k) xs ys
 
--- the float is of the class and none stands before, or it is of another one
+-- the float is of the class and none comes before, or it is of another one
 past : (k : ℕ) (f : Float) (before : List Float) → HasNone f before → of_class k (f ∷ []) ++ of_class k before ≡ of_class k before ++ of_class k (f ∷ [])
 past k f before none = by_class (f.class == k) refl
   where
@@ -107,7 +107,7 @@ filled-order k p s before (f ∷ rest) l e =
     let laws = next-laws p l s before f in
     filled-order k p s (still_before a f before) rest (gone_to a f before rest l) (gone-deferred a f before rest l e) ∙ gone-order k a f before rest l e laws.order
 
--- the floats of a class keep their order where the next column is filled
+-- the floats of a class keep their order as the next column is filled
 pub fill-order : (k : ℕ) (p : Params) (s : Suppress) (l : FloatLists) → column_order k (filled p s [] l.deferred l) ≡ column_order k l
 fill-order k p s l = filled-order k p s [] l.deferred l refl
 
@@ -133,6 +133,6 @@ doubled-order from w k p s before (f ∷ rest) l e =
     let laws = double-laws p l s before f in
     doubled-order from w k p s (still_single b f before) rest (gone_double from b f before rest l) (gone_double-waiting from w b f before rest l e) ∙ gone_double-order from w k b f before rest l e laws.order
 
--- the floats of a class keep their order where the space above both columns is filled
+-- the floats of a class keep their order as the space above both columns is filled
 pub double-order : (from : Part) → IsWaiting from → (k : ℕ) (p : Params) (s : Suppress) (l : FloatLists) → double_order from k (doubled from p s [] (floats_of from l) l) ≡ double_order from k l
 double-order from w k p s l = doubled-order from w k p s [] (floats_of from l) l refl

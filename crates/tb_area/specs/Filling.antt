@@ -7,7 +7,7 @@ use Rattle.tb_float.specs.declared.Part.{Part}
 use Rattle.tb_float.specs.Lists.{FloatLists, with_floats_of}
 use Rattle.tb_area.specs.Area.{AreaPlace, at_top, at_bottom, deferred, next_area_place, goes_double}
 
--- the lists where the float that stood between these deferred ones goes to an area, or stays
+-- the lists after the float between these deferred ones goes to an area, or stays
 abbrev pub gone_to : AreaPlace → Float → List Float → List Float → FloatLists → FloatLists
 gone_to at_top f before rest l = record l { top = l.top ++ f ∷ []; deferred = before ++ rest }
 gone_to at_bottom f before rest l = record l { bottom = l.bottom ++ f ∷ []; deferred = before ++ rest }
@@ -19,21 +19,21 @@ still_before at_top f before = before
 still_before at_bottom f before = before
 still_before deferred f before = before ++ f ∷ []
 
--- each deferred float is tried for the next column, in order; before are those that stay
+-- each deferred float is tried for the next column, in order; those before it are those that stay
 abbrev pub filled : Params → Suppress → List Float → List Float → FloatLists → FloatLists
 filled p s before [] l = l
 filled p s before (f ∷ rest) l =
     let place = next_area_place p l s before f in
     filled p s (still_before place f before) rest (gone_to place f before rest l)
 
--- the lists where the float that stood between these ones of a list goes above both columns, or stays
+-- the lists after the float between these ones of a list goes above both columns, or stays
 abbrev pub gone_double : Part → Bool → Float → List Float → List Float → FloatLists → FloatLists
 gone_double from goes f before rest l = if goes then with_floats_of from (before ++ rest) (record l { double = l.double ++ f ∷ [] }) else l
 
 abbrev pub still_single : Bool → Float → List Float → List Float
 still_single goes f before = if goes then before else before ++ f ∷ []
 
--- each float of a list is tried for the space above the next two columns, in order; before are those that stay
+-- each float of a list is tried for the space above the next two columns, in order; those before it are those that stay
 abbrev pub doubled : Part → Params → Suppress → List Float → List Float → FloatLists → FloatLists
 doubled from p s before [] l = l
 doubled from p s before (f ∷ rest) l =

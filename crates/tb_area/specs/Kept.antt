@@ -1,4 +1,4 @@
--- How a walk over a list in which floats wait stands. No public clause cites this module.
+-- A walk over a list in which floats wait, on its way. No public clause cites this module.
 use Rattle.std.specs.Prelude.{◌≡◌, ◌≤◌, List, length, take, drop}
 use Rattle.tb_node.specs.declared.Float.{Float}
 use Rattle.tb_float.specs.declared.Part.{Part}

@@ -1,4 +1,4 @@
--- What holds of a float where it goes: its own places, the order of its class, and the limits.
+-- What holds of a float and the place to which it goes: its own places, the order of its class, and the limits.
 use Rattle.std.specs.Prelude.{◌≡◌, ◌<ℤ◌, ℕ, ℤ, pos, ◌+ℤ◌, ◌==◌, true, false, List, ◌++◌, filter}
 use Rattle.tb_scaled.specs.Scaled.{fraction_of}
 use Rattle.tb_node.specs.declared.Float.{Float}
@@ -20,12 +20,12 @@ IsAllowed f Page = ⊥
 IsAllowed f Double = (f.places.t ≡ true) × (f.wide ≡ true)
 IsAllowed f Deferred = Unit {0}
 
--- no float of its class stands in the list
+-- no float of its class is in the list
 abbrev pub HasNone : Float → List Float → Type 0
 HasNone f fs = has_class f.class fs ≡ false
 
--- no float of its class is passed by: none stands before it, in the text or at the bottom of the column above which it
--- would come, or at the bottom where it goes into the text
+-- no float of its class is passed by: none comes before it, is in the text or at the bottom of the column if it goes to the
+-- top, or is at the bottom if it goes into the text
 abbrev pub PassesNone : FloatLists → List Float → Float → Where → Type 0
 PassesNone l before f Here = HasNone f before × HasNone f l.bottom
 PassesNone l before f Top = HasNone f before × HasNone f l.here × HasNone f l.bottom
@@ -53,7 +53,7 @@ KeepsLimits p l f Page = ⊥
 KeepsLimits p l f Double = IsBelow p l limits.Double × FitsShare p.dbltopfraction p.textheight (double_taken p l) f
 KeepsLimits p l f Deferred = Unit {0}
 
--- the laws of a decision; the mark `!` passes the limits by
+-- the laws of a decision; the mark `!` lifts the limits
 pub record KeepsLaws (p : Params) (l : FloatLists) (before : List Float) (f : Float) (place : Where) : Type 0 where
   pub allowed : IsAllowed f place
   pub order : PassesNone l before f place
@@ -63,7 +63,7 @@ pub record KeepsLaws (p : Params) (l : FloatLists) (before : List Float) (f : Fl
 abbrev pub of_class : ℕ → List Float → List Float
 of_class k fs = filter (λ f. f.class == k) fs
 
--- the floats of a class that stand at the top, at the bottom and among the deferred ones, in the order in which they ship
+-- the floats of a class at the top, at the bottom and among the deferred ones, in the order in which they ship
 abbrev pub column_order : ℕ → FloatLists → List Float
 column_order k l = of_class k (l.top ++ l.bottom ++ l.deferred)
 

@@ -15,7 +15,7 @@ use tb_float::{Part, Pool, Suppress};
 use tb_node::{Float, Where};
 use tb_param::Params;
 
-/// Where a deferred float goes in the next column, if it is known whether one of its class stands before it.
+/// Where a deferred float goes in the next column, by whether one of its class comes before it.
 pub(crate) fn next_place(pool: &Pool, p: &Params, s: &Suppress, earlier: bool, f: &Float) -> Where
     requires params { AreFloatParams p.now }
     requires extent { IsExtent f.now.height }
@@ -29,7 +29,7 @@ pub(crate) fn next_place(pool: &Pool, p: &Params, s: &Suppress, earlier: bool, f
     }
 }
 
-/// Where a float that waits goes after a pair of columns, if it is known whether one of its class stands before it.
+/// Where a float that waits goes after a pair of columns, by whether one of its class comes before it.
 pub(crate) fn double_place(pool: &Pool, p: &Params, earlier: bool, f: &Float) -> Where
     requires { AreFloatParams p.now }
     ensures { (s : Suppress) (before : List PlainFloat) → earlier ≡ has_class f.now.class before → result ≡ double_place p.now pool.now.lists s before f.now }
@@ -41,7 +41,7 @@ pub(crate) fn double_place(pool: &Pool, p: &Params, earlier: bool, f: &Float) ->
     }
 }
 
-/// A float whose class stands at the bottom goes there or nowhere.
+/// A float goes to the bottom or nowhere if one of its class is there.
 pub(crate) fn by_class(pool: &Pool, p: &Params, s: &Suppress, required: i64, f: &Float) -> Where
     requires params { AreFloatParams p.now }
     requires required { IsRequired 0 required }
@@ -88,7 +88,7 @@ fn area_place(pool: &Pool, p: &Params, s: &Suppress, required: i64, f: &Float) -
     }
 }
 
-// Whether the top has room for a float that may stand there, where so much is required of the column.
+// Whether the top has room for a float that may go there, if this much is required of the column.
 fn fits_above(pool: &Pool, p: &Params, required: i64, f: &Float) -> bool
     requires { AreFloatParams p.now }
     ensures { result ≡ fits_above p.now pool.now.lists required f.now }
@@ -119,7 +119,7 @@ fn goes_bottom(pool: &Pool, p: &Params, s: &Suppress, required: i64, f: &Float) 
     tries_bottom(pool, p, s, f) && fits_below(pool, p, below, f)
 }
 
-// Whether the bottom has room for a float, where so much is required of the column.
+// Whether the bottom has room for a float, if this much is required of the column.
 fn fits_below(pool: &Pool, p: &Params, required: i64, f: &Float) -> bool
     requires { AreFloatParams p.now }
     ensures { result ≡ fits_below p.now pool.now.lists required f.now }

@@ -1,6 +1,6 @@
 //! The floats that wait go to the next column, or above both columns of the next page: one walk over their list, which
-//! reads until a float has a place, moves it, and goes on behind those that stay. It ends where floats of all classes
-//! stay, since no later one can go then.
+//! reads until a float has a place, moves it, and goes on behind those that stay. It ends once floats of all classes stay,
+//! since no later one can go then.
 ghost use Rattle.std.specs.Prelude.{ℕ, ◌≡◌, ◌≢◌, ◌<◌, ◌≤◌, ◌+◌, [], ◌∷◌, ◌++◌, List, length, take, slice_get, Some, true};
 ghost use Rattle.tb_node.specs.declared.Float.{Float as PlainFloat};
 ghost use Rattle.tb_float.specs.declared.Suppress.{Suppress};
@@ -19,7 +19,7 @@ use tb_float::{ClassSet, Part, Pool, Suppress};
 use tb_node::{Float, Where};
 use tb_param::Params;
 
-// The floats that were tried and stay: they stand first in their list.
+// The floats that were tried and stay: they come first in their list.
 #[derive(Drop)]
 struct Kept {
     // How many they are.
@@ -53,8 +53,8 @@ impl Kept {
 }
 
 /// The deferred floats that have a place at the top or the bottom of the next column go there, one after another (after
-/// LaTeX's `\@startcolumn`, ltoutput.dtx); the others stay in order. None is lost, and floats of one class ship in the
-/// order in which they would have shipped.
+/// LaTeX's `\@startcolumn`, ltoutput.dtx); the others stay in order. None is lost, and floats of one class ship in the same
+/// order as without this call.
 pub fn fill_column(pool: &mut Pool, p: &Params, s: &Suppress)
     requires { AreFloatParams p.now }
     ensures lists { pool.new.lists ≡ filled p.now s.now [] pool.old.lists.deferred pool.old.lists }
@@ -72,8 +72,8 @@ pub fn fill_column(pool: &mut Pool, p: &Params, s: &Suppress)
     }
 }
 
-// Where the next deferred float goes that has a place in the next column: it stands behind those that stay. None of
-// those that are left has a place exactly if it returns deferred.
+// Where the next deferred float goes that has a place in the next column; it comes behind those that stay. It returns
+// deferred exactly if none of those that are left has a place.
 fn next_moved(pool: &Pool, p: &Params, s: &Suppress, kept: &mut Kept) -> Where
     requires { AreFloatParams p.now }
     ensures way { (end : FloatLists) → IsOnWay Part.Deferred (filled p.now s.now) kept.old pool.now.lists end → IsOnWay Part.Deferred (filled p.now s.now) kept.new pool.now.lists end }
@@ -131,8 +131,8 @@ pub fn fill_double(pool: &mut Pool, p: &Params, from: Part)
     }
 }
 
-// Where the next float of the list goes that has a place above both columns: it stands behind those that stay. None of
-// those that are left has a place exactly if it returns deferred.
+// Where the next float of the list goes that has a place above both columns; it comes behind those that stay. It returns
+// deferred exactly if none of those that are left has a place.
 fn next_double(pool: &Pool, p: &Params, from: Part, kept: &mut Kept) -> Where
     requires params { AreFloatParams p.now }
     requires waiting { IsWaiting from }

@@ -17,7 +17,7 @@ const NOT_SUPPRESSED: Suppress = Suppress {
     bottom: false,
 };
 
-// A column of height 100 without separators, whose bottom takes so many floats.
+// A column of height 100 without separators, whose bottom takes this many floats.
 fn plain_params(bottomnumber: u8) -> Params
     ensures { AreFloatParams result }
 {
@@ -82,7 +82,7 @@ fn part_of(place: Where) -> Part
     }
 }
 
-// Where the float goes in the current column, and it goes there.
+// Where the float goes in the current column; it goes there.
 fn place_current(pool: &mut Pool, p: &Params, page_height: u8) -> Option<char>
     requires { AreFloatParams p.now }
 {
@@ -120,7 +120,7 @@ fn double(pool: &Pool, p: &Params, from: Part, k: usize) -> Option<char>
 #[test]
 fn floats_go_where_they_fit(rt: HostRuntime) -> Result<(), Fail> {
     let name = name_of(b"F").ok_or("name")?;
-    // How many floats the bottom takes, and then at page height 20 two floats: class, places, height and list of each.
+    // How many floats the bottom takes, and two floats at page height 20: class, places, height and list of each.
     let rows = [
         (1, (1, "ht", 80, 'd'), (2, "ht", 80, 'd')),
         (1, (1, "ht", 79, 'h'), (2, "t", 1, 't')),

@@ -88,7 +88,7 @@ pub(crate) fn fits_bottom(pool: &Pool, p: &Params, f: &Float) -> bool
     f.bang || f.height < pool.room(p, Part::Bottom)
 }
 
-/// Whether no float of its class stands in the text or at the bottom, where it would come after the top.
+/// Whether no float of its class is in the text or at the bottom, since it would come after the top.
 pub(crate) fn is_above_its_class(pool: &Pool, f: &Float) -> bool
     ensures { result ≡ is_above_its_class pool.now.lists f.now }
 {
@@ -111,7 +111,7 @@ pub(crate) fn tries_bottom(pool: &Pool, p: &Params, s: &Suppress, f: &Float) -> 
     f.places.b && may_come(pool, p, s, Limit::Bottom, f)
 }
 
-/// Whether a float may enter a column at all, where it is known whether one of its class stands before it.
+/// Whether a float may enter a column at all, by whether one of its class comes before it.
 pub(crate) fn may_enter(
     pool: &Pool,
     p: &Params,
@@ -130,8 +130,8 @@ pub(crate) fn may_enter(
         && fits_column(pool, p, required)
 }
 
-/// The room that the text of a column needs at least, in scaled points: a share of the column, which the mark `!`
-/// passes by, and what the floats in the text take.
+/// The least room that the text of a column needs, in scaled points: a share of the column, which the mark `!` lifts, and
+/// what the floats in the text take.
 pub(crate) fn text_minimum(pool: &Pool, p: &Params, f: &Float) -> i64
     requires { AreFloatParams p.now }
     ensures value { result ≡ text_minimum p.now pool.now.lists f.now }
@@ -185,7 +185,7 @@ pub(crate) fn beyond(required: i64, separator: i64) -> i64
     required + separator
 }
 
-/// The separator that a further float of an area with so many floats needs.
+/// The separator that a further float of an area with this many floats needs.
 pub(crate) fn next_separator(p: &Params, count: usize) -> i64
     requires { AreFloatParams p.now }
     ensures value { (fs : List PlainFloat) → count ≡ length fs → result ≡ next_separator p.now fs }
@@ -198,7 +198,7 @@ pub(crate) fn next_separator(p: &Params, count: usize) -> i64
     }
 }
 
-/// Whether a float that waits goes above both columns, where it is known whether one of its class stands before it.
+/// Whether a float that waits goes above both columns, by whether one of its class comes before it.
 pub(crate) fn goes_double(pool: &Pool, p: &Params, earlier: bool, f: &Float) -> bool
     requires { AreFloatParams p.now }
     ensures { (s : Suppress) (before : List PlainFloat) → earlier ≡ has_class f.now.class before → result ≡ goes_double p.now pool.now.lists s before f.now }
@@ -224,7 +224,7 @@ fn fits_double(pool: &Pool, p: &Params, f: &Float) -> bool
     f.height < double_room_for(pool, p, f)
 }
 
-// The room of the double area. The mark `!` passes the share by.
+// The room of the double area. The mark `!` lifts the share.
 fn double_room_for(pool: &Pool, p: &Params, f: &Float) -> i64
     requires { AreFloatParams p.now }
     ensures { result ≡ double_room_for p.now pool.now.lists f.now }
@@ -237,7 +237,7 @@ fn double_room_for(pool: &Pool, p: &Params, f: &Float) -> i64
     }
 }
 
-// A room with what its share left of the height.
+// A room plus what its share leaves of the height.
 fn without_share(room: i64, height: i64, share: i64) -> i64
     requires room { IsRoom room }
     requires height { IsExtent height }

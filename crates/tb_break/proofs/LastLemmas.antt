@@ -1,4 +1,4 @@
--- The best place is the last of least cost, in words of places.
+-- The best place is the last of least cost, by places.
 use Rattle.std.proofs.Common.{◌≡◌, refl, sym, subst, ◌∙◌, ap, ◌⊎◌, inl, inr, ℕ, suc, ◌<◌, ◌≤◌, ℤ, pos, Bool, true, false, List, [], ◌∷◌, ◌++◌, length, take, drop, filter, cond, Option, None, Some, append_assoc, length-append, arith}
 use Rattle.std.specs.Prelude.{int_le, int_lt, nat_le, ◌+ℤ◌, ◌≤ℤ◌, ◌<ℤ◌, ◌||◌, MatchOption, if◌then◌else◌}
 use Rattle.std.specs.List.{AllByRecursion}
@@ -66,7 +66,7 @@ above_least : (m : ℤ) (bs : List Breakpoint) → m <ℤ awful_bad → AllByRec
 above_least m [] lt h = lt
 above_least m (b ∷ bs) lt h = let later : m <ℤ least_cost bs = above_least m bs lt h.1 in let here : int_le b.cost m ≡ false = h.0 in grind (arith, ints)
 
--- some place has the least cost, where costs are at most that of an overfull one
+-- some place has the least cost, if none costs more than an overfull one
 attained : (b : Breakpoint) (bs : List Breakpoint) → b.cost ≤ℤ awful_bad → AllByRecursion (λ x. int_le x.cost (least_cost (b ∷ bs)) ≡ false) (b ∷ bs) → ⊥
 attained b bs le h = below (least_cost (b ∷ bs)) b.cost le h.0 (λ lt. above_least (least_cost (b ∷ bs)) (b ∷ bs) lt h)
   where
@@ -164,7 +164,7 @@ in_middle : (xs : List Breakpoint) (y : Breakpoint) (ys : List Breakpoint) → I
 in_middle [] y ys = inl refl
 in_middle (x ∷ xs) y ys = inr (in_middle xs y ys)
 
--- one of the places that lies behind another stands after it
+-- a place in the list that is further on than another comes after it
 after_middle : (m : ℕ) (xs : List Breakpoint) (y : Breakpoint) (ys : List Breakpoint) (x : Breakpoint) → Rising m (xs ++ y ∷ ys) → In x (xs ++ y ∷ ys) → y.place < x.place → In x ys
 after_middle m [] y ys x h (inl e) lt = absurd (omega (arith, lt, ap (λ (z : Breakpoint). z.place) e))
 after_middle m [] y ys x h (inr i) lt = i
@@ -351,6 +351,6 @@ cover-last h d ns e (b ∷ bs) filled c =
       kind_is = refl;
     }
 
--- a list is split at the greatest legal place up to the stop whose cost is least
+-- a list is split at the last legal place of least cost up to the stop
 pub split-last_least : (h d : ℤ) (ns : List Shape) → IsLastLeast h d ns (split_of h d ns)
 split-last_least h d ns = cover-last h d ns (end_place h d ns) (up_to_stop (split_places h d [] ns)) (filled-up_to_stop (split_places h d [] ns) (filled-places h d [] ns)) (places-cover h d ns [] ns refl)

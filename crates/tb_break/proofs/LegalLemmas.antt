@@ -1,4 +1,4 @@
--- The places of a list by their number.
+-- The places of a list, by their number.
 use Rattle.std.proofs.Common.{◌≡◌, refl, sym, ◌∙◌, ap, ℕ, zero, suc, ◌<◌, ◌≤◌, Bool, true, List, [], ◌∷◌, ◌++◌, length, take, drop, map, slice_get, None, Some, arith}
 use Rattle.std.specs.Prelude.{not, nat_le, nat_eq, if◌then◌else◌}
 use Rattle.std.proofs.lemmas.Bool.Decides.{nat_tests}
@@ -18,7 +18,7 @@ begins_is (kern w) rest = refl
 begins_is (penalty p) rest = refl
 begins_is other rest = refl
 
--- the node at a place begins what is left there
+-- the node at a place is the first of the rest there
 pub node_at : (ns : List Node) (k : ℕ) (n : Node) → Some n ≡ slice_get ns k → drop k (map shape_of ns) ≡ shape_of n ∷ drop (suc k) (map shape_of ns)
 node_at [] k n e = cc
 node_at (m ∷ ms) zero n e = ap (λ s. s ∷ map shape_of ms) (same m n (sym e))
@@ -30,7 +30,7 @@ node_at (m ∷ ms) zero n e = ap (λ s. s ∷ map shape_of ms) (same m n (sym e)
         inside m n e = cc
 node_at (m ∷ ms) (suc k) n e = node_at ms k n e
 
--- and ends what stands before the next place
+-- and it is the last of what comes before the next place
 pub node_before : (ns : List Node) (k : ℕ) (n : Node) → Some n ≡ slice_get ns k → take (suc k) (map shape_of ns) ≡ take k (map shape_of ns) ++ shape_of n ∷ []
 node_before [] k n e = cc
 node_before (m ∷ ms) zero n e = ap (λ x. shape_of x ∷ []) (inside m n e)
@@ -78,7 +78,7 @@ legal_before ns k n e =
     ∙ sym (if_true (nat_le k (length (map shape_of ns))) (split_penalty before (drop k (map shape_of ns))) None
     (let h = node_within ns k n e in le_true k (length (map shape_of ns)) (omega (arith, h, length-map ns shape_of))))
 
--- the list's end, and what lies past it
+-- the list's end, and what is past it
 pub legal_end : (ns : List Node) (k : ℕ) → None ≡ slice_get ns k → (if nat_eq k (length ns) then Some eject_penalty else None) ≡ legal_at (map shape_of ns) k
 legal_end ns k e = tested (none_within ns k e) ∙ sym (ap (λ rest. if nat_le k (length (map shape_of ns)) then split_penalty (take k (map shape_of ns)) rest else None) (none_at ns k e))
   where

@@ -42,7 +42,7 @@ places-within h d n before (m ∷ rest) le =
     each-with_place (λ b. b.place ≤ n) (split_penalty before (m ∷ rest)) _ (split_places h d (before ++ m ∷ []) rest) (λ p. omega arith)
     (places-within h d n (before ++ m ∷ []) rest (omega (arith, length-append before (m ∷ []))))
 
--- a list is split within it
+-- a list is split at one of its places
 pub split-within : (h d : ℤ) (ns : List Shape) → (split_place h d ns).place ≤ length ns
 split-within h d ns =
     each-best (λ b. b.place ≤ length ns) (end_place h d ns) (up_to_stop (split_places h d [] ns)) (omega arith)

@@ -16,7 +16,7 @@ use Rattle.tb_break.specs.Prune.{pruned_at, pruned_by, pruned_list, pruned_leave
 use Rattle.tb_break.specs.Turning.{kept_at, before_box, boxed_at, from_box, turned_at, turned, moved_at, moved, top_at, with_front, topped}
 use Rattle.tb_break.proofs.StoreLemmas.{list-with_list, with_list-twice}
 
--- ---- the definition at nodes that other nodes stand for
+-- ---- the definition under a map of the nodes
 
 module _ {N M : Type 0} (f : N → M) (shape : N → Shape) (shape' : M → Shape) (new : N → Glue → N) (new' : M → Glue → M) where
   pruned_at-map : (t : ℤ) (s : Shape) (n : N) (ns pruned : List N) → ((g : Glue) → f (new n g) ≡ new' (f n) g) → map f (pruned_at new t s n ns pruned) ≡ pruned_at new' t s (f n) (map f ns) (map f pruned)
@@ -75,7 +75,7 @@ pruned_at-parts t (kern w) n ns e later = later
 pruned_at-parts t (penalty p) n ns e later = later
 pruned_at-parts t other n ns e later = ap (λ ms. n ∷ ms) later
 
--- what does not vanish before the first box, then the list from there on with its top glue
+-- first what does not vanish before the first box, then the list from there on with its top glue
 pub pruned_list-parts : (t : ℤ) (ns : List Node) → before_box ns ++ topped t (from_box ns) ≡ pruned_list t ns
 pruned_list-parts t [] = refl
 pruned_list-parts t (n ∷ ns) = pruned_at-parts t (shape_of n) n ns refl (pruned_list-parts t ns)
@@ -108,7 +108,7 @@ untopped t (kern w) n e = refl
 untopped t (penalty p) n e = refl
 untopped t other n e = refl
 
--- a pruned list has at most one node more
+-- a pruned list has at most one more node
 pub length-pruned_list : (t : ℤ) (ns : List Node) → length (pruned_list t ns) ≤ length ns + 1
 length-pruned_list t ns =
     let whole : length (pruned_list t ns) ≡ length (before_box ns) + length (topped t (from_box ns)) = ap length (sym (pruned_list-parts t ns)) ∙ length-append (before_box ns) (topped t (from_box ns)) in
@@ -116,7 +116,7 @@ length-pruned_list t ns =
 
 -- ---- one node
 
--- what a node that no box is before does to the list: this goes to its end
+-- what a node before the first box does to the list: this goes to its end
 pub record Steps (s : Shape) (n : Node) (k : ℕ) : Type 0 where
   pub more : List Node
   pub count : length more ≡ k
@@ -135,7 +135,7 @@ steps (kern w) n k e = vanishes (kern w) n k e (λ ns. refl) (λ later. refl) (�
 steps (penalty p) n k e = vanishes (penalty p) n k e (λ ns. refl) (λ later. refl) (λ ns later. refl)
 steps other n k e = record { more = n ∷ []; count = cc; few = omega arith; turned_is = λ ns. refl; kept_is = λ later. refl; boxed_is = λ ns later. refl }
 
--- a node that is no box and does not last vanishes, another goes to the end
+-- a node that is no box vanishes if it does not last, else it goes to the end
 pub vanishing : (s : Shape) (n : Node) (ns : List Node) → is_box s ≡ false → not (is_discardable s) ≡ false → turned_at s n ns ≡ ns
 vanishing (box h d) n ns b e = cc
 vanishing (glue g) n ns b e = refl
@@ -150,7 +150,7 @@ boxed_turn (kern w) n ns e = cc
 boxed_turn (penalty p) n ns e = cc
 boxed_turn other n ns e = cc
 
--- the list after so many nodes were looked at: these are left, and these went to the end
+-- the list after this many nodes were looked at: these are left, and these went to the end
 pub record Turning (old now : Lists Node) (l : ℕ) (turn all count : ℕ) : Type 0 where
   pub rest : List Node
   pub aside : List Node
@@ -176,7 +176,7 @@ begins old now l all e same len = record {
 }
 
 module _ (old now new : Lists Node) (l turn all count : ℕ) where
-  -- one node more was looked at, and was no box
+  -- one more node was looked at, and was no box
   pub turns : (k : ℕ) → turn < all → Turning old now l turn all count → new.lists ≡ with_list now l (turned (list_at now l)) → moved (list_at now l) ≡ Some k
       → new.spare + length (list_at new l) ≡ now.spare + length (list_at now l) → Turning old new l (turn + 1) all (count + k)
   turns k lt g e m p = by_rest g.rest refl
@@ -201,7 +201,7 @@ module _ (old now new : Lists Node) (l turn all count : ℕ) where
             places = p ∙ g.places;
           }
 
-  -- what the list is at a box
+  -- the list when a box is met
   pub record Stopped : Type 0 where
     pub lists : new.lists ≡ with_list old l (from_box (list_at old l) ++ before_box (list_at old l))
     pub count_is : count ≡ length (before_box (list_at old l))
@@ -267,7 +267,7 @@ starts_back old now l e same front aside is = record {
   lists = ap (λ (s : Lists Node). s.lists) e ∙ same ∙ ap (with_list old l) is;
 }
 
--- one node more was brought back
+-- one more node was brought back
 pub comes_back : (old now mid new : Lists Node) (l : ℕ) (front aside : List Node) (turn : ℕ) (n : Node) (init : List Node) → turn < length aside → Returned old now l front aside turn
     → list_at now l ≡ init ++ n ∷ [] → mid.lists ≡ with_list now l init → new.lists ≡ with_list mid l (n ∷ list_at mid l) → Returned old new l front aside (turn + 1)
 comes_back old now mid new l front aside turn n init lt g last popped pushed =
@@ -290,7 +290,7 @@ all_back old now l front aside turn le g =
     let none : g.left ≡ [] = nil_from_length g.left (omega (arith, ap length g.whole, length-append g.left g.back, g.back_is)) in
     g.lists ∙ ap (with_list old l) (ap (λ ns. g.back ++ (front ++ ns)) none ∙ ap (λ ns. g.back ++ ns) (append-nil front) ∙ ap (λ ns. ns ++ front) (sym (g.whole ∙ ap (λ ns. ns ++ g.back) none)))
 
--- before all are back, the list is not empty
+-- until all are back, the list is not empty
 pub some_left : (old now : Lists Node) (l : ℕ) (front aside : List Node) (turn : ℕ) → turn < length aside → Returned old now l front aside turn → list_at now l ≡ [] → ⊥
 some_left old now l front aside turn lt g none =
     let is : [] ≡ g.back ++ (front ++ g.left) = sym none ∙ list-with_list old now l (g.back ++ (front ++ g.left)) g.lists in
@@ -298,7 +298,7 @@ some_left old now l front aside turn lt g none =
 
 -- ---- the whole
 
--- no kept node is a box or rule
+-- no node that is kept is a box or rule
 kept-untopped : (t : ℤ) (s : Shape) (n : Node) (ns : List Node) → shape_of n ≡ s → topped t (before_box ns) ≡ before_box ns → topped t (kept_at s n (before_box ns)) ≡ kept_at s n (before_box ns)
 kept-untopped t (box h d) n ns e later = refl
 kept-untopped t (glue g) n ns e later = later
@@ -354,7 +354,7 @@ kept_fits : (ms : List Node) (n : Node) (ns : List Node) → Each ms → before_
 kept_fits [] n ns fit e = cc
 kept_fits (m ∷ ms) n ns fit e = kept_at-fits (shape_of m) m ms n ns fit (kept_fits ms n ns (fits_later m ms fit)) e
 
--- the first node, when all that vanishes was taken off
+-- the first node, after all that vanishes was taken off
 pub first_fits : (ms : List Node) → NodesFit (map shape_of ms) → (n : Node) (ns : List Node) → from_box ms ++ before_box ms ≡ n ∷ ns → IsSmallShape (shape_of n)
 unfolding Each
 first_fits ms fit n ns e = by_boxes (from_box ms) refl

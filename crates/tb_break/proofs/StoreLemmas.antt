@@ -1,4 +1,4 @@
--- A store of which one list was changed.
+-- A store in which one list was changed.
 use Rattle.std.proofs.Common.{◌≡◌, ◌≢◌, inl, inr, ℕ, List, [], ◌∷◌, slice_get, Option, Some, None, IsSome, is_some, unwrap_or, refl, sym, ap, ◌∙◌}
 use Rattle.std.proofs.lemmas.Bool.{true≢false, cases_eq}
 use Rattle.std.specs.FinMap.{FinMap, get, insert}
@@ -28,7 +28,7 @@ module _ {T : Type 0} where
       there None some = absurd (true≢false (sym some))
       there (Some xs) some = refl
 
-  -- the first of a list, where it has one
+  -- the first of a list, if it has one
   pub none_first : (xs : List T) → None ≡ slice_get xs 0 → xs ≡ []
   none_first [] e = refl
   none_first (x ∷ xs) e = cc
@@ -46,7 +46,7 @@ module _ {T : Type 0} where
     | inr ne ↦ ap (λ (o : Option (List T)). is_some o) (get-insert_other m l xs q ne) ∙ live
   ]
 
-  -- a list was cut, and its rest is another: what each list is then
+  -- a list was cut, and the rest went to another: what each list is then
   pub live-parted : (old now : Lists T) (l rest : ℕ) (xs ys : List T) → now.lists ≡ insert (with_list old l xs) rest ys → (q : ℕ) → IsLive old q → IsLive now q
   live-parted old now l rest xs ys e q live = ap (λ (m : FinMap nat_cmp (List T)). is_some (get m q)) e ∙ live-insert (with_list old l xs) rest ys q (live-insert old.lists l xs q live)
 

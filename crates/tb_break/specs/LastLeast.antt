@@ -1,4 +1,4 @@
--- The last place of least cost in words of places, where a place is the number of nodes before it.
+-- The last place of least cost, by places; a place is the number of nodes before it.
 use Rattle.std.specs.Prelude.{◌≡◌, ℕ, ◌<◌, ℤ, pos, ◌+ℤ◌, ◌<ℤ◌, ◌≤ℤ◌, Bool, false, ◌||◌, List, ◌∷◌, ◌++◌, take, drop, int_le, Some, All}
 use Rattle.tb_scaled.specs.Scaled.{awful_bad, eject_penalty}
 use Rattle.tb_node.specs.Shape.{Shape}
@@ -11,7 +11,7 @@ use Rattle.tb_break.specs.Best.{Breakpoint}
 use Rattle.tb_break.specs.Split.{place_kind}
 use Rattle.tb_break.specs.Scan.{best_of}
 
--- what it costs to split a list to height h with depth limit d after its first k nodes, at this penalty
+-- the cost of splitting a list to height h with depth limit d after its first k nodes, at this penalty
 abbrev pub cost_at : ℤ → ℤ → List Shape → ℕ → ℤ → ℤ
 cost_at h d ns k p = cost_of (sums_of d (take k ns)) h p (pos 0)
 
@@ -23,7 +23,7 @@ stops_at h d ns k p = int_le awful_bad (cost_at h d ns k p) || int_le p eject_pe
 pub record IsReached (h d : ℤ) (ns : List Shape) (k : ℕ) : Type 0 where
   pub no_stop : (j : ℕ) (p : ℤ) → j < k → legal_at ns j ≡ Some p → stops_at h d ns j p ≡ false
 
--- f is the greatest of the legal places up to the first stop, the stop included, that have the least cost of these
+-- of the legal places up to the first stop, and with it, f is the last of least cost
 pub record IsLastLeast (h d : ℤ) (ns : List Shape) (f : Found) : Type 0 where
   pub legal : legal_at ns f.index ≡ Some f.penalty
   pub reached : IsReached h d ns f.index

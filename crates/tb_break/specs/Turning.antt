@@ -1,5 +1,5 @@
 -- Pruning in place. The nodes before the first box or rule are taken off the list's front one by one, and those that
--- stay wait at its end until the top glue is there.
+-- stay wait at its end until the top glue is put in.
 use Rattle.std.specs.Prelude.{ℕ, ℤ, List, [], ◌∷◌, ◌++◌, Option, None, Some}
 use Rattle.tb_node.specs.declared.Node.{Node}
 use Rattle.tb_node.specs.Shape.{Shape, box, glue, kern, penalty, other}
@@ -19,7 +19,7 @@ abbrev pub before_box : List Node → List Node
 before_box [] = []
 before_box (n ∷ ns) = kept_at (shape_of n) n (before_box ns)
 
--- the list where its first node, of this shape, is a box or rule, else these others
+-- the list if its first node, of this shape, is a box or rule, else these others
 abbrev pub boxed_at : Shape → List Node → List Node → List Node
 boxed_at (box h d) ns later = ns
 boxed_at (glue g) ns later = later
@@ -32,7 +32,7 @@ abbrev pub from_box : List Node → List Node
 from_box [] = []
 from_box (n ∷ ns) = boxed_at (shape_of n) (n ∷ ns) (from_box ns)
 
--- the list after its first node was looked at: a box or rule stays where it is, glue, a kern and a penalty go, another goes to the end
+-- the list after its first node was looked at: a box or rule stays where it is, glue, a kern or a penalty goes, another goes to the end
 abbrev pub turned_at : Shape → Node → List Node → List Node
 turned_at (box h d) n ns = n ∷ ns
 turned_at (glue g) n ns = ns
@@ -40,12 +40,12 @@ turned_at (kern w) n ns = ns
 turned_at (penalty p) n ns = ns
 turned_at other n ns = ns ++ n ∷ []
 
--- the list after its first node, where it has one, was looked at
+-- the list after its first node, if it has one, was looked at
 abbrev pub turned : List Node → List Node
 turned [] = []
 turned (n ∷ ns) = turned_at (shape_of n) n ns
 
--- how many nodes went to the end, and none where a box, a rule or the list's end is met
+-- how many nodes went to the end; none if a box, a rule or the list's end is met
 abbrev pub moved_at : Shape → Option ℕ
 moved_at (box h d) = None
 moved_at (glue g) = Some 0
@@ -66,12 +66,12 @@ top_at top_skip (kern w) n = None
 top_at top_skip (penalty p) n = None
 top_at top_skip other n = None
 
--- the list with one node more in front, where there is one
+-- the list with this node in front, if there is one
 abbrev pub with_front : Option Node → List Node → List Node
 with_front None ns = ns
 with_front (Some n) ns = n ∷ ns
 
--- the list with the top glue, where it begins with a box or rule
+-- the list with the top glue, if it begins with a box or rule
 abbrev pub topped : ℤ → List Node → List Node
 topped top_skip [] = []
 topped top_skip (n ∷ ns) = with_front (top_at top_skip (shape_of n) n) (n ∷ ns)

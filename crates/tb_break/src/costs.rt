@@ -24,7 +24,7 @@ pub fn cost(s: &Sums, goal: i64, penalty: i64, insert_penalties: i64) -> (i64, i
     (badness, cost_of_badness(badness, penalty, insert_penalties))
 }
 
-/// How badly a page with these sums fits a goal, in sp: 1073741823 where it is overfull, else at most 10000.
+/// How badly a page with these sums fits a goal, in sp: 1073741823 if it is overfull, else at most 10000.
 #[tactic(auto, unfolding(crate::specs::Cost::page_badness))]
 pub fn page_badness(s: &Sums, goal: i64) -> i64
     requires total { IsAmount s.now.total }
@@ -67,14 +67,14 @@ pub fn cost_of_badness(badness: i64, penalty: i64, insert_penalties: i64) -> i64
     DEPLORABLE
 }
 
-// Some stretch of a higher order is not 0.
+// Whether some stretch of a higher order is not 0.
 fn is_infinite(stretch: &[i64; 4]) -> bool
     ensures { result ≡ stretches_infinitely stretch.now }
 {
     stretch[1] != 0 || stretch[2] != 0 || stretch[3] != 0
 }
 
-// The stretch of order normal.
+// The finite stretch.
 fn finite(stretch: &[i64; 4]) -> i64
     ensures { result ≡ finite_stretch stretch.now }
 {

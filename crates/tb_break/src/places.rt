@@ -14,8 +14,8 @@ use tb_node::{Kind, Node};
 use tb_pool::{ListId, Lists};
 use tb_scaled::{EJECT_PENALTY, INF_PENALTY};
 
-/// The penalty of the place after the first `index` nodes of a list, where it is legal; the list's end counts as it
-/// does in a split. None exactly where the list may not be broken, or has no such place.
+/// The penalty of the place after the first `index` nodes of a list, if it is legal; the list's end counts as it does
+/// in a split. None exactly if the list may not be broken there, or has no such place.
 pub fn legal(store: &Lists<Node>, l: ListId, index: usize) -> Option<i64>
     requires { IsLive store.now l }
     ensures { result ≡ legal_at (shapes store.now l) index }
@@ -31,14 +31,14 @@ pub fn legal(store: &Lists<Node>, l: ListId, index: usize) -> Option<i64>
     )
 }
 
-// The penalty of the list's end, where the place is that.
+// The penalty of the list's end, if the place is that.
 fn end_penalty(at_end: bool) -> Option<i64>
     ensures { result ≡ (if at_end then Some eject_penalty else None) }
 {
     if at_end { Some(EJECT_PENALTY) } else { None }
 }
 
-// The node before the place does not vanish at the top of a page.
+// Whether the node before the place does not vanish at the top of a page.
 fn lasts_before(store: &Lists<Node>, l: ListId, index: usize) -> bool
     requires live { IsLive store.now l }
     requires within { index ≤ length (list_at store.now l) }
@@ -53,7 +53,7 @@ fn lasts_before(store: &Lists<Node>, l: ListId, index: usize) -> bool
     }
 }
 
-// The node there is glue.
+// Whether the node there is glue.
 fn glue_at(store: &Lists<Node>, l: ListId, index: usize) -> bool
     requires { IsLive store.now l }
     ensures { result ≡ begins_with_glue (drop index (shapes store.now l)) }
@@ -64,22 +64,22 @@ fn glue_at(store: &Lists<Node>, l: ListId, index: usize) -> bool
     }
 }
 
-/// The node is glue.
+/// Whether the node is glue.
 pub fn is_glue(n: &Node) -> bool
     ensures { result ≡ is_glue (shape_of n.now) }
 {
     matches!(n.kind, Kind::Skip(_))
 }
 
-/// The node does not vanish at the top of a page: it is no glue, kern or penalty.
+/// Whether the node does not vanish at the top of a page: it is no glue, kern or penalty.
 pub fn is_lasting(n: &Node) -> bool
     ensures { result ≡ not (is_discardable (shape_of n.now)) }
 {
     !matches!(n.kind, Kind::Skip(_) | Kind::Kern(_) | Kind::Pen(_))
 }
 
-/// The penalty of the place before a node, where it is legal, by whether a node that does not vanish stands before it
-/// and glue after it.
+/// The penalty of the place before a node, if it is legal; `lasting` says whether a node that does not vanish comes
+/// before the place, `glue_next` whether glue comes after the node.
 pub fn place_penalty(n: &Node, lasting: bool, glue_next: bool) -> Option<i64>
     requires { IsSmallShape (shape_of n.now) }
     ensures value { result ≡ penalty_by lasting glue_next (shape_of n.now) }
@@ -88,7 +88,7 @@ pub fn place_penalty(n: &Node, lasting: bool, glue_next: bool) -> Option<i64>
     penalty_before(n, lasting, glue_next)
 }
 
-// The same, and no amount of the node need be small.
+// The same, but the amounts of the node need not be small.
 fn penalty_before(n: &Node, lasting: bool, glue_next: bool) -> Option<i64>
     ensures { result ≡ penalty_by lasting glue_next (shape_of n.now) }
 {
@@ -106,7 +106,7 @@ fn penalty_before(n: &Node, lasting: bool, glue_next: bool) -> Option<i64>
     }
 }
 
-// No penalty, where the place is legal.
+// The penalty 0 if the place is legal.
 fn zero_if(test: bool) -> Option<i64>
     ensures { result ≡ (if test then Some (pos 0) else None) }
 {
@@ -120,7 +120,7 @@ fn below_inf(p: i64) -> Option<i64>
     if p < INF_PENALTY { Some(p) } else { None }
 }
 
-// What stands at the place before a node.
+// What is at the place before a node.
 pub(crate) fn kind_of(n: &Node) -> PlaceKind
     ensures { result ≡ kind_of_shape (shape_of n.now) }
 {

@@ -17,8 +17,8 @@ use tb_pool::{ListId, Lists};
 use tb_scaled::fixed;
 
 /// Prunes a list for the top of a page (TeX: The Program §968): glue, kerns and penalties before the first box or rule
-/// vanish, other nodes there stay, and directly before that box or rule comes glue that fills what its height lacks of
-/// the top skip, in sp, with its line. No other list changes, and at most one place more is taken.
+/// vanish, other nodes there stay. Directly before that box or rule, and with its line, comes glue that fills what its
+/// height lacks of the top skip, in sp. No other list changes, and at most one more place is taken.
 pub fn prune(store: &mut Lists<Node>, l: ListId, top_skip: i64)
     requires live { IsLive store.old l }
     requires room { 0 < store.old.spare }
@@ -33,8 +33,8 @@ pub fn prune(store: &mut Lists<Node>, l: ListId, top_skip: i64)
     bring_back(store, l, kept);
 }
 
-// Takes off what stands before the first box or rule; what does not vanish waits at the list's end. Answers how many
-// nodes those are.
+// Takes off the nodes before the first box or rule; those that do not vanish wait at the list's end. Returns their
+// number.
 fn set_aside(store: &mut Lists<Node>, l: ListId) -> usize
     requires { IsLive store.old l }
     ensures turned { store.new.lists ≡ with_list store.old l (from_box (list_at store.old l) ++ before_box (list_at store.old l)) }
@@ -51,7 +51,7 @@ fn set_aside(store: &mut Lists<Node>, l: ListId) -> usize
     kept
 }
 
-// Takes off the first node, where it is no box or rule. Answers how many nodes went to the list's end.
+// Takes off the first node, unless it is a box or rule. Returns how many nodes went to the list's end.
 fn turn(store: &mut Lists<Node>, l: ListId) -> Option<usize>
     requires { IsLive store.old l }
     ensures turned { store.new.lists ≡ with_list store.old l (turned (list_at store.old l)) }
@@ -68,7 +68,7 @@ fn turn(store: &mut Lists<Node>, l: ListId) -> Option<usize>
     Some(keep(store, l, n))
 }
 
-// Puts a node that stands before the first box at the list's end, unless it vanishes. Answers how many nodes it put there.
+// Puts a node from before the first box at the list's end, unless it vanishes. Returns how many nodes it put there.
 fn keep(store: &mut Lists<Node>, l: ListId, n: Node) -> usize
     requires live { IsLive store.old l }
     requires room { 0 < store.old.spare }
@@ -92,7 +92,7 @@ pub fn is_box(n: &Node) -> bool
     matches!(n.kind, Kind::Hbox { .. } | Kind::Rule { .. })
 }
 
-// Puts the top glue before the first node, where that is a box or rule.
+// Puts the top glue before the first node, if that is a box or rule.
 fn put_top_glue(store: &mut Lists<Node>, l: ListId, top_skip: i64)
     requires live { IsLive store.old l }
     requires room { 0 < store.old.spare }
@@ -111,8 +111,8 @@ fn put_top_glue(store: &mut Lists<Node>, l: ListId, top_skip: i64)
     store.push_front(l, glue);
 }
 
-/// The glue that comes before the first box or rule of a page: what its height lacks of the top skip, in sp, with its line
-/// (TeX: The Program §969).
+/// The glue before the first box or rule of a page, with its line: what its height lacks of the top skip, in sp (TeX:
+/// The Program §969).
 #[inline]
 pub fn top_node(n: &Node, top_skip: i64) -> Node
     requires top_skip { IsAmount top_skip }

@@ -16,8 +16,8 @@ use tb_node::{Node, Sums};
 use tb_pool::{Iter, ListId, Lists};
 use tb_scaled::EJECT_PENALTY;
 
-/// Where a list is split to a height under a depth limit, both in sp: the last place of least cost up to the first at
-/// which the list is overfull or the break is forced, as the list's end forces it. The list is walked once.
+/// Where a list is split to a height under a depth limit, both in sp: the last place of least cost, up to the first
+/// place at which the list is overfull or the break is forced. The list's end forces it. The list is walked once.
 pub fn find(store: &Lists<Node>, l: ListId, height: i64, max_depth: i64) -> Found
     requires live { IsLive store.now l }
     requires height { IsAmount height }
@@ -61,8 +61,8 @@ pub fn find(store: &Lists<Node>, l: ListId, height: i64, max_depth: i64) -> Foun
     best
 }
 
-/// Splits a list where `find` says: what stands before the place stays, and the rest, which begins with the node at
-/// which the list breaks, goes to another list, which is empty before. Amounts are in sp.
+/// Splits a list at the place that `find` returns: the nodes before it stay, and the rest, which begins with the node
+/// at which the list breaks, goes to another list, which is empty before. Amounts are in sp.
 pub fn split(store: &mut Lists<Node>, l: ListId, height: i64, max_depth: i64, rest: ListId) -> Found
     requires live { IsLive store.old l }
     requires rest_live { IsLive store.old rest }
@@ -95,7 +95,7 @@ fn takes_glue(ahead: &mut Iter<'_, Node>) -> bool
     }
 }
 
-// Offers the place after what the scan has, where it is legal, and says whether the search stops there.
+// Offers the place after what the scan has, if it is legal. Returns whether the search stops there.
 fn visit(
     scan: &mut Scan,
     best: &mut Found,
@@ -123,7 +123,7 @@ fn visit(
     offer.stop
 }
 
-// The later place where it is a champion.
+// The later place if it is a champion, else the earlier.
 fn found_if(champion: bool, later: Found, earlier: Found) -> Found
     ensures { result ≡ (if champion then later else earlier) }
 {

@@ -1,4 +1,4 @@
-//! The calls on worked lists.
+//! The calls, on worked lists.
 
 ghost use Rattle.std.specs.Prelude.{◌≡◌, ◌≢◌, ◌<◌, [], pos, All, IfOk};
 ghost use Rattle.tb_pool.specs.Lists.{IsLive, list_at};
@@ -114,7 +114,7 @@ fn page_top() -> [Node; 4]
     [make_glue(5), make_penalty(0), make_note(), make_box(10, 0)]
 }
 
-// What a node is, and its line and its first amount.
+// The kind of a node, its line and its first amount.
 fn told(n: &Node) -> (char, u32, i64) {
     match n.kind {
         Kind::Hbox { height, .. } => ('b', n.line, height),

@@ -81,7 +81,7 @@ pub closing_is : (p : Params) (ns : List Node) (s : Sums) (g : Glue) (n : Node) 
     → n ≡ made_node (kinds.Skip (closing_by p.bottom (limited_depth p.maxdepth (map shape_of ns))))
 closing_is p ns s g n sums glue is = is ∙ ap (λ (h : Glue). made_node (kinds.Skip h)) glue ∙ ap (λ (t : Sums). made_node (kinds.Skip (closing_by p.bottom t.depth))) sums
 
--- the list of a text that is closed may stand on a page
+-- the list of a text that is closed may be on a page
 pub closed_page : (p : Params) (old new : Lists Node) (body : ℕ) → IsExtent p.maxdepth → IsPageList old body → length (list_at old body) < 8388608
     → new.lists ≡ with_list old body (closed_list p (list_at old body)) → IsPageList new body
 closed_page p old new body limit page few e =

@@ -67,7 +67,7 @@ joined-frame body ns store new join = λ q live none. (join.others q none, none)
 
 module _ (old ready above : Lists Node) (p : Params) (l : FloatLists) (body : ℕ)
     (found : ready.lists ≡ old.lists) (put : above.lists ≡ with_list ready body (top_list p l ++ list_at ready body)) where
-  -- the floats stand above the text
+  -- the floats are above the text
   above_lists : above.lists ≡ with_list old body (top_list p l ++ list_at old body)
   above_lists = put ∙ ap (λ (m : FinMap nat_cmp (List Node)). insert m body (top_list p l ++ unwrap_or (get m body) [])) found
 
@@ -80,7 +80,7 @@ module _ (old ready above : Lists Node) (p : Params) (l : FloatLists) (body : �
   module _ (joined below : Lists Node) (ns : List NoteBox) (can : AreNotes old body ns)
       (text : list_at joined body ≡ list_at above body ++ notes_list p above ns) (m : FloatLists) (same : m.bottom ≡ l.bottom)
       (low : below.lists ≡ with_list joined body (list_at joined body ++ bottom_list p m)) where
-    -- the floats stand below it
+    -- the floats are below it
     pub below_text : list_at below body ≡ text_list p l old body ns
     below_text =
         list_same joined below body (list_at joined body ++ bottom_list p m) low

@@ -39,7 +39,7 @@ module _ (s0 s s1 s2 : Lists Node) (l : ℕ) (a b : Node) (changed : s.lists ≡
 
 -- ---- the marked floats
 
--- some marked floats stand in the list, each after glue; the others are still to come
+-- some marked floats are in the list, each after glue; the others are still to come
 pub record MarkedSoFar (from : Part) (sep : Glue) (l : ℕ) (s0 : Lists Node) (v0 : FloatPool) (s : Lists Node) (v : FloatPool) : Type 0 where
   pub lists : s.lists ≡ with_list s0 l (list_at s l)
   pub nodes : list_at s l ++ boxes_after sep (marked_floats from v) ≡ list_at s0 l ++ boxes_after sep (marked_floats from v0)
@@ -158,7 +158,7 @@ area_none parts.Double area v e = nil_from_length v.lists.double e
 pub area_float : (a : Part) → IsArea a → (v : FloatPool) (e : Entry) → Some e ≡ slice_get (entries_of a v.lists) 0 → is_float e ≡ true
 area_float a area v e h = ap is_float (area_first a area v e h).is
 
--- some floats of the area stand in the list, each followed by glue; the others are still to come
+-- some floats of the area are in the list, each followed by glue; the others are still to come
 pub record AreaSoFar (a : Part) (place : Where) (sep : Glue) (l : ℕ) (s0 : Lists Node) (v0 : FloatPool) (s : Lists Node) (v : FloatPool) : Type 0 where
   pub lists : s.lists ≡ with_list s0 l (list_at s l)
   pub nodes : list_at s l ++ boxes_with place sep (floats_of a v.lists) ≡ list_at s0 l ++ boxes_with place sep (floats_of a v0.lists)

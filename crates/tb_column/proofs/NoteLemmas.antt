@@ -24,7 +24,7 @@ rising-at k [] h i d lt = absurd (omega arith)
 rising-at k (n ∷ ns) h zero d lt = omega (arith, h.0)
 rising-at k (n ∷ ns) h (suc i) d lt = omega (arith, h.0, rising-at (suc n.class) ns h.1 i d (omega arith))
 
--- ---- how many nodes stand above the insertions
+-- ---- how many nodes are above the insertions
 
 pub above_length-le : (class : ℕ) → above_length class ≤ 4
 above_length-le class = by_test (class == 254)

@@ -57,7 +57,7 @@ module _ (old new : Lists Node) (l : ℕ) (xs : List Node) (fresh : get old.list
   pub opened-frame : OnlyChanged [] (l ∷ []) old new
   opened-frame = λ q live none. (get_other old new l xs q (fresh-apart q live) made_lists, ((λ e. fresh-apart q live (sym e)), tt))
 
-  -- it may stand on a page if its nodes may
+  -- it may be on a page if its nodes may
   pub opened-page : AreLeaves xs → All IsSizedNode xs → length xs ≤ 8388608 → IsPageList new l
   opened-page leaves sized few =
       let is = sym (list_same old new l xs made_lists) in

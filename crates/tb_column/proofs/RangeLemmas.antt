@@ -1,4 +1,4 @@
--- Parameters that lie in the ranges of their rows lie in the ranges that the calls on columns ask.
+-- Parameters in the ranges of their rows are in the ranges that the calls on columns need.
 use Rattle.std.proofs.Common.{◌≡◌, refl, lit<, ℤ, pos, Bool, true, false, [], arith}
 use Rattle.std.specs.Prelude.{◌&&◌, IsTrue}
 use Rattle.std.proofs.lemmas.Int.{ints}
@@ -33,7 +33,7 @@ passed false h = cc
 extent : (z : ℤ) → IsTrue (is_no_fault (out_of_range (is_within (pos 0) (pos 1073741823) z))) → IsExtent z
 extent z h = let k = passed (is_within (pos 0) (pos 1073741823) z) h in record { low = grind (arith, ints, k); high = grind (arith, ints, k) }
 
--- a row to read past the table's end, which no one does
+-- a row to read past the table's end, which is never done
 abbrev spare_row : Row
 spare_row = record { name = []; field = fields.Floatsep; form = forms.Skip }
 

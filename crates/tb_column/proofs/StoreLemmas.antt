@@ -59,7 +59,7 @@ module _ {T : Type 0} where
   brought-before a b c d front l apart e f g =
       g ∙ ap (λ m. remove m front) (joined-lists a b c front l apart e f) ∙ closed-map a.lists front l (list_at a front ++ list_at a l) apart
 
-  -- a list that helps is another than those that live
+  -- a helper list is another than those that live
   pub helper-apart : (a : Lists T) (h l : ℕ) → get a.lists h ≡ None → IsLive a l → h ≢ l
   helper-apart a h l fresh live same =
       true≢false (sym live ∙ ap (λ (q : ℕ). is_some (get a.lists q)) (sym same) ∙ ap (λ (o : Option (List T)). is_some o) fresh)

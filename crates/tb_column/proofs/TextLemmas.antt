@@ -1,4 +1,4 @@
--- The text with its floats and insertions: its nodes may stand on a page.
+-- The text with its floats and insertions: its nodes may be on a page.
 use Rattle.std.proofs.Common.{◌≡◌, refl, sym, ap, subst, ℕ, ◌+◌, ◌*◌, ◌<◌, ◌≤◌, ◌==◌, pos, negsuc, Bool, true, false, List, [], ◌∷◌, ◌++◌, length, length-append, arith}
 use Rattle.std.specs.Prelude.{All, if◌then◌else◌}
 use Rattle.std.specs.List.{AllByRecursion}
@@ -19,7 +19,7 @@ use Rattle.tb_column.specs.Notes.{note_count, IsNote}
 use Rattle.tb_column.specs.TextList.{made_node, rule_above, class_above, above_length, above_count, notes_list, top_list, bottom_list, text_list}
 use Rattle.tb_column.proofs.FloatLemmas.{glue_sized, leaves-append, boxes_above-leaves, boxes_below-leaves, boxes_above-sized, boxes_below-sized, boxes_above-length, boxes_below-length}
 
--- ---- what stands above the insertions of a class
+-- ---- what is above the insertions of a class
 
 kern_above : IsDimension (negsuc 196607)
 kern_above = record { low = omega (arith, ints); high = omega (arith, ints) }
@@ -109,7 +109,7 @@ module _ (p : Params) (ranges : AreColumnParams p) (l : FloatLists) (store : Lis
     pub text-few : length (text_list p l store body notes) < 8388608
     text-few = omega (arith, tops, bottoms, above, parts, text-length)
 
-    -- the list that it becomes may stand on a page
+    -- the list that it becomes may be on a page
     pub text-page : (new : Lists Node) → list_at new body ≡ text_list p l store body notes → IsLive new body → All IsSizedFloat l.top → All IsSizedFloat l.bottom → IsPageList store body → AllByRecursion (IsNote store) notes
         → IsPageList new body
     text-page new is live high low page each = record {

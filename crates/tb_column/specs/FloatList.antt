@@ -25,7 +25,7 @@ abbrev pub boxes_with : Where → Glue → List Float → List Node
 boxes_with place sep [] = []
 boxes_with place sep (f ∷ fs) = float_box place f ∷ made_node (kinds.Skip sep) ∷ boxes_with place sep fs
 
--- floats above the text: the last separator gives way to that from the text
+-- floats above the text: the separator from the text replaces the last one
 abbrev pub boxes_above : Where → Glue → Glue → List Float → List Node
 boxes_above place sep last [] = []
 boxes_above place sep last (f ∷ fs) = boxes_with place sep (f ∷ fs) ++ made_node (kinds.Skip (negated_glue sep)) ∷ made_node (kinds.Skip last) ∷ []

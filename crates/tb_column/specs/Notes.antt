@@ -36,7 +36,7 @@ abbrev pub AreDistinct : List ℕ → Type 0
 AreDistinct [] = Unit {0}
 AreDistinct (l ∷ ls) = IsNoneOf l ls × AreDistinct ls
 
--- the list of a box may stand on a page, and the amounts of its glue are dimensions
+-- the list of a box may be on a page, and the amounts of its glue are dimensions
 pub record IsNote (store : Lists Node) (n : NoteBox) : Type 0 where
   pub list : IsPageList store n.list
   pub skip : IsSizedGlue n.skip

@@ -1,4 +1,4 @@
--- Lists of nodes that may stand on a page.
+-- Lists of nodes that may be on a page.
 use Rattle.std.specs.Prelude.{◌≢◌, ℕ, pos, ◌≤◌, List, [], ◌∷◌, length, All}
 use Rattle.tb_pool.specs.Lists.{Lists, IsLive, list_at}
 use Rattle.tb_node.specs.declared.Node.{Node}
@@ -20,7 +20,7 @@ is_leaf_kind kinds.Whatsit = Unit {0}
 is_leaf_kind (kinds.Ins i) = ⊥
 is_leaf_kind (kinds.Act a) = ⊥
 
--- neither an insertion nor an act stands among these nodes
+-- neither an insertion nor an act is among these nodes
 abbrev pub AreLeaves : List Node → Type 0
 AreLeaves [] = Unit {0}
 AreLeaves (n ∷ ns) = is_leaf_kind n.kind × AreLeaves ns

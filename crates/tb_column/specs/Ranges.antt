@@ -10,7 +10,7 @@ pub record IsSizedGlue (g : Glue) : Type 0 where
   pub stretch : IsDimension g.stretch
   pub shrink : IsDimension g.shrink
 
--- heights, limits and glue of a column lie in their ranges
+-- heights, limits and glue of a column are in their ranges
 pub record AreColumnParams (p : Params) : Type 0 where
   pub floats : AreFloatParams p
   pub maxdepth : IsExtent p.maxdepth

@@ -17,15 +17,15 @@ use Rattle.tb_column.specs.FloatList.{boxes_above, boxes_below}
 pub use Rattle.tb_column.specs.FloatList.{made_node}
 pub use Rattle.tb_column.specs.Page.{is_leaf_kind, AreLeaves}
 
--- what stands above footnotes: glue, and a rule between kerns
+-- what is above footnotes: glue, and a rule between kerns
 abbrev pub rule_above : Glue → List Node
 rule_above g = made_node (kinds.Skip g) ∷ made_node (kinds.Kern (negsuc 196607)) ∷ made_node (kinds.Rule None (pos 26214) (pos 0)) ∷ made_node (kinds.Kern (pos 170394)) ∷ []
 
--- what stands above the insertions of a class: those of class 254 are footnotes
+-- what is above the insertions of a class: those of class 254 are footnotes
 abbrev pub class_above : Params → NoteBox → List Node
 class_above p n = if n.class == 254 then rule_above p.skipfootins else made_node (kinds.Skip n.skip) ∷ []
 
--- how many nodes stand above the insertions of a class, and of all
+-- how many nodes are above the insertions of a class, and of all
 abbrev pub above_length : ℕ → ℕ
 above_length class = if class == 254 then 4 else 1
 
@@ -38,7 +38,7 @@ abbrev pub notes_list : Params → Lists Node → List NoteBox → List Node
 notes_list p store [] = []
 notes_list p store (n ∷ ns) = (class_above p n ++ list_at store n.list) ++ notes_list p store ns
 
--- the glue that takes this depth back, and stretches at a ragged bottom
+-- the glue that backs up over this depth, and stretches at a ragged bottom
 abbrev pub closing_by : Choice → ℤ → Glue
 closing_by bottom depth = record {
   width = neg_ℤ depth;

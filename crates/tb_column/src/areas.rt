@@ -52,7 +52,7 @@ fn push_floats(
     }
 }
 
-/// Moves the floats of an area to the end of a list; `last` stands in place of the last separator.
+/// Moves the floats of an area to the end of a list; `last` replaces the last separator.
 pub(crate) fn push_above(
     store: &mut Lists<Node>,
     pool: &mut Pool,
@@ -93,8 +93,8 @@ fn put_before(store: &mut Lists<Node>, front: ListId, l: ListId)
     store.close(front);
 }
 
-/// Moves the floats at the top of a column before its text (ltoutput.dtx, `\@cflt`). If there is no memory for a list
-/// that helps, the pool and all lists stay as they were.
+/// Moves the floats at the top of a column before its text (ltoutput.dtx, `\@cflt`). If there is no memory for a helper
+/// list, the pool and all lists stay as they were.
 pub(crate) fn put_above(
     store: &mut Lists<Node>,
     pool: &mut Pool,
@@ -145,7 +145,7 @@ pub(crate) fn put_below(store: &mut Lists<Node>, pool: &mut Pool, p: &Params, bo
     push_made(store, body, Kind::Skip(negate(p.floatsep)));
 }
 
-/// The floats in the text leave the pool: their nodes stand in the text already.
+/// The floats in the text leave the pool: their nodes are in the text already.
 pub(crate) fn clear_here(pool: &mut Pool)
     ensures { pool.new ≡ without_entries Part.Here pool.old }
 {

@@ -148,7 +148,7 @@ pub fn float_column(
     })
 }
 
-/// Puts the wide floats that stand above two columns into a new list, with the glue below them (ltoutput.dtx,
+/// Puts the wide floats above two columns into a new list, with the glue below them (ltoutput.dtx,
 /// `\@combinedblfloats`).
 ///
 /// They leave the pool. If there is no memory for the list, the pool and all lists stay as they were.

@@ -28,7 +28,7 @@ use tb_scaled::{Glue, Order};
 // The stretch of the glue at a ragged bottom is as small as LaTeX's (`\raggedbottom`: 0.0001fil).
 const RAGGED_STRETCH: i64 = 7;
 
-/// Whether this word for the bottom of a column says that it is ragged.
+/// Whether this choice for the bottom of a column is a ragged one.
 pub fn is_ragged(bottom: Choice) -> bool
     ensures { result ≡ is_ragged bottom }
 {
@@ -42,7 +42,7 @@ pub fn is_ragged(bottom: Choice) -> bool
     }
 }
 
-// The glue that takes the depth of a column back, and stretches at a ragged bottom.
+// The glue that backs up over the depth of a column, and stretches at a ragged bottom.
 fn closing_glue(bottom: Choice, depth: i64) -> Glue
     requires { IsAmount depth }
     ensures { result ≡ closing_by bottom depth }
@@ -88,7 +88,7 @@ fn gather(
     Ok(())
 }
 
-// Ends a text column with the glue that takes its depth back, and returns the sums of the whole.
+// Ends a text column with the glue that backs up over its depth, and returns the sums of the whole.
 fn close_text(store: &mut Lists<Node>, p: &Params, body: ListId) -> Sums
     requires params { AreColumnParams p.now }
     requires page { IsPageList store.old body }
@@ -107,12 +107,12 @@ fn close_text(store: &mut Lists<Node>, p: &Params, body: ListId) -> Sums
 }
 
 /// Makes the text column of a page: the floats at its top, the text, the insertions of each class, the floats at its
-/// bottom, then the glue that takes the depth back, packed to the height in scaled points that the wide floats leave of
-/// a page (ltoutput.dtx, `\@makecol` and `\@combinefloats`).
+/// bottom, then the glue that backs up over the depth. It is packed to the height, in scaled points, that the wide floats
+/// leave of a page (ltoutput.dtx, `\@makecol` and `\@combinefloats`).
 ///
 /// The list of the text becomes the column's, and those of the insertions are emptied into it; no node is copied. The
-/// floats in the text, at its top and at its bottom leave the pool. If there is no memory for the nodes that are
-/// made, the pool and all lists stay as they were.
+/// floats in the text, at its top and at its bottom leave the pool. If there is no memory for the new nodes, the pool and
+/// all lists stay as they were.
 pub fn make_column(
     store: &mut Lists<Node>,
     pool: &mut Pool,

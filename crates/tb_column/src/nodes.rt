@@ -1,4 +1,4 @@
-//! Nodes that no galley item gives.
+//! Nodes that come from no galley item.
 ghost use Rattle.std.specs.Prelude.{◌≡◌, ◌+◌, ◌<◌, ◌++◌, ◌∷◌, []};
 ghost use Rattle.tb_pool.specs.Lists.{IsLive, list_at, with_list};
 ghost use Rattle.tb_column.specs.FloatList.{made_node, float_box};
@@ -6,14 +6,14 @@ ghost use Rattle.tb_column.specs.FloatList.{made_node, float_box};
 use tb_node::{Float, Kind, Node, What, Where};
 use tb_pool::{ListId, Lists};
 
-// A node that no galley item gives.
+// A node that comes from no galley item.
 pub(crate) fn made_node(kind: Kind) -> Node
     ensures { result ≡ made_node kind }
 {
     Node { line: 0, kind }
 }
 
-/// Puts a node that no galley item gives at the end of a list, in a place that is spare.
+/// Puts a node that comes from no galley item at the end of a list, in a spare place.
 #[tactic(auto, using(tb_pool::proofs::MapLemmas::list_steps))]
 pub fn push_made(store: &mut Lists<Node>, l: ListId, kind: Kind)
     requires live { IsLive store.old l }
@@ -25,7 +25,7 @@ pub fn push_made(store: &mut Lists<Node>, l: ListId, kind: Kind)
     store.push_back(l, made_node(kind));
 }
 
-/// Puts the box of a float at the end of a list, in a place that is spare; it has the float's height and no depth.
+/// Puts the box of a float at the end of a list, in a spare place; it has the float's height and no depth.
 pub fn push_float(store: &mut Lists<Node>, l: ListId, place: Where, float: &Float)
     requires live { IsLive store.old l }
     requires room { 0 < store.old.spare }

@@ -13,16 +13,15 @@ use tb_param::Params;
 use tb_pool::{ListId, Lists};
 use tb_scaled::Glue;
 
-// The rule above footnotes stands between two kerns, and takes no room with them (LaTeX's `\footnoterule`: 3, 0.4 and
-// 2.6 points).
+// The rule above footnotes is between two kerns, and takes no room with them (LaTeX's `\footnoterule`: 3, 0.4 and 2.6
+// points).
 const KERN_ABOVE: i64 = -196_608;
 
 const RULE_HEIGHT: i64 = 26_214;
 
 const KERN_BELOW: i64 = 170_394;
 
-/// Puts what stands above footnotes at the end of a list, in four places that are spare: this glue, and the rule between
-/// two kerns.
+/// Puts what is above footnotes at the end of a list, in four spare places: this glue, and the rule between two kerns.
 pub fn push_rule(store: &mut Lists<Node>, l: ListId, skip: Glue)
     requires live { IsLive store.old l }
     requires room { 4 ≤ store.old.spare }
@@ -44,14 +43,14 @@ pub fn push_rule(store: &mut Lists<Node>, l: ListId, skip: Glue)
     push_made(store, l, Kind::Kern(KERN_BELOW));
 }
 
-// How many nodes stand above the insertions of a class.
+// How many nodes are above the insertions of a class.
 fn above_length(class: u8) -> usize
     ensures { result ≡ above_length class }
 {
     if class == FOOTNOTES { 4 } else { 1 }
 }
 
-/// How many nodes stand above the insertions of these classes together.
+/// How many nodes are above the insertions of all these classes.
 pub(crate) fn above_count(notes: &[NoteBox]) -> usize
     requires { AreRisingFrom 0 notes.now }
     ensures value { result ≡ above_count notes.now }
@@ -64,7 +63,7 @@ pub(crate) fn above_count(notes: &[NoteBox]) -> usize
     count
 }
 
-// Puts what stands above the insertions of a class at the end of a list.
+// Puts what is above the insertions of a class at the end of a list.
 fn push_class(store: &mut Lists<Node>, p: &Params, l: ListId, note: &NoteBox)
     requires live { IsLive store.old l }
     requires room { above_length note.now.class ≤ store.old.spare }

@@ -69,7 +69,7 @@ nat-same a b e = elim (cases_eq a b) [
   | inr ne ↦ let no : false ≡ true = sym (ne_eqb a b ne) ∙ e in cc
 ]
 
--- the class of a float that stands among those that are known
+-- the class of a float that is among those that are known
 known-class : (known : List Bool) (k : ℕ) (fs : List Float) → AreKnown known fs → has_class k fs ≡ true → slice_get known k ≡ Some true
 known-class known k [] h has = cc
 known-class known k (f ∷ fs) h has = by_test (f.class == k) refl (λ o. known-class known k fs h.1 o) has

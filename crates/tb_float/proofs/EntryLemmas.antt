@@ -17,14 +17,14 @@ pub next-is_float : (e : Entry) (es : List Entry) (left : List Float) → e ∷ 
 next-is_float e es [] is = cc
 next-is_float e es (f ∷ fs) is = let same : e ≡ entries.Float f = cc in ap is_float same
 
--- it stands at the place, and the others from the next place on
+-- it is at the place, and the others from the next place on
 pub next-entry : (fs : List Float) (k : ℕ) (e : Entry) (es : List Entry) (f : Float) → e ∷ es ≡ float_entries (drop k fs) → e ≡ entries.Float f → (slice_get fs k ≡ Some f) × (es ≡ float_entries (drop (suc k) fs))
 next-entry [] zero e es f is it = cc
 next-entry [] (suc k) e es f is it = cc
 next-entry (g ∷ fs) zero e es f is it = let same : g ≡ f = cc in (ap Some same, cc)
 next-entry (g ∷ fs) (suc k) e es f is it = next-entry fs k e es f is it
 
--- there is none where the list ends
+-- there is none if the list has ended
 pub no-entry : (fs : List Float) (k : ℕ) → [] ≡ float_entries (drop k fs) → length fs ≤ k
 no-entry [] k is = omega arith
 no-entry (g ∷ fs) zero is = cc

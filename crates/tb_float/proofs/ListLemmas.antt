@@ -108,7 +108,7 @@ module _ {X : Type 0} where
   whole-at (y ∷ xs) zero x got = ap (λ z. z ∷ xs) (same_Some y x got)
   whole-at (y ∷ xs) (suc k) x got = ap (λ zs. y ∷ zs) (whole-at xs k x got)
 
-  -- the front of a list where others follow it
+  -- the front of a list that others follow
   pub take-front : (k : ℕ) (xs ys : List X) → k ≤ length xs → take k (take k xs ++ ys) ≡ take k xs
   take-front zero [] ys le = refl
   take-front (suc k) [] ys le = absurd (omega arith)

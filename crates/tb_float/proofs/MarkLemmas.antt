@@ -12,7 +12,7 @@ pub marked-none : (ms : List Bool) → marked_among ms [] ≡ []
 marked-none [] = refl
 marked-none (m ∷ ms) = refl
 
--- where no mark is set, no float is marked
+-- if no mark is set, no float is marked
 pub marked-false : (n : ℕ) (fs : List Float) → marked_among (replicate n false) fs ≡ []
 marked-false zero fs = refl
 marked-false (suc n) [] = refl
@@ -25,7 +25,7 @@ marked-append (m ∷ ms) ns [] gs e = absurd (omega arith)
 marked-append (true ∷ ms) ns (f ∷ fs) gs e = ap (λ hs. f ∷ hs) (marked-append ms ns fs gs (omega arith))
 marked-append (false ∷ ms) ns (f ∷ fs) gs e = marked-append ms ns fs gs (omega arith)
 
--- where none is marked, none is without one of them
+-- if none is marked, none is without one of them
 marked-without : (k : ℕ) (ms : List Bool) (fs : List Float) → marked_among ms fs ≡ [] → marked_among (without_place k ms) (without_place k fs) ≡ []
 marked-without zero [] fs e = refl
 marked-without (suc k) [] fs e = refl

@@ -17,7 +17,7 @@ pub record Differ (from to one rest : ℕ) : Type 0 where
   pub one_rest : one ≢ rest
 
 module _ {V : Type 0} where
-  -- the value goes through one helper list, and what stood behind it through the other
+  -- the value goes through one helper list, and what followed it through the other
   moved-map : (m : FinMap nat_cmp (List V)) (from to one rest : ℕ) (front back ys : List V) (s u : V) → Differ from to one rest → get m one ≡ Some [] → get m rest ≡ Some []
       → insert (insert (insert (insert (insert (insert (insert (insert (insert m from front) one (s ∷ back)) one (s ∷ [])) rest back) one (u ∷ [])) to (ys ++ u ∷ [])) one []) from (front ++ back)) rest []
       ≡ insert (insert m from (front ++ back)) to (ys ++ u ∷ [])

@@ -1,4 +1,4 @@
--- Parameters that lie in the ranges of their rows lie in the ranges that the calls on floats and notes ask.
+-- Parameters in the ranges of their rows are in the ranges that the calls on floats and notes need.
 use Rattle.std.proofs.Common.{◌≡◌, refl, subst, ℕ, zero, suc, Bool, true, false, List, [], ◌∷◌, Some, slice_get, ℤ, pos, ◌≤ℤ◌, arith}
 use Rattle.std.specs.Prelude.{◌&&◌, IsTrue}
 use Rattle.std.specs.List.{list_all}

@@ -1,4 +1,4 @@
--- The lists of the pool, told apart, and a value for each of them.
+-- The lists of the pool, by cases, and a value for each of them.
 use Rattle.std.proofs.Common.{◌≡◌, ◌≢◌, ◌⊎◌, inl, inr, ℕ, zero, suc, ◌==◌, if◌then◌else◌, List, [], ◌∷◌, Some, slice_get, refl, sym, ap, ◌∙◌}
 use Rattle.std.proofs.lemmas.Bool.{cases_eq, eq-eqb, ne_eqb}
 use Rattle.tb_float.specs.declared.Part.{Part}

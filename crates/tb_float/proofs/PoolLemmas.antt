@@ -52,7 +52,7 @@ put-in store new sh h size e k sized room pushed spare =
       seen = ap (λ a. seen_pool a size) w.slots ∙ (λ i. record (seen_pool at size) { lists = record (seen_lists at) { current = map-append (λ (r : SlotView). r.entry) (at parts.Current) (s ∷ []) i } });
     }
 
--- a slot that is a float and bears no mark may stand anywhere
+-- a slot that is a float without a mark may be anywhere
 bare-slot : (p q : Part) (s : SlotView) → IsSlotOf p s → is_float s.entry ≡ true → IsSlotOf q (unmarked_slot s)
 bare-slot p q s h is = record { sized = h.sized; float = λ n. is; unmarked = λ n. refl }
 
@@ -153,7 +153,7 @@ rewritten store new sh h size p xs stored e spare slots same_length same_sum =
     subst (λ (g : ByPart ℤ). Written new sh g size (put p xs (slots_of store sh))) (with_part-same p h)
     (written store new sh h size p xs (of_part h p) stored e slots (stored.sound.heights_are p ∙ sym same_sum) (omega arith) (omega arith))
 
--- the float that is seen at a place stands there
+-- the float that is seen at a place is there
 pub float-there : (at : Part → List SlotView) (p : Part) (k : ℕ) (f : Float) → AreSlotsOf p (at p) → slice_get (entries_of p (seen_lists at)) k ≡ Some (entries.Float f)
     → (s : SlotView) × (slice_get (at p) k ≡ Some s) × (s.entry ≡ entries.Float f)
 float-there at p k f h e = slot-of_entry (at p) k (entries.Float f) (sym (ap (λ es. slice_get es k) (entries_of-seen p at h)) ∙ e)

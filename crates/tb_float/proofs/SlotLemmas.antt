@@ -44,7 +44,7 @@ pub total_height-append : (fs gs : List Float) → total_height (fs ++ gs) ≡ t
 total_height-append [] gs = omega (arith, ints)
 total_height-append (f ∷ fs) gs = omega (arith, ints, total_height-append fs gs)
 
--- ---- slots that may stand in a list
+-- ---- slots that may be in a list
 
 module _ (p : Part) where
   pub slots-append : (ss ts : List SlotView) → AreSlotsOf p ss → AreSlotsOf p ts → AreSlotsOf p (ss ++ ts)
@@ -77,7 +77,7 @@ module _ (p : Part) where
   length-first (entries.Left m) fs is = cc
   length-first (entries.Right m) fs is = cc
 
-  -- where no notes stand, all entries are floats
+  -- if there are no notes, all entries are floats
   pub entries-are_floats : (ss : List SlotView) → holds_notes p ≡ false → AreSlotsOf p ss → entries_in ss ≡ float_entries (floats_in ss)
   entries-are_floats [] no_notes h = refl
   entries-are_floats (s ∷ ss) no_notes h =
@@ -98,7 +98,7 @@ module _ (p : Part) where
   floats-sized [] h = All-nil IsSizedFloat
   floats-sized (s ∷ ss) h = float-sized s.entry (floats_in ss) h.0.sized (floats-sized ss h.1)
 
-  -- where no marks stand, none is set
+  -- if there are no marks, none is set
   pub marks-none : (ss : List SlotView) → holds_marks p ≡ false → AreSlotsOf p ss → marks_in ss ≡ replicate (length ss) false
   marks-none [] no_marks h = refl
   marks-none (s ∷ ss) no_marks h =
@@ -204,14 +204,14 @@ pub marks-unmarked : (ss : List SlotView) → marks_in (map unmarked_slot ss) �
 marks-unmarked [] = refl
 marks-unmarked (s ∷ ss) = ap (λ ms. false ∷ ms) (marks-unmarked ss)
 
--- ---- an entry that is seen stands in a slot
+-- ---- an entry that is seen is in a slot
 
 pub slot-of_entry : (ss : List SlotView) (k : ℕ) (e : Entry) → slice_get (entries_in ss) k ≡ Some e → (s : SlotView) × (slice_get ss k ≡ Some s) × (s.entry ≡ e)
 slot-of_entry [] k e h = cc
 slot-of_entry (s ∷ ss) zero e h = (s, refl, grind arith)
 slot-of_entry (s ∷ ss) (suc k) e h = slot-of_entry ss k e h
 
--- the float of a slot is seen at the slot's place, where no notes stand
+-- the float of a slot is seen at the slot's place, if there are no notes
 pub float-at_slot : (p : Part) (k : ℕ) (ss : List SlotView) (s : SlotView) (f : Float) → holds_notes p ≡ false → AreSlotsOf p ss → slice_get ss k ≡ Some s → s.entry ≡ entries.Float f → slice_get (floats_in ss) k ≡ Some f
 float-at_slot p k [] s f no_notes h e is = cc
 float-at_slot p zero (t ∷ ss) s f no_notes h e is =

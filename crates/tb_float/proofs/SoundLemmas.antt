@@ -187,7 +187,7 @@ marks_in-set k [] s e was = refl
 marks_in-set zero (t ∷ ss) s e was = let same : t ≡ s = grind arith in ap (λ r. r.marked ∷ marks_in ss) (sym same)
 marks_in-set (suc k) (t ∷ ss) s e was = ap (λ ms. t.marked ∷ ms) (marks_in-set k ss s e was)
 
--- a float stands at a place in the stead of another entry, with the same mark
+-- a float is put in the place of another entry, with the same mark
 pub seen-set : (p : Part) (at : Part → List SlotView) (k : ℕ) (f : Float) (m : Bool) (n : ℕ) → AreSlotsOf p (at p) → marks_in (slice_set (at p) k (record { entry = entries.Float f; marked = m })) ≡ marks_in (at p)
     → seen_pool (put p (slice_set (at p) k (record { entry = entries.Float f; marked = m })) at) n ≡ with_float_at p k f (seen_pool at n)
 seen-set p at k f m n h marks =

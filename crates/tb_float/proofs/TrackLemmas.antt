@@ -130,7 +130,7 @@ count-most (false ∷ ms) (f ∷ fs) = omega (arith, count-most ms fs)
 pub few-chosen : (v : FloatPool) → chosen_count v ≤ live_count v.lists
 few-chosen v = omega (arith, count-most v.marks v.lists.deferred, count-most v.second_marks v.lists.second)
 
--- where none is chosen, none is marked
+-- if none is chosen, none is marked
 pub all-unmarked : (p : Part) (known : List Bool) (v : FloatPool) → IsWaiting p → Tracks known 0 v → marked_floats p v ≡ []
 all-unmarked parts.Deferred known v w t = by_length (marked_floats parts.Deferred v) (omega (arith, t.few))
   where

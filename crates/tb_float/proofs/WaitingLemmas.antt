@@ -1,4 +1,4 @@
--- The lists told apart by what they hold: notes, floats, and floats that wait and bear marks.
+-- The lists by what they hold: notes, floats, and floats that wait and bear marks.
 use Rattle.std.proofs.Common.{◌≡◌, ◌≢◌, ◌⊎◌, inl, inr, Bool, true, false, List, [], length, refl, ap, ◌∙◌}
 use Rattle.std.specs.Prelude.{ℕ, if◌then◌else◌}
 use Rattle.tb_node.specs.declared.Float.{Float}
@@ -10,7 +10,7 @@ use Rattle.tb_float.specs.declared.Part.TheVariants as parts
 use Rattle.tb_float.specs.Pool.{FloatPool, HasNoMarks, pool_with, marks_of, with_marks_of, with_contents, marked_among, marked_floats}
 use Rattle.tb_float.specs.Lists.{FloatLists, floats_of, entries_of, entry_count, float_entries, with_floats_of, IsWaiting, wide_part, holds_notes, holds_marks}
 
--- the floats of a list where they were put in it
+-- the floats of a list into which they were put
 pub floats-with : (from : Part) → IsWaiting from → (fs : List Float) (l : FloatLists) → floats_of from (with_floats_of from fs l) ≡ fs
 floats-with parts.Current w fs l = absurd w
 floats-with from w fs l = refl
@@ -87,7 +87,7 @@ marks-count from w v e f = absurd w
 pub all-marked : (v : FloatPool) → ((p : Part) → IsWaiting p → length (marks_of p v) ≡ length (floats_of p v.lists)) → HasAllMarks v
 all-marked v h = record { deferred = h parts.Deferred tt; second = h parts.Second tt }
 
--- none of its floats is chosen where none is at all
+-- none of its floats is chosen if none is at all
 pub none-chosen : (p : Part) → IsWaiting p → (v : FloatPool) → HasNoMarks v → marked_floats p v ≡ []
 none-chosen parts.Deferred w v e = e.deferred
 none-chosen parts.Second w v e = e.second
@@ -140,13 +140,13 @@ floats-contents p w es fs ms v = refl
 pub marks-contents : (p : Part) → IsWaiting p → (es : List Entry) (fs : List Float) (ms : List Bool) (v : FloatPool) → marks_of p (with_contents p es fs ms v) ≡ ms
 marks-contents p w es fs ms v = ap (marks_of p) (contents-waiting p w es fs ms v) ∙ marks-with p w ms (record v { lists = with_floats_of p fs v.lists })
 
--- no float is chosen where none of what was written is
+-- no float is chosen if none of what was written is
 pub contents-unmarked : (p : Part) (es : List Entry) (fs : List Float) (ms : List Bool) (v : FloatPool) → HasNoMarks v → (IsWaiting p → marked_among ms fs ≡ []) → HasNoMarks (with_contents p es fs ms v)
 contents-unmarked parts.Deferred es fs ms v e none = record { deferred = none tt; second = e.second }
 contents-unmarked parts.Second es fs ms v e none = record { deferred = e.deferred; second = none tt }
 contents-unmarked p es fs ms v e none = record { deferred = e.deferred; second = e.second }
 
--- each float has its mark where each that was written has
+-- each float has its mark if each that was written has
 pub contents-marked : (p : Part) (es : List Entry) (fs : List Float) (ms : List Bool) (v : FloatPool) → HasAllMarks v → (IsWaiting p → length ms ≡ length fs) → HasAllMarks (with_contents p es fs ms v)
 contents-marked parts.Deferred es fs ms v e same = record { deferred = same tt; second = e.second }
 contents-marked parts.Second es fs ms v e same = record { deferred = e.deferred; second = same tt }

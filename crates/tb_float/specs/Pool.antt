@@ -31,7 +31,7 @@ with_marks_of parts.Deferred ms v = record v { marks = ms }
 with_marks_of parts.Second ms v = record v { second_marks = ms }
 with_marks_of p ms v = v
 
--- the pool where one of its lists holds these: entries where it is the current one; else floats, with these marks where they wait
+-- the pool with these in one of its lists: entries if it is the current one; else floats, with these marks if they wait
 abbrev pub with_contents : Part → List Entry → List Float → List Bool → FloatPool → FloatPool
 with_contents parts.Current es fs ms v = record v { lists = record v.lists { current = es } }
 with_contents p es fs ms v = with_marks_of p ms (record v { lists = with_floats_of p fs v.lists })
@@ -72,7 +72,7 @@ joined_before from to v = with_floats_before to (floats_of from v.lists) (withou
 abbrev pub with_places : Places → Float → Float
 with_places places f = record f { places = places }
 
--- another float stands at a place
+-- another float is at a place
 abbrev pub with_float_at : Part → ℕ → Float → FloatPool → FloatPool
 with_float_at p k f v = with_contents p (slice_set v.lists.current k (entries.Float f)) (slice_set (floats_of p v.lists) k f) (marks_of p v) v
 

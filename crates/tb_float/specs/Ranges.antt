@@ -1,4 +1,4 @@
--- The ranges of what the float calls are given, and of what they answer.
+-- The ranges of what the float calls are given, and of what they return.
 use Rattle.std.specs.Prelude.{ℕ, ℤ, pos, neg_ℤ, ◌≤ℤ◌}
 pub use Rattle.tb_node.specs.Fit.{IsDimension, IsExtent}
 use Rattle.tb_node.specs.declared.Float.{Float}
@@ -26,7 +26,7 @@ pub record IsWithin (n : ℕ) (z : ℤ) : Type 0 where
 abbrev pub IsRoom : ℤ → Type 0
 IsRoom z = IsWithin 70368744177664 z
 
--- the parameters on which the place of a float depends lie in their ranges
+-- the parameters on which the place of a float depends are in their ranges
 pub record AreFloatParams (p : Params) : Type 0 where
   pub textheight : IsExtent p.textheight
   pub textfloatsep : IsDimension p.textfloatsep.width

@@ -62,7 +62,7 @@ is_float (entries.Float f) = true
 is_float (entries.Left m) = false
 is_float (entries.Right m) = false
 
--- the slot may stand in the list
+-- the slot may be in the list
 pub record IsSlotOf (p : Part) (s : SlotView) : Type 0 where
   pub sized : IsSizedEntry s.entry
   pub float : holds_notes p ≡ false → is_float s.entry ≡ true
@@ -76,12 +76,12 @@ AreSlotsOf p (s ∷ ss) = IsSlotOf p s × AreSlotsOf p ss
 abbrev pub slot_count : (Part → List SlotView) → ℕ
 slot_count at = sum_of_lists (λ p. length (at p))
 
--- each slot may stand where it does, and the sums are those of the lists
+-- each slot may be where it is, and the sums are those of the lists
 pub record AreSound (at : Part → List SlotView) (heights : ByPart ℤ) : Type 0 where
   pub slots : (p : Part) → AreSlotsOf p (at p)
   pub heights_are : (p : Part) → of_part heights p ≡ total_height (floats_in (at p))
 
--- no more boxes live than may, and each that may live has its place
+-- no more boxes live than may, and there is a place for each that may live
 pub record HasPlaces (at : Part → List SlotView) (size spare : ℕ) : Type 0 where
   pub within : slot_count at ≤ size
   pub room : size ≤ slot_count at + spare

@@ -4,11 +4,11 @@ ghost use Rattle.tb_node.specs.declared.Float.{Float};
 ghost use Rattle.tb_float.specs.Classes.{AreClassesOf, AreKnown, AreOfClasses, HasLeft, set_count};
 ghost use Rattle.tb_float.specs.Lists.{has_class};
 
-/// A set of classes of floats, so that a walk over a list knows at each float whether one of its class stands before it.
+/// A set of classes of floats, so that a walk over a list knows at each float whether one of its class comes before it.
 #[derive(Clone, Copy)]
 pub struct ClassSet {
     flags: [bool; 256],
-    // How many classes of a list are not in the set, if it was made for one. No list has more.
+    // If the set was made for a list: no more than this many of its classes are not in the set.
     left: usize,
 }
 

@@ -11,7 +11,7 @@ use crate::{Entry, Part, Pool, Slot};
 use tb_node::{Float, Places};
 
 impl Pool {
-    /// The float at a place of a list goes to the end of another, by its links alone, and loses its mark.
+    /// The float at a place of a list goes to the end of another, by links alone, and loses its mark.
     pub fn move_to(&mut self, from: Part, k: usize, to: Part)
         requires apart { from ≢ to }
         requires float { HasFloatAt (entries_of from self.old.lists) k }
@@ -31,7 +31,7 @@ impl Pool {
         self.heights.raise(to, height);
     }
 
-    /// All floats of a list go before those of another, by their links alone, and lose their marks.
+    /// All floats of a list go before those of another, by links alone, and lose their marks.
     pub fn join_front(&mut self, from: Part, to: Part)
         requires apart { from ≢ to }
         requires floats { entries_of from self.old.lists ≡ float_entries (floats_of from self.old.lists) }
@@ -66,7 +66,7 @@ impl Pool {
         unmark_all(&mut self.store, list);
     }
 
-    /// The first entry of a list leaves the pool. None exactly where the list is empty.
+    /// The first entry of a list leaves the pool. None exactly if the list is empty.
     pub fn retire(&mut self, p: Part) -> Option<Entry>
         ensures first { result ≡ slice_get (entries_of p self.old.lists) 0 }
         ensures empty { IsNone result ↔ (entry_count p self.old.lists ≡ 0) }
@@ -119,8 +119,8 @@ impl Pool {
         self.chosen = one_more(self.chosen);
     }
 
-    /// The first marked float of a list in which floats wait leaves the pool. None exactly where none is marked; no float of the
-    /// list is marked then.
+    /// The first marked float of a list in which floats wait leaves the pool. None exactly if no float of the list is
+    /// marked.
     pub fn retire_marked(&mut self, from: Part) -> Option<Float>
         requires { IsWaiting from }
         ensures none { IsNone result ↔ (marked_floats from self.old ≡ []) }
@@ -145,7 +145,7 @@ impl Pool {
     }
 }
 
-// A number of floats and one more. No more than 4096 wait.
+// A number of floats and one more; no more than 4096 wait.
 fn one_more(count: usize) -> usize
     ensures { (k : ℕ) → k ≤ count + 1 → k ≤ 4096 → k ≤ result }
 {

@@ -96,7 +96,7 @@ impl Pool {
     }
 
     /// How many more floats a limit lets in (after ltoutput.dtx, `\@topnum`, `\@botnum`, `\@colnum` and `\@dbltopnum`). A
-    /// float with the mark `!` may come where none may.
+    /// float with the mark `!` may come even if none may.
     pub fn count_left(&self, p: &Params, s: &Suppress, l: Limit, bang: bool) -> i64
         requires { AreFloatParams p.now }
         ensures { result ≡ count_left_of p.now self.now.lists s.now l bang }
@@ -113,7 +113,7 @@ impl Pool {
     }
 }
 
-// How many are left of a number after some were used. A float with the mark `!` may come where none may.
+// How many are left of a number after some were used. A float with the mark `!` may come even if none may.
 fn count_after(number: i64, used: usize, suppressed: bool, bang: bool) -> i64
     requires number { IsCount number }
     requires used { used ≤ 16384 }

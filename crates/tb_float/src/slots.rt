@@ -12,7 +12,7 @@ use crate::{Entry, Slot};
 use tb_node::Float;
 use tb_pool::{ListId, Lists};
 
-/// The slot at a place goes to the end of another list, without its mark and by its links alone; returns it as it was.
+/// The slot at a place goes to the end of another list, without its mark, by links alone; returns it as it was.
 #[tactic(auto, using(tb_pool::proofs::MapLemmas::list_steps))]
 pub(crate) fn move_slot(
     store: &mut Lists<Slot>,
@@ -129,7 +129,7 @@ pub(crate) fn first_marked(store: &Lists<Slot>, l: ListId) -> usize
     count
 }
 
-/// Whether a float of this class stands among the first entries of a list.
+/// Whether a float of this class is among the first entries of a list.
 pub(crate) fn class_stands(store: &Lists<Slot>, l: ListId, count: usize, class: u8) -> bool
     requires { IsLive store.now l }
     ensures { result ≡ has_class class (floats_in (take count (list_at store.now l))) }

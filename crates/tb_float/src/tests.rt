@@ -42,7 +42,7 @@ fn float_of(name: Name, class: u8, height: i64) -> Float
     }
 }
 
-// The first of a list goes to another, where it is a float.
+// The first of a list goes to another, if it is a float.
 fn move_first(pool: &mut Pool, from: Part, to: Part) -> bool
     requires { from ≢ to }
 {
@@ -53,7 +53,7 @@ fn move_first(pool: &mut Pool, from: Part, to: Part) -> bool
     true
 }
 
-// The first of a list may stand on a page of floats alone, where it is a float.
+// The first of a list may go on a page of floats alone, if it is a float.
 fn send_to_page(pool: &mut Pool, p: Part) -> bool {
     let Some(Entry::Float(_)) = pool.entry(p, 0) else {
         return false;

@@ -11,7 +11,7 @@ use Rattle.tb_fpage.specs.Company.{Choice, company}
 use Rattle.tb_fpage.specs.Chosen.{IsChosen}
 use Rattle.tb_fpage.proofs.LawLemmas.{company-is-lawful, marked-company, unmarked-company}
 
--- the floats that marks choose, where they are set in the list
+-- the floats that marks choose, if they are set in the list
 marked-with : (from : Part) → IsWaiting from → (ms : List Bool) (v : FloatPool) → marked_floats from (with_marks_of from ms v) ≡ marked_among ms (floats_of from v.lists)
 marked-with from w ms v = ap (λ ns. marked_among ns (floats_of from (with_marks_of from ms v).lists)) (marks-with from w ms v) ∙ ap (λ l. marked_among ms (floats_of from l)) (lists-marked from ms v)
 

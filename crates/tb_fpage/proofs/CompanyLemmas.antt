@@ -69,7 +69,7 @@ get-dropped [] rest (suc k) f is = cc
 get-dropped (g ∷ fs) rest zero f is = let same : g ≡ f = cc in ap Some same
 get-dropped (g ∷ fs) rest (suc k) f is = get-dropped fs rest k f is
 
--- the next one stands at the place
+-- the next one is at the place
 pub tried-there : (z : Wanted) (earlier : ClassSet) (place : ℕ) (all rest : List Float) (f : Float) → AreTried z earlier place all (f ∷ rest) → slice_get all place ≡ Some f
 tried-there z earlier place all rest f t = get-dropped all rest place f t.left_are
 

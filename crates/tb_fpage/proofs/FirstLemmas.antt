@@ -1,4 +1,4 @@
--- A company takes a float, and where floats are cleared the first one that suits heads a company.
+-- A company takes a float, and if floats are cleared, the first one that suits heads a company.
 use Rattle.std.proofs.Common.{◌≡◌, refl, sym, ◌∙◌, subst, ℕ, ◌+◌, ◌≤◌, Bool, true, false, not, ◌||◌, ◌&&◌, List, [], ◌∷◌, ◌++◌, length, Some, None, arith, length-append}
 use Rattle.std.specs.Prelude.{if◌then◌else◌}
 use Rattle.std.specs.List.{AllByRecursion}
@@ -15,7 +15,7 @@ head-made true b true h k = refl
 head-made true b false h k = let no : ⊥ = grind (arith, k) in absurd no
 head-made false b c h k = let no : ⊥ = grind (arith, h) in absurd no
 
--- where floats are cleared, the first float heads a company if it suits
+-- if floats are cleared, the first float heads a company if it suits
 pub first-heads : (z : Wanted) (f : Float) (fs : List Float) → z.clearing ≡ true → suits z f ≡ true → company z (f ∷ fs) ≡ Some (company_of_head z [] f fs)
 first-heads z f fs c s = chosen (is_head z [] f && is_made z (company_of_head z [] f fs)) (head-made (suits z f) _ z.clearing s c)
   where
@@ -23,7 +23,7 @@ first-heads z f fs c s = chosen (is_head z [] f && is_made z (company_of_head z 
     chosen true h = refl
     chosen false h = let no : ⊥ = grind (arith, h) in absurd no
 
--- so where none is made, it does not suit
+-- so if none is made, it does not suit
 pub none-suits : (z : Wanted) (f : Float) (fs : List Float) → z.clearing ≡ true → company z (f ∷ fs) ≡ None → suits z f ≡ false
 none-suits z f fs c e = by_test (suits z f) refl
   where

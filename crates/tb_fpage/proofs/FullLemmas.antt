@@ -1,4 +1,4 @@
--- Where no class is left, no later float joins a company, and none is a head.
+-- If no class is left, no later float joins a company, and none is a head.
 use Rattle.std.proofs.Common.{◌≡◌, ℕ, zero, suc, ◌≤◌, ◌==◌, Bool, true, false, not, ◌||◌, ◌&&◌, List, [], ◌∷◌, ◌++◌, length, take, drop, Some, None, slice_get, refl, sym, ap, ◌∙◌, subst, arith}
 use Rattle.std.specs.Prelude.{ℤ, int_le, Option, if◌then◌else◌}
 use Rattle.std.proofs.lemmas.Bool.{eq-eqb}
@@ -38,7 +38,7 @@ has-drop k zero fs h = h
 has-drop k (suc n) [] h = h
 has-drop k (suc n) (f ∷ fs) h = has-later k f fs (has-drop k n fs h)
 
--- a float that stands in a list has its class there
+-- a float of a list has its class there
 pub has-there : (fs : List Float) (n : ℕ) (f : Float) → slice_get fs n ≡ Some f → has_class f.class fs ≡ true
 has-there [] n f got = cc
 has-there (g ∷ fs) zero f got = let same : g ≡ f = cc in subst (λ (x : Float). has_class x.class (g ∷ fs) ≡ true) same (has-first g fs)

@@ -62,7 +62,7 @@ of_class-append k (f ∷ fs) gs = by_test (f.class == k) _ _ _ (of_class-append 
     by_test true x y z is = ap (λ hs. f ∷ hs) is
     by_test false x y z is = is
 
--- of each class, the chosen floats stand before those that are left
+-- of each class, the chosen floats come before those that are left
 abbrev InOrder : List Choice → Type 0
 InOrder cs = (k : ℕ) → of_class k (floats_of cs) ≡ of_class k (chosen_floats cs) ++ of_class k (left_floats cs)
 
@@ -229,7 +229,7 @@ fits-company z fs cs marked is chosen = subst (λ (y : ℤ). y ≤ℤ z.height) 
 pub high-company : (z : Wanted) (fs : List Float) (cs : List Choice) (marked : List Float) → company z fs ≡ Some cs → marked ≡ chosen_floats cs → IsTrue (z.clearing || int_lt z.minimum (floats_room (pos 0) z.sep marked))
 high-company z fs cs marked is chosen = ap (λ y. z.clearing || int_lt z.minimum y) (sym (height-room z.sep cs ∙ ap (floats_room (pos 0) z.sep) (sym chosen))) ∙ (company-is-lawful z fs cs is).made
 
--- where nothing is marked, all floats stay
+-- if nothing is marked, all floats stay
 pub unmarked-all : (ms : List Bool) (fs : List Float) → marked_among ms fs ≡ [] → unmarked_among ms fs ≡ fs
 unmarked-all [] fs none = refl
 unmarked-all (m ∷ ms) [] none = refl

@@ -94,7 +94,7 @@ pub marking-passed : (z : Wanted) (w v : Walk) (all rest : List Float) (f : Floa
 marking-passed z w v all rest f b marks further left decided stands m is =
     subst (λ (d : Bool). IsMarking v z all (if d then slice_set marks w.seen true else marks)) is (marking-next z w v all rest f b marks further left decided stands m)
 
--- where none is left, the marks are those of the company
+-- if none is left, the marks are those of the company
 pub marking-over : (z : Wanted) (w : Walk) (all : List Float) (marks : List Bool) → [] ≡ drop w.seen all → IsMarking w z all marks → (choices : List Choice) × (company z all ≡ Some choices) × (marks ≡ map (λ c. c.chosen) choices)
 marking-over z w all marks none m =
     (m.choices, m.made, m.marked ∙ ap (λ fs. map (λ c. c.chosen) m.way.before ++ map (λ f. false) fs) (sym none) ∙ append-nil (map (λ c. c.chosen) m.way.before) ∙ ap (map (λ c. c.chosen)) (on-way-end z w all m.choices none m.way))
@@ -123,7 +123,7 @@ drop-first : (before cs : List Choice) → drop (length before) (before ++ cs) �
 drop-first [] cs = refl
 drop-first (b ∷ before) cs = drop-first before cs
 
--- where the last of the company was passed, the marks are those of the company
+-- if the last of the company was passed, the marks are those of the company
 pub marking-full : (z : Wanted) (w : Walk) (all : List Float) (marks : List Bool) (last : ℕ) → w.seen ≡ last → CompanyEndsBy last z all → IsMarking w z all marks → (choices : List Choice) × (company z all ≡ Some choices) × (marks ≡ map (λ c. c.chosen) choices)
 marking-full z w all marks last at ends m =
     let before = m.way.before in

@@ -65,7 +65,7 @@ chosen-last (d ∷ cs) f = ap (λ b. d.chosen || b) (chosen-last cs f) ∙ or-tr
     or-true true = refl
     or-true false = refl
 
--- each float of a class is in the company where none of them is left
+-- each float of a class is in the company if none of them is left
 pub all-chosen : (k : ℕ) (cs : List Choice) → all_chosen k cs ≡ not (has_class k (left_floats cs))
 all-chosen k [] = refl
 all-chosen k (c ∷ cs) = by_choice c.chosen (c.float.class == k) refl (all-chosen k cs)
@@ -200,7 +200,7 @@ joins-failed z w before f b h failed not_may =
 pub joins-unsuited : (z : Wanted) (before : List Choice) (f : Float) → suits z f ≡ false → joins z before f ≡ false
 joins-unsuited z before f not_suited = ap (λ a. a && all_chosen f.class before && int_le (company_height z.sep (before ++ record { float = f; chosen = true } ∷ [])) z.height) not_suited
 
--- a later float that suits, and whose class did not fail, joins where it fits
+-- a later float that suits, and whose class did not fail, joins if it fits
 pub joins-fits : (z : Wanted) (w : Walk) (before : List Choice) (f : Float) (b : Bool) (height most : ℤ) → b ≡ has_class f.class (left_floats before) → suits z f ≡ true → not b ≡ true → height ≡ w.height +ℤ z.sep +ℤ f.height → most ≡ z.height → IsWalkOf w z.sep before → int_le height most ≡ joins z before f
 joins-fits z w before f b height most failed suit may is at h =
     ap (λ y. int_le y most) is ∙ ap (λ y. int_le (w.height +ℤ z.sep +ℤ f.height) y) at ∙ sym (joins-is z w before f b h failed ∙ ap (λ s. s && not b && int_le (w.height +ℤ z.sep +ℤ f.height) z.height) suit ∙ ap (λ s. s && int_le (w.height +ℤ z.sep +ℤ f.height) z.height) may)
@@ -239,7 +239,7 @@ on-way-next z w v all rest f b choices further left decided stands way = record 
   ends = on-way-ends z w v all rest f b choices further left way (decided way.before way.stands);
 }
 
--- where none is left, the choices so far are all of them
+-- if none is left, the choices so far are all of them
 pub on-way-end : (z : Wanted) (w : Walk) (all : List Float) (choices : List Choice) → [] ≡ drop w.seen all → (way : IsOnWay w z all choices) → way.before ≡ choices
 on-way-end z w all choices none way = ap (choices_from z way.before) none ∙ way.ends
 

@@ -1,4 +1,4 @@
--- How a walk over the floats after a head stands. No public clause cites this module.
+-- A walk over the floats after a head, on its way. No public clause cites this module.
 use Rattle.std.specs.Prelude.{◌≡◌, ℕ, ◌+◌, ◌≤◌, ◌*◌, ℤ, Bool, true, false, ◌||◌, ◌&&◌, List, [], ◌∷◌, ◌++◌, length, map, take, drop, suc, Some, slice_get}
 use Rattle.tb_node.specs.declared.Float.{Float}
 use Rattle.tb_float.specs.declared.classes.ClassSet.{ClassSet}
@@ -21,7 +21,7 @@ abbrev pub has_chosen : List Choice → Bool
 has_chosen [] = false
 has_chosen (c ∷ cs) = c.chosen || has_chosen cs
 
--- the walk that has passed the head at a place, where the floats before it have these classes
+-- the walk that has passed the head at a place, if the floats before it have these classes
 abbrev pub after_head : ℕ → ℤ → ClassSet → Walk
 after_head place height earlier = record { seen = place + 1; last = place + 1; height = height; failed = earlier }
 
@@ -37,11 +37,11 @@ taken height w = record w { seen = w.seen + 1; last = w.seen + 1; height = heigh
 abbrev pub passed : ClassSet → Walk → Walk
 passed failed w = record w { seen = w.seen + 1; failed = failed }
 
--- the last float of the company stands before this place
+-- the last float of the company comes before this place
 abbrev pub EndsBy : ℕ → List Choice → Type 0
 EndsBy last cs = has_chosen (drop last cs) ≡ false
 
--- the last float of the company that makes the column stands before this place
+-- the last float of the company that makes the column comes before this place
 abbrev pub CompanyEndsBy : ℕ → Wanted → List Float → Type 0
 CompanyEndsBy last z fs = (choices : List Choice) → company z fs ≡ Some choices → EndsBy last choices
 
@@ -70,14 +70,14 @@ pub record IsAfterHead (w : Walk) (z : Wanted) (all : List Float) : Type 0 where
   pub stands : IsWalkOf w z.sep (head_choices (take place all) head)
   pub made : company z all ≡ Some (company_of_place z place all head)
 
--- a walk that chooses the company that makes the column, where the floats that were chosen so far have these marks
+-- a walk that chooses the company that makes the column, if the floats that were chosen so far have these marks
 pub record IsMarking (w : Walk) (z : Wanted) (all : List Float) (marks : List Bool) : Type 0 where
   pub choices : List Choice
   pub made : company z all ≡ Some choices
   pub way : IsOnWay w z all choices
   pub marked : marks ≡ map (λ c. c.chosen) way.before ++ map (λ f. false) (drop w.seen all)
 
--- no head before a place has a company that is made; these floats stand from there on, and the set has the classes of those before them
+-- no head before a place has a company that is made; these floats come from there on, and the set has the classes of those before them
 pub record AreTried (z : Wanted) (earlier : ClassSet) (place : ℕ) (all left : List Float) : Type 0 where
   pub left_are : left ≡ drop place all
   pub within : place ≤ length all

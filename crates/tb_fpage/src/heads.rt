@@ -1,5 +1,5 @@
-//! The heads of companies: one walk over the floats that wait finds them, a walk from each gathers its company, and the
-//! company that makes the column is marked by the same walk.
+//! The heads of companies: one walk over the floats that wait finds them, and a walk from each gathers its company; the
+//! same walk marks the company that makes the column.
 ghost use Rattle.std.specs.Prelude.{◌≡◌, ◌≤◌, ◌<◌, List, [], length, map, take, slice_get, slice_set, Some, None, IfSome, IfNone, OnSome, true, false, ◌||◌, int_lt};
 ghost use Rattle.tb_node.specs.declared.Float.{Float as PlainFloat};
 ghost use Rattle.tb_float.specs.Classes.{AreClassesOf, HasLeft};
@@ -19,7 +19,7 @@ use tb_node::Float;
 pub(crate) struct Company {
     /// A walk that has passed its head.
     walk: Walk,
-    /// How many floats stand up to its last one.
+    /// How many floats there are up to its last one.
     last: usize,
 }
 

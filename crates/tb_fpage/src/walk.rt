@@ -25,8 +25,8 @@ pub(crate) struct Walk {
 }
 
 impl Walk {
-    /// A walk that has passed the head, which stands at a place and is so high; the floats before it, which have these
-    /// classes, stay behind.
+    /// A walk that has passed the head, which is at a place and is so high; the floats before it, which have these classes,
+    /// stay behind.
     pub(crate) fn after_head(place: usize, height: i64, earlier: ClassSet) -> Walk
         requires { place < 4096 }
         ensures { result ≡ after_head place height earlier }
@@ -97,7 +97,7 @@ fn higher(height: i128, sep: i64, float: i64) -> i128
     height + i128::from(sep) + i128::from(float)
 }
 
-/// Whether a float may stand in the column.
+/// Whether a float may go into the column.
 pub(crate) fn suits(wanted: &Wanted, f: &Float) -> bool
     ensures { result ≡ suits wanted.now f.now }
 {

@@ -84,11 +84,11 @@ amounts_more Filll v p q r s a b c d = ap (λ x. (p +ℤ a) ∷ (q +ℤ b) ∷ (
 four : {a a' b b' c c' d d' : ℤ} → a ≡ a' → b ≡ b' → c ≡ c' → d ≡ d' → (a ∷ b ∷ c ∷ d ∷ []) ≡ (a' ∷ b' ∷ c' ∷ d' ∷ [])
 four p q r s = λ i. p i ∷ q i ∷ r i ∷ s i ∷ []
 
--- the sums with the skip of a class, where that is new
+-- the sums with the skip of a class, if that is new
 abbrev pub with_skip : Bool → Glue → Sums → Sums
 with_skip m g s = if m then s else stretched_sums s g
 
--- the sums of a list with the terms of one label more
+-- the sums of a list with the terms of one more label
 skip_sums : (limit : ℤ) (ns : List Shape) (t u : Terms) (g : Glue) (m : Bool) (a b c d a' b' c' d' : ℤ)
     → t.stretch ≡ a ∷ b ∷ c ∷ d ∷ [] → u.stretch ≡ a' ∷ b' ∷ c' ∷ d' ∷ []
     → a' ≡ a +ℤ new_skip m (stretch_of Normal (glue g)) → b' ≡ b +ℤ new_skip m (stretch_of Fil (glue g)) → c' ≡ c +ℤ new_skip m (stretch_of Fill (glue g)) → d' ≡ d +ℤ new_skip m (stretch_of Filll (glue g))
@@ -193,7 +193,7 @@ scan_plain z page s t n h scan add = record {
 
 -- ---- what is added up fits
 
--- where the amounts after the insertion fit, it may arrive
+-- if the amounts after the insertion fit, it may arrive
 pub arrive_fits : (store : Lists Node) (a : Account) (s : Scanned) (i : Insertion) (line : ℕ) (class : Class) (size : ℤ) (index : ℕ) (z : Frozen) (page marked : List PlainNode)
     → class.number ≡ i.class → i.class < 255 → IsAccountOf a z page marked → ComesTo z page s class size index → InnerFits store i → ClassFits class
     → PageFits z (page ++ record { line = line; kind = ins (inserted_of (list_at store) i) } ∷ [])

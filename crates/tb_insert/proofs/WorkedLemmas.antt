@@ -1,4 +1,4 @@
--- Worked pages: what the arrival of an insertion asks, and what stands after it.
+-- Worked pages: what the arrival of an insertion requires, and what holds after it.
 use Rattle.std.proofs.Common.{◌≡◌, refl, sym, subst, ◌∙◌, ap, ℕ, zero, suc, ◌+◌, ◌<◌, ◌≤◌, ℤ, pos, Bool, true, false, List, [], ◌∷◌, ◌++◌, length, take, get_or, Some, None, is_some, unwrap_or, add-one, arith}
 use Rattle.std.specs.Prelude.{◌==◌, ◌||◌, ◌≤ℤ◌, map, All}
 use Rattle.std.specs.FinMap.{get}
@@ -38,7 +38,7 @@ use Rattle.tb_insert.proofs.TermLemmas.{skipped, sums-other, scan_plain, arrive_
 other_list : (first s t : Lists Node) (l : ℕ) (xs : List Node) → get first.lists l ≡ None → t.lists ≡ with_list s l xs → (q : ℕ) → IsLive first q → get t.lists q ≡ get s.lists q
 other_list first s t l xs none e q live = ap (λ m. get m q) e ∙ get-insert_other s.lists l xs q (λ x. true≢false (sym live ∙ ap (λ k. is_some (get first.lists k)) x ∙ ap is_some none))
 
--- a list that was opened leaves the others
+-- opening a list leaves the others
 pub opened_others : (s t : Lists Node) (l : ℕ) → get s.lists l ≡ None → t.lists ≡ with_list s l [] → (q : ℕ) → IsLive s q → get t.lists q ≡ get s.lists q
 opened_others s t l none e = other_list s s t l [] none e
 
@@ -80,7 +80,7 @@ heights_at : (page : List PlainNode) (a b : ℕ) → class_height worked_classes
     → (k : ℕ) → numbered worked_classes k ≡ true → IsAmount (class_height worked_classes (labelled worked_page page) k)
 heights_at page a b e g small_a small_b = heights_of (λ k. class_height worked_classes (labelled worked_page page) k) (subst IsAmount (sym e) (amount a small_a)) (subst IsAmount (sym g) (amount b small_b))
 
--- each page with the first so many insertions fits
+-- the page with the first k insertions fits, for each k
 pub first_fits : (k : ℕ) → k < 5 → PageFits worked_page (first_notes (suc k))
 unfolding page_badness cost_of_badness badness_of
 first_fits zero h = record {

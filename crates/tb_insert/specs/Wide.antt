@@ -1,4 +1,4 @@
--- Amounts on the way to a goal, which are wider than an amount.
+-- Amounts on the way to a goal, which may be wider than an amount.
 use Rattle.std.specs.Prelude.{ℕ, ◌<ℤ◌, ℤ, pos, neg_ℤ}
 
 -- below n in absolute value

@@ -42,7 +42,7 @@ footnotes = record { number = 254; factor = pos 1000; limit = pos 500000; skip =
 abbrev pub figures : Class
 figures = record { number = 253; factor = pos 500; limit = max_dimen; skip = fixed_glue (pos 0) }
 
--- both classes, of which the second has 40000 sp in its box
+-- both classes; the second has 40000 sp in its box
 abbrev pub worked_classes : List ClassBox
 worked_classes = boxed footnotes (pos 0) ∷ boxed figures (pos 40000) ∷ []
 
@@ -64,7 +64,7 @@ worked_notes =
 abbrev pub note_node : Inserted → PlainNode
 note_node i = record { line = 7; kind = ins i }
 
--- a page with the first so many of these
+-- a page with the first k of these
 abbrev pub first_notes : ℕ → List PlainNode
 first_notes k = map note_node (take k worked_notes)
 
@@ -74,7 +74,7 @@ pub record HasLists (s : Lists Node) (short long single : ℕ) : Type 0 where
   pub long_made : get s.lists long ≡ Some long_nodes
   pub single_made : get s.lists single ≡ Some single_node
 
--- the account and the scan stand for the page with the first so many
+-- the account and the scan are those of the page with the first k insertions
 pub record StandsAt (a : Account) (s : Scanned) (k : ℕ) : Type 0 where
   pub marked : List PlainNode
   pub account : IsAccountOf a worked_page (first_notes k) marked

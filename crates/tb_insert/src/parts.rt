@@ -40,7 +40,7 @@ fn label_of(
     Part::Split(find(store, i.list, wanted, i.split_depth))
 }
 
-/// The same, by what is kept of the class.
+/// The same, by the entry of the class.
 pub fn label_by(
     store: &Lists<Node>,
     i: &Insertion,
@@ -95,7 +95,7 @@ pub fn part_splits(part: &Part) -> bool
     }
 }
 
-/// The last one of its class that is let in.
+/// The last insertion of its class that is let in.
 pub fn last_of(part: &Part, index: usize, last: Option<usize>) -> Option<usize>
     ensures { result ≡ (if is_let_in (label_part part.now) then Some index else last) }
 {
@@ -106,7 +106,7 @@ pub fn last_of(part: &Part, index: usize, last: Option<usize>) -> Option<usize>
     }
 }
 
-// Where it is split before its list's end.
+// The place at which it is split, if that is before its list's end.
 fn break_of(part: &Part, store: &Lists<Node>, i: &Insertion) -> Option<usize>
     requires { IsLive store.now i.now.list }
     ensures { result ≡ split_before_end (label_part part.now) (inserted_of (list_at store.now) i.now) }
@@ -124,7 +124,7 @@ fn some_below(k: usize, count: usize) -> Option<usize>
     if k < count { Some(k) } else { None }
 }
 
-/// The split one of its class with the place of its break, where it is split before its end.
+/// The split insertion of its class with the place of its break, if that is before its end.
 pub fn cut_of(
     part: &Part,
     store: &Lists<Node>,

@@ -61,7 +61,7 @@ pub fn page_room(goal: i128, s: &Sums) -> i128
     goal - wide(s.total) - wide(s.depth)
 }
 
-/// The height that counts goes into what is left, and the class stays within its limit.
+/// Whether the charge fits into what is left, and the class stays within its limit.
 pub fn goes_whole(charge: i128, room: i128, shrink: i64, height: i64, v: i64, limit: i64) -> bool
     requires room { IsWithin (2 ^ 116) room }
     ensures { result ≡ goes_whole charge room shrink height v limit }
@@ -99,7 +99,7 @@ fn unscaled_room(factor: i64, room: i128) -> i128
     room / wide(factor) * 1000
 }
 
-/// The height to which an insertion is split, where the class has so much left.
+/// The height to which an insertion is split, if the class has this much left.
 pub fn split_height(factor: i64, room: i128, left: i128) -> i64
     requires { IsWithin (2 ^ 116) room }
     ensures value { result ≡ split_height factor room left }
@@ -114,7 +114,7 @@ fn least_of(a: i128, b: i128) -> i128
     if a <= b { a } else { b }
 }
 
-// A height that changes no break when it is cut to this range.
+// A split height, cut to a range beyond which it changes no break.
 fn clamped(w: i128) -> i64
     ensures value { result ≡ clamped w }
     ensures amount { IsAmount result }
@@ -128,14 +128,14 @@ fn clamped(w: i128) -> i64
     w as i64
 }
 
-/// What the limit of a class leaves.
+/// What is left of a class's limit.
 pub fn left_of(limit: i64, height: i64) -> i128
     ensures { result ≡ limit -ℤ height }
 {
     wide(limit) - wide(height)
 }
 
-/// The goal once the class is met, which it may have been before.
+/// The goal once the class is met; it may be met already.
 pub fn met_goal(met: bool, goal: i64, class: &Class, size: i64) -> i128
     requires factor { IsAmount class.now.factor }
     ensures value { result ≡ met_goal met goal class.now size }
@@ -155,14 +155,14 @@ fn fall(goal: i64, a: i128, b: i64) -> i128
     wide(goal) - (a + wide(b))
 }
 
-/// The height of a class, which is that of its box until it is met.
+/// The height of a class: that of its box until the class is met.
 pub fn met_height(met: bool, height: i64, size: i64) -> i64
     ensures { result ≡ met_height met height size }
 {
     if met { height } else { size }
 }
 
-/// The goal without what an insertion takes.
+/// The goal less what an insertion takes.
 pub fn less_of(a: i128, b: i128) -> i64
     requires a { IsWithin (2 ^ 115) a }
     requires b { IsWithin (2 ^ 114) b }

@@ -97,7 +97,7 @@ fn footnotes() -> Class
     }
 }
 
-// Class 253: a half of each height counts.
+// Class 253: half of each height counts.
 fn figures() -> Class
     ensures { result ≡ figures }
 {
@@ -172,7 +172,7 @@ fn told_glue(scan: &Scan) -> (i64, i64) {
     (sums.stretch[0], sums.shrink)
 }
 
-// The insertion that is the next of the worked page comes to the page, where it has the place `index`.
+// The next insertion of the worked page comes to the page, at the place `index`.
 fn arrive(p: &mut Paged, index: usize, ins: &Insertion)
     requires few { index < 5 }
     requires lists { HasLists p.old.store p.old.short p.old.long p.old.single }

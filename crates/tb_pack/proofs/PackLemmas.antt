@@ -1,4 +1,4 @@
--- A list is packed as its sums say.
+-- A list is packed by its sums.
 use Rattle.std.proofs.Common.{◌≡◌, ◌≢◌, refl, ◌∙◌, ap, sym, subst, zero, suc, Bool, true, false, ℤ, pos, negsuc, neg_ℤ, ◌<ℤ◌, List, arith}
 use Rattle.std.specs.Prelude.{◌-ℤ◌, int_lt, int_le, if◌then◌else◌}
 use Rattle.std.proofs.lemmas.Int.{ints}
@@ -23,15 +23,15 @@ total-list Fil ns = refl
 total-list Fill ns = refl
 total-list Filll ns = refl
 
--- where the height exceeds the natural height, the glue stretches
+-- if the height exceeds the natural height, the glue stretches
 pub sums_setting-above : (e : ℤ) (s : Sums) → pos 0 <ℤ e → sums_setting e s ≡ stretched e (highest_order s.stretch) (total_of (highest_order s.stretch) s.stretch)
 sums_setting-above e s h = grind (arith, ints)
 
--- where it lacks, the glue shrinks
+-- if it is less, the glue shrinks
 pub sums_setting-below : (e : ℤ) (s : Sums) → e <ℤ pos 0 → sums_setting e s ≡ shrunk (neg_ℤ e) s.shrink
 sums_setting-below e s h = grind (arith, ints)
 
--- a list is set as its sums say
+-- a list is set by its sums
 pub sums_setting-list : (limit e : ℤ) (ns : List Shape) → sums_setting e (sums_of limit ns) ≡ setting_of e ns
 sums_setting-list limit e ns = ap (λ t. if is_zero e then natural_setting (pos 0) else (if int_lt (pos 0) e then stretched e (stretch_order ns) t else shrunk (neg_ℤ e) (list_shrink ns))) (total-list (stretch_order ns) ns)
 
@@ -44,7 +44,7 @@ pub packed-by : (height limit : ℤ) (ns : List Shape) (s : Sums) (set : Set) �
 packed-by height limit ns s set is e =
     e ∙ ap (λ t. set_of height t.total t.depth (sums_setting (height -ℤ t.total) t)) is ∙ ap (set_of height (natural_height limit ns) (limited_depth limit ns)) (sums_setting-list limit (height -ℤ natural_height limit ns) ns)
 
--- a choice keeps what holds of both
+-- what holds of both sides of a choice holds of the choice
 chosen : (P : Setting → Type 0) (test : Bool) (x y : Setting) → (test ≡ true → P x) → (test ≡ false → P y) → P (if test then x else y)
 chosen P true x y h k = h refl
 chosen P false x y h k = k refl
@@ -69,7 +69,7 @@ negated_above (pos zero) h k = absurd (grind (arith, h))
 negated_above (pos (suc n)) h k = absurd (grind (arith, ints, k))
 negated_above (negsuc n) h k = omega (arith, ints)
 
--- a list that is packed has a share with a divisor
+-- a packed list has a share with a divisor
 pub packed-divisor : (height limit : ℤ) (ns : List Shape) → (packed height limit ns).den ≢ pos 0
 packed-divisor height limit ns =
     let e : ℤ = height -ℤ natural_height limit ns in

@@ -32,7 +32,7 @@ pub top-passed : (w : Walked) (s : Set) (before : List Shape) → HasPassed w s 
 top-passed w s before h =
     ap (λ t. at_of t w.natural w.glue) h.same_set ∙ ap (λ x. at_of s x w.glue) h.natural ∙ ap (at_of s (size_of before)) h.glue
 
--- what a list whose sums fit has passed with one node more: its size, and its glue of each kind
+-- what is passed of a list whose sums fit, with one node more: its size, and its glue of each kind
 passed_small : (limit : ℤ) (ns before : List Shape) (n : Shape) (rest : List Shape) → SumsFit limit ns → before ++ n ∷ rest ≡ ns → IsSmall (sums_of limit (before ++ n ∷ []))
 passed_small limit ns before n rest fits e = fits (before ++ n ∷ []) rest (append_assoc before (n ∷ []) rest ∙ e)
 
@@ -53,7 +53,7 @@ glue_fits signs.None o limit ns h = omega (arith, ints)
 glue_fits signs.Stretch o limit ns h = order_fits o limit ns h
 glue_fits signs.Shrink o limit ns h = amount_fits _ h.shrink
 
--- the walk of a list whose sums fit under some limit can pass its next node
+-- if the sums of a list fit under some limit, its walk can pass the next node
 module _ (limit : ℤ) (ns : List Shape) (w : Walked) (s : Set) (before : List Shape) (n : Shape) (rest : List Shape) where
   pub next_natural_fits : SumsFit limit ns → before ++ n ∷ rest ≡ ns → HasPassed w s before → FitsSigned w64 (walked_past w n).natural
   next_natural_fits fits e h =

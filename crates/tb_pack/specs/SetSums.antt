@@ -17,20 +17,20 @@ pub record IsDifference (z : ℤ) : Type 0 where
 abbrev pub total_of : Order → List ℤ → ℤ
 total_of o stretch = slice_index_or stretch (order_index o) (pos 0)
 
--- the highest order whose total is not 0, and normal where there is none
+-- the highest order whose total is not 0, or normal if there is none
 abbrev pub highest_order : List ℤ → Order
 highest_order stretch =
     if not (is_zero (total_of Filll stretch)) then Filll
     else (if not (is_zero (total_of Fill stretch)) then Fill
     else (if not (is_zero (total_of Fil stretch)) then Fil else Normal))
 
--- how the glue of a list with these sums is set, where the height is e more than its natural height
+-- how the glue of a list with these sums is set, if the height is e more than its natural height
 abbrev pub sums_setting : ℤ → Sums → Setting
 sums_setting e s =
     if is_zero e then natural_setting (pos 0)
     else (if int_lt (pos 0) e then stretched e (highest_order s.stretch) (total_of (highest_order s.stretch) s.stretch)
     else shrunk (neg_ℤ e) s.shrink)
 
--- the set with its glue set this way
+-- the set with this setting of its glue
 abbrev pub set_by : Set → Setting → Set
 set_by set s = record set { sign = s.sign; order = s.order; num = s.num; den = s.den; over = s.over }

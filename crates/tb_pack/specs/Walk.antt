@@ -14,7 +14,7 @@ pub record Walked : Type 0 where
   pub natural : ℤ
   pub glue : ℤ
 
--- what a node has of the glue that is set
+-- the part of a node's glue that is set
 abbrev pub glue_of : Sign → Order → Shape → ℤ
 glue_of signs.None o n = pos 0
 glue_of signs.Stretch o n = stretch_of o n
@@ -28,7 +28,7 @@ walked_past w n = record w { natural = w.natural +ℤ room_of n; glue = w.glue +
 abbrev pub top_of : Walked → ℤ
 top_of w = at_of w.set w.natural w.glue
 
--- these nodes are those that the walk of the set list has passed
+-- the walk of the set list has passed these nodes
 pub record HasPassed (w : Walked) (s : Set) (before : List Shape) : Type 0 where
   pub same_set : w.set ≡ s
   pub natural : w.natural ≡ size_of before

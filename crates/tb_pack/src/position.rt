@@ -1,4 +1,4 @@
-//! Where the nodes of a set list stand.
+//! Where the nodes of a set list are.
 
 ghost use Rattle.std.specs.Prelude.{◌≡◌, ◌≢◌, ◌∷◌, ◌++◌, [], List, ℤ, pos, ◌*ℤ◌, ◌<ℤ◌, FitsSigned};
 ghost use Rattle.std.specs.Int.{w64};
@@ -18,10 +18,10 @@ use std::marker::Model;
 use tb_node::{Kind, Node};
 use tb_scaled::{Glue, Order, sum};
 
-/// The top, in scaled points, of a node in a set list: what stands before it has this natural size, and this sum of the
-/// stretch of the set order or of the shrink.
+/// The top, in sp, of a node in a set list. The nodes before it have this natural size and this sum of the stretch of
+/// the set order, or of the shrink.
 ///
-/// It is exact but for the glue's share, which is rounded down whatever the signs. TeX rounds to the nearest. The set's
+/// It is exact but for the glue's share, which is rounded down whatever the signs; TeX rounds to the nearest. The set's
 /// `den` is not 0, as `pack` makes it.
 pub fn at(set: &Set, natural: i64, sum: i64) -> i128
     requires { set.now.den ≢ pos 0 }
@@ -34,7 +34,7 @@ pub fn at(set: &Set, natural: i64, sum: i64) -> i128
     }
 }
 
-// What this sum of glue is set to, rounded down.
+// What glue with this sum is set to, rounded down.
 fn set_amount(set: &Set, sum: i64) -> i128
     requires { set.now.den ≢ pos 0 }
     ensures value { result ≡ set_amount set.now sum }
@@ -71,7 +71,7 @@ fn floor_quotient(n: i128, d: i128) -> i128
     if n >= 0 { n / d } else { -1 - (-1 - n) / d }
 }
 
-/// A walk of a set list from its first node on: it knows the top of the next node.
+/// A walk of a set list from its first node on, which has the top of the next node.
 #[derive(Clone, Copy)]
 pub struct Tops {
     set: Set,
@@ -91,7 +91,7 @@ impl Model for Tops {
 }
 
 impl Tops {
-    /// The walk of a list that is set like this, before its first node.
+    /// The walk of a list with this set, before its first node.
     pub fn new(set: Set) -> Self
         ensures value { result ≡ record { set = set; natural = pos 0; glue = pos 0 } }
         ensures none { HasPassed result set [] }
@@ -103,7 +103,7 @@ impl Tops {
         }
     }
 
-    /// The top of the next node, in scaled points, as `at` gives it.
+    /// The top of the next node, in sp, as `at` gives it.
     pub fn top(&self) -> i128
         requires { self.now.set.den ≢ pos 0 }
         ensures value { result ≡ top_of self.now }
@@ -144,7 +144,7 @@ fn room_of(n: &Node) -> i64
     }
 }
 
-// What a node has of the glue that is set.
+// The part of a node's glue that is set.
 fn glue_of(set: &Set, n: &Node) -> i64
     ensures { result ≡ glue_of set.now.sign set.now.order (shape_of n.now) }
 {
@@ -162,7 +162,7 @@ fn glue_of(set: &Set, n: &Node) -> i64
     }
 }
 
-// What glue has of the stretch of an order, or of the shrink.
+// The stretch of an order in glue, or its shrink.
 fn amount_of(sign: Sign, order: Order, g: Glue) -> i64
     ensures { result ≡ glue_of sign order (glue g) }
 {

@@ -1,4 +1,4 @@
--- Parameters stay in their ranges where one is set to a value in its row's range.
+-- Parameters stay in their ranges if one is set to a value in its row's range.
 use Rattle.std.proofs.Common.{◌≡◌, ℕ, zero, suc, ℤ, pos, negsuc, Bool, true, false, ◌&&◌, List, [], ◌∷◌, map, set, Option, Some, None, Ok, bytes_eq, if◌then◌else◌, refl, ap, subst, sym, ◌∙◌}
 use Rattle.tb_param.specs.declared.params.Params.{Params}
 use Rattle.tb_param.specs.declared.ParamFault.{ParamFault}
@@ -13,7 +13,7 @@ use Rattle.tb_param.specs.Defaults.{default_params}
 use Rattle.tb_param.specs.Ranges.{is_no_fault, are_params}
 use Rattle.tb_param.proofs.AllSet.{values, place, shaped, one_set}
 
--- whether a value lies in the range of a form
+-- whether a value is in the range of a form
 abbrev pub fits : Form → Value → Bool
 fits f v = is_no_fault (value_fault f v)
 
@@ -278,7 +278,7 @@ by_in_range name v p q (Some r) found h all = unless_in_range name r v p q found
 pub set_in_range : (name : List ℕ) (v : Value) (p q : Params) → set_to name v p ≡ Ok q → are_params p ≡ true → are_params q ≡ true
 set_in_range name v p q h all = by_in_range name v p q (row_of name) refl h all
 
--- the defaults lie in their ranges
+-- the defaults are in their ranges
 pub defaults_are_in_range : are_params default_params ≡ true
 unfolding are_params default_params
 defaults_are_in_range = refl

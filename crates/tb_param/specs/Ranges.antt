@@ -1,4 +1,4 @@
--- Parameters that lie in the ranges of their rows.
+-- Parameters that are in the ranges of their rows.
 use Rattle.std.specs.Prelude.{Bool, true, false, Option, Some, None}
 use Rattle.std.specs.List.{list_all}
 use Rattle.tb_param.specs.declared.params.Params.{Params}
@@ -11,6 +11,6 @@ abbrev pub is_no_fault : Option ParamFault → Bool
 is_no_fault None = true
 is_no_fault (Some e) = false
 
--- each parameter lies in the range of its row
+-- each parameter is in the range of its row
 unfoldable pub are_params : Params → Bool
 are_params p = list_all (λ (r : Row). is_no_fault (value_fault r.form (value_of r.field p))) rows

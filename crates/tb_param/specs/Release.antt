@@ -4,7 +4,7 @@ use Rattle.tb_param.specs.declared.Choice.{Choice}
 use Rattle.tb_param.specs.declared.Choice.TheVariants as choices
 use Rattle.tb_param.specs.declared.params.Params.{Params}
 
--- the word says the release of 2014
+-- the word is the release of 2014
 abbrev pub is_2014 : Choice → Bool
 is_2014 choices.Flush = false
 is_2014 choices.Ragged = false

@@ -60,7 +60,7 @@ fn keeps_to_the_ranges(rt: HostRuntime) -> Result<(), Fail> {
     Ok(())
 }
 
-// A set value is there, and the others stay.
+// A value that was set is there, and the others stay.
 #[test]
 fn keeps_what_is_set(rt: HostRuntime) -> Result<(), Fail> {
     let mut params = defaults();

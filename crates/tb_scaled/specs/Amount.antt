@@ -1,4 +1,4 @@
--- Amounts that a sum of a few of them can hold.
+-- Amounts so small that the sum of a few fits 64 bits.
 use Rattle.std.specs.Prelude.{◌<ℤ◌, ℤ, pos, neg_ℤ}
 
 -- an amount: below 2^60 in absolute value

@@ -10,19 +10,19 @@ ghost use Rattle.tb_scaled.specs.Glue.{filling_glue, fixed_glue, negated_glue};
 /// The greatest dimension, in scaled points: 2^30 - 1 (TeX: The Program §421).
 pub const MAX_DIMEN: i64 = 1_073_741_823;
 
-/// The cost of a break behind which the page is overfull: no page is worse (TeX: The Program §833).
+/// The cost of a break at which the page is overfull: no page is worse (TeX: The Program §833).
 pub const AWFUL_BAD: i64 = 1_073_741_823;
 
-/// The badness of what cannot stretch so far (TeX: The Program §108).
+/// The badness of glue that cannot stretch far enough (TeX: The Program §108).
 pub const INF_BAD: i64 = 10_000;
 
-/// A penalty that is not below this forbids a break (TeX: The Program §157).
+/// A penalty of at least this forbids a break (TeX: The Program §157).
 pub const INF_PENALTY: i64 = 10_000;
 
-/// A penalty that is not above this forces a break (TeX: The Program §157).
+/// A penalty of at most this forces a break (TeX: The Program §157).
 pub const EJECT_PENALTY: i64 = -10_000;
 
-/// The cost of a break that leaves the page underfull beyond measure (TeX: The Program §974).
+/// The cost of a break that leaves the page hopelessly underfull (TeX: The Program §974).
 pub const DEPLORABLE: i64 = 100_000;
 
 /// The orders of infinity of stretch (TeX: The Program §150).
@@ -30,11 +30,11 @@ pub const DEPLORABLE: i64 = 100_000;
 pub enum Order {
     /// Finite.
     Normal,
-    /// Stretches before all that is finite.
+    /// Stretches before any finite stretch.
     Fil,
-    /// Stretches before all `Fil`.
+    /// Stretches before any `Fil`.
     Fill,
-    /// Stretches before all `Fill`.
+    /// Stretches before any `Fill`.
     Filll,
 }
 
@@ -51,7 +51,7 @@ pub struct Glue {
     pub shrink: i64,
 }
 
-/// Glue that fills what is left of a page: of width 0, with the stretch 1fil (LaTeX, \vfil).
+/// Glue that fills the rest of a page: of width 0, with the stretch 1fil (LaTeX, \vfil).
 pub fn filling_glue() -> Glue
     ensures { result ≡ filling_glue }
 {
@@ -63,7 +63,7 @@ pub fn filling_glue() -> Glue
     }
 }
 
-/// Glue of a width, in scaled points, that neither stretches nor shrinks.
+/// Glue of a width, in sp, that neither stretches nor shrinks.
 pub fn fixed(width: i64) -> Glue
     ensures { result ≡ fixed_glue width }
 {
@@ -97,7 +97,7 @@ fn negated(amount: i64) -> i64
     -amount
 }
 
-/// The sum of two sizes, in scaled points, if it fits 64 bits.
+/// The sum of two sizes, in sp, if it fits 64 bits.
 #[inline]
 pub fn sum(a: i64, b: i64) -> i64
     requires { FitsSigned w64 (a +ℤ b) }
@@ -106,7 +106,7 @@ pub fn sum(a: i64, b: i64) -> i64
     a + b
 }
 
-/// How much more the first of two sizes is than the second, in scaled points, if that fits 64 bits.
+/// The first of two sizes less the second, in sp, if that fits 64 bits.
 #[inline]
 pub fn difference(a: i64, b: i64) -> i64
     requires { FitsSigned w64 (a -ℤ b) }
@@ -155,7 +155,7 @@ fn cubed(ratio: i64) -> i64
     (cube + 131072) / 262144
 }
 
-/// The decimal fraction with these digits after the point, from 0 to 9 each, rounded to 65536ths (TeX: The Program §102).
+/// The decimal fraction with these digits (each 0 to 9) after the point, rounded to 65536ths (TeX: The Program §102).
 pub fn round_decimals(digits: &[u8]) -> i64
     requires few { length digits.now ≤ 17 }
     requires values { EachIndex digits.now (λ k. slice_index digits.now k < 10) }

@@ -23,7 +23,7 @@ not_true : (t : Bool) → not t ≡ true → t ≡ false
 not_true true h = cc
 not_true false h = refl
 
--- the part before a byte that parts
+-- the part before a separating byte
 split-first : (p : ℕ → Bool) (xs : List ℕ) (b : ℕ) (rest : List ℕ) → list_all (λ c. not (p c)) xs ≡ true → p b ≡ true → slice_split p (xs ++ b ∷ rest) ≡ xs ∷ slice_split p rest
 split-first p [] b rest h k = ap (λ t. if t then [] ∷ slice_split p rest else onto_first b (slice_split p rest)) k
 split-first p (x ∷ xs) b rest h k =

@@ -30,7 +30,7 @@ made_lists c =
     list-opened c.args.store.now c.reserve.new.self c.add_list.new.self c.push_page.new.store c.in_ok-list.list _ c.in_ok-reserve.ensures.lists c.in_ok-list.ensures.opened c.push_page.ensures.lists
     ∙ ap (λ g. with_list c.args.store.now c.in_ok-list.list (page_list g (marked_floats c.args.from c.args.pool.now))) c.page_glue-around.ensures
 
--- its list may stand on a page
+-- its list may be on a page
 page_is : (c : goal.After-push_page) → IsPageList c.push_page.new.store c.in_ok-list.list
 page_is c =
     let ms = marks_of c.args.from c.args.pool.now in
