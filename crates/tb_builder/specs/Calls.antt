@@ -1,4 +1,4 @@
--- Calls of `next` one after the other, where the places that they try are passed over.
+-- Calls of `next` one after the other, with the places that they try passed over.
 use Rattle.std.specs.Prelude.{◌≡◌, false, List, [], ◌∷◌}
 use Rattle.tb_pool.specs.Lists.{Lists}
 use Rattle.tb_node.specs.declared.Node.{Node}
@@ -32,7 +32,7 @@ abbrev pub ComesBy : List PassedOver → Builder → Lists Node → Ask → Even
 ComesBy [] b s ask e d t = IsNext b s ask e d t
 ComesBy (p ∷ ps) b s ask e d t = IsNext b s ask (events.Try p.place) p.builder p.store × ComesBy ps p.builder p.store ask e d t
 
--- calls of `next` come to this event, where the places before it are passed over
+-- calls of `next` come to this event, with the places before it passed over
 pub record ComesAfter (b : Builder) (s : Lists Node) (ask : Ask) (e : Event) (d : Builder) (t : Lists Node) : Type 0 where
   pub passed : List PassedOver
   pub comes : ComesBy passed b s ask e d t

@@ -14,8 +14,8 @@ use Rattle.tb_builder.specs.Reached.{Reach, holds_box, reach_from}
 use Rattle.tb_builder.specs.Fired.{Boxed, content_of, class_boxes}
 use Rattle.tb_builder.specs.Places.{glue_first, page_places}
 
--- the page so far, what waits, the class boxes in the order of the classes, the insertions that are held until what the
--- output routine puts back comes, the goal and the depth limit once they are frozen, and whether a stop was tried last
+-- the page so far, what waits, the class boxes in the order of the classes, the insertions that are held until
+-- `put_back`, the goal and the depth limit once they are frozen, and whether a stop was tried last
 pub record Contents : Type 0 where
   pub classes : List Class
   pub boxes : List Boxed
@@ -25,11 +25,11 @@ pub record Contents : Type 0 where
   pub frozen : Option (ℤ × ℤ)
   pub stopped : Bool
 
--- nothing on the page, nothing waits, each box is void
+-- the box of a class, void
 abbrev pub void_box : Class → Boxed
 void_box c = record { number = c.number; content = None }
 
--- what a new builder holds
+-- what a new builder holds: nothing on the page, nothing waiting, each box void
 abbrev pub nothing_yet : List Class → Contents
 nothing_yet cs = record { classes = cs; boxes = map void_box cs; page = []; waiting = []; held = []; frozen = None; stopped = false }
 
@@ -39,7 +39,7 @@ nothing_yet cs = record { classes = cs; boxes = map void_box cs; page = []; wait
 abbrev pub leaf_list : Lists Node → ℕ → List Leaf
 leaf_list store l = map leaf_of (list_at store l)
 
--- a box by whether it is void
+-- the content of a box: none if it is void
 abbrev pub content_by : Bool → List Leaf → Option (List Leaf)
 content_by true ls = None
 content_by false ls = Some ls
@@ -62,7 +62,7 @@ contents_of b store = record {
 
 -- ---- what is reached
 
--- the goal, the depth limit and the class boxes of the page: frozen ones, or those that are asked for
+-- the goal, the depth limit and the class boxes of the page: the frozen ones, or those asked for
 abbrev pub frozen_or : Option (ℤ × ℤ) → Ask → List Class → List Boxed → Frozen
 frozen_or None ask cs boxes = record { goal = ask.goal; limit = ask.max_depth; classes = class_boxes cs boxes }
 frozen_or (Some f) ask cs boxes = record { goal = f.0; limit = f.1; classes = class_boxes cs boxes }
@@ -71,7 +71,7 @@ frozen_or (Some f) ask cs boxes = record { goal = f.0; limit = f.1; classes = cl
 abbrev pub frozen_of : Contents → Ask → Frozen
 frozen_of c ask = frozen_or c.frozen ask c.classes c.boxes
 
--- what follows the page so far: what waits, pruned where the page has no box yet
+-- what follows the page so far: what waits, pruned if the page has no box yet
 abbrev pub ahead_of : Contents → Ask → List PlainNode
 ahead_of c ask = if holds_box c.page then c.waiting else pruned_nodes ask.top_skip c.waiting
 
@@ -87,13 +87,13 @@ reach_ahead c ask = reach_from (frozen_of c ask).limit (terms_after (frozen_of c
 abbrev pub places_of : Contents → Ask → List Breakpoint
 places_of c ask = page_places (frozen_of c ask).limit (terms_after (frozen_of c ask)) [] c.page (glue_first c.waiting)
 
--- where a stop was tried last: what is reached of the page and what waits as one list
+-- if a stop was tried last: what is reached of the page and what waits as one list
 abbrev pub reach_whole : Contents → Ask → Reach
 reach_whole c ask = reach_from (frozen_of c ask).limit (terms_after (frozen_of c ask)) [] (c.page ++ c.waiting)
 
 -- ---- the number of nodes
 
--- the nodes of a list, those of insertions too
+-- the count of a node: itself and the nodes of its insertion
 abbrev pub kind_count : PlainKind → ℕ
 kind_count (plain m) = 1
 kind_count (ins i) = 1 + length i.inner
@@ -109,6 +109,6 @@ abbrev pub box_count : List Boxed → ℕ
 box_count [] = 0
 box_count (b ∷ bs) = length (content_of b.content) + box_count bs
 
--- the nodes that wait and those in the class boxes; a count stands still at the end of its type
+-- the number of nodes that wait and of those in the class boxes, which saturates
 abbrev pub contents_count : Contents → ℕ
 contents_count c = min (node_count c.waiting + box_count c.boxes) 18446744073709551615

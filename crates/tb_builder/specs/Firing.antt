@@ -1,5 +1,5 @@
--- A page fires: what becomes of the insertions before its break, as the account of the page tells it, and what the
--- builder holds on the way.
+-- A page fires: what becomes of the insertions before its break, by the account of the page, and what the builder holds
+-- on the way.
 use Rattle.std.specs.Prelude.{◌≡◌, ◌≢◌, ◌≤◌, map, ℕ, ◌==◌, Bool, true, false, List, [], ◌∷◌, ◌++◌, length, take, drop, nat_lt, nat_le, Option, Some, None, is_some, if◌then◌else◌}
 use Rattle.std.specs.FinMap.{get}
 use Rattle.tb_pool.specs.Lists.{Lists, IsLive, list_at}
@@ -10,6 +10,7 @@ use Rattle.tb_node.specs.declared.Kind.TheVariants as kinds
 use Rattle.tb_scaled.specs.Scaled.{inf_penalty}
 use Rattle.tb_node.specs.Shape.{Shape, is_discardable}
 use Rattle.tb_node.specs.Plain.{Leaf, leaf_of, Inserted, inserted_of, PlainKind, ins, PlainNode, plain_of, on_line, without_insertions}
+use Rattle.tb_node.specs.Roles.{insertion_of_kind}
 use Rattle.tb_break.specs.Prune.{pruned_leaves}
 use Rattle.tb_insert.specs.declared.Account.{Account}
 use Rattle.tb_insert.specs.Account.{Frozen, Label, whole, split, late, labelled}
@@ -24,27 +25,27 @@ use Rattle.tb_builder.specs.Owned.{Lacks, inner_ids, ids_of, owned, IsOwned}
 use Rattle.tb_builder.specs.declared.Ask.{Ask}
 use Rattle.tb_builder.specs.declared.Page.{Page}
 use Rattle.tb_builder.specs.Next.{NodeFits, FiredIs}
-use Rattle.tb_builder.specs.Running.{IsSound, insertion_of_kind}
+use Rattle.tb_builder.specs.Running.{IsSound}
 
--- what a label gives: an insertion that is split at its list's end gives all
+-- the share of a label: an insertion that is split at its list's end gives all
 abbrev pub share_of : Label → Inserted → Share
 share_of whole i = All
 share_of (split f) i = if nat_lt f.index (length i.inner) then Front f.index else All
 share_of late i = Nothing
 
--- ---- what the account tells of the insertion at a place of the page
+-- ---- what the account says of the insertion at a place of the page
 
--- all, where it stands no further than the last of its class that was let in
+-- all, if it comes no later than the last of its class that was let in
 abbrev pub share_up_to : Option ℕ → ℕ → Share
 share_up_to None index = Nothing
 share_up_to (Some last) index = if nat_le index last then All else Nothing
 
--- what stands before the cut, where this is the insertion of its class that is cut
+-- what comes before the cut, if this is the insertion of its class that is cut
 abbrev pub share_told : Option (ℕ × ℕ) → Option ℕ → ℕ → Share
 share_told None last index = share_up_to last index
 share_told (Some c) last index = if c.0 == index then Front c.1 else share_up_to last index
 
--- ---- what a share is of an insertion
+-- ---- what a share gives of an insertion
 
 -- what goes to the box of the class
 abbrev pub share_given : Share → Inserted → List Leaf
@@ -57,7 +58,7 @@ abbrev pub BeginsVanishing : List Shape → Type 0
 BeginsVanishing [] = Unit {0}
 BeginsVanishing (n ∷ ns) = is_discardable n ≡ true
 
--- the place is one of the list, and what stands behind it begins with a node that vanishes
+-- the place is one of the list, and the rest from there is empty or begins with a node that vanishes
 abbrev pub IsShareWithin : Share → List Shape → Type 0
 IsShareWithin All ns = Unit {0}
 IsShareWithin (Front k) ns = (k ≤ length ns) × BeginsVanishing (drop k ns)
@@ -75,7 +76,7 @@ share_held All i = []
 share_held (Front k) i = unless_empty i (pruned_leaves i.split_top (drop k i.inner))
 share_held Nothing i = ins i ∷ []
 
--- the box, where this was given to the box of class k
+-- the box, if this was given to the box of class k
 abbrev pub box_with : ℕ → List Leaf → Boxed → Boxed
 box_with k ls b = if b.number == k then record b { content = Some (content_of b.content ++ ls) } else b
 
@@ -85,7 +86,7 @@ box_shared s i b = if share_gives s then box_with i.class (share_given s i) b el
 
 -- ---- the boxes
 
--- the boxes, where that of this class is given something
+-- the boxes, once that of this class is given something
 abbrev pub opened : ℕ → List ClassList → List ClassList
 opened k [] = []
 opened k (e ∷ es) = if e.class.number == k then record e { void = false } ∷ es else e ∷ opened k es
@@ -97,7 +98,7 @@ box_list k (e ∷ es) = if e.class.number == k then e.list else box_list k es
 
 -- ---- the builder while the nodes of its page are sorted
 
--- the lists stay the builder's, lists that were not its own stay as they are and are not its own, and what waits stays
+-- the lists stay the builder's, lists that were not its own stay as they are and are still not its own, and what waits stays
 pub record Sorts (b : Builder) (s : Lists Node) (d : Builder) (t : Lists Node) : Type 0 where
   pub own : IsOwned (ids_of d) t
   pub others : (q : ℕ) → Lacks q (owned (ids_of b) s) → get t.lists q ≡ get s.lists q
@@ -106,7 +107,7 @@ pub record Sorts (b : Builder) (s : Lists Node) (d : Builder) (t : Lists Node) :
   pub classes : (contents_of d t).classes ≡ (contents_of b s).classes
   pub waiting : (contents_of d t).waiting ≡ (contents_of b s).waiting
 
--- of an insertion that is first on the page, these nodes went to the box of its class, and these are left
+-- of the insertion at the front of the page, these nodes went to the box of its class, and these are left
 pub record GivesToBox (b : Builder) (s : Lists Node) (d : Builder) (t : Lists Node) (n : Node) (i : Insertion) (gave kept : List Node) : Type 0 where
   pub sorts : Sorts b s d t
   pub page : list_at t b.page ≡ list_at s b.page
@@ -121,12 +122,12 @@ pub record Takes (b : Builder) (s : Lists Node) (d : Builder) (t : Lists Node) (
   pub page : (ns : List Node) → list_at s b.page ≡ n ∷ ns → (contents_of d t).page ≡ map (plain_of (list_at s)) ns
   pub held : (contents_of d t).held ≡ (contents_of b s).held ++ more
 
--- the same, where the boxes stay
+-- the same, and the boxes stay
 pub record LeavesPage (b : Builder) (s : Lists Node) (d : Builder) (t : Lists Node) (n : Node) (more : List PlainNode) : Type 0 where
   pub takes : Takes b s d t n more
   pub boxes : (contents_of d t).boxes ≡ (contents_of b s).boxes
 
--- the insertion that was first on the page went where its share says
+-- the insertion at the front of the page went where its share says
 pub record SharesOut (b : Builder) (s : Lists Node) (d : Builder) (t : Lists Node) (n : Node) (i : Insertion) (share : Share) : Type 0 where
   pub takes : Takes b s d t n (on_line n.line (share_held share (inserted_of (list_at s) i)))
   pub boxes : (contents_of d t).boxes ≡ map (box_shared share (inserted_of (list_at s) i)) (contents_of b s).boxes
@@ -158,13 +159,13 @@ pub record InsertionAt (ns : List Node) (place : ℕ) : Type 0 where
 
 -- ---- the page is sorted, from its front, into its body, the boxes and what is held
 
--- the list is none of the builder's, and holds no insertion
+-- the list is not the builder's, and holds no insertion
 pub record IsBody (b : Builder) (s : Lists Node) (body : ℕ) : Type 0 where
   pub live : IsLive s body
   pub apart : Lacks body (owned (ids_of b) s)
   pub plain : inner_ids (list_at s body) ≡ []
 
--- the lists stay the builder's but for the body, and the body holds no insertion
+-- the lists stay the builder's, except the body, and the body holds no insertion
 pub record SortsTo (b : Builder) (s : Lists Node) (d : Builder) (t : Lists Node) (body : ℕ) : Type 0 where
   pub own : IsOwned (ids_of d) t
   pub others : (q : ℕ) → q ≢ body → Lacks q (owned (ids_of b) s) → get t.lists q ≡ get s.lists q
@@ -175,14 +176,14 @@ pub record SortsTo (b : Builder) (s : Lists Node) (d : Builder) (t : Lists Node)
   pub body_live : IsLive t body
   pub body_plain : inner_ids (list_at t body) ≡ []
 
--- the nodes before were sorted; the page is what is left of the list that the account stands for
+-- the nodes before were sorted; the page is the rest of the account's list
 pub record Sorted (z : Frozen) (boxes : List Boxed) (marked : List PlainNode) (d : Contents) (body before : List PlainNode) : Type 0 where
   pub whole : before ++ d.page ≡ marked
   pub body_is : body ≡ without_insertions before
   pub boxes_are : d.boxes ≡ map (box_after (labelled z before)) boxes
   pub held_are : d.held ≡ held_insertions (labelled z before)
 
--- at its mark, the account stands for so many nodes and these
+-- at its mark, the account's list has this many nodes and then these
 pub record IsMarkedAt (a : Account) (index : ℕ) (rest : List PlainNode) : Type 0 where
   pub z : Frozen
   pub page : List PlainNode
@@ -209,12 +210,12 @@ spent_node_kind kinds.Whatsit = kinds.Whatsit
 spent_node_kind (kinds.Ins i) = kinds.Ins i
 spent_node_kind (kinds.Act a) = kinds.Act a
 
--- the nodes from the break on, of which the first no longer forces a break
+-- the nodes from the break on; the first no longer forces a break
 abbrev pub spent_nodes : List Node → List Node
 spent_nodes [] = []
 spent_nodes (n ∷ ns) = record { line = n.line; kind = spent_node_kind n.kind } ∷ ns
 
--- the page has so many nodes, and the others went back before what waits, where the break is spent
+-- the page has its first nodes up to this place, and the others went back before what waits, with the break spent
 pub record Cuts (b : Builder) (s t : Lists Node) (place : ℕ) : Type 0 where
   pub own : IsOwned (ids_of b) t
   pub others : (q : ℕ) → Lacks q (owned (ids_of b) s) → get t.lists q ≡ get s.lists q
@@ -226,7 +227,7 @@ pub record Cuts (b : Builder) (s t : Lists Node) (place : ℕ) : Type 0 where
 
 -- ---- a page fired
 
--- the page is the one that fires, and what waits after it is right; its body is a list of its own
+-- the page is the one that fires, with the right nodes waiting after it; its body is a list of its own
 pub record Fires (b : Builder) (s : Lists Node) (d : Builder) (t : Lists Node) (p : Page) : Type 0 where
   pub fired : (ask : Ask) → FiredIs p (contents_of b s) ask (contents_of d t) t
   pub sound : IsSound d t

@@ -1,4 +1,4 @@
--- What the small calls of a page builder ask of the nodes and lists that they are handed, and what they change.
+-- What the small calls of a page builder require of the nodes and lists that they get, and what they change.
 use Rattle.std.specs.Prelude.{◌≡◌, ◌≢◌, ◌==◌, ℕ, Bool, true, false, List, [], ◌++◌, map, Option, Some, None, if◌then◌else◌}
 use Rattle.std.specs.FinMap.{get}
 use Rattle.tb_pool.specs.Lists.{Lists, IsLive, list_at}
@@ -21,7 +21,7 @@ pub record NodesJoin (b : Ids) (s : Lists Node) (ns : List Node) : Type 0 where
   pub plain_lists : HoldPlain s (inner_ids ns)
   pub known : AllKnown (classes_of b) ns
 
--- the list is live and none of the builder's, and its nodes can join the builder's
+-- the list is live and not the builder's, and its nodes can join the builder's
 pub record ListJoins (b : Ids) (s : Lists Node) (l : ℕ) : Type 0 where
   pub live : IsLive s l
   pub apart : Lacks l (owned b s ++ inner_ids (list_at s l))
@@ -38,8 +38,8 @@ is_kern other = false
 abbrev pub ends_in_kern : List PlainNode → Bool
 ends_in_kern ns = last_or false (map (λ n. is_kern (node_shape n)) ns)
 
--- where the page ends with a kern and nothing but acts waits, the node is no glue: before glue the kern would have been
--- a legal place, and it was passed as none
+-- if the page ends with a kern and nothing but acts waits, the node is no glue: before glue the kern would have been a
+-- legal place, but it was passed as none
 abbrev pub MayWait : Contents → PlainNode → Type 0
 MayWait c n = ends_in_kern c.page ≡ true → without_acts c.waiting ≡ [] → is_glue (node_shape n) ≡ false
 
@@ -62,7 +62,7 @@ pub record NoPage (c : Contents) : Type 0 where
 abbrev pub voided : ℕ → Boxed → Boxed
 voided k b = if b.number == k then record b { content = None } else b
 
--- the boxes, where that of class k is void
+-- the boxes, but with that of class k void
 abbrev pub with_void : ℕ → List Boxed → List Boxed
 with_void k bs = map (voided k) bs
 

@@ -18,19 +18,19 @@ pub record IsSizedAsk (ask : Ask) : Type 0 where
   pub depth : IsExtent ask.max_depth
   pub top_skip : IsExtent ask.top_skip
 
--- the same of the goal and the depth limit, where they are frozen
+-- the same of the goal and the depth limit, if they are frozen
 abbrev pub IsSizedFreeze : Option (ℤ × ℤ) → Type 0
 IsSizedFreeze None = Unit {0}
 IsSizedFreeze (Some f) = IsGoal f.0 × IsExtent f.1
 
 -- ---- what a builder holds
 
--- the page so far and what waits as one list; up to a stop it is laid out, under a top skip of 0
+-- the page so far and what waits as one list; until a stop was tried it is laid out, under a top skip of 0
 abbrev pub laid_by : Bool → List PlainNode → List PlainNode → List PlainNode
 laid_by true page waiting = page ++ waiting
 laid_by false page waiting = laid_out (pos 0) page waiting
 
--- the list that counts of what a builder holds
+-- that list, for what a builder holds
 abbrev pub whole_list : Contents → List PlainNode
 whole_list c = laid_by c.stopped c.page c.waiting
 
@@ -45,11 +45,11 @@ pub record IsSizedContents (c : Contents) : Type 0 where
 
 -- ---- how many nodes there are
 
--- all nodes that a builder holds, those of insertions and of the class boxes too
+-- the number of all nodes that a builder holds, those of insertions and of the class boxes too
 abbrev pub whole_count : Contents → ℕ
 whole_count c = node_count (whole_list c) + node_count c.held + box_count c.boxes
 
--- the nodes of a page that fires, of what is held and what is left of it, and of the class boxes
+-- the number of nodes of a page that fires, of what is held and what is left of it, and of the class boxes
 abbrev pub fired_count : Fired → ℕ
 fired_count f = node_count f.body + node_count f.held + node_count f.rest + box_count f.boxes
 

@@ -1,4 +1,4 @@
--- What the page builder returns, and what it asks of what it is given.
+-- What the page builder returns, and what it requires of what it is given.
 use Rattle.std.specs.Prelude.{◌≡◌, ℕ, ℤ, pos, neg_ℤ, ◌<ℤ◌, ◌≤ℤ◌, Bool, true, false, List, [], ◌∷◌, ◌++◌, map, take, length, Some, None}
 use Rattle.std.specs.FinMap.{get}
 use Rattle.tb_pool.specs.Lists.{Lists, IsLive, list_at}
@@ -22,13 +22,13 @@ use Rattle.tb_builder.specs.Fired.{Boxed, content_of, Fired, page_break, fired_b
 use Rattle.tb_builder.specs.Owned.{Lacks, inner_ids, Ids, owned}
 use Rattle.tb_builder.specs.Contents.{Contents, frozen_of, laid, reach_ahead, reach_whole, places_of}
 
--- ---- what is asked
+-- ---- what is required
 
 -- the room of each prefix fits
 abbrev pub SizesFit : List Shape → Type 0
 SizesFit ns = (before rest : List Shape) → before ++ rest ≡ ns → IsAmount (size_of before)
 
--- room that one node takes where the room before it and with it fits: below 2^61 in absolute value
+-- the room of one node, if the room before it and with it fits: below 2^61 in absolute value
 pub record IsRoom (z : ℤ) : Type 0 where
   pub low : neg_ℤ (pos 2305843009213693952) <ℤ z
   pub high : z <ℤ pos 2305843009213693952
@@ -60,7 +60,7 @@ pub record NodeFits (n : PlainNode) : Type 0 where
   pub small : IsSmallShape (node_shape n)
   pub kind_fits : KindFits n.kind
 
--- what the page so far and what follows it add up to
+-- all that the page so far and what follows it add up to fits
 pub record LaidFits (z : Frozen) (ns : List PlainNode) : Type 0 where
   pub pages : (before rest : List PlainNode) → before ++ rest ≡ ns → PageFits z before
   pub nodes : (before : List PlainNode) (n : PlainNode) (rest : List PlainNode) → before ++ n ∷ rest ≡ ns → NodeFits n
@@ -70,13 +70,13 @@ abbrev pub BoxesFit : List Boxed → Type 0
 BoxesFit [] = Unit {0}
 BoxesFit (b ∷ bs) = SizesFit (map leaf_shape (content_of b.content)) × BoxesFit bs
 
--- what `next` asks: all that it adds up fits
+-- what `next` requires: all that it adds up fits
 pub record NextFits (c : Contents) (ask : Ask) : Type 0 where
   pub asked : AskFits ask
   pub boxes : BoxesFit c.boxes
   pub laid_fits : LaidFits (frozen_of c ask) (laid c ask)
 
--- ---- what is answered
+-- ---- what is returned
 
 -- what stays while a page is filled
 pub record KeepsBoxes (c d : Contents) (ask : Ask) : Type 0 where
@@ -86,15 +86,15 @@ pub record KeepsBoxes (c d : Contents) (ask : Ask) : Type 0 where
   pub frozen_so : frozen_of d ask ≡ frozen_of c ask
   pub keeps : (f : ℤ × ℤ) → c.frozen ≡ Some f → d.frozen ≡ Some f
 
--- ns is the page so far and what follows it, w what is reached of it past the page, and bs are the page's places.
--- The place did not stop: what is reached after it is reached from the contents now.
+-- The place before a node is no stop: what is reached after it is reached from the contents now. ns is the page so far
+-- and what follows it, w what is reached of it past the page, and bs are the page's places.
 pub record GoesPast (ns : List PlainNode) (w : Reach) (bs : List Breakpoint) (ask : Ask) (line : ℕ) (b : Breakpoint) (d : Contents) : Type 0 where
   pub reach : w ≡ also_reached (tried line b) (reach_ahead d ask)
   pub places : places_of d ask ≡ bs ++ b ∷ []
   pub whole : laid d ask ≡ ns
   pub stopped : d.stopped ≡ false
 
--- what is reached where the list from the page's end on begins with a stop
+-- what is reached if the list from the page's end on begins with a stop
 abbrev pub stopped_with : List PlainNode → List PlainNode → ℕ → Breakpoint → Reach
 stopped_with page waiting line b = record { reached = tried line b ∷ []; passed = page; beyond = waiting; fires = true }
 
@@ -180,14 +180,14 @@ FiresWith (events.Act a) c ask d s = ⊥
 FiresWith (events.Fired p) c ask d s = FiredIs p c ask d s
 FiresWith events.Empty c ask d s = ⊥
 
--- the body of a page that fires is a list that was opened for it, without insertions, and none of the builder's
+-- the body of a page that fires is a list that was opened for it, without insertions, and not the builder's
 abbrev pub IsGivenOut : Event → Lists Node → Ids → Lists Node → Type 0
 IsGivenOut (events.Try t) s b r = Unit {0}
 IsGivenOut (events.Act a) s b r = Unit {0}
 IsGivenOut (events.Fired p) s b r = (get s.lists p.body ≡ None) × (inner_ids (list_at r p.body) ≡ []) × Lacks p.body (owned b r)
 IsGivenOut events.Empty s b r = Unit {0}
 
--- what `next` returns: after a stop the page that fires, else the first event past the page so far
+-- what `next` returns: the page that fires if a stop was tried last, else the first event past the page so far
 abbrev pub NextIs : Bool → Event → Contents → Ask → Contents → Lists Node → Type 0
 NextIs true e c ask d s = FiresWith e c ask d s
 NextIs false e c ask d s = FirstIs e (laid c ask) (reach_ahead c ask) (places_of c ask) ask d × KeepsBoxes c d ask

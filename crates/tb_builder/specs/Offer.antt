@@ -1,4 +1,4 @@
--- What the course of a page is after a place was tried.
+-- The course of a page after a place was tried.
 use Rattle.std.specs.Prelude.{◌≡◌, ℕ, ℤ, Bool, true, false, List, [], ◌∷◌, ◌++◌}
 use Rattle.tb_node.specs.Small.{IsAmount}
 use Rattle.tb_node.specs.Plain.{PlainNode}
@@ -14,12 +14,12 @@ use Rattle.tb_builder.specs.Running.{IsCourseOf}
 abbrev pub place_here : Frozen → List PlainNode → ℤ → Breakpoint
 place_here z page p = page_place z.limit (terms_after z) page p
 
--- the place at the page's end was tried: what was made of it, and the course then
+-- the place at the page's end was tried: the try, and the course then
 pub record OfferIs (z : Frozen) (k : Course) (page : List PlainNode) (bs : List Breakpoint) (t : Try) (line : ℕ) (p : ℤ) : Type 0 where
   pub made : t ≡ try_of line (place_here z page p) (least_cost bs)
   pub course : IsCourseOf z k page (bs ++ place_here z page p ∷ [])
 
--- the course stands for a page whose goal and insert penalties are amounts
+-- the course is of a page whose goal and insert penalties are amounts
 pub record TermsFit (k : Course) : Type 0 where
   pub z : Frozen
   pub page : List PlainNode

@@ -108,7 +108,7 @@ VoidEmpty s (e ∷ es) = (e.void ≡ true → list_at s e.list ≡ []) × VoidEm
 abbrev pub has_number : ℕ → ClassList → Bool
 has_number k e = e.class.number == k
 
--- the k-th is the first with this number
+-- the first class with this number is at index k
 pub record IsFirst (es : List ClassList) (number k : ℕ) (d : ClassList) : Type 0 where
   pub within : k < length es
   pub there : has_number number (slice_index_or es k d) ≡ true
@@ -161,7 +161,7 @@ pub record IsOwned (b : Ids) (s : Lists Node) : Type 0 where
   pub classes : ClassesFit (classes_of b)
   pub known : AllKnown (classes_of b) (nodes_of b s)
 
--- lists that are not the builder's stay as they are, and are not its own afterwards
+-- lists that are not the builder's stay as they are, and are still not its own
 pub record KeepsOthers (b : Ids) (s : Lists Node) (d : Ids) (t : Lists Node) : Type 0 where
   pub others : (q : ℕ) → IsLive s q → Lacks q (owned b s) → get t.lists q ≡ get s.lists q
   pub apart : (q : ℕ) → IsLive s q → Lacks q (owned b s) → Lacks q (owned d t)

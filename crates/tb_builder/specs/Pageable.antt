@@ -1,4 +1,4 @@
--- Contents of which a page can be made, whatever is asked of their nodes: each node is sized, and there are not too many.
+-- Contents of which a page can be made: each node is sized, and there are not too many.
 use Rattle.std.specs.Prelude.{◌≡◌, ◌+◌, ◌≤◌, ℤ, pos, neg_ℤ, ◌≤ℤ◌, map, All}
 use Rattle.tb_node.specs.Fit.{IsDimension, IsExtent, IsPenalty, IsSized, IsSizedLeaf}
 use Rattle.tb_node.specs.Plain.{leaf_shape, Inserted, PlainKind, plain, ins, act, PlainNode, node_shape}
@@ -17,18 +17,18 @@ pub record IsSizedInserted (i : Inserted) : Type 0 where
   pub split_top : IsExtent i.split_top
   pub floating : IsPenalty i.floating
 
--- the same of an insertion alone; other kinds have no list
+-- the same of an insertion; other kinds have no list
 abbrev pub IsSizedKind : PlainKind → Type 0
 IsSizedKind (plain m) = Unit {0}
 IsSizedKind (ins i) = IsSizedInserted i
 IsSizedKind (act a) = Unit {0}
 
--- a node of a page
+-- a sized node of a page
 pub record IsSizedOnPage (n : PlainNode) : Type 0 where
   pub shape : IsSized (node_shape n)
   pub kind : IsSizedKind n.kind
 
--- a factor: an insertion counts at most ten times against the goal
+-- a factor: an insertion counts at most ten times its height against the goal
 pub record IsFactor (z : ℤ) : Type 0 where
   pub low : pos 0 ≤ℤ z
   pub high : z ≤ℤ pos 10000

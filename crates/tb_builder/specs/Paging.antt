@@ -1,4 +1,4 @@
--- How far a page has come, call by call, in words of what is reached of the whole page.
+-- How far a page has come, call by call, in what is reached of the whole page.
 use Rattle.std.specs.Prelude.{◌≡◌, ℕ, true, false, List, [], ◌∷◌, ◌++◌}
 use Rattle.tb_break.specs.Best.{Breakpoint, is_stop, least_cost}
 use Rattle.tb_builder.specs.declared.Ask.{Ask}
@@ -10,7 +10,7 @@ use Rattle.tb_builder.specs.Fired.{fired_of, frozen_for}
 use Rattle.tb_builder.specs.Contents.{Contents, frozen_of, reach_ahead, places_of}
 use Rattle.tb_builder.specs.Next.{fired_page}
 
--- these were reached first
+-- these were reached before the rest
 abbrev pub after_all : List Reached → Reach → Reach
 after_all rs w = record w { reached = rs ++ w.reached }
 
@@ -21,7 +21,7 @@ pub record HasCome (w : Reach) (rs : List Reached) (c : Contents) (ask : Ask) : 
   pub frozen : frozen_of c ask ≡ frozen_for ask c.classes c.boxes
   pub going : c.stopped ≡ false
 
--- rs is all of it up to a stop, and the page that fires then is that of the whole page
+-- rs is all of it up to a stop, and the page that then fires is that of the whole page
 pub record HasStopped (w : Reach) (rs : List Reached) (c : Contents) (ask : Ask) : Type 0 where
   pub reach : w ≡ record { reached = rs; passed = c.page; beyond = c.waiting; fires = true }
   pub fired : fired_page c ask ≡ fired_of ask c.classes c.boxes w

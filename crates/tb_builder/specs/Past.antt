@@ -1,4 +1,4 @@
--- Which of the nodes that waited a page came past.
+-- Which of the waiting nodes a page went past.
 use Rattle.std.specs.Prelude.{◌≡◌, ℕ, ◌<◌, false, List, ◌∷◌, ◌++◌, length, Option, None, Some}
 use Rattle.tb_node.specs.Plain.{act, PlainNode}
 use Rattle.tb_node.specs.declared.Act.{Act}
@@ -9,13 +9,13 @@ use Rattle.tb_builder.specs.Reached.{laid_out}
 use Rattle.tb_builder.specs.Places.{NoActs}
 use Rattle.tb_builder.specs.Contents.{Contents}
 
--- the page came past these nodes, none of them an act, of which it has what does not vanish at its top; the others are these
+-- the page went past these nodes, none of them an act, and has those that do not vanish at its top; these others are left
 pub record IsPast (before after : List PlainNode) (c d : Contents) (ask : Ask) : Type 0 where
   pub waiting : c.waiting ≡ before ++ after
   pub page : d.page ≡ laid_out ask.top_skip c.page before
   pub no_acts : NoActs before
 
--- the page came past all nodes before these
+-- the page went past all nodes before these
 pub record ComesPast (after : List PlainNode) (c d : Contents) (ask : Ask) : Type 0 where
   pub before : List PlainNode
   pub is : IsPast before after c d ask
@@ -30,7 +30,7 @@ pub record ActsPast (a : Act) (c d : Contents) (ask : Ask) : Type 0 where
   pub line : ℕ
   pub comes : ComesPast (record { line = line; kind = act a } ∷ d.waiting) c d ask
 
--- up to an event: where a place is a stop, and where a page fires, nothing is said
+-- up to an event; of a place that is a stop, and of a page that fires, nothing is said
 abbrev pub EventPast : Event → Contents → Contents → Ask → Type 0
 EventPast (events.Try t) c d ask = d.stopped ≡ false → TriesPast c d ask
 EventPast (events.Act a) c d ask = ActsPast a c d ask

@@ -13,11 +13,11 @@ use Rattle.tb_builder.specs.Reached.{page_place}
 abbrev pub page_shapes : List PlainNode → List Shape
 page_shapes ns = map node_shape ns
 
--- glue stands first in the list, where acts are looked past
+-- glue comes first in the list, acts aside
 abbrev pub glue_first : List PlainNode → Bool
 glue_first ns = begins_with_glue (page_shapes (without_acts ns))
 
--- glue stands first, or, in an empty list, what is said
+-- glue comes first in the list; for an empty list this is given
 abbrev pub glue_or : Bool → List PlainNode → Bool
 glue_or glue_next [] = glue_next
 glue_or glue_next (n ∷ ns) = begins_with_glue (node_shape n ∷ [])
@@ -32,7 +32,7 @@ kind_penalty_by lasting glue_next n (act a) = None
 abbrev pub node_penalty : Bool → Bool → PlainNode → Option ℤ
 node_penalty lasting glue_next n = kind_penalty_by lasting glue_next n n.kind
 
--- the legal places of a page without acts, in front of waiting nodes of which the first is glue or not
+-- the legal places of a page without acts, by whether the waiting nodes begin with glue
 abbrev pub page_places : ℤ → (List PlainNode → Terms) → List PlainNode → List PlainNode → Bool → List Breakpoint
 page_places limit terms before [] glue_next = []
 page_places limit terms before (n ∷ rest) glue_next =
@@ -43,7 +43,7 @@ abbrev pub NoStop : List Breakpoint → Type 0
 NoStop [] = Unit {0}
 NoStop (b ∷ bs) = (is_stop b ≡ false) × NoStop bs
 
--- no act stands on a page
+-- no act is on a page
 abbrev pub NoActs : List PlainNode → Type 0
 NoActs [] = Unit {0}
 NoActs (n ∷ ns) = (is_act_kind n.kind ≡ false) × NoActs ns

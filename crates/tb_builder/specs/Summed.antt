@@ -17,7 +17,7 @@ no_goal = pos 1073741823
 abbrev pub made_sums : Sums → ℤ → PageSums
 made_sums s goal = record { total = s.total; shrink = s.shrink; goal = goal }
 
--- with the goal and the glue above the insertions of the page; before a goal is frozen there is none of these
+-- the sums with the glue above the insertions of the page, and its goal; before a goal is frozen there are no insertions
 abbrev pub sums_frozen : Frozen → List PlainNode → PageSums
 sums_frozen z page = made_sums (sums_with (sums_of z.limit (page_shapes page)) (terms_after z page)) (terms_after z page).goal
 

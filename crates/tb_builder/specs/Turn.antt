@@ -1,10 +1,11 @@
--- One node more: what a turn of the page builder changes.
+-- One more node: what a turn of the page builder changes.
 use Rattle.std.specs.Prelude.{◌≡◌, ℕ, ◌<◌, ◌≤◌, Bool, true, false, List, [], ◌∷◌, ◌++◌, length, Option, Some, None}
 use Rattle.std.specs.FinMap.{get}
 use Rattle.tb_pool.specs.Lists.{Lists}
 use Rattle.tb_node.specs.declared.Node.{Node}
 use Rattle.tb_node.specs.Plain.{PlainNode, plain_of, shape_of}
 use Rattle.tb_node.specs.Small.{IsSmallShape}
+use Rattle.tb_node.specs.Roles.{act_of_kind, insertion_of_kind}
 use Rattle.tb_break.specs.Best.{Breakpoint, is_stop, least_cost}
 use Rattle.tb_insert.specs.Account.{Frozen, terms_after}
 use Rattle.tb_insert.specs.Arrived.{PageFits}
@@ -17,11 +18,11 @@ use Rattle.tb_builder.specs.declared.Builder.{Builder}
 use Rattle.tb_builder.specs.Reached.{tried, Reach, also_reached, reach_from, try_of, breakpoints}
 use Rattle.tb_builder.specs.Contents.{Contents, contents_of, laid, reach_ahead, places_of}
 use Rattle.tb_builder.specs.Owned.{ids_of, owned, Lacks, IsOwned}
-use Rattle.tb_builder.specs.Running.{IsCourseOf, Underway, places_by, IsSound, act_of_kind, insertion_of_kind}
+use Rattle.tb_builder.specs.Running.{IsCourseOf, Underway, places_by, IsSound}
 use Rattle.tb_builder.specs.Next.{FirstIs, KeepsBoxes, stopped_with}
 use Rattle.tb_builder.specs.Past.{EventPast, TurnPast}
 
--- the lists are the builder's still, and lists that were not its own stay as they are and are not its own
+-- the lists are still the builder's, and lists that were not its own stay as they are and are still not its own
 pub record ChangesPage (b : Builder) (s : Lists Node) (d : Builder) (t : Lists Node) : Type 0 where
   pub own : IsOwned (ids_of d) t
   pub others : (q : ℕ) → Lacks q (owned (ids_of b) s) → get t.lists q ≡ get s.lists q
@@ -30,7 +31,7 @@ pub record ChangesPage (b : Builder) (s : Lists Node) (d : Builder) (t : Lists N
   pub boxes : (contents_of d t).boxes ≡ (contents_of b s).boxes
   pub held : (contents_of d t).held ≡ (contents_of b s).held
 
--- the first node that waits went on the page
+-- the first waiting node went on the page
 pub record Shifted (n : PlainNode) (c d : Contents) : Type 0 where
   pub waiting : c.waiting ≡ n ∷ d.waiting
   pub page : d.page ≡ c.page ++ n ∷ []
@@ -51,7 +52,7 @@ pub record GoesUntried (z : Frozen) (c d : Contents) : Type 0 where
   pub places : places_on z d ≡ places_on z c
   pub whole : d.page ++ d.waiting ≡ c.page ++ c.waiting
 
--- the place before a node, which is no stop, was tried, and the node went on the page
+-- the place before a node was tried and is no stop, and the node went on the page
 pub record GoesOn (z : Frozen) (line : ℕ) (b : Breakpoint) (c d : Contents) : Type 0 where
   pub reach : reach_on z c ≡ also_reached (tried line b) (reach_on z d)
   pub places : places_on z d ≡ places_on z c ++ b ∷ []
@@ -69,7 +70,7 @@ pub record StopsThere (z : Frozen) (line : ℕ) (b : Breakpoint) (k : Course) (c
   pub passed : (reach_from z.limit (terms_after z) [] (d.page ++ d.waiting)).passed ≡ d.page
   pub beyond : (reach_from z.limit (terms_after z) [] (d.page ++ d.waiting)).beyond ≡ d.waiting
 
--- a legal place was tried: it goes on there, or it is the stop
+-- a legal place was tried: the page goes on there, or it is the stop
 pub record TriesOn (z : Frozen) (t : Try) (k : Course) (c d : Contents) : Type 0 where
   pub line : ℕ
   pub place : Breakpoint
@@ -77,7 +78,7 @@ pub record TriesOn (z : Frozen) (t : Try) (k : Course) (c d : Contents) : Type 0
   pub goes : is_stop place ≡ false → GoesOn z line place c d × Underway z k d.page d.waiting
   pub stops : is_stop place ≡ true → StopsThere z line place k c d
 
--- the first node that waits, no act and no insertion, was tried where it is a legal place, and went on the page unless it stops
+-- the first waiting node, no act and no insertion, was tried if it is a legal place, and went on the page unless that is a stop
 abbrev pub StepIs : Option Event → Frozen → Course → Contents → Contents → Type 0
 StepIs None z k c d = GoesUntried z c d × Underway z k d.page d.waiting × (d.stopped ≡ c.stopped)
 StepIs (Some (events.Try t)) z k c d = TriesOn z t k c d
@@ -90,7 +91,7 @@ abbrev pub event_of : Bool → Try → Option Event
 event_of false t = None
 event_of true t = Some (events.Try t)
 
--- what a step asks of the node: all that is added up with it fits
+-- what a step requires of the node: all that is added up with it fits
 pub record StepFits (z : Frozen) (page : List PlainNode) (held : ℕ → List Node) (n : Node) : Type 0 where
   pub small : IsSmallShape (shape_of n)
   pub here : PageFits z page
@@ -107,12 +108,12 @@ pub record ReachesNothing (c d : Contents) (ask : Ask) : Type 0 where
   pub whole : laid d ask ≡ laid c ask
   pub stopped : d.stopped ≡ false
 
--- the turn answered nothing, or the first event of what is reached
+-- the turn returned nothing, or the first event of what is reached
 abbrev pub TurnBy : Option Event → Contents → Contents → Ask → Type 0
 TurnBy None c d ask = ReachesNothing c d ask
 TurnBy (Some e) c d ask = FirstIs e (laid c ask) (reach_ahead c ask) (places_of c ask) ask d
 
--- one turn of the builder: what it answered, and what stands then
+-- one turn of the builder: what it returned, and what holds then
 pub record TurnIs (b : Builder) (s : Lists Node) (ask : Ask) (o : Option Event) (d : Builder) (t : Lists Node) : Type 0 where
   pub sound : IsSound d t
   pub others : (q : ℕ) → Lacks q (owned (ids_of b) s) → get t.lists q ≡ get s.lists q

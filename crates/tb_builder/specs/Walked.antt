@@ -1,4 +1,4 @@
--- Nodes that wait go on a page together: the lists as they are when so many went, and what calls of `next` come to then.
+-- Waiting nodes go on a page together: the lists once the first k went, and what calls of `next` then come to.
 use Rattle.std.specs.Prelude.{◌≡◌, ℕ, ◌++◌, take, drop}
 use Rattle.std.specs.FinMap.{insert}
 use Rattle.tb_pool.specs.Lists.{Lists, list_at, with_list}
@@ -12,14 +12,14 @@ use Rattle.tb_builder.specs.Owned.{Ids, ids_of, KeepsOthers}
 use Rattle.tb_builder.specs.Running.{IsSound}
 use Rattle.tb_builder.specs.Calls.{ComesAfter}
 
--- the lists, where the first k nodes that wait are at the end of the page
+-- the lists, once the first k waiting nodes are at the end of the page
 unfoldable pub moved : Ids → Lists Node → ℕ → Lists Node
 moved b s k = record {
   lists = insert (with_list s b.waiting (drop k (list_at s b.waiting))) b.page (list_at s b.page ++ take k (list_at s b.waiting));
   spare = s.spare;
 }
 
--- the builder d is as its calls leave it, and what calls from it on come to, calls from the builder b on come to
+-- the builder d is sound, and all that calls of `next` on it come to, calls on the builder b come to
 pub record LeadsOn (b : Builder) (s : Lists Node) (ask : Ask) (d : Builder) (t : Lists Node) : Type 0 where
   pub sound : IsSound d t
   pub fits : NextFits (contents_of d t) ask

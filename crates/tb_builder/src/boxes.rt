@@ -18,7 +18,7 @@ use tb_node::Node;
 use tb_pool::{ListId, Lists};
 
 impl Builder {
-    // The place of a class among the classes.
+    // The index of a class among the classes.
     pub(crate) fn place_of(&self, number: u8) -> Option<usize>
         ensures { result ≡ position (λ e. e.class.number == number) self.now.boxes.items }
     {
@@ -36,7 +36,7 @@ impl Builder {
         self.boxes[k]
     }
 
-    /// Whether nothing was given to the box of this class, one of the builder's, since the start or since its last
+    /// Whether the box of this class, one of the builder's, was given nothing since the start or since its last
     /// `take_box`. A box that was given an empty list is not void.
     pub fn is_void(&self, class: u8) -> bool
         requires { has_class (classes_of (ids_of self.now)) class ≡ true }
@@ -45,7 +45,7 @@ impl Builder {
         self.class_list(class).void
     }
 
-    /// The height plus depth in sp of the box of this class, one of the builder's; 0 where it is void.
+    /// The height plus depth in sp of the box of this class, one of the builder's; 0 if it is void.
     pub fn box_size(&self, store: &Lists<Node>, class: u8) -> i64
         requires sound { IsSound self.now store.now }
         requires known { has_class (contents_of self.now store.now).classes class ≡ true }
@@ -55,8 +55,8 @@ impl Builder {
         list_size(store, self.class_list(class).list)
     }
 
-    /// The nodes of the box of this class, one of the builder's, go to the end of the list `into`, while the page is
-    /// empty; the box is void then. Takes no memory.
+    /// Appends the nodes of the box of this class, one of the builder's, to the list `into`, while the page is empty;
+    /// the box is void then. Takes no memory.
     pub fn take_box(&mut self, store: &mut Lists<Node>, class: u8, into: ListId)
         requires sound { IsSound self.old store.old }
         requires empty { NoPage (contents_of self.old store.old) }

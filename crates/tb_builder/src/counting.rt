@@ -1,4 +1,4 @@
-//! The number of nodes that a builder has in store.
+//! The number of nodes that a builder holds.
 
 ghost use Rattle.std.specs.Prelude.{◌≡◌, ◌+◌, min, option_to_list, map};
 ghost use Rattle.tb_pool.specs.Lists.{IsLive, list_at};
@@ -11,14 +11,14 @@ use crate::{Builder, ClassList};
 use tb_node::{Kind, Node};
 use tb_pool::{ListId, Lists};
 
-// A count stands still at the end of its type.
+// The sum of two counts, which saturates.
 fn more(total: u64, count: u64) -> u64
     ensures { result ≡ min (total + count) 18446744073709551615 }
 {
     total.saturating_add(count)
 }
 
-// A node, and those of its insertion.
+// The count of a node: itself and the nodes of its insertion.
 fn count_of(store: &Lists<Node>, n: &Node) -> u64
     requires { AllLive store.now (option_to_list (inner_of n.now.kind)) }
     ensures { result ≡ min (kind_count (plain_of (list_at store.now) n.now).kind) 18446744073709551615 }
@@ -29,7 +29,7 @@ fn count_of(store: &Lists<Node>, n: &Node) -> u64
     }
 }
 
-// The nodes of a list, those of insertions too.
+// The count of the nodes of a list, those of insertions too.
 fn count_nodes(store: &Lists<Node>, l: ListId) -> u64
     requires live { IsLive store.now l }
     requires inner { AllLive store.now (inner_ids (list_at store.now l)) }
@@ -42,7 +42,7 @@ fn count_nodes(store: &Lists<Node>, l: ListId) -> u64
     total
 }
 
-// The nodes of class boxes.
+// The count of the nodes in class boxes.
 fn count_boxes(store: &Lists<Node>, boxes: &[ClassList]) -> u64
     requires live { AllLive store.now (box_ids boxes.now) }
     requires void { VoidEmpty store.now boxes.now }
@@ -56,8 +56,8 @@ fn count_boxes(store: &Lists<Node>, boxes: &[ClassList]) -> u64
 }
 
 impl Builder {
-    /// The number of nodes that wait and of those in the class boxes, the lists of insertions counted too; from
-    /// 18446744073709551615 on it stands still.
+    /// The number of nodes that wait and of those in the class boxes, the lists of insertions counted too; it saturates
+    /// at 18446744073709551615.
     pub fn nodes(&self, store: &Lists<Node>) -> u64
         requires { IsSound self.now store.now }
         ensures { result ≡ contents_count (contents_of self.now store.now) }

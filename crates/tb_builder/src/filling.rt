@@ -1,21 +1,22 @@
-//! A page is filled: the nodes that wait go on it one by one, up to the next event.
+//! A page is filled: the waiting nodes go on it one by one, up to the next event.
 
-ghost use Rattle.std.specs.Prelude.{◌≡◌, ◌≢◌, ◌<◌, ◌<ℤ◌, ◌≤◌, ◌+◌, pos, ℕ, List, [], ◌∷◌, ◌++◌, Bool, true, false, Some, None, IsSome, IfOk, OnOk, OnErr, slice_get, length, drop};
-ghost use Rattle.tb_pool.specs.Lists.{IsLive, list_at};
+ghost use Rattle.std.specs.Prelude.{◌≡◌, ◌<◌, ◌≤◌, ◌+◌, List, [], ◌∷◌, ◌++◌, true, false, Some, None, IsSome, IfOk, OnOk, OnErr, slice_get, length, drop};
+ghost use Rattle.tb_pool.specs.Lists.{list_at};
 ghost use Rattle.tb_node.specs.declared.Node.{Node as NodeOf};
 ghost use Rattle.tb_node.specs.Shape.{is_box};
-ghost use Rattle.tb_node.specs.Small.{IsAmount, IsSmall, IsSmallShape};
+ghost use Rattle.tb_node.specs.Small.{IsSmall, IsSmallShape};
 ghost use Rattle.tb_node.specs.Plain.{shape_of, plain_of, PlainNode};
 ghost use Rattle.tb_node.specs.Add.{added_node};
+ghost use Rattle.tb_node.specs.Roles.{act_of_kind, insertion_of_kind};
 ghost use Rattle.tb_break.specs.Best.{Breakpoint};
 ghost use Rattle.tb_break.specs.Legal.{ends_lasting};
 ghost use Rattle.tb_insert.specs.Account.{Frozen};
 ghost use Rattle.tb_insert.specs.Running.{Differ};
-ghost use Rattle.tb_builder.specs.Owned.{ids_of, owned, Lacks, IsOwned, KeepsOthers};
-ghost use Rattle.tb_builder.specs.Places.{page_shapes, node_penalty, glue_first};
+ghost use Rattle.tb_builder.specs.Owned.{ids_of, IsOwned, KeepsOthers};
+ghost use Rattle.tb_builder.specs.Places.{page_shapes};
 ghost use Rattle.tb_builder.specs.Reached.{holds_box};
 ghost use Rattle.tb_builder.specs.Contents.{contents_of};
-ghost use Rattle.tb_builder.specs.Running.{IsSound, IsCourseOf, Underway, AllLoose, kept_frozen, frozen_with, act_of_kind, insertion_of_kind};
+ghost use Rattle.tb_builder.specs.Running.{IsSound, IsCourseOf, Underway, AllLoose, kept_frozen, frozen_with};
 ghost use Rattle.tb_builder.specs.Next.{AskFits, NextFits, NextIs, IsGivenOut};
 ghost use Rattle.tb_builder.specs.Past.{EventPast};
 ghost use Rattle.tb_builder.specs.Calls.{ComesAfter, IsNoPlace};
@@ -23,21 +24,21 @@ ghost use Rattle.tb_builder.specs.Walked.{moved, LeadsOn};
 ghost use Rattle.tb_builder.specs.Turn.{ChangesPage, Shifted, StepIs, StepFits, event_of, TurnIs, Filled};
 
 use crate::measuring::list_size;
-use crate::moving::{act_of, drop_first, insertion_of, is_matter, is_walked, penalty_of};
+use crate::moving::{drop_first, is_walked, penalty_of};
+use crate::splitting::move_front;
 use crate::trying::stops;
 use crate::{Ask, Builder, Event};
 use std::alloc::AllocError;
 use tb_break::{is_box, is_lasting, place_penalty, top_node};
-use tb_node::{Insertion, Node};
+use tb_node::{Insertion, Node, Role};
 use tb_pool::Lists;
 
 impl Builder {
-    /// The next event. A legal place, or an act, is reached of what waits: the nodes before it are on the page then. After
-    /// a place that is a stop the page fires at the following call. Where nothing is left to be reached, the event is
-    /// Empty, and no node waits (TeX: The Program §994 to §1028). A page that fired awaits its `put_back` before the next
-    /// call.
+    /// The next event: the next legal place or act among the waiting nodes. The nodes before it are on the page then.
+    /// After a place that is a stop, the next call fires the page. If no place or act is left, the event is Empty, and
+    /// no node waits (TeX: The Program §994 to §1028). After a page fired, `put_back` must come before the next call.
     ///
-    /// Memory is taken first: where that fails, the builder and all lists are as before.
+    /// Memory is taken first: if that fails, the builder and all lists are as before.
     #[inline(always)]
     pub fn next(&mut self, store: &mut Lists<Node>, ask: &Ask) -> Result<Event, AllocError>
         requires sound { IsSound self.old store.old }
@@ -59,10 +60,10 @@ impl Builder {
         Ok(self.fill(store, ask))
     }
 
-    /// The next event that is no place: as [`Self::next`] called until it returns none, where the places that it tries are
-    /// passed over.
+    /// The next event that is not a try: an act, a page that fires, or Empty. It is the first such event that calls of
+    /// [`Self::next`] would return; the places in between are tried here too, but their tries are not returned.
     ///
-    /// If memory is lacking, some of the places may have been passed over already.
+    /// If there is no memory, some of those places may have been tried already.
     pub fn next_without_tries(
         &mut self,
         store: &mut Lists<Node>,
@@ -87,7 +88,7 @@ impl Builder {
         }
     }
 
-    // The first nodes that wait go on a page that is laid out, all at once, as far as the walk goes.
+    // The first waiting nodes go on a page that is laid out, all at once, as far as the walk goes.
     fn pass_nodes(&mut self, store: &mut Lists<Node>, ask: &Ask)
         requires sound { IsSound self.old store.old }
         requires fits { NextFits (contents_of self.old store.old) ask.now }
@@ -102,12 +103,10 @@ impl Builder {
         if passed == 0 {
             return;
         }
-        store.cut(self.waiting, passed, self.rest);
-        store.append(self.page, self.waiting);
-        store.append(self.waiting, self.rest);
+        move_front(store, self.page, self.waiting, self.rest, passed);
     }
 
-    // How many of the first nodes that wait go on the page: those before a stop, or before a node that is left to `next`.
+    // How many of the first waiting nodes go on the page: those before a stop, or before a node that is left to `next`.
     // The places before them are tried.
     fn walk(&mut self, store: &Lists<Node>, ask: &Ask) -> usize
         requires sound { IsSound self.old store.now }
@@ -130,7 +129,7 @@ impl Builder {
         all
     }
 
-    // Whether the next node goes on the page, which had so many nodes before those that the walk passed.
+    // Whether the next node goes on the page, which had `before` nodes before those that the walk passed.
     #[inline(always)]
     fn passes(
         &mut self,
@@ -182,7 +181,7 @@ impl Builder {
         store.reserve(1)
     }
 
-    // The nodes that wait go on the page, up to the next event. Most of them are no event and go on a page that is laid
+    // The waiting nodes go on the page, up to the next event. Most of them are no event and go on a page that is laid
     // out: such a node is not copied.
     fn fill(&mut self, store: &mut Lists<Node>, ask: &Ask) -> Event
         requires sound { IsSound self.old store.old }
@@ -206,17 +205,17 @@ impl Builder {
         Event::Empty
     }
 
-    // The page is laid out, and the node is no act and no insertion.
+    // Whether the page is laid out, and the node is no act and no insertion.
     fn goes_on(&self, n: &Node) -> bool
         ensures opened { result ≡ true → self.now.opened ≡ true }
         ensures no_act { result ≡ true → act_of_kind n.now.kind ≡ None }
         ensures no_insertion { result ≡ true → insertion_of_kind n.now.kind ≡ None }
     {
-        self.opened && is_matter(n)
+        self.opened && matches!(n.role(), Role::Matter)
     }
 
-    // The first node that waits goes on the page, vanishes or is handed out, or the place before it is a stop. Each node
-    // comes by here, so what is rare has functions of its own.
+    // The first waiting node goes on the page, vanishes or is handed out, or the place before it is a stop. Each node
+    // comes by here, so rare cases have functions of their own.
     #[inline(never)]
     fn turn(&mut self, store: &mut Lists<Node>, ask: &Ask, n: &Node) -> Option<Event>
         requires sound { IsSound self.old store.old }
@@ -226,36 +225,25 @@ impl Builder {
         requires first { slice_get (list_at store.old self.old.waiting) 0 ≡ Some n.now }
         ensures { TurnIs self.old store.old ask.now result self.new store.new }
     {
-        if !is_matter(n) {
-            return self.act_or_insert(store, ask, n);
+        match n.role() {
+            Role::Matter => {
+                if self.opened {
+                    return self.reach(store, n);
+                }
+                self.begin(store, ask, n)
+            }
+            Role::Insertion(i) => {
+                self.meet(store, ask, n, &i);
+                None
+            }
+            Role::Act(act) => {
+                drop_first(store, self.waiting);
+                Some(Event::Act(act))
+            }
         }
-        if self.opened {
-            return self.reach(store, n);
-        }
-        self.begin(store, ask, n)
     }
 
-    // The first node that waits is an act, which is handed out, or an insertion, which goes on the page.
-    fn act_or_insert(&mut self, store: &mut Lists<Node>, ask: &Ask, n: &Node) -> Option<Event>
-        requires sound { IsSound self.old store.old }
-        requires on { self.old.stopped ≡ false }
-        requires fits { NextFits (contents_of self.old store.old) ask.now }
-        requires first { slice_get (list_at store.old self.old.waiting) 0 ≡ Some n.now }
-        requires other { act_of_kind n.now.kind ≡ None → IsSome (insertion_of_kind n.now.kind) }
-        ensures { TurnIs self.old store.old ask.now result self.new store.new }
-    {
-        if let Some(act) = act_of(n) {
-            drop_first(store, self.waiting);
-            return Some(Event::Act(act));
-        }
-        let Some(i) = insertion_of(n) else {
-            unreachable!()
-        };
-        self.meet(store, ask, n, &i);
-        None
-    }
-
-    // On a page without a box, the first node that waits is no act and no insertion.
+    // On a page without a box, the first waiting node is no act and no insertion.
     fn begin(&mut self, store: &mut Lists<Node>, ask: &Ask, n: &Node) -> Option<Event>
         requires sound { IsSound self.old store.old }
         requires on { self.old.stopped ≡ false }
@@ -274,7 +262,7 @@ impl Builder {
         None
     }
 
-    // The first box or rule of the page is the first node that waits: it goes on the page behind the top glue, unless the
+    // The first box or rule of the page is the first waiting node: it goes on the page after the top glue, unless the
     // place before that glue is a stop.
     fn open_page(&mut self, store: &mut Lists<Node>, ask: &Ask, n: &Node) -> Option<Event>
         requires sound { IsSound self.old store.old }
@@ -298,7 +286,7 @@ impl Builder {
         event
     }
 
-    // Freezes the goal and the depth limit of the page, where they are not frozen yet.
+    // Freezes the goal and the depth limit of the page, unless they are frozen already.
     fn freeze(&mut self, ask: &Ask)
         requires asked { AskFits ask.now }
         ensures first { self.old.frozen ≡ None → (z : Frozen) (page : List PlainNode) → z.goal ≡ ask.now.goal → z.limit ≡ ask.now.max_depth → Differ z.classes → AllLoose page
@@ -316,7 +304,7 @@ impl Builder {
         self.course.restart(ask.goal, ask.max_depth);
     }
 
-    // The first node that waits, an insertion, goes on the page.
+    // The first waiting node, an insertion, goes on the page.
     fn meet(&mut self, store: &mut Lists<Node>, ask: &Ask, n: &Node, i: &Insertion)
         requires sound { IsSound self.old store.old }
         requires on { self.old.stopped ≡ false }
@@ -333,8 +321,8 @@ impl Builder {
         store.move_first(self.waiting, self.page);
     }
 
-    // On a page without a box, the first node that waits is no box, insertion or act: a mark, a note or a whatsit goes
-    // on the page, and glue, a kern or a penalty vanishes.
+    // On a page without a box, the first waiting node is no box, insertion or act: a mark, a note or a whatsit goes on
+    // the page, and glue, a kern or a penalty vanishes.
     fn pass(&mut self, store: &mut Lists<Node>, ask: &Ask, n: &Node)
         requires sound { IsSound self.old store.old }
         requires on { self.old.stopped ≡ false }
@@ -353,8 +341,8 @@ impl Builder {
         drop_first(store, self.waiting);
     }
 
-    // The first node that waits on a page that is laid out, no act and no insertion, goes a step, and its event, if there
-    // is one, is told.
+    // Takes one step with the first waiting node on a page that is laid out, which is no act and no insertion. Returns
+    // its event, if there is one.
     fn reach(&mut self, store: &mut Lists<Node>, n: &Node) -> Option<Event>
         requires own { IsOwned (ids_of self.old) store.old }
         requires first { slice_get (list_at store.old self.old.waiting) 0 ≡ Some n.now }
@@ -375,8 +363,8 @@ impl Builder {
         None
     }
 
-    // The first node that waits on a page that is laid out, no act and no insertion: its place is tried if it is legal,
-    // and it goes on the page unless that is a stop. Whether it was tried; `tried` is what came of it.
+    // The first waiting node on a page that is laid out, no act and no insertion: its place is tried if it is legal,
+    // and the node goes on the page unless that is a stop. Returns whether it was tried; `tried` has the result.
     #[inline(always)]
     fn step(&mut self, store: &mut Lists<Node>) -> bool
         requires own { IsOwned (ids_of self.old) store.old }
@@ -410,7 +398,7 @@ impl Builder {
         true
     }
 
-    // The first node that waits, which is no insertion, goes on the page.
+    // The first waiting node, which is no insertion, goes on the page.
     fn put(&mut self, store: &mut Lists<Node>, n: &Node)
         requires own { IsOwned (ids_of self.old) store.old }
         requires first { slice_get (list_at store.old self.old.waiting) 0 ≡ Some n.now }

@@ -1,5 +1,5 @@
-//! A page fires: it is cut at its best place, what its insertions give goes to the boxes of their classes, and what is
-//! left of them is held (TeX: The Program §1012 to §1022).
+//! A page fires: it is cut at its best place, its insertions give what fits to the boxes of their classes, and the rest
+//! of them is held (TeX: The Program §1012 to §1022).
 
 ghost use Rattle.std.specs.Prelude.{◌≡◌, ◌<◌, ◌≤◌, ◌+◌, ◌++◌, ℕ, List, [], ◌∷◌, map, take, drop, length, true, false, None, IfOk, OnErr};
 ghost use Rattle.std.specs.FinMap.{insert};
@@ -26,7 +26,7 @@ struct Break {
     penalty: i64,
 }
 
-// The node, which does not force a break any more.
+// The node; a penalty no longer forces a break.
 fn spent(n: &Node) -> Node
     ensures { result ≡ record { line = n.now.line; kind = spent_node_kind n.now.kind } }
 {
@@ -60,7 +60,7 @@ fn break_at(n: &Node) -> Break
     }
 }
 
-// The page breaks before the first node of the list, which does not force a break any more.
+// The page breaks before the first node of the list, which no longer forces a break.
 fn spend_break(store: &mut Lists<Node>, l: ListId) -> Break
     requires { IsLive store.old l }
     ensures spent { store.new.lists ≡ with_list store.old l (spent_nodes (list_at store.old l)) }
@@ -79,7 +79,7 @@ fn spend_break(store: &mut Lists<Node>, l: ListId) -> Break
 }
 
 impl Builder {
-    // What stands behind this place of the page goes back before what waits.
+    // What comes after this place of the page goes back before the waiting nodes.
     fn turn_back(&self, store: &mut Lists<Node>, place: usize)
         requires own { IsOwned (ids_of self.now) store.old }
         requires within { place ≤ length (list_at store.old self.now.page) }
@@ -91,7 +91,7 @@ impl Builder {
         store.append(self.waiting, self.rest);
     }
 
-    // The page is cut at this place, where it breaks.
+    // The page is cut at this place, at which it breaks.
     fn cut_page(&self, store: &mut Lists<Node>, place: usize) -> Break
         requires own { IsOwned (ids_of self.now) store.old }
         requires within { place ≤ length (list_at store.old self.now.page) }
@@ -104,7 +104,7 @@ impl Builder {
         spend_break(store, self.waiting)
     }
 
-    // The page fires: it breaks at its best place. Answers the page; where memory runs out, nothing has changed.
+    // The page fires: it breaks at its best place. Returns the page; if memory runs out, nothing has changed.
     pub(crate) fn fire(&mut self, store: &mut Lists<Node>) -> Result<Page, AllocError>
         requires sound { IsSound self.old store.old }
         requires stopped { self.old.stopped ≡ true }
@@ -132,7 +132,7 @@ impl Builder {
         })
     }
 
-    // The page is empty, and its goal is not frozen.
+    // Clears the page: it is empty, and its goal is not frozen.
     fn clear(&mut self)
         ensures { self.new ≡ record self.old { frozen = None; opened = false; stopped = false; course = record self.old.course { lasting = false } } }
     {

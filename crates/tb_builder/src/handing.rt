@@ -31,8 +31,8 @@ fn put_in_front(store: &mut Lists<Node>, a: ListId, b: ListId, c: ListId)
 }
 
 impl Builder {
-    /// A node goes to the end of what waits; the list of an insertion is the builder's from then on. The node is no
-    /// glue where the page's last node is a kern and nothing but acts waits. On an `Err` nothing changed.
+    /// Appends a node to the waiting nodes; the list of an insertion is the builder's from then on. The node must not
+    /// be glue if the page's last node is a kern and nothing but acts waits. On an `Err` nothing changed.
     pub fn contribute(&mut self, store: &mut Lists<Node>, n: Node) -> Result<(), AllocError>
         requires sound { IsSound self.old store.old }
         requires joins { NodesJoin (ids_of self.old) store.old (n ∷ []) }
@@ -49,8 +49,8 @@ impl Builder {
         Ok(())
     }
 
-    /// What the output routine puts back after a page fired: the nodes of the list come before what waits, and the
-    /// insertions that were held of that page before them. The list is empty then. Takes no memory.
+    /// What the output routine puts back after a page fired: the nodes of the list come before the waiting nodes, and
+    /// the insertions held of that page before them. The list is empty then. Takes no memory.
     pub fn put_back(&mut self, store: &mut Lists<Node>, list: ListId)
         requires sound { IsSound self.old store.old }
         requires empty { NoPage (contents_of self.old store.old) }
@@ -68,8 +68,8 @@ impl Builder {
         put_in_front(store, self.held, list, self.waiting);
     }
 
-    /// The nodes of the list come before all that waits, where the last event of `next` was not the Try of a stop and
-    /// the page's last node is no kern. The lists of insertions among them are the builder's from then on, and the list
+    /// Puts the nodes of the list before all waiting nodes. The last event of `next` must not be the Try of a stop, nor
+    /// the page's last node a kern. The lists of insertions among the nodes are the builder's from then on, and the list
     /// is empty. Takes no memory.
     pub fn put_first(&mut self, store: &mut Lists<Node>, list: ListId)
         requires sound { IsSound self.old store.old }
@@ -89,14 +89,14 @@ impl Builder {
         store.append(self.waiting, list);
     }
 
-    /// The list that holds the nodes that wait.
+    /// The list of the waiting nodes.
     pub fn waiting(&self) -> ListId
         ensures { result ≡ self.now.waiting }
     {
         self.waiting
     }
 
-    /// The list that holds the page so far.
+    /// The list of the page so far.
     pub fn on_page(&self) -> ListId
         ensures { result ≡ self.now.page }
     {

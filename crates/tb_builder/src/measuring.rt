@@ -1,13 +1,12 @@
 //! Sizes and counts of lists.
 
-ghost use Rattle.std.specs.Prelude.{◌≡◌, ◌+ℤ◌, pos};
+ghost use Rattle.std.specs.Prelude.{◌≡◌};
 ghost use Rattle.tb_pool.specs.Lists.{IsLive};
-ghost use Rattle.tb_node.specs.Small.{IsAmount};
 ghost use Rattle.tb_node.specs.Fit.{shapes};
 ghost use Rattle.tb_node.specs.Plain.{shape_of};
 ghost use Rattle.tb_node.specs.Sums.{room_of, size_of};
 ghost use Rattle.tb_builder.specs.Next.{SizesFit, IsRoom};
-ghost use Rattle.tb_builder.specs.Room.{IsWide, RoomFits};
+ghost use Rattle.tb_builder.specs.Room.{RoomFits};
 
 use tb_node::{Kind, Node};
 use tb_pool::{ListId, Lists};
@@ -41,7 +40,7 @@ pub fn list_size(store: &Lists<Node>, l: ListId) -> i64
     pruned_size(store, l)
 }
 
-/// The room that a list takes which may have been pruned, in sp.
+/// The room that a list takes, which may have been pruned, in sp.
 pub fn pruned_size(store: &Lists<Node>, l: ListId) -> i64
     requires live { IsLive store.now l }
     requires fits { RoomFits (shapes store.now l) }

@@ -1,37 +1,24 @@
 //! Nodes at the front of a list: what they are, and how they go from one list to another.
 
-ghost use Rattle.std.specs.Prelude.{◌≡◌, ◌≢◌, ◌<◌, ◌≤◌, ◌+◌, ◌<ℤ◌, pos, ℕ, Bool, true, false, None, IsSome, IfSome, IfNone, List, ◌∷◌, slice_get, drop};
+ghost use Rattle.std.specs.Prelude.{◌≡◌, ◌<◌, ◌≤◌, ◌<ℤ◌, pos, Bool, true, false, None, IfSome, IfNone, List, ◌∷◌, slice_get, drop};
 ghost use Rattle.tb_pool.specs.Lists.{IsLive, list_at, with_list};
 ghost use Rattle.tb_node.specs.declared.Node.{Node as NodeOf};
-ghost use Rattle.tb_node.specs.Shape.{is_discardable};
 ghost use Rattle.tb_node.specs.Plain.{shape_of};
 ghost use Rattle.tb_node.specs.Small.{IsAmount, IsSmallShape};
+ghost use Rattle.tb_node.specs.Roles.{act_of_kind, insertion_of_kind};
 ghost use Rattle.tb_break.specs.Finding.{penalty_by};
-ghost use Rattle.tb_builder.specs.Running.{act_of_kind, insertion_of_kind, nodes_glue_first};
+ghost use Rattle.tb_builder.specs.Running.{is_act, nodes_glue_first};
 ghost use Rattle.tb_builder.specs.Firing.{is_insertion, NoInsertions, InsertionAt};
 
 use tb_break::{is_glue, place_penalty};
-use tb_node::{Act, Insertion, Kind, Node};
+use tb_node::{Kind, Node};
 use tb_pool::{Iter, ListId, Lists};
 
-/// A node that is an act, if it is one.
-pub fn act_of(n: &Node) -> Option<Act>
-    ensures { result ≡ act_of_kind n.now.kind }
+// Whether a node is an act.
+fn is_act(n: &Node) -> bool
+    ensures { result ≡ is_act n.now }
 {
-    match n.kind {
-        Kind::Act(a) => Some(a),
-        _ => None,
-    }
-}
-
-/// A node that is an insertion, if it is one.
-pub fn insertion_of(n: &Node) -> Option<Insertion>
-    ensures { result ≡ insertion_of_kind n.now.kind }
-{
-    match n.kind {
-        Kind::Ins(i) => Some(i),
-        _ => None,
-    }
+    matches!(n.kind, Kind::Act(_))
 }
 
 // Whether a node is an insertion.
@@ -58,16 +45,7 @@ pub fn insertion_place(store: &Lists<Node>, l: ListId) -> Option<usize>
     None
 }
 
-/// Whether a node is neither an act nor an insertion.
-pub fn is_matter(n: &Node) -> bool
-    ensures no_act { result ≡ true → act_of_kind n.now.kind ≡ None }
-    ensures no_insertion { result ≡ true → insertion_of_kind n.now.kind ≡ None }
-    ensures other { result ≡ false → act_of_kind n.now.kind ≡ None → IsSome (insertion_of_kind n.now.kind) }
-{
-    !matches!(n.kind, Kind::Ins(_) | Kind::Act(_))
-}
-
-/// Whether a node is neither an act nor an insertion, nor a kern, of whose place the nodes behind it decide.
+/// Whether a node is neither an act nor an insertion, nor a kern, whose place depends on the nodes after it.
 pub fn is_walked(n: &Node) -> bool
     ensures no_act { result ≡ true → act_of_kind n.now.kind ≡ None }
     ensures no_insertion { result ≡ true → insertion_of_kind n.now.kind ≡ None }
@@ -91,8 +69,8 @@ fn is_kern(n: &Node) -> bool
     matches!(n.kind, Kind::Kern(_))
 }
 
-/// The penalty of the place before the first node of a list, `n`, where it is legal, by whether a node that does not
-/// vanish stands before it. Only before a kern is it asked whether glue follows.
+/// The penalty of the place before the first node of a list, `n`, if it is legal; `lasting` says whether a node that
+/// does not vanish comes before the place. Only for a kern is it asked whether glue follows.
 #[inline(always)]
 pub fn penalty_of(store: &Lists<Node>, l: ListId, n: &Node, lasting: bool) -> Option<i64>
     requires live { IsLive store.now l }
@@ -115,7 +93,7 @@ fn skip_one(nodes: &mut Iter<'_, Node>)
     }
 }
 
-/// Glue stands first behind the first node of the list, where acts are looked past.
+/// Whether glue comes next after the first node of the list, acts aside.
 #[inline(never)]
 pub fn glue_follows(store: &Lists<Node>, l: ListId) -> bool
     requires { IsLive store.now l }
@@ -124,14 +102,14 @@ pub fn glue_follows(store: &Lists<Node>, l: ListId) -> bool
     let mut behind = store.iter(l);
     skip_one(&mut behind);
     for n in behind {
-        if act_of(n).is_none() {
+        if !is_act(n) {
             return is_glue(n);
         }
     }
     false
 }
 
-/// Takes off the first node of a list that has one.
+/// Takes off the first node of a list that is not empty.
 #[tactic(auto, using(tb_pool::proofs::MapLemmas::list_steps))]
 pub fn drop_first(store: &mut Lists<Node>, l: ListId)
     requires { IsLive store.old l }

@@ -6,25 +6,25 @@ ghost use Rattle.tb_node.specs.Fit.{shapes, NodesFit};
 ghost use Rattle.tb_node.specs.Small.{IsAmount};
 ghost use Rattle.tb_node.specs.Plain.{PlainNode, plain_of, inserted_of, on_line, plain_list};
 ghost use Rattle.tb_node.specs.declared.Kind.TheVariants.{Ins as an_insertion};
+ghost use Rattle.tb_node.specs.Roles.{insertion_of_kind};
 ghost use Rattle.tb_break.specs.Prune.{pruned_list};
 ghost use Rattle.tb_insert.specs.Account.{Frozen, labelled};
 ghost use Rattle.tb_insert.specs.Running.{IsAccountOf, cut_in, last_let_in};
-ghost use Rattle.tb_builder.specs.Owned.{Lacks, owned, inner_ids, has_class, ids_of, inner_of, is_known, classes_of, IsOwned};
+ghost use Rattle.tb_builder.specs.Owned.{Lacks, owned, has_class, ids_of, inner_of, is_known, classes_of, IsOwned};
 ghost use Rattle.tb_builder.specs.Fired.{Boxed, unless_empty};
 ghost use Rattle.tb_builder.specs.Contents.{leaf_list, contents_of};
 ghost use Rattle.tb_builder.specs.Next.{SizesFit};
 ghost use Rattle.tb_builder.specs.Room.{RoomFits};
-ghost use Rattle.tb_builder.specs.Running.{insertion_of_kind};
 ghost use Rattle.tb_builder.specs.Firing.{share_up_to, share_told, opened, box_list, BeginsVanishing, IsShareWithin, GivesToBox, LeavesPage, SharesOut, SortsTo, Sorted, IsMarkedAt, EachFits, NoInsertions, begins_with_insertion, IsBody};
 
 use crate::measuring::pruned_size;
-use crate::moving::{drop_first, insertion_of, insertion_place};
+use crate::moving::{drop_first, insertion_place};
 use crate::splitting::{give_front, move_front, pass_on};
 use crate::{Builder, Course, Share};
-use tb_node::{Insertion, Kind, Node};
+use tb_node::{Insertion, Kind, Node, Role};
 use tb_pool::{ListId, Lists};
 
-// All, where the insertion stands no further than the last of its class that was let in.
+// All, if the insertion comes no later than the last of its class that was let in.
 fn share_up_to(last: Option<usize>, index: usize) -> Share
     ensures { result ≡ share_up_to last index }
 {
@@ -38,7 +38,7 @@ fn share_up_to(last: Option<usize>, index: usize) -> Share
     }
 }
 
-// What becomes of an insertion, by where its class is cut and which of the class was let in last.
+// What becomes of an insertion, by the cut of its class and the last of the class that was let in.
 fn share_told(cut: Option<(usize, usize)>, last: Option<usize>, index: usize) -> Share
     ensures { result ≡ share_told cut last index }
 {
@@ -52,7 +52,7 @@ fn share_told(cut: Option<(usize, usize)>, last: Option<usize>, index: usize) ->
 }
 
 impl Course {
-    // What becomes of the insertion of this class at this place of the page, where the page breaks at its best place.
+    // What becomes of the insertion of this class at this place of the page, if the page breaks at its best place.
     pub(crate) fn share_at(&self, class: u8, index: usize) -> Share
         requires { class < 255 }
         ensures { (z : Frozen) (page marked : List PlainNode) → IsAccountOf self.now.account z page marked
@@ -67,7 +67,7 @@ impl Course {
 }
 
 impl Builder {
-    // The box of a class is given something from now on. Answers its list.
+    // The box of a class is given something from now on. Returns its list.
     fn open_box(&mut self, number: u8) -> ListId
         requires { has_class (map (λ e. e.class) self.old.boxes.items) number ≡ true }
         ensures boxes { self.new.boxes.items ≡ opened number self.old.boxes.items }
@@ -81,7 +81,7 @@ impl Builder {
         self.boxes[k].list
     }
 
-    // All nodes of the insertion that is first on the page go to the box of its class.
+    // All nodes of the insertion at the front of the page go to the box of its class.
     fn give_all(&mut self, store: &mut Lists<Node>, n: &Node, i: &Insertion)
         requires own { IsOwned (ids_of self.old) store.old }
         requires first { slice_get (list_at store.old self.old.page) 0 ≡ Some n.now }
@@ -93,7 +93,7 @@ impl Builder {
         store.append(own, i.list);
     }
 
-    // What stands before a place of the insertion that is first on the page goes to the box of its class; the rest is
+    // The nodes before a place of the insertion at the front of the page go to the box of its class; the rest is
     // pruned.
     fn give_part(&mut self, store: &mut Lists<Node>, n: &Node, i: &Insertion, place: usize)
         requires own { IsOwned (ids_of self.old) store.old }
@@ -111,7 +111,7 @@ impl Builder {
         give_front(store, own, i.list, self.rest, place, i.split_top);
     }
 
-    // The insertion that is first on the page goes, with its list, which is empty.
+    // The insertion at the front of the page goes, with its list, which is empty.
     fn drop_insertion(&self, store: &mut Lists<Node>, n: &Node, i: &Insertion)
         requires own { IsOwned (ids_of self.now) store.old }
         requires first { slice_get (list_at store.old self.now.page) 0 ≡ Some n.now }
@@ -124,7 +124,7 @@ impl Builder {
         store.close(i.list);
     }
 
-    // The insertion that is first on the page is held as this node, which names the same list.
+    // The insertion at the front of the page is held as this node, which has the same list.
     fn hold(&self, store: &mut Lists<Node>, n: &Node, i: &Insertion, held: Node)
         requires own { IsOwned (ids_of self.now) store.old }
         requires first { slice_get (list_at store.old self.now.page) 0 ≡ Some n.now }
@@ -137,7 +137,7 @@ impl Builder {
         pass_on(store, self.page, self.held, held);
     }
 
-    // What is left of the insertion that is first on the page is held, unless it is empty.
+    // What is left of the insertion at the front of the page is held, unless it is empty.
     fn keep_rest(&self, store: &mut Lists<Node>, n: &Node, i: &Insertion)
         requires own { IsOwned (ids_of self.now) store.old }
         requires first { slice_get (list_at store.old self.now.page) 0 ≡ Some n.now }
@@ -154,7 +154,7 @@ impl Builder {
         self.hold(store, n, i, rest);
     }
 
-    // The insertion that is first on the page goes where its share says.
+    // The insertion at the front of the page goes where its share says.
     fn settle(&mut self, store: &mut Lists<Node>, n: &Node, i: &Insertion, share: Share)
         requires own { IsOwned (ids_of self.old) store.old }
         requires first { slice_get (list_at store.old self.old.page) 0 ≡ Some n.now }
@@ -196,7 +196,7 @@ impl Builder {
         move_front(store, body, self.page, self.rest, place);
     }
 
-    // The insertion that is first on the page, and has this place on the page that fires, goes where its share says.
+    // The insertion at the front of the page, which has this place on the page that fires, goes where its share says.
     fn sort_first(&mut self, store: &mut Lists<Node>, index: usize)
         requires own { IsOwned (ids_of self.old) store.old }
         requires first { begins_with_insertion (list_at store.old self.old.page) ≡ true }
@@ -214,7 +214,7 @@ impl Builder {
         let Some(n) = store.get(self.page, 0) else {
             unreachable!();
         };
-        let Some(i) = insertion_of(n) else {
+        let Role::Insertion(i) = n.role() else {
             unreachable!();
         };
         let n = *n;
@@ -222,7 +222,7 @@ impl Builder {
         self.settle(store, &n, &i, share);
     }
 
-    // The nodes of the page, up to its break, go to the body, and its insertions where their shares say.
+    // The nodes of the page up to its break go to the body, and its insertions where their shares say.
     pub(crate) fn sort_page(&mut self, store: &mut Lists<Node>, body: ListId)
         requires own { IsOwned (ids_of self.old) store.old }
         requires body_live { IsLive store.old body }

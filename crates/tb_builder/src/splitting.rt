@@ -1,4 +1,4 @@
-//! The front of a list goes to another, as when an insertion is split where the page breaks.
+//! The front of a list goes to another, as for an insertion that is split at the page's break.
 
 ghost use Rattle.std.specs.Prelude.{◌≡◌, ◌≢◌, ◌<◌, ◌≤◌, ◌+◌, ◌++◌, List, [], ◌∷◌, take, drop, length};
 ghost use Rattle.std.specs.FinMap.{insert};
@@ -13,8 +13,8 @@ use tb_break::prune;
 use tb_node::Node;
 use tb_pool::{ListId, Lists};
 
-/// What comes before a place of a list goes to the end of another. On the way the rest is in a list that is empty before
-/// and afterwards.
+/// Moves the nodes before a place of a list to the end of another. On the way the rest is in a list that is empty
+/// before and afterwards.
 pub fn move_front(store: &mut Lists<Node>, to: ListId, from: ListId, between: ListId, place: usize)
     requires to_live { IsLive store.old to }
     requires from_live { IsLive store.old from }
@@ -32,8 +32,8 @@ pub fn move_front(store: &mut Lists<Node>, to: ListId, from: ListId, between: Li
     store.append(from, between);
 }
 
-/// What comes before a place of a list goes to the end of another. The rest, of which the first node vanishes, stays,
-/// pruned for the top of a page; on the way it is in a list that is empty before and afterwards.
+/// Moves the nodes before a place of a list to the end of another. The rest, whose first node vanishes, stays, pruned
+/// for the top of a page; on the way it is in a list that is empty before and afterwards.
 pub fn give_front(
     store: &mut Lists<Node>,
     to: ListId,
@@ -61,7 +61,7 @@ pub fn give_front(
     prune(store, from, top_skip);
 }
 
-/// The first node of a list goes, and this one comes to the end of another.
+/// Takes off the first node of a list, and puts this one at the end of another.
 #[tactic(auto, using(tb_pool::proofs::MapLemmas::list_steps))]
 pub fn pass_on(store: &mut Lists<Node>, from: ListId, to: ListId, last: Node)
     requires from_live { IsLive store.old from }

@@ -14,7 +14,7 @@ use tb_node::Sums;
 // The goal while none is frozen.
 const NO_GOAL: i64 = 1073741823;
 
-// The total and the shrink of these sums, and the goal.
+// The total and the shrink of these sums, with the goal.
 fn made_sums(sums: Sums, goal: i64) -> PageSums
     ensures { result ≡ made_of sums goal }
 {

@@ -5,17 +5,21 @@ ghost use Rattle.std.specs.FinMap.{get};
 ghost use Rattle.tb_pool.specs.Lists.{IsLive, list_at};
 ghost use Rattle.tb_node.specs.Fit.{IsExtent};
 ghost use Rattle.tb_builder.specs.Owned.{Lacks, ids_of, owned};
+ghost use Rattle.tb_builder.specs.Contents.{contents_of};
 ghost use Rattle.tb_builder.specs.Running.{IsSound};
 ghost use Rattle.tb_builder.specs.Pageable.{IsGoal};
-ghost use Rattle.tb_builder.specs.Worked.{IsMatter, AtRest, IsReady, waits};
+ghost use Rattle.tb_builder.specs.Worked.{IsMatter, BoxFits, AtRest, IsReady, waits};
 
-use super::*;
 use crate::measuring::list_size;
+use crate::{Ask, Builder, Event, Page, new_builder};
+use std::alloc::{AllocError, Global};
 use std::test::Fail;
-use tb_node::{Insertion, Kind, What};
+use tb_insert::Class;
+use tb_node::{Insertion, Kind, Node, What};
+use tb_pool::{ListId, Lists};
 use tb_scaled::{Glue, Order, fixed};
 
-// A store, a builder with one class, 254, of factor 1000 and skip 0, and what is asked of it.
+// A store, a builder with one class, 254, of factor 1000 and skip 0, and what a page is made for.
 #[derive(Drop)]
 struct Paged {
     store: Lists<Node>,
@@ -88,7 +92,7 @@ fn forced() -> Node
     make_node(Kind::Pen(-10000))
 }
 
-// These nodes come.
+// Contributes these nodes.
 fn give(p: &mut Paged, nodes: &[Node]) -> Result<(), AllocError>
     requires ready { IsReady p.old.builder p.old.store p.old.ask }
     requires matter { All IsMatter nodes.now }
@@ -116,7 +120,7 @@ fn make_list(store: &mut Lists<Node>, nodes: &[Node]) -> Result<ListId, AllocErr
     Ok(list)
 }
 
-// An insertion of these nodes comes.
+// Contributes an insertion of these nodes.
 fn give_note(p: &mut Paged, nodes: &[Node]) -> Result<(), AllocError>
     requires ready { IsReady p.old.builder p.old.store p.old.ask }
     requires matter { All IsMatter nodes.now }
@@ -139,7 +143,7 @@ fn give_note(p: &mut Paged, nodes: &[Node]) -> Result<(), AllocError>
     Ok(())
 }
 
-// A place that was tried is noted by its goal and its cost.
+// Notes the goal and the cost of a place that was tried.
 fn note_try(tries: &mut Vec<(i64, i64)>, event: &Event) -> Result<(), AllocError> {
     if let Event::Try(t) = event {
         tries.push((t.goal, t.cost))?;
@@ -152,6 +156,7 @@ fn fires(p: &mut Paged, tries: &mut Vec<(i64, i64)>) -> Result<Option<Page>, All
     requires { IsReady p.old.builder p.old.store p.old.ask }
     ensures rest { IfOk result (λ o. IfSome o (λ q. AtRest p.new.builder p.new.store)) }
     ensures body { IfOk result (λ o. IfSome o (λ q. IsLive p.new.store q.body)) }
+    ensures boxed { IfOk result (λ o. IfSome o (λ q. BoxFits (contents_of p.new.builder p.new.store))) }
 {
     for _ in 0..20 {
         let event = match p.builder.next(&mut p.store, &p.ask) {
@@ -167,7 +172,7 @@ fn fires(p: &mut Paged, tries: &mut Vec<(i64, i64)>) -> Result<Option<Page>, All
     Ok(None)
 }
 
-// A box, an insertion of these nodes, glue that fills the page, and a forced break.
+// Waiting: a box, an insertion of these nodes, glue that fills the page, and a forced break.
 fn one_note(alloc: Global, limit: i64, goal: i64, nodes: &[Node]) -> Result<Paged, AllocError>
     requires goal { IsGoal goal }
     requires matter { All IsMatter nodes.now }
@@ -181,7 +186,7 @@ fn one_note(alloc: Global, limit: i64, goal: i64, nodes: &[Node]) -> Result<Page
     Ok(p)
 }
 
-// What a node is, and its height, its width or its penalty.
+// The kind of a node, and its height, width or penalty.
 fn told(n: &Node) -> (char, i64) {
     match n.kind {
         Kind::Hbox { height, .. } => ('b', height),
@@ -202,7 +207,7 @@ fn told_list(alloc: Global, store: &Lists<Node>, l: ListId) -> Result<Vec<(char,
     Ok(all)
 }
 
-// An empty list that is none of the builder's.
+// An empty list that is not the builder's.
 fn add_list(p: &mut Paged) -> Result<ListId, AllocError>
     requires { AtRest p.old.builder p.old.store }
     ensures rest { AtRest p.new.builder p.new.store }
@@ -257,7 +262,7 @@ fn next_event(p: &mut Paged) -> Result<Event, AllocError>
     p.builder.next(&mut p.store, &p.ask)
 }
 
-// The event that comes next, where places are passed over.
+// The event that comes next, with places passed over.
 fn passed_over(p: &mut Paged) -> Result<Event, AllocError>
     requires { IsReady p.old.builder p.old.store p.old.ask }
     ensures { IsSound p.new.builder p.new.store }
@@ -287,6 +292,7 @@ fn an_insertion_that_fits(rt: HostRuntime) -> Result<(), Fail> {
     let page = fires(&mut p, &mut tries)?.ok_or("no page")?;
     assert_eq!(rt; tries.as_slice(), [(10, 0), (10, -10000)].as_slice());
     assert_eq!(rt; (page.penalty, page.size, page.held), (-10000, 10, 0));
+    assert_eq!(rt; p.builder.box_size(&p.store, 254), 20);
     assert_eq!(rt;
         boxed(rt.alloc(), &mut p)?.as_slice(),
         [('b', 20)].as_slice()
@@ -363,6 +369,11 @@ fn the_sums_of_the_page_so_far(rt: HostRuntime) -> Result<(), Fail> {
     assert_eq!(rt; told_sums(&p), (0, 0, 1073741823));
     next_event(&mut p)?;
     assert_eq!(rt; told_sums(&p), (10, 0, 10));
+    let page = told_list(rt.alloc(), &p.store, p.builder.on_page())?;
+    assert_eq!(rt;
+        page.as_slice(),
+        [('g', 0), ('b', 10), ('i', 20), ('g', 0)].as_slice()
+    );
     Ok(())
 }
 

@@ -1,19 +1,20 @@
 //! The course of a page: its running sums and account, and the best of its places.
 
-ghost use Rattle.std.specs.Prelude.{◌≡◌, ◌<◌, ◌<ℤ◌, ◌≤ℤ◌, ◌||◌, pos, negsuc, int_le, ℕ, ℤ, List, [], ◌∷◌, ◌++◌, length, Some, None, not};
+ghost use Rattle.std.specs.Prelude.{◌≡◌, ◌<◌, ◌<ℤ◌, ◌≤ℤ◌, ◌||◌, pos, negsuc, int_le, ℕ, ℤ, List, [], ◌∷◌, ◌++◌, length, None};
 ghost use Rattle.tb_scaled.specs.Scaled.{awful_bad};
 ghost use Rattle.tb_pool.specs.Lists.{list_at};
 ghost use Rattle.tb_node.specs.declared.Node.{Node as NodeOf};
 ghost use Rattle.tb_node.specs.Small.{IsAmount, IsSmall, IsSmallShape};
 ghost use Rattle.tb_node.specs.Plain.{shape_of, plain_of, inserted_of, PlainNode, ins as an_insertion};
 ghost use Rattle.tb_node.specs.Add.{added_node};
+ghost use Rattle.tb_node.specs.Roles.{act_of_kind, insertion_of_kind};
 ghost use Rattle.tb_break.specs.Best.{Breakpoint};
 ghost use Rattle.tb_break.specs.Legal.{ends_lasting};
 ghost use Rattle.tb_insert.specs.Account.{Frozen};
 ghost use Rattle.tb_insert.specs.Running.{Differ, ComesTo};
 ghost use Rattle.tb_insert.specs.Arrived.{ArriveFits};
 ghost use Rattle.tb_builder.specs.Places.{page_shapes};
-ghost use Rattle.tb_builder.specs.Running.{IsCourseOf, AllLoose, act_of_kind, insertion_of_kind};
+ghost use Rattle.tb_builder.specs.Running.{IsCourseOf, AllLoose};
 ghost use Rattle.tb_builder.specs.Offer.{OfferIs, MarksBest, TermsFit};
 
 use crate::{Course, Try};
@@ -23,7 +24,7 @@ use tb_node::{Insertion, Node, Sums};
 use tb_pool::Lists;
 use tb_scaled::{AWFUL_BAD, EJECT_PENALTY};
 
-/// The course of a page of marks, notes and whatsits, whose goal and depth limit (sp) are frozen now.
+/// The course of a page of marks, notes and whatsits whose goal and depth limit (sp) are frozen now.
 pub fn started(goal: i64, max_depth: i64, lasting: bool) -> Course
     requires low { pos 0 ≤ℤ max_depth }
     requires limit { IsAmount max_depth }
@@ -52,7 +53,7 @@ fn made_try(line: u32, sums: Sums, goal: i64, offer: Offer, penalty: i64) -> Try
     }
 }
 
-/// What a builder keeps while no place was tried.
+/// What a builder keeps until a place is tried.
 pub fn no_try() -> Try {
     Try {
         line: 0,
@@ -70,7 +71,8 @@ pub fn no_try() -> Try {
     }
 }
 
-/// The page fires at the place that was tried: it is overfull there, or the break is forced (TeX: The Program §1005).
+/// Whether the page fires at the place that was tried: it is overfull there, or the break is forced (TeX: The Program
+/// §1005).
 pub fn stops(t: &Try) -> bool
     ensures { result ≡ (int_le awful_bad t.now.cost || int_le t.now.penalty (negsuc 9999)) }
 {
@@ -78,8 +80,8 @@ pub fn stops(t: &Try) -> bool
 }
 
 impl Course {
-    // Begins the course of the next page, as `started` makes it, in place: a course is too large to be made for each page
-    // and moved.
+    // Begins the course of the next page as `started` makes it, but in place: a course is too large to be made and
+    // moved for each page.
     pub(crate) fn restart(&mut self, goal: i64, max_depth: i64)
         requires low { pos 0 ≤ℤ max_depth }
         requires limit { IsAmount max_depth }
@@ -91,7 +93,7 @@ impl Course {
         self.best_goal = 0;
     }
 
-    // Marks the page so far, where the place at its end is the best.
+    // Marks the page so far, if the place at its end is the best.
     fn mark_if(&mut self, champion: bool, goal: i64)
         ensures marks { (z : Frozen) (page : List PlainNode) → MarksBest z self.old self.new page champion goal }
         ensures scan { self.new.scan ≡ self.old.scan }
@@ -104,7 +106,7 @@ impl Course {
         self.best_goal = goal;
     }
 
-    // Tries the legal place at the end of the page, which has so many nodes.
+    // Tries the legal place at the end of the page, which has `index` nodes.
     #[inline(always)]
     pub(crate) fn offer(&mut self, index: usize, line: u32, penalty: i64) -> Try
         requires terms { TermsFit self.old }
@@ -133,7 +135,7 @@ impl Course {
         self.lasting = is_lasting(n);
     }
 
-    // An insertion goes to the end of the page, which has so many nodes.
+    // An insertion goes to the end of the page, which has `index` nodes.
     pub(crate) fn join(
         &mut self,
         store: &Lists<Node>,

@@ -1,4 +1,4 @@
--- Nodes are counted, up to the end of a type.
+-- Nodes are counted, with counts that saturate.
 use Rattle.std.proofs.Common.{◌≡◌, refl, sym, subst, ◌∙◌, ap, ℕ, ◌+◌, ◌<◌, ◌≤◌, Bool, true, false, List, [], ◌∷◌, ◌++◌, length, map, drop, get_or, min, add-one, add_assoc, arith}
 use Rattle.std.specs.Prelude.{option_to_list}
 use Rattle.std.proofs.Math.Seq.{drop-cons}
@@ -14,7 +14,7 @@ use Rattle.tb_builder.specs.Pageable.{IsPageable}
 use Rattle.tb_builder.specs.Owned.{AllLive, inner_of, inner_ids, Ids, nodes_of, box_ids, VoidEmpty, IsOwned}
 use Rattle.tb_builder.proofs.Ownership.OwnedLemmas.{live-left, live-right, inner-append}
 
--- what was counted up to a bound, and more up to the bound
+-- two counts that saturate, added to a sum that saturates
 pub capped : (a c most : ℕ) → min (min a most + min c most) most ≡ min (a + c) most
 capped a c most = grind arith
 
@@ -112,7 +112,7 @@ waiting_live b s own =
     (live-right s (inner_ids (list_at s b.held)) (inner_ids (list_at s b.page ++ list_at s b.waiting))
     (subst (AllLive s) (inner-append (list_at s b.held) (list_at s b.page ++ list_at s b.waiting)) (live-right s (box_ids b.boxes) (inner_ids (nodes_of b s)) own.live.1.1.1.1))))
 
--- contents of which a page can be made are counted whole
+-- the count of contents of which a page can be made does not saturate
 pub counted_whole : (c : Contents) (ask : Ask) → IsPageable c ask → contents_count c ≡ node_count c.waiting + box_count c.boxes
 counted_whole c ask p = let f = p.few in whole_below (node_count c.page) (node_count c.waiting) (box_count c.boxes) f
   where

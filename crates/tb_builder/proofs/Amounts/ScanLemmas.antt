@@ -47,7 +47,7 @@ met_depth : (m : Bool) (s : Scanned) (class : Class) → (met_scan m s class).ma
 met_depth true s class = refl
 met_depth false s class = refl
 
--- an insertion of a class goes on the page, and the skip of the class joins the sums where it is the first
+-- an insertion of a class goes on the page, and the skip of the class joins the sums if it is the first of it
 pub scan_meets : (z : Frozen) (page : List PlainNode) (s : Scanned) (line : ℕ) (i : Inserted) (m : Bool) (class : Class) (size : ℤ) → Differ z.classes → numbered z.classes i.class ≡ true → class_box z.classes i.class ≡ boxed class size → m ≡ is_met (insertions (labelled z page)) i.class → IsScanOfPage s z page
     → IsScanOfPage (met_scan m s class) z (page ++ record { line = line; kind = ins i } ∷ [])
 scan_meets z page s line i m class size differ known own met scan = record {
@@ -60,7 +60,7 @@ none_met : (cs : List ClassBox) → met_classes cs [] ≡ []
 none_met [] = refl
 none_met (c ∷ cs) = none_met cs
 
--- a scan that took nothing has the sums of the empty page
+-- a new scan has the sums of the empty page
 pub scan_new : (z : Frozen) (limit : ℤ) (s : Scanned) → s ≡ empty_scan limit → z.limit ≡ limit → IsScanOfPage s z []
 scan_new z limit s e l = record {
   under = ap (λ (x : Scanned). x.max_depth) e ∙ sym l;

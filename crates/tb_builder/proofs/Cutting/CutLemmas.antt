@@ -1,4 +1,4 @@
--- What is reached of a list is a front of it, in which no penalty forces a break.
+-- What is passed and what is left of a list; no penalty among what is passed forces a break.
 use Rattle.std.proofs.Common.{◌≡◌, refl, sym, ◌∙◌, ap, subst, ℕ, zero, suc, ℤ, Bool, true, false, List, [], ◌∷◌, ◌++◌, take, drop, Option, Some, None, arith}
 use Rattle.std.specs.Prelude.{int_lt, int_le, ◌||◌, if◌then◌else◌}
 use Rattle.std.specs.List.{AllByRecursion}
@@ -45,7 +45,7 @@ acted_of [] = []
 acted_of (acted a ∷ rs) = a ∷ acted_of rs
 acted_of (tried line b ∷ rs) = acted_of rs
 
--- a list that begins with an act, or does not
+-- a node that is no act, and a list that does not begin with one
 abbrev pub ActFree : PlainKind → Type 0
 ActFree (plain m) = Unit {0}
 ActFree (ins i) = Unit {0}
@@ -67,7 +67,7 @@ pub acts-free : (ns : List PlainNode) → AllFree (without_acts ns)
 acts-free [] = tt
 acts-free (n ∷ ns) = more-free n.line n.kind ns (acts-free ns)
 
--- the rest is a front, which is passed, and what lies beyond
+-- the rest is a front, which is passed, and what is beyond it
 pub record CutAt (before rest : List PlainNode) (w : Reach) : Type 0 where
   pub front : List PlainNode
   pub whole : rest ≡ front ++ w.beyond
@@ -160,7 +160,7 @@ module _ (limit : ℤ) (terms : List PlainNode → Terms) where
   reach-cut before [] = record { front = []; whole = refl; passed = sym (append-nothing before); calm = tt; acts = refl; ended = λ k. refl; first = tt }
   reach-cut before (n ∷ rest) = node-cut before n.line n.kind rest (reach_from limit terms (before ++ without_acts (n ∷ [])) rest) (reach-cut (before ++ without_acts (n ∷ [])) rest)
 
--- ---- the classes of insertions, before and behind a cut
+-- ---- the classes of insertions, before and after a cut
 
 pub class-left : (k : List ℕ) (xs ys : List PlainNode) → AllOfClass k (xs ++ ys) → AllOfClass k xs
 class-left k [] ys h = tt
@@ -225,20 +225,20 @@ spent-class k (n ∷ ns) h = (by_kind n.kind h.0, h.1)
     by_kind (ins i) h = h
     by_kind (act a) h = tt
 
--- the insertions before a cut, and those of the rest, are of the classes of the list's
+-- if the insertions of a list are of these classes, so are those before a cut, and those of the rest
 pub cut-class : (k : List ℕ) (i : ℕ) (ns : List PlainNode) (w : Reach) → CutAt [] ns w → AllOfClass k ns → AllOfClass k (take i w.passed) × AllOfClass k (with_spent_break (drop i w.passed ++ w.beyond))
 cut-class k i ns w h a =
     let b : AllOfClass k (h.front ++ w.beyond) = subst (AllOfClass k) h.whole a in
     let c : AllOfClass k w.passed = subst (AllOfClass k) (sym h.passed) (class-acts k h.front (class-left k h.front w.beyond b)) in
     (class-take k i w.passed c, spent-class k (drop i w.passed ++ w.beyond) (class-both k (drop i w.passed) w.beyond (class-drop k i w.passed c) (class-right k h.front w.beyond b)))
 
--- those that are passed, and those beyond
+-- so are those that are passed, and those beyond
 pub class-passed : (k : List ℕ) (ns : List PlainNode) (w : Reach) → CutAt [] ns w → AllOfClass k ns → AllOfClass k w.passed × AllOfClass k w.beyond
 class-passed k ns w h a =
     let b : AllOfClass k (h.front ++ w.beyond) = subst (AllOfClass k) h.whole a in
     (subst (AllOfClass k) (sym h.passed) (class-acts k h.front (class-left k h.front w.beyond b)), class-right k h.front w.beyond b)
 
--- what is held are insertions of the classes
+-- all that is held is insertions of the classes
 abbrev pub IsIns : List ℕ → PlainKind → Type 0
 IsIns k (plain m) = ⊥
 IsIns k (ins i) = IsOnce k i.class

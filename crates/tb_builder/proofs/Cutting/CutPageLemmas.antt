@@ -1,4 +1,4 @@
--- The page is cut at its break, and what stands behind it goes back.
+-- The page is cut at its break, and what comes after it goes back.
 use Rattle.std.proofs.Common.{◌≡◌, ◌≢◌, inl, inr, refl, sym, subst, ◌∙◌, ap, ℕ, true, List, [], ◌∷◌, ◌++◌, map, take, drop, Some, append_assoc}
 use Rattle.std.specs.Prelude.{option_to_list, slice_set}
 use Rattle.std.specs.FinMap.{get, insert}
@@ -74,7 +74,7 @@ pub spent_plain : (held : ℕ → List Node) (ns : List Node) → map (plain_of 
 spent_plain held [] = refl
 spent_plain held (n ∷ ns) = ap (λ m. m ∷ map (plain_of held) ns) (spent_one held n.line n.kind)
 
--- ---- what stands behind the break goes back
+-- ---- what comes after the break goes back
 
 module _ (b : Ids) (s a c t : Lists Node) (place : ℕ) (own : IsOwned b s)
     (cut : a.lists ≡ insert (with_list s b.page (take place (list_at s b.page))) b.rest (drop place (list_at s b.page))) where

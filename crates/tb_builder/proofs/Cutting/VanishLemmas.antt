@@ -1,4 +1,4 @@
--- Where a page or an insertion's list breaks, the rest begins with a node that vanishes at the top of a page.
+-- At the break of a page or of an insertion's list, the rest begins with a node that vanishes at the top of a page.
 use Rattle.std.proofs.Common.{◌≡◌, refl, sym, subst, ◌∙◌, ap, ℕ, ℤ, pos, Bool, true, false, List, [], ◌∷◌, ◌++◌, length, drop, filter, cond, map, None, Some, append_assoc, append-nil, arith}
 use Rattle.std.specs.Prelude.{if◌then◌else◌, int_lt, int_le, ◌<ℤ◌, ◌≤ℤ◌, ◌-ℤ◌, ◌+ℤ◌, ◌||◌, ◌&&◌}
 use Rattle.std.specs.List.{AllByRecursion}
@@ -39,7 +39,7 @@ abbrev pub BeginsVanishing : List Shape → Type 0
 BeginsVanishing [] = Unit {0}
 BeginsVanishing (n ∷ ns) = is_discardable n ≡ true
 
--- the best of some places is one of them, where they cost at most what an overfull one does
+-- the best of some places is one of them, if they cost at most what an overfull one does
 best_in : (P : Breakpoint → Type 0) (d : Breakpoint) (bs : List Breakpoint) → ((b : Breakpoint) → P b → b.cost ≤ℤ awful_bad) → AllByRecursion P bs → (bs ≡ [] → ⊥) → P (best_or d bs)
 best_in P d [] cheap h some = absurd (some refl)
 best_in P d (b ∷ bs) cheap h some =
@@ -93,7 +93,7 @@ module _ (h d : ℤ) (ns : List Shape) where
       by_stop true later = (k.0, tt)
       by_stop false later = (k.0, later)
 
-  -- where a list is split, the rest is empty or begins with a node that vanishes
+  -- at the split of a list, the rest is empty or begins with a node that vanishes
   pub split_vanishes : BeginsVanishing (drop (split_of h d ns).index ns)
   split_vanishes =
       let places = up_to (split_places h d [] ns) (cuts [] ns refl) in
@@ -107,7 +107,7 @@ VanishesBehind whole i = Unit {0}
 VanishesBehind (split f) i = BeginsVanishing (drop f.index (map leaf_shape i.inner))
 VanishesBehind late i = Unit {0}
 
--- behind the break of each insertion that is split a node vanishes
+-- after the break of each insertion that is split comes a node that vanishes, or nothing
 abbrev pub AllVanish : List Labelled → Type 0
 AllVanish = AllByRecursion (λ l. VanishesBehind l.label l.inserted)
 
@@ -146,12 +146,12 @@ labels_vanish z ns = from_vanish z [] [] ns tt
 
 -- ---- a page
 
--- a node that vanishes stands at the place, which costs at most what an overfull one does
+-- at the place is a node that vanishes, and the place costs at most what an overfull one does
 pub record IsBreakIn (passed beyond : List PlainNode) (b : Breakpoint) : Type 0 where
   pub vanishes : BeginsVanishing (map node_shape (drop b.place passed ++ beyond))
   pub cheap : b.cost ≤ℤ awful_bad
 
--- of what is reached after the nodes before, what is passed begins with those, and at each place a node vanishes
+-- what is passed begins with the nodes before, and at each place that is reached is a node that vanishes
 record Vanishing (before : List PlainNode) (w : Reach) : Type 0 where
   after : List PlainNode
   passed : w.passed ≡ before ++ after
@@ -217,7 +217,7 @@ module _ (limit : ℤ) (terms : List PlainNode → Terms) where
   vanishing before [] = record { after = []; passed = sym (append-nil before); places = tt }
   vanishing before (n ∷ rest) = node_at before n.line n.kind rest (reach_from limit terms (before ++ without_acts (n ∷ [])) rest) (vanishing (before ++ without_acts (n ∷ [])) rest)
 
-  -- where a place was reached, the list from the page's break on begins with a node that vanishes
+  -- if a place was reached, the list from the page's break on begins with a node that vanishes
   pub break_vanishes : (before ns : List PlainNode) → (breakpoints (reach_from limit terms before ns).reached ≡ [] → ⊥) → BeginsVanishing (map node_shape (from_break (reach_from limit terms before ns)))
   break_vanishes before ns some =
       let w = reach_from limit terms before ns in

@@ -9,6 +9,7 @@ use Rattle.tb_node.specs.declared.Act.{Act}
 use Rattle.tb_node.specs.declared.Kind.{Kind}
 use Rattle.tb_node.specs.declared.Kind.TheVariants as kinds
 use Rattle.tb_node.specs.Plain.{act, PlainNode, plain_of}
+use Rattle.tb_node.specs.Roles.{act_of_kind, insertion_of_kind}
 use Rattle.tb_break.specs.Legal.{ends_lasting}
 use Rattle.tb_break.specs.Best.{is_stop}
 use Rattle.tb_break.specs.Prune.{pruned_nodes}
@@ -21,7 +22,7 @@ use Rattle.tb_builder.specs.Reached.{holds_box}
 use Rattle.tb_builder.specs.Places.{page_shapes, glue_first, page_places, NoStop}
 use Rattle.tb_builder.specs.Contents.{Contents, contents_of, frozen_of, ahead_of, laid, reach_ahead, places_of}
 use Rattle.tb_builder.specs.Owned.{ids_of, inner_of}
-use Rattle.tb_builder.specs.Running.{IsCourseOf, Underway, places_by, kept_frozen, page_frozen, frozen_with, AllLoose, AllLasting, IsPageSoFar, freezes, IsSound, act_of_kind, insertion_of_kind}
+use Rattle.tb_builder.specs.Running.{IsCourseOf, Underway, places_by, kept_frozen, page_frozen, frozen_with, AllLoose, AllLasting, IsPageSoFar, freezes, IsSound}
 use Rattle.tb_builder.specs.Next.{NextFits, BoxesFit, LaidFits, KeepsBoxes, FirstIs, NextIs}
 use Rattle.tb_builder.specs.Past.{ComesPast}
 use Rattle.tb_builder.specs.Turn.{ChangesPage, StepIs, StepFits, ReachesNothing, TurnIs, Filled}
@@ -68,7 +69,7 @@ plain_act held n a e = by_kind n.kind e
         with_act : ℕ → Act → PlainNode
         with_act line y = record { line = line; kind = act y }
 
--- the first node that waits, an act, was handed out
+-- the first waiting node, an act, was handed out
 module _ (b : Builder) (s t : Lists Node) (ask : Ask) (n : Node) (ns : List Node) (a : Act) (sound : IsSound b s) (on : b.stopped ≡ false) (first : list_at s b.waiting ≡ n ∷ ns) (is : act_of_kind n.kind ≡ Some a) (dropped : t.lists ≡ with_list s b.waiting ns) where
   w : Written (ids_of b) s t (list_at s b.page) ns
   w = written_drop (ids_of b) s t n ns sound.own first (act_inner a n.kind is) dropped
@@ -139,7 +140,7 @@ stays_after c d e ask a b = record {
   keeps = λ f h. b.keeps f (a.keeps f h);
 }
 
--- what `next` asks holds after a turn
+-- what `next` requires holds after a turn
 pub fits_after : (c d : Contents) (ask : Ask) → NextFits c ask → KeepsBoxes c d ask → ReachesNothing c d ask → NextFits d ask
 fits_after c d ask fits stays turns = record {
   asked = fits.asked;
@@ -147,7 +148,7 @@ fits_after c d ask fits stays turns = record {
   laid_fits = subst (λ ns. LaidFits (frozen_of d ask) ns) (sym turns.whole) (subst (λ z. LaidFits z (laid c ask)) (sym stays.frozen_so) fits.laid_fits);
 }
 
--- the first event of what is reached past a page is that of the page before
+-- the first event past the page after a turn that reached nothing is that of the page before
 pub first_before : (v : Event) (c d e : Contents) (ask : Ask) → ReachesNothing c d ask → FirstIs v (laid d ask) (reach_ahead d ask) (places_of d ask) ask e → FirstIs v (laid c ask) (reach_ahead c ask) (places_of c ask) ask e
 first_before v c d e ask t h = subst (λ ns. FirstIs v ns (reach_ahead c ask) (places_of c ask) ask e) t.whole (subst (λ r. FirstIs v (laid d ask) r (places_of c ask) ask e) (sym t.reach) (subst (λ bs. FirstIs v (laid d ask) (reach_ahead d ask) bs ask e) t.places h))
 
@@ -174,7 +175,7 @@ filled_now b d s t ask e turn = record {
 
 -- ---- a page that is laid out
 
--- the goal of a page with a box is frozen, so the page is underway, and the first node that waits fits
+-- the goal of a page with a box is frozen, so the page is underway, and the first waiting node fits
 module _ (b : Builder) (s : Lists Node) (ask : Ask) (n : Node) (ns : List Node) (sound : IsSound b s) (on : b.stopped ≡ false) (opened : b.opened ≡ true) (fits : NextFits (contents_of b s) ask) (first : list_at s b.waiting ≡ n ∷ ns) where
   page_stands : IsPageSoFar b.frozen false b.course (contents_of b s)
   page_stands = subst (λ x. IsPageSoFar b.frozen x b.course (contents_of b s)) on sound.page
@@ -226,7 +227,7 @@ none_first (n ∷ ns) e = cc
 
 -- ---- the next call
 
--- what `next` asks holds again after an event
+-- what `next` requires holds again after an event
 pub fits_next : (b : Bool) (v : Event) (c d : Contents) (ask : Ask) (s : Lists Node) → b ≡ false → NextFits c ask → NextIs b v c ask d s → NextFits d ask
 fits_next true v c d ask s e fits h = absurd (true≢false e)
 fits_next false v c d ask s e fits h = record { asked = fits.asked; boxes = subst BoxesFit (sym h.1.boxes) fits.boxes; laid_fits = subst (λ z. LaidFits z (laid d ask)) (sym h.1.frozen_so) (by_event v h.0) }

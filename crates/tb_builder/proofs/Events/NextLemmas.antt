@@ -1,4 +1,4 @@
--- What `next` asks and says where a page fires.
+-- What `next` requires and ensures when a page fires.
 use Rattle.std.proofs.Common.{◌≡◌, ◌≢◌, sym, ◌∙◌, ap, ℕ, None, is_some}
 use Rattle.std.specs.FinMap.{get}
 use Rattle.std.proofs.lemmas.Bool.{true≢false}

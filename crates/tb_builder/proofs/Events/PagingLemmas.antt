@@ -118,6 +118,6 @@ module _ (w : Reach) (rs : List Reached) (c d : Contents) (ask : Ask) (h : HasCo
   comes_first (events.Fired p) f = f
   comes_first events.Empty f = comes_end f
 
--- what `next` answers is the next of what is reached of the whole page
+-- what `next` returns is the next of what is reached of the whole page
 pub paging_next : (w : Reach) (rs : List Reached) (e : Event) (c d : Contents) (ask : Ask) (s : Lists Node) → HasCome w rs c ask → NextIs c.stopped e c ask d s → ComesTo e w rs ask d
 paging_next w rs e c d ask s h n = let first = subst (λ b. NextIs b e c ask d s) h.going n in comes_first w rs c d ask h first.1 e first.0

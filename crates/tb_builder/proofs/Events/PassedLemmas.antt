@@ -13,12 +13,12 @@ use Rattle.tb_builder.specs.Next.{NextFits, NextIs}
 use Rattle.tb_builder.specs.Owned.{Ids, KeepsOthers}
 use Rattle.tb_builder.proofs.Events.FilledLemmas.{fits_next}
 
--- calls that are left, at most, with this many nodes that wait
+-- how many calls are left, at most, with this many waiting nodes
 abbrev pub calls_left : Bool → ℕ → ℕ
 calls_left true n = 0
 calls_left false n = n + 1
 
--- what a call keeps, and then another
+-- what two calls, one after the other, keep
 pub keeps_then : (b d e : Ids) (s t r : Lists Node) → KeepsOthers b s d t → KeepsOthers d t e r → KeepsOthers b s e r
 keeps_then b d e s t r k l = record {
   others = λ q live h. l.others q (ap is_some (k.others q live h) ∙ live) (k.apart q live h) ∙ k.others q live h;

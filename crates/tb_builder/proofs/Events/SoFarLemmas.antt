@@ -1,4 +1,4 @@
--- What is reached of a page so far and what waits, where the page is as the builder keeps it: its places, and then what is reached past it.
+-- What is reached of a page so far and what waits, for a page as the builder keeps it: its places, and then what is reached past it.
 use Rattle.std.proofs.Common.{◌≡◌, refl, sym, subst, ◌∙◌, ap, ℕ, ℤ, Bool, true, false, List, [], ◌∷◌, ◌++◌, Option, None, Some, append_assoc, append-nil}
 use Rattle.std.specs.Prelude.{if◌then◌else◌}
 use Rattle.tb_pool.specs.Lists.{Lists}
@@ -24,14 +24,14 @@ use Rattle.tb_builder.proofs.LegalPlaces.ReachLemmas.{glue_after, later_quiet}
 use Rattle.tb_builder.proofs.Turns.TurnLemmas.{all_lasting, lasting_places}
 use Rattle.tb_builder.proofs.LegalPlaces.CourseLemmas.{loose_act}
 
--- places alone, no act
+-- only places, no act
 abbrev pub AllTried : List Reached → Type 0
 AllTried [] = Unit {0}
 AllTried (acted a ∷ rs) = ⊥
 AllTried (tried line b ∷ rs) = AllTried rs
 
 module _ (limit : ℤ) (terms : List PlainNode → Terms) where
-  -- the place before a node, where it is legal, and those after it
+  -- the place before a node, if it is legal, and those after it
   abbrev tries_by : ℕ → (ℤ → Breakpoint) → List Reached → Option ℤ → List Reached
   tries_by line at rs None = rs
   tries_by line at rs (Some p) = tried line (at p) ∷ rs

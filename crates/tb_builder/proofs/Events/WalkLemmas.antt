@@ -1,8 +1,8 @@
--- Nodes that wait go on a page together: what calls of `next` come to after single turns, and the lists of a walk.
-use Rattle.std.proofs.Common.{◌≡◌, ◌≢◌, refl, sym, subst, ◌∙◌, ap, ℕ, zero, suc, ◌+◌, ◌≤◌, Bool, true, false, List, [], ◌∷◌, ◌++◌, length, take, drop, map, Option, None, Some, is_some, unwrap_or, inl, inr, append-nil, append_assoc, arith}
+-- Waiting nodes go on a page together: what calls of `next` come to after single turns, and the lists of a walk.
+use Rattle.std.proofs.Common.{◌≡◌, ◌≢◌, refl, sym, subst, ◌∙◌, ap, ℕ, zero, suc, ◌+◌, ◌≤◌, Bool, true, false, List, [], ◌∷◌, ◌++◌, length, take, drop, map, Option, None, Some, unwrap_or, append-nil, append_assoc, arith}
 use Rattle.std.specs.Prelude.{ℤ, negsuc, int_le, ◌||◌}
 use Rattle.std.specs.FinMap.{get, insert}
-use Rattle.std.proofs.lemmas.Bool.{cases_eq, true≢false}
+use Rattle.std.proofs.lemmas.Bool.{true≢false}
 use Rattle.std.proofs.lemmas.List.{length-map, length-append, length-take-le, length-drop}
 use Rattle.tb_scaled.specs.Scaled.{awful_bad}
 use Rattle.tb_pool.specs.Lists.{Lists, IsLive, list_at, with_list}
@@ -11,6 +11,7 @@ use Rattle.tb_node.specs.declared.Node.{Node}
 use Rattle.tb_node.specs.Plain.{plain_of, shape_of}
 use Rattle.tb_node.specs.Small.{IsSmall}
 use Rattle.tb_node.specs.Add.{added_node}
+use Rattle.tb_node.specs.Roles.{act_of_kind, insertion_of_kind}
 use Rattle.tb_break.specs.Best.{Breakpoint}
 use Rattle.tb_break.specs.Finding.{penalty_by}
 use Rattle.tb_insert.specs.Account.{Frozen}
@@ -24,13 +25,13 @@ use Rattle.tb_builder.specs.Reached.{holds_box}
 use Rattle.tb_builder.specs.Places.{glue_first, node_penalty}
 use Rattle.tb_builder.specs.Contents.{Contents, contents_of, laid, reach_ahead, places_of}
 use Rattle.tb_builder.specs.Owned.{Ids, ids_of, KeepsOthers, IsOwned}
-use Rattle.tb_builder.specs.Running.{IsSound, IsCourseOf, Underway, kept_frozen, act_of_kind, insertion_of_kind, nodes_glue_first}
+use Rattle.tb_builder.specs.Running.{IsSound, IsCourseOf, Underway, kept_frozen, nodes_glue_first}
 use Rattle.tb_builder.specs.Offer.{OfferIs, TermsFit}
 use Rattle.tb_builder.specs.Next.{NextFits, NextIs, FirstIs, IsGivenOut}
 use Rattle.tb_builder.specs.Turn.{Shifted, StepIs, StepFits, TurnIs, places_on}
 use Rattle.tb_builder.specs.Calls.{IsNext, PassedOver, ComesBy}
 use Rattle.tb_builder.specs.Walked.{moved, LeadsOn}
-use Rattle.tb_builder.proofs.Turns.MoveLemmas.{Wrote, wrote_two, Written, written_shift}
+use Rattle.tb_builder.proofs.Turns.MoveLemmas.{Written, written_shift}
 use Rattle.tb_builder.proofs.Turns.StepLemmas.{step_sums, step_terms, penalty_first, plain_first, passed_step, tried_stops, tried_goes}
 use Rattle.tb_builder.proofs.Turns.FillLemmas.{moves_from, shifted_from, behind_is}
 use Rattle.tb_builder.proofs.Events.FilledLemmas.{stays_after, fits_after, first_before, open_underway, open_fits, open_turn}
@@ -42,7 +43,7 @@ use Rattle.tb_builder.proofs.Turns.PastLemmas.{event-after, holds-both}
 turn_keeps : (b d : Builder) (s t : Lists Node) (ask : Ask) (o : Option Event) → TurnIs b s ask o d t → KeepsOthers (ids_of b) s (ids_of d) t
 turn_keeps b d s t ask o turn = record { others = λ q live out. turn.others q out; apart = λ q live out. turn.keeps q out }
 
--- an event that is no page that fires gives nothing out
+-- an event that is no page that fires gives no list out
 given_here : (e : Event) (c x : Contents) (s t y : Lists Node) (i : Ids) (ask : Ask) → FirstIs e (laid c ask) (reach_ahead c ask) (places_of c ask) ask x → IsGivenOut e s i y
 given_here (events.Try p) c x s t y i ask f = tt
 given_here (events.Act a) c x s t y i ask f = tt
@@ -125,7 +126,7 @@ module _ (ask : Ask) where
 list_there : (s : Lists Node) (l : ℕ) → IsLive s l → get s.lists l ≡ Some (list_at s l)
 list_there s l live = let v = has_value (get s.lists l) live in v.1 ∙ ap Some (sym (ap (λ o. unwrap_or o []) v.1))
 
--- the first node of what is left is the next that is taken
+-- the first node of the rest is the next that is taken
 pub taken_more : (xs : List Node) (k : ℕ) (n : Node) (ms : List Node) → drop k xs ≡ n ∷ ms → take (k + 1) xs ≡ take k xs ++ n ∷ []
 taken_more [] zero n ms e = cc
 taken_more [] (suc k) n ms e = cc
@@ -142,7 +143,7 @@ left_rest (x ∷ xs) (suc k) n ms e =
     let shift : suc k + 1 ≡ suc (k + 1) = omega arith in
     left_rest xs k n ms e ∙ ap (λ m. drop m (x ∷ xs)) (sym shift)
 
--- where something is left, not all was taken
+-- if something is left, not all was taken
 pub left_more : (xs : List Node) (k : ℕ) (n : Node) (ms : List Node) → drop k xs ≡ n ∷ ms → k + 1 ≤ length xs
 left_more xs k n ms e = omega (arith, length-drop k xs, ap length e)
 
@@ -171,14 +172,14 @@ module _ (b : Ids) (s : Lists Node) (apart : b.waiting ≢ b.page) where
   pub moved_page : (k : ℕ) → list_at (moved b s k) b.page ≡ list_at s b.page ++ take k (list_at s b.waiting)
   moved_page k = ap (λ o. unwrap_or o []) (at_page k)
 
-  -- lists with this page and these that wait
+  -- lists with this page and these waiting nodes
   moved_is : (k : ℕ) (t : Lists Node) → get t.lists b.waiting ≡ Some (without k) → get t.lists b.page ≡ Some (page_with k) → ((q : ℕ) → q ≢ b.waiting → q ≢ b.page → get t.lists q ≡ get s.lists q) → t.spare ≡ s.spare → t ≡ moved b s k
   unfolding moved
   moved_is k t w p others spare =
       let same = insert_twice_from_get s.lists t.lists b.waiting b.page (without k) (page_with k) apart w p others in
       λ i. record { lists = same i; spare = spare i }
 
-  -- one node more
+  -- one more node
   pub moved_step : (k : ℕ) (n : Node) → drop k (list_at s b.waiting) ≡ n ∷ drop (k + 1) (list_at s b.waiting)
       → (moved b s (k + 1)).lists ≡ insert (with_list (moved b s k) b.waiting (drop (k + 1) (list_at s b.waiting))) b.page (list_at (moved b s k) b.page ++ n ∷ [])
   moved_step k n e =
@@ -195,7 +196,7 @@ module _ (b : Ids) (s : Lists Node) (own : IsOwned b s) where
   pub apart_waiting : b.waiting ≢ b.page
   apart_waiting e = own.differ.0.0 (sym e)
 
-  -- no more nodes wait
+  -- no more nodes wait than before
   pub moved_few : (k : ℕ) → length (list_at (moved b s k) b.waiting) ≤ length (list_at s b.waiting)
   moved_few k = omega (arith, ap length (moved_waiting b s apart_waiting k), length-drop k (list_at s b.waiting))
 
@@ -203,61 +204,10 @@ module _ (b : Ids) (s : Lists Node) (own : IsOwned b s) where
   pub moved_none : s ≡ moved b s 0
   moved_none = moved_is b s apart_waiting 0 s (list_there s b.waiting own.live.1.0) (list_there s b.page own.live.0 ∙ ap Some (sym (append-nil (list_at s b.page)))) (λ q w p. refl) refl
 
-  page_rest : b.page ≢ b.rest
-  page_rest = own.differ.0.1.1.0
-
-  waiting_rest : b.waiting ≢ b.rest
-  waiting_rest = own.differ.1.0.1.0
-
-  -- the first k nodes that wait go in three steps: first what follows them goes to the spare list
-  module _ (k : ℕ) (t : Lists Node) (cut : t.lists ≡ insert (with_list s b.waiting (take k (list_at s b.waiting))) b.rest (drop k (list_at s b.waiting))) where
-    cut_wrote : Wrote s t b.waiting b.rest (take k (list_at s b.waiting)) (drop k (list_at s b.waiting))
-    cut_wrote = wrote_two s t b.waiting b.rest (take k (list_at s b.waiting)) (drop k (list_at s b.waiting)) waiting_rest cut
-
-    pub cut_page : IsLive t b.page
-    cut_page = ap is_some (cut_wrote.others b.page own.differ.0.0 page_rest) ∙ own.live.0
-
-    pub cut_waiting : IsLive t b.waiting
-    cut_waiting = cut_wrote.first_live
-
-    page_same : list_at t b.page ≡ list_at s b.page
-    page_same = ap (λ o. unwrap_or o []) (cut_wrote.others b.page own.differ.0.0 page_rest)
-
-    -- then they go to the page
-    module _ (v : Lists Node) (joined : v.lists ≡ insert (with_list t b.page (list_at t b.page ++ list_at t b.waiting)) b.waiting []) where
-      join_wrote : Wrote t v b.page b.waiting (list_at t b.page ++ list_at t b.waiting) []
-      join_wrote = wrote_two t v b.page b.waiting (list_at t b.page ++ list_at t b.waiting) [] own.differ.0.0 joined
-
-      rest_same : get v.lists b.rest ≡ get t.lists b.rest
-      rest_same = join_wrote.others b.rest (λ e. page_rest (sym e)) (λ e. waiting_rest (sym e))
-
-      pub joined_waiting : IsLive v b.waiting
-      joined_waiting = join_wrote.second_live
-
-      pub joined_rest : IsLive v b.rest
-      joined_rest = ap is_some rest_same ∙ cut_wrote.second_live
-
-      rest_left : list_at v b.rest ≡ drop k (list_at s b.waiting)
-      rest_left = ap (λ o. unwrap_or o []) rest_same ∙ cut_wrote.second
-
-      -- and what follows them comes back
-      module _ (y : Lists Node) (back : y.lists ≡ insert (with_list v b.waiting (list_at v b.waiting ++ list_at v b.rest)) b.rest []) where
-        back_wrote : Wrote v y b.waiting b.rest (list_at v b.waiting ++ list_at v b.rest) []
-        back_wrote = wrote_two v y b.waiting b.rest (list_at v b.waiting ++ list_at v b.rest) [] waiting_rest back
-
-        others : (q : ℕ) → q ≢ b.waiting → q ≢ b.page → get y.lists q ≡ get s.lists q
-        others q w p = elim (cases_eq q b.rest) [
-          | inl e ↦ ap (get y.lists) e ∙ list_there y b.rest back_wrote.second_live ∙ ap Some (back_wrote.second ∙ sym own.between) ∙ sym (list_there s b.rest own.live.1.1.1.0) ∙ sym (ap (get s.lists) e)
-          | inr ne ↦ back_wrote.others q w ne ∙ join_wrote.others q p w ∙ cut_wrote.others q w ne
-        ]
-
-        pub moved_three : t.spare ≡ s.spare → v.spare ≡ t.spare → y.spare ≡ v.spare → y ≡ moved b s k
-        moved_three same_cut same_joined same_back =
-            moved_is b s apart_waiting k y
-            (list_there y b.waiting back_wrote.first_live ∙ ap Some (back_wrote.first ∙ (λ i. join_wrote.second i ++ rest_left i)))
-            (back_wrote.others b.page own.differ.0.0 page_rest ∙ list_there v b.page join_wrote.first_live ∙ ap Some (join_wrote.first ∙ (λ i. page_same i ++ cut_wrote.first i)))
-            others
-            (same_back ∙ same_joined ∙ same_cut)
+  -- the first k waiting nodes went to the page
+  pub moved_front : (k : ℕ) (t : Lists Node) → t.lists ≡ insert (with_list s b.waiting (drop k (list_at s b.waiting))) b.page (list_at s b.page ++ take k (list_at s b.waiting)) → t.spare ≡ s.spare → t ≡ moved b s k
+  unfolding moved
+  moved_front k t went spare = λ i. record { lists = went i; spare = spare i }
 
 -- how many nodes are on the page of a walk
 pub page_length : (b : Builder) (s : Lists Node) (k : ℕ) (n : Node) (ms : List Node) → IsSound b (moved (ids_of b) s k) → drop k (list_at s b.waiting) ≡ n ∷ ms → length (list_at s b.page) + k ≡ length (contents_of b (moved (ids_of b) s k)).page
@@ -273,9 +223,18 @@ page_length b s k n ms sound next =
 
 -- ---- a node of the walk
 
-module _ (b : Builder) (s : Lists Node) (ask : Ask) (n : Node) (k : ℕ) (sound : IsSound b (moved (ids_of b) s k)) (on : b.stopped ≡ false) (opened : b.opened ≡ true) (fits : NextFits (contents_of b (moved (ids_of b) s k)) ask)
-    (next : drop k (list_at s b.waiting) ≡ n ∷ drop (k + 1) (list_at s b.waiting)) (no_act : act_of_kind n.kind ≡ None) (no_insertion : insertion_of_kind n.kind ≡ None)
-    (no_kern : (lasting follows : Bool) → penalty_by lasting follows (shape_of n) ≡ penalty_by lasting false (shape_of n)) where
+-- the node is the next of a walk that passed k nodes: no act, insertion or kern
+pub record Walks (b : Builder) (s : Lists Node) (ask : Ask) (n : Node) (k : ℕ) : Type 0 where
+  pub sound : IsSound b (moved (ids_of b) s k)
+  pub on : b.stopped ≡ false
+  pub opened : b.opened ≡ true
+  pub fits : NextFits (contents_of b (moved (ids_of b) s k)) ask
+  pub next : drop k (list_at s b.waiting) ≡ n ∷ drop (k + 1) (list_at s b.waiting)
+  pub no_act : act_of_kind n.kind ≡ None
+  pub no_insertion : insertion_of_kind n.kind ≡ None
+  pub no_kern : (lasting follows : Bool) → penalty_by lasting follows (shape_of n) ≡ penalty_by lasting false (shape_of n)
+
+module _ (b : Builder) (s : Lists Node) (ask : Ask) (n : Node) (k : ℕ) (w : Walks b s ask n k) where
   abbrev here : Lists Node
   here = moved (ids_of b) s k
 
@@ -292,16 +251,16 @@ module _ (b : Builder) (s : Lists Node) (ask : Ask) (n : Node) (k : ℕ) (sound 
   held = list_at here
 
   apart : b.waiting ≢ b.page
-  apart = apart_waiting (ids_of b) here sound.own
+  apart = apart_waiting (ids_of b) here w.sound.own
 
   first : list_at here b.waiting ≡ n ∷ behind
-  first = moved_waiting (ids_of b) s apart k ∙ next
+  first = moved_waiting (ids_of b) s apart k ∙ w.next
 
   underway : Underway z b.course (contents_of b here).page (contents_of b here).waiting
-  underway = open_underway b here ask n behind sound on opened fits first
+  underway = open_underway b here ask n behind w.sound w.on w.opened w.fits first
 
   pub walk_fits : StepFits z (contents_of b here).page held n
-  walk_fits = open_fits b here ask n behind sound on opened fits first no_act no_insertion
+  walk_fits = open_fits b here ask n behind w.sound w.on w.opened w.fits first w.no_act w.no_insertion
 
   pub walk_sums : (l : Course) (bs : List Breakpoint) → IsCourseOf z l (contents_of b here).page bs → IsSmall (added_node l.scan.max_depth l.scan.sums (shape_of n))
   walk_sums l bs h = step_sums z l (contents_of b here).page bs held n h walk_fits
@@ -314,36 +273,36 @@ module _ (b : Builder) (s : Lists Node) (ask : Ask) (n : Node) (k : ℕ) (sound 
 
   -- the place before it
   place_is : (o : Option ℤ) → o ≡ penalty_by b.course.lasting false (shape_of n) → node_penalty b.course.lasting (glue_first (map (plain_of held) behind)) (plain_of held n) ≡ o
-  place_is o value = penalty_first held b.course.lasting (nodes_glue_first (drop 1 (list_at here b.waiting))) o (list_at here b.waiting) behind n first no_act refl (value ∙ sym (no_kern b.course.lasting (nodes_glue_first (drop 1 (list_at here b.waiting)))))
+  place_is o value = penalty_first held b.course.lasting (nodes_glue_first (drop 1 (list_at here b.waiting))) o (list_at here b.waiting) behind n first w.no_act refl (value ∙ sym (w.no_kern b.course.lasting (nodes_glue_first (drop 1 (list_at here b.waiting)))))
 
   waits : (contents_of b here).waiting ≡ plain_of held n ∷ map (plain_of held) behind
   waits = plain_first held (list_at here b.waiting) behind n first
 
   wrote : Written (ids_of b) here there (list_at here b.page ++ n ∷ []) behind
-  wrote = written_shift (ids_of b) here there n behind sound.own first (moved_step (ids_of b) s apart k n next)
+  wrote = written_shift (ids_of b) here there n behind w.sound.own first (moved_step (ids_of b) s apart k n w.next)
 
   module _ (d : Builder) (ids : ids_of d ≡ ids_of b) (d_opened : d.opened ≡ b.opened) (d_frozen : d.frozen ≡ b.frozen) (d_stopped : d.stopped ≡ b.stopped) where
     shifted : Shifted (plain_of held n) (contents_of b here) (contents_of d there)
-    shifted = shifted_from b d here there n behind ids sound.own first wrote d_frozen d_stopped
+    shifted = shifted_from b d here there n behind ids w.sound.own first wrote d_frozen d_stopped
 
     turns : (o : Option Event) → StepIs o z d.course (contents_of b here) (contents_of d there) → TurnIs b here ask o d there
-    turns o step = open_turn b here ask n behind sound on opened fits first d there o (moves_from b d here there (list_at here b.page ++ n ∷ []) behind ids sound.own wrote) step d_opened d_frozen
+    turns o step = open_turn b here ask n behind w.sound w.on w.opened w.fits first d there o (moves_from b d here there (list_at here b.page ++ n ∷ []) behind ids w.sound.own wrote) step d_opened d_frozen
         (λ holds. ap holds_box shifted.page ∙ holds-both (contents_of b here).page (plain_of held n ∷ []) ∙ ap (λ x. x || holds_box (plain_of held n ∷ [])) holds)
-        (λ ms go e. waiting_now ∙ behind_is (list_at here b.waiting) behind ms n first e) no_act
+        (λ ms go e. waiting_now ∙ behind_is (list_at here b.waiting) behind ms n first e) w.no_act
       where
         waiting_now : list_at there d.waiting ≡ behind
         waiting_now = ap (λ (i : Ids). list_at there i.waiting) ids ∙ wrote.waiting_is
 
     -- no legal place is before it
     pub walk_passes : (o : Option ℤ) → o ≡ None → o ≡ penalty_by b.course.lasting false (shape_of n) → IsCourseOf z d.course ((contents_of b here).page ++ plain_of held n ∷ []) (places_on z (contents_of b here)) → LeadsOn b here ask d there
-    walk_passes o none value course = leads_turn ask b d here there on fits (turns None (passed_step z b.course d.course (contents_of b here) (contents_of d there) held n (map (plain_of held) behind) underway walk_fits waits (place_is o value ∙ none) shifted course))
+    walk_passes o none value course = leads_turn ask b d here there w.on w.fits (turns None (passed_step z b.course d.course (contents_of b here) (contents_of d there) held n (map (plain_of held) behind) underway walk_fits waits (place_is o value ∙ none) shifted course))
 
     -- the place before it was tried, and is no stop
     pub walk_tries : (o : Option ℤ) (p : ℤ) (t : Try) (line : ℕ) (l : Course) → o ≡ Some p → o ≡ penalty_by b.course.lasting false (shape_of n) → OfferIs z l (contents_of b here).page (places_on z (contents_of b here)) t line p → line ≡ n.line
         → (int_le awful_bad t.cost || int_le t.penalty (negsuc 9999)) ≡ false
         → ((bs : List Breakpoint) → IsCourseOf z l (contents_of b here).page bs → IsCourseOf z d.course ((contents_of b here).page ++ plain_of held n ∷ []) bs) → LeadsOn b here ask d there
     walk_tries o p t line l some value offered line_is goes put =
-        leads_try ask b d here there t on fits (turns (Some (events.Try t)) (tried_goes z b.course l (contents_of b here) held n p t line underway walk_fits offered line_is d.course (contents_of d there) (map (plain_of held) behind) waits (place_is o value ∙ some) goes shifted (d_stopped ∙ on) put))
+        leads_try ask b d here there t w.on w.fits (turns (Some (events.Try t)) (tried_goes z b.course l (contents_of b here) held n p t line underway walk_fits offered line_is d.course (contents_of d there) (map (plain_of held) behind) waits (place_is o value ∙ some) goes shifted (d_stopped ∙ w.on) put))
 
   -- the place before it is a stop
   pub walk_stops : (l : Course) (o : Option ℤ) (p : ℤ) (t : Try) (line : ℕ) → o ≡ Some p → o ≡ penalty_by b.course.lasting false (shape_of n)
@@ -351,12 +310,12 @@ module _ (b : Builder) (s : Lists Node) (ask : Ask) (n : Node) (k : ℕ) (sound 
       → (let d : Builder = record b { stopped = true; course = l } in LeadsOn b here ask d here)
   walk_stops l o p t line some value offered line_is stop =
       let d : Builder = record b { stopped = true; course = l } in
-      leads_try ask b d here here t on fits (open_turn b here ask n behind sound on opened fits first d here (Some (events.Try t)) (record {
-        own = sound.own;
+      leads_try ask b d here here t w.on w.fits (open_turn b here ask n behind w.sound w.on w.opened w.fits first d here (Some (events.Try t)) (record {
+        own = w.sound.own;
         others = λ q h. refl;
         keeps = λ q h. h;
         classes = refl;
         boxes = refl;
         held = refl;
       }) (tried_stops z b.course l (contents_of b here) held n p t line underway walk_fits offered line_is (contents_of d here) (map (plain_of held) behind) waits (place_is o value ∙ some) stop refl refl refl) refl refl
-      (λ holds. holds) (λ ms go f. absurd (true≢false go)) no_act)
+      (λ holds. holds) (λ ms go f. absurd (true≢false go)) w.no_act)

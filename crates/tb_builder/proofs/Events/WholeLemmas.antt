@@ -1,4 +1,4 @@
--- A page as a whole, out of sized nodes: what `next` asks where it begins, what is reached of it, and the page that fires.
+-- A whole page of sized nodes: what `next` requires at its beginning, what is reached of it, and the page that fires.
 use Rattle.std.proofs.Common.{sym, subst, ℕ, zero, suc, ◌+◌, ◌≤◌, ℤ, Bool, true, false, List, [], ◌∷◌, ◌++◌, take, None, arith}
 use Rattle.std.specs.Prelude.{All, if◌then◌else◌}
 use Rattle.std.specs.List.{AllByRecursion}
@@ -37,7 +37,7 @@ module _ (cs : List Class) (bs : List Boxed) (waiting : List PlainNode) (classes
   pub between-count : whole_count (between cs bs waiting) ≤ node_count waiting + box_count bs + 1
   between-count = let h = list-count false [] waiting in omega (arith, h)
 
-  -- what `next` asks where a page begins
+  -- what `next` requires at the beginning of a page
   pub between-fits : (ask : Ask) → IsSizedAsk ask → node_count waiting + box_count bs ≤ 4194304 → NextFits (between cs bs waiting) ask
   between-fits ask asked few = kept-fits (between cs bs waiting) ask between-sized asked (let h = between-count in omega (arith, h, few)) (omega (arith, few))
 
@@ -58,7 +58,7 @@ module _ (ask : Ask) (cs : List Class) (bs : List Boxed) (page waiting : List Pl
   abbrev terms : List PlainNode → Terms
   terms = terms_after (frozen_for ask cs bs)
 
-  -- what is passed of the page, and what lies beyond
+  -- what is passed of the page, and what is beyond
   pub reach_of-sized : EndSized (reach_of ask cs bs page waiting)
   reach_of-sized = reach_sized ask.max_depth terms [] (laid_out ask.top_skip page waiting) (All-nil IsSizedOnPage) list.0
 

@@ -60,7 +60,7 @@ module _ (b : Builder) (c : Contents) (h : Breaks b c) where
   pub champion : ChampionIs b.course.scan.best b.course.best_goal h.stop.course.marked c.page place_of_break
   champion = h.stop.course.champion no_place (not_nothing (places_by zee c.page c.waiting) h.stop.stop)
 
-  -- the account stands at its mark for the nodes before the break
+  -- at its mark the account is of the nodes before the break
   pub break_account : IsAccountOf b.course.account zee c.page (take place_of_break.place c.page)
   break_account = subst (IsAccountOf b.course.account zee c.page) champion.marked_is h.stop.course.account
 
@@ -193,7 +193,7 @@ module _ (b : Builder) (s e t : Lists Node) (body : ℕ) (x : Best) (sound : IsS
       behind : drop x.index (contents_of b e).page ++ (contents_of b e).waiting ≡ drop there.place (contents_of b s).page ++ (contents_of b s).waiting
       behind = (λ j. drop (index_is j) (opened_page b s e body sound.own fresh opened j) ++ opened_waiting b s e body sound.own fresh opened j)
 
-      -- the page that fires, in what the builder kept
+      -- the page that fires, from what the builder kept
       abbrev fired_here : Fired
       fired_here = record {
         body = without_insertions (take there.place (contents_of b s).page);

@@ -1,5 +1,5 @@
 -- A page that fires has no more nodes than there were: what goes into a class box leaves its insertion, and the glue at
--- the top of a rest that is held takes the place of the node where the insertion was split.
+-- the top of a held rest takes the place of the node at which the insertion was split.
 
 use Rattle.std.proofs.Common.{◌≡◌, refl, subst, ◌∙◌, ap, ℕ, zero, suc, ◌+◌, ◌≤◌, ℤ, Bool, true, false, List, [], ◌∷◌, ◌++◌, length, length-append, take, drop, map, Some, arith}
 use Rattle.std.specs.Prelude.{if◌then◌else◌, ◌==◌}
@@ -44,7 +44,7 @@ reached_fewer limit terms ns =
 
 -- ---- the insertions of a page
 
--- the nodes of the insertions of a list, and the insertions themselves
+-- the number of the insertions of a list and of their nodes
 abbrev pub kind_inserted : PlainKind → ℕ
 kind_inserted (plain m) = 0
 kind_inserted (ins i) = 1 + length i.inner
@@ -86,7 +86,7 @@ apart l (plain m) ns h = omega arith
 apart l (ins i) ns h = omega arith
 apart l (act a) ns h = omega arith
 
--- a list is what is left without its insertions, and those
+-- a list has as many nodes as it has without its insertions, and in them
 pub insertions_apart : (ns : List PlainNode) → node_count (without_insertions ns) + inserted_count ns ≡ node_count ns
 insertions_apart [] = refl
 insertions_apart (n ∷ ns) = apart n.line n.kind ns (insertions_apart ns)
@@ -151,7 +151,7 @@ labels_fewer (l ∷ ls) h =
 
 -- ---- the boxes
 
--- what is given to these boxes
+-- how much is given to these boxes
 abbrev given_boxes : List Labelled → List Boxed → ℕ
 given_boxes ls [] = 0
 given_boxes ls (b ∷ bs) = length (given_to b.number ls) + given_boxes ls bs
@@ -167,7 +167,7 @@ boxes_most : (ls : List Labelled) (bs : List Boxed) → box_count (map (box_afte
 boxes_most ls [] = omega arith
 boxes_most ls (b ∷ bs) = let h = box_most ls b in let k = boxes_most ls bs in omega (arith, h, k)
 
--- boxes of other numbers are given nothing of an insertion
+-- boxes with other numbers are given nothing of an insertion
 not_given : (l : Labelled) (ls : List Labelled) (cs : List Class) (bs : List Boxed) → AreBoxesOf cs bs → has_class cs l.inserted.class ≡ false → given_boxes (l ∷ ls) bs ≡ given_boxes ls bs
 not_given l ls [] [] h e = refl
 not_given l ls [] (b ∷ bs) h e = absurd h
@@ -221,6 +221,6 @@ module _ (limit : ℤ) (terms : List PlainNode → Terms) (z : Frozen) (cs : Lis
       let j = reached_fewer limit terms ns in
       omega (arith, a, b, c, d, e, f, g, i, j)
 
--- a page that fires has no more nodes than there were, where the numbers of the classes differ
+-- a page that fires has no more nodes than there were, if the numbers of the classes differ
 pub fired_fewer : (c : Contents) (ask : Ask) → ClassesFit c.classes → AreBoxesOf c.classes c.boxes → fired_count (fired_page c ask) ≤ node_count (c.page ++ c.waiting) + box_count c.boxes
 fired_fewer c ask classes boxed = fired_by-fewer (frozen_of c ask).limit (terms_after (frozen_of c ask)) (frozen_of c ask) c.classes c.boxes (c.page ++ c.waiting) classes boxed

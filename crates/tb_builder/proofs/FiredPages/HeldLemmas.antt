@@ -1,4 +1,4 @@
--- Where nothing is given to the boxes of the classes, no insertion was before the break, and nothing is held.
+-- If nothing is given to the boxes of the classes, no insertion came before the break, and nothing is held.
 use Rattle.std.proofs.Common.{◌≡◌, refl, ℕ, ℤ, Bool, true, false, List, [], ◌∷◌, ◌++◌, arith}
 use Rattle.std.specs.Prelude.{map, pos, ◌+ℤ◌, ◌-ℤ◌, ◌==◌, ◌||◌, ◌&&◌, int_le, if◌then◌else◌}
 use Rattle.tb_node.specs.declared.Sums.{Sums}
@@ -53,6 +53,6 @@ none-of ks (l ∷ ls) c f e = absurd (no (l.inserted.class == l.inserted.class) 
     no true false r a b e = grind (arith, b)
     no false g r a b e = grind (arith, a)
 
--- where all insertions are of these classes and nothing is given to their boxes, there are none
+-- if all insertions are of these classes and nothing is given to their boxes, there are none
 pub none-labelled : (ks : List ℕ) (z : Frozen) (ns : List PlainNode) → LabelsOfClass ks (labelled z ns) → GivesNone ks (labelled z ns) → labelled z ns ≡ []
 none-labelled ks z ns c e = none-of ks (labelled z ns) c (from-first z [] [] ns tt) e

@@ -140,12 +140,12 @@ held-weight v (l ∷ ls) =
 
 -- ---- the page that fires
 
--- how often a number stands among others
+-- how often a number is among others
 abbrev pub hits : ℕ → List ℕ → ℕ
 hits k [] = 0
 hits k (n ∷ ns) = if k == n then suc (hits k ns) else hits k ns
 
--- the number stands there once
+-- the number is among them once
 abbrev pub IsOnce : List ℕ → ℕ → Type 0
 IsOnce ns k = hits k ns ≡ 1
 
@@ -192,7 +192,7 @@ gives-nothing v whole i e = grind (arith, e)
 gives-nothing v (split f) i e = grind (arith, e)
 gives-nothing v late i e = refl
 
--- where nothing is given, what is given weighs nothing
+-- if nothing is given, what is given weighs nothing
 not-given : (v : Weight) (k : ℕ) (ls : List Labelled) → is_given k ls ≡ false → class_given v k ls ≡ 0
 not-given v k [] e = refl
 not-given v k (l ∷ ls) e = by_class (l.inserted.class == k) (gives l.label) refl (λ h. not-given v k ls h) e
@@ -236,7 +236,7 @@ boxes_after-weight v ls (b ∷ bs) =
     let h : boxes_weight v (map (box_after ls) bs) ≡ boxes_weight v bs + all_given v (numbers bs) ls = boxes_after-weight v ls bs in
     omega arith
 
--- a weight at each of the numbers that is the class
+-- this weight for each of the numbers that is the class
 abbrev share : ℕ → ℕ → List ℕ → ℕ
 share k w [] = 0
 share k w (n ∷ ns) = (if k == n then w else 0) + share k w ns
@@ -296,7 +296,7 @@ spent-weight v (n ∷ ns) = by_kind n.line n.kind
 abbrev pub fired_weight : Weight → Fired → ℕ
 fired_weight v f = nodes_weight v f.body + boxes_weight v f.boxes + nodes_weight v f.held + nodes_weight v f.rest
 
--- the page that fires: its body, its boxes, what is held and the rest weigh as the boxes and the list did
+-- the page that fires: its body, its boxes, what is held and the rest weigh as much as the boxes and the list did
 pub fired-weight : (v : Weight) (z : Frozen) (bs : List Boxed) (w : Reach) → AllOfClass (numbers bs) (take (page_break w).place w.passed) → fired_weight v (fired_by (labelled z (take (page_break w).place w.passed)) bs w) ≡ boxes_weight v bs + (nodes_weight v w.passed + nodes_weight v w.beyond)
 fired-weight v z bs w all =
     let before = take (page_break w).place w.passed in

@@ -1,4 +1,4 @@
--- What waits may be such that the next page has no insertions and fits up to a forced break: then it fires there, and the rest is what stood behind.
+-- If what waits has no insertions for the next page and fits up to a forced break, the page fires there, and the rest is what came after it.
 use Rattle.std.proofs.Common.{◌≡◌, refl, sym, ◌∙◌, ap, subst, ℕ, ℤ, pos, true, List, [], ◌∷◌, ◌++◌, map, length, take, drop, arith}
 use Rattle.std.specs.Prelude.{◌+ℤ◌, ◌-ℤ◌, ◌≤ℤ◌, int_le}
 use Rattle.std.specs.List.{AllByRecursion}
@@ -17,7 +17,7 @@ use Rattle.tb_builder.specs.Reached.{Reach, reach_from, breakpoints}
 use Rattle.tb_builder.specs.Fired.{Boxed, Fired, page_break, from_break, fired_by, box_after, no_place, penalty_at, with_spent_break, held_insertions}
 use Rattle.tb_builder.proofs.ForLaws.FittingPages.{Slim, AllSlim, slim-both, size-both, best-last, BreaksAt, breaks-at}
 
--- a node that vanishes at the top of a page, or lasts there and takes no height
+-- a node that vanishes at the top of a page, or stays there and takes no height
 abbrev pub Topmost : PlainKind → Type 0
 Topmost (plain (hbox w h d)) = ⊥
 Topmost (plain (rule name h d)) = ⊥
@@ -39,7 +39,7 @@ flat_box line w = record { line = line; kind = plain (hbox w (pos 0) (pos 0)) }
 abbrev pub break_at : ℕ → ℤ → PlainNode
 break_at line q = record { line = line; kind = plain (pen q) }
 
--- nodes that vanish at the top or last there, a box of no size, slim nodes of no size, and the forced break before this tail
+-- nodes that vanish at the top or take no height there, a box of no size, slim nodes of no size, and the forced break before this tail
 pub record Fitted (q : ℤ) (tail ns : List PlainNode) : Type 0 where
   pub top : List PlainNode
   pub box_line : ℕ
@@ -118,7 +118,7 @@ bare-page goal limit cs ns s = ap (terms_of_labels (record { goal = goal; limit 
 
 -- ---- the page that fires
 
--- it fires at the break, holds nothing, gives nothing to the boxes, and the rest is what stood behind the break
+-- it fires at the break, holds nothing, gives nothing to the boxes, and the rest is what came after the break
 pub record FiresAt (q : ℤ) (tail : List PlainNode) (bs : List Boxed) (w : Reach) (f : Fired) : Type 0 where
   pub fires : w.fires ≡ true
   pub penalty : f.penalty ≡ q

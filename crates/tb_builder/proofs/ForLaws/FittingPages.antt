@@ -1,4 +1,4 @@
--- A page without insertions on which all fits up to a forced break breaks there.
+-- If all of a page without insertions fits up to a forced break, it breaks there.
 use Rattle.std.proofs.Common.{◌≡◌, refl, sym, ◌∙◌, ap, subst, ℕ, ℤ, pos, Bool, true, false, ◌||◌, List, [], ◌∷◌, ◌++◌, map, length, Option, Some, None, inl, inr, ◌⊎◌, arith}
 use Rattle.std.specs.Prelude.{filter, ◌+ℤ◌, ◌-ℤ◌, ◌≤ℤ◌, int_lt, int_le, if◌then◌else◌}
 use Rattle.std.specs.List.{AllByRecursion}
@@ -20,7 +20,7 @@ use Rattle.tb_builder.specs.Reached.{tried, Reach, also_reached, page_place, sto
 
 -- ---- slim nodes
 
--- a node that takes no height but for glue, and neither shrinks nor stretches finitely
+-- a node that takes no height, except glue, and neither shrinks nor stretches finitely
 abbrev pub Slim : PlainKind → Type 0
 Slim (plain (hbox w h d)) = (h ≡ pos 0) × (d ≡ pos 0)
 Slim (plain (rule name h d)) = ⊥
@@ -103,7 +103,7 @@ slim-size (n ∷ ns) s =
 
 -- ---- the cost of a place that fits
 
--- what holds of a badness of 0 and of 10000 holds of that of a place that fits, where nothing stretches finitely or shrinks
+-- what holds of the badness 0 and of 10000 holds of that of a place that fits, if nothing stretches finitely or shrinks
 fitting-badness : (P : ℤ → Type 0) → P (pos 0) → P inf_bad → (s : Sums) (goal : ℤ) → s.total ≤ℤ goal → s.shrink ≡ pos 0 → finite_stretch s.stretch ≡ pos 0 → P (page_badness s goal)
 unfolding page_badness badness_of
 fitting-badness P a b s goal h i j =
@@ -124,7 +124,7 @@ fitting-badness P a b s goal h i j =
     by_less false true e = let no : ⊥ = grind (arith, e) in absurd no
     by_less false false e = none (s.total -ℤ goal) s.shrink i
 
--- at no penalty the place is no stop and costs more than a forced break
+-- without a penalty the place is no stop and costs more than a forced break
 abbrev Dear : ℤ → ℤ → Type 0
 Dear q b = (int_le awful_bad (cost_of_badness b (pos 0) (pos 0)) ≡ false) × (int_le (cost_of_badness b (pos 0) (pos 0)) q ≡ false)
 
@@ -150,7 +150,7 @@ costs-bad q h = rw h refl
 
 -- ---- the places up to the forced break
 
--- of these places the last is the best: it alone costs q, and the others more
+-- the last of these places is the best: it alone costs q, and the others more
 pub record LastBest (q : ℤ) (place : ℕ) (bs : List Breakpoint) : Type 0 where
   pub last : Breakpoint
   pub at : last.place ≡ place
@@ -198,7 +198,7 @@ module _ (limit goal : ℤ) (deep : pos 0 ≤ℤ limit) (terms : List PlainNode 
       shrink : (n : ℤ) → n ≡ pos 0 → (n +ℤ pos 0) ≡ pos 0
       shrink n e = grind (arith, ints, e)
 
-  -- a place at no penalty before the forced break
+  -- a place without a penalty before the forced break
   pub free-place : (before : List PlainNode) → AllSlim before → size_of (shapes before) ≤ℤ goal → (is_stop (page_place limit terms before (pos 0)) ≡ false) × (int_le (page_place limit terms before (pos 0)).cost q ≡ false)
   free-place before s h = subst (λ (t : Terms). let b = breakpoint_at (length before) (sums_with (sums_of limit (shapes before)) t) t.goal (pos 0) t.penalties in (is_stop b ≡ false) × (int_le b.cost q ≡ false)) (sym (bare before s)) (stops (slim-place (Dear q) (dear-zero q forced) (dear-bad q forced) before s h))
     where

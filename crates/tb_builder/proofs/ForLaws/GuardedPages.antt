@@ -1,4 +1,4 @@
--- A page that begins with a mark, note or whatsit and has one box of no size breaks before its top glue, where the top skip is higher than the page.
+-- A page that begins with a mark, note or whatsit and has one box of no size breaks before its top glue, if the top skip is higher than the page.
 use Rattle.std.proofs.Common.{◌≡◌, refl, sym, ◌∙◌, ap, subst, ℕ, ℤ, pos, Bool, true, false, not, ◌||◌, List, [], ◌∷◌, ◌++◌, map, length, Some, None, arith}
 use Rattle.std.specs.Prelude.{filter, ◌+ℤ◌, ◌-ℤ◌, ◌≤ℤ◌, ◌<ℤ◌, int_lt, int_le, if◌then◌else◌}
 use Rattle.std.specs.List.{AllByRecursion}
@@ -43,7 +43,7 @@ overfull-cost : (s : Sums) (goal q : ℤ) → goal <ℤ s.total → s.shrink ≡
 unfolding cost_of_badness
 overfull-cost s goal q h i = rw (overfull-badness s goal h i) refl
 
--- of two places the first is the best where only the second is overfull
+-- of two places the first is the best if only the second is overfull
 first-best : (d b e : Breakpoint) → b.cost <ℤ awful_bad → e.cost ≡ awful_bad → best_or d (b ∷ e ∷ []) ≡ b
 first-best d b e h i = ap (λ (x : ℤ). last_or d (filter (λ c. int_le c.cost x) (b ∷ e ∷ []))) (least b.cost e.cost h i) ∙ by_tests (int_le b.cost b.cost) (int_le e.cost b.cost) (grind (arith, ints)) (more b.cost e.cost h i)
   where
@@ -58,7 +58,7 @@ first-best d b e h i = ap (λ (x : ℤ). last_or d (filter (λ c. int_le c.cost 
     by_tests true true h i = let no : ⊥ = grind (arith, i) in absurd no
     by_tests false u h i = let no : ⊥ = grind (arith, h) in absurd no
 
--- ---- nodes that last at the top of a page
+-- ---- nodes that stay at the top of a page
 
 -- a mark, note or whatsit
 abbrev pub Lasting : PlainKind → Type 0
@@ -136,7 +136,7 @@ module _ (limit goal : ℤ) (deep : pos 0 ≤ℤ limit) (terms : List PlainNode 
   abbrev glue_at : ℕ → PlainNode
   glue_at l = record { line = l; kind = plain (skip (top_glue t (pos 0))) }
 
-  -- the place behind the box
+  -- the place after the box
   over-cost : (xs : List PlainNode) → AllSlim xs → goal <ℤ size_of (shapes xs) → (page_place limit terms xs q).cost ≡ awful_bad
   over-cost xs s h =
       let z = slim-sums xs s in
@@ -265,7 +265,7 @@ module _ (t : ℤ) (b : ℕ) (c : What) (rest : List PlainNode) where
   abbrev Splits : List PlainNode → List PlainNode → Type 0
   Splits ns xs = AllTopmost xs → ns ≡ xs ++ flat_box b c ∷ rest → TopShape t xs
 
-  -- a node that lasts is the first of the front
+  -- a node that stays is the first of the front
   shape-more : (n : PlainNode) (ns xs : List PlainNode) → Lasting n.kind → (n.kind ≡ plain (hbox c (pos 0) (pos 0)) → ⊥) → ((ys : List PlainNode) → Splits ns ys) → Splits (n ∷ ns) xs
   shape-more n ns [] k apart h v e = absurd (apart (ap (λ (y : PlainNode). y.kind) (parts n (flat_box b c) ns rest e).0))
   shape-more n ns (x ∷ xs) k apart h v e =
@@ -273,7 +273,7 @@ module _ (t : ℤ) (b : ℕ) (c : What) (rest : List PlainNode) where
       let r : TopShape t xs = h xs v.1 p.1 in
       record { lasting = n ∷ r.lasting; line = r.line; all = (k, r.all); whole = ap (λ y. y ∷ xs) (sym p.0) ∙ ap (λ ys. n ∷ ys) r.whole }
 
-  -- what takes no part in such a front is not its first node
+  -- a node that cannot be in such a front is not its first
   shape-not : (n : PlainNode) (ns xs : List PlainNode) → (Topmost n.kind → ⊥) → (n.kind ≡ plain (hbox c (pos 0) (pos 0)) → ⊥) → Splits (n ∷ ns) xs
   shape-not n ns [] k apart v e = absurd (apart (ap (λ (y : PlainNode). y.kind) (parts n (flat_box b c) ns rest e).0))
   shape-not n ns (x ∷ xs) k apart v e = absurd (k (subst (λ (y : PlainNode). Topmost y.kind) (sym (parts n x ns (xs ++ flat_box b c ∷ rest) e).0) v.0))

@@ -1,4 +1,4 @@
--- Where a box and a plain forced break wait before any other forced break, the next firing is an ordinary one.
+-- If a box and a plain forced break wait before any other forced break, the next firing is an ordinary one.
 use Rattle.std.proofs.Common.{◌≡◌, refl, sym, ◌∙◌, ap, subst, ℕ, zero, suc, ℤ, true, false, List, [], ◌∷◌, ◌++◌, drop, arith}
 use Rattle.std.specs.Prelude.{int_le}
 use Rattle.std.proofs.lemmas.Int.{ints}
@@ -62,7 +62,7 @@ pruned-up-to t rest (m ∷ front) n behind h a b c =
 
 -- ---- the break
 
--- the list begins with no forced break but a plain one
+-- the list begins with no forced break, or with a plain one
 abbrev Begins : List PlainNode → Type 0
 Begins ns = int_le eject_penalty (penalty_at ns) ≡ true
 
@@ -115,7 +115,7 @@ pub calm-acts : (ns : List PlainNode) → AllCalm ns → AllCalm (without_acts n
 calm-acts [] c = tt
 calm-acts (n ∷ ns) c = acts-kind n.line n.kind ns c.0 (calm-acts ns c.1)
 
--- so wherever the page breaks, the penalty is that of an ordinary firing
+-- so at whatever place the page breaks, the penalty is that of an ordinary firing
 pub paused-ordinary : (t : ℤ) (ns : List PlainNode) (w : Reach) (k : ℕ) → Paused ns → CutAt [] (pruned_nodes t ns) w → int_le eject_penalty (penalty_at (drop k w.passed ++ w.beyond)) ≡ true
 paused-ordinary t ns w k h c = front-begins k w.passed w.beyond (subst AllCalm (sym c.passed) (calm-acts c.front c.calm)) (beyond-begins u.before c.front h.line h.tail w.beyond (sym u.whole ∙ c.whole) u.calm c.calm)
   where

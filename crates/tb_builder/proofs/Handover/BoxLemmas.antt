@@ -59,7 +59,7 @@ module _ (s : Lists Node) (es : List ClassList) (number : ℕ) (e : ClassList) (
   pub size_is : VoidEmpty s es → box_size (box_content (map (boxed_of s) es) number) ≡ box_size (content_by e.void (leaf_list s e.list))
   size_is v = ap box_size content_is
 
--- the sizes of one box fit where those of all do
+-- the sizes of one box fit if those of all do
 pub one_fits : (bs : List Boxed) (k : ℕ) → BoxesFit bs → SizesFit (map leaf_shape (content_of (box_content bs k)))
 one_fits [] k h = nothing_fits
   where
@@ -89,7 +89,7 @@ plain_leaves held (n ∷ ns) h = λ i. by_kind n.line n.kind h.0 i ∷ plain_lea
     by_kind line (kinds.Ins j) e = cc
     by_kind line (kinds.Act a) e = cc
 
--- ---- the classes, where one has a void box
+-- ---- the classes, with the box of one void
 
 abbrev pub with_void_box : ℕ → ClassList → ClassList
 with_void_box number e = if has_number number e then record e { void = true } else e
@@ -108,7 +108,7 @@ none_voided (e ∷ es) number h = by_test (has_number number e) h (none_voided e
 behind_first : (e : ClassList) (es : List ClassList) (number k : ℕ) (d : ClassList) → IsFirst (e ∷ es) number (suc k) d → IsFirst es number k d
 behind_first e es number k d h = record { within = let w : suc k < length (e ∷ es) = h.within in omega arith; there = h.there; before = λ j lt. h.before (suc j) (omega arith) }
 
--- the others have other numbers
+-- the other classes have other numbers
 others_differ : (e : ClassList) (es : List ClassList) (number : ℕ) → has_number number e ≡ true → ClassesFit (map (λ x. x.class) (e ∷ es)) → has_class (map (λ x. x.class) es) number ≡ false
 others_differ e es number h fit = subst (λ k. has_class (map (λ x. x.class) es) k ≡ false) (is_number e.class.number number h) fit.0
 
@@ -119,7 +119,7 @@ set_voided (e ∷ es) number zero d h fit =
 set_voided (e ∷ es) number (suc k) d h fit =
     λ i. (if (sym (h.before 0 (omega arith))) i then record e { void = true } else e) ∷ set_voided es number k d (behind_first e es number k d h) fit.3 i
 
--- the entry that is read does not hang on what is read past the end
+-- the entry that is read does not depend on the default
 pub same_entry : (es : List ClassList) (k : ℕ) (d f : ClassList) → k < length es → get_or es k d ≡ get_or es k f
 same_entry [] k d f h = absurd (omega arith)
 same_entry (e ∷ es) zero d f h = refl
@@ -182,7 +182,7 @@ box_of (e ∷ es) number zero d h fit differ = ((λ x. refl), (λ x. absurd (tru
 box_of (e ∷ es) number (suc k) d h fit differ =
     ((λ x. absurd (true≢false (sym x ∙ h.before 0 (omega arith)))), (λ x. lacks_at e.list es k d (let w : suc k < length (e ∷ es) = h.within in omega arith) differ.0), box_of es number k d (behind_first e es number k d h) fit.3 differ.1)
 
--- ---- the store, where the nodes of the box went to another list
+-- ---- the store, once the nodes of the box went to another list
 
 module _ (s t : Lists Node) (into l : ℕ) (w : Wrote s t into l (list_at s into ++ list_at s l) []) where
   live_taken : (xs : List ℕ) → Lacks into xs → AllLive s xs → AllLive t xs
@@ -226,7 +226,7 @@ module _ (s t : Lists Node) (into l : ℕ) (w : Wrote s t into l (list_at s into
 
 -- ---- a box is taken
 
--- a list that is none of the builder's is not that of the box
+-- a list that is not the builder's is not that of the box
 pub box_apart : (b : Builder) (s : Lists Node) (q number : ℕ) (e : ClassList) → IsClassList b.boxes.items number e → Lacks q (owned (ids_of b) s) → q ≢ e.list
 box_apart b s q number e h apart =
     subst (λ (x : ClassList). q ≢ x.list) h.is (lacks_at q b.boxes.items h.place e h.first.within (lacks-left q (box_ids b.boxes.items) (inner_ids (nodes_of (ids_of b) s)) apart.1.1.1.1))
@@ -309,7 +309,7 @@ module _ (b : Builder) (s t : Lists Node) (into number : ℕ) (e : ClassList) (s
   list_same : (l : ℕ) → get t.lists l ≡ get s.lists l → AllSame s t (inner_ids (list_at s l)) → plain_list t l ≡ plain_list s l
   list_same l same inside = ap (map (plain_of (list_at t))) (lists_same s t l same) ∙ view_same s t (list_at s l) inside
 
-  -- the builder, where the box of the class is void
+  -- the builder, with the box of the class void
   module _ (d : Builder) (ids : ids_of d ≡ taken_ids) (frozen : d.frozen ≡ b.frozen) (stopped : d.stopped ≡ b.stopped) (opened : d.opened ≡ b.opened) (course : d.course ≡ b.course) where
     pub taken_contents : contents_of d t ≡ record (contents_of b s) { boxes = with_void number (contents_of b s).boxes }
     taken_contents =

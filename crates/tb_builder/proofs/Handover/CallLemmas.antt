@@ -1,4 +1,4 @@
--- The contents of a builder are sized where it is made, and stay so where nodes are contributed or put back and where a box is taken.
+-- The contents of a new builder are sized, and stay so when nodes are contributed or put back and when a box is taken.
 use Rattle.std.proofs.Common.{◌≡◌, refl, sym, subst, ◌∙◌, ap, ℕ, ℤ, ◌+◌, ◌≤◌, pos, Bool, true, false, List, [], ◌∷◌, ◌++◌, length, map, None, arith}
 use Rattle.std.specs.Prelude.{All, if◌then◌else◌, ◌==◌}
 use Rattle.std.proofs.lemmas.List.Elements.{All-nil, All-cons, All-head, All-tail, All-append}
@@ -61,7 +61,7 @@ laid_count true t page waiting = let e = count-append page waiting in omega (ari
 laid_count false true page waiting = let e = count-append page waiting in omega (arith, e)
 laid_count false false page waiting = let e = count-append page (pruned_nodes (pos 0) waiting) in let h = pruned_nodes_longer (pos 0) waiting in omega (arith, e, h)
 
--- the list that counts is sized where the page so far and what waits are, and has at most one node more
+-- the page so far and what waits as one list are sized if both are, and have at most one more node
 pub list-sized : (s : Bool) (page waiting : List PlainNode) → All IsSizedOnPage page → All IsSizedOnPage waiting → All IsSizedOnPage (laid_by s page waiting)
 list-sized s page waiting h k = subst (All IsSizedOnPage) (whole_by-is s page waiting) (laid_plain s (holds_box page) page waiting h k)
 
@@ -85,7 +85,7 @@ module _ (ms : List PlainNode) where
   more_count false true page waiting = let a = count-append page (waiting ++ ms) in let b = count-append waiting ms in let c = count-append page waiting in omega (arith, a, b, c)
   more_count false false page waiting = let a = count-append page (pruned_nodes (pos 0) (waiting ++ ms)) in let b = pruned_more (pos 0) ms waiting in let c = count-append page (pruned_nodes (pos 0) waiting) in omega (arith, a, b, c)
 
-  -- sized nodes come to the end of what waits
+  -- sized nodes come to the end of the waiting nodes
   pub more-sized : (c : Contents) → All IsSizedOnPage ms → IsSizedContents c → IsSizedContents (record c { waiting = c.waiting ++ ms })
   more-sized c r h = record {
     nodes = subst (All IsSizedOnPage) (whole_by-is c.stopped c.page (c.waiting ++ ms)) (more_by c.stopped (holds_box c.page) c.page c.waiting r (subst (All IsSizedOnPage) (sym (whole_by-is c.stopped c.page c.waiting)) h.nodes));
@@ -151,7 +151,7 @@ voids_sized : (k : ℕ) (bs : List Boxed) → All IsSizedBox bs → All IsSizedB
 voids_sized k [] h = All-nil IsSizedBox
 voids_sized k (b ∷ bs) h = All-cons IsSizedBox (voided k b) (with_void k bs) (voided_sized k b (All-head IsSizedBox b bs h)) (voids_sized k bs (All-tail IsSizedBox b bs h))
 
--- each class has its box still
+-- each class still has its box
 pub voids_boxed : (k : ℕ) (cs : List Class) (bs : List Boxed) → AreBoxesOf cs bs → AreBoxesOf cs (with_void k bs)
 voids_boxed k [] [] h = tt
 voids_boxed k [] (b ∷ bs) h = absurd h
@@ -166,7 +166,7 @@ voids_fewer k (b ∷ bs) = by_test (b.number == k) (voids_fewer k bs)
     by_test true h = omega (arith, h)
     by_test false h = omega (arith, h)
 
--- how many nodes the box of a number has
+-- how many nodes the box with a number has
 abbrev pub held_length : List Boxed → ℕ → ℕ
 held_length bs k = length (content_of (box_content bs k))
 

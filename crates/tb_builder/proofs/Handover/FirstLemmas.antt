@@ -21,7 +21,7 @@ use Rattle.tb_builder.proofs.Handover.JoinLemmas.{apart_cons, apart_none, lacks_
 
 -- ---- two lists
 
--- a list that is live holds this
+-- a live list with these items holds them
 some_list : (s : Lists Node) (l : ℕ) (xs : List Node) → IsLive s l → list_at s l ≡ xs → get s.lists l ≡ Some xs
 some_list s l xs live e = by_option (get s.lists l) live e
   where
@@ -75,7 +75,7 @@ module _ (b : Ids) (s t : Lists Node) (l : ℕ) (own : IsOwned b s) (j : ListJoi
   inner_now : inner_ids nodes_now ≡ of_front ++ (of_list ++ of_waiting)
   inner_now = ap inner_ids now_is ∙ inner-append front (list_at s l ++ list_at s b.waiting) ∙ ap (λ is. of_front ++ is) (inner-append (list_at s l) (list_at s b.waiting))
 
-  -- the same ids, those of the list at the end
+  -- the same ids, with those of the list at the end
   in_parts : owned b s ++ of_list ≡ (own_ids b ++ of_front) ++ (of_waiting ++ of_list)
   in_parts =
       ap (λ is. (own_ids b ++ is) ++ of_list) inner_before

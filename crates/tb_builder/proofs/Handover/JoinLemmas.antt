@@ -78,7 +78,7 @@ module _ (b : Ids) (s t : Lists Node) (hs xs ys : List Node) (own : IsOwned b s)
     known = subst (AllKnown (classes_of b)) (sym nodes_are) h.all_known;
   }
 
--- ---- the builder stands
+-- ---- the builder is sound
 
 pub sound_from : (b d : Builder) (s t : Lists Node) → IsSound b s → IsOwned (ids_of d) t → d.opened ≡ b.opened → d.frozen ≡ b.frozen → d.stopped ≡ b.stopped → (contents_of d t).page ≡ (contents_of b s).page → IsPageSoFar d.frozen d.stopped d.course (contents_of d t) → IsSound d t
 sound_from b d s t sound own opened frozen stopped page stands = record {
@@ -89,7 +89,7 @@ sound_from b d s t sound own opened frozen stopped page stands = record {
   met = λ some on. ap freezes page ∙ sound.met (subst IsSome frozen some) (sym stopped ∙ on);
 }
 
--- ---- a node comes behind what waits
+-- ---- a node comes after the waiting nodes
 
 module _ (b : Ids) (s t : Lists Node) (n : Node) (own : IsOwned b s) (j : NodesJoin b s (n ∷ [])) (e : t.lists ≡ with_list s b.waiting (list_at s b.waiting ++ n ∷ [])) where
   abbrev inner_before : List ℕ

@@ -17,7 +17,7 @@ use Rattle.tb_builder.specs.Running.{IsCourseOf, places_by, Underway, AtStop, Al
 use Rattle.tb_builder.specs.Handed.{is_kern, ends_in_kern, MayWait}
 use Rattle.tb_builder.proofs.LegalPlaces.PageLemmas.{first_of, reach_next, at_place_stops, at_place_goes}
 
--- ---- glue that stands first among what waits
+-- ---- glue that comes first among the waiting nodes
 
 first_glue : (s : Shape) (ns ms : List Shape) → begins_with_glue (s ∷ ns) ≡ begins_with_glue (s ∷ ms)
 first_glue (box h d) ns ms = refl
@@ -33,7 +33,7 @@ glue_alone (kern w) = refl
 glue_alone (penalty p) = refl
 glue_alone other = refl
 
--- a node comes behind the others
+-- a node comes after the others
 pub glue_grows : (ns : List PlainNode) (m : PlainNode) → (without_acts ns ≡ [] → is_glue (node_shape m) ≡ false) → glue_first (ns ++ m ∷ []) ≡ glue_first ns
 glue_grows [] m h = by_kind m.line m.kind (h refl)
   where
@@ -72,7 +72,7 @@ node_same lasting g h n e = by_kind n.kind
     by_kind (ins i) = refl
     by_kind (act a) = refl
 
--- a legal place before a kern has glue behind it
+-- a legal place before a kern has glue after it
 kern_legal : (lasting g : Bool) (s : Shape) (p : ℤ) → penalty_by lasting g s ≡ Some p → is_kern s ≡ true → g ≡ true
 kern_legal lasting g (box x d) p e k = absurd (true≢false (sym k))
 kern_legal lasting g (glue x) p e k = absurd (true≢false (sym k))
@@ -118,7 +118,7 @@ module _ (limit : ℤ) (terms : List PlainNode → Terms) where
   abbrev with_beyond : PlainNode → Reach → Reach
   with_beyond m w = record w { beyond = w.beyond ++ m ∷ [] }
 
-  -- the node before which the place is legal stands where a node more waits
+  -- the node before which the place is legal, if one more node waits
   module _ (before : List PlainNode) (n : PlainNode) (rest : List PlainNode) (m : PlainNode) (later grown : Reach) (lasting : Bool)
       (fires_rest : later.fires ≡ true → without_acts rest ≡ [] → ⊥) (grows : later.fires ≡ true → grown ≡ with_beyond m later) where
     abbrev before_it : Option ℤ
@@ -148,7 +148,7 @@ module _ (limit : ℤ) (terms : List PlainNode → Terms) where
     at_grows None e f = ap (reach_at limit terms before n (rest ++ m ∷ []) grown) (same_after f ∙ e) ∙ grows f
     at_grows (Some p) e f = ap (reach_at limit terms before n (rest ++ m ∷ []) grown) (legal_after p e) ∙ place_grows p (is_stop (page_place limit terms before p)) refl f
 
-  -- where a stop is reached, a node behind it changes nothing before it
+  -- if a stop is reached, a node after it changes nothing before it
   pub reach_grows : (before ns : List PlainNode) (m : PlainNode) → (reach_from limit terms before ns).fires ≡ true
       → reach_from limit terms before (ns ++ m ∷ []) ≡ with_beyond m (reach_from limit terms before ns)
   reach_grows before [] m f = absurd (true≢false (sym f))
@@ -168,7 +168,7 @@ module _ (limit : ℤ) (terms : List PlainNode → Terms) where
       by_kind line (ins i) grows f = grows (before ++ record { line = line; kind = ins i } ∷ []) f
       by_kind line (act a) grows f = ap (also_reached (acted a)) (grows (before ++ []) f)
 
-  -- ---- where no stop is reached
+  -- ---- if no stop is reached
 
   glue_page : (xs : List PlainNode) → NoActs xs → glue_first xs ≡ glue_or false xs
   glue_page [] h = refl
@@ -250,14 +250,14 @@ module _ (z : Frozen) (k : Course) (page waiting : List PlainNode) (m : PlainNod
       grown : reach_from z.limit (terms_after z) [] (page ++ (waiting ++ m ∷ [])) ≡ with_beyond z.limit (terms_after z) m (reach_from z.limit (terms_after z) [] (page ++ waiting))
       grown = ap (reach_from z.limit (terms_after z) []) (sym (append_assoc page waiting (m ∷ []))) ∙ reach_grows z.limit (terms_after z) [] (page ++ waiting) m (stop_fires a)
 
--- a node came behind what waits
+-- a node came after the waiting nodes
 pub page_grows : (o : Option (ℤ × ℤ)) (st : Bool) (k : Course) (c : Contents) (m : PlainNode) → MayWait c m → IsPageSoFar o st k c → IsPageSoFar o st k (record c { waiting = c.waiting ++ m ∷ [] })
 page_grows None false k c m may h = h
 page_grows None true k c m may h = h
 page_grows (Some f) false k c m may h = underway_grows (page_frozen f c.classes c.boxes) k c.page c.waiting m may h
 page_grows (Some f) true k c m may h = stop_grows (page_frozen f c.classes c.boxes) k c.page c.waiting m may h
 
--- nothing is on the page and its goal is not frozen: what waits and what the boxes hold is free
+-- if nothing is on the page and its goal is not frozen, anything may wait and be in the boxes
 pub page_free : (o : Option (ℤ × ℤ)) (st : Bool) (k : Course) (c d : Contents) → o ≡ None → d.page ≡ c.page → IsPageSoFar o st k c → IsPageSoFar o st k d
 page_free None false k c d e p h = record { loose = subst (λ ns. AllLoose ns) (sym p) h.loose; lasting_is = h.lasting_is ∙ ap (λ ns. ends_lasting (page_shapes ns)) (sym p) }
 page_free None true k c d e p h = h

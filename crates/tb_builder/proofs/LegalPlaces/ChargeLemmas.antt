@@ -122,7 +122,7 @@ boxless : (cs : List Class) → in_boxes [] cs ≡ 0
 boxless [] = refl
 boxless (c ∷ cs) = let h = boxless cs in omega (arith, h)
 
--- a box is of another number
+-- a box of another number
 other_box : (b : Boxed) (bs : List Boxed) (cs : List Class) → has_class cs b.number ≡ false → in_boxes (b ∷ bs) cs ≡ in_boxes bs cs
 other_box b bs [] h = refl
 other_box b bs (c ∷ cs) h =

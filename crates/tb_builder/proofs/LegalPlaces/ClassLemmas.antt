@@ -52,7 +52,7 @@ content_found s (e ∷ es) number (suc k) d h =
     ap (λ b. if b then (boxed_of s e).content else box_content (map (boxed_of s) es) number) (h.before 0 (omega arith))
     ∙ content_found s es number k d (behind_first e es number k d h)
 
--- where no class has the number
+-- if no class has the number
 none_from : (es : List ClassList) (number i : ℕ) → position_from (λ e. e.class.number == number) i es ≡ None → has_class (map (λ e. e.class) es) number ≡ false
 none_from [] number i h = refl
 none_from (e ∷ es) number i h = by_test (e.class.number == number) refl (λ k. none_from es number (i + 1) k)
@@ -77,7 +77,7 @@ size_found s e h = by_void e.void h
     by_void true h = sym (ap (λ ns. size_of (map shape_of ns)) (h refl))
     by_void false h = ap size_of (leaf_shapes (list_at s e.list))
 
--- what is asked of the boxes' contents is that of their lists
+-- what is required of the boxes' contents holds of their lists
 pub fits_at : (s : Lists Node) (es : List ClassList) (k : ℕ) (d : ClassList) → k < length es → VoidEmpty s es → BoxesFit (map (boxed_of s) es) → SizesFit (shapes s (get_or es k d).list)
 fits_at s [] k d w v h = absurd (omega arith)
 fits_at s (e ∷ es) zero d w v h = subst SizesFit (by_void e.void v.0) h.0
@@ -97,7 +97,7 @@ live_at s [] k d w h = absurd (omega arith)
 live_at s (e ∷ es) zero d w h = h.0
 live_at s (e ∷ es) (suc k) d w h = live_at s es k d (omega arith) h.1
 
--- ---- what is known of the class with a number and its box
+-- ---- facts about the class with a number and its box
 
 module _ (s : Lists Node) (es : List ClassList) (number : ℕ) (e : ClassList) (h : IsClassList es number e) where
   pub list_live : AllLive s (box_ids es) → IsLive s e.list

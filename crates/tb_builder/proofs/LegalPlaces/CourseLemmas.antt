@@ -12,6 +12,7 @@ use Rattle.tb_node.specs.declared.Kind.TheVariants as kinds
 use Rattle.tb_node.specs.Shape.{other, is_discardable}
 use Rattle.tb_node.specs.Plain.{hbox, rule, skip, kerned, pen, mark, note, whatsit, Inserted, PlainKind, plain, ins, act, PlainNode, plain_of, plain_kind, node_shape, shape_of, is_act_kind, is_insertion_kind}
 use Rattle.tb_node.specs.Add.{added_node}
+use Rattle.tb_node.specs.Roles.{act_of_kind, insertion_of_kind}
 use Rattle.tb_break.specs.declared.Best.{Best}
 use Rattle.tb_break.specs.declared.Offer.{Offer}
 use Rattle.tb_break.specs.Legal.{ends_lasting}
@@ -33,7 +34,7 @@ use Rattle.tb_builder.specs.declared.Try.{Try}
 use Rattle.tb_builder.specs.Reached.{try_of}
 use Rattle.tb_break.specs.Finding.{penalty_by}
 use Rattle.tb_builder.specs.Places.{page_shapes, glue_first, node_penalty, NoActs}
-use Rattle.tb_builder.specs.Running.{ChampionIs, IsCourseOf, is_loose, AllLoose, act_of_kind, insertion_of_kind, nodes_glue_first}
+use Rattle.tb_builder.specs.Running.{ChampionIs, IsCourseOf, is_loose, AllLoose, nodes_glue_first}
 use Rattle.tb_builder.specs.Offer.{MarksBest, place_here}
 
 -- ---- a node by its kind
@@ -189,7 +190,7 @@ module _ (z : Frozen) (k l : Course) (page : List PlainNode) (bs : List Breakpoi
   pub course_offered : IsCourseOf z l page (bs ++ place_here z page p ∷ [])
   course_offered = by_champion t refl
 
-  -- what is made of the place
+  -- the try of the place
   pub made_is : (made : Try) (line : ℕ) (o : Offer) (sums : Sums) → sums ≡ k.scan.sums → o ≡ offer_of k.scan.best (breakpoint_at index k.scan.sums goal p pens)
       → made ≡ record { line = line; sums = sums; goal = goal; badness = o.badness; penalty = p; cost = o.cost; champion = o.champion }
       → made ≡ try_of line (place_here z page p) (least_cost bs)

@@ -1,4 +1,4 @@
--- The whole page and what waits as one list: its places are those of the page and then those that are reached from there.
+-- The page and what waits as one list: its places are those of the page and then those that are reached past it.
 use Rattle.std.proofs.Common.{◌≡◌, refl, sym, subst, ◌∙◌, ap, ℤ, List, [], ◌∷◌, ◌++◌, Option, None, Some, append_assoc, append-nil}
 use Rattle.tb_node.specs.Plain.{PlainNode}
 use Rattle.tb_break.specs.Legal.{ends_lasting}
@@ -34,7 +34,7 @@ module _ (limit : ℤ) (terms : List PlainNode → Terms) where
       (whole_places (before ++ x ∷ []) xs waiting h.1 (later_quiet (node_penalty (ends_lasting (page_shapes before)) (glue_or (glue_first waiting) xs) x) (page_place limit terms before) _ q)) q
       ∙ ap (λ b. page_places limit terms before (x ∷ xs) (glue_first waiting) ++ breakpoints (reach_from limit terms b waiting).reached) (append_assoc before (x ∷ []) xs)
 
-  -- ---- what is passed, and what lies beyond the stop
+  -- ---- what is passed, and what is beyond the stop
 
   -- the two reach the same place of the list
   pub record SameEnd (v w : Reach) : Type 0 where

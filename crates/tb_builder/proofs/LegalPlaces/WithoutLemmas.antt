@@ -1,4 +1,4 @@
--- A list of a page without one of its acts: its labels are the same but for their places, and what fitted fits.
+-- A list of a page without one of its acts: its labels are the same but for their places, and it fits if the list did.
 use Rattle.std.proofs.Common.{◌≡◌, ◌⊎◌, inl, inr, refl, sym, subst, ◌∙◌, ap, ℕ, ℤ, pos, ◌+ℤ◌, ◌-ℤ◌, Bool, List, [], ◌∷◌, ◌++◌, length, append_assoc, append-nil, arith}
 use Rattle.std.specs.Prelude.{map, ◌==◌, ◌||◌, ◌&&◌, if◌then◌else◌}
 use Rattle.std.proofs.lemmas.List.{map-append}
@@ -82,7 +82,7 @@ terms_bare z ls = λ i. terms_with (charge_bare z.classes ls i) (insertions_bare
       shrink = list_shrink (skip_shapes (met_classes z.classes met));
     }
 
--- the label, by what is kept of the labels before and the sums
+-- the label, from the labels before and the sums
 abbrev label_by : Frozen → Bool → ℤ → ℤ → List Inserted → Sums → Inserted → Label
 label_by z sp charge height is s i =
     if sp then late
@@ -151,7 +151,7 @@ module _ (z : Frozen) (before : List PlainNode) (line : ℕ) (a : Act) (after : 
     heights = λ k known. subst IsAmount (height_without k) (f.heights k known);
   }
 
--- ---- where a list is cut
+-- ---- the cuts of a list
 
 -- of two cuts of one list, one comes first
 pub record CutsFirst (p r b a : List PlainNode) : Type 0 where

@@ -1,4 +1,4 @@
--- A builder stands where its lists were left alone; what callers owe of the nodes and lists that they hand over.
+-- A builder stays sound if its lists were left alone; what callers must show of the nodes and lists that they hand over.
 use Rattle.std.proofs.Common.{◌≡◌, refl, sym, subst, ◌∙◌, ap, ℕ, true, List, [], ◌∷◌, ◌++◌, map, None, Some, is_some, append-nil}
 use Rattle.std.specs.Prelude.{option_to_list}
 use Rattle.std.specs.FinMap.{get}
@@ -16,7 +16,7 @@ use Rattle.tb_builder.proofs.Ownership.OwnedLemmas.{AllSame, same-left, same-rig
 use Rattle.tb_builder.proofs.Handover.JoinLemmas.{Holds, nodes_are, holds_own, sound_from}
 use Rattle.tb_builder.proofs.Ownership.NewLemmas.{fresh_lacks, differ_last, opened_first, opened_none}
 
--- where no list that is live was changed, the lists of these ids are the same
+-- if no live list was changed, the lists of these ids are the same
 pub live_all_same : (s t : Lists Node) (xs : List ℕ) → ((q : ℕ) → IsLive s q → get t.lists q ≡ get s.lists q) → AllLive s xs → AllSame s t xs
 live_all_same s t [] h live = tt
 live_all_same s t (x ∷ xs) h live = (h x live.0, live_all_same s t xs h live.1)
@@ -110,7 +110,7 @@ plain_joins b s n own none known = record {
     no_ids : inner_ids (n ∷ []) ≡ []
     no_ids = ap (λ o. option_to_list o ++ []) none
 
--- an insertion whose list was no list of the builder
+-- an insertion whose list was not the builder's
 pub insertion_joins : (b : Ids) (s : Lists Node) (n : Node) (l : ℕ) → IsOwned b s → inner_of n.kind ≡ Some l → IsLive s l → Lacks l (owned b s) → AllPlain (list_at s l) → is_known (classes_of b) n.kind ≡ true → NodesJoin b s (n ∷ [])
 insertion_joins b s n l own some live apart plain known = record {
   live = subst (AllLive s) (sym one_id) (live, tt);
@@ -122,7 +122,7 @@ insertion_joins b s n l own some live apart plain known = record {
     one_id : inner_ids (n ∷ []) ≡ l ∷ []
     one_id = ap (λ o. option_to_list o ++ []) some
 
--- an empty list that is none of the builder's
+-- an empty list that is not the builder's
 pub empty_joins : (b : Ids) (s : Lists Node) (l : ℕ) → IsOwned b s → IsLive s l → list_at s l ≡ [] → Lacks l (owned b s) → ListJoins b s l
 empty_joins b s l own live empty apart = record {
   live = live;
@@ -130,7 +130,7 @@ empty_joins b s l own live empty apart = record {
   nodes = subst (NodesJoin b s) (sym empty) (record { live = tt; differ = subst AllDiffer (sym (append-nil (owned b s))) own.differ; plain_lists = tt; known = tt });
 }
 
--- an id that named no list before is none of the builder's
+-- an id that named no list before is not the builder's
 pub fresh_apart : (b : Ids) (s : Lists Node) (l : ℕ) → IsOwned b s → get s.lists l ≡ None → Lacks l (owned b s)
 fresh_apart b s l own none = fresh_lacks s l (owned b s) none own.live
 

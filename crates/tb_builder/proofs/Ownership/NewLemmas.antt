@@ -23,7 +23,7 @@ use Rattle.tb_builder.specs.Opened.{AllEmpty, Opened, AllVoid, VoidBoxes}
 use Rattle.tb_builder.proofs.Ownership.OwnedLemmas.{lacks-append, live-append}
 use Rattle.tb_builder.proofs.Turns.MoveLemmas.{list_same, list_other, get_other, live_same_one, live_other}
 
--- ---- one list more
+-- ---- one more list
 
 -- an id that named no list is none of those that name one
 pub fresh_lacks : (t : Lists Node) (l : ℕ) (ids : List ℕ) → get t.lists l ≡ None → AllLive t ids → Lacks l ids
@@ -171,6 +171,6 @@ module _ (s t : Lists Node) (b : Builder) (cs : List Class) (o : Opened s t (own
       empty_page : Unfrozen b.course []
       empty_page = record { loose = tt; lasting_is = lasting }
 
--- a course that was just started for no page
+-- a course that was just started for an empty page
 pub started_lasting : (k : Course) → ((z : Frozen) (page : List PlainNode) → z.goal ≡ pos 0 → z.limit ≡ pos 0 → Differ z.classes → AllLoose page → false ≡ ends_lasting (page_shapes page) → IsCourseOf z k page []) → k.lasting ≡ false
 started_lasting k h = (h (record { goal = pos 0; limit = pos 0; classes = [] }) [] refl refl tt tt refl).lasting_is

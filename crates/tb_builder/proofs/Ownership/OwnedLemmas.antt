@@ -28,7 +28,7 @@ pub lacks-right : (x : ℕ) (xs ys : List ℕ) → Lacks x (xs ++ ys) → Lacks 
 lacks-right x [] ys h = h
 lacks-right x (y ∷ xs) ys h = lacks-right x xs ys h.1
 
--- each of the one is none of the other
+-- no id of one list is in the other
 abbrev pub Apart : List ℕ → List ℕ → Type 0
 Apart [] ys = Unit {0}
 Apart (x ∷ xs) ys = Lacks x ys × Apart xs ys
@@ -104,7 +104,7 @@ abbrev pub AllSame : Lists Node → Lists Node → List ℕ → Type 0
 AllSame s t [] = Unit {0}
 AllSame s t (x ∷ xs) = (get t.lists x ≡ get s.lists x) × AllSame s t xs
 
--- what was changed is none of these
+-- none of these ids was changed
 pub same_from : (s t : Lists Node) (changed xs : List ℕ) → ((q : ℕ) → Lacks q changed → get t.lists q ≡ get s.lists q) → Apart xs changed → AllSame s t xs
 same_from s t changed [] h a = tt
 same_from s t changed (x ∷ xs) h a = (h x a.0, same_from s t changed xs h a.1)
@@ -131,11 +131,11 @@ boxes_same s t (e ∷ es) h = λ i. boxed_with e (lists_same s t e.list h.0 i) �
     boxed_with : ClassList → List Node → Boxed
     boxed_with e ns = record { number = e.class.number; content = content_by e.void (map leaf_of ns) }
 
--- an insertion, where its list is this
+-- an insertion with this list
 abbrev with_inner : ℕ → Insertion → List Node → PlainNode
 with_inner line j ys = record { line = line; kind = ins (record { class = j.class; inner = map leaf_of ys; height = j.height; split_depth = j.split_depth; split_top = j.split_top; floating = j.floating }) }
 
--- nodes read in another store, where the lists of their insertions are the same
+-- nodes seen in another store, in which the lists of their insertions are the same
 pub view_same : (s t : Lists Node) (ns : List Node) → AllSame s t (inner_ids ns) → map (plain_of (list_at t)) ns ≡ map (plain_of (list_at s)) ns
 view_same s t [] same = refl
 view_same s t (n ∷ ns) same = λ i. by_kind n.kind same i ∷ view_same s t ns (rest n.kind same) i

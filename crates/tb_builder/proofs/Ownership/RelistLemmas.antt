@@ -1,4 +1,4 @@
--- The lists of a builder, where other lists changed, or where its nodes went from one of its lists to another.
+-- The lists of a builder, when other lists changed, or when its nodes went from one of its lists to another.
 use Rattle.std.proofs.Common.{◌≡◌, ◌≢◌, sym, subst, ◌∙◌, ap, ℕ, List, [], ◌∷◌, ◌++◌, map, Some}
 use Rattle.std.specs.FinMap.{get}
 use Rattle.tb_pool.specs.Lists.{Lists, list_at}
@@ -50,14 +50,14 @@ module _ (b : Ids) (s t : Lists Node) (own : IsOwned b s) (same : AllSame s t (o
   pub frame_boxes : map (boxed_of t) b.boxes ≡ map (boxed_of s) b.boxes
   frame_boxes = boxes_same s t b.boxes (same-left s t (box_ids b.boxes) (inner_ids (nodes_of b s)) others_same)
 
--- the lists of ids that lack the one that changed
+-- the lists of these ids, if the one that changed is none of them
 pub same_lacking : (s t : Lists Node) (x : ℕ) (ids : List ℕ) → ((q : ℕ) → q ≢ x → get t.lists q ≡ get s.lists q) → Lacks x ids → AllSame s t ids
 same_lacking s t x [] h l = tt
 same_lacking s t x (y ∷ ys) h l = (h y (λ e. l.0 (sym e)), same_lacking s t x ys h l.1)
 
 -- ---- nodes went from one list of the builder to another
 
--- what is held, the page and what waits are these lists now, with the insertions that were there, in their order
+-- what is held, the page and what waits are these lists now, with the same insertions in the same order
 pub record Relisted (b : Ids) (s t : Lists Node) (hs ps ws : List Node) : Type 0 where
   pub held_is : get t.lists b.held ≡ Some hs
   pub page_is : get t.lists b.page ≡ Some ps

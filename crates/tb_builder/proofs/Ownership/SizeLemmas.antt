@@ -11,7 +11,7 @@ use Rattle.tb_node.proofs.AddLemmas.{size-append}
 use Rattle.tb_builder.specs.Next.{SizesFit, IsRoom}
 use Rattle.tb_builder.specs.Room.{IsWide, RoomFits}
 
--- the total is the room of what stands before the rest of a list
+-- the total is the room of what comes before the rest of a list
 pub record Sized (all rest : List Node) (total : ℤ) : Type 0 where
   pub before : List Node
   pub whole : before ++ rest ≡ all
@@ -42,7 +42,7 @@ module _ (all : List Node) (n : Node) (rest : List Node) (total : ℤ) (s : Size
 pub sized_ends : (all : List Node) (total : ℤ) → Sized all [] total → total ≡ size_of (map shape_of all)
 sized_ends all total s = s.total_is ∙ ap (λ ns. size_of (map shape_of ns)) (sym (append-nil s.before) ∙ s.whole)
 
--- ---- lists of which each prefix is an amount
+-- ---- lists whose prefixes are all amounts
 
 apart : (a r b : ℤ) → IsAmount a → IsAmount b → b ≡ a +ℤ r → IsRoom r
 apart a r b p q e = record { low = omega (arith, ints); high = omega (arith, ints) }
@@ -50,7 +50,7 @@ apart a r b p q e = record { low = omega (arith, ints); high = omega (arith, int
 amount_wide : (z : ℤ) → IsAmount z → IsWide z
 amount_wide z h = record { low = omega (arith, ints); high = omega (arith, ints) }
 
--- where each prefix is an amount, the room of each node fits
+-- if each prefix is an amount, the room of each node fits
 pub room_fits : (ns : List Shape) → SizesFit ns → RoomFits ns
 room_fits ns fit = record {
   each = λ before n rest e.

@@ -1,4 +1,4 @@
--- What holds of a builder stays where a store has the same lists, and other spare places.
+-- What holds of a builder stays in a store with the same lists and other spare places.
 use Rattle.std.proofs.Common.{◌≡◌, refl, sym, subst, ◌∙◌, ap, ℕ, true, false, List, [], ◌++◌, is_some, unwrap_or, IsSome}
 use Rattle.std.specs.FinMap.{FinMap, get}
 use Rattle.std.specs.Ordering.{nat_cmp}

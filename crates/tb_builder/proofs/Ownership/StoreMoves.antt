@@ -1,4 +1,4 @@
--- Lists of the store that are cut, joined and given on.
+-- Lists of the store that are cut, joined and passed on.
 use Rattle.std.proofs.Common.{◌≡◌, ◌≢◌, inl, inr, sym, ◌∙◌, ap, ℕ, ℤ, List, [], ◌++◌, take, drop, Some, is_some, unwrap_or}
 use Rattle.std.proofs.lemmas.Bool.{cases_eq}
 use Rattle.std.specs.FinMap.{get, insert}
@@ -21,7 +21,7 @@ module _ {T : Type 0} where
     others = λ q na nb. ap (λ m. get m q) e ∙ get-insert_other (with_list s a xs) b ys q nb ∙ get-insert_other s.lists a xs q na;
   }
 
-  -- what a list is, by the map
+  -- the items of a list, from the map
   pub list_got : (s : Lists T) (a : ℕ) (xs : List T) → get s.lists a ≡ Some xs → list_at s a ≡ xs
   list_got s a xs e = ap (λ o. unwrap_or o []) e
 
@@ -34,7 +34,7 @@ module _ {T : Type 0} where
   pub live_kept : (s t : Lists T) (a : ℕ) → get t.lists a ≡ get s.lists a → IsLive s a → IsLive t a
   live_kept s t a e live = ap is_some e ∙ live
 
-  -- a live list, as the map has it
+  -- a live list, in the map
   pub live_has : (s : Lists T) (a : ℕ) → IsLive s a → get s.lists a ≡ Some (list_at s a)
   live_has s a live = let v = has_value (get s.lists a) live in v.1 ∙ ap Some (sym (ap (λ o. unwrap_or o []) v.1))
 

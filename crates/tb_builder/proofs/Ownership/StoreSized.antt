@@ -134,11 +134,11 @@ module _ (held : ℕ → List Node) where
 pub list-back : (store : Lists Node) (l : ℕ) → All IsSizedOnPage (plain_list store l) → All IsSizedNode (list_at store l)
 list-back store l h = All-from_recursion IsSizedNode (list_at store l) (nodes_back (list_at store) (list_at store l) (recursion_from_All IsSizedOnPage (plain_list store l) h))
 
--- and there are at most as many as count
+-- and it has at most as many as are counted
 pub list-length : (store : Lists Node) (l : ℕ) → length (list_at store l) ≤ node_count (plain_list store l)
 list-length store l = length_by (list_at store) (list_at store l)
 
--- where neither insertions nor acts are seen, the store's nodes are none
+-- if the definitions see neither insertions nor acts, the store's nodes are neither
 module _ (held : ℕ → List Node) where
   kind_plain : (k : Kind) → IsMatterKind (plain_kind held k) → is_plain k ≡ true
   kind_plain (kinds.Hbox what h d) m = refl

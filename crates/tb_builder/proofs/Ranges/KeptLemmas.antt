@@ -1,5 +1,5 @@
--- The contents of a builder stay sized: `next` may be called, and each event that it answers and a page that fires leave
--- sized contents, with no more nodes than before.
+-- The contents of a builder stay sized: `next` may be called, and each event that it returns, and a page that fires,
+-- leave sized contents with no more nodes than before.
 use Rattle.std.proofs.Common.{◌≡◌, refl, sym, subst, ◌∙◌, ap, ◌+◌, ◌≤◌, ℤ, pos, Bool, true, false, List, [], ◌∷◌, ◌++◌, length, map, Option, None, Some, append-nil, arith}
 use Rattle.std.specs.Prelude.{All, if◌then◌else◌}
 use Rattle.std.proofs.lemmas.Int.{ints}
@@ -30,7 +30,7 @@ use Rattle.tb_builder.proofs.Ranges.PrunedLemmas.{no_skip, pruned_nodes_longer, 
 use Rattle.tb_builder.proofs.Ranges.SizedLemmas.{FiredSized, fired_sized}
 use Rattle.tb_builder.proofs.FiredPages.FiredCounts.{fired_fewer}
 
--- ---- what `next` asks
+-- ---- what `next` requires
 
 laid_again : (s t : Bool) (top : ℤ) (page waiting : List PlainNode) → IsExtent top → All IsSizedOnPage (whole_by s t page waiting)
     → All IsSizedOnPage (laid_with t top page waiting) × (node_count (laid_with t top page waiting) ≤ node_count (whole_by s t page waiting) + 1)
@@ -87,7 +87,7 @@ module _ (c : Contents) (ask : Ask) (sized : IsSizedContents c) (asked : IsSized
         total = let a = class_boxes_total c.classes c.boxes sized.classes_fit sized.boxes few in omega (arith, a, ap size_total e);
       }
 
-  -- what `next` asks, of at most 2^22 nodes and the glue at the top
+  -- what `next` requires, for at most 2^22 nodes and the glue at the top
   pub kept-fits : whole_count c ≤ 4194305 → box_count c.boxes ≤ 4194304 → NextFits c ask
   kept-fits few few_boxed = record {
     asked = asked_fits ask asked;
@@ -127,12 +127,12 @@ stays_fewer c d ask s h = let a = ap node_count s.held in let b = ap box_count s
 
 -- ---- an event
 
--- the list that counts is sized, and has at most as many nodes
+-- the page so far and what waits as one list are sized, and have at most as many nodes
 abbrev IsNow : Contents → List PlainNode → Type 0
 IsNow d ns = All IsSizedOnPage (whole_list d) × (node_count (whole_list d) ≤ node_count ns)
 
 module _ (ask : Ask) (d : Contents) (ns : List PlainNode) (h : All IsSizedOnPage ns) where
-  -- the page so far and what follows it are that list, or are without an act of it
+  -- the page so far and what follows it are that list, perhaps without one act
   goes_now : (ms : List PlainNode) → d.stopped ≡ false → laid d ask ≡ ms → All IsSizedOnPage ms → node_count ms ≤ node_count ns → IsNow d ns
   goes_now ms going e r fewer =
       let same : laid_out (pos 0) d.page d.waiting ≡ whole_list d = sym (ap (λ t. laid_by t d.page d.waiting) going) in

@@ -1,4 +1,4 @@
--- What `next` asks holds of contents whose nodes are sized and not too many.
+-- What `next` requires holds of contents whose nodes are sized and not too many.
 use Rattle.std.proofs.Common.{◌≡◌, refl, sym, subst, ◌∙◌, ap, ℕ, ◌+◌, ◌*◌, ◌≤◌, ℤ, pos, ◌+ℤ◌, ◌-ℤ◌, Bool, true, false, List, [], ◌∷◌, ◌++◌, length, take, drop, Option, None, Some, length-append, arith}
 use Rattle.std.specs.Prelude.{map, All, ◌==◌, ◌||◌, ◌&&◌, int_le, nat_le, int_lt, unsigned_abs, if◌then◌else◌}
 use Rattle.std.proofs.lemmas.Int.{ints}
@@ -96,7 +96,7 @@ kind_fits (plain m) s few = tt
 kind_fits (ins i) s few = inserted_fits i s (omega (arith, few))
 kind_fits (act a) s few = tt
 
--- ---- where an insertion is split
+-- ---- the place at which an insertion is split
 
 legal_within : (before rest : List Shape) (p : ℤ) → All IsSized rest → split_penalty before rest ≡ Some p → IsWithin 1073741824 p
 legal_within before [] p h e = let same : eject_penalty ≡ p = cc in subst (IsWithin 1073741824) same (record { low = omega (arith, ints); high = omega (arith, ints) })
@@ -189,7 +189,7 @@ inner_count : List Labelled → ℕ
 inner_count [] = 0
 inner_count (l ∷ ls) = length l.inserted.inner + inner_count ls
 
--- the labels of a page, and what they come to
+-- the labels of a page, and their sums
 record LabelsFit (ls : List Labelled) (count : ℕ) : Type 0 where
   all : All LabelFits ls
   inner : inner_count ls ≤ count
@@ -446,7 +446,7 @@ boxes_total (c ∷ cs) bs b =
     let later = boxes_total cs bs b in
     omega (arith, here, later)
 
--- what the boxes of classes hold, each of which counts once
+-- what the boxes of classes hold, each counted once
 pub class_boxes_total : (cs : List Class) (bs : List Boxed) → ClassesFit cs → All IsSizedBox bs → box_count bs ≤ 4194304 → size_total (class_boxes cs bs) ≤ 9007199254740992
 class_boxes_total cs bs c b few = let a = boxes_total cs bs b in let once = boxes_once bs cs c in omega (arith, a, once, few)
 

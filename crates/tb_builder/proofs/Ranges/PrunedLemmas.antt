@@ -1,4 +1,4 @@
--- A list that is pruned: how many nodes it has, and that they are sized, under another top skip and with more nodes too.
+-- A pruned list: how many nodes it has, and that they are sized, also under another top skip and with more nodes.
 use Rattle.std.proofs.Common.{◌≡◌, refl, ap, ℕ, suc, ◌+◌, ◌≤◌, ℤ, pos, Bool, true, false, List, [], ◌∷◌, ◌++◌, length, map, arith}
 use Rattle.std.specs.Prelude.{All, if◌then◌else◌}
 use Rattle.std.specs.List.{AllByRecursion}
@@ -43,7 +43,7 @@ vanished t n (mark w) ls v = let no : ⊥ = grind (arith, v) in absurd no
 vanished t n (note w) ls v = let no : ⊥ = grind (arith, v) in absurd no
 vanished t n whatsit ls v = let no : ⊥ = grind (arith, v) in absurd no
 
--- where the first node vanishes, the glue at the top takes its place
+-- if the first node vanishes, the glue at the top takes its place
 pub pruned_no_longer : (t : ℤ) (ls : List Leaf) → BeginsVanishing (map leaf_shape ls) → length (pruned_leaves t ls) ≤ length ls
 pruned_no_longer t [] v = omega arith
 pruned_no_longer t (l ∷ ls) v = vanished t l.line l.matter ls v
@@ -113,7 +113,7 @@ module _ (t u : ℤ) where
   pruned_same [] = refl
   pruned_same (n ∷ ns) = node_same n.line n.kind ns (pruned_same ns)
 
--- ---- where the first node vanishes
+-- ---- if the first node vanishes
 
 node_vanished : (t : ℤ) (n : ℕ) (k : PlainKind) (ns : List PlainNode) → BeginsVanishing (kind_shape k ∷ map node_shape ns) → node_count (pruned_nodes t (record { line = n; kind = k } ∷ ns)) ≤ kind_count k + node_count ns
 node_vanished t n (plain (hbox w a b)) ns v = let no : ⊥ = grind (arith, v) in absurd no
@@ -131,7 +131,7 @@ pub nodes_no_longer : (t : ℤ) (ns : List PlainNode) → BeginsVanishing (map n
 nodes_no_longer t [] v = omega arith
 nodes_no_longer t (n ∷ ns) v = node_vanished t n.line n.kind ns v
 
--- ---- nodes that come to the end
+-- ---- more nodes at the end
 
 module _ (t : ℤ) (d : IsExtent t) (ms : List PlainNode) (r : All IsSizedOnPage ms) where
   more_ranged : (n : ℕ) (k : PlainKind) (ns : List PlainNode) → (AreSized (pruned_nodes t ns) → AreSized (pruned_nodes t (ns ++ ms))) → AreSized (pruned_nodes t (record { line = n; kind = k } ∷ ns)) → AreSized (pruned_nodes t (record { line = n; kind = k } ∷ (ns ++ ms)))
@@ -192,7 +192,7 @@ back-sized xs ys h = All-from_recursion IsSizedOnPage ys (back_by xs ys (recursi
 abbrev pub laid_with : Bool → ℤ → List PlainNode → List PlainNode → List PlainNode
 laid_with t top page waiting = page ++ (if t then waiting else pruned_nodes top waiting)
 
--- the list that counts, by whether a stop was tried last and whether the page has a box
+-- the page so far and what waits as one list, by whether a stop was tried last and whether the page has a box
 abbrev pub whole_by : Bool → Bool → List PlainNode → List PlainNode → List PlainNode
 whole_by true t page waiting = page ++ waiting
 whole_by false t page waiting = laid_with t (pos 0) page waiting

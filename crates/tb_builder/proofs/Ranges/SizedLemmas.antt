@@ -1,4 +1,4 @@
--- After a page fired its nodes are sized still: those of its body, those that wait, those that are held, and those in the boxes.
+-- After a page fired its nodes are still sized: those of its body, those that wait, those that are held, and those in the boxes.
 use Rattle.std.proofs.Common.{refl, ℕ, ℤ, Bool, true, false, List, [], ◌∷◌, ◌++◌, length, take, drop, Option, None, Some, arith}
 use Rattle.std.specs.Prelude.{map, All, ◌==◌, not, if◌then◌else◌}
 use Rattle.std.proofs.lemmas.Int.{ints}
@@ -18,7 +18,7 @@ use Rattle.tb_builder.specs.Next.{fired_page}
 use Rattle.tb_builder.specs.Pageable.{IsSizedInserted, IsSizedKind, IsSizedOnPage, IsSizedBox}
 use Rattle.tb_builder.proofs.Ranges.PageableLemmas.{glue_sized}
 
--- ---- what is passed and what lies beyond
+-- ---- what is passed and what is beyond
 
 pub record EndSized (w : Reach) : Type 0 where
   pub passed : All IsSizedOnPage w.passed

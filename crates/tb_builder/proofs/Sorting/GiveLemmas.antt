@@ -1,4 +1,4 @@
--- The insertion that is first on a page gives nodes to the box of its class, is held, or goes.
+-- The insertion at the front of a page gives nodes to the box of its class, is held, or goes.
 use Rattle.std.proofs.Common.{◌≡◌, ◌≢◌, ◌⊎◌, inl, inr, refl, sym, subst, ◌∙◌, ap, ℕ, true, List, [], ◌∷◌, ◌++◌, map, Some, append_assoc}
 use Rattle.std.specs.Prelude.{option_to_list}
 use Rattle.std.specs.FinMap.{get, insert, remove}
@@ -10,10 +10,10 @@ use Rattle.tb_node.specs.declared.Insertion.{Insertion}
 use Rattle.tb_node.specs.declared.Kind.{Kind}
 use Rattle.tb_node.specs.declared.Kind.TheVariants as kinds
 use Rattle.tb_node.specs.Plain.{plain_of, leaf_of, plain_list}
+use Rattle.tb_node.specs.Roles.{insertion_of_kind}
 use Rattle.tb_insert.specs.declared.Class.{Class}
 use Rattle.tb_builder.specs.Owned.{Lacks, AllDiffer, AllLive, inner_of, inner_ids, Ids, nodes_of, box_ids, own_ids, owned, AllPlain, HoldPlain, has_class, ClassesFit, is_known, AllKnown, classes_of, IsOwned}
 use Rattle.tb_builder.specs.Contents.{boxed_of}
-use Rattle.tb_builder.specs.Running.{insertion_of_kind}
 use Rattle.tb_builder.specs.Firing.{opened, box_list, box_with}
 use Rattle.tb_builder.proofs.Ownership.OwnedLemmas.{AllSame, lacks-append, lacks-left, lacks-right, differ-left, lists_same, live_same, plain_same, void_same, boxes_same, view_same, inner-append, same-left, same-right, live-left, plain-left, plain-right, plain-append, known-append, known-left, known-right}
 use Rattle.tb_builder.proofs.Sorting.RestLemmas.{plain-both}
@@ -83,12 +83,12 @@ module _ (s t : Lists Node) (a b : ℕ) (xs ys : List Node) (g : Got s t a b xs 
       one (inr (inl e)) = subst AllPlain (sym (ap (list_at t) e ∙ list_got t b ys g.second)) r
       one (inr (inr e)) = subst AllPlain (sym (lists_same s t q e)) h.0
 
-  -- ids of which none is one of the two
+  -- ids that are neither of the two
   same_two : (ids : List ℕ) → Lacks a ids → Lacks b ids → AllSame s t ids
   same_two [] la lb = tt
   same_two (q ∷ ids) la lb = (g.others q (λ e. la.0 (sym e)) (λ e. lb.0 (sym e)), same_two ids la.1 lb.1)
 
--- ---- the insertion that is first on the page
+-- ---- the insertion at the front of the page
 
 pub insertion_is : (k : Kind) (i : Insertion) → insertion_of_kind k ≡ Some i → k ≡ kinds.Ins i
 insertion_is (kinds.Hbox what h d) i e = cc
@@ -229,7 +229,7 @@ module _ (b : Ids) (s : Lists Node) (n : Node) (ns : List Node) (i : Insertion) 
     pub given_boxes : map (boxed_of t) (opened i.class b.boxes) ≡ map (box_with i.class (map leaf_of gave)) (map (boxed_of s) b.boxes)
     given_boxes = opened-boxes s t i.class gave b.boxes class_there own.classes (differ-left (box_ids b.boxes) (inner_ids (nodes_of b s)) own.differ.1.1.1.1) boxes_same_but own.void_empty (list_got t box_here (list_at s box_here ++ gave) g.first)
 
-    -- the insertions before and behind it are as they were
+    -- the insertions before and after it are as they were
     inner_lack : Lacks box_here (inner_ids (list_at s b.held) ++ i.list ∷ behind)
     inner_lack = subst (Lacks box_here) nodes_apart (box_lacks i.class b.boxes (inner_ids (nodes_of b s)) class_there own.differ.1.1.1.1)
 
@@ -312,7 +312,7 @@ module _ (b : Ids) (s : Lists Node) (n : Node) (ns : List Node) (i : Insertion) 
     gone_owned : owned b t ≡ b.page ∷ beside
     gone_owned = ap (λ is. own_ids b ++ is) gone_inner
 
-    -- what was the builder's, but for the list that goes
+    -- what was the builder's, without the list that goes
     owned_without : owned b s ≡ ahead ++ i.list ∷ behind → ahead ++ behind ≡ b.page ∷ beside
     owned_without x = append_assoc (own_ids b) (inner_ids (list_at s b.held)) behind
 
@@ -359,7 +359,7 @@ module _ (b : Ids) (s : Lists Node) (n : Node) (ns : List Node) (i : Insertion) 
     pub gone_waiting : plain_list t b.waiting ≡ plain_list s b.waiting
     gone_waiting = ap (map (plain_of (list_at t))) (lists_same s t b.waiting beside_same.0) ∙ view_same s t (list_at s b.waiting) (same-right s t (inner_ids ns) (inner_ids (list_at s b.waiting)) behind_left)
 
-  -- ---- the insertion, with another height perhaps, is held
+  -- ---- the insertion is held, perhaps with another height
 
   pub relisted_hold : (t : Lists Node) (m : Node) → inner_of m.kind ≡ inner_of n.kind → is_known (classes_of b) m.kind ≡ true → t.lists ≡ insert (with_list s b.page ns) b.held (list_at s b.held ++ m ∷ [])
       → Relisted b s t (list_at s b.held ++ m ∷ []) ns (list_at s b.waiting)
@@ -376,7 +376,7 @@ module _ (b : Ids) (s : Lists Node) (n : Node) (ns : List Node) (i : Insertion) 
             (known-append (classes_of b) (list_at s b.held) (m ∷ (ns ++ list_at s b.waiting)) known_all.0 (known, known_all.1.1));
       }
 
--- the insertion that is first is of one of the classes, also where it has another height
+-- the insertion at the front is of one of the classes, also with another height
 module _ (b : Ids) (s : Lists Node) (n : Node) (ns : List Node) (i : Insertion) (own : IsOwned b s) (first : list_at s b.page ≡ n ∷ ns) (is : insertion_of_kind n.kind ≡ Some i) where
   pub first_known : is_known (classes_of b) n.kind ≡ true
   first_known = ap (is_known (classes_of b)) (insertion_is n.kind i is) ∙ class_there b s n ns i own first is

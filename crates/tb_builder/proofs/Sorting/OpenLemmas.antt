@@ -77,9 +77,9 @@ box_apart q k (e ∷ es) h l = by_class (e.class.number == k) h (λ x. box_apart
     by_class true h later = l.0
     by_class false h later = later h
 
--- ---- what the boxes hold, where the list of one grew and no other changed
+-- ---- what the boxes hold, if the list of one grew and no other changed
 
--- the list of no box but this changed
+-- no other box's list changed
 abbrev pub OthersSame : Lists Node → Lists Node → ℕ → List ℕ → Type 0
 OthersSame s t own [] = Unit {0}
 OthersSame s t own (x ∷ xs) = (x ≢ own → get t.lists x ≡ get s.lists x) × OthersSame s t own xs
@@ -118,7 +118,7 @@ boxes_behind s t own k ls (e ∷ es) h l o = by_class (e.class.number == k) refl
         ∙ sym (ap (λ b. if b then record (boxed_of s e) { content = Some (content_of (boxed_of s e).content ++ ls) } else boxed_of s e) is)) i
         ∷ later h i)
 
--- what a box holds is its list, where a void one holds nothing
+-- what a box holds is its list, if a void one holds nothing
 held_content : (s : Lists Node) (e : ClassList) → (e.void ≡ true → list_at s e.list ≡ []) → leaf_list s e.list ≡ content_of (boxed_of s e).content
 held_content s e h = by_void e.void h
   where
@@ -148,7 +148,7 @@ opened-boxes s t k more (e ∷ es) h c d o v grown = by_class (e.class.number ==
         ∙ sym (ap (λ b. if b then record (boxed_of s e) { content = Some (content_of (boxed_of s e).content ++ map leaf_of more) } else boxed_of s e) is)) i)
         ∷ later h o.1 grown i)
 
--- the list of a box is none of those that the lists of all boxes differ from
+-- if the lists of all boxes differ from these, so does the list of one
 pub box_lacks : (k : ℕ) (es : List ClassList) (ids : List ℕ) → has_class (map (λ e. e.class) es) k ≡ true → AllDiffer (box_ids es ++ ids) → Lacks (box_list k es) ids
 box_lacks k [] ids h d = absurd (true≢false (sym h))
 box_lacks k (e ∷ es) ids h d = by_class (e.class.number == k) h (λ x. box_lacks k es ids x d.1)

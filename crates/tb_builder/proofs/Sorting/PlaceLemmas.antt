@@ -1,11 +1,11 @@
--- The first insertion of a list is looked for.
-use Rattle.std.proofs.Common.{◌≡◌, refl, sym, subst, ◌∙◌, ap, ℕ, ◌+◌, ◌-◌, ◌≤◌, ◌<◌, false, true, List, [], ◌∷◌, ◌++◌, length, take, drop, append_assoc, append-nil, length-append, arith}
+-- The search for the first insertion of a list.
+use Rattle.std.proofs.Common.{◌≡◌, refl, sym, subst, ◌∙◌, ap, ℕ, ◌-◌, ◌≤◌, ◌<◌, false, true, List, [], ◌∷◌, ◌++◌, length, take, drop, append_assoc, append-nil, length-append, arith}
 use Rattle.std.proofs.lemmas.Bool.{true≢false}
 use Rattle.std.proofs.Math.Seq.{take-append_seam, drop-append_seam}
 use Rattle.tb_node.specs.declared.Node.{Node}
 use Rattle.tb_builder.specs.Firing.{is_insertion, NoInsertions, begins_with_insertion, InsertionAt}
 
--- so many nodes are left, and none before them is an insertion
+-- this many nodes are left, and none before them is an insertion
 pub record Looking (ns rest : List Node) (left : ℕ) : Type 0 where
   pub ahead : List Node
   pub parts : ns ≡ ahead ++ rest
@@ -44,7 +44,7 @@ module _ (ns : List Node) (n : Node) (rest : List Node) (left : ℕ) (h : Lookin
 pub looking_none : (ns : List Node) (left : ℕ) → Looking ns [] left → NoInsertions ns
 looking_none ns left h = subst NoInsertions (sym (h.parts ∙ append-nil h.ahead)) h.plain
 
--- what is known of the first insertion
+-- facts about the first insertion
 module _ (ns : List Node) (place : ℕ) (h : InsertionAt ns place) where
   pub place_within : place < length ns
   place_within = by_rest h.behind h.parts h.first

@@ -83,7 +83,7 @@ room-lasting ns h = record { each = each; prefixes = prefixes }
         let first : m ≡ other = cc in
         subst (λ x. IsWide (room_of x +ℤ size_of before)) (sym first) (more_wide (size_of before) (h.prefixes before rest same))
 
--- glue of a room that fits before a list of which each part fits
+-- glue whose room fits, before a list each part of which fits
 room-topped : (g : Glue) (ns : List Shape) → IsRoom g.width → PartsFit ns → ((before : List Shape) (n : Shape) (rest : List Shape) → before ++ n ∷ rest ≡ ns → IsRoom (room_of n)) → RoomFits (glue g ∷ ns)
 room-topped g ns w parts nodes = record { each = each; prefixes = prefixes }
   where
@@ -113,7 +113,7 @@ room-pruned_at t (kern w) n ns e p parts small later = later
 room-pruned_at t (penalty q) n ns e p parts small later = later
 room-pruned_at t other n ns e p parts small later = subst (λ s. RoomFits (s ∷ map shape_of (pruned_list t ns))) (sym e) (room-lasting (map shape_of (pruned_list t ns)) later)
 
--- the room of a list that is pruned
+-- the room of a pruned list
 pub room-pruned : (t : ℤ) (ns : List Node) → IsAmount t → PartsFit (map shape_of ns) → NodesFit (map shape_of ns) → RoomFits (map shape_of (pruned_list t ns))
 room-pruned t [] p parts nodes = record { each = each; prefixes = prefixes }
   where
@@ -155,7 +155,7 @@ pub plain-both : (ms ns : List Node) → AllPlain ms → AllPlain ns → AllPlai
 plain-both [] ns a b = b
 plain-both (m ∷ ms) ns a b = (a.0, plain-both ms ns a.1 b)
 
--- ---- behind a place
+-- ---- after a place
 
 shapes_apart : (k : ℕ) (ns : List Node) → map shape_of (take k ns) ++ map shape_of (drop k ns) ≡ map shape_of ns
 shapes_apart k ns = sym (map-append shape_of (take k ns) (drop k ns)) ∙ ap (map shape_of) (take-append-drop k ns)
@@ -163,14 +163,14 @@ shapes_apart k ns = sym (map-append shape_of (take k ns) (drop k ns)) ∙ ap (ma
 pub nodes-dropped : (k : ℕ) (ns : List Node) → NodesFit (map shape_of ns) → NodesFit (map shape_of (drop k ns))
 nodes-dropped k ns fit = nodes-behind (map shape_of (take k ns)) (map shape_of (drop k ns)) (subst NodesFit (sym (shapes_apart k ns)) fit)
 
--- the room of what is left of a list behind a place, pruned
+-- the room of the rest of a list after a place, pruned
 pub room-rest : (t : ℤ) (k : ℕ) (ns : List Node) → IsAmount t → NodesFit (map shape_of ns) → SizesFit (map shape_of ns) → RoomFits (map shape_of (pruned_list t (drop k ns)))
 room-rest t k ns p nodes sizes =
     room-pruned t (drop k ns) p
     (parts-behind (map shape_of (take k ns)) (map shape_of (drop k ns)) (subst PartsFit (sym (shapes_apart k ns)) (parts_fit (map shape_of ns) sizes)))
     (nodes-dropped k ns nodes)
 
--- ---- a list of which the first node vanishes is no longer once it is pruned
+-- ---- a list whose first node vanishes is no longer once it is pruned
 
 pruned_at-fewer : (t : ℤ) (s : Shape) (n : Node) (ns : List Node) → is_discardable s ≡ true → length (pruned_at glue_before t s n ns (pruned_list t ns)) ≤ suc (length ns)
 pruned_at-fewer t (box h d) n ns e = absurd (true≢false (sym e))

@@ -1,4 +1,4 @@
--- What a builder holds once the insertion that is first on its page gave to its box, went or was held.
+-- What a builder holds once the insertion at the front of its page gave to its box, went or was held.
 use Rattle.std.proofs.Common.{◌≡◌, refl, sym, subst, ◌∙◌, ap, ℕ, ℤ, true, List, [], ◌∷◌, ◌++◌, map, length, Some, append-nil, take, drop}
 use Rattle.std.specs.FinMap.{insert, remove}
 use Rattle.std.proofs.lemmas.List.{map-append, map-id, take-map, drop-map}
@@ -9,6 +9,7 @@ use Rattle.tb_node.specs.declared.Kind.TheVariants as kinds
 use Rattle.tb_node.specs.Plain.{Leaf, leaf_of, leaf_shape, Inserted, inserted_of, PlainNode, plain_of, ins, on_line, plain_list}
 use Rattle.tb_node.specs.Sums.{size_of}
 use Rattle.tb_node.specs.Fit.{shapes}
+use Rattle.tb_node.specs.Roles.{insertion_of_kind}
 use Rattle.tb_break.specs.Prune.{pruned_leaves, pruned_list}
 use Rattle.tb_break.proofs.PruneLemmas.{leaf-pruned_list}
 use Rattle.tb_insert.proofs.AccountLemmas.{leaf_shapes}
@@ -17,7 +18,6 @@ use Rattle.tb_builder.specs.Fired.{again_with, unless_empty}
 use Rattle.tb_builder.specs.declared.Builder.{Builder}
 use Rattle.tb_builder.specs.Owned.{Lacks, inner_of, Ids, ids_of, owned, AllPlain, is_known, classes_of, IsOwned}
 use Rattle.tb_builder.specs.Contents.{boxed_of, leaf_list, contents_of}
-use Rattle.tb_builder.specs.Running.{insertion_of_kind}
 use Rattle.tb_builder.specs.Firing.{share_held, opened, box_list, box_with, GivesToBox, Takes, LeavesPage, SharesOut}
 use Rattle.tb_builder.proofs.Ownership.RelistLemmas.{relisted_own, relisted_others, relisted_keeps, relisted_held, relisted_page, relisted_waiting, relisted_boxes}
 use Rattle.tb_builder.proofs.Turns.FreezeLemmas.{plain_insertion}
@@ -113,7 +113,7 @@ module _ (b d : Builder) (s t u : Lists Node) (n : Node) (i : Insertion) (gave k
   pub gives_boxes : (contents_of d u).boxes ≡ map (box_with i.class (map leaf_of gave)) (contents_of b s).boxes
   gives_boxes = drops.boxes ∙ gives.boxes
 
--- what is held of an insertion depends on its list alone and on what stays of it
+-- what is held of an insertion depends only on its list and on what is left of it
 unless_same : (i j : Inserted) (ns : List Leaf) → ((ms : List Leaf) → again_with i ms ≡ again_with j ms) → unless_empty i ns ≡ unless_empty j ns
 unless_same i j [] e = refl
 unless_same i j (n ∷ ns) e = ap (λ k. k ∷ []) (e (n ∷ ns))

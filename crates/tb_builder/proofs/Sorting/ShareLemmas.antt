@@ -1,4 +1,4 @@
--- What the account of a page tells of an insertion is what its label gives.
+-- What the account of a page says of an insertion is what its label gives.
 use Rattle.std.proofs.Common.{◌≡◌, ◌⊎◌, inl, inr, refl, sym, subst, ◌∙◌, ap, ℕ, ◌+◌, ◌<◌, ◌≤◌, Bool, true, false, List, [], ◌∷◌, ◌++◌, length, take, drop, map, Option, Some, None, append_assoc, append-nil, length-append, arith}
 use Rattle.std.specs.Prelude.{ℤ, pos, ◌+ℤ◌, ◌-ℤ◌, int_le, ◌==◌, ◌||◌, ◌&&◌, nat_lt, nat_le, if◌then◌else◌}
 use Rattle.std.proofs.lemmas.Bool.{eq-eqb}
@@ -18,7 +18,7 @@ use Rattle.tb_builder.specs.declared.Share.TheVariants.{All, Front, Nothing}
 use Rattle.tb_builder.specs.Fired.{Boxed, content_of, given_by, given_to, gives, is_given, box_after, held_of, held_insertions, unless_empty}
 use Rattle.tb_builder.specs.Firing.{share_of, share_up_to, share_told, share_given, share_gives, share_held, box_shared}
 
--- ---- one label more
+-- ---- one more label
 
 last-append : (o : Option ℕ) (ls : List Labelled) (l : Labelled) (k : ℕ) → last_from o (ls ++ l ∷ []) k ≡ (if (l.inserted.class == k) && is_let_in l.label then Some l.index else last_from o ls k)
 last-append o [] l k = refl
@@ -42,7 +42,7 @@ labelled-append z ls before (x ∷ xs) ys =
     labelled-append z (labelled_with z ls before x.line x.kind) (before ++ x ∷ []) xs ys
     ∙ ap (λ b. labelled_from z (labelled_from z ls before (x ∷ xs)) b ys) (append_assoc before (x ∷ []) xs)
 
--- the labels of a list and of one node more
+-- the labels of a list and of one more node
 pub labelled-push : (z : Frozen) (xs : List PlainNode) (n : PlainNode) → labelled z (xs ++ n ∷ []) ≡ labelled_with z (labelled z xs) xs n.line n.kind
 labelled-push z xs n = labelled-append z [] [] xs (n ∷ [])
 
@@ -187,7 +187,7 @@ module _ (z : Frozen) (k : ℕ) where
       by_kind (ins i) h = cut-with ls before x.line i (cut_in (labelled_from z (labelled_with z ls before x.line (ins i)) (before ++ x ∷ []) xs) k) (h (labelled_with z ls before x.line (ins i)))
       by_kind (act a) h = cut_fewer (length before) (cut_in ls k) (cut_in (labelled_from z ls (before ++ x ∷ []) xs) k) (h ls)
 
-  -- after a split one, none of the class is let in
+  -- after a split insertion, none of the class is let in
   late_label : (ls : List Labelled) (before : List PlainNode) (i : Inserted) → has_split ls i.class ≡ true → label_of z ls before i ≡ late
   late_label ls before i e = grind (arith, e)
 
@@ -216,7 +216,7 @@ module _ (z : Frozen) (k : ℕ) where
   last-stays ls before [] e = refl
   last-stays ls before (x ∷ xs) e = last-stays (labelled_with z ls before x.line x.kind) (before ++ x ∷ []) xs (split-stays ls before x.line x.kind e) ∙ last-stays-one ls before x.line x.kind e
 
-  -- where none is split, none is cut
+  -- if none is split, none is cut
   cut-none : (ls : List Labelled) → has_split ls k ≡ false → cut_in ls k ≡ None
   cut-none [] e = refl
   cut-none (l ∷ ls) e = by_class (l.inserted.class == k) l.label (λ h. cut-none ls h) e
@@ -228,7 +228,7 @@ module _ (z : Frozen) (k : ℕ) where
       by_class true late h e = h e
       by_class false b h e = h e
 
--- ---- what is told
+-- ---- what the account says
 
 up_to-below : (n : ℕ) (o : Option ℕ) → IsBelow n o → share_up_to o n ≡ Nothing
 up_to-below n None h = refl
@@ -255,13 +255,13 @@ told-elsewhere n c last ne = by_test (c.0 == n) refl
 told-here : (n p : ℕ) (last : Option ℕ) → share_told (Some (n, p)) last n ≡ Front p
 told-here n p last = ap (λ t. if t then Front p else share_up_to last n) (eq-eqb n n refl)
 
--- a cut before or after this place tells nothing of it
+-- a cut before or after this place says nothing of it
 told-beside : (n : ℕ) (a o : Option (ℕ × ℕ)) (last : Option ℕ) → IsCutBelow n a → IsCutFrom (n + 1) o → share_told (or_else a o) last n ≡ share_up_to last n
 told-beside n None None last p q = refl
 told-beside n None (Some d) last p q = told-elsewhere n d last (λ e. omega (arith, q))
 told-beside n (Some d) o last p q = told-elsewhere n d last (λ e. omega (arith, p))
 
--- an insertion is let in where none of its class was split before
+-- an insertion is let in if none of its class was split before
 abbrev InLabel : Label → Type 0
 InLabel whole = Unit {0}
 InLabel (split f) = Unit {0}
@@ -302,7 +302,7 @@ module _ (z : Frozen) (before rest : List PlainNode) (line : ℕ) (i : Inserted)
   cut_here : cut_of_one this_one i.class ≡ cut_there (length before) (split_before_end (label_of z labels_before before i) i)
   cut_here = ap (λ t. if t then cut_there (length before) (split_before_end (label_of z labels_before before i) i) else None) own_class
 
-  -- the cut that is told, by what is cut before, here and later
+  -- the cut that the account has, by what is cut before, here and later
   cuts : LaterCut (length before + 1) (or_else (cut_in labels_before i.class) (cut_there (length before) (split_before_end (label_of z labels_before before i) i))) (cut_in all_labels i.class)
   cuts =
       let h = cut-later z i.class (labels_before ++ this_one ∷ []) (before ++ record { line = line; kind = ins i } ∷ []) rest in (
@@ -368,7 +368,7 @@ module _ (z : Frozen) (before rest : List PlainNode) (line : ℕ) (i : Inserted)
       by_label (split f) l h = by_end f (nat_lt f.index (length i.inner)) l refl
       by_label late l h = absurd h
 
-  -- what the account of the whole page tells of an insertion is what its label gives
+  -- what the account of the whole page says of an insertion is what its label gives
   pub told_label : share_told (cut_in all_labels i.class) (last_let_in all_labels i.class) (length before) ≡ share_of (label_of z labels_before before i) i
   told_label = by_split (has_split labels_before i.class) refl
     where
@@ -414,7 +414,7 @@ held_share (split f) i = by_end (nat_lt f.index (length i.inner)) refl
     by_end false e = ap (λ ns. unless_empty i (pruned_leaves i.split_top ns)) (drop_past f.index i.inner (past_end (length i.inner) f.index e))
 held_share late i = refl
 
--- ---- one insertion more
+-- ---- one more insertion
 
 held-append : (ls ms : List Labelled) → held_insertions (ls ++ ms) ≡ held_insertions ls ++ held_insertions ms
 held-append [] ms = refl
@@ -486,11 +486,11 @@ box_one ls l b =
     ∙ box_case b (is_given k ls) (i.class == k) (gives l.label) (given_to k ls) (given_by l.label i) (not-given k ls) (late-gives l.label i)
     ∙ (λ j. if gives_share l.label i j then (if sym (same_number b (is_given k ls) i.class (given_to k ls)) j then record after { content = Some (content_of after.content ++ given_share l.label i j) } else after) else after)
 
--- the boxes after one insertion more
+-- the boxes after one more insertion
 pub boxes_one : (ls : List Labelled) (l : Labelled) (bs : List Boxed) → map (box_after (ls ++ l ∷ [])) bs ≡ map (box_shared (share_of l.label l.inserted) l.inserted) (map (box_after ls) bs)
 boxes_one ls l [] = refl
 boxes_one ls l (b ∷ bs) = λ j. box_one ls l b j ∷ boxes_one ls l bs j
 
--- what is held after one insertion more
+-- what is held after one more insertion
 pub held_one : (ls : List Labelled) (l : Labelled) → held_insertions (ls ++ l ∷ []) ≡ held_insertions ls ++ on_line l.line (share_held (share_of l.label l.inserted) l.inserted)
 held_one ls l = held-append ls (l ∷ []) ∙ ap (λ ns. held_insertions ls ++ ns) (append-nil (on_line l.line (held_of l.label l.inserted)) ∙ ap (on_line l.line) (held_share l.label l.inserted))

@@ -6,11 +6,9 @@ use Rattle.std.proofs.lemmas.Bool.{true≢false}
 use Rattle.std.proofs.lemmas.Bool.Decides.{nat_tests}
 use Rattle.std.proofs.lemmas.List.{map-append, length-map}
 use Rattle.std.proofs.lemmas.List.Elements.{filter-append}
-use Rattle.tb_pool.specs.Lists.{Lists, IsLive, list_at, with_list}
+use Rattle.tb_pool.specs.Lists.{Lists, list_at, with_list}
 use Rattle.tb_node.specs.declared.Node.{Node}
 use Rattle.tb_node.specs.declared.Insertion.{Insertion}
-use Rattle.tb_node.specs.declared.Kind.{Kind}
-use Rattle.tb_node.specs.declared.Kind.TheVariants as kinds
 use Rattle.tb_scaled.specs.Scaled.{min_ℤ}
 use Rattle.tb_node.specs.declared.Sums.{Sums}
 use Rattle.tb_node.specs.Sums.{sums_of, list_shrink}
@@ -18,7 +16,8 @@ use Rattle.tb_break.specs.declared.Found.{Found}
 use Rattle.tb_break.specs.Split.{split_of}
 use Rattle.tb_node.specs.Fit.{shapes, NodesFit}
 use Rattle.tb_node.specs.Small.{IsAmount}
-use Rattle.tb_node.specs.Plain.{leaf_shape, node_shape, Inserted, inserted_of, PlainKind, plain, ins, act, PlainNode, plain_of, plain_kind, on_line, is_insertion_kind, without_insertions, plain_list}
+use Rattle.tb_node.specs.Plain.{leaf_shape, node_shape, Inserted, inserted_of, PlainKind, plain, ins, act, PlainNode, plain_of, on_line, is_insertion_kind, without_insertions, plain_list}
+use Rattle.tb_node.specs.Roles.{insertion_of_kind}
 use Rattle.tb_insert.specs.declared.Class.{Class}
 use Rattle.tb_insert.specs.Account.{ClassBox, class_box, insertions, goal_after, class_height, skip_shapes, met_classes, scaled_by, clamped, unscaled_room, has_split, Frozen, Label, whole, split, late, Labelled, label_of, labelled, labelled_from, labelled_with}
 use Rattle.tb_insert.specs.Running.{cut_in, last_let_in, has_insertion}
@@ -30,8 +29,8 @@ use Rattle.tb_builder.specs.Fired.{Boxed, box_after, held_insertions}
 use Rattle.tb_builder.specs.Owned.{Lacks, inner_ids, ids_of, owned, has_class, ClassesFit, AllKnown, classes_of, IsOwned}
 use Rattle.tb_builder.specs.Contents.{Contents, contents_of}
 use Rattle.tb_builder.specs.Next.{SizesFit, InsertedFits}
-use Rattle.tb_builder.specs.Running.{insertion_of_kind}
 use Rattle.tb_builder.specs.Firing.{share_of, share_told, share_held, box_shared, BeginsVanishing, IsShareWithin, SharesOut, SortsTo, Sorted, IsMarkedAt, EachFits, NoInsertions, IsBody, begins_with_insertion}
+use Rattle.tb_builder.proofs.LegalPlaces.CourseLemmas.{no_insertion}
 use Rattle.tb_builder.proofs.Turns.FreezeLemmas.{plain_insertion, no_inner}
 use Rattle.tb_builder.proofs.Ownership.OwnedLemmas.{AllSame, view_same, inner-append, known-left, known-right, known-append}
 use Rattle.tb_builder.proofs.Sorting.ShareLemmas.{labelled-push, told_label, boxes_one, held_one}
@@ -75,7 +74,7 @@ label_within z ls before i =
     (label_choice i (has_split ls i.class) ((int_le scaled (pos 0) || int_le scaled (room +ℤ shrink)) && int_le (height +ℤ i.height) c.class.limit)
     (split_of height_there i.split_depth (map leaf_shape i.inner)) (split-vanishes height_there i.split_depth (map leaf_shape i.inner)))
 
--- ---- what is known of the first node
+-- ---- facts about the first node
 
 class_below : (cs : List Class) (k : ℕ) → ClassesFit cs → has_class cs k ≡ true → k < 255
 class_below [] k fit h = absurd (true≢false (sym h))
@@ -174,7 +173,7 @@ module _ (b d : Builder) (s t : Lists Node) (n : Node) (i : Insertion) (share : 
   pub settled_body : plain_list t body ≡ plain_list s body
   settled_body = ap (map (plain_of (list_at t))) (list_kept s t body body_same) ∙ view_same s t (list_at s body) (subst (AllSame s t) (sym free.plain) tt)
 
--- the page is a node shorter
+-- the page is one node shorter
 module _ (b d : Builder) (s t : Lists Node) (n : Node) (i : Insertion) (share : Share) (settled : SharesOut b s d t n i share) where
   pub settled_left : (ns : List Node) → list_at s b.page ≡ n ∷ ns → length (list_at t b.page) + 1 ≡ length (list_at s b.page)
   settled_left ns first =
@@ -184,18 +183,6 @@ module _ (b d : Builder) (s t : Lists Node) (n : Node) (i : Insertion) (share : 
       omega (arith, f, ap length first)
 
 -- ---- a node that is no insertion goes to the body
-
-pub no_insertion : (held : ℕ → List Node) (k : Kind) → insertion_of_kind k ≡ None → is_insertion_kind (plain_kind held k) ≡ false
-no_insertion held (kinds.Hbox what h d) e = refl
-no_insertion held (kinds.Rule name h d) e = refl
-no_insertion held (kinds.Skip g) e = refl
-no_insertion held (kinds.Kern w) e = refl
-no_insertion held (kinds.Pen p) e = refl
-no_insertion held (kinds.Mark name) e = refl
-no_insertion held (kinds.Note name) e = refl
-no_insertion held kinds.Whatsit e = refl
-no_insertion held (kinds.Ins i) e = cc
-no_insertion held (kinds.Act a) e = refl
 
 plain_labels : (z : Frozen) (ls : List Labelled) (before : List PlainNode) (line : ℕ) (k : PlainKind) → is_insertion_kind k ≡ false → labelled_with z ls before line k ≡ ls
 plain_labels z ls before line (plain m) e = refl
@@ -225,7 +212,7 @@ labels-none z held before (n ∷ ns) h =
     ∙ labels-none z held (before ++ m ∷ []) ns h.1
     ∙ labelled-push z before m ∙ plain_labels z (labelled z before) before n.line m.kind (no_insertion held n.kind (none_there (insertion_of_kind n.kind) h.0))
 
--- labels stay once there is one
+-- once there is a label, there is one later
 labels_stay : (z : Frozen) (l : Labelled) (ls : List Labelled) (before ns : List PlainNode) → has_insertion (labelled_from z (l ∷ ls) before ns) ≡ true
 labels_stay z l ls before [] = refl
 labels_stay z l ls before (n ∷ ns) = by_kind n.kind (λ ms. labels_stay z l ms (before ++ n ∷ []) ns)
@@ -235,7 +222,7 @@ labels_stay z l ls before (n ∷ ns) = by_kind n.kind (λ ms. labels_stay z l ms
     by_kind (ins i) later = later (ls ++ record { index = length before; line = n.line; inserted = i; label = label_of z (l ∷ ls) before i } ∷ [])
     by_kind (act a) later = later ls
 
--- nodes without a label are no insertions
+-- if no node has a label, none is an insertion
 pub none_labelled : (z : Frozen) (held : ℕ → List Node) (before : List PlainNode) (ns : List Node) → has_insertion (labelled_from z [] before (map (plain_of held) ns)) ≡ false → NoInsertions ns
 none_labelled z held before [] h = tt
 none_labelled z held before (n ∷ ns) h = by_insertion (insertion_of_kind n.kind) refl (none_labelled z held (before ++ plain_of held n ∷ []) ns)
@@ -247,7 +234,7 @@ none_labelled z held before (n ∷ ns) h = by_insertion (insertion_of_kind n.kin
         absurd (true≢false (sym (labels_stay z (record { index = length before; line = n.line; inserted = inserted_of held i; label = label_of z [] before (inserted_of held i) }) [] (before ++ plain_of held n ∷ []) (map (plain_of held) ns))
         ∙ ap (λ (p : PlainNode). has_insertion (labelled_from z (labelled_with z [] before n.line p.kind) (before ++ plain_of held n ∷ []) (map (plain_of held) ns))) (sym (plain_insertion held n i e)) ∙ h))
 
--- a list that begins with an insertion has one
+-- a list that begins with an insertion is not empty
 pub never_empty : (ns : List Node) → ns ≡ [] → begins_with_insertion ns ≡ true → ⊥
 never_empty ns e h = true≢false (sym h ∙ ap begins_with_insertion e)
 
@@ -310,7 +297,7 @@ module _ (b : Builder) (s t : Lists Node) (xs ns : List Node) (body : ℕ) (own 
     body_plain = ap inner_ids (list_got t body (list_at s body ++ xs) g.second) ∙ bare_still;
   }
 
-  -- the page is what is left
+  -- the page is the rest
   pub run_left : list_at t b.page ≡ ns
   run_left = list_got t b.page ns g.first
 

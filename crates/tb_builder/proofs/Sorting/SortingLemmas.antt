@@ -1,4 +1,4 @@
--- The page that fires is sorted from its front: what holds after so many nodes.
+-- The page that fires is sorted from its front: what holds after some of its nodes.
 use Rattle.std.proofs.Common.{◌≡◌, refl, sym, subst, ◌∙◌, ap, ℕ, zero, suc, ◌+◌, ◌-◌, ◌<◌, ◌≤◌, List, [], ◌∷◌, ◌++◌, map, length, take, drop, append_assoc, append-nil, Bool, false, arith}
 use Rattle.std.specs.FinMap.{insert}
 use Rattle.std.proofs.lemmas.List.{map-id, length-map, nil_from_length, length-take-le, length-drop}
@@ -18,7 +18,7 @@ use Rattle.tb_builder.proofs.Ownership.StoreMoves.{Got, got_two}
 use Rattle.tb_builder.proofs.Sorting.PlaceLemmas.{place_within}
 use Rattle.tb_builder.proofs.Sorting.SortLemmas.{none_labelled, run_sorts, run_left, run_sorted}
 
--- so many nodes were sorted, since the builder was b in the store s
+-- this many nodes were sorted, since the builder was b in the store s
 pub record Sorting (b : Builder) (s : Lists Node) (d : Builder) (t : Lists Node) (body : ℕ) : Type 0 where
   pub index : ℕ
   pub sorts : SortsTo b s d t body
@@ -83,7 +83,7 @@ module _ (b d : Builder) (s t : Lists Node) (body : ℕ) (h : Sorting b s d t bo
   index_taken : h.index ≡ length (take h.index page_all)
   index_taken = sym (length-take-le h.index page_all (omega (arith, h.left, length_all)))
 
-  -- the body is still none of the builder's lists
+  -- the body is still not the builder's
   pub still_body : Lacks body (owned (ids_of b) s) → IsBody d t body
   still_body apart = record { live = h.sorts.body_live; apart = h.sorts.keeps body apart; plain = h.sorts.body_plain }
 
@@ -109,7 +109,7 @@ module _ (b d : Builder) (s t : Lists Node) (body : ℕ) (h : Sorting b s d t bo
     pub still_fits : EachFits page_all → EachFits (contents_of d t).page
     still_fits fit before n rest e = fit (take h.index page_all ++ before) n rest (append_assoc (take h.index page_all) before (n ∷ rest) ∙ ap (λ ps. take h.index page_all ++ ps) e ∙ whole)
 
-  -- so many nodes more were sorted
+  -- this many more nodes were sorted
   module _ (e : Builder) (u : Lists Node) (more : ℕ) (step : SortsTo d t e u body) (left : length (list_at u d.page) + more ≡ length (list_at t d.page)) (spare : t.spare ≤ u.spare)
       (sorted : (z : Frozen) (page marked before : List PlainNode) (boxes : List Boxed) → IsAccountOf d.course.account z page marked → h.index ≡ length before
       → Sorted z boxes marked (contents_of d t) (plain_list t body) before → Sorted z boxes marked (contents_of e u) (plain_list u body) (before ++ take more (contents_of d t).page)) where
@@ -170,7 +170,7 @@ module _ (b d : Builder) (s t u : Lists Node) (body place count left : ℕ) (h :
         let same : e.page ≡ d.page = ap (λ (x : Builder). x.page) (went body run_body).builder in
         omega (arith, ap (λ x. length (list_at v x)) same, shorter, fewer)
 
--- no insertion is left on the page, and what is left goes to the body
+-- no insertion is left on the page, and the rest goes to the body
 module _ (b d : Builder) (s t u : Lists Node) (body : ℕ) (h : Sorting b s d t body) (none : NoInsertions (list_at t d.page)) (apart : Lacks body (owned (ids_of b) s)) (spare : u.spare ≡ t.spare)
     (e : u.lists ≡ insert (with_list t body (list_at t body ++ list_at t d.page)) d.page []) where
   free : IsBody d t body
@@ -205,7 +205,7 @@ module _ (b d : Builder) (s t u : Lists Node) (body : ℕ) (h : Sorting b s d t 
   pub rest_empty : list_at u b.page ≡ []
   rest_empty = none_left b d s u body ended empty
 
--- the account knows of no insertion on the page
+-- the account has no insertion on the page
 pub none_told : (b : Builder) (s : Lists Node) (some : Bool) → IsMarkedAt b.course.account 0 (plain_list s b.page) → some ≡ false
     → ((z : Frozen) (page marked : List PlainNode) → IsAccountOf b.course.account z page marked → some ≡ has_insertion (labelled z marked)) → NoInsertions (list_at s b.page)
 none_told b s some marked not_some told =

@@ -1,4 +1,4 @@
--- After a step a page stands at a stop, or a box comes behind the node that went on it.
+-- After a step a page is at a stop, or a box comes after the node that went on it.
 use Rattle.std.proofs.Common.{◌≡◌, refl, sym, subst, ◌∙◌, ap, ◌<◌, Bool, true, false, List, [], ◌∷◌, ◌++◌, length, map, Option, None, Some, arith}
 use Rattle.std.proofs.lemmas.Bool.{true≢false}
 use Rattle.std.proofs.lemmas.List.{length-map}
@@ -10,6 +10,7 @@ use Rattle.tb_node.specs.Shape.{Shape, box, glue, kern, penalty, other, is_box, 
 use Rattle.tb_node.specs.Small.{IsSmall}
 use Rattle.tb_node.specs.Plain.{PlainNode, plain_of, node_shape, shape_of, shape_of_kind}
 use Rattle.tb_node.specs.Add.{added_node}
+use Rattle.tb_node.specs.Roles.{act_of_kind, insertion_of_kind}
 use Rattle.tb_break.specs.Best.{Breakpoint, is_stop}
 use Rattle.tb_break.specs.Prune.{pruned_nodes, glue_before, top_glue}
 use Rattle.tb_insert.specs.Account.{Frozen}
@@ -20,7 +21,7 @@ use Rattle.tb_builder.specs.declared.Event.{Event}
 use Rattle.tb_builder.specs.declared.Event.TheVariants as events
 use Rattle.tb_builder.specs.Reached.{also_reached, tried, holds_box}
 use Rattle.tb_builder.specs.Contents.{Contents, contents_of, frozen_of, laid}
-use Rattle.tb_builder.specs.Running.{IsCourseOf, Underway, kept_frozen, AllLasting, act_of_kind, insertion_of_kind}
+use Rattle.tb_builder.specs.Running.{IsCourseOf, Underway, kept_frozen, AllLasting}
 use Rattle.tb_builder.specs.Next.{LaidFits, NextFits}
 use Rattle.tb_builder.specs.Past.{ComesPast}
 use Rattle.tb_builder.specs.Turn.{ChangesPage, Shifted, GoesUntried, StepIs, StepFits, TurnIs, places_on}
@@ -135,7 +136,7 @@ module _ (z : Frozen) (k : Course) (m d : Contents) (on : m.stopped ≡ false) w
   step_after (Some (events.Fired x)) l e st go p u stay = absurd st
   step_after (Some events.Empty) l e st go p u stay = absurd st
 
--- ---- a box comes behind what went on the page
+-- ---- a box comes after what went on the page
 
 module _ (z : Frozen) (all : List PlainNode) (b : Builder) (s : Lists Node) (n : Node) (ns : List Node) (fits : LaidFits z all) (boxed : is_box (shape_of n) ≡ true) (list_is : list_at s b.waiting ≡ n ∷ ns)
     (u : Underway z b.course (contents_of b s).page (contents_of b s).waiting) (whole : (contents_of b s).page ++ (contents_of b s).waiting ≡ all) where
@@ -160,7 +161,7 @@ module _ (z : Frozen) (all : List PlainNode) (b : Builder) (s : Lists Node) (n :
 
 -- ---- the top glue and then the box
 
--- d is the builder once the top glue was put before what waits, e after its step
+-- d is the builder once the top glue was put before what waits, and e the builder after its step
 module _ (b d e : Builder) (s t r : Lists Node) (ask : Ask) (n g : Node) (ns : List Node) (o : Option Event) (h : Topped b d s t ask n g ns) (on : d.stopped ≡ false) (closed : d.opened ≡ false)
     (moves : ChangesPage d t e r) (st : StepIs o (kept_frozen (contents_of d t)) e.course (contents_of d t) (contents_of e r)) (opened : e.opened ≡ d.opened) (frozen : e.frozen ≡ d.frozen) where
   step_is : StepIs o (frozen_of (contents_of b s) ask) e.course (contents_of d t) (contents_of e r)
@@ -196,7 +197,7 @@ module _ (b d e : Builder) (s t r : Lists Node) (ask : Ask) (n g : Node) (ns : L
     pub opening_sums : IsSmall (added_node e.course.scan.max_depth e.course.scan.sums (shape_of n))
     opening_sums = box_sums z (laid (contents_of b s) ask) e r n ns fits.laid_fits boxed list_is going whole
 
-    -- the box is on the page behind the glue
+    -- the box is on the page after the glue
     pub opening_goes : (x : Builder) (y : Lists Node) → ChangesPage e r x y → Shifted (plain_of (list_at r) n) (contents_of e r) (contents_of x y) → x.opened ≡ true
         → ((w : Frozen) (bs : List Breakpoint) → IsCourseOf w e.course (contents_of e r).page bs → IsCourseOf w x.course ((contents_of e r).page ++ plain_of (list_at r) n ∷ []) bs)
         → list_at s b.waiting ≡ n ∷ ns → list_at y x.waiting ≡ ns → TurnIs b s ask o x y

@@ -33,7 +33,7 @@ module _ (b d : Builder) (s t : Lists Node) (xs ys : List Node) (same : ids_of d
   pub waiting_from : (contents_of d t).waiting ≡ map (plain_of (list_at s)) ys
   waiting_from = ap (λ (i : Ids). plain_list t i.waiting) same ∙ written_waiting (ids_of b) s t xs ys own w
 
--- the first node that waits went on the page
+-- the first waiting node went on the page
 pub shifted_from : (b d : Builder) (s t : Lists Node) (n : Node) (ns : List Node) → ids_of d ≡ ids_of b → IsOwned (ids_of b) s → list_at s b.waiting ≡ n ∷ ns → Written (ids_of b) s t (list_at s b.page ++ n ∷ []) ns
     → d.frozen ≡ b.frozen → d.stopped ≡ b.stopped → Shifted (plain_of (list_at s) n) (contents_of b s) (contents_of d t)
 shifted_from b d s t n ns same own first w frozen stopped = record {

@@ -1,4 +1,4 @@
--- The first box or rule of a page comes behind the top glue.
+-- The first box or rule of a page comes after the top glue.
 use Rattle.std.proofs.Common.{◌≡◌, inr, refl, sym, subst, ◌∙◌, ap, ℕ, ℤ, Bool, true, false, List, [], ◌∷◌, ◌++◌, map, Option, None, Some, append_assoc}
 use Rattle.std.specs.Prelude.{◌||◌}
 use Rattle.std.proofs.lemmas.Bool.{true≢false}
@@ -9,6 +9,7 @@ use Rattle.tb_node.specs.declared.Kind.TheVariants as kinds
 use Rattle.tb_node.specs.Shape.{Shape, is_box, height_of}
 use Rattle.tb_node.specs.Small.{IsSmallShape}
 use Rattle.tb_node.specs.Plain.{PlainNode, plain_of, shape_of, shape_of_kind}
+use Rattle.tb_node.specs.Roles.{act_of_kind, insertion_of_kind}
 use Rattle.tb_break.specs.Prune.{glue_before, pruned_nodes, top_glue}
 use Rattle.tb_insert.specs.Account.{Frozen, terms_after}
 use Rattle.tb_builder.specs.declared.Ask.{Ask}
@@ -18,7 +19,7 @@ use Rattle.tb_builder.specs.Reached.{holds_box}
 use Rattle.tb_builder.specs.Places.{NoStop}
 use Rattle.tb_builder.specs.Contents.{Contents, contents_of, frozen_or, frozen_of, ahead_of, laid}
 use Rattle.tb_builder.specs.Owned.{Ids, ids_of, inner_of, is_known, classes_of}
-use Rattle.tb_builder.specs.Running.{IsCourseOf, Underway, places_by, kept_frozen, frozen_with, frozen_at, AllLoose, AllLasting, IsPageSoFar, IsSound, act_of_kind, insertion_of_kind}
+use Rattle.tb_builder.specs.Running.{IsCourseOf, Underway, places_by, kept_frozen, frozen_with, frozen_at, AllLoose, AllLasting, IsPageSoFar, IsSound}
 use Rattle.tb_builder.specs.Next.{NextFits, LaidFits}
 use Rattle.tb_builder.specs.Turn.{ChangesPage, StepFits}
 use Rattle.tb_builder.proofs.Turns.MoveLemmas.{Written, written_front}
@@ -29,7 +30,7 @@ use Rattle.tb_builder.proofs.Turns.MeetLemmas.{stays_from}
 
 -- ---- the top glue
 
--- what waits, where a box or rule is first, is pruned to the glue before it
+-- if a box or rule waits first, pruning puts the top glue before it
 pub top_at : (held : ℕ → List Node) (t : ℤ) (n : Node) (ns : List PlainNode) → is_box (shape_of n) ≡ true
     → pruned_nodes t (plain_of held n ∷ ns) ≡ plain_of held (glue_before n (top_glue t (height_of (shape_of n)))) ∷ plain_of held n ∷ ns
 top_at held t n ns e = by_kind n.kind e
@@ -49,7 +50,7 @@ top_at held t n ns e = by_kind n.kind e
 
 -- ---- what is laid out fits
 
--- the parts of what is laid out, where it goes on with this node
+-- the parts of what is laid out, if it goes on with this node
 pub step_fits : (z : Frozen) (page all : List PlainNode) (held : ℕ → List Node) (n : Node) (rest : List PlainNode) → LaidFits z all → page ++ plain_of held n ∷ rest ≡ all → act_of_kind n.kind ≡ None → insertion_of_kind n.kind ≡ None → StepFits z page held n
 step_fits z page all held n rest fits e a i = record {
   small = subst IsSmallShape (shape_is held n) (fits.nodes page (plain_of held n) rest e).small;
@@ -171,7 +172,7 @@ module _ (b d : Builder) (s t : Lists Node) (ask : Ask) (n g : Node) (ns : List 
   pub laid_is : laid before ask ≡ now.page ++ now.waiting
   laid_is = topped_lays.laid_is
 
-  -- the glue, as the store then sees it, is the same node
+  -- the glue is the same node, as the store then shows it
   glue_same : plain_of (list_at t) g ≡ plain_of (list_at s) g
   glue_same = ap (λ (x : Node). plain_of (list_at t) x) glue_is ∙ ap (λ (x : Node). plain_of (list_at s) x) (sym glue_is)
 

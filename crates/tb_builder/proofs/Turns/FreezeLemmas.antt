@@ -12,6 +12,7 @@ use Rattle.tb_node.specs.Fit.{shapes, NodesFit, SumsFit}
 use Rattle.tb_node.specs.Shape.{other, is_box, is_discardable}
 use Rattle.tb_node.specs.Sums.{size_of}
 use Rattle.tb_node.specs.Plain.{skip, shape_of_kind, Inserted, inserted_of, plain, ins, PlainNode, plain_of, plain_kind, node_shape, shape_of, is_act_kind, is_insertion_kind, plain_list}
+use Rattle.tb_node.specs.Roles.{act_of_kind, insertion_of_kind}
 use Rattle.tb_break.specs.Legal.{ends_lasting}
 use Rattle.tb_break.specs.Best.{Breakpoint, best_or}
 use Rattle.tb_break.specs.Scan.{Scanned, Offered}
@@ -33,7 +34,7 @@ use Rattle.tb_builder.specs.Fired.{box_size, box_content, class_boxes}
 use Rattle.tb_builder.specs.Places.{page_shapes, glue_first, page_places, NoStop}
 use Rattle.tb_builder.specs.Contents.{boxed_of, Contents, frozen_or, frozen_of, ahead_of}
 use Rattle.tb_builder.specs.Owned.{AllLive, inner_of, inner_ids, Ids, nodes_of, box_ids, has_class, is_known, AllKnown, ClassesFit, IsClassList, IsOwned}
-use Rattle.tb_builder.specs.Running.{ChampionIs, IsCourseOf, Underway, places_by, page_frozen, is_loose, AllLoose, IsPageSoFar, act_of_kind, insertion_of_kind}
+use Rattle.tb_builder.specs.Running.{ChampionIs, IsCourseOf, Underway, places_by, page_frozen, is_loose, AllLoose, IsPageSoFar}
 use Rattle.tb_builder.specs.Next.{NextFits, InsertedFits}
 use Rattle.tb_builder.proofs.Ownership.OwnedLemmas.{live-right, known-right, inner-append}
 use Rattle.tb_builder.proofs.LegalPlaces.ClassLemmas.{class_known, number_is, box_is, differ_found, numbered_found}
@@ -58,9 +59,9 @@ frozen_course c k l ask None e st fit first again = record {
 frozen_course c k l ask (Some f) e st fit first again =
     subst (λ o. Underway (frozen_or o ask c.classes c.boxes) l c.page c.waiting) (sym e) (subst (λ x. Underway (page_frozen f c.classes c.boxes) x c.page c.waiting) (sym (again refl)) st)
 
--- ---- nodes that wait
+-- ---- waiting nodes
 
--- the list of the first insertion that waits is live, and its class is one of the classes
+-- the list of the first waiting insertion is live, and its class is one of the classes
 pub first_inner : (b : Ids) (s : Lists Node) (n : Node) (ns : List Node) (i : Insertion) → IsOwned b s → list_at s b.waiting ≡ n ∷ ns → insertion_of_kind n.kind ≡ Some i → IsLive s i.list
 first_inner b s n ns i own first e =
     let all : AllLive s (inner_ids (list_at s b.page ++ list_at s b.waiting)) = live-right s (inner_ids (list_at s b.held)) (inner_ids (list_at s b.page ++ list_at s b.waiting)) (subst (AllLive s) (inner-append (list_at s b.held) (list_at s b.page ++ list_at s b.waiting)) (live-right s (box_ids b.boxes) (inner_ids (nodes_of b s)) own.live.1.1.1.1)) in
@@ -114,7 +115,7 @@ plain_insertion held n i e = by_kind n.kind e
         with_insertion line x = record { line = line; kind = ins (inserted_of held x) }
     by_kind (kinds.Act a) e = cc
 
--- what lies ahead begins with a node that lasts and is no box
+-- what is ahead begins with a node that lasts and is no box
 pub ahead_first : (c : Contents) (ask : Ask) (n : PlainNode) (ns : List PlainNode) → c.waiting ≡ n ∷ ns → node_shape n ≡ other → (rest : List PlainNode) × (ahead_of c ask ≡ n ∷ rest)
 ahead_first c ask n ns first shape = by_box (holds_box c.page) refl
   where

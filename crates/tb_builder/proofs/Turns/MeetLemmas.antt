@@ -6,6 +6,7 @@ use Rattle.tb_pool.specs.Lists.{Lists, list_at}
 use Rattle.tb_node.specs.declared.Node.{Node}
 use Rattle.tb_node.specs.Shape.{other, is_box, is_discardable}
 use Rattle.tb_node.specs.Plain.{PlainNode, plain_of, node_shape, shape_of, is_act_kind, is_insertion_kind}
+use Rattle.tb_node.specs.Roles.{act_of_kind}
 use Rattle.tb_break.specs.Legal.{ends_lasting}
 use Rattle.tb_insert.specs.Account.{Frozen, terms_after}
 use Rattle.tb_builder.specs.declared.Ask.{Ask}
@@ -15,7 +16,7 @@ use Rattle.tb_builder.specs.Reached.{holds_box}
 use Rattle.tb_builder.specs.Places.{page_shapes, NoStop}
 use Rattle.tb_builder.specs.Contents.{Contents, contents_of, frozen_or, frozen_of}
 use Rattle.tb_builder.specs.Owned.{ids_of}
-use Rattle.tb_builder.specs.Running.{IsCourseOf, Underway, places_by, frozen_with, page_frozen, is_loose, AllLoose, AllLasting, IsPageSoFar, freezes, IsSound, act_of_kind}
+use Rattle.tb_builder.specs.Running.{IsCourseOf, Underway, places_by, frozen_with, page_frozen, is_loose, AllLoose, AllLasting, IsPageSoFar, freezes, IsSound}
 use Rattle.tb_builder.specs.Next.{KeepsBoxes}
 use Rattle.tb_builder.specs.Turn.{ChangesPage, TurnIs}
 use Rattle.tb_builder.proofs.Turns.MoveLemmas.{Written}
@@ -37,13 +38,13 @@ stays_from b d s t ask m f =
     let same : Same (contents_of b s) (contents_of d t) ask = record { classes = m.classes; boxes = m.boxes; frozen = f } in
     record { classes = m.classes; boxes = m.boxes; held = m.held; frozen_so = same_frozen (contents_of b s) (contents_of d t) ask same; keeps = same_keeps (contents_of b s) (contents_of d t) ask same }
 
--- the list behind the first node is shorter
+-- the list after the first node is shorter
 pub shorter_by : {n : PlainNode} {xs ys : List PlainNode} → xs ≡ n ∷ ys → length ys < length xs
 shorter_by {n} {xs} {ys} e = let l : length xs ≡ length (n ∷ ys) = ap length e in omega arith
 
 -- ---- a node that takes no room goes on the page
 
--- the turn, where the course stands for the page with the node
+-- the turn, if the course is that of the page with the node
 module _ (b d : Builder) (s t : Lists Node) (ask : Ask) (n : Node) (ns : List Node)
     (sound : IsSound b s) (on : d.stopped ≡ false) (same : ids_of d ≡ ids_of b) (first : list_at s b.waiting ≡ n ∷ ns)
     (w : Written (ids_of b) s t (list_at s b.page ++ n ∷ []) ns) (room : s.spare ≤ t.spare) (opened : d.opened ≡ b.opened) (shape : shape_of n ≡ other) (none : act_of_kind n.kind ≡ None) where

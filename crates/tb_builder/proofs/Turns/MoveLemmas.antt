@@ -1,4 +1,4 @@
--- Nodes go from what waits to the page, or vanish: the lists stay the builder's, and its contents change there alone.
+-- Nodes go from what waits to the page, or vanish: the lists stay the builder's, and only its page and waiting nodes change.
 use Rattle.std.proofs.Common.{◌≡◌, ◌≢◌, sym, subst, ◌∙◌, ap, ℕ, true, List, [], ◌∷◌, ◌++◌, map, None, is_some, unwrap_or, append_assoc}
 use Rattle.std.specs.Prelude.{option_to_list}
 use Rattle.std.specs.FinMap.{get, insert}
@@ -49,7 +49,7 @@ pub apart_two : (a b : ℕ) (xs : List ℕ) → Lacks a xs → Lacks b xs → Ap
 apart_two a b [] la lb = tt
 apart_two a b (x ∷ xs) la lb = (((λ e. la.0 (sym e)), ((λ e. lb.0 (sym e)), tt)), apart_two a b xs la.1 lb.1)
 
--- the page and what waits are these lists now, with the insertions that were there, in their order
+-- the page and what waits are these lists now, with the same insertions in the same order
 pub record Written (b : Ids) (s t : Lists Node) (xs ys : List Node) : Type 0 where
   pub page_is : list_at t b.page ≡ xs
   pub waiting_is : list_at t b.waiting ≡ ys
@@ -128,7 +128,7 @@ module _ (b : Ids) (s t : Lists Node) (n : Node) (ns : List Node) (own : IsOwned
   known_first : AllKnown (classes_of b) (list_at s b.page ++ n ∷ ns)
   known_first = subst (λ xs. AllKnown (classes_of b) (list_at s b.page ++ xs)) first (known-right (classes_of b) (list_at s b.held) (list_at s b.page ++ list_at s b.waiting) own.known)
 
-  -- the first that waits goes on the page
+  -- the first waiting node goes on the page
   pub written_shift : t.lists ≡ insert (with_list s b.waiting ns) b.page (list_at s b.page ++ n ∷ []) → Written b s t (list_at s b.page ++ n ∷ []) ns
   written_shift e =
       let w = wrote_two s t b.waiting b.page ns (list_at s b.page ++ n ∷ []) apart e in
@@ -145,7 +145,7 @@ module _ (b : Ids) (s t : Lists Node) (n : Node) (ns : List Node) (own : IsOwned
       same : (list_at s b.page ++ n ∷ []) ++ ns ≡ list_at s b.page ++ list_at s b.waiting
       same = append_assoc (list_at s b.page) (n ∷ []) ns ∙ ap (λ xs. list_at s b.page ++ xs) (sym first)
 
-  -- the first that waits, which is no insertion, vanishes
+  -- the first waiting node, which is no insertion, vanishes
   pub written_drop : inner_of n.kind ≡ None → t.lists ≡ with_list s b.waiting ns → Written b s t (list_at s b.page) ns
   written_drop none e = record {
     page_is = list_other s t b.waiting b.page ns (λ x. apart (sym x)) e;
@@ -157,7 +157,7 @@ module _ (b : Ids) (s t : Lists Node) (n : Node) (ns : List Node) (own : IsOwned
     known_is = known-append (classes_of b) (list_at s b.page) ns (known-left (classes_of b) (list_at s b.page) (n ∷ ns) known_first) (known-right (classes_of b) (list_at s b.page) (n ∷ ns) known_first).1;
   }
 
-  -- a node that is no insertion comes before the first that waits
+  -- a node that is no insertion comes before the first waiting node
   pub written_front : (m : Node) → inner_of m.kind ≡ None → is_known (classes_of b) m.kind ≡ true → t.lists ≡ with_list s b.waiting (m ∷ n ∷ ns) → Written b s t (list_at s b.page) (m ∷ n ∷ ns)
   written_front m none known e = record {
     page_is = list_other s t b.waiting b.page (m ∷ n ∷ ns) (λ x. apart (sym x)) e;

@@ -1,4 +1,4 @@
--- Which of the nodes that waited a page came past, turn by turn.
+-- Which of the waiting nodes a page went past, turn by turn.
 use Rattle.std.proofs.Common.{◌≡◌, refl, sym, ◌∙◌, ap, ℕ, suc, ◌+◌, ◌<◌, ℤ, Bool, true, false, List, [], ◌∷◌, ◌++◌, length, Option, None, Some, append_assoc, append-nil, arith}
 use Rattle.std.specs.Prelude.{◌||◌, not, if◌then◌else◌}
 use Rattle.std.proofs.lemmas.Bool.{true≢false}
@@ -30,7 +30,7 @@ holds-both (x ∷ xs) ys = ap (λ b. is_box (node_shape x) || b) (holds-both xs 
     assoc true b c = refl
     assoc false b c = refl
 
--- the rest is pruned with the nodes, unless there is a box among them
+-- the rest is pruned with the nodes, unless a box is among them
 pruned-kind : (t : ℤ) (xs ys : List PlainNode) → pruned_nodes t (xs ++ ys) ≡ pruned_nodes t xs ++ (if holds_box xs then ys else pruned_nodes t ys) → (l : ℕ) (k : PlainKind)
     → (let n : PlainNode = record { line = l; kind = k } in pruned_nodes t (n ∷ xs ++ ys) ≡ pruned_nodes t (n ∷ xs) ++ (if holds_box (n ∷ xs) then ys else pruned_nodes t ys))
 pruned-kind t xs ys e l (plain (hbox w h d)) = refl
@@ -148,7 +148,7 @@ past-vanished n c d ask w p closed gone a =
 
 -- ---- by what is laid out of both
 
--- lists that end with as many nodes are equal where they begin
+-- if two lists are equal and have tails of the same length, their fronts and their tails are equal
 cancel : (a b x y : List PlainNode) → a ++ x ≡ b ++ y → length x ≡ length y → (a ≡ b) × (x ≡ y)
 cancel [] [] x y e l = (refl, e)
 cancel [] (b ∷ bs) x y e l = let k : length x ≡ suc (length bs + length y) = ap length e ∙ ap suc (length-append bs y) in let no : ⊥ = omega arith in absurd no
@@ -165,7 +165,7 @@ past-open n rest c d ask w whole l opened a =
     let same = cancel d.page (c.page ++ n ∷ []) d.waiting rest (whole ∙ ap (λ ns. c.page ++ ns) w ∙ sym (append_assoc c.page (n ∷ []) rest)) l in
     past-one n c d ask (w ∙ ap (λ ns. n ∷ ns) (sym same.1)) a (same.0 ∙ ap (λ b. c.page ++ (if b then n ∷ [] else pruned_nodes ask.top_skip (n ∷ []))) (sym opened))
 
--- the first box came behind the top glue
+-- the first box came after the top glue
 pub past-first : (n g : PlainNode) (rest : List PlainNode) (c d : Contents) (ask : Ask) → c.waiting ≡ n ∷ rest → d.page ++ d.waiting ≡ c.page ++ (g ∷ n ∷ rest) → length d.waiting ≡ length rest → holds_box c.page ≡ false → pruned_nodes ask.top_skip (n ∷ []) ≡ g ∷ n ∷ [] → is_act_kind n.kind ≡ false
     → ComesPast d.waiting c d ask
 past-first n g rest c d ask w whole l closed top a =

@@ -1,4 +1,4 @@
--- A node that waits goes on a page that is laid out, or its place is tried.
+-- A waiting node goes on a page that is laid out, or its place is tried.
 use Rattle.std.proofs.Common.{◌≡◌, refl, sym, subst, ◌∙◌, ap, ℕ, ℤ, Bool, true, false, List, [], ◌∷◌, ◌++◌, Option, None, Some, append_assoc}
 use Rattle.std.specs.Prelude.{map, drop, negsuc, int_le, ◌||◌}
 use Rattle.std.proofs.lemmas.Bool.{true≢false}
@@ -7,6 +7,7 @@ use Rattle.tb_node.specs.declared.Node.{Node}
 use Rattle.tb_node.specs.Plain.{PlainNode, plain_of, node_shape, shape_of, is_act_kind}
 use Rattle.tb_node.specs.Small.{IsSmall}
 use Rattle.tb_node.specs.Add.{added_node}
+use Rattle.tb_node.specs.Roles.{act_of_kind}
 use Rattle.tb_break.specs.Legal.{ends_lasting}
 use Rattle.tb_break.specs.Best.{Breakpoint, is_stop, least_cost}
 use Rattle.tb_break.specs.Scan.{Scanned}
@@ -18,7 +19,7 @@ use Rattle.tb_builder.specs.declared.Try.{Try}
 use Rattle.tb_builder.specs.Reached.{tried, Reach, also_reached, reach_from, breakpoints, try_of}
 use Rattle.tb_builder.specs.Places.{page_shapes, glue_first, node_penalty, page_places, NoStop}
 use Rattle.tb_builder.specs.Contents.{Contents}
-use Rattle.tb_builder.specs.Running.{IsCourseOf, Underway, places_by, act_of_kind, nodes_glue_first}
+use Rattle.tb_builder.specs.Running.{IsCourseOf, Underway, places_by, nodes_glue_first}
 use Rattle.tb_builder.specs.Offer.{OfferIs, TermsFit, place_here}
 use Rattle.tb_builder.specs.Next.{stopped_with}
 use Rattle.tb_builder.specs.Turn.{Shifted, reach_on, places_on, GoesUntried, GoesOn, StopsThere, TriesOn, StepFits, StepIs}
@@ -152,13 +153,13 @@ module _ (z : Frozen) (k l : Course) (c : Contents) (held : ℕ → List Node) (
     stops = λ st. absurd (true≢false (sym st ∙ sym stop_is ∙ goes));
   }
 
--- the penalty of the place before the first node that waits
+-- the penalty of the place before the first waiting node
 pub penalty_first : (held : ℕ → List Node) (lasting g : Bool) (o : Option ℤ) (xs ns : List Node) (n : Node) → xs ≡ n ∷ ns → act_of_kind n.kind ≡ None → g ≡ nodes_glue_first (drop 1 xs) → o ≡ penalty_by lasting g (shape_of n)
     → node_penalty lasting (glue_first (map (plain_of held) ns)) (plain_of held n) ≡ o
 penalty_first held lasting g o xs ns n first none glue place =
     ap (λ b. node_penalty lasting b (plain_of held n)) (sym (glue ∙ ap (λ ys. nodes_glue_first (drop 1 ys)) first ∙ first_glue_is held ns)) ∙ penalty_is held lasting g n none ∙ sym place
 
--- the first node that waits, as the definitions see it
+-- the first waiting node, as the definitions see it
 pub plain_first : (held : ℕ → List Node) (xs ns : List Node) (n : Node) → xs ≡ n ∷ ns → map (plain_of held) xs ≡ plain_of held n ∷ map (plain_of held) ns
 plain_first held xs ns n e = ap (map (plain_of held)) e
 

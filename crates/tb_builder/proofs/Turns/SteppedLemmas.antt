@@ -19,7 +19,7 @@ use Rattle.tb_builder.proofs.Turns.TurnLemmas.{Lays, lays_open, turns_on, goes_o
 use Rattle.tb_builder.proofs.Turns.FreezingNodes.{box-freezes}
 use Rattle.tb_builder.proofs.Turns.MeetLemmas.{stays_from}
 
--- what is answered
+-- what is returned
 pub stepped_turn : (o : Option Event) (z : Frozen) (k : Course) (ask : Ask) (c m d : Contents) → Lays z ask c m → m.stopped ≡ false → frozen_of d ask ≡ z → (d.stopped ≡ false → Lays z ask d d) → (d.stopped ≡ true → laid d ask ≡ d.page ++ d.waiting) → StepIs o z k m d → TurnBy o c d ask
 stepped_turn None z k ask c m d lays on f later still st = turns_on z ask c m lays d d st.0 (later (st.2 ∙ on)) (st.2 ∙ on)
 stepped_turn (Some (events.Try t)) z k ask c m d lays on f later still st = record {
@@ -51,7 +51,7 @@ module _ (z : Frozen) (k : Course) (m d : Contents) (f : ℤ × ℤ) (same : pag
       places : places_by z d.page d.waiting ≡ places_on z m
       places = (λ i. places_by z (st.page i) (st.waiting i))
 
-  -- what stands of the page
+  -- the page so far
   pub stepped_page : (o : Option Event) (s : Bool) → d.stopped ≡ s → m.stopped ≡ false → StepIs o z k m d → IsPageSoFar (Some f) s k d
   stepped_page None s e on st = going_page s e (st.2 ∙ on) st.1
   stepped_page (Some (events.Try t)) s e on st = by_stop (is_stop st.place) refl
@@ -63,7 +63,7 @@ module _ (z : Frozen) (k : Course) (m d : Contents) (f : ℤ × ℤ) (same : pag
   stepped_page (Some (events.Fired p)) s e on st = absurd st
   stepped_page (Some events.Empty) s e on st = absurd st
 
--- the turn, from the step of the contents m that are laid out of those before
+-- the turn, from a step of the contents m, which are those before, laid out
 module _ (b d : Builder) (s t : Lists Node) (ask : Ask) (o : Option Event) (m : Contents) (moves : ChangesPage b s d t) (frozen : d.frozen ≡ Some (frozen_with b.frozen ask)) (opened : d.opened ≡ holds_box (contents_of d t).page)
     (closed : d.opened ≡ false → AllLasting (contents_of d t).page) (lays : Lays (frozen_of (contents_of b s) ask) ask (contents_of b s) m) (on : m.stopped ≡ false) (later : d.stopped ≡ false → d.opened ≡ true) (still : d.stopped ≡ true → laid (contents_of d t) ask ≡ (contents_of d t).page ++ (contents_of d t).waiting)
     (st : StepIs o (frozen_of (contents_of b s) ask) d.course m (contents_of d t)) where

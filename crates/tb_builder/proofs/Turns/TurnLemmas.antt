@@ -47,7 +47,7 @@ or_true : (b : Bool) → (b || true) ≡ true
 or_true true = refl
 or_true false = refl
 
--- a node that is no box leaves the page open or closed; a box opens it
+-- a node that is no box leaves a page with or without a box; a box makes it a page with a box
 pub holds_same : (page : List PlainNode) (n : PlainNode) → is_box (node_shape n) ≡ false → holds_box (page ++ n ∷ []) ≡ holds_box page
 holds_same page n e = holds-append page n ∙ ap (λ b. holds_box page || b) e ∙ or_false (holds_box page)
 
@@ -125,7 +125,7 @@ same_keeps c d ask s f e = by_frozen s.frozen
     by_frozen (inl h) = h ∙ e
     by_frozen (inr h) = h ∙ ap (λ o. Some (frozen_with o ask)) e
 
--- ---- what lies ahead
+-- ---- what is ahead
 
 ahead_by : Bool → Ask → List PlainNode → List PlainNode
 ahead_by = λ b ask w. if b then w else pruned_nodes ask.top_skip w
@@ -136,7 +136,7 @@ ahead_open c ask e = ap (λ b. if b then c.waiting else pruned_nodes ask.top_ski
 pub ahead_closed : (c : Contents) (ask : Ask) → holds_box c.page ≡ false → ahead_of c ask ≡ pruned_nodes ask.top_skip c.waiting
 ahead_closed c ask e = ap (λ b. if b then c.waiting else pruned_nodes ask.top_skip c.waiting) e
 
--- what is laid out of the contents is the page and what waits of these other contents
+-- the contents c are laid out as the page and the waiting nodes of the contents m
 pub record Lays (z : Frozen) (ask : Ask) (c m : Contents) : Type 0 where
   pub laid_is : laid c ask ≡ m.page ++ m.waiting
   pub reach_is : reach_ahead c ask ≡ reach_on z m
@@ -150,7 +150,7 @@ lays_open z ask c f e = record {
   places_is = ap (λ x. places_by x c.page c.waiting) f;
 }
 
--- a page without a box is laid out where what waits is pruned
+-- a page without a box is laid out once what waits is pruned
 pub lays_closed : (z : Frozen) (ask : Ask) (c m : Contents) → frozen_of c ask ≡ z → holds_box c.page ≡ false → AllLasting c.page → m.page ≡ c.page → m.waiting ≡ pruned_nodes ask.top_skip c.waiting → Lays z ask c m
 lays_closed z ask c m f e h page waiting = record {
   laid_is = (λ i. sym page i ++ (ahead_closed c ask e ∙ sym waiting) i);

@@ -1,6 +1,6 @@
 -- Nodes come to the builder of a worked page, and its page fires.
 use Rattle.std.proofs.Common.{◌≡◌, refl, sym, subst, ◌∙◌, ap, ℕ, ◌+◌, ◌<◌, ◌≤◌, ℤ, pos, Bool, true, false, List, [], ◌∷◌, ◌++◌, append-nil, length, map, take, get_or, Option, None, Some, is_some, unwrap_or, add_assoc, add-one, arith}
-use Rattle.std.specs.Prelude.{All, option_to_list}
+use Rattle.std.specs.Prelude.{All, option_to_list, ◌==◌, if◌then◌else◌}
 use Rattle.std.specs.FinMap.{get}
 use Rattle.std.proofs.Math.Seq.{take-suc}
 use Rattle.std.proofs.lemmas.Bool.{true≢false}
@@ -18,7 +18,7 @@ use Rattle.tb_node.specs.declared.Insertion.{Insertion}
 use Rattle.tb_node.specs.Fit.{shapes, IsSized, IsSizedNode, IsSizedLeaf, IsDimension, IsExtent, IsPenalty}
 use Rattle.tb_node.specs.Shape.{Shape}
 use Rattle.tb_node.specs.Sums.{size_of}
-use Rattle.tb_node.specs.Plain.{leaf_of, PlainNode, plain_of, shape_of, plain_kind}
+use Rattle.tb_node.specs.Plain.{leaf_of, leaf_shape, PlainNode, plain_of, shape_of, plain_kind}
 use Rattle.tb_insert.specs.declared.Class.{Class}
 use Rattle.tb_insert.proofs.AccountLemmas.{leaf_shapes}
 use Rattle.tb_builder.specs.declared.Ask.{Ask}
@@ -27,19 +27,23 @@ use Rattle.tb_builder.specs.declared.Event.TheVariants as events
 use Rattle.tb_builder.specs.declared.Page.{Page}
 use Rattle.tb_builder.specs.declared.Builder.{Builder}
 use Rattle.tb_builder.specs.declared.Course.{Course}
+use Rattle.tb_builder.specs.Fired.{Boxed, box_content, content_of}
 use Rattle.tb_builder.specs.Contents.{Contents, contents_of, nothing_yet, kind_count, node_count, box_count}
 use Rattle.tb_builder.specs.Owned.{Lacks, AllDiffer, AllLive, ClassesFit, inner_of, inner_ids, Ids, IsOwned, ids_of, owned, is_plain, AllPlain, HoldPlain, is_known, AllKnown, has_class, classes_of}
 use Rattle.tb_builder.specs.Running.{IsSound, IsPageSoFar}
-use Rattle.tb_builder.specs.Next.{SizesFit, NextFits, NextIs}
+use Rattle.tb_builder.specs.Next.{SizesFit, NextFits, NextIs, fired_page}
 use Rattle.tb_builder.specs.Handed.{NodesJoin, ListJoins, NoPage, ends_in_kern}
 use Rattle.tb_builder.specs.Pageable.{IsSizedOnPage, IsFactor, IsSizedClass, IsSizedBox, IsGoal, IsPageable}
-use Rattle.tb_builder.specs.Worked.{IsMatter, AtRest, IsReady, waits}
+use Rattle.tb_builder.specs.Kept.{IsSizedAsk, IsSizedFreeze, IsSizedContents, whole_count, AreBoxesOf}
+use Rattle.tb_builder.specs.Worked.{IsMatter, BoxFits, AtRest, IsReady, waits}
 use Rattle.tb_builder.proofs.Turns.MoveLemmas.{get_other}
 use Rattle.tb_builder.proofs.Ownership.OwnedLemmas.{AllSame}
 use Rattle.tb_builder.proofs.Ownership.NewLemmas.{fresh_lacks}
 use Rattle.tb_builder.proofs.Ownership.FrameLemmas.{live_all_same, frame_owned, frame_contents, frame_sound, insertion_joins}
 use Rattle.tb_builder.proofs.Ranges.PageableLemmas.{sizes_fit}
 use Rattle.tb_builder.proofs.Events.FilledLemmas.{fits_next}
+use Rattle.tb_builder.proofs.Ranges.KeptLemmas.{event-sized, event-fewer, stopped-sized, stopped-fewer}
+use Rattle.tb_builder.proofs.Handover.CallLemmas.{list-sized, list-count}
 
 -- ---- a node that is neither an insertion nor an act
 
@@ -99,7 +103,7 @@ pub matter_plain : (ns : List Node) → All IsMatter ns → AllPlain ns
 matter_plain [] h = tt
 matter_plain (n ∷ ns) h = ((All-head IsMatter n ns h).plain, matter_plain ns (All-tail IsMatter n ns h))
 
-plain_ids : (ns : List Node) → AllPlain ns → inner_ids ns ≡ []
+pub plain_ids : (ns : List Node) → AllPlain ns → inner_ids ns ≡ []
 plain_ids [] h = refl
 plain_ids (n ∷ ns) h = λ i. option_to_list (matter_inner n.kind h.0 i) ++ plain_ids ns h.1 i
 
@@ -107,9 +111,9 @@ plain_known : (cs : List Class) (ns : List Node) → AllPlain ns → AllKnown cs
 plain_known cs [] h = tt
 plain_known cs (n ∷ ns) h = (matter_known cs n.kind h.0, plain_known cs ns h.1)
 
--- a list of such nodes that is none of the builder's
-list_joins : (b : Ids) (s : Lists Node) (l : ℕ) → IsOwned b s → IsLive s l → AllPlain (list_at s l) → Lacks l (owned b s) → ListJoins b s l
-list_joins b s l own live plain apart = record {
+-- a list of such nodes that is not the builder's
+pub list_joins : (b : Ids) (s : Lists Node) (l : ℕ) → IsOwned b s → IsLive s l → Lacks l (owned b s) → AllPlain (list_at s l) → ListJoins b s l
+list_joins b s l own live apart plain = record {
   live = live;
   apart = subst (λ xs. Lacks l (owned b s ++ xs)) no_ids (subst (Lacks l) (sym (append-nil (owned b s))) apart);
   nodes = record {
@@ -171,7 +175,7 @@ pub count_last : (ns : List PlainNode) (n : PlainNode) → node_count (ns ++ n �
 count_last [] n = omega arith
 count_last (m ∷ ms) n = ap (λ k. kind_count m.kind + k) (count_last ms n) ∙ sym (add_assoc (kind_count m.kind) (node_count ms) (kind_count n.kind))
 
--- one node more
+-- one more node
 module _ (b d : Builder) (s t : Lists Node) (n : PlainNode) (e : contents_of d t ≡ record (contents_of b s) { waiting = (contents_of b s).waiting ++ n ∷ [] }) where
   pub waits_more : waits d t ≡ waits b s + kind_count n.kind
   waits_more =
@@ -208,7 +212,7 @@ module _ (b d : Builder) (s t : Lists Node) (n : PlainNode) (e : contents_of d t
       few_now : (p w k x y : ℕ) → p ≡ 0 → y ≡ w + k → w + x + k ≤ 1000 → p + y + x ≤ 4194304
       few_now p w k x y none e few = omega arith
 
--- the builder stands in another store
+-- the builder in another store
 module _ (b : Builder) (s t : Lists Node) (sound : IsSound b t) (e : contents_of b t ≡ contents_of b s) where
   pub rest_still : AtRest b s → AtRest b t
   rest_still r = record { sound = sound; no_page = subst NoPage (sym e) r.no_page; known = subst (λ c. has_class c.classes 254 ≡ true) (sym e) r.known }
@@ -235,7 +239,7 @@ note_on_page held line i matter height depth top floating = record {
 
 -- ---- an event
 
--- what `next` asks holds again, unless the page fired
+-- what `next` requires holds again, unless the page fired
 pub fits_again : (stopped : Bool) (v : Event) (c d : Contents) (ask : Ask) (s : Lists Node) → ((p : Page) → v ≡ events.Fired p → ⊥) → NextFits c ask → NextIs stopped v c ask d s → NextFits d ask
 fits_again true (events.Try t) c d ask s on fits h = absurd h
 fits_again true (events.Act a) c d ask s on fits h = absurd h
@@ -265,6 +269,50 @@ fired_no_page false p c d ask s h = absurd h.0
 pub fired_live : (stopped : Bool) (p : Page) (c d : Contents) (ask : Ask) (s : Lists Node) → NextIs stopped (events.Fired p) c ask d s → IsLive s p.body
 fired_live true p c d ask s h = h.page.live
 fired_live false p c d ask s h = absurd h.0
+
+-- what the box of the class holds then is sized
+box_fits : (bs : List Boxed) (k : ℕ) → All IsSizedBox bs → box_count bs ≤ 8388608 → SizesFit (map leaf_shape (content_of (box_content bs k)))
+box_fits [] k h few = sizes_fit [] (All-nil IsSized) (omega arith)
+box_fits (b ∷ bs) k h few = by_test (b.number == k) (box_fits bs k (All-tail IsSizedBox b bs h) (omega (arith, few)))
+  where
+    by_test : (t : Bool) → SizesFit (map leaf_shape (content_of (box_content bs k))) → SizesFit (map leaf_shape (content_of (if t then b.content else box_content bs k)))
+    by_test true later = sizes_fit (map leaf_shape (content_of b.content)) (All-map IsSized leaf_shape (content_of b.content) (All-head IsSizedBox b bs h)) (omega (arith, few, length-map {B = Shape} (content_of b.content)))
+    by_test false later = later
+
+pub fired_box : (stopped : Bool) (p : Page) (c d : Contents) (ask : Ask) (s : Lists Node) → c.stopped ≡ stopped → IsSizedContents c → whole_count c ≤ 4194305 → AreBoxesOf c.classes c.boxes → NextIs stopped (events.Fired p) c ask d s → BoxFits d
+fired_box true p c d ask s e r few boxed h =
+    let count = stopped-fewer c ask r e r.classes_fit boxed in
+    subst BoxFits (sym h.after) (box_fits (fired_page c ask).boxes 254 (stopped-sized c ask r e).boxes (omega (arith, count, few)))
+fired_box false p c d ask s e r few boxed h = absurd h.0
+
+-- what is sized stays so up to the page, and no node comes
+pub sized_again : (stopped : Bool) (v : Event) (c d : Contents) (ask : Ask) (s : Lists Node) → ((p : Page) → v ≡ events.Fired p → ⊥) → IsSizedAsk ask → c.stopped ≡ stopped → IsSizedContents c → NextIs stopped v c ask d s
+    → IsSizedContents d × (whole_count d ≤ whole_count c)
+sized_again true (events.Try t) c d ask s on asked e r h = absurd h
+sized_again true (events.Act a) c d ask s on asked e r h = absurd h
+sized_again true (events.Fired p) c d ask s on asked e r h = absurd (on p refl)
+sized_again true events.Empty c d ask s on asked e r h = absurd h
+sized_again false v c d ask s on asked e r h = (event-sized c d ask v asked r e h.0 h.1, event-fewer c d ask v asked r e h.0 h.1)
+
+module _ (b : Builder) (s : Lists Node) (ask : Ask) (r : IsReady b s ask) where
+  pub ready_asked : IsSizedAsk ask
+  ready_asked = record { goal = r.pageable.asked_goal; depth = r.pageable.asked_depth; top_skip = r.pageable.top_skip }
+
+  pub ready_sized : IsSizedContents (contents_of b s)
+  ready_sized = record {
+    nodes = list-sized b.stopped (contents_of b s).page (contents_of b s).waiting r.pageable.page r.pageable.waiting;
+    held = subst (All IsSizedOnPage) (sym r.none_held) (All-nil IsSizedOnPage);
+    boxes = r.pageable.boxes;
+    classes = r.pageable.classes;
+    classes_fit = r.pageable.classes_fit;
+    frozen = subst IsSizedFreeze (sym r.rest.no_page.frozen) tt;
+  }
+
+  pub ready_count : whole_count (contents_of b s) ≤ 4194305
+  ready_count =
+      let one = list-count b.stopped (contents_of b s).page (contents_of b s).waiting in
+      let none = ap node_count r.none_held in
+      omega (arith, one, none, r.pageable.few)
 
 -- ---- the amounts of worked pages
 
@@ -305,7 +353,7 @@ list_step s t l all k d within made e =
     ∙ get-insert_same s.lists l (list_at s l ++ get_or all k d ∷ [])
     ∙ ap Some (ap (λ o. unwrap_or o [] ++ get_or all k d ∷ []) made ∙ sym (ap (λ j. take j all) (add-one k) ∙ take-suc all k d within))
 
--- other lists that were live before it was opened stay
+-- opening a list leaves the others that were live before
 pub list_step_others : (first s t : Lists Node) (l : ℕ) (xs : List Node) → get first.lists l ≡ None → t.lists ≡ with_list s l xs → ((q : ℕ) → IsLive first q → get s.lists q ≡ get first.lists q) → (q : ℕ) → IsLive first q → get t.lists q ≡ get first.lists q
 list_step_others first s t l xs none e same q live = get_other s t l q xs (λ x. true≢false (sym live ∙ ap (λ k. is_some (get first.lists k)) x ∙ ap is_some none)) e ∙ same q live
 
@@ -352,8 +400,9 @@ module _ (b : Builder) (s t : Lists Node) (l : ℕ) (nodes : List Node) (ask : A
 
   pub note_list_joins : ListJoins (ids_of b) t l
   note_list_joins =
-      list_joins (ids_of b) t l note_sound.own (ap is_some made) (subst AllPlain (sym list_made) (matter_plain nodes matter))
+      list_joins (ids_of b) t l note_sound.own (ap is_some made)
       (subst (Lacks l) (sym (frame_owned b s t r.rest.sound same_owned)) (fresh_lacks s l (owned (ids_of b) s) fresh r.rest.sound.own.live))
+      (subst AllPlain (sym list_made) (matter_plain nodes matter))
 
   module _ (n : Node) (i : Insertion) (kind : n.kind ≡ kinds.Ins i) (list_is : i.list ≡ l) (class_is : i.class ≡ 254) where
     pub note_joins : NodesJoin (ids_of b) t (n ∷ [])

@@ -1,15 +1,32 @@
-use Rattle.std.proofs.Common.{refl, subst, ◌∙◌, ap, true, ◌∷◌, FitsSigned, w64, rules}
+use Rattle.std.proofs.Common.{◌≡◌, refl, subst, ◌∙◌, ap, List, ◌∷◌, true, FitsSigned, w64, rules}
 use Rattle.std.proofs.lemmas.Int.{to_z-of_z}
 use Rattle.std.specs.Prelude.{slice_get}
 use Rattle.tb_pool.specs.Lists.{list_at}
+use Rattle.tb_node.specs.declared.Node.{Node}
 use Rattle.tb_builder.specs.declared.Builder.{Builder}
 use Rattle.tb_builder.specs.Contents.{contents_of}
 use Rattle.tb_builder.specs.Running.{IsPageSoFar}
 use Rattle.tb_builder.proofs.Turns.FillLemmas.{first_is}
 use Rattle.tb_builder.proofs.Turns.FreezeLemmas.{frozen_course}
-use Rattle.tb_builder.proofs.Turns.FirstBoxLemmas.{box_small, topped}
+use Rattle.tb_builder.proofs.Turns.FirstBoxLemmas.{box_small, Topped, topped}
 use Rattle.tb_builder.proofs.Turns.BehindLemmas.{opening_stops, opening_sums, opening_goes}
+use Rattle.tb_builder.proofs.Builder.open_page.Goals.{After-push_front}
 use Rattle.tb_builder.proofs.Builder.open_page.Goals as goal
+
+-- the nodes that wait after the box
+abbrev waits : (c : After-push_front) → (ns : List Node) × (list_at c.args.store.now c.args.self.now.waiting ≡ c.args.n.now ∷ ns)
+waits c = first_is (list_at c.args.store.now c.args.self.now.waiting) c.args.n.now c.requires.first
+
+-- the goal is frozen, and the top glue waits before the box
+glue_waits : (c : After-push_front) → Topped c.args.self.now c.freeze.new.self c.args.store.now c.push_front.new.self c.args.ask.now c.args.n.now c.top_node-glue.result (waits c).0
+glue_waits c =
+    let b = c.args.self.now in
+    let s = c.args.store.now in
+    let ask = c.args.ask.now in
+    let u = frozen_course (contents_of b s) b.course c.freeze.new.self.course ask b.frozen refl (subst (λ x. IsPageSoFar b.frozen x b.course (contents_of b s)) c.requires.on c.requires.sound.page) c.requires.sound.own.classes c.freeze.ensures.first (λ some. ap (λ (x : Builder). x.course) (c.freeze.ensures.again some)) in
+    let k : FitsSigned w64 c.args.ask.now.top_skip = search rules in
+    let glue = simp to_z-of_z at c.top_node-glue.ensures in
+    topped b c.freeze.new.self s c.push_front.new.self ask c.args.n.now c.top_node-glue.result (waits c).0 c.requires.sound c.requires.on c.requires.closed c.requires.fits c.requires.boxed (waits c).1 c.freeze.ensures.ids c.freeze.ensures.frozen glue c.push_front.ensures.pushed u
 
 pub top_node-glue-requires-clause-node : goal.top_node-glue-requires-clause-node
 top_node-glue-requires-clause-node c =
@@ -17,83 +34,27 @@ top_node-glue-requires-clause-node c =
     box_small c.args.self.now c.args.store.now c.args.ask.now c.args.n.now f.0 c.requires.sound c.requires.closed c.requires.fits c.requires.boxed f.1
 
 pub reach-event-requires-clause-own : goal.reach-event-requires-clause-own
-reach-event-requires-clause-own c =
-    let b = c.args.self.now in
-    let s = c.args.store.now in
-    let ask = c.args.ask.now in
-    let n = c.args.n.now in
-    let f = first_is (list_at s b.waiting) n c.requires.first in
-    let u = frozen_course (contents_of b s) b.course c.freeze.new.self.course ask b.frozen refl (subst (λ x. IsPageSoFar b.frozen x b.course (contents_of b s)) c.requires.on c.requires.sound.page) c.requires.sound.own.classes c.freeze.ensures.first (λ some. ap (λ (x : Builder). x.course) (c.freeze.ensures.again some)) in
-    let k : FitsSigned w64 c.args.ask.now.top_skip = search rules in
-    let glue = simp to_z-of_z at c.top_node-glue.ensures in
-    let h = topped b c.freeze.new.self s c.push_front.new.self ask n c.top_node-glue.result f.0 c.requires.sound c.requires.on c.requires.closed c.requires.fits c.requires.boxed f.1 c.freeze.ensures.ids c.freeze.ensures.frozen glue c.push_front.ensures.pushed u in
-    h.moves.own
+reach-event-requires-clause-own c = (glue_waits (goal.at.reach-event-requires-clause-own c).After-push_front).moves.own
 
 pub reach-event-requires-clause-first : goal.reach-event-requires-clause-first
-reach-event-requires-clause-first c =
-    let b = c.args.self.now in
-    let s = c.args.store.now in
-    let ask = c.args.ask.now in
-    let n = c.args.n.now in
-    let f = first_is (list_at s b.waiting) n c.requires.first in
-    let u = frozen_course (contents_of b s) b.course c.freeze.new.self.course ask b.frozen refl (subst (λ x. IsPageSoFar b.frozen x b.course (contents_of b s)) c.requires.on c.requires.sound.page) c.requires.sound.own.classes c.freeze.ensures.first (λ some. ap (λ (x : Builder). x.course) (c.freeze.ensures.again some)) in
-    let k : FitsSigned w64 c.args.ask.now.top_skip = search rules in
-    let glue = simp to_z-of_z at c.top_node-glue.ensures in
-    let h = topped b c.freeze.new.self s c.push_front.new.self ask n c.top_node-glue.result f.0 c.requires.sound c.requires.on c.requires.closed c.requires.fits c.requires.boxed f.1 c.freeze.ensures.ids c.freeze.ensures.frozen glue c.push_front.ensures.pushed u in
-    ap (λ xs. slice_get xs 0) h.list_is
+reach-event-requires-clause-first c = ap (λ xs. slice_get xs 0) (glue_waits (goal.at.reach-event-requires-clause-first c).After-push_front).list_is
 
 pub reach-event-requires-clause-underway : goal.reach-event-requires-clause-underway
-reach-event-requires-clause-underway c =
-    let b = c.args.self.now in
-    let s = c.args.store.now in
-    let ask = c.args.ask.now in
-    let n = c.args.n.now in
-    let f = first_is (list_at s b.waiting) n c.requires.first in
-    let u = frozen_course (contents_of b s) b.course c.freeze.new.self.course ask b.frozen refl (subst (λ x. IsPageSoFar b.frozen x b.course (contents_of b s)) c.requires.on c.requires.sound.page) c.requires.sound.own.classes c.freeze.ensures.first (λ some. ap (λ (x : Builder). x.course) (c.freeze.ensures.again some)) in
-    let k : FitsSigned w64 c.args.ask.now.top_skip = search rules in
-    let glue = simp to_z-of_z at c.top_node-glue.ensures in
-    let h = topped b c.freeze.new.self s c.push_front.new.self ask n c.top_node-glue.result f.0 c.requires.sound c.requires.on c.requires.closed c.requires.fits c.requires.boxed f.1 c.freeze.ensures.ids c.freeze.ensures.frozen glue c.push_front.ensures.pushed u in
-    h.underway
+reach-event-requires-clause-underway c = (glue_waits (goal.at.reach-event-requires-clause-underway c).After-push_front).underway
 
 pub reach-event-requires-clause-fits : goal.reach-event-requires-clause-fits
-reach-event-requires-clause-fits c =
-    let b = c.args.self.now in
-    let s = c.args.store.now in
-    let ask = c.args.ask.now in
-    let n = c.args.n.now in
-    let f = first_is (list_at s b.waiting) n c.requires.first in
-    let u = frozen_course (contents_of b s) b.course c.freeze.new.self.course ask b.frozen refl (subst (λ x. IsPageSoFar b.frozen x b.course (contents_of b s)) c.requires.on c.requires.sound.page) c.requires.sound.own.classes c.freeze.ensures.first (λ some. ap (λ (x : Builder). x.course) (c.freeze.ensures.again some)) in
-    let k : FitsSigned w64 c.args.ask.now.top_skip = search rules in
-    let glue = simp to_z-of_z at c.top_node-glue.ensures in
-    let h = topped b c.freeze.new.self s c.push_front.new.self ask n c.top_node-glue.result f.0 c.requires.sound c.requires.on c.requires.closed c.requires.fits c.requires.boxed f.1 c.freeze.ensures.ids c.freeze.ensures.frozen glue c.push_front.ensures.pushed u in
-    h.step
+reach-event-requires-clause-fits c = (glue_waits (goal.at.reach-event-requires-clause-fits c).After-push_front).step
 
 pub returns-then-self : goal.returns-then-self
 returns-then-self c =
-    let b = c.args.self.now in
-    let s = c.args.store.now in
-    let ask = c.args.ask.now in
-    let n = c.args.n.now in
-    let f = first_is (list_at s b.waiting) n c.requires.first in
-    let u = frozen_course (contents_of b s) b.course c.freeze.new.self.course ask b.frozen refl (subst (λ x. IsPageSoFar b.frozen x b.course (contents_of b s)) c.requires.on c.requires.sound.page) c.requires.sound.own.classes c.freeze.ensures.first (λ some. ap (λ (x : Builder). x.course) (c.freeze.ensures.again some)) in
-    let k : FitsSigned w64 c.args.ask.now.top_skip = search rules in
-    let glue = simp to_z-of_z at c.top_node-glue.ensures in
-    let h = topped b c.freeze.new.self s c.push_front.new.self ask n c.top_node-glue.result f.0 c.requires.sound c.requires.on c.requires.closed c.requires.fits c.requires.boxed f.1 c.freeze.ensures.ids c.freeze.ensures.frozen glue c.push_front.ensures.pushed u in
-    opening_stops b c.freeze.new.self c.reach-event.new.self s c.push_front.new.self c.reach-event.new.store ask n c.top_node-glue.result f.0 c.reach-event.result h (c.freeze.ensures.stopped ∙ c.requires.on) (c.freeze.ensures.opened ∙ c.requires.closed)
+    let w = (goal.at.returns-then-self c).After-push_front in
+    opening_stops c.args.self.now c.freeze.new.self c.reach-event.new.self c.args.store.now c.push_front.new.self c.reach-event.new.store c.args.ask.now c.args.n.now c.top_node-glue.result (waits w).0 c.reach-event.result (glue_waits w) (c.freeze.ensures.stopped ∙ c.requires.on) (c.freeze.ensures.opened ∙ c.requires.closed)
     c.reach-event.ensures.moves c.reach-event.ensures.step c.reach-event.ensures.opened c.reach-event.ensures.frozen c.if-self.true
 
 pub put-requires-clause-first : goal.put-requires-clause-first
 put-requires-clause-first c =
-    let b = c.args.self.now in
-    let s = c.args.store.now in
-    let ask = c.args.ask.now in
-    let n = c.args.n.now in
-    let f = first_is (list_at s b.waiting) n c.requires.first in
-    let u = frozen_course (contents_of b s) b.course c.freeze.new.self.course ask b.frozen refl (subst (λ x. IsPageSoFar b.frozen x b.course (contents_of b s)) c.requires.on c.requires.sound.page) c.requires.sound.own.classes c.freeze.ensures.first (λ some. ap (λ (x : Builder). x.course) (c.freeze.ensures.again some)) in
-    let k : FitsSigned w64 c.args.ask.now.top_skip = search rules in
-    let glue = simp to_z-of_z at c.top_node-glue.ensures in
-    let h = topped b c.freeze.new.self s c.push_front.new.self ask n c.top_node-glue.result f.0 c.requires.sound c.requires.on c.requires.closed c.requires.fits c.requires.boxed f.1 c.freeze.ensures.ids c.freeze.ensures.frozen glue c.push_front.ensures.pushed u in
-    ap (λ xs. slice_get xs 0) (c.reach-event.ensures.behind (n ∷ f.0) c.if-self.false h.list_is)
+    let w = (goal.at.put-requires-clause-first c).After-push_front in
+    ap (λ xs. slice_get xs 0) (c.reach-event.ensures.behind (c.args.n.now ∷ (waits w).0) c.if-self.false (glue_waits w).list_is)
 
 pub put-requires-clause-node : goal.put-requires-clause-node
 put-requires-clause-node c =
@@ -102,35 +63,19 @@ put-requires-clause-node c =
 
 pub put-requires-clause-fits : goal.put-requires-clause-fits
 put-requires-clause-fits c =
-    let b = c.args.self.now in
-    let s = c.args.store.now in
-    let ask = c.args.ask.now in
-    let n = c.args.n.now in
-    let f = first_is (list_at s b.waiting) n c.requires.first in
-    let u = frozen_course (contents_of b s) b.course c.freeze.new.self.course ask b.frozen refl (subst (λ x. IsPageSoFar b.frozen x b.course (contents_of b s)) c.requires.on c.requires.sound.page) c.requires.sound.own.classes c.freeze.ensures.first (λ some. ap (λ (x : Builder). x.course) (c.freeze.ensures.again some)) in
-    let k : FitsSigned w64 c.args.ask.now.top_skip = search rules in
-    let glue = simp to_z-of_z at c.top_node-glue.ensures in
-    let h = topped b c.freeze.new.self s c.push_front.new.self ask n c.top_node-glue.result f.0 c.requires.sound c.requires.on c.requires.closed c.requires.fits c.requires.boxed f.1 c.freeze.ensures.ids c.freeze.ensures.frozen glue c.push_front.ensures.pushed u in
-    opening_sums b c.freeze.new.self c.reach-event.new.self s c.push_front.new.self c.reach-event.new.store ask n c.top_node-glue.result f.0 c.reach-event.result h (c.freeze.ensures.stopped ∙ c.requires.on) (c.freeze.ensures.opened ∙ c.requires.closed)
+    let w = (goal.at.put-requires-clause-fits c).After-push_front in
+    opening_sums c.args.self.now c.freeze.new.self c.reach-event.new.self c.args.store.now c.push_front.new.self c.reach-event.new.store c.args.ask.now c.args.n.now c.top_node-glue.result (waits w).0 c.reach-event.result (glue_waits w) (c.freeze.ensures.stopped ∙ c.requires.on) (c.freeze.ensures.opened ∙ c.requires.closed)
     c.reach-event.ensures.moves c.reach-event.ensures.step c.reach-event.ensures.opened c.reach-event.ensures.frozen
-    c.requires.fits c.requires.boxed c.if-self.false (c.reach-event.ensures.behind (n ∷ f.0) c.if-self.false h.list_is)
+    c.requires.fits c.requires.boxed c.if-self.false (c.reach-event.ensures.behind (c.args.n.now ∷ (waits w).0) c.if-self.false (glue_waits w).list_is)
 
 pub returns : goal.returns
 returns c =
-    let b = c.args.self.now in
-    let s = c.args.store.now in
-    let ask = c.args.ask.now in
-    let n = c.args.n.now in
-    let f = first_is (list_at s b.waiting) n c.requires.first in
-    let u = frozen_course (contents_of b s) b.course c.freeze.new.self.course ask b.frozen refl (subst (λ x. IsPageSoFar b.frozen x b.course (contents_of b s)) c.requires.on c.requires.sound.page) c.requires.sound.own.classes c.freeze.ensures.first (λ some. ap (λ (x : Builder). x.course) (c.freeze.ensures.again some)) in
-    let k : FitsSigned w64 c.args.ask.now.top_skip = search rules in
-    let glue = simp to_z-of_z at c.top_node-glue.ensures in
-    let h = topped b c.freeze.new.self s c.push_front.new.self ask n c.top_node-glue.result f.0 c.requires.sound c.requires.on c.requires.closed c.requires.fits c.requires.boxed f.1 c.freeze.ensures.ids c.freeze.ensures.frozen glue c.push_front.ensures.pushed u in
+    let w = (goal.at.returns c).After-push_front in
     let d : Builder = record c.put.new.self { opened = true } in
-    let behind = c.reach-event.ensures.behind (n ∷ f.0) c.if-self.false h.list_is in
-    opening_goes b c.freeze.new.self c.reach-event.new.self s c.push_front.new.self c.reach-event.new.store ask n c.top_node-glue.result f.0 c.reach-event.result h (c.freeze.ensures.stopped ∙ c.requires.on) (c.freeze.ensures.opened ∙ c.requires.closed)
+    let behind = c.reach-event.ensures.behind (c.args.n.now ∷ (waits w).0) c.if-self.false (glue_waits w).list_is in
+    opening_goes c.args.self.now c.freeze.new.self c.reach-event.new.self c.args.store.now c.push_front.new.self c.reach-event.new.store c.args.ask.now c.args.n.now c.top_node-glue.result (waits w).0 c.reach-event.result (glue_waits w) (c.freeze.ensures.stopped ∙ c.requires.on) (c.freeze.ensures.opened ∙ c.requires.closed)
     c.reach-event.ensures.moves c.reach-event.ensures.step c.reach-event.ensures.opened c.reach-event.ensures.frozen
     c.requires.fits c.requires.boxed c.if-self.false behind
     d c.put.new.store (record { own = c.put.ensures.moves.own; others = c.put.ensures.moves.others; keeps = c.put.ensures.moves.keeps; classes = c.put.ensures.moves.classes; boxes = c.put.ensures.moves.boxes; held = c.put.ensures.moves.held })
     (record { waiting = c.put.ensures.shifted.waiting; page = c.put.ensures.shifted.page; frozen = c.put.ensures.shifted.frozen; stopped = c.put.ensures.shifted.stopped }) refl
-    c.put.ensures.course f.1 (c.put.ensures.behind f.0 behind)
+    c.put.ensures.course (waits w).1 (c.put.ensures.behind (waits w).0 behind)

@@ -1,7 +1,11 @@
-use Rattle.std.proofs.Common.{◌∙◌, sym, ap, ◌++◌}
+use Rattle.std.proofs.Common.{◌≡◌, ◌∙◌, sym, ap, refl, ◌++◌, None}
 use Rattle.std.specs.Option.{option_copied}
 use Rattle.tb_pool.specs.Lists.{list_at}
+use Rattle.tb_node.specs.declared.Insertion.{Insertion}
+use Rattle.tb_node.specs.declared.Role.{Role}
+use Rattle.tb_node.specs.declared.Role.TheVariants as roles
 use Rattle.tb_node.specs.Plain.{plain_list}
+use Rattle.tb_node.specs.Roles.{insertion_of_role}
 use Rattle.tb_insert.specs.Account.{labelled}
 use Rattle.tb_insert.specs.Running.{cut_in, last_let_in}
 use Rattle.tb_builder.specs.Firing.{share_told}
@@ -11,68 +15,74 @@ use Rattle.tb_builder.proofs.Events.FilledLemmas.{none_first}
 use Rattle.tb_builder.proofs.Sorting.SortLemmas.{first_class, first_nodes, first_sizes, first_top, marked_within, sorted_insertion, settled_sorts, settled_body, settled_left, never_empty, first_insertion}
 use Rattle.tb_builder.proofs.Builder.sort_first.Goals as goal
 
+-- a role that is not that of an insertion has none
+no_insertion_role : (r : Role) → ((i : Insertion) → r ≡ roles.Insertion i → ⊥) → insertion_of_role r ≡ None
+no_insertion_role roles.Matter h = refl
+no_insertion_role (roles.Insertion i) h = absurd (h i refl)
+no_insertion_role (roles.Act a) h = refl
+
 pub unreachable-requires : goal.unreachable-requires
 unreachable-requires c =
     let ns = list_at c.args.store.now c.args.self.now.page in
     never_empty ns (none_first ns (sym c.get.ensures ∙ ap option_copied c.in_default.is)) c.requires.first
 
-pub unreachable-requires-in_default-insertion_of : goal.unreachable-requires-in_default-insertion_of
-unreachable-requires-in_default-insertion_of c =
+pub unreachable-requires-in_default-role : goal.unreachable-requires-in_default-role
+unreachable-requires-in_default-role c =
     let s = c.args.store.now in
     let f = first_is (list_at s c.args.self.now.page) c.in-Some.n.now (sym c.in-Some.ensures) in
-    first_insertion (list_at s c.args.self.now.page) c.in-Some.n.now f.0 f.1 c.requires.first (sym c.insertion_of.ensures ∙ c.in_default-insertion_of.is)
+    first_insertion (list_at s c.args.self.now.page) c.in-Some.n.now f.0 f.1 c.requires.first (sym c.role.ensures.insertion ∙ no_insertion_role c.role.result c.in_default-role.not-Insertion)
 
 pub share_at-share-requires : goal.share_at-share-requires
 share_at-share-requires c =
     let b = c.args.self.now in
     let s = c.args.store.now in
     let f = first_is (list_at s b.page) c.in-Some.n.now (sym c.in-Some.ensures) in
-    let is = sym c.insertion_of.ensures ∙ c.in-Some-insertion_of.is in
-    first_class b s c.in-Some.n.now f.0 c.in-Some-insertion_of.i c.requires.own f.1 is
+    let is = sym c.in-Insertion.ensures.insertion in
+    first_class b s c.in-Some.n.now f.0 c.in-Insertion.i c.requires.own f.1 is
 
 pub settle-requires-clause-within : goal.settle-requires-clause-within
 settle-requires-clause-within c =
     let b = c.args.self.now in
     let s = c.args.store.now in
     let f = first_is (list_at s b.page) c.in-Some.n.now (sym c.in-Some.ensures) in
-    let is = sym c.insertion_of.ensures ∙ c.in-Some-insertion_of.is in
-    marked_within b s c.in-Some.n.now f.0 c.in-Some-insertion_of.i c.args.index c.share_at-share.result c.requires.own f.1 is c.requires.marked (c.share_at-share.ensures c.requires.marked.z c.requires.marked.page (c.requires.marked.before ++ plain_list s b.page) c.requires.marked.stands)
+    let is = sym c.in-Insertion.ensures.insertion in
+    marked_within b s c.in-Some.n.now f.0 c.in-Insertion.i c.args.index c.share_at-share.result c.requires.own f.1 is c.requires.marked (c.share_at-share.ensures c.requires.marked.z c.requires.marked.page (c.requires.marked.before ++ plain_list s b.page) c.requires.marked.stands)
 
 pub settle-requires-clause-top : goal.settle-requires-clause-top
 settle-requires-clause-top c =
     let b = c.args.self.now in
     let s = c.args.store.now in
     let f = first_is (list_at s b.page) c.in-Some.n.now (sym c.in-Some.ensures) in
-    let is = sym c.insertion_of.ensures ∙ c.in-Some-insertion_of.is in
-    first_top b s c.in-Some.n.now f.0 c.in-Some-insertion_of.i c.requires.own f.1 is c.requires.fits
+    let is = sym c.in-Insertion.ensures.insertion in
+    first_top b s c.in-Some.n.now f.0 c.in-Insertion.i c.requires.own f.1 is c.requires.fits
 
 pub settle-requires-clause-nodes : goal.settle-requires-clause-nodes
 settle-requires-clause-nodes c =
     let b = c.args.self.now in
     let s = c.args.store.now in
     let f = first_is (list_at s b.page) c.in-Some.n.now (sym c.in-Some.ensures) in
-    let is = sym c.insertion_of.ensures ∙ c.in-Some-insertion_of.is in
-    first_nodes b s c.in-Some.n.now f.0 c.in-Some-insertion_of.i c.requires.own f.1 is c.requires.fits
+    let is = sym c.in-Insertion.ensures.insertion in
+    first_nodes b s c.in-Some.n.now f.0 c.in-Insertion.i c.requires.own f.1 is c.requires.fits
 
 pub settle-requires-clause-sizes : goal.settle-requires-clause-sizes
 settle-requires-clause-sizes c =
     let b = c.args.self.now in
     let s = c.args.store.now in
     let f = first_is (list_at s b.page) c.in-Some.n.now (sym c.in-Some.ensures) in
-    let is = sym c.insertion_of.ensures ∙ c.in-Some-insertion_of.is in
-    first_sizes b s c.in-Some.n.now f.0 c.in-Some-insertion_of.i c.requires.own f.1 is c.requires.fits
+    let is = sym c.in-Insertion.ensures.insertion in
+    first_sizes b s c.in-Some.n.now f.0 c.in-Insertion.i c.requires.own f.1 is c.requires.fits
 
 pub returns : goal.returns
 returns c =
     let b = c.args.self.now in
     let s = c.args.store.now in
     let f = first_is (list_at s b.page) c.in-Some.n.now (sym c.in-Some.ensures) in
-    let is = sym c.insertion_of.ensures ∙ c.in-Some-insertion_of.is in
+    let is = sym c.in-Insertion.ensures.insertion in
     let settled = c.settle.ensures.settles in
     let d = c.settle.new.self in
     let t = c.settle.new.store in
     let n = c.in-Some.n.now in
-    let i = c.in-Some-insertion_of.i in
+    let i = c.in-Insertion.i in
     let share = c.share_at-share.result in
     record {
       sorts = λ body free. settled_sorts b d s t n i share body settled free;

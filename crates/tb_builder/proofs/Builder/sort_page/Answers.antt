@@ -1,6 +1,4 @@
-use Rattle.std.proofs.Common.{length}
-use Rattle.tb_pool.specs.Lists.{list_at}
-use Rattle.tb_builder.proofs.Sorting.SortingLemmas.{sorting_begins, sorting_next, still_body, run_fits, run_marked, insertion_fewer, insertion_went, none_told, rest_sorts, rest_sorted, rest_empty}
+use Rattle.tb_builder.proofs.Sorting.SortingLemmas.{sorting_begins, still_body, run_fits, run_marked, insertion_fewer, insertion_went, none_told, rest_sorts, rest_sorted, rest_empty}
 use Rattle.tb_builder.proofs.Builder.sort_page.Goals as goal
 
 pub returns-then-not-has_insertion : goal.returns-then-not-has_insertion

@@ -1,6 +1,6 @@
 use Rattle.std.proofs.Common.{◌∙◌, sym, subst}
 use Rattle.tb_pool.specs.Lists.{list_at}
-use Rattle.tb_builder.proofs.Sorting.PlaceLemmas.{Looking, looking_begins, looking_some, looking_next, looking_found, looking_none}
+use Rattle.tb_builder.proofs.Sorting.PlaceLemmas.{Looking, looking_next}
 use Rattle.tb_builder.proofs.moving.insertion_place.Goals as goal
 
 pub loop-n-preserved : goal.loop-n-preserved
