@@ -19,7 +19,7 @@ use Rattle.tb_galley.specs.declared.pieces.Progress.TheVariants.{Lines, TooLong,
 use Rattle.tb_galley.specs.Pieces.{Progress, with_byte, take_byte, line_ended, with_last}
 use Rattle.tb_galley.proofs.Kept.{kept-append, kept_short, kept_nothing, length-kept}
 
--- ---- a line that is too long is so whatever its bytes are
+-- ---- a line that is too long is too long whatever its bytes are
 
 stripped_by : (t : Bool) (l : List ℕ) → length l - 1 ≤ length (if t then take (length l - 1) l else l)
 stripped_by true l = omega (arith, length-take (length l - 1) l)

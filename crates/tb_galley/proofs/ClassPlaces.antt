@@ -1,4 +1,4 @@
--- Where a class stands among those of rising numbers, and what a write, an insert or a push there gives.
+-- The place of a class among those of rising numbers, and what a write, an insert or a push there gives.
 use Rattle.std.proofs.Common.{◌≡◌, ℕ, zero, suc, ◌<◌, ◌≤◌, true, false, ◌==◌, nat_lt, List, [], ◌∷◌, ◌++◌, length, get_or, set, Result, Ok, Err, IfOk, IfErr, OnOk, OnErr, if◌then◌else◌, refl, ap, sym, ◌∙◌, arith}
 use Rattle.std.specs.List.{All, insert}
 use Rattle.std.specs.List.Sorted.{IsSearchInRange, IsBinarySearchResult, IsNonDecreasingBy}

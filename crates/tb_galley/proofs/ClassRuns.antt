@@ -45,7 +45,7 @@ still_classes n (c ∷ cs) h =
 abbrev are_under : ℕ → List ClassLine → Bool
 are_under n cs = list_all (λ (d : ClassLine). nat_lt d.number n) cs
 
--- all before have smaller numbers than the first
+-- all those before have smaller numbers than the first
 abbrev are_over : List ClassLine → List ClassLine → Bool
 are_over before [] = true
 are_over before (c ∷ cs) = are_under c.number before

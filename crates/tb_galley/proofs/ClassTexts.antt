@@ -14,7 +14,7 @@ use Rattle.tb_galley.specs.declared.classes.ClassLine.{ClassLine}
 use Rattle.tb_galley.specs.Words.{class_line, foot, Known, number_or}
 use Rattle.tb_galley.specs.Values.{range_slot, class_slot, is_class_among, is_foot_class}
 use Rattle.tb_galley.specs.Print.{class_text}
-use Rattle.tb_text.specs.Fields.{and_number, and_text, and_count}
+use Rattle.tb_text.specs.Fields.{and_number, and_count}
 use Rattle.tb_galley.specs.Valid.{is_size, is_class}
 use Rattle.tb_galley.proofs.FieldTexts.{IsFit, AllFit, tail_text}
 use Rattle.tb_galley.proofs.SlotTexts.{ReadsAs, range_fit, size_fit, glue_fields, glue_is, glue_fit, glue_short, glue_back, dimension_read, integer_read, size_small, dimen_length, within_small, read_none}
@@ -76,7 +76,7 @@ class_back k c good =
 abbrev pub numbers_of : List ClassLine → List ℕ
 numbers_of cs = map (λ (c : ClassLine). c.number) cs
 
--- what is known where a galley of the version has declared these classes
+-- what is known if a galley of the version has declared these classes
 abbrev pub known_by : ℕ → List ClassLine → Known
 known_by v cs = record { version = v; classes = numbers_of cs }
 

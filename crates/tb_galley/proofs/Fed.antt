@@ -1,4 +1,4 @@
--- What a reader was fed decides what it answers.
+-- What a reader was fed decides what it returns.
 use Rattle.std.proofs.Common.{◌≡◌, ℕ, ◌+◌, ◌≤◌, Bool, true, false, nat_lt, List, [], ◌∷◌, ◌++◌, length, Option, Some, None, Result, Ok, Err, IfOk, if◌then◌else◌, refl, ap, ◌∙◌, sym, subst, arith}
 use Rattle.std.specs.List.{fold}
 use Rattle.std.specs.Str.Lines.{strip_carriage_return}
@@ -23,7 +23,7 @@ use Rattle.tb_galley.proofs.SameStep.{left_exact}
 use Rattle.tb_galley.proofs.Sound.{valid_galley}
 use Rattle.tb_galley.proofs.ByBytes.{closed, closed_text}
 
--- ---- the answer at the end
+-- ---- what is returned at the end
 
 -- neither too long nor out of memory
 abbrev HasLines : Progress → Type 0
@@ -41,7 +41,7 @@ has_lines_fold (Lines s line) (b ∷ bytes) h = has_lines_fold (with_byte s line
 has_lines_fold TooLong (b ∷ bytes) h = absurd h
 has_lines_fold OutOfMemory (b ∷ bytes) h = absurd h
 
--- this is answered at the end
+-- this is returned at the end
 abbrev pub Ends : Progress → Result Galley Fault → Type 0
 Ends (Lines s line) answer = verdict (with_last s line) ≡ answer
 Ends TooLong answer = Err (fault 0 0 InputSize) ≡ answer
@@ -68,7 +68,7 @@ fed_ends bytes =
     subst (λ t. Ends (if t then TooLong else fold take_byte (Lines start []) bytes) (grammar bytes)) (same_size (length bytes))
     (ends_by bytes (nat_lt input_limit (length bytes)))
 
--- a reader that was fed these bytes answers what they spell
+-- a reader that was fed these bytes returns what they spell
 pub ended : (bytes : List ℕ) (r : Reading) (p : Progress) → r ≡ fed bytes → r.progress ≡ p → Ends p (grammar bytes)
 ended bytes r p e f = subst (λ q. Ends q (grammar bytes)) f (subst (λ s. Ends s.progress (grammar bytes)) (sym e) (fed_ends bytes))
 
@@ -97,7 +97,7 @@ fed-append bytes piece =
     ∙ ap (λ k. if nat_lt input_limit k then TooLong else fold take_byte (Lines start []) (bytes ++ piece)) sums in
     λ i. record { taken = sums i; progress = steps i }
 
--- ---- what a reader keeps of so many bytes
+-- ---- what a reader keeps of this many bytes
 
 -- one more line at most, and one more item
 record Follows (s t : State) : Type 0 where
@@ -110,7 +110,7 @@ count_by n false = omega arith
 
 follows_said : (s : State) (r : Result (Option Said) At) → Follows s (said_unless s r)
 follows_said s (Ok None) = record { lines = omega arith; count = omega arith }
-follows_said s (Ok (Some w)) = record { lines = omega arith; count = count_by s.count (word_passes is_item_word (Some w.word)) }
+follows_said s (Ok (Some w)) = record { lines = omega arith; count = count_by s.count (word_passes is_item_word (Some w.0)) }
 follows_said s (Err e) = record { lines = omega arith; count = omega arith }
 
 follows_first : (s : State) (bytes : List ℕ) (o : Option Fault) → Follows s (said_first s bytes o)

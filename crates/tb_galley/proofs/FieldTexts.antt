@@ -101,7 +101,7 @@ fit_none n m (s ∷ ss) (f ∷ fs) fit = no_cause n f (slot_cause s f) (value_ca
 
 -- ---- a whole line
 
--- a line that begins with this word's spelling, where the word counts
+-- a line that begins with this word's spelling, if the word counts
 pub record IsWord (k : Known) (head : List ℕ) (w : LineWord) : Type 0 where
   pub text : IsText head
   pub short : length head ≤ 14
@@ -111,7 +111,7 @@ pub record IsWord (k : Known) (head : List ℕ) (w : LineWord) : Type 0 where
 
 pub line_back : (p : Phase) (k : Known) (c n : ℕ) (head : List ℕ) (w : LineWord) (fs : List (List ℕ)) → IsWord k head w → AllFit (word_slots k fs w) fs → tail_length fs ≤ 200
     → first_of (place_causes p (Some w)) ≡ None → first_of (item_causes c (Some w)) ≡ None
-    → line_left p k c n (head ++ tail_text fs) ≡ Ok (Some (record { word = w; content = content_of n fs w }))
+    → line_left p k c n (head ++ tail_text fs) ≡ Ok (Some (w, content_of n fs w))
 unfolding line_left content_line
 line_back p k c n head w fs is_word fit short place fits =
     let short_line : nat_lt 255 (length (head ++ tail_text fs)) ≡ false = not_long (length (head ++ tail_text fs)) (omega (arith, length-append head (tail_text fs), length-tail_text fs, is_word.short)) in

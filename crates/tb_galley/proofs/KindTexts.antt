@@ -145,7 +145,7 @@ places_back false false false true false some = record { printable = refl; some 
 places_back false false false false true some = record { printable = refl; some = omega arith; short = omega arith; ok = refl; at = refl; banged = refl }
 places_back false false false false false some = cc
 
--- ---- items that stand outside footnotes alone
+-- ---- items that may only be outside footnotes
 
 pub wide_field : Bool → List ℕ
 wide_field wide = if wide then codes "double" else codes "single"

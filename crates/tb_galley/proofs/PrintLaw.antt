@@ -34,7 +34,7 @@ use Rattle.tb_galley.specs.Faults.{fault}
 use Rattle.tb_galley.specs.Grammar.{empty_draft, grammar, spelled, input_limit}
 use Rattle.tb_galley.specs.Machine.{State, start, verdict}
 use Rattle.tb_galley.specs.Print.{set_lines, leaf_text, leaf_lines, item_text, item_lines, class_lines, header_text, foot_text, printed}
-use Rattle.tb_text.specs.Fields.{line, and_text, and_count}
+use Rattle.tb_text.specs.Fields.{line, and_count}
 use Rattle.tb_galley.specs.Valid.{weight_of, weight, fits_version, is_class, do_classes_rise, has_known_class, IsValid}
 use Rattle.tb_galley.specs.ReadBack.{unnumbered_leaf, unnumbered_kind, unnumbered_item, unnumbered, ReadsBack}
 use Rattle.tb_galley.proofs.SoundLines.{drafted}
@@ -150,7 +150,7 @@ canonical_text g =
 
 -- ---- the law
 
--- how many lines stand before the items
+-- how many lines come before the items
 abbrev front : Galley → ℕ
 front g = 1 + length (rows_for g.version) + length g.classes
 
@@ -330,7 +330,7 @@ same_galley : (g : Galley) → unnumbered (renumbered g) ≡ unnumbered g
 unfolding renumbered
 same_galley g = (λ j. record { params = g.params; version = g.version; classes = same_classes (sets_end g + 1) g.classes j; items = same_list (front g + 1) g.items j; end_line = 0 })
 
--- the canonical text is read as the galley, whose items stand after the header, the sets and the classes
+-- the canonical text is read as the galley, whose items come after the header, the sets and the classes
 is_read : (g : Galley) → IsValid g → length (printed g) ≤ input_limit → grammar (printed g) ≡ Ok (renumbered g)
 unfolding grammar renumbered
 is_read g valid short =

@@ -150,7 +150,7 @@ kind_lines v k = item_line k ∷ []
 
 -- ---- words in their phases
 
--- items may stand in the phase, and no footnote is open
+-- items may come in the phase, and no footnote is open
 abbrev pub takes_items : Phase → Bool
 takes_items at_start = false
 takes_items among_sets = true

@@ -60,7 +60,7 @@ leaf_item_class ks (leaves.Skip g) = refl
 leaf_item_class ks (leaves.Kern w) = refl
 leaf_item_class ks (leaves.Penalty p) = refl
 
--- whether a box may stand in the phase, and whether an item may that stands outside feet alone
+-- whether a box may come in the phase, and whether an item may that is outside feet alone
 abbrev takes_leaves : Phase → Bool
 takes_leaves at_start = false
 takes_leaves among_sets = true
@@ -169,7 +169,7 @@ class_version k h = by_test (k.version == 1) h
     by_test true h = cc
     by_test false h = refl
 
--- the class of each footnote is known where one more is declared
+-- the class of each footnote is known if one more is declared
 still_known : (line : ClassLine) (cs : List ClassLine) (k : ItemKind) → has_known_class (numbers cs) k ≡ true → has_known_class (numbers (with_class line cs)) k ≡ true
 still_known line cs (items.Foot class ls) h = among-with line cs class h
 still_known line cs k h = refl
@@ -246,7 +246,7 @@ said_sound s (Ok None) none sound said =
     subst (λ o. SoundBy o (record s { lines = s.lines + 1 })) (sym none) (past_line s.lines s.phase s.count s.draft sound)
 said_sound s (Ok (Some w)) none sound said =
     subst (λ o. SoundBy o (past_said s (Some w))) (sym none)
-    (content_steps s.lines s.phase s.count s.draft w.word w.content said.place said.items said.here said.suits sound)
+    (content_steps s.lines s.phase s.count s.draft w.0 w.1 said.place said.items said.here said.suits sound)
 said_sound s (Err e) none sound said = tt
 
 first_sound : (s : State) (bytes : List ℕ) (o : Option Fault) → s.first ≡ o → SoundBy o s → IsSoundReader (said_first s bytes o)

@@ -211,7 +211,7 @@ header_line n among_items c d v some place s = cc
 header_line n in_foot c d v some place s = cc
 header_line n ended c d v some place s = cc
 
--- the release stays where another parameter is set
+-- the release stays if another parameter is set
 keeps_release : (field : Field) (value : Value) (ps : Params) → is_known_in 1 field ≡ true → has_second (with_value field value ps) ≡ has_second ps
 keeps_release fields.Textheight value ps known = refl
 keeps_release fields.Topskip value ps known = refl

@@ -1,4 +1,4 @@
--- What a line says suits its word and its place, and lies in its ranges.
+-- What a line says suits its word and its place, and is in its ranges.
 use Rattle.std.proofs.Common.{◌≡◌, ℕ, Bool, true, false, ◌||◌, ◌==◌, nat_lt, nat_abs, length, List, [], ◌∷◌, Option, Some, None, Result, Ok, Err, IfOk, if◌then◌else◌, refl, sym, subst, ◌⊎◌, inl, inr, pos, negsuc}
 use Rattle.std.specs.Prelude.{codes}
 use Rattle.std.specs.List.{list_all}
@@ -30,7 +30,7 @@ use Rattle.tb_galley.proofs.InRange.{bind_has, then_has, mapped_has, has_more, s
 
 -- ---- what a line may say by its word
 
--- an item that takes one line and stands outside feet alone
+-- an item that takes one line and is outside feet alone
 abbrev pub is_single_word : LineWord → Bool
 is_single_word mark = true
 is_single_word note = true
@@ -88,7 +88,7 @@ set_suits k n m l name (Some r) found =
     (has_more (λ x. fits r.form x.0 ≡ true) (λ x. Suits k n setting (contents.Set r.field x.0)) (value_left r.form l)
     (λ x good. (refl, (λ p h. stays_in_range name r x.0 p row.0 good h), row.1)) (value_has r.form l))
 
--- content that is made of what is read, where it suits wherever the reading is in its range
+-- content that is made of what is read, if it suits whenever the reading is in its range
 made_has : {X : Type 0} (k : Known) (n : ℕ) (w : LineWord) (P : X → Type 0) (f : X → Content) (r : Result (X × Left) At) → IfOk r (λ x. P x.0) → ((x : X) → P x → Suits k n w (f x))
     → IfOk (mapped f r) (λ x. Suits k n w x.0)
 made_has k n w P f r h good = mapped_has (λ c. Suits k n w c) f r (has_more (λ x. P x.0) (λ x. Suits k n w (f x.0)) r (λ x in_x. good x.0 in_x) h)
@@ -124,12 +124,12 @@ content_suits k n end l = refl
 
 -- ---- a whole line
 
--- a line that is read in this phase after so many lines of items
+-- a line that is read in this phase after this many lines of items
 pub record SaidSuits (p : Phase) (k : Known) (count n : ℕ) (w : Said) : Type 0 where
-  pub place : first_of (place_causes p (Some w.word)) ≡ None
-  pub items : first_of (item_causes count (Some w.word)) ≡ None
-  pub suits : Suits k n w.word w.content
-  pub here : word_here k (Some w.word) ≡ Some w.word
+  pub place : first_of (place_causes p (Some w.0)) ≡ None
+  pub items : first_of (item_causes count (Some w.0)) ≡ None
+  pub suits : Suits k n w.0 w.1
+  pub here : word_here k (Some w.0) ≡ Some w.0
 
 abbrev pub IfSaid : (Said → Type 0) → Option Said → Type 0
 IfSaid P None = Unit {0}
@@ -139,7 +139,7 @@ finished_has : {X : Type 0} (P : X → Type 0) (r : Result (X × Left) At) → I
 finished_has P (Ok x) h = bind_has P (end_left x.1) (λ y. Ok x.0) (λ y. h)
 finished_has P (Err e) h = tt
 
-said_has : (P : Said → Type 0) (w : LineWord) (r : Result Content At) → IfOk r (λ c. P (record { word = w; content = c })) → IfOk (said w r) (IfSaid P)
+said_has : (P : Said → Type 0) (w : LineWord) (r : Result Content At) → IfOk r (λ c. P (w, c)) → IfOk (said w r) (IfSaid P)
 said_has P w (Ok c) h = h
 said_has P w (Err e) h = tt
 
@@ -147,7 +147,7 @@ worded_suits : (p : Phase) (k : Known) (count : ℕ) (l : Line) (w : LineWord) �
     → word_here k (Some w) ≡ Some w → IfOk (worded_left k l (Some w)) (IfSaid (SaidSuits p k count l.number))
 worded_suits p k count l w place fits here =
     said_has (SaidSuits p k count l.number) w (finished (content_left k l.number w (record { number = 2; missing = missing_cause w; fields = l.fields })))
-    (has_more (λ c. Suits k l.number w c) (λ c. SaidSuits p k count l.number (record { word = w; content = c })) (finished (content_left k l.number w (record { number = 2; missing = missing_cause w; fields = l.fields })))
+    (has_more (λ c. Suits k l.number w c) (λ c. SaidSuits p k count l.number (w, c)) (finished (content_left k l.number w (record { number = 2; missing = missing_cause w; fields = l.fields })))
     (λ c h. record { place = place; items = fits; suits = h; here = here })
     (finished_has (λ c. Suits k l.number w c) (content_left k l.number w (record { number = 2; missing = missing_cause w; fields = l.fields })) (content_suits k l.number w (record { number = 2; missing = missing_cause w; fields = l.fields }))))
 

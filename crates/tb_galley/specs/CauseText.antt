@@ -4,7 +4,7 @@ use Rattle.tb_galley.specs.declared.Cause.{Cause}
 use Rattle.tb_galley.specs.declared.Cause.TheVariants as causes
 use Rattle.tb_galley.specs.declared.Fault.{Fault}
 
--- the name that the line on err gives
+-- the name in the line on standard error
 abbrev pub cause_name : Cause → List ℕ
 cause_name causes.InputSize = codes "InputSize"
 cause_name causes.LineLength = codes "LineLength"
@@ -47,6 +47,6 @@ is_range_cause causes.Class = true
 is_range_cause causes.Parameter = true
 is_range_cause _ = false
 
--- where an input is at fault, and why
+-- where and why an input is at fault
 abbrev pub fault_text : Fault → List ℕ
 fault_text f = codes "line " ++ (decimal f.line ++ (codes " field " ++ (decimal f.field ++ (codes ": " ++ cause_name f.cause))))

@@ -8,7 +8,7 @@ do_classes_rise [] = true
 do_classes_rise (c ∷ []) = true
 do_classes_rise (c ∷ d ∷ ds) = nat_lt c.number d.number && do_classes_rise (d ∷ ds)
 
--- a class among those of other numbers, which rise; it takes the place of one of its number
+-- a class among those of other numbers, which rise; it replaces one of its number
 abbrev pub with_class : ClassLine → List ClassLine → List ClassLine
 with_class c [] = c ∷ []
 with_class c (d ∷ ds) = if c.number == d.number then c ∷ ds else (if nat_lt c.number d.number then c ∷ d ∷ ds else d ∷ with_class c ds)
@@ -18,7 +18,7 @@ pub record IsAt (cs : List ClassLine) (n k : ℕ) : Type 0 where
   pub in_range : k < length cs
   pub has_number : (d : ClassLine) → (slice_index_or cs k d).number ≡ n
 
--- a class of number n would go at place k: smaller numbers stand before it, and greater ones from it on
+-- a class of number n would go at place k: smaller numbers come before it, and greater ones from it on
 pub record IsGapFor (cs : List ClassLine) (n k : ℕ) : Type 0 where
   pub in_range : k ≤ length cs
   pub smaller_before : (j : ℕ) (d : ClassLine) → j < k → (slice_index_or cs j d).number < n

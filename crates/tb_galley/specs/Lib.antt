@@ -1,3 +1,4 @@
+pub mod Spelling
 pub mod Words
 pub mod Classes
 pub mod Values
@@ -6,7 +7,6 @@ pub mod Grammar
 pub mod Machine
 pub mod Reading
 pub mod Line
-pub mod SaidBy
 pub mod Unfinished
 pub mod Pieces
 pub mod Print

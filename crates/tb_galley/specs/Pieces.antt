@@ -14,7 +14,7 @@ pub record Reading : Type 0 where
   pub taken : ℕ
   pub progress : Progress
 
--- one more byte of a line, of which it is known whether it ends the line
+-- one more byte of a line; the test says whether it ends the line
 abbrev pub with_byte : State → List ℕ → ℕ → Bool → Progress
 with_byte s line b true = Lines (take_said s (strip_carriage_return line)) []
 with_byte s line b false = Lines s (kept_line (line ++ b ∷ []))
@@ -30,16 +30,16 @@ abbrev pub line_ended : List ℕ → List ℕ → List ℕ
 line_ended [] end = end
 line_ended (b ∷ line) end = b ∷ line
 
--- the lines with the one that ends with the text; where nothing was read of it there is none
+-- the lines with the one that ends with the text; if nothing was read of it, there is none
 abbrev pub with_last : State → List ℕ → State
 with_last s [] = s
 with_last s (b ∷ line) = take_said s (strip_carriage_return (b ∷ line))
 
--- one more piece, with which so many bytes were taken
+-- one more piece, with which this many bytes were taken
 abbrev pub progress_to : Progress → ℕ → List ℕ → Progress
 progress_to p n piece = if nat_lt input_limit n then TooLong else fold take_byte p piece
 
--- so many more bytes; the count stays at the last value of a `u64`
+-- this many more bytes; the count saturates at the last value of a `u64`
 abbrev pub count_after : ℕ → ℕ → ℕ
 count_after n more = min (n + more) (2 ^ 64 - 1)
 
@@ -63,7 +63,7 @@ without_memory r = record r { progress = OutOfMemory }
 abbrev pub IsOutOfMemory : Reading → Type 0
 IsOutOfMemory r = r.progress ≡ OutOfMemory
 
--- what so many bytes may have given: no more lines and no more lines of items; and it is what some lines give
+-- what this many bytes may have given: no more lines and no more lines of items, and it is what some lines give
 pub record Reaches (n : ℕ) (s : State) : Type 0 where
   pub size : n ≤ 8388608
   pub lines : s.lines ≤ n
@@ -76,7 +76,7 @@ IsReached n (Lines s line) = Reaches n s
 IsReached n TooLong = Unit {0}
 IsReached n OutOfMemory = Unit {0}
 
--- the counts of lines may rise with so many more bytes
+-- with this many more bytes the counts of lines stay within the limit of an input
 abbrev pub HasRoom : Progress → ℕ → Type 0
 HasRoom (Lines s line) more = (s.lines + more ≤ 8388608) × (s.count + more ≤ 8388608)
 HasRoom TooLong more = Unit {0}

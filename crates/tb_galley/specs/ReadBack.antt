@@ -9,7 +9,7 @@ use Rattle.tb_galley.specs.declared.Galley.{Galley}
 use Rattle.tb_galley.specs.Grammar.{grammar}
 use Rattle.tb_galley.specs.Print.{printed}
 
--- what stands in a footnote, without its line
+-- what is in a footnote, without its line
 abbrev pub unnumbered_leaf : Leaf → Leaf
 unnumbered_leaf l = record l { line = 0 }
 

@@ -1,7 +1,7 @@
 -- A line whose end was not read yet.
 use Rattle.std.specs.Prelude.{ℕ, List, take}
 
--- the most bytes that are kept of it: a line of so many is too long, a carriage return at its end or not
+-- the most bytes that are kept of it: a line of this many is too long, with a carriage return at its end or not
 abbrev pub kept_length : ℕ
 kept_length = 257
 

@@ -1,4 +1,4 @@
--- Galleys whose values lie in their ranges.
+-- Galleys whose values are in their ranges.
 use Rattle.std.specs.Prelude.{ℕ, ◌+◌, ℤ, pos, neg_ℤ, Bool, true, not, ◌&&◌, ◌||◌, ◌==◌, nat_le, nat_lt, IsTrue, List, [], ◌∷◌, ◌++◌, length, map}
 use Rattle.std.specs.List.{list_all}
 use Rattle.tb_scaled.specs.Scaled.{max_dimen}
@@ -24,7 +24,7 @@ use Rattle.tb_galley.specs.declared.Galley.{Galley}
 abbrev pub is_size : ℤ → Bool
 is_size v = is_within (pos 0) max_dimen v
 
--- what stands in a footnote has its amounts in their ranges
+-- what is in a footnote has its amounts in their ranges
 abbrev pub is_leaf : LeafKind → Bool
 is_leaf (leaves.Hbox name h d) = is_name name && is_size h && is_size d
 is_leaf (leaves.Rule name h d) = is_name name && is_size h && is_size d
@@ -70,7 +70,7 @@ abbrev pub weight : List Item → ℕ
 weight [] = 0
 weight (n ∷ ns) = weight_of n.kind + weight ns
 
--- the lines that must rise: those of boxes, rules, floats and notes, and of what stands in feet
+-- the lines that must rise: those of boxes, rules, floats and notes, and of what is in feet
 abbrev pub leaf_lines : List Leaf → List ℕ
 leaf_lines [] = []
 leaf_lines (l ∷ ls) = l.line ∷ leaf_lines ls
@@ -110,7 +110,7 @@ abbrev pub fits_version : ℕ → List ClassLine → Params → Bool
 fits_version version [] p = (version == 1 && not (has_second p)) || version == 2
 fits_version version (c ∷ cs) p = version == 2
 
--- all values lie in their ranges, the version knows what the galley has, each footnote's class is declared, the items are not too many, and the lines rise
+-- all values are in their ranges, the version knows what the galley has, each footnote's class is declared, the items are not too many, and the lines rise
 pub record IsValid (g : Galley) : Type 0 where
   pub params : IsTrue (are_params g.params)
   pub version : IsTrue (fits_version g.version g.classes g.params)

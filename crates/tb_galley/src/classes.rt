@@ -50,7 +50,7 @@ impl Classes {
         }
     }
 
-    /// Adds one at the end, whose number is greater than all before it. Where memory runs out, all is as before.
+    /// Adds one at the end, whose number is greater than all those before it. If memory runs out, all is as before.
     pub fn push(&mut self, class: ClassLine) -> Result<(), AllocError>
         requires { All (λ c. c.number < class.number) self.old }
         ensures ok { OnOk result (self.new ≡ self.old ++ class ∷ []) }
@@ -59,8 +59,7 @@ impl Classes {
         push_at(&mut self.items, class)
     }
 
-    /// Adds one at the place of its number, where it takes the place of one of that number. Where memory runs out, all is as
-    /// before.
+    /// Adds one at the place of its number; it replaces one that has this number. If memory runs out, all is as before.
     pub(crate) fn declare(&mut self, class: ClassLine) -> Result<(), AllocError>
         ensures ok { OnOk result (self.new ≡ with_class class self.old) }
         ensures err { OnErr result (self.new ≡ self.old) }
@@ -97,7 +96,7 @@ impl Classes {
         self.items.is_empty()
     }
 
-    /// The one at this place, counted from 0, or `None` exactly where there are no more than `place`.
+    /// The one at this place, counted from 0, or `None` exactly if there are no more than `place`.
     pub fn get(&self, place: usize) -> Option<&ClassLine>
         ensures value { option_copied result ≡ slice_get self.now place }
         ensures none { IsNone result ↔ (length self.now ≤ place) }

@@ -1,5 +1,4 @@
 //! What a content line says.
-ghost use Rattle.std.specs.Prelude.{◌≡◌};
 ghost use Rattle.tb_galley.specs.Machine.{known_in};
 ghost use Rattle.tb_galley.specs.Reading.{left_of, Gives, float_left, margin_left, area_left, value_left, set_left, class_left, foot_left, content_left};
 

@@ -6,7 +6,7 @@ use crate::{Cause, Fault};
 use std::alloc::AllocError;
 use tb_text::put_number;
 
-/// The name of the cause, as the line on err gives it: `line L field F: CAUSE`.
+/// The name of the cause, as the line on standard error gives it: `line L field F: CAUSE`.
 pub fn cause_text(cause: Cause) -> &'static [u8]
     ensures { result.now ≡ cause_name cause }
 {
@@ -60,7 +60,7 @@ pub fn is_range_cause(cause: Cause) -> bool
     )
 }
 
-/// Appends where an input is at fault, and why: `line L field F: CAUSE`. `Err` comes only if memory runs out; a part of the
+/// Appends where and why an input is at fault: `line L field F: CAUSE`. `Err` comes only if memory runs out; a part of the
 /// text may be in `out` then.
 pub fn put_fault(out: &mut Vec<u8>, fault: &Fault) -> Result<(), AllocError>
     ensures { OnOk result (out.new.items ≡ out.old.items ++ fault_text fault.now) }

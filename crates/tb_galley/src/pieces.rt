@@ -87,8 +87,8 @@ fn read_piece(
     Ok(())
 }
 
-// Takes the line that ends with these bytes. No other place takes one, so that the reading of a line stands in the loop over
-// them.
+// Takes the line that ends with these bytes. It is called at one place only, so that the reading of a line is inlined into
+// the loop over them.
 fn end_line(
     alloc: Global,
     lines: &mut LineReader,
@@ -111,7 +111,7 @@ fn end_line(
     taken
 }
 
-// The line that ends with these bytes, which are kept as well if it began in an earlier piece. A line that lies whole in its
+// The line that ends with these bytes. If it began in an earlier piece, they are kept too; a line that lies whole in its
 // piece is read there.
 fn line_ended<'a>(unfinished: &'a Unfinished, end: &'a [u8]) -> &'a [u8]
     ensures { result.now ≡ line_ended unfinished.now end.now }
@@ -122,7 +122,7 @@ fn line_ended<'a>(unfinished: &'a Unfinished, end: &'a [u8]) -> &'a [u8]
     unfinished.as_slice()
 }
 
-// Reads the last line, which ends with the text, as if a line feed stood after it.
+// Reads the last line, which ends with the text, as if a line feed followed.
 fn read_last(
     alloc: Global,
     lines: &mut LineReader,
@@ -158,8 +158,8 @@ fn end_text(
     }
 }
 
-/// Reads a galley that comes in pieces, wherever the pieces are cut. It keeps what the lines gave, and of the line that has
-/// no end yet no more than shows that it is too long. It is seen as the number of the bytes and what they gave.
+/// Reads a galley that comes in pieces, cut anywhere. It keeps what the lines gave, and of a line that has not ended no
+/// more than shows that it is too long. It is seen as the number of the bytes and what they gave.
 #[derive(Drop)]
 pub struct Reader {
     alloc: Global,
@@ -192,9 +192,9 @@ pub fn new_reader(alloc: Global) -> Reader
 }
 
 impl Reader {
-    /// Reads one more piece, which may end anywhere and may be empty. The first fault of the text is kept for `finish`.
-    /// After an error, for which memory ran out, every later call of `feed` and `finish` returns the same, and `taken`
-    /// stays as it was before.
+    /// Reads one more piece, which may end anywhere and may be empty. The first fault of the text is kept for `finish`. An
+    /// error means that memory ran out: every later call of `feed` and `finish` returns the same, and `taken` stays as it
+    /// was before.
     pub fn feed(&mut self, piece: &[u8]) -> Result<(), AllocError>
         ensures ok { OnOk result (self.new ≡ fed_more self.old piece.now) }
         ensures joined { (bytes : List ℕ) → self.old ≡ fed bytes → OnOk result (self.new ≡ fed (bytes ++ piece.now)) }
@@ -211,7 +211,7 @@ impl Reader {
         Ok(())
     }
 
-    /// How many bytes were fed. It stays at the last value of a `u64`.
+    /// How many bytes were fed. It saturates at the last value of a `u64`.
     pub fn taken(&self) -> u64
         ensures { result ≡ self.now.taken }
     {
@@ -244,8 +244,8 @@ impl Reader {
     }
 }
 
-/// Reads a galley. `At` comes exactly where the text has a fault, with its first one. A galley that is given has all its
-/// values in their ranges.
+/// Reads a galley. It returns `At` exactly if the text has a fault, with the first one. All values of a galley that it
+/// returns are in their ranges.
 pub fn parse(alloc: Global, bytes: &[u8]) -> Result<Galley, GalleyFault>
     ensures grammar { Answers result (grammar bytes.now) }
     ensures valid { IfOk result IsValid }

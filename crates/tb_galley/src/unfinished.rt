@@ -4,11 +4,11 @@ ghost use Rattle.tb_galley.specs.Unfinished.{kept_line};
 
 use std::marker::Model;
 
-// A line of so many bytes is too long, whether a carriage return at its end counts or not.
+// A line of this many bytes is too long, whether a carriage return at its end counts or not.
 const KEPT_LENGTH: usize = 257;
 
-/// A line whose end was not read yet, of which no more is kept than shows that it is too long. It is seen as the list of
-/// the bytes that are kept.
+/// A line whose end was not read yet. No more of it is kept than shows that it is too long. It is seen as the list of the
+/// bytes that are kept.
 #[derive(Drop)]
 pub struct Unfinished {
     bytes: [u8; KEPT_LENGTH],
@@ -50,7 +50,7 @@ impl Unfinished {
         &self.bytes[..self.length]
     }
 
-    /// Adds bytes of the same line at its end. No more was kept of it before than may be.
+    /// Adds bytes of the same line at its end. No more than may be kept was kept before.
     pub fn append(&mut self, piece: &[u8])
         ensures kept { self.new ≡ kept_line (self.old ++ piece.now) }
         ensures before { kept_line self.old ≡ self.old }

@@ -3,11 +3,11 @@ use Rattle.std.proofs.Common.{◌≡◌, ◌∙◌, ◌+◌, ◌-◌, ◌<◌, �
 use Rattle.std.specs.Prelude.{slice_set}
 use Rattle.std.proofs.lemmas.List.{drop-set, drop_all, length-replicate}
 
--- what stands in an array of zeros from the digits' start, where they end it
+-- what is in an array of zeros from the digits' start on, if they end it
 pub at_end : (now digits : List ℕ) (n s : ℕ) → drop s now ≡ digits ++ drop n (replicate n 0) → drop s now ≡ digits
 at_end now digits n s written = written ∙ ap (λ rest. digits ++ rest) (drop_all n (replicate n 0) (search (arith, length-replicate))) ∙ append-nil digits
 
--- with a byte put before them, the byte and the digits stand at the end
+-- with a byte put before them, the byte and the digits are at the end
 pub led : (now digits : List ℕ) (n s byte : ℕ) → length now ≡ n → 0 < s → s ≤ n → drop s now ≡ digits
     → take (n - (s - 1)) (drop (s - 1) (slice_set now (s - 1) byte)) ≡ byte ∷ digits
 led now digits n s byte long some within is =

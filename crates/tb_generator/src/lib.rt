@@ -36,8 +36,8 @@ const HTP: Places = Places {
     p: true,
 };
 
-/// The galley of version 1 with `n` items, 1 to 40000. Item k has line k: a box if k is odd, else glue, a footnote
-/// or a float, by a sequence of numbers that begins with `n`.
+/// The galley of version 1 with `n` items, 1 to 40000. Item k has line k: a box if k is odd, else glue, a footnote or a
+/// float, chosen by a sequence of numbers that begins with `n`.
 ///
 /// It fails only if memory runs out.
 pub fn generate(alloc: Global, n: u32) -> Result<Galley, AllocError>
@@ -152,7 +152,7 @@ fn made_foot(alloc: Global, k: u32) -> Result<ItemKind, AllocError>
     })
 }
 
-// A float of so many points in height.
+// A float of this many points in height.
 fn made_float(k: u32, class: u8, places: Places, height: u32) -> ItemKind
     requires few { k ≤ 40000 }
     requires low { height ≤ 100 }

@@ -127,7 +127,7 @@ passed_on : (ps : LineParams) (es : List Entry) (n i : ℕ) → i < n → IsPass
 passed_on ps es n i lt (inl e) = inl (rows_agree ps es (n + 1) n i (omega arith) lt ∙ e)
 passed_on ps es n i lt (inr f) = inr (λ j le. f j (omega arith))
 
--- after a place where no line must end
+-- after a place at which no line must end
 pub active_more : (ps : LineParams) (es : List Entry) (n : ℕ) (d : Entry) (a : Active) → n < length es → IsActive ps es n a → int_eq (entry_penalty (get_or es n d)) (negsuc 9999) ≡ false → IsActive ps es (n + 1) a
 active_more ps es n d a in' h test =
     let free : is_forced es n ≡ false = ap (λ p. int_eq p (negsuc 9999)) (sym (line_penalty es n d (entry_penalty (get_or es n d)) in' refl)) ∙ test in
@@ -139,7 +139,7 @@ active_more ps es n d a in' h test =
       passed = λ i lt. passed_on ps es n i (let w : a.low ≤ n = h.within in omega arith) (h.passed i lt);
     }
 
--- after a place where a line must end
+-- after a place at which a line must end
 pub active_forced : (ps : LineParams) (es : List Entry) (n : ℕ) (d : Entry) (a : Active) → n < length es → a.forced ≡ Some n → a.low ≡ n → int_eq (entry_penalty (get_or es n d)) (negsuc 9999) ≡ true → IsActive ps es (n + 1) a
 active_forced ps es n d a in' f l test =
     let must : is_forced es n ≡ true = ap (λ p. int_eq p (negsuc 9999)) (sym (line_penalty es n d (entry_penalty (get_or es n d)) in' refl)) ∙ test in

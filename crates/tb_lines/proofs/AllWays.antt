@@ -87,7 +87,7 @@ free_place : (behind : Bool) (o : Option Entry) → passes (is_legal_entry behin
 free_place behind None h = refl
 free_place behind (Some e) h = free_entry behind e h
 
--- no line must end where none may
+-- no line must end at a place at which none may
 forced_legal : (es : List Entry) (n : ℕ) → is_legal es n ≡ false → is_forced es n ≡ false
 forced_legal es n h = free_place (after_word es n) (slice_get es n) h
 

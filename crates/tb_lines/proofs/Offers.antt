@@ -63,7 +63,7 @@ row_small rows i d r small lt h = at r (row_read rows i d r lt h)
     at None e = tt
     at (Some b) e = small i b (sym e)
 
--- no line ends where none may
+-- no line ends at a place at which none may
 pub not_legal : (ps : LineParams) (es : List Entry) (rows : List (Option Best)) (j : ℕ) → is_legal es j ≡ false → None ≡ best_among (offer (step_demerits ps es) (row_at rows) j) j
 not_legal ps es rows j h = sym (all_none j)
   where

@@ -117,7 +117,7 @@ word_step es starts n k d next v dn pos e le w h g =
 pub read_sum : (es : List Entry) (sums : List Sums) (k : ℕ) (d s : Sums) → AreRunning es sums → k ≤ length es → s ≡ get_or sums k d → s ≡ sums_of (take k es)
 read_sum es sums k d s r le h = h ∙ get_or_from_slice_get sums k (sums_of (take k es)) d (r.each k le)
 
--- where the code finds a line's start
+-- the place at which the code finds a line's start
 pub start_read : (es : List Entry) (starts : List ℕ) (i j d a : ℕ) → AreFirstWords es starts → i < j → j ≤ length es → a ≡ get_or starts (i + 1) d → min a j ≡ line_start es (Some i) j
 start_read es starts i j d a w lt le h = ap (λ n. min n j) (h ∙ get_or_from_slice_get starts (i + 1) (first_word es (i + 1)) d (w.each (i + 1) (omega arith)))
 

@@ -1,6 +1,6 @@
 -- What is read from a line without a fault has its values in their ranges.
-use Rattle.std.proofs.Common.{◌≡◌, refl, sym, ◌∙◌, ap, subst, ℕ, ◌+◌, ◌≤◌, ℤ, pos, negsuc, nat_abs, Bool, true, false, not, ◌&&◌, ◌||◌, nat_lt, nat_le, List, [], ◌∷◌, length, Option, Some, None, Result, Ok, Err, IfOk, if◌then◌else◌, arith}
-use Rattle.std.specs.Prelude.{◌≤ℤ◌, int_lt}
+use Rattle.std.proofs.Common.{◌≡◌, refl, sym, ◌∙◌, ap, subst, ℕ, ◌+◌, ◌≤◌, ℤ, pos, negsuc, nat_abs, Bool, true, false, ◌&&◌, ◌||◌, nat_lt, nat_le, List, [], ◌∷◌, length, Option, Some, None, Result, Ok, Err, IfOk, if◌then◌else◌, arith}
+use Rattle.std.specs.Prelude.{◌≤ℤ◌}
 use Rattle.std.specs.List.{list_all}
 use Rattle.std.proofs.lemmas.Int.{ints}
 use Rattle.std.proofs.lemmas.Bool.{true≢false}
@@ -191,10 +191,10 @@ content_ok end l y h = let e : (contents.End, l) ≡ y = cc in subst (λ p. IsSa
 
 -- a word with what its line says, after this many lines that count and this many items of the open paragraph
 pub record IsValidSaid (count : ℕ) (inside : Option ℕ) (w : Said) : Type 0 where
-  pub content : IsValidContent w.content
-  pub counts : adds_weight w.content ≡ true → counts_word w.word ≡ true
-  pub few : counts_word w.word ≡ true → count + 1 ≤ 25000
-  pub room : holds_item w.content ≡ true → is_full inside ≡ false
+  pub content : IsValidContent w.1
+  pub counts : adds_weight w.1 ≡ true → counts_word w.0 ≡ true
+  pub few : counts_word w.0 ≡ true → count + 1 ≤ 25000
+  pub room : holds_item w.1 ≡ true → is_full inside ≡ false
 
 finished_ok : {X : Type 0} (r : Result (X × Left) At) (x : X) → finished r ≡ Ok x → (y : X × Left) × (r ≡ Ok y) × (y.0 ≡ x)
 finished_ok r x h =
@@ -229,7 +229,7 @@ worded_ok v l count inside w few h = by_content (finished (content_left v left))
     by_content (Err e) is h = absurd (cc)
     by_content (Ok k) is h =
         let y = finished_ok (content_left v left) k is in
-        let same : record { word = v; content = k } ≡ w = cc in
+        let same : (v, k) ≡ w = cc in
         let c = subst (IsSaid v) y.2 (content_ok v left y.0 y.1) in
         subst (λ (x : Said). IsValidSaid count inside x) same (record { content = c.0; counts = c.1; few = λ e. few_items v count inside few e; room = λ e. room_left v count inside few (c.2 e) })
 

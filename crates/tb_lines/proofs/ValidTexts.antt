@@ -100,7 +100,7 @@ closed_valid d m n (Some p) e h le few =
 kept : (d : Draft) (m n : ℕ) → IsValidDraft d m → m ≤ n → n ≤ 25000 → IsValidDraft d n
 kept d m n h le few = record { params = h.params; closed = h.closed; current = h.current; weight = let w = h.weight in omega arith; few = few }
 
-content_valid : (d : Draft) (count : ℕ) (w : LineWord) (k : Content) → IsValidDraft d count → IsValidSaid count (inside_in d.current) (record { word = w; content = k }) → IsValidDraft (with_content d k) (count_with count (Some w))
+content_valid : (d : Draft) (count : ℕ) (w : LineWord) (k : Content) → IsValidDraft d count → IsValidSaid count (inside_in d.current) (w, k) → IsValidDraft (with_content d k) (count_with count (Some w))
 content_valid d count w contents.Header h s = kept d count (count_with count (Some w)) h (no_fewer count w) (few_with count w h.few s.few)
 content_valid d count w (contents.Set p v) h s =
     let few = few_with count w h.few s.few in
@@ -122,7 +122,7 @@ IsValidState s = s.first ≡ None → IsValidDraft s.draft s.count
 
 said_valid : (s : State) (bytes : List ℕ) (r : Result (Option Said) At) → IsValidDraft s.draft s.count → line_left s.phase s.count (inside_in s.draft.current) bytes ≡ r → IsValidState (said_unless s r)
 said_valid s bytes (Ok None) h e = λ none. h
-said_valid s bytes (Ok (Some w)) h e = λ none. content_valid s.draft s.count w.word w.content h (line_ok s.phase s.count (inside_in s.draft.current) bytes w e)
+said_valid s bytes (Ok (Some w)) h e = λ none. content_valid s.draft s.count w.0 w.1 h (line_ok s.phase s.count (inside_in s.draft.current) bytes w e)
 said_valid s bytes (Err at) h e = λ none. absurd (cc)
 
 step_valid : (s : State) (bytes : List ℕ) (o : Option Fault) → s.first ≡ o → IsValidState s → IsValidState (said_first s bytes o)

@@ -59,7 +59,7 @@ size_from_word (e ∷ es) = tested (size_from_word es) (is_word e) refl
     tested rest true h = refl
     tested rest false h = rest ∙ sym (none_joined (size_of es)) ∙ ap (λ s. joined_size s (size_of es)) (sym (no_word_size e h))
 
--- where what comes after a break begins
+-- the place at which what comes after a break begins
 abbrev pub place_after : Option ℕ → ℕ
 place_after None = 0
 place_after (Some i) = i + 1

@@ -1,10 +1,10 @@
 -- The faults of a text.
-use Rattle.std.specs.Prelude.{ℕ, ◌||◌, ◌&&◌, nat_lt, nat_le, List, [], ◌∷◌, ◌++◌, length, map, Option, Some, None, if◌then◌else◌}
+use Rattle.std.specs.Prelude.{ℕ, ◌||◌, ◌&&◌, nat_lt, nat_le, List, [], ◌∷◌, ◌++◌, length, map, Option, Some, None}
 use Rattle.tb_galley.specs.declared.Cause.{Cause}
 use Rattle.tb_galley.specs.declared.Cause.TheVariants as causes
 use Rattle.tb_galley.specs.declared.Fault.{Fault}
-use Rattle.tb_galley.specs.Faults.{cause_if, ascii_causes, value_causes, faults_in_lines}
-use Rattle.tb_lines.specs.Words.{LineWord, header, setting, par, endpar, end, Phase, at_start, among_sets, among_pars, in_par, ended, Line, content_at, phase_after, count_after, inside_after, counts_word, is_inner_word, is_full}
+use Rattle.tb_galley.specs.Faults.{cause_if, ascii_causes, no_word_causes, value_causes, end_causes_by, faults_in_lines}
+use Rattle.tb_lines.specs.Words.{LineWord, header, setting, par, endpar, end, Phase, at_start, among_pars, in_par, ended, Line, content_at, phase_after, count_after, inside_after, counts_word, is_inner_word, is_full}
 use Rattle.tb_lines.specs.Slots.{word_slots, missing_cause}
 
 -- ---- the word of a line, and its place: at field 1
@@ -25,12 +25,6 @@ word_causes _ par = []
 word_causes _ end = []
 word_causes _ endpar = causes.StrayEndpar ∷ []
 word_causes _ _ = causes.NotInPar ∷ []
-
--- a first field that is no word
-abbrev pub no_word_causes : Phase → List Cause
-no_word_causes at_start = causes.NoHeader ∷ []
-no_word_causes ended = causes.AfterEnd ∷ []
-no_word_causes _ = causes.UnknownWord ∷ []
 
 -- the causes of a first field that is a word, or none
 abbrev pub place_causes : Phase → Option LineWord → List Cause
@@ -66,13 +60,9 @@ line_causes p count inside bytes = cause_if (nat_lt 255 (length bytes)) causes.L
 
 -- at the end of the text
 abbrev pub end_causes : Phase → List Cause
-end_causes at_start = causes.NoHeader ∷ []
-end_causes among_sets = causes.NoEnd ∷ []
-end_causes among_pars = causes.NoEnd ∷ []
-end_causes in_par = causes.UnclosedPar ∷ []
-end_causes ended = []
+end_causes p = end_causes_by causes.UnclosedPar p
 
--- the causes at each field of each of these lines, and at the end of the text; the content lines before them are shown
+-- the causes at each field of each of these lines, and at the end of the text; the content lines before them are given
 abbrev pub causes_from : List Line → List (List ℕ) → List (List (List Cause))
 causes_from before [] = (end_causes (phase_after before) ∷ []) ∷ []
 causes_from before (bytes ∷ lines) = line_causes (phase_after before) (count_after before) (inside_after before) bytes ∷ causes_from (before ++ content_at bytes) lines

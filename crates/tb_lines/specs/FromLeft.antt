@@ -3,7 +3,7 @@ use Rattle.std.specs.Prelude.{ℕ, ℤ, pos, negsuc, nat_abs, List, Result, Ok, 
 use Rattle.tb_galley.specs.declared.Cause.{Cause}
 use Rattle.tb_galley.specs.declared.Cause.TheVariants as causes
 use Rattle.tb_galley.specs.declared.fields.At.{At}
-use Rattle.tb_galley.specs.Reading.{Left, ◌>>=◌, at_fault, next_left, field_read, integer_in, least_left, range_left, mapped}
+use Rattle.tb_galley.specs.Reading.{Left, ◌>>=◌, at_fault, next_left, field_read, least_left, range_left, mapped}
 use Rattle.tb_lines.specs.declared.text.Item.{Item}
 use Rattle.tb_lines.specs.declared.text.Item.TheVariants as items
 use Rattle.tb_lines.specs.Words.{LineWord, header, setting, par, word, space, pen, endpar, end}

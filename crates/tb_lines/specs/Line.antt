@@ -13,24 +13,13 @@ use Rattle.tb_lines.specs.Reading.{Content}
 use Rattle.tb_lines.specs.FromLeft.{content_left}
 
 -- a line's word, and what it says
-pub record Said : Type 0 where
-  pub word : LineWord
-  pub content : Content
+abbrev pub Said : Type 0
+Said = LineWord × Content
 
 -- a word with what its line says
 abbrev pub said : LineWord → Result Content At → Result (Option Said) At
-said w (Ok k) = Ok (Some (record { word = w; content = k }))
+said w (Ok k) = Ok (Some (w, k))
 said w (Err e) = Err e
-
--- the same of a pair of the code
-abbrev pub said_of : Option (LineWord × Content) → Option Said
-said_of None = None
-said_of (Some w) = Some (record { word = w.0; content = w.1 })
-
--- what a reading of the code says
-abbrev pub said_by : Result (Option (LineWord × Content)) At → Result (Option Said) At
-said_by (Ok w) = Ok (said_of w)
-said_by (Err e) = Err e
 
 -- what a line says after its word
 abbrev pub worded_left : Line → Option LineWord → Result (Option Said) At

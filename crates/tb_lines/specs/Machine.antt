@@ -54,7 +54,7 @@ verdict s = verdict_by s s.first
 -- the same step, by what is read from the left
 abbrev pub past_said : State → Option Said → State
 past_said s None = record s { lines = s.lines + 1 }
-past_said s (Some w) = record { lines = s.lines + 1; phase = next_phase s.phase (Some w.word); count = count_with s.count (Some w.word); draft = with_content s.draft w.content; first = s.first }
+past_said s (Some w) = record { lines = s.lines + 1; phase = next_phase s.phase (Some w.0); count = count_with s.count (Some w.0); draft = with_content s.draft w.1; first = s.first }
 
 -- after a line that was read from the left
 abbrev pub said_unless : State → Result (Option Said) At → State

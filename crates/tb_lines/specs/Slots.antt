@@ -1,9 +1,9 @@
 -- The fields after a line's word: what each must be.
-use Rattle.std.specs.Prelude.{map, ℕ, ℤ, pos, negsuc, ◌≤ℤ◌, Bool, true, false, ◌&&◌, nat_le, List, [], ◌∷◌, length, Option, Some, None, codes, bytes_eq, if◌then◌else◌}
-use Rattle.std.specs.Borrow.{Bor}
+use Rattle.std.specs.Prelude.{map, ℕ, ℤ, pos, negsuc, ◌≤ℤ◌, Bool, true, false, ◌&&◌, nat_le, List, [], ◌∷◌, length, Option, Some, None, codes, bytes_eq}
 use Rattle.tb_node.specs.Names.{is_name}
 use Rattle.tb_galley.specs.declared.Cause.{Cause}
 use Rattle.tb_galley.specs.declared.Cause.TheVariants as causes
+use Rattle.tb_galley.specs.Spelling.{spelled, spelled_value}
 use Rattle.tb_galley.specs.Values.{Slot, least_slot, range_slot, test_slot, size_slot}
 pub use Rattle.tb_lines.specs.declared.words.Parameter.{Parameter}
 use Rattle.tb_lines.specs.declared.words.Parameter.TheVariants as parameters
@@ -12,29 +12,11 @@ use Rattle.tb_lines.specs.declared.words.Form.TheVariants as forms
 use Rattle.tb_lines.specs.declared.words.TheConstants.{PARAMETERS}
 use Rattle.tb_lines.specs.Words.{LineWord, header, setting, par, word, space, pen, endpar, end}
 
--- a parameter and its name
-pub record Named : Type 0 where
-  pub text : List ℕ
-  pub parameter : Parameter
-
--- a row of the code's table that is held by reference
-abbrev pub spelled_parameters : Bor (List ℕ) × Parameter → Named
-spelled_parameters p = record { text = p.0.now; parameter = p.1 }
-
--- a row of the code's table
-abbrev pub named : (record { now : List ℕ }) × Parameter → Named
-named p = record { text = p.0.now; parameter = p.1 }
-
--- the first parameter of this name
-abbrev pub parameter_in : List Named → List ℕ → Option Parameter
-parameter_in [] text = None
-parameter_in (p ∷ ps) text = if bytes_eq p.text text then Some p.parameter else parameter_in ps text
-
 -- the parameter of this name
 unfoldable pub parameter_of : List ℕ → Option Parameter
-parameter_of text = parameter_in (map named PARAMETERS) text
+parameter_of text = spelled_value (map spelled PARAMETERS) text
 
--- how the value of a parameter is written: a dimension of at least so much, or an integer from 0 to so much
+-- how the value of a parameter is written: a dimension of at least this much, or an integer from 0 to this much
 abbrev pub form_of : Parameter → Form
 form_of parameters.Hsize = forms.Dimension (pos 1)
 form_of parameters.Tolerance = forms.Integer (pos 10000)

@@ -16,7 +16,7 @@ abbrev pub reached : (ℕ → Option Best) → Option ℕ → Option ℤ
 reached table None = Some (pos 0)
 reached table (Some i) = total_in (table i)
 
--- the demerits by the table of coming to break j from here
+-- the demerits, by the table, of coming to break j from here
 abbrev pub offer : (Option ℕ → ℕ → Option ℤ) → (ℕ → Option Best) → ℕ → Option ℕ → Option ℤ
 offer edge table j q = sum_of_both (reached table q) (edge q j)
 

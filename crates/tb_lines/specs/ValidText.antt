@@ -1,4 +1,4 @@
--- Texts whose values lie in their ranges.
+-- Texts whose values are in their ranges.
 use Rattle.std.specs.Prelude.{◌≡◌, ℕ, ◌+◌, ◌≤◌, pos, negsuc, ◌≤ℤ◌, true, List, [], ◌∷◌, length}
 use Rattle.std.specs.List.{AllByRecursion}
 use Rattle.tb_lines.specs.declared.text.Item.{Item}

@@ -1,40 +1,22 @@
 -- The lines of a text that have content, and their order.
-use Rattle.std.specs.Prelude.{map, ℕ, ◌+◌, Bool, true, false, nat_le, List, [], ◌∷◌, Option, Some, None, bytes_eq, if◌then◌else◌}
+use Rattle.std.specs.Prelude.{map, ℕ, ◌+◌, Bool, true, false, nat_le, List, [], ◌∷◌, Option, Some, None, if◌then◌else◌}
 use Rattle.std.specs.List.{fold}
-use Rattle.std.specs.Borrow.{Bor}
 pub use Rattle.tb_lines.specs.declared.words.Word.{Word as LineWord}
 pub use Rattle.tb_lines.specs.declared.words.Word.TheVariants.{Lines as header, Setting as setting, Par as par, Word as word, Space as space, Pen as pen, Endpar as endpar, End as end}
-pub use Rattle.tb_lines.specs.declared.words.Phase.{Phase}
-pub use Rattle.tb_lines.specs.declared.words.Phase.TheVariants.{Start as at_start, Sets as among_sets, Items as among_pars, Par as in_par, Ended as ended}
+pub use Rattle.tb_galley.specs.declared.words.Phase.{Phase}
+pub use Rattle.tb_galley.specs.declared.words.Phase.TheVariants.{Start as at_start, Sets as among_sets, Items as among_pars, Inside as in_par, Ended as ended}
 use Rattle.tb_lines.specs.declared.words.TheConstants.{WORDS}
 use Rattle.tb_text.specs.Lines.{fields_of, is_skipped}
-use Rattle.tb_galley.specs.Words.{first_field, other_fields}
-
--- a word and its spelling
-pub record Spelled : Type 0 where
-  pub text : List ℕ
-  pub word : LineWord
-
--- a row of the code's table that is held by reference
-abbrev pub spelled_words : Bor (List ℕ) × LineWord → Spelled
-spelled_words w = record { text = w.0.now; word = w.1 }
-
--- a row of the code's table
-abbrev pub spelled : (record { now : List ℕ }) × LineWord → Spelled
-spelled w = record { text = w.0.now; word = w.1 }
+use Rattle.tb_galley.specs.Spelling.{Spelled, spelled, spelled_value}
+use Rattle.tb_galley.specs.Words.{first_field, other_fields, word_passes}
 
 -- the words that may begin a line
-abbrev pub line_words : List Spelled
+abbrev pub line_words : List (Spelled LineWord)
 line_words = map spelled WORDS
-
--- the first word that is spelled so
-abbrev pub word_in : List Spelled → List ℕ → Option LineWord
-word_in [] text = None
-word_in (w ∷ ws) text = if bytes_eq w.text text then Some w.word else word_in ws text
 
 -- the word that a first field is
 unfoldable pub word_of : List ℕ → Option LineWord
-word_of text = word_in line_words text
+word_of text = spelled_value line_words text
 
 -- a line with content: its first field, the word that this is, and the other fields
 pub record Line : Type 0 where
@@ -49,11 +31,6 @@ line_at fs = record { word = word_of (first_field fs); head = first_field fs; fi
 -- a line, if it has content
 abbrev pub content_at : List ℕ → List Line
 content_at bytes = if is_skipped (fields_of bytes) then [] else line_at (fields_of bytes) ∷ []
-
--- an unknown word passes no test
-abbrev pub word_passes : (LineWord → Bool) → Option LineWord → Bool
-word_passes test None = false
-word_passes test (Some w) = test w
 
 -- ---- what the lines before a line say of its place
 

@@ -4,10 +4,8 @@ ghost use Rattle.std.specs.List.{fold, list_all};
 ghost use Rattle.tb_lines.specs.Words.{word_of};
 ghost use Rattle.tb_text.specs.Lines.{lines_of};
 ghost use Rattle.tb_galley.specs.Faults.{is_printable};
-ghost use Rattle.tb_galley.specs.Line.{first_of};
-ghost use Rattle.tb_lines.specs.Faults.{end_causes};
-ghost use Rattle.tb_lines.specs.Reading.{reading, HasRoom, inside_in};
-ghost use Rattle.tb_lines.specs.Line.{said_by, line_left};
+ghost use Rattle.tb_lines.specs.Reading.{reading, HasRoom};
+ghost use Rattle.tb_lines.specs.Line.{line_left};
 ghost use Rattle.tb_lines.specs.ValidText.{IsValidText};
 ghost use Rattle.tb_lines.specs.Machine.{start, take_said, verdict, Answers};
 
@@ -15,11 +13,9 @@ use crate::LinesFault;
 use crate::contents::{Content, read_content};
 use crate::draft::Draft;
 use crate::text::Text;
-use crate::words::{
-    Phase, Word, count_with, item_cause, missing_cause, next_phase, place_cause, word_of,
-};
+use crate::words::{Word, count_with, item_cause, missing_cause, next_phase, place_cause, word_of};
 use std::alloc::{AllocError, Global};
-use tb_galley::{At, Cause, Fault, Fields, begins_comment, is_printable};
+use tb_galley::{At, Cause, Fault, Fields, Phase, begins_comment, end_cause, is_printable};
 use tb_text::{split_field, split_line};
 
 const INPUT_LIMIT: usize = tb_galley::INPUT_LIMIT as usize;
@@ -45,7 +41,7 @@ fn read_line(
     inside: Option<usize>,
     line: &[u8],
 ) -> Result<Option<(Word, Content)>, At>
-    ensures read { said_by result ≡ line_left phase count inside line.now }
+    ensures read { result ≡ line_left phase count inside line.now }
     ensures room { IfOk result (λ o. IfSome o (λ w. HasRoom inside w.1)) }
 {
     if line.len() > MAX_LINE {
@@ -150,7 +146,7 @@ impl Reader {
         if let Some(fault) = first {
             return Err(fault);
         }
-        if let Some(cause) = end_cause(phase) {
+        if let Some(cause) = end_cause(phase, Cause::UnclosedPar) {
             return Err(Fault {
                 line: lines + 1,
                 field: 0,
@@ -163,17 +159,6 @@ impl Reader {
             current: _,
         } = draft;
         Ok(Text { params, paragraphs })
-    }
-}
-
-fn end_cause(phase: Phase) -> Option<Cause>
-    ensures { result ≡ first_of (end_causes phase) }
-{
-    match phase {
-        Phase::Start => Some(Cause::NoHeader),
-        Phase::Sets | Phase::Items => Some(Cause::NoEnd),
-        Phase::Par => Some(Cause::UnclosedPar),
-        Phase::Ended => None,
     }
 }
 
@@ -208,8 +193,7 @@ fn read_text(alloc: Global, bytes: &[u8]) -> Result<Result<Text, Fault>, AllocEr
 }
 
 /// Reads a text. `At` comes exactly if it has a fault, with the first one: that of the earliest line, in it of the earliest
-/// field, and there of the cause that is first in [`Cause`]. A text
-/// that is given has all its values in their ranges.
+/// field, and there of the cause that is first in [`Cause`]. All values of a text that it returns are in their ranges.
 pub fn read_lines(alloc: Global, bytes: &[u8]) -> Result<Text, LinesFault>
     ensures grammar { Answers result (reading bytes.now) }
     ensures valid { IfOk result IsValidText }

@@ -1,5 +1,5 @@
 //! Reads the fields that only a text of paragraphs has.
-ghost use Rattle.std.specs.Prelude.{◌≡◌, pos, ◌≤ℤ◌};
+ghost use Rattle.std.specs.Prelude.{pos, ◌≤ℤ◌};
 ghost use Rattle.tb_galley.specs.Reading.{left_of, Gives};
 ghost use Rattle.tb_lines.specs.FromLeft.{size_left, name_left, header_left};
 

@@ -1,4 +1,5 @@
-//! The best way to each break: one break before it (TeX: The Program §829). Only breaks that can still begin a line are tried.
+//! The best way to each break: one break before it (TeX: The Program §829). Only breaks that can still begin a line are
+//! tried.
 ghost use Rattle.std.specs.Prelude.{◌≡◌, ◌≤◌, ◌<◌, ◌+◌, ℕ, pos, negsuc, ◌≤ℤ◌, true, length, IfOk, IfSome, Option};
 ghost use Rattle.tb_lines.specs.Paragraph.{is_legal, line_start};
 ghost use Rattle.tb_lines.specs.Demerits.{line_demerits};
@@ -28,7 +29,8 @@ pub struct Active {
     pub low: usize,
 }
 
-/// A paragraph's list, with its running sums, and from each place on the first word and the least width before a break.
+/// A paragraph's list, with its running sums, and for each place the first word and the least width before a break from
+/// there on.
 #[derive(Drop)]
 pub struct Prepared<'a> {
     params: &'a LineParams,
@@ -116,7 +118,7 @@ impl<'a> Prepared<'a> {
     }
 
     // The demerits of the line from a break, or the paragraph's start, to another; `None` if it is not feasible. It is
-    // asked of each pair of breaks that is tried, so it is in the loop over them.
+    // needed for each pair of breaks that is tried, so it is inlined into the loop over them.
     #[inline(always)]
     fn line_demerits(&self, from: Option<usize>, to: usize) -> Option<i64>
         requires within { is_within from to ≡ true }
@@ -152,7 +154,7 @@ impl<'a> Prepared<'a> {
         with_offer(to, best, Some(from), offer)
     }
 
-    // The way from the start to a break. It is apart from the loop over breaks, which has a line's demerits in it.
+    // The way from the start to a break. It is kept out of the loop over breaks, into which a line's demerits are inlined.
     #[inline(never)]
     fn start_row(&self, forced: Option<usize>, to: usize) -> Option<Best>
         requires inside { to < length self.now.entries.now }

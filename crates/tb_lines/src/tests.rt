@@ -43,7 +43,7 @@ fn answers_texts(rt: HostRuntime) -> Result<(), Fail> {
             b"galley 1\nbox a.1 0 0\nglue 0 plus 0 minus 0\nglue 786432 plus 0 minus 0\nbox b.1 0 0\nend\n",
         ),
         (b"lines 1\nend", b"galley 1\nend\n"),
-        // an empty last line has no glue that fills it: its badness is 10000
+        // an empty last line has no glue to fill it: its badness is 10000
         (
             b"lines 1\nset hsize 10\npar a\nword 10 1 1\nspace 1 1 1\nendpar\nend",
             b"galley 1\nbox a.1 1 1\nend\n",

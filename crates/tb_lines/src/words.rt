@@ -1,11 +1,11 @@
 //! The words of lines and of `set` lines, and where each line may come.
-ghost use Rattle.std.specs.Prelude.{◌≡◌, ◌<◌, ◌+◌, map, false, true, IsNone, Option};
-ghost use Rattle.tb_lines.specs.Words.{word_in, word_of, spelled_words, counts_word, is_inner_word, later_phase, next_phase, count_with, is_full};
-ghost use Rattle.tb_lines.specs.Slots.{parameter_in, parameter_of, spelled_parameters, form_of, missing_cause};
+ghost use Rattle.std.specs.Prelude.{◌≡◌, ◌<◌, ◌+◌, false, true, IsNone, Option};
+ghost use Rattle.tb_lines.specs.Words.{word_of, counts_word, is_inner_word, later_phase, next_phase, count_with, is_full};
+ghost use Rattle.tb_lines.specs.Slots.{parameter_of, form_of, missing_cause};
 ghost use Rattle.tb_galley.specs.Line.{first_of};
 ghost use Rattle.tb_lines.specs.Faults.{place_causes, item_causes};
 
-use tb_galley::Cause;
+use tb_galley::{Cause, Phase, spelled_value};
 
 /// A word that begins a line.
 #[derive(Clone, Copy)]
@@ -66,33 +66,12 @@ const PARAMETERS: [(&[u8], Parameter); 8] = [
     (b"parskip", Parameter::ParSkip),
 ];
 
-/// Where a line is: first, after the header and sets alone, after a paragraph, in a paragraph, or after the end.
-#[derive(Clone, Copy)]
-pub enum Phase {
-    Start,
-    Sets,
-    Items,
-    Par,
-    Ended,
-}
-
 /// The word that a text is.
 #[tactic(auto, unfolding(crate::specs::Words::word_of))]
 pub fn word_of(text: &[u8]) -> Option<Word>
     ensures { result ≡ word_of text.now }
 {
-    word_among(&WORDS, text)
-}
-
-fn word_among(words: &[(&'static [u8], Word)], text: &[u8]) -> Option<Word>
-    ensures { result ≡ word_in (map spelled_words words.now) text.now }
-{
-    for word in words {
-        if word.0 == text {
-            return Some(word.1);
-        }
-    }
-    None
+    spelled_value(&WORDS, text)
 }
 
 /// The parameter of this name.
@@ -100,18 +79,7 @@ fn word_among(words: &[(&'static [u8], Word)], text: &[u8]) -> Option<Word>
 pub fn parameter_of(text: &[u8]) -> Option<Parameter>
     ensures { result ≡ parameter_of text.now }
 {
-    parameter_among(&PARAMETERS, text)
-}
-
-fn parameter_among(parameters: &[(&'static [u8], Parameter)], text: &[u8]) -> Option<Parameter>
-    ensures { result ≡ parameter_in (map spelled_parameters parameters.now) text.now }
-{
-    for parameter in parameters {
-        if parameter.0 == text {
-            return Some(parameter.1);
-        }
-    }
-    None
+    spelled_value(&PARAMETERS, text)
 }
 
 /// How the value of a parameter is written.
@@ -159,7 +127,7 @@ pub fn place_cause(phase: Phase, word: Option<Word>) -> Option<Cause>
         Phase::Start => start_cause(word),
         Phase::Sets => sets_cause(word),
         Phase::Items => items_cause(word),
-        Phase::Par => par_cause(word),
+        Phase::Inside => par_cause(word),
         Phase::Ended => Some(Cause::AfterEnd),
     }
 }
@@ -197,7 +165,7 @@ fn items_cause(word: Option<Word>) -> Option<Cause>
 }
 
 fn par_cause(word: Option<Word>) -> Option<Cause>
-    ensures { result ≡ first_of (place_causes Phase.Par word) }
+    ensures { result ≡ first_of (place_causes Phase.Inside word) }
 {
     match word {
         None | Some(Word::Lines) => Some(Cause::UnknownWord),
@@ -249,7 +217,7 @@ pub fn next_phase(phase: Phase, word: Word) -> Phase
 {
     match word {
         Word::Lines => later_phase(phase, Phase::Sets),
-        Word::Par => later_phase(phase, Phase::Par),
+        Word::Par => later_phase(phase, Phase::Inside),
         Word::Endpar => later_phase(phase, Phase::Items),
         Word::End => Phase::Ended,
         _ => phase,

@@ -1,5 +1,5 @@
 //! The galley of the lines.
-ghost use Rattle.std.specs.Prelude.{◌≡◌, ◌<◌, ◌≤◌, ◌+◌, ◌++◌, ◌^◌, length, decimal, OnOk, IfOk, Option};
+ghost use Rattle.std.specs.Prelude.{◌≡◌, ◌<◌, ◌+◌, ◌++◌, ◌^◌, length, decimal, OnOk, IfOk, Option};
 ghost use Rattle.tb_lines.specs.Least.{IsLeastOf};
 ghost use Rattle.tb_lines.specs.Paragraph.{list_of};
 ghost use Rattle.tb_lines.specs.LineText.{width_text, glue_line, interline, penalty_after, penalty_line, penalty_before, space_before, box_line, one_line, entry_size, joined_size, size_of, line_sizes, lines_text, depth_after, paragraph_text, paragraph_depth, paragraphs_text, AreWithin, AreLeast, Writes, line_text};
@@ -266,7 +266,7 @@ fn put_paragraphs(
     Ok(())
 }
 
-/// The galley of the lines that the least solutions of a text's paragraphs make, one for each paragraph, in order.
+/// The galley of the lines of a text, given the least solution of each paragraph, in order.
 #[tactic(auto, unfolding(crate::specs::LineText::line_text))]
 pub fn line_text(alloc: Global, text: &Text, solutions: &[Solution]) -> Result<Vec<u8>, AllocError>
     requires { AreLeast text.now.params text.now.paragraphs solutions.now }

@@ -78,7 +78,7 @@ fn in_pieces(alloc: Global, text: &[u8], size: usize) -> Result<Reader, Fail>
     Ok(reader)
 }
 
-// Whether a text gives what it gives whole, wherever it is cut into two pieces.
+// Whether a text gives the same whole and cut into two pieces, wherever it is cut.
 fn is_same_in_two(alloc: Global, text: &[u8]) -> Result<bool, Fail> {
     let whole = answer(alloc, parse(alloc, text))?;
     for (place, _) in text.iter().enumerate() {
@@ -105,7 +105,7 @@ fn reads_an_article_in_pieces(rt: HostRuntime) -> Result<(), Fail> {
     Ok(())
 }
 
-// A comment of so many bytes and this end, after the first line of a galley.
+// A comment of this many bytes and this end, after the first line of a galley.
 fn with_comment(alloc: Global, length: usize, end: &[u8]) -> Result<Vec<u8>, Fail> {
     let mut text = Vec::from_slice(alloc, b"galley 1\n")?;
     for _ in 0..length {
@@ -144,7 +144,7 @@ fn reads_faults_in_pieces(rt: HostRuntime) -> Result<(), Fail> {
     Ok(())
 }
 
-// The first fault stands, and the bytes are counted after it: an input that is too long is that before all else.
+// The first fault is kept, and the bytes are counted after it: an input that is too long has that fault before all others.
 #[test]
 fn counts_after_a_fault(rt: HostRuntime) -> Result<(), Fail> {
     let piece = [b'#'; 4096];
