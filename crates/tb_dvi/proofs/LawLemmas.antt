@@ -13,7 +13,7 @@ pub run-skip : (front rest : List ℕ) (place : ℕ) (s : State) → run (length
 run-skip [] rest place s = ap (λ p. run 0 p s rest) (sym (zero-add place))
 run-skip (b ∷ bs) rest place s = run-skip bs rest (suc place) s ∙ ap (λ p. run 0 p s rest) (omega arith)
 
--- bytes that stand there are enough
+-- bytes that are there are enough
 pub enough : (front rest : List ℕ) (k : ℕ) → k ≤ length front → nat_lt (length (front ++ rest)) k ≡ false
 enough front rest k e = le-ltb (length (front ++ rest)) k (omega (arith, length-append front rest, e))
 

@@ -36,7 +36,7 @@ take-all (x ∷ xs) = ap (λ t. x ∷ t) (take-all xs)
 pub rest_of : (n : ℕ) (xs : List ℕ) → take (length xs - n) (drop n xs) ≡ drop n xs
 rest_of n xs = ap (λ k. take k (drop n xs)) (sym (length-drop n xs)) ∙ take-all (drop n xs)
 
--- what an index gives does not depend on what stands for nothing
+-- what an index gives does not depend on the value for nothing
 pub same-at : (xs : List ℕ) (i a b : ℕ) → i < length xs → get_or xs i a ≡ get_or xs i b
 same-at [] i a b h = absurd (not-suc-le-zero h)
 same-at (x ∷ xs) zero a b h = refl

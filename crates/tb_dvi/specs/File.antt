@@ -1,4 +1,4 @@
--- The bytes of a DVI file. All numbers are big-endian, of two's complement where they have a sign.
+-- The bytes of a DVI file. All numbers are big-endian, of two's complement if they have a sign.
 use Rattle.std.specs.Prelude.{ℕ, ◌+◌, ◌-◌, ◌%◌, ◌<◌, ℤ, pos, negsuc, Bool, false, not, ◌||◌, nat_lt, int_le, if◌then◌else◌, List, [], ◌∷◌, ◌++◌, length, drop, replicate, flat_map, Option, Some, None, IfSome, FitsSigned, All, codes}
 use Rattle.std.specs.Int.{w16, w32, w128, to_be_bytes, cast_unsigned}
 use Rattle.std.specs.List.{list_any}

@@ -207,7 +207,7 @@ whole_step modes.Between place op args s = between_step place op args s
 whole_step (modes.OnPage r) place op args s = page_step op args r s
 whole_step (modes.AfterPost post) place op args s = end_step post place op args
 
--- why a command is refused as it stands, before it does anything; the causes are tried in their order
+-- why a command is refused before it does anything; the causes are tried in their order
 abbrev pub refusal : Op → Mode → List ℕ → Option DviCause
 refusal op mode args =
     if is_font op then Some causes.Font
@@ -230,13 +230,13 @@ abbrev pub before : List Item → Result (List Item) Fault → Result (List Item
 before items (Ok more) = Ok (items ++ more)
 before items (Err e) = Err e
 
--- what follows a command at a place: nothing more, or the rest after so many bytes, in its state
+-- what follows a command at a place: nothing more, or the rest after this many bytes, in its state
 abbrev pub followed : ℕ → ℕ → Step → (ℕ → State → Result (List Item) Fault) → Result (List Item) Fault
 followed place pages (fails cause) rest = Err (record { byte = place; cause = cause })
 followed place pages (goes size items s) rest = before items (rest size s)
 followed place pages ends rest = Ok (ended pages ∷ [])
 
--- what is listed from a place on, in a state, after so many bytes that a command took
+-- what is listed from a place on, in a state, after this many bytes that a command took
 abbrev pub run : ℕ → ℕ → State → List ℕ → Result (List Item) Fault
 run skip place s [] = Err (record { byte = place; cause = causes.Truncated })
 run (suc skip) place s (b ∷ bs) = run skip (suc place) s bs

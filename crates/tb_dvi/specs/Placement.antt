@@ -50,7 +50,7 @@ abbrev pub rule_label : Option Name → List ℕ
 rule_label None = codes "footrule"
 rule_label (Some name) = codes "rule " ++ name
 
--- what is shown of what stands in any list; most is not
+-- what is shown of what any list may hold; most is not
 abbrev pub matter_spot : Matter → Option Spot
 matter_spot (hbox content height depth) = box_spot content height depth
 matter_spot (rule name height depth) = ruled (height +ℤ depth) (rule_label name) (height +ℤ depth)
@@ -67,7 +67,7 @@ kind_spot (plain m) = matter_spot m
 kind_spot (ins i) = None
 kind_spot (act a) = None
 
--- an item this far to the right, whose top stands here
+-- an item this far to the right, whose top is here
 abbrev pub spot_placed : ℤ → ℤ → Option Spot → List Placement
 spot_placed h top None = []
 spot_placed h top (Some s) = record { h = h; v = top +ℤ s.down; label = s.label; rule = s.rule } ∷ []

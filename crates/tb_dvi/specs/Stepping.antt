@@ -97,7 +97,7 @@ abbrev pub EndsOr : Result (Unit {0}) ListFault → ℕ → Lister → Lister �
 EndsOr (Ok u) place old new step = Ends old new step
 EndsOr (Err e) place old new step = CommandStops e place step
 
--- the command at this place, with so many bytes after its first, is taken, or ends the file, or fails
+-- the command at this place, with this many bytes after its first, is taken, or ends the file, or fails
 abbrev pub Steps : Result Next ListFault → ℕ → ℕ → Lister → Lister → Step → Type 0
 Steps (Ok (nexts.At next)) place len old new step = CommandPasses place next len old new step
 Steps (Ok nexts.End) place len old new step = Ends old new step

@@ -24,7 +24,7 @@ pub(crate) enum Slot {
 pub(crate) enum Op {
     /// A character or a font.
     Font,
-    /// No command, or one that may stand nowhere but at the start.
+    /// No command, or one that may only come at the start.
     Unknown,
     /// A rule; the place moves past it or stays.
     Rule { moves: bool },
@@ -54,7 +54,7 @@ pub(crate) struct Registers {
     pub z: i64,
 }
 
-/// Where the lister stands in a file.
+/// Where in a file the lister is.
 #[derive(Clone, Copy)]
 pub(crate) enum Mode {
     /// No page is open.
@@ -112,7 +112,7 @@ pub(crate) fn op_of(byte: u8) -> Op
     }
 }
 
-// Whether a command may come where the lister stands.
+// Whether a command may come where the lister is.
 fn is_due(op: &Op, mode: &Mode) -> bool
     ensures { result ≡ is_due op.now mode.now }
 {
@@ -144,7 +144,7 @@ pub(crate) fn op_size(op: &Op, args: &[u8]) -> usize
     }
 }
 
-/// Why a command is refused as it stands, before it does anything: the first cause in their order.
+/// Why a command is refused before it does anything: the first cause in their order.
 pub(crate) fn refusal(op: &Op, mode: &Mode, args: &[u8]) -> Option<DviCause>
     requires { IsShort op.now }
     ensures value { result ≡ refusal op.now mode.now args.now }

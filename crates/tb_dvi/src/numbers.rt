@@ -17,7 +17,7 @@ pub(crate) fn unsigned_number(bytes: &[u8]) -> u64
     number
 }
 
-// How many numbers so many bytes can hold.
+// How many numbers this many bytes can hold.
 fn numbers_in(bytes: usize) -> i64
     requires { bytes ≤ 4 }
     ensures value { result ≡ pos (256 ^ bytes) }

@@ -28,7 +28,7 @@ pub struct Part {
     pub set: Set,
 }
 
-/// How far the second of two columns stands to the right: 300pt.
+/// How far the second of two columns is to the right: 300pt.
 const SECOND_COLUMN: i64 = 19_660_800;
 
 /// Why a page has no bytes.
@@ -114,10 +114,9 @@ fn put_whole(
     Ok(())
 }
 
-/// Appends the bytes of a page (TeX: The Program §640), so that one text serves page after page. They will stand at `place`
-/// of the file; `number` is the page's number, of which the file keeps four bytes, and `last` the place of the page before,
-/// or -1. Each item is a special with
-/// its label and, but for marks and notes, a rule.
+/// Appends the bytes of a page (TeX: The Program §640), so that one text serves page after page. They will be at `place` of
+/// the file; `number` is the page's number, of which the file keeps four bytes, and `last` the place of the page before, or
+/// -1. Each item is a special with its label and, but for marks and notes, a rule.
 ///
 /// It fails if an item is too far up or down for four bytes, if the page would end past place 2147483000, or if there is
 /// no memory. A part of the page may be appended then.
@@ -180,8 +179,8 @@ fn put_column(
     put_page(out, alloc, store, number, &parts, place, last)
 }
 
-/// Appends the bytes of a page as it is shipped, as `put_page` does: its column, or its double floats and both columns, of
-/// which the second stands 300pt to the right.
+/// Appends the bytes of a page as it is shipped, as `put_page` does: its column, or its double floats and both columns, the
+/// second 300pt to the right.
 pub fn put_sheet(
     out: &mut Vec<u8>,
     alloc: Global,

@@ -1,4 +1,4 @@
-//! A stack of numbers that takes no more room for a number that repeats the one below it.
+//! A stack of numbers. A number that repeats the one below it takes no more room.
 
 use std::alloc::{AllocError, Global};
 use std::marker::Model;

@@ -5,7 +5,7 @@ use crate::runs::Runs;
 use std::alloc::{AllocError, Global};
 use std::marker::Model;
 
-/// The registers that were pushed and not popped. A register takes room where it differs from the one below it: a command
+/// The registers that were pushed and not popped. A register takes room only if it differs from the one below it: a command
 /// changes no more than three, so a stack takes room in proportion to the commands between its pushes.
 #[derive(Drop)]
 pub(crate) struct Stack {

@@ -1,4 +1,4 @@
--- Lists that are none of the builder's change, and lists that can join the builder's.
+-- Lists that are not the builder's change, and lists that can join the builder's.
 use Rattle.std.proofs.Common.{◌≡◌, ◌≢◌, refl, sym, subst, ℕ, true, List, [], ◌∷◌, ◌++◌, append-nil}
 use Rattle.std.specs.Prelude.{option_to_list}
 use Rattle.std.specs.FinMap.{get}

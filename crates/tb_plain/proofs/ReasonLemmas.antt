@@ -1,4 +1,4 @@
--- A run of the page makeup ends since it is done, for its pages or for its nodes, and never for its steps.
+-- A run of the page makeup ends because it is done, for its pages or for its nodes, and never for its steps.
 use Rattle.std.proofs.Common.{◌≡◌, refl, sym, ◌∙◌, ap, ℕ, ℤ, zero, suc, pos, ◌+◌, ◌≤◌, inl, Bool, true, false, List, [], ◌∷◌, ◌++◌, length, Option, Some, None, arith, length-append}
 use Rattle.std.specs.Prelude.{pred, int_lt, ◌<ℤ◌, ◌≤ℤ◌, if◌then◌else◌}
 use Rattle.std.proofs.lemmas.Int.{ints}

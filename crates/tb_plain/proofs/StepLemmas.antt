@@ -225,7 +225,7 @@ all_acts s = act_count s.page + act_count s.waiting
 abbrev pages_left : Params → MakeupState → ℕ
 pages_left p s = nat_abs p.maxpages - pred s.number
 
--- so much fuel is enough; if the page's end waits, one less is
+-- this much fuel is enough; if the page's end waits, one less is
 abbrev pub Enough : Params → MakeupState → ℕ → Type 0
 Enough p s fuel = (all_acts s + 2 * pages_left p s + 1 < fuel) ⊎ ((s.waiting ≡ ejecting_nodes) × (all_acts s + 2 * pages_left p s < fuel))
 

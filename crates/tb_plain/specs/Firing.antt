@@ -10,7 +10,7 @@ use Rattle.tb_column.specs.declared.ColumnKind.TheVariants as kinds
 use Rattle.tb_column.specs.Column.{PlainColumn, column_of, notes_under_rule, is_ragged}
 use Rattle.tb_plain.specs.Expand.{clearing_glue, clearing_penalty}
 
--- at a ragged bottom a kern takes the depth of the body back, and glue stretches
+-- at a ragged bottom a kern backs up over the depth of the body, and glue stretches
 abbrev pub ragged_end : Params → List PlainNode → List PlainNode
 ragged_end p body = made (kerned (neg_ℤ (min_ℤ (last_depth (map node_shape body)) p.maxdepth))) ∷ made (skip filling_glue) ∷ []
 

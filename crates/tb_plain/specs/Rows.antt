@@ -9,7 +9,7 @@ pub record MakeupRows : Type 0 where
   pub empty_galley : makeup_reply (codes "galley 1\nend\n") ≡ reports (codes "report 1\nend pages 0 boxes 0 floats 0 warnings 0\n") done
   -- a clear fills the page
   pub page_of_text : makeup_reply (codes "galley 1\nset textheight 100\nset topskip 10\nset maxdepth 0\nset baselineskip 0\nset bottom flush\nset skipfootins 0\nset footsplittop 10\nbox a 20 0\nglue 0 plus 1\nbox b 10 0\nend\n") ≡ reports (codes "report 1\npage 1 one\ncolumn 1 text height 100 natural 30 set stretch fill 70/65536\nbox a 0 20 0\nbox b 20 10 0\nend pages 1 boxes 2 floats 0 warnings 0\n") done
-  -- at a ragged bottom a kern takes the depth back
+  -- at a ragged bottom a kern backs up over the depth
   pub ragged_page : makeup_reply (codes "galley 1\nset textheight 100\nset topskip 10\nset maxdepth 0\nset baselineskip 0\nset bottom ragged\nset skipfootins 0\nset footsplittop 10\nset maxdepth 4\nbox a 20 0\nglue 0\nbox b 10 3\npenalty -10000\nbox c 10 0\nend\n") ≡ reports (codes "report 1\npage 1 one\ncolumn 1 text height 100 natural 30 set stretch fil 70/65536\nbox a 0 20 0\nbox b 20 10 3\npage 2 one\ncolumn 1 text height 100 natural 10 set stretch fill 90/65536\nbox c 0 10 0\nend pages 2 boxes 3 floats 0 warnings 0\n") done
   -- a footnote that is split leaves its rest to the next page
   pub held_footnote : makeup_reply (codes "galley 1\nset textheight 100\nset topskip 10\nset maxdepth 0\nset baselineskip 0\nset bottom flush\nset skipfootins 0\nset footsplittop 10\nbox a 60 0\nfoot\nbox f 30 0\nglue 0\nbox g 30 0\nendfoot\nend\n") ≡ reports (codes "report 1\npage 1 one\ncolumn 1 text height 100 natural 90 set stretch fill 10/65536\nbox a 0 60 0\nfootrule -196538 26214 0\nbox f 70 30 0\npage 2 one\ncolumn 1 text height 100 natural 30 set stretch fill 70/65536\nfootrule -196538 26214 0\nbox g 70 30 0\nend pages 2 boxes 3 floats 0 warnings 0\n") done

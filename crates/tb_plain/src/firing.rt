@@ -1,6 +1,6 @@
 //! A page fires.
 
-ghost use Rattle.std.specs.Prelude.{◌≡◌, ◌≢◌, ◌≤◌, ◌+◌, ◌++◌, ◌∷◌, [], neg_ℤ, true, Some, None, map, int_le, nat_lt, ◌&&◌, length, OnOk, OnErr, IfOk, IfErr, is_none};
+ghost use Rattle.std.specs.Prelude.{◌≡◌, ◌≢◌, ◌≤◌, ◌+◌, ◌++◌, ◌∷◌, [], neg_ℤ, true, Some, None, map, int_le, nat_lt, ◌&&◌, OnOk, OnErr, IfOk, IfErr};
 ghost use Rattle.std.specs.FinMap.{get};
 ghost use Rattle.tb_pool.specs.Lists.{IsLive, list_at, with_list};
 ghost use Rattle.tb_node.specs.Fit.{IsExtent, shapes};
@@ -33,12 +33,12 @@ const CLEARING_PENALTY: i64 = -20_000;
 
 impl Plain {
     /// A page fires, which awaits its `put_back`: it ships as one column, with the top floats above its text and the
-    /// footnotes below, and both boxes are void then. After a clear, if insertions are held, a page on which they can
-    /// come goes back; else nothing does (plain.tex, \plainoutput and \dosupereject).
+    /// footnotes below, and both boxes are void then. After a clear, if insertions are held, a page on which they can come
+    /// goes back; otherwise nothing does (plain.tex, \plainoutput and \dosupereject).
     ///
-    /// The list of the page becomes that of what goes back, and the column gets a new one. If as many pages were shipped as
-    /// `maxpages` says, it returns `PageLimit`; if memory runs out, `Memory`. After these the page makeup, the builder
-    /// and all lists are as before.
+    /// The list of the page becomes that of what goes back, and the column gets a new one. If `maxpages` pages were
+    /// shipped, it returns `PageLimit`; if memory runs out, `Memory`. After these the page makeup, the builder and all
+    /// lists are as before.
     pub fn fire(
         &mut self,
         store: &mut Lists<Node>,
@@ -198,7 +198,7 @@ fn push_above_feet(store: &mut Lists<Node>, p: &Params, list: ListId, void: bool
     push_rule(store, list, p.skipfootins);
 }
 
-// At a ragged bottom a kern takes the depth of the text back, and glue stretches (plain.tex, \raggedbottom).
+// At a ragged bottom a kern backs up over the depth of the text, and glue stretches (plain.tex, \raggedbottom).
 fn push_end(store: &mut Lists<Node>, p: &Params, list: ListId, depth: i64)
     requires live { IsLive store.old list }
     requires room { 2 ≤ store.old.spare }
@@ -233,7 +233,8 @@ fn goes_back(page: &Page) -> bool
     page.penalty <= CLEARING_PENALTY && page.held > 0
 }
 
-// A page on which held insertions can come, and the break of a clear. The kern takes the glue at the top of the page back.
+// A page on which held insertions can come, and the break of a clear. The kern backs up over the glue at the top of the
+// page.
 fn push_page_for_held(store: &mut Lists<Node>, p: &Params, l: ListId)
     requires params { AreMakeupParams p.now }
     requires live { IsLive store.old l }
@@ -255,7 +256,7 @@ fn push_page_for_held(store: &mut Lists<Node>, p: &Params, l: ListId)
     push_made(store, l, Kind::Pen(CLEARING_PENALTY));
 }
 
-// A kern that takes so much back.
+// A kern that backs up by so much.
 fn kern_back(room: i64) -> Kind
     requires { IsExtent room }
     ensures { result ≡ Kind.Kern (neg_ℤ room) }

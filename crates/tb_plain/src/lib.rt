@@ -73,8 +73,8 @@ pub fn check_makeup_rows()
 {}
 
 /// The run of a galley is defined: each step takes an act, ships a page or ends the last page, so the bound on the steps,
-/// with which a run starts, is never met. A run ends since it is done, or since as many pages as may be are shipped, or since
-/// more nodes wait than may be.
+/// with which a run starts, is never met. A run ends because it is done, because as many pages as may be were shipped, or
+/// because more nodes wait than may be.
 pub fn makeup_runs_are_defined()
     ensures bounds { StepsAgree }
     ensures reasons { EndsHaveReasons }

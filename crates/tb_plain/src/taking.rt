@@ -1,14 +1,12 @@
 //! A float is taken.
 
-ghost use Rattle.std.specs.Prelude.{◌≡◌, ◌≤◌, ◌+◌, ◌+ℤ◌, ◌++◌, ◌∷◌, [], None, Some, OnOk, OnErr, IfOk};
+ghost use Rattle.std.specs.Prelude.{◌≡◌, ◌≤◌, ◌+◌, ◌+ℤ◌, ◌++◌, ◌∷◌, [], None, OnOk, OnErr, IfOk};
 ghost use Rattle.std.specs.FinMap.{get};
 ghost use Rattle.tb_pool.specs.Lists.{IsLive, list_at, with_list};
 ghost use Rattle.tb_node.specs.Small.{IsAmount};
 ghost use Rattle.tb_node.specs.Fit.{IsDimension, IsExtent};
-ghost use Rattle.tb_builder.specs.Contents.{contents_of};
 ghost use Rattle.tb_builder.specs.Owned.{ids_of};
 ghost use Rattle.tb_builder.specs.Handed.{ListJoins};
-ghost use Rattle.tb_builder.specs.Summed.{page_sums_of};
 ghost use Rattle.tb_plain.specs.Take.{with_float, here_nodes, top_leaves, page_leaves, top_insertion};
 ghost use Rattle.tb_plain.specs.Making.{place_of, here_list, top_list, page_list, top_node, AreOpened, IsPutFirst};
 ghost use Rattle.tb_plain.specs.Calls.{AreMakeupParams, IsPlain, IsTake, CanAct, HasPut, HasActed};
@@ -38,9 +36,9 @@ struct TopLists {
 }
 
 impl Plain {
-    /// A float is taken: it goes before all that waits if h asks for the text and the page has room for it. Else it goes
-    /// into an insertion, which comes before all that waits and brings it to the top of a page, or on a page of its own
-    /// (plain.tex, \endinsert).
+    /// A float is taken: it goes before all that waits if h asks for the text and the page has room for it. Otherwise it
+    /// goes into an insertion, which comes before all that waits and brings it to the top of a page, or on a page of its
+    /// own (plain.tex, \endinsert).
     ///
     /// If memory runs out, the builder and all lists are as before.
     pub fn act(

@@ -238,7 +238,7 @@ fn told_list(alloc: Global, store: &Lists<Node>, l: ListId) -> Result<Vec<(char,
     Ok(all)
 }
 
-// A float of this height that may stand in the text alone.
+// A float of this height that may go into the text alone.
 fn float(height: i64) -> Result<Float, Fail>
     requires { IsExtent height }
     ensures { IfOk result (λ f. IsExtent f.height) }

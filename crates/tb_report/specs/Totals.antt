@@ -16,7 +16,7 @@ abbrev pub is_float_box : PlainKind → Bool
 is_float_box (plain (hbox (what.Float name class place item) h d)) = true
 is_float_box _ = false
 
--- one where a test holds, else none
+-- one if a test holds, else none
 abbrev pub one_if : Bool → ℕ
 one_if true = 1
 one_if false = 0

@@ -2,7 +2,6 @@
 ghost use Rattle.std.specs.Prelude.{◌≡◌, ◌+◌, ◌<◌, ◌^◌, ◌∷◌, [], map, true, false};
 ghost use Rattle.tb_pool.specs.Lists.{IsLive, list_at};
 ghost use Rattle.tb_node.specs.Plain.{plain, matter_of};
-ghost use Rattle.tb_report.specs.Totals.{one_if, is_item_box, is_float_box};
 
 use crate::Totals;
 use tb_column::{Sent, Sheet};
@@ -75,43 +74,22 @@ impl Totals {
         }
     }
 
+    // Counts a box or a rule that came from an item, or the box of a float.
     fn count_node(&mut self, node: &Node)
         requires room { AreCounts (with_kind (plain (matter_of node.now.kind)) self.old) }
         ensures { self.new ≡ with_kind (plain (matter_of node.now.kind)) self.old }
     {
-        self.boxes += one_if(is_item_box(node));
-        self.floats += one_if(is_float_box(node));
-    }
-}
-
-fn one_if(holds: bool) -> u64
-    ensures { result ≡ one_if holds }
-{
-    if holds { 1 } else { 0 }
-}
-
-// A box or a rule that came from an item.
-fn is_item_box(node: &Node) -> bool
-    ensures { result ≡ is_item_box (plain (matter_of node.now.kind)) }
-{
-    match &node.kind {
-        Kind::Hbox {
-            what: What::Text(_),
-            ..
-        } => true,
-        Kind::Rule { name: Some(_), .. } => true,
-        _ => false,
-    }
-}
-
-fn is_float_box(node: &Node) -> bool
-    ensures { result ≡ is_float_box (plain (matter_of node.now.kind)) }
-{
-    match &node.kind {
-        Kind::Hbox {
-            what: What::Float { .. },
-            ..
-        } => true,
-        _ => false,
+        match &node.kind {
+            Kind::Hbox {
+                what: What::Text(_),
+                ..
+            } => self.boxes += 1,
+            Kind::Hbox {
+                what: What::Float { .. },
+                ..
+            } => self.floats += 1,
+            Kind::Rule { name: Some(_), .. } => self.boxes += 1,
+            _ => {}
+        }
     }
 }

@@ -1,9 +1,9 @@
 //! The lines at the end of a report.
-ghost use Rattle.std.specs.Prelude.{◌≡◌, ◌++◌, ◌∷◌, [], map, codes, OnOk, IfOk};
-ghost use Rattle.tb_pool.specs.Lists.{IsLive, list_at};
+ghost use Rattle.std.specs.Prelude.{◌≡◌, ◌++◌, codes, OnOk, IfOk};
+ghost use Rattle.tb_pool.specs.Lists.{IsLive};
 ghost use Rattle.tb_node.specs.Plain.{plain, matter_of, plain_list};
 ghost use Rattle.tb_report.specs.Lines.{left_line, left_lines, end_lines};
-ghost use Rattle.tb_text.specs.Fields.{and_number, and_count, line};
+ghost use Rattle.tb_text.specs.Fields.{and_count, line};
 
 use crate::Totals;
 use crate::writing::{put_line, put_total};
@@ -40,15 +40,17 @@ fn put_left_nodes(out: &mut Vec<u8>, store: &Lists<Node>, left: ListId) -> Resul
     Ok(())
 }
 
-// The last line of a report, from the count of pages on and from that of floats on.
-fn put_totals(out: &mut Vec<u8>, t: &Totals) -> Result<(), AllocError>
-    ensures { OnOk result (out.new.items ≡ out.old.items ++ line (codes "end pages" ++ and_count t.now.pages ++ codes " boxes" ++ and_count t.now.boxes ++ codes " floats" ++ and_count t.now.floats ++ codes " warnings" ++ and_count t.now.warnings)) }
+/// Appends the totals, after a word for that of the pages, and the end of the line. It fails only if there is no memory; a
+/// part may then be there.
+pub fn put_totals(out: &mut Vec<u8>, pages: &[u8], t: &Totals) -> Result<(), AllocError>
+    ensures { OnOk result (out.new.items ≡ out.old.items ++ line (pages.now ++ and_count t.now.pages ++ codes " boxes" ++ and_count t.now.boxes ++ codes " floats" ++ and_count t.now.floats ++ codes " warnings" ++ and_count t.now.warnings)) }
 {
-    put_total(out, b"end pages", t.pages)?;
+    put_total(out, pages, t.pages)?;
     put_total(out, b" boxes", t.boxes)?;
     end_totals(out, t)
 }
 
+// The totals from that of floats on.
 fn end_totals(out: &mut Vec<u8>, t: &Totals) -> Result<(), AllocError>
     ensures { OnOk result (out.new.items ≡ out.old.items ++ line (codes " floats" ++ and_count t.now.floats ++ codes " warnings" ++ and_count t.now.warnings)) }
 {
@@ -60,7 +62,7 @@ fn end_totals(out: &mut Vec<u8>, t: &Totals) -> Result<(), AllocError>
 /// The end of the report of a run that is done: a line for each mark and note that is left on the page, in order, and
 /// the line of the totals.
 ///
-/// It fails only where there is no memory for the text.
+/// It fails only if there is no memory for the text.
 pub fn end_text(
     alloc: Global,
     store: &Lists<Node>,
@@ -72,6 +74,6 @@ pub fn end_text(
 {
     let mut out = Vec::new(alloc);
     put_left_nodes(&mut out, store, left)?;
-    put_totals(&mut out, t)?;
+    put_totals(&mut out, b"end pages", t)?;
     Ok(out)
 }

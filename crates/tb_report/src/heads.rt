@@ -1,6 +1,5 @@
 //! The line of a column, before its items.
-ghost use Rattle.std.specs.Prelude.{◌≡◌, ◌++◌, ◌∷◌, [], ℤ, pos, codes, OnOk};
-ghost use Rattle.std.specs.Fmt.{signed_decimal};
+ghost use Rattle.std.specs.Prelude.{◌≡◌, ◌++◌, codes, OnOk};
 ghost use Rattle.tb_report.specs.Lines.{order_text, ratio_text, sign_text, over_text, set_text, kind_text};
 ghost use Rattle.tb_text.specs.Fields.{and_number, and_count, and_text, line};
 

@@ -1,5 +1,5 @@
 //! The line of a node.
-ghost use Rattle.std.specs.Prelude.{◌≡◌, ◌++◌, ◌∷◌, [], ℤ, pos, codes, OnOk, Some, None};
+ghost use Rattle.std.specs.Prelude.{◌≡◌, ◌++◌, codes, OnOk, Some, None};
 ghost use Rattle.tb_node.specs.Plain.{matter_of};
 ghost use Rattle.tb_report.specs.Lines.{where_text, side_text, box_line, rule_line, matter_line};
 ghost use Rattle.tb_text.specs.Fields.{and_number, and_count, and_text, line};
@@ -41,7 +41,8 @@ fn end_at(out: &mut Vec<u8>, top: i128) -> Result<(), AllocError>
     end_line(out)
 }
 
-// A top, a height and a depth, and the end of the line. Hardly any is below 0, and then they are written at once.
+// A top, a height and a depth, and the end of the line. If none is below 0, as hardly any is, all three are written at
+// once.
 fn end_box(out: &mut Vec<u8>, top: i128, height: i64, depth: i64) -> Result<(), AllocError>
     ensures { OnOk result (out.new.items ≡ out.old.items ++ line (and_number top ++ and_number height ++ and_number depth)) }
 {
@@ -124,7 +125,7 @@ fn put_float(
     put_place(out, place, top, height)
 }
 
-// Where a float stands, its top and its height, and the end of the line.
+// Where a float is, its top and its height, and the end of the line.
 fn put_place(out: &mut Vec<u8>, place: Where, top: i128, height: i64) -> Result<(), AllocError>
     ensures { OnOk result (out.new.items ≡ out.old.items ++ line (and_text (where_text place) ++ and_number top ++ and_number height)) }
 {
@@ -218,7 +219,7 @@ fn put_rule(
     }
 }
 
-/// Writes the line of a node whose top stands at this many scaled points; most kinds have none.
+/// Writes the line of a node whose top is at this many scaled points; most kinds have none.
 pub(crate) fn put_node(out: &mut Vec<u8>, node: &Node, top: i128) -> Result<(), AllocError>
     ensures { OnOk result (out.new.items ≡ out.old.items ++ matter_line (matter_of node.now.kind) top) }
 {

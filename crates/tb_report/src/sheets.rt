@@ -1,8 +1,6 @@
 //! The lines of a page.
-ghost use Rattle.std.specs.Prelude.{◌≡◌, ◌≢◌, ◌++◌, ◌∷◌, [], ℤ, pos, map, codes, OnOk, IfOk};
-ghost use Rattle.tb_pool.specs.Lists.{IsLive, list_at};
-ghost use Rattle.tb_node.specs.Plain.{matter_of, shape_of, plain_of, plain_list};
-ghost use Rattle.tb_node.specs.Fit.{shapes};
+ghost use Rattle.std.specs.Prelude.{◌≡◌, ◌≢◌, ◌++◌, [], pos, codes, OnOk, IfOk};
+ghost use Rattle.tb_node.specs.Plain.{plain_list};
 ghost use Rattle.tb_column.specs.Shown.{column_shown, sheet_shown, sent_shown};
 ghost use Rattle.tb_report.specs.Printable.{IsPrintableList, IsPrintable, IsPrintableSheet, IsPrintableSent};
 ghost use Rattle.tb_report.specs.Lines.{item_lines, column_lines, unset, sheet_lines, sent_lines};
@@ -132,12 +130,12 @@ fn put_sheet(
     }
 }
 
-/// Appends the lines of what the output routine sends out, so that one text serves page after page: a warning's line, or
-/// those of a page.
+/// Appends the lines of what the output routine sends out: a warning's line, or those of a page. One text serves page after
+/// page.
 ///
-/// A page has its own line, and for each column a line with its height, its natural height and how its glue is set, and
-/// one for each box, rule, float, note and mark with its top, all in scaled points. It fails only where there is no
-/// memory for the text, which may have a part of the lines then.
+/// A page has its own line, and for each column a line with its height, its natural height and how its glue is set, and one
+/// for each box, rule, float, note and mark with its top, all in scaled points. It fails only if there is no memory for the
+/// text, which may then have a part of the lines.
 pub fn put_sent(out: &mut Vec<u8>, store: &Lists<Node>, s: &Sent) -> Result<(), AllocError>
     requires { IsPrintableSent store.now s.now }
     ensures { OnOk result (out.new.items ≡ out.old.items ++ sent_lines (sent_shown store.now s.now)) }
@@ -148,7 +146,7 @@ pub fn put_sent(out: &mut Vec<u8>, store: &Lists<Node>, s: &Sent) -> Result<(), 
     }
 }
 
-/// These lines as a text of their own. It fails only where there is no memory for it.
+/// These lines as a text of their own. It fails only if there is no memory for it.
 pub fn sent_text(alloc: Global, store: &Lists<Node>, s: &Sent) -> Result<Vec<u8>, AllocError>
     requires { IsPrintableSent store.now s.now }
     ensures { IfOk result (λ text. text.items ≡ sent_lines (sent_shown store.now s.now)) }

@@ -1,5 +1,5 @@
 //! The lines of warnings.
-ghost use Rattle.std.specs.Prelude.{◌≡◌, ◌++◌, ◌∷◌, [], ℤ, pos, codes, OnOk};
+ghost use Rattle.std.specs.Prelude.{◌≡◌, ◌++◌, OnOk};
 ghost use Rattle.tb_report.specs.Lines.{warn_line};
 ghost use Rattle.tb_text.specs.Fields.{and_number, and_count, line};
 

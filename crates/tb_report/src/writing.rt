@@ -1,11 +1,11 @@
 //! Fields of a report line, written at the end of a text.
-ghost use Rattle.std.specs.Prelude.{◌≡◌, ◌++◌, ◌∷◌, [], pos, OnOk};
-ghost use Rattle.tb_text.specs.Fields.{and_number, and_count, and_text, line};
+ghost use Rattle.std.specs.Prelude.{◌≡◌, ◌++◌, OnOk};
+ghost use Rattle.tb_text.specs.Fields.{and_number, and_count, line};
 
 use std::alloc::AllocError;
 use tb_text::{end_line, put, put_amount, put_count};
 
-/// Appends a word and a count after it. It fails only where there is no memory; a part may then stand.
+/// Appends a word and a count after it. It fails only if there is no memory; a part may then be there.
 pub fn put_total(out: &mut Vec<u8>, word: &[u8], count: u64) -> Result<(), AllocError>
     ensures { OnOk result (out.new.items ≡ out.old.items ++ (word.now ++ and_count count)) }
 {
@@ -13,8 +13,8 @@ pub fn put_total(out: &mut Vec<u8>, word: &[u8], count: u64) -> Result<(), Alloc
     put_count(out, count)
 }
 
-/// Appends a word and an amount after it: scaled points, or a penalty or cost, which have no unit. It fails only where
-/// there is no memory; a part may then stand.
+/// Appends a word and an amount after it: scaled points, or a penalty or cost, which have no unit. It fails only if there
+/// is no memory; a part may then be there.
 pub fn put_measure(out: &mut Vec<u8>, word: &[u8], amount: i64) -> Result<(), AllocError>
     ensures { OnOk result (out.new.items ≡ out.old.items ++ (word.now ++ and_number amount)) }
 {
@@ -22,7 +22,7 @@ pub fn put_measure(out: &mut Vec<u8>, word: &[u8], amount: i64) -> Result<(), Al
     put_amount(out, amount)
 }
 
-/// Appends a word and what follows it. It fails only where there is no memory; a part may then stand.
+/// Appends a word and what follows it. It fails only if there is no memory; a part may then be there.
 pub fn put_named(out: &mut Vec<u8>, word: &[u8], name: &[u8]) -> Result<(), AllocError>
     ensures { OnOk result (out.new.items ≡ out.old.items ++ (word.now ++ name.now)) }
 {

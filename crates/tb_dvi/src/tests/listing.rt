@@ -205,7 +205,7 @@ fn checksum(sum: u64, text: &[u8]) -> u64 {
 #[test]
 fn lists_each_changed_byte(rt: HostRuntime) -> Result<(), Fail> {
     let alloc = rt.alloc();
-    // The sum was made by another program, which reads a file in one loop over all that it may hold.
+    // Another program computed the sum; it reads a file in one loop over all that it may hold.
     let mut file = Vec::from_slice(alloc, THREE_BOXES)?;
     let mut sum = 0;
     for place in 0..file.len() {
