@@ -33,7 +33,7 @@ pub record Takes (r : Makeup) (s : MakeupState) : Type 0 where
   pub number : s.number ≡ r.plain.page
   pub phase : ((state_of r).page ≡ []) ⊎ (s.waiting ≡ ejecting_nodes)
 
--- six nodes more than before the page wait after it at most, with those that acts can add, and no more acts
+-- after the page at most six nodes more wait, those that acts can add included, and no more acts
 pub record HasGrown (r : Makeup) (waiting : List PlainNode) : Type 0 where
   pub total : node_count waiting + 5 * act_count waiting ≤ node_total (state_of r) + 6
   pub acts : act_count waiting ≤ act_count (state_of r).waiting
@@ -70,7 +70,7 @@ Fills r None q = IsOver r q
 
 -- ---- the page ships
 
--- what waits after the page is bounded, but for ten nodes
+-- what waits after the page has at most the nodes and acts of the bound, and ten nodes more
 abbrev pub IsBoundedPage : Page → Makeup → Type 0
 IsBoundedPage page r = IsBounded 10 (record { page = []; waiting = waiting_after r.plain.params (fired_with r.builder r.store page); number = r.plain.page + 1 }) r.bound
 

@@ -64,14 +64,14 @@ pub data Phase (s : MakeupState) : Type 0 where
   begins : s.page ≡ [] → node_total s + 10 ≤ 7500000 → Phase s
   ejects : s.waiting ≡ ejecting_nodes → Phase s
 
--- no more nodes than the bound says and so many more, with those that their acts can add, and no more acts; the bound is not too large
+-- a state has at most the nodes and acts of the bound, and so many nodes more; the bound is in range
 pub record IsBounded (more : ℕ) (s : MakeupState) (b : NodeBound) : Type 0 where
   pub total : node_total s ≤ b.most + more
   pub acts : act_count s.waiting ≤ b.acts
   pub few_nodes : b.most ≤ 7500000
   pub few_acts : b.acts ≤ 600005
 
--- the nodes that the bound does not say: those that end a page on which something stands, and the glue above its first box
+-- the nodes that the bound of a state leaves out: if something is on the page, those that end it and the glue above its first box
 abbrev pub unsaid_nodes : MakeupState → ℕ
 unsaid_nodes s = if holds_any s.page then 4 else 0
 

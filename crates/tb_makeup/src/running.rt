@@ -47,22 +47,23 @@ pub struct Makeup {
     bound: NodeBound,
 }
 
-// A bound on the nodes that wait and are on the page, so that they need not be counted after each page.
+// A bound on the nodes of the page and of what waits, so that they need not be counted after each page.
 #[derive(Clone, Copy)]
-pub(crate) struct NodeBound {
-    // The nodes, with those that the acts among them can add.
+struct NodeBound {
+    // The nodes, and those that their acts can add.
     most: u64,
     // The acts.
     acts: u64,
 }
 
-// No galley has more nodes, with those that its acts can add.
+// No galley has more nodes, those that its acts can add included.
 const MOST_NODES: u64 = 7_500_000;
 
-// A page adds no more nodes to those that wait: the glue above its first box, what ends it, and the page of held insertions.
+// A page adds no more nodes to those that wait: the glue above its first box, the nodes that end the last page, and those
+// of a page for held insertions.
 const ADDED_NODES: u64 = 10;
 
-// An act puts no more nodes than these and one in its place.
+// An act adds no more nodes.
 const ACT_NODES: u64 = 5;
 
 /// How a run ends.
@@ -228,8 +229,8 @@ impl Makeup {
         }
     }
 
-    // The ending where more nodes wait than `maxnodes` once a page was shipped. They are counted only if the bound on them
-    // passes `maxnodes`; it is their number then, with what the acts can add.
+    // The ending if more nodes wait than `maxnodes` after a page. They are counted only if the bound on them passes
+    // `maxnodes`; the bound is their number then, and what their acts can add.
     fn limit_after_page(&mut self) -> Option<MakeupEnding>
         requires sound { IsSound self.old.builder self.old.store }
         requires few { node_count (held_in self.old).waiting ≤ 8388608 }
@@ -312,7 +313,7 @@ impl Makeup {
     }
 }
 
-// The ending where so many nodes wait, if they are more than the limit.
+// The ending if so many nodes are more than the limit.
 fn over_limit(count: u64, limit: i64) -> Option<MakeupEnding>
     ensures { result ≡ over_limit limit count }
 {

@@ -1,4 +1,4 @@
--- What waits stands well, and closes, in reading order.
+-- What waits is well formed, and closes, in reading order.
 pub mod Sorts
 pub mod SortLemmas
 pub mod PutLemmas

@@ -1,4 +1,4 @@
--- What the machine returns at an act, against the definition of an act.
+-- What the machine does at an act, against the definition of an act.
 use Rattle.std.specs.Prelude.{◌≡◌, ◌≤◌, ◌<◌, ◌+◌, ℕ, ℤ, Bool, true, false, ◌&&◌, List, [], ◌∷◌, ◌++◌, map, Option, None, if◌then◌else◌}
 use Rattle.tb_scaled.specs.Scaled.{min_ℤ}
 use Rattle.tb_pool.specs.Lists.{Lists}
@@ -26,7 +26,7 @@ use Rattle.tb_output.specs.Act.{Acted, went, full, lists_with_taken, large_warni
 use Rattle.tb_pool.specs.Frame.{IsNoneOf}
 use Rattle.tb_output.specs.Machine.{MachineView, state_shown, left_lists, machine_lists}
 
--- ---- what is asked
+-- ---- what is required
 
 -- the amounts of an act are in their ranges
 abbrev pub IsSizedAct : Act → Type 0
@@ -35,17 +35,17 @@ IsSizedAct (acts.TakeMargin m) = IsSizedMargin m
 IsSizedAct (acts.Suppress area) = Unit {0}
 IsSizedAct (acts.Columns two) = Unit {0}
 
--- ---- what stands after an act
+-- ---- what holds after an act
 
 -- warnings as events
 abbrev pub warnings_sent : List Warn → List Sent
 warnings_sent ws = map (λ w. events.Warn w) ws
 
--- what the definition does at the act, in the state that the machine stands for, where the insertion boxes hold this and these nodes wait
+-- what the definition does at the act in the machine's state, with these insertion boxes and waiting nodes
 abbrev pub acted_in : Lists Node → List Boxed → List PlainNode → MachineView → Act → Acted
 acted_in store boxes waiting m a = act_on m.params (state_shown store boxes waiting m) a
 
--- the machine stands for this state now, and these warnings were sent
+-- the machine has this state now, and these warnings were sent
 pub record StandsFor (store : Lists Node) (boxes : List Boxed) (waiting : List PlainNode) (m now : MachineView) (s : State) (ws : List Warn) : Type 0 where
   pub state : state_shown store boxes waiting now ≡ s
   pub sent : now.events ≡ m.events ++ warnings_sent ws
@@ -62,20 +62,20 @@ line_of (acts.TakeMargin m) = m.line
 line_of (acts.Suppress area) = 0
 line_of (acts.Columns two) = 0
 
--- the list of a first column that waits, where the act changes the columns
+-- the list of a first column that waits, if the act changes the columns
 abbrev pub dropped_lists : Act → Option Column → List ℕ
 dropped_lists (acts.Take f) left = []
 dropped_lists (acts.TakeMargin m) left = []
 dropped_lists (acts.Suppress area) left = []
 dropped_lists (acts.Columns two) left = left_lists left
 
--- a list that is none of the machine's before is none of it afterwards
+-- a list that is not the machine's before is not its afterwards
 abbrev pub TakesNoList : MachineView → MachineView → Type 0
 TakesNoList m now = (q : ℕ) → IsNoneOf q (machine_lists m) → IsNoneOf q (machine_lists now)
 
 -- ---- the machine after each act
 
--- a float as it is taken where a page is this high
+-- a float as it is taken if a page is this high
 abbrev pub clipped : ℤ → Bool → Float → Float
 clipped height two f = record f { height = min_ℤ f.height height; wide = f.wide && two }
 
@@ -86,7 +86,7 @@ taken_into p f v = record v {
   second_marks = if has_second p && f.wide then v.second_marks ++ false ∷ [] else v.second_marks;
 }
 
--- a float was taken, with a warning where it is higher than a page
+-- a float was taken, with a warning if it is higher than a page
 abbrev pub with_float : Float → MachineView → MachineView
 with_float f m = record m {
   pool = taken_into m.params (clipped m.params.textheight m.two_columns f) m.pool;
@@ -105,13 +105,13 @@ with_suppressed area m = record m { suppress = suppressed m.suppress area }
 abbrev pub with_columns : Bool → MachineView → MachineView
 with_columns two m = record m { two_columns = two; first_column = true; left_column = None; suppress = no_suppress }
 
--- so many boxes had room in the pool, and the machine is the next one; no float is chosen, if none was
+-- the pool had room for this many boxes, and the machine is the next one; if no float was chosen, none is
 pub record HasTaken (boxes : ℕ) (m next now : MachineView) : Type 0 where
   pub room : live_count m.pool.lists + boxes ≤ m.pool.size
   pub machine : now ≡ next
   pub unmarked : HasNoMarks m.pool → HasNoMarks next.pool
 
--- so many boxes had no room in the pool, which holds so many, and the machine is as before
+-- the pool, which holds this many boxes, had no room for that many more; the machine is as before
 pub record HasNoRoom (boxes live : ℕ) (m now : MachineView) : Type 0 where
   pub room : m.pool.size < live_count m.pool.lists + boxes
   pub shown : live ≡ live_count m.pool.lists

@@ -1,4 +1,4 @@
--- The firing of a page of a page builder, against the definition of a firing.
+-- The firing of a builder's page, against the definition of a firing.
 use Rattle.std.specs.Prelude.{◌≡◌, ◌+◌, ◌≤◌, ℕ, ℤ, pos, neg_ℤ, ◌≤ℤ◌, ◌<ℤ◌, true, false, List, ◌∷◌, ◌++◌, length, take, All, Option, Some, None, int_lt, if◌then◌else◌}
 use Rattle.std.specs.List.{AllByRecursion}
 use Rattle.tb_pool.specs.Lists.{Lists, list_at}
@@ -25,11 +25,11 @@ use Rattle.tb_output.specs.Keeping.{AreNoneOf, KeepsFields, IsBack, back_lists}
 
 -- ---- the work of a firing
 
--- a firing, without what waits after it
+-- a firing, without the nodes that wait after it
 unfoldable pub page_work : Params → State → Fired → Work
 page_work p s f = next_goal p f.penalty (output_by p f (begun (after_page s f)))
 
--- the page that fired of a builder, with what the builder holds after it
+-- the page that the builder fired, with what the builder holds after it
 abbrev pub fired_in : Builder → Lists Node → Page → Fired
 fired_in b store page = record {
   body = plain_list store page.body;
@@ -42,7 +42,7 @@ fired_in b store page = record {
   line = page.line;
 }
 
--- the state that a machine and a builder stand for
+-- the state of a machine and a builder
 abbrev pub state_in : MachineView → Builder → Lists Node → State
 state_in m b store = state_shown store (contents_of b store).boxes (contents_of b store).waiting m
 
@@ -50,7 +50,7 @@ state_in m b store = state_shown store (contents_of b store).boxes (contents_of 
 abbrev pub whole_work : MachineView → Builder → Lists Node → Page → Work
 whole_work m b store page = out m.params (state_in m b store) (fired_in b store page)
 
--- ---- what is asked
+-- ---- what is required
 
 -- how far down the marginal notes of a column may reach: less than 2^54 - 2^32 in absolute value
 pub record IsReach (z : ℤ) : Type 0 where
@@ -65,8 +65,8 @@ builder_lists b store = owned (ids_of b) store
 abbrev pub AreSizedBoxes : List Boxed → Type 0
 AreSizedBoxes bs = AllByRecursion (λ b. All IsSizedLeaf (content_of b.content)) bs
 
--- a page that fired of the builder, which awaits its `put_back`: the builder's classes are the machine's, the penalty is none below those of the routine,
--- the nodes of page, boxes and held page are sized and not too many, and its list, the machine's and the builder's are apart
+-- a page that the builder fired and whose `put_back` it awaits: the builder's classes are the machine's, the penalty is not below those of the routine, the
+-- nodes of page, boxes and held page are sized and not too many, and its list, the machine's and the builder's are apart
 pub record CanFire (m : MachineView) (b : Builder) (store : Lists Node) (page : Page) : Type 0 where
   pub awaits : NoPage (contents_of b store)
   pub classes : (contents_of b store).classes ≡ m.classes
@@ -81,7 +81,7 @@ pub record CanFire (m : MachineView) (b : Builder) (store : Lists Node) (page : 
 
 -- ---- what holds after a firing
 
--- the turn is the work of the definition: what is put back, what is sent, and the state, where what waits is that of the work
+-- the turn is the work of the definition: what is put back, what is sent, and the state, with the waiting nodes of the work
 pub record IsFired (t : Turn) (m now : MachineView) (b : Builder) (store new : Lists Node) (w : Work) : Type 0 where
   pub alive : pos m.dead_cycles <ℤ m.params.maxdeadcycles
   pub served : w.refused ≡ false
@@ -96,12 +96,12 @@ pub record CanGoBack (l : ℕ) (m : MachineView) (b : Builder) (store : Lists No
   pub joins : ListJoins (ids_of b) store l
   pub machine_free : AreNoneOf (machine_lists m) (builder_lists b store)
 
--- the fault of a machine, or that as many firings as may be were without a page
+-- the fault of a machine, or that as many firings were without a page as are allowed
 abbrev pub fault_or_cycles : MachineView → Option RunFault → Option RunFault
 fault_or_cycles m None = if int_lt (pos m.dead_cycles) m.params.maxdeadcycles then None else Some (faults.DeadCycles m.dead_cycles)
 fault_or_cycles m (Some e) = Some e
 
--- why a machine begins no firing, where it does not
+-- why a machine begins no firing, if it does not
 abbrev pub refusal_of : MachineView → Option RunFault
 refusal_of m = fault_or_cycles m m.fault
 
@@ -111,13 +111,13 @@ pub record IsUntouched (m now : MachineView) (b later : Builder) (store new : Li
   pub builder : later ≡ b
   pub lists : new ≡ store
 
--- as many firings as may be were without a page; nothing changed
+-- as many firings were without a page as are allowed; nothing changed
 pub record AtDeadCycles (n : ℕ) (m now : MachineView) (b later : Builder) (store new : Lists Node) : Type 0 where
   pub count : n ≡ m.dead_cycles
   pub reached : m.params.maxdeadcycles ≤ℤ pos m.dead_cycles
   pub untouched : IsUntouched m now b later store new
 
--- the firing was to ship a page when as many as may be were shipped; what it sent before can be taken
+-- the firing was to ship a page when as many were shipped as are allowed; what it sent before can be taken
 pub record AtLastPage (n : ℕ) (m now : MachineView) (store new : Lists Node) (w : Work) : Type 0 where
   pub alive : pos m.dead_cycles <ℤ m.params.maxdeadcycles
   pub refused : w.refused ≡ true
@@ -125,7 +125,7 @@ pub record AtLastPage (n : ℕ) (m now : MachineView) (store new : Lists Node) (
   pub sent : events_shown new now.events ≡ events_shown store m.events ++ w.sent
   pub kept : now.fault ≡ Some (faults.PageLimit n)
 
--- there was no memory; of what the firing sends the first so many can be taken
+-- there was no memory; some front of what the firing sends can be taken
 pub record OutOfMemory (m now : MachineView) (store new : Lists Node) (w : Work) : Type 0 where
   pub alive : pos m.dead_cycles <ℤ m.params.maxdeadcycles
   pub count : ℕ
@@ -138,7 +138,7 @@ IsRefusal (faults.DeadCycles n) m now b later store new w = AtDeadCycles n m now
 IsRefusal (faults.PageLimit n) m now b later store new w = AtLastPage n m now store new w
 IsRefusal faults.Memory m now b later store new w = OutOfMemory m now store new w
 
--- machine and builder are sound, with parameters and classes as before, and of the lists that were live only the page's and their own changed, or are their own now
+-- machine and builder are sound, with parameters and classes as before; of the lists that were live only the page's and their own changed, or are their own now
 pub record KeepsAll (body : ℕ) (m now : MachineView) (b later : Builder) (store new : Lists Node) : Type 0 where
   pub machine : IsMachine now new
   pub builder : IsSound later new

@@ -26,7 +26,7 @@ pub record KeepsFields (m now : MachineView) : Type 0 where
   pub classes : now.classes ≡ m.classes
   pub fault : now.fault ≡ m.fault
 
--- it is a machine still, and of the lists that were live only these arguments and the machine's own changed, or are its own now
+-- it is a machine still; of the lists that were live only these arguments and its own changed, or are its own now
 pub record KeepsMachine (args : List ℕ) (m now : MachineView) (store new : Lists Node) : Type 0 where
   pub machine : IsMachine now new
   pub frame : OnlyChanged (args ++ machine_lists m) (machine_lists now) store new
@@ -41,7 +41,7 @@ pub record HasFloats (l : FloatLists) (m now : MachineView) : Type 0 where
 
 -- ---- what goes back
 
--- the list has these nodes after its own, and of the others these alone changed
+-- these nodes were added at the end of the list; of the other lists only these changed
 pub record HasGrown (l : ℕ) (ns : List Node) (args : List ℕ) (store new : Lists Node) : Type 0 where
   pub list : get new.lists l ≡ Some (list_at store l ++ ns)
   pub others : (q : ℕ) → q ≢ l → IsNoneOf q args → get new.lists q ≡ get store.lists q
@@ -50,8 +50,8 @@ pub record HasGrown (l : ℕ) (ns : List Node) (args : List ℕ) (store new : Li
 abbrev pub back_lists : Lists Node → ℕ → List ℕ
 back_lists store l = l ∷ inner_ids (list_at store l)
 
--- the list that goes back: its nodes are sized, its insertions are of the machine's classes, and their lists may stand on a page;
--- it and they are apart from each other and from the machine's lists
+-- the list that goes back: its nodes are sized, its insertions are of the machine's classes, and their lists may be on a page; it
+-- and they are apart from each other and from the machine's lists
 pub record IsBack (l : ℕ) (m : MachineView) (store : Lists Node) : Type 0 where
   pub live : IsLive store l
   pub sized : All IsSizedNode (list_at store l)
@@ -59,7 +59,7 @@ pub record IsBack (l : ℕ) (m : MachineView) (store : Lists Node) : Type 0 wher
   pub inner : AllByRecursion (IsPageList store) (inner_ids (list_at store l))
   pub apart : AreDistinct (back_lists store l ++ machine_lists m)
 
--- the same where a list goes back
+-- the same with a list that goes back
 pub record KeepsBack (l : ℕ) (args : List ℕ) (m now : MachineView) (store new : Lists Node) : Type 0 where
   pub machine : IsMachine now new
   pub back : IsBack l now new
@@ -68,7 +68,7 @@ pub record KeepsBack (l : ℕ) (args : List ℕ) (m now : MachineView) (store ne
 
 -- ---- a page
 
--- the lists of a text column: they may stand on a page, are apart from each other and from these lists, and have so many nodes at most
+-- the lists of a text column: they may be on a page, are apart from each other and from these lists, and have at most so many nodes
 pub record AreTextLists (most : ℕ) (others : List ℕ) (store : Lists Node) (l : ℕ) (ns : List NoteBox) : Type 0 where
   pub text : IsPageList store l
   pub notes : AreNotes store l ns

@@ -49,7 +49,7 @@ abbrev pub left_shown : Lists Node → Option Column → Option PlainColumn
 left_shown store None = None
 left_shown store (Some c) = Some (column_shown store c)
 
--- the state that a machine stands for, where the insertion boxes hold this and these nodes wait
+-- the state of a machine, with these insertion boxes and waiting nodes
 abbrev pub state_shown : Lists Node → List Boxed → List PlainNode → MachineView → State
 state_shown store boxes waiting m = record {
   waiting = waiting;
@@ -98,18 +98,18 @@ left_lists (Some c) = c.list ∷ []
 abbrev pub machine_lists : MachineView → List ℕ
 machine_lists m = m.held_page ∷ left_lists m.left_column ++ event_lists m.events
 
--- all lists of a page may stand on one
+-- all lists of a page may be on one
 abbrev pub IsPageSheet : Lists Node → Sheet → Type 0
 IsPageSheet store (sheets.One c) = IsPageColumn store c
 IsPageSheet store (sheets.Wide c) = IsPageColumn store c
 IsPageSheet store (sheets.Two tops at left right) = IsPageList store tops × IsPageColumn store left × IsPageColumn store right
 
--- all lists of an event may stand on a page
+-- all lists of an event may be on a page
 abbrev pub IsPageSent : Lists Node → Sent → Type 0
 IsPageSent store (events.Warn w) = Unit {0}
 IsPageSent store (events.Ship page sheet) = IsPageSheet store sheet
 
--- the list of the left column may stand on a page, if there is one
+-- the list of the left column may be on a page, if there is one
 abbrev pub IsPageLeft : Lists Node → Option Column → Type 0
 IsPageLeft store None = Unit {0}
 IsPageLeft store (Some c) = IsPageColumn store c
@@ -147,7 +147,7 @@ AreClassesFrom k [] = Unit {0}
 AreClassesFrom k (c ∷ cs) = (k ≤ c.number) × IsSizedGlue c.skip × AreClassesFrom (suc c.number) cs
 
 -- the parameters, the classes and the page's number are in their ranges, the pool is as large as the parameters say and chooses no float,
--- a second column has a first one, and the machine's lists may stand on pages, no two of them the same
+-- a second column has a first one, and the machine's lists may be on pages, no two of them the same
 pub record IsMachine (m : MachineView) (store : Lists Node) : Type 0 where
   pub params : AreOutputParams m.params
   pub classes : AreClassesFrom 0 m.classes

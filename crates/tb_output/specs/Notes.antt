@@ -18,17 +18,17 @@ use Rattle.tb_output.specs.Columns.{emptied_boxes}
 use Rattle.tb_output.specs.Firing.{builder_lists}
 use Rattle.tb_output.specs.Keeping.{AreNoneOf}
 
--- the boxes, where those of these classes are void
+-- the boxes, with those of these classes void
 abbrev pub with_voids : List Class → List Boxed → List Boxed
 with_voids [] bs = bs
 with_voids (c ∷ cs) bs = with_voids cs (with_void c.number bs)
 
--- a list that is live, where neither an insertion nor an act stands
+-- a live list without insertions and acts
 pub record IsLeafList (store : Lists Node) (l : ℕ) : Type 0 where
   pub live : IsLive store l
   pub leaves : AreLeaves (list_at store l)
 
--- no two of the lists are the same, each was the builder's before or was not live then, and none is the builder's now
+-- no two of the lists are the same; each was the builder's or was not live, and none is the builder's now
 pub record AreOwnLists (ls : List ℕ) (b now : Builder) (store new : Lists Node) : Type 0 where
   pub apart : AreDistinct ls
   pub fresh : (q : ℕ) → IsLive store q → IsNoneOf q (builder_lists b store) → IsNoneOf q ls
@@ -45,7 +45,7 @@ pub record BoxesTaken (classes : List Class) (notes : List NoteBox) (b now : Bui
 abbrev pub AreKnownNotes : List Class → List NoteBox → Type 0
 AreKnownNotes cs ns = AllByRecursion (λ n. has_class cs n.class ≡ true) ns
 
--- each box that was not void was taken into a list of its own, which may stand on a page, and all boxes are void
+-- each box that was not void was taken into a list of its own, which may be on a page, and all boxes are void
 pub record NotesTaken (classes : List Class) (notes : List NoteBox) (b now : Builder) (store new : Lists Node) : Type 0 where
   pub contents : contents_of now new ≡ record (contents_of b store) { boxes = emptied_boxes (contents_of b store).boxes }
   pub shown : notes_shown new notes ≡ notes_in classes (contents_of b store).boxes

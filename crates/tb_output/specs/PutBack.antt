@@ -41,7 +41,7 @@ glue_of_kind _ = None
 abbrev pub last_glue : List Node → Option Glue
 last_glue ns = last_or None (map (λ n. glue_of_kind n.kind) ns)
 
--- a penalty at the end of a list; after glue it stands as if before that glue
+-- a penalty at the end of a list; after glue it acts as if before that glue
 abbrev pub interline_by : ℤ → Option Glue → List Node
 interline_by n None = made_node (kinds.Pen n) ∷ []
 interline_by n (Some g) = made_node (kinds.Skip (negated_glue g)) ∷ made_node (kinds.Pen n) ∷ made_node (kinds.Skip g) ∷ []
@@ -49,13 +49,13 @@ interline_by n (Some g) = made_node (kinds.Skip (negated_glue g)) ∷ made_node 
 abbrev pub interline_list : ℤ → List Node → List Node
 interline_list n ns = interline_by n (last_glue ns)
 
--- a float in the text, which stood between paragraphs or in one
+-- a float in the text, from between paragraphs or within one
 abbrev pub here_list : Params → Bool → Float → List Node
 here_list p vert f =
     made_node (kinds.Skip p.intextsep) ∷ float_box places.Here f ∷ made_node (kinds.Pen p.interlinepenalty) ∷ made_node (kinds.Skip p.intextsep)
     ∷ (if vert then made_node (kinds.Skip (negated_glue p.parskip)) ∷ [] else [])
 
--- the box of a marginal note, which has no size in the text
+-- the box of a marginal note; in the text it has no size
 abbrev pub note_kind : Margin → Placed → Kind
 note_kind m at = kinds.Hbox (what.Margin m.name at.side at.shift (note_height at.side m) (note_depth at.side m) m.line) (pos 0) (pos 0)
 

@@ -21,18 +21,18 @@ with_warning w m = record m { events = m.events ++ events.Warn w ∷ [] }
 abbrev pub shipped_machine : Sheet → MachineView → MachineView
 shipped_machine sheet m = record m { events = m.events ++ events.Ship m.page sheet ∷ []; page = m.page + 1; dead_cycles = 0 }
 
--- fewer pages than may be were shipped, and this one was
+-- fewer pages were shipped than are allowed, and this one was
 pub record HasShipped (sheet : Sheet) (m now : MachineView) : Type 0 where
   pub room : int_lt m.params.maxpages (pos m.page) ≡ false
   pub machine : now ≡ shipped_machine sheet m
 
--- as many pages as may be were shipped, which are so many; nothing changed
+-- as many pages were shipped as are allowed, which is this many; nothing changed
 pub record IsFull (n : ℕ) (m now : MachineView) : Type 0 where
   pub full : int_lt m.params.maxpages (pos m.page) ≡ true
   pub pages : n + 1 ≡ m.page
   pub machine : now ≡ m
 
--- no page was shipped: as many as may be were, or there was no memory
+-- no page was shipped: as many were as are allowed, or there was no memory
 abbrev pub HasNotShipped : RunFault → MachineView → MachineView → Type 0
 HasNotShipped (faults.DeadCycles n) m now = ⊥
 HasNotShipped (faults.PageLimit n) m now = IsFull n m now
@@ -54,13 +54,13 @@ without_left m = record m { left_column = None; first_column = true }
 abbrev pub without_doubles : MachineView → MachineView
 without_doubles m = record m { pool = without_entries parts.Double m.pool }
 
--- the floats after those that wait were tried for the top of the next two columns, and for the next column
+-- the lists once wide floats that wait were tried for the top of the next two columns, and deferred ones for the next column
 abbrev pub doubled_lists : MachineView → FloatLists
 doubled_lists m = doubled (wide_part m.params) m.params m.suppress [] (wide_waiting m.params m.pool.lists) m.pool.lists
 
 abbrev pub filled_lists : MachineView → FloatLists
 filled_lists m = filled m.params m.suppress [] m.pool.lists.deferred m.pool.lists
 
--- after a column no marginal note stands in the next one, and nothing is kept out of its areas
+-- after a column: the next one has no marginal note, and nothing is kept out of its areas
 abbrev pub with_column_done : MachineView → MachineView
 with_column_done m = record m { note_bottom = pos 0; suppress = no_suppress }

@@ -85,7 +85,7 @@ pub record HasTextBack (back held body : ℕ) (store new : Lists Node) : Type 0 
   pub emptied : get new.lists held ≡ Some []
   pub others : (q : ℕ) → q ≢ back → q ≢ held → q ≢ body → get new.lists q ≡ get store.lists q
 
--- the floats of the list stand in a column, or wait for one
+-- the floats of the list are in a column, or wait for one
 abbrev pub IsColumnPart : Part → Type 0
 IsColumnPart parts.Current = ⊥
 IsColumnPart parts.Here = Unit {0}
@@ -95,7 +95,7 @@ IsColumnPart parts.Deferred = Unit {0}
 IsColumnPart parts.Double = ⊥
 IsColumnPart parts.Second = ⊥
 
--- they stand at its top or at its bottom
+-- they are at its top or at its bottom
 abbrev pub IsAreaPart : Part → Type 0
 IsAreaPart parts.Current = ⊥
 IsAreaPart parts.Here = ⊥
@@ -153,6 +153,6 @@ page_output p penalty body w =
     else (if is_int penalty par_penalty then float_or_note p false body w
     else float_or_note p true body w))
 
--- what is done after the firing was counted, but for what waits
+-- what is done once the firing is counted, without the nodes that wait
 abbrev pub served : Params → Fired → Work → Work
 served p f w = next_goal p f.penalty (output_by p f w)

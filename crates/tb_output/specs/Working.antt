@@ -16,7 +16,7 @@ use Rattle.tb_output.specs.Machine.{MachineView, state_shown, events_shown}
 -- ---- what is shown of a work
 
 -- the machine shows the work, but for what goes back: the work goes on, what it sent comes after the events that were there before, and the state is the machine's.
--- The insertion boxes and what waits are the builder's: of them the work says what it says
+-- The insertion boxes and the waiting nodes are the builder's, and are taken from the work
 pub record ShowsWork (before : List PlainSent) (m : MachineView) (store : Lists Node) (w : Work) : Type 0 where
   pub served : w.refused ≡ false
   pub sent : events_shown store m.events ≡ before ++ w.sent
@@ -62,13 +62,13 @@ shows_all back b m store before w = ShowsWork before m store w × ShowsBack back
 
 -- ---- a work that was cut short
 
--- a page was to be shipped when as many as may be were shipped; what the work sent before can be taken
+-- a page was to be shipped when as many were shipped as are allowed; what the work sent before can be taken
 pub record AtPageLimit (n : ℕ) (before : List PlainSent) (m : MachineView) (store : Lists Node) (w : Work) : Type 0 where
   pub refused : w.refused ≡ true
   pub pages : n + 1 ≡ w.state.page
   pub sent : events_shown store m.events ≡ before ++ w.sent
 
--- there was no memory; the first so many of what the work sends can be taken
+-- there was no memory; some front of what the work sends can be taken
 pub record WithoutMemory (before : List PlainSent) (m : MachineView) (store : Lists Node) (w : Work) : Type 0 where
   pub count : ℕ
   pub sent : events_shown store m.events ≡ before ++ take count w.sent
@@ -81,17 +81,17 @@ IsCutShort faults.Memory m store before w = WithoutMemory before m store w
 
 -- ---- steps
 
--- the step leads from works of which the first fact holds to works of which the second holds
+-- the step leads from works with the first fact to works with the second
 abbrev pub Does : (List PlainSent → Work → Type 0) → (List PlainSent → Work → Type 0) → (Work → Work) → Type 0
 Does from to step = (before : List PlainSent) (w : Work) → from before w → to before (step w)
 
--- the same where `rest` is what is left of the step
+-- the same, with `rest` left of the step
 abbrev pub Leads : (List PlainSent → Work → Type 0) → (List PlainSent → Work → Type 0) → (Work → Work) → (Work → Work) → Type 0
 Leads from to step rest = (before : List PlainSent) (w : Work) → from before w → (v : Work) × to before v × (step w ≡ rest v)
 
 -- ---- what the steps of a firing leave as it was
 
--- a step sends some more, changes neither the classes nor what waits, and once the page limit was met sends nothing and ships no page
+-- a step sends some more, keeps the classes and the waiting nodes, and once the page limit was met sends nothing and ships no page
 pub record Continues (w next : Work) : Type 0 where
   pub more : List PlainSent
   pub sent : next.sent ≡ w.sent ++ more

@@ -26,11 +26,11 @@ use tb_param::Params;
 use tb_pool::ListId;
 
 impl Machine {
-    /// Does what an act says, when the page builder reaches it. It takes no memory: room is kept for the warning that a
-    /// float is higher than a page.
+    /// Does what an act says, when the page builder reaches it. It allocates nothing: room is kept for the warning that
+    /// a float is higher than a page.
     ///
-    /// Full exactly where the pool has no room for the float, or for both boxes of the marginal note; nothing changes
-    /// then. At a change of columns a first column that waits is dropped; its list, which `dropped_by` names before the act,
+    /// Returns Full exactly if the pool has no room for the float, or for both boxes of the marginal note; then nothing
+    /// changes. A change of columns drops a first column that waits; its list, which `dropped_by` names before the act,
     /// stays in the store.
     pub fn act(&mut self, a: Act) -> Result<(), Full>
         requires params { AreOutputParams self.old.params }
@@ -63,8 +63,8 @@ impl Machine {
         }
     }
 
-    /// The list of a first column that waits for the second, where the act changes the columns. It is the caller's after the
-    /// act.
+    /// The list of a first column that waits for the second, if the act changes the columns. After the act it is the
+    /// caller's.
     pub fn dropped_by(&self, a: &Act) -> Option<ListId>
         ensures { option_to_list result ≡ dropped_lists a.now self.now.left_column }
     {
@@ -75,7 +75,7 @@ impl Machine {
         Some(left.list)
     }
 
-    // A float is taken, with a warning where it is higher than a page.
+    // Takes a float, with a warning if it is higher than a page.
     fn take_float(&mut self, f: Float) -> Result<(), Full>
         requires page { IsExtent self.old.params.textheight }
         requires float { IsExtent f.height }
@@ -89,7 +89,7 @@ impl Machine {
         Ok(())
     }
 
-    // Both boxes of a marginal note are taken.
+    // Takes both boxes of a marginal note.
     fn take_note(&mut self, m: Margin) -> Result<(), Full>
         requires { IsSizedMargin m }
         ensures ok { OnOk result (HasTaken 2 self.old (with_note m self.old) self.new) }
@@ -99,14 +99,14 @@ impl Machine {
         Ok(())
     }
 
-    // Floats are kept out of an area of the column that is being made.
+    // Keeps floats out of an area of the column that is being made.
     fn suppress_in(&mut self, area: Area)
         ensures { self.new ≡ with_suppressed area self.old }
     {
         self.suppress = suppressed(self.suppress, area);
     }
 
-    // One column or two begin, and a first column that waits is dropped.
+    // Begins one column or two, and drops a first column that waits.
     fn begin_columns(&mut self, two: bool)
         ensures { self.new ≡ with_columns two self.old }
     {
@@ -117,7 +117,7 @@ impl Machine {
     }
 }
 
-// A float goes to the end of the current list, or of the list of those that wait for a page.
+// Puts a float at the end of the current list, or of the list of those that wait for a page.
 fn take_into(pool: &mut Pool, p: &Params, f: Float) -> Result<(), Full>
     requires { IsExtent f.height }
     ensures room { OnOk result (live_count pool.old.lists < pool.old.size) }
@@ -137,14 +137,14 @@ fn take_into(pool: &mut Pool, p: &Params, f: Float) -> Result<(), Full>
     Ok(())
 }
 
-// A wide float waits for a page at once in release 2014 (ltoutput.dtx, \end@dblfloat).
+// In release 2014 a wide float waits for a page at once (ltoutput.dtx, \end@dblfloat).
 fn waits_for_page(p: &Params, f: &Float) -> bool
     ensures { result ≡ (has_second p.now && f.now.wide) }
 {
     p.has_second() && f.wide
 }
 
-// The warning that a float is higher than a page, where it is.
+// The warning that a float is higher than a page, if it is.
 fn large(f: &Float, p: &Params) -> Option<Warn>
     requires float { IsExtent f.now.height }
     requires page { IsExtent p.now.textheight }
@@ -179,7 +179,7 @@ fn lesser(a: i64, b: i64) -> i64
     if a <= b { a } else { b }
 }
 
-// What is suppressed once floats are kept out of an area too.
+// The suppress flags once floats are kept out of this area too.
 fn suppressed(s: Suppress, area: Area) -> Suppress
     ensures { result ≡ suppressed s area }
 {

@@ -6,7 +6,7 @@ use std::alloc::{AllocError, Global};
 use std::marker::Model;
 use tb_insert::Class;
 
-/// Classes of insertions in rising number. They are seen as a list of [`Class`].
+/// Classes of insertions, by rising number. They are seen as a list of [`Class`].
 #[derive(Drop)]
 pub(crate) struct Classes {
     pub(crate) items: Vec<Class>,
@@ -21,7 +21,7 @@ impl Model for Classes {
     ghost view = { λ a. a.items.items };
 }
 
-/// These classes.
+/// A copy of these classes.
 pub(crate) fn copied(alloc: Global, classes: &[Class]) -> Result<Classes, AllocError>
     ensures { IfOk result (λ a. a ≡ classes.now) }
 {

@@ -27,7 +27,7 @@ use tb_pool::{ListId, Lists};
 use tb_scaled::filling_glue;
 
 impl Machine {
-    /// A clear (ltoutput.dtx, \@doclearpage). With insertions the page is put out first, and a further clear goes back.
+    /// A clear (ltoutput.dtx, \@doclearpage). A page with insertions is put out first, and a further clear goes back.
     pub(crate) fn clear(
         &mut self,
         store: &mut Lists<Node>,
@@ -48,7 +48,7 @@ impl Machine {
         self.clear_notes(store, body, notes, back)
     }
 
-    // The page is filled with glue and put out with its insertions, and a further clear goes back.
+    // Fills the page with glue and puts it out with its insertions; a further clear goes back.
     fn clear_notes(
         &mut self,
         store: &mut Lists<Node>,
@@ -70,7 +70,7 @@ impl Machine {
         Ok(())
     }
 
-    // Floats are put out in columns and pages of floats; those that are left want a further clear.
+    // Puts out floats in columns and pages of floats; if some are left, a further clear goes back.
     fn clear_floats(
         &mut self,
         store: &mut Lists<Node>,
@@ -92,7 +92,7 @@ impl Machine {
         Ok(())
     }
 
-    // The front of the page, down to height 0, goes back, and the rest of it is dropped.
+    // The front of the page, down to height 0, goes back, and the rest is dropped.
     fn keep_front(&self, store: &mut Lists<Node>, body: ListId, back: ListId)
         requires limit { IsExtent self.now.params.splitmaxdepth }
         requires body { IsPageList store.old body }
@@ -114,8 +114,8 @@ impl Machine {
         self.pool.join_front(Part::Top, Part::Deferred);
     }
 
-    // In two columns the wide floats are put out before a first column; a second one is left blank, and a further clear
-    // goes back.
+    // In two columns: before a first column the wide floats are put out; a second one is left blank, and a further
+    // clear goes back.
     fn clear_wide(&mut self, store: &mut Lists<Node>, back: ListId) -> Result<(), RunFault>
         requires machine { IsMachine self.old store.old }
         requires back { IsBack back self.old store.old }

@@ -35,8 +35,8 @@ use tb_node::Node;
 use tb_pool::{ListId, Lists};
 
 impl Machine {
-    /// An ordinary page: its text column is put out, then columns of floats while there are some, and the next text
-    /// column gets its floats (ltoutput.dtx, \@specialoutput and \@opcol).
+    /// An ordinary page: puts out its text column, then columns of floats while there are some, and gives the next text
+    /// column its floats (ltoutput.dtx, \@specialoutput and \@opcol).
     pub(crate) fn ordinary(
         &mut self,
         store: &mut Lists<Node>,
@@ -55,7 +55,7 @@ impl Machine {
         Ok(())
     }
 
-    /// The text column of a page is made and put out (ltoutput.dtx, \@makecol).
+    /// Makes the text column of a page and puts it out (ltoutput.dtx, \@makecol).
     pub(crate) fn put_out_text(
         &mut self,
         store: &mut Lists<Node>,
@@ -72,8 +72,8 @@ impl Machine {
         self.put_out(store, column)
     }
 
-    // Makes the text column of a page, with the floats that stand in its areas; they leave the pool, and the lists of the
-    // insertions are closed. Where memory is lacking, all is as before.
+    // Makes the text column of a page, with the floats of its areas; they leave the pool, and the lists of the
+    // insertions are closed. If there is no memory, all is as before.
     fn take_text(
         &mut self,
         store: &mut Lists<Node>,
@@ -97,8 +97,8 @@ impl Machine {
         Ok(column)
     }
 
-    /// A column is put out: it is a page, the first column of one, or the second; then no marginal note stands in the
-    /// next one, and nothing is suppressed (ltoutput.dtx, \@outputpage and \@outputdblcol).
+    /// Puts out a column, as a page, as the first column of one, or as the second; then the next column has no marginal
+    /// note, and nothing is suppressed (ltoutput.dtx, \@outputpage and \@outputdblcol).
     pub(crate) fn put_out(
         &mut self,
         store: &mut Lists<Node>,
@@ -143,7 +143,7 @@ impl Machine {
         self.first_column = false;
     }
 
-    // No marginal note stands in the next column yet, and nothing is kept out of it.
+    // The next column has no marginal note yet, and nothing is kept out of it.
     fn end_column(&mut self)
         ensures { self.new ≡ with_column_done self.old }
     {
@@ -151,7 +151,7 @@ impl Machine {
         self.suppress = no_suppress();
     }
 
-    /// Columns of floats are put out while there are some (ltoutput.dtx, \@tryfcolumn).
+    /// Puts out columns of floats while there are some (ltoutput.dtx, \@tryfcolumn).
     pub(crate) fn float_columns(
         &mut self,
         store: &mut Lists<Node>,
@@ -170,7 +170,7 @@ impl Machine {
         Ok(())
     }
 
-    // A column of floats is put out, if there is one; false where there is none.
+    // Puts out a column of floats; false if there is none.
     fn put_out_floats(&mut self, store: &mut Lists<Node>, clearing: bool) -> Result<bool, RunFault>
         requires { IsMachine self.old store.old }
         ensures ok { IfOk result (λ more. MatchBool more (Does (shows self.old store.old) (shows self.new store.new) (column_done self.old.params clearing)) (NoColumn clearing self.old self.new store.old store.new)) }
@@ -209,8 +209,8 @@ impl Machine {
         )
     }
 
-    /// Makes a column of the floats of a list that were chosen; they leave the pool. Where memory is lacking, no float of
-    /// the list is chosen any more, and all else is as before.
+    /// Makes a column of the chosen floats of a list; they leave the pool. If there is no memory, no float of the list
+    /// is chosen any more, and all else is as before.
     pub(crate) fn take_floats(
         &mut self,
         store: &mut Lists<Node>,
@@ -239,7 +239,7 @@ impl Machine {
         }
     }
 
-    // The same, but the floats stay chosen where memory is lacking.
+    // The same, but if there is no memory, the floats stay chosen.
     fn make_floats(
         &mut self,
         store: &mut Lists<Node>,

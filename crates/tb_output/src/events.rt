@@ -1,4 +1,4 @@
-//! The events that were sent and not taken yet, the oldest first, with room for more of them.
+//! The events that were sent and not taken yet, the oldest first, with room for more.
 
 ghost use Rattle.std.specs.Prelude.{◌≡◌, ◌+◌, ◌<◌, ◌≤◌, [], ◌∷◌, ◌++◌, OnOk, OnErr, IfSome, IfNone, option_to_list};
 ghost use Rattle.tb_output.specs.Acting.{warnings_sent};
@@ -8,7 +8,7 @@ use std::collections::VecDeque;
 use std::marker::Model;
 use tb_column::{Sent, Warn};
 
-// An event in the queue: a type of this crate, since the checker does not find the modules of what a `Sent` holds where
+// An event in the queue: a type of this crate, since the checker does not find the modules of what a `Sent` holds when
 // it fills in a type parameter.
 #[derive(Clone, Copy)]
 struct Event {
@@ -25,7 +25,7 @@ impl Model for Event {
     ghost inverse = { λ s. record { sent = s } };
 }
 
-/// A queue of events, in which room is kept for so many more. It is seen as a list of [`Sent`] and that number.
+/// A queue of events, with room kept for a number of further ones. It is seen as a list of [`Sent`] and that number.
 #[derive(Drop)]
 pub(crate) struct Events {
     queue: VecDeque<Event>,
@@ -45,7 +45,7 @@ impl Model for Events {
 }
 
 impl Events {
-    /// No events, and no room. It takes no memory.
+    /// No events, and no room. It allocates nothing.
     pub fn new(alloc: Global) -> Self
         ensures sent { result.sent ≡ [] }
         ensures room { result.room ≡ 0 }
@@ -56,7 +56,7 @@ impl Events {
         }
     }
 
-    /// Keeps room for so many more events. Where memory is lacking, all is as before.
+    /// Keeps room for so many more events. If there is no memory, all is as before.
     pub fn keep_room(&mut self, count: usize) -> Result<(), AllocError>
         requires { count ≤ 4096 }
         ensures sent { self.new.sent ≡ self.old.sent }
@@ -68,7 +68,7 @@ impl Events {
         Ok(())
     }
 
-    /// Puts an event after the others; the room stays. Where memory is lacking, all is as before.
+    /// Puts an event after the others; the room stays. If there is no memory, all is as before.
     pub fn push(&mut self, event: Sent) -> Result<(), AllocError>
         ensures ok { OnOk result (self.new.sent ≡ self.old.sent ++ event ∷ []) }
         ensures err { OnErr result (self.new.sent ≡ self.old.sent) }
@@ -79,7 +79,7 @@ impl Events {
         Ok(())
     }
 
-    /// Puts a warning, where there is one, after the other events, into the room that is kept. It takes no memory.
+    /// Puts a warning, if there is one, after the other events, into the room that is kept. It allocates nothing.
     pub fn warn(&mut self, warning: Option<Warn>)
         requires { 0 < self.old.room }
         ensures sent { self.new.sent ≡ self.old.sent ++ warnings_sent (option_to_list warning) }
@@ -94,7 +94,7 @@ impl Events {
         self.room -= 1;
     }
 
-    /// Takes the first event; the room stays. None exactly where there are none.
+    /// Takes the first event; the room stays. None exactly if there are none.
     pub fn pop(&mut self) -> Option<Sent>
         ensures some { IfSome result (λ e. self.old.sent ≡ e ∷ self.new.sent) }
         ensures none { IfNone result ((self.old.sent ≡ []) × (self.new.sent ≡ [])) }

@@ -32,17 +32,17 @@ use tb_pool::{ListId, Lists};
 use tb_scaled::EJECT_PENALTY;
 
 impl Machine {
-    /// Serves a page that fired of the builder, which awaits its `put_back`. By the penalty of its break the page is
+    /// Serves a page that the builder fired; the builder awaits its `put_back`. By the penalty of its break the page is
     /// shipped, cleared (-10001), held (-10004), or the float or marginal note at its end gets its place (-10002 and
-    /// -10003). The turn says what goes back before what waits; `ask` says what the next page is made for.
+    /// -10003). The turn says what goes back before the nodes that wait; `ask` says what the next page is made for.
     ///
-    /// The list of the page is the machine's then, and that of the turn is the caller's. The insertions of the page are
-    /// taken out of the builder's boxes, unless it is held.
+    /// The list of the page is the machine's from then on, and that of the turn is the caller's. The insertions of the
+    /// page are taken out of the builder's boxes, unless the page is held.
     ///
-    /// After so many firings without a page as `maxdeadcycles` says, it returns `DeadCycles` and changes nothing. If as
-    /// many pages were shipped as `maxpages` says, and another is due, it returns `PageLimit`; if memory is lacking,
-    /// `Memory`. After these two the events that were sent can still be taken, and each later firing returns the same and
-    /// changes nothing (ltoutput.dtx, \output).
+    /// After `maxdeadcycles` firings without a page, it returns `DeadCycles` and changes nothing. If `maxpages` pages
+    /// were shipped, and another is due, it returns `PageLimit`; if there is no memory, `Memory`. After these two the
+    /// events that were sent can still be taken, and each later firing returns the same and changes nothing
+    /// (ltoutput.dtx, \output).
     pub fn fire(
         &mut self,
         store: &mut Lists<Node>,
@@ -75,7 +75,7 @@ impl Machine {
         }
     }
 
-    // Why no firing is begun: a fault that was returned before, or that as many firings as may be were without a page.
+    // Why no firing begins: an earlier fault, or as many firings without a page as are allowed.
     fn refusal(&self) -> Option<RunFault>
         requires { AreOutputParams self.now.params }
         ensures { result ≡ refusal_of self.now }
@@ -91,7 +91,7 @@ impl Machine {
         None
     }
 
-    // Serves the page, whose firing was counted, and returns the list that goes back.
+    // Serves the page, whose firing is counted already, and returns the list that goes back.
     fn serve(
         &mut self,
         store: &mut Lists<Node>,
@@ -161,7 +161,7 @@ impl Machine {
         take_notes(self.alloc, store, b, &self.classes)
     }
 
-    // The page is held until the next firing, and what was held before is dropped.
+    // Holds the page until the next firing, and drops what was held before.
     fn hold(&mut self, store: &mut Lists<Node>, body: ListId)
         requires machine { IsMachine self.old store.old }
         requires body { IsPageList store.old body }
@@ -173,7 +173,7 @@ impl Machine {
         drop_list(store, before);
     }
 
-    // Another page is held from now on; returns the list of the one before.
+    // Holds another page from now on; returns the list of the one before.
     fn exchange_held(&mut self, body: ListId) -> ListId
         ensures before { result ≡ self.old.held_page }
         ensures machine { self.new ≡ with_held body self.old }
@@ -183,7 +183,7 @@ impl Machine {
         before
     }
 
-    // Does what the penalty asks for, after the insertions of the page were taken.
+    // Does what the penalty asks for, once the insertions of the page are taken.
     fn output_page(
         &mut self,
         store: &mut Lists<Node>,

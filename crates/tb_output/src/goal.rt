@@ -35,9 +35,9 @@ fn line_and_half(line: i64) -> i64
 }
 
 impl Machine {
-    /// The goal of the next page is the room that floats leave in its column. After a page that is held there is no
-    /// limit. If floats leave too little room, the column stays blank and the goal as it is (ltoutput.dtx, \@startcolumn
-    /// and \output).
+    /// Sets the goal of the next page: the room that floats leave in its column. After a page that is held there is no
+    /// limit. If floats leave too little room, the column stays blank and the goal as it was (ltoutput.dtx,
+    /// \@startcolumn and \output).
     pub(crate) fn next_goal(
         &mut self,
         store: &mut Lists<Node>,
@@ -85,7 +85,7 @@ impl Machine {
         self.goal = goal;
     }
 
-    // The next column stays blank, with a warning, and so does the one after it if the next is a second one.
+    // The next column stays blank, with a warning; if it is a second one, so does the one after it.
     fn leave_column(&mut self, store: &mut Lists<Node>, back: ListId) -> Result<(), RunFault>
         requires machine { IsMachine self.old store.old }
         requires back { IsBack back self.old store.old }
@@ -105,7 +105,7 @@ impl Machine {
         self.two_columns && !self.first_column
     }
 
-    // Warns that floats leave too little of the next page. Where memory is lacking, all is as before.
+    // Warns that floats leave too little of the next page. If there is no memory, all is as before.
     fn warn_floats(&mut self) -> Result<(), AllocError>
         ensures ok { OnOk result (self.new ≡ with_warning (Warn.Floats self.old.page) self.old) }
         ensures err { OnErr result (self.new ≡ self.old) }

@@ -13,7 +13,7 @@ use tb_node::{CLEAR_PENALTY, Kind, Node, What};
 use tb_pool::{ListId, Lists};
 use tb_scaled::{EJECT_PENALTY, Glue, filling_glue, negate};
 
-/// A box without size that holds nothing.
+/// An empty box of no size.
 const BLANK_BOX: Kind = Kind::Hbox {
     what: What::Blank,
     height: 0,
@@ -31,16 +31,16 @@ pub(crate) fn shorten(store: &mut Lists<Node>, l: ListId, count: usize)
     }
 }
 
-/// Ends a list with all its nodes.
+/// Closes a list and drops its nodes.
 pub(crate) fn drop_list(store: &mut Lists<Node>, l: ListId)
     requires { IsLive store.old l }
     ensures { store.new.lists ≡ remove store.old.lists l }
 {
-    shorten(store, l, 0);
+    store.clear(l);
     store.close(l);
 }
 
-/// Puts a node that no galley item gives at the end of a list.
+/// Puts a node that comes from no galley item at the end of a list.
 pub(crate) fn push_made(store: &mut Lists<Node>, l: ListId, kind: Kind)
     requires live { IsLive store.old l }
     requires room { 0 < store.old.spare }
@@ -52,7 +52,7 @@ pub(crate) fn push_made(store: &mut Lists<Node>, l: ListId, kind: Kind)
 }
 
 /// Puts the nodes of a further clear at the end of a list: the end of the page, and on the next one a blank box and the
-/// penalty at which the routine puts out what it holds (LaTeX, \clearpage). Where memory is lacking, all lists are as
+/// penalty at which the routine puts out what it holds (LaTeX, \clearpage). If there is no memory, all lists are as
 /// before.
 pub(crate) fn push_clear(store: &mut Lists<Node>, l: ListId) -> Result<(), AllocError>
     requires { IsLive store.old l }
@@ -64,7 +64,7 @@ pub(crate) fn push_clear(store: &mut Lists<Node>, l: ListId) -> Result<(), Alloc
     Ok(())
 }
 
-/// Puts a blank box at the end of a list, before the nodes of a further clear. Where memory is lacking, all lists are as
+/// Puts a blank box at the end of a list, before the nodes of a further clear. If there is no memory, all lists are as
 /// before.
 pub(crate) fn push_blank_clear(store: &mut Lists<Node>, l: ListId) -> Result<(), AllocError>
     requires { IsLive store.old l }
@@ -90,8 +90,8 @@ fn push_clear_nodes(store: &mut Lists<Node>, l: ListId)
     push_made(store, l, Kind::Pen(CLEAR_PENALTY));
 }
 
-/// Puts a column that stays blank at the end of a list, or two: a blank box and the end of the page. Where memory is
-/// lacking, all lists are as before.
+/// Puts one or two columns that stay blank at the end of a list, each a blank box and the end of the page. If there is
+/// no memory, all lists are as before.
 pub(crate) fn push_blanks(store: &mut Lists<Node>, l: ListId, both: bool) -> Result<(), AllocError>
     requires { IsLive store.old l }
     ensures ok { OnOk result (store.new.lists ≡ with_list store.old l (list_at store.old l ++ (if both then blank_list ++ blank_list else blank_list))) }
@@ -132,8 +132,8 @@ fn last_glue(store: &Lists<Node>, l: ListId) -> Option<Glue>
     }
 }
 
-/// Puts a penalty at the end of a list; after glue it stands as if before that glue. Where memory is lacking, all lists
-/// are as before (ltoutput.dtx, \@addtocurcol and \vadjust).
+/// Puts a penalty at the end of a list; after glue it acts as if before that glue. If there is no memory, all lists are
+/// as before (ltoutput.dtx, \@addtocurcol and \vadjust).
 pub(crate) fn push_interline(
     store: &mut Lists<Node>,
     l: ListId,

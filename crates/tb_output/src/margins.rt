@@ -27,7 +27,7 @@ use tb_node::{Kind, Margin, Name, Node, Side, What, Where};
 use tb_pool::{ListId, Lists};
 
 impl Machine {
-    /// A marginal note stands beside the text; its boxes leave the pool.
+    /// Puts a marginal note beside the text; its boxes leave the pool.
     pub(crate) fn place_margin(
         &mut self,
         store: &mut Lists<Node>,
@@ -75,7 +75,7 @@ impl Machine {
         Ok(())
     }
 
-    // A warning is sent if the note was moved down. Where memory is lacking, all is as before.
+    // Sends a warning if the note was moved down. If there is no memory, all is as before.
     fn warn_moved(&mut self, name: Name, at: &Placed) -> Result<(), AllocError>
         ensures ok { OnOk result (self.new ≡ (if at.now.moved then with_warning (Warn.Moved name at.now.shift) self.old else self.old)) }
         ensures err { OnErr result (self.new ≡ self.old) }
@@ -89,7 +89,7 @@ impl Machine {
         })
     }
 
-    // Where the notes of the column reach down to.
+    // Sets how far down the notes of the column reach.
     fn set_note_bottom(&mut self, bottom: i64)
         ensures { self.new ≡ record self.old { note_bottom = bottom } }
     {
@@ -97,7 +97,7 @@ impl Machine {
     }
 }
 
-// A marginal note goes back, below text of this depth. Where memory is lacking, all is as before.
+// A marginal note goes back, below text of this depth. If there is no memory, all is as before.
 fn push_note(
     store: &mut Lists<Node>,
     m: &Margin,
@@ -117,7 +117,7 @@ fn push_note(
     Ok(())
 }
 
-// A kern that leads up over this depth.
+// A kern that goes up by this depth.
 fn up_kind(depth: i64) -> Kind
     requires { IsExtent depth }
     ensures { made_node result ≡ made_node (Kind.Kern (neg_ℤ depth)) }
@@ -136,7 +136,7 @@ fn down_kind(depth: i64) -> Kind
     }
 }
 
-// The box of a marginal note, which has no size in the text.
+// The box of a marginal note; in the text it has no size.
 fn note_kind(m: &Margin, at: &Placed) -> Kind
     ensures { result ≡ note_kind m.now at.now }
 {

@@ -18,10 +18,10 @@ use tb_insert::Class;
 use tb_node::Node;
 use tb_pool::Lists;
 
-/// The insertions of the page that fired, in lists that are opened for them, by rising class. A class whose box is void
-/// has none there; one whose box was given an empty list has an empty one.
+/// Takes the insertions of the page that fired into lists that are opened for them, by rising class. A class with a
+/// void box has no list; one whose box was given an empty list has an empty one.
 ///
-/// Where memory is lacking, some boxes may be void already.
+/// If there is no memory, some boxes may be void already.
 pub(crate) fn take_notes(
     alloc: Global,
     store: &mut Lists<Node>,

@@ -43,7 +43,7 @@ pub(crate) fn wide_part(p: &Params) -> Part
 }
 
 impl Machine {
-    /// A page is shipped, unless as many as there may be were shipped.
+    /// Ships a page, unless as many were shipped as are allowed.
     pub(crate) fn ship(&mut self, sheet: Sheet) -> Result<(), RunFault>
         requires first { 1 ≤ self.old.page }
         requires last { self.old.page ≤ 4194305 }
@@ -64,8 +64,8 @@ impl Machine {
         Ok(())
     }
 
-    /// The second of two columns is shipped with the first, under the wide floats of the page; then pages of wide floats
-    /// while there are some, and the next two columns get theirs (ltoutput.dtx, \@outputdblcol).
+    /// Ships the second of two columns with the first, under the wide floats of the page, then pages of wide floats
+    /// while there are some; the next two columns get theirs (ltoutput.dtx, \@outputdblcol).
     pub(crate) fn ship_pair(
         &mut self,
         store: &mut Lists<Node>,
@@ -116,7 +116,7 @@ impl Machine {
         )
     }
 
-    // Puts the wide floats of a page into a list; they leave the pool. Where memory is lacking, all is as before.
+    // Puts the wide floats of a page into a list; they leave the pool. If there is no memory, all is as before.
     fn take_tops(&mut self, store: &mut Lists<Node>) -> Result<ListId, AllocError>
         requires params { AreOutputParams self.old.params }
         requires size { pos self.old.pool.size ≡ self.old.params.pool }
@@ -139,7 +139,7 @@ impl Machine {
         self.first_column = true;
     }
 
-    /// Pages of wide floats are shipped while there are some (ltoutput.dtx, \@dblfloatplacement and \@tryfcolumn).
+    /// Ships pages of wide floats while there are some (ltoutput.dtx, \@dblfloatplacement and \@tryfcolumn).
     pub(crate) fn wide_pages(
         &mut self,
         store: &mut Lists<Node>,
@@ -158,7 +158,7 @@ impl Machine {
         Ok(())
     }
 
-    // A page of wide floats is shipped, if there is one; false where there is none.
+    // Ships a page of wide floats; false if there is none.
     fn ship_wide(&mut self, store: &mut Lists<Node>, clearing: bool) -> Result<bool, RunFault>
         requires { IsMachine self.old store.old }
         ensures ok { IfOk result (λ more. MatchBool more (Does (shows self.old store.old) (shows self.new store.new) (wide_done self.old.params clearing)) (NoWidePage clearing self.old self.new store.old store.new)) }
@@ -200,7 +200,7 @@ impl Machine {
     }
 }
 
-// How much more the first is.
+// The first minus the second.
 fn difference(a: i64, b: i64) -> i64
     requires first { IsAmount a }
     requires second { IsAmount b }

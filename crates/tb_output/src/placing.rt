@@ -69,7 +69,7 @@ impl Machine {
         }
     }
 
-    /// The penalty between the lines goes back.
+    /// The interline penalty goes back.
     pub(crate) fn put_interline(
         &self,
         store: &mut Lists<Node>,
@@ -85,7 +85,7 @@ impl Machine {
         Ok(())
     }
 
-    // The first of the current floats goes to the text, to an area, or waits.
+    // The first of the current floats goes into the text or to an area, or waits.
     fn place_float(
         &mut self,
         store: &mut Lists<Node>,
@@ -134,7 +134,7 @@ impl Machine {
         }
     }
 
-    // The float stands in the text.
+    // The float goes into the text.
     fn place_here(
         &mut self,
         store: &mut Lists<Node>,
@@ -156,7 +156,7 @@ impl Machine {
         Ok(())
     }
 
-    // The float stands at the top or at the bottom.
+    // The float goes to the top or to the bottom.
     fn place_area(
         &mut self,
         store: &mut Lists<Node>,
@@ -176,7 +176,7 @@ impl Machine {
         self.put_interline(store, back)
     }
 
-    // The float waits. One that may stand in the text alone may stand at the top from now on, with a warning.
+    // The float waits. One that may go only into the text may go to the top from now on, with a warning.
     fn defer(&mut self, store: &mut Lists<Node>, f: &Float, back: ListId) -> Result<(), RunFault>
         requires machine { IsMachine self.old store.old }
         requires back { IsBack back self.old store.old }
@@ -189,7 +189,7 @@ impl Machine {
         self.put_interline(store, back)
     }
 
-    // The float joins those that wait. Where memory is lacking, all is as before.
+    // The float joins those that wait. If there is no memory, all is as before.
     fn defer_first(&mut self, f: &Float) -> Result<(), AllocError>
         requires { slice_get self.old.pool.lists.current 0 ≡ Some (Entry.Float f.now) }
         ensures ok { OnOk result (HasDeferred (only_here f.now) f.now self.old self.new) }
@@ -202,7 +202,7 @@ impl Machine {
         Ok(())
     }
 
-    // The float waits, and may stand at the top from now on. Where memory is lacking, all is as before.
+    // The float waits, and may go to the top from now on. If there is no memory, all is as before.
     fn defer_with_top(&mut self, f: &Float) -> Result<(), AllocError>
         requires { slice_get self.old.pool.lists.current 0 ≡ Some (Entry.Float f.now) }
         ensures ok { OnOk result (HasDeferred true f.now self.old self.new) }
@@ -223,7 +223,7 @@ impl Machine {
         self.pool.move_to(Part::Current, 0, to);
     }
 
-    // The first of the current floats may stand at the top too from now on.
+    // The first of the current floats may go to the top too from now on.
     fn let_top(&mut self, f: &Float)
         requires { slice_get self.old.pool.lists.current 0 ≡ Some (Entry.Float f.now) }
         ensures { self.new ≡ record self.old { pool = with_float_at Part.Current 0 (with_top f.now) self.old.pool } }
@@ -232,7 +232,7 @@ impl Machine {
     }
 }
 
-// A float in the text goes back, which stood between paragraphs or in one. Where memory is lacking, all is as before.
+// A float in the text goes back, from between paragraphs or within one. If there is no memory, all is as before.
 fn push_here(
     store: &mut Lists<Node>,
     p: &Params,
@@ -256,7 +256,7 @@ fn push_here(
     Ok(())
 }
 
-// The penalty between the lines.
+// The interline penalty.
 fn penalty_kind(p: &Params) -> Kind
     ensures { made_node result ≡ made_node (Kind.Pen p.now.interlinepenalty) }
 {
@@ -279,14 +279,14 @@ fn float_kind(f: &Float) -> Kind
     }
 }
 
-// Whether a float may stand in the text alone.
+// Whether a float may go only into the text.
 fn only_here(f: &Float) -> bool
     ensures { result ≡ only_here f.now }
 {
     f.places.h && !(f.places.t || f.places.b || f.places.p)
 }
 
-// Places, and the top with them.
+// These places, and the top.
 fn top_too(places: Places) -> Places
     ensures { result ≡ record places { t = true } }
 {

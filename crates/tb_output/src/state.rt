@@ -1,4 +1,4 @@
-//! The machine's beginning, and what is asked of it between two firings.
+//! A new machine, and what is asked of a machine between two firings.
 
 ghost use Rattle.std.specs.Prelude.{◌≡◌, ◌≤◌, pos, List, [], ◌∷◌, length, None, IfOk, IfSome, IfNone, OnErr};
 ghost use Rattle.std.specs.FinMap.{get};
@@ -44,7 +44,7 @@ pub(crate) fn pool_size(p: &Params) -> u64
 /// A machine before the first page, in one column, with an empty pool of floats, for these classes of insertions, whose
 /// numbers rise. It opens a list for the held page.
 ///
-/// Where memory is lacking, no list was opened.
+/// If there is no memory, no list was opened.
 pub fn new_machine(
     alloc: Global,
     store: &mut Lists<Node>,
@@ -89,7 +89,7 @@ pub fn new_machine(
 }
 
 impl Machine {
-    /// The next event that was not taken yet. None exactly where there is none.
+    /// The next event that was not taken yet. None exactly if there is none.
     ///
     /// The lists of a page that it returns are the caller's from then on.
     pub fn sent(&mut self) -> Option<Sent>
@@ -99,7 +99,7 @@ impl Machine {
         self.events.pop()
     }
 
-    /// What the next page is made for, in sp. With floats at the bottom its depth counts to its height (ltoutput.dtx,
+    /// What the next page is made for, in sp. With floats at the bottom its depth counts as height (ltoutput.dtx,
     /// \@makecol).
     pub fn ask(&self) -> Ask
         ensures { (store : ListMap NodeValue) (boxes : List Boxed) (waiting : List PlainNode) → result ≡ ask_of self.now.params (state_shown store boxes waiting self.now) }

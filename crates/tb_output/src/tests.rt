@@ -32,7 +32,7 @@ fn columns_and_notes(rt: HostRuntime) -> Result<(), Fail> {
     run(&rt, rt.alloc(), &p, WIDE_2014)
 }
 
-// A firing that is refused for its dead cycles changes nothing; each later firing is refused for the same.
+// A firing that is refused for its dead cycles changes nothing; each later firing is refused with the same fault.
 #[test]
 fn refusals(rt: HostRuntime) -> Result<(), Fail> {
     let p = params_with("maxdeadcycles", Value::Int(2))?;

@@ -1,4 +1,4 @@
-//! Floats and marginal notes that were met in the text.
+//! Floats and marginal notes met in the text.
 
 ghost use Rattle.std.specs.Prelude.{◌≡◌, ◌≢◌, ◌≤◌, ◌+◌, ◌-◌, ◌-ℤ◌, ◌+ℤ◌, ◌∷◌, [], ◌++◌, All, length, take, ◌*◌, IfOk, IfErr, OnOk, OnErr};
 ghost use Rattle.std.specs.List.{AllByRecursion};
@@ -25,10 +25,10 @@ use crate::lists::{push_made, shorten};
 use crate::{Machine, RunFault};
 use std::alloc::AllocError;
 use tb_column::NoteBox;
-use tb_node::{Insertion, Kind, Node, What, Where, list_sums};
+use tb_node::{Insertion, Kind, Node, What, Where, list_extent};
 use tb_param::Params;
 use tb_pool::{ListId, Lists};
-use tb_scaled::MAX_DIMEN;
+use tb_scaled::difference;
 
 /// The size of the page so far, in sp.
 #[derive(Clone, Copy)]
@@ -36,13 +36,13 @@ pub(crate) struct TextSize {
     /// The height and the depth of its text.
     pub height: i64,
     pub depth: i64,
-    /// What text and insertions take together.
+    /// The text and the insertions together.
     pub page: i64,
 }
 
 impl Machine {
-    /// The first float or marginal note that was taken gets its place, and all else of the page goes back
-    /// (ltoutput.dtx, \@specialoutput and \@addtocurcol).
+    /// Gives the first float or marginal note that was taken its place; all else of the page goes back (ltoutput.dtx,
+    /// \@specialoutput and \@addtocurcol).
     pub(crate) fn float_or_note(
         &mut self,
         store: &mut Lists<Node>,
@@ -66,7 +66,7 @@ impl Machine {
         self.place_first(store, &size, vert, back)
     }
 
-    // The page so far and its insertions go back; its size is returned.
+    // The page so far and its insertions go back; returns its size.
     fn list_back(
         &self,
         store: &mut Lists<Node>,
@@ -91,7 +91,7 @@ impl Machine {
         Ok(size)
     }
 
-    // The held page and the page go back, without the box and the glue that stand last on it.
+    // The held page and the page go back, without the box and the glue at the end of the page.
     fn text_back(&self, store: &mut Lists<Node>, body: ListId, back: ListId)
         requires held { IsLive store.old self.now.held_page }
         requires body { IsLive store.old body }
@@ -124,12 +124,11 @@ fn text_size(store: &Lists<Node>, text: ListId, notes: &[NoteBox]) -> TextSize
     ensures small_page { IsAmount result.page }
     ensures extent { IsExtent result.depth }
 {
-    let sums = list_sums(store, text, MAX_DIMEN);
-    let text = sum_of(sums.total, sums.depth);
+    let extent = list_extent(store, text);
     TextSize {
-        height: sums.total,
-        depth: sums.depth,
-        page: sum_of(text, notes_height(store, notes)),
+        height: difference(extent.room, extent.depth),
+        depth: extent.depth,
+        page: sum_of(extent.room, notes_height(store, notes)),
     }
 }
 
@@ -159,8 +158,7 @@ fn list_height(store: &Lists<Node>, l: ListId) -> i64
     ensures value { result ≡ size_of (shapes store.now l) }
     ensures within { IsWithin (2147483646 * length (list_at store.now l)) result }
 {
-    let sums = list_sums(store, l, MAX_DIMEN);
-    sum_of(sums.total, sums.depth)
+    list_extent(store, l).room
 }
 
 fn sum_of(a: i64, b: i64) -> i64
@@ -171,7 +169,7 @@ fn sum_of(a: i64, b: i64) -> i64
     a + b
 }
 
-// The insertions of each class go back as one insertion. Where memory is lacking, all is as before.
+// The insertions of each class go back as one insertion. If there is no memory, all is as before.
 fn insertions_back(
     store: &mut Lists<Node>,
     p: &Params,

@@ -8,7 +8,7 @@ use std::alloc::AllocError;
 use tb_column::{Sent, Warn};
 
 impl Machine {
-    /// Sends a warning. Where memory is lacking, all is as before.
+    /// Sends a warning. If there is no memory, all is as before.
     pub(crate) fn warn(&mut self, warning: Warn) -> Result<(), AllocError>
         ensures ok { OnOk result (self.new ≡ with_warning warning self.old) }
         ensures err { OnErr result (self.new ≡ self.old) }

@@ -26,7 +26,7 @@ pub record CanTake (b : Builder) (s : Lists Node) : Type 0 where
   pub sound : IsSound b s
   pub empty : NoPage (contents_of b s)
 
--- these nodes wait behind those that waited; lists that were not the builder's are as they were and none of its own
+-- these nodes wait behind those that waited; lists that were not the builder's are as they were, and still not its own
 pub record Waits (ns : List PlainNode) (b : Builder) (s : Lists Node) (d : Builder) (t : Lists Node) : Type 0 where
   pub sound : IsSound d t
   pub contents : contents_of d t ≡ record (contents_of b s) { waiting = (contents_of b s).waiting ++ ns }

@@ -37,7 +37,7 @@ pub record AreGalleyNodes (cs : List Class) (ns : List PlainNode) : Type 0 where
   pub nodes : All (IsGalleyNode cs) ns
   pub few : node_count ns ≤ 600005
 
--- the parameters that an insertion of a footnote takes over lie in their ranges
+-- the parameters that an insertion of a footnote takes over are in their ranges
 pub record AreFootParams (p : Params) : Type 0 where
   pub split_depth : IsExtent p.footsplitdepth
   pub split_top : IsExtent p.footsplittop

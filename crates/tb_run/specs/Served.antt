@@ -21,7 +21,7 @@ use Rattle.tb_run.specs.GalleyNodes.{IsMild, IsGalleyNode, AreFootParams}
 
 -- ---- what is asked of a galley
 
--- the parameters that a run looks at lie in their ranges
+-- the parameters that a run looks at are in their ranges
 pub record AreRunnable (p : Params) : Type 0 where
   pub output : AreOutputParams p
   pub topskip : IsExtent p.topskip

@@ -44,7 +44,7 @@ pub record IsConsistent (r : Routine) : Type 0 where
   pub fault : r.machine.fault ≡ None
   pub apart : AreNoneOf (machine_lists r.machine) (builder_lists r.builder r.store)
 
--- no more nodes are held than the routine says, which says no more than the limit
+-- no more nodes are held than the routine's bound, which is no more than the limit
 pub record IsBounded (limit : ℕ) (r : Routine) : Type 0 where
   pub held : held_count (state_of r) ≤ r.most
   pub few : r.most ≤ limit
@@ -69,7 +69,7 @@ pub record IsReady (r : Routine) : Type 0 where
 
 -- ---- what a turn shows
 
--- the end of a run at a fault of the machine; it is none for want of memory
+-- the end of a run at a fault of the machine; it is none for lack of memory
 abbrev pub IsFaultEnd : RunFault → End → Type 0
 IsFaultEnd (faults.DeadCycles n) e = e ≡ dead_cycles n
 IsFaultEnd (faults.PageLimit n) e = e ≡ page_limit n
@@ -105,7 +105,7 @@ pub record IsEnded (r : Routine) : Type 0 where
 
 -- ---- what was sent
 
--- the lists of a page that was sent are such as a page may have
+-- the lists of a page that was sent may be on a page
 abbrev pub IsPage : Lists Node → Happening → Type 0
 IsPage store (happenings.Tried t) = Unit {0}
 IsPage store (happenings.Sent e) = IsPageSent store e

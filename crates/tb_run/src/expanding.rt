@@ -2,7 +2,6 @@
 
 ghost use Rattle.std.specs.Prelude.{◌≡◌, ◌≤◌, ◌∷◌, ◌++◌, ◌+ℤ◌, [], true, false, pos, neg_ℤ, map, length, Some, None, All, OnOk};
 ghost use Rattle.tb_pool.specs.Lists.{IsLive, list_at, with_list};
-ghost use Rattle.tb_node.specs.Small.{IsAmount};
 ghost use Rattle.tb_node.specs.Fit.{shapes, IsSizedNode};
 ghost use Rattle.tb_node.specs.Sums.{size_of};
 ghost use Rattle.tb_node.specs.Plain.{act, on_line, newpage_kinds, clearpage_kinds};
@@ -16,7 +15,7 @@ use tb_builder::Builder;
 use tb_galley::{Galley, Item, ItemKind, Leaf, LeafKind};
 use tb_node::{
     Act, CLEAR_PENALTY, Float, HOLD_PENALTY, Insertion, Kind, Name, Node, PAR_PENALTY,
-    VERT_PENALTY, What, list_sums,
+    VERT_PENALTY, What, list_extent,
 };
 use tb_param::Params;
 use tb_pool::{ListId, Lists};
@@ -48,6 +47,8 @@ fn expand_items(
     requires items { AreItems (contents_of builder.old store.old).classes items.now }
     ensures { OnOk result (Waits (item_nodes p.now false items.now) builder.old store.old builder.new store.new) }
 {
+    // Most items have one node.
+    store.reserve(items.len())?;
     let mut two = false;
     for item in items {
         put_item(store, builder, p, two, item.line, &item.kind)?;
@@ -247,7 +248,7 @@ fn put_float(
     }
 }
 
-// What takes a float or a marginal note, and the two firings that place it: at the first the page so far is held, and the
+// The act of a float or a marginal note, and the two firings that place it: at the first the page so far is held, and the
 // second says whether the item is between paragraphs (ltoutput.dtx, \end@float).
 fn put_with_firings(
     store: &mut Lists<Node>,
@@ -300,8 +301,8 @@ fn put_leaves(store: &mut Lists<Node>, l: ListId, leaves: &[Leaf]) -> Result<(),
     requires { IsLive store.old l }
     ensures { OnOk result (store.new.lists ≡ with_list store.old l (list_at store.old l ++ leaf_list leaves.now)) }
 {
+    store.reserve(leaves.len())?;
     for leaf in leaves {
-        store.reserve(1)?;
         store.push_back(
             l,
             Node {
@@ -320,16 +321,7 @@ fn list_height(store: &Lists<Node>, l: ListId) -> i64
     requires few { length (list_at store.now l) ≤ 8388608 }
     ensures { result ≡ size_of (shapes store.now l) }
 {
-    let sums = list_sums(store, l, 0);
-    both(sums.total, sums.depth)
-}
-
-fn both(a: i64, b: i64) -> i64
-    requires first { IsAmount a }
-    requires second { IsAmount b }
-    ensures { result ≡ a +ℤ b }
-{
-    a + b
+    list_extent(store, l).room
 }
 
 // A footnote: an insertion of its class with a list of its own.
@@ -366,7 +358,7 @@ fn put_foot(
     )
 }
 
-// The penalty that a strength from 0 to 4 stands for (LaTeX, \@getpen).
+// The penalty of a strength from 0 to 4 (LaTeX, \@getpen).
 fn break_strength(strength: u8) -> i64
     ensures { result ≡ break_strength strength }
 {

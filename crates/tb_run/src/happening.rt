@@ -8,7 +8,7 @@ use std::marker::Model;
 use tb_builder::Try;
 use tb_column::Sent;
 
-/// What the output routine sent: a type of this crate, since the checker does not find the modules of what a [`Sent`]
+/// What the output routine sent. It is a type of this crate, since the checker does not find the modules of what a [`Sent`]
 /// holds when it fills in a type parameter. It is seen as that [`Sent`].
 #[derive(Clone, Copy)]
 pub struct Event {

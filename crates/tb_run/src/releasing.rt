@@ -81,10 +81,6 @@ pub(crate) fn close_list(store: &mut Lists<Node>, list: ListId)
     ensures closed { get store.new.lists list ≡ None }
     ensures others { (q : ℕ) → q ≢ list → get store.new.lists q ≡ get store.old.lists q }
 {
-    'nodes: loop {
-        let Some(_) = store.pop_front(list) else {
-            break;
-        };
-    }
+    store.clear(list);
     store.close(list);
 }

@@ -47,8 +47,8 @@ pub struct Routine {
     pub most: u64,
 }
 
-// No galley has more nodes.
-const MOST_NODES: u64 = 4_194_304;
+// No galley has more nodes: an item has at most six, and the clear at the end has five.
+const MOST_NODES: u64 = 600_005;
 
 // A firing adds no more nodes to those that are held: an insertion of each class, the glue above the first box, and the
 // nodes of floats, notes, blank columns and clears.
@@ -139,9 +139,9 @@ impl Routine {
     /// Makes the next page of what waits, and fires it: it is shipped, or its penalty asks for something else (TeX: The
     /// Program §994, §1012; ltoutput.dtx, \output). Returns how the run ends with it, if it does.
     ///
-    /// It is the step of the run: `happened` holds what the output routine sent in the step, and if they are wanted the
-    /// places that were tried, all in their order. The lists of the pages that were sent are the caller's until
-    /// [`Self::done_with`]. What `happened` held before is gone. If memory runs out, the run can not go on.
+    /// It is the step of the run: `happened` holds what the output routine sent in the step, and the places that were tried
+    /// if they are wanted, all in their order. The lists of the pages that were sent are the caller's until
+    /// [`Self::done_with`]. What `happened` held before is gone. If memory runs out, the run cannot go on.
     pub fn turn(
         &mut self,
         wanted: bool,
@@ -217,7 +217,7 @@ impl Routine {
         self.builder.next_without_tries(&mut self.store, ask)
     }
 
-    // Does what an act says. A first column that it drops is closed.
+    // Does an act. A first column that it drops is closed.
     fn act(&mut self, act: Act) -> Result<(), Full>
         requires whole { IsConsistent self.old }
         requires act { IsSizedAct act }

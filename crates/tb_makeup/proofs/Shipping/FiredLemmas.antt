@@ -123,7 +123,7 @@ void-after ls = by_given (is_given 253 ls) (is_given 254 ls)
 
 -- ---- the page that fires
 
--- no more than six nodes more wait after a page, with those that acts can add, and no more acts
+-- after a page at most six nodes more wait, those that acts can add included, and no more acts
 pub record Grows (p : Params) (s : MakeupState) (f : Fired) : Type 0 where
   pub total : node_count (waiting_after p f) + 5 * act_count (waiting_after p f) ≤ node_total s + 6
   pub acts : act_count (waiting_after p f) ≤ act_count s.waiting

@@ -212,7 +212,7 @@ module _ (r d q : Makeup) (ready : IsReady r) (h : IsOver r d) where
       subst (λ x. turns_left params x < turns_left params (state_of r)) (sym state-is) turns-less,
     )
 
-    -- nothing was on the page when it was begun, so the bound says all nodes then
+    -- the page was empty when it was begun, so the bound left no node out
     said : node_total (state_of r) ≤ r.bound.most
     said = let t = ready.bounded.total in let u = ap {B = ℕ} (λ ns. if holds_any ns then 4 else 0) h.begun in omega (arith, t, u)
 

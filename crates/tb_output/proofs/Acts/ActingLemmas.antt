@@ -64,7 +64,7 @@ module _ (m now : MachineView) (f : Float) where
   }
 
   module _ {T : Type 0} (r : Result T Full) (ok : OnOk r (HasTaken 1 m (with_float f m) now)) (err : IfErr r (λ e. HasNoRoom 1 e.live m now)) where
-    -- what stands between two calls stands whether there was room or not
+    -- what holds between two calls holds whether there was room or not
     pub float-stands : (store : Lists Node) → IsMachine m store → IsMachine now store
     float-stands store is =
         either-way r (λ x. HasTaken 1 m (with_float f m) now) (λ e. HasNoRoom 1 e.live m now) (IsMachine now store)

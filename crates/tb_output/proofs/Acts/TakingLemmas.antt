@@ -12,14 +12,14 @@ use Rattle.tb_float.specs.Pool.{FloatPool, HasNoMarks, with_current, moved_float
 use Rattle.tb_output.specs.Queue.{HasRoomFor}
 use Rattle.tb_output.specs.Acting.{taken_into}
 
--- the float is in the second list where it waits, else in the current one
+-- if the float waits, it is in the second list, else in the current one
 abbrev taken_by : Bool → Float → FloatPool → FloatPool
 taken_by t f v = record v {
   lists = if t then record v.lists { second = v.lists.second ++ f ∷ [] } else record v.lists { current = v.lists.current ++ entries.Float f ∷ [] };
   second_marks = if t then v.second_marks ++ false ∷ [] else v.second_marks;
 }
 
--- ---- how many boxes live
+-- ---- how many boxes are live
 
 one-more : (t : Bool) (f : Float) (v : FloatPool) → live_count (taken_by t f v).lists ≡ live_count v.lists + 1
 one-more true f v = omega (arith, length-append v.lists.second (f ∷ []))

@@ -1,4 +1,4 @@
--- The lines of the floats of a kind, in the order in which they stand in lists, columns, pages and events.
+-- The lines of the floats of a kind, in their order in lists, columns, pages and events.
 use Rattle.std.proofs.Common.{◌≡◌, refl, sym, ◌∙◌, ap, ℕ, ◌==◌, ℤ, Bool, true, false, cond, List, [], ◌∷◌, ◌++◌, map, Option, Some, None, append_assoc, append-nil}
 use Rattle.std.specs.Prelude.{◌&&◌, if◌then◌else◌}
 use Rattle.std.specs.List.{AllByRecursion}
@@ -29,7 +29,7 @@ pub data Side : Type 0 where
   narrow : Side
   wider : Side
 
--- a kind of floats, within which order is kept: those of a class, on lines of which something holds (of all lines, where the class alone counts)
+-- a kind of floats, within which order is kept: those of a class, on lines of which something holds (of all lines, if the class alone counts)
 pub record FloatKind : Type 0 where
   pub class : ℕ
   pub has : ℕ → Bool
@@ -39,12 +39,12 @@ pub record FloatKind : Type 0 where
 abbrev pub is_of : FloatKind → ℕ → ℕ → Bool
 is_of k class line = (class == k.class) && k.has line
 
--- the line, where a test holds
+-- the line, if a test holds
 abbrev pub line_if : Bool → ℕ → List ℕ
 line_if true n = n ∷ []
 line_if false n = []
 
--- the line of a float's box, where it is of the kind
+-- the line of a float's box, if it is of the kind
 abbrev pub kind_lines : FloatKind → PlainKind → List ℕ
 kind_lines k (plain (hbox (what.Float name class place item) h d)) = line_if (is_of k class item) item
 kind_lines k _ = []
@@ -168,7 +168,7 @@ picked-lines k (f ∷ fs) = by_test (f.class == k.class) refl (picked-lines k fs
 pub ordered-lines : (k : FloatKind) (fs gs : List Float) → area.of_class k.class fs ≡ area.of_class k.class gs → float_lines k fs ≡ float_lines k gs
 ordered-lines k fs gs e = filtered-lines k fs ∙ ap (float_lines k) e ∙ sym (filtered-lines k gs)
 
--- the floats at the top, at the bottom and deferred keep their order where a column is filled
+-- the floats at the top, at the bottom and deferred keep their order when a column is filled
 pub filled-lines : (k : FloatKind) (p : Params) (s : Suppress) (l : FloatLists) → let m = filled p s [] l.deferred l in float_lines k (m.top ++ m.bottom ++ m.deferred) ≡ float_lines k (l.top ++ l.bottom ++ l.deferred)
 filled-lines k p s l = ordered-lines k _ _ (fill-order k.class p s l)
 
@@ -176,7 +176,7 @@ filled-lines k p s l = ordered-lines k _ _ (fill-order k.class p s l)
 pub doubled-lines : (from : Part) → IsWaiting from → (k : FloatKind) (p : Params) (s : Suppress) (l : FloatLists) → let m = doubled from p s [] (floats_of from l) l in float_lines k (m.double ++ floats_of from m) ≡ float_lines k (l.double ++ floats_of from l)
 doubled-lines from i k p s l = ordered-lines k _ _ (double-order from i k.class p s l)
 
--- a company stands before the floats that are left
+-- a company comes before the floats that are left
 pub company-lines : (k : FloatKind) (z : Wanted) (fs : List Float) (cs : List Choice) → company z fs ≡ Some cs → float_lines k fs ≡ float_lines k (chosen_floats cs) ++ float_lines k (left_floats cs)
 company-lines k z fs cs is =
     picked-lines k fs

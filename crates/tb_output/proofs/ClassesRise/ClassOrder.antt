@@ -1,6 +1,6 @@
--- The order of a class between firings. What has shipped, the double floats, the left column, the floats at the top, at
--- the bottom and deferred, and those that are not placed yet rise, but for floats that a break carried; and the floats in
--- the text rise among themselves, before all that do not stand above the text.
+-- The order of a class between firings. What has shipped, the double floats, the left column, the floats at the top, at the
+-- bottom and deferred, and those that are not placed yet rise, but for floats that a break carried; and the floats in the
+-- text rise among themselves, before all but those above the text.
 use Rattle.std.proofs.Common.{◌≡◌, refl, sym, ◌∙◌, ap, ℕ, ◌==◌, ◌⊎◌, ◌&&◌, Bool, true, false, List, [], ◌∷◌, ◌++◌, Option, append_assoc, append-nil}
 use Rattle.std.specs.List.{AllByRecursion}
 use Rattle.std.proofs.lemmas.Bool.{eqb-true, or_parts, and_parts}
@@ -26,7 +26,7 @@ ahead_lines k before l column = before ++ (float_lines k l.double ++ (left_lines
 abbrev pub order_lines : FloatKind → List ℕ → List ℕ → FloatLists → Option PlainColumn → List ℕ
 order_lines k takes before l column = before ++ (float_lines k l.double ++ (left_lines k column ++ (float_lines k (l.top ++ l.bottom ++ waits l) ++ later_lines k takes l)))
 
--- a float in the text: it was placed there, and no column has it; a column left it there, or it stands in the here list behind all that ship before the text
+-- a float in the text: it was placed there, and no column has it; a column left it there, or it is in the here list after all that ship before the text
 pub record IsInText (k : FloatKind) (rs : List Recorded) (tops here ahead : List ℕ) (n : ℕ) : Type 0 where
   pub placed : WasPlaced k n rs
   pub missing : IsMissing n (record_lines k rs)
@@ -37,7 +37,7 @@ pub record IsInText (k : FloatKind) (rs : List Recorded) (tops here ahead : List
 abbrev pub AreInText : FloatKind → List Recorded → List ℕ → FloatLists → Option PlainColumn → List ℕ → Type 0
 AreInText k rs before l column text = AllByRecursion (IsInText k rs (float_lines k l.top) (float_lines k l.here) (ahead_lines k before l column)) text
 
--- floats of the kind are in order, where these lines stand in the text, these are still to be taken, and these have shipped before, after these records: all but the text rises save for floats that a break carried, and the text rises and stands before what ships behind it
+-- floats of the kind are in order, with these lines in the text, these still to be taken, and these shipped before, after these records: all but the text rises save for floats that a break carried, and the text rises and comes before what ships after it
 pub record Order (k : FloatKind) (Known : ℕ → Type 0) (text takes before : List ℕ) (rs : List Recorded) (l : FloatLists) (two first : Bool) (column : Option PlainColumn) : Type 0 where
   pub order : Rises Known (λ n. IsCarried k n rs) (order_lines k takes before l column)
   pub rising : Rises Known (λ n. ⊥) text
@@ -56,11 +56,11 @@ pub record Order (k : FloatKind) (Known : ℕ → Type 0) (text takes before : L
 pub areas-lines : (k : FloatKind) (xs ys zs : List Float) → float_lines k (xs ++ ys ++ zs) ≡ (float_lines k xs ++ float_lines k ys) ++ float_lines k zs
 areas-lines k xs ys zs = floats-append k (xs ++ ys) zs ∙ ap (λ l. l ++ float_lines k zs) (floats-append k xs ys)
 
--- the floats of the second list stand behind those of the others
+-- the floats of the second list come after those of the others
 pub with-second : (k : FloatKind) (l : FloatLists) → float_lines k (l.top ++ l.bottom ++ waits l) ≡ float_lines k (l.top ++ l.bottom ++ l.deferred) ++ float_lines k l.second
 with-second k l = ap (float_lines k) (sym (append_assoc (l.top ++ l.bottom) l.deferred l.second)) ∙ floats-append k (l.top ++ l.bottom ++ l.deferred) l.second
 
--- the number between the parts of a list goes behind two of them
+-- the number between the parts of a list moves past two of them
 pub past-two : (a b c x : List ℕ) → x ++ b ≡ b ++ x → x ++ c ≡ c ++ x → ((a ++ x) ++ b) ++ c ≡ ((a ++ b) ++ c) ++ x
 past-two a b c x hb hc =
     append_assoc (a ++ x) b c ∙ append_assoc a x (b ++ c)
@@ -95,7 +95,7 @@ passes k f fs none = by_class (is_of k f.class f.line) (λ e. class-none k f fs 
     by_class true h = ap (λ l. f.line ∷ l) (h refl) ∙ ap (λ l. l ++ f.line ∷ []) (sym (h refl))
     by_class false h = sym (append-nil (float_lines k fs))
 
--- none of the class stands behind anything
+-- if none is of the class, they come after any text
 pub none-behind : (k : FloatKind) (text : List ℕ) (fs : List Float) → has_class k.class fs ≡ false → AllByRecursion (IsBehind k text) fs
 none-behind k text [] e = tt
 none-behind k text (f ∷ fs) e =
@@ -110,7 +110,7 @@ none-if : (t : Bool) (n : ℕ) → t ≡ true → line_if t n ≡ [] → ⊥
 none-if true n e h = cc
 none-if false n e h = cc
 
--- none of the kind stands behind anything
+-- if none is of the kind, they come after any text
 pub lines-behind : (k : FloatKind) (text : List ℕ) (fs : List Float) → float_lines k fs ≡ [] → AllByRecursion (IsBehind k text) fs
 lines-behind k text [] e = tt
 lines-behind k text (f ∷ fs) e =

@@ -38,7 +38,7 @@ outer-missing Known xs ys zs h = all-join (λ n. IsMissing n ys) xs zs (firsts x
         all-map (IsAbove ys) (λ n. IsMissing n ys) (λ n a. above-missing ys n a) zs
         (across-unexcused (λ n. ⊥) ys zs (rises-across Known (λ n. ⊥) ys zs (rises-back Known (λ n. ⊥) xs (ys ++ zs) h)) (all-of (λ n. ⊥ → ⊥) (λ n x. x) zs))
 
--- what is parted where a text column takes its floats
+-- what is parted when a text column takes its floats
 text-parted : (k : FloatKind) (l : FloatLists) (d : Side) → PartedBy d k l → PartedBy d k (record l { here = []; top = []; bottom = [] })
 text-parted k l alike x = x
 text-parted k l narrow x = x
@@ -156,7 +156,7 @@ module _ (k : FloatKind) (Known : ℕ → Type 0) (takes before : List ℕ) (rs 
 pub outer-rises : (Known : ℕ → Type 0) (held body rest : List ℕ) → Rises Known (λ n. ⊥) (held ++ (body ++ rest)) → Rises Known (λ n. ⊥) (held ++ rest)
 outer-rises Known held body rest h = rises-without Known (λ n. ⊥) held body rest h
 
--- ---- where no column is in hand
+-- ---- no column is in hand
 
 module _ (k : FloatKind) (Known : ℕ → Type 0) (text takes before : List ℕ) (rs : List Recorded) (l : FloatLists) (two first : Bool) (column : Option PlainColumn) where
   no-areas : l.top ≡ [] → l.bottom ≡ [] → float_lines k (l.top ++ l.bottom ++ waits l) ≡ float_lines k (waits l)

@@ -1,4 +1,4 @@
--- The floats' lines of a class in a page that fires, and in what waits behind it.
+-- The floats' lines of a class in a page that fires, and in what waits after it.
 use Rattle.std.proofs.Common.{◌≡◌, sym, ◌∙◌, ap, subst, ℕ, ℤ, true, List, [], ◌++◌, take, drop, append_assoc}
 use Rattle.std.specs.Prelude.{int_lt}
 use Rattle.tb_scaled.specs.Scaled.{eject_penalty}
@@ -116,7 +116,7 @@ module _ (k : FloatKind) (t : ℤ) (waiting : List PlainNode) (w : Reach) (cut :
         held_endless = ins-endless c (held_insertions (labelled z before)) i;
       }
 
-  -- where nothing lies beyond, the acts that are reached take all floats
+  -- if nothing lies beyond, the acts that are reached take all floats
   pub all-taken : w.beyond ≡ [] → take_lines k waiting ≡ acts_lines k (acted_of w.reached) ++ []
   all-taken e =
       sym (pruned-takes k t waiting) ∙ ap (take_lines k) cut.whole ∙ takes-append k cut.front w.beyond

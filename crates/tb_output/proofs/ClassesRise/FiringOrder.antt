@@ -239,7 +239,7 @@ module _ (k : FloatKind) (Known : ℕ → Type 0) (takes past : List ℕ) (old :
       clear_rest-ordered c (unfilled c (clear_wide-hand p r b c_ok (float_columns-hand k Known [] takes past old p r true (length a.state.floats.deferred) a b_ok
       (cleared k Known takes (past ++ sent_lines k w.sent) (old ++ w.records) w.state.floats w.state.two_columns w.state.first_column w.state.left_column h))))
 
-  -- where the text has no floats of the class
+  -- if the text has no floats of the class
   pub clear-ordered : (p : Params) (r : IsReleased k p) (body : List PlainNode) (w : Work) (o : List Notes) → footnotes w.state ≡ o → NotesFloatless k (footnotes w.state) → class_lines k body ≡ [] → (Clear.clear_by p body w o).refused ≡ false
       → Ordered k Known takes past old [] w → Ordered k Known takes past old [] (Clear.clear_by p body w o)
   clear-ordered p r body w [] e free none ok h = clear_floats-ordered p r body w ok h
@@ -291,7 +291,7 @@ module _ (k : FloatKind) (Known : ℕ → Type 0) (takes past : List ℕ) (old :
           stays_boxes = boxes;
         }
 
-    -- the order where a record is made
+    -- the order when a record is made
     recorded-ordered : (t : List ℕ) (r : Recorded) (m : FloatLists) (w : Work) → w.refused ≡ false → Order k Known t takes (past ++ sent_lines k w.sent) ((old ++ w.records) ++ r ∷ []) m w.state.two_columns w.state.first_column w.state.left_column
         → Ordered k Known takes past old t (with_floats m (records_also r w))
     recorded-ordered t r m w ok h =

@@ -39,7 +39,7 @@ IsOnSide alike wide = Unit {0}
 IsOnSide narrow wide = wide ≡ false
 IsOnSide wider wide = wide ≡ true
 
--- each float of the kind that is still to be taken is on the kind's side, where there are so many columns before these acts
+-- each float of the kind that is still to be taken is on the kind's side, with so many columns before these acts
 abbrev pub Suits : FloatKind → Bool → List Act → Type 0
 Suits k t [] = Unit {0}
 Suits k t (acts.Take f ∷ ds) = (is_of k f.class f.line ≡ true → IsOnSide k.side (f.wide && t)) × Suits k t ds
@@ -49,7 +49,7 @@ Suits k t (acts.Columns now ∷ ds) = Suits k now ds
 
 -- ---- the invariant between firings
 
--- the class is in order, with what has shipped before, after these records; in what waits no float's box of the class stands behind a penalty at which floats are served or cleared; and no footnote holds one
+-- the class is in order, with what has shipped before, after these records; in what waits no float's box of the class comes after a penalty at which floats are served or cleared; and no footnote holds one
 pub record InOrder (k : FloatKind) (Known : ℕ → Type 0) (past : List ℕ) (old : List Recorded) (s : State) : Type 0 where
   pub ordered : Order k Known (class_lines k s.held_page ++ class_lines k s.waiting) (take_lines k s.waiting) past old s.floats s.two_columns s.first_column s.left_column
   pub early : AreEarly k s.waiting

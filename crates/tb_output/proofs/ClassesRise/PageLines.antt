@@ -1,4 +1,4 @@
--- The floats' lines of a class in the nodes that wait, where a page fires.
+-- The floats' lines of a class in the nodes that wait, when a page fires.
 use Rattle.std.proofs.Common.{◌≡◌, refl, sym, ◌∙◌, ap, ℕ, zero, suc, ℤ, Bool, true, false, List, [], ◌∷◌, ◌++◌, take, drop, append_assoc, arith}
 use Rattle.std.specs.Prelude.{int_lt}
 use Rattle.std.specs.List.{AllByRecursion}
@@ -266,14 +266,14 @@ ins-deeds c (n ∷ ns) h = ap (λ l. l ++ deeds ns) (by_kind n.kind h.0) ∙ ins
     by_kind (ins x) i = refl
     by_kind (act a) i = absurd i
 
--- ---- floats behind the ends of pages at which floats are served or cleared
+-- ---- floats after the ends of pages at which floats are served or cleared
 
 -- a penalty below that of a page's end
 abbrev pub is_ending : PlainKind → Bool
 is_ending (plain (pen q)) = int_lt q eject_penalty
 is_ending _ = false
 
--- behind such a penalty no float's box of the class stands
+-- after such a penalty there is no float's box of the class
 abbrev pub AreEarly : FloatKind → List PlainNode → Type 0
 AreEarly k [] = Unit {0}
 AreEarly k (n ∷ ns) = (is_ending n.kind ≡ true → class_lines k ns ≡ []) × AreEarly k ns
@@ -322,7 +322,7 @@ pub early-pruned : (k : FloatKind) (t : ℤ) (ns : List PlainNode) → AreEarly 
 early-pruned k t [] h = tt
 early-pruned k t (n ∷ ns) h = early-pruned-more k t ns h.1 (early-pruned k t ns h.1) n.line n.kind h.0
 
--- where the break is such a penalty, no float's box of the class is left
+-- if the break is such a penalty, no float's box of the class is left
 pub ended-lines : (k : FloatKind) (ns : List PlainNode) → AreEarly k ns → int_lt (penalty_at ns) eject_penalty ≡ true → class_lines k (with_spent_break ns) ≡ []
 ended-lines k [] h e = refl
 ended-lines k (n ∷ ns) h e = by_kind n.line n.kind h.0 e

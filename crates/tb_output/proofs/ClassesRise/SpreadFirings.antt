@@ -67,7 +67,7 @@ module _ (k : FloatKind) (Known : ℕ → Type 0) (text takes past : List ℕ) (
 
   -- ---- wide pages
 
-  -- nothing stands above the two columns that come next
+  -- nothing is above the two columns that come next
   pub record IsOpen (w : Work) : Type 0 where
     pub hand : InHand [] w
     pub double : w.state.floats.double ≡ []

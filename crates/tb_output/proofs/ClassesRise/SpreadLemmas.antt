@@ -1,5 +1,5 @@
--- Putting out columns and pages keeps the order of a class. What has shipped, what stands above the two columns and in
--- the left one, a column in hand, the deferred floats and those that are not placed yet are read as one list of lines.
+-- Putting out columns and pages keeps the order of a class. What has shipped, what is above the two columns and in the left
+-- one, a column in hand, the deferred floats and those that are not placed yet are read as one list of lines.
 use Rattle.std.proofs.Common.{◌≡◌, refl, sym, ◌∙◌, ap, subst, ℕ, ◌<◌, ◌≢◌, ◌⊎◌, inl, inr, Bool, true, false, List, [], ◌∷◌, ◌++◌, Option, Some, None, append_assoc, arith}
 use Rattle.std.specs.List.{AllByRecursion}
 use Rattle.tb_node.specs.declared.Float.{Float}
@@ -21,7 +21,7 @@ use Rattle.tb_output.proofs.ClassesRise.PageLines.{append-none, none-front}
 abbrev pub later_lines : FloatKind → List ℕ → FloatLists → List ℕ
 later_lines k takes l = float_lines k (floats_among l.current) ++ takes
 
--- a float of the class stands behind all of the text
+-- a float of the class comes after all of the text
 abbrev pub IsBehind : FloatKind → List ℕ → Float → Type 0
 IsBehind k text f = (is_of k f.class f.line) ≡ true → IsAbove text f.line
 
@@ -39,7 +39,7 @@ pub record IsUnseen (k : FloatKind) (rs : List Recorded) (n : ℕ) : Type 0 wher
 abbrev pub spread_lines : FloatKind → List ℕ → List ℕ → List ℕ → FloatLists → Option PlainColumn → List ℕ
 spread_lines k takes before mid l left = before ++ (float_lines k l.double ++ (left_lines k left ++ (mid ++ (float_lines k (waits l) ++ later_lines k takes l))))
 
--- where columns are put out: these lines rise, all of the text was left by a column, and no area holds floats
+-- when columns are put out: these lines rise, all of the text was left by a column, and no area holds floats
 pub record Spread (k : FloatKind) (Known : ℕ → Type 0) (text takes before : List ℕ) (rs : List Recorded) (mid : List ℕ) (l : FloatLists) (two first : Bool) (column : Option PlainColumn) : Type 0 where
   pub order : Rises Known (λ n. IsCarried k n rs) (spread_lines k takes before mid l column)
   pub left : AllByRecursion (IsLeft k rs) text
@@ -56,7 +56,7 @@ pub record Spread (k : FloatKind) (Known : ℕ → Type 0) (text takes before : 
 -- ---- lists
 
 module _ (a d e m x : List ℕ) where
-  -- nothing stands above the columns or in a left one, and what is in hand has shipped
+  -- nothing is above the columns or in a left one, and what is in hand has shipped
   pub alone : d ≡ [] → e ≡ [] → a ++ (d ++ (e ++ (m ++ x))) ≡ (a ++ m) ++ (d ++ (e ++ x))
   alone hd he =
       ap (λ y. a ++ (y ++ (e ++ (m ++ x)))) hd ∙ ap (λ y. a ++ (y ++ (m ++ x))) he ∙ sym (append_assoc a m x)
@@ -66,7 +66,7 @@ module _ (a d e m x : List ℕ) where
   pub kept : e ≡ [] → a ++ (d ++ (e ++ (m ++ x))) ≡ a ++ (d ++ (m ++ x))
   kept he = ap (λ y. a ++ (d ++ (y ++ (m ++ x)))) he
 
-  -- all that stands before it has shipped
+  -- all that comes before it has shipped
   pub paired : a ++ (d ++ (e ++ (m ++ x))) ≡ (a ++ (d ++ (e ++ m))) ++ x
   paired = ap (λ y. a ++ (d ++ y)) (sym (append_assoc e m x)) ∙ ap (λ y. a ++ y) (sym (append_assoc d (e ++ m) x)) ∙ sym (append_assoc a (d ++ (e ++ m)) x)
 
@@ -124,7 +124,7 @@ lefts-quiet k rs more q ns h = all-map (IsLeft k rs) (IsLeft k (rs ++ more)) (λ
 pub unseen-quiet : (k : FloatKind) (rs more : List Recorded) → AreQuiet more → (ns : List ℕ) → AllByRecursion (IsUnseen k rs) ns → AllByRecursion (IsUnseen k (rs ++ more)) ns
 unseen-quiet k rs more q ns h = all-map (IsUnseen k rs) (IsUnseen k (rs ++ more)) (λ n x. record { placed = λ w. x.placed (quiet-placed k n rs more q w); missing = subst (IsMissing n) (sym (quiet-lines k rs more q)) x.missing }) ns h
 
--- floats behind the text are none of it
+-- floats after the text are none of it
 pub behind-missing : (k : FloatKind) (text : List ℕ) (fs : List Float) → AllByRecursion (IsBehind k text) fs → AllByRecursion (λ n. IsMissing n (float_lines k fs)) text
 behind-missing k text [] h = all-of (λ n. IsMissing n []) (λ n. tt) text
 behind-missing k text (f ∷ fs) h = by_class (is_of k f.class f.line) h.0 (behind-missing k text fs h.1)
@@ -138,7 +138,7 @@ behind-missing k text (f ∷ fs) h = by_class (is_of k f.class f.line) h.0 (behi
 
 -- ---- what is parted
 
--- what stands among the floats for a column, where that is nothing
+-- what is among the floats for a column, if that is nothing
 module _ (k : FloatKind) (l : FloatLists) (e : float_lines k (l.top ++ l.bottom ++ l.deferred) ≡ []) where
   areas-none : float_lines k (l.top ++ l.bottom) ≡ []
   areas-none = none-front (float_lines k (l.top ++ l.bottom)) (float_lines k l.deferred) (sym (floats-append k (l.top ++ l.bottom) l.deferred) ∙ e)
@@ -149,25 +149,25 @@ module _ (k : FloatKind) (l : FloatLists) (e : float_lines k (l.top ++ l.bottom 
   areas-with : (fs : List Float) → float_lines k fs ≡ [] → float_lines k (l.top ++ l.bottom ++ fs) ≡ []
   areas-with fs h = floats-append k (l.top ++ l.bottom) fs ∙ ap (λ y. y ++ float_lines k fs) areas-none ∙ h
 
--- where the floats above two columns leave
+-- when the floats above two columns leave
 pub pair-parted : (k : FloatKind) (l : FloatLists) (d : Side) → PartedBy d k l → PartedBy d k (record l { double = [] })
 pair-parted k l alike x = x
 pair-parted k l narrow x = (refl, x.1)
 pair-parted k l wider x = x
 
--- where a company leaves the deferred floats
+-- when a company leaves the deferred floats
 pub chosen-parted : (k : FloatKind) (l : FloatLists) (chosen left : List Float) → float_lines k l.deferred ≡ float_lines k chosen ++ float_lines k left → (d : Side) → PartedBy d k l → PartedBy d k (record l { deferred = left })
 chosen-parted k l chosen left e alike x = x
 chosen-parted k l chosen left e narrow x = x
 chosen-parted k l chosen left e wider x = (x.0, areas-with k l x.1 left (append-none (float_lines k chosen) (float_lines k left) (sym e ∙ deferred-none k l x.1)))
 
--- where one leaves the second list
+-- when one leaves the second list
 pub second-parted : (k : FloatKind) (l : FloatLists) (chosen left : List Float) → float_lines k l.second ≡ float_lines k chosen ++ float_lines k left → (d : Side) → WideFrom d parts.Second → PartedBy d k l → PartedBy d k (record l { second = left })
 second-parted k l chosen left e alike w x = absurd w
 second-parted k l chosen left e narrow w x = (x.0, append-none (float_lines k chosen) (float_lines k left) (sym e ∙ x.1))
 second-parted k l chosen left e wider w x = x
 
--- and those that are left then stand behind it
+-- and those that are left then come after it
 pub second-waits : (k : FloatKind) (l : FloatLists) (chosen left : List Float) → float_lines k l.second ≡ float_lines k chosen ++ float_lines k left → (d : Side) → WideFrom d parts.Second → PartedBy d k l → float_lines k (waits l) ≡ float_lines k chosen ++ float_lines k (l.deferred ++ left)
 second-waits k l chosen left e alike w x = absurd w
 second-waits k l chosen left e narrow w x =
@@ -178,7 +178,7 @@ second-waits k l chosen left e wider w x =
     let n = deferred-none k l x.1 in
     floats-append k l.deferred l.second ∙ ap (λ y. y ++ float_lines k l.second) n ∙ e ∙ ap (λ y. float_lines k chosen ++ y) (ap (λ y. y ++ float_lines k left) (sym n) ∙ sym (floats-append k l.deferred left))
 
--- the floats above two columns, and those that wait, where the space is filled from the deferred ones
+-- the floats above two columns, and those that wait, when the space is filled from the deferred ones
 pub deferred-doubled : (k : FloatKind) (l m : FloatLists) → m.second ≡ l.second → float_lines k (m.double ++ m.deferred) ≡ float_lines k (l.double ++ l.deferred) → float_lines k (m.double ++ waits m) ≡ float_lines k (l.double ++ waits l)
 deferred-doubled k l m s e = parts m ∙ (λ i. e i ++ float_lines k (s i)) ∙ sym (parts l)
   where

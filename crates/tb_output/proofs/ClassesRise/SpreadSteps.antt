@@ -74,7 +74,7 @@ module _ (k : FloatKind) (Known : ℕ → Type 0) (text takes : List ℕ) where
   -- ---- where a column goes
 
   module _ (before mid : List ℕ) (rs : List Recorded) (l : FloatLists) (first : Bool) (o : Option PlainColumn) where
-    -- a page alone, where nothing stands above the columns or in a left one
+    -- a page alone, if nothing is above the columns or in a left one
     pub shipped_alone : (two : Bool) → l.double ≡ [] → left_lines k o ≡ [] → Spread k Known text takes before rs mid l two first o → Spread k Known text takes (before ++ mid) rs [] l two first o
     shipped_alone two d e h = record {
       order = subst (Rises Known (λ n. IsCarried k n rs)) (alone before (float_lines k l.double) (left_lines k o) mid (float_lines k (waits l) ++ later_lines k takes l) (ap (float_lines k) d) e) h.order;
@@ -181,7 +181,7 @@ module _ (k : FloatKind) (Known : ℕ → Type 0) (text takes : List ℕ) where
   chosen_wide parts.Deferred i w before rs z cs l two first o is h = chosen before rs z cs l two first o is h
   chosen_wide parts.Second i w before rs z cs l two first o is h = chosen_second before rs z cs l two first o w is h
 
-  -- without a left column and a column in hand, the double floats and those that wait stand side by side
+  -- without a left column and a column in hand, the double floats and those that wait are side by side
   joined_double : (before : List ℕ) (l : FloatLists) (o : Option PlainColumn) → left_lines k o ≡ [] → spread_lines k takes before [] l o ≡ before ++ (float_lines k (l.double ++ waits l) ++ later_lines k takes l)
   joined_double before l o e =
       ap (λ y. before ++ (float_lines k l.double ++ (y ++ (float_lines k (waits l) ++ later_lines k takes l)))) e
@@ -246,7 +246,7 @@ module _ (k : FloatKind) (Known : ℕ → Type 0) (text takes : List ℕ) where
       (all-join (IsBehind k text) m.deferred m.second (subst (AllByRecursion (IsBehind k text)) (sym n) (all-front (IsBehind k text) l.deferred l.second h.behind)) (double-all (IsBehind k text) parts.Second tt p s l (all-back (IsBehind k text) l.deferred l.second h.behind)))
       (parted_second l m same n lines k.side w h.parted) h
 
-  -- the floats above the two columns go before those of the list where wide ones wait, where no left column is kept
+  -- the floats above the two columns go before those of the list where wide ones wait, if no left column is kept
   again_to : (before : List ℕ) (rs : List Recorded) (l m : FloatLists) (two first : Bool) (o : Option PlainColumn) → left_lines k o ≡ [] → float_lines k (waits m) ≡ float_lines k (l.double ++ waits l) → m.double ≡ [] → m.current ≡ l.current → m.top ≡ l.top → m.bottom ≡ l.bottom → AllByRecursion (IsBehind k text) (waits m) → Parted k m
       → Spread k Known text takes before rs [] l two first o → Spread k Known text takes before rs [] m two first o
   again_to before rs l m two first o e lines none cur tops bottoms behind parted h = record {

@@ -25,7 +25,7 @@ alone-of : (P : ℕ → Type 0) (t : Bool) (n : ℕ) → AllByRecursion P (line_
 alone-of P true n h e = h.0
 alone-of P false n h e = cc
 
--- the text's floats where a float goes to the top: either none of its class is in the here list, or the lines of the top are as before
+-- the text's floats when a float goes to the top: either none of its class is in the here list, or the lines of the top are as before
 top_text : (k : FloatKind) (rs : List Recorded) (before : List ℕ) (l : FloatLists) (column : Option PlainColumn) (f : Float) → HasNone f l.here → (text : List ℕ) → IsBehind k text f → AreInText k rs before l column text
     → AllByRecursion (IsInText k rs (float_lines k l.top ++ line_if (is_of k f.class f.line) f.line) (float_lines k l.here) (before ++ (float_lines k l.double ++ (left_lines k column ++ (float_lines k l.top ++ line_if (is_of k f.class f.line) f.line))))) text
 top_text k rs before l column f none text behind h = by_class (is_of k f.class f.line) refl
@@ -106,7 +106,7 @@ module _ (k : FloatKind) (Known : ℕ → Type 0) (text takes before : List ℕ)
   behind_deferred : AllByRecursion (IsBehind k text) l.deferred
   behind_deferred = all-front (IsBehind k text) l.deferred l.second h.deferred
 
-  -- it goes behind the areas' floats of its class, with quiet records
+  -- it goes after the areas' floats of its class, with quiet records
   goes_behind : (m : FloatLists) (more : List Recorded) → AreQuiet more → m.current ≡ es → m.double ≡ l.double → m.second ≡ l.second → float_lines k (m.top ++ m.bottom ++ m.deferred) ≡ firsts ++ this
       → AreInText k (rs ++ more) before m column text → AllByRecursion (IsBehind k text) m.bottom → AllByRecursion (IsBehind k text) m.deferred → Order k Known text takes before (rs ++ more) m two first column
   goes_behind m more q cur dbl sec e held bottom deferred = record {
@@ -132,7 +132,7 @@ module _ (k : FloatKind) (Known : ℕ → Type 0) (text takes before : List ℕ)
           with-second k m ∙ (λ i. e i ++ float_lines k (sec i)) ∙ append_assoc firsts this (float_lines k l.second) ∙ ap (λ y. firsts ++ y) (past_second k.side h.parted)
           ∙ sym (append_assoc firsts (float_lines k l.second) this) ∙ ap (λ y. y ++ this) (sym (with-second k l))
 
-  -- the text's floats where only quiet records are added
+  -- the text's floats if only quiet records are added
   text_quiet : (more : List Recorded) → AreQuiet more → AreInText k (rs ++ more) before l column text
   text_quiet more q = all-map (IsInText k rs (float_lines k l.top) (float_lines k l.here) (ahead_lines k before l column)) (IsInText k (rs ++ more) (float_lines k l.top) (float_lines k l.here) (ahead_lines k before l column)) (λ n x. record {
     placed = placed-more k n rs more x.placed;

@@ -266,7 +266,7 @@ pub record FrontKept (l body : ℕ) (m mid : MachineView) (store middle : Lists 
   pub grown : HasGrown l (take (split_of (pos 0) m.params.splitmaxdepth (shapes store body)).index (list_at store body)) (body ∷ []) store middle
   pub again : HasFloats (deferred_again m.pool.lists) m mid
 
--- they stand in columns, as far as these are full
+-- they are put out in columns, as far as these are full
 abbrev pub columns : Params → Work → Work
 columns p w = all_float_columns p true (with_floats (deferred_again w.state.floats) w)
 

@@ -93,7 +93,7 @@ module _ (z : Wanted) (v w : FloatPool) where
   back-unmarked parts.Double q h none = absurd q
   back-unmarked parts.Second q h none = record { deferred = deferred-free h none; second = marked-false (length w.second_marks) w.lists.second }
 
--- whether there is a company or not, as many boxes live as before
+-- whether there is a company or not, as many boxes are live as before
 pub chosen-room : (b : Bool) (z : Wanted) (from : Part) (v w : FloatPool) (room : ℕ) → (IsTrue b → IsChosen z from v w) → (b ≡ false → w ≡ v) → HasRoomFor v room → HasRoomFor w room
 chosen-room true z from v w room chosen same h = let k = chosen refl in room-stays v w room k.size (ap live_count k.lists) h
 chosen-room false z from v w room chosen same h = subst (λ x. HasRoomFor x room) (sym (same refl)) h
@@ -175,7 +175,7 @@ continues-wide_done p clearing w = page-by p w (company (Ship.wide_wanted p clea
 
 -- ---- one turn after another
 
--- no more columns where there is no company
+-- no more columns if there is no company
 pub columns-over : (p : Params) (clearing : Bool) (n : ℕ) (w : Work) → company (Columns.single_wanted p w.state.floats clearing) w.state.floats.deferred ≡ None → Columns.float_columns p clearing n w ≡ w
 columns-over p clearing zero w e = refl
 columns-over p clearing (suc n) w e = ap (Columns.float_columns_by (λ v. Columns.float_columns p clearing n v) p w) e

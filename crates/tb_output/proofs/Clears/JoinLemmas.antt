@@ -1,4 +1,4 @@
--- Floats that stood in areas wait again: the pool after their lists were joined.
+-- Floats of the areas wait again: the pool after their lists were joined.
 use Rattle.std.proofs.Common.{◌≡◌, refl, sym, ◌∙◌, ap, ℕ, [], ◌++◌, append_assoc, length-append, arith}
 use Rattle.tb_param.specs.declared.Params.{Params}
 use Rattle.tb_float.specs.declared.Part.{Part}
@@ -24,7 +24,7 @@ module _ (v w x : FloatPool) (one : w ≡ joined_before parts.Bottom parts.Defer
   areas-size : x.size ≡ v.size
   areas-size = ap (λ (y : FloatPool). y.size) again
 
-  -- as many boxes live as before
+  -- as many boxes are live as before
   pub areas-room : (room : ℕ) → HasRoomFor v room → HasRoomFor x room
   areas-room room h =
       let count : live_count x.lists ≡ live_count (deferred_again v.lists) = ap live_count areas-lists in
@@ -49,7 +49,7 @@ double-apart parts.Deferred q e = cc
 double-apart parts.Double q e = absurd q
 double-apart parts.Second q e = cc
 
--- the lists, the size, and how many boxes live
+-- the lists, the size, and how many boxes are live
 joined-double : (to : Part) → IsWaiting to → (v : FloatPool) →
     ((joined_before parts.Double to v).lists ≡ with_floats_of to (v.lists.double ++ floats_of to v.lists) (record v.lists { double = [] }))
     × ((joined_before parts.Double to v).size ≡ v.size)

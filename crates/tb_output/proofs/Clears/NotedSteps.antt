@@ -42,7 +42,7 @@ use Rattle.tb_output.proofs.StepLaws.ColumnSteps.{no_law, stays, put_out-step}
 use Rattle.tb_output.proofs.Working.StepLemmas.{Done, Cut, no-room}
 use Rattle.tb_output.proofs.Clears.ClearSteps.{clear-done}
 
--- ---- the lists of insertions that stand as they were
+-- ---- the lists of insertions that are as they were
 
 module _ (store new : Lists Node) where
   pub notes-same : (ns : List NoteBox) → AllByRecursion (Stands store new) (note_lists ns) → notes_shown new ns ≡ notes_shown store ns

@@ -25,7 +25,7 @@ Sides parts.Deferred l = l.second ≡ []
 Sides parts.Double l = Unit {0}
 Sides parts.Second l = Narrow l × AllByRecursion Wide l.second
 
--- a float that may stand among those that do not wait for a page
+-- a float that may be among those that do not wait for a page
 abbrev pub Fitting : Part → Float → Type 0
 Fitting parts.Current f = Unit {0}
 Fitting parts.Here f = Unit {0}
@@ -61,7 +61,7 @@ narrow-lists p l h r = by_release (has_second p) r h
     by_release true r h = h.0
     by_release false r h = let no : ⊥ = grind (arith, r) in absurd no
 
--- where no float is, it holds
+-- if there is no float, it holds
 pub no-sides : (from : Part) → Sides from no_floats
 no-sides parts.Current = tt
 no-sides parts.Here = tt
@@ -102,7 +102,7 @@ doubled-sides parts.Double f l h = tt
 doubled-sides parts.Deferred f l h = h
 doubled-sides parts.Second f l h = (record { top = h.0.top; bottom = h.0.bottom; deferred = h.0.deferred }, h.1)
 
--- ---- other floats stand among those that wait
+-- ---- other floats are among those that wait
 
 -- among those that wait for a page: in the second list they are wide
 pub waiting-sides : (from : Part) → IsWaiting from → (gs : List Float) (l : FloatLists) → (AllByRecursion Wide l.second → from ≡ parts.Second → AllByRecursion Wide gs) → Sides from l → Sides from (with_floats_of from gs l)

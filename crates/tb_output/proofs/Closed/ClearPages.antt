@@ -1,4 +1,4 @@
--- The page of a clear is light but for one box of no size, so a blank column and a clear may stand behind its front.
+-- The page of a clear is light but for one box of no size, so a blank column and a clear may come after its front.
 use Rattle.std.proofs.Common.{◌≡◌, refl, sym, ◌∙◌, ap, subst, ℕ, zero, suc, ℤ, pos, inl, inr, ◌⊎◌, Bool, true, false, List, [], ◌∷◌, ◌++◌, take, map, arith}
 use Rattle.std.specs.List.{AllByRecursion}
 use Rattle.std.proofs.lemmas.Int.{ints}
@@ -22,7 +22,7 @@ use Rattle.tb_output.proofs.DeadCycles.AgainLemmas.{Idle}
 use Rattle.tb_output.proofs.DeadCycles.WaitCosts.{kind_cost, wait_cost}
 use Rattle.tb_output.proofs.DeadCycles.EndedLemmas.{is_flat, EndsAt, Ended, flat_last}
 
--- light nodes, and a box of no size that holds nothing
+-- light nodes, and an empty box of no size
 pub record OneFlat (ns : List PlainNode) : Type 0 where
   pub front : List PlainNode
   pub line : ℕ
@@ -36,7 +36,7 @@ one-more n ns t c h = record { front = n ∷ h.front; line = h.line; whole = ap 
 zero-of : (z : ℤ) → is_zero z ≡ true → z ≡ pos 0
 zero-of z h = grind (arith, ints, h)
 
--- behind a blank box nothing comes
+-- after a blank box nothing comes
 behind-one : (ns : List PlainNode) → AllCalm ns → AllFree ns → seen_all one (sorts ns) ≡ one → ns ≡ []
 behind-one [] c f e = refl
 behind-one (n ∷ ns) c f e = absurd (behind n.kind c.0 f.0 e)
@@ -158,7 +158,7 @@ flat-idle (n ∷ ns) l t c =
     let b : wait_cost (ns ++ flat_box l what.Blank ∷ []) ≡ 0 = k.1 in
     ((h.0, k.0), omega arith)
 
--- the nodes of a clear, with what stands behind them
+-- the nodes of a clear, with what comes after them
 abbrev behind_front : List PlainNode → List PlainNode
 behind_front rest = made blank_box ∷ Clear.clear_again ++ rest
 

@@ -18,11 +18,11 @@ use Rattle.tb_output.proofs.ColumnPages.SparedLists.{Single, Spares, spared, wai
 
 -- ---- a clear that is put back
 
--- where nothing came behind a clear, nothing is asked before it
+-- if nothing came after a clear, nothing is asked before it
 pub again-closes : (z : Ways) (o : Bool) (xs : List Token) → Closes z 0 true xs → Closes z 0 o (tokens Clear.clear_again ++ xs)
 again-closes z o xs h = h
 
--- what is put back ends in a clear, or in quiet nodes behind one
+-- what is put back ends in a clear, or in quiet nodes after one
 abbrev pub Pending : List PlainNode → Type 0
 Pending ns = (z : Ways) (xs : List Token) → Closes z 0 true xs → Closes z 0 false (tokens ns ++ xs)
 
@@ -58,7 +58,7 @@ neither : (fs gs : List Float) → (has_floats fs || has_floats gs) ≡ false �
 neither [] gs e = (refl, e)
 neither (f ∷ fs) gs e = never (sym e)
 
--- where the double floats wait again, none stands above two columns
+-- when the double floats wait again, none is above two columns
 again-double : (p : Params) (l : FloatLists) → (Clear.double_again p l).double ≡ []
 again-double p l = waiting-double (wide_part p) (wide-waits p) (l.double ++ wide_waiting p l) (record l { double = [] })
 

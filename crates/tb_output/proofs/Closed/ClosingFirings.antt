@@ -27,11 +27,11 @@ use Rattle.tb_output.proofs.ColumnPages.SparedLists.{Single, TakesText, put_out_
 use Rattle.tb_output.proofs.Closed.ServedLists.{entry_items, no-items, steady-both, Serves, float_or_note-serves}
 use Rattle.tb_output.proofs.Closed.ClearedLists.{Emptied, Cleared, Pending, again-pending, clear_floats-cleared}
 
--- where a float stands in the text, its box is on the held page or comes before the next forced break
+-- if a float is in the text, its box is on the held page or comes before the next forced break
 abbrev pub HereFits : List Sort → List Sort → Type 0
 HereFits page first = HasReal page ⊎ ((ys : List Sort) → RealFirst (first ++ ys))
 
--- the work of a firing, before the goal is set: how what waits closes behind what is put back
+-- the work of a firing, before the goal is set: how what waits closes after what is put back
 pub record Closed (z : Ways) (f : Fired) (d : Bool) (w c : Work) : Type 0 where
   pub owed : ℕ
   pub done : Bool

@@ -16,7 +16,7 @@ use Rattle.tb_builder.proofs.ForLaws.PausedPages.{calm-acts}
 
 -- ---- the top of a page
 
--- what holds behind one token holds behind it
+-- what holds after one token holds with it
 behind : (t : Token) (xs ys : List Token) → ((z : Ways) (n : ℕ) (o : Bool) → Closes z n o xs → Closes z n o ys) → (z : Ways) (n : ℕ) (o : Bool) → Closes z n o (t ∷ xs) → Closes z n o (t ∷ ys)
 behind quiet xs ys h z n o c = h z n o c
 behind heavy xs ys h z n o c = h z n false c
@@ -53,7 +53,7 @@ pruned-closes t (x ∷ ns) b z n o s c = node-pruned t ns (λ b z n o s c. prune
 
 -- ---- the acts of a page
 
--- a change of columns comes only where nothing came
+-- a change of columns comes only if nothing came
 abbrev pub ActsClose : Bool → List Act → Type 0
 ActsClose o [] = Unit {0}
 ActsClose o (acts.Take f ∷ ds) = ActsClose false ds
@@ -69,7 +69,7 @@ owed_acts z n (acts.TakeMargin m ∷ ds) = owed_acts z (suc n) ds
 owed_acts z n (acts.Suppress area ∷ ds) = owed_acts z n ds
 owed_acts z n (acts.Columns two ∷ ds) = owed_acts (turned z two) n ds
 
--- how floats are taken behind the acts
+-- how floats are taken after the acts
 abbrev pub ways_acts : Ways → List Act → Ways
 ways_acts z [] = z
 ways_acts z (acts.Take f ∷ ds) = ways_acts z ds
@@ -188,7 +188,7 @@ tokens-drop P zero ns h = h
 tokens-drop P (suc k) [] h = tt
 tokens-drop P (suc k) (n ∷ ns) h = tokens-drop P k ns h.1
 
--- what a page leaves: so many firings are owed behind its acts; the list from the stop on closes, and so does that from the break on; where nothing came up to the stop, nothing was there before, and all that was passed is quiet
+-- what a page leaves: so many firings are owed after its acts; the list from the stop on closes, and so does that from the break on; if nothing came up to the stop, nothing was there before, and all that was passed is quiet
 pub record PageCloses (z : Ways) (n : ℕ) (o : Bool) (k : ℕ) (w : Reach) : Type 0 where
   pub done : Bool
   pub acts_close : ActsClose o (acted_of w.reached)
@@ -228,7 +228,7 @@ cut-closes ns w z n o k h c = record {
 
 -- ---- the break
 
--- how the rest closes behind a break at a node of this sort, where it closed so before
+-- how the rest closes after a break at a node of this sort, if it closed so before
 abbrev pub BreakCloses : Ways → ℕ → Bool → List PlainNode → Sort → Type 0
 BreakCloses z m d rest light = Closes z m d (tokens rest)
 BreakCloses z m d rest blank = Closes z m d (tokens rest)

@@ -1,5 +1,5 @@
--- What holds between two firings of what waits and of the float lists: floats and notes that were taken are owed a
--- firing, and where nothing came since a clear nothing is kept.
+-- What holds between two firings of what waits and of the float lists: floats and notes that were taken are owed a firing,
+-- and if nothing came since a clear nothing is kept.
 use Rattle.std.proofs.Common.{◌≡◌, refl, sym, ◌∙◌, ap, subst, ℕ, ◌+◌, ◌≤◌, ◌⊎◌, inl, inr, ℤ, Bool, true, false, List, [], ◌∷◌, ◌++◌, arith, append-nil, append_assoc}
 use Rattle.std.specs.Prelude.{int_le, ◌&&◌, not, if◌then◌else◌}
 use Rattle.std.specs.List.{AllByRecursion}
@@ -35,7 +35,7 @@ pub record Clean (s : State) : Type 0 where
   pub weightless : (v : Weight) → boxes_weight v s.boxes + nodes_weight v s.held_page + lists_weight v s.floats + left_weight v s.left_column ≡ 0
   pub here : s.floats.here ≡ []
 
--- where a float stands in the text, its box is on the held page or comes before the next forced break
+-- if a float is in the text, its box is on the held page or comes before the next forced break
 abbrev pub HereKept : State → Type 0
 HereKept s = (s.floats.here ≡ []) ⊎ (HasReal (sorts s.held_page) ⊎ RealFirst (sorts s.waiting))
 
@@ -43,7 +43,7 @@ HereKept s = (s.floats.here ≡ []) ⊎ (HasReal (sorts s.held_page) ⊎ RealFir
 abbrev pub ways_of : Params → State → Ways
 ways_of p s = record { second = has_second p; two = s.two_columns }
 
--- what waits closes: so many firings are owed, as many as floats and notes wait to be served or more; and where nothing came since a clear nothing is kept
+-- what waits closes: so many firings are owed, at least as many as floats and notes wait to be served; and if nothing came since a clear nothing is kept
 pub record Closing (p : Params) (s : State) : Type 0 where
   pub owed : ℕ
   pub done : Bool
@@ -106,7 +106,7 @@ held-closes ks z n false held ys i e h = harmless-between z n false (tokens held
 
 -- ---- a firing
 
--- the state after a firing: what waits closes; where nothing came since a clear nothing is kept, or the firing was an ordinary one and nothing came up to its stop
+-- the state after a firing: what waits closes; if nothing came since a clear nothing is kept, or the firing was an ordinary one and nothing came up to its stop
 pub record OutClosed (z : Ways) (d : Bool) (rest : List PlainNode) (s : State) : Type 0 where
   pub owed : ℕ
   pub done : Bool

@@ -1,4 +1,4 @@
--- What a list that waits owes: a firing for each float and note that was taken, and a clear behind all that has to ship.
+-- What a list that waits owes: a firing for each float and note that was taken, and a clear after all that has to ship.
 use Rattle.std.proofs.Common.{◌≡◌, refl, ap, ℕ, zero, suc, Bool, true, false, List, [], ◌∷◌, ◌++◌, map, arith}
 use Rattle.std.specs.Prelude.{◌&&◌, if◌then◌else◌}
 use Rattle.std.specs.List.{AllByRecursion}
@@ -32,7 +32,7 @@ pub data Token : Type 0 where
   serving : Token
   clearing : Token
 
--- a walk over what waits: so many firings are owed, and nothing that has to ship came since a clear; a clear comes where none is owed, a change of columns and the list's end where nothing came
+-- a walk over what waits: so many firings are owed, and the flag says that nothing that has to ship came since a clear; a clear comes when none is owed, a change of columns and the list's end when nothing came
 abbrev pub Closes : Ways → ℕ → Bool → List Token → Type 0
 Closes z n o [] = o ≡ true
 Closes z n o (quiet ∷ xs) = Closes z n o xs
@@ -47,7 +47,7 @@ Closes z (suc n) o (clearing ∷ xs) = ⊥
 pub never : {X : Type 0} → false ≡ true → X
 never h = let no : ⊥ = grind (arith, h) in absurd no
 
--- where something came the walk asks for more
+-- if something came the walk asks for more
 weaker : (z : Ways) (n : ℕ) (xs : List Token) → Closes z n false xs → Closes z n true xs
 weaker z n [] h = refl
 weaker z n (quiet ∷ xs) h = weaker z n xs h
@@ -63,7 +63,7 @@ pub closes-any : (z : Ways) (n : ℕ) (o : Bool) (xs : List Token) → Closes z 
 closes-any z n true xs h = weaker z n xs h
 closes-any z n false xs h = h
 
--- ---- nodes that may be put between
+-- ---- nodes that may be put in between
 
 abbrev pub Quiet : Token → Type 0
 Quiet quiet = Unit {0}
@@ -109,7 +109,7 @@ Passed (changing two) = Unit {0}
 Passed serving = ⊥
 Passed clearing = ⊥
 
--- how many firings are owed behind it, and whether still nothing came
+-- how many firings are owed after it, and whether still nothing came
 abbrev pub owed_all : Ways → ℕ → List Token → ℕ
 owed_all z n [] = n
 owed_all z n (quiet ∷ xs) = owed_all z n xs
@@ -165,7 +165,7 @@ came (changing two ∷ xs) c e = came xs c.1 e
 came (serving ∷ xs) c e = absurd c.0
 came (clearing ∷ xs) c e = absurd c.0
 
--- where nothing came behind the front, nothing came before it and in it
+-- if nothing came after the front, nothing came before it and in it
 pub nothing-came : (xs : List Token) (o : Bool) → AllByRecursion Passed xs → done_all o xs ≡ true → (o ≡ true) × AllByRecursion Still xs
 nothing-came [] o c e = (e, tt)
 nothing-came (quiet ∷ xs) o c e = let h = nothing-came xs o c.1 e in (h.0, (tt, h.1))

@@ -1,4 +1,4 @@
--- After a firing what waits stands well again.
+-- After a firing what waits is well formed again.
 use Rattle.std.proofs.Common.{◌≡◌, refl, sym, ◌∙◌, ap, subst, ℕ, zero, suc, ℤ, Bool, true, false, List, [], ◌∷◌, ◌++◌, map, take, length, arith}
 use Rattle.std.specs.Prelude.{int_le, ◌||◌, ◌-◌, pos, if◌then◌else◌}
 use Rattle.std.specs.List.{AllByRecursion}
@@ -22,7 +22,7 @@ use Rattle.tb_output.proofs.Closed.PutLemmas.{class-joined, AreAmong, Opens, Put
 abbrev pub AllSteady : List PlainNode → Type 0
 AllSteady ns = AllByRecursion Steady (sorts ns)
 
--- what waits stands well, the held page forces no break, and all insertions are of the classes that have boxes
+-- what waits is well formed, the held page forces no break, and all insertions are of the classes that have boxes
 pub record WellPlaced (s : State) : Type 0 where
   pub held : Bool
   pub stands : Stands none held (sorts s.waiting)
@@ -195,7 +195,7 @@ ready-placed ks p f w i g r = all (Out.next_goal p f.penalty w) (goal-puts ks r.
         parts : (c : Work) → sorts (f.held ++ c.put_back ++ f.rest) ≡ sorts f.held ++ (sorts c.put_back ++ sorts f.rest)
         parts c = sorts-append (f.held ++ c.put_back) f.rest ∙ ap (λ l. l ++ sorts f.rest) (sorts-append f.held c.put_back) ∙ assoc (sorts f.held) (sorts c.put_back) (sorts f.rest)
 
--- after a firing what waits stands well again, where the interline penalty forces no break
+-- after a firing what waits is well formed again, if the interline penalty forces no break
 pub out-placed : (ks : List ℕ) (p : Params) → int_le p.interlinepenalty eject_penalty ≡ false → (st : State) (f : Fired) (b : Bool) (s : Seen) → (b ≡ false → st.held_page ≡ []) → AllSteady st.held_page → AllOfClass ks st.held_page → AllSteady f.body → AllOfClass ks f.body → AllIns ks f.held → AllOfClass ks f.rest → BreakStands b s f.rest (pen_sort f.penalty) → class_numbers st.classes ≡ ks → AreAmong ks st.classes → WellPlaced (Out.out p st f).state
 unfolding Out.out
 out-placed ks p calm st f b s free steady held_feet body body_feet i g rest numbers among =

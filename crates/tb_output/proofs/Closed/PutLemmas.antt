@@ -1,4 +1,4 @@
--- What a firing puts back: nodes before which, and behind which, what stands well stands well.
+-- What a firing puts back: nodes before and after which what is well formed stays so.
 use Rattle.std.proofs.Common.{◌≡◌, refl, sym, ◌∙◌, ap, subst, ℕ, Bool, true, false, List, [], ◌∷◌, ◌++◌, length, Option, Some, None, map}
 use Rattle.std.specs.Prelude.{ℤ, int_le, not, ◌||◌, ◌&&◌, if◌then◌else◌}
 use Rattle.tb_node.specs.declared.Float.{Float}
@@ -42,12 +42,12 @@ class-joined ks (x ∷ xs) ys a b = (a.0, class-joined ks xs ys a.1 b)
 abbrev pub AreAmong : List ℕ → List Class → Type 0
 AreAmong ks cs = AllByRecursion (λ (c : Class). IsOnce ks c.number) cs
 
--- these nodes may be put between; and their insertions are of these classes
+-- these nodes may be put in between; and their insertions are of these classes
 pub record Extends (ks : List ℕ) (t : Seen) (b : Bool) (ns : List PlainNode) : Type 0 where
   pub by : (ys : List Sort) → Stands t b ys → Stands t b (sorts ns ++ ys)
   pub feet : AllOfClass ks ns
 
--- what is put back so far begins a page well where what follows stands well
+-- what is put back so far begins a page well if what follows is well formed
 pub record Opens (ks : List ℕ) (t : Seen) (b : Bool) (ns : List PlainNode) : Type 0 where
   pub by : (ys : List Sort) → Stands t b ys → Stands none b (sorts ns ++ ys)
   pub feet : AllOfClass ks ns
@@ -102,7 +102,7 @@ extends-both ks t b ms ns x y = record { by = λ ys h. subst (Stands t b) (sym (
     assoc [] ys zs = refl
     assoc (x ∷ xs) ys zs = ap (λ l. x ∷ l) (assoc xs ys zs)
 
--- the end of a page, behind which a page begins
+-- the end of a page, after which a page begins
 abbrev pub Begins : Seen → Type 0
 Begins none = Unit {0}
 Begins one = ⊥
@@ -134,7 +134,7 @@ goal-puts ks t b k p n w = puts_if ks t b p w (Out.is_int n Out.hold_penalty) (O
     crowded : Puts ks t b w (Out.leave_column w)
     crowded = joined ks t b p w told (Out.leave_column w) (column-puts ks t b {p = p} {law = no_law p} (sends_one (warned (warnings.Floats w.state.page)) w)) (extended ks t b (if w.state.two_columns && not w.state.first_column then Out.blank_column ++ Out.blank_column else Out.blank_column) told (columns (w.state.two_columns && not w.state.first_column)))
 
--- steady nodes may be put back where a page is not held and what follows stands well behind many boxes
+-- steady nodes may be put back if a page is not held and what follows is well formed after many boxes
 steady-stands : (xs ys : List Sort) → AllByRecursion Steady xs → Stands many false ys → Stands many false (xs ++ ys)
 steady-stands [] ys c h = h
 steady-stands (light ∷ xs) ys c h = (tt, steady-stands xs ys c.1 h)
@@ -153,7 +153,7 @@ steady-extends ks ns c g = record { by = λ ys h. steady-stands (sorts ns) ys c 
 again-extends : (ks : List ℕ) → Extends ks many false Clear.clear_again
 again-extends ks = record { by = λ ys h. (tt, (tt, (tt, (tt, (tt, h))))); feet = (tt, (tt, (tt, (tt, (tt, tt))))) }
 
--- ---- floats and notes in the text, where the interline penalty forces no break
+-- ---- floats and notes in the text, if the interline penalty forces no break
 
 module _ (ks : List ℕ) (p : Params) (calm : int_le p.interlinepenalty eject_penalty ≡ false) where
   pub penalty-steady : (o : Option Glue) → AllByRecursion Steady (sorts (Text.penalty_nodes p.interlinepenalty o))

@@ -71,7 +71,7 @@ puts-writes ns w s = record { ns = ns; back = refl; steady = s; floats = refl; c
 
 -- ---- the first of the current list
 
--- these are left of the current list, steady nodes are put back, and where the here list has grown a box of the galley is among them
+-- these are left of the current list, steady nodes are put back, and if the here list has grown a box of the galley is among them
 pub record Served (es : List Entry) (w c : Work) : Type 0 where
   pub columns : c.state.two_columns ≡ w.state.two_columns
   pub current : c.state.floats.current ≡ es

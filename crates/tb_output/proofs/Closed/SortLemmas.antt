@@ -1,5 +1,5 @@
--- Where the penalties stand at which the routine does something special. What matters of a node is its sort; a list
--- stands well where a walk over it never meets a penalty out of place.
+-- Where the penalties are at which the routine does something special. What matters of a node is its sort; a list is well
+-- formed if a walk over it never meets a penalty out of place.
 use Rattle.std.proofs.Common.{◌≡◌, refl, sym, ◌∙◌, ap, subst, ℕ, zero, suc, ℤ, Bool, true, false, List, [], ◌∷◌, ◌++◌, take, drop, arith}
 use Rattle.std.specs.Prelude.{int_le, ◌||◌, if◌then◌else◌}
 use Rattle.std.specs.List.{AllByRecursion}
@@ -20,7 +20,7 @@ pub use Rattle.tb_output.proofs.Closed.Sorts.{Sort, light, blank, real, silent, 
 
 -- ---- the break
 
--- how the rest stands after a break at a node of this sort, where a page is held or not, behind these nodes seen
+-- the rest is well formed after a break at a node of this sort, with a page held or not, and with these boxes seen
 abbrev pub BreakStands : Bool → Seen → List PlainNode → Sort → Type 0
 BreakStands b s rest light = Stands none b (sorts rest)
 BreakStands b s rest blank = Stands none b (sorts rest)
@@ -141,14 +141,14 @@ take-drop zero xs ys = refl
 take-drop (suc k) [] ys = refl
 take-drop (suc k) (x ∷ xs) ys = ap (λ l. x ∷ l) (take-drop k xs ys)
 
--- without acts behind its cut, a list begins with none
+-- without acts after its cut, a list begins with none
 pub free-drop : (k : ℕ) (xs ys : List PlainNode) → AllFree xs → FirstFree ys → FirstFree (drop k xs ++ ys)
 free-drop zero [] ys h f = f
 free-drop zero (x ∷ xs) ys h f = h.0
 free-drop (suc k) [] ys h f = f
 free-drop (suc k) (x ∷ xs) ys h f = free-drop k xs ys h.1 f
 
--- what a cut of the page at a place leaves: a calm list before it, and a rest that stands well
+-- what a cut of the page at a place leaves: a calm list before it, and a well-formed rest
 pub record PageStands (b : Bool) (k : ℕ) (w : Reach) : Type 0 where
   pub calm : AllCalm (take k w.passed)
   pub free : AllFree (take k w.passed)
@@ -204,7 +204,7 @@ holding-free b s rest q h k r = by_tests (int_le q eject_penalty) (is_int q ejec
     by_tests true true c x z u v k r = let no : ⊥ = grind (arith, v) in absurd no
     by_tests false e c x z u v k r = let no : ⊥ = grind (arith, u) in absurd no
 
--- a page cut from a list that stands well loses nothing
+-- a page cut from a well-formed list loses nothing
 pub page-careful : (v : Weight) (b : Bool) (ls : List Labelled) (boxes : List Boxed) (w : Reach) (held : List PlainNode) → (b ≡ false → held ≡ []) → PageStands b (page_break w).place w → Careful v held (fired_by ls boxes w)
 page-careful v b ls boxes w held h p = record {
   list = λ x y. one-weight v (take (page_break w).place w.passed) p.calm p.free (serving-one b _ _ (penalty_at (from_break w)) x y p.rest);

@@ -1,4 +1,4 @@
--- The sorts of nodes, and lists that stand well: a walk over them never meets a penalty out of place.
+-- The sorts of nodes, and well-formed lists: a walk over them never meets a penalty out of place.
 use Rattle.std.proofs.Common.{ℕ, ℤ, Bool, true, false, List, [], ◌∷◌, ◌++◌, map}
 use Rattle.std.specs.Prelude.{int_le, ◌||◌, if◌then◌else◌}
 use Rattle.std.specs.List.{AllByRecursion}
@@ -53,7 +53,7 @@ kind_sort (act a) = silent
 abbrev pub sorts : List PlainNode → List Sort
 sorts ns = map (λ n. kind_sort n.kind) ns
 
--- the boxes since the last end of a page, or where a page begins: none; a blank one, which comes last; or others
+-- the boxes since the last end of a page, or since a page began: none; a blank one, which comes last; or others
 pub data Seen : Type 0 where
   none : Seen
   one : Seen
@@ -86,7 +86,7 @@ held_after b serve = false
 held_after b clear = b
 held_after b odd = b
 
--- a float's, note's or clear's penalty stands right behind a blank box that is the first box of its page; while a page is held only blank boxes and ends of pages come
+-- a float's, note's or clear's penalty comes right after a blank box that is the first box of its page; while a page is held only blank boxes and ends of pages come
 abbrev pub Allowed : Seen → Bool → Sort → Type 0
 Allowed s b light = Unit {0}
 Allowed s b blank = Unit {0}
@@ -110,7 +110,7 @@ abbrev pub Stands : Seen → Bool → List Sort → Type 0
 Stands s b [] = Unit {0}
 Stands s b (x ∷ xs) = Allowed s b x × Stands (seen_after s x) (held_after b x) xs
 
--- ---- what stands well behind many boxes, does so behind fewer; and what does where a page is held, does where none is
+-- ---- what is well formed after many boxes is so after fewer; and what is so with a page held is so with none
 
 pub fewer : (s : Seen) (b : Bool) (xs : List Sort) → Stands many b xs → Stands s b xs
 fewer s b [] h = tt
@@ -244,7 +244,7 @@ stands-after (serve ∷ xs) ys s b c h = absurd c.0
 stands-after (clear ∷ xs) ys s b c h = absurd c.0
 stands-after (odd ∷ xs) ys s b c h = absurd c.0
 
--- without its acts a front leaves the same behind it
+-- without its acts a front leaves the same after it
 kept-silent : (l : ℕ) (k : PlainKind) (ns : List PlainNode) (ys : List Sort) → ((s : Seen) (b : Bool) → Stands s b (sorts ns ++ ys) → Stands s b (sorts (without_acts ns) ++ ys)) → (s : Seen) (b : Bool) → Stands s b (kind_sort k ∷ sorts ns ++ ys) → Stands s b (sorts (without_acts (record { line = l; kind = k } ∷ ns)) ++ ys)
 kept-silent l (plain m) ns ys h s b k = (k.0, h (seen_after s (kind_sort (plain m))) (held_after b (kind_sort (plain m))) k.1)
 kept-silent l (ins i) ns ys h s b k = (tt, h (seen_after s light) b k.1)

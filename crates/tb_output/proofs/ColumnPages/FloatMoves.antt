@@ -31,7 +31,7 @@ use Rattle.tb_output.proofs.ColumnPages.FillLemmas.{HasLists, fill_column-lists,
 use Rattle.tb_output.proofs.Working.StandLemmas.{Stands, machine-live, IsShownBy, stands-shown}
 use Rattle.tb_output.proofs.Working.ApartLemmas.{not-live, fresh-none}
 
--- ---- as many boxes live as before
+-- ---- as many boxes are live as before
 
 gone-count : (a : AreaPlace) (f : Float) (before rest : List Float) (l : FloatLists) → l.deferred ≡ before ++ f ∷ rest
     → (live_count (gone_to a f before rest l) ≡ live_count l) × ((gone_to a f before rest l).deferred ≡ still_before a f before ++ rest)
@@ -69,7 +69,7 @@ doubled-count from q p s before (f ∷ rest) l e =
     let one = doubled-one from q t f before rest l e in
     doubled-count from q p s (still_single t f before) rest (gone_double from t f before rest l) one.1 ∙ one.0
 
--- the room for warnings is enough still
+-- the room for warnings is still enough
 pub room-stays : (v w : FloatPool) (room : ℕ) → w.size ≡ v.size → live_count w.lists ≡ live_count v.lists → HasRoomFor v room → HasRoomFor w room
 room-stays v w room size count h = omega (arith, size, count, h)
 
@@ -119,7 +119,7 @@ module _ (v : FloatPool) (m now : MachineView) (is_now : now ≡ record m { pool
     apart = is.apart;
   })
 
-  -- a list was opened, and the others stand
+  -- a list was opened, and the others are as they were
   module _ (l : ℕ) (store new : Lists Node) (opened : IsOpened l store new) (is : IsMachine m store) where
     opened-stand : (ls : List ℕ) → AllByRecursion (IsLive store) ls → AllByRecursion (Stands store new) ls
     opened-stand [] live = tt

@@ -1,4 +1,4 @@
--- Chosen floats were made a column, or memory was lacking.
+-- Chosen floats were made a column, or there was no memory.
 use Rattle.std.proofs.Common.{◌≡◌, sym, subst, ◌∙◌, ap, ℤ, [], ◌∷◌, Bool, false, true}
 use Rattle.tb_pool.specs.Lists.{Lists}
 use Rattle.tb_pool.specs.Frame.{IsNoneOf}
@@ -56,7 +56,7 @@ module _ (z : Wanted) (from : Part) (waits : IsWaiting from) (m mid now : Machin
     pub taken-then : (later : MachineView) (last : Lists Node) → KeepsMachine (c.list ∷ []) now later new last → KeepsMachine [] m later store last
     taken-then later last k = keeps-then [] (c.list ∷ []) m now later store new last taken-keeps k (λ q live none. ((λ e. not-live store c.list q opened.fresh live (sym e)), tt))
 
-  -- memory was lacking: no float is chosen any more
+  -- there was no memory: no float is chosen any more
   module _ (back : now ≡ record mid { pool = without_marks from mid.pool }) (lists : new.lists ≡ store.lists) where
     back-is : now ≡ record m { pool = without_marks from mid.pool }
     back-is = back ∙ (λ i. record (marked i) { pool = without_marks from mid.pool })
@@ -177,7 +177,7 @@ module _ (clearing : Bool) (m mid now : MachineView) (store new : Lists Node) (c
     pub page-kept : (e : RunFault) → HasNotShipped e now later → KeepsMachine [] m later store new
     page-kept e s = subst (λ n. KeepsMachine [] m n store new) (sym (unshipped-same e now later s)) kept
 
--- memory was lacking: the wide floats wait as before
+-- there was no memory: the wide floats wait as before
 module _ (clearing : Bool) (m mid now : MachineView) (store new : Lists Node) (from : Part) (is : IsMachine m store) (chosen : IsChosen (Ship.wide_wanted m.params clearing) (wide_part m.params) m.pool mid.pool) (marked : mid ≡ record m { pool = mid.pool })
     (is_from : from ≡ wide_part mid.params) (back : now ≡ record mid { pool = without_marks from mid.pool }) (lists : new.lists ≡ store.lists) where
   unchosen : now ≡ record mid { pool = without_marks (wide_part m.params) mid.pool }

@@ -1,4 +1,4 @@
--- Parameters that lie in the ranges of their rows lie in the ranges that the output routine asks.
+-- Parameters that lie in the ranges of their rows lie in the ranges that the output routine requires.
 use Rattle.std.proofs.Common.{◌≡◌, refl, lit<, ℤ, pos, Bool, true, false, [], arith}
 use Rattle.std.specs.Prelude.{◌&&◌, IsTrue, negsuc}
 use Rattle.std.proofs.lemmas.Int.{ints}

@@ -1,4 +1,4 @@
--- A page is shipped: what the machine shows of the work then, and that it is a machine still.
+-- A page is shipped: what the machine shows of the work then, and that it is still a machine.
 use Rattle.std.proofs.Common.{◌≡◌, refl, sym, subst, ◌∙◌, ap, ℕ, pos, ◌+◌, ◌≤◌, List, [], ◌∷◌, ◌++◌, append_assoc, append-nil, true, false, arith}
 use Rattle.std.specs.Prelude.{◌≤ℤ◌, int_lt, if◌then◌else◌}
 use Rattle.std.proofs.lemmas.Int.{ints}

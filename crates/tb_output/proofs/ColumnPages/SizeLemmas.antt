@@ -1,18 +1,16 @@
--- The sizes of lists that may stand on a page, and of the insertions of a page.
+-- The sizes of lists that may be on a page, and of the insertions of a page.
 use Rattle.std.proofs.Common.{◌≡◌, refl, sym, subst, ◌∙◌, ap, ℕ, ℤ, pos, ◌+◌, ◌*◌, ◌≤◌, ◌+ℤ◌, ◌-ℤ◌, ◌≤ℤ◌, List, [], ◌∷◌, map, length, w64, to_z, of_z, arith}
 use Rattle.std.specs.Prelude.{All, neg_ℤ}
 use Rattle.std.proofs.lemmas.Int.{ints}
 use Rattle.std.proofs.lemmas.List.{length-map}
 use Rattle.tb_scaled.specs.Amount.{IsAmount}
-use Rattle.tb_scaled.specs.Scaled.{max_dimen, min_ℤ}
 use Rattle.tb_pool.specs.Lists.{Lists, list_at}
 use Rattle.tb_node.specs.declared.Kind.{Kind}
 use Rattle.tb_node.specs.declared.Kind.TheVariants as kinds
 use Rattle.tb_node.specs.declared.Node.{Node}
-use Rattle.tb_node.specs.declared.Sums.{Sums}
 use Rattle.tb_node.specs.Plain.{leaf_of, leaf_shape, shape_of, matter_of, matter_shape, shape_of_kind}
 use Rattle.tb_node.specs.Fit.{IsDimension, IsExtent, IsSizedNode}
-use Rattle.tb_node.specs.Sums.{size_of, last_depth, sums_of}
+use Rattle.tb_node.specs.Sums.{size_of, last_depth}
 use Rattle.tb_node.proofs.FitLemmas as fits
 use Rattle.tb_float.specs.Ranges.{IsWithin}
 use Rattle.tb_column.specs.declared.NoteBox.{NoteBox}
@@ -21,39 +19,34 @@ use Rattle.tb_output.specs.Text.{notes_height}
 
 -- ---- one list
 
--- the sums of a list under the greatest depth limit
-pub record AreSums (ns : List Node) (s : Sums) : Type 0 where
-  pub whole : s.total +ℤ s.depth ≡ size_of (map shape_of ns)
-  pub depth : s.depth ≡ last_depth (map shape_of ns)
-  pub extent : IsExtent s.depth
-  pub total : IsAmount s.total
-  pub within : IsWithin (2147483646 * length ns) (size_of (map shape_of ns))
-
-limited-is : (d : ℤ) → IsExtent d → min_ℤ d max_dimen ≡ d
-limited-is d h = let high = h.high in grind (arith, ints)
+-- what a list with this room and this depth is known to take
+pub record IsTaken (ns : List Node) (room depth : ℤ) : Type 0 where
+  pub small : IsAmount room
+  pub within : IsWithin (2147483646 * length ns) room
+  pub extent : IsExtent depth
+  pub height : IsAmount (room -ℤ depth)
 
 within-length : (ns : List Node) → fits.IsWithin (2147483646 * length (map shape_of ns)) (size_of (map shape_of ns)) → IsWithin (2147483646 * length ns) (size_of (map shape_of ns))
 within-length ns h =
     let n : length (map shape_of ns) ≡ length ns = length-map ns shape_of in
     record { low = subst (λ k. neg_ℤ (pos (2147483646 * k)) ≤ℤ size_of (map shape_of ns)) n h.low; high = subst (λ k. size_of (map shape_of ns) ≤ℤ pos (2147483646 * k)) n h.high }
 
-whole-is : (t d size deep : ℤ) → d ≡ deep → t ≡ size -ℤ deep → t +ℤ d ≡ size
-whole-is t d size deep x y = omega (arith, ints, x, y)
+room-amount : (k : ℕ) (z : ℤ) → k ≤ 8388608 → IsWithin (2147483646 * k) z → IsAmount z
+room-amount k z few h = record { low = omega (arith, ints, few, h.low); high = omega (arith, ints, few, h.high) }
 
-pub are-sums : (ns : List Node) (s : Sums) → All IsSizedNode ns → length ns ≤ 8388608 → s ≡ sums_of max_dimen (map shape_of ns) → AreSums ns s
-are-sums ns s sized few e =
+height-amount : (k : ℕ) (z d : ℤ) → k ≤ 8388608 → IsWithin (2147483646 * k) z → IsExtent d → IsAmount (z -ℤ d)
+height-amount k z d few h e = record { low = omega (arith, ints, few, h.low, e.high); high = omega (arith, ints, few, h.high, e.low) }
+
+pub taken : (ns : List Node) (room depth : ℤ) → All IsSizedNode ns → length ns ≤ 8388608 → room ≡ size_of (map shape_of ns) → depth ≡ last_depth (map shape_of ns) → IsTaken ns room depth
+taken ns room depth sized few r d =
     let can = fits.summable ns sized few in
-    let low : pos 0 ≤ℤ max_dimen = omega (arith, ints) in
-    let extent : IsExtent (last_depth (map shape_of ns)) = fits.last_depth_extent (map shape_of ns) can.sized in
-    let size = fits.size_within (map shape_of ns) can.sized in
-    let depth : s.depth ≡ last_depth (map shape_of ns) = ap (λ (x : Sums). x.depth) e ∙ limited-is (last_depth (map shape_of ns)) extent in
-    let total : s.total ≡ size_of (map shape_of ns) -ℤ last_depth (map shape_of ns) = ap (λ (x : Sums). x.total) e ∙ ap (λ d. size_of (map shape_of ns) -ℤ d) (limited-is (last_depth (map shape_of ns)) extent) in
+    let within : IsWithin (2147483646 * length ns) room = subst (IsWithin (2147483646 * length ns)) (sym r) (within-length ns (fits.size_within (map shape_of ns) can.sized)) in
+    let extent : IsExtent depth = subst IsExtent (sym d) (fits.last_depth_extent (map shape_of ns) can.sized) in
     record {
-      whole = whole-is s.total s.depth (size_of (map shape_of ns)) (last_depth (map shape_of ns)) depth total;
-      depth = depth;
-      extent = subst IsExtent (sym depth) extent;
-      total = subst (λ (x : Sums). IsAmount x.total) (sym e) (fits.summed-fits max_dimen (map shape_of ns) low can).total;
-      within = within-length ns (fits.size_within (map shape_of ns) can.sized);
+      small = room-amount (length ns) room few within;
+      within = within;
+      extent = extent;
+      height = height-amount (length ns) room depth few within extent;
     }
 
 -- ---- numbers that are passed on
@@ -73,13 +66,6 @@ dimension-amount z h = record { low = omega (arith, ints, h.low); high = omega (
 
 pub within-amount : (most : ℕ) (z : ℤ) → most ≤ 36029896531181568 → IsWithin most z → IsAmount z
 within-amount most z few h = record { low = omega (arith, ints, few, h.low); high = omega (arith, ints, few, h.high) }
-
--- the size of a list that was summed
-pub list-size : (ns : List Node) (s : Sums) (size : ℤ) → length ns ≤ 8388608 → AreSums ns s → size ≡ to_z w64 (of_z w64 s.total) +ℤ to_z w64 (of_z w64 s.depth) → (size ≡ size_of (map shape_of ns)) × IsAmount size × IsWithin (2147483646 * length ns) size
-list-size ns s size few are e =
-    let is : size ≡ size_of (map shape_of ns) = e ∙ (λ i. amount-cast s.total are.total i +ℤ amount-cast s.depth (extent-amount s.depth are.extent) i) ∙ are.whole in
-    let within : IsWithin (2147483646 * length ns) size = subst (IsWithin (2147483646 * length ns)) (sym is) are.within in
-    (is, within-amount (2147483646 * length ns) size (omega (arith, few)) within, within)
 
 -- ---- the insertions of a class
 
@@ -102,7 +88,7 @@ leaf-shapes (n ∷ ns) = λ i. leaf-shape n.kind i ∷ leaf-shapes ns i
 
 -- ---- the insertions of a page
 
--- the height of the insertions of the first k classes, where these are left of all
+-- the height of the insertions of the first k classes, with these left of all
 pub record IsHeightSoFar (store : Lists Node) (all left : List NoteBox) (k : ℕ) (height : ℤ) : Type 0 where
   pub value : height +ℤ notes_height (notes_shown store left) ≡ notes_height (notes_shown store all)
   pub most : ℕ

@@ -25,7 +25,7 @@ use Rattle.tb_output.proofs.NothingLost.StateWeights.{ColumnsFit}
 abbrev pub Single : State → Type 0
 Single s = s.two_columns ≡ false → s.floats.double ≡ []
 
--- the lists but the deferred and the double one are left, and what is put back; and the columns fit as before
+-- the lists but the deferred and the double one stay, and so does what is put back; and the columns fit as before
 pub record Spares (a c : Work) : Type 0 where
   pub current : c.state.floats.current ≡ a.state.floats.current
   pub here : c.state.floats.here ≡ a.state.floats.here
@@ -75,7 +75,7 @@ ship-spares p sheet w =
 with_deferred-spares : (fs : List Float) (w : Work) → Spares w (Ship.with_deferred fs w)
 with_deferred-spares fs w = record { current = refl; here = refl; top = refl; bottom = refl; boxes = refl; page = refl; columns = refl; put_back = refl; fit = λ h. h; single = λ h. h }
 
--- so where other floats wait in a list
+-- so when other floats wait in a list
 pub waiting-spares : (from : Part) → IsWaiting from → (fs : List Float) (w : Work) → Spares w (with_floats (with_floats_of from fs w.state.floats) w)
 waiting-spares parts.Current i fs w = absurd i
 waiting-spares parts.Here i fs w = absurd i
@@ -154,7 +154,7 @@ noted p place f w t = if t then w else record w { records = w.records ++ placed 
 abbrev pub moved : Params → Where → Float → FloatLists → Work → Bool → Work
 moved p place f left w t = record (noted p place f w t) { state = record (noted p place f w t).state { floats = Place.joined_to place f left } }
 
--- what is left where these floats stay in a list
+-- what is left when these floats stay in a list
 abbrev staying : Part → List Float → Work → FloatLists
 staying from fs w = with_floats_of from fs w.state.floats
 

@@ -1,4 +1,4 @@
--- What the acts of a page do to the floats: each that is taken costs what it was to cost, and a change of columns comes where no float is left.
+-- What the acts of a page do to the floats: each that is taken costs what it was to cost, and a change of columns comes when no float is left.
 use Rattle.std.proofs.Common.{◌≡◌, refl, sym, ◌∙◌, subst, ℕ, zero, suc, ℤ, pos, ◌+◌, ◌*◌, ◌≤◌, inl, inr, ◌⊎◌, Bool, true, false, List, [], ◌∷◌, ◌++◌, length, arith}
 use Rattle.std.specs.Prelude.{int_le, int_lt, ◌&&◌, if◌then◌else◌}
 use Rattle.std.specs.List.{AllByRecursion}
@@ -42,7 +42,7 @@ current-sides parts.Second es l h = (record { top = h.0.top; bottom = h.0.bottom
 
 -- ---- an act
 
--- no float is on the way where the columns change
+-- no float is on the way when the columns change
 abbrev pub EmptyAt : State → Act → Type 0
 EmptyAt s (acts.Take f) = Unit {0}
 EmptyAt s (acts.TakeMargin m) = Unit {0}

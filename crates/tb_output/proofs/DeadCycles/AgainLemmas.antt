@@ -1,4 +1,4 @@
--- The clears that the routine put back stand before all that is still to come: no box of the text, no act and no float's or item's penalty stands before the last of them.
+-- The clears that the routine put back come before all that is still to come: no box of the text, no act and no float's or item's penalty comes before the last of them.
 use Rattle.std.proofs.Common.{◌≡◌, refl, ℕ, zero, suc, ℤ, Bool, true, false, List, [], ◌∷◌, ◌++◌}
 use Rattle.std.specs.Prelude.{int_le}
 use Rattle.std.specs.List.{AllByRecursion}
@@ -186,7 +186,7 @@ break-again n (m ∷ ns) a = node-again n m.line m.kind ns a
 
 -- ---- what is put back
 
--- nodes behind which a clear of the routine may come
+-- nodes after which a clear of the routine may come
 abbrev pub Idle : Sort → Type 0
 Idle light = Unit {0}
 Idle blank = Unit {0}
@@ -215,7 +215,7 @@ again-idle (suc n) (odd ∷ xs) ys i a = absurd i.0
 pub again-clear : (n : ℕ) (ys : List Sort) → Again n ys → Again (suc n) (sorts Clear.clear_again ++ ys)
 again-clear n ys a = (tt, (tt, (tt, (tt, (tt, a)))))
 
--- ---- without its acts a front leaves the same behind it
+-- ---- without its acts a front leaves the same after it
 
 acts-left : (n : ℕ) (l : ℕ) (k : PlainKind) (ns : List PlainNode) (ys : List Sort) → ((m : ℕ) → Again m (sorts ns ++ ys) → Again m (sorts (without_acts ns) ++ ys)) → Again n (kind_sort k ∷ sorts ns ++ ys) → Again n (sorts (without_acts (record { line = l; kind = k } ∷ ns)) ++ ys)
 acts-left zero l k ns ys h a = tt

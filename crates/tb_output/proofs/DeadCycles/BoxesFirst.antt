@@ -126,7 +126,7 @@ pub acts-first : (ns : List PlainNode) (ys : List Sort) → RealFirst (sorts ns 
 acts-first [] ys h = h
 acts-first (n ∷ ns) ys h = acts-more n.line n.kind ns ys (λ h. acts-first ns ys h) h
 
--- where the break is forced, the box stands before it
+-- if the break is forced, the box comes before it
 abbrev pub BreakReal : List Sort → Sort → Type 0
 BreakReal xs light = Unit {0}
 BreakReal xs blank = Unit {0}

@@ -56,7 +56,7 @@ pub record WaitsWell (p : Params) (s : State) : Type 0 where
   pub narrow : has_second p ≡ true → Narrow s.floats
   pub single : s.two_columns ≡ false → AllWait Single s.floats × (s.floats.double ≡ [])
 
--- ---- what a clear puts back behind its front
+-- ---- what a clear puts back after its front
 
 -- a blank second column, and a clear after it
 abbrev pub halves : Bool → Work → Work
@@ -70,7 +70,7 @@ more t w = if t then puts Clear.clear_again w else w
 abbrev pub gathered : Params → List PlainNode → Work → Work
 gathered p body w = with_floats (Clear.deferred_again w.state.floats) (puts (Clear.cleared_front p body) w)
 
--- ---- where no company is made, nothing waits
+-- ---- if no company is made, nothing waits
 
 pub append-none : {X : Type 0} (xs ys : List X) → xs ++ ys ≡ [] → (xs ≡ []) × (ys ≡ [])
 append-none [] ys h = (refl, h)
@@ -86,7 +86,7 @@ no-double p l e = at l.double e
 pub true-false : (t : Bool) → t ≡ true → t ≡ false → ⊥
 true-false t h k = let no : true ≡ false = sym h ∙ k in cc
 
--- a single float, and a wide one, suit where floats are cleared
+-- a single float, and a wide one, suit when floats are cleared
 suits-single : (p : Params) (l : FloatLists) (f : Float) → l.double ≡ [] → Fits p f → Single f → suits (Columns.single_wanted p l true) f ≡ true
 suits-single p l f d h s = by_tests f.places.p f.wide s (subst (λ (z : ℤ). int_le f.height z ≡ true) (sym (no-double p l d)) h)
   where
@@ -149,7 +149,7 @@ no-floats p l a b h i j none narrow e k = by_release (has_second p) refl k
     by_release true r k = in_two r (append-none l.double l.second (no-wides p (l.double ++ l.second) (all-of-both (Fits p) l.double l.second a i) (all-of-both Wide l.double l.second b j) k))
     by_release false r k = in_one r (no-mixed p l l.deferred a b h e k)
 
--- the double floats stand in no list of those that wait
+-- the double floats are in no list of those that wait
 undoubled : (from : Part) → IsWaiting from → (l : FloatLists) → floats_of from (record l { double = [] }) ≡ floats_of from l
 undoubled parts.Current q l = absurd q
 undoubled parts.Here q l = absurd q
@@ -230,7 +230,7 @@ module _ (P : Float → Type 0) (p : Params) where
   abbrev pub tail : Work → Work
   tail a = Clear.clear_rest (Clear.clear_wide p a)
 
-  -- at a second column it leaves a blank column and a clear, and where floats are left a further clear
+  -- at a second column it leaves a blank column and a clear, and if floats are left a further clear
   pub record IsTail (a b : Work) : Type 0 where
     pub half : Bool
     pub rest : Bool
@@ -307,7 +307,7 @@ module _ (P : Float → Type 0) (p : Params) where
   halved-refused false true a = refl
   halved-refused false false a = refl
 
-  -- where the columns of floats shipped, so did the clear
+  -- if the columns of floats shipped, so did the clear
   pub tail-cycles : (k a b : Work) (t : IsTail a b) → Follows P k a → (k.refused ≡ false → k.state.dead_cycles ≡ 0) → b.refused ≡ false → b.state.dead_cycles ≡ 0
   tail-cycles k a b t x h r =
       let q : a.refused ≡ false = sym (halved-refused t.rest t.half a) ∙ t.follows.goes r in

@@ -296,7 +296,7 @@ module _ (P : Float → Type 0) (p : Params) where
   taken-follows : (w : Work) → AllWait P w.state.floats → AllWait P (Columns.without_column_floats w).state.floats
   taken-follows w h = record { top = tt; bottom = tt; deferred = h.deferred; double = h.double; second = h.second }
 
-  -- after an ordinary firing of a page's last column the page is out, and where no column of floats came, a first column begins without the floats of the areas
+  -- after an ordinary firing of a page's last column the page is out, and if no column of floats came, a first column begins without the floats of the areas
   pub record LastOut (w b : Work) : Type 0 where
     pub goes : b.refused ≡ false → w.refused ≡ false
     pub cycles : b.refused ≡ false → b.state.dead_cycles ≡ 0

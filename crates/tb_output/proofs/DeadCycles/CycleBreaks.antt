@@ -73,11 +73,11 @@ pub record FiresWell (p : Params) (s : State) (total : ℕ) (n : ℕ) (kind : Ki
   -- a page that ends a second column is ordinary
   pub ending : phase ≡ ending → int_le eject_penalty f.penalty ≡ true
   pub halted : kind ≡ halted → int_le eject_penalty f.penalty ≡ true
-  -- behind a blank column a clear comes, and the page in between fits
+  -- after a blank column a clear comes, and the page in between fits
   pub once : kind ≡ once → (int_le eject_penalty f.penalty ≡ true) × (f.held ≡ []) × ((rest : List PlainNode) × Fitted Out.clear_penalty rest f.rest)
   -- a clear without footnotes comes next
   pub ready : kind ≡ ready → (Out.is_int f.penalty Out.clear_penalty ≡ true) × (footnotes (record s { boxes = f.boxes }) ≡ [])
-  -- the page of a clear without footnotes has no insertions, and is light but for its blank box, so a blank column and a clear may stand behind its front
+  -- the page of a clear without footnotes has no insertions, and is light but for its blank box, so a blank column and a clear may come after its front
   pub blank : Out.is_int f.penalty Out.clear_penalty ≡ true → footnotes (record s { boxes = f.boxes }) ≡ [] → (f.held ≡ []) × ((rest : List PlainNode) → Fitted eject_penalty (made whatsit ∷ made blank_box ∷ made (pen Out.clear_penalty) ∷ rest) (Clear.cleared_front p f.body ++ (made blank_box ∷ Clear.clear_again ++ rest)) × Paused (Clear.cleared_front p f.body ++ (made blank_box ∷ Clear.clear_again ++ rest))) × AllByRecursion Idle (sorts (Clear.cleared_front p f.body)) × (wait_cost (Clear.cleared_front p f.body) ≡ 0)
 
 -- ---- the state after the goal is set
@@ -127,7 +127,7 @@ module _ (p : Params) (m : ℕ) (f : Fired) (held : AllInserted f.held) (w : Wor
       sums : (a b h c d x y r : ℕ) → a ≡ b → b ≡ h + c → h ≡ 0 → c ≡ d + r → d ≡ x + y → y ≡ 0 → a ≡ x + r
       sums a b h c d x y r i j k l n o = omega arith
 
-  -- the clears that are to come behind what is put back are to come on what waits
+  -- the clears that are to come after what is put back are to come on what waits
   pub after-region : (again : ℕ) → ((bs : List PlainNode) → AllByRecursion Idle (sorts bs) → Again again (sorts w.put_back ++ (sorts bs ++ sorts f.rest))) → Again again (sorts after.waiting)
   after-region again region = subst (λ (ns : List PlainNode). Again again (sorts ns)) (sym waits) (subst (Again again) (sym parts) (ins-again again f.held (sorts w.put_back ++ (sorts goal.blanks ++ sorts f.rest)) held (region goal.blanks goal.idle)))
     where

@@ -43,7 +43,7 @@ module _ (p : Params) (m : ℕ) (s : State) (total a : ℕ) (kind : Kind) (phase
   abbrev Result : Work → Type 0
   Result w = w.refused ≡ false → Bounded p m (Out.waiting_again f (Out.next_goal p f.penalty w)).state
 
-  -- the clears that are to come behind this one
+  -- the clears that are to come after this one
   abbrev d : ℕ
   d = left_after a clear
 

@@ -48,7 +48,7 @@ module _ (p : Params) (m : ℕ) (s : State) (total a : ℕ) (kind : Kind) (phase
   pub cost-of : (x : Sort) → pen_sort f.penalty ≡ x → wait_cost f.rest + sort_cost x ≤ total
   cost-of x e = subst (λ (y : Sort). wait_cost f.rest + sort_cost y ≤ total) e well.cost
 
-  -- the phase goes on where no column is put out
+  -- the phase goes on if no column is put out
   same-phase : int_le eject_penalty f.penalty ≡ false → (t : State) → t.two_columns ≡ s.two_columns → t.first_column ≡ s.first_column → PhaseHolds t phase
   same-phase h t c d = by_phase phase at well.ending
     where
@@ -142,7 +142,7 @@ module _ (p : Params) (m : ℕ) (s : State) (total a : ℕ) (kind : Kind) (phase
   pub o-fits : FloatsFit p o.state
   o-fits = text-fits o out-fit (ordinary-out Single p f.body w0) (ordinary-double p f.body w0) (ordinary-sides p f.body w0 floats.sides)
 
-  -- what is put back is nothing, so the clears that are to come stand in the rest
+  -- what is put back is nothing, so the clears that are to come are in the rest
   pub o-region : Again a (sorts f.rest) → (bs : List PlainNode) → AllByRecursion Idle (sorts bs) → Again a (sorts o.put_back ++ (sorts bs ++ sorts f.rest))
   o-region h bs i = subst (λ (ns : List PlainNode). Again a (sorts ns ++ (sorts bs ++ sorts f.rest))) (sym out-fit.back) (again-idle a (sorts bs) (sorts f.rest) i h)
 
@@ -155,7 +155,7 @@ module _ (p : Params) (m : ℕ) (s : State) (total a : ℕ) (kind : Kind) (phase
   pub o-cost : wait_cost o.put_back ≡ 0
   o-cost = ap wait_cost out-fit.back
 
-  -- where the page is out: what is known afterwards, and how the floats and the credit changed
+  -- if the page is out: what is known afterwards, and how the floats and the credit changed
   out-by : Again a (sorts f.rest) → (k : Kind) → Holds p done a k → o.state.dead_cycles ≡ 0 → 2 * way_floats o.state.floats + credit k ≤ 2 * way_floats s.floats + credit kind → Bounded p m done
   out-by r k h d c = finish-shipped p m f well.held o a k (o-region r) h o-fits d (sums (wait_cost o.put_back) (wait_cost f.rest) (way_floats o.state.floats) (way_floats s.floats) (credit k) (credit kind) (sort_cost (pen_sort f.penalty)) o-cost well.cost c weight)
     where
@@ -271,7 +271,7 @@ module _ (p : Params) (m : ℕ) (s : State) (total a : ℕ) (kind : Kind) (phase
 
   -- ---- the first of two columns
 
-  -- where the column is kept: the phase goes on from the first to the second
+  -- if the column is kept: the phase goes on from the first to the second
   kept-by : Again a (sorts f.rest) → s.two_columns ≡ true → s.first_column ≡ true → o.state.first_column ≡ false → (k : Kind) → Holds p done a k → o.state.dead_cycles ≡ s.dead_cycles + 1 → 2 * way_floats o.state.floats + credit k ≤ 2 * way_floats s.floats + credit kind → Bounded p m done
   kept-by r t c first k h d l = by_phase phase refl at
     where

@@ -1,4 +1,4 @@
--- How many firings without a page a state can still bring, where the top skip is no higher than a page.
+-- How many firings without a page a state can still bring, if the top skip is no higher than a page.
 use Rattle.std.proofs.Common.{◌≡◌, refl, sym, ◌∙◌, ℕ, ℤ, ◌+◌, ◌*◌, ◌≤◌, Bool, true, false, List, [], ◌∷◌, ◌++◌, length, arith}
 use Rattle.std.specs.Prelude.{int_lt, ◌&&◌, not, if◌then◌else◌}
 use Rattle.std.specs.List.{AllByRecursion}
@@ -25,7 +25,7 @@ use Rattle.tb_output.proofs.StepLaws.WideLemmas.{DoubleFits}
 use Rattle.tb_output.proofs.Clears.SideLemmas.{Sides}
 use Rattle.tb_output.proofs.DeadCycles.ServeOutcomes.{AllCurrent, way_floats}
 
--- what is known while clears of the routine are to come: nothing; the double list is not empty; a blank column ends next, and behind it comes a clear; a float stands in an area of a first column; the clear comes next; a blank column ends next, and the double list is not empty; no float waits; there is one column; no such clear is to come
+-- what is known while clears of the routine are to come: nothing; the double list is not empty; a blank column ends next, and after it comes a clear; a float is in an area of a first column; the clear comes next; a blank column ends next, and the double list is not empty; no float waits; there is one column; no such clear is to come
 pub data Kind : Type 0 where
   any : Kind
   doubled : Kind
@@ -49,7 +49,7 @@ credit clean = 0
 credit single = 0
 credit closed = 0
 
--- the next page fits up to the end of a blank column, and a clear stands behind it
+-- the next page fits up to the end of a blank column, and a clear comes after it
 pub record Once (p : Params) (s : State) : Type 0 where
   pub goal : s.goal ≡ p.textheight
   pub rest : List PlainNode
@@ -131,7 +131,7 @@ pub record GoalOut (p : Params) (n : ℤ) (a b : Work) : Type 0 where
   pub cost : wait_cost blanks ≡ 0
   pub quiet : Out.is_int n Out.hold_penalty ≡ false → a.state.floats.top ≡ [] → a.state.floats.bottom ≡ [] → a.state.floats.double ≡ [] → (blanks ≡ []) × (b.state.goal ≡ p.textheight)
 
--- where no area has a float, all of the page is left, and that is enough
+-- if no area has a float, all of the page is left, and that is enough
 full-room : (p : Params) (l : FloatLists) → l.top ≡ [] → l.bottom ≡ [] → l.double ≡ [] → column_room_of p l ≡ p.textheight
 full-room p l a b c = at l.top l.bottom l.double a b c
   where

@@ -31,7 +31,7 @@ use Rattle.tb_output.proofs.DeadCycles.CycleFirings.{at-ordinary, at-serve, at-h
 use Rattle.tb_output.proofs.DeadCycles.CycleBreaks.{FiresWell, after, waits, finish, finish-shipped, none-count, none-left, true-false, clear-no-hold, some-or-none, output-cases}
 use Rattle.tb_output.proofs.DeadCycles.CycleClears.{left-of, region, cost, at-most-one, not-once, not-halted, with-notes}
 
--- ---- what is put back behind the front
+-- ---- what is put back after the front
 
 abbrev pub bit : Bool → ℕ
 bit true = 1
@@ -278,7 +278,7 @@ module _ (p : Params) (m : ℕ) (s : State) (total a : ℕ) (kind : Kind) (phase
   -- ---- a second column is left blank
 
   module _ (half : c.half ≡ true) (two : s.two_columns ≡ true) (first : v.state.first_column ≡ false) (top : v.state.floats.top ≡ []) (bottom : v.state.floats.bottom ≡ []) (double : v.state.floats.double ≡ s.floats.double) (fewer : s.first_column ≡ true → waiting_floats v.state.floats + 1 ≤ waiting_floats s.floats) where
-    -- what stands behind the blank column and its clear
+    -- what comes after the blank column and its clear
     abbrev tail : List PlainNode
     tail = (rest_nodes c.rest ++ v-goal.blanks) ++ f.rest
 

@@ -1,4 +1,4 @@
--- Each clear stands directly behind a box of no size that holds nothing.
+-- Each clear comes directly after an empty box of no size.
 use Rattle.std.proofs.Common.{◌≡◌, refl, subst, ℕ, ℤ, Bool, true, false, ◌+◌, List, [], ◌∷◌, ◌++◌, arith}
 use Rattle.std.specs.Prelude.{int_le, ◌&&◌, ◌||◌, if◌then◌else◌}
 use Rattle.std.proofs.lemmas.Int.{ints}
@@ -40,7 +40,7 @@ EndsAt b (plain whatsit) = Unit {0}
 EndsAt b (ins i) = Unit {0}
 EndsAt b (act a) = Unit {0}
 
--- each clear of the list has, where this says whether the node before the list is such a box
+-- each clear of the list has one; the flag says whether the node before the list is such a box
 abbrev pub Ended : Bool → List PlainNode → Type 0
 Ended b [] = Unit {0}
 Ended b (n ∷ ns) = EndsAt b n.kind × Ended (is_flat n.kind) ns
@@ -94,7 +94,7 @@ pub ended-acts : (b : Bool) (ns ys : List PlainNode) → Ended b (ns ++ ys) → 
 ended-acts b [] ys e = e
 ended-acts b (n ∷ ns) ys e = acts-kind n.line n.kind b ns ys (λ b e. ended-acts b ns ys e) e.0 e.1
 
--- a last node like this, or one like that where the list is empty
+-- a last node like this, or one like that if the list is empty
 abbrev pub flat_last : Bool → List PlainNode → Bool
 flat_last b [] = b
 flat_last b (n ∷ ns) = flat_last (is_flat n.kind) ns

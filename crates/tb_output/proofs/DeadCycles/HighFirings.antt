@@ -1,4 +1,4 @@
--- Each firing lowers what is left of the firings without a page, or ships a page, where the top skip is higher than a page.
+-- Each firing lowers what is left of the firings without a page, or ships a page, if the top skip is higher than a page.
 use Rattle.std.proofs.Common.{◌≡◌, refl, sym, ◌∙◌, ap, subst, ℕ, suc, ◌+◌, ◌*◌, ◌≤◌, inl, inr, ◌⊎◌, Bool, true, false, List, [], ◌∷◌, ◌++◌, length, arith}
 use Rattle.std.specs.Prelude.{int_le}
 use Rattle.std.specs.List.{AllByRecursion}
@@ -30,7 +30,7 @@ use Rattle.tb_output.proofs.DeadCycles.EndedLemmas.{Ended}
 use Rattle.tb_output.proofs.DeadCycles.CycleEnds.{out-ended}
 use Rattle.tb_output.proofs.DeadCycles.HighStates.{Stage, loose, guarded, cleared, right, last, stage_cost, Guarded, StageHolds, phase_of, phase-holds, BoundedHigh, spaced-free, spaced-back, finish-high, shipped-high}
 
--- what is known of the page that fires: all that is known of any, how the clears behind it are spaced, and that a page that is guarded does not break at a clear without footnotes
+-- what is known of the page that fires: all that is known of any, how the clears after it are spaced, and that a page that is guarded does not break at a clear without footnotes
 pub record FiresHigh (p : Params) (s : State) (total n : ℕ) (stage : Stage) (f : Fired) : Type 0 where
   pub well : FiresWell p s total n any (phase_of stage) f
   pub spaced : Spaced true f.rest
@@ -137,7 +137,7 @@ module _ (p : Params) (m : ℕ) (s : State) (total a : ℕ) (stage : Stage) (f :
   at-serve : (vert : Bool) → int_le eject_penalty f.penalty ≡ false → pen_sort f.penalty ≡ serve → Result (Text.float_or_note p vert f.body w0)
   at-serve vert h e = quiet (Text.float_or_note p vert f.body w0) h (none-again p big s total a any (phase_of stage) f calm tt at floats big-weight big-bound well (inr e)) serve e refl (serve-quiet p big s total a any (phase_of stage) f calm tt at floats big-weight big-bound well vert)
 
-  -- ---- where a page is out, or the first of two columns is kept
+  -- ---- a page is out, or the first of two columns is kept
 
   module _ (w : Work) (again : ℕ) (region : (bs : List PlainNode) → AllByRecursion Idle (sorts bs) → Again again (sorts w.put_back ++ (sorts bs ++ sorts f.rest))) (fits : FloatsFit p w.state) (spaced : Spaced true (after p m f well.held w).waiting)
       (paid : wait_cost w.put_back + wait_cost f.rest + 2 * way_floats w.state.floats + 3 * a ≤ total + 2 * way_floats s.floats + 3 * again) where
@@ -414,6 +414,6 @@ module _ (p : Params) (m : ℕ) (s : State) (total a : ℕ) (stage : Stage) (f :
   unfolding Out.out
   out-high r = outputs (sym (goal-out p f.penalty (Out.output_by p f w0)).refused ∙ r)
 
-  -- each clear that waits stands behind a flat box again
+  -- each clear that waits comes after a flat box again
   pub high-ended : Ended false f.rest → Ended false (Out.out p s f).state.waiting
   high-ended r = out-ended p big s total a any (phase_of stage) f calm tt at floats big-weight big-bound well r

@@ -1,4 +1,4 @@
--- How many firings without a page a state can still bring, where the top skip is higher than a page.
+-- How many firings without a page a state can still bring, if the top skip is higher than a page.
 use Rattle.std.proofs.Common.{◌≡◌, sym, ap, subst, ℕ, ◌+◌, ◌*◌, ◌≤◌, Bool, true, false, List, ◌++◌, arith}
 use Rattle.std.specs.List.{AllByRecursion}
 use Rattle.tb_node.specs.Plain.{PlainNode}
@@ -30,7 +30,7 @@ stage_cost cleared = 2
 stage_cost right = 1
 stage_cost last = 0
 
--- the page is as high as it can be, and before each clear that waits stands a node that lasts at its top
+-- the page is as high as it can be, and before each clear that waits is a node that lasts at its top
 pub record Guarded (p : Params) (s : State) : Type 0 where
   pub goal : s.goal ≡ p.textheight
   pub spaced : Spaced false s.waiting

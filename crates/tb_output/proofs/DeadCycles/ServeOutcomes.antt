@@ -41,7 +41,7 @@ AllCurrent P (entries.Float f ∷ es) = P f × AllCurrent P es
 AllCurrent P (entries.Left m ∷ es) = AllCurrent P es
 AllCurrent P (entries.Right m ∷ es) = AllCurrent P es
 
--- the floats that were taken and stand in no column or text yet
+-- the floats that were taken and are in no column or text yet
 abbrev pub way_floats : FloatLists → ℕ
 way_floats l = waiting_floats l + current_floats l.current
 
@@ -268,7 +268,7 @@ module _ (P : Float → Type 0) (topped : (f : Float) → P f → P (Text.with_t
   served-first vert height depth page_height (entries.Right m ∷ es) w e = served-interline w
   served-first vert height depth page_height [] w e = served-interline w
 
-  -- the list so far and the footnotes go back, and served-then the float or note goes to its place
+  -- the list so far and the footnotes go back, and then the float or note goes to its place
   pub served : (vert : Bool) (body : List PlainNode) (w : Work) → wait_cost (w.state.held_page ++ Text.without_firing_box body) ≡ 0 → Served P (record w { state = record w.state { held_page = []; boxes = Columns.emptied_boxes w.state.boxes } }) (Text.float_or_note p vert body w)
   served vert body w h =
       let ns = w.state.held_page ++ Text.without_firing_box body in

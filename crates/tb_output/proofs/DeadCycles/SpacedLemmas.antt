@@ -1,4 +1,4 @@
--- Between one clear and the next stands a mark, note or whatsit, which lasts at the top of a page.
+-- Between one clear and the next is a mark, note or whatsit, which lasts at the top of a page.
 use Rattle.std.proofs.Common.{◌≡◌, refl, subst, ℕ, ℤ, Bool, true, false, ◌+◌, List, [], ◌∷◌, ◌++◌, arith}
 use Rattle.std.specs.Prelude.{if◌then◌else◌}
 use Rattle.std.proofs.lemmas.List.{append-nil}
@@ -22,7 +22,7 @@ seen_lasting b (plain whatsit) = true
 seen_lasting b (ins i) = b
 seen_lasting b (act a) = b
 
--- each clear of the list has such a node before it and behind the clear before; the flag says whether one stands before the list
+-- each clear of the list has such a node before it and after the clear before; the flag says whether one comes before the list
 abbrev pub Spaced : Bool → List PlainNode → Type 0
 Spaced b [] = Unit {0}
 Spaced b (n ∷ ns) = EndsAt b n.kind × Spaced (seen_lasting b n.kind) ns
@@ -99,13 +99,13 @@ pub spaced-pruned : (t : ℤ) (b : Bool) (ns : List PlainNode) → Spaced b ns �
 spaced-pruned t b [] s = tt
 spaced-pruned t b (n ∷ ns) s = pruned-kind t ns (λ c g. spaced-pruned t c ns g) b n.line n.kind s.0 s.1
 
--- ---- what is behind a front
+-- ---- what comes after a front
 
 pub spaced-behind : (b : Bool) (xs ys : List PlainNode) → Spaced b (xs ++ ys) → Spaced true ys
 spaced-behind b [] ys s = spaced-true b ys s
 spaced-behind b (x ∷ xs) ys s = spaced-behind (seen_lasting b x.kind) xs ys s.1
 
--- the break node is no clear any more; behind a clear the flag is down
+-- the break node is no clear any more; after a clear the flag is down
 spent-kind : (l : ℕ) (k : PlainKind) (b : Bool) (ns : List PlainNode) → Spaced (seen_lasting b k) ns → Spaced true (with_spent_break (record { line = l; kind = k } ∷ ns))
 spent-kind l (plain (hbox w h d)) b ns e = (tt, spaced-true b ns e)
 spent-kind l (plain (rule name h d)) b ns e = (tt, spaced-true b ns e)
@@ -175,7 +175,7 @@ free-spaced b (x ∷ xs) ys e s =
 pub free-alone : (b : Bool) (xs : List PlainNode) → wait_cost xs ≡ 0 → Spaced b xs
 free-alone b xs e = subst (Spaced b) (append-nil xs) (free-spaced b xs [] e tt)
 
--- ---- without its acts a front leaves the same behind it
+-- ---- without its acts a front leaves the same after it
 
 acts-kind : (l : ℕ) (k : PlainKind) (b : Bool) (ns ys : List PlainNode) → ((c : Bool) → Spaced c (ns ++ ys) → Spaced c (without_acts ns ++ ys)) → EndsAt b k → Spaced (seen_lasting b k) (ns ++ ys) → Spaced b (without_acts (record { line = l; kind = k } ∷ ns) ++ ys)
 acts-kind l (plain x) b ns ys h e g = (e, h (seen_lasting b (plain x)) g)

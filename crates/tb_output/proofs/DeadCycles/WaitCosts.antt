@@ -153,7 +153,7 @@ spent-cost : (ns : List PlainNode) → wait_cost (with_spent_break ns) + sort_co
 spent-cost [] = refl
 spent-cost (n ∷ ns) = spent-kind n.line n.kind ns
 
--- what is left behind the break, the break itself and the acts that were reached cost no more than all that waited
+-- what is left after the break, the break itself and the acts that were reached cost no more than all that waited
 pub page-cost : (t : ℤ) (ns : List PlainNode) (w : Reach) (k : ℕ) → CutAt [] (pruned_nodes t ns) w → wait_cost (with_spent_break (drop k w.passed ++ w.beyond)) + sort_cost (pen_sort (penalty_at (drop k w.passed ++ w.beyond))) + acts_cost (acted_of w.reached) ≤ wait_cost ns
 page-cost t ns w k h =
     sums (wait_cost ns) (wait_cost (pruned_nodes t ns)) (wait_cost (h.front ++ w.beyond)) (wait_cost h.front) (wait_cost w.beyond) (wait_cost (without_acts h.front)) (wait_cost w.passed) (wait_cost (drop k w.passed)) (wait_cost (drop k w.passed ++ w.beyond)) (wait_cost (with_spent_break (drop k w.passed ++ w.beyond))) (sort_cost (pen_sort (penalty_at (drop k w.passed ++ w.beyond)))) (acts_cost (acts_of h.front)) (acts_cost (acted_of w.reached))

@@ -82,7 +82,7 @@ keeps-faulted e body m now b later store new h = record { machine = faulted-mach
 pub keeps-untouched : (body : ℕ) (m : MachineView) (b : Builder) (store : Lists Node) → IsMachine m store → IsSound b store → KeepsAll body m m b b store store
 keeps-untouched body m b store is sound = record { machine = is; builder = sound; frame = λ q live none. (refl, none.1); params = refl; classes = refl }
 
--- ---- why no firing is begun
+-- ---- why no firing begins
 
 refusal-by : (m : MachineView) (o : Option RunFault) (t : Bool) → is_some o ≡ false → int_lt (pos m.dead_cycles) m.params.maxdeadcycles ≡ t → (if t then None else Some (faults.DeadCycles m.dead_cycles)) ≡ fault_or_cycles m o
 refusal-by m None t none e = ap (λ x. if x then None else Some (faults.DeadCycles m.dead_cycles)) (sym e)
@@ -95,7 +95,7 @@ refusal-is m t fault n limit same count most none e =
     ap (λ k. if t then None else Some (faults.DeadCycles k)) count
     ∙ refusal-by m m.fault t (ap is_some (sym same) ∙ none) ((λ i. int_lt (pos (sym count i)) (sym most i)) ∙ e)
 
--- a firing that is begun
+-- a firing that begins
 pub record IsBegun (m : MachineView) : Type 0 where
   pub fault : m.fault ≡ None
   pub alive : pos m.dead_cycles <ℤ m.params.maxdeadcycles

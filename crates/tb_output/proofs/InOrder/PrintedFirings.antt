@@ -41,7 +41,7 @@ Fits w = ColumnsFit w.state.two_columns w.state.first_column w.state.left_column
 abbrev pub WorkPlain : Work → Type 0
 WorkPlain w = SentPlain w.sent × LeftPlain w.state.left_column
 
--- where the second is not refused, the first is not; and the second shows what the first does and these lines behind it; its columns fit, and it has no insertions and acts, where the first is so
+-- if the second is not refused, the first is not; and the second shows what the first does and these lines after it; its columns fit, and it has no insertions and acts, if the first is so
 pub record Prints (t : List ℕ) (a c : Work) : Type 0 where
   pub goes : c.refused ≡ false → a.refused ≡ false
   pub fit : Fits a → Fits c

@@ -1,4 +1,4 @@
--- After a firing the boxes and rules of the galley stand in their order in what was sent, what is kept, and what waits.
+-- After a firing the boxes and rules of the galley are in their order in what was sent, what is kept, and what waits.
 use Rattle.std.proofs.Common.{◌≡◌, refl, sym, ◌∙◌, ap, subst, ℕ, ℤ, Bool, true, false, List, [], ◌∷◌, ◌++◌, length, append-nil, append_assoc}
 use Rattle.std.specs.Prelude.{int_le, ◌||◌, ◌&&◌, not, if◌then◌else◌}
 use Rattle.std.specs.List.{AllByRecursion}
@@ -145,7 +145,7 @@ clear_by-prints p body w (n ∷ notes) s fit =
 
 -- ---- a firing
 
--- what was shown, the held page and the page's list stand in what is shown, the held page and what is put back
+-- what was shown, the held page and the page's list are in what is shown, the held page and what is put back
 pub record Reads (f : Fired) (w c : Work) : Type 0 where
   pub goes : c.refused ≡ false → w.refused ≡ false
   pub fit : Fits w → Fits c
@@ -169,7 +169,7 @@ module _ (p : Params) (calm : int_le p.interlinepenalty eject_penalty ≡ false)
   no-page : b ≡ false → prints w.state.held_page ≡ []
   no-page e = ap prints (free e)
 
-  -- a step that shows some lines of the page's list, where that is all
+  -- a step that shows some lines of the page's list, if that is all
   shows-all : (t : List ℕ) (c : Work) → Prints t w c → Within ((shown w ++ prints w.state.held_page) ++ prints f.body) (shown w ++ t) → Reads f w c
   shows-all t c x h = record {
     goes = x.goes;
@@ -178,7 +178,7 @@ module _ (p : Params) (calm : int_le p.interlinepenalty eject_penalty ≡ false)
     plain = x.plain;
   }
 
-  -- a step that shows nothing of the page's list, where that shows nothing
+  -- a step that shows nothing of the page's list, if that shows nothing
   shows-none : (c : Work) → Prints [] w c → prints f.body ≡ [] → Within (prints w.state.held_page) (prints c.state.held_page ++ prints c.put_back) → Reads f w c
   shows-none c x e h = record {
     goes = x.goes;

@@ -106,7 +106,7 @@ module _ (p : Params) (store : Lists Node) where
   again-sized [] = All-nil IsSizedNode
   again-sized (n ∷ ns) = All-cons IsSizedNode _ (insertions_again p store ns) tt (again-sized ns)
 
-  -- what they show in a store that holds their lists still
+  -- what they show in a store that still holds their lists
   pub again-shown : (new : Lists Node) (ns : List NoteBox) → AllByRecursion (Stands store new) (note_lists ns) → map (plain_of (list_at new)) (insertions_again p store ns) ≡ notes_nodes p (notes_shown store ns)
   again-shown new [] h = refl
   again-shown new (n ∷ ns) h =

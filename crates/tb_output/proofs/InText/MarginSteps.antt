@@ -57,7 +57,7 @@ continues-note_rest p depth note at w =
 
 -- ---- step by step
 
--- its boxes left the pool, and the notes of the column reach down further; it was warned of, and it stands beside the text
+-- its boxes left the pool, and the notes of the column reach down further; it was warned of, and it is beside the text
 module _ (l : ℕ) (m : MachineView) (store : Lists Node) (is : IsMachine m store) (back : IsBack l m store) (z : TextSize) (note : Margin) (at : Placed) (place : at ≡ placed_note m.params m.page m.two_columns m.first_column z.height m.note_bottom note) where
   abbrev set_step : Work → Work
   set_step w = with_note_bottom at.bottom (with_floats (without_note w.state.floats) w)

@@ -53,7 +53,7 @@ use Rattle.tb_output.proofs.Acts.WarnLemmas.{shown-joined}
 use Rattle.tb_output.proofs.StepLaws.WorkSteps.{continues-same, continues-puts, continues-float_goes, continues-note_goes}
 use Rattle.tb_output.proofs.Working.StepLemmas.{Done, Cut, keeps-on, done-then, then-cut, cut-short, no-room, done-same, done-puts, done-warned, moved-keeps, moved-shows}
 
--- ---- a penalty between the lines
+-- ---- the interline penalty
 
 negated-dimension : (z : ℤ) → IsDimension z → IsDimension (neg_ℤ z)
 negated-dimension z h = record { low = omega (arith, ints, h.high); high = omega (arith, ints, h.low) }
@@ -156,7 +156,7 @@ note-done l m store new depth note at is back extent grown =
 -- ---- floats that moved
 
 module _ (l : ℕ) (m now : MachineView) (store : Lists Node) (is : IsMachine m store) (back : IsBack l m store) where
-  -- the first float stands in a column
+  -- the first float is in a column
   pub area-done : (to : Part) (f : Float) → IsColumnPart to → HasFloats (joined_to (place_of to) f (without_first m.pool.lists)) m now → Done l m now store store (λ w. place_float m.params (place_of to) f (without_first w.state.floats) w)
   area-done parts.Current f c h = absurd c
   area-done parts.Here f c h = record {
@@ -224,7 +224,7 @@ moved-size parts.Deferred f v c = refl
 moved-size parts.Double f v c = absurd c
 moved-size parts.Second f v c = absurd c
 
--- as many boxes live
+-- as many boxes are live
 joined-count : (to : Part) (f : Float) (l : FloatLists) (e : Entry) → IsColumnPart to → slice_get l.current 0 ≡ Some e → live_count (joined_to (place_of to) f (without_first l)) ≡ live_count l
 joined-count parts.Current f l e c h = absurd c
 joined-count parts.Here f l e c h = omega (arith, first-length l.current e h, length-append l.here (f ∷ []))
@@ -298,7 +298,7 @@ area-column parts.Deferred c = absurd c
 area-column parts.Double c = absurd c
 area-column parts.Second c = absurd c
 
--- where the float goes, the penalty comes after it
+-- the float goes to its area, and the penalty comes after it
 pub area-places : (to : Part) (p : Params) (vert : Bool) (f : Float) (w : Work) → IsAreaPart to → puts_interline p (place_float p (place_of to) f (without_first w.state.floats) w) ≡ float_placed p vert f (place_of to) w
 area-places parts.Current p vert f w c = absurd c
 area-places parts.Here p vert f w c = absurd c
@@ -312,7 +312,7 @@ set-first : (es : List Entry) (e d : Entry) → slice_get es 0 ≡ Some d → (s
 set-first [] e d h = let none : None ≡ Some d = h in absurd cc
 set-first (x ∷ es) e d h = (refl, refl)
 
--- the first float may stand at the top from now on, and waits
+-- the first float may go to the top from now on, and waits
 pub warned-first : (m mid : MachineView) (f : Float) (w : Warn) → slice_get m.pool.lists.current 0 ≡ Some (entries.Float f) → mid ≡ with_warning w m → slice_get mid.pool.lists.current 0 ≡ Some (entries.Float f)
 warned-first m mid f w there e = ap (λ (x : MachineView). slice_get x.pool.lists.current 0) e ∙ there
 
@@ -394,7 +394,7 @@ pub note-same : (l : ℕ) (m : MachineView) (store : Lists Node) (z : TextSize) 
 note-same l m store z note at e before w h =
     ap (note_goes m.params z.depth note (without_note w.state.floats) w) (e ∙ (λ i. placed_note m.params (h.0.state i).page (h.0.state i).two_columns (h.0.state i).first_column z.height (h.0.state i).note_bottom note))
 
--- ---- the penalty between the lines comes after a step
+-- ---- the interline penalty comes after a step
 
 module _ (l : ℕ) (m mid now : MachineView) (store middle new : Lists Node) (f : Work → Work) (x : Done l m mid store middle f) where
   pub then-interline : Does (shows_back l mid middle) (shows_back l now new) (puts_interline mid.params) → Does (shows_back l m store) (shows_back l now new) (λ w. puts_interline m.params (f w))

@@ -106,7 +106,7 @@ double-joins p l s before f = if_both StaysOrJoins _ places.Double places.Deferr
 
 -- ---- the lists in which floats wait
 
--- the current list stays where another one changes
+-- the current list stays when another one changes
 current-with : (from : Part) → IsWaiting from → (fs : List Float) (l : FloatLists) → (with_floats_of from fs l).current ≡ l.current
 current-with parts.Current h fs l = absurd h
 current-with parts.Here h fs l = absurd h

@@ -28,7 +28,7 @@ entries_weight v (entries.Float f ∷ es) = v.float f.line + entries_weight v es
 entries_weight v (entries.Left m ∷ es) = v.margin m.line + entries_weight v es
 entries_weight v (entries.Right m ∷ es) = entries_weight v es
 
--- a float of the here list stands in the text as a box, which weighs
+-- a float of the here list is in the text as a box, which weighs
 abbrev pub lists_weight : Weight → FloatLists → ℕ
 lists_weight v l = entries_weight v l.current + floats_weight v l.top + floats_weight v l.bottom + floats_weight v l.deferred + floats_weight v l.double + floats_weight v l.second
 
@@ -82,7 +82,7 @@ ColumnsFit true false None = ⊥
 ColumnsFit true false (Some c) = Unit {0}
 ColumnsFit false false o = ⊥
 
--- the two boxes of a note stand side by side
+-- the two boxes of a note are side by side
 abbrev pub Paired : List Entry → Type 0
 Paired [] = Unit {0}
 Paired (entries.Float f ∷ es) = Paired es
@@ -97,7 +97,7 @@ pub record Sound (s : State) : Type 0 where
   pub columns : ColumnsFit s.two_columns s.first_column s.left_column
   pub entries : Paired s.floats.current
 
--- the nodes that wait and the classes are kept; where the second is not refused, the first is not; and the second is then sound where the first is, and weighs so much more
+-- the nodes that wait and the classes are kept; if the second is not refused, the first is not; and the second is then sound if the first is, and weighs so much more
 pub record Adds (v : Weight) (n : ℕ) (a b : Work) : Type 0 where
   pub waits : b.state.waiting ≡ a.state.waiting
   pub classes : b.state.classes ≡ a.state.classes
@@ -117,7 +117,7 @@ added v i j a b c x y = record { waits = y.waits ∙ x.waits; classes = y.classe
         sums : (x y z : ℕ) → y ≡ x + i → z ≡ y + j → z ≡ x + (i + j)
         sums x y z d e = omega arith
 
--- the same, where one of the two adds nothing
+-- the same, if one of the two adds nothing
 pub then_kept : (v : Weight) (n : ℕ) (a b c : Work) → Adds v n a b → Adds v 0 b c → Adds v n a c
 then_kept v n a b c x y = let h : Adds v (n + 0) a c = added v n 0 a b c x y in rw (same-sum n) at h
   where

@@ -91,7 +91,7 @@ clear_floats-adds v p body w =
     (then_kept v 0 a b (Clear.clear_rest c) (float_columns-adds v p true (length a.state.floats.deferred) a)
     (then_kept v 0 b c (Clear.clear_rest c) (clear_wide-adds v p b) (adds_if v 0 c (has_floats c.state.floats.deferred || has_floats c.state.floats.second) (puts Clear.clear_again c) c (again-adds v c) (unchanged v c)))))
 
--- the list of the page, where it weighs nothing or there are footnotes
+-- the list of the page, if it weighs nothing or there are footnotes
 clear_by-adds : (v : Weight) (p : Params) (body : List PlainNode) (w : Work) (o : List Notes) → nodes_weight v body ≡ 0 → Adds v 0 w (Clear.clear_by p body w o)
 clear_by-adds v p body w [] h =
     let x : Adds v (nodes_weight v (Clear.cleared_front p body)) w (Clear.clear_floats p body w) = clear_floats-adds v p body w in
@@ -135,7 +135,7 @@ goal-adds v p n w = adds_if v 0 w (Out.is_int n Out.hold_penalty) (Out.with_goal
 abbrev pub is_serving : ℤ → Bool
 is_serving n = Out.is_int n Out.clear_penalty || (Out.is_int n Out.par_penalty || Out.is_int n Out.vert_penalty)
 
--- what has to weigh nothing at a firing, by the penalty of its break: the page's list at a clear, a float or a note, and the held page where it is replaced
+-- what has to weigh nothing at a firing, by the penalty of its break: the page's list at a clear, a float or a note, and the held page if it is replaced
 pub record Careful (v : Weight) (held : List PlainNode) (f : Fired) : Type 0 where
   pub list : int_le eject_penalty f.penalty ≡ false → is_serving f.penalty ≡ true → nodes_weight v f.body ≡ 0
   pub page : int_le eject_penalty f.penalty ≡ false → is_serving f.penalty ≡ false → nodes_weight v held ≡ 0

@@ -21,7 +21,7 @@ use Rattle.tb_output.specs.Place
 use Rattle.tb_output.specs.Ship
 use Rattle.tb_output.specs.Columns
 
--- the floats that wait for a place or a column; those in the text stand there as boxes
+-- the floats that wait for a place or a column; those in the text are there as boxes
 abbrev pub waiting_floats : FloatLists → ℕ
 waiting_floats l = length l.top + length l.bottom + length l.deferred + length l.double + length l.second
 
@@ -33,7 +33,7 @@ pub record AllWait (P : Float → Type 0) (l : FloatLists) : Type 0 where
   pub double : AllByRecursion P l.double
   pub second : AllByRecursion P l.second
 
--- a step that is not refused: no float comes, all that held of the floats holds still, a page sets the dead cycles to 0, and the rest stays
+-- a step that is not refused: no float comes, all that held of the floats still holds, a page sets the dead cycles to 0, and the rest stays
 pub record Follows (P : Float → Type 0) (a b : Work) : Type 0 where
   pub goes : b.refused ≡ false → a.refused ≡ false
   pub columns : b.state.two_columns ≡ a.state.two_columns
@@ -173,7 +173,7 @@ module _ (P : Float → Type 0) where
 
   -- ---- the list in which floats wait
 
-  -- other floats stand in it
+  -- other floats are in it
   pub part-count : (from : Part) → IsWaiting from → (gs : List Float) (l : FloatLists) → waiting_floats (with_floats_of from gs l) + length (floats_of from l) ≡ waiting_floats l + length gs
   part-count parts.Current q gs l = absurd q
   part-count parts.Here q gs l = absurd q

@@ -130,7 +130,7 @@ pub record SameAreas (l m : FloatLists) : Type 0 where
   pub top : m.top ≡ l.top
   pub bottom : m.bottom ≡ l.bottom
 
--- where floats of a list wait that is none of these areas
+-- if other floats wait in a list that is none of these areas
 waiting-same : (from : Part) → IsWaiting from → (fs : List Float) (l : FloatLists) → SameAreas l (with_floats_of from fs l)
 waiting-same parts.Current i fs l = absurd i
 waiting-same parts.Here i fs l = absurd i
@@ -197,7 +197,7 @@ fill-same p s l = filled-same p s [] l.deferred l
 -- ---- what holds of all deferred floats
 
 module _ (P : Float → Type 0) where
-  -- ---- of the areas where a column is filled
+  -- ---- of the areas when a column is filled
 
   pub record AllAreas (l : FloatLists) : Type 0 where
     pub top : AllByRecursion P l.top
@@ -232,7 +232,7 @@ module _ (P : Float → Type 0) where
   pub fill-areas : (p : Params) (s : Suppress) (l : FloatLists) → AllAreas l → AllAreas (filled p s [] l.deferred l)
   fill-areas p s l h = filled-areas p s [] l.deferred l refl h
 
-  -- ---- of what stays where the space above two columns is filled
+  -- ---- of what stays when the space above two columns is filled
 
   gone-double-waiting : (from : Part) → IsWaiting from → (b : Bool) (f : Float) (before rest : List Float) (l : FloatLists) → floats_of from l ≡ before ++ f ∷ rest → floats_of from (gone_double from b f before rest l) ≡ still_single b f before ++ rest
   gone-double-waiting from i true f before rest l e = floats-with from i (before ++ rest) (record l { double = l.double ++ f ∷ [] })

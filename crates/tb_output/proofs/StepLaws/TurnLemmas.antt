@@ -12,7 +12,7 @@ use Rattle.tb_output.specs.Firing.{page_work}
 use Rattle.tb_output.proofs.StepLaws.ColumnSteps.{RecordLaw, no_law, course, ColumnStep, still, in_turn, sends_one, records_one, ships_one}
 use Rattle.tb_output.proofs.StepLaws.FiringSteps.{FiringStep, by_columns, changes, afterwards, page_work-step}
 
--- the page number and the dead cycles are as before; or the page number rose, to at most one more than there may be pages, and there are no dead cycles
+-- the page number and the dead cycles are as before; or the page number rose, to at most one more than the pages allowed, and there are no dead cycles
 abbrev pub Counts : Params → State → State → Type 0
 Counts p s t = (t.page ≡ s.page × t.dead_cycles ≡ s.dead_cycles) ⊎ (s.page < t.page × t.page ≤ nat_abs p.maxpages + 1 × t.dead_cycles ≡ 0)
 

@@ -29,7 +29,7 @@ pub record DoubleFits (s : State) : Type 0 where
   pub wide : AllByRecursion Wide s.floats.double
   pub none : s.two_columns ≡ false → s.floats.double ≡ []
 
--- after the step they are so, where they were before
+-- after the step they are so, if they were before
 pub record KeepsDouble (a b : Work) : Type 0 where
   pub by : DoubleFits a.state → DoubleFits b.state
   pub columns : b.state.two_columns ≡ a.state.two_columns

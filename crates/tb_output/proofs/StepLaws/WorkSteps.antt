@@ -234,7 +234,7 @@ pub out-is : (p : Params) (s : State) (f : Fired) → Out.out p s f ≡ Out.wait
 unfolding page_work Out.out
 out-is p s f = refl
 
--- a firing sends what its work sends, is refused where that is, and keeps the classes
+-- a firing sends what its work sends, is refused if that is, and keeps the classes
 pub continues-out : (p : Params) (s : State) (f : Fired) → ((Out.out p s f).sent ≡ (page_work p s f).sent) × ((Out.out p s f).refused ≡ (page_work p s f).refused) × ((Out.out p s f).state.page ≡ (page_work p s f).state.page) × ((Out.out p s f).state.classes ≡ s.classes)
 unfolding page_work Out.out
 continues-out p s f = (refl, refl, refl, (continues-page_work p s f).classes)

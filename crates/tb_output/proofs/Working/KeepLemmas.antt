@@ -107,7 +107,7 @@ module _ (store new : Lists Node) (l : ℕ) (e : AllByRecursion (Stands store ne
   pub back-shows : plain_list new l ≡ plain_list store l
   back-shows = ap (map (plain_of (list_at new))) back-list ∙ view_same store new (list_at store l) (all-same store new (inner_ids (list_at store l)) e.1)
 
-  -- and is the list that goes back still, where it is apart from the machine's lists
+  -- and is still the list that goes back, if it is apart from the machine's lists
   pub back-stands : (m now : MachineView) → now.classes ≡ m.classes → AreDistinct (machine_lists now) → AreNoneOf (back_lists store l) (machine_lists now) → IsBack l m store → IsBack l now new
   back-stands m now classes distinct apart h = record {
     live = live-same store new l e.0 h.live;
@@ -226,7 +226,7 @@ module _ (l : ℕ) (ns : List Node) (args : List ℕ) (m : MachineView) (store n
   grown-live : IsLive new l
   grown-live = subst (λ (o : Option (List Node)). IsSome o) (sym grown.list) refl
 
-  -- the other lists stand
+  -- the other lists are as they were
   grown-stand : (ls : List ℕ) → IsNoneOf l ls → AreNoneOf ls args → AllByRecursion (Stands store new) ls
   grown-stand [] none away = tt
   grown-stand (q ∷ ls) none away = (grown.others q none.0 away.0, grown-stand ls none.1 away.1)
@@ -246,7 +246,7 @@ module _ (l : ℕ) (ns : List Node) (args : List ℕ) (m : MachineView) (store n
       grown-stand (inner_ids (list_at store l)) (none-front l (inner_ids (list_at store l)) (machine_lists m) h.apart.0)
       (all-front (λ q. IsNoneOf q args) (inner_ids (list_at store l)) (machine_lists m) apart)
 
-  -- the nodes stand after those that it showed
+  -- the nodes come after those that it showed
   pub grown-shows : AreLeaves ns → plain_list new l ≡ plain_list store l ++ map (plain_of (list_at store)) ns
   grown-shows leaves =
       ap (map (plain_of (list_at new))) grown-list

@@ -19,7 +19,7 @@ pub same-err : {T E : Type 0} (r : Result T E) (e : E) (P : E → Type 0) → Is
 same-err (Ok x) e P h p = tt
 same-err (Err x) e P h p = subst P (sym h) p
 
--- what follows from what holds of an answer
+-- what follows from what holds of a result
 pub ok-map : {T E : Type 0} (r : Result T E) (A B : Type 0) → (A → B) → OnOk r A → OnOk r B
 ok-map (Ok x) A B f h = f h
 ok-map (Err e) A B f h = tt

@@ -60,7 +60,7 @@ pub leaves-shown : (f g : ℕ → List Node) (ns : List Node) → AreLeaves ns �
 leaves-shown f g [] h = refl
 leaves-shown f g (n ∷ ns) h = λ i. record { line = n.line; kind = kind-held f g n.kind h.0 i } ∷ leaves-shown f g ns h.1 i
 
--- ---- lists that stand as they were
+-- ---- lists that are as they were
 
 abbrev column_with : Column → List PlainNode → PlainColumn
 column_with c ns = record { kind = c.kind; nodes = ns; set = c.set }

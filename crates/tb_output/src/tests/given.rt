@@ -37,7 +37,7 @@ const PAGE: [(&str, Value); 8] = [
     ("pool", Value::Int(3)),
 ];
 
-// The parameters of these pages, with glue of width 3 about a float in the text and of width 4 between paragraphs.
+// The parameters of these pages, with glue of width 3 around a float in the text and of width 4 between paragraphs.
 pub(super) fn params() -> Result<Params, Fail>
     ensures { IfOk result (λ p. IsTrue (are_params p)) }
 {
@@ -53,7 +53,7 @@ pub(super) fn params() -> Result<Params, Fail>
     Ok(p)
 }
 
-// The same, where this one has another value.
+// The same, but this one has another value.
 pub(super) fn params_with(name: &str, value: Value) -> Result<Params, Fail>
     ensures { IfOk result (λ p. IsTrue (are_params p)) }
 {

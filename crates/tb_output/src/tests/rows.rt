@@ -1,4 +1,4 @@
-//! What is done in each scene, and what is told then.
+//! What is done in each scene, and what it says then.
 
 use super::steps::Row;
 use super::steps::Step::{
@@ -163,7 +163,7 @@ pub(super) const COLUMNS: &[Row] = &[
     (Event, ""),
 ];
 
-// The second note of a column is moved down under the first; in two columns a note stands on the outer side.
+// The second note of a column is moved down under the first; in two columns a note is on the outer side.
 pub(super) const NOTES: &[Row] = &[
     (Note, ""),
     (Deep(&[10], HOLD_PENALTY), HELD),
@@ -225,7 +225,7 @@ pub(super) const DEAD_CYCLES: &[Row] = &[
     (Event, ""),
 ];
 
-// What was sent before the refused page can still be taken, and each later firing is refused for the same.
+// What was sent before the refused page can still be taken, and each later firing is refused with the same fault.
 pub(super) const LIMIT: &[Row] = &[
     (Take("p", 60), ""),
     (Place(&[10]), "100: g0 b10 p7"),

@@ -182,7 +182,7 @@ fn fired_text(
     }
 }
 
-// Whether a page of this penalty may fire: the notes reach no further down than a firing asks, and little is held.
+// Whether a page of this penalty may fire: the notes reach no further down than a firing allows, and little is held.
 fn is_ready(store: &Lists<Node>, machine: &Machine, penalty: i64) -> bool
     requires { IsScene machine.now store.now }
     ensures { IsTrue result → IsReady machine.now store.now penalty }

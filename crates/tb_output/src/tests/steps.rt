@@ -1,4 +1,4 @@
-//! Steps of a scene, each with what it is to tell.
+//! Steps of a scene, each with what it is to say.
 
 ghost use Rattle.std.specs.Prelude.{IsTrue};
 ghost use Rattle.tb_param.specs.Ranges.{are_params};
@@ -42,7 +42,7 @@ pub(super) enum Step {
 
 pub(super) type Row = (Step, &'static str);
 
-// Does the steps in a new scene; each tells what its row says.
+// Does the steps in a new scene; each says what its row says.
 pub(super) fn run(rt: &impl Abort, alloc: Global, p: &Params, rows: &[Row]) -> Result<(), Fail>
     requires { IsTrue (are_params p.now) }
 {

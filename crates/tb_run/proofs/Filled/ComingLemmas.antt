@@ -67,7 +67,7 @@ module _ (p : Params) (s : State) where
   abbrev pub whole_nodes : Contents → List PlainNode
   whole_nodes c = if c.stopped then c.page ++ c.waiting else laid c ask
 
-  -- so much was reached, and the state is that after it: the builder has the rest of the page before it
+  -- this much was reached, and the state is that after it: the builder has the rest of the page before it
   pub record IsComing (rs : List Reached) (c : Contents) (t : State) : Type 0 where
     pub goes : c.stopped ≡ false → HasCome w rs c ask
     pub stops : c.stopped ≡ true → HasStopped w rs c ask

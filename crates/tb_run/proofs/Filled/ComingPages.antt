@@ -149,7 +149,7 @@ module _ (p : Params) (s : State) (runs : AreRunnable p) (classes : AreRunClasse
       rest-served : AllByRecursion (λ n. IsServable s.classes n.kind) (drop k c.page ++ c.waiting)
       rest-served = every-append (λ (n : PlainNode). IsServable s.classes n.kind) (drop k c.page) c.waiting (every-drop (λ (n : PlainNode). IsServable s.classes n.kind) k c.page page-served) waiting-served
 
-      -- its penalty is none below those of the routine
+      -- its penalty is not below those of the routine
       pub fired-mild : hold_penalty ≤ℤ f.penalty
       fired-mild = subst (λ (g : Fired). hold_penalty ≤ℤ g.penalty) (sym is) (mild-break s.classes (drop k c.page ++ c.waiting) rest-served)
 

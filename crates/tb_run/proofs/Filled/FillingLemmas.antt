@@ -69,7 +69,7 @@ taken-whole q w = record { builder = w.builder; machine = taken-machine q.machin
 abbrev pub state_now : Routine → Routine → State
 state_now r q = state_shown q.store (state_of r).boxes (state_of r).waiting q.machine
 
--- so much of the page was reached, and these are its happenings
+-- this much of the page was reached, and these are its happenings
 pub record IsUnderway (wanted : Bool) (r q : Routine) (hs : List Happening) : Type 0 where
   pub rs : List Reached
   pub coming : IsComing r.machine.params (state_of r) rs (held_in q) (state_now r q)

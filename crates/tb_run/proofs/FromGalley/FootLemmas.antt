@@ -1,5 +1,5 @@
 -- The list of a footnote.
-use Rattle.std.proofs.Common.{◌≡◌, ◌≢◌, refl, sym, subst, ◌∙◌, ap, ℕ, ◌+◌, ◌<◌, ℤ, true, List, [], ◌∷◌, ◌++◌, length, map, take, get_or, None, Some, append-nil, arith}
+use Rattle.std.proofs.Common.{◌≡◌, ◌≢◌, refl, sym, subst, ◌∙◌, ap, ℕ, ◌+◌, ◌*◌, ◌<◌, ◌≤◌, ℤ, true, List, [], ◌∷◌, ◌++◌, length, map, take, get_or, None, Some, append-nil, arith}
 use Rattle.std.specs.Prelude.{◌+ℤ◌, ◌-ℤ◌}
 use Rattle.std.specs.FinMap.{get}
 use Rattle.std.proofs.lemmas.Int.{ints}
@@ -13,6 +13,10 @@ use Rattle.tb_node.specs.declared.Insertion.{Insertion}
 use Rattle.tb_node.specs.declared.Kind.TheVariants as kinds
 use Rattle.tb_node.specs.Plain.{matter_shape, matter_of, leaf_of, leaf_shape, shape_of, shape_of_kind, ins, plain_of, on_line}
 use Rattle.tb_node.specs.Sums.{size_of}
+use Rattle.tb_node.specs.Shape.{Shape}
+use Rattle.tb_node.specs.Small.{IsAmount}
+use Rattle.tb_node.specs.Fit.{IsSummable}
+use Rattle.tb_node.proofs.FitLemmas.{IsWithin, size_within}
 use Rattle.tb_param.specs.declared.Params.{Params}
 use Rattle.tb_builder.specs.declared.Builder.{Builder}
 use Rattle.tb_builder.specs.Contents.{contents_of}
@@ -38,9 +42,12 @@ leaf-added s t u l ls i x within is so_far put =
 pub no-leaf : (s : Lists Node) (l : ℕ) → IsLive s l → s.lists ≡ with_list s l (list_at s l ++ [])
 no-leaf s l live = with_list-same s s l live refl ∙ ap (with_list s l) (sym (append-nil (list_at s l)))
 
--- total and depth are the size
-pub sum-size : (total depth size d : ℤ) → total ≡ size -ℤ d → depth ≡ d → total +ℤ depth ≡ size
-sum-size total depth size d a b = grind (arith, ints, a, b)
+-- the room of a list that can be summed is an amount
+pub room-small : (ns : List Shape) → IsSummable ns → IsAmount (size_of ns)
+room-small ns can = small (length ns) (size_of ns) can.few (size_within ns can.sized)
+  where
+    small : (k : ℕ) (z : ℤ) → k ≤ 8388608 → IsWithin (2147483646 * k) z → IsAmount z
+    small k z few h = record { low = omega (arith, ints, few, h.low); high = omega (arith, ints, few, h.high) }
 
 -- ---- the nodes of the list
 

@@ -15,6 +15,7 @@ use Rattle.tb_builder.specs.Owned.{Lacks, inner_of, inner_ids, ids_of, owned, is
 use Rattle.tb_builder.specs.Running.{IsSound}
 use Rattle.tb_builder.specs.Handed.{NodesJoin, MayWait}
 use Rattle.tb_builder.proofs.Ownership.FrameLemmas.{plain_joins, empty_may_wait}
+use Rattle.tb_builder.proofs.Ownership.SpareLemmas.{contents_still, owned_still, sound_still}
 use Rattle.tb_run.specs.Expanding.{CanTake, Waits, lone}
 
 -- more can be taken afterwards
@@ -36,12 +37,13 @@ waits-then ns ms b s d t e u w x = record {
   apart = λ q live apart. x.apart q (subst IsSome (sym (w.others q live apart)) live) (w.apart q live apart);
 }
 
-pub waits-nothing : (b : Builder) (s : Lists Node) → IsSound b s → Waits [] b s b s
-waits-nothing b s h = record {
-  sound = h;
-  contents = ap (λ xs. record (contents_of b s) { waiting = xs }) (sym (append-nil (contents_of b s).waiting));
-  others = λ q live apart. refl;
-  apart = λ q live apart. apart;
+-- other places of the store are spare
+pub waits-nothing : (b : Builder) (s t : Lists Node) → t.lists ≡ s.lists → IsSound b s → Waits [] b s b t
+waits-nothing b s t same h = record {
+  sound = sound_still s t same b h;
+  contents = contents_still s t same b ∙ ap (λ xs. record (contents_of b s) { waiting = xs }) (sym (append-nil (contents_of b s).waiting));
+  others = λ q live apart. ap (λ m. get m q) same;
+  apart = λ q live apart. subst (Lacks q) (sym (owned_still s t same (ids_of b))) apart;
 }
 
 -- ---- one node
@@ -92,7 +94,7 @@ module _ (b : Builder) (s : Lists Node) (line : ℕ) (k : Kind) (h : CanTake b s
       none : inner_ids (n ∷ []) ≡ []
       none = ap (λ o. option_to_list o ++ []) e
 
--- the same under an answer
+-- the same for an `Ok`
 pub on-ok : {T E : Type 0} {A B : Type 0} (r : Result T E) → (A → B) → OnOk r A → OnOk r B
 on-ok (Ok x) f a = f a
 on-ok (Err e) f a = tt

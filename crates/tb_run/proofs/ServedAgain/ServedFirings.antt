@@ -66,7 +66,7 @@ module _ (cs : List Class) (left : ℕ) where
   kept-if n true c d h k = h
   kept-if n false c d h k = k
 
-  -- the current list may have lost entries, and notes may have begun anew
+  -- the current list may have lost entries, and notes may have begun again
   pub kept-with : (n : ℕ) (w c : Work) → Kept cs left n w → c.put_back ≡ w.put_back → c.state.held_page ≡ w.state.held_page → c.state.boxes ≡ w.state.boxes → Eases w c
       → AllByRecursion IsSizedEntry c.state.floats.current → notes_taken c.state.floats.current ≤ notes_taken w.state.floats.current → Kept cs left n c
   kept-with n w c k back held boxes eases entries fewer = record {

@@ -64,7 +64,7 @@ first-served p cs ns h = record {
   bottom = record { low = omega (arith, ints); high = omega (arith, ints) };
 }
 
-first-count : (p : Params) (cs : List Class) (ns : List PlainNode) → AreGalleyNodes cs ns → held_count (first_state p cs ns) ≤ 4194304
+first-count : (p : Params) (cs : List Class) (ns : List PlainNode) → AreGalleyNodes cs ns → held_count (first_state p cs ns) ≤ 600005
 first-count p cs ns h = let a = h.few in let b = void-count cs in omega (arith, a, b)
 
 -- ---- the routine
@@ -72,7 +72,7 @@ first-count p cs ns h = let a = h.few in let b = void-count cs in omega (arith, 
 module _ (p : Params) (m : MachineView) (t u v : Lists Node) (b d : Builder) (cs : List Class) (ns : List PlainNode) (begins : (waiting : List PlainNode) → state_shown t (void_boxes cs) waiting m ≡ first_state p cs waiting) (machine : IsMachine m t) (params : m.params ≡ p) (classes : m.classes ≡ cs)
     (fault : m.fault ≡ None) (taken : m.events ≡ []) (holds : contents_of b u ≡ nothing_yet cs) (fresh : (q : ℕ) → IsLive t q → Lacks q (owned (ids_of b) u)) (others : (q : ℕ) → IsLive t q → get u.lists q ≡ get t.lists q) (waits : Waits ns b u d v) where
   abbrev begun : Routine
-  begun = record { store = v; builder = d; machine = m; most = 4194304 }
+  begun = record { store = v; builder = d; machine = m; most = 600005 }
 
   lists-stand : (ls : List ℕ) → AllByRecursion (IsLive t) ls → AllByRecursion (Stands t v) ls × AreNoneOf ls (builder_lists d v)
   lists-stand [] live = (tt, tt)
@@ -104,7 +104,7 @@ module _ (p : Params) (m : MachineView) (t u v : Lists Node) (b d : Builder) (cs
       classes = subst AreRunClasses (sym classes) known;
       between = begun-holds ∙ ap between_pages (sym begin-state);
       served = subst (λ (s : State). IsServed s.waiting s) (sym begin-state) (first-served p cs ns nodes);
-      bounded = record { held = subst (λ (s : State). held_count s ≤ 4194304) (sym begin-state) (first-count p cs ns nodes); few = omega arith };
+      bounded = record { held = subst (λ (s : State). held_count s ≤ 600005) (sym begin-state) (first-count p cs ns nodes); few = omega arith };
     };
     events = taken;
   }

@@ -1,4 +1,4 @@
--- The routine stays whole when lists that are none of its own change.
+-- The routine stays whole when lists that are not its own change.
 use Rattle.std.proofs.Common.{◌≡◌, ◌≢◌, sym, subst, ◌∙◌, ap, ℕ, List, [], ◌∷◌, ◌++◌}
 use Rattle.std.specs.List.{AllByRecursion}
 use Rattle.std.specs.FinMap.{get, remove}

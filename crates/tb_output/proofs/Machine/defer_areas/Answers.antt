@@ -6,7 +6,7 @@ use Rattle.tb_output.specs.Keeping.{HasFloats}
 use Rattle.tb_output.proofs.Clears.JoinLemmas.{areas-room, areas-has}
 use Rattle.tb_output.proofs.Machine.defer_areas.Goals as goal
 
--- as many boxes live as before
+-- as many boxes are live as before
 pub invariant_of-self : goal.invariant_of-self
 invariant_of-self c =
     let i = c.self.inside in

@@ -9,7 +9,7 @@ use Rattle.tb_output.proofs.Machine.defer_double.Goals as goal
 pub join_front-requires-clause-apart : goal.join_front-requires-clause-apart
 join_front-requires-clause-apart c = double-apart c.wide_part-to.result c.wide_part-to.ensures.waits
 
--- as many boxes live as before
+-- as many boxes are live as before
 pub invariant_of-self : goal.invariant_of-self
 invariant_of-self c =
     let i = c.self.inside in

@@ -3,7 +3,7 @@ use Rattle.tb_float.specs.Lists.{live_count}
 use Rattle.tb_output.proofs.ColumnPages.FloatMoves.{filled-count, room-stays}
 use Rattle.tb_output.proofs.Machine.fill_column.Goals as goal
 
--- the floats move, and as many boxes live as before
+-- the floats move, and as many boxes are live as before
 pub invariant_of-self : goal.invariant_of-self
 invariant_of-self c =
     let i = c.self.inside in

@@ -46,7 +46,7 @@ pub returns-then-not-branch-clause-keeps : goal.returns-then-not-branch-clause-k
 returns-then-not-branch-clause-keeps c =
     keeps-then [] [] c.args.self.now c.loop-turn.self c.put_out_floats.new.self c.args.store.now c.loop-turn.store c.put_out_floats.new.store c.loop-turn.invariant.keeps c.put_out_floats.ensures.keeps (λ q live none. none)
 
--- as many were made as may be
+-- as many were made as are allowed
 pub returns-clause-ok : goal.returns-clause-ok
 returns-clause-ok c =
     let m = c.args.self.now in

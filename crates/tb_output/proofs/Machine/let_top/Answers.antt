@@ -15,7 +15,7 @@ set_places-requires c =
     let f = c.args.f.now in
     (f, subst (λ (m : MachineView). slice_get m.pool.lists.current 0 ≡ Some (entries.Float f)) (sym c.self.view_is) c.requires)
 
--- as many boxes live as before
+-- as many boxes are live as before
 pub invariant_of-self : goal.invariant_of-self
 invariant_of-self c =
     let i = c.self.inside in

@@ -12,7 +12,7 @@ use Rattle.tb_output.proofs.Machine.move_first.Goals as goal
 pub move_to-requires-clause-apart : goal.move_to-requires-clause-apart
 move_to-requires-clause-apart c = column-apart c.args.to c.requires.column
 
--- the float moves, and as many boxes live as before
+-- the float moves, and as many boxes are live as before
 pub invariant_of-self : goal.invariant_of-self
 invariant_of-self c =
     let i = c.self.inside in

@@ -3,7 +3,7 @@ use Rattle.tb_output.specs.Machine.{MachineView}
 use Rattle.tb_output.specs.Shipping.{IsFull}
 use Rattle.tb_output.proofs.Machine.ship.Goals as goal
 
--- as many pages as may be were shipped
+-- as many pages were shipped as are allowed
 pub returns-then-exceeds-clause-err : goal.returns-then-exceeds-clause-err
 returns-then-exceeds-clause-err c =
     let first : 1 ≤ c.self.inside.page = subst (λ (m : MachineView). 1 ≤ m.page) (sym c.self.view_is) c.requires.first in

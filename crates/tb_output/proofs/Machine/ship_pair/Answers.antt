@@ -22,7 +22,7 @@ use Rattle.tb_output.proofs.Machine.ship_pair.Goals as goal
 pub left-left-requires : goal.left-left-requires
 left-left-requires c = c.requires.machine.left c.requires.second
 
--- memory was lacking for the list of wide floats
+-- there was no memory for the list of wide floats
 pub returns-in_err-tops : goal.returns-in_err-tops
 returns-in_err-tops c =
     let m = c.args.self.now in

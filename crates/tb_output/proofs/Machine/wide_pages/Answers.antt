@@ -48,7 +48,7 @@ pub returns-then-not-branch-clause-keeps : goal.returns-then-not-branch-clause-k
 returns-then-not-branch-clause-keeps c =
     keeps-then [] [] c.args.self.now c.loop-turn.self c.ship_wide.new.self c.args.store.now c.loop-turn.store c.ship_wide.new.store c.loop-turn.invariant.keeps c.ship_wide.ensures.keeps (λ q live none. none)
 
--- as many were made as may be
+-- as many were made as are allowed
 pub returns-clause-ok : goal.returns-clause-ok
 returns-clause-ok c =
     let m = c.args.self.now in

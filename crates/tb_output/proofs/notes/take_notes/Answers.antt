@@ -6,7 +6,7 @@ use Rattle.tb_output.proofs.Firings.ClassesTaken.{TakenSoFar, none-so-far, so-fa
 use Rattle.tb_output.proofs.notes.take_notes.Goals as goal
 use Rattle.tb_output.proofs.notes.take_notes.Goals.{in-Some+in_ok-push, in_default}
 
--- what stands past the end of a list of classes
+-- what comes past the end of a list of classes
 abbrev past : Class
 past = record { number = 0; factor = pos 0; limit = pos 0; skip = record { width = pos 0; stretch = pos 0; order = orders.Normal; shrink = pos 0 } }
 

@@ -1,68 +1,66 @@
-use Rattle.std.proofs.Common.{pos, ◌∙◌, sym, subst, ◌+ℤ◌, ◌≤ℤ◌, arith}
+use Rattle.std.proofs.Common.{◌≡◌, ◌∙◌, sym, subst, ◌+ℤ◌, ◌-ℤ◌, w64, to_z, of_z, rules, arith}
 use Rattle.std.proofs.lemmas.Int.{ints}
 use Rattle.tb_pool.specs.Lists.{list_at}
+use Rattle.tb_scaled.specs.Amount.{IsAmount}
 use Rattle.tb_node.specs.Fit.{IsExtent}
-use Rattle.tb_node.proofs.FitLemmas.{list_nodes_fit, list_sums_fit}
-use Rattle.tb_output.proofs.ColumnPages.SizeLemmas.{are-sums, list-size, page-sum, amount-cast, amount-passed, extent-amount}
+use Rattle.tb_output.proofs.ColumnPages.SizeLemmas.{taken, page-sum, amount-cast, amount-passed, extent-amount}
 use Rattle.tb_output.proofs.texts.text_size.Goals as goal
 
-pub list_sums-sums-requires-clause-nodes : goal.list_sums-sums-requires-clause-nodes
-list_sums-sums-requires-clause-nodes c = list_nodes_fit c.args.store.now c.args.text c.requires.sized
-
-pub list_sums-sums-requires-clause-sums : goal.list_sums-sums-requires-clause-sums
-list_sums-sums-requires-clause-sums c =
-    let low : pos 0 ≤ℤ pos 1073741823 = omega (arith, ints) in
-    list_sums_fit c.args.store.now c.args.text (pos 1073741823) low c.requires.sized c.requires.few
-
-pub sum_of-text-requires-clause-first : goal.sum_of-text-requires-clause-first
-sum_of-text-requires-clause-first c =
-    let s = are-sums (list_at c.args.store.now c.args.text) c.list_sums-sums.result c.requires.sized c.requires.few c.list_sums-sums.ensures in
-    amount-passed c.list_sums-sums.result.total s.total
-
-pub sum_of-text-requires-clause-second : goal.sum_of-text-requires-clause-second
-sum_of-text-requires-clause-second c =
-    let s = are-sums (list_at c.args.store.now c.args.text) c.list_sums-sums.result c.requires.sized c.requires.few c.list_sums-sums.ensures in
-    amount-passed c.list_sums-sums.result.depth (extent-amount c.list_sums-sums.result.depth s.extent)
+pub difference-requires : goal.difference-requires
+difference-requires c =
+    let e = c.list_extent-extent.result in
+    let t = taken (list_at c.args.store.now c.args.text) e.room e.depth c.requires.sized c.requires.few c.list_extent-extent.ensures.room c.list_extent-extent.ensures.depth in
+    let whole : to_z w64 (of_z w64 e.room) -ℤ to_z w64 (of_z w64 e.depth) ≡ e.room -ℤ e.depth = λ i. amount-cast e.room t.small i -ℤ amount-cast e.depth (extent-amount e.depth t.extent) i in
+    let fits = subst IsAmount (sym whole) t.height in
+    search (rules, ints, fits.low, fits.high)
 
 pub sum_of-requires-clause-first : goal.sum_of-requires-clause-first
 sum_of-requires-clause-first c =
-    let ns = list_at c.args.store.now c.args.text in
-    let s = are-sums ns c.list_sums-sums.result c.requires.sized c.requires.few c.list_sums-sums.ensures in
-    amount-passed c.sum_of-text.result (list-size ns c.list_sums-sums.result c.sum_of-text.result c.requires.few s c.sum_of-text.ensures).1
+    let e = c.list_extent-extent.result in
+    let t = taken (list_at c.args.store.now c.args.text) e.room e.depth c.requires.sized c.requires.few c.list_extent-extent.ensures.room c.list_extent-extent.ensures.depth in
+    amount-passed e.room t.small
 
 pub returns-clause-depth : goal.returns-clause-depth
 returns-clause-depth c =
-    let s = are-sums (list_at c.args.store.now c.args.text) c.list_sums-sums.result c.requires.sized c.requires.few c.list_sums-sums.ensures in
-    amount-cast c.list_sums-sums.result.depth (extent-amount c.list_sums-sums.result.depth s.extent) ∙ s.depth
+    let e = c.list_extent-extent.result in
+    let t = taken (list_at c.args.store.now c.args.text) e.room e.depth c.requires.sized c.requires.few c.list_extent-extent.ensures.room c.list_extent-extent.ensures.depth in
+    amount-cast e.depth (extent-amount e.depth t.extent) ∙ c.list_extent-extent.ensures.depth
 
 pub returns-clause-height : goal.returns-clause-height
 returns-clause-height c =
-    let s = are-sums (list_at c.args.store.now c.args.text) c.list_sums-sums.result c.requires.sized c.requires.few c.list_sums-sums.ensures in
-    omega (arith, ints, s.whole, amount-cast c.list_sums-sums.result.total s.total, amount-cast c.list_sums-sums.result.depth (extent-amount c.list_sums-sums.result.depth s.extent))
+    let e = c.list_extent-extent.result in
+    let t = taken (list_at c.args.store.now c.args.text) e.room e.depth c.requires.sized c.requires.few c.list_extent-extent.ensures.room c.list_extent-extent.ensures.depth in
+    let whole : to_z w64 (of_z w64 e.room) -ℤ to_z w64 (of_z w64 e.depth) ≡ e.room -ℤ e.depth = λ i. amount-cast e.room t.small i -ℤ amount-cast e.depth (extent-amount e.depth t.extent) i in
+    let height : c.difference.result ≡ e.room -ℤ e.depth = c.difference.ensures ∙ whole in
+    let small : IsAmount c.difference.result = subst IsAmount (sym height) t.height in
+    amount-cast c.difference.result small ∙ height ∙ (λ i. c.list_extent-extent.ensures.room i -ℤ sym (amount-cast e.depth (extent-amount e.depth t.extent)) i)
 
 pub returns-clause-page : goal.returns-clause-page
 returns-clause-page c =
-    let ns = list_at c.args.store.now c.args.text in
-    let sums = c.list_sums-sums.result in
-    let s = are-sums ns sums c.requires.sized c.requires.few c.list_sums-sums.ensures in
-    let text = list-size ns sums c.sum_of-text.result c.requires.few s c.sum_of-text.ensures in
-    let page = page-sum ns c.sum_of-text.result c.notes_height.result c.sum_of.result c.requires.few text.1 text.2 c.notes_height.ensures.within c.sum_of.ensures in
-    amount-cast c.sum_of.result page.1 ∙ page.0 ∙ (λ i. c.sum_of-text.ensures i +ℤ c.notes_height.ensures.value i)
+    let e = c.list_extent-extent.result in
+    let t = taken (list_at c.args.store.now c.args.text) e.room e.depth c.requires.sized c.requires.few c.list_extent-extent.ensures.room c.list_extent-extent.ensures.depth in
+    let whole : to_z w64 (of_z w64 e.room) -ℤ to_z w64 (of_z w64 e.depth) ≡ e.room -ℤ e.depth = λ i. amount-cast e.room t.small i -ℤ amount-cast e.depth (extent-amount e.depth t.extent) i in
+    let height : c.difference.result ≡ e.room -ℤ e.depth = c.difference.ensures ∙ whole in
+    let small : IsAmount c.difference.result = subst IsAmount (sym height) t.height in
+    let page = page-sum (list_at c.args.store.now c.args.text) e.room c.notes_height.result c.sum_of.result c.requires.few t.small t.within c.notes_height.ensures.within c.sum_of.ensures in
+    let notes = c.notes_height.ensures.value in
+    omega (arith, ints, amount-cast c.sum_of.result page.1, page.0, notes, height, amount-cast c.difference.result small, amount-cast e.depth (extent-amount e.depth t.extent))
 
 pub returns-clause-small_height : goal.returns-clause-small_height
 returns-clause-small_height c =
-    let s = are-sums (list_at c.args.store.now c.args.text) c.list_sums-sums.result c.requires.sized c.requires.few c.list_sums-sums.ensures in
-    amount-passed c.list_sums-sums.result.total s.total
+    let e = c.list_extent-extent.result in
+    let t = taken (list_at c.args.store.now c.args.text) e.room e.depth c.requires.sized c.requires.few c.list_extent-extent.ensures.room c.list_extent-extent.ensures.depth in
+    let whole : to_z w64 (of_z w64 e.room) -ℤ to_z w64 (of_z w64 e.depth) ≡ e.room -ℤ e.depth = λ i. amount-cast e.room t.small i -ℤ amount-cast e.depth (extent-amount e.depth t.extent) i in
+    amount-passed c.difference.result (subst IsAmount (sym (c.difference.ensures ∙ whole)) t.height)
 
 pub returns-clause-small_page : goal.returns-clause-small_page
 returns-clause-small_page c =
-    let ns = list_at c.args.store.now c.args.text in
-    let sums = c.list_sums-sums.result in
-    let s = are-sums ns sums c.requires.sized c.requires.few c.list_sums-sums.ensures in
-    let text = list-size ns sums c.sum_of-text.result c.requires.few s c.sum_of-text.ensures in
-    amount-passed c.sum_of.result (page-sum ns c.sum_of-text.result c.notes_height.result c.sum_of.result c.requires.few text.1 text.2 c.notes_height.ensures.within c.sum_of.ensures).1
+    let e = c.list_extent-extent.result in
+    let t = taken (list_at c.args.store.now c.args.text) e.room e.depth c.requires.sized c.requires.few c.list_extent-extent.ensures.room c.list_extent-extent.ensures.depth in
+    amount-passed c.sum_of.result (page-sum (list_at c.args.store.now c.args.text) e.room c.notes_height.result c.sum_of.result c.requires.few t.small t.within c.notes_height.ensures.within c.sum_of.ensures).1
 
 pub returns-clause-extent : goal.returns-clause-extent
 returns-clause-extent c =
-    let s = are-sums (list_at c.args.store.now c.args.text) c.list_sums-sums.result c.requires.sized c.requires.few c.list_sums-sums.ensures in
-    subst IsExtent (sym (amount-cast c.list_sums-sums.result.depth (extent-amount c.list_sums-sums.result.depth s.extent))) s.extent
+    let e = c.list_extent-extent.result in
+    let t = taken (list_at c.args.store.now c.args.text) e.room e.depth c.requires.sized c.requires.few c.list_extent-extent.ensures.room c.list_extent-extent.ensures.depth in
+    subst IsExtent (sym (amount-cast e.depth (extent-amount e.depth t.extent))) t.extent

@@ -1,6 +1,10 @@
-use Rattle.std.proofs.Common.{false, ◌∙◌, arith}
+use Rattle.std.proofs.Common.{refl, false, ◌∙◌, arith}
 use Rattle.tb_run.proofs.FromGalley.ItemLemmas.{columns-more, item-more}
+use Rattle.tb_run.proofs.FromGalley.WaitsLemmas.{waits-nothing}
 use Rattle.tb_run.proofs.expanding.expand_items.Goals as goal
+
+pub loop-item-init : goal.loop-item-init
+loop-item-init c = (refl, waits-nothing c.args.builder.now c.args.store.now c.reserve.new.self c.in_ok-reserve.ensures.lists c.requires.can.sound)
 
 pub loop-item-preserved : goal.loop-item-preserved
 loop-item-preserved c = (
