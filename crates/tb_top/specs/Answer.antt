@@ -1,4 +1,4 @@
--- What a mode and an input decide if no end fails and memory suffices: the status, what is written, and the line on err.
+-- What a mode and an input decide if no end fails and there is enough memory: the status, what is written, and the line on err.
 use Rattle.std.specs.Prelude.{ℕ, ℤ, nat_lt, Bool, true, false, List, [], ◌∷◌, ◌++◌, length, codes, decimal, Option, Some, None, Result, Ok, Err, if◌then◌else◌}
 use Rattle.tb_galley.specs.declared.Cause.{Cause}
 use Rattle.tb_galley.specs.declared.Fault.{Fault}
@@ -49,7 +49,7 @@ answer_at (dead_cycles n) = answers.DeadCycles
 answer_at (page_limit n) = answers.PageLimit
 answer_at (node_limit n) = answers.NodeLimit
 
--- the answer for a run of the page makeup that ends so
+-- the status of a run of the page makeup that ends so
 abbrev pub makeup_answer : MakeupEnd → Status
 makeup_answer made = answers.Done
 makeup_answer (at_pages n) = answers.PageLimit
@@ -148,7 +148,7 @@ is_done _ = false
 abbrev pub summary_reply : ℕ → Run → Reply
 summary_reply n r = record { answer = answer_at r.end; written = summary_at n (totals_of r.events) r.end; line = line_at r.end; writes = is_done r.end }
 
--- of a galley, and else of its fault
+-- of a galley, or of its fault
 abbrev pub galley_reply : (Galley → Reply) → Result Galley Fault → Reply
 galley_reply reply (Ok g) = reply g
 galley_reply reply (Err f) = fault_reply f
@@ -157,7 +157,7 @@ galley_reply reply (Err f) = fault_reply f
 abbrev pub no_lines_reply : NoGalley → Reply
 no_lines_reply why = record { answer = answer_without why; written = []; line = err_line (no_galley_text why); writes = false }
 
--- of the galley of a text's lines, and else of why there is none
+-- of the galley of a text's lines, or of why there is none
 abbrev pub lines_reply : Result (List ℕ) NoGalley → Reply
 lines_reply (Ok galley) = text_reply galley
 lines_reply (Err why) = no_lines_reply why
@@ -179,7 +179,7 @@ dvi_reply textheight r = dvi_reply_by (first_too_far 27 (run_pages r)) textheigh
 abbrev pub cause_reply : ℕ → DviCause → Reply
 cause_reply byte cause = record { answer = answers.Dvi; written = []; line = err_line (cause_line byte cause); writes = false }
 
--- of what is listed of a file, and else of its first command that fails
+-- of what is listed of a file, or of its first command that fails
 abbrev pub listed_reply : Result (List Item) Failure → Reply
 listed_reply (Ok items) = text_reply (listing items)
 listed_reply (Err e) = cause_reply e.byte e.cause
@@ -192,7 +192,7 @@ listing_reply input = if nat_lt input_limit (length input) then fault_reply (fau
 abbrev pub makeup_run_reply : MakeupRun → Reply
 makeup_run_reply r = record { answer = makeup_answer r.end; written = makeup_report r; line = makeup_line r.end; writes = true }
 
--- a galley whose first item that the page makeup does not serve stands on this line
+-- a galley whose first item that the page makeup does not serve is on this line
 abbrev pub unsuited_reply : ℕ → Reply
 unsuited_reply n = record { answer = answers.Unsuited; written = []; line = err_line (unsuited_text n); writes = false }
 

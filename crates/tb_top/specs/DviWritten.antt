@@ -21,7 +21,7 @@ abbrev pub page_failure : DviFault → DviRunFault
 page_failure (unwritten.TooFar page) = refused.TooFar page
 page_failure unwritten.Memory = refused.Pages faults.Memory
 
--- out grew by the preamble and these pages, which are all in range, and the progress says so
+-- out grew by the preamble and these pages, which are all in range, and the progress is theirs
 pub record HoldsPages (start now : Option (List ℕ)) (w : Progress) (ps : List Page) : Type 0 where
   pub progress : HasWritten w ps
   pub held : Appends start now (file_front ps)

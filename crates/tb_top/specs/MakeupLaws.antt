@@ -23,6 +23,6 @@ pub record MakesUpOnce (g : Galley) (r : MakeupRun) : Type 0 where
   pub floats : IsPermutation (node_lines float_lines_of (sent_nodes r.sent)) (float_lines (galley_floats g.items))
   pub totals : HasTotals g (sent_totals r.sent)
 
--- so it is where the run of a valid galley that is served is done
+-- this holds if the run of a valid galley that is served is done
 abbrev pub EachMakesUpOnce : Type 0
 EachMakesUpOnce = (g : Galley) → IsValid g → IsSuited g → (makeup_of g).end ≡ done → MakesUpOnce g (makeup_of g)

@@ -33,7 +33,7 @@ pub record StopsRun (v : View) (r : MakeupRun) (old new : Option (List ℕ)) (e 
   pub ended : makeup_fault r.end ≡ Some e
   pub written : Appends old new (makeup_text v r)
 
--- what holds after each refusal: after a failed write or want of memory a prefix of the text was written
+-- what holds after each refusal: after a failed write or lack of memory a prefix of the text was written
 abbrev pub RefusesPages : View → MakeupRun → Option (List ℕ) → Option (List ℕ) → PlainRunFault → Type 0
 RefusesPages v r old new (faults.PageLimit n) = StopsRun v r old new (faults.PageLimit n)
 RefusesPages v r old new (faults.NodeLimit n) = StopsRun v r old new (faults.NodeLimit n)

@@ -24,7 +24,7 @@ end_fault (dead_cycles n) = Some (faults.DeadCycles n)
 end_fault (page_limit n) = Some (faults.PageLimit n)
 end_fault (node_limit n) = Some (faults.NodeLimit n)
 
--- the run ended well, its totals are answered, and its text was written
+-- the run ended well, its totals are returned, and its text was written
 pub record Paginates (v : View) (r : Run) (old new : Option (List ℕ)) (t : Totals) : Type 0 where
   pub ended : end_fault r.end ≡ None
   pub totals : t ≡ totals_of r.events
@@ -35,7 +35,7 @@ pub record EndsWith (v : View) (r : Run) (old new : Option (List ℕ)) (e : Page
   pub ended : end_fault r.end ≡ Some e
   pub written : Appends old new (view_text v r)
 
--- what holds after each refusal: after a failed write or want of memory a prefix of the text was written
+-- what holds after each refusal: after a failed write or lack of memory a prefix of the text was written
 abbrev pub Refuses : View → Run → Option (List ℕ) → Option (List ℕ) → PageFault → Type 0
 Refuses v r old new (faults.PoolFull line live) = EndsWith v r old new (faults.PoolFull line live)
 Refuses v r old new (faults.DeadCycles n) = EndsWith v r old new (faults.DeadCycles n)

@@ -138,7 +138,7 @@ makeup_refusal (unmade.NodeLimit n) = refusals.Pages (pages.NodeLimit n)
 makeup_refusal unmade.WriteFault = refusals.Pages pages.WriteFault
 makeup_refusal unmade.Memory = refusals.Pages pages.Memory
 
--- ---- of a run before it tells
+-- ---- of a run before its line is written
 
 -- the status of a run that was served, or refused
 abbrev pub served_status : {T : Type 0} → Result T Refusal → Status

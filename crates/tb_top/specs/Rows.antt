@@ -31,7 +31,7 @@ pub record WorkedRows : Type 0 where
   pub forbidden_break : Replies Report (codes "galley 1\nset textheight 30\nset topskip 10\nset maxdepth 0\nset baselineskip 0\nset bottom flush\nset skipfootins 0\nset footsplittop 10\nset intextsep 0\nset textfloatsep 0\nset floatsep 0\nset fptop 0\nset fpsep 0\nset fpbot 0\nset dbltextfloatsep 0\nbox a 20 0\npenalty 10000\nglue 0\nbox b 20 0\nend\n") Done (codes "report 1\npage 1 one\ncolumn 1 text height 30 natural 40 set none overfull 10\nbox a 0 20 0\nbox b 20 20 0\nend pages 1 boxes 2 floats 0 warnings 0\n") []
   -- a kern before glue is the break
   pub kern_before_glue : Replies Report (codes "galley 1\nset textheight 30\nset topskip 10\nset maxdepth 0\nset baselineskip 0\nset bottom flush\nset skipfootins 0\nset footsplittop 10\nset intextsep 0\nset textfloatsep 0\nset floatsep 0\nset fptop 0\nset fpsep 0\nset fpbot 0\nset dbltextfloatsep 0\nbox a 20 0\nkern 0\nglue 0\nbox b 20 0\nend\n") Done (codes "report 1\npage 1 one\ncolumn 1 text height 30 natural 20 set none\nbox a 0 20 0\npage 2 one\ncolumn 1 text height 30 natural 20 set stretch fil 10/65536\nbox b 0 20 0\nend pages 2 boxes 2 floats 0 warnings 0\n") []
-  -- a kern before a box is none
+  -- a kern before a box is no break
   pub kern_without_glue : Replies Report (codes "galley 1\nset textheight 30\nset topskip 10\nset maxdepth 0\nset baselineskip 0\nset bottom flush\nset skipfootins 0\nset footsplittop 10\nset intextsep 0\nset textfloatsep 0\nset floatsep 0\nset fptop 0\nset fpsep 0\nset fpbot 0\nset dbltextfloatsep 0\nbox a 20 0\nkern 0\nbox b 20 0\nend\n") Done (codes "report 1\npage 1 one\ncolumn 1 text height 30 natural 40 set none overfull 10\nbox a 0 20 0\nbox b 20 20 0\nend pages 1 boxes 2 floats 0 warnings 0\n") []
   -- a note comes above the first box
   pub note_before_the_first_box : Replies Report (codes "galley 1\nset textheight 30\nset topskip 10\nset maxdepth 0\nset baselineskip 0\nset bottom flush\nset skipfootins 0\nset footsplittop 10\nset intextsep 0\nset textfloatsep 0\nset floatsep 0\nset fptop 0\nset fpsep 0\nset fpbot 0\nset dbltextfloatsep 0\nnote n\nbox a 10 0\nend\n") Done (codes "report 1\npage 1 one\ncolumn 1 text height 30 natural 10 set stretch fil 20/65536\nnote n 0\nbox a 0 10 0\nend pages 1 boxes 1 floats 0 warnings 0\n") []

@@ -1,5 +1,5 @@
 -- What `paginate` writes, piece by piece.
-use Rattle.std.specs.Prelude.{◌≡◌, ◌≤◌, ◌⊎◌, ℕ, Bool, true, false, List, [], ◌∷◌, ◌++◌, length, Option, Result, IfErr, OnOk, OnErr}
+use Rattle.std.specs.Prelude.{◌≡◌, ◌≤◌, ◌⊎◌, ℕ, Bool, true, false, List, [], ◌∷◌, length, Option, Result, IfErr, OnOk, OnErr}
 use Rattle.std.specs.Io.KnownBytes.{Appends}
 use Rattle.tb_node.specs.Plain.{plain_list}
 use Rattle.tb_io.specs.Faults.{Rose}
@@ -14,7 +14,7 @@ use Rattle.tb_top.specs.declared.PageFault.{PageFault}
 use Rattle.tb_top.specs.declared.PageFault.TheVariants as faults
 use Rattle.tb_output.specs.declared.RunFault.{RunFault}
 use Rattle.tb_output.specs.declared.RunFault.TheVariants as refused
-use Rattle.tb_run.specs.Run.{RunEvent, offered, sent, End}
+use Rattle.tb_run.specs.Run.{RunEvent, offered, sent}
 use Rattle.tb_run.specs.declared.routine.Routine.{Routine}
 use Rattle.tb_run.specs.declared.routine.Ending.{Ending}
 use Rattle.tb_run.specs.declared.routine.Ending.TheVariants as endings
@@ -87,7 +87,7 @@ abbrev pub StopsWith : View → Routine → Totals → Ending → Option (List �
 StopsWith v r t e held_old held_new before now f =
     (IsRefusalOf e f × (held_new ≡ held_old)) ⊎ ((e ≡ endings.Done) × IsWriteFault v before now f × AppendsPrefix held_old held_new (viewed v (last_lines r t)))
 
--- the run ended well: its totals are answered, and its last lines are written
+-- the run ended well: its totals are returned, and its last lines are written
 pub record EndsWell (v : View) (r : Routine) (t : Totals) (e : Ending) (held_old held_new : Option (List ℕ)) (u : Totals) : Type 0 where
   pub ending : e ≡ endings.Done
   pub totals : u ≡ t

@@ -4,7 +4,7 @@ ghost use Rattle.std.specs.Prelude.{◌≡◌, ◌≤◌, ◌∷◌, [], ◌++�
 ghost use Rattle.std.specs.Int.{w32};
 ghost use Rattle.tb_io.specs.Faults.{Rose};
 ghost use Rattle.tb_galley.specs.Valid.{IsValid};
-ghost use Rattle.tb_column.specs.Shown.{sent_shown, sheet_shown};
+ghost use Rattle.tb_column.specs.Shown.{sheet_shown};
 ghost use Rattle.tb_output.specs.Machine.{IsPageSheet};
 ghost use Rattle.tb_dvi.specs.File.{Page, sheet_page};
 ghost use Rattle.tb_dvi.specs.Progress.{IsInFile};
@@ -180,7 +180,7 @@ fn send_page<K: Sink>(
     Ok(())
 }
 
-// The refusal of an ending, but of that of a run that ended well.
+// The refusal of an ending; a run that ended well has none.
 fn fault_of(ending: Ending) -> Option<PageFault>
     ensures none { IfNone result (ending ≡ Ending.Done) }
     ensures some { IfSome result (IsRefusalOf ending) }

@@ -6,7 +6,7 @@ use crate::Status;
 use std::alloc::AllocError;
 use tb_dvi::{DviCause, put_cause, put_far};
 
-/// What only a mode that writes or lists a DVI file is refused for.
+/// The refusals that only a mode that writes or lists a DVI file has.
 #[derive(Clone, Copy)]
 pub enum DviRefusal {
     /// This page is out of the range of DVI.

@@ -35,7 +35,7 @@ impl From<tb_io::Failed> for InputFault {
     }
 }
 
-/// What the pieces of an input are joined in.
+/// What joins the pieces of an input.
 pub trait Input {
     /// It was given these bytes.
     ghost holds: { Self → List ℕ → Type 0 };

@@ -19,36 +19,36 @@ pub fn floats_keep_the_limits()
 {}
 
 /// The float lists are emptied: at each change of columns and at the end of a run all seven lists of floats are empty, for
-/// every valid galley and whatever the end.
+/// every valid galley and every end.
 pub fn lists_are_emptied()
     ensures { ListsAreEmptied }
 {}
 
-/// Each ships once if a run of a valid galley ends well: the boxes and rules outside feet in the order of the galley, and
-/// each box and rule of a foot, each float and each marginal note exactly once. The totals of the run are those of the
-/// galley.
+/// If a run of a valid galley ends well, everything ships once: the boxes and rules outside feet in the order of the
+/// galley, and each box and rule of a foot, each float and each marginal note exactly once. The totals of the run are those
+/// of the galley.
 pub fn each_ships_once()
     ensures once { EachShipsOnce }
     ensures totals { TotalsAreKept }
 {}
 
-/// The floats of a class keep their order if a run of a valid galley ends well: each ships before every later one of its
-/// class in the galley, in release 2014 of its class and its width as it was taken, save a float in the text that a break
+/// If a run of a valid galley ends well, the floats of a class keep their order: each ships before every later one of its
+/// class in the galley, in release 2014 of its class and its width as it was taken, except a float in the text that a break
 /// carried, which is in a later column than the one in which it was placed. Ships are ordered by page; on a page, the
 /// floats above both columns, then the columns from left to right; in a column, by its list.
 pub fn classes_keep_their_order()
     ensures { ClassesKeepOrder }
 {}
 
-/// Dead cycles are few: a run of a valid galley does not end for its dead cycles if their limit allows four for each
-/// float, marginal note, clear and change of columns, and sixteen besides.
+/// Dead cycles are few: a run of a valid galley does not end for its dead cycles if their limit allows four for each float,
+/// marginal note, clear and change of columns, and sixteen besides.
 pub fn dead_cycles_are_few()
     ensures { DeadCyclesAreFew }
 {}
 
-/// Plain TeX's page makeup, if the run of a valid galley that it serves is done: the boxes and rules outside feet ship in the
-/// order of the galley, and each box and rule of a foot, and each float, exactly once. The totals of the run are those of the
-/// galley.
+/// If the run of a valid galley that plain TeX's page makeup serves is done, the boxes and rules outside feet ship in the
+/// order of the galley, and each box and rule of a foot, and each float, exactly once. The totals of the run are those of
+/// the galley.
 pub fn each_makes_up_once()
     ensures { EachMakesUpOnce }
 {}

@@ -23,16 +23,15 @@ use tb_io::{Sink, SinkFault, write_all};
 use tb_makeup::{Makeup, MakeupEnding};
 use tb_node::Node;
 use tb_pool::Lists;
-use tb_report::{HEADER, Totals, put_total};
+use tb_report::{HEADER, Totals, put_totals};
 use tb_run::Happening;
-use tb_text::end_line;
 
 /// Why a run under plain TeX's page makeup or its writing stopped.
 #[derive(Clone, Copy, Debug, PartialEq, Eq)]
 pub enum PlainRunFault {
-    /// A page was to be shipped after so many pages.
+    /// A page was to be shipped after this many pages.
     PageLimit { pages: u64 },
-    /// More nodes than `maxnodes` waited: so many.
+    /// This many nodes waited, more than `maxnodes`.
     NodeLimit { count: u64 },
     /// The sink failed.
     WriteFault,
@@ -50,8 +49,8 @@ impl From<AllocError> for PlainRunFault {
     }
 }
 
-/// Makes the pages of a galley by plain TeX's page makeup and writes what a view shows of the run, page by page: the report,
-/// or nothing. No places that were tried are shown. Returns what was shipped.
+/// Makes the pages of a galley by plain TeX's page makeup and writes what a view shows of the run, page by page: the
+/// report, or nothing. No places that were tried are shown. Returns what was shipped.
 ///
 /// The run ends well if nothing waits any more and the page is empty, or is refused: too many pages would be shipped
 /// (`PageLimit`), or too many nodes wait at the start or after a firing (`NodeLimit`). Its text up to there is written then.
@@ -132,11 +131,7 @@ fn end_text(alloc: Global, t: &Totals) -> Result<Vec<u8>, AllocError>
     ensures { IfOk result (λ text. text.items ≡ end_lines [] t.now) }
 {
     let mut out = Vec::new(alloc);
-    put_total(&mut out, b"end pages", t.pages)?;
-    put_total(&mut out, b" boxes", t.boxes)?;
-    put_total(&mut out, b" floats", t.floats)?;
-    put_total(&mut out, b" warnings", t.warnings)?;
-    end_line(&mut out)?;
+    put_totals(&mut out, b"end pages", t)?;
     Ok(out)
 }
 

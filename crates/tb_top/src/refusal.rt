@@ -2,7 +2,7 @@
 ghost use Rattle.std.specs.Prelude.{◌≡◌, ◌++◌, decimal, IfOk, OnOk};
 ghost use Rattle.tb_plain.specs.Report.{unsuited_text};
 ghost use Rattle.tb_top.specs.Answer.{answer_for_cause, pool_full_text};
-ghost use Rattle.tb_top.specs.Refusal.{refusal_status, galley_status, page_status, lines_status, input_status, words_status, output_status, refusal_text, galley_text, page_text, input_text, words_text, output_text, refusal_line, dvi_fault, makeup_refusal};
+ghost use Rattle.tb_top.specs.Refusal.{refusal_status, page_status, lines_status, input_status, words_status, output_status, refusal_text, page_text, input_text, words_text, output_text, refusal_line, dvi_fault, makeup_refusal};
 ghost use Rattle.tb_top.specs.declared.refusal.Refusal.TheVariants.{Words, Input, Galley, Pages, Lines, Output, Memory};
 
 use crate::dvi_pages::DviRunFault;
@@ -17,7 +17,7 @@ use tb_lines::{LinesRefusal, put_refusal};
 use tb_text::put_number;
 use tb_words::WordsFault;
 
-/// Why a run was refused, with what the line on `err` shows of it.
+/// Why a run was refused, with what its line on `err` shows.
 #[derive(Drop)]
 pub enum Refusal {
     /// The words ask for no mode.

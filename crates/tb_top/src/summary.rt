@@ -3,8 +3,7 @@ ghost use Rattle.std.specs.Prelude.{◌≡◌, IfOk};
 ghost use Rattle.tb_top.specs.Answer.{summary_line};
 
 use std::alloc::{AllocError, Global};
-use tb_report::{Totals, put_total};
-use tb_text::end_line;
+use tb_report::{Totals, put_total, put_totals};
 
 /// The line of the totals of this many generated items.
 pub fn summary_text(alloc: Global, count: u32, t: &Totals) -> Result<Vec<u8>, AllocError>
@@ -12,10 +11,6 @@ pub fn summary_text(alloc: Global, count: u32, t: &Totals) -> Result<Vec<u8>, Al
 {
     let mut out = Vec::new(alloc);
     put_total(&mut out, b"gen", u64::from(count))?;
-    put_total(&mut out, b" pages", t.pages)?;
-    put_total(&mut out, b" boxes", t.boxes)?;
-    put_total(&mut out, b" floats", t.floats)?;
-    put_total(&mut out, b" warnings", t.warnings)?;
-    end_line(&mut out)?;
+    put_totals(&mut out, b" pages", t)?;
     Ok(out)
 }

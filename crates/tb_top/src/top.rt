@@ -3,7 +3,6 @@ ghost use Rattle.std.specs.Prelude.{◌≡◌, ◌⊎◌, Some, None, map, strin
 ghost use Rattle.std.specs.Io.KnownBytes.{Keeps};
 ghost use Rattle.tb_io.specs.Faults.{Rose};
 ghost use Rattle.tb_galley.specs.Valid.{IsValid};
-ghost use Rattle.tb_generator.specs.Generate.{generated};
 ghost use Rattle.tb_words.specs.Words.{asked, IsCount};
 ghost use Rattle.tb_top.specs.Outcome.{Stream, stream, Outcome, StandsAfter, StopsReading, Succeeds, IsAnswer, Says};
 ghost use Rattle.tb_top.specs.Refusal.{served_status, served_line, refusal_status, refusal_line, IsNoGalley, GivesGalley};

@@ -102,7 +102,7 @@ module _ (k : FloatKind) (Known : ℕ → Type 0) (text before : List ℕ) where
     single = h.single;
   }
 
-  -- a change of columns drops a left column, if nothing stands above the columns
+  -- a change of columns drops a left column, if nothing is above the columns
   changed : (takes : List ℕ) (rs : List Recorded) (l : FloatLists) (two first now : Bool) (column : Option PlainColumn) → l.double ≡ [] → Order k Known text takes before rs l two first column → Order k Known text takes before rs l now true None
   changed takes rs l two first now column d h = record {
     order = subst (Rises Known (λ n. IsCarried k n rs)) (append_assoc before (float_lines k l.double) rest)

@@ -1,13 +1,13 @@
 -- A run whose pages are written as a DVI file: what is written, and what is left.
-use Rattle.std.proofs.Common.{◌≡◌, refl, sym, subst, ◌∙◌, ap, ℕ, zero, suc, ◌<◌, ◌≤◌, ◌⊎◌, inl, inr, ℤ, pos, negsuc, FitsSigned, w32, Bool, true, false, List, [], ◌∷◌, ◌++◌, Option, Some, None, Ok, Err, append_assoc, append-nil, arith}
+use Rattle.std.proofs.Common.{◌≡◌, refl, sym, subst, ◌∙◌, ap, ℕ, zero, suc, ◌<◌, ◌≤◌, ◌⊎◌, inl, inr, ℤ, pos, negsuc, FitsSigned, w32, Bool, true, false, List, [], ◌++◌, Option, Some, None, append_assoc, append-nil, arith}
 use Rattle.std.specs.Prelude.{int_lt, if◌then◌else◌}
 use Rattle.std.specs.Io.KnownBytes.{Appends}
 use Rattle.tb_io.specs.Held.{AppendsPrefix}
-use Rattle.tb_io.proofs.Appended.{Appends-twice, prefix_whole, prefix_longer, prefix_on}
+use Rattle.tb_io.proofs.Appended.{Appends-twice, prefix_longer, prefix_on}
 use Rattle.tb_param.specs.declared.Params.{Params}
 use Rattle.tb_galley.specs.declared.Galley.{Galley}
 use Rattle.tb_galley.specs.Expand.{expanded}
-use Rattle.tb_output.specs.State.{State, Recorded, first_state}
+use Rattle.tb_output.specs.State.{State, first_state}
 use Rattle.tb_output.specs.declared.RunFault.{RunFault}
 use Rattle.tb_output.specs.declared.RunFault.TheVariants as unfired
 use Rattle.tb_dvi.specs.declared.written.Progress.{Progress}
@@ -38,7 +38,7 @@ use Rattle.tb_top.specs.DviPages.{event_pages, run_pages}
 use Rattle.tb_top.specs.DviFiles.{Writes, WritesFile, RefusesPages, RefusesFile}
 use Rattle.tb_top.specs.DviWritten.{HoldsPages, StopsShort, FailsAmong, IsWriteFailure, last_bytes, EndsFile, StopsRun, StopsFile}
 use Rattle.tb_top.proofs.Written.GoingLemmas.{Steps, Stops, steps, stops}
-use Rattle.tb_top.proofs.Written.FinishLemmas.{none-at, over-some, over-none}
+use Rattle.tb_top.proofs.Written.FinishLemmas.{over-some, over-none}
 use Rattle.tb_top.proofs.DviFiles.DviSending.{events-append, noted-pages, holds-short, fails-more}
 
 -- ---- the run from here

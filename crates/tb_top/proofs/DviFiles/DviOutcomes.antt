@@ -1,11 +1,9 @@
 -- What holds after a DVI file was written or listed, or not.
-use Rattle.std.proofs.Common.{◌≡◌, refl, sym, ◌∙◌, ap, ℕ, inl, inr, List, [], Option, None, Some, Ok, Err}
-use Rattle.std.specs.Io.KnownBytes.{Keeps, Appends}
+use Rattle.std.proofs.Common.{◌≡◌, refl, ◌∙◌, ap, ℕ, inl, inr, List, [], Option, None, Some, Ok}
+use Rattle.std.specs.Io.KnownBytes.{Keeps}
 use Rattle.tb_io.specs.Held.{AppendsPrefix}
-use Rattle.tb_galley.specs.declared.Cause.TheVariants as causes
 use Rattle.tb_galley.specs.declared.Galley.{Galley}
 use Rattle.tb_galley.specs.declared.GalleyFault.TheVariants as unread
-use Rattle.tb_galley.specs.Faults.{fault}
 use Rattle.tb_galley.specs.Grammar.{grammar}
 use Rattle.tb_galley.specs.Valid.{IsValid}
 use Rattle.tb_words.specs.declared.Mode.TheVariants as modes
@@ -20,7 +18,7 @@ use Rattle.tb_top.specs.declared.refusal.Refusal.{Refusal}
 use Rattle.tb_top.specs.declared.refusal.Refusal.TheVariants as refusals
 use Rattle.tb_top.specs.declared.status.Status.TheVariants as answers
 use Rattle.tb_top.specs.Report.{totals_of}
-use Rattle.tb_top.specs.Answer.{Reply, err_line, fault_reply, cause_reply, run_reply, dvi_reply_by, dvi_reply, listing_reply, reply_to}
+use Rattle.tb_top.specs.Answer.{err_line, fault_reply, cause_reply, dvi_reply_by, dvi_reply, listing_reply, reply_to}
 use Rattle.tb_top.specs.DviFiles.{far_page, galley_file, Writes, WritesFile, RefusesPages, RefusesFile}
 use Rattle.tb_top.specs.DviRefusal.{too_long, IsNoListing}
 use Rattle.tb_top.specs.Outcome.{Stream, Failed, Gives, HasLawfulRun, LacksRoomForCycles, Decided, Finished, OutOfCycles, CutOff, StandsAfter}

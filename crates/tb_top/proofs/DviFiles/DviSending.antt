@@ -1,5 +1,5 @@
 -- Pages of a DVI file, one after another.
-use Rattle.std.proofs.Common.{◌≡◌, refl, sym, subst, ◌∙◌, ap, ℕ, suc, ◌+◌, ◌<◌, ◌≤◌, length, drop, get_or, drop-cons, arith, ℤ, Bool, true, false, List, [], ◌∷◌, ◌++◌, Option, Some, append_assoc, append-nil}
+use Rattle.std.proofs.Common.{◌≡◌, refl, sym, subst, ◌∙◌, ap, ℕ, suc, ◌+◌, ◌<◌, ◌≤◌, length, drop, get_or, drop-cons, arith, Bool, true, false, List, [], ◌∷◌, ◌++◌, Option, append_assoc, append-nil}
 use Rattle.std.proofs.lemmas.List.{drop_all}
 use Rattle.tb_pool.specs.Lists.{Lists}
 use Rattle.tb_node.specs.declared.Node.{Node}
@@ -15,13 +15,12 @@ use Rattle.tb_dvi.specs.declared.page.DviFault.TheVariants as unwritten
 use Rattle.tb_dvi.specs.Writing.{MissesPage}
 use Rattle.tb_dvi.proofs.ProgressLemmas.{written-more, front-more, first_there, cut_bytes}
 use Rattle.tb_dvi.proofs.FrontLemmas.{run_begins}
-use Rattle.tb_run.specs.Run.{RunEvent, offered, sent}
+use Rattle.tb_run.specs.Run.{RunEvent}
 use Rattle.tb_run.specs.declared.happening.Happening.{Happening}
 use Rattle.tb_run.specs.Happened.{noted, event_of, events_of}
 use Rattle.tb_run.specs.Turning.{IsPage, ArePages}
 use Rattle.tb_top.specs.Written.{sent_among}
 use Rattle.tb_top.specs.DviPages.{event_pages}
-use Rattle.tb_top.specs.declared.PageFault.{PageFault}
 use Rattle.tb_top.specs.declared.PageFault.TheVariants as faults
 use Rattle.tb_top.specs.declared.dvi_pages.DviRunFault.{DviRunFault}
 use Rattle.tb_top.specs.declared.dvi_pages.DviRunFault.TheVariants as refused

@@ -47,7 +47,7 @@ WritableEntry (entries.Right m) = Unit {0}
 abbrev pub WritableEntries : List Entry → Type 0
 WritableEntries es = AllByRecursion WritableEntry es
 
--- the floats in the text stand there as boxes, and their list is not shown
+-- the floats in the text are there as boxes, and their list is not shown
 abbrev pub WritableLists : FloatLists → Type 0
 WritableLists l = WritableEntries l.current × WritableFloats l.top × WritableFloats l.bottom × WritableFloats l.deferred × WritableFloats l.double × WritableFloats l.second
 

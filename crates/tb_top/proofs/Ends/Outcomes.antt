@@ -317,7 +317,7 @@ dvi_status-refused : (f : DviRefusal) → dvi_status f ≢ answers.Done
 dvi_status-refused (undvi.TooFar page) = λ same. cc
 dvi_status-refused (undvi.At byte cause) = λ same. cc
 
--- no refusal is answered as Done
+-- no refusal has the status Done
 pub refusal_status-refused : (r : Refusal) → refusal_status r ≢ answers.Done
 refusal_status-refused (refusals.Words f) = words_status-refused f
 refusal_status-refused (refusals.Output f) = output_status-refused f

@@ -90,7 +90,7 @@ fits-none v (a ∷ ds) = (by_act a, fits-none v ds)
     by_act (acts.Suppress area) = tt
     by_act (acts.Columns two) = refl
 
--- the state after acts that weigh so much
+-- the state after acts that weigh this much
 pub record After (v : Weight) (n : ℕ) (s t : State) : Type 0 where
   pub sound : Sound t
   pub waiting : t.waiting ≡ s.waiting

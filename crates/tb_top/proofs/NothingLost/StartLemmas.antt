@@ -1,4 +1,4 @@
--- The nodes of a galley stand well and weigh as its items.
+-- The nodes of a galley are in an allowed order, and weigh as its items.
 use Rattle.std.proofs.Common.{◌≡◌, refl, sym, ◌∙◌, ap, subst, ℕ, zero, suc, ◌+◌, Bool, true, false, List, [], ◌∷◌, ◌++◌, map, arith}
 use Rattle.std.specs.Prelude.{ℤ, int_le, ◌||◌, ◌&&◌, if◌then◌else◌}
 use Rattle.std.specs.List.{AllByRecursion}

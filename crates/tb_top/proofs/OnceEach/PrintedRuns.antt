@@ -112,7 +112,7 @@ held-unreal (odd ∷ xs) ys s c h r = c.0
 
 -- ---- a step
 
--- what is kept and what waits stands in what the step sends and in what it leaves
+-- what is kept and what waits is in what the step sends and in what it leaves
 abbrev pub StepReads : State → Step → Type 0
 StepReads s (goes_on es rs t) = Within (state_prints s) (events_prints es ++ state_prints t) × EventsPlain es × LeftPlain t.left_column
 StepReads s (ends es rs (done left)) = EventsPlain es
@@ -202,7 +202,7 @@ module _ (p : Params) (calm : int_le p.interlinepenalty eject_penalty ≡ false)
 
 -- ---- a run
 
--- what is kept and what waits stands in what a run that is done ships, and that has no insertions and acts
+-- what is kept and what waits is in what a run that is done ships, and that has no insertions and acts
 pub record Reads (s : State) (r : Run) : Type 0 where
   pub lines : EndsDone r.end → Within (state_prints s) (events_prints r.events)
   pub plain_events : EndsDone r.end → EventsPlain r.events

@@ -78,7 +78,7 @@ module _ (g : Galley) (valid : IsValid g) (ended : EndsDone (run_of g).end) wher
   text_outside : AllOut (lines_by foot_line g.items) (lines_by text_line g.items)
   text_outside = text-out 0 g.items (g.end_line ∷ []) valid.lines
 
-  -- the text stands within what is shipped
+  -- the text is within what is shipped
   text_within : Within (lines_by text_line g.items) (shipped_boxes (run_of g))
   text_within = subst (λ l. Within l (shipped_boxes (run_of g))) (expanded-prints g) (subst (Within (prints (expanded g))) (events-lines (run_of g).events) ((valid-reads g valid).lines ended))
 

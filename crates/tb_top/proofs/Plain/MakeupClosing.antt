@@ -1,5 +1,5 @@
 -- The end of a run of the page makeup.
-use Rattle.std.proofs.Common.{◌≡◌, refl, sym, subst, ◌∙◌, ap, ℕ, ◌≤◌, ◌⊎◌, inl, inr, List, [], ◌++◌, append-nil, Option, Some, None, arith}
+use Rattle.std.proofs.Common.{◌≡◌, refl, sym, subst, ◌∙◌, ap, ℕ, ◌≤◌, inl, inr, List, [], ◌++◌, append-nil, Option, Some, None, arith}
 use Rattle.std.specs.Io.KnownBytes.{Appends}
 use Rattle.tb_io.specs.Faults.{Rose}
 use Rattle.tb_io.specs.Held.{AppendsPrefix}
@@ -17,7 +17,7 @@ use Rattle.tb_top.specs.declared.makeup_pages.PlainRunFault.{PlainRunFault}
 use Rattle.tb_top.specs.declared.makeup_pages.PlainRunFault.TheVariants as faults
 use Rattle.tb_top.specs.MakeupPages.{makeup_text, makeup_fault, MakesPages, StopsRun, RefusesPages}
 use Rattle.tb_top.specs.MakeupWritten.{IsWriteFault, IsRefusalOf, StopsWith, EndsWell}
-use Rattle.tb_top.specs.Written.{viewed, IsShown}
+use Rattle.tb_top.specs.Written.{viewed}
 use Rattle.tb_top.proofs.Written.GoingLemmas.{header, viewed-append, silent-shown}
 use Rattle.tb_top.proofs.Plain.MakeupGoing.{Closing, view-text}
 use Rattle.tb_top.proofs.Plain.MakeupTotals.{all-totals}
@@ -28,7 +28,7 @@ ended-done done is = refl
 ended-done (page_limit n) is = cc
 ended-done (node_limit n) is = cc
 
--- a failed write or want of memory, after a prefix
+-- a failed write or lack of memory, after a prefix
 pub refuses-cut : (v : View) (whole : MakeupRun) (old new : Option (List ℕ)) (before now : ℕ) (f : PlainRunFault) → IsWriteFault v before now f → AppendsPrefix old new (makeup_text v whole) → RefusesPages v whole old new f
 refuses-cut v whole old new before now faults.Memory h b = b
 refuses-cut v whole old new before now faults.WriteFault h b = b

@@ -1,5 +1,5 @@
--- What stands after a run of the page makeup, or without one.
-use Rattle.std.proofs.Common.{◌≡◌, refl, ◌∙◌, ap, ℕ, inl, inr, List, [], Option, None, Some, Ok}
+-- What holds after a run of the page makeup, or without one.
+use Rattle.std.proofs.Common.{◌≡◌, refl, ◌∙◌, ap, ℕ, inr, List, [], Option, None, Some, Ok}
 use Rattle.std.specs.Io.KnownBytes.{Keeps}
 use Rattle.tb_galley.specs.declared.Galley.{Galley}
 use Rattle.tb_galley.specs.Grammar.{grammar}
@@ -12,7 +12,7 @@ use Rattle.tb_top.specs.declared.makeup_pages.PlainRunFault.{PlainRunFault}
 use Rattle.tb_top.specs.declared.makeup_pages.PlainRunFault.TheVariants as unmade
 use Rattle.tb_top.specs.declared.refusal.Refusal.TheVariants as refusals
 use Rattle.tb_top.specs.declared.status.Status.TheVariants as answers
-use Rattle.tb_top.specs.Answer.{Reply, makeup_answer, makeup_line, makeup_run_reply, unsuited_reply, makeup_reply_by, makeup_reply, reply_to}
+use Rattle.tb_top.specs.Answer.{makeup_answer, makeup_line, makeup_run_reply, unsuited_reply, makeup_reply_by, makeup_reply, reply_to}
 use Rattle.tb_top.specs.MakeupLaws.{MakesUpOnce}
 use Rattle.tb_top.specs.MakeupPages.{makeup_fault, MakesPages, StopsRun, RefusesPages}
 use Rattle.tb_top.specs.Outcome.{Stream, Failed, Gives, HasLawfulRun, HasLawfulMakeup, Decided, Finished, StandsAfter}
@@ -29,7 +29,7 @@ line-well done is = refl
 line-well (page_limit n) is = cc
 line-well (node_limit n) is = cc
 
--- the refusal of a run has the answer and the line of the run's end
+-- the refusal of a run has the status and the line of the run's end
 answer-ended : (e : MakeupEnd) (f : PlainRunFault) → makeup_fault e ≡ Some f → refusal_status (makeup_refusal f) ≡ makeup_answer e
 answer-ended done f is = cc
 answer-ended (page_limit n) f is = let same : unmade.PageLimit n ≡ f = cc in rw (← same) refl
@@ -44,12 +44,12 @@ module _ (input : List ℕ) (source out : Stream) (read : Gives source.before so
   replied : (o : Option ℕ) → first_unsuited g ≡ o → reply_to modes.Plain input ≡ makeup_reply_by o g
   replied o first = replies_to modes.Plain makeup_reply makeup_reads input g is ∙ ap (λ x. makeup_reply_by x g) first
 
-  -- what stands where an item is not served
+  -- what holds if an item is not served
   pub left_unsuited : (n : ℕ) → first_unsuited g ≡ Some n → Keeps out.before out.after → StandsAfter (Some modes.Plain) answers.Unsuited source out (refusal_line (refusals.Unsuited n))
   left_unsuited n first kept = decided_by modes.Plain input source out read answers.Unsuited (refusal_line (refusals.Unsuited n)) (unsuited_reply n) (replied (Some n) first) refl refl (nothing out.before out.after kept)
 
   module _ (suited : first_unsuited g ≡ None) where
-    -- what stands where `paginate_plain` returns well
+    -- what holds if `paginate_plain` returns Ok
     pub makeup_well : (t : Totals) → MakesPages views.Report (makeup_of g) out.before out.after t → MakesUpOnce g (makeup_of g) → Finished (Some modes.Plain) source out []
     makeup_well t p laws =
         shown_by modes.Plain input source out read HasLawfulRun (galley_with input g is HasLawfulMakeup laws) answers.Done [] (makeup_run_reply (makeup_of g)) (replied None suited)
@@ -58,7 +58,7 @@ module _ (input : List ℕ) (source out : Stream) (read : Gives source.before so
     ended : (f : PlainRunFault) → StopsRun views.Report (makeup_of g) out.before out.after f → Decided (Some modes.Plain) (refusal_status (makeup_refusal f)) source out (refusal_line (makeup_refusal f))
     ended f r = decided_by modes.Plain input source out read _ _ (makeup_run_reply (makeup_of g)) (replied None suited) (answer-ended (makeup_of g).end f r.ended) (line-ended (makeup_of g).end f r.ended) r.written
 
-    -- what stands after a refusal of `paginate_plain`
+    -- what holds after a refusal of `paginate_plain`
     pub left_by_makeup : (f : PlainRunFault) → RefusesPages views.Report (makeup_of g) out.before out.after f → (f ≡ unmade.WriteFault → Failed out) → StandsAfter (Some modes.Plain) (refusal_status (makeup_refusal f)) source out (refusal_line (makeup_refusal f))
     left_by_makeup (unmade.PageLimit n) r rose = ended (unmade.PageLimit n) r
     left_by_makeup (unmade.NodeLimit n) r rose = ended (unmade.NodeLimit n) r

@@ -1,5 +1,5 @@
 -- What a run of the page makeup counts stays in the range of the counts: pages by their limit, boxes and floats by the nodes of a page.
-use Rattle.std.proofs.Common.{◌≡◌, refl, sym, subst, ◌∙◌, ap, ℕ, zero, suc, pos, ◌+◌, ◌*◌, ◌-◌, ◌^◌, ◌<◌, ◌≤◌, Bool, true, false, List, [], ◌∷◌, ◌++◌, map, length, length-append, arith}
+use Rattle.std.proofs.Common.{◌≡◌, refl, subst, ◌∙◌, ap, ℕ, zero, suc, pos, ◌+◌, ◌*◌, ◌-◌, ◌≤◌, Bool, true, false, List, [], ◌∷◌, ◌++◌, map, length, length-append, arith}
 use Rattle.std.specs.Prelude.{ℤ, pred, nat_abs, int_lt, if◌then◌else◌}
 use Rattle.std.proofs.lemmas.Int.{ints}
 use Rattle.tb_pool.specs.Lists.{Lists}
@@ -21,7 +21,7 @@ use Rattle.tb_plain.specs.Expand.{made_up}
 use Rattle.tb_plain.specs.Firing.{holds_any, makeup_column}
 use Rattle.tb_plain.specs.Report.{sent_totals}
 use Rattle.tb_plain.specs.Run.{MakeupState, MakeupRun, MakeupStep, ends, goes_on, page_limit, node_limit, AtAct, no_act, at_act, first_act, meets_act, makeup_ask, makeup_classes, void_boxes, makeup_reach, act_step, waiting_after, shipping_step, firing_step, last_step, makeup_step, run_by, makeup_from, first_makeup, steps_left, makeup_of, done, ejecting_nodes}
-use Rattle.tb_top.specs.Written.{node_total, sent_among, with_events}
+use Rattle.tb_top.specs.Written.{with_events}
 use Rattle.tb_top.proofs.Written.EventCounts.{among-sent}
 use Rattle.tb_top.proofs.Written.TallyLemmas.{AreFewNodes, count-most, step-few}
 

@@ -1,17 +1,18 @@
--- Reading with every word, also those that the program does not serve yet: for rows of the definitions.
+-- Reading as the grammar has it, with the words written out, so that worked texts compute.
 use Rattle.std.specs.Prelude.{ℕ, ◌+◌, List, [], ◌∷◌, ◌++◌, codes, if◌then◌else◌}
 use Rattle.std.specs.List.{fold}
 use Rattle.tb_text.specs.Lines.{lines_of, fields_of, is_skipped}
 use Rattle.tb_galley.specs.declared.Galley.{Galley}
 use Rattle.tb_galley.specs.declared.Word.{Word}
 use Rattle.tb_galley.specs.declared.Word.TheVariants as words
-use Rattle.tb_galley.specs.Words.{Spelled, word_in, first_field, other_fields, Line}
+use Rattle.tb_galley.specs.Spelling.{Spelled, spelled_value}
+use Rattle.tb_galley.specs.Words.{first_field, other_fields, Line}
 use Rattle.tb_galley.specs.Grammar.{with_line, empty_draft, galley_of}
 
-abbrev worded : List ℕ → Word → Spelled
-worded text word = record { text = text; word = word }
+abbrev worded : List ℕ → Word → Spelled Word
+worded text word = record { text = text; value = word }
 
-abbrev all_words : List Spelled
+abbrev all_words : List (Spelled Word)
 all_words =
     worded (codes "galley") words.Header ∷ worded (codes "set") words.Setting ∷ worded (codes "class") words.Class ∷ worded (codes "box") words.Hbox ∷ worded (codes "rule") words.Rule
     ∷ worded (codes "glue") words.Skip ∷ worded (codes "kern") words.Kern ∷ worded (codes "penalty") words.Penalty ∷ worded (codes "mark") words.Mark
@@ -21,7 +22,7 @@ all_words =
     ∷ worded (codes "twocolumn") words.Twocolumn ∷ worded (codes "suppressfloats") words.Suppressfloats ∷ worded (codes "end") words.End ∷ []
 
 abbrev line_at : ℕ → List (List ℕ) → Line
-line_at n fs = record { number = n; word = word_in all_words (first_field fs); head = first_field fs; fields = other_fields fs }
+line_at n fs = record { number = n; word = spelled_value all_words (first_field fs); head = first_field fs; fields = other_fields fs }
 
 abbrev content_at : ℕ → List ℕ → List Line
 content_at n bytes = if is_skipped (fields_of bytes) then [] else line_at n (fields_of bytes) ∷ []

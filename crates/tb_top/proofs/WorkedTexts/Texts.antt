@@ -200,7 +200,7 @@ release_2015_is_as_before : reported (codes "galley 2\nset textheight 100\nset t
 unfolding reported
 release_2015_is_as_before = refl
 
--- a footnote of a class that was not declared, a release that there is none of, and what version 1 does not know
+-- a footnote of a class that was not declared, a release that does not exist, and what version 1 does not know
 spelled : List ℕ → Result Galley Fault
 unfolding grammar row_of word_of default_params
 spelled input = grammar input

@@ -1,7 +1,7 @@
 -- How many warnings and pages a step of a run sends: a warning for each act that it reaches and two at its firing, and a page for each
 -- step of the page number.
-use Rattle.std.proofs.Common.{◌≡◌, refl, sym, ◌∙◌, ap, ℕ, zero, suc, pos, ◌+◌, ◌≤◌, Bool, true, false, List, [], ◌∷◌, ◌++◌, map, length, length-append, Option, Some, None, arith}
-use Rattle.std.specs.Prelude.{ℤ, pred, nat_abs, int_lt, int_le, ◌&&◌, if◌then◌else◌}
+use Rattle.std.proofs.Common.{◌≡◌, refl, ◌∙◌, ap, ℕ, suc, pos, ◌+◌, ◌≤◌, Bool, true, false, List, [], ◌∷◌, ◌++◌, map, length, Option, Some, None, arith}
+use Rattle.std.specs.Prelude.{ℤ, pred, nat_abs, int_lt, int_le, if◌then◌else◌}
 use Rattle.tb_scaled.specs.Scaled.{awful_bad, min_ℤ}
 use Rattle.tb_node.specs.Shape.{Shape, box, glue, kern, penalty, other}
 use Rattle.tb_node.specs.declared.Act.{Act}
@@ -13,17 +13,16 @@ use Rattle.tb_break.specs.Legal.{legal_penalty}
 use Rattle.tb_break.specs.Prune.{pruned_at, pruned_nodes}
 use Rattle.tb_insert.specs.Terms.{Terms}
 use Rattle.tb_insert.specs.Account.{terms_after}
-use Rattle.tb_builder.specs.Reached.{Reached, acted, tried, Reach, also_reached, page_place, reach_at, reach_at_place, reach_node, reach_from, stopped_at, laid_out, holds_box}
+use Rattle.tb_builder.specs.Reached.{Reached, acted, tried, Reach, also_reached, page_place, reach_at, reach_node, reach_from, stopped_at}
 use Rattle.tb_builder.specs.Fired.{Fired, reach_of, fired_of, frozen_for}
-use Rattle.tb_column.specs.Column.{PlainSent, warned, shipped}
+use Rattle.tb_column.specs.Column.{PlainSent, warned}
 use Rattle.tb_column.specs.declared.Warn.{Warn}
 use Rattle.tb_float.specs.Lists.{live_count}
 use Rattle.tb_output.specs.State.{State, Work, Recorded, ask_of, begun, emptied}
-use Rattle.tb_output.specs.Act.{Acted, went, full, act_on, large_warning}
+use Rattle.tb_output.specs.Act.{Acted, went, full, act_on}
 use Rattle.tb_output.specs.Out.{out, after_page}
 use Rattle.tb_output.proofs.StepLaws.SentCounts.{warning_count, page_count, warnings-append, pages-append, SendsFew, out-few}
-use Rattle.tb_run.specs.Run.{RunEvent, offered, sent, End, done, pool_full, dead_cycles, page_limit, node_limit, Progress, progress_by, progress, Step, ends, goes_on, held_count, after_firing, fire, after_progress, step}
-use Rattle.tb_run.specs.Happened.{step_events}
+use Rattle.tb_run.specs.Run.{RunEvent, offered, sent, done, dead_cycles, page_limit, node_limit, Progress, progress_by, progress, Step, ends, goes_on, held_count, after_firing, fire, after_progress, step}
 use Rattle.tb_top.specs.Written.{sent_among}
 use Rattle.tb_top.proofs.Written.FuelLemmas.{SameCounts, progress-counts}
 

@@ -1,7 +1,7 @@
 -- The end of a run of the routine, and the parameters that it asks for.
-use Rattle.std.proofs.Common.{◌≡◌, refl, sym, subst, ◌∙◌, ap, ℕ, zero, suc, ◌+◌, ◌<◌, ◌≤◌, ◌⊎◌, inl, inr, ℤ, pos, ◌≤ℤ◌, Bool, true, false, List, [], ◌∷◌, ◌++◌, length, slice_get, Option, None, Some, Result, Err, arith}
+use Rattle.std.proofs.Common.{◌≡◌, refl, sym, subst, ◌∙◌, ap, ℕ, zero, suc, ◌<◌, ◌≤◌, inl, inr, ℤ, pos, ◌≤ℤ◌, Bool, true, false, List, [], ◌∷◌, length, slice_get, Option, None, Some, Result, Err, arith}
 use Rattle.tb_io.specs.Faults.{Rose}
-use Rattle.std.specs.Prelude.{IfErr, int_lt, if◌then◌else◌, ◌&&◌, IsTrue, IfSome, IfNone}
+use Rattle.std.specs.Prelude.{IfErr, int_lt, if◌then◌else◌, ◌&&◌, IsTrue, IfNone}
 use Rattle.std.specs.List.{list_all}
 use Rattle.std.specs.Io.KnownBytes.{Appends}
 use Rattle.tb_io.specs.Held.{AppendsPrefix}
@@ -24,7 +24,7 @@ use Rattle.tb_run.specs.declared.happening.Happening.{Happening}
 use Rattle.tb_run.specs.declared.routine.Routine.{Routine}
 use Rattle.tb_run.specs.declared.routine.Ending.{Ending}
 use Rattle.tb_run.specs.declared.routine.Ending.TheVariants as endings
-use Rattle.tb_run.specs.Run.{Run, RunEvent, End, done, pool_full, dead_cycles, page_limit, node_limit, held_count, Step, ends, goes_on, step, run_of, firings_left, classes_of}
+use Rattle.tb_run.specs.Run.{Run, End, done, pool_full, dead_cycles, page_limit, node_limit, held_count, Step, ends, goes_on, step, run_of, firings_left, classes_of}
 use Rattle.tb_run.specs.Happened.{events_of, noted, step_events}
 use Rattle.tb_run.specs.Turning.{held_in, state_of, IsFaultEnd, IsEnd, EndsAs, over_limit, ArePages, IsReady, IsBounded}
 use Rattle.tb_top.specs.declared.View.{View}
@@ -132,7 +132,7 @@ pub over-none : (p : Params) (n : ℕ) (t : Bool) → int_lt p.maxnodes (pos n) 
 over-none p n true h k = cc
 over-none p n false h k = h
 
--- the run of a galley from its first state, which the routine stands for
+-- the run of a galley from its first state, which the routine shows
 module _ (v : View) (g : Galley) (r : Routine) (old now : Option (List ℕ)) (t : Totals) (o : Option Ending) (is : state_of r ≡ first_state g.params (classes_of g) (expanded g)) (a : Appends old now (viewed v header)) (nothing : t ≡ no_totals) (over : o ≡ over_limit g.params (held_count (state_of r))) where
   pub start-closing : (ending : Ending) → o ≡ Some ending → ClosesAt v r ending old now t (run_of g)
   start-closing ending some =

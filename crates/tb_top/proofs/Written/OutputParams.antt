@@ -1,4 +1,4 @@
--- The parameters of a valid galley lie in the ranges that the output routine asks for.
+-- The parameters of a valid galley are in the ranges that the output routine asks for.
 use Rattle.std.proofs.Common.{refl, ℤ, pos, Bool, arith}
 use Rattle.std.specs.Prelude.{◌&&◌, IsTrue, negsuc}
 use Rattle.std.proofs.lemmas.Int.{ints}

@@ -1,5 +1,5 @@
 -- A valid galley can be run.
-use Rattle.std.proofs.Common.{refl, ℕ, ◌≤◌, ℤ, pos, ◌≤ℤ◌, Bool, arith}
+use Rattle.std.proofs.Common.{refl, ◌≤◌, ℤ, pos, ◌≤ℤ◌, Bool, arith}
 use Rattle.std.specs.Prelude.{IsTrue, nat_abs, negsuc}
 use Rattle.std.proofs.lemmas.Int.{ints}
 use Rattle.tb_node.specs.Fit.{IsPenalty}

@@ -1,6 +1,6 @@
 -- What a run counts stays in the range of the counts: pages by their limit, boxes and floats by the nodes of a page, and warnings by the
 -- firings and the nodes that wait.
-use Rattle.std.proofs.Common.{◌≡◌, refl, sym, subst, ◌∙◌, ap, ℕ, zero, suc, pos, ◌+◌, ◌*◌, ◌-◌, ◌^◌, ◌<◌, ◌≤◌, Bool, true, false, List, [], ◌∷◌, length, drop, get_or, drop-cons, arith}
+use Rattle.std.proofs.Common.{◌≡◌, refl, sym, subst, ◌∙◌, ap, ℕ, suc, ◌+◌, ◌*◌, ◌-◌, ◌^◌, ◌<◌, ◌≤◌, Bool, true, false, List, [], ◌∷◌, length, drop, get_or, drop-cons, arith}
 use Rattle.std.specs.Prelude.{pred, nat_abs}
 use Rattle.std.specs.List.{AllByRecursion}
 use Rattle.std.proofs.lemmas.Nat.{mul-le}
@@ -9,7 +9,6 @@ use Rattle.tb_node.specs.declared.Node.{Node}
 use Rattle.tb_node.specs.Plain.{PlainKind, PlainNode}
 use Rattle.tb_param.specs.declared.Params.{Params}
 use Rattle.tb_column.specs.Column.{PlainSent, warned, shipped}
-use Rattle.tb_column.specs.Shown.{sent_shown}
 use Rattle.tb_report.specs.declared.Totals.{Totals}
 use Rattle.tb_report.specs.Totals.{is_item_box, is_float_box, one_if, count_kinds, sheet_nodes, no_totals, with_sent, AreCounts}
 use Rattle.tb_output.specs.State.{State}
@@ -99,7 +98,7 @@ counts-next store hs k h old now lt is same room =
 
 -- ---- the tally
 
--- in this state so much was counted: a page for each step of the page number, and less than 2^23 warnings for each firing
+-- in this state this much was counted: a page for each step of the page number, and less than 2^23 warnings for each firing
 pub record IsTally (p : Params) (t : Totals) (s : State) : Type 0 where
   pub pages : t.pages + 1 ≡ s.page
   pub limit : s.page ≤ nat_abs p.maxpages + 1

@@ -37,13 +37,13 @@ fn article_page_comes_in_pieces(rt: HostRuntime) -> Result<(), Fail> {
     Ok(())
 }
 
-// With pieces of one byte each line end of two bytes is parted.
+// With pieces of one byte each line end of two bytes is split.
 #[test]
 fn rows_come_byte_by_byte(rt: HostRuntime) -> Result<(), Fail> {
     check(&rt, rt.alloc(), &ROWS, 1)
 }
 
-// A line of 256 bytes, over which each piece is cut in turn.
+// A line of 256 bytes, and pieces that are cut at each of its bytes in turn.
 #[test]
 fn long_line_comes_in_two_pieces(rt: HostRuntime) -> Result<(), Fail> {
     let alloc = rt.alloc();
@@ -111,7 +111,7 @@ fn reading_stops_past_the_limit(rt: HostRuntime) -> Result<(), Fail> {
     Ok(())
 }
 
-// A reader that once had no memory has none from then on. Only a run in which an allocation fails comes to that.
+// A reader that once had no memory has none from then on. Only a run in which an allocation fails comes to this.
 #[test]
 fn reader_without_memory_stays_so(rt: HostRuntime) -> Result<(), Fail> {
     let mut reader = new_reader(rt.alloc());

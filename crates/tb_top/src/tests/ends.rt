@@ -2,8 +2,8 @@
 use super::rows::ROWS;
 use super::*;
 
-// The worked row of equal costs, and the same galley with few sets: what is read, its report, and how many reads of 50 bytes
-// it takes, with the one that finds the end.
+// The worked row of equal costs, and the same galley with few sets: what is read, its report, and how many reads of 50
+// bytes it takes, the one that finds the end included.
 fn runs() -> [(&'static [u8], &'static [u8], u64); 2] {
     let row = &ROWS[3];
     [(row.input, row.out, 7), (INPUT, REPORT, 4)]
@@ -97,7 +97,8 @@ fn failing_err_keeps_the_answer(rt: HostRuntime) -> Result<(), Fail> {
     Ok(())
 }
 
-// In each mode a first read or a first write that fails is reported, and nothing is written. Refused words are refused before.
+// In each mode a first read or a first write that fails is reported, and nothing is written. Refused words are refused
+// first.
 #[test]
 fn first_fault_of_each_mode(rt: HostRuntime) -> Result<(), Fail> {
     let alloc = rt.alloc();

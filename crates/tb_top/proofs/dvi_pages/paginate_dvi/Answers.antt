@@ -1,26 +1,23 @@
-use Rattle.std.proofs.Common.{◌∙◌, ◌≤◌, ap, sym, subst, ◌≡◌, ◌<◌, ◌++◌, ℕ, Bool, false, List, Option, pos, arith}
-use Rattle.std.specs.Prelude.{IfNone}
+use Rattle.std.proofs.Common.{◌∙◌, ap, sym, subst, ◌≡◌, ◌<◌, ◌++◌, false, List, Option, arith}
 use Rattle.std.proofs.lemmas.Result.{err_from_is_err_and, IfErr-weaker, IfOk-weaker}
 use Rattle.std.specs.Io.KnownBytes.{Appends}
 use Rattle.tb_io.specs.Held.{AppendsPrefix}
-use Rattle.tb_io.proofs.Appended.{prefix_nothing, prefix_whole}
+use Rattle.tb_io.proofs.Appended.{prefix_whole}
 use Rattle.tb_param.specs.declared.Params.{Params}
 use Rattle.tb_output.specs.Machine.{MachineView}
-use Rattle.tb_output.specs.State.{State}
-use Rattle.tb_dvi.specs.File.{Page}
 use Rattle.tb_run.specs.declared.routine.Routine.{Routine}
 use Rattle.tb_run.specs.declared.routine.Ending.{Ending}
 use Rattle.tb_run.specs.declared.happening.Happening.{Happening}
 use Rattle.tb_run.specs.Run.{run_of, held_count, firings_left, step}
 use Rattle.tb_run.specs.Happened.{events_of, noted, step_events}
-use Rattle.tb_run.specs.Turning.{state_of, over_limit, EndsAs, IsTurned, ArePages, AreHappened}
+use Rattle.tb_run.specs.Turning.{state_of, over_limit, EndsAs, IsTurned}
 use Rattle.tb_run.proofs.FromGalley.GalleyRuns.{galley-classes}
 use Rattle.tb_run.proofs.FromGalley.GalleyItems.{galley-items}
 use Rattle.tb_run.proofs.FromGalley.GalleyNodeLemmas.{galley-nodes}
 use Rattle.tb_top.specs.DviPages.{event_pages}
 use Rattle.tb_top.specs.DviWritten.{HoldsPages, FailsAmong}
 use Rattle.tb_top.proofs.DviFiles.DviGoing.{prefix-first, refuses-cut, refuses-among, going-short, start-closing, start-going, turn-fails, turn-closing, turn-going, turn-fewer, ends-well, stops-with, height-fits}
-use Rattle.tb_top.proofs.Written.FinishLemmas.{none-at, limit-ready}
+use Rattle.tb_top.proofs.Written.FinishLemmas.{limit-ready}
 use Rattle.tb_top.proofs.Written.RunParams.{params-runnable}
 use Rattle.tb_top.proofs.dvi_pages.paginate_dvi.Goals as goal
 

@@ -1,4 +1,4 @@
-use Rattle.std.proofs.Common.{◌≡◌, ◌+◌, ◌≤◌, List, ◌∷◌, [], ◌++◌, drop, subst, arith}
+use Rattle.std.proofs.Common.{◌+◌, List, ◌∷◌, [], ◌++◌, drop, subst, arith}
 use Rattle.std.proofs.lemmas.Result.{err_from_is_err_and}
 use Rattle.tb_dvi.specs.File.{Page}
 use Rattle.tb_run.specs.Happened.{event_of, events_of}

@@ -1,4 +1,4 @@
-use Rattle.std.proofs.Common.{◌∙◌, ◌+◌, ◌≤◌, refl, ap, sym, subst, ◌≡◌, ◌<◌, ℕ, List, [], Option, None, Err, arith}
+use Rattle.std.proofs.Common.{◌∙◌, ap, sym, subst, ◌≡◌, ◌<◌, List, Option, None, Err, arith}
 use Rattle.std.specs.Prelude.{IfNone, IfErr, Result}
 use Rattle.std.proofs.lemmas.Result.{err_from_is_err_and, IfErr-weaker, IfOk-weaker}
 use Rattle.std.specs.Io.KnownBytes.{Appends}
@@ -17,7 +17,6 @@ use Rattle.tb_makeup.specs.Turning.{state_of, turns_left, GoesTo, AreHappened}
 use Rattle.tb_top.specs.declared.makeup_pages.PlainRunFault.{PlainRunFault}
 use Rattle.tb_top.specs.declared.makeup_pages.PlainRunFault.TheVariants as faults
 use Rattle.tb_top.specs.MakeupLaws.{MakesUpOnce}
-use Rattle.tb_top.specs.MakeupPages.{MakesPages}
 use Rattle.tb_top.specs.Report.{all_lines, traced_lines}
 use Rattle.tb_top.specs.Written.{viewed, with_events}
 use Rattle.tb_top.proofs.Plain.MakeupClosing.{ended-done, refuses-cut, ends-well, stops-with, stops-cause, stops-shown}
@@ -110,7 +109,7 @@ returns-in_err-ending-clause-refused g c =
 pub send-requires-clause-pages : goal.send-requires-clause-pages
 send-requires-clause-pages g c = subst (λ hs. ArePages c.turn.new.self.store hs) (sym c.deref.ensures.value) c.in_ok-ending.ensures.pages
 
--- where the makeup goes, by the galley's parameters
+-- what the makeup goes on to, by the galley's parameters
 module _ (p : Params) where
   goes-at : (r q : Makeup) (es : List _) (o : Option MakeupEnding) → r.plain.params ≡ p → GoesTo q o r.plain.params es (state_of r) → GoesTo q o p es (state_of r)
   goes-at r q es o is h = subst (λ (x : Params). GoesTo q o x es (state_of r)) is h
