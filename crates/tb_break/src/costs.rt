@@ -10,6 +10,7 @@ use tb_scaled::{AWFUL_BAD, DEPLORABLE, EJECT_PENALTY, INF_BAD, badness};
 
 /// The badness and the cost of a break after nodes with these sums, for a goal in sp, at a penalty, and with the
 /// penalties of the insertions (TeX: The Program §974, §1005).
+#[inline(always)]
 pub fn cost(s: &Sums, goal: i64, penalty: i64, insert_penalties: i64) -> (i64, i64)
     requires total { IsAmount s.now.total }
     requires shrink { IsAmount s.now.shrink }
@@ -26,6 +27,7 @@ pub fn cost(s: &Sums, goal: i64, penalty: i64, insert_penalties: i64) -> (i64, i
 
 /// How badly a page with these sums fits a goal, in sp: 1073741823 if it is overfull, else at most 10000.
 #[tactic(auto, unfolding(crate::specs::Cost::page_badness))]
+#[inline(always)]
 pub fn page_badness(s: &Sums, goal: i64) -> i64
     requires total { IsAmount s.now.total }
     requires shrink { IsAmount s.now.shrink }
@@ -48,6 +50,7 @@ pub fn page_badness(s: &Sums, goal: i64) -> i64
 
 /// The cost of a badness at a penalty, with the penalties of the insertions.
 #[tactic(auto, unfolding(crate::specs::Cost::cost_of_badness))]
+#[inline(always)]
 pub fn cost_of_badness(badness: i64, penalty: i64, insert_penalties: i64) -> i64
     requires badness { pos 0 ≤ℤ badness }
     requires penalty { IsAmount penalty }

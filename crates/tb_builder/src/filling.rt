@@ -183,6 +183,7 @@ impl Builder {
 
     // The waiting nodes go on the page, up to the next event. Most of them are no event and go on a page that is laid
     // out: such a node is not copied.
+    #[inline(always)]
     fn fill(&mut self, store: &mut Lists<Node>, ask: &Ask) -> Event
         requires sound { IsSound self.old store.old }
         requires on { self.old.stopped ≡ false }

@@ -105,6 +105,7 @@ impl Builder {
     }
 
     // The page fires: it breaks at its best place. Returns the page; if memory runs out, nothing has changed.
+    #[inline(always)]
     pub(crate) fn fire(&mut self, store: &mut Lists<Node>) -> Result<Page, AllocError>
         requires sound { IsSound self.old store.old }
         requires stopped { self.old.stopped ≡ true }

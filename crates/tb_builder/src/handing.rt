@@ -33,6 +33,7 @@ fn put_in_front(store: &mut Lists<Node>, a: ListId, b: ListId, c: ListId)
 impl Builder {
     /// Appends a node to the waiting nodes; the list of an insertion is the builder's from then on. The node must not
     /// be glue if the page's last node is a kern and nothing but acts waits. On an `Err` nothing changed.
+    #[inline(always)]
     pub fn contribute(&mut self, store: &mut Lists<Node>, n: Node) -> Result<(), AllocError>
         requires sound { IsSound self.old store.old }
         requires joins { NodesJoin (ids_of self.old) store.old (n ∷ []) }

@@ -15,6 +15,7 @@ use tb_pool::{ListId, Lists};
 
 /// Moves the nodes before a place of a list to the end of another. On the way the rest is in a list that is empty
 /// before and afterwards.
+#[inline(always)]
 pub fn move_front(store: &mut Lists<Node>, to: ListId, from: ListId, between: ListId, place: usize)
     requires to_live { IsLive store.old to }
     requires from_live { IsLive store.old from }

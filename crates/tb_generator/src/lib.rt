@@ -174,6 +174,7 @@ fn made_float(k: u32, class: u8, places: Places, height: u32) -> ItemKind
 }
 
 // A letter, and a number after it.
+#[inline(always)]
 fn letter_number(letter: u8, k: u32) -> Name
     requires letter { is_alphanumeric letter ≡ true }
     requires few { k ≤ 40000 }
