@@ -1,17 +1,13 @@
--- Lists that are not the builder's change, and lists that can join the builder's.
-use Rattle.std.proofs.Common.{◌≡◌, ◌≢◌, refl, sym, subst, ℕ, true, List, [], ◌∷◌, ◌++◌, append-nil}
-use Rattle.std.specs.Prelude.{option_to_list}
+-- Lists that are not the builder's change, and nodes that are neither insertions nor acts.
+use Rattle.std.proofs.Common.{◌≡◌, ◌≢◌, sym, ℕ, true, List, [], ◌∷◌}
 use Rattle.std.specs.FinMap.{get}
 use Rattle.std.proofs.lemmas.Bool.{true≢false}
-use Rattle.tb_pool.specs.Lists.{Lists, IsLive, list_at}
+use Rattle.tb_pool.specs.Lists.{Lists}
 use Rattle.tb_node.specs.declared.Node.{Node}
 use Rattle.tb_node.specs.declared.Kind.{Kind}
 use Rattle.tb_node.specs.declared.Kind.TheVariants as kinds
-use Rattle.tb_insert.specs.declared.Class.{Class}
-use Rattle.tb_builder.specs.Owned.{Lacks, AllDiffer, AllLive, inner_ids, Ids, owned, is_plain, AllPlain, HoldPlain, AllKnown, classes_of, IsOwned}
-use Rattle.tb_builder.specs.Handed.{ListJoins}
+use Rattle.tb_builder.specs.Owned.{Lacks, is_plain, AllPlain}
 use Rattle.tb_builder.proofs.Ownership.OwnedLemmas.{AllSame}
-use Rattle.tb_builder.proofs.Worked.WorkedLemmas.{matter_inner, matter_known}
 use Rattle.tb_column.specs.Page.{is_leaf_kind, AreLeaves}
 
 -- two lists that are none of these changed
@@ -39,26 +35,3 @@ plain-leaf (kinds.Act a) p = absurd (true≢false (sym p))
 pub plain-leaves : (ns : List Node) → AllPlain ns → AreLeaves ns
 plain-leaves [] h = tt
 plain-leaves (n ∷ ns) h = (plain-leaf n.kind h.0, plain-leaves ns h.1)
-
-all-known : (cs : List Class) (ns : List Node) → AllPlain ns → AllKnown cs ns
-all-known cs [] h = tt
-all-known cs (n ∷ ns) h = (matter_known cs n.kind h.0, all-known cs ns h.1)
-
-pub plain-ids : (ns : List Node) → AllPlain ns → inner_ids ns ≡ []
-plain-ids [] h = refl
-plain-ids (n ∷ ns) h = λ i. option_to_list (matter_inner n.kind h.0 i) ++ plain-ids ns h.1 i
-
--- such a list can join the builder's
-pub plain-joins : (b : Ids) (s : Lists Node) (l : ℕ) → IsOwned b s → IsLive s l → Lacks l (owned b s) → AllPlain (list_at s l) → ListJoins b s l
-plain-joins b s l own live apart plain =
-    let none = sym (plain-ids (list_at s l) plain) in
-    record {
-      live = live;
-      apart = subst (λ is. Lacks l (owned b s ++ is)) none (subst (Lacks l) (sym (append-nil (owned b s))) apart);
-      nodes = record {
-        live = subst (AllLive s) none tt;
-        differ = subst (λ is. AllDiffer (owned b s ++ is)) none (subst AllDiffer (sym (append-nil (owned b s))) own.differ);
-        plain_lists = subst (HoldPlain s) none tt;
-        known = all-known (classes_of b) (list_at s l) plain;
-      };
-    }

@@ -31,6 +31,7 @@ use Rattle.tb_builder.proofs.Ownership.OwnedLemmas.{AllSame}
 use Rattle.tb_builder.proofs.Ownership.FrameLemmas.{opened_same, frame_owned, frame_contents, frame_sound, fresh_apart}
 use Rattle.tb_builder.proofs.Ownership.NewLemmas.{fresh_lacks}
 use Rattle.tb_builder.proofs.Ranges.PageableLemmas.{content_sized}
+use Rattle.tb_builder.proofs.Worked.WorkedLemmas.{list_joins}
 use Rattle.tb_column.specs.declared.Column.{Column}
 use Rattle.tb_column.specs.declared.ColumnKind.TheVariants as kinds
 use Rattle.tb_column.specs.Column.{is_ragged}
@@ -45,7 +46,6 @@ use Rattle.tb_plain.specs.Expand.{clearing_penalty}
 use Rattle.tb_plain.specs.Firing.{ragged_end, feet_below, makeup_column_nodes, makeup_column, holds_any, page_for_held, put_back_after}
 use Rattle.tb_plain.specs.Making.{end_list, held_list, back_list, Grows}
 use Rattle.tb_plain.specs.Calls.{AreMakeupParams, CanFire, fired_with, HasFired}
-use Rattle.tb_plain.proofs.BesideLemmas.{plain-joins}
 use Rattle.tb_plain.proofs.GrowLemmas.{grows-then, grows-among, put-grows, put-sound, put-contents, put-owned, other-box, two-counts, shown-anywhere}
 
 -- ---- the end of the column
@@ -402,7 +402,7 @@ module _ (b : Builder) (s o : Lists Node) (page : Page) (l : ℕ) (can : CanFire
     end-keeps q h = subst (Lacks q) (sym end-owned) (grows.keeps q (subst (Lacks q) (sym open-owned) h))
 
     end-joins : ListJoins (ids_of d) u page.body
-    end-joins = plain-joins (ids_of d) u page.body end-sound.own (live_same t u page.body back put) (end-keeps page.body can.free) (subst AllPlain (sym back-is) (back-plain m.params page.penalty page.held))
+    end-joins = list_joins (ids_of d) u page.body end-sound.own (live_same t u page.body back put) (end-keeps page.body can.free) (subst AllPlain (sym back-is) (back-plain m.params page.penalty page.held))
 
     made-fired : HasFired (record { page = m.page; column = c; put_back = page.body }) m now b s d u page
     made-fired = record {

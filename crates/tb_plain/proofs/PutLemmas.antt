@@ -25,13 +25,14 @@ use Rattle.tb_builder.specs.Handed.{NodesJoin, ListJoins, ends_in_kern}
 use Rattle.tb_builder.proofs.Ownership.OwnedLemmas.{AllSame, lacks-append, lacks-right}
 use Rattle.tb_builder.proofs.Ownership.NewLemmas.{fresh_lacks}
 use Rattle.tb_builder.proofs.Ownership.FrameLemmas.{frame_owned, frame_contents, frame_sound, insertion_joins, fresh_apart}
+use Rattle.tb_builder.proofs.Worked.WorkedLemmas.{plain_ids, list_joins}
 use Rattle.tb_column.proofs.StoreLemmas.{helper-apart}
 use Rattle.tb_plain.specs.declared.taking.Place.{Place}
 use Rattle.tb_plain.specs.declared.taking.Place.TheVariants as ways
 use Rattle.tb_plain.specs.Take.{here_nodes, top_leaves, page_leaves, top_insertion, taken_nodes, act_nodes, with_float}
 use Rattle.tb_plain.specs.Making.{place_of, nodes_at, here_list, top_list, page_list, top_node, AreOpened, IsPutFirst}
 use Rattle.tb_plain.specs.Calls.{CanAct, HasPut}
-use Rattle.tb_plain.proofs.BesideLemmas.{same-one, same-two, plain-ids, plain-joins}
+use Rattle.tb_plain.proofs.BesideLemmas.{same-one, same-two}
 
 -- ---- the list is put first and closed
 
@@ -113,11 +114,11 @@ module _ (b : Builder) (s t : Lists Node) (l : ℕ) (p : Params) (f : Float) (ca
   here-can = still-can b s t l can fresh here-same
 
   pub here-joins : ListJoins (ids_of b) t l
-  here-joins = plain-joins (ids_of b) t l (still-sound b s t l can fresh here-same).own (live_same s t l (here_list p f) filled) (still-apart b s t l can fresh here-same) here-plain
+  here-joins = list_joins (ids_of b) t l (still-sound b s t l can fresh here-same).own (live_same s t l (here_list p f) filled) (still-apart b s t l can fresh here-same) here-plain
 
   pub here-put : (d : Builder) (u : Lists Node) → IsPutFirst l b t d u → HasPut (here_nodes p f) b s d u
   here-put d u w =
-      has-put b s t l can fresh here-same (λ q ne h. get_other s t l (here_list p f) q ne filled) (λ q live. subst (Lacks q) (sym (plain-ids (list_at t l) here-plain)) tt)
+      has-put b s t l can fresh here-same (λ q ne h. get_other s t l (here_list p f) q ne filled) (λ q live. subst (Lacks q) (sym (plain_ids (list_at t l) here-plain)) tt)
       (here_nodes p f) (ap (map (plain_of (list_at t))) here-is) d u w
 
 -- ---- two lists are opened
