@@ -6,6 +6,7 @@ use Rattle.std.proofs.lemmas.List.{length-take, length-append, append-nil}
 use Rattle.std.proofs.lemmas.List.Sums.{fold-append}
 use Rattle.std.proofs.lemmas.List.Folds.{list_all-append}
 use Rattle.std.proofs.lemmas.Bool.Decides.{nat_tests}
+use Rattle.std.proofs.lemmas.Bool.{and_parts, not-true}
 use Rattle.tb_text.specs.Lines.{is_feed, IsUnended, lines_of}
 use Rattle.tb_text.proofs.LineTexts.{lines_of-first, lines_of-last}
 use Rattle.tb_galley.specs.declared.Fault.{Fault}
@@ -50,24 +51,12 @@ take_kept s l = kept_by s l (nat_lt 257 (length l)) refl
 
 -- ---- one piece of a line, and its end
 
-left_of : (a b : Bool) → (a && b) ≡ true → a ≡ true
-left_of true b h = refl
-left_of false b h = h
-
-right_of : (a b : Bool) → (a && b) ≡ true → b ≡ true
-right_of true b h = h
-right_of false b h = cc
-
-not_true : (t : Bool) → not t ≡ true → t ≡ false
-not_true true h = cc
-not_true false h = refl
-
 pub fold_unended : (s : State) (line w : List ℕ) → IsUnended w → fold take_byte (Lines s (kept_line line)) w ≡ Lines s (kept_line (line ++ w))
 fold_unended s line [] h = ap (λ l. Lines s (kept_line l)) (sym (append-nil line))
 fold_unended s line (b ∷ w) h =
-    ap (λ t. fold take_byte (with_byte s (kept_line line) b t) w) (not_true (is_feed b) (left_of (not (is_feed b)) (list_all (λ c. not (is_feed c)) w) h))
+    ap (λ t. fold take_byte (with_byte s (kept_line line) b t) w) (not-true (is_feed b) ((and_parts (not (is_feed b)) (list_all (λ c. not (is_feed c)) w) h).0))
     ∙ ap (λ l. fold take_byte (Lines s l) w) (kept-append line (b ∷ []))
-    ∙ fold_unended s (line ++ b ∷ []) w (right_of (not (is_feed b)) (list_all (λ c. not (is_feed c)) w) h)
+    ∙ fold_unended s (line ++ b ∷ []) w ((and_parts (not (is_feed b)) (list_all (λ c. not (is_feed c)) w) h).1)
     ∙ ap (λ l. Lines s (kept_line l)) (append_assoc line (b ∷ []) w)
 
 pub fold_ended : (s : State) (line w rest : List ℕ) → IsUnended w

@@ -4,6 +4,7 @@ use Rattle.std.specs.Prelude.{int_lt, codes}
 use Rattle.std.specs.List.{list_all, list_any}
 use Rattle.std.proofs.lemmas.Bool.Decides.{nat_tests}
 use Rattle.std.proofs.lemmas.Int.{ints}
+use Rattle.std.proofs.lemmas.Bool.{or_left, or_right}
 use Rattle.tb_scaled.specs.declared.Order.{Order}
 use Rattle.tb_scaled.specs.declared.Order.TheVariants.{Normal}
 use Rattle.tb_node.specs.Names.{is_name, is_between}
@@ -158,14 +159,6 @@ fraction_has l =
 
 abbrev has_place : Places → Bool
 has_place p = p.h || p.t || p.b || p.p
-
-or_left : (a b : Bool) → a ≡ true → (a || b) ≡ true
-or_left true b h = refl
-or_left false b h = cc
-
-or_right : (a b : Bool) → b ≡ true → (a || b) ≡ true
-or_right true b h = refl
-or_right false b h = h
 
 some_place : (a t b p e h1 t1 b1 p1 some : Bool) → (a || t || b || p || e) ≡ true → (not e || some) ≡ true → (some ≡ true → (h1 || t1 || b1 || p1) ≡ true)
     → ((a || h1) || (t || t1) || (b || b1) || (p || p1)) ≡ true

@@ -1,5 +1,5 @@
 -- The lines of the canonical text take the reader to the galley.
-use Rattle.std.proofs.Common.{◌≡◌, ℕ, ◌+◌, ◌≤◌, Bool, true, false, ◌&&◌, nat_le, ◌==◌, List, [], ◌∷◌, ◌++◌, length, map, Some, None, refl, ap, sym, ◌∙◌, arith, append_assoc}
+use Rattle.std.proofs.Common.{◌≡◌, ℕ, ◌+◌, ◌≤◌, Bool, true, false, ◌&&◌, nat_le, ◌==◌, List, [], ◌∷◌, ◌++◌, length, map, Some, None, refl, ap, sym, ◌∙◌, arith, append_assoc, append-nil}
 use Rattle.std.specs.Prelude.{codes}
 use Rattle.std.specs.List.{list_all, fold}
 use Rattle.std.proofs.lemmas.Bool.Decides.{nat_tests}
@@ -244,10 +244,6 @@ same_foot a b x y ps v cs before e class line ls ms p q r = (λ i. foot_state (p
 same_items : (a b : ℕ) (p : Phase) (x y : ℕ) (ps : Params) (v : ℕ) (cs : List ClassLine) (e : ℕ) (is js : List Item) → a ≡ b → x ≡ y → is ≡ js → item_state a p x ps v cs e is ≡ item_state b p y ps v cs e js
 same_items a b ph x y ps v cs e is js p q r = (λ i. item_state (p i) ph (q i) ps v cs e (r i))
 
-no_more : {X : Type 0} (xs : List X) → xs ++ [] ≡ xs
-no_more [] = refl
-no_more (x ∷ xs) = ap (λ ys. x ∷ ys) (no_more xs)
-
 leaf_run : (n c : ℕ) (ps : Params) (v : ℕ) (cs : List ClassLine) (before : List Item) (e class line : ℕ) (so_far : List Leaf) (k : LeafKind) → c + 1 ≤ 100000 → is_leaf k ≡ true
     → Runs (foot_state n c ps v cs before e class line so_far) (leaf_line k ∷ []) (foot_state (n + 1) (c + 1) ps v cs before e class line (so_far ++ record { line = n + 1; kind = k } ∷ []))
 unfolding leaf_line
@@ -259,7 +255,7 @@ leaves_run : (n c : ℕ) (ps : Params) (v : ℕ) (cs : List ClassLine) (before :
 unfolding numbered_leaves
 leaves_run n c ps v cs before e class line so_far [] few good =
     to_state (foot_state n c ps v cs before e class line so_far) (foot_state n c ps v cs before e class line so_far) (foot_state (n + 0) (c + 0) ps v cs before e class line (so_far ++ [])) []
-    (same_foot n (n + 0) c (c + 0) ps v cs before e class line so_far (so_far ++ []) (omega arith) (omega arith) (sym (no_more so_far)))
+    (same_foot n (n + 0) c (c + 0) ps v cs before e class line so_far (so_far ++ []) (omega arith) (omega arith) (sym (append-nil so_far)))
     (no_lines (foot_state n c ps v cs before e class line so_far))
 leaves_run n c ps v cs before e class line so_far (l ∷ ls) few good =
     let leaf : Leaf = record { line = n + 1; kind = l.kind } in
@@ -331,7 +327,7 @@ pub items_run : (n : ℕ) (p : Phase) (c : ℕ) (ps : Params) (v : ℕ) (cs : Li
 unfolding numbered_items
 items_run n p c ps v cs e before [] has takes few good known =
     to_state (item_state n p c ps v cs e before) (item_state n p c ps v cs e before) (item_state (n + 0) p (c + 0) ps v cs e (before ++ [])) []
-    (same_items n (n + 0) p c (c + 0) ps v cs e before (before ++ []) (omega arith) (omega arith) (sym (no_more before)))
+    (same_items n (n + 0) p c (c + 0) ps v cs e before (before ++ []) (omega arith) (omega arith) (sym (append-nil before)))
     (no_lines (item_state n p c ps v cs e before))
 items_run n p c ps v cs e before (i ∷ is) has takes few good known =
     let k : ℕ = weight_of i.kind in

@@ -1,5 +1,5 @@
 -- The reader's galley stays valid, line by line.
-use Rattle.std.proofs.Common.{◌≡◌, ℕ, ◌+◌, ◌≤◌, Bool, true, false, ◌&&◌, not, ◌||◌, ◌==◌, nat_le, List, [], ◌∷◌, Option, Some, None, Result, Ok, Err, IfOk, refl, sym, subst, ◌⊎◌, inl, inr, arith, if◌then◌else◌}
+use Rattle.std.proofs.Common.{◌≡◌, ℕ, ◌+◌, ◌≤◌, Bool, true, false, ◌&&◌, not, ◌||◌, ◌==◌, nat_le, List, [], ◌∷◌, Option, Some, None, Result, Ok, Err, IfOk, refl, sym, subst, ◌⊎◌, inl, inr, arith, if◌then◌else◌, append-nil}
 use Rattle.std.specs.List.{list_all, fold}
 use Rattle.std.proofs.lemmas.Bool.Decides.{nat_tests}
 use Rattle.tb_param.specs.declared.params.Params.{Params}
@@ -28,7 +28,7 @@ use Rattle.tb_galley.specs.Valid.{is_leaf, is_item, weight_of, weight, lines_of_
 use Rattle.tb_galley.proofs.Suited.{is_single_word, LeafSaid, ItemSaid, Suits, SaidSuits, IfSaid, line_suits}
 use Rattle.tb_galley.proofs.Conjunctions.{both, left_of, right_of}
 use Rattle.tb_galley.proofs.WithClass.{rise-with, all-with, among-with}
-use Rattle.tb_galley.proofs.SoundLines.{Rises, nothing_more, numbers, Sound, drafted, past_line, fits_two, header_line, set_line, items_left, item_line, leaf_line, foot_line, endfoot_line, end_line}
+use Rattle.tb_galley.proofs.SoundLines.{Rises, numbers, Sound, drafted, past_line, fits_two, header_line, set_line, items_left, item_line, leaf_line, foot_line, endfoot_line, end_line}
 
 -- ---- each content, in each phase
 
@@ -281,7 +281,7 @@ ended_galley n c ps v cs is None e s =
       items = s.items;
       feet = s.classed.feet;
       count = few;
-      lines = subst (λ ns. Rises ns e) (nothing_more (named_lines is)) s.lines;
+      lines = subst (λ ns. Rises ns e) (append-nil (named_lines is)) s.lines;
     }
 ended_galley n c ps v cs is (Some o) e s = cc
 

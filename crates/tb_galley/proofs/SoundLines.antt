@@ -1,10 +1,11 @@
 -- A reader is sound: what it has drafted so far is in its ranges; each line of a known content keeps it so.
-use Rattle.std.proofs.Common.{◌≡◌, ℕ, ◌+◌, ◌≤◌, ◌<◌, Bool, true, false, ◌&&◌, not, ◌||◌, ◌==◌, nat_lt, nat_le, length, map, List, [], ◌∷◌, ◌++◌, Option, Some, None, refl, ap, sym, subst, ◌∙◌, ◌⊎◌, inl, inr, arith, append_assoc, length-append}
+use Rattle.std.proofs.Common.{◌≡◌, ℕ, ◌+◌, ◌≤◌, ◌<◌, Bool, true, false, ◌&&◌, not, ◌||◌, ◌==◌, nat_lt, nat_le, length, map, List, [], ◌∷◌, ◌++◌, Option, Some, None, refl, ap, sym, subst, ◌∙◌, ◌⊎◌, inl, inr, arith, append_assoc, length-append, append-nil}
 use Rattle.std.specs.Prelude.{is_some, is_none}
-use Rattle.std.proofs.lemmas.Bool.{eqb-true}
+use Rattle.std.proofs.lemmas.Bool.{eqb-true, or_right}
 use Rattle.std.specs.List.{list_all}
 use Rattle.std.proofs.lemmas.Bool.Decides.{nat_tests}
 use Rattle.std.proofs.lemmas.List.Folds.{list_all-append}
+use Rattle.std.proofs.Math.Bool.{or-true}
 use Rattle.tb_param.specs.declared.params.Params.{Params}
 use Rattle.tb_param.specs.declared.fields.Field.{Field}
 use Rattle.tb_param.specs.declared.Value.{Value}
@@ -47,10 +48,6 @@ rises_more_from : (m : ℕ) (xs : List ℕ) (a b : ℕ) → rise_from m (xs ++ a
 rises_more_from m [] a b h k = let below : nat_lt a b ≡ true = grind (arith, nat_tests) in below_and m a a true (nat_lt a b && true) h (omega arith) (λ e. ap (λ t. t && true) below)
 rises_more_from m (x ∷ xs) a b h k = below_and m x x (rise_from x (xs ++ a ∷ [])) (rise_from x ((xs ++ a ∷ []) ++ b ∷ [])) h (omega arith) (λ e. rises_more_from x xs a b e k)
 
-pub nothing_more : {X : Type 0} (xs : List X) → xs ++ [] ≡ xs
-nothing_more [] = refl
-nothing_more (x ∷ xs) = ap (λ ys. x ∷ ys) (nothing_more xs)
-
 -- ---- one item more
 
 weight-append : (is : List Item) (i : Item) → weight (is ++ i ∷ []) ≡ weight is + weight_of i.kind
@@ -58,7 +55,7 @@ weight-append [] i = omega arith
 weight-append (j ∷ is) i = let more : weight (is ++ i ∷ []) ≡ weight is + weight_of i.kind = weight-append is i in omega arith
 
 named-append : (is : List Item) (i : Item) → named_lines (is ++ i ∷ []) ≡ named_lines is ++ lines_of_item i.line i.kind
-named-append [] i = nothing_more (lines_of_item i.line i.kind)
+named-append [] i = append-nil (lines_of_item i.line i.kind)
 named-append (j ∷ is) i = ap (λ ls. lines_of_item j.line j.kind ++ ls) (named-append is i) ∙ sym (append_assoc (lines_of_item j.line j.kind) (named_lines is) (lines_of_item i.line i.kind))
 
 leaf_lines-append : (ls : List Leaf) (l : Leaf) → leaf_lines (ls ++ l ∷ []) ≡ leaf_lines ls ++ l.line ∷ []
@@ -167,10 +164,6 @@ past_line n p c d s = record {
 
 pub fits_two : (v : ℕ) (cs : List ClassLine) (ps : Params) → (v == 2) ≡ true → fits_version v cs ps ≡ true
 fits_two v [] ps h = or_right ((v == 1) && not (has_second ps)) (v == 2) h
-  where
-    or_right : (a b : Bool) → b ≡ true → (a || b) ≡ true
-    or_right true b h = refl
-    or_right false b h = h
 fits_two v (c ∷ cs) ps h = h
 
 -- a draft that fits version 1 fits each version
@@ -266,11 +259,7 @@ set_fits v [] field value ps known h = by_version (v == 1) (v == 2) (λ e. eqb-t
     with_second x y e h = subst (λ z. (not z || false) ≡ true) (sym e) h
 
     by_version : (one two : Bool) → (one ≡ true → v ≡ 1) → ((one && not (has_second ps)) || two) ≡ true → ((one && not (has_second (with_value field value ps))) || two) ≡ true
-    by_version true true is h = or_true (not (has_second (with_value field value ps)))
-      where
-        or_true : (a : Bool) → (a || true) ≡ true
-        or_true true = refl
-        or_true false = refl
+    by_version true true is h = or-true (not (has_second (with_value field value ps)))
     by_version true false is h = with_second (has_second ps) (has_second (with_value field value ps)) (keeps_release field value ps (subst (λ n. is_known_in n field ≡ true) (is refl) known)) h
     by_version false two is h = h
 set_fits v (c ∷ cs) field value ps known h = h
@@ -308,7 +297,7 @@ items_left c false e h = grind (arith, nat_tests)
 
 more_lines : (xs named : List ℕ) (m n : ℕ) → (named ≡ []) ⊎ (named ≡ m ∷ []) → m < n → Rises xs m → Rises (xs ++ named) n
 more_lines xs named m n (inl e) k h =
-    subst (λ ns. Rises (xs ++ ns) n) (sym e) (subst (λ ns. Rises ns n) (sym (nothing_more xs)) (rises_later_from 0 xs m n h (omega arith)))
+    subst (λ ns. Rises (xs ++ ns) n) (sym e) (subst (λ ns. Rises ns n) (sym (append-nil xs)) (rises_later_from 0 xs m n h (omega arith)))
 more_lines xs named m n (inr e) k h = subst (λ ns. Rises (xs ++ ns) n) (sym e) (rises_more_from 0 xs m n h k)
 
 -- an item of one line, with no foot open
@@ -318,7 +307,7 @@ pub item_line : (n c : ℕ) (ps : Params) (v : ℕ) (cs : List ClassLine) (is : 
 item_line n c ps v cs is e k fits good one known named p next s =
     let i : Item = record { line = n + 1; kind = k } in
     let heavier : weight (is ++ i ∷ []) ≡ weight is + weight_of k = weight-append is i in
-    let before : Rises (named_lines is) (n + 1) = subst (λ a. Rises (named_lines is) a) next (subst (λ ns. Rises ns (last_line p n e)) (nothing_more (named_lines is)) s.lines) in
+    let before : Rises (named_lines is) (n + 1) = subst (λ a. Rises (named_lines is) a) next (subst (λ ns. Rises ns (last_line p n e)) (append-nil (named_lines is)) s.lines) in
     let light : weight is + 0 ≤ c = s.weight in
     record {
       params = s.params;
@@ -329,7 +318,7 @@ item_line n c ps v cs is e k fits good one known named p next s =
       count = fits;
       phase = refl;
       lines =
-          subst (λ ns. Rises ns (n + 1 + 1)) (sym (nothing_more (named_lines (is ++ i ∷ [])) ∙ named-append is i))
+          subst (λ ns. Rises ns (n + 1 + 1)) (sym (append-nil (named_lines (is ++ i ∷ [])) ∙ named-append is i))
           (more_lines (named_lines is) (lines_of_item (n + 1) k) (n + 1) (n + 1 + 1) named (omega arith) before);
     }
 
@@ -383,7 +372,7 @@ endfoot_line n c ps v cs is o e fits s =
       count = fits;
       phase = refl;
       lines =
-          subst (λ ns. Rises ns (n + 1 + 1)) (sym (nothing_more (named_lines (is ++ i ∷ [])) ∙ named-append is i))
+          subst (λ ns. Rises ns (n + 1 + 1)) (sym (append-nil (named_lines (is ++ i ∷ [])) ∙ named-append is i))
           (rises_later_from 0 (named_lines is ++ leaf_lines o.leaves) (n + 1) (n + 1 + 1) s.lines (omega arith));
     }
 

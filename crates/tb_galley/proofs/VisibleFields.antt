@@ -3,20 +3,13 @@ use Rattle.std.proofs.Common.{◌≡◌, refl, sym, subst, ℕ, suc, ◌+◌, �
 use Rattle.std.specs.List.{list_all, prefix_len}
 use Rattle.std.proofs.lemmas.Slice.Eq.{bytes_eq-Decides}
 use Rattle.std.proofs.lemmas.Bool.Decides.{nat_tests}
+use Rattle.std.proofs.lemmas.Bool.{and_from}
 use Rattle.tb_text.specs.declared.TextFault.TheVariants.{BadNumber, BadUnit}
 use Rattle.tb_text.specs.Numbers.{is_digit, NumberPart, digits_at, past_digits, after_whole, unsigned_part, number_part, has_no_digit, has_unit, within_dimen, in_points, whole_of, dimension_by, dimension_of}
 use Rattle.tb_galley.specs.Faults.{is_printable}
 
 abbrev are_visible : List ℕ → Bool
 are_visible bs = list_all is_printable bs
-
-both : (a b : Bool) → a ≡ true → b ≡ true → (a && b) ≡ true
-both true b h k = k
-both false b h k = h
-
-halves : (a b : Bool) → (a && b) ≡ true → (a ≡ true) × (b ≡ true)
-halves true b h = (refl, h)
-halves false b h = cc
 
 digit_visible : (b : ℕ) → is_digit b ≡ true → is_printable b ≡ true
 digit_visible b h = grind (arith, nat_tests)
@@ -32,7 +25,7 @@ past_visible (b ∷ bs) h = by_test (past_visible bs) (is_digit b) refl h
     by_test rest false e h = h
     by_test rest true e h =
         let one : 1 + prefix_len is_digit bs ≡ suc (prefix_len is_digit bs) = omega arith in
-        both (is_printable b) (are_visible bs) (digit_visible b e) (rest (subst (λ n. are_visible (drop n (b ∷ bs)) ≡ true) one h))
+        and_from (is_printable b) (are_visible bs) (digit_visible b e) (rest (subst (λ n. are_visible (drop n (b ∷ bs)) ≡ true) one h))
 
 after_visible : (negative : Bool) (whole rest : List ℕ) → are_visible (after_whole negative whole rest).unit ≡ true → are_visible rest ≡ true
 after_visible negative whole [] h = refl
@@ -41,7 +34,7 @@ after_visible negative whole (b ∷ bs) h = by_point (b == 46) refl h
     by_point : (t : Bool) → (b == 46) ≡ t
         → are_visible (if t then (let p : NumberPart = record { negative = negative; whole = whole; point = true; decimals = digits_at bs; unit = past_digits bs } in p)
         else (let p : NumberPart = record { negative = negative; whole = whole; point = false; decimals = []; unit = b ∷ bs } in p)).unit ≡ true → are_visible (b ∷ bs) ≡ true
-    by_point true e h = both (is_printable b) (are_visible bs) (equal_visible b 46 e refl) (past_visible bs h)
+    by_point true e h = and_from (is_printable b) (are_visible bs) (equal_visible b 46 e refl) (past_visible bs h)
     by_point false e h = h
 
 unsigned_visible : (negative : Bool) (bs : List ℕ) → are_visible (unsigned_part negative bs).unit ≡ true → are_visible bs ≡ true
@@ -53,8 +46,8 @@ number_visible (b ∷ bs) h = by_sign (b == 43) (b == 45) refl refl h
   where
     by_sign : (plus minus : Bool) → (b == 43) ≡ plus → (b == 45) ≡ minus
         → are_visible (if plus then unsigned_part false bs else (if minus then unsigned_part true bs else unsigned_part false (b ∷ bs))).unit ≡ true → are_visible (b ∷ bs) ≡ true
-    by_sign true minus e f h = both (is_printable b) (are_visible bs) (equal_visible b 43 e refl) (unsigned_visible false bs h)
-    by_sign false true e f h = both (is_printable b) (are_visible bs) (equal_visible b 45 f refl) (unsigned_visible true bs h)
+    by_sign true minus e f h = and_from (is_printable b) (are_visible bs) (equal_visible b 43 e refl) (unsigned_visible false bs h)
+    by_sign false true e f h = and_from (is_printable b) (are_visible bs) (equal_visible b 45 f refl) (unsigned_visible true bs h)
     by_sign false false e f h = unsigned_visible false (b ∷ bs) h
 
 same_visible : (bs unit : List ℕ) → bytes_eq bs unit ≡ true → are_visible unit ≡ true → are_visible bs ≡ true

@@ -1,7 +1,7 @@
 -- One more class among those that were declared: they stay in their ranges, they rise, and none is lost.
 use Rattle.std.proofs.Common.{◌≡◌, ℕ, Bool, true, false, ◌||◌, ◌==◌, nat_lt, List, [], ◌∷◌, map, if◌then◌else◌, refl, ap, sym, subst, ◌∙◌, arith}
 use Rattle.std.specs.List.{list_all, list_any}
-use Rattle.std.proofs.lemmas.Bool.{eqb-true}
+use Rattle.std.proofs.lemmas.Bool.{eqb-true, or_right}
 use Rattle.std.proofs.lemmas.Bool.Decides.{nat_tests}
 use Rattle.tb_galley.specs.declared.classes.ClassLine.{ClassLine}
 use Rattle.tb_galley.specs.Values.{is_class_among}
@@ -63,14 +63,6 @@ all-with c (d ∷ ds) good all = by_number (c.number == d.number) (nat_lt c.numb
 abbrev numbers : List ClassLine → List ℕ
 numbers cs = map (λ (c : ClassLine). c.number) cs
 
-or-left : (a b : Bool) → a ≡ true → (a || b) ≡ true
-or-left true b h = refl
-or-left false b h = cc
-
-or-right : (a b : Bool) → b ≡ true → (a || b) ≡ true
-or-right true b h = refl
-or-right false b h = h
-
 or-more : (a b c : Bool) → (b ≡ true → c ≡ true) → (a || b) ≡ true → (a || c) ≡ true
 or-more true b c f h = refl
 or-more false b c f h = f h
@@ -85,7 +77,7 @@ in-with c (d ∷ ds) n h = by_number (c.number == d.number) (nat_lt c.number d.n
     by_number : (same less : Bool) → (c.number == d.number) ≡ same → (is_in (numbers ds) n ≡ true → is_in (numbers (with_class c ds)) n ≡ true)
         → is_in (numbers (if same then c ∷ ds else (if less then c ∷ d ∷ ds else d ∷ with_class c ds))) n ≡ true
     by_number true less is more = ap (λ k. (k == n) || is_in (numbers ds) n) (eqb-true c.number d.number is) ∙ h
-    by_number false true is more = or-right (c.number == n) (is_in (numbers (d ∷ ds)) n) h
+    by_number false true is more = or_right (c.number == n) (is_in (numbers (d ∷ ds)) n) h
     by_number false false is more = or-more (d.number == n) (is_in (numbers ds) n) (is_in (numbers (with_class c ds)) n) more h
 
 -- none of their numbers is lost

@@ -1,9 +1,10 @@
 -- A generated galley is valid.
-use Rattle.std.proofs.Common.{◌≡◌, ◌+◌, ◌*◌, ◌<◌, ◌≤◌, ◌&&◌, refl, sym, subst, arith, ℕ, zero, suc, Bool, true, false, nat_lt, List, [], ◌∷◌, ◌++◌, append_assoc}
+use Rattle.std.proofs.Common.{◌≡◌, ◌+◌, ◌*◌, ◌<◌, ◌≤◌, refl, sym, subst, arith, ℕ, zero, suc, Bool, true, false, nat_lt, List, [], ◌∷◌, ◌++◌, append_assoc}
 use Rattle.std.specs.Prelude.{◌/◌, ◌%◌, ◌==◌, ◌||◌, nat_le}
 use Rattle.std.specs.List.{list_all}
 use Rattle.std.proofs.lemmas.Bool.Decides.{nat_tests}
 use Rattle.std.proofs.lemmas.Int.{ints}
+use Rattle.std.proofs.lemmas.Bool.{and_from}
 use Rattle.tb_node.specs.declared.Places.{Places}
 use Rattle.tb_node.specs.Names.{is_between}
 use Rattle.tb_param.specs.Defaults.{default_params, points, glue_points}
@@ -24,9 +25,6 @@ params_valid : are_params made_params ≡ true
 unfolding are_params made_params default_params row_of
 params_valid = refl
 
-both : (a b : Bool) → a ≡ true → b ≡ true → (a && b) ≡ true
-both a b e f = λ i. e i && f i
-
 small : (n : ℕ) → n ≤ 100 → is_size (points n) ≡ true
 small n few = grind (arith, ints)
 
@@ -43,14 +41,14 @@ record IsMade (k : ℕ) (i : ItemKind) : Type 0 where
   rises : (j : ℕ) (rest : List ℕ) → j < k → ((i : ℕ) → i ≤ k → rise_from i rest ≡ true) → rise_from j (lines_of_item k i ++ rest) ≡ true
 
 one-line : (j k : ℕ) (rest : List ℕ) → j < k → ((i : ℕ) → i ≤ k → rise_from i rest ≡ true) → rise_from j (k ∷ rest) ≡ true
-one-line j k rest low later = both (nat_lt j k) _ (grind (arith, nat_tests)) (later k (omega arith))
+one-line j k rest low later = and_from (nat_lt j k) _ (grind (arith, nat_tests)) (later k (omega arith))
 
 no-line : (j k : ℕ) (rest : List ℕ) → j < k → ((i : ℕ) → i ≤ k → rise_from i rest ≡ true) → rise_from j rest ≡ true
 no-line j k rest low later = later j (omega arith)
 
 box_made : (k : ℕ) → k ≤ 40000 → IsMade k (made_box k)
 box_made k few = record {
-  good = both _ _ (both _ _ (named 98 k refl few) refl) refl;
+  good = and_from _ _ (and_from _ _ (named 98 k refl few) refl) refl;
   known = refl;
   light = omega arith;
   rises = λ j rest low later. one-line j k rest low later;
@@ -62,7 +60,7 @@ module _ (k : ℕ) (few : k ≤ 40000) (even : k % 2 ≡ 0) where
 
   foot_made : IsMade k (made_foot k)
   foot_made = record {
-    good = both _ _ (both _ _ (both _ _ (named 102 k refl few) refl) refl) refl;
+    good = and_from _ _ (and_from _ _ (and_from _ _ (named 102 k refl few) refl) refl) refl;
     known = refl;
     light = omega arith;
     rises = λ j rest low later. one-line j k rest low later;
@@ -70,7 +68,7 @@ module _ (k : ℕ) (few : k ≤ 40000) (even : k % 2 ≡ 0) where
 
   float_made : (class : ℕ) (places : Places) (height : ℕ) → is_between 1 26 class ≡ true → (places.h || places.t || places.b || places.p) ≡ true → height ≤ 100 → IsMade k (made_float k class places height)
   float_made class places height c p low = record {
-    good = both _ _ (itself k) (both _ _ (both _ _ (both _ _ (named 120 k refl few) c) p) (small height low));
+    good = and_from _ _ (itself k) (and_from _ _ (and_from _ _ (and_from _ _ (named 120 k refl few) c) p) (small height low));
     known = refl;
     light = omega arith;
     rises = λ j rest lower later. one-line j k rest lower later;
@@ -96,11 +94,11 @@ made k s few = item_made k s (k % 2 == 1) refl few
 
 items_good : (m k s : ℕ) → k + m ≤ 40001 → list_all (λ (n : Item). is_item n.line n.kind) (made_items m k s) ≡ true
 items_good zero k s few = refl
-items_good (suc m) k s few = both _ _ (made k (next_seed s) (omega arith)).good (items_good m (k + 1) (next_seed s) (omega arith))
+items_good (suc m) k s few = and_from _ _ (made k (next_seed s) (omega arith)).good (items_good m (k + 1) (next_seed s) (omega arith))
 
 feet_known : (m k s : ℕ) → k + m ≤ 40001 → list_all (λ (n : Item). has_known_class [] n.kind) (made_items m k s) ≡ true
 feet_known zero k s few = refl
-feet_known (suc m) k s few = both _ _ (made k (next_seed s) (omega arith)).known (feet_known m (k + 1) (next_seed s) (omega arith))
+feet_known (suc m) k s few = and_from _ _ (made k (next_seed s) (omega arith)).known (feet_known m (k + 1) (next_seed s) (omega arith))
 
 items_light : (m k s : ℕ) → k + m ≤ 40001 → weight (made_items m k s) + k % 2 ≤ 2 * m + 1
 items_light zero k s few = omega arith
@@ -110,7 +108,7 @@ items_light (suc m) k s few =
     omega (arith, here, later)
 
 items_rise : (m k s j : ℕ) → k + m ≤ 40001 → j < k → rise_from j (named_lines (made_items m k s) ++ (k + m) ∷ []) ≡ true
-items_rise zero k s j few low = both (nat_lt j (k + 0)) true (grind (arith, nat_tests)) refl
+items_rise zero k s j few low = and_from (nat_lt j (k + 0)) true (grind (arith, nat_tests)) refl
 items_rise (suc m) k s j few low =
     let i = made_item k (next_seed s) in
     let rest = named_lines (made_items m (k + 1) (next_seed s)) in

@@ -3,7 +3,7 @@ use Rattle.std.proofs.Common.{◌≡◌, refl, sym, ◌∙◌, ap, subst, inl, i
 use Rattle.std.specs.Prelude.{negsuc, nat_lt, nat_le, ◌&&◌, slice_get, if◌then◌else◌}
 use Rattle.std.specs.Ordering.{int_eq}
 use Rattle.std.proofs.lemmas.Option.{get_or_from_slice_get}
-use Rattle.std.proofs.lemmas.Bool.{true≢false, cases_eq}
+use Rattle.std.proofs.lemmas.Bool.{true≢false, cases_eq, and_parts}
 use Rattle.std.proofs.lemmas.Bool.Decides.{nat_tests}
 use Rattle.tb_scaled.specs.Scaled.{badness_of}
 use Rattle.tb_lines.specs.declared.text.LineParams.{LineParams}
@@ -49,10 +49,6 @@ no_demerits ps s p h = ap (feasible_demerits ps p) (no_badness ps.hsize s h)
 wider : (h a b la lb ta tb f : ℕ) → a + la ≡ ta → b + lb ≡ tb → tb ≤ 281474976710656 → f ≤ ta + (281474976710656 - tb) → h + (a + (281474976710656 - b)) < f → h + lb < la
 wider h a b la lb ta tb f w s few le lt = omega arith
 
-and_true : (a b : Bool) → (a && b) ≡ true → (a ≡ true) × (b ≡ true)
-and_true false b h = absurd (true≢false (sym h))
-and_true true b h = (refl, h)
-
 -- a line that begins at this start is too wide for break `to` and all past it, whose least width before a break is f
 pub too_wide : (ps : LineParams) (es : List Entry) (i to start : ℕ) (s : Sums) (f : ℕ) → start ≡ first_word es (i + 1) → start ≤ to → s ≡ sums_of (take start es)
     → ((j : ℕ) → to ≤ j → j < length es → is_legal es j ≡ true → f ≤ least_width (sums_of (take j es)))
@@ -71,8 +67,8 @@ too_wide ps es i to start s f here within sums floor few over j le = by_step (is
     by_step : (t : Bool) → is_step es (Some i) j ≡ t → (if t then line_demerits ps es (Some i) j else None) ≡ None
     by_step false e = refl
     by_step true e =
-        let a = and_true (is_legal es j && is_within (Some i) j) (is_up_to (last_forced es j) (Some i)) e in
-        let b = and_true (is_legal es j) (is_within (Some i) j) a.0 in
+        let a = and_parts (is_legal es j && is_within (Some i) j) (is_up_to (last_forced es j) (Some i)) e in
+        let b = and_parts (is_legal es j) (is_within (Some i) j) a.0 in
         no_demerits ps (sums_of (line_between es (Some i) j)) (penalty_at es j) (wide b.0 b.1)
 
 -- the same from what the code reads

@@ -1,5 +1,5 @@
 -- Going back through the table.
-use Rattle.std.proofs.Common.{◌≡◌, refl, sym, ◌∙◌, ap, subst, ℕ, ◌<◌, ◌+◌, List, [], ◌∷◌, ◌++◌, Option, None, Some, append_assoc, arith}
+use Rattle.std.proofs.Common.{◌≡◌, refl, sym, ◌∙◌, ap, subst, ℕ, ◌<◌, ◌+◌, List, [], ◌∷◌, ◌++◌, Option, None, Some, append_assoc, arith, append-nil}
 use Rattle.tb_lines.specs.declared.table.Best.{Best}
 use Rattle.tb_lines.specs.Table.{row_at, from_in, Follows, AreLinked}
 
@@ -50,8 +50,4 @@ pub back_done : (rows : List (Option Best)) (last : ℕ) (from : Option ℕ) (it
     → (js : List ℕ) × Follows (row_at rows) from js × (items ≡ last ∷ js)
 back_done rows last from items at b is =
     let P : Option ℕ → Type 0 = λ q. Follows (row_at rows) q [] in
-    (b.tail ++ [], b.run [] (subst P (sym is) tt), b.all ∙ ap (λ xs. last ∷ xs) (sym (append_nil b.tail)))
-  where
-    append_nil : (xs : List ℕ) → xs ++ [] ≡ xs
-    append_nil [] = refl
-    append_nil (x ∷ xs) = ap (λ ys. x ∷ ys) (append_nil xs)
+    (b.tail ++ [], b.run [] (subst P (sym is) tt), b.all ∙ ap (λ xs. last ∷ xs) (sym (append-nil b.tail)))

@@ -1,11 +1,12 @@
 -- The text of the lines is a list of lines of items of a galley.
-use Rattle.std.proofs.Common.{◌≡◌, refl, sym, ◌∙◌, ap, subst, ℕ, ◌+◌, ◌-◌, ◌*◌, ◌<◌, ◌≤◌, pos, Bool, true, false, ◌&&◌, ◌==◌, nat_le, nat_lt, List, [], ◌∷◌, ◌++◌, map, length, codes, decimal, Option, Some, None, if◌then◌else◌, arith, append_assoc, length-append}
+use Rattle.std.proofs.Common.{◌≡◌, refl, sym, ◌∙◌, ap, subst, ℕ, ◌+◌, ◌-◌, ◌*◌, ◌<◌, ◌≤◌, pos, Bool, true, false, ◌&&◌, ◌==◌, nat_le, nat_lt, List, [], ◌∷◌, ◌++◌, map, length, codes, decimal, Option, Some, None, if◌then◌else◌, arith, append_assoc, length-append, append-nil}
 use Rattle.std.specs.List.{list_all, AllByRecursion}
 use Rattle.std.specs.Fmt.{signed_decimal, digits}
 use Rattle.std.proofs.lemmas.Fmt.{length-decimal-le}
 use Rattle.std.proofs.lemmas.List.Folds.{list_all-append}
 use Rattle.std.proofs.lemmas.Bool.Decides.{nat_tests}
 use Rattle.std.proofs.lemmas.Int.{ints}
+use Rattle.std.proofs.lemmas.Bool.{and_from, and_parts}
 use Rattle.tb_scaled.specs.declared.Order.TheVariants.{Normal}
 use Rattle.tb_node.specs.Names.{is_name, is_name_byte, is_alphanumeric}
 use Rattle.tb_text.specs.Numbers.{is_digit}
@@ -84,10 +85,6 @@ texts-append (k ∷ ks) ls = ap (λ t. kind_lines 1 k ++ t) (texts-append ks ls)
 text-append : (ks ls : List ItemKind) → text_of_items (ks ++ ls) ≡ text_of_items ks ++ text_of_items ls
 text-append ks ls = ap joined_lines (texts-append ks ls) ∙ joined-append (item_texts 1 (items_of ks)) (item_texts 1 (items_of ls))
 
-no_more : (bs : List ℕ) → bs ++ [] ≡ bs
-no_more [] = refl
-no_more (b ∷ bs) = ap (λ t. b ∷ t) (no_more bs)
-
 glue_text : (w : ℕ) → glue_line w ≡ text_of_items (fixed_glue w ∷ [])
 unfolding kind_lines digits
 glue_text w = ap (λ t. codes "glue " ++ t) (sym (append_assoc (decimal w) (codes " plus 0 minus 0") (10 ∷ [])))
@@ -98,11 +95,11 @@ penalty_text p = by_test (p == 0)
   where
     by_test : (t : Bool) → (if t then [] else codes "penalty " ++ decimal p ++ 10 ∷ []) ≡ text_of_items (if t then [] else items.Penalty (pos p) ∷ [])
     by_test true = refl
-    by_test false = ap (λ t. codes "penalty " ++ (t ++ 10 ∷ [])) (sym (no_more (decimal p)))
+    by_test false = ap (λ t. codes "penalty " ++ (t ++ 10 ∷ [])) (sym (append-nil (decimal p)))
 
 box_text : (name : List ℕ) (k : ℕ) (s : Size) → box_line name k s ≡ text_of_items (line_box name k s ∷ [])
 unfolding kind_lines
-box_text name k s = simp (append_assoc, no_more)
+box_text name k s = simp (append_assoc, append-nil)
 
 before_text : (ps : LineParams) (k count : ℕ) → penalty_before ps k count ≡ text_of_items (items_before ps k count)
 before_text ps k count = by_test (k == 1)
@@ -149,10 +146,6 @@ pub record IsPlain (k : ItemKind) : Type 0 where
   pub one : weight_of k ≡ 1
   pub short : length (text_of_items (k ∷ [])) ≤ 100
 
-both : (a b : Bool) → a ≡ true → b ≡ true → (a && b) ≡ true
-both true b h k = k
-both false b h k = h
-
 length-tail : (fs : List (List ℕ)) → length (tail_text fs) ≡ tail_length fs
 length-tail [] = refl
 length-tail (f ∷ fs) = let more : length (tail_text fs) ≡ tail_length fs = length-tail fs in omega (arith, length-append f (tail_text fs))
@@ -169,7 +162,7 @@ within w h = grind (arith, nat_tests, ints)
 glue_plain : (w : ℕ) → w ≤ 1073741823 → IsPlain (fixed_glue w)
 unfolding kind_lines
 glue_plain w h = record {
-  good = both (is_dimen (pos w) && true) true (both (is_dimen (pos w)) true (within w h) refl) refl;
+  good = and_from (is_dimen (pos w) && true) true (and_from (is_dimen (pos w)) true (within w h) refl) refl;
   known = refl;
   one = refl;
   short =
@@ -193,33 +186,29 @@ digit_name d h = grind (arith, nat_tests)
 decimal_name : (k : ℕ) → k < 10000 → list_all is_name_byte (decimal k) ≡ true
 decimal_name k h = number_passes is_name_byte digit_name refl (pos k) (omega arith)
 
-halves : (a b : Bool) → (a && b) ≡ true → (a ≡ true) × (b ≡ true)
-halves true b h = (refl, h)
-halves false b h = cc
-
 -- the name of a line
 line_name : (name : List ℕ) (k : ℕ) → is_par_name name ≡ true → k < 10000 → is_name (name ++ codes "." ++ decimal k) ≡ true
 line_name [] k h few = cc
 line_name (b ∷ bs) k h few =
-    let a = halves (is_name (b ∷ bs)) (nat_le (length (b ∷ bs)) 58) h in
-    let c = halves (is_alphanumeric b && list_all is_name_byte bs) (nat_le (length bs) 62) a.0 in
-    let d = halves (is_alphanumeric b) (list_all is_name_byte bs) c.0 in
+    let a = and_parts (is_name (b ∷ bs)) (nat_le (length (b ∷ bs)) 58) h in
+    let c = and_parts (is_alphanumeric b && list_all is_name_byte bs) (nat_le (length bs) 62) a.0 in
+    let d = and_parts (is_alphanumeric b) (list_all is_name_byte bs) c.0 in
     let end : List ℕ = 46 ∷ decimal k in
     let tail : list_all is_name_byte ((bs ++ codes ".") ++ decimal k) ≡ true =
     list_all-append is_name_byte (bs ++ codes ".") (decimal k)
-    ∙ both (list_all is_name_byte (bs ++ codes ".")) (list_all is_name_byte (decimal k)) (list_all-append is_name_byte bs (codes ".") ∙ both (list_all is_name_byte bs) true d.1 refl) (decimal_name k few) in
+    ∙ and_from (list_all is_name_byte (bs ++ codes ".")) (list_all is_name_byte (decimal k)) (list_all-append is_name_byte bs (codes ".") ∙ and_from (list_all is_name_byte bs) true d.1 refl) (decimal_name k few) in
     let l : length (decimal k) ≤ 4 = length-decimal-le 4 k (omega arith) (omega arith) (omega arith) in
     let s : length (b ∷ bs) ≤ 58 = grind (arith, nat_tests) in
     let short : length ((bs ++ codes ".") ++ decimal k) ≤ 62 = omega (arith, length-append (bs ++ codes ".") (decimal k), length-append bs (codes ".")) in
-    both (is_alphanumeric b && list_all is_name_byte ((bs ++ codes ".") ++ decimal k)) (nat_le (length ((bs ++ codes ".") ++ decimal k)) 62)
-    (both (is_alphanumeric b) (list_all is_name_byte ((bs ++ codes ".") ++ decimal k)) d.0 tail) (grind (arith, nat_tests))
+    and_from (is_alphanumeric b && list_all is_name_byte ((bs ++ codes ".") ++ decimal k)) (nat_le (length ((bs ++ codes ".") ++ decimal k)) 62)
+    (and_from (is_alphanumeric b) (list_all is_name_byte ((bs ++ codes ".") ++ decimal k)) d.0 tail) (grind (arith, nat_tests))
 
 size_within : (w : ℕ) → w ≤ 1073741823 → is_size (pos w) ≡ true
 size_within w h = grind (arith, nat_tests, ints)
 
 name_length : (name : List ℕ) (k : ℕ) → is_par_name name ≡ true → k < 10000 → length (name ++ codes "." ++ decimal k) ≤ 63
 name_length name k h few =
-    let s : length name ≤ 58 = (let a = halves (is_name name) (nat_le (length name) 58) h in let t : nat_le (length name) 58 ≡ true = a.1 in grind (arith, nat_tests)) in
+    let s : length name ≤ 58 = (let a = and_parts (is_name name) (nat_le (length name) 58) h in let t : nat_le (length name) 58 ≡ true = a.1 in grind (arith, nat_tests)) in
     let l : length (decimal k) ≤ 4 = length-decimal-le 4 k (omega arith) (omega arith) (omega arith) in
     omega (arith, length-append (name ++ codes ".") (decimal k), length-append name (codes "."))
 
@@ -227,8 +216,8 @@ box_plain : (name : List ℕ) (k : ℕ) (s : Size) → is_par_name name ≡ true
 unfolding kind_lines
 box_plain name k s named few high deep = record {
   good =
-      both (is_name (name ++ codes "." ++ decimal k) && is_size (pos s.height)) (is_size (pos s.depth))
-      (both (is_name (name ++ codes "." ++ decimal k)) (is_size (pos s.height)) (line_name name k named few) (size_within s.height high)) (size_within s.depth deep);
+      and_from (is_name (name ++ codes "." ++ decimal k) && is_size (pos s.height)) (is_size (pos s.depth))
+      (and_from (is_name (name ++ codes "." ++ decimal k)) (is_size (pos s.height)) (line_name name k named few) (size_within s.height high)) (size_within s.depth deep);
   known = refl;
   one = refl;
   short =
@@ -242,11 +231,11 @@ box_plain name k s named few high deep = record {
 
 pub all_good : (ks : List ItemKind) → AllByRecursion IsPlain ks → list_all (λ (i : Item). is_item i.line i.kind) (items_of ks) ≡ true
 all_good [] h = refl
-all_good (k ∷ ks) h = both (is_item 0 k) (list_all (λ (i : Item). is_item i.line i.kind) (items_of ks)) h.0.good (all_good ks h.1)
+all_good (k ∷ ks) h = and_from (is_item 0 k) (list_all (λ (i : Item). is_item i.line i.kind) (items_of ks)) h.0.good (all_good ks h.1)
 
 pub all_known : (ks : List ItemKind) → AllByRecursion IsPlain ks → list_all (λ (i : Item). has_known_class [] i.kind) (items_of ks) ≡ true
 all_known [] h = refl
-all_known (k ∷ ks) h = both (has_known_class [] k) (list_all (λ (i : Item). has_known_class [] i.kind) (items_of ks)) h.0.known (all_known ks h.1)
+all_known (k ∷ ks) h = and_from (has_known_class [] k) (list_all (λ (i : Item). has_known_class [] i.kind) (items_of ks)) h.0.known (all_known ks h.1)
 
 pub plain_weight : (ks : List ItemKind) → AllByRecursion IsPlain ks → weight (items_of ks) ≡ length ks
 plain_weight [] h = refl

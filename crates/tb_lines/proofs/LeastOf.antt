@@ -1,8 +1,8 @@
 -- The function that gives the least solution gives it, and there is no other.
 use Rattle.std.proofs.Common.{◌≡◌, refl, sym, ◌∙◌, ap, subst, ℕ, suc, ◌<◌, ◌≤◌, ◌+◌, ℤ, Bool, true, false, List, [], ◌∷◌, length, Option, None, Some, Result, Ok, Err, arith}
-use Rattle.std.specs.Prelude.{◌≤ℤ◌, nat_lt, ◌==◌, ◌||◌, ◌&&◌, reverse, MatchOption}
+use Rattle.std.specs.Prelude.{◌≤ℤ◌, nat_lt, ◌==◌, ◌&&◌, reverse, MatchOption}
 use Rattle.std.proofs.lemmas.Int.{ints}
-use Rattle.std.proofs.lemmas.Bool.{true≢false}
+use Rattle.std.proofs.lemmas.Bool.{true≢false, or_parts}
 use Rattle.std.proofs.lemmas.Bool.Decides.{nat_tests}
 use Rattle.std.proofs.lemmas.List.{reverse-reverse}
 use Rattle.tb_lines.specs.declared.text.Item.{Item}
@@ -73,10 +73,6 @@ least_is ps items =
 
 -- ---- there is one least solution
 
-or_false : (a b : Bool) → (a || b) ≡ false → (a ≡ false) × (b ≡ false)
-or_false true b h = absurd (true≢false h)
-or_false false b h = (refl, h)
-
 same_front : (x y : ℕ) → nat_lt y x ≡ false → nat_lt x y ≡ false → x ≡ y
 same_front x y h k = grind (arith, nat_tests)
 
@@ -89,8 +85,8 @@ greater_one [] [] h k = refl
 greater_one [] (y ∷ ys) h k = absurd (true≢false k)
 greater_one (x ∷ xs) [] h k = absurd (true≢false h)
 greater_one (x ∷ xs) (y ∷ ys) h k =
-    let a = or_false (nat_lt y x) ((x == y) && is_greater xs ys) h in
-    let b = or_false (nat_lt x y) ((y == x) && is_greater ys xs) k in
+    let a = or_parts (nat_lt y x) ((x == y) && is_greater xs ys) h in
+    let b = or_parts (nat_lt x y) ((y == x) && is_greater ys xs) k in
     let same : x ≡ y = same_front x y a.0 b.0 in
     let rest : xs ≡ ys = greater_one xs ys (and_false (x == y) (is_greater xs ys) (grind (arith, nat_tests)) a.1) (and_false (y == x) (is_greater ys xs) (grind (arith, nat_tests)) b.1) in
     cc

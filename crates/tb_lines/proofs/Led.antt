@@ -1,9 +1,10 @@
 -- The causes at each field are listed in the order of the table.
 use Rattle.std.proofs.Common.{◌≡◌, ℕ, Bool, true, false, not, ◌||◌, ◌&&◌, nat_lt, nat_le, List, [], ◌∷◌, ◌++◌, length, Option, Some, None, refl}
 use Rattle.std.specs.List.{list_all}
+use Rattle.std.proofs.lemmas.Bool.{and_from}
 use Rattle.tb_galley.specs.declared.Cause.TheVariants as causes
 use Rattle.tb_galley.specs.Faults.{is_printable, cause_if, ascii_causes}
-use Rattle.tb_galley.proofs.First.{is_led, together}
+use Rattle.tb_galley.proofs.First.{is_led}
 use Rattle.tb_galley.proofs.Led.{is_placed, led_head, is_late_slot, led_fields, led_values, led_length}
 use Rattle.tb_lines.specs.Words.{LineWord, header, setting, par, word, space, pen, endpar, end, Line, Phase, at_start, among_sets, among_pars, in_par, ended, phase_after, count_after, inside_after, content_at, counts_word, is_inner_word, is_full}
 use Rattle.tb_lines.specs.declared.words.Form.TheVariants as forms
@@ -64,12 +65,12 @@ led_later (Some w) fs = led_values (missing_cause w) (word_slots fs w) fs (late_
 led_content : (p : Phase) (n : ℕ) (i : Option ℕ) (ls : List Line) → list_all is_led (all_content_causes p n i ls) ≡ true
 led_content p n i [] = refl
 led_content p n i (l ∷ ls) =
-    together (is_led (ascii_causes l.head ++ place_causes p l.word ++ item_causes n i l.word)) (list_all is_led (later_causes l.word l.fields))
+    and_from (is_led (ascii_causes l.head ++ place_causes p l.word ++ item_causes n i l.word)) (list_all is_led (later_causes l.word l.fields))
     (led_content_head (not (list_all is_printable l.head)) p n i l.word) (led_later l.word l.fields)
 
 led_line : (p : Phase) (n : ℕ) (i : Option ℕ) (bytes : List ℕ) → list_all is_led (line_causes p n i bytes) ≡ true
 led_line p n i bytes =
-    together (is_led (cause_if (nat_lt 255 (length bytes)) causes.LineLength)) (list_all is_led (all_content_causes p n i (content_at bytes)))
+    and_from (is_led (cause_if (nat_lt 255 (length bytes)) causes.LineLength)) (list_all is_led (all_content_causes p n i (content_at bytes)))
     (led_length (nat_lt 255 (length bytes))) (led_content p n i (content_at bytes))
 
 led_end : (p : Phase) → list_all is_led (end_causes p ∷ []) ≡ true
@@ -80,7 +81,7 @@ led_end in_par = refl
 led_end ended = refl
 
 pub all_led : (before : List Line) (lines : List (List ℕ)) → list_all (list_all is_led) (causes_from before lines) ≡ true
-all_led before [] = together (list_all is_led (end_causes (phase_after before) ∷ [])) true (led_end (phase_after before)) refl
+all_led before [] = and_from (list_all is_led (end_causes (phase_after before) ∷ [])) true (led_end (phase_after before)) refl
 all_led before (bytes ∷ lines) =
-    together (list_all is_led (line_causes (phase_after before) (count_after before) (inside_after before) bytes)) (list_all (list_all is_led) (causes_from (before ++ content_at bytes) lines))
+    and_from (list_all is_led (line_causes (phase_after before) (count_after before) (inside_after before) bytes)) (list_all (list_all is_led) (causes_from (before ++ content_at bytes) lines))
     (led_line (phase_after before) (count_after before) (inside_after before) bytes) (all_led (before ++ content_at bytes) lines)

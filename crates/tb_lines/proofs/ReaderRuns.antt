@@ -1,5 +1,5 @@
 -- The reader that goes line by line returns what the grammar says.
-use Rattle.std.proofs.Common.{◌≡◌, ℕ, ◌+◌, Bool, true, false, List, [], ◌∷◌, ◌++◌, Option, Some, None, Err, Ok, if◌then◌else◌, refl, ap, ◌∙◌, sym, append_assoc, length-append}
+use Rattle.std.proofs.Common.{◌≡◌, ℕ, ◌+◌, Bool, true, false, List, [], ◌∷◌, ◌++◌, Option, Some, None, Err, Ok, if◌then◌else◌, refl, ap, ◌∙◌, sym, append_assoc, length-append, append-nil}
 use Rattle.std.specs.List.{fold}
 use Rattle.std.proofs.lemmas.List.Sums.{fold-append}
 use Rattle.tb_text.specs.Lines.{fields_of, is_skipped}
@@ -8,7 +8,6 @@ use Rattle.tb_galley.specs.declared.Fault.{Fault}
 use Rattle.tb_galley.specs.Grammar.{field_at}
 use Rattle.tb_galley.specs.Machine.{first_cause}
 use Rattle.tb_galley.proofs.First.{first_among, or_first, least_first}
-use Rattle.tb_galley.proofs.SoundLines.{nothing_more}
 use Rattle.tb_lines.specs.declared.text.Item.{Item}
 use Rattle.tb_lines.specs.declared.text.Paragraph.{Paragraph}
 use Rattle.tb_lines.specs.Words.{LineWord, header, setting, par, word, space, pen, endpar, end, Line, line_at, content_at, at_start, next_phase, phase_after, count_with, count_after, inside_with, one_more}
@@ -34,7 +33,7 @@ past_more n before l i = record {
 
 past : (n : ℕ) (before : List Line) (t : Bool) (l : Line)
     → past_content (state_after n before) (if t then [] else l ∷ []) ≡ state_after (n + 1) (before ++ (if t then [] else l ∷ []))
-past n before true l = ap (λ ls. state_after (n + 1) ls) (sym (nothing_more before))
+past n before true l = ap (λ ls. state_after (n + 1) ls) (sym (append-nil before))
 past n before false l = past_more n before l
 
 -- ---- the items of the open paragraph are those that the lines say
@@ -77,7 +76,7 @@ held s f (bytes ∷ lines) = held s f lines
 
 at_end : (n : ℕ) (before : List Line) (cs : List Cause)
     → end_with (state_after n before) cs ≡ text_unless (fold with_line empty_draft (before ++ [])) (or_first (first_cause (n + 1) 0 (cs ∷ [])) None)
-at_end n before [] = ap (λ ls. Ok (text_of (fold with_line empty_draft ls))) (sym (nothing_more before))
+at_end n before [] = ap (λ ls. Ok (text_of (fold with_line empty_draft ls))) (sym (append-nil before))
 at_end n before (c ∷ cs) = refl
 
 -- the reader has these lines before it, of which the next is line n + 1

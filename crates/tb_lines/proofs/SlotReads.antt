@@ -1,5 +1,5 @@
 -- Reading fields from the left gives the first cause of the slots, or what the line says.
-use Rattle.std.proofs.Common.{◌≡◌, ℕ, pos, nat_abs, ◌+◌, Bool, true, false, not, List, [], ◌∷◌, ◌++◌, Option, Some, None, Result, Ok, refl}
+use Rattle.std.proofs.Common.{◌≡◌, ℕ, pos, nat_abs, Bool, true, false, not, List, [], ◌∷◌, ◌++◌, Option, Some, None, Result, Ok, refl}
 use Rattle.std.specs.List.{list_all}
 use Rattle.tb_galley.specs.declared.Cause.{Cause}
 use Rattle.tb_galley.specs.declared.Cause.TheVariants as causes

@@ -2,7 +2,7 @@
 use Rattle.std.proofs.Common.{◌≡◌, refl, sym, ◌∙◌, ap, inl, inr, ℕ, zero, suc, ◌<◌, ◌≤◌, ℤ, Bool, true, false, List, [], ◌∷◌, Option, None, Some, arith}
 use Rattle.std.specs.Prelude.{nat_lt, ◌&&◌, if◌then◌else◌}
 use Rattle.std.specs.List.{AllByRecursion}
-use Rattle.std.proofs.lemmas.Bool.{true≢false, cases_eq}
+use Rattle.std.proofs.lemmas.Bool.{true≢false, cases_eq, and_parts}
 use Rattle.std.proofs.lemmas.Bool.Decides.{nat_tests}
 use Rattle.tb_lines.specs.declared.entries.Entry.{Entry}
 use Rattle.tb_lines.specs.declared.text.LineParams.{LineParams}
@@ -11,10 +11,6 @@ use Rattle.tb_lines.specs.Demerits.{line_demerits}
 use Rattle.tb_lines.specs.Least.{first_of, IsAfter, IsFalling, IsAmong, sum_of_both, total_demerits}
 use Rattle.tb_lines.specs.Steps.{last_forced, is_within, is_up_to, is_step, step_demerits}
 use Rattle.tb_lines.proofs.BestWays.{cost, both_parts, LeadsOn}
-
-and_true : (a b : Bool) → (a && b) ≡ true → (a ≡ true) × (b ≡ true)
-and_true false b h = absurd (true≢false (sym h))
-and_true true b h = (refl, h)
 
 -- a step that has demerits is one, and its line is feasible
 if_some : (t : Bool) (x : Option ℤ) (d : ℤ) → (if t then x else None) ≡ Some d → (t ≡ true) × (x ≡ Some d)
@@ -29,8 +25,8 @@ pub record IsStep (es : List Entry) (q : Option ℕ) (j : ℕ) : Type 0 where
 pub step_parts : (ps : LineParams) (es : List Entry) (q : Option ℕ) (j : ℕ) (d : ℤ) → step_demerits ps es q j ≡ Some d → IsStep es q j × (line_demerits ps es q j ≡ Some d)
 step_parts ps es q j d h =
     let a = if_some (is_step es q j) (line_demerits ps es q j) d h in
-    let b = and_true (is_legal es j && is_within q j) (is_up_to (last_forced es j) q) a.0 in
-    let c = and_true (is_legal es j) (is_within q j) b.0 in
+    let b = and_parts (is_legal es j && is_within q j) (is_up_to (last_forced es j) q) a.0 in
+    let c = and_parts (is_legal es j) (is_within q j) b.0 in
     (record { legal = c.0; within = c.1; up_to = b.1 }, a.1)
 
 pub from_step_parts : (ps : LineParams) (es : List Entry) (q : Option ℕ) (j : ℕ) (d : ℤ) → IsStep es q j → line_demerits ps es q j ≡ Some d → step_demerits ps es q j ≡ Some d

@@ -2,8 +2,8 @@
 use Rattle.std.proofs.Common.{Some, ◌≡◌, refl, subst, ℕ, Bool, true, false, List, [], ◌∷◌, bytes_eq, if◌then◌else◌}
 use Rattle.std.specs.List.{list_all}
 use Rattle.std.proofs.lemmas.Slice.Eq.{bytes_eq-Decides}
+use Rattle.std.proofs.lemmas.Bool.{and_parts}
 use Rattle.tb_galley.specs.Faults.{is_printable}
-use Rattle.tb_galley.proofs.First.{both}
 use Rattle.tb_galley.specs.Spelling.{Spelled, spelled_value}
 use Rattle.tb_lines.specs.Words.{LineWord, line_words, word_of}
 
@@ -13,7 +13,7 @@ are_visible bs = list_all is_printable bs
 visible_words : (ws : List (Spelled LineWord)) → list_all (λ (s : Spelled LineWord). are_visible s.text) ws ≡ true → (text : List ℕ) (w : LineWord) → spelled_value ws text ≡ Some w → are_visible text ≡ true
 visible_words [] v text w h = absurd (cc)
 visible_words (s ∷ ws) v text w h =
-    let parts : (are_visible s.text ≡ true) × (list_all (λ (r : Spelled LineWord). are_visible r.text) ws ≡ true) = both (are_visible s.text) (list_all (λ (r : Spelled LineWord). are_visible r.text) ws) v in
+    let parts : (are_visible s.text ≡ true) × (list_all (λ (r : Spelled LineWord). are_visible r.text) ws ≡ true) = and_parts (are_visible s.text) (list_all (λ (r : Spelled LineWord). are_visible r.text) ws) v in
     by_test (λ g. visible_words ws parts.1 text w g) parts.0 (bytes_eq s.text text) refl h
   where
     by_test : (spelled_value ws text ≡ Some w → are_visible text ≡ true) → are_visible s.text ≡ true → (t : Bool) → bytes_eq s.text text ≡ t → (if t then Some s.value else spelled_value ws text) ≡ Some w → are_visible text ≡ true

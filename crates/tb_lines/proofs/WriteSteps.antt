@@ -1,5 +1,5 @@
 -- Steps of the loops that write lines.
-use Rattle.std.proofs.Common.{◌≡◌, refl, sym, ◌∙◌, ap, subst, ℕ, zero, suc, ◌<◌, ◌≤◌, ◌+◌, ◌-◌, Bool, true, false, List, [], ◌∷◌, ◌++◌, length, take, drop, get_or, Option, None, Some, arith, append_assoc}
+use Rattle.std.proofs.Common.{◌≡◌, refl, sym, ◌∙◌, ap, subst, ℕ, zero, suc, ◌<◌, ◌≤◌, ◌+◌, ◌-◌, Bool, true, false, List, [], ◌∷◌, ◌++◌, length, take, drop, get_or, Option, None, Some, arith, append_assoc, append-nil}
 use Rattle.std.specs.Prelude.{slice_range, reverse, if◌then◌else◌}
 use Rattle.std.specs.List.{AllByRecursion}
 use Rattle.std.proofs.lemmas.List.{at_drop_more, at_drop_all, drop-take, reverse-reverse}
@@ -146,14 +146,10 @@ lines_more ps name sizes above before k d s below out new lt e h n = record {
   depth = ap (λ x. depth_after below (x ∷ drop (k + 1) sizes)) e ∙ sym (at_drop_more (depth_after below) sizes k d lt) ∙ h.depth;
 }
 
-no_more : (xs : List ℕ) → xs ++ [] ≡ xs
-no_more [] = refl
-no_more (x ∷ xs) = ap (λ ys. x ∷ ys) (no_more xs)
-
 pub lines_done : (ps : LineParams) (name : List ℕ) (sizes : List Size) (above : Option ℕ) (before : List ℕ) (k : ℕ) (below : Option ℕ) (out : List ℕ) → length sizes ≤ k
     → LinesTo ps name sizes above before k below out → (out ≡ before ++ lines_text ps name (length sizes) 1 above sizes) × (below ≡ depth_after above sizes)
 lines_done ps name sizes above before k below out le h = (
-  sym (no_more out) ∙ ap (λ xs. out ++ xs) (sym (at_drop_all (lines_text ps name (length sizes) (k + 1) below) sizes k le)) ∙ h.text,
+  sym (append-nil out) ∙ ap (λ xs. out ++ xs) (sym (at_drop_all (lines_text ps name (length sizes) (k + 1) below) sizes k le)) ∙ h.text,
   sym (at_drop_all (depth_after below) sizes k le) ∙ h.depth,
 )
 
@@ -212,4 +208,4 @@ paragraphs_more ps pars ss before n d p e s above below out new lt is_p is_s h w
 pub paragraphs_done : (ps : LineParams) (pars : List Paragraph) (ss : List SolutionView) (before : List ℕ) (n : ℕ) (above : Option ℕ) (out : List ℕ) → length pars ≤ n
     → ParagraphsTo ps pars ss before n above out → out ≡ before ++ paragraphs_text ps None pars ss
 paragraphs_done ps pars ss before n above out le h =
-    sym (no_more out) ∙ ap (λ xs. out ++ xs) (sym (at_drop_all (λ xs. paragraphs_text ps above xs (drop n ss)) pars n le)) ∙ h.text
+    sym (append-nil out) ∙ ap (λ xs. out ++ xs) (sym (at_drop_all (λ xs. paragraphs_text ps above xs (drop n ss)) pars n le)) ∙ h.text

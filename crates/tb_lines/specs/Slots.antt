@@ -1,5 +1,5 @@
 -- The fields after a line's word: what each must be.
-use Rattle.std.specs.Prelude.{map, ℕ, ℤ, pos, negsuc, ◌≤ℤ◌, Bool, true, false, ◌&&◌, nat_le, List, [], ◌∷◌, length, Option, Some, None, codes, bytes_eq}
+use Rattle.std.specs.Prelude.{map, ℕ, pos, negsuc, ◌≤ℤ◌, Bool, true, false, ◌&&◌, nat_le, List, [], ◌∷◌, length, Option, Some, None, codes, bytes_eq}
 use Rattle.tb_node.specs.Names.{is_name}
 use Rattle.tb_galley.specs.declared.Cause.{Cause}
 use Rattle.tb_galley.specs.declared.Cause.TheVariants as causes

@@ -3,6 +3,7 @@ use Rattle.std.proofs.Common.{◌≡◌, refl, sym, ◌∙◌, ap, ℕ, ℤ, zer
 use Rattle.std.specs.Prelude.{pred, nat_abs, int_lt, int_le, ◌||◌, ◌&&◌, if◌then◌else◌}
 use Rattle.std.proofs.lemmas.Int.{ints}
 use Rattle.std.proofs.lemmas.Bool.{true≢false}
+use Rattle.std.proofs.Math.Bool.{or-true}
 use Rattle.tb_node.specs.declared.Act.{Act}
 use Rattle.tb_node.specs.declared.Act.TheVariants as acts
 use Rattle.tb_node.specs.declared.Float.{Float}
@@ -87,10 +88,6 @@ module _ (limit : ℤ) (terms : List PlainNode → Terms) where
   reach-acts before (n ∷ rest) = node-acts before n.line n.kind rest (reach_from limit terms (before ++ without_acts (n ∷ [])) rest) (reach-acts (before ++ without_acts (n ∷ [])) rest)
 
   -- ---- a forced penalty fires
-
-  or-true : (a : Bool) → (a || true) ≡ true
-  or-true true = refl
-  or-true false = refl
 
   place-fires : (before : List PlainNode) (n : PlainNode) (rest : List PlainNode) (later : Reach) (b : Breakpoint) → later.fires ≡ true → (reach_at_place before n rest later b).fires ≡ true
   place-fires before n rest later b h = by_stop (is_stop b)
