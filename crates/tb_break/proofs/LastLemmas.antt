@@ -5,6 +5,7 @@ use Rattle.std.specs.List.{AllByRecursion}
 use Rattle.std.proofs.lemmas.Int.{ints}
 use Rattle.std.proofs.lemmas.Bool.{cases_eq, true≢false}
 use Rattle.std.proofs.lemmas.List.Elements.{All-from_recursion}
+use Rattle.tb_break.proofs.EachLemmas.{all-front, all-map}
 use Rattle.tb_scaled.specs.Scaled.{min_ℤ, awful_bad, eject_penalty}
 use Rattle.tb_node.specs.Shape.{Shape, box, glue, kern, penalty, other}
 use Rattle.tb_node.specs.Sums.{sums_of}
@@ -89,14 +90,6 @@ offered-last b bs e = elim (last-at_most (least_cost (b ∷ bs)) b (b ∷ bs)) [
     itself : (c m : ℤ) → c ≡ m → int_le c m ≡ false → ⊥
     itself c m e f = grind (arith, ints)
 
-parts : {X : Type 0} (P : X → Type 0) (xs ys : List X) → AllByRecursion P (xs ++ ys) → AllByRecursion P xs
-parts P [] ys h = tt
-parts P (x ∷ xs) ys h = (h.0, parts P xs ys h.1)
-
-each : {X : Type 0} (P Q : X → Type 0) → ((x : X) → P x → Q x) → (xs : List X) → AllByRecursion P xs → AllByRecursion Q xs
-each P Q f [] h = tt
-each P Q f (x ∷ xs) h = (f x h.0, each P Q f xs h.1)
-
 at_least : (x : Breakpoint) (m : ℤ) → int_le x.cost m ≡ true → (b : Breakpoint) → m ≤ℤ b.cost → x.cost ≤ℤ b.cost
 at_least x m low b le = grind (arith, ints)
 
@@ -113,15 +106,15 @@ offered-last_of_least o (c ∷ cs) b h e =
     let x = best_or c (c ∷ cs) in
     let kept : Some b ≡ Some (best_of x) = sym e ∙ h.best in
     let l = offered-last c cs (ap least_so_far (sym h.best) ∙ h.least) in
-    let le = parts (λ y. least_cost (c ∷ cs) ≤ℤ y.cost) l.before (x ∷ l.after) (subst (AllByRecursion (λ y. least_cost (c ∷ cs) ≤ℤ y.cost)) l.whole (least-le (c ∷ cs))) in
+    let le = all-front (λ y. least_cost (c ∷ cs) ≤ℤ y.cost) l.before (x ∷ l.after) (subst (AllByRecursion (λ y. least_cost (c ∷ cs) ≤ℤ y.cost)) l.whole (least-le (c ∷ cs))) in
     record {
       before = l.before;
       place = x;
       after = l.after;
       offered = l.whole;
       kept = cc;
-      least = All-from_recursion (λ y. x.cost ≤ℤ y.cost) l.before (each _ _ (at_least x (least_cost (c ∷ cs)) l.low) l.before le);
-      last = All-from_recursion (λ y. x.cost <ℤ y.cost) l.after (each _ _ (dearer x (least_cost (c ∷ cs)) l.low) l.after l.above);
+      least = All-from_recursion (λ y. x.cost ≤ℤ y.cost) l.before (all-map _ _ (at_least x (least_cost (c ∷ cs)) l.low) l.before le);
+      last = All-from_recursion (λ y. x.cost <ℤ y.cost) l.after (all-map _ _ (dearer x (least_cost (c ∷ cs)) l.low) l.after l.above);
     }
 
 pub none-offered : (o : Option Best) (bs : List Breakpoint) → Offered o bs → o ≡ None → bs ≡ []

@@ -1,4 +1,5 @@
 mod Rows
+pub mod EachLemmas
 pub mod BestLemmas
 pub mod ScanLemmas
 pub mod FindLemmas

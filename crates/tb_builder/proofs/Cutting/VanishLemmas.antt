@@ -3,6 +3,7 @@ use Rattle.std.proofs.Common.{◌≡◌, refl, sym, subst, ◌∙◌, ap, ℕ, �
 use Rattle.std.specs.Prelude.{if◌then◌else◌, int_lt, int_le, ◌<ℤ◌, ◌≤ℤ◌, ◌-ℤ◌, ◌+ℤ◌, ◌||◌, ◌&&◌}
 use Rattle.std.specs.List.{AllByRecursion}
 use Rattle.std.proofs.lemmas.Int.{ints}
+use Rattle.tb_break.proofs.EachLemmas.{all-join, all-back}
 use Rattle.tb_scaled.specs.Scaled.{inf_penalty, eject_penalty, awful_bad, min_ℤ}
 use Rattle.tb_node.specs.declared.Sums.{Sums}
 use Rattle.tb_node.specs.Shape.{Shape, box, glue, kern, penalty, other, is_discardable}
@@ -20,15 +21,6 @@ use Rattle.tb_builder.specs.Reached.{tried, Reach, also_reached, page_place, sto
 use Rattle.tb_builder.specs.Fired.{from_break, no_place}
 
 -- ---- lists
-
-module _ {X : Type 0} (P : X → Type 0) where
-  all-append : (xs ys : List X) → AllByRecursion P xs → AllByRecursion P ys → AllByRecursion P (xs ++ ys)
-  all-append [] ys h k = k
-  all-append (x ∷ xs) ys h k = (h.0, all-append xs ys h.1 k)
-
-  all-back : (xs ys : List X) → AllByRecursion P (xs ++ ys) → AllByRecursion P ys
-  all-back [] ys h = h
-  all-back (x ∷ xs) ys h = all-back xs ys h.1
 
 drop-front : {X : Type 0} (xs ys : List X) → drop (length xs) (xs ++ ys) ≡ ys
 drop-front [] ys = refl
@@ -134,7 +126,7 @@ label_vanishes z ls before i =
 with_vanish : (z : Frozen) (ls : List Labelled) (before : List PlainNode) (line : ℕ) (k : PlainKind) → AllVanish ls → AllVanish (labelled_with z ls before line k)
 with_vanish z ls before line (plain m) h = h
 with_vanish z ls before line (ins i) h =
-    all-append (λ l. VanishesBehind l.label l.inserted) ls (record { index = length before; line = line; inserted = i; label = label_of z ls before i } ∷ []) h (label_vanishes z ls before i, tt)
+    all-join (λ l. VanishesBehind l.label l.inserted) ls (record { index = length before; line = line; inserted = i; label = label_of z ls before i } ∷ []) h (label_vanishes z ls before i, tt)
 with_vanish z ls before line (act a) h = h
 
 from_vanish : (z : Frozen) (ls : List Labelled) (before ns : List PlainNode) → AllVanish ls → AllVanish (labelled_from z ls before ns)
