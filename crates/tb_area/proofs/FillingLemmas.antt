@@ -22,7 +22,8 @@ use Rattle.tb_area.specs.Area.{AreaPlace, at_top, at_bottom, deferred, where_of,
 use Rattle.tb_area.specs.Filling.{gone_to, still_before, filled, gone_double, still_single, doubled}
 use Rattle.tb_area.specs.Kept.{IsOnWay}
 use Rattle.tb_area.proofs.OrderLemmas.{gone-deferred, gone_double-waiting}
-use Rattle.tb_area.proofs.FullLemmas.{has-there, left-without, all-classes, walk-closed, entry-closed, double-closed}
+use Rattle.tb_float.proofs.HasLemmas.{has-there}
+use Rattle.tb_area.proofs.FullLemmas.{left-without, all-classes, walk-closed, entry-closed, double-closed}
 
 abbrev Walk : Type 0
 Walk = List Float → List Float → FloatLists → FloatLists

@@ -1,10 +1,8 @@
 -- If floats of all classes stay, no later float goes.
-use Rattle.std.proofs.Common.{◌≡◌, ℕ, zero, suc, ◌==◌, Bool, true, false, not, ◌||◌, ◌&&◌, List, [], ◌∷◌, ◌++◌, take, drop, Some, slice_get, refl, sym, ap, subst, ◌∙◌}
+use Rattle.std.proofs.Common.{◌≡◌, ℕ, zero, suc, Bool, true, false, not, ◌&&◌, List, [], ◌∷◌, ◌++◌, take, drop, Some, refl, sym, ap, subst, ◌∙◌}
 use Rattle.std.specs.Prelude.{◌+ℤ◌, if◌then◌else◌}
-use Rattle.std.proofs.lemmas.Bool.{eq-eqb}
 use Rattle.std.proofs.lemmas.List.{append-nil, append_assoc, take-append-drop}
 use Rattle.tb_node.specs.declared.Float.{Float}
-use Rattle.tb_node.specs.declared.Where.{Where}
 use Rattle.tb_node.specs.declared.Where.TheVariants.{Double, Deferred}
 use Rattle.tb_param.specs.declared.params.Params.{Params}
 use Rattle.tb_float.specs.declared.Limit.TheVariants as limits
@@ -12,38 +10,10 @@ use Rattle.tb_float.specs.declared.Suppress.{Suppress}
 use Rattle.tb_float.specs.declared.classes.ClassSet.{ClassSet}
 use Rattle.tb_float.specs.Lists.{FloatLists, has_class}
 use Rattle.tb_float.specs.Classes.{AreClassesOf, AreKnown, AreOfClasses, HasLeft}
-use Rattle.tb_area.specs.Area.{only_page, may_come, fits_column, fits_double, text_minimum, top_or_bottom, deferred, where_of, next_place, goes_double, double_place}
+use Rattle.tb_float.proofs.HasLemmas.{has-first, has-later, has-more, has-drop}
+use Rattle.tb_area.specs.Area.{only_page, may_come, fits_column, fits_double, text_minimum, top_or_bottom, deferred, where_of, next_place, double_place}
 
 -- ---- classes in lists
-
-or-true : (b : Bool) → (b || true) ≡ true
-or-true true = refl
-or-true false = refl
-
-has-first : (f : Float) (fs : List Float) → has_class f.class (f ∷ fs) ≡ true
-has-first f fs = ap (λ b. b || has_class f.class fs) (eq-eqb f.class f.class refl)
-
-has-later : (k : ℕ) (f : Float) (fs : List Float) → has_class k fs ≡ true → has_class k (f ∷ fs) ≡ true
-has-later k f fs h = ap (λ b. (f.class == k) || b) h ∙ or-true (f.class == k)
-
-has-more : (k : ℕ) (fs gs : List Float) → has_class k fs ≡ true → has_class k (fs ++ gs) ≡ true
-has-more k [] gs h = cc
-has-more k (f ∷ fs) gs h = by_test (f.class == k) h (λ e. has-more k fs gs e)
-  where
-    by_test : (t : Bool) → (t || has_class k fs) ≡ true → (has_class k fs ≡ true → has_class k (fs ++ gs) ≡ true) → (t || has_class k (fs ++ gs)) ≡ true
-    by_test true e later = refl
-    by_test false e later = later e
-
-has-drop : (k n : ℕ) (fs : List Float) → has_class k (drop n fs) ≡ true → has_class k fs ≡ true
-has-drop k zero fs h = h
-has-drop k (suc n) [] h = h
-has-drop k (suc n) (f ∷ fs) h = has-later k f fs (has-drop k n fs h)
-
--- a float that is in a list has its class there
-pub has-there : (fs : List Float) (n : ℕ) (f : Float) → slice_get fs n ≡ Some f → has_class f.class fs ≡ true
-has-there [] n f got = cc
-has-there (g ∷ fs) zero f got = let same : g ≡ f = cc in subst (λ (x : Float). has_class x.class (g ∷ fs) ≡ true) same (has-first g fs)
-has-there (g ∷ fs) (suc n) f got = has-later f.class g fs (has-there fs n f got)
 
 has-take : (k n : ℕ) (fs : List Float) → has_class k (take n fs) ≡ true → has_class k fs ≡ true
 has-take k n fs h = subst (λ gs. has_class k gs ≡ true) (take-append-drop n fs) (has-more k (take n fs) (drop n fs) h)

@@ -10,6 +10,7 @@ pub mod RoomLemmas
 pub mod ParamLemmas
 pub mod RetireLemmas
 pub mod WaitingLemmas
+pub mod HasLemmas
 pub mod ClassLemmas
 pub mod EntryLemmas
 pub mod TrackLemmas

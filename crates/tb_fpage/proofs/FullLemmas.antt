@@ -1,12 +1,12 @@
 -- If no class is left, no later float joins a company, and none is a head.
-use Rattle.std.proofs.Common.{◌≡◌, ℕ, zero, suc, ◌≤◌, ◌==◌, Bool, true, false, not, ◌||◌, ◌&&◌, List, [], ◌∷◌, ◌++◌, length, take, drop, Some, None, slice_get, refl, sym, ap, ◌∙◌, subst, arith}
+use Rattle.std.proofs.Common.{◌≡◌, ℕ, ◌≤◌, Bool, true, false, not, ◌&&◌, List, [], ◌∷◌, ◌++◌, length, take, drop, Some, None, refl, sym, ap, ◌∙◌, subst, arith}
 use Rattle.std.specs.Prelude.{ℤ, int_le, Option, if◌then◌else◌}
-use Rattle.std.proofs.lemmas.Bool.{eq-eqb}
 use Rattle.std.proofs.lemmas.List.{append-nil, append_assoc, length-append}
 use Rattle.tb_node.specs.declared.Float.{Float}
 use Rattle.tb_float.specs.declared.classes.ClassSet.{ClassSet}
 use Rattle.tb_float.specs.Lists.{has_class}
 use Rattle.tb_float.specs.Classes.{AreOfClasses}
+use Rattle.tb_float.proofs.HasLemmas.{has-first, has-later, has-more, has-drop}
 use Rattle.tb_fpage.specs.declared.Wanted.{Wanted}
 use Rattle.tb_fpage.specs.declared.walk.Walk.{Walk}
 use Rattle.tb_fpage.specs.Company.{Choice, passed_over, company_height, suits, joins, choices_from, left_floats, is_made, company_of_head, company_from, company}
@@ -14,35 +14,6 @@ use Rattle.tb_fpage.specs.Walked.{EndsBy, IsOnWay, AreTried}
 use Rattle.tb_fpage.proofs.WalkLemmas.{all-chosen, left-append, company-passed, ends-passed}
 
 -- ---- classes in lists
-
-or-true : (b : Bool) → (b || true) ≡ true
-or-true true = refl
-or-true false = refl
-
-has-first : (f : Float) (fs : List Float) → has_class f.class (f ∷ fs) ≡ true
-has-first f fs = ap (λ b. b || has_class f.class fs) (eq-eqb f.class f.class refl)
-
-has-later : (k : ℕ) (f : Float) (fs : List Float) → has_class k fs ≡ true → has_class k (f ∷ fs) ≡ true
-has-later k f fs h = ap (λ b. (f.class == k) || b) h ∙ or-true (f.class == k)
-
-has-more : (k : ℕ) (fs gs : List Float) → has_class k fs ≡ true → has_class k (fs ++ gs) ≡ true
-has-more k [] gs h = cc
-has-more k (f ∷ fs) gs h = by_test (f.class == k) h (λ e. has-more k fs gs e)
-  where
-    by_test : (t : Bool) → (t || has_class k fs) ≡ true → (has_class k fs ≡ true → has_class k (fs ++ gs) ≡ true) → (t || has_class k (fs ++ gs)) ≡ true
-    by_test true e later = refl
-    by_test false e later = later e
-
-has-drop : (k n : ℕ) (fs : List Float) → has_class k (drop n fs) ≡ true → has_class k fs ≡ true
-has-drop k zero fs h = h
-has-drop k (suc n) [] h = h
-has-drop k (suc n) (f ∷ fs) h = has-later k f fs (has-drop k n fs h)
-
--- a float of a list has its class there
-pub has-there : (fs : List Float) (n : ℕ) (f : Float) → slice_get fs n ≡ Some f → has_class f.class fs ≡ true
-has-there [] n f got = cc
-has-there (g ∷ fs) zero f got = let same : g ≡ f = cc in subst (λ (x : Float). has_class x.class (g ∷ fs) ≡ true) same (has-first g fs)
-has-there (g ∷ fs) (suc n) f got = has-later f.class g fs (has-there fs n f got)
 
 pub has-left : (fs rest : List Float) (n : ℕ) (f : Float) → f ∷ rest ≡ drop n fs → has_class f.class fs ≡ true
 has-left fs rest n f left = has-drop f.class n fs (ap (has_class f.class) (sym left) ∙ has-first f rest)

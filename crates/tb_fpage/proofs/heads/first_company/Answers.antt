@@ -7,7 +7,8 @@ use Rattle.tb_fpage.specs.Walked.{AreTried, IsAfterHead, is_made_at}
 use Rattle.tb_float.proofs.EntryLemmas.{next-is_float}
 use Rattle.tb_fpage.proofs.WalkLemmas.{next-float, no-float}
 use Rattle.tb_fpage.proofs.CompanyLemmas.{tried-there, tried-head, tried-ends, tried-next, tried-end}
-use Rattle.tb_fpage.proofs.FullLemmas.{has-there, tried-full}
+use Rattle.tb_float.proofs.HasLemmas.{has-there}
+use Rattle.tb_fpage.proofs.FullLemmas.{tried-full}
 use Rattle.tb_fpage.proofs.heads.first_company.Goals as goal
 
 pub float_in-f-requires : goal.float_in-f-requires
