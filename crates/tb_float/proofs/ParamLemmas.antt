@@ -3,6 +3,7 @@ use Rattle.std.proofs.Common.{◌≡◌, refl, subst, ℕ, zero, suc, Bool, true
 use Rattle.std.specs.Prelude.{◌&&◌, IsTrue}
 use Rattle.std.specs.List.{list_all}
 use Rattle.std.proofs.lemmas.Int.{ints}
+use Rattle.std.proofs.lemmas.Bool.{and_parts}
 use Rattle.tb_scaled.specs.declared.Glue.{Glue}
 use Rattle.tb_param.specs.declared.Params.{Params}
 use Rattle.tb_param.specs.Fields.{value_of}
@@ -10,24 +11,16 @@ use Rattle.tb_param.specs.Table.{Row, rows, value_fault, is_within, is_dimen, is
 use Rattle.tb_param.specs.Ranges.{is_no_fault, are_params}
 use Rattle.tb_float.specs.Ranges.{AreFloatParams, IsDimension, IsExtent, IsShare, IsCount}
 
-and-first : (a b : Bool) → IsTrue (a && b) → IsTrue a
-and-first true b h = refl
-and-first false b h = h
-
-and-second : (a b : Bool) → IsTrue (a && b) → IsTrue b
-and-second true b h = h
-and-second false b h = cc
-
-all-at : (f : Row → Bool) (rs : List Row) (k : ℕ) (r : Row) → slice_get rs k ≡ Some r → IsTrue (list_all f rs) → IsTrue (f r)
+pub all-at : (f : Row → Bool) (rs : List Row) (k : ℕ) (r : Row) → slice_get rs k ≡ Some r → IsTrue (list_all f rs) → IsTrue (f r)
 all-at f [] k r e h = cc
-all-at f (x ∷ xs) zero r e h = let same : x ≡ r = cc in subst (λ (y : Row). IsTrue (f y)) same (and-first (f x) (list_all f xs) h)
-all-at f (x ∷ xs) (suc k) r e h = all-at f xs k r e (and-second (f x) (list_all f xs) h)
+all-at f (x ∷ xs) zero r e h = let same : x ≡ r = cc in subst (λ (y : Row). IsTrue (f y)) same (and_parts (f x) (list_all f xs) h).0
+all-at f (x ∷ xs) (suc k) r e h = all-at f xs k r e (and_parts (f x) (list_all f xs) h).1
 
-in-range : (t : Bool) → IsTrue (is_no_fault (out_of_range t)) → IsTrue t
+pub in-range : (t : Bool) → IsTrue (is_no_fault (out_of_range t)) → IsTrue t
 in-range true h = refl
 in-range false h = cc
 
-dim-extent : (low v : ℤ) → pos 0 ≤ℤ low → IsTrue (is_no_fault (out_of_range (is_within low (pos 1073741823) v))) → IsExtent v
+pub dim-extent : (low v : ℤ) → pos 0 ≤ℤ low → IsTrue (is_no_fault (out_of_range (is_within low (pos 1073741823) v))) → IsExtent v
 dim-extent low v n h = let k = in-range (is_within low (pos 1073741823) v) h in record { low = grind (arith, ints, n, k); high = grind (arith, ints, n, k) }
 
 int-count : (v : ℤ) → IsTrue (is_no_fault (out_of_range (is_within (pos 0) (pos 1000) v))) → IsCount v
@@ -38,7 +31,7 @@ frac-share v h = let k = in-range (is_within (pos 0) (pos 65536) v) h in record 
 
 skip-width : (g : Glue) → IsTrue (is_no_fault (out_of_range (is_glue g))) → IsDimension g.width
 skip-width g h =
-    let k : IsTrue (is_dimen g.width) = and-first (is_dimen g.width) (is_dimen g.stretch) (and-first (is_dimen g.width && is_dimen g.stretch) (is_dimen g.shrink) (in-range (is_glue g) h)) in
+    let k : IsTrue (is_dimen g.width) = (and_parts (is_dimen g.width) (is_dimen g.stretch) (and_parts (is_dimen g.width && is_dimen g.stretch) (is_dimen g.shrink) (in-range (is_glue g) h)).0).0 in
     record { low = grind (arith, ints, k); high = grind (arith, ints, k) }
 
 pub float-params : (p : Params) → IsTrue (are_params p) → AreFloatParams p
