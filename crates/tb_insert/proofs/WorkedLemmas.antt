@@ -3,7 +3,7 @@ use Rattle.std.proofs.Common.{◌≡◌, refl, sym, subst, ◌∙◌, ap, ℕ, z
 use Rattle.std.specs.Prelude.{◌==◌, ◌||◌, ◌≤ℤ◌, map, All}
 use Rattle.std.specs.FinMap.{get}
 use Rattle.std.proofs.Math.Seq.{take-suc}
-use Rattle.std.proofs.lemmas.Bool.{true≢false}
+use Rattle.std.proofs.lemmas.Bool.{true≢false, eqb-true}
 use Rattle.std.proofs.lemmas.Int.{ints}
 use Rattle.std.proofs.lemmas.List.{length-map, map-append}
 use Rattle.std.proofs.lemmas.List.Elements.{All-from_recursion}
@@ -29,7 +29,6 @@ use Rattle.tb_insert.specs.Running.{Differ, numbered, boxed, IsAccountOf, IsScan
 use Rattle.tb_insert.specs.Terms.{sums_with}
 use Rattle.tb_insert.specs.Arrived.{InnerFits, ClassFits, ArriveFits, PageFits}
 use Rattle.tb_insert.specs.Worked.{worked_box, worked_note, short_nodes, long_nodes, single_node, footnotes, worked_classes, worked_page, worked_notes, note_node, first_notes, StandsAt}
-use Rattle.tb_insert.proofs.AccountLemmas.{is_number}
 use Rattle.tb_insert.proofs.StandsLemmas.{stands-plain}
 use Rattle.tb_insert.proofs.TermLemmas.{skipped, sums-other, scan_plain, arrive_fits}
 
@@ -63,8 +62,8 @@ heights_of : (f : ℕ → ℤ) → IsAmount (f 254) → IsAmount (f 253) → (k 
 heights_of f a b k h = by_tests (254 == k) (253 == k) refl refl h
   where
     by_tests : (t u : Bool) → (254 == k) ≡ t → (253 == k) ≡ u → (t || (u || false)) ≡ true → IsAmount (f k)
-    by_tests true u e g h = subst (λ n. IsAmount (f n)) (is_number 254 k e) a
-    by_tests false true e g h = subst (λ n. IsAmount (f n)) (is_number 253 k g) b
+    by_tests true u e g h = subst (λ n. IsAmount (f n)) (eqb-true 254 k e) a
+    by_tests false true e g h = subst (λ n. IsAmount (f n)) (eqb-true 253 k g) b
     by_tests false false e g h = absurd (true≢false (sym h))
 
 -- the sums of a page of insertions of class 254
@@ -165,24 +164,24 @@ class_fits : (k : ℕ) → numbered worked_classes k ≡ true → ClassFits (cla
 class_fits k h = by_tests (254 == k) (253 == k) refl refl h
   where
     by_tests : (t u : Bool) → (254 == k) ≡ t → (253 == k) ≡ u → (t || (u || false)) ≡ true → ClassFits (class_box worked_classes k).class
-    by_tests true u e g h = subst (λ n. ClassFits (class_box worked_classes n).class) (is_number 254 k e) (record { factor = amount 1000 (omega arith); stretch = amount 3000 (omega arith); shrink = amount 2000 (omega arith) })
-    by_tests false true e g h = subst (λ n. ClassFits (class_box worked_classes n).class) (is_number 253 k g) (record { factor = amount 500 (omega arith); stretch = amount 0 (omega arith); shrink = amount 0 (omega arith) })
+    by_tests true u e g h = subst (λ n. ClassFits (class_box worked_classes n).class) (eqb-true 254 k e) (record { factor = amount 1000 (omega arith); stretch = amount 3000 (omega arith); shrink = amount 2000 (omega arith) })
+    by_tests false true e g h = subst (λ n. ClassFits (class_box worked_classes n).class) (eqb-true 253 k g) (record { factor = amount 500 (omega arith); stretch = amount 0 (omega arith); shrink = amount 0 (omega arith) })
     by_tests false false e g h = absurd (true≢false (sym h))
 
 pub class_number : (k : ℕ) → numbered worked_classes k ≡ true → (class_box worked_classes k).class.number ≡ k
 class_number k h = by_tests (254 == k) (253 == k) refl refl h
   where
     by_tests : (t u : Bool) → (254 == k) ≡ t → (253 == k) ≡ u → (t || (u || false)) ≡ true → (class_box worked_classes k).class.number ≡ k
-    by_tests true u e g h = subst (λ n. (class_box worked_classes n).class.number ≡ n) (is_number 254 k e) refl
-    by_tests false true e g h = subst (λ n. (class_box worked_classes n).class.number ≡ n) (is_number 253 k g) refl
+    by_tests true u e g h = subst (λ n. (class_box worked_classes n).class.number ≡ n) (eqb-true 254 k e) refl
+    by_tests false true e g h = subst (λ n. (class_box worked_classes n).class.number ≡ n) (eqb-true 253 k g) refl
     by_tests false false e g h = absurd (true≢false (sym h))
 
 pub class_small : (k : ℕ) → numbered worked_classes k ≡ true → k < 255
 class_small k h = by_tests (254 == k) (253 == k) refl refl h
   where
     by_tests : (t u : Bool) → (254 == k) ≡ t → (253 == k) ≡ u → (t || (u || false)) ≡ true → k < 255
-    by_tests true u e g h = let x = is_number 254 k e in omega (arith, x)
-    by_tests false true e g h = let x = is_number 253 k g in omega (arith, x)
+    by_tests true u e g h = let x = eqb-true 254 k e in omega (arith, x)
+    by_tests false true e g h = let x = eqb-true 253 k g in omega (arith, x)
     by_tests false false e g h = absurd (true≢false (sym h))
 
 -- ---- an insertion arrives

@@ -56,7 +56,7 @@ scan_meets z page s line i m class size differ known own met scan = record {
       ∙ sym (ap (λ x. sums_with x (terms_after z (page ++ record { line = line; kind = ins i } ∷ []))) (ap (sums_of z.limit) (map-append node_shape page (record { line = line; kind = ins i } ∷ [])) ∙ sums-other z.limit (map node_shape page)));
 }
 
-none_met : (cs : List ClassBox) → met_classes cs [] ≡ []
+pub none_met : (cs : List ClassBox) → met_classes cs [] ≡ []
 none_met [] = refl
 none_met (c ∷ cs) = none_met cs
 

@@ -1,8 +1,9 @@
 -- What is passed and what is left of a list; no penalty among what is passed forces a break.
-use Rattle.std.proofs.Common.{◌≡◌, refl, sym, ◌∙◌, ap, subst, ℕ, zero, suc, ℤ, Bool, true, false, List, [], ◌∷◌, ◌++◌, take, drop, Option, Some, None, arith}
-use Rattle.std.specs.Prelude.{int_lt, int_le, ◌||◌, if◌then◌else◌}
+use Rattle.std.proofs.Common.{◌≡◌, refl, sym, ◌∙◌, ap, subst, ℕ, zero, suc, ℤ, Bool, true, false, List, [], ◌∷◌, ◌++◌, take, drop, Option, Some, None, arith, append-nil}
+use Rattle.std.specs.Prelude.{int_lt, int_le, if◌then◌else◌}
 use Rattle.std.specs.List.{AllByRecursion}
 use Rattle.std.proofs.lemmas.Int.{ints}
+use Rattle.std.proofs.lemmas.Bool.{or_parts}
 use Rattle.tb_scaled.specs.Scaled.{inf_penalty, eject_penalty, awful_bad}
 use Rattle.tb_node.specs.declared.Act.{Act}
 use Rattle.tb_node.specs.Plain.{Matter, hbox, rule, skip, kerned, pen, mark, note, whatsit, Leaf, Inserted, PlainKind, plain, ins, act, PlainNode, without_acts, on_line}
@@ -77,10 +78,6 @@ pub record CutAt (before rest : List PlainNode) (w : Reach) : Type 0 where
   pub ended : w.fires ≡ false → w.beyond ≡ []
   pub first : FirstFree w.beyond
 
-append-nothing : {X : Type 0} (xs : List X) → xs ++ [] ≡ xs
-append-nothing [] = refl
-append-nothing (x ∷ xs) = ap (λ l. x ∷ l) (append-nothing xs)
-
 append-assoc : {X : Type 0} (xs ys zs : List X) → (xs ++ ys) ++ zs ≡ xs ++ (ys ++ zs)
 append-assoc [] ys zs = refl
 append-assoc (x ∷ xs) ys zs = ap (λ l. x ∷ l) (append-assoc xs ys zs)
@@ -102,7 +99,7 @@ module _ (limit : ℤ) (terms : List PlainNode → Terms) where
   place-cut before l m rest w b c h = by_stop (is_stop b) refl
     where
       by_stop : (t : Bool) → is_stop b ≡ t → CutAt before (record { line = l; kind = plain m } ∷ rest) (if t then stopped_at before (record { line = l; kind = plain m }) rest b else also_reached (tried l b) w)
-      by_stop true e = record { front = []; whole = refl; passed = sym (append-nothing before); calm = tt; acts = refl; ended = λ k. let no : ⊥ = grind (arith, k) in absurd no; first = tt }
+      by_stop true e = record { front = []; whole = refl; passed = sym (append-nil before); calm = tt; acts = refl; ended = λ k. let no : ⊥ = grind (arith, k) in absurd no; first = tt }
       by_stop false e = record {
         front = record { line = l; kind = plain m } ∷ h.front;
         whole = ap (λ ns. record { line = l; kind = plain m } ∷ ns) h.whole;
@@ -118,11 +115,7 @@ module _ (limit : ℤ) (terms : List PlainNode → Terms) where
   at-cut before l m rest w (Some p) c h = place-cut before l m rest w (page_place limit terms before p) (λ e. c) h
 
   pen-cut : (before : List PlainNode) (l : ℕ) (p : ℤ) (rest : List PlainNode) (w : Reach) (t : Bool) → int_lt p inf_penalty ≡ t → CutAt (before ++ record { line = l; kind = plain (pen p) } ∷ []) rest w → CutAt before (record { line = l; kind = plain (pen p) } ∷ rest) (reach_at limit terms before (record { line = l; kind = plain (pen p) }) rest w (if t then Some p else None))
-  pen-cut before l p rest w true e h = place-cut before l (pen p) rest w (page_place limit terms before p) (λ k. unforced (int_le awful_bad (page_place limit terms before p).cost) (int_le p eject_penalty) k) h
-    where
-      unforced : (a b : Bool) → (a || b) ≡ false → b ≡ false
-      unforced true b k = let no : ⊥ = grind (arith, k) in absurd no
-      unforced false b k = k
+  pen-cut before l p rest w true e h = place-cut before l (pen p) rest w (page_place limit terms before p) (λ k. (or_parts (int_le awful_bad (page_place limit terms before p).cost) (int_le p eject_penalty) k).1) h
   pen-cut before l p rest w false e h = pass before l (pen p) rest w (high p e) h
     where
       high : (p : ℤ) → int_lt p inf_penalty ≡ false → int_le p eject_penalty ≡ false
@@ -149,7 +142,7 @@ module _ (limit : ℤ) (terms : List PlainNode → Terms) where
   node-cut before l (act a) rest w h = record {
     front = record { line = l; kind = act a } ∷ h.front;
     whole = ap (λ ns. record { line = l; kind = act a } ∷ ns) h.whole;
-    passed = h.passed ∙ ap (λ ns. ns ++ without_acts h.front) (append-nothing before);
+    passed = h.passed ∙ ap (λ ns. ns ++ without_acts h.front) (append-nil before);
     calm = (tt, h.calm);
     acts = ap (λ l. a ∷ l) h.acts;
     ended = h.ended;
@@ -157,7 +150,7 @@ module _ (limit : ℤ) (terms : List PlainNode → Terms) where
   }
 
   pub reach-cut : (before rest : List PlainNode) → CutAt before rest (reach_from limit terms before rest)
-  reach-cut before [] = record { front = []; whole = refl; passed = sym (append-nothing before); calm = tt; acts = refl; ended = λ k. refl; first = tt }
+  reach-cut before [] = record { front = []; whole = refl; passed = sym (append-nil before); calm = tt; acts = refl; ended = λ k. refl; first = tt }
   reach-cut before (n ∷ rest) = node-cut before n.line n.kind rest (reach_from limit terms (before ++ without_acts (n ∷ [])) rest) (reach-cut (before ++ without_acts (n ∷ [])) rest)
 
 -- ---- the classes of insertions, before and after a cut

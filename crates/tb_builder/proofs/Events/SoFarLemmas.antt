@@ -17,12 +17,12 @@ use Rattle.tb_builder.specs.Reached.{Reached, tried, acted, Reach, reach_from, r
 use Rattle.tb_builder.specs.Places.{page_shapes, glue_first, glue_or, node_penalty, page_places, NoStop, NoActs}
 use Rattle.tb_builder.specs.Fired.{frozen_for, reach_of}
 use Rattle.tb_builder.specs.Contents.{Contents, contents_of, frozen_or, frozen_of, ahead_of, places_of}
-use Rattle.tb_builder.specs.Running.{AllLoose, AllLasting, IsPageSoFar, IsSound}
+use Rattle.tb_builder.specs.Running.{AllLasting, IsPageSoFar, IsSound}
 use Rattle.tb_builder.specs.Paging.{after_all, HasCome}
 use Rattle.tb_builder.proofs.LegalPlaces.PageLemmas.{reach_next, at_place_goes}
 use Rattle.tb_builder.proofs.LegalPlaces.ReachLemmas.{glue_after, later_quiet}
 use Rattle.tb_builder.proofs.Turns.TurnLemmas.{all_lasting, lasting_places}
-use Rattle.tb_builder.proofs.LegalPlaces.CourseLemmas.{loose_act}
+use Rattle.tb_builder.proofs.LegalPlaces.CourseLemmas.{loose_acts}
 
 -- only places, no act
 abbrev pub AllTried : List Reached → Type 0
@@ -87,10 +87,6 @@ pub record ComesSoFar (c : Contents) (ask : Ask) : Type 0 where
   pub come : HasCome (reach_of ask c.classes c.boxes c.page c.waiting) rs c ask
   pub tried : AllTried rs
 
-no-acts : (page : List PlainNode) → AllLoose page → NoActs page
-no-acts [] h = tt
-no-acts (n ∷ ns) h = (loose_act n.kind h.0, no-acts ns h.1)
-
 module _ (c : Contents) (ask : Ask) (going : c.stopped ≡ false) (frozen : frozen_of c ask ≡ frozen_for ask c.classes c.boxes) (acts : NoActs c.page) (closed : holds_box c.page ≡ false → AllLasting c.page)
     (quiet : NoStop (places_of c ask)) where
   abbrev z : Frozen
@@ -117,7 +113,7 @@ module _ (c : Contents) (ask : Ask) (going : c.stopped ≡ false) (frozen : froz
 
 -- the places of a page that a builder keeps, by whether its goal is frozen
 stands-quiet : (o : Option (ℤ × ℤ)) (k : Course) (c : Contents) (ask : Ask) → c.frozen ≡ o → IsPageSoFar o false k c → NoActs c.page × NoStop (places_of c ask)
-stands-quiet None k c ask e st = (no-acts c.page st.loose, subst NoStop (sym (lasting_places (frozen_of c ask).limit (terms_after (frozen_of c ask)) [] c.page (glue_first c.waiting) (all_lasting c.page st.loose))) tt)
+stands-quiet None k c ask e st = (loose_acts c.page st.loose, subst NoStop (sym (lasting_places (frozen_of c ask).limit (terms_after (frozen_of c ask)) [] c.page (glue_first c.waiting) (all_lasting c.page st.loose))) tt)
 stands-quiet (Some f) k c ask e st =
     (st.course.no_acts, subst (λ (o : Option (ℤ × ℤ)). NoStop (page_places (frozen_or o ask c.classes c.boxes).limit (terms_after (frozen_or o ask c.classes c.boxes)) [] c.page (glue_first c.waiting))) (sym e) st.quiet)
 

@@ -123,7 +123,7 @@ module _ (ask : Ask) where
 -- ---- the lists of a walk
 
 -- the list of an id that is live
-list_there : (s : Lists Node) (l : ℕ) → IsLive s l → get s.lists l ≡ Some (list_at s l)
+pub list_there : (s : Lists Node) (l : ℕ) → IsLive s l → get s.lists l ≡ Some (list_at s l)
 list_there s l live = let v = has_value (get s.lists l) live in v.1 ∙ ap Some (sym (ap (λ o. unwrap_or o []) v.1))
 
 -- the first node of the rest is the next that is taken

@@ -3,12 +3,13 @@
 
 use Rattle.std.proofs.Common.{◌≡◌, refl, subst, ◌∙◌, ap, ℕ, zero, suc, ◌+◌, ◌≤◌, ℤ, Bool, true, false, List, [], ◌∷◌, ◌++◌, length, length-append, take, drop, map, Some, arith}
 use Rattle.std.specs.Prelude.{if◌then◌else◌, ◌==◌}
+use Rattle.std.proofs.lemmas.Bool.{or_parts, eqb-true}
 use Rattle.tb_node.specs.Plain.{hbox, rule, skip, kerned, pen, mark, note, whatsit, Leaf, leaf_shape, Inserted, PlainKind, plain, ins, act, PlainNode, without_acts, without_insertions, on_line}
 use Rattle.tb_break.specs.Prune.{pruned_leaves}
 use Rattle.tb_insert.specs.declared.Class.{Class}
 use Rattle.tb_insert.specs.Terms.{Terms}
 use Rattle.tb_insert.specs.Account.{Frozen, Label, whole, split, late, Labelled, label_of, labelled_with, labelled_from, labelled, terms_after}
-use Rattle.tb_insert.proofs.AccountLemmas.{is_number, same_number, or_left, or_right}
+use Rattle.tb_insert.proofs.AccountLemmas.{same_number}
 use Rattle.tb_builder.specs.declared.Ask.{Ask}
 use Rattle.tb_builder.specs.Reached.{Reach, reach_from}
 use Rattle.tb_builder.specs.Fired.{Boxed, page_break, from_break, spent_kind, with_spent_break, given_by, given_to, is_given, content_of, box_after, unless_empty, held_of, held_insertions, fired_by}
@@ -173,8 +174,8 @@ not_given l ls [] [] h e = refl
 not_given l ls [] (b ∷ bs) h e = absurd h
 not_given l ls (c ∷ cs) [] h e = absurd h
 not_given l ls (c ∷ cs) (b ∷ bs) h e =
-    ap (λ t. length (if t then given_by l.label l.inserted ++ given_to b.number ls else given_to b.number ls) + given_boxes (l ∷ ls) bs) (ap (λ k. l.inserted.class == k) h.0 ∙ same_number l.inserted.class c.number ∙ or_left (c.number == l.inserted.class) (has_class cs l.inserted.class) e)
-    ∙ ap (λ n. length (given_to b.number ls) + n) (not_given l ls cs bs h.1 (or_right (c.number == l.inserted.class) (has_class cs l.inserted.class) e))
+    ap (λ t. length (if t then given_by l.label l.inserted ++ given_to b.number ls else given_to b.number ls) + given_boxes (l ∷ ls) bs) (ap (λ k. l.inserted.class == k) h.0 ∙ same_number l.inserted.class c.number ∙ (or_parts (c.number == l.inserted.class) (has_class cs l.inserted.class) e).0)
+    ∙ ap (λ n. length (given_to b.number ls) + n) (not_given l ls cs bs h.1 (or_parts (c.number == l.inserted.class) (has_class cs l.inserted.class) e).1)
 
 -- an insertion gives to at most one box
 given_once : (l : Labelled) (ls : List Labelled) (cs : List Class) (bs : List Boxed) → ClassesFit cs → AreBoxesOf cs bs → given_boxes (l ∷ ls) bs ≤ length (given_by l.label l.inserted) + given_boxes ls bs
@@ -184,7 +185,7 @@ given_once l ls (c ∷ cs) [] r h = absurd h
 given_once l ls (c ∷ cs) (b ∷ bs) r h = by_test (l.inserted.class == b.number) refl (given_once l ls cs bs r.3 h.1)
   where
     others : (l.inserted.class == b.number) ≡ true → given_boxes (l ∷ ls) bs ≡ given_boxes ls bs
-    others e = not_given l ls cs bs h.1 (ap (has_class cs) (is_number l.inserted.class b.number e ∙ h.0) ∙ r.0)
+    others e = not_given l ls cs bs h.1 (ap (has_class cs) (eqb-true l.inserted.class b.number e ∙ h.0) ∙ r.0)
 
     by_test : (t : Bool) → (l.inserted.class == b.number) ≡ t → given_boxes (l ∷ ls) bs ≤ length (given_by l.label l.inserted) + given_boxes ls bs
         → length (if t then given_by l.label l.inserted ++ given_to b.number ls else given_to b.number ls) + given_boxes (l ∷ ls) bs ≤ length (given_by l.label l.inserted) + (length (given_to b.number ls) + given_boxes ls bs)

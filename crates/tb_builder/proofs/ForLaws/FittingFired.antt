@@ -5,6 +5,7 @@ use Rattle.std.specs.List.{AllByRecursion}
 use Rattle.std.proofs.lemmas.Int.{ints}
 use Rattle.std.proofs.lemmas.List.{append_assoc}
 use Rattle.std.proofs.Math.Seq.{take-length, drop-length}
+use Rattle.tb_builder.proofs.Amounts.ScanLemmas.{none_met}
 use Rattle.tb_scaled.specs.Scaled.{eject_penalty, inf_penalty, max_ℤ}
 use Rattle.tb_node.specs.declared.What.{What}
 use Rattle.tb_node.specs.Plain.{hbox, rule, skip, kerned, pen, mark, note, whatsit, PlainKind, plain, ins, act, PlainNode, node_shape}
@@ -12,7 +13,7 @@ use Rattle.tb_node.specs.Sums.{size_of, stretches, list_shrink}
 use Rattle.tb_break.specs.Prune.{pruned_nodes, top_glue}
 use Rattle.tb_break.specs.Best.{Breakpoint}
 use Rattle.tb_insert.specs.Terms.{bare_terms}
-use Rattle.tb_insert.specs.Account.{ClassBox, class_charge, met_classes, skip_shapes, Frozen, Labelled, labelled, labelled_from, terms_after, terms_of_labels}
+use Rattle.tb_insert.specs.Account.{ClassBox, class_charge, skip_shapes, Frozen, Labelled, labelled, labelled_from, terms_after, terms_of_labels}
 use Rattle.tb_builder.specs.Reached.{Reach, reach_from, breakpoints}
 use Rattle.tb_builder.specs.Fired.{Boxed, Fired, page_break, from_break, fired_by, box_after, no_place, penalty_at, with_spent_break, held_insertions}
 use Rattle.tb_builder.proofs.ForLaws.FittingPages.{Slim, AllSlim, slim-both, size-both, best-last, BreaksAt, breaks-at}
@@ -102,13 +103,8 @@ none-labelled_from z ls before (n ∷ ns) s = label-kind z ls before n ns s.0 (�
 pub slim-unlabelled : (z : Frozen) (ns : List PlainNode) → AllSlim ns → labelled z ns ≡ []
 slim-unlabelled z ns s = none-labelled_from z [] [] ns s
 
--- a page without insertions meets no class, so it has bare terms
-none-met : (cs : List ClassBox) → met_classes cs [] ≡ []
-none-met [] = refl
-none-met (c ∷ cs) = none-met cs
-
 bare-labels : (goal limit : ℤ) (cs : List ClassBox) → terms_of_labels (record { goal = goal; limit = limit; classes = cs }) [] ≡ bare_terms goal
-bare-labels goal limit cs = ap (λ m. record { goal = goal -ℤ class_charge m -ℤ pos 0; penalties = pos 0; stretch = stretches (skip_shapes m); shrink = list_shrink (skip_shapes m) }) (none-met cs) ∙ same (goal -ℤ pos 0 -ℤ pos 0) (grind (arith, ints))
+bare-labels goal limit cs = ap (λ m. record { goal = goal -ℤ class_charge m -ℤ pos 0; penalties = pos 0; stretch = stretches (skip_shapes m); shrink = list_shrink (skip_shapes m) }) (none_met cs) ∙ same (goal -ℤ pos 0 -ℤ pos 0) (grind (arith, ints))
   where
     same : (g : ℤ) → g ≡ goal → bare_terms g ≡ bare_terms goal
     same g e = ap bare_terms e

@@ -5,6 +5,7 @@ use Rattle.std.specs.List.{AllByRecursion}
 use Rattle.std.proofs.lemmas.Int.{ints}
 use Rattle.std.proofs.lemmas.List.{append_assoc, append-nil}
 use Rattle.std.proofs.lemmas.Option.{same_Some}
+use Rattle.std.proofs.lemmas.Bool.{or_right}
 use Rattle.tb_scaled.specs.declared.Order.TheVariants.{Normal}
 use Rattle.tb_scaled.specs.Scaled.{eject_penalty, inf_penalty, awful_bad, inf_bad, badness_of, min_ℤ}
 use Rattle.tb_node.specs.declared.Sums.{Sums}
@@ -256,15 +257,12 @@ module _ (limit goal : ℤ) (deep : pos 0 ≤ℤ limit) (terms : List PlainNode 
       later : Reach
       later = reach_from limit terms (before ++ without_acts (record { line = l; kind = plain (pen q) } ∷ [])) tail
 
-      or-true : (a b : Bool) → b ≡ true → (a || b) ≡ true
-      or-true a b h = grind (arith, h)
-
       by_stop : (t : Bool) → t ≡ true → BreaksAt q before (record { line = l; kind = plain (pen q) } ∷ tail) (if t then stopped_at before (record { line = l; kind = plain (pen q) }) tail (page_place limit terms before q) else also_reached (tried l (page_place limit terms before q)) (reach_from limit terms (before ++ without_acts (record { line = l; kind = plain (pen q) } ∷ [])) tail))
       by_stop true e = record { passed = refl; beyond = refl; fires = refl; best = one-last q (page_place limit terms before q) (grind (arith, ints, forced)) (forced-place before s h) }
       by_stop false e = let no : ⊥ = grind (arith, e) in absurd no
 
       by_legal : (t : Bool) → t ≡ true → BreaksAt q before (record { line = l; kind = plain (pen q) } ∷ tail) (reach_at limit terms before (record { line = l; kind = plain (pen q) }) tail (reach_from limit terms (before ++ without_acts (record { line = l; kind = plain (pen q) } ∷ [])) tail) (if t then Some q else None))
-      by_legal true e = by_stop (is_stop (page_place limit terms before q)) (or-true (int_le awful_bad (page_place limit terms before q).cost) (int_le q eject_penalty) forced)
+      by_legal true e = by_stop (is_stop (page_place limit terms before q)) (or_right (int_le awful_bad (page_place limit terms before q).cost) (int_le q eject_penalty) forced)
       by_legal false e = let no : ⊥ = grind (arith, e) in absurd no
 
   pub breaks-at : (before ns : List PlainNode) (l : ℕ) (tail : List PlainNode) → AllSlim before → AllSlim ns → size_of (shapes (before ++ ns)) ≤ℤ goal → BreaksAt q (before ++ ns) (record { line = l; kind = plain (pen q) } ∷ tail) (reach_from limit terms before (ns ++ record { line = l; kind = plain (pen q) } ∷ tail))

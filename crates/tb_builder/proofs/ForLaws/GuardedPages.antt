@@ -1,9 +1,10 @@
 -- A page that begins with a mark, note or whatsit and has one box of no size breaks before its top glue, if the top skip is higher than the page.
-use Rattle.std.proofs.Common.{◌≡◌, refl, sym, ◌∙◌, ap, subst, ℕ, ℤ, pos, Bool, true, false, not, ◌||◌, List, [], ◌∷◌, ◌++◌, map, length, Some, None, arith}
+use Rattle.std.proofs.Common.{◌≡◌, refl, sym, ◌∙◌, ap, subst, ℕ, ℤ, pos, Bool, true, false, not, List, [], ◌∷◌, ◌++◌, map, length, Some, None, arith}
 use Rattle.std.specs.Prelude.{filter, ◌+ℤ◌, ◌-ℤ◌, ◌≤ℤ◌, ◌<ℤ◌, int_lt, int_le, if◌then◌else◌}
 use Rattle.std.specs.List.{AllByRecursion}
 use Rattle.std.proofs.lemmas.Int.{ints}
 use Rattle.std.proofs.lemmas.List.{append_assoc, append-nil}
+use Rattle.std.proofs.lemmas.Bool.{or_right, or_parts}
 use Rattle.tb_scaled.specs.Scaled.{eject_penalty, inf_penalty, awful_bad, badness_of, min_ℤ, max_ℤ}
 use Rattle.tb_node.specs.declared.Sums.{Sums}
 use Rattle.tb_node.specs.declared.What.{What}
@@ -153,15 +154,12 @@ module _ (limit goal : ℤ) (deep : pos 0 ≤ℤ limit) (terms : List PlainNode 
   stops-over : (xs : List PlainNode) (l : ℕ) (tail : List PlainNode) → (page_place limit terms xs q).cost ≡ awful_bad → Overfull (reach_from limit terms xs (break_at l q ∷ tail))
   stops-over xs l tail c = by_legal (int_lt q inf_penalty) (grind (arith, ints, forced))
     where
-      or-true : (a b : Bool) → b ≡ true → (a || b) ≡ true
-      or-true a b h = grind (arith, h)
-
       by_stop : (u : Bool) → u ≡ true → Overfull (if u then stopped_at xs (break_at l q) tail (page_place limit terms xs q) else also_reached (tried l (page_place limit terms xs q)) (reach_from limit terms (xs ++ without_acts (break_at l q ∷ [])) tail))
       by_stop true e = record { point = page_place limit terms xs q; points = refl; cost = c }
       by_stop false e = let no : ⊥ = grind (arith, e) in absurd no
 
       by_legal : (u : Bool) → u ≡ true → Overfull (reach_at limit terms xs (break_at l q) tail (reach_from limit terms (xs ++ without_acts (break_at l q ∷ [])) tail) (if u then Some q else None))
-      by_legal true e = by_stop (is_stop (page_place limit terms xs q)) (or-true (int_le awful_bad (page_place limit terms xs q).cost) (int_le q eject_penalty) forced)
+      by_legal true e = by_stop (is_stop (page_place limit terms xs q)) (or_right (int_le awful_bad (page_place limit terms xs q).cost) (int_le q eject_penalty) forced)
       by_legal false e = let no : ⊥ = grind (arith, e) in absurd no
 
   -- the best place is the one at the top glue
@@ -208,11 +206,8 @@ module _ (limit goal : ℤ) (deep : pos 0 ≤ℤ limit) (terms : List PlainNode 
       free = (free-place limit goal deep terms bare q forced xs slim fits).0
 
       low : (page_place limit terms xs (pos 0)).cost <ℤ awful_bad
-      low = not-awful (page_place limit terms xs (pos 0)).cost (or-left (int_le awful_bad (page_place limit terms xs (pos 0)).cost) (int_le (page_place limit terms xs (pos 0)).penalty eject_penalty) free)
+      low = not-awful (page_place limit terms xs (pos 0)).cost (or_parts (int_le awful_bad (page_place limit terms xs (pos 0)).cost) (int_le (page_place limit terms xs (pos 0)).penalty eject_penalty) free).0
         where
-          or-left : (x y : Bool) → (x || y) ≡ false → x ≡ false
-          or-left x y h = grind (arith, h)
-
           not-awful : (x : ℤ) → int_le awful_bad x ≡ false → x <ℤ awful_bad
           not-awful x h = grind (arith, ints, h)
 

@@ -2,7 +2,7 @@
 use Rattle.std.proofs.Common.{◌≡◌, ◌≢◌, inl, inr, refl, sym, subst, ◌∙◌, ap, ℕ, zero, suc, ◌<◌, Bool, true, false, List, [], ◌∷◌, ◌++◌, length, map, None, is_none, is_some, get_or, arith}
 use Rattle.std.specs.Prelude.{◌==◌, ◌||◌, if◌then◌else◌, slice_set}
 use Rattle.std.specs.FinMap.{get, insert}
-use Rattle.std.proofs.lemmas.Bool.{true≢false, cases_eq}
+use Rattle.std.proofs.lemmas.Bool.{true≢false, cases_eq, eqb-true}
 use Rattle.std.proofs.lemmas.Int.{ints}
 use Rattle.tb_pool.specs.Lists.{Lists, IsLive, list_at, with_list}
 use Rattle.tb_node.specs.declared.Node.{Node}
@@ -11,7 +11,7 @@ use Rattle.tb_node.specs.Plain.{leaf_of, leaf_shape, leaf_node, plain_of, plain_
 use Rattle.tb_node.specs.declared.Kind.{Kind}
 use Rattle.tb_node.specs.declared.Kind.TheVariants as kinds
 use Rattle.tb_insert.specs.declared.Class.{Class}
-use Rattle.tb_insert.proofs.AccountLemmas.{leaf_shapes, is_number}
+use Rattle.tb_insert.proofs.AccountLemmas.{leaf_shapes}
 use Rattle.tb_builder.specs.declared.ClassList.{ClassList}
 use Rattle.tb_builder.specs.declared.Builder.{Builder}
 use Rattle.tb_builder.specs.Fired.{Boxed, content_of, box_content, box_size}
@@ -22,7 +22,7 @@ use Rattle.tb_builder.specs.Next.{SizesFit, BoxesFit}
 use Rattle.tb_builder.specs.Handed.{NoPage, with_void, Taken}
 use Rattle.tb_builder.proofs.Ownership.OwnedLemmas.{Apart, AllSame, lacks-left, lacks-right, differ-left, differ-apart, plain-left, same_from, lists_same, view_same, inner-append, same-left, same-right}
 use Rattle.tb_builder.proofs.Turns.MoveLemmas.{Wrote, wrote_two}
-use Rattle.tb_builder.proofs.LegalPlaces.ClassLemmas.{content_found, void_at}
+use Rattle.tb_builder.proofs.LegalPlaces.ClassLemmas.{content_found, void_at, behind_first}
 use Rattle.tb_builder.proofs.Handover.WaitLemmas.{page_free}
 use Rattle.tb_builder.proofs.Handover.JoinLemmas.{apart_cons, apart_none, sound_from}
 
@@ -105,12 +105,9 @@ none_voided (e ∷ es) number h = by_test (has_number number e) h (none_voided e
     by_test true h later = absurd (true≢false h)
     by_test false h later = ap (λ xs. e ∷ xs) (later h)
 
-behind_first : (e : ClassList) (es : List ClassList) (number k : ℕ) (d : ClassList) → IsFirst (e ∷ es) number (suc k) d → IsFirst es number k d
-behind_first e es number k d h = record { within = let w : suc k < length (e ∷ es) = h.within in omega arith; there = h.there; before = λ j lt. h.before (suc j) (omega arith) }
-
 -- the other classes have other numbers
 others_differ : (e : ClassList) (es : List ClassList) (number : ℕ) → has_number number e ≡ true → ClassesFit (map (λ x. x.class) (e ∷ es)) → has_class (map (λ x. x.class) es) number ≡ false
-others_differ e es number h fit = subst (λ k. has_class (map (λ x. x.class) es) k ≡ false) (is_number e.class.number number h) fit.0
+others_differ e es number h fit = subst (λ k. has_class (map (λ x. x.class) es) k ≡ false) (eqb-true e.class.number number h) fit.0
 
 pub set_voided : (es : List ClassList) (number k : ℕ) (d : ClassList) → IsFirst es number k d → ClassesFit (map (λ e. e.class) es) → slice_set es k (record (get_or es k d) { void = true }) ≡ voided_boxes number es
 set_voided [] number k d h fit = let w : k < 0 = h.within in absurd (omega arith)

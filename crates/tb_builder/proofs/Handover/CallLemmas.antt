@@ -36,7 +36,7 @@ void_count (c ∷ cs) = let h : box_count (map void_box cs) ≡ 0 = void_count c
 pub nothing-sized : (cs : List Class) → All IsSizedClass cs → ClassesFit cs → IsSizedContents (nothing_yet cs)
 nothing-sized cs h fit = record { nodes = All-nil IsSizedOnPage; held = All-nil IsSizedOnPage; boxes = void_sized cs; classes = h; classes_fit = fit; frozen = tt }
 
-dimension_small : (z : ℤ) → IsDimension z → IsAmount z
+pub dimension_small : (z : ℤ) → IsDimension z → IsAmount z
 dimension_small z h = record { low = omega (arith, ints); high = omega (arith, ints) }
 
 factor_small : (z : ℤ) → IsFactor z → IsAmount z

@@ -5,11 +5,12 @@ use Rattle.std.proofs.Math.Nat.{div-mul-le_self}
 use Rattle.std.proofs.lemmas.Bool.Decides.{nat_tests}
 use Rattle.std.proofs.lemmas.Int.{ints, unsigned_abs-mul}
 use Rattle.std.proofs.lemmas.Nat.{mul-le}
+use Rattle.std.proofs.lemmas.Bool.{or_parts, eqb-true}
 use Rattle.tb_scaled.specs.Scaled.{is_zero}
 use Rattle.tb_node.proofs.FitLemmas.{IsWithin}
 use Rattle.tb_insert.specs.declared.Class.{Class}
 use Rattle.tb_insert.specs.Account.{scaled_by}
-use Rattle.tb_insert.proofs.AccountLemmas.{is_number, same_number, or_left, or_right}
+use Rattle.tb_insert.proofs.AccountLemmas.{same_number}
 use Rattle.tb_builder.specs.Fired.{Boxed, content_of, box_content}
 use Rattle.tb_builder.specs.Contents.{box_count}
 use Rattle.tb_builder.specs.Owned.{has_class, ClassesFit}
@@ -79,7 +80,7 @@ once k [] h = omega arith
 once k (c ∷ cs) h = by_test (c.number == k) refl (once k cs h.3)
   where
     by_test : (t : Bool) → (c.number == k) ≡ t → times k cs ≤ 1 → one t + times k cs ≤ 1
-    by_test true e later = let none = never k cs (subst (λ n. has_class cs n ≡ false) (is_number c.number k e) h.0) in omega (arith, none)
+    by_test true e later = let none = never k cs (subst (λ n. has_class cs n ≡ false) (eqb-true c.number k e) h.0) in omega (arith, none)
     by_test false e later = omega (arith, later)
 
 one_more : (m k : ℕ) → one (nat_lt m (suc k)) ≤ one (nat_lt m k) + one (m == k)
@@ -126,9 +127,9 @@ boxless (c ∷ cs) = let h = boxless cs in omega (arith, h)
 other_box : (b : Boxed) (bs : List Boxed) (cs : List Class) → has_class cs b.number ≡ false → in_boxes (b ∷ bs) cs ≡ in_boxes bs cs
 other_box b bs [] h = refl
 other_box b bs (c ∷ cs) h =
-    let apart : (b.number == c.number) ≡ false = same_number b.number c.number ∙ or_left (c.number == b.number) (has_class cs b.number) h in
+    let apart : (b.number == c.number) ≡ false = same_number b.number c.number ∙ (or_parts (c.number == b.number) (has_class cs b.number) h).0 in
     let here : in_box (b ∷ bs) c.number ≡ in_box bs c.number = ap (λ t. length (content_of (if t then b.content else box_content bs c.number))) apart in
-    let later = other_box b bs cs (or_right (c.number == b.number) (has_class cs b.number) h) in
+    let later = other_box b bs cs (or_parts (c.number == b.number) (has_class cs b.number) h).1 in
     omega (arith, here, later)
 
 one_box : (b : Boxed) (bs : List Boxed) (cs : List Class) → ClassesFit cs → in_boxes (b ∷ bs) cs ≤ length (content_of b.content) + in_boxes bs cs
@@ -138,7 +139,7 @@ one_box b bs (c ∷ cs) h = by_test (b.number == c.number) refl (one_box b bs cs
     by_test : (t : Bool) → (b.number == c.number) ≡ t → in_boxes (b ∷ bs) cs ≤ length (content_of b.content) + in_boxes bs cs
         → length (content_of (if t then b.content else box_content bs c.number)) + in_boxes (b ∷ bs) cs ≤ length (content_of b.content) + (in_box bs c.number + in_boxes bs cs)
     by_test true e later =
-        let same = other_box b bs cs (subst (λ n. has_class cs n ≡ false) (sym (is_number b.number c.number e)) h.0) in
+        let same = other_box b bs cs (subst (λ n. has_class cs n ≡ false) (sym (eqb-true b.number c.number e)) h.0) in
         omega (arith, same)
     by_test false e later = omega (arith, later)
 

@@ -4,6 +4,7 @@ use Rattle.std.specs.Prelude.{◌==◌, ◌||◌, position, if◌then◌else◌}
 use Rattle.std.specs.List.{position_from}
 use Rattle.std.proofs.lemmas.Iterator.Adapters.{position_from-zero}
 use Rattle.std.proofs.lemmas.List.Quantifiers.{position-Some}
+use Rattle.std.proofs.lemmas.Bool.{eqb-true}
 use Rattle.tb_pool.specs.Lists.{Lists, IsLive, list_at}
 use Rattle.tb_node.specs.declared.Node.{Node}
 use Rattle.tb_node.specs.Plain.{leaf_shape, shape_of}
@@ -13,7 +14,7 @@ use Rattle.tb_insert.specs.declared.Class.{Class}
 use Rattle.tb_insert.specs.Account.{ClassBox, class_box}
 use Rattle.tb_insert.specs.Arrived.{ClassFits}
 use Rattle.tb_insert.specs.Running.{numbered, Differ, boxed}
-use Rattle.tb_insert.proofs.AccountLemmas.{leaf_shapes, is_number}
+use Rattle.tb_insert.proofs.AccountLemmas.{leaf_shapes}
 use Rattle.tb_builder.specs.declared.ClassList.{ClassList}
 use Rattle.tb_builder.specs.Fired.{box_content, box_size, class_boxes, content_of}
 use Rattle.tb_builder.specs.Contents.{boxed_of, content_by, leaf_list}
@@ -25,7 +26,7 @@ first_at es number k d e =
     let h = position-Some (λ e. e.class.number == number) es k d e in
     record { within = h.0; there = h.1; before = h.2 }
 
-behind_first : (e : ClassList) (es : List ClassList) (number k : ℕ) (d : ClassList) → IsFirst (e ∷ es) number (suc k) d → IsFirst es number k d
+pub behind_first : (e : ClassList) (es : List ClassList) (number k : ℕ) (d : ClassList) → IsFirst (e ∷ es) number (suc k) d → IsFirst es number k d
 behind_first e es number k d h = record { within = let w : suc k < length (e ∷ es) = h.within in omega arith; there = h.there; before = λ j lt. h.before (suc j) (omega arith) }
 
 module _ (f : Class → ClassBox) (same : (c : Class) → (f c).class ≡ c) where
@@ -110,7 +111,7 @@ module _ (s : Lists Node) (es : List ClassList) (number : ℕ) (e : ClassList) (
   class_known fits = subst (λ x. (x.class.number < 255) × ClassFits x.class) h.is (class_fits_at es h.place e h.first.within fits)
 
   pub number_is : e.class.number ≡ number
-  number_is = is_number e.class.number number (ap (has_number number) (sym h.is) ∙ h.first.there)
+  number_is = eqb-true e.class.number number (ap (has_number number) (sym h.is) ∙ h.first.there)
 
   -- the class box of the page's classes
   pub box_is : VoidEmpty s es → class_box (class_boxes (map (λ e. e.class) es) (map (boxed_of s) es)) number ≡ boxed e.class (size_of (shapes s e.list))

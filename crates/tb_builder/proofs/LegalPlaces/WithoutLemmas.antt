@@ -112,7 +112,7 @@ from_same z ls ms a b (n ∷ ns) e s =
     (with_same z ls ms a b n.line n.kind e ((λ j. sums_of z.limit (map node_shape (sym (append-nil a) j))) ∙ s [] ∙ (λ j. sums_of z.limit (map node_shape (append-nil b j)))))
     (λ xs. (λ j. sums_of z.limit (map node_shape (append_assoc a (n ∷ []) xs j))) ∙ s (n ∷ xs) ∙ (λ j. sums_of z.limit (map node_shape (sym (append_assoc b (n ∷ []) xs) j))))
 
-from_append : (z : Frozen) (ls : List Labelled) (before xs ys : List PlainNode) → labelled_from z ls before (xs ++ ys) ≡ labelled_from z (labelled_from z ls before xs) (before ++ xs) ys
+pub from_append : (z : Frozen) (ls : List Labelled) (before xs ys : List PlainNode) → labelled_from z ls before (xs ++ ys) ≡ labelled_from z (labelled_from z ls before xs) (before ++ xs) ys
 from_append z ls before [] ys = ap (λ b. labelled_from z ls b ys) (sym (append-nil before))
 from_append z ls before (x ∷ xs) ys =
     from_append z (labelled_with z ls before x.line x.kind) (before ++ x ∷ []) xs ys

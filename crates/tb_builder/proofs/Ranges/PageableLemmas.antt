@@ -50,14 +50,17 @@ one_at_least (plain m) = omega arith
 one_at_least (ins i) = omega arith
 one_at_least (act a) = omega arith
 
-length_counted : (ns : List PlainNode) → length ns ≤ node_count ns
+pub length_counted : (ns : List PlainNode) → length ns ≤ node_count ns
 length_counted [] = omega arith
 length_counted (n ∷ ns) = let one = one_at_least n.kind in let rest = length_counted ns in omega arith
 
 -- ---- amounts
 
-extent_amount : (z : ℤ) → IsExtent z → IsAmount z
+pub extent_amount : (z : ℤ) → IsExtent z → IsAmount z
 extent_amount z h = record { low = omega (arith, ints); high = omega (arith, ints) }
+
+pub extent_goal : (z : ℤ) → IsExtent z → IsGoal z
+extent_goal z h = record { low = let a = h.low in grind (arith, ints, a); high = let a = h.high in grind (arith, ints, a) }
 
 goal_amount : (z : ℤ) → IsGoal z → IsAmount z
 goal_amount z h = record { low = omega (arith, ints); high = omega (arith, ints) }
@@ -65,7 +68,7 @@ goal_amount z h = record { low = omega (arith, ints); high = omega (arith, ints)
 size_amount : (k : ℕ) (z : ℤ) → k ≤ 8388608 → IsWithin (2147483646 * k) z → IsAmount z
 size_amount k z few h = record { low = omega (arith, ints); high = omega (arith, ints) }
 
-wider : (a b : ℕ) (z : ℤ) → a ≤ b → IsWithin a z → IsWithin b z
+pub wider : (a b : ℕ) (z : ℤ) → a ≤ b → IsWithin a z → IsWithin b z
 wider a b z le h = record { low = omega (arith, ints); high = omega (arith, ints) }
 
 -- ---- an insertion's list
@@ -243,7 +246,7 @@ pub record IsSizedFrozen (z : Frozen) : Type 0 where
   pub few : length z.classes ≤ 255
   pub total : size_total z.classes ≤ 9007199254740992
 
-nothing_within : (b : ℕ) → IsWithin b (pos 0)
+pub nothing_within : (b : ℕ) → IsWithin b (pos 0)
 nothing_within b = record { low = omega (arith, ints); high = omega (arith, ints) }
 
 box_factor : (cs : List ClassBox) (k : ℕ) → All IsSizedClassBox cs → IsFactor (class_box cs k).class.factor

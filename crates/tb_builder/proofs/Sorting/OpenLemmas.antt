@@ -1,10 +1,11 @@
 -- The box of a class is given something.
-use Rattle.std.proofs.Common.{◌≡◌, ◌≢◌, refl, sym, subst, ◌∙◌, ap, ℕ, zero, suc, ◌<◌, Bool, true, false, List, [], ◌∷◌, ◌++◌, length, map, Some, get_or, arith, get_or-set_same}
+use Rattle.std.proofs.Common.{◌≡◌, ◌≢◌, refl, sym, subst, ◌∙◌, ap, ℕ, zero, suc, ◌<◌, Bool, true, false, List, [], ◌∷◌, ◌++◌, map, Some, get_or, arith, get_or-set_same}
 use Rattle.std.specs.Prelude.{◌==◌, ◌||◌, slice_set, if◌then◌else◌}
 use Rattle.std.specs.FinMap.{get}
 use Rattle.std.proofs.lemmas.Bool.{true≢false}
 use Rattle.std.proofs.lemmas.Bool.Decides.{nat_tests}
 use Rattle.std.proofs.lemmas.List.{map-append}
+use Rattle.tb_builder.proofs.LegalPlaces.ClassLemmas.{behind_first}
 use Rattle.tb_pool.specs.Lists.{Lists, IsLive, list_at}
 use Rattle.tb_node.specs.declared.Node.{Node}
 use Rattle.tb_node.specs.Plain.{Leaf, leaf_of}
@@ -15,9 +16,6 @@ use Rattle.tb_builder.specs.Contents.{boxed_of, content_by, leaf_list}
 use Rattle.tb_builder.specs.Owned.{Lacks, AllDiffer, AllLive, AllPlain, HoldPlain, VoidEmpty, box_ids, has_class, ClassesFit, IsFirst}
 use Rattle.tb_builder.specs.Firing.{opened, box_list, box_with}
 use Rattle.tb_builder.proofs.Ownership.OwnedLemmas.{lists_same, lacks-right}
-
-behind_first : (e : ClassList) (es : List ClassList) (number k : ℕ) (d : ClassList) → IsFirst (e ∷ es) number (suc k) d → IsFirst es number k d
-behind_first e es number k d h = record { within = let w : suc k < length (e ∷ es) = h.within in omega arith; there = h.there; before = λ j lt. h.before (suc j) (omega arith) }
 
 -- the first box of the class, with something in it
 pub opened_at : (es : List ClassList) (number k : ℕ) (e : ClassList) → IsFirst es number k e → e ≡ get_or es k e → slice_set es k (record e { void = false }) ≡ opened number es

@@ -4,6 +4,8 @@ use Rattle.std.specs.Prelude.{ℤ, pos, ◌+ℤ◌, ◌-ℤ◌, int_le, ◌==◌
 use Rattle.std.proofs.lemmas.Bool.{eq-eqb}
 use Rattle.std.proofs.lemmas.Bool.Decides.{nat_tests}
 use Rattle.std.proofs.lemmas.Grind.{common_steps}
+use Rattle.tb_builder.proofs.LegalPlaces.WithoutLemmas.{from_append}
+use Rattle.tb_insert.proofs.ArriveLemmas.{last-append, cut-append}
 use Rattle.tb_break.specs.declared.Found.{Found}
 use Rattle.tb_node.specs.declared.Sums.{Sums}
 use Rattle.tb_node.specs.Plain.{Leaf, leaf_shape, Inserted, PlainKind, plain, ins, act, PlainNode, node_shape, on_line}
@@ -20,10 +22,6 @@ use Rattle.tb_builder.specs.Firing.{share_of, share_up_to, share_told, share_giv
 
 -- ---- one more label
 
-last-append : (o : Option ℕ) (ls : List Labelled) (l : Labelled) (k : ℕ) → last_from o (ls ++ l ∷ []) k ≡ (if (l.inserted.class == k) && is_let_in l.label then Some l.index else last_from o ls k)
-last-append o [] l k = refl
-last-append o (x ∷ xs) l k = last-append (if (x.inserted.class == k) && is_let_in x.label then Some x.index else o) xs l k
-
 or_else-none : {X : Type 0} (o : Option X) → or_else o None ≡ o
 or_else-none None = refl
 or_else-none (Some x) = refl
@@ -31,20 +29,6 @@ or_else-none (Some x) = refl
 or_else-assoc : {X : Type 0} (a b c : Option X) → or_else a (or_else b c) ≡ or_else (or_else a b) c
 or_else-assoc None b c = refl
 or_else-assoc (Some x) b c = refl
-
-cut-append : (ls : List Labelled) (l : Labelled) (k : ℕ) → cut_in (ls ++ l ∷ []) k ≡ or_else (cut_in ls k) (cut_of_one l k)
-cut-append [] l k = or_else-none (cut_of_one l k)
-cut-append (x ∷ xs) l k = ap (or_else (cut_of_one x k)) (cut-append xs l k) ∙ or_else-assoc (cut_of_one x k) (cut_in xs k) (cut_of_one l k)
-
-pub labelled-append : (z : Frozen) (ls : List Labelled) (before xs ys : List PlainNode) → labelled_from z ls before (xs ++ ys) ≡ labelled_from z (labelled_from z ls before xs) (before ++ xs) ys
-labelled-append z ls before [] ys = ap (λ b. labelled_from z ls b ys) (sym (append-nil before))
-labelled-append z ls before (x ∷ xs) ys =
-    labelled-append z (labelled_with z ls before x.line x.kind) (before ++ x ∷ []) xs ys
-    ∙ ap (λ b. labelled_from z (labelled_from z ls before (x ∷ xs)) b ys) (append_assoc before (x ∷ []) xs)
-
--- the labels of a list and of one more node
-pub labelled-push : (z : Frozen) (xs : List PlainNode) (n : PlainNode) → labelled z (xs ++ n ∷ []) ≡ labelled_with z (labelled z xs) xs n.line n.kind
-labelled-push z xs n = labelled-append z [] [] xs (n ∷ [])
 
 -- ---- the places of the insertions
 
@@ -294,7 +278,7 @@ module _ (z : Frozen) (before rest : List PlainNode) (line : ℕ) (i : Inserted)
   all_labels = labelled z (before ++ record { line = line; kind = ins i } ∷ rest)
 
   all_are : all_labels ≡ labelled_from z (labels_before ++ this_one ∷ []) (before ++ record { line = line; kind = ins i } ∷ []) rest
-  all_are = labelled-append z [] [] before (record { line = line; kind = ins i } ∷ rest)
+  all_are = from_append z [] [] before (record { line = line; kind = ins i } ∷ rest)
 
   own_class : (i.class == i.class) ≡ true
   own_class = eq-eqb i.class i.class refl

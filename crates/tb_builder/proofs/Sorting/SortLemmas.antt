@@ -21,7 +21,7 @@ use Rattle.tb_node.specs.Roles.{insertion_of_kind}
 use Rattle.tb_insert.specs.declared.Class.{Class}
 use Rattle.tb_insert.specs.Account.{ClassBox, class_box, insertions, goal_after, class_height, skip_shapes, met_classes, scaled_by, clamped, unscaled_room, has_split, Frozen, Label, whole, split, late, Labelled, label_of, labelled, labelled_from, labelled_with}
 use Rattle.tb_insert.specs.Running.{cut_in, last_let_in, has_insertion}
-use Rattle.tb_insert.proofs.AccountLemmas.{leaf_shapes}
+use Rattle.tb_insert.proofs.AccountLemmas.{leaf_shapes, labelled-append}
 use Rattle.tb_builder.specs.declared.Share.{Share}
 use Rattle.tb_builder.specs.declared.Share.TheVariants.{All, Front}
 use Rattle.tb_builder.specs.declared.Builder.{Builder}
@@ -33,7 +33,7 @@ use Rattle.tb_builder.specs.Firing.{share_of, share_told, share_held, box_shared
 use Rattle.tb_builder.proofs.LegalPlaces.CourseLemmas.{no_insertion}
 use Rattle.tb_builder.proofs.Turns.FreezeLemmas.{plain_insertion, no_inner}
 use Rattle.tb_builder.proofs.Ownership.OwnedLemmas.{AllSame, view_same, inner-append, known-left, known-right, known-append}
-use Rattle.tb_builder.proofs.Sorting.ShareLemmas.{labelled-push, told_label, boxes_one, held_one}
+use Rattle.tb_builder.proofs.Sorting.ShareLemmas.{told_label, boxes_one, held_one}
 use Rattle.tb_builder.proofs.Ownership.StoreMoves.{Got, got_two, list_got, live_got, list_kept, live_kept, live_has, one_got, one_other}
 use Rattle.tb_builder.proofs.Ownership.RelistLemmas.{frame_own, frame_owned, frame_held, frame_page, frame_waiting, frame_boxes, same_lacking, Relisted, relisted_own, relisted_keeps, relisted_held, relisted_page, relisted_waiting, relisted_boxes}
 use Rattle.tb_builder.proofs.Sorting.GiveLemmas.{class_there}
@@ -132,7 +132,7 @@ module _ (b : Builder) (s : Lists Node) (n : Node) (ns : List Node) (i : Inserti
     share_within = subst (λ x. IsShareWithin x (shapes s i.list)) (sym share_is) (subst (IsShareWithin (share_of label_here this)) (leaf_shapes (list_at s i.list)) (label_within z (labelled z before) before this))
 
     labels_are : labelled z (before ++ this_node ∷ []) ≡ labelled z before ++ labelled_here ∷ []
-    labels_are = labelled-push z before this_node
+    labels_are = labelled-append z before this_node
 
     pub sorted_insertion : (boxes : List Boxed) (marked body new : List PlainNode) (d : Contents) → new ≡ body → d.page ≡ behind → d.boxes ≡ map (box_shared share this) (contents_of b s).boxes
         → d.held ≡ (contents_of b s).held ++ on_line n.line (share_held share this) → Sorted z boxes marked (contents_of b s) body before → Sorted z boxes marked d new (before ++ take 1 (plain_list s b.page))
@@ -210,7 +210,7 @@ labels-none z held before (n ∷ ns) h =
     let m : PlainNode = plain_of held n in
     ap (labelled z) (sym (append_assoc before (m ∷ []) (map (plain_of held) ns)))
     ∙ labels-none z held (before ++ m ∷ []) ns h.1
-    ∙ labelled-push z before m ∙ plain_labels z (labelled z before) before n.line m.kind (no_insertion held n.kind (none_there (insertion_of_kind n.kind) h.0))
+    ∙ labelled-append z before m ∙ plain_labels z (labelled z before) before n.line m.kind (no_insertion held n.kind (none_there (insertion_of_kind n.kind) h.0))
 
 -- once there is a label, there is one later
 labels_stay : (z : Frozen) (l : Labelled) (ls : List Labelled) (before ns : List PlainNode) → has_insertion (labelled_from z (l ∷ ls) before ns) ≡ true

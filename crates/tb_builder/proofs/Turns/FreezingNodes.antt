@@ -1,15 +1,11 @@
 -- A box, a rule or an insertion freezes the goal of its page.
 use Rattle.std.proofs.Common.{◌≡◌, refl, sym, Bool, true, false, List, [], ◌∷◌, ◌++◌}
 use Rattle.std.specs.Prelude.{◌||◌}
-use Rattle.std.proofs.lemmas.Bool.{true≢false}
+use Rattle.std.proofs.lemmas.Bool.{true≢false, or_right}
 use Rattle.tb_node.specs.Shape.{is_box}
 use Rattle.tb_node.specs.Plain.{PlainNode, node_shape, is_insertion_kind}
 use Rattle.tb_builder.specs.Reached.{holds_box}
 use Rattle.tb_builder.specs.Running.{freezes}
-
-either : (a b : Bool) → b ≡ true → (a || b) ≡ true
-either true b h = refl
-either false b h = h
 
 -- a list that freezes the goal does so with more nodes
 pub freezes-more : (xs ys : List PlainNode) → freezes xs ≡ true → freezes (xs ++ ys) ≡ true
@@ -28,7 +24,7 @@ insertion-freezes [] n h = by_box (is_box (node_shape n)) (is_insertion_kind n.k
     by_box true i h = refl
     by_box false true h = refl
     by_box false false h = absurd (true≢false (sym h))
-insertion-freezes (x ∷ xs) n h = either (is_box (node_shape x) || is_insertion_kind x.kind) (freezes (xs ++ n ∷ [])) (insertion-freezes xs n h)
+insertion-freezes (x ∷ xs) n h = or_right (is_box (node_shape x) || is_insertion_kind x.kind) (freezes (xs ++ n ∷ [])) (insertion-freezes xs n h)
 
 -- a box or rule anywhere
 pub box-freezes : (xs : List PlainNode) → holds_box xs ≡ true → freezes xs ≡ true

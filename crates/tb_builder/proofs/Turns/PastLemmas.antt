@@ -85,7 +85,7 @@ laid-more t page xs ys = by_test (holds_box page) refl
 
 -- ---- turn after turn
 
-acts-both : (xs ys : List PlainNode) → NoActs xs → NoActs ys → NoActs (xs ++ ys)
+pub acts-both : (xs ys : List PlainNode) → NoActs xs → NoActs ys → NoActs (xs ++ ys)
 acts-both [] ys a b = b
 acts-both (x ∷ xs) ys a b = (a.0, acts-both xs ys a.1 b)
 

@@ -2,6 +2,7 @@
 use Rattle.std.proofs.Common.{◌≡◌, ◌⊎◌, inl, inr, refl, sym, ◌∙◌, ap, ℕ, ℤ, Bool, true, false, List, [], ◌∷◌, ◌++◌, Option, None, Some, append_assoc, append-nil}
 use Rattle.std.specs.Prelude.{◌||◌, if◌then◌else◌}
 use Rattle.std.proofs.lemmas.Bool.{true≢false}
+use Rattle.std.proofs.Math.Bool.{or-false, or-true}
 use Rattle.tb_node.specs.declared.Act.{Act}
 use Rattle.tb_node.specs.Shape.{other, is_box, is_discardable}
 use Rattle.tb_node.specs.Plain.{hbox, rule, skip, kerned, pen, mark, note, whatsit, PlainKind, plain, ins, act, PlainNode, node_shape, is_act_kind}
@@ -28,34 +29,22 @@ use Rattle.tb_builder.proofs.LegalPlaces.PageLemmas.{places_pass, reach_pass, re
 -- ---- boxes on a page
 
 pub holds-append : (page : List PlainNode) (n : PlainNode) → holds_box (page ++ n ∷ []) ≡ (holds_box page || is_box (node_shape n))
-holds-append [] n = or_none (is_box (node_shape n))
-  where
-    or_none : (b : Bool) → (b || false) ≡ b
-    or_none true = refl
-    or_none false = refl
+holds-append [] n = or-false (is_box (node_shape n))
 holds-append (m ∷ ms) n = ap (λ b. is_box (node_shape m) || b) (holds-append ms n) ∙ shift (is_box (node_shape m)) (holds_box ms) (is_box (node_shape n))
   where
     shift : (a b c : Bool) → (a || (b || c)) ≡ ((a || b) || c)
     shift true b c = refl
     shift false b c = refl
 
-or_false : (b : Bool) → (b || false) ≡ b
-or_false true = refl
-or_false false = refl
-
-or_true : (b : Bool) → (b || true) ≡ true
-or_true true = refl
-or_true false = refl
-
 -- a node that is no box leaves a page with or without a box; a box makes it a page with a box
 pub holds_same : (page : List PlainNode) (n : PlainNode) → is_box (node_shape n) ≡ false → holds_box (page ++ n ∷ []) ≡ holds_box page
-holds_same page n e = holds-append page n ∙ ap (λ b. holds_box page || b) e ∙ or_false (holds_box page)
+holds_same page n e = holds-append page n ∙ ap (λ b. holds_box page || b) e ∙ or-false (holds_box page)
 
 pub holds_more : (page : List PlainNode) (n : PlainNode) → holds_box page ≡ true → holds_box (page ++ n ∷ []) ≡ true
 holds_more page n e = holds-append page n ∙ ap (λ b. b || is_box (node_shape n)) e
 
 pub holds_now : (page : List PlainNode) (n : PlainNode) → is_box (node_shape n) ≡ true → holds_box (page ++ n ∷ []) ≡ true
-holds_now page n e = holds-append page n ∙ ap (λ b. holds_box page || b) e ∙ or_true (holds_box page)
+holds_now page n e = holds-append page n ∙ ap (λ b. holds_box page || b) e ∙ or-true (holds_box page)
 
 -- ---- a page without glue, kerns and penalties has no place
 

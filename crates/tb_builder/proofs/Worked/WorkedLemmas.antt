@@ -1,16 +1,14 @@
 -- Nodes come to the builder of a worked page, and its page fires.
-use Rattle.std.proofs.Common.{◌≡◌, refl, sym, subst, ◌∙◌, ap, ℕ, ◌+◌, ◌<◌, ◌≤◌, ℤ, pos, Bool, true, false, List, [], ◌∷◌, ◌++◌, append-nil, length, map, take, get_or, Option, None, Some, is_some, unwrap_or, add_assoc, add-one, arith}
+use Rattle.std.proofs.Common.{◌≡◌, refl, sym, subst, ◌∙◌, ap, ℕ, ◌+◌, ◌<◌, ◌≤◌, ℤ, pos, Bool, true, false, List, [], ◌∷◌, ◌++◌, append-nil, length, map, Option, None, Some, is_some, unwrap_or, add_assoc, arith}
 use Rattle.std.specs.Prelude.{All, option_to_list, ◌==◌, if◌then◌else◌}
 use Rattle.std.specs.FinMap.{get}
-use Rattle.std.proofs.Math.Seq.{take-suc}
 use Rattle.std.proofs.lemmas.Bool.{true≢false}
 use Rattle.std.proofs.lemmas.List.{length-map}
 use Rattle.std.proofs.lemmas.Int.{ints}
 use Rattle.std.proofs.lemmas.List.Elements.{All-nil, All-cons, All-head, All-tail, All-map, All-push, All-weaker}
 use Rattle.tb_scaled.specs.declared.Glue.{Glue}
 use Rattle.tb_scaled.specs.Glue.{fixed_glue}
-use Rattle.tb_pool.specs.Lists.{Lists, IsLive, list_at, with_list}
-use Rattle.tb_pool.proofs.MapLemmas.{get-insert_same}
+use Rattle.tb_pool.specs.Lists.{Lists, IsLive, list_at}
 use Rattle.tb_node.specs.declared.Node.{Node}
 use Rattle.tb_node.specs.declared.Kind.{Kind}
 use Rattle.tb_node.specs.declared.Kind.TheVariants as kinds
@@ -36,7 +34,6 @@ use Rattle.tb_builder.specs.Handed.{NodesJoin, ListJoins, NoPage, ends_in_kern}
 use Rattle.tb_builder.specs.Pageable.{IsSizedOnPage, IsFactor, IsSizedClass, IsSizedBox, IsGoal, IsPageable}
 use Rattle.tb_builder.specs.Kept.{IsSizedAsk, IsSizedFreeze, IsSizedContents, whole_count, AreBoxesOf}
 use Rattle.tb_builder.specs.Worked.{IsMatter, BoxFits, AtRest, IsReady, waits}
-use Rattle.tb_builder.proofs.Turns.MoveLemmas.{get_other}
 use Rattle.tb_builder.proofs.Ownership.OwnedLemmas.{AllSame}
 use Rattle.tb_builder.proofs.Ownership.NewLemmas.{fresh_lacks}
 use Rattle.tb_builder.proofs.Ownership.FrameLemmas.{live_all_same, frame_owned, frame_contents, frame_sound, insertion_joins}
@@ -345,17 +342,6 @@ pub more_waits : (now before first k : ℕ) → now ≡ before + 1 → before �
 more_waits now before first k e h = omega arith
 
 -- ---- lists
-
--- a list got the next of these nodes
-pub list_step : (s t : Lists Node) (l : ℕ) (all : List Node) (k : ℕ) (d : Node) → k < length all → get s.lists l ≡ Some (take k all) → t.lists ≡ with_list s l (list_at s l ++ get_or all k d ∷ []) → get t.lists l ≡ Some (take (k + 1) all)
-list_step s t l all k d within made e =
-    ap (λ m. get m l) e
-    ∙ get-insert_same s.lists l (list_at s l ++ get_or all k d ∷ [])
-    ∙ ap Some (ap (λ o. unwrap_or o [] ++ get_or all k d ∷ []) made ∙ sym (ap (λ j. take j all) (add-one k) ∙ take-suc all k d within))
-
--- opening a list leaves the others that were live before
-pub list_step_others : (first s t : Lists Node) (l : ℕ) (xs : List Node) → get first.lists l ≡ None → t.lists ≡ with_list s l xs → ((q : ℕ) → IsLive first q → get s.lists q ≡ get first.lists q) → (q : ℕ) → IsLive first q → get t.lists q ≡ get first.lists q
-list_step_others first s t l xs none e same q live = get_other s t l q xs (λ x. true≢false (sym live ∙ ap (λ k. is_some (get first.lists k)) x ∙ ap is_some none)) e ∙ same q live
 
 -- the page stays empty
 pub rest_from : (b d : Builder) (s t : Lists Node) → AtRest b s → IsSound d t → (contents_of d t).page ≡ (contents_of b s).page → (contents_of d t).frozen ≡ (contents_of b s).frozen → (contents_of d t).classes ≡ (contents_of b s).classes → AtRest d t

@@ -1,9 +1,9 @@
 use Rattle.std.proofs.Common.{◌∙◌, ap, ◌≤◌, length, [], ◌∷◌, ◌++◌, arith}
 use Rattle.std.specs.FinMap.{get}
+use Rattle.tb_insert.proofs.WorkedLemmas.{list_step, list_step_others}
 use Rattle.tb_pool.specs.Lists.{list_at, with_list}
 use Rattle.tb_pool.proofs.MapLemmas.{get-insert_same}
 use Rattle.tb_builder.proofs.Ownership.NewLemmas.{opened_first, opened_none}
-use Rattle.tb_builder.proofs.Worked.WorkedLemmas.{list_step, list_step_others}
 use Rattle.tb_builder.proofs.tests.make_list.Goals as goal
 
 pub returns-in_err-reserve-clause-others : goal.returns-in_err-reserve-clause-others
