@@ -2,6 +2,7 @@
 use Rattle.std.proofs.Common.{◌≡◌, ℕ, Bool, true, false, not, ◌&&◌, ◌||◌, List, take, slice_get, Some, refl, sym, subst, arith}
 use Rattle.std.specs.Prelude.{ℤ, pos, ◌+ℤ◌, ◌-ℤ◌, ◌<ℤ◌, int_lt, if◌then◌else◌}
 use Rattle.std.proofs.lemmas.Int.{ints}
+use Rattle.std.proofs.lemmas.Bool.{and_parts, not-true, or_parts}
 use Rattle.tb_scaled.specs.Scaled.{fraction_of, max_ℤ}
 use Rattle.tb_node.specs.declared.Float.{Float}
 use Rattle.tb_node.specs.declared.Where.{Where}
@@ -17,26 +18,6 @@ use Rattle.tb_area.specs.Area.{at_top, at_bottom, deferred, where_of, may_come, 
 use Rattle.tb_area.specs.Laws.{HasNone, IsBelow, KeepsLaws}
 
 -- ---- tests
-
-both-first : (a b : Bool) → (a && b) ≡ true → a ≡ true
-both-first true b e = refl
-both-first false b e = e
-
-both-second : (a b : Bool) → (a && b) ≡ true → b ≡ true
-both-second true b e = e
-both-second false b e = absurd (cc)
-
-not-is : (a : Bool) → not a ≡ true → a ≡ false
-not-is true e = sym e
-not-is false e = refl
-
-neither-first : (a b : Bool) → (a || b) ≡ false → a ≡ false
-neither-first true b e = e
-neither-first false b e = refl
-
-neither-second : (a b : Bool) → (a || b) ≡ false → b ≡ false
-neither-second true b e = absurd (cc)
-neither-second false b e = e
 
 -- one more is let in, so fewer are there than the number
 count-below : (number : ℤ) (used : ℕ) (suppressed bang : Bool) → bang ≡ false → int_lt (pos 0) (count_after number used suppressed bang) ≡ true → pos used <ℤ number
@@ -67,13 +48,13 @@ entering p l s before r f e =
     let first = is_first_of_class f before in
     let single = not f.wide in
     let other = not (only_page f) in
-    let four = both-first (other && single && first && come) column e in
-    let three = both-first (other && single && first) come four in
-    let two = both-first (other && single) first three in
+    let four = (and_parts (other && single && first && come) column e).0 in
+    let three = (and_parts (other && single && first) come four).0 in
+    let two = (and_parts (other && single) first three).0 in
     record {
-      single = not-is f.wide (both-second other single two);
-      first = not-is (has_class f.class before) (both-second (other && single) first three);
-      total = limit-below p l s limits.Total f (both-second (other && single && first) come four);
+      single = not-true f.wide (and_parts other single two).1;
+      first = not-true (has_class f.class before) (and_parts (other && single) first three).1;
+      total = limit-below p l s limits.Total f (and_parts (other && single && first) come four).1;
     }
 
 stays : (p : Params) (l : FloatLists) (before : List Float) (f : Float) → KeepsLaws p l before f Deferred
@@ -83,13 +64,13 @@ bottom-by : (p : Params) (l : FloatLists) (s : Suppress) (before : List Float) (
 bottom-by p l s before r f enters false e = stays p l before f
 bottom-by p l s before r f enters true e =
     let below = r +ℤ next_separator p l.bottom in
-    let tried = both-first (tries_bottom p l s f) (fits_below p l below f) e in
-    let fits = both-second (fits_column p l below) (fits_bottom p l f) (both-second (tries_bottom p l s f) (fits_below p l below f) e) in
+    let tried = (and_parts (tries_bottom p l s f) (fits_below p l below f) e).0 in
+    let fits = (and_parts (fits_column p l below) (fits_bottom p l f) (and_parts (tries_bottom p l s f) (fits_below p l below f) e).1).1 in
     let come = may_come p l s limits.Bottom f in
     record {
-      allowed = (both-first f.places.b come tried, enters.single);
+      allowed = ((and_parts f.places.b come tried).0, enters.single);
       order = enters.first;
-      limits = λ plain. (enters.total plain, limit-below p l s limits.Bottom f (both-second f.places.b come tried) plain, share-fits (fraction_of p.bottomfraction (column_height_of p l)) (area_taken p l.bottom) f.height f.bang fits plain);
+      limits = λ plain. (enters.total plain, limit-below p l s limits.Bottom f (and_parts f.places.b come tried).1 plain, share-fits (fraction_of p.bottomfraction (column_height_of p l)) (area_taken p l.bottom) f.height f.bang fits plain);
     }
 
 bottom-laws : (p : Params) (l : FloatLists) (s : Suppress) (before : List Float) (r : ℤ) (f : Float) → Enters p l before f → KeepsLaws p l before f (where_of (bottom_or_deferred p l s r f))
@@ -98,12 +79,12 @@ bottom-laws p l s before r f enters = bottom-by p l s before r f enters (goes_bo
 top-goes : (p : Params) (l : FloatLists) (s : Suppress) (before : List Float) (r : ℤ) (f : Float) → Enters p l before f → tries_top p l s f ≡ true → fits_above p l r f ≡ true → KeepsLaws p l before f Top
 top-goes p l s before r f enters tried fits =
     let come = may_come p l s limits.Top f in
-    let room = both-second (fits_column p l r) (fits_top p l f) (both-first (fits_column p l r && fits_top p l f) (is_above_its_class l f) fits) in
-    let above = not-is (has_class f.class l.here || has_class f.class l.bottom) (both-second (fits_column p l r && fits_top p l f) (is_above_its_class l f) fits) in
+    let room = (and_parts (fits_column p l r) (fits_top p l f) (and_parts (fits_column p l r && fits_top p l f) (is_above_its_class l f) fits).0).1 in
+    let above = not-true (has_class f.class l.here || has_class f.class l.bottom) (and_parts (fits_column p l r && fits_top p l f) (is_above_its_class l f) fits).1 in
     record {
-      allowed = (both-first f.places.t come tried, enters.single);
-      order = (enters.first, neither-first (has_class f.class l.here) (has_class f.class l.bottom) above, neither-second (has_class f.class l.here) (has_class f.class l.bottom) above);
-      limits = λ plain. (enters.total plain, limit-below p l s limits.Top f (both-second f.places.t come tried) plain, share-fits (fraction_of p.topfraction (column_height_of p l)) (area_taken p l.top) f.height f.bang room plain);
+      allowed = ((and_parts f.places.t come tried).0, enters.single);
+      order = (enters.first, (or_parts (has_class f.class l.here) (has_class f.class l.bottom) above).0, (or_parts (has_class f.class l.here) (has_class f.class l.bottom) above).1);
+      limits = λ plain. (enters.total plain, limit-below p l s limits.Top f (and_parts f.places.t come tried).1 plain, share-fits (fraction_of p.topfraction (column_height_of p l)) (area_taken p l.top) f.height f.bang room plain);
     }
 
 top-by : (p : Params) (l : FloatLists) (s : Suppress) (before : List Float) (r above : ℤ) (f : Float) → Enters p l before f → (t u : Bool) → tries_top p l s f ≡ t → fits_above p l above f ≡ u → KeepsLaws p l before f (where_of (if t then (if u then at_top else bottom_or_deferred p l s above f) else bottom_or_deferred p l s r f))
@@ -155,14 +136,14 @@ double-by p l s before f false e = stays p l before f
 double-by p l s before f true e =
     let come = may_come p l s limits.Double f in
     let first = is_first_of_class f before in
-    let four = both-first (f.places.t && f.wide && come && first) (fits_double p l f) e in
-    let fits = both-second (f.places.t && f.wide && come && first) (fits_double p l f) e in
-    let three = both-first (f.places.t && f.wide && come) first four in
-    let two = both-first (f.places.t && f.wide) come three in
+    let four = (and_parts (f.places.t && f.wide && come && first) (fits_double p l f) e).0 in
+    let fits = (and_parts (f.places.t && f.wide && come && first) (fits_double p l f) e).1 in
+    let three = (and_parts (f.places.t && f.wide && come) first four).0 in
+    let two = (and_parts (f.places.t && f.wide) come three).0 in
     record {
-      allowed = (both-first f.places.t f.wide two, both-second f.places.t f.wide two);
-      order = not-is (has_class f.class before) (both-second (f.places.t && f.wide && come) first four);
-      limits = λ plain. (limit-below p l s limits.Double f (both-second (f.places.t && f.wide) come three) plain, double-fits (fraction_of p.dbltopfraction p.textheight) (double_taken p l) (p.textheight -ℤ fraction_of p.dbltopfraction p.textheight) f.height f.bang plain fits);
+      allowed = ((and_parts f.places.t f.wide two).0, (and_parts f.places.t f.wide two).1);
+      order = not-true (has_class f.class before) (and_parts (f.places.t && f.wide && come) first four).1;
+      limits = λ plain. (limit-below p l s limits.Double f (and_parts (f.places.t && f.wide) come three).1 plain, double-fits (fraction_of p.dbltopfraction p.textheight) (double_taken p l) (p.textheight -ℤ fraction_of p.dbltopfraction p.textheight) f.height f.bang plain fits);
     }
 
 pub double-laws : (p : Params) (l : FloatLists) (s : Suppress) (before : List Float) (f : Float) → KeepsLaws p l before f (double_place p l s before f)

@@ -1,7 +1,7 @@
 -- The walks over the deferred floats keep the floats of each class, in their order.
-use Rattle.std.proofs.Common.{◌≡◌, ℕ, Bool, true, false, ◌||◌, cond, List, [], ◌∷◌, ◌++◌, refl, sym, ap, ◌∙◌, append_assoc}
+use Rattle.std.proofs.Common.{◌≡◌, ℕ, Bool, true, false, cond, List, [], ◌∷◌, ◌++◌, refl, sym, ap, ◌∙◌, append_assoc}
 use Rattle.std.specs.Prelude.{◌==◌, if◌then◌else◌}
-use Rattle.std.proofs.lemmas.Bool.{eqb-true}
+use Rattle.std.proofs.lemmas.Bool.{eqb-true, or_parts}
 use Rattle.std.proofs.lemmas.List.{append-nil}
 use Rattle.std.proofs.lemmas.List.Elements.{filter-append}
 use Rattle.tb_node.specs.declared.Float.{Float}
@@ -19,14 +19,10 @@ use Rattle.tb_area.proofs.LawLemmas.{next-laws, double-laws}
 
 -- ---- the floats of a class
 
-neither : (a b : Bool) → (a || b) ≡ false → (a ≡ false) × (b ≡ false)
-neither true b e = absurd (cc)
-neither false b e = (refl, e)
-
 none-of : (k : ℕ) (fs : List Float) → has_class k fs ≡ false → of_class k fs ≡ []
 none-of k [] e = refl
 none-of k (f ∷ fs) e =
-    let both = neither (f.class == k) (has_class k fs) e in
+    let both = or_parts (f.class == k) (has_class k fs) e in
     ap (λ t. cond t (f ∷ of_class k fs) (of_class k fs)) both.0 ∙ none-of k fs both.1
 
 of-append : (k : ℕ) (xs ys : List Float) → of_class k (xs ++ ys) ≡ of_class k xs ++ of_class k ys

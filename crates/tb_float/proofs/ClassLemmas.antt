@@ -2,7 +2,8 @@
 use Rattle.std.proofs.Common.{◌≡◌, ◌≢◌, ℕ, zero, suc, ◌+◌, ◌-◌, ◌<◌, ◌≤◌, ◌==◌, ◌||◌, ◌&&◌, not, Bool, true, false, List, [], ◌∷◌, ◌++◌, length, drop, Some, slice_get, replicate, refl, sym, ap, subst, ◌∙◌, inl, inr, arith}
 use Rattle.std.specs.Prelude.{slice_set, if◌then◌else◌}
 use Rattle.std.proofs.lemmas.Option.{slice_get_within, same_Some}
-use Rattle.std.proofs.lemmas.Bool.{cases_eq, eq-eqb, ne_eqb}
+use Rattle.std.proofs.lemmas.Bool.{cases_eq, eq-eqb, ne_eqb, eqb-true}
+use Rattle.std.proofs.Math.Bool.{or-true}
 use Rattle.tb_node.specs.declared.Float.{Float}
 use Rattle.tb_float.specs.declared.classes.ClassSet.{ClassSet}
 use Rattle.tb_float.specs.Lists.{has_class}
@@ -28,10 +29,6 @@ get-set-other (y ∷ xs) (suc i) (suc k) x ne = get-set-other xs i k x (λ e. ne
 has-same : (fs : List Float) (f : Float) (k : ℕ) → (f.class == k) ≡ true → has_class k (fs ++ f ∷ []) ≡ true
 has-same [] f k e = ap (λ b. b || false) e
 has-same (g ∷ fs) f k e = ap (λ b. (g.class == k) || b) (has-same fs f k e) ∙ or-true (g.class == k)
-  where
-    or-true : (b : Bool) → (b || true) ≡ true
-    or-true true = refl
-    or-true false = refl
 
 has-other : (fs : List Float) (f : Float) (k : ℕ) → (f.class == k) ≡ false → has_class k (fs ++ f ∷ []) ≡ has_class k fs
 has-other [] f k e = ap (λ b. b || false) e
@@ -63,19 +60,13 @@ known-grows known k (f ∷ fs) h = (set-more known k f.class h.0, known-grows kn
 pub known-one : (known : List Bool) (f : Float) → f.class < length known → AreKnown (slice_set known f.class true) (f ∷ [])
 known-one known f low = (get-set-same known f.class true low, tt)
 
-pub nat-same : (a b : ℕ) → (a == b) ≡ true → a ≡ b
-nat-same a b e = elim (cases_eq a b) [
-  | inl same ↦ same
-  | inr ne ↦ let no : false ≡ true = sym (ne_eqb a b ne) ∙ e in cc
-]
-
 -- the class of a float that is among those that are known
 known-class : (known : List Bool) (k : ℕ) (fs : List Float) → AreKnown known fs → has_class k fs ≡ true → slice_get known k ≡ Some true
 known-class known k [] h has = cc
 known-class known k (f ∷ fs) h has = by_test (f.class == k) refl (λ o. known-class known k fs h.1 o) has
   where
     by_test : (t : Bool) → (f.class == k) ≡ t → (has_class k fs ≡ true → slice_get known k ≡ Some true) → (t || has_class k fs) ≡ true → slice_get known k ≡ Some true
-    by_test true e later o = subst (λ n. slice_get known n ≡ Some true) (nat-same f.class k e) h.0
+    by_test true e later o = subst (λ n. slice_get known n ≡ Some true) (eqb-true f.class k e) h.0
     by_test false e later o = later o
 
 -- ---- how many are left

@@ -4,7 +4,7 @@ use Rattle.std.specs.Prelude.{ℤ, pos, ◌+ℤ◌, ◌≤ℤ◌, int_le, int_lt
 use Rattle.std.specs.Bool.{beq}
 use Rattle.std.proofs.lemmas.Int.{ints}
 use Rattle.std.proofs.lemmas.List.{map-append, append_assoc, append-nil}
-use Rattle.std.proofs.lemmas.Bool.{cases_eq, ne_eqb}
+use Rattle.std.proofs.lemmas.Bool.{cases_eq, ne_eqb, and_parts, not-true}
 use Rattle.std.proofs.lemmas.Option.{same_Some}
 use Rattle.tb_node.specs.declared.Float.{Float}
 use Rattle.tb_float.specs.Lists.{has_class}
@@ -137,23 +137,11 @@ no-class k (f ∷ fs) none = by_test (f.class == k) (λ h. no-class k fs h) none
 
 -- ---- a company
 
-and-first : (a b : Bool) → (a && b) ≡ true → a ≡ true
-and-first true b h = refl
-and-first false b h = h
-
-and-second : (a b : Bool) → (a && b) ≡ true → b ≡ true
-and-second true b h = h
-and-second false b h = cc
-
-not-true : (a : Bool) → not a ≡ true → a ≡ false
-not-true true h = cc
-not-true false h = refl
-
 joined-class : (z : Wanted) (before : List Choice) (f : Float) → joins z before f ≡ true → all_chosen f.class before ≡ true
-joined-class z before f h = and-second (suits z f) (all_chosen f.class before) (and-first (suits z f && all_chosen f.class before) (int_le (company_height z.sep (before ++ record { float = f; chosen = true } ∷ [])) z.height) h)
+joined-class z before f h = (and_parts (suits z f) (all_chosen f.class before) (and_parts (suits z f && all_chosen f.class before) (int_le (company_height z.sep (before ++ record { float = f; chosen = true } ∷ [])) z.height) h).0).1
 
 joined-height : (z : Wanted) (before : List Choice) (f : Float) → joins z before f ≡ true → int_le (company_height z.sep (before ++ record { float = f; chosen = true } ∷ [])) z.height ≡ true
-joined-height z before f h = and-second (suits z f && all_chosen f.class before) (int_le (company_height z.sep (before ++ record { float = f; chosen = true } ∷ [])) z.height) h
+joined-height z before f h = (and_parts (suits z f && all_chosen f.class before) (int_le (company_height z.sep (before ++ record { float = f; chosen = true } ∷ [])) z.height) h).1
 
 le-true : (a b : ℤ) → int_le a b ≡ true → a ≤ℤ b
 le-true a b h = grind (arith, ints, h)
@@ -189,9 +177,9 @@ pub record IsLawful (z : Wanted) (fs : List Float) (cs : List Choice) : Type 0 w
 head-lawful : (z : Wanted) (before : List Float) (f : Float) (fs : List Float) → is_head z before f ≡ true → is_made z (company_of_head z before f fs) ≡ true → IsLawful z (before ++ f ∷ fs) (company_of_head z before f fs)
 head-lawful z before f fs head made =
     let c : Choice = record { float = f; chosen = true } in
-    let suit : suits z f ≡ true = and-first (suits z f) (not (has_class f.class before)) head in
-    let none : has_class f.class before ≡ false = not-true (has_class f.class before) (and-second (suits z f) (not (has_class f.class before)) head) in
-    let low : f.height ≤ℤ z.height = le-true _ _ (and-second ((f.places.p || z.clearing) && beq f.wide z.wide) (int_le f.height z.height) suit) in
+    let suit : suits z f ≡ true = (and_parts (suits z f) (not (has_class f.class before)) head).0 in
+    let none : has_class f.class before ≡ false = not-true (has_class f.class before) (and_parts (suits z f) (not (has_class f.class before)) head).1 in
+    let low : f.height ≤ℤ z.height = le-true _ _ (and_parts ((f.places.p || z.clearing) && beq f.wide z.wide) (int_le f.height z.height) suit).1 in
     let first : company_height z.sep (passed_over before ++ c ∷ []) ≤ℤ z.height = subst (λ (y : ℤ). y ≤ℤ z.height) (sym (company-first z.sep (passed_over before) f (passed-none before))) low in
     record {
       floats = choices-floats z (passed_over before ++ c ∷ []) fs ∙ ap (λ gs. gs ++ fs) (map-append (λ d. d.float) (passed_over before) (c ∷ []) ∙ ap (λ gs. gs ++ f ∷ []) (passed-floats before)) ∙ append_assoc before (f ∷ []) fs;
@@ -205,7 +193,7 @@ company-lawful z before [] cs is = cc
 company-lawful z before (f ∷ fs) cs is = by_test (is_head z before f && is_made z (company_of_head z before f fs)) refl (λ h. company-lawful z (before ++ f ∷ []) fs cs h) is
   where
     by_test : (t : Bool) → (is_head z before f && is_made z (company_of_head z before f fs)) ≡ t → (company_from z (before ++ f ∷ []) fs ≡ Some cs → IsLawful z ((before ++ f ∷ []) ++ fs) cs) → (if t then Some (company_of_head z before f fs) else company_from z (before ++ f ∷ []) fs) ≡ Some cs → IsLawful z (before ++ f ∷ fs) cs
-    by_test true e ih h = subst (λ (ds : List Choice). IsLawful z (before ++ f ∷ fs) ds) (same_Some (company_of_head z before f fs) cs h) (head-lawful z before f fs (and-first (is_head z before f) (is_made z (company_of_head z before f fs)) e) (and-second (is_head z before f) (is_made z (company_of_head z before f fs)) e))
+    by_test true e ih h = subst (λ (ds : List Choice). IsLawful z (before ++ f ∷ fs) ds) (same_Some (company_of_head z before f fs) cs h) (head-lawful z before f fs (and_parts (is_head z before f) (is_made z (company_of_head z before f fs)) e).0 (and_parts (is_head z before f) (is_made z (company_of_head z before f fs)) e).1)
     by_test false e ih h = subst (λ (gs : List Float). IsLawful z gs cs) (append_assoc before (f ∷ []) fs) (ih h)
 
 pub company-is-lawful : (z : Wanted) (fs : List Float) (cs : List Choice) → company z fs ≡ Some cs → IsLawful z fs cs

@@ -4,6 +4,7 @@ use Rattle.std.specs.Prelude.{ℤ, ◌+ℤ◌, int_le, if◌then◌else◌}
 use Rattle.std.proofs.Math.ListN.{drop_of_length-le}
 use Rattle.std.proofs.lemmas.Int.{ints}
 use Rattle.std.proofs.lemmas.List.{append-nil, length-append, length-map}
+use Rattle.std.proofs.Math.Bool.{or-true}
 use Rattle.tb_node.specs.declared.Float.{Float}
 use Rattle.tb_float.specs.declared.Entry.{Entry}
 use Rattle.tb_float.specs.declared.Entry.TheVariants as entries
@@ -60,10 +61,6 @@ chosen-passed (d ∷ cs) f = ap (λ b. d.chosen || b) (chosen-passed cs f)
 chosen-last : (cs : List Choice) (f : Float) → has_chosen (cs ++ record { float = f; chosen = true } ∷ []) ≡ true
 chosen-last [] f = refl
 chosen-last (d ∷ cs) f = ap (λ b. d.chosen || b) (chosen-last cs f) ∙ or-true d.chosen
-  where
-    or-true : (b : Bool) → (b || true) ≡ true
-    or-true true = refl
-    or-true false = refl
 
 -- each float of a class is in the company if none of them is left
 pub all-chosen : (k : ℕ) (cs : List Choice) → all_chosen k cs ≡ not (has_class k (left_floats cs))

@@ -54,9 +54,9 @@ take_kept s l = kept_by s l (nat_lt 257 (length l)) refl
 pub fold_unended : (s : State) (line w : List ℕ) → IsUnended w → fold take_byte (Lines s (kept_line line)) w ≡ Lines s (kept_line (line ++ w))
 fold_unended s line [] h = ap (λ l. Lines s (kept_line l)) (sym (append-nil line))
 fold_unended s line (b ∷ w) h =
-    ap (λ t. fold take_byte (with_byte s (kept_line line) b t) w) (not-true (is_feed b) ((and_parts (not (is_feed b)) (list_all (λ c. not (is_feed c)) w) h).0))
+    ap (λ t. fold take_byte (with_byte s (kept_line line) b t) w) (not-true (is_feed b) (and_parts (not (is_feed b)) (list_all (λ c. not (is_feed c)) w) h).0)
     ∙ ap (λ l. fold take_byte (Lines s l) w) (kept-append line (b ∷ []))
-    ∙ fold_unended s (line ++ b ∷ []) w ((and_parts (not (is_feed b)) (list_all (λ c. not (is_feed c)) w) h).1)
+    ∙ fold_unended s (line ++ b ∷ []) w (and_parts (not (is_feed b)) (list_all (λ c. not (is_feed c)) w) h).1
     ∙ ap (λ l. Lines s (kept_line l)) (append_assoc line (b ∷ []) w)
 
 pub fold_ended : (s : State) (line w rest : List ℕ) → IsUnended w
