@@ -4,7 +4,6 @@ use Rattle.std.specs.Prelude.{◌+ℤ◌, if◌then◌else◌}
 use Rattle.std.proofs.lemmas.Bool.{eq-eqb}
 use Rattle.std.proofs.lemmas.List.{append-nil, append_assoc, take-append-drop}
 use Rattle.tb_node.specs.declared.Float.{Float}
-use Rattle.tb_node.specs.declared.Where.{Where}
 use Rattle.tb_node.specs.declared.Where.TheVariants.{Double, Deferred}
 use Rattle.tb_param.specs.declared.params.Params.{Params}
 use Rattle.tb_float.specs.declared.Limit.TheVariants as limits
@@ -12,7 +11,7 @@ use Rattle.tb_float.specs.declared.Suppress.{Suppress}
 use Rattle.tb_float.specs.declared.classes.ClassSet.{ClassSet}
 use Rattle.tb_float.specs.Lists.{FloatLists, has_class}
 use Rattle.tb_float.specs.Classes.{AreClassesOf, AreKnown, AreOfClasses, HasLeft}
-use Rattle.tb_area.specs.Area.{only_page, may_come, fits_column, fits_double, text_minimum, top_or_bottom, deferred, where_of, next_place, goes_double, double_place}
+use Rattle.tb_area.specs.Area.{only_page, may_come, fits_column, fits_double, text_minimum, top_or_bottom, deferred, where_of, next_place, double_place}
 
 -- ---- classes in lists
 
