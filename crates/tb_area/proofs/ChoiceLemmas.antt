@@ -1,5 +1,5 @@
 -- What a decision is if its tests are known.
-use Rattle.std.proofs.Common.{◌≡◌, Bool, true, false, List, sym, ap, ◌∙◌}
+use Rattle.std.proofs.Common.{◌≡◌, Bool, true, false, not, List, [], refl, sym, ap, ◌∙◌}
 use Rattle.std.specs.Prelude.{ℤ, ◌+ℤ◌, ◌&&◌, if◌then◌else◌}
 use Rattle.tb_scaled.specs.Scaled.{max_ℤ}
 use Rattle.tb_node.specs.declared.Float.{Float}
@@ -7,8 +7,9 @@ use Rattle.tb_node.specs.declared.Where.{Where}
 use Rattle.tb_node.specs.declared.Where.TheVariants.{Here, Top, Bottom, Double, Deferred}
 use Rattle.tb_param.specs.declared.params.Params.{Params}
 use Rattle.tb_float.specs.declared.Suppress.{Suppress}
+use Rattle.tb_float.specs.declared.Limit.TheVariants as limits
 use Rattle.tb_float.specs.Lists.{FloatLists, has_class}
-use Rattle.tb_area.specs.Area.{at_top, at_bottom, deferred, where_of, goes_bottom, tries_bottom, fits_below, bottom_or_deferred, tries_top, fits_above, next_separator, top_or_bottom, fits_column, here_or_area, by_class, text_minimum, may_enter, current_place, next_place, goes_double, double_place}
+use Rattle.tb_area.specs.Area.{may_come, only_page, at_top, at_bottom, deferred, where_of, goes_bottom, tries_bottom, fits_below, bottom_or_deferred, tries_top, fits_above, next_separator, top_or_bottom, fits_column, here_or_area, by_class, text_minimum, may_enter, current_place, next_place, goes_double, double_place}
 
 pub bottom_tried : (p : Params) (l : FloatLists) (s : Suppress) (r below : ℤ) (f : Float) → tries_bottom p l s f ≡ true → below ≡ r +ℤ next_separator p l.bottom → goes_bottom p l s r f ≡ fits_below p l below f
 bottom_tried p l s r below f e is =
@@ -59,11 +60,26 @@ pub class_not_at_bottom : (p : Params) (l : FloatLists) (s : Suppress) (r : ℤ)
 class_not_at_bottom p l s r f w e goes =
     goes ∙ ap (λ b. if b then where_of (bottom_or_deferred p l s r f) else here_or_area p l s r f) (sym e)
 
--- a float may enter the current column, or not: t is the least height of the text, m that of the page, r is required
-pub current_by : (p : Params) (l : FloatLists) (s : Suppress) (h t m r : ℤ) (f : Float) (b : Bool) (w : Where) → t ≡ text_minimum p l f → m ≡ max_ℤ h t → r ≡ m +ℤ f.height → may_enter p l s l.deferred r f ≡ b → w ≡ (if b then by_class p l s r f else Deferred) → w ≡ current_place p l s h f
-current_by p l s h t m r f b w text page is e goes =
-    let required : max_ℤ h (text_minimum p l f) +ℤ f.height ≡ r = cc in
-    goes ∙ sym (ap (λ q. if may_enter p l s l.deferred q f then by_class p l s q f else Deferred) required ∙ ap (λ a. if a then by_class p l s r f else Deferred) e)
+pub entered : (p : Params) (l : FloatLists) (s : Suppress) (r : ℤ) (f : Float) (b : Bool) (w : Where) → may_enter p l s [] r f ≡ b → w ≡ (if b then by_class p l s r f else Deferred) → w ≡ (if may_enter p l s [] r f then by_class p l s r f else Deferred)
+entered p l s r f b w e goes = goes ∙ ap (λ a. if a then by_class p l s r f else Deferred) (sym e)
+
+-- if a float of its class waits, a float may not enter its column; else none counts as waiting
+behind : (p : Params) (l : FloatLists) (s : Suppress) (r : ℤ) (f : Float) (waits : Bool) → has_class f.class l.deferred ≡ waits → (if waits then Deferred else (if may_enter p l s [] r f then by_class p l s r f else Deferred)) ≡ (if may_enter p l s l.deferred r f then by_class p l s r f else Deferred)
+behind p l s r f true e =
+    sym (ap (λ h. if (not (only_page f) && not f.wide && not h && may_come p l s limits.Total f && fits_column p l r) then by_class p l s r f else Deferred) e ∙ ap (λ b. if b then by_class p l s r f else Deferred) (barred (not (only_page f)) (not f.wide) (may_come p l s limits.Total f) (fits_column p l r)))
+  where
+    barred : (a b c d : Bool) → (a && b && false && c && d) ≡ false
+    barred true true c d = refl
+    barred true false c d = refl
+    barred false b c d = refl
+behind p l s r f false e =
+    ap (λ h. if (not (only_page f) && not f.wide && not h && may_come p l s limits.Total f && fits_column p l r) then by_class p l s r f else Deferred) (sym e)
+
+-- where a float goes in its own column: t is the least height of the text, m that of the page, r is required
+pub current_by : (p : Params) (l : FloatLists) (s : Suppress) (h t m r : ℤ) (f : Float) (w : Where) → t ≡ text_minimum p l f → m ≡ max_ℤ h t → r ≡ m +ℤ f.height → w ≡ (if has_class f.class l.deferred then Deferred else (if may_enter p l s [] r f then by_class p l s r f else Deferred)) → w ≡ current_place p l s h f
+current_by p l s h t m r f w text page is goes =
+    let required : r ≡ max_ℤ h (text_minimum p l f) +ℤ f.height = cc in
+    goes ∙ behind p l s r f (has_class f.class l.deferred) refl ∙ ap (λ q. if may_enter p l s l.deferred q f then by_class p l s q f else Deferred) required
 
 -- a float may enter the next column, or not
 pub next_by : (p : Params) (l : FloatLists) (s : Suppress) (before : List Float) (t r : ℤ) (f : Float) (b : Bool) (w : Where) → t ≡ text_minimum p l f → r ≡ f.height +ℤ t → may_enter p l s before r f ≡ b → w ≡ where_of (if b then top_or_bottom p l s r f else deferred) → w ≡ next_place p l s before f

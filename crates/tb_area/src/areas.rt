@@ -1,10 +1,10 @@
 //! The decisions: the text, the top and the bottom, in their order, and above both columns.
-ghost use Rattle.std.specs.Prelude.{◌≡◌, List};
+ghost use Rattle.std.specs.Prelude.{◌≡◌, List, [], if◌then◌else◌};
 ghost use Rattle.tb_node.specs.declared.Float.{Float as PlainFloat};
 ghost use Rattle.tb_float.specs.declared.Suppress.{Suppress};
 ghost use Rattle.tb_float.specs.Lists.{has_class};
 ghost use Rattle.tb_float.specs.Ranges.{AreFloatParams, IsExtent};
-ghost use Rattle.tb_area.specs.Area.{by_class, here_or_area, top_or_bottom, fits_above, bottom_or_deferred, goes_bottom, fits_below, where_of, next_place, double_place};
+ghost use Rattle.tb_area.specs.Area.{may_enter, by_class, here_or_area, top_or_bottom, fits_above, bottom_or_deferred, goes_bottom, fits_below, where_of, next_place, double_place};
 ghost use Rattle.tb_area.specs.Required.{IsRequired};
 
 use crate::tries::{
@@ -41,8 +41,38 @@ pub(crate) fn double_place(pool: &Pool, p: &Params, earlier: bool, f: &Float) ->
     }
 }
 
+/// Where a float goes in its own column if no float of its class waits.
+pub(crate) fn column_place(pool: &Pool, p: &Params, s: &Suppress, required: i64, f: &Float) -> Where
+    requires params { AreFloatParams p.now }
+    requires required { IsRequired 0 required }
+    ensures { result ≡ (if may_enter p.now pool.now.lists s.now [] required f.now then by_class p.now pool.now.lists s.now required f.now else Where.Deferred) }
+{
+    if may_enter(pool, p, s, false, required, f) {
+        by_class(pool, p, s, required, f)
+    } else {
+        Where::Deferred
+    }
+}
+
+/// A place in the column, or nowhere yet if a float of the class waits. Most floats have no place, and need no walk over
+/// those that wait.
+pub(crate) fn behind_waiting(pool: &Pool, place: Where, f: &Float) -> Where
+    ensures { result ≡ (if has_class f.now.class pool.now.lists.deferred then Where.Deferred else place) }
+{
+    match place {
+        Where::Deferred => Where::Deferred,
+        place => {
+            if pool.has_class(Part::Deferred, f.class) {
+                Where::Deferred
+            } else {
+                place
+            }
+        }
+    }
+}
+
 /// A float goes to the bottom or nowhere if one of its class is there.
-pub(crate) fn by_class(pool: &Pool, p: &Params, s: &Suppress, required: i64, f: &Float) -> Where
+fn by_class(pool: &Pool, p: &Params, s: &Suppress, required: i64, f: &Float) -> Where
     requires params { AreFloatParams p.now }
     requires required { IsRequired 0 required }
     ensures { result ≡ by_class p.now pool.now.lists s.now required f.now }

@@ -26,6 +26,11 @@ get-set-other (y ∷ xs) zero (suc k) x ne = refl
 get-set-other (y ∷ xs) (suc i) zero x ne = refl
 get-set-other (y ∷ xs) (suc i) (suc k) x ne = get-set-other xs i k x (λ e. ne (ap suc e))
 
+pub set-again : {X : Type 0} (xs : List X) (i : ℕ) (x : X) → slice_get xs i ≡ Some x → slice_set xs i x ≡ xs
+set-again [] i x e = refl
+set-again (y ∷ xs) zero x e = let same : y ≡ x = cc in ap (λ z. z ∷ xs) (sym same)
+set-again (y ∷ xs) (suc i) x e = ap (λ zs. y ∷ zs) (set-again xs i x e)
+
 has-same : (fs : List Float) (f : Float) (k : ℕ) → (f.class == k) ≡ true → has_class k (fs ++ f ∷ []) ≡ true
 has-same [] f k e = ap (λ b. b || false) e
 has-same (g ∷ fs) f k e = ap (λ b. (g.class == k) || b) (has-same fs f k e) ∙ or-true (g.class == k)
@@ -77,13 +82,6 @@ open-none zero (k ∷ ks) e = absurd (omega (arith, e))
 open-none (suc n) [] e = absurd (omega (arith, e))
 open-none (suc n) (k ∷ ks) e = ap (λ m. (if k then 1 else 0) + m) (open-none n ks (omega (arith, e)))
 
-open-again : (bs ks : List Bool) (i : ℕ) → slice_get bs i ≡ Some true → open_count (slice_set bs i true) ks ≡ open_count bs ks
-open-again [] ks i e = refl
-open-again (b ∷ bs) [] zero e = refl
-open-again (b ∷ bs) [] (suc i) e = refl
-open-again (b ∷ bs) (k ∷ ks) zero e = let same : b ≡ true = cc in ap (λ t. (if not t && k then 1 else 0) + open_count bs ks) (sym same)
-open-again (b ∷ bs) (k ∷ ks) (suc i) e = ap (λ m. (if not b && k then 1 else 0) + m) (open-again bs ks i e)
-
 open-less : (bs ks : List Bool) (i : ℕ) → slice_get bs i ≡ Some false → slice_get ks i ≡ Some true → open_count bs ks ≡ open_count (slice_set bs i true) ks + 1
 open-less [] ks i e f = cc
 open-less (b ∷ bs) [] i e f = cc
@@ -121,17 +119,11 @@ left-full s fs all many none are h = λ k has.
     same_Some _ _ (sym (are k (omega (arith, within, h.size))) ∙ set)
 
 -- a class more is in the set
-pub left-added : (s t : ClassSet) (k : ℕ) (b : Bool) (all : List Float) → slice_get s.flags k ≡ Some b → t.flags ≡ slice_set s.flags k true → t.left ≡ (if b then s.left else s.left - 1) → has_class k all ≡ true → HasLeft s all → HasLeft t all
-left-added s t k b all got flags left has h = record {
-  known = h.known;
-  size = h.size;
-  are = h.are;
-  left = left ∙ by_flag b got ∙ ap (λ bs. open_count bs h.known) (sym flags);
-}
-  where
-    by_flag : (b : Bool) → slice_get s.flags k ≡ Some b → (if b then s.left else s.left - 1) ≡ open_count (slice_set s.flags k true) h.known
-    by_flag true g = h.left ∙ sym (open-again s.flags h.known k g)
-    by_flag false g = let less = open-less s.flags h.known k g (known-class h.known k all h.are has) in omega (arith, h.left, less)
+pub left-added : (s t : ClassSet) (k : ℕ) (all : List Float) → slice_get s.flags k ≡ Some false → t.flags ≡ slice_set s.flags k true → t.left ≡ s.left - 1 → has_class k all ≡ true → HasLeft s all → HasLeft t all
+left-added s t k all got flags left has h =
+    let less = open-less s.flags h.known k got (known-class h.known k all h.are has) in
+    let now = ap (λ bs. open_count bs h.known) flags in
+    record { known = h.known; size = h.size; are = h.are; left = omega (arith, h.left, less, left, now) }
 
 -- ---- flags are counted
 

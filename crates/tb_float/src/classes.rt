@@ -1,5 +1,5 @@
 //! Which classes a walk over floats has passed.
-ghost use Rattle.std.specs.Prelude.{◌≡◌, ◌-◌, [], ◌∷◌, ◌++◌, List, IsTrue, true, slice_set, if◌then◌else◌};
+ghost use Rattle.std.specs.Prelude.{◌≡◌, ◌-◌, [], ◌∷◌, ◌++◌, List, IsTrue, true, slice_set};
 ghost use Rattle.tb_node.specs.declared.Float.{Float};
 ghost use Rattle.tb_float.specs.Classes.{AreClassesOf, AreKnown, AreOfClasses, HasLeft, set_count};
 ghost use Rattle.tb_float.specs.Lists.{has_class};
@@ -55,16 +55,19 @@ impl ClassSet {
         ensures flags { self.new.flags ≡ slice_set self.old.flags class true }
     {
         let place = usize::from(class);
-        self.left = left_after(self.left, self.flags[place]);
+        if self.flags[place] {
+            return;
+        }
+        self.left = one_less(self.left);
         self.flags[place] = true;
     }
 }
 
-// How many classes are left after one that was in the set before or not.
-fn left_after(left: usize, was: bool) -> usize
-    ensures { result ≡ (if was then left else left - 1) }
+// How many classes are left after one more.
+fn one_less(left: usize) -> usize
+    ensures { result ≡ left - 1 }
 {
-    if was || left == 0 { left } else { left - 1 }
+    if left == 0 { 0 } else { left - 1 }
 }
 
 // How many flags are set.
