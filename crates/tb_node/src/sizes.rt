@@ -61,6 +61,7 @@ impl Extent {
 
 /// The room that a list of the store takes, and its depth, in one walk without stretch and shrink (TeX: The Program
 /// §668 to §671).
+#[inline(never)]
 pub fn list_extent(store: &Lists<Node>, l: ListId) -> Extent
     requires live { IsLive store.now l }
     requires sized { All IsSizedNode (list_at store.now l) }

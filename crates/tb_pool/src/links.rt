@@ -1,6 +1,6 @@
 //! The nodes of the lists, and the links between them.
 
-ghost use Rattle.std.specs.Prelude.{◌≡◌, ◌-◌, ◌<◌, ℕ, List, None, Some, slice_index};
+ghost use Rattle.std.specs.Prelude.{◌≡◌, ◌-◌, ◌<◌, ℕ, List, None, Some, IsSome, slice_index};
 ghost use Rattle.slab.specs.Slab.{ContainsKey};
 ghost use Rattle.tb_pool.specs.Chain.{IsLinked, IsPath, HasPath, IsEnds};
 
@@ -16,6 +16,17 @@ pub fn fill<T>(place: &mut Option<T>, v: T)
     match mem::replace(place, Some(v)) {
         None => {}
         Some(_) => unreachable!(),
+    }
+}
+
+/// The value in a place that holds one.
+pub fn held_in<T>(place: &Option<T>) -> &T
+    requires { IsSome place.now }
+    ensures { place.now ≡ Some result.now }
+{
+    match place {
+        Some(v) => v,
+        None => unreachable!(),
     }
 }
 
