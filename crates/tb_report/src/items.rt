@@ -43,6 +43,7 @@ fn end_at(out: &mut Vec<u8>, top: i128) -> Result<(), AllocError>
 
 // A top, a height and a depth, and the end of the line. If none is below 0, as hardly any is, all three are written at
 // once.
+#[inline(always)]
 fn end_box(out: &mut Vec<u8>, top: i128, height: i64, depth: i64) -> Result<(), AllocError>
     ensures { OnOk result (out.new.items ≡ out.old.items ++ line (and_number top ++ and_number height ++ and_number depth)) }
 {
@@ -96,6 +97,7 @@ fn put_sized(
 }
 
 // The line of a box or a rule that came from an item.
+#[inline(always)]
 fn put_item(
     out: &mut Vec<u8>,
     word: &[u8],
