@@ -74,11 +74,11 @@ fn one_less(left: usize) -> usize
 fn count(flags: &[bool; 256]) -> usize
     ensures { result ≡ set_count flags.now }
 {
-    let mut set = 0;
+    let mut set = 0u16;
     for flag in flags {
         if *flag {
             set += 1;
         }
     }
-    set
+    usize::from(set)
 }

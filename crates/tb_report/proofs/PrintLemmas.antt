@@ -68,13 +68,11 @@ module _ (held : ℕ → List Node) where
     glue_fits limit fits = next_glue_fits limit (map shape_of ns) w s (map shape_of p.before) (shape_of n) (map shape_of rest) fits shapes_whole p.passed
 
   pub goes_on : (s : Set) (ns : List Node) (w w' : Walked) (old now now' : List ℕ) (n : Node) (rest : List Node) (p : Printing s ns w old now (n ∷ rest))
-      (top : ℤ) → ((set : Set) (passed : List Shape) → HasPassed w set passed → top ≡ top_after set passed)
-      → now' ≡ now ++ matter_line (matter_of n.kind) top
+      → ((set : Set) (passed : List Shape) → HasPassed w set passed → now' ≡ now ++ matter_line (matter_of n.kind) (top_after set passed))
       → ((set : Set) (passed : List Shape) → HasPassed w set passed → HasPassed w' set (passed ++ shape_of n ∷ []))
       → Printing s ns w' old now' rest
-  goes_on s ns w w' old now now' n rest p at at_top written passes =
-      let wrote : now' ≡ now ++ matter_line (matter_of n.kind) (top_after s (map shape_of p.before)) =
-      written ∙ ap (λ t. now ++ matter_line (matter_of n.kind) t) (at_top s (map shape_of p.before) p.passed) in
+  goes_on s ns w w' old now now' n rest p written passes =
+      let wrote : now' ≡ now ++ matter_line (matter_of n.kind) (top_after s (map shape_of p.before)) = written s (map shape_of p.before) p.passed in
       let passed : HasPassed w' s (map shape_of p.before ++ shape_of n ∷ []) = passes s (map shape_of p.before) p.passed in
       let plains = map (plain_of held) p.before in
       let left = map (plain_of held) rest in

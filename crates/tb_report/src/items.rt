@@ -1,5 +1,5 @@
 //! The line of a node.
-ghost use Rattle.std.specs.Prelude.{◌≡◌, ◌++◌, codes, OnOk, Some, None};
+ghost use Rattle.std.specs.Prelude.{◌≡◌, ◌≤◌, ◌+◌, ◌++◌, drop, length, codes, OnOk, Some, None};
 ghost use Rattle.tb_node.specs.Plain.{matter_of};
 ghost use Rattle.tb_report.specs.Lines.{where_text, side_text, box_line, rule_line, matter_line};
 ghost use Rattle.tb_text.specs.Fields.{and_number, and_count, and_text, line};
@@ -43,6 +43,7 @@ fn end_at(out: &mut Vec<u8>, top: i128) -> Result<(), AllocError>
 
 // A top, a height and a depth, and the end of the line. If none is below 0, as hardly any is, all three are written at
 // once.
+#[inline(always)]
 fn end_box(out: &mut Vec<u8>, top: i128, height: i64, depth: i64) -> Result<(), AllocError>
     ensures { OnOk result (out.new.items ≡ out.old.items ++ line (and_number top ++ and_number height ++ and_number depth)) }
 {
@@ -65,11 +66,24 @@ fn end_plain_box(out: &mut Vec<u8>, top: u64, height: u64, depth: u64) -> Result
     ensures { OnOk result (out.new.items ≡ out.old.items ++ line (and_count top ++ and_count height ++ and_count depth)) }
 {
     let mut text = [0; 64];
-    let at = write_text(b"\n", &mut text, 64);
-    let at = write_field(depth, &mut text, at);
-    let at = write_field(height, &mut text, at);
-    let start = write_field(top, &mut text, at);
+    let start = write_end(top, height, depth, &mut text, 64);
     put(out, &text[start..])
+}
+
+// Writes a top, a height and a depth and the end of the line so that they end at `end`, and returns where they start.
+#[inline(always)]
+fn write_end(top: u64, height: u64, depth: u64, text: &mut [u8], end: usize) -> usize
+    requires room { 64 ≤ end }
+    requires inside { end ≤ length text.old }
+    ensures start { end ≤ result + 64 }
+    ensures before { result ≤ end }
+    ensures same { length text.new ≡ length text.old }
+    ensures written { drop result text.new ≡ line (and_count top ++ and_count height ++ and_count depth) ++ drop end text.old }
+{
+    let at = write_text(b"\n", text, end);
+    let at = write_field(depth, text, at);
+    let at = write_field(height, text, at);
+    write_field(top, text, at)
 }
 
 // A height and a depth, and the end of the line.
@@ -95,8 +109,29 @@ fn put_sized(
     end_box(out, top, height, depth)
 }
 
-// The line of a box or a rule that came from an item.
+// The line of a box or a rule that came from an item. If no number is below 0, it is written at once.
+#[inline(always)]
 fn put_item(
+    out: &mut Vec<u8>,
+    word: &[u8],
+    name: &Name,
+    top: i128,
+    height: i64,
+    depth: i64,
+) -> Result<(), AllocError>
+    requires { length word.now ≤ 8 }
+    ensures { OnOk result (out.new.items ≡ out.old.items ++ line (word.now ++ name.now ++ and_number top ++ and_number height ++ and_number depth)) }
+{
+    let known = name.as_bytes();
+    if known.len() > 63 || top < 0 || top > i128::from(u64::MAX) || height < 0 || depth < 0 {
+        return put_any_item(out, word, name, top, height, depth);
+    }
+    put_plain_item(out, word, known, top as u64, height as u64, depth as u64)
+}
+
+#[cold]
+#[inline(never)]
+fn put_any_item(
     out: &mut Vec<u8>,
     word: &[u8],
     name: &Name,
@@ -108,6 +143,38 @@ fn put_item(
 {
     put_named(out, word, name.as_bytes())?;
     end_box(out, top, height, depth)
+}
+
+#[inline(always)]
+fn put_plain_item(
+    out: &mut Vec<u8>,
+    word: &[u8],
+    name: &[u8],
+    top: u64,
+    height: u64,
+    depth: u64,
+) -> Result<(), AllocError>
+    requires word { length word.now ≤ 8 }
+    requires name { length name.now ≤ 63 }
+    ensures { OnOk result (out.new.items ≡ out.old.items ++ ((word.now ++ name.now) ++ line (and_count top ++ and_count height ++ and_count depth))) }
+{
+    let mut text = [0; 136];
+    let at = write_end(top, height, depth, &mut text, 136);
+    let start = write_named(word, name, &mut text, at);
+    put(out, &text[start..])
+}
+
+// Writes a word and a name so that they end at `end`, and returns where they start.
+#[inline(always)]
+fn write_named(word: &[u8], name: &[u8], text: &mut [u8], end: usize) -> usize
+    requires room { length word.now + length name.now ≤ end }
+    requires inside { end ≤ length text.old }
+    ensures before { result ≤ end }
+    ensures same { length text.new ≡ length text.old }
+    ensures written { drop result text.new ≡ (word.now ++ name.now) ++ drop end text.old }
+{
+    let at = write_text(name, text, end);
+    write_text(word, text, at)
 }
 
 fn put_float(

@@ -1,9 +1,13 @@
 //! The lines of a page.
-ghost use Rattle.std.specs.Prelude.{◌≡◌, ◌≢◌, ◌++◌, [], pos, codes, OnOk, IfOk};
-ghost use Rattle.tb_node.specs.Plain.{plain_list};
+ghost use Rattle.std.specs.Prelude.{◌≡◌, ◌≢◌, ◌++◌, [], List, pos, codes, OnOk, IfOk};
+ghost use Rattle.tb_node.specs.Plain.{plain_list, matter_of};
+ghost use Rattle.tb_node.specs.Shape.{Shape};
+ghost use Rattle.tb_pack.specs.declared.Set.{Set as SetOf};
+ghost use Rattle.tb_pack.specs.Pack.{top_after};
+ghost use Rattle.tb_pack.specs.Walk.{HasPassed};
 ghost use Rattle.tb_column.specs.Shown.{column_shown, sheet_shown, sent_shown};
 ghost use Rattle.tb_report.specs.Printable.{IsPrintableList, IsPrintable, IsPrintableSheet, IsPrintableSent};
-ghost use Rattle.tb_report.specs.Lines.{item_lines, column_lines, unset, sheet_lines, sent_lines};
+ghost use Rattle.tb_report.specs.Lines.{matter_line, item_lines, column_lines, unset, sheet_lines, sent_lines};
 ghost use Rattle.tb_text.specs.Fields.{and_number, and_count, line};
 
 use crate::heads::put_head;
@@ -12,7 +16,7 @@ use crate::warnings::put_warning;
 use crate::writing::{put_measure, put_total};
 use std::alloc::{AllocError, Global};
 use tb_column::{Column, Sent, Sheet};
-use tb_node::Node;
+use tb_node::{Kind, Node};
 use tb_pack::{Set, Sign, Tops};
 use tb_pool::{ListId, Lists};
 use tb_scaled::Order;
@@ -31,10 +35,24 @@ fn put_items(
 {
     let mut tops = Tops::new(set);
     for node in store.iter(list) {
-        put_node(out, node, tops.top())?;
+        put_next(out, node, &tops)?;
         tops.pass(node);
     }
     Ok(())
+}
+
+// The line of the node that a walk has come to. Most nodes are glue, kerns and penalties, which have none, so their tops
+// are not asked for.
+fn put_next(out: &mut Vec<u8>, node: &Node, tops: &Tops) -> Result<(), AllocError>
+    requires { tops.now.set.den ≢ pos 0 }
+    ensures { OnOk result ((set : SetOf) (before : List Shape) → HasPassed tops.now set before → out.new.items ≡ out.old.items ++ matter_line (matter_of node.now.kind) (top_after set before)) }
+{
+    match node.kind {
+        Kind::Skip(_) => Ok(()),
+        Kind::Kern(_) => Ok(()),
+        Kind::Pen(_) => Ok(()),
+        _ => put_node(out, node, tops.top()),
+    }
 }
 
 // A column is the first or the second of its page.

@@ -65,11 +65,26 @@ fn write_stretch(stretch: &Stretch, text: &mut [u8], end: usize) -> usize
     ensures same { length text.new ≡ length text.old }
     ensures written { drop result text.new ≡ (codes " s" ++ stretch_text stretch.now) ++ drop end text.old }
 {
-    let at = write_field(stretch.filll, text, end);
-    let at = write_field(stretch.fill, text, at);
-    let at = write_field(stretch.fil, text, at);
+    let at = write_infinite(stretch, text, end);
     let at = write_field(stretch.normal, text, at);
     write_text(b" s", text, at)
+}
+
+// The same for the infinite orders alone, of which most places have no stretch.
+fn write_infinite(stretch: &Stretch, text: &mut [u8], end: usize) -> usize
+    requires room { 63 ≤ end }
+    requires inside { end ≤ length text.old }
+    ensures start { end ≤ result + 63 }
+    ensures before { result ≤ end }
+    ensures same { length text.new ≡ length text.old }
+    ensures written { drop result text.new ≡ (and_count stretch.now.fil ++ and_count stretch.now.fill ++ and_count stretch.now.filll) ++ drop end text.old }
+{
+    if stretch.fil == 0 && stretch.fill == 0 && stretch.filll == 0 {
+        return write_text(b" 0 0 0", text, end);
+    }
+    let at = write_field(stretch.filll, text, end);
+    let at = write_field(stretch.fill, text, at);
+    write_field(stretch.fil, text, at)
 }
 
 /// The goal at the place, its badness, its penalty and its cost.

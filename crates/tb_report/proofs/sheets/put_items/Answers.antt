@@ -1,6 +1,4 @@
-use Rattle.std.proofs.Common.{rules, ◌∙◌, FitsSigned}
-use Rattle.std.specs.Int.{w128}
-use Rattle.std.proofs.lemmas.Int.{to_z-of_z}
+use Rattle.std.proofs.Common.{◌∙◌}
 use Rattle.tb_pool.specs.Lists.{list_at}
 use Rattle.tb_report.proofs.PrintLemmas.{begins, shares, node_fits, natural_fits, glue_fits, goes_on, ends}
 use Rattle.tb_report.proofs.sheets.put_items.Goals as goal
@@ -10,8 +8,8 @@ loop-node-init c =
     let items = c.into_iter-node-iterator.ensures.into_iter_gives ∙ c.iter-node-items.ensures in
     record { can_next = tt; is_finite = tt; printing = rw items (begins (list_at c.args.store.now) c.args.set _ c.new-tops.result _ c.new-tops.ensures.none) }
 
-pub top-requires : goal.top-requires
-top-requires c = shares _ _ _ _ _ _ _ c.loop-node.invariant.printing c.requires.share
+pub put_next-requires : goal.put_next-requires
+put_next-requires c = shares _ _ _ _ _ _ _ c.loop-node.invariant.printing c.requires.share
 
 pub pass-requires-clause-node : goal.pass-requires-clause-node
 pass-requires-clause-node c = node_fits _ _ _ _ _ _ _ _ (rw c.in-Some.ensures.steps at c.loop-node.invariant.printing) c.requires.list.nodes
@@ -25,9 +23,7 @@ pass-requires-clause-glue c = glue_fits _ _ _ _ _ _ _ _ (rw c.in-Some.ensures.st
 pub loop-node-preserved : goal.loop-node-preserved
 loop-node-preserved c =
     let so_far = rw c.in-Some.ensures.steps at c.loop-node.invariant.printing in
-    let fits : FitsSigned w128 c.top.result = search rules in
-    let wrote = simp to_z-of_z at c.in_ok-put_node.ensures in
-    record { can_next = tt; is_finite = tt; printing = goes_on _ _ _ _ _ _ _ _ _ _ so_far c.top.result c.top.ensures.after wrote c.pass.ensures.passed }
+    record { can_next = tt; is_finite = tt; printing = goes_on _ _ _ _ _ _ _ _ _ _ so_far c.in_ok-put_next.ensures c.pass.ensures.passed }
 
 pub returns : goal.returns
 returns c = ends _ _ _ _ _ _ (rw c.in-None.ensures.steps.0 at c.loop-node.invariant.printing)

@@ -3,7 +3,7 @@ use Rattle.std.specs.Int.{w128}
 use Rattle.std.proofs.lemmas.Int.{to_z-of_z}
 use Rattle.tb_text.specs.Fields.{and_number, line}
 use Rattle.tb_report.proofs.Joined.{on_joined}
-use Rattle.tb_report.proofs.items.put_item.Goals as goal
+use Rattle.tb_report.proofs.items.put_any_item.Goals as goal
 
 pub returns : goal.returns
 returns c =
