@@ -3,9 +3,13 @@ use Rattle.std.specs.Prelude.{◌≡◌, ℕ, ◌++◌, take, drop}
 use Rattle.std.specs.FinMap.{insert}
 use Rattle.tb_pool.specs.Lists.{Lists, list_at, with_list}
 use Rattle.tb_node.specs.declared.Node.{Node}
+use Rattle.tb_node.specs.declared.Kind.{Kind}
+use Rattle.tb_node.specs.declared.Kind.TheVariants as kinds
 use Rattle.tb_builder.specs.declared.Ask.{Ask}
 use Rattle.tb_builder.specs.declared.Event.{Event}
 use Rattle.tb_builder.specs.declared.Builder.{Builder}
+use Rattle.tb_builder.specs.declared.Seen.{Seen}
+use Rattle.tb_builder.specs.declared.Seen.TheVariants as seen
 use Rattle.tb_builder.specs.Contents.{contents_of}
 use Rattle.tb_builder.specs.Next.{NextFits}
 use Rattle.tb_builder.specs.Owned.{Ids, ids_of, KeepsOthers}
@@ -26,3 +30,16 @@ pub record LeadsOn (b : Builder) (s : Lists Node) (ask : Ask) (d : Builder) (t :
   pub held : (contents_of d t).held ≡ (contents_of b s).held
   pub keeps : KeepsOthers (ids_of b) s (ids_of d) t
   pub later : (e : Event) (x : Builder) (y : Lists Node) → ComesAfter d t ask e x y → ComesAfter b s ask e x y
+
+-- what a walk sees of a node of this kind: a box or rule, glue, or another node
+abbrev pub seen_of : Kind → Seen
+seen_of (kinds.Hbox what h d) = seen.Solid h d
+seen_of (kinds.Rule name h d) = seen.Solid h d
+seen_of (kinds.Skip g) = seen.Space g
+seen_of (kinds.Kern w) = seen.Other
+seen_of (kinds.Pen p) = seen.Other
+seen_of (kinds.Mark name) = seen.Other
+seen_of (kinds.Note name) = seen.Other
+seen_of kinds.Whatsit = seen.Other
+seen_of (kinds.Ins i) = seen.Other
+seen_of (kinds.Act a) = seen.Other

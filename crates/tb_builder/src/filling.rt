@@ -20,18 +20,20 @@ ghost use Rattle.tb_builder.specs.Running.{IsSound, IsCourseOf, Underway, AllLoo
 ghost use Rattle.tb_builder.specs.Next.{AskFits, NextFits, NextIs, IsGivenOut};
 ghost use Rattle.tb_builder.specs.Past.{EventPast};
 ghost use Rattle.tb_builder.specs.Calls.{ComesAfter, IsNoPlace};
-ghost use Rattle.tb_builder.specs.Walked.{moved, LeadsOn};
+ghost use Rattle.tb_builder.specs.Walked.{moved, LeadsOn, seen_of};
+ghost use Rattle.tb_builder.specs.declared.Seen.TheVariants.{Space};
 ghost use Rattle.tb_builder.specs.Turn.{ChangesPage, Shifted, StepIs, StepFits, event_of, TurnIs, Filled};
 
 use crate::measuring::list_size;
-use crate::moving::{drop_first, is_walked, penalty_of};
+use crate::moving::{drop_first, is_walked, penalty_of, seen_in};
 use crate::splitting::move_front;
 use crate::trying::stops;
-use crate::{Ask, Builder, Event};
+use crate::{Ask, Builder, Event, Seen};
 use std::alloc::AllocError;
 use tb_break::{is_box, is_lasting, place_penalty, top_node};
 use tb_node::{Insertion, Node, Role};
 use tb_pool::Lists;
+use tb_scaled::Glue;
 
 impl Builder {
     /// The next event: the next legal place or act among the waiting nodes. The nodes before it are on the page then.
@@ -132,6 +134,78 @@ impl Builder {
     // Whether the next node goes on the page, which had `before` nodes before those that the walk passed.
     #[inline(always)]
     fn passes(
+        &mut self,
+        store: &Lists<Node>,
+        ask: &Ask,
+        n: &Node,
+        before: usize,
+        passed: usize,
+    ) -> bool
+        requires sound { IsSound self.old (moved (ids_of self.old) store.now passed) }
+        requires on { self.old.stopped ≡ false }
+        requires opened { self.old.opened ≡ true }
+        requires fits { NextFits (contents_of self.old (moved (ids_of self.old) store.now passed)) ask.now }
+        requires first { drop passed (list_at store.now self.old.waiting) ≡ n.now ∷ drop (passed + 1) (list_at store.now self.old.waiting) }
+        requires before { before ≡ length (list_at store.now self.old.page) }
+        ensures goes { result ≡ true → LeadsOn self.old (moved (ids_of self.old) store.now passed) ask.now self.new (moved (ids_of self.old) store.now (passed + 1)) }
+        ensures on { result ≡ true → self.new.stopped ≡ false }
+        ensures ends { result ≡ false → LeadsOn self.old (moved (ids_of self.old) store.now passed) ask.now self.new (moved (ids_of self.old) store.now passed) }
+        ensures opened { self.new.opened ≡ true }
+        ensures ids { ids_of self.new ≡ ids_of self.old }
+    {
+        match seen_in(n) {
+            Seen::Solid { height, depth } => {
+                self.course.put_box(height, depth);
+                true
+            }
+            Seen::Space(g) => self.passes_glue(store, ask, n, g, before, passed),
+            Seen::Other => self.passes_other(store, ask, n, before, passed),
+        }
+    }
+
+    // The same of glue.
+    #[inline(always)]
+    fn passes_glue(
+        &mut self,
+        store: &Lists<Node>,
+        ask: &Ask,
+        n: &Node,
+        g: Glue,
+        before: usize,
+        passed: usize,
+    ) -> bool
+        requires sound { IsSound self.old (moved (ids_of self.old) store.now passed) }
+        requires on { self.old.stopped ≡ false }
+        requires opened { self.old.opened ≡ true }
+        requires fits { NextFits (contents_of self.old (moved (ids_of self.old) store.now passed)) ask.now }
+        requires first { drop passed (list_at store.now self.old.waiting) ≡ n.now ∷ drop (passed + 1) (list_at store.now self.old.waiting) }
+        requires before { before ≡ length (list_at store.now self.old.page) }
+        requires glue { seen_of n.now.kind ≡ Space g }
+        ensures goes { result ≡ true → LeadsOn self.old (moved (ids_of self.old) store.now passed) ask.now self.new (moved (ids_of self.old) store.now (passed + 1)) }
+        ensures on { result ≡ true → self.new.stopped ≡ false }
+        ensures ends { result ≡ false → LeadsOn self.old (moved (ids_of self.old) store.now passed) ask.now self.new (moved (ids_of self.old) store.now passed) }
+        ensures opened { self.new.opened ≡ true }
+        ensures ids { ids_of self.new ≡ ids_of self.old }
+    {
+        if !self.course.lasting {
+            self.course.put_glue(g);
+            return true;
+        }
+        let Some(index) = before.checked_add(passed) else {
+            return false;
+        };
+        let tried = self.course.offer(index, n.line, 0);
+        if stops(&tried) {
+            self.stopped = true;
+            return false;
+        }
+        self.course.put_glue(g);
+        true
+    }
+
+    // The same of a node that need not be a box, a rule or glue.
+    #[inline(never)]
+    fn passes_other(
         &mut self,
         store: &Lists<Node>,
         ask: &Ask,

@@ -8,8 +8,10 @@ ghost use Rattle.tb_node.specs.Small.{IsAmount, IsSmallShape};
 ghost use Rattle.tb_node.specs.Roles.{act_of_kind, insertion_of_kind};
 ghost use Rattle.tb_break.specs.Finding.{penalty_by};
 ghost use Rattle.tb_builder.specs.Running.{is_act, nodes_glue_first};
+ghost use Rattle.tb_builder.specs.Walked.{seen_of};
 ghost use Rattle.tb_builder.specs.Firing.{is_insertion, NoInsertions, InsertionAt};
 
+use crate::Seen;
 use tb_break::{is_glue, place_penalty};
 use tb_node::{Kind, Node};
 use tb_pool::{Iter, ListId, Lists};
@@ -52,6 +54,25 @@ pub fn is_walked(n: &Node) -> bool
     ensures no_kern { result ≡ true → (lasting follows : Bool) → penalty_by lasting follows (shape_of n.now) ≡ penalty_by lasting false (shape_of n.now) }
 {
     !matches!(n.kind, Kind::Kern(_) | Kind::Ins(_) | Kind::Act(_))
+}
+
+/// What a walk sees of a node.
+#[inline(always)]
+pub fn seen_in(n: &Node) -> Seen
+    ensures { result ≡ seen_of n.now.kind }
+{
+    match n.kind {
+        Kind::Hbox { height, depth, .. } => Seen::Solid { height, depth },
+        Kind::Rule { height, depth, .. } => Seen::Solid { height, depth },
+        Kind::Skip(g) => Seen::Space(g),
+        Kind::Kern(_) => Seen::Other,
+        Kind::Pen(_) => Seen::Other,
+        Kind::Mark(_) => Seen::Other,
+        Kind::Note(_) => Seen::Other,
+        Kind::Whatsit => Seen::Other,
+        Kind::Ins(_) => Seen::Other,
+        Kind::Act(_) => Seen::Other,
+    }
 }
 
 /// The first node of a list.

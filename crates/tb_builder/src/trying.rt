@@ -5,6 +5,7 @@ ghost use Rattle.tb_scaled.specs.Scaled.{awful_bad};
 ghost use Rattle.tb_pool.specs.Lists.{list_at};
 ghost use Rattle.tb_node.specs.declared.Node.{Node as NodeOf};
 ghost use Rattle.tb_node.specs.Small.{IsAmount, IsSmall, IsSmallShape};
+ghost use Rattle.tb_node.specs.Shape.{box, glue};
 ghost use Rattle.tb_node.specs.Plain.{shape_of, plain_of, inserted_of, PlainNode, ins as an_insertion};
 ghost use Rattle.tb_node.specs.Add.{added_node};
 ghost use Rattle.tb_node.specs.Roles.{act_of_kind, insertion_of_kind};
@@ -22,7 +23,7 @@ use tb_break::{Offer, is_lasting, new_scan};
 use tb_insert::{Class, new_account};
 use tb_node::{Insertion, Node, Sums};
 use tb_pool::Lists;
-use tb_scaled::{AWFUL_BAD, EJECT_PENALTY};
+use tb_scaled::{AWFUL_BAD, EJECT_PENALTY, Glue};
 
 /// The course of a page of marks, notes and whatsits whose goal and depth limit (sp) are frozen now.
 pub fn started(goal: i64, max_depth: i64, lasting: bool) -> Course
@@ -133,6 +134,30 @@ impl Course {
     {
         self.scan.add(n);
         self.lasting = is_lasting(n);
+    }
+
+    // A box or rule goes to the end of the page.
+    #[inline(always)]
+    pub(crate) fn put_box(&mut self, height: i64, depth: i64)
+        requires node { IsSmallShape (box height depth) }
+        requires fits { IsSmall (added_node self.old.scan.max_depth self.old.scan.sums (box height depth)) }
+        ensures { (n : NodeOf) (z : Frozen) (page : List PlainNode) (bs : List Breakpoint) (held : ℕ → List NodeOf) → shape_of n ≡ box height depth → IsCourseOf z self.old page bs → act_of_kind n.kind ≡ None → insertion_of_kind n.kind ≡ None
+            → IsCourseOf z self.new (page ++ plain_of held n ∷ []) bs }
+    {
+        self.scan.add_box(height, depth);
+        self.lasting = true;
+    }
+
+    // Glue goes to the end of the page.
+    #[inline(always)]
+    pub(crate) fn put_glue(&mut self, g: Glue)
+        requires node { IsSmallShape (glue g) }
+        requires fits { IsSmall (added_node self.old.scan.max_depth self.old.scan.sums (glue g)) }
+        ensures { (n : NodeOf) (z : Frozen) (page : List PlainNode) (bs : List Breakpoint) (held : ℕ → List NodeOf) → shape_of n ≡ glue g → IsCourseOf z self.old page bs → act_of_kind n.kind ≡ None → insertion_of_kind n.kind ≡ None
+            → IsCourseOf z self.new (page ++ plain_of held n ∷ []) bs }
+    {
+        self.scan.add_glue(g);
+        self.lasting = false;
     }
 
     // An insertion goes to the end of the page, which has `index` nodes.

@@ -13,7 +13,7 @@ pub use names::name_of;
 pub use signals::{CLEAR_PENALTY, FOOTNOTES, HOLD_PENALTY, PAR_PENALTY, VERT_PENALTY};
 pub use sizes::list_extent;
 use std::marker::Model;
-pub use summing::{add, list_sums, stretch_sums};
+pub use summing::{add, add_box, add_glue, list_sums, stretch_sums};
 use tb_pool::ListId;
 use tb_scaled::Glue;
 

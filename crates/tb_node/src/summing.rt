@@ -33,6 +33,7 @@ fn laid(total: i64, depth: i64, room: i64, kept: i64) -> i64
 }
 
 // Adds a room with a new depth: the depth is kept up to the limit, and what is beyond the limit stays in the total.
+#[inline(always)]
 fn lay(s: &mut Sums, room: i64, depth: i64, max_depth: i64)
     requires small { IsSmall s.old }
     requires room { IsAmount room }
@@ -68,7 +69,9 @@ fn raise(amounts: &mut [i64; 4], k: usize, v: i64)
     amounts[k] = sum(amounts[k], v);
 }
 
-fn lay_box(s: &mut Sums, height: i64, depth: i64, max_depth: i64)
+/// Adds a box or rule to the sums of the list before it, as [`add`] adds its node. All amounts are in sp.
+#[inline(always)]
+pub fn add_box(s: &mut Sums, height: i64, depth: i64, max_depth: i64)
     requires small { IsSmall s.old }
     requires height { IsAmount height }
     requires depth { IsAmount depth }
@@ -89,9 +92,9 @@ pub fn add(s: &mut Sums, n: &Node, max_depth: i64)
     ensures { s.new ≡ added_node max_depth s.old (shape_of n.now) }
 {
     match n.kind {
-        Kind::Hbox { height, depth, .. } => lay_box(s, height, depth, max_depth),
-        Kind::Rule { height, depth, .. } => lay_box(s, height, depth, max_depth),
-        Kind::Skip(g) => lay_glue(s, g, max_depth),
+        Kind::Hbox { height, depth, .. } => add_box(s, height, depth, max_depth),
+        Kind::Rule { height, depth, .. } => add_box(s, height, depth, max_depth),
+        Kind::Skip(g) => add_glue(s, g, max_depth),
         Kind::Kern(w) => lay(s, w, 0, max_depth),
         Kind::Pen(_) => lay(s, 0, s.depth, max_depth),
         Kind::Mark(_) => lay(s, 0, s.depth, max_depth),
@@ -102,7 +105,9 @@ pub fn add(s: &mut Sums, n: &Node, max_depth: i64)
     }
 }
 
-fn lay_glue(s: &mut Sums, g: Glue, max_depth: i64)
+/// Adds glue to the sums of the list before it, as [`add`] adds its node. All amounts are in sp.
+#[inline(always)]
+pub fn add_glue(s: &mut Sums, g: Glue, max_depth: i64)
     requires small { IsSmall s.old }
     requires node { IsSmallShape (glue g) }
     requires limit { IsAmount max_depth }

@@ -7,7 +7,11 @@ use Rattle.std.proofs.lemmas.List.{length-map, length-append, length-take-le, le
 use Rattle.tb_scaled.specs.Scaled.{awful_bad}
 use Rattle.tb_pool.specs.Lists.{Lists, IsLive, list_at, with_list}
 use Rattle.tb_pool.proofs.MapLemmas.{get-insert_same, get-insert_other, insert_twice_from_get, has_value}
+use Rattle.tb_scaled.specs.declared.Glue.{Glue}
 use Rattle.tb_node.specs.declared.Node.{Node}
+use Rattle.tb_node.specs.declared.Kind.{Kind}
+use Rattle.tb_node.specs.declared.Kind.TheVariants as kinds
+use Rattle.tb_node.specs.Shape.{Shape, box, glue}
 use Rattle.tb_node.specs.Plain.{plain_of, shape_of}
 use Rattle.tb_node.specs.Small.{IsSmall}
 use Rattle.tb_node.specs.Add.{added_node}
@@ -30,7 +34,8 @@ use Rattle.tb_builder.specs.Offer.{OfferIs, TermsFit}
 use Rattle.tb_builder.specs.Next.{NextFits, NextIs, FirstIs, IsGivenOut}
 use Rattle.tb_builder.specs.Turn.{Shifted, StepIs, StepFits, TurnIs, places_on}
 use Rattle.tb_builder.specs.Calls.{IsNext, PassedOver, ComesBy}
-use Rattle.tb_builder.specs.Walked.{moved, LeadsOn}
+use Rattle.tb_builder.specs.declared.Seen.TheVariants as seen
+use Rattle.tb_builder.specs.Walked.{moved, LeadsOn, seen_of}
 use Rattle.tb_builder.proofs.Turns.MoveLemmas.{Written, written_shift}
 use Rattle.tb_builder.proofs.Turns.StepLemmas.{step_sums, step_terms, penalty_first, plain_first, passed_step, tried_stops, tried_goes}
 use Rattle.tb_builder.proofs.Turns.FillLemmas.{moves_from, shifted_from, behind_is}
@@ -221,6 +226,50 @@ page_length b s k n ms sound next =
     ∙ ap (λ m. length (list_at s b.page) + m) (length-take-le k (list_at s b.waiting) (omega arith))
     )
 
+-- ---- what a walk sees of a node
+
+-- it is a box or rule
+pub record SeenSolid (h d : ℤ) (n : Node) : Type 0 where
+  pub shape : shape_of n ≡ box h d
+  pub no_act : act_of_kind n.kind ≡ None
+  pub no_insertion : insertion_of_kind n.kind ≡ None
+
+pub seen_solid : (h d : ℤ) (n : Node) → seen_of n.kind ≡ seen.Solid h d → SeenSolid h d n
+seen_solid h d n e = by_kind n.kind e
+  where
+    by_kind : (k : Kind) → seen_of k ≡ seen.Solid h d → (let x : Node = record { line = n.line; kind = k } in SeenSolid h d x)
+    by_kind (kinds.Hbox what a b) e = record { shape = cc; no_act = refl; no_insertion = refl }
+    by_kind (kinds.Rule name a b) e = record { shape = cc; no_act = refl; no_insertion = refl }
+    by_kind (kinds.Skip g) e = cc
+    by_kind (kinds.Kern w) e = cc
+    by_kind (kinds.Pen p) e = cc
+    by_kind (kinds.Mark name) e = cc
+    by_kind (kinds.Note name) e = cc
+    by_kind kinds.Whatsit e = cc
+    by_kind (kinds.Ins i) e = cc
+    by_kind (kinds.Act a) e = cc
+
+-- it is this glue
+pub record SeenSpace (g : Glue) (n : Node) : Type 0 where
+  pub shape : shape_of n ≡ glue g
+  pub no_act : act_of_kind n.kind ≡ None
+  pub no_insertion : insertion_of_kind n.kind ≡ None
+
+pub seen_space : (g : Glue) (n : Node) → seen_of n.kind ≡ seen.Space g → SeenSpace g n
+seen_space g n e = by_kind n.kind e
+  where
+    by_kind : (k : Kind) → seen_of k ≡ seen.Space g → (let x : Node = record { line = n.line; kind = k } in SeenSpace g x)
+    by_kind (kinds.Hbox what a b) e = cc
+    by_kind (kinds.Rule name a b) e = cc
+    by_kind (kinds.Skip f) e = record { shape = cc; no_act = refl; no_insertion = refl }
+    by_kind (kinds.Kern w) e = cc
+    by_kind (kinds.Pen p) e = cc
+    by_kind (kinds.Mark name) e = cc
+    by_kind (kinds.Note name) e = cc
+    by_kind kinds.Whatsit e = cc
+    by_kind (kinds.Ins i) e = cc
+    by_kind (kinds.Act a) e = cc
+
 -- ---- a node of the walk
 
 -- the node is the next of a walk that passed k nodes: no act, insertion or kern
@@ -233,6 +282,21 @@ pub record Walks (b : Builder) (s : Lists Node) (ask : Ask) (n : Node) (k : ℕ)
   pub no_act : act_of_kind n.kind ≡ None
   pub no_insertion : insertion_of_kind n.kind ≡ None
   pub no_kern : (lasting follows : Bool) → penalty_by lasting follows (shape_of n) ≡ penalty_by lasting false (shape_of n)
+
+-- so is one of a shape whose place does not depend on what follows
+pub walks_shape : (b : Builder) (s : Lists Node) (ask : Ask) (n : Node) (k : ℕ) (x : Shape) → shape_of n ≡ x → ((lasting follows : Bool) → penalty_by lasting follows x ≡ penalty_by lasting false x)
+    → act_of_kind n.kind ≡ None → insertion_of_kind n.kind ≡ None → IsSound b (moved (ids_of b) s k) → b.stopped ≡ false → b.opened ≡ true → NextFits (contents_of b (moved (ids_of b) s k)) ask
+    → drop k (list_at s b.waiting) ≡ n ∷ drop (k + 1) (list_at s b.waiting) → Walks b s ask n k
+walks_shape b s ask n k x shape same no_act no_insertion sound on opened fits next = record {
+  sound = sound;
+  on = on;
+  opened = opened;
+  fits = fits;
+  next = next;
+  no_act = no_act;
+  no_insertion = no_insertion;
+  no_kern = λ lasting follows. ap (penalty_by lasting follows) shape ∙ same lasting follows ∙ sym (ap (penalty_by lasting false) shape);
+}
 
 module _ (b : Builder) (s : Lists Node) (ask : Ask) (n : Node) (k : ℕ) (w : Walks b s ask n k) where
   abbrev here : Lists Node

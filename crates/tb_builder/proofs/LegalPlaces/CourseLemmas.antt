@@ -9,7 +9,7 @@ use Rattle.tb_node.specs.declared.Node.{Node}
 use Rattle.tb_node.specs.declared.Sums.{Sums}
 use Rattle.tb_node.specs.declared.Kind.{Kind}
 use Rattle.tb_node.specs.declared.Kind.TheVariants as kinds
-use Rattle.tb_node.specs.Shape.{other, is_discardable}
+use Rattle.tb_node.specs.Shape.{Shape, other, is_discardable}
 use Rattle.tb_node.specs.Plain.{hbox, rule, skip, kerned, pen, mark, note, whatsit, Inserted, PlainKind, plain, ins, act, PlainNode, plain_of, plain_kind, node_shape, shape_of, is_act_kind, is_insertion_kind}
 use Rattle.tb_node.specs.Add.{added_node}
 use Rattle.tb_node.specs.Roles.{act_of_kind, insertion_of_kind}
@@ -299,3 +299,13 @@ course_put_node z k l page bs held n h a i scan account goal lasting =
   where
     with_sums : Scanned → Sums → Scanned
     with_sums s x = record s { sums = x }
+
+-- the same of a node of this shape
+pub course_put_shape : (z : Frozen) (k l : Course) (page : List PlainNode) (bs : List Breakpoint) (held : ℕ → List Node) (n : Node) (x : Shape) → shape_of n ≡ x → IsCourseOf z k page bs → act_of_kind n.kind ≡ None → insertion_of_kind n.kind ≡ None
+    → l.scan ≡ record k.scan { sums = added_node k.scan.max_depth k.scan.sums x } → l.account ≡ k.account → l.best_goal ≡ k.best_goal → l.lasting ≡ not (is_discardable x)
+    → IsCourseOf z l (page ++ plain_of held n ∷ []) bs
+course_put_shape z k l page bs held n x shape h a i scan account goal lasting =
+    course_put_node z k l page bs held n h a i (scan ∙ ap (λ y. with_sums k.scan (added_node k.scan.max_depth k.scan.sums y)) (sym shape)) account goal (lasting ∙ ap (λ y. not (is_discardable y)) (sym shape))
+  where
+    with_sums : Scanned → Sums → Scanned
+    with_sums s y = record s { sums = y }
