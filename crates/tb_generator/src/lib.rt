@@ -1,7 +1,7 @@
 //! Generated galleys: large valid inputs, each made from a number.
 #![tactic(auto)]
 
-ghost use Rattle.std.specs.Prelude.{◌≡◌, ◌<◌, ◌≤◌, true, IfOk};
+ghost use Rattle.std.specs.Prelude.{◌≡◌, ◌<◌, ◌≤◌, ◌∷◌, ◌++◌, [], true, IfOk, OnOk};
 ghost use Rattle.tb_param.specs.Defaults.{glue_points};
 ghost use Rattle.tb_node.specs.Names.{is_alphanumeric};
 ghost use Rattle.tb_galley.specs.Valid.{IsValid};
@@ -50,8 +50,7 @@ pub fn generate(alloc: Global, n: u32) -> Result<Galley, AllocError>
     let mut seed = u64::from(n);
     for k in 1..n + 1 {
         seed = next_seed(seed);
-        let kind = made_item(alloc, k, seed)?;
-        items.push(Item { line: k, kind })?;
+        push_made(&mut items, alloc, k, seed)?;
     }
     Ok(Galley {
         params: made_params(),
@@ -83,31 +82,79 @@ fn made_params() -> Params
     }
 }
 
-// The item in a place, by the number of the sequence there.
-fn made_item(alloc: Global, k: u32, seed: u64) -> Result<ItemKind, AllocError>
+// Appends the item in a place, by the number of the sequence there. Most are boxes or glue: they are made in place.
+fn push_made(items: &mut Items, alloc: Global, k: u32, seed: u64) -> Result<(), AllocError>
     requires { k ≤ 40000 }
-    ensures { IfOk result (λ i. i ≡ made_item k seed) }
+    ensures { OnOk result (items.new ≡ items.old ++ record { line = k; kind = made_item k seed } ∷ []) }
 {
     if k % 2 == 1 {
-        return Ok(made_box(k));
+        return push_box(items, k);
     }
-    made_by(alloc, k, seed, seed / 65_536 % 32)
+    push_by(items, alloc, k, seed, seed / 65_536 % 32)
 }
 
-// The item in an even place, by a number below 32.
-fn made_by(alloc: Global, k: u32, seed: u64, draw: u64) -> Result<ItemKind, AllocError>
+// Appends the item in an even place, by a number below 32.
+fn push_by(items: &mut Items, alloc: Global, k: u32, seed: u64, draw: u64) -> Result<(), AllocError>
     requires { k ≤ 40000 }
-    ensures { IfOk result (λ i. i ≡ made_by k seed draw) }
+    ensures { OnOk result (items.new ≡ items.old ++ record { line = k; kind = made_by k seed draw } ∷ []) }
 {
     if draw < 28 {
-        Ok(ItemKind::Skip(glue()))
+        push_glue(items, k)
     } else if draw < 30 {
-        made_foot(alloc, k)
+        push_foot(items, alloc, k)
     } else if draw == 30 {
-        Ok(made_float(k, 1, TBP, 50 + (seed % 50) as u32))
+        push_float(items, k, 1, TBP, 50 + (seed % 50) as u32)
     } else {
-        Ok(made_float(k, 2, HTP, 20 + (seed % 30) as u32))
+        push_float(items, k, 2, HTP, 20 + (seed % 30) as u32)
     }
+}
+
+// Appends an item with this line.
+#[inline(always)]
+fn push(items: &mut Items, line: u32, kind: ItemKind) -> Result<(), AllocError>
+    ensures { OnOk result (items.new ≡ items.old ++ record { line = line; kind = kind } ∷ []) }
+{
+    items.push(Item { line, kind })
+}
+
+#[inline(always)]
+fn push_glue(items: &mut Items, k: u32) -> Result<(), AllocError>
+    ensures { OnOk result (items.new ≡ items.old ++ record { line = k; kind = ItemKind.Skip (glue_points 3 1 0) } ∷ []) }
+{
+    push(items, k, ItemKind::Skip(glue()))
+}
+
+#[inline(always)]
+fn push_box(items: &mut Items, k: u32) -> Result<(), AllocError>
+    requires { k ≤ 40000 }
+    ensures { OnOk result (items.new ≡ items.old ++ record { line = k; kind = made_box k } ∷ []) }
+{
+    push(items, k, made_box(k))
+}
+
+#[inline(never)]
+fn push_foot(items: &mut Items, alloc: Global, k: u32) -> Result<(), AllocError>
+    requires { k ≤ 40000 }
+    ensures { OnOk result (items.new ≡ items.old ++ record { line = k; kind = made_foot k } ∷ []) }
+{
+    let kind = made_foot(alloc, k)?;
+    push(items, k, kind)
+}
+
+// A float of this many points in height.
+#[inline(never)]
+fn push_float(
+    items: &mut Items,
+    k: u32,
+    class: u8,
+    places: Places,
+    height: u32,
+) -> Result<(), AllocError>
+    requires few { k ≤ 40000 }
+    requires low { height ≤ 100 }
+    ensures { OnOk result (items.new ≡ items.old ++ record { line = k; kind = made_float k class places height } ∷ []) }
+{
+    push(items, k, made_float(k, class, places, height))
 }
 
 fn glue() -> Glue
@@ -121,6 +168,7 @@ fn glue() -> Glue
     }
 }
 
+#[inline(always)]
 fn made_box(k: u32) -> ItemKind
     requires { k ≤ 40000 }
     ensures { result ≡ made_box k }

@@ -9,6 +9,7 @@ use slab::Slab;
 use std::mem;
 
 /// Puts a value where there is none.
+#[inline(always)]
 pub fn fill<T>(place: &mut Option<T>, v: T)
     requires { place.old ≡ None }
     ensures { place.new ≡ Some v }

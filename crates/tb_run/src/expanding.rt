@@ -14,12 +14,12 @@ use std::alloc::AllocError;
 use tb_builder::Builder;
 use tb_galley::{Galley, Item, ItemKind, Leaf, LeafKind};
 use tb_node::{
-    Act, CLEAR_PENALTY, Float, HOLD_PENALTY, Insertion, Kind, Name, Node, PAR_PENALTY,
-    VERT_PENALTY, What, list_extent,
+    Act, Area, CLEAR_PENALTY, Float, HOLD_PENALTY, Insertion, Kind, Margin, Name, Node,
+    PAR_PENALTY, VERT_PENALTY, What, list_extent,
 };
 use tb_param::Params;
 use tb_pool::{ListId, Lists};
-use tb_scaled::{EJECT_PENALTY, INF_PENALTY, filling_glue};
+use tb_scaled::{EJECT_PENALTY, Glue, INF_PENALTY, filling_glue};
 
 /// Hands over the nodes of a galley: those of its items in order, and those of a clear with the line of its end. The page
 /// is empty, and the builder has the class of each footnote.
@@ -86,62 +86,143 @@ pub fn put_item(
             name,
             height,
             depth,
-        } => put_box(store, builder, line, What::Text(*name), *height, *depth),
+        } => put_text(store, builder, line, name, *height, *depth),
         ItemKind::Rule {
             name,
             height,
             depth,
-        } => put_rule(store, builder, line, *name, *height, *depth),
-        ItemKind::Skip(glue) => put(store, builder, line, Kind::Skip(*glue)),
-        ItemKind::Kern(width) => put(store, builder, line, Kind::Kern(*width)),
-        ItemKind::Penalty(penalty) => put(store, builder, line, Kind::Pen(*penalty)),
-        ItemKind::Mark(name) => put(store, builder, line, Kind::Mark(*name)),
-        ItemKind::Note(name) => put(store, builder, line, Kind::Note(*name)),
+        } => put_rule(store, builder, line, name, *height, *depth),
+        ItemKind::Skip(glue) => put_glue(store, builder, line, glue),
+        ItemKind::Kern(width) => put_kern(store, builder, line, *width),
+        ItemKind::Penalty(penalty) => put_penalty(store, builder, line, *penalty),
+        ItemKind::Mark(name) => put_mark(store, builder, line, name),
+        ItemKind::Note(name) => put_note(store, builder, line, name),
         ItemKind::Foot { class, leaves } => {
             put_foot(store, builder, p, line, *class, leaves.as_slice())
         }
-        ItemKind::Float { float, vert } => put_float(store, builder, p, two, line, *float, *vert),
-        ItemKind::Margin { margin, vert } => {
-            put_with_firings(store, builder, line, Act::TakeMargin(*margin), *vert)
-        }
+        ItemKind::Float { float, vert } => put_float(store, builder, p, two, line, float, *vert),
+        ItemKind::Margin { margin, vert } => put_margin(store, builder, line, margin, *vert),
         ItemKind::NewPage => put_page_end(store, builder, line),
         ItemKind::ClearPage => put_clear(store, builder, line),
         ItemKind::PageBreak(strength) => {
-            put(store, builder, line, Kind::Pen(-break_strength(*strength)))
+            put_penalty(store, builder, line, -break_strength(*strength))
         }
         ItemKind::NoPageBreak(strength) => {
-            put(store, builder, line, Kind::Pen(break_strength(*strength)))
+            put_penalty(store, builder, line, break_strength(*strength))
         }
         ItemKind::OneColumn => put_columns(store, builder, line, false),
         ItemKind::TwoColumn => put_columns(store, builder, line, true),
-        ItemKind::Suppress(area) => put_act(store, builder, line, Act::Suppress(*area)),
+        ItemKind::Suppress(area) => put_suppressing(store, builder, line, *area),
     }
 }
 
-fn put_rule(
+// A box of the galley. Most items are boxes or glue: their nodes are made in place.
+#[inline(always)]
+fn put_text(
     store: &mut Lists<Node>,
     builder: &mut Builder,
     line: u32,
-    name: Name,
+    name: &Name,
     height: i64,
     depth: i64,
 ) -> Result<(), AllocError>
     requires can { CanTake builder.old store.old }
-    ensures { OnOk result (Waits (lone line (Kind.Rule (Some name) height depth) ∷ []) builder.old store.old builder.new store.new) }
+    ensures { OnOk result (Waits (lone line (Kind.Hbox (What.Text name.now) height depth) ∷ []) builder.old store.old builder.new store.new) }
+{
+    put_box(store, builder, line, What::Text(*name), height, depth)
+}
+
+#[inline(always)]
+fn put_glue(
+    store: &mut Lists<Node>,
+    builder: &mut Builder,
+    line: u32,
+    glue: &Glue,
+) -> Result<(), AllocError>
+    requires can { CanTake builder.old store.old }
+    ensures { OnOk result (Waits (lone line (Kind.Skip glue.now) ∷ []) builder.old store.old builder.new store.new) }
+{
+    put(store, builder, line, Kind::Skip(*glue))
+}
+
+#[inline(never)]
+fn put_rule(
+    store: &mut Lists<Node>,
+    builder: &mut Builder,
+    line: u32,
+    name: &Name,
+    height: i64,
+    depth: i64,
+) -> Result<(), AllocError>
+    requires can { CanTake builder.old store.old }
+    ensures { OnOk result (Waits (lone line (Kind.Rule (Some name.now) height depth) ∷ []) builder.old store.old builder.new store.new) }
 {
     put(
         store,
         builder,
         line,
         Kind::Rule {
-            name: Some(name),
+            name: Some(*name),
             height,
             depth,
         },
     )
 }
 
+#[inline(never)]
+fn put_kern(
+    store: &mut Lists<Node>,
+    builder: &mut Builder,
+    line: u32,
+    width: i64,
+) -> Result<(), AllocError>
+    requires can { CanTake builder.old store.old }
+    ensures { OnOk result (Waits (lone line (Kind.Kern width) ∷ []) builder.old store.old builder.new store.new) }
+{
+    put(store, builder, line, Kind::Kern(width))
+}
+
+#[inline(never)]
+fn put_penalty(
+    store: &mut Lists<Node>,
+    builder: &mut Builder,
+    line: u32,
+    penalty: i64,
+) -> Result<(), AllocError>
+    requires can { CanTake builder.old store.old }
+    ensures { OnOk result (Waits (lone line (Kind.Pen penalty) ∷ []) builder.old store.old builder.new store.new) }
+{
+    put(store, builder, line, Kind::Pen(penalty))
+}
+
+#[inline(never)]
+fn put_mark(
+    store: &mut Lists<Node>,
+    builder: &mut Builder,
+    line: u32,
+    name: &Name,
+) -> Result<(), AllocError>
+    requires can { CanTake builder.old store.old }
+    ensures { OnOk result (Waits (lone line (Kind.Mark name.now) ∷ []) builder.old store.old builder.new store.new) }
+{
+    put(store, builder, line, Kind::Mark(*name))
+}
+
+#[inline(never)]
+fn put_note(
+    store: &mut Lists<Node>,
+    builder: &mut Builder,
+    line: u32,
+    name: &Name,
+) -> Result<(), AllocError>
+    requires can { CanTake builder.old store.old }
+    ensures { OnOk result (Waits (lone line (Kind.Note name.now) ∷ []) builder.old store.old builder.new store.new) }
+{
+    put(store, builder, line, Kind::Note(*name))
+}
+
 /// Hands over one node that is no insertion.
+#[inline(always)]
 pub fn put(
     store: &mut Lists<Node>,
     builder: &mut Builder,
@@ -155,6 +236,7 @@ pub fn put(
     builder.contribute(store, Node { line, kind })
 }
 
+#[inline(never)]
 fn put_act(
     store: &mut Lists<Node>,
     builder: &mut Builder,
@@ -167,6 +249,7 @@ fn put_act(
     put(store, builder, line, Kind::Act(act))
 }
 
+#[inline(always)]
 fn put_box(
     store: &mut Lists<Node>,
     builder: &mut Builder,
@@ -191,6 +274,7 @@ fn put_box(
 }
 
 // The end of a page: glue that fills it, and a forced break (LaTeX, \newpage).
+#[inline(never)]
 fn put_page_end(store: &mut Lists<Node>, builder: &mut Builder, line: u32) -> Result<(), AllocError>
     requires can { CanTake builder.old store.old }
     ensures { OnOk result (Waits (on_line line newpage_kinds) builder.old store.old builder.new store.new) }
@@ -201,6 +285,7 @@ fn put_page_end(store: &mut Lists<Node>, builder: &mut Builder, line: u32) -> Re
 
 // A clear: the end of a page, and a blank box with the penalty at which the output routine puts out what it holds (LaTeX,
 // \clearpage).
+#[inline(never)]
 fn put_clear(store: &mut Lists<Node>, builder: &mut Builder, line: u32) -> Result<(), AllocError>
     requires can { CanTake builder.old store.old }
     ensures { OnOk result (Waits (on_line line clearpage_kinds) builder.old store.old builder.new store.new) }
@@ -212,6 +297,7 @@ fn put_clear(store: &mut Lists<Node>, builder: &mut Builder, line: u32) -> Resul
 }
 
 // A change of columns, after a clear (ltoutput.dtx, \twocolumn).
+#[inline(never)]
 fn put_columns(
     store: &mut Lists<Node>,
     builder: &mut Builder,
@@ -227,20 +313,21 @@ fn put_columns(
 
 // A float. In the release of 2014 a wide one in two columns is taken without a firing, since it waits for a later page in
 // any case.
+#[inline(never)]
 fn put_float(
     store: &mut Lists<Node>,
     builder: &mut Builder,
     p: &Params,
     two: bool,
     line: u32,
-    float: Float,
+    float: &Float,
     vert: bool,
 ) -> Result<(), AllocError>
     requires can { CanTake builder.old store.old }
-    ensures { OnOk result (Waits (on_line line (float_kinds p.now two float vert)) builder.old store.old builder.new store.new) }
+    ensures { OnOk result (Waits (on_line line (float_kinds p.now two float.now vert)) builder.old store.old builder.new store.new) }
 {
     let wide = float.wide;
-    let act = Act::Take(float);
+    let act = Act::Take(*float);
     if p.has_second() && two && wide {
         put_act(store, builder, line, act)
     } else {
@@ -248,8 +335,38 @@ fn put_float(
     }
 }
 
+// A marginal note.
+#[inline(never)]
+fn put_margin(
+    store: &mut Lists<Node>,
+    builder: &mut Builder,
+    line: u32,
+    margin: &Margin,
+    vert: bool,
+) -> Result<(), AllocError>
+    requires can { CanTake builder.old store.old }
+    ensures { OnOk result (Waits (on_line line (with_firings (Act.TakeMargin margin.now) vert)) builder.old store.old builder.new store.new) }
+{
+    put_with_firings(store, builder, line, Act::TakeMargin(*margin), vert)
+}
+
+// Floats are kept out of an area.
+#[inline(never)]
+fn put_suppressing(
+    store: &mut Lists<Node>,
+    builder: &mut Builder,
+    line: u32,
+    area: Area,
+) -> Result<(), AllocError>
+    requires can { CanTake builder.old store.old }
+    ensures { OnOk result (Waits (lone line (Kind.Act (Act.Suppress area)) ∷ []) builder.old store.old builder.new store.new) }
+{
+    put_act(store, builder, line, Act::Suppress(area))
+}
+
 // The act of a float or a marginal note, and the two firings that place it: at the first the page so far is held, and the
 // second says whether the item is between paragraphs (ltoutput.dtx, \end@float).
+#[inline(never)]
 fn put_with_firings(
     store: &mut Lists<Node>,
     builder: &mut Builder,
@@ -325,6 +442,7 @@ fn list_height(store: &Lists<Node>, l: ListId) -> i64
 }
 
 // A footnote: an insertion of its class with a list of its own.
+#[inline(never)]
 fn put_foot(
     store: &mut Lists<Node>,
     builder: &mut Builder,

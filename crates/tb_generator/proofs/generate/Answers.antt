@@ -6,12 +6,11 @@ use Rattle.tb_generator.proofs.ValidLemmas.{generated_valid}
 use Rattle.tb_generator.proofs.generate.Goals as goal
 
 -- one item more
-made-more : (items now whole : List Item) (r m k s seed : ℕ) (i : Item) → r ≡ suc m → items ++ made_items r k s ≡ whole → now ≡ items ++ i ∷ [] → i ≡ record { line = k; kind = made_item k seed } → seed ≡ next_seed s
+made-more : (items now whole : List Item) (r m k s seed : ℕ) → r ≡ suc m → items ++ made_items r k s ≡ whole → now ≡ items ++ record { line = k; kind = made_item k seed } ∷ [] → seed ≡ next_seed s
     → now ++ made_items m (k + 1) seed ≡ whole
-made-more items now whole r m k s seed i more before pushed is next =
+made-more items now whole r m k s seed more before pushed next =
     (λ j. pushed j ++ made_items m (k + 1) seed)
-    ∙ append_assoc items (i ∷ []) (made_items m (k + 1) seed)
-    ∙ (λ j. items ++ is j ∷ made_items m (k + 1) seed)
+    ∙ append_assoc items (record { line = k; kind = made_item k seed } ∷ []) (made_items m (k + 1) seed)
     ∙ (λ j. items ++ record { line = k; kind = made_item k (next j) } ∷ made_items m (k + 1) (next j))
     ∙ (rw more at before)
 
@@ -20,7 +19,7 @@ loop-k-preserved c =
     let left : c.args.n + 1 - c.loop-k.k ≡ suc (c.args.n + 1 - (c.loop-k.k + 1)) = omega arith in
     record {
       small = c.next_seed-seed.ensures.small;
-      made = made-more c.loop-k.items c.push.new.self _ _ _ c.loop-k.k c.loop-k.seed c.next_seed-seed.result _ left c.loop-k.invariant.made c.in_ok-push.ensures.ok (λ j. record { line = c.loop-k.k; kind = c.in_ok-kind.ensures j }) c.next_seed-seed.ensures.next;
+      made = made-more c.loop-k.items c.push_made.new.items _ _ _ c.loop-k.k c.loop-k.seed c.next_seed-seed.result left c.loop-k.invariant.made c.in_ok-push_made.ensures c.next_seed-seed.ensures.next;
     }
 
 pub returns-clause-valid : goal.returns-clause-valid

@@ -1,32 +1,75 @@
-use Rattle.std.proofs.Common.{◌≡◌, ◌+◌, ◌≤◌, suc, length, drop, unwrap_or, [], Some, arith, ap, ◌∙◌}
+use Rattle.std.proofs.Common.{◌≡◌, ◌-◌, is_some, arith, refl, ap, length, [], ◌∙◌}
 use Rattle.std.proofs.lemmas.List.{drop_all}
-use Rattle.std.specs.FinMap.{get}
-use Rattle.tb_pool.specs.Lists.{list_at}
-use Rattle.tb_pool.proofs.MapLemmas.{get-insert_same, get-insert_other, insert_from_get}
-use Rattle.tb_pool.proofs.PopLemmas.{drop_next}
+use Rattle.std.specs.FinMap.{insert}
+use Rattle.slab.specs.Slab.{with_value}
+use Rattle.tb_pool.specs.Lists.{listed, list_at}
+use Rattle.tb_pool.specs.Chain.{values_of}
+use Rattle.tb_pool.proofs.MapLemmas.{present}
+use Rattle.tb_pool.proofs.ClearLemmas.{clear_begins, clear_len, clear_room, clear_there, clear_goes_on, clear_ends}
 use Rattle.tb_pool.proofs.Lists.clear.Goals as goal
+
+pub index-ends-requires : goal.index-ends-requires
+index-ends-requires g c = present c.self.inside.heads (values_of c.self.inside.nodes) c.l.inside.index (rw (← c.self.view_is, ← c.l.view_is) at c.requires)
+
+pub loop-dropped-init : goal.loop-dropped-init
+loop-dropped-init g c =
+    let i = c.self.inside in
+    let begins = clear_begins i.nodes i.heads i.free i.spare i.places c.self.invariant.0 c.self.invariant.1 c.l.inside.index c.index-ends.result.now c.index-ends.ensures in
+    record {
+      sound = begins.0;
+      lists = rw (← c.self.view_is) begins.1;
+      there = c.index-ends.ensures;
+      spare = ap (λ v. v.spare) c.self.view_is;
+      fits = omega (arith, clear_room i.nodes i.heads i.free i.spare i.places c.self.invariant.0 c.self.invariant.1 c.l.inside.index c.index-ends.result.now c.index-ends.ensures);
+    }
+
+pub index_mut-node-requires : goal.index_mut-node-requires
+index_mut-node-requires g c =
+    let i = c.loop-dropped.self-inside in
+    let before = c.loop-dropped.invariant in
+    clear_there i.nodes i.heads c.loop-dropped.free i.spare i.places c.l.inside.index c.index-ends.result.now before.there c.loop-dropped.key c.index-ends.result.now.last c.index-ends.result.now.len c.loop-dropped._dropped before.sound (omega arith)
 
 pub loop-dropped-preserved : goal.loop-dropped-preserved
 loop-dropped-preserved g c =
+    let i = c.loop-dropped.self-inside in
     let before = c.loop-dropped.invariant in
-    let now = c.loop-dropped.self in
-    let l = c.args.l in
-    let rest = list_at now l in
-    let k = c.loop-dropped._dropped in
-    let items = list_at c.args.self.now l in
-    let changed = c.drop_first.ensures.rest in
-    let is : rest ≡ drop k items = ap (λ o. unwrap_or o []) before.here in
-    let next : suc k ≡ k + 1 = omega arith in
+    let done = clear_goes_on i.nodes i.heads c.loop-dropped.free i.spare i.places c.l.inside.index c.index-ends.result.now before.there c.loop-dropped.key c.index-ends.result.now.last c.index-ends.result.now.len c.loop-dropped._dropped before.sound (omega arith)
+    c.args.self.now.lists (list_at c.args.self.now c.l.inside.index) before.lists c.index_mut-node.result.now _ c.index_mut-node.ensures.value refl refl in
     record {
-      here = ap (λ m. get m l) changed ∙ get-insert_same now.lists l (drop 1 rest) ∙ ap (λ xs. Some (drop 1 xs)) is ∙ ap Some (drop_next k items) ∙ ap (λ n. Some (drop n items)) next;
-      others = λ q ne. ap (λ m. get m q) changed ∙ get-insert_other now.lists l (drop 1 rest) q ne ∙ before.others q ne;
-      spare = omega (arith, before.spare, c.drop_first.ensures.spare);
+      sound = done.0;
+      lists = done.1;
+      there = before.there;
+      spare = before.spare;
+      fits = before.fits;
     }
+
+pub overflow_add-self : goal.overflow_add-self
+overflow_add-self g c = omega (arith, c.loop-dropped.invariant.fits)
+
+pub index_mut-requires : goal.index_mut-requires
+index_mut-requires g c = ap is_some c.loop-dropped.invariant.there
+
+pub invariant_of-self : goal.invariant_of-self
+invariant_of-self g c =
+    let i = c.loop-dropped.self-inside in
+    clear_ends i.nodes i.heads c.loop-dropped.free i.spare i.places c.l.inside.index c.loop-dropped.key c.index-ends.result.now.last c.index-ends.result.now.len c.loop-dropped._dropped (omega arith) c.loop-dropped.invariant.sound
 
 pub returns-clause-emptied : goal.returns-clause-emptied
 returns-clause-emptied g c =
-    let after = c.loop-dropped.invariant in
-    let l = c.args.l in
-    let items = list_at c.args.self.now l in
-    let all : length items ≤ c.loop-dropped._dropped = grind (arith) in
-    insert_from_get c.args.self.now.lists c.loop-dropped.self.lists l [] (after.here ∙ ap Some (drop_all c.loop-dropped._dropped items all)) after.others
+    let i = c.loop-dropped.self-inside in
+    let e = c.index-ends.result.now in
+    let k = c.loop-dropped._dropped in
+    let none : 0 ≡ e.len - k = omega arith in
+    let counted = clear_len c.self.inside.nodes c.self.inside.heads c.self.inside.free c.self.inside.spare c.self.inside.places c.self.invariant.0 c.self.invariant.1 c.l.inside.index e c.index-ends.ensures in
+    let here : length (list_at c.args.self.now c.l.inside.index) ≡ e.len = rw (← c.self.view_is) counted in
+    ap (λ n. listed (values_of i.nodes) (with_value i.heads c.l.inside.index (record { first = c.loop-dropped.key; last = e.last; len = n }))) none
+    ∙ c.loop-dropped.invariant.lists
+    ∙ ap (insert c.args.self.now.lists c.l.inside.index) (drop_all k (list_at c.args.self.now c.l.inside.index) (omega (arith, here)))
+    ∙ ap (λ q. insert c.args.self.now.lists q []) c.l.view_is
+
+pub returns-clause-spare : goal.returns-clause-spare
+returns-clause-spare g c =
+    let i = c.self.inside in
+    let counted = clear_len i.nodes i.heads i.free i.spare i.places c.self.invariant.0 c.self.invariant.1 c.l.inside.index c.index-ends.result.now c.index-ends.ensures in
+    let here : length (list_at c.args.self.now c.args.l) ≡ c.index-ends.result.now.len = rw (← c.self.view_is, ← c.l.view_is) counted in
+    omega (arith, here, c.loop-dropped.invariant.spare)
