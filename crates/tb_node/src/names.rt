@@ -1,8 +1,8 @@
 //! Names of boxes, floats, marks and notes.
 
 ghost use Rattle.std.specs.Prelude.{◌≡◌, ◌<◌, ◌≤◌, length, Some, None, true, if◌then◌else◌};
-ghost use Rattle.std.specs.List.{list_all};
-ghost use Rattle.tb_node.specs.Names.{is_name, is_alphanumeric, is_name_byte};
+ghost use Rattle.std.specs.List.{list_all, fold};
+ghost use Rattle.tb_node.specs.Names.{is_name, is_alphanumeric, is_name_byte, with_name_byte};
 
 use crate::Name;
 
@@ -34,7 +34,20 @@ fn is_name(bytes: &[u8]) -> bool
 fn are_name_bytes(bytes: &[u8]) -> bool
     ensures { result ≡ list_all is_name_byte bytes.now }
 {
-    bytes.iter().all(|b| is_name_byte(*b))
+    name_bytes_folded(bytes)
+}
+
+// No test ends this loop early, so it takes two instructions for a byte.
+fn name_bytes_folded(bytes: &[u8]) -> bool
+    ensures { result ≡ fold with_name_byte true bytes.now }
+{
+    bytes.iter().fold(true, |all, b| with_name_byte(all, *b))
+}
+
+fn with_name_byte(all: bool, byte: u8) -> bool
+    ensures { result ≡ with_name_byte all byte }
+{
+    all & is_name_byte(byte)
 }
 
 fn is_alphanumeric(byte: u8) -> bool

@@ -117,6 +117,20 @@ by_dimension negative n ds h k =
     ap (λ t. if t && true then Err BadNumber else within_dimen negative (number_of ds)) (some_digit ds h.some)
     ∙ within_small negative (number_of ds) n h.value k
 
+in_points_small : (m n : ℕ) → m ≡ n → m * 65536 + 0 ≡ n * 65536
+in_points_small m n e = omega arith
+
+-- a whole number of points
+pub by_points : (n : ℕ) (ds : List ℕ) → IsNumeralOf n ds → n ≤ 16383 → dimension_by (after_whole false ds (codes "pt")) ≡ Ok (pos (n * 65536))
+by_points n ds h k =
+    ap (λ t. if t && true then Err BadNumber else within_dimen false (number_of ds * 65536 + 0)) (some_digit ds h.some)
+    ∙ within_small false (number_of ds * 65536 + 0) (n * 65536) (in_points_small (number_of ds) n h.value) (omega arith)
+
+pub by_points_stretch : (n : ℕ) (ds : List ℕ) → IsNumeralOf n ds → n ≤ 16383 → stretch_by (after_whole false ds (codes "pt")) ≡ Ok (pos (n * 65536), Normal)
+by_points_stretch n ds h k =
+    ap (λ t. if t && true then Err BadNumber else with_order Normal (dimension_by (after_whole false ds (codes "pt")))) (some_digit ds h.some)
+    ∙ ap (λ r. with_order Normal r) (by_points n ds h k)
+
 abbrev pub unit_of : Order → List ℕ
 unit_of Normal = []
 unit_of Fil = codes "sfil"

@@ -8,7 +8,7 @@ use Rattle.std.proofs.lemmas.List.Folds.{list_all_more}
 use Rattle.std.proofs.Math.Nat.{pow-le-pow_right}
 use Rattle.tb_scaled.specs.declared.Order.TheVariants.{Normal}
 use Rattle.tb_text.specs.Seen.{IsFront}
-use Rattle.tb_text.specs.Numbers.{is_digit, digits_at, past_digits, digit_values, number_of, after_whole, number_part, integer_by, integer_of, dimension_by, dimension_of, stretch_by, stretch_of}
+use Rattle.tb_text.specs.Numbers.{is_digit, digits_at, digit_values, number_of, after_whole, number_part, integer_by, integer_of, dimension_by, dimension_of, stretch_by, stretch_of}
 use Rattle.tb_text.proofs.Digits.{digit_small, length_values}
 use Rattle.tb_text.proofs.NumberTexts.{IsNumeralOf, nothing_more, plain_part, by_integer, by_dimension, by_stretch}
 
@@ -114,3 +114,25 @@ front_is bs k n m rest h few digits e last some same after =
       past = ap (λ j. drop j bs) end ∙ sym after;
       small = let s = front_small bs k n few digits e in omega arith;
     }
+
+-- all bytes are digits
+pub whole_front : (bs : List ℕ) (k n m : ℕ) (rest : List ℕ) → length bs ≤ k → k ≤ 9 → list_all is_digit (take k bs) ≡ true → n ≡ number_of (take k bs)
+    → 0 < length bs → m ≡ n → rest ≡ drop (length bs) bs → IsFront bs m rest
+whole_front bs k n m rest h few digits e some same after =
+    let whole : take k bs ≡ bs = take_all k bs h in
+    let all : list_all is_digit bs ≡ true = ap (list_all is_digit) (sym whole) ∙ digits in
+    let end : prefix_len is_digit bs ≡ length bs = all_digits bs all in
+    let front : digits_at bs ≡ take k bs = ap (λ j. take j bs) end ∙ take_all (length bs) bs (omega arith) ∙ sym whole in
+    record {
+      some = let l : length (digits_at bs) ≡ length bs = ap length front ∙ ap length whole in omega arith;
+      value = ap number_of front ∙ sym e ∙ sym same;
+      past = ap (λ j. drop j bs) end ∙ sym after;
+      small = let s = front_small bs k n few digits e in omega arith;
+    }
+  where
+    all_digits : (bs : List ℕ) → list_all is_digit bs ≡ true → prefix_len is_digit bs ≡ length bs
+    all_digits [] h = refl
+    all_digits (b ∷ bs) h =
+        let both : (is_digit b ≡ true) × (list_all is_digit bs ≡ true) = halves (is_digit b) (list_all is_digit bs) h in
+        let rest : prefix_len is_digit bs ≡ length bs = all_digits bs both.1 in
+        ap (λ t. if t then 1 + prefix_len is_digit bs else 0) both.0 ∙ (let e : 1 + prefix_len is_digit bs ≡ suc (length bs) = omega arith in e)

@@ -1,5 +1,5 @@
-use Rattle.std.proofs.Common.{◌≡◌, ◌∙◌, sym, ◌<◌, ◌+◌, arith, rules, Option, Some, None, IfSome}
-use Rattle.tb_text.proofs.SmallNumbers.{digits_more, value_more, before_ninth, front_is}
+use Rattle.std.proofs.Common.{◌∙◌, sym, arith, Option, Some, None, IfSome}
+use Rattle.tb_text.proofs.SmallNumbers.{digits_more, value_more, before_ninth, front_is, whole_front}
 use Rattle.tb_text.proofs.number.front_number.Goals as goal
 
 if_some : {A : Type 0} (o : Option A) (P Q : A → Type 0) → ((x : A) → P x → Q x) → IfSome o P → IfSome o Q
@@ -29,3 +29,9 @@ loop-k-preserved c = record {
   value = rw c.from.ensures (value_more c.args.bytes.now c.loop-k.k c.loop-k.number c.loop-k-test.true c.loop-k.invariant.value);
   few = omega arith;
 }
+
+pub returns : goal.returns
+returns c =
+    if_some c.after_digits-2.result _ _
+    (λ r h. whole_front c.args.bytes.now c.loop-k.k c.loop-k.number r.0 r.1.now (omega arith) c.loop-k.invariant.few c.loop-k.invariant.digits c.loop-k.invariant.value h.0 h.1 h.2)
+    c.after_digits-2.ensures

@@ -1,23 +1,22 @@
-use Rattle.std.proofs.Common.{◌≡◌, ◌∙◌, ap, sym, true, Err, rules, if◌then◌else◌}
-use Rattle.std.specs.List.{list_all}
-use Rattle.tb_galley.specs.declared.Cause.TheVariants as causes
-use Rattle.tb_galley.specs.Faults.{is_printable}
-use Rattle.tb_galley.specs.Reading.{at_fault, least_left}
-use Rattle.tb_galley.proofs.VisibleFields.{dimension_visible}
-use Rattle.tb_galley.proofs.DimensionFields.{not_read}
+use Rattle.std.proofs.Common.{◌≡◌, rules, FitsSigned, w64, to_z, of_z, arith, true, false}
+use Rattle.std.specs.Prelude.{int_lt}
+use Rattle.std.proofs.lemmas.Int.{to_z-of_z, ints}
+use Rattle.std.proofs.lemmas.Bool.Decides.{nat_tests}
+use Rattle.tb_text.specs.Lines.{fields_of}
+use Rattle.tb_galley.specs.Reading.{left_of}
+use Rattle.tb_galley.proofs.AmountFields.{least_read, least_fault}
 use Rattle.tb_galley.proofs.fields.Fields.dimension_from.Goals as goal
 
-pub returns-in-Ok : goal.returns-in-Ok
-unfolding least_left
-returns-in-Ok c =
-    let visible : list_all is_printable c.in-Some.field.now ≡ true = dimension_visible c.in-Some.field.now c.in-Ok.value (sym c.in-Ok.ensures) in
-    search rules
+pub returns-in-Some : goal.returns-in-Some
+returns-in-Some c =
+    let fits : FitsSigned w64 c.in-Some.value = search rules in
+    let same : to_z w64 (of_z w64 c.in-Some.value) ≡ c.in-Some.value = simp to_z-of_z in
+    let first = c.in-Some.ensures in
+    let enough : int_lt c.in-Some.value c.args.low ≡ false = grind (arith, ints, nat_tests) in
+    rw same (least_read (left_of c.args.self.now) first.field (fields_of c.in-Some.rest.now) first.fields c.in-Some.value first.dimension c.args.low c.args.cause enough)
 
-pub returns-in-Ok-2 : goal.returns-in-Ok-2
-unfolding least_left
-returns-in-Ok-2 c =
-    let visible : list_all is_printable c.in-Some.field.now ≡ true = dimension_visible c.in-Some.field.now c.in-Ok.value (sym c.in-Ok.ensures) in
-    search rules
-
-pub returns-in-Err : goal.returns-in-Err
-returns-in-Err c = not_read c.args.low c.args.cause _ c.in-Some.field.now _ c.in-Err.fault c.in-Some.ensures.fields (sym c.in-Err.ensures) ∙ ap (at_fault c.args.self.now.number) (ap (λ k. if list_all is_printable c.in-Some.field.now then k else causes.NotAscii) (sym c.text_cause.ensures) ∙ sym c.cause_in.ensures) ∙ ap Err (sym c.new-in-Err.ensures)
+pub returns-in-Some-2 : goal.returns-in-Some-2
+returns-in-Some-2 c =
+    let first = c.in-Some.ensures in
+    let below : int_lt c.in-Some.value c.args.low ≡ true = grind (arith, ints, nat_tests) in
+    rw c.new.ensures (least_fault (left_of c.args.self.now) first.field (fields_of c.in-Some.rest.now) first.fields c.in-Some.value first.dimension c.args.low c.args.cause below)

@@ -1,0 +1,100 @@
+-- The first field of a line, as an amount of a number that was read.
+use Rattle.std.proofs.Common.{◌≡◌, ℕ, suc, ◌+◌, ◌*◌, ◌<◌, ◌≤◌, pos, Bool, true, false, ◌&&◌, List, [], ◌∷◌, ◌++◌, length, take, drop, get_or, codes, if◌then◌else◌, refl, ap, sym, ◌∙◌, arith, length-drop}
+use Rattle.std.specs.List.{list_all, prefix_len}
+use Rattle.std.proofs.lemmas.List.Sums.{prefix_len_passes, prefix_len-le-length}
+use Rattle.std.proofs.lemmas.List.{length-take, drop-drop}
+use Rattle.std.proofs.Math.Seq.{take-add}
+use Rattle.std.proofs.lemmas.Bool.Decides.{nat_tests}
+use Rattle.tb_text.specs.Lines.{is_blank, is_mark, fields_of}
+use Rattle.tb_text.specs.Seen.{IsFront, IsFirstAmount}
+use Rattle.tb_text.specs.Numbers.{is_digit, digits_at, past_digits, dimension_by, stretch_by}
+use Rattle.tb_text.proofs.FirstField.{first_field_is}
+use Rattle.tb_text.proofs.NumberTexts.{IsNumeralOf, plain_part, nothing_more, by_points, by_points_stretch}
+use Rattle.tb_text.proofs.SmallNumbers.{IsRead, few_read}
+
+-- ---- marks after digits
+
+digit_marks : (b : ℕ) → is_digit b ≡ true → is_mark b ≡ true
+digit_marks b h = grind (arith, nat_tests)
+
+digit_is_none : (b : ℕ) → is_digit b ≡ true → is_blank b ≡ false
+digit_is_none b h = grind (arith, nat_tests)
+
+one_more : (n : ℕ) → 1 + n ≡ suc n
+one_more n = omega arith
+
+nothing_before : (n : ℕ) → n ≡ 0 + n
+nothing_before n = omega arith
+
+marks_after : (t : Bool) (b : ℕ) (bs : List ℕ) (d : ℕ) → is_digit b ≡ t → prefix_len is_mark bs ≡ d + prefix_len is_mark (drop d bs)
+    → prefix_len is_mark (b ∷ bs) ≡ (if t then 1 + d else 0) + prefix_len is_mark (drop (if t then 1 + d else 0) (b ∷ bs))
+marks_after true b bs d e h =
+    let mark : prefix_len is_mark (b ∷ bs) ≡ 1 + prefix_len is_mark bs = ap (λ u. if u then 1 + prefix_len is_mark bs else 0) (digit_marks b e) in
+    let same : prefix_len is_mark (drop (1 + d) (b ∷ bs)) ≡ prefix_len is_mark (drop d bs) = ap (λ n. prefix_len is_mark (drop n (b ∷ bs))) (one_more d) in
+    omega arith
+marks_after false b bs d e h = nothing_before (prefix_len is_mark (b ∷ bs))
+
+pub marks_from : (bs : List ℕ) → prefix_len is_mark bs ≡ prefix_len is_digit bs + prefix_len is_mark (past_digits bs)
+marks_from [] = refl
+marks_from (b ∷ bs) = marks_after (is_digit b) b bs (prefix_len is_digit bs) refl (marks_from bs)
+
+digits_by : (t : Bool) (b : ℕ) (bs : List ℕ) (d : ℕ) → is_digit b ≡ t → list_all is_digit (take d bs) ≡ true → list_all is_digit (take (if t then 1 + d else 0) (b ∷ bs)) ≡ true
+digits_by true b bs d e h =
+    ap (λ n. list_all is_digit (take n (b ∷ bs))) (one_more d) ∙ ap (λ u. u && list_all is_digit (take d bs)) e ∙ h
+digits_by false b bs d e h = refl
+
+digits_all : (bs : List ℕ) → list_all is_digit (digits_at bs) ≡ true
+digits_all [] = refl
+digits_all (b ∷ bs) = digits_by (is_digit b) b bs (prefix_len is_digit bs) refl (digits_all bs)
+
+-- ---- the field
+
+module _ (line : List ℕ) (n : ℕ) (rest : List ℕ) (front : IsFront line n rest) where
+  some_digits : 0 < prefix_len is_digit line
+  some_digits = let some : 0 < length (digits_at line) = front.some in omega (arith, length-take (prefix_len is_digit line) line)
+
+  -- it is the digits and the marks that follow them
+  field_is : (k : ℕ) → prefix_len is_mark rest ≡ k → fields_of line ≡ (digits_at line ++ take k rest) ∷ fields_of (drop k rest)
+  field_is k marks =
+      let d : ℕ = prefix_len is_digit line in
+      let past : past_digits line ≡ rest = front.past in
+      let inside : 0 < length line = omega (arith, some_digits, prefix_len-le-length is_digit line) in
+      let count : prefix_len is_mark line ≡ d + k = marks_from line ∙ ap (λ m. d + m) (ap (prefix_len is_mark) past ∙ marks) in
+      first_field_is line inside (digit_is_none (get_or line 0 0) (prefix_len_passes is_digit line 0 0 some_digits))
+      ∙ ap (λ m. take m line ∷ fields_of (drop m line)) count
+      ∙ ap (λ f. f ∷ fields_of (drop (d + k) line)) (take-add d k line ∙ ap (λ r. digits_at line ++ take k r) past)
+      ∙ ap (λ r. (digits_at line ++ take k rest) ∷ fields_of r) (sym (drop-drop k d line) ∙ ap (λ r. drop k r) past)
+
+  rest_shorter : length rest < length line
+  rest_shorter =
+      let past : length (past_digits line) ≡ length rest = ap length front.past in
+      omega (arith, some_digits, prefix_len-le-length is_digit line, length-drop (prefix_len is_digit line) line)
+
+  numeral : IsNumeralOf n (digits_at line)
+  numeral = record { digits = digits_all line; value = front.value; some = front.some }
+
+  -- digits alone
+  pub plain_amount : prefix_len is_mark rest ≡ 0 → IsFirstAmount line (pos n) rest
+  plain_amount marks =
+      let read : IsRead (pos n) (digits_at line) = few_read (digits_at line) n (digits_all line) front.some front.value front.small in
+      record {
+        field = digits_at line;
+        fields = field_is 0 marks ∙ ap (λ f. f ∷ fields_of rest) (nothing_more (digits_at line));
+        dimension = read.dimension;
+        stretch = read.stretch;
+        shorter = rest_shorter;
+      }
+
+  points_part : (after : List ℕ) → rest ≡ 112 ∷ 116 ∷ after → prefix_len is_mark after ≡ 0 → fields_of line ≡ (digits_at line ++ codes "pt") ∷ fields_of after
+  points_part after e marks =
+      field_is 2 (ap (prefix_len is_mark) e ∙ ap (λ m. 1 + (1 + m)) marks) ∙ ap (λ r. (digits_at line ++ take 2 r) ∷ fields_of (drop 2 r)) e
+
+  -- digits and `pt`
+  pub points_amount : n ≤ 16383 → (after : List ℕ) → rest ≡ 112 ∷ 116 ∷ after → prefix_len is_mark after ≡ 0 → IsFirstAmount line (pos (n * 65536)) after
+  points_amount few after e marks = record {
+    field = digits_at line ++ codes "pt";
+    fields = points_part after e marks;
+    dimension = ap dimension_by (plain_part (digits_at line) (codes "pt") (digits_all line) front.some refl) ∙ by_points n (digits_at line) numeral few;
+    stretch = ap stretch_by (plain_part (digits_at line) (codes "pt") (digits_all line) front.some refl) ∙ by_points_stretch n (digits_at line) numeral few;
+    shorter = let size : length rest ≡ length (112 ∷ 116 ∷ after) = ap length e in omega (arith, rest_shorter);
+  }

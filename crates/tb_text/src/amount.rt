@@ -1,0 +1,55 @@
+//! The first field of a line as an amount, read as it is split off.
+ghost use Rattle.std.specs.Prelude.{◌≡◌, ◌<◌, ◌==◌, ◌∷◌, List, ℕ, pos, IfSome};
+ghost use Rattle.std.specs.List.{prefix_len};
+ghost use Rattle.tb_text.specs.Lines.{is_mark};
+ghost use Rattle.tb_text.specs.Seen.{IsFront, IsFirstAmount};
+
+use crate::line::{is_blank, past_blanks};
+use crate::number::front_number;
+
+// The greatest whole number of points that is no greater than the greatest dimension.
+const MAX_POINTS: u32 = 16_383;
+
+/// The first field of a line as an amount in scaled points, and what follows it, if the field is a few digits alone or
+/// with `pt` behind, as most amounts are; `None` says nothing of other lines.
+pub fn split_amount(line: &[u8]) -> Option<(i64, &[u8])>
+    ensures { IfSome result (λ r. IsFirstAmount line.now r.0 r.1.now) }
+{
+    let line = past_blanks(line);
+    let (number, rest) = front_number(line)?;
+    let (amount, rest) = amount_before(number, rest)?;
+    Some((i64::from(amount), rest))
+}
+
+// The amount of a number and of what follows its digits.
+fn amount_before(number: u32, rest: &[u8]) -> Option<(u32, &[u8])>
+    ensures { (line : List ℕ) → IsFront line number rest.now → IfSome result (λ r. IsFirstAmount line (pos r.0) r.1.now) }
+{
+    if ends_field(rest) {
+        return Some((number, rest));
+    }
+    match after_points(rest) {
+        Some(after) if number <= MAX_POINTS => Some((number * 65_536, after)),
+        _ => None,
+    }
+}
+
+// Whether a field ends before these bytes.
+fn ends_field(rest: &[u8]) -> bool
+    ensures { result ≡ (prefix_len is_mark rest.now == 0) }
+{
+    match rest {
+        [first, ..] => is_blank(*first),
+        [] => true,
+    }
+}
+
+// What follows `pt`, if a field ends with it.
+fn after_points(rest: &[u8]) -> Option<&[u8]>
+    ensures { IfSome result (λ r. (rest.now ≡ 112 ∷ 116 ∷ r.now) × (prefix_len is_mark r.now ≡ 0)) }
+{
+    match rest {
+        [b'p', b't', after @ ..] if ends_field(after) => Some(after),
+        _ => None,
+    }
+}
