@@ -42,7 +42,7 @@ use Rattle.tb_builder.proofs.Turns.PastLemmas.{event-after, holds-both}
 -- ---- calls of `next`
 
 turn_keeps : (b d : Builder) (s t : Lists Node) (ask : Ask) (o : Option Event) → TurnIs b s ask o d t → KeepsOthers (ids_of b) s (ids_of d) t
-turn_keeps b d s t ask o turn = record { others = λ q live out. turn.others q out; apart = λ q live out. turn.keeps q out }
+turn_keeps b d s t ask o turn = record { others = λ q live out. turn.frame.others q out; apart = λ q live out. turn.frame.apart q out }
 
 -- an event that is no page that fires gives no list out
 given_here : (e : Event) (c x : Contents) (s t y : Lists Node) (i : Ids) (ask : Ask) → FirstIs e (laid c ask) (reach_ahead c ask) (places_of c ask) ask x → IsGivenOut e s i y
@@ -324,8 +324,7 @@ module _ (b : Builder) (s : Lists Node) (ask : Ask) (n : Node) (k : ℕ) (w : Wa
       let d : Builder = record b { stopped = true; course = l } in
       leads_try ask b d here here t w.on w.fits (open_turn b here ask n behind w.sound w.on w.opened w.fits first d here (Some (events.Try t)) (record {
         own = w.sound.own;
-        others = λ q h. refl;
-        keeps = λ q h. h;
+        frame = record { others = λ q h. refl; apart = λ q h. h };
         classes = refl;
         boxes = refl;
         held = refl;

@@ -46,7 +46,7 @@ pub returns-clause-page : goal.returns-clause-page
 returns-clause-page c = paging_next c.fill.result (contents_of c.args.self.now c.args.store.now) (contents_of c.fill.new.self c.fill.new.store) c.args.ask.now c.fill.new.store (returns-clause-event c)
 
 pub returns-clause-keeps : goal.returns-clause-keeps
-returns-clause-keeps c = keeps_filled c.args.store.now c.make_room.new.store c.make_room.ensures.lists c.args.self.now c.fill.new.self c.fill.new.store c.fill.ensures.others c.fill.ensures.keeps
+returns-clause-keeps c = keeps_filled c.args.store.now c.make_room.new.store c.make_room.ensures.lists c.args.self.now c.fill.new.self c.fill.new.store c.fill.ensures.frame.others c.fill.ensures.frame.apart
 
 pub returns-then-self-clause-past : goal.returns-then-self-clause-past
 returns-then-self-clause-past c = λ on. tt
