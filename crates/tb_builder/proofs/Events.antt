@@ -1,8 +1,8 @@
 -- Up to an event, and the whole page, in reading order.
 pub mod FilledLemmas
 pub mod NextLemmas
+pub mod PagingLemmas
 pub mod PassedLemmas
 pub mod WalkLemmas
 pub mod SoFarLemmas
-pub mod PagingLemmas
 pub mod WholeLemmas

@@ -10,11 +10,13 @@ use Rattle.tb_builder.specs.declared.Builder.{Builder}
 use Rattle.tb_builder.specs.Contents.{contents_of}
 use Rattle.tb_builder.specs.Next.{NextIs, IsGivenOut}
 use Rattle.tb_builder.specs.Owned.{ids_of, KeepsOthers}
+use Rattle.tb_builder.specs.Paging.{IsNextOfPage}
 use Rattle.tb_builder.specs.Past.{EventPast}
 use Rattle.tb_builder.specs.Running.{IsSound}
 
 -- a call of `next` on the builder returned this event, and left this builder
 pub record IsNext (b : Builder) (s : Lists Node) (ask : Ask) (e : Event) (d : Builder) (t : Lists Node) : Type 0 where
+  pub page : IsNextOfPage e (contents_of b s) ask (contents_of d t) t
   pub event : NextIs b.stopped e (contents_of b s) ask (contents_of d t) t
   pub past : b.stopped ≡ false → EventPast e (contents_of b s) (contents_of d t) ask
   pub sound : IsSound d t

@@ -21,6 +21,7 @@ use Rattle.tb_builder.specs.declared.ClassList.{ClassList}
 use Rattle.tb_builder.specs.declared.Builder.{Builder}
 use Rattle.tb_builder.specs.Fired.{Boxed, content_of, unless_empty, box_after, held_insertions, with_spent_break}
 use Rattle.tb_builder.specs.Contents.{Contents, contents_of}
+use Rattle.tb_builder.specs.Leaving.{LeavesOthers}
 use Rattle.tb_builder.specs.Owned.{Lacks, inner_ids, ids_of, owned, IsOwned}
 use Rattle.tb_builder.specs.declared.Ask.{Ask}
 use Rattle.tb_builder.specs.declared.Page.{Page}
@@ -98,11 +99,10 @@ box_list k (e ∷ es) = if e.class.number == k then e.list else box_list k es
 
 -- ---- the builder while the nodes of its page are sorted
 
--- the lists stay the builder's, lists that were not its own stay as they are and are still not its own, and what waits stays
+-- the lists stay the builder's, all others stay as they are, and what waits stays
 pub record Sorts (b : Builder) (s : Lists Node) (d : Builder) (t : Lists Node) : Type 0 where
   pub own : IsOwned (ids_of d) t
-  pub others : (q : ℕ) → Lacks q (owned (ids_of b) s) → get t.lists q ≡ get s.lists q
-  pub keeps : (q : ℕ) → Lacks q (owned (ids_of b) s) → Lacks q (owned (ids_of d) t)
+  pub frame : LeavesOthers (ids_of b) s (ids_of d) t
   pub builder : d ≡ record b { boxes = d.boxes }
   pub classes : (contents_of d t).classes ≡ (contents_of b s).classes
   pub waiting : (contents_of d t).waiting ≡ (contents_of b s).waiting
@@ -218,8 +218,7 @@ spent_nodes (n ∷ ns) = record { line = n.line; kind = spent_node_kind n.kind }
 -- the page has its first nodes up to this place, and the others went back before what waits, with the break spent
 pub record Cuts (b : Builder) (s t : Lists Node) (place : ℕ) : Type 0 where
   pub own : IsOwned (ids_of b) t
-  pub others : (q : ℕ) → Lacks q (owned (ids_of b) s) → get t.lists q ≡ get s.lists q
-  pub keeps : (q : ℕ) → Lacks q (owned (ids_of b) s) → Lacks q (owned (ids_of b) t)
+  pub frame : LeavesOthers (ids_of b) s (ids_of b) t
   pub page : (contents_of b t).page ≡ take place (contents_of b s).page
   pub waiting : (contents_of b t).waiting ≡ with_spent_break (drop place (contents_of b s).page ++ (contents_of b s).waiting)
   pub held : list_at t b.held ≡ list_at s b.held

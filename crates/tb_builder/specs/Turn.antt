@@ -1,6 +1,5 @@
 -- One more node: what a turn of the page builder changes.
 use Rattle.std.specs.Prelude.{◌≡◌, ℕ, ◌<◌, ◌≤◌, Bool, true, false, List, [], ◌∷◌, ◌++◌, length, Option, Some, None}
-use Rattle.std.specs.FinMap.{get}
 use Rattle.tb_pool.specs.Lists.{Lists}
 use Rattle.tb_node.specs.declared.Node.{Node}
 use Rattle.tb_node.specs.Plain.{PlainNode, plain_of, shape_of}
@@ -17,16 +16,16 @@ use Rattle.tb_builder.specs.declared.Course.{Course}
 use Rattle.tb_builder.specs.declared.Builder.{Builder}
 use Rattle.tb_builder.specs.Reached.{tried, Reach, also_reached, reach_from, try_of, breakpoints}
 use Rattle.tb_builder.specs.Contents.{Contents, contents_of, laid, reach_ahead, places_of}
-use Rattle.tb_builder.specs.Owned.{ids_of, owned, Lacks, IsOwned}
+use Rattle.tb_builder.specs.Owned.{ids_of, IsOwned}
+use Rattle.tb_builder.specs.Leaving.{LeavesOthers}
 use Rattle.tb_builder.specs.Running.{IsCourseOf, Underway, places_by, IsSound}
 use Rattle.tb_builder.specs.Next.{FirstIs, KeepsBoxes, stopped_with}
 use Rattle.tb_builder.specs.Past.{EventPast, TurnPast}
 
--- the lists are still the builder's, and lists that were not its own stay as they are and are still not its own
+-- the lists are still the builder's, and all others stay as they are
 pub record ChangesPage (b : Builder) (s : Lists Node) (d : Builder) (t : Lists Node) : Type 0 where
   pub own : IsOwned (ids_of d) t
-  pub others : (q : ℕ) → Lacks q (owned (ids_of b) s) → get t.lists q ≡ get s.lists q
-  pub keeps : (q : ℕ) → Lacks q (owned (ids_of b) s) → Lacks q (owned (ids_of d) t)
+  pub frame : LeavesOthers (ids_of b) s (ids_of d) t
   pub classes : (contents_of d t).classes ≡ (contents_of b s).classes
   pub boxes : (contents_of d t).boxes ≡ (contents_of b s).boxes
   pub held : (contents_of d t).held ≡ (contents_of b s).held
@@ -116,8 +115,7 @@ TurnBy (Some e) c d ask = FirstIs e (laid c ask) (reach_ahead c ask) (places_of 
 -- one turn of the builder: what it returned, and what holds then
 pub record TurnIs (b : Builder) (s : Lists Node) (ask : Ask) (o : Option Event) (d : Builder) (t : Lists Node) : Type 0 where
   pub sound : IsSound d t
-  pub others : (q : ℕ) → Lacks q (owned (ids_of b) s) → get t.lists q ≡ get s.lists q
-  pub keeps : (q : ℕ) → Lacks q (owned (ids_of b) s) → Lacks q (owned (ids_of d) t)
+  pub frame : LeavesOthers (ids_of b) s (ids_of d) t
   pub room : o ≡ None → d.opened ≡ false → (b.opened ≡ false) × (s.spare ≤ t.spare)
   pub shorter : o ≡ None → length (contents_of d t).waiting < length (contents_of b s).waiting
   pub stays : KeepsBoxes (contents_of b s) (contents_of d t) ask
@@ -127,8 +125,7 @@ pub record TurnIs (b : Builder) (s : Lists Node) (ask : Ask) (o : Option Event) 
 -- the page was filled up to an event
 pub record Filled (b : Builder) (s : Lists Node) (ask : Ask) (e : Event) (d : Builder) (t : Lists Node) : Type 0 where
   pub sound : IsSound d t
-  pub others : (q : ℕ) → Lacks q (owned (ids_of b) s) → get t.lists q ≡ get s.lists q
-  pub keeps : (q : ℕ) → Lacks q (owned (ids_of b) s) → Lacks q (owned (ids_of d) t)
+  pub frame : LeavesOthers (ids_of b) s (ids_of d) t
   pub stays : KeepsBoxes (contents_of b s) (contents_of d t) ask
   pub first : FirstIs e (laid (contents_of b s) ask) (reach_ahead (contents_of b s) ask) (places_of (contents_of b s) ask) ask (contents_of d t)
   pub past : EventPast e (contents_of b s) (contents_of d t) ask

@@ -18,6 +18,7 @@ ghost use Rattle.tb_builder.specs.Reached.{holds_box};
 ghost use Rattle.tb_builder.specs.Contents.{contents_of};
 ghost use Rattle.tb_builder.specs.Running.{IsSound, IsCourseOf, Underway, AllLoose, kept_frozen, frozen_with};
 ghost use Rattle.tb_builder.specs.Next.{AskFits, NextFits, NextIs, IsGivenOut};
+ghost use Rattle.tb_builder.specs.Paging.{IsNextOfPage};
 ghost use Rattle.tb_builder.specs.Past.{EventPast};
 ghost use Rattle.tb_builder.specs.Calls.{ComesAfter, IsNoPlace};
 ghost use Rattle.tb_builder.specs.Walked.{moved, LeadsOn, seen_of};
@@ -37,7 +38,8 @@ use tb_scaled::Glue;
 
 impl Builder {
     /// The next event: the next legal place or act among the waiting nodes. The nodes before it are on the page then.
-    /// After a place that is a stop, the next call fires the page. If no place or act is left, the event is Empty, and
+    /// After a place that is a stop, the next call fires the page. From the start of a page on, the events are those of
+    /// the whole page, and the page that fires is the whole page's. If no place or act is left, the event is Empty, and
     /// no node waits (TeX: The Program §994 to §1028). After a page fired, `put_back` must come before the next call.
     ///
     /// Memory is taken first: if that fails, the builder and all lists are as before.
@@ -46,6 +48,7 @@ impl Builder {
         requires sound { IsSound self.old store.old }
         requires fits { NextFits (contents_of self.old store.old) ask.now }
         requires none_held { (contents_of self.old store.old).held ≡ [] }
+        ensures page { IfOk result (λ e. IsNextOfPage e (contents_of self.old store.old) ask.now (contents_of self.new store.new) store.new) }
         ensures event { IfOk result (λ e. NextIs self.old.stopped e (contents_of self.old store.old) ask.now (contents_of self.new store.new) store.new) }
         ensures past { IfOk result (λ e. self.old.stopped ≡ false → EventPast e (contents_of self.old store.old) (contents_of self.new store.new) ask.now) }
         ensures sound { IsSound self.new store.new }

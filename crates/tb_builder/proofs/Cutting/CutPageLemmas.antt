@@ -178,8 +178,7 @@ module _ (b : Builder) (s a t : Lists Node) (place : ℕ) (own : IsOwned (ids_of
     pub cuts_of : Cuts b s t place
     cuts_of = record {
       own = relisted_own (ids_of b) s t (list_at s b.held) front (spent_nodes back) own w;
-      others = λ q h. relisted_others (ids_of b) s t (list_at s b.held) front (spent_nodes back) own w q h;
-      keeps = λ q h. relisted_keeps (ids_of b) s t (list_at s b.held) front (spent_nodes back) own w q h;
+      frame = record { others = λ q h. relisted_others (ids_of b) s t (list_at s b.held) front (spent_nodes back) own w q h; apart = λ q h. relisted_keeps (ids_of b) s t (list_at s b.held) front (spent_nodes back) own w q h };
       page = relisted_page (ids_of b) s t (list_at s b.held) front (spent_nodes back) own w ∙ sym (take-map (plain_of (list_at s)) place (list_at s b.page));
       waiting = relisted_waiting (ids_of b) s t (list_at s b.held) front (spent_nodes back) own w ∙ spent_plain (list_at s) back ∙ ap with_spent_break (ap (map (plain_of (list_at s))) (sym waiting_turned) ∙ plain_turned);
       held = list_got t b.held (list_at s b.held) w.held_is;

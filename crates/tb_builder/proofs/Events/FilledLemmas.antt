@@ -27,6 +27,7 @@ use Rattle.tb_builder.specs.Next.{NextFits, BoxesFit, LaidFits, KeepsBoxes, Firs
 use Rattle.tb_builder.specs.Past.{ComesPast}
 use Rattle.tb_builder.specs.Turn.{ChangesPage, StepIs, StepFits, ReachesNothing, TurnIs, Filled}
 use Rattle.tb_builder.proofs.Turns.MoveLemmas.{Written, written_drop}
+use Rattle.tb_builder.proofs.Ownership.FrameLemmas.{leaves_then}
 use Rattle.tb_builder.proofs.Turns.FillLemmas.{moves_from, page_from, waiting_from}
 use Rattle.tb_builder.proofs.Turns.TurnLemmas.{acts_turn, empty_turn, ahead_open, lays_open}
 use Rattle.tb_builder.proofs.Turns.MeetLemmas.{stays_from}
@@ -105,8 +106,7 @@ module _ (b : Builder) (s t : Lists Node) (ask : Ask) (n : Node) (ns : List Node
       page = subst (λ x. IsPageSoFar b.frozen x b.course (contents_of b t)) (sym on) (stands_by b.frozen (subst (λ x. IsPageSoFar b.frozen x b.course (contents_of b s)) on sound.page));
       met = λ some go. ap freezes page_is ∙ sound.met some on;
     };
-    others = moves.others;
-    keeps = moves.keeps;
+    frame = moves.frame;
     room = λ e. cc;
     shorter = λ e. cc;
     stays = stays_from b b s t ask moves (inl refl);
@@ -122,8 +122,7 @@ stays_here c ask = record { classes = refl; boxes = refl; held = refl; frozen_so
 pub filled_empty : (b : Builder) (s : Lists Node) (ask : Ask) → IsSound b s → b.stopped ≡ false → list_at s b.waiting ≡ [] → Filled b s ask events.Empty b s
 filled_empty b s ask sound on none = record {
   sound = sound;
-  others = λ q h. refl;
-  keeps = λ q h. h;
+  frame = record { others = λ q h. refl; apart = λ q h. h };
   stays = stays_here (contents_of b s) ask;
   first = empty_turn (contents_of b s) ask (ap (map (plain_of (list_at s))) none) on;
   past = past-none (contents_of b s).waiting (contents_of b s) (contents_of b s) ask refl refl;
@@ -155,8 +154,7 @@ first_before v c d e ask t h = subst (λ ns. FirstIs v ns (reach_ahead c ask) (p
 pub filled_later : (b d x : Builder) (s t y : Lists Node) (ask : Ask) (e : Event) → TurnIs b s ask None d t → Filled d t ask e x y → Filled b s ask e x y
 filled_later b d x s t y ask e turn later = record {
   sound = later.sound;
-  others = λ q h. later.others q (turn.keeps q h) ∙ turn.others q h;
-  keeps = λ q h. later.keeps q (turn.keeps q h);
+  frame = leaves_then (ids_of b) (ids_of d) (ids_of x) s t y turn.frame later.frame;
   stays = stays_after (contents_of b s) (contents_of d t) (contents_of x y) ask turn.stays later.stays;
   first = first_before e (contents_of b s) (contents_of d t) (contents_of x y) ask turn.turned later.first;
   past = event-after e (contents_of b s) (contents_of d t) (contents_of x y) ask turn.past later.past;
@@ -166,8 +164,7 @@ filled_later b d x s t y ask e turn later = record {
 pub filled_now : (b d : Builder) (s t : Lists Node) (ask : Ask) (e : Event) → TurnIs b s ask (Some e) d t → Filled b s ask e d t
 filled_now b d s t ask e turn = record {
   sound = turn.sound;
-  others = turn.others;
-  keeps = turn.keeps;
+  frame = turn.frame;
   stays = turn.stays;
   first = turn.turned;
   past = turn.past;

@@ -1,22 +1,24 @@
--- From an empty page on, the events of a builder are those of the whole page, and the page that fires is its fired page.
-use Rattle.std.proofs.Common.{◌≡◌, refl, sym, subst, ◌∙◌, ap, ℕ, true, false, List, [], ◌∷◌, ◌++◌, None, take, drop, append_assoc, append-nil}
+-- From the start of a page on, the events of a builder are those of the whole page, and the page that fires is its own.
+use Rattle.std.proofs.Common.{◌≡◌, refl, sym, subst, ◌∙◌, ap, ℕ, ◌+◌, ◌<◌, Bool, true, false, length, arith, List, [], ◌∷◌, ◌++◌, None, take, drop, append_assoc, append-nil}
 use Rattle.std.specs.Prelude.{map, if◌then◌else◌}
+use Rattle.std.proofs.lemmas.Bool.{true≢false}
+use Rattle.std.proofs.lemmas.List.{length-append}
 use Rattle.tb_pool.specs.Lists.{Lists}
-use Rattle.tb_node.specs.declared.Act.{Act}
 use Rattle.tb_node.specs.declared.Node.{Node}
 use Rattle.tb_node.specs.Plain.{PlainNode, without_insertions}
-use Rattle.tb_break.specs.Best.{Breakpoint, least_cost, best_or}
+use Rattle.tb_break.specs.Best.{Breakpoint, is_stop, least_cost, best_or}
 use Rattle.tb_break.specs.Prune.{pruned_nodes}
 use Rattle.tb_builder.specs.Places.{page_places, glue_first}
 use Rattle.tb_insert.specs.Account.{Frozen, labelled, terms_after}
 use Rattle.tb_builder.specs.declared.Ask.{Ask}
+use Rattle.tb_builder.specs.declared.Try.{Try}
 use Rattle.tb_builder.specs.declared.Event.{Event}
 use Rattle.tb_builder.specs.declared.Event.TheVariants as events
 use Rattle.tb_builder.specs.Reached.{Reached, acted, tried, Reach, also_reached, reach_from, holds_box, laid_out, breakpoints, try_of}
-use Rattle.tb_builder.specs.Fired.{Boxed, Fired, no_place, penalty_at, line_at, with_spent_break, box_after, held_insertions, frozen_for, reach_of}
+use Rattle.tb_builder.specs.Fired.{Boxed, Fired, no_place, penalty_at, line_at, with_spent_break, box_after, held_insertions, frozen_for}
 use Rattle.tb_builder.specs.Contents.{Contents, frozen_of, frozen_or, laid, reach_ahead, reach_whole, places_of}
-use Rattle.tb_builder.specs.Next.{GoesPast, IsTheStop, ActedIs, EmptyIs, FirstIs, KeepsBoxes, NextIs}
-use Rattle.tb_builder.specs.Paging.{after_all, HasCome, HasStopped, HasEnded, ComesTo}
+use Rattle.tb_builder.specs.Next.{IsTheStop, TriedIs, FirstIs, KeepsBoxes, PageIs, after_fired, FiresWith, NextIs}
+use Rattle.tb_builder.specs.Paging.{page_reach, after_all, KeepsStart, HasCome, ComesToTry, ComesTo, IsNextOfPage}
 
 breakpoints-append : (rs qs : List Reached) → breakpoints (rs ++ qs) ≡ breakpoints rs ++ breakpoints qs
 breakpoints-append [] qs = refl
@@ -30,24 +32,23 @@ also_after rs r w = ap (λ qs. with_reached qs) (sym (append_assoc rs (r ∷ [])
     with_reached : List Reached → Reach
     with_reached qs = record w { reached = qs }
 
--- ---- an empty page
+-- ---- the start of a page
 
-pub paging_begins : (c : Contents) (ask : Ask) → c.page ≡ [] → c.frozen ≡ None → c.stopped ≡ false → HasCome (reach_of ask c.classes c.boxes c.page c.waiting) [] c ask
+pub paging_begins : (c : Contents) (ask : Ask) → c.page ≡ [] → c.frozen ≡ None → c.stopped ≡ false → HasCome c [] c ask
 paging_begins c ask page frozen going = record {
-  reach = (λ i. reach_from ask.max_depth (terms_after (frozen_for ask c.classes c.boxes)) [] (laid_out ask.top_skip (page i) c.waiting))
-      ∙ sym (λ i. reach_from (same i).limit (terms_after (same i)) (page i) (if holds_box (page i) then c.waiting else pruned_nodes ask.top_skip c.waiting));
-  places = (λ i. page_places (frozen_of c ask).limit (terms_after (frozen_of c ask)) [] (page i) (glue_first c.waiting));
-  frozen = same;
-  going = going;
+  stays = record { classes = refl; boxes = refl; held = refl; frozen = same };
+  goes = λ on. record {
+    reach = (λ i. reach_from ask.max_depth (terms_after (frozen_for ask c.classes c.boxes)) [] (laid_out ask.top_skip (page i) c.waiting))
+        ∙ sym (λ i. reach_from (same i).limit (terms_after (same i)) (page i) (if holds_box (page i) then c.waiting else pruned_nodes ask.top_skip c.waiting));
+    places = (λ i. page_places (frozen_of c ask).limit (terms_after (frozen_of c ask)) [] (page i) (glue_first c.waiting));
+  };
+  stops = λ off. absurd (true≢false (sym off ∙ going));
 }
   where
     same : frozen_of c ask ≡ frozen_for ask c.classes c.boxes
     same = ap (λ o. frozen_or o ask c.classes c.boxes) frozen
 
 -- ---- the next event
-
-stays_frozen : (c d : Contents) (ask : Ask) → KeepsBoxes c d ask → frozen_of c ask ≡ frozen_for ask c.classes c.boxes → frozen_of d ask ≡ frozen_for ask d.classes d.boxes
-stays_frozen c d ask s h = s.frozen_so ∙ h ∙ (λ i. frozen_for ask (sym s.classes i) (sym s.boxes i))
 
 -- the page that fires, by the places, the nodes passed and those beyond the stop
 abbrev fired_with : Frozen → List Boxed → List Breakpoint → List PlainNode → List PlainNode → Fired
@@ -66,58 +67,113 @@ fired_with = λ z boxes bs passed beyond.
       line = line_at rest;
     }
 
-module _ (w : Reach) (rs : List Reached) (c d : Contents) (ask : Ask) (h : HasCome w rs c ask) (s : KeepsBoxes c d ask) where
-  comes_on : (line : ℕ) (b : Breakpoint) → GoesPast (laid c ask) (reach_ahead c ask) (places_of c ask) ask line b d → HasCome w (rs ++ tried line b ∷ []) d ask
-  comes_on line b g = record {
-    reach = h.reach ∙ ap (after_all rs) g.reach ∙ also_after rs (tried line b) (reach_ahead d ask);
-    places = g.places ∙ ap (λ bs. bs ++ b ∷ []) h.places ∙ sym (breakpoints-append rs (tried line b ∷ []));
-    frozen = stays_frozen c d ask s h.frozen;
-    going = g.stopped;
-  }
+module _ (s : Contents) (rs : List Reached) (c d : Contents) (ask : Ask) (h : HasCome s rs c ask) where
+  -- no stop was tried before
+  module _ (on : c.stopped ≡ false) (k : KeepsBoxes c d ask) where
+    stays_on : KeepsStart s d ask
+    stays_on = record { classes = k.classes ∙ h.stays.classes; boxes = k.boxes ∙ h.stays.boxes; held = k.held ∙ h.stays.held; frozen = k.frozen_so ∙ h.stays.frozen }
 
-  comes_act : (a : Act) → ActedIs a (laid c ask) (reach_ahead c ask) (places_of c ask) ask d → HasCome w (rs ++ acted a ∷ []) d ask
-  comes_act a g = record {
-    reach = h.reach ∙ ap (after_all rs) g.reach ∙ also_after rs (acted a) (reach_ahead d ask);
-    places = g.places ∙ h.places ∙ sym (append-nil (breakpoints rs)) ∙ sym (breakpoints-append rs (acted a ∷ []));
-    frozen = stays_frozen c d ask s h.frozen;
-    going = g.stopped;
-  }
+    comes_on : (r : Reached) → reach_ahead c ask ≡ also_reached r (reach_ahead d ask) → places_of d ask ≡ breakpoints rs ++ breakpoints (r ∷ []) → d.stopped ≡ false → HasCome s (rs ++ r ∷ []) d ask
+    comes_on r reach places going = record {
+      stays = stays_on;
+      goes = λ now. record {
+        reach = (h.goes on).reach ∙ ap (after_all rs) reach ∙ also_after rs r (reach_ahead d ask);
+        places = places ∙ sym (breakpoints-append rs (r ∷ []));
+      };
+      stops = λ off. absurd (true≢false (sym off ∙ going));
+    }
 
-  comes_end : EmptyIs (laid c ask) (reach_ahead c ask) (places_of c ask) ask d → HasEnded w rs d
-  comes_end g = record {
-    reach = h.reach ∙ ap (after_all rs) g.reach ∙ ap (λ qs. ended qs) (append-nil rs);
-    waiting = g.waiting;
-  }
-    where
-      ended : List Reached → Reach
-      ended qs = record { reached = qs; passed = d.page; beyond = []; fires = false }
+    comes_stop : (line : ℕ) (b : Breakpoint) → IsTheStop (laid c ask) (reach_ahead c ask) (places_of c ask) ask line b d → HasCome s (rs ++ tried line b ∷ []) d ask
+    comes_stop line b g = record {
+      stays = stays_on;
+      goes = λ going. absurd (true≢false (sym g.stopped ∙ going));
+      stops = λ off. record {
+        reach = whole;
+        fired = (λ i. fired_with (stays_on.frozen i) (stays_on.boxes i) (same_places i) (g.passed i) (g.beyond i))
+            ∙ sym (λ i. fired_with (frozen_for ask s.classes s.boxes) s.boxes (breakpoints (whole i).reached) (whole i).passed (whole i).beyond);
+        whole = g.still ∙ sym g.whole;
+      };
+    }
+      where
+        whole : page_reach s ask ≡ record { reached = rs ++ tried line b ∷ []; passed = d.page; beyond = d.waiting; fires = true }
+        whole = (h.goes on).reach ∙ ap (after_all rs) g.reach
 
-  comes_stop : (line : ℕ) (b : Breakpoint) → IsTheStop (laid c ask) (reach_ahead c ask) (places_of c ask) ask line b d → HasStopped w (rs ++ tried line b ∷ []) d ask
-  comes_stop line b g = record {
-    reach = whole;
-    fired = (λ i. fired_with (stays_frozen c d ask s h.frozen i) d.boxes (same_places i) (g.passed i) (g.beyond i))
-        ∙ sym (λ i. fired_with (frozen_for ask d.classes d.boxes) d.boxes (breakpoints (whole i).reached) (whole i).passed (whole i).beyond);
-    stopped = g.stopped;
-  }
-    where
-      whole : w ≡ record { reached = rs ++ tried line b ∷ []; passed = d.page; beyond = d.waiting; fires = true }
-      whole = h.reach ∙ ap (after_all rs) g.reach
+        same_places : breakpoints (reach_whole d ask).reached ≡ breakpoints (rs ++ tried line b ∷ [])
+        same_places = g.reached ∙ ap (λ bs. bs ++ b ∷ []) (h.goes on).places ∙ sym (breakpoints-append rs (tried line b ∷ []))
 
-      same_places : breakpoints (reach_whole d ask).reached ≡ breakpoints (rs ++ tried line b ∷ [])
-      same_places = g.reached ∙ ap (λ bs. bs ++ b ∷ []) h.places ∙ sym (breakpoints-append rs (tried line b ∷ []))
+    tries : (t : Try) (f : TriedIs t (laid c ask) (reach_ahead c ask) (places_of c ask) ask d) (b : Bool) → is_stop f.place ≡ b → ComesToTry t s rs c ask d
+    tries t f true e = let g = f.stops e in record {
+      line = f.line;
+      place = f.place;
+      made = f.made ∙ ap (λ bs. try_of f.line f.place (least_cost bs)) (h.goes on).places;
+      come = comes_stop f.line f.place g;
+      whole = g.still;
+      going = on;
+      stop = g.stopped ∙ sym e;
+    }
+    tries t f false e = let g = f.goes e in record {
+      line = f.line;
+      place = f.place;
+      made = f.made ∙ ap (λ bs. try_of f.line f.place (least_cost bs)) (h.goes on).places;
+      come = comes_on (tried f.line f.place) g.reach (g.places ∙ ap (λ bs. bs ++ f.place ∷ []) (h.goes on).places) g.stopped;
+      whole = g.whole;
+      going = on;
+      stop = g.stopped ∙ sym e;
+    }
 
-  comes_first : (e : Event) → FirstIs e (laid c ask) (reach_ahead c ask) (places_of c ask) ask d → ComesTo e w rs ask d
-  comes_first (events.Try t) f = record {
-    line = f.line;
-    place = f.place;
-    made = f.made ∙ ap (λ bs. try_of f.line f.place (least_cost bs)) h.places;
-    goes = λ go. comes_on f.line f.place (f.goes go);
-    stops = λ stop. comes_stop f.line f.place (f.stops stop);
-  }
-  comes_first (events.Act a) f = comes_act a f
-  comes_first (events.Fired p) f = f
-  comes_first events.Empty f = comes_end f
+    comes_first : (e : Event) (t : Lists Node) → FirstIs e (laid c ask) (reach_ahead c ask) (places_of c ask) ask d → ComesTo e s rs c ask d t
+    comes_first (events.Try x) t f = tries x f (is_stop f.place) refl
+    comes_first (events.Act a) t f = record {
+      come = comes_on (acted a) f.reach (f.places ∙ (h.goes on).places ∙ sym (append-nil (breakpoints rs))) f.stopped;
+      whole = f.whole;
+      going = on;
+      stop = f.stopped;
+    }
+    comes_first (events.Fired p) t f = absurd f
+    comes_first events.Empty t f = record {
+      reach = (h.goes on).reach ∙ ap (after_all rs) f.reach ∙ ap (λ qs. ended qs) (append-nil rs);
+      waiting = f.waiting;
+      stays = stays_on;
+      whole = f.whole;
+      going = on;
+      stop = f.stopped;
+    }
+      where
+        ended : List Reached → Reach
+        ended qs = record { reached = qs; passed = d.page; beyond = []; fires = false }
 
--- what `next` returns is the next of what is reached of the whole page
-pub paging_next : (w : Reach) (rs : List Reached) (e : Event) (c d : Contents) (ask : Ask) (s : Lists Node) → HasCome w rs c ask → NextIs c.stopped e c ask d s → ComesTo e w rs ask d
-paging_next w rs e c d ask s h n = let first = subst (λ b. NextIs b e c ask d s) h.going n in comes_first w rs c d ask h first.1 e first.0
+  -- a stop was tried before
+  comes_page : (e : Event) (t : Lists Node) → c.stopped ≡ true → FiresWith e c ask d t → ComesTo e s rs c ask d t
+  comes_page (events.Try x) t off f = absurd f
+  comes_page (events.Act a) t off f = absurd f
+  comes_page (events.Fired p) t off f =
+      let same = (h.stops off).fired in record { page = subst (λ x. PageIs p x t) same f.page; after = f.after ∙ ap (after_fired c) same; stopped = off }
+  comes_page events.Empty t off f = absurd f
+
+  comes_by : (b : Bool) (e : Event) (t : Lists Node) → c.stopped ≡ b → NextIs b e c ask d t → ComesTo e s rs c ask d t
+  comes_by true e t off n = comes_page e t off n
+  comes_by false e t on n = comes_first on n.1 e t n.0
+
+-- what `next` returns is the next of the whole page
+pub paging_next : (e : Event) (c d : Contents) (ask : Ask) (t : Lists Node) → NextIs c.stopped e c ask d t → IsNextOfPage e c ask d t
+paging_next e c d ask t n s rs h = comes_by s rs c d ask h c.stopped e t refl n
+
+-- ---- how much of the page is left
+
+-- how many calls are left, at most, with so much ahead
+abbrev pub calls_left : Bool → ℕ → ℕ
+calls_left true n = 0
+calls_left false n = n + 1
+
+-- after one more event fewer are left
+pub one_fewer : (s : Contents) (rs : List Reached) (r : Reached) (c d : Contents) (ask : Ask) → HasCome s rs c ask → c.stopped ≡ false → HasCome s (rs ++ r ∷ []) d ask
+    → calls_left d.stopped (length (reach_ahead d ask).reached) < calls_left c.stopped (length (reach_ahead c ask).reached)
+one_fewer s rs r c d ask h on k = subst (λ u. calls_left d.stopped (length (reach_ahead d ask).reached) < calls_left u (length (reach_ahead c ask).reached)) (sym on) (by_stop d.stopped refl)
+  where
+    by_stop : (u : Bool) → d.stopped ≡ u → calls_left u (length (reach_ahead d ask).reached) < length (reach_ahead c ask).reached + 1
+    by_stop true off = omega arith
+    by_stop false going =
+        let a = ap (λ (w : Reach). length w.reached) (h.goes on).reach ∙ length-append rs (reach_ahead c ask).reached in
+        let b = ap (λ (w : Reach). length w.reached) (k.goes going).reach ∙ length-append (rs ++ r ∷ []) (reach_ahead d ask).reached in
+        let e = length-append rs (r ∷ []) in
+        omega (arith, a, b, e)

@@ -1,5 +1,5 @@
 -- Places that are passed over: calls of `next` one after the other.
-use Rattle.std.proofs.Common.{◌≡◌, refl, sym, subst, ◌∙◌, ap, ℕ, ◌+◌, ◌<◌, Bool, true, false, [], ◌∷◌, length, is_some, arith}
+use Rattle.std.proofs.Common.{◌≡◌, refl, subst, ◌∙◌, ap, Bool, true, false, ◌∷◌, is_some}
 use Rattle.tb_pool.specs.Lists.{Lists}
 use Rattle.tb_node.specs.declared.Node.{Node}
 use Rattle.tb_builder.specs.declared.Ask.{Ask}
@@ -12,11 +12,6 @@ use Rattle.tb_builder.specs.Contents.{contents_of}
 use Rattle.tb_builder.specs.Next.{NextFits, NextIs}
 use Rattle.tb_builder.specs.Owned.{Ids, KeepsOthers}
 use Rattle.tb_builder.proofs.Events.FilledLemmas.{fits_next}
-
--- how many calls are left, at most, with this many waiting nodes
-abbrev pub calls_left : Bool → ℕ → ℕ
-calls_left true n = 0
-calls_left false n = n + 1
 
 -- what two calls, one after the other, keep
 pub keeps_then : (b d e : Ids) (s t r : Lists Node) → KeepsOthers b s d t → KeepsOthers d t e r → KeepsOthers b s e r
@@ -42,16 +37,6 @@ module _ (b d : Builder) (s t : Lists Node) (ask : Ask) (x : Try) (n : IsNext b 
 
   pub passed_same : (contents_of d t).held ≡ (contents_of b s).held
   passed_same = event.1.held
-
-  pub passed_held : (contents_of b s).held ≡ [] → (contents_of d t).held ≡ []
-  passed_held none = event.1.held ∙ none
-
-  pub passed_fewer : calls_left d.stopped (length (contents_of d t).waiting) < calls_left b.stopped (length (contents_of b s).waiting)
-  passed_fewer = subst (λ u. calls_left d.stopped (length (contents_of d t).waiting) < calls_left u (length (contents_of b s).waiting)) (sym passed_on) (by_stop d.stopped refl)
-    where
-      by_stop : (u : Bool) → d.stopped ≡ u → calls_left u (length (contents_of d t).waiting) < length (contents_of b s).waiting + 1
-      by_stop true e = omega arith
-      by_stop false e = let k = ((n.past passed_on) e).shorter in omega (arith, k)
 
   pub passed_later : (e : Event) (y : Builder) (r : Lists Node) → ComesAfter d t ask e y r → ComesAfter b s ask e y r
   passed_later e y r h = record { passed = record { place = x; builder = d; store = t } ∷ h.passed; comes = (n, h.comes) }

@@ -1,6 +1,7 @@
 -- What is reached of a page so far and what waits, for a page as the builder keeps it: its places, and then what is reached past it.
 use Rattle.std.proofs.Common.{◌≡◌, refl, sym, subst, ◌∙◌, ap, ℕ, ℤ, Bool, true, false, List, [], ◌∷◌, ◌++◌, Option, None, Some, append_assoc, append-nil}
 use Rattle.std.specs.Prelude.{if◌then◌else◌}
+use Rattle.std.proofs.lemmas.Bool.{true≢false}
 use Rattle.tb_pool.specs.Lists.{Lists}
 use Rattle.tb_node.specs.declared.Node.{Node}
 use Rattle.tb_node.specs.Plain.{PlainNode}
@@ -15,7 +16,7 @@ use Rattle.tb_builder.specs.declared.Builder.{Builder}
 use Rattle.tb_builder.specs.declared.Course.{Course}
 use Rattle.tb_builder.specs.Reached.{Reached, tried, acted, Reach, reach_from, reach_at, breakpoints, page_place, holds_box}
 use Rattle.tb_builder.specs.Places.{page_shapes, glue_first, glue_or, node_penalty, page_places, NoStop, NoActs}
-use Rattle.tb_builder.specs.Fired.{frozen_for, reach_of}
+use Rattle.tb_builder.specs.Fired.{frozen_for}
 use Rattle.tb_builder.specs.Contents.{Contents, contents_of, frozen_or, frozen_of, ahead_of, places_of}
 use Rattle.tb_builder.specs.Running.{AllLasting, IsPageSoFar, IsSound}
 use Rattle.tb_builder.specs.Paging.{after_all, HasCome}
@@ -84,7 +85,7 @@ module _ (limit : ℤ) (terms : List PlainNode → Terms) where
 -- these places were reached, and the rest is ahead
 pub record ComesSoFar (c : Contents) (ask : Ask) : Type 0 where
   pub rs : List Reached
-  pub come : HasCome (reach_of ask c.classes c.boxes c.page c.waiting) rs c ask
+  pub come : HasCome c rs c ask
   pub tried : AllTried rs
 
 module _ (c : Contents) (ask : Ask) (going : c.stopped ≡ false) (frozen : frozen_of c ask ≡ frozen_for ask c.classes c.boxes) (acts : NoActs c.page) (closed : holds_box c.page ≡ false → AllLasting c.page)
@@ -103,10 +104,12 @@ module _ (c : Contents) (ask : Ask) (going : c.stopped ≡ false) (frozen : froz
   comes-quiet = record {
     rs = tries z.limit (terms_after z) [] c.page (glue_first (ahead_of c ask));
     come = record {
-      reach = (λ i. reach_from (sym frozen i).limit (terms_after (sym frozen i)) [] (c.page ++ ahead_of c ask)) ∙ reach-past z.limit (terms_after z) [] c.page (ahead_of c ask) acts (subst NoStop (sym same-places) quiet);
-      places = sym (tries-places z.limit (terms_after z) [] c.page (glue_first (ahead_of c ask)) ∙ same-places);
-      frozen = frozen;
-      going = going;
+      stays = record { classes = refl; boxes = refl; held = refl; frozen = frozen };
+      goes = λ on. record {
+        reach = (λ i. reach_from (sym frozen i).limit (terms_after (sym frozen i)) [] (c.page ++ ahead_of c ask)) ∙ reach-past z.limit (terms_after z) [] c.page (ahead_of c ask) acts (subst NoStop (sym same-places) quiet);
+        places = sym (tries-places z.limit (terms_after z) [] c.page (glue_first (ahead_of c ask)) ∙ same-places);
+      };
+      stops = λ off. absurd (true≢false (sym off ∙ going));
     };
     tried = tries-tried z.limit (terms_after z) [] c.page (glue_first (ahead_of c ask));
   }

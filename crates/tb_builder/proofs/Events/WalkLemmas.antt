@@ -33,20 +33,21 @@ use Rattle.tb_builder.specs.Running.{IsSound, IsCourseOf, Underway, kept_frozen,
 use Rattle.tb_builder.specs.Offer.{OfferIs, TermsFit}
 use Rattle.tb_builder.specs.Next.{NextFits, NextIs, FirstIs, IsGivenOut}
 use Rattle.tb_builder.specs.Turn.{Shifted, StepIs, StepFits, TurnIs, places_on}
-use Rattle.tb_builder.specs.Calls.{IsNext, PassedOver, ComesBy}
+use Rattle.tb_builder.specs.Calls.{IsNext, PassedOver, ComesBy, ComesAfter}
 use Rattle.tb_builder.specs.declared.Seen.TheVariants as seen
 use Rattle.tb_builder.specs.Walked.{moved, LeadsOn, seen_of}
 use Rattle.tb_builder.proofs.Turns.MoveLemmas.{Written, written_shift}
 use Rattle.tb_builder.proofs.Turns.StepLemmas.{step_sums, step_terms, penalty_first, plain_first, passed_step, tried_stops, tried_goes}
 use Rattle.tb_builder.proofs.Turns.FillLemmas.{moves_from, shifted_from, behind_is}
 use Rattle.tb_builder.proofs.Events.FilledLemmas.{stays_after, fits_after, first_before, open_underway, open_fits, open_turn}
+use Rattle.tb_builder.proofs.Events.PagingLemmas.{paging_next}
 use Rattle.tb_builder.proofs.Events.PassedLemmas.{keeps_then, passed_fits, passed_same, passed_later}
 use Rattle.tb_builder.proofs.Turns.PastLemmas.{event-after, holds-both}
 
 -- ---- calls of `next`
 
 turn_keeps : (b d : Builder) (s t : Lists Node) (ask : Ask) (o : Option Event) → TurnIs b s ask o d t → KeepsOthers (ids_of b) s (ids_of d) t
-turn_keeps b d s t ask o turn = record { others = λ q live out. turn.others q out; apart = λ q live out. turn.keeps q out }
+turn_keeps b d s t ask o turn = record { others = λ q live out. turn.frame.others q out; apart = λ q live out. turn.frame.apart q out }
 
 -- an event that is no page that fires gives no list out
 given_here : (e : Event) (c x : Contents) (s t y : Lists Node) (i : Ids) (ask : Ask) → FirstIs e (laid c ask) (reach_ahead c ask) (places_of c ask) ask x → IsGivenOut e s i y
@@ -59,11 +60,15 @@ given_here events.Empty c x s t y i ask f = tt
 next_later : (b d x : Builder) (s t y : Lists Node) (ask : Ask) (e : Event) → b.stopped ≡ false → TurnIs b s ask None d t → IsNext d t ask e x y → IsNext b s ask e x y
 next_later b d x s t y ask e on turn call =
     let at : NextIs false e (contents_of d t) ask (contents_of x y) y = subst (λ st. NextIs st e (contents_of d t) ask (contents_of x y) y) turn.turned.stopped call.event in
+    let event : NextIs b.stopped e (contents_of b s) ask (contents_of x y) y =
+    subst (λ st. NextIs st e (contents_of b s) ask (contents_of x y) y) (sym on) (
+      first_before e (contents_of b s) (contents_of d t) (contents_of x y) ask turn.turned at.0,
+      stays_after (contents_of b s) (contents_of d t) (contents_of x y) ask turn.stays at.1,
+    )
+    in
     record {
-      event = subst (λ st. NextIs st e (contents_of b s) ask (contents_of x y) y) (sym on) (
-        first_before e (contents_of b s) (contents_of d t) (contents_of x y) ask turn.turned at.0,
-        stays_after (contents_of b s) (contents_of d t) (contents_of x y) ask turn.stays at.1,
-      );
+      page = paging_next e (contents_of b s) (contents_of x y) ask y event;
+      event = event;
       past = λ go. event-after e (contents_of b s) (contents_of d t) (contents_of x y) ask turn.past (call.past turn.turned.stopped);
       sound = call.sound;
       keeps = keeps_then (ids_of b) (ids_of d) (ids_of x) s t y (turn_keeps b d s t ask None turn) call.keeps;
@@ -115,15 +120,22 @@ module _ (ask : Ask) where
     later = λ e x y h. passed_later b d s t ask p call e x y h;
   }
 
+  -- the last call, after a walk
+  pub leads_to : (b l w d : Builder) (s m v t : Lists Node) (e : Event) → LeadsOn b s ask l m → LeadsOn l m ask w v → IsNext w v ask e d t → ComesAfter b s ask e d t
+  leads_to b l w d s m v t e h k n = h.later e d t (k.later e d t (record { passed = []; comes = n }))
+
   -- a turn that tried a place
   pub leads_try : (b d : Builder) (s t : Lists Node) (p : Try) → b.stopped ≡ false → NextFits (contents_of b s) ask → TurnIs b s ask (Some (events.Try p)) d t → LeadsOn b s ask d t
-  leads_try b d s t p on fits turn = leads_next b d s t p fits (record {
-    event = subst (λ st. NextIs st (events.Try p) (contents_of b s) ask (contents_of d t) t) (sym on) (turn.turned, turn.stays);
-    past = λ go. turn.past;
-    sound = turn.sound;
-    keeps = turn_keeps b d s t ask (Some (events.Try p)) turn;
-    body = tt;
-  })
+  leads_try b d s t p on fits turn =
+      let event : NextIs b.stopped (events.Try p) (contents_of b s) ask (contents_of d t) t = subst (λ st. NextIs st (events.Try p) (contents_of b s) ask (contents_of d t) t) (sym on) (turn.turned, turn.stays) in
+      leads_next b d s t p fits (record {
+        page = paging_next (events.Try p) (contents_of b s) (contents_of d t) ask t event;
+        event = event;
+        past = λ go. turn.past;
+        sound = turn.sound;
+        keeps = turn_keeps b d s t ask (Some (events.Try p)) turn;
+        body = tt;
+      })
 
 -- ---- the lists of a walk
 
@@ -376,8 +388,7 @@ module _ (b : Builder) (s : Lists Node) (ask : Ask) (n : Node) (k : ℕ) (w : Wa
       let d : Builder = record b { stopped = true; course = l } in
       leads_try ask b d here here t w.on w.fits (open_turn b here ask n behind w.sound w.on w.opened w.fits first d here (Some (events.Try t)) (record {
         own = w.sound.own;
-        others = λ q h. refl;
-        keeps = λ q h. h;
+        frame = record { others = λ q h. refl; apart = λ q h. h };
         classes = refl;
         boxes = refl;
         held = refl;

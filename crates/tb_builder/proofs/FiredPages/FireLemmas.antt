@@ -143,13 +143,13 @@ module _ (b : Builder) (s e t : Lists Node) (body : ℕ) (x : Best) (sound : IsS
     lacks_then = subst (Lacks body) (sym (opened_owned b s e body sound.own fresh opened)) (body_lacks b s e body sound.own fresh opened)
 
     body_then : get t.lists body ≡ Some []
-    body_then = cuts.others body lacks_then ∙ body_there b s e body sound.own fresh opened
+    body_then = cuts.frame.others body lacks_then ∙ body_there b s e body sound.own fresh opened
 
     pub cut_live : IsLive t body
     cut_live = live_got t body [] body_then
 
     pub cut_apart : Lacks body (owned (ids_of b) t)
-    cut_apart = cuts.keeps body lacks_then
+    cut_apart = cuts.frame.apart body lacks_then
 
     pub cut_empty : list_at t body ≡ []
     cut_empty = list_got t body [] body_then
@@ -289,7 +289,7 @@ module _ (b : Builder) (s e t : Lists Node) (body : ℕ) (x : Best) (sound : IsS
       }
 
       keeps_then : (q : ℕ) → Lacks q (owned (ids_of b) s) → Lacks q (owned (ids_of d) u)
-      keeps_then q h = subst (λ j. Lacks q (owned j u)) (sym ids) (sorts.keeps q (cuts.keeps q (subst (Lacks q) (sym (opened_owned b s e body sound.own fresh opened)) h)))
+      keeps_then q h = subst (λ j. Lacks q (owned j u)) (sym ids) (sorts.keeps q (cuts.frame.apart q (subst (Lacks q) (sym (opened_owned b s e body sound.own fresh opened)) h)))
 
       pub fires_of : Fires b s d u p
       fires_of = record {
@@ -298,7 +298,7 @@ module _ (b : Builder) (s e t : Lists Node) (body : ℕ) (x : Best) (sound : IsS
         others = λ q ne h.
             let l = subst (Lacks q) (sym (opened_owned b s e body sound.own fresh opened)) h in
             let nb : q ≢ body = λ y. ne (y ∙ sym body_is) in
-            sorts.others q nb (cuts.keeps q l) ∙ cuts.others q l ∙ one_other s e body q [] nb opened;
+            sorts.others q nb (cuts.frame.apart q l) ∙ cuts.frame.others q l ∙ one_other s e body q [] nb opened;
         keeps = keeps_then;
         fresh = ap (get s.lists) body_is ∙ fresh;
         apart = subst (λ y. Lacks y (owned (ids_of d) u)) (sym body_is) (keeps_then body (body_lacks b s e body sound.own fresh opened));

@@ -8,6 +8,7 @@ use Rattle.tb_node.specs.declared.Node.{Node}
 use Rattle.tb_node.specs.Plain.{PlainNode, plain_of, plain_list}
 use Rattle.tb_builder.specs.declared.Builder.{Builder}
 use Rattle.tb_builder.specs.Contents.{Contents, contents_of}
+use Rattle.tb_builder.specs.Leaving.{LeavesOthers}
 use Rattle.tb_builder.specs.Owned.{Lacks, AllDiffer, AllLive, inner_of, inner_ids, Ids, ids_of, nodes_of, box_ids, own_ids, owned, AllPlain, HoldPlain, is_known, classes_of, IsOwned}
 use Rattle.tb_builder.specs.Running.{IsPageSoFar, IsSound}
 use Rattle.tb_builder.specs.Opened.{Opened}
@@ -137,3 +138,7 @@ fresh_apart b s l own none = fresh_lacks s l (owned b s) none own.live
 -- on an empty page any node may wait
 pub empty_may_wait : (c : Contents) (n : PlainNode) → NoPage c → MayWait c n
 empty_may_wait c n none kern acts = absurd (true≢false (sym kern ∙ ap ends_in_kern none.page))
+
+-- what one step after the other leaves
+pub leaves_then : (b d e : Ids) (s t r : Lists Node) → LeavesOthers b s d t → LeavesOthers d t e r → LeavesOthers b s e r
+leaves_then b d e s t r m n = record { others = λ q h. n.others q (m.apart q h) ∙ m.others q h; apart = λ q h. n.apart q (m.apart q h) }

@@ -19,6 +19,7 @@ use Rattle.tb_builder.specs.declared.Builder.{Builder}
 use Rattle.tb_builder.specs.Owned.{Lacks, inner_of, Ids, ids_of, owned, AllPlain, is_known, classes_of, IsOwned}
 use Rattle.tb_builder.specs.Contents.{boxed_of, leaf_list, contents_of}
 use Rattle.tb_builder.specs.Firing.{share_held, opened, box_list, box_with, GivesToBox, Takes, LeavesPage, SharesOut}
+use Rattle.tb_builder.proofs.Ownership.FrameLemmas.{leaves_then}
 use Rattle.tb_builder.proofs.Ownership.RelistLemmas.{relisted_own, relisted_others, relisted_keeps, relisted_held, relisted_page, relisted_waiting, relisted_boxes}
 use Rattle.tb_builder.proofs.Turns.FreezeLemmas.{plain_insertion}
 use Rattle.tb_builder.proofs.Sorting.OpenLemmas.{opened-classes}
@@ -35,8 +36,7 @@ module _ (b d : Builder) (s t : Lists Node) (n : Node) (ns : List Node) (i : Ins
   gives_of gave kept same items e p q = record {
     sorts = record {
       own = subst (λ j. IsOwned j t) (sym ids) (given_own (ids_of b) s n ns i own first is t gave kept e p q);
-      others = λ x h. given_others (ids_of b) s n ns i own first is t gave kept e p q x h;
-      keeps = λ x h. subst (λ j. Lacks x (owned j t)) (sym ids) (given_keeps (ids_of b) s n ns i own first is t gave kept e p q x h);
+      frame = record { others = λ x h. given_others (ids_of b) s n ns i own first is t gave kept e p q x h; apart = λ x h. subst (λ j. Lacks x (owned j t)) (sym ids) (given_keeps (ids_of b) s n ns i own first is t gave kept e p q x h) };
       builder = same;
       classes = ap (λ (j : Ids). classes_of j) ids ∙ opened-classes i.class b.boxes.items;
       waiting = ap (λ (j : Ids). plain_list t j.waiting) ids ∙ given_waiting (ids_of b) s n ns i own first is t gave kept e p q;
@@ -58,8 +58,7 @@ module _ (b : Builder) (s t : Lists Node) (n : Node) (ns : List Node) (i : Inser
     takes = record {
       sorts = record {
         own = gone_own (ids_of b) s n ns i own first is t e;
-        others = λ x h. gone_others (ids_of b) s n ns i own first is t e x h;
-        keeps = λ x h. gone_keeps (ids_of b) s n ns i own first is t e x h;
+        frame = record { others = λ x h. gone_others (ids_of b) s n ns i own first is t e x h; apart = λ x h. gone_keeps (ids_of b) s n ns i own first is t e x h };
         builder = refl;
         classes = refl;
         waiting = gone_waiting (ids_of b) s n ns i own first is t e;
@@ -78,8 +77,7 @@ module _ (b : Builder) (s t : Lists Node) (n : Node) (ns : List Node) (i : Inser
         takes = record {
           sorts = record {
             own = relisted_own (ids_of b) s t (list_at s b.held ++ m ∷ []) ns (list_at s b.waiting) own w;
-            others = λ x h. relisted_others (ids_of b) s t (list_at s b.held ++ m ∷ []) ns (list_at s b.waiting) own w x h;
-            keeps = λ x h. relisted_keeps (ids_of b) s t (list_at s b.held ++ m ∷ []) ns (list_at s b.waiting) own w x h;
+            frame = record { others = λ x h. relisted_others (ids_of b) s t (list_at s b.held ++ m ∷ []) ns (list_at s b.waiting) own w x h; apart = λ x h. relisted_keeps (ids_of b) s t (list_at s b.held ++ m ∷ []) ns (list_at s b.waiting) own w x h };
             builder = refl;
             classes = refl;
             waiting = relisted_waiting (ids_of b) s t (list_at s b.held ++ m ∷ []) ns (list_at s b.waiting) own w;
@@ -100,8 +98,7 @@ module _ (b d : Builder) (s t u : Lists Node) (n : Node) (i : Insertion) (gave k
   gives_takes = record {
     sorts = record {
       own = drops.takes.sorts.own;
-      others = λ q h. drops.takes.sorts.others q (gives.sorts.keeps q h) ∙ gives.sorts.others q h;
-      keeps = λ q h. drops.takes.sorts.keeps q (gives.sorts.keeps q h);
+      frame = leaves_then (ids_of b) (ids_of d) (ids_of d) s t u gives.sorts.frame drops.takes.sorts.frame;
       builder = gives.sorts.builder;
       classes = drops.takes.sorts.classes ∙ gives.sorts.classes;
       waiting = drops.takes.sorts.waiting ∙ gives.sorts.waiting;

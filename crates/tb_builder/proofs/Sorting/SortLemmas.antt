@@ -156,13 +156,13 @@ marked_within b s n ns i index share own first is m told = share_within b s n ns
 
 module _ (b d : Builder) (s t : Lists Node) (n : Node) (i : Insertion) (share : Share) (body : ℕ) (settled : SharesOut b s d t n i share) (free : IsBody b s body) where
   body_same : get t.lists body ≡ get s.lists body
-  body_same = settled.takes.sorts.others body free.apart
+  body_same = settled.takes.sorts.frame.others body free.apart
 
   pub settled_sorts : SortsTo b s d t body
   settled_sorts = record {
     own = settled.takes.sorts.own;
-    others = λ q ne h. settled.takes.sorts.others q h;
-    keeps = settled.takes.sorts.keeps;
+    others = λ q ne h. settled.takes.sorts.frame.others q h;
+    keeps = settled.takes.sorts.frame.apart;
     builder = settled.takes.sorts.builder;
     classes = settled.takes.sorts.classes;
     waiting = settled.takes.sorts.waiting;

@@ -20,6 +20,7 @@ use Rattle.tb_builder.specs.declared.Course.{Course}
 use Rattle.tb_builder.specs.declared.Event.{Event}
 use Rattle.tb_builder.specs.declared.Event.TheVariants as events
 use Rattle.tb_builder.specs.Reached.{also_reached, tried, holds_box}
+use Rattle.tb_builder.specs.Owned.{ids_of}
 use Rattle.tb_builder.specs.Contents.{Contents, contents_of, frozen_of, laid}
 use Rattle.tb_builder.specs.Running.{IsCourseOf, Underway, kept_frozen, AllLasting}
 use Rattle.tb_builder.specs.Next.{LaidFits, NextFits}
@@ -30,14 +31,14 @@ use Rattle.tb_builder.proofs.Turns.TurnLemmas.{holds_now, lasting_penalty, ahead
 use Rattle.tb_builder.proofs.Turns.StepLemmas.{passed_step, step_sums}
 use Rattle.tb_builder.proofs.Turns.SteppedLemmas.{turn_of_step}
 use Rattle.tb_builder.proofs.Turns.PastLemmas.{past-first, past-stepped}
+use Rattle.tb_builder.proofs.Ownership.FrameLemmas.{leaves_then}
 use Rattle.tb_builder.proofs.Turns.FirstBoxLemmas.{step_fits, top_at, Topped}
 
 -- one move after another
 pub moves_after : (b d e : Builder) (s t r : Lists Node) → ChangesPage b s d t → ChangesPage d t e r → ChangesPage b s e r
 moves_after b d e s t r m n = record {
   own = n.own;
-  others = λ q h. n.others q (m.keeps q h) ∙ m.others q h;
-  keeps = λ q h. n.keeps q (m.keeps q h);
+  frame = leaves_then (ids_of b) (ids_of d) (ids_of e) s t r m.frame n.frame;
   classes = n.classes ∙ m.classes;
   boxes = n.boxes ∙ m.boxes;
   held = n.held ∙ m.held;

@@ -20,8 +20,10 @@ module _ (b d : Builder) (s t : Lists Node) (xs ys : List Node) (same : ids_of d
   pub moves_from : ChangesPage b s d t
   moves_from = record {
     own = subst (λ i. IsOwned i t) (sym same) (written_own (ids_of b) s t xs ys own w);
-    others = λ q h. written_others (ids_of b) s t xs ys own w q h;
-    keeps = λ q h. subst (λ i. Lacks q (owned i t)) (sym same) (written_keeps (ids_of b) s t xs ys own w q h);
+    frame = record {
+      others = λ q h. written_others (ids_of b) s t xs ys own w q h;
+      apart = λ q h. subst (λ i. Lacks q (owned i t)) (sym same) (written_keeps (ids_of b) s t xs ys own w q h);
+    };
     classes = ap (λ (i : Ids). map (λ e. e.class) i.boxes) same;
     boxes = ap (λ (i : Ids). map (boxed_of t) i.boxes) same ∙ written_boxes (ids_of b) s t xs ys own w;
     held = ap (λ (i : Ids). plain_list t i.held) same ∙ written_held (ids_of b) s t xs ys own w;

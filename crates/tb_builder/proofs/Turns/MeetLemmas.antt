@@ -72,8 +72,7 @@ module _ (b d : Builder) (s t : Lists Node) (ask : Ask) (n : Node) (ns : List No
       page = page;
       met = λ some go. ap freezes paged ∙ meets some;
     };
-    others = moves.others;
-    keeps = moves.keeps;
+    frame = moves.frame;
     room = λ e o. (sym opened ∙ o, room);
     shorter = λ e. shorter_by waits;
     stays = stays_from b d s t ask moves f;
@@ -148,8 +147,7 @@ module _ (b d : Builder) (s t : Lists Node) (ask : Ask) (n : Node) (ns : List No
           (stands_by b.frozen refl (subst (λ x. IsPageSoFar b.frozen x b.course (contents_of b s)) on sound.page))));
       met = λ some go. ap freezes dropped_page ∙ sound.met (subst IsSome frozen some) on;
     };
-    others = dropped_moves.others;
-    keeps = dropped_moves.keeps;
+    frame = dropped_moves.frame;
     room = λ e o. (sym opened ∙ o, room);
     shorter = λ e. shorter_by dropped_waits;
     stays = stays_from b d s t ask dropped_moves (inl frozen);

@@ -82,8 +82,7 @@ module _ (b d : Builder) (s t : Lists Node) (ask : Ask) (o : Option Event) (m : 
       page = subst (λ x. IsPageSoFar x d.stopped d.course (contents_of d t)) (sym frozen) (stepped_page (frozen_of (contents_of b s) ask) d.course m (contents_of d t) (frozen_with b.frozen ask) page_same o d.stopped refl on st);
       met = λ some go. box-freezes (contents_of d t).page (sym opened ∙ later go);
     };
-    others = moves.others;
-    keeps = moves.keeps;
+    frame = moves.frame;
     room = room;
     shorter = shorter;
     stays = stays_from b d s t ask moves (inr frozen);

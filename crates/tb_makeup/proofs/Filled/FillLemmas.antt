@@ -24,12 +24,12 @@ use Rattle.tb_builder.proofs.Handover.CallLemmas.{class-fits}
 use Rattle.tb_builder.proofs.Ranges.PrunedLemmas.{pruned_nodes_longer, front-sized, back-sized}
 use Rattle.tb_builder.specs.declared.PageSums.{PageSums}
 use Rattle.tb_plain.specs.Take.{top_class, with_float, taken_nodes, act_nodes, here_nodes, top_leaves, page_leaves, top_insertion}
-use Rattle.tb_plain.specs.Run.{MakeupState, makeup_ask, makeup_classes, void_boxes, act_count}
+use Rattle.tb_plain.specs.Run.{MakeupState, builder_holds, makeup_ask, makeup_classes, void_boxes, act_count}
 use Rattle.tb_plain.specs.Calls.{AreMakeupParams, IsTake}
 use Rattle.tb_plain.proofs.StepLemmas.{acts-append, put-acts}
 use Rattle.tb_makeup.specs.Led.{ActsAreLed}
 use Rattle.tb_makeup.specs.Turning.{AreRunNodes, node_total}
-use Rattle.tb_makeup.proofs.Filled.HoldLemmas.{Holds}
+use Rattle.tb_builder.specs.Paging.{KeepsStart}
 use Rattle.tb_makeup.proofs.Filled.LedLemmas.{led-both, led-none, led-takes}
 
 -- ---- what is laid out
@@ -114,7 +114,7 @@ module _ (p : Params) (h : AreMakeupParams p) where
     total = class_boxes_total (makeup_classes p) void_boxes classes-fit boxes-sized (omega arith);
   }
 
-  pub run-fits : (s : MakeupState) (c : Contents) → AreRunNodes s → Holds p c → laid c (makeup_ask p) ≡ laid_out p.topskip s.page s.waiting → NextFits c (makeup_ask p)
+  pub run-fits : (s : MakeupState) (c : Contents) → AreRunNodes s → KeepsStart (builder_holds p s) c (makeup_ask p) → laid c (makeup_ask p) ≡ laid_out p.topskip s.page s.waiting → NextFits c (makeup_ask p)
   run-fits s c nodes holds all = record {
     asked = record { goal = extent-amount p.textheight h.textheight; depth = extent-amount p.maxdepth h.maxdepth; depth_low = h.maxdepth.low; top_skip = extent-amount p.topskip h.topskip };
     boxes = boxes_fit c.boxes (subst (All IsSizedBox) (sym holds.boxes) boxes-sized) (let e = ap box_count holds.boxes in omega (arith, e));

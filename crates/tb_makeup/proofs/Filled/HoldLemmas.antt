@@ -13,6 +13,7 @@ use Rattle.tb_builder.specs.declared.Builder.{Builder}
 use Rattle.tb_builder.specs.declared.Course.{Course}
 use Rattle.tb_builder.specs.Fired.{Boxed, frozen_for}
 use Rattle.tb_builder.specs.Contents.{Contents, contents_of, frozen_or, frozen_of}
+use Rattle.tb_builder.specs.Paging.{KeepsStart}
 use Rattle.tb_builder.specs.Running.{IsSound, IsPageSoFar, AllLoose, is_loose, freezes}
 use Rattle.tb_plain.specs.Run.{MakeupState, makeup_ask, makeup_classes, void_boxes, builder_holds}
 
@@ -40,16 +41,10 @@ frozen-by p (Some f) k c st met e =
     (λ i. Some ((ap (λ (z : Frozen). z.goal) e i), (ap (λ (z : Frozen). z.limit) e i)))
     ∙ sym (ap (λ b. if b then Some (p.textheight, p.maxdepth) else None) (met refl))
 
-pub record Holds (p : Params) (c : Contents) : Type 0 where
-  pub classes : c.classes ≡ makeup_classes p
-  pub boxes : c.boxes ≡ void_boxes
-  pub held : c.held ≡ []
-  pub frozen : frozen_of c (makeup_ask p) ≡ frozen_for (makeup_ask p) (makeup_classes p) void_boxes
-
--- a sound builder holds what the state says
-pub holds-state : (p : Params) (b : Builder) (s : Lists Node) (number : ℕ) → IsSound b s → b.stopped ≡ false → Holds p (contents_of b s)
+-- a sound builder on the page of a state holds what a state says
+pub holds-state : (p : Params) (of : MakeupState) (b : Builder) (s : Lists Node) (number : ℕ) → IsSound b s → b.stopped ≡ false → KeepsStart (builder_holds p of) (contents_of b s) (makeup_ask p)
     → contents_of b s ≡ builder_holds p (record { page = (contents_of b s).page; waiting = (contents_of b s).waiting; number = number })
-holds-state p b s number sound going h =
+holds-state p of b s number sound going h =
     let c : Contents = contents_of b s in
     let frozen : frozen_or b.frozen (makeup_ask p) (makeup_classes p) void_boxes ≡ frozen_for (makeup_ask p) (makeup_classes p) void_boxes = ((λ i. frozen_or b.frozen (makeup_ask p) (sym h.classes i) (sym h.boxes i)) ∙ h.frozen) in
     let o = frozen-by p b.frozen b.course c (subst (λ x. IsPageSoFar b.frozen x b.course c) going sound.page) (λ some. sound.met some going) frozen in
@@ -58,9 +53,9 @@ holds-state p b s number sound going h =
     holding : List Class → List Boxed → List PlainNode → List PlainNode → List PlainNode → Option (ℤ × ℤ) → Bool → Contents
     holding classes boxes page waiting held frozen stopped = record { classes = classes; boxes = boxes; page = page; waiting = waiting; held = held; frozen = frozen; stopped = stopped }
 
--- and what the state says is held so
-pub state-holds : (p : Params) (s : MakeupState) → Holds p (builder_holds p s)
-state-holds p s = record { classes = refl; boxes = refl; held = refl; frozen = by_test (freezes s.page) }
+-- the goal and the depth limit that the state says
+pub state-frozen : (p : Params) (s : MakeupState) → frozen_of (builder_holds p s) (makeup_ask p) ≡ frozen_for (makeup_ask p) (makeup_classes p) void_boxes
+state-frozen p s = by_test (freezes s.page)
   where
     by_test : (b : Bool) → frozen_or (if b then Some (p.textheight, p.maxdepth) else None) (makeup_ask p) (makeup_classes p) void_boxes ≡ frozen_for (makeup_ask p) (makeup_classes p) void_boxes
     by_test true = refl

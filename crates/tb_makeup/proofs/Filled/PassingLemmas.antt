@@ -26,8 +26,8 @@ module _ (r d : Makeup) (ready : IsReady r) (e : Event) where
   walk (p ∷ ps) q h n same =
       let x : Makeup = record q { builder = p.builder; store = p.store } in
       let kept : Continues q x = record { plain = refl; ask = refl; limit = refl; bound = refl } in
-      let u : IsUnderway r x = underway-tried r q x ready h (events.Try p.place) n.0.event n.0.past n.0.sound kept p.place refl in
-      let f : left_of_page x < left_of_page q = fewer-tried r q x ready h (events.Try p.place) n.0.event n.0.past n.0.sound kept p.place refl in
+      let u : IsUnderway r x = underway-tried r q x ready h (events.Try p.place) n.0.page n.0.past n.0.sound kept p.place refl in
+      let f : left_of_page x < left_of_page q = fewer-tried r q x ready h (events.Try p.place) n.0.page n.0.past n.0.sound kept p.place refl in
       let l : IsLastCall r x d e = walk ps x u n.1 (record { plain = same.plain; ask = same.ask; limit = same.limit; bound = same.bound }) in
       let k = l.left in
       record { before = l.before; underway = l.underway; next = l.next; same = l.same; left = (omega (arith, f, k)) }
@@ -39,23 +39,23 @@ module _ (r d : Makeup) (ready : IsReady r) (e : Event) where
     -- an act was reached
     module _ (a : Act) (is : e ≡ events.Act a) where
       pub come-takes : IsTake a
-      come-takes = act-takes r l.before d ready l.underway e l.next.event l.next.past l.next.sound l.same a is
+      come-takes = act-takes r l.before d ready l.underway e l.next.page l.next.past l.next.sound l.same a is
 
       pub come-can : CanAct d.builder d.store
-      come-can = act-can r l.before d ready l.underway e l.next.event l.next.past l.next.sound l.same a is
+      come-can = act-can r l.before d ready l.underway e l.next.page l.next.past l.next.sound l.same a is
 
       module _ (f : Makeup) (acted : HasActed d.plain.params a d.builder d.store f.builder f.store) (kept : Continues d f) where
         pub come-acted : IsUnderway r f
-        come-acted = underway-acted r l.before d ready l.underway e l.next.event l.next.past l.next.sound l.same a is f acted kept
+        come-acted = underway-acted r l.before d ready l.underway e l.next.page l.next.past l.next.sound l.same a is f acted kept
 
         pub come-fewer : left_of_page f < left_of_page q
         come-fewer =
-            let g = fewer-acted r l.before d ready l.underway e l.next.event l.next.past l.next.sound l.same a is f acted kept in
+            let g = fewer-acted r l.before d ready l.underway e l.next.page l.next.past l.next.sound l.same a is f acted kept in
             let k = l.left in
             omega (arith, g, k)
 
     pub come-over : e ≡ events.Empty → IsOver r d
-    come-over is = filled-over r l.before d ready l.underway e l.next.event l.next.past l.next.sound l.same is
+    come-over is = filled-over r l.before d ready l.underway e l.next.page l.next.past l.next.sound l.same is
 
     pub come-fires : (page : Page) → e ≡ events.Fired page → IsFiring r page d
-    come-fires page is = filled-fires r l.before d ready l.underway e l.next.event l.next.past l.next.sound l.same page is l.next.body
+    come-fires page is = filled-fires r l.before d ready l.underway e l.next.page l.next.past l.next.sound l.same page is l.next.body

@@ -22,7 +22,8 @@ use Rattle.tb_builder.specs.Fired.{Fired}
 use Rattle.tb_builder.specs.Contents.{Contents, node_count, box_count}
 use Rattle.tb_builder.specs.Kept.{fired_count}
 use Rattle.tb_builder.specs.Handed.{ends_in_kern, with_void}
-use Rattle.tb_builder.specs.Next.{NextIs, NextFits, IsGivenOut, FiredIs, fired_page, after_fired}
+use Rattle.tb_builder.specs.Next.{NextFits, IsGivenOut, after_fired}
+use Rattle.tb_builder.specs.Paging.{ComesToTry, ComesToAct, ComesToEnd, ComesToPage, ComesTo, IsNextOfPage}
 use Rattle.tb_builder.specs.Owned.{ids_of, has_class}
 use Rattle.tb_builder.specs.Pageable.{IsSizedOnPage, IsSizedBox}
 use Rattle.tb_builder.specs.Places.{NoActs}
@@ -31,6 +32,7 @@ use Rattle.tb_builder.specs.Running.{IsSound}
 use Rattle.tb_builder.specs.Summed.{page_sums_of}
 use Rattle.tb_builder.proofs.Ranges.SizedLemmas.{FiredSized}
 use Rattle.tb_builder.proofs.Ownership.StoreSized.{list-back, list-length}
+use Rattle.tb_builder.proofs.Events.PagingLemmas.{calls_left}
 use Rattle.tb_builder.proofs.Events.WholeLemmas.{IsMatterKind, AreMatter}
 use Rattle.tb_column.specs.Page.{is_leaf_kind, AreLeaves}
 use Rattle.tb_plain.specs.declared.Plain.{Plain}
@@ -45,7 +47,7 @@ use Rattle.tb_makeup.specs.Filling.{Continues, Takes, HasGrown, IsFiring, IsOver
 use Rattle.tb_makeup.proofs.Filled.RunLemmas.{run-goes}
 use Rattle.tb_makeup.proofs.Filled.LedLemmas.{led-ends, led-no-kern}
 use Rattle.tb_makeup.proofs.Filled.HoldLemmas.{holds-state}
-use Rattle.tb_makeup.proofs.Filled.ComingLemmas.{IsComing, coming-start, coming-tried, acted-past, acted-holds, acted-going, acted-step, acted-state, over-step, over-fires, over-waits, over-holds, over-going, over-past, fires-step, fired-same}
+use Rattle.tb_makeup.proofs.Filled.ComingLemmas.{IsComing, coming-start, coming-tried, acted-past, acted-step, acted-state, over-step, over-fires, over-past, fires-step}
 use Rattle.tb_makeup.proofs.Filled.FillLemmas.{zero-extent, zero-dimension, run-fits, laid-sized, laid-count, none-laid, acted-nodes, acted-total, acted-acts, acted-takes, put-few}
 use Rattle.tb_makeup.proofs.Shipping.FiredLemmas.{labels, void-after, fired, fired-sized, fired-few, fired-text, fired-after, Grows, fired-grows}
 
@@ -60,10 +62,6 @@ pub record IsUnderway (r q : Makeup) : Type 0 where
   pub same : Continues r q
 
 -- calls of the builder that are left, at most
-abbrev pub calls_left : Bool → ℕ → ℕ
-calls_left true n = 0
-calls_left false n = n + 1
-
 abbrev pub left_of_page : Makeup → ℕ
 left_of_page q = calls_left (held_in q).stopped (length (held_in q).waiting + 5 * act_count (held_in q).waiting)
 
@@ -75,7 +73,7 @@ pub underway-start : (r : Makeup) → IsReady r → IsUnderway r r
 underway-start r h = record {
   s = state_of r;
   takes = record { run = refl; nodes = h.nodes; total = omega arith; acts = omega arith; number = refl; phase = start-phase (state_of r) h.phase };
-  coming = coming-start r.plain.params (state_of r) (held_in r) h.holds;
+  coming = coming-start r.plain.params (state_of r) r.builder r.store h.sound h.holds;
   sound = h.sound;
   same = record { plain = refl; ask = refl; limit = refl; bound = refl };
 }
@@ -118,14 +116,14 @@ module _ (r q d : Makeup) (ready : IsReady r) (h : IsUnderway r q) where
 
   -- all that is added up fits
   pub underway-fits : NextFits (held_in q) q.ask
-  underway-fits = subst (NextFits (held_in q)) (sym asked) (run-fits p ready.params.makeup h.s (held_in q) h.takes.nodes h.coming.holds h.coming.all)
+  underway-fits = subst (NextFits (held_in q)) (sym asked) (run-fits p ready.params.makeup h.s (held_in q) h.takes.nodes h.coming.come.stays h.coming.all)
 
   pub underway-none : (held_in q).held ≡ []
-  underway-none = h.coming.holds.held
+  underway-none = h.coming.come.stays.held
 
-  module _ (e : Event) (event : NextIs q.builder.stopped e (held_in q) q.ask (held_in d) d.store) (past : q.builder.stopped ≡ false → EventPast e (held_in q) (held_in d) q.ask) (sound : IsSound d.builder d.store) (same : Continues q d) where
-    next-is : (f : Event) → e ≡ f → NextIs (held_in q).stopped f (held_in q) (makeup_ask p) (held_in d) d.store
-    next-is f is = subst (λ x. NextIs (held_in q).stopped f (held_in q) x (held_in d) d.store) asked (subst (λ x. NextIs (held_in q).stopped x (held_in q) q.ask (held_in d) d.store) is event)
+  module _ (e : Event) (of_page : IsNextOfPage e (held_in q) q.ask (held_in d) d.store) (past : q.builder.stopped ≡ false → EventPast e (held_in q) (held_in d) q.ask) (sound : IsSound d.builder d.store) (same : Continues q d) where
+    next-is : (f : Event) → e ≡ f → ComesTo f (builder_holds p h.s) h.coming.rs (held_in q) (makeup_ask p) (held_in d) d.store
+    next-is f is = subst (λ x. IsNextOfPage f (held_in q) x (held_in d) d.store) asked (subst (λ x. IsNextOfPage x (held_in q) q.ask (held_in d) d.store) is of_page) (builder_holds p h.s) h.coming.rs h.coming.come
 
     past-is : (f : Event) → e ≡ f → q.builder.stopped ≡ false → EventPast f (held_in q) (held_in d) (makeup_ask p)
     past-is f is on = subst (λ x. EventPast f (held_in q) (held_in d) x) asked (subst (λ x. EventPast x (held_in q) (held_in d) q.ask) is (past on))
@@ -136,18 +134,17 @@ module _ (r q d : Makeup) (ready : IsReady r) (h : IsUnderway r q) where
     -- ---- a place was tried
 
     module _ (x : Try) (is : e ≡ events.Try x) where
-      going : (b : Bool) → q.builder.stopped ≡ b → NextIs b (events.Try x) (held_in q) (makeup_ask p) (held_in d) d.store → q.builder.stopped ≡ false
-      going true off n = absurd n
-      going false off n = off
+      tries : ComesToTry x (builder_holds p h.s) h.coming.rs (held_in q) (makeup_ask p) (held_in d)
+      tries = next-is (events.Try x) is
 
       on : q.builder.stopped ≡ false
-      on = going q.builder.stopped refl (next-is (events.Try x) is)
+      on = tries.going
 
       pub underway-tried : IsUnderway r d
       underway-tried = record {
         s = h.s;
         takes = h.takes;
-        coming = coming-tried p h.s q.builder q.store h.coming h.sound on (held_in d) d.store x (next-is (events.Try x) is) (past-is (events.Try x) is on);
+        coming = coming-tried p h.s (held_in q) h.coming (held_in d) x tries (past-is (events.Try x) is on);
         sound = sound;
         same = continues;
       }
@@ -166,24 +163,20 @@ module _ (r q d : Makeup) (ready : IsReady r) (h : IsUnderway r q) where
     -- ---- an act was reached
 
     module _ (a : Act) (is : e ≡ events.Act a) where
-      going-act : (b : Bool) → q.builder.stopped ≡ b → NextIs b (events.Act a) (held_in q) (makeup_ask p) (held_in d) d.store → q.builder.stopped ≡ false
-      going-act true off n = absurd n
-      going-act false off n = off
+      acts : ComesToAct a (builder_holds p h.s) h.coming.rs (held_in q) (makeup_ask p) (held_in d)
+      acts = next-is (events.Act a) is
 
       on-act : q.builder.stopped ≡ false
-      on-act = going-act q.builder.stopped refl (next-is (events.Act a) is)
-
-      n : NextIs (held_in q).stopped (events.Act a) (held_in q) (makeup_ask p) (held_in d) d.store
-      n = next-is (events.Act a) is
+      on-act = acts.going
 
       abbrev line : ℕ
       line = (past-is (events.Act a) is on-act).line
 
       abbrev came : ComesPast (record { line = line; kind = act a } ∷ (held_in d).waiting) (builder_holds p h.s) (held_in d) (makeup_ask p)
-      came = acted-past p h.s q.builder q.store h.coming h.sound on-act (held_in d) d.store a n (past-is (events.Act a) is on-act)
+      came = acted-past p h.s (held_in q) h.coming (held_in d) a acts (past-is (events.Act a) is on-act)
 
       holding : held_in d ≡ builder_holds p (record h.s { page = laid_out p.topskip h.s.page came.before; waiting = (held_in d).waiting })
-      holding = acted-state p h.s q.builder q.store h.coming h.sound on-act (held_in d) d.store a n (past-is (events.Act a) is on-act) d.builder refl sound
+      holding = acted-state p h.s (held_in q) h.coming (held_in d) a acts (past-is (events.Act a) is on-act) d.builder d.store refl sound
 
       abbrev sums : PageSums
       sums = page_sums_of (builder_holds p (record h.s { page = laid_out p.topskip h.s.page came.before; waiting = (held_in d).waiting }))
@@ -200,11 +193,11 @@ module _ (r q d : Makeup) (ready : IsReady r) (h : IsUnderway r q) where
       pub act-can : CanAct d.builder d.store
       act-can = record {
         sound = sound;
-        going = acted-going p h.s q.builder q.store h.coming h.sound on-act (held_in d) d.store a n (past-is (events.Act a) is on-act);
+        going = acts.stop;
         no_kern =
             ap ends_in_kern came.is.page
             ∙ led-no-kern p.topskip h.s.page came.before (led-ends came.before line a (held_in d).waiting (subst (ActsAreLed false) came.is.waiting h.takes.nodes.led));
-        known = ap (λ cs. has_class cs 253) (acted-holds p h.s q.builder q.store h.coming h.sound on-act (held_in d) d.store a n (past-is (events.Act a) is on-act)).classes;
+        known = ap (λ cs. has_class cs 253) acts.come.stays.classes;
       }
 
       one-number : 1 ≤ h.s.number
@@ -234,14 +227,14 @@ module _ (r q d : Makeup) (ready : IsReady r) (h : IsUnderway r q) where
         underway-acted = record {
           s = now;
           takes = record {
-            run = h.takes.run ∙ run-goes p h.s now [] one-number one-number (acted-step p h.s q.builder q.store h.coming h.sound on-act (held_in d) d.store a n (past-is (events.Act a) is on-act));
+            run = h.takes.run ∙ run-goes p h.s now [] one-number one-number (acted-step p h.s (held_in q) h.coming (held_in d) a acts (past-is (events.Act a) is on-act));
             nodes = acted-nodes p ready.params.makeup h.s h.takes.nodes came.before (held_in d).waiting line a came.is.waiting came.is.no_acts sums;
             total = (let b = acted-total p ready.params.makeup h.s h.takes.nodes came.before (held_in d).waiting line a came.is.waiting came.is.no_acts sums in let t = h.takes.total in omega (arith, b, t));
             acts = (let b = acted-acts p ready.params.makeup h.s h.takes.nodes came.before (held_in d).waiting line a came.is.waiting came.is.no_acts sums in let t = h.takes.acts in omega (arith, b, t));
             number = h.takes.number;
             phase = still-phase h.takes.phase;
           };
-          coming = coming-start p now (held_in f) holds-now;
+          coming = coming-start p now f.builder f.store acted.sound holds-now;
           sound = acted.sound;
           same = record { plain = kept.plain ∙ continues.plain; ask = kept.ask ∙ continues.ask; limit = kept.limit ∙ continues.limit; bound = kept.bound ∙ continues.bound };
         }
@@ -262,25 +255,24 @@ module _ (r q d : Makeup) (ready : IsReady r) (h : IsUnderway r q) where
     -- ---- nothing waits any more
 
     module _ (is : e ≡ events.Empty) where
-      going-over : (b : Bool) → q.builder.stopped ≡ b → NextIs b events.Empty (held_in q) (makeup_ask p) (held_in d) d.store → q.builder.stopped ≡ false
-      going-over true off n = absurd n
-      going-over false off n = off
+      ends : ComesToEnd (builder_holds p h.s) h.coming.rs (held_in q) (makeup_ask p) (held_in d)
+      ends = next-is events.Empty is
 
       on-over : q.builder.stopped ≡ false
-      on-over = going-over q.builder.stopped refl (next-is events.Empty is)
+      on-over = ends.going
 
       none-waits : (held_in d).waiting ≡ []
-      none-waits = over-waits p h.s q.builder q.store h.coming h.sound on-over (held_in d) d.store (next-is events.Empty is)
+      none-waits = ends.waiting
 
       abbrev over-came : ComesPast (held_in d).waiting (builder_holds p h.s) (held_in d) (makeup_ask p)
-      over-came = over-past p h.s q.builder q.store h.coming h.sound on-over (held_in d) d.store (next-is events.Empty is) (past-is events.Empty is on-over)
+      over-came = over-past p h.s (held_in q) h.coming (held_in d) ends (past-is events.Empty is on-over)
 
       all-came : h.s.waiting ≡ over-came.before
       all-came = over-came.is.waiting ∙ ap (λ ns. over-came.before ++ ns) none-waits ∙ append-nil over-came.before
 
       over-begun : ((state_of r).page ≡ []) ⊎ (h.s.waiting ≡ ejecting_nodes) → (state_of r).page ≡ []
       over-begun (inl x) = x
-      over-begun (inr x) = absurd (true≢false (sym (ejected-fires p h.s x) ∙ over-fires p h.s q.builder q.store h.coming h.sound on-over (held_in d) d.store (next-is events.Empty is)))
+      over-begun (inr x) = absurd (true≢false (sym (ejected-fires p h.s x) ∙ over-fires p h.s (held_in q) h.coming (held_in d) ends))
 
       page-is : (held_in d).page ≡ laid_out p.topskip h.s.page over-came.before
       page-is = over-came.is.page
@@ -323,9 +315,9 @@ module _ (r q d : Makeup) (ready : IsReady r) (h : IsUnderway r q) where
             s = h.s;
             takes = h.takes;
             begun = begun;
-            step = over-step p h.s q.builder q.store h.coming h.sound on-over (held_in d) d.store (next-is events.Empty is);
+            step = over-step p h.s (held_in q) h.coming (held_in d) ends;
             holds =
-                holds-state p d.builder d.store h.s.number sound (over-going p h.s q.builder q.store h.coming h.sound on-over (held_in d) d.store (next-is events.Empty is)) (over-holds p h.s q.builder q.store h.coming h.sound on-over (held_in d) d.store (next-is events.Empty is))
+                holds-state p h.s d.builder d.store h.s.number sound ends.stop ends.stays
                 ∙ ap (λ ns. builder_holds p (record { page = (held_in d).page; waiting = ns; number = h.s.number })) none-waits;
             sound = sound;
             nodes = over-nodes (omega (arith, room, t));
@@ -336,52 +328,45 @@ module _ (r q d : Makeup) (ready : IsReady r) (h : IsUnderway r q) where
     -- ---- the page fires
 
     module _ (page : Page) (is : e ≡ events.Fired page) (given : IsGivenOut e q.store (ids_of d.builder) d.store) where
-      at-stop : (b : Bool) → q.builder.stopped ≡ b → NextIs b (events.Fired page) (held_in q) (makeup_ask p) (held_in d) d.store → (q.builder.stopped ≡ true) × FiredIs page (held_in q) (makeup_ask p) (held_in d) d.store
-      at-stop true off n = (off, n)
-      at-stop false off n = absurd n.0
-
-      fires : (q.builder.stopped ≡ true) × FiredIs page (held_in q) (makeup_ask p) (held_in d) d.store
-      fires = at-stop q.builder.stopped refl (next-is (events.Fired page) is)
+      fires : ComesToPage page (builder_holds p h.s) (held_in q) (makeup_ask p) (held_in d) d.store
+      fires = next-is (events.Fired page) is
 
       abbrev f : Fired
-      f = fired_page (held_in q) (makeup_ask p)
+      f = fired p ready.params.makeup h.s h.takes.nodes
 
       left : IsGivenOut (events.Fired page) q.store (ids_of d.builder) d.store
       left = subst (λ x. IsGivenOut x q.store (ids_of d.builder) d.store) is given
 
-      f-is : f ≡ fired p ready.params.makeup h.s h.takes.nodes
-      f-is = fired-same p h.s (held_in q) h.coming fires.0
-
       after : held_in d ≡ after_fired (held_in q) f
-      after = fires.1.after
+      after = fires.after
 
       with-is : fired_with d.builder d.store page ≡ f
       with-is = λ i. record {
-        body = fires.1.page.body i;
+        body = fires.page.body i;
         boxes = (after i).boxes;
         held = (after i).held;
         rest = (after i).waiting;
-        penalty = fires.1.page.penalty i;
-        cost = fires.1.page.cost i;
-        size = fires.1.page.size i;
-        line = fires.1.page.line i;
+        penalty = fires.page.penalty i;
+        cost = fires.page.cost i;
+        size = fires.page.size i;
+        line = fires.page.line i;
       }
 
       sized-is : FiredSized f
-      sized-is = subst FiredSized (sym f-is) (fired-sized p ready.params.makeup h.s h.takes.nodes)
+      sized-is = fired-sized p ready.params.makeup h.s h.takes.nodes
 
       few-is : fired_count f ≤ node_count h.s.page + node_count h.s.waiting + 1
-      few-is = let a = fired-few p ready.params.makeup h.s h.takes.nodes in let b = ap fired_count f-is in omega (arith, a, b)
+      few-is = fired-few p ready.params.makeup h.s h.takes.nodes
 
       classes-are : (held_in d).classes ≡ makeup_classes p
-      classes-are = ap (λ (c : Contents). c.classes) after ∙ h.coming.holds.classes
+      classes-are = ap (λ (c : Contents). c.classes) after ∙ h.coming.come.stays.classes
 
       text-is : AreMatter (plain_list d.store page.body)
-      text-is = subst AreMatter (sym fires.1.page.body) (subst (λ (g : Fired). AreMatter g.body) (sym f-is) (fired-text p ready.params.makeup h.s h.takes.nodes))
+      text-is = subst AreMatter (sym fires.page.body) (fired-text p ready.params.makeup h.s h.takes.nodes)
 
       grown-is : HasGrown r (waiting_after p (fired_with d.builder d.store page))
       grown-is =
-          let g = subst (Grows p h.s) (sym (with-is ∙ f-is)) (fired-grows p ready.params.makeup h.s h.takes.nodes) in
+          let g = subst (Grows p h.s) (sym with-is) (fired-grows p ready.params.makeup h.s h.takes.nodes) in
           let a = g.total in
           let b = g.acts in
           let t = h.takes.total in
@@ -392,33 +377,33 @@ module _ (r q d : Makeup) (ready : IsReady r) (h : IsUnderway r q) where
       filled-fires = record {
         s = h.s;
         takes = h.takes;
-        step = fires-step p h.s (held_in q) h.coming fires.0 ∙ ap (firing_step p h.s.number) (sym with-is);
+        step = fires-step p h.s (held_in q) h.coming fires.stopped ∙ ap (firing_step p h.s.number) (sym with-is);
         can = record {
           sound = sound;
           awaits = record { page = ap (λ (c : Contents). c.page) after; frozen = ap (λ (c : Contents). c.frozen) after };
           top = ap (λ cs. has_class cs 253) classes-are;
           foot = ap (λ cs. has_class cs 254) classes-are;
-          held = fires.1.page.held ∙ ap length (sym (ap (λ (c : Contents). c.held) after));
+          held = fires.page.held ∙ ap length (sym (ap (λ (c : Contents). c.held) after));
           body = record {
-            live = fires.1.page.live;
+            live = fires.page.live;
             leaves = matter-leaves (list_at d.store) (list_at d.store page.body) text-is;
-            sized = list-back d.store page.body (subst (All IsSizedOnPage) (sym fires.1.page.body) sized-is.body);
-            few = (let a = list-length d.store page.body in let b = ap node_count fires.1.page.body in let c = few-is in let k = h.takes.nodes.few in omega (arith, a, b, c, k));
+            sized = list-back d.store page.body (subst (All IsSizedOnPage) (sym fires.page.body) sized-is.body);
+            few = (let a = list-length d.store page.body in let b = ap node_count fires.page.body in let c = few-is in let k = h.takes.nodes.few in omega (arith, a, b, c, k));
           };
           free = left.2;
           boxes = subst (All IsSizedBox) (sym (ap (λ (c : Contents). c.boxes) after)) sized-is.boxes;
           few =
               (let a = list-length d.store page.body in
-              let b = ap node_count fires.1.page.body in
+              let b = ap node_count fires.page.body in
               let c = few-is in
               let k = h.takes.nodes.few in
               let g = ap (λ (c : Contents). box_count c.boxes) after in
               omega (arith, a, b, c, k, g));
         };
-        after = subst (AreAfter p) (sym (with-is ∙ f-is)) (fired-after p ready.params.makeup h.s h.takes.nodes);
+        after = subst (AreAfter p) (sym with-is) (fired-after p ready.params.makeup h.s h.takes.nodes);
         grown = grown-is;
         classes = classes-are;
         stopped = ap (λ (c : Contents). c.stopped) after;
-        void = ap (λ (c : Contents). with_void 254 (with_void 253 c.boxes)) after ∙ ap (λ (g : Fired). with_void 254 (with_void 253 g.boxes)) f-is ∙ void-after (labels p h.s);
+        void = ap (λ (c : Contents). with_void 254 (with_void 253 c.boxes)) after ∙ void-after (labels p h.s);
         same = continues;
       }

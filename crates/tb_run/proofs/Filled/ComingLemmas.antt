@@ -1,25 +1,19 @@
 -- A page that is filled, event by event, as a step of the run.
-use Rattle.std.proofs.Common.{◌≡◌, refl, sym, subst, ◌∙◌, ap, ℕ, ◌+◌, ◌≤◌, Bool, true, false, List, [], ◌∷◌, ◌++◌, map, Some, None, append-nil, arith}
-use Rattle.std.specs.Prelude.{All, if◌then◌else◌}
-use Rattle.std.proofs.lemmas.Bool.{true≢false}
+use Rattle.std.proofs.Common.{◌≡◌, refl, sym, subst, ◌∙◌, ap, ℕ, ◌+◌, ◌≤◌, true, false, List, [], ◌∷◌, ◌++◌, map, Some, None, append-nil, append_assoc, arith}
+use Rattle.std.specs.Prelude.{All}
 use Rattle.tb_scaled.specs.Scaled.{awful_bad}
-use Rattle.tb_pool.specs.Lists.{Lists}
 use Rattle.tb_node.specs.declared.Act.{Act}
-use Rattle.tb_node.specs.declared.Node.{Node}
 use Rattle.tb_node.specs.Plain.{PlainNode}
 use Rattle.tb_param.specs.declared.Params.{Params}
-use Rattle.tb_break.specs.Best.{is_stop, least_cost}
+use Rattle.tb_break.specs.Best.{least_cost}
 use Rattle.tb_break.specs.Prune.{pruned_nodes}
 use Rattle.tb_builder.specs.declared.Ask.{Ask}
-use Rattle.tb_builder.specs.declared.Event.{Event}
-use Rattle.tb_builder.specs.declared.Event.TheVariants as events
 use Rattle.tb_builder.specs.declared.Try.{Try}
 use Rattle.tb_builder.specs.Reached.{Reached, acted, tried, Reach, try_of, breakpoints}
-use Rattle.tb_builder.specs.Fired.{frozen_for, reach_of, fired_of}
-use Rattle.tb_builder.specs.Contents.{Contents, frozen_of, laid, reach_ahead, places_of, node_count}
-use Rattle.tb_builder.specs.Paging.{HasCome, HasStopped, HasEnded, ComesToTry, ComesTo}
-use Rattle.tb_builder.specs.Next.{KeepsBoxes, ActedIs, Without, NextIs, fired_page}
-use Rattle.tb_builder.proofs.Events.PagingLemmas.{paging_begins, paging_next}
+use Rattle.tb_builder.specs.Fired.{fired_of}
+use Rattle.tb_builder.specs.Contents.{Contents, laid, reach_ahead, node_count}
+use Rattle.tb_builder.specs.Paging.{page_reach, page_fired, HasCome, StopsAt, ComesToTry, ComesToAct, ComesToEnd}
+use Rattle.tb_builder.proofs.Events.PagingLemmas.{paging_begins}
 use Rattle.tb_builder.proofs.Ranges.PageableLemmas.{pruned_sized}
 use Rattle.tb_builder.proofs.Ranges.PrunedLemmas.{pruned_nodes_longer}
 use Rattle.tb_column.specs.Column.{warned}
@@ -55,48 +49,28 @@ module _ (p : Params) (s : State) where
   abbrev pub ask : Ask
   ask = ask_of p s
 
-  -- what is reached of the page
-  abbrev pub w : Reach
-  w = reach_of ask s.classes s.boxes [] s.waiting
+  -- what the builder holds at the start of the page
+  abbrev pub start : Contents
+  start = between_pages s
 
   -- the acts and places so far
   abbrev pub so_far : List Reached → Progress
   so_far rs = progress p rs awful_bad s
 
-  -- the page so far and what follows it
-  abbrev pub whole_nodes : Contents → List PlainNode
-  whole_nodes c = if c.stopped then c.page ++ c.waiting else laid c ask
-
   -- this much was reached, and the state is that after it: the builder has the rest of the page before it
   pub record IsComing (rs : List Reached) (c : Contents) (t : State) : Type 0 where
-    pub goes : c.stopped ≡ false → HasCome w rs c ask
-    pub stops : c.stopped ≡ true → HasStopped w rs c ask
+    pub come : HasCome start rs c ask
     pub none : (so_far rs).fault ≡ None
     pub state : (so_far rs).state ≡ t
-    pub served : IsServed (whole_nodes c) t
-    pub few : node_count (whole_nodes c) ≤ node_count s.waiting + 1
-    pub classes : c.classes ≡ s.classes
-    pub boxes : c.boxes ≡ s.boxes
-    pub held : c.held ≡ []
+    pub served : IsServed (laid c ask) t
+    pub few : node_count (laid c ask) ≤ node_count s.waiting + 1
     pub keeps : ActKeeps p s t
-    pub all : laid c ask ≡ whole_nodes c
-    pub frozen : frozen_of c ask ≡ frozen_for ask s.classes s.boxes
-
-  no : {X : Type 0} (b : Bool) → b ≡ true → b ≡ false → X
-  no b x y = absurd (true≢false (sym x ∙ y))
-
-  pub going-nodes : (c : Contents) → c.stopped ≡ false → whole_nodes c ≡ laid c ask
-  going-nodes c e = ap (λ t. if t then c.page ++ c.waiting else laid c ask) e
-
-  pub stopped-nodes : (c : Contents) → c.stopped ≡ true → whole_nodes c ≡ c.page ++ c.waiting
-  stopped-nodes c e = ap (λ t. if t then c.page ++ c.waiting else laid c ask) e
 
   -- ---- nothing was reached yet
 
-  pub coming-start : AreRunnable p → IsServed s.waiting s → IsComing [] (between_pages s) s
+  pub coming-start : AreRunnable p → IsServed s.waiting s → IsComing [] start s
   coming-start runs h = record {
-    goes = λ e. paging_begins (between_pages s) ask refl refl refl;
-    stops = λ e. no false e refl;
+    come = paging_begins start ask refl refl refl;
     none = refl;
     state = refl;
     served =
@@ -104,98 +78,38 @@ module _ (p : Params) (s : State) where
         (nodes-both s.classes (pruned_nodes p.topskip s.waiting) (pruned_sized p.topskip s.waiting runs.topskip (nodes-sized s.classes s.waiting h.nodes)) (served-pruned s.classes p.topskip s.waiting (nodes-served s.classes s.waiting h.nodes)))
         (notes-pruned p.topskip s.waiting) h;
     few = pruned_nodes_longer p.topskip s.waiting;
-    classes = refl;
-    boxes = refl;
-    held = refl;
     keeps = keeps-same p s;
-    all = refl;
-    frozen = refl;
   }
 
-  module _ (rs : List Reached) (c d : Contents) (t : State) (store : Lists Node) (h : IsComing rs c t) (on : c.stopped ≡ false) where
-    -- the event is the next of the page
-    comes : (e : Event) → NextIs c.stopped e c ask d store → ComesTo e w rs ask d
-    comes e n = paging_next w rs e c d ask store (h.goes on) n
-
-    first : (e : Event) → NextIs c.stopped e c ask d store → NextIs false e c ask d store
-    first e n = subst (λ b. NextIs b e c ask d store) on n
-
+  module _ (rs : List Reached) (c d : Contents) (t : State) (h : IsComing rs c t) where
     -- ---- a place was tried
 
-    module _ (x : Try) (n : NextIs c.stopped (events.Try x) c ask d store) where
-      pub try : ComesToTry x w rs ask d
-      try = comes (events.Try x) n
-
+    module _ (x : Try) (n : ComesToTry x start rs c ask d) where
       abbrev pub after : List Reached
-      after = rs ++ tried try.line try.place ∷ []
+      after = rs ++ tried n.line n.place ∷ []
 
-      is : so_far after ≡ record { state = (so_far rs).state; events = (so_far rs).events ++ offered (try_of try.line try.place (least_cost (breakpoints rs))) ∷ []; records = (so_far rs).records; fault = None }
-      is = progress-tried p rs s h.none try.line try.place
+      is : so_far after ≡ record { state = (so_far rs).state; events = (so_far rs).events ++ offered (try_of n.line n.place (least_cost (breakpoints rs))) ∷ []; records = (so_far rs).records; fault = None }
+      is = progress-tried p rs s h.none n.line n.place
 
       pub tried-events : (so_far after).events ≡ (so_far rs).events ++ offered x ∷ []
-      tried-events = ap (λ (q : Progress). q.events) is ∙ ap (λ (y : Try). (so_far rs).events ++ offered y ∷ []) (sym try.made)
-
-      nodes-same : whole_nodes d ≡ whole_nodes c
-      nodes-same = by_stop (is_stop (first (events.Try x) n).0.place) refl ∙ sym (going-nodes c on)
-        where
-          by_stop : (b : Bool) → is_stop (first (events.Try x) n).0.place ≡ b → whole_nodes d ≡ laid c ask
-          by_stop false e = let g = (first (events.Try x) n).0.goes e in going-nodes d g.stopped ∙ g.whole
-          by_stop true e = let g = (first (events.Try x) n).0.stops e in stopped-nodes d g.stopped ∙ g.whole
-
-      all-then : laid d ask ≡ whole_nodes d
-      all-then = by_stop (is_stop (first (events.Try x) n).0.place) refl
-        where
-          by_stop : (b : Bool) → is_stop (first (events.Try x) n).0.place ≡ b → laid d ask ≡ whole_nodes d
-          by_stop false e = sym (going-nodes d ((first (events.Try x) n).0.goes e).stopped)
-          by_stop true e = let g = (first (events.Try x) n).0.stops e in g.still ∙ sym g.whole ∙ sym (stopped-nodes d g.stopped)
-
-      goes-then : d.stopped ≡ false → HasCome w after d ask
-      goes-then off = by_stop (is_stop try.place) refl
-        where
-          by_stop : (b : Bool) → is_stop try.place ≡ b → HasCome w after d ask
-          by_stop false e = try.goes e
-          by_stop true e = no d.stopped (try.stops e).stopped off
-
-      stops-then : d.stopped ≡ true → HasStopped w after d ask
-      stops-then off = by_stop (is_stop try.place) refl
-        where
-          by_stop : (b : Bool) → is_stop try.place ≡ b → HasStopped w after d ask
-          by_stop false e = no d.stopped off (try.goes e).going
-          by_stop true e = try.stops e
+      tried-events = ap (λ (q : Progress). q.events) is ∙ ap (λ (y : Try). (so_far rs).events ++ offered y ∷ []) (sym n.made)
 
       pub coming-tried : IsComing after d t
-      coming-tried =
-          let k : KeepsBoxes c d ask = (first (events.Try x) n).1 in
-          record {
-            goes = goes-then;
-            stops = stops-then;
-            none = ap (λ (q : Progress). q.fault) is;
-            state = ap (λ (q : Progress). q.state) is ∙ h.state;
-            served = subst (λ ns. IsServed ns t) (sym nodes-same) h.served;
-            few = let f = h.few in let e = ap node_count nodes-same in omega (arith, f, e);
-            classes = k.classes ∙ h.classes;
-            boxes = k.boxes ∙ h.boxes;
-            held = k.held ∙ h.held;
-            keeps = h.keeps;
-            all = all-then;
-            frozen = k.frozen_so ∙ h.frozen;
-          }
+      coming-tried = record {
+        come = n.come;
+        none = ap (λ (q : Progress). q.fault) is;
+        state = ap (λ (q : Progress). q.state) is ∙ h.state;
+        served = subst (λ ns. IsServed ns t) (sym n.whole) h.served;
+        few = let f = h.few in let e = ap node_count n.whole in omega (arith, f, e);
+        keeps = h.keeps;
+      }
 
     -- ---- an act was reached
 
-    module _ (a : Act) (n : NextIs c.stopped (events.Act a) c ask d store) where
-      acts : ActedIs a (laid c ask) (reach_ahead c ask) (places_of c ask) ask d
-      acts = (first (events.Act a) n).0
-
-      without : Without a (whole_nodes c) (whole_nodes d)
-      without = subst (λ ms. Without a (whole_nodes c) ms) (sym (going-nodes d acts.stopped)) (subst (λ ns. Without a ns (laid d ask)) (sym (going-nodes c on)) acts.whole)
-
+    module _ (a : Act) (n : ComesToAct a start rs c ask d) where
       -- its amounts are in their ranges
       pub acted-sized : IsSizedAct a
-      acted-sized = act-sized a (whole_nodes c) (whole_nodes d) t without h.served
-
-      come : HasCome w (rs ++ acted a ∷ []) d ask
-      come = comes (events.Act a) n
+      acted-sized = act-sized a (laid c ask) (laid d ask) t n.whole h.served
 
       of-state : act_on p (so_far rs).state a ≡ act_on p t a
       of-state = ap (λ z. act_on p z a) h.state
@@ -209,75 +123,54 @@ module _ (p : Params) (s : State) where
         acted-events = ap (λ (q : Progress). q.events) done-is ∙ ap (λ es. (so_far rs).events ++ es) (append-nil (map (λ z. sent (warned z)) ws))
 
         pub coming-acted : IsComing (rs ++ acted a ∷ []) d u
-        coming-acted =
-            let k : KeepsBoxes c d ask = (first (events.Act a) n).1 in
-            record {
-              goes = λ o. come;
-              stops = λ o. no d.stopped o acts.stopped;
-              none = ap (λ (q : Progress). q.fault) done-is;
-              state = ap (λ (q : Progress). q.state) done-is;
-              served = act-served p a (whole_nodes c) (whole_nodes d) t u ws qs runs without h.served e;
-              few = let f = h.few in let l = without-count a (whole_nodes c) (whole_nodes d) without in omega (arith, f, l);
-              classes = k.classes ∙ h.classes;
-              boxes = k.boxes ∙ h.boxes;
-              held = k.held ∙ h.held;
-              keeps = keeps-then p s t u h.keeps (act-keeps p a (whole_nodes c) (whole_nodes d) t u ws qs runs without h.served e);
-              all = sym (going-nodes d acts.stopped);
-              frozen = k.frozen_so ∙ h.frozen;
-            }
+        coming-acted = record {
+          come = n.come;
+          none = ap (λ (q : Progress). q.fault) done-is;
+          state = ap (λ (q : Progress). q.state) done-is;
+          served = act-served p a (laid c ask) (laid d ask) t u ws qs runs n.whole h.served e;
+          few = let f = h.few in let l = without-count a (laid c ask) (laid d ask) n.whole in omega (arith, f, l);
+          keeps = keeps-then p s t u h.keeps (act-keeps p a (laid c ask) (laid d ask) t u ws qs runs n.whole h.served e);
+        }
 
       -- it found no room: the run ends
       pub step-full : (line live : ℕ) → act_on p t a ≡ full line live → step p s ≡ ends (so_far rs).events (so_far rs).records (pool_full line live)
       unfolding step
       step-full line live e =
           let more = (reach_ahead d ask).reached in
-          let reached : w.reached ≡ rs ++ acted a ∷ more = (ap (λ (v : Reach). v.reached) come.reach ∙ assoc rs more) in
-          let q : progress p w.reached awful_bad s ≡ record { state = (so_far rs).state; events = (so_far rs).events; records = (so_far rs).records; fault = Some (line, live) } =
+          let reached : (page_reach start ask).reached ≡ rs ++ acted a ∷ more = (ap (λ (v : Reach). v.reached) (n.come.goes n.stop).reach ∙ append_assoc rs (acted a ∷ []) more) in
+          let q : progress p (page_reach start ask).reached awful_bad s ≡ record { state = (so_far rs).state; events = (so_far rs).events; records = (so_far rs).records; fault = Some (line, live) } =
           (ap so_far reached ∙ progress-stuck p rs s h.none a more line live (of-state ∙ e)) in
-          ap (λ (q : Progress). after_progress p w q q.fault) q
-        where
-          assoc : (xs more : List Reached) → (xs ++ acted a ∷ []) ++ more ≡ xs ++ acted a ∷ more
-          assoc [] more = refl
-          assoc (y ∷ ys) more = ap (λ zs. y ∷ zs) (assoc ys more)
+          ap (λ (q : Progress). after_progress p (page_reach start ask) q q.fault) q
 
     -- ---- nothing waits any more
 
-    pub step-over : NextIs c.stopped events.Empty c ask d store → step p s ≡ ends (so_far rs).events ((so_far rs).records ++ emptied (so_far rs).state.floats ∷ []) (done d.page)
+    pub step-over : ComesToEnd start rs c ask d → step p s ≡ ends (so_far rs).events ((so_far rs).records ++ emptied (so_far rs).state.floats ∷ []) (done d.page)
     unfolding step
     step-over n =
-        let v : HasEnded w rs d = comes events.Empty n in
         let last : Reach = record { reached = rs; passed = d.page; beyond = []; fires = false } in
-        ap (λ (x : Reach). let q = progress p x.reached awful_bad s in after_progress p x q q.fault) v.reach
+        ap (λ (x : Reach). let q = progress p x.reached awful_bad s in after_progress p x q q.fault) n.reach
         ∙ ap (after_progress p last (so_far rs)) h.none
 
   -- ---- the page fires
 
   module _ (rs : List Reached) (c : Contents) (t : State) (h : IsComing rs c t) (off : c.stopped ≡ true) where
-    stop : HasStopped w rs c ask
-    stop = h.stops off
+    stop : StopsAt start rs c ask
+    stop = h.come.stops off
 
     abbrev last : Reach
     last = record { reached = rs; passed = c.page; beyond = c.waiting; fires = true }
 
     -- the page that fires, by what was passed
-    pub fired-is : fired_page c ask ≡ fired_of ask c.classes c.boxes last
-    fired-is = stop.fired ∙ ap (fired_of ask c.classes c.boxes) stop.reach
+    pub fired-is : page_fired start ask ≡ fired_of ask s.classes s.boxes last
+    fired-is = ap (fired_of ask s.classes s.boxes) stop.reach
 
-    fired-asked : fired_of (ask_of p (so_far rs).state) (so_far rs).state.classes (so_far rs).state.boxes w ≡ fired_page c ask
-    fired-asked =
-        let e = sym h.state in
-        (λ i. fired_of (ask_of p (h.state i)) (h.state i).classes (h.state i).boxes w)
-        ∙ (λ i. fired_of (h.keeps.asks i) (h.keeps.classes i) (h.keeps.boxes i) w)
-        ∙ (λ i. fired_of ask (sym h.classes i) (sym h.boxes i) w)
-        ∙ sym stop.fired
-
-    pub step-fires : step p s ≡ firing_step p (so_far rs).events (so_far rs).records t (fired_page c ask)
+    pub step-fires : step p s ≡ firing_step p (so_far rs).events (so_far rs).records t (page_fired start ask)
     unfolding step
     step-fires =
         ap (λ (x : Reach). let q = progress p x.reached awful_bad s in after_progress p x q q.fault) stop.reach
         ∙ ap (after_progress p last (so_far rs)) h.none
         ∙ (λ i. firing_step p (so_far rs).events (so_far rs).records (so_far rs).state (fired_last i))
-        ∙ (λ i. firing_step p (so_far rs).events (so_far rs).records (h.state i) (fired_page c ask))
+        ∙ (λ i. firing_step p (so_far rs).events (so_far rs).records (h.state i) (page_fired start ask))
       where
-        fired_last : fired_of (ask_of p (so_far rs).state) (so_far rs).state.classes (so_far rs).state.boxes last ≡ fired_page c ask
-        fired_last = ap (fired_of (ask_of p (so_far rs).state) (so_far rs).state.classes (so_far rs).state.boxes) (sym stop.reach) ∙ fired-asked
+        fired_last : fired_of (ask_of p (so_far rs).state) (so_far rs).state.classes (so_far rs).state.boxes last ≡ page_fired start ask
+        fired_last = (λ i. fired_of (ask_of p (h.state i)) (h.state i).classes (h.state i).boxes last) ∙ (λ i. fired_of (h.keeps.asks i) (h.keeps.classes i) (h.keeps.boxes i) last) ∙ sym fired-is

@@ -4,7 +4,7 @@ use Rattle.std.specs.Prelude.{All, if◌then◌else◌}
 use Rattle.std.specs.List.{AllByRecursion}
 use Rattle.std.proofs.lemmas.Int.{ints}
 use Rattle.std.proofs.lemmas.List.{length-map}
-use Rattle.std.proofs.lemmas.List.Elements.{All-nil, All-from_recursion, recursion_from_All}
+use Rattle.std.proofs.lemmas.List.Elements.{All-nil}
 use Rattle.tb_node.specs.Fit.{IsExtent}
 use Rattle.tb_node.specs.Plain.{PlainNode}
 use Rattle.tb_param.specs.declared.Params.{Params}
@@ -14,15 +14,15 @@ use Rattle.tb_builder.specs.declared.Ask.{Ask}
 use Rattle.tb_builder.specs.Reached.{Reached, Reach}
 use Rattle.tb_builder.specs.Fired.{Boxed, Fired, page_break, content_of, given_to, box_after, is_given, frozen_for, fired_of}
 use Rattle.tb_builder.specs.Contents.{Contents, frozen_of, laid, node_count, box_count}
-use Rattle.tb_builder.specs.Kept.{fired_count, AreBoxesOf}
-use Rattle.tb_builder.specs.Next.{BoxesFit, NextFits, fired_page}
-use Rattle.tb_builder.specs.Owned.{ClassesFit}
-use Rattle.tb_builder.specs.Pageable.{IsSizedOnPage, IsSizedBox, IsGoal}
+use Rattle.tb_builder.specs.Kept.{IsSizedAsk, fired_count, AreBoxesOf}
+use Rattle.tb_builder.specs.Next.{BoxesFit, NextFits}
+use Rattle.tb_builder.specs.Paging.{page_fired}
+use Rattle.tb_builder.specs.Pageable.{IsSizedOnPage, IsGoal}
 use Rattle.tb_builder.specs.Places.{NoActs}
 use Rattle.tb_builder.proofs.LegalPlaces.ChargeLemmas.{few_classes}
-use Rattle.tb_builder.proofs.Ranges.PageableLemmas.{IsSizedFrozen, laid_fits, class_boxes_sized, class_boxes_total, contents_fit}
-use Rattle.tb_builder.proofs.Ranges.SizedLemmas.{FiredSized, fired_sized}
-use Rattle.tb_builder.proofs.FiredPages.FiredCounts.{fired_fewer}
+use Rattle.tb_builder.proofs.Ranges.PageableLemmas.{IsSizedFrozen, laid_fits, class_boxes_sized, class_boxes_total}
+use Rattle.tb_builder.proofs.Ranges.SizedLemmas.{FiredSized}
+use Rattle.tb_builder.proofs.Events.WholeLemmas.{between-fits, fired_of-sized, fired_of-fewer}
 use Rattle.tb_output.specs.State.{State, ask_of, has_floats}
 use Rattle.tb_output.specs.Out.{hold_penalty}
 use Rattle.tb_run.specs.GalleyNodes.{IsServable, IsGalleyNode}
@@ -31,7 +31,7 @@ use Rattle.tb_run.specs.Served.{AreRunnable, AreRunClasses, notes_waiting, notes
 use Rattle.tb_run.specs.Turning.{between_pages}
 use Rattle.tb_run.proofs.ServedAgain.FiredNodes.{every-front, every-back, every-append, every-take, every-drop, no_acts-take, text-body, served-spent, mild-break, known-labels, held-known, nodes-both, nodes-sized, nodes-served, notes-append, notes-drop, notes-spent, notes-held}
 use Rattle.tb_run.proofs.ServedAgain.ServedFirings.{reach_where, within-more}
-use Rattle.tb_run.proofs.Filled.ComingLemmas.{IsComing, whole_nodes, stopped-nodes, fired-is}
+use Rattle.tb_run.proofs.Filled.ComingLemmas.{IsComing, start, fired-is}
 
 extent-zero : IsExtent (pos 0)
 extent-zero = record { low = omega (arith, ints); high = omega (arith, ints) }
@@ -61,20 +61,11 @@ module _ (p : Params) (s : State) (runs : AreRunnable p) (classes : AreRunClasse
       by_test true = extent-zero
       by_test false = runs.output.columns.maxdepth
 
-  start : NextFits (between_pages s) ask
-  start = contents_fit (between_pages s) ask (record {
-    goal = goal;
-    limit = depth;
-    asked_goal = goal;
-    asked_depth = depth;
-    top_skip = runs.topskip;
-    classes = classes.sized;
-    classes_fit = classes.fit;
-    boxes = served.boxes;
-    page = All-nil IsSizedOnPage;
-    waiting = nodes-sized s.classes s.waiting served.nodes;
-    few = omega (arith, few);
-  })
+  sized-ask : IsSizedAsk ask
+  sized-ask = record { goal = goal; depth = depth; top_skip = runs.topskip }
+
+  begins : NextFits (between_pages s) ask
+  begins = between-fits s.classes s.boxes s.waiting classes.sized classes.fit served.boxes (nodes-sized s.classes s.waiting served.nodes) ask sized-ask (omega (arith, few))
 
   frozen-sized : IsSizedFrozen (frozen_for ask s.classes s.boxes)
   frozen-sized = record {
@@ -87,7 +78,7 @@ module _ (p : Params) (s : State) (runs : AreRunnable p) (classes : AreRunClasse
 
   module _ (rs : List Reached) (c : Contents) (t : State) (h : IsComing p s rs c t) where
     abbrev ns : List PlainNode
-    ns = whole_nodes p s c
+    ns = laid c ask
 
     same-classes : t.classes ≡ s.classes
     same-classes = h.keeps.classes
@@ -98,18 +89,16 @@ module _ (p : Params) (s : State) (runs : AreRunnable p) (classes : AreRunClasse
     -- all that is added up fits
     pub coming-fits : NextFits c ask
     coming-fits = record {
-      asked = start.asked;
-      boxes = subst BoxesFit (sym h.boxes) start.boxes;
-      laid_fits =
-          laid_fits (frozen_of c ask) (laid c ask) (subst IsSizedFrozen (sym h.frozen) frozen-sized) (subst (All IsSizedOnPage) (sym h.all) (nodes-sized s.classes ns ns-nodes))
-          (let f = h.few in let e = ap node_count h.all in omega (arith, f, e, few));
+      asked = begins.asked;
+      boxes = subst BoxesFit (sym h.come.stays.boxes) begins.boxes;
+      laid_fits = laid_fits (frozen_of c ask) ns (subst IsSizedFrozen (sym h.come.stays.frozen) frozen-sized) (nodes-sized s.classes ns ns-nodes) (let f = h.few in omega (arith, f, few));
     }
 
     -- ---- the page that fires
 
     module _ (off : c.stopped ≡ true) (quiet : NoActs c.page) (of : AreBoxesOf s.classes s.boxes) where
       abbrev f : Fired
-      f = fired_page c ask
+      f = page_fired (start p s) ask
 
       abbrev last : Reach
       last = record { reached = rs; passed = c.page; beyond = c.waiting; fires = true }
@@ -118,16 +107,16 @@ module _ (p : Params) (s : State) (runs : AreRunnable p) (classes : AreRunClasse
       k = (page_break last).place
 
       abbrev ls : List Labelled
-      ls = labelled (frozen_for ask c.classes c.boxes) (take k c.page)
+      ls = labelled (frozen_for ask s.classes s.boxes) (take k c.page)
+
+      nodes-are : ns ≡ c.page ++ c.waiting
+      nodes-are = (h.come.stops off).whole
 
       both : All (IsGalleyNode s.classes) (c.page ++ c.waiting)
-      both = subst (All (IsGalleyNode s.classes)) (stopped-nodes p s c off) ns-nodes
+      both = subst (All (IsGalleyNode s.classes)) nodes-are ns-nodes
 
       both-served : AllByRecursion (λ n. IsServable s.classes n.kind) (c.page ++ c.waiting)
       both-served = nodes-served s.classes (c.page ++ c.waiting) both
-
-      both-sized : AllByRecursion IsSizedOnPage (c.page ++ c.waiting)
-      both-sized = recursion_from_All IsSizedOnPage (c.page ++ c.waiting) (nodes-sized s.classes (c.page ++ c.waiting) both)
 
       page-served : AllByRecursion (λ n. IsServable s.classes n.kind) c.page
       page-served = every-front (λ (n : PlainNode). IsServable s.classes n.kind) c.page c.waiting both-served
@@ -136,11 +125,9 @@ module _ (p : Params) (s : State) (runs : AreRunnable p) (classes : AreRunClasse
       waiting-served = every-back (λ (n : PlainNode). IsServable s.classes n.kind) c.page c.waiting both-served
 
       parts : FiredSized f
-      parts =
-          fired_sized c ask (All-from_recursion IsSizedOnPage c.page (every-front IsSizedOnPage c.page c.waiting both-sized)) (All-from_recursion IsSizedOnPage c.waiting (every-back IsSizedOnPage c.page c.waiting both-sized))
-          (subst (All IsSizedBox) (sym h.boxes) served.boxes)
+      parts = fired_of-sized ask s.classes s.boxes [] s.waiting sized-ask (All-nil IsSizedOnPage) (nodes-sized s.classes s.waiting served.nodes) served.boxes
 
-      is : f ≡ fired_of ask c.classes c.boxes last
+      is : f ≡ fired_of ask s.classes s.boxes last
       is = fired-is p s rs c t h off
 
       front-served : AllByRecursion (λ n. IsServable s.classes n.kind) (take k c.page)
@@ -156,11 +143,8 @@ module _ (p : Params) (s : State) (runs : AreRunnable p) (classes : AreRunClasse
       -- no more nodes than waited and were in boxes, and the top glue
       pub fired-few : fired_count f ≤ node_count s.waiting + 1 + box_count s.boxes
       fired-few =
-          let most = fired_fewer c ask (subst ClassesFit (sym h.classes) classes.fit) (subst (λ bs. AreBoxesOf c.classes bs) (sym h.boxes) (subst (λ cs. AreBoxesOf cs s.boxes) (sym h.classes) of)) in
-          let a = h.few in
-          let b = ap node_count (stopped-nodes p s c off) in
-          let d = ap box_count h.boxes in
-          omega (arith, most, a, b, d)
+          let most = fired_of-fewer ask s.classes s.boxes [] s.waiting sized-ask (All-nil IsSizedOnPage) (nodes-sized s.classes s.waiting served.nodes) classes.fit of in
+          omega (arith, most)
 
       left-fewer : notes_waiting (f.held ++ f.rest) ≤ notes_waiting ns
       left-fewer =
@@ -172,7 +156,7 @@ module _ (p : Params) (s : State) (runs : AreRunnable p) (classes : AreRunClasse
           let i = notes-append (drop k c.page) c.waiting in
           let j = notes-drop k c.page in
           let l = notes-append c.page c.waiting in
-          let m = ap notes_waiting (stopped-nodes p s c off) in
+          let m = ap notes_waiting nodes-are in
           omega (arith, a, b, d, e, g, i, j, l, m)
 
       pub fired-served : IsServedPage t f
@@ -181,10 +165,10 @@ module _ (p : Params) (s : State) (runs : AreRunnable p) (classes : AreRunClasse
           record {
             body = parts.body;
             text = subst (λ (g : Fired). AllByRecursion (λ n. IsTextKind n.kind) g.body) (sym is) (text-body s.classes (take k c.page) (no_acts-take k c.page quiet) front-served);
-            back = subst (λ cs. All (IsGalleyNode cs) f.held) e (nodes-both s.classes f.held parts.held (subst (λ (g : Fired). AllByRecursion (λ n. IsServable s.classes n.kind) g.held) (sym is) (held-known s.classes ls (known-labels s.classes (frozen_for ask c.classes c.boxes) (take k c.page) front-served))));
+            back = subst (λ cs. All (IsGalleyNode cs) f.held) e (nodes-both s.classes f.held parts.held (subst (λ (g : Fired). AllByRecursion (λ n. IsServable s.classes n.kind) g.held) (sym is) (held-known s.classes ls (known-labels s.classes (frozen_for ask s.classes s.boxes) (take k c.page) front-served))));
             rest = subst (λ cs. All (IsGalleyNode cs) f.rest) e (nodes-both s.classes f.rest parts.rest (subst (λ (g : Fired). AllByRecursion (λ n. IsServable s.classes n.kind) g.rest) (sym is) (served-spent s.classes (drop k c.page ++ c.waiting) rest-served)));
             boxes = parts.boxes;
-            boxes_of = subst (λ cs. AreBoxesOf cs f.boxes) e (subst (λ (g : Fired). AreBoxesOf s.classes g.boxes) (sym is) (boxes-after ls s.classes c.boxes (subst (AreBoxesOf s.classes) (sym h.boxes) of)));
+            boxes_of = subst (λ cs. AreBoxesOf cs f.boxes) e (subst (λ (g : Fired). AreBoxesOf s.classes g.boxes) (sym is) (boxes-after ls s.classes s.boxes of));
             held = h.served.held;
             entries = h.served.entries;
             notes = let a = h.served.notes in let b = left-fewer in omega (arith, a, b);

@@ -1,7 +1,6 @@
 -- The routine while a page is filled.
-use Rattle.std.proofs.Common.{◌≡◌, refl, sym, subst, ◌∙◌, ap, ℕ, ◌+◌, ◌<◌, ◌≤◌, Bool, true, false, List, [], ◌∷◌, ◌++◌, length, map, Some, append-nil, arith}
+use Rattle.std.proofs.Common.{◌≡◌, refl, sym, subst, ◌∙◌, ap, ℕ, ◌<◌, ◌≤◌, Bool, List, [], ◌∷◌, ◌++◌, length, map, Some, append-nil, arith}
 use Rattle.std.specs.List.{AllByRecursion}
-use Rattle.std.proofs.lemmas.Bool.{true≢false}
 use Rattle.tb_pool.specs.Lists.{Lists}
 use Rattle.tb_pool.specs.Frame.{IsNoneOf}
 use Rattle.tb_node.specs.declared.Act.{Act}
@@ -11,12 +10,13 @@ use Rattle.tb_builder.specs.declared.Ask.{Ask}
 use Rattle.tb_builder.specs.declared.Event.{Event}
 use Rattle.tb_builder.specs.declared.Event.TheVariants as events
 use Rattle.tb_builder.specs.declared.Try.{Try}
-use Rattle.tb_builder.specs.Reached.{Reached, Reach, acted}
+use Rattle.tb_builder.specs.Reached.{Reached, acted, tried}
 use Rattle.tb_builder.specs.Contents.{Contents, reach_ahead}
-use Rattle.tb_builder.specs.Next.{NextIs, NextFits}
+use Rattle.tb_builder.specs.Next.{NextFits}
+use Rattle.tb_builder.specs.Paging.{ComesToTry, ComesToAct, ComesTo, IsNextOfPage}
 use Rattle.tb_builder.specs.Owned.{ids_of, KeepsOthers}
 use Rattle.tb_builder.specs.Running.{IsSound}
-use Rattle.tb_break.specs.Best.{is_stop}
+use Rattle.tb_builder.proofs.Events.PagingLemmas.{calls_left, one_fewer}
 use Rattle.tb_column.specs.declared.Warn.{Warn}
 use Rattle.tb_column.specs.Column.{warned}
 use Rattle.tb_column.specs.Notes.{AreDistinct}
@@ -36,7 +36,7 @@ use Rattle.tb_run.specs.Turning.{held_in, state_of, with_events, IsConsistent, I
 use Rattle.tb_run.specs.Filling.{sent_happenings, HasDone, HasActed, HasNotActed, AreQuiet, IsFilledLast}
 use Rattle.tb_run.proofs.Turns.WholeLemmas.{built-shown, built-whole}
 use Rattle.tb_run.proofs.Turns.HappenedLemmas.{lists-append, events-append, noted-append, noted-warned, try-noted, try-lists, warned-events, warned-lists}
-use Rattle.tb_run.proofs.Filled.ComingLemmas.{IsComing, so_far, coming-start, after, tried-events, coming-tried, acted-sized, acted-events, coming-acted, step-full, step-over}
+use Rattle.tb_run.proofs.Filled.ComingLemmas.{IsComing, start, so_far, coming-start, after, tried-events, coming-tried, acted-sized, acted-events, coming-acted, step-full, step-over}
 use Rattle.tb_run.proofs.Filled.ComingPages.{coming-fits}
 
 -- ---- events that were taken
@@ -80,10 +80,6 @@ pub record IsUnderway (wanted : Bool) (r q : Routine) (hs : List Happening) : Ty
   pub most : q.most ≡ r.most
 
 -- calls of the builder that are left, at most
-abbrev pub calls_left : Bool → ℕ → ℕ
-calls_left true n = 0
-calls_left false n = n + 1
-
 abbrev pub left_of_page : Routine → Routine → ℕ
 left_of_page r q = calls_left (held_in q).stopped (length (reach_ahead (held_in q) (ask_of r.machine.params (state_of r))).reached)
 
@@ -137,9 +133,9 @@ module _ (wanted : Bool) (r q d : Routine) (hs : List Happening) (ready : IsRead
       let few : held_count s ≤ 4194304 = (let a = t.bounded.held in let b = t.bounded.few in omega (arith, a, b)) in
       subst (NextFits (held_in q)) (sym asked) (coming-fits p s t.params t.classes t.whole.machine.goal t.served few h.rs (held_in q) (state_now r q) h.coming)
 
-  module _ (e : Event) (event : NextIs q.builder.stopped e (held_in q) ask (held_in d) d.store) (sound : IsSound d.builder d.store) (keeps : KeepsOthers (ids_of q.builder) q.store (ids_of d.builder) d.store) (same : d.machine ≡ q.machine) (most : d.most ≡ q.most) where
-    pub next-is : (f : Event) → e ≡ f → NextIs (held_in q).stopped f (held_in q) (ask_of p s) (held_in d) d.store
-    next-is f is = subst (λ x. NextIs (held_in q).stopped f (held_in q) x (held_in d) d.store) asked (subst (λ x. NextIs (held_in q).stopped x (held_in q) ask (held_in d) d.store) is event)
+  module _ (e : Event) (page : IsNextOfPage e (held_in q) ask (held_in d) d.store) (sound : IsSound d.builder d.store) (keeps : KeepsOthers (ids_of q.builder) q.store (ids_of d.builder) d.store) (same : d.machine ≡ q.machine) (most : d.most ≡ q.most) where
+    pub next-is : (f : Event) → e ≡ f → ComesTo f (start p s) h.rs (held_in q) (ask_of p s) (held_in d) d.store
+    next-is f is = subst (λ x. IsNextOfPage f (held_in q) x (held_in d) d.store) asked (subst (λ x. IsNextOfPage x (held_in q) ask (held_in d) d.store) is page) (start p s) h.rs h.coming.come
 
     pub next-whole : IsConsistent d
     next-whole = built-whole q d h.whole keeps sound same
@@ -157,55 +153,34 @@ module _ (wanted : Bool) (r q d : Routine) (hs : List Happening) (ready : IsRead
     -- ---- a place was tried
 
     module _ (x : Try) (is : e ≡ events.Try x) where
-      going : (b : Bool) → (held_in q).stopped ≡ b → NextIs b (events.Try x) (held_in q) (ask_of p s) (held_in d) d.store → (held_in q).stopped ≡ false
-      going true off n = absurd n
-      going false off n = off
-
-      on : (held_in q).stopped ≡ false
-      on = going (held_in q).stopped refl (next-is (events.Try x) is)
+      tries : ComesToTry x (start p s) h.rs (held_in q) (ask_of p s) (held_in d)
+      tries = next-is (events.Try x) is
 
       abbrev more : List Reached
-      more = after p s h.rs (held_in q) (held_in d) (state_now r q) d.store h.coming on x (next-is (events.Try x) is)
+      more = after p s h.rs (held_in q) (held_in d) (state_now r q) h.coming x tries
 
       pub underway-tried : (new : List Happening) → new ≡ hs ++ noted_try wanted x → IsUnderway wanted r d new
       underway-tried new e = record {
         rs = more;
-        coming = subst (IsComing p s more (held_in d)) (sym next-state) (coming-tried p s h.rs (held_in q) (held_in d) (state_now r q) d.store h.coming on x (next-is (events.Try x) is));
-        quiet = subst (λ hs'. AreQuiet wanted hs' (so_far p s more).events) (sym e) (quiet-tried wanted hs (so_far p s h.rs).events h.quiet x (so_far p s more).events (tried-events p s h.rs (held_in q) (held_in d) (state_now r q) d.store h.coming on x (next-is (events.Try x) is)));
+        coming = subst (IsComing p s more (held_in d)) (sym next-state) (coming-tried p s h.rs (held_in q) (held_in d) (state_now r q) h.coming x tries);
+        quiet = subst (λ hs'. AreQuiet wanted hs' (so_far p s more).events) (sym e) (quiet-tried wanted hs (so_far p s h.rs).events h.quiet x (so_far p s more).events (tried-events p s h.rs (held_in q) (held_in d) (state_now r q) h.coming x tries));
         whole = next-whole;
         taken = next-taken;
         params = next-params;
         most = most ∙ h.most;
       }
 
-      fewer-by : (b : Bool) → b ≡ false → NextIs b (events.Try x) (held_in q) (ask_of p s) (held_in d) d.store → left_of_page r d < calls_left b (length (reach_ahead (held_in q) (ask_of p s)).reached)
-      fewer-by true off n = absurd (true≢false off)
-      fewer-by false off n = by_stop (is_stop n.0.place) refl
-        where
-          by_stop : (t : Bool) → is_stop n.0.place ≡ t → left_of_page r d < length (reach_ahead (held_in q) (ask_of p s)).reached + 1
-          by_stop false e =
-              let g = n.0.goes e in
-              let k = ap (λ (w : Reach). length w.reached) g.reach in
-              subst (λ b. calls_left b (length (reach_ahead (held_in d) (ask_of p s)).reached) < length (reach_ahead (held_in q) (ask_of p s)).reached + 1) (sym g.stopped) (omega (arith, k))
-          by_stop true e =
-              let g = n.0.stops e in
-              subst (λ b. calls_left b (length (reach_ahead (held_in d) (ask_of p s)).reached) < length (reach_ahead (held_in q) (ask_of p s)).reached + 1) (sym g.stopped) (omega arith)
-
       pub fewer-tried : left_of_page r d < left_of_page r q
-      fewer-tried = fewer-by (held_in q).stopped on (next-is (events.Try x) is)
+      fewer-tried = one_fewer (start p s) h.rs (tried tries.line tries.place) (held_in q) (held_in d) (ask_of p s) h.coming.come tries.going tries.come
 
     -- ---- an act was reached
 
     module _ (a : Act) (is : e ≡ events.Act a) where
-      going-act : (b : Bool) → (held_in q).stopped ≡ b → NextIs b (events.Act a) (held_in q) (ask_of p s) (held_in d) d.store → (held_in q).stopped ≡ false
-      going-act true off n = absurd n
-      going-act false off n = off
-
-      on-act : (held_in q).stopped ≡ false
-      on-act = going-act (held_in q).stopped refl (next-is (events.Act a) is)
+      acts : ComesToAct a (start p s) h.rs (held_in q) (ask_of p s) (held_in d)
+      acts = next-is (events.Act a) is
 
       pub act-fits : IsSizedAct a
-      act-fits = acted-sized p s h.rs (held_in q) (held_in d) (state_now r q) d.store h.coming on-act a (next-is (events.Act a) is)
+      act-fits = acted-sized p s h.rs (held_in q) (held_in d) (state_now r q) h.coming a acts
 
       of-act : act_on d.machine.params (state_now r d) a ≡ act_on p (state_now r q) a
       of-act = λ i. act_on (next-params i) (next-state i) a
@@ -218,14 +193,13 @@ module _ (wanted : Bool) (r q d : Routine) (hs : List Happening) (ready : IsRead
         by-act : (o : Acted) → act_on p (state_now r q) a ≡ o → HasDone s.boxes s.waiting d now o → (new : List Happening) → new ≡ hs ++ sent_happenings now.machine.events → IsUnderway wanted r (with_events [] now) new
         by-act (full line live) e o new is_new = absurd o
         by-act (went u ws qs) e o new is_new =
-            let step_on = next-is (events.Act a) is in
             let taken : now.machine.events ≡ warnings_sent ws = (o.1 ∙ ap (λ xs. xs ++ warnings_sent ws) next-taken) in
             record {
               rs = h.rs ++ acted a ∷ [];
               coming = subst (λ c. IsComing p s (h.rs ++ acted a ∷ []) c (state_now r now)) (sym hold)
-                  (subst (IsComing p s (h.rs ++ acted a ∷ []) (held_in d)) (sym o.0) (coming-acted p s h.rs (held_in q) (held_in d) (state_now r q) d.store h.coming on-act a step_on u ws qs e ready.settled.params));
+                  (subst (IsComing p s (h.rs ++ acted a ∷ []) (held_in d)) (sym o.0) (coming-acted p s h.rs (held_in q) (held_in d) (state_now r q) h.coming a acts u ws qs e ready.settled.params));
               quiet = subst (λ hs'. AreQuiet wanted hs' (so_far p s (h.rs ++ acted a ∷ [])).events) (sym (is_new ∙ ap (λ xs. hs ++ sent_happenings xs) taken))
-                  (quiet-warned wanted hs (so_far p s h.rs).events h.quiet ws (so_far p s (h.rs ++ acted a ∷ [])).events (acted-events p s h.rs (held_in q) (held_in d) (state_now r q) d.store h.coming on-act a step_on u ws qs e ready.settled.params));
+                  (quiet-warned wanted hs (so_far p s h.rs).events h.quiet ws (so_far p s (h.rs ++ acted a ∷ [])).events (acted-events p s h.rs (held_in q) (held_in d) (state_now r q) h.coming a acts u ws qs e ready.settled.params));
               whole = taken-whole now acted_so.whole;
               taken = refl;
               params = acted_so.params ∙ next-params;
@@ -235,20 +209,15 @@ module _ (wanted : Bool) (r q d : Routine) (hs : List Happening) (ready : IsRead
         pub underway-acted : (new : List Happening) → new ≡ hs ++ sent_happenings now.machine.events → IsUnderway wanted r (with_events [] now) new
         underway-acted new e = by-act (act_on p (state_now r q) a) refl (subst (HasDone s.boxes s.waiting d now) of-act (acted_so.acted s.boxes s.waiting)) new e
 
-        act-fewer-by : (b : Bool) → b ≡ false → NextIs b (events.Act a) (held_in q) (ask_of p s) (held_in d) d.store → left_of_page r d < calls_left b (length (reach_ahead (held_in q) (ask_of p s)).reached)
-        act-fewer-by true off n = absurd (true≢false off)
-        act-fewer-by false off n =
-            let k = ap (λ (w : Reach). length w.reached) n.0.reach in
-            subst (λ b. calls_left b (length (reach_ahead (held_in d) (ask_of p s)).reached) < length (reach_ahead (held_in q) (ask_of p s)).reached + 1) (sym n.0.stopped) (omega (arith, k))
-
         pub fewer-acted : left_of_page r (with_events [] now) < left_of_page r q
-        fewer-acted = subst (λ (c : Contents). calls_left c.stopped (length (reach_ahead c (ask_of p s)).reached) < left_of_page r q) (sym hold) (act-fewer-by (held_in q).stopped on-act (next-is (events.Act a) is))
+        fewer-acted =
+            subst (λ (c : Contents). calls_left c.stopped (length (reach_ahead c (ask_of p s)).reached) < left_of_page r q) (sym hold) (one_fewer (start p s) h.rs (acted a) (held_in q) (held_in d) (ask_of p s) h.coming.come acts.going acts.come)
 
       -- the pool was full
       pub filled-full : (now : Routine) (live : ℕ) → HasNotActed a live d now → IsFilledLast wanted r (endings.PoolFull (line_of a) live) now hs
       filled-full now live k =
           let e = sym of-act ∙ k.full_pool s.boxes s.waiting in
-          let is_step = step-full p s h.rs (held_in q) (held_in d) (state_now r q) d.store h.coming on-act a (next-is (events.Act a) is) (line_of a) live e in
+          let is_step = step-full p s h.rs (held_in q) (held_in d) (state_now r q) h.coming a acts (line_of a) live e in
           record {
             quiet = subst (λ st. AreQuiet wanted hs (step_events st)) (sym is_step) h.quiet;
             ended = subst (EndsAs now (Some (endings.PoolFull (line_of a) live))) (sym is_step) refl;
@@ -260,14 +229,10 @@ module _ (wanted : Bool) (r q d : Routine) (hs : List Happening) (ready : IsRead
 
     pub filled-over : e ≡ events.Empty → IsFilledLast wanted r endings.Done d hs
     filled-over is =
-        let is_step = step-over p s h.rs (held_in q) (held_in d) (state_now r q) d.store h.coming (going-over (held_in q).stopped refl (next-is events.Empty is)) (next-is events.Empty is) in
+        let is_step = step-over p s h.rs (held_in q) (held_in d) (state_now r q) h.coming (next-is events.Empty is) in
         record {
           quiet = subst (λ st. AreQuiet wanted hs (step_events st)) (sym is_step) h.quiet;
           ended = subst (EndsAs d (Some endings.Done)) (sym is_step) refl;
           whole = next-whole;
           params = next-params;
         }
-      where
-        going-over : (b : Bool) → (held_in q).stopped ≡ b → NextIs b events.Empty (held_in q) (ask_of p s) (held_in d) d.store → (held_in q).stopped ≡ false
-        going-over true off n = absurd n
-        going-over false off n = off

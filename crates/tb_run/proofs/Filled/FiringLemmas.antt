@@ -21,7 +21,8 @@ use Rattle.tb_builder.specs.Contents.{Contents, contents_of, node_count, box_cou
 use Rattle.tb_builder.specs.Kept.{fired_count, AreBoxesOf}
 use Rattle.tb_pool.specs.Frame.{IsNoneOf}
 use Rattle.tb_builder.specs.Handed.{NoPage}
-use Rattle.tb_builder.specs.Next.{NextIs, IsGivenOut, FiredIs, fired_page}
+use Rattle.tb_builder.specs.Next.{IsGivenOut}
+use Rattle.tb_builder.specs.Paging.{page_fired, ComesToPage, IsNextOfPage}
 use Rattle.tb_builder.specs.Owned.{ids_of, KeepsOthers}
 use Rattle.tb_builder.specs.Pageable.{IsSizedBox}
 use Rattle.tb_builder.specs.Places.{NoActs}
@@ -43,7 +44,7 @@ use Rattle.tb_run.specs.Turning.{held_in, state_of, IsConsistent, IsBetweenFirin
 use Rattle.tb_run.specs.Filling.{firing_step, IsBoundedPage, IsFiring}
 use Rattle.tb_run.proofs.ServedAgain.ServedFirings.{reach_where}
 use Rattle.tb_run.proofs.Turns.CountedLemmas.{leaves-count}
-use Rattle.tb_run.proofs.Filled.ComingLemmas.{so_far, step-fires}
+use Rattle.tb_run.proofs.Filled.ComingLemmas.{start, so_far, step-fires}
 use Rattle.tb_run.proofs.Filled.ComingPages.{fired-mild, fired-few, fired-served}
 use Rattle.tb_run.proofs.Filled.FillingLemmas.{state_now, IsUnderway, next-is, next-whole, next-state, next-params, next-taken}
 
@@ -88,7 +89,7 @@ page-same : (store : Lists Node) (bs cs : List Boxed) (ns ms : List PlainNode) (
 page-same store bs cs ns ms m f h = record { body = h.body; text = h.text; back = h.back; rest = h.rest; boxes = h.boxes; boxes_of = h.boxes_of; held = h.held; entries = h.entries; notes = h.notes; bottom = h.bottom }
 
 module _ (wanted : Bool) (r q d : Routine) (hs : List Happening) (ready : IsReady r) (h : IsUnderway wanted r q hs) (ask : Ask) (asked : ask ≡ ask_of r.machine.params (state_of r))
-    (e : Event) (event : NextIs q.builder.stopped e (held_in q) ask (held_in d) d.store) (sound : IsSound d.builder d.store) (keeps : KeepsOthers (ids_of q.builder) q.store (ids_of d.builder) d.store) (same : d.machine ≡ q.machine) (most : d.most ≡ q.most)
+    (e : Event) (of_page : IsNextOfPage e (held_in q) ask (held_in d) d.store) (sound : IsSound d.builder d.store) (keeps : KeepsOthers (ids_of q.builder) q.store (ids_of d.builder) d.store) (same : d.machine ≡ q.machine) (most : d.most ≡ q.most)
     (page : Page) (is : e ≡ events.Fired page) (given : IsGivenOut e q.store (ids_of d.builder) d.store) where
   abbrev p : Params
   p = r.machine.params
@@ -96,15 +97,11 @@ module _ (wanted : Bool) (r q d : Routine) (hs : List Happening) (ready : IsRead
   abbrev s : State
   s = state_of r
 
-  at-stop : (b : Bool) → (held_in q).stopped ≡ b → NextIs b (events.Fired page) (held_in q) (ask_of p s) (held_in d) d.store → ((held_in q).stopped ≡ true) × FiredIs page (held_in q) (ask_of p s) (held_in d) d.store
-  at-stop true off n = (off, n)
-  at-stop false off n = absurd n.0
-
-  fires : ((held_in q).stopped ≡ true) × FiredIs page (held_in q) (ask_of p s) (held_in d) d.store
-  fires = at-stop (held_in q).stopped refl (next-is wanted r q d hs ready h ask asked e event sound keeps same most (events.Fired page) is)
+  fires : ComesToPage page (start p s) (held_in q) (ask_of p s) (held_in d) d.store
+  fires = next-is wanted r q d hs ready h ask asked e of_page sound keeps same most (events.Fired page) is
 
   abbrev f : Fired
-  f = fired_page (held_in q) (ask_of p s)
+  f = page_fired (start p s) (ask_of p s)
 
   left : IsGivenOut (events.Fired page) q.store (ids_of d.builder) d.store
   left = subst (λ x. IsGivenOut x q.store (ids_of d.builder) d.store) is given
@@ -113,10 +110,10 @@ module _ (wanted : Bool) (r q d : Routine) (hs : List Happening) (ready : IsRead
   few = let a = ready.settled.bounded.held in let b = ready.settled.bounded.few in omega (arith, a, b)
 
   whole : IsConsistent d
-  whole = next-whole wanted r q d hs ready h ask asked e event sound keeps same most
+  whole = next-whole wanted r q d hs ready h ask asked e of_page sound keeps same most
 
   t-now : state_now r d ≡ state_now r q
-  t-now = next-state wanted r q d hs ready h ask asked e event sound keeps same most
+  t-now = next-state wanted r q d hs ready h ask asked e of_page sound keeps same most
 
   of-boxes : AreBoxesOf s.classes s.boxes
   of-boxes = subst (λ (c : Contents). AreBoxesOf c.classes s.boxes) ready.settled.between (boxes_of r.store r.builder.boxes.items)
@@ -124,28 +121,28 @@ module _ (wanted : Bool) (r q d : Routine) (hs : List Happening) (ready : IsRead
   -- the page in the store
   fired-same : fired_in d.builder d.store page ≡ f
   fired-same = λ i. record {
-    body = fires.1.page.body i;
-    boxes = (fires.1.after i).boxes;
-    held = (fires.1.after i).held;
-    rest = (fires.1.after i).waiting;
-    penalty = fires.1.page.penalty i;
-    cost = fires.1.page.cost i;
-    size = fires.1.page.size i;
-    line = fires.1.page.line i;
+    body = fires.page.body i;
+    boxes = (fires.after i).boxes;
+    held = (fires.after i).held;
+    rest = (fires.after i).waiting;
+    penalty = fires.page.penalty i;
+    cost = fires.page.cost i;
+    size = fires.page.size i;
+    line = fires.page.line i;
   }
 
   abbrev set : IsBetweenFirings r
   set = ready.settled
 
   served : IsServedPage (state_now r q) f
-  served = fired-served p s set.params set.classes set.whole.machine.goal set.served few h.rs (held_in q) (state_now r q) h.coming fires.0 (page-quiet q.builder q.store h.whole.builder fires.0) of-boxes
+  served = fired-served p s set.params set.classes set.whole.machine.goal set.served few h.rs (held_in q) (state_now r q) h.coming fires.stopped (page-quiet q.builder q.store h.whole.builder fires.stopped) of-boxes
 
   served-now : IsServedPage (state_of d) (fired_in d.builder d.store page)
   served-now = page-same d.store s.boxes (held_in d).boxes s.waiting (held_in d).waiting d.machine (fired_in d.builder d.store page)
       (subst (IsServedPage (state_now r d)) (sym fired-same) (subst (λ t. IsServedPage t f) (sym t-now) served))
 
   counted : fired_count f ≤ node_count s.waiting + 1 + box_count s.boxes
-  counted = fired-few p s set.params set.classes set.whole.machine.goal set.served few h.rs (held_in q) (state_now r q) h.coming fires.0 (page-quiet q.builder q.store h.whole.builder fires.0) of-boxes
+  counted = fired-few p s set.params set.classes set.whole.machine.goal set.served few h.rs (held_in q) (state_now r q) h.coming fires.stopped (page-quiet q.builder q.store h.whole.builder fires.stopped) of-boxes
 
   held-same : node_count (state_of d).held_page ≡ node_count s.held_page
   held-same = ap (λ (t : State). node_count t.held_page) t-now ∙ ap node_count h.coming.keeps.held
@@ -166,16 +163,16 @@ module _ (wanted : Bool) (r q d : Routine) (hs : List Happening) (ready : IsRead
   }
 
   body-count : length (list_at d.store page.body) ≤ node_count f.body
-  body-count = let a = list-length d.store page.body in let b = ap node_count fires.1.page.body in omega (arith, a, b)
+  body-count = let a = list-length d.store page.body in let b = ap node_count fires.page.body in omega (arith, a, b)
 
   can-fire : CanFire d.machine d.builder d.store page
   can-fire = record {
-    awaits = subst NoPage (sym fires.1.after) (record { page = refl; frozen = refl });
-    classes = ap (λ (c : Contents). c.classes) fires.1.after ∙ h.coming.classes ∙ sym classes-now;
-    penalty = subst (λ z. hold_penalty ≤ℤ z) (sym fires.1.page.penalty) (fired-mild p s set.params set.classes set.whole.machine.goal set.served few h.rs (held_in q) (state_now r q) h.coming fires.0 (page-quiet q.builder q.store h.whole.builder fires.0) of-boxes);
+    awaits = subst NoPage (sym fires.after) (record { page = refl; frozen = refl });
+    classes = ap (λ (c : Contents). c.classes) fires.after ∙ h.coming.come.stays.classes ∙ sym classes-now;
+    penalty = subst (λ z. hold_penalty ≤ℤ z) (sym fires.page.penalty) (fired-mild p s set.params set.classes set.whole.machine.goal set.served few h.rs (held_in q) (state_now r q) h.coming fires.stopped (page-quiet q.builder q.store h.whole.builder fires.stopped) of-boxes);
     note_bottom = reach-within (notes_left ((fired_in d.builder d.store page).held ++ (fired_in d.builder d.store page).rest) (state_of d)) d.machine.note_bottom served-now.bottom;
     body = record {
-      live = fires.1.page.live;
+      live = fires.page.live;
       leaves = text-leaves (list_at d.store) (list_at d.store page.body) served-now.text;
       sized = list-back d.store page.body served-now.body;
       few = let a = body-count in let b = counted in omega (arith, a, b, few);
@@ -186,7 +183,7 @@ module _ (wanted : Bool) (r q d : Routine) (hs : List Happening) (ready : IsRead
         let b = counted in
         let c = leaves-count (list_at d.store) (list_at d.store d.machine.held_page) whole.machine.held_page.leaves in
         let g = held-same in
-        let i = ap box_count (ap (λ (x : Contents). x.boxes) fires.1.after) in
+        let i = ap box_count (ap (λ (x : Contents). x.boxes) fires.after) in
         omega (arith, a, b, c, g, i, few);
     body_apart = subst (λ (m : MachineView). IsNoneOf page.body (machine_lists m)) (sym same) (fresh-none q.store page.body (machine_lists q.machine) left.0 (machine-live q.machine q.store h.whole.machine));
     body_free = lacks-none page.body (builder_lists d.builder d.store) left.2;
@@ -199,13 +196,13 @@ module _ (wanted : Bool) (r q d : Routine) (hs : List Happening) (ready : IsRead
     records = (so_far p s h.rs).records;
     quiet = h.quiet;
     step_is =
-        step-fires p s h.rs (held_in q) (state_now r q) h.coming fires.0
+        step-fires p s h.rs (held_in q) (state_now r q) h.coming fires.stopped
         ∙ (λ i. firing_step p (so_far p s h.rs).events (so_far p s h.rs).records (sym t-now i) (sym fired-same i))
         ∙ firing-same p (so_far p s h.rs).events (so_far p s h.rs).records d.store s.boxes (held_in d).boxes s.waiting (held_in d).waiting d.machine (fired_in d.builder d.store page);
     whole = whole;
     can = can-fire;
-    taken = next-taken wanted r q d hs ready h ask asked e event sound keeps same most;
-    params = next-params wanted r q d hs ready h ask asked e event sound keeps same most;
+    taken = next-taken wanted r q d hs ready h ask asked e of_page sound keeps same most;
+    params = next-params wanted r q d hs ready h ask asked e of_page sound keeps same most;
     classes = classes-now;
     known = subst AreRunClasses (sym classes-now) set.classes;
     served = served-now;

@@ -39,8 +39,8 @@ module _ (wanted : Bool) (r d : Routine) (hs : List Happening) (ready : IsReady 
   walk [] q h unwanted n same most = record { before = q; underway = h; next = n; machine = same; most = most; left = (omega arith) }
   walk (p ∷ ps) q h unwanted n same most =
       let x : Routine = record { store = p.store; builder = p.builder; machine = q.machine; most = q.most } in
-      let u : IsUnderway wanted r x hs = underway-tried wanted r q x hs ready h ask asked (events.Try p.place) n.0.event n.0.sound n.0.keeps refl refl p.place refl hs (none-noted wanted unwanted p.place) in
-      let f : left_of_page r x < left_of_page r q = fewer-tried wanted r q x hs ready h ask asked (events.Try p.place) n.0.event n.0.sound n.0.keeps refl refl p.place refl in
+      let u : IsUnderway wanted r x hs = underway-tried wanted r q x hs ready h ask asked (events.Try p.place) n.0.page n.0.sound n.0.keeps refl refl p.place refl hs (none-noted wanted unwanted p.place) in
+      let f : left_of_page r x < left_of_page r q = fewer-tried wanted r q x hs ready h ask asked (events.Try p.place) n.0.page n.0.sound n.0.keeps refl refl p.place refl in
       let l : IsLastCall wanted r ask e d hs (left_of_page r x) = walk ps x u unwanted n.1 same most in
       let k = l.left in
       record { before = l.before; underway = l.underway; next = l.next; machine = l.machine; most = l.most; left = (omega (arith, f, k)) }
@@ -54,36 +54,36 @@ module _ (wanted : Bool) (r d : Routine) (hs : List Happening) (ready : IsReady 
     l = by-wanted wanted refl
 
     pub come-whole : IsConsistent d
-    come-whole = next-whole wanted r l.before d hs ready l.underway ask asked e l.next.event l.next.sound l.next.keeps l.machine l.most
+    come-whole = next-whole wanted r l.before d hs ready l.underway ask asked e l.next.page l.next.sound l.next.keeps l.machine l.most
 
     pub come-tried : (x : Try) → e ≡ events.Try x → (new : List Happening) → new ≡ hs ++ noted_try wanted x → IsUnderway wanted r d new
-    come-tried x is = underway-tried wanted r l.before d hs ready l.underway ask asked e l.next.event l.next.sound l.next.keeps l.machine l.most x is
+    come-tried x is = underway-tried wanted r l.before d hs ready l.underway ask asked e l.next.page l.next.sound l.next.keeps l.machine l.most x is
 
     pub come-fewer : (x : Try) → e ≡ events.Try x → left_of_page r d < left_of_page r q
     come-fewer x is =
-        let f = fewer-tried wanted r l.before d hs ready l.underway ask asked e l.next.event l.next.sound l.next.keeps l.machine l.most x is in
+        let f = fewer-tried wanted r l.before d hs ready l.underway ask asked e l.next.page l.next.sound l.next.keeps l.machine l.most x is in
         let k = l.left in
         omega (arith, f, k)
 
     -- an act was reached
     module _ (a : Act) (is : e ≡ events.Act a) where
       pub come-sized : IsSizedAct a
-      come-sized = act-fits wanted r l.before d hs ready l.underway ask asked e l.next.event l.next.sound l.next.keeps l.machine l.most a is
+      come-sized = act-fits wanted r l.before d hs ready l.underway ask asked e l.next.page l.next.sound l.next.keeps l.machine l.most a is
 
       pub come-acted : (now : Routine) → HasActed a d now → (new : List Happening) → new ≡ hs ++ sent_happenings now.machine.events → IsUnderway wanted r (with_events [] now) new
-      come-acted now acted = underway-acted wanted r l.before d hs ready l.underway ask asked e l.next.event l.next.sound l.next.keeps l.machine l.most a is now acted
+      come-acted now acted = underway-acted wanted r l.before d hs ready l.underway ask asked e l.next.page l.next.sound l.next.keeps l.machine l.most a is now acted
 
       pub come-fewer-acted : (now : Routine) → HasActed a d now → left_of_page r (with_events [] now) < left_of_page r q
       come-fewer-acted now acted =
-          let f = fewer-acted wanted r l.before d hs ready l.underway ask asked e l.next.event l.next.sound l.next.keeps l.machine l.most a is now acted in
+          let f = fewer-acted wanted r l.before d hs ready l.underway ask asked e l.next.page l.next.sound l.next.keeps l.machine l.most a is now acted in
           let k = l.left in
           omega (arith, f, k)
 
       pub come-full : (now : Routine) (live : ℕ) → HasNotActed a live d now → IsFilledLast wanted r (endings.PoolFull (line_of a) live) now hs
-      come-full now live k = filled-full wanted r l.before d hs ready l.underway ask asked e l.next.event l.next.sound l.next.keeps l.machine l.most a is now live k
+      come-full now live k = filled-full wanted r l.before d hs ready l.underway ask asked e l.next.page l.next.sound l.next.keeps l.machine l.most a is now live k
 
     pub come-over : e ≡ events.Empty → IsFilledLast wanted r endings.Done d hs
-    come-over is = filled-over wanted r l.before d hs ready l.underway ask asked e l.next.event l.next.sound l.next.keeps l.machine l.most is
+    come-over is = filled-over wanted r l.before d hs ready l.underway ask asked e l.next.page l.next.sound l.next.keeps l.machine l.most is
 
     pub come-fires : (page : Page) → e ≡ events.Fired page → IsFiring wanted r page d hs
-    come-fires page is = filled-fires wanted r l.before d hs ready l.underway ask asked e l.next.event l.next.sound l.next.keeps l.machine l.most page is l.next.body
+    come-fires page is = filled-fires wanted r l.before d hs ready l.underway ask asked e l.next.page l.next.sound l.next.keeps l.machine l.most page is l.next.body

@@ -6,6 +6,7 @@ use Rattle.tb_builder.specs.Past.{EventPast}
 use Rattle.tb_builder.specs.Running.{IsSound}
 use Rattle.tb_builder.specs.declared.Event.TheVariants as events
 use Rattle.tb_builder.proofs.Events.NextLemmas.{fired_keeps}
+use Rattle.tb_builder.proofs.Events.PagingLemmas.{paging_next}
 use Rattle.tb_builder.proofs.Ownership.SpareLemmas.{contents_still, sound_still, fits_still, keeps_filled}
 use Rattle.tb_builder.proofs.Builder.next.Goals as goal
 
@@ -17,6 +18,9 @@ returns-in_err-page-clause-sound c =
 pub returns-then-self-clause-event : goal.returns-then-self-clause-event
 returns-then-self-clause-event c =
     subst (λ s. NextIs s (events.Fired c.in_ok-page.page) (contents_of c.args.self.now c.args.store.now) c.args.ask.now (contents_of c.fire.new.self c.fire.new.store) c.fire.new.store) (sym c.if-self.true) (c.in_ok-page.ensures.fires.fired c.args.ask.now)
+
+pub returns-then-self-clause-page : goal.returns-then-self-clause-page
+returns-then-self-clause-page c = paging_next (events.Fired c.in_ok-page.page) (contents_of c.args.self.now c.args.store.now) (contents_of c.fire.new.self c.fire.new.store) c.args.ask.now c.fire.new.store (returns-then-self-clause-event c)
 
 pub returns-then-self-clause-keeps : goal.returns-then-self-clause-keeps
 returns-then-self-clause-keeps c = fired_keeps c.args.self.now c.fire.new.self c.args.store.now c.fire.new.store c.in_ok-page.page c.in_ok-page.ensures.fires
@@ -38,8 +42,11 @@ returns-clause-event c =
     subst (λ s. NextIs s e (contents_of c.args.self.now c.args.store.now) ask d c.fill.new.store) (sym c.if-self.false)
     (subst (λ (b : Contents). FirstIs e (laid b ask) (reach_ahead b ask) (places_of b ask) ask d × KeepsBoxes b d ask) (contents_still c.args.store.now c.make_room.new.store c.make_room.ensures.lists c.args.self.now) (c.fill.ensures.first, c.fill.ensures.stays))
 
+pub returns-clause-page : goal.returns-clause-page
+returns-clause-page c = paging_next c.fill.result (contents_of c.args.self.now c.args.store.now) (contents_of c.fill.new.self c.fill.new.store) c.args.ask.now c.fill.new.store (returns-clause-event c)
+
 pub returns-clause-keeps : goal.returns-clause-keeps
-returns-clause-keeps c = keeps_filled c.args.store.now c.make_room.new.store c.make_room.ensures.lists c.args.self.now c.fill.new.self c.fill.new.store c.fill.ensures.others c.fill.ensures.keeps
+returns-clause-keeps c = keeps_filled c.args.store.now c.make_room.new.store c.make_room.ensures.lists c.args.self.now c.fill.new.self c.fill.new.store c.fill.ensures.frame.others c.fill.ensures.frame.apart
 
 pub returns-then-self-clause-past : goal.returns-then-self-clause-past
 returns-then-self-clause-past c = λ on. tt

@@ -76,6 +76,6 @@ returns c =
     opening_goes c.args.self.now c.freeze.new.self c.reach-event.new.self c.args.store.now c.push_front.new.self c.reach-event.new.store c.args.ask.now c.args.n.now c.top_node-glue.result (waits w).0 c.reach-event.result (glue_waits w) (c.freeze.ensures.stopped ∙ c.requires.on) (c.freeze.ensures.opened ∙ c.requires.closed)
     c.reach-event.ensures.moves c.reach-event.ensures.step c.reach-event.ensures.opened c.reach-event.ensures.frozen
     c.requires.fits c.requires.boxed c.if-self.false behind
-    d c.put.new.store (record { own = c.put.ensures.moves.own; others = c.put.ensures.moves.others; keeps = c.put.ensures.moves.keeps; classes = c.put.ensures.moves.classes; boxes = c.put.ensures.moves.boxes; held = c.put.ensures.moves.held })
+    d c.put.new.store (record { own = c.put.ensures.moves.own; frame = c.put.ensures.moves.frame; classes = c.put.ensures.moves.classes; boxes = c.put.ensures.moves.boxes; held = c.put.ensures.moves.held })
     (record { waiting = c.put.ensures.shifted.waiting; page = c.put.ensures.shifted.page; frozen = c.put.ensures.shifted.frozen; stopped = c.put.ensures.shifted.stopped }) refl
     c.put.ensures.course (waits w).1 (c.put.ensures.behind (waits w).0 behind)
