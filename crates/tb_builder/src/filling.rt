@@ -26,7 +26,7 @@ ghost use Rattle.tb_builder.specs.declared.Seen.TheVariants.{Space};
 ghost use Rattle.tb_builder.specs.Turn.{ChangesPage, Shifted, StepIs, StepFits, event_of, TurnIs, Filled};
 
 use crate::measuring::list_size;
-use crate::moving::{drop_first, is_walked, penalty_of, seen_in};
+use crate::moving::{drop_first, glue_in, is_walked, penalty_of, seen_in};
 use crate::splitting::move_front;
 use crate::trying::stops;
 use crate::{Ask, Builder, Event, Seen};
@@ -34,7 +34,6 @@ use std::alloc::AllocError;
 use tb_break::{is_box, is_lasting, place_penalty, top_node};
 use tb_node::{Insertion, Node, Role};
 use tb_pool::Lists;
-use tb_scaled::Glue;
 
 impl Builder {
     /// The next event: the next legal place or act among the waiting nodes. The nodes before it are on the page then.
@@ -161,7 +160,7 @@ impl Builder {
                 self.course.put_box(height, depth);
                 true
             }
-            Seen::Space(g) => self.passes_glue(store, ask, n, g, before, passed),
+            Seen::Space => self.passes_glue(store, ask, n, before, passed),
             Seen::Other => self.passes_other(store, ask, n, before, passed),
         }
     }
@@ -173,7 +172,6 @@ impl Builder {
         store: &Lists<Node>,
         ask: &Ask,
         n: &Node,
-        g: Glue,
         before: usize,
         passed: usize,
     ) -> bool
@@ -183,7 +181,7 @@ impl Builder {
         requires fits { NextFits (contents_of self.old (moved (ids_of self.old) store.now passed)) ask.now }
         requires first { drop passed (list_at store.now self.old.waiting) ≡ n.now ∷ drop (passed + 1) (list_at store.now self.old.waiting) }
         requires before { before ≡ length (list_at store.now self.old.page) }
-        requires glue { seen_of n.now.kind ≡ Space g }
+        requires glue { seen_of n.now.kind ≡ Space }
         ensures goes { result ≡ true → LeadsOn self.old (moved (ids_of self.old) store.now passed) ask.now self.new (moved (ids_of self.old) store.now (passed + 1)) }
         ensures on { result ≡ true → self.new.stopped ≡ false }
         ensures ends { result ≡ false → LeadsOn self.old (moved (ids_of self.old) store.now passed) ask.now self.new (moved (ids_of self.old) store.now passed) }
@@ -191,7 +189,7 @@ impl Builder {
         ensures ids { ids_of self.new ≡ ids_of self.old }
     {
         if !self.course.lasting {
-            self.course.put_glue(g);
+            self.course.put_glue(glue_in(n));
             return true;
         }
         let Some(index) = before.checked_add(passed) else {
@@ -202,7 +200,7 @@ impl Builder {
             self.stopped = true;
             return false;
         }
-        self.course.put_glue(g);
+        self.course.put_glue(glue_in(n));
         true
     }
 

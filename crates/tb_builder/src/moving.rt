@@ -8,6 +8,8 @@ ghost use Rattle.tb_node.specs.Small.{IsAmount, IsSmallShape};
 ghost use Rattle.tb_node.specs.Roles.{act_of_kind, insertion_of_kind};
 ghost use Rattle.tb_break.specs.Finding.{penalty_by};
 ghost use Rattle.tb_builder.specs.Running.{is_act, nodes_glue_first};
+ghost use Rattle.tb_node.specs.Shape.{glue};
+ghost use Rattle.tb_builder.specs.declared.Seen.TheVariants.{Space};
 ghost use Rattle.tb_builder.specs.Walked.{seen_of};
 ghost use Rattle.tb_builder.specs.Firing.{is_insertion, NoInsertions, InsertionAt};
 
@@ -15,6 +17,7 @@ use crate::Seen;
 use tb_break::{is_glue, place_penalty};
 use tb_node::{Kind, Node};
 use tb_pool::{Iter, ListId, Lists};
+use tb_scaled::Glue;
 
 // Whether a node is an act.
 fn is_act(n: &Node) -> bool
@@ -63,8 +66,8 @@ pub fn seen_in(n: &Node) -> Seen
 {
     match n.kind {
         Kind::Hbox { height, depth, .. } => Seen::Solid { height, depth },
-        Kind::Rule { height, depth, .. } => Seen::Solid { height, depth },
-        Kind::Skip(g) => Seen::Space(g),
+        Kind::Rule { .. } => Seen::Other,
+        Kind::Skip(_) => Seen::Space,
         Kind::Kern(_) => Seen::Other,
         Kind::Pen(_) => Seen::Other,
         Kind::Mark(_) => Seen::Other,
@@ -72,6 +75,18 @@ pub fn seen_in(n: &Node) -> Seen
         Kind::Whatsit => Seen::Other,
         Kind::Ins(_) => Seen::Other,
         Kind::Act(_) => Seen::Other,
+    }
+}
+
+/// The glue that a node is. A walk reads it only once its place was tried.
+#[inline(always)]
+pub fn glue_in(n: &Node) -> Glue
+    requires { seen_of n.now.kind ≡ Space }
+    ensures { shape_of n.now ≡ glue result }
+{
+    match n.kind {
+        Kind::Skip(g) => g,
+        _ => unreachable!(),
     }
 }
 

@@ -240,7 +240,7 @@ page_length b s k n ms sound next =
 
 -- ---- what a walk sees of a node
 
--- it is a box or rule
+-- it is a box
 pub record SeenSolid (h d : ℤ) (n : Node) : Type 0 where
   pub shape : shape_of n ≡ box h d
   pub no_act : act_of_kind n.kind ≡ None
@@ -251,7 +251,7 @@ seen_solid h d n e = by_kind n.kind e
   where
     by_kind : (k : Kind) → seen_of k ≡ seen.Solid h d → (let x : Node = record { line = n.line; kind = k } in SeenSolid h d x)
     by_kind (kinds.Hbox what a b) e = record { shape = cc; no_act = refl; no_insertion = refl }
-    by_kind (kinds.Rule name a b) e = record { shape = cc; no_act = refl; no_insertion = refl }
+    by_kind (kinds.Rule name a b) e = cc
     by_kind (kinds.Skip g) e = cc
     by_kind (kinds.Kern w) e = cc
     by_kind (kinds.Pen p) e = cc
@@ -261,19 +261,20 @@ seen_solid h d n e = by_kind n.kind e
     by_kind (kinds.Ins i) e = cc
     by_kind (kinds.Act a) e = cc
 
--- it is this glue
-pub record SeenSpace (g : Glue) (n : Node) : Type 0 where
+-- it is glue
+pub record SeenSpace (n : Node) : Type 0 where
+  pub g : Glue
   pub shape : shape_of n ≡ glue g
   pub no_act : act_of_kind n.kind ≡ None
   pub no_insertion : insertion_of_kind n.kind ≡ None
 
-pub seen_space : (g : Glue) (n : Node) → seen_of n.kind ≡ seen.Space g → SeenSpace g n
-seen_space g n e = by_kind n.kind e
+pub seen_space : (n : Node) → seen_of n.kind ≡ seen.Space → SeenSpace n
+seen_space n e = by_kind n.kind e
   where
-    by_kind : (k : Kind) → seen_of k ≡ seen.Space g → (let x : Node = record { line = n.line; kind = k } in SeenSpace g x)
+    by_kind : (k : Kind) → seen_of k ≡ seen.Space → (let x : Node = record { line = n.line; kind = k } in SeenSpace x)
     by_kind (kinds.Hbox what a b) e = cc
     by_kind (kinds.Rule name a b) e = cc
-    by_kind (kinds.Skip f) e = record { shape = cc; no_act = refl; no_insertion = refl }
+    by_kind (kinds.Skip f) e = record { g = f; shape = refl; no_act = refl; no_insertion = refl }
     by_kind (kinds.Kern w) e = cc
     by_kind (kinds.Pen p) e = cc
     by_kind (kinds.Mark name) e = cc

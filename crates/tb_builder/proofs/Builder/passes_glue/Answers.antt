@@ -24,14 +24,14 @@ index_is o i before k m len h is e f =
     let there : SomeIff (Some i) (before + k < 2 ^ 64) (before + k) = subst (λ x. SomeIff x (before + k < 2 ^ 64) (before + k)) is h in
     there.1 ∙ ap (λ x. x + k) e ∙ f
 
-space : (c : Start) → SeenSpace c.args.g c.args.n.now
-space c = seen_space c.args.g c.args.n.now c.requires.glue
+space : (c : Start) → SeenSpace c.args.n.now
+space c = seen_space c.args.n.now c.requires.glue
 
 -- the node is the next of the walk
 walks : (c : Start) → Walks c.args.self.now c.args.store.now c.args.ask.now c.args.n.now c.args.passed
 walks c =
     let x = space c in
-    walks_shape _ _ _ _ _ (glue c.args.g) x.shape (λ lasting follows. refl) x.no_act x.no_insertion c.requires.sound c.requires.on c.requires.opened c.requires.fits c.requires.first
+    walks_shape _ _ _ _ _ (glue x.g) x.shape (λ lasting follows. refl) x.no_act x.no_insertion c.requires.sound c.requires.on c.requires.opened c.requires.fits c.requires.first
 
 -- the penalty of its place, by whether a lasting node comes before it
 penalty_is : (c : Start) (o : Bool) → c.args.self.now.course.lasting ≡ o → (if o then Some (pos 0) else None) ≡ penalty_by c.args.self.now.course.lasting false (shape_of c.args.n.now)
@@ -56,14 +56,14 @@ offered c w =
 pub put_glue-requires-clause-node : goal.put_glue-requires-clause-node
 put_glue-requires-clause-node c =
     let i = (goal.at.put_glue-requires-clause-node c).Start in
-    subst IsSmallShape (space i).shape (walk_fits _ _ _ _ _ (walks i)).small
+    subst IsSmallShape c.glue_in.ensures (walk_fits _ _ _ _ _ (walks i)).small
 
 pub put_glue-requires-clause-fits : goal.put_glue-requires-clause-fits
 put_glue-requires-clause-fits c =
     let i = (goal.at.put_glue-requires-clause-fits c).Start in
     let w = walks i in
     let k = c.args.self.now.course in
-    subst (λ x. IsSmall (added_node k.scan.max_depth k.scan.sums x)) (space i).shape (walk_sums _ _ _ _ _ w k _ (walk_course _ _ _ _ _ w))
+    subst (λ x. IsSmall (added_node k.scan.max_depth k.scan.sums x)) c.glue_in.ensures (walk_sums _ _ _ _ _ w k _ (walk_course _ _ _ _ _ w))
 
 pub returns-then-not-self-clause-goes : goal.returns-then-not-self-clause-goes
 returns-then-not-self-clause-goes c = λ e.
@@ -76,7 +76,7 @@ returns-then-not-self-clause-goes c = λ e.
     let z = kept_frozen here in
     let d : Builder = record b { course = c.put_glue.new.self } in
     walk_passes b s c.args.ask.now c.args.n.now k w d refl refl refl refl None refl (penalty_is i false c.if-not-self.true)
-    (c.put_glue.ensures c.args.n.now z here.page (places_on z here) (list_at (moved (ids_of b) s k)) (space i).shape (walk_course _ _ _ _ _ w) w.no_act w.no_insertion)
+    (c.put_glue.ensures c.args.n.now z here.page (places_on z here) (list_at (moved (ids_of b) s k)) c.glue_in.ensures (walk_course _ _ _ _ _ w) w.no_act w.no_insertion)
 
 pub offer-tried-requires-clause-terms : goal.offer-tried-requires-clause-terms
 offer-tried-requires-clause-terms c = walk_terms _ _ _ _ _ (walks (goal.at.offer-tried-requires-clause-terms c).Start)
@@ -92,14 +92,14 @@ returns-then-stops-clause-ends c = λ e.
 pub put_glue-requires-2-clause-node : goal.put_glue-requires-2-clause-node
 put_glue-requires-2-clause-node c =
     let i = (goal.at.put_glue-requires-2-clause-node c).Start in
-    subst IsSmallShape (space i).shape (walk_fits _ _ _ _ _ (walks i)).small
+    subst IsSmallShape c.glue_in-2.ensures (walk_fits _ _ _ _ _ (walks i)).small
 
 pub put_glue-requires-2-clause-fits : goal.put_glue-requires-2-clause-fits
 put_glue-requires-2-clause-fits c =
     let i = (goal.at.put_glue-requires-2-clause-fits c).Start in
     let w = walks i in
     let k = c.offer-tried.new.self in
-    subst (λ x. IsSmall (added_node k.scan.max_depth k.scan.sums x)) (space i).shape (walk_sums _ _ _ _ _ w k _ (offered (goal.at.put_glue-requires-2-clause-fits c).After-offer-tried w).course)
+    subst (λ x. IsSmall (added_node k.scan.max_depth k.scan.sums x)) c.glue_in-2.ensures (walk_sums _ _ _ _ _ w k _ (offered (goal.at.put_glue-requires-2-clause-fits c).After-offer-tried w).course)
 
 pub returns-clause-goes : goal.returns-clause-goes
 returns-clause-goes c = λ e.
@@ -113,4 +113,4 @@ returns-clause-goes c = λ e.
     let d : Builder = record b { course = c.put_glue-2.new.self } in
     walk_tries b s c.args.ask.now c.args.n.now k w d refl refl refl refl (Some (pos 0)) (pos 0) c.offer-tried.result c.n.inside.line c.offer-tried.new.self refl (penalty_is i true c.if-not-self.false)
     (offered (goal.at.returns-clause-goes c).After-offer-tried w) line_is (sym c.stops.ensures ∙ c.if-stops.false)
-    (λ bs h. c.put_glue-2.ensures c.args.n.now (kept_frozen here) here.page bs (list_at (moved (ids_of b) s k)) (space i).shape h w.no_act w.no_insertion)
+    (λ bs h. c.put_glue-2.ensures c.args.n.now (kept_frozen here) here.page bs (list_at (moved (ids_of b) s k)) c.glue_in-2.ensures h w.no_act w.no_insertion)
