@@ -4,6 +4,7 @@ use Rattle.std.proofs.lemmas.Int.{ints}
 use Rattle.std.specs.Prelude.{codes}
 use Rattle.std.specs.Int.{w32}
 use Rattle.std.specs.List.{list_all, list_any}
+use Rattle.std.proofs.lemmas.Bool.{or_parts}
 use Rattle.tb_dvi.specs.declared.command.Mode.TheVariants as modes
 use Rattle.tb_dvi.specs.declared.command.Op.TheVariants as ops
 use Rattle.tb_dvi.specs.Placement.{Placement}
@@ -229,10 +230,6 @@ near-fits : (v : ℤ) → is_far_down v ≡ false → FitsSigned w32 v
 near-fits (pos m) near = record { sfits = grind (arith, ints) }
 near-fits (negsuc m) near = record { sfits = grind (arith, ints) }
 
-both-false : (a b : Bool) → (a || b) ≡ false → (a ≡ false) × (b ≡ false)
-both-false true b e = absurd (true≢false e)
-both-false false b e = (refl, e)
-
 all-cons : {X : Type 0} (P : X → Type 0) (x : X) (xs : List X) → P x → All P xs → All P (x ∷ xs)
 all-cons P x xs p ps zero d h = p
 all-cons P x xs p ps (suc k) d h = ps k d (omega (arith, h))
@@ -243,7 +240,7 @@ all-none P = λ k d h. absurd (not-suc-le-zero h)
 none_far : (ps : List Placement) → list_any (λ x. is_far_down x.v) ps ≡ false → All (λ x. FitsSigned w32 x.v) ps
 none_far [] e = all-none (λ x. FitsSigned w32 x.v)
 none_far (p ∷ ps) e =
-    let both = both-false (is_far_down p.v) (list_any (λ x. is_far_down x.v) ps) e in
+    let both = or_parts (is_far_down p.v) (list_any (λ x. is_far_down x.v) ps) e in
     all-cons (λ x. FitsSigned w32 x.v) p ps (near-fits p.v both.0) (none_far ps both.1)
 
 not-first : (b : Bool) (n : ℕ) (r : Option ℕ) → cond b (Some n) r ≡ None → (b ≡ false) × (r ≡ None)
@@ -255,7 +252,7 @@ in_range_fits place [] none = all-none FitDown
 in_range_fits place (p ∷ ps) none =
     let later = place + length (page_bytes (pos 0) p) in
     let split = not-first (is_too_far place p) p.number (first_too_far later ps) none in
-    let near = both-false (list_any (λ x. is_far_down x.v) p.placed) (nat_lt 2147483000 (place + length (page_bytes (pos 0) p))) split.0 in
+    let near = or_parts (list_any (λ x. is_far_down x.v) p.placed) (nat_lt 2147483000 (place + length (page_bytes (pos 0) p))) split.0 in
     all-cons FitDown p ps (none_far p.placed near.0) (in_range_fits later ps split.1)
 
 pub lists_its_pages : (textheight : ℤ) (ps : List Page) → ListsItsPages textheight ps

@@ -1,6 +1,7 @@
 -- The length of a page, and what is out of range.
 use Rattle.std.proofs.Common.{◌≡◌, refl, ◌∙◌, ap, sym, ℕ, ◌+◌, ◌-◌, ◌<◌, ◌≤◌, ℤ, pos, Bool, true, false, ◌||◌, nat_lt, List, [], ◌∷◌, ◌++◌, length, flat_map, arith, length-append, le-ltb, lt-ltb, true≢false}
 use Rattle.std.proofs.lemmas.Bool.Decides.{nat_tests}
+use Rattle.std.proofs.lemmas.Bool.{or_right, or_parts}
 use Rattle.tb_dvi.specs.File.{Page, placement_bytes, page_bytes, has_far, is_too_far}
 
 pub length-page : (last : ℤ) (p : Page) → length (page_bytes last p) ≡ 46 + length (flat_map placement_bytes p.placed)
@@ -9,10 +10,6 @@ length-page last p = omega (arith, length-append (flat_map placement_bytes p.pla
 -- the place of the page before does not change the length
 pub same-length : (a b : ℤ) (p : Page) → length (page_bytes a p) ≡ length (page_bytes b p)
 same-length a b p = length-page a p ∙ sym (length-page b p)
-
-or-true : (a b : Bool) → b ≡ true → (a || b) ≡ true
-or-true true b e = refl
-or-true false b e = e
 
 -- a page whose items are near and which ends in time
 pub in_range : (place : ℕ) (last : ℤ) (p : Page) → has_far p.placed ≡ false → place + length (page_bytes last p) ≤ 2147483000 → is_too_far place p ≡ false
@@ -27,17 +24,13 @@ far_off place p far = ap (λ b. b || nat_lt 2147483000 (place + length (page_byt
 -- a page that ends past the last place
 pub ends_late : (place : ℕ) (last : ℤ) (p : Page) → 2147483000 < place + length (page_bytes last p) → is_too_far place p ≡ true
 ends_late place last p late =
-    or-true (has_far p.placed) (nat_lt 2147483000 (place + length (page_bytes (pos 0) p)))
+    or_right (has_far p.placed) (nat_lt 2147483000 (place + length (page_bytes (pos 0) p)))
     (lt-ltb 2147483000 (place + length (page_bytes (pos 0) p)) (omega (arith, same-length last (pos 0) p, late)))
-
-or-right : (a b : Bool) → (a || b) ≡ false → b ≡ false
-or-right true b e = absurd (true≢false e)
-or-right false b e = e
 
 -- a page in range ends in time
 pub ends_in_time : (place : ℕ) (last : ℤ) (p : Page) → is_too_far place p ≡ false → place + length (page_bytes last p) ≤ 2147483000
 ends_in_time place last p near =
-    let test : nat_lt 2147483000 (place + length (page_bytes (pos 0) p)) ≡ false = or-right (has_far p.placed) (nat_lt 2147483000 (place + length (page_bytes (pos 0) p))) near in
+    let test : nat_lt 2147483000 (place + length (page_bytes (pos 0) p)) ≡ false = (or_parts (has_far p.placed) (nat_lt 2147483000 (place + length (page_bytes (pos 0) p))) near).1 in
     let ends : place + length (page_bytes (pos 0) p) ≤ 2147483000 = grind (arith, nat_tests) in
     omega (arith, same-length last (pos 0) p, ends)
 
