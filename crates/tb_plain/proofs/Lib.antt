@@ -1,4 +1,3 @@
-pub mod MakeupRowsLemmas
 pub mod StepLemmas
 pub mod ReasonLemmas
 pub mod OurLemmas

@@ -5,6 +5,7 @@ use Rattle.std.specs.FinMap.{get}
 use Rattle.std.proofs.lemmas.Int.{ints}
 use Rattle.std.proofs.lemmas.Bool.{true≢false}
 use Rattle.std.proofs.lemmas.List.Elements.{All-nil, All-from_recursion}
+use Rattle.tb_builder.proofs.Ranges.PageableLemmas.{extent_goal}
 use Rattle.tb_scaled.specs.declared.Glue.{Glue}
 use Rattle.tb_scaled.specs.Glue.{fixed_glue}
 use Rattle.tb_pool.specs.Lists.{Lists, IsLive, list_at, with_list}
@@ -14,7 +15,7 @@ use Rattle.tb_node.specs.declared.Node.{Node}
 use Rattle.tb_node.specs.declared.Kind.{Kind}
 use Rattle.tb_node.specs.declared.Kind.TheVariants as kinds
 use Rattle.tb_node.specs.declared.What.{What}
-use Rattle.tb_node.specs.Fit.{shapes, IsDimension, IsExtent, IsPenalty, IsSizedLeaf}
+use Rattle.tb_node.specs.Fit.{shapes, IsDimension, IsSizedLeaf}
 use Rattle.tb_node.specs.Plain.{plain_of, plain_kind, shape_of, shape_of_kind}
 use Rattle.tb_node.specs.Sums.{size_of}
 use Rattle.tb_param.specs.declared.Params.{Params}
@@ -31,7 +32,7 @@ use Rattle.tb_builder.specs.Handed.{NoPage, ends_in_kern}
 use Rattle.tb_builder.specs.Kept.{IsSizedAsk, IsSizedContents, IsSizedFreeze, fired_count, whole_count}
 use Rattle.tb_builder.specs.Next.{NextFits, NextIs, FiredIs, IsGivenOut, fired_page}
 use Rattle.tb_builder.specs.Owned.{ClassesFit, has_class, ids_of}
-use Rattle.tb_builder.specs.Pageable.{IsSizedOnPage, IsSizedClass, IsSizedBox, IsGoal, IsPageable}
+use Rattle.tb_builder.specs.Pageable.{IsSizedOnPage, IsSizedClass, IsSizedBox, IsPageable}
 use Rattle.tb_builder.specs.Running.{IsSound}
 use Rattle.tb_builder.specs.Worked.{IsReady}
 use Rattle.tb_builder.proofs.Handover.CallLemmas.{class-fits, list-sized, list-count}
@@ -46,15 +47,6 @@ use Rattle.tb_plain.specs.Calls.{AreMakeupParams, CanAct, CanFire}
 use Rattle.tb_plain.proofs.BesideLemmas.{plain-leaves}
 
 -- ---- a new builder
-
-pub extent_of : (k : ℕ) → k ≤ 1073741823 → IsExtent (pos k)
-extent_of k h = record { low = omega (arith, ints); high = omega (arith, ints) }
-
-pub penalty_of : (k : ℕ) → k ≤ 1073741823 → IsPenalty (pos k)
-penalty_of k h = record { low = omega (arith, ints); high = omega (arith, ints) }
-
-goal_of : (z : ℤ) → IsExtent z → IsGoal z
-goal_of z h = record { low = let a = h.low in grind (arith, ints, a); high = let a = h.high in grind (arith, ints, a) }
 
 nothing : IsDimension (pos 0)
 nothing = record { low = omega (arith, ints); high = omega (arith, ints) }
@@ -81,9 +73,9 @@ module _ (p : Params) (h : AreMakeupParams p) where
     };
     none_held = ap (λ (c : Contents). c.held) e;
     pageable = subst (λ c. IsPageable c (makeup_ask p)) (sym e) (record {
-      goal = goal_of p.textheight h.textheight;
+      goal = extent_goal p.textheight h.textheight;
       limit = h.maxdepth;
-      asked_goal = goal_of p.textheight h.textheight;
+      asked_goal = extent_goal p.textheight h.textheight;
       asked_depth = h.maxdepth;
       top_skip = h.topskip;
       classes = All-from_recursion IsSizedClass (makeup_classes p) (top_sized, (foot_sized, tt));

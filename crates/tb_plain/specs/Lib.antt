@@ -7,4 +7,3 @@ pub mod Steps
 pub mod Calls
 pub mod Making
 pub mod Report
-pub mod Rows

@@ -7,7 +7,6 @@ mod taking;
 mod tests;
 
 ghost use Rattle.std.specs.Prelude.{◌≡◌};
-ghost use Rattle.tb_plain.specs.Rows.{MakeupRows};
 ghost use Rattle.tb_plain.specs.Steps.{StepsAgree, EndsHaveReasons};
 ghost use Rattle.tb_plain.specs.Calls.{AreMakeupParams, IsPlain};
 
@@ -66,11 +65,6 @@ pub fn new_plain(p: &Params) -> Plain
         page: 1,
     }
 }
-
-/// The worked rows of the page makeup hold.
-pub fn check_makeup_rows()
-    ensures { MakeupRows }
-{}
 
 /// The run of a galley is defined: each step takes an act, ships a page or ends the last page, so the bound on the steps,
 /// with which a run starts, is never met. A run ends because it is done, because as many pages as may be were shipped, or

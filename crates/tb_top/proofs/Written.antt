@@ -1,6 +1,5 @@
 -- A run is written, in reading order.
 pub mod RunParams
-pub mod OutputParams
 pub mod ClassLemmas
 pub mod EventCounts
 pub mod TallyLemmas

@@ -93,21 +93,28 @@ makeup_line (at_nodes n) = err_line (node_limit_text n)
 
 -- ---- the lines of the statuses that the input does not decide
 
+-- the text of a status that shows no number: words that ask for no mode, a fault of an end, or no memory
+abbrev pub bare_text : Status → List ℕ
+bare_text answers.Words = codes "words refused"
+bare_text answers.ReadFault = codes "read fault"
+bare_text answers.WriteFault = codes "write fault"
+bare_text _ = codes "out of memory"
+
 -- words after the program's name
 abbrev pub words_line : List ℕ
-words_line = err_line (codes "words refused")
+words_line = err_line (bare_text answers.Words)
 
 -- the source failed
 abbrev pub read_fault_line : List ℕ
-read_fault_line = err_line (codes "read fault")
+read_fault_line = err_line (bare_text answers.ReadFault)
 
 -- the sink of the report failed
 abbrev pub write_fault_line : List ℕ
-write_fault_line = err_line (codes "write fault")
+write_fault_line = err_line (bare_text answers.WriteFault)
 
 -- there was no memory
 abbrev pub memory_line : List ℕ
-memory_line = err_line (codes "out of memory")
+memory_line = err_line (bare_text answers.Memory)
 
 -- ---- what a mode makes of what it reads
 

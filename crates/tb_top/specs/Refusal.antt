@@ -28,7 +28,7 @@ use Rattle.tb_top.specs.DviRefusal.{dvi_status, dvi_text}
 use Rattle.tb_top.specs.declared.status.Status.{Status}
 use Rattle.tb_top.specs.declared.status.Status.TheVariants as answers
 use Rattle.tb_top.specs.Outcome.{Stream, Failed, Gives}
-use Rattle.tb_top.specs.Answer.{answer_for_cause, err_line, pool_full_text, dead_cycles_text, page_limit_text, node_limit_text}
+use Rattle.tb_top.specs.Answer.{answer_for_cause, err_line, bare_text, pool_full_text, dead_cycles_text, page_limit_text, node_limit_text}
 
 -- ---- the status
 
@@ -84,7 +84,7 @@ refusal_status (refusals.Unsuited n) = answers.Unsuited
 -- if there is no galley
 abbrev pub galley_text : GalleyFault → List ℕ
 galley_text (unread.At f) = fault_text f
-galley_text unread.Memory = codes "out of memory"
+galley_text unread.Memory = bare_text answers.Memory
 
 -- if the pages stopped
 abbrev pub page_text : PageFault → List ℕ
@@ -92,30 +92,15 @@ page_text (pages.PoolFull line live) = pool_full_text line live
 page_text (pages.DeadCycles n) = dead_cycles_text n
 page_text (pages.PageLimit n) = page_limit_text n
 page_text (pages.NodeLimit n) = node_limit_text n
-page_text pages.WriteFault = codes "write fault"
-page_text pages.Memory = codes "out of memory"
-
--- if the input was not read
-abbrev pub input_text : InputFault → List ℕ
-input_text inputs.Failed = codes "read fault"
-input_text inputs.Memory = codes "out of memory"
-
--- if no mode was asked for
-abbrev pub words_text : WordsFault → List ℕ
-words_text asked.Refused = codes "words refused"
-words_text asked.Memory = codes "out of memory"
-
--- if a text was not written
-abbrev pub output_text : SinkFault → List ℕ
-output_text outputs.Failed = codes "write fault"
-output_text outputs.Memory = codes "out of memory"
+page_text pages.WriteFault = bare_text answers.WriteFault
+page_text pages.Memory = bare_text answers.Memory
 
 -- by the step that refused
 abbrev pub refusal_text : Refusal → List ℕ
-refusal_text (refusals.Words f) = words_text f
-refusal_text (refusals.Output f) = output_text f
-refusal_text refusals.Memory = codes "out of memory"
-refusal_text (refusals.Input f) = input_text f
+refusal_text (refusals.Words f) = bare_text (words_status f)
+refusal_text (refusals.Output f) = bare_text (output_status f)
+refusal_text refusals.Memory = bare_text answers.Memory
+refusal_text (refusals.Input f) = bare_text (input_status f)
 refusal_text (refusals.Galley f) = galley_text f
 refusal_text (refusals.Pages f) = page_text f
 refusal_text (refusals.Lines f) = lines_text f

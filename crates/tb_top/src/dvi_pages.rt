@@ -1,6 +1,6 @@
 //! From a galley to the DVI file of its pages.
 
-ghost use Rattle.std.specs.Prelude.{◌≡◌, ◌≤◌, ◌∷◌, [], ◌++◌, List, ℕ, Option, FitsSigned, Err, IfErr, IfNone, IfSome, OnOk};
+ghost use Rattle.std.specs.Prelude.{◌≡◌, ◌≤◌, ◌∷◌, [], ◌++◌, List, ℕ, Option, FitsSigned, Err, IfErr, OnOk};
 ghost use Rattle.std.specs.Int.{w32};
 ghost use Rattle.tb_io.specs.Faults.{Rose};
 ghost use Rattle.tb_galley.specs.Valid.{IsValid};
@@ -13,9 +13,8 @@ ghost use Rattle.tb_run.specs.Turning.{IsPage, ArePages};
 ghost use Rattle.tb_top.specs.DviPages.{event_pages};
 ghost use Rattle.tb_top.specs.DviFiles.{WritesFile, RefusesFile};
 ghost use Rattle.tb_top.specs.DviWritten.{HoldsPages, SendsPages, IsWriteFailure, EndsFile, StopsFile};
-ghost use Rattle.tb_top.specs.Written.{IsRefusalOf};
 
-use crate::pages::{refusal_of, show};
+use crate::pages::{fault_of, show};
 use crate::{PageFault, View};
 use std::alloc::{AllocError, Global};
 use tb_column::{Sent, Sheet};
@@ -178,19 +177,6 @@ fn send_page<K: Sink>(
     progress.put_next(text, alloc, store, number, sheet)?;
     show(View::Report, text.as_slice(), out)?;
     Ok(())
-}
-
-// The refusal of an ending; a run that ended well has none.
-fn fault_of(ending: Ending) -> Option<PageFault>
-    ensures none { IfNone result (ending ≡ Ending.Done) }
-    ensures some { IfSome result (IsRefusalOf ending) }
-{
-    match ending {
-        Ending::Done => None,
-        Ending::PoolFull { line, live } => Some(PageFault::PoolFull { line, live }),
-        Ending::Fault(fault) => Some(refusal_of(fault)),
-        Ending::NodeLimit { count } => Some(PageFault::NodeLimit { count }),
-    }
 }
 
 // The end of a run: the end of the file if it ends well, or its refusal.

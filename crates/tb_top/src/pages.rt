@@ -1,6 +1,6 @@
 //! From a galley to the text of its run.
 
-ghost use Rattle.std.specs.Prelude.{◌≡◌, ◌≢◌, ◌≤◌, ◌∷◌, [], ◌++◌, Err, OnOk, IfOk, IfErr};
+ghost use Rattle.std.specs.Prelude.{◌≡◌, ◌≢◌, ◌≤◌, ◌∷◌, [], ◌++◌, Err, OnOk, IfOk, IfErr, IfNone, IfSome};
 ghost use Rattle.tb_io.specs.Faults.{Rose};
 ghost use Rattle.tb_galley.specs.Valid.{IsValid};
 ghost use Rattle.tb_pool.specs.Lists.{IsLive};
@@ -12,7 +12,7 @@ ghost use Rattle.tb_top.specs.Laws.{KeepsLaws, WithinLimits};
 ghost use Rattle.tb_top.specs.DeadCycles.{HasRoomForCycles};
 ghost use Rattle.tb_top.specs.Paginated.{Paginates, Refuses, IsNotForCycles};
 ghost use Rattle.tb_top.specs.Report.{traced_lines, all_lines};
-ghost use Rattle.tb_top.specs.Written.{Shows, viewed, with_events, is_traced, EndsWell, StopsWith, IsFaultRefusal};
+ghost use Rattle.tb_top.specs.Written.{Shows, viewed, with_events, is_traced, EndsWell, StopsWith, IsRefusalOf, IsFaultRefusal};
 
 #[cfg(test)]
 mod tests;
@@ -211,20 +211,29 @@ fn finish<K: Sink>(
     ensures refused { IfErr result (StopsWith view routine.now totals.now ending (K.held out.old) (K.held out.new) (K.faults out.old) (K.faults out.new)) }
     ensures later { K.faults out.old ≤ K.faults out.new }
 {
+    if let Some(fault) = fault_of(ending) {
+        return Err(fault);
+    }
+    let text = end_text(alloc, &routine.store, routine.builder.on_page(), totals)?;
+    show(view, &text, out)?;
+    Ok(*totals)
+}
+
+// The refusal of an ending; a run that ended well has none.
+pub(crate) fn fault_of(ending: Ending) -> Option<PageFault>
+    ensures none { IfNone result (ending ≡ Ending.Done) }
+    ensures some { IfSome result (IsRefusalOf ending) }
+{
     match ending {
-        Ending::Done => {
-            let text = end_text(alloc, &routine.store, routine.builder.on_page(), totals)?;
-            show(view, &text, out)?;
-            Ok(*totals)
-        }
-        Ending::PoolFull { line, live } => Err(PageFault::PoolFull { line, live }),
-        Ending::Fault(fault) => Err(refusal_of(fault)),
-        Ending::NodeLimit { count } => Err(PageFault::NodeLimit { count }),
+        Ending::Done => None,
+        Ending::PoolFull { line, live } => Some(PageFault::PoolFull { line, live }),
+        Ending::Fault(fault) => Some(refusal_of(fault)),
+        Ending::NodeLimit { count } => Some(PageFault::NodeLimit { count }),
     }
 }
 
 // The refusal of a fault of the output routine.
-pub(crate) fn refusal_of(fault: RunFault) -> PageFault
+fn refusal_of(fault: RunFault) -> PageFault
     ensures { IsFaultRefusal fault result }
 {
     match fault {

@@ -1,8 +1,8 @@
 //! Why a run was refused, until its line is written.
 ghost use Rattle.std.specs.Prelude.{◌≡◌, ◌++◌, decimal, IfOk, OnOk};
 ghost use Rattle.tb_plain.specs.Report.{unsuited_text};
-ghost use Rattle.tb_top.specs.Answer.{answer_for_cause, pool_full_text};
-ghost use Rattle.tb_top.specs.Refusal.{refusal_status, page_status, lines_status, input_status, words_status, output_status, refusal_text, page_text, input_text, words_text, output_text, refusal_line, dvi_fault, makeup_refusal};
+ghost use Rattle.tb_top.specs.Answer.{answer_for_cause, bare_text, pool_full_text};
+ghost use Rattle.tb_top.specs.Refusal.{refusal_status, page_status, lines_status, input_status, words_status, output_status, refusal_text, page_text, refusal_line, dvi_fault, makeup_refusal};
 ghost use Rattle.tb_top.specs.declared.refusal.Refusal.TheVariants.{Words, Input, Galley, Pages, Lines, Output, Memory};
 
 use crate::dvi_pages::DviRunFault;
@@ -153,17 +153,31 @@ impl Refusal {
         ensures { OnOk result (line.new.items ≡ line.old.items ++ refusal_text self.now) }
     {
         match self {
-            Refusal::Words(fault) => line.extend_from_slice(words_text(*fault)),
-            Refusal::Input(fault) => line.extend_from_slice(input_text(*fault)),
+            Refusal::Words(fault) => line.extend_from_slice(bare_text(words_status(*fault))),
+            Refusal::Input(fault) => line.extend_from_slice(bare_text(input_status(*fault))),
             Refusal::Galley(GalleyFault::At(fault)) => put_fault(line, fault),
-            Refusal::Galley(GalleyFault::Memory) => line.extend_from_slice(b"out of memory"),
+            Refusal::Galley(GalleyFault::Memory) => line.extend_from_slice(bare_text(
+                Status::Memory,
+            )),
             Refusal::Pages(fault) => put_page_fault(line, *fault),
             Refusal::Lines(refusal) => put_refusal(line, refusal),
             Refusal::Dvi(refusal) => put_dvi(line, *refusal),
             Refusal::Unsuited { line: at } => put_unsuited(line, *at),
-            Refusal::Output(fault) => line.extend_from_slice(output_text(*fault)),
-            Refusal::Memory => line.extend_from_slice(b"out of memory"),
+            Refusal::Output(fault) => line.extend_from_slice(bare_text(output_status(*fault))),
+            Refusal::Memory => line.extend_from_slice(bare_text(Status::Memory)),
         }
+    }
+}
+
+// The text of a refusal that shows no number, by its status: no words of a mode, a fault of an end, or no memory.
+fn bare_text(status: Status) -> &'static [u8]
+    ensures { result.now ≡ bare_text status }
+{
+    match status {
+        Status::Words => b"words refused",
+        Status::ReadFault => b"read fault",
+        Status::WriteFault => b"write fault",
+        _ => b"out of memory",
     }
 }
 
@@ -176,15 +190,6 @@ fn words_status(fault: WordsFault) -> Status
     }
 }
 
-fn words_text(fault: WordsFault) -> &'static [u8]
-    ensures { result.now ≡ words_text fault }
-{
-    match fault {
-        WordsFault::Refused => b"words refused",
-        WordsFault::Memory => b"out of memory",
-    }
-}
-
 fn output_status(fault: SinkFault) -> Status
     ensures { result ≡ output_status fault }
 {
@@ -194,30 +199,12 @@ fn output_status(fault: SinkFault) -> Status
     }
 }
 
-fn output_text(fault: SinkFault) -> &'static [u8]
-    ensures { result.now ≡ output_text fault }
-{
-    match fault {
-        SinkFault::Failed => b"write fault",
-        SinkFault::Memory => b"out of memory",
-    }
-}
-
 fn input_status(fault: InputFault) -> Status
     ensures { result ≡ input_status fault }
 {
     match fault {
         InputFault::Failed => Status::ReadFault,
         InputFault::Memory => Status::Memory,
-    }
-}
-
-fn input_text(fault: InputFault) -> &'static [u8]
-    ensures { result.now ≡ input_text fault }
-{
-    match fault {
-        InputFault::Failed => b"read fault",
-        InputFault::Memory => b"out of memory",
     }
 }
 
@@ -288,7 +275,7 @@ fn put_page_fault(line: &mut Vec<u8>, fault: PageFault) -> Result<(), AllocError
         PageFault::DeadCycles { count } => put_counted(line, b"dead cycles ", count),
         PageFault::PageLimit { pages } => put_counted(line, b"page limit ", pages),
         PageFault::NodeLimit { count } => put_counted(line, b"node limit at ", count),
-        PageFault::WriteFault => line.extend_from_slice(b"write fault"),
-        PageFault::Memory => line.extend_from_slice(b"out of memory"),
+        PageFault::WriteFault => line.extend_from_slice(bare_text(Status::WriteFault)),
+        PageFault::Memory => line.extend_from_slice(bare_text(Status::Memory)),
     }
 }

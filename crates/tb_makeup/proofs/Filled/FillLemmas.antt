@@ -4,11 +4,11 @@ use Rattle.std.specs.Prelude.{All, ◌||◌, int_lt, if◌then◌else◌}
 use Rattle.std.proofs.lemmas.Int.{ints}
 use Rattle.std.proofs.lemmas.Bool.{true≢false}
 use Rattle.std.proofs.lemmas.List.Elements.{All-nil, All-append, All-from_recursion}
+use Rattle.tb_builder.proofs.Turns.PastLemmas.{acts-both}
 use Rattle.tb_node.specs.declared.Act.{Act}
 use Rattle.tb_node.specs.declared.Act.TheVariants as acts
 use Rattle.tb_node.specs.declared.Float.{Float}
 use Rattle.tb_node.specs.Fit.{IsDimension, IsExtent, IsPenalty, IsSizedLeaf}
-use Rattle.tb_node.specs.Small.{IsAmount}
 use Rattle.tb_node.specs.Plain.{hbox, rule, skip, kerned, pen, mark, note, whatsit, Leaf, PlainKind, plain, ins, act, PlainNode, is_act_kind}
 use Rattle.tb_param.specs.declared.Params.{Params}
 use Rattle.tb_break.specs.Prune.{pruned_nodes}
@@ -17,9 +17,9 @@ use Rattle.tb_builder.specs.Fired.{frozen_for}
 use Rattle.tb_builder.specs.Contents.{Contents, frozen_of, laid, node_count, box_count}
 use Rattle.tb_builder.specs.Next.{NextFits}
 use Rattle.tb_builder.specs.Owned.{ClassesFit}
-use Rattle.tb_builder.specs.Pageable.{IsSizedOnPage, IsSizedClass, IsSizedBox, IsGoal}
+use Rattle.tb_builder.specs.Pageable.{IsSizedOnPage, IsSizedClass, IsSizedBox}
 use Rattle.tb_builder.specs.Places.{NoActs}
-use Rattle.tb_builder.proofs.Ranges.PageableLemmas.{count-append, IsSizedFrozen, boxes_fit, class_boxes_sized, class_boxes_total, laid_fits, pruned_sized}
+use Rattle.tb_builder.proofs.Ranges.PageableLemmas.{count-append, IsSizedFrozen, boxes_fit, class_boxes_sized, class_boxes_total, laid_fits, pruned_sized, extent_amount, extent_goal}
 use Rattle.tb_builder.proofs.Handover.CallLemmas.{class-fits}
 use Rattle.tb_builder.proofs.Ranges.PrunedLemmas.{pruned_nodes_longer, front-sized, back-sized}
 use Rattle.tb_builder.specs.declared.PageSums.{PageSums}
@@ -48,10 +48,6 @@ laid-count t page waiting = by_box (holds_box page)
     by_box true = let e = count-append page waiting in omega (arith, e)
     by_box false = let e = count-append page (pruned_nodes t waiting) in let l = pruned_nodes_longer t waiting in omega (arith, e, l)
 
-none-both : (xs ys : List PlainNode) → NoActs xs → NoActs ys → NoActs (xs ++ ys)
-none-both [] ys a b = b
-none-both (x ∷ xs) ys a b = (a.0, none-both xs ys a.1 b)
-
 none-kind : (t : ℤ) (ns : List PlainNode) → NoActs ns → NoActs (pruned_nodes t ns) → (l : ℕ) (k : PlainKind) → is_act_kind k ≡ false → (let n : PlainNode = record { line = l; kind = k } in NoActs (pruned_nodes t (n ∷ ns)))
 none-kind t ns a h l (plain (hbox w x d)) e = (refl, (refl, a))
 none-kind t ns a h l (plain (rule name x d)) e = (refl, (refl, a))
@@ -72,16 +68,10 @@ pub none-laid : (t : ℤ) (page waiting : List PlainNode) → NoActs page → No
 none-laid t page waiting a b = by_box (holds_box page)
   where
     by_box : (x : Bool) → NoActs (page ++ (if x then waiting else pruned_nodes t waiting))
-    by_box true = none-both page waiting a b
-    by_box false = none-both page (pruned_nodes t waiting) a (none-pruned t waiting b)
+    by_box true = acts-both page waiting a b
+    by_box false = acts-both page (pruned_nodes t waiting) a (none-pruned t waiting b)
 
 -- ---- what is added up fits
-
-pub extent-goal : (z : ℤ) → IsExtent z → IsGoal z
-extent-goal z h = record { low = let a = h.low in grind (arith, ints, a); high = let a = h.high in grind (arith, ints, a) }
-
-extent-amount : (z : ℤ) → IsExtent z → IsAmount z
-extent-amount z h = record { low = omega (arith, ints); high = omega (arith, ints) }
 
 pub zero-dimension : IsDimension (pos 0)
 zero-dimension = record { low = omega (arith, ints); high = omega (arith, ints) }
@@ -107,7 +97,7 @@ module _ (p : Params) (h : AreMakeupParams p) where
 
   frozen-sized : IsSizedFrozen (frozen_for (makeup_ask p) (makeup_classes p) void_boxes)
   frozen-sized = record {
-    goal = extent-goal p.textheight h.textheight;
+    goal = extent_goal p.textheight h.textheight;
     limit = h.maxdepth;
     classes = class_boxes_sized (makeup_classes p) void_boxes classes-sized boxes-sized (omega arith);
     few = omega arith;
@@ -116,7 +106,7 @@ module _ (p : Params) (h : AreMakeupParams p) where
 
   pub run-fits : (s : MakeupState) (c : Contents) → AreRunNodes s → KeepsStart (builder_holds p s) c (makeup_ask p) → laid c (makeup_ask p) ≡ laid_out p.topskip s.page s.waiting → NextFits c (makeup_ask p)
   run-fits s c nodes holds all = record {
-    asked = record { goal = extent-amount p.textheight h.textheight; depth = extent-amount p.maxdepth h.maxdepth; depth_low = h.maxdepth.low; top_skip = extent-amount p.topskip h.topskip };
+    asked = record { goal = extent_amount p.textheight h.textheight; depth = extent_amount p.maxdepth h.maxdepth; depth_low = h.maxdepth.low; top_skip = extent_amount p.topskip h.topskip };
     boxes = boxes_fit c.boxes (subst (All IsSizedBox) (sym holds.boxes) boxes-sized) (let e = ap box_count holds.boxes in omega (arith, e));
     laid_fits =
         laid_fits (frozen_of c (makeup_ask p)) (laid c (makeup_ask p)) (subst IsSizedFrozen (sym holds.frozen) frozen-sized)

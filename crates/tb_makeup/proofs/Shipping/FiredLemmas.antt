@@ -3,6 +3,7 @@ use Rattle.std.proofs.Common.{◌≡◌, refl, sym, subst, ℕ, zero, suc, ◌+�
 use Rattle.std.specs.Prelude.{All, ◌&&◌, neg_ℤ, int_le, if◌then◌else◌}
 use Rattle.std.proofs.lemmas.Int.{ints}
 use Rattle.std.proofs.lemmas.List.Elements.{All-nil, All-append, All-from_recursion}
+use Rattle.tb_builder.proofs.Turns.PastLemmas.{acts-both}
 use Rattle.tb_node.specs.Fit.{IsDimension, IsExtent}
 use Rattle.tb_node.specs.Plain.{Leaf, Inserted, PlainKind, plain, ins, act, PlainNode, is_act_kind, without_acts, on_line}
 use Rattle.tb_param.specs.declared.Params.{Params}
@@ -15,7 +16,7 @@ use Rattle.tb_builder.specs.Kept.{IsSizedAsk, fired_count}
 use Rattle.tb_builder.specs.Pageable.{IsSizedOnPage}
 use Rattle.tb_builder.specs.Places.{NoActs}
 use Rattle.tb_builder.proofs.Cutting.CutLemmas.{CutAt, reach-cut, ActFree, AllFree, acts-free}
-use Rattle.tb_builder.proofs.Ranges.PageableLemmas.{count-append}
+use Rattle.tb_builder.proofs.Ranges.PageableLemmas.{count-append, extent_goal}
 use Rattle.tb_builder.proofs.Ranges.SizedLemmas.{FiredSized}
 use Rattle.tb_builder.proofs.Events.WholeLemmas.{AreMatter, fired_of-sized, fired_of-fewer, fired-matter}
 use Rattle.tb_plain.specs.Firing.{holds_any, page_for_held, put_back_after}
@@ -25,7 +26,7 @@ use Rattle.tb_plain.proofs.StepLemmas.{acts-laid, reach-acts, fired-acts}
 use Rattle.tb_makeup.specs.Led.{ActsAreLed}
 use Rattle.tb_makeup.specs.Turning.{node_total, AreRunNodes, AreAfter}
 use Rattle.tb_makeup.proofs.Filled.LedLemmas.{led-both, led-none, led-back, led-free, led-laid, led-spent}
-use Rattle.tb_makeup.proofs.Filled.FillLemmas.{extent-goal, zero-extent, zero-dimension, classes-fit, boxes-sized}
+use Rattle.tb_makeup.proofs.Filled.FillLemmas.{zero-extent, zero-dimension, classes-fit, boxes-sized}
 
 -- ---- no acts
 
@@ -52,13 +53,9 @@ held_of-none line whole i = tt
 held_of-none line (split f) i = unless-none line i _
 held_of-none line late i = (refl, tt)
 
-both-none : (xs ys : List PlainNode) → NoActs xs → NoActs ys → NoActs (xs ++ ys)
-both-none [] ys a b = b
-both-none (x ∷ xs) ys a b = (a.0, both-none xs ys a.1 b)
-
 held-none : (ls : List Labelled) → NoActs (held_insertions ls)
 held-none [] = tt
-held-none (l ∷ ls) = both-none (on_line l.line (held_of l.label l.inserted)) (held_insertions ls) (held_of-none l.line l.label l.inserted) (held-none ls)
+held-none (l ∷ ls) = acts-both (on_line l.line (held_of l.label l.inserted)) (held_insertions ls) (held_of-none l.line l.label l.inserted) (held-none ls)
 
 kind-none : (k : PlainKind) → is_act_kind k ≡ false → one_act k ≡ 0
 kind-none (plain m) e = refl
@@ -139,7 +136,7 @@ module _ (p : Params) (m : AreMakeupParams p) (s : MakeupState) (nodes : AreRunN
   ns = laid_out p.topskip s.page s.waiting
 
   pub asked-sized : IsSizedAsk (makeup_ask p)
-  asked-sized = record { goal = extent-goal p.textheight m.textheight; depth = m.maxdepth; top_skip = m.topskip }
+  asked-sized = record { goal = extent_goal p.textheight m.textheight; depth = m.maxdepth; top_skip = m.topskip }
 
   pub fired-sized : FiredSized fired
   fired-sized = fired_of-sized (makeup_ask p) (makeup_classes p) void_boxes s.page s.waiting asked-sized nodes.page nodes.waiting (boxes-sized p m)

@@ -3,6 +3,7 @@ use Rattle.std.proofs.Common.{◌≡◌, ◌≢◌, refl, sym, subst, ◌∙◌,
 use Rattle.std.specs.Prelude.{min, int_lt, IfNone, ◌≤ℤ◌, if◌then◌else◌}
 use Rattle.std.specs.FinMap.{get}
 use Rattle.std.proofs.lemmas.Int.{ints}
+use Rattle.tb_builder.proofs.Events.NextLemmas.{fresh_apart}
 use Rattle.tb_pool.specs.Lists.{Lists, list_at}
 use Rattle.tb_node.specs.declared.Node.{Node}
 use Rattle.tb_node.specs.Plain.{PlainNode, plain_list}
@@ -21,7 +22,7 @@ use Rattle.tb_column.specs.Column.{shipped, one}
 use Rattle.tb_column.specs.Notes.{AreDistinct}
 use Rattle.tb_output.specs.Firing.{builder_lists}
 use Rattle.tb_output.specs.Keeping.{AreNoneOf}
-use Rattle.tb_output.proofs.Working.ApartLemmas.{not-live, lacks-none}
+use Rattle.tb_output.proofs.Working.ApartLemmas.{lacks-none}
 use Rattle.tb_output.proofs.Working.StandLemmas.{column-stands, column-shows}
 use Rattle.tb_run.specs.declared.happening.Happening.{Happening}
 use Rattle.tb_run.specs.declared.happening.Happening.TheVariants as happenings
@@ -91,7 +92,7 @@ module _ (r : Makeup) (page : Page) (made : PlainPage) (now : Plain) (d : Builde
       (subst (Lacks made.column.list) (sym (back-inner r.plain.params f (list_at t) (list_at t made.put_back) fired.put_back)) tt)
 
   column-apart : made.column.list ≢ made.put_back
-  column-apart = λ e. not-live r.store made.column.list page.body fired.fresh can.body.live (sym (e ∙ fired.body))
+  column-apart = λ e. fresh_apart r.store made.column.list page.body fired.fresh can.body.live (sym (e ∙ fired.body))
 
   module _ (q : Makeup) (sound : IsSound q.builder q.store) (contents : held_in q ≡ back (contents_of d t) (plain_list t made.put_back))
       (others : (l : ℕ) → l ≢ made.put_back → Lacks l (owned (ids_of d) t) → get q.store.lists l ≡ get t.lists l)

@@ -3,6 +3,7 @@ use Rattle.std.proofs.Common.{◌≡◌, refl, sym, ◌∙◌, ap, subst, ℕ, �
 use Rattle.std.specs.Prelude.{pred, nat_abs, int_lt, ◌≤ℤ◌, ◌<ℤ◌, if◌then◌else◌}
 use Rattle.std.proofs.lemmas.Int.{ints}
 use Rattle.std.proofs.lemmas.List.Elements.{All-nil}
+use Rattle.tb_run.proofs.Turns.TurnLemmas.{pred-is}
 use Rattle.tb_node.specs.Plain.{PlainNode}
 use Rattle.tb_param.specs.declared.Params.{Params}
 use Rattle.tb_builder.specs.declared.Page.{Page}
@@ -39,9 +40,6 @@ within-limit m n h = grind (arith, ints, h)
 
 past-limit : (m : ℤ) (n : ℕ) → m <ℤ pos n → int_lt m (pos n) ≡ true
 past-limit m n h = grind (arith, ints, h)
-
-pred-is : (m n : ℕ) → m + 1 ≡ n → pred n ≡ m
-pred-is m n h = omega (arith, h)
 
 module _ (p : Params) (n : ℕ) (f : Fired) where
   abbrev es : List PlainSent

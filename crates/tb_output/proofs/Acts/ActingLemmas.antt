@@ -2,6 +2,7 @@
 use Rattle.std.proofs.Common.{◌≡◌, refl, sym, subst, ap, ◌∙◌, Bool, List, [], ◌∷◌, ◌++◌, Result}
 use Rattle.std.specs.Prelude.{OnOk, IfErr}
 use Rattle.std.specs.List.{AllByRecursion}
+use Rattle.tb_break.proofs.EachLemmas.{all-join}
 use Rattle.tb_pool.specs.Lists.{Lists}
 use Rattle.tb_node.specs.declared.Float.{Float}
 use Rattle.tb_node.specs.declared.Node.{Node}
@@ -17,7 +18,6 @@ use Rattle.tb_column.specs.Notes.{AreDistinct}
 use Rattle.tb_output.specs.Acting.{warnings_sent, TakesNoList, clipped, taken_into, with_float, with_columns, HasTaken, HasNoRoom}
 use Rattle.tb_output.specs.Keeping.{AreNoneOf}
 use Rattle.tb_pool.proofs.FrameLemmas.{none-front}
-use Rattle.tb_output.proofs.Working.StandLemmas.{all-join}
 use Rattle.tb_output.proofs.Working.ApartLemmas.{apart-cons, distinct-apart}
 use Rattle.tb_output.proofs.Working.ResultLemmas.{either-way}
 

@@ -1,18 +1,17 @@
 -- A machine at its beginning.
-use Rattle.std.proofs.Common.{◌≡◌, refl, sym, subst, ◌∙◌, ap, ℕ, ℤ, pos, true, false, List, [], ◌∷◌, map, None, arith}
+use Rattle.std.proofs.Common.{◌≡◌, refl, sym, subst, ◌∙◌, ap, ℕ, pos, true, false, List, [], ◌∷◌, map, None, arith}
 use Rattle.std.specs.Prelude.{◌≤◌, length, All}
 use Rattle.std.specs.List.{AllByRecursion}
 use Rattle.std.proofs.lemmas.Bool.{true≢false}
 use Rattle.std.proofs.lemmas.List.Elements.{All-nil}
-use Rattle.std.proofs.lemmas.Int.{ints}
+use Rattle.tb_builder.proofs.Ranges.PageableLemmas.{extent_goal}
 use Rattle.tb_pool.specs.Lists.{Lists, IsLive, list_at, with_list}
 use Rattle.tb_pool.proofs.CallerLemmas.{list_same, live_same}
 use Rattle.tb_node.specs.declared.Node.{Node}
 use Rattle.tb_node.specs.Plain.{PlainNode, plain_of}
-use Rattle.tb_node.specs.Fit.{IsExtent, IsSizedNode}
+use Rattle.tb_node.specs.Fit.{IsSizedNode}
 use Rattle.tb_param.specs.declared.Params.{Params}
 use Rattle.tb_insert.specs.declared.Class.{Class}
-use Rattle.tb_builder.specs.Pageable.{IsGoal}
 use Rattle.tb_float.specs.declared.Suppress.{Suppress}
 use Rattle.tb_float.specs.Lists.{no_floats}
 use Rattle.tb_float.specs.Pool.{FloatPool, HasNoMarks}
@@ -39,9 +38,6 @@ new_view p cs l pool es s = record {
   events = es;
   fault = None;
 }
-
-extent-goal : (z : ℤ) → IsExtent z → IsGoal z
-extent-goal z h = record { low = omega (arith, ints); high = omega (arith, ints) }
 
 -- a list without nodes is one of a page
 empty-list : (store : Lists Node) (l : ℕ) → IsLive store l → list_at store l ≡ [] → IsPageList store l
@@ -82,7 +78,7 @@ module _ (p : Params) (given cs : List Class) (store new : Lists Node) (l n : �
   new-stands ok rising size = record {
     params = ok;
     classes = subst (AreClassesFrom 0) (sym same) rising;
-    goal = extent-goal p.textheight ok.columns.floats.textheight;
+    goal = extent_goal p.textheight ok.columns.floats.textheight;
     first = omega arith;
     last = omega arith;
     pool = ap (λ (v : FloatPool). pos v.size) floats ∙ size;

@@ -1,6 +1,7 @@
 -- A machine after a warning was sent.
 use Rattle.std.proofs.Common.{◌≡◌, refl, sym, subst, ◌∙◌, ap, ℕ, List, [], ◌∷◌, ◌++◌, append_assoc, append-nil}
 use Rattle.std.proofs.lemmas.List.{map-append}
+use Rattle.tb_break.proofs.EachLemmas.{all-join}
 use Rattle.tb_pool.specs.Lists.{Lists}
 use Rattle.tb_node.specs.declared.Node.{Node}
 use Rattle.tb_column.specs.declared.Warn.{Warn}
@@ -14,7 +15,6 @@ use Rattle.tb_output.specs.State.{sends}
 use Rattle.tb_output.specs.Shipping.{with_warning}
 use Rattle.tb_output.specs.Working.{shows, Does}
 use Rattle.tb_output.specs.Keeping.{KeepsFields, IsBack, KeepsBack}
-use Rattle.tb_output.proofs.Working.StandLemmas.{all-join}
 use Rattle.tb_output.proofs.Working.KeepLemmas.{keeps-back_alone}
 use Rattle.tb_output.proofs.Working.WorkingLemmas.{does-shown}
 

@@ -3,7 +3,7 @@
 -- text rise among themselves, before all but those above the text.
 use Rattle.std.proofs.Common.{◌≡◌, refl, sym, ◌∙◌, ap, ℕ, ◌==◌, ◌⊎◌, ◌&&◌, Bool, true, false, List, [], ◌∷◌, ◌++◌, Option, append_assoc, append-nil}
 use Rattle.std.specs.List.{AllByRecursion}
-use Rattle.std.proofs.lemmas.Bool.{eqb-true, or_parts, and_parts}
+use Rattle.std.proofs.lemmas.Bool.{eqb-true, or_parts, and_parts, both_ways}
 use Rattle.tb_node.specs.declared.Float.{Float}
 use Rattle.tb_float.specs.Lists.{FloatLists, has_class}
 use Rattle.tb_area.specs.Laws.{HasNone}
@@ -100,11 +100,7 @@ pub none-behind : (k : FloatKind) (text : List ℕ) (fs : List Float) → has_cl
 none-behind k text [] e = tt
 none-behind k text (f ∷ fs) e =
     let both = or_parts (f.class == k.class) (has_class k.class fs) e in
-    (λ is. absurd (never (f.class == k.class) both.0 (and_parts (f.class == k.class) (k.has f.line) is).0), none-behind k text fs both.1)
-  where
-    never : (t : Bool) → t ≡ false → t ≡ true → ⊥
-    never true x y = cc
-    never false x y = cc
+    (λ is. absurd (both_ways (f.class == k.class) both.0 (and_parts (f.class == k.class) (k.has f.line) is).0), none-behind k text fs both.1)
 
 none-if : (t : Bool) (n : ℕ) → t ≡ true → line_if t n ≡ [] → ⊥
 none-if true n e h = cc

@@ -1,11 +1,12 @@
 -- A text column takes its floats with it, and leaves the others behind; the class stays in order.
 use Rattle.std.proofs.Common.{◌≡◌, refl, sym, ◌∙◌, ap, subst, ℕ, ◌<◌, ◌≢◌, ◌⊎◌, inl, inr, Bool, List, [], ◌∷◌, ◌++◌, Option, append_assoc, arith}
 use Rattle.std.specs.List.{AllByRecursion}
+use Rattle.tb_break.proofs.EachLemmas.{all-front, all-back, all-join, all-map, all-of, all-both}
 use Rattle.tb_float.specs.Lists.{FloatLists, floats_among}
 use Rattle.tb_column.specs.Column.{PlainColumn}
 use Rattle.tb_output.specs.State.{Recorded, output}
 use Rattle.tb_output.specs.Clear
-use Rattle.tb_output.proofs.ClassesRise.RisingLists.{all-front, all-back, all-join, all-map, all-of, all-both, all-among, IsAmong, among-front, among-back, IsMissing, IsAbove, above-missing, MayPrecede, Across, Rises, rises-front, rises-back, rises-across, rises-known, rises-insert, rises-without, rises-more, across-back, across-unexcused, across-by, above-across}
+use Rattle.tb_output.proofs.ClassesRise.RisingLists.{all-among, IsAmong, among-front, among-back, IsMissing, IsAbove, above-missing, MayPrecede, Across, Rises, rises-front, rises-back, rises-across, rises-known, rises-insert, rises-without, rises-more, across-back, across-unexcused, across-by, above-across}
 use Rattle.tb_output.proofs.ClassesRise.ClassLines.{FloatKind, Side, alike, narrow, wider, waits, PartedBy, class_lines, float_lines, left_lines}
 use Rattle.tb_output.proofs.ClassesRise.RecordLines.{record_lines, records-more, IsPlacing, WasPlaced, placed-before, IsLate, placed-late, late-placed, IsCarried, carried-more, carried-now, carried-placed}
 use Rattle.tb_output.proofs.StepLaws.QuietLemmas.{AllAreas, SameApart}

@@ -1,6 +1,7 @@
 -- The floats' lines of a class in a page that fires, and in what waits after it.
 use Rattle.std.proofs.Common.{◌≡◌, sym, ◌∙◌, ap, subst, ℕ, ℤ, true, List, [], ◌++◌, take, drop, append_assoc}
 use Rattle.std.specs.Prelude.{int_lt}
+use Rattle.tb_break.proofs.EachLemmas.{all-front, all-back, all-join}
 use Rattle.tb_scaled.specs.Scaled.{eject_penalty}
 use Rattle.tb_node.specs.Plain.{PlainNode, without_insertions}
 use Rattle.tb_break.specs.Prune.{pruned_nodes}
@@ -8,7 +9,6 @@ use Rattle.tb_insert.specs.Account.{Frozen, labelled}
 use Rattle.tb_builder.specs.Reached.{Reach}
 use Rattle.tb_builder.specs.Fired.{Boxed, Fired, page_break, from_break, with_spent_break, held_insertions, fired_by}
 use Rattle.tb_builder.proofs.Cutting.CutLemmas.{acted_of, CutAt, AllIns}
-use Rattle.tb_output.proofs.ClassesRise.RisingLists.{all-front, all-back, all-join}
 use Rattle.tb_output.proofs.ClassesRise.FloatlessFeet.{HoldsFloatless, HoldFloatless, BoxesFloatless, labelled-floatless, take-floatless, boxes-floatless, spent-floatless, drop-floatless, held-floatless, pruned-floatless, acts-floatless, no-insertions-floatless}
 use Rattle.tb_output.proofs.ClassesRise.ClassLines.{FloatKind, class_lines, lines-append}
 use Rattle.tb_output.proofs.ClassesRise.PageLines.{acts_lines, take_lines, deeds, takes-append, deeds-append, pruned-lines, pruned-takes, pruned-deeds, spent-lines, spent-takes, spent-deeds, lines-split, takes-split, deeds-split, without-acts-lines, without-acts-takes, without-acts-deeds, acts-of-lines, deeds-of, without-insertions-lines, without-insertions-takes, without-insertions-deeds, ins-lines, ins-takes, ins-deeds, AreEarly, AreEndless, append-none, none-front, early-back, early-join, early-pruned, ended-lines, early-spent, calm-endless, endless-take, endless-drop, endless-insertions, ins-endless}

@@ -3,6 +3,7 @@ use Rattle.std.proofs.Common.{◌≡◌, refl, sym, ◌∙◌, ap, subst, ℕ, z
 use Rattle.std.specs.Prelude.{int_lt, int_le, not, ◌||◌, if◌then◌else◌}
 use Rattle.std.specs.List.{AllByRecursion}
 use Rattle.std.proofs.lemmas.Int.{ints}
+use Rattle.tb_break.proofs.EachLemmas.{all-front, all-join, all-of}
 use Rattle.tb_scaled.specs.declared.Glue.{Glue}
 use Rattle.tb_scaled.specs.Scaled.{eject_penalty}
 use Rattle.tb_scaled.specs.Glue.{filling_glue}
@@ -37,12 +38,12 @@ use Rattle.tb_output.specs.Text
 use Rattle.tb_output.specs.Clear
 use Rattle.tb_output.proofs.NothingLost.StateWeights.{Paired}
 use Rattle.tb_output.proofs.ColumnPages.FillLemmas.{HasLists, fill_column-lists}
-use Rattle.tb_output.proofs.ClassesRise.RisingLists.{all-front, all-join, all-of, IsAbove, Rises}
+use Rattle.tb_output.proofs.ClassesRise.RisingLists.{IsAbove, Rises}
 use Rattle.tb_output.proofs.ClassesRise.ClassLines.{FloatKind, Side, alike, narrow, wider, waits, PartedBy, IsReleased, wide-from, NotesFloatless, is_of, line_if, class_lines, float_lines, left_lines, sent_lines, lines-append, sent-append, AreFloatless, filled-lines, text_column-lines}
 use Rattle.tb_output.proofs.ClassesRise.RecordLines.{IsCarried}
 use Rattle.tb_output.proofs.ColumnPages.SparedLists.{waiting-double}
 use Rattle.tb_output.proofs.StepLaws.ColumnSteps.{no_law, place_float-step, place_next-step, put_out-step, float_columns-step, stays, sends-stays}
-use Rattle.tb_output.proofs.StepLaws.FiringSteps.{defer-step, clear_wide-step}
+use Rattle.tb_output.proofs.StepLaws.FiringSteps.{defer-stays, clear_wide-step}
 use Rattle.tb_output.proofs.StepLaws.WorkSteps.{column-unrefused, firing-unrefused}
 use Rattle.tb_output.proofs.StepLaws.QuietLemmas.{AllAreas, AddsQuiet, next-added, fill-areas, fill-same}
 use Rattle.tb_output.proofs.ClassesRise.FloatlessFeet.{HoldsFloatless, HoldFloatless, BoxesFloatless}
@@ -331,7 +332,7 @@ module _ (k : FloatKind) (Known : ℕ → Type 0) (takes past : List ℕ) (old :
           by_places false = deferred-ordered f refl refl
 
       deferred-gone : Gone k Known takes past old text w (Text.puts_interline p (Text.defer p f left w))
-      deferred-gone = let s = stays (defer-step p (no_law p) f left w) in interline-gone w (Text.defer p f left w) s.put_back s.held s.boxes defer-ordered
+      deferred-gone = let s = defer-stays p f left w in interline-gone w (Text.defer p f left w) s.put_back s.held s.boxes defer-ordered
 
       goes-gone : (vert : Bool) (place : Where) → PassesNone l l.deferred f place → Gone k Known takes past old text w (Text.float_goes p vert f left w place)
       goes-gone vert places.Top n =

@@ -2,6 +2,7 @@
 use Rattle.std.proofs.Common.{◌≡◌, refl, sym, ◌∙◌, ap, subst, ℕ, ◌||◌, ℤ, Bool, true, false, List, [], ◌∷◌, ◌++◌, map, take, drop, length, append_assoc, append-nil, arith}
 use Rattle.std.specs.Prelude.{◌-◌, pos, int_lt, int_le, not, ◌&&◌, if◌then◌else◌}
 use Rattle.std.proofs.lemmas.Int.{ints}
+use Rattle.tb_break.proofs.EachLemmas.{all-join}
 use Rattle.tb_scaled.specs.Scaled.{eject_penalty, max_dimen}
 use Rattle.tb_scaled.specs.Glue.{filling_glue}
 use Rattle.tb_node.specs.declared.Act.{Act}
@@ -21,7 +22,6 @@ use Rattle.tb_output.specs.Clear
 use Rattle.tb_output.specs.Out
 use Rattle.tb_output.proofs.NothingLost.StateWeights.{Paired}
 use Rattle.tb_output.proofs.NothingLost.WorkWeights.{is_serving}
-use Rattle.tb_output.proofs.ClassesRise.RisingLists.{all-join}
 use Rattle.tb_output.proofs.ClassesRise.ClassLines.{FloatKind, Side, alike, narrow, wider, is_of, IsReleased, class_lines, sent_lines, lines-append}
 use Rattle.tb_output.proofs.StepLaws.ColumnSteps.{no_law, in_turn, place_next-step, all_wide_pages-step, put_out-step, float_columns-step, Stays, stays, sends-stays}
 use Rattle.tb_output.proofs.StepLaws.FiringSteps.{first_goes-step, next_goal-step}

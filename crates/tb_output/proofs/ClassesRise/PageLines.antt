@@ -3,6 +3,8 @@ use Rattle.std.proofs.Common.{◌≡◌, refl, sym, ◌∙◌, ap, ℕ, zero, su
 use Rattle.std.specs.Prelude.{int_lt}
 use Rattle.std.specs.List.{AllByRecursion}
 use Rattle.std.proofs.lemmas.Int.{ints}
+use Rattle.std.proofs.lemmas.Bool.{both_ways}
+use Rattle.tb_break.proofs.EachLemmas.{all-join}
 use Rattle.tb_scaled.specs.Scaled.{eject_penalty}
 use Rattle.tb_node.specs.declared.Act.{Act}
 use Rattle.tb_node.specs.declared.Act.TheVariants as acts
@@ -10,7 +12,6 @@ use Rattle.tb_node.specs.Plain.{hbox, rule, skip, kerned, pen, mark, note, whats
 use Rattle.tb_break.specs.Prune.{pruned_nodes}
 use Rattle.tb_builder.specs.Fired.{penalty_at, spent_kind, with_spent_break}
 use Rattle.tb_builder.proofs.Cutting.CutLemmas.{Calm, AllCalm, acts_of, IsIns, AllIns}
-use Rattle.tb_output.proofs.ClassesRise.RisingLists.{all-join}
 use Rattle.tb_output.proofs.ClassesRise.ClassLines.{FloatKind, is_of, line_if, kind_lines, class_lines}
 
 -- ---- the floats that are still to be taken
@@ -298,25 +299,21 @@ pub early-back : (k : FloatKind) (xs ys : List PlainNode) → AreEarly k (xs ++ 
 early-back k [] ys h = h
 early-back k (x ∷ xs) ys h = early-back k xs ys h.1
 
-never : (t : Bool) → t ≡ false → t ≡ true → ⊥
-never true e h = cc
-never false e h = cc
-
 pub early-join : (k : FloatKind) (xs ys : List PlainNode) → AreEndless xs → AreEarly k ys → AreEarly k (xs ++ ys)
 early-join k [] ys e h = h
-early-join k (x ∷ xs) ys e h = (λ t. absurd (never (is_ending x.kind) e.0 t), early-join k xs ys e.1 h)
+early-join k (x ∷ xs) ys e h = (λ t. absurd (both_ways (is_ending x.kind) e.0 t), early-join k xs ys e.1 h)
 
 early-pruned-more : (k : FloatKind) (t : ℤ) (ns : List PlainNode) → AreEarly k ns → AreEarly k (pruned_nodes t ns) → (l : ℕ) (d : PlainKind) → (is_ending d ≡ true → class_lines k ns ≡ []) → AreEarly k (pruned_nodes t (record { line = l; kind = d } ∷ ns))
-early-pruned-more k t ns e h l (plain (hbox w a d)) i = (λ x. absurd (never false refl x), (λ x. absurd (never false refl x), e))
-early-pruned-more k t ns e h l (plain (rule w a d)) i = (λ x. absurd (never false refl x), (λ x. absurd (never false refl x), e))
+early-pruned-more k t ns e h l (plain (hbox w a d)) i = (λ x. absurd (both_ways false refl x), (λ x. absurd (both_ways false refl x), e))
+early-pruned-more k t ns e h l (plain (rule w a d)) i = (λ x. absurd (both_ways false refl x), (λ x. absurd (both_ways false refl x), e))
 early-pruned-more k t ns e h l (plain (skip g)) i = h
 early-pruned-more k t ns e h l (plain (kerned g)) i = h
 early-pruned-more k t ns e h l (plain (pen g)) i = h
-early-pruned-more k t ns e h l (plain (mark g)) i = (λ x. absurd (never false refl x), h)
-early-pruned-more k t ns e h l (plain (note g)) i = (λ x. absurd (never false refl x), h)
-early-pruned-more k t ns e h l (plain whatsit) i = (λ x. absurd (never false refl x), h)
-early-pruned-more k t ns e h l (ins y) i = (λ x. absurd (never false refl x), h)
-early-pruned-more k t ns e h l (act a) i = (λ x. absurd (never false refl x), h)
+early-pruned-more k t ns e h l (plain (mark g)) i = (λ x. absurd (both_ways false refl x), h)
+early-pruned-more k t ns e h l (plain (note g)) i = (λ x. absurd (both_ways false refl x), h)
+early-pruned-more k t ns e h l (plain whatsit) i = (λ x. absurd (both_ways false refl x), h)
+early-pruned-more k t ns e h l (ins y) i = (λ x. absurd (both_ways false refl x), h)
+early-pruned-more k t ns e h l (act a) i = (λ x. absurd (both_ways false refl x), h)
 
 pub early-pruned : (k : FloatKind) (t : ℤ) (ns : List PlainNode) → AreEarly k ns → AreEarly k (pruned_nodes t ns)
 early-pruned k t [] h = tt
@@ -328,32 +325,32 @@ ended-lines k [] h e = refl
 ended-lines k (n ∷ ns) h e = by_kind n.line n.kind h.0 e
   where
     by_kind : (l : ℕ) (d : PlainKind) → (is_ending d ≡ true → class_lines k ns ≡ []) → int_lt (penalty_at (record { line = l; kind = d } ∷ ns)) eject_penalty ≡ true → class_lines k (with_spent_break (record { line = l; kind = d } ∷ ns)) ≡ []
-    by_kind l (plain (hbox w a d)) h e = absurd (never false refl e)
-    by_kind l (plain (rule name a d)) h e = absurd (never false refl e)
-    by_kind l (plain (skip g)) h e = absurd (never false refl e)
-    by_kind l (plain (kerned w)) h e = absurd (never false refl e)
+    by_kind l (plain (hbox w a d)) h e = absurd (both_ways false refl e)
+    by_kind l (plain (rule name a d)) h e = absurd (both_ways false refl e)
+    by_kind l (plain (skip g)) h e = absurd (both_ways false refl e)
+    by_kind l (plain (kerned w)) h e = absurd (both_ways false refl e)
     by_kind l (plain (pen p)) h e = h e
-    by_kind l (plain (mark name)) h e = absurd (never false refl e)
-    by_kind l (plain (note name)) h e = absurd (never false refl e)
-    by_kind l (plain whatsit) h e = absurd (never false refl e)
-    by_kind l (ins i) h e = absurd (never false refl e)
-    by_kind l (act a) h e = absurd (never false refl e)
+    by_kind l (plain (mark name)) h e = absurd (both_ways false refl e)
+    by_kind l (plain (note name)) h e = absurd (both_ways false refl e)
+    by_kind l (plain whatsit) h e = absurd (both_ways false refl e)
+    by_kind l (ins i) h e = absurd (both_ways false refl e)
+    by_kind l (act a) h e = absurd (both_ways false refl e)
 
 pub early-spent : (k : FloatKind) (ns : List PlainNode) → AreEarly k ns → AreEarly k (with_spent_break ns)
 early-spent k [] h = tt
 early-spent k (n ∷ ns) h = (by_kind n.kind h.0, h.1)
   where
     by_kind : (d : PlainKind) → (is_ending d ≡ true → class_lines k ns ≡ []) → is_ending (spent_kind d) ≡ true → class_lines k ns ≡ []
-    by_kind (plain (hbox w a d)) h e = absurd (never false refl e)
-    by_kind (plain (rule name a d)) h e = absurd (never false refl e)
-    by_kind (plain (skip g)) h e = absurd (never false refl e)
-    by_kind (plain (kerned w)) h e = absurd (never false refl e)
-    by_kind (plain (pen p)) h e = absurd (never false refl e)
-    by_kind (plain (mark name)) h e = absurd (never false refl e)
-    by_kind (plain (note name)) h e = absurd (never false refl e)
-    by_kind (plain whatsit) h e = absurd (never false refl e)
-    by_kind (ins i) h e = absurd (never false refl e)
-    by_kind (act a) h e = absurd (never false refl e)
+    by_kind (plain (hbox w a d)) h e = absurd (both_ways false refl e)
+    by_kind (plain (rule name a d)) h e = absurd (both_ways false refl e)
+    by_kind (plain (skip g)) h e = absurd (both_ways false refl e)
+    by_kind (plain (kerned w)) h e = absurd (both_ways false refl e)
+    by_kind (plain (pen p)) h e = absurd (both_ways false refl e)
+    by_kind (plain (mark name)) h e = absurd (both_ways false refl e)
+    by_kind (plain (note name)) h e = absurd (both_ways false refl e)
+    by_kind (plain whatsit) h e = absurd (both_ways false refl e)
+    by_kind (ins i) h e = absurd (both_ways false refl e)
+    by_kind (act a) h e = absurd (both_ways false refl e)
 
 acts-endless-more : (ns : List PlainNode) → AreEndless (without_acts ns) → (l : ℕ) (d : PlainKind) → Calm d → AreEndless (without_acts (record { line = l; kind = d } ∷ ns))
 acts-endless-more ns h l (plain (hbox w a d)) c = (refl, h)

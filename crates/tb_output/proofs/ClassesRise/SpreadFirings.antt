@@ -2,6 +2,8 @@
 use Rattle.std.proofs.Common.{◌≡◌, refl, sym, ◌∙◌, ap, subst, ℕ, zero, suc, pos, ◌+◌, Bool, true, false, List, [], ◌∷◌, ◌++◌, length, Option, Some, None, append_assoc, append-nil}
 use Rattle.std.specs.Prelude.{int_lt, not, if◌then◌else◌}
 use Rattle.std.specs.List.{AllByRecursion}
+use Rattle.std.proofs.lemmas.Bool.{both_ways}
+use Rattle.tb_break.proofs.EachLemmas.{all-front}
 use Rattle.tb_node.specs.declared.Where.TheVariants as places
 use Rattle.tb_param.specs.declared.Params.{Params}
 use Rattle.tb_float.specs.Lists.{FloatLists, wide_part, wide_waiting, with_wide_waiting}
@@ -17,7 +19,7 @@ use Rattle.tb_output.specs.Columns
 use Rattle.tb_output.proofs.StepLaws.ColumnSteps.{no_law, put_out-step, put_out_by-step, wide_pages-step, place_double-step, float_columns-step}
 use Rattle.tb_output.proofs.StepLaws.WorkSteps.{column-unrefused}
 use Rattle.tb_output.proofs.ColumnPages.FillLemmas.{HasLists, fill_double-lists}
-use Rattle.tb_output.proofs.ClassesRise.RisingLists.{all-front, IsMissing}
+use Rattle.tb_output.proofs.ClassesRise.RisingLists.{IsMissing}
 use Rattle.tb_output.proofs.ClassesRise.ClassLines.{FloatKind, IsReleased, wide-from, class_lines, float_lines, left_lines, sheet_lines, sent_lines, sent-append, floats_above-lines, floats_column-lines}
 use Rattle.tb_output.proofs.StepLaws.QuietLemmas.{AddsQuiet, double-added, company-all}
 use Rattle.tb_output.proofs.ColumnPages.SparedLists.{waiting-double}
@@ -25,10 +27,6 @@ use Rattle.tb_output.proofs.ClassesRise.SpreadLemmas.{IsBehind, Spread, no-left,
 use Rattle.tb_output.proofs.ClassesRise.SpreadSteps.{recorded, shipped_alone, kept_left, shipped_pair, chosen, chosen_wide, filled_double}
 
 -- ---- steps that no limit stops
-
-absurd-bool : (t : Bool) → t ≡ true → t ≡ false → ⊥
-absurd-bool true x y = cc
-absurd-bool false x y = cc
 
 pub records-now : (r : Recorded) (w : Work) → w.refused ≡ false → records_also r w ≡ record w { records = w.records ++ r ∷ [] }
 records-now r w e = ap (λ t. if t then w else record w { records = w.records ++ r ∷ [] }) e
@@ -47,7 +45,7 @@ ship-is p sheet w ok = by_refused w.refused refl ok
     by_limit r false e = sends-now (shipped w.state.page sheet) turned r
 
     by_refused : (t : Bool) → w.refused ≡ t → (if t then w else (if int_lt p.maxpages (pos w.state.page) then record w { refused = true } else Ship.ship_now sheet w)).refused ≡ false → (if t then w else (if int_lt p.maxpages (pos w.state.page) then record w { refused = true } else Ship.ship_now sheet w)) ≡ record turned { sent = w.sent ++ shipped w.state.page sheet ∷ [] }
-    by_refused true r e = absurd (absurd-bool w.refused r e)
+    by_refused true r e = absurd (both_ways w.refused e r)
     by_refused false r e = by_limit r (int_lt p.maxpages (pos w.state.page)) e
 
 -- ---- a firing at work

@@ -2,6 +2,7 @@
 -- one, a column in hand, the deferred floats and those that are not placed yet are read as one list of lines.
 use Rattle.std.proofs.Common.{◌≡◌, refl, sym, ◌∙◌, ap, subst, ℕ, ◌<◌, ◌≢◌, ◌⊎◌, inl, inr, Bool, true, false, List, [], ◌∷◌, ◌++◌, Option, Some, None, append_assoc, arith}
 use Rattle.std.specs.List.{AllByRecursion}
+use Rattle.tb_break.proofs.EachLemmas.{all-join, all-map, all-of, all-both}
 use Rattle.tb_node.specs.declared.Float.{Float}
 use Rattle.tb_float.specs.declared.Part.TheVariants as parts
 use Rattle.tb_float.specs.Lists.{FloatLists, floats_among}
@@ -9,7 +10,7 @@ use Rattle.tb_column.specs.Column.{PlainColumn}
 use Rattle.tb_output.specs.State.{Recorded, output}
 use Rattle.tb_output.specs.Ship
 use Rattle.tb_output.proofs.NothingLost.StateWeights.{ColumnsFit}
-use Rattle.tb_output.proofs.ClassesRise.RisingLists.{all-join, all-map, all-of, all-both, IsMissing, IsAbove, Rises, above-missing}
+use Rattle.tb_output.proofs.ClassesRise.RisingLists.{IsMissing, IsAbove, Rises, above-missing}
 use Rattle.tb_output.proofs.ClassesRise.ClassLines.{FloatKind, Side, alike, narrow, wider, waits, PartedBy, Parted, WideFrom, is_of, line_if, class_lines, float_lines, left_lines, floats-append}
 use Rattle.tb_output.proofs.ClassesRise.RecordLines.{record_lines, records-more, IsPlacing, WasPlaced, IsLate, placed-before, late-more, IsCarried, carried-placed}
 use Rattle.tb_output.proofs.StepLaws.QuietLemmas.{AreQuiet, quiet-lines, quiet-placed}

@@ -1,6 +1,8 @@
 -- A record, a column and floats that leave the lists where they wait keep the order of a class.
 use Rattle.std.proofs.Common.{◌≡◌, refl, sym, ◌∙◌, ap, subst, ℕ, Bool, true, false, List, [], ◌∷◌, ◌++◌, Option, Some, None, append_assoc}
 use Rattle.std.specs.List.{AllByRecursion}
+use Rattle.std.proofs.lemmas.Bool.{both_ways}
+use Rattle.tb_break.proofs.EachLemmas.{all-front, all-back, all-join}
 use Rattle.tb_param.specs.declared.Params.{Params}
 use Rattle.tb_float.specs.declared.Part.{Part}
 use Rattle.tb_float.specs.declared.Part.TheVariants as parts
@@ -12,7 +14,7 @@ use Rattle.tb_fpage.specs.Company.{Choice, company, chosen_floats, left_floats}
 use Rattle.tb_column.specs.Column.{PlainColumn}
 use Rattle.tb_output.specs.State.{Recorded, output}
 use Rattle.tb_output.proofs.NothingLost.StateWeights.{ColumnsFit}
-use Rattle.tb_output.proofs.ClassesRise.RisingLists.{all-front, all-back, all-join, IsMissing, IsAbove, Rises, rises-front, rises-back, rises-across, rises-known, rises-more, across-back, across-unexcused}
+use Rattle.tb_output.proofs.ClassesRise.RisingLists.{IsMissing, IsAbove, Rises, rises-front, rises-back, rises-across, rises-known, rises-more, across-back, across-unexcused}
 use Rattle.tb_output.proofs.ClassesRise.ClassLines.{FloatKind, Side, alike, narrow, wider, waits, PartedBy, Parted, WideFrom, class_lines, float_lines, left_lines, floats-append, doubled-lines, company-lines}
 use Rattle.tb_output.proofs.ClassesRise.RecordLines.{record_lines, records-more, IsCarried, carried-more}
 use Rattle.tb_output.proofs.StepLaws.QuietLemmas.{SameAreas, AreQuiet, quiet-lines, double-all, double-same, double-second, double-deferred, company-all}
@@ -202,14 +204,10 @@ module _ (k : FloatKind) (Known : ℕ → Type 0) (text takes : List ℕ) where
         unseen = subst (λ c. AllByRecursion (IsUnseen k rs) (float_lines k (floats_among c) ++ takes)) (sym same.current) h.unseen;
         known = h.known;
         columns = h.columns;
-        single = λ f. absurd (both two t f);
+        single = λ f. absurd (both_ways two f t);
         top = same.top ∙ h.top;
         bottom = same.bottom ∙ h.bottom;
       })
-    where
-      both : (b : Bool) → b ≡ true → b ≡ false → ⊥
-      both true x y = cc
-      both false x y = cc
 
   -- what is parted then
   parted_deferred : (l m : FloatLists) → m.second ≡ l.second → (d : Side) → WideFrom d parts.Deferred → PartedBy d k l → PartedBy d k m

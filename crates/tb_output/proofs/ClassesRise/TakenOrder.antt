@@ -1,6 +1,7 @@
 -- The float that was taken last goes to the top, to the bottom, into the text, or to the deferred floats; the class stays in order.
 use Rattle.std.proofs.Common.{◌≡◌, refl, sym, ◌∙◌, ap, subst, ℕ, ◌<◌, ◌≢◌, ◌⊎◌, inl, inr, ℤ, Bool, true, false, List, [], ◌∷◌, ◌++◌, Option, append_assoc, append-nil, arith}
 use Rattle.std.specs.List.{AllByRecursion}
+use Rattle.tb_break.proofs.EachLemmas.{all-front, all-back, all-join, all-map, all-both}
 use Rattle.tb_node.specs.declared.Float.{Float}
 use Rattle.tb_node.specs.declared.Where.TheVariants as places
 use Rattle.tb_float.specs.declared.Entry.{Entry}
@@ -9,7 +10,7 @@ use Rattle.tb_float.specs.Lists.{FloatLists, floats_among, has_class}
 use Rattle.tb_area.specs.Laws.{HasNone}
 use Rattle.tb_column.specs.Column.{PlainColumn}
 use Rattle.tb_output.specs.State.{Recorded, placed}
-use Rattle.tb_output.proofs.ClassesRise.RisingLists.{all-front, all-back, all-join, all-map, all-both, IsAmong, among-front, among-back, IsMissing, IsAbove, above-missing, Rises, rises-back, rises-across, rises-join, rises-known, rises-without, rises-more, across-unexcused, above-across}
+use Rattle.tb_output.proofs.ClassesRise.RisingLists.{IsAmong, among-front, among-back, IsMissing, IsAbove, above-missing, Rises, rises-back, rises-across, rises-join, rises-known, rises-without, rises-more, across-unexcused, above-across}
 use Rattle.tb_output.proofs.ClassesRise.ClassLines.{FloatKind, Side, alike, narrow, wider, waits, PartedBy, is_of, line_if, float_lines, left_lines, floats-append}
 use Rattle.tb_output.proofs.ClassesRise.RecordLines.{record_lines, records-more, IsPlacing, WasPlaced, placed-more, placed-last, placed-before, IsLate, late-more, IsCarried, carried-more}
 use Rattle.tb_output.proofs.StepLaws.QuietLemmas.{AreQuiet, quiet-lines}

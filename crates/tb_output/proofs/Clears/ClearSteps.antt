@@ -1,5 +1,5 @@
 -- A clear: the steps of the work.
-use Rattle.std.proofs.Common.{◌≡◌, ◌≢◌, refl, sym, subst, ◌∙◌, ap, ℕ, zero, suc, pos, Bool, true, false, List, [], ◌∷◌, ◌++◌, map, take, length, append-nil, Option, Some, None, IsSome, arith}
+use Rattle.std.proofs.Common.{◌≡◌, ◌≢◌, refl, sym, subst, ◌∙◌, ap, ℕ, zero, suc, pos, Bool, true, false, List, [], ◌∷◌, ◌++◌, map, take, length, append-nil, Option, Some, IsSome, arith}
 use Rattle.std.specs.Prelude.{not, ◌||◌, if◌then◌else◌, unwrap_or}
 use Rattle.std.specs.FinMap.{FinMap, get, insert, remove}
 use Rattle.std.specs.Ordering.{nat_cmp}
@@ -158,7 +158,7 @@ front-kept a b c d back body xs apart e f g = record {
       ∙ ap (λ m. get m q) e ∙ get-insert_other a.lists body xs q away;
 }
 
-leaves-take : (n : ℕ) (ns : List Node) → AreLeaves ns → AreLeaves (take n ns)
+pub leaves-take : (n : ℕ) (ns : List Node) → AreLeaves ns → AreLeaves (take n ns)
 leaves-take zero ns h = tt
 leaves-take (suc n) [] h = tt
 leaves-take (suc n) (x ∷ ns) h = (h.0, leaves-take n ns h.1)
@@ -332,11 +332,3 @@ pub front-emptied : (a b : Lists Node) (body : ℕ) (lists : FinMap nat_cmp (Lis
 front-emptied a b body lists e =
     let here : get b.lists body ≡ Some [] = ap (λ m. get m body) e ∙ get-insert_same lists body [] in
     (subst (λ (o : Option (List Node)). IsSome o) (sym here) refl, ap (λ (o : Option (List Node)). unwrap_or o []) here)
-
--- a live list holds what is read of it
-pub live-some : (store : Lists Node) (l : ℕ) → IsLive store l → get store.lists l ≡ Some (list_at store l)
-live-some store l live = by_list (get store.lists l) live
-  where
-    by_list : (o : Option (List Node)) → IsSome o → o ≡ Some (unwrap_or o [])
-    by_list None h = let none : IsSome {T = List Node} None = h in absurd cc
-    by_list (Some xs) h = refl

@@ -6,6 +6,7 @@ use Rattle.std.proofs.lemmas.Bool.{eqb-true}
 use Rattle.std.proofs.lemmas.Int.{ints}
 use Rattle.std.proofs.lemmas.List.{map-append}
 use Rattle.std.proofs.lemmas.List.Elements.{All-append, All-from_recursion}
+use Rattle.tb_break.proofs.EachLemmas.{all-front}
 use Rattle.tb_scaled.specs.declared.Glue.{Glue}
 use Rattle.tb_scaled.specs.Glue.{filling_glue}
 use Rattle.tb_pool.specs.Lists.{Lists, list_at, with_list}
@@ -33,7 +34,7 @@ use Rattle.tb_output.specs.Machine.{MachineView, machine_lists, IsMachine}
 use Rattle.tb_output.specs.Working.{shows, shows_back, shows_notes, shows_page, IsCutShort, Does}
 use Rattle.tb_output.specs.Keeping.{AreNoneOf, AreTextLists, HasGrown, IsBack, back_lists, KeepsMachine, KeepsBack}
 use Rattle.tb_output.proofs.Working.ApartLemmas.{apart-back, apart-swap}
-use Rattle.tb_output.proofs.Working.StandLemmas.{Stands, all-front, list-same, list-stands, leaves-shown, IsShownBy, stands-shown, lists-shown}
+use Rattle.tb_output.proofs.Working.StandLemmas.{Stands, list-same, list-stands, leaves-shown, IsShownBy, stands-shown, lists-shown}
 use Rattle.tb_output.proofs.Working.KeepLemmas.{fields-same, keeps-then, keeps-more, keeps-beside, beside-shows, keeps-back_same, keeps-back_then}
 use Rattle.tb_output.proofs.InText.PushLemmas.{pushed-first, grown-of}
 use Rattle.tb_output.proofs.Working.WorkingLemmas.{Fact, does-then, shows-moved, cut-then, no-memory_given}

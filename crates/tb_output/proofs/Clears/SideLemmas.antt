@@ -2,6 +2,7 @@
 use Rattle.std.proofs.Common.{◌≡◌, refl, sym, subst, Bool, true, false, List, [], ◌∷◌, ◌++◌, arith}
 use Rattle.std.specs.Prelude.{if◌then◌else◌}
 use Rattle.std.specs.List.{AllByRecursion}
+use Rattle.tb_break.proofs.EachLemmas.{all-join}
 use Rattle.tb_node.specs.declared.Float.{Float}
 use Rattle.tb_node.specs.declared.Where.{Where}
 use Rattle.tb_node.specs.declared.Where.TheVariants as places
@@ -34,10 +35,6 @@ Fitting parts.Bottom f = Unit {0}
 Fitting parts.Deferred f = Unit {0}
 Fitting parts.Double f = Unit {0}
 Fitting parts.Second f = Single f
-
-all-of : (P : Float → Type 0) (fs gs : List Float) → AllByRecursion P fs → AllByRecursion P gs → AllByRecursion P (fs ++ gs)
-all-of P [] gs h k = k
-all-of P (f ∷ fs) gs h k = (h.0, all-of P fs gs h.1 k)
 
 -- what the invariant says in each release
 pub none-second : (p : Params) (l : FloatLists) → Sides (wide_part p) l → has_second p ≡ false → l.second ≡ []
@@ -86,11 +83,11 @@ joined-sides parts.Deferred places.Page f l n k h = h
 joined-sides parts.Deferred places.Double f l n k h = absurd n
 joined-sides parts.Deferred places.Deferred f l n k h = h
 joined-sides parts.Second places.Here f l n k h = (record { top = h.0.top; bottom = h.0.bottom; deferred = h.0.deferred }, h.1)
-joined-sides parts.Second places.Top f l n k h = (record { top = all-of Single l.top (f ∷ []) h.0.top (k, tt); bottom = h.0.bottom; deferred = h.0.deferred }, h.1)
-joined-sides parts.Second places.Bottom f l n k h = (record { top = h.0.top; bottom = all-of Single l.bottom (f ∷ []) h.0.bottom (k, tt); deferred = h.0.deferred }, h.1)
+joined-sides parts.Second places.Top f l n k h = (record { top = all-join Single l.top (f ∷ []) h.0.top (k, tt); bottom = h.0.bottom; deferred = h.0.deferred }, h.1)
+joined-sides parts.Second places.Bottom f l n k h = (record { top = h.0.top; bottom = all-join Single l.bottom (f ∷ []) h.0.bottom (k, tt); deferred = h.0.deferred }, h.1)
 joined-sides parts.Second places.Page f l n k h = h
 joined-sides parts.Second places.Double f l n k h = absurd n
-joined-sides parts.Second places.Deferred f l n k h = (record { top = h.0.top; bottom = h.0.bottom; deferred = all-of Single l.deferred (f ∷ []) h.0.deferred (k, tt) }, h.1)
+joined-sides parts.Second places.Deferred f l n k h = (record { top = h.0.top; bottom = h.0.bottom; deferred = all-join Single l.deferred (f ∷ []) h.0.deferred (k, tt) }, h.1)
 
 -- a float goes to the double list
 pub doubled-sides : (from : Part) (f : Float) (l : FloatLists) → Sides from l → Sides from (Place.joined_to places.Double f l)
@@ -132,7 +129,7 @@ gathered-sides parts.Top l h = tt
 gathered-sides parts.Bottom l h = tt
 gathered-sides parts.Double l h = tt
 gathered-sides parts.Deferred l h = h
-gathered-sides parts.Second l h = (record { top = tt; bottom = tt; deferred = all-of Single (l.top ++ l.bottom) l.deferred (all-of Single l.top l.bottom h.0.top h.0.bottom) h.0.deferred }, h.1)
+gathered-sides parts.Second l h = (record { top = tt; bottom = tt; deferred = all-join Single (l.top ++ l.bottom) l.deferred (all-join Single l.top l.bottom h.0.top h.0.bottom) h.0.deferred }, h.1)
 
 -- the floats of the areas are gone
 pub text-sides : (from : Part) (l : FloatLists) → Sides from l → Sides from (record l { here = []; top = []; bottom = [] })

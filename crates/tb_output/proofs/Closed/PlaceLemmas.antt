@@ -1,5 +1,5 @@
 -- After a firing what waits is well formed again.
-use Rattle.std.proofs.Common.{◌≡◌, refl, sym, ◌∙◌, ap, subst, ℕ, zero, suc, ℤ, Bool, true, false, List, [], ◌∷◌, ◌++◌, map, take, length, arith}
+use Rattle.std.proofs.Common.{◌≡◌, refl, sym, ◌∙◌, ap, subst, ℕ, zero, suc, ℤ, Bool, true, false, List, [], ◌∷◌, ◌++◌, map, take, length, arith, append_assoc}
 use Rattle.std.specs.Prelude.{int_le, ◌||◌, ◌-◌, pos, if◌then◌else◌}
 use Rattle.std.specs.List.{AllByRecursion}
 use Rattle.tb_scaled.specs.Scaled.{eject_penalty}
@@ -8,7 +8,7 @@ use Rattle.tb_break.specs.Split.{split_of}
 use Rattle.tb_param.specs.declared.Params.{Params}
 use Rattle.tb_builder.specs.Fired.{Fired}
 use Rattle.tb_builder.proofs.FiredPages.PageWeights.{AllOfClass}
-use Rattle.tb_builder.proofs.Cutting.CutLemmas.{Calm, AllCalm, ActFree, AllFree, IsIns, AllIns, inserted-class}
+use Rattle.tb_builder.proofs.Cutting.CutLemmas.{Calm, AllCalm, ActFree, AllFree, IsIns, AllIns, inserted-class, class-both, class-take}
 use Rattle.tb_output.specs.State.{State, Work, begun, footnotes}
 use Rattle.tb_output.specs.Columns
 use Rattle.tb_output.specs.Text
@@ -17,7 +17,7 @@ use Rattle.tb_output.specs.Out
 use Rattle.tb_output.proofs.StepLaws.BreakSorts.{at-ordinary, at-clear, at-serve, at-hold}
 use Rattle.tb_output.proofs.Closed.SortLemmas.{Sort, Seen, none, many, Stands, Steady, BreakStands, pen_sort, kind_sort, sorts, sorts-append, kind-steady, fewer}
 use Rattle.tb_output.proofs.NothingLost.StateWeights.{class_numbers}
-use Rattle.tb_output.proofs.Closed.PutLemmas.{class-joined, AreAmong, Opens, Puts, Begins, ordinary-puts, clear_by-puts, serve-puts, goal-puts, steady-extends}
+use Rattle.tb_output.proofs.Closed.PutLemmas.{AreAmong, Opens, Puts, Begins, ordinary-puts, clear_by-puts, serve-puts, goal-puts, steady-extends}
 
 abbrev pub AllSteady : List PlainNode → Type 0
 AllSteady ns = AllByRecursion Steady (sorts ns)
@@ -46,11 +46,6 @@ pub take-steady : (k : ℕ) (ns : List PlainNode) → AllSteady ns → AllSteady
 take-steady zero ns h = tt
 take-steady (suc k) [] h = tt
 take-steady (suc k) (n ∷ ns) h = (h.0, take-steady k ns h.1)
-
-pub take-class : (ks : List ℕ) (k : ℕ) (ns : List PlainNode) → AllOfClass ks ns → AllOfClass ks (take k ns)
-take-class ks zero ns h = tt
-take-class ks (suc k) [] h = tt
-take-class ks (suc k) (n ∷ ns) h = (h.0, take-class ks k ns h.1)
 
 none-more : (ks : List ℕ) (l : ℕ) (k : PlainKind) (ns : List PlainNode) → AllOfClass ks (without_insertions ns) → AllOfClass ks (without_insertions (record { line = l; kind = k } ∷ ns))
 none-more ks l (plain m) ns h = (tt, h)
@@ -111,7 +106,7 @@ module _ (ks : List ℕ) (p : Params) (calm : int_le p.interlinepenalty eject_pe
   at_clear : int_le eject_penalty f.penalty ≡ false → Out.is_int f.penalty Out.clear_penalty ≡ true → Ready ks (Clear.clear p f.body w) f.rest
   at_clear h k =
       let r : (b ≡ false) × Stands many false (sorts f.rest) = clear-rest b s f.rest f.penalty h k rest in
-      let x : Puts ks many false w (Clear.clear p f.body w) = clear_by-puts ks p f.body w (footnotes w.state) (steady-extends ks (Clear.cleared_front p f.body) (take-steady (split_of (pos 0) p.splitmaxdepth (map node_shape f.body)).index f.body body) (take-class ks (split_of (pos 0) p.splitmaxdepth (map node_shape f.body)).index f.body body_feet)) in
+      let x : Puts ks many false w (Clear.clear p f.body w) = clear_by-puts ks p f.body w (footnotes w.state) (steady-extends ks (Clear.cleared_front p f.body) (take-steady (split_of (pos 0) p.splitmaxdepth (map node_shape f.body)).index f.body body) (class-take ks (split_of (pos 0) p.splitmaxdepth (map node_shape f.body)).index f.body body_feet)) in
       record {
         held = false;
         seen = many;
@@ -126,7 +121,7 @@ module _ (ks : List ℕ) (p : Params) (calm : int_le p.interlinepenalty eject_pe
 
   at_serve : (vert : Bool) → int_le eject_penalty f.penalty ≡ false → Out.is_int f.penalty Out.clear_penalty ≡ false → (Out.is_int f.penalty Out.par_penalty || Out.is_int f.penalty Out.vert_penalty) ≡ true → Ready ks (Text.float_or_note p vert f.body w) f.rest
   at_serve vert h k l =
-      let x = serve-puts ks p calm vert f.body w among (steady-extends ks w.state.held_page steady held_feet) (steady-extends ks (Text.without_firing_box f.body) (take-steady (length f.body - 2) f.body body) (take-class ks (length f.body - 2) f.body body_feet)) (opens many false (λ ys k. fewer none false ys k)) in
+      let x = serve-puts ks p calm vert f.body w among (steady-extends ks w.state.held_page steady held_feet) (steady-extends ks (Text.without_firing_box f.body) (take-steady (length f.body - 2) f.body body) (class-take ks (length f.body - 2) f.body body_feet)) (opens many false (λ ys k. fewer none false ys k)) in
       record {
         held = false;
         seen = many;
@@ -184,16 +179,12 @@ ready-placed ks p f w i g r = all (Out.next_goal p f.penalty w) (goal-puts ks r.
           stands = subst (Stands none r.held) (sym (parts c)) (ins-stands ks f.held (sorts c.put_back ++ sorts f.rest) r.held i (o.by (sorts f.rest) r.stands));
           free = λ k. x.held ∙ r.free k;
           steady = subst AllSteady (sym x.held) r.steady;
-          feet = subst (λ ms. AllOfClass ms (f.held ++ c.put_back ++ f.rest)) same (class-joined ks (f.held ++ c.put_back) f.rest (class-joined ks f.held c.put_back (inserted-class ks f.held i) o.feet) g);
+          feet = subst (λ ms. AllOfClass ms (f.held ++ c.put_back ++ f.rest)) same (class-both ks (f.held ++ c.put_back) f.rest (class-both ks f.held c.put_back (inserted-class ks f.held i) o.feet) g);
           held_feet = subst (λ ms. AllOfClass ms c.state.held_page) same (subst (AllOfClass ks) (sym x.held) r.held_feet);
         }
       where
-        assoc : (xs ys zs : List Sort) → (xs ++ ys) ++ zs ≡ xs ++ (ys ++ zs)
-        assoc [] ys zs = refl
-        assoc (x ∷ xs) ys zs = ap (λ l. x ∷ l) (assoc xs ys zs)
-
         parts : (c : Work) → sorts (f.held ++ c.put_back ++ f.rest) ≡ sorts f.held ++ (sorts c.put_back ++ sorts f.rest)
-        parts c = sorts-append (f.held ++ c.put_back) f.rest ∙ ap (λ l. l ++ sorts f.rest) (sorts-append f.held c.put_back) ∙ assoc (sorts f.held) (sorts c.put_back) (sorts f.rest)
+        parts c = sorts-append (f.held ++ c.put_back) f.rest ∙ ap (λ l. l ++ sorts f.rest) (sorts-append f.held c.put_back) ∙ append_assoc (sorts f.held) (sorts c.put_back) (sorts f.rest)
 
 -- after a firing what waits is well formed again, if the interline penalty forces no break
 pub out-placed : (ks : List ℕ) (p : Params) → int_le p.interlinepenalty eject_penalty ≡ false → (st : State) (f : Fired) (b : Bool) (s : Seen) → (b ≡ false → st.held_page ≡ []) → AllSteady st.held_page → AllOfClass ks st.held_page → AllSteady f.body → AllOfClass ks f.body → AllIns ks f.held → AllOfClass ks f.rest → BreakStands b s f.rest (pen_sort f.penalty) → class_numbers st.classes ≡ ks → AreAmong ks st.classes → WellPlaced (Out.out p st f).state

@@ -1,5 +1,5 @@
 -- What a firing puts back: nodes before and after which what is well formed stays so.
-use Rattle.std.proofs.Common.{◌≡◌, refl, sym, ◌∙◌, ap, subst, ℕ, Bool, true, false, List, [], ◌∷◌, ◌++◌, length, Option, Some, None, map}
+use Rattle.std.proofs.Common.{◌≡◌, refl, sym, ◌∙◌, ap, subst, ℕ, Bool, true, false, List, [], ◌∷◌, ◌++◌, length, Option, Some, None, map, append_assoc}
 use Rattle.std.specs.Prelude.{ℤ, int_le, not, ◌||◌, ◌&&◌, if◌then◌else◌}
 use Rattle.tb_node.specs.declared.Float.{Float}
 use Rattle.tb_node.specs.declared.Margin.{Margin}
@@ -11,6 +11,8 @@ use Rattle.tb_node.specs.Plain.{Leaf, PlainNode, plain, pen, made, blank_box, sk
 use Rattle.tb_scaled.specs.declared.Glue.{Glue}
 use Rattle.tb_break.specs.Legal.{last_or}
 use Rattle.std.specs.List.{AllByRecursion}
+use Rattle.tb_builder.proofs.Cutting.CutLemmas.{class-both}
+use Rattle.tb_output.specs.Working.{Continues}
 use Rattle.tb_builder.proofs.FiredPages.PageWeights.{IsOnce, AllOfClass}
 use Rattle.tb_scaled.specs.Glue.{filling_glue}
 use Rattle.tb_scaled.specs.Scaled.{eject_penalty, max_dimen}
@@ -20,7 +22,7 @@ use Rattle.tb_float.specs.declared.Entry.TheVariants as entries
 use Rattle.tb_float.specs.Lists.{FloatLists}
 use Rattle.tb_float.specs.Rooms.{column_room_of}
 use Rattle.tb_margin.specs.declared.Placed.{Placed}
-use Rattle.tb_column.specs.Column.{Notes, warned, text_column}
+use Rattle.tb_column.specs.Column.{Notes, warned, text_column, PlainSent}
 use Rattle.tb_column.specs.declared.Warn.TheVariants as warnings
 use Rattle.tb_output.specs.State.{Work, puts, sends, with_floats, with_notes, notes_in, footnotes, has_floats}
 use Rattle.tb_output.specs.Place
@@ -29,14 +31,10 @@ use Rattle.tb_output.specs.Columns
 use Rattle.tb_output.specs.Text
 use Rattle.tb_output.specs.Clear
 use Rattle.tb_output.specs.Out
-use Rattle.tb_output.proofs.StepLaws.ColumnSteps.{RecordLaw, no_law, ColumnStep, in_turn, sends_one, place_float-step, place_next-step, all_wide_pages-step, put_out-step, float_columns-step, stays}
-use Rattle.tb_output.proofs.StepLaws.FiringSteps.{defer-step}
-use Rattle.tb_output.proofs.StepLaws.WorkSteps.{column-continues}
+use Rattle.tb_output.proofs.StepLaws.ColumnSteps.{RecordLaw, no_law, ColumnStep, in_turn, Stays, sends-stays, place_float-step, place_next-step, all_wide_pages-step, put_out-step, float_columns-step, stays}
+use Rattle.tb_output.proofs.StepLaws.FiringSteps.{defer-stays}
+use Rattle.tb_output.proofs.StepLaws.WorkSteps.{continues-sends, column-continues, continues-defer}
 use Rattle.tb_output.proofs.Closed.SortLemmas.{Sort, light, blank, real, silent, pause, hold, serve, clear, odd, Seen, none, one, many, Stands, sorts, sorts-append, fewer, Steady}
-
-pub class-joined : (ks : List ℕ) (xs ys : List PlainNode) → AllOfClass ks xs → AllOfClass ks ys → AllOfClass ks (xs ++ ys)
-class-joined ks [] ys a b = b
-class-joined ks (x ∷ xs) ys a b = (a.0, class-joined ks xs ys a.1 b)
 
 -- the number of each class is one of these
 abbrev pub AreAmong : List ℕ → List Class → Type 0
@@ -69,18 +67,20 @@ module _ (ks : List ℕ) (t : Seen) (b : Bool) where
   puts_if p a false c d x y = y
 
   pub extended : (ns : List PlainNode) (w : Work) → Extends ks t b ns → Puts w (puts ns w)
-  extended ns w x = record { opens = λ o. record { by = λ ys h. subst (λ l. Stands none b l) (sym (parts ys)) (o.by (sorts ns ++ ys) (x.by ys h)); feet = class-joined ks w.put_back ns o.feet x.feet }; held = refl; classes = refl }
+  extended ns w x = record { opens = λ o. record { by = λ ys h. subst (λ l. Stands none b l) (sym (parts ys)) (o.by (sorts ns ++ ys) (x.by ys h)); feet = class-both ks w.put_back ns o.feet x.feet }; held = refl; classes = refl }
     where
-      assoc : (xs ys zs : List Sort) → (xs ++ ys) ++ zs ≡ xs ++ (ys ++ zs)
-      assoc [] ys zs = refl
-      assoc (x ∷ xs) ys zs = ap (λ l. x ∷ l) (assoc xs ys zs)
-
       parts : (ys : List Sort) → sorts (w.put_back ++ ns) ++ ys ≡ sorts w.put_back ++ (sorts ns ++ ys)
-      parts ys = ap (λ l. l ++ ys) (sorts-append w.put_back ns) ∙ assoc (sorts w.put_back) (sorts ns) ys
+      parts ys = ap (λ l. l ++ ys) (sorts-append w.put_back ns) ∙ append_assoc (sorts w.put_back) (sorts ns) ys
+
+  stays-put : {a c : Work} → Stays a c → Continues a c → Puts a c
+  stays-put s x = same s.put_back s.held x.classes
+
+  sends-put : (e : PlainSent) (w : Work) → Puts w (sends e w)
+  sends-put e w = stays-put (sends-stays e w) (continues-sends e w)
 
   -- the steps of a column put nothing back
   pub column-puts : {p : Params} {law : RecordLaw p} {a c : Work} → ColumnStep p law a c → Puts a c
-  column-puts x = let s = stays x in same s.put_back s.held (column-continues x).classes
+  column-puts x = stays-put (stays x) (column-continues x)
 
   pub put_out_text-puts : (p : Params) (body : List PlainNode) (w : Work) → Puts w (Columns.put_out_text p body w)
   put_out_text-puts p body w =
@@ -96,11 +96,7 @@ module _ (ks : List ℕ) (t : Seen) (b : Bool) where
 -- ---- nodes that may be put back
 
 extends-both : (ks : List ℕ) (t : Seen) (b : Bool) (ms ns : List PlainNode) → Extends ks t b ms → Extends ks t b ns → Extends ks t b (ms ++ ns)
-extends-both ks t b ms ns x y = record { by = λ ys h. subst (Stands t b) (sym (ap (λ l. l ++ ys) (sorts-append ms ns) ∙ assoc (sorts ms) (sorts ns) ys)) (x.by (sorts ns ++ ys) (y.by ys h)); feet = class-joined ks ms ns x.feet y.feet }
-  where
-    assoc : (xs ys zs : List Sort) → (xs ++ ys) ++ zs ≡ xs ++ (ys ++ zs)
-    assoc [] ys zs = refl
-    assoc (x ∷ xs) ys zs = ap (λ l. x ∷ l) (assoc xs ys zs)
+extends-both ks t b ms ns x y = record { by = λ ys h. subst (Stands t b) (sym (ap (λ l. l ++ ys) (sorts-append ms ns) ∙ append_assoc (sorts ms) (sorts ns) ys)) (x.by (sorts ns ++ ys) (y.by ys h)); feet = class-both ks ms ns x.feet y.feet }
 
 -- the end of a page, after which a page begins
 abbrev pub Begins : Seen → Type 0
@@ -132,7 +128,7 @@ goal-puts ks t b k p n w = puts_if ks t b p w (Out.is_int n Out.hold_penalty) (O
     columns false = blank-extends ks t b k
 
     crowded : Puts ks t b w (Out.leave_column w)
-    crowded = joined ks t b p w told (Out.leave_column w) (column-puts ks t b {p = p} {law = no_law p} (sends_one (warned (warnings.Floats w.state.page)) w)) (extended ks t b (if w.state.two_columns && not w.state.first_column then Out.blank_column ++ Out.blank_column else Out.blank_column) told (columns (w.state.two_columns && not w.state.first_column)))
+    crowded = joined ks t b p w told (Out.leave_column w) (sends-put ks t b (warned (warnings.Floats w.state.page)) w) (extended ks t b (if w.state.two_columns && not w.state.first_column then Out.blank_column ++ Out.blank_column else Out.blank_column) told (columns (w.state.two_columns && not w.state.first_column)))
 
 -- steady nodes may be put back if a page is not held and what follows is well formed after many boxes
 steady-stands : (xs ys : List Sort) → AllByRecursion Steady xs → Stands many false ys → Stands many false (xs ++ ys)
@@ -182,9 +178,9 @@ module _ (ks : List ℕ) (p : Params) (calm : int_le p.interlinepenalty eject_pe
       joined ks many false p w b (Text.float_goes p vert f left w places.Here) (interline-puts w a (column-puts ks many false (place_float-step p (no_law p) places.Here f left w tt))) (extended ks many false (Text.here_nodes p vert f) b (steady-extends ks (Text.here_nodes p vert f) (here-steady vert f) (here-class vert f)))
   goes-puts vert f left w places.Top = interline-puts w _ (column-puts ks many false (place_float-step p (no_law p) places.Top f left w tt))
   goes-puts vert f left w places.Bottom = interline-puts w _ (column-puts ks many false (place_float-step p (no_law p) places.Bottom f left w tt))
-  goes-puts vert f left w places.Page = interline-puts w _ (column-puts ks many false (defer-step p (no_law p) f left w))
-  goes-puts vert f left w places.Double = interline-puts w _ (column-puts ks many false (defer-step p (no_law p) f left w))
-  goes-puts vert f left w places.Deferred = interline-puts w _ (column-puts ks many false (defer-step p (no_law p) f left w))
+  goes-puts vert f left w places.Page = interline-puts w _ (stays-put ks many false (defer-stays p f left w) (continues-defer p f left w))
+  goes-puts vert f left w places.Double = interline-puts w _ (stays-put ks many false (defer-stays p f left w) (continues-defer p f left w))
+  goes-puts vert f left w places.Deferred = interline-puts w _ (stays-put ks many false (defer-stays p f left w) (continues-defer p f left w))
 
   note-puts : (depth : ℤ) (m : Margin) (left : FloatLists) (w : Work) (at : Placed) → Puts ks many false w (Text.note_goes p depth m left w at)
   note-puts depth m left w at =
@@ -193,7 +189,7 @@ module _ (ks : List ℕ) (p : Params) (calm : int_le p.interlinepenalty eject_pe
       let c = puts (Text.note_nodes depth m at) b in
       interline-puts w c
       (joined ks many false p w a c (same ks many false refl refl refl)
-      (joined ks many false p a b c (puts_if ks many false p a at.moved (sends (warned (warnings.Moved m.name at.shift)) a) a (column-puts ks many false {p = p} {law = no_law p} (sends_one (warned (warnings.Moved m.name at.shift)) a)) (same ks many false refl refl refl)) (extended ks many false (Text.note_nodes depth m at) b (steady-extends ks (Text.note_nodes depth m at) (tt, (tt, (tt, tt))) (tt, (tt, (tt, tt)))))))
+      (joined ks many false p a b c (puts_if ks many false p a at.moved (sends (warned (warnings.Moved m.name at.shift)) a) a (sends-put ks many false (warned (warnings.Moved m.name at.shift)) a) (same ks many false refl refl refl)) (extended ks many false (Text.note_nodes depth m at) b (steady-extends ks (Text.note_nodes depth m at) (tt, (tt, (tt, tt))) (tt, (tt, (tt, tt)))))))
 
   first-puts : (vert : Bool) (height depth page_height : ℤ) (es : List Entry) (w : Work) → Puts ks many false w (Text.first_goes p vert height depth page_height es w)
   first-puts vert height depth page_height (entries.Float f ∷ es) w = goes-puts vert f _ w _

@@ -2,6 +2,7 @@
 use Rattle.std.proofs.Common.{◌≡◌, refl, sym, ◌∙◌, ap, subst, ℕ, suc, ◌≤◌, ◌⊎◌, inl, inr, Bool, true, false, List, [], ◌∷◌, ◌++◌, map, arith, append-nil, append_assoc}
 use Rattle.std.specs.Prelude.{ℤ, int_le, if◌then◌else◌}
 use Rattle.std.specs.List.{AllByRecursion}
+use Rattle.tb_break.proofs.EachLemmas.{all-join}
 use Rattle.tb_scaled.specs.Scaled.{eject_penalty}
 use Rattle.tb_node.specs.declared.Float.{Float}
 use Rattle.tb_node.specs.declared.Margin.{Margin}
@@ -25,7 +26,6 @@ use Rattle.tb_output.proofs.Closed.PlaceLemmas.{AllSteady}
 use Rattle.tb_output.proofs.Closed.PutLemmas.{penalty-steady, here-steady, notes-steady}
 use Rattle.tb_output.proofs.DeadCycles.BoxesFirst.{HasReal, real-left, real-right}
 use Rattle.tb_output.proofs.ColumnPages.SparedLists.{Single, moved}
-use Rattle.tb_output.proofs.ClassesRise.RisingLists.{all-join}
 
 -- how many floats and notes wait to be served
 abbrev pub entry_items : List Entry → ℕ

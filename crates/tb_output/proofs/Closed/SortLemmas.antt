@@ -4,6 +4,7 @@ use Rattle.std.proofs.Common.{◌≡◌, refl, sym, ◌∙◌, ap, subst, ℕ, z
 use Rattle.std.specs.Prelude.{int_le, ◌||◌, if◌then◌else◌}
 use Rattle.std.specs.List.{AllByRecursion}
 use Rattle.std.proofs.lemmas.Int.{ints}
+use Rattle.tb_break.proofs.EachLemmas.{all-take}
 use Rattle.tb_scaled.specs.Scaled.{eject_penalty, inf_penalty}
 use Rattle.tb_node.specs.declared.What.TheVariants as what
 use Rattle.tb_node.specs.Plain.{hbox, rule, skip, kerned, pen, mark, note, whatsit, PlainKind, plain, ins, act, PlainNode, without_acts, without_insertions}
@@ -130,11 +131,6 @@ one-weight v (n ∷ ns) c f e = one-more v ns c.1 f.1 (λ e. one-weight v ns c.1
 pub sorts-append : (xs ys : List PlainNode) → sorts (xs ++ ys) ≡ sorts xs ++ sorts ys
 sorts-append [] ys = refl
 sorts-append (x ∷ xs) ys = ap (λ l. kind_sort x.kind ∷ l) (sorts-append xs ys)
-
-all-take : {X : Type 0} (P : X → Type 0) (k : ℕ) (xs : List X) → AllByRecursion P xs → AllByRecursion P (take k xs)
-all-take P zero xs h = tt
-all-take P (suc k) [] h = tt
-all-take P (suc k) (x ∷ xs) h = (h.0, all-take P k xs h.1)
 
 pub take-drop : {X : Type 0} (k : ℕ) (xs ys : List X) → xs ++ ys ≡ take k xs ++ (drop k xs ++ ys)
 take-drop zero xs ys = refl

@@ -2,6 +2,7 @@
 use Rattle.std.proofs.Common.{◌≡◌, refl, sym, subst, ◌∙◌, ap, ℕ, pos, List, [], ◌∷◌, ◌++◌, length, append_assoc, length-append, Bool, true, false, arith}
 use Rattle.std.specs.Prelude.{ℤ}
 use Rattle.std.specs.List.{AllByRecursion}
+use Rattle.tb_builder.proofs.Events.NextLemmas.{fresh_apart}
 use Rattle.tb_pool.specs.Lists.{Lists, IsLive}
 use Rattle.tb_pool.specs.Frame.{IsNoneOf}
 use Rattle.tb_pool.proofs.FrameLemmas.{none-back}
@@ -29,7 +30,7 @@ use Rattle.tb_output.specs.Columns
 use Rattle.tb_output.specs.Ship
 use Rattle.tb_output.proofs.ColumnPages.FillLemmas.{HasLists, fill_column-lists, fill_double-lists}
 use Rattle.tb_output.proofs.Working.StandLemmas.{Stands, machine-live, IsShownBy, stands-shown}
-use Rattle.tb_output.proofs.Working.ApartLemmas.{not-live, fresh-none}
+use Rattle.tb_output.proofs.Working.ApartLemmas.{fresh-none}
 
 -- ---- as many boxes are live as before
 
@@ -123,7 +124,7 @@ module _ (v : FloatPool) (m now : MachineView) (is_now : now ≡ record m { pool
   module _ (l : ℕ) (store new : Lists Node) (opened : IsOpened l store new) (is : IsMachine m store) where
     opened-stand : (ls : List ℕ) → AllByRecursion (IsLive store) ls → AllByRecursion (Stands store new) ls
     opened-stand [] live = tt
-    opened-stand (q ∷ ls) live = (opened.others q (not-live store l q opened.fresh live.0), opened-stand ls live.1)
+    opened-stand (q ∷ ls) live = (opened.others q (fresh_apart store l q opened.fresh live.0), opened-stand ls live.1)
 
     pub opened-shown : IsShownBy m store new
     opened-shown = stands-shown m store new is (opened-stand (machine_lists m) (machine-live m store is))
@@ -134,7 +135,7 @@ module _ (v : FloatPool) (m now : MachineView) (is_now : now ≡ record m { pool
     pub opened-keeps : v.size ≡ m.pool.size → HasNoMarks v → KeepsMachine [] m now store new
     opened-keeps size unmarked = record {
       machine = pooled-machine new size unmarked opened-shown.machine;
-      frame = λ q live none. (opened.others q (not-live store l q opened.fresh live), subst (IsNoneOf q) (sym pooled-lists) none);
+      frame = λ q live none. (opened.others q (fresh_apart store l q opened.fresh live), subst (IsNoneOf q) (sym pooled-lists) none);
       fields = pooled-fields;
     }
 

@@ -1,5 +1,6 @@
 -- Chosen floats were made a column, or there was no memory.
 use Rattle.std.proofs.Common.{◌≡◌, sym, subst, ◌∙◌, ap, ℤ, [], ◌∷◌, Bool, false, true}
+use Rattle.tb_builder.proofs.Events.NextLemmas.{fresh_apart}
 use Rattle.tb_pool.specs.Lists.{Lists}
 use Rattle.tb_pool.specs.Frame.{IsNoneOf}
 use Rattle.tb_node.specs.declared.Node.{Node}
@@ -30,7 +31,6 @@ use Rattle.tb_output.specs.Shipping.{HasShipped, HasNotShipped}
 use Rattle.tb_output.specs.Turns.{column_done, wide_done}
 use Rattle.tb_output.proofs.Working.WorkingLemmas.{Fact, no-memory}
 use Rattle.tb_output.proofs.Working.StandLemmas.{IsShownBy, lists-shown}
-use Rattle.tb_output.proofs.Working.ApartLemmas.{not-live}
 use Rattle.tb_output.proofs.Working.KeepLemmas.{keeps-same, keeps-then}
 use Rattle.tb_output.proofs.ColumnPages.FloatMoves.{opened-shown, opened-none, opened-keeps, pooled-keeps}
 use Rattle.tb_output.proofs.Clears.CompanyLemmas.{left-size, left-unmarked, back-size, back-unmarked, company-out, wide-out}
@@ -54,7 +54,7 @@ module _ (z : Wanted) (from : Part) (waits : IsWaiting from) (m mid now : Machin
 
     -- and what was done with the column after that
     pub taken-then : (later : MachineView) (last : Lists Node) → KeepsMachine (c.list ∷ []) now later new last → KeepsMachine [] m later store last
-    taken-then later last k = keeps-then [] (c.list ∷ []) m now later store new last taken-keeps k (λ q live none. ((λ e. not-live store c.list q opened.fresh live (sym e)), tt))
+    taken-then later last k = keeps-then [] (c.list ∷ []) m now later store new last taken-keeps k (λ q live none. ((λ e. fresh_apart store c.list q opened.fresh live (sym e)), tt))
 
   -- there was no memory: no float is chosen any more
   module _ (back : now ≡ record mid { pool = without_marks from mid.pool }) (lists : new.lists ≡ store.lists) where

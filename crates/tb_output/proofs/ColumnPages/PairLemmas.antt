@@ -2,6 +2,8 @@
 use Rattle.std.proofs.Common.{◌≡◌, ◌≢◌, refl, sym, subst, ◌∙◌, ap, ℕ, pos, List, [], ◌∷◌, ◌++◌, false, Some, arith}
 use Rattle.std.specs.Prelude.{ℤ, ◌-ℤ◌, int_lt}
 use Rattle.std.specs.FinMap.{get}
+use Rattle.tb_builder.proofs.Events.NextLemmas.{fresh_apart}
+use Rattle.tb_break.proofs.EachLemmas.{all-join}
 use Rattle.tb_pool.specs.Lists.{Lists, IsLive}
 use Rattle.tb_pool.specs.Frame.{IsNoneOf}
 use Rattle.tb_pool.proofs.FrameLemmas.{none-join}
@@ -27,8 +29,8 @@ use Rattle.tb_output.specs.Shipping.{HasShipped, HasNotShipped, without_doubles,
 use Rattle.tb_output.specs.Ship
 use Rattle.tb_output.proofs.StepLaws.WorkSteps.{continues-same, continues-then, continues-ship, continues-all_wide_pages, continues-fill_double}
 use Rattle.tb_output.proofs.Working.WorkingLemmas.{Fact, does-shown, shown_work, no-memory, cut-then}
-use Rattle.tb_output.proofs.Working.StandLemmas.{all-join, machine-live, IsShownBy, column-stands, column-shows}
-use Rattle.tb_output.proofs.Working.ApartLemmas.{apart-swap, distinct-join, not-live, fresh-none}
+use Rattle.tb_output.proofs.Working.StandLemmas.{machine-live, IsShownBy, column-stands, column-shows}
+use Rattle.tb_output.proofs.Working.ApartLemmas.{apart-swap, distinct-join, fresh-none}
 use Rattle.tb_output.proofs.ColumnPages.ShipLemmas.{shipped_work, ship-is, full-is, shipped-shows, event_lists-after, last-page}
 use Rattle.tb_output.proofs.ColumnPages.FloatMoves.{opened-shown, opened-keeps}
 use Rattle.tb_output.proofs.Working.KeepLemmas.{keeps-more}
@@ -91,7 +93,7 @@ module _ (m now : MachineView) (store s : Lists Node) (tops : ℕ) (at : ℤ) (l
   same = opened-shown m.pool m m refl tops store s opened is
 
   stands : get s.lists right.list ≡ get store.lists right.list
-  stands = opened.others right.list (not-live store tops right.list opened.fresh page.list.live)
+  stands = opened.others right.list (fresh_apart store tops right.list opened.fresh page.list.live)
 
   right-same : column_shown s right ≡ column_shown store right
   right-same = column-shows store s right stands page
@@ -132,7 +134,7 @@ module _ (m now : MachineView) (store s : Lists Node) (tops : ℕ) (at : ℤ) (l
     t = subst (IsNoneOf tops) lists-of (fresh-none store tops (machine_lists m) opened.fresh (machine-live m store is))
 
     right-none : right.list ≢ tops
-    right-none = not-live store tops right.list opened.fresh page.list.live
+    right-none = fresh_apart store tops right.list opened.fresh page.list.live
 
     distinct : AreDistinct (m.held_page ∷ (rest ++ added))
     distinct = (
@@ -160,11 +162,11 @@ module _ (m now : MachineView) (store s : Lists Node) (tops : ℕ) (at : ℤ) (l
     }
 
     none-then : (q : ℕ) → IsLive store q → right.list ≢ q → IsNoneOf q (m.held_page ∷ left.list ∷ rest) → IsNoneOf q (m.held_page ∷ (rest ++ added))
-    none-then q live other none = (none.0, none-join q rest added none.1.1 ((λ e. not-live store tops q opened.fresh live (sym e)), (none.1.0, (other, tt))))
+    none-then q live other none = (none.0, none-join q rest added none.1.1 ((λ e. fresh_apart store tops q opened.fresh live (sym e)), (none.1.0, (other, tt))))
 
     pub pair-keeps : HasShipped both (without_doubles m) now → KeepsMachine (right.list ∷ []) m (without_left now) store s
     pair-keeps h = subst (λ n. KeepsMachine (right.list ∷ []) m (without_left n) store s) (sym h.machine) (record {
       machine = pair-machine h.room;
-      frame = λ q live none. (opened.others q (not-live store tops q opened.fresh live), subst (IsNoneOf q) (sym lists-then) (none-then q live none.0 (subst (IsNoneOf q) lists-of none.1)));
+      frame = λ q live none. (opened.others q (fresh_apart store tops q opened.fresh live), subst (IsNoneOf q) (sym lists-then) (none-then q live none.0 (subst (IsNoneOf q) lists-of none.1)));
       fields = record { params = refl; classes = refl; fault = refl };
     })

@@ -3,6 +3,7 @@ use Rattle.std.proofs.Common.{◌≡◌, refl, sym, subst, ◌∙◌, ap, ℕ, p
 use Rattle.std.specs.Prelude.{◌≤ℤ◌, int_lt, if◌then◌else◌}
 use Rattle.std.proofs.lemmas.Int.{ints}
 use Rattle.std.proofs.lemmas.List.{map-append}
+use Rattle.tb_break.proofs.EachLemmas.{all-join}
 use Rattle.tb_pool.specs.Lists.{Lists}
 use Rattle.tb_pool.specs.Frame.{IsNoneOf}
 use Rattle.tb_pool.proofs.FrameLemmas.{none-front, none-back, none-join}
@@ -24,7 +25,6 @@ use Rattle.tb_output.specs.Shipping.{shipped_machine, HasShipped, HasNotShipped,
 use Rattle.tb_output.specs.Ship
 use Rattle.tb_output.proofs.StepLaws.WorkSteps.{continues-ship}
 use Rattle.tb_output.proofs.Working.WorkingLemmas.{does-shown, shown_work, no-memory}
-use Rattle.tb_output.proofs.Working.StandLemmas.{all-join}
 use Rattle.tb_output.proofs.Working.ApartLemmas.{apart-swap, distinct-join}
 
 -- ---- the work

@@ -3,6 +3,8 @@ use Rattle.std.proofs.Common.{◌≡◌, refl, sym, subst, ◌∙◌, ap, ℕ, �
 use Rattle.std.specs.Prelude.{All, neg_ℤ}
 use Rattle.std.proofs.lemmas.Int.{ints}
 use Rattle.std.proofs.lemmas.List.{length-map}
+use Rattle.tb_insert.proofs.AccountLemmas.{leaf_shapes}
+use Rattle.tb_builder.proofs.Handover.CallLemmas.{dimension_small}
 use Rattle.tb_scaled.specs.Amount.{IsAmount}
 use Rattle.tb_pool.specs.Lists.{Lists, list_at}
 use Rattle.tb_node.specs.declared.Kind.{Kind}
@@ -58,12 +60,6 @@ amount-cast z h = omega (arith, ints, h.low, h.high)
 pub amount-passed : (z : ℤ) → IsAmount z → IsAmount (to_z w64 (of_z w64 z))
 amount-passed z h = subst IsAmount (sym (amount-cast z h)) h
 
-pub extent-amount : (z : ℤ) → IsExtent z → IsAmount z
-extent-amount z h = record { low = omega (arith, ints, h.low); high = omega (arith, ints, h.high) }
-
-pub dimension-amount : (z : ℤ) → IsDimension z → IsAmount z
-dimension-amount z h = record { low = omega (arith, ints, h.low); high = omega (arith, ints, h.high) }
-
 pub within-amount : (most : ℕ) (z : ℤ) → most ≤ 36029896531181568 → IsWithin most z → IsAmount z
 within-amount most z few h = record { low = omega (arith, ints, few, h.low); high = omega (arith, ints, few, h.high) }
 
@@ -81,10 +77,6 @@ leaf-shape (kinds.Note name) = refl
 leaf-shape kinds.Whatsit = refl
 leaf-shape (kinds.Ins i) = refl
 leaf-shape (kinds.Act a) = refl
-
-pub leaf-shapes : (ns : List Node) → map leaf_shape (map leaf_of ns) ≡ map shape_of ns
-leaf-shapes [] = refl
-leaf-shapes (n ∷ ns) = λ i. leaf-shape n.kind i ∷ leaf-shapes ns i
 
 -- ---- the insertions of a page
 
@@ -114,7 +106,7 @@ both-amount count size width few s w = record { low = omega (arith, ints, few, s
 height-more : (store : Lists Node) (all left : List NoteBox) (k : ℕ) (n : NoteBox) (height size : ℤ) → k + 1 ≤ 256 → IsNote store n → size ≡ size_of (map shape_of (list_at store n.list)) → IsWithin (2147483646 * length (list_at store n.list)) size
     → IsHeightSoFar store all (n ∷ left) k height → IsHeightSoFar store all left (k + 1) (height +ℤ (size +ℤ n.skip.width))
 height-more store all left k n height size classes note is within so =
-    let same : size_of (map leaf_shape (map leaf_of (list_at store n.list))) ≡ size = ap size_of (leaf-shapes (list_at store n.list)) ∙ sym is in
+    let same : size_of (map leaf_shape (map leaf_of (list_at store n.list))) ≡ size = ap size_of (leaf_shapes (list_at store n.list)) ∙ sym is in
     record {
       value = height-sum height size n.skip.width (notes_height (notes_shown store left)) (notes_height (notes_shown store all))
           (subst (λ z. height +ℤ (z +ℤ n.skip.width +ℤ notes_height (notes_shown store left)) ≡ notes_height (notes_shown store all)) same so.value);
@@ -139,7 +131,7 @@ so-far-amount store all left k height so = within-amount so.most height (omega (
 pub class-height : (store : Lists Node) (n : NoteBox) (size sum : ℤ) → IsNote store n → IsWithin (2147483646 * length (list_at store n.list)) size → sum ≡ to_z w64 (of_z w64 size) +ℤ to_z w64 (of_z w64 n.skip.width) → (sum ≡ size +ℤ n.skip.width) × IsAmount sum
 class-height store n size sum note within e =
     let small : IsAmount size = within-amount (2147483646 * length (list_at store n.list)) size (omega (arith, note.list.few)) within in
-    let is : sum ≡ size +ℤ n.skip.width = e ∙ (λ i. amount-cast size small i +ℤ amount-cast n.skip.width (dimension-amount n.skip.width note.skip.width) i) in
+    let is : sum ≡ size +ℤ n.skip.width = e ∙ (λ i. amount-cast size small i +ℤ amount-cast n.skip.width (dimension_small n.skip.width note.skip.width) i) in
     (is, subst IsAmount (sym is) (both-amount (length (list_at store n.list)) size n.skip.width note.list.few within note.skip.width))
 
 -- one more

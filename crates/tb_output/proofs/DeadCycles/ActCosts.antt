@@ -3,6 +3,8 @@ use Rattle.std.proofs.Common.{◌≡◌, refl, sym, ◌∙◌, subst, ℕ, zero,
 use Rattle.std.specs.Prelude.{int_le, int_lt, ◌&&◌, if◌then◌else◌}
 use Rattle.std.specs.List.{AllByRecursion}
 use Rattle.std.proofs.lemmas.Int.{ints}
+use Rattle.std.proofs.lemmas.Bool.{and_right, and_parts, and_left, both_ways}
+use Rattle.tb_break.proofs.EachLemmas.{all-push}
 use Rattle.tb_scaled.specs.Scaled.{min_ℤ}
 use Rattle.tb_node.specs.declared.Act.{Act}
 use Rattle.tb_node.specs.declared.Act.TheVariants as acts
@@ -118,9 +120,6 @@ none-current P (entries.Right m ∷ es) e = none-current P es e
 low : (h t : ℤ) → int_le (min_ℤ h t) t ≡ true
 low h t = grind (arith, ints)
 
-and-false : (a b : Bool) → b ≡ false → (a && b) ≡ false
-and-false a b h = grind (arith, h)
-
 abbrev pub ActActs : Params → ℕ → State → Acted → Type 0
 ActActs p n s (went t ws rs) = Acts p n s t
 ActActs p n s (full line live) = Unit {0}
@@ -142,30 +141,17 @@ act-acts p s (acts.Take f) h = by_room p 2 s (int_le p.pool (pos (live_count s.f
     waits-long [] = refl
     waits-long (g ∷ fs) = let h : length (fs ++ taken_float p s f ∷ []) ≡ length fs + 1 = waits-long fs in omega arith
 
-    one-more : (P : Float → Type 0) (fs : List Float) → AllByRecursion P fs → P (taken_float p s f) → AllByRecursion P (fs ++ taken_float p s f ∷ [])
-    one-more P [] h k = (k, tt)
-    one-more P (g ∷ fs) h k = (h.0, one-more P fs h.1 k)
-
     not-wide : (a b : Bool) → (a && b) ≡ false → a ≡ true → b ≡ false
     not-wide a b h k = grind (arith, h, k)
 
-    is-wide : (a b : Bool) → (a && b) ≡ true → b ≡ true
-    is-wide a b h = grind (arith, h)
-
     has-both : (a b : Bool) → (a && b) ≡ true → a ≡ false → ⊥
-    has-both a b h k = let no : true ≡ false = sym h ∙ and-first a b k in cc
-      where
-        and-first : (a b : Bool) → a ≡ false → (a && b) ≡ false
-        and-first a b h = grind (arith, h)
-
-    never-wide : (a : Bool) → a ≡ true → a ≡ false → ⊥
-    never-wide a h k = let no : true ≡ false = sym h ∙ k in cc
+    has-both a b h k = let no : true ≡ false = sym h ∙ and_left a b k in cc
 
     second-sides : (has_second p && t.wide) ≡ true → Sides (wide_part p) s.floats → Sides (wide_part p) (record s.floats { second = s.floats.second ++ t ∷ [] })
     second-sides e x = by_release (has_second p) refl x
       where
         by_release : (u : Bool) → has_second p ≡ u → Sides (if u then parts.Second else parts.Deferred) s.floats → Sides (if u then parts.Second else parts.Deferred) (record s.floats { second = s.floats.second ++ t ∷ [] })
-        by_release true r x = (record { top = x.0.top; bottom = x.0.bottom; deferred = x.0.deferred }, one-more Wide s.floats.second x.1 (is-wide (has_second p) t.wide e))
+        by_release true r x = (record { top = x.0.top; bottom = x.0.bottom; deferred = x.0.deferred }, all-push Wide s.floats.second (taken_float p s f) x.1 (and_parts (has_second p) t.wide e).1)
         by_release false r x = absurd (has-both (has_second p) t.wide e r)
 
     taken : (u : Bool) → (has_second p && t.wide) ≡ u → Acts p 2 s (record s { floats = if u then record s.floats { second = s.floats.second ++ t ∷ [] } else record s.floats { current = s.floats.current ++ entries.Float t ∷ [] } })
@@ -181,7 +167,7 @@ act-acts p s (acts.Take f) h = by_room p 2 s (int_le p.pool (pos (live_count s.f
           floats = λ x. record {
             fit = record { top = x.fit.top; bottom = x.fit.bottom; deferred = x.fit.deferred; double = x.fit.double; second = x.fit.second };
             current = all-append (Fits p) s.floats.current es x.current (low f.height p.textheight, tt);
-            single = λ c. let y = x.single c in (record { top = y.0.top; bottom = y.0.bottom; deferred = y.0.deferred; double = y.0.double; second = y.0.second }, all-append Single s.floats.current es y.1 (and-false f.wide s.two_columns c, tt));
+            single = λ c. let y = x.single c in (record { top = y.0.top; bottom = y.0.bottom; deferred = y.0.deferred; double = y.0.double; second = y.0.second }, all-append Single s.floats.current es y.1 (and_right f.wide s.two_columns c, tt));
             double = record { wide = x.double.wide; none = x.double.none };
             sides = current-sides (wide_part p) (s.floats.current ++ es) s.floats x.sides;
             narrow = λ r. all-append Single s.floats.current es (x.narrow r) (not-wide (has_second p) t.wide e r, tt);
@@ -199,9 +185,9 @@ act-acts p s (acts.Take f) h = by_room p 2 s (int_le p.pool (pos (live_count s.f
           cycles = refl;
           goal = refl;
           floats = λ x. record {
-            fit = record { top = x.fit.top; bottom = x.fit.bottom; deferred = x.fit.deferred; double = x.fit.double; second = one-more (Fits p) s.floats.second x.fit.second (low f.height p.textheight) };
+            fit = record { top = x.fit.top; bottom = x.fit.bottom; deferred = x.fit.deferred; double = x.fit.double; second = all-push (Fits p) s.floats.second (taken_float p s f) x.fit.second (low f.height p.textheight) };
             current = x.current;
-            single = λ c. absurd (never-wide t.wide (is-wide (has_second p) t.wide e) (and-false f.wide s.two_columns c));
+            single = λ c. absurd (both_ways t.wide (and_right f.wide s.two_columns c) (and_parts (has_second p) t.wide e).1);
             double = record { wide = x.double.wide; none = x.double.none };
             sides = second-sides e x.sides;
             narrow = x.narrow;

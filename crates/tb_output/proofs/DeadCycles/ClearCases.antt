@@ -2,6 +2,8 @@
 use Rattle.std.proofs.Common.{◌≡◌, refl, sym, ◌∙◌, ap, subst, ℕ, ◌+◌, ◌≤◌, inl, inr, ◌⊎◌, Bool, true, false, List, [], ◌∷◌, ◌++◌, length, Some, None, arith}
 use Rattle.std.specs.Prelude.{not, ◌&&◌, ◌||◌, if◌then◌else◌}
 use Rattle.std.specs.List.{AllByRecursion}
+use Rattle.std.proofs.lemmas.Bool.{and_left, both_ways}
+use Rattle.tb_break.proofs.EachLemmas.{all-join}
 use Rattle.tb_node.specs.declared.Float.{Float}
 use Rattle.tb_node.specs.Plain.{PlainNode, made, blank_box}
 use Rattle.tb_param.specs.declared.Params.{Params}
@@ -16,7 +18,7 @@ use Rattle.tb_output.specs.Columns
 use Rattle.tb_output.specs.Clear
 use Rattle.tb_output.proofs.StepLaws.FollowLemmas.{waiting_floats, AllWait, Follows, follows-same, follows-then, follows-wide, follows-company, follows-float_columns}
 use Rattle.tb_output.proofs.DeadCycles.ColumnOutcomes.{stays-zero, IsLast, last-ships, IsKept, first-kept, second-pairs, Columned, AllColumned, all-columned}
-use Rattle.tb_output.proofs.DeadCycles.ClearOutcomes.{NoneWait, Fits, Single, Narrow, WaitsWell, halves, more, gathered, append-none, true-false, no-singles, all-of-both, no-both, no-floats, follows-halves, follows-more, gathered-all, double-follows, AllWidened, all-widened, wide-cycles, tail, IsTail, is-tail, How, ClearOut, gathered-count, none-left, tail-cycles, tail-floats, nothing-rest}
+use Rattle.tb_output.proofs.DeadCycles.ClearOutcomes.{NoneWait, Fits, Single, Narrow, WaitsWell, halves, more, gathered, append-none, no-singles, no-both, no-floats, follows-halves, follows-more, gathered-all, double-follows, AllWidened, all-widened, wide-cycles, tail, IsTail, is-tail, How, ClearOut, gathered-count, none-left, tail-cycles, tail-floats, nothing-rest}
 
 module _ (p : Params) (body : List PlainNode) (w : Work) (good : WaitsWell p w.state) where
   abbrev P : Float → Type 0
@@ -70,7 +72,7 @@ module _ (p : Params) (body : List PlainNode) (w : Work) (good : WaitsWell p w.s
   deferred-fit = (gathered-all P p w.state.floats good.fit).deferred
 
   narrow-again : Narrow w.state.floats → AllByRecursion Single a0.state.floats.deferred
-  narrow-again h = all-of-both Single (w.state.floats.top ++ w.state.floats.bottom) w.state.floats.deferred (all-of-both Single w.state.floats.top w.state.floats.bottom h.top h.bottom) h.deferred
+  narrow-again h = all-join Single (w.state.floats.top ++ w.state.floats.bottom) w.state.floats.deferred (all-join Single w.state.floats.top w.state.floats.bottom h.top h.bottom) h.deferred
 
   -- a column of floats is put out, and none after it or others
   after-put : (cs : List Choice) → Columned P p true (put cs a0) a → Follows P (put cs a0) a
@@ -90,16 +92,13 @@ module _ (p : Params) (body : List PlainNode) (w : Work) (good : WaitsWell p w.s
       sums x y z h k = omega arith
 
   not-true-false : {X : Type 0} (u : Bool) → u ≡ false → u ≡ true → X
-  not-true-false u h k = absurd (true-false u k h)
+  not-true-false u h k = absurd (both_ways u h k)
 
   half-by : (u : Bool) → (a.state.two_columns && not a.state.first_column) ≡ u → t.half ≡ u
   half-by u h = t.second ∙ h
 
   two-of : (u : Bool) → w.state.two_columns ≡ u → a.state.two_columns ≡ u
   two-of u h = x.columns ∙ h
-
-  and-first : (u v : Bool) → u ≡ false → (u && v) ≡ false
-  and-first u v h = grind (arith, h)
 
   and-second : (u v : Bool) → v ≡ true → (u && not v) ≡ false
   and-second u v h = grind (arith, h)
@@ -112,10 +111,10 @@ module _ (p : Params) (body : List PlainNode) (w : Work) (good : WaitsWell p w.s
   one-column o (inl h) =
       let s : AllWait Single w.state.floats × (w.state.floats.double ≡ []) = good.single o in
       let f : a0.state.floats.deferred ≡ [] = no-singles p a0.state.floats a0.state.floats.deferred s.1 deferred-fit (gathered-all Single p w.state.floats s.0).deferred h.0 in
-      emptied (nothing-waits (gathered-none (s.1, f, no-both w.state.floats.second good.second s.0.second))) (half-by false (and-first a.state.two_columns (not a.state.first_column) (two-of false o))) (inl o)
+      emptied (nothing-waits (gathered-none (s.1, f, no-both w.state.floats.second good.second s.0.second))) (half-by false (and_left a.state.two_columns (not a.state.first_column) (two-of false o))) (inl o)
   one-column o (inr h) =
       let y : Follows P (put h.0 a0) a = after-put h.0 h.2 in
-      inr (inr (tail-cycles P p (put h.0 a0) a b t y (put-ships h.0 a0 (inl o)), fewer 1 (put h.0 a0) (follows-company P p true a0 h.0 h.1).1 y, λ k. not-true-false t.half (half-by false (and-first a.state.two_columns (not a.state.first_column) (two-of false o))) k))
+      inr (inr (tail-cycles P p (put h.0 a0) a b t y (put-ships h.0 a0 (inl o)), fewer 1 (put h.0 a0) (follows-company P p true a0 h.0 h.1).1 y, λ k. not-true-false t.half (half-by false (and_left a.state.two_columns (not a.state.first_column) (two-of false o))) k))
 
   -- the column after a company's
   put-first : (cs : List Choice) → w.state.two_columns ≡ true → w.state.first_column ≡ false → (put cs a0).state.first_column ≡ true

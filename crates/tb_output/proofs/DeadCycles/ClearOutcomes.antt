@@ -4,6 +4,8 @@ use Rattle.std.specs.Prelude.{int_le, not, ◌&&◌, ◌||◌, if◌then◌else�
 use Rattle.std.specs.Bool.{beq}
 use Rattle.std.specs.List.{AllByRecursion}
 use Rattle.std.proofs.lemmas.Int.{ints}
+use Rattle.std.proofs.lemmas.Bool.{or_from, both_ways}
+use Rattle.tb_break.proofs.EachLemmas.{all-join}
 use Rattle.tb_node.specs.declared.Float.{Float}
 use Rattle.tb_node.specs.Plain.{PlainNode, made, blank_box}
 use Rattle.tb_param.specs.declared.Params.{Params}
@@ -20,7 +22,7 @@ use Rattle.tb_output.specs.State.{State, Work, puts, with_floats, has_floats}
 use Rattle.tb_output.specs.Ship
 use Rattle.tb_output.specs.Columns
 use Rattle.tb_output.specs.Clear
-use Rattle.tb_output.proofs.StepLaws.FollowLemmas.{waiting_floats, AllWait, Follows, follows-same, follows-then, follows-wide_pages, follows-float_columns, all-both, both-long, part-count, part-current, part-all, all-part}
+use Rattle.tb_output.proofs.StepLaws.FollowLemmas.{waiting_floats, AllWait, Follows, follows-same, follows-then, follows-wide_pages, follows-float_columns, both-long, part-count, part-current, part-all, all-part}
 use Rattle.tb_output.proofs.DeadCycles.ColumnOutcomes.{ship-cycles, stays-zero}
 
 -- no float waits
@@ -83,9 +85,6 @@ no-double p l e = at l.double e
     at [] e = grind (arith, ints)
     at (f ∷ fs) e = cc
 
-pub true-false : (t : Bool) → t ≡ true → t ≡ false → ⊥
-true-false t h k = let no : true ≡ false = sym h ∙ k in cc
-
 -- a single float, and a wide one, suit when floats are cleared
 suits-single : (p : Params) (l : FloatLists) (f : Float) → l.double ≡ [] → Fits p f → Single f → suits (Columns.single_wanted p l true) f ≡ true
 suits-single p l f d h s = by_tests f.places.p f.wide s (subst (λ (z : ℤ). int_le f.height z ≡ true) (sym (no-double p l d)) h)
@@ -105,14 +104,14 @@ suits-wide p f h s = by_tests f.places.p f.wide s h
 
 pub no-singles : (p : Params) (l : FloatLists) (fs : List Float) → l.double ≡ [] → AllByRecursion (Fits p) fs → AllByRecursion Single fs → company (Columns.single_wanted p l true) fs ≡ None → fs ≡ []
 no-singles p l [] d h s e = refl
-no-singles p l (f ∷ fs) d h s e = absurd (true-false (suits (Columns.single_wanted p l true) f) (suits-single p l f d h.0 s.0) (none-suits (Columns.single_wanted p l true) f fs refl e))
+no-singles p l (f ∷ fs) d h s e = absurd (both_ways (suits (Columns.single_wanted p l true) f) (none-suits (Columns.single_wanted p l true) f fs refl e) (suits-single p l f d h.0 s.0))
 
 no-mixed : (p : Params) (l : FloatLists) (fs : List Float) → AllByRecursion (Fits p) l.double → AllByRecursion Wide l.double → AllByRecursion (Fits p) fs → company (Columns.single_wanted p l true) fs ≡ None → company (Ship.wide_wanted p true) (l.double ++ fs) ≡ None → (l.double ≡ []) × (fs ≡ [])
 no-mixed p l fs a b h e k = by_double l.double refl a b k
   where
     by_wide : (t : Bool) (f : Float) (gs : List Float) → f.wide ≡ t → l.double ≡ [] → Fits p f → company (Columns.single_wanted p l true) (f ∷ gs) ≡ None → company (Ship.wide_wanted p true) (f ∷ gs) ≡ None → ⊥
-    by_wide false f gs w d x e k = true-false (suits (Columns.single_wanted p l true) f) (suits-single p l f d x w) (none-suits (Columns.single_wanted p l true) f gs refl e)
-    by_wide true f gs w d x e k = true-false (suits (Ship.wide_wanted p true) f) (suits-wide p f x w) (none-suits (Ship.wide_wanted p true) f gs refl k)
+    by_wide false f gs w d x e k = both_ways (suits (Columns.single_wanted p l true) f) (none-suits (Columns.single_wanted p l true) f gs refl e) (suits-single p l f d x w)
+    by_wide true f gs w d x e k = both_ways (suits (Ship.wide_wanted p true) f) (none-suits (Ship.wide_wanted p true) f gs refl k) (suits-wide p f x w)
 
     by_floats : (gs : List Float) → AllByRecursion (Fits p) gs → l.double ≡ [] → company (Columns.single_wanted p l true) gs ≡ None → company (Ship.wide_wanted p true) gs ≡ None → gs ≡ []
     by_floats [] h d e k = refl
@@ -120,20 +119,16 @@ no-mixed p l fs a b h e k = by_double l.double refl a b k
 
     by_double : (ds : List Float) → l.double ≡ ds → AllByRecursion (Fits p) ds → AllByRecursion Wide ds → company (Ship.wide_wanted p true) (ds ++ fs) ≡ None → (l.double ≡ []) × (fs ≡ [])
     by_double [] d a b k = (d, by_floats fs h d e k)
-    by_double (f ∷ ds) d a b k = absurd (true-false (suits (Ship.wide_wanted p true) f) (suits-wide p f a.0 b.0) (none-suits (Ship.wide_wanted p true) f (ds ++ fs) refl k))
+    by_double (f ∷ ds) d a b k = absurd (both_ways (suits (Ship.wide_wanted p true) f) (none-suits (Ship.wide_wanted p true) f (ds ++ fs) refl k) (suits-wide p f a.0 b.0))
 
 no-wides : (p : Params) (fs : List Float) → AllByRecursion (Fits p) fs → AllByRecursion Wide fs → company (Ship.wide_wanted p true) fs ≡ None → fs ≡ []
 no-wides p [] h s e = refl
-no-wides p (f ∷ fs) h s e = absurd (true-false (suits (Ship.wide_wanted p true) f) (suits-wide p f h.0 s.0) (none-suits (Ship.wide_wanted p true) f fs refl e))
-
-pub all-of-both : (P : Float → Type 0) (fs gs : List Float) → AllByRecursion P fs → AllByRecursion P gs → AllByRecursion P (fs ++ gs)
-all-of-both P [] gs h k = k
-all-of-both P (f ∷ fs) gs h k = (h.0, all-of-both P fs gs h.1 k)
+no-wides p (f ∷ fs) h s e = absurd (both_ways (suits (Ship.wide_wanted p true) f) (none-suits (Ship.wide_wanted p true) f fs refl e) (suits-wide p f h.0 s.0))
 
 -- no float is wide and single
 pub no-both : (fs : List Float) → AllByRecursion Wide fs → AllByRecursion Single fs → fs ≡ []
 no-both [] h k = refl
-no-both (f ∷ fs) h k = absurd (true-false f.wide h.0 k.0)
+no-both (f ∷ fs) h k = absurd (both_ways f.wide k.0 h.0)
 
 -- with no company of single floats and none of wide ones, nothing waits
 pub no-floats : (p : Params) (l : FloatLists) → AllByRecursion (Fits p) l.double → AllByRecursion Wide l.double → AllByRecursion (Fits p) l.deferred → AllByRecursion (Fits p) l.second → AllByRecursion Wide l.second → (has_second p ≡ false → l.second ≡ []) → (has_second p ≡ true → AllByRecursion Single l.deferred) → company (Columns.single_wanted p l true) l.deferred ≡ None → company (Ship.wide_wanted p true) (l.double ++ wide_waiting p l) ≡ None → (l.double ≡ []) × (l.deferred ≡ []) × (l.second ≡ [])
@@ -146,7 +141,7 @@ no-floats p l a b h i j none narrow e k = by_release (has_second p) refl k
     in_one r d = (d.0, d.1, none r)
 
     by_release : (t : Bool) → has_second p ≡ t → company (Ship.wide_wanted p true) (l.double ++ floats_of (if t then parts.Second else parts.Deferred) l) ≡ None → (l.double ≡ []) × (l.deferred ≡ []) × (l.second ≡ [])
-    by_release true r k = in_two r (append-none l.double l.second (no-wides p (l.double ++ l.second) (all-of-both (Fits p) l.double l.second a i) (all-of-both Wide l.double l.second b j) k))
+    by_release true r k = in_two r (append-none l.double l.second (no-wides p (l.double ++ l.second) (all-join (Fits p) l.double l.second a i) (all-join Wide l.double l.second b j) k))
     by_release false r k = in_one r (no-mixed p l l.deferred a b h e k)
 
 -- the double floats are in no list of those that wait
@@ -158,9 +153,6 @@ undoubled parts.Bottom q l = absurd q
 undoubled parts.Deferred q l = refl
 undoubled parts.Double q l = absurd q
 undoubled parts.Second q l = refl
-
-or-false : (a b : Bool) → a ≡ false → b ≡ false → (a || b) ≡ false
-or-false a b h k = grind (arith, h, k)
 
 -- ---- steps that put something back
 
@@ -178,13 +170,13 @@ module _ (P : Float → Type 0) (p : Params) where
 
   -- the floats of the areas wait again, as many as before
   pub gathered-all : (l : FloatLists) → AllWait P l → AllWait P (Clear.deferred_again l)
-  gathered-all l h = record { top = tt; bottom = tt; deferred = all-both P (l.top ++ l.bottom) l.deferred (all-both P l.top l.bottom h.top h.bottom) h.deferred; double = h.double; second = h.second }
+  gathered-all l h = record { top = tt; bottom = tt; deferred = all-join P (l.top ++ l.bottom) l.deferred (all-join P l.top l.bottom h.top h.bottom) h.deferred; double = h.double; second = h.second }
 
   abbrev undouble : FloatLists → FloatLists
   undouble l = record l { double = [] }
 
   double-all : (l : FloatLists) → AllWait P l → AllWait P (Clear.double_again p l)
-  double-all l h = all-part P (wide_part p) (wide-waits p) (l.double ++ wide_waiting p l) (undouble l) (record { top = h.top; bottom = h.bottom; deferred = h.deferred; double = tt; second = h.second }) (all-both P l.double (wide_waiting p l) h.double (part-all P (wide_part p) (wide-waits p) l h))
+  double-all l h = all-part P (wide_part p) (wide-waits p) (l.double ++ wide_waiting p l) (undouble l) (record { top = h.top; bottom = h.bottom; deferred = h.deferred; double = tt; second = h.second }) (all-join P l.double (wide_waiting p l) h.double (part-all P (wide_part p) (wide-waits p) l h))
 
   double-count : (l : FloatLists) → waiting_floats (Clear.double_again p l) ≤ waiting_floats l
   double-count l =
@@ -318,7 +310,7 @@ module _ (P : Float → Type 0) (p : Params) where
   tail-floats a b t = subst (λ (s : State). waiting_floats b.state.floats ≤ waiting_floats s.floats) (halved-state t.rest t.half a) t.follows.floats
 
   pub nothing-rest : (a b : Work) (t : IsTail a b) → NoneWait b.state.floats → t.rest ≡ false
-  nothing-rest a b t h = sym t.left ∙ or-false (has_floats b.state.floats.deferred) (has_floats b.state.floats.second) (ap has_floats h.deferred) (ap has_floats h.second)
+  nothing-rest a b t h = sym t.left ∙ or_from (has_floats b.state.floats.deferred) (has_floats b.state.floats.second) (ap has_floats h.deferred) (ap has_floats h.second)
 
   -- what holds of all floats that wait holds after a clear
   pub clear-all : (body : List PlainNode) (w : Work) → AllWait P w.state.floats → AllWait P (Clear.clear_floats p body w).state.floats

@@ -1,5 +1,5 @@
 -- What is known of a page that fires by the penalty of its break, and of the state after the goal is set.
-use Rattle.std.proofs.Common.{◌≡◌, refl, sym, ◌∙◌, ap, subst, ℕ, ℤ, ◌+◌, ◌*◌, ◌≤◌, inl, inr, ◌⊎◌, Bool, true, false, List, [], ◌∷◌, ◌++◌, length, None, arith}
+use Rattle.std.proofs.Common.{◌≡◌, refl, sym, ◌∙◌, ap, subst, ℕ, ℤ, ◌+◌, ◌*◌, ◌≤◌, inl, inr, ◌⊎◌, Bool, true, false, List, [], ◌∷◌, ◌++◌, length, None, arith, append_assoc}
 use Rattle.std.specs.Prelude.{◌==◌, int_le, ◌||◌, if◌then◌else◌}
 use Rattle.std.specs.List.{AllByRecursion}
 use Rattle.std.proofs.lemmas.Int.{ints}
@@ -92,10 +92,6 @@ fits-same p s t e c h = record {
   narrow = λ k. subst (λ (l : FloatLists). AllCurrent Single l.current) (sym e) (h.narrow k);
 }
 
-assoc-sorts : (xs ys zs : List Sort) → (xs ++ ys) ++ zs ≡ xs ++ (ys ++ zs)
-assoc-sorts [] ys zs = refl
-assoc-sorts (x ∷ xs) ys zs = ap (λ l. x ∷ l) (assoc-sorts xs ys zs)
-
 ins-kind : (k : PlainKind) → IsInserted k → Idle (kind_sort k)
 ins-kind (plain x) i = absurd i
 ins-kind (ins x) i = tt
@@ -134,7 +130,7 @@ module _ (p : Params) (m : ℕ) (f : Fired) (held : AllInserted f.held) (w : Wor
       parts : sorts (f.held ++ ((w.put_back ++ goal.blanks) ++ f.rest)) ≡ sorts f.held ++ (sorts w.put_back ++ (sorts goal.blanks ++ sorts f.rest))
       parts =
           sorts-append f.held ((w.put_back ++ goal.blanks) ++ f.rest)
-          ∙ ap (λ l. sorts f.held ++ l) (sorts-append (w.put_back ++ goal.blanks) f.rest ∙ ap (λ l. l ++ sorts f.rest) (sorts-append w.put_back goal.blanks) ∙ assoc-sorts (sorts w.put_back) (sorts goal.blanks) (sorts f.rest))
+          ∙ ap (λ l. sorts f.held ++ l) (sorts-append (w.put_back ++ goal.blanks) f.rest ∙ ap (λ l. l ++ sorts f.rest) (sorts-append w.put_back goal.blanks) ∙ append_assoc (sorts w.put_back) (sorts goal.blanks) (sorts f.rest))
 
   -- what is known after the output routine is known after the goal is set
   pub finish : (again : ℕ) (kind : Kind) (phase : Phase)

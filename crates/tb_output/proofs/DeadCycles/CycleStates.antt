@@ -4,6 +4,7 @@ use Rattle.std.specs.Prelude.{int_lt, ◌&&◌, not, if◌then◌else◌}
 use Rattle.std.specs.List.{AllByRecursion}
 use Rattle.std.proofs.lemmas.Int.{ints}
 use Rattle.std.proofs.lemmas.List.{append-nil}
+use Rattle.std.proofs.lemmas.Bool.{and_right}
 use Rattle.tb_scaled.specs.Scaled.{eject_penalty, max_dimen}
 use Rattle.tb_node.specs.Plain.{PlainNode, made, blank_box, whatsit, pen}
 use Rattle.tb_param.specs.declared.Params.{Params}
@@ -142,10 +143,7 @@ full-room p l a b c = at l.top l.bottom l.double a b c
     at [] [] (x ∷ d) a b c = cc
 
 not-crowded : (p : Params) (r : ℤ) → r ≡ p.textheight → Out.is_crowded p r ≡ false
-not-crowded p r e = last _ (int_lt r p.textheight) (grind (arith, ints, e))
-  where
-    last : (a b : Bool) → b ≡ false → (a && b) ≡ false
-    last a b h = grind (arith, h)
+not-crowded p r e = and_right _ (int_lt r p.textheight) (grind (arith, ints, e))
 
 pub goal-out : (p : Params) (n : ℤ) (w : Work) → GoalOut p n w (Out.next_goal p n w)
 goal-out p n w = by_hold (Out.is_int n Out.hold_penalty) refl

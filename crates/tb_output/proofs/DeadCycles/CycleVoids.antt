@@ -1,8 +1,9 @@
 -- A clear without footnotes lowers what is left of the firings without a page, or ships a page.
-use Rattle.std.proofs.Common.{◌≡◌, refl, sym, ◌∙◌, ap, subst, ℕ, suc, ◌+◌, ◌*◌, ◌≤◌, inl, inr, ◌⊎◌, Bool, true, false, List, [], ◌∷◌, ◌++◌, length, arith}
-use Rattle.std.specs.Prelude.{◌||◌, int_le, if◌then◌else◌}
+use Rattle.std.proofs.Common.{◌≡◌, refl, sym, ◌∙◌, ap, subst, ℕ, suc, ◌+◌, ◌*◌, ◌≤◌, inl, inr, ◌⊎◌, Bool, true, false, List, [], ◌∷◌, ◌++◌, length, arith, append_assoc}
+use Rattle.std.specs.Prelude.{int_le, if◌then◌else◌}
 use Rattle.std.specs.List.{AllByRecursion}
 use Rattle.std.proofs.lemmas.List.{append_assoc, append-nil}
+use Rattle.std.proofs.lemmas.Bool.{or_parts, or_from}
 use Rattle.tb_scaled.specs.Scaled.{eject_penalty}
 use Rattle.tb_node.specs.declared.Float.{Float}
 use Rattle.tb_node.specs.Plain.{PlainNode, made, blank_box, whatsit, pen}
@@ -70,15 +71,6 @@ back-again false true n ys a =
     subst (λ (k : ℕ). Again k (sorts (half_nodes true ++ rest_nodes false) ++ ys)) e h
 back-again false false n ys a = let e : n ≡ n + 0 + 0 = omega arith in subst (λ (k : ℕ). Again k ys) e a
 
-or-first : (a b : Bool) → (a || b) ≡ false → a ≡ false
-or-first a b h = grind (arith, h)
-
-or-second : (a b : Bool) → (a || b) ≡ false → b ≡ false
-or-second a b h = grind (arith, h)
-
-or-none : (a b : Bool) → a ≡ false → b ≡ false → (a || b) ≡ false
-or-none a b h k = grind (arith, h, k)
-
 module _ (p : Params) (m : ℕ) (s : State) (total a : ℕ) (kind : Kind) (phase : Phase) (f : Fired) (calm : int_le p.interlinepenalty eject_penalty ≡ false)
     (holds : Holds p s a kind) (at : PhaseHolds s phase) (floats : FloatsFit p s)
     (weight : total + 2 * way_floats s.floats + credit kind ≤ m + 2 * a)
@@ -121,10 +113,6 @@ module _ (p : Params) (m : ℕ) (s : State) (total a : ℕ) (kind : Kind) (phase
       sums : (v b x y n : ℕ) → v ≡ b → b ≡ x + y → x ≡ 0 → y ≡ n → v ≡ n
       sums v b x y n h i j k = omega arith
 
-  assoc-sorts : (xs ys zs : List Sort) → (xs ++ ys) ++ zs ≡ xs ++ (ys ++ zs)
-  assoc-sorts [] ys zs = refl
-  assoc-sorts (x ∷ xs) ys zs = ap (λ l. x ∷ l) (assoc-sorts xs ys zs)
-
   pub v-region : (bs : List PlainNode) → AllByRecursion Idle (sorts bs) → Again later (sorts v.put_back ++ (sorts bs ++ sorts f.rest))
   v-region bs i =
       let z = well.blank clears void in
@@ -132,7 +120,7 @@ module _ (p : Params) (m : ℕ) (s : State) (total a : ℕ) (kind : Kind) (phase
       let y : Again later (sorts (half_nodes c.half ++ rest_nodes c.rest) ++ (sorts bs ++ sorts f.rest)) = back-again c.rest c.half d (sorts bs ++ sorts f.rest) (again-idle d (sorts bs) (sorts f.rest) i r) in
       subst (λ (ns : List PlainNode). Again later (sorts ns ++ (sorts bs ++ sorts f.rest))) (sym v-back)
       (subst (λ (xs : List Sort). Again later (xs ++ (sorts bs ++ sorts f.rest))) (sym (sorts-append front (half_nodes c.half ++ rest_nodes c.rest)))
-      (subst (Again later) (sym (assoc-sorts (sorts front) (sorts (half_nodes c.half ++ rest_nodes c.rest)) (sorts bs ++ sorts f.rest)))
+      (subst (Again later) (sym (append_assoc (sorts front) (sorts (half_nodes c.half ++ rest_nodes c.rest)) (sorts bs ++ sorts f.rest)))
       (again-idle later (sorts front) (sorts (half_nodes c.half ++ rest_nodes c.rest) ++ (sorts bs ++ sorts f.rest)) z.2 y)))
 
   -- ---- the floats
@@ -326,7 +314,7 @@ module _ (p : Params) (m : ℕ) (s : State) (total a : ℕ) (kind : Kind) (phase
 
     left-holds : (l : Left) → Holds p v-done later (kind_left l)
     left-holds (above h) = (is_second, paused, subst (λ (x : FloatLists). 1 ≤ length x.double) (sym v-goal.floats) h)
-    left-holds (nothing e r) = subst NoneWait (sym v-goal.floats) (record { top = top; bottom = bottom; deferred = no-floats v.state.floats.deferred (or-first (has_floats v.state.floats.deferred) (has_floats v.state.floats.second) (c.left ∙ r)); double = e; second = no-floats v.state.floats.second (or-second (has_floats v.state.floats.deferred) (has_floats v.state.floats.second) (c.left ∙ r)) })
+    left-holds (nothing e r) = subst NoneWait (sym v-goal.floats) (record { top = top; bottom = bottom; deferred = no-floats v.state.floats.deferred (or_parts (has_floats v.state.floats.deferred) (has_floats v.state.floats.second) (c.left ∙ r)).0; double = e; second = no-floats v.state.floats.second (or_parts (has_floats v.state.floats.deferred) (has_floats v.state.floats.second) (c.left ∙ r)).1 })
     left-holds (deferred e r) = once-holds e
 
     is-left : Left
@@ -361,7 +349,7 @@ module _ (p : Params) (m : ℕ) (s : State) (total a : ℕ) (kind : Kind) (phase
     none-deferred : {X : Type 0} → NoneWait s.floats → c.rest ≡ true → X
     none-deferred i r =
         let n : NoneWait v.state.floats = none-left v.state.floats (subst (λ (x : ℕ). waiting_floats v.state.floats ≤ x) (none-count s.floats i) v-floats) in
-        true-false c.rest r (sym c.left ∙ or-none (has_floats v.state.floats.deferred) (has_floats v.state.floats.second) (ap has_floats n.deferred) (ap has_floats n.second))
+        true-false c.rest r (sym c.left ∙ or_from (has_floats v.state.floats.deferred) (has_floats v.state.floats.second) (ap has_floats n.deferred) (ap has_floats n.second))
 
     -- at a second column the credit pays for it
     left-paid : s.first_column ≡ false → a ≡ d + 1 → (l : Left) → credit (kind_left l) + bit c.rest ≤ credit kind

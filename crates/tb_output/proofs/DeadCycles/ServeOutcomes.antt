@@ -4,6 +4,7 @@ use Rattle.std.specs.Prelude.{int_le, if◌then◌else◌}
 use Rattle.tb_scaled.specs.Scaled.{eject_penalty}
 use Rattle.tb_scaled.specs.declared.Glue.{Glue}
 use Rattle.std.specs.List.{AllByRecursion}
+use Rattle.tb_break.proofs.EachLemmas.{all-push}
 use Rattle.tb_node.specs.declared.Float.{Float}
 use Rattle.tb_node.specs.declared.Margin.{Margin}
 use Rattle.tb_node.specs.declared.Where.{Where}
@@ -117,17 +118,13 @@ module _ (P : Float → Type 0) (topped : (f : Float) → P f → P (Text.with_t
   joined-second places.Double f l = refl
   joined-second places.Deferred f l = refl
 
-  one-more : (fs : List Float) (f : Float) → AllByRecursion P fs → P f → AllByRecursion P (fs ++ f ∷ [])
-  one-more [] f h k = (k, tt)
-  one-more (g ∷ fs) f h k = (h.0, one-more fs f h.1 k)
-
   joined-narrow : (place : Where) (f : Float) (l : FloatLists) → P f → NarrowWait P l → NarrowWait P (Place.joined_to place f l)
   joined-narrow places.Here f l k h = record { top = h.top; bottom = h.bottom; deferred = h.deferred }
-  joined-narrow places.Top f l k h = record { top = one-more l.top f h.top k; bottom = h.bottom; deferred = h.deferred }
-  joined-narrow places.Bottom f l k h = record { top = h.top; bottom = one-more l.bottom f h.bottom k; deferred = h.deferred }
+  joined-narrow places.Top f l k h = record { top = all-push P l.top f h.top k; bottom = h.bottom; deferred = h.deferred }
+  joined-narrow places.Bottom f l k h = record { top = h.top; bottom = all-push P l.bottom f h.bottom k; deferred = h.deferred }
   joined-narrow places.Page f l k h = h
   joined-narrow places.Double f l k h = record { top = h.top; bottom = h.bottom; deferred = h.deferred }
-  joined-narrow places.Deferred f l k h = record { top = h.top; bottom = h.bottom; deferred = one-more l.deferred f h.deferred k }
+  joined-narrow places.Deferred f l k h = record { top = h.top; bottom = h.bottom; deferred = all-push P l.deferred f h.deferred k }
 
   -- a float leaves the current list for another, or for the text
   served-placed : (place : Where) (f : Float) (left : FloatLists) (w : Work) → NotDouble place → left.double ≡ w.state.floats.double → left.second ≡ w.state.floats.second → way_floats left + 1 ≤ way_floats w.state.floats → (AllWait P w.state.floats → AllCurrent P w.state.floats.current → P f × AllWait P left × AllCurrent P left.current) → (NarrowWait P w.state.floats → AllCurrent P w.state.floats.current → P f × NarrowWait P left × AllCurrent P left.current) → Served P w (Place.place_float p place f left w)

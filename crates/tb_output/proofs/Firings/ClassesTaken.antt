@@ -4,6 +4,8 @@ use Rattle.std.specs.Prelude.{◌==◌, ◌||◌, All, if◌then◌else◌}
 use Rattle.std.specs.List.{AllByRecursion}
 use Rattle.std.proofs.lemmas.List.{length-map, take_all, take_more}
 use Rattle.std.proofs.lemmas.List.Elements.{All-nil}
+use Rattle.std.proofs.Math.Bool.{or-true}
+use Rattle.tb_break.proofs.EachLemmas.{all-join, all-map}
 use Rattle.tb_pool.specs.Lists.{Lists, IsLive, list_at}
 use Rattle.tb_pool.specs.Frame.{IsNoneOf, OnlyChanged}
 use Rattle.tb_pool.proofs.FrameLemmas.{none-join, frame-then}
@@ -28,10 +30,10 @@ use Rattle.tb_output.specs.State.{with_notes, notes_in}
 use Rattle.tb_output.specs.Machine.{AreClassesFrom}
 use Rattle.tb_output.specs.Firing.{builder_lists, AreSizedBoxes}
 use Rattle.tb_output.specs.Notes.{IsLeafList, AreOwnLists, BoxesTaken, AreKnownNotes, NotesTaken}
-use Rattle.tb_output.proofs.Working.StandLemmas.{Stands, all-join, all-map, list-same, live-same, frame-stands, frame-free}
+use Rattle.tb_output.proofs.Working.StandLemmas.{Stands, list-same, live-same, frame-stands, frame-free}
 use Rattle.tb_output.proofs.Working.ApartLemmas.{distinct-join, live-apart}
 use Rattle.tb_output.proofs.StepLaws.ClassBoxes.{own-content, later-notes}
-use Rattle.tb_output.proofs.Firings.VoidBoxes.{all-voids, voids-after, contents-other, notes-after, differ-before, or-true, known-at}
+use Rattle.tb_output.proofs.Firings.VoidBoxes.{all-voids, voids-after, contents-other, notes-after, differ-before, known-at}
 
 -- ---- one class after others
 
@@ -53,7 +55,7 @@ module _ (store new : Lists Node) where
   leaves-stand (l ∷ ls) e h = (record { live = live-same store new l e.0 h.0.live; leaves = subst AreLeaves (sym (list-same store new l e.0)) h.0.leaves }, leaves-stand ls e.1 h.1)
 
 live-lists : (store : Lists Node) (ls : List ℕ) → AllByRecursion (IsLeafList store) ls → AllByRecursion (IsLive store) ls
-live-lists store ls h = all-map (IsLeafList store) (IsLive store) ls (λ l x. x.live) h
+live-lists store ls h = all-map (IsLeafList store) (IsLive store) (λ l x. x.live) ls h
 
 module _ (b mid now : Builder) (store middle new : Lists Node) (frame : OnlyChanged (builder_lists b store) (builder_lists mid middle) store middle) where
   -- lists that were live before are none of these
@@ -172,7 +174,7 @@ known-own : (cs : List Class) → AllByRecursion (λ c. has_class cs c.number �
 known-own [] = tt
 known-own (c ∷ cs) = (
   known-at (c ∷ cs) 0 c (omega arith),
-  all-map (λ d. has_class cs d.number ≡ true) (λ d. has_class (c ∷ cs) d.number ≡ true) cs (λ d h. ap (λ t. (c.number == d.number) || t) h ∙ or-true (c.number == d.number)) (known-own cs),
+  all-map (λ d. has_class cs d.number ≡ true) (λ d. has_class (c ∷ cs) d.number ≡ true) (λ d h. ap (λ t. (c.number == d.number) || t) h ∙ or-true (c.number == d.number)) cs (known-own cs),
 )
 
 module _ (all : List Class) where

@@ -4,6 +4,8 @@ use Rattle.std.specs.Prelude.{All}
 use Rattle.std.specs.List.{AllByRecursion}
 use Rattle.std.specs.FinMap.{get}
 use Rattle.std.proofs.lemmas.List.Elements.{All-nil}
+use Rattle.tb_builder.proofs.Events.NextLemmas.{fresh_apart}
+use Rattle.tb_break.proofs.EachLemmas.{all-front, all-back}
 use Rattle.tb_pool.specs.Lists.{Lists, IsLive, list_at, with_list}
 use Rattle.tb_pool.specs.Frame.{IsNoneOf, OnlyChanged}
 use Rattle.tb_pool.proofs.FrameLemmas.{none-front, none-back, none-join}
@@ -25,7 +27,7 @@ use Rattle.tb_column.specs.Notes.{AreDistinct}
 use Rattle.tb_output.specs.Machine.{MachineView, machine_lists, IsMachine}
 use Rattle.tb_output.specs.Keeping.{AreNoneOf, IsBack, back_lists, KeepsBack}
 use Rattle.tb_output.specs.Firing.{builder_lists, fired_in, AreSizedBoxes, CanFire, CanGoBack, KeepsAll, KeepsServing}
-use Rattle.tb_output.proofs.Working.StandLemmas.{Stands, all-front, all-back, list-same, live-same, list-stands, nodes-stand, machine-live, IsShownBy, stands-shown}
+use Rattle.tb_output.proofs.Working.StandLemmas.{Stands, list-same, live-same, list-stands, nodes-stand, machine-live, IsShownBy, stands-shown}
 use Rattle.tb_output.proofs.Working.ApartLemmas
 use Rattle.tb_output.proofs.Working.KeepLemmas.{fields-then}
 use Rattle.tb_output.proofs.Working.BuilderLemmas.{live-all, beside-owned, beside-sound, beside-contents, beside-free}
@@ -67,7 +69,7 @@ module _ (store opened : Lists Node) (l : ℕ) (fresh : get store.lists l ≡ No
   opened-others q ne = ap (λ x. get x q) e ∙ get-insert_other store.lists l [] q ne
 
   pub opened-stand : (q : ℕ) → IsLive store q → Stands store opened q
-  opened-stand q live = opened-others q (ApartLemmas.not-live store l q fresh live)
+  opened-stand q live = opened-others q (fresh_apart store l q fresh live)
 
   pub opened-all : (ls : List ℕ) → AllByRecursion (IsLive store) ls → AllByRecursion (Stands store opened) ls
   opened-all [] live = tt
@@ -164,7 +166,7 @@ module _ (store opened : Lists Node) (l : ℕ) (fresh : get store.lists l ≡ No
           let same = opened-stand q live in
           let mine = subst (λ ls. IsNoneOf q ls) (sym opened-owned) (none-front q (builder_lists b store) (machine_lists m) none.1) in
           let own = none-back q (builder_lists b store) (machine_lists m) none.1 in
-          let other : q ≢ l = ApartLemmas.not-live store l q fresh live in
+          let other : q ≢ l = fresh_apart store l q fresh live in
           let back : IsNoneOf q (back_lists opened l) = subst (IsNoneOf q) (sym opened-lists) ((λ h. other (sym h)), tt) in
           let step = x.frame q (live-same store opened q same live)
           (none.0, none-join q (builder_lists b opened) (back_lists opened l ++ machine_lists m) mine (none-join q (back_lists opened l) (machine_lists m) back own)) in (

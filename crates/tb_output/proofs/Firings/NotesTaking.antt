@@ -3,6 +3,7 @@ use Rattle.std.proofs.Common.{◌≡◌, ◌≢◌, refl, sym, subst, ◌∙◌,
 use Rattle.std.specs.List.{AllByRecursion}
 use Rattle.std.specs.FinMap.{get}
 use Rattle.std.proofs.lemmas.Bool.{true≢false}
+use Rattle.tb_builder.proofs.Events.NextLemmas.{fresh_apart}
 use Rattle.tb_pool.specs.Lists.{Lists, list_at, with_list}
 use Rattle.tb_pool.specs.Frame.{IsNoneOf, OnlyChanged}
 use Rattle.tb_pool.proofs.CallerLemmas.{get_other}
@@ -25,7 +26,7 @@ use Rattle.tb_column.specs.Notes.{note_shown}
 use Rattle.tb_output.specs.State.{with_notes}
 use Rattle.tb_output.specs.Firing.{builder_lists}
 use Rattle.tb_output.specs.Notes.{IsLeafList, AreOwnLists, BoxesTaken}
-use Rattle.tb_output.proofs.Working.ApartLemmas.{apart-none, none-lacks, lacks-none, not-live}
+use Rattle.tb_output.proofs.Working.ApartLemmas.{apart-none, none-lacks, lacks-none}
 use Rattle.tb_output.proofs.Working.BuilderLemmas.{beside-owned, beside-sound}
 use Rattle.tb_output.proofs.Firings.VoidBoxes.{void-same}
 
@@ -107,13 +108,13 @@ module _ (b : Builder) (store mid : Lists Node) (l : ℕ) (sound : IsSound b sto
       lists = subst (λ (x : NoteBox). AllByRecursion (IsLeafList new) (x.list ∷ [])) (sym is) (record { live = taken.live; leaves = plain-leaves (list_at new l) (subst AllPlain (sym joined) taken.plain_nodes) }, tt);
       own = subst (λ (x : NoteBox). AreOwnLists (x.list ∷ []) b d store new) (sym is) (record {
         apart = (tt, tt);
-        fresh = λ q live free. ((λ e. not-live store l q fresh live (sym e)), tt);
+        fresh = λ q live free. ((λ e. fresh_apart store l q fresh live (sym e)), tt);
         free = (lacks-none l (builder_lists d new) (keeps l (opened_apart b store mid l sound fresh opened)), tt);
       });
     }
 
     pub box-frame : ((q : ℕ) → q ≢ l → Lacks q (owned (ids_of b) mid) → get new.lists q ≡ get mid.lists q) → OnlyChanged (builder_lists b store) (builder_lists d new) store new
     box-frame others = λ q live none.
-        let differ : q ≢ l = not-live store l q fresh live in
+        let differ : q ≢ l = fresh_apart store l q fresh live in
         let lacks : Lacks q (owned (ids_of b) mid) = subst (Lacks q) (sym list-owned) (none-lacks q (builder_lists b store) none) in
         (others q differ lacks ∙ get_other store mid l [] q differ opened, lacks-none q (builder_lists d new) (keeps q lacks))

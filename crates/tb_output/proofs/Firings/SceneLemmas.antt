@@ -5,6 +5,8 @@ use Rattle.std.specs.List.{AllByRecursion}
 use Rattle.std.specs.FinMap.{get}
 use Rattle.std.proofs.lemmas.Int.{ints}
 use Rattle.std.proofs.lemmas.List.Elements.{All-from_recursion}
+use Rattle.tb_builder.proofs.Events.NextLemmas.{fresh_apart}
+use Rattle.tb_break.proofs.EachLemmas.{all-map}
 use Rattle.tb_scaled.specs.Glue.{fixed_glue}
 use Rattle.tb_pool.specs.Lists.{Lists, IsLive, list_at, with_list}
 use Rattle.tb_pool.specs.Frame.{IsNoneOf}
@@ -34,13 +36,13 @@ use Rattle.tb_output.specs.Acting.{IsActed, acted_in}
 use Rattle.tb_output.specs.Machine.{MachineView, left_lists, sent_lists, event_lists, machine_lists, AreClassesFrom}
 use Rattle.tb_output.specs.Firing.{builder_lists, AreSizedBoxes, CanFire}
 use Rattle.tb_output.specs.Scenes.{scene_classes, IsScene, IsReady, IsTextKind, LeavesAll}
-use Rattle.tb_output.proofs.Working.ApartLemmas.{apart-back, distinct-front, distinct-back, distinct-apart, distinct-join, not-live, fresh-none, lacks-none}
-use Rattle.tb_output.proofs.Working.StandLemmas.{all-map, Stands, list-same, live-same, list-stands, machine-live, stands-shown}
+use Rattle.tb_output.proofs.Working.ApartLemmas.{apart-back, distinct-front, distinct-back, distinct-apart, distinct-join, fresh-none, lacks-none}
+use Rattle.tb_output.proofs.Working.StandLemmas.{Stands, list-same, live-same, list-stands, machine-live, stands-shown}
 
 -- a scene whose lists are as before is one
 pub scene-stays : (m : MachineView) (store new : Lists Node) → IsScene m store → LeavesAll store new → IsScene m new
 scene-stays m store new is leaves = record {
-  machine = (stands-shown m store new is.machine (all-map (IsLive store) (Stands store new) (machine_lists m) leaves (machine-live m store is.machine))).machine;
+  machine = (stands-shown m store new is.machine (all-map (IsLive store) (Stands store new) leaves (machine_lists m) (machine-live m store is.machine))).machine;
   classes = is.classes;
 }
 
@@ -132,7 +134,7 @@ module _ (m : MachineView) (b : Builder) (s t u : Lists Node) (page : Page) (sce
       few = few-nodes _ _ _ _ _ (ap (λ (ns : List Node). length ns) (list-same t u page.body (after page.body body.live))) few held-same ready.held none-boxed;
       body_apart = fresh-none s page.body (machine_lists m) fresh live;
       body_free = lacks-none page.body (builder_lists b u) (free page.body body.live);
-      machine_free = all-map (IsLive s) (λ q. IsNoneOf q (builder_lists b u)) (machine_lists m) (λ q h. lacks-none q (builder_lists b u) (free q (live-same s t q (before q h) h))) live;
+      machine_free = all-map (IsLive s) (λ q. IsNoneOf q (builder_lists b u)) (λ q h. lacks-none q (builder_lists b u) (free q (live-same s t q (before q h) h))) (machine_lists m) live;
     }
       where
         live : AllByRecursion (IsLive s) (machine_lists m)
@@ -175,7 +177,7 @@ opened-empty s r t l same fresh e = record {
     few = let k = ap (λ (ns : List Node). length ns) empty in omega (arith, k);
   };
   none = ap (λ (ns : List Node). length ns) empty;
-  others = λ q live. get_other r t l [] q (not-live r l q fresh (subst (λ o. IsSome o) (sym (before q)) live)) e ∙ before q;
+  others = λ q live. get_other r t l [] q (fresh_apart r l q fresh (subst (λ o. IsSome o) (sym (before q)) live)) e ∙ before q;
 }
   where
     empty : list_at t l ≡ []

@@ -1,6 +1,7 @@
 -- A firing that was begun: the builder's boxes are emptied, then the routine works.
 use Rattle.std.proofs.Common.{◌≡◌, ◌≢◌, refl, sym, subst, ◌∙◌, ℕ, List, ◌∷◌, ◌++◌, Option, IsSome}
 use Rattle.std.specs.List.{AllByRecursion}
+use Rattle.tb_break.proofs.EachLemmas.{all-join}
 use Rattle.tb_pool.specs.Lists.{Lists, IsLive, list_at}
 use Rattle.tb_pool.specs.Frame.{IsNoneOf, OnlyChanged}
 use Rattle.tb_pool.proofs.FrameLemmas.{none-front, none-back, none-join}
@@ -12,7 +13,7 @@ use Rattle.tb_builder.specs.Running.{IsSound}
 use Rattle.tb_output.specs.Machine.{MachineView, machine_lists, IsMachine}
 use Rattle.tb_output.specs.Keeping.{AreNoneOf, IsBack, back_lists, KeepsBack}
 use Rattle.tb_output.specs.Firing.{builder_lists, KeepsServing}
-use Rattle.tb_output.proofs.Working.StandLemmas.{Stands, all-join, machine-live, frame-stands, frame-free, IsShownBy, frame-shown}
+use Rattle.tb_output.proofs.Working.StandLemmas.{Stands, machine-live, frame-stands, frame-free, IsShownBy, frame-shown}
 use Rattle.tb_output.proofs.Working.ApartLemmas
 use Rattle.tb_output.proofs.Working.KeepLemmas.{back-live, back-list, back-lists_same, back-shows, back-stands}
 use Rattle.tb_output.proofs.Working.BuilderLemmas.{beside-owned, beside-sound, beside-contents, beside-free}

@@ -1,6 +1,7 @@
 -- The lists of a page whose insertions were taken out of the builder's boxes.
 use Rattle.std.proofs.Common.{◌≡◌, ◌≢◌, sym, subst, ap, ℕ, ◌+◌, ◌≤◌, List, ◌∷◌, ◌++◌, length, arith}
 use Rattle.std.specs.List.{AllByRecursion}
+use Rattle.tb_break.proofs.EachLemmas.{all-join}
 use Rattle.tb_pool.specs.Lists.{Lists, IsLive, list_at}
 use Rattle.tb_pool.specs.Frame.{IsNoneOf, OnlyChanged}
 use Rattle.tb_pool.proofs.FrameLemmas.{none-join}
@@ -15,7 +16,7 @@ use Rattle.tb_output.specs.Machine.{MachineView, machine_lists, IsMachine}
 use Rattle.tb_output.specs.Keeping.{AreNoneOf, AreTextLists, back_lists}
 use Rattle.tb_output.specs.Firing.{builder_lists}
 use Rattle.tb_output.specs.Notes.{NotesTaken}
-use Rattle.tb_output.proofs.Working.StandLemmas.{Stands, all-join, list-same, list-stands, nodes-stand, machine-live}
+use Rattle.tb_output.proofs.Working.StandLemmas.{Stands, list-same, list-stands, nodes-stand, machine-live}
 use Rattle.tb_output.proofs.Working.ApartLemmas
 
 -- a list that was live is none of the page's, but for its text

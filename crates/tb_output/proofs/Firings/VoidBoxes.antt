@@ -2,8 +2,10 @@
 use Rattle.std.proofs.Common.{◌≡◌, ◌≢◌, refl, sym, ◌∙◌, ap, ℕ, zero, suc, ◌<◌, ◌≤◌, Bool, true, false, List, [], ◌∷◌, ◌++◌, length, take, get_or, Option, Some, None, arith}
 use Rattle.std.specs.Prelude.{◌==◌, ◌||◌, if◌then◌else◌}
 use Rattle.std.specs.List.{AllByRecursion}
-use Rattle.std.proofs.lemmas.Bool.{true≢false}
+use Rattle.std.proofs.lemmas.Bool.{or_parts}
 use Rattle.std.proofs.lemmas.Bool.Decides.{nat_tests}
+use Rattle.std.proofs.Math.Bool.{or-true}
+use Rattle.tb_builder.proofs.Handover.CallLemmas.{voids_boxed}
 use Rattle.tb_node.specs.Plain.{Leaf}
 use Rattle.tb_insert.specs.declared.Class.{Class}
 use Rattle.tb_builder.specs.Fired.{Boxed, box_content}
@@ -33,12 +35,6 @@ emptied-void : (k : ℕ) (bs : List Boxed) → emptied_boxes (with_void k bs) �
 emptied-void k [] = refl
 emptied-void k (b ∷ bs) = λ i. void (voided-number k b i) ∷ emptied-void k bs i
 
-boxes-void : (k : ℕ) (cs : List Class) (bs : List Boxed) → AreBoxesOf cs bs → AreBoxesOf cs (with_void k bs)
-boxes-void k [] [] h = tt
-boxes-void k [] (b ∷ bs) h = absurd h
-boxes-void k (c ∷ cs) [] h = absurd h
-boxes-void k (c ∷ cs) (b ∷ bs) h = (voided-number k b ∙ h.0, boxes-void k cs bs h.1)
-
 voided-own : (k : ℕ) (b : Boxed) → b.number ≡ k → voided k b ≡ void b.number
 voided-own k b e = let same : (b.number == k) ≡ true = grind (arith, nat_tests, e) in ap (λ t. if t then void b.number else b) same
 
@@ -65,7 +61,7 @@ all-voids (c ∷ cs) [] h = absurd h
 all-voids (c ∷ cs) (b ∷ bs) h =
     ap (λ x. with_voids cs (x ∷ with_void c.number bs)) (voided-own c.number b h.0)
     ∙ void-stays cs b.number (with_void c.number bs)
-    ∙ ap (λ xs. void b.number ∷ xs) (all-voids cs (with_void c.number bs) (boxes-void c.number cs bs h.1) ∙ emptied-void c.number bs)
+    ∙ ap (λ xs. void b.number ∷ xs) (all-voids cs (with_void c.number bs) (voids_boxed c.number cs bs h.1) ∙ emptied-void c.number bs)
 
 pub voids-after : (cs : List Class) (c : Class) (bs : List Boxed) → with_voids (cs ++ c ∷ []) bs ≡ with_void c.number (with_voids cs bs)
 voids-after [] c bs = refl
@@ -89,16 +85,12 @@ contents-other (c ∷ cs) k h bs = contents-other cs k h.1 (with_void c.number b
 
 -- ---- a box that is void already
 
-neither : (x y : Bool) → (x || y) ≡ false → (x ≡ false) × (y ≡ false)
-neither true y e = absurd (true≢false e)
-neither false y e = (refl, e)
-
 other-void : (cs : List Class) (bs : List Boxed) (n : ℕ) → has_class cs n ≡ false → AreBoxesOf cs bs → with_void n bs ≡ bs
 other-void [] [] n lacks h = refl
 other-void [] (b ∷ bs) n lacks h = absurd h
 other-void (c ∷ cs) [] n lacks h = absurd h
 other-void (c ∷ cs) (b ∷ bs) n lacks h =
-    let no_class = neither (c.number == n) (has_class cs n) lacks in
+    let no_class = or_parts (c.number == n) (has_class cs n) lacks in
     λ i. voided-other n b (ap (λ m. m == n) h.0 ∙ no_class.0) i ∷ other-void cs bs n no_class.1 h.1 i
 
 pub void-same : (cs : List Class) (bs : List Boxed) (n : ℕ) → ClassesFit cs → AreBoxesOf cs bs → box_content bs n ≡ None → with_void n bs ≡ bs
@@ -137,10 +129,6 @@ differ-before j (c ∷ cs) (suc k) d h lt =
   where
     less : (m : ℕ) → suc c.number ≤ m → c.number ≡ m → ⊥
     less m h e = omega (arith, h, e)
-
-pub or-true : (x : Bool) → (x || true) ≡ true
-or-true true = refl
-or-true false = refl
 
 -- each of them is known
 pub known-at : (cs : List Class) (k : ℕ) (d : Class) → k < length cs → has_class cs (get_or cs k d).number ≡ true

@@ -5,6 +5,7 @@ use Rattle.std.specs.FinMap.{get, insert, remove}
 use Rattle.std.specs.List.{AllByRecursion}
 use Rattle.std.proofs.lemmas.List.{map-append}
 use Rattle.std.proofs.lemmas.List.Elements.{All-nil, All-cons}
+use Rattle.tb_insert.proofs.AccountLemmas.{leaf_shapes}
 use Rattle.tb_pool.specs.Lists.{Lists, IsLive, list_at, with_list}
 use Rattle.tb_pool.specs.Frame.{IsNoneOf}
 use Rattle.tb_pool.proofs.CallerLemmas.{list_same, list_other, get_other}
@@ -24,7 +25,6 @@ use Rattle.tb_output.specs.PutBack.{insertion_of, insertions_again}
 use Rattle.tb_output.specs.Keeping.{HasGrown}
 use Rattle.tb_output.proofs.InText.PushLemmas.{grown-none}
 use Rattle.tb_output.proofs.Working.StandLemmas.{Stands}
-use Rattle.tb_output.proofs.ColumnPages.SizeLemmas.{leaf-shapes}
 
 -- ---- the calls of the store
 
@@ -111,7 +111,7 @@ module _ (p : Params) (store : Lists Node) where
   again-shown new [] h = refl
   again-shown new (n ∷ ns) h =
       let same : list_at new n.list ≡ list_at store n.list = list-get store new n.list h.0 in
-      let size : size_of (map shape_of (list_at store n.list)) ≡ size_of (map leaf_shape (map leaf_of (list_at store n.list))) = ap size_of (sym (leaf-shapes (list_at store n.list))) in
+      let size : size_of (map shape_of (list_at store n.list)) ≡ size_of (map leaf_shape (map leaf_of (list_at store n.list))) = ap size_of (sym (leaf_shapes (list_at store n.list))) in
       (λ i. record {
         line = 0;
         kind = ins (record { class = n.class; inner = map leaf_of (same i); height = size i; split_depth = p.splitmaxdepth; split_top = p.splittopskip; floating = p.floatingpenalty });

@@ -1,10 +1,11 @@
 -- The page so far goes back with its insertions: what the machine and the list that goes back are then.
-use Rattle.std.proofs.Common.{◌≡◌, ◌≢◌, refl, sym, subst, ◌∙◌, ap, ℕ, zero, suc, ◌+◌, ◌-◌, ◌≤◌, ◌+ℤ◌, ◌-ℤ◌, Bool, List, [], ◌∷◌, ◌++◌, append-nil, map, take, length, Option, Some, is_some, unwrap_or, arith}
+use Rattle.std.proofs.Common.{◌≡◌, ◌≢◌, refl, sym, subst, ◌∙◌, ap, ℕ, ◌+◌, ◌-◌, ◌≤◌, ◌+ℤ◌, ◌-ℤ◌, Bool, List, [], ◌∷◌, ◌++◌, append-nil, map, take, length, Option, Some, is_some, unwrap_or, arith}
 use Rattle.std.specs.Prelude.{All}
 use Rattle.std.specs.FinMap.{get}
 use Rattle.std.specs.List.{AllByRecursion}
 use Rattle.std.proofs.lemmas.List.{map-append, take-map, length-map}
 use Rattle.std.proofs.lemmas.List.Elements.{All-append, All-take, All-nil}
+use Rattle.tb_break.proofs.EachLemmas.{all-front, all-back}
 use Rattle.tb_scaled.specs.Amount.{IsAmount}
 use Rattle.tb_pool.specs.Lists.{Lists, IsLive, list_at}
 use Rattle.tb_pool.specs.Frame.{IsNoneOf}
@@ -36,12 +37,12 @@ use Rattle.tb_output.specs.Keeping.{AreNoneOf, HasGrown, back_lists, IsBack, Kee
 use Rattle.tb_output.specs.Notes.{AreKnownNotes}
 use Rattle.tb_output.specs.Turns.{IsTextSize, HasTextBack, first_placed}
 use Rattle.tb_output.proofs.Working.ApartLemmas.{apart-back, apart-swap, distinct-join}
-use Rattle.tb_output.proofs.Working.StandLemmas.{Stands, all-front, all-back, list-stands, leaves-shown, events-stand, events-show, left-stands, left-shows}
+use Rattle.tb_output.proofs.Working.StandLemmas.{Stands, list-stands, leaves-shown, events-stand, events-show, left-stands, left-shows}
 use Rattle.tb_output.proofs.Working.KeepLemmas.{fields-same, keeps-back_then, pages-stand, leaves-inner, leaves-known}
 use Rattle.tb_output.proofs.InText.PushLemmas.{grown-none}
 use Rattle.tb_output.proofs.Working.WorkingLemmas.{does-then, does-same, cut-on, does-shown_with, no-memory_given}
 use Rattle.tb_output.proofs.StepLaws.WorkSteps.{continues-list_back, continues-first_goes}
-use Rattle.tb_output.proofs.Clears.ClearSteps.{shapes-shown}
+use Rattle.tb_output.proofs.Clears.ClearSteps.{shapes-shown, leaves-take}
 use Rattle.tb_output.proofs.InText.BackLemmas.{live-some, again-inner, again-known, again-sized, again-shown}
 
 -- ---- a list is read after a call
@@ -51,12 +52,6 @@ there-live store q ns e = ap (λ (o : Option (List Node)). is_some o) e
 
 there-list : (store : Lists Node) (q : ℕ) (ns : List Node) → get store.lists q ≡ Some ns → list_at store q ≡ ns
 there-list store q ns e = ap (λ (o : Option (List Node)). unwrap_or o []) e
-
-take-leaves : (k : ℕ) (ns : List Node) → AreLeaves ns → AreLeaves (take k ns)
-take-leaves zero [] h = tt
-take-leaves zero (n ∷ ns) h = tt
-take-leaves (suc k) [] h = tt
-take-leaves (suc k) (n ∷ ns) h = (h.0, take-leaves k ns h.1)
 
 -- ---- the held page was emptied
 
@@ -183,7 +178,7 @@ module _ (p : Params) (back body : ℕ) (ns : List NoteBox) (m : MachineView) (s
       ∙ ap (λ (xs : List Node). xs ++ again) (there-list one back (list_at store back ++ nodes) text.list ∙ ap (λ (xs : List Node). xs ++ nodes) empty)
 
   leaves : AreLeaves nodes
-  leaves = leaves-append (list_at store m.held_page) cut is.held_page.leaves (take-leaves (length (list_at store body) - 2) (list_at store body) page.leaves)
+  leaves = leaves-append (list_at store m.held_page) cut is.held_page.leaves (leaves-take (length (list_at store body) - 2) (list_at store body) page.leaves)
 
   sized : All IsSizedNode nodes
   sized = All-append IsSizedNode (list_at store m.held_page) cut is.held_page.sized (All-take IsSizedNode (length (list_at store body) - 2) (list_at store body) page.sized)

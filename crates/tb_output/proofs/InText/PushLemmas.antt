@@ -1,5 +1,5 @@
 -- Nodes that are put at the end of a list, one after another.
-use Rattle.std.proofs.Common.{◌≡◌, refl, sym, subst, ◌∙◌, ap, ℕ, ℤ, List, [], ◌∷◌, ◌++◌, append-nil, length, map, suc, ◌-◌, ◌<◌, Bool, true, false, Option, Some, None, arith}
+use Rattle.std.proofs.Common.{◌≡◌, refl, sym, subst, ◌∙◌, ap, ℕ, List, [], ◌∷◌, ◌++◌, append-nil, length, map, suc, ◌-◌, ◌<◌, Bool, true, false, Option, Some, None, arith}
 use Rattle.std.specs.FinMap.{get, insert}
 use Rattle.tb_pool.specs.Lists.{Lists, list_at, with_list}
 use Rattle.tb_pool.proofs.MapLemmas.{get-insert_same, get-insert_other}
@@ -8,9 +8,7 @@ use Rattle.tb_node.specs.declared.Node.{Node}
 use Rattle.tb_node.specs.declared.Kind.{Kind}
 use Rattle.tb_node.specs.declared.Kind.TheVariants as kinds
 use Rattle.tb_node.specs.Plain.{shape_of_kind}
-use Rattle.tb_node.specs.Fit.{IsDimension, IsSized, IsSizedNode}
-use Rattle.tb_scaled.specs.Amount.{IsAmount}
-use Rattle.std.proofs.lemmas.Int.{ints}
+use Rattle.tb_node.specs.Fit.{IsSized, IsSizedNode}
 use Rattle.tb_column.specs.Ranges.{IsSizedGlue}
 use Rattle.std.specs.Prelude.{All, if◌then◌else◌}
 use Rattle.std.proofs.lemmas.List.Elements.{All-head, All-tail}
@@ -35,10 +33,6 @@ module _ {T : Type 0} where
 -- room was made
 pub list-reserved : (a b : Lists Node) (l : ℕ) → b.lists ≡ a.lists → list_at b l ≡ list_at a l
 list-reserved a b l same = rw same refl
-
--- a dimension is a small amount
-pub dimension-small : (z : ℤ) → IsDimension z → IsAmount z
-dimension-small z h = let low = h.low in let high = h.high in record { low = omega (arith, ints); high = omega (arith, ints) }
 
 -- the list has grown, and no other changed
 pub grown-of : (store new : Lists Node) (l : ℕ) (ns : List Node) (args : List ℕ) → new.lists ≡ with_list store l (list_at store l ++ ns) → HasGrown l ns args store new

@@ -11,8 +11,8 @@ use Rattle.tb_output.specs.State.{State, Work, Recorded, placed, output, emptied
 use Rattle.tb_output.specs.Ship
 use Rattle.tb_output.specs.Out
 use Rattle.tb_output.specs.Firing.{page_work}
-use Rattle.tb_output.proofs.StepLaws.ColumnSteps.{RecordLaw, ColumnStep, still, in_turn, sends_one, records_one, ships_one}
-use Rattle.tb_output.proofs.StepLaws.FiringSteps.{FiringStep, by_columns, changes, afterwards, page_work-step}
+use Rattle.tb_output.proofs.StepLaws.ColumnSteps.{RecordLaw, ColumnStep, still, in_turn, records_one, ships_one}
+use Rattle.tb_output.proofs.StepLaws.FiringSteps.{FiringStep, by_columns, sends_one, changes, afterwards, page_work-step}
 
 -- the float that was placed had the mark `!`, or kept the limits with the lists and the column height just before
 abbrev pub IsLimited : Params → Recorded → Type 0
@@ -66,12 +66,12 @@ module _ (p : Params) (law : RecordLaw p) where
   column-lawful : {a b : Work} → ColumnStep p law a b → AllLawful a.records → AllLawful b.records
   column-lawful {a} {b} (still c f) h = same a.records b.records (ap (λ x. x.records) c) h
   column-lawful (in_turn x y) h = column-lawful y (column-lawful x h)
-  column-lawful (sends_one e w) h = same w.records (sends e w).records (sends-records e w) h
   column-lawful (records_one r w k) h = also-lawful r w k h
   column-lawful (ships_one sheet w) h = same w.records (Ship.ship p sheet w).records (ship-records p sheet w) h
 
   firing-lawful : {a b : Work} → FiringStep p law a b → AllLawful a.records → AllLawful b.records
   firing-lawful (by_columns x) h = column-lawful x h
+  firing-lawful (sends_one e w) h = same w.records (sends e w).records (sends-records e w) h
   firing-lawful {a} {b} (changes c) h = same a.records b.records (ap (λ x. x.records) c) h
   firing-lawful (afterwards x y) h = firing-lawful y (firing-lawful x h)
 

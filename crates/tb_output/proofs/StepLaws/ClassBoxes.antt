@@ -32,7 +32,7 @@ use Rattle.tb_output.specs.Out
 use Rattle.tb_output.specs.Machine.{AreClassesFrom}
 use Rattle.tb_output.specs.Turns.{page_output}
 use Rattle.tb_output.proofs.StepLaws.ColumnSteps.{no_law, stays, sends-stays, put_out-step, float_columns-step, all_wide_pages-step, place_next-step, place_float-step}
-use Rattle.tb_output.proofs.StepLaws.FiringSteps.{defer-step}
+use Rattle.tb_output.proofs.StepLaws.FiringSteps.{defer-stays}
 use Rattle.tb_output.proofs.Firings.GoalLemmas.{int-is}
 
 -- ---- the steps leave the boxes
@@ -85,9 +85,9 @@ module _ (p : Params) where
   float_goes-boxes vert f left w places.Here = place_float-boxes places.Here f left w
   float_goes-boxes vert f left w places.Top = place_float-boxes places.Top f left w
   float_goes-boxes vert f left w places.Bottom = place_float-boxes places.Bottom f left w
-  float_goes-boxes vert f left w places.Page = (stays (defer-step p (no_law p) f left w)).boxes
-  float_goes-boxes vert f left w places.Double = (stays (defer-step p (no_law p) f left w)).boxes
-  float_goes-boxes vert f left w places.Deferred = (stays (defer-step p (no_law p) f left w)).boxes
+  float_goes-boxes vert f left w places.Page = (defer-stays p f left w).boxes
+  float_goes-boxes vert f left w places.Double = (defer-stays p f left w).boxes
+  float_goes-boxes vert f left w places.Deferred = (defer-stays p f left w).boxes
 
   note_goes-boxes : (depth : ℤ) (m : Margin) (left : FloatLists) (w : Work) (at : Placed) → (Text.note_goes p depth m left w at).state.boxes ≡ w.state.boxes
   note_goes-boxes depth m left w at =

@@ -1,5 +1,5 @@
--- What putting out pages and columns and filling the next ones is made of: events, records, shipped pages, and changes of the float
--- lists, the first of two columns, the suppress flags and how far marginal notes reach.
+-- What putting out pages and columns and filling the next ones is made of: records, shipped pages, and changes of the float lists,
+-- the first of two columns, the suppress flags and how far marginal notes reach.
 use Rattle.std.proofs.Common.{◌≡◌, refl, ◌∙◌, ap, ℕ, zero, suc, pos, ◌+◌, Bool, true, false, List, [], ◌∷◌, ◌++◌, length, Option, Some, None}
 use Rattle.std.specs.Prelude.{int_lt, not, if◌then◌else◌}
 use Rattle.tb_node.specs.declared.Float.{Float}
@@ -57,17 +57,16 @@ pub record Frame : Type 0 where
 abbrev pub frame : Work → Frame
 frame w = record { put_back = w.put_back; held_page = w.state.held_page; boxes = w.state.boxes; two_columns = w.state.two_columns }
 
--- a step of a column: it leaves the course and the frame as they are, or it sends, records or ships; or it is two such steps
+-- a step of a column: it leaves the course and the frame as they are, or it records or ships; or it is two such steps
 pub data ColumnStep (p : Params) (law : RecordLaw p) : Work → Work → Type 0 where
   still : {a b : Work} → course b ≡ course a → frame b ≡ frame a → ColumnStep p law a b
   in_turn : {a b c : Work} → ColumnStep p law a b → ColumnStep p law b c → ColumnStep p law a c
-  sends_one : (e : PlainSent) (w : Work) → ColumnStep p law w (sends e w)
   records_one : (r : Recorded) (w : Work) → law.holds r → ColumnStep p law w (records_also r w)
   ships_one : (sheet : PlainSheet) (w : Work) → ColumnStep p law w (Ship.ship p sheet w)
 
 -- ---- what a step leaves as it is
 
-sends-frame : (e : PlainSent) (w : Work) → frame (sends e w) ≡ frame w
+pub sends-frame : (e : PlainSent) (w : Work) → frame (sends e w) ≡ frame w
 sends-frame e w = by_refused w.refused
   where
     by_refused : (t : Bool) → frame (if t then w else record w { sent = w.sent ++ e ∷ [] }) ≡ frame w
@@ -92,7 +91,6 @@ ship-frame p sheet w = by_refused w.refused (int_lt p.maxpages (pos w.state.page
 column-frame : {p : Params} {law : RecordLaw p} {a b : Work} → ColumnStep p law a b → frame b ≡ frame a
 column-frame (still c f) = f
 column-frame (in_turn x y) = column-frame y ∙ column-frame x
-column-frame (sends_one e w) = sends-frame e w
 column-frame (records_one r w h) = records-frame r w
 column-frame {p} (ships_one sheet w) = ship-frame p sheet w
 
@@ -103,7 +101,7 @@ pub record Stays (a b : Work) : Type 0 where
   pub boxes : b.state.boxes ≡ a.state.boxes
   pub columns : b.state.two_columns ≡ a.state.two_columns
 
-by-frame : {a b : Work} → frame b ≡ frame a → Stays a b
+pub by-frame : {a b : Work} → frame b ≡ frame a → Stays a b
 by-frame f = record { put_back = ap (λ x. x.put_back) f; held = ap (λ x. x.held_page) f; boxes = ap (λ x. x.boxes) f; columns = ap (λ x. x.two_columns) f }
 
 pub stays : {p : Params} {law : RecordLaw p} {a b : Work} → ColumnStep p law a b → Stays a b

@@ -28,13 +28,25 @@ use Rattle.tb_output.specs.Text
 use Rattle.tb_output.specs.Clear
 use Rattle.tb_output.specs.Out
 use Rattle.tb_output.specs.Firing.{page_work}
-use Rattle.tb_output.proofs.StepLaws.ColumnSteps.{RecordLaw, course, ColumnStep, still, in_turn, sends_one, place_float-step, place_next-step, all_wide_pages-step, put_out-step, float_columns-step}
+use Rattle.tb_output.proofs.StepLaws.ColumnSteps.{RecordLaw, course, ColumnStep, in_turn, sends-frame, Stays, by-frame, place_float-step, place_next-step, all_wide_pages-step, put_out-step, float_columns-step}
 
--- a step of a firing: one of its columns, or a change of something that sending, recording and shipping leave alone
+-- a step of a firing: one of its columns, a warning, or a change of something that sending, recording and shipping leave alone
 pub data FiringStep (p : Params) (law : RecordLaw p) : Work → Work → Type 0 where
   by_columns : {a b : Work} → ColumnStep p law a b → FiringStep p law a b
+  sends_one : (e : PlainSent) (w : Work) → FiringStep p law w (sends e w)
   changes : {a b : Work} → course b ≡ course a → FiringStep p law a b
   afterwards : {a b c : Work} → FiringStep p law a b → FiringStep p law b c → FiringStep p law a c
+
+-- a float that is deferred leaves what the steps of a column leave
+pub defer-stays : (p : Params) (f : Float) (left : FloatLists) (w : Work) → Stays w (Text.defer p f left w)
+defer-stays p f left w = by_places (Text.only_here f)
+  where
+    a : Work
+    a = Place.place_float p places.Deferred (Text.with_top f) left w
+
+    by_places : (t : Bool) → Stays w (if t then sends (warned (warnings.Ht f.name)) a else Place.place_float p places.Deferred f left w)
+    by_places true = by-frame (sends-frame (warned (warnings.Ht f.name)) a)
+    by_places false = by-frame refl
 
 module _ (p : Params) (law : RecordLaw p) where
   abbrev Step : Work → Work → Type 0
@@ -43,9 +55,6 @@ module _ (p : Params) (law : RecordLaw p) where
   step_if : (a : Work) (t : Bool) (b c : Work) → Step a b → Step a c → Step a (if t then b else c)
   step_if a true b c x y = x
   step_if a false b c x y = y
-
-  sends-step : (e : PlainSent) (w : Work) → Step w (sends e w)
-  sends-step e w = by_columns (sends_one e w)
 
   pub put_out_text-step : (body : List PlainNode) (w : Work) → Step w (Columns.put_out_text p body w)
   put_out_text-step body w = afterwards {b = Columns.without_column_floats w} (changes refl) (by_columns (put_out-step p law _ _))
@@ -61,15 +70,15 @@ module _ (p : Params) (law : RecordLaw p) where
   interline-step : (a w : Work) → Step a w → Step a (Text.puts_interline p w)
   interline-step a w x = afterwards {b = w} x (changes refl)
 
-  pub defer-step : (f : Float) (left : FloatLists) (w : Work) → ColumnStep p law w (Text.defer p f left w)
+  pub defer-step : (f : Float) (left : FloatLists) (w : Work) → Step w (Text.defer p f left w)
   defer-step f left w = by_places (Text.only_here f)
     where
       a : Work
       a = Place.place_float p places.Deferred (Text.with_top f) left w
 
-      by_places : (t : Bool) → ColumnStep p law w (if t then sends (warned (warnings.Ht f.name)) a else Place.place_float p places.Deferred f left w)
-      by_places true = in_turn {b = a} (still refl refl) (sends_one (warned (warnings.Ht f.name)) a)
-      by_places false = still refl refl
+      by_places : (t : Bool) → Step w (if t then sends (warned (warnings.Ht f.name)) a else Place.place_float p places.Deferred f left w)
+      by_places true = afterwards {b = a} (changes refl) (sends_one (warned (warnings.Ht f.name)) a)
+      by_places false = changes refl
 
   pub float_goes-step : (vert : Bool) (f : Float) (left : FloatLists) (w : Work) (place : Where) → law.holds (placed f place w.state.floats (column_height_of p w.state.floats)) → Step w (Text.float_goes p vert f left w place)
   float_goes-step vert f left w places.Here h =
@@ -77,16 +86,16 @@ module _ (p : Params) (law : RecordLaw p) where
       afterwards {b = Text.puts_interline p a} (interline-step w a (by_columns (place_float-step p law places.Here f left w h))) (changes refl)
   float_goes-step vert f left w places.Top h = interline-step w _ (by_columns (place_float-step p law places.Top f left w h))
   float_goes-step vert f left w places.Bottom h = interline-step w _ (by_columns (place_float-step p law places.Bottom f left w h))
-  float_goes-step vert f left w places.Page h = interline-step w _ (by_columns (defer-step f left w))
-  float_goes-step vert f left w places.Double h = interline-step w _ (by_columns (defer-step f left w))
-  float_goes-step vert f left w places.Deferred h = interline-step w _ (by_columns (defer-step f left w))
+  float_goes-step vert f left w places.Page h = interline-step w _ (defer-step f left w)
+  float_goes-step vert f left w places.Double h = interline-step w _ (defer-step f left w)
+  float_goes-step vert f left w places.Deferred h = interline-step w _ (defer-step f left w)
 
   pub note_goes-step : (depth : ℤ) (m : Margin) (left : FloatLists) (w : Work) (at : Placed) → Step w (Text.note_goes p depth m left w at)
   note_goes-step depth m left w at =
       let a = Text.with_note_bottom at.bottom (with_floats left w) in
       let b = Text.moved_warning m at a in
       afterwards {b = a} (changes refl)
-      (afterwards {b = b} (step_if a at.moved (sends (warned (warnings.Moved m.name at.shift)) a) a (sends-step (warned (warnings.Moved m.name at.shift)) a) (changes refl)) (changes refl))
+      (afterwards {b = b} (step_if a at.moved (sends (warned (warnings.Moved m.name at.shift)) a) a (sends_one (warned (warnings.Moved m.name at.shift)) a) (changes refl)) (changes refl))
 
   pub first_goes-step : (vert : Bool) (height depth page_height : ℤ) (es : List Entry) (w : Work) → Step w (Text.first_goes p vert height depth page_height es w)
   first_goes-step vert height depth page_height (entries.Float f ∷ es) w =
@@ -140,7 +149,7 @@ module _ (p : Params) (law : RecordLaw p) where
       let room = column_room_of p w.state.floats in
       let told = sends (warned (warnings.Floats w.state.page)) w in
       step_if w (Out.is_int n Out.hold_penalty) (Out.with_goal max_dimen w) (Out.goal_by p room w) (changes refl)
-      (step_if w (Out.is_crowded p room) (Out.leave_column w) (Out.with_goal room w) (afterwards {b = told} (sends-step (warned (warnings.Floats w.state.page)) w) (changes refl)) (changes refl))
+      (step_if w (Out.is_crowded p room) (Out.leave_column w) (Out.with_goal room w) (afterwards {b = told} (sends_one (warned (warnings.Floats w.state.page)) w) (changes refl)) (changes refl))
 
   -- a firing without what waits after it
   pub page_work-step : (s : State) (f : Fired) → Step (begun (Out.after_page s f)) (page_work p s f)

@@ -2,6 +2,7 @@
 use Rattle.std.proofs.Common.{◌≡◌, refl, sym, ◌∙◌, ap, subst, ℕ, zero, suc, pos, ◌+◌, ◌≤◌, inl, inr, ◌⊎◌, Bool, true, false, List, [], ◌∷◌, ◌++◌, length, Option, Some, None, arith}
 use Rattle.std.specs.Prelude.{int_lt, not, if◌then◌else◌}
 use Rattle.std.specs.List.{AllByRecursion}
+use Rattle.tb_break.proofs.EachLemmas.{all-front, all-back, all-join, all-push}
 use Rattle.tb_node.specs.declared.Float.{Float}
 use Rattle.tb_node.specs.declared.Where.{Where}
 use Rattle.tb_node.specs.declared.Where.TheVariants as places
@@ -96,10 +97,6 @@ module _ (P : Float → Type 0) where
   one-longer [] f = refl
   one-longer (g ∷ fs) f = let h : length (fs ++ f ∷ []) ≡ length fs + 1 = one-longer fs f in omega arith
 
-  one-all : (fs : List Float) (f : Float) → AllByRecursion P fs → P f → AllByRecursion P (fs ++ f ∷ [])
-  one-all [] f h k = (k, tt)
-  one-all (g ∷ fs) f h k = (h.0, one-all fs f h.1 k)
-
   pub joined-count : (place : Where) (f : Float) (l : FloatLists) → waiting_floats (Place.joined_to place f l) ≤ waiting_floats l + 1
   joined-count places.Here f l = omega arith
   joined-count places.Top f l = let h : length (l.top ++ f ∷ []) ≡ length l.top + 1 = one-longer l.top f in omega arith
@@ -110,11 +107,11 @@ module _ (P : Float → Type 0) where
 
   pub joined-all : (place : Where) (f : Float) (l : FloatLists) → P f → AllWait P l → AllWait P (Place.joined_to place f l)
   joined-all places.Here f l k h = record { top = h.top; bottom = h.bottom; deferred = h.deferred; double = h.double; second = h.second }
-  joined-all places.Top f l k h = record { top = one-all l.top f h.top k; bottom = h.bottom; deferred = h.deferred; double = h.double; second = h.second }
-  joined-all places.Bottom f l k h = record { top = h.top; bottom = one-all l.bottom f h.bottom k; deferred = h.deferred; double = h.double; second = h.second }
+  joined-all places.Top f l k h = record { top = all-push P l.top f h.top k; bottom = h.bottom; deferred = h.deferred; double = h.double; second = h.second }
+  joined-all places.Bottom f l k h = record { top = h.top; bottom = all-push P l.bottom f h.bottom k; deferred = h.deferred; double = h.double; second = h.second }
   joined-all places.Page f l k h = h
-  joined-all places.Double f l k h = record { top = h.top; bottom = h.bottom; deferred = h.deferred; double = one-all l.double f h.double k; second = h.second }
-  joined-all places.Deferred f l k h = record { top = h.top; bottom = h.bottom; deferred = one-all l.deferred f h.deferred k; double = h.double; second = h.second }
+  joined-all places.Double f l k h = record { top = h.top; bottom = h.bottom; deferred = h.deferred; double = all-push P l.double f h.double k; second = h.second }
+  joined-all places.Deferred f l k h = record { top = h.top; bottom = h.bottom; deferred = all-push P l.deferred f h.deferred k; double = h.double; second = h.second }
 
   pub joined-current : (place : Where) (f : Float) (l : FloatLists) → (Place.joined_to place f l).current ≡ l.current
   joined-current places.Here f l = refl
@@ -154,18 +151,6 @@ module _ (P : Float → Type 0) where
       by_record : (t : Bool) → Follows P w (with_floats l (if t then records_also r w else w))
       by_record true = follows-then w (records_also r w) (with_floats l (records_also r w)) (follows-records r w) (here (records_also r w) (recorded w.refused))
       by_record false = here w refl
-
-  all-left : (fs gs : List Float) → AllByRecursion P (fs ++ gs) → AllByRecursion P fs
-  all-left [] gs h = tt
-  all-left (f ∷ fs) gs h = (h.0, all-left fs gs h.1)
-
-  all-right : (fs gs : List Float) → AllByRecursion P (fs ++ gs) → AllByRecursion P gs
-  all-right [] gs h = h
-  all-right (f ∷ fs) gs h = all-right fs gs h.1
-
-  pub all-both : (fs gs : List Float) → AllByRecursion P fs → AllByRecursion P gs → AllByRecursion P (fs ++ gs)
-  all-both [] gs h k = k
-  all-both (f ∷ fs) gs h k = (h.0, all-both fs gs h.1 k)
 
   pub both-long : (fs gs : List Float) → length (fs ++ gs) ≡ length fs + length gs
   both-long [] gs = omega arith
@@ -256,7 +241,7 @@ module _ (P : Float → Type 0) where
       parts-of : AllWait P w.state.floats → P f × AllWait P l
       parts-of h =
           let d : AllByRecursion P (before ++ f ∷ rest) = subst (AllByRecursion P) e (part-all from q w.state.floats h) in
-          ((all-right before (f ∷ rest) d).0, all-part from q (before ++ rest) w.state.floats h (all-both before rest (all-left before (f ∷ rest) d) (all-right before (f ∷ rest) d).1))
+          ((all-back P before (f ∷ rest) d).0, all-part from q (before ++ rest) w.state.floats h (all-join P before rest (all-front P before (f ∷ rest) d) (all-back P before (f ∷ rest) d).1))
 
       assoc : (xs : List Float) → xs ++ f ∷ rest ≡ (xs ++ f ∷ []) ++ rest
       assoc [] = refl

@@ -2,6 +2,8 @@
 use Rattle.std.proofs.Common.{◌≡◌, refl, sym, ◌∙◌, ap, subst, ℕ, inl, inr, Bool, true, false, List, [], ◌∷◌, ◌++◌, map, Some, append_assoc, append-nil}
 use Rattle.std.specs.Prelude.{if◌then◌else◌}
 use Rattle.std.specs.List.{AllByRecursion}
+use Rattle.tb_area.proofs.OrderLemmas.{gone-deferred, gone_double-waiting}
+use Rattle.tb_break.proofs.EachLemmas.{all-front, all-back, all-join}
 use Rattle.tb_node.specs.declared.Float.{Float}
 use Rattle.tb_node.specs.declared.Where.TheVariants as places
 use Rattle.tb_param.specs.declared.Params.{Params}
@@ -19,7 +21,6 @@ use Rattle.tb_fpage.proofs.LawLemmas.{company-is-lawful}
 use Rattle.tb_output.specs.State.{Work, Recorded, placed, output, emptied, records_also}
 use Rattle.tb_output.specs.Place
 use Rattle.tb_output.proofs.ClassesRise.ClassLines.{FloatKind}
-use Rattle.tb_output.proofs.ClassesRise.RisingLists.{all-front, all-back, all-join}
 use Rattle.tb_output.proofs.ClassesRise.RecordLines.{column_lines, record_lines, records-append, IsPlacing, WasPlaced}
 
 -- a record of a float in an area
@@ -218,11 +219,6 @@ module _ (P : Float → Type 0) where
       record { top = h.top; bottom = all-join P l.bottom (f ∷ []) h.bottom (w.0, tt); deferred = w.1 }
   gone-areas deferred f before rest l e h = h
 
-  gone-deferred : (a : AreaPlace) (f : Float) (before rest : List Float) (l : FloatLists) → l.deferred ≡ before ++ f ∷ rest → (gone_to a f before rest l).deferred ≡ still_before a f before ++ rest
-  gone-deferred at_top f before rest l e = refl
-  gone-deferred at_bottom f before rest l e = refl
-  gone-deferred deferred f before rest l e = e ∙ sym (append_assoc before (f ∷ []) rest)
-
   filled-areas : (p : Params) (s : Suppress) (before fs : List Float) (l : FloatLists) → l.deferred ≡ before ++ fs → AllAreas l → AllAreas (filled p s before fs l)
   filled-areas p s before [] l e h = h
   filled-areas p s before (f ∷ rest) l e h =
@@ -234,10 +230,6 @@ module _ (P : Float → Type 0) where
 
   -- ---- of what stays when the space above two columns is filled
 
-  gone-double-waiting : (from : Part) → IsWaiting from → (b : Bool) (f : Float) (before rest : List Float) (l : FloatLists) → floats_of from l ≡ before ++ f ∷ rest → floats_of from (gone_double from b f before rest l) ≡ still_single b f before ++ rest
-  gone-double-waiting from i true f before rest l e = floats-with from i (before ++ rest) (record l { double = l.double ++ f ∷ [] })
-  gone-double-waiting from i false f before rest l e = e ∙ sym (append_assoc before (f ∷ []) rest)
-
   gone-double-all : (from : Part) → IsWaiting from → (b : Bool) (f : Float) (before rest : List Float) (l : FloatLists) → floats_of from l ≡ before ++ f ∷ rest → AllByRecursion P (floats_of from l) → AllByRecursion P (floats_of from (gone_double from b f before rest l))
   gone-double-all from i true f before rest l e h = subst (AllByRecursion P) (sym (floats-with from i (before ++ rest) (record l { double = l.double ++ f ∷ [] }))) (without before rest f (subst (AllByRecursion P) e h)).1
   gone-double-all from i false f before rest l e h = h
@@ -246,7 +238,7 @@ module _ (P : Float → Type 0) where
   doubled-all from i p s before [] l e h = h
   doubled-all from i p s before (f ∷ rest) l e h =
       let b = goes_double p l s before f in
-      doubled-all from i p s (still_single b f before) rest (gone_double from b f before rest l) (gone-double-waiting from i b f before rest l e) (gone-double-all from i b f before rest l e h)
+      doubled-all from i p s (still_single b f before) rest (gone_double from b f before rest l) (gone_double-waiting from i b f before rest l e) (gone-double-all from i b f before rest l e h)
 
   pub double-all : (from : Part) → IsWaiting from → (p : Params) (s : Suppress) (l : FloatLists) → AllByRecursion P (floats_of from l) → AllByRecursion P (floats_of from (doubled from p s [] (floats_of from l) l))
   double-all from i p s l h = doubled-all from i p s [] (floats_of from l) l refl h

@@ -1,5 +1,5 @@
 -- How many warnings and pages a firing sends, and how far it raises the page number.
-use Rattle.std.proofs.Common.{◌≡◌, refl, ap, ℕ, zero, suc, pos, ◌+◌, ◌≤◌, Bool, true, false, List, [], ◌∷◌, ◌++◌, length, Option, Some, None, arith}
+use Rattle.std.proofs.Common.{◌≡◌, refl, ap, ℕ, suc, pos, ◌+◌, ◌≤◌, Bool, true, false, List, [], ◌∷◌, ◌++◌, length, arith}
 use Rattle.std.specs.Prelude.{ℤ, nat_abs, int_lt, int_le, not, ◌||◌, if◌then◌else◌}
 use Rattle.std.proofs.lemmas.Int.{ints}
 use Rattle.tb_scaled.specs.Glue.{filling_glue}
@@ -13,17 +13,14 @@ use Rattle.tb_param.specs.declared.Params.{Params}
 use Rattle.tb_builder.specs.Fired.{Fired}
 use Rattle.tb_float.specs.declared.Entry.{Entry}
 use Rattle.tb_float.specs.declared.Entry.TheVariants as entries
-use Rattle.tb_float.specs.declared.Part.{Part}
-use Rattle.tb_float.specs.declared.Part.TheVariants as parts
-use Rattle.tb_float.specs.Lists.{FloatLists, with_floats_of, wide_part, wide_waiting, with_wide_waiting}
-use Rattle.tb_float.specs.Rooms.{column_height_of, column_room_of}
-use Rattle.tb_fpage.specs.Company.{Choice, company, left_floats}
-use Rattle.tb_area.specs.Area.{current_place, next_place, double_place}
+use Rattle.tb_float.specs.Lists.{FloatLists}
+use Rattle.tb_float.specs.Rooms.{column_room_of}
+use Rattle.tb_area.specs.Area.{current_place}
 use Rattle.tb_margin.specs.declared.Placed.{Placed}
-use Rattle.tb_column.specs.Column.{Notes, PlainColumn, PlainSheet, PlainSent, warned, shipped, one, pair_sheet}
+use Rattle.tb_column.specs.Column.{Notes, PlainSheet, PlainSent, warned, shipped}
 use Rattle.tb_column.specs.declared.Warn.{Warn}
 use Rattle.tb_column.specs.declared.Warn.TheVariants as warnings
-use Rattle.tb_output.specs.State.{State, Work, Recorded, placed, output, begun, puts, sends, records_also, with_floats, footnotes, has_floats}
+use Rattle.tb_output.specs.State.{State, Work, Recorded, begun, puts, sends, records_also, with_floats, footnotes, has_floats}
 use Rattle.tb_output.specs.Place
 use Rattle.tb_output.specs.Ship
 use Rattle.tb_output.specs.Columns
@@ -31,6 +28,8 @@ use Rattle.tb_output.specs.Text
 use Rattle.tb_output.specs.Clear
 use Rattle.tb_output.specs.Out
 use Rattle.tb_output.specs.Firing.{page_work}
+use Rattle.tb_output.proofs.StepLaws.ColumnSteps as steps
+use Rattle.tb_output.proofs.StepLaws.ColumnSteps.{no_law, ColumnStep, place_float-step, place_next-step, all_wide_pages-step, put_out-step, float_columns-step}
 
 -- ---- what is counted
 
@@ -120,84 +119,21 @@ module _ (p : Params) where
       by_refused true r = still refl refl
       by_refused false r = by_limit r (int_lt p.maxpages (pos w.state.page)) refl
 
-  -- ---- floats
-
-  pub place_float-step : (place : Where) (f : Float) (left : FloatLists) (w : Work) → Step w (Place.place_float p place f left w)
-  place_float-step place f left w =
-      let r = placed f place w.state.floats (column_height_of p w.state.floats) in
-      in_turn (step_if w (Place.is_placed place) (records_also r w) w (records_one r w) (still refl refl)) (still refl refl)
-
-  pub place_waiting-step : (from : Part) (place : Where) (f : Float) (before rest : List Float) (w : Work) → Step w (Place.place_waiting from p place f before rest w)
-  place_waiting-step from place f before rest w =
-      let l : FloatLists = with_floats_of from (before ++ rest) w.state.floats in
-      step_if w (Place.is_placed place) (Place.place_float p place f l w) w (place_float-step place f l w) (still refl refl)
-
-  pub place_next-step : (before fs : List Float) (w : Work) → Step w (Place.place_next p before fs w)
-  place_next-step before [] w = still refl refl
-  place_next-step before (f ∷ rest) w =
-      let place = next_place p w.state.floats w.state.suppress before f in
-      in_turn (place_waiting-step parts.Deferred place f before rest w) (place_next-step (Place.still_deferred place f before) rest (Place.place_waiting parts.Deferred p place f before rest w))
-
-  pub place_double-step : (from : Part) (before fs : List Float) (w : Work) → Step w (Place.place_double from p before fs w)
-  place_double-step from before [] w = still refl refl
-  place_double-step from before (f ∷ rest) w =
-      let place = double_place p w.state.floats w.state.suppress before f in
-      in_turn (place_waiting-step from place f before rest w) (place_double-step from (Place.still_deferred place f before) rest (Place.place_waiting from p place f before rest w))
-
-  -- ---- pages and columns
-
-  pub ship_wide-step : (cs : List Choice) (w : Work) → Step w (Ship.ship_wide p cs w)
-  ship_wide-step cs w = in_turn {b = with_floats (with_wide_waiting p (left_floats cs) w.state.floats) w} (still refl refl) (ships_one _ _)
-
-  wide_by-step : (again : Work → Work) → ((w : Work) → Step w (again w)) → (w : Work) (o : Option (List Choice)) → Step w (Ship.wide_pages_by again p w o)
-  wide_by-step again h w None = still refl refl
-  wide_by-step again h w (Some cs) = in_turn (ship_wide-step cs w) (h (Ship.ship_wide p cs w))
-
-  pub wide_pages-step : (clearing : Bool) (n : ℕ) (w : Work) → Step w (Ship.wide_pages p clearing n w)
-  wide_pages-step clearing zero w = still refl refl
-  wide_pages-step clearing (suc n) w = wide_by-step (λ w'. Ship.wide_pages p clearing n w') (λ w'. wide_pages-step clearing n w') w (company (Ship.wide_wanted p clearing) (wide_waiting p w.state.floats))
-
-  pub all_wide_pages-step : (clearing : Bool) (w : Work) → Step w (Ship.all_wide_pages p clearing w)
-  all_wide_pages-step clearing w = wide_pages-step clearing (length (wide_waiting p w.state.floats)) w
-
-  pub ship_pair-step : (c : PlainColumn) (w : Work) → Step w (Ship.ship_pair p c w)
-  ship_pair-step c w =
-      let a = Ship.ship p (pair_sheet p w.state.floats (Ship.left_or c w.state.left_column) c) w in
-      let b = Ship.without_double a in
-      let d = Ship.all_wide_pages p false b in
-      in_turn {b = a} (ships_one _ w) (in_turn {b = b} (still refl refl) (in_turn (all_wide_pages-step false b) (place_double-step (wide_part p) [] (wide_waiting p d.state.floats) d)))
-
-  pub put_out_by-step : (c : PlainColumn) (w : Work) → Step w (Ship.put_out_by p c w)
-  put_out_by-step c w = by_columns w.state.two_columns
-    where
-      by_columns : (t : Bool) → Step w (if not t then Ship.ship p (one c) w else (if w.state.first_column then Ship.keep_left c w else Ship.ship_pair p c w))
-      by_columns false = ships_one (one c) w
-      by_columns true = step_if w w.state.first_column (Ship.keep_left c w) (Ship.ship_pair p c w) (still refl refl) (ship_pair-step c w)
-
-  pub put_out-step : (c : PlainColumn) (w : Work) → Step w (Ship.put_out p c w)
-  put_out-step c w =
-      let a = records_also (output c) w in
-      in_turn {b = a} (records_one (output c) w) (in_turn {b = Ship.put_out_by p c a} (put_out_by-step c a) (still refl refl))
-
-  pub put_out_company-step : (cs : List Choice) (w : Work) → Step w (Columns.put_out_company p cs w)
-  put_out_company-step cs w = in_turn {b = Ship.with_deferred (left_floats cs) w} (still refl refl) (put_out-step _ _)
-
-  columns_by-step : (again : Work → Work) → ((w : Work) → Step w (again w)) → (w : Work) (o : Option (List Choice)) → Step w (Columns.float_columns_by again p w o)
-  columns_by-step again h w None = still refl refl
-  columns_by-step again h w (Some cs) = in_turn (put_out_company-step cs w) (h (Columns.put_out_company p cs w))
-
-  pub float_columns-step : (clearing : Bool) (n : ℕ) (w : Work) → Step w (Columns.float_columns p clearing n w)
-  float_columns-step clearing zero w = still refl refl
-  float_columns-step clearing (suc n) w = columns_by-step (λ w'. Columns.float_columns p clearing n w') (λ w'. float_columns-step clearing n w') w (company (Columns.single_wanted p w.state.floats clearing) w.state.floats.deferred)
+  -- what the steps of a column send
+  column-few : {a b : Work} → ColumnStep p (no_law p) a b → Step a b
+  column-few (steps.still c f) = still (ap (λ x. x.sent) c) (ap (λ x. x.page) c)
+  column-few (steps.in_turn x y) = in_turn (column-few x) (column-few y)
+  column-few (steps.records_one r w h) = records_one r w
+  column-few (steps.ships_one sheet w) = ships_one sheet w
 
   pub put_out_text-step : (body : List PlainNode) (w : Work) → Step w (Columns.put_out_text p body w)
-  put_out_text-step body w = in_turn {b = Columns.without_column_floats w} (still refl refl) ((put_out-step _ _))
+  put_out_text-step body w = in_turn {b = Columns.without_column_floats w} (still refl refl) (column-few (put_out-step p (no_law p) _ _))
 
   pub ordinary-step : (body : List PlainNode) (w : Work) → Step w (Columns.ordinary p body w)
   ordinary-step body w =
       let a = Columns.put_out_text p body w in
       let b = Columns.all_float_columns p false a in
-      in_turn (put_out_text-step body w) ((in_turn (float_columns-step false (length a.state.floats.deferred) a) (place_next-step [] b.state.floats.deferred b)))
+      in_turn (put_out_text-step body w) (column-few (steps.in_turn (float_columns-step p (no_law p) false (length a.state.floats.deferred) a) (place_next-step p (no_law p) [] b.state.floats.deferred b)))
 
   -- ---- floats and notes in the text
 
@@ -219,9 +155,9 @@ module _ (p : Params) where
 
   pub float_goes-step : (vert : Bool) (f : Float) (left : FloatLists) (w : Work) (place : Where) → SendsFew p 1 w (Text.float_goes p vert f left w place)
   float_goes-step vert f left w places.Here =
-      let x = place_float-step places.Here f left w in quiet (record { warnings = x.warnings; pages = x.pages; limit = x.limit })
-  float_goes-step vert f left w places.Top = interline-step w _ (quiet (place_float-step places.Top f left w))
-  float_goes-step vert f left w places.Bottom = interline-step w _ (quiet (place_float-step places.Bottom f left w))
+      let x = column-few (place_float-step p (no_law p) places.Here f left w tt) in quiet (record { warnings = x.warnings; pages = x.pages; limit = x.limit })
+  float_goes-step vert f left w places.Top = interline-step w _ (quiet (column-few (place_float-step p (no_law p) places.Top f left w tt)))
+  float_goes-step vert f left w places.Bottom = interline-step w _ (quiet (column-few (place_float-step p (no_law p) places.Bottom f left w tt)))
   float_goes-step vert f left w places.Page = interline-step w _ (defer-step f left w)
   float_goes-step vert f left w places.Double = interline-step w _ (defer-step f left w)
   float_goes-step vert f left w places.Deferred = interline-step w _ (defer-step f left w)
@@ -253,7 +189,7 @@ module _ (p : Params) where
 
       by_number : (t : Bool) → Step w (if not t then w else (if w.state.first_column then Ship.all_wide_pages p true a else puts (made blank_box ∷ Clear.clear_again) w))
       by_number false = still refl refl
-      by_number true = step_if w w.state.first_column (Ship.all_wide_pages p true a) (puts (made blank_box ∷ Clear.clear_again) w) (in_turn {b = a} (still refl refl) ((all_wide_pages-step true a))) (still refl refl)
+      by_number true = step_if w w.state.first_column (Ship.all_wide_pages p true a) (puts (made blank_box ∷ Clear.clear_again) w) (in_turn {b = a} (still refl refl) (column-few (all_wide_pages-step p (no_law p) true a))) (still refl refl)
 
   pub clear_floats-step : (body : List PlainNode) (w : Work) → Step w (Clear.clear_floats p body w)
   clear_floats-step body w =
@@ -261,7 +197,7 @@ module _ (p : Params) where
       let b = Columns.all_float_columns p true a in
       let c = Clear.clear_wide p b in
       in_turn {b = a} (still refl refl)
-      (in_turn {b = b} ((float_columns-step true (length a.state.floats.deferred) a))
+      (in_turn {b = b} (column-few (float_columns-step p (no_law p) true (length a.state.floats.deferred) a))
       (in_turn (clear_wide-step b) (step_if c (has_floats c.state.floats.deferred || has_floats c.state.floats.second) (puts Clear.clear_again c) c (still refl refl) (still refl refl))))
 
   pub clear_by-step : (body : List PlainNode) (w : Work) (notes : List Notes) → Step w (Clear.clear_by p body w notes)

@@ -2,6 +2,7 @@
 use Rattle.std.proofs.Common.{◌≡◌, refl, sym, ◌∙◌, ap, subst, ℕ, zero, suc, Bool, true, false, List, [], ◌∷◌, ◌++◌, length, Option, Some, None}
 use Rattle.std.specs.Prelude.{not, ◌||◌, if◌then◌else◌}
 use Rattle.std.specs.List.{AllByRecursion}
+use Rattle.tb_break.proofs.EachLemmas.{all-join}
 use Rattle.tb_scaled.specs.Glue.{filling_glue}
 use Rattle.tb_node.specs.declared.Float.{Float}
 use Rattle.tb_node.specs.declared.Where.{Where}
@@ -39,10 +40,6 @@ without-middle P (g ∷ before) f rest h = (h.0, without-middle P before f rest 
 middle : (P : Float → Type 0) (before : List Float) (f : Float) (rest : List Float) → AllByRecursion P (before ++ f ∷ rest) → P f
 middle P [] f rest h = h.0
 middle P (g ∷ before) f rest h = middle P before f rest h.1
-
-both : (P : Float → Type 0) (fs gs : List Float) → AllByRecursion P fs → AllByRecursion P gs → AllByRecursion P (fs ++ gs)
-both P [] gs h k = k
-both P (f ∷ fs) gs h k = (h.0, both P fs gs h.1 k)
 
 deferred-fits : (from : Part) (l : FloatLists) (before : List Float) (f : Float) (rest : List Float) → l.deferred ≡ before ++ f ∷ rest → Sides from l → Fitting from f
 deferred-fits parts.Current l before f rest e h = tt
@@ -160,7 +157,7 @@ module _ (p : Params) where
       d = with_floats (Clear.double_again p w.state.floats) w
 
       again : S d
-      again = waiting-sides (wide_part p) (wide-waits p) (w.state.floats.double ++ wide_waiting p w.state.floats) l (λ s is. both Wide w.state.floats.double (wide_waiting p w.state.floats) dw (subst (AllByRecursion Wide) (sym (ap (λ x. floats_of x w.state.floats) is)) s)) (undoubled-sides (wide_part p) w.state.floats h)
+      again = waiting-sides (wide_part p) (wide-waits p) (w.state.floats.double ++ wide_waiting p w.state.floats) l (λ s is. all-join Wide w.state.floats.double (wide_waiting p w.state.floats) dw (subst (AllByRecursion Wide) (sym (ap (λ x. floats_of x w.state.floats) is)) s)) (undoubled-sides (wide_part p) w.state.floats h)
 
       by_columns : (t f : Bool) → S (if not t then w else (if f then Ship.all_wide_pages p true d else puts (made blank_box ∷ Clear.clear_again) w))
       by_columns false f = h

@@ -9,8 +9,8 @@ use Rattle.tb_output.specs.State.{State, Work, Recorded, begun, sends, records_a
 use Rattle.tb_output.specs.Ship
 use Rattle.tb_output.specs.Out
 use Rattle.tb_output.specs.Firing.{page_work}
-use Rattle.tb_output.proofs.StepLaws.ColumnSteps.{RecordLaw, no_law, course, ColumnStep, still, in_turn, sends_one, records_one, ships_one}
-use Rattle.tb_output.proofs.StepLaws.FiringSteps.{FiringStep, by_columns, changes, afterwards, page_work-step}
+use Rattle.tb_output.proofs.StepLaws.ColumnSteps.{RecordLaw, no_law, course, ColumnStep, still, in_turn, records_one, ships_one}
+use Rattle.tb_output.proofs.StepLaws.FiringSteps.{FiringStep, by_columns, sends_one, changes, afterwards, page_work-step}
 
 -- the page number and the dead cycles are as before; or the page number rose, to at most one more than the pages allowed, and there are no dead cycles
 abbrev pub Counts : Params → State → State → Type 0
@@ -60,12 +60,12 @@ ship-turned p sheet w = by_refused w.refused refl
 column-turned : {p : Params} {law : RecordLaw p} {a b : Work} → ColumnStep p law a b → Turned p a b
 column-turned (still c f) = course-turned c
 column-turned (in_turn x y) = joined (column-turned x) (column-turned y)
-column-turned (sends_one e w) = sends-turned e w
 column-turned (records_one r w h) = records-turned r w
 column-turned {p} (ships_one sheet w) = ship-turned p sheet w
 
 firing-turned : {p : Params} {law : RecordLaw p} {a b : Work} → FiringStep p law a b → Turned p a b
 firing-turned (by_columns x) = column-turned x
+firing-turned (sends_one e w) = sends-turned e w
 firing-turned (changes c) = course-turned c
 firing-turned (afterwards x y) = joined (firing-turned x) (firing-turned y)
 

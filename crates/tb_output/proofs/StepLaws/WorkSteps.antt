@@ -23,8 +23,8 @@ use Rattle.tb_output.specs.Clear
 use Rattle.tb_output.specs.Out
 use Rattle.tb_output.specs.Firing.{page_work}
 use Rattle.tb_output.specs.Working.{Continues}
-use Rattle.tb_output.proofs.StepLaws.ColumnSteps.{RecordLaw, no_law, course, ColumnStep, still, in_turn, sends_one, records_one, ships_one, place_float-step, place_waiting-step, place_next-step, place_double-step, ship_wide-step, wide_pages-step, all_wide_pages-step, ship_pair-step, put_out_by-step, put_out-step, put_out_company-step, float_columns-step}
-use Rattle.tb_output.proofs.StepLaws.FiringSteps.{FiringStep, by_columns, changes, afterwards, put_out_text-step, ordinary-step, defer-step, float_goes-step, note_goes-step, first_goes-step, float_or_note-step, clear_wide-step, clear_floats-step, clear_by-step, output_by-step, next_goal-step, page_work-step}
+use Rattle.tb_output.proofs.StepLaws.ColumnSteps.{RecordLaw, no_law, course, ColumnStep, still, in_turn, records_one, ships_one, place_float-step, place_waiting-step, place_next-step, place_double-step, ship_wide-step, wide_pages-step, all_wide_pages-step, ship_pair-step, put_out_by-step, put_out-step, put_out_company-step, float_columns-step}
+use Rattle.tb_output.proofs.StepLaws.FiringSteps.{FiringStep, by_columns, sends_one, changes, afterwards, put_out_text-step, ordinary-step, defer-step, float_goes-step, note_goes-step, first_goes-step, float_or_note-step, clear_wide-step, clear_floats-step, clear_by-step, output_by-step, next_goal-step, page_work-step}
 
 -- what is sent, the refusal, the page, the classes and what waits are as they were
 pub continues-same : {w next : Work} → next.sent ≡ w.sent → next.refused ≡ w.refused → next.state.page ≡ w.state.page → next.state.classes ≡ w.state.classes → next.state.waiting ≡ w.state.waiting → Continues w next
@@ -86,12 +86,12 @@ continues-course c = continues-same (ap (λ x. x.sent) c) (ap (λ x. x.refused) 
 pub column-continues : {p : Params} {law : RecordLaw p} {a b : Work} → ColumnStep p law a b → Continues a b
 column-continues (still c f) = continues-course c
 column-continues (in_turn x y) = continues-then (column-continues x) (column-continues y)
-column-continues (sends_one e w) = continues-sends e w
 column-continues (records_one r w h) = continues-records r w
 column-continues {p} (ships_one sheet w) = continues-ship p sheet w
 
 pub continues : {p : Params} {law : RecordLaw p} {a b : Work} → FiringStep p law a b → Continues a b
 continues (by_columns x) = column-continues x
+continues (sends_one e w) = continues-sends e w
 continues (changes c) = continues-course c
 continues (afterwards x y) = continues-then (continues x) (continues y)
 
@@ -179,7 +179,7 @@ pub continues-list_back : (p : Params) (ns : List PlainNode) (w : Work) → Cont
 continues-list_back p ns w = continues-same refl refl refl refl refl
 
 pub continues-defer : (p : Params) (f : Float) (left : FloatLists) (w : Work) → Continues w (Text.defer p f left w)
-continues-defer p f left w = column-continues (defer-step p (no_law p) f left w)
+continues-defer p f left w = continues (defer-step p (no_law p) f left w)
 
 pub continues-float_goes : (p : Params) (vert : Bool) (f : Float) (left : FloatLists) (w : Work) (place : Where) → Continues w (Text.float_goes p vert f left w place)
 continues-float_goes p vert f left w place = continues (float_goes-step p (no_law p) vert f left w place tt)

@@ -1,7 +1,9 @@
 -- Ids of lists that are apart.
-use Rattle.std.proofs.Common.{◌≡◌, ◌≢◌, sym, subst, ℕ, List, [], ◌∷◌, ◌++◌, Option, None, IsSome}
+use Rattle.std.proofs.Common.{◌≡◌, sym, ℕ, List, [], ◌∷◌, ◌++◌, None}
 use Rattle.std.specs.FinMap.{get}
 use Rattle.std.specs.List.{AllByRecursion}
+use Rattle.tb_builder.proofs.Events.NextLemmas.{fresh_apart}
+use Rattle.tb_break.proofs.EachLemmas.{all-map}
 use Rattle.tb_pool.specs.Lists.{Lists, IsLive}
 use Rattle.tb_pool.specs.Frame.{IsNoneOf}
 use Rattle.tb_pool.proofs.FrameLemmas.{none-front, none-back, none-join}
@@ -9,15 +11,14 @@ use Rattle.tb_node.specs.declared.Node.{Node}
 use Rattle.tb_builder.specs.Owned.{Lacks, AllDiffer}
 use Rattle.tb_column.specs.Notes.{AreDistinct}
 use Rattle.tb_output.specs.Keeping.{AreNoneOf}
-use Rattle.tb_output.proofs.Working.StandLemmas.{all-map}
 
 -- ---- none of these is any of those
 
 pub apart-front : (ls xs ys : List ℕ) → AreNoneOf ls (xs ++ ys) → AreNoneOf ls xs
-apart-front ls xs ys h = all-map (λ l. IsNoneOf l (xs ++ ys)) (λ l. IsNoneOf l xs) ls (λ l. none-front l xs ys) h
+apart-front ls xs ys h = all-map (λ l. IsNoneOf l (xs ++ ys)) (λ l. IsNoneOf l xs) (λ l. none-front l xs ys) ls h
 
 pub apart-back : (ls xs ys : List ℕ) → AreNoneOf ls (xs ++ ys) → AreNoneOf ls ys
-apart-back ls xs ys h = all-map (λ l. IsNoneOf l (xs ++ ys)) (λ l. IsNoneOf l ys) ls (λ l. none-back l xs ys) h
+apart-back ls xs ys h = all-map (λ l. IsNoneOf l (xs ++ ys)) (λ l. IsNoneOf l ys) (λ l. none-back l xs ys) ls h
 
 pub apart-join : (ls xs ys : List ℕ) → AreNoneOf ls xs → AreNoneOf ls ys → AreNoneOf ls (xs ++ ys)
 apart-join [] xs ys h k = tt
@@ -56,15 +57,9 @@ distinct-join (x ∷ xs) ys h k a = (none-join x xs ys h.0 a.0, distinct-join xs
 
 -- ---- a list that was not live
 
-pub not-live : (store : Lists Node) (l q : ℕ) → get store.lists l ≡ None → IsLive store q → q ≢ l
-not-live store l q none live same =
-    let there : IsSome (get store.lists l) = subst (λ k. IsSome (get store.lists k)) same live in
-    let nowhere : IsSome {T = List Node} None = subst (λ (o : Option (List Node)). IsSome o) none there in
-    absurd cc
-
 pub fresh-none : (store : Lists Node) (l : ℕ) (ls : List ℕ) → get store.lists l ≡ None → AllByRecursion (IsLive store) ls → IsNoneOf l ls
 fresh-none store l [] none live = tt
-fresh-none store l (q ∷ ls) none live = (not-live store l q none live.0, fresh-none store l ls none live.1)
+fresh-none store l (q ∷ ls) none live = (fresh_apart store l q none live.0, fresh-none store l ls none live.1)
 
 -- lists that were live are none of these
 pub live-apart : (store : Lists Node) (mine ls ys : List ℕ) → AllByRecursion (IsLive store) ls → AreNoneOf ls mine → ((q : ℕ) → IsLive store q → IsNoneOf q mine → IsNoneOf q ys) → AreNoneOf ls ys

@@ -22,7 +22,7 @@ pub all-live : (s : Lists Node) (xs : List ℕ) → AllByRecursion (IsLive s) xs
 all-live s [] h = tt
 all-live s (x ∷ xs) h = (h.0, all-live s xs h.1)
 
-stand-same : (s t : Lists Node) (xs : List ℕ) → AllByRecursion (Stands s t) xs → AllSame s t xs
+pub stand-same : (s t : Lists Node) (xs : List ℕ) → AllByRecursion (Stands s t) xs → AllSame s t xs
 stand-same s t [] h = tt
 stand-same s t (x ∷ xs) h = (h.0, stand-same s t xs h.1)
 

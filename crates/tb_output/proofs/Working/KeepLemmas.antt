@@ -5,6 +5,8 @@ use Rattle.std.specs.FinMap.{get}
 use Rattle.std.specs.List.{AllByRecursion}
 use Rattle.std.proofs.lemmas.List.{map-append}
 use Rattle.std.proofs.lemmas.List.Elements.{All-append}
+use Rattle.tb_output.proofs.Working.BuilderLemmas.{stand-same}
+use Rattle.tb_break.proofs.EachLemmas.{all-front, all-back}
 use Rattle.tb_pool.specs.Lists.{Lists, IsLive, list_at}
 use Rattle.tb_pool.specs.Frame.{IsNoneOf}
 use Rattle.tb_pool.proofs.FrameLemmas.{none-front, none-back, none-join}
@@ -15,12 +17,12 @@ use Rattle.tb_node.specs.Plain.{plain_of, plain_list}
 use Rattle.tb_node.specs.Fit.{IsSizedNode}
 use Rattle.tb_insert.specs.declared.Class.{Class}
 use Rattle.tb_builder.specs.Owned.{inner_of, inner_ids, is_known, AllKnown}
-use Rattle.tb_builder.proofs.Ownership.OwnedLemmas.{AllSame, view_same, inner-append, known-append}
+use Rattle.tb_builder.proofs.Ownership.OwnedLemmas.{view_same, inner-append, known-append}
 use Rattle.tb_column.specs.Page.{is_leaf_kind, AreLeaves, IsPageList}
 use Rattle.tb_column.specs.Notes.{AreDistinct}
 use Rattle.tb_output.specs.Machine.{MachineView, machine_lists, IsMachine}
 use Rattle.tb_output.specs.Keeping.{AreNoneOf, KeepsFields, KeepsMachine, HasGrown, back_lists, IsBack, KeepsBack}
-use Rattle.tb_output.proofs.Working.StandLemmas.{Stands, all-front, all-back, list-same, live-same, list-stands, leaves-shown, frame-stands, frame-free, IsShownBy, stands-shown, lists-shown}
+use Rattle.tb_output.proofs.Working.StandLemmas.{Stands, list-same, live-same, list-stands, leaves-shown, frame-stands, frame-free, IsShownBy, stands-shown, lists-shown}
 use Rattle.tb_output.proofs.Working.ApartLemmas
 
 -- ---- the fields
@@ -92,10 +94,6 @@ pub pages-stand : (store new : Lists Node) (ls : List ℕ) → AllByRecursion (S
 pages-stand store new [] e h = tt
 pages-stand store new (l ∷ ls) e h = (list-stands store new l e.0 h.0, pages-stand store new ls e.1 h.1)
 
-all-same : (store new : Lists Node) (ls : List ℕ) → AllByRecursion (Stands store new) ls → AllSame store new ls
-all-same store new [] h = tt
-all-same store new (l ∷ ls) h = (h.0, all-same store new ls h.1)
-
 module _ (store new : Lists Node) (l : ℕ) (e : AllByRecursion (Stands store new) (back_lists store l)) where
   pub back-list : list_at new l ≡ list_at store l
   back-list = list-same store new l e.0
@@ -105,7 +103,7 @@ module _ (store new : Lists Node) (l : ℕ) (e : AllByRecursion (Stands store ne
 
   -- it shows the same nodes
   pub back-shows : plain_list new l ≡ plain_list store l
-  back-shows = ap (map (plain_of (list_at new))) back-list ∙ view_same store new (list_at store l) (all-same store new (inner_ids (list_at store l)) e.1)
+  back-shows = ap (map (plain_of (list_at new))) back-list ∙ view_same store new (list_at store l) (stand-same store new (inner_ids (list_at store l)) e.1)
 
   -- and is still the list that goes back, if it is apart from the machine's lists
   pub back-stands : (m now : MachineView) → now.classes ≡ m.classes → AreDistinct (machine_lists now) → AreNoneOf (back_lists store l) (machine_lists now) → IsBack l m store → IsBack l now new
@@ -251,7 +249,7 @@ module _ (l : ℕ) (ns : List Node) (args : List ℕ) (m : MachineView) (store n
   grown-shows leaves =
       ap (map (plain_of (list_at new))) grown-list
       ∙ map-append (plain_of (list_at new)) (list_at store l) ns
-      ∙ (λ i. view_same store new (list_at store l) (all-same store new (inner_ids (list_at store l)) inner-stand) i ++ leaves-shown (list_at new) (list_at store) ns leaves i)
+      ∙ (λ i. view_same store new (list_at store l) (stand-same store new (inner_ids (list_at store l)) inner-stand) i ++ leaves-shown (list_at new) (list_at store) ns leaves i)
 
   pub grown-keeps : MayGoBack ns → KeepsBack l args m m store new
   grown-keeps may = record {

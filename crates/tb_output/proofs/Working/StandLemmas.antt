@@ -1,8 +1,9 @@
 -- What a machine shows depends on its own lists alone.
-use Rattle.std.proofs.Common.{◌≡◌, refl, sym, subst, ◌∙◌, ap, ℕ, ◌≤◌, List, [], ◌∷◌, ◌++◌, length, map, Option, None, Some, IsSome}
+use Rattle.std.proofs.Common.{◌≡◌, refl, sym, subst, ◌∙◌, ap, ℕ, ◌≤◌, List, [], ◌∷◌, length, map, Option, None, Some, IsSome}
 use Rattle.std.specs.Prelude.{All}
 use Rattle.std.specs.List.{AllByRecursion}
 use Rattle.std.specs.FinMap.{get}
+use Rattle.tb_break.proofs.EachLemmas.{all-front, all-back, all-join}
 use Rattle.tb_pool.specs.Lists.{Lists, IsLive, list_at}
 use Rattle.tb_pool.specs.Frame.{OnlyChanged}
 use Rattle.tb_node.specs.declared.Kind.{Kind}
@@ -21,25 +22,6 @@ use Rattle.tb_column.specs.Shown.{column_shown, sheet_shown, sent_shown}
 use Rattle.tb_column.specs.Page.{is_leaf_kind, AreLeaves, IsPageList, IsPageColumn}
 use Rattle.tb_output.specs.Machine.{MachineView, state_shown, left_shown, events_shown, sheet_lists, sent_lists, event_lists, left_lists, machine_lists, IsPageSheet, IsPageSent, IsPageLeft, IsMachine}
 use Rattle.tb_output.specs.Keeping.{AreNoneOf}
-
--- ---- what holds of all of two lists
-
-module _ {X : Type 0} (P : X → Type 0) where
-  pub all-front : (xs ys : List X) → AllByRecursion P (xs ++ ys) → AllByRecursion P xs
-  all-front [] ys h = tt
-  all-front (x ∷ xs) ys h = (h.0, all-front xs ys h.1)
-
-  pub all-back : (xs ys : List X) → AllByRecursion P (xs ++ ys) → AllByRecursion P ys
-  all-back [] ys h = h
-  all-back (x ∷ xs) ys h = all-back xs ys h.1
-
-  pub all-join : (xs ys : List X) → AllByRecursion P xs → AllByRecursion P ys → AllByRecursion P (xs ++ ys)
-  all-join [] ys h k = k
-  all-join (x ∷ xs) ys h k = (h.0, all-join xs ys h.1 k)
-
-pub all-map : {X : Type 0} (P Q : X → Type 0) (xs : List X) → ((x : X) → P x → Q x) → AllByRecursion P xs → AllByRecursion Q xs
-all-map P Q [] f h = tt
-all-map P Q (x ∷ xs) f h = (f x h.0, all-map P Q xs f h.1)
 
 -- ---- leaves
 
@@ -167,7 +149,7 @@ module _ (store new : Lists Node) where
 
 -- ---- lists that are live, and not among those that a call changed
 
-sheet-live : (store : Lists Node) (s : Sheet) → IsPageSheet store s → AllByRecursion (IsLive store) (sheet_lists s)
+pub sheet-live : (store : Lists Node) (s : Sheet) → IsPageSheet store s → AllByRecursion (IsLive store) (sheet_lists s)
 sheet-live store (sheets.One c) h = (h.list.live, tt)
 sheet-live store (sheets.Wide c) h = (h.list.live, tt)
 sheet-live store (sheets.Two tops at left right) h = (h.0.live, (h.1.list.live, (h.2.list.live, tt)))

@@ -4,6 +4,7 @@ use Rattle.std.specs.Prelude.{All, ◌&&◌, int_le, int_lt, if◌then◌else◌
 use Rattle.std.specs.List.{AllByRecursion}
 use Rattle.std.proofs.lemmas.Int.{ints}
 use Rattle.std.proofs.lemmas.List.Elements.{All-from_recursion, recursion_from_All}
+use Rattle.tb_break.proofs.EachLemmas.{all-join, all-front, all-back}
 use Rattle.tb_scaled.specs.Scaled.{min_ℤ}
 use Rattle.tb_node.specs.declared.Act.{Act}
 use Rattle.tb_node.specs.declared.Act.TheVariants as acts
@@ -27,7 +28,7 @@ use Rattle.tb_output.specs.Act.{Acted, went, full, taken_float, large_warning, w
 use Rattle.tb_output.specs.Acting.{IsSizedAct}
 use Rattle.tb_run.specs.GalleyNodes.{IsGalleyNode}
 use Rattle.tb_run.specs.Served.{AreRunnable, IsTextKind, act_notes, notes_waiting, notes_taken, notes_left, IsServed}
-use Rattle.tb_run.proofs.ServedAgain.FiredNodes.{every-append, every-front, every-back, notes-append}
+use Rattle.tb_run.proofs.ServedAgain.FiredNodes.{notes-append}
 use Rattle.tb_run.proofs.ServedAgain.ServedFirings.{reach_where}
 
 -- what acts leave of a state
@@ -84,7 +85,7 @@ module _ (p : Params) (s : State) (runs : AreRunnable p) (sized : AllByRecursion
   taken-goes f true h = record { keeps = record { waiting = refl; classes = refl; boxes = refl; held = refl; bottom = refl; asks = refl }; entries = sized; notes = omega arith }
   taken-goes f false h = record {
     keeps = record { waiting = refl; classes = refl; boxes = refl; held = refl; bottom = refl; asks = refl };
-    entries = every-append IsSizedEntry s.floats.current (entries.Float f ∷ []) sized (h, tt);
+    entries = all-join IsSizedEntry s.floats.current (entries.Float f ∷ []) sized (h, tt);
     notes = let e = taken-append s.floats.current (entries.Float f ∷ []) in omega (arith, e);
   }
 
@@ -109,7 +110,7 @@ module _ (p : Params) (s : State) (runs : AreRunnable p) (sized : AllByRecursion
       by_room true e = absurd (full-went m.line (live_count s.floats) t ws rs e)
       by_room false e = goes-is 1 next t (went-state next t [] ws [] rs e) (record {
         keeps = record { waiting = refl; classes = refl; boxes = refl; held = refl; bottom = refl; asks = refl };
-        entries = every-append IsSizedEntry s.floats.current (entries.Left m ∷ entries.Right m ∷ []) sized (h, (h, tt));
+        entries = all-join IsSizedEntry s.floats.current (entries.Left m ∷ entries.Right m ∷ []) sized (h, (h, tt));
         notes = let e = taken-append s.floats.current (entries.Left m ∷ entries.Right m ∷ []) in omega (arith, e);
       })
   acted-goes (acts.Suppress area) t ws rs h e =
@@ -122,8 +123,8 @@ without-act : (cs : List Class) (a : Act) (ns ms : List PlainNode) (w : Without 
 without-act cs a ns ms w h =
     let here : PlainNode = record { line = w.line; kind = act a } in
     let whole = subst (AllByRecursion (IsGalleyNode cs)) w.was h in
-    let back = every-back (IsGalleyNode cs) w.before (here ∷ w.after) whole in
-    (back.0.servable, subst (AllByRecursion (IsGalleyNode cs)) (sym w.left) (every-append (IsGalleyNode cs) w.before w.after (every-front (IsGalleyNode cs) w.before (here ∷ w.after) whole) back.1))
+    let back = all-back (IsGalleyNode cs) w.before (here ∷ w.after) whole in
+    (back.0.servable, subst (AllByRecursion (IsGalleyNode cs)) (sym w.left) (all-join (IsGalleyNode cs) w.before w.after (all-front (IsGalleyNode cs) w.before (here ∷ w.after) whole) back.1))
 
 without-notes : (a : Act) (ns ms : List PlainNode) → Without a ns ms → notes_waiting ns ≡ notes_waiting ms + act_notes a
 without-notes a ns ms w =

@@ -2,6 +2,7 @@
 use Rattle.std.proofs.Common.{◌≡◌, refl, sym, subst, ◌∙◌, ℕ, List, [], ◌∷◌}
 use Rattle.std.specs.List.{AllByRecursion}
 use Rattle.std.specs.FinMap.{get}
+use Rattle.tb_break.proofs.EachLemmas.{all-front}
 use Rattle.tb_pool.specs.Lists.{Lists, IsLive}
 use Rattle.tb_pool.specs.Frame.{IsNoneOf}
 use Rattle.tb_node.specs.declared.Act.{Act}
@@ -15,7 +16,7 @@ use Rattle.tb_output.specs.Machine.{MachineView, state_shown, machine_lists, lef
 use Rattle.tb_output.specs.Firing.{builder_lists}
 use Rattle.tb_output.specs.Keeping.{AreNoneOf}
 use Rattle.tb_output.proofs.Working.ApartLemmas.{apart-swap}
-use Rattle.tb_output.proofs.Working.StandLemmas.{all-front, machine-live, IsShownBy}
+use Rattle.tb_output.proofs.Working.StandLemmas.{machine-live, IsShownBy}
 use Rattle.tb_run.specs.declared.routine.Routine.{Routine}
 use Rattle.tb_run.specs.Turning.{IsConsistent}
 use Rattle.tb_run.specs.Filling.{HasDone, HasActed}

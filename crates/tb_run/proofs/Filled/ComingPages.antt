@@ -1,10 +1,11 @@
 -- The page that is filled fits, and so does the page that fires.
-use Rattle.std.proofs.Common.{◌≡◌, sym, subst, ap, ℕ, ◌+◌, ◌≤◌, ℤ, pos, ◌≤ℤ◌, Bool, true, false, List, [], ◌∷◌, ◌++◌, map, take, drop, Some, arith}
+use Rattle.std.proofs.Common.{◌≡◌, sym, subst, ap, ℕ, ◌+◌, ◌≤◌, pos, ◌≤ℤ◌, Bool, true, false, List, [], ◌∷◌, ◌++◌, map, take, drop, Some, arith}
 use Rattle.std.specs.Prelude.{All, if◌then◌else◌}
 use Rattle.std.specs.List.{AllByRecursion}
 use Rattle.std.proofs.lemmas.Int.{ints}
 use Rattle.std.proofs.lemmas.List.{length-map}
 use Rattle.std.proofs.lemmas.List.Elements.{All-nil}
+use Rattle.tb_break.proofs.EachLemmas.{all-join, all-front, all-back, all-take, all-drop}
 use Rattle.tb_node.specs.Fit.{IsExtent}
 use Rattle.tb_node.specs.Plain.{PlainNode}
 use Rattle.tb_param.specs.declared.Params.{Params}
@@ -29,15 +30,12 @@ use Rattle.tb_run.specs.GalleyNodes.{IsServable, IsGalleyNode}
 use Rattle.tb_run.specs.Run.{held_count}
 use Rattle.tb_run.specs.Served.{AreRunnable, AreRunClasses, notes_waiting, notes_left, IsTextKind, IsServed, IsServedPage}
 use Rattle.tb_run.specs.Turning.{between_pages}
-use Rattle.tb_run.proofs.ServedAgain.FiredNodes.{every-front, every-back, every-append, every-take, every-drop, no_acts-take, text-body, served-spent, mild-break, known-labels, held-known, nodes-both, nodes-sized, nodes-served, notes-append, notes-drop, notes-spent, notes-held}
+use Rattle.tb_run.proofs.ServedAgain.FiredNodes.{no_acts-take, text-body, served-spent, mild-break, known-labels, held-known, nodes-both, nodes-sized, nodes-served, notes-append, notes-drop, notes-spent, notes-held}
 use Rattle.tb_run.proofs.ServedAgain.ServedFirings.{reach_where, within-more}
 use Rattle.tb_run.proofs.Filled.ComingLemmas.{IsComing, start, fired-is}
 
 extent-zero : IsExtent (pos 0)
 extent-zero = record { low = omega (arith, ints); high = omega (arith, ints) }
-
-extent-goal : (z : ℤ) → IsExtent z → IsGoal z
-extent-goal z h = record { low = let a = h.low in grind (arith, ints, a); high = let a = h.high in grind (arith, ints, a) }
 
 -- each class keeps its box
 boxes-after : (ls : List Labelled) (cs : List Class) (bs : List Boxed) → AreBoxesOf cs bs → AreBoxesOf cs (map (box_after ls) bs)
@@ -119,10 +117,10 @@ module _ (p : Params) (s : State) (runs : AreRunnable p) (classes : AreRunClasse
       both-served = nodes-served s.classes (c.page ++ c.waiting) both
 
       page-served : AllByRecursion (λ n. IsServable s.classes n.kind) c.page
-      page-served = every-front (λ (n : PlainNode). IsServable s.classes n.kind) c.page c.waiting both-served
+      page-served = all-front (λ (n : PlainNode). IsServable s.classes n.kind) c.page c.waiting both-served
 
       waiting-served : AllByRecursion (λ n. IsServable s.classes n.kind) c.waiting
-      waiting-served = every-back (λ (n : PlainNode). IsServable s.classes n.kind) c.page c.waiting both-served
+      waiting-served = all-back (λ (n : PlainNode). IsServable s.classes n.kind) c.page c.waiting both-served
 
       parts : FiredSized f
       parts = fired_of-sized ask s.classes s.boxes [] s.waiting sized-ask (All-nil IsSizedOnPage) (nodes-sized s.classes s.waiting served.nodes) served.boxes
@@ -131,10 +129,10 @@ module _ (p : Params) (s : State) (runs : AreRunnable p) (classes : AreRunClasse
       is = fired-is p s rs c t h off
 
       front-served : AllByRecursion (λ n. IsServable s.classes n.kind) (take k c.page)
-      front-served = every-take (λ (n : PlainNode). IsServable s.classes n.kind) k c.page page-served
+      front-served = all-take (λ (n : PlainNode). IsServable s.classes n.kind) k c.page page-served
 
       rest-served : AllByRecursion (λ n. IsServable s.classes n.kind) (drop k c.page ++ c.waiting)
-      rest-served = every-append (λ (n : PlainNode). IsServable s.classes n.kind) (drop k c.page) c.waiting (every-drop (λ (n : PlainNode). IsServable s.classes n.kind) k c.page page-served) waiting-served
+      rest-served = all-join (λ (n : PlainNode). IsServable s.classes n.kind) (drop k c.page) c.waiting (all-drop (λ (n : PlainNode). IsServable s.classes n.kind) k c.page page-served) waiting-served
 
       -- its penalty is not below those of the routine
       pub fired-mild : hold_penalty ≤ℤ f.penalty

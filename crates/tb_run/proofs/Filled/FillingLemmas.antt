@@ -1,6 +1,7 @@
 -- The routine while a page is filled.
 use Rattle.std.proofs.Common.{◌≡◌, refl, sym, subst, ◌∙◌, ap, ℕ, ◌<◌, ◌≤◌, Bool, List, [], ◌∷◌, ◌++◌, length, map, Some, append-nil, arith}
 use Rattle.std.specs.List.{AllByRecursion}
+use Rattle.tb_break.proofs.EachLemmas.{all-front}
 use Rattle.tb_pool.specs.Lists.{Lists}
 use Rattle.tb_pool.specs.Frame.{IsNoneOf}
 use Rattle.tb_node.specs.declared.Act.{Act}
@@ -26,7 +27,6 @@ use Rattle.tb_output.specs.Acting.{IsSizedAct, line_of, warnings_sent}
 use Rattle.tb_output.specs.Machine.{MachineView, state_shown, left_lists, event_lists, machine_lists, IsMachine}
 use Rattle.tb_output.specs.Firing.{builder_lists}
 use Rattle.tb_output.proofs.Working.ApartLemmas.{distinct-front}
-use Rattle.tb_output.proofs.Working.StandLemmas.{all-front}
 use Rattle.tb_run.specs.declared.happening.Happening.{Happening}
 use Rattle.tb_run.specs.declared.routine.Routine.{Routine}
 use Rattle.tb_run.specs.declared.routine.Ending.TheVariants as endings

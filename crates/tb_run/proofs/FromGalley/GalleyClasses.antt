@@ -4,6 +4,7 @@ use Rattle.std.specs.Prelude.{IsTrue}
 use Rattle.std.specs.List.{list_all}
 use Rattle.std.proofs.lemmas.Int.{ints}
 use Rattle.std.proofs.lemmas.Bool.Decides.{nat_tests}
+use Rattle.std.proofs.lemmas.Bool.{ltb-true}
 use Rattle.tb_scaled.specs.Amount.{IsAmount}
 use Rattle.tb_param.specs.declared.Params.{Params}
 use Rattle.tb_param.specs.Table.{is_within, is_dimen, is_glue}
@@ -28,13 +29,10 @@ above-more : (n m : ℕ) (cs : List ClassLine) → n < m → AreAbove m cs → A
 above-more n m [] h a = tt
 above-more n m (c ∷ cs) h a = (omega (arith, h, a.0), above-more n m cs h a.1)
 
-less : (n m : ℕ) → IsTrue (nat_lt n m) → n < m
-less n m h = grind (arith, nat_tests, h)
-
 pub rising-above : (c : ClassLine) (cs : List ClassLine) → IsTrue (do_classes_rise (c ∷ cs)) → AreAbove c.number cs
 rising-above c [] h = tt
 rising-above c (d ∷ ds) h =
-    let n = less c.number d.number (left_of (nat_lt c.number d.number) (do_classes_rise (d ∷ ds)) h) in
+    let n = ltb-true c.number d.number (left_of (nat_lt c.number d.number) (do_classes_rise (d ∷ ds)) h) in
     (n, above-more c.number d.number ds n (rising-above d ds (right_of (nat_lt c.number d.number) (do_classes_rise (d ∷ ds)) h)))
 
 pub rising-rest : (c : ClassLine) (cs : List ClassLine) → IsTrue (do_classes_rise (c ∷ cs)) → IsTrue (do_classes_rise cs)

@@ -4,9 +4,8 @@ use Rattle.std.specs.Prelude.{IsTrue}
 use Rattle.std.specs.List.{list_all, AllByRecursion}
 use Rattle.std.proofs.lemmas.Int.{ints}
 use Rattle.std.proofs.lemmas.List.Elements.{All-from_recursion}
+use Rattle.tb_builder.proofs.Handover.CallLemmas.{dimension_small}
 use Rattle.tb_scaled.specs.declared.Glue.{Glue}
-use Rattle.tb_scaled.specs.Amount.{IsAmount}
-use Rattle.tb_node.specs.Fit.{IsDimension}
 use Rattle.tb_param.specs.declared.Params.{Params}
 use Rattle.tb_param.specs.Table.{is_within, is_dimen, is_glue}
 use Rattle.tb_insert.specs.Arrived.{ClassFits}
@@ -78,11 +77,8 @@ module _ (p : Params) (foot : IsSizedGlue p.skipfootins) where
       let one = line-sized c (left_of (is_class c) (list_all is_class cs) v) in
       (record { factor = one.factor; width = one.skip.width; stretch = one.skip.stretch; shrink = one.skip.shrink }, all-sized cs (right_of (is_class c) (list_all is_class cs) v))
 
-dimension-amount : (z : ℤ) → IsDimension z → IsAmount z
-dimension-amount z d = record { low = let a = d.low in grind (arith, ints, a); high = let a = d.high in grind (arith, ints, a) }
-
 foot-fits : (p : Params) → IsSizedGlue p.skipfootins → ClassFits (foot_class p)
-foot-fits p h = record { factor = record { low = omega (arith, ints); high = omega (arith, ints) }; stretch = dimension-amount p.skipfootins.stretch h.stretch; shrink = dimension-amount p.skipfootins.shrink h.shrink }
+foot-fits p h = record { factor = record { low = omega (arith, ints); high = omega (arith, ints) }; stretch = dimension_small p.skipfootins.stretch h.stretch; shrink = dimension_small p.skipfootins.shrink h.shrink }
 
 pub galley-classes : (g : Galley) → AreRunnable g.params → IsValid g → AreRunClasses (classes_of g)
 galley-classes g runs v =

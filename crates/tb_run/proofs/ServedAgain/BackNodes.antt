@@ -3,9 +3,10 @@ use Rattle.std.proofs.Common.{◌≡◌, refl, sym, subst, ◌∙◌, ap, ℕ, s
 use Rattle.std.specs.Prelude.{All, if◌then◌else◌, ◌==◌, ◌||◌}
 use Rattle.std.specs.List.{AllByRecursion}
 use Rattle.std.proofs.lemmas.Int.{ints}
-use Rattle.std.proofs.lemmas.Bool.{true≢false}
+use Rattle.std.proofs.lemmas.Bool.{true≢false, or_right, or_parts}
 use Rattle.std.proofs.lemmas.Bool.Decides.{nat_tests}
 use Rattle.std.proofs.lemmas.List.Elements.{All-from_recursion}
+use Rattle.tb_break.proofs.EachLemmas.{all-join}
 use Rattle.tb_scaled.specs.declared.Glue.{Glue}
 use Rattle.tb_node.specs.declared.Float.{Float}
 use Rattle.tb_node.specs.declared.Margin.{Margin}
@@ -29,7 +30,6 @@ use Rattle.tb_output.specs.Text.{penalty_nodes, penalty_after, notes_nodes, here
 use Rattle.tb_output.specs.Out.{hold_penalty, blank_column}
 use Rattle.tb_run.specs.GalleyNodes.{IsMild, IsServable, IsGalleyNode}
 use Rattle.tb_run.specs.Served.{AreRunnable, notes_waiting, IsTextKind}
-use Rattle.tb_run.proofs.ServedAgain.FiredNodes.{every-append}
 
 -- no act, a penalty is mild, and an insertion is sized and of one of these classes
 abbrev pub IsBackKind : List Class → PlainKind → Type 0
@@ -44,7 +44,7 @@ abbrev pub AreText : List PlainNode → Type 0
 AreText ns = AllByRecursion (λ n. IsTextKind n.kind) ns
 
 pub back-append : (cs : List Class) (ns ms : List PlainNode) → AreBack cs ns → AreBack cs ms → AreBack cs (ns ++ ms)
-back-append cs ns ms h k = every-append (λ (n : PlainNode). IsBackKind cs n.kind) ns ms h k
+back-append cs ns ms h k = all-join (λ (n : PlainNode). IsBackKind cs n.kind) ns ms h k
 
 pub text-back : (cs : List Class) (ns : List PlainNode) → AreText ns → AreBack cs ns
 text-back cs [] h = tt
@@ -151,16 +151,12 @@ notes-known all (c ∷ cs) bs a h = by_content (box_content bs c.number) refl (n
     by_content None e rest = rest
     by_content (Some ls) e rest = ((a.0, content-sized bs c.number ls h e), rest)
 
-or-true : (a b : Bool) → b ≡ true → (a || b) ≡ true
-or-true true b e = refl
-or-true false b e = e
-
 same-number : (n : ℕ) → (n == n) ≡ true
 same-number n = grind (arith, nat_tests)
 
 more-among : (c : Class) (all cs : List Class) → AreAmong all cs → AreAmong (c ∷ all) cs
 more-among c all [] h = tt
-more-among c all (d ∷ cs) h = (or-true (c.number == d.number) (has_class all d.number) h.0, more-among c all cs h.1)
+more-among c all (d ∷ cs) h = (or_right (c.number == d.number) (has_class all d.number) h.0, more-among c all cs h.1)
 
 all-among : (cs : List Class) → AreAmong cs cs
 all-among [] = tt
@@ -187,10 +183,6 @@ module _ (all : List Class) (p : Params) (runs : AreRunnable p) where
 no-box : (c : Class) (number : ℕ) (content : Option (List Leaf)) (bs : List Boxed) → (number == c.number) ≡ false → box_content (record { number = number; content = content } ∷ bs) c.number ≡ box_content bs c.number
 no-box c number content bs e = ap (λ t. if t then content else box_content bs c.number) e
 
-or-false : (a b : Bool) → (a || b) ≡ false → (a ≡ false) × (b ≡ false)
-or-false true b e = absurd (true≢false e)
-or-false false b e = (refl, e)
-
 other-number : (n m : ℕ) → (n == m) ≡ false → (m == n) ≡ false
 other-number n m e = grind (arith, nat_tests, e)
 
@@ -198,7 +190,7 @@ other-number n m e = grind (arith, nat_tests, e)
 notes-past : (cs : List Class) (number : ℕ) (content : Option (List Leaf)) (bs : List Boxed) → has_class cs number ≡ false → notes_in cs (record { number = number; content = content } ∷ bs) ≡ notes_in cs bs
 notes-past [] number content bs e = refl
 notes-past (c ∷ cs) number content bs e =
-    let both = or-false (c.number == number) (has_class cs number) e in
+    let both = or_parts (c.number == number) (has_class cs number) e in
     (λ i. with_notes c (no-box c number content bs (other-number c.number number both.0) i) (notes_in cs (record { number = number; content = content } ∷ bs)))
     ∙ ap (with_notes c (box_content bs c.number)) (notes-past cs number content bs both.1)
 

@@ -5,6 +5,7 @@ use Rattle.std.specs.List.{AllByRecursion}
 use Rattle.std.proofs.lemmas.Int.{ints}
 use Rattle.std.proofs.lemmas.Bool.{true≢false}
 use Rattle.std.proofs.lemmas.List.Elements.{All-from_recursion, recursion_from_All}
+use Rattle.tb_break.proofs.EachLemmas.{all-join, all-map}
 use Rattle.tb_node.specs.Plain.{hbox, rule, skip, kerned, pen, mark, note, whatsit, Leaf, Inserted, PlainKind, plain, ins, act, PlainNode, is_act_kind, without_insertions, on_line}
 use Rattle.tb_break.specs.Prune.{pruned_nodes}
 use Rattle.tb_insert.specs.declared.Class.{Class}
@@ -16,35 +17,6 @@ use Rattle.tb_builder.specs.Places.{NoActs}
 use Rattle.tb_output.specs.Out.{hold_penalty}
 use Rattle.tb_run.specs.GalleyNodes.{IsServable, IsGalleyNode}
 use Rattle.tb_run.specs.Served.{kind_notes, notes_waiting, IsTextKind}
-
--- ---- each element of a list
-
-module _ {X : Type 0} (P : X → Type 0) where
-  pub every-append : (xs ys : List X) → AllByRecursion P xs → AllByRecursion P ys → AllByRecursion P (xs ++ ys)
-  every-append [] ys h k = k
-  every-append (x ∷ xs) ys h k = (h.0, every-append xs ys h.1 k)
-
-  pub every-front : (xs ys : List X) → AllByRecursion P (xs ++ ys) → AllByRecursion P xs
-  every-front [] ys h = tt
-  every-front (x ∷ xs) ys h = (h.0, every-front xs ys h.1)
-
-  pub every-back : (xs ys : List X) → AllByRecursion P (xs ++ ys) → AllByRecursion P ys
-  every-back [] ys h = h
-  every-back (x ∷ xs) ys h = every-back xs ys h.1
-
-  pub every-take : (k : ℕ) (xs : List X) → AllByRecursion P xs → AllByRecursion P (take k xs)
-  every-take zero xs h = tt
-  every-take (suc k) [] h = tt
-  every-take (suc k) (x ∷ xs) h = (h.0, every-take k xs h.1)
-
-  pub every-drop : (k : ℕ) (xs : List X) → AllByRecursion P xs → AllByRecursion P (drop k xs)
-  every-drop zero xs h = h
-  every-drop (suc k) [] h = tt
-  every-drop (suc k) (x ∷ xs) h = every-drop k xs h.1
-
-pub every-map : {X : Type 0} (P Q : X → Type 0) → ((x : X) → P x → Q x) → (xs : List X) → AllByRecursion P xs → AllByRecursion Q xs
-every-map P Q f [] h = tt
-every-map P Q f (x ∷ xs) h = (f x h.0, every-map P Q f xs h.1)
 
 -- ---- no acts
 
@@ -189,7 +161,7 @@ module _ (cs : List Class) where
     where
       by_kind : (x : PlainKind) → IsServable cs x → AllByRecursion Knows (labelled_with z ls before n.line x)
       by_kind (plain m) s = k
-      by_kind (ins i) s = every-append Knows ls _ k (s, tt)
+      by_kind (ins i) s = all-join Knows ls _ k (s, tt)
       by_kind (act a) s = k
 
   -- the insertions of a page are of known classes
@@ -208,7 +180,7 @@ module _ (cs : List Class) where
   -- so are those that are held
   pub held-known : (ls : List Labelled) → AllByRecursion Knows ls → AllByRecursion Serves (held_insertions ls)
   held-known [] k = tt
-  held-known (l ∷ ls) k = every-append Serves (on_line l.line (held_of l.label l.inserted)) (held_insertions ls) (held-known_of l.line l.label l.inserted k.0) (held-known ls k.1)
+  held-known (l ∷ ls) k = all-join Serves (on_line l.line (held_of l.label l.inserted)) (held_insertions ls) (held-known_of l.line l.label l.inserted k.0) (held-known ls k.1)
 
   -- ---- together with their amounts
 
@@ -220,7 +192,7 @@ module _ (cs : List Class) where
   nodes-both ns a b = All-from_recursion (IsGalleyNode cs) ns (nodes-by ns (recursion_from_All IsSizedOnPage ns a) b)
 
   pub nodes-sized : (ns : List PlainNode) → All (IsGalleyNode cs) ns → All IsSizedOnPage ns
-  nodes-sized ns h = All-from_recursion IsSizedOnPage ns (every-map (IsGalleyNode cs) IsSizedOnPage (λ n k. k.sized) ns (recursion_from_All (IsGalleyNode cs) ns h))
+  nodes-sized ns h = All-from_recursion IsSizedOnPage ns (all-map (IsGalleyNode cs) IsSizedOnPage (λ n k. k.sized) ns (recursion_from_All (IsGalleyNode cs) ns h))
 
   pub nodes-served : (ns : List PlainNode) → All (IsGalleyNode cs) ns → AllByRecursion Serves ns
-  nodes-served ns h = every-map (IsGalleyNode cs) Serves (λ n k. k.servable) ns (recursion_from_All (IsGalleyNode cs) ns h)
+  nodes-served ns h = all-map (IsGalleyNode cs) Serves (λ n k. k.servable) ns (recursion_from_All (IsGalleyNode cs) ns h)

@@ -3,6 +3,7 @@ use Rattle.std.proofs.Common.{◌≡◌, refl, sym, subst, ◌∙◌, ap, ℕ, �
 use Rattle.std.specs.Prelude.{if◌then◌else◌, not, ◌&&◌, ◌||◌}
 use Rattle.std.specs.List.{AllByRecursion}
 use Rattle.std.proofs.lemmas.Int.{ints}
+use Rattle.tb_break.proofs.EachLemmas.{all-take}
 use Rattle.tb_scaled.specs.Scaled.{max_dimen}
 use Rattle.tb_scaled.specs.Glue.{filling_glue}
 use Rattle.tb_node.specs.declared.Float.{Float}
@@ -26,7 +27,6 @@ use Rattle.tb_output.specs.Clear
 use Rattle.tb_output.specs.Out
 use Rattle.tb_output.proofs.StepLaws.FollowLemmas.{Follows, part-current, follows-put_out, follows-float_columns, follows-next, follows-wide_pages}
 use Rattle.tb_run.specs.Served.{notes_taken}
-use Rattle.tb_run.proofs.ServedAgain.FiredNodes.{every-take}
 use Rattle.tb_run.proofs.ServedAgain.BackNodes.{AreBack, AreText, back-append, text-back, clear-back, blank-back, count-take, emptied-sized, emptied-count}
 use Rattle.tb_run.proofs.ServedAgain.EasedWorks.{Eases, all_columns-eases, put_out-eases, next-eases, all_wide-eases}
 
@@ -175,7 +175,7 @@ module _ (cs : List Class) (left : ℕ) where
       (kept-rest (m + 6) d
       (kept-wide m p c
       (kept-columns m p true b
-      (kept-step m a b (kept-puts_few n (node_count body) front w (text-back cs front (every-take _ _ body text)) (count-take _ body) k) refl refl refl refl (record { classes = refl; bottom = inl refl })))))
+      (kept-step m a b (kept-puts_few n (node_count body) front w (text-back cs front (all-take _ _ body text)) (count-take _ body) k) refl refl refl refl (record { classes = refl; bottom = inl refl })))))
 
   pub kept-clear : (n : ℕ) (p : Params) (body : List PlainNode) (w : Work) → AreText body → Kept cs left n w → Kept cs left (n + node_count body + 11) (Clear.clear p body w)
   kept-clear n p body w text k = by_notes (footnotes w.state)

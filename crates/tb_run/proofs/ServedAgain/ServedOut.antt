@@ -4,15 +4,16 @@ use Rattle.std.specs.Prelude.{All, int_le}
 use Rattle.std.specs.List.{AllByRecursion}
 use Rattle.std.proofs.lemmas.List.{length-append}
 use Rattle.std.proofs.lemmas.List.Elements.{All-append, All-from_recursion, recursion_from_All}
+use Rattle.tb_break.proofs.EachLemmas.{all-join, all-take, all-map}
 use Rattle.tb_scaled.specs.Scaled.{eject_penalty}
 use Rattle.tb_node.specs.Fit.{IsSizedPlain}
-use Rattle.tb_node.specs.Plain.{PlainKind, plain, ins, act, PlainNode}
+use Rattle.tb_node.specs.Plain.{PlainNode}
 use Rattle.tb_param.specs.declared.Params.{Params}
 use Rattle.tb_builder.specs.Fired.{Fired}
-use Rattle.tb_builder.specs.Contents.{kind_count, node_count, box_count}
+use Rattle.tb_builder.specs.Contents.{node_count, box_count}
 use Rattle.tb_builder.specs.Kept.{fired_count}
 use Rattle.tb_builder.specs.Pageable.{IsSizedOnPage, IsSizedBox}
-use Rattle.tb_builder.proofs.Ranges.PageableLemmas.{count-append}
+use Rattle.tb_builder.proofs.Ranges.PageableLemmas.{count-append, length_counted}
 use Rattle.tb_float.specs.Ranges.{IsWithin}
 use Rattle.tb_output.specs.State.{State, Work, begun}
 use Rattle.tb_output.specs.Columns.{ordinary}
@@ -22,21 +23,12 @@ use Rattle.tb_output.specs.Out.{clear_penalty, par_penalty, vert_penalty, is_int
 use Rattle.tb_run.specs.GalleyNodes.{IsGalleyNode}
 use Rattle.tb_run.specs.Run.{held_count}
 use Rattle.tb_run.specs.Served.{AreRunnable, AreRunClasses, notes_waiting, notes_taken, IsServed, IsServedPage}
-use Rattle.tb_run.proofs.ServedAgain.FiredNodes.{every-append, every-take, every-map, notes-append}
+use Rattle.tb_run.proofs.ServedAgain.FiredNodes.{notes-append}
 use Rattle.tb_run.proofs.ServedAgain.BackNodes.{back-nodes, back-notes, classes-few}
 use Rattle.tb_run.proofs.ServedAgain.ServedFirings.{reach_where, Kept, kept-more, kept-if, kept-ordinary, kept-clear, kept-hold, kept-next_goal}
 use Rattle.tb_run.proofs.ServedAgain.ServedTexts.{kept-text_firing}
 
 -- ---- how many nodes there are
-
-kind-counts : (k : PlainKind) → 1 ≤ kind_count k
-kind-counts (plain m) = omega arith
-kind-counts (ins i) = omega arith
-kind-counts (act a) = omega arith
-
-pub count-length : (ns : List PlainNode) → length ns ≤ node_count ns
-count-length [] = omega arith
-count-length (n ∷ ns) = let a = kind-counts n.kind in let b = count-length ns in omega (arith, a, b)
 
 take-length : (k : ℕ) (ns : List PlainNode) → length (take k ns) ≤ length ns
 take-length zero ns = omega arith
@@ -71,17 +63,17 @@ module _ (p : Params) (s : State) (f : Fired) (runs : AreRunnable p) (classes : 
   most = least + node_count f.body + length s.classes + 11
 
   body-sized : AllByRecursion IsSizedPlain f.body
-  body-sized = every-map IsSizedOnPage IsSizedPlain (λ n k. k.shape) f.body (recursion_from_All IsSizedOnPage f.body h.body)
+  body-sized = all-map IsSizedOnPage IsSizedPlain (λ n k. k.shape) f.body (recursion_from_All IsSizedOnPage f.body h.body)
 
   text-sized : AllByRecursion IsSizedPlain (s.held_page ++ without_firing_box f.body)
-  text-sized = every-append IsSizedPlain s.held_page (without_firing_box f.body) held_sized (every-take IsSizedPlain _ f.body body-sized)
+  text-sized = all-join IsSizedPlain s.held_page (without_firing_box f.body) held_sized (all-take IsSizedPlain _ f.body body-sized)
 
   text-long : length (s.held_page ++ without_firing_box f.body) ≤ 4194305
   text-long =
       let a = length-append s.held_page (without_firing_box f.body) in
       let b = take-length (length f.body - 2) f.body in
-      let c = count-length f.body in
-      let d = count-length s.held_page in
+      let c = length_counted f.body in
+      let d = length_counted s.held_page in
       omega (arith, a, b, c, d, fits)
 
   kept-output : Kept s.classes left most (output_by p f w0)

@@ -5,6 +5,7 @@ use Rattle.std.specs.List.{AllByRecursion}
 use Rattle.std.proofs.lemmas.Int.{ints}
 use Rattle.std.proofs.lemmas.List.{length-map}
 use Rattle.std.proofs.lemmas.List.Elements.{All-from_recursion}
+use Rattle.tb_break.proofs.EachLemmas.{all-take}
 use Rattle.tb_scaled.specs.Scaled.{max_ℤ}
 use Rattle.tb_node.specs.declared.Float.{Float}
 use Rattle.tb_node.specs.declared.Margin.{Margin}
@@ -39,10 +40,9 @@ use Rattle.tb_output.specs.Columns
 use Rattle.tb_output.specs.Text
 use Rattle.tb_output.proofs.StepLaws.FollowLemmas.{joined-current}
 use Rattle.tb_run.specs.Served.{AreRunnable, notes_taken}
-use Rattle.tb_run.proofs.ServedAgain.FiredNodes.{every-take}
 use Rattle.tb_run.proofs.ServedAgain.BackNodes.{AreBack, AreText, back-append, text-back, interline-back, interline-few, here-back, here-few, note-back, count-take, notes-back, notes-few, emptied-sized, emptied-count}
 use Rattle.tb_run.proofs.ServedAgain.EasedWorks.{placed-eases}
-use Rattle.tb_run.proofs.ServedAgain.ServedFirings.{reach_where, Kept, within-more, AnyFloat, kept-more, kept-if, kept-with, kept-sends, kept-puts, kept-puts_few}
+use Rattle.tb_run.proofs.ServedAgain.ServedFirings.{reach_where, Kept, AnyFloat, kept-more, kept-if, kept-with, kept-sends, kept-puts, kept-puts_few, within-more}
 
 -- ---- how far notes reach
 
@@ -226,7 +226,7 @@ module _ (cs : List Class) (left : ℕ) where
         let ns = w.state.held_page ++ more in
         let shapes = map node_shape ns in
         let c = Text.list_back p ns w in
-        let back = kept-list n more w (every-take _ _ body text) fit of k in
+        let back = kept-list n more w (all-take _ _ body text) fit of k in
         let at = text-height shapes (All-from_recursion IsSized shapes (shapes-sized ns sized)) (let e = length-map {B = Shape} ns node_shape in omega (arith, e, few)) in
         kept-more cs left (n + node_count more + length cs + 8) _ _ (let f = count-take (length body - 2) body in omega (arith, f))
         (kept-first (n + node_count more + length cs) vert (size_of shapes -ℤ last_depth shapes) (last_depth shapes) _ w.state.floats.current c at refl k.entries back)

@@ -2,16 +2,15 @@
 use Rattle.std.proofs.Common.{◌≡◌, sym, subst, ◌∙◌, ap, ℕ, ◌≤◌, List, [], ◌∷◌}
 use Rattle.std.specs.List.{AllByRecursion}
 use Rattle.std.specs.FinMap.{get}
+use Rattle.tb_break.proofs.EachLemmas.{all-join}
 use Rattle.tb_pool.specs.Lists.{Lists, IsLive}
 use Rattle.tb_pool.specs.Frame.{IsNoneOf}
 use Rattle.tb_node.specs.declared.Node.{Node}
 use Rattle.tb_column.specs.declared.Sent.TheVariants as sents
-use Rattle.tb_column.specs.declared.Sheet.{Sheet}
-use Rattle.tb_column.specs.declared.Sheet.TheVariants as sheets
 use Rattle.tb_output.specs.State.{State}
-use Rattle.tb_output.specs.Machine.{state_shown, sheet_lists, machine_lists, IsPageSheet}
+use Rattle.tb_output.specs.Machine.{state_shown, machine_lists}
 use Rattle.tb_output.specs.Keeping.{AreNoneOf}
-use Rattle.tb_output.proofs.Working.StandLemmas.{all-join, IsShownBy}
+use Rattle.tb_output.proofs.Working.StandLemmas.{IsShownBy, sheet-live}
 use Rattle.tb_run.specs.declared.happening.Happening.{Happening}
 use Rattle.tb_run.specs.declared.happening.Happening.TheVariants as happenings
 use Rattle.tb_run.specs.declared.routine.Routine.{Routine}
@@ -22,11 +21,6 @@ use Rattle.tb_run.specs.Turning.{held_in, state_of, IsConsistent, between_pages,
 use Rattle.tb_run.proofs.Turns.WholeLemmas.{closed-owned, closed-contents, closed-sound, closed-shown}
 
 -- ---- lists of pages are live
-
-sheet-live : (store : Lists Node) (s : Sheet) → IsPageSheet store s → AllByRecursion (IsLive store) (sheet_lists s)
-sheet-live store (sheets.One c) h = (h.list.live, tt)
-sheet-live store (sheets.Wide c) h = (h.list.live, tt)
-sheet-live store (sheets.Two tops at left right) h = (h.0.live, (h.1.list.live, (h.2.list.live, tt)))
 
 page-live : (store : Lists Node) (x : Happening) → IsPage store x → AllByRecursion (IsLive store) (happening_lists x)
 page-live store (happenings.Tried t) h = tt

@@ -3,6 +3,7 @@ use Rattle.std.proofs.Common.{◌≡◌, ◌≢◌, refl, sym, subst, ◌∙◌,
 use Rattle.std.specs.List.{AllByRecursion}
 use Rattle.std.specs.FinMap.{get}
 use Rattle.std.proofs.lemmas.List.{take_more, map-append}
+use Rattle.tb_break.proofs.EachLemmas.{all-front, all-back, all-join}
 use Rattle.tb_pool.specs.Lists.{Lists, IsLive}
 use Rattle.tb_pool.specs.Frame.{IsNoneOf}
 use Rattle.tb_node.specs.declared.Node.{Node}
@@ -16,7 +17,7 @@ use Rattle.tb_output.specs.Acting.{warnings_sent}
 use Rattle.tb_output.specs.Machine.{sent_lists, event_lists, events_shown, IsPageSent}
 use Rattle.tb_output.specs.Keeping.{AreNoneOf}
 use Rattle.tb_output.proofs.Working.ApartLemmas.{apart-swap, distinct-front, distinct-back, distinct-apart}
-use Rattle.tb_output.proofs.Working.StandLemmas.{live-same, all-front, all-back, all-join}
+use Rattle.tb_output.proofs.Working.StandLemmas.{live-same}
 use Rattle.tb_run.specs.declared.happening.Happening.{Happening}
 use Rattle.tb_run.specs.Run.{RunEvent, offered, sent}
 use Rattle.tb_run.specs.Happened.{event_of, events_of, noted_try, noted_event, noted, happening_lists, happened_lists}

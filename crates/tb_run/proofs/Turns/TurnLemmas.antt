@@ -3,6 +3,7 @@ use Rattle.std.proofs.Common.{◌≡◌, refl, sym, subst, ◌∙◌, ap, ℕ, z
 use Rattle.std.specs.Prelude.{int_lt, pred, IfNone, ◌<ℤ◌, if◌then◌else◌}
 use Rattle.std.proofs.lemmas.Int.{ints}
 use Rattle.std.proofs.lemmas.Bool.{true≢false}
+use Rattle.tb_break.proofs.EachLemmas.{all-back, all-join}
 use Rattle.tb_pool.specs.Lists.{Lists}
 use Rattle.tb_pool.specs.Frame.{IsNoneOf}
 use Rattle.tb_node.specs.declared.Node.{Node}
@@ -19,7 +20,6 @@ use Rattle.tb_output.specs.Machine.{events_shown, sheet_lists, left_lists, event
 use Rattle.tb_output.specs.Firing.{fired_in, whole_work, builder_lists}
 use Rattle.tb_output.specs.Keeping.{AreNoneOf}
 use Rattle.tb_output.proofs.Working.ApartLemmas.{apart-swap, distinct-back, distinct-apart}
-use Rattle.tb_output.proofs.Working.StandLemmas.{all-back, all-join}
 use Rattle.tb_run.specs.declared.happening.Happening.{Happening}
 use Rattle.tb_run.specs.declared.happening.Happening.TheVariants as happenings
 use Rattle.tb_run.specs.declared.routine.Routine.{Routine}
@@ -79,7 +79,7 @@ pred-minus : (n : ℕ) → n - 1 ≡ pred n
 pred-minus zero = refl
 pred-minus (suc n) = omega arith
 
-pred-is : (a b : ℕ) → a + 1 ≡ b → pred b ≡ a
+pub pred-is : (a b : ℕ) → a + 1 ≡ b → pred b ≡ a
 pred-is a b e = sym (pred-minus b) ∙ omega (arith, e)
 
 within-limit : (k : ℕ) (m : ℤ) → pos k ≤ℤ m → m ≤ℤ pos 4194304 → k ≤ 4194304

@@ -2,6 +2,7 @@
 use Rattle.std.proofs.Common.{◌≡◌, ◌≢◌, sym, subst, ◌∙◌, ap, ℕ, List, [], ◌∷◌, ◌++◌}
 use Rattle.std.specs.List.{AllByRecursion}
 use Rattle.std.specs.FinMap.{get, remove}
+use Rattle.tb_output.proofs.Working.BuilderLemmas.{stand-same}
 use Rattle.tb_pool.specs.Lists.{Lists, IsLive, list_at}
 use Rattle.tb_pool.specs.Frame.{IsNoneOf}
 use Rattle.tb_pool.proofs.MapLemmas.{get-remove_other}
@@ -19,10 +20,6 @@ use Rattle.tb_output.proofs.Working.ApartLemmas.{apart-swap, distinct-apart, non
 use Rattle.tb_output.proofs.Working.StandLemmas.{Stands, machine-live, IsShownBy, stands-shown}
 use Rattle.tb_run.specs.declared.routine.Routine.{Routine}
 use Rattle.tb_run.specs.Turning.{held_in, IsConsistent}
-
-pub same-all : (s t : Lists Node) (xs : List ℕ) → AllByRecursion (Stands s t) xs → AllSame s t xs
-same-all s t [] h = tt
-same-all s t (x ∷ xs) h = (h.0, same-all s t xs h.1)
 
 -- ---- a call of the builder
 
@@ -60,7 +57,7 @@ stand-others store new closed others (l ∷ ls) h = (others l h.0, stand-others 
 -- none of them the builder's or the machine's
 module _ (b : Builder) (store new : Lists Node) (closed : List ℕ) (sound : IsSound b store) (others : (q : ℕ) → IsNoneOf q closed → get new.lists q ≡ get store.lists q) (free : AreNoneOf closed (builder_lists b store)) where
   same : AllSame store new (builder_lists b store)
-  same = same-all store new (builder_lists b store) (stand-others store new closed others (builder_lists b store) (apart-swap closed (builder_lists b store) free))
+  same = stand-same store new (builder_lists b store) (stand-others store new closed others (builder_lists b store) (apart-swap closed (builder_lists b store) free))
 
   pub closed-owned : builder_lists b new ≡ builder_lists b store
   closed-owned = frame_owned b store new sound same

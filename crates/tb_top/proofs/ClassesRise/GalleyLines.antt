@@ -3,6 +3,7 @@ use Rattle.std.proofs.Common.{◌≡◌, refl, sym, ◌∙◌, ap, subst, ℕ, �
 use Rattle.std.specs.Prelude.{IsTrue, if◌then◌else◌}
 use Rattle.std.specs.List.{AllByRecursion, list_all}
 use Rattle.std.proofs.lemmas.Bool.{eqb-true, and_parts}
+use Rattle.tb_break.proofs.EachLemmas.{all-front, all-back, all-join, all-map, all-of}
 use Rattle.tb_node.specs.declared.Float.{Float}
 use Rattle.tb_node.specs.declared.Act.{Act}
 use Rattle.tb_node.specs.declared.Act.TheVariants as acts
@@ -22,7 +23,7 @@ use Rattle.tb_float.specs.Lists.{no_floats}
 use Rattle.tb_output.specs.State.{first_state, void_boxes}
 use Rattle.tb_insert.specs.declared.Class.{Class}
 use Rattle.tb_run.specs.Run.{classes_of}
-use Rattle.tb_output.proofs.ClassesRise.RisingLists.{all-front, all-back, all-join, all-map, all-of, all-among, all-at, IsAmong, among-back, MayPrecede, Rises}
+use Rattle.tb_output.proofs.ClassesRise.RisingLists.{all-among, all-at, IsAmong, among-back, MayPrecede, Rises}
 use Rattle.tb_output.proofs.ClassesRise.ClassLines.{FloatKind, Side, alike, narrow, wider, PartedBy, is_of, line_if, class_lines, float_lines, lines-append, floats-append, AreFloatless}
 use Rattle.tb_output.proofs.ClassesRise.RecordLines.{IsCarried}
 use Rattle.tb_output.proofs.ClassesRise.FloatlessFeet.{HoldsFloatless, HoldFloatless, BoxesFloatless}

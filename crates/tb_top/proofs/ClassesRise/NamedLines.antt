@@ -2,22 +2,19 @@
 use Rattle.std.proofs.Common.{ℕ, ◌<◌, ◌≤◌, List, [], ◌∷◌, ◌++◌, arith}
 use Rattle.std.specs.Prelude.{nat_lt, IsTrue}
 use Rattle.std.specs.List.{AllByRecursion}
-use Rattle.std.proofs.lemmas.Bool.{and_parts}
+use Rattle.std.proofs.lemmas.Bool.{and_parts, ltb-true}
 use Rattle.std.proofs.lemmas.Bool.Decides.{nat_tests}
+use Rattle.tb_break.proofs.EachLemmas.{all-map}
 use Rattle.tb_galley.specs.Valid.{rise_from}
-use Rattle.tb_output.proofs.ClassesRise.RisingLists.{all-map}
 
 abbrev pub AllAbove : ℕ → List ℕ → Type 0
 AllAbove k xs = AllByRecursion (λ x. k < x) xs
-
-below : (a b : ℕ) → IsTrue (nat_lt a b) → a < b
-below a b h = grind (arith, nat_tests, h)
 
 -- the first line is above, and the rest rises from it
 pub rise-first : (k x : ℕ) (xs : List ℕ) → IsTrue (rise_from k (x ∷ xs)) → (k < x) × IsTrue (rise_from x xs)
 rise-first k x xs h =
     let parts = and_parts (nat_lt k x) (rise_from x xs) h in
-    (below k x parts.0, parts.1)
+    (ltb-true k x parts.0, parts.1)
 
 pub rise-above : (k : ℕ) (xs : List ℕ) → IsTrue (rise_from k xs) → AllAbove k xs
 rise-above k [] h = tt

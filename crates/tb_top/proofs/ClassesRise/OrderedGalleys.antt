@@ -6,6 +6,7 @@ use Rattle.std.specs.List.{AllByRecursion}
 use Rattle.std.proofs.lemmas.Bool.{and_parts, eqb-true, or_left, or_right}
 use Rattle.std.proofs.lemmas.List.Sorted.{All-permutation}
 use Rattle.std.proofs.lemmas.List.Elements.{All-from_recursion, recursion_from_All}
+use Rattle.tb_break.proofs.EachLemmas.{all-front, all-back, all-map}
 use Rattle.tb_scaled.specs.Scaled.{eject_penalty}
 use Rattle.tb_node.specs.declared.Float.{Float}
 use Rattle.tb_galley.specs.declared.Galley.{Galley}
@@ -15,7 +16,7 @@ use Rattle.tb_galley.specs.Expand.{two_after, expanded}
 use Rattle.tb_galley.specs.Valid.{IsValid}
 use Rattle.tb_column.specs.Column.{PlainColumn, PlainSheet, one, wide, two, warned, shipped}
 use Rattle.tb_output.specs.State.{State, Recorded, placed, output, emptied, first_state}
-use Rattle.tb_output.proofs.ClassesRise.RisingLists.{all-map, among-back, all-front, all-back, all-among, all-at, IsAmong, IsMissing, rises-known}
+use Rattle.tb_output.proofs.ClassesRise.RisingLists.{among-back, all-among, all-at, IsAmong, IsMissing, rises-known}
 use Rattle.tb_output.proofs.ClassesRise.ClassLines.{FloatKind, Side, alike, narrow, wider, is_new, is_of, line_if, IsReleased, class_lines, float_lines, sheet_lines, lines-append}
 use Rattle.tb_output.proofs.ClassesRise.RecordLines.{record_lines, records-append, IsCarried}
 use Rattle.tb_report.specs.Totals.{sheet_nodes}

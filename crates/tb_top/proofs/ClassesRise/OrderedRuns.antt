@@ -2,6 +2,9 @@
 use Rattle.std.proofs.Common.{◌≡◌, refl, sym, ◌∙◌, ap, subst, ℕ, zero, suc, pos, ◌+◌, ◌<◌, ◌⊎◌, inl, inr, Bool, true, false, List, [], ◌∷◌, ◌++◌, map, take, Option, Some, None, append_assoc, append-nil}
 use Rattle.std.specs.Prelude.{ℤ, pred, int_lt, int_le, ◌&&◌, if◌then◌else◌}
 use Rattle.std.specs.List.{AllByRecursion}
+use Rattle.std.proofs.lemmas.Bool.{and_parts}
+use Rattle.std.proofs.lemmas.Option.{none-some}
+use Rattle.tb_break.proofs.EachLemmas.{all-front, all-back, all-join, all-map}
 use Rattle.tb_scaled.specs.Scaled.{awful_bad, min_ℤ, eject_penalty}
 use Rattle.tb_node.specs.declared.Act.{Act}
 use Rattle.tb_node.specs.declared.Act.TheVariants as acts
@@ -26,7 +29,7 @@ use Rattle.tb_output.proofs.NothingLost.StateWeights.{ColumnsFit, class_numbers}
 use Rattle.tb_output.proofs.NothingLost.WorkWeights.{Careful}
 use Rattle.tb_output.proofs.StepLaws.BreakSorts.{at-clear}
 use Rattle.tb_output.proofs.Closed.SortLemmas.{Seen, BreakStands, PageStands, pen_sort, page-careful}
-use Rattle.tb_output.proofs.ClassesRise.RisingLists.{all-front, all-back, all-join, all-map, IsAmong, IsMissing, IsAbove, Rises, rises-front, rises-more, rises-without}
+use Rattle.tb_output.proofs.ClassesRise.RisingLists.{IsAmong, IsMissing, IsAbove, Rises, rises-front, rises-more, rises-without}
 use Rattle.tb_output.proofs.ClassesRise.ClassLines.{FloatKind, Side, alike, narrow, wider, waits, PartedBy, Parted, IsReleased, is_new, is_of, line_if, class_lines, float_lines, left_lines, sent_lines, floats-append}
 use Rattle.tb_output.proofs.ClassesRise.RecordLines.{record_lines, placed-more, IsLate, late-more, IsCarried, carried-more}
 use Rattle.tb_output.proofs.StepLaws.QuietLemmas.{AreQuiet, quiet-lines}
@@ -260,11 +263,7 @@ module _ (k : FloatKind) (Known : ℕ → Type 0) (p : Params) (r : IsReleased k
       more = ap (float_lines k) (floats_among-append s.floats.current (entries.Float (taken_float p s f) ∷ [])) ∙ floats-append k (floats_among s.floats.current) (taken_float p s f ∷ []) ∙ ap (λ l. float_lines k (floats_among s.floats.current) ++ l) (append-nil (line_if (is_of k f.class f.line) f.line))
 
       by_list : (t : Bool) → (has_second p && (f.wide && s.two_columns)) ≡ t → Order k Known text takes past rs (if t then record s.floats { second = s.floats.second ++ taken_float p s f ∷ [] } else record s.floats { current = s.floats.current ++ entries.Float (taken_float p s f) ∷ [] }) s.two_columns s.first_column s.left_column
-      by_list true q = taken_second takes rs s.floats s.two_columns s.first_column s.left_column f (taken_float p s f) refl refl h (λ z. goes-second (has_second p) (f.wide && s.two_columns) k.side r q (u.0 z)) (left-true (has_second p) (f.wide && s.two_columns) q)
-        where
-          left-true : (a b : Bool) → (a && b) ≡ true → a ≡ true
-          left-true true b e = refl
-          left-true false b e = cc
+      by_list true q = taken_second takes rs s.floats s.two_columns s.first_column s.left_column f (taken_float p s f) refl refl h (λ z. goes-second (has_second p) (f.wide && s.two_columns) k.side r q (u.0 z)) (and_parts (has_second p) (f.wide && s.two_columns) q).0
       by_list false q =
           taken k Known text past (line_if (is_of k f.class f.line) f.line ++ takes) takes rs s.floats s.two_columns s.first_column s.left_column (s.floats.current ++ entries.Float (taken_float p s f) ∷ [])
           (sym (append_assoc (float_lines k (floats_among s.floats.current)) (line_if (is_of k f.class f.line) f.line) takes) ∙ ap (λ l. l ++ takes) (sym more))
@@ -295,14 +294,11 @@ module _ (k : FloatKind) (Known : ℕ → Type 0) (p : Params) (r : IsReleased k
       let y = a (all-front IsEmptied more (later t).records e) in
       let z = h t (rs ++ more) (all-back IsEmptied more (later t).records e) f y.0 y.1 in
       (subst (λ x. StateOrder takes x (later t).state) (append_assoc rs more (later t).records) z.0, z.1)
-  progress_by-order takes now all ds rs s later h (full line live) a e f = absurd (some-none (line, live) f)
+  progress_by-order takes now all ds rs s later h (full line live) a e f = absurd (none-some (line, live) (sym f))
     where
       IsSome : Option (ℕ × ℕ) → Type 0
       IsSome None = ⊥
       IsSome (Some y) = Unit {0}
-
-      some-none : (x : ℕ × ℕ) → Some x ≡ None → ⊥
-      some-none x f = subst IsSome f tt
 
   progress-order : (takes : List ℕ) (all : List Act) (reached : List Reached) (least : ℤ) (rs : List Recorded) (s : State) → AllByRecursion IsEmptied (progress p reached least s).records → (progress p reached least s).fault ≡ None
       → StateOrder (acts_lines k (acted_of reached) ++ takes) rs s → Suits k s.two_columns (acted_of reached ++ all) → StateOrder takes (rs ++ (progress p reached least s).records) (progress p reached least s).state × Suits k (progress p reached least s).state.two_columns all

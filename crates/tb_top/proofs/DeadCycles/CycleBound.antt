@@ -2,6 +2,7 @@
 use Rattle.std.proofs.Common.{◌≡◌, refl, ap, ℕ, pos, ◌+◌, Bool, true, false, List, [], ◌∷◌, arith, ℤ, ◌≤◌}
 use Rattle.std.specs.Prelude.{◌≤ℤ◌, IsTrue, int_le, int_lt, if◌then◌else◌, ◌<ℤ◌}
 use Rattle.std.proofs.lemmas.Int.{ints}
+use Rattle.tb_float.proofs.ParamLemmas.{all-at, dim-extent}
 use Rattle.tb_node.specs.declared.Act.{Act}
 use Rattle.tb_node.specs.declared.Act.TheVariants as acts
 use Rattle.tb_param.specs.declared.Params.{Params}
@@ -23,7 +24,6 @@ use Rattle.tb_output.proofs.Closed.ClosingPages.{ActsClose}
 use Rattle.tb_output.proofs.Closed.ClosingStates.{Closing}
 use Rattle.tb_run.specs.Run.{Step, ends, goes_on, done, pool_full, dead_cycles, page_limit, node_limit, step, run_of}
 use Rattle.tb_top.specs.DeadCycles.{HasRoomForCycles, IsNotCycles, DeadCyclesAreFew}
-use Rattle.tb_top.proofs.Written.FinishLemmas.{all-at, dim-extent}
 use Rattle.tb_top.proofs.DeadCycles.ValidPenalties.{interline-calm}
 use Rattle.tb_top.proofs.Written.ClassLemmas.{valid-differ, valid-fit}
 use Rattle.tb_top.proofs.NothingLost.RunWeights.{Kept, page_of}

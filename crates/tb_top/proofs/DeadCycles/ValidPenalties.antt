@@ -2,12 +2,12 @@
 use Rattle.std.proofs.Common.{◌≡◌, refl, ℤ, pos, Bool, false, arith}
 use Rattle.std.specs.Prelude.{IsTrue, int_le, negsuc}
 use Rattle.std.proofs.lemmas.Int.{ints}
+use Rattle.tb_float.proofs.ParamLemmas.{all-at, in-range}
 use Rattle.tb_scaled.specs.Scaled.{eject_penalty}
 use Rattle.tb_param.specs.declared.Params.{Params}
 use Rattle.tb_param.specs.Fields.{value_of}
 use Rattle.tb_param.specs.Table.{Row, rows, value_fault, is_within, out_of_range}
 use Rattle.tb_param.specs.Ranges.{is_no_fault, are_params}
-use Rattle.tb_top.proofs.Written.FinishLemmas.{all-at, in-range}
 
 calm-penalty : (v : ℤ) → IsTrue (is_no_fault (out_of_range (is_within (negsuc 9998) (pos 10000) v))) → int_le v eject_penalty ≡ false
 calm-penalty v h = let k = in-range (is_within (negsuc 9998) (pos 10000) v) h in grind (arith, ints, k)

@@ -4,6 +4,7 @@ use Rattle.std.proofs.Common.{ℕ, zero, suc, ℤ, pos, ◌+ℤ◌, ◌<◌, Boo
 use Rattle.std.specs.Prelude.{◌==◌, not, if◌then◌else◌, codes}
 use Rattle.std.specs.Int.{w32}
 use Rattle.std.specs.List.{AllByRecursion}
+use Rattle.tb_break.proofs.EachLemmas.{all-join, all-take, all-drop}
 use Rattle.tb_scaled.specs.declared.Glue.{Glue}
 use Rattle.tb_node.specs.declared.Act.{Act}
 use Rattle.tb_node.specs.declared.Act.TheVariants as acts
@@ -26,7 +27,6 @@ use Rattle.tb_report.specs.Lines.{where_text, side_text}
 use Rattle.tb_text.specs.Fields.{and_count, and_text}
 use Rattle.tb_column.specs.Column.{Notes, PlainSheet, one, wide, two, floats_with, floats_above, floats_below, floats_after, floats_column, notes_under_rule, class_below, notes_below, text_nodes, text_column, pair_floats}
 use Rattle.tb_dvi.specs.Placement.{Spot, matter_spot}
-use Rattle.tb_output.proofs.ClassesRise.RisingLists.{all-join}
 
 -- ---- what has bytes
 
@@ -67,16 +67,6 @@ WritableNodes ns = AllByRecursion (λ n. WritableKind n.kind) ns
 
 -- ---- lists
 
-all-taken : {X : Type 0} (P : X → Type 0) (k : ℕ) (xs : List X) → AllByRecursion P xs → AllByRecursion P (take k xs)
-all-taken P zero xs h = tt
-all-taken P (suc k) [] h = tt
-all-taken P (suc k) (x ∷ xs) h = (h.0, all-taken P k xs h.1)
-
-all-dropped : {X : Type 0} (P : X → Type 0) (k : ℕ) (xs : List X) → AllByRecursion P xs → AllByRecursion P (drop k xs)
-all-dropped P zero xs h = h
-all-dropped P (suc k) [] h = tt
-all-dropped P (suc k) (x ∷ xs) h = all-dropped P k xs h.1
-
 all-filtered : {X : Type 0} (P : X → Type 0) (f : X → Bool) (xs : List X) → AllByRecursion P xs → AllByRecursion P (filter f xs)
 all-filtered P f [] h = tt
 all-filtered P f (x ∷ xs) h = by_test (f x) (all-filtered P f xs h.1)
@@ -89,7 +79,7 @@ pub nodes-join : (xs ys : List PlainNode) → WritableNodes xs → WritableNodes
 nodes-join xs ys h k = all-join (λ n. WritableKind n.kind) xs ys h k
 
 pub nodes-take : (k : ℕ) (ns : List PlainNode) → WritableNodes ns → WritableNodes (take k ns)
-nodes-take k ns h = all-taken (λ n. WritableKind n.kind) k ns h
+nodes-take k ns h = all-take (λ n. WritableKind n.kind) k ns h
 
 actless : (ns : List PlainNode) → WritableNodes ns → WritableNodes (without_acts ns)
 actless ns h = all-filtered (λ n. WritableKind n.kind) (λ n. not (is_act_kind n.kind)) ns h
@@ -186,7 +176,7 @@ from-labelled z ls before (n ∷ ns) h g = from-labelled z (labelled_with z ls b
 
 given : (t : Label) (i : Inserted) → WritableLeaves i.inner → WritableLeaves (given_by t i)
 given whole i h = h
-given (split f) i h = all-taken (λ l. WritableMatter l.matter) f.index i.inner h
+given (split f) i h = all-take (λ l. WritableMatter l.matter) f.index i.inner h
 given late i h = tt
 
 all-given : (k : ℕ) (ls : List Labelled) → WritableLabels ls → WritableLeaves (given_to k ls)
@@ -203,7 +193,7 @@ unless-empty line i (l ∷ ls) h = (h, tt)
 
 held : (line : ℕ) (t : Label) (i : Inserted) → WritableLeaves i.inner → WritableNodes (on_line line (held_of t i))
 held line whole i h = tt
-held line (split f) i h = unless-empty line i (pruned_leaves i.split_top (drop f.index i.inner)) (leaves-pruned i.split_top (drop f.index i.inner) (all-dropped (λ l. WritableMatter l.matter) f.index i.inner h))
+held line (split f) i h = unless-empty line i (pruned_leaves i.split_top (drop f.index i.inner)) (leaves-pruned i.split_top (drop f.index i.inner) (all-drop (λ l. WritableMatter l.matter) f.index i.inner h))
 held line late i h = (h, tt)
 
 all-held : (ls : List Labelled) → WritableLabels ls → WritableNodes (held_insertions ls)
@@ -267,7 +257,7 @@ fired-writable z bs w g h =
       body = insertless (take k w.passed) before;
       boxes = boxes-given (labelled z (take k w.passed)) bs ls g;
       held = all-held (labelled z (take k w.passed)) ls;
-      rest = spent-break (from_break w) (nodes-join (drop k w.passed) w.beyond (all-dropped (λ n. WritableKind n.kind) k w.passed h.passed) h.beyond);
+      rest = spent-break (from_break w) (nodes-join (drop k w.passed) w.beyond (all-drop (λ n. WritableKind n.kind) k w.passed h.passed) h.beyond);
     }
 
 -- ---- columns

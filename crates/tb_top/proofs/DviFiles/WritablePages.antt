@@ -5,6 +5,7 @@ use Rattle.std.specs.Int.{w32}
 use Rattle.std.specs.List.{AllByRecursion}
 use Rattle.std.proofs.lemmas.Int.{ints}
 use Rattle.std.proofs.lemmas.List.Elements.{All-from_recursion}
+use Rattle.tb_break.proofs.EachLemmas.{all-join}
 use Rattle.tb_node.specs.Plain.{PlainKind, plain, ins, act, PlainNode, node_shape}
 use Rattle.tb_param.specs.declared.Params.{Params}
 use Rattle.tb_galley.specs.declared.Galley.{Galley}
@@ -26,7 +27,6 @@ use Rattle.tb_top.specs.DviPages.{event_pages, run_pages}
 use Rattle.tb_top.specs.DviFiles.{galley_file}
 use Rattle.tb_top.proofs.Written.RunParams.{params-runnable, few-firings}
 use Rattle.tb_top.proofs.DviFiles.DviGoing.{height-fits}
-use Rattle.tb_output.proofs.ClassesRise.RisingLists.{all-join}
 use Rattle.tb_top.proofs.DviFiles.WritableNodes.{WritableSpot, WritableKind, WritableNodes, WritableSheet}
 use Rattle.tb_top.proofs.DviFiles.WritableRuns.{WritableEvents, run-writable}
 

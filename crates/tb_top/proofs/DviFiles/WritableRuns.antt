@@ -7,6 +7,7 @@ use Rattle.std.proofs.lemmas.Int.{ints}
 use Rattle.std.proofs.lemmas.Bool.{and_parts}
 use Rattle.std.proofs.lemmas.Fmt.{length-decimal-le}
 use Rattle.std.proofs.lemmas.List.{length-append}
+use Rattle.tb_break.proofs.EachLemmas.{all-join}
 use Rattle.tb_scaled.specs.Scaled.{awful_bad, min_ℤ}
 use Rattle.tb_node.specs.declared.Act.{Act}
 use Rattle.tb_node.specs.declared.Act.TheVariants as acts
@@ -45,7 +46,6 @@ use Rattle.tb_output.specs.State.{State, Work, Recorded, emptied, ask_of, first_
 use Rattle.tb_output.specs.Act.{Acted, went, full, act_on, taken_float, lists_with_taken}
 use Rattle.tb_output.specs.Out.{out}
 use Rattle.tb_run.specs.Run.{Run, RunEvent, offered, sent, done, dead_cycles, page_limit, node_limit, Progress, progress_by, progress, Step, ends, goes_on, held_count, after_firing, fire, after_progress, step, run_by, run_from, firings_left, classes_of, run_of}
-use Rattle.tb_output.proofs.ClassesRise.RisingLists.{all-join}
 use Rattle.tb_top.proofs.DviFiles.WritableNodes.{WritableLeaves, WritableFloat, WritableNote, WritableAct, WritableNodes, nodes-join, nodes-pruned, WritableReached, WritableReach, reached-writable, WritableBoxes, fired-writable}
 use Rattle.tb_top.proofs.DviFiles.WritableWorks.{WritableLists, WritableState, WritableSent, WritableWork, out-writable}
 

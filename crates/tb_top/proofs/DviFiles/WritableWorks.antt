@@ -3,6 +3,7 @@
 use Rattle.std.proofs.Common.{◌≡◌, refl, ℕ, zero, suc, ◌+◌, ℤ, pos, Bool, true, false, List, [], ◌∷◌, ◌++◌, length, Option, Some, None}
 use Rattle.std.specs.Prelude.{◌==◌, ◌-◌, not, ◌&&◌, ◌||◌, int_lt, if◌then◌else◌}
 use Rattle.std.specs.List.{AllByRecursion}
+use Rattle.tb_break.proofs.EachLemmas.{all-join}
 use Rattle.tb_scaled.specs.declared.Glue.{Glue}
 use Rattle.tb_scaled.specs.Glue.{filling_glue}
 use Rattle.tb_node.specs.declared.Float.{Float}
@@ -33,7 +34,6 @@ use Rattle.tb_output.specs.Columns.{emptied_boxes, without_column_floats, put_ou
 use Rattle.tb_output.specs.Text.{penalty_nodes, penalty_after, puts_interline, without_firing_box, notes_nodes, list_back, here_nodes, only_here, with_top, defer, float_goes, note_nodes, moved_warning, with_note_bottom, note_goes, first_goes, float_or_note}
 use Rattle.tb_output.specs.Clear.{clear_again, cleared_front, deferred_again, double_again, clear_wide, clear_rest, clear_floats, clear_by, clear}
 use Rattle.tb_output.specs.Out.{hold, output_by, blank_column, leave_column, goal_by, with_goal, is_crowded, next_goal, is_int, hold_penalty, clear_penalty, par_penalty, vert_penalty, after_page, out}
-use Rattle.tb_output.proofs.ClassesRise.RisingLists.{all-join}
 use Rattle.tb_top.proofs.DviFiles.WritableNodes.{WritableFloat, WritableFloats, WritableNote, WritableNodes, nodes-join, nodes-take, WritableContent, WritableBoxes, WritableFired, floats-column, WritableNotes, text-writable, pair-writable, WritableSheet}
 
 -- ---- states

@@ -6,7 +6,7 @@ use Rattle.std.proofs.lemmas.Bool.Decides.{nat_tests}
 use Rattle.tb_io.specs.Held.{AppendsPrefix}
 use Rattle.tb_io.specs.declared.sink.SinkFault.{SinkFault}
 use Rattle.tb_io.specs.declared.sink.SinkFault.TheVariants as outputs
-use Rattle.tb_io.proofs.Appended.{prefix_whole}
+use Rattle.tb_io.proofs.Appended.{prefix_whole, Keeps-nothing}
 use Rattle.tb_galley.specs.declared.Cause.{Cause}
 use Rattle.tb_galley.specs.declared.Galley.{Galley}
 use Rattle.tb_galley.specs.declared.GalleyFault.{GalleyFault}
@@ -40,13 +40,13 @@ use Rattle.tb_run.specs.Run.{Run, End, done, pool_full, dead_cycles, page_limit,
 use Rattle.tb_top.specs.Paginated.{view_text, end_fault, EndsWith, Paginates, Refuses}
 use Rattle.tb_top.specs.Report.{report, trace, totals_of}
 use Rattle.tb_top.specs.Laws.{KeepsLaws}
-use Rattle.tb_top.specs.Answer.{Reply, dvi_reply, makeup_reply, listing_reply, summary_line, summary_at, is_done, answer_at, line_at, answer_for_cause, err_line, fault_reply, no_lines_reply, lines_reply, galley_reply, run_reply, text_reply, reply_to}
+use Rattle.tb_top.specs.Answer.{Reply, dvi_reply, makeup_reply, listing_reply, summary_line, summary_at, is_done, answer_at, line_at, answer_for_cause, err_line, bare_text, fault_reply, no_lines_reply, lines_reply, galley_reply, run_reply, text_reply, reply_to}
 use Rattle.tb_top.specs.Outcome.{Stream, Failed, Gives, Reads, IsUnread, IsGalleyWith, ShowsRunOf, HasLawfulRun, LacksRoomForCycles, Decided, Finished, OutOfCycles, CutOff, StandsAfter, TellsLine, Says, Outcome, Succeeds, IsAnswer, input_of}
 use Rattle.tb_top.proofs.Ends.CycleAnswers.{no-room}
 use Rattle.tb_top.specs.declared.dvi_refusal.DviRefusal.{DviRefusal}
 use Rattle.tb_top.specs.declared.dvi_refusal.DviRefusal.TheVariants as undvi
 use Rattle.tb_top.specs.DviRefusal.{dvi_status}
-use Rattle.tb_top.specs.Refusal.{galley_status, page_status, lines_status, input_status, words_status, output_status, refusal_status, refusal_line, page_text, output_text, IsNoGalley}
+use Rattle.tb_top.specs.Refusal.{galley_status, page_status, lines_status, input_status, words_status, output_status, refusal_status, refusal_line, page_text, IsNoGalley}
 
 -- ---- a run that ended
 
@@ -121,7 +121,7 @@ module _ (m : Mode) (input : List ℕ) (source out : Stream) (read : Reads m sou
     pub text_well : Appends out.before out.after text → ShowsRunOf HasLawfulRun m input → Finished (Some m) source out []
     text_well w laws = shown_by HasLawfulRun laws answers.Done [] _ is refl refl w
 
-    pub left_by_text : (f : SinkFault) → AppendsPrefix out.before out.after text → (f ≡ outputs.Failed → Failed out) → StandsAfter (Some m) (output_status f) source out (err_line (output_text f))
+    pub left_by_text : (f : SinkFault) → AppendsPrefix out.before out.after text → (f ≡ outputs.Failed → Failed out) → StandsAfter (Some m) (output_status f) source out (err_line (bare_text (output_status f)))
     left_by_text outputs.Failed w rose = (cut_off_by _ is refl w, rose refl, refl)
     left_by_text outputs.Memory w rose = (inr (cut_off_by _ is refl w), refl)
 
@@ -134,10 +134,6 @@ pub nothing : (before after : Option (List ℕ)) → Keeps before after → Appe
 nothing None after kept = tt
 nothing (Some xs) None kept = absurd kept
 nothing (Some xs) (Some ys) kept = kept ∙ sym (append-nil xs)
-
-pub keeps-same : (told : Option (List ℕ)) → Keeps told told
-keeps-same None = tt
-keeps-same (Some xs) = refl
 
 -- what holds if the words ask for no mode
 pub left_by_words : (mode : Option Mode) (source out : Stream) → Keeps source.before source.after → Keeps out.before out.after → (f : WordsFault) → (f ≡ asked.Refused → mode ≡ None) → StandsAfter mode (words_status f) source out (refusal_line (refusals.Words f))
@@ -198,11 +194,6 @@ prefix-nothing : (old new : Option (List ℕ)) → AppendsPrefix old new [] → 
 prefix-nothing old new (zero, a) = a
 prefix-nothing old new (suc n, a) = a
 
-pub appends-keeps : (old new : Option (List ℕ)) → Appends old new [] → Keeps old new
-appends-keeps None new a = tt
-appends-keeps (Some xs) None a = absurd a
-appends-keeps (Some xs) (Some ys) a = a ∙ append-nil xs
-
 module _ (n : ℕ) (source out : Stream) (left : Keeps source.before source.after) where
   abbrev run_made : Run
   run_made = run_of (generated n)
@@ -236,7 +227,7 @@ module _ (n : ℕ) (source out : Stream) (left : Keeps source.before source.afte
   left_by_run valid (pages.PageLimit k) r never = summary-ended (pages.PageLimit k) r
   left_by_run valid (pages.NodeLimit k) r never = summary-ended (pages.NodeLimit k) r
   left_by_run valid pages.WriteFault r never = absurd (never refl)
-  left_by_run valid pages.Memory r never = (inl (appends-keeps out.before out.after (prefix-nothing out.before out.after r)), refl)
+  left_by_run valid pages.Memory r never = (inl (Keeps-nothing out.before out.after (prefix-nothing out.before out.after r)), refl)
 
   well-written : (e : End) (t : Totals) → end_fault e ≡ None → (summary_at n t e ≡ summary_line n t) × (is_done e ≡ true) × (answers.Done ≡ answer_at e) × ([] ≡ line_at e)
   well-written (done l) t is = (refl, refl, refl, refl)
@@ -252,11 +243,11 @@ module _ (n : ℕ) (source out : Stream) (left : Keeps source.before source.afte
         let w = well-written run_made.end (totals_of run_made.events) ended in
         shown_by (modes.Generate n) [] source out summary-read HasLawfulRun laws answers.Done [] _ refl w.2 w.3 (subst (Appends out.before out.after) (sym w.0) a)
 
-    left_by_fault : (f : SinkFault) → (f ≡ outputs.Failed → Failed out) → CutOff (Some (modes.Generate n)) source out → StandsAfter (Some (modes.Generate n)) (output_status f) source out (err_line (output_text f))
+    left_by_fault : (f : SinkFault) → (f ≡ outputs.Failed → Failed out) → CutOff (Some (modes.Generate n)) source out → StandsAfter (Some (modes.Generate n)) (output_status f) source out (err_line (bare_text (output_status f)))
     left_by_fault outputs.Failed rose c = (c, rose refl, refl)
     left_by_fault outputs.Memory rose c = (inr c, refl)
 
-    pub left_by_summary : (f : SinkFault) → AppendsPrefix out.before out.after (summary_line n (totals_of run_made.events)) → (f ≡ outputs.Failed → Failed out) → StandsAfter (Some (modes.Generate n)) (output_status f) source out (err_line (output_text f))
+    pub left_by_summary : (f : SinkFault) → AppendsPrefix out.before out.after (summary_line n (totals_of run_made.events)) → (f ≡ outputs.Failed → Failed out) → StandsAfter (Some (modes.Generate n)) (output_status f) source out (err_line (bare_text (output_status f)))
     left_by_summary f a rose =
         let w = well-written run_made.end (totals_of run_made.events) ended in
         left_by_fault f rose (cut_off_by (modes.Generate n) [] source out summary-read _ refl w.1 (subst (AppendsPrefix out.before out.after) (sym w.0) a))

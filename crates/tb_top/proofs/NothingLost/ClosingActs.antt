@@ -2,6 +2,7 @@
 use Rattle.std.proofs.Common.{◌≡◌, refl, sym, ◌∙◌, ap, subst, ℕ, suc, pos, ◌+◌, ◌≤◌, Bool, true, false, List, [], ◌∷◌, ◌++◌, Option, Some, None, arith}
 use Rattle.std.specs.Prelude.{ℤ, int_lt, int_le, ◌&&◌, if◌then◌else◌}
 use Rattle.std.specs.List.{AllByRecursion}
+use Rattle.std.proofs.lemmas.Option.{none-some}
 use Rattle.tb_scaled.specs.Scaled.{min_ℤ}
 use Rattle.tb_node.specs.declared.Act.{Act}
 use Rattle.tb_node.specs.declared.Act.TheVariants as acts
@@ -133,13 +134,6 @@ pub emptied-append : (rs qs : List Recorded) → AllByRecursion IsEmptied rs →
 emptied-append [] qs a b = b
 emptied-append (r ∷ rs) qs a b = (a.0, emptied-append rs qs a.1 b)
 
-some-none : (x : ℕ × ℕ) → Some x ≡ None → ⊥
-some-none x f = let y : Is_some None = subst Is_some f tt in y
-  where
-    Is_some : Option (ℕ × ℕ) → Type 0
-    Is_some None = ⊥
-    Is_some (Some y) = Unit {0}
-
 by_act-closed : (p : Params) (n : ℕ) (s : State) (a : Act) (ds : List Act) (later : State → Progress) → ((m : ℕ) (o : Bool) (t : State) → (o ≡ true → t.floats ≡ no_floats) → (o ≡ true → left_prints t.left_column ≡ []) → entry_items t.floats.current ≤ m → Single t → ActsClose o ds → ProgressClosed p m ds t (later t)) → (x : Acted) → ActWent p n s a ds x → ProgressClosed p n (a ∷ ds) s (progress_by later s x)
 unfolding ActWent
 by_act-closed p n s a ds later h (went t ws rs) k =
@@ -148,7 +142,7 @@ by_act-closed p n s a ds later h (went t ws rs) k =
       records = emptied-append rs (later t).records k.records q.records;
       after = λ f. let x = q.after f in record { ways = x.ways ∙ sym k.same_ways; items = subst (λ m. entry_items (later t).state.floats.current ≤ m) (sym k.same_owed) x.items; single = x.single; here = x.here ∙ k.here; still = λ z. x.still z.1 ∙ k.still z.0; left = x.left ∙ k.left; left_plain = λ z. x.left_plain (k.left_plain z) };
     }
-by_act-closed p n s a ds later h (full line live) k = record { records = tt; after = λ f. absurd (some-none (line, live) f) }
+by_act-closed p n s a ds later h (full line live) k = record { records = tt; after = λ f. absurd (none-some (line, live) (sym f)) }
 
 pub progress-closed : (p : Params) (rs : List Reached) (least : ℤ) (n : ℕ) (o : Bool) (s : State) → (o ≡ true → s.floats ≡ no_floats) → (o ≡ true → left_prints s.left_column ≡ []) → entry_items s.floats.current ≤ n → Single s → ActsClose o (acted_of rs) → ProgressClosed p n (acted_of rs) s (progress p rs least s)
 progress-closed p [] least n o s e b i g c = record { records = tt; after = λ f. record { ways = refl; items = i; single = g; here = refl; still = λ z. refl; left = refl; left_plain = λ z. z } }

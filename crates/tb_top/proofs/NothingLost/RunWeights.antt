@@ -10,6 +10,7 @@ use Rattle.tb_node.proofs.Weights.{Weight, act_weight, nodes_weight}
 use Rattle.tb_param.specs.declared.Params.{Params}
 use Rattle.tb_param.specs.Release.{has_second}
 use Rattle.std.proofs.lemmas.Bool.{eq-eqb, eqb-true, ne_eqb, true≢false}
+use Rattle.std.proofs.lemmas.Option.{none-some}
 use Rattle.tb_insert.specs.declared.Class.{Class}
 use Rattle.tb_insert.specs.Account.{terms_after, Frozen, Labelled, labelled}
 use Rattle.tb_break.specs.Prune.{pruned_nodes}
@@ -155,14 +156,7 @@ progress_by-adds v n a ds s later h (went t ws rs) k =
         let i : lists_weight v t.floats + left_weight v t.left_column ≡ lists_weight v s.floats + left_weight v s.left_column + act_weight v a = k.0.weight in
         let j : lists_weight v (later t).state.floats + left_weight v (later t).state.left_column ≡ lists_weight v t.floats + left_weight v t.left_column + n = x.weight in
         record { sound = x.sound; waiting = x.waiting ∙ k.0.waiting; held = x.held ∙ k.0.held; boxes = x.boxes ∙ k.0.boxes; classes = x.classes ∙ k.0.classes; weight = omega arith }
-progress_by-adds v n a ds s later h (full line live) k = record { events = refl; after = λ f. absurd (some-none (line, live) f) }
-  where
-    some-none : (x : ℕ × ℕ) → Some x ≡ None → ⊥
-    some-none x f = let y : Is_some None = subst Is_some f tt in y
-      where
-        Is_some : Option (ℕ × ℕ) → Type 0
-        Is_some None = ⊥
-        Is_some (Some y) = Unit {0}
+progress_by-adds v n a ds s later h (full line live) k = record { events = refl; after = λ f. absurd (none-some (line, live) (sym f)) }
 
 pub progress-adds : (v : Weight) (p : Params) (rs : List Reached) (least : ℤ) (s : State) → Sound s → ActsFit v s.left_column (acted_of rs) → Progressed v (acted_weight v rs) s (progress p rs least s)
 progress-adds v p [] least s d h = record { events = refl; after = λ f. record { sound = d; waiting = refl; held = refl; boxes = refl; classes = refl; weight = omega arith } }

@@ -1,8 +1,9 @@
 -- The nodes of a galley are in an allowed order, and weigh as its items.
-use Rattle.std.proofs.Common.{◌≡◌, refl, sym, ◌∙◌, ap, subst, ℕ, zero, suc, ◌+◌, Bool, true, false, List, [], ◌∷◌, ◌++◌, map, arith}
+use Rattle.std.proofs.Common.{◌≡◌, refl, sym, ◌∙◌, ap, subst, ℕ, zero, suc, ◌+◌, Bool, true, false, List, [], ◌∷◌, ◌++◌, map, arith, append_assoc}
 use Rattle.std.specs.Prelude.{ℤ, int_le, ◌||◌, ◌&&◌, if◌then◌else◌}
 use Rattle.std.specs.List.{AllByRecursion}
 use Rattle.std.proofs.lemmas.Int.{ints}
+use Rattle.tb_builder.proofs.Cutting.CutLemmas.{class-both}
 use Rattle.tb_scaled.specs.Scaled.{eject_penalty}
 use Rattle.tb_node.specs.Plain.{act, on_line, clearpage_kinds}
 use Rattle.tb_node.specs.declared.Act.TheVariants as acts
@@ -24,7 +25,7 @@ use Rattle.tb_output.specs.State.{first_state, void_boxes}
 use Rattle.tb_output.specs.Out.{is_int, clear_penalty, par_penalty, vert_penalty, hold_penalty}
 use Rattle.tb_output.proofs.NothingLost.WorkWeights.{class_numbers, BoxesFit, state_weight}
 use Rattle.tb_output.proofs.Closed.SortLemmas.{Sort, light, pause, hold, serve, clear, odd, none, many, Stands, pen_sort, sorts, sorts-append, fewer}
-use Rattle.tb_output.proofs.Closed.PutLemmas.{Extends, class-joined}
+use Rattle.tb_output.proofs.Closed.PutLemmas.{Extends}
 use Rattle.tb_top.proofs.NothingLost.RunWeights.{Kept}
 
 -- no penalty of an item is below that of a page's end, and the class of a footnote is one of these numbers
@@ -90,11 +91,7 @@ items-stand ks p two (n ∷ ns) f =
     let after = two_after two n.kind in
     let x = item-extends ks p two n.line n.kind f.0 in
     let y = items-stand ks p after ns f.1 in
-    record { by = λ ys s. subst (Stands many false) (sym (ap (λ l. l ++ ys) (sorts-append (on_line n.line (item_kinds p two n.kind)) (item_nodes p after ns)) ∙ assoc (sorts (on_line n.line (item_kinds p two n.kind))) (sorts (item_nodes p after ns)) ys)) (x.by (sorts (item_nodes p after ns) ++ ys) (y.by ys s)); feet = class-joined ks (on_line n.line (item_kinds p two n.kind)) (item_nodes p after ns) x.feet y.feet }
-  where
-    assoc : (xs ys zs : List Sort) → (xs ++ ys) ++ zs ≡ xs ++ (ys ++ zs)
-    assoc [] ys zs = refl
-    assoc (x ∷ xs) ys zs = ap (λ l. x ∷ l) (assoc xs ys zs)
+    record { by = λ ys s. subst (Stands many false) (sym (ap (λ l. l ++ ys) (sorts-append (on_line n.line (item_kinds p two n.kind)) (item_nodes p after ns)) ∙ append_assoc (sorts (on_line n.line (item_kinds p two n.kind))) (sorts (item_nodes p after ns)) ys)) (x.by (sorts (item_nodes p after ns) ++ ys) (y.by ys s)); feet = class-both ks (on_line n.line (item_kinds p two n.kind)) (item_nodes p after ns) x.feet y.feet }
 
 -- no two classes have one number
 abbrev pub NumbersDiffer : List Class → Type 0
@@ -118,7 +115,7 @@ start-kept g d f =
         stands = fewer none false _ (subst (Stands many false) (sym (sorts-append (item_nodes g.params false g.items) (on_line g.end_line clearpage_kinds))) (x.by (sorts (on_line g.end_line clearpage_kinds)) (tt, (tt, (tt, (tt, (tt, tt)))))));
         free = λ h. refl;
         steady = tt;
-        feet = class-joined ks (item_nodes g.params false g.items) (on_line g.end_line clearpage_kinds) x.feet (tt, (tt, (tt, (tt, (tt, tt)))));
+        feet = class-both ks (item_nodes g.params false g.items) (on_line g.end_line clearpage_kinds) x.feet (tt, (tt, (tt, (tt, (tt, tt)))));
         held_feet = tt;
       };
     }

@@ -4,6 +4,7 @@ use Rattle.std.proofs.Common.{◌≡◌, refl, sym, ◌∙◌, ap, ℕ, ◌+◌,
 use Rattle.std.specs.Prelude.{not, ◌==◌, ◌||◌, if◌then◌else◌}
 use Rattle.std.specs.List.{AllByRecursion}
 use Rattle.std.proofs.lemmas.List.Elements.{filter-append}
+use Rattle.std.proofs.lemmas.Bool.{or_left, or_right}
 use Rattle.tb_column.proofs.Within.{Within, within-equal}
 use Rattle.tb_top.specs.Laws.{is_in}
 use Rattle.tb_top.proofs.OnceEach.CountLemmas.{count, count-append, permutation-from-counts}
@@ -63,18 +64,10 @@ outs-pass fs (t ∷ ts) o = (ap not o.0, outs-pass fs ts o.1)
 
 in-itself : (fs gs : List ℕ) → ((x : ℕ) → is_in gs x ≡ true → is_in fs x ≡ true) → AllByRecursion (λ x. is_in fs x ≡ true) gs
 in-itself fs [] h = tt
-in-itself fs (g ∷ gs) h = (h g (here g (is_in gs g)), in-itself fs gs (λ x k. h x (there (g == x) (is_in gs x) k)))
+in-itself fs (g ∷ gs) h = (h g (here g (is_in gs g)), in-itself fs gs (λ x k. h x (or_right (g == x) (is_in gs x) k)))
   where
     here : (n : ℕ) (b : Bool) → ((n == n) || b) ≡ true
-    here n b = first (n == n) b (grind arith)
-      where
-        first : (a b : Bool) → a ≡ true → (a || b) ≡ true
-        first true b h = refl
-        first false b h = let no : ⊥ = grind (arith, h) in absurd no
-
-    there : (a b : Bool) → b ≡ true → (a || b) ≡ true
-    there true b h = refl
-    there false b h = h
+    here n b = or_left (n == n) b (grind arith)
 
 feet-fail : (fs gs : List ℕ) → AllByRecursion (λ x. is_in fs x ≡ true) gs → AllByRecursion (λ x. not (is_in fs x) ≡ false) gs
 feet-fail fs [] h = tt

@@ -3,6 +3,7 @@ use Rattle.std.proofs.Common.{◌≡◌, refl, subst, ℕ, ◌<◌, false, List,
 use Rattle.std.specs.Prelude.{◌==◌, IsTrue}
 use Rattle.std.specs.List.{AllByRecursion}
 use Rattle.std.proofs.lemmas.Bool.{or_from, or_parts}
+use Rattle.tb_break.proofs.EachLemmas.{all-front, all-back, all-join}
 use Rattle.tb_galley.specs.declared.Leaf.{Leaf}
 use Rattle.tb_galley.specs.declared.LeafKind.{LeafKind}
 use Rattle.tb_galley.specs.declared.LeafKind.TheVariants as leaves
@@ -10,7 +11,6 @@ use Rattle.tb_galley.specs.declared.Item.{Item}
 use Rattle.tb_galley.specs.declared.ItemKind.{ItemKind}
 use Rattle.tb_galley.specs.declared.ItemKind.TheVariants as items
 use Rattle.tb_galley.specs.Valid.{leaf_lines, lines_of_item, named_lines, rise_from}
-use Rattle.tb_output.proofs.ClassesRise.RisingLists.{all-front, all-back, all-join}
 use Rattle.tb_top.proofs.ClassesRise.NamedLines.{AllAbove, rise-first, rise-above, rise-behind}
 use Rattle.tb_top.specs.Laws.{leaf_boxes, foot_boxes, text_line, foot_line, lines_by, is_in}
 

@@ -2,6 +2,7 @@
 use Rattle.std.proofs.Common.{◌≡◌, refl, subst, ◌∙◌, ap, ℕ, zero, suc, pos, ◌+◌, ◌*◌, ◌-◌, ◌≤◌, Bool, true, false, List, [], ◌∷◌, ◌++◌, map, length, length-append, arith}
 use Rattle.std.specs.Prelude.{ℤ, pred, nat_abs, int_lt, if◌then◌else◌}
 use Rattle.std.proofs.lemmas.Int.{ints}
+use Rattle.tb_report.proofs.CountLemmas.{count_kinds-le}
 use Rattle.tb_pool.specs.Lists.{Lists}
 use Rattle.tb_node.specs.declared.Node.{Node}
 use Rattle.tb_node.specs.Plain.{PlainNode}
@@ -23,7 +24,7 @@ use Rattle.tb_plain.specs.Report.{sent_totals}
 use Rattle.tb_plain.specs.Run.{MakeupState, MakeupRun, MakeupStep, ends, goes_on, page_limit, node_limit, AtAct, no_act, at_act, first_act, meets_act, makeup_ask, makeup_classes, void_boxes, makeup_reach, act_step, waiting_after, shipping_step, firing_step, last_step, makeup_step, run_by, makeup_from, first_makeup, steps_left, makeup_of, done, ejecting_nodes}
 use Rattle.tb_top.specs.Written.{with_events}
 use Rattle.tb_top.proofs.Written.EventCounts.{among-sent}
-use Rattle.tb_top.proofs.Written.TallyLemmas.{AreFewNodes, count-most, step-few}
+use Rattle.tb_top.proofs.Written.TallyLemmas.{AreFewNodes, step-few}
 
 -- ---- totals
 
@@ -92,8 +93,8 @@ added (warned w ∷ es) t few =
 added (shipped n sheet ∷ es) t few =
     let g = added es (with_sent (shipped n sheet) t) few.1 in
     let a = g.pages in let b = g.warnings in let c = g.boxes in let d = g.floats in
-    let e = count-most is_item_box (sheet_nodes sheet) in
-    let f = count-most is_float_box (sheet_nodes sheet) in
+    let e = count_kinds-le is_item_box (sheet_nodes sheet) in
+    let f = count_kinds-le is_float_box (sheet_nodes sheet) in
     let h = few.0 in
     record { pages = omega (arith, a); warnings = omega (arith, b); boxes = omega (arith, c, e, h); floats = omega (arith, d, f, h) }
 

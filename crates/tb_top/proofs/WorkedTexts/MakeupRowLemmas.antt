@@ -15,7 +15,16 @@ use Rattle.tb_top.specs.MakeupRows.{MakeupRows}
 pub makeup_rows : MakeupRows
 unfolding grammar row_of word_of makeup_report makeup_of makeup_from makeup_step made_up default_params digits page_badness cost_of_badness badness_of
 makeup_rows = record {
+  empty_galley = record { answered = refl; written = refl; told = refl };
+  page_of_text = record { answered = refl; written = refl; told = refl };
+  ragged_page = record { answered = refl; written = refl; told = refl };
+  held_footnote = record { answered = refl; written = refl; told = refl };
+  note_has_a_page = record { answered = refl; written = refl; told = refl };
+  page_limit = record { answered = refl; written = refl; told = refl };
   float_fits = record { answered = refl; written = refl; told = refl };
   float_goes_to_the_top = record { answered = refl; written = refl; told = refl };
+  float_has_a_page = record { answered = refl; written = refl; told = refl };
+  class_line_of_253 = record { answered = refl; written = refl; told = refl };
   two_columns = record { answered = refl; written = refl; told = refl };
+  foot_of_another_class = record { answered = refl; written = refl; told = refl };
 }

@@ -3,7 +3,7 @@ use Rattle.std.proofs.Common.{◌≡◌, refl, ap, subst, ℕ, suc, ◌<◌, ◌
 use Rattle.std.specs.Prelude.{IsTrue, int_le, neg_ℤ, if◌then◌else◌}
 use Rattle.std.specs.List.{list_all, list_any}
 use Rattle.std.proofs.lemmas.Int.{ints}
-use Rattle.std.proofs.lemmas.Bool.{eqb-true}
+use Rattle.std.proofs.lemmas.Bool.{eqb-true, and_parts}
 use Rattle.std.proofs.lemmas.Bool.Decides.{nat_tests}
 use Rattle.tb_scaled.specs.Scaled.{eject_penalty}
 use Rattle.tb_param.specs.declared.Params.{Params}
@@ -22,51 +22,11 @@ use Rattle.tb_output.specs.State.{foot_class, first_state, void_boxes}
 use Rattle.tb_output.proofs.NothingLost.StateWeights.{class_numbers}
 use Rattle.tb_output.proofs.Closed.PutLemmas.{AreAmong}
 use Rattle.tb_run.specs.Run.{class_of, classes_of}
+use Rattle.tb_run.proofs.FromGalley.GalleyClasses.{AreAbove, rising-above, rising-rest, class-small, with_foot}
 use Rattle.tb_top.proofs.NothingLost.RunWeights.{Kept, fit-among}
 use Rattle.tb_top.proofs.NothingLost.StartLemmas.{start-kept, ItemFits, ItemsFit, NumbersDiffer, void-fit}
 
-first : (a b : Bool) → IsTrue (a && b) → IsTrue a
-first true b h = refl
-first false b h = h
-
-second : (a b : Bool) → IsTrue (a && b) → IsTrue b
-second true b h = h
-second false b h = cc
-
 -- ---- the numbers differ
-
--- all classes have greater numbers
-abbrev AreAbove : ℕ → List ClassLine → Type 0
-AreAbove n [] = Unit {0}
-AreAbove n (c ∷ cs) = (n < c.number) × AreAbove n cs
-
-above-more : (n m : ℕ) (cs : List ClassLine) → n < m → AreAbove m cs → AreAbove n cs
-above-more n m [] h a = tt
-above-more n m (c ∷ cs) h a = (omega (arith, h, a.0), above-more n m cs h a.1)
-
-less : (n m : ℕ) → IsTrue (nat_lt n m) → n < m
-less n m h = grind (arith, nat_tests, h)
-
-rising-above : (c : ClassLine) (cs : List ClassLine) → IsTrue (do_classes_rise (c ∷ cs)) → AreAbove c.number cs
-rising-above c [] h = tt
-rising-above c (d ∷ ds) h =
-    let n = less c.number d.number (first (nat_lt c.number d.number) (do_classes_rise (d ∷ ds)) h) in
-    (n, above-more c.number d.number ds n (rising-above d ds (second (nat_lt c.number d.number) (do_classes_rise (d ∷ ds)) h)))
-
-rising-rest : (c : ClassLine) (cs : List ClassLine) → IsTrue (do_classes_rise (c ∷ cs)) → IsTrue (do_classes_rise cs)
-rising-rest c [] h = refl
-rising-rest c (d ∷ ds) h = second (nat_lt c.number d.number) (do_classes_rise (d ∷ ds)) h
-
-small : (c : ClassLine) → IsTrue (is_class c) → c.number ≤ 253
-small c h = by_test (nat_le c.number 253) (is_within (pos 0) (pos 10000) c.factor) (is_size c.limit) (is_glue c.skip) h (λ k. grind (arith, nat_tests, k))
-  where
-    by_test : (t u v w : Bool) → IsTrue (t && u && v && w) → (IsTrue t → c.number ≤ 253) → c.number ≤ 253
-    by_test true u v w h k = k refl
-    by_test false u v w h k = cc
-
--- the classes of a galley with these class lines
-abbrev with_foot : Params → List ClassLine → List Class
-with_foot p cs = map class_of cs ++ foot_class p ∷ []
 
 none-above : (p : Params) (n : ℕ) (cs : List ClassLine) → n ≤ 253 → AreAbove n cs → hits n (class_numbers (with_foot p cs)) ≡ 0
 none-above p n [] h a = by_number (n == 254) (λ e. eqb-true n 254 e)
@@ -83,11 +43,11 @@ none-above p n (c ∷ cs) h a = by_number (n == c.number) (λ e. eqb-true n c.nu
 lines-differ : (p : Params) (cs : List ClassLine) → IsTrue (list_all is_class cs) → IsTrue (do_classes_rise cs) → NumbersDiffer (with_foot p cs)
 lines-differ p [] v r = (refl, tt)
 lines-differ p (c ∷ cs) v r =
-    (none-above p c.number cs (small c (first (is_class c) (list_all is_class cs) v)) (rising-above c cs r), lines-differ p cs (second (is_class c) (list_all is_class cs) v) (rising-rest c cs r))
+    (none-above p c.number cs (class-small c (and_parts (is_class c) (list_all is_class cs) v).0) (rising-above c cs r), lines-differ p cs (and_parts (is_class c) (list_all is_class cs) v).1 (rising-rest c cs r))
 
 pub valid-differ : (g : Galley) → IsValid g → NumbersDiffer (classes_of g)
 valid-differ g v =
-    lines-differ g.params g.classes (first (list_all is_class g.classes) (do_classes_rise g.classes) v.classes) (second (list_all is_class g.classes) (do_classes_rise g.classes) v.classes)
+    lines-differ g.params g.classes (and_parts (list_all is_class g.classes) (do_classes_rise g.classes) v.classes).0 (and_parts (list_all is_class g.classes) (do_classes_rise g.classes) v.classes).1
 
 -- ---- the class of a footnote
 
@@ -142,8 +102,8 @@ items-fit : (g : Galley) → IsValid g → (ns : List Item) → IsTrue (list_all
 items-fit g v [] i c = tt
 items-fit g v (n ∷ ns) i c =
     let ks = map (λ (c : ClassLine). c.number) g.classes in (
-      item-fits g v n.line n.kind (first (is_item n.line n.kind) (list_all (λ (m : Item). is_item m.line m.kind) ns) i) (first (has_known_class ks n.kind) (list_all (λ (m : Item). has_known_class ks m.kind) ns) c),
-      items-fit g v ns (second (is_item n.line n.kind) (list_all (λ (m : Item). is_item m.line m.kind) ns) i) (second (has_known_class ks n.kind) (list_all (λ (m : Item). has_known_class ks m.kind) ns) c),
+      item-fits g v n.line n.kind (and_parts (is_item n.line n.kind) (list_all (λ (m : Item). is_item m.line m.kind) ns) i).0 (and_parts (has_known_class ks n.kind) (list_all (λ (m : Item). has_known_class ks m.kind) ns) c).0,
+      items-fit g v ns (and_parts (is_item n.line n.kind) (list_all (λ (m : Item). is_item m.line m.kind) ns) i).1 (and_parts (has_known_class ks n.kind) (list_all (λ (m : Item). has_known_class ks m.kind) ns) c).1,
     )
 
 pub valid-fit : (g : Galley) → IsValid g → ItemsFit (class_numbers (classes_of g)) g.items

@@ -6,6 +6,9 @@ use Rattle.std.specs.List.{list_all}
 use Rattle.std.specs.Io.KnownBytes.{Appends}
 use Rattle.tb_io.specs.Held.{AppendsPrefix}
 use Rattle.std.proofs.lemmas.Int.{ints}
+use Rattle.std.proofs.lemmas.Bool.{and_parts}
+use Rattle.tb_builder.proofs.Ranges.PageableLemmas.{length_counted}
+use Rattle.tb_float.proofs.ParamLemmas.{in-range}
 use Rattle.tb_node.specs.Fit.{IsExtent}
 use Rattle.tb_node.specs.Plain.{PlainKind, plain, ins, act, PlainNode}
 use Rattle.tb_builder.specs.Contents.{kind_count, node_count}
@@ -92,26 +95,6 @@ pub err-at : {T : Type 0} (r : Result T PageFault) (P : PageFault → Type 0) (f
 err-at r P f h is = subst (λ x. IfErr x P) is h
 
 -- ---- the parameters
-
-pub all-at : (f : Row → Bool) (rs : List Row) (k : ℕ) (r : Row) → slice_get rs k ≡ Some r → IsTrue (list_all f rs) → IsTrue (f r)
-all-at f [] k r e h = cc
-all-at f (x ∷ xs) zero r e h = let same : x ≡ r = cc in subst (λ y. IsTrue (f y)) same (first (f x) (list_all f xs) h)
-  where
-    first : (a b : Bool) → IsTrue (a && b) → IsTrue a
-    first true b h = refl
-    first false b h = h
-all-at f (x ∷ xs) (suc k) r e h = all-at f xs k r e (second (f x) (list_all f xs) h)
-  where
-    second : (a b : Bool) → IsTrue (a && b) → IsTrue b
-    second true b h = h
-    second false b h = cc
-
-pub in-range : (t : Bool) → IsTrue (is_no_fault (out_of_range t)) → IsTrue t
-in-range true h = refl
-in-range false h = cc
-
-pub dim-extent : (low v : ℤ) → pos 0 ≤ℤ low → IsTrue (is_no_fault (out_of_range (is_within low (pos 1073741823) v))) → IsExtent v
-dim-extent low v n h = let k = in-range (is_within low (pos 1073741823) v) h in record { low = grind (arith, ints, n, k); high = grind (arith, ints, n, k) }
 
 pub int-limit : (low high v : ℤ) → pos 0 ≤ℤ low → high ≤ℤ pos 4194304 → IsTrue (is_no_fault (out_of_range (is_within low high v))) → IsLimit v
 int-limit low high v n m h = let k = in-range (is_within low high v) h in record { low = grind (arith, ints, n, m, k); high = grind (arith, ints, n, m, k) }
@@ -217,19 +200,10 @@ module _ (p : Params) (v : View) (s : State) (old now : Option (List ℕ)) (t : 
 pub none-at : {A : Type 0} (o : Option Ending) → o ≡ None → IfNone o A → A
 none-at {A} o none h = subst (λ x. IfNone x A) none h
 
-one-at-least : (k : PlainKind) → 1 ≤ kind_count k
-one-at-least (plain m) = omega arith
-one-at-least (ins i) = omega arith
-one-at-least (act a) = omega arith
-
-nodes-counted : (ns : List PlainNode) → length ns ≤ node_count ns
-nodes-counted [] = omega arith
-nodes-counted (n ∷ ns) = let one = one-at-least n.kind in let rest = nodes-counted ns in omega (arith, one, rest)
-
 -- a routine that is ready has not too many nodes that wait
 pub few-wait : (r : Routine) → IsReady r → length (state_of r).waiting ≤ 4194304
 few-wait r ready =
-    let a = nodes-counted (state_of r).waiting in
+    let a = length_counted (state_of r).waiting in
     let b = ready.settled.bounded.held in
     let c = ready.settled.bounded.few in
     omega (arith, a, b, c)

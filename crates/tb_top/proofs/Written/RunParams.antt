@@ -2,6 +2,8 @@
 use Rattle.std.proofs.Common.{refl, ◌≤◌, ℤ, pos, ◌≤ℤ◌, Bool, arith}
 use Rattle.std.specs.Prelude.{IsTrue, nat_abs, negsuc}
 use Rattle.std.proofs.lemmas.Int.{ints}
+use Rattle.tb_output.proofs.ColumnPages.ParamLemmas.{output-params}
+use Rattle.tb_float.proofs.ParamLemmas.{all-at, in-range, dim-extent}
 use Rattle.tb_node.specs.Fit.{IsPenalty}
 use Rattle.tb_param.specs.declared.Params.{Params}
 use Rattle.tb_param.specs.Fields.{value_of}
@@ -9,8 +11,7 @@ use Rattle.tb_param.specs.Table.{Row, rows, value_fault, is_within, out_of_range
 use Rattle.tb_param.specs.Ranges.{is_no_fault, are_params}
 use Rattle.tb_output.specs.Out.{hold_penalty}
 use Rattle.tb_run.specs.Served.{AreRunnable}
-use Rattle.tb_top.proofs.Written.FinishLemmas.{all-at, in-range, dim-extent, int-limit}
-use Rattle.tb_top.proofs.Written.OutputParams.{params-output}
+use Rattle.tb_top.proofs.Written.FinishLemmas.{int-limit}
 use Rattle.tb_top.proofs.Written.TallyLemmas.{AreFewFirings}
 
 floating : (v : ℤ) → IsTrue (is_no_fault (out_of_range (is_within (negsuc 99999) (pos 100000) v))) → IsPenalty v
@@ -24,7 +25,7 @@ unfolding are_params
 params-runnable p h =
     let test : Row → Bool = λ r. is_no_fault (value_fault r.form (value_of r.field p)) in
     record {
-      output = params-output p h;
+      output = output-params p h;
       topskip = dim-extent (pos 1) p.topskip (omega (arith, ints)) (all-at test rows 1 _ refl h);
       maxnodes = int-limit (pos 100) (pos 4194304) p.maxnodes (omega (arith, ints)) (omega (arith, ints)) (all-at test rows 42 _ refl h);
       splittopskip = dim-extent (pos 0) p.splittopskip (omega (arith, ints)) (all-at test rows 31 _ refl h);

@@ -4,6 +4,7 @@ use Rattle.std.proofs.Common.{◌≡◌, refl, sym, subst, ◌∙◌, ap, ℕ, s
 use Rattle.std.specs.Prelude.{pred, nat_abs}
 use Rattle.std.specs.List.{AllByRecursion}
 use Rattle.std.proofs.lemmas.Nat.{mul-le}
+use Rattle.tb_report.proofs.CountLemmas.{count_kinds-le}
 use Rattle.tb_pool.specs.Lists.{Lists}
 use Rattle.tb_node.specs.declared.Node.{Node}
 use Rattle.tb_node.specs.Plain.{PlainKind, PlainNode}
@@ -28,10 +29,6 @@ one-most : (t : Bool) → one_if t ≤ 1
 one-most true = omega arith
 one-most false = omega arith
 
-pub count-most : (test : PlainKind → Bool) (ns : List PlainNode) → count_kinds test ns ≤ length ns
-count-most test [] = omega arith
-count-most test (n ∷ ns) = let a = one-most (test n.kind) in let b = count-most test ns in omega arith
-
 -- each page has at most 3 · 2^23 nodes
 abbrev pub AreFewNodes : List PlainSent → Type 0
 AreFewNodes es = AllByRecursion (λ e. node_total e ≤ 25165824) es
@@ -52,8 +49,8 @@ grown (sent (warned w) ∷ es) t few =
 grown (sent (shipped n sheet) ∷ es) t few =
     let g = grown es (with_sent (shipped n sheet) t) few.1 in
     let a = g.pages in let b = g.warnings in let c = g.boxes in let d = g.floats in
-    let e = count-most is_item_box (sheet_nodes sheet) in
-    let f = count-most is_float_box (sheet_nodes sheet) in
+    let e = count_kinds-le is_item_box (sheet_nodes sheet) in
+    let f = count_kinds-le is_float_box (sheet_nodes sheet) in
     let h = few.0 in
     record { pages = omega (arith, a); warnings = omega (arith, b); boxes = omega (arith, c, e, h); floats = omega (arith, d, f, h) }
 

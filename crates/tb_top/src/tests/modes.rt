@@ -17,7 +17,7 @@ pub struct ModeRow {
 }
 
 /// The worked rows of each mode, and of words that are refused.
-pub const MODE_ROWS: [ModeRow; 26] = [
+pub const MODE_ROWS: [ModeRow; 35] = [
     ModeRow {
         name: "mode report said",
         words: &["--mode", "report"],
@@ -225,5 +225,77 @@ pub const MODE_ROWS: [ModeRow; 26] = [
         status: 12,
         out: b"",
         err: b"galley_pages: line 16: not served in this mode\n",
+    },
+    ModeRow {
+        name: "empty galley in plain mode",
+        words: &["--mode", "plain"],
+        input: b"galley 1\nend\n",
+        status: 0,
+        out: b"report 1\nend pages 0 boxes 0 floats 0 warnings 0\n",
+        err: b"",
+    },
+    ModeRow {
+        name: "page of text in plain mode",
+        words: &["--mode", "plain"],
+        input: b"galley 1\nset textheight 100\nset topskip 10\nset maxdepth 0\nset baselineskip 0\nset bottom flush\nset skipfootins 0\nset footsplittop 10\nbox a 20 0\nglue 0 plus 1\nbox b 10 0\nend\n",
+        status: 0,
+        out: b"report 1\npage 1 one\ncolumn 1 text height 100 natural 30 set stretch fill 70/65536\nbox a 0 20 0\nbox b 20 10 0\nend pages 1 boxes 2 floats 0 warnings 0\n",
+        err: b"",
+    },
+    ModeRow {
+        name: "ragged page in plain mode",
+        words: &["--mode", "plain"],
+        input: b"galley 1\nset textheight 100\nset topskip 10\nset maxdepth 0\nset baselineskip 0\nset bottom ragged\nset skipfootins 0\nset footsplittop 10\nset maxdepth 4\nbox a 20 0\nglue 0\nbox b 10 3\npenalty -10000\nbox c 10 0\nend\n",
+        status: 0,
+        out: b"report 1\npage 1 one\ncolumn 1 text height 100 natural 30 set stretch fil 70/65536\nbox a 0 20 0\nbox b 20 10 3\npage 2 one\ncolumn 1 text height 100 natural 10 set stretch fill 90/65536\nbox c 0 10 0\nend pages 2 boxes 3 floats 0 warnings 0\n",
+        err: b"",
+    },
+    ModeRow {
+        name: "footnote of plain mode that is held",
+        words: &["--mode", "plain"],
+        input: b"galley 1\nset textheight 100\nset topskip 10\nset maxdepth 0\nset baselineskip 0\nset bottom flush\nset skipfootins 0\nset footsplittop 10\nbox a 60 0\nfoot\nbox f 30 0\nglue 0\nbox g 30 0\nendfoot\nend\n",
+        status: 0,
+        out: b"report 1\npage 1 one\ncolumn 1 text height 100 natural 90 set stretch fill 10/65536\nbox a 0 60 0\nfootrule -196538 26214 0\nbox f 70 30 0\npage 2 one\ncolumn 1 text height 100 natural 30 set stretch fill 70/65536\nfootrule -196538 26214 0\nbox g 70 30 0\nend pages 2 boxes 3 floats 0 warnings 0\n",
+        err: b"",
+    },
+    ModeRow {
+        name: "note with a page of its own in plain mode",
+        words: &["--mode", "plain"],
+        input: b"galley 1\nset textheight 100\nset topskip 10\nset maxdepth 0\nset baselineskip 0\nset bottom flush\nset skipfootins 0\nset footsplittop 10\nbox a 10 0\nnewpage\nnote n\nend\n",
+        status: 0,
+        out: b"report 1\npage 1 one\ncolumn 1 text height 100 natural 10 set stretch fil 90/65536\nbox a 0 10 0\npage 2 one\ncolumn 1 text height 100 natural 10 set stretch fill 90/65536\nnote n 0\nend pages 2 boxes 1 floats 0 warnings 0\n",
+        err: b"",
+    },
+    ModeRow {
+        name: "page limit in plain mode",
+        words: &["--mode", "plain"],
+        input: b"galley 1\nset textheight 100\nset topskip 10\nset maxdepth 0\nset baselineskip 0\nset bottom flush\nset skipfootins 0\nset footsplittop 10\nset maxpages 1\nbox a 10 0\nnewpage\nbox b 10 0\nend\n",
+        status: 7,
+        out: b"report 1\npage 1 one\ncolumn 1 text height 100 natural 10 set stretch fil 90/65536\nbox a 0 10 0\n",
+        err: b"galley_pages: page limit 1\n",
+    },
+    ModeRow {
+        name: "float of plain mode with a page of its own",
+        words: &["--mode", "plain"],
+        input: b"galley 1\nset textheight 100\nset topskip 10\nset maxdepth 0\nset baselineskip 0\nset bottom flush\nset skipfootins 0\nset footsplittop 10\nset intextsep 0\nset textfloatsep 0\nset floatsep 0\nset fptop 0\nset fpsep 0\nset fpbot 0\nset dbltextfloatsep 0\nbox a 20 0\nfloat F 1 single p 30 par\nglue 0 plus 1\nbox b 10 0\nend\n",
+        status: 0,
+        out: b"report 1\npage 1 one\ncolumn 1 text height 100 natural 30 set stretch fill 70/65536\nbox a 0 20 0\nbox b 20 10 0\npage 2 one\ncolumn 1 text height 100 natural 100 set none\nfloat F 1 page 0 100\nend pages 2 boxes 2 floats 1 warnings 0\n",
+        err: b"",
+    },
+    ModeRow {
+        name: "class line of 253 in plain mode",
+        words: &["--mode", "plain"],
+        input: b"galley 2\nset textheight 100\nset topskip 10\nset maxdepth 0\nset baselineskip 0\nset bottom flush\nset skipfootins 0\nset footsplittop 10\nset intextsep 0\nset textfloatsep 0\nset floatsep 0\nset fptop 0\nset fpsep 0\nset fpbot 0\nset dbltextfloatsep 0\nclass 253 0 0 0\nfloat F 1 single t 30 par\nbox a 20 0\nend\n",
+        status: 0,
+        out: b"report 1\npage 1 one\ncolumn 1 text height 100 natural 50 set stretch fill 50/65536\nfloat F 1 top 0 30\nbox a 30 20 0\nend pages 1 boxes 1 floats 1 warnings 0\n",
+        err: b"",
+    },
+    ModeRow {
+        name: "foot of another class in plain mode",
+        words: &["--mode", "plain"],
+        input: b"galley 2\nclass 3 1000 1000 0\nbox a 10 0\nfoot 3\nbox g 10 0\nendfoot\nend\n",
+        status: 12,
+        out: b"",
+        err: b"galley_pages: line 4: not served in this mode\n",
     },
 ];

@@ -1,9 +1,9 @@
 use Rattle.std.proofs.Common.{refl, sym, subst, ◌∙◌, [], Bool}
 use Rattle.std.specs.Prelude.{if◌then◌else◌}
+use Rattle.tb_builder.proofs.Events.WalkLemmas.{list_there}
 use Rattle.tb_output.specs.PutBack.{clear_list}
 use Rattle.tb_output.specs.Keeping.{HasGrown}
 use Rattle.tb_output.proofs.InText.PushLemmas.{grown-of, grown-none}
-use Rattle.tb_output.proofs.Clears.ClearSteps.{live-some}
 use Rattle.tb_output.proofs.Machine.clear_rest.Goals as goal
 
 pub returns-in_ok-push_clear-clause-ok : goal.returns-in_ok-push_clear-clause-ok
@@ -14,4 +14,4 @@ returns-in_ok-push_clear-clause-ok c =
 pub returns-else-is_waited_for-clause-ok : goal.returns-else-is_waited_for-clause-ok
 returns-else-is_waited_for-clause-ok c =
     subst (λ (t : Bool). HasGrown c.args.back (if t then clear_list else []) [] c.args.store.now c.args.store.now) (sym (sym c.is_waited_for.ensures ∙ c.if-is_waited_for.false))
-    (grown-none c.args.store.now c.args.store.now c.args.back [] (live-some c.args.store.now c.args.back c.requires) refl)
+    (grown-none c.args.store.now c.args.store.now c.args.back [] (list_there c.args.store.now c.args.back c.requires) refl)

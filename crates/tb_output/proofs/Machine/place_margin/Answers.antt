@@ -1,5 +1,6 @@
 use Rattle.std.proofs.Common.{◌≡◌, refl, sym, subst, [], FitsSigned, w64, to_z, of_z, rules}
 use Rattle.std.proofs.lemmas.Int.{to_z-of_z}
+use Rattle.tb_builder.proofs.Ranges.PageableLemmas.{extent_amount}
 use Rattle.tb_scaled.specs.Amount.{IsAmount}
 use Rattle.tb_output.specs.contracts.Machine.{the_view}
 use Rattle.tb_output.specs.Machine.{MachineView}
@@ -7,7 +8,7 @@ use Rattle.tb_output.specs.PutBack.{note_list}
 use Rattle.tb_output.specs.Keeping.{HasGrown}
 use Rattle.tb_output.specs.Turns.{note_placed}
 use Rattle.tb_output.proofs.Working.ResultLemmas.{memory-err, ok-map, err-map}
-use Rattle.tb_output.proofs.ColumnPages.SizeLemmas.{amount-cast, amount-passed, extent-amount}
+use Rattle.tb_output.proofs.ColumnPages.SizeLemmas.{amount-cast, amount-passed}
 use Rattle.tb_output.proofs.Working.StepLemmas.{no-room, keeps-on}
 use Rattle.tb_output.proofs.InText.TextSteps.{continues-note_placed}
 use Rattle.tb_output.proofs.InText.MarginSteps.{reach-amount, note-place, warning-memory, told-keeps, note-memory, stands-keeps, note-whole, note-cut}
@@ -69,7 +70,7 @@ put_interline-requires-clause-machine c =
     let fits : FitsSigned w64 c.place_note-at.result.bottom = search rules in
     let set : c.set_note_bottom.new.self ≡ record c.retire_note.new.self { note_bottom = c.place_note-at.result.bottom } = simp to_z-of_z at c.set_note_bottom.ensures in
     let grown : HasGrown c.args.back (note_list c.args.size.now.depth c.args.m.now c.place_note-at.result) [] c.args.store.now c.push_note.new.store =
-    subst (λ d. HasGrown c.args.back (note_list d c.args.m.now c.place_note-at.result) [] c.args.store.now c.push_note.new.store) (amount-cast c.args.size.now.depth (extent-amount c.args.size.now.depth c.requires.depth)) c.in_ok-push_note.ensures.ok in
+    subst (λ d. HasGrown c.args.back (note_list d c.args.m.now c.place_note-at.result) [] c.args.store.now c.push_note.new.store) (amount-cast c.args.size.now.depth (extent_amount c.args.size.now.depth c.requires.depth)) c.in_ok-push_note.ensures.ok in
     (stands-keeps c.args.back c.args.self.now c.args.store.now c.requires.machine c.requires.back c.args.size.now c.args.m.now c.place_note-at.result place c.retire_note.new.self c.in_ok-retire_note.ensures.ok c.set_note_bottom.new.self set c.warn_moved.new.self c.in_ok-warn_moved.ensures.ok c.push_note.new.store c.requires.depth grown).machine
 
 pub put_interline-requires-clause-back : goal.put_interline-requires-clause-back
@@ -78,7 +79,7 @@ put_interline-requires-clause-back c =
     let fits : FitsSigned w64 c.place_note-at.result.bottom = search rules in
     let set : c.set_note_bottom.new.self ≡ record c.retire_note.new.self { note_bottom = c.place_note-at.result.bottom } = simp to_z-of_z at c.set_note_bottom.ensures in
     let grown : HasGrown c.args.back (note_list c.args.size.now.depth c.args.m.now c.place_note-at.result) [] c.args.store.now c.push_note.new.store =
-    subst (λ d. HasGrown c.args.back (note_list d c.args.m.now c.place_note-at.result) [] c.args.store.now c.push_note.new.store) (amount-cast c.args.size.now.depth (extent-amount c.args.size.now.depth c.requires.depth)) c.in_ok-push_note.ensures.ok in
+    subst (λ d. HasGrown c.args.back (note_list d c.args.m.now c.place_note-at.result) [] c.args.store.now c.push_note.new.store) (amount-cast c.args.size.now.depth (extent_amount c.args.size.now.depth c.requires.depth)) c.in_ok-push_note.ensures.ok in
     (stands-keeps c.args.back c.args.self.now c.args.store.now c.requires.machine c.requires.back c.args.size.now c.args.m.now c.place_note-at.result place c.retire_note.new.self c.in_ok-retire_note.ensures.ok c.set_note_bottom.new.self set c.warn_moved.new.self c.in_ok-warn_moved.ensures.ok c.push_note.new.store c.requires.depth grown).back
 
 pub returns-clause-ok : goal.returns-clause-ok
@@ -87,7 +88,7 @@ returns-clause-ok c =
     let fits : FitsSigned w64 c.place_note-at.result.bottom = search rules in
     let set : c.set_note_bottom.new.self ≡ record c.retire_note.new.self { note_bottom = c.place_note-at.result.bottom } = simp to_z-of_z at c.set_note_bottom.ensures in
     let grown : HasGrown c.args.back (note_list c.args.size.now.depth c.args.m.now c.place_note-at.result) [] c.args.store.now c.push_note.new.store =
-    subst (λ d. HasGrown c.args.back (note_list d c.args.m.now c.place_note-at.result) [] c.args.store.now c.push_note.new.store) (amount-cast c.args.size.now.depth (extent-amount c.args.size.now.depth c.requires.depth)) c.in_ok-push_note.ensures.ok in
+    subst (λ d. HasGrown c.args.back (note_list d c.args.m.now c.place_note-at.result) [] c.args.store.now c.push_note.new.store) (amount-cast c.args.size.now.depth (extent_amount c.args.size.now.depth c.requires.depth)) c.in_ok-push_note.ensures.ok in
     ok-map c.put_interline.result _ _
     (note-whole c.args.back c.args.self.now c.args.store.now c.requires.machine c.requires.back c.args.size.now c.args.m.now c.place_note-at.result place c.retire_note.new.self c.in_ok-retire_note.ensures.ok c.set_note_bottom.new.self set c.warn_moved.new.self c.in_ok-warn_moved.ensures.ok c.push_note.new.store c.requires.depth grown c.put_interline.new.store)
     c.put_interline.ensures.ok
@@ -98,7 +99,7 @@ returns-clause-err c =
     let fits : FitsSigned w64 c.place_note-at.result.bottom = search rules in
     let set : c.set_note_bottom.new.self ≡ record c.retire_note.new.self { note_bottom = c.place_note-at.result.bottom } = simp to_z-of_z at c.set_note_bottom.ensures in
     let grown : HasGrown c.args.back (note_list c.args.size.now.depth c.args.m.now c.place_note-at.result) [] c.args.store.now c.push_note.new.store =
-    subst (λ d. HasGrown c.args.back (note_list d c.args.m.now c.place_note-at.result) [] c.args.store.now c.push_note.new.store) (amount-cast c.args.size.now.depth (extent-amount c.args.size.now.depth c.requires.depth)) c.in_ok-push_note.ensures.ok in
+    subst (λ d. HasGrown c.args.back (note_list d c.args.m.now c.place_note-at.result) [] c.args.store.now c.push_note.new.store) (amount-cast c.args.size.now.depth (extent_amount c.args.size.now.depth c.requires.depth)) c.in_ok-push_note.ensures.ok in
     err-map c.put_interline.result _ _
     (λ e. note-cut c.args.back c.args.self.now c.args.store.now c.requires.machine c.requires.back c.args.size.now c.args.m.now c.place_note-at.result place c.retire_note.new.self c.in_ok-retire_note.ensures.ok c.set_note_bottom.new.self set c.warn_moved.new.self c.in_ok-warn_moved.ensures.ok c.push_note.new.store c.requires.depth grown e c.put_interline.new.store)
     c.put_interline.ensures.err
@@ -109,5 +110,5 @@ returns-clause-keeps c =
     let fits : FitsSigned w64 c.place_note-at.result.bottom = search rules in
     let set : c.set_note_bottom.new.self ≡ record c.retire_note.new.self { note_bottom = c.place_note-at.result.bottom } = simp to_z-of_z at c.set_note_bottom.ensures in
     let grown : HasGrown c.args.back (note_list c.args.size.now.depth c.args.m.now c.place_note-at.result) [] c.args.store.now c.push_note.new.store =
-    subst (λ d. HasGrown c.args.back (note_list d c.args.m.now c.place_note-at.result) [] c.args.store.now c.push_note.new.store) (amount-cast c.args.size.now.depth (extent-amount c.args.size.now.depth c.requires.depth)) c.in_ok-push_note.ensures.ok in
+    subst (λ d. HasGrown c.args.back (note_list d c.args.m.now c.place_note-at.result) [] c.args.store.now c.push_note.new.store) (amount-cast c.args.size.now.depth (extent_amount c.args.size.now.depth c.requires.depth)) c.in_ok-push_note.ensures.ok in
     keeps-on c.args.back c.args.self.now c.warn_moved.new.self c.warn_moved.new.self c.args.store.now c.push_note.new.store c.put_interline.new.store (stands-keeps c.args.back c.args.self.now c.args.store.now c.requires.machine c.requires.back c.args.size.now c.args.m.now c.place_note-at.result place c.retire_note.new.self c.in_ok-retire_note.ensures.ok c.set_note_bottom.new.self set c.warn_moved.new.self c.in_ok-warn_moved.ensures.ok c.push_note.new.store c.requires.depth grown) c.put_interline.ensures.keeps

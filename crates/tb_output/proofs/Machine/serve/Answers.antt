@@ -1,7 +1,7 @@
 use Rattle.std.proofs.Common.{◌∙◌, FitsSigned, w64, rules}
 use Rattle.std.proofs.lemmas.Int.{to_z-of_z}
+use Rattle.tb_builder.proofs.Events.NextLemmas.{fresh_apart}
 use Rattle.tb_output.specs.Firing.{fired_in}
-use Rattle.tb_output.proofs.Working.ApartLemmas.{not-live}
 use Rattle.tb_output.proofs.Firings.FiringLemmas.{opened-machine, opened-sound, opened-fire, opened-back, opened-empty, opened-free, serving-all, serving-then}
 use Rattle.tb_output.proofs.Firings.ServeLemmas.{unserved-cut, unserved-keeps, routine-cut, goal-cut, goal-all, all-contents, all-back}
 use Rattle.tb_output.proofs.Working.ResultLemmas.{same-err, memory-err}
@@ -22,7 +22,7 @@ output-requires c =
       page = opened-fire c.args.store.now c.add_list.new.self c.in_ok-back.back c.in_ok-back.ensures.fresh c.in_ok-back.ensures.opened c.args.self.now c.args.b.now c.args.page c.requires.machine c.requires.builder c.requires.page;
       back = opened-back c.args.store.now c.add_list.new.self c.in_ok-back.back c.in_ok-back.ensures.fresh c.in_ok-back.ensures.opened c.args.self.now c.args.b.now c.args.page c.requires.machine c.requires.builder;
       empty = opened-empty c.args.store.now c.add_list.new.self c.in_ok-back.back c.in_ok-back.ensures.fresh c.in_ok-back.ensures.opened;
-      back_body = not-live c.args.store.now c.in_ok-back.back c.args.page.body c.in_ok-back.ensures.fresh c.requires.page.body.live;
+      back_body = fresh_apart c.args.store.now c.in_ok-back.back c.args.page.body c.in_ok-back.ensures.fresh c.requires.page.body.live;
       back_free = opened-free c.args.store.now c.add_list.new.self c.in_ok-back.back c.in_ok-back.ensures.fresh c.in_ok-back.ensures.opened c.args.self.now c.args.b.now c.args.page c.requires.machine c.requires.builder;
     }
 

@@ -1,8 +1,6 @@
-use Rattle.std.proofs.Common.{refl, sym, subst, ◌∙◌, ap, [], FitsSigned, w64, rules, arith}
-use Rattle.std.specs.Prelude.{ℤ}
-use Rattle.std.proofs.lemmas.Int.{to_z-of_z, ints}
-use Rattle.tb_scaled.specs.Amount.{IsAmount}
-use Rattle.tb_node.specs.Fit.{IsExtent}
+use Rattle.std.proofs.Common.{refl, sym, subst, ◌∙◌, ap, [], FitsSigned, w64, rules}
+use Rattle.std.proofs.lemmas.Int.{to_z-of_z}
+use Rattle.tb_builder.proofs.Ranges.PageableLemmas.{extent_amount}
 use Rattle.tb_float.specs.Lists.{wide_part, wide_waiting}
 use Rattle.tb_float.specs.Pool.{marked_floats}
 use Rattle.tb_output.specs.Ship.{wide_wanted}
@@ -27,16 +25,12 @@ returns-then-not-choose_wide-clause-keeps c =
     let none = c.choose_wide.ensures.none c.if-not-choose_wide.true in
     subst (λ n. KeepsMachine [] c.args.self.now n c.args.store.now c.args.store.now) (sym none.machine) (keeps-same [] c.args.self.now c.args.store.now c.args.store.now c.requires refl)
 
--- a height is an amount
-extent-amount : (z : ℤ) → IsExtent z → IsAmount z
-extent-amount z h = let low = h.low in let high = h.high in record { low = omega (arith, ints); high = omega (arith, ints) }
-
 pub take_floats-requires-clause-height : goal.take_floats-requires-clause-height
 take_floats-requires-clause-height c =
     let i = c.self.inside in
     let params : AreOutputParams i.params = subst AreOutputParams (ap (λ (v : MachineView). v.params) (sym (c.self.view_is ∙ c.choose_wide.ensures.rest))) c.requires.params in
     let high : FitsSigned w64 i.params.textheight = search rules in
-    rw to_z-of_z (extent-amount i.params.textheight params.columns.floats.textheight)
+    rw to_z-of_z (extent_amount i.params.textheight params.columns.floats.textheight)
 
 -- a company has a float
 pub take_floats-requires-clause-marked : goal.take_floats-requires-clause-marked

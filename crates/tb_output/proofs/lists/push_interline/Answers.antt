@@ -1,28 +1,29 @@
 use Rattle.std.proofs.Common.{◌≡◌, sym, ap, ◌∙◌, ◌∷◌, [], ◌++◌, Some, FitsSigned, w64, rules}
 use Rattle.std.proofs.lemmas.Int.{to_z-of_z}
+use Rattle.tb_builder.proofs.Handover.CallLemmas.{dimension_small}
 use Rattle.tb_scaled.specs.declared.Glue.{Glue}
 use Rattle.tb_pool.specs.Lists.{list_at, with_list}
 use Rattle.tb_node.specs.declared.Kind.TheVariants as kinds
 use Rattle.tb_column.specs.FloatList.{made_node}
 use Rattle.tb_column.proofs.StoreLemmas.{with_list-added}
 use Rattle.tb_output.specs.PutBack.{last_glue, interline_by}
-use Rattle.tb_output.proofs.InText.PushLemmas.{pushed-first, list-reserved, last-sized, dimension-small}
+use Rattle.tb_output.proofs.InText.PushLemmas.{pushed-first, list-reserved, last-sized}
 use Rattle.tb_output.proofs.lists.push_interline.Goals as goal
 
 pub negate-requires-clause-width : goal.negate-requires-clause-width
 negate-requires-clause-width c =
     let same = list-reserved c.args.store.now c.reserve.new.self c.args.l c.in_ok-reserve.ensures.lists in
-    dimension-small _ (last-sized (list_at c.args.store.now c.args.l) c.in-Some.glue c.requires.sized (sym (c.in-Some.ensures ∙ ap last_glue same))).width
+    dimension_small _ (last-sized (list_at c.args.store.now c.args.l) c.in-Some.glue c.requires.sized (sym (c.in-Some.ensures ∙ ap last_glue same))).width
 
 pub negate-requires-clause-stretch : goal.negate-requires-clause-stretch
 negate-requires-clause-stretch c =
     let same = list-reserved c.args.store.now c.reserve.new.self c.args.l c.in_ok-reserve.ensures.lists in
-    dimension-small _ (last-sized (list_at c.args.store.now c.args.l) c.in-Some.glue c.requires.sized (sym (c.in-Some.ensures ∙ ap last_glue same))).stretch
+    dimension_small _ (last-sized (list_at c.args.store.now c.args.l) c.in-Some.glue c.requires.sized (sym (c.in-Some.ensures ∙ ap last_glue same))).stretch
 
 pub negate-requires-clause-shrink : goal.negate-requires-clause-shrink
 negate-requires-clause-shrink c =
     let same = list-reserved c.args.store.now c.reserve.new.self c.args.l c.in_ok-reserve.ensures.lists in
-    dimension-small _ (last-sized (list_at c.args.store.now c.args.l) c.in-Some.glue c.requires.sized (sym (c.in-Some.ensures ∙ ap last_glue same))).shrink
+    dimension_small _ (last-sized (list_at c.args.store.now c.args.l) c.in-Some.glue c.requires.sized (sym (c.in-Some.ensures ∙ ap last_glue same))).shrink
 
 pub returns-in-Some-clause-ok : goal.returns-in-Some-clause-ok
 returns-in-Some-clause-ok c =

@@ -1,4 +1,5 @@
 use Rattle.std.proofs.Common.{ap, ◌∙◌, ◌∷◌, [], ◌++◌, true, false}
+use Rattle.tb_builder.proofs.Handover.CallLemmas.{dimension_small}
 use Rattle.tb_scaled.specs.declared.Glue.{Glue}
 use Rattle.tb_pool.specs.Lists.{list_at, with_list}
 use Rattle.tb_node.specs.declared.Node.{Node}
@@ -6,17 +7,17 @@ use Rattle.tb_node.specs.declared.Kind.TheVariants as kinds
 use Rattle.tb_column.specs.FloatList.{made_node}
 use Rattle.tb_column.proofs.StoreLemmas.{with_list-added}
 use Rattle.tb_output.specs.PutBack.{here_list}
-use Rattle.tb_output.proofs.InText.PushLemmas.{pushed-first, dimension-small, grown-of}
+use Rattle.tb_output.proofs.InText.PushLemmas.{pushed-first, grown-of}
 use Rattle.tb_output.proofs.placing.push_here.Goals as goal
 
 pub negate-requires-clause-width : goal.negate-requires-clause-width
-negate-requires-clause-width c = dimension-small _ c.requires.parskip.width
+negate-requires-clause-width c = dimension_small _ c.requires.parskip.width
 
 pub negate-requires-clause-stretch : goal.negate-requires-clause-stretch
-negate-requires-clause-stretch c = dimension-small _ c.requires.parskip.stretch
+negate-requires-clause-stretch c = dimension_small _ c.requires.parskip.stretch
 
 pub negate-requires-clause-shrink : goal.negate-requires-clause-shrink
-negate-requires-clause-shrink c = dimension-small _ c.requires.parskip.shrink
+negate-requires-clause-shrink c = dimension_small _ c.requires.parskip.shrink
 
 pub returns-then-vert-clause-ok : goal.returns-then-vert-clause-ok
 returns-then-vert-clause-ok c =

@@ -1,5 +1,6 @@
 use Rattle.std.proofs.Common.{arith}
-use Rattle.tb_plain.proofs.WorkedLemmas.{extent_of, no_glue}
+use Rattle.tb_builder.proofs.Worked.WorkedLemmas.{extent_of}
+use Rattle.tb_plain.proofs.WorkedLemmas.{no_glue}
 use Rattle.tb_plain.proofs.tests.params.Goals as goal
 
 pub returns : goal.returns

@@ -6,9 +6,9 @@ use Rattle.tb_report.specs.Lines.{end_lines}
 use Rattle.tb_top.specs.Written.{viewed}
 use Rattle.tb_top.proofs.pages.finish.Goals as goal
 
-pub returns-in_err-show-in-Done-clause-refused : goal.returns-in_err-show-in-Done-clause-refused
-returns-in_err-show-in-Done-clause-refused g c =
-    let p = err_from_is_err_and c.from_residual-in_err-show-in-Done.result c.from_residual-in_err-show-in-Done.ensures.1 in
+pub returns-in_err-show-clause-refused : goal.returns-in_err-show-clause-refused
+returns-in_err-show-clause-refused g c =
+    let p = err_from_is_err_and c.from_residual-in_err-show.result c.from_residual-in_err-show.ensures.1 in
     let r = c.args.routine.now in
-    let text = c.deref.ensures.value ∙ c.in_ok-text-in-Done.ensures ∙ ap (λ l. end_lines (plain_list r.store l) c.args.totals.now) c.on_page.ensures in
-    rw (p.1, p.2) (inr (c.in-Done.is, c.in_err-show-in-Done.ensures.cause, subst (λ ls. AppendsPrefix (g.K.Sink.held c.args.out.now) (g.K.Sink.held c.show.new.out) (viewed c.args.view ls)) text c.in_err-show-in-Done.ensures.part))
+    let text = c.deref.ensures.value ∙ c.in_ok-text.ensures ∙ ap (λ l. end_lines (plain_list r.store l) c.args.totals.now) c.on_page.ensures in
+    rw (p.1, p.2) (inr (c.in_default.ensures.none, c.in_err-show.ensures.cause, subst (λ ls. AppendsPrefix (g.K.Sink.held c.args.out.now) (g.K.Sink.held c.show.new.out) (viewed c.args.view ls)) text c.in_err-show.ensures.part))

@@ -1,13 +1,14 @@
 use Rattle.std.proofs.Common.{ap, subst, Err}
 use Rattle.tb_words.specs.Words.{IsServed}
 use Rattle.std.proofs.lemmas.Result.{err_from_is_err_and}
-use Rattle.tb_top.proofs.Ends.Outcomes.{left_by_words, keeps-same}
+use Rattle.tb_io.proofs.Appended.{Keeps-refl}
+use Rattle.tb_top.proofs.Ends.Outcomes.{left_by_words}
 use Rattle.tb_top.proofs.top.serve.Goals as goal
 
 pub returns-in_err-mode-clause-stands : goal.returns-in_err-mode-clause-stands
 returns-in_err-mode-clause-stands g c =
     let p = err_from_is_err_and c.from_residual.result c.from_residual.ensures.1 in
-    rw (p.1, p.2) (left_by_words _ _ _ (keeps-same _) (keeps-same _) c.in_err-mode.field-0.0 (λ is. c.in_err-mode.ensures.refused (ap Err is)))
+    rw (p.1, p.2) (left_by_words _ _ _ (Keeps-refl _) (Keeps-refl _) c.in_err-mode.field-0.0 (λ is. c.in_err-mode.ensures.refused (ap Err is)))
 
 pub returns-in-Report-clause-stands : goal.returns-in-Report-clause-stands
 returns-in-Report-clause-stands g c = rw (c.in_ok-mode.ensures.asked, c.in-Report.is) c.write_report.ensures.stands
@@ -25,7 +26,7 @@ pub write_summary-requires : goal.write_summary-requires
 write_summary-requires g c = subst IsServed c.in-Generate.is c.in_ok-mode.ensures.served
 
 pub returns-in-Generate-clause-stands : goal.returns-in-Generate-clause-stands
-returns-in-Generate-clause-stands g c = rw (c.in_ok-mode.ensures.asked, c.in-Generate.is) (c.write_summary.ensures _ (keeps-same _))
+returns-in-Generate-clause-stands g c = rw (c.in_ok-mode.ensures.asked, c.in-Generate.is) (c.write_summary.ensures _ (Keeps-refl _))
 
 pub returns-in-Dvi-clause-stands : goal.returns-in-Dvi-clause-stands
 returns-in-Dvi-clause-stands g c = rw (c.in_ok-mode.ensures.asked, c.in-Dvi.is) c.write_dvi.ensures.stands

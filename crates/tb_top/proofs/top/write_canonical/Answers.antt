@@ -1,8 +1,9 @@
 use Rattle.std.proofs.Common.{◌∙◌, refl, subst, inl}
 use Rattle.std.proofs.lemmas.Result.{err_from_is_err_and}
 use Rattle.std.specs.Io.KnownBytes.{Appends}
+use Rattle.tb_io.proofs.Appended.{Keeps-refl}
 use Rattle.tb_words.specs.declared.Mode.TheVariants.{Print}
-use Rattle.tb_top.proofs.Ends.Outcomes.{text_well, replies_to, print_reads, keeps-same}
+use Rattle.tb_top.proofs.Ends.Outcomes.{text_well, replies_to, print_reads}
 use Rattle.tb_top.proofs.top.write_canonical.Goals as goal
 
 pub returns-clause-stands : goal.returns-clause-stands
@@ -15,4 +16,4 @@ returns-clause-stands g c =
 pub returns-in_err-text-clause-stands : goal.returns-in_err-text-clause-stands
 returns-in_err-text-clause-stands g c =
     let p = err_from_is_err_and c.from_residual-in_err-text.result c.from_residual-in_err-text.ensures.1 in
-    rw (p.1, p.2) (inl (keeps-same _), refl)
+    rw (p.1, p.2) (inl (Keeps-refl _), refl)

@@ -1,22 +1,23 @@
 use Rattle.std.proofs.Common.{◌∙◌, ap, sym, subst, Err}
 use Rattle.std.proofs.lemmas.Result.{err_from_is_err_and}
 use Rattle.std.specs.Io.KnownBytes.{Appends}
+use Rattle.tb_io.proofs.Appended.{Keeps-refl}
 use Rattle.tb_io.specs.Held.{AppendsPrefix}
 use Rattle.tb_lines.specs.Galley.{lines_galley, GivesGalley as GivesLines}
 use Rattle.tb_words.specs.declared.Mode.TheVariants.{Lines}
 use Rattle.tb_top.specs.Answer.{lines_reply}
-use Rattle.tb_top.proofs.Ends.Outcomes.{text_well, left_by_text, left_by_lines, left_unread, keeps-same}
+use Rattle.tb_top.proofs.Ends.Outcomes.{text_well, left_by_text, left_by_lines, left_unread}
 use Rattle.tb_top.proofs.top.write_lines.Goals as goal
 
 pub returns-in_err-input-clause-stands : goal.returns-in_err-input-clause-stands
 returns-in_err-input-clause-stands g c =
     let p = err_from_is_err_and c.from_residual.result c.from_residual.ensures.1 in
-    rw (p.1, p.2) (left_unread Lines _ _ (λ f. f) (keeps-same _) c.in_err-input.field-0.0 (λ is. c.in_err-input.ensures.failed (ap Err is)))
+    rw (p.1, p.2) (left_unread Lines _ _ (λ f. f) (Keeps-refl _) c.in_err-input.field-0.0 (λ is. c.in_err-input.ensures.failed (ap Err is)))
 
 pub returns-in_err-galley-clause-stands : goal.returns-in_err-galley-clause-stands
 returns-in_err-galley-clause-stands g c =
     let p = err_from_is_err_and c.from_residual-in_err-galley.result c.from_residual-in_err-galley.ensures.1 in
-    rw (p.1, p.2) (left_by_lines c.in_ok-input.input.items _ _ c.in_ok-input.ensures.read (keeps-same _) c.in_err-galley.field-0.0
+    rw (p.1, p.2) (left_by_lines c.in_ok-input.input.items _ _ c.in_ok-input.ensures.read (Keeps-refl _) c.in_err-galley.field-0.0
     (subst (λ bytes. GivesLines (Err c.in_err-galley.field-0.0) (lines_galley bytes)) c.deref.ensures.value c.in_err-galley.ensures.galley))
 
 pub returns-in_err-write_all-clause-stands : goal.returns-in_err-write_all-clause-stands

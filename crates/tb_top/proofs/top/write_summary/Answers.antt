@@ -3,7 +3,7 @@ use Rattle.std.proofs.lemmas.Result.{err_from_is_err_and}
 use Rattle.std.specs.Io.KnownBytes.{Appends}
 use Rattle.tb_io.specs.Faults.{Rose}
 use Rattle.tb_io.specs.Held.{AppendsPrefix}
-use Rattle.tb_io.proofs.Appended.{Appends-twice, prefix_on}
+use Rattle.tb_io.proofs.Appended.{Appends-twice, prefix_on, Keeps-refl, Keeps-nothing}
 use Rattle.tb_run.specs.Run.{run_of}
 use Rattle.tb_top.specs.declared.View.TheVariants as views
 use Rattle.tb_galley.specs.Valid.{IsValid}
@@ -13,13 +13,13 @@ use Rattle.tb_top.specs.Answer.{summary_line}
 use Rattle.tb_generator.specs.Generate.{generated}
 use Rattle.tb_top.specs.Report.{totals_of}
 use Rattle.tb_top.specs.Paginated.{Paginates, Refuses}
-use Rattle.tb_top.proofs.Ends.Outcomes.{left_by_run, summary_well, left_by_summary, appends-keeps, keeps-same}
+use Rattle.tb_top.proofs.Ends.Outcomes.{left_by_run, summary_well, left_by_summary}
 use Rattle.tb_top.proofs.top.write_summary.Goals as goal
 
 pub returns-in_err-galley : goal.returns-in_err-galley
 returns-in_err-galley g c source left =
     let p = err_from_is_err_and c.from_residual.result c.from_residual.ensures.1 in
-    rw (p.1, p.2) (inl (keeps-same _), refl)
+    rw (p.1, p.2) (inl (Keeps-refl _), refl)
 
 pub returns-in_err-totals : goal.returns-in_err-totals
 returns-in_err-totals g c source left =
@@ -32,7 +32,7 @@ returns-in_err-totals g c source left =
 pub returns-in_err-line : goal.returns-in_err-line
 returns-in_err-line g c source left =
     let p = err_from_is_err_and c.from_residual-in_err-line.result c.from_residual-in_err-line.ensures.1 in
-    rw (p.1, p.2) (inl (appends-keeps _ _ c.in_ok-totals.ensures.done.written), refl)
+    rw (p.1, p.2) (inl (Keeps-nothing _ _ c.in_ok-totals.ensures.done.written), refl)
 
 -- a count that rose after it did not fall
 rose-later : (a b c : ℕ) → a ≤ b → Rose b c → Rose a c
