@@ -1,8 +1,8 @@
 #!/usr/bin/env bash
 # Makes each allocation of a whole run of the program fail in turn, for galleys with footnotes, double floats, marginal
-# notes and floats, and prints how many of these runs ended as they may, as 'N of M': Done with the whole report, or
-# Memory (10) with a prefix of the report, and on standard error the line that says so. Fails where N is less than M.
-# Nothing is proved.
+# notes and floats, and in each mode, and prints how many of these runs ended as they may, as 'N of M': Done with all that
+# is written if none fails, or Memory (10) with a prefix of that, and on standard error the line that says so. Fails if N
+# is less than M. Nothing is proved.
 #
 # usage: bench/failing_memory.sh
 #
@@ -62,19 +62,44 @@ def article():
     return "galley 1\n" + "glue 0pt plus 1pt\nglue 3pt\n".join(boxes) + "end\n"
 
 
-GALLEYS = {
-    "footnote": galley(30, "box a 10 0 / foot / box f 20 0 / endfoot / end"),
-    "split footnote": galley(30, "box a 10 0 / foot / box f 10 0 / glue 0 / box g 11 0 / endfoot / end"),
-    "double float": galley(
+def figures():
+    """A footnote and floats at a top and in the text, for plain TeX's page makeup."""
+    return galley(
         100,
-        "twocolumn / box a 20 0 / float W 1 double t 30 par / float S 1 single ht 20 par / newpage / box b 10 0 / newpage / box c 10 0 / end",
+        "box a 20 0 / foot / box f 5 0 / endfoot / float F 1 single t 30 par / float H 1 single h 20 par / box b 40 0 / glue 3 / box c 40 0 / end",
+    )
+
+
+PARAGRAPH = "lines 1\nset hsize 186pt\npar p\n" + "word 60pt 7pt 2pt\nspace 3pt 2pt 1pt\n" * 9 + "word 60pt 7pt 0\nendpar\nend\n"
+
+# Of each run a name, the words of the command line, and what is read.
+RUNS = [
+    ("footnote", "", galley(30, "box a 10 0 / foot / box f 20 0 / endfoot / end")),
+    ("split footnote", "", galley(30, "box a 10 0 / foot / box f 10 0 / glue 0 / box g 11 0 / endfoot / end")),
+    (
+        "double float",
+        "",
+        galley(
+            100,
+            "twocolumn / box a 20 0 / float W 1 double t 30 par / float S 1 single ht 20 par / newpage / box b 10 0 / newpage / box c 10 0 / end",
+        ),
     ),
-    "marginal notes": galley(
-        100,
-        "set marginparpush 2 / box a 10 2 / margin m 8 4 8 4 par / box b 6 2 / margin n 8 4 8 4 par / newpage / box c 10 0 / margin q 8 4 8 4 par / end",
+    (
+        "marginal notes",
+        "",
+        galley(
+            100,
+            "set marginparpush 2 / box a 10 2 / margin m 8 4 8 4 par / box b 6 2 / margin n 8 4 8 4 par / newpage / box c 10 0 / margin q 8 4 8 4 par / end",
+        ),
     ),
-    "article page": article(),
-}
+    ("article page", "", article()),
+    ("article page, trace", "--mode trace", article()),
+    ("article page, print", "--mode print", article()),
+    ("article page, dvi", "--mode dvi", article()),
+    ("figures, plain", "--mode plain", figures()),
+    ("generated galley", "--mode gen --count 60", ""),
+    ("paragraph, lines", "--mode lines", PARAGRAPH),
+]
 
 
 def program():
@@ -97,13 +122,13 @@ def program():
     return text
 
 
-def run(text, number, read):
-    """Runs the program with its allocation of this number failing. Returns its status and what it wrote."""
+def run(text, number, words, read):
+    """Runs the program on these words with its allocation of this number failing. Returns its status and what it wrote."""
     file = f"{work}/program"
     with open(file, "wb") as out:
         out.write(text.replace(IN_CODE, number.to_bytes(4, "little")))
     os.chmod(file, 0o700)
-    ran = subprocess.run([file], input=read.encode(), capture_output=True, timeout=60)
+    ran = subprocess.run([file, *words.split()], input=read.encode(), capture_output=True, timeout=60)
     return ran.returncode, ran.stdout, ran.stderr
 
 
@@ -114,14 +139,14 @@ def told(line):
 
 text = program()
 failed = 0
-for name, read in GALLEYS.items():
-    status, report, line = run(text, NUMBER, read)
+for name, words, read in RUNS:
+    status, report, line = run(text, NUMBER, words, read)
     if status or told(line):
         sys.exit(f"{name}: status {status} where no allocation fails: {line.decode()}")
     number, last, wrong = 0, 0, 0
     while number < last + ENDED:
         number += 1
-        status, out, line = run(text, number, read)
+        status, out, line = run(text, number, words, read)
         if status == 0 and out == report and not told(line):
             continue
         last = number
