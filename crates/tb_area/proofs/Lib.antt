@@ -1,6 +1,6 @@
 pub mod DeferredLemmas
 pub mod ChoiceLemmas
 pub mod LawLemmas
-pub mod FillingLemmas
+pub mod DeferredWalks
 pub mod OrderLemmas
 pub mod FullLemmas

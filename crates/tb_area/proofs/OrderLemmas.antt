@@ -13,7 +13,7 @@ use Rattle.tb_float.specs.declared.Part.TheVariants as parts
 use Rattle.tb_float.specs.Lists.{FloatLists, has_class, floats_of, IsWaiting}
 use Rattle.tb_float.proofs.WaitingLemmas.{floats-with}
 use Rattle.tb_area.specs.Area.{AreaPlace, at_top, at_bottom, deferred, where_of, next_area_place, goes_double}
-use Rattle.tb_area.specs.Filling.{gone_to, still_before, filled, gone_double, still_single, doubled}
+use Rattle.tb_area.specs.Deferred.{gone_to, still_before, filled, gone_double, still_single, doubled}
 use Rattle.tb_area.specs.Laws.{HasNone, PassesNone, of_class, column_order, double_order}
 use Rattle.tb_area.proofs.LawLemmas.{next-laws, double-laws}
 

@@ -5,7 +5,7 @@ ghost use Rattle.tb_float.specs.declared.Suppress.{Suppress};
 ghost use Rattle.tb_float.specs.Lists.{has_class};
 ghost use Rattle.tb_float.specs.Ranges.{AreFloatParams, IsExtent};
 ghost use Rattle.tb_area.specs.Area.{may_enter, by_class, here_or_area, top_or_bottom, fits_above, bottom_or_deferred, goes_bottom, fits_below, where_of, next_place, double_place};
-ghost use Rattle.tb_area.specs.Required.{IsRequired};
+ghost use Rattle.tb_area.specs.RequiredRoom.{IsRequired};
 
 use crate::tries::{
     beyond, fits_bottom, fits_column, fits_top, goes_double, is_above_its_class, may_enter,

@@ -10,7 +10,7 @@ use Rattle.tb_scaled.specs.Scaled.{min_ℤ, awful_bad, eject_penalty}
 use Rattle.tb_node.specs.Shape.{Shape, box, glue, kern, penalty, other}
 use Rattle.tb_node.specs.Sums.{sums_of}
 use Rattle.tb_break.specs.declared.Best.{Best}
-use Rattle.tb_break.specs.Legal.{last_or, ends_lasting, begins_with_glue, split_penalty, legal_at}
+use Rattle.tb_break.specs.Places.{last_or, ends_lasting, begins_with_glue, split_penalty, legal_at}
 use Rattle.tb_break.specs.Cost.{page_badness}
 use Rattle.tb_break.specs.Best.{Breakpoint, best_or, least_cost, up_to_stop, is_stop}
 use Rattle.tb_break.specs.Split.{breakpoint_at, split_places, with_place, end_place, found_at, split_of}

@@ -6,9 +6,9 @@ use Rattle.std.proofs.lemmas.List.{length-map}
 use Rattle.tb_scaled.specs.Scaled.{eject_penalty}
 use Rattle.tb_node.specs.declared.Node.{Node}
 use Rattle.tb_node.specs.Shape.{Shape, box, glue, kern, penalty, other, is_discardable}
-use Rattle.tb_node.specs.Plain.{shape_of}
-use Rattle.tb_break.specs.Legal.{ends_lasting, begins_with_glue, split_penalty, legal_at}
-use Rattle.tb_break.specs.Finding.{penalty_by, is_glue}
+use Rattle.tb_node.specs.PlainNodes.{shape_of}
+use Rattle.tb_break.specs.Places.{ends_lasting, begins_with_glue, split_penalty, legal_at}
+use Rattle.tb_break.specs.SplitPlace.{penalty_by, is_glue}
 use Rattle.tb_break.proofs.FindLemmas.{legal_is, ends_with}
 
 begins_is : (n : Shape) (rest : List Shape) → begins_with_glue (n ∷ rest) ≡ is_glue n

@@ -4,7 +4,7 @@ pub mod BestLemmas
 pub mod ScanLemmas
 pub mod FindLemmas
 pub mod StoreLemmas
-pub mod PruneLemmas
+pub mod PageTopLemmas
 pub mod PlacesLemmas
 pub mod LegalLemmas
 pub mod LastLemmas

@@ -3,7 +3,7 @@ use Rattle.std.proofs.Common.{ℕ, ◌+◌, ◌≤◌, ℤ, Bool, true, false, L
 use Rattle.std.specs.Prelude.{int_le}
 use Rattle.std.specs.List.{AllByRecursion}
 use Rattle.tb_node.specs.Shape.{Shape}
-use Rattle.tb_break.specs.Legal.{last_or, split_penalty}
+use Rattle.tb_break.specs.Places.{last_or, split_penalty}
 use Rattle.tb_break.specs.Best.{Breakpoint, best_or, least_cost, up_to_stop, is_stop}
 use Rattle.tb_break.specs.Split.{split_places, with_place, end_place, split_place}
 

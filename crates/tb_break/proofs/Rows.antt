@@ -11,10 +11,10 @@ use Rattle.tb_node.specs.declared.Sums.{Sums}
 use Rattle.tb_node.specs.Shape.{Shape, box, glue, kern, penalty, other}
 use Rattle.tb_break.specs.declared.PlaceKind.TheVariants.{Skip}
 use Rattle.tb_break.specs.declared.Found.{Found}
-use Rattle.tb_break.specs.Legal.{legal_at}
+use Rattle.tb_break.specs.Places.{legal_at}
 use Rattle.tb_break.specs.Cost.{page_badness, cost_of_badness, cost_of}
 use Rattle.tb_break.specs.Split.{split_of}
-use Rattle.tb_break.specs.Prune.{pruned_list}
+use Rattle.tb_break.specs.PageTop.{pruned_list}
 
 -- of two glues of one cost the later is the place
 split_found : Found

@@ -5,7 +5,7 @@ use Rattle.tb_node.specs.Shape.{Shape}
 use Rattle.tb_node.specs.Sums.{sums_of}
 use Rattle.tb_break.specs.declared.Found.{Found}
 use Rattle.tb_break.specs.declared.Best.{Best}
-use Rattle.tb_break.specs.Legal.{legal_at}
+use Rattle.tb_break.specs.Places.{legal_at}
 use Rattle.tb_break.specs.Cost.{cost_of}
 use Rattle.tb_break.specs.Best.{Breakpoint}
 use Rattle.tb_break.specs.Split.{place_kind}

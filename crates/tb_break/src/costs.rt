@@ -2,7 +2,7 @@
 
 ghost use Rattle.std.specs.Prelude.{◌≡◌, ◌<ℤ◌, ◌≤ℤ◌, pos};
 ghost use Rattle.tb_scaled.specs.Scaled.{awful_bad};
-ghost use Rattle.tb_node.specs.Small.{IsAmount};
+ghost use Rattle.tb_node.specs.SmallAmounts.{IsAmount};
 ghost use Rattle.tb_break.specs.Cost.{stretches_infinitely, finite_stretch, page_badness, cost_of_badness, cost_of};
 
 use tb_node::Sums;

@@ -4,10 +4,10 @@ ghost use Rattle.std.specs.Prelude.{◌≡◌, ◌≤◌, ◌<ℤ◌, pos, lengt
 ghost use Rattle.tb_scaled.specs.Scaled.{eject_penalty};
 ghost use Rattle.tb_pool.specs.Lists.{IsLive, list_at};
 ghost use Rattle.tb_node.specs.Shape.{is_discardable};
-ghost use Rattle.tb_node.specs.Plain.{shape_of};
-ghost use Rattle.tb_node.specs.Small.{IsAmount, IsSmallShape};
-ghost use Rattle.tb_break.specs.Legal.{ends_lasting, begins_with_glue, legal_at};
-ghost use Rattle.tb_break.specs.Finding.{shapes, penalty_by, is_glue, kind_of_shape};
+ghost use Rattle.tb_node.specs.PlainNodes.{shape_of};
+ghost use Rattle.tb_node.specs.SmallAmounts.{IsAmount, IsSmallShape};
+ghost use Rattle.tb_break.specs.Places.{ends_lasting, begins_with_glue, legal_at};
+ghost use Rattle.tb_break.specs.SplitPlace.{shapes, penalty_by, is_glue, kind_of_shape};
 
 use crate::PlaceKind;
 use tb_node::{Kind, Node};

@@ -2,17 +2,17 @@
 use Rattle.std.specs.Prelude.{ℕ, ℤ, ◌+◌, Bool, true, false, List, [], ◌∷◌, ◌++◌, map, length, min, Option, Some, None, if◌then◌else◌}
 use Rattle.tb_pool.specs.Lists.{Lists, list_at}
 use Rattle.tb_node.specs.declared.Node.{Node}
-use Rattle.tb_node.specs.Plain.{Leaf, leaf_of, PlainKind, plain, ins, act, PlainNode, plain_list}
+use Rattle.tb_node.specs.PlainNodes.{Leaf, leaf_of, PlainKind, plain, ins, act, PlainNode, plain_list}
 use Rattle.tb_break.specs.Best.{Breakpoint}
-use Rattle.tb_break.specs.Prune.{pruned_nodes}
+use Rattle.tb_break.specs.PageTop.{pruned_nodes}
 use Rattle.tb_insert.specs.declared.Class.{Class}
 use Rattle.tb_insert.specs.Account.{Frozen, terms_after}
 use Rattle.tb_builder.specs.declared.Ask.{Ask}
 use Rattle.tb_builder.specs.declared.ClassList.{ClassList}
 use Rattle.tb_builder.specs.declared.Builder.{Builder}
-use Rattle.tb_builder.specs.Reached.{Reach, holds_box, reach_from}
-use Rattle.tb_builder.specs.Fired.{Boxed, content_of, class_boxes}
-use Rattle.tb_builder.specs.Places.{glue_first, page_places}
+use Rattle.tb_builder.specs.Reach.{Reach, holds_box, reach_from}
+use Rattle.tb_builder.specs.FiredPages.{Boxed, content_of, class_boxes}
+use Rattle.tb_builder.specs.LegalPlaces.{glue_first, page_places}
 
 -- the page so far, what waits, the class boxes in the order of the classes, the insertions that are held until
 -- `put_back`, the goal and the depth limit once they are frozen, and whether a stop was tried last

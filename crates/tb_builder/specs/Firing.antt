@@ -9,24 +9,24 @@ use Rattle.tb_node.specs.declared.Kind.{Kind}
 use Rattle.tb_node.specs.declared.Kind.TheVariants as kinds
 use Rattle.tb_scaled.specs.Scaled.{inf_penalty}
 use Rattle.tb_node.specs.Shape.{Shape, is_discardable}
-use Rattle.tb_node.specs.Plain.{Leaf, leaf_of, Inserted, inserted_of, PlainKind, ins, PlainNode, plain_of, on_line, without_insertions}
+use Rattle.tb_node.specs.PlainNodes.{Leaf, leaf_of, Inserted, inserted_of, PlainKind, ins, PlainNode, plain_of, on_line, without_insertions}
 use Rattle.tb_node.specs.Roles.{insertion_of_kind}
-use Rattle.tb_break.specs.Prune.{pruned_leaves}
+use Rattle.tb_break.specs.PageTop.{pruned_leaves}
 use Rattle.tb_insert.specs.declared.Account.{Account}
 use Rattle.tb_insert.specs.Account.{Frozen, Label, whole, split, late, labelled}
-use Rattle.tb_insert.specs.Running.{IsAccountOf}
+use Rattle.tb_insert.specs.AccountEntries.{IsAccountOf}
 use Rattle.tb_builder.specs.declared.Share.{Share}
 use Rattle.tb_builder.specs.declared.Share.TheVariants.{All, Front, Nothing}
 use Rattle.tb_builder.specs.declared.ClassList.{ClassList}
 use Rattle.tb_builder.specs.declared.Builder.{Builder}
-use Rattle.tb_builder.specs.Fired.{Boxed, content_of, unless_empty, box_after, held_insertions, with_spent_break}
+use Rattle.tb_builder.specs.FiredPages.{Boxed, content_of, unless_empty, box_after, held_insertions, with_spent_break}
 use Rattle.tb_builder.specs.Contents.{Contents, contents_of}
 use Rattle.tb_builder.specs.Leaving.{LeavesOthers}
-use Rattle.tb_builder.specs.Owned.{Lacks, inner_ids, ids_of, owned, IsOwned}
+use Rattle.tb_builder.specs.Ownership.{Lacks, inner_ids, ids_of, owned, IsOwned}
 use Rattle.tb_builder.specs.declared.Ask.{Ask}
 use Rattle.tb_builder.specs.declared.Page.{Page}
-use Rattle.tb_builder.specs.Next.{NodeFits, FiredIs}
-use Rattle.tb_builder.specs.Running.{IsSound}
+use Rattle.tb_builder.specs.PageEvents.{NodeFits, FiredIs}
+use Rattle.tb_builder.specs.Courses.{IsSound}
 
 -- the share of a label: an insertion that is split at its list's end gives all
 abbrev pub share_of : Label → Inserted → Share

@@ -3,7 +3,7 @@ use Rattle.std.specs.Prelude.{◌≡◌, ℕ}
 use Rattle.std.specs.FinMap.{get}
 use Rattle.tb_pool.specs.Lists.{Lists}
 use Rattle.tb_node.specs.declared.Node.{Node}
-use Rattle.tb_builder.specs.Owned.{Lacks, Ids, owned}
+use Rattle.tb_builder.specs.Ownership.{Lacks, Ids, owned}
 
 -- lists that are not the builder's stay as they are, and are still not its own, whether they are live or not
 pub record LeavesOthers (b : Ids) (s : Lists Node) (d : Ids) (t : Lists Node) : Type 0 where

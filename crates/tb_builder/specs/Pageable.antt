@@ -1,13 +1,13 @@
 -- Contents of which a page can be made: each node is sized, and there are not too many.
 use Rattle.std.specs.Prelude.{◌≡◌, ◌+◌, ◌≤◌, ℤ, pos, neg_ℤ, ◌≤ℤ◌, map, All}
 use Rattle.tb_node.specs.Fit.{IsDimension, IsExtent, IsPenalty, IsSized, IsSizedLeaf}
-use Rattle.tb_node.specs.Plain.{leaf_shape, Inserted, PlainKind, plain, ins, act, PlainNode, node_shape}
+use Rattle.tb_node.specs.PlainNodes.{leaf_shape, Inserted, PlainKind, plain, ins, act, PlainNode, node_shape}
 use Rattle.tb_node.specs.Sums.{size_of}
 use Rattle.tb_insert.specs.declared.Class.{Class}
 use Rattle.tb_builder.specs.declared.Ask.{Ask}
-use Rattle.tb_builder.specs.Fired.{Boxed, content_of}
+use Rattle.tb_builder.specs.FiredPages.{Boxed, content_of}
 use Rattle.tb_builder.specs.Contents.{Contents, frozen_of, node_count, box_count}
-use Rattle.tb_builder.specs.Owned.{ClassesFit}
+use Rattle.tb_builder.specs.Ownership.{ClassesFit}
 
 -- an insertion with sized nodes, whose height is the size of its list
 pub record IsSizedInserted (i : Inserted) : Type 0 where

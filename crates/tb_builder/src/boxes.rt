@@ -4,15 +4,15 @@ ghost use Rattle.std.specs.Prelude.{◌≡◌, ◌==◌, ◌≢◌, true, map, p
 ghost use Rattle.std.specs.FinMap.{get};
 ghost use Rattle.tb_pool.specs.Lists.{IsLive, Lists as StoreOf};
 ghost use Rattle.tb_node.specs.declared.Node.{Node as NodeOf};
-ghost use Rattle.tb_node.specs.Plain.{leaf_shape};
-ghost use Rattle.tb_builder.specs.Fired.{box_content, content_of, box_size as size_of_box};
+ghost use Rattle.tb_node.specs.PlainNodes.{leaf_shape};
+ghost use Rattle.tb_builder.specs.FiredPages.{box_content, content_of, box_size as size_of_box};
 ghost use Rattle.tb_builder.specs.Contents.{contents_of};
-ghost use Rattle.tb_builder.specs.Owned.{has_class, classes_of, ids_of, owned, Lacks, IsClassList};
-ghost use Rattle.tb_builder.specs.Running.{IsSound};
-ghost use Rattle.tb_builder.specs.Next.{SizesFit};
-ghost use Rattle.tb_builder.specs.Handed.{NoPage, with_void, Taken};
+ghost use Rattle.tb_builder.specs.Ownership.{has_class, classes_of, ids_of, owned, Lacks, IsClassList};
+ghost use Rattle.tb_builder.specs.Courses.{IsSound};
+ghost use Rattle.tb_builder.specs.PageEvents.{SizesFit};
+ghost use Rattle.tb_builder.specs.Contributions.{NoPage, with_void, Taken};
 
-use crate::measuring::list_size;
+use crate::sizes::list_size;
 use crate::{Builder, ClassList};
 use tb_node::Node;
 use tb_pool::{ListId, Lists};

@@ -5,14 +5,14 @@ ghost use Rattle.std.specs.Prelude.{◌≡◌, ◌<◌, ◌≤◌, ◌+◌, ◌+
 ghost use Rattle.std.specs.FinMap.{insert};
 ghost use Rattle.tb_pool.specs.Lists.{IsLive, list_at, with_list};
 ghost use Rattle.tb_node.specs.declared.Node.{Node as NodeOf};
-ghost use Rattle.tb_node.specs.Plain.{plain_of};
-ghost use Rattle.tb_builder.specs.Owned.{ids_of, IsOwned};
-ghost use Rattle.tb_builder.specs.Fired.{penalty_at, line_at};
+ghost use Rattle.tb_node.specs.PlainNodes.{plain_of};
+ghost use Rattle.tb_builder.specs.Ownership.{ids_of, IsOwned};
+ghost use Rattle.tb_builder.specs.FiredPages.{penalty_at, line_at};
 ghost use Rattle.tb_builder.specs.Contents.{contents_of};
-ghost use Rattle.tb_builder.specs.Running.{IsSound};
+ghost use Rattle.tb_builder.specs.Courses.{IsSound};
 ghost use Rattle.tb_builder.specs.Firing.{EachFits, spent_node_kind, spent_nodes, Cuts, Fires};
 
-use crate::moving::first_of;
+use crate::front_nodes::first_of;
 use crate::{Builder, Page};
 use std::alloc::AllocError;
 use tb_node::{Kind, Node};

@@ -4,13 +4,13 @@ ghost use Rattle.std.specs.Prelude.{◌≡◌, ◌+◌, ◌≤◌, ℕ, [], Some
 ghost use Rattle.std.specs.FinMap.{get};
 ghost use Rattle.tb_pool.specs.Lists.{IsLive, list_at};
 ghost use Rattle.tb_node.specs.Fit.{IsExtent};
-ghost use Rattle.tb_builder.specs.Owned.{Lacks, ids_of, owned};
+ghost use Rattle.tb_builder.specs.Ownership.{Lacks, ids_of, owned};
 ghost use Rattle.tb_builder.specs.Contents.{contents_of};
-ghost use Rattle.tb_builder.specs.Running.{IsSound};
+ghost use Rattle.tb_builder.specs.Courses.{IsSound};
 ghost use Rattle.tb_builder.specs.Pageable.{IsGoal};
-ghost use Rattle.tb_builder.specs.Worked.{IsMatter, BoxFits, AtRest, IsReady, waits};
+ghost use Rattle.tb_builder.specs.WorkedPages.{IsMatter, BoxFits, AtRest, IsReady, waits};
 
-use crate::measuring::list_size;
+use crate::sizes::list_size;
 use crate::{Ask, Builder, Event, Page, new_builder};
 use std::alloc::{AllocError, Global};
 use std::test::Fail;

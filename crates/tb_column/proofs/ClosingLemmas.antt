@@ -11,10 +11,10 @@ use Rattle.tb_pool.proofs.CallerLemmas.{list_same, live_same}
 use Rattle.tb_node.specs.declared.Node.{Node}
 use Rattle.tb_node.specs.declared.Kind.TheVariants as kinds
 use Rattle.tb_node.specs.declared.Sums.{Sums}
-use Rattle.tb_node.specs.Plain.{shape_of}
+use Rattle.tb_node.specs.PlainNodes.{shape_of}
 use Rattle.tb_node.specs.Sums.{last_depth, limited_depth, sums_of}
-use Rattle.tb_node.specs.Add.{added_node}
-use Rattle.tb_node.specs.Small.{IsAmount, IsSmall, IsSmallShape}
+use Rattle.tb_node.specs.NodeSums.{added_node}
+use Rattle.tb_node.specs.SmallAmounts.{IsAmount, IsSmall, IsSmallShape}
 use Rattle.tb_node.specs.Fit.{SumsFit, IsDimension, IsExtent, IsSized, IsSizedNode}
 use Rattle.tb_node.proofs.AddLemmas.{sums-append}
 use Rattle.tb_node.proofs.FitLemmas.{last_depth_extent, sums_fit, summable, whole_fits, sized-fits}
@@ -22,7 +22,7 @@ use Rattle.tb_param.specs.declared.Params.{Params}
 use Rattle.tb_float.specs.Ranges.{IsWithin}
 use Rattle.tb_column.specs.Column.{is_ragged}
 use Rattle.tb_column.specs.Page.{AreLeaves, IsPageList}
-use Rattle.tb_column.specs.TextList.{made_node, closing_by, closed_list}
+use Rattle.tb_column.specs.TextColumns.{made_node, closing_by, closed_list}
 use Rattle.tb_column.proofs.FloatLemmas.{leaves-append}
 
 kept_width : (limit d : ℤ) → pos 0 ≤ℤ limit → IsExtent d → IsDimension (neg_ℤ (min_ℤ d limit))

@@ -13,13 +13,13 @@ use Rattle.tb_node.specs.declared.Where.TheVariants as places
 use Rattle.tb_node.specs.declared.Float.{Float}
 use Rattle.tb_node.specs.Shape.{glue}
 use Rattle.tb_node.specs.Fit.{IsDimension, IsSized, IsSizedNode}
-use Rattle.tb_node.specs.Plain.{PlainNode, plain_of, made, skip}
+use Rattle.tb_node.specs.PlainNodes.{PlainNode, plain_of, made, skip}
 use Rattle.tb_param.specs.declared.Params.{Params}
 use Rattle.tb_float.specs.Pool.{marked_among}
 use Rattle.tb_float.specs.Ranges.{IsSizedFloat}
 use Rattle.tb_column.specs.declared.float_columns.PageGlue.{PageGlue}
 use Rattle.tb_column.specs.Column.{float_node, floats_with, floats_above, floats_below, floats_after}
-use Rattle.tb_column.specs.FloatList.{made_node, float_box, boxes_with, boxes_above, boxes_below, boxes_after, page_list, page_glue}
+use Rattle.tb_column.specs.FloatColumns.{made_node, float_box, boxes_with, boxes_above, boxes_below, boxes_after, page_list, page_glue}
 use Rattle.tb_column.specs.Page.{AreLeaves}
 use Rattle.tb_column.specs.Ranges.{IsSizedGlue, AreColumnParams}
 

@@ -16,9 +16,9 @@ use Rattle.tb_float.specs.Lists.{FloatLists}
 use Rattle.tb_column.specs.declared.NoteBox.{NoteBox}
 use Rattle.tb_column.specs.Page.{AreLeaves, IsPageList}
 use Rattle.tb_column.specs.Notes.{note_lists, IsNote, AreNotes}
-use Rattle.tb_column.specs.Changes.{AreJoined}
-use Rattle.tb_column.specs.FloatList.{boxes_below}
-use Rattle.tb_column.specs.TextList.{class_above, notes_list, top_list, bottom_list, text_list, closed_list, column_list}
+use Rattle.tb_column.specs.ColumnChanges.{AreJoined}
+use Rattle.tb_column.specs.FloatColumns.{boxes_below}
+use Rattle.tb_column.specs.TextColumns.{class_above, notes_list, top_list, bottom_list, text_list, closed_list, column_list}
 use Rattle.tb_column.proofs.StoreLemmas.{list-get, live-get}
 
 -- ---- lists that are as they were

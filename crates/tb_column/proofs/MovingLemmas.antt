@@ -16,14 +16,14 @@ use Rattle.tb_float.specs.declared.Part.{Part}
 use Rattle.tb_float.specs.declared.Part.TheVariants as parts
 use Rattle.tb_float.specs.Lists.{IsWaiting, entries_of, floats_of, float_entries, entry_count, without_place}
 use Rattle.tb_float.specs.Pool.{FloatPool, without_entry, without_entries, marks_of, marked_floats, unmarked_floats, first_marked}
-use Rattle.tb_float.specs.Marked.{without_marked}
+use Rattle.tb_float.specs.MarkedFloats.{without_marked}
 use Rattle.tb_float.specs.Rooms.{IsArea}
-use Rattle.tb_float.specs.Stored.{is_float}
+use Rattle.tb_float.specs.Shelves.{is_float}
 use Rattle.tb_float.proofs.ListLemmas.{length-without_place}
 use Rattle.tb_float.proofs.MarkLemmas.{first_marked-le, none-marked}
 use Rattle.tb_float.proofs.RetireLemmas.{one-left, all-left}
 use Rattle.tb_column.specs.declared.float_columns.PageGlue.{PageGlue}
-use Rattle.tb_column.specs.FloatList.{made_node, float_box, boxes_with, boxes_above, boxes_below, boxes_after, page_list}
+use Rattle.tb_column.specs.FloatColumns.{made_node, float_box, boxes_with, boxes_above, boxes_below, boxes_after, page_list}
 use Rattle.tb_column.proofs.StoreLemmas.{with_list-twice, with_list-added, with_list-same}
 
 -- two nodes were put at the end of a list that was changed before, and what is to come after them

@@ -12,8 +12,8 @@ use Rattle.tb_node.specs.declared.Node.{Node}
 use Rattle.tb_param.specs.declared.Params.{Params}
 use Rattle.tb_column.specs.declared.NoteBox.{NoteBox}
 use Rattle.tb_column.specs.Notes.{note_lists, AreRisingFrom, AreDistinct}
-use Rattle.tb_column.specs.Changes.{AreJoined}
-use Rattle.tb_column.specs.TextList.{class_above, above_length, above_count, notes_list}
+use Rattle.tb_column.specs.ColumnChanges.{AreJoined}
+use Rattle.tb_column.specs.TextColumns.{class_above, above_length, above_count, notes_list}
 use Rattle.tb_column.proofs.StoreLemmas.{list-get}
 
 -- ---- rising classes

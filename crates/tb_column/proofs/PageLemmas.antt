@@ -11,7 +11,7 @@ use Rattle.tb_node.specs.declared.Node.{Node}
 use Rattle.tb_node.specs.declared.Float.{Float}
 use Rattle.tb_node.specs.declared.Where.TheVariants as places
 use Rattle.tb_node.specs.Fit.{IsSizedNode}
-use Rattle.tb_node.specs.Plain.{plain_of, node_shape, shape_of, made, skip, plain_list}
+use Rattle.tb_node.specs.PlainNodes.{plain_of, node_shape, shape_of, made, skip, plain_list}
 use Rattle.tb_param.specs.declared.Params.{Params}
 use Rattle.tb_pack.specs.declared.Set.{Set}
 use Rattle.tb_pack.specs.Pack.{packed}
@@ -19,17 +19,17 @@ use Rattle.tb_float.specs.declared.Part.{Part}
 use Rattle.tb_float.specs.declared.Part.TheVariants as parts
 use Rattle.tb_float.specs.Lists.{FloatLists, IsWaiting, floats_of, entry_count}
 use Rattle.tb_float.specs.Pool.{FloatPool, marked_floats, unmarked_floats}
-use Rattle.tb_float.specs.Marked.{without_marked}
+use Rattle.tb_float.specs.MarkedFloats.{without_marked}
 use Rattle.tb_float.proofs.MarkLemmas.{marked-false}
 use Rattle.tb_float.specs.Ranges.{IsSizedFloat}
 use Rattle.tb_column.specs.declared.ColumnKind.TheVariants as column_kinds
 use Rattle.tb_column.specs.declared.float_columns.PageGlue.{PageGlue}
 use Rattle.tb_column.specs.Column.{floats_after, floats_column, float_column_of, pair_floats}
-use Rattle.tb_column.specs.Shown.{column_shown}
+use Rattle.tb_column.specs.StoredColumns.{column_shown}
 use Rattle.tb_column.specs.Page.{AreLeaves, IsPageList}
 use Rattle.tb_column.specs.Ranges.{AreColumnParams}
-use Rattle.tb_column.specs.Changes.{IsOpened}
-use Rattle.tb_column.specs.FloatList.{boxes_above, page_list, page_glue}
+use Rattle.tb_column.specs.ColumnChanges.{IsOpened}
+use Rattle.tb_column.specs.FloatColumns.{boxes_above, page_list, page_glue}
 use Rattle.tb_column.proofs.StoreLemmas.{with_list-twice}
 use Rattle.tb_column.proofs.ShownLemmas.{shapes-held}
 use Rattle.tb_column.proofs.FloatLemmas.{page_glue-sized, page_list-held, page_list-leaves, page_list-sized, page_list-length, boxes_above-held, boxes_above-leaves, boxes_above-sized, boxes_above-length}

@@ -9,7 +9,7 @@ use Rattle.tb_node.specs.declared.Kind.{Kind}
 use Rattle.tb_node.specs.declared.Kind.TheVariants as kinds
 use Rattle.tb_node.specs.declared.Where.TheVariants as places
 use Rattle.tb_node.specs.Sums.{limited_depth}
-use Rattle.tb_node.specs.Plain.{PlainNode, plain, plain_kind, plain_of, made, skip, matter_of, leaf_of, leaf_node, kind_shape, node_shape, shape_of_kind, shape_of, plain_list}
+use Rattle.tb_node.specs.PlainNodes.{PlainNode, plain, plain_kind, plain_of, made, skip, matter_of, leaf_of, leaf_node, kind_shape, node_shape, shape_of_kind, shape_of, plain_list}
 use Rattle.tb_param.specs.declared.Params.{Params}
 use Rattle.tb_pack.specs.declared.Set.{Set}
 use Rattle.tb_pack.specs.Pack.{packed}
@@ -18,10 +18,10 @@ use Rattle.tb_float.specs.Rooms.{column_height_of}
 use Rattle.tb_column.specs.declared.ColumnKind.TheVariants as column_kinds
 use Rattle.tb_column.specs.declared.NoteBox.{NoteBox}
 use Rattle.tb_column.specs.Column.{notes_under_rule, class_below, notes_below, closing_glue, text_nodes, text_column}
-use Rattle.tb_column.specs.Shown.{column_shown}
+use Rattle.tb_column.specs.StoredColumns.{column_shown}
 use Rattle.tb_column.specs.Page.{is_leaf_kind, AreLeaves}
 use Rattle.tb_column.specs.Notes.{note_shown, notes_shown, IsNote}
-use Rattle.tb_column.specs.TextList.{made_node, rule_above, class_above, notes_list, top_list, bottom_list, text_list, closing_by, column_list}
+use Rattle.tb_column.specs.TextColumns.{made_node, rule_above, class_above, notes_list, top_list, bottom_list, text_list, closing_by, column_list}
 use Rattle.tb_column.proofs.FloatLemmas.{boxes_above-held, boxes_below-held}
 
 -- ---- nodes

@@ -16,7 +16,7 @@ use Rattle.tb_column.specs.declared.NoteBox.{NoteBox}
 use Rattle.tb_column.specs.Page.{AreLeaves, IsPageList}
 use Rattle.tb_column.specs.Ranges.{IsSizedGlue, AreColumnParams}
 use Rattle.tb_column.specs.Notes.{note_count, IsNote}
-use Rattle.tb_column.specs.TextList.{made_node, rule_above, class_above, above_length, above_count, notes_list, top_list, bottom_list, text_list}
+use Rattle.tb_column.specs.TextColumns.{made_node, rule_above, class_above, above_length, above_count, notes_list, top_list, bottom_list, text_list}
 use Rattle.tb_column.proofs.FloatLemmas.{glue_sized, leaves-append, boxes_above-leaves, boxes_below-leaves, boxes_above-sized, boxes_below-sized, boxes_above-length, boxes_below-length}
 
 -- ---- what is above the insertions of a class

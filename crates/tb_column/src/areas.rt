@@ -5,10 +5,10 @@ ghost use Rattle.tb_pool.specs.Lists.{IsLive, list_at, with_list};
 ghost use Rattle.tb_float.specs.Lists.{floats_of};
 ghost use Rattle.tb_float.specs.Pool.{without_entries};
 ghost use Rattle.tb_float.specs.Rooms.{IsArea};
-ghost use Rattle.tb_float.specs.Stored.{is_float};
+ghost use Rattle.tb_float.specs.Shelves.{is_float};
 ghost use Rattle.tb_column.specs.Ranges.{IsSizedGlue};
-ghost use Rattle.tb_column.specs.FloatList.{boxes_with, boxes_above};
-ghost use Rattle.tb_column.specs.TextList.{top_list, bottom_list};
+ghost use Rattle.tb_column.specs.FloatColumns.{boxes_with, boxes_above};
+ghost use Rattle.tb_column.specs.TextColumns.{top_list, bottom_list};
 
 use crate::nodes::{push_float, push_made};
 use std::alloc::AllocError;

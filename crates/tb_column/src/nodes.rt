@@ -1,7 +1,7 @@
 //! Nodes that come from no galley item.
 ghost use Rattle.std.specs.Prelude.{◌≡◌, ◌+◌, ◌<◌, ◌++◌, ◌∷◌, []};
 ghost use Rattle.tb_pool.specs.Lists.{IsLive, list_at, with_list};
-ghost use Rattle.tb_column.specs.FloatList.{made_node, float_box};
+ghost use Rattle.tb_column.specs.FloatColumns.{made_node, float_box};
 
 use tb_node::{Float, Kind, Node, What, Where};
 use tb_pool::{ListId, Lists};

@@ -3,8 +3,8 @@ ghost use Rattle.std.specs.Prelude.{◌≡◌, ◌≢◌, ◌+◌, ◌≤◌, �
 ghost use Rattle.std.specs.FinMap.{insert};
 ghost use Rattle.tb_pool.specs.Lists.{IsLive, list_at, with_list};
 ghost use Rattle.tb_column.specs.Notes.{AreRisingFrom, AreNotes};
-ghost use Rattle.tb_column.specs.Changes.{AreJoined};
-ghost use Rattle.tb_column.specs.TextList.{rule_above, class_above, above_length, above_count, notes_list};
+ghost use Rattle.tb_column.specs.ColumnChanges.{AreJoined};
+ghost use Rattle.tb_column.specs.TextColumns.{rule_above, class_above, above_length, above_count, notes_list};
 
 use crate::NoteBox;
 use crate::nodes::push_made;

@@ -4,7 +4,7 @@ ghost use Rattle.std.specs.Prelude.{◌≡◌, ◌≢◌, length, IfOk};
 ghost use Rattle.tb_pool.specs.Lists.{IsLive, list_at};
 ghost use Rattle.tb_column.specs.Page.{IsPageList};
 ghost use Rattle.tb_column.specs.Ranges.{AreColumnParams, IsSizedGlue};
-ghost use Rattle.tb_column.specs.Changes.{IsOpened};
+ghost use Rattle.tb_column.specs.ColumnChanges.{IsOpened};
 
 use crate::nodes::push_made;
 use crate::{Column, ColumnKind, NoteBox, float_column, make_column, pair_tops};

@@ -7,7 +7,7 @@ use Rattle.tb_dvi.specs.declared.command.Mode.{Mode}
 use Rattle.tb_dvi.specs.declared.command.Mode.TheVariants as modes
 use Rattle.tb_dvi.specs.declared.lister.Lister.{Lister}
 use Rattle.tb_dvi.specs.Machine.{no_registers}
-use Rattle.tb_dvi.specs.Stepping.{IsWithin, IsBounded, IsBoundedMode, IsInBounds}
+use Rattle.tb_dvi.specs.Lister.{IsWithin, IsBounded, IsBoundedMode, IsInBounds}
 
 pub within-more : (k m : ℕ) (z : ℤ) → k ≤ m → IsWithin k z → IsWithin m z
 within-more k m z e h = record { low = omega (arith, ints, e, h.low); high = omega (arith, ints, e, h.high) }

@@ -2,10 +2,10 @@ pub mod Rows
 pub mod LawLemmas
 pub mod FileLaw
 pub mod ByteLemmas
-pub mod Joining
+pub mod JoinedTexts
 pub mod NearLemmas
 pub mod NumberLemmas
-pub mod PlacingLemmas
+pub mod PlacementLemmas
 pub mod PageLemmas
 pub mod BoundLemmas
 pub mod StepLemmas

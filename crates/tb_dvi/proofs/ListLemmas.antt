@@ -11,8 +11,8 @@ use Rattle.tb_dvi.specs.declared.DviCause.{DviCause}
 use Rattle.tb_dvi.specs.declared.DviCause.TheVariants as causes
 use Rattle.tb_dvi.specs.Machine.{Item, ended, State, Step, op_of, op_step, before, followed, run, pre_length, at_start, listed_after, listed}
 use Rattle.tb_dvi.specs.Listing.{item_line, listing}
-use Rattle.tb_dvi.specs.Refusing.{Misses}
-use Rattle.tb_dvi.specs.Stepping.{IsInBounds, state_of, CommandStops, Ends, CommandPasses}
+use Rattle.tb_dvi.specs.Refusal.{Misses}
+use Rattle.tb_dvi.specs.Lister.{IsInBounds, state_of, CommandStops, Ends, CommandPasses}
 use Rattle.tb_dvi.proofs.LawLemmas.{before-before, before-none}
 
 -- bytes that a command took are passed

@@ -1,7 +1,7 @@
 -- Numbers that are read byte by byte.
 use Rattle.std.proofs.Common.{◌≡◌, ◌∙◌, ap, sym, ℕ, zero, suc, ◌+◌, ◌*◌, ◌^◌, ◌<◌, ◌≤◌, List, length, drop, slice_index_or, arith, pow-suc}
 use Rattle.tb_dvi.specs.Machine.{number_after}
-use Rattle.tb_dvi.proofs.Joining.{drop-step}
+use Rattle.tb_dvi.proofs.JoinedTexts.{drop-step}
 
 -- what at most three bytes gave
 pub small-now : (n i len : ℕ) → i < len → len ≤ 4 → n < 256 ^ i → n < 16777216

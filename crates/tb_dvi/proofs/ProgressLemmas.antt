@@ -2,7 +2,7 @@
 use Rattle.std.proofs.Common.{◌≡◌, refl, ◌∙◌, ap, sym, ℕ, zero, suc, ◌+◌, ℤ, pos, negsuc, Bool, true, false, cond, ◌||◌, nat_lt, List, [], ◌∷◌, ◌++◌, length, flat_map, Some, None, append_assoc, append-nil, length-append, arith, lt-ltb}
 use Rattle.std.proofs.Math.Bool.{or-false}
 use Rattle.tb_dvi.specs.Placement.{Placement}
-use Rattle.tb_dvi.specs.declared.written.Progress.{Progress}
+use Rattle.tb_dvi.specs.declared.progress.Progress.{Progress}
 use Rattle.tb_dvi.specs.File.{Page, preamble, placement_bytes, page_bytes, pages_bytes, last_begin, has_any, post_bytes, file_front, file_bytes, is_too_far, first_too_far, pages_in_range}
 use Rattle.tb_dvi.specs.Progress.{at_first, with_page, AreInRange, HasWritten, bytes_by, run_bytes}
 use Rattle.tb_dvi.proofs.PageLemmas.{length-page, same-length}

@@ -5,7 +5,7 @@ use Rattle.std.specs.Fmt.{digits}
 use Rattle.tb_scaled.specs.declared.Glue.{Glue}
 use Rattle.tb_scaled.specs.declared.Order.TheVariants.{Normal}
 use Rattle.tb_node.specs.declared.What.TheVariants as what
-use Rattle.tb_node.specs.Plain.{hbox, skip, PlainNode, made}
+use Rattle.tb_node.specs.PlainNodes.{hbox, skip, PlainNode, made}
 use Rattle.tb_column.specs.declared.ColumnKind.TheVariants as kinds
 use Rattle.tb_column.specs.Column.{PlainSheet, one, column_of}
 use Rattle.tb_dvi.specs.declared.DviCause.TheVariants as causes

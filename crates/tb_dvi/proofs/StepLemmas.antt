@@ -3,7 +3,7 @@ use Rattle.std.proofs.Common.{◌≡◌, ◌∙◌, ap, sym, ℕ, List, [], ◌�
 use Rattle.tb_dvi.specs.declared.lister.Lister.{Lister}
 use Rattle.tb_dvi.specs.Machine.{Item, Step}
 use Rattle.tb_dvi.specs.Listing.{item_line}
-use Rattle.tb_dvi.specs.Stepping.{IsInBounds, Takes, CommandPasses}
+use Rattle.tb_dvi.specs.Lister.{IsInBounds, Takes, CommandPasses}
 use Rattle.tb_dvi.proofs.BoundLemmas.{more}
 
 -- nothing is listed

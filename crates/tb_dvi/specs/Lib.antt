@@ -2,8 +2,8 @@ pub mod Placement
 pub mod File
 pub mod Machine
 pub mod Listing
-pub mod Writing
-pub mod Refusing
-pub mod Stepping
+pub mod Page
+pub mod Refusal
+pub mod Lister
 pub mod Progress
 pub mod Runs

@@ -3,7 +3,7 @@ use Rattle.std.specs.Prelude.{ℕ, ℤ, pos, ◌+ℤ◌, List, [], ◌∷◌, �
 use Rattle.tb_node.specs.declared.Name.{Name}
 use Rattle.tb_node.specs.declared.What.{What}
 use Rattle.tb_node.specs.declared.What.TheVariants as what
-use Rattle.tb_node.specs.Plain.{Matter, hbox, rule, skip, kerned, pen, mark, note, whatsit, PlainKind, plain, ins, act, PlainNode, node_shape}
+use Rattle.tb_node.specs.PlainNodes.{Matter, hbox, rule, skip, kerned, pen, mark, note, whatsit, PlainKind, plain, ins, act, PlainNode, node_shape}
 use Rattle.tb_pack.specs.declared.Set.{Set}
 use Rattle.tb_pack.specs.Pack.{top_after}
 use Rattle.tb_column.specs.Column.{PlainColumn, PlainSheet, one, wide, two}

@@ -1,7 +1,7 @@
 //! The commands of a DVI file (TeX: The Program §583 to §586).
 ghost use Rattle.std.specs.Prelude.{◌≡◌, ◌≤◌, length, IfNone};
 ghost use Rattle.tb_dvi.specs.Machine.{op_of, is_due, op_size, refusal};
-ghost use Rattle.tb_dvi.specs.Stepping.{IsShort};
+ghost use Rattle.tb_dvi.specs.Lister.{IsShort};
 
 use crate::DviCause;
 use crate::numbers::special_size;

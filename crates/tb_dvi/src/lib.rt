@@ -1,28 +1,28 @@
 //! DVI files: what a run's pages show, written for a device, and a lister of such files.
 #![tactic(auto)]
 
-mod bytes;
 mod command;
+mod file;
 mod law;
 mod lister;
-mod moving;
+mod listing;
+mod moves;
 mod numbers;
 mod page;
-mod placing;
-mod refusing;
+mod placement;
+mod progress;
+mod refusal;
 mod runs;
 mod stack;
 #[cfg(test)]
 mod tests;
-mod text;
-mod written;
 
-pub use bytes::{post_bytes, pre_bytes, put_post};
+pub use file::{post_bytes, pre_bytes, put_post};
 pub use law::lists_its_pages;
 pub use lister::{ListFault, list};
 pub use page::{DviFault, Part, page_bytes, put_page, put_sheet};
-pub use refusing::{put_cause, put_far};
-pub use written::Progress;
+pub use progress::Progress;
+pub use refusal::{put_cause, put_far};
 
 /// Why a DVI file is refused.
 #[derive(Clone, Copy)]

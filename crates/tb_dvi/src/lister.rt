@@ -3,15 +3,15 @@ ghost use Rattle.std.specs.Prelude.{◌≡◌, ◌≤◌, ◌==◌, ◌+◌, suc
 ghost use Rattle.std.specs.List.{list_all};
 ghost use Rattle.tb_dvi.specs.Machine.{unsigned_number, pre_length, is_filling, is_end, op_of, op_size, op_step, page_step, between_step, end_step, whole_step, Item, listed};
 ghost use Rattle.tb_dvi.specs.Listing.{listing};
-ghost use Rattle.tb_dvi.specs.Stepping.{IsInBounds, IsBounded, IsShort, state_of, TakesOr, EndsOr, Steps};
-ghost use Rattle.tb_dvi.specs.Refusing.{Misses};
+ghost use Rattle.tb_dvi.specs.Lister.{IsInBounds, IsBounded, IsShort, state_of, TakesOr, EndsOr, Steps};
+ghost use Rattle.tb_dvi.specs.Refusal.{Misses};
 
 use crate::DviCause;
 use crate::command::{Mode, Op, Registers, op_of, op_size, refusal};
-use crate::moving::{moved, past_rule};
+use crate::listing::{put_end, put_page, put_rule, put_special};
+use crate::moves::{moved, past_rule};
 use crate::numbers::{signed_number, unsigned_number};
 use crate::stack::Stack;
-use crate::text::{put_end, put_page, put_rule, put_special};
 use std::alloc::{AllocError, Global};
 use tb_text::put;
 

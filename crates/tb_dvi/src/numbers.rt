@@ -1,7 +1,7 @@
 //! Numbers in the bytes of a file.
 ghost use Rattle.std.specs.Prelude.{◌≡◌, ◌≤◌, ◌<◌, ◌+◌, ◌^◌, ◌≤ℤ◌, take, length, pos};
 ghost use Rattle.tb_dvi.specs.Machine.{unsigned_number, signed_number};
-ghost use Rattle.tb_dvi.specs.Stepping.{IsWithin};
+ghost use Rattle.tb_dvi.specs.Lister.{IsWithin};
 
 /// A number without sign, of at most four bytes.
 #[tactic(auto, using(crate::proofs::NumberLemmas::number_steps))]

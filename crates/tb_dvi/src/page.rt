@@ -1,14 +1,14 @@
 //! The bytes of a page.
 ghost use Rattle.std.specs.Prelude.{◌≡◌, ◌≤◌, ◌<◌, ◌++◌, ℤ, pos, negsuc, ◌≤ℤ◌, All, false, IfOk, OnOk, IfErr};
 ghost use Rattle.tb_column.specs.Column.{one};
-ghost use Rattle.tb_column.specs.Shown.{column_shown, sheet_shown};
+ghost use Rattle.tb_column.specs.StoredColumns.{column_shown, sheet_shown};
 ghost use Rattle.tb_report.specs.Printable.{IsPrintable, IsPrintableSheet};
 ghost use Rattle.tb_dvi.specs.Placement.{part_placed, parts_placed};
-ghost use Rattle.tb_dvi.specs.Writing.{Writes, part_shown, parts_shown, parts_page, IsShowable, WritesPage, PutsPage, MissesPage};
+ghost use Rattle.tb_dvi.specs.Page.{Writes, part_shown, parts_shown, parts_page, IsShowable, WritesPage, PutsPage, MissesPage};
 ghost use Rattle.tb_dvi.specs.File.{sheet_page, page_start, page_bytes, is_too_far};
 
-use crate::bytes::{put_four, put_signed};
-use crate::placing::{PlaceFault, put_node};
+use crate::file::{put_four, put_signed};
+use crate::placement::{PlaceFault, put_node};
 use std::alloc::{AllocError, Global};
 use tb_column::{Column, Sheet};
 use tb_node::Node;

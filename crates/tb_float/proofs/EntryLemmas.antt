@@ -4,7 +4,7 @@ use Rattle.tb_node.specs.declared.Float.{Float}
 use Rattle.tb_float.specs.declared.Entry.{Entry}
 use Rattle.tb_float.specs.declared.Entry.TheVariants as entries
 use Rattle.tb_float.specs.Lists.{float_entries}
-use Rattle.tb_float.specs.Stored.{is_float}
+use Rattle.tb_float.specs.Shelves.{is_float}
 
 pub drop-entries : (k : ℕ) (fs : List Float) → drop k (float_entries fs) ≡ float_entries (drop k fs)
 drop-entries zero [] = refl

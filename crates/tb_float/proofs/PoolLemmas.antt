@@ -14,13 +14,13 @@ use Rattle.tb_float.specs.declared.Entry.TheVariants as entries
 use Rattle.tb_node.specs.declared.Float.{Float}
 use Rattle.tb_float.specs.declared.shelves.Shelves.{Shelves}
 use Rattle.tb_float.specs.declared.by_part.ByPart.{ByPart}
-use Rattle.tb_float.specs.SlotView.{SlotView}
+use Rattle.tb_float.specs.Slots.{SlotView}
 use Rattle.tb_float.specs.Lists.{IsWaiting, live_count, entries_of, floats_of, float_entries, float_before, floats_among, without_place, holds_notes}
 use Rattle.tb_float.specs.Pool.{FloatPool, marks_of, with_marks_of, without_marks, joined_before, with_float_at, with_mark, with_current, with_floats_after, with_floats_before, without_entry, without_entries}
 use Rattle.tb_float.specs.Ranges.{IsSizedEntry, IsRoom, IsExtent}
 use Rattle.tb_float.specs.Rooms.{total_height}
 use Rattle.tb_float.specs.ByPart.{of_part, with_part}
-use Rattle.tb_float.specs.Stored.{shelf_of, slots_of, seen_pool, seen_lists, entries_in, floats_in, marks_in, slot_count, is_float, unmarked_slot, IsSlotOf, AreSlotsOf, IsStored}
+use Rattle.tb_float.specs.Shelves.{shelf_of, slots_of, seen_pool, seen_lists, entries_in, floats_in, marks_in, slot_count, is_float, unmarked_slot, IsSlotOf, AreSlotsOf, IsStored}
 use Rattle.tb_float.proofs.ListLemmas.{length-without_place}
 use Rattle.tb_float.proofs.PartLemmas.{put, put-other, with_part-same}
 use Rattle.tb_float.proofs.SlotLemmas.{slot-of_entry, bare-shown, slots-unmarked, slots-set, floats_in-unmarked, marks-unmarked, marks-none, total-set, entries-set_same, length-floats_in, slots-append, slots-without, slot-there, slots-bare, entries-bare, marks-bare, AreBare, floats_in-append, total_height-append, total-without}

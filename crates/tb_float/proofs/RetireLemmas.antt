@@ -5,7 +5,7 @@ use Rattle.tb_node.specs.declared.Float.{Float}
 use Rattle.tb_float.specs.declared.Part.{Part}
 use Rattle.tb_float.specs.Lists.{IsWaiting, floats_of, with_floats_of}
 use Rattle.tb_float.specs.Pool.{FloatPool, marks_of, with_marks_of, with_contents, without_entry, marked_among, marked_floats, unmarked_floats}
-use Rattle.tb_float.specs.Marked.{without_marked}
+use Rattle.tb_float.specs.MarkedFloats.{without_marked}
 use Rattle.tb_float.proofs.WaitingLemmas.{with-floats-same, with-marks-same, contents-again, contents-waiting}
 
 no-marks : (ms : List Bool) (fs : List Float) → length ms ≡ length fs → marked_among ms fs ≡ [] → ms ≡ replicate (length fs) false

@@ -6,8 +6,8 @@ use Rattle.tb_pool.specs.Lists.{Lists, IsLive, list_at, with_list}
 use Rattle.tb_pool.proofs.MapLemmas.{get-insert_same, get-insert_other, list_steps}
 use Rattle.tb_float.specs.declared.Part.{Part}
 use Rattle.tb_float.specs.declared.shelves.Shelves.{Shelves}
-use Rattle.tb_float.specs.SlotView.{SlotView}
-use Rattle.tb_float.specs.Stored.{shelf_of, slots_of, AreShelves}
+use Rattle.tb_float.specs.Slots.{SlotView}
+use Rattle.tb_float.specs.Shelves.{shelf_of, slots_of, AreShelves}
 use Rattle.tb_float.proofs.PartLemmas.{part_index, part_index-apart, part_cases, part_values, value-at, put, put-same, put-other}
 
 -- ---- opening

@@ -9,12 +9,12 @@ use Rattle.tb_node.specs.declared.Float.{Float}
 use Rattle.tb_float.specs.declared.Part.{Part}
 use Rattle.tb_float.specs.declared.Entry.{Entry}
 use Rattle.tb_float.specs.declared.Entry.TheVariants as entries
-use Rattle.tb_float.specs.SlotView.{SlotView}
+use Rattle.tb_float.specs.Slots.{SlotView}
 use Rattle.tb_float.specs.Lists.{has_class, float_before, floats_among, float_entries, without_place, holds_notes, holds_marks}
 use Rattle.tb_float.specs.Ranges.{IsSizedEntry, IsSizedFloat}
 use Rattle.tb_float.specs.Rooms.{total_height}
-use Rattle.tb_float.specs.Spans.{IsSumOf}
-use Rattle.tb_float.specs.Stored.{entries_in, floats_in, marks_in, is_float, IsSlotOf, AreSlotsOf, unmarked_slot}
+use Rattle.tb_float.specs.Heights.{IsSumOf}
+use Rattle.tb_float.specs.Shelves.{entries_in, floats_in, marks_in, is_float, IsSlotOf, AreSlotsOf, unmarked_slot}
 
 -- a slot that shows no float of the class is passed
 pub class-passed : (k n : ℕ) (s : SlotView) (ss : List SlotView) → n ≢ 0 → has_class k (float_before s.entry []) ≡ false → has_class k (floats_in (take n (s ∷ ss))) ≡ has_class k (floats_in (take (n - 1) ss))

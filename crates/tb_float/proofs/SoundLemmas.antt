@@ -12,13 +12,13 @@ use Rattle.tb_float.specs.declared.Entry.{Entry}
 use Rattle.tb_float.specs.declared.Entry.TheVariants as entries
 use Rattle.tb_float.specs.declared.shelves.Shelves.{Shelves}
 use Rattle.tb_float.specs.declared.by_part.ByPart.{ByPart}
-use Rattle.tb_float.specs.SlotView.{SlotView}
+use Rattle.tb_float.specs.Slots.{SlotView}
 use Rattle.tb_float.specs.Lists.{sum_of_lists, live_count, entry_count, entries_of, floats_of, float_entries, float_before, without_place, IsWaiting, holds_notes}
 use Rattle.tb_float.specs.Pool.{marks_of, with_contents, without_entry, with_floats_after, with_floats_before, without_entries, with_float_at}
 use Rattle.tb_float.specs.Ranges.{IsRoom}
 use Rattle.tb_float.specs.Rooms.{total_height}
 use Rattle.tb_float.specs.ByPart.{of_part, with_part}
-use Rattle.tb_float.specs.Stored.{shelf_of, slots_of, AreShelves, entries_in, floats_in, marks_in, seen_lists, seen_pool, is_float, AreSlotsOf, slot_count, AreSound, HasPlaces, IsStored}
+use Rattle.tb_float.specs.Shelves.{shelf_of, slots_of, AreShelves, entries_in, floats_in, marks_in, seen_lists, seen_pool, is_float, AreSlotsOf, slot_count, AreSound, HasPlaces, IsStored}
 use Rattle.tb_float.proofs.ListLemmas.{map-without_place}
 use Rattle.tb_float.proofs.PartLemmas.{part_cases, put, put-same, put-other, part-same, part-other}
 use Rattle.tb_float.proofs.WaitingLemmas.{marks-given, contents-same}

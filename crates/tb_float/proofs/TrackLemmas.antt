@@ -11,10 +11,10 @@ use Rattle.tb_float.specs.declared.Entry.TheVariants as entries
 use Rattle.tb_float.specs.declared.shelves.Shelves.{Shelves}
 use Rattle.tb_float.specs.declared.by_part.ByPart.{ByPart}
 use Rattle.tb_float.specs.declared.classes.ClassSet.{ClassSet}
-use Rattle.tb_float.specs.SlotView.{SlotView}
+use Rattle.tb_float.specs.Slots.{SlotView}
 use Rattle.tb_float.specs.Lists.{FloatLists, entries_of, live_count, floats_of, floats_among, float_before, float_entries, without_place, no_floats, IsWaiting}
 use Rattle.tb_float.specs.Classes.{AreKnown, Tracks, chosen_count}
-use Rattle.tb_float.specs.Stored.{seen_pool, slots_of, IsStored, IsPooled}
+use Rattle.tb_float.specs.Shelves.{seen_pool, slots_of, IsStored, IsPooled}
 use Rattle.tb_float.specs.Pool.{FloatPool, marks_of, marked_among, marked_floats, with_contents, with_current, with_floats_after, without_entry, without_entries, without_marks, moved_float, joined_before, with_float_at, with_mark, with_marks_of}
 use Rattle.tb_float.proofs.WaitingLemmas.{HasAllMarks, marks-count, lists-marked}
 use Rattle.tb_float.proofs.MarkLemmas.{marked-none, marked-false, marked-append, marks-without_entry, length-replicate_false}

@@ -17,7 +17,7 @@ impl<'a> Model for Entries<'a> {
 
     ghost Value = { List Entry };
 
-    ghost use Rattle.tb_float.specs.Stored.{entries_in};
+    ghost use Rattle.tb_float.specs.Shelves.{entries_in};
 
     ghost view = { λ it. entries_in it.slots };
 }

@@ -2,7 +2,7 @@
 ghost use Rattle.std.specs.Prelude.{◌≡◌, [], IfOk};
 ghost use Rattle.std.specs.FinMap.{empty};
 ghost use Rattle.tb_float.specs.declared.Part.{Part};
-ghost use Rattle.tb_float.specs.Stored.{slots_of, AreShelves};
+ghost use Rattle.tb_float.specs.Shelves.{slots_of, AreShelves};
 
 use crate::Slot;
 use crate::by_part::ByPart;

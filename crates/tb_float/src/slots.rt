@@ -2,11 +2,11 @@
 ghost use Rattle.std.specs.Prelude.{◌≡◌, ◌≢◌, ◌+◌, ◌<◌, ◌≤◌, [], ◌∷◌, ◌++◌, Some, IsTrue, length, true, map, slice_get, slice_set, take};
 ghost use Rattle.std.specs.FinMap.{insert};
 ghost use Rattle.tb_pool.specs.Lists.{IsLive, list_at, with_list};
-ghost use Rattle.tb_float.specs.SlotView.{SlotView};
+ghost use Rattle.tb_float.specs.Slots.{SlotView};
 ghost use Rattle.tb_float.specs.Lists.{without_place, has_class, float_before};
 ghost use Rattle.tb_float.specs.Pool.{first_marked};
 ghost use Rattle.tb_float.specs.Rooms.{total_height};
-ghost use Rattle.tb_float.specs.Stored.{unmarked_slot, floats_in, marks_in, is_float};
+ghost use Rattle.tb_float.specs.Shelves.{unmarked_slot, floats_in, marks_in, is_float};
 
 use crate::{Entry, Slot};
 use tb_node::Float;

@@ -9,7 +9,7 @@ use Rattle.tb_float.specs.declared.classes.ClassSet.{ClassSet}
 use Rattle.tb_float.specs.Classes.{AreClassesOf}
 use Rattle.tb_fpage.specs.declared.Wanted.{Wanted}
 use Rattle.tb_fpage.specs.Company.{Choice, wanted_of, choices_from, company, company_from, joins}
-use Rattle.tb_fpage.specs.Walked.{company_of_place, is_made_at, after_head, head_choices, EndsBy, CompanyEndsBy, IsWalkOf, IsOnWay, AreTried, IsAfterHead}
+use Rattle.tb_fpage.specs.Walk.{company_of_place, is_made_at, after_head, head_choices, EndsBy, CompanyEndsBy, IsWalkOf, IsOnWay, AreTried, IsAfterHead}
 use Rattle.tb_fpage.specs.declared.walk.Walk.{Walk}
 use Rattle.tb_fpage.proofs.WalkLemmas.{head-stands}
 

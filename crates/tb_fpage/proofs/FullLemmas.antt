@@ -10,7 +10,7 @@ use Rattle.tb_float.proofs.HasLemmas.{has-first, has-later, has-more, has-drop}
 use Rattle.tb_fpage.specs.declared.Wanted.{Wanted}
 use Rattle.tb_fpage.specs.declared.walk.Walk.{Walk}
 use Rattle.tb_fpage.specs.Company.{Choice, passed_over, company_height, suits, joins, choices_from, left_floats, is_made, company_of_head, company_from, company}
-use Rattle.tb_fpage.specs.Walked.{EndsBy, IsOnWay, AreTried}
+use Rattle.tb_fpage.specs.Walk.{EndsBy, IsOnWay, AreTried}
 use Rattle.tb_fpage.proofs.WalkLemmas.{all-chosen, left-append, company-passed, ends-passed}
 
 -- ---- classes in lists

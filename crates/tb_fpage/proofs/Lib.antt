@@ -2,6 +2,6 @@ pub mod CompanyLemmas
 pub mod LawLemmas
 pub mod WalkLemmas
 pub mod FirstLemmas
-pub mod ChosenLemmas
+pub mod ChoiceLemmas
 pub mod MarkingLemmas
 pub mod FullLemmas

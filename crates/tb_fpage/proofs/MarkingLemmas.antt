@@ -12,7 +12,7 @@ use Rattle.tb_float.proofs.WaitingLemmas.{marks-with, lists-marked}
 use Rattle.tb_fpage.specs.declared.Wanted.{Wanted}
 use Rattle.tb_fpage.specs.declared.walk.Walk.{Walk}
 use Rattle.tb_fpage.specs.Company.{Choice, choices_from, company, joins}
-use Rattle.tb_fpage.specs.Walked.{IsWalkOf, has_chosen, CompanyEndsBy, IsAfterHead, IsMarking, head_choices, company_of_place}
+use Rattle.tb_fpage.specs.Walk.{IsWalkOf, has_chosen, CompanyEndsBy, IsAfterHead, IsMarking, head_choices, company_of_place}
 use Rattle.tb_fpage.proofs.WalkLemmas.{left-next, on-way-ends, on-way-end}
 
 -- ---- marks

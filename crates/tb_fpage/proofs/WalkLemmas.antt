@@ -15,7 +15,7 @@ use Rattle.tb_float.specs.Ranges.{IsWithin}
 use Rattle.tb_fpage.specs.declared.Wanted.{Wanted}
 use Rattle.tb_fpage.specs.declared.walk.Walk.{Walk}
 use Rattle.tb_fpage.specs.Company.{Choice, passed_over, all_chosen, separated, company_height, suits, joins, choices_from, left_floats}
-use Rattle.tb_fpage.specs.Walked.{has_chosen, EndsBy, head_choices, after_head, IsWalkOf, IsOnWay, taken, passed}
+use Rattle.tb_fpage.specs.Walk.{has_chosen, EndsBy, head_choices, after_head, IsWalkOf, IsOnWay, taken, passed}
 
 -- ---- one more choice at the end
 

@@ -5,7 +5,7 @@ ghost use Rattle.tb_float.specs.Classes.{AreClassesOf, HasLeft};
 ghost use Rattle.tb_float.specs.Lists.{has_class};
 ghost use Rattle.tb_float.specs.Ranges.{IsWithin};
 ghost use Rattle.tb_fpage.specs.Company.{Choice, suits, joins};
-ghost use Rattle.tb_fpage.specs.Walked.{IsWalkOf, after_head, taken, passed};
+ghost use Rattle.tb_fpage.specs.Walk.{IsWalkOf, after_head, taken, passed};
 
 use crate::Wanted;
 use tb_float::ClassSet;

@@ -10,9 +10,9 @@ use Rattle.tb_galley.specs.declared.Cause.{Cause}
 use Rattle.tb_galley.specs.declared.Cause.TheVariants as causes
 use Rattle.tb_galley.specs.declared.fields.At.{At}
 use Rattle.tb_galley.specs.Faults.{is_printable}
-use Rattle.tb_galley.specs.Values.{cause_of_read}
+use Rattle.tb_galley.specs.Fields.{cause_of_read}
 use Rattle.tb_galley.specs.Grammar.{read_or}
-use Rattle.tb_galley.specs.Reading.{Left, next_left, next_by, printed, settled, at_fault, dimension_left, stretch_left, least_left, ◌>>=◌}
+use Rattle.tb_galley.specs.FieldReader.{Left, next_left, next_by, printed, settled, at_fault, dimension_left, stretch_left, least_left, ◌>>=◌}
 use Rattle.tb_galley.proofs.VisibleFields.{dimension_visible}
 
 module _ (l : Left) (f : List ℕ) (fs : List (List ℕ)) (at : l.fields ≡ f ∷ fs) where

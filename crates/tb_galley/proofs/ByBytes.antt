@@ -12,13 +12,13 @@ use Rattle.tb_text.proofs.LineTexts.{lines_of-first, lines_of-last}
 use Rattle.tb_galley.specs.declared.Fault.{Fault}
 use Rattle.tb_galley.specs.declared.Cause.TheVariants as causes
 use Rattle.tb_galley.specs.Words.{Phase, Known}
-use Rattle.tb_galley.specs.Reading.{at_fault}
+use Rattle.tb_galley.specs.FieldReader.{at_fault}
 use Rattle.tb_galley.specs.Line.{line_left}
-use Rattle.tb_galley.specs.Machine.{State, known_in, take_said, said_first, said_unless}
+use Rattle.tb_galley.specs.GalleyReader.{State, known_in, take_said, said_first, said_unless}
 use Rattle.tb_galley.specs.Unfinished.{kept_line}
 use Rattle.tb_galley.specs.declared.pieces.Progress.TheVariants.{Lines, TooLong, OutOfMemory}
 use Rattle.tb_galley.specs.Pieces.{Progress, with_byte, take_byte, line_ended, with_last}
-use Rattle.tb_galley.proofs.Kept.{kept-append, kept_short, kept_nothing, length-kept}
+use Rattle.tb_galley.proofs.UnfinishedLines.{kept-append, kept_short, kept_nothing, length-kept}
 
 -- ---- a line that is too long is too long whatever its bytes are
 

@@ -8,7 +8,7 @@ use Rattle.tb_galley.specs.declared.contents.Content.TheVariants as contents
 use Rattle.tb_galley.specs.declared.classes.ClassLine.{ClassLine}
 use Rattle.tb_galley.specs.Words.{class_line, word_here, among_sets}
 use Rattle.tb_galley.specs.Grammar.{with_class}
-use Rattle.tb_galley.specs.Machine.{State}
+use Rattle.tb_galley.specs.GalleyReader.{State}
 use Rattle.tb_galley.specs.Valid.{is_class, do_classes_rise}
 use Rattle.tb_galley.specs.ReadBack.{unnumbered_class}
 use Rattle.tb_galley.proofs.SoundLines.{drafted}

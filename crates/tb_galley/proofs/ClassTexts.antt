@@ -12,8 +12,8 @@ use Rattle.tb_galley.specs.declared.Cause.TheVariants as causes
 use Rattle.tb_galley.specs.declared.contents.Content.TheVariants as contents
 use Rattle.tb_galley.specs.declared.classes.ClassLine.{ClassLine}
 use Rattle.tb_galley.specs.Words.{class_line, foot, Known, number_or}
-use Rattle.tb_galley.specs.Values.{range_slot, class_slot, is_class_among, is_foot_class}
-use Rattle.tb_galley.specs.Print.{class_text}
+use Rattle.tb_galley.specs.Fields.{range_slot, class_slot, is_class_among, is_foot_class}
+use Rattle.tb_galley.specs.CanonicalText.{class_text}
 use Rattle.tb_text.specs.Fields.{and_number, and_count}
 use Rattle.tb_galley.specs.Valid.{is_size, is_class}
 use Rattle.tb_galley.proofs.FieldTexts.{IsFit, AllFit, tail_text}

@@ -8,9 +8,9 @@ use Rattle.tb_galley.specs.declared.Cause.{Cause}
 use Rattle.tb_galley.specs.declared.Cause.TheVariants as causes
 use Rattle.tb_galley.specs.declared.fields.At.{At}
 use Rattle.tb_galley.specs.Faults.{is_printable}
-use Rattle.tb_galley.specs.Values.{least_slot, slot_cause, text_cause, cause_of_read}
+use Rattle.tb_galley.specs.Fields.{least_slot, slot_cause, text_cause, cause_of_read}
 use Rattle.tb_galley.specs.Grammar.{read_or}
-use Rattle.tb_galley.specs.Reading.{Left, ◌>>=◌, next_by, printed, settled, at_fault, dimension_in, least_left}
+use Rattle.tb_galley.specs.FieldReader.{Left, ◌>>=◌, next_by, printed, settled, at_fault, dimension_in, least_left}
 
 -- what is read by a field that was found
 abbrev settled_at : ℤ → Cause → ℕ → List ℕ × Left → Result (ℤ × Left) At

@@ -15,12 +15,12 @@ use Rattle.tb_galley.specs.Words.{word_passes, is_item_word}
 use Rattle.tb_galley.specs.Line.{Said, line_left}
 use Rattle.tb_galley.specs.Faults.{fault}
 use Rattle.tb_galley.specs.Grammar.{grammar, spelled, input_limit}
-use Rattle.tb_galley.specs.Machine.{State, start, known_in, take_said, said_first, said_unless, verdict, Answers}
+use Rattle.tb_galley.specs.GalleyReader.{State, start, known_in, take_said, said_first, said_unless, verdict, Answers}
 use Rattle.tb_galley.specs.Valid.{IsValid}
 use Rattle.tb_galley.specs.declared.pieces.Progress.TheVariants.{Lines, TooLong, OutOfMemory}
 use Rattle.tb_galley.specs.Pieces.{Progress, Reading, with_byte, take_byte, with_last, count_after, fed, fed_more, Reaches, IsReached, HasRoom}
 use Rattle.tb_galley.proofs.SameStep.{left_exact}
-use Rattle.tb_galley.proofs.Sound.{valid_galley}
+use Rattle.tb_galley.proofs.SoundReaders.{valid_galley}
 use Rattle.tb_galley.proofs.ByBytes.{closed, closed_text}
 
 -- ---- what is returned at the end

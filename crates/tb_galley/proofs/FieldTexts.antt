@@ -8,13 +8,13 @@ use Rattle.tb_text.proofs.LineTexts.{fields_of-first, fields_of-last, is_line_by
 use Rattle.tb_galley.specs.declared.Cause.{Cause}
 use Rattle.tb_galley.specs.declared.Cause.TheVariants as causes
 use Rattle.tb_galley.specs.Words.{LineWord, Phase, line_at, content_at, word_of, Known, word_here}
-use Rattle.tb_galley.specs.Values.{Slot, slot_cause, word_slots}
+use Rattle.tb_galley.specs.Fields.{Slot, slot_cause, word_slots}
 use Rattle.tb_galley.specs.Faults.{is_printable, cause_if, causes_in, ascii_causes, value_causes, missing_cause, place_causes, item_causes}
 use Rattle.tb_galley.specs.Grammar.{Draft, with_content, content_of}
-use Rattle.tb_galley.specs.Reading.{◌>>=◌, at_fault, settled}
+use Rattle.tb_galley.specs.FieldReader.{◌>>=◌, at_fault, settled}
 use Rattle.tb_galley.specs.Line.{first_of, said, worded_left, content_line, content_lines, line_left}
-use Rattle.tb_galley.specs.Machine.{State, known_in, next_phase, count_with, said_unless, take_said}
-use Rattle.tb_galley.proofs.Slots.{first_at, settle, reads}
+use Rattle.tb_galley.specs.GalleyReader.{State, known_in, next_phase, count_with, said_unless, take_said}
+use Rattle.tb_galley.proofs.FieldReads.{first_at, settle, reads}
 use Rattle.tb_galley.proofs.Conjunctions.{both}
 
 -- ---- fields and lines

@@ -18,9 +18,9 @@ use Rattle.tb_param.specs.Table.{is_within, is_dimen, is_glue}
 use Rattle.tb_galley.specs.declared.Cause.{Cause}
 use Rattle.tb_galley.specs.declared.Cause.TheVariants as causes
 use Rattle.tb_galley.specs.declared.fields.At.{At}
-use Rattle.tb_galley.specs.Values.{Slot, name_slot, dimension_slot, least_slot, range_slot, stretch_slot, fraction_slot, places_slot, class_slot, is_class_among, is_foot_class, slot_cause, cause_of_read, cause_unless, are_places, is_place_byte}
+use Rattle.tb_galley.specs.Fields.{Slot, name_slot, dimension_slot, least_slot, range_slot, stretch_slot, fraction_slot, places_slot, class_slot, is_class_among, is_foot_class, slot_cause, cause_of_read, cause_unless, are_places, is_place_byte}
 use Rattle.tb_galley.specs.Grammar.{read_or, places_at, has_byte}
-use Rattle.tb_galley.specs.Reading.{Left, ◌>>=◌, at_fault, settled, next_left, field_read, dimension_in, integer_in, stretch_in, fraction_in, name_left, dimension_left, stretch_left, least_left, range_left, choice_left, places_left, sized_left, float_left, margin_left, glue_left, stretch_part, plus_part, shrink_part, minus_part, minus_next, next_is_by, is_end, mapped, fraction_left, value_left, class_left, named_class, foot_left}
+use Rattle.tb_galley.specs.FieldReader.{Left, ◌>>=◌, at_fault, settled, next_left, field_read, dimension_in, integer_in, stretch_in, fraction_in, name_left, dimension_left, stretch_left, least_left, range_left, choice_left, places_left, sized_left, float_left, margin_left, glue_left, stretch_part, plus_part, shrink_part, minus_part, minus_next, next_is_by, is_end, mapped, fraction_left, value_left, class_left, named_class, foot_left}
 use Rattle.tb_galley.specs.Words.{Known, number_in, number_or}
 use Rattle.tb_galley.specs.Valid.{is_size, is_float, is_margin, is_class}
 use Rattle.tb_param.specs.declared.table.Form.{Form}

@@ -19,10 +19,10 @@ use Rattle.tb_galley.specs.declared.ItemKind.TheVariants as items
 use Rattle.tb_galley.specs.declared.LeafKind.{LeafKind}
 use Rattle.tb_galley.specs.declared.LeafKind.TheVariants as leaves
 use Rattle.tb_galley.specs.Words.{LineWord, Known, hbox, rule, skip, kern, penalty, mark, note, foot, float, margin, newpage, clearpage, pagebreak, nopagebreak, onecolumn, twocolumn, suppressfloats}
-use Rattle.tb_galley.specs.Values.{name_slot, least_slot, range_slot, word_slot, word_slots, are_places}
+use Rattle.tb_galley.specs.Fields.{name_slot, least_slot, range_slot, word_slot, word_slots, are_places}
 use Rattle.tb_galley.specs.Faults.{is_printable}
 use Rattle.tb_galley.specs.Grammar.{read_or, content_of, places_at, has_byte}
-use Rattle.tb_galley.specs.Print.{places_text, text_if, sized_text, leaf_text, paragraph_text, wide_text, float_text, margin_text, item_text}
+use Rattle.tb_galley.specs.CanonicalText.{places_text, text_if, sized_text, leaf_text, paragraph_text, wide_text, float_text, margin_text, item_text}
 use Rattle.tb_text.specs.Fields.{and_number, and_text, line, and_count}
 use Rattle.tb_galley.specs.Valid.{is_size, is_leaf, is_float, is_margin, is_item}
 use Rattle.tb_galley.proofs.FieldTexts.{IsFit, AllFit, tail_text, tail_length, nothing_more}

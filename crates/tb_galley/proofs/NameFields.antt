@@ -6,8 +6,8 @@ use Rattle.tb_galley.specs.declared.Cause.{Cause}
 use Rattle.tb_galley.specs.declared.Cause.TheVariants as causes
 use Rattle.tb_galley.specs.declared.fields.At.{At}
 use Rattle.tb_galley.specs.Faults.{is_printable}
-use Rattle.tb_galley.specs.Values.{name_slot, slot_cause}
-use Rattle.tb_galley.specs.Reading.{Left, next_by, printed, settled, ◌>>=◌, name_left}
+use Rattle.tb_galley.specs.Fields.{name_slot, slot_cause}
+use Rattle.tb_galley.specs.FieldReader.{Left, next_by, printed, settled, ◌>>=◌, name_left}
 use Rattle.tb_galley.proofs.SlotTexts.{name_text}
 
 module _ (l : Left) (f : List ℕ) (fs : List (List ℕ)) (at : l.fields ≡ f ∷ fs) where

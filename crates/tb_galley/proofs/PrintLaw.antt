@@ -32,8 +32,8 @@ use Rattle.tb_galley.specs.declared.LeafKind.TheVariants as leaves
 use Rattle.tb_galley.specs.Words.{header, end, Phase, at_start, among_sets, among_items, ended}
 use Rattle.tb_galley.specs.Faults.{fault}
 use Rattle.tb_galley.specs.Grammar.{empty_draft, grammar, spelled, input_limit}
-use Rattle.tb_galley.specs.Machine.{State, start, verdict}
-use Rattle.tb_galley.specs.Print.{set_lines, leaf_text, leaf_lines, item_text, item_lines, class_lines, header_text, foot_text, printed}
+use Rattle.tb_galley.specs.GalleyReader.{State, start, verdict}
+use Rattle.tb_galley.specs.CanonicalText.{set_lines, leaf_text, leaf_lines, item_text, item_lines, class_lines, header_text, foot_text, printed}
 use Rattle.tb_text.specs.Fields.{line, and_count}
 use Rattle.tb_galley.specs.Valid.{weight_of, weight, fits_version, is_class, do_classes_rise, has_known_class, IsValid}
 use Rattle.tb_galley.specs.ReadBack.{unnumbered_leaf, unnumbered_kind, unnumbered_item, unnumbered, ReadsBack}
@@ -44,7 +44,7 @@ use Rattle.tb_galley.proofs.Conjunctions.{both, left_of, right_of}
 use Rattle.tb_galley.proofs.SlotTexts.{spelling}
 use Rattle.tb_galley.proofs.KindTexts.{leaf_word, leaf_fields, leaf_is, item_is}
 use Rattle.tb_galley.proofs.ValueTexts.{value_fields, value_is, is_plain_row}
-use Rattle.tb_galley.specs.Values.{is_class_among}
+use Rattle.tb_galley.specs.Fields.{is_class_among}
 use Rattle.tb_galley.proofs.ClassTexts.{numbers_of, class_fields, line_fields, class_is}
 use Rattle.tb_galley.proofs.ClassRuns.{numbered_classes, class_texts, same_numbers, same_classes, still_classes, classes_run}
 use Rattle.tb_galley.proofs.PrintRuns.{Runs, then_lines, to_state, word_runs, set_text, plain_rows, is_in_range, is_known_row, foot_line, set_all, HasClasses, sets_run, numbered_leaves, numbered_kind, numbered_items, leaf_line, kind_lines, takes_items, leaf_texts, item_state, item_texts, phase_past_items, items_run}

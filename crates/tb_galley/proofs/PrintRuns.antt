@@ -22,11 +22,11 @@ use Rattle.tb_galley.specs.declared.Leaf.{Leaf}
 use Rattle.tb_galley.specs.declared.LeafKind.{LeafKind}
 use Rattle.tb_galley.specs.declared.LeafKind.TheVariants as leaves
 use Rattle.tb_galley.specs.Words.{LineWord, Known, word_here, header, setting, foot, endfoot, Phase, at_start, among_sets, among_items, in_foot, ended, word_of, is_item_word}
-use Rattle.tb_galley.specs.Values.{is_class_among, word_slots}
+use Rattle.tb_galley.specs.Fields.{is_class_among, word_slots}
 use Rattle.tb_galley.specs.Faults.{place_causes, item_causes, cause_if}
 use Rattle.tb_galley.specs.Grammar.{Draft, item_kind, with_content}
 use Rattle.tb_galley.specs.Line.{first_of}
-use Rattle.tb_galley.specs.Machine.{State, known_in, next_phase, count_with, take_said}
+use Rattle.tb_galley.specs.GalleyReader.{State, known_in, next_phase, count_with, take_said}
 use Rattle.tb_galley.specs.declared.classes.ClassLine.{ClassLine}
 use Rattle.tb_galley.specs.Valid.{is_leaf, is_item, weight_of, weight, is_class, has_known_class}
 use Rattle.tb_galley.proofs.SoundLines.{drafted}

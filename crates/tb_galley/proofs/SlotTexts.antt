@@ -16,10 +16,10 @@ use Rattle.tb_galley.specs.declared.Cause.{Cause}
 use Rattle.tb_galley.specs.declared.Cause.TheVariants as causes
 use Rattle.tb_galley.specs.declared.contents.Content.{Content}
 use Rattle.tb_galley.specs.Words.{LineWord, Known, header, setting, class_line, hbox, rule, skip, kern, penalty, mark, note, foot, endfoot, float, margin, newpage, clearpage, pagebreak, nopagebreak, onecolumn, twocolumn, suppressfloats, end}
-use Rattle.tb_galley.specs.Values.{name_slot, dimension_slot, least_slot, range_slot, stretch_slot, seen_slot, cause_of_read, word_slots}
+use Rattle.tb_galley.specs.Fields.{name_slot, dimension_slot, least_slot, range_slot, stretch_slot, seen_slot, cause_of_read, word_slots}
 use Rattle.tb_galley.specs.Faults.{is_printable}
 use Rattle.tb_galley.specs.Grammar.{read_or, content_of, glue_from}
-use Rattle.tb_galley.specs.Print.{unit_text, minus_text, glue_text}
+use Rattle.tb_galley.specs.CanonicalText.{unit_text, minus_text, glue_text}
 use Rattle.tb_text.specs.Fields.{and_number}
 use Rattle.tb_galley.specs.Valid.{is_size}
 use Rattle.tb_galley.proofs.FieldTexts.{IsText, IsFit, AllFit, tail_text, tail_length, nothing_more}

@@ -20,16 +20,16 @@ use Rattle.tb_galley.specs.declared.Item.{Item}
 use Rattle.tb_galley.specs.declared.ItemKind.{ItemKind}
 use Rattle.tb_galley.specs.declared.ItemKind.TheVariants as items
 use Rattle.tb_galley.specs.declared.classes.ClassLine.{ClassLine}
-use Rattle.tb_galley.specs.Values.{is_class_among}
+use Rattle.tb_galley.specs.Fields.{is_class_among}
 use Rattle.tb_galley.specs.declared.Leaf.{Leaf}
 use Rattle.tb_galley.specs.declared.LeafKind.{LeafKind}
 use Rattle.tb_galley.specs.Words.{header, setting, Phase, at_start, among_sets, among_items, in_foot, ended}
 use Rattle.tb_galley.specs.Faults.{place_causes, cause_if}
 use Rattle.tb_galley.specs.Grammar.{OpenFoot, Draft, with_item, with_plain, with_foot, with_content}
 use Rattle.tb_galley.specs.Line.{first_of}
-use Rattle.tb_galley.specs.Machine.{next_phase}
+use Rattle.tb_galley.specs.GalleyReader.{next_phase}
 use Rattle.tb_galley.specs.Valid.{is_leaf, is_item, weight_of, weight, leaf_lines, lines_of_item, named_lines, rise_from, is_class, do_classes_rise, has_known_class, fits_version}
-use Rattle.tb_galley.proofs.Suited.{SetsInRange}
+use Rattle.tb_galley.proofs.SuitedLines.{SetsInRange}
 
 -- ---- lists that rise
 

@@ -18,10 +18,10 @@ use Rattle.tb_param.proofs.RangeLemmas.{fits}
 use Rattle.tb_galley.specs.declared.Cause.TheVariants as causes
 use Rattle.tb_galley.specs.declared.contents.Content.TheVariants as contents
 use Rattle.tb_galley.specs.Words.{setting, Known}
-use Rattle.tb_galley.specs.Values.{parameter_slot, row_cause, form_slots, row_slots}
+use Rattle.tb_galley.specs.Fields.{parameter_slot, row_cause, form_slots, row_slots}
 use Rattle.tb_galley.specs.Faults.{is_printable}
 use Rattle.tb_galley.specs.Grammar.{value_by, set_content}
-use Rattle.tb_galley.specs.Print.{value_text}
+use Rattle.tb_galley.specs.CanonicalText.{value_text}
 use Rattle.tb_galley.proofs.FieldTexts.{IsText, AllFit, tail_text, tail_length, nothing_more}
 use Rattle.tb_galley.proofs.SlotTexts.{ReadsAs, glue_fields, glue_is, glue_fit, glue_short, glue_back, least_fit, range_fit, joined_text, dimension_read, integer_read, dimen_length, within_small, read_none, read_back}
 use Rattle.tb_galley.proofs.Conjunctions.{left_of, right_of}

@@ -4,7 +4,7 @@ use Rattle.std.specs.List.{list_all, list_any}
 use Rattle.std.proofs.lemmas.Bool.{eqb-true, or_right}
 use Rattle.std.proofs.lemmas.Bool.Decides.{nat_tests}
 use Rattle.tb_galley.specs.declared.classes.ClassLine.{ClassLine}
-use Rattle.tb_galley.specs.Values.{is_class_among}
+use Rattle.tb_galley.specs.Fields.{is_class_among}
 use Rattle.tb_galley.specs.Grammar.{with_class}
 use Rattle.tb_galley.specs.Valid.{is_class, do_classes_rise}
 use Rattle.tb_galley.proofs.Conjunctions.{both, left_of, right_of}

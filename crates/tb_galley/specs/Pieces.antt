@@ -4,7 +4,7 @@ use Rattle.std.specs.List.{fold}
 use Rattle.std.specs.Str.Lines.{strip_carriage_return}
 use Rattle.tb_text.specs.Lines.{is_feed}
 use Rattle.tb_galley.specs.Grammar.{input_limit}
-use Rattle.tb_galley.specs.Machine.{State, start, take_said}
+use Rattle.tb_galley.specs.GalleyReader.{State, start, take_said}
 use Rattle.tb_galley.specs.Unfinished.{kept_line}
 pub use Rattle.tb_galley.specs.declared.pieces.Progress.{Progress}
 use Rattle.tb_galley.specs.declared.pieces.Progress.TheVariants.{Lines, TooLong, OutOfMemory}

@@ -7,7 +7,7 @@ use Rattle.tb_galley.specs.declared.ItemKind.TheVariants as items
 use Rattle.tb_galley.specs.declared.classes.ClassLine.{ClassLine}
 use Rattle.tb_galley.specs.declared.Galley.{Galley}
 use Rattle.tb_galley.specs.Grammar.{grammar}
-use Rattle.tb_galley.specs.Print.{printed}
+use Rattle.tb_galley.specs.CanonicalText.{printed}
 
 -- what is in a footnote, without its line
 abbrev pub unnumbered_leaf : Leaf → Leaf

@@ -10,7 +10,7 @@ use Rattle.tb_param.specs.Release.{has_second}
 use Rattle.tb_param.specs.Table.{is_within, is_dimen, is_glue}
 use Rattle.tb_param.specs.declared.Params.{Params}
 pub use Rattle.tb_galley.specs.Classes.{do_classes_rise}
-use Rattle.tb_galley.specs.Values.{is_class_among}
+use Rattle.tb_galley.specs.Fields.{is_class_among}
 use Rattle.tb_galley.specs.declared.classes.ClassLine.{ClassLine}
 use Rattle.tb_galley.specs.declared.Leaf.{Leaf}
 use Rattle.tb_galley.specs.declared.LeafKind.{LeafKind}

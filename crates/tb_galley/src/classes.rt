@@ -1,6 +1,6 @@
 //! The classes of insertions that a galley declares.
 
-use crate::pushing::push_at;
+use crate::vectors::push_at;
 use std::alloc::{AllocError, Global};
 use std::marker::Model;
 use tb_scaled::Glue;

@@ -1,6 +1,6 @@
 //! What a content line says.
-ghost use Rattle.tb_galley.specs.Machine.{known_in};
-ghost use Rattle.tb_galley.specs.Reading.{left_of, Gives, float_left, margin_left, area_left, value_left, set_left, class_left, foot_left, content_left};
+ghost use Rattle.tb_galley.specs.GalleyReader.{known_in};
+ghost use Rattle.tb_galley.specs.FieldReader.{left_of, Gives, float_left, margin_left, area_left, value_left, set_left, class_left, foot_left, content_left};
 
 use crate::draft::Draft;
 use crate::fields::{At, Fields};
@@ -21,7 +21,7 @@ pub enum Content {
     End,
 }
 
-#[tactic(auto, unfolding(crate::specs::Reading::float_left))]
+#[tactic(auto, unfolding(crate::specs::FieldReader::float_left))]
 fn float(line: u32, fields: &mut Fields<'_>) -> Result<(Float, bool), At>
     ensures { Gives result (left_of fields.new) (float_left line (left_of fields.old)) }
 {
@@ -45,7 +45,7 @@ fn float(line: u32, fields: &mut Fields<'_>) -> Result<(Float, bool), At>
     ))
 }
 
-#[tactic(auto, unfolding(crate::specs::Reading::margin_left))]
+#[tactic(auto, unfolding(crate::specs::FieldReader::margin_left))]
 fn margin(line: u32, fields: &mut Fields<'_>) -> Result<(Margin, bool), At>
     ensures { Gives result (left_of fields.new) (margin_left line (left_of fields.old)) }
 {
@@ -66,7 +66,7 @@ fn margin(line: u32, fields: &mut Fields<'_>) -> Result<(Margin, bool), At>
     ))
 }
 
-#[tactic(auto, unfolding(crate::specs::Reading::area_left))]
+#[tactic(auto, unfolding(crate::specs::FieldReader::area_left))]
 fn area(fields: &mut Fields<'_>) -> Result<Area, At>
     ensures { Gives result (left_of fields.new) (area_left (left_of fields.old)) }
 {
@@ -77,7 +77,7 @@ fn area(fields: &mut Fields<'_>) -> Result<Area, At>
     Ok(if bottom { Area::Bottom } else { Area::Top })
 }
 
-#[tactic(auto, unfolding(crate::specs::Reading::value_left))]
+#[tactic(auto, unfolding(crate::specs::FieldReader::value_left))]
 fn value(form: Form, fields: &mut Fields<'_>) -> Result<Value, At>
     ensures { Gives result (left_of fields.new) (value_left form (left_of fields.old)) }
 {
@@ -105,7 +105,7 @@ fn value(form: Form, fields: &mut Fields<'_>) -> Result<Value, At>
     }
 }
 
-#[tactic(auto, unfolding(crate::specs::Reading::set_left))]
+#[tactic(auto, unfolding(crate::specs::FieldReader::set_left))]
 fn set(version: u8, fields: &mut Fields<'_>) -> Result<Content, At>
     ensures { Gives result (left_of fields.new) (set_left version (left_of fields.old)) }
 {
@@ -120,7 +120,7 @@ fn set(version: u8, fields: &mut Fields<'_>) -> Result<Content, At>
     Ok(Content::Set { field, value })
 }
 
-#[tactic(auto, unfolding(crate::specs::Reading::class_left))]
+#[tactic(auto, unfolding(crate::specs::FieldReader::class_left))]
 fn class(line: u32, fields: &mut Fields<'_>) -> Result<ClassLine, At>
     ensures { Gives result (left_of fields.new) (class_left line (left_of fields.old)) }
 {
@@ -137,7 +137,7 @@ fn class(line: u32, fields: &mut Fields<'_>) -> Result<ClassLine, At>
     })
 }
 
-#[tactic(auto, unfolding(crate::specs::Reading::foot_left))]
+#[tactic(auto, unfolding(crate::specs::FieldReader::foot_left))]
 fn foot(draft: &Draft, fields: &mut Fields<'_>) -> Result<u8, At>
     ensures { Gives result (left_of fields.new) (foot_left (known_in draft.now) (left_of fields.old)) }
 {
@@ -148,7 +148,7 @@ fn foot(draft: &Draft, fields: &mut Fields<'_>) -> Result<u8, At>
 }
 
 /// What the fields after a line's word say, by what the lines before gave.
-#[tactic(auto, unfolding(crate::specs::Reading::content_left))]
+#[tactic(auto, unfolding(crate::specs::FieldReader::content_left))]
 pub fn read_content(
     draft: &Draft,
     line: u32,

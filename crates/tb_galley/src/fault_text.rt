@@ -1,6 +1,6 @@
 //! The texts of faults, and the kinds of their causes.
 ghost use Rattle.std.specs.Prelude.{◌≡◌, ◌++◌, OnOk};
-ghost use Rattle.tb_galley.specs.CauseText.{cause_name, is_range_cause, fault_text};
+ghost use Rattle.tb_galley.specs.FaultText.{cause_name, is_range_cause, fault_text};
 
 use crate::{Cause, Fault};
 use std::alloc::AllocError;

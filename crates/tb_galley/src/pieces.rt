@@ -3,7 +3,7 @@ ghost use Rattle.std.specs.Prelude.{◌≡◌, ◌<◌, ◌≤◌, ◌+◌, ◌+
 ghost use Rattle.std.specs.List.{fold};
 ghost use Rattle.std.specs.Str.Lines.{strip_carriage_return};
 ghost use Rattle.tb_galley.specs.Grammar.{grammar};
-ghost use Rattle.tb_galley.specs.Machine.{take_said, verdict, Answers};
+ghost use Rattle.tb_galley.specs.GalleyReader.{take_said, verdict, Answers};
 ghost use Rattle.tb_galley.specs.Unfinished.{kept_line};
 ghost use Rattle.tb_galley.specs.Pieces.{take_byte, HasRoom, line_ended, with_last, fed, fed_more, without_memory, IsOutOfMemory};
 ghost use Rattle.tb_galley.specs.Valid.{IsValid};

@@ -5,7 +5,7 @@ use Rattle.std.specs.List.{list_all}
 use Rattle.std.proofs.lemmas.Bool.Decides.{nat_tests}
 use Rattle.std.proofs.lemmas.Fmt.{decimal_by_steps, length-decimal-le}
 use Rattle.tb_node.specs.Names.{is_alphanumeric, is_name, is_name_byte}
-use Rattle.tb_generator.specs.Generate.{letter_number}
+use Rattle.tb_generator.specs.GeneratedGalleys.{letter_number}
 
 digit_byte : (n : ℕ) → n < 10 → is_name_byte (48 + n) ≡ true
 digit_byte n low = grind (arith, nat_tests)

@@ -14,7 +14,7 @@ use Rattle.tb_galley.specs.declared.Item.{Item}
 use Rattle.tb_galley.specs.declared.ItemKind.{ItemKind}
 use Rattle.tb_galley.specs.declared.ItemKind.TheVariants as items
 use Rattle.tb_galley.specs.Valid.{is_item, is_size, weight_of, weight, lines_of_item, named_lines, rise_from, has_known_class, fits_version, IsValid}
-use Rattle.tb_generator.specs.Generate.{next_seed, made_box, made_foot, made_float, made_by, made_item, made_items, made_params, generated, tbp, htp}
+use Rattle.tb_generator.specs.GeneratedGalleys.{next_seed, made_box, made_foot, made_float, made_by, made_item, made_items, made_params, generated, tbp, htp}
 use Rattle.tb_generator.proofs.NameLemmas.{named}
 
 version_fits : fits_version 1 [] made_params ≡ true

@@ -1,1 +1,1 @@
-pub mod Generate
+pub mod GeneratedGalleys

@@ -5,7 +5,7 @@ ghost use Rattle.std.specs.Prelude.{◌≡◌, ◌<◌, ◌≤◌, ◌∷◌, �
 ghost use Rattle.tb_param.specs.Defaults.{glue_points};
 ghost use Rattle.tb_node.specs.Names.{is_alphanumeric};
 ghost use Rattle.tb_galley.specs.Valid.{IsValid};
-ghost use Rattle.tb_generator.specs.Generate.{next_seed, letter_number, made_box, made_foot, made_float, made_by, made_item, made_params, generated};
+ghost use Rattle.tb_generator.specs.GeneratedGalleys.{next_seed, letter_number, made_box, made_foot, made_float, made_by, made_item, made_params, generated};
 
 use itoa::write_digits;
 use std::alloc::{AllocError, Global};
@@ -70,7 +70,7 @@ fn next_seed(seed: u64) -> u64
     (seed * 1_103_515_245 + 12_345) % 2_147_483_648
 }
 
-#[tactic(auto, unfolding(crate::specs::Generate::made_params, tb_param::specs::Defaults::default_params))]
+#[tactic(auto, unfolding(crate::specs::GeneratedGalleys::made_params, tb_param::specs::Defaults::default_params))]
 fn made_params() -> Params
     ensures { result ≡ made_params }
 {

@@ -4,8 +4,8 @@ use Rattle.std.specs.Prelude.{◌*ℤ◌, unsigned_abs}
 use Rattle.std.specs.Int.{w128}
 use Rattle.std.proofs.lemmas.Int.{ints, unsigned_abs-mul, fits_signed_from_abs}
 use Rattle.std.proofs.lemmas.Nat.{mul-le}
-use Rattle.tb_node.specs.Small.{IsAmount}
-use Rattle.tb_insert.specs.Wide.{IsWithin}
+use Rattle.tb_node.specs.SmallAmounts.{IsAmount}
+use Rattle.tb_insert.specs.WideAmounts.{IsWithin}
 
 abs_of : (n : ℕ) (z : ℤ) → IsWithin n z → unsigned_abs z < n
 abs_of n (pos a) h = omega (arith, ints)

@@ -1,14 +1,14 @@
 -- What the parts of `settle` add up to.
 use Rattle.std.proofs.Common.{◌≡◌, ◌∙◌, ap, ℤ, ◌+ℤ◌, ◌-ℤ◌}
 use Rattle.tb_node.specs.declared.Sums.{Sums}
-use Rattle.tb_node.specs.Plain.{Inserted}
+use Rattle.tb_node.specs.PlainNodes.{Inserted}
 use Rattle.tb_break.specs.Scan.{Scanned}
 use Rattle.tb_insert.specs.declared.Class.{Class}
 use Rattle.tb_insert.specs.declared.Entry.{Entry}
 use Rattle.tb_insert.specs.declared.Account.{Account}
 use Rattle.tb_insert.specs.Account.{Label, scaled_by, taken_by, penalty_of}
-use Rattle.tb_insert.specs.Running.{met_goal, met_scan, met_height, label_by}
-use Rattle.tb_insert.specs.Arrived.{label_here, goal_here, height_here, penalties_here}
+use Rattle.tb_insert.specs.AccountEntries.{met_goal, met_scan, met_height, label_by}
+use Rattle.tb_insert.specs.Arrival.{label_here, goal_here, height_here, penalties_here}
 
 module _ (a : Account) (s t : Scanned) (e : Entry) (i : Inserted) (class : Class) (size goal height : ℤ) (sums : Sums) (l : Label)
     (goal_is : goal ≡ met_goal e.met a.goal class size) (height_is : height ≡ met_height e.met e.height size) (scan_is : t ≡ met_scan e.met s class) (sums_is : sums ≡ t.sums)

@@ -12,12 +12,12 @@ use Rattle.tb_pool.specs.Lists.{Lists, IsLive, list_at, with_list}
 use Rattle.tb_pool.proofs.MapLemmas.{get-insert_same, get-insert_other}
 use Rattle.tb_node.specs.declared.Node.{Node}
 use Rattle.tb_node.specs.declared.What.TheVariants.{Blank}
-use Rattle.tb_node.specs.Add.{added_node}
-use Rattle.tb_node.specs.Small.{IsAmount, IsSmall}
+use Rattle.tb_node.specs.NodeSums.{added_node}
+use Rattle.tb_node.specs.SmallAmounts.{IsAmount, IsSmall}
 use Rattle.tb_node.specs.declared.Insertion.{Insertion}
 use Rattle.tb_node.specs.Shape.{Shape}
 use Rattle.tb_node.specs.Sums.{sums_of}
-use Rattle.tb_node.specs.Plain.{shape_of, Inserted, inserted_of, ins as an_insertion, plain, hbox, PlainNode, node_shape}
+use Rattle.tb_node.specs.PlainNodes.{shape_of, Inserted, inserted_of, ins as an_insertion, plain, hbox, PlainNode, node_shape}
 use Rattle.tb_node.specs.Fit.{shapes, NodesFit, SumsFit, IsSized, IsExtent, IsDimension}
 use Rattle.tb_node.proofs.FitLemmas.{nodes_fit, sums_fit}
 use Rattle.tb_break.specs.Scan.{Scanned, empty_scan}
@@ -25,10 +25,10 @@ use Rattle.tb_break.specs.Cost.{page_badness, cost_of_badness}
 use Rattle.tb_insert.specs.declared.Class.{Class}
 use Rattle.tb_insert.specs.declared.Account.{Account}
 use Rattle.tb_insert.specs.Account.{Frozen, class_box, class_height, labelled, terms_after, insertions, is_met}
-use Rattle.tb_insert.specs.Running.{Differ, numbered, boxed, IsAccountOf, IsScanOfPage, ComesTo, met_scan}
+use Rattle.tb_insert.specs.AccountEntries.{Differ, numbered, boxed, IsAccountOf, IsScanOfPage, ComesTo, met_scan}
 use Rattle.tb_insert.specs.Terms.{sums_with}
-use Rattle.tb_insert.specs.Arrived.{InnerFits, ClassFits, ArriveFits, PageFits}
-use Rattle.tb_insert.specs.Worked.{worked_box, worked_note, short_nodes, long_nodes, single_node, footnotes, worked_classes, worked_page, worked_notes, note_node, first_notes, StandsAt}
+use Rattle.tb_insert.specs.Arrival.{InnerFits, ClassFits, ArriveFits, PageFits}
+use Rattle.tb_insert.specs.WorkedPages.{worked_box, worked_note, short_nodes, long_nodes, single_node, footnotes, worked_classes, worked_page, worked_notes, note_node, first_notes, StandsAt}
 use Rattle.tb_insert.proofs.StandsLemmas.{stands-plain}
 use Rattle.tb_insert.proofs.TermLemmas.{skipped, sums-other, scan_plain, arrive_fits}
 

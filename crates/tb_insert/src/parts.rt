@@ -3,12 +3,12 @@
 ghost use Rattle.std.specs.Prelude.{◌≡◌, ◌^◌, ◌+ℤ◌, ℕ, List, Some, None, Option, nat_lt, length, if◌then◌else◌};
 ghost use Rattle.tb_pool.specs.Lists.{list_at, IsLive};
 ghost use Rattle.tb_node.specs.declared.Node.{Node as NodeOf};
-ghost use Rattle.tb_node.specs.Small.{IsAmount, IsSmall};
-ghost use Rattle.tb_node.specs.Plain.{inserted_of};
+ghost use Rattle.tb_node.specs.SmallAmounts.{IsAmount, IsSmall};
+ghost use Rattle.tb_node.specs.PlainNodes.{inserted_of};
 ghost use Rattle.tb_insert.specs.Account.{label_where, taken_by, penalty_of, is_split};
-ghost use Rattle.tb_insert.specs.Running.{boxed, label_by, is_let_in, or_else, cut_there, split_before_end};
-ghost use Rattle.tb_insert.specs.Arrived.{label_part, InnerFits};
-ghost use Rattle.tb_insert.specs.Wide.{IsWithin};
+ghost use Rattle.tb_insert.specs.AccountEntries.{boxed, label_by, is_let_in, or_else, cut_there, split_before_end};
+ghost use Rattle.tb_insert.specs.Arrival.{label_part, InnerFits};
+ghost use Rattle.tb_insert.specs.WideAmounts.{IsWithin};
 
 use crate::rooms::{goes_whole, left_of, page_room, scaled, split_height};
 use crate::{Class, Part};

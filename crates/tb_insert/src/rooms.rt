@@ -2,10 +2,10 @@
 
 ghost use Rattle.std.specs.Prelude.{◌≡◌, ◌^◌, ◌<ℤ◌, ◌≤ℤ◌, ◌+ℤ◌, ◌-ℤ◌, ◌*ℤ◌, int_div, pos, neg_ℤ, int_le, Bool, ◌||◌, ◌&&◌};
 ghost use Rattle.tb_scaled.specs.Scaled.{min_ℤ};
-ghost use Rattle.tb_node.specs.Small.{IsAmount, IsSmall};
+ghost use Rattle.tb_node.specs.SmallAmounts.{IsAmount, IsSmall};
 ghost use Rattle.tb_insert.specs.Account.{scaled_by, unscaled_room, clamped};
-ghost use Rattle.tb_insert.specs.Running.{goes_whole, split_height, met_goal, met_height};
-ghost use Rattle.tb_insert.specs.Wide.{IsWithin};
+ghost use Rattle.tb_insert.specs.AccountEntries.{goes_whole, split_height, met_goal, met_height};
+ghost use Rattle.tb_insert.specs.WideAmounts.{IsWithin};
 
 use crate::Class;
 use tb_node::Sums;

@@ -3,11 +3,11 @@
 ghost use Rattle.std.specs.Prelude.{◌≡◌, ◌+◌, ◌<◌, ℕ, pos, None, Some, true, IfOk, get_or};
 ghost use Rattle.std.specs.FinMap.{get};
 ghost use Rattle.tb_pool.specs.Lists.{IsLive, list_at};
-ghost use Rattle.tb_node.specs.Plain.{inserted_of};
+ghost use Rattle.tb_node.specs.PlainNodes.{inserted_of};
 ghost use Rattle.tb_insert.specs.Account.{class_box};
-ghost use Rattle.tb_insert.specs.Running.{numbered};
-ghost use Rattle.tb_insert.specs.Arrived.{InnerFits};
-ghost use Rattle.tb_insert.specs.Worked.{worked_box, worked_glue, worked_classes, worked_notes, HasLists, worked_note, short_nodes, long_nodes, single_node, StandsAt, footnotes, figures};
+ghost use Rattle.tb_insert.specs.AccountEntries.{numbered};
+ghost use Rattle.tb_insert.specs.Arrival.{InnerFits};
+ghost use Rattle.tb_insert.specs.WorkedPages.{worked_box, worked_glue, worked_classes, worked_notes, HasLists, worked_note, short_nodes, long_nodes, single_node, StandsAt, footnotes, figures};
 
 use super::*;
 use std::alloc::{AllocError, Global};

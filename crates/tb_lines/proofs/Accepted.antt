@@ -19,7 +19,7 @@ use Rattle.tb_galley.specs.declared.words.Phase.{Phase}
 use Rattle.tb_galley.specs.declared.words.Phase.TheVariants.{Start as at_start, Sets as among_sets, Items as among_items, Ended as ended}
 use Rattle.tb_galley.specs.Faults.{fault}
 use Rattle.tb_galley.specs.Grammar.{empty_draft, grammar, spelled, input_limit}
-use Rattle.tb_galley.specs.Machine.{start, verdict}
+use Rattle.tb_galley.specs.GalleyReader.{start, verdict}
 use Rattle.tb_galley.specs.Valid.{weight}
 use Rattle.tb_galley.proofs.SoundLines.{drafted}
 use Rattle.tb_galley.proofs.SameStep.{left_exact}
@@ -32,11 +32,11 @@ use Rattle.tb_lines.specs.declared.text.Text.{Text}
 use Rattle.tb_lines.specs.declared.entries.Entry.{Entry}
 use Rattle.tb_lines.specs.declared.entries.Entry.TheVariants.{Item as item, Fill as fill}
 use Rattle.tb_lines.specs.Solution.{SolutionView}
-use Rattle.tb_lines.specs.Paragraph.{list_of, passes, after_word, is_legal_entry, is_legal, is_word, from_word, line_between}
-use Rattle.tb_lines.specs.Least.{IsAfter, IsFalling, IsSolution, IsLeastOf}
+use Rattle.tb_lines.specs.Entries.{list_of, passes, after_word, is_legal_entry, is_legal, is_word, from_word, line_between}
+use Rattle.tb_lines.specs.LeastSolution.{IsAfter, IsFalling, IsSolution, IsLeastOf}
 use Rattle.tb_lines.specs.LineText.{entry_size, size_of, line_sizes, paragraph_sizes, AreLeast, line_text}
 use Rattle.tb_galley.specs.declared.Fault.{Fault}
-use Rattle.tb_lines.specs.Reading.{reading}
+use Rattle.tb_lines.specs.Grammar.{reading}
 use Rattle.tb_lines.specs.Galley.{solutions_from, galley_by, galley_of, lines_galley}
 use Rattle.tb_lines.specs.Accepted.{IsAccepted}
 use Rattle.tb_lines.specs.ValidText.{IsValidItem, IsValidParagraph, IsValidText}

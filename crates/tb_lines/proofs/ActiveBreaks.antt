@@ -8,15 +8,15 @@ use Rattle.std.proofs.lemmas.Bool.Decides.{nat_tests}
 use Rattle.tb_scaled.specs.Scaled.{badness_of}
 use Rattle.tb_lines.specs.declared.text.LineParams.{LineParams}
 use Rattle.tb_lines.specs.declared.entries.Entry.{Entry}
-use Rattle.tb_lines.specs.declared.running.Sums.{Sums}
+use Rattle.tb_lines.specs.declared.sums.Sums.{Sums}
 use Rattle.tb_lines.specs.declared.table.Best.{Best}
 use Rattle.tb_lines.specs.declared.table.Active.{Active}
-use Rattle.tb_lines.specs.Paragraph.{passes, after_word, is_legal_entry, is_legal, is_forced, entry_penalty, penalty_at, first_word, line_start, line_between}
+use Rattle.tb_lines.specs.Entries.{passes, after_word, is_legal_entry, is_legal, is_forced, entry_penalty, penalty_at, first_word, line_start, line_between}
 use Rattle.tb_lines.specs.Demerits.{plus_sums, sums_of, line_badness, feasible_demerits, sums_demerits, line_demerits}
-use Rattle.tb_lines.specs.Least.{sum_of_both}
-use Rattle.tb_lines.specs.Steps.{last_forced, is_within, is_up_to, is_step, step_demerits}
+use Rattle.tb_lines.specs.LeastSolution.{sum_of_both}
+use Rattle.tb_lines.specs.SolutionLines.{last_forced, is_within, is_up_to, is_step, step_demerits}
 use Rattle.tb_lines.specs.Table.{total_in, offer, with_offer, best_among, row_at, table_of}
-use Rattle.tb_lines.specs.Active.{IsPassedBy, IsPassed, IsActive}
+use Rattle.tb_lines.specs.ActiveBreaks.{IsPassedBy, IsPassed, IsActive}
 use Rattle.tb_lines.specs.Prepared.{least_width, AreRunning, AreFirstWords, AreFloors}
 use Rattle.tb_lines.proofs.LineSums.{line_sums}
 use Rattle.tb_lines.proofs.RunLemmas.{read_sum, line_penalty}

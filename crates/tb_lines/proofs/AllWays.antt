@@ -9,8 +9,8 @@ use Rattle.tb_lines.specs.declared.entries.Entry.{Entry}
 use Rattle.tb_lines.specs.declared.text.LineParams.{LineParams}
 use Rattle.tb_lines.specs.declared.text.Item.TheVariants.{Word as word, Space as space, Penalty as penalty}
 use Rattle.tb_lines.specs.declared.entries.Entry.TheVariants.{Item as item, Fill as fill}
-use Rattle.tb_lines.specs.Paragraph.{passes, after_word, is_legal_entry, is_legal, entry_penalty, penalty_in, is_forced}
-use Rattle.tb_lines.specs.Least.{IsAfter, IsFalling, IsAmong, total_demerits, is_greater}
+use Rattle.tb_lines.specs.Entries.{passes, after_word, is_legal_entry, is_legal, entry_penalty, penalty_in, is_forced}
+use Rattle.tb_lines.specs.LeastSolution.{IsAfter, IsFalling, IsAmong, total_demerits, is_greater}
 use Rattle.tb_lines.specs.Galley.{ways_before, chosen, first_least}
 use Rattle.tb_lines.proofs.BestWays.{greater_fails}
 use Rattle.tb_lines.proofs.Solutions.{among_le}

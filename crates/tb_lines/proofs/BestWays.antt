@@ -5,7 +5,7 @@ use Rattle.std.proofs.lemmas.Int.{ints}
 use Rattle.std.proofs.lemmas.Bool.{true≢false}
 use Rattle.std.proofs.lemmas.Bool.Decides.{nat_tests}
 use Rattle.tb_lines.specs.declared.table.Best.{Best}
-use Rattle.tb_lines.specs.Least.{first_of, sum_of_both, is_greater}
+use Rattle.tb_lines.specs.LeastSolution.{first_of, sum_of_both, is_greater}
 use Rattle.tb_lines.specs.Table.{total_in, offer, Follows}
 
 -- the cost of breaks, from the last to the first, when each line has a cost or none

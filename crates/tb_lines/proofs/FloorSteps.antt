@@ -3,8 +3,8 @@ use Rattle.std.proofs.Common.{◌≡◌, ◌∙◌, sym, ap, subst, inl, inr, �
 use Rattle.std.proofs.lemmas.Bool.{cases_eq}
 use Rattle.std.proofs.lemmas.List.{get_or-set_same, get_or-set_other, length-replicate}
 use Rattle.tb_lines.specs.declared.entries.Entry.{Entry}
-use Rattle.tb_lines.specs.declared.running.Sums.{Sums}
-use Rattle.tb_lines.specs.Paragraph.{is_legal}
+use Rattle.tb_lines.specs.declared.sums.Sums.{Sums}
+use Rattle.tb_lines.specs.Entries.{is_legal}
 use Rattle.tb_lines.specs.Demerits.{sums_of}
 use Rattle.tb_lines.specs.Prepared.{least_width, AreRunning, AreFloors}
 use Rattle.tb_lines.proofs.RunLemmas.{read_sum}

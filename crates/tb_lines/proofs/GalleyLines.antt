@@ -23,7 +23,7 @@ use Rattle.tb_galley.proofs.PrintRuns.{kind_lines, item_texts}
 use Rattle.tb_lines.specs.declared.text.LineParams.{LineParams}
 use Rattle.tb_lines.specs.declared.text.Paragraph.{Paragraph}
 use Rattle.tb_lines.specs.Solution.{SolutionView}
-use Rattle.tb_lines.specs.Slots.{is_par_name}
+use Rattle.tb_lines.specs.Fields.{is_par_name}
 use Rattle.tb_lines.specs.ValidText.{IsValidParams, text_weight}
 use Rattle.tb_lines.specs.LineText.{Size, paragraph_sizes, glue_line, interline, penalty_after, penalty_line, penalty_before, space_before, box_line, one_line, lines_text, paragraph_depth, paragraphs_text}
 

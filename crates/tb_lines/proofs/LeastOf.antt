@@ -10,8 +10,8 @@ use Rattle.tb_lines.specs.declared.text.LineParams.{LineParams}
 use Rattle.tb_lines.specs.declared.text.Paragraph.{Paragraph}
 use Rattle.tb_lines.specs.declared.entries.Entry.{Entry}
 use Rattle.tb_lines.specs.Solution.{SolutionView}
-use Rattle.tb_lines.specs.Paragraph.{list_of, is_forced}
-use Rattle.tb_lines.specs.Least.{first_of, IsAfter, IsSolution, IsLeast, IsLeastOf, HasNone, is_greater}
+use Rattle.tb_lines.specs.Entries.{list_of, is_forced}
+use Rattle.tb_lines.specs.LeastSolution.{first_of, IsAfter, IsSolution, IsLeast, IsLeastOf, HasNone, is_greater}
 use Rattle.tb_lines.specs.LineText.{AreLeast}
 use Rattle.tb_lines.specs.Galley.{ways_before, first_least, solution_of, least_of, solved, solutions_from}
 use Rattle.tb_lines.proofs.Solutions.{among_le}

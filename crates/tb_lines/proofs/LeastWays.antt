@@ -6,13 +6,13 @@ use Rattle.std.proofs.lemmas.Bool.{true≢false, cases_eq}
 use Rattle.tb_lines.specs.declared.entries.Entry.{Entry}
 use Rattle.tb_lines.specs.declared.table.Best.{Best}
 use Rattle.tb_lines.specs.declared.text.LineParams.{LineParams}
-use Rattle.tb_lines.specs.Paragraph.{is_forced}
-use Rattle.tb_lines.specs.Least.{IsSolution, IsLeast, HasNone, sum_of_both, total_demerits, is_greater}
-use Rattle.tb_lines.specs.Steps.{step_demerits}
+use Rattle.tb_lines.specs.Entries.{is_forced}
+use Rattle.tb_lines.specs.LeastSolution.{IsSolution, IsLeast, HasNone, sum_of_both, total_demerits, is_greater}
+use Rattle.tb_lines.specs.SolutionLines.{step_demerits}
 use Rattle.tb_lines.specs.Table.{total_in, offer, best_among, row_at, table_of, Follows, AreLinked}
 use Rattle.tb_lines.proofs.BestWays.{cost, both_parts, entry_of_total, Chosen, IsBestWay, best_way, follows_one, greater_fails}
 use Rattle.tb_lines.proofs.Solutions.{IsPart, part_cost, cost_total, cost_part, leads}
-use Rattle.tb_lines.proofs.Chosen.{IsBefore, ChosenAmong, best_among-chosen}
+use Rattle.tb_lines.proofs.ChosenRows.{IsBefore, ChosenAmong, best_among-chosen}
 
 -- ---- the rows of the table
 

@@ -1,6 +1,6 @@
 pub mod BestWays
 pub mod Solutions
-pub mod Chosen
+pub mod ChosenRows
 pub mod LeastWays
 pub mod LineSums
 pub mod RunLemmas
@@ -8,10 +8,10 @@ pub mod Offers
 pub mod ActiveBreaks
 pub mod FloorSteps
 pub mod WriteSteps
-pub mod Back
-pub mod Led
+pub mod TableBack
+pub mod CauseOrder
 pub mod ReaderRuns
-pub mod SlotReads
+pub mod FieldReads
 pub mod SameStep
 pub mod VisibleWords
 pub mod AllWays

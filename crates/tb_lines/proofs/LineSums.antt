@@ -3,10 +3,10 @@ use Rattle.std.proofs.Common.{◌≡◌, refl, sym, ◌∙◌, ap, ℕ, zero, su
 use Rattle.std.specs.Prelude.{slice_get, if◌then◌else◌}
 use Rattle.std.proofs.lemmas.List.{take-append-drop}
 use Rattle.tb_lines.specs.declared.entries.Entry.{Entry}
-use Rattle.tb_lines.specs.declared.running.Sums.{Sums}
-use Rattle.tb_lines.specs.Paragraph.{is_word, from_word, first_word, line_start, line_between}
+use Rattle.tb_lines.specs.declared.sums.Sums.{Sums}
+use Rattle.tb_lines.specs.Entries.{is_word, from_word, first_word, line_start, line_between}
 use Rattle.std.proofs.lemmas.Bool.Decides.{nat_tests}
-use Rattle.tb_lines.specs.Steps.{is_within}
+use Rattle.tb_lines.specs.SolutionLines.{is_within}
 use Rattle.tb_lines.specs.Demerits.{no_sums, entry_sums, plus_sums, sums_of}
 
 pub same_sums : (a b : Sums) → a.width ≡ b.width → a.stretch ≡ b.stretch → a.shrink ≡ b.shrink → a.fills ≡ b.fills → a ≡ b

@@ -3,7 +3,7 @@ use Rattle.std.proofs.Common.{◌≡◌, ap, ℕ, true, nat_lt, List, length, Er
 use Rattle.tb_text.specs.Lines.{lines_of}
 use Rattle.tb_galley.specs.declared.Cause.TheVariants.{InputSize}
 use Rattle.tb_galley.specs.Faults.{fault}
-use Rattle.tb_lines.specs.Reading.{spelled_text, reading}
+use Rattle.tb_lines.specs.Grammar.{spelled_text, reading}
 use Rattle.tb_lines.specs.Galley.{faulty, galley_of, lines_galley}
 
 pub long_text : (bytes : List ℕ) → nat_lt 8388608 (length bytes) ≡ true → lines_galley bytes ≡ Err (faulty (fault 0 0 InputSize))

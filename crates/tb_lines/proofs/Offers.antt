@@ -6,10 +6,10 @@ use Rattle.std.proofs.lemmas.Option.{slice_get-get_or}
 use Rattle.tb_lines.specs.declared.entries.Entry.{Entry}
 use Rattle.tb_lines.specs.declared.table.Best.{Best}
 use Rattle.tb_lines.specs.declared.text.LineParams.{LineParams}
-use Rattle.tb_lines.specs.Paragraph.{is_legal}
+use Rattle.tb_lines.specs.Entries.{is_legal}
 use Rattle.tb_lines.specs.Demerits.{line_demerits}
-use Rattle.tb_lines.specs.Least.{sum_of_both}
-use Rattle.tb_lines.specs.Steps.{last_forced, is_within, is_up_to, step_demerits}
+use Rattle.tb_lines.specs.LeastSolution.{sum_of_both}
+use Rattle.tb_lines.specs.SolutionLines.{last_forced, is_within, is_up_to, step_demerits}
 use Rattle.tb_lines.specs.Table.{total_in, reached, offer, with_offer, best_among, row_in, row_at, table_of}
 use Rattle.tb_lines.specs.Prepared.{IsSmallTotal, HasSmallTotals}
 

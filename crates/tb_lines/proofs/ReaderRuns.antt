@@ -6,16 +6,16 @@ use Rattle.tb_text.specs.Lines.{fields_of, is_skipped}
 use Rattle.tb_galley.specs.declared.Cause.{Cause}
 use Rattle.tb_galley.specs.declared.Fault.{Fault}
 use Rattle.tb_galley.specs.Grammar.{field_at}
-use Rattle.tb_galley.specs.Machine.{first_cause}
-use Rattle.tb_galley.proofs.First.{first_among, or_first, least_first}
+use Rattle.tb_galley.specs.GalleyReader.{first_cause}
+use Rattle.tb_galley.proofs.FirstFaults.{first_among, or_first, least_first}
 use Rattle.tb_lines.specs.declared.text.Item.{Item}
 use Rattle.tb_lines.specs.declared.text.Paragraph.{Paragraph}
 use Rattle.tb_lines.specs.Words.{LineWord, header, setting, par, word, space, pen, endpar, end, Line, line_at, content_at, at_start, next_phase, phase_after, count_with, count_after, inside_with, one_more}
-use Rattle.tb_lines.specs.Slots.{Parameter, parameter_of}
+use Rattle.tb_lines.specs.Fields.{Parameter, parameter_of}
 use Rattle.tb_lines.specs.Faults.{line_causes, end_causes, causes_from}
-use Rattle.tb_lines.specs.Reading.{Draft, set_content, content_of, with_item, with_closed, with_content, with_word, with_line, empty_draft, inside_in, content_from, text_of, text_unless, spelled_text}
-use Rattle.tb_lines.specs.Machine.{State, past_content, take_unless, take_line, start, end_with, verdict}
-use Rattle.tb_lines.proofs.Led.{all_led}
+use Rattle.tb_lines.specs.Grammar.{Draft, set_content, content_of, with_item, with_closed, with_content, with_word, with_line, empty_draft, inside_in, content_from, text_of, text_unless, spelled_text}
+use Rattle.tb_lines.specs.Reader.{State, past_content, take_unless, take_line, start, end_with, verdict}
+use Rattle.tb_lines.proofs.CauseOrder.{all_led}
 
 -- ---- the reader's state after some lines, the content lines among which are shown
 

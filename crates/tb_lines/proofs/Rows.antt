@@ -8,14 +8,14 @@ use Rattle.tb_lines.specs.declared.text.Item.TheVariants.{Word as word, Space as
 use Rattle.tb_lines.specs.declared.text.LineParams.{LineParams}
 use Rattle.tb_lines.specs.declared.text.Text.{Text}
 use Rattle.tb_scaled.specs.Scaled.{badness_of}
-use Rattle.tb_lines.specs.Paragraph.{list_of}
+use Rattle.tb_lines.specs.Entries.{list_of}
 use Rattle.tb_lines.specs.Demerits.{line_badness, sums_demerits}
-use Rattle.tb_lines.specs.Least.{total_demerits}
+use Rattle.tb_lines.specs.LeastSolution.{total_demerits}
 use Rattle.tb_lines.specs.LineText.{line_text}
 use Rattle.tb_lines.specs.Words.{word_of}
-use Rattle.tb_lines.specs.Slots.{parameter_of}
+use Rattle.tb_lines.specs.Fields.{parameter_of}
 use Rattle.tb_galley.specs.Faults.{fault}
-use Rattle.tb_lines.specs.Reading.{reading, default_params}
+use Rattle.tb_lines.specs.Grammar.{reading, default_params}
 
 params : LineParams
 params = record { hsize = 100; tolerance = 200; line_penalty = 10; club_penalty = 150; widow_penalty = 150; baseline_skip = 12; line_skip = 65536; par_skip = 0 }

@@ -5,9 +5,9 @@ use Rattle.std.proofs.lemmas.Bool.{cases_eq}
 use Rattle.std.proofs.lemmas.Option.{slice_get-get_or, get_or_from_slice_get}
 use Rattle.std.proofs.lemmas.List.{length-replicate}
 use Rattle.tb_lines.specs.declared.entries.Entry.{Entry}
-use Rattle.tb_lines.specs.declared.running.Sums.{Sums}
-use Rattle.tb_lines.specs.Paragraph.{is_word, first_word, line_start, line_between, entry_penalty, penalty_in, penalty_at}
-use Rattle.tb_lines.specs.Steps.{is_within}
+use Rattle.tb_lines.specs.declared.sums.Sums.{Sums}
+use Rattle.tb_lines.specs.Entries.{is_word, first_word, line_start, line_between, entry_penalty, penalty_in, penalty_at}
+use Rattle.tb_lines.specs.SolutionLines.{is_within}
 use Rattle.tb_lines.specs.Demerits.{entry_sums, plus_sums, sums_of}
 use Rattle.tb_lines.specs.Prepared.{AreRunning, AreSmall, AreFirstWords}
 use Rattle.tb_lines.proofs.LineSums.{sums_of-more, first_word-step, first_word-end, start_within, line_sums}

@@ -9,17 +9,17 @@ use Rattle.tb_galley.specs.declared.fields.At.{At}
 use Rattle.tb_galley.specs.Words.{first_field, other_fields}
 use Rattle.tb_galley.specs.Faults.{is_printable, cause_if, value_causes}
 use Rattle.tb_galley.specs.Line.{first_of}
-use Rattle.tb_galley.specs.Machine.{first_cause}
-use Rattle.tb_galley.specs.Reading.{at_fault, settled, ◌>>=◌}
-use Rattle.tb_galley.proofs.Slots.{first_at, settle}
+use Rattle.tb_galley.specs.GalleyReader.{first_cause}
+use Rattle.tb_galley.specs.FieldReader.{at_fault, settled, ◌>>=◌}
+use Rattle.tb_galley.proofs.FieldReads.{first_at, settle}
 use Rattle.tb_galley.proofs.SameStep.{on_line, first_on_line}
 use Rattle.tb_lines.specs.Words.{LineWord, Line, content_at, Phase, at_start, among_sets, among_pars, in_par, ended, counts_word, is_inner_word, is_full, word_of}
-use Rattle.tb_lines.specs.Slots.{word_slots, missing_cause}
+use Rattle.tb_lines.specs.Fields.{word_slots, missing_cause}
 use Rattle.tb_lines.specs.Faults.{place_causes, item_causes, later_causes, all_content_causes, line_causes}
-use Rattle.tb_lines.specs.Reading.{content_of, inside_in, spelled_text}
+use Rattle.tb_lines.specs.Grammar.{content_of, inside_in, spelled_text}
 use Rattle.tb_lines.specs.Line.{Said, said, worded_left, content_line, content_lines, line_left}
-use Rattle.tb_lines.specs.Machine.{State, past_content, take_unless, take_by, take_line, start, said_unless, said_first, take_said, verdict}
-use Rattle.tb_lines.proofs.SlotReads.{reads}
+use Rattle.tb_lines.specs.Reader.{State, past_content, take_unless, take_by, take_line, start, said_unless, said_first, take_said, verdict}
+use Rattle.tb_lines.proofs.FieldReads.{reads}
 use Rattle.tb_lines.proofs.ReaderRuns.{reader_exact}
 
 abbrev take_with : State → List Line → Option Fault → State

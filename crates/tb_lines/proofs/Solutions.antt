@@ -6,10 +6,10 @@ use Rattle.std.proofs.lemmas.Bool.{true≢false, cases_eq, and_parts}
 use Rattle.std.proofs.lemmas.Bool.Decides.{nat_tests}
 use Rattle.tb_lines.specs.declared.entries.Entry.{Entry}
 use Rattle.tb_lines.specs.declared.text.LineParams.{LineParams}
-use Rattle.tb_lines.specs.Paragraph.{is_legal, is_forced}
+use Rattle.tb_lines.specs.Entries.{is_legal, is_forced}
 use Rattle.tb_lines.specs.Demerits.{line_demerits}
-use Rattle.tb_lines.specs.Least.{first_of, IsAfter, IsFalling, IsAmong, sum_of_both, total_demerits}
-use Rattle.tb_lines.specs.Steps.{last_forced, is_within, is_up_to, is_step, step_demerits}
+use Rattle.tb_lines.specs.LeastSolution.{first_of, IsAfter, IsFalling, IsAmong, sum_of_both, total_demerits}
+use Rattle.tb_lines.specs.SolutionLines.{last_forced, is_within, is_up_to, is_step, step_demerits}
 use Rattle.tb_lines.proofs.BestWays.{cost, both_parts, LeadsOn}
 
 -- a step that has demerits is one, and its line is feasible

@@ -5,8 +5,8 @@ use Rattle.std.proofs.lemmas.List.{at_drop_all}
 use Rattle.tb_lines.specs.declared.text.LineParams.{LineParams}
 use Rattle.tb_lines.specs.declared.text.Paragraph.{Paragraph}
 use Rattle.tb_lines.specs.Solution.{SolutionView}
-use Rattle.tb_lines.specs.Paragraph.{list_of}
-use Rattle.tb_lines.specs.Least.{IsLeastOf, HasNone}
+use Rattle.tb_lines.specs.Entries.{list_of}
+use Rattle.tb_lines.specs.LeastSolution.{IsLeastOf, HasNone}
 use Rattle.tb_lines.specs.Galley.{least_of, with_first, solved, solutions_from}
 use Rattle.tb_lines.proofs.LeastOf.{least_exact}
 

@@ -11,9 +11,9 @@ use Rattle.tb_galley.specs.declared.Cause.{Cause}
 use Rattle.tb_galley.specs.declared.Cause.TheVariants as causes
 use Rattle.tb_galley.specs.declared.fields.At.{At}
 use Rattle.tb_galley.specs.Faults.{is_printable, cause_if}
-use Rattle.tb_galley.specs.Values.{Slot, cause_unless, slot_cause}
+use Rattle.tb_galley.specs.Fields.{Slot, cause_unless, slot_cause}
 use Rattle.tb_galley.specs.Line.{first_of}
-use Rattle.tb_galley.specs.Reading.{Left, ◌>>=◌, at_fault, next_left, settled, field_read, least_left, range_left, end_left, finished, mapped}
+use Rattle.tb_galley.specs.FieldReader.{Left, ◌>>=◌, at_fault, next_left, settled, field_read, least_left, range_left, end_left, finished, mapped}
 use Rattle.tb_galley.proofs.InRange.{least_has, range_has}
 use Rattle.tb_lines.specs.declared.text.Item.{Item}
 use Rattle.tb_lines.specs.declared.text.Item.TheVariants as items
@@ -21,10 +21,10 @@ use Rattle.tb_lines.specs.declared.words.Form.TheVariants as forms
 use Rattle.tb_lines.specs.declared.words.Parameter.TheVariants as parameters
 use Rattle.tb_lines.specs.declared.contents.Content.TheVariants as contents
 use Rattle.tb_lines.specs.Words.{LineWord, header, setting, par, word, space, pen, endpar, end, Phase, Line, line_at, content_at, counts_word, is_inner_word, is_full}
-use Rattle.tb_lines.specs.Slots.{Parameter, Form, form_of, parameter_of, name_slot, is_par_name, missing_cause}
+use Rattle.tb_lines.specs.Fields.{Parameter, Form, form_of, parameter_of, name_slot, is_par_name, missing_cause}
 use Rattle.tb_lines.specs.Faults.{place_causes, item_causes}
-use Rattle.tb_lines.specs.Reading.{Content, holds_item}
-use Rattle.tb_lines.specs.FromLeft.{name_left, size_left, header_left, value_left, set_by, set_left, sizes_left, word_left, space_left, pen_left, content_left}
+use Rattle.tb_lines.specs.Grammar.{Content, holds_item}
+use Rattle.tb_lines.specs.FieldReader.{name_left, size_left, header_left, value_left, set_by, set_left, sizes_left, word_left, space_left, pen_left, content_left}
 use Rattle.tb_lines.specs.Line.{Said, said, worded_left, content_line, content_lines, line_left}
 use Rattle.tb_lines.specs.ValidText.{IsSize, IsValidItem}
 

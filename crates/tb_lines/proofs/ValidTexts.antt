@@ -16,11 +16,11 @@ use Rattle.tb_lines.specs.declared.text.Text.{Text}
 use Rattle.tb_lines.specs.declared.words.Parameter.TheVariants as parameters
 use Rattle.tb_lines.specs.declared.contents.Content.TheVariants as contents
 use Rattle.tb_lines.specs.Words.{LineWord, counts_word, count_with, is_full}
-use Rattle.tb_lines.specs.Slots.{Parameter, form_of}
+use Rattle.tb_lines.specs.Fields.{Parameter, form_of}
 use Rattle.tb_lines.specs.Faults.{end_causes}
-use Rattle.tb_lines.specs.Reading.{Draft, Content, with_value, with_item, with_closed, with_content, inside_in, text_of, spelled_text, reading}
+use Rattle.tb_lines.specs.Grammar.{Draft, Content, with_value, with_item, with_closed, with_content, inside_in, text_of, spelled_text, reading}
 use Rattle.tb_lines.specs.Line.{Said, line_left}
-use Rattle.tb_lines.specs.Machine.{State, start, end_with, verdict_by, verdict, said_unless, said_first, take_said}
+use Rattle.tb_lines.specs.Reader.{State, start, end_with, verdict_by, verdict, said_unless, said_first, take_said}
 use Rattle.tb_lines.specs.ValidText.{IsValidItem, IsValidParams, IsValidParagraph, text_weight, IsValidText}
 use Rattle.tb_lines.proofs.ValidContents.{IsFormValue, IsValidSaid, line_ok}
 use Rattle.tb_lines.proofs.SameStep.{left_exact}

@@ -3,8 +3,8 @@ use Rattle.std.proofs.Common.{refl}
 use Rattle.std.specs.Fmt.{digits}
 use Rattle.tb_scaled.specs.Scaled.{badness_of}
 use Rattle.tb_lines.specs.Words.{word_of}
-use Rattle.tb_lines.specs.Slots.{parameter_of}
-use Rattle.tb_lines.specs.Reading.{reading}
+use Rattle.tb_lines.specs.Fields.{parameter_of}
+use Rattle.tb_lines.specs.Grammar.{reading}
 use Rattle.tb_lines.specs.Demerits.{line_badness, sums_demerits}
 use Rattle.tb_lines.specs.LineText.{line_text}
 use Rattle.tb_lines.specs.Galley.{least_of, lines_galley}

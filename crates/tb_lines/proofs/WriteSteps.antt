@@ -11,8 +11,8 @@ use Rattle.tb_lines.specs.declared.text.Paragraph.{Paragraph}
 use Rattle.tb_lines.specs.declared.entries.Entry.{Entry}
 use Rattle.tb_lines.specs.declared.entries.Entry.TheVariants.{Item as item, Fill as fill}
 use Rattle.tb_lines.specs.Solution.{SolutionView}
-use Rattle.tb_lines.specs.Paragraph.{list_of, is_legal, is_word, from_word, line_between}
-use Rattle.tb_lines.specs.Least.{first_of, IsFalling, IsLeastOf}
+use Rattle.tb_lines.specs.Entries.{list_of, is_legal, is_word, from_word, line_between}
+use Rattle.tb_lines.specs.LeastSolution.{first_of, IsFalling, IsLeastOf}
 use Rattle.tb_lines.specs.LineText.{Size, no_size, entry_size, joined_size, size_of, line_sizes, AreWithin, one_line, lines_text, depth_after, paragraph_text, paragraph_depth, paragraphs_text, AreLeast}
 use Rattle.tb_lines.proofs.ActiveBreaks.{legal_inside}
 

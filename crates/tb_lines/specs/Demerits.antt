@@ -6,8 +6,8 @@ use Rattle.tb_lines.specs.declared.text.Item.TheVariants.{Word as word, Space as
 use Rattle.tb_lines.specs.declared.entries.Entry.{Entry}
 use Rattle.tb_lines.specs.declared.entries.Entry.TheVariants.{Item as item, Fill as fill}
 use Rattle.tb_lines.specs.declared.text.LineParams.{LineParams}
-use Rattle.tb_lines.specs.declared.running.Sums.{Sums}
-use Rattle.tb_lines.specs.Paragraph.{line_between, penalty_at}
+use Rattle.tb_lines.specs.declared.sums.Sums.{Sums}
+use Rattle.tb_lines.specs.Entries.{line_between, penalty_at}
 
 -- the sums of nothing
 abbrev pub no_sums : Sums

@@ -11,12 +11,12 @@ use Rattle.tb_lines.specs.declared.LinesFault.TheVariants as faults
 use Rattle.tb_lines.specs.declared.LinesRefusal.{LinesRefusal}
 use Rattle.tb_lines.specs.declared.LinesRefusal.TheVariants as refusals
 use Rattle.tb_lines.specs.Solution.{SolutionView}
-use Rattle.tb_lines.specs.Paragraph.{list_of, is_legal, is_forced}
-use Rattle.tb_lines.specs.Least.{total_demerits}
+use Rattle.tb_lines.specs.Entries.{list_of, is_legal, is_forced}
+use Rattle.tb_lines.specs.LeastSolution.{total_demerits}
 use Rattle.tb_lines.specs.LineText.{line_text}
 use Rattle.tb_galley.specs.declared.Fault.{Fault}
 use Rattle.tb_galley.specs.Faults.{fault}
-use Rattle.tb_lines.specs.Reading.{reading}
+use Rattle.tb_lines.specs.Grammar.{reading}
 
 -- all ways to break the list before place n, read from the last break, the lexicographically greatest first: a legal break is taken or not, a forced one is taken
 abbrev pub ways_before : List Entry → ℕ → List (List ℕ)

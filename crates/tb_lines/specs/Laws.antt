@@ -2,8 +2,8 @@
 use Rattle.std.specs.Prelude.{◌≡◌, List, ℕ, Ok, MatchOption}
 use Rattle.tb_lines.specs.declared.text.Item.{Item}
 use Rattle.tb_lines.specs.declared.text.LineParams.{LineParams}
-use Rattle.tb_lines.specs.Paragraph.{list_of}
-use Rattle.tb_lines.specs.Least.{IsLeastOf, HasNone}
+use Rattle.tb_lines.specs.Entries.{list_of}
+use Rattle.tb_lines.specs.LeastSolution.{IsLeastOf, HasNone}
 use Rattle.tb_lines.specs.Galley.{least_of, lines_galley}
 use Rattle.tb_lines.specs.Accepted.{IsAccepted}
 

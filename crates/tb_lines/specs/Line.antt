@@ -5,12 +5,12 @@ use Rattle.tb_galley.specs.declared.Cause.TheVariants as causes
 use Rattle.tb_galley.specs.declared.fields.At.{At}
 use Rattle.tb_galley.specs.Faults.{is_printable}
 use Rattle.tb_galley.specs.Line.{first_of}
-use Rattle.tb_galley.specs.Reading.{◌>>=◌, at_fault, settled, finished}
+use Rattle.tb_galley.specs.FieldReader.{◌>>=◌, at_fault, settled, finished}
 use Rattle.tb_lines.specs.Words.{LineWord, Phase, Line, content_at}
-use Rattle.tb_lines.specs.Slots.{missing_cause}
+use Rattle.tb_lines.specs.Fields.{missing_cause}
 use Rattle.tb_lines.specs.Faults.{place_causes, item_causes}
-use Rattle.tb_lines.specs.Reading.{Content}
-use Rattle.tb_lines.specs.FromLeft.{content_left}
+use Rattle.tb_lines.specs.Grammar.{Content}
+use Rattle.tb_lines.specs.FieldReader.{content_left}
 
 -- a line's word, and what it says
 abbrev pub Said : Type 0

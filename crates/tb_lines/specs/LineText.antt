@@ -7,10 +7,10 @@ use Rattle.tb_lines.specs.declared.text.Paragraph.{Paragraph}
 use Rattle.tb_lines.specs.declared.text.Text.{Text}
 use Rattle.tb_lines.specs.declared.entries.Entry.{Entry}
 use Rattle.tb_lines.specs.declared.entries.Entry.TheVariants.{Item as item, Fill as fill}
-pub use Rattle.tb_lines.specs.declared.writing.Size.{Size}
+pub use Rattle.tb_lines.specs.declared.line_texts.Size.{Size}
 use Rattle.tb_lines.specs.Solution.{SolutionView}
-use Rattle.tb_lines.specs.Paragraph.{list_of, line_between}
-use Rattle.tb_lines.specs.Least.{IsLeastOf}
+use Rattle.tb_lines.specs.Entries.{list_of, line_between}
+use Rattle.tb_lines.specs.LeastSolution.{IsLeastOf}
 
 -- ---- the sizes of lines
 

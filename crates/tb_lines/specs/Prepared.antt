@@ -1,9 +1,9 @@
 -- What is known of a paragraph's list before its breaks are looked for.
 use Rattle.std.specs.Prelude.{◌≡◌, ℕ, ◌<◌, ◌≤◌, ◌+◌, ◌-◌, ◌*◌, ℤ, pos, neg_ℤ, ◌≤ℤ◌, true, List, length, take, Option, Some, slice_get, slice_index_or}
 use Rattle.tb_lines.specs.declared.entries.Entry.{Entry}
-use Rattle.tb_lines.specs.declared.running.Sums.{Sums}
+use Rattle.tb_lines.specs.declared.sums.Sums.{Sums}
 use Rattle.tb_lines.specs.declared.table.Best.{Best}
-use Rattle.tb_lines.specs.Paragraph.{first_word, is_legal}
+use Rattle.tb_lines.specs.Entries.{first_word, is_legal}
 use Rattle.tb_lines.specs.Demerits.{sums_of}
 use Rattle.tb_lines.specs.Table.{row_at}
 

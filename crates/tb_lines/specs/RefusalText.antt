@@ -1,7 +1,7 @@
 -- What is said of a refusal.
 use Rattle.std.specs.Prelude.{ℕ, List, ◌++◌, codes, decimal}
 use Rattle.tb_galley.specs.Faults.{fault}
-use Rattle.tb_galley.specs.CauseText.{fault_text}
+use Rattle.tb_galley.specs.FaultText.{fault_text}
 use Rattle.tb_lines.specs.declared.LinesRefusal.{LinesRefusal}
 use Rattle.tb_lines.specs.declared.LinesRefusal.TheVariants as refusals
 use Rattle.tb_lines.specs.Galley.{NoGalley, faulty, no_breaks}

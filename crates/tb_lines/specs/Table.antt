@@ -3,8 +3,8 @@ use Rattle.std.specs.Prelude.{◌≡◌, ◌<◌, ℕ, zero, suc, ℤ, pos, Bool
 use Rattle.tb_lines.specs.declared.entries.Entry.{Entry}
 use Rattle.tb_lines.specs.declared.text.LineParams.{LineParams}
 use Rattle.tb_lines.specs.declared.table.Best.{Best}
-use Rattle.tb_lines.specs.Least.{sum_of_both}
-use Rattle.tb_lines.specs.Steps.{step_demerits}
+use Rattle.tb_lines.specs.LeastSolution.{sum_of_both}
+use Rattle.tb_lines.specs.SolutionLines.{step_demerits}
 
 -- the total of a break; the start has 0
 abbrev pub total_in : Option Best → Option ℤ

@@ -6,7 +6,7 @@ use Rattle.tb_lines.specs.declared.text.Item.TheVariants.{Word as word, Space as
 use Rattle.tb_lines.specs.declared.text.LineParams.{LineParams}
 use Rattle.tb_lines.specs.declared.text.Paragraph.{Paragraph}
 use Rattle.tb_lines.specs.declared.text.Text.{Text}
-use Rattle.tb_lines.specs.Slots.{is_par_name}
+use Rattle.tb_lines.specs.Fields.{is_par_name}
 
 -- a dimension of at least 0
 abbrev pub IsSize : ℕ → Type 0

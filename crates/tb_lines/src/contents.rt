@@ -1,12 +1,12 @@
 //! What a content line says.
 ghost use Rattle.std.specs.Prelude.{◌≡◌, true, false, IfOk};
 ghost use Rattle.tb_lines.specs.Words.{is_inner_word};
-ghost use Rattle.tb_lines.specs.Reading.{holds_item};
-ghost use Rattle.tb_lines.specs.Slots.{IsForm};
-ghost use Rattle.tb_galley.specs.Reading.{left_of, Gives};
-ghost use Rattle.tb_lines.specs.FromLeft.{value_left, set_left, word_left, space_left, pen_left, content_left};
+ghost use Rattle.tb_lines.specs.Grammar.{holds_item};
+ghost use Rattle.tb_lines.specs.Fields.{IsForm};
+ghost use Rattle.tb_galley.specs.FieldReader.{left_of, Gives};
+ghost use Rattle.tb_lines.specs.FieldReader.{value_left, set_left, word_left, space_left, pen_left, content_left};
 
-use crate::reading::{read_header, read_name, read_size};
+use crate::field_reader::{read_header, read_name, read_size};
 use crate::text::Item;
 use crate::words::{Form, Parameter, Word, form_of, parameter_of};
 use tb_galley::{At, Cause, Fields};
@@ -23,7 +23,7 @@ pub enum Content {
     End,
 }
 
-#[tactic(auto, unfolding(crate::specs::FromLeft::value_left))]
+#[tactic(auto, unfolding(crate::specs::FieldReader::value_left))]
 fn read_value(form: Form, fields: &mut Fields<'_>) -> Result<u32, At>
     requires { IsForm form }
     ensures { Gives result (left_of fields.new) (value_left form (left_of fields.old)) }
@@ -37,7 +37,7 @@ fn read_value(form: Form, fields: &mut Fields<'_>) -> Result<u32, At>
     }
 }
 
-#[tactic(auto, unfolding(crate::specs::FromLeft::set_left))]
+#[tactic(auto, unfolding(crate::specs::FieldReader::set_left))]
 fn read_set(fields: &mut Fields<'_>) -> Result<Content, At>
     ensures read { Gives result (left_of fields.new) (set_left (left_of fields.old)) }
     ensures kind { IfOk result (λ k. holds_item k ≡ false) }
@@ -50,7 +50,7 @@ fn read_set(fields: &mut Fields<'_>) -> Result<Content, At>
     Ok(Content::Set { parameter, value })
 }
 
-#[tactic(auto, unfolding(crate::specs::FromLeft::word_left))]
+#[tactic(auto, unfolding(crate::specs::FieldReader::word_left))]
 fn read_word(fields: &mut Fields<'_>) -> Result<Item, At>
     ensures { Gives result (left_of fields.new) (word_left (left_of fields.old)) }
 {
@@ -64,7 +64,7 @@ fn read_word(fields: &mut Fields<'_>) -> Result<Item, At>
     })
 }
 
-#[tactic(auto, unfolding(crate::specs::FromLeft::space_left))]
+#[tactic(auto, unfolding(crate::specs::FieldReader::space_left))]
 fn read_space(fields: &mut Fields<'_>) -> Result<Item, At>
     ensures { Gives result (left_of fields.new) (space_left (left_of fields.old)) }
 {
@@ -78,7 +78,7 @@ fn read_space(fields: &mut Fields<'_>) -> Result<Item, At>
     })
 }
 
-#[tactic(auto, unfolding(crate::specs::FromLeft::pen_left))]
+#[tactic(auto, unfolding(crate::specs::FieldReader::pen_left))]
 fn read_pen(fields: &mut Fields<'_>) -> Result<Item, At>
     ensures { Gives result (left_of fields.new) (pen_left (left_of fields.old)) }
 {
@@ -87,7 +87,7 @@ fn read_pen(fields: &mut Fields<'_>) -> Result<Item, At>
 }
 
 /// What the fields after a line's word say.
-#[tactic(auto, unfolding(crate::specs::FromLeft::content_left))]
+#[tactic(auto, unfolding(crate::specs::FieldReader::content_left))]
 pub fn read_content(word: Word, fields: &mut Fields<'_>) -> Result<Content, At>
     ensures read { Gives result (left_of fields.new) (content_left word (left_of fields.old)) }
     ensures kind { IfOk result (λ k. holds_item k ≡ true → is_inner_word word ≡ true) }

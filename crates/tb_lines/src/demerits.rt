@@ -2,7 +2,7 @@
 ghost use Rattle.std.specs.Prelude.{◌≡◌, ◌≤◌, ◌≤ℤ◌, pos, IfSome, negsuc, Option};
 ghost use Rattle.tb_lines.specs.Demerits.{line_badness, badness_demerits, penalty_demerits, feasible_demerits, sums_demerits};
 
-use crate::running::Sums;
+use crate::sums::Sums;
 use crate::text::LineParams;
 use tb_scaled::badness;
 

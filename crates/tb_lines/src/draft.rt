@@ -1,7 +1,7 @@
 //! A text in the making.
 ghost use Rattle.std.specs.Prelude.{◌≡◌, true, false, OnOk};
 ghost use Rattle.tb_lines.specs.Words.{is_full};
-ghost use Rattle.tb_lines.specs.Reading.{empty_draft, default_params, with_value, with_content, inside_in, holds_item};
+ghost use Rattle.tb_lines.specs.Grammar.{empty_draft, default_params, with_value, with_content, inside_in, holds_item};
 
 use crate::contents::Content;
 use crate::text::{Items, LineParams, Paragraph, Paragraphs};

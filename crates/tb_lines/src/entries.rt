@@ -1,7 +1,7 @@
 //! A paragraph's list, and where its lines may end.
 ghost use Rattle.std.specs.Prelude.{◌≡◌, ◌<◌, negsuc, length, IfOk};
 ghost use Rattle.std.specs.Ordering.{int_eq};
-ghost use Rattle.tb_lines.specs.Paragraph.{is_word, entry_penalty, is_legal_entry, after_word, is_legal, list_of};
+ghost use Rattle.tb_lines.specs.Entries.{is_word, entry_penalty, is_legal_entry, after_word, is_legal, list_of};
 
 use crate::text::Item;
 use std::alloc::{AllocError, Global};

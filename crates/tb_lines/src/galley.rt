@@ -3,10 +3,10 @@ ghost use Rattle.std.specs.Prelude.{◌≡◌, IfOk};
 ghost use Rattle.tb_lines.specs.Galley.{solutions_from, solved_by, galley_of_text, refusal_of, lines_galley, GivesGalley};
 ghost use Rattle.tb_lines.specs.Accepted.{IsAccepted};
 
-use crate::breaking::{Solution, break_par};
+use crate::line_texts::line_text;
 use crate::reader::read_lines;
+use crate::solution::{Solution, break_par};
 use crate::text::Text;
-use crate::writing::line_text;
 use crate::{LinesFault, LinesRefusal};
 use std::alloc::{AllocError, Global};
 

@@ -4,32 +4,32 @@
 //! All dimensions are in scaled points, 65536 to a point. Lines of a text and the fields of a line count from 1.
 #![tactic(auto)]
 
-mod breaking;
 mod contents;
 mod demerits;
 mod draft;
 mod entries;
+mod field_reader;
 mod galley;
 mod laws;
+mod line_texts;
 mod reader;
-mod reading;
 mod refusal_text;
-mod running;
+mod solution;
+mod sums;
 mod table;
 #[cfg(test)]
 mod tests;
 mod text;
 mod words;
-mod writing;
 
-pub use breaking::{Solution, break_par};
 pub use galley::lines_galley;
 pub use laws::{check_lines, galleys_are_accepted, solutions_are_least};
+pub use line_texts::line_text;
 pub use reader::read_lines;
 pub use refusal_text::put_refusal;
+pub use solution::{Solution, break_par};
 pub use tb_galley::{Cause as LinesCause, cause_text, is_range_cause};
 pub use text::{Item, Items, LineParams, Paragraph, Paragraphs, Text};
-pub use writing::line_text;
 
 /// Why a text was not read.
 #[derive(Drop)]

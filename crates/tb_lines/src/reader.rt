@@ -4,10 +4,10 @@ ghost use Rattle.std.specs.List.{fold, list_all};
 ghost use Rattle.tb_lines.specs.Words.{word_of};
 ghost use Rattle.tb_text.specs.Lines.{lines_of};
 ghost use Rattle.tb_galley.specs.Faults.{is_printable};
-ghost use Rattle.tb_lines.specs.Reading.{reading, HasRoom};
+ghost use Rattle.tb_lines.specs.Grammar.{reading, HasRoom};
 ghost use Rattle.tb_lines.specs.Line.{line_left};
 ghost use Rattle.tb_lines.specs.ValidText.{IsValidText};
-ghost use Rattle.tb_lines.specs.Machine.{start, take_said, verdict, Answers};
+ghost use Rattle.tb_lines.specs.Reader.{start, take_said, verdict, Answers};
 
 use crate::LinesFault;
 use crate::contents::{Content, read_content};

@@ -1,17 +1,17 @@
 //! The best way to each break: one break before it (TeX: The Program §829). Only breaks that can still begin a line are
 //! tried.
 ghost use Rattle.std.specs.Prelude.{◌≡◌, ◌≤◌, ◌<◌, ◌+◌, ℕ, pos, negsuc, ◌≤ℤ◌, true, length, IfOk, IfSome, Option};
-ghost use Rattle.tb_lines.specs.Paragraph.{is_legal, line_start};
+ghost use Rattle.tb_lines.specs.Entries.{is_legal, line_start};
 ghost use Rattle.tb_lines.specs.Demerits.{line_demerits};
-ghost use Rattle.tb_lines.specs.Least.{sum_of_both};
-ghost use Rattle.tb_lines.specs.Steps.{step_demerits, last_forced, is_within};
+ghost use Rattle.tb_lines.specs.LeastSolution.{sum_of_both};
+ghost use Rattle.tb_lines.specs.SolutionLines.{step_demerits, last_forced, is_within};
 ghost use Rattle.tb_lines.specs.Table.{total_in, offer, with_offer, best_among, row_at, table_of};
-ghost use Rattle.tb_lines.specs.Active.{IsActive, IsPassedBy};
+ghost use Rattle.tb_lines.specs.ActiveBreaks.{IsActive, IsPassedBy};
 ghost use Rattle.tb_lines.specs.Prepared.{AreRunning, AreFirstWords, AreFloors, IsSmallTotal, HasSmallTotals};
 
 use crate::demerits::sums_demerits;
 use crate::entries::{Entry, entry_penalty, is_forced_entry, is_legal};
-use crate::running::{Sums, between, floors, least_width, running_sums, word_starts};
+use crate::sums::{Sums, between, floors, least_width, running_sums, word_starts};
 use crate::text::LineParams;
 use std::alloc::{AllocError, Global};
 

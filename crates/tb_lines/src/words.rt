@@ -1,7 +1,7 @@
 //! The words of lines and of `set` lines, and where each line may come.
 ghost use Rattle.std.specs.Prelude.{◌≡◌, ◌<◌, ◌+◌, false, true, IsNone, Option};
 ghost use Rattle.tb_lines.specs.Words.{word_of, counts_word, is_inner_word, later_phase, next_phase, count_with, is_full};
-ghost use Rattle.tb_lines.specs.Slots.{parameter_of, form_of, missing_cause};
+ghost use Rattle.tb_lines.specs.Fields.{parameter_of, form_of, missing_cause};
 ghost use Rattle.tb_galley.specs.Line.{first_of};
 ghost use Rattle.tb_lines.specs.Faults.{place_causes, item_causes};
 
@@ -75,7 +75,7 @@ pub fn word_of(text: &[u8]) -> Option<Word>
 }
 
 /// The parameter of this name.
-#[tactic(auto, unfolding(crate::specs::Slots::parameter_of))]
+#[tactic(auto, unfolding(crate::specs::Fields::parameter_of))]
 pub fn parameter_of(text: &[u8]) -> Option<Parameter>
     ensures { result ≡ parameter_of text.now }
 {

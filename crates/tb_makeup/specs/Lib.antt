@@ -1,3 +1,3 @@
-pub mod Led
-pub mod Turning
-pub mod Filling
+pub mod LedActs
+pub mod Makeup
+pub mod MakeupPages

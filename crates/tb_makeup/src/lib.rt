@@ -2,9 +2,9 @@
 //! and what it holds is shipped as one column.
 #![tactic(auto)]
 
-mod expanding;
-mod running;
-mod suiting;
+mod galley_nodes;
+mod makeup;
+mod suitability;
 
-pub use running::{Makeup, MakeupEnding};
-pub use suiting::first_unsuited;
+pub use makeup::{Makeup, MakeupEnding};
+pub use suitability::first_unsuited;

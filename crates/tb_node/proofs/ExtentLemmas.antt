@@ -4,7 +4,7 @@ use Rattle.std.proofs.lemmas.Int.{ints}
 use Rattle.std.proofs.lemmas.List.Elements.{All-tail}
 use Rattle.tb_node.specs.Shape.{Shape}
 use Rattle.tb_node.specs.Sums.{size_of, room_of, depth_from, depth_after, last_depth}
-use Rattle.tb_node.specs.Small.{IsAmount}
+use Rattle.tb_node.specs.SmallAmounts.{IsAmount}
 use Rattle.tb_node.specs.Fit.{IsSized, IsSummable}
 use Rattle.tb_node.proofs.FitLemmas.{IsWithin, size_within}
 

@@ -9,10 +9,10 @@ use Rattle.tb_scaled.specs.declared.Order.{Order}
 use Rattle.tb_scaled.specs.declared.Order.TheVariants.{Normal, Fil, Fill, Filll}
 use Rattle.tb_scaled.specs.Scaled.{min_ℤ}
 use Rattle.tb_node.specs.declared.Node.{Node}
-use Rattle.tb_node.specs.Plain.{shape_of}
+use Rattle.tb_node.specs.PlainNodes.{shape_of}
 use Rattle.tb_node.specs.Shape.{Shape, box, glue, kern, penalty, other}
 use Rattle.tb_node.specs.Sums.{room_of, depth_after, size_of, depth_from, last_depth, amount_at, stretch_of, list_stretch, shrink_of, list_shrink, limited_depth, sums_of}
-use Rattle.tb_node.specs.Small.{IsAmount, IsSmall, IsSmallShape}
+use Rattle.tb_node.specs.SmallAmounts.{IsAmount, IsSmall, IsSmallShape}
 use Rattle.tb_node.specs.Fit.{shapes, NodesFit, SumsFit, IsDimension, IsExtent, IsPenalty, IsSized, IsSizedNode, IsSummable}
 
 -- at most b in absolute value

@@ -5,8 +5,8 @@ use Rattle.tb_scaled.specs.Scaled.{min_ℤ}
 use Rattle.tb_node.specs.declared.Sums.{Sums}
 use Rattle.tb_node.specs.Shape.{Shape}
 use Rattle.tb_node.specs.Sums.{sums_of}
-use Rattle.tb_node.specs.Add.{added_node}
-use Rattle.tb_node.specs.Small.{IsSmall, IsSmallShape}
+use Rattle.tb_node.specs.NodeSums.{added_node}
+use Rattle.tb_node.specs.SmallAmounts.{IsSmall, IsSmallShape}
 use Rattle.tb_node.specs.Fit.{NodesFit, SumsFit}
 use Rattle.tb_node.proofs.AddLemmas.{sums-append}
 

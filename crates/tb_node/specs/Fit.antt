@@ -4,9 +4,9 @@ use Rattle.tb_pool.specs.Lists.{Lists, list_at}
 use Rattle.tb_scaled.specs.Scaled.{max_dimen}
 use Rattle.tb_node.specs.declared.Node.{Node}
 use Rattle.tb_node.specs.Shape.{Shape, box, glue, kern, penalty, other}
-use Rattle.tb_node.specs.Plain.{shape_of, PlainNode, node_shape, Leaf, leaf_shape}
+use Rattle.tb_node.specs.PlainNodes.{shape_of, PlainNode, node_shape, Leaf, leaf_shape}
 use Rattle.tb_node.specs.Sums.{sums_of}
-use Rattle.tb_node.specs.Small.{IsSmall, IsSmallShape}
+use Rattle.tb_node.specs.SmallAmounts.{IsSmall, IsSmallShape}
 
 -- the shapes of a list of the store
 abbrev pub shapes : Lists Node → ℕ → List Shape

@@ -1,10 +1,10 @@
 pub mod NameField
 pub mod NodeView
 pub mod Shape
-pub mod Plain
+pub mod PlainNodes
 pub mod Roles
 pub mod Sums
 pub mod Names
-pub mod Add
-pub mod Small
+pub mod NodeSums
+pub mod SmallAmounts
 pub mod Fit

@@ -2,18 +2,18 @@
 #![tactic(auto)]
 
 mod names;
+mod node_sums;
 mod roles;
 mod signals;
 mod sizes;
-mod summing;
 #[cfg(test)]
 mod tests;
 
 pub use names::name_of;
+pub use node_sums::{add, add_box, add_glue, list_sums, stretch_sums};
 pub use signals::{CLEAR_PENALTY, FOOTNOTES, HOLD_PENALTY, PAR_PENALTY, VERT_PENALTY};
 pub use sizes::list_extent;
 use std::marker::Model;
-pub use summing::{add, add_box, add_glue, list_sums, stretch_sums};
 use tb_pool::ListId;
 use tb_scaled::Glue;
 

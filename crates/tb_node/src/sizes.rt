@@ -2,9 +2,9 @@
 
 ghost use Rattle.std.specs.Prelude.{◌≡◌, ◌≤◌, ◌+ℤ◌, All, length, pos};
 ghost use Rattle.tb_pool.specs.Lists.{IsLive, list_at};
-ghost use Rattle.tb_node.specs.Plain.{shape_of};
+ghost use Rattle.tb_node.specs.PlainNodes.{shape_of};
 ghost use Rattle.tb_node.specs.Sums.{room_of, size_of, depth_after, last_depth};
-ghost use Rattle.tb_node.specs.Small.{IsAmount, IsSmallShape};
+ghost use Rattle.tb_node.specs.SmallAmounts.{IsAmount, IsSmallShape};
 ghost use Rattle.tb_node.specs.Fit.{shapes, IsSizedNode};
 
 use crate::{Extent, Kind, Node};

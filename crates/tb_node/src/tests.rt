@@ -4,7 +4,7 @@ ghost use Rattle.std.specs.Prelude.{◌≡◌, ◌+◌, ◌<◌, ◌≤◌, All,
 ghost use Rattle.tb_pool.specs.Lists.{IsLive, list_at};
 ghost use Rattle.tb_node.specs.declared.Node.{Node as NodeOf};
 ghost use Rattle.tb_node.specs.Fit.{IsSizedNode, IsSized};
-ghost use Rattle.tb_node.specs.Plain.{shape_of_kind};
+ghost use Rattle.tb_node.specs.PlainNodes.{shape_of_kind};
 
 use crate::{Kind, Node, What, list_extent, list_sums, name_of};
 use std::test::Fail;

@@ -5,23 +5,23 @@ use Rattle.tb_pool.specs.Lists.{Lists, list_at}
 use Rattle.tb_pool.specs.Frame.{IsNoneOf, OnlyChanged}
 use Rattle.tb_node.specs.declared.Node.{Node}
 use Rattle.tb_node.specs.Fit.{IsSizedLeaf}
-use Rattle.tb_node.specs.Plain.{plain_list}
+use Rattle.tb_node.specs.PlainNodes.{plain_list}
 use Rattle.tb_param.specs.declared.Params.{Params}
 use Rattle.tb_builder.specs.declared.Builder.{Builder}
 use Rattle.tb_builder.specs.declared.Page.{Page}
-use Rattle.tb_builder.specs.Fired.{Boxed, Fired, content_of}
+use Rattle.tb_builder.specs.FiredPages.{Boxed, Fired, content_of}
 use Rattle.tb_builder.specs.Contents.{contents_of, box_count}
-use Rattle.tb_builder.specs.Owned.{ids_of, owned}
-use Rattle.tb_builder.specs.Running.{IsSound}
-use Rattle.tb_builder.specs.Handed.{ListJoins, NoPage}
+use Rattle.tb_builder.specs.Ownership.{ids_of, owned}
+use Rattle.tb_builder.specs.Courses.{IsSound}
+use Rattle.tb_builder.specs.Contributions.{ListJoins, NoPage}
 use Rattle.tb_column.specs.Page.{IsPageList}
 use Rattle.tb_output.specs.declared.Turn.{Turn}
 use Rattle.tb_output.specs.declared.RunFault.{RunFault}
 use Rattle.tb_output.specs.declared.RunFault.TheVariants as faults
 use Rattle.tb_output.specs.State.{State, Work, begun}
-use Rattle.tb_output.specs.Out.{hold_penalty, output_by, next_goal, after_page, out}
+use Rattle.tb_output.specs.Output.{hold_penalty, output_by, next_goal, after_page, out}
 use Rattle.tb_output.specs.Machine.{MachineView, state_shown, events_shown, machine_lists, IsMachine}
-use Rattle.tb_output.specs.Keeping.{AreNoneOf, KeepsFields, IsBack, back_lists}
+use Rattle.tb_output.specs.MachineFrame.{AreNoneOf, KeepsFields, IsBack, back_lists}
 
 -- ---- the work of a firing
 

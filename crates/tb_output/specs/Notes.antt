@@ -6,17 +6,17 @@ use Rattle.tb_pool.specs.Frame.{IsNoneOf}
 use Rattle.tb_node.specs.declared.Node.{Node}
 use Rattle.tb_insert.specs.declared.Class.{Class}
 use Rattle.tb_builder.specs.declared.Builder.{Builder}
-use Rattle.tb_builder.specs.Fired.{Boxed}
+use Rattle.tb_builder.specs.FiredPages.{Boxed}
 use Rattle.tb_builder.specs.Contents.{contents_of, box_count}
-use Rattle.tb_builder.specs.Handed.{with_void}
-use Rattle.tb_builder.specs.Owned.{has_class}
+use Rattle.tb_builder.specs.Contributions.{with_void}
+use Rattle.tb_builder.specs.Ownership.{has_class}
 use Rattle.tb_column.specs.declared.NoteBox.{NoteBox}
 use Rattle.tb_column.specs.Notes.{notes_shown, note_lists, note_count, AreDistinct, AreRisingFrom, IsNote}
 use Rattle.tb_column.specs.Page.{AreLeaves}
 use Rattle.tb_output.specs.State.{notes_in}
 use Rattle.tb_output.specs.Columns.{emptied_boxes}
 use Rattle.tb_output.specs.Firing.{builder_lists}
-use Rattle.tb_output.specs.Keeping.{AreNoneOf}
+use Rattle.tb_output.specs.MachineFrame.{AreNoneOf}
 
 -- the boxes, with those of these classes void
 abbrev pub with_voids : List Class → List Boxed → List Boxed

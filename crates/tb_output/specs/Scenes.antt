@@ -7,9 +7,9 @@ use Rattle.tb_node.specs.declared.Kind.{Kind}
 use Rattle.tb_node.specs.Fit.{IsSizedNode}
 use Rattle.tb_scaled.specs.Glue.{fixed_glue}
 use Rattle.tb_insert.specs.declared.Class.{Class}
-use Rattle.tb_column.specs.FloatList.{made_node}
+use Rattle.tb_column.specs.FloatColumns.{made_node}
 use Rattle.tb_column.specs.Page.{is_leaf_kind}
-use Rattle.tb_output.specs.Out.{hold_penalty}
+use Rattle.tb_output.specs.Output.{hold_penalty}
 use Rattle.tb_output.specs.Machine.{MachineView, IsMachine}
 use Rattle.tb_output.specs.Firing.{IsReach}
 

@@ -1,7 +1,7 @@
 //! The events that were sent and not taken yet, the oldest first, with room for more.
 
 ghost use Rattle.std.specs.Prelude.{◌≡◌, ◌+◌, ◌<◌, ◌≤◌, [], ◌∷◌, ◌++◌, OnOk, OnErr, IfSome, IfNone, option_to_list};
-ghost use Rattle.tb_output.specs.Acting.{warnings_sent};
+ghost use Rattle.tb_output.specs.ActCalls.{warnings_sent};
 
 use std::alloc::{AllocError, Global};
 use std::collections::VecDeque;
@@ -35,7 +35,7 @@ pub(crate) struct Events {
 impl Model for Events {
     ghost use Rattle.std.specs.Prelude.{◌+◌, ◌≤◌};
     ghost use Rattle.std.specs.VecDeque.{deque_len, deque_capacity};
-    ghost use Rattle.tb_output.specs.Queue.{EventQueue};
+    ghost use Rattle.tb_output.specs.Events.{EventQueue};
 
     ghost Value = { EventQueue };
 

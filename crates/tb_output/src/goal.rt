@@ -5,13 +5,13 @@ ghost use Rattle.tb_builder.specs.Pageable.{IsGoal};
 ghost use Rattle.tb_node.specs.Fit.{IsExtent};
 ghost use Rattle.tb_float.specs.Ranges.{AreFloatParams};
 ghost use Rattle.tb_float.specs.Rooms.{column_room_of};
-ghost use Rattle.tb_output.specs.Out.{is_int, is_crowded, leave_column, next_goal};
+ghost use Rattle.tb_output.specs.Output.{is_int, is_crowded, leave_column, next_goal};
 ghost use Rattle.tb_output.specs.Machine.{IsMachine};
-ghost use Rattle.tb_output.specs.Working.{shows_back, IsCutShort, Does};
-ghost use Rattle.tb_output.specs.Keeping.{IsBack, KeepsBack};
-ghost use Rattle.tb_output.specs.Shipping.{with_warning};
+ghost use Rattle.tb_output.specs.FiringWork.{shows_back, IsCutShort, Does};
+ghost use Rattle.tb_output.specs.MachineFrame.{IsBack, KeepsBack};
+ghost use Rattle.tb_output.specs.PageChanges.{with_warning};
 
-use crate::lists::push_blanks;
+use crate::back_list::push_blanks;
 use crate::{Machine, RunFault};
 use std::alloc::AllocError;
 use tb_column::Warn;

@@ -3,9 +3,9 @@
 ghost use Rattle.std.specs.Prelude.{◌≡◌, ◌≤◌, true, [], ◌∷◌, IfOk, option_to_list};
 ghost use Rattle.tb_pool.specs.Frame.{OnlyChanged};
 ghost use Rattle.tb_builder.specs.Contents.{contents_of, box_count};
-ghost use Rattle.tb_builder.specs.Running.{IsSound};
-ghost use Rattle.tb_builder.specs.Handed.{NoPage};
-ghost use Rattle.tb_builder.specs.Owned.{has_class};
+ghost use Rattle.tb_builder.specs.Courses.{IsSound};
+ghost use Rattle.tb_builder.specs.Contributions.{NoPage};
+ghost use Rattle.tb_builder.specs.Ownership.{has_class};
 ghost use Rattle.tb_output.specs.Machine.{AreClassesFrom};
 ghost use Rattle.tb_output.specs.Firing.{builder_lists, AreSizedBoxes};
 ghost use Rattle.tb_output.specs.Notes.{BoxesTaken, NotesTaken};

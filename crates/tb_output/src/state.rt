@@ -4,8 +4,8 @@ ghost use Rattle.std.specs.Prelude.{◌≡◌, ◌≤◌, pos, List, [], ◌∷�
 ghost use Rattle.std.specs.FinMap.{get};
 ghost use Rattle.tb_pool.specs.Lists.{Lists as ListMap, IsLive, list_at, with_list};
 ghost use Rattle.tb_node.specs.declared.Node.{Node as NodeValue};
-ghost use Rattle.tb_node.specs.Plain.{PlainNode};
-ghost use Rattle.tb_builder.specs.Fired.{Boxed};
+ghost use Rattle.tb_node.specs.PlainNodes.{PlainNode};
+ghost use Rattle.tb_builder.specs.FiredPages.{Boxed};
 ghost use Rattle.tb_output.specs.State.{first_state, ask_of, no_suppress, void_boxes};
 ghost use Rattle.tb_output.specs.Machine.{state_shown, IsMachine, IsPoolSize, AreOutputParams, AreClassesFrom};
 

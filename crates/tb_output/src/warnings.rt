@@ -1,7 +1,7 @@
 //! Warnings are sent.
 
 ghost use Rattle.std.specs.Prelude.{◌≡◌, OnOk, OnErr};
-ghost use Rattle.tb_output.specs.Shipping.{with_warning};
+ghost use Rattle.tb_output.specs.PageChanges.{with_warning};
 
 use crate::Machine;
 use std::alloc::AllocError;

@@ -4,7 +4,7 @@ use Rattle.std.proofs.lemmas.Int.{ints}
 use Rattle.std.proofs.Math.Nat.{mul-le-mul, div-le_self}
 use Rattle.tb_scaled.specs.Scaled.{floor_div}
 use Rattle.tb_pack.specs.Pack.{floor_ratio}
-use Rattle.tb_pack.specs.Floor.{IsProduct}
+use Rattle.tb_pack.specs.PositionRange.{IsProduct}
 
 product_most : (a b : ℕ) → a ≤ 9223372036854775808 → b ≤ 9223372036854775808 → a * b ≤ 85070591730234615865843651857942052864
 product_most a b h k = mul-le-mul h k

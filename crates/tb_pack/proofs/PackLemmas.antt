@@ -7,7 +7,7 @@ use Rattle.tb_node.specs.declared.Sums.{Sums}
 use Rattle.tb_scaled.specs.declared.Order.{Order}
 use Rattle.tb_scaled.specs.declared.Order.TheVariants.{Normal, Fil, Fill, Filll}
 use Rattle.tb_node.specs.Shape.{Shape}
-use Rattle.tb_node.specs.Small.{IsSmall}
+use Rattle.tb_node.specs.SmallAmounts.{IsSmall}
 use Rattle.tb_node.specs.Fit.{SumsFit}
 use Rattle.tb_node.proofs.FitLemmas.{whole_fits}
 use Rattle.tb_node.specs.Sums.{limited_depth, list_stretch, list_shrink, stretches, sums_of}

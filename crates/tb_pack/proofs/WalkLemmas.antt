@@ -5,14 +5,14 @@ use Rattle.tb_scaled.specs.declared.Order.{Order}
 use Rattle.tb_scaled.specs.declared.Order.TheVariants.{Normal, Fil, Fill, Filll}
 use Rattle.tb_node.specs.Shape.{Shape}
 use Rattle.tb_node.specs.Sums.{room_of, size_of, sums_of, limited_depth, list_stretch}
-use Rattle.tb_node.specs.Small.{IsAmount, IsSmall}
+use Rattle.tb_node.specs.SmallAmounts.{IsAmount, IsSmall}
 use Rattle.tb_node.specs.Fit.{SumsFit}
 use Rattle.tb_node.proofs.AddLemmas.{size-append, stretch-append, shrink-append}
 use Rattle.tb_pack.specs.declared.Sign.{Sign}
 use Rattle.tb_pack.specs.declared.Sign.TheVariants as signs
 use Rattle.tb_pack.specs.declared.Set.{Set}
 use Rattle.tb_pack.specs.Pack.{at_of, glue_by_sign, top_after}
-use Rattle.tb_pack.specs.Walk.{Walked, glue_of, walked_past, top_of, HasPassed}
+use Rattle.tb_pack.specs.Position.{Walked, glue_of, walked_past, top_of, HasPassed}
 
 glue-append : (sign : Sign) (o : Order) (ns : List Shape) (n : Shape) → glue_by_sign sign o (ns ++ n ∷ []) ≡ glue_by_sign sign o ns +ℤ glue_of sign o n
 glue-append signs.None o ns n = omega (arith, ints)

@@ -4,7 +4,7 @@ use Rattle.tb_scaled.specs.declared.Order.{Order}
 use Rattle.tb_scaled.specs.declared.Order.TheVariants.{Normal, Fil, Fill, Filll}
 use Rattle.tb_scaled.specs.Scaled.{is_zero}
 use Rattle.tb_node.specs.declared.Sums.{Sums}
-use Rattle.tb_node.specs.Add.{order_index}
+use Rattle.tb_node.specs.NodeSums.{order_index}
 use Rattle.tb_pack.specs.declared.Set.{Set}
 use Rattle.tb_pack.specs.Pack.{Setting, natural_setting, stretched, shrunk}
 

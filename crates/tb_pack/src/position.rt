@@ -4,14 +4,14 @@ ghost use Rattle.std.specs.Prelude.{◌≡◌, ◌≢◌, ◌∷◌, ◌++◌, [
 ghost use Rattle.std.specs.Int.{w64};
 ghost use Rattle.tb_scaled.specs.declared.Glue.{Glue as GlueOf};
 ghost use Rattle.tb_scaled.specs.declared.Order.{Order as OrderOf};
-ghost use Rattle.tb_node.specs.Plain.{shape_of};
+ghost use Rattle.tb_node.specs.PlainNodes.{shape_of};
 ghost use Rattle.tb_node.specs.Shape.{Shape, glue};
-ghost use Rattle.tb_node.specs.Small.{IsSmallShape};
+ghost use Rattle.tb_node.specs.SmallAmounts.{IsSmallShape};
 ghost use Rattle.tb_node.specs.Sums.{room_of, amount_at};
 ghost use Rattle.tb_pack.specs.declared.Set.{Set as SetOf};
 ghost use Rattle.tb_pack.specs.Pack.{at_of, set_amount, floor_ratio, top_after};
-ghost use Rattle.tb_pack.specs.Floor.{IsProduct};
-ghost use Rattle.tb_pack.specs.Walk.{walked_past, glue_of, top_of, HasPassed};
+ghost use Rattle.tb_pack.specs.PositionRange.{IsProduct};
+ghost use Rattle.tb_pack.specs.Position.{walked_past, glue_of, top_of, HasPassed};
 
 use crate::{Set, Sign};
 use std::marker::Model;
@@ -80,8 +80,8 @@ pub struct Tops {
 }
 
 impl Model for Tops {
-    ghost use Rattle.tb_pack.specs.Floor.{IsProduct};
-    ghost use Rattle.tb_pack.specs.Walk.{Walked};
+    ghost use Rattle.tb_pack.specs.PositionRange.{IsProduct};
+    ghost use Rattle.tb_pack.specs.Position.{Walked};
 
     ghost Value = { Walked };
 

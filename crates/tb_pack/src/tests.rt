@@ -3,7 +3,7 @@
 ghost use Rattle.std.specs.Prelude.{◌≡◌, ◌+◌, ◌<◌, ◌≤◌, All, length};
 ghost use Rattle.tb_pool.specs.Lists.{IsLive, list_at};
 ghost use Rattle.tb_node.specs.Fit.{IsSizedNode, IsSized};
-ghost use Rattle.tb_node.specs.Plain.{shape_of_kind};
+ghost use Rattle.tb_node.specs.PlainNodes.{shape_of_kind};
 
 use crate::{Set, Sign, Tops, at, pack};
 use std::test::Fail;

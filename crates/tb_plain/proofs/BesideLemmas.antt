@@ -6,7 +6,7 @@ use Rattle.tb_pool.specs.Lists.{Lists}
 use Rattle.tb_node.specs.declared.Node.{Node}
 use Rattle.tb_node.specs.declared.Kind.{Kind}
 use Rattle.tb_node.specs.declared.Kind.TheVariants as kinds
-use Rattle.tb_builder.specs.Owned.{Lacks, is_plain, AllPlain}
+use Rattle.tb_builder.specs.Ownership.{Lacks, is_plain, AllPlain}
 use Rattle.tb_builder.proofs.Ownership.OwnedLemmas.{AllSame}
 use Rattle.tb_column.specs.Page.{is_leaf_kind, AreLeaves}
 

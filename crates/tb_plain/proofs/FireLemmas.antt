@@ -12,7 +12,7 @@ use Rattle.tb_pool.specs.Lists.{Lists, list_at, with_list}
 use Rattle.tb_pool.proofs.CallerLemmas.{list_same, live_same, get_other}
 use Rattle.tb_node.specs.declared.Node.{Node}
 use Rattle.tb_node.specs.declared.Kind.TheVariants as node_kinds
-use Rattle.tb_node.specs.Plain.{rule, skip, kerned, Leaf, leaf_node, PlainNode, plain_of, node_shape, shape_of, made, plain_list}
+use Rattle.tb_node.specs.PlainNodes.{rule, skip, kerned, Leaf, leaf_node, PlainNode, plain_of, node_shape, shape_of, made, plain_list}
 use Rattle.tb_node.specs.Sums.{last_depth, limited_depth}
 use Rattle.tb_node.specs.Fit.{IsDimension, IsExtent, IsSized, IsSizedNode, IsSizedPlain, IsSizedLeaf, shapes}
 use Rattle.tb_node.proofs.FitLemmas.{last_depth_extent}
@@ -21,31 +21,31 @@ use Rattle.tb_pack.specs.declared.Set.{Set}
 use Rattle.tb_pack.specs.Pack.{packed}
 use Rattle.tb_builder.specs.declared.Builder.{Builder}
 use Rattle.tb_builder.specs.declared.Page.{Page}
-use Rattle.tb_builder.specs.Fired.{Boxed, Fired, box_content, content_of}
+use Rattle.tb_builder.specs.FiredPages.{Boxed, Fired, box_content, content_of}
 use Rattle.tb_builder.specs.Contents.{Contents, contents_of, box_count}
-use Rattle.tb_builder.specs.Owned.{Lacks, has_class, ids_of, owned, AllPlain}
+use Rattle.tb_builder.specs.Ownership.{Lacks, has_class, ids_of, owned, AllPlain}
 use Rattle.tb_builder.specs.Pageable.{IsSizedBox}
-use Rattle.tb_builder.specs.Running.{IsSound}
-use Rattle.tb_builder.specs.Handed.{ListJoins, NoPage, with_void}
+use Rattle.tb_builder.specs.Courses.{IsSound}
+use Rattle.tb_builder.specs.Contributions.{ListJoins, NoPage, with_void}
 use Rattle.tb_builder.proofs.Ownership.OwnedLemmas.{AllSame}
 use Rattle.tb_builder.proofs.Ownership.FrameLemmas.{opened_same, frame_owned, frame_contents, frame_sound, fresh_apart}
 use Rattle.tb_builder.proofs.Ownership.NewLemmas.{fresh_lacks}
 use Rattle.tb_builder.proofs.Ranges.PageableLemmas.{content_sized}
-use Rattle.tb_builder.proofs.Worked.WorkedLemmas.{list_joins}
+use Rattle.tb_builder.proofs.WorkedPages.WorkedLemmas.{list_joins}
 use Rattle.tb_column.specs.declared.Column.{Column}
 use Rattle.tb_column.specs.declared.ColumnKind.TheVariants as kinds
 use Rattle.tb_column.specs.Column.{is_ragged}
-use Rattle.tb_column.specs.Shown.{column_shown}
+use Rattle.tb_column.specs.StoredColumns.{column_shown}
 use Rattle.tb_column.specs.Page.{AreLeaves, IsPageList, IsPageColumn}
-use Rattle.tb_column.specs.FloatList.{made_node}
+use Rattle.tb_column.specs.FloatColumns.{made_node}
 use Rattle.tb_column.specs.Ranges.{IsSizedGlue}
 use Rattle.tb_column.proofs.ShownLemmas.{shapes-held}
 use Rattle.tb_plain.specs.declared.Plain.{Plain}
 use Rattle.tb_plain.specs.declared.PlainPage.{PlainPage}
-use Rattle.tb_plain.specs.Expand.{clearing_penalty}
+use Rattle.tb_plain.specs.GalleyNodes.{clearing_penalty}
 use Rattle.tb_plain.specs.Firing.{ragged_end, feet_below, makeup_column_nodes, makeup_column, holds_any, page_for_held, put_back_after}
-use Rattle.tb_plain.specs.Making.{end_list, held_list, back_list, Grows}
-use Rattle.tb_plain.specs.Calls.{AreMakeupParams, CanFire, fired_with, HasFired}
+use Rattle.tb_plain.specs.StoredLists.{end_list, held_list, back_list, Grows}
+use Rattle.tb_plain.specs.MakeupCalls.{AreMakeupParams, CanFire, fired_with, HasFired}
 use Rattle.tb_plain.proofs.GrowLemmas.{grows-then, grows-among, put-grows, put-sound, put-contents, put-owned, other-box, two-counts, shown-anywhere}
 
 -- ---- the end of the column

@@ -2,7 +2,7 @@
 use Rattle.std.proofs.Common.{◌≡◌, refl, sym, ap, subst, ℕ, suc, pos, ◌+◌, Bool, true, false, List, [], ◌∷◌, Some, None, is_some, arith}
 use Rattle.std.specs.Prelude.{◌==◌, int_lt, if◌then◌else◌}
 use Rattle.std.proofs.lemmas.Bool.{eqb-true, true≢false}
-use Rattle.tb_node.specs.Plain.{on_line}
+use Rattle.tb_node.specs.PlainNodes.{on_line}
 use Rattle.tb_node.proofs.Weights.{Weight, nodes_weight}
 use Rattle.tb_param.specs.declared.Params.{Params}
 use Rattle.tb_galley.specs.declared.Item.{Item}
@@ -10,8 +10,8 @@ use Rattle.tb_galley.specs.declared.ItemKind.{ItemKind}
 use Rattle.tb_galley.specs.declared.ItemKind.TheVariants as items
 use Rattle.tb_galley.specs.declared.Galley.{Galley}
 use Rattle.tb_builder.specs.Contents.{node_count}
-use Rattle.tb_plain.specs.Expand.{clearing_kinds, makeup_kinds, makeup_nodes, made_up}
-use Rattle.tb_plain.specs.Suited.{is_suited, unsuited_among, IsSuited}
+use Rattle.tb_plain.specs.GalleyNodes.{clearing_kinds, makeup_kinds, makeup_nodes, made_up}
+use Rattle.tb_plain.specs.Suitability.{is_suited, unsuited_among, IsSuited}
 use Rattle.tb_plain.specs.Run.{done, node_limit, MakeupRun, steps_left, first_makeup, makeup_from, makeup_of}
 use Rattle.tb_builder.proofs.FiredPages.PageWeights.{IsOnce}
 use Rattle.tb_builder.proofs.Cutting.CutLemmas.{class-both}

@@ -8,14 +8,14 @@ use Rattle.tb_pool.specs.Lists.{Lists, IsLive, list_at, with_list}
 use Rattle.tb_pool.proofs.MapLemmas.{get-insert_same, get-insert_other}
 use Rattle.tb_pool.proofs.CallerLemmas.{list_same, live_same, get_other}
 use Rattle.tb_node.specs.declared.Node.{Node}
-use Rattle.tb_node.specs.Plain.{Leaf, leaf_node, PlainNode, plain_of, plain_list}
+use Rattle.tb_node.specs.PlainNodes.{Leaf, leaf_node, PlainNode, plain_of, plain_list}
 use Rattle.tb_param.specs.declared.Params.{Params}
 use Rattle.tb_builder.specs.declared.Builder.{Builder}
-use Rattle.tb_builder.specs.Fired.{Boxed, box_content, content_of}
+use Rattle.tb_builder.specs.FiredPages.{Boxed, box_content, content_of}
 use Rattle.tb_builder.specs.Contents.{Contents, contents_of, box_count}
-use Rattle.tb_builder.specs.Owned.{Lacks, has_class, ids_of, owned}
-use Rattle.tb_builder.specs.Running.{IsSound}
-use Rattle.tb_builder.specs.Handed.{NoPage, with_void, Taken}
+use Rattle.tb_builder.specs.Ownership.{Lacks, has_class, ids_of, owned}
+use Rattle.tb_builder.specs.Courses.{IsSound}
+use Rattle.tb_builder.specs.Contributions.{NoPage, with_void, Taken}
 use Rattle.tb_builder.proofs.Ownership.OwnedLemmas.{AllSame}
 use Rattle.tb_builder.proofs.Ownership.FrameLemmas.{frame_owned, frame_contents, frame_sound}
 use Rattle.tb_column.specs.Page.{AreLeaves}
@@ -23,7 +23,7 @@ use Rattle.tb_column.proofs.StoreLemmas.{with_list-same}
 use Rattle.tb_column.proofs.FloatLemmas.{leaves-append}
 use Rattle.tb_column.proofs.ShownLemmas.{leaves-held}
 use Rattle.tb_plain.specs.Firing.{feet_below}
-use Rattle.tb_plain.specs.Making.{above_feet, Grows}
+use Rattle.tb_plain.specs.StoredLists.{above_feet, Grows}
 use Rattle.tb_plain.proofs.BesideLemmas.{same-one, same-two, plain-leaves}
 
 -- ---- one step after another

@@ -4,19 +4,19 @@ use Rattle.std.specs.Prelude.{pred, ◌||◌, ◌&&◌, int_lt, int_le, if◌the
 use Rattle.tb_node.specs.declared.Act.{Act}
 use Rattle.tb_node.specs.declared.Act.TheVariants as acts
 use Rattle.tb_node.specs.declared.Float.{Float}
-use Rattle.tb_node.specs.Plain.{hbox, rule, skip, kerned, pen, mark, note, whatsit, Leaf, Inserted, leaf_node, PlainKind, plain, ins, act, PlainNode, without_acts, without_insertions, on_line}
+use Rattle.tb_node.specs.PlainNodes.{hbox, rule, skip, kerned, pen, mark, note, whatsit, Leaf, Inserted, leaf_node, PlainKind, plain, ins, act, PlainNode, without_acts, without_insertions, on_line}
 use Rattle.tb_param.specs.declared.Params.{Params}
-use Rattle.tb_break.specs.Prune.{pruned_nodes}
+use Rattle.tb_break.specs.PageTop.{pruned_nodes}
 use Rattle.tb_insert.specs.Account.{Labelled, Label, whole, split, late, labelled, terms_after}
 use Rattle.tb_builder.specs.declared.PageSums.{PageSums}
-use Rattle.tb_builder.specs.Reached.{Reach, holds_box, laid_out}
-use Rattle.tb_builder.specs.Fired.{Fired, page_break, spent_kind, with_spent_break, unless_empty, held_of, held_insertions, box_content, content_of, frozen_for, fired_of}
+use Rattle.tb_builder.specs.Reach.{Reach, holds_box, laid_out}
+use Rattle.tb_builder.specs.FiredPages.{Fired, page_break, spent_kind, with_spent_break, unless_empty, held_of, held_insertions, box_content, content_of, frozen_for, fired_of}
 use Rattle.tb_builder.specs.Contents.{node_count}
-use Rattle.tb_builder.specs.Summed.{page_sums_of}
+use Rattle.tb_builder.specs.PageSums.{page_sums_of}
 use Rattle.tb_builder.proofs.Cutting.CutLemmas.{CutAt, reach-cut}
 use Rattle.tb_column.specs.Column.{PlainSent, one, shipped, is_ragged}
-use Rattle.tb_plain.specs.Expand.{clearing_penalty}
-use Rattle.tb_plain.specs.Take.{top_insertion, top_leaves, page_leaves, here_nodes, with_float, taken_nodes, act_nodes}
+use Rattle.tb_plain.specs.GalleyNodes.{clearing_penalty}
+use Rattle.tb_plain.specs.TakenFloats.{top_insertion, top_leaves, page_leaves, here_nodes, with_float, taken_nodes, act_nodes}
 use Rattle.tb_plain.specs.Firing.{feet_below, holds_any, ragged_end, makeup_column_nodes, makeup_column, page_for_held, put_back_after}
 use Rattle.tb_plain.specs.Run.{MakeupState, done, page_limit, node_limit, MakeupRun, MakeupStep, ends, goes_on, makeup_ask, makeup_classes, void_boxes, builder_holds, makeup_reach, AtAct, no_act, at_act, after_node, first_act_by, first_act, meets_act, act_step, waiting_after, firing_step, last_step, makeup_step, run_by, makeup_from}
 use Rattle.tb_column.proofs.PrintedLines.{printed, prints, sent_prints, prints-append, sent-append}

@@ -1,11 +1,11 @@
 -- All insertions are of the two classes of the page makeup.
 use Rattle.std.proofs.Common.{ℕ, ℤ, Bool, true, false, List, [], ◌∷◌, ◌++◌}
 use Rattle.std.specs.Prelude.{if◌then◌else◌}
-use Rattle.tb_node.specs.Plain.{PlainNode}
-use Rattle.tb_break.specs.Prune.{pruned_nodes}
+use Rattle.tb_node.specs.PlainNodes.{PlainNode}
+use Rattle.tb_break.specs.PageTop.{pruned_nodes}
 use Rattle.tb_insert.specs.Account.{Labelled}
-use Rattle.tb_builder.specs.Reached.{holds_box, laid_out}
-use Rattle.tb_builder.specs.Fired.{held_insertions}
+use Rattle.tb_builder.specs.Reach.{holds_box, laid_out}
+use Rattle.tb_builder.specs.FiredPages.{held_insertions}
 use Rattle.tb_builder.proofs.FiredPages.PageWeights.{AllOfClass, LabelsOfClass}
 use Rattle.tb_builder.proofs.Cutting.CutLemmas.{class-both, class-pruned, held-ins, inserted-class}
 

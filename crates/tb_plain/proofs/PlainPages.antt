@@ -1,17 +1,17 @@
 -- What the page makeup ships has no insertions and no acts.
 use Rattle.std.proofs.Common.{sym, subst, ℕ, zero, suc, pos, ◌+◌, Bool, true, false, List, [], ◌∷◌, ◌++◌, map, take, Option, Some, None}
 use Rattle.std.specs.Prelude.{pred, int_lt, if◌then◌else◌}
-use Rattle.tb_node.specs.Plain.{Leaf, leaf_node, PlainKind, plain, ins, act, PlainNode, without_insertions}
+use Rattle.tb_node.specs.PlainNodes.{Leaf, leaf_node, PlainKind, plain, ins, act, PlainNode, without_insertions}
 use Rattle.tb_param.specs.declared.Params.{Params}
 use Rattle.tb_galley.specs.declared.Galley.{Galley}
 use Rattle.tb_insert.specs.Account.{terms_after}
-use Rattle.tb_builder.specs.Reached.{Reach, laid_out}
-use Rattle.tb_builder.specs.Fired.{Fired, page_break, box_content, content_of, frozen_for, fired_of}
+use Rattle.tb_builder.specs.Reach.{Reach, laid_out}
+use Rattle.tb_builder.specs.FiredPages.{Fired, page_break, box_content, content_of, frozen_for, fired_of}
 use Rattle.tb_builder.specs.Contents.{node_count}
 use Rattle.tb_builder.proofs.Cutting.CutLemmas.{ActFree, AllFree, acts-free, CutAt, reach-cut}
 use Rattle.tb_column.specs.Column.{PlainSent, one, shipped, is_ragged}
 use Rattle.tb_column.proofs.PrintedLines.{AllPlain, SentPlain, plain-both, sent-plain, leaves-plain}
-use Rattle.tb_plain.specs.Expand.{made_up}
+use Rattle.tb_plain.specs.GalleyNodes.{made_up}
 use Rattle.tb_plain.specs.Firing.{feet_below, ragged_end, makeup_column_nodes, makeup_column}
 use Rattle.tb_plain.specs.Run.{MakeupState, MakeupRun, MakeupStep, ends, goes_on, page_limit, node_limit, makeup_ask, makeup_classes, void_boxes, makeup_reach, AtAct, no_act, at_act, first_act, meets_act, act_step, waiting_after, firing_step, last_step, makeup_step, run_by, makeup_from, steps_left, first_makeup, makeup_of}
 

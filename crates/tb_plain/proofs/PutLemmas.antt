@@ -13,25 +13,25 @@ use Rattle.tb_node.specs.declared.Node.{Node}
 use Rattle.tb_node.specs.declared.Act.{Act}
 use Rattle.tb_node.specs.declared.Act.TheVariants as acts
 use Rattle.tb_node.specs.declared.Float.{Float}
-use Rattle.tb_node.specs.Plain.{Leaf, leaf_of, leaf_shape, ins, PlainNode, plain_of, plain_list}
+use Rattle.tb_node.specs.PlainNodes.{Leaf, leaf_of, leaf_shape, ins, PlainNode, plain_of, plain_list}
 use Rattle.tb_node.specs.Sums.{size_of}
 use Rattle.tb_param.specs.declared.Params.{Params}
 use Rattle.tb_builder.specs.declared.Builder.{Builder}
 use Rattle.tb_builder.specs.declared.PageSums.{PageSums}
 use Rattle.tb_builder.specs.Contents.{Contents, contents_of}
-use Rattle.tb_builder.specs.Owned.{Lacks, has_class, inner_ids, ids_of, owned, AllPlain}
-use Rattle.tb_builder.specs.Running.{IsSound}
-use Rattle.tb_builder.specs.Handed.{NodesJoin, ListJoins, ends_in_kern}
+use Rattle.tb_builder.specs.Ownership.{Lacks, has_class, inner_ids, ids_of, owned, AllPlain}
+use Rattle.tb_builder.specs.Courses.{IsSound}
+use Rattle.tb_builder.specs.Contributions.{NodesJoin, ListJoins, ends_in_kern}
 use Rattle.tb_builder.proofs.Ownership.OwnedLemmas.{AllSame, lacks-append, lacks-right}
 use Rattle.tb_builder.proofs.Ownership.NewLemmas.{fresh_lacks}
 use Rattle.tb_builder.proofs.Ownership.FrameLemmas.{frame_owned, frame_contents, frame_sound, insertion_joins, fresh_apart}
-use Rattle.tb_builder.proofs.Worked.WorkedLemmas.{plain_ids, list_joins}
+use Rattle.tb_builder.proofs.WorkedPages.WorkedLemmas.{plain_ids, list_joins}
 use Rattle.tb_column.proofs.StoreLemmas.{helper-apart}
-use Rattle.tb_plain.specs.declared.taking.Place.{Place}
-use Rattle.tb_plain.specs.declared.taking.Place.TheVariants as ways
-use Rattle.tb_plain.specs.Take.{here_nodes, top_leaves, page_leaves, top_insertion, taken_nodes, act_nodes, with_float}
-use Rattle.tb_plain.specs.Making.{place_of, nodes_at, here_list, top_list, page_list, top_node, AreOpened, IsPutFirst}
-use Rattle.tb_plain.specs.Calls.{CanAct, HasPut}
+use Rattle.tb_plain.specs.declared.taken_floats.Place.{Place}
+use Rattle.tb_plain.specs.declared.taken_floats.Place.TheVariants as ways
+use Rattle.tb_plain.specs.TakenFloats.{here_nodes, top_leaves, page_leaves, top_insertion, taken_nodes, act_nodes, with_float}
+use Rattle.tb_plain.specs.StoredLists.{place_of, nodes_at, here_list, top_list, page_list, top_node, AreOpened, IsPutFirst}
+use Rattle.tb_plain.specs.MakeupCalls.{CanAct, HasPut}
 use Rattle.tb_plain.proofs.BesideLemmas.{same-one, same-two}
 
 -- ---- the list is put first and closed

@@ -3,20 +3,20 @@ use Rattle.std.proofs.Common.{◌≡◌, refl, sym, ◌∙◌, ap, ℕ, ℤ, zer
 use Rattle.std.specs.Prelude.{pred, int_lt, ◌<ℤ◌, ◌≤ℤ◌, if◌then◌else◌}
 use Rattle.std.proofs.lemmas.Int.{ints}
 use Rattle.std.proofs.lemmas.Bool.{true≢false}
-use Rattle.tb_node.specs.Plain.{PlainKind, plain, ins, act, PlainNode, without_acts}
+use Rattle.tb_node.specs.PlainNodes.{PlainKind, plain, ins, act, PlainNode, without_acts}
 use Rattle.tb_param.specs.declared.Params.{Params}
 use Rattle.tb_break.specs.Best.{Breakpoint, is_stop}
 use Rattle.tb_insert.specs.Terms.{Terms}
 use Rattle.tb_insert.specs.Account.{terms_after}
-use Rattle.tb_builder.specs.Reached.{tried, Reach, also_reached, laid_out, page_place, stopped_at, reach_at_place, reach_at, reach_node, reach_from}
-use Rattle.tb_builder.specs.Fired.{Fired, frozen_for, fired_of}
+use Rattle.tb_builder.specs.Reach.{tried, Reach, also_reached, laid_out, page_place, stopped_at, reach_at_place, reach_at, reach_node, reach_from}
+use Rattle.tb_builder.specs.FiredPages.{Fired, frozen_for, fired_of}
 use Rattle.tb_builder.specs.Contents.{node_count}
 use Rattle.tb_builder.proofs.Cutting.CutLemmas.{CutAt, reach-cut}
 use Rattle.tb_column.specs.Column.{PlainSent, shipped, one}
-use Rattle.tb_plain.specs.Expand.{made_up}
+use Rattle.tb_plain.specs.GalleyNodes.{made_up}
 use Rattle.tb_plain.specs.Firing.{makeup_column}
 use Rattle.tb_plain.specs.Run.{MakeupState, MakeupEnd, done, page_limit, node_limit, MakeupRun, MakeupStep, ends, goes_on, makeup_ask, makeup_classes, void_boxes, makeup_reach, AtAct, no_act, at_act, after_node, first_act_by, first_act, meets_act, act_step, waiting_after, firing_step, last_step, makeup_step, run_by, makeup_from, one_act, act_count, steps_left, first_makeup, makeup_of}
-use Rattle.tb_plain.specs.Steps.{HasReason, EndsHaveReasons}
+use Rattle.tb_plain.specs.RunSteps.{HasReason, EndsHaveReasons}
 use Rattle.tb_plain.proofs.StepLemmas.{acts-laid, Enough, Falls, step-falls, not-enough}
 
 -- ---- an act that is reached waits

@@ -7,23 +7,23 @@ use Rattle.std.proofs.Math.Bool.{or-true}
 use Rattle.tb_node.specs.declared.Act.{Act}
 use Rattle.tb_node.specs.declared.Act.TheVariants as acts
 use Rattle.tb_node.specs.declared.Float.{Float}
-use Rattle.tb_node.specs.Plain.{blank_box, hbox, rule, skip, kerned, pen, mark, note, whatsit, Leaf, Inserted, PlainKind, plain, ins, act, PlainNode, without_acts, on_line, made}
+use Rattle.tb_node.specs.PlainNodes.{blank_box, hbox, rule, skip, kerned, pen, mark, note, whatsit, Leaf, Inserted, PlainKind, plain, ins, act, PlainNode, without_acts, on_line, made}
 use Rattle.tb_param.specs.declared.Params.{Params}
 use Rattle.tb_break.specs.Best.{Breakpoint, is_stop}
-use Rattle.tb_break.specs.Prune.{pruned_nodes}
+use Rattle.tb_break.specs.PageTop.{pruned_nodes}
 use Rattle.tb_insert.specs.Terms.{Terms}
 use Rattle.tb_insert.specs.Account.{Labelled, Label, whole, split, late, labelled, terms_after}
 use Rattle.tb_builder.specs.declared.PageSums.{PageSums}
-use Rattle.tb_builder.specs.Reached.{tried, Reach, also_reached, holds_box, laid_out, page_place, stopped_at, reach_at_place, reach_at, reach_node, reach_from}
-use Rattle.tb_builder.specs.Fired.{Fired, page_break, spent_kind, with_spent_break, held_of, unless_empty, held_insertions, frozen_for, reach_of, fired_of}
-use Rattle.tb_builder.specs.Summed.{page_sums_of}
+use Rattle.tb_builder.specs.Reach.{tried, Reach, also_reached, holds_box, laid_out, page_place, stopped_at, reach_at_place, reach_at, reach_node, reach_from}
+use Rattle.tb_builder.specs.FiredPages.{Fired, page_break, spent_kind, with_spent_break, held_of, unless_empty, held_insertions, frozen_for, reach_of, fired_of}
+use Rattle.tb_builder.specs.PageSums.{page_sums_of}
 use Rattle.tb_builder.specs.Contents.{node_count}
 use Rattle.tb_column.specs.Column.{PlainSent, shipped, one}
-use Rattle.tb_plain.specs.Expand.{clearing_glue}
-use Rattle.tb_plain.specs.Take.{top_insertion, top_leaves, page_leaves, here_nodes, with_float, taken_nodes, act_nodes}
+use Rattle.tb_plain.specs.GalleyNodes.{clearing_glue}
+use Rattle.tb_plain.specs.TakenFloats.{top_insertion, top_leaves, page_leaves, here_nodes, with_float, taken_nodes, act_nodes}
 use Rattle.tb_plain.specs.Firing.{holds_any, makeup_column, page_for_held, put_back_after}
 use Rattle.tb_plain.specs.Run.{MakeupState, MakeupStep, ends, goes_on, makeup_ask, makeup_classes, void_boxes, builder_holds, makeup_reach, AtAct, no_act, at_act, after_node, first_act_by, first_act, meets_act, act_step, waiting_after, shipping_step, firing_step, ejecting_nodes, last_step, makeup_step, run_after, run_by, makeup_from, one_act, act_count, node_limit, page_limit, done}
-use Rattle.tb_plain.specs.Steps.{StepsAgree}
+use Rattle.tb_plain.specs.RunSteps.{StepsAgree}
 
 -- ---- acts
 

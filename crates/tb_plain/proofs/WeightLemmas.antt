@@ -5,21 +5,21 @@ use Rattle.std.proofs.lemmas.Bool.{true≢false}
 use Rattle.tb_node.specs.declared.Act.{Act}
 use Rattle.tb_node.specs.declared.Act.TheVariants as acts
 use Rattle.tb_node.specs.declared.Float.{Float}
-use Rattle.tb_node.specs.Plain.{Leaf, leaf_node, PlainKind, plain, ins, act, PlainNode}
+use Rattle.tb_node.specs.PlainNodes.{Leaf, leaf_node, PlainKind, plain, ins, act, PlainNode}
 use Rattle.tb_node.proofs.Weights.{Weight, leaves_weight, act_weight, nodes_weight, weight-append, leaf_nodes-weight}
 use Rattle.tb_param.specs.declared.Params.{Params}
 use Rattle.tb_insert.specs.Account.{Labelled, labelled, terms_after}
 use Rattle.tb_builder.specs.declared.PageSums.{PageSums}
-use Rattle.tb_builder.specs.Reached.{Reached, acted, tried, Reach, laid_out}
-use Rattle.tb_builder.specs.Fired.{Fired, page_break, given_to, is_given, content_of, box_content, box_after, frozen_for, fired_of}
+use Rattle.tb_builder.specs.Reach.{Reached, acted, tried, Reach, laid_out}
+use Rattle.tb_builder.specs.FiredPages.{Fired, page_break, given_to, is_given, content_of, box_content, box_after, frozen_for, fired_of}
 use Rattle.tb_builder.specs.Contents.{node_count}
-use Rattle.tb_builder.specs.Summed.{page_sums_of}
+use Rattle.tb_builder.specs.PageSums.{page_sums_of}
 use Rattle.tb_builder.proofs.FiredPages.PageWeights.{laid_out-weight, acted_weight, reach-weight, boxes_weight, fired-weight, labelled-class}
 use Rattle.tb_builder.proofs.Cutting.CutLemmas.{CutAt, reach-cut, class-both, class-take, class-drop, class-passed, spent-class}
 use Rattle.tb_column.specs.Column.{one, PlainSent, warned, shipped, is_ragged}
-use Rattle.tb_report.specs.Totals.{sheet_nodes}
-use Rattle.tb_plain.specs.Expand.{clearing_penalty}
-use Rattle.tb_plain.specs.Take.{top_insertion, top_leaves, page_leaves, here_nodes, with_float, taken_nodes, act_nodes}
+use Rattle.tb_report.specs.RunTotals.{sheet_nodes}
+use Rattle.tb_plain.specs.GalleyNodes.{clearing_penalty}
+use Rattle.tb_plain.specs.TakenFloats.{top_insertion, top_leaves, page_leaves, here_nodes, with_float, taken_nodes, act_nodes}
 use Rattle.tb_plain.specs.Firing.{feet_below, holds_any, ragged_end, makeup_column_nodes, makeup_column, page_for_held, put_back_after}
 use Rattle.tb_plain.specs.Run.{MakeupState, done, page_limit, node_limit, MakeupRun, MakeupStep, ends, goes_on, makeup_ask, makeup_classes, void_boxes, builder_holds, makeup_reach, AtAct, no_act, at_act, after_node, first_act_by, first_act, meets_act, act_step, waiting_after, firing_step, last_step, makeup_step, run_by, makeup_from}
 use Rattle.tb_plain.proofs.OurLemmas.{ours, AllOurs, ours-laid, held-ours}

@@ -16,34 +16,34 @@ use Rattle.tb_node.specs.declared.Kind.{Kind}
 use Rattle.tb_node.specs.declared.Kind.TheVariants as kinds
 use Rattle.tb_node.specs.declared.What.{What}
 use Rattle.tb_node.specs.Fit.{shapes, IsDimension, IsSizedLeaf}
-use Rattle.tb_node.specs.Plain.{plain_of, plain_kind, shape_of, shape_of_kind}
+use Rattle.tb_node.specs.PlainNodes.{plain_of, plain_kind, shape_of, shape_of_kind}
 use Rattle.tb_node.specs.Sums.{size_of}
 use Rattle.tb_param.specs.declared.Params.{Params}
-use Rattle.tb_break.specs.Prune.{pruned_nodes}
+use Rattle.tb_break.specs.PageTop.{pruned_nodes}
 use Rattle.tb_insert.specs.Account.{labelled, terms_after}
 use Rattle.tb_builder.specs.declared.Ask.{Ask}
 use Rattle.tb_builder.specs.declared.Builder.{Builder}
 use Rattle.tb_builder.specs.declared.Event.{Event}
 use Rattle.tb_builder.specs.declared.Event.TheVariants as events
 use Rattle.tb_builder.specs.declared.Page.{Page}
-use Rattle.tb_builder.specs.Fired.{page_break}
+use Rattle.tb_builder.specs.FiredPages.{page_break}
 use Rattle.tb_builder.specs.Contents.{Contents, contents_of, nothing_yet, frozen_of, laid, reach_whole, node_count, box_count}
-use Rattle.tb_builder.specs.Handed.{NoPage, ends_in_kern}
-use Rattle.tb_builder.specs.Kept.{IsSizedAsk, IsSizedContents, IsSizedFreeze, fired_count, whole_count}
-use Rattle.tb_builder.specs.Next.{NextFits, NextIs, FiredIs, IsGivenOut, fired_page}
-use Rattle.tb_builder.specs.Owned.{ClassesFit, has_class, ids_of}
+use Rattle.tb_builder.specs.Contributions.{NoPage, ends_in_kern}
+use Rattle.tb_builder.specs.SizedContents.{IsSizedAsk, IsSizedContents, IsSizedFreeze, fired_count, whole_count}
+use Rattle.tb_builder.specs.PageEvents.{NextFits, NextIs, FiredIs, IsGivenOut, fired_page}
+use Rattle.tb_builder.specs.Ownership.{ClassesFit, has_class, ids_of}
 use Rattle.tb_builder.specs.Pageable.{IsSizedOnPage, IsSizedClass, IsSizedBox, IsPageable}
-use Rattle.tb_builder.specs.Running.{IsSound}
-use Rattle.tb_builder.specs.Worked.{IsReady}
+use Rattle.tb_builder.specs.Courses.{IsSound}
+use Rattle.tb_builder.specs.WorkedPages.{IsReady}
 use Rattle.tb_builder.proofs.Handover.CallLemmas.{class-fits, list-sized, list-count}
 use Rattle.tb_builder.proofs.Ranges.KeptLemmas.{kept-fits, event-sized, event-fewer, stopped-sized, stopped-fewer}
 use Rattle.tb_builder.proofs.Ranges.SizedLemmas.{FiredSized}
 use Rattle.tb_builder.proofs.Ownership.StoreSized.{list-back, list-length, matter-plain, boxes_of}
 use Rattle.tb_builder.proofs.Events.WholeLemmas.{AreMatter, fired-matter}
 use Rattle.tb_column.specs.Ranges.{IsSizedGlue}
-use Rattle.tb_plain.specs.Take.{top_class}
+use Rattle.tb_plain.specs.TakenFloats.{top_class}
 use Rattle.tb_plain.specs.Run.{makeup_ask, makeup_classes, void_boxes}
-use Rattle.tb_plain.specs.Calls.{AreMakeupParams, CanAct, CanFire}
+use Rattle.tb_plain.specs.MakeupCalls.{AreMakeupParams, CanAct, CanFire}
 use Rattle.tb_plain.proofs.BesideLemmas.{plain-leaves}
 
 -- ---- a new builder

@@ -2,13 +2,13 @@
 use Rattle.std.specs.Prelude.{pos, neg_ℤ, Bool, true, false, ◌&&◌, List, [], ◌∷◌, ◌++◌, map, Option, Some, None, int_le, if◌then◌else◌}
 use Rattle.tb_scaled.specs.Glue.{filling_glue}
 use Rattle.tb_scaled.specs.Scaled.{min_ℤ}
-use Rattle.tb_node.specs.Plain.{skip, kerned, pen, Leaf, leaf_node, PlainNode, node_shape, made, blank_box}
+use Rattle.tb_node.specs.PlainNodes.{skip, kerned, pen, Leaf, leaf_node, PlainNode, node_shape, made, blank_box}
 use Rattle.tb_node.specs.Sums.{last_depth}
 use Rattle.tb_param.specs.declared.Params.{Params}
-use Rattle.tb_builder.specs.Fired.{Fired, box_content, content_of}
+use Rattle.tb_builder.specs.FiredPages.{Fired, box_content, content_of}
 use Rattle.tb_column.specs.declared.ColumnKind.TheVariants as kinds
 use Rattle.tb_column.specs.Column.{PlainColumn, column_of, notes_under_rule, is_ragged}
-use Rattle.tb_plain.specs.Expand.{clearing_glue, clearing_penalty}
+use Rattle.tb_plain.specs.GalleyNodes.{clearing_glue, clearing_penalty}
 
 -- at a ragged bottom a kern backs up over the depth of the body, and glue stretches
 abbrev pub ragged_end : Params → List PlainNode → List PlainNode

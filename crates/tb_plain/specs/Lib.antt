@@ -1,9 +1,9 @@
-pub mod Expand
-pub mod Suited
-pub mod Take
+pub mod GalleyNodes
+pub mod Suitability
+pub mod TakenFloats
 pub mod Firing
 pub mod Run
-pub mod Steps
-pub mod Calls
-pub mod Making
+pub mod RunSteps
+pub mod MakeupCalls
+pub mod StoredLists
 pub mod Report

@@ -1,7 +1,7 @@
 -- The report of a run of plain TeX's page makeup, and the line of a galley that it does not serve.
 use Rattle.std.specs.Prelude.{ℕ, List, [], ◌∷◌, ◌++◌, codes, decimal}
 use Rattle.tb_report.specs.declared.Totals.{Totals}
-use Rattle.tb_report.specs.Totals.{no_totals, with_sent}
+use Rattle.tb_report.specs.RunTotals.{no_totals, with_sent}
 use Rattle.tb_report.specs.Lines.{sent_lines, end_lines}
 use Rattle.tb_column.specs.Column.{PlainSent}
 use Rattle.tb_plain.specs.Run.{MakeupRun, MakeupEnd, done}

@@ -1,19 +1,19 @@
 -- Whole runs of plain TeX's page makeup.
 use Rattle.std.specs.Prelude.{ℕ, zero, suc, pred, pos, negsuc, nat_abs, ◌+◌, ◌*◌, ◌-◌, Bool, true, false, List, [], ◌∷◌, ◌++◌, Some, None, int_lt, if◌then◌else◌}
 use Rattle.tb_node.specs.declared.Act.{Act}
-use Rattle.tb_node.specs.Plain.{skip, pen, PlainKind, plain, ins, act, PlainNode, made, blank_box}
+use Rattle.tb_node.specs.PlainNodes.{skip, pen, PlainKind, plain, ins, act, PlainNode, made, blank_box}
 use Rattle.tb_param.specs.declared.Params.{Params}
 use Rattle.tb_galley.specs.declared.Galley.{Galley}
 use Rattle.tb_insert.specs.declared.Class.{Class}
 use Rattle.tb_builder.specs.declared.Ask.{Ask}
-use Rattle.tb_builder.specs.Reached.{Reached, acted, tried, Reach, laid_out}
-use Rattle.tb_builder.specs.Fired.{Boxed, Fired, reach_of, fired_of}
+use Rattle.tb_builder.specs.Reach.{Reached, acted, tried, Reach, laid_out}
+use Rattle.tb_builder.specs.FiredPages.{Boxed, Fired, reach_of, fired_of}
 use Rattle.tb_builder.specs.Contents.{Contents, node_count}
-use Rattle.tb_builder.specs.Running.{freezes}
-use Rattle.tb_builder.specs.Summed.{page_sums_of}
+use Rattle.tb_builder.specs.Courses.{freezes}
+use Rattle.tb_builder.specs.PageSums.{page_sums_of}
 use Rattle.tb_column.specs.Column.{PlainSent, shipped, one}
-use Rattle.tb_plain.specs.Expand.{clearing_glue, made_up}
-use Rattle.tb_plain.specs.Take.{top_class, act_nodes}
+use Rattle.tb_plain.specs.GalleyNodes.{clearing_glue, made_up}
+use Rattle.tb_plain.specs.TakenFloats.{top_class, act_nodes}
 use Rattle.tb_plain.specs.Firing.{holds_any, makeup_column, put_back_after}
 
 -- how a run ends: with nothing left, or with as many pages as may be, or at too many nodes

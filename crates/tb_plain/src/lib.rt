@@ -2,13 +2,13 @@
 #![tactic(auto)]
 
 mod firing;
-mod taking;
+mod taken_floats;
 #[cfg(test)]
 mod tests;
 
 ghost use Rattle.std.specs.Prelude.{◌≡◌};
-ghost use Rattle.tb_plain.specs.Steps.{StepsAgree, EndsHaveReasons};
-ghost use Rattle.tb_plain.specs.Calls.{AreMakeupParams, IsPlain};
+ghost use Rattle.tb_plain.specs.RunSteps.{StepsAgree, EndsHaveReasons};
+ghost use Rattle.tb_plain.specs.MakeupCalls.{AreMakeupParams, IsPlain};
 
 use std::alloc::AllocError;
 use tb_column::Column;

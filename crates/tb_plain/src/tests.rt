@@ -4,12 +4,12 @@ ghost use Rattle.std.specs.Prelude.{◌≡◌, ◌+◌, ◌≤◌, ◌++◌, ◌
 ghost use Rattle.std.specs.FinMap.{get};
 ghost use Rattle.tb_pool.specs.Lists.{IsLive, list_at};
 ghost use Rattle.tb_node.specs.Fit.{IsExtent};
-ghost use Rattle.tb_node.specs.Plain.{plain_of};
+ghost use Rattle.tb_node.specs.PlainNodes.{plain_of};
 ghost use Rattle.tb_builder.specs.Contents.{contents_of, nothing_yet};
-ghost use Rattle.tb_builder.specs.Owned.{has_class};
-ghost use Rattle.tb_builder.specs.Worked.{IsMatter, IsReady, waits};
+ghost use Rattle.tb_builder.specs.Ownership.{has_class};
+ghost use Rattle.tb_builder.specs.WorkedPages.{IsMatter, IsReady, waits};
 ghost use Rattle.tb_plain.specs.Run.{makeup_ask, makeup_classes};
-ghost use Rattle.tb_plain.specs.Calls.{AreMakeupParams, CanAct, CanFire};
+ghost use Rattle.tb_plain.specs.MakeupCalls.{AreMakeupParams, CanAct, CanFire};
 
 use super::*;
 use std::alloc::Global;

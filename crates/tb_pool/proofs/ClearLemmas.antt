@@ -7,7 +7,7 @@ use Rattle.std.specs.FinMap as map
 use Rattle.slab.specs.Slab.{Slab, get, with_value}
 use Rattle.slab.proofs.SlabLemmas.{Updates-with_value}
 use Rattle.tb_pool.specs.Lists.{listed}
-use Rattle.tb_pool.specs.Chain.{values_of, Shape, IsShaped, IsSound}
+use Rattle.tb_pool.specs.Links.{values_of, Shape, IsShaped, IsSound}
 use Rattle.tb_pool.specs.declared.Node.{Node}
 use Rattle.tb_pool.specs.declared.Ends.{Ends}
 use Rattle.tb_pool.proofs.MapLemmas.{total-le, insert_from_get, get-insert_same, get-insert_other}

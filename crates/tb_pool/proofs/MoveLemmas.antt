@@ -6,7 +6,7 @@ use Rattle.std.specs.FinMap as map
 use Rattle.slab.specs.Slab.{Slab, get, with_value}
 use Rattle.slab.proofs.SlabLemmas.{Updates-with_value}
 use Rattle.tb_pool.specs.Lists.{listed}
-use Rattle.tb_pool.specs.Chain.{value_at, next_at, IsChain, IsStack, IsEnds, IsLinked, Shape, IsShaped, IsSound, values_of}
+use Rattle.tb_pool.specs.Links.{value_at, next_at, IsChain, IsStack, IsEnds, IsLinked, Shape, IsShaped, IsSound, values_of}
 use Rattle.tb_pool.specs.declared.Node.{Node}
 use Rattle.tb_pool.specs.declared.Ends.{Ends}
 use Rattle.tb_pool.proofs.MapLemmas.{total-with_value}

@@ -2,7 +2,7 @@
 
 ghost use Rattle.std.specs.Prelude.{◌≡◌, ◌-◌, ◌<◌, ℕ, List, None, Some, IsSome, slice_index};
 ghost use Rattle.slab.specs.Slab.{ContainsKey};
-ghost use Rattle.tb_pool.specs.Chain.{IsLinked, IsPath, HasPath, IsEnds};
+ghost use Rattle.tb_pool.specs.Links.{IsLinked, IsPath, HasPath, IsEnds};
 
 use crate::{Ends, Node};
 use slab::Slab;

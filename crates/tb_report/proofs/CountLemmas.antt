@@ -3,10 +3,10 @@ use Rattle.std.proofs.Common.{◌≡◌, ◌∙◌, ap, sym, ℕ, ◌+◌, ◌<�
 use Rattle.std.proofs.lemmas.List.{length-map}
 use Rattle.tb_pool.specs.Lists.{Lists, list_at}
 use Rattle.tb_node.specs.declared.Node.{Node}
-use Rattle.tb_node.specs.Plain.{PlainKind, PlainNode, plain_list}
+use Rattle.tb_node.specs.PlainNodes.{PlainKind, PlainNode, plain_list}
 use Rattle.tb_column.specs.Column.{PlainColumn, one, shipped}
 use Rattle.tb_report.specs.declared.Totals.{Totals}
-use Rattle.tb_report.specs.Totals.{one_if, count_kinds, is_item_box, is_float_box, with_sent, AreCounts}
+use Rattle.tb_report.specs.RunTotals.{one_if, count_kinds, is_item_box, is_float_box, with_sent, AreCounts}
 
 pub count_kinds-append : (test : PlainKind → Bool) (a b : List PlainNode) → count_kinds test (a ++ b) ≡ count_kinds test a + count_kinds test b
 count_kinds-append test [] b = sym (zero-add (count_kinds test b))

@@ -1,3 +1,3 @@
-pub mod Joined
+pub mod JoinedTexts
 pub mod CountLemmas
 pub mod PrintLemmas

@@ -4,12 +4,12 @@ use Rattle.tb_node.specs.declared.Node.{Node}
 use Rattle.tb_node.specs.declared.Kind.{Kind}
 use Rattle.tb_node.specs.declared.Kind.TheVariants as kinds
 use Rattle.tb_node.specs.Shape.{Shape}
-use Rattle.tb_node.specs.Small.{IsSmallShape}
+use Rattle.tb_node.specs.SmallAmounts.{IsSmallShape}
 use Rattle.tb_node.specs.Fit.{NodesFit, SumsFit}
-use Rattle.tb_node.specs.Plain.{plain_kind, node_shape, shape_of, plain_of, matter_of}
+use Rattle.tb_node.specs.PlainNodes.{plain_kind, node_shape, shape_of, plain_of, matter_of}
 use Rattle.tb_pack.specs.declared.Set.{Set}
 use Rattle.tb_pack.specs.Pack.{top_after}
-use Rattle.tb_pack.specs.Walk.{Walked, walked_past, HasPassed}
+use Rattle.tb_pack.specs.Position.{Walked, walked_past, HasPassed}
 use Rattle.tb_pack.proofs.WalkLemmas.{next_natural_fits, next_glue_fits}
 use Rattle.tb_column.proofs.ShownLemmas.{shapes-held}
 use Rattle.tb_report.specs.Lines.{matter_line, node_line, item_lines}

@@ -3,7 +3,7 @@ ghost use Rattle.std.specs.Prelude.{◌≡◌, ◌++◌, codes, OnOk};
 ghost use Rattle.tb_report.specs.Lines.{order_text, ratio_text, sign_text, over_text, set_text, kind_text};
 ghost use Rattle.tb_text.specs.Fields.{and_number, and_count, and_text, line};
 
-use crate::writing::{put_measure, put_total};
+use crate::fields::{put_measure, put_total};
 use std::alloc::AllocError;
 use tb_column::ColumnKind;
 use tb_pack::{Set, Sign};

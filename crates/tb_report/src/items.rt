@@ -1,10 +1,10 @@
 //! The line of a node.
 ghost use Rattle.std.specs.Prelude.{◌≡◌, ◌≤◌, ◌+◌, ◌++◌, drop, length, codes, OnOk, Some, None};
-ghost use Rattle.tb_node.specs.Plain.{matter_of};
+ghost use Rattle.tb_node.specs.PlainNodes.{matter_of};
 ghost use Rattle.tb_report.specs.Lines.{where_text, side_text, box_line, rule_line, matter_line};
 ghost use Rattle.tb_text.specs.Fields.{and_number, and_count, and_text, line};
 
-use crate::writing::put_named;
+use crate::fields::put_named;
 use std::alloc::AllocError;
 use tb_node::{Kind, Name, Node, Side, What, Where};
 use tb_text::{end_line, put, put_amount, put_count, put_field, put_text, write_field, write_text};

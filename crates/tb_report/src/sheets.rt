@@ -1,19 +1,19 @@
 //! The lines of a page.
 ghost use Rattle.std.specs.Prelude.{◌≡◌, ◌≢◌, ◌++◌, [], List, pos, codes, OnOk, IfOk};
-ghost use Rattle.tb_node.specs.Plain.{plain_list, matter_of};
+ghost use Rattle.tb_node.specs.PlainNodes.{plain_list, matter_of};
 ghost use Rattle.tb_node.specs.Shape.{Shape};
 ghost use Rattle.tb_pack.specs.declared.Set.{Set as SetOf};
 ghost use Rattle.tb_pack.specs.Pack.{top_after};
-ghost use Rattle.tb_pack.specs.Walk.{HasPassed};
-ghost use Rattle.tb_column.specs.Shown.{column_shown, sheet_shown, sent_shown};
+ghost use Rattle.tb_pack.specs.Position.{HasPassed};
+ghost use Rattle.tb_column.specs.StoredColumns.{column_shown, sheet_shown, sent_shown};
 ghost use Rattle.tb_report.specs.Printable.{IsPrintableList, IsPrintable, IsPrintableSheet, IsPrintableSent};
 ghost use Rattle.tb_report.specs.Lines.{matter_line, item_lines, column_lines, unset, sheet_lines, sent_lines};
 ghost use Rattle.tb_text.specs.Fields.{and_number, and_count, line};
 
+use crate::fields::{put_measure, put_total};
 use crate::heads::put_head;
 use crate::items::put_node;
 use crate::warnings::put_warning;
-use crate::writing::{put_measure, put_total};
 use std::alloc::{AllocError, Global};
 use tb_column::{Column, Sent, Sheet};
 use tb_node::{Kind, Node};

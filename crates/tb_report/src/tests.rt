@@ -3,8 +3,8 @@
 ghost use Rattle.std.specs.Prelude.{◌≡◌, ◌+◌, ◌<◌, ◌≤◌, All, length};
 ghost use Rattle.tb_pool.specs.Lists.{IsLive, list_at};
 ghost use Rattle.tb_node.specs.Fit.{IsSizedNode, IsSized};
-ghost use Rattle.tb_node.specs.Plain.{shape_of_kind};
-ghost use Rattle.tb_node.specs.Small.{IsAmount};
+ghost use Rattle.tb_node.specs.PlainNodes.{shape_of_kind};
+ghost use Rattle.tb_node.specs.SmallAmounts.{IsAmount};
 ghost use Rattle.tb_report.specs.Printable.{IsPrintable};
 
 use crate::{Totals, end_text, sent_text};

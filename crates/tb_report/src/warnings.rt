@@ -3,7 +3,7 @@ ghost use Rattle.std.specs.Prelude.{◌≡◌, ◌++◌, OnOk};
 ghost use Rattle.tb_report.specs.Lines.{warn_line};
 ghost use Rattle.tb_text.specs.Fields.{and_number, and_count, line};
 
-use crate::writing::{put_line, put_named, put_total};
+use crate::fields::{put_line, put_named, put_total};
 use std::alloc::AllocError;
 use tb_column::Warn;
 use tb_node::Name;

@@ -1,14 +1,14 @@
 -- The nodes that wait at the page builder, by what the output routine asks of them.
 use Rattle.std.specs.Prelude.{◌≡◌, ◌≤◌, ◌≤ℤ◌, true, List, All}
 use Rattle.tb_node.specs.Fit.{IsExtent, IsPenalty}
-use Rattle.tb_node.specs.Plain.{hbox, rule, skip, kerned, pen, mark, note, whatsit, Matter, PlainKind, plain, ins, act, PlainNode}
+use Rattle.tb_node.specs.PlainNodes.{hbox, rule, skip, kerned, pen, mark, note, whatsit, Matter, PlainKind, plain, ins, act, PlainNode}
 use Rattle.tb_param.specs.declared.Params.{Params}
 use Rattle.tb_insert.specs.declared.Class.{Class}
 use Rattle.tb_builder.specs.Contents.{node_count}
-use Rattle.tb_builder.specs.Owned.{has_class}
+use Rattle.tb_builder.specs.Ownership.{has_class}
 use Rattle.tb_builder.specs.Pageable.{IsSizedOnPage}
-use Rattle.tb_output.specs.Acting.{IsSizedAct}
-use Rattle.tb_output.specs.Out.{hold_penalty}
+use Rattle.tb_output.specs.ActCalls.{IsSizedAct}
+use Rattle.tb_output.specs.Output.{hold_penalty}
 
 -- a penalty is not below that at which a page is held
 abbrev pub IsMild : Matter → Type 0

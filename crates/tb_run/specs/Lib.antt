@@ -1,7 +1,7 @@
 pub mod Run
 pub mod GalleyNodes
-pub mod Served
-pub mod Expanding
-pub mod Happened
-pub mod Turning
-pub mod Filling
+pub mod ServedStates
+pub mod WaitingNodes
+pub mod Happenings
+pub mod Routine
+pub mod RoutinePages

@@ -1,20 +1,20 @@
 -- Whole runs.
 use Rattle.std.specs.Prelude.{ℕ, zero, suc, pred, ℤ, pos, nat_abs, ◌+◌, ◌*◌, ◌-◌, List, [], ◌∷◌, ◌++◌, map, Option, Some, None, int_lt, if◌then◌else◌}
 use Rattle.tb_scaled.specs.Scaled.{awful_bad, min_ℤ}
-use Rattle.tb_node.specs.Plain.{PlainNode}
+use Rattle.tb_node.specs.PlainNodes.{PlainNode}
 use Rattle.tb_param.specs.declared.Params.{Params}
 use Rattle.tb_galley.specs.declared.ClassLine.{ClassLine}
 use Rattle.tb_galley.specs.declared.Galley.{Galley}
-use Rattle.tb_galley.specs.Expand.{expanded}
+use Rattle.tb_galley.specs.GalleyNodes.{expanded}
 use Rattle.tb_insert.specs.declared.Class.{Class}
 use Rattle.tb_builder.specs.declared.Try.{Try}
-use Rattle.tb_builder.specs.Reached.{Reached, acted, tried, Reach, try_of}
+use Rattle.tb_builder.specs.Reach.{Reached, acted, tried, Reach, try_of}
 use Rattle.tb_builder.specs.Contents.{node_count, box_count}
-use Rattle.tb_builder.specs.Fired.{reach_of, fired_of}
+use Rattle.tb_builder.specs.FiredPages.{reach_of, fired_of}
 use Rattle.tb_column.specs.Column.{PlainSent, warned}
 use Rattle.tb_output.specs.State.{State, first_state, foot_class, ask_of, Recorded, emptied, Work}
 use Rattle.tb_output.specs.Act.{Acted, went, full, act_on}
-use Rattle.tb_output.specs.Out.{out}
+use Rattle.tb_output.specs.Output.{out}
 
 -- a try, or what the output routine sends
 pub data RunEvent : Type 0 where

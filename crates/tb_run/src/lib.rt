@@ -3,12 +3,12 @@
 #![tactic(auto)]
 
 mod classes;
-mod expanding;
-mod happening;
-mod releasing;
+mod galley_nodes;
+mod happenings;
 mod routine;
+mod spent_lists;
 
-pub use expanding::{put, put_item};
-pub use happening::{Event, Happening, note_sent};
-pub use releasing::close_happened;
+pub use galley_nodes::{put, put_item};
+pub use happenings::{Event, Happening, note_sent};
 pub use routine::{Ending, Routine};
+pub use spent_lists::close_happened;

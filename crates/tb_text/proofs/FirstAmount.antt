@@ -6,7 +6,7 @@ use Rattle.std.proofs.lemmas.List.{length-take, drop-drop}
 use Rattle.std.proofs.Math.Seq.{take-add}
 use Rattle.std.proofs.lemmas.Bool.Decides.{nat_tests}
 use Rattle.tb_text.specs.Lines.{is_blank, is_mark, fields_of}
-use Rattle.tb_text.specs.Seen.{IsFront, IsFirstAmount}
+use Rattle.tb_text.specs.Parts.{IsFront, IsFirstAmount}
 use Rattle.tb_text.specs.Numbers.{is_digit, digits_at, past_digits, dimension_by, stretch_by}
 use Rattle.tb_text.proofs.FirstField.{first_field_is}
 use Rattle.tb_text.proofs.NumberTexts.{IsNumeralOf, plain_part, nothing_more, by_points, by_points_stretch}

@@ -7,7 +7,7 @@ use Rattle.std.proofs.lemmas.List.{take_all, take_more, map-append, length-take}
 use Rattle.std.proofs.lemmas.List.Folds.{list_all_more}
 use Rattle.std.proofs.Math.Nat.{pow-le-pow_right}
 use Rattle.tb_scaled.specs.declared.Order.TheVariants.{Normal}
-use Rattle.tb_text.specs.Seen.{IsFront}
+use Rattle.tb_text.specs.Parts.{IsFront}
 use Rattle.tb_text.specs.Numbers.{is_digit, digits_at, digit_values, number_of, after_whole, number_part, integer_by, integer_of, dimension_by, dimension_of, stretch_by, stretch_of}
 use Rattle.tb_text.proofs.Digits.{digit_small, length_values}
 use Rattle.tb_text.proofs.NumberTexts.{IsNumeralOf, nothing_more, plain_part, by_integer, by_dimension, by_stretch}

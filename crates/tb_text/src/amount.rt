@@ -2,7 +2,7 @@
 ghost use Rattle.std.specs.Prelude.{◌≡◌, ◌<◌, ◌==◌, ◌∷◌, List, ℕ, pos, IfSome};
 ghost use Rattle.std.specs.List.{prefix_len};
 ghost use Rattle.tb_text.specs.Lines.{is_mark};
-ghost use Rattle.tb_text.specs.Seen.{IsFront, IsFirstAmount};
+ghost use Rattle.tb_text.specs.Parts.{IsFront, IsFirstAmount};
 
 use crate::line::{is_blank, past_blanks};
 use crate::number::front_number;

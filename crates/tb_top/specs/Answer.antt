@@ -3,25 +3,25 @@ use Rattle.std.specs.Prelude.{ℕ, ℤ, nat_lt, Bool, true, false, List, [], ◌
 use Rattle.tb_galley.specs.declared.Cause.{Cause}
 use Rattle.tb_galley.specs.declared.Fault.{Fault}
 use Rattle.tb_galley.specs.declared.Galley.{Galley}
-use Rattle.tb_galley.specs.CauseText.{is_range_cause, fault_text}
+use Rattle.tb_galley.specs.FaultText.{is_range_cause, fault_text}
 use Rattle.tb_galley.specs.Grammar.{grammar, input_limit}
 use Rattle.tb_galley.specs.Faults.{fault}
 use Rattle.tb_galley.specs.declared.Cause.TheVariants as causes
-use Rattle.tb_galley.specs.Print.{printed}
+use Rattle.tb_galley.specs.CanonicalText.{printed}
 use Rattle.tb_report.specs.declared.Totals.{Totals}
 use Rattle.tb_text.specs.Fields.{and_count, line}
-use Rattle.tb_generator.specs.Generate.{generated}
+use Rattle.tb_generator.specs.GeneratedGalleys.{generated}
 use Rattle.tb_lines.specs.Galley.{NoGalley, faulty, no_breaks, lines_galley}
 use Rattle.tb_lines.specs.RefusalText.{no_galley_text}
 use Rattle.tb_plain.specs.Run.{MakeupRun, MakeupEnd, done as made, page_limit as at_pages, node_limit as at_nodes, makeup_of}
 use Rattle.tb_plain.specs.Report.{makeup_report, unsuited_text}
-use Rattle.tb_plain.specs.Suited.{first_unsuited}
+use Rattle.tb_plain.specs.Suitability.{first_unsuited}
 use Rattle.tb_dvi.specs.declared.DviCause.{DviCause}
 use Rattle.tb_dvi.specs.File.{first_too_far}
 use Rattle.tb_dvi.specs.Progress.{run_bytes}
 use Rattle.tb_dvi.specs.Machine.{Item, Fault as Failure, listed}
 use Rattle.tb_dvi.specs.Listing.{listing}
-use Rattle.tb_dvi.specs.Refusing.{cause_line, far_line}
+use Rattle.tb_dvi.specs.Refusal.{cause_line, far_line}
 use Rattle.tb_words.specs.declared.Mode.{Mode}
 use Rattle.tb_words.specs.declared.Mode.TheVariants as modes
 use Rattle.tb_top.specs.declared.status.Status.{Status}

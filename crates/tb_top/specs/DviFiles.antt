@@ -1,7 +1,7 @@
 -- What `paginate_dvi` returns and writes.
 use Rattle.std.specs.Prelude.{◌≡◌, ◌≤◌, ℕ, List, length, Option, Some, None, Ok}
 use Rattle.std.specs.Io.KnownBytes.{Appends}
-use Rattle.tb_io.specs.Held.{AppendsPrefix}
+use Rattle.tb_io.specs.Sink.{AppendsPrefix}
 use Rattle.tb_galley.specs.declared.Galley.{Galley}
 use Rattle.tb_dvi.specs.File.{first_too_far}
 use Rattle.tb_dvi.specs.Machine.{listed}
@@ -11,7 +11,7 @@ use Rattle.tb_top.specs.declared.PageFault.{PageFault}
 use Rattle.tb_top.specs.declared.PageFault.TheVariants as faults
 use Rattle.tb_top.specs.declared.dvi_pages.DviRunFault.{DviRunFault}
 use Rattle.tb_top.specs.declared.dvi_pages.DviRunFault.TheVariants as refused
-use Rattle.tb_top.specs.Paginated.{end_fault}
+use Rattle.tb_top.specs.Pages.{end_fault}
 use Rattle.tb_top.specs.DviPages.{run_pages}
 use Rattle.tb_top.specs.Answer.{dvi_file}
 

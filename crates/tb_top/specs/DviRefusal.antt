@@ -4,7 +4,7 @@ use Rattle.tb_galley.specs.declared.Cause.TheVariants as causes
 use Rattle.tb_galley.specs.declared.Fault.{Fault}
 use Rattle.tb_galley.specs.declared.GalleyFault.TheVariants as unread
 use Rattle.tb_galley.specs.Faults.{fault}
-use Rattle.tb_dvi.specs.Refusing.{cause_line, far_line}
+use Rattle.tb_dvi.specs.Refusal.{cause_line, far_line}
 use Rattle.tb_top.specs.declared.dvi_refusal.DviRefusal.{DviRefusal}
 use Rattle.tb_top.specs.declared.dvi_refusal.DviRefusal.TheVariants as dvi
 use Rattle.tb_top.specs.declared.refusal.Refusal.{Refusal}

@@ -2,10 +2,10 @@
 use Rattle.std.specs.Prelude.{◌≡◌, ◌⊎◌, ℕ, ℤ, Bool, List, ◌++◌, Option, Some, Result, Ok, Err}
 use Rattle.std.specs.Io.KnownBytes.{Appends}
 use Rattle.tb_io.specs.Faults.{Rose}
-use Rattle.tb_io.specs.Held.{AppendsPrefix}
+use Rattle.tb_io.specs.Sink.{AppendsPrefix}
 use Rattle.tb_dvi.specs.declared.page.DviFault.{DviFault}
 use Rattle.tb_dvi.specs.declared.page.DviFault.TheVariants as unwritten
-use Rattle.tb_dvi.specs.declared.written.Progress.{Progress}
+use Rattle.tb_dvi.specs.declared.progress.Progress.{Progress}
 use Rattle.tb_dvi.specs.File.{Page, file_front, post_bytes, first_too_far}
 use Rattle.tb_dvi.specs.Progress.{HasWritten, run_bytes}
 use Rattle.tb_run.specs.declared.routine.Ending.{Ending}
@@ -14,7 +14,7 @@ use Rattle.tb_top.specs.declared.PageFault.{PageFault}
 use Rattle.tb_top.specs.declared.PageFault.TheVariants as faults
 use Rattle.tb_top.specs.declared.dvi_pages.DviRunFault.{DviRunFault}
 use Rattle.tb_top.specs.declared.dvi_pages.DviRunFault.TheVariants as refused
-use Rattle.tb_top.specs.Written.{IsRefusalOf}
+use Rattle.tb_top.specs.PagesWritten.{IsRefusalOf}
 
 -- the refusal of a page that has no bytes
 abbrev pub page_failure : DviFault → DviRunFault

@@ -1,7 +1,7 @@
 pub mod Report
 pub mod Laws
 pub mod DeadCycles
-pub mod Paginated
+pub mod Pages
 pub mod Firings
 pub mod Status
 pub mod Answer
@@ -14,7 +14,7 @@ pub mod ColumnRows
 pub mod VersionRows
 pub mod LinesRows
 pub mod MakeupRows
-pub mod Written
+pub mod PagesWritten
 pub mod DviPages
 pub mod DviRefusal
 pub mod DviFiles

@@ -1,7 +1,7 @@
 -- What `paginate_plain` returns and writes.
 use Rattle.std.specs.Prelude.{◌≡◌, ℕ, List, [], Option, Some, None}
 use Rattle.std.specs.Io.KnownBytes.{Appends}
-use Rattle.tb_io.specs.Held.{AppendsPrefix}
+use Rattle.tb_io.specs.Sink.{AppendsPrefix}
 use Rattle.tb_report.specs.declared.Totals.{Totals}
 use Rattle.tb_plain.specs.Run.{MakeupRun, MakeupEnd, done, page_limit, node_limit}
 use Rattle.tb_plain.specs.Report.{makeup_report, sent_totals}

@@ -4,12 +4,12 @@ ghost use Rattle.std.specs.Prelude.{◌≡◌, ◌≤◌, ◌∷◌, [], ◌++�
 ghost use Rattle.std.specs.Int.{w32};
 ghost use Rattle.tb_io.specs.Faults.{Rose};
 ghost use Rattle.tb_galley.specs.Valid.{IsValid};
-ghost use Rattle.tb_column.specs.Shown.{sheet_shown};
+ghost use Rattle.tb_column.specs.StoredColumns.{sheet_shown};
 ghost use Rattle.tb_output.specs.Machine.{IsPageSheet};
 ghost use Rattle.tb_dvi.specs.File.{Page, sheet_page};
 ghost use Rattle.tb_dvi.specs.Progress.{IsInFile};
-ghost use Rattle.tb_run.specs.Happened.{event_of, events_of};
-ghost use Rattle.tb_run.specs.Turning.{IsPage, ArePages};
+ghost use Rattle.tb_run.specs.Happenings.{event_of, events_of};
+ghost use Rattle.tb_run.specs.Routine.{IsPage, ArePages};
 ghost use Rattle.tb_top.specs.DviPages.{event_pages};
 ghost use Rattle.tb_top.specs.DviFiles.{WritesFile, RefusesFile};
 ghost use Rattle.tb_top.specs.DviWritten.{HoldsPages, SendsPages, IsWriteFailure, EndsFile, StopsFile};

@@ -4,16 +4,16 @@ ghost use Rattle.std.specs.Prelude.{◌≡◌, ◌≢◌, ◌≤◌, [], Err, On
 ghost use Rattle.tb_io.specs.Faults.{Rose};
 ghost use Rattle.tb_galley.specs.Valid.{IsValid};
 ghost use Rattle.tb_report.specs.Lines.{end_lines};
-ghost use Rattle.tb_report.specs.Totals.{AreCounts};
+ghost use Rattle.tb_report.specs.RunTotals.{AreCounts};
 ghost use Rattle.tb_plain.specs.Run.{makeup_of};
-ghost use Rattle.tb_plain.specs.Suited.{IsSuited};
-ghost use Rattle.tb_run.specs.Happened.{events_of};
-ghost use Rattle.tb_run.specs.Turning.{ArePages};
+ghost use Rattle.tb_plain.specs.Suitability.{IsSuited};
+ghost use Rattle.tb_run.specs.Happenings.{events_of};
+ghost use Rattle.tb_run.specs.Routine.{ArePages};
 ghost use Rattle.tb_top.specs.MakeupLaws.{MakesUpOnce};
 ghost use Rattle.tb_top.specs.MakeupPages.{MakesPages, RefusesPages};
 ghost use Rattle.tb_top.specs.MakeupWritten.{Shows, EndsWell, StopsWith};
 ghost use Rattle.tb_top.specs.Report.{traced_lines, all_lines};
-ghost use Rattle.tb_top.specs.Written.{with_events};
+ghost use Rattle.tb_top.specs.PagesWritten.{with_events};
 
 use crate::View;
 use crate::pages::{count_happened, put_happened};

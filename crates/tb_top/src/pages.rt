@@ -4,15 +4,15 @@ ghost use Rattle.std.specs.Prelude.{◌≡◌, ◌≢◌, ◌≤◌, ◌∷◌, 
 ghost use Rattle.tb_io.specs.Faults.{Rose};
 ghost use Rattle.tb_galley.specs.Valid.{IsValid};
 ghost use Rattle.tb_pool.specs.Lists.{IsLive};
-ghost use Rattle.tb_report.specs.Totals.{AreCounts};
+ghost use Rattle.tb_report.specs.RunTotals.{AreCounts};
 ghost use Rattle.tb_run.specs.Run.{run_of};
-ghost use Rattle.tb_run.specs.Happened.{event_of, events_of};
-ghost use Rattle.tb_run.specs.Turning.{IsPage, ArePages};
+ghost use Rattle.tb_run.specs.Happenings.{event_of, events_of};
+ghost use Rattle.tb_run.specs.Routine.{IsPage, ArePages};
 ghost use Rattle.tb_top.specs.Laws.{KeepsLaws, WithinLimits};
 ghost use Rattle.tb_top.specs.DeadCycles.{HasRoomForCycles};
-ghost use Rattle.tb_top.specs.Paginated.{Paginates, Refuses, IsNotForCycles};
+ghost use Rattle.tb_top.specs.Pages.{Paginates, Refuses, IsNotForCycles};
 ghost use Rattle.tb_top.specs.Report.{traced_lines, all_lines};
-ghost use Rattle.tb_top.specs.Written.{Shows, viewed, with_events, is_traced, EndsWell, StopsWith, IsRefusalOf, IsFaultRefusal};
+ghost use Rattle.tb_top.specs.PagesWritten.{Shows, viewed, with_events, is_traced, EndsWell, StopsWith, IsRefusalOf, IsFaultRefusal};
 
 #[cfg(test)]
 mod tests;

@@ -5,13 +5,13 @@ use Rattle.std.proofs.Math.Seq.{drop-cons}
 use Rattle.std.proofs.lemmas.List.{length-map}
 use Rattle.tb_pool.specs.Lists.{Lists, IsLive, list_at}
 use Rattle.tb_node.specs.declared.Node.{Node}
-use Rattle.tb_node.specs.Plain.{plain_of, leaf_of}
+use Rattle.tb_node.specs.PlainNodes.{plain_of, leaf_of}
 use Rattle.tb_builder.specs.declared.ClassList.{ClassList}
-use Rattle.tb_builder.specs.Fired.{content_of}
+use Rattle.tb_builder.specs.FiredPages.{content_of}
 use Rattle.tb_builder.specs.Contents.{Contents, contents_count, kind_count, node_count, content_by, leaf_list, boxed_of, box_count}
 use Rattle.tb_builder.specs.declared.Ask.{Ask}
 use Rattle.tb_builder.specs.Pageable.{IsPageable}
-use Rattle.tb_builder.specs.Owned.{AllLive, inner_of, inner_ids, Ids, nodes_of, box_ids, VoidEmpty, IsOwned}
+use Rattle.tb_builder.specs.Ownership.{AllLive, inner_of, inner_ids, Ids, nodes_of, box_ids, VoidEmpty, IsOwned}
 use Rattle.tb_builder.proofs.Ownership.OwnedLemmas.{live-left, live-right, inner-append}
 
 -- two counts that saturate, added to a sum that saturates

@@ -7,14 +7,14 @@ use Rattle.tb_scaled.specs.Scaled.{min_ℤ}
 use Rattle.tb_scaled.specs.declared.Order.{Order}
 use Rattle.tb_scaled.specs.declared.Order.TheVariants.{Normal, Fil, Fill, Filll}
 use Rattle.tb_node.specs.Shape.{Shape, other}
-use Rattle.tb_node.specs.Plain.{ins, PlainNode, node_shape, Inserted, is_insertion_kind}
+use Rattle.tb_node.specs.PlainNodes.{ins, PlainNode, node_shape, Inserted, is_insertion_kind}
 use Rattle.tb_node.specs.Sums.{sums_of, size_of, list_stretch, list_shrink, stretches}
 use Rattle.tb_node.proofs.AddLemmas.{size-append, depth-append, stretch-append, shrink-append}
 use Rattle.tb_break.specs.Scan.{Scanned, empty_scan}
 use Rattle.tb_insert.specs.declared.Class.{Class}
 use Rattle.tb_insert.specs.Terms.{Terms, sums_with}
 use Rattle.tb_insert.specs.Account.{ClassBox, Frozen, labelled, terms_after, terms_of_labels, is_met, insertions, class_box, met_classes, skip_shapes}
-use Rattle.tb_insert.specs.Running.{Differ, numbered, boxed, IsScanOfPage, met_scan}
+use Rattle.tb_insert.specs.AccountEntries.{Differ, numbered, boxed, IsScanOfPage, met_scan}
 use Rattle.tb_insert.proofs.TermLemmas.{skipped, labelled-plain}
 
 nothing : (a : ℤ) → a +ℤ pos 0 ≡ a

@@ -3,16 +3,16 @@ use Rattle.std.proofs.Common.{◌≡◌, refl, sym, ◌∙◌, ap, ℤ, pos, ◌
 use Rattle.std.specs.Prelude.{◌-ℤ◌, is_some}
 use Rattle.std.proofs.lemmas.Bool.{true≢false}
 use Rattle.tb_scaled.specs.Scaled.{min_ℤ}
-use Rattle.tb_node.specs.Plain.{PlainNode}
+use Rattle.tb_node.specs.PlainNodes.{PlainNode}
 use Rattle.tb_node.specs.Sums.{depth_from, size_of, list_shrink, room_of, depth_after, shrink_of}
 use Rattle.tb_break.specs.Best.{Breakpoint}
 use Rattle.tb_insert.specs.Account.{Frozen, terms_after}
-use Rattle.tb_insert.specs.Running.{IsAccountOf}
+use Rattle.tb_insert.specs.AccountEntries.{IsAccountOf}
 use Rattle.tb_builder.specs.declared.Course.{Course}
-use Rattle.tb_builder.specs.Places.{page_shapes}
+use Rattle.tb_builder.specs.LegalPlaces.{page_shapes}
 use Rattle.tb_builder.specs.Contents.{Contents}
-use Rattle.tb_builder.specs.Running.{IsCourseOf, places_by, AllLoose, page_frozen, IsPageSoFar}
-use Rattle.tb_builder.specs.Summed.{made_sums, sums_by, no_goal}
+use Rattle.tb_builder.specs.Courses.{IsCourseOf, places_by, AllLoose, page_frozen, IsPageSoFar}
+use Rattle.tb_builder.specs.PageSums.{made_sums, sums_by, no_goal}
 use Rattle.tb_builder.proofs.LegalPlaces.CourseLemmas.{loose_shape}
 
 -- ---- marks, notes and whatsits take no room

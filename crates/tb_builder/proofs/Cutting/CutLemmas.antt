@@ -6,14 +6,14 @@ use Rattle.std.proofs.lemmas.Int.{ints}
 use Rattle.std.proofs.lemmas.Bool.{or_parts}
 use Rattle.tb_scaled.specs.Scaled.{inf_penalty, eject_penalty, awful_bad}
 use Rattle.tb_node.specs.declared.Act.{Act}
-use Rattle.tb_node.specs.Plain.{Matter, hbox, rule, skip, kerned, pen, mark, note, whatsit, Leaf, Inserted, PlainKind, plain, ins, act, PlainNode, without_acts, on_line}
+use Rattle.tb_node.specs.PlainNodes.{Matter, hbox, rule, skip, kerned, pen, mark, note, whatsit, Leaf, Inserted, PlainKind, plain, ins, act, PlainNode, without_acts, on_line}
 use Rattle.tb_break.specs.Best.{Breakpoint, is_stop}
-use Rattle.tb_break.specs.Prune.{pruned_nodes, pruned_leaves}
+use Rattle.tb_break.specs.PageTop.{pruned_nodes, pruned_leaves}
 use Rattle.tb_insert.specs.Terms.{Terms}
 use Rattle.tb_insert.specs.Account.{Labelled, Label, whole, split, late}
-use Rattle.tb_builder.specs.Fired.{spent_kind, with_spent_break, unless_empty, held_of, held_insertions}
+use Rattle.tb_builder.specs.FiredPages.{spent_kind, with_spent_break, unless_empty, held_of, held_insertions}
 use Rattle.tb_builder.proofs.FiredPages.PageWeights.{IsOnce, OfClass, AllOfClass, LabelsOfClass}
-use Rattle.tb_builder.specs.Reached.{Reached, acted, tried, Reach, also_reached, page_place, stopped_at, reach_at_place, reach_at, reach_node, reach_from}
+use Rattle.tb_builder.specs.Reach.{Reached, acted, tried, Reach, also_reached, page_place, stopped_at, reach_at_place, reach_at, reach_node, reach_from}
 
 -- no forced break
 abbrev pub Calm : PlainKind → Type 0

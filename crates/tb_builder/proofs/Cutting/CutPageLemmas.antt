@@ -9,11 +9,11 @@ use Rattle.tb_pool.proofs.MapLemmas.{insert_twice_from_get}
 use Rattle.tb_node.specs.declared.Node.{Node}
 use Rattle.tb_node.specs.declared.Kind.{Kind}
 use Rattle.tb_node.specs.declared.Kind.TheVariants as kinds
-use Rattle.tb_node.specs.Plain.{plain_of}
+use Rattle.tb_node.specs.PlainNodes.{plain_of}
 use Rattle.tb_insert.specs.declared.Class.{Class}
 use Rattle.tb_builder.specs.declared.Builder.{Builder}
-use Rattle.tb_builder.specs.Fired.{spent_kind, with_spent_break}
-use Rattle.tb_builder.specs.Owned.{inner_of, inner_ids, Ids, ids_of, is_known, AllKnown, classes_of, IsOwned}
+use Rattle.tb_builder.specs.FiredPages.{spent_kind, with_spent_break}
+use Rattle.tb_builder.specs.Ownership.{inner_of, inner_ids, Ids, ids_of, is_known, AllKnown, classes_of, IsOwned}
 use Rattle.tb_builder.specs.Contents.{contents_of}
 use Rattle.tb_builder.specs.Firing.{spent_node_kind, spent_nodes, Cuts}
 use Rattle.tb_builder.proofs.Ownership.OwnedLemmas.{inner-append, known-left, known-right, known-append}

@@ -8,17 +8,17 @@ use Rattle.tb_scaled.specs.Scaled.{inf_penalty, eject_penalty, awful_bad, min_â„
 use Rattle.tb_node.specs.declared.Sums.{Sums}
 use Rattle.tb_node.specs.Shape.{Shape, box, glue, kern, penalty, other, is_discardable}
 use Rattle.tb_node.specs.Sums.{sums_of, list_shrink}
-use Rattle.tb_node.specs.Plain.{Matter, hbox, rule, skip, kerned, pen, mark, note, whatsit, matter_shape, leaf_shape, Inserted, PlainKind, plain, ins, act, PlainNode, node_shape, without_acts}
+use Rattle.tb_node.specs.PlainNodes.{Matter, hbox, rule, skip, kerned, pen, mark, note, whatsit, matter_shape, leaf_shape, Inserted, PlainKind, plain, ins, act, PlainNode, node_shape, without_acts}
 use Rattle.tb_break.specs.declared.Found.{Found}
-use Rattle.tb_break.specs.Legal.{legal_penalty, ends_lasting, begins_with_glue, last_or}
+use Rattle.tb_break.specs.Places.{legal_penalty, ends_lasting, begins_with_glue, last_or}
 use Rattle.tb_break.specs.Best.{Breakpoint, is_stop, up_to_stop, least_cost, cheapest, best_or}
 use Rattle.tb_break.specs.Split.{breakpoint_at, with_place, split_places, end_place, split_of}
 use Rattle.tb_break.proofs.ScanLemmas.{cost_at_most}
 use Rattle.tb_break.proofs.LastLemmas.{best_or-last}
 use Rattle.tb_insert.specs.Terms.{Terms}
 use Rattle.tb_insert.specs.Account.{ClassBox, Frozen, Label, whole, split, late, Labelled, scaled_by, clamped, unscaled_room, class_box, class_height, goal_after, insertions, skip_shapes, met_classes, has_split, label_where, label_of, labelled_with, labelled_from, labelled}
-use Rattle.tb_builder.specs.Reached.{tried, Reach, also_reached, page_place, stopped_at, reach_at_place, reach_at, reach_node, reach_from, breakpoints}
-use Rattle.tb_builder.specs.Fired.{from_break, no_place}
+use Rattle.tb_builder.specs.Reach.{tried, Reach, also_reached, page_place, stopped_at, reach_at_place, reach_at, reach_node, reach_from, breakpoints}
+use Rattle.tb_builder.specs.FiredPages.{from_break, no_place}
 
 -- ---- lists
 

@@ -8,24 +8,24 @@ use Rattle.tb_node.specs.declared.Node.{Node}
 use Rattle.tb_node.specs.declared.Act.{Act}
 use Rattle.tb_node.specs.declared.Kind.{Kind}
 use Rattle.tb_node.specs.declared.Kind.TheVariants as kinds
-use Rattle.tb_node.specs.Plain.{act, PlainNode, plain_of}
+use Rattle.tb_node.specs.PlainNodes.{act, PlainNode, plain_of}
 use Rattle.tb_node.specs.Roles.{act_of_kind, insertion_of_kind}
-use Rattle.tb_break.specs.Legal.{ends_lasting}
+use Rattle.tb_break.specs.Places.{ends_lasting}
 use Rattle.tb_break.specs.Best.{is_stop}
-use Rattle.tb_break.specs.Prune.{pruned_nodes}
+use Rattle.tb_break.specs.PageTop.{pruned_nodes}
 use Rattle.tb_insert.specs.Account.{Frozen, terms_after}
 use Rattle.tb_builder.specs.declared.Ask.{Ask}
 use Rattle.tb_builder.specs.declared.Builder.{Builder}
 use Rattle.tb_builder.specs.declared.Event.{Event}
 use Rattle.tb_builder.specs.declared.Event.TheVariants as events
-use Rattle.tb_builder.specs.Reached.{holds_box}
-use Rattle.tb_builder.specs.Places.{page_shapes, glue_first, page_places, NoStop}
+use Rattle.tb_builder.specs.Reach.{holds_box}
+use Rattle.tb_builder.specs.LegalPlaces.{page_shapes, glue_first, page_places, NoStop}
 use Rattle.tb_builder.specs.Contents.{Contents, contents_of, frozen_of, ahead_of, laid, reach_ahead, places_of}
-use Rattle.tb_builder.specs.Owned.{ids_of, inner_of}
-use Rattle.tb_builder.specs.Running.{IsCourseOf, Underway, places_by, kept_frozen, page_frozen, frozen_with, AllLoose, AllLasting, IsPageSoFar, freezes, IsSound}
-use Rattle.tb_builder.specs.Next.{NextFits, BoxesFit, LaidFits, KeepsBoxes, FirstIs, NextIs}
-use Rattle.tb_builder.specs.Past.{ComesPast}
-use Rattle.tb_builder.specs.Turn.{ChangesPage, StepIs, StepFits, ReachesNothing, TurnIs, Filled}
+use Rattle.tb_builder.specs.Ownership.{ids_of, inner_of}
+use Rattle.tb_builder.specs.Courses.{IsCourseOf, Underway, places_by, kept_frozen, page_frozen, frozen_with, AllLoose, AllLasting, IsPageSoFar, freezes, IsSound}
+use Rattle.tb_builder.specs.PageEvents.{NextFits, BoxesFit, LaidFits, KeepsBoxes, FirstIs, NextIs}
+use Rattle.tb_builder.specs.PassedNodes.{ComesPast}
+use Rattle.tb_builder.specs.PageTurns.{ChangesPage, StepIs, StepFits, ReachesNothing, TurnIs, Filled}
 use Rattle.tb_builder.proofs.Turns.MoveLemmas.{Written, written_drop}
 use Rattle.tb_builder.proofs.Ownership.FrameLemmas.{leaves_then}
 use Rattle.tb_builder.proofs.Turns.FillLemmas.{moves_from, page_from, waiting_from}

@@ -6,7 +6,7 @@ use Rattle.tb_pool.specs.Lists.{Lists, IsLive}
 use Rattle.tb_node.specs.declared.Node.{Node}
 use Rattle.tb_builder.specs.declared.Page.{Page}
 use Rattle.tb_builder.specs.declared.Builder.{Builder}
-use Rattle.tb_builder.specs.Owned.{ids_of, KeepsOthers}
+use Rattle.tb_builder.specs.Ownership.{ids_of, KeepsOthers}
 use Rattle.tb_builder.specs.Firing.{Fires}
 
 -- a list that was not live before is none of those that were

@@ -5,20 +5,20 @@ use Rattle.std.proofs.lemmas.Bool.{true≢false}
 use Rattle.std.proofs.lemmas.List.{length-append}
 use Rattle.tb_pool.specs.Lists.{Lists}
 use Rattle.tb_node.specs.declared.Node.{Node}
-use Rattle.tb_node.specs.Plain.{PlainNode, without_insertions}
+use Rattle.tb_node.specs.PlainNodes.{PlainNode, without_insertions}
 use Rattle.tb_break.specs.Best.{Breakpoint, is_stop, least_cost, best_or}
-use Rattle.tb_break.specs.Prune.{pruned_nodes}
-use Rattle.tb_builder.specs.Places.{page_places, glue_first}
+use Rattle.tb_break.specs.PageTop.{pruned_nodes}
+use Rattle.tb_builder.specs.LegalPlaces.{page_places, glue_first}
 use Rattle.tb_insert.specs.Account.{Frozen, labelled, terms_after}
 use Rattle.tb_builder.specs.declared.Ask.{Ask}
 use Rattle.tb_builder.specs.declared.Try.{Try}
 use Rattle.tb_builder.specs.declared.Event.{Event}
 use Rattle.tb_builder.specs.declared.Event.TheVariants as events
-use Rattle.tb_builder.specs.Reached.{Reached, acted, tried, Reach, also_reached, reach_from, holds_box, laid_out, breakpoints, try_of}
-use Rattle.tb_builder.specs.Fired.{Boxed, Fired, no_place, penalty_at, line_at, with_spent_break, box_after, held_insertions, frozen_for}
+use Rattle.tb_builder.specs.Reach.{Reached, acted, tried, Reach, also_reached, reach_from, holds_box, laid_out, breakpoints, try_of}
+use Rattle.tb_builder.specs.FiredPages.{Boxed, Fired, no_place, penalty_at, line_at, with_spent_break, box_after, held_insertions, frozen_for}
 use Rattle.tb_builder.specs.Contents.{Contents, frozen_of, frozen_or, laid, reach_ahead, reach_whole, places_of}
-use Rattle.tb_builder.specs.Next.{IsTheStop, TriedIs, FirstIs, KeepsBoxes, PageIs, after_fired, FiresWith, NextIs}
-use Rattle.tb_builder.specs.Paging.{page_reach, after_all, KeepsStart, HasCome, ComesToTry, ComesTo, IsNextOfPage}
+use Rattle.tb_builder.specs.PageEvents.{IsTheStop, TriedIs, FirstIs, KeepsBoxes, PageIs, after_fired, FiresWith, NextIs}
+use Rattle.tb_builder.specs.PageProgress.{page_reach, after_all, KeepsStart, HasCome, ComesToTry, ComesTo, IsNextOfPage}
 
 breakpoints-append : (rs qs : List Reached) → breakpoints (rs ++ qs) ≡ breakpoints rs ++ breakpoints qs
 breakpoints-append [] qs = refl

@@ -7,10 +7,10 @@ use Rattle.tb_builder.specs.declared.Try.{Try}
 use Rattle.tb_builder.specs.declared.Event.{Event}
 use Rattle.tb_builder.specs.declared.Event.TheVariants as events
 use Rattle.tb_builder.specs.declared.Builder.{Builder}
-use Rattle.tb_builder.specs.Calls.{IsNext, ComesAfter}
+use Rattle.tb_builder.specs.PageCalls.{IsNext, ComesAfter}
 use Rattle.tb_builder.specs.Contents.{contents_of}
-use Rattle.tb_builder.specs.Next.{NextFits, NextIs}
-use Rattle.tb_builder.specs.Owned.{Ids, KeepsOthers}
+use Rattle.tb_builder.specs.PageEvents.{NextFits, NextIs}
+use Rattle.tb_builder.specs.Ownership.{Ids, KeepsOthers}
 use Rattle.tb_builder.proofs.Events.FilledLemmas.{fits_next}
 
 -- what two calls, one after the other, keep

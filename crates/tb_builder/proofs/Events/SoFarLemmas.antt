@@ -4,22 +4,22 @@ use Rattle.std.specs.Prelude.{if◌then◌else◌}
 use Rattle.std.proofs.lemmas.Bool.{true≢false}
 use Rattle.tb_pool.specs.Lists.{Lists}
 use Rattle.tb_node.specs.declared.Node.{Node}
-use Rattle.tb_node.specs.Plain.{PlainNode}
-use Rattle.tb_break.specs.Legal.{ends_lasting}
+use Rattle.tb_node.specs.PlainNodes.{PlainNode}
+use Rattle.tb_break.specs.Places.{ends_lasting}
 use Rattle.tb_break.specs.Best.{Breakpoint}
 use Rattle.tb_break.specs.Split.{with_place}
-use Rattle.tb_break.specs.Prune.{pruned_nodes}
+use Rattle.tb_break.specs.PageTop.{pruned_nodes}
 use Rattle.tb_insert.specs.Terms.{Terms}
 use Rattle.tb_insert.specs.Account.{Frozen, terms_after}
 use Rattle.tb_builder.specs.declared.Ask.{Ask}
 use Rattle.tb_builder.specs.declared.Builder.{Builder}
 use Rattle.tb_builder.specs.declared.Course.{Course}
-use Rattle.tb_builder.specs.Reached.{Reached, tried, acted, Reach, reach_from, reach_at, breakpoints, page_place, holds_box}
-use Rattle.tb_builder.specs.Places.{page_shapes, glue_first, glue_or, node_penalty, page_places, NoStop, NoActs}
-use Rattle.tb_builder.specs.Fired.{frozen_for}
+use Rattle.tb_builder.specs.Reach.{Reached, tried, acted, Reach, reach_from, reach_at, breakpoints, page_place, holds_box}
+use Rattle.tb_builder.specs.LegalPlaces.{page_shapes, glue_first, glue_or, node_penalty, page_places, NoStop, NoActs}
+use Rattle.tb_builder.specs.FiredPages.{frozen_for}
 use Rattle.tb_builder.specs.Contents.{Contents, contents_of, frozen_or, frozen_of, ahead_of, places_of}
-use Rattle.tb_builder.specs.Running.{AllLasting, IsPageSoFar, IsSound}
-use Rattle.tb_builder.specs.Paging.{after_all, HasCome}
+use Rattle.tb_builder.specs.Courses.{AllLasting, IsPageSoFar, IsSound}
+use Rattle.tb_builder.specs.PageProgress.{after_all, HasCome}
 use Rattle.tb_builder.proofs.LegalPlaces.PageLemmas.{reach_next, at_place_goes}
 use Rattle.tb_builder.proofs.LegalPlaces.ReachLemmas.{glue_after, later_quiet}
 use Rattle.tb_builder.proofs.Turns.TurnLemmas.{all_lasting, lasting_places}

@@ -12,12 +12,12 @@ use Rattle.tb_node.specs.declared.Node.{Node}
 use Rattle.tb_node.specs.declared.Kind.{Kind}
 use Rattle.tb_node.specs.declared.Kind.TheVariants as kinds
 use Rattle.tb_node.specs.Shape.{Shape, box, glue}
-use Rattle.tb_node.specs.Plain.{plain_of, shape_of}
-use Rattle.tb_node.specs.Small.{IsSmall}
-use Rattle.tb_node.specs.Add.{added_node}
+use Rattle.tb_node.specs.PlainNodes.{plain_of, shape_of}
+use Rattle.tb_node.specs.SmallAmounts.{IsSmall}
+use Rattle.tb_node.specs.NodeSums.{added_node}
 use Rattle.tb_node.specs.Roles.{act_of_kind, insertion_of_kind}
 use Rattle.tb_break.specs.Best.{Breakpoint}
-use Rattle.tb_break.specs.Finding.{penalty_by}
+use Rattle.tb_break.specs.SplitPlace.{penalty_by}
 use Rattle.tb_insert.specs.Account.{Frozen}
 use Rattle.tb_builder.specs.declared.Ask.{Ask}
 use Rattle.tb_builder.specs.declared.Try.{Try}
@@ -25,17 +25,17 @@ use Rattle.tb_builder.specs.declared.Event.{Event}
 use Rattle.tb_builder.specs.declared.Event.TheVariants as events
 use Rattle.tb_builder.specs.declared.Course.{Course}
 use Rattle.tb_builder.specs.declared.Builder.{Builder}
-use Rattle.tb_builder.specs.Reached.{holds_box}
-use Rattle.tb_builder.specs.Places.{glue_first, node_penalty}
+use Rattle.tb_builder.specs.Reach.{holds_box}
+use Rattle.tb_builder.specs.LegalPlaces.{glue_first, node_penalty}
 use Rattle.tb_builder.specs.Contents.{Contents, contents_of, laid, reach_ahead, places_of}
-use Rattle.tb_builder.specs.Owned.{Ids, ids_of, KeepsOthers, IsOwned}
-use Rattle.tb_builder.specs.Running.{IsSound, IsCourseOf, Underway, kept_frozen, nodes_glue_first}
-use Rattle.tb_builder.specs.Offer.{OfferIs, TermsFit}
-use Rattle.tb_builder.specs.Next.{NextFits, NextIs, FirstIs, IsGivenOut}
-use Rattle.tb_builder.specs.Turn.{Shifted, StepIs, StepFits, TurnIs, places_on}
-use Rattle.tb_builder.specs.Calls.{IsNext, PassedOver, ComesBy, ComesAfter}
+use Rattle.tb_builder.specs.Ownership.{Ids, ids_of, KeepsOthers, IsOwned}
+use Rattle.tb_builder.specs.Courses.{IsSound, IsCourseOf, Underway, kept_frozen, nodes_glue_first}
+use Rattle.tb_builder.specs.CourseOffers.{OfferIs, TermsFit}
+use Rattle.tb_builder.specs.PageEvents.{NextFits, NextIs, FirstIs, IsGivenOut}
+use Rattle.tb_builder.specs.PageTurns.{Shifted, StepIs, StepFits, TurnIs, places_on}
+use Rattle.tb_builder.specs.PageCalls.{IsNext, PassedOver, ComesBy, ComesAfter}
 use Rattle.tb_builder.specs.declared.Seen.TheVariants as seen
-use Rattle.tb_builder.specs.Walked.{moved, LeadsOn, seen_of}
+use Rattle.tb_builder.specs.PageWalks.{moved, LeadsOn, seen_of}
 use Rattle.tb_builder.proofs.Turns.MoveLemmas.{Written, written_shift}
 use Rattle.tb_builder.proofs.Turns.StepLemmas.{step_sums, step_terms, penalty_first, plain_first, passed_step, tried_stops, tried_goes}
 use Rattle.tb_builder.proofs.Turns.FillLemmas.{moves_from, shifted_from, behind_is}

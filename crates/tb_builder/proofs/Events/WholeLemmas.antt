@@ -3,19 +3,19 @@ use Rattle.std.proofs.Common.{sym, subst, ℕ, zero, suc, ◌+◌, ◌≤◌, �
 use Rattle.std.specs.Prelude.{All, if◌then◌else◌}
 use Rattle.std.specs.List.{AllByRecursion}
 use Rattle.std.proofs.lemmas.List.Elements.{All-nil, All-append}
-use Rattle.tb_node.specs.Plain.{PlainKind, plain, ins, act, PlainNode, without_acts, without_insertions}
-use Rattle.tb_break.specs.Prune.{pruned_nodes}
+use Rattle.tb_node.specs.PlainNodes.{PlainKind, plain, ins, act, PlainNode, without_acts, without_insertions}
+use Rattle.tb_break.specs.PageTop.{pruned_nodes}
 use Rattle.tb_insert.specs.declared.Class.{Class}
 use Rattle.tb_insert.specs.Terms.{Terms}
 use Rattle.tb_insert.specs.Account.{Labelled, terms_after}
 use Rattle.tb_builder.specs.declared.Ask.{Ask}
-use Rattle.tb_builder.specs.Reached.{Reach, holds_box, laid_out, reach_from}
-use Rattle.tb_builder.specs.Fired.{Boxed, page_break, fired_by, frozen_for, reach_of, fired_of}
+use Rattle.tb_builder.specs.Reach.{Reach, holds_box, laid_out, reach_from}
+use Rattle.tb_builder.specs.FiredPages.{Boxed, page_break, fired_by, frozen_for, reach_of, fired_of}
 use Rattle.tb_builder.specs.Contents.{Contents, node_count, box_count}
-use Rattle.tb_builder.specs.Owned.{ClassesFit}
-use Rattle.tb_builder.specs.Next.{NextFits}
+use Rattle.tb_builder.specs.Ownership.{ClassesFit}
+use Rattle.tb_builder.specs.PageEvents.{NextFits}
 use Rattle.tb_builder.specs.Pageable.{IsSizedOnPage, IsSizedClass, IsSizedBox}
-use Rattle.tb_builder.specs.Kept.{IsSizedAsk, IsSizedContents, whole_count, AreBoxesOf, fired_count}
+use Rattle.tb_builder.specs.SizedContents.{IsSizedAsk, IsSizedContents, whole_count, AreBoxesOf, fired_count}
 use Rattle.tb_builder.proofs.Cutting.CutLemmas.{CutAt, reach-cut}
 use Rattle.tb_builder.proofs.Ranges.PageableLemmas.{count-append, pruned_sized}
 use Rattle.tb_builder.proofs.Ranges.PrunedLemmas.{pruned_nodes_longer}

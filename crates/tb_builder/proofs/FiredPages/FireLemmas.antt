@@ -5,23 +5,23 @@ use Rattle.std.proofs.lemmas.Bool.{true≢false}
 use Rattle.std.proofs.lemmas.List.{length-map, take-append-drop}
 use Rattle.tb_pool.specs.Lists.{Lists, IsLive, list_at, with_list}
 use Rattle.tb_node.specs.declared.Node.{Node}
-use Rattle.tb_node.specs.Plain.{PlainNode, plain_of, without_insertions, plain_list}
+use Rattle.tb_node.specs.PlainNodes.{PlainNode, plain_of, without_insertions, plain_list}
 use Rattle.tb_break.specs.declared.Best.{Best}
 use Rattle.tb_break.specs.Best.{Breakpoint, best_or}
 use Rattle.tb_break.specs.Scan.{best_of}
 use Rattle.tb_insert.specs.Account.{Frozen, Labelled, labelled, terms_after}
-use Rattle.tb_insert.specs.Running.{IsAccountOf}
+use Rattle.tb_insert.specs.AccountEntries.{IsAccountOf}
 use Rattle.tb_builder.specs.declared.Ask.{Ask}
 use Rattle.tb_builder.specs.declared.Page.{Page}
 use Rattle.tb_builder.specs.declared.Builder.{Builder}
-use Rattle.tb_builder.specs.Reached.{Reach, holds_box, reach_from, breakpoints}
-use Rattle.tb_builder.specs.Fired.{Fired, no_place, page_break, penalty_at, line_at, with_spent_break, box_after, held_insertions, fired_by}
+use Rattle.tb_builder.specs.Reach.{Reach, holds_box, reach_from, breakpoints}
+use Rattle.tb_builder.specs.FiredPages.{Fired, no_place, page_break, penalty_at, line_at, with_spent_break, box_after, held_insertions, fired_by}
 use Rattle.tb_builder.specs.Contents.{Contents, contents_of, frozen_or, frozen_of, reach_whole}
-use Rattle.tb_builder.specs.Owned.{Lacks, AllLive, inner_ids, Ids, ids_of, owned, IsOwned}
-use Rattle.tb_builder.specs.Running.{ChampionIs, AtStop, places_by, page_frozen, AllLoose, AllLasting, IsPageSoFar, IsSound}
-use Rattle.tb_builder.specs.Places.{page_shapes}
-use Rattle.tb_break.specs.Legal.{ends_lasting}
-use Rattle.tb_builder.specs.Next.{FiredIs, PageIs, fired_page, after_fired}
+use Rattle.tb_builder.specs.Ownership.{Lacks, AllLive, inner_ids, Ids, ids_of, owned, IsOwned}
+use Rattle.tb_builder.specs.Courses.{ChampionIs, AtStop, places_by, page_frozen, AllLoose, AllLasting, IsPageSoFar, IsSound}
+use Rattle.tb_builder.specs.LegalPlaces.{page_shapes}
+use Rattle.tb_break.specs.Places.{ends_lasting}
+use Rattle.tb_builder.specs.PageEvents.{FiredIs, PageIs, fired_page, after_fired}
 use Rattle.tb_builder.specs.Firing.{SortsTo, Sorted, IsMarkedAt, EachFits, Cuts, Fires}
 use Rattle.tb_builder.proofs.Ownership.OwnedLemmas.{AllSame}
 use Rattle.tb_builder.proofs.Ownership.StoreMoves.{list_got, live_got, list_kept, one_got, one_other}

@@ -4,19 +4,19 @@
 use Rattle.std.proofs.Common.{◌≡◌, refl, subst, ◌∙◌, ap, ℕ, zero, suc, ◌+◌, ◌≤◌, ℤ, Bool, true, false, List, [], ◌∷◌, ◌++◌, length, length-append, take, drop, map, Some, arith}
 use Rattle.std.specs.Prelude.{if◌then◌else◌, ◌==◌}
 use Rattle.std.proofs.lemmas.Bool.{or_parts, eqb-true}
-use Rattle.tb_node.specs.Plain.{hbox, rule, skip, kerned, pen, mark, note, whatsit, Leaf, leaf_shape, Inserted, PlainKind, plain, ins, act, PlainNode, without_acts, without_insertions, on_line}
-use Rattle.tb_break.specs.Prune.{pruned_leaves}
+use Rattle.tb_node.specs.PlainNodes.{hbox, rule, skip, kerned, pen, mark, note, whatsit, Leaf, leaf_shape, Inserted, PlainKind, plain, ins, act, PlainNode, without_acts, without_insertions, on_line}
+use Rattle.tb_break.specs.PageTop.{pruned_leaves}
 use Rattle.tb_insert.specs.declared.Class.{Class}
 use Rattle.tb_insert.specs.Terms.{Terms}
 use Rattle.tb_insert.specs.Account.{Frozen, Label, whole, split, late, Labelled, label_of, labelled_with, labelled_from, labelled, terms_after}
 use Rattle.tb_insert.proofs.AccountLemmas.{same_number}
 use Rattle.tb_builder.specs.declared.Ask.{Ask}
-use Rattle.tb_builder.specs.Reached.{Reach, reach_from}
-use Rattle.tb_builder.specs.Fired.{Boxed, page_break, from_break, spent_kind, with_spent_break, given_by, given_to, is_given, content_of, box_after, unless_empty, held_of, held_insertions, fired_by}
+use Rattle.tb_builder.specs.Reach.{Reach, reach_from}
+use Rattle.tb_builder.specs.FiredPages.{Boxed, page_break, from_break, spent_kind, with_spent_break, given_by, given_to, is_given, content_of, box_after, unless_empty, held_of, held_insertions, fired_by}
 use Rattle.tb_builder.specs.Contents.{Contents, frozen_of, kind_count, node_count, box_count}
-use Rattle.tb_builder.specs.Owned.{has_class, ClassesFit}
-use Rattle.tb_builder.specs.Next.{fired_page}
-use Rattle.tb_builder.specs.Kept.{AreBoxesOf, fired_count}
+use Rattle.tb_builder.specs.Ownership.{has_class, ClassesFit}
+use Rattle.tb_builder.specs.PageEvents.{fired_page}
+use Rattle.tb_builder.specs.SizedContents.{AreBoxesOf, fired_count}
 use Rattle.tb_builder.proofs.Cutting.CutLemmas.{CutAt, reach-cut}
 use Rattle.tb_builder.proofs.Ranges.PageableLemmas.{count-append}
 use Rattle.tb_builder.proofs.Cutting.VanishLemmas.{BeginsVanishing, VanishesBehind, AllVanish, labels_vanish}

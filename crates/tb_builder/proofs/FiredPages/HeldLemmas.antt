@@ -6,9 +6,9 @@ use Rattle.tb_scaled.specs.Scaled.{min_ℤ}
 use Rattle.tb_node.specs.Sums.{sums_of, list_shrink}
 use Rattle.tb_break.specs.declared.Found.{Found}
 use Rattle.tb_break.specs.Split.{split_of}
-use Rattle.tb_node.specs.Plain.{leaf_shape, node_shape, Inserted, PlainKind, plain, ins, act, PlainNode}
+use Rattle.tb_node.specs.PlainNodes.{leaf_shape, node_shape, Inserted, PlainKind, plain, ins, act, PlainNode}
 use Rattle.tb_insert.specs.Account.{scaled_by, clamped, unscaled_room, class_box, goal_after, class_height, skip_shapes, met_classes, ClassBox, Frozen, Labelled, whole, split, label_where, label_of, labelled_with, labelled_from, labelled}
-use Rattle.tb_builder.specs.Fired.{gives, is_given}
+use Rattle.tb_builder.specs.FiredPages.{gives, is_given}
 use Rattle.tb_builder.proofs.FiredPages.PageWeights.{IsOnce, LabelsOfClass}
 use Rattle.std.proofs.lemmas.Bool.{eq-eqb}
 

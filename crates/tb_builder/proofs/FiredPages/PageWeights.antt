@@ -2,14 +2,14 @@
 use Rattle.std.proofs.Common.{◌≡◌, refl, ◌∙◌, ap, ℕ, suc, ◌+◌, ℤ, Bool, true, false, List, [], ◌∷◌, ◌++◌, length, map, take, drop, Option, Some, None, arith}
 use Rattle.std.specs.Prelude.{◌==◌, ◌||◌, if◌then◌else◌}
 use Rattle.std.specs.List.{AllByRecursion}
-use Rattle.tb_node.specs.Plain.{Matter, hbox, rule, skip, kerned, pen, mark, note, whatsit, Leaf, Inserted, PlainKind, plain, ins, act, PlainNode, without_acts, without_insertions, on_line}
+use Rattle.tb_node.specs.PlainNodes.{Matter, hbox, rule, skip, kerned, pen, mark, note, whatsit, Leaf, Inserted, PlainKind, plain, ins, act, PlainNode, without_acts, without_insertions, on_line}
 use Rattle.tb_node.proofs.Weights.{Weight, matter_weight, leaves_weight, act_weight, kind_weight, nodes_weight, kind_inserted, inserted_weight, weight-append, leaves-append, leaves-split, weight-split, insertions-apart}
 use Rattle.tb_break.specs.Best.{Breakpoint, is_stop}
-use Rattle.tb_break.specs.Prune.{pruned_leaves, pruned_nodes}
+use Rattle.tb_break.specs.PageTop.{pruned_leaves, pruned_nodes}
 use Rattle.tb_insert.specs.Terms.{Terms}
 use Rattle.tb_insert.specs.Account.{Frozen, Labelled, Label, whole, split, late, label_of, labelled_with, labelled_from, labelled}
-use Rattle.tb_builder.specs.Reached.{Reached, acted, tried, Reach, also_reached, holds_box, laid_out, page_place, stopped_at, reach_at_place, reach_at, reach_node, reach_from}
-use Rattle.tb_builder.specs.Fired.{Boxed, Fired, page_break, from_break, spent_kind, with_spent_break, given_by, given_to, gives, is_given, content_of, box_after, unless_empty, held_of, held_insertions, fired_by}
+use Rattle.tb_builder.specs.Reach.{Reached, acted, tried, Reach, also_reached, holds_box, laid_out, page_place, stopped_at, reach_at_place, reach_at, reach_node, reach_from}
+use Rattle.tb_builder.specs.FiredPages.{Boxed, Fired, page_break, from_break, spent_kind, with_spent_break, given_by, given_to, gives, is_given, content_of, box_after, unless_empty, held_of, held_insertions, fired_by}
 
 -- ---- the top of a page
 

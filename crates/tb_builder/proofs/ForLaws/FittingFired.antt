@@ -8,14 +8,14 @@ use Rattle.std.proofs.Math.Seq.{take-length, drop-length}
 use Rattle.tb_builder.proofs.Amounts.ScanLemmas.{none_met}
 use Rattle.tb_scaled.specs.Scaled.{eject_penalty, inf_penalty, max_ℤ}
 use Rattle.tb_node.specs.declared.What.{What}
-use Rattle.tb_node.specs.Plain.{hbox, rule, skip, kerned, pen, mark, note, whatsit, PlainKind, plain, ins, act, PlainNode, node_shape}
+use Rattle.tb_node.specs.PlainNodes.{hbox, rule, skip, kerned, pen, mark, note, whatsit, PlainKind, plain, ins, act, PlainNode, node_shape}
 use Rattle.tb_node.specs.Sums.{size_of, stretches, list_shrink}
-use Rattle.tb_break.specs.Prune.{pruned_nodes, top_glue}
+use Rattle.tb_break.specs.PageTop.{pruned_nodes, top_glue}
 use Rattle.tb_break.specs.Best.{Breakpoint}
 use Rattle.tb_insert.specs.Terms.{bare_terms}
 use Rattle.tb_insert.specs.Account.{ClassBox, class_charge, skip_shapes, Frozen, Labelled, labelled, labelled_from, terms_after, terms_of_labels}
-use Rattle.tb_builder.specs.Reached.{Reach, reach_from, breakpoints}
-use Rattle.tb_builder.specs.Fired.{Boxed, Fired, page_break, from_break, fired_by, box_after, no_place, penalty_at, with_spent_break, held_insertions}
+use Rattle.tb_builder.specs.Reach.{Reach, reach_from, breakpoints}
+use Rattle.tb_builder.specs.FiredPages.{Boxed, Fired, page_break, from_break, fired_by, box_after, no_place, penalty_at, with_spent_break, held_insertions}
 use Rattle.tb_builder.proofs.ForLaws.FittingPages.{Slim, AllSlim, slim-both, size-both, best-last, BreaksAt, breaks-at}
 
 -- a node that vanishes at the top of a page, or stays there and takes no height

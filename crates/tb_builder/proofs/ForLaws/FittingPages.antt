@@ -10,14 +10,14 @@ use Rattle.tb_scaled.specs.declared.Order.TheVariants.{Normal}
 use Rattle.tb_scaled.specs.Scaled.{eject_penalty, inf_penalty, awful_bad, inf_bad, badness_of, min_ℤ}
 use Rattle.tb_node.specs.declared.Sums.{Sums}
 use Rattle.tb_node.specs.Shape.{Shape}
-use Rattle.tb_node.specs.Plain.{hbox, rule, skip, kerned, pen, mark, note, whatsit, PlainKind, plain, ins, act, PlainNode, node_shape, without_acts}
+use Rattle.tb_node.specs.PlainNodes.{hbox, rule, skip, kerned, pen, mark, note, whatsit, PlainKind, plain, ins, act, PlainNode, node_shape, without_acts}
 use Rattle.tb_node.specs.Sums.{amount_at, room_of, size_of, depth_from, list_stretch, list_shrink, sums_of}
 use Rattle.tb_break.specs.Cost.{finite_stretch, stretches_infinitely, page_badness, cost_of_badness}
-use Rattle.tb_break.specs.Legal.{last_or, ends_lasting}
+use Rattle.tb_break.specs.Places.{last_or, ends_lasting}
 use Rattle.tb_break.specs.Best.{Breakpoint, is_stop, least_cost, best_or}
 use Rattle.tb_break.specs.Split.{breakpoint_at}
 use Rattle.tb_insert.specs.Terms.{Terms, bare_terms, sums_with}
-use Rattle.tb_builder.specs.Reached.{tried, Reach, also_reached, page_place, stopped_at, reach_at_place, reach_at, reach_node, reach_from, breakpoints}
+use Rattle.tb_builder.specs.Reach.{tried, Reach, also_reached, page_place, stopped_at, reach_at_place, reach_at, reach_node, reach_from, breakpoints}
 
 -- ---- slim nodes
 

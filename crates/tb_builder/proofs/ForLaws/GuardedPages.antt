@@ -9,17 +9,17 @@ use Rattle.tb_scaled.specs.Scaled.{eject_penalty, inf_penalty, awful_bad, badnes
 use Rattle.tb_node.specs.declared.Sums.{Sums}
 use Rattle.tb_node.specs.declared.What.{What}
 use Rattle.tb_node.specs.Shape.{Shape, is_discardable}
-use Rattle.tb_node.specs.Plain.{hbox, rule, skip, kerned, pen, mark, note, whatsit, PlainKind, plain, ins, act, PlainNode, node_shape, without_acts}
+use Rattle.tb_node.specs.PlainNodes.{hbox, rule, skip, kerned, pen, mark, note, whatsit, PlainKind, plain, ins, act, PlainNode, node_shape, without_acts}
 use Rattle.tb_node.specs.Sums.{size_of, depth_from, list_shrink, sums_of}
-use Rattle.tb_break.specs.Prune.{pruned_nodes, top_glue}
+use Rattle.tb_break.specs.PageTop.{pruned_nodes, top_glue}
 use Rattle.tb_break.specs.Cost.{stretches_infinitely, finite_stretch, page_badness, cost_of_badness}
-use Rattle.tb_break.specs.Legal.{last_or, ends_lasting}
+use Rattle.tb_break.specs.Places.{last_or, ends_lasting}
 use Rattle.tb_break.specs.Best.{Breakpoint, is_stop, best_or}
 use Rattle.tb_break.specs.Split.{breakpoint_at}
 use Rattle.tb_insert.specs.Terms.{Terms, bare_terms, sums_with}
 use Rattle.tb_insert.specs.Account.{ClassBox, Frozen, terms_after}
-use Rattle.tb_builder.specs.Reached.{Reach, tried, also_reached, page_place, stopped_at, reach_at, reach_from, breakpoints}
-use Rattle.tb_builder.specs.Fired.{no_place, page_break}
+use Rattle.tb_builder.specs.Reach.{Reach, tried, also_reached, page_place, stopped_at, reach_at, reach_from, breakpoints}
+use Rattle.tb_builder.specs.FiredPages.{no_place, page_break}
 use Rattle.tb_builder.proofs.ForLaws.FittingPages.{AllSlim, slim-both, size-both, slim-sums, slim-depth, free-place}
 use Rattle.tb_builder.proofs.ForLaws.FittingFired.{Topmost, AllTopmost, flat_box, break_at, bare-page}
 

@@ -5,15 +5,15 @@ use Rattle.std.proofs.lemmas.List.{map-append}
 use Rattle.std.proofs.lemmas.Bool.{true≢false}
 use Rattle.tb_pool.specs.Lists.{Lists, IsLive, list_at, with_list}
 use Rattle.tb_node.specs.declared.Node.{Node}
-use Rattle.tb_node.specs.Plain.{PlainNode, plain_of, plain_list}
+use Rattle.tb_node.specs.PlainNodes.{PlainNode, plain_of, plain_list}
 use Rattle.tb_insert.specs.Account.{terms_after}
 use Rattle.tb_builder.specs.declared.Course.{Course}
 use Rattle.tb_builder.specs.declared.Builder.{Builder}
-use Rattle.tb_builder.specs.Places.{glue_first, page_places, NoStop}
-use Rattle.tb_builder.specs.Owned.{Lacks, AllDiffer, AllLive, inner_ids, Ids, ids_of, nodes_of, box_ids, own_ids, owned, HoldPlain, AllKnown, classes_of, IsOwned}
+use Rattle.tb_builder.specs.LegalPlaces.{glue_first, page_places, NoStop}
+use Rattle.tb_builder.specs.Ownership.{Lacks, AllDiffer, AllLive, inner_ids, Ids, ids_of, nodes_of, box_ids, own_ids, owned, HoldPlain, AllKnown, classes_of, IsOwned}
 use Rattle.tb_builder.specs.Contents.{Contents, contents_of}
-use Rattle.tb_builder.specs.Running.{IsCourseOf, page_frozen, IsPageSoFar, IsSound}
-use Rattle.tb_builder.specs.Handed.{ListJoins, ends_in_kern}
+use Rattle.tb_builder.specs.Courses.{IsCourseOf, page_frozen, IsPageSoFar, IsSound}
+use Rattle.tb_builder.specs.Contributions.{ListJoins, ends_in_kern}
 use Rattle.tb_builder.proofs.Ownership.OwnedLemmas.{AllSame, live-append, live-left, live-right, plain-append, plain-left, plain-right, known-append, known-left, known-right, same_from, lists_same, live_same, plain_same, boxes_same, view_same, inner-append, same-left, same-right}
 use Rattle.tb_builder.proofs.Turns.MoveLemmas.{Wrote, wrote_two}
 use Rattle.tb_builder.proofs.Handover.WaitLemmas.{places_glue}

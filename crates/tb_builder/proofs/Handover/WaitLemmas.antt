@@ -2,19 +2,19 @@
 use Rattle.std.proofs.Common.{◌≡◌, refl, sym, subst, ◌∙◌, ap, ℕ, ℤ, Bool, true, false, List, [], ◌∷◌, ◌++◌, length, length-append, Option, None, Some, append_assoc, append-nil, arith}
 use Rattle.std.proofs.lemmas.Bool.{true≢false}
 use Rattle.tb_node.specs.Shape.{Shape, box, glue, kern, penalty, other}
-use Rattle.tb_node.specs.Plain.{PlainKind, plain, ins, act, PlainNode, node_shape, kind_shape, without_acts}
-use Rattle.tb_break.specs.Legal.{ends_lasting, begins_with_glue}
+use Rattle.tb_node.specs.PlainNodes.{PlainKind, plain, ins, act, PlainNode, node_shape, kind_shape, without_acts}
+use Rattle.tb_break.specs.Places.{ends_lasting, begins_with_glue}
 use Rattle.tb_break.specs.Best.{Breakpoint, is_stop}
-use Rattle.tb_break.specs.Finding.{penalty_by, is_glue}
+use Rattle.tb_break.specs.SplitPlace.{penalty_by, is_glue}
 use Rattle.tb_break.specs.Split.{with_place}
 use Rattle.tb_insert.specs.Terms.{Terms}
 use Rattle.tb_insert.specs.Account.{Frozen, terms_after}
 use Rattle.tb_builder.specs.declared.Course.{Course}
-use Rattle.tb_builder.specs.Reached.{acted, tried, Reach, also_reached, page_place, reach_at, reach_at_place, reach_from, breakpoints}
-use Rattle.tb_builder.specs.Places.{page_shapes, glue_first, glue_or, kind_penalty_by, node_penalty, page_places, NoStop, NoActs}
+use Rattle.tb_builder.specs.Reach.{acted, tried, Reach, also_reached, page_place, reach_at, reach_at_place, reach_from, breakpoints}
+use Rattle.tb_builder.specs.LegalPlaces.{page_shapes, glue_first, glue_or, kind_penalty_by, node_penalty, page_places, NoStop, NoActs}
 use Rattle.tb_builder.specs.Contents.{Contents}
-use Rattle.tb_builder.specs.Running.{IsCourseOf, places_by, Underway, AtStop, AllLoose, page_frozen, IsPageSoFar}
-use Rattle.tb_builder.specs.Handed.{is_kern, ends_in_kern, MayWait}
+use Rattle.tb_builder.specs.Courses.{IsCourseOf, places_by, Underway, AtStop, AllLoose, page_frozen, IsPageSoFar}
+use Rattle.tb_builder.specs.Contributions.{is_kern, ends_in_kern, MayWait}
 use Rattle.tb_builder.proofs.LegalPlaces.PageLemmas.{first_of, reach_next, at_place_stops, at_place_goes}
 
 -- ---- glue that comes first among the waiting nodes

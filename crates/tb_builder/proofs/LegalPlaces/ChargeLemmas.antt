@@ -11,9 +11,9 @@ use Rattle.tb_node.proofs.FitLemmas.{IsWithin}
 use Rattle.tb_insert.specs.declared.Class.{Class}
 use Rattle.tb_insert.specs.Account.{scaled_by}
 use Rattle.tb_insert.proofs.AccountLemmas.{same_number}
-use Rattle.tb_builder.specs.Fired.{Boxed, content_of, box_content}
+use Rattle.tb_builder.specs.FiredPages.{Boxed, content_of, box_content}
 use Rattle.tb_builder.specs.Contents.{box_count}
-use Rattle.tb_builder.specs.Owned.{has_class, ClassesFit}
+use Rattle.tb_builder.specs.Ownership.{has_class, ClassesFit}
 use Rattle.tb_builder.specs.Pageable.{IsFactor}
 
 -- ---- a scaled height

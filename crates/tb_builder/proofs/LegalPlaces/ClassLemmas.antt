@@ -7,19 +7,19 @@ use Rattle.std.proofs.lemmas.List.Quantifiers.{position-Some}
 use Rattle.std.proofs.lemmas.Bool.{eqb-true}
 use Rattle.tb_pool.specs.Lists.{Lists, IsLive, list_at}
 use Rattle.tb_node.specs.declared.Node.{Node}
-use Rattle.tb_node.specs.Plain.{leaf_shape, shape_of}
+use Rattle.tb_node.specs.PlainNodes.{leaf_shape, shape_of}
 use Rattle.tb_node.specs.Fit.{shapes}
 use Rattle.tb_node.specs.Sums.{size_of}
 use Rattle.tb_insert.specs.declared.Class.{Class}
 use Rattle.tb_insert.specs.Account.{ClassBox, class_box}
-use Rattle.tb_insert.specs.Arrived.{ClassFits}
-use Rattle.tb_insert.specs.Running.{numbered, Differ, boxed}
+use Rattle.tb_insert.specs.Arrival.{ClassFits}
+use Rattle.tb_insert.specs.AccountEntries.{numbered, Differ, boxed}
 use Rattle.tb_insert.proofs.AccountLemmas.{leaf_shapes}
 use Rattle.tb_builder.specs.declared.ClassList.{ClassList}
-use Rattle.tb_builder.specs.Fired.{box_content, box_size, class_boxes, content_of}
+use Rattle.tb_builder.specs.FiredPages.{box_content, box_size, class_boxes, content_of}
 use Rattle.tb_builder.specs.Contents.{boxed_of, content_by, leaf_list}
-use Rattle.tb_builder.specs.Owned.{VoidEmpty, box_ids, AllLive, has_class, ClassesFit, has_number, IsFirst, IsClassList}
-use Rattle.tb_builder.specs.Next.{SizesFit, BoxesFit}
+use Rattle.tb_builder.specs.Ownership.{VoidEmpty, box_ids, AllLive, has_class, ClassesFit, has_number, IsFirst, IsClassList}
+use Rattle.tb_builder.specs.PageEvents.{SizesFit, BoxesFit}
 
 pub first_at : (es : List ClassList) (number k : ℕ) (d : ClassList) → position (λ e. e.class.number == number) es ≡ Some k → IsFirst es number k d
 first_at es number k d e =

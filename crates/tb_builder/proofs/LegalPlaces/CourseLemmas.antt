@@ -10,12 +10,12 @@ use Rattle.tb_node.specs.declared.Sums.{Sums}
 use Rattle.tb_node.specs.declared.Kind.{Kind}
 use Rattle.tb_node.specs.declared.Kind.TheVariants as kinds
 use Rattle.tb_node.specs.Shape.{Shape, other, is_discardable}
-use Rattle.tb_node.specs.Plain.{hbox, rule, skip, kerned, pen, mark, note, whatsit, Inserted, PlainKind, plain, ins, act, PlainNode, plain_of, plain_kind, node_shape, shape_of, is_act_kind, is_insertion_kind}
-use Rattle.tb_node.specs.Add.{added_node}
+use Rattle.tb_node.specs.PlainNodes.{hbox, rule, skip, kerned, pen, mark, note, whatsit, Inserted, PlainKind, plain, ins, act, PlainNode, plain_of, plain_kind, node_shape, shape_of, is_act_kind, is_insertion_kind}
+use Rattle.tb_node.specs.NodeSums.{added_node}
 use Rattle.tb_node.specs.Roles.{act_of_kind, insertion_of_kind}
 use Rattle.tb_break.specs.declared.Best.{Best}
 use Rattle.tb_break.specs.declared.Offer.{Offer}
-use Rattle.tb_break.specs.Legal.{ends_lasting}
+use Rattle.tb_break.specs.Places.{ends_lasting}
 use Rattle.tb_break.specs.Best.{Breakpoint, best_or, least_cost}
 use Rattle.tb_break.specs.Split.{breakpoint_at}
 use Rattle.tb_break.specs.Scan.{Scanned, Offered, empty_scan, better_best, best_of, least_so_far, offer_of}
@@ -25,17 +25,17 @@ use Rattle.tb_break.proofs.ScanLemmas.{best-offer, cost_at_most}
 use Rattle.tb_insert.specs.declared.Account.{Account}
 use Rattle.tb_insert.specs.declared.Class.{Class}
 use Rattle.tb_insert.specs.Account.{Frozen, class_box, labelled, insertions, is_met, terms_after}
-use Rattle.tb_insert.specs.Running.{numbered, boxed, IsAccountOf, IsScanOfPage, ComesTo, met_scan}
+use Rattle.tb_insert.specs.AccountEntries.{numbered, boxed, IsAccountOf, IsScanOfPage, ComesTo, met_scan}
 use Rattle.tb_insert.proofs.StandsLemmas.{stands-plain}
 use Rattle.tb_insert.proofs.TermLemmas.{scan_plain}
 use Rattle.tb_builder.proofs.Amounts.ScanLemmas.{scan_meets, scan_loose, scan_new}
 use Rattle.tb_builder.specs.declared.Course.{Course}
 use Rattle.tb_builder.specs.declared.Try.{Try}
-use Rattle.tb_builder.specs.Reached.{try_of}
-use Rattle.tb_break.specs.Finding.{penalty_by}
-use Rattle.tb_builder.specs.Places.{page_shapes, glue_first, node_penalty, NoActs}
-use Rattle.tb_builder.specs.Running.{ChampionIs, IsCourseOf, is_loose, AllLoose, nodes_glue_first}
-use Rattle.tb_builder.specs.Offer.{MarksBest, place_here}
+use Rattle.tb_builder.specs.Reach.{try_of}
+use Rattle.tb_break.specs.SplitPlace.{penalty_by}
+use Rattle.tb_builder.specs.LegalPlaces.{page_shapes, glue_first, node_penalty, NoActs}
+use Rattle.tb_builder.specs.Courses.{ChampionIs, IsCourseOf, is_loose, AllLoose, nodes_glue_first}
+use Rattle.tb_builder.specs.CourseOffers.{MarksBest, place_here}
 
 -- ---- a node by its kind
 

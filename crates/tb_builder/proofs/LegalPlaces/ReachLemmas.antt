@@ -1,12 +1,12 @@
 -- The page and what waits as one list: its places are those of the page and then those that are reached past it.
 use Rattle.std.proofs.Common.{◌≡◌, refl, sym, subst, ◌∙◌, ap, ℤ, List, [], ◌∷◌, ◌++◌, Option, None, Some, append_assoc, append-nil}
-use Rattle.tb_node.specs.Plain.{PlainNode}
-use Rattle.tb_break.specs.Legal.{ends_lasting}
+use Rattle.tb_node.specs.PlainNodes.{PlainNode}
+use Rattle.tb_break.specs.Places.{ends_lasting}
 use Rattle.tb_break.specs.Best.{Breakpoint}
 use Rattle.tb_break.specs.Split.{with_place}
 use Rattle.tb_insert.specs.Terms.{Terms}
-use Rattle.tb_builder.specs.Reached.{Reach, reach_from, reach_at, breakpoints, page_place}
-use Rattle.tb_builder.specs.Places.{page_shapes, glue_first, glue_or, node_penalty, page_places, NoStop, NoActs}
+use Rattle.tb_builder.specs.Reach.{Reach, reach_from, reach_at, breakpoints, page_place}
+use Rattle.tb_builder.specs.LegalPlaces.{page_shapes, glue_first, glue_or, node_penalty, page_places, NoStop, NoActs}
 use Rattle.tb_builder.proofs.LegalPlaces.PageLemmas.{reach_next, first_of, at_place_goes}
 
 module _ (limit : ℤ) (terms : List PlainNode → Terms) where

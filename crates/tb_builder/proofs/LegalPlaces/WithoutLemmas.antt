@@ -8,14 +8,14 @@ use Rattle.tb_scaled.specs.declared.Order.{Order}
 use Rattle.tb_scaled.specs.declared.Order.TheVariants.{Normal, Fil, Fill, Filll}
 use Rattle.tb_node.specs.declared.Act.{Act}
 use Rattle.tb_node.specs.declared.Sums.{Sums}
-use Rattle.tb_node.specs.Small.{IsAmount, IsSmall}
+use Rattle.tb_node.specs.SmallAmounts.{IsAmount, IsSmall}
 use Rattle.tb_node.specs.Shape.{Shape, other}
-use Rattle.tb_node.specs.Plain.{PlainKind, plain, ins, act, PlainNode, node_shape, Inserted}
+use Rattle.tb_node.specs.PlainNodes.{PlainKind, plain, ins, act, PlainNode, node_shape, Inserted}
 use Rattle.tb_node.specs.Sums.{sums_of, size_of, depth_from, list_stretch, list_shrink, depth_after, room_of, stretch_of, shrink_of}
 use Rattle.tb_insert.specs.Terms.{Terms, sums_with}
 use Rattle.tb_insert.specs.Account.{ClassBox, Frozen, Label, late, Labelled, class_box, taken, scaled_by, insertions, met_classes, class_charge, insertion_charge, skip_shapes, class_height, is_split, has_split, label_where, label_of, labelled_with, labelled_from, labelled, penalty_of, penalties_of, terms_of_labels, terms_after}
-use Rattle.tb_insert.specs.Arrived.{PageFits}
-use Rattle.tb_builder.specs.Next.{NodeFits, LaidFits, Without}
+use Rattle.tb_insert.specs.Arrival.{PageFits}
+use Rattle.tb_builder.specs.PageEvents.{NodeFits, LaidFits, Without}
 
 -- ---- sums without a node that takes no room
 

@@ -5,14 +5,14 @@ use Rattle.std.specs.FinMap.{get}
 use Rattle.std.proofs.lemmas.Bool.{true≢false}
 use Rattle.tb_pool.specs.Lists.{Lists, IsLive, list_at, with_list}
 use Rattle.tb_node.specs.declared.Node.{Node}
-use Rattle.tb_node.specs.Plain.{PlainNode, plain_of, plain_list}
+use Rattle.tb_node.specs.PlainNodes.{PlainNode, plain_of, plain_list}
 use Rattle.tb_builder.specs.declared.Builder.{Builder}
 use Rattle.tb_builder.specs.Contents.{Contents, contents_of}
 use Rattle.tb_builder.specs.Leaving.{LeavesOthers}
-use Rattle.tb_builder.specs.Owned.{Lacks, AllDiffer, AllLive, inner_of, inner_ids, Ids, ids_of, nodes_of, box_ids, own_ids, owned, AllPlain, HoldPlain, is_known, classes_of, IsOwned}
-use Rattle.tb_builder.specs.Running.{IsPageSoFar, IsSound}
-use Rattle.tb_builder.specs.Opened.{Opened}
-use Rattle.tb_builder.specs.Handed.{NodesJoin, ListJoins, ends_in_kern, MayWait, NoPage}
+use Rattle.tb_builder.specs.Ownership.{Lacks, AllDiffer, AllLive, inner_of, inner_ids, Ids, ids_of, nodes_of, box_ids, own_ids, owned, AllPlain, HoldPlain, is_known, classes_of, IsOwned}
+use Rattle.tb_builder.specs.Courses.{IsPageSoFar, IsSound}
+use Rattle.tb_builder.specs.NewLists.{Opened}
+use Rattle.tb_builder.specs.Contributions.{NodesJoin, ListJoins, ends_in_kern, MayWait, NoPage}
 use Rattle.tb_builder.proofs.Ownership.OwnedLemmas.{AllSame, same-left, same-right, inner-append, live-right, plain-right, lists_same, live_same, plain_same, boxes_same, view_same}
 use Rattle.tb_builder.proofs.Handover.JoinLemmas.{Holds, nodes_are, holds_own, sound_from}
 use Rattle.tb_builder.proofs.Ownership.NewLemmas.{fresh_lacks, differ_last, opened_first, opened_none}

@@ -6,20 +6,20 @@ use Rattle.std.proofs.lemmas.Bool.{true≢false}
 use Rattle.std.proofs.lemmas.List.{map-append}
 use Rattle.tb_pool.specs.Lists.{Lists, IsLive, list_at, with_list}
 use Rattle.tb_node.specs.declared.Node.{Node}
-use Rattle.tb_node.specs.Plain.{PlainNode, plain_of}
+use Rattle.tb_node.specs.PlainNodes.{PlainNode, plain_of}
 use Rattle.tb_insert.specs.declared.Class.{Class}
 use Rattle.tb_insert.specs.Account.{Frozen}
-use Rattle.tb_insert.specs.Running.{Differ}
+use Rattle.tb_insert.specs.AccountEntries.{Differ}
 use Rattle.tb_builder.specs.declared.Course.{Course}
 use Rattle.tb_builder.specs.declared.ClassList.{ClassList}
 use Rattle.tb_builder.specs.declared.Builder.{Builder}
-use Rattle.tb_builder.specs.Reached.{holds_box}
-use Rattle.tb_builder.specs.Places.{page_shapes}
-use Rattle.tb_break.specs.Legal.{ends_lasting}
+use Rattle.tb_builder.specs.Reach.{holds_box}
+use Rattle.tb_builder.specs.LegalPlaces.{page_shapes}
+use Rattle.tb_break.specs.Places.{ends_lasting}
 use Rattle.tb_builder.specs.Contents.{Contents, contents_of, boxed_of, void_box, nothing_yet, content_by, leaf_list}
-use Rattle.tb_builder.specs.Owned.{Lacks, AllDiffer, AllLive, inner_ids, ids_of, nodes_of, box_ids, own_ids, owned, AllPlain, HoldPlain, VoidEmpty, ClassesFit, AllKnown, IsOwned}
-use Rattle.tb_builder.specs.Running.{IsCourseOf, AllLoose, AllLasting, Unfrozen, IsPageSoFar, IsSound}
-use Rattle.tb_builder.specs.Opened.{AllEmpty, Opened, AllVoid, VoidBoxes}
+use Rattle.tb_builder.specs.Ownership.{Lacks, AllDiffer, AllLive, inner_ids, ids_of, nodes_of, box_ids, own_ids, owned, AllPlain, HoldPlain, VoidEmpty, ClassesFit, AllKnown, IsOwned}
+use Rattle.tb_builder.specs.Courses.{IsCourseOf, AllLoose, AllLasting, Unfrozen, IsPageSoFar, IsSound}
+use Rattle.tb_builder.specs.NewLists.{AllEmpty, Opened, AllVoid, VoidBoxes}
 use Rattle.tb_builder.proofs.Ownership.OwnedLemmas.{lacks-append, live-append}
 use Rattle.tb_builder.proofs.Turns.MoveLemmas.{list_same, list_other, get_other, live_same_one, live_other}
 

@@ -7,11 +7,11 @@ use Rattle.tb_node.specs.declared.Node.{Node}
 use Rattle.tb_node.specs.declared.Insertion.{Insertion}
 use Rattle.tb_node.specs.declared.Kind.{Kind}
 use Rattle.tb_node.specs.declared.Kind.TheVariants as kinds
-use Rattle.tb_node.specs.Plain.{PlainNode, plain_of, ins, leaf_of}
+use Rattle.tb_node.specs.PlainNodes.{PlainNode, plain_of, ins, leaf_of}
 use Rattle.tb_insert.specs.declared.Class.{Class}
 use Rattle.tb_builder.specs.declared.ClassList.{ClassList}
-use Rattle.tb_builder.specs.Owned.{Lacks, AllDiffer, AllLive, inner_of, inner_ids, box_ids, AllPlain, HoldPlain, VoidEmpty, AllKnown}
-use Rattle.tb_builder.specs.Fired.{Boxed}
+use Rattle.tb_builder.specs.Ownership.{Lacks, AllDiffer, AllLive, inner_of, inner_ids, box_ids, AllPlain, HoldPlain, VoidEmpty, AllKnown}
+use Rattle.tb_builder.specs.FiredPages.{Boxed}
 use Rattle.tb_builder.specs.Contents.{content_by, boxed_of}
 
 -- ---- ids that differ

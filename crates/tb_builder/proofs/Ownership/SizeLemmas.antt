@@ -4,12 +4,12 @@ use Rattle.std.proofs.lemmas.List.{map-append}
 use Rattle.std.proofs.lemmas.Int.{ints}
 use Rattle.tb_node.specs.declared.Node.{Node}
 use Rattle.tb_node.specs.Shape.{Shape}
-use Rattle.tb_node.specs.Plain.{shape_of}
-use Rattle.tb_node.specs.Small.{IsAmount}
+use Rattle.tb_node.specs.PlainNodes.{shape_of}
+use Rattle.tb_node.specs.SmallAmounts.{IsAmount}
 use Rattle.tb_node.specs.Sums.{room_of, size_of}
 use Rattle.tb_node.proofs.AddLemmas.{size-append}
-use Rattle.tb_builder.specs.Next.{SizesFit, IsRoom}
-use Rattle.tb_builder.specs.Room.{IsWide, RoomFits}
+use Rattle.tb_builder.specs.PageEvents.{SizesFit, IsRoom}
+use Rattle.tb_builder.specs.Sizes.{IsWide, RoomFits}
 
 -- the total is the room of what comes before the rest of a list
 pub record Sized (all rest : List Node) (total : ℤ) : Type 0 where

@@ -6,11 +6,11 @@ use Rattle.tb_pool.specs.Lists.{Lists, IsLive, list_at}
 use Rattle.tb_node.specs.declared.Node.{Node}
 use Rattle.tb_builder.specs.declared.Ask.{Ask}
 use Rattle.tb_builder.specs.declared.Builder.{Builder}
-use Rattle.tb_builder.specs.Reached.{holds_box}
+use Rattle.tb_builder.specs.Reach.{holds_box}
 use Rattle.tb_builder.specs.Contents.{Contents, contents_of}
-use Rattle.tb_builder.specs.Owned.{Ids, ids_of, owned, Lacks, classes_of, IsOwned, KeepsOthers}
-use Rattle.tb_builder.specs.Running.{AllLasting, IsPageSoFar, freezes, IsSound}
-use Rattle.tb_builder.specs.Next.{NextFits}
+use Rattle.tb_builder.specs.Ownership.{Ids, ids_of, owned, Lacks, classes_of, IsOwned, KeepsOthers}
+use Rattle.tb_builder.specs.Courses.{AllLasting, IsPageSoFar, freezes, IsSound}
+use Rattle.tb_builder.specs.PageEvents.{NextFits}
 use Rattle.tb_builder.proofs.Ownership.OwnedLemmas.{known-right}
 use Rattle.tb_builder.proofs.Turns.MoveLemmas.{written_own}
 

@@ -5,7 +5,7 @@ use Rattle.std.specs.FinMap.{get, insert}
 use Rattle.tb_pool.specs.Lists.{Lists, IsLive, list_at, with_list}
 use Rattle.tb_pool.proofs.MapLemmas.{get-insert_same, get-insert_other, insert_twice_from_get, has_value}
 use Rattle.tb_node.specs.declared.Node.{Node}
-use Rattle.tb_break.specs.Prune.{pruned_list}
+use Rattle.tb_break.specs.PageTop.{pruned_list}
 
 module _ {T : Type 0} where
   -- two lists were written, as the map has them

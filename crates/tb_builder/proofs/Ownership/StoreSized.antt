@@ -11,13 +11,13 @@ use Rattle.tb_node.specs.declared.Kind.TheVariants as kinds
 use Rattle.tb_node.specs.declared.Insertion.{Insertion}
 use Rattle.tb_node.specs.Fit.{IsExtent, IsPenalty, IsSized, IsSizedNode, IsSizedLeaf}
 use Rattle.tb_node.specs.Sums.{size_of}
-use Rattle.tb_node.specs.Plain.{matter_shape, matter_of, leaf_of, inserted_of, plain_kind, plain_of, shape_of, shape_of_kind, kind_shape, plain_list}
+use Rattle.tb_node.specs.PlainNodes.{matter_shape, matter_of, leaf_of, inserted_of, plain_kind, plain_of, shape_of, shape_of_kind, kind_shape, plain_list}
 use Rattle.tb_insert.proofs.AccountLemmas.{leaf_shapes}
 use Rattle.tb_builder.specs.declared.ClassList.{ClassList}
 use Rattle.tb_builder.specs.Contents.{boxed_of, kind_count, node_count}
-use Rattle.tb_builder.specs.Owned.{is_plain, AllPlain}
+use Rattle.tb_builder.specs.Ownership.{is_plain, AllPlain}
 use Rattle.tb_builder.specs.Pageable.{IsSizedInserted, IsSizedOnPage}
-use Rattle.tb_builder.specs.Kept.{AreBoxesOf}
+use Rattle.tb_builder.specs.SizedContents.{AreBoxesOf}
 use Rattle.tb_builder.proofs.Events.WholeLemmas.{IsMatterKind, AreMatter}
 
 -- ---- nodes of an insertion's list, or of a class box

@@ -7,22 +7,22 @@ use Rattle.std.proofs.lemmas.List.{length-map}
 use Rattle.std.proofs.lemmas.List.Elements.{All-append, All-tail}
 use Rattle.tb_node.specs.declared.Act.{Act}
 use Rattle.tb_node.specs.Fit.{IsExtent}
-use Rattle.tb_node.specs.Small.{IsAmount}
-use Rattle.tb_node.specs.Plain.{hbox, rule, skip, kerned, pen, mark, note, whatsit, PlainKind, plain, ins, act, PlainNode, node_shape}
+use Rattle.tb_node.specs.SmallAmounts.{IsAmount}
+use Rattle.tb_node.specs.PlainNodes.{hbox, rule, skip, kerned, pen, mark, note, whatsit, PlainKind, plain, ins, act, PlainNode, node_shape}
 use Rattle.tb_break.specs.Best.{Breakpoint, is_stop}
-use Rattle.tb_break.specs.Prune.{pruned_nodes}
+use Rattle.tb_break.specs.PageTop.{pruned_nodes}
 use Rattle.tb_insert.specs.declared.Class.{Class}
 use Rattle.tb_insert.specs.Account.{ClassBox, terms_after}
 use Rattle.tb_builder.specs.declared.Ask.{Ask}
 use Rattle.tb_builder.specs.declared.Event.{Event}
 use Rattle.tb_builder.specs.declared.Event.TheVariants as events
-use Rattle.tb_builder.specs.Reached.{Reach, holds_box, laid_out, breakpoints}
-use Rattle.tb_builder.specs.Fired.{Boxed, class_boxes, spent_kind, with_spent_break, from_break}
+use Rattle.tb_builder.specs.Reach.{Reach, holds_box, laid_out, breakpoints}
+use Rattle.tb_builder.specs.FiredPages.{Boxed, class_boxes, spent_kind, with_spent_break, from_break}
 use Rattle.tb_builder.specs.Contents.{Contents, frozen_or, frozen_of, laid, reach_ahead, reach_whole, places_of, node_count, box_count}
-use Rattle.tb_builder.specs.Owned.{ClassesFit}
-use Rattle.tb_builder.specs.Next.{AskFits, NextFits, KeepsBoxes, Without, FirstIs, fired_page, after_fired}
+use Rattle.tb_builder.specs.Ownership.{ClassesFit}
+use Rattle.tb_builder.specs.PageEvents.{AskFits, NextFits, KeepsBoxes, Without, FirstIs, fired_page, after_fired}
 use Rattle.tb_builder.specs.Pageable.{IsSizedOnPage, IsSizedClass, IsSizedBox, IsGoal}
-use Rattle.tb_builder.specs.Kept.{IsSizedAsk, IsSizedFreeze, laid_by, whole_list, IsSizedContents, whole_count, AreBoxesOf, fired_count}
+use Rattle.tb_builder.specs.SizedContents.{IsSizedAsk, IsSizedFreeze, laid_by, whole_list, IsSizedContents, whole_count, AreBoxesOf, fired_count}
 use Rattle.tb_builder.proofs.LegalPlaces.ChargeLemmas.{few_classes}
 use Rattle.tb_builder.proofs.Ranges.PageableLemmas.{count-append, IsSizedClassBox, size_total, IsSizedFrozen, class_boxes_sized, class_boxes_total, boxes_fit, laid_fits, pruned_sized, extent_amount}
 use Rattle.tb_builder.proofs.Cutting.VanishLemmas.{BeginsVanishing, break_vanishes}

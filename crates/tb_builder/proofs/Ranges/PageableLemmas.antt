@@ -9,24 +9,24 @@ use Rattle.tb_scaled.specs.declared.Order.{Order}
 use Rattle.tb_scaled.specs.declared.Order.TheVariants.{Normal, Fil, Fill, Filll}
 use Rattle.tb_node.specs.declared.Sums.{Sums}
 use Rattle.tb_node.specs.Fit.{IsDimension, IsExtent, IsPenalty, IsSized, IsSizedLeaf}
-use Rattle.tb_node.specs.Small.{IsAmount}
+use Rattle.tb_node.specs.SmallAmounts.{IsAmount}
 use Rattle.tb_node.specs.Shape.{Shape, box, glue, kern, penalty, other}
-use Rattle.tb_node.specs.Plain.{Leaf, leaf_shape, Inserted, PlainKind, plain, ins, act, PlainNode, node_shape, skip}
+use Rattle.tb_node.specs.PlainNodes.{Leaf, leaf_shape, Inserted, PlainKind, plain, ins, act, PlainNode, node_shape, skip}
 use Rattle.tb_node.specs.Sums.{sums_of, size_of, limited_depth, list_stretch, list_shrink}
 use Rattle.tb_node.proofs.FitLemmas.{IsWithin, sized-fits, nodes_fit, size_within, list_stretch_within, list_shrink_within, summed-fits, sums_fit}
-use Rattle.tb_break.specs.Legal.{ends_lasting, begins_with_glue, split_penalty}
+use Rattle.tb_break.specs.Places.{ends_lasting, begins_with_glue, split_penalty}
 use Rattle.tb_break.specs.Split.{split_of}
-use Rattle.tb_break.specs.Prune.{pruned_nodes, pruned_at, top_glue}
+use Rattle.tb_break.specs.PageTop.{pruned_nodes, pruned_at, top_glue}
 use Rattle.tb_break.proofs.LastLemmas.{split-last_least}
 use Rattle.tb_insert.specs.declared.Class.{Class}
 use Rattle.tb_insert.specs.Account.{ClassBox, Frozen, Label, whole, split, late, Labelled, class_box, taken, taken_by, scaled_by, insertions, is_met, met_classes, class_charge, insertion_charge, skip_shapes, class_height, has_split, label_where, label_of, labelled_with, labelled_from, labelled, goal_after, clamped, unscaled_room, penalty_of, penalties_of}
-use Rattle.tb_insert.specs.Arrived.{PageFits}
+use Rattle.tb_insert.specs.Arrival.{PageFits}
 use Rattle.tb_builder.specs.declared.Ask.{Ask}
-use Rattle.tb_builder.specs.Reached.{holds_box}
-use Rattle.tb_builder.specs.Fired.{Boxed, content_of, box_content, box_size, class_boxes}
+use Rattle.tb_builder.specs.Reach.{holds_box}
+use Rattle.tb_builder.specs.FiredPages.{Boxed, content_of, box_content, box_size, class_boxes}
 use Rattle.tb_builder.specs.Contents.{Contents, frozen_or, frozen_of, ahead_of, laid, kind_count, node_count, box_count}
-use Rattle.tb_builder.specs.Owned.{ClassesFit}
-use Rattle.tb_builder.specs.Next.{SizesFit, InsertedFits, KindFits, NodeFits, LaidFits, BoxesFit, NextFits}
+use Rattle.tb_builder.specs.Ownership.{ClassesFit}
+use Rattle.tb_builder.specs.PageEvents.{SizesFit, InsertedFits, KindFits, NodeFits, LaidFits, BoxesFit, NextFits}
 use Rattle.tb_builder.specs.Pageable.{IsSizedInserted, IsSizedKind, IsSizedOnPage, IsFactor, IsSizedClass, IsSizedBox, IsGoal, IsPageable}
 use Rattle.tb_builder.proofs.LegalPlaces.ChargeLemmas.{abs_of, of_abs, scaled_within, few_classes, in_boxes, boxes_once}
 

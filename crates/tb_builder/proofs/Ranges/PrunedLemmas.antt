@@ -5,12 +5,12 @@ use Rattle.std.specs.List.{AllByRecursion}
 use Rattle.std.proofs.lemmas.Int.{ints}
 use Rattle.std.proofs.lemmas.List.Elements.{All-from_recursion, recursion_from_All}
 use Rattle.tb_node.specs.Fit.{IsExtent}
-use Rattle.tb_node.specs.Plain.{Matter, hbox, rule, skip, kerned, pen, mark, note, whatsit, matter_shape, Leaf, leaf_shape, PlainKind, plain, ins, act, PlainNode, kind_shape, node_shape}
-use Rattle.tb_break.specs.Prune.{pruned_leaves, pruned_nodes}
-use Rattle.tb_builder.specs.Reached.{holds_box}
+use Rattle.tb_node.specs.PlainNodes.{Matter, hbox, rule, skip, kerned, pen, mark, note, whatsit, matter_shape, Leaf, leaf_shape, PlainKind, plain, ins, act, PlainNode, kind_shape, node_shape}
+use Rattle.tb_break.specs.PageTop.{pruned_leaves, pruned_nodes}
+use Rattle.tb_builder.specs.Reach.{holds_box}
 use Rattle.tb_builder.specs.Contents.{kind_count, node_count}
 use Rattle.tb_builder.specs.Pageable.{IsSizedOnPage}
-use Rattle.tb_builder.specs.Kept.{laid_by}
+use Rattle.tb_builder.specs.SizedContents.{laid_by}
 use Rattle.tb_builder.proofs.Ranges.PageableLemmas.{count-append, glue_sized, pruned_sized}
 use Rattle.tb_builder.proofs.Cutting.VanishLemmas.{BeginsVanishing}
 

@@ -5,16 +5,16 @@ use Rattle.std.proofs.lemmas.Int.{ints}
 use Rattle.std.proofs.lemmas.List.Elements.{All-nil, All-cons, All-head, All-tail, All-append, All-push, All-filter, All-take, All-drop}
 use Rattle.tb_node.specs.Fit.{IsExtent, IsSized, IsSizedLeaf}
 use Rattle.tb_node.specs.Shape.{Shape, box, glue, kern, penalty, other}
-use Rattle.tb_node.specs.Plain.{hbox, rule, skip, kerned, pen, mark, note, whatsit, Leaf, leaf_shape, Inserted, PlainKind, plain, ins, act, PlainNode, without_acts, is_act_kind, is_insertion_kind, on_line}
+use Rattle.tb_node.specs.PlainNodes.{hbox, rule, skip, kerned, pen, mark, note, whatsit, Leaf, leaf_shape, Inserted, PlainKind, plain, ins, act, PlainNode, without_acts, is_act_kind, is_insertion_kind, on_line}
 use Rattle.tb_break.specs.Best.{Breakpoint, is_stop}
-use Rattle.tb_break.specs.Prune.{pruned_leaves, pruned_at, top_glue}
+use Rattle.tb_break.specs.PageTop.{pruned_leaves, pruned_at, top_glue}
 use Rattle.tb_insert.specs.Terms.{Terms}
 use Rattle.tb_insert.specs.Account.{Frozen, Label, whole, split, late, Labelled, label_of, labelled_with, labelled_from, labelled, terms_after}
 use Rattle.tb_builder.specs.declared.Ask.{Ask}
-use Rattle.tb_builder.specs.Reached.{Reach, also_reached, tried, stopped_at, page_place, reach_at_place, reach_at, reach_from}
-use Rattle.tb_builder.specs.Fired.{Boxed, content_of, Fired, page_break, spent_kind, with_spent_break, given_by, given_to, is_given, box_after, again_with, unless_empty, held_of, held_insertions, fired_by}
+use Rattle.tb_builder.specs.Reach.{Reach, also_reached, tried, stopped_at, page_place, reach_at_place, reach_at, reach_from}
+use Rattle.tb_builder.specs.FiredPages.{Boxed, content_of, Fired, page_break, spent_kind, with_spent_break, given_by, given_to, is_given, box_after, again_with, unless_empty, held_of, held_insertions, fired_by}
 use Rattle.tb_builder.specs.Contents.{Contents, frozen_of}
-use Rattle.tb_builder.specs.Next.{fired_page}
+use Rattle.tb_builder.specs.PageEvents.{fired_page}
 use Rattle.tb_builder.specs.Pageable.{IsSizedInserted, IsSizedKind, IsSizedOnPage, IsSizedBox}
 use Rattle.tb_builder.proofs.Ranges.PageableLemmas.{glue_sized}
 

@@ -9,10 +9,10 @@ use Rattle.tb_node.specs.declared.Node.{Node}
 use Rattle.tb_node.specs.declared.Insertion.{Insertion}
 use Rattle.tb_node.specs.declared.Kind.{Kind}
 use Rattle.tb_node.specs.declared.Kind.TheVariants as kinds
-use Rattle.tb_node.specs.Plain.{plain_of, leaf_of, plain_list}
+use Rattle.tb_node.specs.PlainNodes.{plain_of, leaf_of, plain_list}
 use Rattle.tb_node.specs.Roles.{insertion_of_kind}
 use Rattle.tb_insert.specs.declared.Class.{Class}
-use Rattle.tb_builder.specs.Owned.{Lacks, AllDiffer, AllLive, inner_of, inner_ids, Ids, nodes_of, box_ids, own_ids, owned, AllPlain, HoldPlain, has_class, ClassesFit, is_known, AllKnown, classes_of, IsOwned}
+use Rattle.tb_builder.specs.Ownership.{Lacks, AllDiffer, AllLive, inner_of, inner_ids, Ids, nodes_of, box_ids, own_ids, owned, AllPlain, HoldPlain, has_class, ClassesFit, is_known, AllKnown, classes_of, IsOwned}
 use Rattle.tb_builder.specs.Contents.{boxed_of}
 use Rattle.tb_builder.specs.Firing.{opened, box_list, box_with}
 use Rattle.tb_builder.proofs.Ownership.OwnedLemmas.{AllSame, lacks-append, lacks-left, lacks-right, differ-left, lists_same, live_same, plain_same, void_same, boxes_same, view_same, inner-append, same-left, same-right, live-left, plain-left, plain-right, plain-append, known-append, known-left, known-right}

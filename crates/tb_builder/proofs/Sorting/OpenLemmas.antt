@@ -8,12 +8,12 @@ use Rattle.std.proofs.lemmas.List.{map-append}
 use Rattle.tb_builder.proofs.LegalPlaces.ClassLemmas.{behind_first}
 use Rattle.tb_pool.specs.Lists.{Lists, IsLive, list_at}
 use Rattle.tb_node.specs.declared.Node.{Node}
-use Rattle.tb_node.specs.Plain.{Leaf, leaf_of}
+use Rattle.tb_node.specs.PlainNodes.{Leaf, leaf_of}
 use Rattle.tb_insert.specs.declared.Class.{Class}
 use Rattle.tb_builder.specs.declared.ClassList.{ClassList}
-use Rattle.tb_builder.specs.Fired.{Boxed, content_of}
+use Rattle.tb_builder.specs.FiredPages.{Boxed, content_of}
 use Rattle.tb_builder.specs.Contents.{boxed_of, content_by, leaf_list}
-use Rattle.tb_builder.specs.Owned.{Lacks, AllDiffer, AllLive, AllPlain, HoldPlain, VoidEmpty, box_ids, has_class, ClassesFit, IsFirst}
+use Rattle.tb_builder.specs.Ownership.{Lacks, AllDiffer, AllLive, AllPlain, HoldPlain, VoidEmpty, box_ids, has_class, ClassesFit, IsFirst}
 use Rattle.tb_builder.specs.Firing.{opened, box_list, box_with}
 use Rattle.tb_builder.proofs.Ownership.OwnedLemmas.{lists_same, lacks-right}
 

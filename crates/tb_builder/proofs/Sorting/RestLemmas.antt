@@ -7,19 +7,19 @@ use Rattle.tb_scaled.specs.declared.Glue.{Glue}
 use Rattle.tb_scaled.specs.Scaled.{max_ℤ}
 use Rattle.tb_node.specs.declared.Node.{Node}
 use Rattle.tb_node.specs.Shape.{Shape, box, glue, kern, penalty, other, is_discardable}
-use Rattle.tb_node.specs.Plain.{shape_of}
-use Rattle.tb_node.specs.Small.{IsAmount, IsSmallShape}
+use Rattle.tb_node.specs.PlainNodes.{shape_of}
+use Rattle.tb_node.specs.SmallAmounts.{IsAmount, IsSmallShape}
 use Rattle.tb_node.specs.Fit.{NodesFit}
 use Rattle.tb_node.specs.Sums.{room_of, size_of}
-use Rattle.tb_break.specs.Prune.{pruned_at, pruned_list, glue_before, top_glue}
-use Rattle.tb_builder.specs.Next.{SizesFit, IsRoom}
-use Rattle.tb_builder.specs.Owned.{AllPlain, is_plain}
-use Rattle.tb_builder.specs.Room.{IsWide, RoomFits}
+use Rattle.tb_break.specs.PageTop.{pruned_at, pruned_list, glue_before, top_glue}
+use Rattle.tb_builder.specs.PageEvents.{SizesFit, IsRoom}
+use Rattle.tb_builder.specs.Ownership.{AllPlain, is_plain}
+use Rattle.tb_builder.specs.Sizes.{IsWide, RoomFits}
 use Rattle.tb_builder.specs.Firing.{BeginsVanishing}
-use Rattle.tb_break.specs.Legal.{split_penalty, legal_at}
+use Rattle.tb_break.specs.Places.{split_penalty, legal_at}
 use Rattle.tb_break.specs.Split.{split_of}
 use Rattle.tb_break.proofs.LastLemmas.{split-last_least}
-use Rattle.tb_break.proofs.PruneLemmas.{length-pruned_list}
+use Rattle.tb_break.proofs.PageTopLemmas.{length-pruned_list}
 use Rattle.std.proofs.lemmas.Bool.{true≢false}
 
 -- ---- the room

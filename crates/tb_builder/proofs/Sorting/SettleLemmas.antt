@@ -6,17 +6,17 @@ use Rattle.tb_pool.specs.Lists.{Lists, list_at, with_list}
 use Rattle.tb_node.specs.declared.Node.{Node}
 use Rattle.tb_node.specs.declared.Insertion.{Insertion}
 use Rattle.tb_node.specs.declared.Kind.TheVariants as kinds
-use Rattle.tb_node.specs.Plain.{Leaf, leaf_of, leaf_shape, Inserted, inserted_of, PlainNode, plain_of, ins, on_line, plain_list}
+use Rattle.tb_node.specs.PlainNodes.{Leaf, leaf_of, leaf_shape, Inserted, inserted_of, PlainNode, plain_of, ins, on_line, plain_list}
 use Rattle.tb_node.specs.Sums.{size_of}
 use Rattle.tb_node.specs.Fit.{shapes}
 use Rattle.tb_node.specs.Roles.{insertion_of_kind}
-use Rattle.tb_break.specs.Prune.{pruned_leaves, pruned_list}
-use Rattle.tb_break.proofs.PruneLemmas.{leaf-pruned_list}
+use Rattle.tb_break.specs.PageTop.{pruned_leaves, pruned_list}
+use Rattle.tb_break.proofs.PageTopLemmas.{leaf-pruned_list}
 use Rattle.tb_insert.proofs.AccountLemmas.{leaf_shapes}
 use Rattle.tb_builder.specs.declared.Share.TheVariants.{All, Front, Nothing}
-use Rattle.tb_builder.specs.Fired.{again_with, unless_empty}
+use Rattle.tb_builder.specs.FiredPages.{again_with, unless_empty}
 use Rattle.tb_builder.specs.declared.Builder.{Builder}
-use Rattle.tb_builder.specs.Owned.{Lacks, inner_of, Ids, ids_of, owned, AllPlain, is_known, classes_of, IsOwned}
+use Rattle.tb_builder.specs.Ownership.{Lacks, inner_of, Ids, ids_of, owned, AllPlain, is_known, classes_of, IsOwned}
 use Rattle.tb_builder.specs.Contents.{boxed_of, leaf_list, contents_of}
 use Rattle.tb_builder.specs.Firing.{share_held, opened, box_list, box_with, GivesToBox, Takes, LeavesPage, SharesOut}
 use Rattle.tb_builder.proofs.Ownership.FrameLemmas.{leaves_then}

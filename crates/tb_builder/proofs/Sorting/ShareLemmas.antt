@@ -8,16 +8,16 @@ use Rattle.tb_builder.proofs.LegalPlaces.WithoutLemmas.{from_append}
 use Rattle.tb_insert.proofs.ArriveLemmas.{last-append, cut-append}
 use Rattle.tb_break.specs.declared.Found.{Found}
 use Rattle.tb_node.specs.declared.Sums.{Sums}
-use Rattle.tb_node.specs.Plain.{Leaf, leaf_shape, Inserted, PlainKind, plain, ins, act, PlainNode, node_shape, on_line}
+use Rattle.tb_node.specs.PlainNodes.{Leaf, leaf_shape, Inserted, PlainKind, plain, ins, act, PlainNode, node_shape, on_line}
 use Rattle.tb_node.specs.Sums.{sums_of, list_shrink}
 use Rattle.tb_break.specs.Split.{split_of}
-use Rattle.tb_break.specs.Prune.{pruned_leaves}
+use Rattle.tb_break.specs.PageTop.{pruned_leaves}
 use Rattle.tb_scaled.specs.Scaled.{min_ℤ}
 use Rattle.tb_insert.specs.Account.{ClassBox, class_box, insertions, goal_after, class_height, skip_shapes, met_classes, scaled_by, clamped, unscaled_room, label_where, Frozen, Label, whole, split, late, Labelled, label_of, labelled_with, labelled_from, labelled, has_split, is_split}
-use Rattle.tb_insert.specs.Running.{is_let_in, split_before_end, last_from, last_let_in, or_else, cut_there, cut_of_one, cut_in}
+use Rattle.tb_insert.specs.AccountEntries.{is_let_in, split_before_end, last_from, last_let_in, or_else, cut_there, cut_of_one, cut_in}
 use Rattle.tb_insert.proofs.AccountLemmas.{split-append}
 use Rattle.tb_builder.specs.declared.Share.TheVariants.{All, Front, Nothing}
-use Rattle.tb_builder.specs.Fired.{Boxed, content_of, given_by, given_to, gives, is_given, box_after, held_of, held_insertions, unless_empty}
+use Rattle.tb_builder.specs.FiredPages.{Boxed, content_of, given_by, given_to, gives, is_given, box_after, held_of, held_insertions, unless_empty}
 use Rattle.tb_builder.specs.Firing.{share_of, share_up_to, share_told, share_given, share_gives, share_held, box_shared}
 
 -- ---- one more label

@@ -15,20 +15,20 @@ use Rattle.tb_node.specs.Sums.{sums_of, list_shrink}
 use Rattle.tb_break.specs.declared.Found.{Found}
 use Rattle.tb_break.specs.Split.{split_of}
 use Rattle.tb_node.specs.Fit.{shapes, NodesFit}
-use Rattle.tb_node.specs.Small.{IsAmount}
-use Rattle.tb_node.specs.Plain.{leaf_shape, node_shape, Inserted, inserted_of, PlainKind, plain, ins, act, PlainNode, plain_of, on_line, is_insertion_kind, without_insertions, plain_list}
+use Rattle.tb_node.specs.SmallAmounts.{IsAmount}
+use Rattle.tb_node.specs.PlainNodes.{leaf_shape, node_shape, Inserted, inserted_of, PlainKind, plain, ins, act, PlainNode, plain_of, on_line, is_insertion_kind, without_insertions, plain_list}
 use Rattle.tb_node.specs.Roles.{insertion_of_kind}
 use Rattle.tb_insert.specs.declared.Class.{Class}
 use Rattle.tb_insert.specs.Account.{ClassBox, class_box, insertions, goal_after, class_height, skip_shapes, met_classes, scaled_by, clamped, unscaled_room, has_split, Frozen, Label, whole, split, late, Labelled, label_of, labelled, labelled_from, labelled_with}
-use Rattle.tb_insert.specs.Running.{cut_in, last_let_in, has_insertion}
+use Rattle.tb_insert.specs.AccountEntries.{cut_in, last_let_in, has_insertion}
 use Rattle.tb_insert.proofs.AccountLemmas.{leaf_shapes, labelled-append}
 use Rattle.tb_builder.specs.declared.Share.{Share}
 use Rattle.tb_builder.specs.declared.Share.TheVariants.{All, Front}
 use Rattle.tb_builder.specs.declared.Builder.{Builder}
-use Rattle.tb_builder.specs.Fired.{Boxed, box_after, held_insertions}
-use Rattle.tb_builder.specs.Owned.{Lacks, inner_ids, ids_of, owned, has_class, ClassesFit, AllKnown, classes_of, IsOwned}
+use Rattle.tb_builder.specs.FiredPages.{Boxed, box_after, held_insertions}
+use Rattle.tb_builder.specs.Ownership.{Lacks, inner_ids, ids_of, owned, has_class, ClassesFit, AllKnown, classes_of, IsOwned}
 use Rattle.tb_builder.specs.Contents.{Contents, contents_of}
-use Rattle.tb_builder.specs.Next.{SizesFit, InsertedFits}
+use Rattle.tb_builder.specs.PageEvents.{SizesFit, InsertedFits}
 use Rattle.tb_builder.specs.Firing.{share_of, share_told, share_held, box_shared, BeginsVanishing, IsShareWithin, SharesOut, SortsTo, Sorted, IsMarkedAt, EachFits, NoInsertions, IsBody, begins_with_insertion}
 use Rattle.tb_builder.proofs.LegalPlaces.CourseLemmas.{no_insertion}
 use Rattle.tb_builder.proofs.Turns.FreezeLemmas.{plain_insertion, no_inner}

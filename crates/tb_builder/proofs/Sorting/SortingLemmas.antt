@@ -6,12 +6,12 @@ use Rattle.std.proofs.Math.Seq.{take-length}
 use Rattle.tb_pool.specs.Lists.{Lists, IsLive, list_at, with_list}
 use Rattle.tb_pool.proofs.MapLemmas.{insert_twice_from_get}
 use Rattle.tb_node.specs.declared.Node.{Node}
-use Rattle.tb_node.specs.Plain.{PlainNode, plain_of, plain_list}
+use Rattle.tb_node.specs.PlainNodes.{PlainNode, plain_of, plain_list}
 use Rattle.tb_insert.specs.Account.{Frozen, labelled}
-use Rattle.tb_insert.specs.Running.{IsAccountOf, has_insertion}
+use Rattle.tb_insert.specs.AccountEntries.{IsAccountOf, has_insertion}
 use Rattle.tb_builder.specs.declared.Builder.{Builder}
-use Rattle.tb_builder.specs.Owned.{Lacks, inner_ids, ids_of, owned, IsOwned}
-use Rattle.tb_builder.specs.Fired.{Boxed}
+use Rattle.tb_builder.specs.Ownership.{Lacks, inner_ids, ids_of, owned, IsOwned}
+use Rattle.tb_builder.specs.FiredPages.{Boxed}
 use Rattle.tb_builder.specs.Contents.{contents_of}
 use Rattle.tb_builder.specs.Firing.{SortsTo, Sorted, IsMarkedAt, EachFits, NoInsertions, InsertionAt, IsBody}
 use Rattle.tb_builder.proofs.Ownership.StoreMoves.{Got, got_two}

@@ -7,25 +7,25 @@ use Rattle.tb_node.specs.declared.Node.{Node}
 use Rattle.tb_node.specs.declared.Kind.{Kind}
 use Rattle.tb_node.specs.declared.Kind.TheVariants as kinds
 use Rattle.tb_node.specs.Shape.{Shape, box, glue, kern, penalty, other, is_box, is_discardable, height_of}
-use Rattle.tb_node.specs.Small.{IsSmall}
-use Rattle.tb_node.specs.Plain.{PlainNode, plain_of, node_shape, shape_of, shape_of_kind}
-use Rattle.tb_node.specs.Add.{added_node}
+use Rattle.tb_node.specs.SmallAmounts.{IsSmall}
+use Rattle.tb_node.specs.PlainNodes.{PlainNode, plain_of, node_shape, shape_of, shape_of_kind}
+use Rattle.tb_node.specs.NodeSums.{added_node}
 use Rattle.tb_node.specs.Roles.{act_of_kind, insertion_of_kind}
 use Rattle.tb_break.specs.Best.{Breakpoint, is_stop}
-use Rattle.tb_break.specs.Prune.{pruned_nodes, glue_before, top_glue}
+use Rattle.tb_break.specs.PageTop.{pruned_nodes, glue_before, top_glue}
 use Rattle.tb_insert.specs.Account.{Frozen}
 use Rattle.tb_builder.specs.declared.Ask.{Ask}
 use Rattle.tb_builder.specs.declared.Builder.{Builder}
 use Rattle.tb_builder.specs.declared.Course.{Course}
 use Rattle.tb_builder.specs.declared.Event.{Event}
 use Rattle.tb_builder.specs.declared.Event.TheVariants as events
-use Rattle.tb_builder.specs.Reached.{also_reached, tried, holds_box}
-use Rattle.tb_builder.specs.Owned.{ids_of}
+use Rattle.tb_builder.specs.Reach.{also_reached, tried, holds_box}
+use Rattle.tb_builder.specs.Ownership.{ids_of}
 use Rattle.tb_builder.specs.Contents.{Contents, contents_of, frozen_of, laid}
-use Rattle.tb_builder.specs.Running.{IsCourseOf, Underway, kept_frozen, AllLasting}
-use Rattle.tb_builder.specs.Next.{LaidFits, NextFits}
-use Rattle.tb_builder.specs.Past.{ComesPast}
-use Rattle.tb_builder.specs.Turn.{ChangesPage, Shifted, GoesUntried, StepIs, StepFits, TurnIs, places_on}
+use Rattle.tb_builder.specs.Courses.{IsCourseOf, Underway, kept_frozen, AllLasting}
+use Rattle.tb_builder.specs.PageEvents.{LaidFits, NextFits}
+use Rattle.tb_builder.specs.PassedNodes.{ComesPast}
+use Rattle.tb_builder.specs.PageTurns.{ChangesPage, Shifted, GoesUntried, StepIs, StepFits, TurnIs, places_on}
 use Rattle.tb_builder.proofs.LegalPlaces.CourseLemmas.{shape_is, no_act}
 use Rattle.tb_builder.proofs.Turns.TurnLemmas.{holds_now, lasting_penalty, ahead_closed}
 use Rattle.tb_builder.proofs.Turns.StepLemmas.{passed_step, step_sums}

@@ -4,12 +4,12 @@ use Rattle.std.specs.Prelude.{slice_get}
 use Rattle.std.proofs.lemmas.List.{map-append}
 use Rattle.tb_pool.specs.Lists.{Lists, list_at}
 use Rattle.tb_node.specs.declared.Node.{Node}
-use Rattle.tb_node.specs.Plain.{plain_of, plain_list}
+use Rattle.tb_node.specs.PlainNodes.{plain_of, plain_list}
 use Rattle.tb_break.proofs.StoreLemmas.{some_first}
 use Rattle.tb_builder.specs.declared.Builder.{Builder}
-use Rattle.tb_builder.specs.Owned.{Lacks, Ids, ids_of, owned, IsOwned}
+use Rattle.tb_builder.specs.Ownership.{Lacks, Ids, ids_of, owned, IsOwned}
 use Rattle.tb_builder.specs.Contents.{contents_of, boxed_of}
-use Rattle.tb_builder.specs.Turn.{ChangesPage, Shifted}
+use Rattle.tb_builder.specs.PageTurns.{ChangesPage, Shifted}
 use Rattle.tb_builder.proofs.Turns.MoveLemmas.{Written, written_own, written_others, written_keeps, written_held, written_page, written_waiting, written_boxes}
 
 -- the first node, and what comes after it

@@ -7,21 +7,21 @@ use Rattle.tb_node.specs.declared.Node.{Node}
 use Rattle.tb_node.specs.declared.Kind.{Kind}
 use Rattle.tb_node.specs.declared.Kind.TheVariants as kinds
 use Rattle.tb_node.specs.Shape.{Shape, is_box, height_of}
-use Rattle.tb_node.specs.Small.{IsSmallShape}
-use Rattle.tb_node.specs.Plain.{PlainNode, plain_of, shape_of, shape_of_kind}
+use Rattle.tb_node.specs.SmallAmounts.{IsSmallShape}
+use Rattle.tb_node.specs.PlainNodes.{PlainNode, plain_of, shape_of, shape_of_kind}
 use Rattle.tb_node.specs.Roles.{act_of_kind, insertion_of_kind}
-use Rattle.tb_break.specs.Prune.{glue_before, pruned_nodes, top_glue}
+use Rattle.tb_break.specs.PageTop.{glue_before, pruned_nodes, top_glue}
 use Rattle.tb_insert.specs.Account.{Frozen, terms_after}
 use Rattle.tb_builder.specs.declared.Ask.{Ask}
 use Rattle.tb_builder.specs.declared.Builder.{Builder}
 use Rattle.tb_builder.specs.declared.Course.{Course}
-use Rattle.tb_builder.specs.Reached.{holds_box}
-use Rattle.tb_builder.specs.Places.{NoStop}
+use Rattle.tb_builder.specs.Reach.{holds_box}
+use Rattle.tb_builder.specs.LegalPlaces.{NoStop}
 use Rattle.tb_builder.specs.Contents.{Contents, contents_of, frozen_or, frozen_of, ahead_of, laid}
-use Rattle.tb_builder.specs.Owned.{Ids, ids_of, inner_of, is_known, classes_of}
-use Rattle.tb_builder.specs.Running.{IsCourseOf, Underway, places_by, kept_frozen, frozen_with, frozen_at, AllLoose, AllLasting, IsPageSoFar, IsSound}
-use Rattle.tb_builder.specs.Next.{NextFits, LaidFits}
-use Rattle.tb_builder.specs.Turn.{ChangesPage, StepFits}
+use Rattle.tb_builder.specs.Ownership.{Ids, ids_of, inner_of, is_known, classes_of}
+use Rattle.tb_builder.specs.Courses.{IsCourseOf, Underway, places_by, kept_frozen, frozen_with, frozen_at, AllLoose, AllLasting, IsPageSoFar, IsSound}
+use Rattle.tb_builder.specs.PageEvents.{NextFits, LaidFits}
+use Rattle.tb_builder.specs.PageTurns.{ChangesPage, StepFits}
 use Rattle.tb_builder.proofs.Turns.MoveLemmas.{Written, written_front}
 use Rattle.tb_builder.proofs.Turns.FillLemmas.{moves_from, page_from, waiting_from}
 use Rattle.tb_builder.proofs.LegalPlaces.CourseLemmas.{shape_is, loose_shape}

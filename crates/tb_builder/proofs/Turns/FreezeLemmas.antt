@@ -11,17 +11,17 @@ use Rattle.tb_node.specs.declared.Kind.TheVariants as kinds
 use Rattle.tb_node.specs.Fit.{shapes, NodesFit, SumsFit}
 use Rattle.tb_node.specs.Shape.{other, is_box, is_discardable}
 use Rattle.tb_node.specs.Sums.{size_of}
-use Rattle.tb_node.specs.Plain.{skip, shape_of_kind, Inserted, inserted_of, plain, ins, PlainNode, plain_of, plain_kind, node_shape, shape_of, is_act_kind, is_insertion_kind, plain_list}
+use Rattle.tb_node.specs.PlainNodes.{skip, shape_of_kind, Inserted, inserted_of, plain, ins, PlainNode, plain_of, plain_kind, node_shape, shape_of, is_act_kind, is_insertion_kind, plain_list}
 use Rattle.tb_node.specs.Roles.{act_of_kind, insertion_of_kind}
-use Rattle.tb_break.specs.Legal.{ends_lasting}
+use Rattle.tb_break.specs.Places.{ends_lasting}
 use Rattle.tb_break.specs.Best.{Breakpoint, best_or}
 use Rattle.tb_break.specs.Scan.{Scanned, Offered}
-use Rattle.tb_break.specs.Prune.{pruned_nodes, pruned_at}
+use Rattle.tb_break.specs.PageTop.{pruned_nodes, pruned_at}
 use Rattle.tb_break.proofs.FindLemmas.{ends_with}
 use Rattle.tb_insert.specs.declared.Class.{Class}
 use Rattle.tb_insert.specs.Account.{Frozen, class_box, terms_after}
-use Rattle.tb_insert.specs.Running.{Differ, numbered, IsAccountOf, IsScanOfPage, ComesTo}
-use Rattle.tb_insert.specs.Arrived.{InnerFits, ClassFits, ArriveFits, PageFits}
+use Rattle.tb_insert.specs.AccountEntries.{Differ, numbered, IsAccountOf, IsScanOfPage, ComesTo}
+use Rattle.tb_insert.specs.Arrival.{InnerFits, ClassFits, ArriveFits, PageFits}
 use Rattle.tb_insert.proofs.AccountLemmas.{leaf_shapes}
 use Rattle.tb_insert.proofs.StandsLemmas.{stands-plain}
 use Rattle.tb_insert.proofs.TermLemmas.{arrive_fits}
@@ -29,13 +29,13 @@ use Rattle.tb_builder.proofs.Amounts.ScanLemmas.{scan_loose}
 use Rattle.tb_builder.specs.declared.Ask.{Ask}
 use Rattle.tb_builder.specs.declared.Course.{Course}
 use Rattle.tb_builder.specs.declared.ClassList.{ClassList}
-use Rattle.tb_builder.specs.Reached.{holds_box}
-use Rattle.tb_builder.specs.Fired.{box_size, box_content, class_boxes}
-use Rattle.tb_builder.specs.Places.{page_shapes, glue_first, page_places, NoStop}
+use Rattle.tb_builder.specs.Reach.{holds_box}
+use Rattle.tb_builder.specs.FiredPages.{box_size, box_content, class_boxes}
+use Rattle.tb_builder.specs.LegalPlaces.{page_shapes, glue_first, page_places, NoStop}
 use Rattle.tb_builder.specs.Contents.{boxed_of, Contents, frozen_or, frozen_of, ahead_of}
-use Rattle.tb_builder.specs.Owned.{AllLive, inner_of, inner_ids, Ids, nodes_of, box_ids, has_class, is_known, AllKnown, ClassesFit, IsClassList, IsOwned}
-use Rattle.tb_builder.specs.Running.{ChampionIs, IsCourseOf, Underway, places_by, page_frozen, is_loose, AllLoose, IsPageSoFar}
-use Rattle.tb_builder.specs.Next.{NextFits, InsertedFits}
+use Rattle.tb_builder.specs.Ownership.{AllLive, inner_of, inner_ids, Ids, nodes_of, box_ids, has_class, is_known, AllKnown, ClassesFit, IsClassList, IsOwned}
+use Rattle.tb_builder.specs.Courses.{ChampionIs, IsCourseOf, Underway, places_by, page_frozen, is_loose, AllLoose, IsPageSoFar}
+use Rattle.tb_builder.specs.PageEvents.{NextFits, InsertedFits}
 use Rattle.tb_builder.proofs.Ownership.OwnedLemmas.{live-right, known-right, inner-append}
 use Rattle.tb_builder.proofs.LegalPlaces.ClassLemmas.{class_known, number_is, box_is, differ_found, numbered_found}
 use Rattle.tb_builder.proofs.LegalPlaces.CourseLemmas.{champion_grows, acts-append, loose_shape, loose_act, loose_plain, no_act}

@@ -3,9 +3,9 @@ use Rattle.std.proofs.Common.{◌≡◌, refl, sym, Bool, true, false, List, [],
 use Rattle.std.specs.Prelude.{◌||◌}
 use Rattle.std.proofs.lemmas.Bool.{true≢false, or_right}
 use Rattle.tb_node.specs.Shape.{is_box}
-use Rattle.tb_node.specs.Plain.{PlainNode, node_shape, is_insertion_kind}
-use Rattle.tb_builder.specs.Reached.{holds_box}
-use Rattle.tb_builder.specs.Running.{freezes}
+use Rattle.tb_node.specs.PlainNodes.{PlainNode, node_shape, is_insertion_kind}
+use Rattle.tb_builder.specs.Reach.{holds_box}
+use Rattle.tb_builder.specs.Courses.{freezes}
 
 -- a list that freezes the goal does so with more nodes
 pub freezes-more : (xs ys : List PlainNode) → freezes xs ≡ true → freezes (xs ++ ys) ≡ true

@@ -5,20 +5,20 @@ use Rattle.std.proofs.lemmas.List.{map-append}
 use Rattle.tb_pool.specs.Lists.{Lists, list_at}
 use Rattle.tb_node.specs.declared.Node.{Node}
 use Rattle.tb_node.specs.Shape.{other, is_box, is_discardable}
-use Rattle.tb_node.specs.Plain.{PlainNode, plain_of, node_shape, shape_of, is_act_kind, is_insertion_kind}
+use Rattle.tb_node.specs.PlainNodes.{PlainNode, plain_of, node_shape, shape_of, is_act_kind, is_insertion_kind}
 use Rattle.tb_node.specs.Roles.{act_of_kind}
-use Rattle.tb_break.specs.Legal.{ends_lasting}
+use Rattle.tb_break.specs.Places.{ends_lasting}
 use Rattle.tb_insert.specs.Account.{Frozen, terms_after}
 use Rattle.tb_builder.specs.declared.Ask.{Ask}
 use Rattle.tb_builder.specs.declared.Course.{Course}
 use Rattle.tb_builder.specs.declared.Builder.{Builder}
-use Rattle.tb_builder.specs.Reached.{holds_box}
-use Rattle.tb_builder.specs.Places.{page_shapes, NoStop}
+use Rattle.tb_builder.specs.Reach.{holds_box}
+use Rattle.tb_builder.specs.LegalPlaces.{page_shapes, NoStop}
 use Rattle.tb_builder.specs.Contents.{Contents, contents_of, frozen_or, frozen_of}
-use Rattle.tb_builder.specs.Owned.{ids_of}
-use Rattle.tb_builder.specs.Running.{IsCourseOf, Underway, places_by, frozen_with, page_frozen, is_loose, AllLoose, AllLasting, IsPageSoFar, freezes, IsSound}
-use Rattle.tb_builder.specs.Next.{KeepsBoxes}
-use Rattle.tb_builder.specs.Turn.{ChangesPage, TurnIs}
+use Rattle.tb_builder.specs.Ownership.{ids_of}
+use Rattle.tb_builder.specs.Courses.{IsCourseOf, Underway, places_by, frozen_with, page_frozen, is_loose, AllLoose, AllLasting, IsPageSoFar, freezes, IsSound}
+use Rattle.tb_builder.specs.PageEvents.{KeepsBoxes}
+use Rattle.tb_builder.specs.PageTurns.{ChangesPage, TurnIs}
 use Rattle.tb_builder.proofs.Turns.MoveLemmas.{Written}
 use Rattle.tb_builder.proofs.Turns.FillLemmas.{moves_from, page_from, waiting_from}
 use Rattle.tb_builder.proofs.LegalPlaces.CourseLemmas.{shape_is, no_act}

@@ -7,18 +7,18 @@ use Rattle.tb_node.specs.declared.Node.{Node}
 use Rattle.tb_node.specs.declared.Kind.{Kind}
 use Rattle.tb_node.specs.declared.Kind.TheVariants as kinds
 use Rattle.tb_node.specs.Shape.{other, is_box, is_discardable}
-use Rattle.tb_node.specs.Plain.{hbox, rule, skip, kerned, pen, mark, note, whatsit, PlainKind, plain, ins, act, PlainNode, plain_of, node_shape, shape_of_kind, is_act_kind}
-use Rattle.tb_break.specs.Prune.{pruned_nodes}
+use Rattle.tb_node.specs.PlainNodes.{hbox, rule, skip, kerned, pen, mark, note, whatsit, PlainKind, plain, ins, act, PlainNode, plain_of, node_shape, shape_of_kind, is_act_kind}
+use Rattle.tb_break.specs.PageTop.{pruned_nodes}
 use Rattle.tb_insert.specs.Account.{Frozen}
 use Rattle.tb_builder.specs.declared.Ask.{Ask}
 use Rattle.tb_builder.specs.declared.Course.{Course}
 use Rattle.tb_builder.specs.declared.Event.{Event}
 use Rattle.tb_builder.specs.declared.Event.TheVariants as events
-use Rattle.tb_builder.specs.Reached.{holds_box, laid_out}
-use Rattle.tb_builder.specs.Places.{NoActs}
+use Rattle.tb_builder.specs.Reach.{holds_box, laid_out}
+use Rattle.tb_builder.specs.LegalPlaces.{NoActs}
 use Rattle.tb_builder.specs.Contents.{Contents}
-use Rattle.tb_builder.specs.Turn.{StepIs}
-use Rattle.tb_builder.specs.Past.{ComesPast, TriesPast, EventPast, TurnPast}
+use Rattle.tb_builder.specs.PageTurns.{StepIs}
+use Rattle.tb_builder.specs.PassedNodes.{ComesPast, TriesPast, EventPast, TurnPast}
 
 -- ---- what is laid out
 

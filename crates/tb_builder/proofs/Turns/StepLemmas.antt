@@ -4,25 +4,25 @@ use Rattle.std.specs.Prelude.{map, drop, negsuc, int_le, ◌||◌}
 use Rattle.std.proofs.lemmas.Bool.{true≢false}
 use Rattle.tb_scaled.specs.Scaled.{awful_bad}
 use Rattle.tb_node.specs.declared.Node.{Node}
-use Rattle.tb_node.specs.Plain.{PlainNode, plain_of, node_shape, shape_of, is_act_kind}
-use Rattle.tb_node.specs.Small.{IsSmall}
-use Rattle.tb_node.specs.Add.{added_node}
+use Rattle.tb_node.specs.PlainNodes.{PlainNode, plain_of, node_shape, shape_of, is_act_kind}
+use Rattle.tb_node.specs.SmallAmounts.{IsSmall}
+use Rattle.tb_node.specs.NodeSums.{added_node}
 use Rattle.tb_node.specs.Roles.{act_of_kind}
-use Rattle.tb_break.specs.Legal.{ends_lasting}
+use Rattle.tb_break.specs.Places.{ends_lasting}
 use Rattle.tb_break.specs.Best.{Breakpoint, is_stop, least_cost}
 use Rattle.tb_break.specs.Scan.{Scanned}
-use Rattle.tb_break.specs.Finding.{penalty_by}
+use Rattle.tb_break.specs.SplitPlace.{penalty_by}
 use Rattle.tb_insert.specs.Account.{Frozen, terms_after}
 use Rattle.tb_insert.proofs.TermLemmas.{scan_plain}
 use Rattle.tb_builder.specs.declared.Course.{Course}
 use Rattle.tb_builder.specs.declared.Try.{Try}
-use Rattle.tb_builder.specs.Reached.{tried, Reach, also_reached, reach_from, breakpoints, try_of}
-use Rattle.tb_builder.specs.Places.{page_shapes, glue_first, node_penalty, page_places, NoStop}
+use Rattle.tb_builder.specs.Reach.{tried, Reach, also_reached, reach_from, breakpoints, try_of}
+use Rattle.tb_builder.specs.LegalPlaces.{page_shapes, glue_first, node_penalty, page_places, NoStop}
 use Rattle.tb_builder.specs.Contents.{Contents}
-use Rattle.tb_builder.specs.Running.{IsCourseOf, Underway, places_by, nodes_glue_first}
-use Rattle.tb_builder.specs.Offer.{OfferIs, TermsFit, place_here}
-use Rattle.tb_builder.specs.Next.{stopped_with}
-use Rattle.tb_builder.specs.Turn.{Shifted, reach_on, places_on, GoesUntried, GoesOn, StopsThere, TriesOn, StepFits, StepIs}
+use Rattle.tb_builder.specs.Courses.{IsCourseOf, Underway, places_by, nodes_glue_first}
+use Rattle.tb_builder.specs.CourseOffers.{OfferIs, TermsFit, place_here}
+use Rattle.tb_builder.specs.PageEvents.{stopped_with}
+use Rattle.tb_builder.specs.PageTurns.{Shifted, reach_on, places_on, GoesUntried, GoesOn, StopsThere, TriesOn, StepFits, StepIs}
 use Rattle.tb_builder.proofs.LegalPlaces.CourseLemmas.{shape_is, no_act, no_insertion, penalty_is, first_glue_is}
 use Rattle.tb_builder.proofs.LegalPlaces.PageLemmas.{places_pass, reach_pass, places_try, reach_try, at_place_goes, at_place_stops, quiet-append}
 use Rattle.tb_builder.proofs.LegalPlaces.ReachLemmas.{whole_places, whole_end}

@@ -10,11 +10,11 @@ use Rattle.tb_builder.specs.declared.Course.{Course}
 use Rattle.tb_builder.specs.declared.Builder.{Builder}
 use Rattle.tb_builder.specs.declared.Event.{Event}
 use Rattle.tb_builder.specs.declared.Event.TheVariants as events
-use Rattle.tb_builder.specs.Reached.{holds_box}
+use Rattle.tb_builder.specs.Reach.{holds_box}
 use Rattle.tb_builder.specs.Contents.{Contents, contents_of, frozen_of, laid}
-use Rattle.tb_builder.specs.Running.{IsCourseOf, Underway, AtStop, places_by, page_frozen, frozen_with, AllLasting, IsPageSoFar}
-use Rattle.tb_builder.specs.Past.{TurnPast}
-use Rattle.tb_builder.specs.Turn.{ChangesPage, StopsThere, StepIs, TurnBy, TurnIs, places_on}
+use Rattle.tb_builder.specs.Courses.{IsCourseOf, Underway, AtStop, places_by, page_frozen, frozen_with, AllLasting, IsPageSoFar}
+use Rattle.tb_builder.specs.PassedNodes.{TurnPast}
+use Rattle.tb_builder.specs.PageTurns.{ChangesPage, StopsThere, StepIs, TurnBy, TurnIs, places_on}
 use Rattle.tb_builder.proofs.Turns.TurnLemmas.{Lays, lays_open, turns_on, goes_on, stops_there, made_on, frozen_as}
 use Rattle.tb_builder.proofs.Turns.FreezingNodes.{box-freezes}
 use Rattle.tb_builder.proofs.Turns.MeetLemmas.{stays_from}

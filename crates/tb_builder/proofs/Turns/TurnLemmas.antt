@@ -5,24 +5,24 @@ use Rattle.std.proofs.lemmas.Bool.{true≢false}
 use Rattle.std.proofs.Math.Bool.{or-false, or-true}
 use Rattle.tb_node.specs.declared.Act.{Act}
 use Rattle.tb_node.specs.Shape.{other, is_box, is_discardable}
-use Rattle.tb_node.specs.Plain.{hbox, rule, skip, kerned, pen, mark, note, whatsit, PlainKind, plain, ins, act, PlainNode, node_shape, is_act_kind}
-use Rattle.tb_break.specs.Legal.{ends_lasting}
+use Rattle.tb_node.specs.PlainNodes.{hbox, rule, skip, kerned, pen, mark, note, whatsit, PlainKind, plain, ins, act, PlainNode, node_shape, is_act_kind}
+use Rattle.tb_break.specs.Places.{ends_lasting}
 use Rattle.tb_break.specs.Best.{Breakpoint, least_cost}
 use Rattle.tb_break.specs.Split.{with_place}
-use Rattle.tb_break.specs.Prune.{pruned_nodes, pruned_at}
+use Rattle.tb_break.specs.PageTop.{pruned_nodes, pruned_at}
 use Rattle.tb_insert.specs.Terms.{Terms}
 use Rattle.tb_insert.specs.declared.Class.{Class}
 use Rattle.tb_insert.specs.Account.{Frozen, terms_after}
 use Rattle.tb_builder.specs.declared.Ask.{Ask}
 use Rattle.tb_builder.specs.declared.Try.{Try}
 use Rattle.tb_builder.specs.declared.Course.{Course}
-use Rattle.tb_builder.specs.Reached.{acted, tried, also_reached, reach_from, holds_box, page_place, breakpoints, try_of}
-use Rattle.tb_builder.specs.Fired.{Boxed}
-use Rattle.tb_builder.specs.Places.{page_shapes, glue_first, glue_or, node_penalty, page_places}
+use Rattle.tb_builder.specs.Reach.{acted, tried, also_reached, reach_from, holds_box, page_place, breakpoints, try_of}
+use Rattle.tb_builder.specs.FiredPages.{Boxed}
+use Rattle.tb_builder.specs.LegalPlaces.{page_shapes, glue_first, glue_or, node_penalty, page_places}
 use Rattle.tb_builder.specs.Contents.{Contents, frozen_or, frozen_of, ahead_of, laid, reach_ahead, places_of}
-use Rattle.tb_builder.specs.Running.{places_by, frozen_at, frozen_with, is_loose, AllLoose, AllLasting}
-use Rattle.tb_builder.specs.Next.{GoesPast, IsTheStop, ActedIs, EmptyIs}
-use Rattle.tb_builder.specs.Turn.{reach_on, places_on, GoesUntried, GoesOn, StopsThere, ReachesNothing}
+use Rattle.tb_builder.specs.Courses.{places_by, frozen_at, frozen_with, is_loose, AllLoose, AllLasting}
+use Rattle.tb_builder.specs.PageEvents.{GoesPast, IsTheStop, ActedIs, EmptyIs}
+use Rattle.tb_builder.specs.PageTurns.{reach_on, places_on, GoesUntried, GoesOn, StopsThere, ReachesNothing}
 use Rattle.tb_builder.proofs.LegalPlaces.CourseLemmas.{loose_shape}
 use Rattle.tb_builder.proofs.LegalPlaces.PageLemmas.{places_pass, reach_pass, reach_acts, glue_acts}
 

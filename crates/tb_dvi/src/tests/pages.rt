@@ -2,9 +2,9 @@
 ghost use Rattle.std.specs.Prelude.{◌≡◌, ◌+◌, ◌<◌, ◌≤◌, All, length, IfOk};
 ghost use Rattle.tb_pool.specs.Lists.{IsLive, list_at};
 ghost use Rattle.tb_node.specs.Fit.{IsSizedNode, IsSized};
-ghost use Rattle.tb_node.specs.Plain.{shape_of_kind};
+ghost use Rattle.tb_node.specs.PlainNodes.{shape_of_kind};
 ghost use Rattle.tb_report.specs.Printable.{IsPrintable};
-ghost use Rattle.tb_dvi.specs.Writing.{IsShowable};
+ghost use Rattle.tb_dvi.specs.Page.{IsShowable};
 
 use super::{NO_PAGE, THREE_BOXES, listing_of};
 use crate::{DviFault, Part, Progress, page_bytes, post_bytes, pre_bytes, put_far};

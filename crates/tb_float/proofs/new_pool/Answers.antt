@@ -1,5 +1,5 @@
 use Rattle.std.proofs.Common.{ap}
-use Rattle.tb_float.specs.Stored.{seen_pool}
+use Rattle.tb_float.specs.Shelves.{seen_pool}
 use Rattle.tb_float.proofs.SoundLemmas.{stored-new}
 use Rattle.tb_float.proofs.TrackLemmas.{pooled, tracked-new}
 use Rattle.tb_float.proofs.new_pool.Goals as goal

@@ -5,7 +5,7 @@ use Rattle.tb_float.specs.Lists.{floats_of}
 use Rattle.tb_float.specs.Pool.{marks_of}
 use Rattle.tb_fpage.specs.Company.{wanted_of, company}
 use Rattle.tb_fpage.proofs.CompanyLemmas.{wanted-is}
-use Rattle.tb_fpage.proofs.ChosenLemmas.{is-chosen}
+use Rattle.tb_fpage.proofs.ChoiceLemmas.{is-chosen}
 use Rattle.tb_fpage.proofs.LawLemmas.{order-unmarked, order-company, fits-company, high-company}
 use Rattle.tb_fpage.proofs.choose.Goals as goal
 

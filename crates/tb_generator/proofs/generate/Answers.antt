@@ -1,6 +1,6 @@
 use Rattle.std.proofs.Common.{◌≡◌, ◌∙◌, ◌+◌, ◌-◌, ap, ℕ, suc, List, [], ◌∷◌, ◌++◌, append_assoc, append-nil, sym, subst, arith}
 use Rattle.tb_galley.specs.declared.Item.{Item}
-use Rattle.tb_generator.specs.Generate.{next_seed, made_item, made_items}
+use Rattle.tb_generator.specs.GeneratedGalleys.{next_seed, made_item, made_items}
 use Rattle.tb_galley.specs.Valid.{IsValid}
 use Rattle.tb_generator.proofs.ValidLemmas.{generated_valid}
 use Rattle.tb_generator.proofs.generate.Goals as goal

@@ -1,5 +1,5 @@
 use Rattle.std.proofs.Common.{◌≡◌, ◌+◌, ◌-◌, ◌<◌, ◌++◌}
-use Rattle.tb_generator.specs.Generate.{made_items}
+use Rattle.tb_generator.specs.GeneratedGalleys.{made_items}
 use Rattle.tb_generator.proofs.generate.Given as goal
 
 abbrev pub invariant-loop-k : goal.invariant-loop-k

@@ -5,24 +5,24 @@ use Rattle.std.proofs.lemmas.Bool.{true≢false}
 use Rattle.tb_pool.specs.Lists.{Lists}
 use Rattle.tb_node.specs.declared.Act.{Act}
 use Rattle.tb_node.specs.declared.Node.{Node}
-use Rattle.tb_node.specs.Plain.{PlainKind, plain, ins, act, PlainNode, is_act_kind}
+use Rattle.tb_node.specs.PlainNodes.{PlainKind, plain, ins, act, PlainNode, is_act_kind}
 use Rattle.tb_param.specs.declared.Params.{Params}
 use Rattle.tb_break.specs.Best.{Breakpoint}
 use Rattle.tb_builder.specs.declared.Ask.{Ask}
 use Rattle.tb_builder.specs.declared.Builder.{Builder}
 use Rattle.tb_builder.specs.declared.Event.TheVariants as events
 use Rattle.tb_builder.specs.declared.Try.{Try}
-use Rattle.tb_builder.specs.Reached.{Reached, acted, tried, Reach, laid_out}
-use Rattle.tb_builder.specs.Fired.{frozen_for, fired_of}
+use Rattle.tb_builder.specs.Reach.{Reached, acted, tried, Reach, laid_out}
+use Rattle.tb_builder.specs.FiredPages.{frozen_for, fired_of}
 use Rattle.tb_builder.specs.Contents.{Contents, contents_of, frozen_of, laid, reach_ahead}
-use Rattle.tb_builder.specs.Paging.{page_reach, page_fired, KeepsStart, StopsAt, HasCome, ComesToTry, ComesToAct, ComesToEnd}
-use Rattle.tb_builder.specs.Past.{ComesPast, ActsPast, EventPast}
-use Rattle.tb_builder.specs.Places.{NoActs}
-use Rattle.tb_builder.specs.Running.{IsSound}
+use Rattle.tb_builder.specs.PageProgress.{page_reach, page_fired, KeepsStart, StopsAt, HasCome, ComesToTry, ComesToAct, ComesToEnd}
+use Rattle.tb_builder.specs.PassedNodes.{ComesPast, ActsPast, EventPast}
+use Rattle.tb_builder.specs.LegalPlaces.{NoActs}
+use Rattle.tb_builder.specs.Courses.{IsSound}
 use Rattle.tb_builder.proofs.Turns.PastLemmas.{past-none, past-after}
 use Rattle.tb_builder.proofs.Events.SoFarLemmas.{AllTried, ComesSoFar, comes-so-far}
-use Rattle.tb_builder.specs.Summed.{page_sums_of}
-use Rattle.tb_plain.specs.Take.{act_nodes}
+use Rattle.tb_builder.specs.PageSums.{page_sums_of}
+use Rattle.tb_plain.specs.TakenFloats.{act_nodes}
 use Rattle.tb_plain.specs.Run.{MakeupState, goes_on, makeup_ask, makeup_classes, void_boxes, builder_holds, makeup_reach, at_act, after_node, first_act_by, first_act, meets_act, act_step, firing_step, last_step, step_of, makeup_step}
 use Rattle.tb_makeup.proofs.Filled.HoldLemmas.{holds-state, state-frozen}
 

@@ -9,27 +9,27 @@ use Rattle.tb_node.specs.declared.Act.{Act}
 use Rattle.tb_node.specs.declared.Act.TheVariants as acts
 use Rattle.tb_node.specs.declared.Float.{Float}
 use Rattle.tb_node.specs.Fit.{IsDimension, IsExtent, IsPenalty, IsSizedLeaf}
-use Rattle.tb_node.specs.Plain.{hbox, rule, skip, kerned, pen, mark, note, whatsit, Leaf, PlainKind, plain, ins, act, PlainNode, is_act_kind}
+use Rattle.tb_node.specs.PlainNodes.{hbox, rule, skip, kerned, pen, mark, note, whatsit, Leaf, PlainKind, plain, ins, act, PlainNode, is_act_kind}
 use Rattle.tb_param.specs.declared.Params.{Params}
-use Rattle.tb_break.specs.Prune.{pruned_nodes}
-use Rattle.tb_builder.specs.Reached.{holds_box, laid_out}
-use Rattle.tb_builder.specs.Fired.{frozen_for}
+use Rattle.tb_break.specs.PageTop.{pruned_nodes}
+use Rattle.tb_builder.specs.Reach.{holds_box, laid_out}
+use Rattle.tb_builder.specs.FiredPages.{frozen_for}
 use Rattle.tb_builder.specs.Contents.{Contents, frozen_of, laid, node_count, box_count}
-use Rattle.tb_builder.specs.Next.{NextFits}
-use Rattle.tb_builder.specs.Owned.{ClassesFit}
+use Rattle.tb_builder.specs.PageEvents.{NextFits}
+use Rattle.tb_builder.specs.Ownership.{ClassesFit}
 use Rattle.tb_builder.specs.Pageable.{IsSizedOnPage, IsSizedClass, IsSizedBox}
-use Rattle.tb_builder.specs.Places.{NoActs}
+use Rattle.tb_builder.specs.LegalPlaces.{NoActs}
 use Rattle.tb_builder.proofs.Ranges.PageableLemmas.{count-append, IsSizedFrozen, boxes_fit, class_boxes_sized, class_boxes_total, laid_fits, pruned_sized, extent_amount, extent_goal}
 use Rattle.tb_builder.proofs.Handover.CallLemmas.{class-fits}
 use Rattle.tb_builder.proofs.Ranges.PrunedLemmas.{pruned_nodes_longer, front-sized, back-sized}
 use Rattle.tb_builder.specs.declared.PageSums.{PageSums}
-use Rattle.tb_plain.specs.Take.{top_class, with_float, taken_nodes, act_nodes, here_nodes, top_leaves, page_leaves, top_insertion}
+use Rattle.tb_plain.specs.TakenFloats.{top_class, with_float, taken_nodes, act_nodes, here_nodes, top_leaves, page_leaves, top_insertion}
 use Rattle.tb_plain.specs.Run.{MakeupState, builder_holds, makeup_ask, makeup_classes, void_boxes, act_count}
-use Rattle.tb_plain.specs.Calls.{AreMakeupParams, IsTake}
+use Rattle.tb_plain.specs.MakeupCalls.{AreMakeupParams, IsTake}
 use Rattle.tb_plain.proofs.StepLemmas.{acts-append, put-acts}
-use Rattle.tb_makeup.specs.Led.{ActsAreLed}
-use Rattle.tb_makeup.specs.Turning.{AreRunNodes, node_total}
-use Rattle.tb_builder.specs.Paging.{KeepsStart}
+use Rattle.tb_makeup.specs.LedActs.{ActsAreLed}
+use Rattle.tb_makeup.specs.Makeup.{AreRunNodes, node_total}
+use Rattle.tb_builder.specs.PageProgress.{KeepsStart}
 use Rattle.tb_makeup.proofs.Filled.LedLemmas.{led-both, led-none, led-takes}
 
 -- ---- what is laid out

@@ -5,16 +5,16 @@ use Rattle.std.proofs.lemmas.Bool.{true≢false}
 use Rattle.tb_pool.specs.Lists.{Lists}
 use Rattle.tb_node.specs.declared.Node.{Node}
 use Rattle.tb_node.specs.Shape.{is_box}
-use Rattle.tb_node.specs.Plain.{hbox, rule, skip, kerned, pen, mark, note, whatsit, PlainKind, plain, ins, act, PlainNode, node_shape, is_insertion_kind}
+use Rattle.tb_node.specs.PlainNodes.{hbox, rule, skip, kerned, pen, mark, note, whatsit, PlainKind, plain, ins, act, PlainNode, node_shape, is_insertion_kind}
 use Rattle.tb_param.specs.declared.Params.{Params}
 use Rattle.tb_insert.specs.declared.Class.{Class}
 use Rattle.tb_insert.specs.Account.{Frozen}
 use Rattle.tb_builder.specs.declared.Builder.{Builder}
 use Rattle.tb_builder.specs.declared.Course.{Course}
-use Rattle.tb_builder.specs.Fired.{Boxed, frozen_for}
+use Rattle.tb_builder.specs.FiredPages.{Boxed, frozen_for}
 use Rattle.tb_builder.specs.Contents.{Contents, contents_of, frozen_or, frozen_of}
-use Rattle.tb_builder.specs.Paging.{KeepsStart}
-use Rattle.tb_builder.specs.Running.{IsSound, IsPageSoFar, AllLoose, is_loose, freezes}
+use Rattle.tb_builder.specs.PageProgress.{KeepsStart}
+use Rattle.tb_builder.specs.Courses.{IsSound, IsPageSoFar, AllLoose, is_loose, freezes}
 use Rattle.tb_plain.specs.Run.{MakeupState, makeup_ask, makeup_classes, void_boxes, builder_holds}
 
 loose-kind : (l : ℕ) (k : PlainKind) → is_loose k ≡ true → (let n : PlainNode = record { line = l; kind = k } in (is_box (node_shape n) || is_insertion_kind k) ≡ false)

@@ -3,17 +3,17 @@ use Rattle.std.proofs.Common.{◌≡◌, refl, sym, ◌∙◌, ap, subst, ℕ, �
 use Rattle.std.specs.Prelude.{if◌then◌else◌}
 use Rattle.std.proofs.lemmas.Bool.{true≢false}
 use Rattle.tb_node.specs.declared.Act.{Act}
-use Rattle.tb_node.specs.Plain.{hbox, rule, skip, kerned, pen, mark, note, whatsit, PlainKind, plain, ins, act, PlainNode, node_shape, is_act_kind}
-use Rattle.tb_break.specs.Prune.{pruned_nodes}
-use Rattle.tb_break.specs.Legal.{last_or}
-use Rattle.tb_builder.specs.Reached.{holds_box, laid_out}
-use Rattle.tb_builder.specs.Places.{NoActs}
-use Rattle.tb_builder.specs.Handed.{is_kern, ends_in_kern}
-use Rattle.tb_builder.specs.Fired.{spent_kind, with_spent_break}
+use Rattle.tb_node.specs.PlainNodes.{hbox, rule, skip, kerned, pen, mark, note, whatsit, PlainKind, plain, ins, act, PlainNode, node_shape, is_act_kind}
+use Rattle.tb_break.specs.PageTop.{pruned_nodes}
+use Rattle.tb_break.specs.Places.{last_or}
+use Rattle.tb_builder.specs.Reach.{holds_box, laid_out}
+use Rattle.tb_builder.specs.LegalPlaces.{NoActs}
+use Rattle.tb_builder.specs.Contributions.{is_kern, ends_in_kern}
+use Rattle.tb_builder.specs.FiredPages.{spent_kind, with_spent_break}
 use Rattle.tb_builder.proofs.Cutting.CutLemmas.{FirstFree, ActFree}
 use Rattle.tb_builder.proofs.Turns.PastLemmas.{laid-more}
-use Rattle.tb_plain.specs.Calls.{IsTake}
-use Rattle.tb_makeup.specs.Led.{is_whatsit, LedBy, ActsAreLed}
+use Rattle.tb_plain.specs.MakeupCalls.{IsTake}
+use Rattle.tb_makeup.specs.LedActs.{is_whatsit, LedBy, ActsAreLed}
 
 by-weaken : (b : Bool) (k : PlainKind) → LedBy false k → LedBy b k
 by-weaken b (plain m) h = tt

@@ -4,11 +4,11 @@ use Rattle.tb_node.specs.declared.Act.{Act}
 use Rattle.tb_builder.specs.declared.Event.{Event}
 use Rattle.tb_builder.specs.declared.Event.TheVariants as events
 use Rattle.tb_builder.specs.declared.Page.{Page}
-use Rattle.tb_builder.specs.Calls.{IsNext, PassedOver, ComesBy, ComesAfter}
-use Rattle.tb_plain.specs.Calls.{IsTake, CanAct, HasActed}
-use Rattle.tb_makeup.specs.declared.running.Makeup.{Makeup}
-use Rattle.tb_makeup.specs.Turning.{IsReady}
-use Rattle.tb_makeup.specs.Filling.{Continues, IsFiring, IsOver}
+use Rattle.tb_builder.specs.PageCalls.{IsNext, PassedOver, ComesBy, ComesAfter}
+use Rattle.tb_plain.specs.MakeupCalls.{IsTake, CanAct, HasActed}
+use Rattle.tb_makeup.specs.declared.makeup.Makeup.{Makeup}
+use Rattle.tb_makeup.specs.Makeup.{IsReady}
+use Rattle.tb_makeup.specs.MakeupPages.{Continues, IsFiring, IsOver}
 use Rattle.tb_makeup.proofs.Filled.UnderwayLemmas.{IsUnderway, left_of_page, underway-tried, fewer-tried, act-takes, act-can, underway-acted, fewer-acted, filled-over, filled-fires}
 
 -- the makeup before the last call of the builder, which came to the event: as much of the page is left there at most

@@ -4,7 +4,7 @@ use Rattle.tb_param.specs.declared.Params.{Params}
 use Rattle.tb_column.specs.Column.{PlainSent}
 use Rattle.tb_plain.specs.Run.{MakeupState, MakeupEnd, ends, goes_on, makeup_step, makeup_from, steps_left, run_after, run_by}
 use Rattle.tb_plain.proofs.StepLemmas.{steps_agree}
-use Rattle.tb_makeup.specs.Turning.{run_at}
+use Rattle.tb_makeup.specs.Makeup.{run_at}
 
 -- one step of a run with steps enough
 first-step : (p : Params) (k : ℕ) (s : MakeupState) → makeup_from p (suc k) s ≡ run_by (λ s'. makeup_from p k s') (makeup_step p s)

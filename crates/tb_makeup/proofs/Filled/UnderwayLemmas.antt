@@ -10,40 +10,40 @@ use Rattle.tb_node.specs.declared.Act.{Act}
 use Rattle.tb_node.specs.declared.Kind.{Kind}
 use Rattle.tb_node.specs.declared.Kind.TheVariants as kinds
 use Rattle.tb_node.specs.declared.Node.{Node}
-use Rattle.tb_node.specs.Plain.{PlainNode, act, plain_of, plain_kind, plain_list}
+use Rattle.tb_node.specs.PlainNodes.{PlainNode, act, plain_of, plain_kind, plain_list}
 use Rattle.tb_param.specs.declared.Params.{Params}
 use Rattle.tb_builder.specs.declared.Event.{Event}
 use Rattle.tb_builder.specs.declared.Event.TheVariants as events
 use Rattle.tb_builder.specs.declared.Page.{Page}
 use Rattle.tb_builder.specs.declared.PageSums.{PageSums}
 use Rattle.tb_builder.specs.declared.Try.{Try}
-use Rattle.tb_builder.specs.Reached.{laid_out}
-use Rattle.tb_builder.specs.Fired.{Fired}
+use Rattle.tb_builder.specs.Reach.{laid_out}
+use Rattle.tb_builder.specs.FiredPages.{Fired}
 use Rattle.tb_builder.specs.Contents.{Contents, node_count, box_count}
-use Rattle.tb_builder.specs.Kept.{fired_count}
-use Rattle.tb_builder.specs.Handed.{ends_in_kern, with_void}
-use Rattle.tb_builder.specs.Next.{NextFits, IsGivenOut, after_fired}
-use Rattle.tb_builder.specs.Paging.{ComesToTry, ComesToAct, ComesToEnd, ComesToPage, ComesTo, IsNextOfPage}
-use Rattle.tb_builder.specs.Owned.{ids_of, has_class}
+use Rattle.tb_builder.specs.SizedContents.{fired_count}
+use Rattle.tb_builder.specs.Contributions.{ends_in_kern, with_void}
+use Rattle.tb_builder.specs.PageEvents.{NextFits, IsGivenOut, after_fired}
+use Rattle.tb_builder.specs.PageProgress.{ComesToTry, ComesToAct, ComesToEnd, ComesToPage, ComesTo, IsNextOfPage}
+use Rattle.tb_builder.specs.Ownership.{ids_of, has_class}
 use Rattle.tb_builder.specs.Pageable.{IsSizedOnPage, IsSizedBox}
-use Rattle.tb_builder.specs.Places.{NoActs}
-use Rattle.tb_builder.specs.Past.{ComesPast, EventPast}
-use Rattle.tb_builder.specs.Running.{IsSound}
-use Rattle.tb_builder.specs.Summed.{page_sums_of}
+use Rattle.tb_builder.specs.LegalPlaces.{NoActs}
+use Rattle.tb_builder.specs.PassedNodes.{ComesPast, EventPast}
+use Rattle.tb_builder.specs.Courses.{IsSound}
+use Rattle.tb_builder.specs.PageSums.{page_sums_of}
 use Rattle.tb_builder.proofs.Ranges.SizedLemmas.{FiredSized}
 use Rattle.tb_builder.proofs.Ownership.StoreSized.{list-back, list-length}
 use Rattle.tb_builder.proofs.Events.PagingLemmas.{calls_left}
 use Rattle.tb_builder.proofs.Events.WholeLemmas.{IsMatterKind, AreMatter}
 use Rattle.tb_column.specs.Page.{is_leaf_kind, AreLeaves}
 use Rattle.tb_plain.specs.declared.Plain.{Plain}
-use Rattle.tb_plain.specs.Take.{act_nodes}
+use Rattle.tb_plain.specs.TakenFloats.{act_nodes}
 use Rattle.tb_plain.specs.Run.{MakeupState, firing_step, builder_holds, makeup_ask, makeup_classes, act_count, ejecting_nodes, waiting_after}
-use Rattle.tb_plain.specs.Calls.{IsTake, CanAct, HasActed, fired_with}
+use Rattle.tb_plain.specs.MakeupCalls.{IsTake, CanAct, HasActed, fired_with}
 use Rattle.tb_plain.proofs.StepLemmas.{acts-append, put-acts, ejected-fires}
-use Rattle.tb_makeup.specs.declared.running.Makeup.{Makeup}
-use Rattle.tb_makeup.specs.Led.{ActsAreLed}
-use Rattle.tb_makeup.specs.Turning.{held_in, state_of, node_total, Phase, begins, ejects, AreRunNodes, AreAfter, IsReady}
-use Rattle.tb_makeup.specs.Filling.{Continues, Takes, HasGrown, IsFiring, IsOver}
+use Rattle.tb_makeup.specs.declared.makeup.Makeup.{Makeup}
+use Rattle.tb_makeup.specs.LedActs.{ActsAreLed}
+use Rattle.tb_makeup.specs.Makeup.{held_in, state_of, node_total, Phase, begins, ejects, AreRunNodes, AreAfter, IsReady}
+use Rattle.tb_makeup.specs.MakeupPages.{Continues, Takes, HasGrown, IsFiring, IsOver}
 use Rattle.tb_makeup.proofs.Filled.RunLemmas.{run-goes}
 use Rattle.tb_makeup.proofs.Filled.LedLemmas.{led-ends, led-no-kern}
 use Rattle.tb_makeup.proofs.Filled.HoldLemmas.{holds-state}

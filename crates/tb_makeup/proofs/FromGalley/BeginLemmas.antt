@@ -2,18 +2,18 @@
 use Rattle.std.proofs.Common.{◌≡◌, refl, sym, subst, ◌∙◌, ap, ℤ, ◌+◌, ◌≤◌, List, ◌++◌, arith}
 use Rattle.tb_pool.specs.Lists.{Lists}
 use Rattle.tb_node.specs.declared.Node.{Node}
-use Rattle.tb_node.specs.Plain.{PlainNode}
+use Rattle.tb_node.specs.PlainNodes.{PlainNode}
 use Rattle.tb_param.specs.declared.Params.{Params}
 use Rattle.tb_builder.specs.declared.Ask.{Ask}
 use Rattle.tb_builder.specs.declared.Builder.{Builder}
 use Rattle.tb_builder.specs.Contents.{Contents, contents_of, nothing_yet}
-use Rattle.tb_run.specs.Expanding.{Waits}
+use Rattle.tb_run.specs.WaitingNodes.{Waits}
 use Rattle.tb_plain.specs.declared.Plain.{Plain}
-use Rattle.tb_plain.specs.Calls.{IsPlain}
+use Rattle.tb_plain.specs.MakeupCalls.{IsPlain}
 use Rattle.tb_plain.specs.Run.{makeup_ask, makeup_classes, builder_holds, act_count, first_makeup}
-use Rattle.tb_makeup.specs.declared.running.Makeup.{Makeup}
-use Rattle.tb_makeup.specs.declared.running.NodeBound.{NodeBound}
-use Rattle.tb_makeup.specs.Turning.{held_in, state_of, node_total, AreRunParams, AreRunNodes, Phase, begins, IsBounded, unsaid_nodes, IsReady}
+use Rattle.tb_makeup.specs.declared.makeup.Makeup.{Makeup}
+use Rattle.tb_makeup.specs.declared.makeup.NodeBound.{NodeBound}
+use Rattle.tb_makeup.specs.Makeup.{held_in, state_of, node_total, AreRunParams, AreRunNodes, Phase, begins, IsBounded, unsaid_nodes, IsReady}
 
 module _ (p : Params) (b d : Builder) (u v : Lists Node) (m : Plain) (ask : Ask) (limit : ℤ) (bound : NodeBound) (ns : List PlainNode) (holds : contents_of b u ≡ nothing_yet (makeup_classes p)) (waits : Waits ns b u d v) (params : m.params ≡ p) (page : m.page ≡ 1) where
   abbrev begun : Makeup

@@ -4,17 +4,17 @@ use Rattle.std.proofs.lemmas.List.{take_more, drop_all}
 use Rattle.tb_pool.specs.Lists.{Lists}
 use Rattle.tb_node.specs.declared.Float.{Float}
 use Rattle.tb_node.specs.declared.Node.{Node}
-use Rattle.tb_node.specs.Plain.{on_line}
+use Rattle.tb_node.specs.PlainNodes.{on_line}
 use Rattle.tb_param.specs.declared.Params.{Params}
 use Rattle.tb_builder.specs.declared.Builder.{Builder}
 use Rattle.tb_galley.specs.declared.Item.{Item}
 use Rattle.tb_galley.specs.declared.ItemKind.{ItemKind}
 use Rattle.tb_galley.specs.declared.ItemKind.TheVariants as items
 use Rattle.tb_galley.specs.declared.Galley.{Galley}
-use Rattle.tb_galley.specs.Expand.{item_kinds}
-use Rattle.tb_run.specs.Expanding.{Waits}
+use Rattle.tb_galley.specs.GalleyNodes.{item_kinds}
+use Rattle.tb_run.specs.WaitingNodes.{Waits}
 use Rattle.tb_run.proofs.FromGalley.WaitsLemmas.{waits-then}
-use Rattle.tb_plain.specs.Expand.{clearing_kinds, makeup_kinds, makeup_nodes, made_up}
+use Rattle.tb_plain.specs.GalleyNodes.{clearing_kinds, makeup_kinds, makeup_nodes, made_up}
 use Rattle.tb_plain.specs.Run.{act_count}
 use Rattle.tb_plain.proofs.StepLemmas.{acts-append}
 

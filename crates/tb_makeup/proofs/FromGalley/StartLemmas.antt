@@ -10,32 +10,32 @@ use Rattle.std.proofs.lemmas.List.Elements.{All-nil, All-cons, All-head, All-tai
 use Rattle.tb_node.specs.declared.Float.{Float}
 use Rattle.tb_node.specs.declared.Act.TheVariants as acts
 use Rattle.tb_node.specs.Fit.{IsExtent}
-use Rattle.tb_node.specs.Plain.{Leaf as PlainLeaf, act, PlainNode, on_line, clearpage_kinds}
+use Rattle.tb_node.specs.PlainNodes.{Leaf as PlainLeaf, act, PlainNode, on_line, clearpage_kinds}
 use Rattle.tb_param.specs.declared.Params.{Params}
 use Rattle.tb_param.specs.Release.{has_second}
 use Rattle.tb_insert.specs.declared.Class.{Class}
 use Rattle.tb_builder.specs.Contents.{node_count}
-use Rattle.tb_builder.specs.Owned.{has_class}
+use Rattle.tb_builder.specs.Ownership.{has_class}
 use Rattle.tb_builder.specs.Pageable.{IsSizedOnPage}
 use Rattle.tb_builder.proofs.Ranges.PageableLemmas.{count-append}
 use Rattle.tb_galley.specs.declared.Item.{Item}
 use Rattle.tb_galley.specs.declared.ItemKind.{ItemKind}
 use Rattle.tb_galley.specs.declared.ItemKind.TheVariants as items
 use Rattle.tb_galley.specs.declared.Galley.{Galley}
-use Rattle.tb_galley.specs.Expand.{plain_leaf, with_firings, item_kinds, item_nodes, two_after}
+use Rattle.tb_galley.specs.GalleyNodes.{plain_leaf, with_firings, item_kinds, item_nodes, two_after}
 use Rattle.tb_galley.specs.Valid.{weight_of, weight, IsValid}
-use Rattle.tb_run.specs.Expanding.{IsItem, AreItems}
+use Rattle.tb_run.specs.WaitingNodes.{IsItem, AreItems}
 use Rattle.tb_run.specs.GalleyNodes.{IsGalleyNode, AreFootParams}
 use Rattle.tb_run.specs.Run.{classes_of}
 use Rattle.tb_run.proofs.FromGalley.GalleyItems.{galley-items}
 use Rattle.tb_run.proofs.FromGalley.GalleyNodeLemmas.{galley-nodes}
 use Rattle.tb_run.proofs.FromGalley.ItemLemmas.{expanded-is}
-use Rattle.tb_plain.specs.Expand.{clearing_kinds, makeup_kinds, makeup_nodes, made_up}
-use Rattle.tb_plain.specs.Suited.{is_suited, unsuited_among, IsSuited}
+use Rattle.tb_plain.specs.GalleyNodes.{clearing_kinds, makeup_kinds, makeup_nodes, made_up}
+use Rattle.tb_plain.specs.Suitability.{is_suited, unsuited_among, IsSuited}
 use Rattle.tb_plain.specs.Run.{act_count, makeup_classes, first_makeup}
 use Rattle.tb_plain.proofs.StepLemmas.{acts-append}
-use Rattle.tb_makeup.specs.Led.{ActsAreLed}
-use Rattle.tb_makeup.specs.Turning.{AreRunNodes, node_total}
+use Rattle.tb_makeup.specs.LedActs.{ActsAreLed}
+use Rattle.tb_makeup.specs.Makeup.{AreRunNodes, node_total}
 use Rattle.tb_makeup.proofs.Filled.FillLemmas.{zero-dimension}
 use Rattle.tb_makeup.proofs.FromGalley.ItemLemmas.{made_up-is}
 use Rattle.tb_makeup.proofs.Filled.LedLemmas.{led-both}

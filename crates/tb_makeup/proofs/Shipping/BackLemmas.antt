@@ -8,14 +8,14 @@ use Rattle.tb_pool.proofs.MapLemmas.{get-remove_other}
 use Rattle.tb_node.specs.declared.Kind.{Kind}
 use Rattle.tb_node.specs.declared.Kind.TheVariants as kinds
 use Rattle.tb_node.specs.declared.Node.{Node}
-use Rattle.tb_node.specs.Plain.{PlainNode, plain_of, plain_kind, is_insertion_kind}
+use Rattle.tb_node.specs.PlainNodes.{PlainNode, plain_of, plain_kind, is_insertion_kind}
 use Rattle.tb_param.specs.declared.Params.{Params}
 use Rattle.tb_builder.specs.declared.Builder.{Builder}
-use Rattle.tb_builder.specs.Fired.{Fired}
+use Rattle.tb_builder.specs.FiredPages.{Fired}
 use Rattle.tb_builder.specs.Contents.{contents_of}
-use Rattle.tb_builder.specs.Owned.{Lacks, inner_of, inner_ids, ids_of, owned}
-use Rattle.tb_builder.specs.Running.{IsSound}
-use Rattle.tb_builder.specs.Handed.{ListJoins}
+use Rattle.tb_builder.specs.Ownership.{Lacks, inner_of, inner_ids, ids_of, owned}
+use Rattle.tb_builder.specs.Courses.{IsSound}
+use Rattle.tb_builder.specs.Contributions.{ListJoins}
 use Rattle.tb_builder.proofs.Ownership.FrameLemmas.{frame_owned, frame_contents, frame_sound}
 use Rattle.tb_builder.proofs.Ownership.OwnedLemmas.{AllSame}
 use Rattle.tb_plain.specs.Firing.{holds_any, page_for_held, put_back_after}

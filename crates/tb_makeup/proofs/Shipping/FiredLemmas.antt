@@ -5,26 +5,26 @@ use Rattle.std.proofs.lemmas.Int.{ints}
 use Rattle.std.proofs.lemmas.List.Elements.{All-nil, All-append, All-from_recursion}
 use Rattle.tb_builder.proofs.Turns.PastLemmas.{acts-both}
 use Rattle.tb_node.specs.Fit.{IsDimension, IsExtent}
-use Rattle.tb_node.specs.Plain.{Leaf, Inserted, PlainKind, plain, ins, act, PlainNode, is_act_kind, without_acts, on_line}
+use Rattle.tb_node.specs.PlainNodes.{Leaf, Inserted, PlainKind, plain, ins, act, PlainNode, is_act_kind, without_acts, on_line}
 use Rattle.tb_param.specs.declared.Params.{Params}
 use Rattle.tb_insert.specs.Account.{Labelled, Label, whole, split, late, labelled, terms_after}
-use Rattle.tb_builder.specs.Reached.{Reach, laid_out}
-use Rattle.tb_builder.specs.Fired.{Fired, Boxed, box_after, given_to, is_given, page_break, unless_empty, held_of, held_insertions, frozen_for, fired_of}
+use Rattle.tb_builder.specs.Reach.{Reach, laid_out}
+use Rattle.tb_builder.specs.FiredPages.{Fired, Boxed, box_after, given_to, is_given, page_break, unless_empty, held_of, held_insertions, frozen_for, fired_of}
 use Rattle.tb_builder.specs.Contents.{node_count}
-use Rattle.tb_builder.specs.Handed.{with_void}
-use Rattle.tb_builder.specs.Kept.{IsSizedAsk, fired_count}
+use Rattle.tb_builder.specs.Contributions.{with_void}
+use Rattle.tb_builder.specs.SizedContents.{IsSizedAsk, fired_count}
 use Rattle.tb_builder.specs.Pageable.{IsSizedOnPage}
-use Rattle.tb_builder.specs.Places.{NoActs}
+use Rattle.tb_builder.specs.LegalPlaces.{NoActs}
 use Rattle.tb_builder.proofs.Cutting.CutLemmas.{CutAt, reach-cut, ActFree, AllFree, acts-free}
 use Rattle.tb_builder.proofs.Ranges.PageableLemmas.{count-append, extent_goal}
 use Rattle.tb_builder.proofs.Ranges.SizedLemmas.{FiredSized}
 use Rattle.tb_builder.proofs.Events.WholeLemmas.{AreMatter, fired_of-sized, fired_of-fewer, fired-matter}
 use Rattle.tb_plain.specs.Firing.{holds_any, page_for_held, put_back_after}
 use Rattle.tb_plain.specs.Run.{MakeupState, makeup_ask, makeup_classes, void_boxes, makeup_reach, one_act, act_count, waiting_after}
-use Rattle.tb_plain.specs.Calls.{AreMakeupParams}
+use Rattle.tb_plain.specs.MakeupCalls.{AreMakeupParams}
 use Rattle.tb_plain.proofs.StepLemmas.{acts-laid, reach-acts, fired-acts}
-use Rattle.tb_makeup.specs.Led.{ActsAreLed}
-use Rattle.tb_makeup.specs.Turning.{node_total, AreRunNodes, AreAfter}
+use Rattle.tb_makeup.specs.LedActs.{ActsAreLed}
+use Rattle.tb_makeup.specs.Makeup.{node_total, AreRunNodes, AreAfter}
 use Rattle.tb_makeup.proofs.Filled.LedLemmas.{led-both, led-none, led-back, led-free, led-laid, led-spent}
 use Rattle.tb_makeup.proofs.Filled.FillLemmas.{zero-extent, zero-dimension, classes-fit, boxes-sized}
 

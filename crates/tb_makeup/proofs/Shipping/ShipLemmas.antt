@@ -6,14 +6,14 @@ use Rattle.std.proofs.lemmas.Int.{ints}
 use Rattle.tb_builder.proofs.Events.NextLemmas.{fresh_apart}
 use Rattle.tb_pool.specs.Lists.{Lists, list_at}
 use Rattle.tb_node.specs.declared.Node.{Node}
-use Rattle.tb_node.specs.Plain.{PlainNode, plain_list}
+use Rattle.tb_node.specs.PlainNodes.{PlainNode, plain_list}
 use Rattle.tb_builder.specs.declared.Builder.{Builder}
 use Rattle.tb_builder.specs.declared.Page.{Page}
-use Rattle.tb_builder.specs.Fired.{Fired}
+use Rattle.tb_builder.specs.FiredPages.{Fired}
 use Rattle.tb_builder.specs.Contents.{Contents, contents_of, node_count, box_count}
-use Rattle.tb_builder.specs.Owned.{Lacks, inner_ids, ids_of, owned}
-use Rattle.tb_builder.specs.Running.{IsSound}
-use Rattle.tb_builder.specs.Handed.{NoPage, with_void}
+use Rattle.tb_builder.specs.Ownership.{Lacks, inner_ids, ids_of, owned}
+use Rattle.tb_builder.specs.Courses.{IsSound}
+use Rattle.tb_builder.specs.Contributions.{NoPage, with_void}
 use Rattle.tb_builder.proofs.Ownership.FrameLemmas.{frame_sound, live_all_same}
 use Rattle.tb_builder.proofs.Ownership.OwnedLemmas.{lacks-append}
 use Rattle.tb_column.specs.declared.Sent.TheVariants as sents
@@ -21,23 +21,23 @@ use Rattle.tb_column.specs.declared.Sheet.TheVariants as sheets
 use Rattle.tb_column.specs.Column.{shipped, one}
 use Rattle.tb_column.specs.Notes.{AreDistinct}
 use Rattle.tb_output.specs.Firing.{builder_lists}
-use Rattle.tb_output.specs.Keeping.{AreNoneOf}
-use Rattle.tb_output.proofs.Working.ApartLemmas.{lacks-none}
-use Rattle.tb_output.proofs.Working.StandLemmas.{column-stands, column-shows}
-use Rattle.tb_run.specs.declared.happening.Happening.{Happening}
-use Rattle.tb_run.specs.declared.happening.Happening.TheVariants as happenings
+use Rattle.tb_output.specs.MachineFrame.{AreNoneOf}
+use Rattle.tb_output.proofs.FiringWork.ApartLemmas.{lacks-none}
+use Rattle.tb_output.proofs.FiringWork.StandLemmas.{column-stands, column-shows}
+use Rattle.tb_run.specs.declared.happenings.Happening.{Happening}
+use Rattle.tb_run.specs.declared.happenings.Happening.TheVariants as happenings
 use Rattle.tb_run.specs.Run.{sent}
-use Rattle.tb_run.specs.Happened.{events_of, happened_lists}
-use Rattle.tb_run.specs.Turning.{ArePages}
+use Rattle.tb_run.specs.Happenings.{events_of, happened_lists}
+use Rattle.tb_run.specs.Routine.{ArePages}
 use Rattle.tb_plain.specs.declared.Plain.{Plain}
 use Rattle.tb_plain.specs.declared.PlainPage.{PlainPage}
-use Rattle.tb_plain.specs.Calls.{CanFire, HasFired, fired_with}
+use Rattle.tb_plain.specs.MakeupCalls.{CanFire, HasFired, fired_with}
 use Rattle.tb_plain.specs.Run.{waiting_after}
-use Rattle.tb_makeup.specs.declared.running.Makeup.{Makeup}
-use Rattle.tb_makeup.specs.declared.running.MakeupEnding.{MakeupEnding}
-use Rattle.tb_makeup.specs.declared.running.MakeupEnding.TheVariants as endings
-use Rattle.tb_makeup.specs.Turning.{held_in, state_of, over_limit, IsBounded}
-use Rattle.tb_makeup.specs.Filling.{IsBoundedPage, HasShipped, Ships}
+use Rattle.tb_makeup.specs.declared.makeup.Makeup.{Makeup}
+use Rattle.tb_makeup.specs.declared.makeup.MakeupEnding.{MakeupEnding}
+use Rattle.tb_makeup.specs.declared.makeup.MakeupEnding.TheVariants as endings
+use Rattle.tb_makeup.specs.Makeup.{held_in, state_of, over_limit, IsBounded}
+use Rattle.tb_makeup.specs.MakeupPages.{IsBoundedPage, HasShipped, Ships}
 use Rattle.tb_makeup.proofs.Shipping.BackLemmas.{back-inner}
 
 -- ---- the nodes that wait, against the limit on them

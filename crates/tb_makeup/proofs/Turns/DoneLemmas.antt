@@ -4,12 +4,12 @@ use Rattle.std.specs.FinMap.{get}
 use Rattle.tb_pool.specs.Lists.{Lists}
 use Rattle.tb_pool.specs.Frame.{IsNoneOf}
 use Rattle.tb_node.specs.declared.Node.{Node}
-use Rattle.tb_run.specs.declared.happening.Happening.{Happening}
-use Rattle.tb_run.specs.Happened.{happened_lists}
+use Rattle.tb_run.specs.declared.happenings.Happening.{Happening}
+use Rattle.tb_run.specs.Happenings.{happened_lists}
 use Rattle.tb_run.proofs.Turns.WholeLemmas.{closed-contents, closed-sound}
 use Rattle.tb_plain.specs.Run.{builder_holds}
-use Rattle.tb_makeup.specs.declared.running.Makeup.{Makeup}
-use Rattle.tb_makeup.specs.Turning.{held_in, state_of, AreRunNodes, Phase, IsBounded, unsaid_nodes, IsReady, AreHappened}
+use Rattle.tb_makeup.specs.declared.makeup.Makeup.{Makeup}
+use Rattle.tb_makeup.specs.Makeup.{held_in, state_of, AreRunNodes, Phase, IsBounded, unsaid_nodes, IsReady, AreHappened}
 
 module _ (r : Makeup) (new : Lists Node) (hs : List Happening) (ready : IsReady r) (h : AreHappened r hs) (others : (q : ℕ) → IsNoneOf q (happened_lists hs) → get new.lists q ≡ get r.store.lists q) where
   abbrev after : Makeup

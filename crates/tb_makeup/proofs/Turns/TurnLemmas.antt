@@ -4,21 +4,21 @@ use Rattle.std.specs.Prelude.{IfNone, ◌≤ℤ◌, if◌then◌else◌}
 use Rattle.tb_pool.specs.Lists.{IsLive}
 use Rattle.tb_builder.specs.declared.Page.{Page}
 use Rattle.tb_builder.specs.Contents.{Contents, node_count, box_count}
-use Rattle.tb_builder.specs.Handed.{with_void}
+use Rattle.tb_builder.specs.Contributions.{with_void}
 use Rattle.tb_column.specs.Column.{PlainSent, shipped, one}
-use Rattle.tb_run.specs.declared.happening.Happening.{Happening}
+use Rattle.tb_run.specs.declared.happenings.Happening.{Happening}
 use Rattle.tb_run.specs.Run.{sent}
-use Rattle.tb_run.specs.Happened.{events_of}
-use Rattle.tb_run.specs.Turning.{ArePages}
+use Rattle.tb_run.specs.Happenings.{events_of}
+use Rattle.tb_run.specs.Routine.{ArePages}
 use Rattle.tb_plain.specs.declared.Plain.{Plain}
 use Rattle.tb_plain.specs.Firing.{holds_any, makeup_column}
 use Rattle.tb_plain.specs.Run.{MakeupState, waiting_after}
-use Rattle.tb_plain.specs.Calls.{IsPlain, fired_with}
-use Rattle.tb_makeup.specs.declared.running.Makeup.{Makeup}
-use Rattle.tb_makeup.specs.declared.running.MakeupEnding.{MakeupEnding}
-use Rattle.tb_makeup.specs.declared.running.MakeupEnding.TheVariants as endings
-use Rattle.tb_makeup.specs.Turning.{held_in, state_of, IsBounded, unsaid_nodes, IsReady, IsTurned, AreHappened}
-use Rattle.tb_makeup.specs.Filling.{IsFiring, IsOver, IsBoundedPage, HasShipped, Ships, Finishes}
+use Rattle.tb_plain.specs.MakeupCalls.{IsPlain, fired_with}
+use Rattle.tb_makeup.specs.declared.makeup.Makeup.{Makeup}
+use Rattle.tb_makeup.specs.declared.makeup.MakeupEnding.{MakeupEnding}
+use Rattle.tb_makeup.specs.declared.makeup.MakeupEnding.TheVariants as endings
+use Rattle.tb_makeup.specs.Makeup.{held_in, state_of, IsBounded, unsaid_nodes, IsReady, IsTurned, AreHappened}
+use Rattle.tb_makeup.specs.MakeupPages.{IsFiring, IsOver, IsBoundedPage, HasShipped, Ships, Finishes}
 use Rattle.tb_makeup.proofs.Turns.TurnedLemmas.{sent-same, shipped-goes, shipped-ready, shipped-limit, shipped-pages, over-done, over-goes, over-ready}
 
 -- what a turn shows, and what the makeup is after it

@@ -4,25 +4,25 @@ use Rattle.std.specs.Prelude.{pred, nat_abs, int_lt, ◌≤ℤ◌, ◌<ℤ◌, i
 use Rattle.std.proofs.lemmas.Int.{ints}
 use Rattle.std.proofs.lemmas.List.Elements.{All-nil}
 use Rattle.tb_run.proofs.Turns.TurnLemmas.{pred-is}
-use Rattle.tb_node.specs.Plain.{PlainNode}
+use Rattle.tb_node.specs.PlainNodes.{PlainNode}
 use Rattle.tb_param.specs.declared.Params.{Params}
 use Rattle.tb_builder.specs.declared.Page.{Page}
 use Rattle.tb_insert.specs.declared.Class.{Class}
-use Rattle.tb_builder.specs.Fired.{Fired, Boxed}
+use Rattle.tb_builder.specs.FiredPages.{Fired, Boxed}
 use Rattle.tb_builder.specs.Contents.{Contents, node_count}
-use Rattle.tb_builder.specs.Handed.{with_void}
+use Rattle.tb_builder.specs.Contributions.{with_void}
 use Rattle.tb_builder.specs.Pageable.{IsSizedOnPage}
-use Rattle.tb_builder.specs.Running.{IsSound, freezes}
+use Rattle.tb_builder.specs.Courses.{IsSound, freezes}
 use Rattle.tb_column.specs.Column.{PlainSent, shipped, one}
 use Rattle.tb_plain.specs.Firing.{holds_any, makeup_column}
 use Rattle.tb_plain.specs.Run.{MakeupState, ends, goes_on, done, page_limit, node_limit, shipping_step, firing_step, builder_holds, makeup_ask, makeup_classes, void_boxes, run_after, ejecting_nodes, waiting_after}
-use Rattle.tb_plain.specs.Calls.{AreMakeupParams, IsPlain, fired_with}
+use Rattle.tb_plain.specs.MakeupCalls.{AreMakeupParams, IsPlain, fired_with}
 use Rattle.tb_plain.specs.declared.Plain.{Plain}
 use Rattle.tb_plain.proofs.StepLemmas.{page-less}
-use Rattle.tb_makeup.specs.declared.running.Makeup.{Makeup}
-use Rattle.tb_makeup.specs.declared.running.MakeupEnding.TheVariants as endings
-use Rattle.tb_makeup.specs.Turning.{held_in, state_of, over_limit, run_at, node_total, IsBounded, unsaid_nodes, begins, ejects, AreRunParams, AreRunNodes, IsReady, GoesTo, turns_left}
-use Rattle.tb_makeup.specs.Filling.{IsFiring, IsOver, Ejects}
+use Rattle.tb_makeup.specs.declared.makeup.Makeup.{Makeup}
+use Rattle.tb_makeup.specs.declared.makeup.MakeupEnding.TheVariants as endings
+use Rattle.tb_makeup.specs.Makeup.{held_in, state_of, over_limit, run_at, node_total, IsBounded, unsaid_nodes, begins, ejects, AreRunParams, AreRunNodes, IsReady, GoesTo, turns_left}
+use Rattle.tb_makeup.specs.MakeupPages.{IsFiring, IsOver, Ejects}
 use Rattle.tb_makeup.proofs.Filled.RunLemmas.{run-ends, run-goes}
 
 -- ---- what a firing comes to

@@ -15,11 +15,11 @@ use Rattle.tb_output.specs.Act.{large_warning}
 use Rattle.tb_output.specs.Machine.{MachineView, sent_lists, event_lists, left_lists, machine_lists, IsPageSent, IsMachine}
 use Rattle.tb_pool.specs.Frame.{IsNoneOf}
 use Rattle.tb_column.specs.Notes.{AreDistinct}
-use Rattle.tb_output.specs.Acting.{warnings_sent, TakesNoList, clipped, taken_into, with_float, with_columns, HasTaken, HasNoRoom}
-use Rattle.tb_output.specs.Keeping.{AreNoneOf}
+use Rattle.tb_output.specs.ActCalls.{warnings_sent, TakesNoList, clipped, taken_into, with_float, with_columns, HasTaken, HasNoRoom}
+use Rattle.tb_output.specs.MachineFrame.{AreNoneOf}
 use Rattle.tb_pool.proofs.FrameLemmas.{none-front}
-use Rattle.tb_output.proofs.Working.ApartLemmas.{apart-cons, distinct-apart}
-use Rattle.tb_output.proofs.Working.ResultLemmas.{either-way}
+use Rattle.tb_output.proofs.FiringWork.ApartLemmas.{apart-cons, distinct-apart}
+use Rattle.tb_output.proofs.FiringWork.ResultLemmas.{either-way}
 
 -- ---- warnings have no lists
 

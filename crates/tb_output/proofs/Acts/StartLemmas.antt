@@ -8,7 +8,7 @@ use Rattle.tb_builder.proofs.Ranges.PageableLemmas.{extent_goal}
 use Rattle.tb_pool.specs.Lists.{Lists, IsLive, list_at, with_list}
 use Rattle.tb_pool.proofs.CallerLemmas.{list_same, live_same}
 use Rattle.tb_node.specs.declared.Node.{Node}
-use Rattle.tb_node.specs.Plain.{PlainNode, plain_of}
+use Rattle.tb_node.specs.PlainNodes.{PlainNode, plain_of}
 use Rattle.tb_node.specs.Fit.{IsSizedNode}
 use Rattle.tb_param.specs.declared.Params.{Params}
 use Rattle.tb_insert.specs.declared.Class.{Class}

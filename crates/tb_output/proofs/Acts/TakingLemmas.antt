@@ -9,8 +9,8 @@ use Rattle.tb_float.specs.declared.Entry.TheVariants as entries
 use Rattle.tb_float.specs.declared.Part.TheVariants as parts
 use Rattle.tb_float.specs.Lists.{live_count, without_place, HasFloatAt}
 use Rattle.tb_float.specs.Pool.{FloatPool, HasNoMarks, with_current, moved_float}
-use Rattle.tb_output.specs.Queue.{HasRoomFor}
-use Rattle.tb_output.specs.Acting.{taken_into}
+use Rattle.tb_output.specs.Events.{HasRoomFor}
+use Rattle.tb_output.specs.ActCalls.{taken_into}
 
 -- if the float waits, it is in the second list, else in the current one
 abbrev taken_by : Bool → Float → FloatPool → FloatPool

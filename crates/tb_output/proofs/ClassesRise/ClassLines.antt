@@ -7,7 +7,7 @@ use Rattle.tb_node.specs.declared.What.TheVariants as what
 use Rattle.tb_node.specs.declared.Where.{Where}
 use Rattle.tb_node.specs.declared.Where.TheVariants as places
 use Rattle.tb_node.specs.declared.Float.{Float}
-use Rattle.tb_node.specs.Plain.{hbox, skip, made, Leaf, leaf_node, PlainKind, plain, PlainNode}
+use Rattle.tb_node.specs.PlainNodes.{hbox, skip, made, Leaf, leaf_node, PlainKind, plain, PlainNode}
 use Rattle.tb_param.specs.declared.Params.{Params}
 use Rattle.tb_param.specs.Release.{has_second}
 use Rattle.tb_float.specs.declared.Suppress.{Suppress}
@@ -15,7 +15,7 @@ use Rattle.tb_float.specs.declared.Part.{Part}
 use Rattle.tb_float.specs.declared.Part.TheVariants as parts
 use Rattle.tb_float.specs.Lists.{FloatLists, floats_among, IsWaiting, floats_of, wide_part}
 use Rattle.tb_area.specs.Laws as area
-use Rattle.tb_area.specs.Filling.{filled, doubled}
+use Rattle.tb_area.specs.Deferred.{filled, doubled}
 use Rattle.tb_area.proofs.OrderLemmas.{fill-order, double-order}
 use Rattle.tb_fpage.specs.declared.Wanted.{Wanted}
 use Rattle.tb_fpage.specs.Company.{Choice, company, chosen_floats, left_floats}

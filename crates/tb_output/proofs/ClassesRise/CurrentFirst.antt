@@ -14,8 +14,8 @@ use Rattle.tb_output.specs.declared.texts.TextSize.{TextSize}
 use Rattle.tb_output.specs.State.{Work}
 use Rattle.tb_output.specs.Text.{puts_interline, note_at, float_goes, first_goes}
 use Rattle.tb_output.specs.Machine.{MachineView}
-use Rattle.tb_output.specs.Turns.{float_placed, float_decided, note_placed, first_placed}
-use Rattle.tb_output.specs.Working.{shows_back}
+use Rattle.tb_output.specs.FiringParts.{float_placed, float_decided, note_placed, first_placed}
+use Rattle.tb_output.specs.FiringWork.{shows_back}
 use Rattle.tb_area.specs.Area.{current_place}
 
 -- ---- the first of the current list

@@ -3,11 +3,11 @@ use Rattle.std.proofs.Common.{◌≡◌, sym, ◌∙◌, ap, subst, ℕ, ℤ, tr
 use Rattle.std.specs.Prelude.{int_lt}
 use Rattle.tb_break.proofs.EachLemmas.{all-front, all-back, all-join}
 use Rattle.tb_scaled.specs.Scaled.{eject_penalty}
-use Rattle.tb_node.specs.Plain.{PlainNode, without_insertions}
-use Rattle.tb_break.specs.Prune.{pruned_nodes}
+use Rattle.tb_node.specs.PlainNodes.{PlainNode, without_insertions}
+use Rattle.tb_break.specs.PageTop.{pruned_nodes}
 use Rattle.tb_insert.specs.Account.{Frozen, labelled}
-use Rattle.tb_builder.specs.Reached.{Reach}
-use Rattle.tb_builder.specs.Fired.{Boxed, Fired, page_break, from_break, with_spent_break, held_insertions, fired_by}
+use Rattle.tb_builder.specs.Reach.{Reach}
+use Rattle.tb_builder.specs.FiredPages.{Boxed, Fired, page_break, from_break, with_spent_break, held_insertions, fired_by}
 use Rattle.tb_builder.proofs.Cutting.CutLemmas.{acted_of, CutAt, AllIns}
 use Rattle.tb_output.proofs.ClassesRise.FloatlessFeet.{HoldsFloatless, HoldFloatless, BoxesFloatless, labelled-floatless, take-floatless, boxes-floatless, spent-floatless, drop-floatless, held-floatless, pruned-floatless, acts-floatless, no-insertions-floatless}
 use Rattle.tb_output.proofs.ClassesRise.ClassLines.{FloatKind, class_lines, lines-append}

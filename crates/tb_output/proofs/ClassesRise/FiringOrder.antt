@@ -11,10 +11,10 @@ use Rattle.tb_node.specs.declared.Float.{Float}
 use Rattle.tb_node.specs.declared.Margin.{Margin}
 use Rattle.tb_node.specs.declared.Where.{Where}
 use Rattle.tb_node.specs.declared.Where.TheVariants as places
-use Rattle.tb_node.specs.Plain.{Leaf, plain, PlainNode, made, blank_box, pen, skip}
-use Rattle.tb_break.specs.Legal.{last_or}
+use Rattle.tb_node.specs.PlainNodes.{Leaf, plain, PlainNode, made, blank_box, pen, skip}
+use Rattle.tb_break.specs.Places.{last_or}
 use Rattle.tb_param.specs.declared.Params.{Params}
-use Rattle.tb_builder.specs.Fired.{Boxed, content_of, box_content}
+use Rattle.tb_builder.specs.FiredPages.{Boxed, content_of, box_content}
 use Rattle.tb_float.specs.declared.Entry.{Entry}
 use Rattle.tb_float.specs.declared.Entry.TheVariants as entries
 use Rattle.tb_float.specs.Lists.{FloatLists, floats_among, wide_part, wide_waiting}
@@ -22,7 +22,7 @@ use Rattle.tb_float.proofs.WaitingLemmas.{wide-waits}
 use Rattle.tb_insert.specs.declared.Class.{Class}
 use Rattle.tb_float.specs.Rooms.{column_height_of}
 use Rattle.tb_area.specs.Area.{current_place}
-use Rattle.tb_area.specs.Filling.{filled}
+use Rattle.tb_area.specs.Deferred.{filled}
 use Rattle.tb_area.specs.Laws.{HasNone, PassesNone}
 use Rattle.tb_area.proofs.LawLemmas.{current-laws}
 use Rattle.tb_margin.specs.declared.Placed.{Placed}
@@ -31,8 +31,8 @@ use Rattle.tb_column.specs.declared.Warn.{Warn}
 use Rattle.tb_column.specs.declared.Warn.TheVariants as warnings
 use Rattle.tb_column.specs.Column.{Notes, PlainColumn, warned, text_column}
 use Rattle.tb_output.specs.State.{State, Work, Recorded, placed, output, puts, sends, records_also, with_floats, with_notes, notes_in, footnotes, has_floats}
-use Rattle.tb_output.specs.Place
-use Rattle.tb_output.specs.Ship
+use Rattle.tb_output.specs.FloatMoves
+use Rattle.tb_output.specs.Pages
 use Rattle.tb_output.specs.Columns
 use Rattle.tb_output.specs.Text
 use Rattle.tb_output.specs.Clear

@@ -3,10 +3,10 @@ use Rattle.std.proofs.Common.{◌≡◌, refl, ℕ, zero, suc, ◌==◌, ℤ, Bo
 use Rattle.std.specs.Prelude.{if◌then◌else◌}
 use Rattle.std.specs.List.{AllByRecursion}
 use Rattle.tb_break.proofs.EachLemmas.{all-join}
-use Rattle.tb_node.specs.Plain.{Matter, hbox, rule, skip, kerned, pen, mark, note, whatsit, Leaf, Inserted, PlainKind, plain, ins, act, PlainNode, without_acts, without_insertions, on_line}
-use Rattle.tb_break.specs.Prune.{pruned_leaves, pruned_nodes}
+use Rattle.tb_node.specs.PlainNodes.{Matter, hbox, rule, skip, kerned, pen, mark, note, whatsit, Leaf, Inserted, PlainKind, plain, ins, act, PlainNode, without_acts, without_insertions, on_line}
+use Rattle.tb_break.specs.PageTop.{pruned_leaves, pruned_nodes}
 use Rattle.tb_insert.specs.Account.{Frozen, Labelled, Label, whole, split, late, label_of, labelled_with, labelled_from}
-use Rattle.tb_builder.specs.Fired.{Boxed, spent_kind, with_spent_break, given_by, given_to, is_given, content_of, box_after, unless_empty, held_of, held_insertions}
+use Rattle.tb_builder.specs.FiredPages.{Boxed, spent_kind, with_spent_break, given_by, given_to, is_given, content_of, box_after, unless_empty, held_of, held_insertions}
 use Rattle.tb_output.proofs.ClassesRise.ClassLines.{FloatKind, kind_lines, IsFloatless, AreFloatless}
 
 abbrev pub HoldsFloatless : FloatKind → PlainKind → Type 0

@@ -7,19 +7,19 @@ use Rattle.tb_scaled.specs.Scaled.{eject_penalty, max_dimen}
 use Rattle.tb_scaled.specs.Glue.{filling_glue}
 use Rattle.tb_node.specs.declared.Act.{Act}
 use Rattle.tb_node.specs.declared.Act.TheVariants as acts
-use Rattle.tb_node.specs.Plain.{PlainNode, node_shape, made, blank_box, skip}
+use Rattle.tb_node.specs.PlainNodes.{PlainNode, node_shape, made, blank_box, skip}
 use Rattle.tb_break.specs.Split.{split_of}
 use Rattle.tb_param.specs.declared.Params.{Params}
-use Rattle.tb_builder.specs.Fired.{Fired}
+use Rattle.tb_builder.specs.FiredPages.{Fired}
 use Rattle.tb_float.specs.Rooms.{column_room_of}
 use Rattle.tb_column.specs.declared.Warn.TheVariants as warnings
 use Rattle.tb_column.specs.Column.{Notes, warned, text_column}
 use Rattle.tb_output.specs.State.{State, Work, Recorded, begun, puts, sends, with_floats, footnotes, has_floats}
-use Rattle.tb_output.specs.Ship
+use Rattle.tb_output.specs.Pages
 use Rattle.tb_output.specs.Columns
 use Rattle.tb_output.specs.Text
 use Rattle.tb_output.specs.Clear
-use Rattle.tb_output.specs.Out
+use Rattle.tb_output.specs.Output
 use Rattle.tb_output.proofs.NothingLost.StateWeights.{Paired}
 use Rattle.tb_output.proofs.NothingLost.WorkWeights.{is_serving}
 use Rattle.tb_output.proofs.ClassesRise.ClassLines.{FloatKind, Side, alike, narrow, wider, is_of, IsReleased, class_lines, sent_lines, lines-append}

@@ -8,9 +8,9 @@ use Rattle.tb_break.proofs.EachLemmas.{all-join}
 use Rattle.tb_scaled.specs.Scaled.{eject_penalty}
 use Rattle.tb_node.specs.declared.Act.{Act}
 use Rattle.tb_node.specs.declared.Act.TheVariants as acts
-use Rattle.tb_node.specs.Plain.{hbox, rule, skip, kerned, pen, mark, note, whatsit, PlainKind, plain, ins, act, PlainNode, without_acts, without_insertions}
-use Rattle.tb_break.specs.Prune.{pruned_nodes}
-use Rattle.tb_builder.specs.Fired.{penalty_at, spent_kind, with_spent_break}
+use Rattle.tb_node.specs.PlainNodes.{hbox, rule, skip, kerned, pen, mark, note, whatsit, PlainKind, plain, ins, act, PlainNode, without_acts, without_insertions}
+use Rattle.tb_break.specs.PageTop.{pruned_nodes}
+use Rattle.tb_builder.specs.FiredPages.{penalty_at, spent_kind, with_spent_break}
 use Rattle.tb_builder.proofs.Cutting.CutLemmas.{Calm, AllCalm, acts_of, IsIns, AllIns}
 use Rattle.tb_output.proofs.ClassesRise.ClassLines.{FloatKind, is_of, line_if, kind_lines, class_lines}
 

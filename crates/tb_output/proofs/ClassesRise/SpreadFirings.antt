@@ -9,12 +9,12 @@ use Rattle.tb_param.specs.declared.Params.{Params}
 use Rattle.tb_float.specs.Lists.{FloatLists, wide_part, wide_waiting, with_wide_waiting}
 use Rattle.tb_float.proofs.WaitingLemmas.{wide-waits}
 use Rattle.tb_float.specs.Rooms.{column_height_of}
-use Rattle.tb_area.specs.Filling.{doubled}
+use Rattle.tb_area.specs.Deferred.{doubled}
 use Rattle.tb_fpage.specs.declared.Wanted.{Wanted}
 use Rattle.tb_fpage.specs.Company.{Choice, company, chosen_floats, left_floats}
 use Rattle.tb_column.specs.Column.{PlainColumn, PlainSheet, PlainSent, shipped, one, wide, pair_sheet, wide_floats_column, single_floats_column}
 use Rattle.tb_output.specs.State.{State, Work, Recorded, output, records_also, sends, with_floats}
-use Rattle.tb_output.specs.Ship
+use Rattle.tb_output.specs.Pages
 use Rattle.tb_output.specs.Columns
 use Rattle.tb_output.proofs.StepLaws.ColumnSteps.{no_law, put_out-step, put_out_by-step, wide_pages-step, place_double-step, float_columns-step}
 use Rattle.tb_output.proofs.StepLaws.WorkSteps.{column-unrefused}

@@ -8,7 +8,7 @@ use Rattle.tb_float.specs.declared.Part.TheVariants as parts
 use Rattle.tb_float.specs.Lists.{FloatLists, floats_among}
 use Rattle.tb_column.specs.Column.{PlainColumn}
 use Rattle.tb_output.specs.State.{Recorded, output}
-use Rattle.tb_output.specs.Ship
+use Rattle.tb_output.specs.Pages
 use Rattle.tb_output.proofs.NothingLost.StateWeights.{ColumnsFit}
 use Rattle.tb_output.proofs.ClassesRise.RisingLists.{IsMissing, IsAbove, Rises, above-missing}
 use Rattle.tb_output.proofs.ClassesRise.ClassLines.{FloatKind, Side, alike, narrow, wider, waits, PartedBy, Parted, WideFrom, is_of, line_if, class_lines, float_lines, left_lines, floats-append}

@@ -7,7 +7,7 @@ use Rattle.tb_param.specs.declared.Params.{Params}
 use Rattle.tb_float.specs.declared.Part.{Part}
 use Rattle.tb_float.specs.declared.Part.TheVariants as parts
 use Rattle.tb_float.specs.Lists.{FloatLists, floats_among, IsWaiting, floats_of, with_floats_of}
-use Rattle.tb_area.specs.Filling.{doubled}
+use Rattle.tb_area.specs.Deferred.{doubled}
 use Rattle.tb_float.specs.declared.Suppress.{Suppress}
 use Rattle.tb_fpage.specs.declared.Wanted.{Wanted}
 use Rattle.tb_fpage.specs.Company.{Choice, company, chosen_floats, left_floats}

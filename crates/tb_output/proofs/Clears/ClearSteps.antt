@@ -10,31 +10,31 @@ use Rattle.tb_pool.specs.Lists.{Lists, IsLive, list_at, with_list}
 use Rattle.tb_pool.proofs.CallerLemmas.{list_same, list_other}
 use Rattle.tb_pool.proofs.MapLemmas.{get-insert_same, get-insert_other, get-remove_other}
 use Rattle.tb_node.specs.declared.Node.{Node}
-use Rattle.tb_node.specs.Plain.{PlainNode, plain_of, node_shape, shape_of, made, blank_box, plain_list}
+use Rattle.tb_node.specs.PlainNodes.{PlainNode, plain_of, node_shape, shape_of, made, blank_box, plain_list}
 use Rattle.tb_node.specs.Fit.{IsSizedNode, shapes}
 use Rattle.tb_pool.specs.declared.ListId.{ListId}
 use Rattle.tb_break.specs.Split.{split_of}
-use Rattle.tb_builder.specs.Owned.{inner_ids}
+use Rattle.tb_builder.specs.Ownership.{inner_ids}
 use Rattle.tb_builder.proofs.LegalPlaces.CourseLemmas.{shape_is}
 use Rattle.tb_column.specs.Page.{AreLeaves, IsPageList}
 use Rattle.tb_param.specs.declared.Params.{Params}
 use Rattle.tb_output.specs.declared.RunFault.{RunFault}
 use Rattle.tb_output.specs.declared.RunFault.TheVariants as faults
 use Rattle.tb_output.specs.State.{Work, puts, with_floats, has_floats}
-use Rattle.tb_output.specs.Ship.{all_wide_pages}
+use Rattle.tb_output.specs.Pages.{all_wide_pages}
 use Rattle.tb_output.specs.Columns.{all_float_columns}
 use Rattle.tb_output.specs.Clear.{clear_again, deferred_again, double_again, cleared_front, clear_wide, clear_rest}
-use Rattle.tb_output.specs.PutBack.{clear_list, blank_clear_list}
+use Rattle.tb_output.specs.BackList.{clear_list, blank_clear_list}
 use Rattle.tb_output.specs.Machine.{MachineView, machine_lists, IsMachine}
-use Rattle.tb_output.specs.Working.{ShowsBack, shows, shows_back, IsCutShort, Does}
-use Rattle.tb_output.specs.Keeping.{AreNoneOf, HasFloats, HasGrown, IsBack, back_lists, KeepsMachine, KeepsBack}
-use Rattle.tb_output.proofs.Working.ApartLemmas.{apart-none, apart-swap}
-use Rattle.tb_output.proofs.Working.StandLemmas.{IsShownBy}
-use Rattle.tb_output.proofs.Working.KeepLemmas.{MayGoBack, beside-shows, keeps-beside, keeps-back_same, keeps-back_then, grown-machine, grown-shows, grown-keeps}
-use Rattle.tb_output.proofs.Working.WorkingLemmas.{does-then, does-shown_with}
+use Rattle.tb_output.specs.FiringWork.{ShowsBack, shows, shows_back, IsCutShort, Does}
+use Rattle.tb_output.specs.MachineFrame.{AreNoneOf, HasFloats, HasGrown, IsBack, back_lists, KeepsMachine, KeepsBack}
+use Rattle.tb_output.proofs.FiringWork.ApartLemmas.{apart-none, apart-swap}
+use Rattle.tb_output.proofs.FiringWork.StandLemmas.{IsShownBy}
+use Rattle.tb_output.proofs.FiringWork.KeepLemmas.{MayGoBack, beside-shows, keeps-beside, keeps-back_same, keeps-back_then, grown-machine, grown-shows, grown-keeps}
+use Rattle.tb_output.proofs.FiringWork.WorkingLemmas.{does-then, does-shown_with}
 use Rattle.tb_output.proofs.StepLaws.WorkSteps.{continues-then, continues-clear_wide, continues-clear_rest}
 use Rattle.tb_output.proofs.StepLaws.ColumnSteps.{no_law, stays, float_columns-step, all_wide_pages-step}
-use Rattle.tb_output.proofs.Working.StepLemmas.{Done, Cut, keeps-on, done-then, then-cut, cut-short, no-room, done-same, cut-same, done-puts, moved-keeps, moved-shows}
+use Rattle.tb_output.proofs.FiringWork.StepLemmas.{Done, Cut, keeps-on, done-then, then-cut, cut-short, no-room, done-same, cut-same, done-puts, moved-keeps, moved-shows}
 
 -- ---- a call that is handed nothing
 

@@ -8,23 +8,23 @@ use Rattle.tb_float.specs.declared.Part.{Part}
 use Rattle.tb_float.specs.declared.Part.TheVariants as parts
 use Rattle.tb_float.specs.Lists.{FloatLists, live_count, with_floats_of, IsWaiting, wide_part, wide_waiting, with_wide_waiting}
 use Rattle.tb_float.specs.Pool.{FloatPool, HasNoMarks, marked_among, marked_floats, unmarked_floats, without_marks}
-use Rattle.tb_float.specs.Marked.{without_marked}
+use Rattle.tb_float.specs.MarkedFloats.{without_marked}
 use Rattle.tb_float.specs.Rooms.{column_height_of}
 use Rattle.tb_float.proofs.MarkLemmas.{marked-false}
 use Rattle.tb_float.proofs.WaitingLemmas.{wide-waits}
 use Rattle.tb_fpage.specs.declared.Wanted.{Wanted}
 use Rattle.tb_fpage.specs.Company.{Choice, company, chosen_floats, left_floats}
-use Rattle.tb_fpage.specs.Chosen.{IsChosen}
+use Rattle.tb_fpage.specs.Choice.{IsChosen}
 use Rattle.tb_column.specs.Column.{PlainColumn, PlainSent, wide, single_floats_column, wide_floats_column, float_column_of}
 use Rattle.tb_output.specs.State.{State, Work, with_floats}
 use Rattle.tb_output.specs.Machine.{MachineView}
-use Rattle.tb_output.specs.Working.{ShowsWork, shows, Does, Continues}
-use Rattle.tb_output.specs.Ship
+use Rattle.tb_output.specs.FiringWork.{ShowsWork, shows, Does, Continues}
+use Rattle.tb_output.specs.Pages
 use Rattle.tb_output.specs.Columns
-use Rattle.tb_output.specs.Turns.{column_done, wide_done}
+use Rattle.tb_output.specs.FiringParts.{column_done, wide_done}
 use Rattle.tb_output.proofs.StepLaws.WorkSteps.{continues-same, continues-put_out_company, continues-ship_wide}
-use Rattle.tb_output.proofs.Working.WorkingLemmas.{Fact}
-use Rattle.tb_output.specs.Queue.{HasRoomFor}
+use Rattle.tb_output.proofs.FiringWork.WorkingLemmas.{Fact}
+use Rattle.tb_output.specs.Events.{HasRoomFor}
 use Rattle.tb_output.proofs.ColumnPages.FloatMoves.{floats-do, room-stays}
 
 -- ---- the pool

@@ -6,9 +6,9 @@ use Rattle.tb_float.specs.declared.Part.TheVariants as parts
 use Rattle.tb_float.specs.Lists.{live_count, floats_of, with_floats_of, IsWaiting, wide_part}
 use Rattle.tb_float.specs.Pool.{FloatPool, HasNoMarks, joined_before}
 use Rattle.tb_output.specs.Clear.{deferred_again, double_again}
-use Rattle.tb_output.specs.Queue.{HasRoomFor}
+use Rattle.tb_output.specs.Events.{HasRoomFor}
 use Rattle.tb_output.specs.Machine.{MachineView}
-use Rattle.tb_output.specs.Keeping.{HasFloats}
+use Rattle.tb_output.specs.MachineFrame.{HasFloats}
 
 -- ---- the floats at the bottom and at the top
 

@@ -14,12 +14,12 @@ use Rattle.tb_pool.specs.Frame.{IsNoneOf}
 use Rattle.tb_pool.proofs.FrameLemmas.{none-back}
 use Rattle.tb_node.specs.declared.Kind.TheVariants as kinds
 use Rattle.tb_node.specs.declared.Node.{Node}
-use Rattle.tb_node.specs.Plain.{PlainNode, plain_of, leaf_of, made, skip, plain_list}
+use Rattle.tb_node.specs.PlainNodes.{PlainNode, plain_of, leaf_of, made, skip, plain_list}
 use Rattle.tb_node.specs.Fit.{IsSizedNode}
 use Rattle.tb_param.specs.declared.Params.{Params}
 use Rattle.tb_column.specs.declared.NoteBox.{NoteBox}
 use Rattle.tb_column.specs.Column.{text_column}
-use Rattle.tb_column.specs.FloatList.{made_node}
+use Rattle.tb_column.specs.FloatColumns.{made_node}
 use Rattle.tb_column.specs.Notes.{IsNote, AreNotes, notes_shown, note_lists, note_count}
 use Rattle.tb_column.specs.Page.{AreLeaves, IsPageList}
 use Rattle.tb_column.proofs.FloatLemmas.{leaves-append}
@@ -28,19 +28,19 @@ use Rattle.tb_output.specs.declared.RunFault.TheVariants as faults
 use Rattle.tb_output.specs.State.{Work, puts, footnotes}
 use Rattle.tb_output.specs.Columns.{without_column_floats, put_out_text}
 use Rattle.tb_output.specs.Clear.{clear_again, clear_floats, clear_by, clear}
-use Rattle.tb_output.specs.PutBack.{clear_list}
-use Rattle.tb_output.specs.Turns.{clear_noted}
+use Rattle.tb_output.specs.BackList.{clear_list}
+use Rattle.tb_output.specs.FiringParts.{clear_noted}
 use Rattle.tb_output.specs.Machine.{MachineView, machine_lists, IsMachine}
-use Rattle.tb_output.specs.Working.{shows, shows_back, shows_notes, shows_page, IsCutShort, Does}
-use Rattle.tb_output.specs.Keeping.{AreNoneOf, AreTextLists, HasGrown, IsBack, back_lists, KeepsMachine, KeepsBack}
-use Rattle.tb_output.proofs.Working.ApartLemmas.{apart-back, apart-swap}
-use Rattle.tb_output.proofs.Working.StandLemmas.{Stands, list-same, list-stands, leaves-shown, IsShownBy, stands-shown, lists-shown}
-use Rattle.tb_output.proofs.Working.KeepLemmas.{fields-same, keeps-then, keeps-more, keeps-beside, beside-shows, keeps-back_same, keeps-back_then}
+use Rattle.tb_output.specs.FiringWork.{shows, shows_back, shows_notes, shows_page, IsCutShort, Does}
+use Rattle.tb_output.specs.MachineFrame.{AreNoneOf, AreTextLists, HasGrown, IsBack, back_lists, KeepsMachine, KeepsBack}
+use Rattle.tb_output.proofs.FiringWork.ApartLemmas.{apart-back, apart-swap}
+use Rattle.tb_output.proofs.FiringWork.StandLemmas.{Stands, list-same, list-stands, leaves-shown, IsShownBy, stands-shown, lists-shown}
+use Rattle.tb_output.proofs.FiringWork.KeepLemmas.{fields-same, keeps-then, keeps-more, keeps-beside, beside-shows, keeps-back_same, keeps-back_then}
 use Rattle.tb_output.proofs.InText.PushLemmas.{pushed-first, grown-of}
-use Rattle.tb_output.proofs.Working.WorkingLemmas.{Fact, does-then, shows-moved, cut-then, no-memory_given}
+use Rattle.tb_output.proofs.FiringWork.WorkingLemmas.{Fact, does-then, shows-moved, cut-then, no-memory_given}
 use Rattle.tb_output.proofs.StepLaws.WorkSteps.{continues-then, continues-puts, continues-put_out_text}
 use Rattle.tb_output.proofs.StepLaws.ColumnSteps.{no_law, stays, put_out-step}
-use Rattle.tb_output.proofs.Working.StepLemmas.{Done, Cut, no-room}
+use Rattle.tb_output.proofs.FiringWork.StepLemmas.{Done, Cut, no-room}
 use Rattle.tb_output.proofs.Clears.ClearSteps.{clear-done}
 
 -- ---- the lists of insertions that are as they were

@@ -11,7 +11,7 @@ use Rattle.tb_param.specs.Release.{has_second}
 use Rattle.tb_float.specs.declared.Part.{Part}
 use Rattle.tb_float.specs.declared.Part.TheVariants as parts
 use Rattle.tb_float.specs.Lists.{FloatLists, no_floats, with_floats_of, IsWaiting, wide_part}
-use Rattle.tb_output.specs.Place
+use Rattle.tb_output.specs.FloatMoves
 use Rattle.tb_output.specs.Clear
 use Rattle.tb_output.proofs.DeadCycles.ColumnOutcomes.{NotDouble}
 use Rattle.tb_output.proofs.DeadCycles.ClearOutcomes.{Single, Wide, Narrow}

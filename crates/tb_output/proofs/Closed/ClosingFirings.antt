@@ -4,17 +4,17 @@ use Rattle.std.specs.Prelude.{int_le, ◌||◌, ◌-◌, if◌then◌else◌}
 use Rattle.std.specs.List.{AllByRecursion}
 use Rattle.tb_scaled.specs.Scaled.{eject_penalty}
 use Rattle.tb_scaled.specs.Glue.{filling_glue}
-use Rattle.tb_node.specs.Plain.{PlainNode, node_shape, made, skip, without_insertions}
+use Rattle.tb_node.specs.PlainNodes.{PlainNode, node_shape, made, skip, without_insertions}
 use Rattle.tb_break.specs.Split.{split_of}
 use Rattle.tb_param.specs.declared.Params.{Params}
-use Rattle.tb_builder.specs.Fired.{Fired}
+use Rattle.tb_builder.specs.FiredPages.{Fired}
 use Rattle.tb_builder.proofs.Cutting.CutLemmas.{AllCalm, AllFree}
 use Rattle.tb_column.specs.Column.{Notes}
 use Rattle.tb_output.specs.State.{Work, puts, footnotes}
 use Rattle.tb_output.specs.Columns
 use Rattle.tb_output.specs.Text
 use Rattle.tb_output.specs.Clear
-use Rattle.tb_output.specs.Out
+use Rattle.tb_output.specs.Output
 use Rattle.tb_output.proofs.NothingLost.StateWeights.{Paired, ColumnsFit}
 use Rattle.tb_output.proofs.Closed.Sorts.{sorts-calm, seen_all}
 use Rattle.tb_output.proofs.Closed.SortLemmas.{Sort, hold, serve, clear, none, one, BreakStands, pen_sort, sorts, sorts-append}

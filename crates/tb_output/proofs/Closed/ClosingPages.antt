@@ -4,10 +4,10 @@ use Rattle.std.specs.List.{AllByRecursion}
 use Rattle.tb_scaled.specs.Scaled.{inf_penalty}
 use Rattle.tb_node.specs.declared.Act.{Act}
 use Rattle.tb_node.specs.declared.Act.TheVariants as acts
-use Rattle.tb_node.specs.Plain.{hbox, rule, skip, kerned, pen, mark, note, whatsit, PlainKind, plain, ins, act, PlainNode, without_acts}
-use Rattle.tb_break.specs.Prune.{pruned_nodes}
-use Rattle.tb_builder.specs.Reached.{Reach}
-use Rattle.tb_builder.specs.Fired.{with_spent_break, penalty_at}
+use Rattle.tb_node.specs.PlainNodes.{hbox, rule, skip, kerned, pen, mark, note, whatsit, PlainKind, plain, ins, act, PlainNode, without_acts}
+use Rattle.tb_break.specs.PageTop.{pruned_nodes}
+use Rattle.tb_builder.specs.Reach.{Reach}
+use Rattle.tb_builder.specs.FiredPages.{with_spent_break, penalty_at}
 use Rattle.tb_builder.proofs.Cutting.CutLemmas.{AllCalm, ActFree, FirstFree, AllFree, CutAt, acts_of, acted_of, acts-free}
 use Rattle.tb_output.proofs.Closed.Sorts.{Sort, kind_sort, sorts, pen_sort, pen-sorts, Stands, none, light, blank, real, silent, pause, hold, serve, clear, odd}
 use Rattle.tb_output.proofs.Closed.SortLemmas.{free-drop}

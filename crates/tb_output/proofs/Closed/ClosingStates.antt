@@ -4,18 +4,18 @@ use Rattle.std.proofs.Common.{◌≡◌, refl, sym, ◌∙◌, ap, subst, ℕ, �
 use Rattle.std.specs.Prelude.{int_le, ◌&&◌, not, if◌then◌else◌}
 use Rattle.std.specs.List.{AllByRecursion}
 use Rattle.tb_scaled.specs.Scaled.{eject_penalty, max_dimen}
-use Rattle.tb_node.specs.Plain.{PlainKind, plain, ins, act, PlainNode, without_insertions}
+use Rattle.tb_node.specs.PlainNodes.{PlainKind, plain, ins, act, PlainNode, without_insertions}
 use Rattle.tb_node.proofs.Weights.{Weight, nodes_weight}
 use Rattle.tb_param.specs.declared.Params.{Params}
 use Rattle.tb_param.specs.Release.{has_second}
-use Rattle.tb_builder.specs.Fired.{Fired}
+use Rattle.tb_builder.specs.FiredPages.{Fired}
 use Rattle.tb_builder.proofs.FiredPages.PageWeights.{boxes_weight}
 use Rattle.tb_builder.proofs.Cutting.CutLemmas.{AllCalm, AllFree, IsIns, AllIns}
 use Rattle.tb_float.specs.Rooms.{column_room_of}
 use Rattle.tb_column.specs.Column.{PlainSent, warned}
 use Rattle.tb_column.specs.declared.Warn.TheVariants as warnings
 use Rattle.tb_output.specs.State.{State, Work, begun, puts, sends, notes_in}
-use Rattle.tb_output.specs.Out
+use Rattle.tb_output.specs.Output
 use Rattle.tb_output.proofs.NothingLost.StateWeights.{BoxesFit, Paired, ColumnsFit, lists_weight, left_weight}
 use Rattle.tb_output.proofs.NothingLost.PutOutWeights.{box-weight}
 use Rattle.tb_output.proofs.NothingLost.ColumnWeights.{notes_weight}

@@ -4,7 +4,7 @@ use Rattle.std.specs.Prelude.{◌&&◌, if◌then◌else◌}
 use Rattle.std.specs.List.{AllByRecursion}
 use Rattle.tb_node.specs.declared.Act.{Act}
 use Rattle.tb_node.specs.declared.Act.TheVariants as acts
-use Rattle.tb_node.specs.Plain.{PlainKind, plain, ins, act, PlainNode, without_acts}
+use Rattle.tb_node.specs.PlainNodes.{PlainKind, plain, ins, act, PlainNode, without_acts}
 use Rattle.tb_builder.proofs.Cutting.CutLemmas.{Calm, AllCalm, AllFree}
 use Rattle.tb_output.proofs.Closed.Sorts.{Sort, kind_sort, sorts, Steady, light, blank, real, silent, pause, hold, serve, clear, odd, CalmSort, kind-calm, kind-steady}
 

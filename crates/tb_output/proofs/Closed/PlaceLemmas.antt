@@ -3,17 +3,17 @@ use Rattle.std.proofs.Common.{◌≡◌, refl, sym, ◌∙◌, ap, subst, ℕ, z
 use Rattle.std.specs.Prelude.{int_le, ◌||◌, ◌-◌, pos, if◌then◌else◌}
 use Rattle.std.specs.List.{AllByRecursion}
 use Rattle.tb_scaled.specs.Scaled.{eject_penalty}
-use Rattle.tb_node.specs.Plain.{PlainKind, plain, ins, act, PlainNode, node_shape, without_insertions}
+use Rattle.tb_node.specs.PlainNodes.{PlainKind, plain, ins, act, PlainNode, node_shape, without_insertions}
 use Rattle.tb_break.specs.Split.{split_of}
 use Rattle.tb_param.specs.declared.Params.{Params}
-use Rattle.tb_builder.specs.Fired.{Fired}
+use Rattle.tb_builder.specs.FiredPages.{Fired}
 use Rattle.tb_builder.proofs.FiredPages.PageWeights.{AllOfClass}
 use Rattle.tb_builder.proofs.Cutting.CutLemmas.{Calm, AllCalm, ActFree, AllFree, IsIns, AllIns, inserted-class, class-both, class-take}
 use Rattle.tb_output.specs.State.{State, Work, begun, footnotes}
 use Rattle.tb_output.specs.Columns
 use Rattle.tb_output.specs.Text
 use Rattle.tb_output.specs.Clear
-use Rattle.tb_output.specs.Out
+use Rattle.tb_output.specs.Output
 use Rattle.tb_output.proofs.StepLaws.BreakSorts.{at-ordinary, at-clear, at-serve, at-hold}
 use Rattle.tb_output.proofs.Closed.SortLemmas.{Sort, Seen, none, many, Stands, Steady, BreakStands, pen_sort, kind_sort, sorts, sorts-append, kind-steady, fewer}
 use Rattle.tb_output.proofs.NothingLost.StateWeights.{class_numbers}

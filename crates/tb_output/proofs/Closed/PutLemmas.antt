@@ -6,13 +6,13 @@ use Rattle.tb_node.specs.declared.Margin.{Margin}
 use Rattle.tb_node.specs.declared.Where.{Where}
 use Rattle.tb_node.specs.declared.Where.TheVariants as places
 use Rattle.tb_insert.specs.declared.Class.{Class}
-use Rattle.tb_builder.specs.Fired.{Boxed, box_content}
-use Rattle.tb_node.specs.Plain.{Leaf, PlainNode, plain, pen, made, blank_box, skip}
+use Rattle.tb_builder.specs.FiredPages.{Boxed, box_content}
+use Rattle.tb_node.specs.PlainNodes.{Leaf, PlainNode, plain, pen, made, blank_box, skip}
 use Rattle.tb_scaled.specs.declared.Glue.{Glue}
-use Rattle.tb_break.specs.Legal.{last_or}
+use Rattle.tb_break.specs.Places.{last_or}
 use Rattle.std.specs.List.{AllByRecursion}
 use Rattle.tb_builder.proofs.Cutting.CutLemmas.{class-both}
-use Rattle.tb_output.specs.Working.{Continues}
+use Rattle.tb_output.specs.FiringWork.{Continues}
 use Rattle.tb_builder.proofs.FiredPages.PageWeights.{IsOnce, AllOfClass}
 use Rattle.tb_scaled.specs.Glue.{filling_glue}
 use Rattle.tb_scaled.specs.Scaled.{eject_penalty, max_dimen}
@@ -25,12 +25,12 @@ use Rattle.tb_margin.specs.declared.Placed.{Placed}
 use Rattle.tb_column.specs.Column.{Notes, warned, text_column, PlainSent}
 use Rattle.tb_column.specs.declared.Warn.TheVariants as warnings
 use Rattle.tb_output.specs.State.{Work, puts, sends, with_floats, with_notes, notes_in, footnotes, has_floats}
-use Rattle.tb_output.specs.Place
-use Rattle.tb_output.specs.Ship
+use Rattle.tb_output.specs.FloatMoves
+use Rattle.tb_output.specs.Pages
 use Rattle.tb_output.specs.Columns
 use Rattle.tb_output.specs.Text
 use Rattle.tb_output.specs.Clear
-use Rattle.tb_output.specs.Out
+use Rattle.tb_output.specs.Output
 use Rattle.tb_output.proofs.StepLaws.ColumnSteps.{RecordLaw, no_law, ColumnStep, in_turn, Stays, sends-stays, place_float-step, place_next-step, all_wide_pages-step, put_out-step, float_columns-step, stays}
 use Rattle.tb_output.proofs.StepLaws.FiringSteps.{defer-stays}
 use Rattle.tb_output.proofs.StepLaws.WorkSteps.{continues-sends, column-continues, continues-defer}

@@ -8,8 +8,8 @@ use Rattle.tb_node.specs.declared.Float.{Float}
 use Rattle.tb_node.specs.declared.Margin.{Margin}
 use Rattle.tb_node.specs.declared.Where.{Where}
 use Rattle.tb_node.specs.declared.Where.TheVariants as places
-use Rattle.tb_node.specs.Plain.{PlainNode, plain, pen}
-use Rattle.tb_break.specs.Legal.{last_or}
+use Rattle.tb_node.specs.PlainNodes.{PlainNode, plain, pen}
+use Rattle.tb_break.specs.Places.{last_or}
 use Rattle.tb_param.specs.declared.Params.{Params}
 use Rattle.tb_float.specs.declared.Entry.{Entry}
 use Rattle.tb_float.specs.declared.Entry.TheVariants as entries
@@ -18,7 +18,7 @@ use Rattle.tb_margin.specs.declared.Placed.{Placed}
 use Rattle.tb_column.specs.Column.{PlainSent, warned}
 use Rattle.tb_column.specs.declared.Warn.TheVariants as warnings
 use Rattle.tb_output.specs.State.{Work, puts, sends, with_floats, footnotes}
-use Rattle.tb_output.specs.Place
+use Rattle.tb_output.specs.FloatMoves
 use Rattle.tb_output.specs.Text
 use Rattle.tb_output.proofs.NothingLost.StateWeights.{Paired}
 use Rattle.tb_output.proofs.Closed.SortLemmas.{Steady, sorts, sorts-append}

@@ -7,13 +7,13 @@ use Rattle.std.proofs.lemmas.Int.{ints}
 use Rattle.tb_break.proofs.EachLemmas.{all-take}
 use Rattle.tb_scaled.specs.Scaled.{eject_penalty, inf_penalty}
 use Rattle.tb_node.specs.declared.What.TheVariants as what
-use Rattle.tb_node.specs.Plain.{hbox, rule, skip, kerned, pen, mark, note, whatsit, PlainKind, plain, ins, act, PlainNode, without_acts, without_insertions}
+use Rattle.tb_node.specs.PlainNodes.{hbox, rule, skip, kerned, pen, mark, note, whatsit, PlainKind, plain, ins, act, PlainNode, without_acts, without_insertions}
 use Rattle.tb_node.proofs.Weights.{Weight, nodes_weight}
 use Rattle.tb_insert.specs.Account.{Labelled}
-use Rattle.tb_builder.specs.Fired.{Boxed, page_break, from_break, fired_by, with_spent_break, penalty_at}
-use Rattle.tb_builder.specs.Reached.{Reach}
+use Rattle.tb_builder.specs.FiredPages.{Boxed, page_break, from_break, fired_by, with_spent_break, penalty_at}
+use Rattle.tb_builder.specs.Reach.{Reach}
 use Rattle.tb_builder.proofs.Cutting.CutLemmas.{Calm, AllCalm, ActFree, FirstFree, AllFree, CutAt, acts-free}
-use Rattle.tb_output.specs.Out.{is_int, clear_penalty, par_penalty, vert_penalty, hold_penalty}
+use Rattle.tb_output.specs.Output.{is_int, clear_penalty, par_penalty, vert_penalty, hold_penalty}
 use Rattle.tb_output.proofs.NothingLost.WorkWeights.{is_serving, Careful}
 use Rattle.tb_output.proofs.Closed.Sorts.{Sort, pen_sort, box_sort, kind_sort, sorts, Seen, Stands, pen-sorts, CalmSort, sorts-calm, seen_all, stands-after, acts-silent, from-none, box-steady, light, blank, real, silent, pause, hold, serve, clear, odd, none, one, many}
 use Rattle.tb_builder.proofs.ForLaws.PausedPages.{calm-acts}

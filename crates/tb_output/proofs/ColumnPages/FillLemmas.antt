@@ -10,11 +10,11 @@ use Rattle.tb_float.specs.Lists.{FloatLists, IsWaiting, wide_part, wide_waiting}
 use Rattle.tb_float.proofs.WaitingLemmas.{wide-waits}
 use Rattle.tb_float.specs.Rooms.{column_height_of}
 use Rattle.tb_area.specs.Area.{AreaPlace, at_top, at_bottom, deferred, where_of, next_area_place, goes_double}
-use Rattle.tb_area.specs.Filling.{gone_to, still_before, filled, gone_double, still_single, doubled}
+use Rattle.tb_area.specs.Deferred.{gone_to, still_before, filled, gone_double, still_single, doubled}
 use Rattle.tb_output.specs.State.{State, Work, Recorded, placed, records_also, with_floats}
-use Rattle.tb_output.specs.Place
+use Rattle.tb_output.specs.FloatMoves
 use Rattle.tb_output.specs.Columns
-use Rattle.tb_output.specs.Ship
+use Rattle.tb_output.specs.Pages
 
 -- the second work is the first with these lists, and more records
 pub record HasLists (w v : Work) (l : FloatLists) : Type 0 where

@@ -8,29 +8,29 @@ use Rattle.tb_pool.specs.Frame.{IsNoneOf}
 use Rattle.tb_pool.proofs.FrameLemmas.{none-back}
 use Rattle.tb_node.specs.declared.Node.{Node}
 use Rattle.tb_node.specs.declared.Float.{Float}
-use Rattle.tb_node.specs.Plain.{PlainNode}
+use Rattle.tb_node.specs.PlainNodes.{PlainNode}
 use Rattle.tb_param.specs.declared.Params.{Params}
-use Rattle.tb_builder.specs.Fired.{Boxed}
+use Rattle.tb_builder.specs.FiredPages.{Boxed}
 use Rattle.tb_float.specs.declared.Suppress.{Suppress}
 use Rattle.tb_float.specs.declared.Part.{Part}
 use Rattle.tb_float.specs.declared.Part.TheVariants as parts
 use Rattle.tb_float.specs.Lists.{FloatLists, live_count, floats_of, IsWaiting, wide_part, wide_waiting}
 use Rattle.tb_float.specs.Pool.{FloatPool, HasNoMarks, without_marks}
 use Rattle.tb_area.specs.Area.{AreaPlace, at_top, at_bottom, deferred, next_area_place, goes_double}
-use Rattle.tb_area.specs.Filling.{gone_to, still_before, filled, gone_double, still_single, doubled}
+use Rattle.tb_area.specs.Deferred.{gone_to, still_before, filled, gone_double, still_single, doubled}
 use Rattle.tb_column.specs.declared.Sent.{Sent}
-use Rattle.tb_column.specs.Changes.{IsOpened}
+use Rattle.tb_column.specs.ColumnChanges.{IsOpened}
 use Rattle.tb_output.specs.State.{State, Work}
-use Rattle.tb_output.specs.Queue.{HasRoomFor}
+use Rattle.tb_output.specs.Events.{HasRoomFor}
 use Rattle.tb_output.specs.Machine.{MachineView, state_shown, events_shown, machine_lists, IsMachine}
-use Rattle.tb_output.specs.Working.{shows, Does}
-use Rattle.tb_output.specs.Keeping.{HasFloats, KeepsFields, KeepsMachine}
-use Rattle.tb_output.specs.Shipping.{filled_lists, doubled_lists}
+use Rattle.tb_output.specs.FiringWork.{shows, Does}
+use Rattle.tb_output.specs.MachineFrame.{HasFloats, KeepsFields, KeepsMachine}
+use Rattle.tb_output.specs.PageChanges.{filled_lists, doubled_lists}
 use Rattle.tb_output.specs.Columns
-use Rattle.tb_output.specs.Ship
+use Rattle.tb_output.specs.Pages
 use Rattle.tb_output.proofs.ColumnPages.FillLemmas.{HasLists, fill_column-lists, fill_double-lists}
-use Rattle.tb_output.proofs.Working.StandLemmas.{Stands, machine-live, IsShownBy, stands-shown}
-use Rattle.tb_output.proofs.Working.ApartLemmas.{fresh-none}
+use Rattle.tb_output.proofs.FiringWork.StandLemmas.{Stands, machine-live, IsShownBy, stands-shown}
+use Rattle.tb_output.proofs.FiringWork.ApartLemmas.{fresh-none}
 
 -- ---- as many boxes are live as before
 

@@ -8,30 +8,30 @@ use Rattle.tb_float.specs.declared.Part.{Part}
 use Rattle.tb_float.specs.declared.Part.TheVariants as parts
 use Rattle.tb_float.specs.Lists.{IsWaiting, wide_part}
 use Rattle.tb_float.specs.Pool.{marked_floats, without_marks}
-use Rattle.tb_float.specs.Marked.{without_marked}
+use Rattle.tb_float.specs.MarkedFloats.{without_marked}
 use Rattle.tb_float.specs.Rooms.{column_height_of}
 use Rattle.tb_float.proofs.WaitingLemmas.{wide-waits}
 use Rattle.tb_fpage.specs.declared.Wanted.{Wanted}
-use Rattle.tb_fpage.specs.Chosen.{IsChosen}
+use Rattle.tb_fpage.specs.Choice.{IsChosen}
 use Rattle.tb_column.specs.declared.Column.{Column}
 use Rattle.tb_column.specs.declared.Sheet.TheVariants as sheets
 use Rattle.tb_column.specs.Column.{float_column_of, wide}
-use Rattle.tb_column.specs.Shown.{column_shown}
+use Rattle.tb_column.specs.StoredColumns.{column_shown}
 use Rattle.tb_column.specs.Page.{IsPageColumn}
-use Rattle.tb_column.specs.Changes.{IsOpened}
+use Rattle.tb_column.specs.ColumnChanges.{IsOpened}
 use Rattle.tb_output.specs.declared.RunFault.{RunFault}
 use Rattle.tb_output.specs.declared.RunFault.TheVariants as faults
 use Rattle.tb_output.specs.State.{Work}
 use Rattle.tb_output.specs.Columns
-use Rattle.tb_output.specs.Ship
+use Rattle.tb_output.specs.Pages
 use Rattle.tb_output.specs.Machine.{MachineView, events_shown, machine_lists, IsMachine}
-use Rattle.tb_output.specs.Working.{shows, IsCutShort, Does, Continues}
-use Rattle.tb_output.specs.Keeping.{KeepsMachine}
-use Rattle.tb_output.specs.Shipping.{HasShipped, HasNotShipped}
-use Rattle.tb_output.specs.Turns.{column_done, wide_done}
-use Rattle.tb_output.proofs.Working.WorkingLemmas.{Fact, no-memory}
-use Rattle.tb_output.proofs.Working.StandLemmas.{IsShownBy, lists-shown}
-use Rattle.tb_output.proofs.Working.KeepLemmas.{keeps-same, keeps-then}
+use Rattle.tb_output.specs.FiringWork.{shows, IsCutShort, Does, Continues}
+use Rattle.tb_output.specs.MachineFrame.{KeepsMachine}
+use Rattle.tb_output.specs.PageChanges.{HasShipped, HasNotShipped}
+use Rattle.tb_output.specs.FiringParts.{column_done, wide_done}
+use Rattle.tb_output.proofs.FiringWork.WorkingLemmas.{Fact, no-memory}
+use Rattle.tb_output.proofs.FiringWork.StandLemmas.{IsShownBy, lists-shown}
+use Rattle.tb_output.proofs.FiringWork.KeepLemmas.{keeps-same, keeps-then}
 use Rattle.tb_output.proofs.ColumnPages.FloatMoves.{opened-shown, opened-none, opened-keeps, pooled-keeps}
 use Rattle.tb_output.proofs.Clears.CompanyLemmas.{left-size, left-unmarked, back-size, back-unmarked, company-out, wide-out}
 use Rattle.tb_output.proofs.ColumnPages.PuttingOut.{does-moved}

@@ -9,15 +9,15 @@ use Rattle.tb_column.specs.Column.{PlainSent}
 use Rattle.tb_output.specs.declared.RunFault.{RunFault}
 use Rattle.tb_output.specs.State.{Work}
 use Rattle.tb_output.specs.Columns
-use Rattle.tb_output.specs.Ship
+use Rattle.tb_output.specs.Pages
 use Rattle.tb_output.specs.Machine.{MachineView, IsMachine}
-use Rattle.tb_output.specs.Working.{ShowsWork, shows, IsCutShort, Does, Leads}
-use Rattle.tb_output.specs.Keeping.{KeepsMachine}
-use Rattle.tb_output.specs.Turns.{column_done, wide_done, NoColumn, NoWidePage}
+use Rattle.tb_output.specs.FiringWork.{ShowsWork, shows, IsCutShort, Does, Leads}
+use Rattle.tb_output.specs.MachineFrame.{KeepsMachine}
+use Rattle.tb_output.specs.FiringParts.{column_done, wide_done, NoColumn, NoWidePage}
 use Rattle.tb_output.proofs.StepLaws.WorkSteps.{continues-float_columns, continues-wide_pages}
-use Rattle.tb_output.proofs.Working.WorkingLemmas.{leads-does, leads-on, cut-then, shows-moved}
-use Rattle.tb_output.proofs.Working.StandLemmas.{lists-shown}
-use Rattle.tb_output.proofs.Working.KeepLemmas.{keeps-same, keeps-then}
+use Rattle.tb_output.proofs.FiringWork.WorkingLemmas.{leads-does, leads-on, cut-then, shows-moved}
+use Rattle.tb_output.proofs.FiringWork.StandLemmas.{lists-shown}
+use Rattle.tb_output.proofs.FiringWork.KeepLemmas.{keeps-same, keeps-then}
 use Rattle.tb_output.proofs.Clears.CompanyLemmas.{floats-are, columns-over, columns-turn, pages-over, pages-turn}
 
 -- nothing changed: the machine shows what it showed

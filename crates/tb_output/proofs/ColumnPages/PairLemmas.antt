@@ -8,32 +8,32 @@ use Rattle.tb_pool.specs.Lists.{Lists, IsLive}
 use Rattle.tb_pool.specs.Frame.{IsNoneOf}
 use Rattle.tb_pool.proofs.FrameLemmas.{none-join}
 use Rattle.tb_node.specs.declared.Node.{Node}
-use Rattle.tb_node.specs.Plain.{plain_list}
+use Rattle.tb_node.specs.PlainNodes.{plain_list}
 use Rattle.tb_float.specs.Rooms.{column_height_of}
 use Rattle.tb_column.specs.declared.Column.{Column}
 use Rattle.tb_column.specs.declared.Sheet.{Sheet}
 use Rattle.tb_column.specs.declared.Sheet.TheVariants as sheets
 use Rattle.tb_column.specs.declared.Sent.TheVariants as events
 use Rattle.tb_column.specs.Column.{PlainColumn, two, pair_floats, pair_sheet}
-use Rattle.tb_column.specs.Shown.{column_shown, sheet_shown}
+use Rattle.tb_column.specs.StoredColumns.{column_shown, sheet_shown}
 use Rattle.tb_column.specs.Notes.{AreDistinct}
 use Rattle.tb_column.specs.Page.{IsPageList, IsPageColumn}
-use Rattle.tb_column.specs.Changes.{IsOpened}
+use Rattle.tb_column.specs.ColumnChanges.{IsOpened}
 use Rattle.tb_output.specs.declared.RunFault.{RunFault}
 use Rattle.tb_output.specs.declared.RunFault.TheVariants as faults
 use Rattle.tb_output.specs.State.{Work}
 use Rattle.tb_output.specs.Machine.{MachineView, left_shown, events_shown, machine_lists, left_lists, event_lists, IsPageLeft, IsPageSent, IsMachine}
-use Rattle.tb_output.specs.Working.{ShowsWork, shows, IsCutShort, Does, Continues}
-use Rattle.tb_output.specs.Keeping.{KeepsMachine}
-use Rattle.tb_output.specs.Shipping.{HasShipped, HasNotShipped, without_doubles, without_left, shipped_machine}
-use Rattle.tb_output.specs.Ship
+use Rattle.tb_output.specs.FiringWork.{ShowsWork, shows, IsCutShort, Does, Continues}
+use Rattle.tb_output.specs.MachineFrame.{KeepsMachine}
+use Rattle.tb_output.specs.PageChanges.{HasShipped, HasNotShipped, without_doubles, without_left, shipped_machine}
+use Rattle.tb_output.specs.Pages
 use Rattle.tb_output.proofs.StepLaws.WorkSteps.{continues-same, continues-then, continues-ship, continues-all_wide_pages, continues-fill_double}
-use Rattle.tb_output.proofs.Working.WorkingLemmas.{Fact, does-shown, shown_work, no-memory, cut-then}
-use Rattle.tb_output.proofs.Working.StandLemmas.{machine-live, IsShownBy, column-stands, column-shows}
-use Rattle.tb_output.proofs.Working.ApartLemmas.{apart-swap, distinct-join, fresh-none}
+use Rattle.tb_output.proofs.FiringWork.WorkingLemmas.{Fact, does-shown, shown_work, no-memory, cut-then}
+use Rattle.tb_output.proofs.FiringWork.StandLemmas.{machine-live, IsShownBy, column-stands, column-shows}
+use Rattle.tb_output.proofs.FiringWork.ApartLemmas.{apart-swap, distinct-join, fresh-none}
 use Rattle.tb_output.proofs.ColumnPages.ShipLemmas.{shipped_work, ship-is, full-is, shipped-shows, event_lists-after, last-page}
 use Rattle.tb_output.proofs.ColumnPages.FloatMoves.{opened-shown, opened-keeps}
-use Rattle.tb_output.proofs.Working.KeepLemmas.{keeps-more}
+use Rattle.tb_output.proofs.FiringWork.KeepLemmas.{keeps-more}
 use Rattle.tb_output.proofs.ColumnPages.PuttingOut.{does-moved}
 
 -- the second column is shipped with the first, and the wide floats leave

@@ -7,19 +7,19 @@ use Rattle.tb_pool.proofs.FrameLemmas.{none-back}
 use Rattle.tb_node.specs.declared.Node.{Node}
 use Rattle.tb_column.specs.declared.Column.{Column}
 use Rattle.tb_column.specs.Column.{PlainColumn, PlainSent, one}
-use Rattle.tb_column.specs.Shown.{column_shown}
+use Rattle.tb_column.specs.StoredColumns.{column_shown}
 use Rattle.tb_column.specs.Page.{IsPageColumn}
 use Rattle.tb_output.specs.declared.RunFault.{RunFault}
 use Rattle.tb_output.specs.State.{State, Work, Recorded, output, records_also}
 use Rattle.tb_output.specs.Machine.{MachineView, left_lists, event_lists, machine_lists, IsMachine}
-use Rattle.tb_output.specs.Working.{ShowsWork, shows, IsCutShort, Does}
-use Rattle.tb_output.specs.Keeping.{KeepsMachine}
-use Rattle.tb_output.specs.Shipping.{with_left, with_column_done}
-use Rattle.tb_output.specs.Ship
+use Rattle.tb_output.specs.FiringWork.{ShowsWork, shows, IsCutShort, Does}
+use Rattle.tb_output.specs.MachineFrame.{KeepsMachine}
+use Rattle.tb_output.specs.PageChanges.{with_left, with_column_done}
+use Rattle.tb_output.specs.Pages
 use Rattle.tb_output.proofs.StepLaws.WorkSteps.{continues-after_column}
-use Rattle.tb_output.proofs.Working.WorkingLemmas.{Fact, cut-then, shows-moved}
-use Rattle.tb_output.proofs.Working.StandLemmas.{IsShownBy}
-use Rattle.tb_output.proofs.Working.ApartLemmas.{distinct-back}
+use Rattle.tb_output.proofs.FiringWork.WorkingLemmas.{Fact, cut-then, shows-moved}
+use Rattle.tb_output.proofs.FiringWork.StandLemmas.{IsShownBy}
+use Rattle.tb_output.proofs.FiringWork.ApartLemmas.{distinct-back}
 
 -- ---- the work
 

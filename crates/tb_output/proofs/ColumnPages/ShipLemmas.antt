@@ -13,19 +13,19 @@ use Rattle.tb_column.specs.declared.Sheet.{Sheet}
 use Rattle.tb_column.specs.declared.Sent.{Sent}
 use Rattle.tb_column.specs.declared.Sent.TheVariants as events
 use Rattle.tb_column.specs.Column.{PlainSent, shipped}
-use Rattle.tb_column.specs.Shown.{sheet_shown, sent_shown}
+use Rattle.tb_column.specs.StoredColumns.{sheet_shown, sent_shown}
 use Rattle.tb_column.specs.Notes.{AreDistinct}
 use Rattle.tb_output.specs.declared.RunFault.{RunFault}
 use Rattle.tb_output.specs.declared.RunFault.TheVariants as faults
 use Rattle.tb_output.specs.State.{Work}
 use Rattle.tb_output.specs.Machine.{MachineView, state_shown, events_shown, machine_lists, left_lists, event_lists, sent_lists, sheet_lists, IsPageSheet, IsPageSent, IsMachine}
-use Rattle.tb_output.specs.Working.{ShowsWork, shows, IsCutShort, Does}
-use Rattle.tb_output.specs.Keeping.{AreNoneOf, KeepsMachine}
-use Rattle.tb_output.specs.Shipping.{shipped_machine, HasShipped, HasNotShipped, IsFull}
-use Rattle.tb_output.specs.Ship
+use Rattle.tb_output.specs.FiringWork.{ShowsWork, shows, IsCutShort, Does}
+use Rattle.tb_output.specs.MachineFrame.{AreNoneOf, KeepsMachine}
+use Rattle.tb_output.specs.PageChanges.{shipped_machine, HasShipped, HasNotShipped, IsFull}
+use Rattle.tb_output.specs.Pages
 use Rattle.tb_output.proofs.StepLaws.WorkSteps.{continues-ship}
-use Rattle.tb_output.proofs.Working.WorkingLemmas.{does-shown, shown_work, no-memory}
-use Rattle.tb_output.proofs.Working.ApartLemmas.{apart-swap, distinct-join}
+use Rattle.tb_output.proofs.FiringWork.WorkingLemmas.{does-shown, shown_work, no-memory}
+use Rattle.tb_output.proofs.FiringWork.ApartLemmas.{apart-swap, distinct-join}
 
 -- ---- the work
 

@@ -10,7 +10,7 @@ use Rattle.tb_pool.specs.Lists.{Lists, list_at}
 use Rattle.tb_node.specs.declared.Kind.{Kind}
 use Rattle.tb_node.specs.declared.Kind.TheVariants as kinds
 use Rattle.tb_node.specs.declared.Node.{Node}
-use Rattle.tb_node.specs.Plain.{leaf_of, leaf_shape, shape_of, matter_of, matter_shape, shape_of_kind}
+use Rattle.tb_node.specs.PlainNodes.{leaf_of, leaf_shape, shape_of, matter_of, matter_shape, shape_of_kind}
 use Rattle.tb_node.specs.Fit.{IsDimension, IsExtent, IsSizedNode}
 use Rattle.tb_node.specs.Sums.{size_of, last_depth}
 use Rattle.tb_node.proofs.FitLemmas as fits

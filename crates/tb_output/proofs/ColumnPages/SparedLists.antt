@@ -4,7 +4,7 @@ use Rattle.std.specs.Prelude.{int_lt, not, if◌then◌else◌}
 use Rattle.tb_node.specs.declared.Float.{Float}
 use Rattle.tb_node.specs.declared.Where.{Where}
 use Rattle.tb_node.specs.declared.Where.TheVariants as places
-use Rattle.tb_node.specs.Plain.{PlainNode}
+use Rattle.tb_node.specs.PlainNodes.{PlainNode}
 use Rattle.tb_param.specs.declared.Params.{Params}
 use Rattle.tb_float.proofs.WaitingLemmas.{wide-waits}
 use Rattle.tb_float.specs.Rooms.{column_height_of}
@@ -16,8 +16,8 @@ use Rattle.tb_float.specs.Lists.{FloatLists, IsWaiting, with_floats_of, wide_par
 use Rattle.tb_column.specs.Column.{PlainColumn, PlainSheet, PlainSent, shipped, one, wide, pair_sheet, wide_floats_column}
 use Rattle.tb_output.proofs.Closed.Closings.{never}
 use Rattle.tb_output.specs.State.{State, Work, Recorded, placed, output, sends, records_also, with_floats}
-use Rattle.tb_output.specs.Place
-use Rattle.tb_output.specs.Ship
+use Rattle.tb_output.specs.FloatMoves
+use Rattle.tb_output.specs.Pages
 use Rattle.tb_output.specs.Columns
 use Rattle.tb_output.proofs.NothingLost.StateWeights.{ColumnsFit}
 

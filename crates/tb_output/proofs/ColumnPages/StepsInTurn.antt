@@ -7,11 +7,11 @@ use Rattle.tb_column.specs.Column.{PlainColumn}
 use Rattle.tb_output.specs.declared.RunFault.{RunFault}
 use Rattle.tb_output.specs.State.{Work}
 use Rattle.tb_output.specs.Columns
-use Rattle.tb_output.specs.Ship
+use Rattle.tb_output.specs.Pages
 use Rattle.tb_output.specs.Machine.{MachineView}
-use Rattle.tb_output.specs.Working.{shows, IsCutShort, Does, Continues}
+use Rattle.tb_output.specs.FiringWork.{shows, IsCutShort, Does, Continues}
 use Rattle.tb_output.proofs.StepLaws.WorkSteps.{continues-then, continues-all_float_columns, continues-fill_column, continues-fill_double}
-use Rattle.tb_output.proofs.Working.WorkingLemmas.{Fact, cut-on, cut-then}
+use Rattle.tb_output.proofs.FiringWork.WorkingLemmas.{Fact, cut-on, cut-then}
 use Rattle.tb_output.proofs.ColumnPages.PairLemmas.{pair_shipped}
 
 -- columns of floats, and the floats of the next column

@@ -6,24 +6,24 @@ use Rattle.tb_pool.specs.Lists.{Lists}
 use Rattle.tb_pool.specs.Frame.{IsNoneOf}
 use Rattle.tb_pool.proofs.FrameLemmas.{none-front, none-back}
 use Rattle.tb_node.specs.declared.Node.{Node}
-use Rattle.tb_node.specs.Plain.{plain_list}
+use Rattle.tb_node.specs.PlainNodes.{plain_list}
 use Rattle.tb_column.specs.declared.Column.{Column}
 use Rattle.tb_column.specs.declared.NoteBox.{NoteBox}
 use Rattle.tb_column.specs.Column.{PlainColumn, text_column}
-use Rattle.tb_column.specs.Shown.{column_shown}
+use Rattle.tb_column.specs.StoredColumns.{column_shown}
 use Rattle.tb_column.specs.Notes.{note_lists, notes_shown}
 use Rattle.tb_column.specs.Page.{IsPageColumn}
-use Rattle.tb_column.specs.Changes.{AreJoined, without_text_floats}
+use Rattle.tb_column.specs.ColumnChanges.{AreJoined, without_text_floats}
 use Rattle.tb_output.specs.declared.RunFault.TheVariants as faults
 use Rattle.tb_output.specs.State.{State, Work, footnotes}
 use Rattle.tb_output.specs.Columns
-use Rattle.tb_output.specs.Ship
+use Rattle.tb_output.specs.Pages
 use Rattle.tb_output.specs.Machine.{MachineView, events_shown, machine_lists, IsMachine}
-use Rattle.tb_output.specs.Working.{shows, shows_notes, IsCutShort, Does, Continues}
-use Rattle.tb_output.specs.Keeping.{AreNoneOf, AreTextLists, KeepsMachine}
-use Rattle.tb_output.proofs.Working.WorkingLemmas.{Fact, no-memory}
-use Rattle.tb_output.proofs.Working.StandLemmas.{Stands, IsShownBy, stands-shown, lists-shown, column-stands, column-shows}
-use Rattle.tb_output.proofs.Working.ApartLemmas.{apart-swap}
+use Rattle.tb_output.specs.FiringWork.{shows, shows_notes, IsCutShort, Does, Continues}
+use Rattle.tb_output.specs.MachineFrame.{AreNoneOf, AreTextLists, KeepsMachine}
+use Rattle.tb_output.proofs.FiringWork.WorkingLemmas.{Fact, no-memory}
+use Rattle.tb_output.proofs.FiringWork.StandLemmas.{Stands, IsShownBy, stands-shown, lists-shown, column-stands, column-shows}
+use Rattle.tb_output.proofs.FiringWork.ApartLemmas.{apart-swap}
 use Rattle.tb_output.proofs.ColumnPages.FloatMoves.{pooled-lists, pooled-fields, pooled-state, pooled-machine}
 
 module _ (m now : MachineView) (store mid new : Lists Node) (body : ℕ) (notes : List NoteBox) (is : IsMachine m store) (lists : AreTextLists 8355840 (machine_lists m) store body notes) (joined : AreJoined body notes store mid)

@@ -5,9 +5,9 @@ use Rattle.std.specs.List.{AllByRecursion}
 use Rattle.tb_scaled.specs.Scaled.{eject_penalty, inf_penalty}
 use Rattle.tb_node.specs.declared.What.{What}
 use Rattle.tb_node.specs.declared.What.TheVariants as what
-use Rattle.tb_node.specs.Plain.{hbox, rule, skip, kerned, pen, mark, note, whatsit, PlainKind, plain, ins, act, PlainNode, without_acts}
-use Rattle.tb_break.specs.Prune.{pruned_nodes}
-use Rattle.tb_builder.specs.Fired.{with_spent_break, penalty_at}
+use Rattle.tb_node.specs.PlainNodes.{hbox, rule, skip, kerned, pen, mark, note, whatsit, PlainKind, plain, ins, act, PlainNode, without_acts}
+use Rattle.tb_break.specs.PageTop.{pruned_nodes}
+use Rattle.tb_builder.specs.FiredPages.{with_spent_break, penalty_at}
 use Rattle.tb_builder.proofs.Cutting.CutLemmas.{Calm, AllCalm, acts_of, kind_acts}
 use Rattle.tb_output.specs.Clear
 use Rattle.tb_output.proofs.Closed.Sorts.{Sort, light, blank, real, silent, pause, hold, serve, clear, odd, pen_sort, box_sort, kind_sort, sorts, none, Stands, pen-sorts, CalmSort}

@@ -1,9 +1,9 @@
 -- A box of the galley comes before the next forced break: so it is on the page that breaks there.
 use Rattle.std.proofs.Common.{◌≡◌, ℕ, ℤ, List, [], ◌∷◌, ◌++◌}
 use Rattle.std.specs.List.{AllByRecursion}
-use Rattle.tb_node.specs.Plain.{hbox, rule, skip, kerned, pen, mark, note, whatsit, PlainKind, plain, ins, act, PlainNode, without_acts, without_insertions}
-use Rattle.tb_break.specs.Prune.{pruned_nodes}
-use Rattle.tb_builder.specs.Fired.{penalty_at}
+use Rattle.tb_node.specs.PlainNodes.{hbox, rule, skip, kerned, pen, mark, note, whatsit, PlainKind, plain, ins, act, PlainNode, without_acts, without_insertions}
+use Rattle.tb_break.specs.PageTop.{pruned_nodes}
+use Rattle.tb_builder.specs.FiredPages.{penalty_at}
 use Rattle.tb_builder.proofs.Cutting.CutLemmas.{ActFree, AllFree}
 use Rattle.tb_output.proofs.Closed.Sorts.{Sort, kind_sort, sorts, pen_sort, pen-sorts, CalmSort, Steady, seen_all, Seen, none, one, many, light, blank, real, silent, pause, hold, serve, clear, odd}
 use Rattle.tb_output.proofs.Closed.SortLemmas.{never-one}

@@ -5,7 +5,7 @@ use Rattle.std.specs.List.{AllByRecursion}
 use Rattle.std.proofs.lemmas.Bool.{and_left, both_ways}
 use Rattle.tb_break.proofs.EachLemmas.{all-join}
 use Rattle.tb_node.specs.declared.Float.{Float}
-use Rattle.tb_node.specs.Plain.{PlainNode, made, blank_box}
+use Rattle.tb_node.specs.PlainNodes.{PlainNode, made, blank_box}
 use Rattle.tb_param.specs.declared.Params.{Params}
 use Rattle.tb_float.specs.Lists.{wide_part, wide_waiting}
 use Rattle.tb_float.specs.Rooms.{column_height_of}
@@ -13,7 +13,7 @@ use Rattle.tb_float.proofs.WaitingLemmas.{floats-with, wide-waits}
 use Rattle.tb_fpage.specs.Company.{Choice, company, chosen_floats, left_floats}
 use Rattle.tb_column.specs.Column.{single_floats_column}
 use Rattle.tb_output.specs.State.{State, Work, puts, with_floats, has_floats}
-use Rattle.tb_output.specs.Ship
+use Rattle.tb_output.specs.Pages
 use Rattle.tb_output.specs.Columns
 use Rattle.tb_output.specs.Clear
 use Rattle.tb_output.proofs.StepLaws.FollowLemmas.{waiting_floats, AllWait, Follows, follows-same, follows-then, follows-wide, follows-company, follows-float_columns}

@@ -7,7 +7,7 @@ use Rattle.std.proofs.lemmas.Int.{ints}
 use Rattle.std.proofs.lemmas.Bool.{or_from, both_ways}
 use Rattle.tb_break.proofs.EachLemmas.{all-join}
 use Rattle.tb_node.specs.declared.Float.{Float}
-use Rattle.tb_node.specs.Plain.{PlainNode, made, blank_box}
+use Rattle.tb_node.specs.PlainNodes.{PlainNode, made, blank_box}
 use Rattle.tb_param.specs.declared.Params.{Params}
 use Rattle.tb_param.specs.Release.{has_second}
 use Rattle.tb_float.specs.declared.Part.{Part}
@@ -19,7 +19,7 @@ use Rattle.tb_fpage.specs.Company.{Choice, suits, company, chosen_floats, left_f
 use Rattle.tb_fpage.proofs.FirstLemmas.{none-suits}
 use Rattle.tb_column.specs.Column.{wide, wide_floats_column}
 use Rattle.tb_output.specs.State.{State, Work, puts, with_floats, has_floats}
-use Rattle.tb_output.specs.Ship
+use Rattle.tb_output.specs.Pages
 use Rattle.tb_output.specs.Columns
 use Rattle.tb_output.specs.Clear
 use Rattle.tb_output.proofs.StepLaws.FollowLemmas.{waiting_floats, AllWait, Follows, follows-same, follows-then, follows-wide_pages, follows-float_columns, both-long, part-count, part-current, part-all, all-part}

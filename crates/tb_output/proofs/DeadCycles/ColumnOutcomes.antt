@@ -4,7 +4,7 @@ use Rattle.std.specs.Prelude.{int_lt, not, if◌then◌else◌}
 use Rattle.tb_node.specs.declared.Float.{Float}
 use Rattle.tb_node.specs.declared.Where.{Where}
 use Rattle.tb_node.specs.declared.Where.TheVariants as places
-use Rattle.tb_node.specs.Plain.{PlainNode}
+use Rattle.tb_node.specs.PlainNodes.{PlainNode}
 use Rattle.tb_param.specs.declared.Params.{Params}
 use Rattle.tb_float.specs.declared.Part.{Part}
 use Rattle.tb_float.specs.declared.Part.TheVariants as parts
@@ -16,8 +16,8 @@ use Rattle.tb_fpage.specs.Company.{Choice, company, chosen_floats, left_floats}
 use Rattle.tb_area.specs.Area
 use Rattle.tb_column.specs.Column.{PlainColumn, PlainSheet, shipped, one, pair_sheet, text_column, single_floats_column}
 use Rattle.tb_output.specs.State.{State, Work, Recorded, placed, output, records_also, with_floats, footnotes}
-use Rattle.tb_output.specs.Place
-use Rattle.tb_output.specs.Ship
+use Rattle.tb_output.specs.FloatMoves
+use Rattle.tb_output.specs.Pages
 use Rattle.tb_output.specs.Columns
 use Rattle.tb_output.proofs.StepLaws.FollowLemmas.{waiting_floats, AllWait, Follows, follows-then, follows-undoubled, follows-wide_pages, follows-double, follows-next, follows-put_out, follows-company, follows-float_columns, follows-pair_rest}
 

@@ -7,9 +7,9 @@ use Rattle.std.proofs.lemmas.List.{append_assoc}
 use Rattle.std.proofs.lemmas.Bool.{or_left, or_right, or_from}
 use Rattle.tb_scaled.specs.Scaled.{eject_penalty}
 use Rattle.tb_node.specs.declared.Float.{Float}
-use Rattle.tb_node.specs.Plain.{PlainKind, plain, ins, act, PlainNode, made, blank_box, whatsit, pen}
+use Rattle.tb_node.specs.PlainNodes.{PlainKind, plain, ins, act, PlainNode, made, blank_box, whatsit, pen}
 use Rattle.tb_param.specs.declared.Params.{Params}
-use Rattle.tb_builder.specs.Fired.{Boxed, Fired, box_content}
+use Rattle.tb_builder.specs.FiredPages.{Boxed, Fired, box_content}
 use Rattle.tb_builder.proofs.ForLaws.FittingFired.{Fitted}
 use Rattle.tb_builder.proofs.ForLaws.PausedPages.{Paused}
 use Rattle.tb_insert.specs.declared.Class.{Class}
@@ -18,7 +18,7 @@ use Rattle.tb_output.specs.State.{State, Work, footnotes, notes_in, with_notes}
 use Rattle.tb_output.specs.Columns
 use Rattle.tb_output.specs.Clear
 use Rattle.tb_output.specs.Text
-use Rattle.tb_output.specs.Out
+use Rattle.tb_output.specs.Output
 use Rattle.tb_output.proofs.Closed.Sorts.{Sort, hold, serve, clear, odd, pen_sort, kind_sort, sorts}
 use Rattle.tb_output.proofs.Closed.SortLemmas.{sorts-append}
 use Rattle.tb_output.proofs.DeadCycles.AgainLemmas.{Again, Idle, BreakAgain, again-idle}

@@ -4,15 +4,15 @@ use Rattle.std.specs.Prelude.{int_le}
 use Rattle.std.specs.List.{AllByRecursion}
 use Rattle.tb_scaled.specs.Scaled.{eject_penalty}
 use Rattle.tb_scaled.specs.Glue.{filling_glue}
-use Rattle.tb_node.specs.Plain.{PlainNode, made, skip}
+use Rattle.tb_node.specs.PlainNodes.{PlainNode, made, skip}
 use Rattle.tb_param.specs.declared.Params.{Params}
-use Rattle.tb_builder.specs.Fired.{Fired}
+use Rattle.tb_builder.specs.FiredPages.{Fired}
 use Rattle.tb_float.specs.Lists.{FloatLists}
 use Rattle.tb_column.specs.Column.{Notes, PlainColumn, text_column}
 use Rattle.tb_output.specs.State.{State, Work, begun, puts, footnotes}
 use Rattle.tb_output.specs.Columns
 use Rattle.tb_output.specs.Clear
-use Rattle.tb_output.specs.Out
+use Rattle.tb_output.specs.Output
 use Rattle.tb_output.proofs.Closed.Sorts.{Sort, clear, pen_sort, sorts}
 use Rattle.tb_output.proofs.DeadCycles.AgainLemmas.{Again, Idle, BreakAgain, left_after, again-idle, again-clear}
 use Rattle.tb_output.proofs.DeadCycles.WaitCosts.{sort_cost, wait_cost}

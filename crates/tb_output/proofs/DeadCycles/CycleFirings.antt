@@ -4,9 +4,9 @@ use Rattle.std.specs.Prelude.{int_le, if◌then◌else◌}
 use Rattle.std.specs.List.{AllByRecursion}
 use Rattle.tb_scaled.specs.Scaled.{eject_penalty}
 use Rattle.tb_node.specs.declared.Float.{Float}
-use Rattle.tb_node.specs.Plain.{PlainNode}
+use Rattle.tb_node.specs.PlainNodes.{PlainNode}
 use Rattle.tb_param.specs.declared.Params.{Params}
-use Rattle.tb_builder.specs.Fired.{Fired}
+use Rattle.tb_builder.specs.FiredPages.{Fired}
 use Rattle.tb_builder.proofs.ForLaws.FittingFired.{Fitted}
 use Rattle.tb_param.specs.Release.{has_second}
 use Rattle.tb_float.specs.declared.Part.TheVariants as parts
@@ -14,7 +14,7 @@ use Rattle.tb_float.specs.Lists.{FloatLists, wide_part}
 use Rattle.tb_output.specs.State.{State, Work, begun, notes_in}
 use Rattle.tb_output.specs.Columns
 use Rattle.tb_output.specs.Text
-use Rattle.tb_output.specs.Out
+use Rattle.tb_output.specs.Output
 use Rattle.tb_output.proofs.Closed.Sorts.{Sort, hold, serve, pen_sort, sorts}
 use Rattle.tb_output.proofs.DeadCycles.AgainLemmas.{Again, Idle, BreakAgain, again-idle}
 use Rattle.tb_output.proofs.DeadCycles.WaitCosts.{sort_cost, wait_cost}

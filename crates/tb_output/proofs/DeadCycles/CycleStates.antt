@@ -6,7 +6,7 @@ use Rattle.std.proofs.lemmas.Int.{ints}
 use Rattle.std.proofs.lemmas.List.{append-nil}
 use Rattle.std.proofs.lemmas.Bool.{and_right}
 use Rattle.tb_scaled.specs.Scaled.{eject_penalty, max_dimen}
-use Rattle.tb_node.specs.Plain.{PlainNode, made, blank_box, whatsit, pen}
+use Rattle.tb_node.specs.PlainNodes.{PlainNode, made, blank_box, whatsit, pen}
 use Rattle.tb_param.specs.declared.Params.{Params}
 use Rattle.tb_param.specs.Release.{has_second}
 use Rattle.tb_float.specs.Lists.{FloatLists, wide_part}
@@ -16,7 +16,7 @@ use Rattle.tb_column.specs.declared.Warn.TheVariants as warnings
 use Rattle.tb_builder.proofs.ForLaws.FittingFired.{Fitted}
 use Rattle.tb_builder.proofs.ForLaws.PausedPages.{Paused}
 use Rattle.tb_output.specs.State.{State, Work, footnotes}
-use Rattle.tb_output.specs.Out
+use Rattle.tb_output.specs.Output
 use Rattle.tb_output.proofs.Closed.Sorts.{sorts}
 use Rattle.tb_output.proofs.DeadCycles.AgainLemmas.{Again, Idle}
 use Rattle.tb_output.proofs.DeadCycles.WaitCosts.{wait_cost}

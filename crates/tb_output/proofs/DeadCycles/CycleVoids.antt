@@ -6,16 +6,16 @@ use Rattle.std.proofs.lemmas.List.{append_assoc, append-nil}
 use Rattle.std.proofs.lemmas.Bool.{or_parts, or_from}
 use Rattle.tb_scaled.specs.Scaled.{eject_penalty}
 use Rattle.tb_node.specs.declared.Float.{Float}
-use Rattle.tb_node.specs.Plain.{PlainNode, made, blank_box, whatsit, pen}
+use Rattle.tb_node.specs.PlainNodes.{PlainNode, made, blank_box, whatsit, pen}
 use Rattle.tb_param.specs.declared.Params.{Params}
-use Rattle.tb_builder.specs.Fired.{Fired}
+use Rattle.tb_builder.specs.FiredPages.{Fired}
 use Rattle.tb_builder.proofs.ForLaws.FittingFired.{Fitted}
 use Rattle.tb_builder.proofs.ForLaws.PausedPages.{Paused}
 use Rattle.tb_float.specs.Lists.{FloatLists}
 use Rattle.tb_column.specs.Column.{Notes}
 use Rattle.tb_output.specs.State.{State, Work, begun, footnotes, has_floats}
 use Rattle.tb_output.specs.Clear
-use Rattle.tb_output.specs.Out
+use Rattle.tb_output.specs.Output
 use Rattle.tb_output.proofs.Closed.Sorts.{Sort, clear, sorts}
 use Rattle.tb_output.proofs.Closed.SortLemmas.{sorts-append}
 use Rattle.tb_output.proofs.DeadCycles.AgainLemmas.{Again, Idle, left_after, again-idle, again-clear}

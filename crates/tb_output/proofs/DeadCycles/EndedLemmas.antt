@@ -4,10 +4,10 @@ use Rattle.std.specs.Prelude.{int_le, ◌&&◌, ◌||◌, if◌then◌else◌}
 use Rattle.std.proofs.lemmas.Int.{ints}
 use Rattle.tb_scaled.specs.Scaled.{is_zero, eject_penalty}
 use Rattle.tb_node.specs.declared.What.TheVariants as what
-use Rattle.tb_node.specs.Plain.{hbox, rule, skip, kerned, pen, mark, note, whatsit, PlainKind, plain, ins, act, PlainNode, without_acts}
-use Rattle.tb_break.specs.Prune.{pruned_nodes}
-use Rattle.tb_builder.specs.Fired.{with_spent_break}
-use Rattle.tb_output.specs.Out.{is_int, clear_penalty, par_penalty, vert_penalty, hold_penalty}
+use Rattle.tb_node.specs.PlainNodes.{hbox, rule, skip, kerned, pen, mark, note, whatsit, PlainKind, plain, ins, act, PlainNode, without_acts}
+use Rattle.tb_break.specs.PageTop.{pruned_nodes}
+use Rattle.tb_builder.specs.FiredPages.{with_spent_break}
+use Rattle.tb_output.specs.Output.{is_int, clear_penalty, par_penalty, vert_penalty, hold_penalty}
 use Rattle.tb_output.proofs.Closed.Sorts.{light, pause, hold, serve, clear, odd, pen_sort}
 use Rattle.tb_output.proofs.DeadCycles.WaitCosts.{sort_cost, kind_cost, wait_cost}
 

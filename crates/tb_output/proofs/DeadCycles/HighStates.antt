@@ -1,9 +1,9 @@
 -- How many firings without a page a state can still bring, if the top skip is higher than a page.
 use Rattle.std.proofs.Common.{◌≡◌, sym, ap, subst, ℕ, ◌+◌, ◌*◌, ◌≤◌, Bool, true, false, List, ◌++◌, arith}
 use Rattle.std.specs.List.{AllByRecursion}
-use Rattle.tb_node.specs.Plain.{PlainNode}
+use Rattle.tb_node.specs.PlainNodes.{PlainNode}
 use Rattle.tb_param.specs.declared.Params.{Params}
-use Rattle.tb_builder.specs.Fired.{Fired}
+use Rattle.tb_builder.specs.FiredPages.{Fired}
 use Rattle.tb_builder.proofs.ForLaws.PausedPages.{Paused}
 use Rattle.tb_output.specs.State.{State, Work}
 use Rattle.tb_output.proofs.Closed.Sorts.{sorts}

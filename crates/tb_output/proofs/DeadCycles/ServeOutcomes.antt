@@ -9,8 +9,8 @@ use Rattle.tb_node.specs.declared.Float.{Float}
 use Rattle.tb_node.specs.declared.Margin.{Margin}
 use Rattle.tb_node.specs.declared.Where.{Where}
 use Rattle.tb_node.specs.declared.Where.TheVariants as places
-use Rattle.tb_node.specs.Plain.{pen, plain, PlainNode}
-use Rattle.tb_break.specs.Legal.{last_or}
+use Rattle.tb_node.specs.PlainNodes.{pen, plain, PlainNode}
+use Rattle.tb_break.specs.Places.{last_or}
 use Rattle.tb_param.specs.declared.Params.{Params}
 use Rattle.tb_float.specs.declared.Entry.{Entry}
 use Rattle.tb_float.specs.declared.Entry.TheVariants as entries
@@ -22,7 +22,7 @@ use Rattle.tb_margin.specs.declared.Placed.{Placed}
 use Rattle.tb_column.specs.Column.{Notes, warned, PlainSent}
 use Rattle.tb_column.specs.declared.Warn.TheVariants as warnings
 use Rattle.tb_output.specs.State.{Work, Recorded, placed, puts, sends, records_also, with_floats, footnotes}
-use Rattle.tb_output.specs.Place
+use Rattle.tb_output.specs.FloatMoves
 use Rattle.tb_output.specs.Columns
 use Rattle.tb_output.specs.Text
 use Rattle.tb_output.proofs.StepLaws.FollowLemmas.{waiting_floats, AllWait, joined-count, joined-all, joined-current}

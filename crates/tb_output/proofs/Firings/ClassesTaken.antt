@@ -11,15 +11,15 @@ use Rattle.tb_pool.specs.Frame.{IsNoneOf, OnlyChanged}
 use Rattle.tb_pool.proofs.FrameLemmas.{none-join, frame-then}
 use Rattle.tb_node.specs.declared.Node.{Node}
 use Rattle.tb_node.specs.Fit.{IsSizedLeaf}
-use Rattle.tb_node.specs.Plain.{Leaf, leaf_of}
+use Rattle.tb_node.specs.PlainNodes.{Leaf, leaf_of}
 use Rattle.tb_insert.specs.declared.Class.{Class}
 use Rattle.tb_builder.specs.declared.Builder.{Builder}
-use Rattle.tb_builder.specs.Fired.{Boxed, content_of, box_content}
+use Rattle.tb_builder.specs.FiredPages.{Boxed, content_of, box_content}
 use Rattle.tb_builder.specs.Contents.{Contents, contents_of, box_count}
-use Rattle.tb_builder.specs.Kept.{AreBoxesOf}
-use Rattle.tb_builder.specs.Handed.{NoPage, with_void}
-use Rattle.tb_builder.specs.Owned.{has_class}
-use Rattle.tb_builder.specs.Running.{IsSound}
+use Rattle.tb_builder.specs.SizedContents.{AreBoxesOf}
+use Rattle.tb_builder.specs.Contributions.{NoPage, with_void}
+use Rattle.tb_builder.specs.Ownership.{has_class}
+use Rattle.tb_builder.specs.Courses.{IsSound}
 use Rattle.tb_builder.proofs.Ownership.StoreSized.{leaves-back, boxes_of}
 use Rattle.tb_column.specs.declared.NoteBox.{NoteBox}
 use Rattle.tb_column.specs.Column.{Notes}
@@ -30,8 +30,8 @@ use Rattle.tb_output.specs.State.{with_notes, notes_in}
 use Rattle.tb_output.specs.Machine.{AreClassesFrom}
 use Rattle.tb_output.specs.Firing.{builder_lists, AreSizedBoxes}
 use Rattle.tb_output.specs.Notes.{IsLeafList, AreOwnLists, BoxesTaken, AreKnownNotes, NotesTaken}
-use Rattle.tb_output.proofs.Working.StandLemmas.{Stands, list-same, live-same, frame-stands, frame-free}
-use Rattle.tb_output.proofs.Working.ApartLemmas.{distinct-join, live-apart}
+use Rattle.tb_output.proofs.FiringWork.StandLemmas.{Stands, list-same, live-same, frame-stands, frame-free}
+use Rattle.tb_output.proofs.FiringWork.ApartLemmas.{distinct-join, live-apart}
 use Rattle.tb_output.proofs.StepLaws.ClassBoxes.{own-content, later-notes}
 use Rattle.tb_output.proofs.Firings.VoidBoxes.{all-voids, voids-after, contents-other, notes-after, differ-before, known-at}
 

@@ -14,23 +14,23 @@ use Rattle.tb_node.specs.declared.Node.{Node}
 use Rattle.tb_node.specs.declared.Kind.{Kind}
 use Rattle.tb_node.specs.declared.Kind.TheVariants as kinds
 use Rattle.tb_node.specs.Fit.{IsSizedNode}
-use Rattle.tb_node.specs.Plain.{plain_list}
+use Rattle.tb_node.specs.PlainNodes.{plain_list}
 use Rattle.tb_builder.specs.declared.Builder.{Builder}
 use Rattle.tb_builder.specs.declared.Page.{Page}
 use Rattle.tb_builder.specs.Contents.{Contents, contents_of, box_count}
-use Rattle.tb_builder.specs.Owned.{is_plain, AllPlain, HoldPlain, AllKnown, AllLive, inner_ids}
-use Rattle.tb_builder.specs.Running.{IsSound}
-use Rattle.tb_builder.specs.Handed.{NoPage}
+use Rattle.tb_builder.specs.Ownership.{is_plain, AllPlain, HoldPlain, AllKnown, AllLive, inner_ids}
+use Rattle.tb_builder.specs.Courses.{IsSound}
+use Rattle.tb_builder.specs.Contributions.{NoPage}
 use Rattle.tb_builder.proofs.Ownership.OwnedLemmas.{Apart, differ-append}
 use Rattle.tb_column.specs.Page.{is_leaf_kind, AreLeaves, IsPageList}
 use Rattle.tb_column.specs.Notes.{AreDistinct}
 use Rattle.tb_output.specs.Machine.{MachineView, machine_lists, IsMachine}
-use Rattle.tb_output.specs.Keeping.{AreNoneOf, IsBack, back_lists, KeepsBack}
+use Rattle.tb_output.specs.MachineFrame.{AreNoneOf, IsBack, back_lists, KeepsBack}
 use Rattle.tb_output.specs.Firing.{builder_lists, fired_in, AreSizedBoxes, CanFire, CanGoBack, KeepsAll, KeepsServing}
-use Rattle.tb_output.proofs.Working.StandLemmas.{Stands, list-same, live-same, list-stands, nodes-stand, machine-live, IsShownBy, stands-shown}
-use Rattle.tb_output.proofs.Working.ApartLemmas
-use Rattle.tb_output.proofs.Working.KeepLemmas.{fields-then}
-use Rattle.tb_output.proofs.Working.BuilderLemmas.{live-all, beside-owned, beside-sound, beside-contents, beside-free}
+use Rattle.tb_output.proofs.FiringWork.StandLemmas.{Stands, list-same, live-same, list-stands, nodes-stand, machine-live, IsShownBy, stands-shown}
+use Rattle.tb_output.proofs.FiringWork.ApartLemmas
+use Rattle.tb_output.proofs.FiringWork.KeepLemmas.{fields-then}
+use Rattle.tb_output.proofs.FiringWork.BuilderLemmas.{live-all, beside-owned, beside-sound, beside-contents, beside-free}
 
 -- ---- the goal is set after the routine worked
 

@@ -7,7 +7,7 @@ use Rattle.std.proofs.lemmas.List.Elements.{All-from_recursion}
 use Rattle.tb_builder.specs.Pageable.{IsGoal}
 use Rattle.tb_pool.specs.Lists.{Lists, list_at}
 use Rattle.tb_node.specs.declared.Node.{Node}
-use Rattle.tb_node.specs.Plain.{plain_of}
+use Rattle.tb_node.specs.PlainNodes.{plain_of}
 use Rattle.tb_node.specs.Fit.{IsSizedNode}
 use Rattle.tb_column.specs.declared.Warn.TheVariants as warnings
 use Rattle.tb_column.specs.declared.Sent.TheVariants as events
@@ -16,16 +16,16 @@ use Rattle.tb_scaled.specs.Scaled.{is_zero, max_dimen}
 use Rattle.tb_param.specs.declared.Params.{Params}
 use Rattle.tb_float.specs.Rooms.{column_room_of}
 use Rattle.tb_output.specs.State.{State, Work}
-use Rattle.tb_output.specs.Out.{hold_penalty, is_int, blank_column, is_crowded, leave_column, with_goal, goal_by, next_goal}
-use Rattle.tb_output.specs.PutBack.{blank_list}
+use Rattle.tb_output.specs.Output.{hold_penalty, is_int, blank_column, is_crowded, leave_column, with_goal, goal_by, next_goal}
+use Rattle.tb_output.specs.BackList.{blank_list}
 use Rattle.tb_output.specs.Machine.{MachineView, IsMachine}
-use Rattle.tb_output.specs.Shipping.{with_warning}
-use Rattle.tb_output.specs.Working.{ShowsWork, ShowsBack, shows_back, Does}
-use Rattle.tb_output.specs.Keeping.{HasGrown, IsBack, KeepsBack}
-use Rattle.tb_output.proofs.Working.KeepLemmas.{MayGoBack, grown-machine, grown-shows, grown-keeps, keeps-back_then, keeps-back_alone}
-use Rattle.tb_output.proofs.Working.ApartLemmas.{apart-none}
+use Rattle.tb_output.specs.PageChanges.{with_warning}
+use Rattle.tb_output.specs.FiringWork.{ShowsWork, ShowsBack, shows_back, Does}
+use Rattle.tb_output.specs.MachineFrame.{HasGrown, IsBack, KeepsBack}
+use Rattle.tb_output.proofs.FiringWork.KeepLemmas.{MayGoBack, grown-machine, grown-shows, grown-keeps, keeps-back_then, keeps-back_alone}
+use Rattle.tb_output.proofs.FiringWork.ApartLemmas.{apart-none}
 use Rattle.tb_output.proofs.Acts.WarnLemmas.{shown-joined, warned-back}
-use Rattle.tb_output.proofs.Working.WorkingLemmas.{does-shown_with}
+use Rattle.tb_output.proofs.FiringWork.WorkingLemmas.{does-shown_with}
 
 -- ---- a column that stays blank
 

@@ -6,15 +6,15 @@ use Rattle.tb_pool.specs.Lists.{Lists}
 use Rattle.tb_pool.specs.Frame.{IsNoneOf}
 use Rattle.tb_pool.proofs.MapLemmas.{get-remove_other}
 use Rattle.tb_node.specs.declared.Node.{Node}
-use Rattle.tb_node.specs.Plain.{plain_list}
+use Rattle.tb_node.specs.PlainNodes.{plain_list}
 use Rattle.tb_column.specs.Page.{IsPageList}
-use Rattle.tb_output.specs.Out.{hold}
+use Rattle.tb_output.specs.Output.{hold}
 use Rattle.tb_output.specs.Machine.{MachineView, left_lists, event_lists, machine_lists, IsMachine}
-use Rattle.tb_output.specs.Shipping.{with_held}
-use Rattle.tb_output.specs.Working.{shows, Does}
-use Rattle.tb_output.specs.Keeping.{KeepsMachine}
-use Rattle.tb_output.proofs.Working.StandLemmas.{Stands, IsShownBy, stands-shown}
-use Rattle.tb_output.proofs.Working.WorkingLemmas.{does-shown}
+use Rattle.tb_output.specs.PageChanges.{with_held}
+use Rattle.tb_output.specs.FiringWork.{shows, Does}
+use Rattle.tb_output.specs.MachineFrame.{KeepsMachine}
+use Rattle.tb_output.proofs.FiringWork.StandLemmas.{Stands, IsShownBy, stands-shown}
+use Rattle.tb_output.proofs.FiringWork.WorkingLemmas.{does-shown}
 
 module _ (body : ℕ) (m : MachineView) (store new : Lists Node) (is : IsMachine m store) (page : IsPageList store body) (apart : IsNoneOf body (machine_lists m)) (dropped : new.lists ≡ remove store.lists m.held_page) where
   held-machine : IsMachine (with_held body m) store

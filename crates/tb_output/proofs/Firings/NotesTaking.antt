@@ -10,14 +10,14 @@ use Rattle.tb_pool.proofs.CallerLemmas.{get_other}
 use Rattle.tb_node.specs.declared.Node.{Node}
 use Rattle.tb_node.specs.declared.Kind.{Kind}
 use Rattle.tb_node.specs.declared.Kind.TheVariants as kinds
-use Rattle.tb_node.specs.Plain.{Leaf, leaf_of}
+use Rattle.tb_node.specs.PlainNodes.{Leaf, leaf_of}
 use Rattle.tb_insert.specs.declared.Class.{Class}
 use Rattle.tb_builder.specs.declared.Builder.{Builder}
-use Rattle.tb_builder.specs.Fired.{content_of, box_content}
+use Rattle.tb_builder.specs.FiredPages.{content_of, box_content}
 use Rattle.tb_builder.specs.Contents.{Contents, contents_of}
-use Rattle.tb_builder.specs.Owned.{Lacks, ids_of, owned, is_plain, AllPlain}
-use Rattle.tb_builder.specs.Running.{IsSound}
-use Rattle.tb_builder.specs.Handed.{NoPage, with_void, Taken}
+use Rattle.tb_builder.specs.Ownership.{Lacks, ids_of, owned, is_plain, AllPlain}
+use Rattle.tb_builder.specs.Courses.{IsSound}
+use Rattle.tb_builder.specs.Contributions.{NoPage, with_void, Taken}
 use Rattle.tb_builder.proofs.Ownership.FrameLemmas.{opened_same, opened_empty, opened_apart, frame_owned, frame_contents, frame_sound}
 use Rattle.tb_builder.proofs.Ownership.StoreSized.{boxes_of}
 use Rattle.tb_column.specs.declared.NoteBox.{NoteBox}
@@ -26,8 +26,8 @@ use Rattle.tb_column.specs.Notes.{note_shown}
 use Rattle.tb_output.specs.State.{with_notes}
 use Rattle.tb_output.specs.Firing.{builder_lists}
 use Rattle.tb_output.specs.Notes.{IsLeafList, AreOwnLists, BoxesTaken}
-use Rattle.tb_output.proofs.Working.ApartLemmas.{apart-none, none-lacks, lacks-none}
-use Rattle.tb_output.proofs.Working.BuilderLemmas.{beside-owned, beside-sound}
+use Rattle.tb_output.proofs.FiringWork.ApartLemmas.{apart-none, none-lacks, lacks-none}
+use Rattle.tb_output.proofs.FiringWork.BuilderLemmas.{beside-owned, beside-sound}
 use Rattle.tb_output.proofs.Firings.VoidBoxes.{void-same}
 
 -- ---- no list was opened

@@ -4,28 +4,28 @@ use Rattle.std.specs.Prelude.{◌<ℤ◌}
 use Rattle.tb_pool.specs.Lists.{Lists, list_at}
 use Rattle.tb_pool.specs.Frame.{IsNoneOf, OnlyChanged}
 use Rattle.tb_node.specs.declared.Node.{Node}
-use Rattle.tb_node.specs.Plain.{plain_list}
+use Rattle.tb_node.specs.PlainNodes.{plain_list}
 use Rattle.tb_builder.specs.declared.Builder.{Builder}
 use Rattle.tb_builder.specs.declared.Page.{Page}
-use Rattle.tb_builder.specs.Fired.{Boxed}
+use Rattle.tb_builder.specs.FiredPages.{Boxed}
 use Rattle.tb_builder.specs.Contents.{Contents, contents_of}
-use Rattle.tb_builder.specs.Owned.{inner_ids}
-use Rattle.tb_builder.specs.Running.{IsSound}
+use Rattle.tb_builder.specs.Ownership.{inner_ids}
+use Rattle.tb_builder.specs.Courses.{IsSound}
 use Rattle.tb_column.specs.declared.NoteBox.{NoteBox}
 use Rattle.tb_column.specs.Notes.{note_lists, note_count}
 use Rattle.tb_output.specs.declared.RunFault.{RunFault}
 use Rattle.tb_output.specs.declared.RunFault.TheVariants as faults
-use Rattle.tb_output.specs.Out.{hold_penalty, is_int, hold, output_by}
+use Rattle.tb_output.specs.Output.{hold_penalty, is_int, hold, output_by}
 use Rattle.tb_output.specs.Machine.{MachineView, machine_lists, IsMachine}
-use Rattle.tb_output.specs.Working.{shows, shows_back, shows_page, shows_all, IsCutShort, Does}
-use Rattle.tb_output.specs.Keeping.{AreNoneOf, AreTextLists, IsBack, back_lists, KeepsMachine, KeepsBack}
+use Rattle.tb_output.specs.FiringWork.{shows, shows_back, shows_page, shows_all, IsCutShort, Does}
+use Rattle.tb_output.specs.MachineFrame.{AreNoneOf, AreTextLists, IsBack, back_lists, KeepsMachine, KeepsBack}
 use Rattle.tb_output.specs.Firing.{builder_lists, fired_in, CanFire, KeepsServing}
 use Rattle.tb_output.specs.Notes.{NotesTaken}
-use Rattle.tb_output.specs.Turns.{page_output}
-use Rattle.tb_output.proofs.Working.StandLemmas.{list-same, machine-live, frame-stands, IsShownBy}
-use Rattle.tb_output.proofs.Working.ApartLemmas.{apart-none, apart-swap}
-use Rattle.tb_output.proofs.Working.KeepLemmas.{back-live, beside-shows, keeps-beside, keeps-back_same}
-use Rattle.tb_output.proofs.Working.WorkingLemmas.{no-memory_given}
+use Rattle.tb_output.specs.FiringParts.{page_output}
+use Rattle.tb_output.proofs.FiringWork.StandLemmas.{list-same, machine-live, frame-stands, IsShownBy}
+use Rattle.tb_output.proofs.FiringWork.ApartLemmas.{apart-none, apart-swap}
+use Rattle.tb_output.proofs.FiringWork.KeepLemmas.{back-live, beside-shows, keeps-beside, keeps-back_same}
+use Rattle.tb_output.proofs.FiringWork.WorkingLemmas.{no-memory_given}
 use Rattle.tb_output.proofs.StepLaws.WorkSteps.{continues-output_by}
 use Rattle.tb_output.proofs.Firings.TakenLists.{text-new, body-shows, text-free, text-few, text-lists}
 use Rattle.tb_output.proofs.Firings.ServingLemmas.{taken-machine, taken-lists, taken-list, taken-shows, taken-back, served-contents, served-keeps}

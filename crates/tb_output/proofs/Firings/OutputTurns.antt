@@ -4,7 +4,7 @@ use Rattle.std.specs.Prelude.{not, int_le, if◌then◌else◌}
 use Rattle.tb_scaled.specs.Scaled.{eject_penalty}
 use Rattle.tb_pool.specs.Lists.{Lists}
 use Rattle.tb_node.specs.declared.Node.{Node}
-use Rattle.tb_node.specs.Plain.{PlainNode, plain_list}
+use Rattle.tb_node.specs.PlainNodes.{PlainNode, plain_list}
 use Rattle.tb_param.specs.declared.Params.{Params}
 use Rattle.tb_column.specs.declared.NoteBox.{NoteBox}
 use Rattle.tb_column.specs.Column.{text_column}
@@ -14,15 +14,15 @@ use Rattle.tb_output.specs.State.{Work, footnotes}
 use Rattle.tb_output.specs.Columns
 use Rattle.tb_output.specs.Clear
 use Rattle.tb_output.specs.Text
-use Rattle.tb_output.specs.Out.{clear_penalty, par_penalty, is_int}
+use Rattle.tb_output.specs.Output.{clear_penalty, par_penalty, is_int}
 use Rattle.tb_output.specs.Machine.{MachineView, machine_lists}
-use Rattle.tb_output.specs.Working.{shows, shows_back, shows_notes, shows_page, IsCutShort, Does}
-use Rattle.tb_output.specs.Keeping.{AreNoneOf, AreTextLists, IsBack, back_lists, KeepsMachine, KeepsBack}
-use Rattle.tb_output.specs.Turns.{page_output}
-use Rattle.tb_output.proofs.Working.ApartLemmas.{apart-front, apart-back, apart-swap}
-use Rattle.tb_output.proofs.Working.KeepLemmas.{beside-shows, keeps-beside}
+use Rattle.tb_output.specs.FiringWork.{shows, shows_back, shows_notes, shows_page, IsCutShort, Does}
+use Rattle.tb_output.specs.MachineFrame.{AreNoneOf, AreTextLists, IsBack, back_lists, KeepsMachine, KeepsBack}
+use Rattle.tb_output.specs.FiringParts.{page_output}
+use Rattle.tb_output.proofs.FiringWork.ApartLemmas.{apart-front, apart-back, apart-swap}
+use Rattle.tb_output.proofs.FiringWork.KeepLemmas.{beside-shows, keeps-beside}
 use Rattle.tb_output.proofs.StepLaws.ColumnSteps.{no_law, stays, put_out-step, float_columns-step, place_next-step}
-use Rattle.tb_output.proofs.Working.WorkingLemmas.{Fact}
+use Rattle.tb_output.proofs.FiringWork.WorkingLemmas.{Fact}
 
 -- the lists of a page are apart from some of the lists that they are apart from
 pub lists-fewer : (more others : List ℕ) (store : Lists Node) (l : ℕ) (ns : List NoteBox) → AreTextLists 8355839 (more ++ others) store l ns → AreTextLists 8355840 others store l ns

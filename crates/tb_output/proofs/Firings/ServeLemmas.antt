@@ -4,25 +4,25 @@ use Rattle.std.specs.FinMap.{get}
 use Rattle.tb_pool.specs.Lists.{Lists, list_at, with_list}
 use Rattle.tb_pool.proofs.FrameLemmas.{none-front, none-back, none-join}
 use Rattle.tb_node.specs.declared.Node.{Node}
-use Rattle.tb_node.specs.Plain.{plain_of}
+use Rattle.tb_node.specs.PlainNodes.{plain_of}
 use Rattle.tb_builder.specs.declared.Builder.{Builder}
 use Rattle.tb_builder.specs.declared.Page.{Page}
-use Rattle.tb_builder.specs.Fired.{Fired}
+use Rattle.tb_builder.specs.FiredPages.{Fired}
 use Rattle.tb_builder.specs.Contents.{Contents, contents_of}
-use Rattle.tb_builder.specs.Running.{IsSound}
-use Rattle.tb_builder.specs.Handed.{NoPage}
+use Rattle.tb_builder.specs.Courses.{IsSound}
+use Rattle.tb_builder.specs.Contributions.{NoPage}
 use Rattle.tb_column.specs.Column.{PlainSent}
 use Rattle.tb_output.specs.declared.RunFault.{RunFault}
 use Rattle.tb_output.specs.declared.RunFault.TheVariants as faults
 use Rattle.tb_output.specs.State.{Work}
-use Rattle.tb_output.specs.Out.{output_by, next_goal}
+use Rattle.tb_output.specs.Output.{output_by, next_goal}
 use Rattle.tb_output.specs.Machine.{MachineView, machine_lists, IsMachine}
-use Rattle.tb_output.specs.Working.{shows_back, shows_boxes, shows_all, IsCutShort, Does}
-use Rattle.tb_output.specs.Keeping.{KeepsBack}
+use Rattle.tb_output.specs.FiringWork.{shows_back, shows_boxes, shows_all, IsCutShort, Does}
+use Rattle.tb_output.specs.MachineFrame.{KeepsBack}
 use Rattle.tb_output.specs.Firing.{builder_lists, fired_in, CanFire, CanGoBack, KeepsAll, KeepsServing}
-use Rattle.tb_output.specs.Turns.{served}
-use Rattle.tb_output.proofs.Working.StandLemmas.{lists-shown}
-use Rattle.tb_output.proofs.Working.WorkingLemmas.{does-given, cut-then, shows-moved, no-memory_given}
+use Rattle.tb_output.specs.FiringParts.{served}
+use Rattle.tb_output.proofs.FiringWork.StandLemmas.{lists-shown}
+use Rattle.tb_output.proofs.FiringWork.WorkingLemmas.{does-given, cut-then, shows-moved, no-memory_given}
 use Rattle.tb_output.proofs.StepLaws.WorkSteps.{continues-then, continues-output_by, continues-next_goal}
 use Rattle.tb_output.proofs.StepLaws.ClassBoxes.{goal-boxes}
 use Rattle.tb_output.proofs.Firings.NotesTaking.{unopened-sound, unopened-frame}

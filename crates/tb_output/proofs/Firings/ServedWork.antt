@@ -5,9 +5,9 @@ use Rattle.tb_pool.specs.Lists.{Lists}
 use Rattle.tb_node.specs.declared.Node.{Node}
 use Rattle.tb_param.specs.declared.Params.{Params}
 use Rattle.tb_builder.specs.declared.Builder.{Builder}
-use Rattle.tb_builder.specs.Fired.{Fired}
+use Rattle.tb_builder.specs.FiredPages.{Fired}
 use Rattle.tb_builder.specs.Contents.{Contents, contents_of}
-use Rattle.tb_builder.specs.Kept.{AreBoxesOf}
+use Rattle.tb_builder.specs.SizedContents.{AreBoxesOf}
 use Rattle.tb_builder.proofs.Ownership.StoreSized.{boxes_of}
 use Rattle.tb_column.specs.declared.NoteBox.{NoteBox}
 use Rattle.tb_column.specs.Column.{PlainSent}
@@ -15,16 +15,16 @@ use Rattle.tb_output.specs.declared.RunFault.{RunFault}
 use Rattle.tb_output.specs.State.{State, Work, footnotes, notes_in}
 use Rattle.tb_output.specs.Columns.{emptied_boxes, ordinary}
 use Rattle.tb_scaled.specs.Scaled.{eject_penalty}
-use Rattle.tb_node.specs.Plain.{plain_list}
+use Rattle.tb_node.specs.PlainNodes.{plain_list}
 use Rattle.tb_output.specs.Clear.{clear}
 use Rattle.tb_output.specs.Text.{float_or_note}
-use Rattle.tb_output.specs.Out.{hold_penalty, clear_penalty, par_penalty, vert_penalty, is_int, hold, output_by}
+use Rattle.tb_output.specs.Output.{hold_penalty, clear_penalty, par_penalty, vert_penalty, is_int, hold, output_by}
 use Rattle.tb_output.specs.Machine.{MachineView, AreClassesFrom}
-use Rattle.tb_output.specs.Working.{ShowsWork, shows, shows_back, shows_page, shows_all, IsCutShort, Does}
+use Rattle.tb_output.specs.FiringWork.{ShowsWork, shows, shows_back, shows_page, shows_all, IsCutShort, Does}
 use Rattle.tb_output.specs.Notes.{NotesTaken}
-use Rattle.tb_output.specs.Turns.{page_output}
-use Rattle.tb_output.proofs.Working.StandLemmas.{IsShownBy}
-use Rattle.tb_output.proofs.Working.WorkingLemmas.{shows-moved}
+use Rattle.tb_output.specs.FiringParts.{page_output}
+use Rattle.tb_output.proofs.FiringWork.StandLemmas.{IsShownBy}
+use Rattle.tb_output.proofs.FiringWork.WorkingLemmas.{shows-moved}
 use Rattle.tb_output.proofs.Firings.GoalLemmas.{int-same}
 use Rattle.tb_output.proofs.StepLaws.ClassBoxes.{page-boxes, page-is, void-boxes}
 

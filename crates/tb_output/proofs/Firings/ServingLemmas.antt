@@ -6,17 +6,17 @@ use Rattle.tb_pool.specs.Lists.{Lists, IsLive, list_at}
 use Rattle.tb_pool.specs.Frame.{IsNoneOf, OnlyChanged}
 use Rattle.tb_pool.proofs.FrameLemmas.{none-front, none-back, none-join}
 use Rattle.tb_node.specs.declared.Node.{Node}
-use Rattle.tb_node.specs.Plain.{plain_list}
+use Rattle.tb_node.specs.PlainNodes.{plain_list}
 use Rattle.tb_builder.specs.declared.Builder.{Builder}
 use Rattle.tb_builder.specs.Contents.{contents_of}
-use Rattle.tb_builder.specs.Running.{IsSound}
+use Rattle.tb_builder.specs.Courses.{IsSound}
 use Rattle.tb_output.specs.Machine.{MachineView, machine_lists, IsMachine}
-use Rattle.tb_output.specs.Keeping.{AreNoneOf, IsBack, back_lists, KeepsBack}
+use Rattle.tb_output.specs.MachineFrame.{AreNoneOf, IsBack, back_lists, KeepsBack}
 use Rattle.tb_output.specs.Firing.{builder_lists, KeepsServing}
-use Rattle.tb_output.proofs.Working.StandLemmas.{Stands, machine-live, frame-stands, frame-free, IsShownBy, frame-shown}
-use Rattle.tb_output.proofs.Working.ApartLemmas
-use Rattle.tb_output.proofs.Working.KeepLemmas.{back-live, back-list, back-lists_same, back-shows, back-stands}
-use Rattle.tb_output.proofs.Working.BuilderLemmas.{beside-owned, beside-sound, beside-contents, beside-free}
+use Rattle.tb_output.proofs.FiringWork.StandLemmas.{Stands, machine-live, frame-stands, frame-free, IsShownBy, frame-shown}
+use Rattle.tb_output.proofs.FiringWork.ApartLemmas
+use Rattle.tb_output.proofs.FiringWork.KeepLemmas.{back-live, back-list, back-lists_same, back-shows, back-stands}
+use Rattle.tb_output.proofs.FiringWork.BuilderLemmas.{beside-owned, beside-sound, beside-contents, beside-free}
 
 -- the builder's lists changed alone
 module _ (m : MachineView) (b later : Builder) (store middle : Lists Node) (l : ℕ) (is : IsMachine m store) (back : IsBack l m store) (sound : IsSound later middle)

@@ -6,18 +6,18 @@ use Rattle.tb_pool.specs.Lists.{Lists, IsLive, list_at}
 use Rattle.tb_pool.specs.Frame.{IsNoneOf, OnlyChanged}
 use Rattle.tb_pool.proofs.FrameLemmas.{none-join}
 use Rattle.tb_node.specs.declared.Node.{Node}
-use Rattle.tb_node.specs.Plain.{plain_list}
+use Rattle.tb_node.specs.PlainNodes.{plain_list}
 use Rattle.tb_builder.specs.declared.Builder.{Builder}
 use Rattle.tb_builder.specs.Contents.{contents_of, box_count}
 use Rattle.tb_column.specs.declared.NoteBox.{NoteBox}
 use Rattle.tb_column.specs.Page.{IsPageList}
 use Rattle.tb_column.specs.Notes.{note_lists, note_count}
 use Rattle.tb_output.specs.Machine.{MachineView, machine_lists, IsMachine}
-use Rattle.tb_output.specs.Keeping.{AreNoneOf, AreTextLists, back_lists}
+use Rattle.tb_output.specs.MachineFrame.{AreNoneOf, AreTextLists, back_lists}
 use Rattle.tb_output.specs.Firing.{builder_lists}
 use Rattle.tb_output.specs.Notes.{NotesTaken}
-use Rattle.tb_output.proofs.Working.StandLemmas.{Stands, list-same, list-stands, nodes-stand, machine-live}
-use Rattle.tb_output.proofs.Working.ApartLemmas
+use Rattle.tb_output.proofs.FiringWork.StandLemmas.{Stands, list-same, list-stands, nodes-stand, machine-live}
+use Rattle.tb_output.proofs.FiringWork.ApartLemmas
 
 -- a list that was live is none of the page's, but for its text
 pub text-new : (b : Builder) (store : Lists Node) (body : ℕ) (notes : List NoteBox) → ((q : ℕ) → IsLive store q → IsNoneOf q (builder_lists b store) → IsNoneOf q (note_lists notes))

@@ -6,12 +6,12 @@ use Rattle.std.proofs.lemmas.Bool.{or_parts}
 use Rattle.std.proofs.lemmas.Bool.Decides.{nat_tests}
 use Rattle.std.proofs.Math.Bool.{or-true}
 use Rattle.tb_builder.proofs.Handover.CallLemmas.{voids_boxed}
-use Rattle.tb_node.specs.Plain.{Leaf}
+use Rattle.tb_node.specs.PlainNodes.{Leaf}
 use Rattle.tb_insert.specs.declared.Class.{Class}
-use Rattle.tb_builder.specs.Fired.{Boxed, box_content}
-use Rattle.tb_builder.specs.Owned.{has_class, ClassesFit}
-use Rattle.tb_builder.specs.Handed.{voided, with_void}
-use Rattle.tb_builder.specs.Kept.{AreBoxesOf}
+use Rattle.tb_builder.specs.FiredPages.{Boxed, box_content}
+use Rattle.tb_builder.specs.Ownership.{has_class, ClassesFit}
+use Rattle.tb_builder.specs.Contributions.{voided, with_void}
+use Rattle.tb_builder.specs.SizedContents.{AreBoxesOf}
 use Rattle.tb_column.specs.Column.{Notes}
 use Rattle.tb_output.specs.State.{with_notes, notes_in}
 use Rattle.tb_output.specs.Columns.{emptied_boxes}

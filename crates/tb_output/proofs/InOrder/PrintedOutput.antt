@@ -5,20 +5,20 @@ use Rattle.std.specs.List.{AllByRecursion}
 use Rattle.tb_scaled.specs.Scaled.{eject_penalty, max_dimen}
 use Rattle.tb_scaled.specs.Glue.{filling_glue}
 use Rattle.tb_node.specs.declared.What.TheVariants as what
-use Rattle.tb_node.specs.Plain.{hbox, rule, pen, skip, kerned, mark, note, whatsit, PlainKind, plain, ins, act, PlainNode, made, blank_box, without_acts, without_insertions}
+use Rattle.tb_node.specs.PlainNodes.{hbox, rule, pen, skip, kerned, mark, note, whatsit, PlainKind, plain, ins, act, PlainNode, made, blank_box, without_acts, without_insertions}
 use Rattle.tb_param.specs.declared.Params.{Params}
-use Rattle.tb_break.specs.Prune.{pruned_nodes}
-use Rattle.tb_builder.specs.Fired.{Fired, spent_kind, with_spent_break}
+use Rattle.tb_break.specs.PageTop.{pruned_nodes}
+use Rattle.tb_builder.specs.FiredPages.{Fired, spent_kind, with_spent_break}
 use Rattle.tb_builder.proofs.Cutting.CutLemmas.{AllCalm, AllFree, ActFree}
 use Rattle.tb_float.specs.Rooms.{column_room_of}
 use Rattle.tb_column.specs.Column.{Notes, warned}
 use Rattle.tb_column.specs.declared.Warn.TheVariants as warnings
 use Rattle.tb_output.specs.State.{State, Work, begun, puts, sends, with_floats, footnotes, has_floats}
-use Rattle.tb_output.specs.Ship
+use Rattle.tb_output.specs.Pages
 use Rattle.tb_output.specs.Columns
 use Rattle.tb_output.specs.Text
 use Rattle.tb_output.specs.Clear
-use Rattle.tb_output.specs.Out
+use Rattle.tb_output.specs.Output
 use Rattle.tb_output.proofs.NothingLost.StateWeights.{Paired}
 use Rattle.tb_output.proofs.Closed.Sorts.{sorts-calm, seen_all}
 use Rattle.tb_output.proofs.Closed.SortLemmas.{none, one, BreakStands, pen_sort, sorts}

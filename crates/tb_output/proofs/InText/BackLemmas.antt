@@ -11,20 +11,20 @@ use Rattle.tb_pool.specs.Frame.{IsNoneOf}
 use Rattle.tb_pool.proofs.CallerLemmas.{list_same, list_other, get_other}
 use Rattle.tb_pool.proofs.MapLemmas.{get-insert_same, get-insert_other, get-remove_other}
 use Rattle.tb_node.specs.declared.Node.{Node}
-use Rattle.tb_node.specs.Plain.{ins, plain_of, leaf_of, leaf_shape, shape_of}
+use Rattle.tb_node.specs.PlainNodes.{ins, plain_of, leaf_of, leaf_shape, shape_of}
 use Rattle.tb_node.specs.Fit.{IsSizedNode}
 use Rattle.tb_node.specs.Sums.{size_of}
 use Rattle.tb_param.specs.declared.Params.{Params}
 use Rattle.tb_insert.specs.declared.Class.{Class}
-use Rattle.tb_builder.specs.Owned.{inner_ids, has_class, AllKnown}
+use Rattle.tb_builder.specs.Ownership.{inner_ids, has_class, AllKnown}
 use Rattle.tb_column.specs.declared.NoteBox.{NoteBox}
 use Rattle.tb_column.specs.Notes.{notes_shown, note_lists}
 use Rattle.tb_column.proofs.StoreLemmas.{list-get}
 use Rattle.tb_output.specs.Text.{notes_nodes}
-use Rattle.tb_output.specs.PutBack.{insertion_of, insertions_again}
-use Rattle.tb_output.specs.Keeping.{HasGrown}
+use Rattle.tb_output.specs.BackList.{insertion_of, insertions_again}
+use Rattle.tb_output.specs.MachineFrame.{HasGrown}
 use Rattle.tb_output.proofs.InText.PushLemmas.{grown-none}
-use Rattle.tb_output.proofs.Working.StandLemmas.{Stands}
+use Rattle.tb_output.proofs.FiringWork.StandLemmas.{Stands}
 
 -- ---- the calls of the store
 

@@ -11,12 +11,12 @@ use Rattle.tb_pool.specs.Lists.{Lists, IsLive, list_at}
 use Rattle.tb_pool.specs.Frame.{IsNoneOf}
 use Rattle.tb_pool.proofs.FrameLemmas.{none-front, none-back, none-join}
 use Rattle.tb_node.specs.declared.Node.{Node}
-use Rattle.tb_node.specs.Plain.{PlainNode, node_shape, leaf_of, shape_of, plain_of, plain_list}
+use Rattle.tb_node.specs.PlainNodes.{PlainNode, node_shape, leaf_of, shape_of, plain_of, plain_list}
 use Rattle.tb_node.specs.Fit.{IsExtent, IsSizedNode}
 use Rattle.tb_node.specs.Sums.{size_of, last_depth}
 use Rattle.tb_param.specs.declared.Params.{Params}
-use Rattle.tb_builder.specs.Fired.{Boxed}
-use Rattle.tb_builder.specs.Owned.{inner_ids, AllKnown}
+use Rattle.tb_builder.specs.FiredPages.{Boxed}
+use Rattle.tb_builder.specs.Ownership.{inner_ids, AllKnown}
 use Rattle.tb_builder.proofs.Ownership.OwnedLemmas.{inner-append, known-append}
 use Rattle.tb_column.specs.declared.NoteBox.{NoteBox}
 use Rattle.tb_column.specs.Notes.{AreDistinct, IsNote, notes_shown, note_lists, note_count}
@@ -30,17 +30,17 @@ use Rattle.tb_output.specs.declared.RunFault.TheVariants as faults
 use Rattle.tb_output.specs.State.{State, Work, footnotes}
 use Rattle.tb_output.specs.Columns.{emptied_boxes}
 use Rattle.tb_output.specs.Text.{notes_nodes, notes_height, without_firing_box, list_back, first_goes, float_or_note_in, float_or_note}
-use Rattle.tb_output.specs.PutBack.{insertions_again}
+use Rattle.tb_output.specs.BackList.{insertions_again}
 use Rattle.tb_output.specs.Machine.{MachineView, state_shown, events_shown, left_lists, event_lists, machine_lists, IsMachine}
-use Rattle.tb_output.specs.Working.{ShowsBack, HoldsNotes, shows_back, shows_page, IsCutShort, Does}
-use Rattle.tb_output.specs.Keeping.{AreNoneOf, HasGrown, back_lists, IsBack, KeepsBack, AreTextLists}
+use Rattle.tb_output.specs.FiringWork.{ShowsBack, HoldsNotes, shows_back, shows_page, IsCutShort, Does}
+use Rattle.tb_output.specs.MachineFrame.{AreNoneOf, HasGrown, back_lists, IsBack, KeepsBack, AreTextLists}
 use Rattle.tb_output.specs.Notes.{AreKnownNotes}
-use Rattle.tb_output.specs.Turns.{IsTextSize, HasTextBack, first_placed}
-use Rattle.tb_output.proofs.Working.ApartLemmas.{apart-back, apart-swap, distinct-join}
-use Rattle.tb_output.proofs.Working.StandLemmas.{Stands, list-stands, leaves-shown, events-stand, events-show, left-stands, left-shows}
-use Rattle.tb_output.proofs.Working.KeepLemmas.{fields-same, keeps-back_then, pages-stand, leaves-inner, leaves-known}
+use Rattle.tb_output.specs.FiringParts.{IsTextSize, HasTextBack, first_placed}
+use Rattle.tb_output.proofs.FiringWork.ApartLemmas.{apart-back, apart-swap, distinct-join}
+use Rattle.tb_output.proofs.FiringWork.StandLemmas.{Stands, list-stands, leaves-shown, events-stand, events-show, left-stands, left-shows}
+use Rattle.tb_output.proofs.FiringWork.KeepLemmas.{fields-same, keeps-back_then, pages-stand, leaves-inner, leaves-known}
 use Rattle.tb_output.proofs.InText.PushLemmas.{grown-none}
-use Rattle.tb_output.proofs.Working.WorkingLemmas.{does-then, does-same, cut-on, does-shown_with, no-memory_given}
+use Rattle.tb_output.proofs.FiringWork.WorkingLemmas.{does-then, does-same, cut-on, does-shown_with, no-memory_given}
 use Rattle.tb_output.proofs.StepLaws.WorkSteps.{continues-list_back, continues-first_goes}
 use Rattle.tb_output.proofs.Clears.ClearSteps.{shapes-shown, leaves-take}
 use Rattle.tb_output.proofs.InText.BackLemmas.{live-some, again-inner, again-known, again-sized, again-shown}

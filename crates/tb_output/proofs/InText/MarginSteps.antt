@@ -6,7 +6,7 @@ use Rattle.std.specs.Prelude.{if◌then◌else◌}
 use Rattle.tb_pool.specs.Lists.{Lists}
 use Rattle.tb_node.specs.declared.Margin.{Margin}
 use Rattle.tb_node.specs.declared.Node.{Node}
-use Rattle.tb_node.specs.Plain.{PlainNode}
+use Rattle.tb_node.specs.PlainNodes.{PlainNode}
 use Rattle.tb_node.specs.Fit.{IsExtent}
 use Rattle.tb_param.specs.declared.Params.{Params}
 use Rattle.tb_margin.specs.declared.Placed.{Placed}
@@ -18,17 +18,17 @@ use Rattle.tb_output.specs.declared.RunFault.{RunFault}
 use Rattle.tb_output.specs.declared.RunFault.TheVariants as faults
 use Rattle.tb_output.specs.State.{Work, puts, sends, with_floats}
 use Rattle.tb_output.specs.Text.{puts_interline, note_nodes, moved_warning, with_note_bottom}
-use Rattle.tb_output.specs.PutBack.{note_list}
+use Rattle.tb_output.specs.BackList.{note_list}
 use Rattle.tb_output.specs.Machine.{MachineView, IsMachine}
-use Rattle.tb_output.specs.Shipping.{with_warning}
-use Rattle.tb_output.specs.Turns.{without_note, note_placed}
-use Rattle.tb_output.specs.Working.{shows_back, IsCutShort, Does, Continues}
-use Rattle.tb_output.specs.Keeping.{HasFloats, HasGrown, IsBack, KeepsBack}
+use Rattle.tb_output.specs.PageChanges.{with_warning}
+use Rattle.tb_output.specs.FiringParts.{without_note, note_placed}
+use Rattle.tb_output.specs.FiringWork.{shows_back, IsCutShort, Does, Continues}
+use Rattle.tb_output.specs.MachineFrame.{HasFloats, HasGrown, IsBack, KeepsBack}
 use Rattle.tb_output.specs.Firing.{IsReach}
 use Rattle.tb_output.proofs.ColumnPages.SizeLemmas.{amount-cast}
-use Rattle.tb_output.proofs.Working.WorkingLemmas.{does-same}
+use Rattle.tb_output.proofs.FiringWork.WorkingLemmas.{does-same}
 use Rattle.tb_output.proofs.StepLaws.WorkSteps.{continues-then, continues_if, continues-puts, continues-sends, continues-puts_interline}
-use Rattle.tb_output.proofs.Working.StepLemmas.{Done, Cut, done-then, then-cut, cut-same, no-room}
+use Rattle.tb_output.proofs.FiringWork.StepLemmas.{Done, Cut, done-then, then-cut, cut-same, no-room}
 use Rattle.tb_output.proofs.InText.TextSteps.{note-same, retired-done, bottom-done, warned-moved, note-done, then-interline, then-interline_cut, continues-none}
 
 -- ---- the note's place

@@ -7,7 +7,7 @@ use Rattle.tb_scaled.specs.Scaled.{is_zero}
 use Rattle.tb_node.specs.declared.Node.{Node}
 use Rattle.tb_node.specs.declared.Kind.{Kind}
 use Rattle.tb_node.specs.declared.Kind.TheVariants as kinds
-use Rattle.tb_node.specs.Plain.{shape_of_kind}
+use Rattle.tb_node.specs.PlainNodes.{shape_of_kind}
 use Rattle.tb_node.specs.Fit.{IsSized, IsSizedNode}
 use Rattle.tb_column.specs.Ranges.{IsSizedGlue}
 use Rattle.std.specs.Prelude.{All, if◌then◌else◌}
@@ -18,9 +18,9 @@ use Rattle.std.specs.List.{slice_get}
 use Rattle.std.proofs.lemmas.Option.{slice_get-get_or}
 use Rattle.tb_pool.proofs.MapLemmas.{remove_from_get, get-remove_same, get-remove_other}
 use Rattle.tb_scaled.specs.declared.Glue.{Glue}
-use Rattle.tb_break.specs.Legal.{last_or}
-use Rattle.tb_output.specs.PutBack.{last_glue, glue_of_kind}
-use Rattle.tb_output.specs.Keeping.{HasGrown}
+use Rattle.tb_break.specs.Places.{last_or}
+use Rattle.tb_output.specs.BackList.{last_glue, glue_of_kind}
+use Rattle.tb_output.specs.MachineFrame.{HasGrown}
 
 module _ {T : Type 0} where
   -- the first nodes, after room was made

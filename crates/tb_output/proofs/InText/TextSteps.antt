@@ -15,10 +15,10 @@ use Rattle.tb_node.specs.declared.Kind.TheVariants as kinds
 use Rattle.tb_node.specs.declared.Node.{Node}
 use Rattle.tb_node.specs.declared.Where.{Where}
 use Rattle.tb_node.specs.declared.Where.TheVariants as places
-use Rattle.tb_node.specs.Plain.{PlainKind, plain, pen, PlainNode, plain_kind, plain_of, plain_list}
+use Rattle.tb_node.specs.PlainNodes.{PlainKind, plain, pen, PlainNode, plain_kind, plain_of, plain_list}
 use Rattle.tb_node.specs.Fit.{IsDimension, IsExtent, IsPenalty, IsSizedNode}
 use Rattle.tb_param.specs.declared.Params.{Params}
-use Rattle.tb_break.specs.Legal.{last_or}
+use Rattle.tb_break.specs.Places.{last_or}
 use Rattle.tb_float.specs.declared.Entry.{Entry}
 use Rattle.tb_float.specs.declared.Entry.TheVariants as entries
 use Rattle.tb_float.specs.declared.Part.{Part}
@@ -34,24 +34,24 @@ use Rattle.tb_column.specs.Column.{PlainSent, warned}
 use Rattle.tb_column.specs.Ranges.{IsSizedGlue}
 use Rattle.tb_output.specs.declared.texts.TextSize.{TextSize}
 use Rattle.tb_output.specs.State.{Work, puts, sends, with_floats}
-use Rattle.tb_output.specs.Place.{joined_to, place_float}
+use Rattle.tb_output.specs.FloatMoves.{joined_to, place_float}
 use Rattle.tb_output.specs.Text.{glue_at_end, penalty_nodes, penalty_after, puts_interline, here_nodes, note_nodes, only_here, with_top, defer, moved_warning, with_note_bottom, note_goes}
-use Rattle.tb_output.specs.PutBack.{glue_of_kind, last_glue, interline_by, interline_list, here_list, note_list}
+use Rattle.tb_output.specs.BackList.{glue_of_kind, last_glue, interline_by, interline_list, here_list, note_list}
 use Rattle.tb_output.specs.Machine.{MachineView, IsMachine, AreOutputParams}
-use Rattle.tb_output.specs.Queue.{HasRoomFor}
-use Rattle.tb_output.specs.Shipping.{with_warning}
-use Rattle.tb_output.specs.Turns.{IsColumnPart, IsAreaPart, place_of, without_first, without_note, HasDeferred, float_placed, note_placed}
+use Rattle.tb_output.specs.Events.{HasRoomFor}
+use Rattle.tb_output.specs.PageChanges.{with_warning}
+use Rattle.tb_output.specs.FiringParts.{IsColumnPart, IsAreaPart, place_of, without_first, without_note, HasDeferred, float_placed, note_placed}
 use Rattle.tb_output.specs.declared.RunFault.{RunFault}
 use Rattle.tb_output.specs.declared.RunFault.TheVariants as faults
-use Rattle.tb_output.specs.Working.{ShowsBack, shows_back, IsCutShort, Does, Continues}
-use Rattle.tb_output.specs.Keeping.{HasFloats, HasGrown, IsBack, back_lists, KeepsBack}
-use Rattle.tb_output.proofs.Working.ApartLemmas.{apart-none}
-use Rattle.tb_output.proofs.Working.KeepLemmas.{MayGoBack, keeps-back_alone, keeps-back_same}
+use Rattle.tb_output.specs.FiringWork.{ShowsBack, shows_back, IsCutShort, Does, Continues}
+use Rattle.tb_output.specs.MachineFrame.{HasFloats, HasGrown, IsBack, back_lists, KeepsBack}
+use Rattle.tb_output.proofs.FiringWork.ApartLemmas.{apart-none}
+use Rattle.tb_output.proofs.FiringWork.KeepLemmas.{MayGoBack, keeps-back_alone, keeps-back_same}
 use Rattle.tb_output.proofs.InText.PushLemmas.{last-sized}
-use Rattle.tb_output.proofs.Working.WorkingLemmas.{does-then, does-shown_with}
+use Rattle.tb_output.proofs.FiringWork.WorkingLemmas.{does-then, does-shown_with}
 use Rattle.tb_output.proofs.Acts.WarnLemmas.{shown-joined}
 use Rattle.tb_output.proofs.StepLaws.WorkSteps.{continues-same, continues-puts, continues-float_goes, continues-note_goes}
-use Rattle.tb_output.proofs.Working.StepLemmas.{Done, Cut, keeps-on, done-then, then-cut, cut-short, no-room, done-same, done-puts, done-warned, moved-keeps, moved-shows}
+use Rattle.tb_output.proofs.FiringWork.StepLemmas.{Done, Cut, keeps-on, done-then, then-cut, cut-short, no-room, done-same, done-puts, done-warned, moved-keeps, moved-shows}
 
 -- ---- the interline penalty
 

@@ -3,13 +3,13 @@ use Rattle.std.proofs.Common.{◌≡◌, refl, sym, ap, subst, pos, ◌+◌, Boo
 use Rattle.std.specs.Prelude.{int_lt, if◌then◌else◌}
 use Rattle.std.specs.List.{AllByRecursion}
 use Rattle.tb_param.specs.declared.Params.{Params}
-use Rattle.tb_builder.specs.Fired.{Fired}
+use Rattle.tb_builder.specs.FiredPages.{Fired}
 use Rattle.tb_float.specs.Rooms.{column_height_of}
 use Rattle.tb_area.specs.Laws.{KeepsLimits}
 use Rattle.tb_column.specs.Column.{PlainSheet, PlainSent, shipped}
 use Rattle.tb_output.specs.State.{State, Work, Recorded, placed, output, emptied, sends, records_also}
-use Rattle.tb_output.specs.Ship
-use Rattle.tb_output.specs.Out
+use Rattle.tb_output.specs.Pages
+use Rattle.tb_output.specs.Output
 use Rattle.tb_output.specs.Firing.{page_work}
 use Rattle.tb_output.proofs.StepLaws.ColumnSteps.{RecordLaw, ColumnStep, still, in_turn, records_one, ships_one}
 use Rattle.tb_output.proofs.StepLaws.FiringSteps.{FiringStep, by_columns, sends_one, changes, afterwards, page_work-step}

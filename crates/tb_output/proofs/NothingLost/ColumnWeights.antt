@@ -6,7 +6,7 @@ use Rattle.tb_scaled.specs.Glue.{negated_glue}
 use Rattle.tb_node.specs.declared.Float.{Float}
 use Rattle.tb_node.specs.declared.Where.{Where}
 use Rattle.tb_node.specs.declared.Where.TheVariants as places
-use Rattle.tb_node.specs.Plain.{leaf_node, PlainNode, made, skip}
+use Rattle.tb_node.specs.PlainNodes.{leaf_node, PlainNode, made, skip}
 use Rattle.tb_node.proofs.Weights.{Weight, leaves_weight, nodes_weight, weight-append, leaf_nodes-weight}
 use Rattle.tb_param.specs.declared.Params.{Params}
 use Rattle.tb_float.specs.Lists.{FloatLists}

@@ -14,7 +14,7 @@ use Rattle.tb_float.specs.Lists.{FloatLists, floats_of, with_floats_of, IsWaitin
 use Rattle.tb_float.specs.Rooms.{column_height_of}
 use Rattle.tb_area.specs.Area
 use Rattle.tb_output.specs.State.{Work, Recorded, placed, records_also, with_floats}
-use Rattle.tb_output.specs.Place
+use Rattle.tb_output.specs.FloatMoves
 use Rattle.tb_output.proofs.NothingLost.StateWeights.{floats_weight, lists_weight, left_weight, sent_weight, floats-append, Paired, Adds, then_kept, unchanged, records-adds}
 
 -- ---- moving floats

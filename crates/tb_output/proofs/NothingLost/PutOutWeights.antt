@@ -3,12 +3,12 @@ use Rattle.std.proofs.Common.{◌≡◌, refl, sym, ◌∙◌, ap, subst, ℕ, z
 use Rattle.std.specs.Prelude.{◌==◌, int_lt, not, if◌then◌else◌}
 use Rattle.tb_node.specs.declared.Float.{Float}
 use Rattle.tb_node.specs.declared.Where.TheVariants as places
-use Rattle.tb_node.specs.Plain.{Leaf, PlainNode}
+use Rattle.tb_node.specs.PlainNodes.{Leaf, PlainNode}
 use Rattle.std.proofs.lemmas.Bool.{eq-eqb}
 use Rattle.tb_node.proofs.Weights.{Weight, leaves_weight, nodes_weight}
 use Rattle.tb_param.specs.declared.Params.{Params}
 use Rattle.tb_insert.specs.declared.Class.{Class}
-use Rattle.tb_builder.specs.Fired.{Boxed, content_of, box_content}
+use Rattle.tb_builder.specs.FiredPages.{Boxed, content_of, box_content}
 use Rattle.tb_builder.proofs.FiredPages.PageWeights.{boxes_weight, hits}
 use Rattle.tb_float.specs.declared.Part.{Part}
 use Rattle.tb_float.specs.declared.Part.TheVariants as parts
@@ -18,7 +18,7 @@ use Rattle.tb_float.specs.Rooms.{column_height_of}
 use Rattle.tb_fpage.specs.Company.{Choice, company, chosen_floats, left_floats}
 use Rattle.tb_column.specs.Column.{Notes, PlainColumn, PlainSheet, shipped, one, wide, floats_above, text_column, pair_sheet, single_floats_column, wide_floats_column}
 use Rattle.tb_output.specs.State.{Work, output, records_also, with_floats, with_notes, notes_in, footnotes}
-use Rattle.tb_output.specs.Ship
+use Rattle.tb_output.specs.Pages
 use Rattle.tb_output.specs.Columns
 use Rattle.tb_output.proofs.NothingLost.StateWeights.{class_numbers, BoxesFit, floats_weight, lists_weight, left_weight, sheet_weight, sent_weight, work_weight, ColumnsFit, Sound, Adds, then_kept, kept_then, unchanged, records-adds, shipped-adds}
 use Rattle.tb_output.proofs.NothingLost.ColumnWeights.{floats_above-weight, notes_weight, text_column-weight, floats_column-weight, choices_weight, CompanyOf, company-weight, parted-weight}

@@ -6,8 +6,8 @@ use Rattle.tb_node.specs.declared.Float.{Float}
 use Rattle.tb_node.specs.declared.Margin.{Margin}
 use Rattle.tb_node.specs.declared.Where.{Where}
 use Rattle.tb_node.specs.declared.Where.TheVariants as places
-use Rattle.tb_node.specs.Plain.{PlainNode, plain, pen}
-use Rattle.tb_break.specs.Legal.{last_or}
+use Rattle.tb_node.specs.PlainNodes.{PlainNode, plain, pen}
+use Rattle.tb_break.specs.Places.{last_or}
 use Rattle.tb_node.proofs.Weights.{Weight, nodes_weight, weight-append}
 use Rattle.tb_param.specs.declared.Params.{Params}
 use Rattle.tb_builder.proofs.FiredPages.PageWeights.{boxes_weight}
@@ -21,7 +21,7 @@ use Rattle.tb_margin.specs.Margin.{placed_note}
 use Rattle.tb_column.specs.Column.{Notes, warned}
 use Rattle.tb_column.specs.declared.Warn.TheVariants as warnings
 use Rattle.tb_output.specs.State.{Work, placed, puts, sends, records_also, with_floats, footnotes}
-use Rattle.tb_output.specs.Place
+use Rattle.tb_output.specs.FloatMoves
 use Rattle.tb_output.specs.Columns
 use Rattle.tb_output.specs.Text
 use Rattle.tb_output.proofs.StepLaws.ColumnSteps.{no_law}

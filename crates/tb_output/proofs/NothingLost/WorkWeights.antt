@@ -3,11 +3,11 @@ use Rattle.std.proofs.Common.{◌≡◌, refl, ◌∙◌, ap, ℕ, pos, ◌+◌,
 use Rattle.std.specs.Prelude.{◌-◌, ℤ, int_le, not, ◌||◌, ◌&&◌, if◌then◌else◌}
 use Rattle.tb_scaled.specs.Glue.{filling_glue}
 use Rattle.tb_scaled.specs.Scaled.{eject_penalty, max_dimen}
-use Rattle.tb_node.specs.Plain.{PlainNode, node_shape, made, blank_box, skip}
+use Rattle.tb_node.specs.PlainNodes.{PlainNode, node_shape, made, blank_box, skip}
 use Rattle.tb_break.specs.Split.{split_of}
 use Rattle.tb_node.proofs.Weights.{Weight, nodes_weight, weight-append, weight-split}
 use Rattle.tb_param.specs.declared.Params.{Params}
-use Rattle.tb_builder.specs.Fired.{Fired}
+use Rattle.tb_builder.specs.FiredPages.{Fired}
 use Rattle.tb_builder.proofs.FiredPages.PageWeights.{boxes_weight}
 use Rattle.tb_float.specs.declared.Part.{Part}
 use Rattle.tb_float.specs.declared.Part.TheVariants as parts
@@ -17,11 +17,11 @@ use Rattle.tb_float.specs.Rooms.{column_room_of}
 use Rattle.tb_column.specs.Column.{Notes, warned}
 use Rattle.tb_column.specs.declared.Warn.TheVariants as warnings
 use Rattle.tb_output.specs.State.{State, Work, begun, puts, sends, with_floats, footnotes, has_floats}
-use Rattle.tb_output.specs.Ship
+use Rattle.tb_output.specs.Pages
 use Rattle.tb_output.specs.Columns
 use Rattle.tb_output.specs.Text
 use Rattle.tb_output.specs.Clear
-use Rattle.tb_output.specs.Out
+use Rattle.tb_output.specs.Output
 use Rattle.tb_output.proofs.NothingLost.StateWeights.{floats_weight, lists_weight, left_weight, state_weight, sent_weight, work_weight, floats-append, Sound, Adds, then_kept, adds_if, unchanged, puts-adds, warns-adds}
 use Rattle.tb_output.proofs.NothingLost.FloatWeights.{lists-adds, paired-with, lists-with}
 use Rattle.tb_output.proofs.NothingLost.PutOutWeights.{all_wide-adds, put_out_text-adds, float_columns-adds, ordinary-adds}

@@ -9,11 +9,11 @@ use Rattle.tb_node.specs.declared.Float.{Float}
 use Rattle.tb_node.specs.declared.Margin.{Margin}
 use Rattle.tb_node.specs.declared.Where.{Where}
 use Rattle.tb_node.specs.declared.Where.TheVariants as places
-use Rattle.tb_node.specs.Plain.{Leaf, PlainNode, made, skip, blank_box}
+use Rattle.tb_node.specs.PlainNodes.{Leaf, PlainNode, made, skip, blank_box}
 use Rattle.tb_param.specs.declared.Params.{Params}
 use Rattle.tb_insert.specs.declared.Class.{Class}
-use Rattle.tb_builder.specs.Fired.{Boxed, Fired, box_content}
-use Rattle.tb_builder.specs.Kept.{AreBoxesOf}
+use Rattle.tb_builder.specs.FiredPages.{Boxed, Fired, box_content}
+use Rattle.tb_builder.specs.SizedContents.{AreBoxesOf}
 use Rattle.tb_float.specs.declared.Entry.{Entry}
 use Rattle.tb_float.specs.declared.Entry.TheVariants as entries
 use Rattle.tb_float.specs.Lists.{FloatLists}
@@ -23,14 +23,14 @@ use Rattle.tb_margin.specs.Margin.{placed_note}
 use Rattle.tb_column.specs.Column.{Notes, text_column, warned}
 use Rattle.tb_column.specs.declared.Warn.TheVariants as warnings
 use Rattle.tb_output.specs.State.{Work, puts, sends, with_floats, footnotes, notes_in, with_notes, has_floats}
-use Rattle.tb_output.specs.Place
-use Rattle.tb_output.specs.Ship
+use Rattle.tb_output.specs.FloatMoves
+use Rattle.tb_output.specs.Pages
 use Rattle.tb_output.specs.Columns
 use Rattle.tb_output.specs.Text
 use Rattle.tb_output.specs.Clear
-use Rattle.tb_output.specs.Out
+use Rattle.tb_output.specs.Output
 use Rattle.tb_output.specs.Machine.{AreClassesFrom}
-use Rattle.tb_output.specs.Turns.{page_output}
+use Rattle.tb_output.specs.FiringParts.{page_output}
 use Rattle.tb_output.proofs.StepLaws.ColumnSteps.{no_law, stays, sends-stays, put_out-step, float_columns-step, all_wide_pages-step, place_next-step, place_float-step}
 use Rattle.tb_output.proofs.StepLaws.FiringSteps.{defer-stays}
 use Rattle.tb_output.proofs.Firings.GoalLemmas.{int-is}

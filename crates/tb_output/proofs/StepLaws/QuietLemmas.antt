@@ -14,12 +14,12 @@ use Rattle.tb_float.specs.Lists.{FloatLists, IsWaiting, floats_of, with_floats_o
 use Rattle.tb_float.proofs.WaitingLemmas.{floats-with}
 use Rattle.tb_float.specs.Rooms.{column_height_of}
 use Rattle.tb_area.specs.Area.{AreaPlace, at_top, at_bottom, deferred, where_of, next_area_place, goes_double}
-use Rattle.tb_area.specs.Filling.{gone_to, still_before, filled, gone_double, still_single, doubled}
+use Rattle.tb_area.specs.Deferred.{gone_to, still_before, filled, gone_double, still_single, doubled}
 use Rattle.tb_fpage.specs.declared.Wanted.{Wanted}
 use Rattle.tb_fpage.specs.Company.{Choice, company, chosen_floats, left_floats}
 use Rattle.tb_fpage.proofs.LawLemmas.{company-is-lawful}
 use Rattle.tb_output.specs.State.{Work, Recorded, placed, output, emptied, records_also}
-use Rattle.tb_output.specs.Place
+use Rattle.tb_output.specs.FloatMoves
 use Rattle.tb_output.proofs.ClassesRise.ClassLines.{FloatKind}
 use Rattle.tb_output.proofs.ClassesRise.RecordLines.{column_lines, record_lines, records-append, IsPlacing, WasPlaced}
 

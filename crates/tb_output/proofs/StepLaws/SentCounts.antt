@@ -8,9 +8,9 @@ use Rattle.tb_node.specs.declared.Float.{Float}
 use Rattle.tb_node.specs.declared.Margin.{Margin}
 use Rattle.tb_node.specs.declared.Where.{Where}
 use Rattle.tb_node.specs.declared.Where.TheVariants as places
-use Rattle.tb_node.specs.Plain.{PlainNode, made, blank_box, skip}
+use Rattle.tb_node.specs.PlainNodes.{PlainNode, made, blank_box, skip}
 use Rattle.tb_param.specs.declared.Params.{Params}
-use Rattle.tb_builder.specs.Fired.{Fired}
+use Rattle.tb_builder.specs.FiredPages.{Fired}
 use Rattle.tb_float.specs.declared.Entry.{Entry}
 use Rattle.tb_float.specs.declared.Entry.TheVariants as entries
 use Rattle.tb_float.specs.Lists.{FloatLists}
@@ -21,12 +21,12 @@ use Rattle.tb_column.specs.Column.{Notes, PlainSheet, PlainSent, warned, shipped
 use Rattle.tb_column.specs.declared.Warn.{Warn}
 use Rattle.tb_column.specs.declared.Warn.TheVariants as warnings
 use Rattle.tb_output.specs.State.{State, Work, Recorded, begun, puts, sends, records_also, with_floats, footnotes, has_floats}
-use Rattle.tb_output.specs.Place
-use Rattle.tb_output.specs.Ship
+use Rattle.tb_output.specs.FloatMoves
+use Rattle.tb_output.specs.Pages
 use Rattle.tb_output.specs.Columns
 use Rattle.tb_output.specs.Text
 use Rattle.tb_output.specs.Clear
-use Rattle.tb_output.specs.Out
+use Rattle.tb_output.specs.Output
 use Rattle.tb_output.specs.Firing.{page_work}
 use Rattle.tb_output.proofs.StepLaws.ColumnSteps as steps
 use Rattle.tb_output.proofs.StepLaws.ColumnSteps.{no_law, ColumnStep, place_float-step, place_next-step, all_wide_pages-step, put_out-step, float_columns-step}

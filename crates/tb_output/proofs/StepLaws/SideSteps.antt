@@ -7,7 +7,7 @@ use Rattle.tb_scaled.specs.Glue.{filling_glue}
 use Rattle.tb_node.specs.declared.Float.{Float}
 use Rattle.tb_node.specs.declared.Where.{Where}
 use Rattle.tb_node.specs.declared.Where.TheVariants as places
-use Rattle.tb_node.specs.Plain.{PlainNode, made, blank_box, skip}
+use Rattle.tb_node.specs.PlainNodes.{PlainNode, made, blank_box, skip}
 use Rattle.tb_param.specs.declared.Params.{Params}
 use Rattle.tb_float.specs.declared.Part.{Part}
 use Rattle.tb_float.specs.declared.Part.TheVariants as parts
@@ -19,8 +19,8 @@ use Rattle.tb_fpage.proofs.FirstLemmas.{company-leaves}
 use Rattle.tb_area.specs.Area
 use Rattle.tb_column.specs.Column.{Notes, PlainColumn, PlainSheet, one, pair_sheet, text_column, single_floats_column, wide, wide_floats_column}
 use Rattle.tb_output.specs.State.{Work, Recorded, output, records_also, with_floats, footnotes, puts, has_floats}
-use Rattle.tb_output.specs.Place
-use Rattle.tb_output.specs.Ship
+use Rattle.tb_output.specs.FloatMoves
+use Rattle.tb_output.specs.Pages
 use Rattle.tb_output.specs.Columns
 use Rattle.tb_output.specs.Clear
 use Rattle.tb_output.proofs.StepLaws.FollowLemmas.{waiting-step}

@@ -6,14 +6,14 @@ ghost use Rattle.tb_scaled.specs.Glue.{fixed_glue};
 ghost use Rattle.tb_pool.specs.Lists.{IsLive, list_at};
 ghost use Rattle.tb_param.specs.Ranges.{are_params};
 ghost use Rattle.tb_column.specs.Page.{IsPageList};
-ghost use Rattle.tb_builder.specs.Running.{IsSound};
+ghost use Rattle.tb_builder.specs.Courses.{IsSound};
 ghost use Rattle.tb_output.specs.Machine.{IsMachine};
-ghost use Rattle.tb_output.specs.Acting.{IsSizedAct};
+ghost use Rattle.tb_output.specs.ActCalls.{IsSizedAct};
 ghost use Rattle.tb_output.specs.Firing.{IsReach, CanFire};
 ghost use Rattle.tb_output.specs.Scenes.{scene_classes, IsScene, IsReady, IsTextKind, LeavesAll};
 
 use super::telling::{event_text, fault_text, list_text};
-use crate::lists::push_made;
+use crate::back_list::push_made;
 use crate::{Full, Machine, RunFault, Turn, new_machine};
 use std::alloc::{AllocError, Global};
 use std::marker::Model;

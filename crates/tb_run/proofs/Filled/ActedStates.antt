@@ -10,12 +10,12 @@ use Rattle.tb_node.specs.declared.Act.{Act}
 use Rattle.tb_node.specs.declared.Act.TheVariants as acts
 use Rattle.tb_node.specs.declared.Float.{Float}
 use Rattle.tb_node.specs.Fit.{IsExtent}
-use Rattle.tb_node.specs.Plain.{act, PlainNode}
+use Rattle.tb_node.specs.PlainNodes.{act, PlainNode}
 use Rattle.tb_param.specs.declared.Params.{Params}
 use Rattle.tb_param.specs.Release.{has_second}
 use Rattle.tb_insert.specs.declared.Class.{Class}
 use Rattle.tb_builder.specs.Contents.{node_count}
-use Rattle.tb_builder.specs.Next.{Without}
+use Rattle.tb_builder.specs.PageEvents.{Without}
 use Rattle.tb_builder.specs.Pageable.{IsSizedBox}
 use Rattle.tb_builder.proofs.Ranges.PageableLemmas.{count-append}
 use Rattle.tb_float.specs.declared.Entry.{Entry}
@@ -25,9 +25,9 @@ use Rattle.tb_float.specs.Ranges.{IsWithin, IsSizedEntry}
 use Rattle.tb_column.specs.declared.Warn.{Warn}
 use Rattle.tb_output.specs.State.{State, ask_of, Recorded}
 use Rattle.tb_output.specs.Act.{Acted, went, full, taken_float, large_warning, with_taken, act_on}
-use Rattle.tb_output.specs.Acting.{IsSizedAct}
+use Rattle.tb_output.specs.ActCalls.{IsSizedAct}
 use Rattle.tb_run.specs.GalleyNodes.{IsGalleyNode}
-use Rattle.tb_run.specs.Served.{AreRunnable, IsTextKind, act_notes, notes_waiting, notes_taken, notes_left, IsServed}
+use Rattle.tb_run.specs.ServedStates.{AreRunnable, IsTextKind, act_notes, notes_waiting, notes_taken, notes_left, IsServed}
 use Rattle.tb_run.proofs.ServedAgain.FiredNodes.{notes-append}
 use Rattle.tb_run.proofs.ServedAgain.ServedFirings.{reach_where}
 

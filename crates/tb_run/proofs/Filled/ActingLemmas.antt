@@ -8,18 +8,18 @@ use Rattle.tb_pool.specs.Frame.{IsNoneOf}
 use Rattle.tb_node.specs.declared.Act.{Act}
 use Rattle.tb_node.specs.declared.Act.TheVariants as acts
 use Rattle.tb_node.specs.declared.Node.{Node}
-use Rattle.tb_node.specs.Plain.{PlainNode}
-use Rattle.tb_builder.specs.Fired.{Boxed}
+use Rattle.tb_node.specs.PlainNodes.{PlainNode}
+use Rattle.tb_builder.specs.FiredPages.{Boxed}
 use Rattle.tb_output.specs.Act.{Acted, went, full}
-use Rattle.tb_output.specs.Acting.{IsActed, acted_in, TakesNoList, dropped_lists}
+use Rattle.tb_output.specs.ActCalls.{IsActed, acted_in, TakesNoList, dropped_lists}
 use Rattle.tb_output.specs.Machine.{MachineView, state_shown, machine_lists, left_lists, event_lists, IsMachine}
 use Rattle.tb_output.specs.Firing.{builder_lists}
-use Rattle.tb_output.specs.Keeping.{AreNoneOf}
-use Rattle.tb_output.proofs.Working.ApartLemmas.{apart-swap}
-use Rattle.tb_output.proofs.Working.StandLemmas.{machine-live, IsShownBy}
+use Rattle.tb_output.specs.MachineFrame.{AreNoneOf}
+use Rattle.tb_output.proofs.FiringWork.ApartLemmas.{apart-swap}
+use Rattle.tb_output.proofs.FiringWork.StandLemmas.{machine-live, IsShownBy}
 use Rattle.tb_run.specs.declared.routine.Routine.{Routine}
-use Rattle.tb_run.specs.Turning.{IsConsistent}
-use Rattle.tb_run.specs.Filling.{HasDone, HasActed}
+use Rattle.tb_run.specs.Routine.{IsConsistent}
+use Rattle.tb_run.specs.RoutinePages.{HasDone, HasActed}
 use Rattle.tb_run.proofs.Turns.WholeLemmas.{closed-owned, closed-contents, closed-sound, closed-shown}
 
 -- what holds of the machine's lists holds of the one that is dropped

@@ -3,16 +3,16 @@ use Rattle.std.proofs.Common.{◌≡◌, refl, sym, subst, ◌∙◌, ap, ℕ, �
 use Rattle.std.specs.Prelude.{All}
 use Rattle.tb_scaled.specs.Scaled.{awful_bad}
 use Rattle.tb_node.specs.declared.Act.{Act}
-use Rattle.tb_node.specs.Plain.{PlainNode}
+use Rattle.tb_node.specs.PlainNodes.{PlainNode}
 use Rattle.tb_param.specs.declared.Params.{Params}
 use Rattle.tb_break.specs.Best.{least_cost}
-use Rattle.tb_break.specs.Prune.{pruned_nodes}
+use Rattle.tb_break.specs.PageTop.{pruned_nodes}
 use Rattle.tb_builder.specs.declared.Ask.{Ask}
 use Rattle.tb_builder.specs.declared.Try.{Try}
-use Rattle.tb_builder.specs.Reached.{Reached, acted, tried, Reach, try_of, breakpoints}
-use Rattle.tb_builder.specs.Fired.{fired_of}
+use Rattle.tb_builder.specs.Reach.{Reached, acted, tried, Reach, try_of, breakpoints}
+use Rattle.tb_builder.specs.FiredPages.{fired_of}
 use Rattle.tb_builder.specs.Contents.{Contents, laid, reach_ahead, node_count}
-use Rattle.tb_builder.specs.Paging.{page_reach, page_fired, HasCome, StopsAt, ComesToTry, ComesToAct, ComesToEnd}
+use Rattle.tb_builder.specs.PageProgress.{page_reach, page_fired, HasCome, StopsAt, ComesToTry, ComesToAct, ComesToEnd}
 use Rattle.tb_builder.proofs.Events.PagingLemmas.{paging_begins}
 use Rattle.tb_builder.proofs.Ranges.PageableLemmas.{pruned_sized}
 use Rattle.tb_builder.proofs.Ranges.PrunedLemmas.{pruned_nodes_longer}
@@ -20,12 +20,12 @@ use Rattle.tb_column.specs.Column.{warned}
 use Rattle.tb_column.specs.declared.Warn.{Warn}
 use Rattle.tb_output.specs.State.{State, ask_of, Recorded, emptied}
 use Rattle.tb_output.specs.Act.{went, full, act_on}
-use Rattle.tb_output.specs.Acting.{IsSizedAct}
+use Rattle.tb_output.specs.ActCalls.{IsSizedAct}
 use Rattle.tb_run.specs.GalleyNodes.{IsGalleyNode}
 use Rattle.tb_run.specs.Run.{offered, sent, done, pool_full, Progress, after_events, progress_by, progress, ends, after_progress, step}
-use Rattle.tb_run.specs.Served.{AreRunnable, notes_waiting, notes_left, IsServed}
-use Rattle.tb_run.specs.Turning.{between_pages}
-use Rattle.tb_run.specs.Filling.{firing_step}
+use Rattle.tb_run.specs.ServedStates.{AreRunnable, notes_waiting, notes_left, IsServed}
+use Rattle.tb_run.specs.Routine.{between_pages}
+use Rattle.tb_run.specs.RoutinePages.{firing_step}
 use Rattle.tb_run.proofs.ServedAgain.FiredNodes.{served-pruned, nodes-both, nodes-sized, nodes-served, notes-pruned}
 use Rattle.tb_run.proofs.Filled.ActedStates.{ActKeeps, keeps-same, keeps-then, act-sized, act-keeps, act-served, without-count}
 use Rattle.tb_run.proofs.Filled.ProgressLemmas.{progress-tried, progress-acted, progress-stuck}

@@ -7,29 +7,29 @@ use Rattle.std.proofs.lemmas.List.{length-map}
 use Rattle.std.proofs.lemmas.List.Elements.{All-nil}
 use Rattle.tb_break.proofs.EachLemmas.{all-join, all-front, all-back, all-take, all-drop}
 use Rattle.tb_node.specs.Fit.{IsExtent}
-use Rattle.tb_node.specs.Plain.{PlainNode}
+use Rattle.tb_node.specs.PlainNodes.{PlainNode}
 use Rattle.tb_param.specs.declared.Params.{Params}
 use Rattle.tb_insert.specs.declared.Class.{Class}
 use Rattle.tb_insert.specs.Account.{ClassBox, Labelled, labelled}
 use Rattle.tb_builder.specs.declared.Ask.{Ask}
-use Rattle.tb_builder.specs.Reached.{Reached, Reach}
-use Rattle.tb_builder.specs.Fired.{Boxed, Fired, page_break, content_of, given_to, box_after, is_given, frozen_for, fired_of}
+use Rattle.tb_builder.specs.Reach.{Reached, Reach}
+use Rattle.tb_builder.specs.FiredPages.{Boxed, Fired, page_break, content_of, given_to, box_after, is_given, frozen_for, fired_of}
 use Rattle.tb_builder.specs.Contents.{Contents, frozen_of, laid, node_count, box_count}
-use Rattle.tb_builder.specs.Kept.{IsSizedAsk, fired_count, AreBoxesOf}
-use Rattle.tb_builder.specs.Next.{BoxesFit, NextFits}
-use Rattle.tb_builder.specs.Paging.{page_fired}
+use Rattle.tb_builder.specs.SizedContents.{IsSizedAsk, fired_count, AreBoxesOf}
+use Rattle.tb_builder.specs.PageEvents.{BoxesFit, NextFits}
+use Rattle.tb_builder.specs.PageProgress.{page_fired}
 use Rattle.tb_builder.specs.Pageable.{IsSizedOnPage, IsGoal}
-use Rattle.tb_builder.specs.Places.{NoActs}
+use Rattle.tb_builder.specs.LegalPlaces.{NoActs}
 use Rattle.tb_builder.proofs.LegalPlaces.ChargeLemmas.{few_classes}
 use Rattle.tb_builder.proofs.Ranges.PageableLemmas.{IsSizedFrozen, laid_fits, class_boxes_sized, class_boxes_total}
 use Rattle.tb_builder.proofs.Ranges.SizedLemmas.{FiredSized}
 use Rattle.tb_builder.proofs.Events.WholeLemmas.{between-fits, fired_of-sized, fired_of-fewer}
 use Rattle.tb_output.specs.State.{State, ask_of, has_floats}
-use Rattle.tb_output.specs.Out.{hold_penalty}
+use Rattle.tb_output.specs.Output.{hold_penalty}
 use Rattle.tb_run.specs.GalleyNodes.{IsServable, IsGalleyNode}
 use Rattle.tb_run.specs.Run.{held_count}
-use Rattle.tb_run.specs.Served.{AreRunnable, AreRunClasses, notes_waiting, notes_left, IsTextKind, IsServed, IsServedPage}
-use Rattle.tb_run.specs.Turning.{between_pages}
+use Rattle.tb_run.specs.ServedStates.{AreRunnable, AreRunClasses, notes_waiting, notes_left, IsTextKind, IsServed, IsServedPage}
+use Rattle.tb_run.specs.Routine.{between_pages}
 use Rattle.tb_run.proofs.ServedAgain.FiredNodes.{no_acts-take, text-body, served-spent, mild-break, known-labels, held-known, nodes-both, nodes-sized, nodes-served, notes-append, notes-drop, notes-spent, notes-held}
 use Rattle.tb_run.proofs.ServedAgain.ServedFirings.{reach_where, within-more}
 use Rattle.tb_run.proofs.Filled.ComingLemmas.{IsComing, start, fired-is}

@@ -11,29 +11,29 @@ use Rattle.tb_builder.specs.declared.Ask.{Ask}
 use Rattle.tb_builder.specs.declared.Event.{Event}
 use Rattle.tb_builder.specs.declared.Event.TheVariants as events
 use Rattle.tb_builder.specs.declared.Try.{Try}
-use Rattle.tb_builder.specs.Reached.{Reached, acted, tried}
+use Rattle.tb_builder.specs.Reach.{Reached, acted, tried}
 use Rattle.tb_builder.specs.Contents.{Contents, reach_ahead}
-use Rattle.tb_builder.specs.Next.{NextFits}
-use Rattle.tb_builder.specs.Paging.{ComesToTry, ComesToAct, ComesTo, IsNextOfPage}
-use Rattle.tb_builder.specs.Owned.{ids_of, KeepsOthers}
-use Rattle.tb_builder.specs.Running.{IsSound}
+use Rattle.tb_builder.specs.PageEvents.{NextFits}
+use Rattle.tb_builder.specs.PageProgress.{ComesToTry, ComesToAct, ComesTo, IsNextOfPage}
+use Rattle.tb_builder.specs.Ownership.{ids_of, KeepsOthers}
+use Rattle.tb_builder.specs.Courses.{IsSound}
 use Rattle.tb_builder.proofs.Events.PagingLemmas.{calls_left, one_fewer}
 use Rattle.tb_column.specs.declared.Warn.{Warn}
 use Rattle.tb_column.specs.Column.{warned}
 use Rattle.tb_column.specs.Notes.{AreDistinct}
 use Rattle.tb_output.specs.State.{State, ask_of}
 use Rattle.tb_output.specs.Act.{Acted, went, full, act_on}
-use Rattle.tb_output.specs.Acting.{IsSizedAct, line_of, warnings_sent}
+use Rattle.tb_output.specs.ActCalls.{IsSizedAct, line_of, warnings_sent}
 use Rattle.tb_output.specs.Machine.{MachineView, state_shown, left_lists, event_lists, machine_lists, IsMachine}
 use Rattle.tb_output.specs.Firing.{builder_lists}
-use Rattle.tb_output.proofs.Working.ApartLemmas.{distinct-front}
-use Rattle.tb_run.specs.declared.happening.Happening.{Happening}
+use Rattle.tb_output.proofs.FiringWork.ApartLemmas.{distinct-front}
+use Rattle.tb_run.specs.declared.happenings.Happening.{Happening}
 use Rattle.tb_run.specs.declared.routine.Routine.{Routine}
 use Rattle.tb_run.specs.declared.routine.Ending.TheVariants as endings
 use Rattle.tb_run.specs.Run.{RunEvent, offered, sent, held_count}
-use Rattle.tb_run.specs.Happened.{noted_try, noted, step_events}
-use Rattle.tb_run.specs.Turning.{held_in, state_of, with_events, IsConsistent, IsReady, EndsAs}
-use Rattle.tb_run.specs.Filling.{sent_happenings, HasDone, HasActed, HasNotActed, AreQuiet, IsFilledLast}
+use Rattle.tb_run.specs.Happenings.{noted_try, noted, step_events}
+use Rattle.tb_run.specs.Routine.{held_in, state_of, with_events, IsConsistent, IsReady, EndsAs}
+use Rattle.tb_run.specs.RoutinePages.{sent_happenings, HasDone, HasActed, HasNotActed, AreQuiet, IsFilledLast}
 use Rattle.tb_run.proofs.Turns.WholeLemmas.{built-shown, built-whole}
 use Rattle.tb_run.proofs.Turns.HappenedLemmas.{lists-append, events-append, noted-append, noted-warned, try-noted, try-lists, warned-events, warned-lists}
 use Rattle.tb_run.proofs.Filled.ComingLemmas.{IsComing, start, so_far, coming-start, after, tried-events, coming-tried, acted-sized, acted-events, coming-acted, step-full, step-over}

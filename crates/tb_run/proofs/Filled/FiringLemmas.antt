@@ -9,39 +9,39 @@ use Rattle.tb_pool.specs.Lists.{Lists, list_at}
 use Rattle.tb_node.specs.declared.Kind.{Kind}
 use Rattle.tb_node.specs.declared.Kind.TheVariants as kinds
 use Rattle.tb_node.specs.declared.Node.{Node}
-use Rattle.tb_node.specs.Plain.{plain_of, plain_kind, PlainNode}
+use Rattle.tb_node.specs.PlainNodes.{plain_of, plain_kind, PlainNode}
 use Rattle.tb_param.specs.declared.Params.{Params}
 use Rattle.tb_builder.specs.declared.Ask.{Ask}
 use Rattle.tb_builder.specs.declared.Builder.{Builder}
 use Rattle.tb_builder.specs.declared.Event.{Event}
 use Rattle.tb_builder.specs.declared.Event.TheVariants as events
 use Rattle.tb_builder.specs.declared.Page.{Page}
-use Rattle.tb_builder.specs.Fired.{Boxed, Fired}
+use Rattle.tb_builder.specs.FiredPages.{Boxed, Fired}
 use Rattle.tb_builder.specs.Contents.{Contents, contents_of, node_count, box_count}
-use Rattle.tb_builder.specs.Kept.{fired_count, AreBoxesOf}
+use Rattle.tb_builder.specs.SizedContents.{fired_count, AreBoxesOf}
 use Rattle.tb_pool.specs.Frame.{IsNoneOf}
-use Rattle.tb_builder.specs.Handed.{NoPage}
-use Rattle.tb_builder.specs.Next.{IsGivenOut}
-use Rattle.tb_builder.specs.Paging.{page_fired, ComesToPage, IsNextOfPage}
-use Rattle.tb_builder.specs.Owned.{ids_of, KeepsOthers}
+use Rattle.tb_builder.specs.Contributions.{NoPage}
+use Rattle.tb_builder.specs.PageEvents.{IsGivenOut}
+use Rattle.tb_builder.specs.PageProgress.{page_fired, ComesToPage, IsNextOfPage}
+use Rattle.tb_builder.specs.Ownership.{ids_of, KeepsOthers}
 use Rattle.tb_builder.specs.Pageable.{IsSizedBox}
-use Rattle.tb_builder.specs.Places.{NoActs}
-use Rattle.tb_builder.specs.Running.{IsSound, IsPageSoFar}
+use Rattle.tb_builder.specs.LegalPlaces.{NoActs}
+use Rattle.tb_builder.specs.Courses.{IsSound, IsPageSoFar}
 use Rattle.tb_builder.proofs.Ownership.StoreSized.{list-back, list-length, boxes_of}
 use Rattle.tb_column.specs.Page.{is_leaf_kind, AreLeaves}
 use Rattle.tb_float.specs.Ranges.{IsWithin}
 use Rattle.tb_output.specs.State.{State, ask_of, Recorded}
-use Rattle.tb_output.specs.Out.{hold_penalty, out}
+use Rattle.tb_output.specs.Output.{hold_penalty, out}
 use Rattle.tb_output.specs.Machine.{MachineView, state_shown, machine_lists}
 use Rattle.tb_output.specs.Firing.{builder_lists, fired_in, IsReach, CanFire}
-use Rattle.tb_output.proofs.Working.ApartLemmas.{fresh-none, lacks-none}
-use Rattle.tb_output.proofs.Working.StandLemmas.{machine-live}
-use Rattle.tb_run.specs.declared.happening.Happening.{Happening}
+use Rattle.tb_output.proofs.FiringWork.ApartLemmas.{fresh-none, lacks-none}
+use Rattle.tb_output.proofs.FiringWork.StandLemmas.{machine-live}
+use Rattle.tb_run.specs.declared.happenings.Happening.{Happening}
 use Rattle.tb_run.specs.declared.routine.Routine.{Routine}
 use Rattle.tb_run.specs.Run.{RunEvent, held_count}
-use Rattle.tb_run.specs.Served.{AreRunClasses, IsTextKind, notes_left, IsServedPage}
-use Rattle.tb_run.specs.Turning.{held_in, state_of, IsConsistent, IsBetweenFirings, IsReady}
-use Rattle.tb_run.specs.Filling.{firing_step, IsBoundedPage, IsFiring}
+use Rattle.tb_run.specs.ServedStates.{AreRunClasses, IsTextKind, notes_left, IsServedPage}
+use Rattle.tb_run.specs.Routine.{held_in, state_of, IsConsistent, IsBetweenFirings, IsReady}
+use Rattle.tb_run.specs.RoutinePages.{firing_step, IsBoundedPage, IsFiring}
 use Rattle.tb_run.proofs.ServedAgain.ServedFirings.{reach_where}
 use Rattle.tb_run.proofs.Turns.CountedLemmas.{leaves-count}
 use Rattle.tb_run.proofs.Filled.ComingLemmas.{start, so_far, step-fires}

@@ -7,15 +7,15 @@ use Rattle.tb_builder.specs.declared.Event.{Event}
 use Rattle.tb_builder.specs.declared.Event.TheVariants as events
 use Rattle.tb_builder.specs.declared.Page.{Page}
 use Rattle.tb_builder.specs.declared.Try.{Try}
-use Rattle.tb_builder.specs.Calls.{IsNext, PassedOver, ComesBy}
+use Rattle.tb_builder.specs.PageCalls.{IsNext, PassedOver, ComesBy}
 use Rattle.tb_output.specs.State.{ask_of}
-use Rattle.tb_output.specs.Acting.{IsSizedAct, line_of}
-use Rattle.tb_run.specs.declared.happening.Happening.{Happening}
+use Rattle.tb_output.specs.ActCalls.{IsSizedAct, line_of}
+use Rattle.tb_run.specs.declared.happenings.Happening.{Happening}
 use Rattle.tb_run.specs.declared.routine.Routine.{Routine}
 use Rattle.tb_run.specs.declared.routine.Ending.TheVariants as endings
-use Rattle.tb_run.specs.Happened.{noted_try}
-use Rattle.tb_run.specs.Turning.{state_of, with_events, IsConsistent, IsReady}
-use Rattle.tb_run.specs.Filling.{HasComeTo, sent_happenings, HasActed, HasNotActed, IsFilledLast, IsFiring}
+use Rattle.tb_run.specs.Happenings.{noted_try}
+use Rattle.tb_run.specs.Routine.{state_of, with_events, IsConsistent, IsReady}
+use Rattle.tb_run.specs.RoutinePages.{HasComeTo, sent_happenings, HasActed, HasNotActed, IsFilledLast, IsFiring}
 use Rattle.tb_run.proofs.Filled.FillingLemmas.{IsUnderway, left_of_page, next-whole, underway-tried, fewer-tried, act-fits, underway-acted, fewer-acted, filled-full, filled-over}
 use Rattle.tb_run.proofs.Filled.FiringLemmas.{filled-fires}
 

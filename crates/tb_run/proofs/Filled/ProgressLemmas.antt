@@ -5,7 +5,7 @@ use Rattle.tb_node.specs.declared.Act.{Act}
 use Rattle.tb_param.specs.declared.Params.{Params}
 use Rattle.tb_break.specs.Best.{Breakpoint, least_cost}
 use Rattle.tb_break.proofs.BestLemmas.{least-append}
-use Rattle.tb_builder.specs.Reached.{Reached, acted, tried, try_of, breakpoints}
+use Rattle.tb_builder.specs.Reach.{Reached, acted, tried, try_of, breakpoints}
 use Rattle.tb_column.specs.Column.{warned}
 use Rattle.tb_output.specs.State.{State, Recorded}
 use Rattle.tb_output.specs.Act.{Acted, went, full, act_on}

@@ -10,26 +10,26 @@ use Rattle.tb_column.proofs.StoreLemmas.{with_list-added}
 use Rattle.tb_node.specs.declared.Node.{Node}
 use Rattle.tb_node.specs.declared.Insertion.{Insertion}
 use Rattle.tb_node.specs.declared.Kind.TheVariants as kinds
-use Rattle.tb_node.specs.Plain.{matter_shape, matter_of, leaf_of, leaf_shape, shape_of, shape_of_kind, ins, plain_of, on_line}
+use Rattle.tb_node.specs.PlainNodes.{matter_shape, matter_of, leaf_of, leaf_shape, shape_of, shape_of_kind, ins, plain_of, on_line}
 use Rattle.tb_node.specs.Sums.{size_of}
 use Rattle.tb_node.specs.Shape.{Shape}
-use Rattle.tb_node.specs.Small.{IsAmount}
+use Rattle.tb_node.specs.SmallAmounts.{IsAmount}
 use Rattle.tb_node.specs.Fit.{IsSummable}
 use Rattle.tb_node.proofs.FitLemmas.{IsWithin, size_within}
 use Rattle.tb_param.specs.declared.Params.{Params}
 use Rattle.tb_builder.specs.declared.Builder.{Builder}
 use Rattle.tb_builder.specs.Contents.{contents_of}
-use Rattle.tb_builder.specs.Owned.{Lacks, has_class, inner_ids, ids_of, owned, is_plain, AllPlain, classes_of}
-use Rattle.tb_builder.specs.Running.{IsSound}
-use Rattle.tb_builder.specs.Handed.{NodesJoin, MayWait, NoPage}
+use Rattle.tb_builder.specs.Ownership.{Lacks, has_class, inner_ids, ids_of, owned, is_plain, AllPlain, classes_of}
+use Rattle.tb_builder.specs.Courses.{IsSound}
+use Rattle.tb_builder.specs.Contributions.{NodesJoin, MayWait, NoPage}
 use Rattle.tb_builder.proofs.Ownership.FrameLemmas.{live_all_same, frame_owned, frame_contents, frame_sound, insertion_joins, fresh_apart, empty_may_wait}
 use Rattle.tb_builder.proofs.Ownership.OwnedLemmas.{AllSame, lacks-append}
 use Rattle.tb_builder.proofs.Ownership.NewLemmas.{fresh_lacks}
 use Rattle.tb_galley.specs.declared.Leaf.{Leaf}
 use Rattle.tb_galley.specs.declared.LeafKind.{LeafKind}
 use Rattle.tb_galley.specs.declared.LeafKind.TheVariants as leaves
-use Rattle.tb_galley.specs.Expand.{leaf_matter, plain_leaf, foot_insertion}
-use Rattle.tb_run.specs.Expanding.{CanTake, Waits, leaf_kind, leaf_list}
+use Rattle.tb_galley.specs.GalleyNodes.{leaf_matter, plain_leaf, foot_insertion}
+use Rattle.tb_run.specs.WaitingNodes.{CanTake, Waits, leaf_kind, leaf_list}
 
 -- one leaf further
 pub leaf-added : (s t u : Lists Node) (l : ℕ) (ls : List Leaf) (i : ℕ) (x : Leaf) → i < length ls → x ≡ get_or ls i x → t.lists ≡ with_list s l (list_at s l ++ leaf_list (take i ls)) → u.lists ≡ with_list t l (list_at t l ++ record { line = x.line; kind = leaf_kind x.kind } ∷ [])

@@ -9,8 +9,8 @@ use Rattle.tb_scaled.specs.Amount.{IsAmount}
 use Rattle.tb_param.specs.declared.Params.{Params}
 use Rattle.tb_param.specs.Table.{is_within, is_dimen, is_glue}
 use Rattle.tb_insert.specs.declared.Class.{Class}
-use Rattle.tb_insert.specs.Arrived.{ClassFits}
-use Rattle.tb_builder.specs.Owned.{has_class, ClassesFit}
+use Rattle.tb_insert.specs.Arrival.{ClassFits}
+use Rattle.tb_builder.specs.Ownership.{has_class, ClassesFit}
 use Rattle.tb_galley.specs.declared.ClassLine.{ClassLine}
 use Rattle.tb_galley.specs.declared.Galley.{Galley}
 use Rattle.tb_galley.specs.Valid.{is_class, is_size, do_classes_rise, IsValid}

@@ -8,7 +8,7 @@ use Rattle.std.proofs.lemmas.List.Elements.{All-nil, All-cons}
 use Rattle.tb_node.specs.declared.Node.{Node}
 use Rattle.tb_node.specs.Fit.{IsSizedNode}
 use Rattle.tb_param.specs.declared.Params.{Params}
-use Rattle.tb_builder.specs.Owned.{has_class}
+use Rattle.tb_builder.specs.Ownership.{has_class}
 use Rattle.tb_galley.specs.declared.ClassLine.{ClassLine}
 use Rattle.tb_galley.specs.declared.Leaf.{Leaf}
 use Rattle.tb_galley.specs.declared.LeafKind.{LeafKind}
@@ -17,11 +17,11 @@ use Rattle.tb_galley.specs.declared.Item.{Item}
 use Rattle.tb_galley.specs.declared.ItemKind.{ItemKind}
 use Rattle.tb_galley.specs.declared.ItemKind.TheVariants as items
 use Rattle.tb_galley.specs.declared.Galley.{Galley}
-use Rattle.tb_galley.specs.Values.{is_class_among}
+use Rattle.tb_galley.specs.Fields.{is_class_among}
 use Rattle.tb_galley.specs.Valid.{is_leaf, is_item, weight_of, weight, has_known_class, IsValid}
 use Rattle.tb_output.specs.State.{foot_class}
 use Rattle.tb_run.specs.Run.{class_of, classes_of}
-use Rattle.tb_run.specs.Expanding.{leaf_kind, leaf_list, IsItem, AreItems}
+use Rattle.tb_run.specs.WaitingNodes.{leaf_kind, leaf_list, IsItem, AreItems}
 use Rattle.tb_galley.proofs.Conjunctions.{left_of, right_of}
 use Rattle.tb_run.proofs.FromGalley.ItemAmounts.{dimen-dimension, both-extents, glue-sized, penalty-served}
 

@@ -13,7 +13,7 @@ use Rattle.tb_node.specs.declared.Act.TheVariants as acts
 use Rattle.tb_node.specs.Names.{is_name, is_between}
 use Rattle.tb_node.specs.Shape.{glue}
 use Rattle.tb_node.specs.Fit.{IsDimension, IsExtent, IsSized}
-use Rattle.tb_node.specs.Plain.{Leaf as PlainLeaf, matter_shape, kind_shape, PlainKind, act, blank_box, on_line, newpage_kinds, clearpage_kinds}
+use Rattle.tb_node.specs.PlainNodes.{Leaf as PlainLeaf, matter_shape, kind_shape, PlainKind, act, blank_box, on_line, newpage_kinds, clearpage_kinds}
 use Rattle.tb_param.specs.declared.Params.{Params}
 use Rattle.tb_param.specs.Release.{has_second}
 use Rattle.tb_insert.specs.declared.Class.{Class}
@@ -24,12 +24,12 @@ use Rattle.tb_galley.specs.declared.Item.{Item}
 use Rattle.tb_galley.specs.declared.ItemKind.{ItemKind}
 use Rattle.tb_galley.specs.declared.ItemKind.TheVariants as items
 use Rattle.tb_galley.specs.declared.Galley.{Galley}
-use Rattle.tb_galley.specs.Expand.{plain_leaf, with_firings, item_kinds, item_nodes, two_after, expanded}
+use Rattle.tb_galley.specs.GalleyNodes.{plain_leaf, with_firings, item_kinds, item_nodes, two_after, expanded}
 use Rattle.tb_galley.specs.Valid.{is_size, is_float, is_margin, is_item, weight_of, weight, IsValid}
 use Rattle.tb_galley.proofs.Conjunctions.{left_of, right_of}
-use Rattle.tb_output.specs.Acting.{IsSizedAct}
+use Rattle.tb_output.specs.ActCalls.{IsSizedAct}
 use Rattle.tb_run.specs.Run.{classes_of}
-use Rattle.tb_run.specs.Expanding.{IsItem, AreItems}
+use Rattle.tb_run.specs.WaitingNodes.{IsItem, AreItems}
 use Rattle.tb_run.specs.GalleyNodes.{IsServable, IsGalleyNode, AreGalleyNodes, AreFootParams}
 use Rattle.tb_run.proofs.FromGalley.ItemAmounts.{size-extent, dimen-dimension, both-extents, glue-sized, margin-sized, penalty-served, strength-served, asked-served, leaves-sized}
 use Rattle.tb_run.proofs.FromGalley.GalleyItems.{galley-items}

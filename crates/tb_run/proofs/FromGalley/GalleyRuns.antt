@@ -8,7 +8,7 @@ use Rattle.tb_builder.proofs.Handover.CallLemmas.{dimension_small}
 use Rattle.tb_scaled.specs.declared.Glue.{Glue}
 use Rattle.tb_param.specs.declared.Params.{Params}
 use Rattle.tb_param.specs.Table.{is_within, is_dimen, is_glue}
-use Rattle.tb_insert.specs.Arrived.{ClassFits}
+use Rattle.tb_insert.specs.Arrival.{ClassFits}
 use Rattle.tb_builder.specs.Pageable.{IsFactor, IsSizedClass}
 use Rattle.tb_column.specs.Ranges.{IsSizedGlue}
 use Rattle.tb_galley.specs.declared.ClassLine.{ClassLine}
@@ -18,7 +18,7 @@ use Rattle.tb_galley.proofs.Conjunctions.{left_of, right_of}
 use Rattle.tb_output.specs.State.{foot_class}
 use Rattle.tb_output.specs.Machine.{AreClassesFrom}
 use Rattle.tb_run.specs.Run.{classes_of}
-use Rattle.tb_run.specs.Served.{AreRunnable, AreRunClasses}
+use Rattle.tb_run.specs.ServedStates.{AreRunnable, AreRunClasses}
 use Rattle.tb_run.proofs.FromGalley.ItemAmounts.{dimen-dimension}
 use Rattle.tb_run.proofs.FromGalley.GalleyClasses.{AreAbove, rising-above, rising-rest, class-small, with_foot, classes-fit}
 

@@ -14,10 +14,10 @@ use Rattle.tb_float.specs.Ranges.{IsSizedMargin}
 use Rattle.tb_galley.specs.declared.Leaf.{Leaf}
 use Rattle.tb_galley.specs.declared.LeafKind.{LeafKind}
 use Rattle.tb_galley.specs.declared.LeafKind.TheVariants as leaves
-use Rattle.tb_galley.specs.Expand.{break_strength, plain_leaf}
+use Rattle.tb_galley.specs.GalleyNodes.{break_strength, plain_leaf}
 use Rattle.tb_galley.specs.Valid.{is_size, is_leaf, is_margin}
 use Rattle.tb_galley.proofs.Conjunctions.{left_of, right_of}
-use Rattle.tb_output.specs.Out.{hold_penalty}
+use Rattle.tb_output.specs.Output.{hold_penalty}
 
 pub size-extent : (v : ℤ) → IsTrue (is_size v) → IsExtent v
 size-extent v h = record { low = grind (arith, ints, h); high = grind (arith, ints, h) }

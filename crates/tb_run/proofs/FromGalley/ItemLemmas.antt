@@ -3,13 +3,13 @@ use Rattle.std.proofs.Common.{◌≡◌, refl, sym, subst, ◌∙◌, ap, ℕ, �
 use Rattle.std.proofs.lemmas.List.{take_more}
 use Rattle.tb_pool.specs.Lists.{Lists}
 use Rattle.tb_node.specs.declared.Node.{Node}
-use Rattle.tb_node.specs.Plain.{on_line, clearpage_kinds}
+use Rattle.tb_node.specs.PlainNodes.{on_line, clearpage_kinds}
 use Rattle.tb_param.specs.declared.Params.{Params}
 use Rattle.tb_builder.specs.declared.Builder.{Builder}
 use Rattle.tb_galley.specs.declared.Item.{Item}
 use Rattle.tb_galley.specs.declared.Galley.{Galley}
-use Rattle.tb_galley.specs.Expand.{item_kinds, item_nodes, two_after, two_past, expanded}
-use Rattle.tb_run.specs.Expanding.{Waits}
+use Rattle.tb_galley.specs.GalleyNodes.{item_kinds, item_nodes, two_after, two_past, expanded}
+use Rattle.tb_run.specs.WaitingNodes.{Waits}
 use Rattle.tb_run.proofs.FromGalley.WaitsLemmas.{waits-then}
 
 pub item_nodes-append : (p : Params) (two : Bool) (xs ys : List Item) → item_nodes p two (xs ++ ys) ≡ item_nodes p two xs ++ item_nodes p (two_past two xs) ys

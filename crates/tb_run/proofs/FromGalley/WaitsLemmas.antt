@@ -7,16 +7,16 @@ use Rattle.tb_pool.specs.Lists.{Lists, list_at}
 use Rattle.tb_node.specs.declared.Kind.{Kind}
 use Rattle.tb_node.specs.declared.Kind.TheVariants as kinds
 use Rattle.tb_node.specs.declared.Node.{Node}
-use Rattle.tb_node.specs.Plain.{PlainNode, plain_kind, plain_of}
+use Rattle.tb_node.specs.PlainNodes.{PlainNode, plain_kind, plain_of}
 use Rattle.tb_insert.specs.declared.Class.{Class}
 use Rattle.tb_builder.specs.declared.Builder.{Builder}
 use Rattle.tb_builder.specs.Contents.{Contents, contents_of}
-use Rattle.tb_builder.specs.Owned.{Lacks, inner_of, inner_ids, ids_of, owned, is_known, classes_of}
-use Rattle.tb_builder.specs.Running.{IsSound}
-use Rattle.tb_builder.specs.Handed.{NodesJoin, MayWait}
+use Rattle.tb_builder.specs.Ownership.{Lacks, inner_of, inner_ids, ids_of, owned, is_known, classes_of}
+use Rattle.tb_builder.specs.Courses.{IsSound}
+use Rattle.tb_builder.specs.Contributions.{NodesJoin, MayWait}
 use Rattle.tb_builder.proofs.Ownership.FrameLemmas.{plain_joins, empty_may_wait}
 use Rattle.tb_builder.proofs.Ownership.SpareLemmas.{contents_still, owned_still, sound_still}
-use Rattle.tb_run.specs.Expanding.{CanTake, Waits, lone}
+use Rattle.tb_run.specs.WaitingNodes.{CanTake, Waits, lone}
 
 -- more can be taken afterwards
 pub waits-can : (ns : List PlainNode) (b : Builder) (s : Lists Node) (d : Builder) (t : Lists Node) → CanTake b s → Waits ns b s d t → CanTake d t

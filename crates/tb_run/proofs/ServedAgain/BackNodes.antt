@@ -11,13 +11,13 @@ use Rattle.tb_scaled.specs.declared.Glue.{Glue}
 use Rattle.tb_node.specs.declared.Float.{Float}
 use Rattle.tb_node.specs.declared.Margin.{Margin}
 use Rattle.tb_node.specs.Fit.{IsSizedLeaf, IsSizedPlain}
-use Rattle.tb_node.specs.Plain.{Leaf, PlainKind, plain, ins, act, PlainNode}
+use Rattle.tb_node.specs.PlainNodes.{Leaf, PlainKind, plain, ins, act, PlainNode}
 use Rattle.tb_param.specs.declared.Params.{Params}
 use Rattle.tb_insert.specs.declared.Class.{Class}
-use Rattle.tb_builder.specs.Fired.{Boxed, content_of, box_content}
+use Rattle.tb_builder.specs.FiredPages.{Boxed, content_of, box_content}
 use Rattle.tb_builder.specs.Contents.{node_count, box_count}
-use Rattle.tb_builder.specs.Kept.{AreBoxesOf}
-use Rattle.tb_builder.specs.Owned.{has_class, ClassesFit}
+use Rattle.tb_builder.specs.SizedContents.{AreBoxesOf}
+use Rattle.tb_builder.specs.Ownership.{has_class, ClassesFit}
 use Rattle.tb_builder.specs.Pageable.{IsSizedInserted, IsSizedKind, IsSizedBox}
 use Rattle.tb_builder.proofs.FiredPages.FiredCounts.{count-split}
 use Rattle.tb_column.specs.Column.{Notes}
@@ -27,9 +27,9 @@ use Rattle.tb_output.specs.Machine.{AreClassesFrom}
 use Rattle.tb_output.specs.Columns.{emptied_boxes}
 use Rattle.tb_output.specs.Clear.{clear_again}
 use Rattle.tb_output.specs.Text.{penalty_nodes, penalty_after, notes_nodes, here_nodes, note_nodes}
-use Rattle.tb_output.specs.Out.{hold_penalty, blank_column}
+use Rattle.tb_output.specs.Output.{hold_penalty, blank_column}
 use Rattle.tb_run.specs.GalleyNodes.{IsMild, IsServable, IsGalleyNode}
-use Rattle.tb_run.specs.Served.{AreRunnable, notes_waiting, IsTextKind}
+use Rattle.tb_run.specs.ServedStates.{AreRunnable, notes_waiting, IsTextKind}
 
 -- no act, a penalty is mild, and an insertion is sized and of one of these classes
 abbrev pub IsBackKind : List Class → PlainKind → Type 0

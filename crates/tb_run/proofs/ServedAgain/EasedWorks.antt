@@ -12,8 +12,8 @@ use Rattle.tb_fpage.specs.Company.{Choice, company, chosen_floats, left_floats}
 use Rattle.tb_area.specs.Area.{next_place, double_place}
 use Rattle.tb_column.specs.Column.{PlainColumn, PlainSheet, PlainSent, shipped, one, pair_sheet, single_floats_column}
 use Rattle.tb_output.specs.State.{Work, Recorded, placed, output, sends, records_also, with_floats}
-use Rattle.tb_output.specs.Place
-use Rattle.tb_output.specs.Ship
+use Rattle.tb_output.specs.FloatMoves
+use Rattle.tb_output.specs.Pages
 use Rattle.tb_output.specs.Columns
 
 pub record Eases (a c : Work) : Type 0 where

@@ -6,17 +6,17 @@ use Rattle.std.proofs.lemmas.Int.{ints}
 use Rattle.std.proofs.lemmas.Bool.{true≢false}
 use Rattle.std.proofs.lemmas.List.Elements.{All-from_recursion, recursion_from_All}
 use Rattle.tb_break.proofs.EachLemmas.{all-join, all-map}
-use Rattle.tb_node.specs.Plain.{hbox, rule, skip, kerned, pen, mark, note, whatsit, Leaf, Inserted, PlainKind, plain, ins, act, PlainNode, is_act_kind, without_insertions, on_line}
-use Rattle.tb_break.specs.Prune.{pruned_nodes}
+use Rattle.tb_node.specs.PlainNodes.{hbox, rule, skip, kerned, pen, mark, note, whatsit, Leaf, Inserted, PlainKind, plain, ins, act, PlainNode, is_act_kind, without_insertions, on_line}
+use Rattle.tb_break.specs.PageTop.{pruned_nodes}
 use Rattle.tb_insert.specs.declared.Class.{Class}
 use Rattle.tb_insert.specs.Account.{Frozen, Label, whole, split, late, Labelled, labelled_with, labelled_from, labelled}
-use Rattle.tb_builder.specs.Fired.{spent_kind, with_spent_break, penalty_at, held_of, unless_empty, held_insertions}
-use Rattle.tb_builder.specs.Owned.{has_class}
+use Rattle.tb_builder.specs.FiredPages.{spent_kind, with_spent_break, penalty_at, held_of, unless_empty, held_insertions}
+use Rattle.tb_builder.specs.Ownership.{has_class}
 use Rattle.tb_builder.specs.Pageable.{IsSizedOnPage}
-use Rattle.tb_builder.specs.Places.{NoActs}
-use Rattle.tb_output.specs.Out.{hold_penalty}
+use Rattle.tb_builder.specs.LegalPlaces.{NoActs}
+use Rattle.tb_output.specs.Output.{hold_penalty}
 use Rattle.tb_run.specs.GalleyNodes.{IsServable, IsGalleyNode}
-use Rattle.tb_run.specs.Served.{kind_notes, notes_waiting, IsTextKind}
+use Rattle.tb_run.specs.ServedStates.{kind_notes, notes_waiting, IsTextKind}
 
 -- ---- no acts
 

@@ -7,7 +7,7 @@ use Rattle.tb_break.proofs.EachLemmas.{all-take}
 use Rattle.tb_scaled.specs.Scaled.{max_dimen}
 use Rattle.tb_scaled.specs.Glue.{filling_glue}
 use Rattle.tb_node.specs.declared.Float.{Float}
-use Rattle.tb_node.specs.Plain.{skip, PlainNode, made, blank_box}
+use Rattle.tb_node.specs.PlainNodes.{skip, PlainNode, made, blank_box}
 use Rattle.tb_param.specs.declared.Params.{Params}
 use Rattle.tb_insert.specs.declared.Class.{Class}
 use Rattle.tb_builder.specs.Contents.{node_count, box_count}
@@ -21,12 +21,12 @@ use Rattle.tb_float.proofs.WaitingLemmas.{wide-waits}
 use Rattle.tb_column.specs.Column.{Notes, PlainSent, text_column, warned}
 use Rattle.tb_column.specs.declared.Warn.TheVariants as warnings
 use Rattle.tb_output.specs.State.{Work, puts, sends, with_floats, footnotes, has_floats}
-use Rattle.tb_output.specs.Ship
+use Rattle.tb_output.specs.Pages
 use Rattle.tb_output.specs.Columns
 use Rattle.tb_output.specs.Clear
-use Rattle.tb_output.specs.Out
+use Rattle.tb_output.specs.Output
 use Rattle.tb_output.proofs.StepLaws.FollowLemmas.{Follows, part-current, follows-put_out, follows-float_columns, follows-next, follows-wide_pages}
-use Rattle.tb_run.specs.Served.{notes_taken}
+use Rattle.tb_run.specs.ServedStates.{notes_taken}
 use Rattle.tb_run.proofs.ServedAgain.BackNodes.{AreBack, AreText, back-append, text-back, clear-back, blank-back, count-take, emptied-sized, emptied-count}
 use Rattle.tb_run.proofs.ServedAgain.EasedWorks.{Eases, all_columns-eases, put_out-eases, next-eases, all_wide-eases}
 

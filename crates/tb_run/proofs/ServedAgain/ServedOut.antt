@@ -7,11 +7,11 @@ use Rattle.std.proofs.lemmas.List.Elements.{All-append, All-from_recursion, recu
 use Rattle.tb_break.proofs.EachLemmas.{all-join, all-take, all-map}
 use Rattle.tb_scaled.specs.Scaled.{eject_penalty}
 use Rattle.tb_node.specs.Fit.{IsSizedPlain}
-use Rattle.tb_node.specs.Plain.{PlainNode}
+use Rattle.tb_node.specs.PlainNodes.{PlainNode}
 use Rattle.tb_param.specs.declared.Params.{Params}
-use Rattle.tb_builder.specs.Fired.{Fired}
+use Rattle.tb_builder.specs.FiredPages.{Fired}
 use Rattle.tb_builder.specs.Contents.{node_count, box_count}
-use Rattle.tb_builder.specs.Kept.{fired_count}
+use Rattle.tb_builder.specs.SizedContents.{fired_count}
 use Rattle.tb_builder.specs.Pageable.{IsSizedOnPage, IsSizedBox}
 use Rattle.tb_builder.proofs.Ranges.PageableLemmas.{count-append, length_counted}
 use Rattle.tb_float.specs.Ranges.{IsWithin}
@@ -19,10 +19,10 @@ use Rattle.tb_output.specs.State.{State, Work, begun}
 use Rattle.tb_output.specs.Columns.{ordinary}
 use Rattle.tb_output.specs.Clear.{clear}
 use Rattle.tb_output.specs.Text.{without_firing_box, float_or_note}
-use Rattle.tb_output.specs.Out.{clear_penalty, par_penalty, vert_penalty, is_int, hold, output_by, next_goal, after_page, out}
+use Rattle.tb_output.specs.Output.{clear_penalty, par_penalty, vert_penalty, is_int, hold, output_by, next_goal, after_page, out}
 use Rattle.tb_run.specs.GalleyNodes.{IsGalleyNode}
 use Rattle.tb_run.specs.Run.{held_count}
-use Rattle.tb_run.specs.Served.{AreRunnable, AreRunClasses, notes_waiting, notes_taken, IsServed, IsServedPage}
+use Rattle.tb_run.specs.ServedStates.{AreRunnable, AreRunClasses, notes_waiting, notes_taken, IsServed, IsServedPage}
 use Rattle.tb_run.proofs.ServedAgain.FiredNodes.{notes-append}
 use Rattle.tb_run.proofs.ServedAgain.BackNodes.{back-nodes, back-notes, classes-few}
 use Rattle.tb_run.proofs.ServedAgain.ServedFirings.{reach_where, Kept, kept-more, kept-if, kept-ordinary, kept-clear, kept-hold, kept-next_goal}

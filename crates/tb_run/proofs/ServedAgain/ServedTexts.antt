@@ -15,14 +15,14 @@ use Rattle.tb_node.specs.declared.Where.{Where}
 use Rattle.tb_node.specs.declared.Where.TheVariants as places
 use Rattle.tb_node.specs.Shape.{Shape}
 use Rattle.tb_node.specs.Fit.{IsExtent, IsSized, IsSizedPlain}
-use Rattle.tb_node.specs.Plain.{PlainNode, node_shape}
+use Rattle.tb_node.specs.PlainNodes.{PlainNode, node_shape}
 use Rattle.tb_node.specs.Sums.{size_of, last_depth}
 use Rattle.tb_node.proofs.FitLemmas as fits
 use Rattle.tb_param.specs.declared.Params.{Params}
 use Rattle.tb_insert.specs.declared.Class.{Class}
 use Rattle.tb_builder.specs.Contents.{node_count}
-use Rattle.tb_builder.specs.Kept.{AreBoxesOf}
-use Rattle.tb_builder.specs.Owned.{ClassesFit}
+use Rattle.tb_builder.specs.SizedContents.{AreBoxesOf}
+use Rattle.tb_builder.specs.Ownership.{ClassesFit}
 use Rattle.tb_builder.proofs.Ranges.PageableLemmas.{count-append}
 use Rattle.tb_float.specs.declared.Entry.{Entry}
 use Rattle.tb_float.specs.declared.Entry.TheVariants as entries
@@ -35,11 +35,11 @@ use Rattle.tb_area.specs.Area.{current_place}
 use Rattle.tb_column.specs.Column.{warned}
 use Rattle.tb_column.specs.declared.Warn.TheVariants as warnings
 use Rattle.tb_output.specs.State.{Work, Recorded, placed, puts, sends, records_also, with_floats, footnotes, notes_in}
-use Rattle.tb_output.specs.Place
+use Rattle.tb_output.specs.FloatMoves
 use Rattle.tb_output.specs.Columns
 use Rattle.tb_output.specs.Text
 use Rattle.tb_output.proofs.StepLaws.FollowLemmas.{joined-current}
-use Rattle.tb_run.specs.Served.{AreRunnable, notes_taken}
+use Rattle.tb_run.specs.ServedStates.{AreRunnable, notes_taken}
 use Rattle.tb_run.proofs.ServedAgain.BackNodes.{AreBack, AreText, back-append, text-back, interline-back, interline-few, here-back, here-few, note-back, count-take, notes-back, notes-few, emptied-sized, emptied-count}
 use Rattle.tb_run.proofs.ServedAgain.EasedWorks.{placed-eases}
 use Rattle.tb_run.proofs.ServedAgain.ServedFirings.{reach_where, Kept, AnyFloat, kept-more, kept-if, kept-with, kept-sends, kept-puts, kept-puts_few, within-more}

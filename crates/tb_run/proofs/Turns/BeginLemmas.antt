@@ -9,25 +9,25 @@ use Rattle.tb_node.specs.declared.Act.{Act}
 use Rattle.tb_node.specs.declared.Act.TheVariants as acts
 use Rattle.tb_node.specs.declared.Node.{Node}
 use Rattle.tb_node.specs.Fit.{IsSizedLeaf}
-use Rattle.tb_node.specs.Plain.{PlainKind, plain, ins, act, PlainNode}
+use Rattle.tb_node.specs.PlainNodes.{PlainKind, plain, ins, act, PlainNode}
 use Rattle.tb_param.specs.declared.Params.{Params}
 use Rattle.tb_insert.specs.declared.Class.{Class}
 use Rattle.tb_builder.specs.declared.Builder.{Builder}
 use Rattle.tb_builder.specs.Contents.{Contents, contents_of, nothing_yet, kind_count, node_count, box_count}
-use Rattle.tb_builder.specs.Owned.{Lacks, ids_of, owned}
+use Rattle.tb_builder.specs.Ownership.{Lacks, ids_of, owned}
 use Rattle.tb_builder.specs.Pageable.{IsSizedBox}
 use Rattle.tb_output.specs.State.{State, void_boxes, first_state}
 use Rattle.tb_output.specs.Machine.{MachineView, state_shown, machine_lists, IsMachine}
 use Rattle.tb_output.specs.Firing.{builder_lists}
-use Rattle.tb_output.specs.Keeping.{AreNoneOf}
-use Rattle.tb_output.proofs.Working.ApartLemmas.{lacks-none}
-use Rattle.tb_output.proofs.Working.StandLemmas.{Stands, machine-live, IsShownBy, stands-shown}
+use Rattle.tb_output.specs.MachineFrame.{AreNoneOf}
+use Rattle.tb_output.proofs.FiringWork.ApartLemmas.{lacks-none}
+use Rattle.tb_output.proofs.FiringWork.StandLemmas.{Stands, machine-live, IsShownBy, stands-shown}
 use Rattle.tb_run.specs.declared.routine.Routine.{Routine}
 use Rattle.tb_run.specs.GalleyNodes.{AreGalleyNodes}
 use Rattle.tb_run.specs.Run.{held_count}
-use Rattle.tb_run.specs.Served.{AreRunnable, AreRunClasses, kind_notes, notes_waiting, IsServed}
-use Rattle.tb_run.specs.Expanding.{Waits}
-use Rattle.tb_run.specs.Turning.{held_in, state_of, between_pages, IsReady}
+use Rattle.tb_run.specs.ServedStates.{AreRunnable, AreRunClasses, kind_notes, notes_waiting, IsServed}
+use Rattle.tb_run.specs.WaitingNodes.{Waits}
+use Rattle.tb_run.specs.Routine.{held_in, state_of, between_pages, IsReady}
 
 -- ---- the first state
 

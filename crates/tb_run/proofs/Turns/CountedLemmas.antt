@@ -9,14 +9,14 @@ use Rattle.tb_node.specs.declared.Kind.{Kind}
 use Rattle.tb_node.specs.declared.Kind.TheVariants as kinds
 use Rattle.tb_node.specs.declared.Node.{Node}
 use Rattle.tb_node.specs.Fit.{IsSizedNode, IsSizedPlain}
-use Rattle.tb_node.specs.Plain.{plain_of, plain_kind, plain_list}
+use Rattle.tb_node.specs.PlainNodes.{plain_of, plain_kind, plain_list}
 use Rattle.tb_param.specs.declared.Params.{Params}
 use Rattle.tb_builder.specs.Contents.{contents_count, kind_count, node_count, box_count}
 use Rattle.tb_column.specs.Page.{is_leaf_kind, AreLeaves}
 use Rattle.tb_run.specs.declared.routine.Routine.{Routine}
 use Rattle.tb_run.specs.declared.routine.Ending.TheVariants as endings
 use Rattle.tb_run.specs.Run.{held_count}
-use Rattle.tb_run.specs.Turning.{held_in, state_of, IsConsistent, IsBounded, over_limit}
+use Rattle.tb_run.specs.Routine.{held_in, state_of, IsConsistent, IsBounded, over_limit}
 
 -- ---- a list of a page
 

@@ -9,15 +9,15 @@ use Rattle.tb_node.specs.declared.Node.{Node}
 use Rattle.tb_column.specs.declared.Sent.TheVariants as sents
 use Rattle.tb_output.specs.State.{State}
 use Rattle.tb_output.specs.Machine.{state_shown, machine_lists}
-use Rattle.tb_output.specs.Keeping.{AreNoneOf}
-use Rattle.tb_output.proofs.Working.StandLemmas.{IsShownBy, sheet-live}
-use Rattle.tb_run.specs.declared.happening.Happening.{Happening}
-use Rattle.tb_run.specs.declared.happening.Happening.TheVariants as happenings
+use Rattle.tb_output.specs.MachineFrame.{AreNoneOf}
+use Rattle.tb_output.proofs.FiringWork.StandLemmas.{IsShownBy, sheet-live}
+use Rattle.tb_run.specs.declared.happenings.Happening.{Happening}
+use Rattle.tb_run.specs.declared.happenings.Happening.TheVariants as happenings
 use Rattle.tb_run.specs.declared.routine.Routine.{Routine}
 use Rattle.tb_run.specs.Run.{held_count}
-use Rattle.tb_run.specs.Served.{IsServed}
-use Rattle.tb_run.specs.Happened.{happening_lists, happened_lists}
-use Rattle.tb_run.specs.Turning.{held_in, state_of, IsConsistent, between_pages, IsReady, IsPage, ArePages, AreHappened}
+use Rattle.tb_run.specs.ServedStates.{IsServed}
+use Rattle.tb_run.specs.Happenings.{happening_lists, happened_lists}
+use Rattle.tb_run.specs.Routine.{held_in, state_of, IsConsistent, between_pages, IsReady, IsPage, ArePages, AreHappened}
 use Rattle.tb_run.proofs.Turns.WholeLemmas.{closed-owned, closed-contents, closed-sound, closed-shown}
 
 -- ---- lists of pages are live

@@ -12,17 +12,17 @@ use Rattle.tb_column.specs.declared.Sent.{Sent}
 use Rattle.tb_column.specs.declared.Warn.{Warn}
 use Rattle.tb_column.specs.Column.{PlainSent, warned}
 use Rattle.tb_column.specs.Notes.{AreDistinct}
-use Rattle.tb_column.specs.Shown.{sent_shown}
-use Rattle.tb_output.specs.Acting.{warnings_sent}
+use Rattle.tb_column.specs.StoredColumns.{sent_shown}
+use Rattle.tb_output.specs.ActCalls.{warnings_sent}
 use Rattle.tb_output.specs.Machine.{sent_lists, event_lists, events_shown, IsPageSent}
-use Rattle.tb_output.specs.Keeping.{AreNoneOf}
-use Rattle.tb_output.proofs.Working.ApartLemmas.{apart-swap, distinct-front, distinct-back, distinct-apart}
-use Rattle.tb_output.proofs.Working.StandLemmas.{live-same}
-use Rattle.tb_run.specs.declared.happening.Happening.{Happening}
+use Rattle.tb_output.specs.MachineFrame.{AreNoneOf}
+use Rattle.tb_output.proofs.FiringWork.ApartLemmas.{apart-swap, distinct-front, distinct-back, distinct-apart}
+use Rattle.tb_output.proofs.FiringWork.StandLemmas.{live-same}
+use Rattle.tb_run.specs.declared.happenings.Happening.{Happening}
 use Rattle.tb_run.specs.Run.{RunEvent, offered, sent}
-use Rattle.tb_run.specs.Happened.{event_of, events_of, noted_try, noted_event, noted, happening_lists, happened_lists}
-use Rattle.tb_run.specs.Turning.{ArePages}
-use Rattle.tb_run.specs.Filling.{sent_happenings}
+use Rattle.tb_run.specs.Happenings.{event_of, events_of, noted_try, noted_event, noted, happening_lists, happened_lists}
+use Rattle.tb_run.specs.Routine.{ArePages}
+use Rattle.tb_run.specs.RoutinePages.{sent_happenings}
 
 -- ---- lists one after another
 

@@ -5,25 +5,25 @@ use Rattle.std.specs.List.{AllByRecursion}
 use Rattle.tb_pool.specs.Lists.{Lists, list_at}
 use Rattle.tb_node.specs.declared.Node.{Node}
 use Rattle.tb_node.specs.Fit.{IsSizedPlain}
-use Rattle.tb_node.specs.Plain.{PlainNode, plain_list}
+use Rattle.tb_node.specs.PlainNodes.{PlainNode, plain_list}
 use Rattle.tb_param.specs.declared.Params.{Params}
 use Rattle.tb_builder.specs.declared.Builder.{Builder}
 use Rattle.tb_builder.specs.declared.Page.{Page}
-use Rattle.tb_builder.specs.Fired.{Boxed, Fired}
+use Rattle.tb_builder.specs.FiredPages.{Boxed, Fired}
 use Rattle.tb_builder.specs.Contents.{Contents, contents_of, node_count}
-use Rattle.tb_builder.specs.Running.{IsSound, IsPageSoFar}
+use Rattle.tb_builder.specs.Courses.{IsSound, IsPageSoFar}
 use Rattle.tb_output.specs.declared.Turn.{Turn}
 use Rattle.tb_output.specs.State.{State, Work}
-use Rattle.tb_output.specs.Out.{out}
+use Rattle.tb_output.specs.Output.{out}
 use Rattle.tb_output.specs.Machine.{MachineView, state_shown, events_shown, IsMachine}
 use Rattle.tb_output.specs.Firing.{fired_in, whole_work, CanFire, CanGoBack, IsFired, KeepsAll}
 use Rattle.tb_run.specs.declared.routine.Routine.{Routine}
 use Rattle.tb_run.specs.declared.routine.Ending.{Ending}
 use Rattle.tb_run.specs.declared.routine.Ending.TheVariants as endings
 use Rattle.tb_run.specs.Run.{held_count}
-use Rattle.tb_run.specs.Served.{AreRunnable, AreRunClasses, IsServed, IsServedPage}
-use Rattle.tb_run.specs.Turning.{held_in, state_of, IsConsistent, IsBounded, between_pages, IsEnded, over_limit}
-use Rattle.tb_run.specs.Filling.{IsBoundedPage, IsServedOn, ServesTo, Serves}
+use Rattle.tb_run.specs.ServedStates.{AreRunnable, AreRunClasses, IsServed, IsServedPage}
+use Rattle.tb_run.specs.Routine.{held_in, state_of, IsConsistent, IsBounded, between_pages, IsEnded, over_limit}
+use Rattle.tb_run.specs.RoutinePages.{IsBoundedPage, IsServedOn, ServesTo, Serves}
 use Rattle.tb_run.proofs.Turns.CountedLemmas.{shown-sized}
 use Rattle.tb_run.proofs.ServedAgain.ServedOut.{out-count, out-served}
 

@@ -18,18 +18,18 @@ use Rattle.tb_output.specs.declared.RunFault.TheVariants as faults
 use Rattle.tb_output.specs.State.{Work, Recorded}
 use Rattle.tb_output.specs.Machine.{events_shown, sheet_lists, left_lists, event_lists, machine_lists}
 use Rattle.tb_output.specs.Firing.{fired_in, whole_work, builder_lists}
-use Rattle.tb_output.specs.Keeping.{AreNoneOf}
-use Rattle.tb_output.proofs.Working.ApartLemmas.{apart-swap, distinct-back, distinct-apart}
-use Rattle.tb_run.specs.declared.happening.Happening.{Happening}
-use Rattle.tb_run.specs.declared.happening.Happening.TheVariants as happenings
+use Rattle.tb_output.specs.MachineFrame.{AreNoneOf}
+use Rattle.tb_output.proofs.FiringWork.ApartLemmas.{apart-swap, distinct-back, distinct-apart}
+use Rattle.tb_run.specs.declared.happenings.Happening.{Happening}
+use Rattle.tb_run.specs.declared.happenings.Happening.TheVariants as happenings
 use Rattle.tb_run.specs.declared.routine.Routine.{Routine}
 use Rattle.tb_run.specs.declared.routine.Ending.{Ending}
 use Rattle.tb_run.specs.declared.routine.Ending.TheVariants as endings
 use Rattle.tb_run.specs.Run.{RunEvent, sent, dead_cycles, page_limit, node_limit, Step, ends, goes_on, after_firing, step, held_count}
-use Rattle.tb_run.specs.Served.{AreRunnable, AreRunClasses}
-use Rattle.tb_run.specs.Happened.{events_of, noted, step_events, happened_lists}
-use Rattle.tb_run.specs.Turning.{state_of, with_events, IsReady, EndsAs, IsTurned, IsEnded, IsPage, ArePages, AreHappened}
-use Rattle.tb_run.specs.Filling.{sent_happenings, firing_step, IsFilledLast, IsFiring, IsServedOn, IsOverLimit, IsFaultOf, ServesTo, Serves}
+use Rattle.tb_run.specs.ServedStates.{AreRunnable, AreRunClasses}
+use Rattle.tb_run.specs.Happenings.{events_of, noted, step_events, happened_lists}
+use Rattle.tb_run.specs.Routine.{state_of, with_events, IsReady, EndsAs, IsTurned, IsEnded, IsPage, ArePages, AreHappened}
+use Rattle.tb_run.specs.RoutinePages.{sent_happenings, firing_step, IsFilledLast, IsFiring, IsServedOn, IsOverLimit, IsFaultOf, ServesTo, Serves}
 use Rattle.tb_run.proofs.Turns.HappenedLemmas.{lists-append, events-append, noted-append, noted-sent, sent-events, sent-lists, sent-pages}
 use Rattle.tb_run.proofs.Filled.FillingLemmas.{taken-machine, taken-whole}
 use Rattle.tb_run.proofs.Turns.ServingLemmas.{sound-ended}

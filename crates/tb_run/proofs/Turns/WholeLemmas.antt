@@ -2,24 +2,24 @@
 use Rattle.std.proofs.Common.{◌≡◌, ◌≢◌, sym, subst, ◌∙◌, ap, ℕ, List, [], ◌∷◌, ◌++◌}
 use Rattle.std.specs.List.{AllByRecursion}
 use Rattle.std.specs.FinMap.{get, remove}
-use Rattle.tb_output.proofs.Working.BuilderLemmas.{stand-same}
+use Rattle.tb_output.proofs.FiringWork.BuilderLemmas.{stand-same}
 use Rattle.tb_pool.specs.Lists.{Lists, IsLive, list_at}
 use Rattle.tb_pool.specs.Frame.{IsNoneOf}
 use Rattle.tb_pool.proofs.MapLemmas.{get-remove_other}
 use Rattle.tb_node.specs.declared.Node.{Node}
 use Rattle.tb_builder.specs.declared.Builder.{Builder}
 use Rattle.tb_builder.specs.Contents.{contents_of}
-use Rattle.tb_builder.specs.Owned.{Lacks, inner_ids, ids_of, owned, KeepsOthers}
-use Rattle.tb_builder.specs.Running.{IsSound}
+use Rattle.tb_builder.specs.Ownership.{Lacks, inner_ids, ids_of, owned, KeepsOthers}
+use Rattle.tb_builder.specs.Courses.{IsSound}
 use Rattle.tb_builder.proofs.Ownership.FrameLemmas.{frame_owned, frame_contents, frame_sound}
 use Rattle.tb_builder.proofs.Ownership.OwnedLemmas.{AllSame, lacks-append}
 use Rattle.tb_output.specs.Machine.{MachineView, machine_lists, IsMachine}
 use Rattle.tb_output.specs.Firing.{builder_lists, CanGoBack}
-use Rattle.tb_output.specs.Keeping.{AreNoneOf, back_lists}
-use Rattle.tb_output.proofs.Working.ApartLemmas.{apart-swap, distinct-apart, none-lacks, lacks-none}
-use Rattle.tb_output.proofs.Working.StandLemmas.{Stands, machine-live, IsShownBy, stands-shown}
+use Rattle.tb_output.specs.MachineFrame.{AreNoneOf, back_lists}
+use Rattle.tb_output.proofs.FiringWork.ApartLemmas.{apart-swap, distinct-apart, none-lacks, lacks-none}
+use Rattle.tb_output.proofs.FiringWork.StandLemmas.{Stands, machine-live, IsShownBy, stands-shown}
 use Rattle.tb_run.specs.declared.routine.Routine.{Routine}
-use Rattle.tb_run.specs.Turning.{held_in, IsConsistent}
+use Rattle.tb_run.specs.Routine.{held_in, IsConsistent}
 
 -- ---- a call of the builder
 

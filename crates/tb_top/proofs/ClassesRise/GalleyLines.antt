@@ -7,7 +7,7 @@ use Rattle.tb_break.proofs.EachLemmas.{all-front, all-back, all-join, all-map, a
 use Rattle.tb_node.specs.declared.Float.{Float}
 use Rattle.tb_node.specs.declared.Act.{Act}
 use Rattle.tb_node.specs.declared.Act.TheVariants as acts
-use Rattle.tb_node.specs.Plain.{act, PlainNode, on_line, clearpage_kinds}
+use Rattle.tb_node.specs.PlainNodes.{act, PlainNode, on_line, clearpage_kinds}
 use Rattle.tb_param.specs.declared.Params.{Params}
 use Rattle.tb_param.specs.Release.{has_second}
 use Rattle.tb_galley.specs.declared.Leaf.{Leaf}
@@ -17,7 +17,7 @@ use Rattle.tb_galley.specs.declared.Item.{Item}
 use Rattle.tb_galley.specs.declared.ItemKind.{ItemKind}
 use Rattle.tb_galley.specs.declared.ItemKind.TheVariants as items
 use Rattle.tb_galley.specs.declared.Galley.{Galley}
-use Rattle.tb_galley.specs.Expand.{plain_leaf, with_firings, two_after, item_kinds, item_nodes, expanded}
+use Rattle.tb_galley.specs.GalleyNodes.{plain_leaf, with_firings, two_after, item_kinds, item_nodes, expanded}
 use Rattle.tb_galley.specs.Valid.{is_item, leaf_lines, lines_of_item, named_lines, rise_from, IsValid}
 use Rattle.tb_float.specs.Lists.{no_floats}
 use Rattle.tb_output.specs.State.{first_state, void_boxes}

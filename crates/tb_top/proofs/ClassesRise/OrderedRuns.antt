@@ -8,13 +8,13 @@ use Rattle.tb_break.proofs.EachLemmas.{all-front, all-back, all-join, all-map}
 use Rattle.tb_scaled.specs.Scaled.{awful_bad, min_ℤ, eject_penalty}
 use Rattle.tb_node.specs.declared.Act.{Act}
 use Rattle.tb_node.specs.declared.Act.TheVariants as acts
-use Rattle.tb_node.specs.Plain.{PlainNode}
+use Rattle.tb_node.specs.PlainNodes.{PlainNode}
 use Rattle.tb_param.specs.declared.Params.{Params}
 use Rattle.tb_param.specs.Release.{has_second}
-use Rattle.tb_break.specs.Prune.{pruned_nodes}
+use Rattle.tb_break.specs.PageTop.{pruned_nodes}
 use Rattle.tb_insert.specs.Account.{Frozen, labelled}
-use Rattle.tb_builder.specs.Reached.{Reached, acted, tried}
-use Rattle.tb_builder.specs.Fired.{Fired, page_break, from_break, penalty_at, fired_by, fired_of, frozen_for, held_insertions}
+use Rattle.tb_builder.specs.Reach.{Reached, acted, tried}
+use Rattle.tb_builder.specs.FiredPages.{Fired, page_break, from_break, penalty_at, fired_by, fired_of, frozen_for, held_insertions}
 use Rattle.tb_builder.proofs.FiredPages.PageWeights.{acted_weight, labelled-class}
 use Rattle.tb_builder.proofs.Cutting.CutLemmas.{acted_of, CutAt, AllIns, held-ins}
 use Rattle.tb_float.specs.declared.Entry.{Entry}
@@ -23,8 +23,8 @@ use Rattle.tb_float.specs.Lists.{FloatLists, floats_among, live_count}
 use Rattle.tb_column.specs.Column.{PlainColumn, warned, shipped}
 use Rattle.tb_output.specs.State.{State, Work, Recorded, emptied, ask_of}
 use Rattle.tb_output.specs.Act.{Acted, went, full, act_on, lists_with_taken, taken_float}
-use Rattle.tb_output.specs.Out
-use Rattle.tb_output.specs.Out.{out}
+use Rattle.tb_output.specs.Output
+use Rattle.tb_output.specs.Output.{out}
 use Rattle.tb_output.proofs.NothingLost.StateWeights.{ColumnsFit, class_numbers}
 use Rattle.tb_output.proofs.NothingLost.WorkWeights.{Careful}
 use Rattle.tb_output.proofs.StepLaws.BreakSorts.{at-clear}

@@ -4,12 +4,12 @@ use Rattle.std.specs.Prelude.{◌≤ℤ◌, ◌-◌, int_le, if◌then◌else◌
 use Rattle.std.proofs.lemmas.Int.{ints}
 use Rattle.tb_scaled.specs.Scaled.{eject_penalty, inf_penalty}
 use Rattle.tb_node.specs.declared.What.TheVariants as what
-use Rattle.tb_node.specs.Plain.{PlainNode, made, whatsit, blank_box, pen, without_acts}
-use Rattle.tb_break.specs.Prune.{pruned_nodes}
+use Rattle.tb_node.specs.PlainNodes.{PlainNode, made, whatsit, blank_box, pen, without_acts}
+use Rattle.tb_break.specs.PageTop.{pruned_nodes}
 use Rattle.tb_param.specs.declared.Params.{Params}
 use Rattle.tb_insert.specs.Account.{terms_after, Frozen, labelled}
-use Rattle.tb_builder.specs.Reached.{Reach}
-use Rattle.tb_builder.specs.Fired.{Fired, page_break, fired_by, fired_of, frozen_for, penalty_at, with_spent_break, held_insertions}
+use Rattle.tb_builder.specs.Reach.{Reach}
+use Rattle.tb_builder.specs.FiredPages.{Fired, page_break, fired_by, fired_of, frozen_for, penalty_at, with_spent_break, held_insertions}
 use Rattle.tb_builder.proofs.FiredPages.PageWeights.{AllOfClass, labelled-class}
 use Rattle.tb_builder.proofs.Cutting.CutLemmas.{acted_of, CutAt, reach-cut, cut-class, class-pruned, held-ins}
 use Rattle.tb_builder.proofs.FiredPages.HeldLemmas.{GivesNone, none-labelled}
@@ -18,7 +18,7 @@ use Rattle.tb_builder.proofs.ForLaws.PausedPages.{Paused, paused-ordinary}
 use Rattle.tb_output.specs.State.{State, ask_of, notes_in, footnotes, has_floats}
 use Rattle.tb_output.specs.Text
 use Rattle.tb_output.specs.Clear
-use Rattle.tb_output.specs.Out
+use Rattle.tb_output.specs.Output
 use Rattle.tb_output.proofs.NothingLost.StateWeights.{BoxesFit, class_numbers}
 use Rattle.tb_output.proofs.Closed.Sorts.{Sort, odd, pen_sort, sorts, sorts-calm, none, seen_all}
 use Rattle.tb_output.proofs.Closed.SortLemmas.{sorts-append, take-drop, BreakStands, PageStands, cut-stands, pruned-stands}

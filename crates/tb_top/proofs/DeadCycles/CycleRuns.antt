@@ -5,16 +5,16 @@ use Rattle.tb_scaled.specs.Scaled.{awful_bad, min_ℤ, eject_penalty}
 use Rattle.tb_node.specs.declared.What.TheVariants as what
 use Rattle.tb_node.specs.declared.Act.{Act}
 use Rattle.tb_node.specs.declared.Act.TheVariants as acts
-use Rattle.tb_node.specs.Plain.{Matter, hbox, rule, skip, kerned, pen, mark, note, whatsit, Leaf, PlainKind, plain, ins, act, PlainNode}
+use Rattle.tb_node.specs.PlainNodes.{Matter, hbox, rule, skip, kerned, pen, mark, note, whatsit, Leaf, PlainKind, plain, ins, act, PlainNode}
 use Rattle.tb_node.proofs.Weights.{Weight, leaves_weight, kind_weight, nodes_weight}
 use Rattle.tb_param.specs.declared.Params.{Params}
-use Rattle.tb_builder.specs.Reached.{Reached, acted, tried}
-use Rattle.tb_builder.specs.Fired.{Fired, fired_of}
+use Rattle.tb_builder.specs.Reach.{Reached, acted, tried}
+use Rattle.tb_builder.specs.FiredPages.{Fired, fired_of}
 use Rattle.tb_builder.proofs.Cutting.CutLemmas.{acted_of}
 use Rattle.tb_column.specs.Column.{PlainColumn}
 use Rattle.tb_output.specs.State.{State, emptied, ask_of, Work}
 use Rattle.tb_output.specs.Act.{Acted, went, full, act_on}
-use Rattle.tb_output.specs.Out.{out}
+use Rattle.tb_output.specs.Output.{out}
 use Rattle.tb_output.proofs.NothingLost.StateWeights.{left_weight}
 use Rattle.tb_output.proofs.DeadCycles.WaitCosts.{act_cost, acts_cost}
 use Rattle.tb_output.proofs.DeadCycles.EndedLemmas.{Ended}

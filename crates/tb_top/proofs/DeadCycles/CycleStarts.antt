@@ -5,14 +5,14 @@ use Rattle.std.proofs.lemmas.Int.{ints}
 use Rattle.tb_scaled.specs.Scaled.{eject_penalty}
 use Rattle.tb_node.specs.declared.Act.{Act}
 use Rattle.tb_node.specs.declared.Act.TheVariants as acts
-use Rattle.tb_node.specs.Plain.{act, on_line, clearpage_kinds}
+use Rattle.tb_node.specs.PlainNodes.{act, on_line, clearpage_kinds}
 use Rattle.tb_param.specs.declared.Params.{Params}
 use Rattle.tb_param.specs.Release.{has_second}
 use Rattle.tb_galley.specs.declared.Item.{Item}
 use Rattle.tb_galley.specs.declared.ItemKind.{ItemKind}
 use Rattle.tb_galley.specs.declared.ItemKind.TheVariants as items
 use Rattle.tb_galley.specs.declared.Galley.{Galley}
-use Rattle.tb_galley.specs.Expand.{with_firings, item_kinds, two_after, item_nodes, expanded}
+use Rattle.tb_galley.specs.GalleyNodes.{with_firings, item_kinds, two_after, item_nodes, expanded}
 use Rattle.tb_output.specs.State.{State, first_state}
 use Rattle.tb_output.proofs.NothingLost.StateWeights.{class_numbers}
 use Rattle.tb_output.proofs.Closed.Sorts.{pen_sort}

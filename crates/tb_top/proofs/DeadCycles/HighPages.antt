@@ -4,17 +4,17 @@ use Rattle.std.specs.Prelude.{◌≤ℤ◌, ◌<ℤ◌}
 use Rattle.std.proofs.lemmas.Int.{ints}
 use Rattle.std.proofs.lemmas.List.{append_assoc}
 use Rattle.tb_node.specs.declared.What.TheVariants as what
-use Rattle.tb_node.specs.Plain.{hbox, rule, skip, kerned, pen, mark, note, whatsit, PlainKind, plain, ins, act, PlainNode, without_acts, without_insertions}
-use Rattle.tb_break.specs.Prune.{pruned_nodes, top_glue}
+use Rattle.tb_node.specs.PlainNodes.{hbox, rule, skip, kerned, pen, mark, note, whatsit, PlainKind, plain, ins, act, PlainNode, without_acts, without_insertions}
+use Rattle.tb_break.specs.PageTop.{pruned_nodes, top_glue}
 use Rattle.tb_param.specs.declared.Params.{Params}
 use Rattle.tb_insert.specs.Account.{Frozen, Labelled, labelled_from, labelled_with}
-use Rattle.tb_builder.specs.Reached.{Reach}
-use Rattle.tb_builder.specs.Fired.{penalty_at, with_spent_break}
+use Rattle.tb_builder.specs.Reach.{Reach}
+use Rattle.tb_builder.specs.FiredPages.{penalty_at, with_spent_break}
 use Rattle.tb_builder.proofs.Cutting.CutLemmas.{acts_of}
 use Rattle.tb_builder.proofs.ForLaws.FittingFired.{flat_box, break_at}
 use Rattle.tb_builder.proofs.ForLaws.GuardedPages.{HasFirst, TopShape, pruned-shape, high-breaks}
 use Rattle.tb_output.specs.State.{State, ask_of, footnotes}
-use Rattle.tb_output.specs.Out
+use Rattle.tb_output.specs.Output
 use Rattle.tb_output.proofs.Closed.Sorts.{sorts}
 use Rattle.tb_output.proofs.Closed.SortLemmas.{take-drop}
 use Rattle.tb_output.proofs.DeadCycles.AgainLemmas.{Again}

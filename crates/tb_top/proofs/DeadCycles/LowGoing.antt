@@ -3,10 +3,10 @@ use Rattle.std.proofs.Common.{◌≡◌, refl, sym, subst, ℕ, zero, suc, pos, 
 use Rattle.std.specs.Prelude.{◌≤ℤ◌, int_le}
 use Rattle.tb_scaled.specs.Scaled.{eject_penalty}
 use Rattle.tb_param.specs.declared.Params.{Params}
-use Rattle.tb_builder.specs.Fired.{Fired, frozen_for}
+use Rattle.tb_builder.specs.FiredPages.{Fired, frozen_for}
 use Rattle.tb_builder.proofs.Cutting.CutLemmas.{acted_of}
 use Rattle.tb_output.specs.State.{State, ask_of}
-use Rattle.tb_output.specs.Out.{out}
+use Rattle.tb_output.specs.Output.{out}
 use Rattle.tb_output.proofs.Closed.Sorts.{pen_sort, sorts}
 use Rattle.tb_output.proofs.DeadCycles.AgainLemmas.{Again}
 use Rattle.tb_output.proofs.DeadCycles.WaitCosts.{sort_cost, wait_cost, acts_cost}

@@ -2,27 +2,27 @@
 use Rattle.std.proofs.Common.{◌≡◌, refl, sym, subst, ◌∙◌, ap, ℕ, zero, suc, ◌<◌, ◌≤◌, ◌⊎◌, inl, inr, ℤ, pos, negsuc, FitsSigned, w32, Bool, true, false, List, [], ◌++◌, Option, Some, None, append_assoc, append-nil, arith}
 use Rattle.std.specs.Prelude.{int_lt, if◌then◌else◌}
 use Rattle.std.specs.Io.KnownBytes.{Appends}
-use Rattle.tb_io.specs.Held.{AppendsPrefix}
+use Rattle.tb_io.specs.Sink.{AppendsPrefix}
 use Rattle.tb_io.proofs.Appended.{Appends-twice, prefix_longer, prefix_on}
 use Rattle.tb_param.specs.declared.Params.{Params}
 use Rattle.tb_galley.specs.declared.Galley.{Galley}
-use Rattle.tb_galley.specs.Expand.{expanded}
+use Rattle.tb_galley.specs.GalleyNodes.{expanded}
 use Rattle.tb_output.specs.State.{State, first_state}
 use Rattle.tb_output.specs.declared.RunFault.{RunFault}
 use Rattle.tb_output.specs.declared.RunFault.TheVariants as unfired
-use Rattle.tb_dvi.specs.declared.written.Progress.{Progress}
+use Rattle.tb_dvi.specs.declared.progress.Progress.{Progress}
 use Rattle.tb_dvi.specs.File.{Page, preamble, file_front, first_too_far}
 use Rattle.tb_dvi.specs.Progress.{at_first, HasWritten, run_bytes}
-use Rattle.tb_node.specs.Plain.{PlainNode}
+use Rattle.tb_node.specs.PlainNodes.{PlainNode}
 use Rattle.tb_dvi.proofs.ProgressLemmas.{begins_written, none_far, well_bytes, stopped_bytes}
 use Rattle.tb_dvi.proofs.FrontLemmas.{run_begins}
 use Rattle.std.proofs.lemmas.Int.{ints}
 use Rattle.tb_node.specs.Fit.{IsExtent}
-use Rattle.tb_run.specs.Served.{AreRunnable}
+use Rattle.tb_run.specs.ServedStates.{AreRunnable}
 use Rattle.tb_run.specs.Run.{Run, RunEvent, End, done, pool_full, dead_cycles, page_limit, node_limit, Step, ends, goes_on, held_count, step, run_from, firings_left, run_of_state, run_of, classes_of}
-use Rattle.tb_run.specs.Happened.{events_of, noted, step_events}
-use Rattle.tb_run.specs.Turning.{state_of, held_in, IsEnd, IsFaultEnd, EndsAs, over_limit}
-use Rattle.tb_run.specs.declared.happening.Happening.{Happening}
+use Rattle.tb_run.specs.Happenings.{events_of, noted, step_events}
+use Rattle.tb_run.specs.Routine.{state_of, held_in, IsEnd, IsFaultEnd, EndsAs, over_limit}
+use Rattle.tb_run.specs.declared.happenings.Happening.{Happening}
 use Rattle.tb_run.specs.declared.routine.Routine.{Routine}
 use Rattle.tb_run.specs.declared.routine.Ending.{Ending}
 use Rattle.tb_run.specs.declared.routine.Ending.TheVariants as endings
@@ -31,9 +31,9 @@ use Rattle.tb_top.specs.declared.PageFault.TheVariants as faults
 use Rattle.tb_top.specs.declared.dvi_pages.DviRunFault.{DviRunFault}
 use Rattle.tb_top.specs.declared.dvi_pages.DviRunFault.TheVariants as refused
 use Rattle.tb_top.specs.Answer.{is_done, dvi_file}
-use Rattle.tb_top.specs.Paginated.{end_fault}
+use Rattle.tb_top.specs.Pages.{end_fault}
 use Rattle.tb_top.specs.declared.View.TheVariants as views
-use Rattle.tb_top.specs.Written.{IsRefusalOf, IsFaultRefusal, IsWriteFault}
+use Rattle.tb_top.specs.PagesWritten.{IsRefusalOf, IsFaultRefusal, IsWriteFault}
 use Rattle.tb_top.specs.DviPages.{event_pages, run_pages}
 use Rattle.tb_top.specs.DviFiles.{Writes, WritesFile, RefusesPages, RefusesFile}
 use Rattle.tb_top.specs.DviWritten.{HoldsPages, StopsShort, FailsAmong, IsWriteFailure, last_bytes, EndsFile, StopsRun, StopsFile}

@@ -1,7 +1,7 @@
 -- What holds after a DVI file was written or listed, or not.
 use Rattle.std.proofs.Common.{◌≡◌, refl, ◌∙◌, ap, ℕ, inl, inr, List, [], Option, None, Some, Ok}
 use Rattle.std.specs.Io.KnownBytes.{Keeps}
-use Rattle.tb_io.specs.Held.{AppendsPrefix}
+use Rattle.tb_io.specs.Sink.{AppendsPrefix}
 use Rattle.tb_galley.specs.declared.Galley.{Galley}
 use Rattle.tb_galley.specs.declared.GalleyFault.TheVariants as unread
 use Rattle.tb_galley.specs.Grammar.{grammar}

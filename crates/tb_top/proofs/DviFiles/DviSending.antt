@@ -4,22 +4,22 @@ use Rattle.std.proofs.lemmas.List.{drop_all}
 use Rattle.tb_pool.specs.Lists.{Lists}
 use Rattle.tb_node.specs.declared.Node.{Node}
 use Rattle.std.specs.Io.KnownBytes.{Appends}
-use Rattle.tb_io.specs.Held.{AppendsPrefix}
+use Rattle.tb_io.specs.Sink.{AppendsPrefix}
 use Rattle.tb_io.proofs.Appended.{Appends-twice, prefix_whole, prefix_longer, prefix_on}
 use Rattle.tb_column.specs.Column.{PlainSent, warned, shipped}
-use Rattle.tb_dvi.specs.declared.written.Progress.{Progress}
+use Rattle.tb_dvi.specs.declared.progress.Progress.{Progress}
 use Rattle.tb_dvi.specs.File.{Page, page_bytes, file_front, is_too_far, first_too_far}
 use Rattle.tb_dvi.specs.Progress.{with_page, sent_pages, run_bytes}
 use Rattle.tb_dvi.specs.declared.page.DviFault.{DviFault}
 use Rattle.tb_dvi.specs.declared.page.DviFault.TheVariants as unwritten
-use Rattle.tb_dvi.specs.Writing.{MissesPage}
+use Rattle.tb_dvi.specs.Page.{MissesPage}
 use Rattle.tb_dvi.proofs.ProgressLemmas.{written-more, front-more, first_there, cut_bytes}
 use Rattle.tb_dvi.proofs.FrontLemmas.{run_begins}
 use Rattle.tb_run.specs.Run.{RunEvent}
-use Rattle.tb_run.specs.declared.happening.Happening.{Happening}
-use Rattle.tb_run.specs.Happened.{noted, event_of, events_of}
-use Rattle.tb_run.specs.Turning.{IsPage, ArePages}
-use Rattle.tb_top.specs.Written.{sent_among}
+use Rattle.tb_run.specs.declared.happenings.Happening.{Happening}
+use Rattle.tb_run.specs.Happenings.{noted, event_of, events_of}
+use Rattle.tb_run.specs.Routine.{IsPage, ArePages}
+use Rattle.tb_top.specs.PagesWritten.{sent_among}
 use Rattle.tb_top.specs.DviPages.{event_pages}
 use Rattle.tb_top.specs.declared.PageFault.TheVariants as faults
 use Rattle.tb_top.specs.declared.dvi_pages.DviRunFault.{DviRunFault}

@@ -13,14 +13,14 @@ use Rattle.tb_node.specs.declared.Margin.{Margin}
 use Rattle.tb_node.specs.declared.Side.{Side}
 use Rattle.tb_node.specs.declared.Where.{Where}
 use Rattle.tb_node.specs.declared.Where.TheVariants as places
-use Rattle.tb_node.specs.Plain.{Matter, hbox, rule, skip, kerned, pen, mark, note, whatsit, Leaf, leaf_node, Inserted, PlainKind, plain, ins, act, PlainNode, is_act_kind, is_insertion_kind, without_acts, without_insertions, on_line}
+use Rattle.tb_node.specs.PlainNodes.{Matter, hbox, rule, skip, kerned, pen, mark, note, whatsit, Leaf, leaf_node, Inserted, PlainKind, plain, ins, act, PlainNode, is_act_kind, is_insertion_kind, without_acts, without_insertions, on_line}
 use Rattle.tb_param.specs.declared.Params.{Params}
 use Rattle.tb_break.specs.Best.{Breakpoint, is_stop}
-use Rattle.tb_break.specs.Prune.{pruned_leaves, pruned_nodes}
+use Rattle.tb_break.specs.PageTop.{pruned_leaves, pruned_nodes}
 use Rattle.tb_insert.specs.Terms.{Terms}
 use Rattle.tb_insert.specs.Account.{Frozen, Labelled, Label, whole, split, late, label_of, labelled_with, labelled_from, labelled}
-use Rattle.tb_builder.specs.Reached.{Reached, acted, tried, Reach, also_reached, page_place, stopped_at, reach_at_place, reach_at, reach_node, reach_from}
-use Rattle.tb_builder.specs.Fired.{Boxed, Fired, page_break, from_break, spent_kind, with_spent_break, given_by, given_to, is_given, content_of, box_after, unless_empty, held_of, held_insertions, fired_by}
+use Rattle.tb_builder.specs.Reach.{Reached, acted, tried, Reach, also_reached, page_place, stopped_at, reach_at_place, reach_at, reach_node, reach_from}
+use Rattle.tb_builder.specs.FiredPages.{Boxed, Fired, page_break, from_break, spent_kind, with_spent_break, given_by, given_to, is_given, content_of, box_after, unless_empty, held_of, held_insertions, fired_by}
 use Rattle.tb_float.specs.Lists.{FloatLists}
 use Rattle.tb_margin.specs.Margin.{note_height, note_depth}
 use Rattle.tb_report.specs.Lines.{where_text, side_text}

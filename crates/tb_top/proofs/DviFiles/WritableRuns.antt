@@ -18,7 +18,7 @@ use Rattle.tb_node.specs.declared.Side.TheVariants as sides
 use Rattle.tb_node.specs.declared.Where.{Where}
 use Rattle.tb_node.specs.declared.Where.TheVariants as places
 use Rattle.tb_node.specs.Names.{is_name, is_alphanumeric, is_name_byte, is_between}
-use Rattle.tb_node.specs.Plain.{act, on_line, clearpage_kinds}
+use Rattle.tb_node.specs.PlainNodes.{act, on_line, clearpage_kinds}
 use Rattle.tb_param.specs.declared.Params.{Params}
 use Rattle.tb_param.specs.Release.{has_second}
 use Rattle.tb_galley.specs.declared.Leaf.{Leaf}
@@ -28,13 +28,13 @@ use Rattle.tb_galley.specs.declared.Item.{Item}
 use Rattle.tb_galley.specs.declared.ItemKind.{ItemKind}
 use Rattle.tb_galley.specs.declared.ItemKind.TheVariants as items
 use Rattle.tb_galley.specs.declared.Galley.{Galley}
-use Rattle.tb_galley.specs.Expand.{plain_leaf, with_firings, item_kinds, two_after, item_nodes, expanded}
+use Rattle.tb_galley.specs.GalleyNodes.{plain_leaf, with_firings, item_kinds, two_after, item_nodes, expanded}
 use Rattle.tb_galley.specs.Valid.{is_size, is_leaf, is_float, is_margin, is_item, IsValid}
 use Rattle.tb_insert.specs.declared.Class.{Class}
 use Rattle.tb_insert.specs.Account.{terms_after}
-use Rattle.tb_break.specs.Prune.{pruned_nodes}
-use Rattle.tb_builder.specs.Reached.{Reached, acted, tried, Reach}
-use Rattle.tb_builder.specs.Fired.{frozen_for, reach_of, fired_of}
+use Rattle.tb_break.specs.PageTop.{pruned_nodes}
+use Rattle.tb_builder.specs.Reach.{Reached, acted, tried, Reach}
+use Rattle.tb_builder.specs.FiredPages.{frozen_for, reach_of, fired_of}
 use Rattle.tb_float.specs.declared.Entry.TheVariants as entries
 use Rattle.tb_float.specs.Lists.{FloatLists}
 use Rattle.tb_margin.specs.Margin.{note_height, note_depth}
@@ -44,7 +44,7 @@ use Rattle.tb_column.specs.declared.Warn.{Warn}
 use Rattle.tb_column.specs.Column.{PlainSent, warned}
 use Rattle.tb_output.specs.State.{State, Work, Recorded, emptied, ask_of, first_state, void_boxes}
 use Rattle.tb_output.specs.Act.{Acted, went, full, act_on, taken_float, lists_with_taken}
-use Rattle.tb_output.specs.Out.{out}
+use Rattle.tb_output.specs.Output.{out}
 use Rattle.tb_run.specs.Run.{Run, RunEvent, offered, sent, done, dead_cycles, page_limit, node_limit, Progress, progress_by, progress, Step, ends, goes_on, held_count, after_firing, fire, after_progress, step, run_by, run_from, firings_left, classes_of, run_of}
 use Rattle.tb_top.proofs.DviFiles.WritableNodes.{WritableLeaves, WritableFloat, WritableNote, WritableAct, WritableNodes, nodes-join, nodes-pruned, WritableReached, WritableReach, reached-writable, WritableBoxes, fired-writable}
 use Rattle.tb_top.proofs.DviFiles.WritableWorks.{WritableLists, WritableState, WritableSent, WritableWork, out-writable}

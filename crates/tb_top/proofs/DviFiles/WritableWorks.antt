@@ -10,11 +10,11 @@ use Rattle.tb_node.specs.declared.Float.{Float}
 use Rattle.tb_node.specs.declared.Margin.{Margin}
 use Rattle.tb_node.specs.declared.Where.{Where}
 use Rattle.tb_node.specs.declared.Where.TheVariants as places
-use Rattle.tb_node.specs.Plain.{skip, Leaf, PlainNode, made, blank_box}
+use Rattle.tb_node.specs.PlainNodes.{skip, Leaf, PlainNode, made, blank_box}
 use Rattle.tb_param.specs.declared.Params.{Params}
 use Rattle.tb_param.specs.Release.{has_second}
 use Rattle.tb_insert.specs.declared.Class.{Class}
-use Rattle.tb_builder.specs.Fired.{Boxed, box_content, Fired}
+use Rattle.tb_builder.specs.FiredPages.{Boxed, box_content, Fired}
 use Rattle.tb_float.specs.declared.Entry.{Entry}
 use Rattle.tb_float.specs.declared.Entry.TheVariants as entries
 use Rattle.tb_float.specs.declared.Part.{Part}
@@ -28,12 +28,12 @@ use Rattle.tb_margin.specs.declared.Placed.{Placed}
 use Rattle.tb_column.specs.Column.{Notes, PlainColumn, PlainSheet, one, wide, pair_sheet, PlainSent, warned, shipped, text_column, single_floats_column, wide_floats_column}
 use Rattle.tb_column.specs.declared.Warn.TheVariants as warnings
 use Rattle.tb_output.specs.State.{State, Work, Recorded, placed, output, begun, puts, sends, records_also, with_floats, with_notes, notes_in, footnotes, has_floats}
-use Rattle.tb_output.specs.Place.{joined_to, is_placed, place_float, still_deferred, place_waiting, place_next, place_double}
-use Rattle.tb_output.specs.Ship.{ship_now, ship, wide_wanted, ship_wide, wide_pages_by, wide_pages, all_wide_pages, keep_left, left_or, without_double, fill_double, ship_pair, put_out_by, put_out, with_deferred}
+use Rattle.tb_output.specs.FloatMoves.{joined_to, is_placed, place_float, still_deferred, place_waiting, place_next, place_double}
+use Rattle.tb_output.specs.Pages.{ship_now, ship, wide_wanted, ship_wide, wide_pages_by, wide_pages, all_wide_pages, keep_left, left_or, without_double, fill_double, ship_pair, put_out_by, put_out, with_deferred}
 use Rattle.tb_output.specs.Columns.{emptied_boxes, without_column_floats, put_out_text, single_wanted, put_out_company, float_columns_by, float_columns, all_float_columns, ordinary}
 use Rattle.tb_output.specs.Text.{penalty_nodes, penalty_after, puts_interline, without_firing_box, notes_nodes, list_back, here_nodes, only_here, with_top, defer, float_goes, note_nodes, moved_warning, with_note_bottom, note_goes, first_goes, float_or_note}
 use Rattle.tb_output.specs.Clear.{clear_again, cleared_front, deferred_again, double_again, clear_wide, clear_rest, clear_floats, clear_by, clear}
-use Rattle.tb_output.specs.Out.{hold, output_by, blank_column, leave_column, goal_by, with_goal, is_crowded, next_goal, is_int, hold_penalty, clear_penalty, par_penalty, vert_penalty, after_page, out}
+use Rattle.tb_output.specs.Output.{hold, output_by, blank_column, leave_column, goal_by, with_goal, is_crowded, next_goal, is_int, hold_penalty, clear_penalty, par_penalty, vert_penalty, after_page, out}
 use Rattle.tb_top.proofs.DviFiles.WritableNodes.{WritableFloat, WritableFloats, WritableNote, WritableNodes, nodes-join, nodes-take, WritableContent, WritableBoxes, WritableFired, floats-column, WritableNotes, text-writable, pair-writable, WritableSheet}
 
 -- ---- states

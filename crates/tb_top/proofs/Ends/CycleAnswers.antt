@@ -6,7 +6,7 @@ use Rattle.tb_run.specs.Run.{End, done, pool_full, dead_cycles, page_limit, node
 use Rattle.tb_top.specs.declared.View.{View}
 use Rattle.tb_top.specs.declared.PageFault.{PageFault}
 use Rattle.tb_top.specs.declared.PageFault.TheVariants as faults
-use Rattle.tb_top.specs.Paginated.{end_fault, EndsWith, Refuses, IsNotForCycles}
+use Rattle.tb_top.specs.Pages.{end_fault, EndsWith, Refuses, IsNotForCycles}
 use Rattle.tb_top.specs.DeadCycles.{IsNotCycles, HasRoomForCycles}
 use Rattle.tb_top.proofs.DeadCycles.CycleBound.{dead-cycle-bound}
 

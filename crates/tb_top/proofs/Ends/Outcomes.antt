@@ -3,7 +3,7 @@ use Rattle.std.proofs.Common.{◌≡◌, ◌≢◌, ℕ, zero, suc, ◌≤◌, �
 use Rattle.std.specs.Prelude.{IfSome}
 use Rattle.std.specs.Io.KnownBytes.{Keeps, Appends}
 use Rattle.std.proofs.lemmas.Bool.Decides.{nat_tests}
-use Rattle.tb_io.specs.Held.{AppendsPrefix}
+use Rattle.tb_io.specs.Sink.{AppendsPrefix}
 use Rattle.tb_io.specs.declared.sink.SinkFault.{SinkFault}
 use Rattle.tb_io.specs.declared.sink.SinkFault.TheVariants as outputs
 use Rattle.tb_io.proofs.Appended.{prefix_whole, Keeps-nothing}
@@ -11,11 +11,11 @@ use Rattle.tb_galley.specs.declared.Cause.{Cause}
 use Rattle.tb_galley.specs.declared.Galley.{Galley}
 use Rattle.tb_galley.specs.declared.GalleyFault.{GalleyFault}
 use Rattle.tb_galley.specs.declared.GalleyFault.TheVariants as unread
-use Rattle.tb_galley.specs.CauseText.{is_range_cause}
+use Rattle.tb_galley.specs.FaultText.{is_range_cause}
 use Rattle.tb_galley.specs.Faults.{fault}
 use Rattle.tb_galley.specs.Grammar.{grammar, input_limit}
 use Rattle.tb_galley.specs.Valid.{IsValid}
-use Rattle.tb_galley.specs.Print.{printed}
+use Rattle.tb_galley.specs.CanonicalText.{printed}
 use Rattle.tb_lines.specs.declared.LinesRefusal.{LinesRefusal}
 use Rattle.tb_lines.specs.declared.LinesRefusal.TheVariants as unbroken
 use Rattle.tb_lines.specs.Galley.{faulty, no_breaks, lines_galley, GivesGalley as GivesLines}
@@ -35,9 +35,9 @@ use Rattle.tb_top.specs.declared.refusal.Refusal.{Refusal}
 use Rattle.tb_top.specs.declared.refusal.Refusal.TheVariants as refusals
 use Rattle.tb_top.specs.declared.status.Status.{Status}
 use Rattle.tb_top.specs.declared.status.Status.TheVariants as answers
-use Rattle.tb_generator.specs.Generate.{generated}
+use Rattle.tb_generator.specs.GeneratedGalleys.{generated}
 use Rattle.tb_run.specs.Run.{Run, End, done, pool_full, dead_cycles, page_limit, node_limit, run_of}
-use Rattle.tb_top.specs.Paginated.{view_text, end_fault, EndsWith, Paginates, Refuses}
+use Rattle.tb_top.specs.Pages.{view_text, end_fault, EndsWith, Paginates, Refuses}
 use Rattle.tb_top.specs.Report.{report, trace, totals_of}
 use Rattle.tb_top.specs.Laws.{KeepsLaws}
 use Rattle.tb_top.specs.Answer.{Reply, dvi_reply, makeup_reply, listing_reply, summary_line, summary_at, is_done, answer_at, line_at, answer_for_cause, err_line, bare_text, fault_reply, no_lines_reply, lines_reply, galley_reply, run_reply, text_reply, reply_to}

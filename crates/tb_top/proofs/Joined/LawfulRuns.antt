@@ -6,7 +6,7 @@ use Rattle.tb_report.specs.declared.Totals.{Totals}
 use Rattle.tb_run.specs.Run.{End, done, pool_full, dead_cycles, page_limit, node_limit, run_of}
 use Rattle.tb_top.specs.declared.View.{View}
 use Rattle.tb_top.specs.declared.PageFault.{PageFault}
-use Rattle.tb_top.specs.Paginated.{end_fault, Paginates}
+use Rattle.tb_top.specs.Pages.{end_fault, Paginates}
 use Rattle.tb_top.specs.Laws.{HasTotals, EndsDone, KeepsLaws}
 use Rattle.tb_top.proofs.Limits.LimitedRuns.{run-within}
 use Rattle.tb_top.proofs.NothingLost.ShippedRuns.{lists-emptied}

@@ -11,15 +11,15 @@ use Rattle.tb_node.specs.declared.Where.{Where}
 use Rattle.tb_node.specs.declared.Where.TheVariants as places
 use Rattle.tb_param.specs.declared.Params.{Params}
 use Rattle.tb_galley.specs.declared.Galley.{Galley}
-use Rattle.tb_galley.specs.Expand.{expanded}
-use Rattle.tb_builder.specs.Reached.{Reached, acted, tried, Reach}
-use Rattle.tb_builder.specs.Fired.{fired_of, reach_of}
+use Rattle.tb_galley.specs.GalleyNodes.{expanded}
+use Rattle.tb_builder.specs.Reach.{Reached, acted, tried, Reach}
+use Rattle.tb_builder.specs.FiredPages.{fired_of, reach_of}
 use Rattle.tb_float.specs.Lists.{FloatLists, live_count}
 use Rattle.tb_float.specs.Rooms.{column_height_of}
 use Rattle.tb_area.specs.Laws as area
 use Rattle.tb_output.specs.State.{State, Recorded, placed, output, emptied, first_state, ask_of}
 use Rattle.tb_output.specs.Act.{Acted, went, full, act_on}
-use Rattle.tb_output.specs.Out.{out}
+use Rattle.tb_output.specs.Output.{out}
 use Rattle.tb_output.proofs.Limits.LimitLemmas.{IsLimited, AreLimited, limited-append, out-keeps}
 use Rattle.tb_run.specs.Run.{Run, Progress, progress_by, progress, Step, ends, goes_on, held_count, after_firing, fire, after_progress, step, run_by, run_from, firings_left, run_of, classes_of}
 use Rattle.tb_top.specs.Laws.{PlacedWithin, KeepsLimits, WithinLimits}

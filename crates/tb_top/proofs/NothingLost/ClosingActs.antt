@@ -9,7 +9,7 @@ use Rattle.tb_node.specs.declared.Act.TheVariants as acts
 use Rattle.tb_node.proofs.Weights.{Weight}
 use Rattle.tb_param.specs.declared.Params.{Params}
 use Rattle.tb_param.specs.Release.{has_second}
-use Rattle.tb_builder.specs.Reached.{Reached, acted, tried}
+use Rattle.tb_builder.specs.Reach.{Reached, acted, tried}
 use Rattle.tb_builder.proofs.Cutting.CutLemmas.{acted_of}
 use Rattle.tb_builder.proofs.FiredPages.PageWeights.{acted_weight}
 use Rattle.tb_float.specs.declared.Entry.{Entry}

@@ -7,12 +7,12 @@ use Rattle.tb_scaled.specs.Scaled.{awful_bad, eject_penalty}
 use Rattle.tb_node.specs.declared.Act.TheVariants as acts
 use Rattle.tb_node.specs.declared.What.{What}
 use Rattle.tb_node.specs.declared.What.TheVariants as what
-use Rattle.tb_node.specs.Plain.{Leaf, hbox, rule, skip, kerned, pen, mark, note, whatsit, PlainKind, plain, ins, act, PlainNode, without_acts, without_insertions}
+use Rattle.tb_node.specs.PlainNodes.{Leaf, hbox, rule, skip, kerned, pen, mark, note, whatsit, PlainKind, plain, ins, act, PlainNode, without_acts, without_insertions}
 use Rattle.tb_node.proofs.Weights.{Weight, nodes_weight, kind_weight, weight-append}
 use Rattle.tb_param.specs.declared.Params.{Params}
 use Rattle.tb_insert.specs.Account.{Frozen, Labelled, labelled, labelled_from}
-use Rattle.tb_break.specs.Prune.{pruned_nodes}
-use Rattle.tb_builder.specs.Fired.{Boxed, Fired, page_break, from_break, penalty_at, box_after, box_content, content_of, given_to, is_given, fired_by, fired_of, frozen_for, held_insertions}
+use Rattle.tb_break.specs.PageTop.{pruned_nodes}
+use Rattle.tb_builder.specs.FiredPages.{Boxed, Fired, page_break, from_break, penalty_at, box_after, box_content, content_of, given_to, is_given, fired_by, fired_of, frozen_for, held_insertions}
 use Rattle.tb_builder.proofs.Cutting.CutLemmas.{acted_of, CutAt, held-ins}
 use Rattle.tb_builder.proofs.FiredPages.HeldLemmas.{GivesNone, none-labelled}
 use Rattle.tb_builder.proofs.FiredPages.PageWeights.{hits, IsOnce, AllOfClass, acted_weight, boxes_weight, fired-weight, labelled-class, LabelsOfClass}
@@ -26,7 +26,7 @@ use Rattle.tb_column.specs.Column.{Notes}
 use Rattle.tb_param.specs.Release.{has_second}
 use Rattle.tb_output.proofs.NothingLost.PutOutWeights.{other-box}
 use Rattle.std.proofs.lemmas.Bool.{eq-eqb, eqb-true}
-use Rattle.tb_output.specs.Out.{out}
+use Rattle.tb_output.specs.Output.{out}
 use Rattle.tb_output.proofs.NothingLost.StateWeights.{BoxesFit, class_numbers, Paired, entries_weight, floats_weight, lists_weight, left_weight, state_weight, sent_weight}
 use Rattle.tb_output.proofs.Closed.SortLemmas.{pen_sort, sorts, sorts-append, take-drop}
 use Rattle.tb_output.proofs.Closed.PlaceLemmas.{AllSteady, body-steady}

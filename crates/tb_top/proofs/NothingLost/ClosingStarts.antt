@@ -3,7 +3,7 @@ use Rattle.std.proofs.Common.{◌≡◌, refl, sym, subst, ℕ, zero, suc, ◌+�
 use Rattle.std.specs.Prelude.{ℤ, int_le, ◌||◌, ◌&&◌, drop, if◌then◌else◌}
 use Rattle.std.proofs.lemmas.Int.{ints}
 use Rattle.tb_scaled.specs.Scaled.{eject_penalty}
-use Rattle.tb_node.specs.Plain.{act, on_line, clearpage_kinds}
+use Rattle.tb_node.specs.PlainNodes.{act, on_line, clearpage_kinds}
 use Rattle.tb_node.specs.declared.Act.TheVariants as acts
 use Rattle.tb_node.proofs.Weights.{Weight}
 use Rattle.tb_insert.specs.declared.Class.{Class}
@@ -15,10 +15,10 @@ use Rattle.tb_galley.specs.declared.Item.{Item}
 use Rattle.tb_galley.specs.declared.ItemKind.{ItemKind}
 use Rattle.tb_galley.specs.declared.ItemKind.TheVariants as items
 use Rattle.tb_galley.specs.declared.Galley.{Galley}
-use Rattle.tb_galley.specs.Expand.{with_firings, two_after, item_kinds, item_nodes, expanded}
+use Rattle.tb_galley.specs.GalleyNodes.{with_firings, two_after, item_kinds, item_nodes, expanded}
 use Rattle.tb_output.specs.State.{first_state, void_boxes}
 use Rattle.tb_output.proofs.NothingLost.StateWeights.{class_numbers}
-use Rattle.tb_output.specs.Out.{is_int, clear_penalty, par_penalty, vert_penalty, hold_penalty}
+use Rattle.tb_output.specs.Output.{is_int, clear_penalty, par_penalty, vert_penalty, hold_penalty}
 use Rattle.tb_output.proofs.Closed.SortLemmas.{light, pause, hold, serve, clear, odd, pen_sort}
 use Rattle.tb_output.proofs.Closed.Closings.{Ways, never, Token, Closes, sort_token, tokens, tokens-append}
 use Rattle.tb_output.proofs.Closed.ClearedLists.{tokens-parts}

@@ -13,9 +13,9 @@ use Rattle.std.proofs.lemmas.Bool.{eq-eqb, eqb-true, ne_eqb, true≢false}
 use Rattle.std.proofs.lemmas.Option.{none-some}
 use Rattle.tb_insert.specs.declared.Class.{Class}
 use Rattle.tb_insert.specs.Account.{terms_after, Frozen, Labelled, labelled}
-use Rattle.tb_break.specs.Prune.{pruned_nodes}
-use Rattle.tb_builder.specs.Reached.{Reached, acted, tried, Reach}
-use Rattle.tb_builder.specs.Fired.{with_spent_break, Boxed, Fired, page_break, box_after, is_given, fired_by, fired_of, frozen_for, reach_of, content_of, given_to}
+use Rattle.tb_break.specs.PageTop.{pruned_nodes}
+use Rattle.tb_builder.specs.Reach.{Reached, acted, tried, Reach}
+use Rattle.tb_builder.specs.FiredPages.{with_spent_break, Boxed, Fired, page_break, box_after, is_given, fired_by, fired_of, frozen_for, reach_of, content_of, given_to}
 use Rattle.tb_builder.proofs.FiredPages.PageWeights.{labelled-class, reach-weight, pruned_nodes-weight, acted_weight, boxes_weight, numbers, hits, IsOnce, fired_weight, fired-weight, AllOfClass}
 use Rattle.tb_builder.proofs.Cutting.CutLemmas.{acted_of, CutAt, reach-cut, cut-class, class-pruned, held-ins}
 use Rattle.tb_float.specs.declared.Entry.{Entry}
@@ -25,7 +25,7 @@ use Rattle.tb_column.specs.declared.Warn.{Warn}
 use Rattle.tb_column.specs.Column.{PlainColumn, PlainSent, warned, shipped}
 use Rattle.tb_output.specs.State.{State, Recorded, emptied, ask_of, Work}
 use Rattle.tb_output.specs.Act.{Acted, went, full, act_on, taken_float, lists_with_taken}
-use Rattle.tb_output.specs.Out.{out}
+use Rattle.tb_output.specs.Output.{out}
 use Rattle.tb_output.proofs.NothingLost.StateWeights.{floats_weight, floats-append}
 use Rattle.tb_output.proofs.NothingLost.WorkWeights.{Sound, class_numbers, BoxesFit, Paired, entries_weight, lists_weight, left_weight, state_weight, sheet_weight, sent_weight, out-weight}
 use Rattle.tb_output.proofs.Closed.SortLemmas.{PageStands, cut-stands, pruned-stands, page-careful}

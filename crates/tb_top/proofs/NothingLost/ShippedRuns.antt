@@ -7,7 +7,7 @@ use Rattle.tb_node.proofs.Weights.{Weight}
 use Rattle.tb_param.specs.declared.Params.{Params}
 use Rattle.tb_galley.specs.declared.Galley.{Galley}
 use Rattle.tb_galley.specs.Valid.{IsValid}
-use Rattle.tb_galley.specs.Expand.{expanded}
+use Rattle.tb_galley.specs.GalleyNodes.{expanded}
 use Rattle.tb_output.specs.State.{State, Recorded, first_state}
 use Rattle.tb_output.proofs.NothingLost.StateWeights.{state_weight, class_numbers}
 use Rattle.tb_run.specs.Run.{Run, RunEvent, End, done, pool_full, dead_cycles, page_limit, node_limit, Step, ends, goes_on, step, run_by, run_from, held_count, firings_left, classes_of, run_of}

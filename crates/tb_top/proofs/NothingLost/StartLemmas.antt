@@ -5,7 +5,7 @@ use Rattle.std.specs.List.{AllByRecursion}
 use Rattle.std.proofs.lemmas.Int.{ints}
 use Rattle.tb_builder.proofs.Cutting.CutLemmas.{class-both}
 use Rattle.tb_scaled.specs.Scaled.{eject_penalty}
-use Rattle.tb_node.specs.Plain.{act, on_line, clearpage_kinds}
+use Rattle.tb_node.specs.PlainNodes.{act, on_line, clearpage_kinds}
 use Rattle.tb_node.specs.declared.Act.TheVariants as acts
 use Rattle.tb_node.proofs.Weights.{Weight, leaves_weight, nodes_weight, weight-append}
 use Rattle.tb_param.specs.declared.Params.{Params}
@@ -17,12 +17,12 @@ use Rattle.tb_galley.specs.declared.Item.{Item}
 use Rattle.tb_galley.specs.declared.ItemKind.{ItemKind}
 use Rattle.tb_galley.specs.declared.ItemKind.TheVariants as items
 use Rattle.tb_galley.specs.declared.Galley.{Galley}
-use Rattle.tb_galley.specs.Expand.{plain_leaf, with_firings, item_kinds, item_nodes, two_after, expanded}
+use Rattle.tb_galley.specs.GalleyNodes.{plain_leaf, with_firings, item_kinds, item_nodes, two_after, expanded}
 use Rattle.tb_insert.specs.declared.Class.{Class}
 use Rattle.tb_builder.proofs.FiredPages.PageWeights.{hits, IsOnce, boxes_weight}
 use Rattle.tb_run.specs.Run.{classes_of}
 use Rattle.tb_output.specs.State.{first_state, void_boxes}
-use Rattle.tb_output.specs.Out.{is_int, clear_penalty, par_penalty, vert_penalty, hold_penalty}
+use Rattle.tb_output.specs.Output.{is_int, clear_penalty, par_penalty, vert_penalty, hold_penalty}
 use Rattle.tb_output.proofs.NothingLost.WorkWeights.{class_numbers, BoxesFit, state_weight}
 use Rattle.tb_output.proofs.Closed.SortLemmas.{Sort, light, pause, hold, serve, clear, odd, none, many, Stands, pen_sort, sorts, sorts-append, fewer}
 use Rattle.tb_output.proofs.Closed.PutLemmas.{Extends}

@@ -3,20 +3,20 @@ use Rattle.std.proofs.Common.{◌≡◌, refl, sym, ◌∙◌, ap, subst, ℕ, z
 use Rattle.std.specs.Prelude.{ℤ, pred, int_lt, int_le, if◌then◌else◌}
 use Rattle.std.specs.List.{AllByRecursion}
 use Rattle.tb_scaled.specs.Scaled.{awful_bad, min_ℤ, eject_penalty}
-use Rattle.tb_node.specs.Plain.{without_acts, without_insertions}
+use Rattle.tb_node.specs.PlainNodes.{without_acts, without_insertions}
 use Rattle.tb_param.specs.declared.Params.{Params}
 use Rattle.tb_insert.specs.Account.{Frozen, labelled}
-use Rattle.tb_builder.specs.Reached.{Reached, acted, tried}
-use Rattle.tb_builder.specs.Fired.{Fired, page_break, from_break, with_spent_break, fired_by, fired_of, frozen_for}
+use Rattle.tb_builder.specs.Reach.{Reached, acted, tried}
+use Rattle.tb_builder.specs.FiredPages.{Fired, page_break, from_break, with_spent_break, fired_by, fired_of, frozen_for}
 use Rattle.tb_builder.proofs.FiredPages.PageWeights.{acted_weight}
 use Rattle.tb_column.specs.declared.Warn.{Warn}
 use Rattle.tb_column.specs.Column.{PlainSent, warned, shipped}
 use Rattle.tb_galley.specs.declared.Galley.{Galley}
-use Rattle.tb_galley.specs.Expand.{expanded}
+use Rattle.tb_galley.specs.GalleyNodes.{expanded}
 use Rattle.tb_galley.specs.Valid.{IsValid}
 use Rattle.tb_output.specs.State.{first_state, State, Recorded, emptied, ask_of, Work}
 use Rattle.tb_output.specs.Act.{Acted, went, full, act_on}
-use Rattle.tb_output.specs.Out.{out}
+use Rattle.tb_output.specs.Output.{out}
 use Rattle.tb_output.proofs.NothingLost.StateWeights.{state_weight}
 use Rattle.tb_output.proofs.Closed.Sorts.{Stands, sorts-calm, acts-silent, CalmSort, light, blank, real, silent, pause, hold, serve, clear, odd, seen_after, Sort, Seen}
 use Rattle.tb_output.proofs.Closed.SortLemmas.{none, pruned-stands, sorts, sorts-append, take-drop}

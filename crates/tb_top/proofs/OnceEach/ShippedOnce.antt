@@ -2,14 +2,14 @@
 use Rattle.std.proofs.Common.{◌≡◌, refl, sym, ◌∙◌, subst, ℕ, ◌+◌, Bool, true, false, List, [], ◌∷◌, ◌++◌, append-nil}
 use Rattle.std.specs.Prelude.{◌&&◌, if◌then◌else◌}
 use Rattle.tb_node.specs.declared.Act.TheVariants as acts
-use Rattle.tb_node.specs.Plain.{act, on_line, clearpage_kinds}
+use Rattle.tb_node.specs.PlainNodes.{act, on_line, clearpage_kinds}
 use Rattle.tb_param.specs.declared.Params.{Params}
 use Rattle.tb_param.specs.Release.{has_second}
 use Rattle.tb_galley.specs.declared.Item.{Item}
 use Rattle.tb_galley.specs.declared.ItemKind.{ItemKind}
 use Rattle.tb_galley.specs.declared.ItemKind.TheVariants as items
 use Rattle.tb_galley.specs.declared.Galley.{Galley}
-use Rattle.tb_galley.specs.Expand.{with_firings, two_after, item_kinds, item_nodes, expanded}
+use Rattle.tb_galley.specs.GalleyNodes.{with_firings, two_after, item_kinds, item_nodes, expanded}
 use Rattle.tb_galley.specs.Valid.{IsValid}
 use Rattle.tb_run.specs.Run.{run_of}
 use Rattle.tb_top.specs.Laws.{text_line, foot_line, note_line, lines_by, galley_floats, float_lines, shipped_nodes, note_lines_of, node_lines, shipped_boxes, shipped_floats, ShipsOnce, EndsDone}

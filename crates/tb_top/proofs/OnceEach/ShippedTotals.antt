@@ -2,11 +2,11 @@
 use Rattle.std.proofs.Common.{◌≡◌, refl, ◌∙◌, ℕ, ◌+◌, List, [], ◌∷◌, ◌++◌, length, Some, None, arith, length-append}
 use Rattle.tb_node.specs.declared.What.TheVariants as what
 use Rattle.tb_node.specs.declared.Float.{Float}
-use Rattle.tb_node.specs.Plain.{hbox, rule, skip, kerned, pen, mark, note, whatsit, PlainKind, plain, ins, act, PlainNode}
+use Rattle.tb_node.specs.PlainNodes.{hbox, rule, skip, kerned, pen, mark, note, whatsit, PlainKind, plain, ins, act, PlainNode}
 use Rattle.tb_galley.specs.declared.Galley.{Galley}
 use Rattle.tb_galley.specs.Valid.{IsValid}
 use Rattle.tb_column.specs.Column.{warned, shipped}
-use Rattle.tb_report.specs.Totals.{is_item_box, is_float_box, one_if, count_kinds, sheet_nodes}
+use Rattle.tb_report.specs.RunTotals.{is_item_box, is_float_box, one_if, count_kinds, sheet_nodes}
 use Rattle.tb_run.specs.Run.{RunEvent, offered, sent, run_of}
 use Rattle.tb_top.specs.Report.{totals_of}
 use Rattle.tb_top.specs.Laws.{galley_floats, float_lines, shipped_nodes, box_lines_of, float_lines_of, node_lines, EndsDone, HasTotals}

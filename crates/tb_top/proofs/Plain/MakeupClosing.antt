@@ -2,22 +2,22 @@
 use Rattle.std.proofs.Common.{◌≡◌, refl, sym, subst, ◌∙◌, ap, ℕ, ◌≤◌, inl, inr, List, [], ◌++◌, append-nil, Option, Some, None, arith}
 use Rattle.std.specs.Io.KnownBytes.{Appends}
 use Rattle.tb_io.specs.Faults.{Rose}
-use Rattle.tb_io.specs.Held.{AppendsPrefix}
+use Rattle.tb_io.specs.Sink.{AppendsPrefix}
 use Rattle.tb_io.proofs.Appended.{Appends-twice, prefix_on}
 use Rattle.tb_report.specs.declared.Totals.{Totals}
 use Rattle.tb_report.specs.Lines.{end_lines}
 use Rattle.tb_plain.specs.Run.{MakeupRun, MakeupEnd, done, page_limit, node_limit}
 use Rattle.tb_plain.specs.Report.{all_lines as page_lines, closing_lines, sent_totals}
-use Rattle.tb_makeup.specs.declared.running.MakeupEnding.{MakeupEnding}
-use Rattle.tb_makeup.specs.declared.running.MakeupEnding.TheVariants as endings
-use Rattle.tb_makeup.specs.Turning.{end_of}
+use Rattle.tb_makeup.specs.declared.makeup.MakeupEnding.{MakeupEnding}
+use Rattle.tb_makeup.specs.declared.makeup.MakeupEnding.TheVariants as endings
+use Rattle.tb_makeup.specs.Makeup.{end_of}
 use Rattle.tb_top.specs.declared.View.{View}
 use Rattle.tb_top.specs.declared.View.TheVariants as views
 use Rattle.tb_top.specs.declared.makeup_pages.PlainRunFault.{PlainRunFault}
 use Rattle.tb_top.specs.declared.makeup_pages.PlainRunFault.TheVariants as faults
 use Rattle.tb_top.specs.MakeupPages.{makeup_text, makeup_fault, MakesPages, StopsRun, RefusesPages}
 use Rattle.tb_top.specs.MakeupWritten.{IsWriteFault, IsRefusalOf, StopsWith, EndsWell}
-use Rattle.tb_top.specs.Written.{viewed}
+use Rattle.tb_top.specs.PagesWritten.{viewed}
 use Rattle.tb_top.proofs.Written.GoingLemmas.{header, viewed-append, silent-shown}
 use Rattle.tb_top.proofs.Plain.MakeupGoing.{Closing, view-text}
 use Rattle.tb_top.proofs.Plain.MakeupTotals.{all-totals}

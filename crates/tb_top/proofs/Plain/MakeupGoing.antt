@@ -2,7 +2,7 @@
 use Rattle.std.proofs.Common.{◌≡◌, refl, sym, subst, ◌∙◌, ap, ℕ, ℤ, ◌+◌, ◌<◌, ◌≤◌, pos, Bool, true, false, List, [], ◌∷◌, ◌++◌, map, length, length-append, append_assoc, append-nil, Option, Some, None, arith}
 use Rattle.std.specs.Prelude.{nat_abs, int_lt, if◌then◌else◌}
 use Rattle.std.specs.Io.KnownBytes.{Appends}
-use Rattle.tb_io.specs.Held.{AppendsPrefix}
+use Rattle.tb_io.specs.Sink.{AppendsPrefix}
 use Rattle.tb_io.proofs.Appended.{Appends-twice, prefix_whole, prefix_longer, prefix_on}
 use Rattle.tb_param.specs.declared.Params.{Params}
 use Rattle.tb_builder.specs.Contents.{node_count}
@@ -10,23 +10,23 @@ use Rattle.tb_column.specs.Column.{PlainSent}
 use Rattle.tb_galley.specs.declared.Galley.{Galley}
 use Rattle.tb_report.specs.declared.Totals.{Totals}
 use Rattle.tb_report.specs.Lines.{sent_lines}
-use Rattle.tb_report.specs.Totals.{no_totals, AreCounts}
-use Rattle.tb_run.specs.declared.happening.Happening.{Happening}
+use Rattle.tb_report.specs.RunTotals.{no_totals, AreCounts}
+use Rattle.tb_run.specs.declared.happenings.Happening.{Happening}
 use Rattle.tb_run.specs.Run.{sent}
-use Rattle.tb_run.specs.Happened.{events_of}
-use Rattle.tb_run.specs.Turning.{ArePages}
-use Rattle.tb_plain.specs.Expand.{made_up}
+use Rattle.tb_run.specs.Happenings.{events_of}
+use Rattle.tb_run.specs.Routine.{ArePages}
+use Rattle.tb_plain.specs.GalleyNodes.{made_up}
 use Rattle.tb_plain.specs.Run.{MakeupState, MakeupRun, MakeupEnd, node_limit, run_after, makeup_of_state, first_makeup, makeup_of}
 use Rattle.tb_plain.specs.Report.{all_lines as page_lines, closing_lines, makeup_report}
-use Rattle.tb_makeup.specs.declared.running.Makeup.{Makeup}
-use Rattle.tb_makeup.specs.declared.running.MakeupEnding.{MakeupEnding}
-use Rattle.tb_makeup.specs.declared.running.MakeupEnding.TheVariants as endings
-use Rattle.tb_makeup.specs.Turning.{held_in, state_of, run_at, over_limit, end_of, turns_left, GoesTo}
+use Rattle.tb_makeup.specs.declared.makeup.Makeup.{Makeup}
+use Rattle.tb_makeup.specs.declared.makeup.MakeupEnding.{MakeupEnding}
+use Rattle.tb_makeup.specs.declared.makeup.MakeupEnding.TheVariants as endings
+use Rattle.tb_makeup.specs.Makeup.{held_in, state_of, run_at, over_limit, end_of, turns_left, GoesTo}
 use Rattle.tb_top.specs.declared.View.{View}
 use Rattle.tb_top.specs.declared.View.TheVariants as views
 use Rattle.tb_top.specs.MakeupPages.{makeup_text}
 use Rattle.tb_top.specs.Report.{traced_lines, all_lines}
-use Rattle.tb_top.specs.Written.{viewed, with_events}
+use Rattle.tb_top.specs.PagesWritten.{viewed, with_events}
 use Rattle.tb_top.proofs.Written.GoingLemmas.{header, viewed-append}
 use Rattle.tb_top.proofs.Written.TallyLemmas.{AreFewNodes}
 use Rattle.tb_top.proofs.Plain.MakeupTotals.{with_all, with-events, all-append, few-append, few-sent, few-counts}

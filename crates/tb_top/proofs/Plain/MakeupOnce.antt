@@ -1,6 +1,6 @@
 -- Plain TeX's page makeup ships each box, rule and float of a galley once, and the text in its order.
 use Rattle.std.proofs.Common.{◌≡◌, refl, sym, ◌∙◌, subst, ℕ, ◌+◌, false, List, [], ◌∷◌, ◌++◌, length, arith, append-nil}
-use Rattle.tb_node.specs.Plain.{PlainNode, on_line}
+use Rattle.tb_node.specs.PlainNodes.{PlainNode, on_line}
 use Rattle.tb_node.proofs.Weights.{Weight, nodes_weight, weight-append}
 use Rattle.tb_param.specs.declared.Params.{Params}
 use Rattle.tb_galley.specs.declared.Item.{Item}
@@ -11,9 +11,9 @@ use Rattle.tb_galley.specs.Valid.{IsValid}
 use Rattle.tb_column.specs.Column.{PlainSent, warned, shipped}
 use Rattle.tb_column.proofs.Within.{Within}
 use Rattle.tb_column.proofs.PrintedLines.{prints, sent_prints, prints-append, AllPlain, SentPlain, plain-both}
-use Rattle.tb_report.specs.Totals.{is_item_box, is_float_box, count_kinds, sheet_nodes}
-use Rattle.tb_plain.specs.Expand.{clearing_kinds, makeup_kinds, makeup_nodes, made_up}
-use Rattle.tb_plain.specs.Suited.{IsSuited}
+use Rattle.tb_report.specs.RunTotals.{is_item_box, is_float_box, count_kinds, sheet_nodes}
+use Rattle.tb_plain.specs.GalleyNodes.{clearing_kinds, makeup_kinds, makeup_nodes, made_up}
+use Rattle.tb_plain.specs.Suitability.{IsSuited}
 use Rattle.tb_plain.specs.Run.{done, makeup_of}
 use Rattle.tb_plain.specs.Report.{sent_totals}
 use Rattle.tb_plain.proofs.WeightLemmas.{NoMargin, sent_weight}

@@ -6,7 +6,7 @@ use Rattle.tb_galley.specs.Grammar.{grammar}
 use Rattle.tb_words.specs.declared.Mode.TheVariants as modes
 use Rattle.tb_report.specs.declared.Totals.{Totals}
 use Rattle.tb_plain.specs.Run.{MakeupEnd, done, page_limit, node_limit, makeup_of}
-use Rattle.tb_plain.specs.Suited.{first_unsuited}
+use Rattle.tb_plain.specs.Suitability.{first_unsuited}
 use Rattle.tb_top.specs.declared.View.TheVariants as views
 use Rattle.tb_top.specs.declared.makeup_pages.PlainRunFault.{PlainRunFault}
 use Rattle.tb_top.specs.declared.makeup_pages.PlainRunFault.TheVariants as unmade

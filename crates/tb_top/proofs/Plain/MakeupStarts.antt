@@ -5,11 +5,11 @@ use Rattle.tb_param.specs.declared.Params.{Params}
 use Rattle.tb_param.specs.Ranges.{are_params}
 use Rattle.tb_galley.specs.declared.Galley.{Galley}
 use Rattle.tb_galley.specs.Valid.{IsValid}
-use Rattle.tb_run.specs.Expanding.{AreItems}
-use Rattle.tb_plain.specs.Expand.{made_up}
-use Rattle.tb_plain.specs.Suited.{IsSuited}
+use Rattle.tb_run.specs.WaitingNodes.{AreItems}
+use Rattle.tb_plain.specs.GalleyNodes.{made_up}
+use Rattle.tb_plain.specs.Suitability.{IsSuited}
 use Rattle.tb_plain.specs.Run.{makeup_classes, first_makeup}
-use Rattle.tb_makeup.specs.Turning.{AreRunParams, AreRunNodes, node_total}
+use Rattle.tb_makeup.specs.Makeup.{AreRunParams, AreRunNodes, node_total}
 use Rattle.tb_makeup.proofs.FromGalley.StartLemmas.{suited-items, suited-nodes, suited-room}
 use Rattle.tb_top.proofs.Written.RunParams.{params-runnable}
 

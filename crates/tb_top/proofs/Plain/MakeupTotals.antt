@@ -5,24 +5,24 @@ use Rattle.std.proofs.lemmas.Int.{ints}
 use Rattle.tb_report.proofs.CountLemmas.{count_kinds-le}
 use Rattle.tb_pool.specs.Lists.{Lists}
 use Rattle.tb_node.specs.declared.Node.{Node}
-use Rattle.tb_node.specs.Plain.{PlainNode}
+use Rattle.tb_node.specs.PlainNodes.{PlainNode}
 use Rattle.tb_param.specs.declared.Params.{Params}
 use Rattle.tb_galley.specs.declared.Galley.{Galley}
-use Rattle.tb_builder.specs.Fired.{Fired, fired_of}
-use Rattle.tb_builder.specs.Reached.{Reach}
+use Rattle.tb_builder.specs.FiredPages.{Fired, fired_of}
+use Rattle.tb_builder.specs.Reach.{Reach}
 use Rattle.tb_builder.specs.Contents.{node_count}
 use Rattle.tb_column.specs.Column.{PlainSent, warned, shipped, one}
 use Rattle.tb_report.specs.declared.Totals.{Totals}
-use Rattle.tb_report.specs.Totals.{is_item_box, is_float_box, count_kinds, sheet_nodes, no_totals, with_sent, AreCounts}
-use Rattle.tb_run.specs.declared.happening.Happening.{Happening}
+use Rattle.tb_report.specs.RunTotals.{is_item_box, is_float_box, count_kinds, sheet_nodes, no_totals, with_sent, AreCounts}
+use Rattle.tb_run.specs.declared.happenings.Happening.{Happening}
 use Rattle.tb_run.specs.Run.{RunEvent, sent}
-use Rattle.tb_run.specs.Happened.{events_of, noted}
-use Rattle.tb_run.specs.Turning.{ArePages}
-use Rattle.tb_plain.specs.Expand.{made_up}
+use Rattle.tb_run.specs.Happenings.{events_of, noted}
+use Rattle.tb_run.specs.Routine.{ArePages}
+use Rattle.tb_plain.specs.GalleyNodes.{made_up}
 use Rattle.tb_plain.specs.Firing.{holds_any, makeup_column}
 use Rattle.tb_plain.specs.Report.{sent_totals}
 use Rattle.tb_plain.specs.Run.{MakeupState, MakeupRun, MakeupStep, ends, goes_on, page_limit, node_limit, AtAct, no_act, at_act, first_act, meets_act, makeup_ask, makeup_classes, void_boxes, makeup_reach, act_step, waiting_after, shipping_step, firing_step, last_step, makeup_step, run_by, makeup_from, first_makeup, steps_left, makeup_of, done, ejecting_nodes}
-use Rattle.tb_top.specs.Written.{with_events}
+use Rattle.tb_top.specs.PagesWritten.{with_events}
 use Rattle.tb_top.proofs.Written.EventCounts.{among-sent}
 use Rattle.tb_top.proofs.Written.TallyLemmas.{AreFewNodes, step-few}
 

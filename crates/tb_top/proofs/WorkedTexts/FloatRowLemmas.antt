@@ -5,11 +5,11 @@ use Rattle.tb_scaled.specs.Scaled.{badness_of}
 use Rattle.tb_param.specs.Defaults.{default_params}
 use Rattle.tb_param.specs.Table.{row_of}
 use Rattle.tb_galley.specs.Words.{word_of}
-use Rattle.tb_galley.specs.Expand.{expanded}
+use Rattle.tb_galley.specs.GalleyNodes.{expanded}
 use Rattle.tb_galley.specs.Grammar.{grammar}
-use Rattle.tb_galley.specs.Print.{printed}
+use Rattle.tb_galley.specs.CanonicalText.{printed}
 use Rattle.tb_break.specs.Cost.{page_badness, cost_of_badness}
-use Rattle.tb_output.specs.Out.{out}
+use Rattle.tb_output.specs.Output.{out}
 use Rattle.tb_run.specs.Run.{run_of, run_from, step}
 use Rattle.tb_top.specs.Report.{report, trace}
 use Rattle.tb_top.specs.FloatRows.{FloatRows}

@@ -7,7 +7,7 @@ use Rattle.tb_param.specs.Table.{row_of}
 use Rattle.tb_galley.specs.Words.{word_of}
 use Rattle.tb_galley.specs.Grammar.{grammar}
 use Rattle.tb_break.specs.Cost.{page_badness, cost_of_badness}
-use Rattle.tb_plain.specs.Expand.{made_up}
+use Rattle.tb_plain.specs.GalleyNodes.{made_up}
 use Rattle.tb_plain.specs.Run.{makeup_of, makeup_from, makeup_step}
 use Rattle.tb_plain.specs.Report.{makeup_report}
 use Rattle.tb_top.specs.MakeupRows.{MakeupRows}

@@ -11,11 +11,11 @@ use Rattle.tb_galley.specs.declared.Galley.{Galley}
 use Rattle.tb_galley.specs.Words.{word_of}
 use Rattle.tb_galley.specs.Faults.{fault}
 use Rattle.tb_galley.specs.Grammar.{grammar}
-use Rattle.tb_galley.specs.Expand.{expanded}
-use Rattle.tb_galley.specs.Print.{printed}
+use Rattle.tb_galley.specs.GalleyNodes.{expanded}
+use Rattle.tb_galley.specs.CanonicalText.{printed}
 use Rattle.tb_galley.specs.Valid.{are_params}
 use Rattle.tb_break.specs.Cost.{page_badness, cost_of_badness}
-use Rattle.tb_output.specs.Out.{out}
+use Rattle.tb_output.specs.Output.{out}
 use Rattle.tb_run.specs.Run.{End, pool_full, dead_cycles, run_of, run_from, step}
 use Rattle.tb_top.specs.Report.{report, trace}
 use Rattle.tb_top.specs.Laws.{is_carried, shipped_boxes}

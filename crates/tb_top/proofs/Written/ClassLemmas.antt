@@ -12,12 +12,12 @@ use Rattle.tb_galley.specs.declared.Item.{Item}
 use Rattle.tb_galley.specs.declared.ItemKind.{ItemKind}
 use Rattle.tb_galley.specs.declared.ItemKind.TheVariants as items
 use Rattle.tb_galley.specs.declared.Galley.{Galley}
-use Rattle.tb_galley.specs.Values.{is_class_among}
+use Rattle.tb_galley.specs.Fields.{is_class_among}
 use Rattle.tb_galley.specs.Valid.{is_class, is_size, is_item, do_classes_rise, has_known_class, IsValid}
 use Rattle.tb_param.specs.Table.{is_within, is_glue}
 use Rattle.tb_insert.specs.declared.Class.{Class}
 use Rattle.tb_builder.proofs.FiredPages.PageWeights.{hits, IsOnce}
-use Rattle.tb_galley.specs.Expand.{expanded}
+use Rattle.tb_galley.specs.GalleyNodes.{expanded}
 use Rattle.tb_output.specs.State.{foot_class, first_state, void_boxes}
 use Rattle.tb_output.proofs.NothingLost.StateWeights.{class_numbers}
 use Rattle.tb_output.proofs.Closed.PutLemmas.{AreAmong}

@@ -6,24 +6,24 @@ use Rattle.tb_scaled.specs.Scaled.{awful_bad, min_ℤ}
 use Rattle.tb_node.specs.Shape.{Shape, box, glue, kern, penalty, other}
 use Rattle.tb_node.specs.declared.Act.{Act}
 use Rattle.tb_node.specs.declared.Act.TheVariants as acts
-use Rattle.tb_node.specs.Plain.{PlainKind, plain, ins, act, PlainNode, node_shape, skip, without_acts}
+use Rattle.tb_node.specs.PlainNodes.{PlainKind, plain, ins, act, PlainNode, node_shape, skip, without_acts}
 use Rattle.tb_param.specs.declared.Params.{Params}
 use Rattle.tb_break.specs.Best.{Breakpoint, is_stop}
-use Rattle.tb_break.specs.Legal.{legal_penalty}
-use Rattle.tb_break.specs.Prune.{pruned_at, pruned_nodes}
+use Rattle.tb_break.specs.Places.{legal_penalty}
+use Rattle.tb_break.specs.PageTop.{pruned_at, pruned_nodes}
 use Rattle.tb_insert.specs.Terms.{Terms}
 use Rattle.tb_insert.specs.Account.{terms_after}
-use Rattle.tb_builder.specs.Reached.{Reached, acted, tried, Reach, also_reached, page_place, reach_at, reach_node, reach_from, stopped_at}
-use Rattle.tb_builder.specs.Fired.{Fired, reach_of, fired_of, frozen_for}
+use Rattle.tb_builder.specs.Reach.{Reached, acted, tried, Reach, also_reached, page_place, reach_at, reach_node, reach_from, stopped_at}
+use Rattle.tb_builder.specs.FiredPages.{Fired, reach_of, fired_of, frozen_for}
 use Rattle.tb_column.specs.Column.{PlainSent, warned}
 use Rattle.tb_column.specs.declared.Warn.{Warn}
 use Rattle.tb_float.specs.Lists.{live_count}
 use Rattle.tb_output.specs.State.{State, Work, Recorded, ask_of, begun, emptied}
 use Rattle.tb_output.specs.Act.{Acted, went, full, act_on}
-use Rattle.tb_output.specs.Out.{out, after_page}
+use Rattle.tb_output.specs.Output.{out, after_page}
 use Rattle.tb_output.proofs.StepLaws.SentCounts.{warning_count, page_count, warnings-append, pages-append, SendsFew, out-few}
 use Rattle.tb_run.specs.Run.{RunEvent, offered, sent, done, dead_cycles, page_limit, node_limit, Progress, progress_by, progress, Step, ends, goes_on, held_count, after_firing, fire, after_progress, step}
-use Rattle.tb_top.specs.Written.{sent_among}
+use Rattle.tb_top.specs.PagesWritten.{sent_among}
 use Rattle.tb_top.proofs.Written.FuelLemmas.{SameCounts, progress-counts}
 
 -- ---- what is sent among events

@@ -4,39 +4,39 @@ use Rattle.tb_io.specs.Faults.{Rose}
 use Rattle.std.specs.Prelude.{IfErr, int_lt, if◌then◌else◌, ◌&&◌, IsTrue, IfNone}
 use Rattle.std.specs.List.{list_all}
 use Rattle.std.specs.Io.KnownBytes.{Appends}
-use Rattle.tb_io.specs.Held.{AppendsPrefix}
+use Rattle.tb_io.specs.Sink.{AppendsPrefix}
 use Rattle.std.proofs.lemmas.Int.{ints}
 use Rattle.std.proofs.lemmas.Bool.{and_parts}
 use Rattle.tb_builder.proofs.Ranges.PageableLemmas.{length_counted}
 use Rattle.tb_float.proofs.ParamLemmas.{in-range}
 use Rattle.tb_node.specs.Fit.{IsExtent}
-use Rattle.tb_node.specs.Plain.{PlainKind, plain, ins, act, PlainNode}
+use Rattle.tb_node.specs.PlainNodes.{PlainKind, plain, ins, act, PlainNode}
 use Rattle.tb_builder.specs.Contents.{kind_count, node_count}
 use Rattle.tb_param.specs.declared.Params.{Params}
 use Rattle.tb_param.specs.Table.{Row, is_within, out_of_range}
 use Rattle.tb_param.specs.Ranges.{is_no_fault}
 use Rattle.tb_galley.specs.declared.Galley.{Galley}
-use Rattle.tb_galley.specs.Expand.{expanded}
-use Rattle.tb_report.specs.Totals.{no_totals, AreCounts}
+use Rattle.tb_galley.specs.GalleyNodes.{expanded}
+use Rattle.tb_report.specs.RunTotals.{no_totals, AreCounts}
 use Rattle.tb_report.specs.declared.Totals.{Totals}
 use Rattle.tb_output.specs.declared.RunFault.{RunFault}
 use Rattle.tb_output.specs.declared.RunFault.TheVariants as refused
 use Rattle.tb_output.specs.Machine.{IsLimit}
 use Rattle.tb_output.specs.State.{State, first_state}
-use Rattle.tb_run.specs.declared.happening.Happening.{Happening}
+use Rattle.tb_run.specs.declared.happenings.Happening.{Happening}
 use Rattle.tb_run.specs.declared.routine.Routine.{Routine}
 use Rattle.tb_run.specs.declared.routine.Ending.{Ending}
 use Rattle.tb_run.specs.declared.routine.Ending.TheVariants as endings
 use Rattle.tb_run.specs.Run.{Run, End, done, pool_full, dead_cycles, page_limit, node_limit, held_count, Step, ends, goes_on, step, run_of, firings_left, classes_of}
-use Rattle.tb_run.specs.Happened.{events_of, noted, step_events}
-use Rattle.tb_run.specs.Turning.{held_in, state_of, IsFaultEnd, IsEnd, EndsAs, over_limit, ArePages, IsReady, IsBounded}
+use Rattle.tb_run.specs.Happenings.{events_of, noted, step_events}
+use Rattle.tb_run.specs.Routine.{held_in, state_of, IsFaultEnd, IsEnd, EndsAs, over_limit, ArePages, IsReady, IsBounded}
 use Rattle.tb_top.specs.declared.View.{View}
 use Rattle.tb_top.specs.declared.View.TheVariants as views
 use Rattle.tb_top.specs.declared.PageFault.{PageFault}
 use Rattle.tb_top.specs.declared.PageFault.TheVariants as faults
 use Rattle.tb_top.specs.Report.{all_lines, traced_lines, closing_lines}
-use Rattle.tb_top.specs.Paginated.{view_text, end_fault, Paginates, EndsWith, Refuses}
-use Rattle.tb_top.specs.Written.{viewed, is_traced, with_events, sent_among, IsFaultRefusal, IsRefusalOf, EndsWell, StopsWith}
+use Rattle.tb_top.specs.Pages.{view_text, end_fault, Paginates, EndsWith, Refuses}
+use Rattle.tb_top.specs.PagesWritten.{viewed, is_traced, with_events, sent_among, IsFaultRefusal, IsRefusalOf, EndsWell, StopsWith}
 use Rattle.tb_top.proofs.Written.EventCounts.{SendsBy, step-sends}
 use Rattle.tb_top.proofs.Written.TallyLemmas.{IsTally, AreFewFirings, AreFewNodes, tally-first, tally-counts, tally-next, step-few}
 use Rattle.tb_top.proofs.Written.GoingLemmas.{Going, Closing, header, turn_lines, noted-lines, noted-events, begins, begins-over, goes, closes, cut-short, steps, done-well, done-cut, refused-end, refuses-cut, fault-rose, fault-shown}

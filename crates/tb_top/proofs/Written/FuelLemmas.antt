@@ -7,13 +7,13 @@ use Rattle.tb_scaled.specs.Scaled.{awful_bad, min_ℤ}
 use Rattle.tb_node.specs.declared.Act.{Act}
 use Rattle.tb_node.specs.declared.Act.TheVariants as acts
 use Rattle.tb_param.specs.declared.Params.{Params}
-use Rattle.tb_builder.specs.Reached.{Reached, acted, tried, Reach}
-use Rattle.tb_builder.specs.Fired.{Fired, reach_of, fired_of}
+use Rattle.tb_builder.specs.Reach.{Reached, acted, tried, Reach}
+use Rattle.tb_builder.specs.FiredPages.{Fired, reach_of, fired_of}
 use Rattle.tb_float.specs.Lists.{live_count}
 use Rattle.tb_column.specs.declared.Warn.{Warn}
 use Rattle.tb_output.specs.State.{State, Recorded, emptied, ask_of, begun, Work}
 use Rattle.tb_output.specs.Act.{Acted, went, full, act_on}
-use Rattle.tb_output.specs.Out.{out, after_page}
+use Rattle.tb_output.specs.Output.{out, after_page}
 use Rattle.tb_output.proofs.StepLaws.TurnLemmas.{Turned, out-turned}
 use Rattle.tb_top.specs.Firings.{HasReason}
 use Rattle.tb_run.specs.Run.{Run, RunEvent, done, dead_cycles, page_limit, node_limit, sent, Progress, progress_by, progress, Step, ends, goes_on, held_count, after_firing, fire, after_progress, step, run_by, run_after, run_from, firings_left}

@@ -3,16 +3,16 @@ use Rattle.std.proofs.Common.{◌≡◌, refl, sym, subst, ◌∙◌, ap, ℕ, z
 use Rattle.std.specs.Prelude.{int_lt, if◌then◌else◌}
 use Rattle.std.specs.Io.KnownBytes.{Appends}
 use Rattle.tb_io.specs.Faults.{Rose}
-use Rattle.tb_io.specs.Held.{AppendsPrefix}
+use Rattle.tb_io.specs.Sink.{AppendsPrefix}
 use Rattle.tb_io.proofs.Appended.{Appends-twice, prefix_whole, prefix_longer, prefix_on}
 use Rattle.tb_param.specs.declared.Params.{Params}
-use Rattle.tb_node.specs.Plain.{PlainNode}
+use Rattle.tb_node.specs.PlainNodes.{PlainNode}
 use Rattle.tb_column.specs.Column.{PlainSent, warned, shipped}
 use Rattle.tb_report.specs.declared.Totals.{Totals}
 use Rattle.tb_report.specs.Lines.{end_lines}
-use Rattle.tb_report.specs.Totals.{is_item_box, is_float_box, count_kinds, sheet_nodes, no_totals, with_sent}
+use Rattle.tb_report.specs.RunTotals.{is_item_box, is_float_box, count_kinds, sheet_nodes, no_totals, with_sent}
 use Rattle.tb_galley.specs.declared.Galley.{Galley}
-use Rattle.tb_galley.specs.Expand.{expanded}
+use Rattle.tb_galley.specs.GalleyNodes.{expanded}
 use Rattle.tb_output.specs.State.{State, Recorded, first_state}
 use Rattle.tb_top.specs.declared.View.{View}
 use Rattle.tb_top.specs.declared.View.TheVariants as views
@@ -20,9 +20,9 @@ use Rattle.tb_top.specs.declared.PageFault.{PageFault}
 use Rattle.tb_top.specs.declared.PageFault.TheVariants as faults
 use Rattle.tb_run.specs.Run.{Run, RunEvent, offered, sent, End, done, node_limit, Step, ends, goes_on, held_count, step, run_by, run_from, firings_left, run_of_state, run_of, classes_of}
 use Rattle.tb_top.specs.Report.{totals_of, event_lines, traced_lines, all_lines, closing_lines, report, trace}
-use Rattle.tb_top.specs.Paginated.{view_text, end_fault, Paginates, EndsWith, Refuses}
-use Rattle.tb_run.specs.Happened.{noted, step_events}
-use Rattle.tb_top.specs.Written.{viewed, is_traced, with_events, IsShown, IsWriteFault}
+use Rattle.tb_top.specs.Pages.{view_text, end_fault, Paginates, EndsWith, Refuses}
+use Rattle.tb_run.specs.Happenings.{noted, step_events}
+use Rattle.tb_top.specs.PagesWritten.{viewed, is_traced, with_events, IsShown, IsWriteFault}
 use Rattle.tb_top.proofs.Written.FuelLemmas.{Turns, step-turns}
 
 -- ---- totals

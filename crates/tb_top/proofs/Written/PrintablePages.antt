@@ -11,11 +11,11 @@ use Rattle.tb_column.specs.declared.Sheet.{Sheet}
 use Rattle.tb_column.specs.declared.Sheet.TheVariants as sheets
 use Rattle.tb_column.specs.declared.Sent.{Sent}
 use Rattle.tb_column.specs.declared.Sent.TheVariants as events
-use Rattle.tb_column.specs.Shown.{sheet_shown, sent_shown, IsLiveSheet, IsLiveSent}
+use Rattle.tb_column.specs.StoredColumns.{sheet_shown, sent_shown, IsLiveSheet, IsLiveSent}
 use Rattle.tb_column.specs.Page.{IsPageList, IsPageColumn}
-use Rattle.tb_node.specs.Plain.{plain_of, plain_list}
-use Rattle.tb_report.specs.Totals.{sheet_nodes}
-use Rattle.tb_top.specs.Written.{node_total}
+use Rattle.tb_node.specs.PlainNodes.{plain_of, plain_list}
+use Rattle.tb_report.specs.RunTotals.{sheet_nodes}
+use Rattle.tb_top.specs.PagesWritten.{node_total}
 use Rattle.tb_report.specs.Printable.{IsPrintableList, IsPrintable, IsPrintableSheet, IsPrintableSent}
 use Rattle.tb_output.specs.Machine.{IsPageSheet, IsPageSent}
 

@@ -9,8 +9,8 @@ use Rattle.tb_param.specs.declared.Params.{Params}
 use Rattle.tb_param.specs.Fields.{value_of}
 use Rattle.tb_param.specs.Table.{Row, rows, value_fault, is_within, out_of_range}
 use Rattle.tb_param.specs.Ranges.{is_no_fault, are_params}
-use Rattle.tb_output.specs.Out.{hold_penalty}
-use Rattle.tb_run.specs.Served.{AreRunnable}
+use Rattle.tb_output.specs.Output.{hold_penalty}
+use Rattle.tb_run.specs.ServedStates.{AreRunnable}
 use Rattle.tb_top.proofs.Written.FinishLemmas.{int-limit}
 use Rattle.tb_top.proofs.Written.TallyLemmas.{AreFewFirings}
 

@@ -1,7 +1,7 @@
 use Rattle.std.proofs.Common.{◌≡◌, ℕ, List, ◌++◌, append_assoc, codes, rules, FitsSigned, w64}
 use Rattle.std.proofs.lemmas.Int.{to_z-of_z}
 use Rattle.tb_text.specs.Fields.{and_number}
-use Rattle.tb_report.proofs.Joined.{on_joined}
+use Rattle.tb_report.proofs.JoinedTexts.{on_joined}
 use Rattle.tb_trace.specs.Lines.{and_cost}
 use Rattle.tb_trace.proofs.put_any_costs.Goals as goal
 

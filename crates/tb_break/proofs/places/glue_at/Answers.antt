@@ -1,6 +1,6 @@
 use Rattle.std.proofs.Common.{◌∙◌, ap, sym}
 use Rattle.tb_pool.specs.Lists.{list_at}
-use Rattle.tb_break.specs.Legal.{begins_with_glue}
+use Rattle.tb_break.specs.Places.{begins_with_glue}
 use Rattle.tb_break.proofs.LegalLemmas.{glue_there, none_at}
 use Rattle.tb_break.proofs.places.glue_at.Goals as goal
 

@@ -1,7 +1,7 @@
 use Rattle.std.proofs.Common.{◌≡◌, ◌∙◌, ap, suc, ◌-◌, take, arith}
 use Rattle.tb_pool.specs.Lists.{list_at}
-use Rattle.tb_break.specs.Legal.{ends_lasting}
-use Rattle.tb_break.specs.Finding.{shapes}
+use Rattle.tb_break.specs.Places.{ends_lasting}
+use Rattle.tb_break.specs.SplitPlace.{shapes}
 use Rattle.tb_break.proofs.LegalLemmas.{lasting_there, none_within}
 use Rattle.tb_break.proofs.places.lasts_before.Goals as goal
 

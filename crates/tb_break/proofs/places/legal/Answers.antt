@@ -2,9 +2,9 @@ use Rattle.std.proofs.Common.{◌≡◌, ◌∙◌, ◌+◌, ap, suc, arith, dro
 use Rattle.std.specs.Prelude.{nat_eq, Some, None, if◌then◌else◌}
 use Rattle.tb_scaled.specs.Scaled.{eject_penalty}
 use Rattle.tb_pool.specs.Lists.{list_at}
-use Rattle.tb_node.specs.Plain.{shape_of}
-use Rattle.tb_break.specs.Legal.{begins_with_glue}
-use Rattle.tb_break.specs.Finding.{shapes, penalty_by}
+use Rattle.tb_node.specs.PlainNodes.{shape_of}
+use Rattle.tb_break.specs.Places.{begins_with_glue}
+use Rattle.tb_break.specs.SplitPlace.{shapes, penalty_by}
 use Rattle.tb_break.proofs.LegalLemmas.{legal_end, legal_before, node_within}
 use Rattle.tb_break.proofs.places.legal.Goals as goal
 

@@ -1,7 +1,7 @@
 use Rattle.std.proofs.Common.{◌≤ℤ◌, pos, [], ◌∷◌, arith}
 use Rattle.std.proofs.lemmas.Int.{ints}
 use Rattle.std.proofs.lemmas.List.Elements.{All-from_recursion}
-use Rattle.tb_node.specs.Plain.{shape_of}
+use Rattle.tb_node.specs.PlainNodes.{shape_of}
 use Rattle.tb_node.specs.Fit.{IsSized}
 use Rattle.tb_node.proofs.FitLemmas.{sized-fits}
 use Rattle.tb_break.proofs.ScanLemmas.{stands-fits}

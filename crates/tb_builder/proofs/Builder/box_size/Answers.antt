@@ -1,6 +1,6 @@
 use Rattle.std.proofs.Common.{◌∙◌, sym, FitsSigned, w64, rules}
 use Rattle.std.proofs.lemmas.Int.{to_z-of_z}
-use Rattle.tb_builder.specs.Owned.{ids_of, box_ids, inner_ids, nodes_of}
+use Rattle.tb_builder.specs.Ownership.{ids_of, box_ids, inner_ids, nodes_of}
 use Rattle.tb_builder.proofs.Ownership.OwnedLemmas.{live-left}
 use Rattle.tb_builder.proofs.LegalPlaces.ClassLemmas.{list_live, size_found}
 use Rattle.tb_builder.proofs.Handover.BoxLemmas.{sizes_fit, size_is, void_empty_is}

@@ -1,5 +1,5 @@
 use Rattle.std.proofs.Common.{◌∷◌, [], sym, subst}
-use Rattle.tb_builder.specs.Owned.{Lacks, ids_of, owned, inner_ids}
+use Rattle.tb_builder.specs.Ownership.{Lacks, ids_of, owned, inner_ids}
 use Rattle.tb_builder.proofs.Ownership.OwnedLemmas.{lacks-left}
 use Rattle.tb_builder.proofs.Ownership.SpareLemmas.{sound_still, owned_still}
 use Rattle.tb_builder.proofs.Handover.JoinLemmas.{pushed_after, contribute_sound, contributed, grown_others, grown_keeps}

@@ -1,6 +1,6 @@
 use Rattle.std.proofs.Common.{◌∙◌, ap}
 use Rattle.tb_pool.specs.Lists.{list_at}
-use Rattle.tb_builder.specs.Fired.{line_at, penalty_at}
+use Rattle.tb_builder.specs.FiredPages.{line_at, penalty_at}
 use Rattle.tb_builder.proofs.Cutting.CutPageLemmas.{cuts_of, waiting_lives, plain_turned}
 use Rattle.tb_builder.proofs.Builder.cut_page.Goals as goal
 

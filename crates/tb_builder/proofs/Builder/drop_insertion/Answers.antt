@@ -1,7 +1,7 @@
 use Rattle.std.proofs.Common.{◌∙◌, ap, arith}
 use Rattle.std.specs.FinMap.{remove}
 use Rattle.tb_pool.specs.Lists.{list_at}
-use Rattle.tb_builder.specs.Owned.{ids_of}
+use Rattle.tb_builder.specs.Ownership.{ids_of}
 use Rattle.tb_builder.proofs.Turns.FillLemmas.{first_is}
 use Rattle.tb_builder.proofs.Ownership.StoreMoves.{one_other, live_kept, list_kept}
 use Rattle.tb_builder.proofs.Sorting.GiveLemmas.{list_live, lacks_own}

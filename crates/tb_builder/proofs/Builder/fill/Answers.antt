@@ -5,8 +5,8 @@ use Rattle.tb_pool.specs.Lists.{list_at}
 use Rattle.tb_node.specs.declared.Node.{Node}
 use Rattle.tb_builder.specs.declared.Event.TheVariants as events
 use Rattle.tb_builder.specs.Contents.{contents_of}
-use Rattle.tb_builder.specs.Running.{kept_frozen}
-use Rattle.tb_builder.specs.Turn.{StepFits, TurnIs, event_of}
+use Rattle.tb_builder.specs.Courses.{kept_frozen}
+use Rattle.tb_builder.specs.PageTurns.{StepFits, TurnIs, event_of}
 use Rattle.tb_builder.proofs.Turns.FillLemmas.{first_is}
 use Rattle.tb_builder.proofs.Events.FilledLemmas.{filled_empty, filled_now, filled_later, fits_after, none_first, open_underway, open_fits, open_turn}
 use Rattle.tb_builder.proofs.Builder.fill.Goals as goal

@@ -4,9 +4,9 @@ use Rattle.tb_node.specs.declared.Node.{Node}
 use Rattle.tb_builder.specs.declared.Builder.{Builder}
 use Rattle.tb_builder.specs.declared.Event.{Event}
 use Rattle.tb_builder.specs.Contents.{contents_of}
-use Rattle.tb_builder.specs.Running.{IsSound}
-use Rattle.tb_builder.specs.Next.{NextFits}
-use Rattle.tb_builder.specs.Turn.{Filled}
+use Rattle.tb_builder.specs.Courses.{IsSound}
+use Rattle.tb_builder.specs.PageEvents.{NextFits}
+use Rattle.tb_builder.specs.PageTurns.{Filled}
 use Rattle.tb_builder.proofs.Builder.fill.Given as goal
 
 abbrev pub invariant-loop-n : goal.invariant-loop-n

@@ -1,7 +1,7 @@
 use Rattle.std.proofs.Common.{◌∙◌, sym, subst, ap, [], ◌++◌}
 use Rattle.std.specs.FinMap.{insert}
 use Rattle.tb_pool.specs.Lists.{list_at, IsLive, with_list}
-use Rattle.tb_builder.specs.Owned.{ids_of}
+use Rattle.tb_builder.specs.Ownership.{ids_of}
 use Rattle.tb_builder.proofs.Turns.FillLemmas.{first_is}
 use Rattle.tb_builder.proofs.Sorting.GiveLemmas.{class_there, box_is_live, list_live, list_plain, box_not_list}
 use Rattle.tb_builder.proofs.Sorting.SettleLemmas.{gives_of}

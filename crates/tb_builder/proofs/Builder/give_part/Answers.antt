@@ -2,10 +2,10 @@ use Rattle.std.proofs.Common.{◌∙◌, sym, subst, ap, ◌++◌, take, drop, F
 use Rattle.std.proofs.lemmas.Int.{to_z-of_z}
 use Rattle.std.specs.FinMap.{insert}
 use Rattle.tb_pool.specs.Lists.{list_at, IsLive, with_list}
-use Rattle.tb_node.specs.Small.{IsAmount}
-use Rattle.tb_break.specs.Prune.{pruned_list}
+use Rattle.tb_node.specs.SmallAmounts.{IsAmount}
+use Rattle.tb_break.specs.PageTop.{pruned_list}
 use Rattle.tb_builder.specs.declared.Builder.{Builder}
-use Rattle.tb_builder.specs.Owned.{ids_of}
+use Rattle.tb_builder.specs.Ownership.{ids_of}
 use Rattle.tb_builder.proofs.Turns.FillLemmas.{first_is}
 use Rattle.tb_builder.proofs.Sorting.RestLemmas.{plain-take, plain-drop, plain-pruned}
 use Rattle.tb_builder.proofs.Sorting.GiveLemmas.{class_there, box_is_live, list_live, list_plain, box_not_list, rest_not_box, rest_not_list}

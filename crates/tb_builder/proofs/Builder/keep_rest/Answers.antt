@@ -3,7 +3,7 @@ use Rattle.std.proofs.lemmas.Int.{to_z-of_z}
 use Rattle.std.proofs.lemmas.List.{nil_from_length}
 use Rattle.tb_pool.specs.Lists.{list_at}
 use Rattle.tb_node.specs.declared.Node.{Node}
-use Rattle.tb_builder.specs.Owned.{ids_of, inner_of, is_known, classes_of}
+use Rattle.tb_builder.specs.Ownership.{ids_of, inner_of, is_known, classes_of}
 use Rattle.tb_builder.proofs.Turns.FillLemmas.{first_is}
 use Rattle.tb_builder.proofs.Sorting.GiveLemmas.{list_live, class_there, first_list}
 use Rattle.tb_builder.proofs.Sorting.SettleLemmas.{dropped_nothing, held_again}

@@ -2,14 +2,14 @@ use Rattle.std.proofs.Common.{◌≡◌, refl, sym, subst, ◌∙◌, ap, ◌<�
 use Rattle.std.specs.FinMap.{insert}
 use Rattle.std.proofs.lemmas.Int.{to_z-of_z}
 use Rattle.tb_pool.specs.Lists.{list_at, with_list}
-use Rattle.tb_insert.specs.Running.{ComesTo}
-use Rattle.tb_insert.specs.Arrived.{ArriveFits}
+use Rattle.tb_insert.specs.AccountEntries.{ComesTo}
+use Rattle.tb_insert.specs.Arrival.{ArriveFits}
 use Rattle.tb_node.specs.Sums.{size_of}
 use Rattle.tb_node.specs.Fit.{shapes}
 use Rattle.tb_builder.specs.declared.Builder.{Builder}
-use Rattle.tb_builder.specs.Owned.{Ids, ids_of, has_class, box_ids, inner_ids, nodes_of, IsClassList}
+use Rattle.tb_builder.specs.Ownership.{Ids, ids_of, has_class, box_ids, inner_ids, nodes_of, IsClassList}
 use Rattle.tb_builder.specs.Contents.{contents_of, frozen_of}
-use Rattle.tb_builder.specs.Running.{IsCourseOf, places_by, frozen_with, IsPageSoFar}
+use Rattle.tb_builder.specs.Courses.{IsCourseOf, places_by, frozen_with, IsPageSoFar}
 use Rattle.tb_builder.proofs.Ownership.OwnedLemmas.{live-left}
 use Rattle.tb_builder.proofs.LegalPlaces.ClassLemmas.{list_live, list_fits}
 use Rattle.tb_builder.proofs.Turns.MoveLemmas.{written_shift}

@@ -1,9 +1,9 @@
 use Rattle.std.proofs.Common.{◌≡◌, sym, subst}
 use Rattle.tb_builder.specs.Contents.{Contents, contents_of}
-use Rattle.tb_builder.specs.Next.{NextIs, FirstIs, KeepsBoxes}
+use Rattle.tb_builder.specs.PageEvents.{NextIs, FirstIs, KeepsBoxes}
 use Rattle.tb_builder.specs.Contents.{laid, reach_ahead, places_of}
-use Rattle.tb_builder.specs.Past.{EventPast}
-use Rattle.tb_builder.specs.Running.{IsSound}
+use Rattle.tb_builder.specs.PassedNodes.{EventPast}
+use Rattle.tb_builder.specs.Courses.{IsSound}
 use Rattle.tb_builder.specs.declared.Event.TheVariants as events
 use Rattle.tb_builder.proofs.Events.NextLemmas.{fired_keeps}
 use Rattle.tb_builder.proofs.Events.PagingLemmas.{paging_next}

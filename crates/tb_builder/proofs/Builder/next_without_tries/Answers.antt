@@ -1,6 +1,6 @@
 use Rattle.std.proofs.Common.{subst, ◌∙◌}
 use Rattle.tb_builder.specs.declared.Event.TheVariants as events
-use Rattle.tb_builder.specs.Calls.{IsNext}
+use Rattle.tb_builder.specs.PageCalls.{IsNext}
 use Rattle.tb_builder.proofs.Events.WalkLemmas.{leads_after, leads_next, leads_to}
 use Rattle.tb_builder.proofs.Builder.next_without_tries.Goals as goal
 

@@ -1,6 +1,6 @@
 use Rattle.std.proofs.Common.{◌≡◌, ◌+◌, [], length, if◌then◌else◌}
 use Rattle.tb_builder.specs.Contents.{contents_of}
-use Rattle.tb_builder.specs.Walked.{LeadsOn}
+use Rattle.tb_builder.specs.PageWalks.{LeadsOn}
 use Rattle.tb_builder.proofs.Builder.next_without_tries.Given as goal
 
 abbrev pub invariant-places : goal.invariant-places

@@ -1,5 +1,5 @@
 use Rattle.std.proofs.Common.{sym, subst}
-use Rattle.tb_builder.specs.Owned.{AllLive, ids_of, box_ids}
+use Rattle.tb_builder.specs.Ownership.{AllLive, ids_of, box_ids}
 use Rattle.tb_builder.proofs.Amounts.CountLemmas.{boxes_live, waiting_live}
 use Rattle.tb_builder.proofs.Builder.nodes.Goals as goal
 

@@ -5,7 +5,7 @@ use Rattle.tb_pool.specs.Lists.{list_at}
 use Rattle.tb_node.specs.declared.Node.{Node}
 use Rattle.tb_builder.specs.declared.Builder.{Builder}
 use Rattle.tb_builder.specs.Contents.{contents_of}
-use Rattle.tb_builder.specs.Running.{IsPageSoFar}
+use Rattle.tb_builder.specs.Courses.{IsPageSoFar}
 use Rattle.tb_builder.proofs.Turns.FillLemmas.{first_is}
 use Rattle.tb_builder.proofs.Turns.FreezeLemmas.{frozen_course}
 use Rattle.tb_builder.proofs.Turns.FirstBoxLemmas.{box_small, Topped, topped}

@@ -1,6 +1,6 @@
 use Rattle.std.proofs.Common.{ap, ◌∙◌, not, FitsSigned, w64, rules}
 use Rattle.std.proofs.lemmas.Int.{to_z-of_z}
-use Rattle.tb_builder.specs.Summed.{made_sums}
+use Rattle.tb_builder.specs.PageSums.{made_sums}
 use Rattle.tb_builder.specs.Contents.{contents_of}
 use Rattle.tb_builder.proofs.Amounts.SummedLemmas.{sums_none, sums_some}
 use Rattle.tb_builder.proofs.Builder.page_sums.Goals as goal

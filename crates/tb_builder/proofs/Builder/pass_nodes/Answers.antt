@@ -1,9 +1,9 @@
 use Rattle.std.proofs.Common.{◌≡◌, ◌≤◌, sym, subst, ◌∙◌, ap, length, arith}
 use Rattle.std.proofs.lemmas.List.{length-map}
 use Rattle.tb_pool.specs.Lists.{list_at}
-use Rattle.tb_node.specs.Plain.{plain_of}
-use Rattle.tb_builder.specs.Owned.{Ids, ids_of, IsOwned}
-use Rattle.tb_builder.specs.Walked.{moved, LeadsOn}
+use Rattle.tb_node.specs.PlainNodes.{plain_of}
+use Rattle.tb_builder.specs.Ownership.{Ids, ids_of, IsOwned}
+use Rattle.tb_builder.specs.PageWalks.{moved, LeadsOn}
 use Rattle.tb_builder.proofs.Events.WalkLemmas.{moved_none, moved_few, moved_front}
 use Rattle.tb_builder.proofs.Builder.pass_nodes.Goals as goal
 

@@ -2,15 +2,15 @@ use Rattle.std.proofs.Common.{refl, sym, subst, ◌∙◌, ap, false, None, Fits
 use Rattle.std.proofs.lemmas.Int.{to_z-of_z}
 use Rattle.tb_pool.specs.Lists.{list_at}
 use Rattle.tb_node.specs.Shape.{box}
-use Rattle.tb_node.specs.Add.{added_node}
-use Rattle.tb_node.specs.Small.{IsSmall, IsSmallShape}
-use Rattle.tb_break.specs.Finding.{penalty_by}
+use Rattle.tb_node.specs.NodeSums.{added_node}
+use Rattle.tb_node.specs.SmallAmounts.{IsSmall, IsSmallShape}
+use Rattle.tb_break.specs.SplitPlace.{penalty_by}
 use Rattle.tb_builder.specs.declared.Builder.{Builder}
 use Rattle.tb_builder.specs.Contents.{contents_of}
-use Rattle.tb_builder.specs.Owned.{ids_of}
-use Rattle.tb_builder.specs.Running.{kept_frozen}
-use Rattle.tb_builder.specs.Turn.{places_on}
-use Rattle.tb_builder.specs.Walked.{moved}
+use Rattle.tb_builder.specs.Ownership.{ids_of}
+use Rattle.tb_builder.specs.Courses.{kept_frozen}
+use Rattle.tb_builder.specs.PageTurns.{places_on}
+use Rattle.tb_builder.specs.PageWalks.{moved}
 use Rattle.tb_builder.proofs.Events.WalkLemmas.{SeenSolid, seen_solid, Walks, walks_shape, walk_fits, walk_sums, walk_course, walk_passes}
 use Rattle.tb_builder.proofs.Builder.passes.Goals.{In-Solid}
 use Rattle.tb_builder.proofs.Builder.passes.Goals as goal

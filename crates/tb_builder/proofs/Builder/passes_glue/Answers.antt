@@ -2,19 +2,19 @@ use Rattle.std.proofs.Common.{◌≡◌, pos, Bool, true, false, None, refl, sym
 use Rattle.std.specs.Prelude.{SomeIff, if◌then◌else◌}
 use Rattle.tb_pool.specs.Lists.{Lists, list_at}
 use Rattle.tb_node.specs.declared.Node.{Node}
-use Rattle.tb_node.specs.Plain.{shape_of}
+use Rattle.tb_node.specs.PlainNodes.{shape_of}
 use Rattle.tb_node.specs.Shape.{glue}
-use Rattle.tb_node.specs.Add.{added_node}
-use Rattle.tb_node.specs.Small.{IsSmall, IsSmallShape}
-use Rattle.tb_break.specs.Finding.{penalty_by}
+use Rattle.tb_node.specs.NodeSums.{added_node}
+use Rattle.tb_node.specs.SmallAmounts.{IsSmall, IsSmallShape}
+use Rattle.tb_break.specs.SplitPlace.{penalty_by}
 use Rattle.tb_node.specs.NodeView.{NodeView}
 use Rattle.tb_builder.specs.declared.Builder.{Builder}
 use Rattle.tb_builder.specs.Contents.{Contents, contents_of}
-use Rattle.tb_builder.specs.Owned.{ids_of}
-use Rattle.tb_builder.specs.Running.{kept_frozen}
-use Rattle.tb_builder.specs.Offer.{OfferIs}
-use Rattle.tb_builder.specs.Turn.{places_on}
-use Rattle.tb_builder.specs.Walked.{moved}
+use Rattle.tb_builder.specs.Ownership.{ids_of}
+use Rattle.tb_builder.specs.Courses.{kept_frozen}
+use Rattle.tb_builder.specs.CourseOffers.{OfferIs}
+use Rattle.tb_builder.specs.PageTurns.{places_on}
+use Rattle.tb_builder.specs.PageWalks.{moved}
 use Rattle.tb_builder.proofs.Events.WalkLemmas.{SeenSpace, seen_space, walks_shape, Walks, walk_fits, walk_sums, walk_course, walk_terms, walk_passes, walk_tries, walk_stops, page_length}
 use Rattle.tb_builder.proofs.Builder.passes_glue.Goals.{Start, After-offer-tried}
 use Rattle.tb_builder.proofs.Builder.passes_glue.Goals as goal

@@ -6,11 +6,11 @@ use Rattle.tb_node.specs.declared.Node.{Node}
 use Rattle.tb_node.specs.NodeView.{NodeView}
 use Rattle.tb_builder.specs.declared.Builder.{Builder}
 use Rattle.tb_builder.specs.Contents.{Contents, contents_of}
-use Rattle.tb_builder.specs.Owned.{ids_of}
-use Rattle.tb_builder.specs.Running.{kept_frozen}
-use Rattle.tb_builder.specs.Offer.{OfferIs}
-use Rattle.tb_builder.specs.Turn.{places_on}
-use Rattle.tb_builder.specs.Walked.{moved}
+use Rattle.tb_builder.specs.Ownership.{ids_of}
+use Rattle.tb_builder.specs.Courses.{kept_frozen}
+use Rattle.tb_builder.specs.CourseOffers.{OfferIs}
+use Rattle.tb_builder.specs.PageTurns.{places_on}
+use Rattle.tb_builder.specs.PageWalks.{moved}
 use Rattle.tb_builder.proofs.Events.WalkLemmas.{Walks, walk_fits, walk_sums, walk_course, walk_terms, walk_passes, walk_tries, walk_stops, page_length}
 use Rattle.tb_builder.proofs.Builder.passes_other.Goals.{Else-not-is_walked, After-offer-tried}
 use Rattle.tb_builder.proofs.Builder.passes_other.Goals as goal

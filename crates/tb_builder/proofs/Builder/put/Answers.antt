@@ -1,7 +1,7 @@
 use Rattle.std.proofs.Common.{refl, ◌∙◌}
 use Rattle.tb_pool.specs.Lists.{list_at}
 use Rattle.tb_builder.specs.declared.Builder.{Builder}
-use Rattle.tb_builder.specs.Owned.{ids_of}
+use Rattle.tb_builder.specs.Ownership.{ids_of}
 use Rattle.tb_builder.proofs.Turns.MoveLemmas.{written_shift}
 use Rattle.tb_builder.proofs.Turns.FillLemmas.{first_is, moves_from, shifted_from, behind_is}
 use Rattle.tb_builder.proofs.Builder.put.Goals as goal

@@ -1,8 +1,8 @@
 use Rattle.std.proofs.Common.{sym, subst, map}
 use Rattle.tb_pool.specs.Lists.{list_at}
-use Rattle.tb_node.specs.Plain.{shape_of}
-use Rattle.tb_builder.specs.Owned.{ids_of}
-use Rattle.tb_builder.specs.Room.{RoomFits}
+use Rattle.tb_node.specs.PlainNodes.{shape_of}
+use Rattle.tb_builder.specs.Ownership.{ids_of}
+use Rattle.tb_builder.specs.Sizes.{RoomFits}
 use Rattle.tb_builder.specs.Firing.{SharesOut}
 use Rattle.tb_builder.proofs.Turns.FillLemmas.{first_is}
 use Rattle.tb_builder.proofs.Sorting.RestLemmas.{room-rest}

@@ -4,10 +4,10 @@ use Rattle.tb_pool.specs.Lists.{list_at}
 use Rattle.tb_node.specs.declared.Insertion.{Insertion}
 use Rattle.tb_node.specs.declared.Role.{Role}
 use Rattle.tb_node.specs.declared.Role.TheVariants as roles
-use Rattle.tb_node.specs.Plain.{plain_list}
+use Rattle.tb_node.specs.PlainNodes.{plain_list}
 use Rattle.tb_node.specs.Roles.{insertion_of_role}
 use Rattle.tb_insert.specs.Account.{labelled}
-use Rattle.tb_insert.specs.Running.{cut_in, last_let_in}
+use Rattle.tb_insert.specs.AccountEntries.{cut_in, last_let_in}
 use Rattle.tb_builder.specs.Firing.{share_told}
 use Rattle.tb_builder.specs.Contents.{contents_of}
 use Rattle.tb_builder.proofs.Turns.FillLemmas.{first_is}

@@ -1,7 +1,7 @@
 use Rattle.std.proofs.Common.{sym, subst, ◌++◌, take, drop}
 use Rattle.std.proofs.lemmas.List.{take-map, take-append-drop}
 use Rattle.tb_pool.specs.Lists.{list_at}
-use Rattle.tb_node.specs.Plain.{plain_of, plain_list}
+use Rattle.tb_node.specs.PlainNodes.{plain_of, plain_list}
 use Rattle.tb_builder.specs.Contents.{contents_of}
 use Rattle.tb_builder.specs.Firing.{Sorted}
 use Rattle.tb_builder.proofs.Sorting.SortLemmas.{run_sorts, run_left, run_sorted}

@@ -3,13 +3,13 @@ use Rattle.std.proofs.lemmas.Int.{to_z-of_z}
 use Rattle.std.proofs.lemmas.List.{length-map}
 use Rattle.tb_pool.specs.Lists.{list_at}
 use Rattle.tb_node.specs.NodeView.{NodeView}
-use Rattle.tb_node.specs.Plain.{plain_of}
+use Rattle.tb_node.specs.PlainNodes.{plain_of}
 use Rattle.tb_builder.specs.declared.Builder.{Builder}
 use Rattle.tb_builder.specs.Contents.{contents_of}
-use Rattle.tb_builder.specs.Owned.{ids_of}
-use Rattle.tb_builder.specs.Reached.{holds_box}
-use Rattle.tb_builder.specs.Running.{kept_frozen, nodes_glue_first}
-use Rattle.tb_builder.specs.Turn.{places_on}
+use Rattle.tb_builder.specs.Ownership.{ids_of}
+use Rattle.tb_builder.specs.Reach.{holds_box}
+use Rattle.tb_builder.specs.Courses.{kept_frozen, nodes_glue_first}
+use Rattle.tb_builder.specs.PageTurns.{places_on}
 use Rattle.tb_builder.proofs.Turns.MoveLemmas.{written_shift}
 use Rattle.tb_builder.proofs.Turns.PastLemmas.{holds-both}
 use Rattle.tb_builder.proofs.Turns.FillLemmas.{first_is, moves_from, shifted_from}

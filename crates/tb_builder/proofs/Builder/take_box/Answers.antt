@@ -3,7 +3,7 @@ use Rattle.std.specs.Vec.{with_item}
 use Rattle.std.proofs.lemmas.Bool.{true≢false}
 use Rattle.tb_builder.specs.declared.Builder.{Builder}
 use Rattle.tb_builder.specs.declared.ClassList.{ClassList}
-use Rattle.tb_builder.specs.Owned.{Ids, ids_of, IsClassList, box_ids, inner_ids, nodes_of}
+use Rattle.tb_builder.specs.Ownership.{Ids, ids_of, IsClassList, box_ids, inner_ids, nodes_of}
 use Rattle.tb_builder.proofs.Ownership.OwnedLemmas.{live-left}
 use Rattle.tb_builder.proofs.LegalPlaces.ClassLemmas.{first_at, none_at, list_live}
 use Rattle.tb_builder.proofs.Handover.BoxLemmas.{voided_boxes, marked, box_apart, taken_contents, taken_sound, taken_keeps, taken_others, taken_is}

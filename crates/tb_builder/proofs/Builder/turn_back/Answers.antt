@@ -1,5 +1,5 @@
 use Rattle.std.proofs.Common.{◌∙◌, sym}
-use Rattle.tb_builder.specs.Owned.{ids_of}
+use Rattle.tb_builder.specs.Ownership.{ids_of}
 use Rattle.tb_builder.proofs.Cutting.CutPageLemmas.{back_lives, again_lives, turned_lists}
 use Rattle.tb_builder.proofs.Builder.turn_back.Goals as goal
 

@@ -1,7 +1,7 @@
 use Rattle.std.proofs.Common.{refl, sym, subst, ◌∙◌, ap, ◌+◌, length, drop, ◌∷◌, arith}
 use Rattle.tb_pool.specs.Lists.{list_at}
-use Rattle.tb_builder.specs.Owned.{Ids, ids_of}
-use Rattle.tb_builder.specs.Walked.{moved, LeadsOn}
+use Rattle.tb_builder.specs.Ownership.{Ids, ids_of}
+use Rattle.tb_builder.specs.PageWalks.{moved, LeadsOn}
 use Rattle.tb_builder.proofs.Events.WalkLemmas.{leads_here, leads_after, moved_none, left_rest}
 use Rattle.tb_builder.proofs.Builder.walk.Goals as goal
 

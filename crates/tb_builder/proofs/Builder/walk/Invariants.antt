@@ -1,7 +1,7 @@
 use Rattle.std.proofs.Common.{◌≡◌, ◌+◌, true, false, length, drop}
 use Rattle.tb_pool.specs.Lists.{list_at}
-use Rattle.tb_builder.specs.Owned.{ids_of}
-use Rattle.tb_builder.specs.Walked.{moved, LeadsOn}
+use Rattle.tb_builder.specs.Ownership.{ids_of}
+use Rattle.tb_builder.specs.PageWalks.{moved, LeadsOn}
 use Rattle.tb_builder.proofs.Builder.walk.Given as goal
 
 abbrev pub invariant-loop-n : goal.invariant-loop-n

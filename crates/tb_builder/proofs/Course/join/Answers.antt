@@ -1,7 +1,7 @@
 use Rattle.std.proofs.Common.{refl, FitsSigned, w64}
 use Rattle.std.proofs.lemmas.Int.{to_z-of_z}
 use Rattle.tb_pool.specs.Lists.{list_at}
-use Rattle.tb_node.specs.Plain.{inserted_of}
+use Rattle.tb_node.specs.PlainNodes.{inserted_of}
 use Rattle.tb_builder.proofs.LegalPlaces.CourseLemmas.{course_joined}
 use Rattle.tb_builder.proofs.Course.join.Goals as goal
 

@@ -1,8 +1,8 @@
 use Rattle.std.proofs.Common.{◌∙◌, ap, sym, subst, FitsSigned, w64, rules}
 use Rattle.std.proofs.lemmas.Int.{to_z-of_z}
-use Rattle.tb_node.specs.Small.{IsAmount}
+use Rattle.tb_node.specs.SmallAmounts.{IsAmount}
 use Rattle.tb_break.specs.declared.Offer.{Offer}
-use Rattle.tb_builder.specs.Offer.{MarksBest}
+use Rattle.tb_builder.specs.CourseOffers.{MarksBest}
 use Rattle.tb_builder.proofs.LegalPlaces.CourseLemmas.{course_offered, made_is}
 use Rattle.tb_builder.proofs.Course.offer.Goals as goal
 

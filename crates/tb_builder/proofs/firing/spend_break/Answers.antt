@@ -1,9 +1,9 @@
 use Rattle.std.proofs.Common.{◌∙◌, refl, sym, ap, ◌∷◌, map}
 use Rattle.std.specs.Prelude.{slice_set}
 use Rattle.tb_pool.specs.Lists.{list_at, with_list}
-use Rattle.tb_node.specs.Plain.{plain_of}
+use Rattle.tb_node.specs.PlainNodes.{plain_of}
 use Rattle.tb_break.proofs.StoreLemmas.{none_first, with_list-same}
-use Rattle.tb_builder.specs.Fired.{line_at, penalty_at}
+use Rattle.tb_builder.specs.FiredPages.{line_at, penalty_at}
 use Rattle.tb_builder.specs.Firing.{spent_nodes}
 use Rattle.tb_builder.proofs.Turns.FillLemmas.{first_is}
 use Rattle.tb_builder.proofs.firing.spend_break.Goals as goal

@@ -1,6 +1,6 @@
 use Rattle.tb_builder.proofs.Ownership.SpareLemmas.{sound_still, contents_still}
 use Rattle.tb_builder.proofs.Ownership.FrameLemmas.{opened_same, opened_live, opened_empty, opened_apart, frame_sound, frame_contents}
-use Rattle.tb_builder.proofs.Worked.WorkedLemmas.{rest_still}
+use Rattle.tb_builder.proofs.WorkedPages.WorkedLemmas.{rest_still}
 use Rattle.tb_builder.proofs.tests.add_list.Goals as goal
 
 pub returns-in_err-list-clause-rest : goal.returns-in_err-list-clause-rest

@@ -1,6 +1,6 @@
 use Rattle.std.proofs.Common.{ap}
 use Rattle.tb_builder.specs.Contents.{Contents}
-use Rattle.tb_builder.proofs.Worked.WorkedLemmas.{rest_from}
+use Rattle.tb_builder.proofs.WorkedPages.WorkedLemmas.{rest_from}
 use Rattle.tb_builder.proofs.tests.boxed.Goals as goal
 
 pub returns : goal.returns

@@ -1,10 +1,10 @@
 use Rattle.std.proofs.Common.{subst, refl, arith}
 use Rattle.tb_builder.specs.declared.Event.{Event}
 use Rattle.tb_builder.specs.Contents.{contents_of}
-use Rattle.tb_builder.specs.Next.{NextIs}
+use Rattle.tb_builder.specs.PageEvents.{NextIs}
 use Rattle.tb_builder.proofs.Ranges.PageableLemmas.{contents_fit}
 use Rattle.tb_builder.proofs.Ownership.StoreSized.{boxes_of}
-use Rattle.tb_builder.proofs.Worked.WorkedLemmas.{ready_asked, ready_sized, ready_count, sized_again, fired_box, fits_again, held_again, known_again, fired_no_page, fired_live}
+use Rattle.tb_builder.proofs.WorkedPages.WorkedLemmas.{ready_asked, ready_sized, ready_count, sized_again, fired_box, fits_again, held_again, known_again, fired_no_page, fired_live}
 use Rattle.tb_builder.proofs.tests.fires.Goals as goal
 
 pub loop-init : goal.loop-init

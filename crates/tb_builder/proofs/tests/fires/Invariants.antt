@@ -1,9 +1,9 @@
 use Rattle.std.proofs.Common.{◌≡◌, ◌≤◌, true, []}
 use Rattle.tb_builder.specs.Contents.{contents_of}
-use Rattle.tb_builder.specs.Owned.{has_class}
-use Rattle.tb_builder.specs.Running.{IsSound}
-use Rattle.tb_builder.specs.Next.{NextFits}
-use Rattle.tb_builder.specs.Kept.{IsSizedAsk, IsSizedContents, whole_count}
+use Rattle.tb_builder.specs.Ownership.{has_class}
+use Rattle.tb_builder.specs.Courses.{IsSound}
+use Rattle.tb_builder.specs.PageEvents.{NextFits}
+use Rattle.tb_builder.specs.SizedContents.{IsSizedAsk, IsSizedContents, whole_count}
 use Rattle.tb_builder.proofs.tests.fires.Given as goal
 
 abbrev pub invariant-loop : goal.invariant-loop

@@ -1,13 +1,13 @@
 use Rattle.std.proofs.Common.{◌≡◌, ◌∙◌, sym, subst, ap, ◌+◌, ◌<◌, length, arith}
 use Rattle.std.proofs.lemmas.List.Elements.{All-get_or}
 use Rattle.tb_pool.specs.Lists.{list_at}
-use Rattle.tb_node.specs.Plain.{plain_of}
+use Rattle.tb_node.specs.PlainNodes.{plain_of}
 use Rattle.tb_builder.specs.declared.Builder.{Builder}
-use Rattle.tb_builder.specs.Owned.{ids_of, classes_of}
-use Rattle.tb_builder.specs.Worked.{IsMatter, IsReady, waits}
+use Rattle.tb_builder.specs.Ownership.{ids_of, classes_of}
+use Rattle.tb_builder.specs.WorkedPages.{IsMatter, IsReady, waits}
 use Rattle.tb_builder.proofs.Ownership.SpareLemmas.{sound_still, contents_still}
 use Rattle.tb_builder.proofs.Ownership.FrameLemmas.{plain_joins}
-use Rattle.tb_builder.proofs.Worked.WorkedLemmas.{matter_on_page, matter_counts, matter_inner, matter_known, ready_more, waits_more, ready_still, waits_still, few_waits, room_waits, more_waits}
+use Rattle.tb_builder.proofs.WorkedPages.WorkedLemmas.{matter_on_page, matter_counts, matter_inner, matter_known, ready_more, waits_more, ready_still, waits_still, few_waits, room_waits, more_waits}
 use Rattle.tb_builder.proofs.tests.give.Goals as goal
 
 pub contribute-requires-clause-joins : goal.contribute-requires-clause-joins

@@ -1,5 +1,5 @@
 use Rattle.std.proofs.Common.{◌+◌, ◌≤◌}
-use Rattle.tb_builder.specs.Worked.{IsReady, waits}
+use Rattle.tb_builder.specs.WorkedPages.{IsReady, waits}
 use Rattle.tb_builder.proofs.tests.give.Given as goal
 
 abbrev pub invariant-loop-n : goal.invariant-loop-n

@@ -1,14 +1,14 @@
 use Rattle.std.proofs.Common.{◌≡◌, ◌∙◌, refl, ap, sym, subst, length, FitsSigned, w64, rules, arith}
 use Rattle.std.proofs.lemmas.Int.{to_z-of_z}
 use Rattle.tb_pool.specs.Lists.{list_at}
-use Rattle.tb_node.specs.Plain.{plain_of}
+use Rattle.tb_node.specs.PlainNodes.{plain_of}
 use Rattle.tb_builder.specs.declared.Builder.{Builder}
 use Rattle.tb_builder.specs.Contents.{contents_of}
-use Rattle.tb_builder.specs.Owned.{ids_of, owned}
-use Rattle.tb_builder.specs.Worked.{IsReady, waits}
+use Rattle.tb_builder.specs.Ownership.{ids_of, owned}
+use Rattle.tb_builder.specs.WorkedPages.{IsReady, waits}
 use Rattle.tb_builder.proofs.Ownership.SpareLemmas.{sound_still, contents_still}
 use Rattle.tb_builder.proofs.Ownership.FrameLemmas.{live_all_same, frame_sound, frame_contents, empty_may_wait}
-use Rattle.tb_builder.proofs.Worked.WorkedLemmas.{ready_still, waits_still, ready_more, waits_more, note_sound, note_ready, note_waits, note_shapes, note_joins, note_sized, note_counts, note_room, note_count, same_count, extent_of, penalty_of}
+use Rattle.tb_builder.proofs.WorkedPages.WorkedLemmas.{ready_still, waits_still, ready_more, waits_more, note_sound, note_ready, note_waits, note_shapes, note_joins, note_sized, note_counts, note_room, note_count, same_count, extent_of, penalty_of}
 use Rattle.tb_builder.proofs.tests.give_note.Goals as goal
 
 pub returns-in_err-list-clause-ready : goal.returns-in_err-list-clause-ready

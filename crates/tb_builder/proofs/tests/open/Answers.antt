@@ -1,6 +1,6 @@
 use Rattle.std.proofs.Common.{refl, FitsSigned, w64, arith}
 use Rattle.std.proofs.lemmas.Int.{to_z-of_z}
-use Rattle.tb_builder.proofs.Worked.WorkedLemmas.{open_ready, sized_class, extent_of}
+use Rattle.tb_builder.proofs.WorkedPages.WorkedLemmas.{open_ready, sized_class, extent_of}
 use Rattle.tb_builder.proofs.tests.open.Goals as goal
 
 pub returns-clause-ready : goal.returns-clause-ready

@@ -1,6 +1,6 @@
-use Rattle.tb_builder.specs.Owned.{ids_of, owned}
+use Rattle.tb_builder.specs.Ownership.{ids_of, owned}
 use Rattle.tb_builder.proofs.Ownership.FrameLemmas.{live_all_same, frame_sound}
-use Rattle.tb_builder.proofs.Worked.WorkedLemmas.{rest_going, rest_no_kern, note_ready, note_sound, note_list_joins}
+use Rattle.tb_builder.proofs.WorkedPages.WorkedLemmas.{rest_going, rest_no_kern, note_ready, note_sound, note_list_joins}
 use Rattle.tb_builder.proofs.tests.put_before_all.Goals as goal
 
 pub returns-in_err-list : goal.returns-in_err-list

@@ -1,4 +1,4 @@
-use Rattle.tb_builder.specs.Owned.{ids_of}
+use Rattle.tb_builder.specs.Ownership.{ids_of}
 use Rattle.tb_builder.proofs.Ownership.FrameLemmas.{empty_joins}
 use Rattle.tb_builder.proofs.tests.put_nothing_back.Goals as goal
 

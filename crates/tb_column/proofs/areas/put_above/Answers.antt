@@ -2,7 +2,7 @@ use Rattle.std.proofs.Common.{sym, arith}
 use Rattle.std.proofs.lemmas.List.{nil_from_length}
 use Rattle.tb_pool.proofs.CallerLemmas.{live_same, live_other}
 use Rattle.tb_node.specs.declared.Where.TheVariants as places
-use Rattle.tb_column.specs.TextList.{top_list}
+use Rattle.tb_column.specs.TextColumns.{top_list}
 use Rattle.tb_column.proofs.StoreLemmas.{helper-apart, helped}
 use Rattle.tb_column.proofs.MovingLemmas.{before-none}
 use Rattle.tb_column.proofs.areas.put_above.Goals as goal

@@ -5,7 +5,7 @@ use Rattle.tb_float.specs.Ranges.{IsSizedFloat}
 use Rattle.tb_float.specs.Lists.{floats_of}
 use Rattle.tb_float.specs.Pool.{marks_of, marked_floats}
 use Rattle.tb_column.specs.Page.{IsPageList}
-use Rattle.tb_column.specs.FloatList.{page_list, page_glue}
+use Rattle.tb_column.specs.FloatColumns.{page_list, page_glue}
 use Rattle.tb_column.proofs.FloatLemmas.{marked-few, marked-all}
 use Rattle.tb_column.proofs.PageLemmas.{waiting-count, list-opened, fresh-before, page-list}
 use Rattle.tb_column.proofs.float_columns.open_page.Goals as goal

@@ -2,7 +2,7 @@ use Rattle.std.proofs.Common.{◌≡◌, ◌≤◌, length, arith}
 use Rattle.tb_pool.specs.Lists.{with_list}
 use Rattle.tb_pool.proofs.CallerLemmas.{live_same}
 use Rattle.tb_node.specs.declared.Where.TheVariants as places
-use Rattle.tb_column.specs.FloatList.{boxes_above}
+use Rattle.tb_column.specs.FloatColumns.{boxes_above}
 use Rattle.tb_column.proofs.PageLemmas.{list-opened, fresh-before, is-opened, opened-frame, pair-shown, pair-list}
 use Rattle.tb_column.proofs.float_columns.pair_tops.Goals as goal
 

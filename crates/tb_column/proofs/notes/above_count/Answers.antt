@@ -1,7 +1,7 @@
 use Rattle.std.proofs.Common.{◌+◌, ◌≤◌, ◌<◌, ap, sym, ◌∙◌, ◌++◌, ◌∷◌, [], length, take, arith}
 use Rattle.std.proofs.lemmas.List.{take_more}
 use Rattle.tb_column.specs.declared.NoteBox.{NoteBox}
-use Rattle.tb_column.specs.TextList.{above_count}
+use Rattle.tb_column.specs.TextColumns.{above_count}
 use Rattle.tb_column.proofs.NoteLemmas.{above_count-snoc, above_length-le, rising-at}
 use Rattle.tb_column.proofs.notes.above_count.Goals as goal
 

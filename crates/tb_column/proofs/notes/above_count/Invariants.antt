@@ -1,5 +1,5 @@
 use Rattle.std.proofs.Common.{◌≡◌, ◌*◌, ◌≤◌, take}
-use Rattle.tb_column.specs.TextList.{above_count}
+use Rattle.tb_column.specs.TextColumns.{above_count}
 use Rattle.tb_column.proofs.notes.above_count.Given as goal
 
 abbrev pub invariant-loop-note : goal.invariant-loop-note

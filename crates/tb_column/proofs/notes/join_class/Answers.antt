@@ -1,6 +1,6 @@
 use Rattle.std.proofs.Common.{sym}
 use Rattle.tb_pool.proofs.CallerLemmas.{live_other}
-use Rattle.tb_column.specs.TextList.{class_above}
+use Rattle.tb_column.specs.TextColumns.{class_above}
 use Rattle.tb_column.proofs.StoreLemmas.{joined}
 use Rattle.tb_column.proofs.notes.join_class.Goals as goal
 

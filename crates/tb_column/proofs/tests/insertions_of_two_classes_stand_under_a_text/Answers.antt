@@ -7,7 +7,7 @@ use Rattle.tb_column.specs.declared.NoteBox.{NoteBox}
 use Rattle.tb_column.specs.Page.{IsPageList}
 use Rattle.tb_column.specs.Ranges.{IsSizedGlue}
 use Rattle.tb_column.specs.Notes.{note_count, AreNotes}
-use Rattle.tb_column.specs.Changes.{IsOpened}
+use Rattle.tb_column.specs.ColumnChanges.{IsOpened}
 use Rattle.tb_column.proofs.StoreLemmas.{list-get}
 use Rattle.tb_column.proofs.GatherLemmas.{page-get}
 use Rattle.tb_column.proofs.tests.insertions_of_two_classes_stand_under_a_text.Goals as goal

@@ -8,7 +8,7 @@ use Rattle.tb_node.specs.declared.Node.{Node}
 use Rattle.tb_node.specs.declared.Kind.TheVariants as kinds
 use Rattle.tb_node.specs.declared.What.TheVariants as what
 use Rattle.tb_node.specs.Fit.{IsExtent, IsSizedNode}
-use Rattle.tb_column.specs.FloatList.{made_node}
+use Rattle.tb_column.specs.FloatColumns.{made_node}
 use Rattle.tb_column.proofs.StoreLemmas.{with_list-added}
 use Rattle.tb_column.proofs.FloatLemmas.{glue_sized}
 use Rattle.tb_column.proofs.PageLemmas.{list-opened, fresh-before, is-opened, opened-page}

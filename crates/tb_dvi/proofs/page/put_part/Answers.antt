@@ -3,7 +3,7 @@ use Rattle.std.specs.Int.{w128}
 use Rattle.std.proofs.lemmas.Int.{to_z-of_z}
 use Rattle.std.proofs.lemmas.Result.{err_from_is_err_and}
 use Rattle.tb_pool.specs.Lists.{list_at}
-use Rattle.tb_dvi.proofs.PlacingLemmas.{begins, shares, node_fits, natural_fits, glue_fits, goes_on, stops, ends}
+use Rattle.tb_dvi.proofs.PlacementLemmas.{begins, shares, node_fits, natural_fits, glue_fits, goes_on, stops, ends}
 use Rattle.tb_dvi.proofs.page.put_part.Goals as goal
 
 pub loop-node-init : goal.loop-node-init

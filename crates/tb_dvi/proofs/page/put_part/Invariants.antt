@@ -1,5 +1,5 @@
 use Rattle.tb_pool.specs.Lists.{list_at}
-use Rattle.tb_dvi.proofs.PlacingLemmas.{Placing}
+use Rattle.tb_dvi.proofs.PlacementLemmas.{Placing}
 use Rattle.tb_dvi.proofs.page.put_part.Given as goal
 
 abbrev pub invariant-loop-node : goal.invariant-loop-node

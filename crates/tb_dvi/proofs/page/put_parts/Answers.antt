@@ -1,8 +1,8 @@
 use Rattle.std.proofs.Common.{sym, subst, List}
 use Rattle.std.proofs.lemmas.Result.{err_from_is_err_and}
 use Rattle.tb_dvi.specs.Placement.{Placement, parts_placed}
-use Rattle.tb_dvi.specs.Writing.{parts_shown, IsShowable}
-use Rattle.tb_dvi.proofs.PlacingLemmas.{Left, all_left, fewer_left, fault_left, none_left, parts-step, parts-end}
+use Rattle.tb_dvi.specs.Page.{parts_shown, IsShowable}
+use Rattle.tb_dvi.proofs.PlacementLemmas.{Left, all_left, fewer_left, fault_left, none_left, parts-step, parts-end}
 use Rattle.tb_dvi.proofs.page.put_parts.Goals as goal
 
 pub loop-part-init : goal.loop-part-init

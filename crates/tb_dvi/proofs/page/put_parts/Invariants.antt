@@ -1,7 +1,7 @@
 use Rattle.std.proofs.Common.{drop}
 use Rattle.tb_dvi.specs.Placement.{parts_placed}
-use Rattle.tb_dvi.specs.Writing.{parts_shown}
-use Rattle.tb_dvi.proofs.PlacingLemmas.{Left}
+use Rattle.tb_dvi.specs.Page.{parts_shown}
+use Rattle.tb_dvi.proofs.PlacementLemmas.{Left}
 use Rattle.tb_dvi.proofs.page.put_parts.Given as goal
 
 abbrev pub invariant-loop-part : goal.invariant-loop-part

@@ -1,8 +1,8 @@
 use Rattle.std.proofs.Common.{rules, pos, [], ◌∷◌, FitsSigned, w64}
 use Rattle.std.proofs.lemmas.List.Elements.{All-cons}
 use Rattle.tb_dvi.specs.declared.page.Part.{Part}
-use Rattle.tb_dvi.specs.Writing.{IsShowable}
-use Rattle.tb_dvi.proofs.PlacingLemmas.{column-showable}
+use Rattle.tb_dvi.specs.Page.{IsShowable}
+use Rattle.tb_dvi.proofs.PlacementLemmas.{column-showable}
 use Rattle.tb_dvi.proofs.page.put_sheet.Goals as goal
 
 pub put_page-requires-clause-parts : goal.put_page-requires-clause-parts

@@ -1,7 +1,7 @@
 use Rattle.std.proofs.Common.{◌≡◌, ◌++◌, ◌∷◌, ◌%◌, [], List, ℕ, replicate, FitsSigned, w32}
 use Rattle.std.proofs.lemmas.Int.{to_z-of_z}
 use Rattle.tb_dvi.specs.File.{four, signed_4}
-use Rattle.tb_dvi.proofs.Joining.{joins, joins-last}
+use Rattle.tb_dvi.proofs.JoinedTexts.{joins, joins-last}
 use Rattle.tb_dvi.proofs.page.put_start.Goals as goal
 
 pub returns : goal.returns

@@ -2,7 +2,7 @@ use Rattle.std.proofs.Common.{◌≡◌, length, ap, ◌∙◌, sym, FitsSigned,
 use Rattle.std.proofs.lemmas.Int.{to_z-of_z}
 use Rattle.tb_float.specs.Lists.{floats_of, entry_count}
 use Rattle.tb_float.specs.Rooms.{total_height}
-use Rattle.tb_float.specs.Stored.{slots_of, floats_in}
+use Rattle.tb_float.specs.Shelves.{slots_of, floats_in}
 use Rattle.tb_float.proofs.SlotLemmas.{slots-sum, length-floats_in}
 use Rattle.tb_float.proofs.SoundLemmas.{entry_count-seen, floats_of-seen}
 use Rattle.tb_float.proofs.Pool.area_taken.Goals as goal

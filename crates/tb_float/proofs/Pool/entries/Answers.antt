@@ -1,7 +1,7 @@
 use Rattle.std.proofs.Common.{sym, ap, ◌∙◌}
 use Rattle.tb_pool.specs.Lists.{list_at}
 use Rattle.tb_float.specs.Lists.{entries_of}
-use Rattle.tb_float.specs.Stored.{slots_of, entries_in}
+use Rattle.tb_float.specs.Shelves.{slots_of, entries_in}
 use Rattle.tb_float.proofs.SoundLemmas.{entries_of-seen}
 use Rattle.tb_float.proofs.Pool.entries.Goals as goal
 

@@ -4,7 +4,7 @@ use Rattle.std.proofs.lemmas.Option.{slice_get-map}
 use Rattle.tb_pool.specs.Lists.{list_at}
 use Rattle.tb_float.specs.Lists.{entries_of}
 use Rattle.tb_float.specs.Ranges.{IsSizedEntry}
-use Rattle.tb_float.specs.Stored.{slots_of}
+use Rattle.tb_float.specs.Shelves.{slots_of}
 use Rattle.tb_float.proofs.SlotLemmas.{slot-there}
 use Rattle.tb_float.proofs.SoundLemmas.{entries_of-seen}
 use Rattle.tb_float.proofs.Pool.entry.Goals as goal

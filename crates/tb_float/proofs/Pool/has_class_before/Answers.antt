@@ -1,6 +1,6 @@
 use Rattle.std.proofs.Common.{take, sym, ap, ◌∙◌}
 use Rattle.tb_float.specs.Lists.{has_class, floats_of}
-use Rattle.tb_float.specs.Stored.{slots_of}
+use Rattle.tb_float.specs.Shelves.{slots_of}
 use Rattle.tb_float.proofs.SoundLemmas.{floats_in-take, floats_of-seen}
 use Rattle.tb_float.proofs.WaitingLemmas.{waiting-floats}
 use Rattle.tb_float.proofs.Pool.has_class_before.Goals as goal

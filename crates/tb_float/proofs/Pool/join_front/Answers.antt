@@ -4,7 +4,7 @@ use Rattle.tb_float.specs.declared.by_part.ByPart.{ByPart}
 use Rattle.tb_float.specs.Pool.{HasNoMarks, joined_before, with_floats_before, without_entries}
 use Rattle.tb_float.specs.Ranges.{IsRoom}
 use Rattle.tb_float.specs.ByPart.{of_part}
-use Rattle.tb_float.specs.Stored.{slots_of, shelf_of, seen_pool, IsStored}
+use Rattle.tb_float.specs.Shelves.{slots_of, shelf_of, seen_pool, IsStored}
 use Rattle.tb_float.proofs.MoveLemmas.{joined-lists, live-joined}
 use Rattle.tb_float.proofs.SoundLemmas.{sums-are_rooms, floats_of-seen}
 use Rattle.tb_float.proofs.PartLemmas.{part-other}

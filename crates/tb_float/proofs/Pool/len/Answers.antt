@@ -3,7 +3,7 @@ use Rattle.std.specs.Prelude.{All}
 use Rattle.tb_pool.specs.Lists.{list_at}
 use Rattle.tb_float.specs.Lists.{entry_count}
 use Rattle.tb_float.specs.Ranges.{IsSizedFloat}
-use Rattle.tb_float.specs.Stored.{slots_of}
+use Rattle.tb_float.specs.Shelves.{slots_of}
 use Rattle.tb_float.proofs.SlotLemmas.{floats-sized}
 use Rattle.tb_float.proofs.SoundLemmas.{entry_count-seen, count-of, floats_of-seen}
 use Rattle.tb_float.proofs.PoolLemmas.{all-marks}

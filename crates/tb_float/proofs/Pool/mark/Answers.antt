@@ -1,10 +1,10 @@
 use Rattle.std.proofs.Common.{◌≤◌, length, ap, ◌∙◌, arith}
 use Rattle.std.specs.Prelude.{slice_set, true}
 use Rattle.tb_pool.specs.Lists.{with_list}
-use Rattle.tb_float.specs.SlotView.{SlotView}
+use Rattle.tb_float.specs.Slots.{SlotView}
 use Rattle.tb_float.specs.Lists.{floats_of, live_count}
 use Rattle.tb_float.specs.Pool.{with_mark}
-use Rattle.tb_float.specs.Stored.{slots_of, shelf_of, seen_lists}
+use Rattle.tb_float.specs.Shelves.{slots_of, shelf_of, seen_lists}
 use Rattle.tb_float.proofs.SlotLemmas.{length-floats_in}
 use Rattle.tb_float.proofs.SoundLemmas.{floats_of-seen, live_count-seen}
 use Rattle.tb_float.proofs.WaitingLemmas.{waiting-floats}

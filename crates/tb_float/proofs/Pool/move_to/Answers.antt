@@ -8,7 +8,7 @@ use Rattle.tb_float.specs.Pool.{HasNoMarks, moved_float, with_floats_after, with
 use Rattle.tb_float.specs.Ranges.{IsRoom}
 use Rattle.tb_float.specs.Rooms.{total_height}
 use Rattle.tb_float.specs.ByPart.{of_part}
-use Rattle.tb_float.specs.Stored.{slots_of, seen_pool, is_float, IsStored}
+use Rattle.tb_float.specs.Shelves.{slots_of, seen_pool, is_float, IsStored}
 use Rattle.tb_float.proofs.PartLemmas.{part-other}
 use Rattle.tb_float.proofs.PoolLemmas.{float-there, float-is, all-marks, moved-to, entry-is_room, sums-moved}
 use Rattle.tb_float.proofs.SlotLemmas.{slot-there}

@@ -6,7 +6,7 @@ use Rattle.tb_float.specs.declared.by_part.ByPart.{ByPart}
 use Rattle.tb_float.specs.Lists.{live_count}
 use Rattle.tb_float.specs.Pool.{with_current}
 use Rattle.tb_float.specs.ByPart.{of_part, with_part}
-use Rattle.tb_float.specs.Stored.{slots_of, seen_lists, IsStored}
+use Rattle.tb_float.specs.Shelves.{slots_of, seen_lists, IsStored}
 use Rattle.tb_float.proofs.SoundLemmas.{sums-are_rooms, live_count-seen}
 use Rattle.tb_float.proofs.PoolLemmas.{put-in}
 use Rattle.tb_float.proofs.TrackLemmas.{pooled, tracked-put}

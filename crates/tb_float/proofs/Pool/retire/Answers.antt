@@ -10,7 +10,7 @@ use Rattle.tb_float.specs.Pool.{HasNoMarks, without_entry}
 use Rattle.tb_float.specs.Ranges.{IsRoom}
 use Rattle.tb_float.specs.Rooms.{total_height}
 use Rattle.tb_float.specs.ByPart.{of_part, with_part}
-use Rattle.tb_float.specs.Stored.{slots_of, shelf_of, IsStored}
+use Rattle.tb_float.specs.Shelves.{slots_of, shelf_of, IsStored}
 use Rattle.tb_float.proofs.SlotLemmas.{slot-there}
 use Rattle.tb_float.proofs.SoundLemmas.{sums-are_rooms, entries_of-seen, entry_count-seen}
 use Rattle.tb_float.proofs.PoolLemmas.{taken-out, entry-is_room, without-first}

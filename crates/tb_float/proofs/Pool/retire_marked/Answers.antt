@@ -4,13 +4,13 @@ use Rattle.std.proofs.lemmas.Int.{to_z-of_z}
 use Rattle.std.proofs.lemmas.List.{length-map}
 use Rattle.tb_float.specs.declared.Entry.TheVariants as entries
 use Rattle.tb_float.specs.declared.by_part.ByPart.{ByPart}
-use Rattle.tb_float.specs.SlotView.{SlotView}
+use Rattle.tb_float.specs.Slots.{SlotView}
 use Rattle.tb_float.specs.Lists.{float_before, floats_of}
 use Rattle.tb_float.specs.Pool.{marks_of, marked_among, unmarked_among, marked_floats, unmarked_floats, first_marked, without_entry}
 use Rattle.tb_float.specs.Ranges.{IsRoom}
 use Rattle.tb_float.specs.Rooms.{total_height}
 use Rattle.tb_float.specs.ByPart.{of_part, with_part}
-use Rattle.tb_float.specs.Stored.{slots_of, seen_pool, floats_in, marks_in, is_float, IsStored}
+use Rattle.tb_float.specs.Shelves.{slots_of, seen_pool, floats_in, marks_in, is_float, IsStored}
 use Rattle.tb_float.proofs.SlotLemmas.{slot-there, float-at_slot}
 use Rattle.tb_float.proofs.SoundLemmas.{marks_of-seen, sums-are_rooms, floats_of-seen}
 use Rattle.tb_float.proofs.WaitingLemmas.{waiting-floats}

@@ -4,9 +4,9 @@ use Rattle.std.proofs.lemmas.Option.{slice_get_within}
 use Rattle.tb_pool.specs.Lists.{with_list}
 use Rattle.tb_node.specs.declared.Float.{Float}
 use Rattle.tb_float.specs.declared.Entry.TheVariants as entries
-use Rattle.tb_float.specs.SlotView.{SlotView}
+use Rattle.tb_float.specs.Slots.{SlotView}
 use Rattle.tb_float.specs.Pool.{HasNoMarks, with_float_at, with_places}
-use Rattle.tb_float.specs.Stored.{seen_pool, slots_of, shelf_of, is_float}
+use Rattle.tb_float.specs.Shelves.{seen_pool, slots_of, shelf_of, is_float}
 use Rattle.tb_float.proofs.PoolLemmas.{float-there, float-is, places-set, same-float}
 use Rattle.tb_float.proofs.MarkLemmas.{unmarked-with_float_at}
 use Rattle.tb_float.proofs.TrackLemmas.{pooled, known-entry, tracked-set}

@@ -1,6 +1,6 @@
 use Rattle.std.proofs.Common.{ap, arith}
 use Rattle.tb_float.specs.Lists.{live_count}
-use Rattle.tb_float.specs.Stored.{slots_of}
+use Rattle.tb_float.specs.Shelves.{slots_of}
 use Rattle.tb_float.proofs.SoundLemmas.{live_count-seen}
 use Rattle.tb_float.proofs.Pool.take_margin.Goals as goal
 

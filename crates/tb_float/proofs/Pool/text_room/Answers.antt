@@ -3,7 +3,7 @@ use Rattle.std.specs.Prelude.{◌*ℤ◌, pos}
 use Rattle.std.proofs.lemmas.Int.{ints, to_z-of_z}
 use Rattle.tb_float.specs.declared.Part.TheVariants as parts
 use Rattle.tb_float.specs.Rooms.{total_height, text_float_room}
-use Rattle.tb_float.specs.Stored.{slots_of, floats_in}
+use Rattle.tb_float.specs.Shelves.{slots_of, floats_in}
 use Rattle.tb_float.proofs.SlotLemmas.{slots-sum, length-floats_in}
 use Rattle.tb_float.proofs.SoundLemmas.{sums-are_rooms}
 use Rattle.tb_float.proofs.RoomLemmas.{text_float_room-sum}

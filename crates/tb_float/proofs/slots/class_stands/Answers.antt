@@ -1,7 +1,7 @@
 use Rattle.std.proofs.Common.{ap, sym, ◌∙◌}
 use Rattle.std.proofs.Common.{take, []}
 use Rattle.tb_float.specs.Lists.{has_class, float_before}
-use Rattle.tb_float.specs.Stored.{floats_in}
+use Rattle.tb_float.specs.Shelves.{floats_in}
 use Rattle.tb_float.proofs.SlotLemmas.{class-passed}
 use Rattle.tb_float.proofs.slots.class_stands.Goals as goal
 

@@ -1,7 +1,7 @@
 use Rattle.std.proofs.Common.{◌≡◌, take}
 use Rattle.tb_pool.specs.Lists.{list_at}
 use Rattle.tb_float.specs.Lists.{has_class}
-use Rattle.tb_float.specs.Stored.{floats_in}
+use Rattle.tb_float.specs.Shelves.{floats_in}
 use Rattle.tb_float.proofs.slots.class_stands.Given as goal
 
 abbrev pub invariant-loop-slot : goal.invariant-loop-slot

@@ -1,7 +1,7 @@
 use Rattle.std.proofs.Common.{◌≡◌, ◌+◌, length}
 use Rattle.tb_pool.specs.Lists.{list_at}
 use Rattle.tb_float.specs.Pool.{first_marked}
-use Rattle.tb_float.specs.Stored.{marks_in}
+use Rattle.tb_float.specs.Shelves.{marks_in}
 use Rattle.tb_float.proofs.slots.first_marked.Given as goal
 
 abbrev pub invariant-loop-slot : goal.invariant-loop-slot

@@ -1,7 +1,7 @@
 use Rattle.std.proofs.Common.{◌≡◌, length, take, drop, arith, ap, length-drop}
 use Rattle.tb_pool.specs.Lists.{list_at}
 use Rattle.tb_pool.proofs.MapLemmas.{list_steps}
-use Rattle.tb_float.specs.Stored.{unmarked_slot}
+use Rattle.tb_float.specs.Shelves.{unmarked_slot}
 use Rattle.tb_float.proofs.MoveLemmas.{moved-one, Differ}
 use Rattle.tb_float.proofs.slots.move_slot.Goals as goal
 

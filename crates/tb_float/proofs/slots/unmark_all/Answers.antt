@@ -1,7 +1,7 @@
 use Rattle.std.proofs.Common.{◌≡◌, ◌∷◌, ◌++◌, [], length, drop, Some, arith, ap, ◌∙◌}
 use Rattle.tb_pool.specs.Lists.{list_at}
 use Rattle.tb_pool.proofs.MapLemmas.{list_steps, insert_from_get}
-use Rattle.tb_float.specs.Stored.{unmarked_slot}
+use Rattle.tb_float.specs.Shelves.{unmarked_slot}
 use Rattle.tb_float.proofs.ListLemmas.{turned-once, turned-all, turned-length, some-list}
 use Rattle.tb_float.proofs.slots.unmark_all.Goals as goal
 

@@ -1,7 +1,7 @@
 use Rattle.std.proofs.Common.{◌≡◌, ◌≢◌, ℕ, ◌++◌, map, take, drop}
 use Rattle.std.specs.FinMap.{get}
 use Rattle.tb_pool.specs.Lists.{IsLive, list_at}
-use Rattle.tb_float.specs.Stored.{unmarked_slot}
+use Rattle.tb_float.specs.Shelves.{unmarked_slot}
 use Rattle.tb_float.proofs.slots.unmark_all.Given as goal
 
 abbrev pub invariant-loop-turn : goal.invariant-loop-turn

@@ -1,6 +1,6 @@
 use Rattle.std.proofs.Common.{◌≡◌, OnOk, length, ap, subst, ◌∙◌, ◌++◌}
 use Rattle.std.specs.Str.Lines.{strip_carriage_return}
-use Rattle.tb_galley.specs.Machine.{take_said}
+use Rattle.tb_galley.specs.GalleyReader.{take_said}
 use Rattle.tb_galley.specs.Unfinished.{kept_line}
 use Rattle.tb_galley.proofs.ByBytes.{no_length, some_length, whole_line, joined_line, kept_empty}
 use Rattle.tb_galley.proofs.pieces.end_line.Goals as goal

@@ -2,7 +2,7 @@ use Rattle.std.proofs.Common.{◌<◌, ap, refl, length, FitsSigned, w64, rules}
 use Rattle.std.proofs.lemmas.Int.{to_z-of_z}
 use Rattle.std.specs.Prelude.{true, slice_set}
 use Rattle.tb_pool.specs.Lists.{list_at}
-use Rattle.tb_node.specs.Plain.{inserted_of}
+use Rattle.tb_node.specs.PlainNodes.{inserted_of}
 use Rattle.tb_insert.proofs.StandsLemmas.{arrive_stands, arrive_scan}
 use Rattle.tb_insert.proofs.Account.arrive.Goals as goal
 

@@ -2,7 +2,7 @@ use Rattle.std.proofs.Common.{◌≡◌, sym, subst, ◌^◌, FitsSigned, w64, r
 use Rattle.std.specs.Prelude.{◌*ℤ◌}
 use Rattle.std.specs.Int.{w128}
 use Rattle.std.proofs.lemmas.Int.{to_z-of_z}
-use Rattle.tb_insert.specs.Wide.{IsWithin}
+use Rattle.tb_insert.specs.WideAmounts.{IsWithin}
 use Rattle.tb_insert.proofs.RoomLemmas.{product_within, product_fits}
 use Rattle.tb_insert.proofs.rooms.product.Goals as goal
 

@@ -1,7 +1,7 @@
 use Rattle.std.proofs.Common.{◌∙◌, FitsSigned, w64, rules}
 use Rattle.std.proofs.lemmas.Int.{to_z-of_z}
 use Rattle.tb_pool.specs.Lists.{list_at}
-use Rattle.tb_node.specs.Plain.{inserted_of}
+use Rattle.tb_node.specs.PlainNodes.{inserted_of}
 use Rattle.tb_insert.proofs.WorkedLemmas.{next_known, next_fits, next_stands}
 use Rattle.tb_insert.proofs.tests.arrive.Goals as goal
 

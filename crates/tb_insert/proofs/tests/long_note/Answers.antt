@@ -1,5 +1,5 @@
 use Rattle.std.proofs.Common.{arith}
-use Rattle.tb_insert.specs.Worked.{long_nodes}
+use Rattle.tb_insert.specs.WorkedPages.{long_nodes}
 use Rattle.tb_insert.proofs.WorkedLemmas.{note_inserted, note_inner, long_sized}
 use Rattle.tb_insert.proofs.tests.long_note.Goals as goal
 

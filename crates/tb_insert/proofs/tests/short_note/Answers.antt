@@ -1,5 +1,5 @@
 use Rattle.std.proofs.Common.{arith}
-use Rattle.tb_insert.specs.Worked.{short_nodes}
+use Rattle.tb_insert.specs.WorkedPages.{short_nodes}
 use Rattle.tb_insert.proofs.WorkedLemmas.{note_inserted, note_inner, short_sized}
 use Rattle.tb_insert.proofs.tests.short_note.Goals as goal
 

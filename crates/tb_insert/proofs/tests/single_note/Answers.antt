@@ -1,5 +1,5 @@
 use Rattle.std.proofs.Common.{arith}
-use Rattle.tb_insert.specs.Worked.{single_node}
+use Rattle.tb_insert.specs.WorkedPages.{single_node}
 use Rattle.tb_insert.proofs.WorkedLemmas.{note_inserted, note_inner, single_sized}
 use Rattle.tb_insert.proofs.tests.single_note.Goals as goal
 

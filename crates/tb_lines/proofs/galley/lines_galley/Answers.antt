@@ -3,8 +3,8 @@ use Rattle.std.specs.declared.alloc.Global.{Global}
 use Rattle.tb_lines.specs.declared.LinesFault.{LinesFault}
 use Rattle.tb_lines.specs.declared.LinesFault.TheVariants as faults
 use Rattle.tb_lines.specs.declared.LinesRefusal.{LinesRefusal}
-use Rattle.tb_lines.specs.Reading.{reading}
-use Rattle.tb_lines.specs.Machine.{Answers}
+use Rattle.tb_lines.specs.Grammar.{reading}
+use Rattle.tb_lines.specs.Reader.{Answers}
 use Rattle.tb_lines.specs.Galley.{galley_of, refusal_of, lines_galley, GivesGalley}
 use Rattle.tb_lines.specs.Accepted.{IsAccepted}
 use Rattle.tb_lines.proofs.Accepted.{galley_accepted}

@@ -1,7 +1,7 @@
 use Rattle.std.proofs.Common.{◌≡◌, ◌≤◌, ◌+◌, length}
 use Rattle.std.specs.List.{fold}
 use Rattle.tb_text.specs.Lines.{lines_of}
-use Rattle.tb_lines.specs.Machine.{take_said, start}
+use Rattle.tb_lines.specs.Reader.{take_said, start}
 use Rattle.tb_lines.proofs.reader.read_all.Given as goal
 
 abbrev pub invariant-lines : goal.invariant-lines

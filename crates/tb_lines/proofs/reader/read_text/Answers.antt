@@ -3,8 +3,8 @@ use Rattle.std.proofs.lemmas.Bool.Decides.{nat_tests}
 use Rattle.tb_text.specs.Lines.{lines_of}
 use Rattle.tb_galley.specs.declared.Cause.TheVariants.{InputSize}
 use Rattle.tb_galley.specs.Faults.{fault}
-use Rattle.tb_lines.specs.Reading.{reading, spelled_text}
-use Rattle.tb_lines.specs.Machine.{verdict}
+use Rattle.tb_lines.specs.Grammar.{reading, spelled_text}
+use Rattle.tb_lines.specs.Reader.{verdict}
 use Rattle.tb_lines.proofs.SameStep.{left_exact}
 use Rattle.tb_lines.proofs.reader.read_text.Goals as goal
 

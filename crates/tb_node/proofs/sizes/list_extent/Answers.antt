@@ -1,6 +1,6 @@
 use Rattle.std.proofs.Common.{◌∙◌, map}
 use Rattle.tb_pool.specs.Lists.{list_at}
-use Rattle.tb_node.specs.Plain.{shape_of}
+use Rattle.tb_node.specs.PlainNodes.{shape_of}
 use Rattle.tb_node.specs.Fit.{shapes}
 use Rattle.tb_node.proofs.FitLemmas.{summable}
 use Rattle.tb_node.proofs.ExtentLemmas.{extent-begins, extent-small, extent-goes_on}

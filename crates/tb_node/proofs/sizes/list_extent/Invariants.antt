@@ -1,5 +1,5 @@
 use Rattle.std.proofs.Common.{map}
-use Rattle.tb_node.specs.Plain.{shape_of}
+use Rattle.tb_node.specs.PlainNodes.{shape_of}
 use Rattle.tb_node.specs.Fit.{shapes}
 use Rattle.tb_node.proofs.ExtentLemmas.{Extending}
 use Rattle.tb_node.proofs.sizes.list_extent.Given as goal

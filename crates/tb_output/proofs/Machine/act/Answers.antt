@@ -1,7 +1,7 @@
 use Rattle.std.proofs.Common.{sym, subst}
-use Rattle.tb_output.specs.Keeping.{AreNoneOf}
+use Rattle.tb_output.specs.MachineFrame.{AreNoneOf}
 use Rattle.tb_output.specs.Machine.{machine_lists}
-use Rattle.tb_output.specs.Acting.{dropped_lists}
+use Rattle.tb_output.specs.ActCalls.{dropped_lists}
 use Rattle.tb_output.proofs.Acts.ActingLemmas.{float-stands, float-takes, columns-drop}
 use Rattle.tb_output.proofs.Machine.act.Goals as goal
 

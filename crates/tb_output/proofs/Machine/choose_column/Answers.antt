@@ -5,7 +5,7 @@ use Rattle.tb_float.specs.declared.Part.TheVariants as parts
 use Rattle.tb_float.specs.Rooms.{column_height_of}
 use Rattle.tb_fpage.specs.declared.Wanted.{Wanted}
 use Rattle.tb_fpage.specs.Company.{company, wanted_of}
-use Rattle.tb_fpage.specs.Chosen.{IsChosen}
+use Rattle.tb_fpage.specs.Choice.{IsChosen}
 use Rattle.tb_output.specs.Columns.{single_wanted}
 use Rattle.tb_output.specs.Machine.{MachineView, AreOutputParams}
 use Rattle.tb_output.specs.contracts.Machine.{the_view}

@@ -6,8 +6,8 @@ use Rattle.tb_float.specs.Lists.{floats_of, wide_part, wide_waiting}
 use Rattle.tb_float.specs.declared.Part.{Part}
 use Rattle.tb_float.specs.Ranges.{IsExtent, IsWithin}
 use Rattle.tb_fpage.specs.Company.{company, wanted_of}
-use Rattle.tb_fpage.specs.Chosen.{IsChosen}
-use Rattle.tb_output.specs.Ship.{wide_wanted}
+use Rattle.tb_fpage.specs.Choice.{IsChosen}
+use Rattle.tb_output.specs.Pages.{wide_wanted}
 use Rattle.tb_output.specs.Machine.{MachineView, AreOutputParams}
 use Rattle.tb_output.specs.contracts.Machine.{the_view}
 use Rattle.tb_output.proofs.Clears.CompanyLemmas.{chosen-room, pool-same}

@@ -1,9 +1,9 @@
 use Rattle.std.proofs.Common.{sym, subst, ◌∙◌, ◌∷◌, ◌++◌}
 use Rattle.tb_column.specs.Notes.{note_lists}
 use Rattle.tb_output.specs.Machine.{machine_lists}
-use Rattle.tb_output.specs.Keeping.{AreTextLists, KeepsBack, back_lists}
-use Rattle.tb_output.specs.Working.{shows_back, IsCutShort}
-use Rattle.tb_output.proofs.Working.ResultLemmas.{ok-map, err-map}
+use Rattle.tb_output.specs.MachineFrame.{AreTextLists, KeepsBack, back_lists}
+use Rattle.tb_output.specs.FiringWork.{shows_back, IsCutShort}
+use Rattle.tb_output.proofs.FiringWork.ResultLemmas.{ok-map, err-map}
 use Rattle.tb_output.proofs.Clears.NotedSteps.{no-notes, some-notes, noteless-clear, noted-clear}
 use Rattle.tb_output.proofs.Machine.clear.Goals as goal
 

@@ -1,7 +1,7 @@
 use Rattle.std.proofs.Common.{sym}
 use Rattle.tb_output.specs.State.{Work}
 use Rattle.tb_output.specs.Clear.{clear_wide, clear_rest}
-use Rattle.tb_output.proofs.Working.ResultLemmas.{memory-err, same-err}
+use Rattle.tb_output.proofs.FiringWork.ResultLemmas.{memory-err, same-err}
 use Rattle.tb_output.proofs.Clears.ClearSteps.{FrontKept, columns, areas, after-front, after-front_cut, after-front_keeps, columns-done, columns-cut, wide-done, wide-cut, rest-whole, rest-memory}
 use Rattle.tb_output.proofs.Machine.clear_floats.Goals as goal
 

@@ -1,7 +1,7 @@
-use Rattle.tb_output.proofs.Working.ResultLemmas.{memory-err, same-err}
+use Rattle.tb_output.proofs.FiringWork.ResultLemmas.{memory-err, same-err}
 use Rattle.tb_output.proofs.Clears.NotedSteps.{filled-of, unfilled-cut, unfilled-keeps, filled-lists, filled-machine, out-keeps, out-cut, unput-cut, unput-keeps, noted-done, noted-keeps}
 use Rattle.tb_output.proofs.InText.PushLemmas.{grown-of}
-use Rattle.tb_output.specs.PutBack.{clear_list}
+use Rattle.tb_output.specs.BackList.{clear_list}
 use Rattle.std.proofs.Common.{refl, []}
 use Rattle.tb_output.proofs.Machine.clear_notes.Goals as goal
 

@@ -1,8 +1,8 @@
 use Rattle.std.proofs.Common.{refl, sym, subst, ◌∙◌, [], Bool}
 use Rattle.std.specs.Prelude.{if◌then◌else◌}
 use Rattle.tb_builder.proofs.Events.WalkLemmas.{list_there}
-use Rattle.tb_output.specs.PutBack.{clear_list}
-use Rattle.tb_output.specs.Keeping.{HasGrown}
+use Rattle.tb_output.specs.BackList.{clear_list}
+use Rattle.tb_output.specs.MachineFrame.{HasGrown}
 use Rattle.tb_output.proofs.InText.PushLemmas.{grown-of, grown-none}
 use Rattle.tb_output.proofs.Machine.clear_rest.Goals as goal
 

@@ -1,10 +1,10 @@
 use Rattle.std.proofs.Common.{◌≡◌, refl, subst, true, false, []}
 use Rattle.tb_output.specs.Machine.{MachineView}
 use Rattle.tb_output.specs.Clear.{clear_wide}
-use Rattle.tb_output.specs.PutBack.{blank_clear_list}
-use Rattle.tb_output.proofs.Working.ResultLemmas.{memory-err, ok-map, err-map}
+use Rattle.tb_output.specs.BackList.{blank_clear_list}
+use Rattle.tb_output.proofs.FiringWork.ResultLemmas.{memory-err, ok-map, err-map}
 use Rattle.tb_output.proofs.InText.PushLemmas.{grown-of}
-use Rattle.tb_output.proofs.Working.StepLemmas.{no-room}
+use Rattle.tb_output.proofs.FiringWork.StepLemmas.{no-room}
 use Rattle.tb_output.proofs.StepLaws.WorkSteps.{continues-clear_wide}
 use Rattle.tb_output.proofs.Clears.ClearSteps.{single-done, second-done, double-done, first-done, first-cut, first-keeps}
 use Rattle.tb_output.proofs.Machine.clear_wide.Goals as goal

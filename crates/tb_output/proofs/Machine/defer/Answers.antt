@@ -1,10 +1,10 @@
 use Rattle.std.proofs.Common.{refl, Bool}
 use Rattle.tb_output.specs.State.{Work}
 use Rattle.tb_output.specs.Text.{only_here, defer}
-use Rattle.tb_output.specs.Turns.{float_placed, without_first}
+use Rattle.tb_output.specs.FiringParts.{float_placed, without_first}
 use Rattle.tb_node.specs.declared.Where.TheVariants as places
-use Rattle.tb_output.proofs.Working.ResultLemmas.{memory-err, ok-map, err-map}
-use Rattle.tb_output.proofs.Working.StepLemmas.{Done, keeps-on, no-room}
+use Rattle.tb_output.proofs.FiringWork.ResultLemmas.{memory-err, ok-map, err-map}
+use Rattle.tb_output.proofs.FiringWork.StepLemmas.{Done, keeps-on, no-room}
 use Rattle.tb_output.proofs.InText.TextSteps.{deferred-done, then-interline, then-interline_cut, continues-float_placed, continues-none}
 use Rattle.tb_output.proofs.Machine.defer.Goals as goal
 

@@ -2,7 +2,7 @@ use Rattle.std.proofs.Common.{subst}
 use Rattle.tb_output.specs.contracts.Machine.{the_view}
 use Rattle.tb_output.specs.Clear.{deferred_again}
 use Rattle.tb_output.specs.Machine.{MachineView}
-use Rattle.tb_output.specs.Keeping.{HasFloats}
+use Rattle.tb_output.specs.MachineFrame.{HasFloats}
 use Rattle.tb_output.proofs.Clears.JoinLemmas.{areas-room, areas-has}
 use Rattle.tb_output.proofs.Machine.defer_areas.Goals as goal
 

@@ -1,6 +1,6 @@
 use Rattle.std.proofs.Common.{sym, subst, ◌∙◌, Bool}
-use Rattle.tb_output.specs.Turns.{HasDeferred}
-use Rattle.tb_output.proofs.Working.ResultLemmas.{ok-map}
+use Rattle.tb_output.specs.FiringParts.{HasDeferred}
+use Rattle.tb_output.proofs.FiringWork.ResultLemmas.{ok-map}
 use Rattle.tb_output.proofs.Machine.defer_first.Goals as goal
 
 pub returns-then-only_here-clause-ok : goal.returns-then-only_here-clause-ok

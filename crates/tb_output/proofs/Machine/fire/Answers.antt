@@ -1,8 +1,8 @@
 use Rattle.std.proofs.Common.{◌<◌, ◌+◌, ap, sym, subst, ◌∙◌, arith}
 use Rattle.tb_output.specs.Machine.{MachineView}
-use Rattle.tb_output.specs.Working.{shows_boxes, shows_all, IsCutShort, Does}
+use Rattle.tb_output.specs.FiringWork.{shows_boxes, shows_all, IsCutShort, Does}
 use Rattle.tb_output.specs.Firing.{fired_in, whole_work, IsRefusal}
-use Rattle.tb_output.specs.Turns.{served}
+use Rattle.tb_output.specs.FiringParts.{served}
 use Rattle.tb_output.proofs.Firings.FireLemmas.{counted, faulted, is-begun, count-below, if-none, is-refused, is-fired, fired-contents, fired-refused}
 use Rattle.tb_output.proofs.Machine.fire.Goals as goal
 

@@ -1,8 +1,8 @@
 use Rattle.std.proofs.Common.{◌≡◌, ◌+◌, ◌-◌, ap, ◌∙◌, length, [], arith}
 use Rattle.tb_output.specs.Machine.{MachineView}
 use Rattle.tb_output.proofs.ColumnPages.FloatTurns.{columns-begin, columns-next, columns-stop, columns-cut, columns-all, turns-left, turns-over, when-more, when-none}
-use Rattle.tb_output.proofs.Working.KeepLemmas.{keeps-then}
-use Rattle.tb_output.proofs.Working.ResultLemmas.{same-err}
+use Rattle.tb_output.proofs.FiringWork.KeepLemmas.{keeps-then}
+use Rattle.tb_output.proofs.FiringWork.ResultLemmas.{same-err}
 use Rattle.tb_output.proofs.Machine.float_columns.Goals as goal
 
 pub loop-turn-init : goal.loop-turn-init

@@ -1,8 +1,8 @@
 use Rattle.std.proofs.Common.{◌∷◌}
-use Rattle.tb_node.specs.Plain.{plain_list}
+use Rattle.tb_node.specs.PlainNodes.{plain_list}
 use Rattle.tb_column.specs.Notes.{note_lists}
 use Rattle.tb_output.specs.declared.RunFault.TheVariants as faults
-use Rattle.tb_output.proofs.Working.ResultLemmas.{memory-err, ok-map, err-map}
+use Rattle.tb_output.proofs.FiringWork.ResultLemmas.{memory-err, ok-map, err-map}
 use Rattle.tb_output.proofs.InText.ListSteps.{placed-does, placed-cut, back-cut, placed-keeps}
 use Rattle.tb_output.proofs.Machine.float_or_note.Goals as goal
 

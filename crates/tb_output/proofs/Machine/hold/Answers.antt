@@ -1,10 +1,10 @@
 use Rattle.std.proofs.Common.{sym, subst, ◌∙◌, ap, ◌∷◌, []}
 use Rattle.std.specs.FinMap.{remove}
-use Rattle.tb_node.specs.Plain.{plain_list}
-use Rattle.tb_output.specs.Out.{hold}
+use Rattle.tb_node.specs.PlainNodes.{plain_list}
+use Rattle.tb_output.specs.Output.{hold}
 use Rattle.tb_output.specs.Machine.{MachineView}
-use Rattle.tb_output.specs.Working.{shows, Does}
-use Rattle.tb_output.specs.Keeping.{KeepsMachine}
+use Rattle.tb_output.specs.FiringWork.{shows, Does}
+use Rattle.tb_output.specs.MachineFrame.{KeepsMachine}
 use Rattle.tb_output.proofs.Firings.HoldLemmas.{held-keeps, held-done}
 use Rattle.tb_output.proofs.Machine.hold.Goals as goal
 

@@ -7,7 +7,7 @@ use Rattle.tb_node.proofs.FitLemmas.{list_nodes_fit, list_sums_fit}
 use Rattle.tb_break.specs.declared.Found.{Found}
 use Rattle.tb_break.specs.Split.{split_of}
 use Rattle.tb_output.specs.Machine.{MachineView}
-use Rattle.tb_output.specs.Keeping.{HasGrown}
+use Rattle.tb_output.specs.MachineFrame.{HasGrown}
 use Rattle.tb_output.proofs.Clears.ClearSteps.{front-kept, front-emptied}
 use Rattle.tb_output.proofs.Machine.keep_front.Goals as goal
 

@@ -1,15 +1,15 @@
 use Rattle.std.proofs.Common.{◌≡◌, sym, subst, ap, ◌∙◌, []}
-use Rattle.tb_output.specs.Out.{leave_column}
+use Rattle.tb_output.specs.Output.{leave_column}
 use Rattle.tb_output.specs.Machine.{MachineView, events_shown}
-use Rattle.tb_output.specs.Working.{shows_back, Does}
-use Rattle.tb_output.specs.Keeping.{back_lists, KeepsBack}
-use Rattle.tb_output.proofs.Working.ApartLemmas.{apart-none}
-use Rattle.tb_output.proofs.Working.StandLemmas.{lists-shown}
-use Rattle.tb_output.proofs.Working.KeepLemmas.{keeps-back_same, grown-machine, grown-keeps}
+use Rattle.tb_output.specs.FiringWork.{shows_back, Does}
+use Rattle.tb_output.specs.MachineFrame.{back_lists, KeepsBack}
+use Rattle.tb_output.proofs.FiringWork.ApartLemmas.{apart-none}
+use Rattle.tb_output.proofs.FiringWork.StandLemmas.{lists-shown}
+use Rattle.tb_output.proofs.FiringWork.KeepLemmas.{keeps-back_same, grown-machine, grown-keeps}
 use Rattle.tb_output.proofs.InText.PushLemmas.{grown-of}
 use Rattle.tb_output.proofs.Firings.GoalLemmas.{blanks, blanks-back, left-keeps, left-done}
-use Rattle.tb_output.proofs.Working.ResultLemmas.{memory-err}
-use Rattle.tb_output.proofs.Working.WorkingLemmas.{no-memory_given}
+use Rattle.tb_output.proofs.FiringWork.ResultLemmas.{memory-err}
+use Rattle.tb_output.proofs.FiringWork.WorkingLemmas.{no-memory_given}
 use Rattle.tb_output.proofs.StepLaws.WorkSteps.{continues-leave_column}
 use Rattle.tb_output.proofs.Machine.leave_column.Goals as goal
 

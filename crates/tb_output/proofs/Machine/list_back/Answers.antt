@@ -1,8 +1,8 @@
 use Rattle.std.proofs.Common.{subst, [], arith}
-use Rattle.tb_output.specs.PutBack.{insertions_again}
+use Rattle.tb_output.specs.BackList.{insertions_again}
 use Rattle.tb_output.specs.Machine.{MachineView}
-use Rattle.tb_output.specs.Keeping.{HasGrown}
-use Rattle.tb_output.proofs.Working.ResultLemmas.{same-err}
+use Rattle.tb_output.specs.MachineFrame.{HasGrown}
+use Rattle.tb_output.proofs.FiringWork.ResultLemmas.{same-err}
 use Rattle.tb_output.proofs.InText.ListSteps.{list-keeps, list-does, memory-keeps, memory-does, text-sized, text-notes, text-front, text-count, text-size}
 use Rattle.tb_output.proofs.Machine.list_back.Goals as goal
 

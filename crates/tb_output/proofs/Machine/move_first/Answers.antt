@@ -3,9 +3,9 @@ use Rattle.std.specs.List.{slice_get}
 use Rattle.tb_float.specs.declared.Entry.TheVariants as entries
 use Rattle.tb_output.specs.contracts.Machine.{the_view}
 use Rattle.tb_output.specs.Machine.{MachineView}
-use Rattle.tb_output.specs.Keeping.{HasFloats}
-use Rattle.tb_output.specs.Place.{joined_to}
-use Rattle.tb_output.specs.Turns.{place_of, without_first}
+use Rattle.tb_output.specs.MachineFrame.{HasFloats}
+use Rattle.tb_output.specs.FloatMoves.{joined_to}
+use Rattle.tb_output.specs.FiringParts.{place_of, without_first}
 use Rattle.tb_output.proofs.InText.TextSteps.{column-apart, moved-has, moved-room}
 use Rattle.tb_output.proofs.Machine.move_first.Goals as goal
 

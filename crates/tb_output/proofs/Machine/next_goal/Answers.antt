@@ -3,13 +3,13 @@ use Rattle.std.proofs.lemmas.Int.{to_z-of_z, ints}
 use Rattle.tb_builder.specs.Pageable.{IsGoal}
 use Rattle.tb_scaled.specs.Scaled.{max_dimen}
 use Rattle.tb_float.specs.Rooms.{column_room_of}
-use Rattle.tb_output.specs.Out.{hold_penalty, is_int, is_crowded, leave_column, with_goal, next_goal}
+use Rattle.tb_output.specs.Output.{hold_penalty, is_int, is_crowded, leave_column, with_goal, next_goal}
 use Rattle.tb_output.specs.Machine.{MachineView}
-use Rattle.tb_output.specs.Working.{shows_back, IsCutShort, Does}
-use Rattle.tb_output.specs.Keeping.{KeepsBack}
+use Rattle.tb_output.specs.FiringWork.{shows_back, IsCutShort, Does}
+use Rattle.tb_output.specs.MachineFrame.{KeepsBack}
 use Rattle.tb_output.proofs.Firings.GoalLemmas.{goal-keeps, goal-done, goal-held, goal-crowded, goal-room}
-use Rattle.tb_output.proofs.Working.ResultLemmas.{ok-map, err-map}
-use Rattle.tb_output.proofs.Working.WorkingLemmas.{does-same}
+use Rattle.tb_output.proofs.FiringWork.ResultLemmas.{ok-map, err-map}
+use Rattle.tb_output.proofs.FiringWork.WorkingLemmas.{does-same}
 use Rattle.tb_output.proofs.Machine.next_goal.Goals as goal
 
 pub returns-then-is_signal-clause-ok : goal.returns-then-is_signal-clause-ok

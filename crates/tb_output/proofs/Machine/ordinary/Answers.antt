@@ -1,12 +1,12 @@
 use Rattle.std.proofs.Common.{◌∙◌, ◌∷◌, []}
-use Rattle.tb_node.specs.Plain.{plain_list}
+use Rattle.tb_node.specs.PlainNodes.{plain_list}
 use Rattle.tb_column.specs.Notes.{note_lists}
 use Rattle.tb_output.specs.Columns.{put_out_text}
-use Rattle.tb_output.specs.Working.{shows_notes}
-use Rattle.tb_output.proofs.Working.ResultLemmas.{same-err}
+use Rattle.tb_output.specs.FiringWork.{shows_notes}
+use Rattle.tb_output.proofs.FiringWork.ResultLemmas.{same-err}
 use Rattle.tb_output.proofs.ColumnPages.FloatMoves.{fill_column-does, floats-keep}
-use Rattle.tb_output.specs.Shipping.{filled_lists}
-use Rattle.tb_output.proofs.Working.KeepLemmas.{keeps-then}
+use Rattle.tb_output.specs.PageChanges.{filled_lists}
+use Rattle.tb_output.proofs.FiringWork.KeepLemmas.{keeps-then}
 use Rattle.tb_output.proofs.ColumnPages.StepsInTurn.{column-all, column-cut, text-cut}
 use Rattle.tb_output.proofs.Machine.ordinary.Goals as goal
 

@@ -2,13 +2,13 @@ use Rattle.std.proofs.Common.{◌≡◌, sym, ap, ◌∙◌, true, false, FitsSi
 use Rattle.std.specs.Prelude.{not, int_le}
 use Rattle.std.proofs.lemmas.Int.{to_z-of_z}
 use Rattle.tb_scaled.specs.Scaled.{eject_penalty}
-use Rattle.tb_node.specs.Plain.{plain_list}
+use Rattle.tb_node.specs.PlainNodes.{plain_list}
 use Rattle.tb_output.specs.Columns.{ordinary}
-use Rattle.tb_output.specs.Out.{clear_penalty, is_int}
+use Rattle.tb_output.specs.Output.{clear_penalty, is_int}
 use Rattle.tb_output.specs.Machine.{machine_lists}
-use Rattle.tb_output.specs.Keeping.{back_lists}
-use Rattle.tb_output.specs.Working.{shows_back, shows_page, IsCutShort}
-use Rattle.tb_output.proofs.Working.ResultLemmas.{ok-map, err-map}
+use Rattle.tb_output.specs.MachineFrame.{back_lists}
+use Rattle.tb_output.specs.FiringWork.{shows_back, shows_page, IsCutShort}
+use Rattle.tb_output.proofs.FiringWork.ResultLemmas.{ok-map, err-map}
 use Rattle.tb_output.proofs.Firings.OutputTurns.{lists-fewer, ordinary-keeps, ordinary-done, ordinary-cut, by-ordinary, by-clear, by-float}
 use Rattle.tb_output.proofs.Machine.output_page.Goals as goal
 

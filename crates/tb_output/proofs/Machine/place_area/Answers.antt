@@ -1,12 +1,12 @@
 use Rattle.std.proofs.Common.{Bool}
-use Rattle.tb_output.specs.Turns.{float_placed, place_of, without_first}
-use Rattle.tb_output.specs.Place.{place_float}
+use Rattle.tb_output.specs.FiringParts.{float_placed, place_of, without_first}
+use Rattle.tb_output.specs.FloatMoves.{place_float}
 use Rattle.tb_output.specs.Text.{puts_interline}
 use Rattle.tb_output.specs.State.{Work}
-use Rattle.tb_output.specs.Working.{shows_back, IsCutShort}
-use Rattle.tb_output.proofs.Working.ResultLemmas.{ok-map, err-map}
-use Rattle.tb_output.proofs.Working.WorkingLemmas.{does-same}
-use Rattle.tb_output.proofs.Working.StepLemmas.{Done, keeps-on}
+use Rattle.tb_output.specs.FiringWork.{shows_back, IsCutShort}
+use Rattle.tb_output.proofs.FiringWork.ResultLemmas.{ok-map, err-map}
+use Rattle.tb_output.proofs.FiringWork.WorkingLemmas.{does-same}
+use Rattle.tb_output.proofs.FiringWork.StepLemmas.{Done, keeps-on}
 use Rattle.tb_output.proofs.InText.TextSteps.{area-column, area-done, area-places, then-interline, then-interline_cut}
 use Rattle.tb_output.proofs.Machine.place_area.Goals as goal
 

@@ -1,4 +1,4 @@
-use Rattle.tb_output.proofs.Working.ResultLemmas.{ok-map, err-map}
+use Rattle.tb_output.proofs.FiringWork.ResultLemmas.{ok-map, err-map}
 use Rattle.tb_output.proofs.Machine.place_at.Goals as goal
 
 pub returns-in-Top-clause-ok : goal.returns-in-Top-clause-ok

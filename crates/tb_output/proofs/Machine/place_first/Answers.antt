@@ -4,10 +4,10 @@ use Rattle.std.specs.List.{slice_get}
 use Rattle.tb_float.specs.declared.Entry.{Entry}
 use Rattle.tb_float.specs.declared.Entry.TheVariants as entries
 use Rattle.tb_output.specs.Text.{puts_interline}
-use Rattle.tb_output.specs.Turns.{float_decided, note_placed, first_placed}
-use Rattle.tb_output.specs.Working.{shows_back, IsCutShort}
-use Rattle.tb_output.proofs.Working.ResultLemmas.{ok-map, err-map}
-use Rattle.tb_output.proofs.Working.WorkingLemmas.{does-same}
+use Rattle.tb_output.specs.FiringParts.{float_decided, note_placed, first_placed}
+use Rattle.tb_output.specs.FiringWork.{shows_back, IsCutShort}
+use Rattle.tb_output.proofs.FiringWork.ResultLemmas.{ok-map, err-map}
+use Rattle.tb_output.proofs.FiringWork.WorkingLemmas.{does-same}
 use Rattle.tb_output.proofs.ClassesRise.CurrentFirst.{float-first, note-first, none-first, right-first}
 use Rattle.tb_output.proofs.Machine.place_first.Goals as goal
 

@@ -5,10 +5,10 @@ use Rattle.tb_area.specs.Area.{current_place}
 use Rattle.tb_float.specs.declared.Entry.TheVariants as entries
 use Rattle.tb_float.specs.Ranges.{AreFloatParams}
 use Rattle.tb_output.specs.Machine.{MachineView}
-use Rattle.tb_output.specs.Turns.{float_placed, float_decided}
-use Rattle.tb_output.specs.Working.{shows_back, IsCutShort}
-use Rattle.tb_output.proofs.Working.ResultLemmas.{ok-map, err-map}
-use Rattle.tb_output.proofs.Working.WorkingLemmas.{does-same}
+use Rattle.tb_output.specs.FiringParts.{float_placed, float_decided}
+use Rattle.tb_output.specs.FiringWork.{shows_back, IsCutShort}
+use Rattle.tb_output.proofs.FiringWork.ResultLemmas.{ok-map, err-map}
+use Rattle.tb_output.proofs.FiringWork.WorkingLemmas.{does-same}
 use Rattle.tb_output.proofs.ClassesRise.CurrentFirst.{decided-same}
 use Rattle.tb_output.proofs.Machine.place_float.Goals as goal
 

@@ -2,10 +2,10 @@ use Rattle.std.proofs.Common.{sym, subst, []}
 use Rattle.tb_float.specs.declared.Part.TheVariants as parts
 use Rattle.tb_column.specs.Ranges.{IsSizedGlue}
 use Rattle.tb_output.specs.Machine.{MachineView}
-use Rattle.tb_output.specs.Keeping.{HasGrown}
-use Rattle.tb_output.specs.PutBack.{here_list}
-use Rattle.tb_output.proofs.Working.ResultLemmas.{memory-err, same-err}
-use Rattle.tb_output.proofs.Working.StepLemmas.{keeps-on}
+use Rattle.tb_output.specs.MachineFrame.{HasGrown}
+use Rattle.tb_output.specs.BackList.{here_list}
+use Rattle.tb_output.proofs.FiringWork.ResultLemmas.{memory-err, same-err}
+use Rattle.tb_output.proofs.FiringWork.StepLemmas.{keeps-on}
 use Rattle.tb_output.proofs.InText.TextSteps.{area-done, here-cut, here-whole, here-memory}
 use Rattle.tb_output.proofs.Machine.place_here.Goals as goal
 

@@ -4,12 +4,12 @@ use Rattle.tb_builder.proofs.Ranges.PageableLemmas.{extent_amount}
 use Rattle.tb_scaled.specs.Amount.{IsAmount}
 use Rattle.tb_output.specs.contracts.Machine.{the_view}
 use Rattle.tb_output.specs.Machine.{MachineView}
-use Rattle.tb_output.specs.PutBack.{note_list}
-use Rattle.tb_output.specs.Keeping.{HasGrown}
-use Rattle.tb_output.specs.Turns.{note_placed}
-use Rattle.tb_output.proofs.Working.ResultLemmas.{memory-err, ok-map, err-map}
+use Rattle.tb_output.specs.BackList.{note_list}
+use Rattle.tb_output.specs.MachineFrame.{HasGrown}
+use Rattle.tb_output.specs.FiringParts.{note_placed}
+use Rattle.tb_output.proofs.FiringWork.ResultLemmas.{memory-err, ok-map, err-map}
 use Rattle.tb_output.proofs.ColumnPages.SizeLemmas.{amount-cast, amount-passed}
-use Rattle.tb_output.proofs.Working.StepLemmas.{no-room, keeps-on}
+use Rattle.tb_output.proofs.FiringWork.StepLemmas.{no-room, keeps-on}
 use Rattle.tb_output.proofs.InText.TextSteps.{continues-note_placed}
 use Rattle.tb_output.proofs.InText.MarginSteps.{reach-amount, note-place, warning-memory, told-keeps, note-memory, stands-keeps, note-whole, note-cut}
 use Rattle.tb_output.proofs.Machine.place_margin.Goals as goal

@@ -1,14 +1,14 @@
 use Rattle.std.proofs.Common.{◌≡◌, refl, sym, subst, ◌∙◌, ap, ◌∷◌, []}
 use Rattle.std.specs.Prelude.{true, false}
 use Rattle.tb_column.specs.declared.Sheet.TheVariants as sheets
-use Rattle.tb_column.specs.Shown.{column_shown}
-use Rattle.tb_output.specs.Ship.{keep_left}
+use Rattle.tb_column.specs.StoredColumns.{column_shown}
+use Rattle.tb_output.specs.Pages.{keep_left}
 use Rattle.tb_output.specs.Machine.{MachineView}
-use Rattle.tb_output.specs.Working.{shows, IsCutShort, Does}
-use Rattle.tb_output.specs.Keeping.{KeepsMachine}
-use Rattle.tb_output.proofs.Working.KeepLemmas.{keeps-same}
+use Rattle.tb_output.specs.FiringWork.{shows, IsCutShort, Does}
+use Rattle.tb_output.specs.MachineFrame.{KeepsMachine}
+use Rattle.tb_output.proofs.FiringWork.KeepLemmas.{keeps-same}
 use Rattle.tb_output.proofs.ColumnPages.PuttingOut.{left-shows, left-keeps, out-one, out-first, out-second}
-use Rattle.tb_output.proofs.Working.ResultLemmas.{ok-map, err-map, either-way}
+use Rattle.tb_output.proofs.FiringWork.ResultLemmas.{ok-map, err-map, either-way}
 use Rattle.tb_output.proofs.ColumnPages.ShipLemmas.{ship-does, ship-fails, shipped-keeps, unshipped-same}
 use Rattle.tb_output.proofs.Machine.put_by.Goals as goal
 

@@ -4,10 +4,10 @@ use Rattle.tb_pool.specs.Lists.{list_at, with_list}
 use Rattle.tb_node.specs.Fit.{IsPenalty}
 use Rattle.tb_output.specs.Machine.{MachineView}
 use Rattle.tb_output.specs.Text.{puts_interline}
-use Rattle.tb_output.specs.PutBack.{interline_list}
+use Rattle.tb_output.specs.BackList.{interline_list}
 use Rattle.tb_output.proofs.InText.PushLemmas.{grown-of}
-use Rattle.tb_output.proofs.Working.ResultLemmas.{memory-err}
-use Rattle.tb_output.proofs.Working.StepLemmas.{no-room}
+use Rattle.tb_output.proofs.FiringWork.ResultLemmas.{memory-err}
+use Rattle.tb_output.proofs.FiringWork.StepLemmas.{no-room}
 use Rattle.tb_output.proofs.InText.TextSteps.{interline-done}
 use Rattle.tb_output.proofs.StepLaws.WorkSteps.{continues-puts_interline}
 use Rattle.tb_output.proofs.Machine.put_interline.Goals as goal

@@ -1,9 +1,9 @@
 use Rattle.std.proofs.Common.{sym, subst, ◌∷◌, []}
-use Rattle.tb_column.specs.Shown.{column_shown}
-use Rattle.tb_output.specs.Ship.{put_out}
-use Rattle.tb_output.specs.Working.{shows, Does}
-use Rattle.tb_output.specs.Keeping.{KeepsMachine}
-use Rattle.tb_output.proofs.Working.ResultLemmas.{same-err}
+use Rattle.tb_column.specs.StoredColumns.{column_shown}
+use Rattle.tb_output.specs.Pages.{put_out}
+use Rattle.tb_output.specs.FiringWork.{shows, Does}
+use Rattle.tb_output.specs.MachineFrame.{KeepsMachine}
+use Rattle.tb_output.proofs.FiringWork.ResultLemmas.{same-err}
 use Rattle.tb_output.proofs.ColumnPages.PuttingOut.{put_out-does, put_out-fails, done-keeps}
 use Rattle.tb_output.proofs.Machine.put_out.Goals as goal
 

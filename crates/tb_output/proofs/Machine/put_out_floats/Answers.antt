@@ -4,14 +4,14 @@ use Rattle.tb_float.specs.Rooms.{column_height_of}
 use Rattle.tb_float.specs.declared.Part.TheVariants as parts
 use Rattle.tb_output.specs.Columns.{single_wanted}
 use Rattle.tb_output.specs.Machine.{MachineView}
-use Rattle.tb_output.specs.Keeping.{KeepsMachine}
-use Rattle.tb_output.specs.Turns.{column_done}
-use Rattle.tb_output.specs.Working.{shows, IsCutShort}
+use Rattle.tb_output.specs.MachineFrame.{KeepsMachine}
+use Rattle.tb_output.specs.FiringParts.{column_done}
+use Rattle.tb_output.specs.FiringWork.{shows, IsCutShort}
 use Rattle.tb_output.proofs.DeadCycles.CompanyHeads.{some-chosen}
 use Rattle.tb_output.proofs.Clears.CompanyLemmas.{continues-column_done}
 use Rattle.tb_output.proofs.ColumnPages.FloatPages.{column-taken, column-machine, column-none, column-out, column-keeps, back-keeps, back-cut}
-use Rattle.tb_output.proofs.Working.KeepLemmas.{keeps-same}
-use Rattle.tb_output.proofs.Working.ResultLemmas.{memory-err, same-err}
+use Rattle.tb_output.proofs.FiringWork.KeepLemmas.{keeps-same}
+use Rattle.tb_output.proofs.FiringWork.ResultLemmas.{memory-err, same-err}
 use Rattle.tb_output.proofs.Machine.put_out_floats.Goals as goal
 
 -- no floats make a column

@@ -1,16 +1,16 @@
 use Rattle.std.proofs.Common.{sym, subst, ◌∷◌, []}
 use Rattle.tb_pool.specs.Frame.{IsNoneOf}
-use Rattle.tb_node.specs.Plain.{plain_list}
+use Rattle.tb_node.specs.PlainNodes.{plain_list}
 use Rattle.tb_column.specs.Notes.{note_lists}
-use Rattle.tb_column.specs.Shown.{column_shown}
+use Rattle.tb_column.specs.StoredColumns.{column_shown}
 use Rattle.tb_output.specs.Machine.{machine_lists}
 use Rattle.tb_output.specs.Columns.{put_out_text}
-use Rattle.tb_output.specs.Ship.{put_out}
-use Rattle.tb_output.specs.Working.{shows, IsCutShort, Does}
-use Rattle.tb_output.specs.Keeping.{KeepsMachine}
-use Rattle.tb_output.proofs.Working.ResultLemmas.{memory-err, ok-map, err-map}
+use Rattle.tb_output.specs.Pages.{put_out}
+use Rattle.tb_output.specs.FiringWork.{shows, IsCutShort, Does}
+use Rattle.tb_output.specs.MachineFrame.{KeepsMachine}
+use Rattle.tb_output.proofs.FiringWork.ResultLemmas.{memory-err, ok-map, err-map}
 use Rattle.tb_output.proofs.ColumnPages.TakingText.{text-out, text-fails}
-use Rattle.tb_output.proofs.Working.KeepLemmas.{keeps-then}
+use Rattle.tb_output.proofs.FiringWork.KeepLemmas.{keeps-then}
 use Rattle.tb_output.proofs.StepLaws.WorkSteps.{continues-put_out_text}
 use Rattle.tb_output.proofs.Machine.put_out_text.Goals as goal
 

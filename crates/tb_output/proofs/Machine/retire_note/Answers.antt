@@ -1,9 +1,9 @@
 use Rattle.std.proofs.Common.{sym, subst}
 use Rattle.tb_output.specs.contracts.Machine.{the_view}
 use Rattle.tb_output.specs.Machine.{MachineView}
-use Rattle.tb_output.specs.Queue.{HasRoomFor}
-use Rattle.tb_output.specs.Keeping.{HasFloats}
-use Rattle.tb_output.specs.Turns.{without_note}
+use Rattle.tb_output.specs.Events.{HasRoomFor}
+use Rattle.tb_output.specs.MachineFrame.{HasFloats}
+use Rattle.tb_output.specs.FiringParts.{without_note}
 use Rattle.tb_output.proofs.InText.TextSteps.{retired-is, retired-has}
 use Rattle.tb_output.proofs.Machine.retire_note.Goals as goal
 

@@ -4,7 +4,7 @@ use Rattle.tb_builder.proofs.Events.NextLemmas.{fresh_apart}
 use Rattle.tb_output.specs.Firing.{fired_in}
 use Rattle.tb_output.proofs.Firings.FiringLemmas.{opened-machine, opened-sound, opened-fire, opened-back, opened-empty, opened-free, serving-all, serving-then}
 use Rattle.tb_output.proofs.Firings.ServeLemmas.{unserved-cut, unserved-keeps, routine-cut, goal-cut, goal-all, all-contents, all-back}
-use Rattle.tb_output.proofs.Working.ResultLemmas.{same-err, memory-err}
+use Rattle.tb_output.proofs.FiringWork.ResultLemmas.{same-err, memory-err}
 use Rattle.tb_output.proofs.Machine.serve.Goals as goal
 
 pub returns-in_err-back-clause-err : goal.returns-in_err-back-clause-err

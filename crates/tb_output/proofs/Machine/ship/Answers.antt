@@ -1,6 +1,6 @@
 use Rattle.std.proofs.Common.{refl, sym, subst, ◌-◌, ◌≤◌, rules, arith}
 use Rattle.tb_output.specs.Machine.{MachineView}
-use Rattle.tb_output.specs.Shipping.{IsFull}
+use Rattle.tb_output.specs.PageChanges.{IsFull}
 use Rattle.tb_output.proofs.Machine.ship.Goals as goal
 
 -- as many pages were shipped as are allowed

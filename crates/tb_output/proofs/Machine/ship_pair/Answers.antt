@@ -1,18 +1,18 @@
 use Rattle.std.proofs.Common.{sym, subst, ◌∙◌, ap, ◌≤◌, ◌∷◌, [], FitsSigned, w64, rules}
 use Rattle.std.proofs.lemmas.Int.{to_z-of_z}
-use Rattle.tb_column.specs.Shown.{column_shown}
+use Rattle.tb_column.specs.StoredColumns.{column_shown}
 use Rattle.tb_column.specs.declared.Sheet.TheVariants as sheets
 use Rattle.tb_output.specs.declared.RunFault.TheVariants as faults
 use Rattle.tb_output.specs.Machine.{MachineView, IsMachine}
-use Rattle.tb_output.specs.Ship.{ship_pair}
-use Rattle.tb_output.specs.Working.{shows, IsCutShort, Does}
-use Rattle.tb_output.specs.Keeping.{KeepsMachine}
-use Rattle.tb_output.specs.Shipping.{HasShipped, without_doubles, doubled_lists}
-use Rattle.tb_output.proofs.Working.ResultLemmas.{memory-err, same-err}
+use Rattle.tb_output.specs.Pages.{ship_pair}
+use Rattle.tb_output.specs.FiringWork.{shows, IsCutShort, Does}
+use Rattle.tb_output.specs.MachineFrame.{KeepsMachine}
+use Rattle.tb_output.specs.PageChanges.{HasShipped, without_doubles, doubled_lists}
+use Rattle.tb_output.proofs.FiringWork.ResultLemmas.{memory-err, same-err}
 use Rattle.tb_output.proofs.StepLaws.WorkSteps.{continues-ship_pair}
-use Rattle.tb_output.proofs.Working.WorkingLemmas.{no-memory}
-use Rattle.tb_output.proofs.Working.StandLemmas.{lists-shown}
-use Rattle.tb_output.proofs.Working.KeepLemmas.{keeps-same, keeps-then}
+use Rattle.tb_output.proofs.FiringWork.WorkingLemmas.{no-memory}
+use Rattle.tb_output.proofs.FiringWork.StandLemmas.{lists-shown}
+use Rattle.tb_output.proofs.FiringWork.KeepLemmas.{keeps-same, keeps-then}
 use Rattle.tb_output.proofs.ColumnPages.FloatMoves.{fill_double-does, floats-keep}
 use Rattle.tb_output.proofs.ColumnPages.PairLemmas.{pair_shipped, failed-of, pair-does, pair-fails, pair-kept, pair-keeps}
 use Rattle.tb_output.proofs.ColumnPages.ShipLemmas.{unshipped-same}

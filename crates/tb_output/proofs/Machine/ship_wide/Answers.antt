@@ -3,15 +3,15 @@ use Rattle.std.proofs.lemmas.Int.{to_z-of_z}
 use Rattle.tb_builder.proofs.Ranges.PageableLemmas.{extent_amount}
 use Rattle.tb_float.specs.Lists.{wide_part, wide_waiting}
 use Rattle.tb_float.specs.Pool.{marked_floats}
-use Rattle.tb_output.specs.Ship.{wide_wanted}
+use Rattle.tb_output.specs.Pages.{wide_wanted}
 use Rattle.tb_output.specs.Machine.{MachineView, AreOutputParams}
-use Rattle.tb_output.specs.Keeping.{KeepsMachine}
-use Rattle.tb_output.specs.Turns.{wide_done}
+use Rattle.tb_output.specs.MachineFrame.{KeepsMachine}
+use Rattle.tb_output.specs.FiringParts.{wide_done}
 use Rattle.tb_output.proofs.DeadCycles.CompanyHeads.{some-chosen}
 use Rattle.tb_output.proofs.Clears.CompanyLemmas.{continues-wide_done}
 use Rattle.tb_output.proofs.ColumnPages.FloatPages.{source-is, wide-taken, page-shipped, page-not, page-keeps, page-kept, wide-keeps, wide-cut, page-machine}
-use Rattle.tb_output.proofs.Working.KeepLemmas.{keeps-same}
-use Rattle.tb_output.proofs.Working.ResultLemmas.{memory-err, same-err}
+use Rattle.tb_output.proofs.FiringWork.KeepLemmas.{keeps-same}
+use Rattle.tb_output.proofs.FiringWork.ResultLemmas.{memory-err, same-err}
 use Rattle.tb_output.proofs.Machine.ship_wide.Goals as goal
 
 -- no floats make a page

@@ -1,6 +1,6 @@
 use Rattle.std.proofs.Common.{ap, ◌∙◌, ◌++◌, FitsSigned, w64, rules, arith}
 use Rattle.std.proofs.lemmas.Int.{to_z-of_z}
-use Rattle.tb_output.specs.Acting.{warnings_sent}
+use Rattle.tb_output.specs.ActCalls.{warnings_sent}
 use Rattle.tb_output.proofs.Acts.ActingLemmas.{float-taken, float-unmarked}
 use Rattle.tb_output.proofs.Acts.TakingLemmas.{room-after}
 use Rattle.tb_output.proofs.Machine.take_float.Goals as goal

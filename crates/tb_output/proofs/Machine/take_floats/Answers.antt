@@ -1,6 +1,6 @@
 use Rattle.std.proofs.Common.{sym, subst, FitsSigned, w64, rules}
 use Rattle.std.proofs.lemmas.Int.{to_z-of_z}
-use Rattle.tb_output.specs.Queue.{HasRoomFor}
+use Rattle.tb_output.specs.Events.{HasRoomFor}
 use Rattle.tb_output.proofs.ColumnPages.FloatMoves.{marks-room}
 use Rattle.tb_output.proofs.Machine.take_floats.Goals as goal
 

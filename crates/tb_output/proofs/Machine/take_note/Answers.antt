@@ -1,5 +1,5 @@
 use Rattle.std.proofs.Common.{refl}
-use Rattle.tb_output.proofs.Working.ResultLemmas.{same-err}
+use Rattle.tb_output.proofs.FiringWork.ResultLemmas.{same-err}
 use Rattle.tb_output.proofs.Machine.take_note.Goals as goal
 
 pub returns-in_err-take_margin-clause-err : goal.returns-in_err-take_margin-clause-err

@@ -1,14 +1,14 @@
 use Rattle.std.proofs.Common.{◌≡◌, refl, sym, subst, ◌∙◌, ◌∷◌}
-use Rattle.tb_node.specs.Plain.{plain_list}
+use Rattle.tb_node.specs.PlainNodes.{plain_list}
 use Rattle.tb_column.specs.Column.{text_column}
-use Rattle.tb_column.specs.Shown.{column_shown}
+use Rattle.tb_column.specs.StoredColumns.{column_shown}
 use Rattle.tb_column.specs.Notes.{note_lists, notes_shown}
-use Rattle.tb_column.specs.Changes.{without_text_floats}
+use Rattle.tb_column.specs.ColumnChanges.{without_text_floats}
 use Rattle.tb_output.specs.Machine.{MachineView, AreOutputParams}
-use Rattle.tb_output.specs.Keeping.{KeepsMachine}
+use Rattle.tb_output.specs.MachineFrame.{KeepsMachine}
 use Rattle.tb_output.specs.contracts.Machine.{the_view}
 use Rattle.tb_output.proofs.ColumnPages.FloatMoves.{pool-moved}
-use Rattle.tb_output.proofs.Working.KeepLemmas.{keeps-same}
+use Rattle.tb_output.proofs.FiringWork.KeepLemmas.{keeps-same}
 use Rattle.tb_output.proofs.ColumnPages.TakingText.{text-does, text-keeps, text-shows}
 use Rattle.tb_output.proofs.Machine.take_text.Goals as goal
 

@@ -2,7 +2,7 @@ use Rattle.std.proofs.Common.{◌≡◌, ◌≢◌, sym, subst, ap, ◌∙◌, �
 use Rattle.tb_pool.specs.Lists.{IsLive, list_at, with_list}
 use Rattle.tb_pool.proofs.CallerLemmas.{live_other, live_same}
 use Rattle.tb_output.specs.Machine.{MachineView}
-use Rattle.tb_output.specs.Turns.{HasTextBack}
+use Rattle.tb_output.specs.FiringParts.{HasTextBack}
 use Rattle.tb_output.proofs.InText.BackLemmas.{first-live, second-live, second-empty, other-live, text-joined}
 use Rattle.tb_output.proofs.Machine.text_back.Goals as goal
 use Rattle.tb_output.proofs.Machine.text_back.Goals.{then-count-lt2, else-count-lt2}

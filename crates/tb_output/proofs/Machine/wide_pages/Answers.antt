@@ -3,8 +3,8 @@ use Rattle.tb_float.specs.Lists.{floats_of, wide_waiting}
 use Rattle.tb_float.proofs.WaitingLemmas.{waiting-count}
 use Rattle.tb_output.specs.Machine.{MachineView}
 use Rattle.tb_output.proofs.ColumnPages.FloatTurns.{pages-begin, pages-next, pages-stop, pages-cut, pages-all, turns-left, turns-over, when-more, when-none}
-use Rattle.tb_output.proofs.Working.KeepLemmas.{keeps-then}
-use Rattle.tb_output.proofs.Working.ResultLemmas.{same-err}
+use Rattle.tb_output.proofs.FiringWork.KeepLemmas.{keeps-then}
+use Rattle.tb_output.proofs.FiringWork.ResultLemmas.{same-err}
 use Rattle.tb_output.proofs.Machine.wide_pages.Goals as goal
 
 pub loop-turn-init : goal.loop-turn-init

@@ -5,9 +5,9 @@ use Rattle.tb_node.specs.declared.What.TheVariants as what
 use Rattle.tb_pool.specs.Lists.{list_at, with_list}
 use Rattle.tb_node.specs.declared.Node.{Node}
 use Rattle.tb_node.specs.declared.Kind.{Kind}
-use Rattle.tb_column.specs.FloatList.{made_node}
+use Rattle.tb_column.specs.FloatColumns.{made_node}
 use Rattle.tb_column.proofs.StoreLemmas.{with_list-added}
-use Rattle.tb_output.specs.PutBack.{note_list}
+use Rattle.tb_output.specs.BackList.{note_list}
 use Rattle.tb_output.proofs.InText.PushLemmas.{pushed-first, grown-of}
 use Rattle.tb_output.proofs.margins.push_note.Goals as goal
 

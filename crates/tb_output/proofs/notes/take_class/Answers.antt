@@ -1,7 +1,7 @@
 use Rattle.std.proofs.Common.{sym, ◌∙◌, refl}
 use Rattle.tb_builder.proofs.Ownership.FrameLemmas.{opened_live, opened_apart}
 use Rattle.tb_builder.specs.Contents.{contents_of}
-use Rattle.tb_builder.specs.Fired.{box_content}
+use Rattle.tb_builder.specs.FiredPages.{box_content}
 use Rattle.tb_output.proofs.Firings.NotesTaking.{unopened-sound, unopened-frame, is-void, void-taken, list-sound, list-awaits, box-taken, box-frame}
 use Rattle.tb_output.proofs.notes.take_class.Goals as goal
 

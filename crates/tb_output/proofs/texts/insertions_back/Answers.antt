@@ -2,14 +2,14 @@ use Rattle.std.proofs.Common.{◌≡◌, ◌≢◌, ◌*◌, ◌<◌, ap, sym, s
 use Rattle.std.proofs.lemmas.List.{take_more}
 use Rattle.std.proofs.lemmas.List.Elements.{All-from_recursion}
 use Rattle.tb_pool.specs.Lists.{list_at}
-use Rattle.tb_node.specs.Plain.{shape_of}
+use Rattle.tb_node.specs.PlainNodes.{shape_of}
 use Rattle.tb_node.specs.Sums.{size_of}
 use Rattle.tb_column.specs.declared.NoteBox.{NoteBox}
 use Rattle.tb_column.specs.Notes.{IsNote}
-use Rattle.tb_column.specs.FloatList.{made_node}
-use Rattle.tb_output.specs.PutBack.{insertion_of, insertions_again}
-use Rattle.tb_output.specs.Keeping.{HasGrown}
-use Rattle.tb_output.proofs.Working.StandLemmas.{list-stands}
+use Rattle.tb_column.specs.FloatColumns.{made_node}
+use Rattle.tb_output.specs.BackList.{insertion_of, insertions_again}
+use Rattle.tb_output.specs.MachineFrame.{HasGrown}
+use Rattle.tb_output.proofs.FiringWork.StandLemmas.{list-stands}
 use Rattle.tb_output.proofs.ColumnPages.SizeLemmas.{within-amount, amount-cast}
 use Rattle.tb_output.proofs.InText.BackLemmas.{notes-apart, again-begun, again-stands, again-more}
 use Rattle.tb_output.proofs.texts.insertions_back.Goals as goal

@@ -1,6 +1,6 @@
 use Rattle.std.proofs.Common.{◌+◌, ◌≤◌, [], length, take}
-use Rattle.tb_output.specs.PutBack.{insertions_again}
-use Rattle.tb_output.specs.Keeping.{HasGrown}
+use Rattle.tb_output.specs.BackList.{insertions_again}
+use Rattle.tb_output.specs.MachineFrame.{HasGrown}
 use Rattle.tb_output.proofs.texts.insertions_back.Given as goal
 
 abbrev pub invariant-loop-note : goal.invariant-loop-note

@@ -1,7 +1,7 @@
 use Rattle.std.proofs.Common.{sym, subst, FitsSigned, w64, rules}
 use Rattle.std.specs.Int.{w128}
 use Rattle.std.proofs.lemmas.Int.{to_z-of_z}
-use Rattle.tb_pack.specs.Floor.{IsProduct}
+use Rattle.tb_pack.specs.PositionRange.{IsProduct}
 use Rattle.tb_pack.proofs.FloorLemmas.{product_small, floor_small}
 use Rattle.tb_pack.proofs.position.set_amount.Goals as goal
 

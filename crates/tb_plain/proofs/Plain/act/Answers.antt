@@ -1,10 +1,10 @@
 use Rattle.std.proofs.Common.{sym, subst, ap, ◌∙◌, List}
 use Rattle.std.specs.Prelude.{OnOk}
-use Rattle.tb_node.specs.Plain.{PlainNode}
+use Rattle.tb_node.specs.PlainNodes.{PlainNode}
 use Rattle.tb_builder.specs.declared.PageSums.{PageSums}
-use Rattle.tb_plain.specs.declared.taking.Place.TheVariants as ways
-use Rattle.tb_plain.specs.Take.{act_nodes}
-use Rattle.tb_plain.specs.Calls.{HasPut}
+use Rattle.tb_plain.specs.declared.taken_floats.Place.TheVariants as ways
+use Rattle.tb_plain.specs.TakenFloats.{act_nodes}
+use Rattle.tb_plain.specs.MakeupCalls.{HasPut}
 use Rattle.tb_plain.proofs.PutLemmas.{acted-nodes}
 use Rattle.tb_plain.proofs.Plain.act.Goals as goal
 

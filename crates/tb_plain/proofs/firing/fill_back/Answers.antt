@@ -1,6 +1,6 @@
 use Rattle.std.proofs.Common.{sym, ap, ◌∙◌, ◌++◌, rules}
 use Rattle.tb_pool.specs.Lists.{list_at, with_list}
-use Rattle.tb_plain.specs.Making.{back_list}
+use Rattle.tb_plain.specs.StoredLists.{back_list}
 use Rattle.tb_plain.proofs.GrowLemmas.{none-put}
 use Rattle.tb_plain.proofs.FireLemmas.{back-none, back-all}
 use Rattle.tb_plain.proofs.firing.fill_back.Goals as goal

@@ -1,8 +1,8 @@
 use Rattle.std.proofs.Common.{sym, subst}
 use Rattle.tb_pool.proofs.CallerLemmas.{live_same}
-use Rattle.tb_builder.specs.Owned.{Lacks}
-use Rattle.tb_builder.specs.Handed.{NoPage}
-use Rattle.tb_plain.specs.Making.{above_feet}
+use Rattle.tb_builder.specs.Ownership.{Lacks}
+use Rattle.tb_builder.specs.Contributions.{NoPage}
+use Rattle.tb_plain.specs.StoredLists.{above_feet}
 use Rattle.tb_plain.proofs.GrowLemmas.{put-sound, put-contents, put-owned, box-grows, feet-grow}
 use Rattle.tb_plain.proofs.firing.gather_feet.Goals as goal
 

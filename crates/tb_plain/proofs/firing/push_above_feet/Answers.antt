@@ -1,5 +1,5 @@
 use Rattle.std.proofs.Common.{ap}
-use Rattle.tb_plain.specs.Making.{above_feet}
+use Rattle.tb_plain.specs.StoredLists.{above_feet}
 use Rattle.tb_plain.proofs.GrowLemmas.{none-put}
 use Rattle.tb_plain.proofs.firing.push_above_feet.Goals as goal
 

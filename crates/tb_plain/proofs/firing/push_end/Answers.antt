@@ -4,9 +4,9 @@ use Rattle.tb_scaled.specs.declared.Glue.{Glue}
 use Rattle.tb_pool.specs.Lists.{list_at, with_list}
 use Rattle.tb_node.specs.declared.Kind.{Kind}
 use Rattle.tb_node.specs.declared.Kind.TheVariants as kinds
-use Rattle.tb_column.specs.FloatList.{made_node}
+use Rattle.tb_column.specs.FloatColumns.{made_node}
 use Rattle.tb_column.proofs.StoreLemmas.{with_list-added}
-use Rattle.tb_plain.specs.Making.{end_list}
+use Rattle.tb_plain.specs.StoredLists.{end_list}
 use Rattle.tb_plain.proofs.GrowLemmas.{none-put}
 use Rattle.tb_plain.proofs.FireLemmas.{end-none, end-both}
 use Rattle.tb_plain.proofs.firing.push_end.Goals as goal

@@ -4,7 +4,7 @@ use Rattle.tb_node.specs.declared.Kind.{Kind}
 use Rattle.tb_node.specs.declared.Kind.TheVariants as kinds
 use Rattle.tb_scaled.specs.declared.Glue.{Glue}
 use Rattle.tb_pool.specs.Lists.{list_at, with_list}
-use Rattle.tb_column.specs.FloatList.{made_node}
+use Rattle.tb_column.specs.FloatColumns.{made_node}
 use Rattle.tb_column.proofs.StoreLemmas.{with_list-added}
 use Rattle.tb_plain.proofs.firing.push_page_for_held.Goals as goal
 

@@ -1,7 +1,7 @@
 use Rattle.std.proofs.Common.{subst}
 use Rattle.tb_builder.specs.declared.Event.{Event}
 use Rattle.tb_builder.specs.Contents.{contents_of}
-use Rattle.tb_builder.specs.Next.{NextIs}
+use Rattle.tb_builder.specs.PageEvents.{NextIs}
 use Rattle.tb_builder.proofs.Ranges.PageableLemmas.{contents_fit}
 use Rattle.tb_plain.proofs.WorkedLemmas.{box_came}
 use Rattle.tb_plain.proofs.tests.box_page.Goals as goal

@@ -1,8 +1,8 @@
 use Rattle.std.proofs.Common.{◌≡◌, refl, subst, ap, false}
 use Rattle.tb_builder.specs.declared.Event.{Event}
 use Rattle.tb_builder.specs.Contents.{contents_of}
-use Rattle.tb_builder.specs.Next.{NextIs, IsGivenOut}
-use Rattle.tb_builder.specs.Owned.{ids_of}
+use Rattle.tb_builder.specs.PageEvents.{NextIs, IsGivenOut}
+use Rattle.tb_builder.specs.Ownership.{ids_of}
 use Rattle.tb_plain.proofs.WorkedLemmas.{is_page, filling_begins, filling_fits, filling_again, can_fire}
 use Rattle.tb_plain.proofs.tests.fires.Goals as goal
 use Rattle.tb_plain.proofs.tests.fires.Goals.{in-Try, in-Act}

@@ -1,5 +1,5 @@
 use Rattle.tb_builder.specs.Contents.{contents_of}
-use Rattle.tb_builder.specs.Running.{IsSound}
+use Rattle.tb_builder.specs.Courses.{IsSound}
 use Rattle.tb_plain.proofs.WorkedLemmas.{IsFilling}
 use Rattle.tb_plain.proofs.tests.fires.Given as goal
 

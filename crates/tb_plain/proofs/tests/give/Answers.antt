@@ -1,11 +1,11 @@
 use Rattle.std.proofs.Common.{◌∙◌, sym, subst, ap, ◌+◌, ◌≤◌}
 use Rattle.tb_pool.specs.Lists.{list_at}
-use Rattle.tb_node.specs.Plain.{plain_of}
+use Rattle.tb_node.specs.PlainNodes.{plain_of}
 use Rattle.tb_builder.specs.Contents.{contents_of}
-use Rattle.tb_builder.specs.Owned.{ids_of, classes_of}
-use Rattle.tb_builder.specs.Worked.{waits}
+use Rattle.tb_builder.specs.Ownership.{ids_of, classes_of}
+use Rattle.tb_builder.specs.WorkedPages.{waits}
 use Rattle.tb_builder.proofs.Ownership.FrameLemmas.{plain_joins, empty_may_wait}
-use Rattle.tb_builder.proofs.Worked.WorkedLemmas.{matter_on_page, matter_counts, matter_inner, matter_known, ready_more, waits_more}
+use Rattle.tb_builder.proofs.WorkedPages.WorkedLemmas.{matter_on_page, matter_counts, matter_inner, matter_known, ready_more, waits_more}
 use Rattle.tb_plain.proofs.tests.give.Goals as goal
 
 pub contribute-requires-clause-joins : goal.contribute-requires-clause-joins

@@ -1,11 +1,11 @@
 use Rattle.std.proofs.Common.{◌≡◌, refl, ap, [], ◌∷◌, arith}
 use Rattle.std.proofs.lemmas.List.Elements.{All-nil, All-cons}
 use Rattle.tb_pool.specs.Lists.{list_at}
-use Rattle.tb_node.specs.Plain.{plain_of}
+use Rattle.tb_node.specs.PlainNodes.{plain_of}
 use Rattle.tb_builder.specs.Contents.{Contents, contents_of, kind_count}
-use Rattle.tb_builder.specs.Worked.{IsMatter}
+use Rattle.tb_builder.specs.WorkedPages.{IsMatter}
 use Rattle.tb_builder.proofs.Ownership.FrameLemmas.{empty_may_wait}
-use Rattle.tb_builder.proofs.Worked.WorkedLemmas.{ready_more, waits_more, note_sound, note_ready, note_waits, note_joins, note_sized, note_counts, extent_of, penalty_of}
+use Rattle.tb_builder.proofs.WorkedPages.WorkedLemmas.{ready_more, waits_more, note_sound, note_ready, note_waits, note_joins, note_sized, note_counts, extent_of, penalty_of}
 use Rattle.tb_plain.proofs.WorkedLemmas.{box_size}
 use Rattle.tb_plain.proofs.tests.give_note.Goals as goal
 

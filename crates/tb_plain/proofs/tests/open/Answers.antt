@@ -1,8 +1,8 @@
 use Rattle.std.proofs.Common.{◌∙◌, sym, subst, ap}
 use Rattle.tb_builder.specs.declared.Ask.{Ask}
 use Rattle.tb_builder.specs.Contents.{nothing_yet}
-use Rattle.tb_builder.specs.Owned.{ClassesFit}
-use Rattle.tb_builder.specs.Worked.{IsReady}
+use Rattle.tb_builder.specs.Ownership.{ClassesFit}
+use Rattle.tb_builder.specs.WorkedPages.{IsReady}
 use Rattle.tb_plain.proofs.WorkedLemmas.{classes_fit, open_ready}
 use Rattle.tb_plain.proofs.tests.open.Goals as goal
 

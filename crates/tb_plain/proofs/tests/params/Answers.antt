@@ -1,5 +1,5 @@
 use Rattle.std.proofs.Common.{arith}
-use Rattle.tb_builder.proofs.Worked.WorkedLemmas.{extent_of}
+use Rattle.tb_builder.proofs.WorkedPages.WorkedLemmas.{extent_of}
 use Rattle.tb_plain.proofs.WorkedLemmas.{no_glue}
 use Rattle.tb_plain.proofs.tests.params.Goals as goal
 

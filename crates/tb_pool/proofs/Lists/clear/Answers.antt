@@ -3,7 +3,7 @@ use Rattle.std.proofs.lemmas.List.{drop_all}
 use Rattle.std.specs.FinMap.{insert}
 use Rattle.slab.specs.Slab.{with_value}
 use Rattle.tb_pool.specs.Lists.{listed, list_at}
-use Rattle.tb_pool.specs.Chain.{values_of}
+use Rattle.tb_pool.specs.Links.{values_of}
 use Rattle.tb_pool.proofs.MapLemmas.{present}
 use Rattle.tb_pool.proofs.ClearLemmas.{clear_begins, clear_len, clear_room, clear_there, clear_goes_on, clear_ends}
 use Rattle.tb_pool.proofs.Lists.clear.Goals as goal

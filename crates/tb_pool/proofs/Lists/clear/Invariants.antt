@@ -2,7 +2,7 @@ use Rattle.std.proofs.Common.{◌≡◌, ◌+◌, ◌<◌, ◌^◌, Some, drop}
 use Rattle.std.specs.FinMap.{insert}
 use Rattle.slab.specs.Slab.{get, with_value}
 use Rattle.tb_pool.specs.Lists.{listed, list_at}
-use Rattle.tb_pool.specs.Chain.{values_of, IsSound}
+use Rattle.tb_pool.specs.Links.{values_of, IsSound}
 use Rattle.tb_pool.proofs.ClearLemmas.{left_of}
 use Rattle.tb_pool.proofs.Lists.clear.Given as goal
 

@@ -1,6 +1,6 @@
 use Rattle.std.proofs.Common.{◌≡◌, ◌+◌, ℕ, arith, refl, ap, subst, ◌∙◌}
 use Rattle.tb_pool.specs.Lists.{listed}
-use Rattle.tb_pool.specs.Chain.{values_of, IsSound}
+use Rattle.tb_pool.specs.Links.{values_of, IsSound}
 use Rattle.tb_pool.proofs.PlaceLemmas.{grow_done, same_slots}
 use Rattle.tb_pool.proofs.Lists.make_places.Goals as goal
 

@@ -1,5 +1,5 @@
 use Rattle.std.proofs.Common.{◌≡◌, ◌≢◌, ◌<◌, ◌+◌, ◌-◌, length, arith, refl, sym, ap}
-use Rattle.tb_pool.specs.Chain.{values_of, next_at}
+use Rattle.tb_pool.specs.Links.{values_of, next_at}
 use Rattle.tb_pool.proofs.MapLemmas.{present}
 use Rattle.tb_pool.proofs.ShapeLemmas.{items-shaped}
 use Rattle.tb_pool.proofs.JoinLemmas.{last_node, first_node, node_there, lengths_fit}

@@ -1,7 +1,7 @@
 use Rattle.std.proofs.Common.{◌≡◌, map}
 use Rattle.tb_pool.specs.Lists.{list_at}
-use Rattle.tb_node.specs.Plain.{plain_of, plain_list}
-use Rattle.tb_report.specs.Totals.{with_nodes}
+use Rattle.tb_node.specs.PlainNodes.{plain_of, plain_list}
+use Rattle.tb_report.specs.RunTotals.{with_nodes}
 use Rattle.tb_report.proofs.Totals.count_list.Given as goal
 
 abbrev pub invariant-loop-node : goal.invariant-loop-node

@@ -2,7 +2,7 @@ use Rattle.std.proofs.Common.{◌++◌, append_assoc, FitsSigned, w64}
 use Rattle.std.specs.Int.{w128}
 use Rattle.std.proofs.lemmas.Int.{to_z-of_z}
 use Rattle.tb_text.specs.Fields.{and_number, line}
-use Rattle.tb_report.proofs.Joined.{on_joined}
+use Rattle.tb_report.proofs.JoinedTexts.{on_joined}
 use Rattle.tb_report.proofs.items.end_any_box.Goals as goal
 
 pub returns : goal.returns

@@ -3,7 +3,7 @@ use Rattle.std.specs.Int.{w128}
 use Rattle.std.proofs.lemmas.Int.{to_z-of_z}
 use Rattle.tb_report.specs.Lines.{side_text}
 use Rattle.tb_text.specs.Fields.{and_number, and_text, line}
-use Rattle.tb_report.proofs.Joined.{on_joined, line-three}
+use Rattle.tb_report.proofs.JoinedTexts.{on_joined, line-three}
 use Rattle.tb_report.proofs.items.put_noted.Goals as goal
 
 pub returns : goal.returns

@@ -1,9 +1,9 @@
 use Rattle.std.proofs.Common.{◌<◌, length, arith}
 use Rattle.std.proofs.lemmas.List.{length-map}
 use Rattle.tb_pool.specs.Lists.{list_at}
-use Rattle.tb_node.specs.Plain.{PlainNode, plain_list}
-use Rattle.tb_column.specs.Shown.{column_shown}
-use Rattle.tb_report.specs.Totals.{no_totals}
+use Rattle.tb_node.specs.PlainNodes.{PlainNode, plain_list}
+use Rattle.tb_column.specs.StoredColumns.{column_shown}
+use Rattle.tb_report.specs.RunTotals.{no_totals}
 use Rattle.tb_report.proofs.CountLemmas.{page_counts}
 use Rattle.tb_report.proofs.tests.writes_a_page_and_the_end.Goals as goal
 

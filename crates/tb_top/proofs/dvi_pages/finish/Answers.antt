@@ -1,7 +1,7 @@
 use Rattle.std.proofs.Common.{◌≡◌, ◌∙◌, ap, subst, inr, List, ℕ, ◌++◌}
 use Rattle.std.proofs.lemmas.Result.{err_from_is_err_and}
 use Rattle.std.specs.Io.KnownBytes.{Appends}
-use Rattle.tb_io.specs.Held.{AppendsPrefix}
+use Rattle.tb_io.specs.Sink.{AppendsPrefix}
 use Rattle.tb_top.specs.DviWritten.{last_bytes}
 use Rattle.tb_top.proofs.DviFiles.DviGoing.{write-kinds}
 use Rattle.tb_top.proofs.dvi_pages.finish.Goals as goal

@@ -1,16 +1,16 @@
 use Rattle.std.proofs.Common.{◌∙◌, ap, sym, subst, ◌≡◌, ◌<◌, ◌++◌, false, List, Option, arith}
 use Rattle.std.proofs.lemmas.Result.{err_from_is_err_and, IfErr-weaker, IfOk-weaker}
 use Rattle.std.specs.Io.KnownBytes.{Appends}
-use Rattle.tb_io.specs.Held.{AppendsPrefix}
+use Rattle.tb_io.specs.Sink.{AppendsPrefix}
 use Rattle.tb_io.proofs.Appended.{prefix_whole}
 use Rattle.tb_param.specs.declared.Params.{Params}
 use Rattle.tb_output.specs.Machine.{MachineView}
 use Rattle.tb_run.specs.declared.routine.Routine.{Routine}
 use Rattle.tb_run.specs.declared.routine.Ending.{Ending}
-use Rattle.tb_run.specs.declared.happening.Happening.{Happening}
+use Rattle.tb_run.specs.declared.happenings.Happening.{Happening}
 use Rattle.tb_run.specs.Run.{run_of, held_count, firings_left, step}
-use Rattle.tb_run.specs.Happened.{events_of, noted, step_events}
-use Rattle.tb_run.specs.Turning.{state_of, over_limit, EndsAs, IsTurned}
+use Rattle.tb_run.specs.Happenings.{events_of, noted, step_events}
+use Rattle.tb_run.specs.Routine.{state_of, over_limit, EndsAs, IsTurned}
 use Rattle.tb_run.proofs.FromGalley.GalleyRuns.{galley-classes}
 use Rattle.tb_run.proofs.FromGalley.GalleyItems.{galley-items}
 use Rattle.tb_run.proofs.FromGalley.GalleyNodeLemmas.{galley-nodes}

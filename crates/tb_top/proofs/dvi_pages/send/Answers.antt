@@ -1,7 +1,7 @@
 use Rattle.std.proofs.Common.{◌+◌, List, ◌∷◌, [], ◌++◌, drop, subst, arith}
 use Rattle.std.proofs.lemmas.Result.{err_from_is_err_and}
 use Rattle.tb_dvi.specs.File.{Page}
-use Rattle.tb_run.specs.Happened.{event_of, events_of}
+use Rattle.tb_run.specs.Happenings.{event_of, events_of}
 use Rattle.tb_top.specs.DviPages.{event_pages}
 use Rattle.tb_top.proofs.DviFiles.DviSending.{Sending, sends-none, sends-next, sends-fails, sends-all, next-pages, next-page, no-pages, failure-later}
 use Rattle.tb_top.proofs.dvi_pages.send.Goals as goal

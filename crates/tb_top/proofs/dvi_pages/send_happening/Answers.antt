@@ -1,5 +1,5 @@
 use Rattle.std.proofs.Common.{◌≡◌, ◌∙◌, ap, sym, [], ◌++◌, append-nil}
-use Rattle.tb_run.specs.declared.happening.Happening.TheVariants.{Sent}
+use Rattle.tb_run.specs.declared.happenings.Happening.TheVariants.{Sent}
 use Rattle.tb_column.specs.declared.Sent.TheVariants.{Warn}
 use Rattle.tb_top.proofs.DviFiles.DviSending.{holds-same}
 use Rattle.tb_top.proofs.dvi_pages.send_happening.Goals as goal

@@ -2,23 +2,23 @@ use Rattle.std.proofs.Common.{◌∙◌, ap, sym, subst, ◌≡◌, ◌<◌, Lis
 use Rattle.std.specs.Prelude.{IfNone, IfErr, Result}
 use Rattle.std.proofs.lemmas.Result.{err_from_is_err_and, IfErr-weaker, IfOk-weaker}
 use Rattle.std.specs.Io.KnownBytes.{Appends}
-use Rattle.tb_io.specs.Held.{AppendsPrefix}
+use Rattle.tb_io.specs.Sink.{AppendsPrefix}
 use Rattle.tb_io.proofs.Appended.{prefix_whole}
 use Rattle.tb_param.specs.declared.Params.{Params}
-use Rattle.tb_report.specs.Totals.{AreCounts}
+use Rattle.tb_report.specs.RunTotals.{AreCounts}
 use Rattle.tb_builder.specs.Contents.{Contents, box_count}
-use Rattle.tb_run.specs.Happened.{events_of}
-use Rattle.tb_run.specs.Turning.{ArePages}
+use Rattle.tb_run.specs.Happenings.{events_of}
+use Rattle.tb_run.specs.Routine.{ArePages}
 use Rattle.tb_plain.specs.declared.Plain.{Plain}
 use Rattle.tb_plain.specs.Run.{makeup_of}
-use Rattle.tb_makeup.specs.declared.running.Makeup.{Makeup}
-use Rattle.tb_makeup.specs.declared.running.MakeupEnding.{MakeupEnding}
-use Rattle.tb_makeup.specs.Turning.{state_of, turns_left, GoesTo, AreHappened}
+use Rattle.tb_makeup.specs.declared.makeup.Makeup.{Makeup}
+use Rattle.tb_makeup.specs.declared.makeup.MakeupEnding.{MakeupEnding}
+use Rattle.tb_makeup.specs.Makeup.{state_of, turns_left, GoesTo, AreHappened}
 use Rattle.tb_top.specs.declared.makeup_pages.PlainRunFault.{PlainRunFault}
 use Rattle.tb_top.specs.declared.makeup_pages.PlainRunFault.TheVariants as faults
 use Rattle.tb_top.specs.MakeupLaws.{MakesUpOnce}
 use Rattle.tb_top.specs.Report.{all_lines, traced_lines}
-use Rattle.tb_top.specs.Written.{viewed, with_events}
+use Rattle.tb_top.specs.PagesWritten.{viewed, with_events}
 use Rattle.tb_top.proofs.Plain.MakeupClosing.{ended-done, refuses-cut, ends-well, stops-with, stops-cause, stops-shown}
 use Rattle.tb_top.proofs.Plain.MakeupGoing.{prefix-now, prefix-first, start-closing, start-going, turn-cut, turn-closing, turn-fewer, turn-counts, turn-going}
 use Rattle.tb_top.proofs.Plain.MakeupOnce.{makes-up-once}

@@ -1,6 +1,6 @@
 use Rattle.std.proofs.Common.{◌≡◌, ◌≤◌}
 use Rattle.tb_plain.specs.Run.{makeup_of}
-use Rattle.tb_makeup.specs.Turning.{IsReady, state_of, turns_left}
+use Rattle.tb_makeup.specs.Makeup.{IsReady, state_of, turns_left}
 use Rattle.tb_top.proofs.Plain.MakeupGoing.{Going}
 use Rattle.tb_top.proofs.makeup_pages.paginate_plain.Given as goal
 

@@ -1,7 +1,7 @@
 use Rattle.std.proofs.Common.{◌≡◌, drop}
-use Rattle.tb_run.specs.Happened.{events_of}
-use Rattle.tb_run.specs.Turning.{ArePages}
-use Rattle.tb_top.specs.Written.{with_events}
+use Rattle.tb_run.specs.Happenings.{events_of}
+use Rattle.tb_run.specs.Routine.{ArePages}
+use Rattle.tb_top.specs.PagesWritten.{with_events}
 use Rattle.tb_top.proofs.pages.count_happened.Given as goal
 
 abbrev pub invariant-loop-happening : goal.invariant-loop-happening

@@ -1,9 +1,9 @@
 use Rattle.std.proofs.Common.{◌∙◌, ap, subst, inr}
 use Rattle.std.proofs.lemmas.Result.{err_from_is_err_and}
-use Rattle.tb_node.specs.Plain.{plain_list}
-use Rattle.tb_io.specs.Held.{AppendsPrefix}
+use Rattle.tb_node.specs.PlainNodes.{plain_list}
+use Rattle.tb_io.specs.Sink.{AppendsPrefix}
 use Rattle.tb_report.specs.Lines.{end_lines}
-use Rattle.tb_top.specs.Written.{viewed}
+use Rattle.tb_top.specs.PagesWritten.{viewed}
 use Rattle.tb_top.proofs.pages.finish.Goals as goal
 
 pub returns-in_err-show-clause-refused : goal.returns-in_err-show-clause-refused

@@ -4,18 +4,18 @@ use Rattle.tb_io.proofs.Appended.{prefix_whole}
 use Rattle.tb_param.specs.declared.Params.{Params}
 use Rattle.tb_output.specs.Machine.{MachineView}
 use Rattle.tb_run.specs.declared.routine.Routine.{Routine}
-use Rattle.tb_run.specs.declared.happening.Happening.{Happening}
+use Rattle.tb_run.specs.declared.happenings.Happening.{Happening}
 use Rattle.tb_run.specs.Run.{run_of, held_count, firings_left, step}
-use Rattle.tb_run.specs.Happened.{events_of, noted, step_events}
-use Rattle.tb_run.specs.Turning.{state_of, over_limit, EndsAs, IsTurned, ArePages, AreHappened}
+use Rattle.tb_run.specs.Happenings.{events_of, noted, step_events}
+use Rattle.tb_run.specs.Routine.{state_of, over_limit, EndsAs, IsTurned, ArePages, AreHappened}
 use Rattle.std.specs.Io.KnownBytes.{Appends}
-use Rattle.tb_io.specs.Held.{AppendsPrefix}
-use Rattle.tb_report.specs.Totals.{AreCounts}
+use Rattle.tb_io.specs.Sink.{AppendsPrefix}
+use Rattle.tb_report.specs.RunTotals.{AreCounts}
 use Rattle.tb_run.specs.declared.routine.Ending.{Ending}
 use Rattle.tb_top.specs.declared.View.{View}
 use Rattle.tb_top.specs.declared.PageFault.TheVariants as faults
 use Rattle.tb_top.specs.Report.{all_lines, traced_lines}
-use Rattle.tb_top.specs.Written.{is_traced, viewed, with_events}
+use Rattle.tb_top.specs.PagesWritten.{is_traced, viewed, with_events}
 use Rattle.tb_top.proofs.Written.GoingLemmas.{prefix-first, prefix-now, refuses-cut}
 use Rattle.tb_top.proofs.Written.FinishLemmas.{ends-well, stops-with, start-closing, start-going, start-tally, turn-cut, turn-closing, turn-going, turn-fewer, turn-counts, turn-tally, none-at, limit-ready, few-wait, stops-cause, stops-shown, err-at}
 use Rattle.tb_top.proofs.Written.RunParams.{params-runnable, few-firings}

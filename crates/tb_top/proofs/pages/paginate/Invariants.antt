@@ -1,6 +1,6 @@
 use Rattle.std.proofs.Common.{◌≡◌, ◌≤◌}
 use Rattle.tb_run.specs.Run.{run_of, firings_left}
-use Rattle.tb_run.specs.Turning.{IsReady, state_of}
+use Rattle.tb_run.specs.Routine.{IsReady, state_of}
 use Rattle.tb_top.proofs.Written.GoingLemmas.{Going}
 use Rattle.tb_top.proofs.Written.TallyLemmas.{IsTally}
 use Rattle.tb_top.proofs.pages.paginate.Given as goal

@@ -1,6 +1,6 @@
 use Rattle.std.proofs.Common.{◌≡◌, ◌++◌, drop}
-use Rattle.tb_run.specs.Happened.{events_of}
-use Rattle.tb_run.specs.Turning.{ArePages}
+use Rattle.tb_run.specs.Happenings.{events_of}
+use Rattle.tb_run.specs.Routine.{ArePages}
 use Rattle.tb_top.specs.Report.{all_lines, traced_lines}
 use Rattle.tb_top.proofs.pages.put_lines.Given as goal
 

@@ -2,7 +2,7 @@ use Rattle.std.proofs.Common.{◌∙◌, ◌≤◌, ℕ, [], arith, ap, refl, sy
 use Rattle.std.proofs.lemmas.Result.{err_from_is_err_and}
 use Rattle.std.specs.Io.KnownBytes.{Appends}
 use Rattle.tb_io.specs.Faults.{Rose}
-use Rattle.tb_io.specs.Held.{AppendsPrefix}
+use Rattle.tb_io.specs.Sink.{AppendsPrefix}
 use Rattle.tb_io.proofs.Appended.{Appends-twice, prefix_on, Keeps-refl, Keeps-nothing}
 use Rattle.tb_run.specs.Run.{run_of}
 use Rattle.tb_top.specs.declared.View.TheVariants as views
@@ -10,9 +10,9 @@ use Rattle.tb_galley.specs.Valid.{IsValid}
 use Rattle.tb_top.specs.Laws.{KeepsLaws}
 use Rattle.tb_top.specs.Outcome.{stream, HasLawfulRun}
 use Rattle.tb_top.specs.Answer.{summary_line}
-use Rattle.tb_generator.specs.Generate.{generated}
+use Rattle.tb_generator.specs.GeneratedGalleys.{generated}
 use Rattle.tb_top.specs.Report.{totals_of}
-use Rattle.tb_top.specs.Paginated.{Paginates, Refuses}
+use Rattle.tb_top.specs.Pages.{Paginates, Refuses}
 use Rattle.tb_top.proofs.Ends.Outcomes.{left_by_run, summary_well, left_by_summary}
 use Rattle.tb_top.proofs.top.write_summary.Goals as goal
 

@@ -5,7 +5,7 @@ use Rattle.tb_dvi.specs.Machine.{ruled, goes, State, signed_number, past_rule}
 use Rattle.tb_dvi.specs.declared.command.Registers.{Registers}
 use Rattle.tb_dvi.specs.declared.command.Mode.TheVariants as modes
 use Rattle.tb_dvi.specs.Listing.{item_line}
-use Rattle.tb_dvi.specs.Stepping.{IsBounded}
+use Rattle.tb_dvi.specs.Lister.{IsBounded}
 use Rattle.tb_dvi.proofs.BoundLemmas.{bounded-more, stack-more, more}
 use Rattle.tb_dvi.proofs.StepLemmas.{one_line}
 use Rattle.tb_dvi.proofs.lister.Lister.page_step.Goals as goal

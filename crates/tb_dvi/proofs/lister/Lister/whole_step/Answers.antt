@@ -1,7 +1,7 @@
 use Rattle.std.proofs.Common.{◌≡◌, ap, sym, subst, ◌+◌, length, ℕ}
 use Rattle.tb_dvi.specs.declared.command.Mode.{Mode}
 use Rattle.tb_dvi.specs.Machine.{op_size, page_step, between_step, whole_step}
-use Rattle.tb_dvi.specs.Stepping.{state_of, CommandPasses}
+use Rattle.tb_dvi.specs.Lister.{state_of, CommandPasses}
 use Rattle.tb_dvi.proofs.StepLemmas.{passes}
 use Rattle.tb_dvi.proofs.lister.Lister.whole_step.Goals as goal
 

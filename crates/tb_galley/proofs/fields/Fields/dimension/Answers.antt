@@ -1,7 +1,7 @@
 use Rattle.std.proofs.Common.{◌≡◌, rules, FitsSigned, w64, to_z, of_z}
 use Rattle.std.proofs.lemmas.Int.{to_z-of_z}
 use Rattle.tb_text.specs.Lines.{fields_of}
-use Rattle.tb_galley.specs.Reading.{left_of}
+use Rattle.tb_galley.specs.FieldReader.{left_of}
 use Rattle.tb_galley.proofs.AmountFields.{dimension_is}
 use Rattle.tb_galley.proofs.fields.Fields.dimension.Goals as goal
 

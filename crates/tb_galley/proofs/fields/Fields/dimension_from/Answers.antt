@@ -3,7 +3,7 @@ use Rattle.std.specs.Prelude.{int_lt}
 use Rattle.std.proofs.lemmas.Int.{to_z-of_z, ints}
 use Rattle.std.proofs.lemmas.Bool.Decides.{nat_tests}
 use Rattle.tb_text.specs.Lines.{fields_of}
-use Rattle.tb_galley.specs.Reading.{left_of}
+use Rattle.tb_galley.specs.FieldReader.{left_of}
 use Rattle.tb_galley.proofs.AmountFields.{least_read, least_fault}
 use Rattle.tb_galley.proofs.fields.Fields.dimension_from.Goals as goal
 

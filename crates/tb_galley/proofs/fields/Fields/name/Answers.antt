@@ -1,4 +1,4 @@
-use Rattle.tb_galley.specs.Reading.{left_of}
+use Rattle.tb_galley.specs.FieldReader.{left_of}
 use Rattle.tb_galley.proofs.NameFields.{some_name, no_name}
 use Rattle.tb_text.specs.Lines.{fields_of}
 use Rattle.tb_galley.proofs.fields.Fields.name.Goals as goal

@@ -2,7 +2,7 @@ use Rattle.std.proofs.Common.{◌≡◌, ◌∙◌, ap, sym, true, Err, rules, i
 use Rattle.std.specs.List.{list_all}
 use Rattle.tb_galley.specs.declared.Cause.TheVariants as causes
 use Rattle.tb_galley.specs.Faults.{is_printable}
-use Rattle.tb_galley.specs.Reading.{at_fault, least_left}
+use Rattle.tb_galley.specs.FieldReader.{at_fault, least_left}
 use Rattle.tb_galley.proofs.VisibleFields.{dimension_visible}
 use Rattle.tb_galley.proofs.DimensionFields.{not_read}
 use Rattle.tb_galley.proofs.fields.Fields.other_dimension_from.Goals as goal

@@ -1,5 +1,5 @@
 use Rattle.std.proofs.Common.{ap, subst, sym, ◌∙◌}
-use Rattle.tb_galley.specs.Machine.{Answers}
+use Rattle.tb_galley.specs.GalleyReader.{Answers}
 use Rattle.tb_galley.specs.Pieces.{IsReached}
 use Rattle.tb_galley.specs.declared.pieces.Progress.TheVariants.{Lines, TooLong}
 use Rattle.tb_galley.proofs.Fed.{ended, few_lines, valid_end}

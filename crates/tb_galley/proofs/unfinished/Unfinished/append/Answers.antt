@@ -1,6 +1,6 @@
 use Rattle.std.proofs.Common.{ap, ◌∙◌, ◌++◌}
 use Rattle.tb_galley.specs.Unfinished.{kept_line}
-use Rattle.tb_galley.proofs.Kept.{kept_copy, kept_view}
+use Rattle.tb_galley.proofs.UnfinishedLines.{kept_copy, kept_view}
 use Rattle.tb_galley.proofs.unfinished.Unfinished.append.Goals as goal
 
 pub returns-clause-kept : goal.returns-clause-kept

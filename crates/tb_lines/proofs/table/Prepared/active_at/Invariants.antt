@@ -1,5 +1,5 @@
 use Rattle.std.proofs.Common.{◌-◌}
-use Rattle.tb_lines.specs.Active.{IsActive}
+use Rattle.tb_lines.specs.ActiveBreaks.{IsActive}
 use Rattle.tb_lines.proofs.ActiveBreaks.{with_low}
 use Rattle.tb_lines.proofs.table.Prepared.active_at.Given as goal
 

@@ -1,8 +1,8 @@
 use Rattle.std.proofs.Common.{◌≡◌, ap, ◌∙◌, sym, subst, length, arith, refl, None, List, Option, ℕ, ◌<◌}
 use Rattle.tb_lines.specs.declared.table.Best.{Best}
-use Rattle.tb_lines.specs.Steps.{step_demerits}
+use Rattle.tb_lines.specs.SolutionLines.{step_demerits}
 use Rattle.tb_lines.specs.Table.{offer, best_among, row_at}
-use Rattle.tb_lines.specs.Active.{IsPassedBy}
+use Rattle.tb_lines.specs.ActiveBreaks.{IsPassedBy}
 use Rattle.tb_lines.proofs.LeastWays.{length-table_of}
 use Rattle.tb_lines.proofs.Offers.{best_more, row_small}
 use Rattle.tb_lines.proofs.ActiveBreaks.{best_of_active}

@@ -1,5 +1,5 @@
 use Rattle.std.proofs.Common.{◌≡◌, ◌+◌, IfSome}
-use Rattle.tb_lines.specs.Steps.{step_demerits}
+use Rattle.tb_lines.specs.SolutionLines.{step_demerits}
 use Rattle.tb_lines.specs.Table.{offer, best_among, row_at}
 use Rattle.tb_lines.specs.Prepared.{IsSmallTotal}
 use Rattle.tb_lines.proofs.table.Prepared.best_before.Given as goal

@@ -1,6 +1,6 @@
 use Rattle.std.proofs.Common.{◌≡◌, ap, ◌∙◌, get_or, arith, rules, FitsSigned, w16}
 use Rattle.std.proofs.lemmas.Int.{to_z-of_z}
-use Rattle.tb_lines.specs.Paragraph.{line_between}
+use Rattle.tb_lines.specs.Entries.{line_between}
 use Rattle.tb_lines.specs.Demerits.{sums_of, sums_demerits}
 use Rattle.tb_lines.proofs.LineSums.{same_rest}
 use Rattle.tb_lines.proofs.RunLemmas.{line_bounds, line_penalty, start_below, line_small}

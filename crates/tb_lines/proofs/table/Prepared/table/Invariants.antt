@@ -1,6 +1,6 @@
 use Rattle.std.proofs.Common.{◌≡◌}
 use Rattle.tb_lines.specs.Table.{table_of}
-use Rattle.tb_lines.specs.Active.{IsActive}
+use Rattle.tb_lines.specs.ActiveBreaks.{IsActive}
 use Rattle.tb_lines.specs.Prepared.{HasSmallTotals}
 use Rattle.tb_lines.proofs.table.Prepared.table.Given as goal
 

@@ -3,7 +3,7 @@ use Rattle.std.specs.FinMap.{get}
 use Rattle.tb_pool.specs.Lists.{list_at}
 use Rattle.tb_insert.specs.declared.Class.{Class}
 use Rattle.tb_builder.specs.Contents.{contents_of, nothing_yet}
-use Rattle.tb_builder.specs.Owned.{ClassesFit}
+use Rattle.tb_builder.specs.Ownership.{ClassesFit}
 use Rattle.tb_column.specs.Page.{IsPageList}
 use Rattle.tb_output.specs.Scenes.{scene_classes, IsReady}
 use Rattle.tb_output.proofs.Firings.SceneLemmas.{classes-fit, scene-stays, may-fire}

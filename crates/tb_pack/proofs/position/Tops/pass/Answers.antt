@@ -1,6 +1,6 @@
 use Rattle.std.proofs.Common.{sym, subst, ◌++◌, ◌∷◌, [], rules}
-use Rattle.tb_node.specs.Plain.{shape_of}
-use Rattle.tb_pack.specs.Walk.{Walked, HasPassed}
+use Rattle.tb_node.specs.PlainNodes.{shape_of}
+use Rattle.tb_pack.specs.Position.{Walked, HasPassed}
 use Rattle.tb_pack.proofs.WalkLemmas.{has_passed-more}
 use Rattle.tb_pack.proofs.position.Tops.pass.Goals as goal
 

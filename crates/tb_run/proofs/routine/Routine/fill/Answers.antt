@@ -2,8 +2,8 @@ use Rattle.std.proofs.Common.{subst, sym}
 use Rattle.std.specs.Prelude.{◌<◌}
 use Rattle.tb_run.specs.declared.routine.Routine.{Routine}
 use Rattle.tb_run.specs.declared.routine.Ending.TheVariants as endings
-use Rattle.tb_run.specs.Turning.{held_in}
-use Rattle.tb_run.specs.Filling.{IsFilledLast}
+use Rattle.tb_run.specs.Routine.{held_in}
+use Rattle.tb_run.specs.RoutinePages.{IsFilledLast}
 use Rattle.tb_run.proofs.Filled.FillingLemmas.{IsUnderway, left_of_page, underway-start, underway-fits}
 use Rattle.tb_run.proofs.Filled.PassingLemmas.{come-whole, come-tried, come-fewer, come-sized, come-acted, come-fewer-acted, come-full, come-over, come-fires}
 use Rattle.tb_run.proofs.routine.Routine.fill.Goals as goal

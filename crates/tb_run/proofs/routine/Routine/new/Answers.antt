@@ -1,14 +1,14 @@
 use Rattle.std.proofs.Common.{◌≡◌, ◌∙◌, sym, subst, ap, List}
 use Rattle.tb_insert.specs.declared.Class.{Class}
 use Rattle.tb_builder.specs.Contents.{Contents}
-use Rattle.tb_builder.specs.Owned.{ClassesFit}
-use Rattle.tb_galley.specs.Expand.{expanded}
+use Rattle.tb_builder.specs.Ownership.{ClassesFit}
+use Rattle.tb_galley.specs.GalleyNodes.{expanded}
 use Rattle.tb_output.specs.State.{first_state}
 use Rattle.tb_output.specs.Machine.{AreClassesFrom}
 use Rattle.tb_run.specs.GalleyNodes.{AreGalleyNodes}
 use Rattle.tb_run.specs.Run.{classes_of}
-use Rattle.tb_run.specs.Served.{AreRunClasses}
-use Rattle.tb_run.specs.Expanding.{AreItems}
+use Rattle.tb_run.specs.ServedStates.{AreRunClasses}
+use Rattle.tb_run.specs.WaitingNodes.{AreItems}
 use Rattle.tb_run.proofs.Turns.BeginLemmas.{begin-state, begin-ready}
 use Rattle.tb_run.proofs.routine.Routine.new.Goals as goal
 

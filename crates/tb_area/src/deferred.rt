@@ -1,0 +1,171 @@
+//! The floats that wait go to the next column, or above both columns of the next page: one walk over their list, which
+//! reads until a float has a place, moves it, and goes on behind those that stay. It ends once floats of all classes stay,
+//! since no later one can go then.
+ghost use Rattle.std.specs.Prelude.{ℕ, ◌≡◌, ◌≢◌, ◌<◌, ◌≤◌, ◌+◌, [], ◌∷◌, ◌++◌, List, length, take, slice_get, Some, true};
+ghost use Rattle.tb_node.specs.declared.Float.{Float as PlainFloat};
+ghost use Rattle.tb_float.specs.declared.Suppress.{Suppress};
+ghost use Rattle.tb_float.specs.Classes.{AreClassesOf, HasLeft};
+ghost use Rattle.tb_float.specs.Lists.{FloatLists, IsWaiting, floats_of, has_class};
+ghost use Rattle.tb_float.specs.Pool.{HasNoMarks};
+ghost use Rattle.tb_float.specs.Ranges.{AreFloatParams, IsExtent};
+ghost use Rattle.tb_area.specs.Area.{next_place, double_place};
+ghost use Rattle.tb_area.specs.Deferred.{filled, doubled};
+ghost use Rattle.tb_area.specs.Laws.{column_order, double_order};
+ghost use Rattle.tb_area.specs.DeferredWalk.{IsOnWay};
+
+use crate::areas::{double_place, next_place};
+use crate::tries::float_in;
+use tb_float::{ClassSet, Part, Pool, Suppress};
+use tb_node::{Float, Where};
+use tb_param::Params;
+
+// The floats that were tried and stay: they come first in their list.
+#[derive(Drop)]
+struct Kept {
+    // How many they are.
+    count: usize,
+    classes: ClassSet,
+}
+
+impl Kept {
+    // No float was tried yet.
+    fn none(pool: &Pool) -> Kept
+        ensures count { result.count ≡ 0 }
+        ensures classes { AreClassesOf result.classes [] }
+        ensures left { (p : Part) → HasLeft result.classes (floats_of p pool.now.lists) }
+    {
+        Kept {
+            count: 0,
+            classes: pool.no_classes(),
+        }
+    }
+
+    // The next float stays too.
+    fn keep(&mut self, f: &Float)
+        requires { self.old.count < 4096 }
+        ensures count { self.new.count ≡ self.old.count + 1 }
+        ensures classes { (before : List PlainFloat) → AreClassesOf self.old.classes before → AreClassesOf self.new.classes (before ++ f.now ∷ []) }
+        ensures left { (all : List PlainFloat) → has_class f.now.class all ≡ true → HasLeft self.old.classes all → HasLeft self.new.classes all }
+    {
+        self.classes.add(f.class);
+        self.count += 1;
+    }
+}
+
+/// The deferred floats that have a place at the top or the bottom of the next column go there, one after another (after
+/// LaTeX's `\@startcolumn`, ltoutput.dtx); the others stay in order. None is lost, and floats of one class ship in the same
+/// order as without this call.
+pub fn fill_column(pool: &mut Pool, p: &Params, s: &Suppress)
+    requires { AreFloatParams p.now }
+    ensures lists { pool.new.lists ≡ filled p.now s.now [] pool.old.lists.deferred pool.old.lists }
+    ensures order { (class : ℕ) → column_order class pool.new.lists ≡ column_order class pool.old.lists }
+    ensures size { pool.new.size ≡ pool.old.size }
+    ensures unmarked { HasNoMarks pool.old → HasNoMarks pool.new }
+{
+    let mut kept = Kept::none(pool);
+    for _turn in 0..pool.len(Part::Deferred) {
+        match next_moved(pool, p, s, &mut kept) {
+            Where::Top => pool.move_to(Part::Deferred, kept.count, Part::Top),
+            Where::Bottom => pool.move_to(Part::Deferred, kept.count, Part::Bottom),
+            _ => return,
+        }
+    }
+}
+
+// Where the next deferred float goes that has a place in the next column; it comes behind those that stay. It returns
+// deferred exactly if none of those that are left has a place.
+fn next_moved(pool: &Pool, p: &Params, s: &Suppress, kept: &mut Kept) -> Where
+    requires { AreFloatParams p.now }
+    ensures way { (end : FloatLists) → IsOnWay Part.Deferred (filled p.now s.now) kept.old pool.now.lists end → IsOnWay Part.Deferred (filled p.now s.now) kept.new pool.now.lists end }
+    ensures within { result ≢ Where.Deferred → kept.new.count < length pool.now.lists.deferred }
+    ensures place { (end : FloatLists) (f : PlainFloat) → IsOnWay Part.Deferred (filled p.now s.now) kept.old pool.now.lists end → slice_get pool.now.lists.deferred kept.new.count ≡ Some f → result ≡ next_place p.now pool.now.lists s.now (take kept.new.count pool.now.lists.deferred) f }
+    ensures over { result ≡ Where.Deferred → length pool.now.lists.deferred ≤ kept.new.count }
+{
+    if kept.count >= pool.len(Part::Deferred) {
+        return Where::Deferred;
+    }
+    for entry in pool.entries_from(Part::Deferred, kept.count) {
+        if kept.classes.is_full() {
+            kept.count = pool.len(Part::Deferred);
+            return Where::Deferred;
+        }
+        let f = float_in(entry);
+        match place_behind(pool, p, s, kept, f) {
+            Where::Deferred => kept.keep(f),
+            place => return place,
+        }
+    }
+    Where::Deferred
+}
+
+// Where a deferred float goes in the next column behind those that stay; a float of their classes stays.
+fn place_behind(pool: &Pool, p: &Params, s: &Suppress, kept: &Kept, f: &Float) -> Where
+    requires params { AreFloatParams p.now }
+    requires extent { IsExtent f.now.height }
+    ensures { (before : List PlainFloat) → AreClassesOf kept.now.classes before → result ≡ next_place p.now pool.now.lists s.now before f.now }
+{
+    if kept.classes.has(f.class) {
+        Where::Deferred
+    } else {
+        next_place(pool, p, s, false, f)
+    }
+}
+
+/// The floats of a list in which floats wait that have a place above both columns of the next page go there, one after
+/// another (after LaTeX's `\@startdblcolumn`, ltoutput.dtx); the others stay in order. None is lost, and floats of one
+/// class keep their order.
+pub fn fill_double(pool: &mut Pool, p: &Params, from: Part)
+    requires params { AreFloatParams p.now }
+    requires waiting { IsWaiting from }
+    ensures lists { (s : Suppress) → pool.new.lists ≡ doubled from p.now s [] (floats_of from pool.old.lists) pool.old.lists }
+    ensures order { (class : ℕ) → double_order from class pool.new.lists ≡ double_order from class pool.old.lists }
+    ensures size { pool.new.size ≡ pool.old.size }
+    ensures unmarked { HasNoMarks pool.old → HasNoMarks pool.new }
+{
+    let mut kept = Kept::none(pool);
+    for _turn in 0..pool.len(from) {
+        match next_double(pool, p, from, &mut kept) {
+            Where::Double => pool.move_to(from, kept.count, Part::Double),
+            _ => return,
+        }
+    }
+}
+
+// Where the next float of the list goes that has a place above both columns; it comes behind those that stay. It returns
+// deferred exactly if none of those that are left has a place.
+fn next_double(pool: &Pool, p: &Params, from: Part, kept: &mut Kept) -> Where
+    requires params { AreFloatParams p.now }
+    requires waiting { IsWaiting from }
+    ensures way { (s : Suppress) (end : FloatLists) → IsOnWay from (doubled from p.now s) kept.old pool.now.lists end → IsOnWay from (doubled from p.now s) kept.new pool.now.lists end }
+    ensures within { result ≢ Where.Deferred → kept.new.count < length (floats_of from pool.now.lists) }
+    ensures place { (s : Suppress) (end : FloatLists) (f : PlainFloat) → IsOnWay from (doubled from p.now s) kept.old pool.now.lists end → slice_get (floats_of from pool.now.lists) kept.new.count ≡ Some f → result ≡ double_place p.now pool.now.lists s (take kept.new.count (floats_of from pool.now.lists)) f }
+    ensures over { result ≡ Where.Deferred → length (floats_of from pool.now.lists) ≤ kept.new.count }
+{
+    if kept.count >= pool.len(from) {
+        return Where::Deferred;
+    }
+    for entry in pool.entries_from(from, kept.count) {
+        if kept.classes.is_full() {
+            kept.count = pool.len(from);
+            return Where::Deferred;
+        }
+        let f = float_in(entry);
+        match double_behind(pool, p, kept, f) {
+            Where::Deferred => kept.keep(f),
+            place => return place,
+        }
+    }
+    Where::Deferred
+}
+
+// Where a float of the list goes behind those that stay; a float of their classes stays.
+fn double_behind(pool: &Pool, p: &Params, kept: &Kept, f: &Float) -> Where
+    requires { AreFloatParams p.now }
+    ensures { (s : Suppress) (before : List PlainFloat) → AreClassesOf kept.now.classes before → result ≡ double_place p.now pool.now.lists s before f.now }
+{
+    if kept.classes.has(f.class) {
+        Where::Deferred
+    } else {
+        double_place(pool, p, false, f)
+    }
+}

@@ -1,6 +1,0 @@
-use Rattle.std.proofs.Common.{take}
-use Rattle.tb_builder.specs.Opened.{VoidBoxes}
-use Rattle.tb_builder.proofs.opening.void_boxes.Given as goal
-
-abbrev pub invariant-loop-class : goal.invariant-loop-class
-invariant-loop-class l = VoidBoxes l.fn.store l.store (take l.class-index l.classes) l.boxes.items

@@ -1,0 +1,156 @@
+//! Nodes at the front of a list: what they are, and how they go from one list to another.
+
+ghost use Rattle.std.specs.Prelude.{◌≡◌, ◌<◌, ◌≤◌, ◌<ℤ◌, pos, Bool, true, false, None, IfSome, IfNone, List, ◌∷◌, slice_get, drop};
+ghost use Rattle.tb_pool.specs.Lists.{IsLive, list_at, with_list};
+ghost use Rattle.tb_node.specs.declared.Node.{Node as NodeOf};
+ghost use Rattle.tb_node.specs.PlainNodes.{shape_of};
+ghost use Rattle.tb_node.specs.SmallAmounts.{IsAmount, IsSmallShape};
+ghost use Rattle.tb_node.specs.Roles.{act_of_kind, insertion_of_kind};
+ghost use Rattle.tb_break.specs.SplitPlace.{penalty_by};
+ghost use Rattle.tb_builder.specs.Courses.{is_act, nodes_glue_first};
+ghost use Rattle.tb_node.specs.Shape.{glue};
+ghost use Rattle.tb_builder.specs.declared.Seen.TheVariants.{Space};
+ghost use Rattle.tb_builder.specs.PageWalks.{seen_of};
+ghost use Rattle.tb_builder.specs.Firing.{is_insertion, NoInsertions, InsertionAt};
+
+use crate::Seen;
+use tb_break::{is_glue, place_penalty};
+use tb_node::{Kind, Node};
+use tb_pool::{Iter, ListId, Lists};
+use tb_scaled::Glue;
+
+// Whether a node is an act.
+fn is_act(n: &Node) -> bool
+    ensures { result ≡ is_act n.now }
+{
+    matches!(n.kind, Kind::Act(_))
+}
+
+// Whether a node is an insertion.
+fn is_insertion(n: &Node) -> bool
+    ensures { result ≡ is_insertion n.now }
+{
+    matches!(n.kind, Kind::Ins(_))
+}
+
+/// The place of the first insertion of a list.
+pub fn insertion_place(store: &Lists<Node>, l: ListId) -> Option<usize>
+    requires { IsLive store.now l }
+    ensures some { IfSome result (λ k. InsertionAt (list_at store.now l) k) }
+    ensures none { IfNone result (NoInsertions (list_at store.now l)) }
+{
+    let count = store.len(l);
+    let mut left = count;
+    for n in store.iter(l) {
+        if is_insertion(n) {
+            return Some(count - left);
+        }
+        left -= 1;
+    }
+    None
+}
+
+/// Whether a node is neither an act nor an insertion, nor a kern, whose place depends on the nodes after it.
+pub fn is_walked(n: &Node) -> bool
+    ensures no_act { result ≡ true → act_of_kind n.now.kind ≡ None }
+    ensures no_insertion { result ≡ true → insertion_of_kind n.now.kind ≡ None }
+    ensures no_kern { result ≡ true → (lasting follows : Bool) → penalty_by lasting follows (shape_of n.now) ≡ penalty_by lasting false (shape_of n.now) }
+{
+    !matches!(n.kind, Kind::Kern(_) | Kind::Ins(_) | Kind::Act(_))
+}
+
+/// What a walk sees of a node.
+#[inline(always)]
+pub fn seen_in(n: &Node) -> Seen
+    ensures { result ≡ seen_of n.now.kind }
+{
+    match n.kind {
+        Kind::Hbox { height, depth, .. } => Seen::Solid { height, depth },
+        Kind::Rule { .. } => Seen::Other,
+        Kind::Skip(_) => Seen::Space,
+        Kind::Kern(_) => Seen::Other,
+        Kind::Pen(_) => Seen::Other,
+        Kind::Mark(_) => Seen::Other,
+        Kind::Note(_) => Seen::Other,
+        Kind::Whatsit => Seen::Other,
+        Kind::Ins(_) => Seen::Other,
+        Kind::Act(_) => Seen::Other,
+    }
+}
+
+/// The glue that a node is. A walk reads it only once its place was tried.
+#[inline(always)]
+pub fn glue_in(n: &Node) -> Glue
+    requires { seen_of n.now.kind ≡ Space }
+    ensures { shape_of n.now ≡ glue result }
+{
+    match n.kind {
+        Kind::Skip(g) => g,
+        _ => unreachable!(),
+    }
+}
+
+/// The first node of a list.
+pub fn first_of(store: &Lists<Node>, l: ListId) -> Option<Node>
+    requires { IsLive store.now l }
+    ensures { result ≡ slice_get (list_at store.now l) 0 }
+{
+    store.get(l, 0).copied()
+}
+
+// Whether a node is a kern.
+fn is_kern(n: &Node) -> bool
+    ensures { result ≡ false → (lasting follows : Bool) → penalty_by lasting follows (shape_of n.now) ≡ penalty_by lasting false (shape_of n.now) }
+{
+    matches!(n.kind, Kind::Kern(_))
+}
+
+/// The penalty of the place before the first node of a list, `n`, if it is legal; `lasting` says whether a node that
+/// does not vanish comes before the place. Only for a kern is it asked whether glue follows.
+#[inline(always)]
+pub fn penalty_of(store: &Lists<Node>, l: ListId, n: &Node, lasting: bool) -> Option<i64>
+    requires live { IsLive store.now l }
+    requires node { IsSmallShape (shape_of n.now) }
+    ensures value { result ≡ penalty_by lasting (nodes_glue_first (drop 1 (list_at store.now l))) (shape_of n.now) }
+    ensures legal { IfSome result (λ p. IsAmount p × (p <ℤ pos 10000)) }
+{
+    if !is_kern(n) {
+        return place_penalty(n, lasting, false);
+    }
+    place_penalty(n, lasting, glue_follows(store, l))
+}
+
+fn skip_one(nodes: &mut Iter<'_, Node>)
+    ensures { nodes.new ≡ drop 1 nodes.old }
+{
+    match nodes.next() {
+        Some(_) => (),
+        None => (),
+    }
+}
+
+/// Whether glue comes next after the first node of the list, acts aside.
+#[inline(never)]
+pub fn glue_follows(store: &Lists<Node>, l: ListId) -> bool
+    requires { IsLive store.now l }
+    ensures { result ≡ nodes_glue_first (drop 1 (list_at store.now l)) }
+{
+    let mut behind = store.iter(l);
+    skip_one(&mut behind);
+    for n in behind {
+        if !is_act(n) {
+            return is_glue(n);
+        }
+    }
+    false
+}
+
+/// Takes off the first node of a list that is not empty.
+#[tactic(auto, using(tb_pool::proofs::MapLemmas::list_steps))]
+pub fn drop_first(store: &mut Lists<Node>, l: ListId)
+    requires { IsLive store.old l }
+    ensures rest { (n : NodeOf) (ns : List NodeOf) → list_at store.old l ≡ n ∷ ns → store.new.lists ≡ with_list store.old l ns }
+    ensures spare { store.old.spare ≤ store.new.spare }
+{
+    store.pop_front(l);
+}

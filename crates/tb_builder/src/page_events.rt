@@ -1,0 +1,496 @@
+//! A page is filled: the waiting nodes go on it one by one, up to the next event.
+
+ghost use Rattle.std.specs.Prelude.{◌≡◌, ◌<◌, ◌≤◌, ◌+◌, List, [], ◌∷◌, ◌++◌, true, false, Some, None, IsSome, IfOk, OnOk, OnErr, slice_get, length, drop};
+ghost use Rattle.tb_pool.specs.Lists.{list_at};
+ghost use Rattle.tb_node.specs.declared.Node.{Node as NodeOf};
+ghost use Rattle.tb_node.specs.Shape.{is_box};
+ghost use Rattle.tb_node.specs.SmallAmounts.{IsSmall, IsSmallShape};
+ghost use Rattle.tb_node.specs.PlainNodes.{shape_of, plain_of, PlainNode};
+ghost use Rattle.tb_node.specs.NodeSums.{added_node};
+ghost use Rattle.tb_node.specs.Roles.{act_of_kind, insertion_of_kind};
+ghost use Rattle.tb_break.specs.Best.{Breakpoint};
+ghost use Rattle.tb_break.specs.Places.{ends_lasting};
+ghost use Rattle.tb_insert.specs.Account.{Frozen};
+ghost use Rattle.tb_insert.specs.AccountEntries.{Differ};
+ghost use Rattle.tb_builder.specs.Ownership.{ids_of, IsOwned, KeepsOthers};
+ghost use Rattle.tb_builder.specs.LegalPlaces.{page_shapes};
+ghost use Rattle.tb_builder.specs.Reach.{holds_box};
+ghost use Rattle.tb_builder.specs.Contents.{contents_of};
+ghost use Rattle.tb_builder.specs.Courses.{IsSound, IsCourseOf, Underway, AllLoose, kept_frozen, frozen_with};
+ghost use Rattle.tb_builder.specs.PageEvents.{AskFits, NextFits, NextIs, IsGivenOut};
+ghost use Rattle.tb_builder.specs.PageProgress.{IsNextOfPage};
+ghost use Rattle.tb_builder.specs.PassedNodes.{EventPast};
+ghost use Rattle.tb_builder.specs.PageCalls.{ComesAfter, IsNoPlace};
+ghost use Rattle.tb_builder.specs.PageWalks.{moved, LeadsOn, seen_of};
+ghost use Rattle.tb_builder.specs.declared.Seen.TheVariants.{Space};
+ghost use Rattle.tb_builder.specs.PageTurns.{ChangesPage, Shifted, StepIs, StepFits, event_of, TurnIs, Filled};
+
+use crate::courses::stops;
+use crate::front_nodes::{drop_first, glue_in, is_walked, penalty_of, seen_in};
+use crate::fronts::move_front;
+use crate::sizes::list_size;
+use crate::{Ask, Builder, Event, Seen};
+use std::alloc::AllocError;
+use tb_break::{is_box, is_lasting, place_penalty, top_node};
+use tb_node::{Insertion, Node, Role};
+use tb_pool::Lists;
+
+impl Builder {
+    /// The next event: the next legal place or act among the waiting nodes. The nodes before it are on the page then.
+    /// After a place that is a stop, the next call fires the page. From the start of a page on, the events are those of
+    /// the whole page, and the page that fires is the whole page's. If no place or act is left, the event is Empty, and
+    /// no node waits (TeX: The Program §994 to §1028). After a page fired, `put_back` must come before the next call.
+    ///
+    /// Memory is taken first: if that fails, the builder and all lists are as before.
+    #[inline(always)]
+    pub fn next(&mut self, store: &mut Lists<Node>, ask: &Ask) -> Result<Event, AllocError>
+        requires sound { IsSound self.old store.old }
+        requires fits { NextFits (contents_of self.old store.old) ask.now }
+        requires none_held { (contents_of self.old store.old).held ≡ [] }
+        ensures page { IfOk result (λ e. IsNextOfPage e (contents_of self.old store.old) ask.now (contents_of self.new store.new) store.new) }
+        ensures event { IfOk result (λ e. NextIs self.old.stopped e (contents_of self.old store.old) ask.now (contents_of self.new store.new) store.new) }
+        ensures past { IfOk result (λ e. self.old.stopped ≡ false → EventPast e (contents_of self.old store.old) (contents_of self.new store.new) ask.now) }
+        ensures sound { IsSound self.new store.new }
+        ensures keeps { KeepsOthers (ids_of self.old) store.old (ids_of self.new) store.new }
+        ensures body { IfOk result (λ e. IsGivenOut e store.old (ids_of self.new) store.new) }
+        ensures builder { OnErr result (self.new ≡ self.old) }
+        ensures lists { OnErr result (store.new.lists ≡ store.old.lists) }
+    {
+        if self.stopped {
+            let page = self.fire(store)?;
+            return Ok(Event::Fired(page));
+        }
+        self.make_room(store)?;
+        Ok(self.fill(store, ask))
+    }
+
+    /// The next event that is not a try: an act, a page that fires, or Empty. It is the first such event that calls of
+    /// [`Self::next`] would return; the places in between are tried here too, but their tries are not returned.
+    ///
+    /// If there is no memory, some of those places may have been tried already.
+    pub fn next_without_tries(
+        &mut self,
+        store: &mut Lists<Node>,
+        ask: &Ask,
+    ) -> Result<Event, AllocError>
+        requires sound { IsSound self.old store.old }
+        requires fits { NextFits (contents_of self.old store.old) ask.now }
+        requires none_held { (contents_of self.old store.old).held ≡ [] }
+        ensures comes { IfOk result (λ e. ComesAfter self.old store.old ask.now e self.new store.new) }
+        ensures no_place { IfOk result IsNoPlace }
+        ensures sound { IsSound self.new store.new }
+        ensures keeps { KeepsOthers (ids_of self.old) store.old (ids_of self.new) store.new }
+    {
+        'places: loop {
+            self.pass_nodes(store, ask);
+            match self.next(store, ask)? {
+                Event::Try(_) => {}
+                Event::Act(act) => return Ok(Event::Act(act)),
+                Event::Fired(page) => return Ok(Event::Fired(page)),
+                Event::Empty => return Ok(Event::Empty),
+            }
+        }
+    }
+
+    // The first waiting nodes go on a page that is laid out, all at once, as far as the walk goes.
+    fn pass_nodes(&mut self, store: &mut Lists<Node>, ask: &Ask)
+        requires sound { IsSound self.old store.old }
+        requires fits { NextFits (contents_of self.old store.old) ask.now }
+        ensures leads { LeadsOn self.old store.old ask.now self.new store.new }
+        ensures stopped { self.old.stopped ≡ true → self.new.stopped ≡ true }
+        ensures few { length (contents_of self.new store.new).waiting ≤ length (contents_of self.old store.old).waiting }
+    {
+        if !self.opened || self.stopped {
+            return;
+        }
+        let passed = self.walk(store, ask);
+        if passed == 0 {
+            return;
+        }
+        move_front(store, self.page, self.waiting, self.rest, passed);
+    }
+
+    // How many of the first waiting nodes go on the page: those before a stop, or before a node that is left to `next`.
+    // The places before them are tried.
+    fn walk(&mut self, store: &Lists<Node>, ask: &Ask) -> usize
+        requires sound { IsSound self.old store.now }
+        requires on { self.old.stopped ≡ false }
+        requires opened { self.old.opened ≡ true }
+        requires fits { NextFits (contents_of self.old store.now) ask.now }
+        ensures within { result ≤ length (list_at store.now self.old.waiting) }
+        ensures leads { LeadsOn self.old store.now ask.now self.new (moved (ids_of self.old) store.now result) }
+        ensures ids { ids_of self.new ≡ ids_of self.old }
+    {
+        let before = store.len(self.page);
+        let all = store.len(self.waiting);
+        let mut passed = 0;
+        for n in store.iter(self.waiting) {
+            if !self.passes(store, ask, n, before, passed) {
+                return passed;
+            }
+            passed += 1;
+        }
+        all
+    }
+
+    // Whether the next node goes on the page, which had `before` nodes before those that the walk passed.
+    #[inline(always)]
+    fn passes(
+        &mut self,
+        store: &Lists<Node>,
+        ask: &Ask,
+        n: &Node,
+        before: usize,
+        passed: usize,
+    ) -> bool
+        requires sound { IsSound self.old (moved (ids_of self.old) store.now passed) }
+        requires on { self.old.stopped ≡ false }
+        requires opened { self.old.opened ≡ true }
+        requires fits { NextFits (contents_of self.old (moved (ids_of self.old) store.now passed)) ask.now }
+        requires first { drop passed (list_at store.now self.old.waiting) ≡ n.now ∷ drop (passed + 1) (list_at store.now self.old.waiting) }
+        requires before { before ≡ length (list_at store.now self.old.page) }
+        ensures goes { result ≡ true → LeadsOn self.old (moved (ids_of self.old) store.now passed) ask.now self.new (moved (ids_of self.old) store.now (passed + 1)) }
+        ensures on { result ≡ true → self.new.stopped ≡ false }
+        ensures ends { result ≡ false → LeadsOn self.old (moved (ids_of self.old) store.now passed) ask.now self.new (moved (ids_of self.old) store.now passed) }
+        ensures opened { self.new.opened ≡ true }
+        ensures ids { ids_of self.new ≡ ids_of self.old }
+    {
+        match seen_in(n) {
+            Seen::Solid { height, depth } => {
+                self.course.put_box(height, depth);
+                true
+            }
+            Seen::Space => self.passes_glue(store, ask, n, before, passed),
+            Seen::Other => self.passes_other(store, ask, n, before, passed),
+        }
+    }
+
+    // The same of glue.
+    #[inline(always)]
+    fn passes_glue(
+        &mut self,
+        store: &Lists<Node>,
+        ask: &Ask,
+        n: &Node,
+        before: usize,
+        passed: usize,
+    ) -> bool
+        requires sound { IsSound self.old (moved (ids_of self.old) store.now passed) }
+        requires on { self.old.stopped ≡ false }
+        requires opened { self.old.opened ≡ true }
+        requires fits { NextFits (contents_of self.old (moved (ids_of self.old) store.now passed)) ask.now }
+        requires first { drop passed (list_at store.now self.old.waiting) ≡ n.now ∷ drop (passed + 1) (list_at store.now self.old.waiting) }
+        requires before { before ≡ length (list_at store.now self.old.page) }
+        requires glue { seen_of n.now.kind ≡ Space }
+        ensures goes { result ≡ true → LeadsOn self.old (moved (ids_of self.old) store.now passed) ask.now self.new (moved (ids_of self.old) store.now (passed + 1)) }
+        ensures on { result ≡ true → self.new.stopped ≡ false }
+        ensures ends { result ≡ false → LeadsOn self.old (moved (ids_of self.old) store.now passed) ask.now self.new (moved (ids_of self.old) store.now passed) }
+        ensures opened { self.new.opened ≡ true }
+        ensures ids { ids_of self.new ≡ ids_of self.old }
+    {
+        if !self.course.lasting {
+            self.course.put_glue(glue_in(n));
+            return true;
+        }
+        let Some(index) = before.checked_add(passed) else {
+            return false;
+        };
+        let tried = self.course.offer(index, n.line, 0);
+        if stops(&tried) {
+            self.stopped = true;
+            return false;
+        }
+        self.course.put_glue(glue_in(n));
+        true
+    }
+
+    // The same of a node that need not be a box, a rule or glue.
+    #[inline(never)]
+    fn passes_other(
+        &mut self,
+        store: &Lists<Node>,
+        ask: &Ask,
+        n: &Node,
+        before: usize,
+        passed: usize,
+    ) -> bool
+        requires sound { IsSound self.old (moved (ids_of self.old) store.now passed) }
+        requires on { self.old.stopped ≡ false }
+        requires opened { self.old.opened ≡ true }
+        requires fits { NextFits (contents_of self.old (moved (ids_of self.old) store.now passed)) ask.now }
+        requires first { drop passed (list_at store.now self.old.waiting) ≡ n.now ∷ drop (passed + 1) (list_at store.now self.old.waiting) }
+        requires before { before ≡ length (list_at store.now self.old.page) }
+        ensures goes { result ≡ true → LeadsOn self.old (moved (ids_of self.old) store.now passed) ask.now self.new (moved (ids_of self.old) store.now (passed + 1)) }
+        ensures on { result ≡ true → self.new.stopped ≡ false }
+        ensures ends { result ≡ false → LeadsOn self.old (moved (ids_of self.old) store.now passed) ask.now self.new (moved (ids_of self.old) store.now passed) }
+        ensures opened { self.new.opened ≡ true }
+        ensures ids { ids_of self.new ≡ ids_of self.old }
+    {
+        if !is_walked(n) {
+            return false;
+        }
+        let Some(penalty) = place_penalty(n, self.course.lasting, false) else {
+            self.course.put(n);
+            return true;
+        };
+        let Some(index) = before.checked_add(passed) else {
+            return false;
+        };
+        let tried = self.course.offer(index, n.line, penalty);
+        if stops(&tried) {
+            self.stopped = true;
+            return false;
+        }
+        self.course.put(n);
+        true
+    }
+
+    // Makes room for the top glue, unless the page has it.
+    fn make_room(&self, store: &mut Lists<Node>) -> Result<(), AllocError>
+        ensures room { OnOk result (self.now.opened ≡ false → 0 < store.new.spare) }
+        ensures lists { store.new.lists ≡ store.old.lists }
+    {
+        if self.opened {
+            return Ok(());
+        }
+        store.reserve(1)
+    }
+
+    // The waiting nodes go on the page, up to the next event. Most of them are no event and go on a page that is laid
+    // out: such a node is not copied.
+    #[inline(always)]
+    fn fill(&mut self, store: &mut Lists<Node>, ask: &Ask) -> Event
+        requires sound { IsSound self.old store.old }
+        requires on { self.old.stopped ≡ false }
+        requires fits { NextFits (contents_of self.old store.old) ask.now }
+        requires room { self.old.opened ≡ false → 0 < store.old.spare }
+        ensures { Filled self.old store.old ask.now result self.new store.new }
+    {
+        while let Some(n) = store.get(self.waiting, 0) {
+            if !self.goes_on(n) {
+                let n = *n;
+                if let Some(event) = self.turn(store, ask, &n) {
+                    return event;
+                }
+                continue;
+            }
+            if self.step(store) {
+                return Event::Try(self.tried);
+            }
+        }
+        Event::Empty
+    }
+
+    // Whether the page is laid out, and the node is no act and no insertion.
+    fn goes_on(&self, n: &Node) -> bool
+        ensures opened { result ≡ true → self.now.opened ≡ true }
+        ensures no_act { result ≡ true → act_of_kind n.now.kind ≡ None }
+        ensures no_insertion { result ≡ true → insertion_of_kind n.now.kind ≡ None }
+    {
+        self.opened && matches!(n.role(), Role::Matter)
+    }
+
+    // The first waiting node goes on the page, vanishes or is handed out, or the place before it is a stop. Each node
+    // comes by here, so rare cases have functions of their own.
+    #[inline(never)]
+    fn turn(&mut self, store: &mut Lists<Node>, ask: &Ask, n: &Node) -> Option<Event>
+        requires sound { IsSound self.old store.old }
+        requires on { self.old.stopped ≡ false }
+        requires fits { NextFits (contents_of self.old store.old) ask.now }
+        requires room { self.old.opened ≡ false → 0 < store.old.spare }
+        requires first { slice_get (list_at store.old self.old.waiting) 0 ≡ Some n.now }
+        ensures { TurnIs self.old store.old ask.now result self.new store.new }
+    {
+        match n.role() {
+            Role::Matter => {
+                if self.opened {
+                    return self.reach(store, n);
+                }
+                self.begin(store, ask, n)
+            }
+            Role::Insertion(i) => {
+                self.meet(store, ask, n, &i);
+                None
+            }
+            Role::Act(act) => {
+                drop_first(store, self.waiting);
+                Some(Event::Act(act))
+            }
+        }
+    }
+
+    // On a page without a box, the first waiting node is no act and no insertion.
+    fn begin(&mut self, store: &mut Lists<Node>, ask: &Ask, n: &Node) -> Option<Event>
+        requires sound { IsSound self.old store.old }
+        requires on { self.old.stopped ≡ false }
+        requires closed { self.old.opened ≡ false }
+        requires fits { NextFits (contents_of self.old store.old) ask.now }
+        requires room { 0 < store.old.spare }
+        requires first { slice_get (list_at store.old self.old.waiting) 0 ≡ Some n.now }
+        requires no_act { act_of_kind n.now.kind ≡ None }
+        requires no_insertion { insertion_of_kind n.now.kind ≡ None }
+        ensures { TurnIs self.old store.old ask.now result self.new store.new }
+    {
+        if is_box(n) {
+            return self.open_page(store, ask, n);
+        }
+        self.pass(store, ask, n);
+        None
+    }
+
+    // The first box or rule of the page is the first waiting node: it goes on the page after the top glue, unless the
+    // place before that glue is a stop.
+    fn open_page(&mut self, store: &mut Lists<Node>, ask: &Ask, n: &Node) -> Option<Event>
+        requires sound { IsSound self.old store.old }
+        requires on { self.old.stopped ≡ false }
+        requires closed { self.old.opened ≡ false }
+        requires fits { NextFits (contents_of self.old store.old) ask.now }
+        requires room { 0 < store.old.spare }
+        requires first { slice_get (list_at store.old self.old.waiting) 0 ≡ Some n.now }
+        requires boxed { is_box (shape_of n.now) ≡ true }
+        ensures { TurnIs self.old store.old ask.now result self.new store.new }
+    {
+        self.freeze(ask);
+        let glue = top_node(n, ask.top_skip);
+        store.push_front(self.waiting, glue);
+        let event = self.reach(store, &glue);
+        if self.stopped {
+            return event;
+        }
+        self.put(store, n);
+        self.opened = true;
+        event
+    }
+
+    // Freezes the goal and the depth limit of the page, unless they are frozen already.
+    fn freeze(&mut self, ask: &Ask)
+        requires asked { AskFits ask.now }
+        ensures first { self.old.frozen ≡ None → (z : Frozen) (page : List PlainNode) → z.goal ≡ ask.now.goal → z.limit ≡ ask.now.max_depth → Differ z.classes → AllLoose page
+            → self.old.course.lasting ≡ ends_lasting (page_shapes page) → IsCourseOf z self.new.course page [] }
+        ensures again { IsSome self.old.frozen → self.new ≡ self.old }
+        ensures frozen { self.new.frozen ≡ Some (frozen_with self.old.frozen ask.now) }
+        ensures ids { ids_of self.new ≡ ids_of self.old }
+        ensures opened { self.new.opened ≡ self.old.opened }
+        ensures stopped { self.new.stopped ≡ self.old.stopped }
+    {
+        if self.frozen.is_some() {
+            return;
+        }
+        self.frozen = Some((ask.goal, ask.max_depth));
+        self.course.restart(ask.goal, ask.max_depth);
+    }
+
+    // The first waiting node, an insertion, goes on the page.
+    fn meet(&mut self, store: &mut Lists<Node>, ask: &Ask, n: &Node, i: &Insertion)
+        requires sound { IsSound self.old store.old }
+        requires on { self.old.stopped ≡ false }
+        requires fits { NextFits (contents_of self.old store.old) ask.now }
+        requires first { slice_get (list_at store.old self.old.waiting) 0 ≡ Some n.now }
+        requires insertion { insertion_of_kind n.now.kind ≡ Some i.now }
+        ensures { TurnIs self.old store.old ask.now None self.new store.new }
+    {
+        self.freeze(ask);
+        let own = self.class_list(i.class);
+        let size = list_size(store, own.list);
+        let index = store.len(self.page);
+        self.course.join(store, i, index, &own.class, size);
+        store.move_first(self.waiting, self.page);
+    }
+
+    // On a page without a box, the first waiting node is no box, insertion or act: a mark, a note or a whatsit goes on
+    // the page, and glue, a kern or a penalty vanishes.
+    fn pass(&mut self, store: &mut Lists<Node>, ask: &Ask, n: &Node)
+        requires sound { IsSound self.old store.old }
+        requires on { self.old.stopped ≡ false }
+        requires closed { self.old.opened ≡ false }
+        requires first { slice_get (list_at store.old self.old.waiting) 0 ≡ Some n.now }
+        requires no_act { act_of_kind n.now.kind ≡ None }
+        requires no_insertion { insertion_of_kind n.now.kind ≡ None }
+        requires no_box { is_box (shape_of n.now) ≡ false }
+        ensures { TurnIs self.old store.old ask.now None self.new store.new }
+    {
+        if is_lasting(n) {
+            self.course.lasting = true;
+            store.move_first(self.waiting, self.page);
+            return;
+        }
+        drop_first(store, self.waiting);
+    }
+
+    // Takes one step with the first waiting node on a page that is laid out, which is no act and no insertion. Returns
+    // its event, if there is one.
+    fn reach(&mut self, store: &mut Lists<Node>, n: &Node) -> Option<Event>
+        requires own { IsOwned (ids_of self.old) store.old }
+        requires first { slice_get (list_at store.old self.old.waiting) 0 ≡ Some n.now }
+        requires on { self.old.stopped ≡ false }
+        requires underway { Underway (kept_frozen (contents_of self.old store.old)) self.old.course (contents_of self.old store.old).page (contents_of self.old store.old).waiting }
+        requires fits { StepFits (kept_frozen (contents_of self.old store.old)) (contents_of self.old store.old).page (list_at store.old) n.now }
+        ensures moves { ChangesPage self.old store.old self.new store.new }
+        ensures step { StepIs result (kept_frozen (contents_of self.old store.old)) self.new.course (contents_of self.old store.old) (contents_of self.new store.new) }
+        ensures behind { (ns : List NodeOf) → self.new.stopped ≡ false → list_at store.old self.old.waiting ≡ n.now ∷ ns → list_at store.new self.new.waiting ≡ ns }
+        ensures boxed { holds_box (contents_of self.old store.old).page ≡ true → holds_box (contents_of self.new store.new).page ≡ true }
+        ensures opened { self.new.opened ≡ self.old.opened }
+        ensures frozen { self.new.frozen ≡ self.old.frozen }
+        ensures ids { ids_of self.new ≡ ids_of self.old }
+    {
+        if self.step(store) {
+            return Some(Event::Try(self.tried));
+        }
+        None
+    }
+
+    // The first waiting node on a page that is laid out, no act and no insertion: its place is tried if it is legal,
+    // and the node goes on the page unless that is a stop. Returns whether it was tried; `tried` has the result.
+    #[inline(always)]
+    fn step(&mut self, store: &mut Lists<Node>) -> bool
+        requires own { IsOwned (ids_of self.old) store.old }
+        requires some { IsSome (slice_get (list_at store.old self.old.waiting) 0) }
+        requires on { self.old.stopped ≡ false }
+        requires underway { Underway (kept_frozen (contents_of self.old store.old)) self.old.course (contents_of self.old store.old).page (contents_of self.old store.old).waiting }
+        requires fits { (n : NodeOf) → slice_get (list_at store.old self.old.waiting) 0 ≡ Some n → StepFits (kept_frozen (contents_of self.old store.old)) (contents_of self.old store.old).page (list_at store.old) n }
+        ensures moves { ChangesPage self.old store.old self.new store.new }
+        ensures step { StepIs (event_of result self.new.tried) (kept_frozen (contents_of self.old store.old)) self.new.course (contents_of self.old store.old) (contents_of self.new store.new) }
+        ensures behind { (n : NodeOf) (ns : List NodeOf) → self.new.stopped ≡ false → list_at store.old self.old.waiting ≡ n ∷ ns → list_at store.new self.new.waiting ≡ ns }
+        ensures boxed { holds_box (contents_of self.old store.old).page ≡ true → holds_box (contents_of self.new store.new).page ≡ true }
+        ensures opened { self.new.opened ≡ self.old.opened }
+        ensures frozen { self.new.frozen ≡ self.old.frozen }
+        ensures ids { ids_of self.new ≡ ids_of self.old }
+    {
+        let Some(n) = store.get(self.waiting, 0) else {
+            unreachable!()
+        };
+        let Some(penalty) = penalty_of(store, self.waiting, n, self.course.lasting) else {
+            self.course.put(n);
+            store.move_first(self.waiting, self.page);
+            return false;
+        };
+        self.tried = self.course.offer(store.len(self.page), n.line, penalty);
+        if stops(&self.tried) {
+            self.stopped = true;
+            return true;
+        }
+        self.course.put(n);
+        store.move_first(self.waiting, self.page);
+        true
+    }
+
+    // The first waiting node, which is no insertion, goes on the page.
+    fn put(&mut self, store: &mut Lists<Node>, n: &Node)
+        requires own { IsOwned (ids_of self.old) store.old }
+        requires first { slice_get (list_at store.old self.old.waiting) 0 ≡ Some n.now }
+        requires node { IsSmallShape (shape_of n.now) }
+        requires fits { IsSmall (added_node self.old.course.scan.max_depth self.old.course.scan.sums (shape_of n.now)) }
+        requires no_act { act_of_kind n.now.kind ≡ None }
+        requires no_insertion { insertion_of_kind n.now.kind ≡ None }
+        ensures moves { ChangesPage self.old store.old self.new store.new }
+        ensures shifted { Shifted (plain_of (list_at store.old) n.now) (contents_of self.old store.old) (contents_of self.new store.new) }
+        ensures course { (z : Frozen) (bs : List Breakpoint) → IsCourseOf z self.old.course (contents_of self.old store.old).page bs
+            → IsCourseOf z self.new.course ((contents_of self.old store.old).page ++ plain_of (list_at store.old) n.now ∷ []) bs }
+        ensures behind { (ns : List NodeOf) → list_at store.old self.old.waiting ≡ n.now ∷ ns → list_at store.new self.new.waiting ≡ ns }
+        ensures opened { self.new.opened ≡ self.old.opened }
+        ensures ids { ids_of self.new ≡ ids_of self.old }
+    {
+        self.course.put(n);
+        store.move_first(self.waiting, self.page);
+    }
+}

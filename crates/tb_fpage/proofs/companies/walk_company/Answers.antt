@@ -1,0 +1,82 @@
+use Rattle.std.proofs.Common.{◌≡◌, [], drop, sym, ap, subst, ◌∙◌, FitsSigned, w64, arith, rules}
+use Rattle.std.proofs.lemmas.Int.{ints}
+use Rattle.tb_float.specs.Lists.{float_entries, floats_of}
+use Rattle.tb_float.proofs.WaitingLemmas.{waiting-entries}
+use Rattle.tb_fpage.specs.Company.{company_height, left_floats}
+use Rattle.tb_fpage.specs.Walk.{EndsBy, company_of_place}
+use Rattle.tb_float.proofs.EntryLemmas.{drop-entries, next-is_float}
+use Rattle.tb_fpage.proofs.WalkLemmas.{next-float, no-float, left-next, on-way-next, on-way-end, on-way-room}
+use Rattle.tb_fpage.proofs.CompanyLemmas.{on-way-start}
+use Rattle.tb_float.specs.Classes.{HasLeft}
+use Rattle.tb_fpage.specs.declared.walk.Walk.{Walk}
+use Rattle.tb_fpage.proofs.FullLemmas.{has-left, full-height, full-ends}
+use Rattle.tb_fpage.proofs.companies.walk_company.Goals as goal
+
+pub loop-entry-init : goal.loop-entry-init
+loop-entry-init c =
+    let all = floats_of c.args.from c.args.pool.now.lists in
+    let f = c.args.f.now in
+    let w = c.after_head-walk.result in
+    let failed : w.failed ≡ c.args.earlier.now = ap (λ (u : Walk). u.failed) c.after_head-walk.ensures in
+    let fits : FitsSigned w64 f.height = search rules in
+    record {
+      can_next = tt;
+      is_finite = tt;
+      left = c.into_iter-entry-iterator.ensures.into_iter_gives ∙ c.entries_from-entry-items.ensures ∙ ap (drop w.seen) (waiting-entries c.args.from c.requires.waiting c.args.pool.now.lists) ∙ drop-entries w.seen all;
+      way = on-way-start c.args.wanted.now w c.args.earlier.now c.args.place all f _ c.after_head-walk.ensures c.requires.there (omega (arith, ints)) fits c.requires.classes;
+      classes_left = subst (λ s. HasLeft s all) (sym failed) c.requires.left;
+    }
+
+pub float_in-requires : goal.float_in-requires
+float_in-requires c =
+    let all = floats_of c.args.from c.args.pool.now.lists in
+    next-is_float c.in-Some.entry.now c.next.new.self (drop c.loop-entry.walk.seen all) (sym c.in-Some.ensures.steps ∙ c.loop-entry.invariant.left)
+
+pub visit-requires : goal.visit-requires
+visit-requires c =
+    let all = floats_of c.args.from c.args.pool.now.lists in
+    let w = c.loop-entry.walk in
+    let f = c.float_in.result.now in
+    let next = next-float c.in-Some.entry.now c.next.new.self (drop w.seen all) f (sym c.in-Some.ensures.steps ∙ c.loop-entry.invariant.left) c.float_in.ensures in
+    let room = on-way-room c.args.wanted.now w all next.0 f _ c.requires.few (sym next.2) c.loop-entry.invariant.way in
+    record { room = room.0; height = room.1 }
+
+pub loop-entry-preserved : goal.loop-entry-preserved
+loop-entry-preserved c =
+    let all = floats_of c.args.from c.args.pool.now.lists in
+    let w = c.loop-entry.walk in
+    let v = c.visit.new.self in
+    let f = c.float_in.result.now in
+    let next = next-float c.in-Some.entry.now c.next.new.self (drop w.seen all) f (sym c.in-Some.ensures.steps ∙ c.loop-entry.invariant.left) c.float_in.ensures in
+    record {
+      can_next = tt;
+      is_finite = tt;
+      left = next.1 ∙ ap float_entries (left-next w v all next.0 f c.visit.ensures.seen (sym next.2));
+      way = on-way-next c.args.wanted.now w v all next.0 f c.visit.result _ c.visit.ensures.seen (sym next.2) c.visit.ensures.joins c.visit.ensures.stands c.loop-entry.invariant.way;
+      classes_left = c.visit.ensures.left all (has-left all next.0 w.seen f (sym next.2)) c.loop-entry.invariant.classes_left;
+    }
+
+pub returns : goal.returns
+returns c =
+    let all = floats_of c.args.from c.args.pool.now.lists in
+    let z = c.args.wanted.now in
+    let w = c.loop-entry.walk in
+    let way = c.loop-entry.invariant.way in
+    let none : [] ≡ drop w.seen all = sym (no-float (drop w.seen all) (sym c.in-None.ensures.steps.0 ∙ c.loop-entry.invariant.left)) in
+    let end = on-way-end z w all (company_of_place z c.args.place all c.args.f.now) none way in
+    record {
+      height = way.stands.height ∙ ap (company_height z.sep) end;
+      last = subst (EndsBy w.last) end way.stands.last;
+    }
+
+pub returns-then-is_full : goal.returns-then-is_full
+returns-then-is_full c =
+    let all = floats_of c.args.from c.args.pool.now.lists in
+    let z = c.args.wanted.now in
+    let w = c.loop-entry.walk in
+    let way = c.loop-entry.invariant.way in
+    let full = c.is_full.ensures c.if-is_full.true (left_floats way.before) all way.stands.failed c.loop-entry.invariant.classes_left in
+    record {
+      height = full-height z w all (company_of_place z c.args.place all c.args.f.now) way full;
+      last = full-ends z w all (company_of_place z c.args.place all c.args.f.now) way full;
+    }

@@ -1,0 +1,97 @@
+-- The nodes of a galley.
+use Rattle.std.specs.Prelude.{ℕ, suc, zero, ℤ, pos, neg_ℤ, Bool, ◌&&◌, List, [], ◌∷◌, ◌++◌, map, Some, if◌then◌else◌}
+use Rattle.tb_node.specs.PlainNodes.{Matter, hbox, rule, skip, kerned, pen, mark, note, Leaf as PlainLeaf, leaf_shape, PlainKind, plain, ins, act, PlainNode, blank_box, on_line, newpage_kinds, clearpage_kinds}
+use Rattle.tb_node.specs.Sums.{size_of}
+use Rattle.tb_node.specs.declared.What.TheVariants.{Text}
+use Rattle.tb_node.specs.declared.Float.{Float}
+use Rattle.tb_node.specs.declared.Act.{Act}
+use Rattle.tb_node.specs.declared.Act.TheVariants as acts
+use Rattle.tb_param.specs.declared.Params.{Params}
+use Rattle.tb_param.specs.Release.{has_second}
+use Rattle.tb_galley.specs.declared.Leaf.{Leaf}
+use Rattle.tb_galley.specs.declared.LeafKind.{LeafKind}
+use Rattle.tb_galley.specs.declared.LeafKind.TheVariants as leaves
+use Rattle.tb_galley.specs.declared.Item.{Item}
+use Rattle.tb_galley.specs.declared.ItemKind.{ItemKind}
+use Rattle.tb_galley.specs.declared.ItemKind.TheVariants as items
+use Rattle.tb_galley.specs.declared.Galley.{Galley}
+
+-- the node that a box, rule, glue, kern or penalty is
+abbrev pub leaf_matter : LeafKind → Matter
+leaf_matter (leaves.Hbox name h d) = hbox (Text name) h d
+leaf_matter (leaves.Rule name h d) = rule (Some name) h d
+leaf_matter (leaves.Skip g) = skip g
+leaf_matter (leaves.Kern w) = kerned w
+leaf_matter (leaves.Penalty p) = pen p
+
+-- a node of a footnote, with its line
+abbrev pub plain_leaf : Leaf → PlainLeaf
+plain_leaf n = record { line = n.line; matter = leaf_matter n.kind }
+
+-- a footnote as one insertion of its class, with the height and depth of its list for its height
+abbrev pub foot_insertion : Params → ℕ → List PlainLeaf → PlainKind
+foot_insertion p class inner = ins (record {
+  class = class;
+  inner = inner;
+  height = size_of (map leaf_shape inner);
+  split_depth = p.footsplitdepth;
+  split_top = p.footsplittop;
+  floating = p.footfloating;
+})
+
+-- an act, and two firings of the output routine round a blank box; the second says whether the item was between paragraphs
+abbrev pub with_firings : Act → Bool → List PlainKind
+with_firings a vert =
+    act a ∷ plain (pen (neg_ℤ (pos 10004))) ∷ plain blank_box ∷ plain (pen (neg_ℤ (pos (if vert then 10003 else 10002)))) ∷ []
+
+-- a float; in release 2014 a wide one in two columns is taken without a firing, since it goes to a list of its own at once
+abbrev pub float_kinds : Params → Bool → Float → Bool → List PlainKind
+float_kinds p two f vert = if has_second p && two && f.wide then act (acts.Take f) ∷ [] else with_firings (acts.Take f) vert
+
+-- the amount of the penalty for a break of this degree
+abbrev pub break_strength : ℕ → ℤ
+break_strength zero = pos 0
+break_strength (suc zero) = pos 51
+break_strength (suc (suc zero)) = pos 151
+break_strength (suc (suc (suc zero))) = pos 301
+break_strength (suc (suc (suc (suc n)))) = pos 10000
+
+-- the nodes of an item in order, by whether the last change of columns before it was to two columns
+abbrev pub item_kinds : Params → Bool → ItemKind → List PlainKind
+item_kinds p two (items.Hbox name h d) = plain (hbox (Text name) h d) ∷ []
+item_kinds p two (items.Rule name h d) = plain (rule (Some name) h d) ∷ []
+item_kinds p two (items.Skip g) = plain (skip g) ∷ []
+item_kinds p two (items.Kern w) = plain (kerned w) ∷ []
+item_kinds p two (items.Penalty n) = plain (pen n) ∷ []
+item_kinds p two (items.Mark name) = plain (mark name) ∷ []
+item_kinds p two (items.Note name) = plain (note name) ∷ []
+item_kinds p two (items.Foot class foot) = foot_insertion p class (map plain_leaf foot) ∷ []
+item_kinds p two (items.Float f vert) = float_kinds p two f vert
+item_kinds p two (items.Margin m vert) = with_firings (acts.TakeMargin m) vert
+item_kinds p two items.NewPage = newpage_kinds
+item_kinds p two items.ClearPage = clearpage_kinds
+item_kinds p two (items.PageBreak n) = plain (pen (neg_ℤ (break_strength n))) ∷ []
+item_kinds p two (items.NoPageBreak n) = plain (pen (break_strength n)) ∷ []
+item_kinds p two items.OneColumn = clearpage_kinds ++ act (acts.Columns (Bool.false)) ∷ []
+item_kinds p two items.TwoColumn = clearpage_kinds ++ act (acts.Columns (Bool.true)) ∷ []
+item_kinds p two (items.Suppress area) = act (acts.Suppress area) ∷ []
+
+-- whether there are two columns after an item
+abbrev pub two_after : Bool → ItemKind → Bool
+two_after two items.OneColumn = Bool.false
+two_after two items.TwoColumn = Bool.true
+two_after two _ = two
+
+-- and after some items
+abbrev pub two_past : Bool → List Item → Bool
+two_past two [] = two
+two_past two (n ∷ ns) = two_past (two_after two n.kind) ns
+
+-- the nodes of the items in order
+abbrev pub item_nodes : Params → Bool → List Item → List PlainNode
+item_nodes p two [] = []
+item_nodes p two (n ∷ ns) = on_line n.line (item_kinds p two n.kind) ++ item_nodes p (two_after two n.kind) ns
+
+-- the nodes of a galley, which begins in one column: those of its items, and those of a clear
+unfoldable pub expanded : Galley → List PlainNode
+expanded g = item_nodes g.params (Bool.false) g.items ++ on_line g.end_line clearpage_kinds

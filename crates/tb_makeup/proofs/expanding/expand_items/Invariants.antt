@@ -1,8 +1,0 @@
-use Rattle.std.proofs.Common.{take}
-use Rattle.tb_plain.specs.Expand.{makeup_nodes}
-use Rattle.tb_run.specs.Expanding.{Waits}
-use Rattle.tb_makeup.proofs.expanding.expand_items.Given as goal
-
--- the nodes of the items before wait
-abbrev pub invariant-loop-item : goal.invariant-loop-item
-invariant-loop-item l = Waits (makeup_nodes l.p (take l.item-index l.items)) l.fn.builder l.fn.store l.builder l.store

@@ -1,0 +1,122 @@
+-- A page that is filled and ships, as part of a turn. No public clause cites this module.
+use Rattle.std.specs.Prelude.{◌≡◌, ℕ, ◌+◌, ◌*◌, ◌≤◌, ◌⊎◌, pos, ◌<ℤ◌, ◌≤ℤ◌, true, false, List, [], ◌∷◌, ◌++◌, Option, Some, None}
+use Rattle.tb_builder.specs.declared.Page.{Page}
+use Rattle.tb_node.specs.PlainNodes.{PlainNode}
+use Rattle.tb_builder.specs.Contents.{node_count}
+use Rattle.tb_builder.specs.Contributions.{with_void}
+use Rattle.tb_builder.specs.Courses.{IsSound}
+use Rattle.tb_column.specs.Column.{shipped, one}
+use Rattle.tb_run.specs.declared.happenings.Happening.{Happening}
+use Rattle.tb_run.specs.Run.{sent}
+use Rattle.tb_run.specs.Happenings.{events_of}
+use Rattle.tb_plain.specs.MakeupCalls.{CanFire, fired_with}
+use Rattle.tb_plain.specs.Firing.{holds_any, makeup_column}
+use Rattle.tb_plain.specs.Run.{MakeupState, makeup_step, firing_step, last_step, builder_holds, void_boxes, act_count, ejecting_nodes, waiting_after}
+use Rattle.tb_makeup.specs.declared.makeup.Makeup.{Makeup}
+use Rattle.tb_makeup.specs.declared.makeup.MakeupEnding.{MakeupEnding}
+use Rattle.tb_makeup.specs.declared.makeup.MakeupEnding.TheVariants as endings
+use Rattle.tb_makeup.specs.Makeup.{held_in, state_of, node_total, over_limit, AreRunNodes, AreAfter, IsBounded, run_at, AreHappened}
+
+-- the parameters, what pages are made for, the limit and the bound on nodes are as before
+pub record Continues (r q : Makeup) : Type 0 where
+  pub plain : q.plain ≡ r.plain
+  pub ask : q.ask ≡ r.ask
+  pub limit : q.limit ≡ r.limit
+  pub bound : q.bound ≡ r.bound
+
+-- the floats of a page were taken up to this state, from which the run goes on
+pub record Takes (r : Makeup) (s : MakeupState) : Type 0 where
+  pub run : run_at r.plain.params (state_of r) ≡ run_at r.plain.params s
+  pub nodes : AreRunNodes s
+  pub total : node_total s ≤ node_total (state_of r)
+  pub acts : act_count s.waiting ≤ act_count (state_of r).waiting
+  pub number : s.number ≡ r.plain.page
+  pub phase : ((state_of r).page ≡ []) ⊎ (s.waiting ≡ ejecting_nodes)
+
+-- after the page at most six nodes more wait, those that acts can add included, and no more acts
+pub record HasGrown (r : Makeup) (waiting : List PlainNode) : Type 0 where
+  pub total : node_count waiting + 5 * act_count waiting ≤ node_total (state_of r) + 6
+  pub acts : act_count waiting ≤ act_count (state_of r).waiting
+
+-- the page fires
+pub record IsFiring (r : Makeup) (page : Page) (q : Makeup) : Type 0 where
+  pub s : MakeupState
+  pub takes : Takes r s
+  pub step : makeup_step r.plain.params s ≡ firing_step r.plain.params s.number (fired_with q.builder q.store page)
+  pub can : CanFire q.builder q.store page
+  pub after : AreAfter r.plain.params (fired_with q.builder q.store page)
+  pub grown : HasGrown r (waiting_after r.plain.params (fired_with q.builder q.store page))
+  pub classes : (held_in q).classes ≡ (builder_holds r.plain.params s).classes
+  pub stopped : (held_in q).stopped ≡ false
+  pub void : with_void 254 (with_void 253 (held_in q).boxes) ≡ void_boxes
+  pub same : Continues r q
+
+-- nothing waits any more
+pub record IsOver (r q : Makeup) : Type 0 where
+  pub s : MakeupState
+  pub takes : Takes r s
+  pub begun : (state_of r).page ≡ []
+  pub step : makeup_step r.plain.params s ≡ last_step s (held_in q).page
+  pub holds : held_in q ≡ builder_holds r.plain.params (record s { page = (held_in q).page; waiting = [] })
+  pub sound : IsSound q.builder q.store
+  pub nodes : AreRunNodes (record s { page = (held_in q).page; waiting = ejecting_nodes })
+  pub grown : node_total (record s { page = (held_in q).page; waiting = ejecting_nodes }) ≤ node_total (state_of r) + 4
+  pub same : Continues r q
+
+-- what the page comes to
+abbrev pub Fills : Makeup → Option Page → Makeup → Type 0
+Fills r (Some page) q = IsFiring r page q
+Fills r None q = IsOver r q
+
+-- ---- the page ships
+
+-- what waits after the page has at most the nodes and acts of the bound, and ten nodes more
+abbrev pub IsBoundedPage : Page → Makeup → Type 0
+IsBoundedPage page r = IsBounded 10 (record { page = []; waiting = waiting_after r.plain.params (fired_with r.builder r.store page); number = r.plain.page + 1 }) r.bound
+
+-- the page shipped under the next number, and what is put back waits
+pub record HasShipped (page : Page) (r q : Makeup) (hs : List Happening) : Type 0 where
+  pub within : pos r.plain.page ≤ℤ r.plain.params.maxpages
+  pub number : q.plain ≡ record r.plain { page = r.plain.page + 1 }
+  pub sound : IsSound q.builder q.store
+  pub contents : held_in q ≡ record (held_in r) { boxes = with_void 254 (with_void 253 (held_in r).boxes); waiting = waiting_after r.plain.params (fired_with r.builder r.store page); held = [] }
+  pub events : events_of q.store hs ≡ sent (shipped r.plain.page (one (makeup_column r.plain.params (fired_with r.builder r.store page)))) ∷ []
+  pub happened : AreHappened q hs
+  pub ask : q.ask ≡ r.ask
+  pub limit : q.limit ≡ r.limit
+
+-- as many pages as may be were shipped
+pub record IsAtLimit (n : ℕ) (r q : Makeup) (hs : List Happening) : Type 0 where
+  pub over : r.plain.params.maxpages <ℤ pos r.plain.page
+  pub pages : n + 1 ≡ r.plain.page
+  pub none : hs ≡ []
+  pub sound : IsSound q.builder q.store
+  pub plain : q.plain ≡ r.plain
+
+-- what the page that fires comes to
+abbrev pub Ships : Page → Makeup → Option MakeupEnding → Makeup → List Happening → Type 0
+Ships page r None q hs = HasShipped page r q hs × (over_limit r.limit (node_count (waiting_after r.plain.params (fired_with r.builder r.store page))) ≡ None) × IsBounded 0 (state_of q) q.bound
+Ships page r (Some endings.Done) q hs = ⊥
+Ships page r (Some (endings.PageLimit n)) q hs = IsAtLimit n r q hs
+Ships page r (Some (endings.NodeLimit n)) q hs = HasShipped page r q hs × (over_limit r.limit (node_count (waiting_after r.plain.params (fired_with r.builder r.store page))) ≡ Some (endings.NodeLimit n))
+
+-- ---- nothing waits
+
+-- a node waits behind all others
+pub record Contributes (n : PlainNode) (r q : Makeup) : Type 0 where
+  pub sound : IsSound q.builder q.store
+  pub contents : held_in q ≡ record (held_in r) { waiting = (held_in r).waiting ++ n ∷ [] }
+  pub same : Continues r q
+
+-- what ends the page waits
+pub record Ejects (r q : Makeup) : Type 0 where
+  pub sound : IsSound q.builder q.store
+  pub contents : held_in q ≡ record (held_in r) { waiting = ejecting_nodes }
+  pub same : Continues r q
+
+-- the run is done, or something stands on the page, which is ended
+abbrev pub Finishes : Makeup → Option MakeupEnding → Makeup → Type 0
+Finishes r None q = (holds_any (held_in r).page ≡ true) × Ejects r q
+Finishes r (Some endings.Done) q = (holds_any (held_in r).page ≡ false) × (q ≡ r)
+Finishes r (Some (endings.PageLimit n)) q = ⊥
+Finishes r (Some (endings.NodeLimit n)) q = ⊥

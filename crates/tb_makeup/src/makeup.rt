@@ -1,0 +1,334 @@
+//! The page makeup over one store: the page builder fills a page, and it ships.
+
+ghost use Rattle.std.specs.Prelude.{◌≡◌, ◌≢◌, ◌≤◌, ◌≤ℤ◌, ◌+◌, ◌++◌, ℕ, pos, [], None, IfOk, IfNone, OnOk};
+ghost use Rattle.std.specs.List.{AllByRecursion};
+ghost use Rattle.std.specs.FinMap.{get};
+ghost use Rattle.tb_pool.specs.Lists.{IsLive, list_at};
+ghost use Rattle.tb_node.specs.PlainNodes.{plain_list};
+ghost use Rattle.tb_builder.specs.Contents.{node_count, box_count};
+ghost use Rattle.tb_builder.specs.Courses.{IsSound};
+ghost use Rattle.tb_builder.specs.Ownership.{Lacks, ids_of, inner_ids, inner_of, owned};
+ghost use Rattle.tb_builder.specs.Contributions.{ListJoins, MayWait, NoPage, with_void};
+ghost use Rattle.tb_run.specs.WaitingNodes.{lone, AreItems};
+ghost use Rattle.tb_run.specs.Happenings.{happened_lists};
+ghost use Rattle.tb_run.specs.Routine.{ArePages};
+ghost use Rattle.tb_plain.specs.GalleyNodes.{made_up};
+ghost use Rattle.tb_plain.specs.MakeupCalls.{IsPlain, CanFire, fired_with};
+ghost use Rattle.tb_plain.specs.Run.{makeup_ask, makeup_classes, first_makeup, waiting_after};
+ghost use Rattle.tb_makeup.specs.Makeup.{held_in, state_of, over_limit, node_total, AreRunParams, AreRunNodes, IsBounded, IsReady, IsTurned, AreHappened};
+ghost use Rattle.tb_makeup.specs.MakeupPages.{Fills, IsBoundedPage, Ships, Contributes, Ejects, Finishes};
+
+use crate::galley_nodes::{act_count, clearing_glue, expand};
+use std::alloc::{AllocError, Global};
+use tb_builder::{Ask, Builder, Event, Page, new_builder};
+use tb_column::{Sent, Sheet};
+use tb_galley::Galley;
+use tb_insert::Class;
+use tb_node::{FOOTNOTES, Kind, Node, What};
+use tb_param::{Params, exceeds};
+use tb_plain::{Plain, PlainFault, PlainPage, TOP_FLOATS, new_plain};
+use tb_pool::{ListId, Lists};
+use tb_run::{Happening, close_happened, note_sent};
+use tb_scaled::{MAX_DIMEN, fixed};
+
+/// Between two firings: one store, the page builder with the nodes that wait, and the state of the page makeup.
+#[derive(Drop)]
+pub struct Makeup {
+    /// Holds the lists of the builder, and of a page that was shipped until it is done with.
+    pub store: Lists<Node>,
+    /// Holds what waits.
+    pub builder: Builder,
+    /// Numbers the pages.
+    pub plain: Plain,
+    /// What each page is made for.
+    pub ask: Ask,
+    /// The most nodes that may wait.
+    pub limit: i64,
+    bound: NodeBound,
+}
+
+// A bound on the nodes of the page and of what waits, so that they need not be counted after each page.
+#[derive(Clone, Copy)]
+struct NodeBound {
+    // The nodes, and those that their acts can add.
+    most: u64,
+    // The acts.
+    acts: u64,
+}
+
+// No galley has more nodes, those that its acts can add included.
+const MOST_NODES: u64 = 7_500_000;
+
+// A page adds no more nodes to those that wait: the glue above its first box, the nodes that end the last page, and those
+// of a page for held insertions.
+const ADDED_NODES: u64 = 10;
+
+// An act adds no more nodes.
+const ACT_NODES: u64 = 5;
+
+/// How a run ends.
+#[derive(Clone, Copy)]
+pub enum MakeupEnding {
+    /// Nothing waits any more, and the page is empty.
+    Done,
+    /// A page was to be shipped after so many pages.
+    PageLimit { pages: u64 },
+    /// More nodes than `maxnodes` waited: so many.
+    NodeLimit { count: u64 },
+}
+
+// The penalty that ends the last page (plain.tex, \bye).
+const LAST_PENALTY: i64 = -1_073_741_824;
+
+// The class of top floats and that of the footnotes.
+fn makeup_classes(alloc: Global, p: &Params) -> Result<Vec<Class>, AllocError>
+    ensures { IfOk result (λ cs. cs.items ≡ makeup_classes p.now) }
+{
+    let mut classes = Vec::new(alloc);
+    classes.push(Class {
+        number: TOP_FLOATS,
+        factor: 1000,
+        limit: MAX_DIMEN,
+        skip: fixed(0),
+    })?;
+    classes.push(Class {
+        number: FOOTNOTES,
+        factor: 1000,
+        limit: p.footlimit,
+        skip: p.skipfootins,
+    })?;
+    Ok(classes)
+}
+
+// Each page is made for the same.
+fn makeup_ask(p: &Params) -> Ask
+    ensures { result ≡ makeup_ask p.now }
+{
+    Ask {
+        goal: p.textheight,
+        max_depth: p.maxdepth,
+        top_skip: p.topskip,
+    }
+}
+
+impl Makeup {
+    /// All nodes of a galley wait for its first page.
+    pub fn new(alloc: Global, galley: &Galley) -> Result<Self, AllocError>
+        requires params { AreRunParams galley.now.params }
+        requires items { AreItems (makeup_classes galley.now.params) galley.now.items }
+        requires nodes { AreRunNodes (first_makeup (made_up galley.now)) }
+        requires few { node_total (first_makeup (made_up galley.now)) + 10 ≤ 7500000 }
+        ensures state { IfOk result (λ r. state_of r ≡ first_makeup (made_up galley.now)) }
+        ensures params { IfOk result (λ r. r.plain.params ≡ galley.now.params) }
+        ensures ready { IfOk result IsReady }
+    {
+        let mut store = Lists::new(alloc);
+        let classes = makeup_classes(alloc, &galley.params)?;
+        let mut builder = new_builder(alloc, &mut store, classes.as_slice())?;
+        expand(&mut store, &mut builder, galley)?;
+        let bound = NodeBound {
+            most: MOST_NODES,
+            acts: act_count(galley),
+        };
+        Ok(Makeup {
+            store,
+            builder,
+            plain: new_plain(&galley.params),
+            ask: makeup_ask(&galley.params),
+            limit: galley.params.maxnodes,
+            bound,
+        })
+    }
+
+    /// The ending where more nodes wait than `maxnodes`, those of insertions too.
+    pub fn node_limit(&self) -> Option<MakeupEnding>
+        requires sound { IsSound self.now.builder self.now.store }
+        requires few { node_count (held_in self.now).waiting ≤ 8388608 }
+        requires void { box_count (held_in self.now).boxes ≡ 0 }
+        ensures { result ≡ over_limit self.now.limit (node_count (held_in self.now).waiting) }
+    {
+        over_limit(self.builder.nodes(&self.store), self.limit)
+    }
+
+    /// Makes the next page of what waits, and ships it; or, where nothing waits any more, ends the last page or the run.
+    /// Returns how the run ends with it, if it does.
+    ///
+    /// `happened` holds the page that shipped, if one did; its list is the caller's until [`Self::done_with`]. What
+    /// `happened` held before is gone. Where memory is lacking, the run can not go on.
+    pub fn turn(
+        &mut self,
+        happened: &mut Vec<Happening>,
+    ) -> Result<Option<MakeupEnding>, AllocError>
+        requires { IsReady self.old }
+
+        ensures turned { IfOk result (λ o. IsTurned self.old happened.new.items o self.new) }
+        ensures ready { IfOk result (λ o. IfNone o (IsReady self.new)) }
+        ensures params { OnOk result (self.new.plain.params ≡ self.old.plain.params) }
+        ensures live { OnOk result (IsLive self.new.store self.new.builder.page) }
+        ensures pages { OnOk result (ArePages self.new.store happened.new.items) }
+        ensures lists { IfOk result (λ o. IfNone o (AreHappened self.new happened.new.items)) }
+    {
+        happened.clear();
+        match self.fill()? {
+            Some(page) => self.ship(page, happened),
+            None => self.finish(),
+        }
+    }
+
+    /// Closes the list of a page that was shipped, once it was written: its places in the store are free then.
+    pub fn done_with(&mut self, happened: &[Happening])
+        requires ready { IsReady self.old }
+        requires lists { AreHappened self.old happened.now }
+
+        ensures ready { IsReady self.new }
+        ensures state { state_of self.new ≡ state_of self.old }
+        ensures plain { self.new.plain ≡ self.old.plain }
+        ensures closed { AllByRecursion (λ l. get self.new.store.lists l ≡ None) (happened_lists happened.now) }
+    {
+        close_happened(&mut self.store, happened);
+    }
+
+    // Fills the next page of what waits, up to its firing or the end of what waits. The floats that are reached are taken.
+    fn fill(&mut self) -> Result<Option<Page>, AllocError>
+        requires ready { IsReady self.old }
+        ensures { IfOk result (λ o. Fills self.old o self.new) }
+    {
+        'next: loop {
+            match self.builder.next_without_tries(&mut self.store, &self.ask)? {
+                Event::Try(_) => unreachable!(),
+                Event::Act(act) => self.plain.act(&mut self.store, &mut self.builder, act)?,
+                Event::Fired(page) => return Ok(Some(page)),
+                Event::Empty => return Ok(None),
+            }
+        }
+    }
+
+    // A page that fired ships, and what is put back waits.
+    fn ship(
+        &mut self,
+        page: Page,
+        happened: &mut Vec<Happening>,
+    ) -> Result<Option<MakeupEnding>, AllocError>
+        requires plain { IsPlain self.old.plain }
+        requires can { CanFire self.old.builder self.old.store page }
+        requires few { node_count (waiting_after self.old.plain.params (fired_with self.old.builder self.old.store page)) ≤ 8388608 }
+        requires void { box_count (with_void 254 (with_void 253 (held_in self.old).boxes)) ≡ 0 }
+        requires bounded { IsBoundedPage page self.old }
+        requires limit { self.old.limit ≤ℤ pos 4194304 }
+        requires empty { happened.old.items ≡ [] }
+        ensures { IfOk result (λ o. Ships page self.old o self.new happened.new.items) }
+    {
+        match self.plain.fire(&mut self.store, &mut self.builder, page) {
+            Ok(made) => {
+                self.put_back(made.put_back);
+                note_sent(happened, sent_page(&made))?;
+                Ok(self.limit_after_page())
+            }
+            Err(PlainFault::PageLimit { pages }) => Ok(Some(MakeupEnding::PageLimit { pages })),
+            Err(PlainFault::Memory) => Err(AllocError),
+        }
+    }
+
+    // The ending if more nodes wait than `maxnodes` after a page. They are counted only if the bound on them passes
+    // `maxnodes`; the bound is their number then, and what their acts can add.
+    fn limit_after_page(&mut self) -> Option<MakeupEnding>
+        requires sound { IsSound self.old.builder self.old.store }
+        requires few { node_count (held_in self.old).waiting ≤ 8388608 }
+        requires void { box_count (held_in self.old).boxes ≡ 0 }
+        requires empty { (held_in self.old).page ≡ [] }
+        requires bounded { IsBounded 10 (state_of self.old) self.old.bound }
+        requires limit { self.old.limit ≤ℤ pos 4194304 }
+        ensures limit { result ≡ over_limit self.old.limit (node_count (held_in self.old).waiting) }
+        ensures same { self.new ≡ record self.old { bound = self.new.bound } }
+        ensures bounded { IfNone result (IsBounded 0 (state_of self.new) self.new.bound) }
+    {
+        self.bound.most += ADDED_NODES;
+        if !exceeds(self.bound.most, self.limit) {
+            return None;
+        }
+        let count = self.builder.nodes(&self.store);
+        self.bound.most = count + ACT_NODES * self.bound.acts;
+        over_limit(count, self.limit)
+    }
+
+    // Puts the nodes of a list back before what waits, and closes the list.
+    fn put_back(&mut self, list: ListId)
+        requires sound { IsSound self.old.builder self.old.store }
+        requires awaits { NoPage (held_in self.old) }
+        requires joins { ListJoins (ids_of self.old.builder) self.old.store list }
+        ensures sound { IsSound self.new.builder self.new.store }
+        ensures contents { held_in self.new ≡ record (held_in self.old) {
+          waiting = (held_in self.old).held ++ (plain_list self.old.store list ++ (held_in self.old).waiting);
+          held = [];
+        } }
+        ensures others { (q : ℕ) → q ≢ list → Lacks q (owned (ids_of self.old.builder) self.old.store) → get self.new.store.lists q ≡ get self.old.store.lists q }
+        ensures keeps { (q : ℕ) → Lacks q (owned (ids_of self.old.builder) self.old.store ++ inner_ids (list_at self.old.store list)) → Lacks q (owned (ids_of self.new.builder) self.new.store) }
+        ensures plain { self.new.plain ≡ self.old.plain }
+        ensures ask { self.new.ask ≡ self.old.ask }
+        ensures limit { self.new.limit ≡ self.old.limit }
+        ensures bound { self.new.bound ≡ self.old.bound }
+    {
+        self.builder.put_back(&mut self.store, list);
+        self.store.close(list);
+    }
+
+    // Nothing waits: the run is done, unless something stands on the page, which is ended then.
+    fn finish(&mut self) -> Result<Option<MakeupEnding>, AllocError>
+        requires sound { IsSound self.old.builder self.old.store }
+        requires over { (held_in self.old).waiting ≡ [] }
+        ensures { IfOk result (λ o. Finishes self.old o self.new) }
+    {
+        if self.store.len(self.builder.on_page()) == 0 {
+            return Ok(Some(MakeupEnding::Done));
+        }
+        self.eject()?;
+        Ok(None)
+    }
+
+    // What ends a page on which something stands waits (plain.tex, \bye).
+    fn eject(&mut self) -> Result<(), AllocError>
+        requires sound { IsSound self.old.builder self.old.store }
+        requires over { (held_in self.old).waiting ≡ [] }
+        ensures { OnOk result (Ejects self.old self.new) }
+    {
+        let blank = Kind::Hbox {
+            what: What::Blank,
+            height: 0,
+            depth: 0,
+        };
+        self.contribute(blank)?;
+        self.contribute(Kind::Skip(clearing_glue()))?;
+        self.contribute(Kind::Pen(LAST_PENALTY))
+    }
+
+    // A node that no item gives goes to the end of what waits.
+    fn contribute(&mut self, kind: Kind) -> Result<(), AllocError>
+        requires sound { IsSound self.old.builder self.old.store }
+        requires lone { inner_of kind ≡ None }
+        requires may_wait { MayWait (held_in self.old) (lone 0 kind) }
+        ensures { OnOk result (Contributes (lone 0 kind) self.old self.new) }
+    {
+        self.builder
+            .contribute(&mut self.store, Node { line: 0, kind })
+    }
+}
+
+// The ending if so many nodes are more than the limit.
+fn over_limit(count: u64, limit: i64) -> Option<MakeupEnding>
+    ensures { result ≡ over_limit limit count }
+{
+    if exceeds(count, limit) {
+        return Some(MakeupEnding::NodeLimit { count });
+    }
+    None
+}
+
+// A page that ships, as what is sent.
+fn sent_page(made: &PlainPage) -> Sent
+    ensures { result ≡ Sent.Ship made.now.page (Sheet.One made.now.column) }
+{
+    Sent::Ship {
+        page: made.page,
+        sheet: Sheet::One(made.column),
+    }
+}

@@ -1,0 +1,191 @@
+//! What the routine does at an act: a float or a marginal note is taken, floats are kept out of an area, or the columns
+//! change (LaTeX, \@xfloat, \marginpar, \suppressfloats and \twocolumn).
+
+ghost use Rattle.std.specs.Prelude.{◌≡◌, ◌<◌, ◌&&◌, pos, List, OnOk, OnErr, IfErr, IsErr, option_to_list};
+ghost use Rattle.tb_pool.specs.Lists.{Lists as ListMap};
+ghost use Rattle.tb_node.specs.declared.Node.{Node as NodeValue};
+ghost use Rattle.tb_node.specs.PlainNodes.{PlainNode};
+ghost use Rattle.tb_node.specs.Fit.{IsExtent};
+ghost use Rattle.tb_scaled.specs.Scaled.{min_ℤ};
+ghost use Rattle.tb_builder.specs.FiredPages.{Boxed};
+ghost use Rattle.tb_param.specs.Release.{has_second};
+ghost use Rattle.tb_float.specs.Lists.{live_count};
+ghost use Rattle.tb_float.specs.Pool.{HasNoMarks};
+ghost use Rattle.tb_float.specs.Ranges.{IsSizedMargin};
+ghost use Rattle.tb_output.specs.Act.{full, large_warning, suppressed};
+ghost use Rattle.tb_output.specs.MachineFrame.{AreNoneOf};
+ghost use Rattle.tb_output.specs.Machine.{AreOutputParams, IsMachine, machine_lists};
+ghost use Rattle.tb_output.specs.ActCalls.{IsSizedAct, IsActed, acted_in, line_of, TakesNoList, dropped_lists, HasTaken, HasNoRoom, clipped, taken_into, with_float, with_note, with_suppressed, with_columns};
+
+use crate::Machine;
+use crate::state::no_suppress;
+use tb_column::Warn;
+use tb_float::{Full, Part, Pool, Suppress};
+use tb_node::{Act, Area, Float, Margin};
+use tb_param::Params;
+use tb_pool::ListId;
+
+impl Machine {
+    /// Does what an act says, when the page builder reaches it. It allocates nothing: room is kept for the warning that
+    /// a float is higher than a page.
+    ///
+    /// Returns Full exactly if the pool has no room for the float, or for both boxes of the marginal note; then nothing
+    /// changes. A change of columns drops a first column that waits; its list, which `dropped_by` names before the act,
+    /// stays in the store.
+    pub fn act(&mut self, a: Act) -> Result<(), Full>
+        requires params { AreOutputParams self.old.params }
+        requires pool { pos self.old.pool.size ≡ self.old.params.pool }
+        requires act { IsSizedAct a }
+
+        ensures acted { OnOk result ((store : ListMap NodeValue) (boxes : List Boxed) (waiting : List PlainNode) → IsActed store boxes waiting self.old self.new (acted_in store boxes waiting self.old a)) }
+        ensures full { IfErr result (λ e. (store : ListMap NodeValue) (boxes : List Boxed) (waiting : List PlainNode) → acted_in store boxes waiting self.old a ≡ full (line_of a) e.live) }
+        ensures unchanged { OnErr result (self.new ≡ self.old) }
+
+        ensures machine { (store : ListMap NodeValue) → IsMachine self.old store → IsMachine self.new store }
+        ensures params { self.new.params ≡ self.old.params }
+        ensures fault { self.new.fault ≡ self.old.fault }
+        ensures size { self.new.pool.size ≡ self.old.pool.size }
+        ensures marks { self.new.pool.marks ≡ self.old.pool.marks }
+        ensures lists { TakesNoList self.old self.new }
+        ensures dropped { (store : ListMap NodeValue) → IsMachine self.old store → AreNoneOf (dropped_lists a self.old.left_column) (machine_lists self.new) }
+    {
+        match a {
+            Act::Take(f) => self.take_float(f),
+            Act::TakeMargin(m) => self.take_note(m),
+            Act::Suppress(area) => {
+                self.suppress_in(area);
+                Ok(())
+            }
+            Act::Columns { two } => {
+                self.begin_columns(two);
+                Ok(())
+            }
+        }
+    }
+
+    /// The list of a first column that waits for the second, if the act changes the columns. After the act it is the
+    /// caller's.
+    pub fn dropped_by(&self, a: &Act) -> Option<ListId>
+        ensures { option_to_list result ≡ dropped_lists a.now self.now.left_column }
+    {
+        let Act::Columns { two: _ } = a else {
+            return None;
+        };
+        let left = self.left_column?;
+        Some(left.list)
+    }
+
+    // Takes a float, with a warning if it is higher than a page.
+    fn take_float(&mut self, f: Float) -> Result<(), Full>
+        requires page { IsExtent self.old.params.textheight }
+        requires float { IsExtent f.height }
+        ensures ok { OnOk result (HasTaken 1 self.old (with_float f self.old) self.new) }
+        ensures err { IfErr result (λ e. HasNoRoom 1 e.live self.old self.new) }
+    {
+        let warning = large(&f, &self.params);
+        let taken = clipped(&f, self.params.textheight, self.two_columns);
+        take_into(&mut self.pool, &self.params, taken)?;
+        self.events.warn(warning);
+        Ok(())
+    }
+
+    // Takes both boxes of a marginal note.
+    fn take_note(&mut self, m: Margin) -> Result<(), Full>
+        requires { IsSizedMargin m }
+        ensures ok { OnOk result (HasTaken 2 self.old (with_note m self.old) self.new) }
+        ensures err { IfErr result (λ e. HasNoRoom 2 e.live self.old self.new) }
+    {
+        self.pool.take_margin(m)?;
+        Ok(())
+    }
+
+    // Keeps floats out of an area of the column that is being made.
+    fn suppress_in(&mut self, area: Area)
+        ensures { self.new ≡ with_suppressed area self.old }
+    {
+        self.suppress = suppressed(self.suppress, area);
+    }
+
+    // Begins one column or two, and drops a first column that waits.
+    fn begin_columns(&mut self, two: bool)
+        ensures { self.new ≡ with_columns two self.old }
+    {
+        self.two_columns = two;
+        self.first_column = true;
+        self.left_column = None;
+        self.suppress = no_suppress();
+    }
+}
+
+// Puts a float at the end of the current list, or of the list of those that wait for a page.
+fn take_into(pool: &mut Pool, p: &Params, f: Float) -> Result<(), Full>
+    requires { IsExtent f.height }
+    ensures room { OnOk result (live_count pool.old.lists < pool.old.size) }
+    ensures taken { OnOk result (pool.new ≡ taken_into p.now f pool.old) }
+    ensures unmarked { OnOk result (HasNoMarks pool.old → HasNoMarks pool.new) }
+    ensures full { IsErr result → live_count pool.old.lists ≡ pool.old.size }
+    ensures shown { IfErr result (λ e. e.live ≡ live_count pool.old.lists) }
+    ensures unchanged { OnErr result (pool.new ≡ pool.old) }
+{
+    let waits = waits_for_page(p, &f);
+    pool.take(f)?;
+    if !waits {
+        return Ok(());
+    }
+    let last = pool.len(Part::Current) - 1;
+    pool.move_to(Part::Current, last, Part::Second);
+    Ok(())
+}
+
+// In release 2014 a wide float waits for a page at once (ltoutput.dtx, \end@dblfloat).
+fn waits_for_page(p: &Params, f: &Float) -> bool
+    ensures { result ≡ (has_second p.now && f.now.wide) }
+{
+    p.has_second() && f.wide
+}
+
+// The warning that a float is higher than a page, if it is.
+fn large(f: &Float, p: &Params) -> Option<Warn>
+    requires float { IsExtent f.now.height }
+    requires page { IsExtent p.now.textheight }
+    ensures { option_to_list result ≡ large_warning p.now f.now }
+{
+    if f.height <= p.textheight {
+        return None;
+    }
+    Some(Warn::Large {
+        name: f.name,
+        by: f.height - p.textheight,
+    })
+}
+
+// A float as it is taken: no higher than a page, and single in one column.
+fn clipped(f: &Float, textheight: i64, two_columns: bool) -> Float
+    requires float { IsExtent f.now.height }
+    requires page { IsExtent textheight }
+    ensures value { result ≡ clipped textheight two_columns f.now }
+    ensures extent { IsExtent result.height }
+{
+    Float {
+        height: lesser(f.height, textheight),
+        wide: f.wide && two_columns,
+        ..*f
+    }
+}
+
+fn lesser(a: i64, b: i64) -> i64
+    ensures { result ≡ min_ℤ a b }
+{
+    if a <= b { a } else { b }
+}
+
+// The suppress flags once floats are kept out of this area too.
+fn suppressed(s: Suppress, area: Area) -> Suppress
+    ensures { result ≡ suppressed s area }
+{
+    match area {
+        Area::All => Suppress { all: true, ..s },
+        Area::Top => Suppress { top: true, ..s },
+        Area::Bottom => Suppress { bottom: true, ..s },
+    }
+}

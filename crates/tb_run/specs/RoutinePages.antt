@@ -1,0 +1,172 @@
+-- A page that is filled and fires, as part of a step of the run. No public clause cites this module.
+use Rattle.std.specs.Prelude.{◌≡◌, ℕ, ◌+◌, ◌≤◌, pos, ◌<ℤ◌, ◌≤ℤ◌, Bool, true, false, List, [], ◌++◌, map, Option, Some, None, int_lt, if◌then◌else◌}
+use Rattle.tb_pool.specs.Lists.{Lists}
+use Rattle.tb_node.specs.declared.Act.{Act}
+use Rattle.tb_node.specs.declared.Node.{Node}
+use Rattle.tb_node.specs.PlainNodes.{PlainNode}
+use Rattle.tb_param.specs.declared.Params.{Params}
+use Rattle.tb_builder.specs.declared.Ask.{Ask}
+use Rattle.tb_builder.specs.declared.Event.{Event}
+use Rattle.tb_builder.specs.declared.Page.{Page}
+use Rattle.tb_builder.specs.PageCalls.{PassedOver, ComesBy}
+use Rattle.tb_builder.specs.FiredPages.{Boxed, Fired}
+use Rattle.tb_builder.specs.SizedContents.{fired_count}
+use Rattle.tb_builder.specs.Contents.{node_count}
+use Rattle.tb_column.specs.declared.Sent.{Sent}
+use Rattle.tb_output.specs.declared.RunFault.{RunFault}
+use Rattle.tb_output.specs.declared.RunFault.TheVariants as faults
+use Rattle.tb_output.specs.State.{State, Recorded}
+use Rattle.tb_output.specs.Act.{Acted, went, full, act_on}
+use Rattle.tb_output.specs.ActCalls.{line_of, warnings_sent}
+use Rattle.tb_output.specs.Machine.{state_shown, events_shown}
+use Rattle.tb_output.specs.Output.{out}
+use Rattle.tb_output.specs.Firing.{CanFire, fired_in, whole_work}
+use Rattle.tb_run.specs.declared.happenings.Happening.{Happening}
+use Rattle.tb_run.specs.declared.happenings.Happening.TheVariants as happenings
+use Rattle.tb_run.specs.declared.routine.Routine.{Routine}
+use Rattle.tb_run.specs.declared.routine.Ending.{Ending}
+use Rattle.tb_run.specs.declared.routine.Ending.TheVariants as endings
+use Rattle.tb_run.specs.declared.routine.Filled.{Filled}
+use Rattle.tb_run.specs.declared.routine.Filled.TheVariants as filled
+use Rattle.tb_run.specs.Run.{RunEvent, dead_cycles, Step, ends, after_firing, held_count, step}
+use Rattle.tb_run.specs.ServedStates.{AreRunClasses, IsServed, IsServedPage}
+use Rattle.tb_run.specs.Happenings.{events_of, noted, step_events, happened_lists}
+use Rattle.tb_run.specs.Routine.{held_in, state_of, IsConsistent, IsBounded, between_pages, EndsAs, IsEnded}
+
+-- what was sent, as happenings
+abbrev pub sent_happenings : List Sent → List Happening
+sent_happenings es = map (λ e. happenings.Sent e) es
+
+-- ---- the next event
+
+-- the builder came to this event; if places are wanted none was passed over before it
+pub record HasComeTo (wanted : Bool) (e : Event) (ask : Ask) (r q : Routine) : Type 0 where
+  pub passed : List PassedOver
+  pub comes : ComesBy passed r.builder r.store ask e q.builder q.store
+  pub none : wanted ≡ true → passed ≡ []
+  pub machine : q.machine ≡ r.machine
+  pub most : q.most ≡ r.most
+
+-- ---- an act
+
+-- the machine shows the state after the act, and the warnings were sent
+abbrev pub HasDone : List Boxed → List PlainNode → Routine → Routine → Acted → Type 0
+HasDone boxes waiting r q (went s ws rs) = (state_shown q.store boxes waiting q.machine ≡ s) × (q.machine.events ≡ r.machine.events ++ warnings_sent ws)
+HasDone boxes waiting r q (full line live) = ⊥
+
+-- the act was done, and the builder holds what it held
+pub record HasActed (a : Act) (r q : Routine) : Type 0 where
+  pub whole : IsConsistent q
+  pub acted : (boxes : List Boxed) (waiting : List PlainNode) → HasDone boxes waiting r q (act_on r.machine.params (state_shown r.store boxes waiting r.machine) a)
+  pub contents : held_in q ≡ held_in r
+  pub builder : q.builder ≡ r.builder
+  pub params : q.machine.params ≡ r.machine.params
+  pub most : q.most ≡ r.most
+
+-- the pool was full, with this many boxes; nothing changed
+pub record HasNotActed (a : Act) (live : ℕ) (r q : Routine) : Type 0 where
+  pub full_pool : (boxes : List Boxed) (waiting : List PlainNode) → act_on r.machine.params (state_shown r.store boxes waiting r.machine) a ≡ full (line_of a) live
+  pub same : q ≡ r
+
+-- ---- a page is filled
+
+-- the firing of a page in this state, after these events and records
+abbrev pub firing_step : Params → List RunEvent → List Recorded → State → Fired → Step
+firing_step p es rs s f =
+    let fired = after_firing p es rs (out p s f) in
+    if int_lt (pos s.dead_cycles) p.maxdeadcycles then fired else ends es rs (dead_cycles s.dead_cycles)
+
+-- the happenings are what is noted of these events, and none has lists
+pub record AreQuiet (wanted : Bool) (hs : List Happening) (es : List RunEvent) : Type 0 where
+  pub events : (store : Lists Node) → events_of store hs ≡ noted wanted es
+  pub lists : happened_lists hs ≡ []
+
+-- the run ends before the page fires
+pub record IsFilledLast (wanted : Bool) (r : Routine) (e : Ending) (q : Routine) (hs : List Happening) : Type 0 where
+  pub quiet : AreQuiet wanted hs (step_events (step r.machine.params (state_of r)))
+  pub ended : EndsAs q (Some e) (step r.machine.params (state_of r))
+  pub whole : IsConsistent q
+  pub params : q.machine.params ≡ r.machine.params
+
+-- with the page that fires, this many nodes are held
+pub record IsBoundedPage (page : Page) (q : Routine) : Type 0 where
+  pub held : fired_count (fired_in q.builder q.store page) + node_count (state_of q).held_page ≤ q.most + 1
+  pub few : q.most ≤ 4194304
+
+-- the page fires in the state after its acts
+pub record IsFiring (wanted : Bool) (r : Routine) (page : Page) (q : Routine) (hs : List Happening) : Type 0 where
+  pub events : List RunEvent
+  pub records : List Recorded
+  pub quiet : AreQuiet wanted hs events
+  pub step_is : step r.machine.params (state_of r) ≡ firing_step r.machine.params events records (state_of q) (fired_in q.builder q.store page)
+  pub whole : IsConsistent q
+  pub can : CanFire q.machine q.builder q.store page
+  pub taken : q.machine.events ≡ []
+  pub params : q.machine.params ≡ r.machine.params
+  pub classes : q.machine.classes ≡ r.machine.classes
+  pub known : AreRunClasses q.machine.classes
+  pub served : IsServedPage (state_of q) (fired_in q.builder q.store page)
+  pub bounded : IsBoundedPage page q
+  pub most : q.most ≡ r.most
+
+-- what the page comes to
+abbrev pub Fills : Bool → Routine → Filled → Routine → List Happening → Type 0
+Fills wanted r (filled.Fires page) q hs = IsFiring wanted r page q hs
+Fills wanted r (filled.Ends e) q hs = IsFilledLast wanted r e q hs
+
+-- ---- the page is served
+
+-- the firing was allowed and went through: the routine shows the state after it
+pub record IsServedOn (page : Page) (r q : Routine) : Type 0 where
+  pub alive : pos r.machine.dead_cycles <ℤ r.machine.params.maxdeadcycles
+  pub done : (whole_work r.machine r.builder r.store page).refused ≡ false
+  pub state : state_of q ≡ (whole_work r.machine r.builder r.store page).state
+  pub sent : events_shown q.store q.machine.events ≡ events_shown r.store r.machine.events ++ (whole_work r.machine r.builder r.store page).sent
+  pub whole : IsConsistent q
+  pub between : held_in q ≡ between_pages (state_of q)
+  pub served : IsServed (held_in q).waiting (state_of q)
+  pub bounded : IsBounded 8388608 q
+
+-- no more than this many nodes are held
+pub record IsWithinLimit (q : Routine) : Type 0 where
+  pub test : int_lt q.machine.params.maxnodes (pos (held_count (state_of q))) ≡ false
+  pub within : pos q.most ≤ℤ q.machine.params.maxnodes
+
+-- more than this many nodes are held
+pub record IsOverLimit (n : ℕ) (q : Routine) : Type 0 where
+  pub test : int_lt q.machine.params.maxnodes (pos (held_count (state_of q))) ≡ true
+  pub count : n ≡ held_count (state_of q)
+
+-- the page limit was met
+pub record IsLimited (n : ℕ) (page : Page) (r q : Routine) : Type 0 where
+  pub alive : pos r.machine.dead_cycles <ℤ r.machine.params.maxdeadcycles
+  pub refused : (whole_work r.machine r.builder r.store page).refused ≡ true
+  pub pages : n + 1 ≡ (whole_work r.machine r.builder r.store page).state.page
+  pub sent : events_shown q.store q.machine.events ≡ events_shown r.store r.machine.events ++ (whole_work r.machine r.builder r.store page).sent
+
+-- as many firings as may be were without a page, and nothing changed
+pub record IsDead (n : ℕ) (r q : Routine) : Type 0 where
+  pub count : n ≡ r.machine.dead_cycles
+  pub reached : r.machine.params.maxdeadcycles ≤ℤ pos r.machine.dead_cycles
+  pub same : q ≡ r
+
+-- a fault of the firing came exactly when the definition has it
+abbrev pub IsFaultOf : RunFault → Page → Routine → Routine → Type 0
+IsFaultOf (faults.DeadCycles n) page r q = IsDead n r q
+IsFaultOf (faults.PageLimit n) page r q = IsLimited n page r q
+IsFaultOf faults.Memory page r q = ⊥
+
+-- after a page was served the run goes on within its limit, or ends so
+abbrev pub ServesTo : Page → Routine → Option Ending → Routine → Type 0
+ServesTo page r None q = IsServedOn page r q × IsWithinLimit q
+ServesTo page r (Some endings.Done) q = ⊥
+ServesTo page r (Some (endings.PoolFull line live)) q = ⊥
+ServesTo page r (Some (endings.Fault f)) q = IsFaultOf f page r q
+ServesTo page r (Some (endings.NodeLimit n)) q = IsServedOn page r q × IsOverLimit n q
+
+-- the page was served, and machine and builder are sound
+pub record Serves (page : Page) (r : Routine) (o : Option Ending) (q : Routine) : Type 0 where
+  pub served : ServesTo page r o q
+  pub ended : IsEnded q
+  pub params : q.machine.params ≡ r.machine.params
+  pub classes : q.machine.classes ≡ r.machine.classes

@@ -1,0 +1,63 @@
+-- What waits at a page builder when nodes were handed to it.
+use Rattle.std.specs.Prelude.{◌≡◌, ℕ, true, List, [], ◌++◌, ◌≤◌, map, length, All, Some}
+use Rattle.std.specs.FinMap.{get}
+use Rattle.tb_pool.specs.Lists.{Lists, IsLive}
+use Rattle.tb_node.specs.declared.What.TheVariants.{Text}
+use Rattle.tb_node.specs.declared.Kind.{Kind}
+use Rattle.tb_node.specs.declared.Kind.TheVariants as kinds
+use Rattle.tb_node.specs.declared.Node.{Node}
+use Rattle.tb_node.specs.Fit.{IsSizedNode}
+use Rattle.tb_node.specs.PlainNodes.{PlainNode, plain_of}
+use Rattle.tb_insert.specs.declared.Class.{Class}
+use Rattle.tb_galley.specs.declared.Leaf.{Leaf}
+use Rattle.tb_galley.specs.declared.LeafKind.{LeafKind}
+use Rattle.tb_galley.specs.declared.LeafKind.TheVariants as leaves
+use Rattle.tb_galley.specs.declared.Item.{Item}
+use Rattle.tb_galley.specs.declared.ItemKind.{ItemKind}
+use Rattle.tb_galley.specs.declared.ItemKind.TheVariants as items
+use Rattle.tb_builder.specs.declared.Builder.{Builder}
+use Rattle.tb_builder.specs.Contents.{contents_of}
+use Rattle.tb_builder.specs.Ownership.{Lacks, has_class, ids_of, owned}
+use Rattle.tb_builder.specs.Courses.{IsSound}
+use Rattle.tb_builder.specs.Contributions.{NoPage}
+
+-- the builder has no page
+pub record CanTake (b : Builder) (s : Lists Node) : Type 0 where
+  pub sound : IsSound b s
+  pub empty : NoPage (contents_of b s)
+
+-- these nodes wait behind those that waited; lists that were not the builder's are as they were, and still not its own
+pub record Waits (ns : List PlainNode) (b : Builder) (s : Lists Node) (d : Builder) (t : Lists Node) : Type 0 where
+  pub sound : IsSound d t
+  pub contents : contents_of d t ≡ record (contents_of b s) { waiting = (contents_of b s).waiting ++ ns }
+  pub others : (q : ℕ) → IsLive s q → Lacks q (owned (ids_of b) s) → get t.lists q ≡ get s.lists q
+  pub apart : (q : ℕ) → IsLive s q → Lacks q (owned (ids_of b) s) → Lacks q (owned (ids_of d) t)
+
+-- a node that is no insertion, as the definitions see it
+abbrev pub lone : ℕ → Kind → PlainNode
+lone line kind = plain_of (λ l. []) (record { line = line; kind = kind })
+
+-- ---- footnotes
+
+-- the node of the store that a box, rule, glue, kern or penalty is
+abbrev pub leaf_kind : LeafKind → Kind
+leaf_kind (leaves.Hbox name h d) = kinds.Hbox (Text name) h d
+leaf_kind (leaves.Rule name h d) = kinds.Rule (Some name) h d
+leaf_kind (leaves.Skip g) = kinds.Skip g
+leaf_kind (leaves.Kern w) = kinds.Kern w
+leaf_kind (leaves.Penalty q) = kinds.Pen q
+
+-- the nodes of a footnote in order
+abbrev pub leaf_list : List Leaf → List Node
+leaf_list ls = map (λ l. record { line = l.line; kind = leaf_kind l.kind }) ls
+
+-- ---- items
+
+-- the class of a footnote is one of these, and its nodes are sized and not too many
+abbrev pub IsItem : List Class → ItemKind → Type 0
+IsItem cs (items.Foot class ls) = (has_class cs class ≡ true) × All IsSizedNode (leaf_list ls) × (length (leaf_list ls) ≤ 8388608)
+IsItem cs _ = Unit {0}
+
+-- the same of each item
+abbrev pub AreItems : List Class → List Item → Type 0
+AreItems cs = All (λ n. IsItem cs n.kind)
