@@ -210,8 +210,8 @@ module _ (k : FloatKind) (Known : ℕ → Type 0) (takes past : List ℕ) (old :
             two = t;
           }
 
-      by_columns : (t f : Bool) → w.state.two_columns ≡ t → w.state.first_column ≡ f → (if not t then w else (if f then Ship.all_wide_pages p true a else puts (made blank_box ∷ Clear.clear_again) w)).refused ≡ false
-          → InHand k Known [] takes past old [] (if not t then w else (if f then Ship.all_wide_pages p true a else puts (made blank_box ∷ Clear.clear_again) w))
+      by_columns : (t f : Bool) → w.state.two_columns ≡ t → w.state.first_column ≡ f → (if not t then w else (if f then Pages.all_wide_pages p true a else puts (made blank_box ∷ Clear.clear_again) w)).refused ≡ false
+          → InHand k Known [] takes past old [] (if not t then w else (if f then Pages.all_wide_pages p true a else puts (made blank_box ∷ Clear.clear_again) w))
       by_columns false f t_is f_is ok = h
       by_columns true true t_is f_is ok = (all_wide-open k Known [] takes past old p r true a ok (opens t_is f_is)).hand
       by_columns true false t_is f_is ok = h
@@ -309,26 +309,26 @@ module _ (k : FloatKind) (Known : ℕ → Type 0) (takes past : List ℕ) (old :
       abbrev height : ℤ
       height = column_height_of p w.state.floats
 
-      top-ordered : HasNone f l.deferred → HasNone f l.here → HasNone f l.bottom → Ordered k Known takes past old text (Place.place_float p places.Top f left w)
+      top-ordered : HasNone f l.deferred → HasNone f l.here → HasNone f l.bottom → Ordered k Known takes past old text (FloatMoves.place_float p places.Top f left w)
       top-ordered a b c = recorded-ordered text (placed f places.Top l height) (record left { top = l.top ++ f ∷ [] }) w w_ok
           (to_top k Known text takes (past ++ sent_lines k w.sent) (old ++ w.records) l w.state.two_columns w.state.first_column w.state.left_column f es current h height l a b c)
 
-      bottom-ordered : HasNone f l.deferred → Ordered k Known takes past old text (Place.place_float p places.Bottom f left w)
+      bottom-ordered : HasNone f l.deferred → Ordered k Known takes past old text (FloatMoves.place_float p places.Bottom f left w)
       bottom-ordered a = recorded-ordered text (placed f places.Bottom l height) (record left { bottom = l.bottom ++ f ∷ [] }) w w_ok
           (to_bottom k Known text takes (past ++ sent_lines k w.sent) (old ++ w.records) l w.state.two_columns w.state.first_column w.state.left_column f es current h height l a)
 
-      here-ordered : HasNone f l.deferred → HasNone f l.bottom → Ordered k Known takes past old (text ++ line_if (is_of k f.class f.line) f.line) (Place.place_float p places.Here f left w)
+      here-ordered : HasNone f l.deferred → HasNone f l.bottom → Ordered k Known takes past old (text ++ line_if (is_of k f.class f.line) f.line) (FloatMoves.place_float p places.Here f left w)
       here-ordered a b = recorded-ordered (text ++ line_if (is_of k f.class f.line) f.line) (placed f places.Here l height) (record left { here = l.here ++ f ∷ [] }) w w_ok
           (to_here k Known text takes (past ++ sent_lines k w.sent) (old ++ w.records) l w.state.two_columns w.state.first_column w.state.left_column f es current h height l a b)
 
-      deferred-ordered : (g : Float) → g.class ≡ f.class → g.line ≡ f.line → Ordered k Known takes past old text (Place.place_float p places.Deferred g left w)
+      deferred-ordered : (g : Float) → g.class ≡ f.class → g.line ≡ f.line → Ordered k Known takes past old text (FloatMoves.place_float p places.Deferred g left w)
       deferred-ordered g c n = to_deferred k Known text takes (past ++ sent_lines k w.sent) (old ++ w.records) l w.state.two_columns w.state.first_column w.state.left_column f es current h g c n
 
       defer-ordered : Ordered k Known takes past old text (Text.defer p f left w)
       defer-ordered = by_places (Text.only_here f)
         where
-          by_places : (t : Bool) → Ordered k Known takes past old text (if t then sends (warned (warnings.Ht f.name)) (Place.place_float p places.Deferred (Text.with_top f) left w) else Place.place_float p places.Deferred f left w)
-          by_places true = warned-ordered text (warnings.Ht f.name) (Place.place_float p places.Deferred (Text.with_top f) left w) w_ok (deferred-ordered (Text.with_top f) refl refl)
+          by_places : (t : Bool) → Ordered k Known takes past old text (if t then sends (warned (warnings.Ht f.name)) (FloatMoves.place_float p places.Deferred (Text.with_top f) left w) else FloatMoves.place_float p places.Deferred f left w)
+          by_places true = warned-ordered text (warnings.Ht f.name) (FloatMoves.place_float p places.Deferred (Text.with_top f) left w) w_ok (deferred-ordered (Text.with_top f) refl refl)
           by_places false = deferred-ordered f refl refl
 
       deferred-gone : Gone k Known takes past old text w (Text.puts_interline p (Text.defer p f left w))
@@ -337,15 +337,15 @@ module _ (k : FloatKind) (Known : ℕ → Type 0) (takes past : List ℕ) (old :
       goes-gone : (vert : Bool) (place : Where) → PassesNone l l.deferred f place → Gone k Known takes past old text w (Text.float_goes p vert f left w place)
       goes-gone vert places.Top n =
           let s = stays (place_float-step p (no_law p) places.Top f left w tt) in
-          interline-gone w (Place.place_float p places.Top f left w) s.put_back s.held s.boxes (top-ordered n.0 n.1 n.2)
+          interline-gone w (FloatMoves.place_float p places.Top f left w) s.put_back s.held s.boxes (top-ordered n.0 n.1 n.2)
       goes-gone vert places.Bottom n =
           let s = stays (place_float-step p (no_law p) places.Bottom f left w tt) in
-          interline-gone w (Place.place_float p places.Bottom f left w) s.put_back s.held s.boxes (bottom-ordered n)
+          interline-gone w (FloatMoves.place_float p places.Bottom f left w) s.put_back s.held s.boxes (bottom-ordered n)
       goes-gone vert places.Page n = absurd n
       goes-gone vert places.Double n = deferred-gone
       goes-gone vert places.Deferred n = deferred-gone
       goes-gone vert places.Here n =
-          let v = Place.place_float p places.Here f left w in
+          let v = FloatMoves.place_float p places.Here f left w in
           let s = stays (place_float-step p (no_law p) places.Here f left w tt) in
           let line = Text.penalty_after p.interlinepenalty v.put_back in
           let x = interline-light k p.interlinepenalty (Text.glue_at_end (last_or (plain (pen p.interlinepenalty)) (map (λ (m : PlainNode). m.kind) v.put_back))) calm in

@@ -118,8 +118,8 @@ clear_wide-none : (k : FloatKind) (p : Params) (w : Work) → PutsNone k w (Clea
 clear_wide-none k p w =
     let a = with_floats (Clear.double_again p w.state.floats) w in
     none_if k w (not w.state.two_columns) w _ (same k w w refl refl refl refl)
-    (none_if k w w.state.first_column (Ship.all_wide_pages p true a) (puts (made blank_box ∷ Clear.clear_again) w)
-    (after k w a (Ship.all_wide_pages p true a) (same k w a refl refl refl refl) (nothing k a (Ship.all_wide_pages p true a) (stays (all_wide_pages-step p (no_law p) true a))))
+    (none_if k w w.state.first_column (Pages.all_wide_pages p true a) (puts (made blank_box ∷ Clear.clear_again) w)
+    (after k w a (Pages.all_wide_pages p true a) (same k w a refl refl refl refl) (nothing k a (Pages.all_wide_pages p true a) (stays (all_wide_pages-step p (no_law p) true a))))
     (some k (made blank_box ∷ Clear.clear_again) w refl refl refl (tt, (tt, (tt, (tt, (tt, (tt, tt))))))))
 
 clear_floats-none : (k : FloatKind) (p : Params) (body : List PlainNode) (w : Work) → AreLight k body → class_lines k body ≡ [] → PutsNone k w (Clear.clear_floats p body w)
@@ -159,7 +159,7 @@ module _ (k : FloatKind) (Known : ℕ → Type 0) (takes past : List ℕ) (old :
     pub ended : int_lt f.penalty eject_penalty ≡ true → class_lines k f.rest ≡ []
     pub serving : int_le eject_penalty f.penalty ≡ false → is_serving f.penalty ≡ true → class_lines k f.body ≡ []
     pub holding : int_le eject_penalty f.penalty ≡ false → is_serving f.penalty ≡ false → class_lines k w.state.held_page ≡ []
-    pub clearing : int_le eject_penalty f.penalty ≡ false → Out.is_int f.penalty Out.clear_penalty ≡ true → class_lines k w.state.held_page ≡ []
+    pub clearing : int_le eject_penalty f.penalty ≡ false → Output.is_int f.penalty Output.clear_penalty ≡ true → class_lines k w.state.held_page ≡ []
     pub ordered : Ordered k Known takes past old (class_lines k w.state.held_page ++ (class_lines k f.body ++ class_lines k f.rest)) w
 
   module _ (b : Begins) where
@@ -182,7 +182,7 @@ module _ (k : FloatKind) (Known : ℕ → Type 0) (takes past : List ℕ) (old :
           boxes = subst (BoxesFloatless k) (sym s.boxes) (emptied-floatless k w.state.boxes);
         }
 
-    at_clear : int_le eject_penalty f.penalty ≡ false → Out.is_int f.penalty Out.clear_penalty ≡ true → class_lines k f.body ≡ [] → (Clear.clear p f.body w).refused ≡ false → Settled k Known takes past old f.rest (Clear.clear p f.body w)
+    at_clear : int_le eject_penalty f.penalty ≡ false → Output.is_int f.penalty Output.clear_penalty ≡ true → class_lines k f.body ≡ [] → (Clear.clear p f.body w).refused ≡ false → Settled k Known takes past old f.rest (Clear.clear p f.body w)
     at_clear h e none ok =
         let c = Clear.clear p f.body w in
         let x = clear-none k p f.body w (footnotes w.state) b.body none in
@@ -243,7 +243,7 @@ module _ (k : FloatKind) (Known : ℕ → Type 0) (takes past : List ℕ) (old :
       at_serve : Settled k Known takes past old f.rest (Text.float_or_note p vert f.body w)
       at_serve = all (first-gone k Known takes past old p calm (class_lines k w.state.held_page) vert _ _ _ w.state.floats.current a refl b.pairs a_ok a_ordered)
 
-    at_hold : int_le eject_penalty f.penalty ≡ false → is_serving f.penalty ≡ false → Settled k Known takes past old f.rest (Out.hold f.body w)
+    at_hold : int_le eject_penalty f.penalty ≡ false → is_serving f.penalty ≡ false → Settled k Known takes past old f.rest (Output.hold f.body w)
     at_hold h e = record {
       ordered = subst (λ t. Ordered k Known takes past old t w) (ap (λ l. l ++ (class_lines k f.body ++ class_lines k f.rest)) (b.holding h e) ∙ ap (λ ns. class_lines k f.body ++ (class_lines k ns ++ class_lines k f.rest)) (sym b.empty)) b.ordered;
       early = subst (λ ns. AreEarly k (ns ++ f.rest)) (sym b.empty) b.early;
@@ -255,19 +255,19 @@ module _ (k : FloatKind) (Known : ℕ → Type 0) (takes past : List ℕ) (old :
     }
 
     -- a firing settles, whatever its penalty is
-    output-settled : (Out.output_by p f w).refused ≡ false → Settled k Known takes past old f.rest (Out.output_by p f w)
-    output-settled ok = by_penalty (int_le eject_penalty f.penalty) (Out.is_int f.penalty Out.clear_penalty) (Out.is_int f.penalty Out.par_penalty) (Out.is_int f.penalty Out.vert_penalty)
+    output-settled : (Output.output_by p f w).refused ≡ false → Settled k Known takes past old f.rest (Output.output_by p f w)
+    output-settled ok = by_penalty (int_le eject_penalty f.penalty) (Output.is_int f.penalty Output.clear_penalty) (Output.is_int f.penalty Output.par_penalty) (Output.is_int f.penalty Output.vert_penalty)
         at_ordinary (λ h e n. at_clear h e n) (λ vert h n ok. at_serve vert h n ok) (λ h e. at_hold h e) b.serving refl refl ok
       where
         by_penalty : (t c x y : Bool)
             → ((Columns.ordinary p f.body w).refused ≡ false → Settled k Known takes past old f.rest (Columns.ordinary p f.body w))
             → (t ≡ false → c ≡ true → class_lines k f.body ≡ [] → (Clear.clear p f.body w).refused ≡ false → Settled k Known takes past old f.rest (Clear.clear p f.body w))
             → ((vert : Bool) → t ≡ false → class_lines k f.body ≡ [] → (Text.float_or_note p vert f.body w).refused ≡ false → Settled k Known takes past old f.rest (Text.float_or_note p vert f.body w))
-            → (t ≡ false → (c || (x || y)) ≡ false → Settled k Known takes past old f.rest (Out.hold f.body w))
+            → (t ≡ false → (c || (x || y)) ≡ false → Settled k Known takes past old f.rest (Output.hold f.body w))
             → (t ≡ false → (c || (x || y)) ≡ true → class_lines k f.body ≡ [])
-            → int_le eject_penalty f.penalty ≡ t → Out.is_int f.penalty Out.clear_penalty ≡ c
-            → (if t then Columns.ordinary p f.body w else (if c then Clear.clear p f.body w else (if x then Text.float_or_note p false f.body w else (if y then Text.float_or_note p true f.body w else Out.hold f.body w)))).refused ≡ false
-            → Settled k Known takes past old f.rest (if t then Columns.ordinary p f.body w else (if c then Clear.clear p f.body w else (if x then Text.float_or_note p false f.body w else (if y then Text.float_or_note p true f.body w else Out.hold f.body w))))
+            → int_le eject_penalty f.penalty ≡ t → Output.is_int f.penalty Output.clear_penalty ≡ c
+            → (if t then Columns.ordinary p f.body w else (if c then Clear.clear p f.body w else (if x then Text.float_or_note p false f.body w else (if y then Text.float_or_note p true f.body w else Output.hold f.body w)))).refused ≡ false
+            → Settled k Known takes past old f.rest (if t then Columns.ordinary p f.body w else (if c then Clear.clear p f.body w else (if x then Text.float_or_note p false f.body w else (if y then Text.float_or_note p true f.body w else Output.hold f.body w))))
         by_penalty true c x y o l s h none t_is c_is ok = o ok
         by_penalty false true x y o l s h none t_is c_is ok = l refl refl (none refl refl) ok
         by_penalty false false true y o l s h none t_is c_is ok = s false refl (none refl refl) ok
@@ -286,11 +286,11 @@ early-between k [] bs ys none endless h = early-join k bs ys endless h
 early-between k (x ∷ xs) bs ys none endless h = (λ e. lines-between k xs bs ys none ∙ h.0 e, early-between k xs bs ys none endless h.1)
 
 module _ (k : FloatKind) (Known : ℕ → Type 0) (takes past : List ℕ) (old : List Recorded) (rest : List PlainNode) where
-  blank-light : (t : Bool) → AreLight k (if t then Out.blank_column ++ Out.blank_column else Out.blank_column) × (class_lines k (if t then Out.blank_column ++ Out.blank_column else Out.blank_column) ≡ [])
+  blank-light : (t : Bool) → AreLight k (if t then Output.blank_column ++ Output.blank_column else Output.blank_column) × (class_lines k (if t then Output.blank_column ++ Output.blank_column else Output.blank_column) ≡ [])
   blank-light true = (record { takes = refl; does = refl; feet = (tt, (tt, (tt, (tt, tt)))); endless = (refl, (refl, (refl, (refl, tt)))) }, refl)
   blank-light false = (record { takes = refl; does = refl; feet = (tt, (tt, tt)); endless = (refl, (refl, tt)) }, refl)
 
-  goal-kept : (g : ℤ) (w : Work) → Settled k Known takes past old rest w → Settled k Known takes past old rest (Out.with_goal g w)
+  goal-kept : (g : ℤ) (w : Work) → Settled k Known takes past old rest w → Settled k Known takes past old rest (Output.with_goal g w)
   goal-kept g w s = record { ordered = s.ordered; early = s.early; none_taken = s.none_taken; none_done = s.none_done; feet = s.feet; held = s.held; boxes = s.boxes }
 
   told-kept : (p : Params) (w : Work) → w.refused ≡ false → Settled k Known takes past old rest w → Settled k Known takes past old rest (sends (warned (warnings.Floats w.state.page)) w)
@@ -319,8 +319,8 @@ module _ (k : FloatKind) (Known : ℕ → Type 0) (takes past : List ℕ) (old :
     boxes = s.boxes;
   }
 
-  goal-settled : (p : Params) (n : ℤ) (w : Work) → w.refused ≡ false → Settled k Known takes past old rest w → Settled k Known takes past old rest (Out.next_goal p n w)
-  goal-settled p n w ok s = by_hold (Out.is_int n Out.hold_penalty)
+  goal-settled : (p : Params) (n : ℤ) (w : Work) → w.refused ≡ false → Settled k Known takes past old rest w → Settled k Known takes past old rest (Output.next_goal p n w)
+  goal-settled p n w ok s = by_hold (Output.is_int n Output.hold_penalty)
     where
       room : ℤ
       room = column_room_of p w.state.floats
@@ -328,18 +328,18 @@ module _ (k : FloatKind) (Known : ℕ → Type 0) (takes past : List ℕ) (old :
       blank : Bool
       blank = w.state.two_columns && not w.state.first_column
 
-      crowded : Settled k Known takes past old rest (Out.leave_column w)
+      crowded : Settled k Known takes past old rest (Output.leave_column w)
       crowded =
           let x = blank-light (w.state.two_columns && not w.state.first_column) in
-          blank-kept (if w.state.two_columns && not w.state.first_column then Out.blank_column ++ Out.blank_column else Out.blank_column) (sends (warned (warnings.Floats w.state.page)) w) x.0 x.1 (told-kept p w ok s)
+          blank-kept (if w.state.two_columns && not w.state.first_column then Output.blank_column ++ Output.blank_column else Output.blank_column) (sends (warned (warnings.Floats w.state.page)) w) x.0 x.1 (told-kept p w ok s)
 
-      by_room : (t : Bool) → Settled k Known takes past old rest (if t then Out.leave_column w else Out.with_goal (column_room_of p w.state.floats) w)
+      by_room : (t : Bool) → Settled k Known takes past old rest (if t then Output.leave_column w else Output.with_goal (column_room_of p w.state.floats) w)
       by_room true = crowded
       by_room false = goal-kept (column_room_of p w.state.floats) w s
 
-      by_hold : (t : Bool) → Settled k Known takes past old rest (if t then Out.with_goal max_dimen w else Out.goal_by p (column_room_of p w.state.floats) w)
+      by_hold : (t : Bool) → Settled k Known takes past old rest (if t then Output.with_goal max_dimen w else Output.goal_by p (column_room_of p w.state.floats) w)
       by_hold true = goal-kept max_dimen w s
-      by_hold false = by_room (Out.is_crowded p (column_room_of p w.state.floats))
+      by_hold false = by_room (Output.is_crowded p (column_room_of p w.state.floats))
 
 -- ---- a firing
 
@@ -354,22 +354,22 @@ pub record FiresInOrder (k : FloatKind) (Known : ℕ → Type 0) (past : List �
   pub ended : int_lt f.penalty eject_penalty ≡ true → class_lines k f.rest ≡ []
   pub serving : int_le eject_penalty f.penalty ≡ false → is_serving f.penalty ≡ true → class_lines k f.body ≡ []
   pub holding : int_le eject_penalty f.penalty ≡ false → is_serving f.penalty ≡ false → class_lines k s.held_page ≡ []
-  pub clearing : int_le eject_penalty f.penalty ≡ false → Out.is_int f.penalty Out.clear_penalty ≡ true → class_lines k s.held_page ≡ []
+  pub clearing : int_le eject_penalty f.penalty ≡ false → Output.is_int f.penalty Output.clear_penalty ≡ true → class_lines k s.held_page ≡ []
   pub again : AreLight k f.held
   pub again_lines : class_lines k f.held ≡ []
   pub rest_feet : HoldFloatless k f.rest
   pub suits : Suits k s.two_columns (deeds f.rest)
 
 -- after a firing that no limit stops the class is in order
-pub out-order : (k : FloatKind) (Known : ℕ → Type 0) (past : List ℕ) (old : List Recorded) (p : Params) → IsReleased k p → int_le p.interlinepenalty eject_penalty ≡ false → (s : State) (f : Fired) → FiresInOrder k Known past old s f → (Out.out p s f).refused ≡ false → (Out.out p s f).state.two_columns ≡ s.two_columns
-    → InOrder k Known (past ++ sent_lines k (Out.out p s f).sent) (old ++ (Out.out p s f).records) (Out.out p s f).state
-unfolding Out.out
-out-order k Known past old p r calm s f h ok columns = all (Out.next_goal p f.penalty (Out.output_by p f (begun (Out.after_page s f)))) (goal-settled k Known (take_lines k f.rest) past old f.rest p f.penalty (Out.output_by p f (begun (Out.after_page s f))) b_ok (output-settled k Known (take_lines k f.rest) past old p r calm f (begun (Out.after_page s f)) begins b_ok)) columns
+pub out-order : (k : FloatKind) (Known : ℕ → Type 0) (past : List ℕ) (old : List Recorded) (p : Params) → IsReleased k p → int_le p.interlinepenalty eject_penalty ≡ false → (s : State) (f : Fired) → FiresInOrder k Known past old s f → (Output.out p s f).refused ≡ false → (Output.out p s f).state.two_columns ≡ s.two_columns
+    → InOrder k Known (past ++ sent_lines k (Output.out p s f).sent) (old ++ (Output.out p s f).records) (Output.out p s f).state
+unfolding Output.out
+out-order k Known past old p r calm s f h ok columns = all (Output.next_goal p f.penalty (Output.output_by p f (begun (Output.after_page s f)))) (goal-settled k Known (take_lines k f.rest) past old f.rest p f.penalty (Output.output_by p f (begun (Output.after_page s f))) b_ok (output-settled k Known (take_lines k f.rest) past old p r calm f (begun (Output.after_page s f)) begins b_ok)) columns
   where
-    b_ok : (Out.output_by p f (begun (Out.after_page s f))).refused ≡ false
-    b_ok = firing-unrefused (next_goal-step p (no_law p) f.penalty (Out.output_by p f (begun (Out.after_page s f)))) ok
+    b_ok : (Output.output_by p f (begun (Output.after_page s f))).refused ≡ false
+    b_ok = firing-unrefused (next_goal-step p (no_law p) f.penalty (Output.output_by p f (begun (Output.after_page s f)))) ok
 
-    begins : Begins k Known (take_lines k f.rest) past old p r calm f (begun (Out.after_page s f))
+    begins : Begins k Known (take_lines k f.rest) past old p r calm f (begun (Output.after_page s f))
     begins = record {
       empty = refl;
       held = h.held;
@@ -390,7 +390,7 @@ out-order k Known past old p r calm s f h ok columns = all (Out.next_goal p f.pe
         subst (λ t. Suits k t (deeds (f.held ++ c.put_back ++ f.rest))) (sym same)
         (subst (Suits k s.two_columns) (sym (deeds-append (f.held ++ c.put_back) f.rest ∙ ap (λ l. l ++ deeds f.rest) (deeds-append f.held c.put_back ∙ ap (λ l. l ++ deeds c.put_back) h.again.does ∙ none))) h.suits)
 
-    all : (c : Work) → Settled k Known (take_lines k f.rest) past old f.rest c → c.state.two_columns ≡ s.two_columns → InOrder k Known (past ++ sent_lines k c.sent) (old ++ c.records) (Out.waiting_again f c).state
+    all : (c : Work) → Settled k Known (take_lines k f.rest) past old f.rest c → c.state.two_columns ≡ s.two_columns → InOrder k Known (past ++ sent_lines k c.sent) (old ++ c.records) (Output.waiting_again f c).state
     all c s same =
         let lines = lines-append k (f.held ++ c.put_back) f.rest ∙ ap (λ l. l ++ class_lines k f.rest) (lines-append k f.held c.put_back ∙ ap (λ l. l ++ class_lines k c.put_back) h.again_lines) in
         let takes = takes-append k (f.held ++ c.put_back) f.rest ∙ ap (λ l. l ++ take_lines k f.rest) (takes-append k f.held c.put_back ∙ ap (λ l. l ++ take_lines k c.put_back) h.again.takes ∙ s.none_taken) in

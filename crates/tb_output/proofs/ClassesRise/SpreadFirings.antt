@@ -34,17 +34,17 @@ records-now r w e = ap (λ t. if t then w else record w { records = w.records ++
 pub sends-now : (e : PlainSent) (w : Work) → w.refused ≡ false → sends e w ≡ record w { sent = w.sent ++ e ∷ [] }
 sends-now e w h = ap (λ t. if t then w else record w { sent = w.sent ++ e ∷ [] }) h
 
-pub ship-is : (p : Params) (sheet : PlainSheet) (w : Work) → (Ship.ship p sheet w).refused ≡ false → Ship.ship p sheet w ≡ record w { state = record w.state { page = w.state.page + 1; dead_cycles = 0 }; sent = w.sent ++ shipped w.state.page sheet ∷ [] }
+pub ship-is : (p : Params) (sheet : PlainSheet) (w : Work) → (Pages.ship p sheet w).refused ≡ false → Pages.ship p sheet w ≡ record w { state = record w.state { page = w.state.page + 1; dead_cycles = 0 }; sent = w.sent ++ shipped w.state.page sheet ∷ [] }
 ship-is p sheet w ok = by_refused w.refused refl ok
   where
     turned : Work
     turned = record w { state = record w.state { page = w.state.page + 1; dead_cycles = 0 } }
 
-    by_limit : w.refused ≡ false → (u : Bool) → (if u then record w { refused = true } else Ship.ship_now sheet w).refused ≡ false → (if u then record w { refused = true } else Ship.ship_now sheet w) ≡ record turned { sent = w.sent ++ shipped w.state.page sheet ∷ [] }
+    by_limit : w.refused ≡ false → (u : Bool) → (if u then record w { refused = true } else Pages.ship_now sheet w).refused ≡ false → (if u then record w { refused = true } else Pages.ship_now sheet w) ≡ record turned { sent = w.sent ++ shipped w.state.page sheet ∷ [] }
     by_limit r true e = cc
     by_limit r false e = sends-now (shipped w.state.page sheet) turned r
 
-    by_refused : (t : Bool) → w.refused ≡ t → (if t then w else (if int_lt p.maxpages (pos w.state.page) then record w { refused = true } else Ship.ship_now sheet w)).refused ≡ false → (if t then w else (if int_lt p.maxpages (pos w.state.page) then record w { refused = true } else Ship.ship_now sheet w)) ≡ record turned { sent = w.sent ++ shipped w.state.page sheet ∷ [] }
+    by_refused : (t : Bool) → w.refused ≡ t → (if t then w else (if int_lt p.maxpages (pos w.state.page) then record w { refused = true } else Pages.ship_now sheet w)).refused ≡ false → (if t then w else (if int_lt p.maxpages (pos w.state.page) then record w { refused = true } else Pages.ship_now sheet w)) ≡ record turned { sent = w.sent ++ shipped w.state.page sheet ∷ [] }
     by_refused true r e = absurd (both_ways w.refused e r)
     by_refused false r e = by_limit r (int_lt p.maxpages (pos w.state.page)) e
 
@@ -54,8 +54,8 @@ module _ (k : FloatKind) (Known : ℕ → Type 0) (text takes past : List ℕ) (
   abbrev pub InHand : List ℕ → Work → Type 0
   InHand mid w = Spread k Known text takes (past ++ sent_lines k w.sent) (old ++ w.records) mid w.state.floats w.state.two_columns w.state.first_column w.state.left_column
 
-  ship-hand : (p : Params) (sheet : PlainSheet) (w : Work) → (Ship.ship p sheet w).refused ≡ false
-      → Spread k Known text takes ((past ++ sent_lines k w.sent) ++ sheet_lines k sheet) (old ++ w.records) [] w.state.floats w.state.two_columns w.state.first_column w.state.left_column → InHand [] (Ship.ship p sheet w)
+  ship-hand : (p : Params) (sheet : PlainSheet) (w : Work) → (Pages.ship p sheet w).refused ≡ false
+      → Spread k Known text takes ((past ++ sent_lines k w.sent) ++ sheet_lines k sheet) (old ++ w.records) [] w.state.floats w.state.two_columns w.state.first_column w.state.left_column → InHand [] (Pages.ship p sheet w)
   ship-hand p sheet w ok h =
       subst (λ x. InHand [] x) (sym (ship-is p sheet w ok))
       (subst (λ b. Spread k Known text takes b (old ++ w.records) [] w.state.floats w.state.two_columns w.state.first_column w.state.left_column) (sent_more sheet w) h)
@@ -72,7 +72,7 @@ module _ (k : FloatKind) (Known : ℕ → Type 0) (text takes past : List ℕ) (
     pub left : left_lines k w.state.left_column ≡ []
     pub two : w.state.two_columns ≡ true
 
-  ship_wide-open : (p : Params) (r : IsReleased k p) (z : Wanted) (cs : List Choice) (w : Work) → company z (wide_waiting p w.state.floats) ≡ Some cs → (Ship.ship_wide p cs w).refused ≡ false → IsOpen w → IsOpen (Ship.ship_wide p cs w)
+  ship_wide-open : (p : Params) (r : IsReleased k p) (z : Wanted) (cs : List Choice) (w : Work) → company z (wide_waiting p w.state.floats) ≡ Some cs → (Pages.ship_wide p cs w).refused ≡ false → IsOpen w → IsOpen (Pages.ship_wide p cs w)
   ship_wide-open p r z cs w is ok h =
       let v = with_floats (with_wide_waiting p (left_floats cs) w.state.floats) w in
       let none = waiting-double (wide_part p) (wide-waits p) (left_floats cs) w.state.floats ∙ h.double in
@@ -87,24 +87,24 @@ module _ (k : FloatKind) (Known : ℕ → Type 0) (text takes past : List ℕ) (
         two = ap (λ (x : Work). x.state.two_columns) e ∙ h.two;
       }
 
-  wide_pages-open : (p : Params) (r : IsReleased k p) (clearing : Bool) (n : ℕ) (w : Work) → (Ship.wide_pages p clearing n w).refused ≡ false → IsOpen w → IsOpen (Ship.wide_pages p clearing n w)
+  wide_pages-open : (p : Params) (r : IsReleased k p) (clearing : Bool) (n : ℕ) (w : Work) → (Pages.wide_pages p clearing n w).refused ≡ false → IsOpen w → IsOpen (Pages.wide_pages p clearing n w)
   wide_pages-open p r clearing zero w ok h = h
-  wide_pages-open p r clearing (suc n) w ok h = by_company (company (Ship.wide_wanted p clearing) (wide_waiting p w.state.floats)) refl ok (λ v x y. wide_pages-open p r clearing n v x y)
+  wide_pages-open p r clearing (suc n) w ok h = by_company (company (Pages.wide_wanted p clearing) (wide_waiting p w.state.floats)) refl ok (λ v x y. wide_pages-open p r clearing n v x y)
     where
-      by_company : (o : Option (List Choice)) → company (Ship.wide_wanted p clearing) (wide_waiting p w.state.floats) ≡ o → (Ship.wide_pages_by (λ v. Ship.wide_pages p clearing n v) p w o).refused ≡ false
-          → ((v : Work) → (Ship.wide_pages p clearing n v).refused ≡ false → IsOpen v → IsOpen (Ship.wide_pages p clearing n v)) → IsOpen (Ship.wide_pages_by (λ v. Ship.wide_pages p clearing n v) p w o)
+      by_company : (o : Option (List Choice)) → company (Pages.wide_wanted p clearing) (wide_waiting p w.state.floats) ≡ o → (Pages.wide_pages_by (λ v. Pages.wide_pages p clearing n v) p w o).refused ≡ false
+          → ((v : Work) → (Pages.wide_pages p clearing n v).refused ≡ false → IsOpen v → IsOpen (Pages.wide_pages p clearing n v)) → IsOpen (Pages.wide_pages_by (λ v. Pages.wide_pages p clearing n v) p w o)
       by_company None is ok again = h
       by_company (Some cs) is ok again =
-          let v = Ship.ship_wide p cs w in
-          again v ok (ship_wide-open p r (Ship.wide_wanted p clearing) cs w is (column-unrefused (wide_pages-step p (no_law p) clearing n v) ok) h)
+          let v = Pages.ship_wide p cs w in
+          again v ok (ship_wide-open p r (Pages.wide_wanted p clearing) cs w is (column-unrefused (wide_pages-step p (no_law p) clearing n v) ok) h)
 
-  pub all_wide-open : (p : Params) (r : IsReleased k p) (clearing : Bool) (w : Work) → (Ship.all_wide_pages p clearing w).refused ≡ false → IsOpen w → IsOpen (Ship.all_wide_pages p clearing w)
+  pub all_wide-open : (p : Params) (r : IsReleased k p) (clearing : Bool) (w : Work) → (Pages.all_wide_pages p clearing w).refused ≡ false → IsOpen w → IsOpen (Pages.all_wide_pages p clearing w)
   all_wide-open p r clearing w ok h = wide_pages-open p r clearing (length (wide_waiting p w.state.floats)) w ok h
 
   -- ---- a page of two columns, and what follows it
 
-  fill_double-hand : (p : Params) (r : IsReleased k p) (w : Work) → IsOpen w → InHand [] (Ship.fill_double p w)
-  fill_double-hand p r w h = lists (Ship.fill_double p w) (fill_double-lists p w) (double-added (wide_part p) p [] (wide_waiting p w.state.floats) w)
+  fill_double-hand : (p : Params) (r : IsReleased k p) (w : Work) → IsOpen w → InHand [] (Pages.fill_double p w)
+  fill_double-hand p r w h = lists (Pages.fill_double p w) (fill_double-lists p w) (double-added (wide_part p) p [] (wide_waiting p w.state.floats) w)
     where
       l : FloatLists
       l = doubled (wide_part p) p w.state.suppress [] (wide_waiting p w.state.floats) w.state.floats
@@ -116,21 +116,21 @@ module _ (k : FloatKind) (Known : ℕ → Type 0) (text takes past : List ℕ) (
           (subst (λ x. Spread k Known text takes (past ++ sent_lines k w.sent) x [] l w.state.two_columns w.state.first_column w.state.left_column) (append_assoc old w.records a.more ∙ ap (λ x. old ++ x) (sym a.whole))
           (filled_double k Known text takes (wide_part p) (wide-waits p) (wide-from k p r) (past ++ sent_lines k w.sent) (old ++ w.records) a.more p w.state.suppress w.state.floats w.state.two_columns w.state.first_column w.state.left_column h.two h.left a.quiet h.hand)))
 
-  ship_pair-hand : (p : Params) (r : IsReleased k p) (c : PlainColumn) (w : Work) → w.state.two_columns ≡ true → w.state.first_column ≡ false → (Ship.ship_pair p c w).refused ≡ false → InHand (class_lines k c.nodes) w → InHand [] (Ship.ship_pair p c w)
+  ship_pair-hand : (p : Params) (r : IsReleased k p) (c : PlainColumn) (w : Work) → w.state.two_columns ≡ true → w.state.first_column ≡ false → (Pages.ship_pair p c w).refused ≡ false → InHand (class_lines k c.nodes) w → InHand [] (Pages.ship_pair p c w)
   ship_pair-hand p r c w t f ok h =
       let l = w.state.floats in
-      let sheet = pair_sheet p l (Ship.left_or c w.state.left_column) c in
-      let a = Ship.ship p sheet w in
-      let b = Ship.without_double a in
-      let d = Ship.all_wide_pages p false b in
+      let sheet = pair_sheet p l (Pages.left_or c w.state.left_column) c in
+      let a = Pages.ship p sheet w in
+      let b = Pages.without_double a in
+      let d = Pages.all_wide_pages p false b in
       let d_ok = column-unrefused (place_double-step p (no_law p) (wide_part p) [] (wide_waiting p d.state.floats) d) ok in
       let b_ok = column-unrefused (wide_pages-step p (no_law p) false (length (wide_waiting p b.state.floats)) b) d_ok in
-      let lines = ap (λ y. y ++ (class_lines k (Ship.left_or c w.state.left_column).nodes ++ class_lines k c.nodes)) (floats_above-lines k places.Double p.dblfloatsep p.dbltextfloatsep l.double)
+      let lines = ap (λ y. y ++ (class_lines k (Pages.left_or c w.state.left_column).nodes ++ class_lines k c.nodes)) (floats_above-lines k places.Double p.dblfloatsep p.dbltextfloatsep l.double)
       ∙ ap (λ y. float_lines k l.double ++ (y ++ class_lines k c.nodes)) (left-lines k w.state.two_columns w.state.first_column w.state.left_column c t f h.columns) in
       let gone = shipped_pair k Known text takes (past ++ sent_lines k w.sent) (class_lines k c.nodes) (old ++ w.records) l w.state.two_columns w.state.first_column w.state.left_column h in
       let e = ship-is p sheet w b_ok in
       fill_double-hand p r d (all_wide-open p r false b d_ok (record {
-        hand = subst (λ (x : Work). InHand [] (Ship.without_double x)) (sym e) (subst (λ y. Spread k Known text takes y (old ++ w.records) [] (record l { double = [] }) w.state.two_columns true None) (more sheet w (float_lines k l.double ++ (left_lines k w.state.left_column ++ class_lines k c.nodes)) lines) gone);
+        hand = subst (λ (x : Work). InHand [] (Pages.without_double x)) (sym e) (subst (λ y. Spread k Known text takes y (old ++ w.records) [] (record l { double = [] }) w.state.two_columns true None) (more sheet w (float_lines k l.double ++ (left_lines k w.state.left_column ++ class_lines k c.nodes)) lines) gone);
         double = refl;
         left = refl;
         two = ap (λ (x : Work). x.state.two_columns) e ∙ t;
@@ -142,16 +142,16 @@ module _ (k : FloatKind) (Known : ℕ → Type 0) (text takes past : List ℕ) (
   -- ---- a column
 
   -- a column that is recorded and in hand goes to its page
-  pub put_out_by-hand : (p : Params) (r : IsReleased k p) (c : PlainColumn) (w : Work) → (Ship.put_out_by p c w).refused ≡ false → InHand (class_lines k c.nodes) w → InHand [] (Ship.put_out_by p c w)
+  pub put_out_by-hand : (p : Params) (r : IsReleased k p) (c : PlainColumn) (w : Work) → (Pages.put_out_by p c w).refused ≡ false → InHand (class_lines k c.nodes) w → InHand [] (Pages.put_out_by p c w)
   put_out_by-hand p r c w ok h = by_columns w.state.two_columns w.state.first_column refl refl ok
     where
-      by_columns : (t f : Bool) → w.state.two_columns ≡ t → w.state.first_column ≡ f → (if not t then Ship.ship p (one c) w else (if f then Ship.keep_left c w else Ship.ship_pair p c w)).refused ≡ false → InHand [] (if not t then Ship.ship p (one c) w else (if f then Ship.keep_left c w else Ship.ship_pair p c w))
+      by_columns : (t f : Bool) → w.state.two_columns ≡ t → w.state.first_column ≡ f → (if not t then Pages.ship p (one c) w else (if f then Pages.keep_left c w else Pages.ship_pair p c w)).refused ≡ false → InHand [] (if not t then Pages.ship p (one c) w else (if f then Pages.keep_left c w else Pages.ship_pair p c w))
       by_columns false f t_is f_is ok = ship-hand p (one c) w ok (shipped_alone k Known text takes (past ++ sent_lines k w.sent) (class_lines k c.nodes) (old ++ w.records) w.state.floats w.state.first_column w.state.left_column w.state.two_columns (h.single t_is) (no-left k w.state.two_columns w.state.first_column w.state.left_column t_is h.columns) h)
       by_columns true true t_is f_is ok = kept_left k Known text takes (past ++ sent_lines k w.sent) (old ++ w.records) c w.state.floats w.state.two_columns w.state.first_column w.state.left_column t_is f_is h
       by_columns true false t_is f_is ok = ship_pair-hand p r c w t_is f_is ok h
 
   -- a column in hand, whose floats are none of the text, is put out
-  pub put_out-hand : (p : Params) (r : IsReleased k p) (c : PlainColumn) (w : Work) → AllByRecursion (λ n. IsMissing n (class_lines k c.nodes)) text → (Ship.put_out p c w).refused ≡ false → InHand (class_lines k c.nodes) w → InHand [] (Ship.put_out p c w)
+  pub put_out-hand : (p : Params) (r : IsReleased k p) (c : PlainColumn) (w : Work) → AllByRecursion (λ n. IsMissing n (class_lines k c.nodes)) text → (Pages.put_out p c w).refused ≡ false → InHand (class_lines k c.nodes) w → InHand [] (Pages.put_out p c w)
   put_out-hand p r c w apart ok h =
       let v = records_also (output c) w in
       let v_ok = column-unrefused (put_out_by-step p (no_law p) c v) ok in
@@ -166,9 +166,9 @@ module _ (k : FloatKind) (Known : ℕ → Type 0) (text takes past : List ℕ) (
   company-hand p r z cs w is ok h =
       let c = single_floats_column p (column_height_of p w.state.floats) (chosen_floats cs) in
       let e = floats_column-lines k (column_height_of p w.state.floats) p.fptop p.fpsep p.fpbot (chosen_floats cs) in
-      put_out-hand p r c (Ship.with_deferred (left_floats cs) w)
+      put_out-hand p r c (Pages.with_deferred (left_floats cs) w)
       (subst (λ y. AllByRecursion (λ n. IsMissing n y) text) (sym e) (behind-missing k text (chosen_floats cs) (company-all (IsBehind k text) z w.state.floats.deferred cs is (all-front (IsBehind k text) w.state.floats.deferred w.state.floats.second h.behind)).0)) ok
-      (subst (λ y. InHand y (Ship.with_deferred (left_floats cs) w)) (sym e) (chosen k Known text takes (past ++ sent_lines k w.sent) (old ++ w.records) z cs w.state.floats w.state.two_columns w.state.first_column w.state.left_column is h))
+      (subst (λ y. InHand y (Pages.with_deferred (left_floats cs) w)) (sym e) (chosen k Known text takes (past ++ sent_lines k w.sent) (old ++ w.records) z cs w.state.floats w.state.two_columns w.state.first_column w.state.left_column is h))
 
   pub float_columns-hand : (p : Params) (r : IsReleased k p) (clearing : Bool) (n : ℕ) (w : Work) → (Columns.float_columns p clearing n w).refused ≡ false → InHand [] w → InHand [] (Columns.float_columns p clearing n w)
   float_columns-hand p r clearing zero w ok h = h

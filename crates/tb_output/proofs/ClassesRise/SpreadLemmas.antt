@@ -85,7 +85,7 @@ no-first k t true None e c = refl
 no-first k true true (Some x) e c = absurd c
 no-first k false true (Some x) e c = absurd c
 
-pub left-lines : (k : FloatKind) (t f : Bool) (o : Option PlainColumn) (c : PlainColumn) → t ≡ true → f ≡ false → ColumnsFit t f o → class_lines k (Ship.left_or c o).nodes ≡ left_lines k o
+pub left-lines : (k : FloatKind) (t f : Bool) (o : Option PlainColumn) (c : PlainColumn) → t ≡ true → f ≡ false → ColumnsFit t f o → class_lines k (Pages.left_or c o).nodes ≡ left_lines k o
 left-lines k true true o c h e x = cc
 left-lines k true false None c h e x = absurd x
 left-lines k true false (Some y) c h e x = refl

@@ -114,8 +114,8 @@ module _ (m mid : MachineView) (s : Lists Node) (clearing : Bool) (w : FloatPool
 
   module _ (to : Fact) (h : IsChosen single parts.Deferred m.pool w) (is_mid : mid ≡ record m { pool = without_marked parts.Deferred w }) (c : PlainColumn) (shown : c ≡ float_column_of false m.params (column_height_of m.params m.pool.lists) (marked_floats parts.Deferred w)) where
     -- they leave the lists
-    deferred-left : Does (shows m s) (shows mid s) (Ship.with_deferred (left_floats h.choices))
-    deferred-left = floats-do m mid s (with_floats_of parts.Deferred (left_floats h.choices) m.pool.lists) (Ship.with_deferred (left_floats h.choices))
+    deferred-left : Does (shows m s) (shows mid s) (Pages.with_deferred (left_floats h.choices))
+    deferred-left = floats-do m mid s (with_floats_of parts.Deferred (left_floats h.choices) m.pool.lists) (Pages.with_deferred (left_floats h.choices))
         (is_mid ∙ (λ i. record m { pool = (ap (λ (n : MachineView). n.pool) (sym is_mid)) i }))
         (ap (λ (n : MachineView). n.pool.lists) is_mid ∙ left-lists single m.pool w parts.Deferred tt h)
         (λ v served floats flags. record { state = ap (λ (l : FloatLists). record v.state { floats = record l { deferred = left_floats h.choices } }) floats; put_back = refl; sent = refl; refused = refl })
@@ -123,38 +123,38 @@ module _ (m mid : MachineView) (s : Lists Node) (clearing : Bool) (w : FloatPool
     column-is : single_floats_column m.params (column_height_of m.params m.pool.lists) (chosen_floats h.choices) ≡ c
     column-is = sym (shown ∙ ap (single_floats_column m.params (column_height_of m.params m.pool.lists)) h.marked)
 
-    done-is : (v : Work) → v.state.floats ≡ m.pool.lists → column_done m.params clearing v ≡ Ship.put_out m.params c (Ship.with_deferred (left_floats h.choices) v)
+    done-is : (v : Work) → v.state.floats ≡ m.pool.lists → column_done m.params clearing v ≡ Pages.put_out m.params c (Pages.with_deferred (left_floats h.choices) v)
     done-is v floats =
         ap (λ (l : FloatLists). Columns.float_columns_by (λ u. u) m.params v (company (Columns.single_wanted m.params l clearing) l.deferred)) floats
         ∙ ap (Columns.float_columns_by (λ u. u) m.params v) h.found
-        ∙ ap (λ (l : FloatLists). Ship.put_out m.params (single_floats_column m.params (column_height_of m.params l) (chosen_floats h.choices)) (Ship.with_deferred (left_floats h.choices) v)) floats
-        ∙ ap (λ k. Ship.put_out m.params k (Ship.with_deferred (left_floats h.choices) v)) column-is
+        ∙ ap (λ (l : FloatLists). Pages.put_out m.params (single_floats_column m.params (column_height_of m.params l) (chosen_floats h.choices)) (Pages.with_deferred (left_floats h.choices) v)) floats
+        ∙ ap (λ k. Pages.put_out m.params k (Pages.with_deferred (left_floats h.choices) v)) column-is
 
     -- a column of them is put out
-    pub company-out : Does (shows mid s) to (Ship.put_out m.params c) → Does (shows m s) to (column_done m.params clearing)
-    company-out does before v k = subst (to before) (sym (done-is v (floats-are m s before v k))) (does before (Ship.with_deferred (left_floats h.choices) v) (deferred-left before v k))
+    pub company-out : Does (shows mid s) to (Pages.put_out m.params c) → Does (shows m s) to (column_done m.params clearing)
+    company-out does before v k = subst (to before) (sym (done-is v (floats-are m s before v k))) (does before (Pages.with_deferred (left_floats h.choices) v) (deferred-left before v k))
 
   abbrev wide_from : Part
   wide_from = wide_part m.params
 
-  module _ (to : Fact) (h : IsChosen (Ship.wide_wanted m.params clearing) wide_from m.pool w) (is_mid : mid ≡ record m { pool = without_marked wide_from w }) (c : PlainColumn) (shown : c ≡ float_column_of true m.params m.params.textheight (marked_floats wide_from w)) where
+  module _ (to : Fact) (h : IsChosen (Pages.wide_wanted m.params clearing) wide_from m.pool w) (is_mid : mid ≡ record m { pool = without_marked wide_from w }) (c : PlainColumn) (shown : c ≡ float_column_of true m.params m.params.textheight (marked_floats wide_from w)) where
     wide-left : Does (shows m s) (shows mid s) (λ v. with_floats (with_wide_waiting m.params (left_floats h.choices) v.state.floats) v)
     wide-left = floats-do m mid s (with_floats_of wide_from (left_floats h.choices) m.pool.lists) (λ v. with_floats (with_wide_waiting m.params (left_floats h.choices) v.state.floats) v)
         (is_mid ∙ (λ i. record m { pool = (ap (λ (n : MachineView). n.pool) (sym is_mid)) i }))
-        (ap (λ (n : MachineView). n.pool.lists) is_mid ∙ left-lists (Ship.wide_wanted m.params clearing) m.pool w wide_from (wide-waits m.params) h)
+        (ap (λ (n : MachineView). n.pool.lists) is_mid ∙ left-lists (Pages.wide_wanted m.params clearing) m.pool w wide_from (wide-waits m.params) h)
         (λ v served floats flags. record { state = ap (λ (l : FloatLists). record v.state { floats = with_wide_waiting m.params (left_floats h.choices) l }) floats; put_back = refl; sent = refl; refused = refl })
 
     page-is : wide_floats_column m.params m.params.textheight (chosen_floats h.choices) ≡ c
     page-is = sym (shown ∙ ap (wide_floats_column m.params m.params.textheight) h.marked)
 
-    wide-is : (v : Work) → v.state.floats ≡ m.pool.lists → wide_done m.params clearing v ≡ Ship.ship m.params (wide c) (with_floats (with_wide_waiting m.params (left_floats h.choices) v.state.floats) v)
+    wide-is : (v : Work) → v.state.floats ≡ m.pool.lists → wide_done m.params clearing v ≡ Pages.ship m.params (wide c) (with_floats (with_wide_waiting m.params (left_floats h.choices) v.state.floats) v)
     wide-is v floats =
-        ap (λ (l : FloatLists). Ship.wide_pages_by (λ u. u) m.params v (company (Ship.wide_wanted m.params clearing) (wide_waiting m.params l))) floats
-        ∙ ap (Ship.wide_pages_by (λ u. u) m.params v) h.found
-        ∙ ap (λ k. Ship.ship m.params (wide k) (with_floats (with_wide_waiting m.params (left_floats h.choices) v.state.floats) v)) page-is
+        ap (λ (l : FloatLists). Pages.wide_pages_by (λ u. u) m.params v (company (Pages.wide_wanted m.params clearing) (wide_waiting m.params l))) floats
+        ∙ ap (Pages.wide_pages_by (λ u. u) m.params v) h.found
+        ∙ ap (λ k. Pages.ship m.params (wide k) (with_floats (with_wide_waiting m.params (left_floats h.choices) v.state.floats) v)) page-is
 
     -- a page of them is shipped
-    pub wide-out : Does (shows mid s) to (Ship.ship m.params (wide c)) → Does (shows m s) to (wide_done m.params clearing)
+    pub wide-out : Does (shows mid s) to (Pages.ship m.params (wide c)) → Does (shows m s) to (wide_done m.params clearing)
     wide-out does before v k = subst (to before) (sym (wide-is v (floats-are m s before v k))) (does before (with_floats (with_wide_waiting m.params (left_floats h.choices) v.state.floats) v) (wide-left before v k))
 
 -- ---- turns
@@ -166,12 +166,12 @@ column-by p w (Some cs) = continues-put_out_company p cs w
 pub continues-column_done : (p : Params) (clearing : Bool) (w : Work) → Continues w (column_done p clearing w)
 continues-column_done p clearing w = column-by p w (company (Columns.single_wanted p w.state.floats clearing) w.state.floats.deferred)
 
-page-by : (p : Params) (w : Work) (o : Option (List Choice)) → Continues w (Ship.wide_pages_by (λ v. v) p w o)
+page-by : (p : Params) (w : Work) (o : Option (List Choice)) → Continues w (Pages.wide_pages_by (λ v. v) p w o)
 page-by p w None = continues-same refl refl refl refl refl
 page-by p w (Some cs) = continues-ship_wide p cs w
 
 pub continues-wide_done : (p : Params) (clearing : Bool) (w : Work) → Continues w (wide_done p clearing w)
-continues-wide_done p clearing w = page-by p w (company (Ship.wide_wanted p clearing) (wide_waiting p w.state.floats))
+continues-wide_done p clearing w = page-by p w (company (Pages.wide_wanted p clearing) (wide_waiting p w.state.floats))
 
 -- ---- one turn after another
 
@@ -188,14 +188,14 @@ columns-then p clearing n w (Some cs) e = refl
 pub columns-turn : (p : Params) (clearing : Bool) (n : ℕ) (w : Work) → Columns.float_columns p clearing (suc n) w ≡ Columns.float_columns p clearing n (column_done p clearing w)
 columns-turn p clearing n w = columns-then p clearing n w (company (Columns.single_wanted p w.state.floats clearing) w.state.floats.deferred) refl
 
-pub pages-over : (p : Params) (clearing : Bool) (n : ℕ) (w : Work) → company (Ship.wide_wanted p clearing) (wide_waiting p w.state.floats) ≡ None → Ship.wide_pages p clearing n w ≡ w
+pub pages-over : (p : Params) (clearing : Bool) (n : ℕ) (w : Work) → company (Pages.wide_wanted p clearing) (wide_waiting p w.state.floats) ≡ None → Pages.wide_pages p clearing n w ≡ w
 pages-over p clearing zero w e = refl
-pages-over p clearing (suc n) w e = ap (Ship.wide_pages_by (λ v. Ship.wide_pages p clearing n v) p w) e
+pages-over p clearing (suc n) w e = ap (Pages.wide_pages_by (λ v. Pages.wide_pages p clearing n v) p w) e
 
-pages-then : (p : Params) (clearing : Bool) (n : ℕ) (w : Work) (o : Option (List Choice)) → company (Ship.wide_wanted p clearing) (wide_waiting p w.state.floats) ≡ o
-    → Ship.wide_pages_by (λ v. Ship.wide_pages p clearing n v) p w o ≡ Ship.wide_pages p clearing n (Ship.wide_pages_by (λ v. v) p w o)
+pages-then : (p : Params) (clearing : Bool) (n : ℕ) (w : Work) (o : Option (List Choice)) → company (Pages.wide_wanted p clearing) (wide_waiting p w.state.floats) ≡ o
+    → Pages.wide_pages_by (λ v. Pages.wide_pages p clearing n v) p w o ≡ Pages.wide_pages p clearing n (Pages.wide_pages_by (λ v. v) p w o)
 pages-then p clearing n w None e = sym (pages-over p clearing n w e)
 pages-then p clearing n w (Some cs) e = refl
 
-pub pages-turn : (p : Params) (clearing : Bool) (n : ℕ) (w : Work) → Ship.wide_pages p clearing (suc n) w ≡ Ship.wide_pages p clearing n (wide_done p clearing w)
-pages-turn p clearing n w = pages-then p clearing n w (company (Ship.wide_wanted p clearing) (wide_waiting p w.state.floats)) refl
+pub pages-turn : (p : Params) (clearing : Bool) (n : ℕ) (w : Work) → Pages.wide_pages p clearing (suc n) w ≡ Pages.wide_pages p clearing n (wide_done p clearing w)
+pages-turn p clearing n w = pages-then p clearing n w (company (Pages.wide_wanted p clearing) (wide_waiting p w.state.floats)) refl

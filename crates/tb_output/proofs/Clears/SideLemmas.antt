@@ -70,7 +70,7 @@ no-sides parts.Second = (record { top = tt; bottom = tt; deferred = tt }, tt)
 
 -- ---- a float goes to a place
 
-pub joined-sides : (from : Part) (place : Where) (f : Float) (l : FloatLists) → NotDouble place → Fitting from f → Sides from l → Sides from (Place.joined_to place f l)
+pub joined-sides : (from : Part) (place : Where) (f : Float) (l : FloatLists) → NotDouble place → Fitting from f → Sides from l → Sides from (FloatMoves.joined_to place f l)
 joined-sides parts.Current place f l n k h = tt
 joined-sides parts.Here place f l n k h = tt
 joined-sides parts.Top place f l n k h = tt
@@ -90,7 +90,7 @@ joined-sides parts.Second places.Double f l n k h = absurd n
 joined-sides parts.Second places.Deferred f l n k h = (record { top = h.0.top; bottom = h.0.bottom; deferred = all-join Single l.deferred (f ∷ []) h.0.deferred (k, tt) }, h.1)
 
 -- a float goes to the double list
-pub doubled-sides : (from : Part) (f : Float) (l : FloatLists) → Sides from l → Sides from (Place.joined_to places.Double f l)
+pub doubled-sides : (from : Part) (f : Float) (l : FloatLists) → Sides from l → Sides from (FloatMoves.joined_to places.Double f l)
 doubled-sides parts.Current f l h = tt
 doubled-sides parts.Here f l h = tt
 doubled-sides parts.Top f l h = tt

@@ -84,11 +84,11 @@ one-flat [] c f e z = let no : false ≡ true = z in cc
 one-flat (n ∷ ns) c f e z = one-kind n.line n.kind ns c.1 f.1 c.0 f.0 e z (λ e z. one-flat ns c.1 f.1 e z)
 
 -- a clear that the list begins with has a flat box before it
-pub clear-ended : (b : Bool) (ns : List PlainNode) → Out.is_int (penalty_at ns) Out.clear_penalty ≡ true → Ended b ns → b ≡ true
+pub clear-ended : (b : Bool) (ns : List PlainNode) → Output.is_int (penalty_at ns) Output.clear_penalty ≡ true → Ended b ns → b ≡ true
 clear-ended b [] h e = let no : false ≡ true = h in cc
 clear-ended b (n ∷ ns) h e = at n.kind h e.0
   where
-    at : (k : PlainKind) → Out.is_int (penalty_at (record { line = n.line; kind = k } ∷ ns)) Out.clear_penalty ≡ true → EndsAt b k → b ≡ true
+    at : (k : PlainKind) → Output.is_int (penalty_at (record { line = n.line; kind = k } ∷ ns)) Output.clear_penalty ≡ true → EndsAt b k → b ≡ true
     at (plain (hbox w x d)) h e = let no : false ≡ true = h in cc
     at (plain (rule name x d)) h e = let no : false ≡ true = h in cc
     at (plain (skip g)) h e = let no : false ≡ true = h in cc
@@ -163,20 +163,20 @@ abbrev behind_front : List PlainNode → List PlainNode
 behind_front rest = made blank_box ∷ Clear.clear_again ++ rest
 
 abbrev behind_break : List PlainNode → List PlainNode
-behind_break rest = made whatsit ∷ made blank_box ∷ made (pen Out.clear_penalty) ∷ rest
+behind_break rest = made whatsit ∷ made blank_box ∷ made (pen Output.clear_penalty) ∷ rest
 
 pub record FrontFits (front : List PlainNode) : Type 0 where
-  pub fits : (rest : List PlainNode) → Fitted eject_penalty (made whatsit ∷ made blank_box ∷ made (pen Out.clear_penalty) ∷ rest) (front ++ (made blank_box ∷ Clear.clear_again ++ rest)) × Paused (front ++ (made blank_box ∷ Clear.clear_again ++ rest))
+  pub fits : (rest : List PlainNode) → Fitted eject_penalty (made whatsit ∷ made blank_box ∷ made (pen Output.clear_penalty) ∷ rest) (front ++ (made blank_box ∷ Clear.clear_again ++ rest)) × Paused (front ++ (made blank_box ∷ Clear.clear_again ++ rest))
   pub idle : AllByRecursion Idle (sorts front)
   pub cost : wait_cost front ≡ 0
 
 front-paused : (front rest : List PlainNode) → AllCalm front → Paused (front ++ (made blank_box ∷ Clear.clear_again ++ rest))
 front-paused front rest c = record { front = front; box_line = 0; what = what.Blank; height = pos 0; depth = pos 0; behind = made (skip filling_glue) ∷ []; line = 0; tail = behind_break rest; whole = sym (append_assoc front (made blank_box ∷ made (skip filling_glue) ∷ []) (made (pen eject_penalty) ∷ behind_break rest)); calm = c; calm_behind = (tt, tt) }
 
-front-fitted : (front rest : List PlainNode) → AllTopmost front → Fitted eject_penalty (made whatsit ∷ made blank_box ∷ made (pen Out.clear_penalty) ∷ rest) (front ++ (made blank_box ∷ Clear.clear_again ++ rest))
+front-fitted : (front rest : List PlainNode) → AllTopmost front → Fitted eject_penalty (made whatsit ∷ made blank_box ∷ made (pen Output.clear_penalty) ∷ rest) (front ++ (made blank_box ∷ Clear.clear_again ++ rest))
 front-fitted front rest t = record { top = front; box_line = 0; what = what.Blank; behind = made (skip filling_glue) ∷ []; line = 0; whole = sym (append_assoc front (made blank_box ∷ made (skip filling_glue) ∷ []) (made (pen eject_penalty) ∷ behind_break rest)); vanish = t; slim = ((grind (arith, ints), refl, refl), tt); flat = refl }
 
-flat-fitted : (front rest : List PlainNode) (l : ℕ) → AllTopmost front → Fitted eject_penalty (made whatsit ∷ made blank_box ∷ made (pen Out.clear_penalty) ∷ rest) ((front ++ flat_box l what.Blank ∷ []) ++ (made blank_box ∷ Clear.clear_again ++ rest))
+flat-fitted : (front rest : List PlainNode) (l : ℕ) → AllTopmost front → Fitted eject_penalty (made whatsit ∷ made blank_box ∷ made (pen Output.clear_penalty) ∷ rest) ((front ++ flat_box l what.Blank ∷ []) ++ (made blank_box ∷ Clear.clear_again ++ rest))
 flat-fitted front rest l t = record { top = front; box_line = l; what = what.Blank; behind = made blank_box ∷ made (skip filling_glue) ∷ []; line = 0; whole = append_assoc front (flat_box l what.Blank ∷ []) (behind_front rest) ∙ sym (append_assoc front (flat_box l what.Blank ∷ made blank_box ∷ made (skip filling_glue) ∷ []) (made (pen eject_penalty) ∷ behind_break rest)); vanish = t; slim = ((refl, refl), ((grind (arith, ints), refl, refl), tt)); flat = refl }
 
 pub front-fits : (p : Params) (body : List PlainNode) → OneFlat body → FrontFits (Clear.cleared_front p body)

@@ -107,12 +107,12 @@ module _ (p : Params) (front : List PlainNode) (quiet_front : AllByRecursion Qui
     at_second : b.state.two_columns ≡ true → Half w (puts (made blank_box ∷ Clear.clear_again) b) front
     at_second t = record { current = x.current ∙ current; here = x.here ∙ here; top = x.top; bottom = x.bottom; boxes = x.boxes; page = x.page; columns = x.columns; single = λ e. never (sym e ∙ t); outcome = inl (subst (λ l. Pending (l ++ made blank_box ∷ Clear.clear_again)) (sym put) (blank-pending front quiet_front)) }
 
-    at_first : b.state.left_column ≡ None → Half w (Ship.all_wide_pages p true (with_floats (Clear.double_again p b.state.floats) b)) front
+    at_first : b.state.left_column ≡ None → Half w (Pages.all_wide_pages p true (with_floats (Clear.double_again p b.state.floats) b)) front
     at_first l =
         let a = with_floats (Clear.double_again p b.state.floats) b in
         let b0 = with_floats (record b.state.floats { double = [] }) b in
         let u : Spares b0 a = waiting-spares (wide_part p) (wide-waits p) (b.state.floats.double ++ wide_waiting p b.state.floats) b0 in
-        let y : Spares b0 (Ship.all_wide_pages p true a) = spared b0 a (Ship.all_wide_pages p true a) u (all_wide-spares p true a) in
+        let y : Spares b0 (Pages.all_wide_pages p true a) = spared b0 a (Pages.all_wide_pages p true a) u (all_wide-spares p true a) in
         let k = all_wide-double p true a in
         let no-double : a.state.floats.double ≡ [] = again-double p b.state.floats in
         record { current = y.current ∙ x.current ∙ current; here = y.here ∙ x.here ∙ here; top = y.top ∙ x.top; bottom = y.bottom ∙ x.bottom; boxes = y.boxes ∙ x.boxes; page = y.page ∙ x.page; columns = y.columns ∙ x.columns; single = λ e. k.0 ∙ no-double; outcome = inr (y.put_back ∙ put, k.0 ∙ no-double, k.1 ∙ l) }
@@ -120,7 +120,7 @@ module _ (p : Params) (front : List PlainNode) (quiet_front : AllByRecursion Qui
     wide-half : Half w (Clear.clear_wide p b) front
     wide-half = by_columns b.state.two_columns b.state.first_column refl refl
       where
-        by_columns : (t f : Bool) → b.state.two_columns ≡ t → b.state.first_column ≡ f → Half w (if not t then b else (if f then Ship.all_wide_pages p true (with_floats (Clear.double_again p b.state.floats) b) else puts (made blank_box ∷ Clear.clear_again) b)) front
+        by_columns : (t f : Bool) → b.state.two_columns ≡ t → b.state.first_column ≡ f → Half w (if not t then b else (if f then Pages.all_wide_pages p true (with_floats (Clear.double_again p b.state.floats) b) else puts (made blank_box ∷ Clear.clear_again) b)) front
         by_columns false f e g = settled (doubled e) (one-left b.state.first_column b.state.left_column (subst (λ t. ColumnsFit t b.state.first_column b.state.left_column) e fits))
         by_columns true true e g = at_first (no-left b.state.two_columns b.state.left_column (subst (λ f. ColumnsFit b.state.two_columns f b.state.left_column) g fits))
         by_columns true false e g = at_second e

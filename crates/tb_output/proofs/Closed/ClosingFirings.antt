@@ -71,19 +71,19 @@ module _ (p : Params) (calm : int_le p.interlinepenalty eject_penalty ≡ false)
   held-real : b ≡ false → HasReal (sorts w.state.held_page) → ⊥
   held-real e h = subst (λ l. HasReal (sorts l)) (free e) h
 
-  hold-closed : int_le eject_penalty f.penalty ≡ false → Out.is_int f.penalty Out.clear_penalty ≡ false → (Out.is_int f.penalty Out.par_penalty || Out.is_int f.penalty Out.vert_penalty) ≡ false → Closed z f d w (Out.hold f.body w)
-  hold-closed h k l = at-hold (Closed z f d w (Out.hold f.body w)) Broken f.penalty h k l at_hold (λ x. absurd x.0) (stands, breaks, here)
+  hold-closed : int_le eject_penalty f.penalty ≡ false → Output.is_int f.penalty Output.clear_penalty ≡ false → (Output.is_int f.penalty Output.par_penalty || Output.is_int f.penalty Output.vert_penalty) ≡ false → Closed z f d w (Output.hold f.body w)
+  hold-closed h k l = at-hold (Closed z f d w (Output.hold f.body w)) Broken f.penalty h k l at_hold (λ x. absurd x.0) (stands, breaks, here)
     where
       by_here : b ≡ false → (w.state.floats.here ≡ []) ⊎ (HasReal (sorts w.state.held_page) ⊎ BreakReal (sorts before) hold) → (w.state.floats.here ≡ []) ⊎ HereFits (sorts f.body) (sorts w.put_back)
       by_here e (inl n) = inl n
       by_here e (inr (inl r)) = absurd (held-real e r)
       by_here e (inr (inr r)) = inr (inl (subst (λ l. HasReal (sorts l)) (sym is_body) (body-real before r)))
 
-      at_hold : Broken hold → Closed z f d w (Out.hold f.body w)
+      at_hold : Broken hold → Closed z f d w (Output.hold f.body w)
       at_hold x = record {
         owed = m;
         done = false;
-        closes = no-put (Out.hold f.body w) refl m false x.1;
+        closes = no-put (Output.hold f.body w) refl m false x.1;
         items = items;
         columns = refl;
         single = single;
@@ -91,7 +91,7 @@ module _ (p : Params) (calm : int_le p.interlinepenalty eject_penalty ≡ false)
         clean = λ e. never e;
       }
 
-  serve-closed : (vert : Bool) → int_le eject_penalty f.penalty ≡ false → Out.is_int f.penalty Out.clear_penalty ≡ false → (Out.is_int f.penalty Out.par_penalty || Out.is_int f.penalty Out.vert_penalty) ≡ true → Closed z f d w (Text.float_or_note p vert f.body w)
+  serve-closed : (vert : Bool) → int_le eject_penalty f.penalty ≡ false → Output.is_int f.penalty Output.clear_penalty ≡ false → (Output.is_int f.penalty Output.par_penalty || Output.is_int f.penalty Output.vert_penalty) ≡ true → Closed z f d w (Text.float_or_note p vert f.body w)
   serve-closed vert h k l = at-serve (Closed z f d w (Text.float_or_note p vert f.body w)) Broken f.penalty h k l at_serve (stands, breaks, here)
     where
       text : List PlainNode
@@ -132,7 +132,7 @@ module _ (p : Params) (calm : int_le p.interlinepenalty eject_penalty ≡ false)
             clean = λ e. never e;
           }
 
-  clear-closed : int_le eject_penalty f.penalty ≡ false → Out.is_int f.penalty Out.clear_penalty ≡ true → Closed z f d w (Clear.clear p f.body w)
+  clear-closed : int_le eject_penalty f.penalty ≡ false → Output.is_int f.penalty Output.clear_penalty ≡ true → Closed z f d w (Clear.clear p f.body w)
   clear-closed h k = at-clear (Closed z f d w (Clear.clear p f.body w)) Broken f.penalty h k at_it (stands, breaks, here)
     where
       by_here : seen_all none (sorts before) ≡ one → b ≡ false → (w.state.floats.here ≡ []) ⊎ (HasReal (sorts w.state.held_page) ⊎ BreakReal (sorts before) clear) → w.state.floats.here ≡ []
@@ -181,10 +181,10 @@ module _ (p : Params) (calm : int_le p.interlinepenalty eject_penalty ≡ false)
       at_it : Broken clear → Closed z f d w (Clear.clear p f.body w)
       at_it x = by_notes (footnotes w.state) refl x.0.1 x.0.0 (no-items w.state.floats.current paired (subst (λ n. entry_items w.state.floats.current ≤ n) x.1.0 items)) (by_here x.0.0 x.0.1 x.2) x.1.1
 
-  pub output-closed : Closed z f d w (Out.output_by p f w)
-  output-closed = by_penalty (int_le eject_penalty f.penalty) (Out.is_int f.penalty Out.clear_penalty) (Out.is_int f.penalty Out.par_penalty) (Out.is_int f.penalty Out.vert_penalty) ordinary-closed clear-closed (serve-closed false) (serve-closed true) hold-closed
+  pub output-closed : Closed z f d w (Output.output_by p f w)
+  output-closed = by_penalty (int_le eject_penalty f.penalty) (Output.is_int f.penalty Output.clear_penalty) (Output.is_int f.penalty Output.par_penalty) (Output.is_int f.penalty Output.vert_penalty) ordinary-closed clear-closed (serve-closed false) (serve-closed true) hold-closed
     where
-      by_penalty : (t c x y : Bool) → (t ≡ true → Closed z f d w (Columns.ordinary p f.body w)) → (t ≡ false → c ≡ true → Closed z f d w (Clear.clear p f.body w)) → (t ≡ false → c ≡ false → (x || y) ≡ true → Closed z f d w (Text.float_or_note p false f.body w)) → (t ≡ false → c ≡ false → (x || y) ≡ true → Closed z f d w (Text.float_or_note p true f.body w)) → (t ≡ false → c ≡ false → (x || y) ≡ false → Closed z f d w (Out.hold f.body w)) → Closed z f d w (if t then Columns.ordinary p f.body w else (if c then Clear.clear p f.body w else (if x then Text.float_or_note p false f.body w else (if y then Text.float_or_note p true f.body w else Out.hold f.body w))))
+      by_penalty : (t c x y : Bool) → (t ≡ true → Closed z f d w (Columns.ordinary p f.body w)) → (t ≡ false → c ≡ true → Closed z f d w (Clear.clear p f.body w)) → (t ≡ false → c ≡ false → (x || y) ≡ true → Closed z f d w (Text.float_or_note p false f.body w)) → (t ≡ false → c ≡ false → (x || y) ≡ true → Closed z f d w (Text.float_or_note p true f.body w)) → (t ≡ false → c ≡ false → (x || y) ≡ false → Closed z f d w (Output.hold f.body w)) → Closed z f d w (if t then Columns.ordinary p f.body w else (if c then Clear.clear p f.body w else (if x then Text.float_or_note p false f.body w else (if y then Text.float_or_note p true f.body w else Output.hold f.body w))))
       by_penalty true c x y h i j k l = h refl
       by_penalty false true x y h i j k l = i refl refl
       by_penalty false false true y h i j k l = j refl refl refl

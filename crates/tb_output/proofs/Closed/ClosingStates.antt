@@ -70,7 +70,7 @@ told_if : (a : Work) (t : Bool) (c d : Work) → Told a c → Told a d → Told 
 told_if a true c d x y = x
 told_if a false c d x y = y
 
-with_goal-told : (g : ℤ) (w : Work) → Told w (Out.with_goal g w)
+with_goal-told : (g : ℤ) (w : Work) → Told w (Output.with_goal g w)
 with_goal-told g w = record { blank = []; back = sym (append-nil w.put_back); quiet = tt; floats = refl; boxes = refl; page = refl; left = refl; columns = refl }
 
 warned-told : (e : PlainSent) (ns : List PlainNode) (w : Work) → AllByRecursion Quiet (tokens ns) → Told w (puts ns (sends e w))
@@ -80,14 +80,14 @@ warned-told e ns w q = by_refused w.refused
     by_refused true = record { blank = ns; back = refl; quiet = q; floats = refl; boxes = refl; page = refl; left = refl; columns = refl }
     by_refused false = record { blank = ns; back = refl; quiet = q; floats = refl; boxes = refl; page = refl; left = refl; columns = refl }
 
-goal-told : (p : Params) (n : ℤ) (w : Work) → Told w (Out.next_goal p n w)
+goal-told : (p : Params) (n : ℤ) (w : Work) → Told w (Output.next_goal p n w)
 goal-told p n w =
-    told_if w (Out.is_int n Out.hold_penalty) (Out.with_goal max_dimen w) (Out.goal_by p (column_room_of p w.state.floats) w) (with_goal-told max_dimen w)
-    (told_if w (Out.is_crowded p (column_room_of p w.state.floats)) (Out.leave_column w) (Out.with_goal (column_room_of p w.state.floats) w) (crowded (w.state.two_columns && not w.state.first_column)) (with_goal-told (column_room_of p w.state.floats) w))
+    told_if w (Output.is_int n Output.hold_penalty) (Output.with_goal max_dimen w) (Output.goal_by p (column_room_of p w.state.floats) w) (with_goal-told max_dimen w)
+    (told_if w (Output.is_crowded p (column_room_of p w.state.floats)) (Output.leave_column w) (Output.with_goal (column_room_of p w.state.floats) w) (crowded (w.state.two_columns && not w.state.first_column)) (with_goal-told (column_room_of p w.state.floats) w))
   where
-    crowded : (t : Bool) → Told w (puts (if t then Out.blank_column ++ Out.blank_column else Out.blank_column) (sends (warned (warnings.Floats w.state.page)) w))
-    crowded true = warned-told (warned (warnings.Floats w.state.page)) (Out.blank_column ++ Out.blank_column) w (tt, (tt, (tt, (tt, tt))))
-    crowded false = warned-told (warned (warnings.Floats w.state.page)) Out.blank_column w (tt, (tt, tt))
+    crowded : (t : Bool) → Told w (puts (if t then Output.blank_column ++ Output.blank_column else Output.blank_column) (sends (warned (warnings.Floats w.state.page)) w))
+    crowded true = warned-told (warned (warnings.Floats w.state.page)) (Output.blank_column ++ Output.blank_column) w (tt, (tt, (tt, (tt, tt))))
+    crowded false = warned-told (warned (warnings.Floats w.state.page)) Output.blank_column w (tt, (tt, tt))
 
 -- ---- held insertions
 
@@ -118,15 +118,15 @@ pub record OutClosed (z : Ways) (d : Bool) (rest : List PlainNode) (s : State) :
   pub front : List PlainNode
   pub whole : s.waiting ≡ front ++ rest
 
-pub out-closed : (ks : List ℕ) (p : Params) → int_le p.interlinepenalty eject_penalty ≡ false → (st : State) (f : Fired) (before : List PlainNode) → f.body ≡ without_insertions before → AllCalm before → AllFree before → (b : Bool) → BreakStands b (seen_all none (sorts before)) f.rest (pen_sort f.penalty) → (z : Ways) (m : ℕ) (d : Bool) → BreakCloses z m d f.rest (pen_sort f.penalty) → (b ≡ false → st.held_page ≡ []) → AllSteady st.held_page → AllSteady f.body → entry_items st.floats.current ≤ m → Paired st.floats.current → Single st → ColumnsFit st.two_columns st.first_column st.left_column → (st.floats.here ≡ []) ⊎ (HasReal (sorts st.held_page) ⊎ BreakReal (sorts before) (pen_sort f.penalty)) → AllIns ks f.held → (d ≡ true → f.held ≡ []) → (notes_in st.classes f.boxes ≡ [] → f.held ≡ []) → BoxesFit st.classes f.boxes → OutClosed z d f.rest (Out.out p st f).state × ((Out.out p st f).state.two_columns ≡ st.two_columns)
-unfolding Out.out
+pub out-closed : (ks : List ℕ) (p : Params) → int_le p.interlinepenalty eject_penalty ≡ false → (st : State) (f : Fired) (before : List PlainNode) → f.body ≡ without_insertions before → AllCalm before → AllFree before → (b : Bool) → BreakStands b (seen_all none (sorts before)) f.rest (pen_sort f.penalty) → (z : Ways) (m : ℕ) (d : Bool) → BreakCloses z m d f.rest (pen_sort f.penalty) → (b ≡ false → st.held_page ≡ []) → AllSteady st.held_page → AllSteady f.body → entry_items st.floats.current ≤ m → Paired st.floats.current → Single st → ColumnsFit st.two_columns st.first_column st.left_column → (st.floats.here ≡ []) ⊎ (HasReal (sorts st.held_page) ⊎ BreakReal (sorts before) (pen_sort f.penalty)) → AllIns ks f.held → (d ≡ true → f.held ≡ []) → (notes_in st.classes f.boxes ≡ [] → f.held ≡ []) → BoxesFit st.classes f.boxes → OutClosed z d f.rest (Output.out p st f).state × ((Output.out p st f).state.two_columns ≡ st.two_columns)
+unfolding Output.out
 out-closed ks p calm st f before is_body calm_before free_before b stands z m d breaks free steady_page steady_body items paired single fit here held quiet_held void_held box =
-    all (Out.output_by p f w) (output-closed p calm f before is_body calm_before free_before b stands z m d breaks w refl free steady_page steady_body items paired single fit here) (Out.next_goal p f.penalty (Out.output_by p f w)) (goal-told p f.penalty (Out.output_by p f w))
+    all (Output.output_by p f w) (output-closed p calm f before is_body calm_before free_before b stands z m d breaks w refl free steady_page steady_body items paired single fit here) (Output.next_goal p f.penalty (Output.output_by p f w)) (goal-told p f.penalty (Output.output_by p f w))
   where
     w : Work
-    w = begun (Out.after_page st f)
+    w = begun (Output.after_page st f)
 
-    all : (c : Work) → Closed z f d (begun (Out.after_page st f)) c → (e : Work) → Told c e → OutClosed z d f.rest (Out.waiting_again f e).state × ((Out.waiting_again f e).state.two_columns ≡ st.two_columns)
+    all : (c : Work) → Closed z f d (begun (Output.after_page st f)) c → (e : Work) → Told c e → OutClosed z d f.rest (Output.waiting_again f e).state × ((Output.waiting_again f e).state.two_columns ≡ st.two_columns)
     all c x e y = (
       record {
         owed = x.owed;
@@ -148,11 +148,11 @@ out-closed ks p calm st f before is_body calm_before free_before b stands z m d 
         no_held : x.done ≡ true → f.held ≡ []
         no_held t = by_reason (x.clean t)
           where
-            by_reason : ((d ≡ true) × (c.state.floats.here ≡ []) × (c.put_back ≡ [])) ⊎ ((notes_in st.classes f.boxes ≡ []) × Emptied (begun (Out.after_page st f)) c × (st.held_page ≡ [])) → f.held ≡ []
+            by_reason : ((d ≡ true) × (c.state.floats.here ≡ []) × (c.put_back ≡ [])) ⊎ ((notes_in st.classes f.boxes ≡ []) × Emptied (begun (Output.after_page st f)) c × (st.held_page ≡ [])) → f.held ≡ []
             by_reason (inl r) = quiet_held r.0
             by_reason (inr r) = void_held r.0
 
-        by_here : (c.state.floats.here ≡ []) ⊎ HereFits (sorts c.state.held_page) (sorts c.put_back) → HereKept (Out.waiting_again f e).state
+        by_here : (c.state.floats.here ≡ []) ⊎ HereFits (sorts c.state.held_page) (sorts c.put_back) → HereKept (Output.waiting_again f e).state
         by_here (inl n) = inl (ap (λ l. l.here) y.floats ∙ n)
         by_here (inr (inl r)) = inr (inl (subst (λ l. HasReal (sorts l)) (sym y.page) r))
         by_here (inr (inr r)) = inr (inr (subst RealFirst (sym sorted) (steady-then (sorts f.held) (sorts c.put_back ++ (sorts y.blank ++ sorts f.rest)) (ins-steady ks f.held held) (r (sorts y.blank ++ sorts f.rest)))))
@@ -163,7 +163,7 @@ out-closed ks p calm st f before is_body calm_before free_before b stands z m d 
             sorted : sorts (f.held ++ e.put_back ++ f.rest) ≡ sorts f.held ++ (sorts c.put_back ++ (sorts y.blank ++ sorts f.rest))
             sorted = sorts-append (f.held ++ e.put_back) f.rest ∙ pieces f.held e.put_back (sorts f.rest) ∙ ap (λ l. sorts f.held ++ (sorts l ++ sorts f.rest)) y.back ∙ ap (λ l. sorts f.held ++ l) (pieces c.put_back y.blank (sorts f.rest))
 
-        by_clean : ((d ≡ true) × (c.state.floats.here ≡ []) × (c.put_back ≡ [])) ⊎ ((notes_in st.classes f.boxes ≡ []) × Emptied (begun (Out.after_page st f)) c × (st.held_page ≡ [])) → ((d ≡ true) × (e.state.floats.here ≡ [])) ⊎ Clean (Out.waiting_again f e).state
+        by_clean : ((d ≡ true) × (c.state.floats.here ≡ []) × (c.put_back ≡ [])) ⊎ ((notes_in st.classes f.boxes ≡ []) × Emptied (begun (Output.after_page st f)) c × (st.held_page ≡ [])) → ((d ≡ true) × (e.state.floats.here ≡ [])) ⊎ Clean (Output.waiting_again f e).state
         by_clean (inl r) = inl (r.0, ap (λ l. l.here) y.floats ∙ r.1)
         by_clean (inr r) = inr (record { weightless = nothing; here = ap (λ l. l.here) (y.floats ∙ r.1.lists) })
           where

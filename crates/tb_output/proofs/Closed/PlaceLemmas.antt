@@ -61,13 +61,13 @@ body-class ks (n ∷ ns) = none-more ks n.line n.kind ns (body-class ks ns)
 ordinary-rest : (b : Bool) (s : Seen) (rest : List PlainNode) (q : ℤ) → int_le eject_penalty q ≡ true → BreakStands b s rest (pen_sort q) → Stands none b (sorts rest)
 ordinary-rest b s rest q h r = at-ordinary (Stands none b (sorts rest)) (BreakStands b s rest) q h (λ r. r) (λ r. r) r
 
-clear-rest : (b : Bool) (s : Seen) (rest : List PlainNode) (q : ℤ) → int_le eject_penalty q ≡ false → Out.is_int q Out.clear_penalty ≡ true → BreakStands b s rest (pen_sort q) → (b ≡ false) × Stands many false (sorts rest)
+clear-rest : (b : Bool) (s : Seen) (rest : List PlainNode) (q : ℤ) → int_le eject_penalty q ≡ false → Output.is_int q Output.clear_penalty ≡ true → BreakStands b s rest (pen_sort q) → (b ≡ false) × Stands many false (sorts rest)
 clear-rest b s rest q h k r = at-clear ((b ≡ false) × Stands many false (sorts rest)) (BreakStands b s rest) q h k (λ r. (r.1, r.2)) r
 
-serve-rest : (b : Bool) (s : Seen) (rest : List PlainNode) (q : ℤ) → int_le eject_penalty q ≡ false → Out.is_int q Out.clear_penalty ≡ false → (Out.is_int q Out.par_penalty || Out.is_int q Out.vert_penalty) ≡ true → BreakStands b s rest (pen_sort q) → Stands many false (sorts rest)
+serve-rest : (b : Bool) (s : Seen) (rest : List PlainNode) (q : ℤ) → int_le eject_penalty q ≡ false → Output.is_int q Output.clear_penalty ≡ false → (Output.is_int q Output.par_penalty || Output.is_int q Output.vert_penalty) ≡ true → BreakStands b s rest (pen_sort q) → Stands many false (sorts rest)
 serve-rest b s rest q h k l r = at-serve (Stands many false (sorts rest)) (BreakStands b s rest) q h k l (λ r. r.1) r
 
-hold-rest : (b : Bool) (s : Seen) (rest : List PlainNode) (q : ℤ) → int_le eject_penalty q ≡ false → Out.is_int q Out.clear_penalty ≡ false → (Out.is_int q Out.par_penalty || Out.is_int q Out.vert_penalty) ≡ false → BreakStands b s rest (pen_sort q) → Stands none true (sorts rest)
+hold-rest : (b : Bool) (s : Seen) (rest : List PlainNode) (q : ℤ) → int_le eject_penalty q ≡ false → Output.is_int q Output.clear_penalty ≡ false → (Output.is_int q Output.par_penalty || Output.is_int q Output.vert_penalty) ≡ false → BreakStands b s rest (pen_sort q) → Stands none true (sorts rest)
 hold-rest b s rest q h k l r = at-hold (Stands none true (sorts rest)) (BreakStands b s rest) q h k l (λ r. r.1) (λ r. absurd r) r
 
 -- ---- a firing
@@ -103,7 +103,7 @@ module _ (ks : List ℕ) (p : Params) (calm : int_le p.interlinepenalty eject_pe
         classes = ap class_numbers x.classes ∙ numbers;
       }
 
-  at_clear : int_le eject_penalty f.penalty ≡ false → Out.is_int f.penalty Out.clear_penalty ≡ true → Ready ks (Clear.clear p f.body w) f.rest
+  at_clear : int_le eject_penalty f.penalty ≡ false → Output.is_int f.penalty Output.clear_penalty ≡ true → Ready ks (Clear.clear p f.body w) f.rest
   at_clear h k =
       let r : (b ≡ false) × Stands many false (sorts f.rest) = clear-rest b s f.rest f.penalty h k rest in
       let x : Puts ks many false w (Clear.clear p f.body w) = clear_by-puts ks p f.body w (footnotes w.state) (steady-extends ks (Clear.cleared_front p f.body) (take-steady (split_of (pos 0) p.splitmaxdepth (map node_shape f.body)).index f.body body) (class-take ks (split_of (pos 0) p.splitmaxdepth (map node_shape f.body)).index f.body body_feet)) in
@@ -119,7 +119,7 @@ module _ (ks : List ℕ) (p : Params) (calm : int_le p.interlinepenalty eject_pe
         classes = ap class_numbers x.classes ∙ numbers;
       }
 
-  at_serve : (vert : Bool) → int_le eject_penalty f.penalty ≡ false → Out.is_int f.penalty Out.clear_penalty ≡ false → (Out.is_int f.penalty Out.par_penalty || Out.is_int f.penalty Out.vert_penalty) ≡ true → Ready ks (Text.float_or_note p vert f.body w) f.rest
+  at_serve : (vert : Bool) → int_le eject_penalty f.penalty ≡ false → Output.is_int f.penalty Output.clear_penalty ≡ false → (Output.is_int f.penalty Output.par_penalty || Output.is_int f.penalty Output.vert_penalty) ≡ true → Ready ks (Text.float_or_note p vert f.body w) f.rest
   at_serve vert h k l =
       let x = serve-puts ks p calm vert f.body w among (steady-extends ks w.state.held_page steady held_feet) (steady-extends ks (Text.without_firing_box f.body) (take-steady (length f.body - 2) f.body body) (class-take ks (length f.body - 2) f.body body_feet)) (opens many false (λ ys k. fewer none false ys k)) in
       record {
@@ -134,7 +134,7 @@ module _ (ks : List ℕ) (p : Params) (calm : int_le p.interlinepenalty eject_pe
         classes = ap class_numbers x.2 ∙ numbers;
       }
 
-  at_hold : int_le eject_penalty f.penalty ≡ false → Out.is_int f.penalty Out.clear_penalty ≡ false → (Out.is_int f.penalty Out.par_penalty || Out.is_int f.penalty Out.vert_penalty) ≡ false → Ready ks (Out.hold f.body w) f.rest
+  at_hold : int_le eject_penalty f.penalty ≡ false → Output.is_int f.penalty Output.clear_penalty ≡ false → (Output.is_int f.penalty Output.par_penalty || Output.is_int f.penalty Output.vert_penalty) ≡ false → Ready ks (Output.hold f.body w) f.rest
   at_hold h k l =
       record {
         held = true;
@@ -148,10 +148,10 @@ module _ (ks : List ℕ) (p : Params) (calm : int_le p.interlinepenalty eject_pe
         classes = numbers;
       }
 
-  output-ready : Ready ks (Out.output_by p f w) f.rest
-  output-ready = by_penalty (int_le eject_penalty f.penalty) (Out.is_int f.penalty Out.clear_penalty) (Out.is_int f.penalty Out.par_penalty) (Out.is_int f.penalty Out.vert_penalty) at_ordinary at_clear (at_serve false) (at_serve true) at_hold
+  output-ready : Ready ks (Output.output_by p f w) f.rest
+  output-ready = by_penalty (int_le eject_penalty f.penalty) (Output.is_int f.penalty Output.clear_penalty) (Output.is_int f.penalty Output.par_penalty) (Output.is_int f.penalty Output.vert_penalty) at_ordinary at_clear (at_serve false) (at_serve true) at_hold
     where
-      by_penalty : (t c x y : Bool) → (t ≡ true → Ready ks (Columns.ordinary p f.body w) f.rest) → (t ≡ false → c ≡ true → Ready ks (Clear.clear p f.body w) f.rest) → (t ≡ false → c ≡ false → (x || y) ≡ true → Ready ks (Text.float_or_note p false f.body w) f.rest) → (t ≡ false → c ≡ false → (x || y) ≡ true → Ready ks (Text.float_or_note p true f.body w) f.rest) → (t ≡ false → c ≡ false → (x || y) ≡ false → Ready ks (Out.hold f.body w) f.rest) → Ready ks (if t then Columns.ordinary p f.body w else (if c then Clear.clear p f.body w else (if x then Text.float_or_note p false f.body w else (if y then Text.float_or_note p true f.body w else Out.hold f.body w)))) f.rest
+      by_penalty : (t c x y : Bool) → (t ≡ true → Ready ks (Columns.ordinary p f.body w) f.rest) → (t ≡ false → c ≡ true → Ready ks (Clear.clear p f.body w) f.rest) → (t ≡ false → c ≡ false → (x || y) ≡ true → Ready ks (Text.float_or_note p false f.body w) f.rest) → (t ≡ false → c ≡ false → (x || y) ≡ true → Ready ks (Text.float_or_note p true f.body w) f.rest) → (t ≡ false → c ≡ false → (x || y) ≡ false → Ready ks (Output.hold f.body w) f.rest) → Ready ks (if t then Columns.ordinary p f.body w else (if c then Clear.clear p f.body w else (if x then Text.float_or_note p false f.body w else (if y then Text.float_or_note p true f.body w else Output.hold f.body w)))) f.rest
       by_penalty true c x y h i j k l = h refl
       by_penalty false true x y h i j k l = i refl refl
       by_penalty false false true y h i j k l = j refl refl refl
@@ -167,10 +167,10 @@ ins-stands : (ks : List ℕ) (ns : List PlainNode) (ys : List Sort) (b : Bool) �
 ins-stands ks [] ys b i h = h
 ins-stands ks (n ∷ ns) ys b i h = ins-more ks n.line n.kind ns ys b i.0 (ins-stands ks ns ys b i.1 h)
 
-ready-placed : (ks : List ℕ) (p : Params) (f : Fired) (w : Work) → AllIns ks f.held → AllOfClass ks f.rest → Ready ks w f.rest → WellPlaced (Out.waiting_again f (Out.next_goal p f.penalty w)).state
-ready-placed ks p f w i g r = all (Out.next_goal p f.penalty w) (goal-puts ks r.seen r.held r.begins p f.penalty w)
+ready-placed : (ks : List ℕ) (p : Params) (f : Fired) (w : Work) → AllIns ks f.held → AllOfClass ks f.rest → Ready ks w f.rest → WellPlaced (Output.waiting_again f (Output.next_goal p f.penalty w)).state
+ready-placed ks p f w i g r = all (Output.next_goal p f.penalty w) (goal-puts ks r.seen r.held r.begins p f.penalty w)
   where
-    all : (c : Work) → Puts ks r.seen r.held w c → WellPlaced (Out.waiting_again f c).state
+    all : (c : Work) → Puts ks r.seen r.held w c → WellPlaced (Output.waiting_again f c).state
     all c x =
         let same : ks ≡ class_numbers c.state.classes = sym (ap class_numbers x.classes ∙ r.classes) in
         let o : Opens ks r.seen r.held c.put_back = x.opens r.opens in
@@ -187,7 +187,7 @@ ready-placed ks p f w i g r = all (Out.next_goal p f.penalty w) (goal-puts ks r.
         parts c = sorts-append (f.held ++ c.put_back) f.rest ∙ ap (λ l. l ++ sorts f.rest) (sorts-append f.held c.put_back) ∙ append_assoc (sorts f.held) (sorts c.put_back) (sorts f.rest)
 
 -- after a firing what waits is well formed again, if the interline penalty forces no break
-pub out-placed : (ks : List ℕ) (p : Params) → int_le p.interlinepenalty eject_penalty ≡ false → (st : State) (f : Fired) (b : Bool) (s : Seen) → (b ≡ false → st.held_page ≡ []) → AllSteady st.held_page → AllOfClass ks st.held_page → AllSteady f.body → AllOfClass ks f.body → AllIns ks f.held → AllOfClass ks f.rest → BreakStands b s f.rest (pen_sort f.penalty) → class_numbers st.classes ≡ ks → AreAmong ks st.classes → WellPlaced (Out.out p st f).state
-unfolding Out.out
+pub out-placed : (ks : List ℕ) (p : Params) → int_le p.interlinepenalty eject_penalty ≡ false → (st : State) (f : Fired) (b : Bool) (s : Seen) → (b ≡ false → st.held_page ≡ []) → AllSteady st.held_page → AllOfClass ks st.held_page → AllSteady f.body → AllOfClass ks f.body → AllIns ks f.held → AllOfClass ks f.rest → BreakStands b s f.rest (pen_sort f.penalty) → class_numbers st.classes ≡ ks → AreAmong ks st.classes → WellPlaced (Output.out p st f).state
+unfolding Output.out
 out-placed ks p calm st f b s free steady held_feet body body_feet i g rest numbers among =
-    ready-placed ks p f (Out.output_by p f (begun (Out.after_page st f))) i g (output-ready ks p calm f b s body rest (begun (Out.after_page st f)) refl free steady body_feet held_feet numbers among)
+    ready-placed ks p f (Output.output_by p f (begun (Output.after_page st f))) i g (output-ready ks p calm f b s body rest (begun (Output.after_page st f)) refl free steady body_feet held_feet numbers among)

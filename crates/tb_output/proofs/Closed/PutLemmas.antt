@@ -109,13 +109,13 @@ begun-stands none b ys k h = h
 begun-stands one b ys k h = absurd k
 begun-stands many b ys k h = fewer none b ys h
 
-blank-extends : (ks : List ℕ) (t : Seen) (b : Bool) → Begins t → Extends ks t b Out.blank_column
+blank-extends : (ks : List ℕ) (t : Seen) (b : Bool) → Begins t → Extends ks t b Output.blank_column
 blank-extends ks none b k = record { by = λ ys h. (tt, (tt, h)); feet = (tt, (tt, tt)) }
 blank-extends ks one b k = absurd k
 blank-extends ks many b k = record { by = λ ys h. (tt, (tt, fewer none b ys h)); feet = (tt, (tt, tt)) }
 
-pub goal-puts : (ks : List ℕ) (t : Seen) (b : Bool) → Begins t → (p : Params) (n : ℤ) (w : Work) → Puts ks t b w (Out.next_goal p n w)
-goal-puts ks t b k p n w = puts_if ks t b p w (Out.is_int n Out.hold_penalty) (Out.with_goal max_dimen w) (Out.goal_by p room w) (same ks t b refl refl refl) (puts_if ks t b p w (Out.is_crowded p room) (Out.leave_column w) (Out.with_goal room w) crowded (same ks t b refl refl refl))
+pub goal-puts : (ks : List ℕ) (t : Seen) (b : Bool) → Begins t → (p : Params) (n : ℤ) (w : Work) → Puts ks t b w (Output.next_goal p n w)
+goal-puts ks t b k p n w = puts_if ks t b p w (Output.is_int n Output.hold_penalty) (Output.with_goal max_dimen w) (Output.goal_by p room w) (same ks t b refl refl refl) (puts_if ks t b p w (Output.is_crowded p room) (Output.leave_column w) (Output.with_goal room w) crowded (same ks t b refl refl refl))
   where
     room : ℤ
     room = column_room_of p w.state.floats
@@ -123,12 +123,12 @@ goal-puts ks t b k p n w = puts_if ks t b p w (Out.is_int n Out.hold_penalty) (O
     told : Work
     told = sends (warned (warnings.Floats w.state.page)) w
 
-    columns : (u : Bool) → Extends ks t b (if u then Out.blank_column ++ Out.blank_column else Out.blank_column)
-    columns true = extends-both ks t b Out.blank_column Out.blank_column (blank-extends ks t b k) (blank-extends ks t b k)
+    columns : (u : Bool) → Extends ks t b (if u then Output.blank_column ++ Output.blank_column else Output.blank_column)
+    columns true = extends-both ks t b Output.blank_column Output.blank_column (blank-extends ks t b k) (blank-extends ks t b k)
     columns false = blank-extends ks t b k
 
-    crowded : Puts ks t b w (Out.leave_column w)
-    crowded = joined ks t b p w told (Out.leave_column w) (sends-put ks t b (warned (warnings.Floats w.state.page)) w) (extended ks t b (if w.state.two_columns && not w.state.first_column then Out.blank_column ++ Out.blank_column else Out.blank_column) told (columns (w.state.two_columns && not w.state.first_column)))
+    crowded : Puts ks t b w (Output.leave_column w)
+    crowded = joined ks t b p w told (Output.leave_column w) (sends-put ks t b (warned (warnings.Floats w.state.page)) w) (extended ks t b (if w.state.two_columns && not w.state.first_column then Output.blank_column ++ Output.blank_column else Output.blank_column) told (columns (w.state.two_columns && not w.state.first_column)))
 
 -- steady nodes may be put back if a page is not held and what follows is well formed after many boxes
 steady-stands : (xs ys : List Sort) → AllByRecursion Steady xs → Stands many false ys → Stands many false (xs ++ ys)
@@ -173,7 +173,7 @@ module _ (ks : List ℕ) (p : Params) (calm : int_le p.interlinepenalty eject_pe
 
   goes-puts : (vert : Bool) (f : Float) (left : FloatLists) (w : Work) (place : Where) → Puts ks many false w (Text.float_goes p vert f left w place)
   goes-puts vert f left w places.Here =
-      let a = Place.place_float p places.Here f left w in
+      let a = FloatMoves.place_float p places.Here f left w in
       let b = Text.puts_interline p a in
       joined ks many false p w b (Text.float_goes p vert f left w places.Here) (interline-puts w a (column-puts ks many false (place_float-step p (no_law p) places.Here f left w tt))) (extended ks many false (Text.here_nodes p vert f) b (steady-extends ks (Text.here_nodes p vert f) (here-steady vert f) (here-class vert f)))
   goes-puts vert f left w places.Top = interline-puts w _ (column-puts ks many false (place_float-step p (no_law p) places.Top f left w tt))
@@ -229,9 +229,9 @@ clear_wide-puts ks p w = by_columns w.state.two_columns
     a : Work
     a = with_floats (Clear.double_again p w.state.floats) w
 
-    by_columns : (t : Bool) → Puts ks many false w (if not t then w else (if w.state.first_column then Ship.all_wide_pages p true a else puts (made blank_box ∷ Clear.clear_again) w))
+    by_columns : (t : Bool) → Puts ks many false w (if not t then w else (if w.state.first_column then Pages.all_wide_pages p true a else puts (made blank_box ∷ Clear.clear_again) w))
     by_columns false = same ks many false refl refl refl
-    by_columns true = puts_if ks many false p w w.state.first_column (Ship.all_wide_pages p true a) (puts (made blank_box ∷ Clear.clear_again) w) (joined ks many false p w a (Ship.all_wide_pages p true a) (same ks many false refl refl refl) (column-puts ks many false (all_wide_pages-step p (no_law p) true a))) (extended ks many false (made blank_box ∷ Clear.clear_again) w (record { by = λ ys h. (tt, (again-extends ks).by ys h); feet = (tt, (again-extends ks).feet) }))
+    by_columns true = puts_if ks many false p w w.state.first_column (Pages.all_wide_pages p true a) (puts (made blank_box ∷ Clear.clear_again) w) (joined ks many false p w a (Pages.all_wide_pages p true a) (same ks many false refl refl refl) (column-puts ks many false (all_wide_pages-step p (no_law p) true a))) (extended ks many false (made blank_box ∷ Clear.clear_again) w (record { by = λ ys h. (tt, (again-extends ks).by ys h); feet = (tt, (again-extends ks).feet) }))
 
 clear_floats-puts : (ks : List ℕ) (p : Params) (body : List PlainNode) (w : Work) → Extends ks many false (Clear.cleared_front p body) → Puts ks many false w (Clear.clear_floats p body w)
 clear_floats-puts ks p body w x =

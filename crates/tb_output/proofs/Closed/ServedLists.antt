@@ -109,13 +109,13 @@ bottom-serves : (p : Params) (f : Float) (es : List Entry) (w : Work) (t : Bool)
 bottom-serves p f es w true = record { columns = refl; current = refl; single = λ h. h; ns = []; back = sym (append-nil w.put_back); steady = tt; here = inl refl }
 bottom-serves p f es w false = record { columns = refl; current = refl; single = λ h. h; ns = []; back = sym (append-nil w.put_back); steady = tt; here = inl refl }
 
-deferred-serves : (p : Params) (f : Float) (es : List Entry) (w : Work) → Served es w (Place.place_float p places.Deferred f (left_of es w) w)
+deferred-serves : (p : Params) (f : Float) (es : List Entry) (w : Work) → Served es w (FloatMoves.place_float p places.Deferred f (left_of es w) w)
 deferred-serves p f es w = record { columns = refl; current = refl; single = λ h. h; ns = []; back = sym (append-nil w.put_back); steady = tt; here = inl refl }
 
 defer-serves : (p : Params) (f : Float) (es : List Entry) (w : Work) → Served es w (Text.defer p f (left_of es w) w)
 defer-serves p f es w = by_places (Text.only_here f)
   where
-    by_places : (t : Bool) → Served es w (if t then sends (warned (warnings.Ht f.name)) (Place.place_float p places.Deferred (Text.with_top f) (left_of es w) w) else Place.place_float p places.Deferred f (left_of es w) w)
+    by_places : (t : Bool) → Served es w (if t then sends (warned (warnings.Ht f.name)) (FloatMoves.place_float p places.Deferred (Text.with_top f) (left_of es w) w) else FloatMoves.place_float p places.Deferred f (left_of es w) w)
     by_places true = then_writes es w _ _ (deferred-serves p (Text.with_top f) es w) (sends-writes (warned (warnings.Ht f.name)) _)
     by_places false = deferred-serves p f es w
 

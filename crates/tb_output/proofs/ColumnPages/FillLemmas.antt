@@ -31,12 +31,12 @@ recorded r w l = by_refused w.refused
     by_refused false = record { state = refl; put_back = refl; sent = refl; refused = refl }
 
 -- a turn of the walk for the next column
-gone : (p : Params) (a : AreaPlace) (f : Float) (before rest : List Float) (w : Work) → HasLists w (Place.place_waiting parts.Deferred p (where_of a) f before rest w) (gone_to a f before rest w.state.floats)
+gone : (p : Params) (a : AreaPlace) (f : Float) (before rest : List Float) (w : Work) → HasLists w (FloatMoves.place_waiting parts.Deferred p (where_of a) f before rest w) (gone_to a f before rest w.state.floats)
 gone p at_top f before rest w = recorded (placed f places.Top w.state.floats (column_height_of p w.state.floats)) w _
 gone p at_bottom f before rest w = recorded (placed f places.Bottom w.state.floats (column_height_of p w.state.floats)) w _
 gone p deferred f before rest w = record { state = refl; put_back = refl; sent = refl; refused = refl }
 
-stays : (a : AreaPlace) (f : Float) (before : List Float) → Place.still_deferred (where_of a) f before ≡ still_before a f before
+stays : (a : AreaPlace) (f : Float) (before : List Float) → FloatMoves.still_deferred (where_of a) f before ≡ still_before a f before
 stays at_top f before = refl
 stays at_bottom f before = refl
 stays deferred f before = refl
@@ -50,19 +50,19 @@ chained w v u l walk g t = record {
 }
 
 -- each deferred float is tried for the next column
-pub next-lists : (p : Params) (before fs : List Float) (w : Work) → HasLists w (Place.place_next p before fs w) (filled p w.state.suppress before fs w.state.floats)
+pub next-lists : (p : Params) (before fs : List Float) (w : Work) → HasLists w (FloatMoves.place_next p before fs w) (filled p w.state.suppress before fs w.state.floats)
 next-lists p before [] w = record { state = refl; put_back = refl; sent = refl; refused = refl }
 next-lists p before (f ∷ rest) w =
     let a = next_area_place p w.state.floats w.state.suppress before f in
-    let v = Place.place_waiting parts.Deferred p (where_of a) f before rest w in
-    let b = Place.still_deferred (where_of a) f before in
+    let v = FloatMoves.place_waiting parts.Deferred p (where_of a) f before rest w in
+    let b = FloatMoves.still_deferred (where_of a) f before in
     let l = gone_to a f before rest w.state.floats in
-    let all = chained w v (Place.place_next p b rest v) l (λ x. filled p x.suppress b rest x.floats) (gone p a f before rest w) (next-lists p b rest v) in
-    subst (λ c. HasLists w (Place.place_next p b rest v) (filled p w.state.suppress c rest l)) (stays a f before) all
+    let all = chained w v (FloatMoves.place_next p b rest v) l (λ x. filled p x.suppress b rest x.floats) (gone p a f before rest w) (next-lists p b rest v) in
+    subst (λ c. HasLists w (FloatMoves.place_next p b rest v) (filled p w.state.suppress c rest l)) (stays a f before) all
 
 -- ---- the same above both columns
 
-gone-double : (from : Part) → IsWaiting from → (p : Params) (b : Bool) (f : Float) (before rest : List Float) (w : Work) → HasLists w (Place.place_waiting from p (if b then places.Double else places.Deferred) f before rest w) (gone_double from b f before rest w.state.floats)
+gone-double : (from : Part) → IsWaiting from → (p : Params) (b : Bool) (f : Float) (before rest : List Float) (w : Work) → HasLists w (FloatMoves.place_waiting from p (if b then places.Double else places.Deferred) f before rest w) (gone_double from b f before rest w.state.floats)
 gone-double parts.Current q p b f before rest w = absurd q
 gone-double parts.Here q p b f before rest w = absurd q
 gone-double parts.Top q p b f before rest w = absurd q
@@ -73,24 +73,24 @@ gone-double parts.Second q p true f before rest w = recorded (placed f places.Do
 gone-double parts.Deferred q p false f before rest w = record { state = refl; put_back = refl; sent = refl; refused = refl }
 gone-double parts.Second q p false f before rest w = record { state = refl; put_back = refl; sent = refl; refused = refl }
 
-stays-double : (b : Bool) (f : Float) (before : List Float) → Place.still_deferred (if b then places.Double else places.Deferred) f before ≡ still_single b f before
+stays-double : (b : Bool) (f : Float) (before : List Float) → FloatMoves.still_deferred (if b then places.Double else places.Deferred) f before ≡ still_single b f before
 stays-double true f before = refl
 stays-double false f before = refl
 
-pub double-lists : (from : Part) → IsWaiting from → (p : Params) (before fs : List Float) (w : Work) → HasLists w (Place.place_double from p before fs w) (doubled from p w.state.suppress before fs w.state.floats)
+pub double-lists : (from : Part) → IsWaiting from → (p : Params) (before fs : List Float) (w : Work) → HasLists w (FloatMoves.place_double from p before fs w) (doubled from p w.state.suppress before fs w.state.floats)
 double-lists from q p before [] w = record { state = refl; put_back = refl; sent = refl; refused = refl }
 double-lists from q p before (f ∷ rest) w =
     let goes = goes_double p w.state.floats w.state.suppress before f in
     let place = if goes then places.Double else places.Deferred in
-    let v = Place.place_waiting from p place f before rest w in
-    let b = Place.still_deferred place f before in
+    let v = FloatMoves.place_waiting from p place f before rest w in
+    let b = FloatMoves.still_deferred place f before in
     let l = gone_double from goes f before rest w.state.floats in
-    let all = chained w v (Place.place_double from p b rest v) l (λ x. doubled from p x.suppress b rest x.floats) (gone-double from q p goes f before rest w) (double-lists from q p b rest v) in
-    subst (λ c. HasLists w (Place.place_double from p b rest v) (doubled from p w.state.suppress c rest l)) (stays-double goes f before) all
+    let all = chained w v (FloatMoves.place_double from p b rest v) l (λ x. doubled from p x.suppress b rest x.floats) (gone-double from q p goes f before rest w) (double-lists from q p b rest v) in
+    subst (λ c. HasLists w (FloatMoves.place_double from p b rest v) (doubled from p w.state.suppress c rest l)) (stays-double goes f before) all
 
 -- what the routine does at the start of a column and of a pair of columns
 pub fill_column-lists : (p : Params) (w : Work) → HasLists w (Columns.fill_column p w) (filled p w.state.suppress [] w.state.floats.deferred w.state.floats)
 fill_column-lists p w = next-lists p [] w.state.floats.deferred w
 
-pub fill_double-lists : (p : Params) (w : Work) → HasLists w (Ship.fill_double p w) (doubled (wide_part p) p w.state.suppress [] (wide_waiting p w.state.floats) w.state.floats)
+pub fill_double-lists : (p : Params) (w : Work) → HasLists w (Pages.fill_double p w) (doubled (wide_part p) p w.state.suppress [] (wide_waiting p w.state.floats) w.state.floats)
 fill_double-lists p w = double-lists (wide_part p) (wide-waits p) p [] (wide_waiting p w.state.floats) w

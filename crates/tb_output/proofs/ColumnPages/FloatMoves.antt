@@ -167,5 +167,5 @@ floats-keep l m now store h is = pooled-keeps now.pool m now h.rest [] store h.s
 pub fill_column-does : (m now : MachineView) (store : Lists Node) → HasFloats (filled_lists m) m now → Does (shows m store) (shows now store) (Columns.fill_column m.params)
 fill_column-does m now store h = floats-do m now store (filled_lists m) (Columns.fill_column m.params) h.rest h.lists (λ w served floats flags. subst (λ (l : FloatLists). HasLists w (Columns.fill_column m.params w) (filled m.params m.suppress [] l.deferred l)) floats (subst (λ s. HasLists w (Columns.fill_column m.params w) (filled m.params s [] w.state.floats.deferred w.state.floats)) flags (fill_column-lists m.params w)))
 
-pub fill_double-does : (m now : MachineView) (store : Lists Node) → HasFloats (doubled_lists m) m now → Does (shows m store) (shows now store) (Ship.fill_double m.params)
-fill_double-does m now store h = floats-do m now store (doubled_lists m) (Ship.fill_double m.params) h.rest h.lists (λ w served floats flags. subst (λ (l : FloatLists). HasLists w (Ship.fill_double m.params w) (doubled (wide_part m.params) m.params m.suppress [] (wide_waiting m.params l) l)) floats (subst (λ s. HasLists w (Ship.fill_double m.params w) (doubled (wide_part m.params) m.params s [] (wide_waiting m.params w.state.floats) w.state.floats)) flags (fill_double-lists m.params w)))
+pub fill_double-does : (m now : MachineView) (store : Lists Node) → HasFloats (doubled_lists m) m now → Does (shows m store) (shows now store) (Pages.fill_double m.params)
+fill_double-does m now store h = floats-do m now store (doubled_lists m) (Pages.fill_double m.params) h.rest h.lists (λ w served floats flags. subst (λ (l : FloatLists). HasLists w (Pages.fill_double m.params w) (doubled (wide_part m.params) m.params m.suppress [] (wide_waiting m.params l) l)) floats (subst (λ s. HasLists w (Pages.fill_double m.params w) (doubled (wide_part m.params) m.params s [] (wide_waiting m.params w.state.floats) w.state.floats)) flags (fill_double-lists m.params w)))

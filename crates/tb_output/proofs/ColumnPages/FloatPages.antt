@@ -105,11 +105,11 @@ module _ (clearing : Bool) (m mid now : MachineView) (store new : Lists Node) (c
   column-none = taken-none single parts.Deferred tt m mid now store new h.machine h.chosen h.marked h.taken c h.opened
 
   -- it is put out
-  pub column-out : (to : Fact) → Does (shows now new) to (Ship.put_out now.params (column_shown new c)) → Does (shows m store) to (column_done m.params clearing)
+  pub column-out : (to : Fact) → Does (shows now new) to (Pages.put_out now.params (column_shown new c)) → Does (shows m store) to (column_done m.params clearing)
   column-out to does =
       let same = taken-is single parts.Deferred tt m mid now store new h.machine h.chosen h.marked h.taken c h.opened in
       does-moved m store new to (column_done m.params clearing) (taken-shown single parts.Deferred tt m mid now store new h.machine h.chosen h.marked h.taken c h.opened)
-      (company-out m now new clearing mid.pool to h.chosen same (column_shown new c) h.shown (subst (λ p. Does (shows now new) to (Ship.put_out p (column_shown new c))) (ap (λ (n : MachineView). n.params) same) does))
+      (company-out m now new clearing mid.pool to h.chosen same (column_shown new c) h.shown (subst (λ p. Does (shows now new) to (Pages.put_out p (column_shown new c))) (ap (λ (n : MachineView). n.params) same) does))
 
   pub column-keeps : (later : MachineView) (last : Lists Node) → KeepsMachine (c.list ∷ []) now later new last → KeepsMachine [] m later store last
   column-keeps later last k = taken-then single parts.Deferred tt m mid now store new h.machine h.chosen h.marked h.taken c h.opened later last k
@@ -119,7 +119,7 @@ module _ (clearing : Bool) (m mid now : MachineView) (store new : Lists Node) (c
 -- the chosen floats were made a wide column
 pub record WideTaken (clearing : Bool) (m mid now : MachineView) (store new : Lists Node) (c : Column) : Type 0 where
   pub machine : IsMachine m store
-  pub chosen : IsChosen (Ship.wide_wanted m.params clearing) (wide_part m.params) m.pool mid.pool
+  pub chosen : IsChosen (Pages.wide_wanted m.params clearing) (wide_part m.params) m.pool mid.pool
   pub marked : mid ≡ record m { pool = mid.pool }
   pub taken : now ≡ record mid { pool = without_marked (wide_part m.params) mid.pool }
   pub opened : IsOpened c.list store new
@@ -129,7 +129,7 @@ pub record WideTaken (clearing : Bool) (m mid now : MachineView) (store new : Li
 pub source-is : (m mid : MachineView) (from : Part) → mid ≡ record m { pool = mid.pool } → from ≡ wide_part mid.params → from ≡ wide_part m.params
 source-is m mid from marked is = is ∙ ap (λ (n : MachineView). wide_part n.params) marked
 
-pub wide-taken : (clearing : Bool) (m mid now : MachineView) (store new : Lists Node) (c : Column) (from : Part) (height : ℤ) → IsMachine m store → IsChosen (Ship.wide_wanted m.params clearing) (wide_part m.params) m.pool mid.pool → mid ≡ record m { pool = mid.pool }
+pub wide-taken : (clearing : Bool) (m mid now : MachineView) (store new : Lists Node) (c : Column) (from : Part) (height : ℤ) → IsMachine m store → IsChosen (Pages.wide_wanted m.params clearing) (wide_part m.params) m.pool mid.pool → mid ≡ record m { pool = mid.pool }
     → from ≡ wide_part mid.params → now ≡ record mid { pool = without_marked from mid.pool } → IsOpened c.list store new → height ≡ mid.params.textheight → column_shown new c ≡ float_column_of true mid.params height (marked_floats from mid.pool) → WideTaken clearing m mid now store new c
 wide-taken clearing m mid now store new c from height is chosen marked is_from taken opened high shown = record {
   machine = is;
@@ -142,7 +142,7 @@ wide-taken clearing m mid now store new c from height is chosen marked is_from t
 
 module _ (clearing : Bool) (m mid now : MachineView) (store new : Lists Node) (c : Column) (h : WideTaken clearing m mid now store new c) where
   abbrev wanted : Wanted
-  wanted = Ship.wide_wanted m.params clearing
+  wanted = Pages.wide_wanted m.params clearing
 
   abbrev waits : IsWaiting (wide_part m.params)
   waits = wide-waits m.params
@@ -150,10 +150,10 @@ module _ (clearing : Bool) (m mid now : MachineView) (store new : Lists Node) (c
   same : now ≡ record m { pool = without_marked (wide_part m.params) mid.pool }
   same = taken-is wanted (wide_part m.params) waits m mid now store new h.machine h.chosen h.marked h.taken c h.opened
 
-  page-out : (to : Fact) → Does (shows now new) to (Ship.ship now.params (wide (column_shown new c))) → Does (shows m store) to (wide_done m.params clearing)
+  page-out : (to : Fact) → Does (shows now new) to (Pages.ship now.params (wide (column_shown new c))) → Does (shows m store) to (wide_done m.params clearing)
   page-out to does =
       does-moved m store new to (wide_done m.params clearing) (taken-shown wanted (wide_part m.params) waits m mid now store new h.machine h.chosen h.marked h.taken c h.opened)
-      (wide-out m now new clearing mid.pool to h.chosen same (column_shown new c) h.shown (subst (λ p. Does (shows now new) to (Ship.ship p (wide (column_shown new c)))) (ap (λ (n : MachineView). n.params) same) does))
+      (wide-out m now new clearing mid.pool to h.chosen same (column_shown new c) h.shown (subst (λ p. Does (shows now new) to (Pages.ship p (wide (column_shown new c)))) (ap (λ (n : MachineView). n.params) same) does))
 
   none : IsNoneOf c.list (machine_lists now)
   none = taken-none wanted (wide_part m.params) waits m mid now store new h.machine h.chosen h.marked h.taken c h.opened
@@ -178,13 +178,13 @@ module _ (clearing : Bool) (m mid now : MachineView) (store new : Lists Node) (c
     page-kept e s = subst (λ n. KeepsMachine [] m n store new) (sym (unshipped-same e now later s)) kept
 
 -- there was no memory: the wide floats wait as before
-module _ (clearing : Bool) (m mid now : MachineView) (store new : Lists Node) (from : Part) (is : IsMachine m store) (chosen : IsChosen (Ship.wide_wanted m.params clearing) (wide_part m.params) m.pool mid.pool) (marked : mid ≡ record m { pool = mid.pool })
+module _ (clearing : Bool) (m mid now : MachineView) (store new : Lists Node) (from : Part) (is : IsMachine m store) (chosen : IsChosen (Pages.wide_wanted m.params clearing) (wide_part m.params) m.pool mid.pool) (marked : mid ≡ record m { pool = mid.pool })
     (is_from : from ≡ wide_part mid.params) (back : now ≡ record mid { pool = without_marks from mid.pool }) (lists : new.lists ≡ store.lists) where
   unchosen : now ≡ record mid { pool = without_marks (wide_part m.params) mid.pool }
   unchosen = back ∙ ap (λ f. record mid { pool = without_marks f mid.pool }) (source-is m mid from marked is_from)
 
   pub wide-keeps : KeepsMachine [] m now store new
-  wide-keeps = back-keeps (Ship.wide_wanted m.params clearing) (wide_part m.params) (wide-waits m.params) m mid now store new is chosen marked unchosen lists
+  wide-keeps = back-keeps (Pages.wide_wanted m.params clearing) (wide_part m.params) (wide-waits m.params) m mid now store new is chosen marked unchosen lists
 
   pub wide-cut : (f : Work → Work) → ((w : Work) → Continues w (f w)) → Does (shows m store) (IsCutShort faults.Memory now new) f
-  wide-cut f goes = back-cut (Ship.wide_wanted m.params clearing) (wide_part m.params) (wide-waits m.params) m mid now store new is chosen marked unchosen lists f goes
+  wide-cut f goes = back-cut (Pages.wide_wanted m.params clearing) (wide_part m.params) (wide-waits m.params) m mid now store new is chosen marked unchosen lists f goes

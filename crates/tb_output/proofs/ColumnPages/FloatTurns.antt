@@ -67,38 +67,38 @@ module _ (clearing : Bool) (n : ℕ) (m mid now : MachineView) (store middle new
 
 -- so many turns are left of the pages
 pub record PagesLeft (clearing : Bool) (n : ℕ) (m now : MachineView) (store new : Lists Node) : Type 0 where
-  pub leads : Leads (shows m store) (shows now new) (Ship.all_wide_pages m.params clearing) (Ship.wide_pages m.params clearing n)
+  pub leads : Leads (shows m store) (shows now new) (Pages.all_wide_pages m.params clearing) (Pages.wide_pages m.params clearing n)
   pub keeps : KeepsMachine [] m now store new
 
 pub pages-begin : (clearing : Bool) (n : ℕ) (m : MachineView) (store : Lists Node) → IsMachine m store → n ≡ length (wide_waiting m.params m.pool.lists) → PagesLeft clearing n m m store store
 pages-begin clearing n m store is count = record {
-  leads = λ before w h. (w, h, ap (λ k. Ship.wide_pages m.params clearing k w) (ap (λ (l : FloatLists). length (wide_waiting m.params l)) (floats-are m store before w h) ∙ sym count));
+  leads = λ before w h. (w, h, ap (λ k. Pages.wide_pages m.params clearing k w) (ap (λ (l : FloatLists). length (wide_waiting m.params l)) (floats-are m store before w h) ∙ sym count));
   keeps = keeps-same [] m store store is refl;
 }
 
 module _ (clearing : Bool) (n : ℕ) (m mid now : MachineView) (store middle new : Lists Node) (h : PagesLeft clearing n m mid store middle) where
   pub pages-next : (k : ℕ) → n ≡ suc k → Does (shows mid middle) (shows now new) (wide_done mid.params clearing) → KeepsMachine [] mid now middle new → PagesLeft clearing k m now store new
   pages-next k e does keeps = record {
-    leads = leads-on (shows m store) (shows mid middle) (shows now new) (Ship.all_wide_pages m.params clearing) (Ship.wide_pages m.params clearing n) (wide_done m.params clearing) (Ship.wide_pages m.params clearing k)
+    leads = leads-on (shows m store) (shows mid middle) (shows now new) (Pages.all_wide_pages m.params clearing) (Pages.wide_pages m.params clearing n) (wide_done m.params clearing) (Pages.wide_pages m.params clearing k)
         h.leads (subst (λ p. Does (shows mid middle) (shows now new) (wide_done p clearing)) h.keeps.fields.params does)
-        (λ before w shown. ap (λ j. Ship.wide_pages m.params clearing j w) e ∙ pages-turn m.params clearing k w);
+        (λ before w shown. ap (λ j. Pages.wide_pages m.params clearing j w) e ∙ pages-turn m.params clearing k w);
     keeps = keeps-then [] [] m mid now store middle new h.keeps keeps (λ q live none. none);
   }
 
-  pub pages-stop : NoWidePage clearing mid now middle new → Does (shows m store) (shows now new) (Ship.all_wide_pages m.params clearing)
-  pages-stop none = leads-does (shows m store) (shows mid middle) (shows now new) (Ship.all_wide_pages m.params clearing) (Ship.wide_pages m.params clearing n) h.leads (λ before w shown.
-      let over : company (Ship.wide_wanted m.params clearing) (wide_waiting m.params w.state.floats) ≡ None =
-      (λ i. company (Ship.wide_wanted (sym h.keeps.fields.params i) clearing) (wide_waiting (sym h.keeps.fields.params i) (floats-are mid middle before w shown i))) ∙ none.none in
+  pub pages-stop : NoWidePage clearing mid now middle new → Does (shows m store) (shows now new) (Pages.all_wide_pages m.params clearing)
+  pages-stop none = leads-does (shows m store) (shows mid middle) (shows now new) (Pages.all_wide_pages m.params clearing) (Pages.wide_pages m.params clearing n) h.leads (λ before w shown.
+      let over : company (Pages.wide_wanted m.params clearing) (wide_waiting m.params w.state.floats) ≡ None =
+      (λ i. company (Pages.wide_wanted (sym h.keeps.fields.params i) clearing) (wide_waiting (sym h.keeps.fields.params i) (floats-are mid middle before w shown i))) ∙ none.none in
       subst (λ v. ShowsWork before now new v) (sym (pages-over m.params clearing n w over)) (unchanged-shows mid now middle new h.keeps.machine none.machine none.lists before w shown))
 
-  pub pages-cut : (e : RunFault) (k : ℕ) → n ≡ suc k → Does (shows mid middle) (IsCutShort e now new) (wide_done mid.params clearing) → Does (shows m store) (IsCutShort e now new) (Ship.all_wide_pages m.params clearing)
-  pages-cut e k count does = leads-does (shows m store) (shows mid middle) (IsCutShort e now new) (Ship.all_wide_pages m.params clearing) (Ship.wide_pages m.params clearing n) h.leads (λ before w shown.
-      subst (λ v. IsCutShort e now new before v) (sym (ap (λ j. Ship.wide_pages m.params clearing j w) count ∙ pages-turn m.params clearing k w))
-      (cut-then (shows mid middle) e now new (wide_done m.params clearing) (Ship.wide_pages m.params clearing k) (subst (λ p. Does (shows mid middle) (IsCutShort e now new) (wide_done p clearing)) h.keeps.fields.params does) (continues-wide_pages m.params clearing k) before w shown))
+  pub pages-cut : (e : RunFault) (k : ℕ) → n ≡ suc k → Does (shows mid middle) (IsCutShort e now new) (wide_done mid.params clearing) → Does (shows m store) (IsCutShort e now new) (Pages.all_wide_pages m.params clearing)
+  pages-cut e k count does = leads-does (shows m store) (shows mid middle) (IsCutShort e now new) (Pages.all_wide_pages m.params clearing) (Pages.wide_pages m.params clearing n) h.leads (λ before w shown.
+      subst (λ v. IsCutShort e now new before v) (sym (ap (λ j. Pages.wide_pages m.params clearing j w) count ∙ pages-turn m.params clearing k w))
+      (cut-then (shows mid middle) e now new (wide_done m.params clearing) (Pages.wide_pages m.params clearing k) (subst (λ p. Does (shows mid middle) (IsCutShort e now new) (wide_done p clearing)) h.keeps.fields.params does) (continues-wide_pages m.params clearing k) before w shown))
 
-  pub pages-all : n ≡ 0 → Does (shows m store) (shows mid middle) (Ship.all_wide_pages m.params clearing)
-  pages-all e = leads-does (shows m store) (shows mid middle) (shows mid middle) (Ship.all_wide_pages m.params clearing) (Ship.wide_pages m.params clearing n) h.leads (λ before w shown.
-      subst (λ k. ShowsWork before mid middle (Ship.wide_pages m.params clearing k w)) (sym e) shown)
+  pub pages-all : n ≡ 0 → Does (shows m store) (shows mid middle) (Pages.all_wide_pages m.params clearing)
+  pages-all e = leads-does (shows m store) (shows mid middle) (shows mid middle) (Pages.all_wide_pages m.params clearing) (Pages.wide_pages m.params clearing n) h.leads (λ before w shown.
+      subst (λ k. ShowsWork before mid middle (Pages.wide_pages m.params clearing k w)) (sym e) shown)
 
 -- ---- how many turns are left
 

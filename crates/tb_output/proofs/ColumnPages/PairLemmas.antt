@@ -38,17 +38,17 @@ use Rattle.tb_output.proofs.ColumnPages.PuttingOut.{does-moved}
 
 -- the second column is shipped with the first, and the wide floats leave
 abbrev pub pair_shipped : MachineView → PlainColumn → Work → Work
-pair_shipped m c w = Ship.without_double (Ship.ship m.params (pair_sheet m.params w.state.floats (Ship.left_or c w.state.left_column) c) w)
+pair_shipped m c w = Pages.without_double (Pages.ship m.params (pair_sheet m.params w.state.floats (Pages.left_or c w.state.left_column) c) w)
 
 -- then pages of wide floats are shipped, and the next columns filled
 abbrev pub pair_rest : MachineView → Work → Work
-pair_rest m w = Ship.fill_double m.params (Ship.all_wide_pages m.params false w)
+pair_rest m w = Pages.fill_double m.params (Pages.all_wide_pages m.params false w)
 
 continues-pair : (m : MachineView) (c : PlainColumn) (w : Work) → Continues w (pair_shipped m c w)
-continues-pair m c w = continues-then (continues-ship m.params (pair_sheet m.params w.state.floats (Ship.left_or c w.state.left_column) c) w) (continues-same refl refl refl refl refl)
+continues-pair m c w = continues-then (continues-ship m.params (pair_sheet m.params w.state.floats (Pages.left_or c w.state.left_column) c) w) (continues-same refl refl refl refl refl)
 
 pub continues-rest : (m : MachineView) (w : Work) → Continues w (pair_rest m w)
-continues-rest m w = continues-then (continues-all_wide_pages m.params false w) (continues-fill_double m.params (Ship.all_wide_pages m.params false w))
+continues-rest m w = continues-then (continues-all_wide_pages m.params false w) (continues-fill_double m.params (Pages.all_wide_pages m.params false w))
 
 -- what was not shipped of the same machine
 pub failed-of : (e : RunFault) (m mid now : MachineView) → mid ≡ m → HasNotShipped e mid now → HasNotShipped e m now
@@ -63,22 +63,22 @@ module _ (m now : MachineView) (s : Lists Node) (tops : ℕ) (at : ℤ) (left ri
   abbrev shown : PlainColumn
   shown = column_shown s right
 
-  sheet-is : pair_sheet m.params m.pool.lists (Ship.left_or shown (left_shown s m.left_column)) shown ≡ sheet_shown s sheet
-  sheet-is = λ i. two (sym floats i) (sym place i) (Ship.left_or shown (left_shown s (has_left i))) shown
+  sheet-is : pair_sheet m.params m.pool.lists (Pages.left_or shown (left_shown s m.left_column)) shown ≡ sheet_shown s sheet
+  sheet-is = λ i. two (sym floats i) (sym place i) (Pages.left_or shown (left_shown s (has_left i))) shown
 
-  pair-is : (w : Work) → pair_shipped m shown (shown_work m s w) ≡ Ship.without_double (Ship.ship m.params (sheet_shown s sheet) (shown_work m s w))
-  pair-is w = ap (λ v. Ship.without_double (Ship.ship m.params v (shown_work m s w))) sheet-is
+  pair-is : (w : Work) → pair_shipped m shown (shown_work m s w) ≡ Pages.without_double (Pages.ship m.params (sheet_shown s sheet) (shown_work m s w))
+  pair-is w = ap (λ v. Pages.without_double (Pages.ship m.params v (shown_work m s w))) sheet-is
 
   pair-here : HasShipped sheet (without_doubles m) now → Does (shows m s) (shows (without_left now) s) (pair_shipped m shown)
   pair-here h = does-shown (shows (without_left now) s) m s (pair_shipped m shown) (λ before w sent.
-      subst (λ v. ShowsWork before (without_left now) s v) (sym (pair-is w ∙ ap Ship.without_double (ship-is m s sheet w h.room)))
-      (subst (λ n. ShowsWork before (without_left n) s (Ship.without_double (shipped_work m s sheet w))) (sym h.machine)
+      subst (λ v. ShowsWork before (without_left now) s v) (sym (pair-is w ∙ ap Pages.without_double (ship-is m s sheet w h.room)))
+      (subst (λ n. ShowsWork before (without_left n) s (Pages.without_double (shipped_work m s sheet w))) (sym h.machine)
       (record { served = refl; sent = (shipped-shows m s sheet before w sent).sent; state = refl })))
 
   pair-not : (e : RunFault) → HasNotShipped e (without_doubles m) now → Does (shows m s) (IsCutShort e now s) (pair_shipped m shown)
   pair-not (faults.DeadCycles n) h = absurd h
   pair-not (faults.PageLimit n) h = does-shown (IsCutShort (faults.PageLimit n) now s) m s (pair_shipped m shown) (λ before w sent.
-      subst (λ v. IsCutShort (faults.PageLimit n) now s before v) (sym (pair-is w ∙ ap Ship.without_double (full-is m s sheet w h.full)))
+      subst (λ v. IsCutShort (faults.PageLimit n) now s before v) (sym (pair-is w ∙ ap Pages.without_double (full-is m s sheet w h.full)))
       (record { refused = refl; pages = h.pages; sent = ap (λ (k : MachineView). events_shown s k.events) h.machine ∙ sent }))
   pair-not faults.Memory h = no-memory m now s s (pair_shipped m shown) (ap (λ (k : MachineView). events_shown s k.events) h) (continues-pair m shown)
 
@@ -104,7 +104,7 @@ module _ (m now : MachineView) (store s : Lists Node) (tops : ℕ) (at : ℤ) (l
   pub pair-does : HasShipped both (without_doubles m) now → Does (shows m store) (shows (without_left now) s) (pair_shipped m (column_shown store right))
   pair-does h = moved (shows (without_left now) s) (pair-here m now s tops at left right has_left place floats h)
 
-  pub pair-fails : (e : RunFault) → HasNotShipped e (without_doubles m) now → Does (shows m store) (IsCutShort e now s) (Ship.ship_pair m.params (column_shown store right))
+  pub pair-fails : (e : RunFault) → HasNotShipped e (without_doubles m) now → Does (shows m store) (IsCutShort e now s) (Pages.ship_pair m.params (column_shown store right))
   pair-fails e h = cut-then (shows m store) e now s (pair_shipped m (column_shown store right)) (pair_rest m) (moved (IsCutShort e now s) (pair-not m now s tops at left right has_left place floats e h)) (continues-rest m)
 
   -- no page was shipped: the wide floats have left the pool

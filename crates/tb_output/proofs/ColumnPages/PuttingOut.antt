@@ -31,11 +31,11 @@ records-show m store r before w h = by_refused w.refused
     by_refused true = h
     by_refused false = record { served = h.served; sent = h.sent; state = h.state }
 
-after-shows : (m : MachineView) (store : Lists Node) → Does (shows m store) (shows (with_column_done m) store) Ship.after_column
-after-shows m store before w h = record { served = h.served; sent = h.sent; state = ap (λ (s : State). (Ship.after_column (record w { state = s })).state) h.state }
+after-shows : (m : MachineView) (store : Lists Node) → Does (shows m store) (shows (with_column_done m) store) Pages.after_column
+after-shows m store before w h = record { served = h.served; sent = h.sent; state = ap (λ (s : State). (Pages.after_column (record w { state = s })).state) h.state }
 
-pub left-shows : (m : MachineView) (store : Lists Node) (c : Column) → Does (shows m store) (shows (with_left c m) store) (Ship.keep_left (column_shown store c))
-left-shows m store c before w h = record { served = h.served; sent = h.sent; state = ap (λ (s : State). (Ship.keep_left (column_shown store c) (record w { state = s })).state) h.state }
+pub left-shows : (m : MachineView) (store : Lists Node) (c : Column) → Does (shows m store) (shows (with_left c m) store) (Pages.keep_left (column_shown store c))
+left-shows m store c before w h = record { served = h.served; sent = h.sent; state = ap (λ (s : State). (Pages.keep_left (column_shown store c) (record w { state = s })).state) h.state }
 
 -- the machine shows the same of another store
 pub does-moved : (m : MachineView) (store new : Lists Node) (to : Fact) (f : Work → Work) → IsShownBy m store new → Does (shows m new) to f → Does (shows m store) to f
@@ -43,7 +43,7 @@ does-moved m store new to f same does before w h = does before w (shows-moved m 
 
 module _ (m : MachineView) (store : Lists Node) (c : PlainColumn) (to : Fact) where
   abbrev put_by : (flat first : Bool) → Work → Work
-  put_by two first w = if not two then Ship.ship m.params (one c) w else (if first then Ship.keep_left c w else Ship.ship_pair m.params c w)
+  put_by two first w = if not two then Pages.ship m.params (one c) w else (if first then Pages.keep_left c w else Pages.ship_pair m.params c w)
 
   columns-of : (before : List PlainSent) (w : Work) → ShowsWork before m store w → m.two_columns ≡ w.state.two_columns
   columns-of before w h = ap (λ (s : State). s.two_columns) h.state
@@ -51,26 +51,26 @@ module _ (m : MachineView) (store : Lists Node) (c : PlainColumn) (to : Fact) wh
   first-of : (before : List PlainSent) (w : Work) → ShowsWork before m store w → m.first_column ≡ w.state.first_column
   first-of before w h = ap (λ (s : State). s.first_column) h.state
 
-  by-is : (two first : Bool) (f : Work → Work) → m.two_columns ≡ two → m.first_column ≡ first → ((w : Work) → put_by two first w ≡ f w) → Does (shows m store) to f → Does (shows m store) to (Ship.put_out_by m.params c)
+  by-is : (two first : Bool) (f : Work → Work) → m.two_columns ≡ two → m.first_column ≡ first → ((w : Work) → put_by two first w ≡ f w) → Does (shows m store) to f → Does (shows m store) to (Pages.put_out_by m.params c)
   by-is two first f e g is does before w h =
       subst (to before) (sym (is w) ∙ (λ i. put_by ((sym e ∙ columns-of before w h) i) ((sym g ∙ first-of before w h) i) w)) (does before w h)
 
-  pub out-one : m.two_columns ≡ false → Does (shows m store) to (Ship.ship m.params (one c)) → Does (shows m store) to (Ship.put_out_by m.params c)
-  out-one e does = by-is false m.first_column (Ship.ship m.params (one c)) e refl (λ w. refl) does
+  pub out-one : m.two_columns ≡ false → Does (shows m store) to (Pages.ship m.params (one c)) → Does (shows m store) to (Pages.put_out_by m.params c)
+  out-one e does = by-is false m.first_column (Pages.ship m.params (one c)) e refl (λ w. refl) does
 
-  pub out-first : m.two_columns ≡ true → m.first_column ≡ true → Does (shows m store) to (Ship.keep_left c) → Does (shows m store) to (Ship.put_out_by m.params c)
-  out-first e g does = by-is true true (Ship.keep_left c) e g (λ w. refl) does
+  pub out-first : m.two_columns ≡ true → m.first_column ≡ true → Does (shows m store) to (Pages.keep_left c) → Does (shows m store) to (Pages.put_out_by m.params c)
+  out-first e g does = by-is true true (Pages.keep_left c) e g (λ w. refl) does
 
-  pub out-second : m.two_columns ≡ true → m.first_column ≡ false → Does (shows m store) to (Ship.ship_pair m.params c) → Does (shows m store) to (Ship.put_out_by m.params c)
-  out-second e g does = by-is true false (Ship.ship_pair m.params c) e g (λ w. refl) does
+  pub out-second : m.two_columns ≡ true → m.first_column ≡ false → Does (shows m store) to (Pages.ship_pair m.params c) → Does (shows m store) to (Pages.put_out_by m.params c)
+  out-second e g does = by-is true false (Pages.ship_pair m.params c) e g (λ w. refl) does
 
-pub put_out-does : (m mid : MachineView) (store new : Lists Node) (c : PlainColumn) → Does (shows m store) (shows mid new) (Ship.put_out_by m.params c) → Does (shows m store) (shows (with_column_done mid) new) (Ship.put_out m.params c)
+pub put_out-does : (m mid : MachineView) (store new : Lists Node) (c : PlainColumn) → Does (shows m store) (shows mid new) (Pages.put_out_by m.params c) → Does (shows m store) (shows (with_column_done mid) new) (Pages.put_out m.params c)
 put_out-does m mid store new c does before w h =
-    after-shows mid new before (Ship.put_out_by m.params c (records_also (output c) w)) (does before (records_also (output c) w) (records-show m store (output c) before w h))
+    after-shows mid new before (Pages.put_out_by m.params c (records_also (output c) w)) (does before (records_also (output c) w) (records-show m store (output c) before w h))
 
-pub put_out-fails : (e : RunFault) (m mid : MachineView) (store new : Lists Node) (c : PlainColumn) → Does (shows m store) (IsCutShort e mid new) (Ship.put_out_by m.params c) → Does (shows m store) (IsCutShort e mid new) (Ship.put_out m.params c)
+pub put_out-fails : (e : RunFault) (m mid : MachineView) (store new : Lists Node) (c : PlainColumn) → Does (shows m store) (IsCutShort e mid new) (Pages.put_out_by m.params c) → Does (shows m store) (IsCutShort e mid new) (Pages.put_out m.params c)
 put_out-fails e m mid store new c does before w h =
-    cut-then (shows m store) e mid new (Ship.put_out_by m.params c) Ship.after_column does continues-after_column before (records_also (output c) w) (records-show m store (output c) before w h)
+    cut-then (shows m store) e mid new (Pages.put_out_by m.params c) Pages.after_column does continues-after_column before (records_also (output c) w) (records-show m store (output c) before w h)
 
 -- ---- the machine
 

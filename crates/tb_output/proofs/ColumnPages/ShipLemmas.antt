@@ -37,10 +37,10 @@ module _ (m : MachineView) (store : Lists Node) (sheet : Sheet) where
     sent = w.sent ++ shipped m.page (sheet_shown store sheet) ∷ [];
   }
 
-  pub ship-is : (w : Work) → int_lt m.params.maxpages (pos m.page) ≡ false → Ship.ship m.params (sheet_shown store sheet) (shown_work m store w) ≡ shipped_work w
+  pub ship-is : (w : Work) → int_lt m.params.maxpages (pos m.page) ≡ false → Pages.ship m.params (sheet_shown store sheet) (shown_work m store w) ≡ shipped_work w
   ship-is w room = ap (λ t. if t then record (shown_work m store w) { refused = true } else shipped_work w) room
 
-  pub full-is : (w : Work) → int_lt m.params.maxpages (pos m.page) ≡ true → Ship.ship m.params (sheet_shown store sheet) (shown_work m store w) ≡ record (shown_work m store w) { refused = true }
+  pub full-is : (w : Work) → int_lt m.params.maxpages (pos m.page) ≡ true → Pages.ship m.params (sheet_shown store sheet) (shown_work m store w) ≡ record (shown_work m store w) { refused = true }
   full-is w full = ap (λ t. if t then record (shown_work m store w) { refused = true } else shipped_work w) full
 
   pub shipped-shows : (before : List PlainSent) (w : Work) → events_shown store m.events ≡ before ++ w.sent → ShowsWork before (shipped_machine sheet m) store (shipped_work w)
@@ -50,19 +50,19 @@ module _ (m : MachineView) (store : Lists Node) (sheet : Sheet) where
     state = refl;
   }
 
-  pub ship-does : (now : MachineView) → HasShipped sheet m now → Does (shows m store) (shows now store) (Ship.ship m.params (sheet_shown store sheet))
-  ship-does now h = does-shown (shows now store) m store (Ship.ship m.params (sheet_shown store sheet)) (λ before w sent.
+  pub ship-does : (now : MachineView) → HasShipped sheet m now → Does (shows m store) (shows now store) (Pages.ship m.params (sheet_shown store sheet))
+  ship-does now h = does-shown (shows now store) m store (Pages.ship m.params (sheet_shown store sheet)) (λ before w sent.
       subst (λ v. ShowsWork before now store v) (sym (ship-is w h.room)) (subst (λ n. ShowsWork before n store (shipped_work w)) (sym h.machine) (shipped-shows before w sent)))
 
   -- no page was shipped
-  full-does : (now : MachineView) (n : ℕ) → IsFull n m now → Does (shows m store) (IsCutShort (faults.PageLimit n) now store) (Ship.ship m.params (sheet_shown store sheet))
-  full-does now n h = does-shown (IsCutShort (faults.PageLimit n) now store) m store (Ship.ship m.params (sheet_shown store sheet)) (λ before w sent.
+  full-does : (now : MachineView) (n : ℕ) → IsFull n m now → Does (shows m store) (IsCutShort (faults.PageLimit n) now store) (Pages.ship m.params (sheet_shown store sheet))
+  full-does now n h = does-shown (IsCutShort (faults.PageLimit n) now store) m store (Pages.ship m.params (sheet_shown store sheet)) (λ before w sent.
       subst (λ v. IsCutShort (faults.PageLimit n) now store before v) (sym (full-is w h.full)) (record { refused = refl; pages = h.pages; sent = ap (λ (k : MachineView). events_shown store k.events) h.machine ∙ sent }))
 
-  pub ship-fails : (e : RunFault) (now : MachineView) → HasNotShipped e m now → Does (shows m store) (IsCutShort e now store) (Ship.ship m.params (sheet_shown store sheet))
+  pub ship-fails : (e : RunFault) (now : MachineView) → HasNotShipped e m now → Does (shows m store) (IsCutShort e now store) (Pages.ship m.params (sheet_shown store sheet))
   ship-fails (faults.DeadCycles n) now h = absurd h
   ship-fails (faults.PageLimit n) now h = full-does now n h
-  ship-fails faults.Memory now h = no-memory m now store store (Ship.ship m.params (sheet_shown store sheet)) (ap (λ (k : MachineView). events_shown store k.events) h) (continues-ship m.params (sheet_shown store sheet))
+  ship-fails faults.Memory now h = no-memory m now store store (Pages.ship m.params (sheet_shown store sheet)) (ap (λ (k : MachineView). events_shown store k.events) h) (continues-ship m.params (sheet_shown store sheet))
 
 -- ---- the lists
 

@@ -65,14 +65,14 @@ records-spares r w = spares_if w w.refused w (record w { records = w.records ++ 
 pub sends-spares : (e : PlainSent) (w : Work) → Spares w (sends e w)
 sends-spares e w = spares_if w w.refused w (record w { sent = w.sent ++ e ∷ [] }) (unchanged w) (record { current = refl; here = refl; top = refl; bottom = refl; boxes = refl; page = refl; columns = refl; put_back = refl; fit = λ h. h; single = λ h. h })
 
-ship-spares : (p : Params) (sheet : PlainSheet) (w : Work) → Spares w (Ship.ship p sheet w)
+ship-spares : (p : Params) (sheet : PlainSheet) (w : Work) → Spares w (Pages.ship p sheet w)
 ship-spares p sheet w =
     let a : Work = record w { state = record w.state { page = w.state.page + 1; dead_cycles = 0 } } in
     spares_if w w.refused w _ (unchanged w)
-    (spares_if w (int_lt p.maxpages (pos w.state.page)) (record w { refused = true }) (Ship.ship_now sheet w) (record { current = refl; here = refl; top = refl; bottom = refl; boxes = refl; page = refl; columns = refl; put_back = refl; fit = λ h. h; single = λ h. h })
-    (spared w a (Ship.ship_now sheet w) (record { current = refl; here = refl; top = refl; bottom = refl; boxes = refl; page = refl; columns = refl; put_back = refl; fit = λ h. h; single = λ h. h }) (sends-spares (shipped w.state.page sheet) a)))
+    (spares_if w (int_lt p.maxpages (pos w.state.page)) (record w { refused = true }) (Pages.ship_now sheet w) (record { current = refl; here = refl; top = refl; bottom = refl; boxes = refl; page = refl; columns = refl; put_back = refl; fit = λ h. h; single = λ h. h })
+    (spared w a (Pages.ship_now sheet w) (record { current = refl; here = refl; top = refl; bottom = refl; boxes = refl; page = refl; columns = refl; put_back = refl; fit = λ h. h; single = λ h. h }) (sends-spares (shipped w.state.page sheet) a)))
 
-with_deferred-spares : (fs : List Float) (w : Work) → Spares w (Ship.with_deferred fs w)
+with_deferred-spares : (fs : List Float) (w : Work) → Spares w (Pages.with_deferred fs w)
 with_deferred-spares fs w = record { current = refl; here = refl; top = refl; bottom = refl; boxes = refl; page = refl; columns = refl; put_back = refl; fit = λ h. h; single = λ h. h }
 
 -- so when other floats wait in a list
@@ -87,18 +87,18 @@ waiting-spares parts.Second i fs w = record { current = refl; here = refl; top =
 
 -- ---- wide pages
 
-wide_by-spares : (p : Params) (again : Work → Work) → ((w : Work) → Spares w (again w)) → (w : Work) (o : Option (List Choice)) → Spares w (Ship.wide_pages_by again p w o)
+wide_by-spares : (p : Params) (again : Work → Work) → ((w : Work) → Spares w (again w)) → (w : Work) (o : Option (List Choice)) → Spares w (Pages.wide_pages_by again p w o)
 wide_by-spares p again h w None = unchanged w
 wide_by-spares p again h w (Some cs) =
-    spared w (Ship.ship_wide p cs w) (again (Ship.ship_wide p cs w))
-    (spared w (with_floats (with_wide_waiting p (left_floats cs) w.state.floats) w) (Ship.ship_wide p cs w) (waiting-spares (wide_part p) (wide-waits p) (left_floats cs) w) (ship-spares p _ _))
-    (h (Ship.ship_wide p cs w))
+    spared w (Pages.ship_wide p cs w) (again (Pages.ship_wide p cs w))
+    (spared w (with_floats (with_wide_waiting p (left_floats cs) w.state.floats) w) (Pages.ship_wide p cs w) (waiting-spares (wide_part p) (wide-waits p) (left_floats cs) w) (ship-spares p _ _))
+    (h (Pages.ship_wide p cs w))
 
-wide_pages-spares : (p : Params) (clearing : Bool) (n : ℕ) (w : Work) → Spares w (Ship.wide_pages p clearing n w)
+wide_pages-spares : (p : Params) (clearing : Bool) (n : ℕ) (w : Work) → Spares w (Pages.wide_pages p clearing n w)
 wide_pages-spares p clearing zero w = unchanged w
-wide_pages-spares p clearing (suc n) w = wide_by-spares p (λ w'. Ship.wide_pages p clearing n w') (λ w'. wide_pages-spares p clearing n w') w (company (Ship.wide_wanted p clearing) (wide_waiting p w.state.floats))
+wide_pages-spares p clearing (suc n) w = wide_by-spares p (λ w'. Pages.wide_pages p clearing n w') (λ w'. wide_pages-spares p clearing n w') w (company (Pages.wide_wanted p clearing) (wide_waiting p w.state.floats))
 
-pub all_wide-spares : (p : Params) (clearing : Bool) (w : Work) → Spares w (Ship.all_wide_pages p clearing w)
+pub all_wide-spares : (p : Params) (clearing : Bool) (w : Work) → Spares w (Pages.all_wide_pages p clearing w)
 all_wide-spares p clearing w = wide_pages-spares p clearing (length (wide_waiting p w.state.floats)) w
 
 -- wide pages take nothing from the double list, and leave a kept column
@@ -109,11 +109,11 @@ double_if : (a : Work) (t : Bool) (c d : Work) → SameDouble a c → SameDouble
 double_if a true c d x y = x
 double_if a false c d x y = y
 
-ship-double : (p : Params) (sheet : PlainSheet) (w : Work) → SameDouble w (Ship.ship p sheet w)
+ship-double : (p : Params) (sheet : PlainSheet) (w : Work) → SameDouble w (Pages.ship p sheet w)
 unfolding SameDouble
 ship-double p sheet w =
     double_if w w.refused w _ (refl, refl)
-    (double_if w (int_lt p.maxpages (pos w.state.page)) (record w { refused = true }) (Ship.ship_now sheet w) (refl, refl)
+    (double_if w (int_lt p.maxpages (pos w.state.page)) (record w { refused = true }) (Pages.ship_now sheet w) (refl, refl)
     (double_if w w.refused (record w { state = record w.state { page = w.state.page + 1; dead_cycles = 0 } }) _ (refl, refl) (refl, refl)))
 
 pub waiting-double : (from : Part) → IsWaiting from → (fs : List Float) (l : FloatLists) → (with_floats_of from fs l).double ≡ l.double
@@ -125,20 +125,20 @@ waiting-double parts.Deferred i fs l = refl
 waiting-double parts.Double i fs l = absurd i
 waiting-double parts.Second i fs l = refl
 
-wide_by-double : (p : Params) (again : Work → Work) → ((w : Work) → SameDouble w (again w)) → (w : Work) (o : Option (List Choice)) → SameDouble w (Ship.wide_pages_by again p w o)
+wide_by-double : (p : Params) (again : Work → Work) → ((w : Work) → SameDouble w (again w)) → (w : Work) (o : Option (List Choice)) → SameDouble w (Pages.wide_pages_by again p w o)
 unfolding SameDouble
 wide_by-double p again h w None = (refl, refl)
 wide_by-double p again h w (Some cs) =
     let x = ship-double p (wide (wide_floats_column p p.textheight (chosen_floats cs))) (with_floats (with_wide_waiting p (left_floats cs) w.state.floats) w) in
-    let y = h (Ship.ship_wide p cs w) in
+    let y = h (Pages.ship_wide p cs w) in
     (y.0 ∙ x.0 ∙ waiting-double (wide_part p) (wide-waits p) (left_floats cs) w.state.floats, y.1 ∙ x.1)
 
-wide_pages-double : (p : Params) (clearing : Bool) (n : ℕ) (w : Work) → SameDouble w (Ship.wide_pages p clearing n w)
+wide_pages-double : (p : Params) (clearing : Bool) (n : ℕ) (w : Work) → SameDouble w (Pages.wide_pages p clearing n w)
 unfolding SameDouble
 wide_pages-double p clearing zero w = (refl, refl)
-wide_pages-double p clearing (suc n) w = wide_by-double p (λ w'. Ship.wide_pages p clearing n w') (λ w'. wide_pages-double p clearing n w') w (company (Ship.wide_wanted p clearing) (wide_waiting p w.state.floats))
+wide_pages-double p clearing (suc n) w = wide_by-double p (λ w'. Pages.wide_pages p clearing n w') (λ w'. wide_pages-double p clearing n w') w (company (Pages.wide_wanted p clearing) (wide_waiting p w.state.floats))
 
-pub all_wide-double : (p : Params) (clearing : Bool) (w : Work) → ((Ship.all_wide_pages p clearing w).state.floats.double ≡ w.state.floats.double) × ((Ship.all_wide_pages p clearing w).state.left_column ≡ w.state.left_column)
+pub all_wide-double : (p : Params) (clearing : Bool) (w : Work) → ((Pages.all_wide_pages p clearing w).state.floats.double ≡ w.state.floats.double) × ((Pages.all_wide_pages p clearing w).state.left_column ≡ w.state.left_column)
 unfolding SameDouble
 all_wide-double p clearing w = wide_pages-double p clearing (length (wide_waiting p w.state.floats)) w
 
@@ -152,7 +152,7 @@ abbrev pub noted : Params → Where → Float → Work → Bool → Work
 noted p place f w t = if t then w else record w { records = w.records ++ placed f place w.state.floats (column_height_of p w.state.floats) ∷ [] }
 
 abbrev pub moved : Params → Where → Float → FloatLists → Work → Bool → Work
-moved p place f left w t = record (noted p place f w t) { state = record (noted p place f w t).state { floats = Place.joined_to place f left } }
+moved p place f left w t = record (noted p place f w t) { state = record (noted p place f w t).state { floats = FloatMoves.joined_to place f left } }
 
 -- what is left when these floats stay in a list
 abbrev staying : Part → List Float → Work → FloatLists
@@ -170,44 +170,44 @@ double-spares parts.Deferred i p f fs w t false = record { current = refl; here 
 double-spares parts.Second i p f fs w t true = record { current = refl; here = refl; top = refl; bottom = refl; boxes = refl; page = refl; columns = refl; put_back = refl; fit = λ h. h; single = λ h. yes-no (moved p places.Double f (staying parts.Second fs w) w true).state t }
 double-spares parts.Second i p f fs w t false = record { current = refl; here = refl; top = refl; bottom = refl; boxes = refl; page = refl; columns = refl; put_back = refl; fit = λ h. h; single = λ h. yes-no (moved p places.Double f (staying parts.Second fs w) w false).state t }
 
-place_double-spares : (from : Part) → IsWaiting from → (p : Params) (before fs : List Float) (w : Work) → w.state.two_columns ≡ true → Spares w (Place.place_double from p before fs w)
+place_double-spares : (from : Part) → IsWaiting from → (p : Params) (before fs : List Float) (w : Work) → w.state.two_columns ≡ true → Spares w (FloatMoves.place_double from p before fs w)
 place_double-spares from i p before [] w t = unchanged w
 place_double-spares from i p before (f ∷ rest) w t = by_place (λ bs c e. place_double-spares from i p bs rest c e) (goes_double p w.state.floats w.state.suppress before f)
   where
-    by_place : ((bs : List Float) (c : Work) → c.state.two_columns ≡ true → Spares c (Place.place_double from p bs rest c)) → (u : Bool) → Spares w (let place = (if u then places.Double else places.Deferred) in Place.place_double from p (Place.still_deferred place f before) rest (Place.place_waiting from p place f before rest w))
+    by_place : ((bs : List Float) (c : Work) → c.state.two_columns ≡ true → Spares c (FloatMoves.place_double from p bs rest c)) → (u : Bool) → Spares w (let place = (if u then places.Double else places.Deferred) in FloatMoves.place_double from p (FloatMoves.still_deferred place f before) rest (FloatMoves.place_waiting from p place f before rest w))
     by_place later true =
-        let goes = Place.place_float p places.Double f (with_floats_of from (before ++ rest) w.state.floats) w in
+        let goes = FloatMoves.place_float p places.Double f (with_floats_of from (before ++ rest) w.state.floats) w in
         let gone : Spares w goes = double-spares from i p f (before ++ rest) w t w.refused in
-        spared w goes (Place.place_double from p before rest goes) gone (later before goes (gone.columns ∙ t))
+        spared w goes (FloatMoves.place_double from p before rest goes) gone (later before goes (gone.columns ∙ t))
     by_place later false = later (before ++ f ∷ []) w t
 
-ship_pair-spares : (p : Params) (c : PlainColumn) (w : Work) → w.state.two_columns ≡ true → Spares w (Ship.ship_pair p c w)
+ship_pair-spares : (p : Params) (c : PlainColumn) (w : Work) → w.state.two_columns ≡ true → Spares w (Pages.ship_pair p c w)
 ship_pair-spares p c w t =
-    let a = Ship.ship p (pair_sheet p w.state.floats (Ship.left_or c w.state.left_column) c) w in
-    let b = Ship.without_double a in
-    let d = Ship.all_wide_pages p false b in
+    let a = Pages.ship p (pair_sheet p w.state.floats (Pages.left_or c w.state.left_column) c) w in
+    let b = Pages.without_double a in
+    let d = Pages.all_wide_pages p false b in
     let x : Spares w a = ship-spares p _ w in
     let y : Spares a b = record { current = refl; here = refl; top = refl; bottom = refl; boxes = refl; page = refl; columns = refl; put_back = refl; fit = λ h. tt; single = λ h. λ e. refl } in
     let z : Spares b d = all_wide-spares p false b in
-    spared w a (Ship.ship_pair p c w) x (spared a b (Ship.ship_pair p c w) y (spared b d (Ship.ship_pair p c w) z (place_double-spares (wide_part p) (wide-waits p) p [] (wide_waiting p d.state.floats) d (z.columns ∙ x.columns ∙ t))))
+    spared w a (Pages.ship_pair p c w) x (spared a b (Pages.ship_pair p c w) y (spared b d (Pages.ship_pair p c w) z (place_double-spares (wide_part p) (wide-waits p) p [] (wide_waiting p d.state.floats) d (z.columns ∙ x.columns ∙ t))))
 
-keep_left-spares : (c : PlainColumn) (w : Work) → w.state.two_columns ≡ true → w.state.first_column ≡ true → Spares w (Ship.keep_left c w)
+keep_left-spares : (c : PlainColumn) (w : Work) → w.state.two_columns ≡ true → w.state.first_column ≡ true → Spares w (Pages.keep_left c w)
 keep_left-spares c w t f = record { current = refl; here = refl; top = refl; bottom = refl; boxes = refl; page = refl; columns = refl; put_back = refl; fit = λ h. subst (λ x. ColumnsFit x false (Some c)) (sym t) tt; single = λ h. h }
 
-put_out_by-spares : (p : Params) (c : PlainColumn) (w : Work) → Spares w (Ship.put_out_by p c w)
+put_out_by-spares : (p : Params) (c : PlainColumn) (w : Work) → Spares w (Pages.put_out_by p c w)
 put_out_by-spares p c w = by_columns w.state.two_columns w.state.first_column refl refl
   where
-    by_columns : (t f : Bool) → w.state.two_columns ≡ t → w.state.first_column ≡ f → Spares w (if not t then Ship.ship p (one c) w else (if f then Ship.keep_left c w else Ship.ship_pair p c w))
+    by_columns : (t f : Bool) → w.state.two_columns ≡ t → w.state.first_column ≡ f → Spares w (if not t then Pages.ship p (one c) w else (if f then Pages.keep_left c w else Pages.ship_pair p c w))
     by_columns false f a b = ship-spares p (one c) w
     by_columns true true a b = keep_left-spares c w a b
     by_columns true false a b = ship_pair-spares p c w a
 
-pub put_out-spares : (p : Params) (c : PlainColumn) (w : Work) → Spares w (Ship.put_out p c w)
+pub put_out-spares : (p : Params) (c : PlainColumn) (w : Work) → Spares w (Pages.put_out p c w)
 put_out-spares p c w =
     let a = records_also (output c) w in
-    let b = Ship.put_out_by p c a in
-    spared w a (Ship.put_out p c w) (records-spares (output c) w)
-    (spared a b (Ship.put_out p c w) (put_out_by-spares p c a) (record { current = refl; here = refl; top = refl; bottom = refl; boxes = refl; page = refl; columns = refl; put_back = refl; fit = λ h. h; single = λ h. h }))
+    let b = Pages.put_out_by p c a in
+    spared w a (Pages.put_out p c w) (records-spares (output c) w)
+    (spared a b (Pages.put_out p c w) (put_out_by-spares p c a) (record { current = refl; here = refl; top = refl; bottom = refl; boxes = refl; page = refl; columns = refl; put_back = refl; fit = λ h. h; single = λ h. h }))
 
 -- ---- columns of floats
 
@@ -215,7 +215,7 @@ columns_by-spares : (p : Params) (again : Work → Work) → ((w : Work) → Spa
 columns_by-spares p again h w None = unchanged w
 columns_by-spares p again h w (Some cs) =
     spared w (Columns.put_out_company p cs w) (again (Columns.put_out_company p cs w))
-    (spared w (Ship.with_deferred (left_floats cs) w) (Columns.put_out_company p cs w) (with_deferred-spares (left_floats cs) w) (put_out-spares p _ _))
+    (spared w (Pages.with_deferred (left_floats cs) w) (Columns.put_out_company p cs w) (with_deferred-spares (left_floats cs) w) (put_out-spares p _ _))
     (h (Columns.put_out_company p cs w))
 
 float_columns-spares : (p : Params) (clearing : Bool) (n : ℕ) (w : Work) → Spares w (Columns.float_columns p clearing n w)
@@ -250,13 +250,13 @@ bottom-takes : (p : Params) (w₀ : Work) (f : Float) (fs : List Float) (w : Wor
 bottom-takes p w₀ f fs w h true = record { columns = h.columns; current = h.current; here = h.here; page = h.page; put_back = h.put_back; single = h.single }
 bottom-takes p w₀ f fs w h false = record { columns = h.columns; current = h.current; here = h.here; page = h.page; put_back = h.put_back; single = h.single }
 
-next-takes : (p : Params) (w₀ : Work) (before fs : List Float) (w : Work) → TakesText w₀ w → TakesText w₀ (Place.place_next p before fs w)
+next-takes : (p : Params) (w₀ : Work) (before fs : List Float) (w : Work) → TakesText w₀ w → TakesText w₀ (FloatMoves.place_next p before fs w)
 next-takes p w₀ before [] w h = h
 next-takes p w₀ before (f ∷ rest) w h = by_place (λ bs c k. next-takes p w₀ bs rest c k) (next_area_place p w.state.floats w.state.suppress before f)
   where
-    by_place : ((bs : List Float) (c : Work) → TakesText w₀ c → TakesText w₀ (Place.place_next p bs rest c)) → (u : AreaPlace) → TakesText w₀ (let place = where_of u in Place.place_next p (Place.still_deferred place f before) rest (Place.place_waiting parts.Deferred p place f before rest w))
-    by_place later at_top = later before (Place.place_float p places.Top f (record w.state.floats { deferred = before ++ rest }) w) (top-takes p w₀ f (before ++ rest) w h w.refused)
-    by_place later at_bottom = later before (Place.place_float p places.Bottom f (record w.state.floats { deferred = before ++ rest }) w) (bottom-takes p w₀ f (before ++ rest) w h w.refused)
+    by_place : ((bs : List Float) (c : Work) → TakesText w₀ c → TakesText w₀ (FloatMoves.place_next p bs rest c)) → (u : AreaPlace) → TakesText w₀ (let place = where_of u in FloatMoves.place_next p (FloatMoves.still_deferred place f before) rest (FloatMoves.place_waiting parts.Deferred p place f before rest w))
+    by_place later at_top = later before (FloatMoves.place_float p places.Top f (record w.state.floats { deferred = before ++ rest }) w) (top-takes p w₀ f (before ++ rest) w h w.refused)
+    by_place later at_bottom = later before (FloatMoves.place_float p places.Bottom f (record w.state.floats { deferred = before ++ rest }) w) (bottom-takes p w₀ f (before ++ rest) w h w.refused)
     by_place later deferred = later (before ++ f ∷ []) w h
 
 -- an ordinary firing

@@ -39,13 +39,13 @@ module _ (from : Fact) (p : Params) (f : Work → Work) (one two three : Machine
 
 module _ (m one two three : MachineView) (store s t : Lists Node) (c : PlainColumn) where
   -- a pair is shipped, pages of wide floats, and the next columns are filled
-  pub pair-all : one.params ≡ m.params → two.params ≡ m.params → Does (shows m store) (shows one s) (pair_shipped m c) → Does (shows one s) (shows two t) (Ship.all_wide_pages one.params false) → Does (shows two t) (shows three t) (Ship.fill_double two.params) → Does (shows m store) (shows three t) (Ship.ship_pair m.params c)
+  pub pair-all : one.params ≡ m.params → two.params ≡ m.params → Does (shows m store) (shows one s) (pair_shipped m c) → Does (shows one s) (shows two t) (Pages.all_wide_pages one.params false) → Does (shows two t) (shows three t) (Pages.fill_double two.params) → Does (shows m store) (shows three t) (Pages.ship_pair m.params c)
   pair-all a b first second third before w h =
       let x = first before w h in
-      let y = subst (λ q. Does (shows one s) (shows two t) (Ship.all_wide_pages q false)) a second before (pair_shipped m c w) x in
-      subst (λ q. Does (shows two t) (shows three t) (Ship.fill_double q)) b third before (Ship.all_wide_pages m.params false (pair_shipped m c w)) y
+      let y = subst (λ q. Does (shows one s) (shows two t) (Pages.all_wide_pages q false)) a second before (pair_shipped m c w) x in
+      subst (λ q. Does (shows two t) (shows three t) (Pages.fill_double q)) b third before (Pages.all_wide_pages m.params false (pair_shipped m c w)) y
 
-  pub pair-cut : (e : RunFault) → one.params ≡ m.params → Does (shows m store) (shows one s) (pair_shipped m c) → Does (shows one s) (IsCutShort e two t) (Ship.all_wide_pages one.params false) → Does (shows m store) (IsCutShort e two t) (Ship.ship_pair m.params c)
+  pub pair-cut : (e : RunFault) → one.params ≡ m.params → Does (shows m store) (shows one s) (pair_shipped m c) → Does (shows one s) (IsCutShort e two t) (Pages.all_wide_pages one.params false) → Does (shows m store) (IsCutShort e two t) (Pages.ship_pair m.params c)
   pair-cut e a first second before w h =
-      let y = subst (λ q. Does (shows one s) (IsCutShort e two t) (Ship.all_wide_pages q false)) a second before (pair_shipped m c w) (first before w h) in
-      cut-on e before two t (Ship.all_wide_pages m.params false (pair_shipped m c w)) (Ship.ship_pair m.params c w) y (continues-fill_double m.params (Ship.all_wide_pages m.params false (pair_shipped m c w)))
+      let y = subst (λ q. Does (shows one s) (IsCutShort e two t) (Pages.all_wide_pages q false)) a second before (pair_shipped m c w) (first before w h) in
+      cut-on e before two t (Pages.all_wide_pages m.params false (pair_shipped m c w)) (Pages.ship_pair m.params c w) y (continues-fill_double m.params (Pages.all_wide_pages m.params false (pair_shipped m c w)))

@@ -72,9 +72,9 @@ module _ (m now : MachineView) (store mid new : Lists Node) (body : ℕ) (notes 
 
 -- it is put out
 pub text-out : (m mid : MachineView) (store s : Lists Node) (body : ℕ) (notes : List NoteBox) (to : Fact) (c : PlainColumn) → c ≡ text_column m.params m.pool.lists (plain_list store body) (notes_shown store notes)
-    → Does (shows_notes notes m store) (shows mid s) Columns.without_column_floats → Does (shows mid s) to (Ship.put_out m.params c) → Does (shows_notes notes m store) to (Columns.put_out_text m.params (plain_list store body))
+    → Does (shows_notes notes m store) (shows mid s) Columns.without_column_floats → Does (shows mid s) to (Pages.put_out m.params c) → Does (shows_notes notes m store) to (Columns.put_out_text m.params (plain_list store body))
 text-out m mid store s body notes to c is text does before w h =
-    subst (λ k. to before (Ship.put_out m.params k (Columns.without_column_floats w))) (is ∙ made) (does before (Columns.without_column_floats w) (text before w h))
+    subst (λ k. to before (Pages.put_out m.params k (Columns.without_column_floats w))) (is ∙ made) (does before (Columns.without_column_floats w) (text before w h))
   where
     made : text_column m.params m.pool.lists (plain_list store body) (notes_shown store notes) ≡ text_column m.params w.state.floats (plain_list store body) (footnotes w.state)
     made = λ i. text_column m.params (ap (λ (x : State). x.floats) h.0.state i) (plain_list store body) (sym h.1 i)

@@ -47,7 +47,7 @@ module _ (p : Params) (body : List PlainNode) (w : Work) (good : WaitsWell p w.s
   put cs v = Columns.put_out_company p cs v
 
   put-ships : (cs : List Choice) (v : Work) → IsLast v.state → (put cs v).refused ≡ false → (put cs v).state.dead_cycles ≡ 0
-  put-ships cs v l h = last-ships P p (single_floats_column p (column_height_of p v.state.floats) (chosen_floats cs)) (Ship.with_deferred (left_floats cs) v) l h
+  put-ships cs v l h = last-ships P p (single_floats_column p (column_height_of p v.state.floats) (chosen_floats cs)) (Pages.with_deferred (left_floats cs) v) l h
 
   -- nothing waited
   emptied : waiting_floats w.state.floats ≡ 0 → t.half ≡ false → (w.state.two_columns ≡ false) ⊎ (w.state.first_column ≡ true) → How P p w b t.half t.rest
@@ -118,10 +118,10 @@ module _ (p : Params) (body : List PlainNode) (w : Work) (good : WaitsWell p w.s
 
   -- the column after a company's
   put-first : (cs : List Choice) → w.state.two_columns ≡ true → w.state.first_column ≡ false → (put cs a0).state.first_column ≡ true
-  put-first cs o f = (second-pairs P p (single_floats_column p (column_height_of p a0.state.floats) (chosen_floats cs)) (Ship.with_deferred (left_floats cs) a0) o f).first
+  put-first cs o f = (second-pairs P p (single_floats_column p (column_height_of p a0.state.floats) (chosen_floats cs)) (Pages.with_deferred (left_floats cs) a0) o f).first
 
-  put-kept : (cs : List Choice) → w.state.two_columns ≡ true → w.state.first_column ≡ true → IsKept P p (Ship.with_deferred (left_floats cs) a0) (put cs a0)
-  put-kept cs o f = first-kept P p (single_floats_column p (column_height_of p a0.state.floats) (chosen_floats cs)) (Ship.with_deferred (left_floats cs) a0) o f
+  put-kept : (cs : List Choice) → w.state.two_columns ≡ true → w.state.first_column ≡ true → IsKept P p (Pages.with_deferred (left_floats cs) a0) (put cs a0)
+  put-kept cs o f = first-kept P p (single_floats_column p (column_height_of p a0.state.floats) (chosen_floats cs)) (Pages.with_deferred (left_floats cs) a0) o f
 
   -- at a second column
   second-column : w.state.two_columns ≡ true → w.state.first_column ≡ false → AllColumned P p true a0 a → How P p w b t.half t.rest
@@ -140,7 +140,7 @@ module _ (p : Params) (body : List PlainNode) (w : Work) (good : WaitsWell p w.s
 
   -- at a first column, where wide pages come
   abbrev wide-done : Work
-  wide-done = Ship.all_wide_pages p true (with_floats (Clear.double_again p a0.state.floats) a0)
+  wide-done = Pages.all_wide_pages p true (with_floats (Clear.double_again p a0.state.floats) a0)
 
   rest-same : (c : Work) → ((Clear.clear_rest c).state ≡ c.state) × ((Clear.clear_rest c).refused ≡ c.refused)
   rest-same c = by_left (has_floats c.state.floats.deferred || has_floats c.state.floats.second)
@@ -167,12 +167,12 @@ module _ (p : Params) (body : List PlainNode) (w : Work) (good : WaitsWell p w.s
       sums w g d s r h i j k = omega arith
 
       by_wide : AllWidened P p d wide-done → NoneWait w.state.floats ⊎ ((wide-done.refused ≡ false → wide-done.state.dead_cycles ≡ 0) × (waiting_floats wide-done.state.floats + 1 ≤ waiting_floats w.state.floats))
-      by_wide (inl h) = inl (gathered-none (no-floats p a0.state.floats good.fit.double good.wide deferred-fit good.fit.second good.second good.none (λ r. narrow-again (good.narrow r)) n (subst (λ fs. company (Ship.wide_wanted p true) fs ≡ None) (floats-with (wide_part p) (wide-waits p) (a0.state.floats.double ++ wide_waiting p a0.state.floats) (record a0.state.floats { double = [] })) h.0)))
+      by_wide (inl h) = inl (gathered-none (no-floats p a0.state.floats good.fit.double good.wide deferred-fit good.fit.second good.second good.none (λ r. narrow-again (good.narrow r)) n (subst (λ fs. company (Pages.wide_wanted p true) fs ≡ None) (floats-with (wide_part p) (wide-waits p) (a0.state.floats.double ++ wide_waiting p a0.state.floats) (record a0.state.floats { double = [] })) h.0)))
       by_wide (inr h) =
-          let y : Follows P (Ship.ship_wide p h.0 d) wide-done = h.2 in
+          let y : Follows P (Pages.ship_wide p h.0 d) wide-done = h.2 in
           inr (
-            λ r. stays-zero (Ship.ship_wide p h.0 d).state.dead_cycles wide-done.state.dead_cycles (wide-cycles P p h.0 d (y.goes r)) (y.cycles r),
-            sums (waiting_floats w.state.floats) (waiting_floats a0.state.floats) (waiting_floats d.state.floats) (waiting_floats (Ship.ship_wide p h.0 d).state.floats) (waiting_floats wide-done.state.floats) same (double-follows P p a0).floats (follows-wide P p true d h.0 h.1).1 y.floats,
+            λ r. stays-zero (Pages.ship_wide p h.0 d).state.dead_cycles wide-done.state.dead_cycles (wide-cycles P p h.0 d (y.goes r)) (y.cycles r),
+            sums (waiting_floats w.state.floats) (waiting_floats a0.state.floats) (waiting_floats d.state.floats) (waiting_floats (Pages.ship_wide p h.0 d).state.floats) (waiting_floats wide-done.state.floats) same (double-follows P p a0).floats (follows-wide P p true d h.0 h.1).1 y.floats,
           )
 
   first-column : w.state.two_columns ≡ true → w.state.first_column ≡ true → AllColumned P p true a0 a → How P p w b t.half t.rest
@@ -199,7 +199,7 @@ module _ (p : Params) (body : List PlainNode) (w : Work) (good : WaitsWell p w.s
   first-column o f (inr h) =
       by_more h.2
     where
-      k : IsKept P p (Ship.with_deferred (left_floats h.0) a0) (put h.0 a0)
+      k : IsKept P p (Pages.with_deferred (left_floats h.0) a0) (put h.0 a0)
       k = put-kept h.0 o f
 
       y : Follows P (put h.0 a0) a
@@ -210,7 +210,7 @@ module _ (p : Params) (body : List PlainNode) (w : Work) (good : WaitsWell p w.s
           let first : a.state.first_column ≡ false = ap (λ (z : Work). z.state.first_column) e ∙ k.first in
           let half : t.half ≡ true = half-by true (and-both a.state.two_columns a.state.first_column (two-of true o) first) in
           let i : b.state ≡ (put h.0 a0).state = t.kept half ∙ ap (λ (z : Work). z.state) e in
-          let j : b.state.floats ≡ (Ship.with_deferred (left_floats h.0) a0).state.floats = ap (λ s. s.floats) i ∙ k.floats in
+          let j : b.state.floats ≡ (Pages.with_deferred (left_floats h.0) a0).state.floats = ap (λ s. s.floats) i ∙ k.floats in
           inr (inl (half, o, ap (λ s. s.first_column) i ∙ k.first, ap (λ l. l.top) j, ap (λ l. l.bottom) j, ap (λ l. l.double) j, λ z. fewer 1 (put h.0 a0) (follows-company P p true a0 h.0 h.1).1 y))
       by_more (inr i) =
           let two : waiting_floats b.state.floats + 2 ≤ waiting_floats w.state.floats = fewer 2 (put i.0 (put h.0 a0)) (two-fewer h.0 h.1 i.0 i.1) i.2 in

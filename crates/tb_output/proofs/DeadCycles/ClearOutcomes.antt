@@ -94,7 +94,7 @@ suits-single p l f d h s = by_tests f.places.p f.wide s (subst (λ (z : ℤ). in
     by_tests false false s h = h
     by_tests a true s h = let no : ⊥ = grind (arith, s) in absurd no
 
-suits-wide : (p : Params) (f : Float) → Fits p f → Wide f → suits (Ship.wide_wanted p true) f ≡ true
+suits-wide : (p : Params) (f : Float) → Fits p f → Wide f → suits (Pages.wide_wanted p true) f ≡ true
 suits-wide p f h s = by_tests f.places.p f.wide s h
   where
     by_tests : (a b : Bool) → b ≡ true → int_le f.height p.textheight ≡ true → ((a || true) && beq b true && int_le f.height p.textheight) ≡ true
@@ -106,24 +106,24 @@ pub no-singles : (p : Params) (l : FloatLists) (fs : List Float) → l.double �
 no-singles p l [] d h s e = refl
 no-singles p l (f ∷ fs) d h s e = absurd (both_ways (suits (Columns.single_wanted p l true) f) (none-suits (Columns.single_wanted p l true) f fs refl e) (suits-single p l f d h.0 s.0))
 
-no-mixed : (p : Params) (l : FloatLists) (fs : List Float) → AllByRecursion (Fits p) l.double → AllByRecursion Wide l.double → AllByRecursion (Fits p) fs → company (Columns.single_wanted p l true) fs ≡ None → company (Ship.wide_wanted p true) (l.double ++ fs) ≡ None → (l.double ≡ []) × (fs ≡ [])
+no-mixed : (p : Params) (l : FloatLists) (fs : List Float) → AllByRecursion (Fits p) l.double → AllByRecursion Wide l.double → AllByRecursion (Fits p) fs → company (Columns.single_wanted p l true) fs ≡ None → company (Pages.wide_wanted p true) (l.double ++ fs) ≡ None → (l.double ≡ []) × (fs ≡ [])
 no-mixed p l fs a b h e k = by_double l.double refl a b k
   where
-    by_wide : (t : Bool) (f : Float) (gs : List Float) → f.wide ≡ t → l.double ≡ [] → Fits p f → company (Columns.single_wanted p l true) (f ∷ gs) ≡ None → company (Ship.wide_wanted p true) (f ∷ gs) ≡ None → ⊥
+    by_wide : (t : Bool) (f : Float) (gs : List Float) → f.wide ≡ t → l.double ≡ [] → Fits p f → company (Columns.single_wanted p l true) (f ∷ gs) ≡ None → company (Pages.wide_wanted p true) (f ∷ gs) ≡ None → ⊥
     by_wide false f gs w d x e k = both_ways (suits (Columns.single_wanted p l true) f) (none-suits (Columns.single_wanted p l true) f gs refl e) (suits-single p l f d x w)
-    by_wide true f gs w d x e k = both_ways (suits (Ship.wide_wanted p true) f) (none-suits (Ship.wide_wanted p true) f gs refl k) (suits-wide p f x w)
+    by_wide true f gs w d x e k = both_ways (suits (Pages.wide_wanted p true) f) (none-suits (Pages.wide_wanted p true) f gs refl k) (suits-wide p f x w)
 
-    by_floats : (gs : List Float) → AllByRecursion (Fits p) gs → l.double ≡ [] → company (Columns.single_wanted p l true) gs ≡ None → company (Ship.wide_wanted p true) gs ≡ None → gs ≡ []
+    by_floats : (gs : List Float) → AllByRecursion (Fits p) gs → l.double ≡ [] → company (Columns.single_wanted p l true) gs ≡ None → company (Pages.wide_wanted p true) gs ≡ None → gs ≡ []
     by_floats [] h d e k = refl
     by_floats (f ∷ gs) h d e k = absurd (by_wide f.wide f gs refl d h.0 e k)
 
-    by_double : (ds : List Float) → l.double ≡ ds → AllByRecursion (Fits p) ds → AllByRecursion Wide ds → company (Ship.wide_wanted p true) (ds ++ fs) ≡ None → (l.double ≡ []) × (fs ≡ [])
+    by_double : (ds : List Float) → l.double ≡ ds → AllByRecursion (Fits p) ds → AllByRecursion Wide ds → company (Pages.wide_wanted p true) (ds ++ fs) ≡ None → (l.double ≡ []) × (fs ≡ [])
     by_double [] d a b k = (d, by_floats fs h d e k)
-    by_double (f ∷ ds) d a b k = absurd (both_ways (suits (Ship.wide_wanted p true) f) (none-suits (Ship.wide_wanted p true) f (ds ++ fs) refl k) (suits-wide p f a.0 b.0))
+    by_double (f ∷ ds) d a b k = absurd (both_ways (suits (Pages.wide_wanted p true) f) (none-suits (Pages.wide_wanted p true) f (ds ++ fs) refl k) (suits-wide p f a.0 b.0))
 
-no-wides : (p : Params) (fs : List Float) → AllByRecursion (Fits p) fs → AllByRecursion Wide fs → company (Ship.wide_wanted p true) fs ≡ None → fs ≡ []
+no-wides : (p : Params) (fs : List Float) → AllByRecursion (Fits p) fs → AllByRecursion Wide fs → company (Pages.wide_wanted p true) fs ≡ None → fs ≡ []
 no-wides p [] h s e = refl
-no-wides p (f ∷ fs) h s e = absurd (both_ways (suits (Ship.wide_wanted p true) f) (none-suits (Ship.wide_wanted p true) f fs refl e) (suits-wide p f h.0 s.0))
+no-wides p (f ∷ fs) h s e = absurd (both_ways (suits (Pages.wide_wanted p true) f) (none-suits (Pages.wide_wanted p true) f fs refl e) (suits-wide p f h.0 s.0))
 
 -- no float is wide and single
 pub no-both : (fs : List Float) → AllByRecursion Wide fs → AllByRecursion Single fs → fs ≡ []
@@ -131,7 +131,7 @@ no-both [] h k = refl
 no-both (f ∷ fs) h k = absurd (both_ways f.wide k.0 h.0)
 
 -- with no company of single floats and none of wide ones, nothing waits
-pub no-floats : (p : Params) (l : FloatLists) → AllByRecursion (Fits p) l.double → AllByRecursion Wide l.double → AllByRecursion (Fits p) l.deferred → AllByRecursion (Fits p) l.second → AllByRecursion Wide l.second → (has_second p ≡ false → l.second ≡ []) → (has_second p ≡ true → AllByRecursion Single l.deferred) → company (Columns.single_wanted p l true) l.deferred ≡ None → company (Ship.wide_wanted p true) (l.double ++ wide_waiting p l) ≡ None → (l.double ≡ []) × (l.deferred ≡ []) × (l.second ≡ [])
+pub no-floats : (p : Params) (l : FloatLists) → AllByRecursion (Fits p) l.double → AllByRecursion Wide l.double → AllByRecursion (Fits p) l.deferred → AllByRecursion (Fits p) l.second → AllByRecursion Wide l.second → (has_second p ≡ false → l.second ≡ []) → (has_second p ≡ true → AllByRecursion Single l.deferred) → company (Columns.single_wanted p l true) l.deferred ≡ None → company (Pages.wide_wanted p true) (l.double ++ wide_waiting p l) ≡ None → (l.double ≡ []) × (l.deferred ≡ []) × (l.second ≡ [])
 no-floats p l a b h i j none narrow e k = by_release (has_second p) refl k
   where
     in_two : has_second p ≡ true → (l.double ≡ []) × (l.second ≡ []) → (l.double ≡ []) × (l.deferred ≡ []) × (l.second ≡ [])
@@ -140,7 +140,7 @@ no-floats p l a b h i j none narrow e k = by_release (has_second p) refl k
     in_one : has_second p ≡ false → (l.double ≡ []) × (l.deferred ≡ []) → (l.double ≡ []) × (l.deferred ≡ []) × (l.second ≡ [])
     in_one r d = (d.0, d.1, none r)
 
-    by_release : (t : Bool) → has_second p ≡ t → company (Ship.wide_wanted p true) (l.double ++ floats_of (if t then parts.Second else parts.Deferred) l) ≡ None → (l.double ≡ []) × (l.deferred ≡ []) × (l.second ≡ [])
+    by_release : (t : Bool) → has_second p ≡ t → company (Pages.wide_wanted p true) (l.double ++ floats_of (if t then parts.Second else parts.Deferred) l) ≡ None → (l.double ≡ []) × (l.deferred ≡ []) × (l.second ≡ [])
     by_release true r k = in_two r (append-none l.double l.second (no-wides p (l.double ++ l.second) (all-join (Fits p) l.double l.second a i) (all-join Wide l.double l.second b j) k))
     by_release false r k = in_one r (no-mixed p l l.deferred a b h e k)
 
@@ -196,25 +196,25 @@ module _ (P : Float → Type 0) (p : Params) where
 
   abbrev pub AllWidened : Work → Work → Type 0
   AllWidened w r =
-      ((company (Ship.wide_wanted p true) (wide_waiting p w.state.floats) ≡ None) × (r ≡ w))
-      ⊎ ((cs : List Choice) × (company (Ship.wide_wanted p true) (wide_waiting p w.state.floats) ≡ Some cs) × Follows P (Ship.ship_wide p cs w) r)
+      ((company (Pages.wide_wanted p true) (wide_waiting p w.state.floats) ≡ None) × (r ≡ w))
+      ⊎ ((cs : List Choice) × (company (Pages.wide_wanted p true) (wide_waiting p w.state.floats) ≡ Some cs) × Follows P (Pages.ship_wide p cs w) r)
 
-  no-wide : (fs : List Float) → length fs ≤ 0 → company (Ship.wide_wanted p true) fs ≡ None
+  no-wide : (fs : List Float) → length fs ≤ 0 → company (Pages.wide_wanted p true) fs ≡ None
   no-wide [] h = refl
   no-wide (f ∷ fs) h = let no : ⊥ = omega arith in absurd no
 
-  all-widened-by : (n : ℕ) (w : Work) (o : Option (List Choice)) → company (Ship.wide_wanted p true) (wide_waiting p w.state.floats) ≡ o → AllWidened w (Ship.wide_pages_by (λ w'. Ship.wide_pages p true n w') p w o)
+  all-widened-by : (n : ℕ) (w : Work) (o : Option (List Choice)) → company (Pages.wide_wanted p true) (wide_waiting p w.state.floats) ≡ o → AllWidened w (Pages.wide_pages_by (λ w'. Pages.wide_pages p true n w') p w o)
   all-widened-by n w None e = inl (e, refl)
-  all-widened-by n w (Some cs) e = inr (cs, e, follows-wide_pages P p true n (Ship.ship_wide p cs w))
+  all-widened-by n w (Some cs) e = inr (cs, e, follows-wide_pages P p true n (Pages.ship_wide p cs w))
 
-  all-widened-in : (n : ℕ) (w : Work) → length (wide_waiting p w.state.floats) ≤ n → AllWidened w (Ship.wide_pages p true n w)
+  all-widened-in : (n : ℕ) (w : Work) → length (wide_waiting p w.state.floats) ≤ n → AllWidened w (Pages.wide_pages p true n w)
   all-widened-in zero w h = inl (no-wide (wide_waiting p w.state.floats) h, refl)
-  all-widened-in (suc n) w h = all-widened-by n w (company (Ship.wide_wanted p true) (wide_waiting p w.state.floats)) refl
+  all-widened-in (suc n) w h = all-widened-by n w (company (Pages.wide_wanted p true) (wide_waiting p w.state.floats)) refl
 
-  pub all-widened : (w : Work) → AllWidened w (Ship.all_wide_pages p true w)
+  pub all-widened : (w : Work) → AllWidened w (Pages.all_wide_pages p true w)
   all-widened w = all-widened-in (length (wide_waiting p w.state.floats)) w (omega arith)
 
-  pub wide-cycles : (cs : List Choice) (w : Work) → (Ship.ship_wide p cs w).refused ≡ false → (Ship.ship_wide p cs w).state.dead_cycles ≡ 0
+  pub wide-cycles : (cs : List Choice) (w : Work) → (Pages.ship_wide p cs w).refused ≡ false → (Pages.ship_wide p cs w).state.dead_cycles ≡ 0
   wide-cycles cs w h = ship-cycles p (wide (wide_floats_column p p.textheight (chosen_floats cs))) (with_floats (with_wide_waiting p (left_floats cs) w.state.floats) w) h
 
   -- ---- the end of a clear, after its columns of floats
@@ -253,9 +253,9 @@ module _ (P : Float → Type 0) (p : Params) where
       no_half : (c : Work) → false ≡ true → c.state ≡ a.state
       no_half c h = cc
 
-      by_columns : (t f : Bool) → a.state.two_columns ≡ t → a.state.first_column ≡ f → IsTail a (Clear.clear_rest (if not t then a else (if f then Ship.all_wide_pages p true d else puts (made blank_box ∷ Clear.clear_again) a)))
+      by_columns : (t f : Bool) → a.state.two_columns ≡ t → a.state.first_column ≡ f → IsTail a (Clear.clear_rest (if not t then a else (if f then Pages.all_wide_pages p true d else puts (made blank_box ∷ Clear.clear_again) a)))
       by_columns false f t k = rest-tail a a false (follows-same P a) (not-half false f a t k refl) (λ h. refl)
-      by_columns true true t k = rest-tail a (Ship.all_wide_pages p true d) false (follows-then P a d (Ship.all_wide_pages p true d) (double-follows a) (follows-wide_pages P p true (length (wide_waiting p d.state.floats)) d)) (not-half true true a t k refl) (no_half (Ship.all_wide_pages p true d))
+      by_columns true true t k = rest-tail a (Pages.all_wide_pages p true d) false (follows-then P a d (Pages.all_wide_pages p true d) (double-follows a) (follows-wide_pages P p true (length (wide_waiting p d.state.floats)) d)) (not-half true true a t k refl) (no_half (Pages.all_wide_pages p true d))
       by_columns true false t k = rest-tail a (puts (made blank_box ∷ Clear.clear_again) a) true (follows-same P (puts (made blank_box ∷ Clear.clear_again) a)) (is-half a t k) (λ h. refl)
 
   -- what a clear without footnotes leads to

@@ -23,7 +23,7 @@ use Rattle.tb_output.proofs.StepLaws.FollowLemmas.{waiting_floats, AllWait, Foll
 
 -- ---- a page that is shipped
 
-pub ship-cycles : (p : Params) (sheet : PlainSheet) (w : Work) → (Ship.ship p sheet w).refused ≡ false → (Ship.ship p sheet w).state.dead_cycles ≡ 0
+pub ship-cycles : (p : Params) (sheet : PlainSheet) (w : Work) → (Pages.ship p sheet w).refused ≡ false → (Pages.ship p sheet w).state.dead_cycles ≡ 0
 ship-cycles p sheet w = by_refused w.refused (int_lt p.maxpages (pos w.state.page)) refl
   where
     turned : Work
@@ -33,12 +33,12 @@ ship-cycles p sheet w = by_refused w.refused (int_lt p.maxpages (pos w.state.pag
     by_sent true = refl
     by_sent false = refl
 
-    by_refused : (t u : Bool) → w.refused ≡ t → (if t then w else (if u then record w { refused = true } else Ship.ship_now sheet w)).refused ≡ false → (if t then w else (if u then record w { refused = true } else Ship.ship_now sheet w)).state.dead_cycles ≡ 0
+    by_refused : (t u : Bool) → w.refused ≡ t → (if t then w else (if u then record w { refused = true } else Pages.ship_now sheet w)).refused ≡ false → (if t then w else (if u then record w { refused = true } else Pages.ship_now sheet w)).state.dead_cycles ≡ 0
     by_refused true u r h = let no : ⊥ = grind (arith, r, h) in absurd no
     by_refused false true r h = let no : ⊥ = grind (arith, h) in absurd no
     by_refused false false r h = by_sent w.refused
 
-pub ship-lists : (p : Params) (sheet : PlainSheet) (w : Work) → ((Ship.ship p sheet w).state.floats ≡ w.state.floats) × ((Ship.ship p sheet w).state.first_column ≡ w.state.first_column)
+pub ship-lists : (p : Params) (sheet : PlainSheet) (w : Work) → ((Pages.ship p sheet w).state.floats ≡ w.state.floats) × ((Pages.ship p sheet w).state.first_column ≡ w.state.first_column)
 ship-lists p sheet w = by_refused w.refused (int_lt p.maxpages (pos w.state.page)) w.refused
   where
     turned : Work
@@ -66,44 +66,44 @@ records-column r w = by_refused w.refused
     by_refused true = (refl, refl)
     by_refused false = (refl, refl)
 
-placed-column : (p : Params) (place : Where) (f : Float) (left : FloatLists) (w : Work) → SameColumn w (Place.place_float p place f left w)
-placed-column p place f left w = by_record (Place.is_placed place)
+placed-column : (p : Params) (place : Where) (f : Float) (left : FloatLists) (w : Work) → SameColumn w (FloatMoves.place_float p place f left w)
+placed-column p place f left w = by_record (FloatMoves.is_placed place)
   where
     r : Recorded
     r = placed f place w.state.floats (column_height_of p w.state.floats)
 
-    by_record : (t : Bool) → SameColumn w (with_floats (Place.joined_to place f left) (if t then records_also r w else w))
+    by_record : (t : Bool) → SameColumn w (with_floats (FloatMoves.joined_to place f left) (if t then records_also r w else w))
     by_record true = ap (λ s. s.first_column) (records-column r w).0
     by_record false = refl
 
-waiting-column : (from : Part) (p : Params) (place : Where) (f : Float) (before rest : List Float) (w : Work) → SameColumn w (Place.place_waiting from p place f before rest w)
-waiting-column from p place f before rest w = by_place (Place.is_placed place)
+waiting-column : (from : Part) (p : Params) (place : Where) (f : Float) (before rest : List Float) (w : Work) → SameColumn w (FloatMoves.place_waiting from p place f before rest w)
+waiting-column from p place f before rest w = by_place (FloatMoves.is_placed place)
   where
-    by_place : (t : Bool) → SameColumn w (if t then Place.place_float p place f (with_floats_of from (before ++ rest) w.state.floats) w else w)
+    by_place : (t : Bool) → SameColumn w (if t then FloatMoves.place_float p place f (with_floats_of from (before ++ rest) w.state.floats) w else w)
     by_place true = placed-column p place f (with_floats_of from (before ++ rest) w.state.floats) w
     by_place false = refl
 
-double-column : (from : Part) (p : Params) (before fs : List Float) (w : Work) → SameColumn w (Place.place_double from p before fs w)
+double-column : (from : Part) (p : Params) (before fs : List Float) (w : Work) → SameColumn w (FloatMoves.place_double from p before fs w)
 double-column from p before [] w = refl
 double-column from p before (f ∷ rest) w =
     let place = Area.double_place p w.state.floats w.state.suppress before f in
-    let w' = Place.place_waiting from p place f before rest w in
-    double-column from p (Place.still_deferred place f before) rest w' ∙ waiting-column from p place f before rest w
+    let w' = FloatMoves.place_waiting from p place f before rest w in
+    double-column from p (FloatMoves.still_deferred place f before) rest w' ∙ waiting-column from p place f before rest w
 
-pub next-column : (p : Params) (before fs : List Float) (w : Work) → SameColumn w (Place.place_next p before fs w)
+pub next-column : (p : Params) (before fs : List Float) (w : Work) → SameColumn w (FloatMoves.place_next p before fs w)
 next-column p before [] w = refl
 next-column p before (f ∷ rest) w =
     let place = Area.next_place p w.state.floats w.state.suppress before f in
-    let w' = Place.place_waiting parts.Deferred p place f before rest w in
-    next-column p (Place.still_deferred place f before) rest w' ∙ waiting-column parts.Deferred p place f before rest w
+    let w' = FloatMoves.place_waiting parts.Deferred p place f before rest w in
+    next-column p (FloatMoves.still_deferred place f before) rest w' ∙ waiting-column parts.Deferred p place f before rest w
 
-wide_by-column : (p : Params) (again : Work → Work) → ((w : Work) → SameColumn w (again w)) → (w : Work) (o : Option (List Choice)) → SameColumn w (Ship.wide_pages_by again p w o)
+wide_by-column : (p : Params) (again : Work → Work) → ((w : Work) → SameColumn w (again w)) → (w : Work) (o : Option (List Choice)) → SameColumn w (Pages.wide_pages_by again p w o)
 wide_by-column p again h w None = refl
-wide_by-column p again h w (Some cs) = h (Ship.ship_wide p cs w) ∙ (ship-lists p _ (with_floats (with_wide_waiting p (left_floats cs) w.state.floats) w)).1
+wide_by-column p again h w (Some cs) = h (Pages.ship_wide p cs w) ∙ (ship-lists p _ (with_floats (with_wide_waiting p (left_floats cs) w.state.floats) w)).1
 
-pub wide-column : (p : Params) (clearing : Bool) (n : ℕ) (w : Work) → SameColumn w (Ship.wide_pages p clearing n w)
+pub wide-column : (p : Params) (clearing : Bool) (n : ℕ) (w : Work) → SameColumn w (Pages.wide_pages p clearing n w)
 wide-column p clearing zero w = refl
-wide-column p clearing (suc n) w = wide_by-column p (λ w'. Ship.wide_pages p clearing n w') (λ w'. wide-column p clearing n w') w (company (Ship.wide_wanted p clearing) (wide_waiting p w.state.floats))
+wide-column p clearing (suc n) w = wide_by-column p (λ w'. Pages.wide_pages p clearing n w') (λ w'. wide-column p clearing n w') w (company (Pages.wide_wanted p clearing) (wide_waiting p w.state.floats))
 
 -- ---- floats of the next column leave the double ones alone
 
@@ -120,7 +120,7 @@ area-single Area.at_top = tt
 area-single Area.at_bottom = tt
 area-single Area.deferred = tt
 
-pub joined-single : (place : Where) (f : Float) (l : FloatLists) → NotDouble place → (Place.joined_to place f l).double ≡ l.double
+pub joined-single : (place : Where) (f : Float) (l : FloatLists) → NotDouble place → (FloatMoves.joined_to place f l).double ≡ l.double
 joined-single places.Here f l h = refl
 joined-single places.Top f l h = refl
 joined-single places.Bottom f l h = refl
@@ -128,27 +128,27 @@ joined-single places.Page f l h = refl
 joined-single places.Double f l h = absurd h
 joined-single places.Deferred f l h = refl
 
-deferred-single : (p : Params) (place : Where) (f : Float) (before rest : List Float) (w : Work) → NotDouble place → (Place.place_waiting parts.Deferred p place f before rest w).state.floats.double ≡ w.state.floats.double
-deferred-single p place f before rest w h = by_place (Place.is_placed place)
+deferred-single : (p : Params) (place : Where) (f : Float) (before rest : List Float) (w : Work) → NotDouble place → (FloatMoves.place_waiting parts.Deferred p place f before rest w).state.floats.double ≡ w.state.floats.double
+deferred-single p place f before rest w h = by_place (FloatMoves.is_placed place)
   where
     l : FloatLists
     l = record w.state.floats { deferred = before ++ rest }
 
-    by_place : (t : Bool) → (if t then Place.place_float p place f l w else w).state.floats.double ≡ w.state.floats.double
+    by_place : (t : Bool) → (if t then FloatMoves.place_float p place f l w else w).state.floats.double ≡ w.state.floats.double
     by_place true = joined-single place f l h
     by_place false = refl
 
-pub next-single : (p : Params) (before fs : List Float) (w : Work) → (Place.place_next p before fs w).state.floats.double ≡ w.state.floats.double
+pub next-single : (p : Params) (before fs : List Float) (w : Work) → (FloatMoves.place_next p before fs w).state.floats.double ≡ w.state.floats.double
 next-single p before [] w = refl
 next-single p before (f ∷ rest) w =
     let place = Area.next_place p w.state.floats w.state.suppress before f in
-    let w' = Place.place_waiting parts.Deferred p place f before rest w in
-    next-single p (Place.still_deferred place f before) rest w' ∙ deferred-single p place f before rest w (area-single (Area.next_area_place p w.state.floats w.state.suppress before f))
+    let w' = FloatMoves.place_waiting parts.Deferred p place f before rest w in
+    next-single p (FloatMoves.still_deferred place f before) rest w' ∙ deferred-single p place f before rest w (area-single (Area.next_area_place p w.state.floats w.state.suppress before f))
 
 -- ---- placing floats is no firing
 
-placed-cycles : (p : Params) (place : Where) (f : Float) (before rest : List Float) (w : Work) → (Place.place_waiting parts.Deferred p place f before rest w).state.dead_cycles ≡ w.state.dead_cycles
-placed-cycles p place f before rest w = by_place (Place.is_placed place)
+placed-cycles : (p : Params) (place : Where) (f : Float) (before rest : List Float) (w : Work) → (FloatMoves.place_waiting parts.Deferred p place f before rest w).state.dead_cycles ≡ w.state.dead_cycles
+placed-cycles p place f before rest w = by_place (FloatMoves.is_placed place)
   where
     l : FloatLists
     l = record w.state.floats { deferred = before ++ rest }
@@ -156,20 +156,20 @@ placed-cycles p place f before rest w = by_place (Place.is_placed place)
     r : Recorded
     r = placed f place w.state.floats (column_height_of p w.state.floats)
 
-    by_record : (t : Bool) → (with_floats (Place.joined_to place f l) (if t then records_also r w else w)).state.dead_cycles ≡ w.state.dead_cycles
+    by_record : (t : Bool) → (with_floats (FloatMoves.joined_to place f l) (if t then records_also r w else w)).state.dead_cycles ≡ w.state.dead_cycles
     by_record true = ap (λ s. s.dead_cycles) (records-column r w).0
     by_record false = refl
 
-    by_place : (t : Bool) → (if t then Place.place_float p place f l w else w).state.dead_cycles ≡ w.state.dead_cycles
-    by_place true = by_record (Place.is_placed place)
+    by_place : (t : Bool) → (if t then FloatMoves.place_float p place f l w else w).state.dead_cycles ≡ w.state.dead_cycles
+    by_place true = by_record (FloatMoves.is_placed place)
     by_place false = refl
 
-next-cycles : (p : Params) (before fs : List Float) (w : Work) → (Place.place_next p before fs w).state.dead_cycles ≡ w.state.dead_cycles
+next-cycles : (p : Params) (before fs : List Float) (w : Work) → (FloatMoves.place_next p before fs w).state.dead_cycles ≡ w.state.dead_cycles
 next-cycles p before [] w = refl
 next-cycles p before (f ∷ rest) w =
     let place = Area.next_place p w.state.floats w.state.suppress before f in
-    let w' = Place.place_waiting parts.Deferred p place f before rest w in
-    next-cycles p (Place.still_deferred place f before) rest w' ∙ placed-cycles p place f before rest w
+    let w' = FloatMoves.place_waiting parts.Deferred p place f before rest w in
+    next-cycles p (FloatMoves.still_deferred place f before) rest w' ∙ placed-cycles p place f before rest w
 
 -- ---- a column is put out
 
@@ -178,38 +178,38 @@ abbrev pub IsLast : State → Type 0
 IsLast s = (s.two_columns ≡ false) ⊎ (s.first_column ≡ false)
 
 module _ (P : Float → Type 0) (p : Params) where
-  pair-cycles : (c : PlainColumn) (w : Work) → (Ship.ship_pair p c w).refused ≡ false → (Ship.ship_pair p c w).state.dead_cycles ≡ 0
+  pair-cycles : (c : PlainColumn) (w : Work) → (Pages.ship_pair p c w).refused ≡ false → (Pages.ship_pair p c w).state.dead_cycles ≡ 0
   pair-cycles c w h =
-      let a = Ship.ship p (pair_sheet p w.state.floats (Ship.left_or c w.state.left_column) c) w in
-      let x : Follows P (Ship.ship p (pair_sheet p w.state.floats (Ship.left_or c w.state.left_column) c) w) (Ship.ship_pair p c w) = follows-pair_rest P p c w in
-      stays-zero a.state.dead_cycles (Ship.ship_pair p c w).state.dead_cycles (ship-cycles p _ w (x.goes h)) (x.cycles h)
+      let a = Pages.ship p (pair_sheet p w.state.floats (Pages.left_or c w.state.left_column) c) w in
+      let x : Follows P (Pages.ship p (pair_sheet p w.state.floats (Pages.left_or c w.state.left_column) c) w) (Pages.ship_pair p c w) = follows-pair_rest P p c w in
+      stays-zero a.state.dead_cycles (Pages.ship_pair p c w).state.dead_cycles (ship-cycles p _ w (x.goes h)) (x.cycles h)
 
   -- the double floats leave with the pair, and a first column begins
-  pair-first : (c : PlainColumn) (w : Work) → ((Ship.ship_pair p c w).state.first_column ≡ true) × (waiting_floats (Ship.ship_pair p c w).state.floats + length w.state.floats.double ≤ waiting_floats w.state.floats)
+  pair-first : (c : PlainColumn) (w : Work) → ((Pages.ship_pair p c w).state.first_column ≡ true) × (waiting_floats (Pages.ship_pair p c w).state.floats + length w.state.floats.double ≤ waiting_floats w.state.floats)
   pair-first c w =
-      let a = Ship.ship p (pair_sheet p w.state.floats (Ship.left_or c w.state.left_column) c) w in
-      let b = Ship.without_double a in
-      let d = Ship.all_wide_pages p false b in
-      let x : Follows P (Ship.without_double (Ship.ship p (pair_sheet p w.state.floats (Ship.left_or c w.state.left_column) c) w)) (Ship.ship_pair p c w) = follows-then P b d (Ship.ship_pair p c w) (follows-wide_pages P p false (length (wide_waiting p b.state.floats)) b) (follows-double P (wide_part p) (wide-waits p) p [] (wide_waiting p d.state.floats) d refl) in
-      let u : waiting_floats (Ship.without_double (Ship.ship p (pair_sheet p w.state.floats (Ship.left_or c w.state.left_column) c) w)).state.floats + length (Ship.ship p (pair_sheet p w.state.floats (Ship.left_or c w.state.left_column) c) w).state.floats.double ≤ waiting_floats (Ship.ship p (pair_sheet p w.state.floats (Ship.left_or c w.state.left_column) c) w).state.floats = (follows-undoubled P a).1 in
-      let l = (ship-lists p (pair_sheet p w.state.floats (Ship.left_or c w.state.left_column) c) w).0 in (
+      let a = Pages.ship p (pair_sheet p w.state.floats (Pages.left_or c w.state.left_column) c) w in
+      let b = Pages.without_double a in
+      let d = Pages.all_wide_pages p false b in
+      let x : Follows P (Pages.without_double (Pages.ship p (pair_sheet p w.state.floats (Pages.left_or c w.state.left_column) c) w)) (Pages.ship_pair p c w) = follows-then P b d (Pages.ship_pair p c w) (follows-wide_pages P p false (length (wide_waiting p b.state.floats)) b) (follows-double P (wide_part p) (wide-waits p) p [] (wide_waiting p d.state.floats) d refl) in
+      let u : waiting_floats (Pages.without_double (Pages.ship p (pair_sheet p w.state.floats (Pages.left_or c w.state.left_column) c) w)).state.floats + length (Pages.ship p (pair_sheet p w.state.floats (Pages.left_or c w.state.left_column) c) w).state.floats.double ≤ waiting_floats (Pages.ship p (pair_sheet p w.state.floats (Pages.left_or c w.state.left_column) c) w).state.floats = (follows-undoubled P a).1 in
+      let l = (ship-lists p (pair_sheet p w.state.floats (Pages.left_or c w.state.left_column) c) w).0 in (
         double-column (wide_part p) p [] (wide_waiting p d.state.floats) d ∙ wide-column p false (length (wide_waiting p b.state.floats)) b,
-        sums (waiting_floats w.state.floats) (waiting_floats a.state.floats) (waiting_floats b.state.floats) (waiting_floats (Ship.ship_pair p c w).state.floats) (length w.state.floats.double) (length a.state.floats.double) (ap waiting_floats l) (ap (λ k. length k.double) l) u x.floats,
+        sums (waiting_floats w.state.floats) (waiting_floats a.state.floats) (waiting_floats b.state.floats) (waiting_floats (Pages.ship_pair p c w).state.floats) (length w.state.floats.double) (length a.state.floats.double) (ap waiting_floats l) (ap (λ k. length k.double) l) u x.floats,
       )
     where
       sums : (w a b r d e : ℕ) → a ≡ w → e ≡ d → b + e ≤ a → r ≤ b → r + d ≤ w
       sums w a b r d e h i j k = omega arith
 
-  by-cycles : (c : PlainColumn) (a : Work) → IsLast a.state → (Ship.put_out_by p c a).refused ≡ false → (Ship.put_out_by p c a).state.dead_cycles ≡ 0
+  by-cycles : (c : PlainColumn) (a : Work) → IsLast a.state → (Pages.put_out_by p c a).refused ≡ false → (Pages.put_out_by p c a).state.dead_cycles ≡ 0
   by-cycles c a l = by_columns a.state.two_columns a.state.first_column l
     where
-      by_columns : (t f : Bool) → (t ≡ false) ⊎ (f ≡ false) → (if not t then Ship.ship p (one c) a else (if f then Ship.keep_left c a else Ship.ship_pair p c a)).refused ≡ false → (if not t then Ship.ship p (one c) a else (if f then Ship.keep_left c a else Ship.ship_pair p c a)).state.dead_cycles ≡ 0
+      by_columns : (t f : Bool) → (t ≡ false) ⊎ (f ≡ false) → (if not t then Pages.ship p (one c) a else (if f then Pages.keep_left c a else Pages.ship_pair p c a)).refused ≡ false → (if not t then Pages.ship p (one c) a else (if f then Pages.keep_left c a else Pages.ship_pair p c a)).state.dead_cycles ≡ 0
       by_columns false f l h = ship-cycles p (one c) a h
       by_columns true false l h = pair-cycles c a h
       by_columns true true (inl e) h = let no : ⊥ = grind (arith, e) in absurd no
       by_columns true true (inr e) h = let no : ⊥ = grind (arith, e) in absurd no
 
-  pub last-ships : (c : PlainColumn) (w : Work) → IsLast w.state → (Ship.put_out p c w).refused ≡ false → (Ship.put_out p c w).state.dead_cycles ≡ 0
+  pub last-ships : (c : PlainColumn) (w : Work) → IsLast w.state → (Pages.put_out p c w).refused ≡ false → (Pages.put_out p c w).state.dead_cycles ≡ 0
   last-ships c w l h = by-cycles c (records_also (output c) w) (subst IsLast (sym (records-column (output c) w).0) l) h
 
   -- the first of two columns is kept
@@ -218,15 +218,15 @@ module _ (P : Float → Type 0) (p : Params) where
     pub floats : b.state.floats ≡ w.state.floats
     pub cycles : b.state.dead_cycles ≡ w.state.dead_cycles
 
-  by-kept : (c : PlainColumn) (a : Work) → a.state.two_columns ≡ true → a.state.first_column ≡ true → IsKept a (Ship.put_out_by p c a)
+  by-kept : (c : PlainColumn) (a : Work) → a.state.two_columns ≡ true → a.state.first_column ≡ true → IsKept a (Pages.put_out_by p c a)
   by-kept c a t f = by_columns a.state.two_columns a.state.first_column t f
     where
-      by_columns : (x y : Bool) → x ≡ true → y ≡ true → IsKept a (if not x then Ship.ship p (one c) a else (if y then Ship.keep_left c a else Ship.ship_pair p c a))
+      by_columns : (x y : Bool) → x ≡ true → y ≡ true → IsKept a (if not x then Pages.ship p (one c) a else (if y then Pages.keep_left c a else Pages.ship_pair p c a))
       by_columns false y h k = let no : ⊥ = grind (arith, h) in absurd no
       by_columns true false h k = let no : ⊥ = grind (arith, k) in absurd no
       by_columns true true h k = record { first = refl; floats = refl; cycles = refl }
 
-  pub first-kept : (c : PlainColumn) (w : Work) → w.state.two_columns ≡ true → w.state.first_column ≡ true → IsKept w (Ship.put_out p c w)
+  pub first-kept : (c : PlainColumn) (w : Work) → w.state.two_columns ≡ true → w.state.first_column ≡ true → IsKept w (Pages.put_out p c w)
   first-kept c w t f =
       let e = (records-column (output c) w).0 in
       let k = by-kept c (records_also (output c) w) (ap (λ s. s.two_columns) e ∙ t) (ap (λ s. s.first_column) e ∙ f) in
@@ -237,19 +237,19 @@ module _ (P : Float → Type 0) (p : Params) where
     pub first : b.state.first_column ≡ true
     pub floats : waiting_floats b.state.floats + length w.state.floats.double ≤ waiting_floats w.state.floats
 
-  by-paired : (c : PlainColumn) (a : Work) → a.state.two_columns ≡ true → a.state.first_column ≡ false → IsPaired a (Ship.put_out_by p c a)
+  by-paired : (c : PlainColumn) (a : Work) → a.state.two_columns ≡ true → a.state.first_column ≡ false → IsPaired a (Pages.put_out_by p c a)
   by-paired c a t f = by_columns a.state.two_columns a.state.first_column t f
     where
-      by_columns : (x y : Bool) → x ≡ true → y ≡ false → IsPaired a (if not x then Ship.ship p (one c) a else (if y then Ship.keep_left c a else Ship.ship_pair p c a))
+      by_columns : (x y : Bool) → x ≡ true → y ≡ false → IsPaired a (if not x then Pages.ship p (one c) a else (if y then Pages.keep_left c a else Pages.ship_pair p c a))
       by_columns false y h k = let no : ⊥ = grind (arith, h) in absurd no
       by_columns true true h k = let no : ⊥ = grind (arith, k) in absurd no
       by_columns true false h k = record { first = (pair-first c a).0; floats = (pair-first c a).1 }
 
-  pub second-pairs : (c : PlainColumn) (w : Work) → w.state.two_columns ≡ true → w.state.first_column ≡ false → IsPaired w (Ship.put_out p c w)
+  pub second-pairs : (c : PlainColumn) (w : Work) → w.state.two_columns ≡ true → w.state.first_column ≡ false → IsPaired w (Pages.put_out p c w)
   second-pairs c w t f =
       let e = (records-column (output c) w).0 in
       let k = by-paired c (records_also (output c) w) (ap (λ s. s.two_columns) e ∙ t) (ap (λ s. s.first_column) e ∙ f) in
-      record { first = k.first; floats = subst (λ (l : FloatLists). waiting_floats (Ship.put_out p c w).state.floats + length l.double ≤ waiting_floats l) (ap (λ s. s.floats) e) k.floats }
+      record { first = k.first; floats = subst (λ (l : FloatLists). waiting_floats (Pages.put_out p c w).state.floats + length l.double ≤ waiting_floats l) (ap (λ s. s.floats) e) k.floats }
 
   -- ---- columns of floats
 
@@ -443,7 +443,7 @@ module _ (P : Float → Type 0) (p : Params) where
       ships : (cs : List Choice) → Follows P (Columns.put_out_company p cs a) d → b.refused ≡ false → b.state.dead_cycles ≡ 0
       ships cs g h =
           let z : Follows P (Columns.put_out_company p cs a) b = follows-then P (Columns.put_out_company p cs a) d b g n in
-          stays-zero (Columns.put_out_company p cs a).state.dead_cycles b.state.dead_cycles (last-ships (single_floats_column p (column_height_of p a.state.floats) (chosen_floats cs)) (Ship.with_deferred (left_floats cs) a) (inr k.first) (z.goes h)) (z.cycles h)
+          stays-zero (Columns.put_out_company p cs a).state.dead_cycles b.state.dead_cycles (last-ships (single_floats_column p (column_height_of p a.state.floats) (chosen_floats cs)) (Pages.with_deferred (left_floats cs) a) (inr k.first) (z.goes h)) (z.cycles h)
 
       same_cycles : d ≡ a → b.state.dead_cycles ≡ w.state.dead_cycles
       same_cycles h = next-cycles p [] d.state.floats.deferred d ∙ ap (λ (z : Work). z.state.dead_cycles) h ∙ k.cycles

@@ -36,12 +36,12 @@ module _ (p : Params) (m : ℕ) (s : State) (total a : ℕ) (kind : Kind) (phase
     (weight : total + 2 * way_floats s.floats + credit kind ≤ m + 2 * a)
     (bound : s.dead_cycles + total + 2 * way_floats s.floats + credit kind + phase_cost phase ≤ m + 2 + 2 * a)
     (well : FiresWell p s total a kind phase f)
-    (special : int_le eject_penalty f.penalty ≡ false) (clears : Out.is_int f.penalty Out.clear_penalty ≡ true) where
+    (special : int_le eject_penalty f.penalty ≡ false) (clears : Output.is_int f.penalty Output.clear_penalty ≡ true) where
   abbrev w0 : Work
-  w0 = begun (Out.after_page s f)
+  w0 = begun (Output.after_page s f)
 
   abbrev Result : Work → Type 0
-  Result w = w.refused ≡ false → Bounded p m (Out.waiting_again f (Out.next_goal p f.penalty w)).state
+  Result w = w.refused ≡ false → Bounded p m (Output.waiting_again f (Output.next_goal p f.penalty w)).state
 
   -- the clears that are to come after this one
   abbrev d : ℕ
@@ -100,7 +100,7 @@ module _ (p : Params) (m : ℕ) (s : State) (total a : ℕ) (kind : Kind) (phase
   abbrev n-done : State
   n-done = after p m f well.held n
 
-  abbrev n-goal : GoalOut p f.penalty n (Out.next_goal p f.penalty n)
+  abbrev n-goal : GoalOut p f.penalty n (Output.next_goal p f.penalty n)
   n-goal = goal-out p f.penalty n
 
   -- how the floats and the credit may change

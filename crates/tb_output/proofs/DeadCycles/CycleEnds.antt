@@ -39,10 +39,10 @@ module _ (p : Params) (m : ℕ) (s : State) (total a : ℕ) (kind : Kind) (phase
     (bound : s.dead_cycles + total + 2 * way_floats s.floats + credit kind + phase_cost phase ≤ m + 2 + 2 * a)
     (well : FiresWell p s total a kind phase f) (rest : Ended false f.rest) where
   abbrev begins : Work
-  begins = begun (Out.after_page s f)
+  begins = begun (Output.after_page s f)
 
   abbrev Keeps : Work → Type 0
-  Keeps w = Ended false (Out.waiting_again f (Out.next_goal p f.penalty w)).state.waiting
+  Keeps w = Ended false (Output.waiting_again f (Output.next_goal p f.penalty w)).state.waiting
 
   keeps : (w : Work) → Ended false w.put_back → Keeps w
   keeps w e =
@@ -57,7 +57,7 @@ module _ (p : Params) (m : ℕ) (s : State) (total a : ℕ) (kind : Kind) (phase
       let x : Served (Fits p) (record begins { state = record begins.state { held_page = []; boxes = Columns.emptied_boxes begins.state.boxes } }) (Text.float_or_note p vert f.body begins) = served (Fits p) (λ f h. h) p calm vert f.body begins well.body in
       keeps (Text.float_or_note p vert f.body begins) (free-ended false (Text.float_or_note p vert f.body begins).put_back x.cost)
 
-  keeps-clear : int_le eject_penalty f.penalty ≡ false → Out.is_int f.penalty Out.clear_penalty ≡ true → Keeps (Clear.clear p f.body begins)
+  keeps-clear : int_le eject_penalty f.penalty ≡ false → Output.is_int f.penalty Output.clear_penalty ≡ true → Keeps (Clear.clear p f.body begins)
   keeps-clear h k = by_notes (footnotes (record s { boxes = f.boxes })) refl
     where
       by_notes : (o : List Notes) → footnotes (record s { boxes = f.boxes }) ≡ o → Keeps (Clear.clear_by p f.body begins o)
@@ -69,6 +69,6 @@ module _ (p : Params) (m : ℕ) (s : State) (total a : ℕ) (kind : Kind) (phase
           let q = Columns.put_out_text p (f.body ++ made (skip filling_glue) ∷ []) begins in
           keeps (Clear.clear_by p f.body begins (head ∷ notes)) (subst (λ (ns : List PlainNode). Ended false (ns ++ Clear.clear_again)) (sym (text-out (Fits p) p (f.body ++ made (skip filling_glue) ∷ []) begins q (follows-same (Fits p) q)).back) again-ended)
 
-  pub out-ended : Ended false (Out.out p s f).state.waiting
-  unfolding Out.out
-  out-ended = output-cases p f begins Keeps well.regular (λ e. keeps-ordinary) (λ e k. keeps-clear e k) (λ vert e x. keeps-serve vert) (λ e x. keeps (Out.hold f.body begins) tt)
+  pub out-ended : Ended false (Output.out p s f).state.waiting
+  unfolding Output.out
+  out-ended = output-cases p f begins Keeps well.regular (λ e. keeps-ordinary) (λ e k. keeps-clear e k) (λ vert e x. keeps-serve vert) (λ e x. keeps (Output.hold f.body begins) tt)

@@ -34,10 +34,10 @@ module _ (p : Params) (m : ℕ) (s : State) (total a : ℕ) (kind : Kind) (phase
     (bound : s.dead_cycles + total + 2 * way_floats s.floats + credit kind + phase_cost phase ≤ m + 2 + 2 * a)
     (well : FiresWell p s total a kind phase f) where
   abbrev w0 : Work
-  w0 = begun (Out.after_page s f)
+  w0 = begun (Output.after_page s f)
 
   abbrev Result : Work → Type 0
-  Result w = w.refused ≡ false → Bounded p m (Out.waiting_again f (Out.next_goal p f.penalty w)).state
+  Result w = w.refused ≡ false → Bounded p m (Output.waiting_again f (Output.next_goal p f.penalty w)).state
 
   -- ---- a page before a float or note, and the float or note
 
@@ -73,8 +73,8 @@ module _ (p : Params) (m : ℕ) (s : State) (total a : ℕ) (kind : Kind) (phase
   begun-fits : (t : State) → t.floats ≡ s.floats → t.two_columns ≡ s.two_columns → FloatsFit p t
   begun-fits t e c = fits-same p s t e c floats
 
-  pub hold-quiet : QuietOut p s (Out.hold f.body w0)
-  hold-quiet = record { back = refl; columns = refl; first = refl; way = omega arith; cycles = refl; fits = begun-fits (Out.hold f.body w0).state refl refl }
+  pub hold-quiet : QuietOut p s (Output.hold f.body w0)
+  hold-quiet = record { back = refl; columns = refl; first = refl; way = omega arith; cycles = refl; fits = begun-fits (Output.hold f.body w0).state refl refl }
 
   pub serve-quiet : (vert : Bool) → QuietOut p s (Text.float_or_note p vert f.body w0)
   serve-quiet vert =
@@ -109,8 +109,8 @@ module _ (p : Params) (m : ℕ) (s : State) (total a : ℕ) (kind : Kind) (phase
       by_release true r = let n : NarrowWait Single b.state.floats × AllCurrent Single b.state.floats.current = moved r in (record { top = n.0.top; bottom = n.0.bottom; deferred = n.0.deferred }, subst (AllByRecursion Wide) (sym z.second) (wide-second p s.floats floats.sides))
       by_release false r = z.second ∙ none-second p s.floats floats.sides r
 
-  pub at-hold : int_le eject_penalty f.penalty ≡ false → pen_sort f.penalty ≡ hold → Result (Out.hold f.body w0)
-  at-hold h e = quiet-bounded (Out.hold f.body w0) h (none-again (inl e)) hold e refl hold-quiet
+  pub at-hold : int_le eject_penalty f.penalty ≡ false → pen_sort f.penalty ≡ hold → Result (Output.hold f.body w0)
+  at-hold h e = quiet-bounded (Output.hold f.body w0) h (none-again (inl e)) hold e refl hold-quiet
 
   pub at-serve : (vert : Bool) → int_le eject_penalty f.penalty ≡ false → pen_sort f.penalty ≡ serve → Result (Text.float_or_note p vert f.body w0)
   at-serve vert h e = quiet-bounded (Text.float_or_note p vert f.body w0) h (none-again (inr e)) serve e refl (serve-quiet vert)
@@ -133,7 +133,7 @@ module _ (p : Params) (m : ℕ) (s : State) (total a : ℕ) (kind : Kind) (phase
   abbrev done : State
   done = after p m f well.held (Columns.ordinary p f.body w0)
 
-  abbrev ordinary-goal : GoalOut p f.penalty (Columns.ordinary p f.body w0) (Out.next_goal p f.penalty (Columns.ordinary p f.body w0))
+  abbrev ordinary-goal : GoalOut p f.penalty (Columns.ordinary p f.body w0) (Output.next_goal p f.penalty (Columns.ordinary p f.body w0))
   ordinary-goal = goal-out p f.penalty (Columns.ordinary p f.body w0)
 
   pub out-fit : TextOut (Fits p) p w0 o
@@ -228,7 +228,7 @@ module _ (p : Params) (m : ℕ) (s : State) (total a : ℕ) (kind : Kind) (phase
               goal = q.1;
               void = ap (λ bs. notes_in done.classes bs) (ordinary-goal.boxes ∙ out-fit.boxes) ∙ notes-emptied done.classes w0.state.boxes;
               rest = z.2.0;
-              fit = subst (Fitted Out.clear_penalty z.2.0) (sym waits) z.2.1;
+              fit = subst (Fitted Output.clear_penalty z.2.0) (sym waits) z.2.1;
             },
           ) d (one ready (omega arith))
 
@@ -311,7 +311,7 @@ module _ (p : Params) (m : ℕ) (s : State) (total a : ℕ) (kind : Kind) (phase
       by_kind doubled e i first double n d = kept-by z t c first doubled (subst (λ (fs : List Float). 1 ≤ length fs) (sym (ap (λ (l : FloatLists). l.double) ordinary-goal.floats ∙ double)) i) d (least doubled 1 refl out-fit.floats doubled (omega arith) e)
       by_kind once e i first double n d = true-false s.first_column c i.0.first
       by_kind topped e i first double n d = kept-by z t c first any tt d (two-less (way_floats o.state.floats) (way_floats s.floats) (credit kind) (o-way 1 0 (plus-zero (waiting_floats o.state.floats) (waiting_floats s.floats) (one-less (waiting_floats o.state.floats) (waiting_floats s.floats) (length s.floats.top + length s.floats.bottom) i.1 n))))
-      by_kind ready e i first double n d = true-false (Out.is_int f.penalty Out.clear_penalty) (well.ready (sym e)).0 (no-clear f.penalty h)
+      by_kind ready e i first double n d = true-false (Output.is_int f.penalty Output.clear_penalty) (well.ready (sym e)).0 (no-clear f.penalty h)
       by_kind halted e i first double n d = true-false s.first_column c i.0.first
       by_kind clean e i first double n d = kept-by z t c first clean (subst NoneWait (sym ordinary-goal.floats) (none-left o.state.floats (subst (λ (x : ℕ). waiting_floats o.state.floats ≤ x) (none-count s.floats i) out-fit.floats))) d (least clean 0 refl out-fit.floats clean (omega arith) e)
       by_kind single e i first double n d = true-false s.two_columns t i

@@ -54,14 +54,14 @@ credit closed = 0
 pub record Once (p : Params) (s : State) : Type 0 where
   pub goal : s.goal ≡ p.textheight
   pub rest : List PlainNode
-  pub fit : Fitted eject_penalty (made whatsit ∷ made blank_box ∷ made (pen Out.clear_penalty) ∷ rest) s.waiting
+  pub fit : Fitted eject_penalty (made whatsit ∷ made blank_box ∷ made (pen Output.clear_penalty) ∷ rest) s.waiting
 
 -- the next page fits up to a clear, and there are no footnotes
 pub record Ready (p : Params) (s : State) : Type 0 where
   pub goal : s.goal ≡ p.textheight
   pub void : footnotes s ≡ []
   pub rest : List PlainNode
-  pub fit : Fitted Out.clear_penalty rest s.waiting
+  pub fit : Fitted Output.clear_penalty rest s.waiting
 
 -- the column that is made next is the second of two
 pub record IsSecond (s : State) : Type 0 where
@@ -130,7 +130,7 @@ pub record GoalOut (p : Params) (n : ℤ) (a b : Work) : Type 0 where
   pub back : b.put_back ≡ a.put_back ++ blanks
   pub idle : AllByRecursion Idle (sorts blanks)
   pub cost : wait_cost blanks ≡ 0
-  pub quiet : Out.is_int n Out.hold_penalty ≡ false → a.state.floats.top ≡ [] → a.state.floats.bottom ≡ [] → a.state.floats.double ≡ [] → (blanks ≡ []) × (b.state.goal ≡ p.textheight)
+  pub quiet : Output.is_int n Output.hold_penalty ≡ false → a.state.floats.top ≡ [] → a.state.floats.bottom ≡ [] → a.state.floats.double ≡ [] → (blanks ≡ []) × (b.state.goal ≡ p.textheight)
 
 -- if no area has a float, all of the page is left, and that is enough
 full-room : (p : Params) (l : FloatLists) → l.top ≡ [] → l.bottom ≡ [] → l.double ≡ [] → column_room_of p l ≡ p.textheight
@@ -142,11 +142,11 @@ full-room p l a b c = at l.top l.bottom l.double a b c
     at [] (x ∷ u) d a b c = cc
     at [] [] (x ∷ d) a b c = cc
 
-not-crowded : (p : Params) (r : ℤ) → r ≡ p.textheight → Out.is_crowded p r ≡ false
+not-crowded : (p : Params) (r : ℤ) → r ≡ p.textheight → Output.is_crowded p r ≡ false
 not-crowded p r e = and_right _ (int_lt r p.textheight) (grind (arith, ints, e))
 
-pub goal-out : (p : Params) (n : ℤ) (w : Work) → GoalOut p n w (Out.next_goal p n w)
-goal-out p n w = by_hold (Out.is_int n Out.hold_penalty) refl
+pub goal-out : (p : Params) (n : ℤ) (w : Work) → GoalOut p n w (Output.next_goal p n w)
+goal-out p n w = by_hold (Output.is_int n Output.hold_penalty) refl
   where
     room : ℤ
     room = column_room_of p w.state.floats
@@ -154,28 +154,28 @@ goal-out p n w = by_hold (Out.is_int n Out.hold_penalty) refl
     told : Bool → Work
     told t = if t then w else record w { sent = w.sent ++ warned (warnings.Floats w.state.page) ∷ [] }
 
-    held : Out.is_int n Out.hold_penalty ≡ true → GoalOut p n w (Out.with_goal max_dimen w)
+    held : Output.is_int n Output.hold_penalty ≡ true → GoalOut p n w (Output.with_goal max_dimen w)
     held h = record { refused = refl; floats = refl; columns = refl; first = refl; cycles = refl; boxes = refl; blanks = []; back = sym (append-nil w.put_back); idle = tt; cost = refl; quiet = λ k. let no : ⊥ = grind (arith, h, k) in absurd no }
 
-    roomy : GoalOut p n w (Out.with_goal (column_room_of p w.state.floats) w)
+    roomy : GoalOut p n w (Output.with_goal (column_room_of p w.state.floats) w)
     roomy = record { refused = refl; floats = refl; columns = refl; first = refl; cycles = refl; boxes = refl; blanks = []; back = sym (append-nil w.put_back); idle = tt; cost = refl; quiet = λ k a b c. (refl, full-room p w.state.floats a b c) }
 
-    crowded : Out.is_crowded p (column_room_of p w.state.floats) ≡ true → GoalOut p n w (Out.leave_column w)
+    crowded : Output.is_crowded p (column_room_of p w.state.floats) ≡ true → GoalOut p n w (Output.leave_column w)
     crowded h = by_columns (w.state.two_columns && not w.state.first_column) w.refused
       where
         never : {X : Type 0} → w.state.floats.top ≡ [] → w.state.floats.bottom ≡ [] → w.state.floats.double ≡ [] → X
         never a b c = let no : true ≡ false = sym h ∙ not-crowded p (column_room_of p w.state.floats) (full-room p w.state.floats a b c) in cc
 
-        by_columns : (t u : Bool) → GoalOut p n w (record (if u then w else record w { sent = w.sent ++ warned (warnings.Floats w.state.page) ∷ [] }) { put_back = (if u then w else record w { sent = w.sent ++ warned (warnings.Floats w.state.page) ∷ [] }).put_back ++ (if t then Out.blank_column ++ Out.blank_column else Out.blank_column) })
-        by_columns true true = record { refused = refl; floats = refl; columns = refl; first = refl; cycles = refl; boxes = refl; blanks = Out.blank_column ++ Out.blank_column; back = refl; idle = (tt, (tt, (tt, (tt, tt)))); cost = refl; quiet = λ k a b c. never a b c }
-        by_columns false true = record { refused = refl; floats = refl; columns = refl; first = refl; cycles = refl; boxes = refl; blanks = Out.blank_column; back = refl; idle = (tt, (tt, tt)); cost = refl; quiet = λ k a b c. never a b c }
-        by_columns true false = record { refused = refl; floats = refl; columns = refl; first = refl; cycles = refl; boxes = refl; blanks = Out.blank_column ++ Out.blank_column; back = refl; idle = (tt, (tt, (tt, (tt, tt)))); cost = refl; quiet = λ k a b c. never a b c }
-        by_columns false false = record { refused = refl; floats = refl; columns = refl; first = refl; cycles = refl; boxes = refl; blanks = Out.blank_column; back = refl; idle = (tt, (tt, tt)); cost = refl; quiet = λ k a b c. never a b c }
+        by_columns : (t u : Bool) → GoalOut p n w (record (if u then w else record w { sent = w.sent ++ warned (warnings.Floats w.state.page) ∷ [] }) { put_back = (if u then w else record w { sent = w.sent ++ warned (warnings.Floats w.state.page) ∷ [] }).put_back ++ (if t then Output.blank_column ++ Output.blank_column else Output.blank_column) })
+        by_columns true true = record { refused = refl; floats = refl; columns = refl; first = refl; cycles = refl; boxes = refl; blanks = Output.blank_column ++ Output.blank_column; back = refl; idle = (tt, (tt, (tt, (tt, tt)))); cost = refl; quiet = λ k a b c. never a b c }
+        by_columns false true = record { refused = refl; floats = refl; columns = refl; first = refl; cycles = refl; boxes = refl; blanks = Output.blank_column; back = refl; idle = (tt, (tt, tt)); cost = refl; quiet = λ k a b c. never a b c }
+        by_columns true false = record { refused = refl; floats = refl; columns = refl; first = refl; cycles = refl; boxes = refl; blanks = Output.blank_column ++ Output.blank_column; back = refl; idle = (tt, (tt, (tt, (tt, tt)))); cost = refl; quiet = λ k a b c. never a b c }
+        by_columns false false = record { refused = refl; floats = refl; columns = refl; first = refl; cycles = refl; boxes = refl; blanks = Output.blank_column; back = refl; idle = (tt, (tt, tt)); cost = refl; quiet = λ k a b c. never a b c }
 
-    by_crowd : (t : Bool) → Out.is_crowded p (column_room_of p w.state.floats) ≡ t → GoalOut p n w (if t then Out.leave_column w else Out.with_goal (column_room_of p w.state.floats) w)
+    by_crowd : (t : Bool) → Output.is_crowded p (column_room_of p w.state.floats) ≡ t → GoalOut p n w (if t then Output.leave_column w else Output.with_goal (column_room_of p w.state.floats) w)
     by_crowd true e = crowded e
     by_crowd false e = roomy
 
-    by_hold : (t : Bool) → Out.is_int n Out.hold_penalty ≡ t → GoalOut p n w (if t then Out.with_goal max_dimen w else Out.goal_by p (column_room_of p w.state.floats) w)
+    by_hold : (t : Bool) → Output.is_int n Output.hold_penalty ≡ t → GoalOut p n w (if t then Output.with_goal max_dimen w else Output.goal_by p (column_room_of p w.state.floats) w)
     by_hold true e = held e
-    by_hold false e = by_crowd (Out.is_crowded p (column_room_of p w.state.floats)) refl
+    by_hold false e = by_crowd (Output.is_crowded p (column_room_of p w.state.floats)) refl

@@ -76,9 +76,9 @@ module _ (p : Params) (m : ℕ) (s : State) (total a : ℕ) (kind : Kind) (phase
     (weight : total + 2 * way_floats s.floats + credit kind ≤ m + 2 * a)
     (bound : s.dead_cycles + total + 2 * way_floats s.floats + credit kind + phase_cost phase ≤ m + 2 + 2 * a)
     (well : FiresWell p s total a kind phase f)
-    (special : int_le eject_penalty f.penalty ≡ false) (clears : Out.is_int f.penalty Out.clear_penalty ≡ true) (void : footnotes (record s { boxes = f.boxes }) ≡ []) where
+    (special : int_le eject_penalty f.penalty ≡ false) (clears : Output.is_int f.penalty Output.clear_penalty ≡ true) (void : footnotes (record s { boxes = f.boxes }) ≡ []) where
   abbrev w0 : Work
-  w0 = begun (Out.after_page s f)
+  w0 = begun (Output.after_page s f)
 
   abbrev v : Work
   v = Clear.clear_floats p f.body w0
@@ -166,7 +166,7 @@ module _ (p : Params) (m : ℕ) (s : State) (total a : ℕ) (kind : Kind) (phase
       by_cycles (inl h) = inl (h ∙ e)
       by_cycles (inr h) = inr h
 
-  abbrev v-goal : GoalOut p f.penalty v (Out.next_goal p f.penalty v)
+  abbrev v-goal : GoalOut p f.penalty v (Output.next_goal p f.penalty v)
   v-goal = goal-out p f.penalty v
 
   -- how the floats, the clears that are to come and the credit may change
@@ -293,7 +293,7 @@ module _ (p : Params) (m : ℕ) (s : State) (total a : ℕ) (kind : Kind) (phase
       record {
         goal = (v-goal.quiet (clear-no-hold f.penalty clears) top bottom e).1;
         rest = tail;
-        fit = subst (Fitted eject_penalty (made whatsit ∷ made blank_box ∷ made (pen Out.clear_penalty) ∷ tail)) (sym waiting) ((well.blank clears void).1 tail).0;
+        fit = subst (Fitted eject_penalty (made whatsit ∷ made blank_box ∷ made (pen Output.clear_penalty) ∷ tail)) (sym waiting) ((well.blank clears void).1 tail).0;
       },
     )
 
@@ -413,7 +413,7 @@ module _ (p : Params) (m : ℕ) (s : State) (total a : ℕ) (kind : Kind) (phase
         by_cycles (inr x) = v-shipped x (kind_left is-left) (left-holds is-left) (left-sums is-left).0
 
   -- a clear without footnotes
-  pub at-void : v.refused ≡ false → Bounded p m (Out.waiting_again f (Out.next_goal p f.penalty (Clear.clear_floats p f.body w0))).state
+  pub at-void : v.refused ≡ false → Bounded p m (Output.waiting_again f (Output.next_goal p f.penalty (Clear.clear_floats p f.body w0))).state
   at-void r = by_how c.how
     where
       by_how : How (Fits p) p w0 v c.half c.rest → Bounded p m v-done
@@ -429,19 +429,19 @@ module _ (p : Params) (m : ℕ) (s : State) (total a : ℕ) (kind : Kind) (phase
     (bound : s.dead_cycles + total + 2 * way_floats s.floats + credit kind + phase_cost phase ≤ m + 2 + 2 * a)
     (well : FiresWell p s total a kind phase f) where
   abbrev started : Work
-  started = begun (Out.after_page s f)
+  started = begun (Output.after_page s f)
 
   abbrev Result : Work → Type 0
-  Result w = w.refused ≡ false → Bounded p m (Out.waiting_again f (Out.next_goal p f.penalty w)).state
+  Result w = w.refused ≡ false → Bounded p m (Output.waiting_again f (Output.next_goal p f.penalty w)).state
 
-  at-clear : int_le eject_penalty f.penalty ≡ false → Out.is_int f.penalty Out.clear_penalty ≡ true → Result (Clear.clear p f.body started)
+  at-clear : int_le eject_penalty f.penalty ≡ false → Output.is_int f.penalty Output.clear_penalty ≡ true → Result (Clear.clear p f.body started)
   at-clear h k = by_notes (footnotes (record s { boxes = f.boxes })) refl
     where
       by_notes : (o : List Notes) → footnotes (record s { boxes = f.boxes }) ≡ o → Result (Clear.clear_by p f.body started o)
       by_notes [] e r = at-void p m s total a kind phase f calm holds at floats weight bound well h k e r
       by_notes (head ∷ notes) e r = with-notes p m s total a kind phase f calm holds at floats weight bound well h k head notes e r
 
-  outputs : Result (Out.output_by p f started)
+  outputs : Result (Output.output_by p f started)
   outputs =
       output-cases p f started Result well.regular
       (λ e. at-ordinary p m s total a kind phase f calm holds at floats weight bound well e)
@@ -450,6 +450,6 @@ module _ (p : Params) (m : ℕ) (s : State) (total a : ℕ) (kind : Kind) (phase
       (λ e x. at-hold p m s total a kind phase f calm holds at floats weight bound well e x)
 
   -- a firing keeps the bound
-  pub out-bounded : (Out.out p s f).refused ≡ false → Bounded p m (Out.out p s f).state
-  unfolding Out.out
-  out-bounded r = outputs (sym (goal-out p f.penalty (Out.output_by p f started)).refused ∙ r)
+  pub out-bounded : (Output.out p s f).refused ≡ false → Bounded p m (Output.out p s f).state
+  unfolding Output.out
+  out-bounded r = outputs (sym (goal-out p f.penalty (Output.output_by p f started)).refused ∙ r)

@@ -34,8 +34,8 @@ use Rattle.tb_output.proofs.DeadCycles.HighStates.{Stage, loose, guarded, cleare
 pub record FiresHigh (p : Params) (s : State) (total n : ℕ) (stage : Stage) (f : Fired) : Type 0 where
   pub well : FiresWell p s total n any (phase_of stage) f
   pub spaced : Spaced true f.rest
-  pub behind : Out.is_int f.penalty Out.clear_penalty ≡ true → Spaced false f.rest
-  pub guard : stage ≡ guarded → Out.is_int f.penalty Out.clear_penalty ≡ true → footnotes (record s { boxes = f.boxes }) ≡ [] → ⊥
+  pub behind : Output.is_int f.penalty Output.clear_penalty ≡ true → Spaced false f.rest
+  pub guard : stage ≡ guarded → Output.is_int f.penalty Output.clear_penalty ≡ true → footnotes (record s { boxes = f.boxes }) ≡ [] → ⊥
 
 again-spaced : (b : Bool) → Spaced b Clear.clear_again
 again-spaced b = (tt, (λ h. cc, (tt, (tt, (λ h. refl, tt)))))
@@ -67,10 +67,10 @@ module _ (p : Params) (m : ℕ) (s : State) (total a : ℕ) (stage : Stage) (f :
     (bound : s.dead_cycles + total + 2 * way_floats s.floats + stage_cost stage ≤ m + 3 + 3 * a)
     (fires : FiresHigh p s total a stage f) where
   abbrev w0 : Work
-  w0 = begun (Out.after_page s f)
+  w0 = begun (Output.after_page s f)
 
   abbrev Result : Work → Type 0
-  Result w = w.refused ≡ false → BoundedHigh p m (Out.waiting_again f (Out.next_goal p f.penalty w)).state
+  Result w = w.refused ≡ false → BoundedHigh p m (Output.waiting_again f (Output.next_goal p f.penalty w)).state
 
   -- ---- what holds of the work of any firing, with a bound that is met in any case
 
@@ -121,7 +121,7 @@ module _ (p : Params) (m : ℕ) (s : State) (total a : ℕ) (stage : Stage) (f :
           (sums (wait_cost w.put_back) (wait_cost f.rest) (way_floats w.state.floats) (way_floats s.floats) (sort_cost x) q.back paid one q.way weight z)
           (sums-with (wait_cost w.put_back) (wait_cost f.rest) (way_floats w.state.floats) (way_floats s.floats) (sort_cost x) w.state.dead_cycles s.dead_cycles (stage_cost t) (stage_cost stage) q.back paid one q.way q.cycles l bound z)
 
-      goals : GoalOut p f.penalty w (Out.next_goal p f.penalty w)
+      goals : GoalOut p f.penalty w (Output.next_goal p f.penalty w)
       goals = goal-out p f.penalty w
 
       by_stage : (t : Stage) → t ≡ stage → StageHolds p s a t → BoundedHigh p m (after p m f well.held w)
@@ -131,8 +131,8 @@ module _ (p : Params) (m : ℕ) (s : State) (total a : ℕ) (stage : Stage) (f :
       by_stage right i k = go right (record { columns = goals.columns ∙ q.columns ∙ k.columns; first = goals.first ∙ q.first ∙ k.first }) (λ e. cc) (subst (λ (t : Stage). 1 ≤ stage_cost t) i (omega arith))
       by_stage last i k = true-false (int_le eject_penalty f.penalty) (well.ending (ap phase_of (sym i))) h
 
-  at-hold : int_le eject_penalty f.penalty ≡ false → pen_sort f.penalty ≡ hold → Result (Out.hold f.body w0)
-  at-hold h e = quiet (Out.hold f.body w0) h (none-again p big s total a any (phase_of stage) f calm tt at floats big-weight big-bound well (inl e)) hold e refl (hold-quiet p big s total a any (phase_of stage) f calm tt at floats big-weight big-bound well)
+  at-hold : int_le eject_penalty f.penalty ≡ false → pen_sort f.penalty ≡ hold → Result (Output.hold f.body w0)
+  at-hold h e = quiet (Output.hold f.body w0) h (none-again p big s total a any (phase_of stage) f calm tt at floats big-weight big-bound well (inl e)) hold e refl (hold-quiet p big s total a any (phase_of stage) f calm tt at floats big-weight big-bound well)
 
   at-serve : (vert : Bool) → int_le eject_penalty f.penalty ≡ false → pen_sort f.penalty ≡ serve → Result (Text.float_or_note p vert f.body w0)
   at-serve vert h e = quiet (Text.float_or_note p vert f.body w0) h (none-again p big s total a any (phase_of stage) f calm tt at floats big-weight big-bound well (inr e)) serve e refl (serve-quiet p big s total a any (phase_of stage) f calm tt at floats big-weight big-bound well vert)
@@ -158,7 +158,7 @@ module _ (p : Params) (m : ℕ) (s : State) (total a : ℕ) (stage : Stage) (f :
 
     kept-by : s.two_columns ≡ true → s.first_column ≡ true → w.state.two_columns ≡ s.two_columns → w.state.first_column ≡ false → w.state.dead_cycles ≡ s.dead_cycles + 1 → BoundedHigh p m (after p m f well.held w)
     kept-by t c columns first d =
-        let g : GoalOut p f.penalty w (Out.next_goal p f.penalty w) = goal-out p f.penalty w in
+        let g : GoalOut p f.penalty w (Output.next_goal p f.penalty w) = goal-out p f.penalty w in
         lower-by right (record { columns = g.columns ∙ columns ∙ t; first = g.first ∙ first }) (λ e. cc) d (first-cost p s a stage holds (inr c))
 
   -- ---- an ordinary firing
@@ -208,7 +208,7 @@ module _ (p : Params) (m : ℕ) (s : State) (total a : ℕ) (stage : Stage) (f :
 
   -- ---- a clear
 
-  module _ (special : int_le eject_penalty f.penalty ≡ false) (clears : Out.is_int f.penalty Out.clear_penalty ≡ true) where
+  module _ (special : int_le eject_penalty f.penalty ≡ false) (clears : Output.is_int f.penalty Output.clear_penalty ≡ true) where
     abbrev d : ℕ
     d = left_after a clear
 
@@ -321,7 +321,7 @@ module _ (p : Params) (m : ℕ) (s : State) (total a : ℕ) (stage : Stage) (f :
       cycles : v.refused ≡ false → (v.state.dead_cycles ≡ s.dead_cycles + 1) ⊎ (v.state.dead_cycles ≡ 0)
       cycles = v-cycles p big s total a any (phase_of stage) f calm tt at floats big-weight big-bound well special clears void
 
-      v-goal : GoalOut p f.penalty v (Out.next_goal p f.penalty v)
+      v-goal : GoalOut p f.penalty v (Output.next_goal p f.penalty v)
       v-goal = goal-out p f.penalty v
 
       -- the lists are empty: the page that begins is guarded
@@ -406,14 +406,14 @@ module _ (p : Params) (m : ℕ) (s : State) (total a : ℕ) (stage : Stage) (f :
 
   -- ---- every firing
 
-  outputs : Result (Out.output_by p f w0)
+  outputs : Result (Output.output_by p f w0)
   outputs = output-cases p f w0 Result well.regular (λ e. at-ordinary e) (λ e k. at-clear e k) (λ vert e x. at-serve vert e x) (λ e x. at-hold e x)
 
   -- a firing keeps the bound
-  pub out-high : (Out.out p s f).refused ≡ false → BoundedHigh p m (Out.out p s f).state
-  unfolding Out.out
-  out-high r = outputs (sym (goal-out p f.penalty (Out.output_by p f w0)).refused ∙ r)
+  pub out-high : (Output.out p s f).refused ≡ false → BoundedHigh p m (Output.out p s f).state
+  unfolding Output.out
+  out-high r = outputs (sym (goal-out p f.penalty (Output.output_by p f w0)).refused ∙ r)
 
   -- each clear that waits comes after a flat box again
-  pub high-ended : Ended false f.rest → Ended false (Out.out p s f).state.waiting
+  pub high-ended : Ended false f.rest → Ended false (Output.out p s f).state.waiting
   high-ended r = out-ended p big s total a any (phase_of stage) f calm tt at floats big-weight big-bound well r

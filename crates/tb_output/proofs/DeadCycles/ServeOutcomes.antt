@@ -110,7 +110,7 @@ module _ (P : Float → Type 0) (topped : (f : Float) → P f → P (Text.with_t
 
   -- ---- a float
 
-  joined-second : (place : Where) (f : Float) (l : FloatLists) → (Place.joined_to place f l).second ≡ l.second
+  joined-second : (place : Where) (f : Float) (l : FloatLists) → (FloatMoves.joined_to place f l).second ≡ l.second
   joined-second places.Here f l = refl
   joined-second places.Top f l = refl
   joined-second places.Bottom f l = refl
@@ -118,7 +118,7 @@ module _ (P : Float → Type 0) (topped : (f : Float) → P f → P (Text.with_t
   joined-second places.Double f l = refl
   joined-second places.Deferred f l = refl
 
-  joined-narrow : (place : Where) (f : Float) (l : FloatLists) → P f → NarrowWait P l → NarrowWait P (Place.joined_to place f l)
+  joined-narrow : (place : Where) (f : Float) (l : FloatLists) → P f → NarrowWait P l → NarrowWait P (FloatMoves.joined_to place f l)
   joined-narrow places.Here f l k h = record { top = h.top; bottom = h.bottom; deferred = h.deferred }
   joined-narrow places.Top f l k h = record { top = all-push P l.top f h.top k; bottom = h.bottom; deferred = h.deferred }
   joined-narrow places.Bottom f l k h = record { top = h.top; bottom = all-push P l.bottom f h.bottom k; deferred = h.deferred }
@@ -127,19 +127,19 @@ module _ (P : Float → Type 0) (topped : (f : Float) → P f → P (Text.with_t
   joined-narrow places.Deferred f l k h = record { top = h.top; bottom = h.bottom; deferred = all-push P l.deferred f h.deferred k }
 
   -- a float leaves the current list for another, or for the text
-  served-placed : (place : Where) (f : Float) (left : FloatLists) (w : Work) → NotDouble place → left.double ≡ w.state.floats.double → left.second ≡ w.state.floats.second → way_floats left + 1 ≤ way_floats w.state.floats → (AllWait P w.state.floats → AllCurrent P w.state.floats.current → P f × AllWait P left × AllCurrent P left.current) → (NarrowWait P w.state.floats → AllCurrent P w.state.floats.current → P f × NarrowWait P left × AllCurrent P left.current) → Served P w (Place.place_float p place f left w)
-  served-placed place f left w d e e2 h k k2 = by_record (Place.is_placed place)
+  served-placed : (place : Where) (f : Float) (left : FloatLists) (w : Work) → NotDouble place → left.double ≡ w.state.floats.double → left.second ≡ w.state.floats.second → way_floats left + 1 ≤ way_floats w.state.floats → (AllWait P w.state.floats → AllCurrent P w.state.floats.current → P f × AllWait P left × AllCurrent P left.current) → (NarrowWait P w.state.floats → AllCurrent P w.state.floats.current → P f × NarrowWait P left × AllCurrent P left.current) → Served P w (FloatMoves.place_float p place f left w)
+  served-placed place f left w d e e2 h k k2 = by_record (FloatMoves.is_placed place)
     where
       l : FloatLists
-      l = Place.joined_to place f left
+      l = FloatMoves.joined_to place f left
 
       r : Recorded
       r = placed f place w.state.floats (column_height_of p w.state.floats)
 
       counted : way_floats l ≤ way_floats w.state.floats
       counted =
-          let j : waiting_floats (Place.joined_to place f left) ≤ waiting_floats left + 1 = joined-count P place f left in
-          let c : (Place.joined_to place f left).current ≡ left.current = joined-current P place f left in
+          let j : waiting_floats (FloatMoves.joined_to place f left) ≤ waiting_floats left + 1 = joined-count P place f left in
+          let c : (FloatMoves.joined_to place f left).current ≡ left.current = joined-current P place f left in
           sums (way_floats w.state.floats) (waiting_floats left) (waiting_floats l) (current_floats left.current) (current_floats l.current) (ap current_floats c) j h
         where
           sums : (w a b x y : ℕ) → y ≡ x → b ≤ a + 1 → a + x + 1 ≤ w → b + y ≤ w
@@ -192,13 +192,13 @@ module _ (P : Float → Type 0) (topped : (f : Float) → P f → P (Text.with_t
     narrow-parts : NarrowWait P w.state.floats → AllCurrent P w.state.floats.current → P f × NarrowWait P left × AllCurrent P es
     narrow-parts a b = let c : P f × AllCurrent P es = subst (AllCurrent P) is b in (c.0, record { top = a.top; bottom = a.bottom; deferred = a.deferred }, c.1)
 
-    goes-to : (place : Where) → NotDouble place → Served P w (Place.place_float p place f left w)
+    goes-to : (place : Where) → NotDouble place → Served P w (FloatMoves.place_float p place f left w)
     goes-to place d = served-placed place f left w d refl refl fewer parts narrow-parts
 
     served-defer : Served P w (Text.defer p f left w)
     served-defer =
-        let a = Place.place_float p places.Deferred (Text.with_top f) left w in
-        served_if w (Text.only_here f) (sends (warned (warnings.Ht f.name)) a) (Place.place_float p places.Deferred f left w)
+        let a = FloatMoves.place_float p places.Deferred (Text.with_top f) left w in
+        served_if w (Text.only_here f) (sends (warned (warnings.Ht f.name)) a) (FloatMoves.place_float p places.Deferred f left w)
         (served-then w a (sends (warned (warnings.Ht f.name)) a) (served-placed places.Deferred (Text.with_top f) left w tt refl refl fewer (λ x y. let z = parts x y in (topped f z.0, z.1, z.2)) (λ x y. let z = narrow-parts x y in (topped f z.0, z.1, z.2))) (served-sends (warned (warnings.Ht f.name)) a))
         (goes-to places.Deferred tt)
 
@@ -208,11 +208,11 @@ module _ (P : Float → Type 0) (topped : (f : Float) → P f → P (Text.with_t
 
     served-goes : (vert : Bool) (place : Where) → NotDouble place → Served P w (Text.float_goes p vert f left w place)
     served-goes vert places.Here d =
-        let a = Place.place_float p places.Here f left w in
+        let a = FloatMoves.place_float p places.Here f left w in
         let b = Text.puts_interline p a in
         served-then w a (puts (Text.here_nodes p vert f) b) (goes-to places.Here d) (served-then a b (puts (Text.here_nodes p vert f) b) (served-interline a) (served-puts (Text.here_nodes p vert f) b (here-free vert)))
-    served-goes vert places.Top d = served-then w (Place.place_float p places.Top f left w) (Text.float_goes p vert f left w places.Top) (goes-to places.Top d) (served-interline (Place.place_float p places.Top f left w))
-    served-goes vert places.Bottom d = served-then w (Place.place_float p places.Bottom f left w) (Text.float_goes p vert f left w places.Bottom) (goes-to places.Bottom d) (served-interline (Place.place_float p places.Bottom f left w))
+    served-goes vert places.Top d = served-then w (FloatMoves.place_float p places.Top f left w) (Text.float_goes p vert f left w places.Top) (goes-to places.Top d) (served-interline (FloatMoves.place_float p places.Top f left w))
+    served-goes vert places.Bottom d = served-then w (FloatMoves.place_float p places.Bottom f left w) (Text.float_goes p vert f left w places.Bottom) (goes-to places.Bottom d) (served-interline (FloatMoves.place_float p places.Bottom f left w))
     served-goes vert places.Page d = served-then w (Text.defer p f left w) (Text.float_goes p vert f left w places.Page) served-defer (served-interline (Text.defer p f left w))
     served-goes vert places.Double d = absurd d
     served-goes vert places.Deferred d = served-then w (Text.defer p f left w) (Text.float_goes p vert f left w places.Deferred) served-defer (served-interline (Text.defer p f left w))

@@ -117,7 +117,7 @@ record Shipped (sheet : PlainSheet) (a c : Work) : Type 0 where
   left : c.state.left_column ≡ a.state.left_column
   fit : Fits a → Fits c
 
-ship-shipped : (p : Params) (sheet : PlainSheet) (w : Work) → Shipped sheet w (Ship.ship p sheet w)
+ship-shipped : (p : Params) (sheet : PlainSheet) (w : Work) → Shipped sheet w (Pages.ship p sheet w)
 ship-shipped p sheet w = by_refused w.refused (int_lt p.maxpages (pos w.state.page)) refl
   where
     turned : Work → Work
@@ -143,50 +143,50 @@ page-prints sheet a c s x = record {
   plain = λ h. (x.plain s h.0, subst LeftPlain (sym x.left) h.1);
 }
 
-with_deferred-prints : (fs : List Float) (w : Work) → Prints [] w (Ship.with_deferred fs w)
-with_deferred-prints fs w = same w (Ship.with_deferred fs w) refl refl refl (λ h. h)
+with_deferred-prints : (fs : List Float) (w : Work) → Prints [] w (Pages.with_deferred fs w)
+with_deferred-prints fs w = same w (Pages.with_deferred fs w) refl refl refl (λ h. h)
 
-wide_by-prints : (p : Params) (again : Work → Work) → ((w : Work) → Prints [] w (again w)) → (w : Work) (o : Option (List Choice)) → Prints [] w (Ship.wide_pages_by again p w o)
+wide_by-prints : (p : Params) (again : Work → Work) → ((w : Work) → Prints [] w (again w)) → (w : Work) (o : Option (List Choice)) → Prints [] w (Pages.wide_pages_by again p w o)
 wide_by-prints p again h w None = unchanged w
 wide_by-prints p again h w (Some cs) =
     let sheet = wide (wide_floats_column p p.textheight (chosen_floats cs)) in
     let a = with_floats (with_wide_waiting p (left_floats cs) w.state.floats) w in
-    let b = Ship.ship_wide p cs w in
+    let b = Pages.ship_wide p cs w in
     then_kept [] w b (again b) (then_kept [] w a b (same w a refl refl refl (λ h. h)) (page-prints sheet a b (floats-plain p.textheight p.dblfptop p.dblfpsep p.dblfpbot (chosen_floats cs)) (ship-shipped p sheet a))) (h b)
 
-wide_pages-prints : (p : Params) (clearing : Bool) (n : ℕ) (w : Work) → Prints [] w (Ship.wide_pages p clearing n w)
+wide_pages-prints : (p : Params) (clearing : Bool) (n : ℕ) (w : Work) → Prints [] w (Pages.wide_pages p clearing n w)
 wide_pages-prints p clearing zero w = unchanged w
-wide_pages-prints p clearing (suc n) w = wide_by-prints p (λ w'. Ship.wide_pages p clearing n w') (λ w'. wide_pages-prints p clearing n w') w (company (Ship.wide_wanted p clearing) (wide_waiting p w.state.floats))
+wide_pages-prints p clearing (suc n) w = wide_by-prints p (λ w'. Pages.wide_pages p clearing n w') (λ w'. wide_pages-prints p clearing n w') w (company (Pages.wide_wanted p clearing) (wide_waiting p w.state.floats))
 
-pub all_wide-prints : (p : Params) (clearing : Bool) (w : Work) → Prints [] w (Ship.all_wide_pages p clearing w)
+pub all_wide-prints : (p : Params) (clearing : Bool) (w : Work) → Prints [] w (Pages.all_wide_pages p clearing w)
 all_wide-prints p clearing w = wide_pages-prints p clearing (length (wide_waiting p w.state.floats)) w
 
 -- ---- floats that move
 
-pub placed-prints : (p : Params) (place : Where) (f : Float) (left : FloatLists) (w : Work) → Prints [] w (Place.place_float p place f left w)
+pub placed-prints : (p : Params) (place : Where) (f : Float) (left : FloatLists) (w : Work) → Prints [] w (FloatMoves.place_float p place f left w)
 placed-prints p place f left w =
     let r = placed f place w.state.floats (column_height_of p w.state.floats) in
-    let a = if Place.is_placed place then records_also r w else w in
-    then_kept [] w a (Place.place_float p place f left w) (prints_if [] w (Place.is_placed place) (records_also r w) w (records-prints r w) (unchanged w)) (same a (Place.place_float p place f left w) refl refl refl (λ h. h))
+    let a = if FloatMoves.is_placed place then records_also r w else w in
+    then_kept [] w a (FloatMoves.place_float p place f left w) (prints_if [] w (FloatMoves.is_placed place) (records_also r w) w (records-prints r w) (unchanged w)) (same a (FloatMoves.place_float p place f left w) refl refl refl (λ h. h))
 
-waiting-prints : (from : Part) (p : Params) (place : Where) (f : Float) (before rest : List Float) (w : Work) → Prints [] w (Place.place_waiting from p place f before rest w)
+waiting-prints : (from : Part) (p : Params) (place : Where) (f : Float) (before rest : List Float) (w : Work) → Prints [] w (FloatMoves.place_waiting from p place f before rest w)
 waiting-prints from p place f before rest w =
     let l : FloatLists = with_floats_of from (before ++ rest) w.state.floats in
-    prints_if [] w (Place.is_placed place) (Place.place_float p place f l w) w (placed-prints p place f l w) (unchanged w)
+    prints_if [] w (FloatMoves.is_placed place) (FloatMoves.place_float p place f l w) w (placed-prints p place f l w) (unchanged w)
 
-next-prints : (p : Params) (before fs : List Float) (w : Work) → Prints [] w (Place.place_next p before fs w)
+next-prints : (p : Params) (before fs : List Float) (w : Work) → Prints [] w (FloatMoves.place_next p before fs w)
 next-prints p before [] w = unchanged w
 next-prints p before (f ∷ rest) w =
     let place = next_place p w.state.floats w.state.suppress before f in
-    let w' = Place.place_waiting parts.Deferred p place f before rest w in
-    then_kept [] w w' (Place.place_next p (Place.still_deferred place f before) rest w') (waiting-prints parts.Deferred p place f before rest w) (next-prints p (Place.still_deferred place f before) rest w')
+    let w' = FloatMoves.place_waiting parts.Deferred p place f before rest w in
+    then_kept [] w w' (FloatMoves.place_next p (FloatMoves.still_deferred place f before) rest w') (waiting-prints parts.Deferred p place f before rest w) (next-prints p (FloatMoves.still_deferred place f before) rest w')
 
-double-prints : (from : Part) (p : Params) (before fs : List Float) (w : Work) → Prints [] w (Place.place_double from p before fs w)
+double-prints : (from : Part) (p : Params) (before fs : List Float) (w : Work) → Prints [] w (FloatMoves.place_double from p before fs w)
 double-prints from p before [] w = unchanged w
 double-prints from p before (f ∷ rest) w =
     let place = double_place p w.state.floats w.state.suppress before f in
-    let w' = Place.place_waiting from p place f before rest w in
-    then_kept [] w w' (Place.place_double from p (Place.still_deferred place f before) rest w') (waiting-prints from p place f before rest w) (double-prints from p (Place.still_deferred place f before) rest w')
+    let w' = FloatMoves.place_waiting from p place f before rest w in
+    then_kept [] w w' (FloatMoves.place_double from p (FloatMoves.still_deferred place f before) rest w') (waiting-prints from p place f before rest w) (double-prints from p (FloatMoves.still_deferred place f before) rest w')
 
 -- ---- a column
 
@@ -212,7 +212,7 @@ one-prints c w d s t x = record {
         ∙ sym (page-more w.sent d.sent (x.sends_it r).0 (one c) (x.sends_it r).1) ∙ sym (append-nil (sent_prints d.sent)) ∙ ap (λ o. sent_prints d.sent ++ left_prints o) (sym (x.left ∙ e))
 
 -- a first column that is kept
-keep-prints : (c : PlainColumn) (w : Work) → AllPlain c.nodes → w.state.two_columns ≡ true → w.state.first_column ≡ true → Prints (prints c.nodes) w (Ship.keep_left c w)
+keep-prints : (c : PlainColumn) (w : Work) → AllPlain c.nodes → w.state.two_columns ≡ true → w.state.first_column ≡ true → Prints (prints c.nodes) w (Pages.keep_left c w)
 keep-prints c w s t f = record {
   goes = λ h. h;
   fit = λ h. subst (λ x. ColumnsFit x false (Some c)) (sym t) tt;
@@ -228,7 +228,7 @@ keep-prints c w s t f = record {
     no-left h = by_columns w.state.two_columns w.state.left_column (subst (λ z. ColumnsFit w.state.two_columns z w.state.left_column) f h)
 
 -- a pair of columns
-pair-prints : (p : Params) (c : PlainColumn) (w d : Work) → AllPlain c.nodes → w.state.two_columns ≡ true → w.state.first_column ≡ false → Fits w → Shipped (pair_sheet p w.state.floats (Ship.left_or c w.state.left_column) c) w d → Prints (prints c.nodes) w (Ship.without_double d)
+pair-prints : (p : Params) (c : PlainColumn) (w d : Work) → AllPlain c.nodes → w.state.two_columns ≡ true → w.state.first_column ≡ false → Fits w → Shipped (pair_sheet p w.state.floats (Pages.left_or c w.state.left_column) c) w d → Prints (prints c.nodes) w (Pages.without_double d)
 pair-prints p c w d s t f fit x = record {
   goes = x.goes;
   fit = λ h. tt;
@@ -239,51 +239,51 @@ pair-prints p c w d s t f fit x = record {
     fits : ColumnsFit true false w.state.left_column
     fits = subst (λ z. ColumnsFit z false w.state.left_column) t (subst (λ z. ColumnsFit w.state.two_columns z w.state.left_column) f fit)
 
-    has-left : (o : Option PlainColumn) → ColumnsFit true false o → left_prints o ≡ prints (Ship.left_or c o).nodes
+    has-left : (o : Option PlainColumn) → ColumnsFit true false o → left_prints o ≡ prints (Pages.left_or c o).nodes
     has-left None h = absurd h
     has-left (Some l) h = refl
 
-    left-plain : (o : Option PlainColumn) → LeftPlain o → AllPlain (Ship.left_or c o).nodes
+    left-plain : (o : Option PlainColumn) → LeftPlain o → AllPlain (Pages.left_or c o).nodes
     left-plain None h = s
     left-plain (Some l) h = h
 
-    inside : (tops : List ℕ) → left_prints w.state.left_column ≡ prints (Ship.left_or c w.state.left_column).nodes → Within (shown w ++ prints c.nodes) ((sent_prints w.sent ++ (tops ++ prints (Ship.left_or c w.state.left_column).nodes ++ prints c.nodes)) ++ [])
+    inside : (tops : List ℕ) → left_prints w.state.left_column ≡ prints (Pages.left_or c w.state.left_column).nodes → Within (shown w ++ prints c.nodes) ((sent_prints w.sent ++ (tops ++ prints (Pages.left_or c w.state.left_column).nodes ++ prints c.nodes)) ++ [])
     inside tops e =
         let left = left_prints w.state.left_column in
-        let last = prints (Ship.left_or c w.state.left_column).nodes in
+        let last = prints (Pages.left_or c w.state.left_column).nodes in
         let here = prints c.nodes in
         let a : Within left (tops ++ last) = subst (λ l. Within left (tops ++ l)) e (within-end tops left) in
         let b : Within (left ++ here) (tops ++ last ++ here) = both-within left (tops ++ last) here here a (itself here) in
         let d : Within (sent_prints w.sent ++ (left ++ here)) (sent_prints w.sent ++ (tops ++ last ++ here)) = both-within (sent_prints w.sent) (sent_prints w.sent) (left ++ here) (tops ++ last ++ here) (itself (sent_prints w.sent)) b in
         subst (Within (shown w ++ here)) (sym (append-nil (sent_prints w.sent ++ (tops ++ last ++ here)))) (subst (λ l. Within l (sent_prints w.sent ++ (tops ++ last ++ here))) (sym (append_assoc (sent_prints w.sent) left here)) d)
 
-    all : d.refused ≡ false → (sent_prints w.sent ++ (prints (floats_above places.Double p.dblfloatsep p.dbltextfloatsep w.state.floats.double) ++ prints (Ship.left_or c w.state.left_column).nodes ++ prints c.nodes)) ++ [] ≡ shown (Ship.without_double d)
-    all r = sym (ap (λ l. l ++ []) (page-more w.sent d.sent (x.sends_it r).0 (pair_sheet p w.state.floats (Ship.left_or c w.state.left_column) c) (x.sends_it r).1))
+    all : d.refused ≡ false → (sent_prints w.sent ++ (prints (floats_above places.Double p.dblfloatsep p.dbltextfloatsep w.state.floats.double) ++ prints (Pages.left_or c w.state.left_column).nodes ++ prints c.nodes)) ++ [] ≡ shown (Pages.without_double d)
+    all r = sym (ap (λ l. l ++ []) (page-more w.sent d.sent (x.sends_it r).0 (pair_sheet p w.state.floats (Pages.left_or c w.state.left_column) c) (x.sends_it r).1))
 
-ship_pair-prints : (p : Params) (c : PlainColumn) (w : Work) → AllPlain c.nodes → w.state.two_columns ≡ true → w.state.first_column ≡ false → Fits w → Prints (prints c.nodes) w (Ship.ship_pair p c w)
+ship_pair-prints : (p : Params) (c : PlainColumn) (w : Work) → AllPlain c.nodes → w.state.two_columns ≡ true → w.state.first_column ≡ false → Fits w → Prints (prints c.nodes) w (Pages.ship_pair p c w)
 ship_pair-prints p c w s t f fit =
-    let sheet = pair_sheet p w.state.floats (Ship.left_or c w.state.left_column) c in
-    let a = Ship.ship p sheet w in
-    let b = Ship.without_double a in
-    let d = Ship.all_wide_pages p false b in
-    then_kept (prints c.nodes) w b (Ship.ship_pair p c w) (pair-prints p c w a s t f fit (ship-shipped p sheet w))
-    (then_kept [] b d (Ship.ship_pair p c w) (all_wide-prints p false b) (double-prints (wide_part p) p [] (wide_waiting p d.state.floats) d))
+    let sheet = pair_sheet p w.state.floats (Pages.left_or c w.state.left_column) c in
+    let a = Pages.ship p sheet w in
+    let b = Pages.without_double a in
+    let d = Pages.all_wide_pages p false b in
+    then_kept (prints c.nodes) w b (Pages.ship_pair p c w) (pair-prints p c w a s t f fit (ship-shipped p sheet w))
+    (then_kept [] b d (Pages.ship_pair p c w) (all_wide-prints p false b) (double-prints (wide_part p) p [] (wide_waiting p d.state.floats) d))
 
-put_out_by-prints : (p : Params) (c : PlainColumn) (w : Work) → AllPlain c.nodes → Fits w → Prints (prints c.nodes) w (Ship.put_out_by p c w)
+put_out_by-prints : (p : Params) (c : PlainColumn) (w : Work) → AllPlain c.nodes → Fits w → Prints (prints c.nodes) w (Pages.put_out_by p c w)
 put_out_by-prints p c w s fit = by_columns w.state.two_columns w.state.first_column refl refl
   where
-    by_columns : (t f : Bool) → w.state.two_columns ≡ t → w.state.first_column ≡ f → Prints (prints c.nodes) w (if not t then Ship.ship p (one c) w else (if f then Ship.keep_left c w else Ship.ship_pair p c w))
-    by_columns false f a b = one-prints c w (Ship.ship p (one c) w) s a (ship-shipped p (one c) w)
+    by_columns : (t f : Bool) → w.state.two_columns ≡ t → w.state.first_column ≡ f → Prints (prints c.nodes) w (if not t then Pages.ship p (one c) w else (if f then Pages.keep_left c w else Pages.ship_pair p c w))
+    by_columns false f a b = one-prints c w (Pages.ship p (one c) w) s a (ship-shipped p (one c) w)
     by_columns true true a b = keep-prints c w s a b
     by_columns true false a b = ship_pair-prints p c w s a b fit
 
-put_out-prints : (p : Params) (c : PlainColumn) (w : Work) → AllPlain c.nodes → Fits w → Prints (prints c.nodes) w (Ship.put_out p c w)
+put_out-prints : (p : Params) (c : PlainColumn) (w : Work) → AllPlain c.nodes → Fits w → Prints (prints c.nodes) w (Pages.put_out p c w)
 put_out-prints p c w s fit =
     let a = records_also (output c) w in
-    let b = Ship.put_out_by p c a in
+    let b = Pages.put_out_by p c a in
     let x : Prints [] w a = records-prints (output c) w in
-    kept_then (prints c.nodes) w a (Ship.put_out p c w) x
-    (then_kept (prints c.nodes) a b (Ship.put_out p c w) (put_out_by-prints p c a s (x.fit fit)) (same b (Ship.put_out p c w) refl refl refl (λ h. h)))
+    kept_then (prints c.nodes) w a (Pages.put_out p c w) x
+    (then_kept (prints c.nodes) a b (Pages.put_out p c w) (put_out_by-prints p c a s (x.fit fit)) (same b (Pages.put_out p c w) refl refl refl (λ h. h)))
 
 -- ---- the steps of a firing
 
@@ -299,7 +299,7 @@ columns_by-prints p again h w None fit = unchanged w
 columns_by-prints p again h w (Some cs) fit =
     let height = column_height_of p w.state.floats in
     let c = single_floats_column p height (chosen_floats cs) in
-    let a = Ship.with_deferred (left_floats cs) w in
+    let a = Pages.with_deferred (left_floats cs) w in
     let b = Columns.put_out_company p cs w in
     let x : Prints [] a b = fewer [] (prints c.nodes) a b tt (put_out-prints p c a (floats-plain height p.fptop p.fpsep p.fpbot (chosen_floats cs)) fit) in
     let y : Prints [] w b = then_kept [] w a b (with_deferred-prints (left_floats cs) w) x in
@@ -324,14 +324,14 @@ interline-prints p a w x = then_kept [] a w (Text.puts_interline p w) x (same w 
 
 defer-prints : (p : Params) (f : Float) (left : FloatLists) (w : Work) → Prints [] w (Text.defer p f left w)
 defer-prints p f left w =
-    let a = Place.place_float p places.Deferred (Text.with_top f) left w in
-    prints_if [] w (Text.only_here f) (sends (warned (warnings.Ht f.name)) a) (Place.place_float p places.Deferred f left w)
+    let a = FloatMoves.place_float p places.Deferred (Text.with_top f) left w in
+    prints_if [] w (Text.only_here f) (sends (warned (warnings.Ht f.name)) a) (FloatMoves.place_float p places.Deferred f left w)
     (then_kept [] w a (sends (warned (warnings.Ht f.name)) a) (placed-prints p places.Deferred (Text.with_top f) left w) (warns-prints (warnings.Ht f.name) a))
     (placed-prints p places.Deferred f left w)
 
 goes-prints : (p : Params) (vert : Bool) (f : Float) (left : FloatLists) (w : Work) (place : Where) → Prints [] w (Text.float_goes p vert f left w place)
 goes-prints p vert f left w places.Here =
-    let a = Place.place_float p places.Here f left w in
+    let a = FloatMoves.place_float p places.Here f left w in
     let b = Text.puts_interline p a in
     then_kept [] w b (Text.float_goes p vert f left w places.Here) (interline-prints p w a (placed-prints p places.Here f left w)) (same b (Text.float_goes p vert f left w places.Here) refl refl refl (λ h. h))
 goes-prints p vert f left w places.Top = interline-prints p w _ (placed-prints p places.Top f left w)

@@ -123,11 +123,11 @@ puts-prints ns w = same w (puts ns w) refl refl refl (λ h. h)
 clear_wide-prints : (p : Params) (w : Work) → Prints [] w (Clear.clear_wide p w)
 clear_wide-prints p w = by_columns w.state.two_columns
   where
-    by_columns : (t : Bool) → Prints [] w (if not t then w else (if w.state.first_column then Ship.all_wide_pages p true (with_floats (Clear.double_again p w.state.floats) w) else puts (made blank_box ∷ Clear.clear_again) w))
+    by_columns : (t : Bool) → Prints [] w (if not t then w else (if w.state.first_column then Pages.all_wide_pages p true (with_floats (Clear.double_again p w.state.floats) w) else puts (made blank_box ∷ Clear.clear_again) w))
     by_columns false = unchanged w
     by_columns true =
         let a = with_floats (Clear.double_again p w.state.floats) w in
-        prints_if [] w w.state.first_column (Ship.all_wide_pages p true a) (puts (made blank_box ∷ Clear.clear_again) w) (then_kept [] w a (Ship.all_wide_pages p true a) (same w a refl refl refl (λ h. h)) (all_wide-prints p true a)) (puts-prints (made blank_box ∷ Clear.clear_again) w)
+        prints_if [] w w.state.first_column (Pages.all_wide_pages p true a) (puts (made blank_box ∷ Clear.clear_again) w) (then_kept [] w a (Pages.all_wide_pages p true a) (same w a refl refl refl (λ h. h)) (all_wide-prints p true a)) (puts-prints (made blank_box ∷ Clear.clear_again) w)
 
 clear_by-prints : (p : Params) (body : List PlainNode) (w : Work) (o : List Notes) → AllPlain body → Fits w → Prints [] w (Clear.clear_by p body w o)
 clear_by-prints p body w [] s fit =
@@ -202,10 +202,10 @@ module _ (p : Params) (calm : int_le p.interlinepenalty eject_penalty ≡ false)
       by_held true e = shows-none (Columns.ordinary p f.body w) (fewer [] (prints f.body) w (Columns.ordinary p f.body w) tt (ordinary-prints p f.body w plain_body fits)) (no-body (unreal e)) (subst (λ l. Within (prints w.state.held_page) (prints l ++ prints (Columns.ordinary p f.body w).put_back)) (sym (ordinary-takes p f.body w).page) (within-front (prints w.state.held_page) (prints (Columns.ordinary p f.body w).put_back)))
       by_held false e = shows-all (prints f.body) (Columns.ordinary p f.body w) (ordinary-prints p f.body w plain_body fits) (within-same ((shown w ++ prints w.state.held_page) ++ prints f.body) (shown w ++ prints f.body) (ap (λ l. (shown w ++ l) ++ prints f.body) (no-page e) ∙ ap (λ l. l ++ prints f.body) (append-nil (shown w))))
 
-  hold-reads : int_le eject_penalty f.penalty ≡ false → Out.is_int f.penalty Out.clear_penalty ≡ false → (Out.is_int f.penalty Out.par_penalty || Out.is_int f.penalty Out.vert_penalty) ≡ false → Reads f w (Out.hold f.body w)
-  hold-reads h k l = at-hold (Reads f w (Out.hold f.body w)) (BreakStands b (seen_all none (sorts before)) f.rest) f.penalty h k l (λ x. held x.0) (λ x. absurd x) stands
+  hold-reads : int_le eject_penalty f.penalty ≡ false → Output.is_int f.penalty Output.clear_penalty ≡ false → (Output.is_int f.penalty Output.par_penalty || Output.is_int f.penalty Output.vert_penalty) ≡ false → Reads f w (Output.hold f.body w)
+  hold-reads h k l = at-hold (Reads f w (Output.hold f.body w)) (BreakStands b (seen_all none (sorts before)) f.rest) f.penalty h k l (λ x. held x.0) (λ x. absurd x) stands
     where
-      held : b ≡ false → Reads f w (Out.hold f.body w)
+      held : b ≡ false → Reads f w (Output.hold f.body w)
       held e = record {
         goes = λ r. r;
         fit = λ h. h;
@@ -213,7 +213,7 @@ module _ (p : Params) (calm : int_le p.interlinepenalty eject_penalty ≡ false)
         plain = λ h. h;
       }
 
-  serve-reads : (vert : Bool) → int_le eject_penalty f.penalty ≡ false → Out.is_int f.penalty Out.clear_penalty ≡ false → (Out.is_int f.penalty Out.par_penalty || Out.is_int f.penalty Out.vert_penalty) ≡ true → Reads f w (Text.float_or_note p vert f.body w)
+  serve-reads : (vert : Bool) → int_le eject_penalty f.penalty ≡ false → Output.is_int f.penalty Output.clear_penalty ≡ false → (Output.is_int f.penalty Output.par_penalty || Output.is_int f.penalty Output.vert_penalty) ≡ true → Reads f w (Text.float_or_note p vert f.body w)
   serve-reads vert h k l = at-serve (Reads f w (Text.float_or_note p vert f.body w)) (BreakStands b (seen_all none (sorts before)) f.rest) f.penalty h k l (λ x. served x.0) stands
     where
       back : (c : Work) (ms ns : List PlainNode) → c.put_back ≡ (w.state.held_page ++ ms) ++ ns → Within (prints w.state.held_page) (prints c.state.held_page ++ prints c.put_back)
@@ -225,16 +225,16 @@ module _ (p : Params) (calm : int_le p.interlinepenalty eject_penalty ≡ false)
           let y = float_or_note-serves p calm vert f.body w paired in
           shows-none c (float_or_note-prints p vert f.body w) (one-body e) (back c (Text.without_firing_box f.body) y.ns (y.back ∙ ap (λ l. l ++ ((w.state.held_page ++ Text.without_firing_box f.body) ++ y.ns)) begun))
 
-  clear-reads : int_le eject_penalty f.penalty ≡ false → Out.is_int f.penalty Out.clear_penalty ≡ true → Reads f w (Clear.clear p f.body w)
+  clear-reads : int_le eject_penalty f.penalty ≡ false → Output.is_int f.penalty Output.clear_penalty ≡ true → Reads f w (Clear.clear p f.body w)
   clear-reads h k = at-clear (Reads f w (Clear.clear p f.body w)) (BreakStands b (seen_all none (sorts before)) f.rest) f.penalty h k (λ x. cleared x.0 x.1) stands
     where
       cleared : seen_all none (sorts before) ≡ one → b ≡ false → Reads f w (Clear.clear p f.body w)
       cleared e g = shows-none (Clear.clear p f.body w) (clear_by-prints p f.body w (footnotes w.state) plain_body fits) (one-body e) (subst (λ l. Within l (prints (Clear.clear p f.body w).state.held_page ++ prints (Clear.clear p f.body w).put_back)) (sym (no-page g)) tt)
 
-  pub output-reads : Reads f w (Out.output_by p f w)
-  output-reads = by_penalty (int_le eject_penalty f.penalty) (Out.is_int f.penalty Out.clear_penalty) (Out.is_int f.penalty Out.par_penalty) (Out.is_int f.penalty Out.vert_penalty) ordinary-reads clear-reads (serve-reads false) (serve-reads true) hold-reads
+  pub output-reads : Reads f w (Output.output_by p f w)
+  output-reads = by_penalty (int_le eject_penalty f.penalty) (Output.is_int f.penalty Output.clear_penalty) (Output.is_int f.penalty Output.par_penalty) (Output.is_int f.penalty Output.vert_penalty) ordinary-reads clear-reads (serve-reads false) (serve-reads true) hold-reads
     where
-      by_penalty : (t c x y : Bool) → Reads f w (Columns.ordinary p f.body w) → (t ≡ false → c ≡ true → Reads f w (Clear.clear p f.body w)) → (t ≡ false → c ≡ false → (x || y) ≡ true → Reads f w (Text.float_or_note p false f.body w)) → (t ≡ false → c ≡ false → (x || y) ≡ true → Reads f w (Text.float_or_note p true f.body w)) → (t ≡ false → c ≡ false → (x || y) ≡ false → Reads f w (Out.hold f.body w)) → Reads f w (if t then Columns.ordinary p f.body w else (if c then Clear.clear p f.body w else (if x then Text.float_or_note p false f.body w else (if y then Text.float_or_note p true f.body w else Out.hold f.body w))))
+      by_penalty : (t c x y : Bool) → Reads f w (Columns.ordinary p f.body w) → (t ≡ false → c ≡ true → Reads f w (Clear.clear p f.body w)) → (t ≡ false → c ≡ false → (x || y) ≡ true → Reads f w (Text.float_or_note p false f.body w)) → (t ≡ false → c ≡ false → (x || y) ≡ true → Reads f w (Text.float_or_note p true f.body w)) → (t ≡ false → c ≡ false → (x || y) ≡ false → Reads f w (Output.hold f.body w)) → Reads f w (if t then Columns.ordinary p f.body w else (if c then Clear.clear p f.body w else (if x then Text.float_or_note p false f.body w else (if y then Text.float_or_note p true f.body w else Output.hold f.body w))))
       by_penalty true c x y h i j k l = h
       by_penalty false true x y h i j k l = i refl refl
       by_penalty false false true y h i j k l = j refl refl refl
@@ -254,26 +254,26 @@ tells_if : (a : Work) (t : Bool) (c d : Work) → Tells a c → Tells a d → Te
 tells_if a true c d x y = x
 tells_if a false c d x y = y
 
-with_goal-tells : (g : ℤ) (w : Work) → Tells w (Out.with_goal g w)
-with_goal-tells g w = record { prints_on = same w (Out.with_goal g w) refl refl refl (λ h. h); page = refl; more = []; back = sym (append-nil w.put_back) }
+with_goal-tells : (g : ℤ) (w : Work) → Tells w (Output.with_goal g w)
+with_goal-tells g w = record { prints_on = same w (Output.with_goal g w) refl refl refl (λ h. h); page = refl; more = []; back = sym (append-nil w.put_back) }
 
-goal-tells : (p : Params) (n : ℤ) (w : Work) → Tells w (Out.next_goal p n w)
+goal-tells : (p : Params) (n : ℤ) (w : Work) → Tells w (Output.next_goal p n w)
 goal-tells p n w =
-    tells_if w (Out.is_int n Out.hold_penalty) (Out.with_goal max_dimen w) (Out.goal_by p (column_room_of p w.state.floats) w) (with_goal-tells max_dimen w)
-    (tells_if w (Out.is_crowded p (column_room_of p w.state.floats)) (Out.leave_column w) (Out.with_goal (column_room_of p w.state.floats) w) crowded (with_goal-tells (column_room_of p w.state.floats) w))
+    tells_if w (Output.is_int n Output.hold_penalty) (Output.with_goal max_dimen w) (Output.goal_by p (column_room_of p w.state.floats) w) (with_goal-tells max_dimen w)
+    (tells_if w (Output.is_crowded p (column_room_of p w.state.floats)) (Output.leave_column w) (Output.with_goal (column_room_of p w.state.floats) w) crowded (with_goal-tells (column_room_of p w.state.floats) w))
   where
     blank : List PlainNode
-    blank = if w.state.two_columns && not w.state.first_column then Out.blank_column ++ Out.blank_column else Out.blank_column
+    blank = if w.state.two_columns && not w.state.first_column then Output.blank_column ++ Output.blank_column else Output.blank_column
 
     kept : (t : Bool) → ((if t then w else record w { sent = w.sent ++ warned (warnings.Floats w.state.page) ∷ [] }).state ≡ w.state) × ((if t then w else record w { sent = w.sent ++ warned (warnings.Floats w.state.page) ∷ [] }).put_back ≡ w.put_back)
     kept true = (refl, refl)
     kept false = (refl, refl)
 
-    crowded : Tells w (Out.leave_column w)
+    crowded : Tells w (Output.leave_column w)
     crowded =
         let told = sends (warned (warnings.Floats w.state.page)) w in
-        let ns = if w.state.two_columns && not w.state.first_column then Out.blank_column ++ Out.blank_column else Out.blank_column in
-        record { prints_on = then_kept [] w told (Out.leave_column w) (warns-prints (warnings.Floats w.state.page) w) (puts-prints ns told); page = ap (λ s. s.held_page) (kept w.refused).0; more = ns; back = ap (λ l. l ++ ns) (kept w.refused).1 }
+        let ns = if w.state.two_columns && not w.state.first_column then Output.blank_column ++ Output.blank_column else Output.blank_column in
+        record { prints_on = then_kept [] w told (Output.leave_column w) (warns-prints (warnings.Floats w.state.page) w) (puts-prints ns told); page = ap (λ s. s.held_page) (kept w.refused).0; more = ns; back = ap (λ l. l ++ ns) (kept w.refused).1 }
 
 -- the boxes and rules that are kept and that wait, in the order in which they will ship
 abbrev pub state_prints : State → List ℕ
@@ -294,15 +294,15 @@ parts-within L H B R S C G P W h k =
     subst (λ l. Within l (S ++ ((C ++ G) ++ W))) (append_assoc (L ++ H) B R)
     (subst (Within (((L ++ H) ++ B) ++ R)) (ap (λ l. l ++ W) (append_assoc S C G) ∙ append_assoc S (C ++ G) W) c)
 
-pub out-reads : (p : Params) → int_le p.interlinepenalty eject_penalty ≡ false → (st : State) (f : Fired) (before : List PlainNode) → f.body ≡ without_insertions before → AllCalm before → AllFree before → (b : Bool) → BreakStands b (seen_all none (sorts before)) f.rest (pen_sort f.penalty) → (b ≡ true → HasReal (sorts before) → ⊥) → (b ≡ false → st.held_page ≡ []) → Paired st.floats.current → Fits (begun st) → WorkPlain (begun st) → OutReads f st (Out.out p st f)
-unfolding Out.out
+pub out-reads : (p : Params) → int_le p.interlinepenalty eject_penalty ≡ false → (st : State) (f : Fired) (before : List PlainNode) → f.body ≡ without_insertions before → AllCalm before → AllFree before → (b : Bool) → BreakStands b (seen_all none (sorts before)) f.rest (pen_sort f.penalty) → (b ≡ true → HasReal (sorts before) → ⊥) → (b ≡ false → st.held_page ≡ []) → Paired st.floats.current → Fits (begun st) → WorkPlain (begun st) → OutReads f st (Output.out p st f)
+unfolding Output.out
 out-reads p calm st f before is_body calm_before free_before b stands unreal free paired fits kept_plain =
-    all (Out.output_by p f w) (output-reads p calm f before is_body calm_before free_before b stands unreal w refl free paired fits) (Out.next_goal p f.penalty (Out.output_by p f w)) (goal-tells p f.penalty (Out.output_by p f w))
+    all (Output.output_by p f w) (output-reads p calm f before is_body calm_before free_before b stands unreal w refl free paired fits) (Output.next_goal p f.penalty (Output.output_by p f w)) (goal-tells p f.penalty (Output.output_by p f w))
   where
     w : Work
-    w = begun (Out.after_page st f)
+    w = begun (Output.after_page st f)
 
-    all : (c : Work) → Reads f (begun (Out.after_page st f)) c → (e : Work) → Tells c e → OutReads f st (Out.waiting_again f e)
+    all : (c : Work) → Reads f (begun (Output.after_page st f)) c → (e : Work) → Tells c e → OutReads f st (Output.waiting_again f e)
     all c x e y = record {
       fit = y.prints_on.fit (x.fit fits);
       lines = λ r. parts-within (left_prints st.left_column) (prints st.held_page) (prints f.body) (prints f.rest) (sent_prints e.sent) (left_prints e.state.left_column) (prints e.state.held_page) (prints e.put_back) (prints (f.held ++ e.put_back ++ f.rest)) (told (x.lines (y.prints_on.goes r) fits) r) waits;

@@ -36,10 +36,10 @@ sends-records e w = by_refused w.refused
     by_refused true = refl
     by_refused false = refl
 
-ship-records : (p : Params) (sheet : PlainSheet) (w : Work) → (Ship.ship p sheet w).records ≡ w.records
+ship-records : (p : Params) (sheet : PlainSheet) (w : Work) → (Pages.ship p sheet w).records ≡ w.records
 ship-records p sheet w = by_refused w.refused (int_lt p.maxpages (pos w.state.page))
   where
-    by_refused : (t u : Bool) → (if t then w else (if u then record w { refused = true } else Ship.ship_now sheet w)).records ≡ w.records
+    by_refused : (t u : Bool) → (if t then w else (if u then record w { refused = true } else Pages.ship_now sheet w)).records ≡ w.records
     by_refused true u = refl
     by_refused false true = refl
     by_refused false false = sends-records (shipped w.state.page sheet) (record w { state = record w.state { page = w.state.page + 1; dead_cycles = 0 } })
@@ -67,7 +67,7 @@ module _ (p : Params) (law : RecordLaw p) where
   column-lawful {a} {b} (still c f) h = same a.records b.records (ap (λ x. x.records) c) h
   column-lawful (in_turn x y) h = column-lawful y (column-lawful x h)
   column-lawful (records_one r w k) h = also-lawful r w k h
-  column-lawful (ships_one sheet w) h = same w.records (Ship.ship p sheet w).records (ship-records p sheet w) h
+  column-lawful (ships_one sheet w) h = same w.records (Pages.ship p sheet w).records (ship-records p sheet w) h
 
   firing-lawful : {a b : Work} → FiringStep p law a b → AllLawful a.records → AllLawful b.records
   firing-lawful (by_columns x) h = column-lawful x h
@@ -76,10 +76,10 @@ module _ (p : Params) (law : RecordLaw p) where
   firing-lawful (afterwards x y) h = firing-lawful y (firing-lawful x h)
 
 -- what is so of placements within the limits and of columns is so of all that a firing records
-pub out-records : (p : Params) (law : RecordLaw p) (s : State) (f : Fired) → AllByRecursion law.holds (Out.out p s f).records
-unfolding Out.out page_work
+pub out-records : (p : Params) (law : RecordLaw p) (s : State) (f : Fired) → AllByRecursion law.holds (Output.out p s f).records
+unfolding Output.out page_work
 out-records p law s f = firing-lawful p law (page_work-step p law s f) tt
 
 -- a firing places floats within the limits alone
-pub out-keeps : (p : Params) (s : State) (f : Fired) → AreLimited p (Out.out p s f).records
+pub out-keeps : (p : Params) (s : State) (f : Fired) → AreLimited p (Output.out p s f).records
 out-keeps p s f = out-records p (record { holds = IsLimited p; at_place = λ f place l k. λ plain. (refl, k plain); at_output = λ c. tt }) s f

@@ -37,7 +37,7 @@ Joins places.Page = ⊥
 Joins places.Double = Unit {0}
 Joins places.Deferred = Unit {0}
 
-joined-weight : (v : Weight) (place : Where) (f : Float) (l : FloatLists) → Joins place → lists_weight v (Place.joined_to place f l) ≡ lists_weight v l + v.float f.line
+joined-weight : (v : Weight) (place : Where) (f : Float) (l : FloatLists) → Joins place → lists_weight v (FloatMoves.joined_to place f l) ≡ lists_weight v l + v.float f.line
 joined-weight v places.Here f l j = absurd j
 joined-weight v places.Top f l j = let e : floats_weight v (l.top ++ f ∷ []) ≡ floats_weight v l.top + v.float f.line = one-more v l.top f in omega arith
 joined-weight v places.Bottom f l j = let e : floats_weight v (l.bottom ++ f ∷ []) ≡ floats_weight v l.bottom + v.float f.line = one-more v l.bottom f in omega arith
@@ -45,7 +45,7 @@ joined-weight v places.Page f l j = absurd j
 joined-weight v places.Double f l j = let e : floats_weight v (l.double ++ f ∷ []) ≡ floats_weight v l.double + v.float f.line = one-more v l.double f in omega arith
 joined-weight v places.Deferred f l j = let e : floats_weight v (l.deferred ++ f ∷ []) ≡ floats_weight v l.deferred + v.float f.line = one-more v l.deferred f in omega arith
 
-joined-current : (place : Where) (f : Float) (l : FloatLists) → (Place.joined_to place f l).current ≡ l.current
+joined-current : (place : Where) (f : Float) (l : FloatLists) → (FloatMoves.joined_to place f l).current ≡ l.current
 joined-current places.Here f l = refl
 joined-current places.Top f l = refl
 joined-current places.Bottom f l = refl
@@ -54,14 +54,14 @@ joined-current places.Double f l = refl
 joined-current places.Deferred f l = refl
 
 -- a float that the lists had goes to a list
-pub placed-adds : (v : Weight) (p : Params) (place : Where) (f : Float) (left : FloatLists) (w : Work) → Joins place → (Paired w.state.floats.current → Paired left.current) → lists_weight v w.state.floats ≡ lists_weight v left + v.float f.line → Adds v 0 w (Place.place_float p place f left w)
-placed-adds v p place f left w j h e = by_record (Place.is_placed place)
+pub placed-adds : (v : Weight) (p : Params) (place : Where) (f : Float) (left : FloatLists) (w : Work) → Joins place → (Paired w.state.floats.current → Paired left.current) → lists_weight v w.state.floats ≡ lists_weight v left + v.float f.line → Adds v 0 w (FloatMoves.place_float p place f left w)
+placed-adds v p place f left w j h e = by_record (FloatMoves.is_placed place)
   where
     r : Recorded
     r = placed f place w.state.floats (column_height_of p w.state.floats)
 
     l : FloatLists
-    l = Place.joined_to place f left
+    l = FloatMoves.joined_to place f left
 
     paired : Paired w.state.floats.current → Paired l.current
     paired x = subst Paired (sym (joined-current place f left)) (h x)
@@ -138,7 +138,7 @@ Leaves places.Page = Unit {0}
 Leaves places.Double = Unit {0}
 Leaves places.Deferred = ⊥
 
-joined-waiting : (from : Part) → IsWaiting from → (place : Where) → Leaves place → (f : Float) (fs : List Float) (l : FloatLists) → floats_of from (Place.joined_to place f (with_floats_of from fs l)) ≡ fs
+joined-waiting : (from : Part) → IsWaiting from → (place : Where) → Leaves place → (f : Float) (fs : List Float) (l : FloatLists) → floats_of from (FloatMoves.joined_to place f (with_floats_of from fs l)) ≡ fs
 joined-waiting parts.Current h place j f fs l = absurd h
 joined-waiting parts.Here h place j f fs l = absurd h
 joined-waiting parts.Top h place j f fs l = absurd h
@@ -162,7 +162,7 @@ abbrev pub Waits : Part → Weight → List Float → List Float → Work → Ty
 Waits from v before rest w = floats_weight v (floats_of from w.state.floats) ≡ floats_weight v before + floats_weight v rest
 
 -- a float that waits goes to a list or stays
-waiting-adds : (from : Part) → IsWaiting from → (v : Weight) (p : Params) (place : Where) (f : Float) (before rest : List Float) (w : Work) → StaysOrJoins place → Waits from v before (f ∷ rest) w → Adds v 0 w (Place.place_waiting from p place f before rest w) × Waits from v (Place.still_deferred place f before) rest (Place.place_waiting from p place f before rest w)
+waiting-adds : (from : Part) → IsWaiting from → (v : Weight) (p : Params) (place : Where) (f : Float) (before rest : List Float) (w : Work) → StaysOrJoins place → Waits from v before (f ∷ rest) w → Adds v 0 w (FloatMoves.place_waiting from p place f before rest w) × Waits from v (FloatMoves.still_deferred place f before) rest (FloatMoves.place_waiting from p place f before rest w)
 waiting-adds from q v p place f before rest w j h = by_place place j
   where
     l : FloatLists
@@ -185,7 +185,7 @@ waiting-adds from q v p place f before rest w j h = by_place place j
     paired : Paired w.state.floats.current → Paired l.current
     paired x = paired-with from q (before ++ rest) w.state.floats x
 
-    joins : (place : Where) → Joins place → Leaves place → Adds v 0 w (Place.place_float p place f l w) × (floats_weight v (floats_of from (Place.place_float p place f l w).state.floats) ≡ floats_weight v before + floats_weight v rest)
+    joins : (place : Where) → Joins place → Leaves place → Adds v 0 w (FloatMoves.place_float p place f l w) × (floats_weight v (floats_of from (FloatMoves.place_float p place f l w).state.floats) ≡ floats_weight v before + floats_weight v rest)
     joins place k m = (placed-adds v p place f l w k paired lighter, ap (floats_weight v) (joined-waiting from q place m f (before ++ rest) w.state.floats) ∙ both)
 
     waits : Adds v 0 w w × (floats_weight v (floats_of from w.state.floats) ≡ floats_weight v (before ++ f ∷ []) + floats_weight v rest)
@@ -194,7 +194,7 @@ waiting-adds from q v p place f before rest w j h = by_place place j
         sums : (b x y z d : ℕ) → b ≡ x + (z + y) → d ≡ x + z → b ≡ d + y
         sums b x y z d e g = omega arith
 
-    by_place : (place : Where) → StaysOrJoins place → Adds v 0 w (Place.place_waiting from p place f before rest w) × Waits from v (Place.still_deferred place f before) rest (Place.place_waiting from p place f before rest w)
+    by_place : (place : Where) → StaysOrJoins place → Adds v 0 w (FloatMoves.place_waiting from p place f before rest w) × Waits from v (FloatMoves.still_deferred place f before) rest (FloatMoves.place_waiting from p place f before rest w)
     by_place places.Here j = absurd j.by
     by_place places.Top j = joins places.Top tt tt
     by_place places.Bottom j = joins places.Bottom tt tt
@@ -202,18 +202,18 @@ waiting-adds from q v p place f before rest w j h = by_place place j
     by_place places.Double j = joins places.Double tt tt
     by_place places.Deferred j = waits
 
-pub next-adds : (v : Weight) (p : Params) (before fs : List Float) (w : Work) → Waits parts.Deferred v before fs w → Adds v 0 w (Place.place_next p before fs w)
+pub next-adds : (v : Weight) (p : Params) (before fs : List Float) (w : Work) → Waits parts.Deferred v before fs w → Adds v 0 w (FloatMoves.place_next p before fs w)
 next-adds v p before [] w h = unchanged v w
 next-adds v p before (f ∷ rest) w h =
     let place = Area.next_place p w.state.floats w.state.suppress before f in
-    let w' = Place.place_waiting parts.Deferred p place f before rest w in
-    let d : Adds v 0 w (Place.place_waiting parts.Deferred p place f before rest w) × Waits parts.Deferred v (Place.still_deferred place f before) rest (Place.place_waiting parts.Deferred p place f before rest w) = waiting-adds parts.Deferred tt v p place f before rest w (next-joins p w.state.floats w.state.suppress before f) h in
-    then_kept v 0 w w' (Place.place_next p (Place.still_deferred place f before) rest w') d.0 (next-adds v p (Place.still_deferred place f before) rest w' d.1)
+    let w' = FloatMoves.place_waiting parts.Deferred p place f before rest w in
+    let d : Adds v 0 w (FloatMoves.place_waiting parts.Deferred p place f before rest w) × Waits parts.Deferred v (FloatMoves.still_deferred place f before) rest (FloatMoves.place_waiting parts.Deferred p place f before rest w) = waiting-adds parts.Deferred tt v p place f before rest w (next-joins p w.state.floats w.state.suppress before f) h in
+    then_kept v 0 w w' (FloatMoves.place_next p (FloatMoves.still_deferred place f before) rest w') d.0 (next-adds v p (FloatMoves.still_deferred place f before) rest w' d.1)
 
-pub double-adds : (from : Part) → IsWaiting from → (v : Weight) (p : Params) (before fs : List Float) (w : Work) → Waits from v before fs w → Adds v 0 w (Place.place_double from p before fs w)
+pub double-adds : (from : Part) → IsWaiting from → (v : Weight) (p : Params) (before fs : List Float) (w : Work) → Waits from v before fs w → Adds v 0 w (FloatMoves.place_double from p before fs w)
 double-adds from q v p before [] w h = unchanged v w
 double-adds from q v p before (f ∷ rest) w h =
     let place = Area.double_place p w.state.floats w.state.suppress before f in
-    let w' = Place.place_waiting from p place f before rest w in
-    let d : Adds v 0 w (Place.place_waiting from p place f before rest w) × Waits from v (Place.still_deferred place f before) rest (Place.place_waiting from p place f before rest w) = waiting-adds from q v p place f before rest w (double-joins p w.state.floats w.state.suppress before f) h in
-    then_kept v 0 w w' (Place.place_double from p (Place.still_deferred place f before) rest w') d.0 (double-adds from q v p (Place.still_deferred place f before) rest w' d.1)
+    let w' = FloatMoves.place_waiting from p place f before rest w in
+    let d : Adds v 0 w (FloatMoves.place_waiting from p place f before rest w) × Waits from v (FloatMoves.still_deferred place f before) rest (FloatMoves.place_waiting from p place f before rest w) = waiting-adds from q v p place f before rest w (double-joins p w.state.floats w.state.suppress before f) h in
+    then_kept v 0 w w' (FloatMoves.place_double from p (FloatMoves.still_deferred place f before) rest w') d.0 (double-adds from q v p (FloatMoves.still_deferred place f before) rest w' d.1)

@@ -40,34 +40,34 @@ with_waiting-adds from q v fs n w e c x = record { waits = x.waits; classes = x.
         sums a d b g i j y x k p q h = omega arith
 
 -- a company leaves the floats that wait, and its page or column takes them
-ship_wide-adds : (v : Weight) (p : Params) (cs : List Choice) (w : Work) → choices_weight v cs ≡ floats_weight v (wide_waiting p w.state.floats) → Adds v 0 w (Ship.ship_wide p cs w)
+ship_wide-adds : (v : Weight) (p : Params) (cs : List Choice) (w : Work) → choices_weight v cs ≡ floats_weight v (wide_waiting p w.state.floats) → Adds v 0 w (Pages.ship_wide p cs w)
 ship_wide-adds v p cs w h =
     let b = with_floats (with_wide_waiting p (left_floats cs) w.state.floats) w in
     let n = nodes_weight v (wide_floats_column p p.textheight (chosen_floats cs)).nodes in
     let c : n ≡ floats_weight v (chosen_floats cs) = floats_column-weight v p.textheight p.dblfptop p.dblfpsep p.dblfpbot (chosen_floats cs) in
-    let x : Adds v n b (Ship.ship_wide p cs w) = shipped-adds v p (wide (wide_floats_column p p.textheight (chosen_floats cs))) b in
-    with_waiting-adds (wide_part p) (wide-waits p) v (left_floats cs) n w (sums n (floats_weight v (chosen_floats cs)) (floats_weight v (left_floats cs)) (choices_weight v cs) (floats_weight v (wide_waiting p w.state.floats)) c (parted-weight v cs) h) (Ship.ship_wide p cs w) x
+    let x : Adds v n b (Pages.ship_wide p cs w) = shipped-adds v p (wide (wide_floats_column p p.textheight (chosen_floats cs))) b in
+    with_waiting-adds (wide_part p) (wide-waits p) v (left_floats cs) n w (sums n (floats_weight v (chosen_floats cs)) (floats_weight v (left_floats cs)) (choices_weight v cs) (floats_weight v (wide_waiting p w.state.floats)) c (parted-weight v cs) h) (Pages.ship_wide p cs w) x
   where
     sums : (n a b c d : ℕ) → n ≡ a → a + b ≡ c → c ≡ d → n + b ≡ d
     sums n a b c d e g i = omega arith
 
-wide_by-adds : (v : Weight) (p : Params) (again : Work → Work) → ((w : Work) → Adds v 0 w (again w)) → (w : Work) (o : Option (List Choice)) → CompanyOf v (floats_weight v (wide_waiting p w.state.floats)) o → Adds v 0 w (Ship.wide_pages_by again p w o)
+wide_by-adds : (v : Weight) (p : Params) (again : Work → Work) → ((w : Work) → Adds v 0 w (again w)) → (w : Work) (o : Option (List Choice)) → CompanyOf v (floats_weight v (wide_waiting p w.state.floats)) o → Adds v 0 w (Pages.wide_pages_by again p w o)
 wide_by-adds v p again h w None c = unchanged v w
-wide_by-adds v p again h w (Some cs) c = then_kept v 0 w (Ship.ship_wide p cs w) (again (Ship.ship_wide p cs w)) (ship_wide-adds v p cs w c) (h (Ship.ship_wide p cs w))
+wide_by-adds v p again h w (Some cs) c = then_kept v 0 w (Pages.ship_wide p cs w) (again (Pages.ship_wide p cs w)) (ship_wide-adds v p cs w c) (h (Pages.ship_wide p cs w))
 
-wide_pages-adds : (v : Weight) (p : Params) (clearing : Bool) (n : ℕ) (w : Work) → Adds v 0 w (Ship.wide_pages p clearing n w)
+wide_pages-adds : (v : Weight) (p : Params) (clearing : Bool) (n : ℕ) (w : Work) → Adds v 0 w (Pages.wide_pages p clearing n w)
 wide_pages-adds v p clearing zero w = unchanged v w
 wide_pages-adds v p clearing (suc n) w =
-    wide_by-adds v p (λ w'. Ship.wide_pages p clearing n w') (λ w'. wide_pages-adds v p clearing n w') w (company (Ship.wide_wanted p clearing) (wide_waiting p w.state.floats)) (company-weight v (Ship.wide_wanted p clearing) (wide_waiting p w.state.floats))
+    wide_by-adds v p (λ w'. Pages.wide_pages p clearing n w') (λ w'. wide_pages-adds v p clearing n w') w (company (Pages.wide_wanted p clearing) (wide_waiting p w.state.floats)) (company-weight v (Pages.wide_wanted p clearing) (wide_waiting p w.state.floats))
 
-pub all_wide-adds : (v : Weight) (p : Params) (clearing : Bool) (w : Work) → Adds v 0 w (Ship.all_wide_pages p clearing w)
+pub all_wide-adds : (v : Weight) (p : Params) (clearing : Bool) (w : Work) → Adds v 0 w (Pages.all_wide_pages p clearing w)
 all_wide-adds v p clearing w = wide_pages-adds v p clearing (length (wide_waiting p w.state.floats)) w
 
 same_sum : (n : ℕ) → n + 0 ≡ n
 same_sum n = omega arith
 
 -- a page is shipped beside the lists and the left column
-ship-keeps : (p : Params) (sheet : PlainSheet) (w : Work) → ((Ship.ship p sheet w).state.floats ≡ w.state.floats) × ((Ship.ship p sheet w).state.left_column ≡ w.state.left_column)
+ship-keeps : (p : Params) (sheet : PlainSheet) (w : Work) → ((Pages.ship p sheet w).state.floats ≡ w.state.floats) × ((Pages.ship p sheet w).state.left_column ≡ w.state.left_column)
 ship-keeps p sheet w = by_refused w.refused (int_lt p.maxpages (pos w.state.page)) w.refused
   where
     turned : Work
@@ -79,65 +79,65 @@ ship-keeps p sheet w = by_refused w.refused (int_lt p.maxpages (pos w.state.page
     by_refused false false true = (refl, refl)
     by_refused false false false = (refl, refl)
 
-without-weight : (v : Weight) (a : Work) → work_weight v (Ship.without_double a) + (floats_weight v a.state.floats.double + left_weight v a.state.left_column) ≡ work_weight v a
+without-weight : (v : Weight) (a : Work) → work_weight v (Pages.without_double a) + (floats_weight v a.state.floats.double + left_weight v a.state.left_column) ≡ work_weight v a
 without-weight v a = omega arith
 
 -- the two columns of a pair weigh as its left one and the second
-left-weight : (v : Weight) (c : PlainColumn) (t f : Bool) (o : Option PlainColumn) → f ≡ false → ColumnsFit t f o → nodes_weight v (Ship.left_or c o).nodes ≡ left_weight v o
+left-weight : (v : Weight) (c : PlainColumn) (t f : Bool) (o : Option PlainColumn) → f ≡ false → ColumnsFit t f o → nodes_weight v (Pages.left_or c o).nodes ≡ left_weight v o
 left-weight v c t true o e h = let no : ⊥ = grind (arith, e) in absurd no
 left-weight v c true false None e h = absurd h
 left-weight v c true false (Some d) e h = refl
 left-weight v c false false o e h = absurd h
 
 -- the double floats and the left column leave with the pair
-pair-adds : (v : Weight) (p : Params) (c : PlainColumn) (w : Work) → w.state.first_column ≡ false → Adds v (nodes_weight v c.nodes) w (Ship.without_double (Ship.ship p (pair_sheet p w.state.floats (Ship.left_or c w.state.left_column) c) w))
+pair-adds : (v : Weight) (p : Params) (c : PlainColumn) (w : Work) → w.state.first_column ≡ false → Adds v (nodes_weight v c.nodes) w (Pages.without_double (Pages.ship p (pair_sheet p w.state.floats (Pages.left_or c w.state.left_column) c) w))
 pair-adds v p c w f =
-    let sheet = pair_sheet p w.state.floats (Ship.left_or c w.state.left_column) c in
-    let x : Adds v (sheet_weight v sheet) w (Ship.ship p sheet w) = shipped-adds v p sheet w in
+    let sheet = pair_sheet p w.state.floats (Pages.left_or c w.state.left_column) c in
+    let x : Adds v (sheet_weight v sheet) w (Pages.ship p sheet w) = shipped-adds v p sheet w in
     let d : nodes_weight v (floats_above places.Double p.dblfloatsep p.dbltextfloatsep w.state.floats.double) ≡ floats_weight v w.state.floats.double = floats_above-weight v places.Double p.dblfloatsep p.dbltextfloatsep w.state.floats.double in
-    gone (nodes_weight v (floats_above places.Double p.dblfloatsep p.dbltextfloatsep w.state.floats.double)) (nodes_weight v (Ship.left_or c w.state.left_column).nodes) d (Ship.ship p sheet w) (ap (λ l. floats_weight v l.double) (ship-keeps p sheet w).0) (ap (left_weight v) (ship-keeps p sheet w).1) x
+    gone (nodes_weight v (floats_above places.Double p.dblfloatsep p.dbltextfloatsep w.state.floats.double)) (nodes_weight v (Pages.left_or c w.state.left_column).nodes) d (Pages.ship p sheet w) (ap (λ l. floats_weight v l.double) (ship-keeps p sheet w).0) (ap (left_weight v) (ship-keeps p sheet w).1) x
   where
-    gone : (m n : ℕ) → m ≡ floats_weight v w.state.floats.double → (a : Work) → floats_weight v a.state.floats.double ≡ floats_weight v w.state.floats.double → left_weight v a.state.left_column ≡ left_weight v w.state.left_column → Adds v (m + nodes_weight v (Ship.left_or c w.state.left_column).nodes + nodes_weight v c.nodes) w a → Adds v (nodes_weight v c.nodes) w (Ship.without_double a)
+    gone : (m n : ℕ) → m ≡ floats_weight v w.state.floats.double → (a : Work) → floats_weight v a.state.floats.double ≡ floats_weight v w.state.floats.double → left_weight v a.state.left_column ≡ left_weight v w.state.left_column → Adds v (m + nodes_weight v (Pages.left_or c w.state.left_column).nodes + nodes_weight v c.nodes) w a → Adds v (nodes_weight v c.nodes) w (Pages.without_double a)
     gone m n d a e l x = record { waits = x.waits; classes = x.classes; goes = λ r. x.goes r; by = λ r s. all s (x.by r s) }
       where
-        all : Sound w.state → Sound a.state × (work_weight v a ≡ work_weight v w + (m + nodes_weight v (Ship.left_or c w.state.left_column).nodes + nodes_weight v c.nodes)) → Sound (Ship.without_double a).state × (work_weight v (Ship.without_double a) ≡ work_weight v w + nodes_weight v c.nodes)
+        all : Sound w.state → Sound a.state × (work_weight v a ≡ work_weight v w + (m + nodes_weight v (Pages.left_or c w.state.left_column).nodes + nodes_weight v c.nodes)) → Sound (Pages.without_double a).state × (work_weight v (Pages.without_double a) ≡ work_weight v w + nodes_weight v c.nodes)
         all s h =
-            (record { box = h.0.box; columns = tt; entries = h.0.entries }, sums (work_weight v w) (work_weight v a) (work_weight v (Ship.without_double a)) (floats_weight v w.state.floats.double) (floats_weight v a.state.floats.double) (left_weight v w.state.left_column) (left_weight v a.state.left_column) (nodes_weight v (Ship.left_or c w.state.left_column).nodes) (nodes_weight v c.nodes) d e l (left-weight v c w.state.two_columns w.state.first_column w.state.left_column f s.columns) h.1 (without-weight v a))
+            (record { box = h.0.box; columns = tt; entries = h.0.entries }, sums (work_weight v w) (work_weight v a) (work_weight v (Pages.without_double a)) (floats_weight v w.state.floats.double) (floats_weight v a.state.floats.double) (left_weight v w.state.left_column) (left_weight v a.state.left_column) (nodes_weight v (Pages.left_or c w.state.left_column).nodes) (nodes_weight v c.nodes) d e l (left-weight v c w.state.two_columns w.state.first_column w.state.left_column f s.columns) h.1 (without-weight v a))
           where
             sums : (W A B q q' y y' z k : ℕ) → m ≡ q → q' ≡ q → y' ≡ y → z ≡ y → A ≡ W + (m + z + k) → B + (q' + y') ≡ A → B ≡ W + k
             sums W A B q q' y y' z k d e l g h i = omega arith
 
-ship_pair-adds : (v : Weight) (p : Params) (c : PlainColumn) (w : Work) → w.state.two_columns ≡ true → w.state.first_column ≡ false → Adds v (nodes_weight v c.nodes) w (Ship.ship_pair p c w)
+ship_pair-adds : (v : Weight) (p : Params) (c : PlainColumn) (w : Work) → w.state.two_columns ≡ true → w.state.first_column ≡ false → Adds v (nodes_weight v c.nodes) w (Pages.ship_pair p c w)
 ship_pair-adds v p c w t f =
-    let b = Ship.without_double (Ship.ship p (pair_sheet p w.state.floats (Ship.left_or c w.state.left_column) c) w) in
-    let d = Ship.all_wide_pages p false b in
-    then_kept v (nodes_weight v c.nodes) w b (Ship.ship_pair p c w) (pair-adds v p c w f)
-    (then_kept v 0 b d (Ship.ship_pair p c w) (all_wide-adds v p false b) (double-adds (wide_part p) (wide-waits p) v p [] (wide_waiting p d.state.floats) d (omega arith)))
+    let b = Pages.without_double (Pages.ship p (pair_sheet p w.state.floats (Pages.left_or c w.state.left_column) c) w) in
+    let d = Pages.all_wide_pages p false b in
+    then_kept v (nodes_weight v c.nodes) w b (Pages.ship_pair p c w) (pair-adds v p c w f)
+    (then_kept v 0 b d (Pages.ship_pair p c w) (all_wide-adds v p false b) (double-adds (wide_part p) (wide-waits p) v p [] (wide_waiting p d.state.floats) d (omega arith)))
 
-keep_left-adds : (v : Weight) (c : PlainColumn) (w : Work) → w.state.two_columns ≡ true → w.state.first_column ≡ true → Adds v (nodes_weight v c.nodes) w (Ship.keep_left c w)
+keep_left-adds : (v : Weight) (c : PlainColumn) (w : Work) → w.state.two_columns ≡ true → w.state.first_column ≡ true → Adds v (nodes_weight v c.nodes) w (Pages.keep_left c w)
 keep_left-adds v c w t f = record { waits = refl; classes = refl; goes = λ r. r; by = λ r s. by_left w.state.left_column s.columns s }
   where
     sums : (a x y n : ℕ) → a + n + x + y ≡ a + 0 + x + y + n
     sums a x y n = omega arith
 
-    by_left : (o : Option PlainColumn) → ColumnsFit w.state.two_columns w.state.first_column o → Sound w.state → Sound (Ship.keep_left c w).state × (work_weight v (Ship.keep_left c w) ≡ nodes_weight v w.state.waiting + boxes_weight v w.state.boxes + nodes_weight v w.state.held_page + lists_weight v w.state.floats + left_weight v o + nodes_weight v w.put_back + sent_weight v w.sent + nodes_weight v c.nodes)
+    by_left : (o : Option PlainColumn) → ColumnsFit w.state.two_columns w.state.first_column o → Sound w.state → Sound (Pages.keep_left c w).state × (work_weight v (Pages.keep_left c w) ≡ nodes_weight v w.state.waiting + boxes_weight v w.state.boxes + nodes_weight v w.state.held_page + lists_weight v w.state.floats + left_weight v o + nodes_weight v w.put_back + sent_weight v w.sent + nodes_weight v c.nodes)
     by_left None h s = (record { box = s.box; columns = subst (λ x. ColumnsFit x false (Some c)) (sym t) tt; entries = s.entries }, sums (nodes_weight v w.state.waiting + boxes_weight v w.state.boxes + nodes_weight v w.state.held_page + lists_weight v w.state.floats) (nodes_weight v w.put_back) (sent_weight v w.sent) (nodes_weight v c.nodes))
     by_left (Some d) h s = absurd (subst (λ x. ColumnsFit w.state.two_columns x (Some d)) f h)
 
-put_out_by-adds : (v : Weight) (p : Params) (c : PlainColumn) (w : Work) → Adds v (nodes_weight v c.nodes) w (Ship.put_out_by p c w)
+put_out_by-adds : (v : Weight) (p : Params) (c : PlainColumn) (w : Work) → Adds v (nodes_weight v c.nodes) w (Pages.put_out_by p c w)
 put_out_by-adds v p c w = by_columns w.state.two_columns w.state.first_column refl refl
   where
-    by_columns : (t f : Bool) → w.state.two_columns ≡ t → w.state.first_column ≡ f → Adds v (nodes_weight v c.nodes) w (if not t then Ship.ship p (one c) w else (if f then Ship.keep_left c w else Ship.ship_pair p c w))
+    by_columns : (t f : Bool) → w.state.two_columns ≡ t → w.state.first_column ≡ f → Adds v (nodes_weight v c.nodes) w (if not t then Pages.ship p (one c) w else (if f then Pages.keep_left c w else Pages.ship_pair p c w))
     by_columns false f a b = shipped-adds v p (one c) w
     by_columns true true a b = keep_left-adds v c w a b
     by_columns true false a b = ship_pair-adds v p c w a b
 
-put_out-adds : (v : Weight) (p : Params) (c : PlainColumn) (w : Work) → Adds v (nodes_weight v c.nodes) w (Ship.put_out p c w)
+put_out-adds : (v : Weight) (p : Params) (c : PlainColumn) (w : Work) → Adds v (nodes_weight v c.nodes) w (Pages.put_out p c w)
 put_out-adds v p c w =
     let a = records_also (output c) w in
-    let b = Ship.put_out_by p c a in
-    kept_then v (nodes_weight v c.nodes) w a (Ship.put_out p c w) (records-adds v (output c) w)
-    (then_kept v (nodes_weight v c.nodes) a b (Ship.put_out p c w) (put_out_by-adds v p c a) (record { waits = refl; classes = refl; goes = λ r. r; by = λ r s. (record { box = s.box; columns = s.columns; entries = s.entries }, omega arith) }))
+    let b = Pages.put_out_by p c a in
+    kept_then v (nodes_weight v c.nodes) w a (Pages.put_out p c w) (records-adds v (output c) w)
+    (then_kept v (nodes_weight v c.nodes) a b (Pages.put_out p c w) (put_out_by-adds v p c a) (record { waits = refl; classes = refl; goes = λ r. r; by = λ r s. (record { box = s.box; columns = s.columns; entries = s.entries }, omega arith) }))
 
 -- ---- the class boxes
 
@@ -198,7 +198,7 @@ company-adds v p cs w h =
     let height = column_height_of p w.state.floats in
     let e : floats_weight v (chosen_floats cs) + floats_weight v (left_floats cs) ≡ choices_weight v cs = parted-weight v cs in
     let c : nodes_weight v (single_floats_column p height (chosen_floats cs)).nodes ≡ floats_weight v (chosen_floats cs) = floats_column-weight v height p.fptop p.fpsep p.fpbot (chosen_floats cs) in
-    let x : Adds v (nodes_weight v (single_floats_column p height (chosen_floats cs)).nodes) (Ship.with_deferred (left_floats cs) w) (Columns.put_out_company p cs w) = put_out-adds v p (single_floats_column p height (chosen_floats cs)) (Ship.with_deferred (left_floats cs) w) in
+    let x : Adds v (nodes_weight v (single_floats_column p height (chosen_floats cs)).nodes) (Pages.with_deferred (left_floats cs) w) (Columns.put_out_company p cs w) = put_out-adds v p (single_floats_column p height (chosen_floats cs)) (Pages.with_deferred (left_floats cs) w) in
     with_waiting-adds parts.Deferred tt v (left_floats cs) (nodes_weight v (single_floats_column p height (chosen_floats cs)).nodes) w (omega arith) (Columns.put_out_company p cs w) x
 
 columns_by-adds : (v : Weight) (p : Params) (again : Work → Work) → ((w : Work) → Adds v 0 w (again w)) → (w : Work) (o : Option (List Choice)) → CompanyOf v (floats_weight v w.state.floats.deferred) o → Adds v 0 w (Columns.float_columns_by again p w o)

@@ -157,7 +157,7 @@ warns-adds v e w = adds_if v 0 w w.refused w (record w { sent = w.sent ++ warned
     sums x y z e = omega arith
 
 -- a page that is shipped
-pub shipped-adds : (v : Weight) (p : Params) (sheet : PlainSheet) (w : Work) → Adds v (sheet_weight v sheet) w (Ship.ship p sheet w)
+pub shipped-adds : (v : Weight) (p : Params) (sheet : PlainSheet) (w : Work) → Adds v (sheet_weight v sheet) w (Pages.ship p sheet w)
 shipped-adds v p sheet w = by_refused w.refused refl
   where
     sums : (x y z n : ℕ) → z ≡ y + (n + 0) → x + z ≡ x + y + n
@@ -173,10 +173,10 @@ shipped-adds v p sheet w = by_refused w.refused refl
     now true r h = let no : ⊥ = grind (arith, h) in absurd no
     now false r h = sent_now
 
-    by_limit : w.refused ≡ false → (u : Bool) → Adds v (sheet_weight v sheet) w (if u then record w { refused = true } else Ship.ship_now sheet w)
+    by_limit : w.refused ≡ false → (u : Bool) → Adds v (sheet_weight v sheet) w (if u then record w { refused = true } else Pages.ship_now sheet w)
     by_limit r true = record { waits = refl; classes = refl; goes = λ k. let no : ⊥ = grind (arith, k) in absurd no; by = λ k s. let no : ⊥ = grind (arith, k) in absurd no }
     by_limit r false = now w.refused refl r
 
-    by_refused : (t : Bool) → w.refused ≡ t → Adds v (sheet_weight v sheet) w (if t then w else (if int_lt p.maxpages (pos w.state.page) then record w { refused = true } else Ship.ship_now sheet w))
+    by_refused : (t : Bool) → w.refused ≡ t → Adds v (sheet_weight v sheet) w (if t then w else (if int_lt p.maxpages (pos w.state.page) then record w { refused = true } else Pages.ship_now sheet w))
     by_refused true h = record { waits = refl; classes = refl; goes = λ k. k; by = λ k s. let no : ⊥ = grind (arith, k, h) in absurd no }
     by_refused false h = by_limit h (int_lt p.maxpages (pos w.state.page))

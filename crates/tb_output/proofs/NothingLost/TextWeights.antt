@@ -54,8 +54,8 @@ Leads v f left w = (Paired w.state.floats.current → Paired left.current) × (l
 
 defer-adds : (v : Weight) (p : Params) (f : Float) (left : FloatLists) (w : Work) → Leads v f left w → Adds v 0 w (Text.defer p f left w)
 defer-adds v p f left w h =
-    let a = Place.place_float p places.Deferred (Text.with_top f) left w in
-    adds_if v 0 w (Text.only_here f) (sends (warned (warnings.Ht f.name)) a) (Place.place_float p places.Deferred f left w)
+    let a = FloatMoves.place_float p places.Deferred (Text.with_top f) left w in
+    adds_if v 0 w (Text.only_here f) (sends (warned (warnings.Ht f.name)) a) (FloatMoves.place_float p places.Deferred f left w)
     (then_kept v 0 w a (sends (warned (warnings.Ht f.name)) a) (placed-adds v p places.Deferred (Text.with_top f) left w tt h.0 h.1) (warns-adds v (warnings.Ht f.name) a))
     (placed-adds v p places.Deferred f left w tt h.0 h.1)
 
@@ -67,7 +67,7 @@ here-weight v p false f = omega arith
 here-adds : (v : Weight) (p : Params) (vert : Bool) (f : Float) (left : FloatLists) (w : Work) → Leads v f left w → Adds v 0 w (Text.float_goes p vert f left w places.Here)
 here-adds v p vert f left w h =
     let r = placed f places.Here w.state.floats (column_height_of p w.state.floats) in
-    let l = Place.joined_to places.Here f left in
+    let l = FloatMoves.joined_to places.Here f left in
     let a = records_also r w in
     let b = with_floats l a in
     let c = Text.puts_interline p b in
@@ -78,19 +78,19 @@ here-adds v p vert f left w h =
     same true = refl
     same false = refl
 
-    into : (a : Work) → a.state ≡ w.state → (c : Work) → Adds v (0 + v.float f.line) (with_floats (Place.joined_to places.Here f left) a) c → Adds v 0 a c
+    into : (a : Work) → a.state ≡ w.state → (c : Work) → Adds v (0 + v.float f.line) (with_floats (FloatMoves.joined_to places.Here f left) a) c → Adds v 0 a c
     into a q c x = record { waits = x.waits; classes = x.classes; goes = λ r. x.goes r; by = λ r s. all s (x.by r (record { box = s.box; columns = s.columns; entries = h.0 (subst (λ t. Paired t.floats.current) q s.entries) })) }
       where
-        all : Sound a.state → Sound c.state × (work_weight v c ≡ work_weight v (with_floats (Place.joined_to places.Here f left) a) + (0 + v.float f.line)) → Sound c.state × (work_weight v c ≡ work_weight v a + 0)
+        all : Sound a.state → Sound c.state × (work_weight v c ≡ work_weight v (with_floats (FloatMoves.joined_to places.Here f left) a) + (0 + v.float f.line)) → Sound c.state × (work_weight v c ≡ work_weight v a + 0)
         all s k =
             let e : lists_weight v a.state.floats ≡ lists_weight v left + v.float f.line = ap (λ t. lists_weight v t.floats) q ∙ h.1 in
-            let g : work_weight v c ≡ work_weight v (with_floats (Place.joined_to places.Here f left) a) + (0 + v.float f.line) = k.1 in
+            let g : work_weight v c ≡ work_weight v (with_floats (FloatMoves.joined_to places.Here f left) a) + (0 + v.float f.line) = k.1 in
             (k.0, omega arith)
 
 goes-adds : (v : Weight) (p : Params) (vert : Bool) (f : Float) (left : FloatLists) (w : Work) (place : Where) → Leads v f left w → Adds v 0 w (Text.float_goes p vert f left w place)
 goes-adds v p vert f left w places.Here h = here-adds v p vert f left w h
-goes-adds v p vert f left w places.Top h = then_interline v p 0 w (Place.place_float p places.Top f left w) (placed-adds v p places.Top f left w tt h.0 h.1)
-goes-adds v p vert f left w places.Bottom h = then_interline v p 0 w (Place.place_float p places.Bottom f left w) (placed-adds v p places.Bottom f left w tt h.0 h.1)
+goes-adds v p vert f left w places.Top h = then_interline v p 0 w (FloatMoves.place_float p places.Top f left w) (placed-adds v p places.Top f left w tt h.0 h.1)
+goes-adds v p vert f left w places.Bottom h = then_interline v p 0 w (FloatMoves.place_float p places.Bottom f left w) (placed-adds v p places.Bottom f left w tt h.0 h.1)
 goes-adds v p vert f left w places.Page h = then_interline v p 0 w (Text.defer p f left w) (defer-adds v p f left w h)
 goes-adds v p vert f left w places.Double h = then_interline v p 0 w (Text.defer p f left w) (defer-adds v p f left w h)
 goes-adds v p vert f left w places.Deferred h = then_interline v p 0 w (Text.defer p f left w) (defer-adds v p f left w h)

@@ -74,9 +74,9 @@ clear_wide-adds v p w = by_columns w.state.two_columns w.state.first_column
     a : Work
     a = with_floats (Clear.double_again p w.state.floats) w
 
-    by_columns : (t f : Bool) → Adds v 0 w (if not t then w else (if f then Ship.all_wide_pages p true a else puts (made blank_box ∷ Clear.clear_again) w))
+    by_columns : (t f : Bool) → Adds v 0 w (if not t then w else (if f then Pages.all_wide_pages p true a else puts (made blank_box ∷ Clear.clear_again) w))
     by_columns false f = unchanged v w
-    by_columns true true = then_kept v 0 w a (Ship.all_wide_pages p true a) (double_again-adds v p w) (all_wide-adds v p true a)
+    by_columns true true = then_kept v 0 w a (Pages.all_wide_pages p true a) (double_again-adds v p w) (all_wide-adds v p true a)
     by_columns true false = puts-nothing v (made blank_box ∷ Clear.clear_again) w refl
 
 clear_floats-adds : (v : Weight) (p : Params) (body : List PlainNode) (w : Work) → Adds v (nodes_weight v (Clear.cleared_front p body)) w (Clear.clear_floats p body w)
@@ -112,28 +112,28 @@ clear_by-adds v p body w (n ∷ notes) h =
 
 -- ---- a firing
 
-goal-adds : (v : Weight) (p : Params) (n : ℤ) (w : Work) → Adds v 0 w (Out.next_goal p n w)
-goal-adds v p n w = adds_if v 0 w (Out.is_int n Out.hold_penalty) (Out.with_goal max_dimen w) (Out.goal_by p room w) (goal max_dimen) (adds_if v 0 w (Out.is_crowded p room) (Out.leave_column w) (Out.with_goal room w) crowded (goal room))
+goal-adds : (v : Weight) (p : Params) (n : ℤ) (w : Work) → Adds v 0 w (Output.next_goal p n w)
+goal-adds v p n w = adds_if v 0 w (Output.is_int n Output.hold_penalty) (Output.with_goal max_dimen w) (Output.goal_by p room w) (goal max_dimen) (adds_if v 0 w (Output.is_crowded p room) (Output.leave_column w) (Output.with_goal room w) crowded (goal room))
   where
     room : ℤ
     room = column_room_of p w.state.floats
 
-    goal : (g : ℤ) → Adds v 0 w (Out.with_goal g w)
+    goal : (g : ℤ) → Adds v 0 w (Output.with_goal g w)
     goal g = record { waits = refl; classes = refl; goes = λ r. r; by = λ r s. (record { box = s.box; columns = s.columns; entries = s.entries }, omega arith) }
 
     told : Work
     told = sends (warned (warnings.Floats w.state.page)) w
 
-    blank : (t : Bool) → nodes_weight v (if t then Out.blank_column ++ Out.blank_column else Out.blank_column) ≡ 0
+    blank : (t : Bool) → nodes_weight v (if t then Output.blank_column ++ Output.blank_column else Output.blank_column) ≡ 0
     blank true = refl
     blank false = refl
 
-    crowded : Adds v 0 w (Out.leave_column w)
-    crowded = then_kept v 0 w told (Out.leave_column w) (warns-adds v (warnings.Floats w.state.page) w) (puts-nothing v (if w.state.two_columns && not w.state.first_column then Out.blank_column ++ Out.blank_column else Out.blank_column) told (blank (w.state.two_columns && not w.state.first_column)))
+    crowded : Adds v 0 w (Output.leave_column w)
+    crowded = then_kept v 0 w told (Output.leave_column w) (warns-adds v (warnings.Floats w.state.page) w) (puts-nothing v (if w.state.two_columns && not w.state.first_column then Output.blank_column ++ Output.blank_column else Output.blank_column) told (blank (w.state.two_columns && not w.state.first_column)))
 
 -- the break is that of a clear, of a float or of a note
 abbrev pub is_serving : ℤ → Bool
-is_serving n = Out.is_int n Out.clear_penalty || (Out.is_int n Out.par_penalty || Out.is_int n Out.vert_penalty)
+is_serving n = Output.is_int n Output.clear_penalty || (Output.is_int n Output.par_penalty || Output.is_int n Output.vert_penalty)
 
 -- what has to weigh nothing at a firing, by the penalty of its break: the page's list at a clear, a float or a note, and the held page if it is replaced
 pub record Careful (v : Weight) (held : List PlainNode) (f : Fired) : Type 0 where
@@ -149,16 +149,16 @@ serve-adds v p vert body w h =
     none : (a b c : ℕ) → a + b ≡ c → c ≡ 0 → a ≡ c
     none a b c e h = omega arith
 
-output-adds : (v : Weight) (p : Params) (f : Fired) (w : Work) → Careful v w.state.held_page f → Adds v (nodes_weight v f.body) w (Out.output_by p f w)
-output-adds v p f w h = by_penalty (int_le eject_penalty f.penalty) (Out.is_int f.penalty Out.clear_penalty) (Out.is_int f.penalty Out.par_penalty) (Out.is_int f.penalty Out.vert_penalty) h.list h.page
+output-adds : (v : Weight) (p : Params) (f : Fired) (w : Work) → Careful v w.state.held_page f → Adds v (nodes_weight v f.body) w (Output.output_by p f w)
+output-adds v p f w h = by_penalty (int_le eject_penalty f.penalty) (Output.is_int f.penalty Output.clear_penalty) (Output.is_int f.penalty Output.par_penalty) (Output.is_int f.penalty Output.vert_penalty) h.list h.page
   where
-    held : nodes_weight v w.state.held_page ≡ 0 → Adds v (nodes_weight v f.body) w (Out.hold f.body w)
+    held : nodes_weight v w.state.held_page ≡ 0 → Adds v (nodes_weight v f.body) w (Output.hold f.body w)
     held e = record { waits = refl; classes = refl; goes = λ r. r; by = λ r s. (record { box = s.box; columns = s.columns; entries = s.entries }, omega (arith, e)) }
 
     cleared : nodes_weight v f.body ≡ 0 → Adds v (nodes_weight v f.body) w (Clear.clear p f.body w)
     cleared e = rw e (clear_by-adds v p f.body w (footnotes w.state) e)
 
-    by_penalty : (t c x y : Bool) → (t ≡ false → (c || (x || y)) ≡ true → nodes_weight v f.body ≡ 0) → (t ≡ false → (c || (x || y)) ≡ false → nodes_weight v w.state.held_page ≡ 0) → Adds v (nodes_weight v f.body) w (if t then Columns.ordinary p f.body w else (if c then Clear.clear p f.body w else (if x then Text.float_or_note p false f.body w else (if y then Text.float_or_note p true f.body w else Out.hold f.body w))))
+    by_penalty : (t c x y : Bool) → (t ≡ false → (c || (x || y)) ≡ true → nodes_weight v f.body ≡ 0) → (t ≡ false → (c || (x || y)) ≡ false → nodes_weight v w.state.held_page ≡ 0) → Adds v (nodes_weight v f.body) w (if t then Columns.ordinary p f.body w else (if c then Clear.clear p f.body w else (if x then Text.float_or_note p false f.body w else (if y then Text.float_or_note p true f.body w else Output.hold f.body w))))
     by_penalty true c x y k l = ordinary-adds v p f.body w
     by_penalty false true x y k l = cleared (k refl refl)
     by_penalty false false true y k l = serve-adds v p false f.body w (k refl refl)
@@ -166,23 +166,23 @@ output-adds v p f w h = by_penalty (int_le eject_penalty f.penalty) (Out.is_int 
     by_penalty false false false false k l = held (l refl refl)
 
 -- after a firing that no limit stops the state is sound, and with what is sent weighs as the state before it and the page with what is held and left
-pub out-weight : (v : Weight) (p : Params) (s : State) (f : Fired) → Sound (Out.after_page s f) → Careful v s.held_page f → (Out.out p s f).refused ≡ false → Sound (Out.out p s f).state × (state_weight v (Out.out p s f).state + sent_weight v (Out.out p s f).sent ≡ nodes_weight v f.body + boxes_weight v f.boxes + nodes_weight v f.held + nodes_weight v f.rest + (nodes_weight v s.held_page + lists_weight v s.floats + left_weight v s.left_column))
-unfolding Out.out
-out-weight v p s f sound h r = all (Out.next_goal p f.penalty b) x r
+pub out-weight : (v : Weight) (p : Params) (s : State) (f : Fired) → Sound (Output.after_page s f) → Careful v s.held_page f → (Output.out p s f).refused ≡ false → Sound (Output.out p s f).state × (state_weight v (Output.out p s f).state + sent_weight v (Output.out p s f).sent ≡ nodes_weight v f.body + boxes_weight v f.boxes + nodes_weight v f.held + nodes_weight v f.rest + (nodes_weight v s.held_page + lists_weight v s.floats + left_weight v s.left_column))
+unfolding Output.out
+out-weight v p s f sound h r = all (Output.next_goal p f.penalty b) x r
   where
     a : Work
-    a = begun (Out.after_page s f)
+    a = begun (Output.after_page s f)
 
     b : Work
-    b = Out.output_by p f a
+    b = Output.output_by p f a
 
-    x : Adds v (nodes_weight v f.body) a (Out.next_goal p f.penalty b)
-    x = then_kept v (nodes_weight v f.body) a b (Out.next_goal p f.penalty b) (output-adds v p f a h) (goal-adds v p f.penalty b)
+    x : Adds v (nodes_weight v f.body) a (Output.next_goal p f.penalty b)
+    x = then_kept v (nodes_weight v f.body) a b (Output.next_goal p f.penalty b) (output-adds v p f a h) (goal-adds v p f.penalty b)
 
-    all : (c : Work) → Adds v (nodes_weight v f.body) a c → c.refused ≡ false → Sound (Out.waiting_again f c).state × (state_weight v (Out.waiting_again f c).state + sent_weight v c.sent ≡ nodes_weight v f.body + boxes_weight v f.boxes + nodes_weight v f.held + nodes_weight v f.rest + (nodes_weight v s.held_page + lists_weight v s.floats + left_weight v s.left_column))
+    all : (c : Work) → Adds v (nodes_weight v f.body) a c → c.refused ≡ false → Sound (Output.waiting_again f c).state × (state_weight v (Output.waiting_again f c).state + sent_weight v c.sent ≡ nodes_weight v f.body + boxes_weight v f.boxes + nodes_weight v f.held + nodes_weight v f.rest + (nodes_weight v s.held_page + lists_weight v s.floats + left_weight v s.left_column))
     all c y r =
         let k = y.by r sound in
-        let g : work_weight v c ≡ work_weight v (begun (Out.after_page s f)) + nodes_weight v f.body = k.1 in
+        let g : work_weight v c ≡ work_weight v (begun (Output.after_page s f)) + nodes_weight v f.body = k.1 in
         let d : nodes_weight v c.state.waiting ≡ 0 = ap (nodes_weight v) y.waits in
         let e : nodes_weight v (f.held ++ c.put_back ++ f.rest) ≡ nodes_weight v (f.held ++ c.put_back) + nodes_weight v f.rest = weight-append v (f.held ++ c.put_back) f.rest in
         let i : nodes_weight v (f.held ++ c.put_back) ≡ nodes_weight v f.held + nodes_weight v c.put_back = weight-append v f.held c.put_back in

@@ -60,9 +60,9 @@ module _ (p : Params) where
       a : Work
       a = with_floats (Clear.double_again p w.state.floats) w
 
-      by_number : (t : Bool) → (if not t then w else (if w.state.first_column then Ship.all_wide_pages p true a else puts (made blank_box ∷ Clear.clear_again) w)).state.boxes ≡ w.state.boxes
+      by_number : (t : Bool) → (if not t then w else (if w.state.first_column then Pages.all_wide_pages p true a else puts (made blank_box ∷ Clear.clear_again) w)).state.boxes ≡ w.state.boxes
       by_number false = refl
-      by_number true = boxes_if w.state.first_column (Ship.all_wide_pages p true a) (puts (made blank_box ∷ Clear.clear_again) w) w (stays (all_wide_pages-step p (no_law p) true a)).boxes refl
+      by_number true = boxes_if w.state.first_column (Pages.all_wide_pages p true a) (puts (made blank_box ∷ Clear.clear_again) w) w (stays (all_wide_pages-step p (no_law p) true a)).boxes refl
 
   clear_floats-boxes : (body : List PlainNode) (w : Work) → (Clear.clear_floats p body w).state.boxes ≡ w.state.boxes
   clear_floats-boxes body w =
@@ -78,7 +78,7 @@ module _ (p : Params) where
 
   -- ---- floats and notes in the text
 
-  place_float-boxes : (place : Where) (f : Float) (left : FloatLists) (w : Work) → (Place.place_float p place f left w).state.boxes ≡ w.state.boxes
+  place_float-boxes : (place : Where) (f : Float) (left : FloatLists) (w : Work) → (FloatMoves.place_float p place f left w).state.boxes ≡ w.state.boxes
   place_float-boxes place f left w = (stays (place_float-step p (no_law p) place f left w tt)).boxes
 
   float_goes-boxes : (vert : Bool) (f : Float) (left : FloatLists) (w : Work) (place : Where) → (Text.float_goes p vert f left w place).state.boxes ≡ w.state.boxes
@@ -113,47 +113,47 @@ module _ (p : Params) where
   pub page-boxes : (n : ℤ) (body : List PlainNode) (w : Work) → (footnotes w.state ≡ [] → Columns.emptied_boxes w.state.boxes ≡ w.state.boxes) → (page_output p n body w).state.boxes ≡ Columns.emptied_boxes w.state.boxes
   page-boxes n body w void =
       if-emptied (int_le eject_penalty n) (Columns.ordinary p body w) _ w (ordinary-boxes body w)
-      (if-emptied (Out.is_int n Out.clear_penalty) (Clear.clear p body w) _ w (clear_by-boxes body w (footnotes w.state) void)
-      (if-emptied (Out.is_int n Out.par_penalty) (Text.float_or_note p false body w) (Text.float_or_note p true body w) w (float_or_note-boxes false body w) (float_or_note-boxes true body w)))
+      (if-emptied (Output.is_int n Output.clear_penalty) (Clear.clear p body w) _ w (clear_by-boxes body w (footnotes w.state) void)
+      (if-emptied (Output.is_int n Output.par_penalty) (Text.float_or_note p false body w) (Text.float_or_note p true body w) w (float_or_note-boxes false body w) (float_or_note-boxes true body w)))
 
   -- the penalty says that it is not
-  pub page-is : (f : Fired) (w : Work) → Out.hold_penalty <ℤ f.penalty → page_output p f.penalty f.body w ≡ Out.output_by p f w
+  pub page-is : (f : Fired) (w : Work) → Output.hold_penalty <ℤ f.penalty → page_output p f.penalty f.body w ≡ Output.output_by p f w
   page-is f w above = by_eject (int_le eject_penalty f.penalty) refl
     where
-      by_par : (t : Bool) → Out.is_int f.penalty Out.par_penalty ≡ t → int_le eject_penalty f.penalty ≡ false → Out.is_int f.penalty Out.clear_penalty ≡ false
+      by_par : (t : Bool) → Output.is_int f.penalty Output.par_penalty ≡ t → int_le eject_penalty f.penalty ≡ false → Output.is_int f.penalty Output.clear_penalty ≡ false
           → (if t then Text.float_or_note p false f.body w else Text.float_or_note p true f.body w)
-          ≡ (if t then Text.float_or_note p false f.body w else (if Out.is_int f.penalty Out.vert_penalty then Text.float_or_note p true f.body w else Out.hold f.body w))
+          ≡ (if t then Text.float_or_note p false f.body w else (if Output.is_int f.penalty Output.vert_penalty then Text.float_or_note p true f.body w else Output.hold f.body w))
       by_par true e low clear = refl
       by_par false e low clear =
-          let not_clear : f.penalty ≡ Out.clear_penalty → ⊥ = λ h. false-true (sym clear ∙ int-is f.penalty Out.clear_penalty h) in
-          let not_par : f.penalty ≡ Out.par_penalty → ⊥ = λ h. false-true (sym e ∙ int-is f.penalty Out.par_penalty h) in
-          let vert : f.penalty ≡ Out.vert_penalty = left-over f.penalty above low not_clear not_par in
-          ap (λ u. if u then Text.float_or_note p true f.body w else Out.hold f.body w) (sym (int-is f.penalty Out.vert_penalty vert))
+          let not_clear : f.penalty ≡ Output.clear_penalty → ⊥ = λ h. false-true (sym clear ∙ int-is f.penalty Output.clear_penalty h) in
+          let not_par : f.penalty ≡ Output.par_penalty → ⊥ = λ h. false-true (sym e ∙ int-is f.penalty Output.par_penalty h) in
+          let vert : f.penalty ≡ Output.vert_penalty = left-over f.penalty above low not_clear not_par in
+          ap (λ u. if u then Text.float_or_note p true f.body w else Output.hold f.body w) (sym (int-is f.penalty Output.vert_penalty vert))
         where
           false-true : false ≡ true → ⊥
           false-true h = cc
 
-          left-over : (n : ℤ) → Out.hold_penalty <ℤ n → int_le eject_penalty n ≡ false → (n ≡ Out.clear_penalty → ⊥) → (n ≡ Out.par_penalty → ⊥) → n ≡ Out.vert_penalty
+          left-over : (n : ℤ) → Output.hold_penalty <ℤ n → int_le eject_penalty n ≡ false → (n ≡ Output.clear_penalty → ⊥) → (n ≡ Output.par_penalty → ⊥) → n ≡ Output.vert_penalty
           left-over n a l x y = grind (arith, ints, a, l, x, y)
 
-      by_clear : (t : Bool) → Out.is_int f.penalty Out.clear_penalty ≡ t → int_le eject_penalty f.penalty ≡ false
-          → (if t then Clear.clear p f.body w else (if Out.is_int f.penalty Out.par_penalty then Text.float_or_note p false f.body w else Text.float_or_note p true f.body w))
-          ≡ (if t then Clear.clear p f.body w else (if Out.is_int f.penalty Out.par_penalty then Text.float_or_note p false f.body w else (if Out.is_int f.penalty Out.vert_penalty then Text.float_or_note p true f.body w else Out.hold f.body w)))
+      by_clear : (t : Bool) → Output.is_int f.penalty Output.clear_penalty ≡ t → int_le eject_penalty f.penalty ≡ false
+          → (if t then Clear.clear p f.body w else (if Output.is_int f.penalty Output.par_penalty then Text.float_or_note p false f.body w else Text.float_or_note p true f.body w))
+          ≡ (if t then Clear.clear p f.body w else (if Output.is_int f.penalty Output.par_penalty then Text.float_or_note p false f.body w else (if Output.is_int f.penalty Output.vert_penalty then Text.float_or_note p true f.body w else Output.hold f.body w)))
       by_clear true e low = refl
-      by_clear false e low = by_par (Out.is_int f.penalty Out.par_penalty) refl low e
+      by_clear false e low = by_par (Output.is_int f.penalty Output.par_penalty) refl low e
 
       by_eject : (t : Bool) → int_le eject_penalty f.penalty ≡ t
-          → (if t then Columns.ordinary p f.body w else (if Out.is_int f.penalty Out.clear_penalty then Clear.clear p f.body w else (if Out.is_int f.penalty Out.par_penalty then Text.float_or_note p false f.body w else Text.float_or_note p true f.body w)))
-          ≡ (if t then Columns.ordinary p f.body w else (if Out.is_int f.penalty Out.clear_penalty then Clear.clear p f.body w else (if Out.is_int f.penalty Out.par_penalty then Text.float_or_note p false f.body w else (if Out.is_int f.penalty Out.vert_penalty then Text.float_or_note p true f.body w else Out.hold f.body w))))
+          → (if t then Columns.ordinary p f.body w else (if Output.is_int f.penalty Output.clear_penalty then Clear.clear p f.body w else (if Output.is_int f.penalty Output.par_penalty then Text.float_or_note p false f.body w else Text.float_or_note p true f.body w)))
+          ≡ (if t then Columns.ordinary p f.body w else (if Output.is_int f.penalty Output.clear_penalty then Clear.clear p f.body w else (if Output.is_int f.penalty Output.par_penalty then Text.float_or_note p false f.body w else (if Output.is_int f.penalty Output.vert_penalty then Text.float_or_note p true f.body w else Output.hold f.body w))))
       by_eject true e = refl
-      by_eject false e = by_clear (Out.is_int f.penalty Out.clear_penalty) refl e
+      by_eject false e = by_clear (Output.is_int f.penalty Output.clear_penalty) refl e
 
   -- the goal of the next page
-  pub goal-boxes : (n : ℤ) (w : Work) → (Out.next_goal p n w).state.boxes ≡ w.state.boxes
+  pub goal-boxes : (n : ℤ) (w : Work) → (Output.next_goal p n w).state.boxes ≡ w.state.boxes
   goal-boxes n w =
       let room = column_room_of p w.state.floats in
-      boxes_if (Out.is_int n Out.hold_penalty) (Out.with_goal max_dimen w) (Out.goal_by p room w) w refl
-      (boxes_if (Out.is_crowded p room) (Out.leave_column w) (Out.with_goal room w) w (sends-stays (warned (warnings.Floats w.state.page)) w).boxes refl)
+      boxes_if (Output.is_int n Output.hold_penalty) (Output.with_goal max_dimen w) (Output.goal_by p room w) w refl
+      (boxes_if (Output.is_crowded p room) (Output.leave_column w) (Output.with_goal room w) w (sends-stays (warned (warnings.Floats w.state.page)) w).boxes refl)
 
 -- ---- boxes that hold nothing
 

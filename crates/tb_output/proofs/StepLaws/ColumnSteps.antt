@@ -62,7 +62,7 @@ pub data ColumnStep (p : Params) (law : RecordLaw p) : Work → Work → Type 0 
   still : {a b : Work} → course b ≡ course a → frame b ≡ frame a → ColumnStep p law a b
   in_turn : {a b c : Work} → ColumnStep p law a b → ColumnStep p law b c → ColumnStep p law a c
   records_one : (r : Recorded) (w : Work) → law.holds r → ColumnStep p law w (records_also r w)
-  ships_one : (sheet : PlainSheet) (w : Work) → ColumnStep p law w (Ship.ship p sheet w)
+  ships_one : (sheet : PlainSheet) (w : Work) → ColumnStep p law w (Pages.ship p sheet w)
 
 -- ---- what a step leaves as it is
 
@@ -80,10 +80,10 @@ records-frame r w = by_refused w.refused
     by_refused true = refl
     by_refused false = refl
 
-ship-frame : (p : Params) (sheet : PlainSheet) (w : Work) → frame (Ship.ship p sheet w) ≡ frame w
+ship-frame : (p : Params) (sheet : PlainSheet) (w : Work) → frame (Pages.ship p sheet w) ≡ frame w
 ship-frame p sheet w = by_refused w.refused (int_lt p.maxpages (pos w.state.page))
   where
-    by_refused : (t u : Bool) → frame (if t then w else (if u then record w { refused = true } else Ship.ship_now sheet w)) ≡ frame w
+    by_refused : (t u : Bool) → frame (if t then w else (if u then record w { refused = true } else Pages.ship_now sheet w)) ≡ frame w
     by_refused true u = refl
     by_refused false true = refl
     by_refused false false = sends-frame (shipped w.state.page sheet) (record w { state = record w.state { page = w.state.page + 1; dead_cycles = 0 } })
@@ -122,67 +122,67 @@ module _ (p : Params) (law : RecordLaw p) where
 
   -- ---- floats
 
-  pub place_float-step : (place : Where) (f : Float) (left : FloatLists) (w : Work) → law.holds (placed f place w.state.floats (column_height_of p w.state.floats)) → Step w (Place.place_float p place f left w)
+  pub place_float-step : (place : Where) (f : Float) (left : FloatLists) (w : Work) → law.holds (placed f place w.state.floats (column_height_of p w.state.floats)) → Step w (FloatMoves.place_float p place f left w)
   place_float-step place f left w h =
       let r = placed f place w.state.floats (column_height_of p w.state.floats) in
-      in_turn (step_if w (Place.is_placed place) (records_also r w) w (records_one r w h) (still refl refl)) (still refl refl)
+      in_turn (step_if w (FloatMoves.is_placed place) (records_also r w) w (records_one r w h) (still refl refl)) (still refl refl)
 
-  pub place_waiting-step : (from : Part) (place : Where) (f : Float) (before rest : List Float) (w : Work) → law.holds (placed f place w.state.floats (column_height_of p w.state.floats)) → Step w (Place.place_waiting from p place f before rest w)
+  pub place_waiting-step : (from : Part) (place : Where) (f : Float) (before rest : List Float) (w : Work) → law.holds (placed f place w.state.floats (column_height_of p w.state.floats)) → Step w (FloatMoves.place_waiting from p place f before rest w)
   place_waiting-step from place f before rest w h =
       let l : FloatLists = with_floats_of from (before ++ rest) w.state.floats in
-      step_if w (Place.is_placed place) (Place.place_float p place f l w) w (place_float-step place f l w h) (still refl refl)
+      step_if w (FloatMoves.is_placed place) (FloatMoves.place_float p place f l w) w (place_float-step place f l w h) (still refl refl)
 
-  pub place_next-step : (before fs : List Float) (w : Work) → Step w (Place.place_next p before fs w)
+  pub place_next-step : (before fs : List Float) (w : Work) → Step w (FloatMoves.place_next p before fs w)
   place_next-step before [] w = still refl refl
   place_next-step before (f ∷ rest) w =
       let place = next_place p w.state.floats w.state.suppress before f in
       let h = law.at_place f place w.state.floats (next-laws p w.state.floats w.state.suppress before f).limits in
-      in_turn (place_waiting-step parts.Deferred place f before rest w h) (place_next-step (Place.still_deferred place f before) rest (Place.place_waiting parts.Deferred p place f before rest w))
+      in_turn (place_waiting-step parts.Deferred place f before rest w h) (place_next-step (FloatMoves.still_deferred place f before) rest (FloatMoves.place_waiting parts.Deferred p place f before rest w))
 
-  pub place_double-step : (from : Part) (before fs : List Float) (w : Work) → Step w (Place.place_double from p before fs w)
+  pub place_double-step : (from : Part) (before fs : List Float) (w : Work) → Step w (FloatMoves.place_double from p before fs w)
   place_double-step from before [] w = still refl refl
   place_double-step from before (f ∷ rest) w =
       let place = double_place p w.state.floats w.state.suppress before f in
       let h = law.at_place f place w.state.floats (double-laws p w.state.floats w.state.suppress before f).limits in
-      in_turn (place_waiting-step from place f before rest w h) (place_double-step from (Place.still_deferred place f before) rest (Place.place_waiting from p place f before rest w))
+      in_turn (place_waiting-step from place f before rest w h) (place_double-step from (FloatMoves.still_deferred place f before) rest (FloatMoves.place_waiting from p place f before rest w))
 
   -- ---- pages and columns
 
-  pub ship_wide-step : (cs : List Choice) (w : Work) → Step w (Ship.ship_wide p cs w)
+  pub ship_wide-step : (cs : List Choice) (w : Work) → Step w (Pages.ship_wide p cs w)
   ship_wide-step cs w = in_turn {b = with_floats (with_wide_waiting p (left_floats cs) w.state.floats) w} (still refl refl) (ships_one _ _)
 
-  wide_by-step : (again : Work → Work) → ((w : Work) → Step w (again w)) → (w : Work) (o : Option (List Choice)) → Step w (Ship.wide_pages_by again p w o)
+  wide_by-step : (again : Work → Work) → ((w : Work) → Step w (again w)) → (w : Work) (o : Option (List Choice)) → Step w (Pages.wide_pages_by again p w o)
   wide_by-step again h w None = still refl refl
-  wide_by-step again h w (Some cs) = in_turn (ship_wide-step cs w) (h (Ship.ship_wide p cs w))
+  wide_by-step again h w (Some cs) = in_turn (ship_wide-step cs w) (h (Pages.ship_wide p cs w))
 
-  pub wide_pages-step : (clearing : Bool) (n : ℕ) (w : Work) → Step w (Ship.wide_pages p clearing n w)
+  pub wide_pages-step : (clearing : Bool) (n : ℕ) (w : Work) → Step w (Pages.wide_pages p clearing n w)
   wide_pages-step clearing zero w = still refl refl
-  wide_pages-step clearing (suc n) w = wide_by-step (λ w'. Ship.wide_pages p clearing n w') (λ w'. wide_pages-step clearing n w') w (company (Ship.wide_wanted p clearing) (wide_waiting p w.state.floats))
+  wide_pages-step clearing (suc n) w = wide_by-step (λ w'. Pages.wide_pages p clearing n w') (λ w'. wide_pages-step clearing n w') w (company (Pages.wide_wanted p clearing) (wide_waiting p w.state.floats))
 
-  pub all_wide_pages-step : (clearing : Bool) (w : Work) → Step w (Ship.all_wide_pages p clearing w)
+  pub all_wide_pages-step : (clearing : Bool) (w : Work) → Step w (Pages.all_wide_pages p clearing w)
   all_wide_pages-step clearing w = wide_pages-step clearing (length (wide_waiting p w.state.floats)) w
 
-  pub ship_pair-step : (c : PlainColumn) (w : Work) → Step w (Ship.ship_pair p c w)
+  pub ship_pair-step : (c : PlainColumn) (w : Work) → Step w (Pages.ship_pair p c w)
   ship_pair-step c w =
-      let a = Ship.ship p (pair_sheet p w.state.floats (Ship.left_or c w.state.left_column) c) w in
-      let b = Ship.without_double a in
-      let d = Ship.all_wide_pages p false b in
+      let a = Pages.ship p (pair_sheet p w.state.floats (Pages.left_or c w.state.left_column) c) w in
+      let b = Pages.without_double a in
+      let d = Pages.all_wide_pages p false b in
       in_turn {b = a} (ships_one _ w) (in_turn {b = b} (still refl refl) (in_turn (all_wide_pages-step false b) (place_double-step (wide_part p) [] (wide_waiting p d.state.floats) d)))
 
-  pub put_out_by-step : (c : PlainColumn) (w : Work) → Step w (Ship.put_out_by p c w)
+  pub put_out_by-step : (c : PlainColumn) (w : Work) → Step w (Pages.put_out_by p c w)
   put_out_by-step c w = by_columns w.state.two_columns
     where
-      by_columns : (t : Bool) → Step w (if not t then Ship.ship p (one c) w else (if w.state.first_column then Ship.keep_left c w else Ship.ship_pair p c w))
+      by_columns : (t : Bool) → Step w (if not t then Pages.ship p (one c) w else (if w.state.first_column then Pages.keep_left c w else Pages.ship_pair p c w))
       by_columns false = ships_one (one c) w
-      by_columns true = step_if w w.state.first_column (Ship.keep_left c w) (Ship.ship_pair p c w) (still refl refl) (ship_pair-step c w)
+      by_columns true = step_if w w.state.first_column (Pages.keep_left c w) (Pages.ship_pair p c w) (still refl refl) (ship_pair-step c w)
 
-  pub put_out-step : (c : PlainColumn) (w : Work) → Step w (Ship.put_out p c w)
+  pub put_out-step : (c : PlainColumn) (w : Work) → Step w (Pages.put_out p c w)
   put_out-step c w =
       let a = records_also (output c) w in
-      in_turn {b = a} (records_one (output c) w (law.at_output c)) (in_turn {b = Ship.put_out_by p c a} (put_out_by-step c a) (still refl refl))
+      in_turn {b = a} (records_one (output c) w (law.at_output c)) (in_turn {b = Pages.put_out_by p c a} (put_out_by-step c a) (still refl refl))
 
   pub put_out_company-step : (cs : List Choice) (w : Work) → Step w (Columns.put_out_company p cs w)
-  put_out_company-step cs w = in_turn {b = Ship.with_deferred (left_floats cs) w} (still refl refl) (put_out-step _ _)
+  put_out_company-step cs w = in_turn {b = Pages.with_deferred (left_floats cs) w} (still refl refl) (put_out-step _ _)
 
   columns_by-step : (again : Work → Work) → ((w : Work) → Step w (again w)) → (w : Work) (o : Option (List Choice)) → Step w (Columns.float_columns_by again p w o)
   columns_by-step again h w None = still refl refl

@@ -42,9 +42,9 @@ pub defer-stays : (p : Params) (f : Float) (left : FloatLists) (w : Work) → St
 defer-stays p f left w = by_places (Text.only_here f)
   where
     a : Work
-    a = Place.place_float p places.Deferred (Text.with_top f) left w
+    a = FloatMoves.place_float p places.Deferred (Text.with_top f) left w
 
-    by_places : (t : Bool) → Stays w (if t then sends (warned (warnings.Ht f.name)) a else Place.place_float p places.Deferred f left w)
+    by_places : (t : Bool) → Stays w (if t then sends (warned (warnings.Ht f.name)) a else FloatMoves.place_float p places.Deferred f left w)
     by_places true = by-frame (sends-frame (warned (warnings.Ht f.name)) a)
     by_places false = by-frame refl
 
@@ -74,15 +74,15 @@ module _ (p : Params) (law : RecordLaw p) where
   defer-step f left w = by_places (Text.only_here f)
     where
       a : Work
-      a = Place.place_float p places.Deferred (Text.with_top f) left w
+      a = FloatMoves.place_float p places.Deferred (Text.with_top f) left w
 
-      by_places : (t : Bool) → Step w (if t then sends (warned (warnings.Ht f.name)) a else Place.place_float p places.Deferred f left w)
+      by_places : (t : Bool) → Step w (if t then sends (warned (warnings.Ht f.name)) a else FloatMoves.place_float p places.Deferred f left w)
       by_places true = afterwards {b = a} (changes refl) (sends_one (warned (warnings.Ht f.name)) a)
       by_places false = changes refl
 
   pub float_goes-step : (vert : Bool) (f : Float) (left : FloatLists) (w : Work) (place : Where) → law.holds (placed f place w.state.floats (column_height_of p w.state.floats)) → Step w (Text.float_goes p vert f left w place)
   float_goes-step vert f left w places.Here h =
-      let a = Place.place_float p places.Here f left w in
+      let a = FloatMoves.place_float p places.Here f left w in
       afterwards {b = Text.puts_interline p a} (interline-step w a (by_columns (place_float-step p law places.Here f left w h))) (changes refl)
   float_goes-step vert f left w places.Top h = interline-step w _ (by_columns (place_float-step p law places.Top f left w h))
   float_goes-step vert f left w places.Bottom h = interline-step w _ (by_columns (place_float-step p law places.Bottom f left w h))
@@ -118,9 +118,9 @@ module _ (p : Params) (law : RecordLaw p) where
       a : Work
       a = with_floats (Clear.double_again p w.state.floats) w
 
-      by_number : (t : Bool) → Step w (if not t then w else (if w.state.first_column then Ship.all_wide_pages p true a else puts (made blank_box ∷ Clear.clear_again) w))
+      by_number : (t : Bool) → Step w (if not t then w else (if w.state.first_column then Pages.all_wide_pages p true a else puts (made blank_box ∷ Clear.clear_again) w))
       by_number false = changes refl
-      by_number true = step_if w w.state.first_column (Ship.all_wide_pages p true a) (puts (made blank_box ∷ Clear.clear_again) w) (afterwards {b = a} (changes refl) (by_columns (all_wide_pages-step p law true a))) (changes refl)
+      by_number true = step_if w w.state.first_column (Pages.all_wide_pages p true a) (puts (made blank_box ∷ Clear.clear_again) w) (afterwards {b = a} (changes refl) (by_columns (all_wide_pages-step p law true a))) (changes refl)
 
   pub clear_floats-step : (body : List PlainNode) (w : Work) → Step w (Clear.clear_floats p body w)
   clear_floats-step body w =
@@ -137,21 +137,21 @@ module _ (p : Params) (law : RecordLaw p) where
 
   -- ---- a firing
 
-  pub output_by-step : (f : Fired) (w : Work) → Step w (Out.output_by p f w)
+  pub output_by-step : (f : Fired) (w : Work) → Step w (Output.output_by p f w)
   output_by-step f w =
       step_if w (int_le eject_penalty f.penalty) (Columns.ordinary p f.body w) _ (ordinary-step f.body w)
-      (step_if w (Out.is_int f.penalty Out.clear_penalty) (Clear.clear p f.body w) _ (clear_by-step f.body w (footnotes w.state))
-      (step_if w (Out.is_int f.penalty Out.par_penalty) (Text.float_or_note p false f.body w) _ (float_or_note-step false f.body w)
-      (step_if w (Out.is_int f.penalty Out.vert_penalty) (Text.float_or_note p true f.body w) (Out.hold f.body w) (float_or_note-step true f.body w) (changes refl))))
+      (step_if w (Output.is_int f.penalty Output.clear_penalty) (Clear.clear p f.body w) _ (clear_by-step f.body w (footnotes w.state))
+      (step_if w (Output.is_int f.penalty Output.par_penalty) (Text.float_or_note p false f.body w) _ (float_or_note-step false f.body w)
+      (step_if w (Output.is_int f.penalty Output.vert_penalty) (Text.float_or_note p true f.body w) (Output.hold f.body w) (float_or_note-step true f.body w) (changes refl))))
 
-  pub next_goal-step : (n : ℤ) (w : Work) → Step w (Out.next_goal p n w)
+  pub next_goal-step : (n : ℤ) (w : Work) → Step w (Output.next_goal p n w)
   next_goal-step n w =
       let room = column_room_of p w.state.floats in
       let told = sends (warned (warnings.Floats w.state.page)) w in
-      step_if w (Out.is_int n Out.hold_penalty) (Out.with_goal max_dimen w) (Out.goal_by p room w) (changes refl)
-      (step_if w (Out.is_crowded p room) (Out.leave_column w) (Out.with_goal room w) (afterwards {b = told} (sends_one (warned (warnings.Floats w.state.page)) w) (changes refl)) (changes refl))
+      step_if w (Output.is_int n Output.hold_penalty) (Output.with_goal max_dimen w) (Output.goal_by p room w) (changes refl)
+      (step_if w (Output.is_crowded p room) (Output.leave_column w) (Output.with_goal room w) (afterwards {b = told} (sends_one (warned (warnings.Floats w.state.page)) w) (changes refl)) (changes refl))
 
   -- a firing without what waits after it
-  pub page_work-step : (s : State) (f : Fired) → Step (begun (Out.after_page s f)) (page_work p s f)
+  pub page_work-step : (s : State) (f : Fired) → Step (begun (Output.after_page s f)) (page_work p s f)
   unfolding page_work
-  page_work-step s f = afterwards (output_by-step f (begun (Out.after_page s f))) (next_goal-step f.penalty (Out.output_by p f (begun (Out.after_page s f))))
+  page_work-step s f = afterwards (output_by-step f (begun (Output.after_page s f))) (next_goal-step f.penalty (Output.output_by p f (begun (Output.after_page s f))))

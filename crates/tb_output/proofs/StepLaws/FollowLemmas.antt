@@ -83,13 +83,13 @@ module _ (P : Float → Type 0) where
 
   -- ---- shipping
 
-  pub follows-ship : (p : Params) (sheet : PlainSheet) (w : Work) → Follows P w (Ship.ship p sheet w)
+  pub follows-ship : (p : Params) (sheet : PlainSheet) (w : Work) → Follows P w (Pages.ship p sheet w)
   follows-ship p sheet w =
       let a : Work = record w { state = record w.state { page = w.state.page + 1; dead_cycles = 0 } } in
-      follows_if w w.refused w (if int_lt p.maxpages (pos w.state.page) then record w { refused = true } else Ship.ship_now sheet w) (follows-same w)
-      (follows_if w (int_lt p.maxpages (pos w.state.page)) (record w { refused = true }) (Ship.ship_now sheet w)
+      follows_if w w.refused w (if int_lt p.maxpages (pos w.state.page) then record w { refused = true } else Pages.ship_now sheet w) (follows-same w)
+      (follows_if w (int_lt p.maxpages (pos w.state.page)) (record w { refused = true }) (Pages.ship_now sheet w)
       (record { goes = λ h. let no : ⊥ = grind (arith, h) in absurd no; columns = refl; boxes = refl; back = refl; page = refl; current = refl; floats = omega arith; all = λ h. h; cycles = λ h. inl refl })
-      (follows-then w a (Ship.ship_now sheet w) (record { goes = λ h. h; columns = refl; boxes = refl; back = refl; page = refl; current = refl; floats = omega arith; all = λ h. h; cycles = λ h. inr refl }) (follows-sends (shipped w.state.page sheet) a)))
+      (follows-then w a (Pages.ship_now sheet w) (record { goes = λ h. h; columns = refl; boxes = refl; back = refl; page = refl; current = refl; floats = omega arith; all = λ h. h; cycles = λ h. inr refl }) (follows-sends (shipped w.state.page sheet) a)))
 
   -- ---- floats
 
@@ -97,7 +97,7 @@ module _ (P : Float → Type 0) where
   one-longer [] f = refl
   one-longer (g ∷ fs) f = let h : length (fs ++ f ∷ []) ≡ length fs + 1 = one-longer fs f in omega arith
 
-  pub joined-count : (place : Where) (f : Float) (l : FloatLists) → waiting_floats (Place.joined_to place f l) ≤ waiting_floats l + 1
+  pub joined-count : (place : Where) (f : Float) (l : FloatLists) → waiting_floats (FloatMoves.joined_to place f l) ≤ waiting_floats l + 1
   joined-count places.Here f l = omega arith
   joined-count places.Top f l = let h : length (l.top ++ f ∷ []) ≡ length l.top + 1 = one-longer l.top f in omega arith
   joined-count places.Bottom f l = let h : length (l.bottom ++ f ∷ []) ≡ length l.bottom + 1 = one-longer l.bottom f in omega arith
@@ -105,7 +105,7 @@ module _ (P : Float → Type 0) where
   joined-count places.Double f l = let h : length (l.double ++ f ∷ []) ≡ length l.double + 1 = one-longer l.double f in omega arith
   joined-count places.Deferred f l = let h : length (l.deferred ++ f ∷ []) ≡ length l.deferred + 1 = one-longer l.deferred f in omega arith
 
-  pub joined-all : (place : Where) (f : Float) (l : FloatLists) → P f → AllWait P l → AllWait P (Place.joined_to place f l)
+  pub joined-all : (place : Where) (f : Float) (l : FloatLists) → P f → AllWait P l → AllWait P (FloatMoves.joined_to place f l)
   joined-all places.Here f l k h = record { top = h.top; bottom = h.bottom; deferred = h.deferred; double = h.double; second = h.second }
   joined-all places.Top f l k h = record { top = all-push P l.top f h.top k; bottom = h.bottom; deferred = h.deferred; double = h.double; second = h.second }
   joined-all places.Bottom f l k h = record { top = h.top; bottom = all-push P l.bottom f h.bottom k; deferred = h.deferred; double = h.double; second = h.second }
@@ -113,7 +113,7 @@ module _ (P : Float → Type 0) where
   joined-all places.Double f l k h = record { top = h.top; bottom = h.bottom; deferred = h.deferred; double = all-push P l.double f h.double k; second = h.second }
   joined-all places.Deferred f l k h = record { top = h.top; bottom = h.bottom; deferred = all-push P l.deferred f h.deferred k; double = h.double; second = h.second }
 
-  pub joined-current : (place : Where) (f : Float) (l : FloatLists) → (Place.joined_to place f l).current ≡ l.current
+  pub joined-current : (place : Where) (f : Float) (l : FloatLists) → (FloatMoves.joined_to place f l).current ≡ l.current
   joined-current places.Here f l = refl
   joined-current places.Top f l = refl
   joined-current places.Bottom f l = refl
@@ -126,17 +126,17 @@ module _ (P : Float → Type 0) where
   with-lists l w c h k = record { goes = λ r. r; columns = refl; boxes = refl; back = refl; page = refl; current = c; floats = h; all = k; cycles = λ r. inl refl }
 
   -- a float that left the lists goes to one of them
-  pub follows-placed : (p : Params) (place : Where) (f : Float) (left : FloatLists) (w : Work) → left.current ≡ w.state.floats.current → waiting_floats left + 1 ≤ waiting_floats w.state.floats → (AllWait P w.state.floats → P f × AllWait P left) → Follows P w (Place.place_float p place f left w)
-  follows-placed p place f left w c h k = by_record (Place.is_placed place)
+  pub follows-placed : (p : Params) (place : Where) (f : Float) (left : FloatLists) (w : Work) → left.current ≡ w.state.floats.current → waiting_floats left + 1 ≤ waiting_floats w.state.floats → (AllWait P w.state.floats → P f × AllWait P left) → Follows P w (FloatMoves.place_float p place f left w)
+  follows-placed p place f left w c h k = by_record (FloatMoves.is_placed place)
     where
       l : FloatLists
-      l = Place.joined_to place f left
+      l = FloatMoves.joined_to place f left
 
       r : Recorded
       r = placed f place w.state.floats (column_height_of p w.state.floats)
 
       counted : waiting_floats l ≤ waiting_floats w.state.floats
-      counted = let j : waiting_floats (Place.joined_to place f left) ≤ waiting_floats left + 1 = joined-count place f left in at-most (waiting_floats w.state.floats) (waiting_floats left + 1) (waiting_floats l) h j
+      counted = let j : waiting_floats (FloatMoves.joined_to place f left) ≤ waiting_floats left + 1 = joined-count place f left in at-most (waiting_floats w.state.floats) (waiting_floats left + 1) (waiting_floats l) h j
 
       kept : AllWait P w.state.floats → AllWait P l
       kept a = let x : P f × AllWait P left = k a in joined-all place f left x.0 x.1
@@ -204,7 +204,7 @@ module _ (P : Float → Type 0) where
   LeavesList places.Double = Unit {0}
   LeavesList places.Deferred = ⊥
 
-  part-joined : (from : Part) → IsWaiting from → (place : Where) (f : Float) (gs : List Float) (l : FloatLists) → LeavesList place → floats_of from (Place.joined_to place f (with_floats_of from gs l)) ≡ gs
+  part-joined : (from : Part) → IsWaiting from → (place : Where) (f : Float) (gs : List Float) (l : FloatLists) → LeavesList place → floats_of from (FloatMoves.joined_to place f (with_floats_of from gs l)) ≡ gs
   part-joined parts.Current q place f gs l v = absurd q
   part-joined parts.Here q place f gs l v = absurd q
   part-joined parts.Top q place f gs l v = absurd q
@@ -224,7 +224,7 @@ module _ (P : Float → Type 0) where
   part-joined parts.Second q places.Deferred f gs l v = absurd v
 
   -- a float of it goes to its place, or stays
-  pub waiting-step : (from : Part) → IsWaiting from → (p : Params) (place : Where) (f : Float) (before rest : List Float) (w : Work) → floats_of from w.state.floats ≡ before ++ f ∷ rest → Follows P w (Place.place_waiting from p place f before rest w) × (floats_of from (Place.place_waiting from p place f before rest w).state.floats ≡ Place.still_deferred place f before ++ rest)
+  pub waiting-step : (from : Part) → IsWaiting from → (p : Params) (place : Where) (f : Float) (before rest : List Float) (w : Work) → floats_of from w.state.floats ≡ before ++ f ∷ rest → Follows P w (FloatMoves.place_waiting from p place f before rest w) × (floats_of from (FloatMoves.place_waiting from p place f before rest w).state.floats ≡ FloatMoves.still_deferred place f before ++ rest)
   waiting-step from q p place f before rest w e = by_place place
     where
       l : FloatLists
@@ -247,16 +247,16 @@ module _ (P : Float → Type 0) where
       assoc [] = refl
       assoc (x ∷ xs) = ap (λ ys. x ∷ ys) (assoc xs)
 
-      goes : (place : Where) → LeavesList place → Follows P w (Place.place_float p place f l w) × (floats_of from (Place.place_float p place f l w).state.floats ≡ before ++ rest)
-      goes place v = (follows-placed p place f l w (part-current from q (before ++ rest) w.state.floats) fewer parts-of, recorded (Place.is_placed place))
+      goes : (place : Where) → LeavesList place → Follows P w (FloatMoves.place_float p place f l w) × (floats_of from (FloatMoves.place_float p place f l w).state.floats ≡ before ++ rest)
+      goes place v = (follows-placed p place f l w (part-current from q (before ++ rest) w.state.floats) fewer parts-of, recorded (FloatMoves.is_placed place))
         where
           r : Recorded
           r = placed f place w.state.floats (column_height_of p w.state.floats)
 
-          recorded : (t : Bool) → floats_of from (with_floats (Place.joined_to place f l) (if t then records_also r w else w)).state.floats ≡ before ++ rest
+          recorded : (t : Bool) → floats_of from (with_floats (FloatMoves.joined_to place f l) (if t then records_also r w else w)).state.floats ≡ before ++ rest
           recorded t = part-joined from q place f (before ++ rest) w.state.floats v
 
-      by_place : (place : Where) → Follows P w (Place.place_waiting from p place f before rest w) × (floats_of from (Place.place_waiting from p place f before rest w).state.floats ≡ Place.still_deferred place f before ++ rest)
+      by_place : (place : Where) → Follows P w (FloatMoves.place_waiting from p place f before rest w) × (floats_of from (FloatMoves.place_waiting from p place f before rest w).state.floats ≡ FloatMoves.still_deferred place f before ++ rest)
       by_place places.Here = goes places.Here tt
       by_place places.Top = goes places.Top tt
       by_place places.Bottom = goes places.Bottom tt
@@ -264,26 +264,26 @@ module _ (P : Float → Type 0) where
       by_place places.Double = goes places.Double tt
       by_place places.Deferred = (follows-same w, e ∙ assoc before)
 
-  pub follows-next : (p : Params) (before fs : List Float) (w : Work) → w.state.floats.deferred ≡ before ++ fs → Follows P w (Place.place_next p before fs w)
+  pub follows-next : (p : Params) (before fs : List Float) (w : Work) → w.state.floats.deferred ≡ before ++ fs → Follows P w (FloatMoves.place_next p before fs w)
   follows-next p before [] w e = follows-same w
   follows-next p before (f ∷ rest) w e =
       let place = next_place p w.state.floats w.state.suppress before f in
-      let w' = Place.place_waiting parts.Deferred p place f before rest w in
-      let d : Follows P w (Place.place_waiting parts.Deferred p place f before rest w) × ((Place.place_waiting parts.Deferred p place f before rest w).state.floats.deferred ≡ Place.still_deferred place f before ++ rest) = waiting-step parts.Deferred tt p place f before rest w e in
-      follows-then w w' (Place.place_next p (Place.still_deferred place f before) rest w') d.0 (follows-next p (Place.still_deferred place f before) rest w' d.1)
+      let w' = FloatMoves.place_waiting parts.Deferred p place f before rest w in
+      let d : Follows P w (FloatMoves.place_waiting parts.Deferred p place f before rest w) × ((FloatMoves.place_waiting parts.Deferred p place f before rest w).state.floats.deferred ≡ FloatMoves.still_deferred place f before ++ rest) = waiting-step parts.Deferred tt p place f before rest w e in
+      follows-then w w' (FloatMoves.place_next p (FloatMoves.still_deferred place f before) rest w') d.0 (follows-next p (FloatMoves.still_deferred place f before) rest w' d.1)
 
-  pub follows-double : (from : Part) → IsWaiting from → (p : Params) (before fs : List Float) (w : Work) → floats_of from w.state.floats ≡ before ++ fs → Follows P w (Place.place_double from p before fs w)
+  pub follows-double : (from : Part) → IsWaiting from → (p : Params) (before fs : List Float) (w : Work) → floats_of from w.state.floats ≡ before ++ fs → Follows P w (FloatMoves.place_double from p before fs w)
   follows-double from q p before [] w e = follows-same w
   follows-double from q p before (f ∷ rest) w e =
       let place = double_place p w.state.floats w.state.suppress before f in
-      let w' = Place.place_waiting from p place f before rest w in
-      let d : Follows P w (Place.place_waiting from p place f before rest w) × (floats_of from (Place.place_waiting from p place f before rest w).state.floats ≡ Place.still_deferred place f before ++ rest) = waiting-step from q p place f before rest w e in
-      follows-then w w' (Place.place_double from p (Place.still_deferred place f before) rest w') d.0 (follows-double from q p (Place.still_deferred place f before) rest w' d.1)
+      let w' = FloatMoves.place_waiting from p place f before rest w in
+      let d : Follows P w (FloatMoves.place_waiting from p place f before rest w) × (floats_of from (FloatMoves.place_waiting from p place f before rest w).state.floats ≡ FloatMoves.still_deferred place f before ++ rest) = waiting-step from q p place f before rest w e in
+      follows-then w w' (FloatMoves.place_double from p (FloatMoves.still_deferred place f before) rest w') d.0 (follows-double from q p (FloatMoves.still_deferred place f before) rest w' d.1)
 
   -- ---- companies
 
   -- the floats that a company leaves; there is one fewer at least
-  pub company-left : (z : Wanted) (w : Work) (cs : List Choice) → company z w.state.floats.deferred ≡ Some cs → Follows P w (Ship.with_deferred (left_floats cs) w) × (waiting_floats (Ship.with_deferred (left_floats cs) w).state.floats + 1 ≤ waiting_floats w.state.floats)
+  pub company-left : (z : Wanted) (w : Work) (cs : List Choice) → company z w.state.floats.deferred ≡ Some cs → Follows P w (Pages.with_deferred (left_floats cs) w) × (waiting_floats (Pages.with_deferred (left_floats cs) w).state.floats + 1 ≤ waiting_floats w.state.floats)
   company-left z w cs e =
       let h : length (left_floats cs) + 1 ≤ length w.state.floats.deferred = company-takes z w.state.floats.deferred cs e in
       (with-lists (record w.state.floats { deferred = left_floats cs }) w refl (omega arith) (λ x. record { top = x.top; bottom = x.bottom; deferred = company-leaves P z w.state.floats.deferred cs e x.deferred; double = x.double; second = x.second }), omega arith)
@@ -302,23 +302,23 @@ module _ (P : Float → Type 0) where
       fewer : (x y : ℕ) → x + 1 ≤ y → x ≤ y
       fewer x y h = omega arith
 
-  pub follows-wide : (p : Params) (clearing : Bool) (w : Work) (cs : List Choice) → company (Ship.wide_wanted p clearing) (wide_waiting p w.state.floats) ≡ Some cs → Follows P w (Ship.ship_wide p cs w) × (waiting_floats (Ship.ship_wide p cs w).state.floats + 1 ≤ waiting_floats w.state.floats)
+  pub follows-wide : (p : Params) (clearing : Bool) (w : Work) (cs : List Choice) → company (Pages.wide_wanted p clearing) (wide_waiting p w.state.floats) ≡ Some cs → Follows P w (Pages.ship_wide p cs w) × (waiting_floats (Pages.ship_wide p cs w).state.floats + 1 ≤ waiting_floats w.state.floats)
   follows-wide p clearing w cs e =
       let a = with_floats (with_wide_waiting p (left_floats cs) w.state.floats) w in
-      let c : Follows P w (with_floats (with_wide_waiting p (left_floats cs) w.state.floats) w) × (waiting_floats (with_wide_waiting p (left_floats cs) w.state.floats) + 1 ≤ waiting_floats w.state.floats) = wide-left (Ship.wide_wanted p clearing) p w cs e in
-      let x : Follows P (with_floats (with_wide_waiting p (left_floats cs) w.state.floats) w) (Ship.ship_wide p cs w) = follows-ship p (wide (wide_floats_column p p.textheight (chosen_floats cs))) a in
-      (follows-then w a (Ship.ship_wide p cs w) c.0 x, one-fewer (waiting_floats w.state.floats) (waiting_floats (with_wide_waiting p (left_floats cs) w.state.floats)) (waiting_floats (Ship.ship_wide p cs w).state.floats) c.1 x.floats)
+      let c : Follows P w (with_floats (with_wide_waiting p (left_floats cs) w.state.floats) w) × (waiting_floats (with_wide_waiting p (left_floats cs) w.state.floats) + 1 ≤ waiting_floats w.state.floats) = wide-left (Pages.wide_wanted p clearing) p w cs e in
+      let x : Follows P (with_floats (with_wide_waiting p (left_floats cs) w.state.floats) w) (Pages.ship_wide p cs w) = follows-ship p (wide (wide_floats_column p p.textheight (chosen_floats cs))) a in
+      (follows-then w a (Pages.ship_wide p cs w) c.0 x, one-fewer (waiting_floats w.state.floats) (waiting_floats (with_wide_waiting p (left_floats cs) w.state.floats)) (waiting_floats (Pages.ship_wide p cs w).state.floats) c.1 x.floats)
     where
       one-fewer : (x y z : ℕ) → y + 1 ≤ x → z ≤ y → z + 1 ≤ x
       one-fewer x y z h k = omega arith
 
-  follows-wide_by : (p : Params) (clearing : Bool) (again : Work → Work) → ((w : Work) → Follows P w (again w)) → (w : Work) (o : Option (List Choice)) → company (Ship.wide_wanted p clearing) (wide_waiting p w.state.floats) ≡ o → Follows P w (Ship.wide_pages_by again p w o)
+  follows-wide_by : (p : Params) (clearing : Bool) (again : Work → Work) → ((w : Work) → Follows P w (again w)) → (w : Work) (o : Option (List Choice)) → company (Pages.wide_wanted p clearing) (wide_waiting p w.state.floats) ≡ o → Follows P w (Pages.wide_pages_by again p w o)
   follows-wide_by p clearing again h w None e = follows-same w
-  follows-wide_by p clearing again h w (Some cs) e = follows-then w (Ship.ship_wide p cs w) (again (Ship.ship_wide p cs w)) (follows-wide p clearing w cs e).0 (h (Ship.ship_wide p cs w))
+  follows-wide_by p clearing again h w (Some cs) e = follows-then w (Pages.ship_wide p cs w) (again (Pages.ship_wide p cs w)) (follows-wide p clearing w cs e).0 (h (Pages.ship_wide p cs w))
 
-  pub follows-wide_pages : (p : Params) (clearing : Bool) (n : ℕ) (w : Work) → Follows P w (Ship.wide_pages p clearing n w)
+  pub follows-wide_pages : (p : Params) (clearing : Bool) (n : ℕ) (w : Work) → Follows P w (Pages.wide_pages p clearing n w)
   follows-wide_pages p clearing zero w = follows-same w
-  follows-wide_pages p clearing (suc n) w = follows-wide_by p clearing (λ w'. Ship.wide_pages p clearing n w') (λ w'. follows-wide_pages p clearing n w') w (company (Ship.wide_wanted p clearing) (wide_waiting p w.state.floats)) refl
+  follows-wide_pages p clearing (suc n) w = follows-wide_by p clearing (λ w'. Pages.wide_pages p clearing n w') (λ w'. follows-wide_pages p clearing n w') w (company (Pages.wide_wanted p clearing) (wide_waiting p w.state.floats)) refl
 
   -- ---- columns
 
@@ -326,51 +326,51 @@ module _ (P : Float → Type 0) where
   nothing = tt
 
   -- the double floats are gone
-  pub follows-undoubled : (w : Work) → Follows P w (Ship.without_double w) × (waiting_floats (Ship.without_double w).state.floats + length w.state.floats.double ≤ waiting_floats w.state.floats)
+  pub follows-undoubled : (w : Work) → Follows P w (Pages.without_double w) × (waiting_floats (Pages.without_double w).state.floats + length w.state.floats.double ≤ waiting_floats w.state.floats)
   follows-undoubled w = (record { goes = λ r. r; columns = refl; boxes = refl; back = refl; page = refl; current = refl; floats = omega arith; all = λ x. record { top = x.top; bottom = x.bottom; deferred = x.deferred; double = nothing; second = x.second }; cycles = λ r. inl refl }, omega arith)
 
-  follows-filled : (p : Params) (w : Work) → Follows P w (Ship.fill_double p w)
+  follows-filled : (p : Params) (w : Work) → Follows P w (Pages.fill_double p w)
   follows-filled p w = follows-double (wide_part p) (wide-waits p) p [] (wide_waiting p w.state.floats) w refl
 
   -- what follows the pair's page
-  pub follows-pair_rest : (p : Params) (c : PlainColumn) (w : Work) → Follows P (Ship.ship p (pair_sheet p w.state.floats (Ship.left_or c w.state.left_column) c) w) (Ship.ship_pair p c w)
+  pub follows-pair_rest : (p : Params) (c : PlainColumn) (w : Work) → Follows P (Pages.ship p (pair_sheet p w.state.floats (Pages.left_or c w.state.left_column) c) w) (Pages.ship_pair p c w)
   follows-pair_rest p c w =
-      let a = Ship.ship p (pair_sheet p w.state.floats (Ship.left_or c w.state.left_column) c) w in
-      let b = Ship.without_double a in
-      let d = Ship.all_wide_pages p false b in
-      follows-then a b (Ship.ship_pair p c w) (follows-undoubled a).0
-      (follows-then b d (Ship.ship_pair p c w) (follows-wide_pages p false (length (wide_waiting p b.state.floats)) b) (follows-filled p d))
+      let a = Pages.ship p (pair_sheet p w.state.floats (Pages.left_or c w.state.left_column) c) w in
+      let b = Pages.without_double a in
+      let d = Pages.all_wide_pages p false b in
+      follows-then a b (Pages.ship_pair p c w) (follows-undoubled a).0
+      (follows-then b d (Pages.ship_pair p c w) (follows-wide_pages p false (length (wide_waiting p b.state.floats)) b) (follows-filled p d))
 
-  follows-pair : (p : Params) (c : PlainColumn) (w : Work) → Follows P w (Ship.ship_pair p c w)
+  follows-pair : (p : Params) (c : PlainColumn) (w : Work) → Follows P w (Pages.ship_pair p c w)
   follows-pair p c w =
-      let a = Ship.ship p (pair_sheet p w.state.floats (Ship.left_or c w.state.left_column) c) w in
-      follows-then w a (Ship.ship_pair p c w) (follows-ship p _ w) (follows-pair_rest p c w)
+      let a = Pages.ship p (pair_sheet p w.state.floats (Pages.left_or c w.state.left_column) c) w in
+      follows-then w a (Pages.ship_pair p c w) (follows-ship p _ w) (follows-pair_rest p c w)
 
-  follows-kept : (c : PlainColumn) (w : Work) → Follows P w (Ship.keep_left c w)
+  follows-kept : (c : PlainColumn) (w : Work) → Follows P w (Pages.keep_left c w)
   follows-kept c w = record { goes = λ r. r; columns = refl; boxes = refl; back = refl; page = refl; current = refl; floats = omega arith; all = λ h. h; cycles = λ r. inl refl }
 
-  follows-put_by : (p : Params) (c : PlainColumn) (w : Work) → Follows P w (Ship.put_out_by p c w)
+  follows-put_by : (p : Params) (c : PlainColumn) (w : Work) → Follows P w (Pages.put_out_by p c w)
   follows-put_by p c w = by_columns w.state.two_columns
     where
-      by_columns : (t : Bool) → Follows P w (if not t then Ship.ship p (one c) w else (if w.state.first_column then Ship.keep_left c w else Ship.ship_pair p c w))
+      by_columns : (t : Bool) → Follows P w (if not t then Pages.ship p (one c) w else (if w.state.first_column then Pages.keep_left c w else Pages.ship_pair p c w))
       by_columns false = follows-ship p (one c) w
-      by_columns true = follows_if w w.state.first_column (Ship.keep_left c w) (Ship.ship_pair p c w) (follows-kept c w) (follows-pair p c w)
+      by_columns true = follows_if w w.state.first_column (Pages.keep_left c w) (Pages.ship_pair p c w) (follows-kept c w) (follows-pair p c w)
 
-  follows-after : (w : Work) → Follows P w (Ship.after_column w)
+  follows-after : (w : Work) → Follows P w (Pages.after_column w)
   follows-after w = record { goes = λ r. r; columns = refl; boxes = refl; back = refl; page = refl; current = refl; floats = omega arith; all = λ h. h; cycles = λ r. inl refl }
 
-  pub follows-put_out : (p : Params) (c : PlainColumn) (w : Work) → Follows P w (Ship.put_out p c w)
+  pub follows-put_out : (p : Params) (c : PlainColumn) (w : Work) → Follows P w (Pages.put_out p c w)
   follows-put_out p c w =
       let a = records_also (output c) w in
-      let b = Ship.put_out_by p c a in
-      follows-then w a (Ship.put_out p c w) (follows-records (output c) w) (follows-then a b (Ship.put_out p c w) (follows-put_by p c a) (follows-after b))
+      let b = Pages.put_out_by p c a in
+      follows-then w a (Pages.put_out p c w) (follows-records (output c) w) (follows-then a b (Pages.put_out p c w) (follows-put_by p c a) (follows-after b))
 
   pub follows-company : (p : Params) (clearing : Bool) (w : Work) (cs : List Choice) → company (Columns.single_wanted p w.state.floats clearing) w.state.floats.deferred ≡ Some cs → Follows P w (Columns.put_out_company p cs w) × (waiting_floats (Columns.put_out_company p cs w).state.floats + 1 ≤ waiting_floats w.state.floats)
   follows-company p clearing w cs e =
-      let a = Ship.with_deferred (left_floats cs) w in
-      let c : Follows P w (Ship.with_deferred (left_floats cs) w) × (waiting_floats (Ship.with_deferred (left_floats cs) w).state.floats + 1 ≤ waiting_floats w.state.floats) = company-left (Columns.single_wanted p w.state.floats clearing) w cs e in
-      let x : Follows P (Ship.with_deferred (left_floats cs) w) (Columns.put_out_company p cs w) = follows-put_out p (single_floats_column p (column_height_of p w.state.floats) (chosen_floats cs)) a in
-      (follows-then w a (Columns.put_out_company p cs w) c.0 x, one-fewer (waiting_floats w.state.floats) (waiting_floats (Ship.with_deferred (left_floats cs) w).state.floats) (waiting_floats (Columns.put_out_company p cs w).state.floats) c.1 x.floats)
+      let a = Pages.with_deferred (left_floats cs) w in
+      let c : Follows P w (Pages.with_deferred (left_floats cs) w) × (waiting_floats (Pages.with_deferred (left_floats cs) w).state.floats + 1 ≤ waiting_floats w.state.floats) = company-left (Columns.single_wanted p w.state.floats clearing) w cs e in
+      let x : Follows P (Pages.with_deferred (left_floats cs) w) (Columns.put_out_company p cs w) = follows-put_out p (single_floats_column p (column_height_of p w.state.floats) (chosen_floats cs)) a in
+      (follows-then w a (Columns.put_out_company p cs w) c.0 x, one-fewer (waiting_floats w.state.floats) (waiting_floats (Pages.with_deferred (left_floats cs) w).state.floats) (waiting_floats (Columns.put_out_company p cs w).state.floats) c.1 x.floats)
     where
       one-fewer : (x y z : ℕ) → y + 1 ≤ x → z ≤ y → z + 1 ≤ x
       one-fewer x y z h k = omega arith

@@ -94,29 +94,29 @@ record-added r w q = by_refused w.refused
     by_refused true = none-added w w refl
     by_refused false = record { more = r ∷ []; whole = refl; quiet = (q, tt) }
 
-gone-added : (p : Params) (a : AreaPlace) (f : Float) (before rest : List Float) (w : Work) → AddsQuiet w (Place.place_waiting parts.Deferred p (where_of a) f before rest w)
+gone-added : (p : Params) (a : AreaPlace) (f : Float) (before rest : List Float) (w : Work) → AddsQuiet w (FloatMoves.place_waiting parts.Deferred p (where_of a) f before rest w)
 gone-added p at_top f before rest w = let x = record-added (placed f places.Top w.state.floats (column_height_of p w.state.floats)) w tt in record { more = x.more; whole = x.whole; quiet = x.quiet }
 gone-added p at_bottom f before rest w = let x = record-added (placed f places.Bottom w.state.floats (column_height_of p w.state.floats)) w tt in record { more = x.more; whole = x.whole; quiet = x.quiet }
 gone-added p deferred f before rest w = none-added w w refl
 
-pub next-added : (p : Params) (before fs : List Float) (w : Work) → AddsQuiet w (Place.place_next p before fs w)
+pub next-added : (p : Params) (before fs : List Float) (w : Work) → AddsQuiet w (FloatMoves.place_next p before fs w)
 next-added p before [] w = none-added w w refl
 next-added p before (f ∷ rest) w =
     let a = next_area_place p w.state.floats w.state.suppress before f in
-    let v = Place.place_waiting parts.Deferred p (where_of a) f before rest w in
-    both-added w v (Place.place_next p (Place.still_deferred (where_of a) f before) rest v) (gone-added p a f before rest w) (next-added p (Place.still_deferred (where_of a) f before) rest v)
+    let v = FloatMoves.place_waiting parts.Deferred p (where_of a) f before rest w in
+    both-added w v (FloatMoves.place_next p (FloatMoves.still_deferred (where_of a) f before) rest v) (gone-added p a f before rest w) (next-added p (FloatMoves.still_deferred (where_of a) f before) rest v)
 
-gone-double-added : (from : Part) (p : Params) (b : Bool) (f : Float) (before rest : List Float) (w : Work) → AddsQuiet w (Place.place_waiting from p (if b then places.Double else places.Deferred) f before rest w)
+gone-double-added : (from : Part) (p : Params) (b : Bool) (f : Float) (before rest : List Float) (w : Work) → AddsQuiet w (FloatMoves.place_waiting from p (if b then places.Double else places.Deferred) f before rest w)
 gone-double-added from p true f before rest w = let x = record-added (placed f places.Double w.state.floats (column_height_of p w.state.floats)) w tt in record { more = x.more; whole = x.whole; quiet = x.quiet }
 gone-double-added from p false f before rest w = none-added w w refl
 
-pub double-added : (from : Part) (p : Params) (before fs : List Float) (w : Work) → AddsQuiet w (Place.place_double from p before fs w)
+pub double-added : (from : Part) (p : Params) (before fs : List Float) (w : Work) → AddsQuiet w (FloatMoves.place_double from p before fs w)
 double-added from p before [] w = none-added w w refl
 double-added from p before (f ∷ rest) w =
     let b = goes_double p w.state.floats w.state.suppress before f in
     let place = if b then places.Double else places.Deferred in
-    let v = Place.place_waiting from p place f before rest w in
-    both-added w v (Place.place_double from p (Place.still_deferred place f before) rest v) (gone-double-added from p b f before rest w) (double-added from p (Place.still_deferred place f before) rest v)
+    let v = FloatMoves.place_waiting from p place f before rest w in
+    both-added w v (FloatMoves.place_double from p (FloatMoves.still_deferred place f before) rest v) (gone-double-added from p b f before rest w) (double-added from p (FloatMoves.still_deferred place f before) rest v)
 
 -- ---- what the walks leave as it is
 

@@ -93,7 +93,7 @@ module _ (p : Params) where
   records_one : (r : Recorded) (w : Work) → Step w (records_also r w)
   records_one r w = step_if w w.refused w (record w { records = w.records ++ r ∷ [] }) (still refl refl) (still refl refl)
 
-  ship_now-few : (sheet : PlainSheet) (w : Work) → int_lt p.maxpages (pos w.state.page) ≡ false → w.refused ≡ false → Step w (Ship.ship_now sheet w)
+  ship_now-few : (sheet : PlainSheet) (w : Work) → int_lt p.maxpages (pos w.state.page) ≡ false → w.refused ≡ false → Step w (Pages.ship_now sheet w)
   ship_now-few sheet w h r =
       let counted : Work = record w { state = record w.state { page = w.state.page + 1; dead_cycles = 0 } } in
       let sent : Work = record counted { sent = w.sent ++ shipped w.state.page sheet ∷ [] } in
@@ -108,14 +108,14 @@ module _ (p : Params) where
       by_refused counted sent true r done = cc
       by_refused counted sent false r done = done
 
-  ships_one : (sheet : PlainSheet) (w : Work) → Step w (Ship.ship p sheet w)
+  ships_one : (sheet : PlainSheet) (w : Work) → Step w (Pages.ship p sheet w)
   ships_one sheet w = by_refused w.refused refl
     where
-      by_limit : w.refused ≡ false → (u : Bool) → int_lt p.maxpages (pos w.state.page) ≡ u → Step w (if u then record w { refused = true } else Ship.ship_now sheet w)
+      by_limit : w.refused ≡ false → (u : Bool) → int_lt p.maxpages (pos w.state.page) ≡ u → Step w (if u then record w { refused = true } else Pages.ship_now sheet w)
       by_limit r true h = still refl refl
       by_limit r false h = ship_now-few sheet w h r
 
-      by_refused : (t : Bool) → w.refused ≡ t → Step w (if t then w else (if int_lt p.maxpages (pos w.state.page) then record w { refused = true } else Ship.ship_now sheet w))
+      by_refused : (t : Bool) → w.refused ≡ t → Step w (if t then w else (if int_lt p.maxpages (pos w.state.page) then record w { refused = true } else Pages.ship_now sheet w))
       by_refused true r = still refl refl
       by_refused false r = by_limit r (int_lt p.maxpages (pos w.state.page)) refl
 
@@ -147,9 +147,9 @@ module _ (p : Params) where
   defer-step f left w = by_places (Text.only_here f)
     where
       a : Work
-      a = Place.place_float p places.Deferred (Text.with_top f) left w
+      a = FloatMoves.place_float p places.Deferred (Text.with_top f) left w
 
-      by_places : (t : Bool) → SendsFew p 1 w (if t then sends (warned (warnings.Ht f.name)) a else Place.place_float p places.Deferred f left w)
+      by_places : (t : Bool) → SendsFew p 1 w (if t then sends (warned (warnings.Ht f.name)) a else FloatMoves.place_float p places.Deferred f left w)
       by_places true = afterwards {j = 0} {k = 1} {b = a} (still refl refl) (warns_one (warnings.Ht f.name) a)
       by_places false = quiet (still refl refl)
 
@@ -187,9 +187,9 @@ module _ (p : Params) where
       a : Work
       a = with_floats (Clear.double_again p w.state.floats) w
 
-      by_number : (t : Bool) → Step w (if not t then w else (if w.state.first_column then Ship.all_wide_pages p true a else puts (made blank_box ∷ Clear.clear_again) w))
+      by_number : (t : Bool) → Step w (if not t then w else (if w.state.first_column then Pages.all_wide_pages p true a else puts (made blank_box ∷ Clear.clear_again) w))
       by_number false = still refl refl
-      by_number true = step_if w w.state.first_column (Ship.all_wide_pages p true a) (puts (made blank_box ∷ Clear.clear_again) w) (in_turn {b = a} (still refl refl) (column-few (all_wide_pages-step p (no_law p) true a))) (still refl refl)
+      by_number true = step_if w w.state.first_column (Pages.all_wide_pages p true a) (puts (made blank_box ∷ Clear.clear_again) w) (in_turn {b = a} (still refl refl) (column-few (all_wide_pages-step p (no_law p) true a))) (still refl refl)
 
   pub clear_floats-step : (body : List PlainNode) (w : Work) → Step w (Clear.clear_floats p body w)
   clear_floats-step body w =
@@ -206,27 +206,27 @@ module _ (p : Params) where
 
   -- ---- a firing
 
-  pub output_by-step : (f : Fired) (w : Work) → SendsFew p 1 w (Out.output_by p f w)
+  pub output_by-step : (f : Fired) (w : Work) → SendsFew p 1 w (Output.output_by p f w)
   output_by-step f w =
       few_if w (int_le eject_penalty f.penalty) (Columns.ordinary p f.body w) _ (quiet (ordinary-step f.body w))
-      (few_if w (Out.is_int f.penalty Out.clear_penalty) (Clear.clear p f.body w) _ (quiet (clear_by-step f.body w (footnotes w.state)))
-      (few_if w (Out.is_int f.penalty Out.par_penalty) (Text.float_or_note p false f.body w) _ (float_or_note-step false f.body w)
-      (few_if w (Out.is_int f.penalty Out.vert_penalty) (Text.float_or_note p true f.body w) (Out.hold f.body w) (float_or_note-step true f.body w) (quiet (still refl refl)))))
+      (few_if w (Output.is_int f.penalty Output.clear_penalty) (Clear.clear p f.body w) _ (quiet (clear_by-step f.body w (footnotes w.state)))
+      (few_if w (Output.is_int f.penalty Output.par_penalty) (Text.float_or_note p false f.body w) _ (float_or_note-step false f.body w)
+      (few_if w (Output.is_int f.penalty Output.vert_penalty) (Text.float_or_note p true f.body w) (Output.hold f.body w) (float_or_note-step true f.body w) (quiet (still refl refl)))))
 
-  pub next_goal-step : (n : ℤ) (w : Work) → SendsFew p 1 w (Out.next_goal p n w)
+  pub next_goal-step : (n : ℤ) (w : Work) → SendsFew p 1 w (Output.next_goal p n w)
   next_goal-step n w =
       let room = column_room_of p w.state.floats in
       let told = sends (warned (warnings.Floats w.state.page)) w in
       let x : SendsFew p 1 w told = warns_one (warnings.Floats w.state.page) w in
-      few_if w (Out.is_int n Out.hold_penalty) (Out.with_goal max_dimen w) (Out.goal_by p room w) (quiet (still refl refl))
-      (few_if w (Out.is_crowded p room) (Out.leave_column w) (Out.with_goal room w) (record { warnings = x.warnings; pages = x.pages; limit = x.limit }) (quiet (still refl refl)))
+      few_if w (Output.is_int n Output.hold_penalty) (Output.with_goal max_dimen w) (Output.goal_by p room w) (quiet (still refl refl))
+      (few_if w (Output.is_crowded p room) (Output.leave_column w) (Output.with_goal room w) (record { warnings = x.warnings; pages = x.pages; limit = x.limit }) (quiet (still refl refl)))
 
   -- a firing without what waits after it
-  pub page_work-step : (s : State) (f : Fired) → SendsFew p 2 (begun (Out.after_page s f)) (page_work p s f)
+  pub page_work-step : (s : State) (f : Fired) → SendsFew p 2 (begun (Output.after_page s f)) (page_work p s f)
   unfolding page_work
-  page_work-step s f = afterwards {j = 1} {k = 1} (output_by-step f (begun (Out.after_page s f))) (next_goal-step f.penalty (Out.output_by p f (begun (Out.after_page s f))))
+  page_work-step s f = afterwards {j = 1} {k = 1} (output_by-step f (begun (Output.after_page s f))) (next_goal-step f.penalty (Output.output_by p f (begun (Output.after_page s f))))
 
 -- a whole firing
-pub out-few : (p : Params) (s : State) (f : Fired) → SendsFew p 2 (begun (Out.after_page s f)) (Out.out p s f)
-unfolding Out.out page_work
+pub out-few : (p : Params) (s : State) (f : Fired) → SendsFew p 2 (begun (Output.after_page s f)) (Output.out p s f)
+unfolding Output.out page_work
 out-few p s f = let x = page_work-step p s f in record { warnings = x.warnings; pages = x.pages; limit = x.limit }

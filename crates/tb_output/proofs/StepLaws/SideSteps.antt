@@ -52,45 +52,45 @@ deferred-fits parts.Second l before f rest e h = middle Single before f rest (su
 
 -- ---- floats go to their places
 
-next-step : (from : Part) (p : Params) (place : Where) (f : Float) (before rest : List Float) (w : Work) → NotDouble place → w.state.floats.deferred ≡ before ++ f ∷ rest → Sides from w.state.floats → Sides from (Place.place_waiting parts.Deferred p place f before rest w).state.floats
-next-step from p place f before rest w n e h = by_place (Place.is_placed place)
+next-step : (from : Part) (p : Params) (place : Where) (f : Float) (before rest : List Float) (w : Work) → NotDouble place → w.state.floats.deferred ≡ before ++ f ∷ rest → Sides from w.state.floats → Sides from (FloatMoves.place_waiting parts.Deferred p place f before rest w).state.floats
+next-step from p place f before rest w n e h = by_place (FloatMoves.is_placed place)
   where
     l : FloatLists
     l = record w.state.floats { deferred = before ++ rest }
 
-    by_place : (t : Bool) → Sides from (if t then Place.place_float p place f l w else w).state.floats
+    by_place : (t : Bool) → Sides from (if t then FloatMoves.place_float p place f l w else w).state.floats
     by_place true = joined-sides from place f l n (deferred-fits from w.state.floats before f rest e h) (deferred-sides from (before ++ rest) w.state.floats (λ s. without-middle Single before f rest (subst (AllByRecursion Single) e s)) h)
     by_place false = h
 
-pub next-sides : (from : Part) (p : Params) (before fs : List Float) (w : Work) → w.state.floats.deferred ≡ before ++ fs → Sides from w.state.floats → Sides from (Place.place_next p before fs w).state.floats
+pub next-sides : (from : Part) (p : Params) (before fs : List Float) (w : Work) → w.state.floats.deferred ≡ before ++ fs → Sides from w.state.floats → Sides from (FloatMoves.place_next p before fs w).state.floats
 next-sides from p before [] w e h = h
 next-sides from p before (f ∷ rest) w e h =
     let place = Area.next_place p w.state.floats w.state.suppress before f in
-    let w' = Place.place_waiting parts.Deferred p place f before rest w in
-    next-sides from p (Place.still_deferred place f before) rest w' (waiting-step Any parts.Deferred tt p place f before rest w e).1 (next-step from p place f before rest w (area-single (Area.next_area_place p w.state.floats w.state.suppress before f)) e h)
+    let w' = FloatMoves.place_waiting parts.Deferred p place f before rest w in
+    next-sides from p (FloatMoves.still_deferred place f before) rest w' (waiting-step Any parts.Deferred tt p place f before rest w e).1 (next-step from p place f before rest w (area-single (Area.next_area_place p w.state.floats w.state.suppress before f)) e h)
 
-double-step : (from : Part) → IsWaiting from → (p : Params) (f : Float) (before rest : List Float) (w : Work) → floats_of from w.state.floats ≡ before ++ f ∷ rest → Sides from w.state.floats → Sides from (Place.place_waiting from p (Area.double_place p w.state.floats w.state.suppress before f) f before rest w).state.floats
+double-step : (from : Part) → IsWaiting from → (p : Params) (f : Float) (before rest : List Float) (w : Work) → floats_of from w.state.floats ≡ before ++ f ∷ rest → Sides from w.state.floats → Sides from (FloatMoves.place_waiting from p (Area.double_place p w.state.floats w.state.suppress before f) f before rest w).state.floats
 double-step from q p f before rest w e h = by_place (Area.goes_double p w.state.floats w.state.suppress before f)
   where
     l : FloatLists
     l = with_floats_of from (before ++ rest) w.state.floats
 
-    by_place : (t : Bool) → Sides from (Place.place_waiting from p (if t then places.Double else places.Deferred) f before rest w).state.floats
+    by_place : (t : Bool) → Sides from (FloatMoves.place_waiting from p (if t then places.Double else places.Deferred) f before rest w).state.floats
     by_place true = doubled-sides from f l (waiting-sides from q (before ++ rest) w.state.floats (λ s is. without-middle Wide before f rest (subst (AllByRecursion Wide) (sym (ap (λ x. floats_of x w.state.floats) is) ∙ e) s)) h)
     by_place false = h
 
-double-sides : (from : Part) → IsWaiting from → (p : Params) (before fs : List Float) (w : Work) → floats_of from w.state.floats ≡ before ++ fs → Sides from w.state.floats → Sides from (Place.place_double from p before fs w).state.floats
+double-sides : (from : Part) → IsWaiting from → (p : Params) (before fs : List Float) (w : Work) → floats_of from w.state.floats ≡ before ++ fs → Sides from w.state.floats → Sides from (FloatMoves.place_double from p before fs w).state.floats
 double-sides from q p before [] w e h = h
 double-sides from q p before (f ∷ rest) w e h =
     let place = Area.double_place p w.state.floats w.state.suppress before f in
-    let w' = Place.place_waiting from p place f before rest w in
-    double-sides from q p (Place.still_deferred place f before) rest w' (waiting-step Any from q p place f before rest w e).1 (double-step from q p f before rest w e h)
+    let w' = FloatMoves.place_waiting from p place f before rest w in
+    double-sides from q p (FloatMoves.still_deferred place f before) rest w' (waiting-step Any from q p place f before rest w e).1 (double-step from q p f before rest w e h)
 
 module _ (p : Params) where
   abbrev S : Work → Type 0
   S w = Sides (wide_part p) w.state.floats
 
-  ship-sides : (sheet : PlainSheet) (w : Work) → S w → S (Ship.ship p sheet w)
+  ship-sides : (sheet : PlainSheet) (w : Work) → S w → S (Pages.ship p sheet w)
   ship-sides sheet w h = subst (Sides (wide_part p)) (sym (ship-lists p sheet w).0) h
 
   records-sides : (r : Recorded) (w : Work) → S w → S (records_also r w)
@@ -102,35 +102,35 @@ module _ (p : Params) where
 
   -- ---- companies
 
-  wide_by-sides : (clearing : Bool) (again : Work → Work) → ((w : Work) → S w → S (again w)) → (w : Work) (o : Option (List Choice)) → company (Ship.wide_wanted p clearing) (wide_waiting p w.state.floats) ≡ o → S w → S (Ship.wide_pages_by again p w o)
+  wide_by-sides : (clearing : Bool) (again : Work → Work) → ((w : Work) → S w → S (again w)) → (w : Work) (o : Option (List Choice)) → company (Pages.wide_wanted p clearing) (wide_waiting p w.state.floats) ≡ o → S w → S (Pages.wide_pages_by again p w o)
   wide_by-sides clearing again k w None e h = h
-  wide_by-sides clearing again k w (Some cs) e h = k (Ship.ship_wide p cs w) (ship-sides (wide (wide_floats_column p p.textheight (chosen_floats cs))) (with_floats (with_wide_waiting p (left_floats cs) w.state.floats) w) (waiting-sides (wide_part p) (wide-waits p) (left_floats cs) w.state.floats (λ s is. company-leaves Wide (Ship.wide_wanted p clearing) (wide_waiting p w.state.floats) cs e (subst (AllByRecursion Wide) (sym (ap (λ x. floats_of x w.state.floats) is)) s)) h))
+  wide_by-sides clearing again k w (Some cs) e h = k (Pages.ship_wide p cs w) (ship-sides (wide (wide_floats_column p p.textheight (chosen_floats cs))) (with_floats (with_wide_waiting p (left_floats cs) w.state.floats) w) (waiting-sides (wide_part p) (wide-waits p) (left_floats cs) w.state.floats (λ s is. company-leaves Wide (Pages.wide_wanted p clearing) (wide_waiting p w.state.floats) cs e (subst (AllByRecursion Wide) (sym (ap (λ x. floats_of x w.state.floats) is)) s)) h))
 
-  wide-sides : (clearing : Bool) (n : ℕ) (w : Work) → S w → S (Ship.wide_pages p clearing n w)
+  wide-sides : (clearing : Bool) (n : ℕ) (w : Work) → S w → S (Pages.wide_pages p clearing n w)
   wide-sides clearing zero w h = h
-  wide-sides clearing (suc n) w h = wide_by-sides clearing (λ w'. Ship.wide_pages p clearing n w') (λ w' k. wide-sides clearing n w' k) w (company (Ship.wide_wanted p clearing) (wide_waiting p w.state.floats)) refl h
+  wide-sides clearing (suc n) w h = wide_by-sides clearing (λ w'. Pages.wide_pages p clearing n w') (λ w' k. wide-sides clearing n w' k) w (company (Pages.wide_wanted p clearing) (wide_waiting p w.state.floats)) refl h
 
-  pair-sides : (c : PlainColumn) (w : Work) → S w → S (Ship.ship_pair p c w)
+  pair-sides : (c : PlainColumn) (w : Work) → S w → S (Pages.ship_pair p c w)
   pair-sides c w h =
-      let a = Ship.ship p (pair_sheet p w.state.floats (Ship.left_or c w.state.left_column) c) w in
-      let b = Ship.without_double a in
-      let d = Ship.all_wide_pages p false b in
-      double-sides (wide_part p) (wide-waits p) p [] (wide_waiting p d.state.floats) d refl (wide-sides false (length (wide_waiting p b.state.floats)) b (undoubled-sides (wide_part p) a.state.floats (ship-sides (pair_sheet p w.state.floats (Ship.left_or c w.state.left_column) c) w h)))
+      let a = Pages.ship p (pair_sheet p w.state.floats (Pages.left_or c w.state.left_column) c) w in
+      let b = Pages.without_double a in
+      let d = Pages.all_wide_pages p false b in
+      double-sides (wide_part p) (wide-waits p) p [] (wide_waiting p d.state.floats) d refl (wide-sides false (length (wide_waiting p b.state.floats)) b (undoubled-sides (wide_part p) a.state.floats (ship-sides (pair_sheet p w.state.floats (Pages.left_or c w.state.left_column) c) w h)))
 
-  put_by-sides : (c : PlainColumn) (w : Work) → S w → S (Ship.put_out_by p c w)
+  put_by-sides : (c : PlainColumn) (w : Work) → S w → S (Pages.put_out_by p c w)
   put_by-sides c w h = by_columns w.state.two_columns w.state.first_column
     where
-      by_columns : (t f : Bool) → S (if not t then Ship.ship p (one c) w else (if f then Ship.keep_left c w else Ship.ship_pair p c w))
+      by_columns : (t f : Bool) → S (if not t then Pages.ship p (one c) w else (if f then Pages.keep_left c w else Pages.ship_pair p c w))
       by_columns false f = ship-sides (one c) w h
       by_columns true true = h
       by_columns true false = pair-sides c w h
 
-  put_out-sides : (c : PlainColumn) (w : Work) → S w → S (Ship.put_out p c w)
+  put_out-sides : (c : PlainColumn) (w : Work) → S w → S (Pages.put_out p c w)
   put_out-sides c w h = put_by-sides c (records_also (output c) w) (records-sides (output c) w h)
 
   columns_by-sides : (clearing : Bool) (again : Work → Work) → ((w : Work) → S w → S (again w)) → (w : Work) (o : Option (List Choice)) → company (Columns.single_wanted p w.state.floats clearing) w.state.floats.deferred ≡ o → S w → S (Columns.float_columns_by again p w o)
   columns_by-sides clearing again k w None e h = h
-  columns_by-sides clearing again k w (Some cs) e h = k (Columns.put_out_company p cs w) (put_out-sides (single_floats_column p (column_height_of p w.state.floats) (chosen_floats cs)) (Ship.with_deferred (left_floats cs) w) (deferred-sides (wide_part p) (left_floats cs) w.state.floats (λ s. company-leaves Single (Columns.single_wanted p w.state.floats clearing) w.state.floats.deferred cs e s) h))
+  columns_by-sides clearing again k w (Some cs) e h = k (Columns.put_out_company p cs w) (put_out-sides (single_floats_column p (column_height_of p w.state.floats) (chosen_floats cs)) (Pages.with_deferred (left_floats cs) w) (deferred-sides (wide_part p) (left_floats cs) w.state.floats (λ s. company-leaves Single (Columns.single_wanted p w.state.floats clearing) w.state.floats.deferred cs e s) h))
 
   float_columns-sides : (clearing : Bool) (n : ℕ) (w : Work) → S w → S (Columns.float_columns p clearing n w)
   float_columns-sides clearing zero w h = h
@@ -159,7 +159,7 @@ module _ (p : Params) where
       again : S d
       again = waiting-sides (wide_part p) (wide-waits p) (w.state.floats.double ++ wide_waiting p w.state.floats) l (λ s is. all-join Wide w.state.floats.double (wide_waiting p w.state.floats) dw (subst (AllByRecursion Wide) (sym (ap (λ x. floats_of x w.state.floats) is)) s)) (undoubled-sides (wide_part p) w.state.floats h)
 
-      by_columns : (t f : Bool) → S (if not t then w else (if f then Ship.all_wide_pages p true d else puts (made blank_box ∷ Clear.clear_again) w))
+      by_columns : (t f : Bool) → S (if not t then w else (if f then Pages.all_wide_pages p true d else puts (made blank_box ∷ Clear.clear_again) w))
       by_columns false f = h
       by_columns true true = wide-sides true (length (wide_waiting p d.state.floats)) d again
       by_columns true false = h

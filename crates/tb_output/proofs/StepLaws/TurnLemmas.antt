@@ -40,20 +40,20 @@ module _ {p : Params} where
   course-turned : {a b : Work} → course b ≡ course a → Turned p a b
   course-turned c = same (ap (λ x. x.refused) c) (ap (λ x. x.page) c) (ap (λ x. x.dead_cycles) c)
 
-ship_now-turned : (p : Params) (sheet : PlainSheet) (w : Work) → w.refused ≡ false → int_lt p.maxpages (pos w.state.page) ≡ false → Turned p w (Ship.ship_now sheet w)
+ship_now-turned : (p : Params) (sheet : PlainSheet) (w : Work) → w.refused ≡ false → int_lt p.maxpages (pos w.state.page) ≡ false → Turned p w (Pages.ship_now sheet w)
 ship_now-turned p sheet w r h =
     let counted : Work = record w { state = record w.state { page = w.state.page + 1; dead_cycles = 0 } } in
     let once : Turned p w counted = record { by = λ k. (r, inr (omega arith, grind (arith, ints, h), refl)) } in
     joined once (sends-turned (shipped w.state.page sheet) counted)
 
-ship-turned : (p : Params) (sheet : PlainSheet) (w : Work) → Turned p w (Ship.ship p sheet w)
+ship-turned : (p : Params) (sheet : PlainSheet) (w : Work) → Turned p w (Pages.ship p sheet w)
 ship-turned p sheet w = by_refused w.refused refl
   where
-    by_limit : w.refused ≡ false → (u : Bool) → int_lt p.maxpages (pos w.state.page) ≡ u → Turned p w (if u then record w { refused = true } else Ship.ship_now sheet w)
+    by_limit : w.refused ≡ false → (u : Bool) → int_lt p.maxpages (pos w.state.page) ≡ u → Turned p w (if u then record w { refused = true } else Pages.ship_now sheet w)
     by_limit r true h = record { by = λ k. absurd (grind (arith, k)) }
     by_limit r false h = ship_now-turned p sheet w r h
 
-    by_refused : (t : Bool) → w.refused ≡ t → Turned p w (if t then w else (if int_lt p.maxpages (pos w.state.page) then record w { refused = true } else Ship.ship_now sheet w))
+    by_refused : (t : Bool) → w.refused ≡ t → Turned p w (if t then w else (if int_lt p.maxpages (pos w.state.page) then record w { refused = true } else Pages.ship_now sheet w))
     by_refused true r = same refl refl refl
     by_refused false r = by_limit r (int_lt p.maxpages (pos w.state.page)) refl
 
@@ -70,6 +70,6 @@ firing-turned (changes c) = course-turned c
 firing-turned (afterwards x y) = joined (firing-turned x) (firing-turned y)
 
 -- what a firing does to the page number and the dead cycles
-pub out-turned : (p : Params) (s : State) (f : Fired) → Turned p (begun (Out.after_page s f)) (Out.out p s f)
-unfolding Out.out page_work
+pub out-turned : (p : Params) (s : State) (f : Fired) → Turned p (begun (Output.after_page s f)) (Output.out p s f)
+unfolding Output.out page_work
 out-turned p s f = let x = firing-turned (page_work-step p (no_law p) s f) in record { by = x.by }

@@ -80,62 +80,62 @@ part-double parts.Double q gs l = absurd q
 part-double parts.Second q gs l = refl
 
 -- a float that goes to the double list is wide
-double-step : (from : Part) → IsWaiting from → (p : Params) (f : Float) (before rest : List Float) (w : Work) → AllWide w → AllWide (Place.place_waiting from p (Area.double_place p w.state.floats w.state.suppress before f) f before rest w)
+double-step : (from : Part) → IsWaiting from → (p : Params) (f : Float) (before rest : List Float) (w : Work) → AllWide w → AllWide (FloatMoves.place_waiting from p (Area.double_place p w.state.floats w.state.suppress before f) f before rest w)
 double-step from q p f before rest w h = by_place (Area.goes_double p w.state.floats w.state.suppress before f) refl
   where
-    by_place : (t : Bool) → Area.goes_double p w.state.floats w.state.suppress before f ≡ t → AllWide (Place.place_waiting from p (if t then places.Double else places.Deferred) f before rest w)
+    by_place : (t : Bool) → Area.goes_double p w.state.floats w.state.suppress before f ≡ t → AllWide (FloatMoves.place_waiting from p (if t then places.Double else places.Deferred) f before rest w)
     by_place true e = one-wide (with_floats_of from (before ++ rest) w.state.floats).double f (subst (AllByRecursion Wide) (sym (part-double from q (before ++ rest) w.state.floats)) h) (wide-of f.places.t f.wide _ _ _ e)
     by_place false e = h
 
-double-wide : (from : Part) → IsWaiting from → (p : Params) (before fs : List Float) (w : Work) → AllWide w → AllWide (Place.place_double from p before fs w)
+double-wide : (from : Part) → IsWaiting from → (p : Params) (before fs : List Float) (w : Work) → AllWide w → AllWide (FloatMoves.place_double from p before fs w)
 double-wide from q p before [] w h = h
 double-wide from q p before (f ∷ rest) w h =
     let place = Area.double_place p w.state.floats w.state.suppress before f in
-    let w' = Place.place_waiting from p place f before rest w in
-    double-wide from q p (Place.still_deferred place f before) rest w' (double-step from q p f before rest w h)
+    let w' = FloatMoves.place_waiting from p place f before rest w in
+    double-wide from q p (FloatMoves.still_deferred place f before) rest w' (double-step from q p f before rest w h)
 
-ship-double : (p : Params) (sheet : PlainSheet) (w : Work) → (Ship.ship p sheet w).state.floats.double ≡ w.state.floats.double
+ship-double : (p : Params) (sheet : PlainSheet) (w : Work) → (Pages.ship p sheet w).state.floats.double ≡ w.state.floats.double
 ship-double p sheet w = ap (λ l. l.double) (ship-lists p sheet w).0
 
-wide_by-double : (p : Params) (again : Work → Work) → ((w : Work) → (again w).state.floats.double ≡ w.state.floats.double) → (w : Work) (o : Option (List Choice)) → (Ship.wide_pages_by again p w o).state.floats.double ≡ w.state.floats.double
+wide_by-double : (p : Params) (again : Work → Work) → ((w : Work) → (again w).state.floats.double ≡ w.state.floats.double) → (w : Work) (o : Option (List Choice)) → (Pages.wide_pages_by again p w o).state.floats.double ≡ w.state.floats.double
 wide_by-double p again h w None = refl
-wide_by-double p again h w (Some cs) = h (Ship.ship_wide p cs w) ∙ ship-double p (wide (wide_floats_column p p.textheight (chosen_floats cs))) (with_floats (with_wide_waiting p (left_floats cs) w.state.floats) w) ∙ part-double (wide_part p) (wide-waits p) (left_floats cs) w.state.floats
+wide_by-double p again h w (Some cs) = h (Pages.ship_wide p cs w) ∙ ship-double p (wide (wide_floats_column p p.textheight (chosen_floats cs))) (with_floats (with_wide_waiting p (left_floats cs) w.state.floats) w) ∙ part-double (wide_part p) (wide-waits p) (left_floats cs) w.state.floats
 
-wide-double : (p : Params) (clearing : Bool) (n : ℕ) (w : Work) → (Ship.wide_pages p clearing n w).state.floats.double ≡ w.state.floats.double
+wide-double : (p : Params) (clearing : Bool) (n : ℕ) (w : Work) → (Pages.wide_pages p clearing n w).state.floats.double ≡ w.state.floats.double
 wide-double p clearing zero w = refl
-wide-double p clearing (suc n) w = wide_by-double p (λ w'. Ship.wide_pages p clearing n w') (λ w'. wide-double p clearing n w') w (company (Ship.wide_wanted p clearing) (wide_waiting p w.state.floats))
+wide-double p clearing (suc n) w = wide_by-double p (λ w'. Pages.wide_pages p clearing n w') (λ w'. wide-double p clearing n w') w (company (Pages.wide_wanted p clearing) (wide_waiting p w.state.floats))
 
 -- after a pair the double floats are new ones
-pair-wide : (p : Params) (c : PlainColumn) (w : Work) → AllWide (Ship.ship_pair p c w)
+pair-wide : (p : Params) (c : PlainColumn) (w : Work) → AllWide (Pages.ship_pair p c w)
 pair-wide p c w =
-    let b = Ship.without_double (Ship.ship p (pair_sheet p w.state.floats (Ship.left_or c w.state.left_column) c) w) in
-    let d = Ship.all_wide_pages p false b in
+    let b = Pages.without_double (Pages.ship p (pair_sheet p w.state.floats (Pages.left_or c w.state.left_column) c) w) in
+    let d = Pages.all_wide_pages p false b in
     double-wide (wide_part p) (wide-waits p) p [] (wide_waiting p d.state.floats) d (subst (AllByRecursion Wide) (sym (wide-double p false (length (wide_waiting p b.state.floats)) b)) tt)
 
 -- ---- columns; that their number stays is known
 
 module _ (p : Params) where
-  put_by-double : (c : PlainColumn) (w : Work) → (Ship.put_out_by p c w).state.two_columns ≡ w.state.two_columns → KeepsDouble w (Ship.put_out_by p c w)
+  put_by-double : (c : PlainColumn) (w : Work) → (Pages.put_out_by p c w).state.two_columns ≡ w.state.two_columns → KeepsDouble w (Pages.put_out_by p c w)
   put_by-double c w k = by_columns w.state.two_columns w.state.first_column refl k
     where
-      by_columns : (t f : Bool) → w.state.two_columns ≡ t → (if not t then Ship.ship p (one c) w else (if f then Ship.keep_left c w else Ship.ship_pair p c w)).state.two_columns ≡ w.state.two_columns → KeepsDouble w (if not t then Ship.ship p (one c) w else (if f then Ship.keep_left c w else Ship.ship_pair p c w))
-      by_columns false f e k = same-double w (Ship.ship p (one c) w) (ship-double p (one c) w) k
-      by_columns true true e k = same-double w (Ship.keep_left c w) refl refl
-      by_columns true false e k = two-columns w (Ship.ship_pair p c w) e k (λ h. pair-wide p c w)
+      by_columns : (t f : Bool) → w.state.two_columns ≡ t → (if not t then Pages.ship p (one c) w else (if f then Pages.keep_left c w else Pages.ship_pair p c w)).state.two_columns ≡ w.state.two_columns → KeepsDouble w (if not t then Pages.ship p (one c) w else (if f then Pages.keep_left c w else Pages.ship_pair p c w))
+      by_columns false f e k = same-double w (Pages.ship p (one c) w) (ship-double p (one c) w) k
+      by_columns true true e k = same-double w (Pages.keep_left c w) refl refl
+      by_columns true false e k = two-columns w (Pages.ship_pair p c w) e k (λ h. pair-wide p c w)
 
   abbrev Any : Float → Type 0
   Any f = Unit {0}
 
-  put_out-double : (c : PlainColumn) (w : Work) → KeepsDouble w (Ship.put_out p c w)
+  put_out-double : (c : PlainColumn) (w : Work) → KeepsDouble w (Pages.put_out p c w)
   put_out-double c w =
       let a = records_also (output c) w in
       let e = records-state (output c) w in
-      then-double w a (Ship.put_out p c w) (same-double w a (ap (λ s. s.floats.double) e) (ap (λ s. s.two_columns) e))
-      (then-double a (Ship.put_out_by p c a) (Ship.put_out p c w) (put_by-double c a ((follows-put_out Any p c w).columns ∙ sym (ap (λ s. s.two_columns) e))) (same-double (Ship.put_out_by p c a) (Ship.put_out p c w) refl refl))
+      then-double w a (Pages.put_out p c w) (same-double w a (ap (λ s. s.floats.double) e) (ap (λ s. s.two_columns) e))
+      (then-double a (Pages.put_out_by p c a) (Pages.put_out p c w) (put_by-double c a ((follows-put_out Any p c w).columns ∙ sym (ap (λ s. s.two_columns) e))) (same-double (Pages.put_out_by p c a) (Pages.put_out p c w) refl refl))
 
   company-double : (cs : List Choice) (w : Work) → KeepsDouble w (Columns.put_out_company p cs w)
   company-double cs w =
-      let a = Ship.with_deferred (left_floats cs) w in
+      let a = Pages.with_deferred (left_floats cs) w in
       then-double w a (Columns.put_out_company p cs w) (same-double w a refl refl) (put_out-double (single_floats_column p (column_height_of p w.state.floats) (chosen_floats cs)) a)
 
   columns_by-double : (again : Work → Work) → ((w : Work) → KeepsDouble w (again w)) → (w : Work) (o : Option (List Choice)) → KeepsDouble w (Columns.float_columns_by again p w o)
@@ -164,9 +164,9 @@ module _ (p : Params) where
       d : Work
       d = with_floats (Clear.double_again p w.state.floats) w
 
-      by_columns : (t f : Bool) → KeepsDouble w (if not t then w else (if f then Ship.all_wide_pages p true d else puts (made blank_box ∷ Clear.clear_again) w))
+      by_columns : (t f : Bool) → KeepsDouble w (if not t then w else (if f then Pages.all_wide_pages p true d else puts (made blank_box ∷ Clear.clear_again) w))
       by_columns false f = same-double w w refl refl
-      by_columns true true = no-double w (Ship.all_wide_pages p true d) (wide-double p true (length (wide_waiting p d.state.floats)) d ∙ part-double (wide_part p) (wide-waits p) (w.state.floats.double ++ wide_waiting p w.state.floats) (record w.state.floats { double = [] })) (follows-wide_pages Any p true (length (wide_waiting p d.state.floats)) d).columns
+      by_columns true true = no-double w (Pages.all_wide_pages p true d) (wide-double p true (length (wide_waiting p d.state.floats)) d ∙ part-double (wide_part p) (wide-waits p) (w.state.floats.double ++ wide_waiting p w.state.floats) (record w.state.floats { double = [] })) (follows-wide_pages Any p true (length (wide_waiting p d.state.floats)) d).columns
       by_columns true false = same-double w (puts (made blank_box ∷ Clear.clear_again) w) refl refl
 
   clear_floats-double : (body : List PlainNode) (w : Work) → KeepsDouble w (Clear.clear_floats p body w)

@@ -67,8 +67,8 @@ continues-sends e w = continues-unless w (record w { sent = w.sent ++ e ∷ [] }
 pub continues-records : (r : Recorded) (w : Work) → Continues w (records_also r w)
 continues-records r w = continues-unless w (record w { records = w.records ++ r ∷ [] }) (λ h. continues-same refl refl refl refl refl)
 
-pub continues-ship : (p : Params) (sheet : PlainSheet) (w : Work) → Continues w (Ship.ship p sheet w)
-continues-ship p sheet w = continues-unless w (if int_lt p.maxpages (pos w.state.page) then record w { refused = true } else Ship.ship_now sheet w) (λ r. continues_if w (int_lt p.maxpages (pos w.state.page)) (record w { refused = true }) (Ship.ship_now sheet w) (limited r) (now r w.refused r))
+pub continues-ship : (p : Params) (sheet : PlainSheet) (w : Work) → Continues w (Pages.ship p sheet w)
+continues-ship p sheet w = continues-unless w (if int_lt p.maxpages (pos w.state.page) then record w { refused = true } else Pages.ship_now sheet w) (λ r. continues_if w (int_lt p.maxpages (pos w.state.page)) (record w { refused = true }) (Pages.ship_now sheet w) (limited r) (now r w.refused r))
   where
     limited : w.refused ≡ false → Continues w (record w { refused = true })
     limited r = record { more = []; sent = sym (append-nil w.sent); refused = λ h. unrefused r h; classes = refl; waiting = refl }
@@ -114,42 +114,42 @@ firing-unrefused x h = unrefused-before (continues x) h
 pub continues-lists : (l : FloatLists) (w : Work) → Continues w (with_floats l w)
 continues-lists l w = continues-same refl refl refl refl refl
 
-pub continues-place_float : (p : Params) (place : Where) (f : Float) (left : FloatLists) (w : Work) → Continues w (Place.place_float p place f left w)
+pub continues-place_float : (p : Params) (place : Where) (f : Float) (left : FloatLists) (w : Work) → Continues w (FloatMoves.place_float p place f left w)
 continues-place_float p place f left w = column-continues (place_float-step p (no_law p) place f left w tt)
 
-pub continues-place_waiting : (from : Part) (p : Params) (place : Where) (f : Float) (before rest : List Float) (w : Work) → Continues w (Place.place_waiting from p place f before rest w)
+pub continues-place_waiting : (from : Part) (p : Params) (place : Where) (f : Float) (before rest : List Float) (w : Work) → Continues w (FloatMoves.place_waiting from p place f before rest w)
 continues-place_waiting from p place f before rest w = column-continues (place_waiting-step p (no_law p) from place f before rest w tt)
 
-pub continues-place_next : (p : Params) (before fs : List Float) (w : Work) → Continues w (Place.place_next p before fs w)
+pub continues-place_next : (p : Params) (before fs : List Float) (w : Work) → Continues w (FloatMoves.place_next p before fs w)
 continues-place_next p before fs w = column-continues (place_next-step p (no_law p) before fs w)
 
-pub continues-place_double : (from : Part) (p : Params) (before fs : List Float) (w : Work) → Continues w (Place.place_double from p before fs w)
+pub continues-place_double : (from : Part) (p : Params) (before fs : List Float) (w : Work) → Continues w (FloatMoves.place_double from p before fs w)
 continues-place_double from p before fs w = column-continues (place_double-step p (no_law p) from before fs w)
 
 -- ---- pages and columns
 
-pub continues-ship_wide : (p : Params) (cs : List Choice) (w : Work) → Continues w (Ship.ship_wide p cs w)
+pub continues-ship_wide : (p : Params) (cs : List Choice) (w : Work) → Continues w (Pages.ship_wide p cs w)
 continues-ship_wide p cs w = column-continues (ship_wide-step p (no_law p) cs w)
 
-pub continues-wide_pages : (p : Params) (clearing : Bool) (n : ℕ) (w : Work) → Continues w (Ship.wide_pages p clearing n w)
+pub continues-wide_pages : (p : Params) (clearing : Bool) (n : ℕ) (w : Work) → Continues w (Pages.wide_pages p clearing n w)
 continues-wide_pages p clearing n w = column-continues (wide_pages-step p (no_law p) clearing n w)
 
-pub continues-all_wide_pages : (p : Params) (clearing : Bool) (w : Work) → Continues w (Ship.all_wide_pages p clearing w)
+pub continues-all_wide_pages : (p : Params) (clearing : Bool) (w : Work) → Continues w (Pages.all_wide_pages p clearing w)
 continues-all_wide_pages p clearing w = column-continues (all_wide_pages-step p (no_law p) clearing w)
 
-pub continues-fill_double : (p : Params) (w : Work) → Continues w (Ship.fill_double p w)
+pub continues-fill_double : (p : Params) (w : Work) → Continues w (Pages.fill_double p w)
 continues-fill_double p w = column-continues (place_double-step p (no_law p) (wide_part p) [] (wide_waiting p w.state.floats) w)
 
-pub continues-ship_pair : (p : Params) (c : PlainColumn) (w : Work) → Continues w (Ship.ship_pair p c w)
+pub continues-ship_pair : (p : Params) (c : PlainColumn) (w : Work) → Continues w (Pages.ship_pair p c w)
 continues-ship_pair p c w = column-continues (ship_pair-step p (no_law p) c w)
 
-pub continues-put_out_by : (p : Params) (c : PlainColumn) (w : Work) → Continues w (Ship.put_out_by p c w)
+pub continues-put_out_by : (p : Params) (c : PlainColumn) (w : Work) → Continues w (Pages.put_out_by p c w)
 continues-put_out_by p c w = column-continues (put_out_by-step p (no_law p) c w)
 
-pub continues-after_column : (w : Work) → Continues w (Ship.after_column w)
+pub continues-after_column : (w : Work) → Continues w (Pages.after_column w)
 continues-after_column w = continues-same refl refl refl refl refl
 
-pub continues-put_out : (p : Params) (c : PlainColumn) (w : Work) → Continues w (Ship.put_out p c w)
+pub continues-put_out : (p : Params) (c : PlainColumn) (w : Work) → Continues w (Pages.put_out p c w)
 continues-put_out p c w = column-continues (put_out-step p (no_law p) c w)
 
 pub continues-put_out_text : (p : Params) (body : List PlainNode) (w : Work) → Continues w (Columns.put_out_text p body w)
@@ -209,32 +209,32 @@ continues-clear p body w = continues (clear_by-step p (no_law p) body w (footnot
 
 -- ---- a firing
 
-pub continues-hold : (body : List PlainNode) (w : Work) → Continues w (Out.hold body w)
+pub continues-hold : (body : List PlainNode) (w : Work) → Continues w (Output.hold body w)
 continues-hold body w = continues-same refl refl refl refl refl
 
-pub continues-output_by : (p : Params) (f : Fired) (w : Work) → Continues w (Out.output_by p f w)
+pub continues-output_by : (p : Params) (f : Fired) (w : Work) → Continues w (Output.output_by p f w)
 continues-output_by p f w = continues (output_by-step p (no_law p) f w)
 
-pub continues-with_goal : (g : ℤ) (w : Work) → Continues w (Out.with_goal g w)
+pub continues-with_goal : (g : ℤ) (w : Work) → Continues w (Output.with_goal g w)
 continues-with_goal g w = continues-same refl refl refl refl refl
 
-pub continues-leave_column : (w : Work) → Continues w (Out.leave_column w)
+pub continues-leave_column : (w : Work) → Continues w (Output.leave_column w)
 continues-leave_column w =
-    continues-then (continues-sends (warned (warnings.Floats w.state.page)) w) (continues-puts (if w.state.two_columns && not w.state.first_column then Out.blank_column ++ Out.blank_column else Out.blank_column) _)
+    continues-then (continues-sends (warned (warnings.Floats w.state.page)) w) (continues-puts (if w.state.two_columns && not w.state.first_column then Output.blank_column ++ Output.blank_column else Output.blank_column) _)
 
-pub continues-next_goal : (p : Params) (n : ℤ) (w : Work) → Continues w (Out.next_goal p n w)
+pub continues-next_goal : (p : Params) (n : ℤ) (w : Work) → Continues w (Output.next_goal p n w)
 continues-next_goal p n w = continues (next_goal-step p (no_law p) n w)
 
 -- a firing without what waits after it
-pub continues-page_work : (p : Params) (s : State) (f : Fired) → Continues (begun (Out.after_page s f)) (page_work p s f)
+pub continues-page_work : (p : Params) (s : State) (f : Fired) → Continues (begun (Output.after_page s f)) (page_work p s f)
 continues-page_work p s f = continues (page_work-step p (no_law p) s f)
 
 -- a whole firing
-pub out-is : (p : Params) (s : State) (f : Fired) → Out.out p s f ≡ Out.waiting_again f (page_work p s f)
-unfolding page_work Out.out
+pub out-is : (p : Params) (s : State) (f : Fired) → Output.out p s f ≡ Output.waiting_again f (page_work p s f)
+unfolding page_work Output.out
 out-is p s f = refl
 
 -- a firing sends what its work sends, is refused if that is, and keeps the classes
-pub continues-out : (p : Params) (s : State) (f : Fired) → ((Out.out p s f).sent ≡ (page_work p s f).sent) × ((Out.out p s f).refused ≡ (page_work p s f).refused) × ((Out.out p s f).state.page ≡ (page_work p s f).state.page) × ((Out.out p s f).state.classes ≡ s.classes)
-unfolding page_work Out.out
+pub continues-out : (p : Params) (s : State) (f : Fired) → ((Output.out p s f).sent ≡ (page_work p s f).sent) × ((Output.out p s f).refused ≡ (page_work p s f).refused) × ((Output.out p s f).state.page ≡ (page_work p s f).state.page) × ((Output.out p s f).state.classes ≡ s.classes)
+unfolding page_work Output.out
 continues-out p s f = (refl, refl, refl, (continues-page_work p s f).classes)

@@ -136,7 +136,7 @@ module _ (cs : List Class) (left : ℕ) where
   kept-text n p body w k =
       let a = Columns.without_column_floats w in
       let c = text_column p w.state.floats body (footnotes w.state) in
-      kept-follows n a (Ship.put_out p c a) (kept-emptied n w k) (follows-put_out AnyFloat p c a) (put_out-eases p c a)
+      kept-follows n a (Pages.put_out p c a) (kept-emptied n w k) (follows-put_out AnyFloat p c a) (put_out-eases p c a)
 
   kept-columns : (n : ℕ) (p : Params) (clearing : Bool) (w : Work) → Kept cs left n w → Kept cs left n (Columns.all_float_columns p clearing w)
   kept-columns n p clearing w k = kept-follows n w (Columns.all_float_columns p clearing w) k (follows-float_columns AnyFloat p clearing (length w.state.floats.deferred) w) (all_columns-eases p clearing w)
@@ -153,9 +153,9 @@ module _ (cs : List Class) (left : ℕ) where
   kept-wide n p w k =
       let a = with_floats (Clear.double_again p w.state.floats) w in
       kept-if (n + 6) (not w.state.two_columns) w _ (kept-more n (n + 6) w (omega arith) k)
-      (kept-if (n + 6) w.state.first_column (Ship.all_wide_pages p true a) (puts (made blank_box ∷ Clear.clear_again) w)
-      (kept-more n (n + 6) (Ship.all_wide_pages p true a) (omega arith)
-      (kept-follows n a (Ship.all_wide_pages p true a)
+      (kept-if (n + 6) w.state.first_column (Pages.all_wide_pages p true a) (puts (made blank_box ∷ Clear.clear_again) w)
+      (kept-more n (n + 6) (Pages.all_wide_pages p true a) (omega arith)
+      (kept-follows n a (Pages.all_wide_pages p true a)
       (kept-step n w a k refl refl refl (part-current AnyFloat (wide_part p) (wide-waits p) (w.state.floats.double ++ wide_waiting p w.state.floats) (record w.state.floats { double = [] })) (record { classes = refl; bottom = inl refl }))
       (follows-wide_pages AnyFloat p true (length (wide_waiting p a.state.floats)) a) (all_wide-eases p true a)))
       (kept-puts n (made blank_box ∷ Clear.clear_again) w (tt, clear-back cs) k))
@@ -188,7 +188,7 @@ module _ (cs : List Class) (left : ℕ) where
 
   -- ---- a page is held
 
-  pub kept-hold : (n : ℕ) (body : List PlainNode) (w : Work) → AreText body → Kept cs left n w → Kept cs left (n + node_count body) (Out.hold body w)
+  pub kept-hold : (n : ℕ) (body : List PlainNode) (w : Work) → AreText body → Kept cs left n w → Kept cs left (n + node_count body) (Output.hold body w)
   kept-hold n body w text k = record {
     back = k.back;
     held = text;
@@ -202,22 +202,22 @@ module _ (cs : List Class) (left : ℕ) where
 
   -- ---- the goal of the next page
 
-  kept-leave : (n : ℕ) (w : Work) → Kept cs left n w → Kept cs left (n + 4) (Out.leave_column w)
+  kept-leave : (n : ℕ) (w : Work) → Kept cs left n w → Kept cs left (n + 4) (Output.leave_column w)
   kept-leave n w k = kept-blanks (w.state.two_columns && not w.state.first_column)
     where
       told : Work
       told = sends (warned (warnings.Floats w.state.page)) w
 
-      kept-blanks : (t : Bool) → Kept cs left (n + 4) (puts (if t then Out.blank_column ++ Out.blank_column else Out.blank_column) told)
-      kept-blanks true = kept-puts n (Out.blank_column ++ Out.blank_column) told (back-append cs Out.blank_column Out.blank_column (blank-back cs) (blank-back cs)) (kept-sends n (warned (warnings.Floats w.state.page)) w k)
-      kept-blanks false = kept-more (n + 2) (n + 4) (puts Out.blank_column told) (omega arith) (kept-puts n Out.blank_column told (blank-back cs) (kept-sends n (warned (warnings.Floats w.state.page)) w k))
+      kept-blanks : (t : Bool) → Kept cs left (n + 4) (puts (if t then Output.blank_column ++ Output.blank_column else Output.blank_column) told)
+      kept-blanks true = kept-puts n (Output.blank_column ++ Output.blank_column) told (back-append cs Output.blank_column Output.blank_column (blank-back cs) (blank-back cs)) (kept-sends n (warned (warnings.Floats w.state.page)) w k)
+      kept-blanks false = kept-more (n + 2) (n + 4) (puts Output.blank_column told) (omega arith) (kept-puts n Output.blank_column told (blank-back cs) (kept-sends n (warned (warnings.Floats w.state.page)) w k))
 
-  kept-goal : (n : ℕ) (g : ℤ) (w : Work) → Kept cs left n w → Kept cs left (n + 4) (Out.with_goal g w)
-  kept-goal n g w k = kept-more n (n + 4) (Out.with_goal g w) (omega arith)
+  kept-goal : (n : ℕ) (g : ℤ) (w : Work) → Kept cs left n w → Kept cs left (n + 4) (Output.with_goal g w)
+  kept-goal n g w k = kept-more n (n + 4) (Output.with_goal g w) (omega arith)
       (record { back = k.back; held = k.held; boxes = k.boxes; classes = k.classes; entries = k.entries; notes = k.notes; bottom = k.bottom; few = k.few })
 
-  pub kept-next_goal : (n : ℕ) (p : Params) (q : ℤ) (w : Work) → Kept cs left n w → Kept cs left (n + 4) (Out.next_goal p q w)
+  pub kept-next_goal : (n : ℕ) (p : Params) (q : ℤ) (w : Work) → Kept cs left n w → Kept cs left (n + 4) (Output.next_goal p q w)
   kept-next_goal n p q w k =
       let room = column_room_of p w.state.floats in
-      kept-if (n + 4) (Out.is_int q Out.hold_penalty) (Out.with_goal max_dimen w) (Out.goal_by p room w) (kept-goal n max_dimen w k)
-      (kept-if (n + 4) (Out.is_crowded p room) (Out.leave_column w) (Out.with_goal room w) (kept-leave n w k) (kept-goal n room w k))
+      kept-if (n + 4) (Output.is_int q Output.hold_penalty) (Output.with_goal max_dimen w) (Output.goal_by p room w) (kept-goal n max_dimen w k)
+      (kept-if (n + 4) (Output.is_crowded p room) (Output.leave_column w) (Output.with_goal room w) (kept-leave n w k) (kept-goal n room w k))

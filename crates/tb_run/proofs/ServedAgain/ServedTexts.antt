@@ -105,19 +105,19 @@ bare-if w false c d h k = k
 records-bare : (r : Recorded) (w : Work) → Bare w (records_also r w)
 records-bare r w = bare-if w w.refused w (record w { records = w.records ++ r ∷ [] }) (record { back = refl; held = refl; boxes = refl }) (record { back = refl; held = refl; boxes = refl })
 
-placed-bare : (p : Params) (place : Where) (f : Float) (left : FloatLists) (w : Work) → Bare w (Place.place_float p place f left w)
+placed-bare : (p : Params) (place : Where) (f : Float) (left : FloatLists) (w : Work) → Bare w (FloatMoves.place_float p place f left w)
 placed-bare p place f left w =
     let r = records_also (placed f place w.state.floats (column_height_of p w.state.floats)) w in
-    let c : Work = if Place.is_placed place then r else w in
-    let h = bare-if w (Place.is_placed place) r w (records-bare _ w) (record { back = refl; held = refl; boxes = refl }) in
+    let c : Work = if FloatMoves.is_placed place then r else w in
+    let h = bare-if w (FloatMoves.is_placed place) r w (records-bare _ w) (record { back = refl; held = refl; boxes = refl }) in
     record { back = h.back; held = h.held; boxes = h.boxes }
 
 module _ (cs : List Class) (left : ℕ) where
   -- the float leaves the current list
-  kept-placed : (n : ℕ) (p : Params) (place : Where) (f g : Float) (es : List Entry) (w : Work) → w.state.floats.current ≡ entries.Float f ∷ es → Kept cs left n w → Kept cs left n (Place.place_float p place g (record w.state.floats { current = es }) w)
+  kept-placed : (n : ℕ) (p : Params) (place : Where) (f g : Float) (es : List Entry) (w : Work) → w.state.floats.current ≡ entries.Float f ∷ es → Kept cs left n w → Kept cs left n (FloatMoves.place_float p place g (record w.state.floats { current = es }) w)
   kept-placed n p place f g es w e k =
       let rest : FloatLists = record w.state.floats { current = es } in
-      let c = Place.place_float p place g rest w in
+      let c = FloatMoves.place_float p place g rest w in
       let h = placed-bare p place g rest w in
       let now : c.state.floats.current ≡ es = joined-current AnyFloat place g rest in
       kept-with cs left n w c k h.back h.held h.boxes (placed-eases p place g rest w)
@@ -134,18 +134,18 @@ module _ (cs : List Class) (left : ℕ) where
     kept-defer : (n : ℕ) (f : Float) (es : List Entry) (w : Work) → w.state.floats.current ≡ entries.Float f ∷ es → Kept cs left n w → Kept cs left n (Text.defer p f (record w.state.floats { current = es }) w)
     kept-defer n f es w e k =
         let rest : FloatLists = record w.state.floats { current = es } in
-        let c = Place.place_float p places.Deferred (Text.with_top f) rest w in
-        kept-if cs left n (Text.only_here f) (sends (warned (warnings.Ht f.name)) c) (Place.place_float p places.Deferred f rest w)
+        let c = FloatMoves.place_float p places.Deferred (Text.with_top f) rest w in
+        kept-if cs left n (Text.only_here f) (sends (warned (warnings.Ht f.name)) c) (FloatMoves.place_float p places.Deferred f rest w)
         (kept-sends cs left n (warned (warnings.Ht f.name)) c (kept-placed n p places.Deferred f (Text.with_top f) es w e k))
         (kept-placed n p places.Deferred f f es w e k)
 
     kept-float : (n : ℕ) (vert : Bool) (f : Float) (es : List Entry) (w : Work) (place : Where) → w.state.floats.current ≡ entries.Float f ∷ es → Kept cs left n w → Kept cs left (n + 8) (Text.float_goes p vert f (record w.state.floats { current = es }) w place)
     kept-float n vert f es w places.Here e k =
-        let c = Place.place_float p places.Here f (record w.state.floats { current = es }) w in
+        let c = FloatMoves.place_float p places.Here f (record w.state.floats { current = es }) w in
         kept-more cs left (n + 3 + 5) (n + 8) (puts (Text.here_nodes p vert f) (Text.puts_interline p c)) (omega arith)
         (kept-puts_few cs left (n + 3) 5 (Text.here_nodes p vert f) (Text.puts_interline p c) (here-back cs p runs vert f) (here-few cs p runs vert f) (kept-interline n c (kept-placed n p places.Here f f es w e k)))
-    kept-float n vert f es w places.Top e k = kept-then n (Place.place_float p places.Top f (record w.state.floats { current = es }) w) (kept-placed n p places.Top f f es w e k)
-    kept-float n vert f es w places.Bottom e k = kept-then n (Place.place_float p places.Bottom f (record w.state.floats { current = es }) w) (kept-placed n p places.Bottom f f es w e k)
+    kept-float n vert f es w places.Top e k = kept-then n (FloatMoves.place_float p places.Top f (record w.state.floats { current = es }) w) (kept-placed n p places.Top f f es w e k)
+    kept-float n vert f es w places.Bottom e k = kept-then n (FloatMoves.place_float p places.Bottom f (record w.state.floats { current = es }) w) (kept-placed n p places.Bottom f f es w e k)
     kept-float n vert f es w places.Page e k = kept-then n (Text.defer p f (record w.state.floats { current = es }) w) (kept-defer n f es w e k)
     kept-float n vert f es w places.Double e k = kept-then n (Text.defer p f (record w.state.floats { current = es }) w) (kept-defer n f es w e k)
     kept-float n vert f es w places.Deferred e k = kept-then n (Text.defer p f (record w.state.floats { current = es }) w) (kept-defer n f es w e k)

@@ -53,7 +53,7 @@ use Rattle.tb_top.proofs.ClassesRise.FloatlessNodes.{events_lines, events-lines-
 -- ---- a clear
 
 -- no page is held at a clear
-clear-frees : (b : Bool) (s : Seen) (rest : List PlainNode) (q : ℤ) → int_le eject_penalty q ≡ false → Out.is_int q Out.clear_penalty ≡ true → BreakStands b s rest (pen_sort q) → b ≡ false
+clear-frees : (b : Bool) (s : Seen) (rest : List PlainNode) (q : ℤ) → int_le eject_penalty q ≡ false → Output.is_int q Output.clear_penalty ≡ true → BreakStands b s rest (pen_sort q) → b ≡ false
 clear-frees b s rest q h k r = at-clear (b ≡ false) (BreakStands b s rest) q h k (λ r. r.1) r
 
 -- ---- acts
@@ -353,7 +353,7 @@ module _ (k : FloatKind) (Known : ℕ → Type 0) (p : Params) (released : IsRel
     careful : Careful floats_count t.held_page (fired_by (labelled z (take (page_break (page_of p s)).place (page_of p s).passed)) t.boxes (page_of p s))
     careful = page-careful floats_count kept.placed.held (labelled z (take (page_break (page_of p s)).place (page_of p s).passed)) t.boxes (page_of p s) t.held_page free stands
 
-    cleared_free : int_le eject_penalty (penalty_at (from_break (page_of p s))) ≡ false → Out.is_int (penalty_at (from_break (page_of p s))) Out.clear_penalty ≡ true → class_lines k t.held_page ≡ []
+    cleared_free : int_le eject_penalty (penalty_at (from_break (page_of p s))) ≡ false → Output.is_int (penalty_at (from_break (page_of p s))) Output.clear_penalty ≡ true → class_lines k t.held_page ≡ []
     cleared_free x y = ap (class_lines k) (free (clear-frees kept.placed.held _ _ (penalty_at (from_break (page_of p s))) x y stands.rest))
 
     fires-in-order : (rs : List Recorded) → Order k Known (class_lines k s.held_page ++ class_lines k s.waiting) (take_lines k (fired_by (labelled z (take (page_break (page_of p s)).place (page_of p s).passed)) t.boxes (page_of p s)).rest) past rs t.floats t.two_columns t.first_column t.left_column

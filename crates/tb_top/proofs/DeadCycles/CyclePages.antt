@@ -39,7 +39,7 @@ take-free (suc k) (n ∷ ns) h =
     let r : wait_cost (take k ns) ≡ 0 = take-free k ns (omega arith) in
     omega arith
 
-is-special : (q : ℤ) → Out.is_int q Out.clear_penalty ≡ true → int_le eject_penalty q ≡ false
+is-special : (q : ℤ) → Output.is_int q Output.clear_penalty ≡ true → int_le eject_penalty q ≡ false
 is-special q h = grind (arith, ints, h)
 
 module _ (p : Params) (s : State) (kept : Kept s) (ended : Ended false s.waiting) where
@@ -127,12 +127,12 @@ module _ (p : Params) (s : State) (kept : Kept s) (ended : Ended false s.waiting
     pub none-there : footnotes (record t { boxes = page.boxes }) ≡ [] → labelled z (take k w.passed) ≡ []
     none-there h = none-labelled (class_numbers s.classes) z (take k w.passed) (labelled-class (class_numbers s.classes) z [] [] (take k w.passed) tt feet.0) (subst (λ cs. GivesNone (class_numbers cs) (labelled z (take k w.passed))) same_classes (void-given (labelled z (take k w.passed)) t.classes t.boxes fit h))
 
-    pub flat : Out.is_int page.penalty Out.clear_penalty ≡ true → OneFlat page.body
+    pub flat : Output.is_int page.penalty Output.clear_penalty ≡ true → OneFlat page.body
     flat h =
         let r = subst (λ (x : Sort). BreakStands kept.placed.held (seen_all none (sorts (take k w.passed))) (with_spent_break (drop k w.passed ++ w.beyond)) x) (clear-sort page.penalty (is-special page.penalty h) h) stands.rest in
         one-flat (take k w.passed) stands.calm stands.free r.0 (clear-ended (flat_last false (take k w.passed)) (drop k w.passed ++ w.beyond) h (ended-behind false (take k w.passed) (drop k w.passed ++ w.beyond) laid-ended))
 
-    front : Out.is_int page.penalty Out.clear_penalty ≡ true → FrontFits (Clear.cleared_front p page.body)
+    front : Output.is_int page.penalty Output.clear_penalty ≡ true → FrontFits (Clear.cleared_front p page.body)
     front h = front-fits p page.body (flat h)
 
     -- if no more is known of the state than its phase
@@ -168,18 +168,18 @@ module _ (p : Params) (s : State) (kept : Kept s) (ended : Ended false s.waiting
     fits q tail f g h = fitted-fires s.goal (ask_of p s).max_depth p.topskip q _ (limit-deep deep) f low (subst (λ (x : ℤ). p.topskip ≤ℤ x) (sym g) room) s.waiting tail h s.boxes
 
     -- behind a blank column the clear's page fits
-    behind-blank : (line : ℕ) (rest : List PlainNode) → Fitted Out.clear_penalty rest (break_at line inf_penalty ∷ made whatsit ∷ made blank_box ∷ made (pen Out.clear_penalty) ∷ rest)
+    behind-blank : (line : ℕ) (rest : List PlainNode) → Fitted Output.clear_penalty rest (break_at line inf_penalty ∷ made whatsit ∷ made blank_box ∷ made (pen Output.clear_penalty) ∷ rest)
     behind-blank line rest = record { top = break_at line inf_penalty ∷ made whatsit ∷ []; box_line = 0; what = what.Blank; behind = []; line = 0; whole = refl; vanish = (tt, (tt, tt)); slim = tt; flat = refl }
 
-    known-once : Holds p s 0 once → (int_le eject_penalty fired.penalty ≡ true) × (fired.held ≡ []) × ((rest : List PlainNode) × Fitted Out.clear_penalty rest fired.rest)
+    known-once : Holds p s 0 once → (int_le eject_penalty fired.penalty ≡ true) × (fired.held ≡ []) × ((rest : List PlainNode) × Fitted Output.clear_penalty rest fired.rest)
     known-once i =
-        let x = fits eject_penalty (made whatsit ∷ made blank_box ∷ made (pen Out.clear_penalty) ∷ i.2.rest) refl i.2.goal i.2.fit in
-        (paused-ends i.1, x.held, (i.2.rest, subst (Fitted Out.clear_penalty i.2.rest) (sym x.rest) (behind-blank x.line i.2.rest)))
+        let x = fits eject_penalty (made whatsit ∷ made blank_box ∷ made (pen Output.clear_penalty) ∷ i.2.rest) refl i.2.goal i.2.fit in
+        (paused-ends i.1, x.held, (i.2.rest, subst (Fitted Output.clear_penalty i.2.rest) (sym x.rest) (behind-blank x.line i.2.rest)))
 
-    known-ready : Holds p s 0 ready → (Out.is_int fired.penalty Out.clear_penalty ≡ true) × (footnotes (record s { boxes = fired.boxes }) ≡ [])
+    known-ready : Holds p s 0 ready → (Output.is_int fired.penalty Output.clear_penalty ≡ true) × (footnotes (record s { boxes = fired.boxes }) ≡ [])
     known-ready i =
-        let x = fits Out.clear_penalty i.1.rest refl i.1.goal i.1.fit in
-        (ap (λ q. Out.is_int q Out.clear_penalty) x.penalty, ap (λ bs. notes_in s.classes bs) x.boxes ∙ i.1.void)
+        let x = fits Output.clear_penalty i.1.rest refl i.1.goal i.1.fit in
+        (ap (λ q. Output.is_int q Output.clear_penalty) x.penalty, ap (λ bs. notes_in s.classes bs) x.boxes ∙ i.1.void)
 
     pub open-well : (a : ℕ) (kind : Kind) (phase : Phase) → Again a (sorts s.waiting) → Holds p s a kind → PhaseHolds s phase → FiresWell p s (wait_cost fired.rest + sort_cost (pen_sort fired.penalty)) a kind phase fired
     open-well a kind phase r holds at = record {
@@ -209,7 +209,7 @@ module _ (p : Params) (s : State) (kept : Kept s) (ended : Ended false s.waiting
         by_halted single h e = cc
         by_halted closed h e = cc
 
-        by_once : (x : Kind) → Holds p s a x → x ≡ once → (int_le eject_penalty fired.penalty ≡ true) × (fired.held ≡ []) × ((rest : List PlainNode) × Fitted Out.clear_penalty rest fired.rest)
+        by_once : (x : Kind) → Holds p s a x → x ≡ once → (int_le eject_penalty fired.penalty ≡ true) × (fired.held ≡ []) × ((rest : List PlainNode) × Fitted Output.clear_penalty rest fired.rest)
         by_once any h e = cc
         by_once doubled h e = cc
         by_once once h e = known-once h
@@ -220,7 +220,7 @@ module _ (p : Params) (s : State) (kept : Kept s) (ended : Ended false s.waiting
         by_once single h e = cc
         by_once closed h e = cc
 
-        by_ready : (x : Kind) → Holds p s a x → x ≡ ready → (Out.is_int fired.penalty Out.clear_penalty ≡ true) × (footnotes (record s { boxes = fired.boxes }) ≡ [])
+        by_ready : (x : Kind) → Holds p s a x → x ≡ ready → (Output.is_int fired.penalty Output.clear_penalty ≡ true) × (footnotes (record s { boxes = fired.boxes }) ≡ [])
         by_ready any h e = cc
         by_ready doubled h e = cc
         by_ready once h e = cc

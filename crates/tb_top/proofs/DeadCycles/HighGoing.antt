@@ -38,7 +38,7 @@ module _ (p : Params) (m : ℕ) (calm : int_le p.interlinepenalty eject_penalty 
     page x = page_fired p s x
 
     abbrev Going : State → Type 0
-    Going x = (Out.out p x (page x)).refused ≡ false → BoundedHigh p m (Out.out p x (page x)).state × Ended false (Out.out p x (page x)).state.waiting
+    Going x = (Output.out p x (page x)).refused ≡ false → BoundedHigh p m (Output.out p x (page x)).state × Ended false (Output.out p x (page x)).state.waiting
 
     abbrev total : State → ℕ
     total x = wait_cost (page x).rest + sort_cost (pen_sort (page x).penalty)
@@ -119,7 +119,7 @@ module _ (p : Params) (m : ℕ) (calm : int_le p.interlinepenalty eject_penalty 
         sums-with : (d x y w n g q : ℕ) → x + n ≤ w → d + w + 2 * y + q ≤ m + 3 + 3 * g → d + x + 2 * y + q ≤ m + 3 + 3 * g
         sums-with d x y w n g q h i = omega arith
 
-        by_guard : (x : Stage) → StageHolds p s b.again x → x ≡ guarded → Out.is_int (page s).penalty Out.clear_penalty ≡ true → footnotes (record s { boxes = (page s).boxes }) ≡ [] → ⊥
+        by_guard : (x : Stage) → StageHolds p s b.again x → x ≡ guarded → Output.is_int (page s).penalty Output.clear_penalty ≡ true → footnotes (record s { boxes = (page s).boxes }) ≡ [] → ⊥
         by_guard loose h i c v = cc
         by_guard guarded h i c v = no-clear p s kept ended deep base high n (subst (λ (x : ℕ). Again x (sorts s.waiting)) e b.region) h.goal h.spaced (frozen_for (ask_of p s) s.classes s.boxes) c v
         by_guard cleared h i c v = cc

@@ -59,16 +59,16 @@ insertless z ls before (n ∷ ns) e = no-insertions z ls before n.line n.kind ns
 record AtClear (ns : List PlainNode) : Type 0 where
   pub line : ℕ
   pub tail : List PlainNode
-  pub whole : ns ≡ break_at line Out.clear_penalty ∷ tail
+  pub whole : ns ≡ break_at line Output.clear_penalty ∷ tail
 
-clear-int : (q : ℤ) → Out.is_int q Out.clear_penalty ≡ true → q ≡ Out.clear_penalty
+clear-int : (q : ℤ) → Output.is_int q Output.clear_penalty ≡ true → q ≡ Output.clear_penalty
 clear-int q h = grind (arith, ints, h)
 
-at-clear : (ns : List PlainNode) → Out.is_int (penalty_at ns) Out.clear_penalty ≡ true → AtClear ns
+at-clear : (ns : List PlainNode) → Output.is_int (penalty_at ns) Output.clear_penalty ≡ true → AtClear ns
 at-clear [] h = let no : false ≡ true = h in cc
 at-clear (n ∷ ns) h = by_kind n.line n.kind h
   where
-    by_kind : (l : ℕ) (x : PlainKind) → Out.is_int (penalty_at (record { line = l; kind = x } ∷ ns)) Out.clear_penalty ≡ true → AtClear (record { line = l; kind = x } ∷ ns)
+    by_kind : (l : ℕ) (x : PlainKind) → Output.is_int (penalty_at (record { line = l; kind = x } ∷ ns)) Output.clear_penalty ≡ true → AtClear (record { line = l; kind = x } ∷ ns)
     by_kind l (plain (hbox w a d)) h = let no : false ≡ true = h in cc
     by_kind l (plain (rule name a d)) h = let no : false ≡ true = h in cc
     by_kind l (plain (skip g)) h = let no : false ≡ true = h in cc
@@ -102,12 +102,12 @@ module _ (p : Params) (s : State) (kept : Kept s) (ended : Ended false s.waiting
   pub rest-spaced : Spaced true s.waiting → Spaced true (with_spent_break (drop (k p s kept ended) (w p s kept ended).passed ++ (w p s kept ended).beyond))
   rest-spaced h = spaced-spent true (drop (k p s kept ended) (w p s kept ended).passed ++ (w p s kept ended).beyond) (spaced-behind true (take (k p s kept ended) (w p s kept ended).passed) (drop (k p s kept ended) (w p s kept ended).passed ++ (w p s kept ended).beyond) (laid-spaced true h))
 
-  pub behind-spaced : Spaced true s.waiting → Out.is_int (penalty_at (drop (k p s kept ended) (w p s kept ended).passed ++ (w p s kept ended).beyond)) Out.clear_penalty ≡ true → Spaced false (with_spent_break (drop (k p s kept ended) (w p s kept ended).passed ++ (w p s kept ended).beyond))
+  pub behind-spaced : Spaced true s.waiting → Output.is_int (penalty_at (drop (k p s kept ended) (w p s kept ended).passed ++ (w p s kept ended).beyond)) Output.clear_penalty ≡ true → Spaced false (with_spent_break (drop (k p s kept ended) (w p s kept ended).passed ++ (w p s kept ended).beyond))
   behind-spaced h c = spaced-clear true (drop (k p s kept ended) (w p s kept ended).passed ++ (w p s kept ended).beyond) c (spaced-behind true (take (k p s kept ended) (w p s kept ended).passed) (drop (k p s kept ended) (w p s kept ended).passed ++ (w p s kept ended).beyond) (laid-spaced true h))
 
   -- a page whose first clear has a lasting node before it does not break there without footnotes
   module _ (deep : pos 0 ≤ℤ p.maxdepth) (base : pos 0 ≤ℤ p.textheight) (high : p.textheight <ℤ p.topskip) (n : ℕ) (again : Again (suc n) (sorts s.waiting)) (goal : s.goal ≡ p.textheight) (spaced : Spaced false s.waiting)
-      (z : Frozen) (clears : Out.is_int (page p s kept ended s refl refl refl z).penalty Out.clear_penalty ≡ true) (void : footnotes (record s { boxes = (page p s kept ended s refl refl refl z).boxes }) ≡ []) where
+      (z : Frozen) (clears : Output.is_int (page p s kept ended s refl refl refl z).penalty Output.clear_penalty ≡ true) (void : footnotes (record s { boxes = (page p s kept ended s refl refl refl z).boxes }) ≡ []) where
     abbrev r : Reach
     r = w p s kept ended
 
@@ -136,29 +136,29 @@ module _ (p : Params) (s : State) (kept : Kept s) (ended : Ended false s.waiting
     body : before ≡ one.front ++ flat_box one.line what.Blank ∷ []
     body = sym (insertless z [] [] before (none-there p s kept ended s refl refl refl z void)) ∙ one.whole
 
-    whole : pruned_nodes p.topskip s.waiting ≡ one.front ++ flat_box one.line what.Blank ∷ break_at at.line Out.clear_penalty ∷ at.tail
-    whole = laid ∙ ap (λ ns. before ++ ns) at.whole ∙ ap (λ ns. ns ++ break_at at.line Out.clear_penalty ∷ at.tail) body ∙ append_assoc one.front (flat_box one.line what.Blank ∷ []) (break_at at.line Out.clear_penalty ∷ at.tail)
+    whole : pruned_nodes p.topskip s.waiting ≡ one.front ++ flat_box one.line what.Blank ∷ break_at at.line Output.clear_penalty ∷ at.tail
+    whole = laid ∙ ap (λ ns. before ++ ns) at.whole ∙ ap (λ ns. ns ++ break_at at.line Output.clear_penalty ∷ at.tail) body ∙ append_assoc one.front (flat_box one.line what.Blank ∷ []) (break_at at.line Output.clear_penalty ∷ at.tail)
 
     top : TopShape p.topskip one.front
-    top = pruned-shape p.topskip one.line what.Blank (break_at at.line Out.clear_penalty ∷ at.tail) s.waiting one.front one.topmost whole
+    top = pruned-shape p.topskip one.line what.Blank (break_at at.line Output.clear_penalty ∷ at.tail) s.waiting one.front one.topmost whole
 
     abbrev glue_top : PlainNode
     glue_top = record { line = top.line; kind = plain (skip (top_glue p.topskip (pos 0))) }
 
-    shaped : pruned_nodes p.topskip s.waiting ≡ top.lasting ++ record { line = top.line; kind = plain (skip (top_glue p.topskip (pos 0))) } ∷ flat_box one.line what.Blank ∷ break_at at.line Out.clear_penalty ∷ at.tail
-    shaped = whole ∙ ap (λ ns. ns ++ flat_box one.line what.Blank ∷ break_at at.line Out.clear_penalty ∷ at.tail) top.whole ∙ append_assoc top.lasting (record { line = top.line; kind = plain (skip (top_glue p.topskip (pos 0))) } ∷ []) (flat_box one.line what.Blank ∷ break_at at.line Out.clear_penalty ∷ at.tail)
+    shaped : pruned_nodes p.topskip s.waiting ≡ top.lasting ++ record { line = top.line; kind = plain (skip (top_glue p.topskip (pos 0))) } ∷ flat_box one.line what.Blank ∷ break_at at.line Output.clear_penalty ∷ at.tail
+    shaped = whole ∙ ap (λ ns. ns ++ flat_box one.line what.Blank ∷ break_at at.line Output.clear_penalty ∷ at.tail) top.whole ∙ append_assoc top.lasting (record { line = top.line; kind = plain (skip (top_glue p.topskip (pos 0))) } ∷ []) (flat_box one.line what.Blank ∷ break_at at.line Output.clear_penalty ∷ at.tail)
 
     -- a lasting node comes before the clear
     has-first : HasFirst top.lasting
     has-first = by_list top.lasting (subst (Spaced false) shaped (spaced-pruned p.topskip false s.waiting spaced))
       where
-        by_list : (ls : List PlainNode) → Spaced false (ls ++ record { line = top.line; kind = plain (skip (top_glue p.topskip (pos 0))) } ∷ flat_box one.line what.Blank ∷ break_at at.line Out.clear_penalty ∷ at.tail) → HasFirst ls
+        by_list : (ls : List PlainNode) → Spaced false (ls ++ record { line = top.line; kind = plain (skip (top_glue p.topskip (pos 0))) } ∷ flat_box one.line what.Blank ∷ break_at at.line Output.clear_penalty ∷ at.tail) → HasFirst ls
         by_list [] h = let no : false ≡ true = h.1.1.0 refl in cc
         by_list (x ∷ ls) h = tt
 
     -- so the page breaks before its top glue, and the clear is behind that
     place : i ≡ length top.lasting
-    place = high-breaks s.goal (ask_of p s).max_depth p.topskip Out.clear_penalty _ (limit-deep p s kept ended deep) refl (subst (λ (x : ℤ). pos 0 ≤ℤ x) (sym goal) base) (subst (λ (x : ℤ). x <ℤ p.topskip) (sym goal) high) s.waiting top.lasting top.line one.line what.Blank at.line at.tail top.all has-first shaped
+    place = high-breaks s.goal (ask_of p s).max_depth p.topskip Output.clear_penalty _ (limit-deep p s kept ended deep) refl (subst (λ (x : ℤ). pos 0 ≤ℤ x) (sym goal) base) (subst (λ (x : ℤ). x <ℤ p.topskip) (sym goal) high) s.waiting top.lasting top.line one.line what.Blank at.line at.tail top.all has-first shaped
 
     longer : length before ≡ length top.lasting + 2
     longer = ap length (body ∙ ap (λ ns. ns ++ flat_box one.line what.Blank ∷ []) top.whole ∙ append_assoc top.lasting (record { line = top.line; kind = plain (skip (top_glue p.topskip (pos 0))) } ∷ []) (flat_box one.line what.Blank ∷ [])) ∙ long top.lasting (record { line = top.line; kind = plain (skip (top_glue p.topskip (pos 0))) } ∷ flat_box one.line what.Blank ∷ [])
