@@ -1,7 +1,7 @@
 -- Registers stay in their ranges.
-use Rattle.std.proofs.Common.{ℕ, suc, ◌≤◌, ℤ, pos, List, [], ◌∷◌, arith}
+use Rattle.std.proofs.Common.{ℕ, suc, ◌≤◌, ℤ, pos, List, [], ◌∷◌, FitsSigned, to_z, of_z, w64, arith}
 use Rattle.std.specs.List.{AllByRecursion}
-use Rattle.std.proofs.lemmas.Int.{ints}
+use Rattle.std.proofs.lemmas.Int.{ints, to_z-of_z}
 use Rattle.tb_dvi.specs.declared.command.Registers.{Registers}
 use Rattle.tb_dvi.specs.declared.command.Mode.{Mode}
 use Rattle.tb_dvi.specs.declared.command.Mode.TheVariants as modes
@@ -34,6 +34,21 @@ bounded-y k r y b e = record { h = b.h; v = b.v; w = b.w; x = b.x; y = e; z = b.
 
 pub bounded-z : (k : ℕ) (r : Registers) (z : ℤ) → IsBounded k r → IsWithin 1 z → IsBounded k (record r { z = z })
 bounded-z k r z b e = record { h = b.h; v = b.v; w = b.w; x = b.x; y = b.y; z = e }
+
+-- a register is kept as a machine word, and so are all six
+pub within-kept : (k : ℕ) (z : ℤ) → FitsSigned w64 z → IsWithin k z → IsWithin k (to_z w64 (of_z w64 z))
+within-kept k z fits w = simp to_z-of_z w
+
+pub bounded-kept : (k : ℕ) (h v w x y z : ℤ) → FitsSigned w64 h → FitsSigned w64 v → FitsSigned w64 w → FitsSigned w64 x → FitsSigned w64 y → FitsSigned w64 z → IsBounded k (record { h = h; v = v; w = w; x = x; y = y; z = z })
+    → IsBounded k (record { h = to_z w64 (of_z w64 h); v = to_z w64 (of_z w64 v); w = to_z w64 (of_z w64 w); x = to_z w64 (of_z w64 x); y = to_z w64 (of_z w64 y); z = to_z w64 (of_z w64 z) })
+bounded-kept k h v w x y z a b c d e f r = record {
+  h = within-kept k h a r.h;
+  v = within-kept k v b r.v;
+  w = within-kept 1 w c r.w;
+  x = within-kept 1 x d r.x;
+  y = within-kept 1 y e r.y;
+  z = within-kept 1 z f r.z;
+}
 
 mode-more : (k m : ℕ) (mode : Mode) → k ≤ m → IsBoundedMode k mode → IsBoundedMode m mode
 mode-more k m modes.Between e b = tt

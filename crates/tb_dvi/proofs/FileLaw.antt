@@ -1,5 +1,5 @@
 -- The lister's machine on a whole file lists exactly the placements.
-use Rattle.std.proofs.Common.{◌≡◌, refl, ◌∙◌, ap, sym, subst, ℕ, zero, suc, ◌+◌, ◌%◌, ◌^◌, ◌<◌, ℤ, pos, negsuc, FitsSigned, IfSome, All, Bool, true, false, cond, nat_lt, ◌==◌, ◌&&◌, List, [], ◌∷◌, ◌++◌, length, take, replicate, flat_map, append_assoc, append-nil, length-append, Option, Some, None, Ok, Err, arith, le-ltb, lt-ltb, eq-eqb, not-suc-le-zero, true≢false, is_some, ◌||◌}
+use Rattle.std.proofs.Common.{◌≡◌, refl, ◌∙◌, ap, sym, subst, ℕ, zero, suc, ◌+◌, ◌%◌, ◌^◌, ◌<◌, ℤ, pos, negsuc, FitsSigned, IfSome, All, Bool, true, false, cond, nat_lt, ◌==◌, ◌&&◌, List, [], ◌∷◌, ◌++◌, length, take, replicate, flat_map, append_assoc, append-nil, length-append, Option, Some, None, Ok, Err, arith, le-ltb, lt-ltb, eq-eqb, not-suc-le-zero, true≢false, is_some}
 use Rattle.std.proofs.lemmas.Int.{ints}
 use Rattle.std.specs.Prelude.{codes}
 use Rattle.std.specs.Int.{w32}

@@ -1,6 +1,6 @@
 -- Pages that are in range begin the file, whatever pages come after them.
 use Rattle.std.proofs.Common.{◌≡◌, refl, ◌∙◌, ap, sym, ℕ, ◌+◌, ℤ, pos, negsuc, Bool, true, false, cond, List, [], ◌∷◌, ◌++◌, length, Option, Some, None, append_assoc}
-use Rattle.tb_dvi.specs.File.{Page, preamble, page_bytes, pages_bytes, last_begin, has_any, post_place, post_bytes, file_front, is_too_far, first_too_far, pages_in_range}
+use Rattle.tb_dvi.specs.File.{Page, preamble, page_bytes, pages_bytes, last_begin, has_any, post_place, post_bytes, file_front, first_too_far, pages_in_range}
 use Rattle.tb_dvi.specs.Progress.{AreInRange, bytes_by, run_bytes}
 
 -- the bytes of pages begin those of more pages
