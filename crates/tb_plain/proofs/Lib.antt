@@ -1,3 +1,4 @@
+pub mod ReachLemmas
 pub mod StepLemmas
 pub mod ReasonLemmas
 pub mod OurLemmas

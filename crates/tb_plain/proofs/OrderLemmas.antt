@@ -7,13 +7,13 @@ use Rattle.tb_node.specs.declared.Float.{Float}
 use Rattle.tb_node.specs.PlainNodes.{hbox, rule, skip, kerned, pen, mark, note, whatsit, Leaf, Inserted, leaf_node, PlainKind, plain, ins, act, PlainNode, without_acts, without_insertions, on_line}
 use Rattle.tb_param.specs.declared.Params.{Params}
 use Rattle.tb_break.specs.PageTop.{pruned_nodes}
-use Rattle.tb_insert.specs.Account.{Labelled, Label, whole, split, late, labelled, terms_after}
+use Rattle.tb_insert.specs.Account.{Labelled, Label, whole, split, late, labelled}
 use Rattle.tb_builder.specs.declared.PageSums.{PageSums}
 use Rattle.tb_builder.specs.Reach.{Reach, holds_box, laid_out}
-use Rattle.tb_builder.specs.FiredPages.{Fired, page_break, spent_kind, with_spent_break, unless_empty, held_of, held_insertions, box_content, content_of, frozen_for, fired_of}
+use Rattle.tb_builder.specs.FiredPages.{Fired, page_break, spent_kind, with_spent_break, unless_empty, held_of, held_insertions, box_content, content_of, frozen_for}
 use Rattle.tb_builder.specs.Contents.{node_count}
 use Rattle.tb_builder.specs.PageSums.{page_sums_of}
-use Rattle.tb_builder.proofs.Cutting.CutLemmas.{CutAt, reach-cut}
+use Rattle.tb_builder.proofs.Cutting.CutLemmas.{CutAt}
 use Rattle.tb_column.specs.Column.{PlainSent, one, shipped, is_ragged}
 use Rattle.tb_plain.specs.GalleyNodes.{clearing_penalty}
 use Rattle.tb_plain.specs.TakenFloats.{top_insertion, top_leaves, page_leaves, here_nodes, with_float, taken_nodes, act_nodes}
@@ -21,6 +21,7 @@ use Rattle.tb_plain.specs.Firing.{feet_below, holds_any, ragged_end, makeup_colu
 use Rattle.tb_plain.specs.Run.{MakeupState, done, page_limit, node_limit, MakeupRun, MakeupStep, ends, goes_on, makeup_ask, makeup_classes, void_boxes, builder_holds, makeup_reach, AtAct, no_act, at_act, after_node, first_act_by, first_act, meets_act, act_step, waiting_after, firing_step, last_step, makeup_step, run_by, makeup_from}
 use Rattle.tb_column.proofs.PrintedLines.{printed, prints, sent_prints, prints-append, sent-append}
 use Rattle.tb_column.proofs.Within.{Within, within-same, both-within, before-within, within-front, within-within}
+use Rattle.tb_plain.proofs.ReachLemmas.{fired_here, makeup-cut}
 
 -- ---- what nodes show
 
@@ -101,9 +102,6 @@ held-prints [] = refl
 held-prints (l ∷ ls) = held_of-prints l.line l.label l.inserted (held_insertions ls) ∙ held-prints ls
 
 -- ---- a firing
-
-abbrev fired_here : Params → Reach → Fired
-fired_here p w = fired_of (makeup_ask p) (makeup_classes p) void_boxes w
 
 back-prints : (p : Params) (f : Fired) → prints (put_back_after p f) ≡ []
 back-prints p f = by_test (int_le f.penalty clearing_penalty && holds_any f.held)
@@ -231,7 +229,7 @@ step-shows p s = by_act (meets_act w.reached)
     w = makeup_reach p s
 
     cut : CutAt [] ns w
-    cut = reach-cut p.maxdepth (terms_after (frozen_for (makeup_ask p) (makeup_classes p) void_boxes)) [] ns
+    cut = makeup-cut p s
 
     parts : state_prints s ≡ prints w.passed ++ prints w.beyond
     parts =

@@ -4,16 +4,16 @@ use Rattle.std.specs.Prelude.{pred, int_lt, if◌then◌else◌}
 use Rattle.tb_node.specs.PlainNodes.{Leaf, leaf_node, PlainKind, plain, ins, act, PlainNode, without_insertions}
 use Rattle.tb_param.specs.declared.Params.{Params}
 use Rattle.tb_galley.specs.declared.Galley.{Galley}
-use Rattle.tb_insert.specs.Account.{terms_after}
 use Rattle.tb_builder.specs.Reach.{Reach, laid_out}
-use Rattle.tb_builder.specs.FiredPages.{Fired, page_break, box_content, content_of, frozen_for, fired_of}
+use Rattle.tb_builder.specs.FiredPages.{Fired, page_break, box_content, content_of}
 use Rattle.tb_builder.specs.Contents.{node_count}
-use Rattle.tb_builder.proofs.Cutting.CutLemmas.{ActFree, AllFree, acts-free, CutAt, reach-cut}
+use Rattle.tb_builder.proofs.Cutting.CutLemmas.{ActFree, AllFree, acts-free, CutAt}
 use Rattle.tb_column.specs.Column.{PlainSent, one, shipped, is_ragged}
 use Rattle.tb_column.proofs.PrintedLines.{AllPlain, SentPlain, plain-both, sent-plain, leaves-plain}
 use Rattle.tb_plain.specs.GalleyNodes.{made_up}
 use Rattle.tb_plain.specs.Firing.{feet_below, ragged_end, makeup_column_nodes, makeup_column}
-use Rattle.tb_plain.specs.Run.{MakeupState, MakeupRun, MakeupStep, ends, goes_on, page_limit, node_limit, makeup_ask, makeup_classes, void_boxes, makeup_reach, AtAct, no_act, at_act, first_act, meets_act, act_step, waiting_after, firing_step, last_step, makeup_step, run_by, makeup_from, steps_left, first_makeup, makeup_of}
+use Rattle.tb_plain.specs.Run.{MakeupState, MakeupRun, MakeupStep, ends, goes_on, page_limit, node_limit, makeup_reach, AtAct, no_act, at_act, first_act, meets_act, act_step, waiting_after, firing_step, last_step, makeup_step, run_by, makeup_from, steps_left, first_makeup, makeup_of}
+use Rattle.tb_plain.proofs.ReachLemmas.{fired_here, makeup-cut}
 
 -- ---- lists without acts
 
@@ -92,10 +92,10 @@ step-plain p s = by_step (meets_act w.reached) w.fires
     w = makeup_reach p s
 
     f : Fired
-    f = fired_of (makeup_ask p) (makeup_classes p) void_boxes w
+    f = fired_here p w
 
     cut : CutAt [] (laid_out p.topskip s.page s.waiting) w
-    cut = reach-cut p.maxdepth (terms_after (frozen_for (makeup_ask p) (makeup_classes p) void_boxes)) [] (laid_out p.topskip s.page s.waiting)
+    cut = makeup-cut p s
 
     body : AllPlain f.body
     body = body-plain (take (page_break w).place w.passed) (take-free (page_break w).place w.passed (subst AllFree (sym cut.passed) (acts-free cut.front)))

@@ -9,15 +9,16 @@ use Rattle.tb_break.specs.Best.{Breakpoint, is_stop}
 use Rattle.tb_insert.specs.Terms.{Terms}
 use Rattle.tb_insert.specs.Account.{terms_after}
 use Rattle.tb_builder.specs.Reach.{tried, Reach, also_reached, laid_out, page_place, stopped_at, reach_at_place, reach_at, reach_node, reach_from}
-use Rattle.tb_builder.specs.FiredPages.{Fired, frozen_for, fired_of}
+use Rattle.tb_builder.specs.FiredPages.{Fired, frozen_for}
 use Rattle.tb_builder.specs.Contents.{node_count}
-use Rattle.tb_builder.proofs.Cutting.CutLemmas.{CutAt, reach-cut}
+use Rattle.tb_builder.proofs.Cutting.CutLemmas.{CutAt}
 use Rattle.tb_column.specs.Column.{PlainSent, shipped, one}
 use Rattle.tb_plain.specs.GalleyNodes.{made_up}
 use Rattle.tb_plain.specs.Firing.{makeup_column}
 use Rattle.tb_plain.specs.Run.{MakeupState, MakeupEnd, done, page_limit, node_limit, MakeupRun, MakeupStep, ends, goes_on, makeup_ask, makeup_classes, void_boxes, makeup_reach, AtAct, no_act, at_act, after_node, first_act_by, first_act, meets_act, act_step, waiting_after, firing_step, last_step, makeup_step, run_by, makeup_from, one_act, act_count, steps_left, first_makeup, makeup_of}
 use Rattle.tb_plain.specs.RunSteps.{HasReason, EndsHaveReasons}
 use Rattle.tb_plain.proofs.StepLemmas.{acts-laid, Enough, Falls, step-falls, not-enough}
+use Rattle.tb_plain.proofs.ReachLemmas.{fired_here, makeup-cut}
 
 -- ---- an act that is reached waits
 
@@ -131,7 +132,7 @@ step-reason p s n none = by_act (meets_act w.reached) refl
     w = makeup_reach p s
 
     cut : CutAt [] ns w
-    cut = reach-cut p.maxdepth (terms_after (frozen_for (makeup_ask p) (makeup_classes p) void_boxes)) [] ns
+    cut = makeup-cut p s
 
     passed : act_count w.passed ≡ 0
     passed = ap act_count cut.passed ∙ none-left cut.front
@@ -141,11 +142,11 @@ step-reason p s n none = by_act (meets_act w.reached) refl
         let laid : act_count ns ≡ act_count s.page + act_count s.waiting = acts-laid p.topskip s.page s.waiting in
         true≢false (sym m ∙ none-met p.maxdepth (terms_after (frozen_for (makeup_ask p) (makeup_classes p) void_boxes)) [] ns (omega (arith, laid, none, e)))
 
-    by_fires : (t : Bool) → StepReason p s (if t then firing_step p s.number (fired_of (makeup_ask p) (makeup_classes p) void_boxes w) else last_step s w.passed)
-    by_fires true = firing-reason p s (fired_of (makeup_ask p) (makeup_classes p) void_boxes w) n
+    by_fires : (t : Bool) → StepReason p s (if t then firing_step p s.number (fired_here p w) else last_step s w.passed)
+    by_fires true = firing-reason p s (fired_here p w) n
     by_fires false = last-reason p s w.passed passed
 
-    by_act : (t : Bool) → meets_act w.reached ≡ t → StepReason p s (if t then act_step p s (first_act s.waiting) else (if w.fires then firing_step p s.number (fired_of (makeup_ask p) (makeup_classes p) void_boxes w) else last_step s w.passed))
+    by_act : (t : Bool) → meets_act w.reached ≡ t → StepReason p s (if t then act_step p s (first_act s.waiting) else (if w.fires then firing_step p s.number (fired_here p w) else last_step s w.passed))
     by_act true m = act-reason p s (first_act s.waiting) none (some m) (first-none s.waiting)
     by_act false m = by_fires w.fires
 

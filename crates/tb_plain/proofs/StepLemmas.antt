@@ -15,7 +15,7 @@ use Rattle.tb_insert.specs.Terms.{Terms}
 use Rattle.tb_insert.specs.Account.{Labelled, Label, whole, split, late, labelled, terms_after}
 use Rattle.tb_builder.specs.declared.PageSums.{PageSums}
 use Rattle.tb_builder.specs.Reach.{tried, Reach, also_reached, holds_box, laid_out, page_place, stopped_at, reach_at_place, reach_at, reach_node, reach_from}
-use Rattle.tb_builder.specs.FiredPages.{Fired, page_break, spent_kind, with_spent_break, held_of, unless_empty, held_insertions, frozen_for, reach_of, fired_of}
+use Rattle.tb_builder.specs.FiredPages.{Fired, page_break, spent_kind, with_spent_break, held_of, unless_empty, held_insertions, frozen_for, reach_of}
 use Rattle.tb_builder.specs.PageSums.{page_sums_of}
 use Rattle.tb_builder.specs.Contents.{node_count}
 use Rattle.tb_column.specs.Column.{PlainSent, shipped, one}
@@ -24,6 +24,7 @@ use Rattle.tb_plain.specs.TakenFloats.{top_insertion, top_leaves, page_leaves, h
 use Rattle.tb_plain.specs.Firing.{holds_any, makeup_column, page_for_held, put_back_after}
 use Rattle.tb_plain.specs.Run.{MakeupState, MakeupStep, ends, goes_on, makeup_ask, makeup_classes, void_boxes, builder_holds, makeup_reach, AtAct, no_act, at_act, after_node, first_act_by, first_act, meets_act, act_step, waiting_after, shipping_step, firing_step, ejecting_nodes, last_step, makeup_step, run_after, run_by, makeup_from, one_act, act_count, node_limit, page_limit, done}
 use Rattle.tb_plain.specs.RunSteps.{StepsAgree}
+use Rattle.tb_plain.proofs.ReachLemmas.{fired_here}
 
 -- ---- acts
 
@@ -166,9 +167,9 @@ back-acts p f = by_test (int_le f.penalty (negsuc 19999) && holds_any f.held)
     by_test true = refl
     by_test false = refl
 
-pub fired-acts : (p : Params) (w : Reach) → act_count (waiting_after p (fired_of (makeup_ask p) (makeup_classes p) void_boxes w)) ≤ act_count w.passed + act_count w.beyond
+pub fired-acts : (p : Params) (w : Reach) → act_count (waiting_after p (fired_here p w)) ≤ act_count w.passed + act_count w.beyond
 fired-acts p w =
-    let f = fired_of (makeup_ask p) (makeup_classes p) void_boxes w in
+    let f = fired_here p w in
     let k = (page_break w).place in
     let a : act_count (f.held ++ (put_back_after p f ++ f.rest)) ≡ act_count f.held + act_count (put_back_after p f ++ f.rest) = acts-append f.held (put_back_after p f ++ f.rest) in
     let b : act_count (put_back_after p f ++ f.rest) ≡ act_count (put_back_after p f) + act_count f.rest = acts-append (put_back_after p f) f.rest in
@@ -317,14 +318,14 @@ step-falls p s n = by_act (meets_act w.reached)
         let b : act_count (laid_out p.topskip s.page s.waiting) ≡ act_count s.page + act_count s.waiting = acts-laid p.topskip s.page s.waiting in
         omega arith
 
-    fired : act_count (waiting_after p (fired_of (makeup_ask p) (makeup_classes p) void_boxes w)) ≤ all_acts s
-    fired = let a : act_count (waiting_after p (fired_of (makeup_ask p) (makeup_classes p) void_boxes w)) ≤ act_count w.passed + act_count w.beyond = fired-acts p w in let b = acts in omega arith
+    fired : act_count (waiting_after p (fired_here p w)) ≤ all_acts s
+    fired = let a : act_count (waiting_after p (fired_here p w)) ≤ act_count w.passed + act_count w.beyond = fired-acts p w in let b = acts in omega arith
 
-    by_fires : (t : Bool) → w.fires ≡ t → Falls p s (if t then firing_step p s.number (fired_of (makeup_ask p) (makeup_classes p) void_boxes w) else last_step s w.passed)
-    by_fires true e = firing-falls p s (fired_of (makeup_ask p) (makeup_classes p) void_boxes w) n fired
+    by_fires : (t : Bool) → w.fires ≡ t → Falls p s (if t then firing_step p s.number (fired_here p w) else last_step s w.passed)
+    by_fires true e = firing-falls p s (fired_here p w) n fired
     by_fires false e = last-falls p s w.passed n (let b = acts in omega arith) (λ x. true≢false (sym (ejected-fires p s x) ∙ e))
 
-    by_act : (t : Bool) → Falls p s (if t then act_step p s (first_act s.waiting) else (if w.fires then firing_step p s.number (fired_of (makeup_ask p) (makeup_classes p) void_boxes w) else last_step s w.passed))
+    by_act : (t : Bool) → Falls p s (if t then act_step p s (first_act s.waiting) else (if w.fires then firing_step p s.number (fired_here p w) else last_step s w.passed))
     by_act true = act-falls p s (first_act s.waiting) n refl (first-has s.waiting)
     by_act false = by_fires w.fires refl
 

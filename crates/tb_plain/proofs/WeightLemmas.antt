@@ -11,11 +11,11 @@ use Rattle.tb_param.specs.declared.Params.{Params}
 use Rattle.tb_insert.specs.Account.{Labelled, labelled, terms_after}
 use Rattle.tb_builder.specs.declared.PageSums.{PageSums}
 use Rattle.tb_builder.specs.Reach.{Reached, acted, tried, Reach, laid_out}
-use Rattle.tb_builder.specs.FiredPages.{Fired, page_break, given_to, is_given, content_of, box_content, box_after, frozen_for, fired_of}
+use Rattle.tb_builder.specs.FiredPages.{Fired, page_break, given_to, is_given, content_of, box_content, box_after, frozen_for}
 use Rattle.tb_builder.specs.Contents.{node_count}
 use Rattle.tb_builder.specs.PageSums.{page_sums_of}
 use Rattle.tb_builder.proofs.FiredPages.PageWeights.{laid_out-weight, acted_weight, reach-weight, boxes_weight, fired-weight, labelled-class}
-use Rattle.tb_builder.proofs.Cutting.CutLemmas.{CutAt, reach-cut, class-both, class-take, class-drop, class-passed, spent-class}
+use Rattle.tb_builder.proofs.Cutting.CutLemmas.{CutAt, class-both, class-take, class-drop, class-passed, spent-class}
 use Rattle.tb_column.specs.Column.{one, PlainSent, warned, shipped, is_ragged}
 use Rattle.tb_report.specs.RunTotals.{sheet_nodes}
 use Rattle.tb_plain.specs.GalleyNodes.{clearing_penalty}
@@ -23,6 +23,7 @@ use Rattle.tb_plain.specs.TakenFloats.{top_insertion, top_leaves, page_leaves, h
 use Rattle.tb_plain.specs.Firing.{feet_below, holds_any, ragged_end, makeup_column_nodes, makeup_column, page_for_held, put_back_after}
 use Rattle.tb_plain.specs.Run.{MakeupState, done, page_limit, node_limit, MakeupRun, MakeupStep, ends, goes_on, makeup_ask, makeup_classes, void_boxes, builder_holds, makeup_reach, AtAct, no_act, at_act, after_node, first_act_by, first_act, meets_act, act_step, waiting_after, firing_step, last_step, makeup_step, run_by, makeup_from}
 use Rattle.tb_plain.proofs.OurLemmas.{ours, AllOurs, ours-laid, held-ours}
+use Rattle.tb_plain.proofs.ReachLemmas.{fired_here, makeup-cut}
 
 -- ---- the boxes
 
@@ -70,9 +71,6 @@ back-weight v p f = by_test (int_le f.penalty clearing_penalty && holds_any f.he
     by_test : (t : Bool) → nodes_weight v (if t then page_for_held p else []) ≡ 0
     by_test true = refl
     by_test false = refl
-
-abbrev fired_here : Params → Reach → Fired
-fired_here p w = fired_of (makeup_ask p) (makeup_classes p) void_boxes w
 
 -- the page that ships and what waits then weigh as what was passed and what lay beyond
 makes-weight : (v : Weight) (p : Params) (w : Reach) → AllOurs w.passed → nodes_weight v (makeup_column_nodes p (fired_here p w)) + nodes_weight v (waiting_after p (fired_here p w)) ≡ nodes_weight v w.passed + nodes_weight v w.beyond
@@ -223,7 +221,7 @@ step-keeps v p s none all = by_act (meets_act w.reached) refl
     w = makeup_reach p s
 
     cut : CutAt [] ns w
-    cut = reach-cut p.maxdepth (terms_after (frozen_for (makeup_ask p) (makeup_classes p) void_boxes)) [] ns
+    cut = makeup-cut p s
 
     both : AllOurs w.passed × AllOurs w.beyond
     both = class-passed ours ns w cut (ours-laid p.topskip s.page s.waiting all.0 all.1)
