@@ -8,3 +8,4 @@ pub mod PageTopLemmas
 pub mod PlacesLemmas
 pub mod LegalLemmas
 pub mod LastLemmas
+pub mod CostLemmas

@@ -35,11 +35,12 @@ pub fn page_badness(s: &Sums, goal: i64) -> i64
     ensures value { result ≡ page_badness s.now goal }
     ensures low { pos 0 ≤ℤ result }
 {
-    if s.total < goal {
+    let missing = goal - s.total;
+    if missing > 0 {
         if is_infinite(&s.stretch) {
             return 0;
         }
-        return badness(goal - s.total, finite(&s.stretch));
+        return badness(missing, finite(&s.stretch));
     }
     if s.total - goal > s.shrink {
         AWFUL_BAD

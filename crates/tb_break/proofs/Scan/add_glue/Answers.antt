@@ -20,4 +20,4 @@ invariant_of-self c =
     let st : FitsSigned w64 c.args.g.stretch = search rules in
     let sh : FitsSigned w64 c.args.g.shrink = search rules in
     let is = simp to_z-of_z at c.add_glue.ensures in
-    (c.self.invariant.0, added_small c.args.self.now _ _ _ _ (glue c.args.g) c.self.view_is is c.requires.fits)
+    (c.self.invariant.0, added_small c.args.self.now _ _ _ _ (glue c.args.g) c.self.view_is is c.requires.fits, c.self.invariant.2)
