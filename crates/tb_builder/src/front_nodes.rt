@@ -34,6 +34,7 @@ fn is_insertion(n: &Node) -> bool
 }
 
 /// The place of the first insertion of a list.
+#[inline(never)]
 pub fn insertion_place(store: &Lists<Node>, l: ListId) -> Option<usize>
     requires { IsLive store.now l }
     ensures some { IfSome result (λ k. InsertionAt (list_at store.now l) k) }

@@ -1,9 +1,9 @@
 //! A page is filled: the waiting nodes go on it one by one, up to the next event.
 
-ghost use Rattle.std.specs.Prelude.{◌≡◌, ◌<◌, ◌≤◌, ◌+◌, List, [], ◌∷◌, ◌++◌, true, false, Some, None, IsSome, IfOk, OnOk, OnErr, slice_get, length, drop};
+ghost use Rattle.std.specs.Prelude.{◌≡◌, ◌<◌, ◌≤◌, ◌+◌, List, [], ◌∷◌, ◌++◌, true, false, not, Some, None, IsSome, IfOk, OnOk, OnErr, slice_get, length, drop};
 ghost use Rattle.tb_pool.specs.Lists.{list_at};
 ghost use Rattle.tb_node.specs.declared.Node.{Node as NodeOf};
-ghost use Rattle.tb_node.specs.Shape.{is_box};
+ghost use Rattle.tb_node.specs.Shape.{is_box, is_discardable};
 ghost use Rattle.tb_node.specs.SmallAmounts.{IsSmall, IsSmallShape};
 ghost use Rattle.tb_node.specs.PlainNodes.{shape_of, plain_of, PlainNode};
 ghost use Rattle.tb_node.specs.NodeSums.{added_node};
@@ -31,8 +31,8 @@ use crate::fronts::move_front;
 use crate::sizes::list_size;
 use crate::{Ask, Builder, Event, Seen};
 use std::alloc::AllocError;
-use tb_break::{is_box, is_lasting, place_penalty, top_node};
-use tb_node::{Insertion, Node, Role};
+use tb_break::{is_box, place_penalty, top_node};
+use tb_node::{Insertion, Kind, Node, Role};
 use tb_pool::Lists;
 
 impl Builder {
@@ -268,6 +268,10 @@ impl Builder {
     {
         while let Some(n) = store.get(self.waiting, 0) {
             if !self.goes_on(n) {
+                if self.vanishes(n) {
+                    drop_first(store, self.waiting);
+                    continue;
+                }
                 let n = *n;
                 if let Some(event) = self.turn(store, ask, &n) {
                     return event;
@@ -281,6 +285,16 @@ impl Builder {
         Event::Empty
     }
 
+    // Whether the node is glue, a kern or a penalty before the first box of the page.
+    fn vanishes(&self, n: &Node) -> bool
+        ensures closed { result ≡ true → self.now.opened ≡ false }
+        ensures gone { result ≡ true → not (is_discardable (shape_of n.now)) ≡ false }
+        ensures no_insertion { result ≡ true → insertion_of_kind n.now.kind ≡ None }
+        ensures stays { result ≡ false → self.now.opened ≡ false → not (is_discardable (shape_of n.now)) ≡ true }
+    {
+        !self.opened && matches!(n.kind, Kind::Skip(_) | Kind::Kern(_) | Kind::Pen(_))
+    }
+
     // Whether the page is laid out, and the node is no act and no insertion.
     fn goes_on(&self, n: &Node) -> bool
         ensures opened { result ≡ true → self.now.opened ≡ true }
@@ -290,8 +304,7 @@ impl Builder {
         self.opened && matches!(n.role(), Role::Matter)
     }
 
-    // The first waiting node goes on the page, vanishes or is handed out, or the place before it is a stop. Each node
-    // comes by here, so rare cases have functions of their own.
+    // The first waiting node, which does not vanish, goes on the page or is handed out, or the place before it is a stop.
     #[inline(never)]
     fn turn(&mut self, store: &mut Lists<Node>, ask: &Ask, n: &Node) -> Option<Event>
         requires sound { IsSound self.old store.old }
@@ -299,6 +312,7 @@ impl Builder {
         requires fits { NextFits (contents_of self.old store.old) ask.now }
         requires room { self.old.opened ≡ false → 0 < store.old.spare }
         requires first { slice_get (list_at store.old self.old.waiting) 0 ≡ Some n.now }
+        requires stays { self.old.opened ≡ false → not (is_discardable (shape_of n.now)) ≡ true }
         ensures { TurnIs self.old store.old ask.now result self.new store.new }
     {
         match n.role() {
@@ -319,7 +333,7 @@ impl Builder {
         }
     }
 
-    // On a page without a box, the first waiting node is no act and no insertion.
+    // On a page without a box, the first waiting node is no act and no insertion, and does not vanish.
     fn begin(&mut self, store: &mut Lists<Node>, ask: &Ask, n: &Node) -> Option<Event>
         requires sound { IsSound self.old store.old }
         requires on { self.old.stopped ≡ false }
@@ -329,6 +343,7 @@ impl Builder {
         requires first { slice_get (list_at store.old self.old.waiting) 0 ≡ Some n.now }
         requires no_act { act_of_kind n.now.kind ≡ None }
         requires no_insertion { insertion_of_kind n.now.kind ≡ None }
+        requires stays { not (is_discardable (shape_of n.now)) ≡ true }
         ensures { TurnIs self.old store.old ask.now result self.new store.new }
     {
         if is_box(n) {
@@ -397,8 +412,7 @@ impl Builder {
         store.move_first(self.waiting, self.page);
     }
 
-    // On a page without a box, the first waiting node is no box, insertion or act: a mark, a note or a whatsit goes on
-    // the page, and glue, a kern or a penalty vanishes.
+    // On a page without a box, the first waiting node is a mark, a note or a whatsit: it goes on the page.
     fn pass(&mut self, store: &mut Lists<Node>, ask: &Ask, n: &Node)
         requires sound { IsSound self.old store.old }
         requires on { self.old.stopped ≡ false }
@@ -407,14 +421,11 @@ impl Builder {
         requires no_act { act_of_kind n.now.kind ≡ None }
         requires no_insertion { insertion_of_kind n.now.kind ≡ None }
         requires no_box { is_box (shape_of n.now) ≡ false }
+        requires stays { not (is_discardable (shape_of n.now)) ≡ true }
         ensures { TurnIs self.old store.old ask.now None self.new store.new }
     {
-        if is_lasting(n) {
-            self.course.lasting = true;
-            store.move_first(self.waiting, self.page);
-            return;
-        }
-        drop_first(store, self.waiting);
+        self.course.lasting = true;
+        store.move_first(self.waiting, self.page);
     }
 
     // Takes one step with the first waiting node on a page that is laid out, which is no act and no insertion. Returns

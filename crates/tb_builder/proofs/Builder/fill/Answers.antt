@@ -9,6 +9,11 @@ use Rattle.tb_builder.specs.Courses.{kept_frozen}
 use Rattle.tb_builder.specs.PageTurns.{StepFits, TurnIs, event_of}
 use Rattle.tb_builder.proofs.Turns.FillLemmas.{first_is}
 use Rattle.tb_builder.proofs.Events.FilledLemmas.{filled_empty, filled_now, filled_later, fits_after, none_first, open_underway, open_fits, open_turn}
+use Rattle.tb_builder.specs.Ownership.{ids_of}
+use Rattle.tb_builder.proofs.Turns.MoveLemmas.{written_drop}
+use Rattle.tb_builder.proofs.Turns.FreezeLemmas.{no_inner}
+use Rattle.tb_builder.proofs.Turns.MeetLemmas.{passed_gone}
+use Rattle.tb_builder.proofs.Builder.fill.Goals.{After-drop_first}
 use Rattle.tb_builder.proofs.Builder.fill.Goals as goal
 
 more_room : {a b : ℕ} → a ≤ b → 0 < a → 0 < b
@@ -27,6 +32,36 @@ loop-n-preserved-then-not-goes_on c =
       fits = fits_after (contents_of c.loop-n.self c.loop-n.store) (contents_of c.turn.new.self c.turn.new.store) c.args.ask.now c.loop-n.invariant.fits t.stays t.turned;
       room = λ closed. more_room (t.room refl closed).1 (c.loop-n.invariant.room (t.room refl closed).0);
       later = λ e x y h. c.loop-n.invariant.later e x y (filled_later c.loop-n.self c.turn.new.self x c.loop-n.store c.turn.new.store y c.args.ask.now e t h);
+    }
+
+-- the turn in which the first node vanishes
+gone_turn : (c : After-drop_first) → TurnIs c.loop-n.self c.loop-n.store c.args.ask.now None c.loop-n.self c.drop_first.new.store
+gone_turn c =
+    let b = c.loop-n.self in
+    let s = c.loop-n.store in
+    let n = c.in-Some.n.now in
+    let away = c.if-vanishes.true in
+    let f = first_is (list_at s b.waiting) n (sym c.in-Some.ensures) in
+    passed_gone b b s c.drop_first.new.store c.args.ask.now n f.0 c.loop-n.invariant.sound refl f.1 refl refl c.loop-n.invariant.on refl refl (c.vanishes.ensures.closed away)
+    (written_drop (ids_of b) s c.drop_first.new.store n f.0 c.loop-n.invariant.sound.own f.1 (no_inner n.kind (c.vanishes.ensures.no_insertion away)) (c.drop_first.ensures.rest n f.0 f.1)) c.drop_first.ensures.spare
+    (c.vanishes.ensures.gone away)
+
+pub loop-n-smaller-then-vanishes : goal.loop-n-smaller-then-vanishes
+loop-n-smaller-then-vanishes c = (gone_turn c).shorter refl
+
+pub loop-n-preserved-then-vanishes : goal.loop-n-preserved-then-vanishes
+loop-n-preserved-then-vanishes c =
+    let b = c.loop-n.self in
+    let s = c.loop-n.store in
+    let y = c.drop_first.new.store in
+    let ask = c.args.ask.now in
+    let t = gone_turn c in
+    record {
+      sound = t.sound;
+      on = t.turned.stopped;
+      fits = fits_after (contents_of b s) (contents_of b y) ask c.loop-n.invariant.fits t.stays t.turned;
+      room = λ closed. more_room (t.room refl closed).1 (c.loop-n.invariant.room (t.room refl closed).0);
+      later = λ e x z h. c.loop-n.invariant.later e x z (filled_later b b x s y z ask e t h);
     }
 
 pub step-requires-clause-underway : goal.step-requires-clause-underway
