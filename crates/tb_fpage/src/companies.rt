@@ -1,9 +1,9 @@
 //! The heads of companies: one walk over the floats that wait finds them, and a walk from each gathers its company; the
 //! same walk marks the company that makes the column.
-ghost use Rattle.std.specs.Prelude.{◌≡◌, ◌≤◌, ◌<◌, List, [], length, map, take, slice_get, slice_set, Some, None, IfSome, IfNone, OnSome, true, false, ◌||◌, int_lt};
+ghost use Rattle.std.specs.Prelude.{◌≡◌, ◌≤◌, ◌<◌, ◌∷◌, ◌++◌, IsTrue, List, [], length, map, take, slice_get, slice_set, Some, None, IfSome, IfNone, OnSome, true, false, ◌||◌, int_lt};
 ghost use Rattle.tb_node.specs.declared.Float.{Float as PlainFloat};
-ghost use Rattle.tb_float.specs.Classes.{AreClassesOf, HasLeft};
-ghost use Rattle.tb_float.specs.Lists.{IsWaiting, floats_of};
+ghost use Rattle.tb_float.specs.Classes.{AreClassesOf, AreOfClasses, HasLeft};
+ghost use Rattle.tb_float.specs.Lists.{IsWaiting, floats_of, has_class};
 ghost use Rattle.tb_float.specs.Pool.{marked_floats, marks_of, with_marks_of};
 ghost use Rattle.tb_float.specs.Shelves.{is_float};
 ghost use Rattle.tb_fpage.specs.Company.{Choice, company, company_height, is_head};
@@ -34,9 +34,6 @@ pub(crate) fn first_company(pool: &Pool, wanted: &Wanted, from: Part) -> Option<
     let mut earlier = pool.no_classes();
     let mut place = 0;
     for entry in pool.entries(from) {
-        if earlier.is_full() {
-            return None;
-        }
         let f = float_in(entry);
         if let Some(last) = made_at(pool, wanted, from, place, &earlier, f) {
             return Some(Company {
@@ -44,10 +41,24 @@ pub(crate) fn first_company(pool: &Pool, wanted: &Wanted, from: Part) -> Option<
                 last,
             });
         }
-        earlier.add(f.class);
+        if fills(&mut earlier, f.class) {
+            return None;
+        }
         place += 1;
     }
     None
+}
+
+// The class is in the set from now on; true only if the set is full by it. A class that was there already fills nothing, so
+// that most floats cost no look at what is left.
+fn fills(set: &mut ClassSet, class: u8) -> bool
+    ensures full { IsTrue result → (fs all : List PlainFloat) → AreClassesOf set.new fs → HasLeft set.new all → AreOfClasses fs all }
+    ensures classes { (fs : List PlainFloat) (f : PlainFloat) → f.class ≡ class → AreClassesOf set.old fs → AreClassesOf set.new (fs ++ f ∷ []) }
+    ensures left { (all : List PlainFloat) → has_class class all ≡ true → HasLeft set.old all → HasLeft set.new all }
+{
+    let had = set.has(class);
+    set.add(class);
+    !had && set.is_full()
 }
 
 // Up to which place the company of the float at a place reaches, if that is a head and its company is made; the set has the

@@ -1,4 +1,4 @@
-use Rattle.std.proofs.Common.{◌≡◌, List, true, false, take, sym, subst, refl, ◌∙◌, FitsSigned, w64, arith, rules}
+use Rattle.std.proofs.Common.{◌≡◌, ◌+◌, List, true, false, take, sym, subst, refl, ◌∙◌, FitsSigned, w64, arith, rules}
 use Rattle.std.proofs.lemmas.Int.{ints}
 use Rattle.tb_node.specs.declared.Float.{Float}
 use Rattle.tb_float.specs.Lists.{floats_of}
@@ -56,8 +56,8 @@ loop-entry-preserved c =
     record {
       can_next = tt;
       is_finite = tt;
-      tried = (next.0, next.1, tried-next z c.loop-entry.earlier c.add.new.self place all next.0 f t none (c.add.ensures.classes (take place all) f refl t.classes));
-      left = c.add.ensures.left all (has-there all place f (tried-there z c.loop-entry.earlier place all next.0 f t)) c.loop-entry.invariant.left;
+      tried = (next.0, next.1, tried-next z c.loop-entry.earlier c.fills.new.set place all next.0 f t none (c.fills.ensures.classes (take place all) f refl t.classes));
+      left = c.fills.ensures.left all (has-there all place f (tried-there z c.loop-entry.earlier place all next.0 f t)) c.loop-entry.invariant.left;
     }
 
 pub returns-clause-none : goal.returns-clause-none
@@ -67,10 +67,17 @@ returns-clause-none c =
     let none = no-float way.0 (sym c.in-None.ensures.steps.0 ∙ way.1) in
     tried-end c.args.wanted.now c.loop-entry.earlier c.loop-entry.place all (subst (λ (fs : List Float). AreTried c.args.wanted.now c.loop-entry.earlier c.loop-entry.place all fs) none way.2)
 
-pub returns-then-is_full-clause-none : goal.returns-then-is_full-clause-none
-returns-then-is_full-clause-none c =
+pub returns-then-fills-clause-none : goal.returns-then-fills-clause-none
+returns-then-fills-clause-none c =
     let way = c.loop-entry.invariant.tried in
-    let all = floats_of c.args.from c.args.pool.now.lists in
+    let z = c.args.wanted.now in
+    let f = c.float_in-f.result.now in
     let place = c.loop-entry.place in
-    let full = c.is_full.ensures c.if-is_full.true (take place all) all way.2.classes c.loop-entry.invariant.left in
-    tried-full c.args.wanted.now c.loop-entry.earlier place all way.0 way.2 full
+    let all = floats_of c.args.from c.args.pool.now.lists in
+    let next = next-float c.in-Some.entry.now c.next.new.self way.0 f (sym c.in-Some.ensures.steps ∙ way.1) c.float_in-f.ensures in
+    let t = subst (λ (fs : List Float). AreTried z c.loop-entry.earlier place all fs) next.2 way.2 in
+    let none : is_made_at z place all f ≡ false = c.in_default.ensures.none in
+    let after = tried-next z c.loop-entry.earlier c.fills.new.set place all next.0 f t none (c.fills.ensures.classes (take place all) f refl t.classes) in
+    let left = c.fills.ensures.left all (has-there all place f (tried-there z c.loop-entry.earlier place all next.0 f t)) c.loop-entry.invariant.left in
+    let full = c.fills.ensures.full c.if-fills.true (take (place + 1) all) all after.classes left in
+    tried-full z c.fills.new.set (place + 1) all next.0 after full
