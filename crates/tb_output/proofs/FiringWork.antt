@@ -5,4 +5,5 @@ pub mod KeepLemmas
 pub mod WorkingLemmas
 pub mod StepLemmas
 pub mod StandLemmas
+pub mod BesideLemmas
 pub mod BuilderLemmas

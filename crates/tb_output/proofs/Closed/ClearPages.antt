@@ -17,7 +17,7 @@ use Rattle.tb_builder.proofs.ForLaws.PausedPages.{Paused, calm-both}
 use Rattle.tb_output.specs.Clear
 use Rattle.tb_output.specs.Output
 use Rattle.tb_output.proofs.Closed.Sorts.{kind_sort, sorts, sorts-calm, none, one, seen_all}
-use Rattle.tb_output.proofs.Closed.SortLemmas.{never-one}
+use Rattle.tb_output.proofs.Closed.SortLemmas.{never-one, behind-one}
 use Rattle.tb_output.proofs.DeadCycles.AgainLemmas.{Idle}
 use Rattle.tb_output.proofs.DeadCycles.WaitCosts.{kind_cost, wait_cost}
 use Rattle.tb_output.proofs.DeadCycles.EndedLemmas.{is_flat, EndsAt, Ended, flat_last}
@@ -35,26 +35,6 @@ one-more n ns t c h = record { front = n ∷ h.front; line = h.line; whole = ap 
 
 zero-of : (z : ℤ) → is_zero z ≡ true → z ≡ pos 0
 zero-of z h = grind (arith, ints, h)
-
--- after a blank box nothing comes
-behind-one : (ns : List PlainNode) → AllCalm ns → AllFree ns → seen_all one (sorts ns) ≡ one → ns ≡ []
-behind-one [] c f e = refl
-behind-one (n ∷ ns) c f e = absurd (behind n.kind c.0 f.0 e)
-  where
-    behind : (k : PlainKind) → Calm k → ActFree k → seen_all one (kind_sort k ∷ sorts ns) ≡ one → ⊥
-    behind (plain (hbox (what.Text name) h d)) a g e = never-one (sorts ns) (sorts-calm ns c.1) e
-    behind (plain (hbox what.Blank h d)) a g e = never-one (sorts ns) (sorts-calm ns c.1) e
-    behind (plain (hbox (what.Float name class place item) h d)) a g e = never-one (sorts ns) (sorts-calm ns c.1) e
-    behind (plain (hbox (what.Margin name side shift height depth item) h d)) a g e = never-one (sorts ns) (sorts-calm ns c.1) e
-    behind (plain (rule name h d)) a g e = never-one (sorts ns) (sorts-calm ns c.1) e
-    behind (plain (skip w)) a g e = never-one (sorts ns) (sorts-calm ns c.1) e
-    behind (plain (kerned w)) a g e = never-one (sorts ns) (sorts-calm ns c.1) e
-    behind (plain (pen p)) a g e = never-one (sorts ns) (sorts-calm ns c.1) (rw a at e)
-    behind (plain (mark name)) a g e = never-one (sorts ns) (sorts-calm ns c.1) e
-    behind (plain (note name)) a g e = never-one (sorts ns) (sorts-calm ns c.1) e
-    behind (plain whatsit) a g e = never-one (sorts ns) (sorts-calm ns c.1) e
-    behind (ins i) a g e = never-one (sorts ns) (sorts-calm ns c.1) e
-    behind (act x) a g e = g
 
 flat-node : (l : ℕ) (h d : ℤ) (ns : List PlainNode) → ns ≡ [] → flat_last (is_flat (plain (hbox what.Blank h d))) ns ≡ true → OneFlat (record { line = l; kind = plain (hbox what.Blank h d) } ∷ without_insertions ns)
 flat-node l h d [] e z =

@@ -87,9 +87,10 @@ never-one (serve ∷ xs) c e = absurd c.0
 never-one (clear ∷ xs) c e = absurd c.0
 never-one (odd ∷ xs) c e = absurd c.0
 
-one-rest : (v : Weight) (ns : List PlainNode) → AllCalm ns → AllFree ns → seen_all one (sorts ns) ≡ one → nodes_weight v (without_insertions ns) ≡ 0
-one-rest v [] c f e = refl
-one-rest v (n ∷ ns) c f e = absurd (behind n.kind c.0 f.0 e)
+-- after a blank box nothing comes
+pub behind-one : (ns : List PlainNode) → AllCalm ns → AllFree ns → seen_all one (sorts ns) ≡ one → ns ≡ []
+behind-one [] c f e = refl
+behind-one (n ∷ ns) c f e = absurd (behind n.kind c.0 f.0 e)
   where
     behind : (k : PlainKind) → Calm k → ActFree k → seen_all one (kind_sort k ∷ sorts ns) ≡ one → ⊥
     behind (plain (hbox (what.Text name) h d)) a g e = never-one (sorts ns) (sorts-calm ns c.1) e
@@ -105,6 +106,9 @@ one-rest v (n ∷ ns) c f e = absurd (behind n.kind c.0 f.0 e)
     behind (plain whatsit) a g e = never-one (sorts ns) (sorts-calm ns c.1) e
     behind (ins i) a g e = never-one (sorts ns) (sorts-calm ns c.1) e
     behind (act x) a g e = g
+
+one-rest : (v : Weight) (ns : List PlainNode) → AllCalm ns → AllFree ns → seen_all one (sorts ns) ≡ one → nodes_weight v (without_insertions ns) ≡ 0
+one-rest v ns c f e = ap (λ xs. nodes_weight v (without_insertions xs)) (behind-one ns c f e)
 
 one-more : (v : Weight) (ns : List PlainNode) → AllCalm ns → AllFree ns → (seen_all none (sorts ns) ≡ one → nodes_weight v (without_insertions ns) ≡ 0) → (l : ℕ) (k : PlainKind) → Calm k → ActFree k → seen_all none (kind_sort k ∷ sorts ns) ≡ one → nodes_weight v (without_insertions (record { line = l; kind = k } ∷ ns)) ≡ 0
 one-more v ns c f h l (plain (hbox (what.Text name) x d)) a g e = absurd (never-one (sorts ns) (sorts-calm ns c) e)

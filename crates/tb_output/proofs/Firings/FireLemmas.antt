@@ -16,6 +16,7 @@ use Rattle.tb_output.specs.Machine.{MachineView, state_shown, events_shown, AreO
 use Rattle.tb_output.specs.FiringWork.{shows_boxes, shows_all, IsCutShort, Does}
 use Rattle.tb_output.specs.Firing.{fired_in, state_in, whole_work, CanFire, IsFired, fault_or_cycles, refusal_of, IsRefusal, KeepsAll}
 use Rattle.tb_output.specs.FiringParts.{served}
+use Rattle.tb_output.proofs.FiringWork.BesideLemmas.{machine-beside}
 
 -- a firing is counted
 abbrev pub counted : MachineView → MachineView
@@ -28,36 +29,10 @@ faulted e m = record m { fault = Some e }
 -- ---- what a fault and a count do not change
 
 pub counted-machine : (m : MachineView) (store : Lists Node) → IsMachine m store → IsMachine (counted m) store
-counted-machine m store is = record {
-  params = is.params;
-  classes = is.classes;
-  goal = is.goal;
-  first = is.first;
-  last = is.last;
-  pool = is.pool;
-  unmarked = is.unmarked;
-  left = is.left;
-  held_page = is.held_page;
-  left_column = is.left_column;
-  events = is.events;
-  apart = is.apart;
-}
+counted-machine m store is = machine-beside m store is m.goal is.goal (m.dead_cycles + 1) m.note_bottom m.fault
 
 pub faulted-machine : (e : RunFault) (m : MachineView) (store : Lists Node) → IsMachine m store → IsMachine (faulted e m) store
-faulted-machine e m store is = record {
-  params = is.params;
-  classes = is.classes;
-  goal = is.goal;
-  first = is.first;
-  last = is.last;
-  pool = is.pool;
-  unmarked = is.unmarked;
-  left = is.left;
-  held_page = is.held_page;
-  left_column = is.left_column;
-  events = is.events;
-  apart = is.apart;
-}
+faulted-machine e m store is = machine-beside m store is m.goal is.goal m.dead_cycles m.note_bottom (Some e)
 
 pub counted-fire : (m : MachineView) (b : Builder) (store : Lists Node) (page : Page) → CanFire m b store page → CanFire (counted m) b store page
 counted-fire m b store page h = record {

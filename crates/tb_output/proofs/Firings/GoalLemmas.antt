@@ -25,6 +25,7 @@ use Rattle.tb_output.specs.MachineFrame.{HasGrown, IsBack, KeepsBack}
 use Rattle.tb_output.proofs.FiringWork.KeepLemmas.{MayGoBack, grown-machine, grown-shows, grown-keeps, keeps-back_then, keeps-back_alone}
 use Rattle.tb_output.proofs.FiringWork.ApartLemmas.{apart-none}
 use Rattle.tb_output.proofs.Acts.WarnLemmas.{shown-joined, warned-back}
+use Rattle.tb_output.proofs.FiringWork.BesideLemmas.{machine-beside}
 use Rattle.tb_output.proofs.FiringWork.WorkingLemmas.{does-shown_with}
 
 -- ---- a column that stays blank
@@ -86,20 +87,7 @@ module _ (l : ℕ) (m : MachineView) (store new : Lists Node) (is : IsMachine m 
 module _ (l : ℕ) (m : MachineView) (store : Lists Node) (is : IsMachine m store) (back : IsBack l m store) (g : ℤ) (small : IsGoal g) where
   pub goal-keeps : KeepsBack l [] m (record m { goal = g }) store store
   goal-keeps = keeps-back_alone l m (record m { goal = g }) store
-      (record {
-        params = is.params;
-        classes = is.classes;
-        goal = small;
-        first = is.first;
-        last = is.last;
-        pool = is.pool;
-        unmarked = is.unmarked;
-        left = is.left;
-        held_page = is.held_page;
-        left_column = is.left_column;
-        events = is.events;
-        apart = is.apart;
-      })
+      (machine-beside m store is g small m.dead_cycles m.note_bottom m.fault)
       (record { params = refl; classes = refl; fault = refl }) refl back
 
   pub goal-done : Does (shows_back l m store) (shows_back l (record m { goal = g }) store) (with_goal g)

@@ -48,6 +48,7 @@ use Rattle.tb_output.specs.MachineFrame.{HasFloats, HasGrown, IsBack, back_lists
 use Rattle.tb_output.proofs.FiringWork.ApartLemmas.{apart-none}
 use Rattle.tb_output.proofs.FiringWork.KeepLemmas.{MayGoBack, keeps-back_alone, keeps-back_same}
 use Rattle.tb_output.proofs.InText.PushLemmas.{last-sized}
+use Rattle.tb_output.proofs.FiringWork.BesideLemmas.{machine-beside}
 use Rattle.tb_output.proofs.FiringWork.WorkingLemmas.{does-then, does-shown_with}
 use Rattle.tb_output.proofs.Acts.WarnLemmas.{shown-joined}
 use Rattle.tb_output.proofs.StepLaws.WorkSteps.{continues-same, continues-puts, continues-float_goes, continues-note_goes}
@@ -360,20 +361,7 @@ pub bottom-done : (l : ℕ) (m now : MachineView) (store : Lists Node) (z : ℤ)
 bottom-done l m now store z is back e = subst (λ x. Done l m x store store (with_note_bottom z)) (sym e) (record {
   does = λ before w s. does-shown_with (ShowsBack l store) (shows_back l (record m { note_bottom = z }) store) m store (with_note_bottom z)
       (λ b v sent at. (record { served = refl; sent = sent; state = refl }, at)) before w s.0 s.1;
-  keeps = keeps-back_alone l m (record m { note_bottom = z }) store (record {
-    params = is.params;
-    classes = is.classes;
-    goal = is.goal;
-    first = is.first;
-    last = is.last;
-    pool = is.pool;
-    unmarked = is.unmarked;
-    left = is.left;
-    held_page = is.held_page;
-    left_column = is.left_column;
-    events = is.events;
-    apart = is.apart;
-  }) (record { params = refl; classes = refl; fault = refl }) refl back;
+  keeps = keeps-back_alone l m (record m { note_bottom = z }) store (machine-beside m store is m.goal is.goal m.dead_cycles z m.fault) (record { params = refl; classes = refl; fault = refl }) refl back;
 })
 
 -- a note that was moved is warned of

@@ -15,6 +15,7 @@ use Rattle.tb_float.specs.Rooms.{column_height_of}
 use Rattle.tb_area.specs.Area
 use Rattle.tb_output.specs.State.{Work, Recorded, placed, records_also, with_floats}
 use Rattle.tb_output.specs.FloatMoves
+use Rattle.tb_output.proofs.StepLaws.FollowLemmas.{LeavesList, part-joined}
 use Rattle.tb_output.proofs.NothingLost.StateWeights.{floats_weight, lists_weight, left_weight, sent_weight, floats-append, Paired, Adds, then_kept, unchanged, records-adds}
 
 -- ---- moving floats
@@ -129,34 +130,6 @@ lists-with v parts.Double h fs l = absurd h
 lists-with v parts.Deferred h fs l = omega arith
 lists-with v parts.Second h fs l = omega arith
 
--- a float that joins another list leaves these as they are
-abbrev pub Leaves : Where → Type 0
-Leaves places.Here = Unit {0}
-Leaves places.Top = Unit {0}
-Leaves places.Bottom = Unit {0}
-Leaves places.Page = Unit {0}
-Leaves places.Double = Unit {0}
-Leaves places.Deferred = ⊥
-
-joined-waiting : (from : Part) → IsWaiting from → (place : Where) → Leaves place → (f : Float) (fs : List Float) (l : FloatLists) → floats_of from (FloatMoves.joined_to place f (with_floats_of from fs l)) ≡ fs
-joined-waiting parts.Current h place j f fs l = absurd h
-joined-waiting parts.Here h place j f fs l = absurd h
-joined-waiting parts.Top h place j f fs l = absurd h
-joined-waiting parts.Bottom h place j f fs l = absurd h
-joined-waiting parts.Double h place j f fs l = absurd h
-joined-waiting parts.Deferred h places.Here j f fs l = refl
-joined-waiting parts.Deferred h places.Top j f fs l = refl
-joined-waiting parts.Deferred h places.Bottom j f fs l = refl
-joined-waiting parts.Deferred h places.Page j f fs l = refl
-joined-waiting parts.Deferred h places.Double j f fs l = refl
-joined-waiting parts.Deferred h places.Deferred j f fs l = absurd j
-joined-waiting parts.Second h places.Here j f fs l = refl
-joined-waiting parts.Second h places.Top j f fs l = refl
-joined-waiting parts.Second h places.Bottom j f fs l = refl
-joined-waiting parts.Second h places.Page j f fs l = refl
-joined-waiting parts.Second h places.Double j f fs l = refl
-joined-waiting parts.Second h places.Deferred j f fs l = absurd j
-
 -- the floats that wait in a list before and after the next one
 abbrev pub Waits : Part → Weight → List Float → List Float → Work → Type 0
 Waits from v before rest w = floats_weight v (floats_of from w.state.floats) ≡ floats_weight v before + floats_weight v rest
@@ -185,8 +158,8 @@ waiting-adds from q v p place f before rest w j h = by_place place j
     paired : Paired w.state.floats.current → Paired l.current
     paired x = paired-with from q (before ++ rest) w.state.floats x
 
-    joins : (place : Where) → Joins place → Leaves place → Adds v 0 w (FloatMoves.place_float p place f l w) × (floats_weight v (floats_of from (FloatMoves.place_float p place f l w).state.floats) ≡ floats_weight v before + floats_weight v rest)
-    joins place k m = (placed-adds v p place f l w k paired lighter, ap (floats_weight v) (joined-waiting from q place m f (before ++ rest) w.state.floats) ∙ both)
+    joins : (place : Where) → Joins place → LeavesList place → Adds v 0 w (FloatMoves.place_float p place f l w) × (floats_weight v (floats_of from (FloatMoves.place_float p place f l w).state.floats) ≡ floats_weight v before + floats_weight v rest)
+    joins place k m = (placed-adds v p place f l w k paired lighter, ap (floats_weight v) (part-joined from q place f (before ++ rest) w.state.floats m) ∙ both)
 
     waits : Adds v 0 w w × (floats_weight v (floats_of from w.state.floats) ≡ floats_weight v (before ++ f ∷ []) + floats_weight v rest)
     waits = (unchanged v w, sums (floats_weight v (floats_of from w.state.floats)) (floats_weight v before) (floats_weight v rest) (v.float f.line) (floats_weight v (before ++ f ∷ [])) h stays)

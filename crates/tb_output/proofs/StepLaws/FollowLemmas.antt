@@ -46,6 +46,34 @@ pub record Follows (P : Float → Type 0) (a b : Work) : Type 0 where
   pub all : AllWait P a.state.floats → AllWait P b.state.floats
   pub cycles : b.refused ≡ false → (b.state.dead_cycles ≡ a.state.dead_cycles) ⊎ (b.state.dead_cycles ≡ 0)
 
+-- a float that goes to a place of its own leaves the others of its list
+abbrev pub LeavesList : Where → Type 0
+LeavesList places.Here = Unit {0}
+LeavesList places.Top = Unit {0}
+LeavesList places.Bottom = Unit {0}
+LeavesList places.Page = Unit {0}
+LeavesList places.Double = Unit {0}
+LeavesList places.Deferred = ⊥
+
+pub part-joined : (from : Part) → IsWaiting from → (place : Where) (f : Float) (gs : List Float) (l : FloatLists) → LeavesList place → floats_of from (FloatMoves.joined_to place f (with_floats_of from gs l)) ≡ gs
+part-joined parts.Current q place f gs l v = absurd q
+part-joined parts.Here q place f gs l v = absurd q
+part-joined parts.Top q place f gs l v = absurd q
+part-joined parts.Bottom q place f gs l v = absurd q
+part-joined parts.Double q place f gs l v = absurd q
+part-joined parts.Deferred q places.Here f gs l v = refl
+part-joined parts.Deferred q places.Top f gs l v = refl
+part-joined parts.Deferred q places.Bottom f gs l v = refl
+part-joined parts.Deferred q places.Page f gs l v = refl
+part-joined parts.Deferred q places.Double f gs l v = refl
+part-joined parts.Deferred q places.Deferred f gs l v = absurd v
+part-joined parts.Second q places.Here f gs l v = refl
+part-joined parts.Second q places.Top f gs l v = refl
+part-joined parts.Second q places.Bottom f gs l v = refl
+part-joined parts.Second q places.Page f gs l v = refl
+part-joined parts.Second q places.Double f gs l v = refl
+part-joined parts.Second q places.Deferred f gs l v = absurd v
+
 module _ (P : Float → Type 0) where
   pub follows-same : (a : Work) → Follows P a a
   follows-same a = record { goes = λ h. h; columns = refl; boxes = refl; back = refl; page = refl; current = refl; floats = omega arith; all = λ h. h; cycles = λ h. inl refl }
@@ -194,34 +222,6 @@ module _ (P : Float → Type 0) where
   all-part parts.Deferred q gs l h k = record { top = h.top; bottom = h.bottom; deferred = k; double = h.double; second = h.second }
   all-part parts.Double q gs l h k = absurd q
   all-part parts.Second q gs l h k = record { top = h.top; bottom = h.bottom; deferred = h.deferred; double = h.double; second = k }
-
-  -- a float that goes to a place of its own leaves the others of its list
-  abbrev pub LeavesList : Where → Type 0
-  LeavesList places.Here = Unit {0}
-  LeavesList places.Top = Unit {0}
-  LeavesList places.Bottom = Unit {0}
-  LeavesList places.Page = Unit {0}
-  LeavesList places.Double = Unit {0}
-  LeavesList places.Deferred = ⊥
-
-  part-joined : (from : Part) → IsWaiting from → (place : Where) (f : Float) (gs : List Float) (l : FloatLists) → LeavesList place → floats_of from (FloatMoves.joined_to place f (with_floats_of from gs l)) ≡ gs
-  part-joined parts.Current q place f gs l v = absurd q
-  part-joined parts.Here q place f gs l v = absurd q
-  part-joined parts.Top q place f gs l v = absurd q
-  part-joined parts.Bottom q place f gs l v = absurd q
-  part-joined parts.Double q place f gs l v = absurd q
-  part-joined parts.Deferred q places.Here f gs l v = refl
-  part-joined parts.Deferred q places.Top f gs l v = refl
-  part-joined parts.Deferred q places.Bottom f gs l v = refl
-  part-joined parts.Deferred q places.Page f gs l v = refl
-  part-joined parts.Deferred q places.Double f gs l v = refl
-  part-joined parts.Deferred q places.Deferred f gs l v = absurd v
-  part-joined parts.Second q places.Here f gs l v = refl
-  part-joined parts.Second q places.Top f gs l v = refl
-  part-joined parts.Second q places.Bottom f gs l v = refl
-  part-joined parts.Second q places.Page f gs l v = refl
-  part-joined parts.Second q places.Double f gs l v = refl
-  part-joined parts.Second q places.Deferred f gs l v = absurd v
 
   -- a float of it goes to its place, or stays
   pub waiting-step : (from : Part) → IsWaiting from → (p : Params) (place : Where) (f : Float) (before rest : List Float) (w : Work) → floats_of from w.state.floats ≡ before ++ f ∷ rest → Follows P w (FloatMoves.place_waiting from p place f before rest w) × (floats_of from (FloatMoves.place_waiting from p place f before rest w).state.floats ≡ FloatMoves.still_deferred place f before ++ rest)
