@@ -204,7 +204,9 @@ impl Builder {
         true
     }
 
-    // The same of a node that need not be a box, a rule or glue.
+    // The same of a node that need not be a box, a rule or glue. The walk is to test for boxes and glue first, so this is
+    // marked as cold.
+    #[cold]
     #[inline(never)]
     fn passes_other(
         &mut self,
