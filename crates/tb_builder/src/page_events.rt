@@ -275,10 +275,22 @@ impl Builder {
                     continue;
                 }
                 let n = *n;
-                if let Some(event) = self.turn(store, ask, &n) {
-                    return event;
+                match n.role() {
+                    Role::Act(act) => {
+                        drop_first(store, self.waiting);
+                        return Event::Act(act);
+                    }
+                    Role::Insertion(i) => {
+                        self.meet(store, ask, &n, &i);
+                        continue;
+                    }
+                    Role::Matter => {
+                        if self.begin(store, ask, &n) {
+                            return Event::Try(self.tried);
+                        }
+                        continue;
+                    }
                 }
-                continue;
             }
             if self.step(store) {
                 return Event::Try(self.tried);
@@ -302,41 +314,14 @@ impl Builder {
         ensures opened { result ≡ true → self.now.opened ≡ true }
         ensures no_act { result ≡ true → act_of_kind n.now.kind ≡ None }
         ensures no_insertion { result ≡ true → insertion_of_kind n.now.kind ≡ None }
+        ensures closed { result ≡ false → act_of_kind n.now.kind ≡ None → insertion_of_kind n.now.kind ≡ None → self.now.opened ≡ false }
     {
         self.opened && matches!(n.role(), Role::Matter)
     }
 
-    // The first waiting node, which does not vanish, goes on the page or is handed out, or the place before it is a stop.
-    #[inline(never)]
-    fn turn(&mut self, store: &mut Lists<Node>, ask: &Ask, n: &Node) -> Option<Event>
-        requires sound { IsSound self.old store.old }
-        requires on { self.old.stopped ≡ false }
-        requires fits { NextFits (contents_of self.old store.old) ask.now }
-        requires room { self.old.opened ≡ false → 0 < store.old.spare }
-        requires first { slice_get (list_at store.old self.old.waiting) 0 ≡ Some n.now }
-        requires stays { self.old.opened ≡ false → not (is_discardable (shape_of n.now)) ≡ true }
-        ensures { TurnIs self.old store.old ask.now result self.new store.new }
-    {
-        match n.role() {
-            Role::Matter => {
-                if self.opened {
-                    return self.reach(store, n);
-                }
-                self.begin(store, ask, n)
-            }
-            Role::Insertion(i) => {
-                self.meet(store, ask, n, &i);
-                None
-            }
-            Role::Act(act) => {
-                drop_first(store, self.waiting);
-                Some(Event::Act(act))
-            }
-        }
-    }
-
     // On a page without a box, the first waiting node is no act and no insertion, and does not vanish.
-    fn begin(&mut self, store: &mut Lists<Node>, ask: &Ask, n: &Node) -> Option<Event>
+    #[inline(never)]
+    fn begin(&mut self, store: &mut Lists<Node>, ask: &Ask, n: &Node) -> bool
         requires sound { IsSound self.old store.old }
         requires on { self.old.stopped ≡ false }
         requires closed { self.old.opened ≡ false }
@@ -346,18 +331,18 @@ impl Builder {
         requires no_act { act_of_kind n.now.kind ≡ None }
         requires no_insertion { insertion_of_kind n.now.kind ≡ None }
         requires stays { not (is_discardable (shape_of n.now)) ≡ true }
-        ensures { TurnIs self.old store.old ask.now result self.new store.new }
+        ensures { TurnIs self.old store.old ask.now (event_of result self.new.tried) self.new store.new }
     {
         if is_box(n) {
             return self.open_page(store, ask, n);
         }
         self.pass(store, ask, n);
-        None
+        false
     }
 
     // The first box or rule of the page is the first waiting node: it goes on the page after the top glue, unless the
     // place before that glue is a stop.
-    fn open_page(&mut self, store: &mut Lists<Node>, ask: &Ask, n: &Node) -> Option<Event>
+    fn open_page(&mut self, store: &mut Lists<Node>, ask: &Ask, n: &Node) -> bool
         requires sound { IsSound self.old store.old }
         requires on { self.old.stopped ≡ false }
         requires closed { self.old.opened ≡ false }
@@ -365,18 +350,18 @@ impl Builder {
         requires room { 0 < store.old.spare }
         requires first { slice_get (list_at store.old self.old.waiting) 0 ≡ Some n.now }
         requires boxed { is_box (shape_of n.now) ≡ true }
-        ensures { TurnIs self.old store.old ask.now result self.new store.new }
+        ensures { TurnIs self.old store.old ask.now (event_of result self.new.tried) self.new store.new }
     {
         self.freeze(ask);
         let glue = top_node(n, ask.top_skip);
         store.push_front(self.waiting, glue);
-        let event = self.reach(store, &glue);
+        let tried = self.step(store);
         if self.stopped {
-            return event;
+            return tried;
         }
         self.put(store, n);
         self.opened = true;
-        event
+        tried
     }
 
     // Freezes the goal and the depth limit of the page, unless they are frozen already.
@@ -398,6 +383,7 @@ impl Builder {
     }
 
     // The first waiting node, an insertion, goes on the page.
+    #[inline(never)]
     fn meet(&mut self, store: &mut Lists<Node>, ask: &Ask, n: &Node, i: &Insertion)
         requires sound { IsSound self.old store.old }
         requires on { self.old.stopped ≡ false }
@@ -428,28 +414,6 @@ impl Builder {
     {
         self.course.lasting = true;
         store.move_first(self.waiting, self.page);
-    }
-
-    // Takes one step with the first waiting node on a page that is laid out, which is no act and no insertion. Returns
-    // its event, if there is one.
-    fn reach(&mut self, store: &mut Lists<Node>, n: &Node) -> Option<Event>
-        requires own { IsOwned (ids_of self.old) store.old }
-        requires first { slice_get (list_at store.old self.old.waiting) 0 ≡ Some n.now }
-        requires on { self.old.stopped ≡ false }
-        requires underway { Underway (kept_frozen (contents_of self.old store.old)) self.old.course (contents_of self.old store.old).page (contents_of self.old store.old).waiting }
-        requires fits { StepFits (kept_frozen (contents_of self.old store.old)) (contents_of self.old store.old).page (list_at store.old) n.now }
-        ensures moves { ChangesPage self.old store.old self.new store.new }
-        ensures step { StepIs result (kept_frozen (contents_of self.old store.old)) self.new.course (contents_of self.old store.old) (contents_of self.new store.new) }
-        ensures behind { (ns : List NodeOf) → self.new.stopped ≡ false → list_at store.old self.old.waiting ≡ n.now ∷ ns → list_at store.new self.new.waiting ≡ ns }
-        ensures boxed { holds_box (contents_of self.old store.old).page ≡ true → holds_box (contents_of self.new store.new).page ≡ true }
-        ensures opened { self.new.opened ≡ self.old.opened }
-        ensures frozen { self.new.frozen ≡ self.old.frozen }
-        ensures ids { ids_of self.new ≡ ids_of self.old }
-    {
-        if self.step(store) {
-            return Some(Event::Try(self.tried));
-        }
-        None
     }
 
     // The first waiting node on a page that is laid out, no act and no insertion: its place is tried if it is legal,
@@ -502,6 +466,7 @@ impl Builder {
         ensures behind { (ns : List NodeOf) → list_at store.old self.old.waiting ≡ n.now ∷ ns → list_at store.new self.new.waiting ≡ ns }
         ensures opened { self.new.opened ≡ self.old.opened }
         ensures ids { ids_of self.new ≡ ids_of self.old }
+        ensures tried { self.new.tried ≡ self.old.tried }
     {
         self.course.put(n);
         store.move_first(self.waiting, self.page);

@@ -8,7 +8,7 @@ use Rattle.tb_builder.specs.Contents.{contents_of}
 use Rattle.tb_builder.specs.Courses.{kept_frozen}
 use Rattle.tb_builder.specs.PageTurns.{StepFits, TurnIs, event_of}
 use Rattle.tb_builder.proofs.Turns.FillLemmas.{first_is}
-use Rattle.tb_builder.proofs.Events.FilledLemmas.{filled_empty, filled_now, filled_later, fits_after, none_first, open_underway, open_fits, open_turn}
+use Rattle.tb_builder.proofs.Events.FilledLemmas.{filled_empty, filled_now, filled_later, acted_turn, fits_after, none_first, open_underway, open_fits, open_turn}
 use Rattle.tb_builder.specs.Ownership.{ids_of}
 use Rattle.tb_builder.proofs.Turns.MoveLemmas.{written_drop}
 use Rattle.tb_builder.proofs.Turns.FreezeLemmas.{no_inner}
@@ -22,16 +22,56 @@ more_room h k = omega arith
 same_first : (xs : List Node) (n m : Node) → slice_get xs 0 ≡ Some n → slice_get xs 0 ≡ Some m → n ≡ m
 same_first xs n m e h = let s : Some n ≡ Some m = sym e ∙ h in cc
 
-pub loop-n-preserved-then-not-goes_on : goal.loop-n-preserved-then-not-goes_on
-loop-n-preserved-then-not-goes_on c =
-    let none = c.in_default-turn.is in
-    let t : TurnIs c.loop-n.self c.loop-n.store c.args.ask.now None c.turn.new.self c.turn.new.store = subst (λ o. TurnIs c.loop-n.self c.loop-n.store c.args.ask.now o c.turn.new.self c.turn.new.store) none c.turn.ensures in
+pub returns-in-Act : goal.returns-in-Act
+returns-in-Act c =
+    let b = c.loop-n.self in
+    let s = c.loop-n.store in
+    let y = c.drop_first-in-Act.new.store in
+    let ask = c.args.ask.now in
+    let n = c.in-Some.n.now in
+    let f = first_is (list_at s b.waiting) n (sym c.in-Some.ensures) in
+    c.loop-n.invariant.later (events.Act c.in-Act.act) b y (filled_now b b s y ask (events.Act c.in-Act.act)
+    (acted_turn b s y ask n f.0 c.in-Act.act c.loop-n.invariant.sound c.loop-n.invariant.on f.1 (sym c.in-Act.ensures.act) (c.drop_first-in-Act.ensures.rest n f.0 f.1)))
+
+pub loop-n-preserved-in-Insertion : goal.loop-n-preserved-in-Insertion
+loop-n-preserved-in-Insertion c =
+    let b = c.loop-n.self in
+    let s = c.loop-n.store in
+    let d = c.meet.new.self in
+    let y = c.meet.new.store in
+    let ask = c.args.ask.now in
+    let t : TurnIs b s ask None d y = c.meet.ensures in
     record {
       sound = t.sound;
       on = t.turned.stopped;
-      fits = fits_after (contents_of c.loop-n.self c.loop-n.store) (contents_of c.turn.new.self c.turn.new.store) c.args.ask.now c.loop-n.invariant.fits t.stays t.turned;
+      fits = fits_after (contents_of b s) (contents_of d y) ask c.loop-n.invariant.fits t.stays t.turned;
       room = λ closed. more_room (t.room refl closed).1 (c.loop-n.invariant.room (t.room refl closed).0);
-      later = λ e x y h. c.loop-n.invariant.later e x y (filled_later c.loop-n.self c.turn.new.self x c.loop-n.store c.turn.new.store y c.args.ask.now e t h);
+      later = λ e x z h. c.loop-n.invariant.later e x z (filled_later b d x s y z ask e t h);
+    }
+
+pub returns-then-begin : goal.returns-then-begin
+returns-then-begin c =
+    let b = c.loop-n.self in
+    let s = c.loop-n.store in
+    let d = c.begin.new.self in
+    let y = c.begin.new.store in
+    let ask = c.args.ask.now in
+    c.loop-n.invariant.later (events.Try d.tried) d y (filled_now b d s y ask (events.Try d.tried) (subst (λ r. TurnIs b s ask (event_of r d.tried) d y) c.if-begin.true c.begin.ensures))
+
+pub loop-n-preserved-in-Matter : goal.loop-n-preserved-in-Matter
+loop-n-preserved-in-Matter c =
+    let b = c.loop-n.self in
+    let s = c.loop-n.store in
+    let d = c.begin.new.self in
+    let y = c.begin.new.store in
+    let ask = c.args.ask.now in
+    let t : TurnIs b s ask None d y = subst (λ r. TurnIs b s ask (event_of r d.tried) d y) c.if-begin.false c.begin.ensures in
+    record {
+      sound = t.sound;
+      on = t.turned.stopped;
+      fits = fits_after (contents_of b s) (contents_of d y) ask c.loop-n.invariant.fits t.stays t.turned;
+      room = λ closed. more_room (t.room refl closed).1 (c.loop-n.invariant.room (t.room refl closed).0);
+      later = λ e x z h. c.loop-n.invariant.later e x z (filled_later b d x s y z ask e t h);
     }
 
 -- the turn in which the first node vanishes

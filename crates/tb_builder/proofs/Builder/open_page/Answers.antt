@@ -4,6 +4,7 @@ use Rattle.std.specs.Prelude.{slice_get}
 use Rattle.tb_pool.specs.Lists.{list_at}
 use Rattle.tb_node.specs.declared.Node.{Node}
 use Rattle.tb_builder.specs.declared.Builder.{Builder}
+use Rattle.tb_builder.specs.declared.Try.{Try}
 use Rattle.tb_builder.specs.Contents.{contents_of}
 use Rattle.tb_builder.specs.Courses.{IsPageSoFar}
 use Rattle.tb_builder.proofs.Turns.FillLemmas.{first_is}
@@ -11,7 +12,13 @@ use Rattle.tb_builder.proofs.Turns.FreezeLemmas.{frozen_course}
 use Rattle.tb_builder.proofs.Turns.FirstBoxLemmas.{box_small, Topped, topped}
 use Rattle.tb_builder.proofs.Turns.BehindLemmas.{opening_stops, opening_sums, opening_goes}
 use Rattle.tb_builder.proofs.Builder.open_page.Goals.{After-push_front}
+use Rattle.std.proofs.Common.{is_some, sym, Some}
+use Rattle.tb_builder.specs.Courses.{kept_frozen}
+use Rattle.tb_builder.specs.PageTurns.{StepFits, event_of, TurnIs}
 use Rattle.tb_builder.proofs.Builder.open_page.Goals as goal
+
+same_first : (xs : List Node) (n m : Node) → slice_get xs 0 ≡ Some n → slice_get xs 0 ≡ Some m → n ≡ m
+same_first xs n m e h = let s : Some n ≡ Some m = sym e ∙ h in cc
 
 -- the nodes that wait after the box
 abbrev waits : (c : After-push_front) → (ns : List Node) × (list_at c.args.store.now c.args.self.now.waiting ≡ c.args.n.now ∷ ns)
@@ -33,28 +40,35 @@ top_node-glue-requires-clause-node c =
     let f = first_is (list_at c.args.store.now c.args.self.now.waiting) c.args.n.now c.requires.first in
     box_small c.args.self.now c.args.store.now c.args.ask.now c.args.n.now f.0 c.requires.sound c.requires.closed c.requires.fits c.requires.boxed f.1
 
-pub reach-event-requires-clause-own : goal.reach-event-requires-clause-own
-reach-event-requires-clause-own c = (glue_waits (goal.at.reach-event-requires-clause-own c).After-push_front).moves.own
+pub step-tried-requires-clause-own : goal.step-tried-requires-clause-own
+step-tried-requires-clause-own c = (glue_waits (goal.at.step-tried-requires-clause-own c).After-push_front).moves.own
 
-pub reach-event-requires-clause-first : goal.reach-event-requires-clause-first
-reach-event-requires-clause-first c = ap (λ xs. slice_get xs 0) (glue_waits (goal.at.reach-event-requires-clause-first c).After-push_front).list_is
+pub step-tried-requires-clause-some : goal.step-tried-requires-clause-some
+step-tried-requires-clause-some c =
+    let first = ap (λ xs. slice_get xs 0) (glue_waits (goal.at.step-tried-requires-clause-some c).After-push_front).list_is in
+    ap is_some first
 
-pub reach-event-requires-clause-underway : goal.reach-event-requires-clause-underway
-reach-event-requires-clause-underway c = (glue_waits (goal.at.reach-event-requires-clause-underway c).After-push_front).underway
+pub step-tried-requires-clause-underway : goal.step-tried-requires-clause-underway
+step-tried-requires-clause-underway c = (glue_waits (goal.at.step-tried-requires-clause-underway c).After-push_front).underway
 
-pub reach-event-requires-clause-fits : goal.reach-event-requires-clause-fits
-reach-event-requires-clause-fits c = (glue_waits (goal.at.reach-event-requires-clause-fits c).After-push_front).step
+pub step-tried-requires-clause-fits : goal.step-tried-requires-clause-fits
+step-tried-requires-clause-fits c = λ m e.
+    let w = (goal.at.step-tried-requires-clause-fits c).After-push_front in
+    let b = c.freeze.new.self in
+    let s = c.push_front.new.self in
+    let first = ap (λ xs. slice_get xs 0) (glue_waits w).list_is in
+    subst (StepFits (kept_frozen (contents_of b s)) (contents_of b s).page (list_at s)) (same_first (list_at s b.waiting) c.top_node-glue.result m first e) (glue_waits w).step
 
 pub returns-then-self : goal.returns-then-self
 returns-then-self c =
     let w = (goal.at.returns-then-self c).After-push_front in
-    opening_stops c.args.self.now c.freeze.new.self c.reach-event.new.self c.args.store.now c.push_front.new.self c.reach-event.new.store c.args.ask.now c.args.n.now c.top_node-glue.result (waits w).0 c.reach-event.result (glue_waits w) (c.freeze.ensures.stopped ∙ c.requires.on) (c.freeze.ensures.opened ∙ c.requires.closed)
-    c.reach-event.ensures.moves c.reach-event.ensures.step c.reach-event.ensures.opened c.reach-event.ensures.frozen c.if-self.true
+    opening_stops c.args.self.now c.freeze.new.self c.step-tried.new.self c.args.store.now c.push_front.new.self c.step-tried.new.store c.args.ask.now c.args.n.now c.top_node-glue.result (waits w).0 (event_of c.step-tried.result c.step-tried.new.self.tried) (glue_waits w) (c.freeze.ensures.stopped ∙ c.requires.on) (c.freeze.ensures.opened ∙ c.requires.closed)
+    c.step-tried.ensures.moves c.step-tried.ensures.step c.step-tried.ensures.opened c.step-tried.ensures.frozen c.if-self.true
 
 pub put-requires-clause-first : goal.put-requires-clause-first
 put-requires-clause-first c =
     let w = (goal.at.put-requires-clause-first c).After-push_front in
-    ap (λ xs. slice_get xs 0) (c.reach-event.ensures.behind (c.args.n.now ∷ (waits w).0) c.if-self.false (glue_waits w).list_is)
+    ap (λ xs. slice_get xs 0) (c.step-tried.ensures.behind c.top_node-glue.result (c.args.n.now ∷ (waits w).0) c.if-self.false (glue_waits w).list_is)
 
 pub put-requires-clause-node : goal.put-requires-clause-node
 put-requires-clause-node c =
@@ -64,18 +78,18 @@ put-requires-clause-node c =
 pub put-requires-clause-fits : goal.put-requires-clause-fits
 put-requires-clause-fits c =
     let w = (goal.at.put-requires-clause-fits c).After-push_front in
-    opening_sums c.args.self.now c.freeze.new.self c.reach-event.new.self c.args.store.now c.push_front.new.self c.reach-event.new.store c.args.ask.now c.args.n.now c.top_node-glue.result (waits w).0 c.reach-event.result (glue_waits w) (c.freeze.ensures.stopped ∙ c.requires.on) (c.freeze.ensures.opened ∙ c.requires.closed)
-    c.reach-event.ensures.moves c.reach-event.ensures.step c.reach-event.ensures.opened c.reach-event.ensures.frozen
-    c.requires.fits c.requires.boxed c.if-self.false (c.reach-event.ensures.behind (c.args.n.now ∷ (waits w).0) c.if-self.false (glue_waits w).list_is)
+    opening_sums c.args.self.now c.freeze.new.self c.step-tried.new.self c.args.store.now c.push_front.new.self c.step-tried.new.store c.args.ask.now c.args.n.now c.top_node-glue.result (waits w).0 (event_of c.step-tried.result c.step-tried.new.self.tried) (glue_waits w) (c.freeze.ensures.stopped ∙ c.requires.on) (c.freeze.ensures.opened ∙ c.requires.closed)
+    c.step-tried.ensures.moves c.step-tried.ensures.step c.step-tried.ensures.opened c.step-tried.ensures.frozen
+    c.requires.fits c.requires.boxed c.if-self.false (c.step-tried.ensures.behind c.top_node-glue.result (c.args.n.now ∷ (waits w).0) c.if-self.false (glue_waits w).list_is)
 
 pub returns : goal.returns
 returns c =
     let w = (goal.at.returns c).After-push_front in
     let d : Builder = record c.put.new.self { opened = true } in
-    let behind = c.reach-event.ensures.behind (c.args.n.now ∷ (waits w).0) c.if-self.false (glue_waits w).list_is in
-    opening_goes c.args.self.now c.freeze.new.self c.reach-event.new.self c.args.store.now c.push_front.new.self c.reach-event.new.store c.args.ask.now c.args.n.now c.top_node-glue.result (waits w).0 c.reach-event.result (glue_waits w) (c.freeze.ensures.stopped ∙ c.requires.on) (c.freeze.ensures.opened ∙ c.requires.closed)
-    c.reach-event.ensures.moves c.reach-event.ensures.step c.reach-event.ensures.opened c.reach-event.ensures.frozen
+    let behind = c.step-tried.ensures.behind c.top_node-glue.result (c.args.n.now ∷ (waits w).0) c.if-self.false (glue_waits w).list_is in
+    subst (λ (x : Try). TurnIs c.args.self.now c.args.store.now c.args.ask.now (event_of c.step-tried.result x) d c.put.new.store) (sym c.put.ensures.tried) (opening_goes c.args.self.now c.freeze.new.self c.step-tried.new.self c.args.store.now c.push_front.new.self c.step-tried.new.store c.args.ask.now c.args.n.now c.top_node-glue.result (waits w).0 (event_of c.step-tried.result c.step-tried.new.self.tried) (glue_waits w) (c.freeze.ensures.stopped ∙ c.requires.on) (c.freeze.ensures.opened ∙ c.requires.closed)
+    c.step-tried.ensures.moves c.step-tried.ensures.step c.step-tried.ensures.opened c.step-tried.ensures.frozen
     c.requires.fits c.requires.boxed c.if-self.false behind
     d c.put.new.store (record { own = c.put.ensures.moves.own; frame = c.put.ensures.moves.frame; classes = c.put.ensures.moves.classes; boxes = c.put.ensures.moves.boxes; held = c.put.ensures.moves.held })
     (record { waiting = c.put.ensures.shifted.waiting; page = c.put.ensures.shifted.page; frozen = c.put.ensures.shifted.frozen; stopped = c.put.ensures.shifted.stopped }) refl
-    c.put.ensures.course (waits w).1 (c.put.ensures.behind (waits w).0 behind)
+    c.put.ensures.course (waits w).1 (c.put.ensures.behind (waits w).0 behind))
