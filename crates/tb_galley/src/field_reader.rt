@@ -167,15 +167,15 @@ impl<'a> Fields<'a> {
                 Ok(value)
             }
             Some(_) => Err(At::new(self.number, cause)),
-            None => self.other_dimension_from(low, cause),
+            None => self.decimal_from(low, cause),
         }
     }
 
-    // The same of a field of any form. What is read as a dimension has printable bytes only, so only other fields are tested
-    // for them.
+    /// The same, for a field that seldom is a few digits alone or with `pt` behind: most have a point. What is read as a
+    /// dimension has printable bytes only, so only other fields are tested for them.
     #[inline(never)]
     #[tactic(auto, unfolding(crate::specs::FieldReader::least_left))]
-    fn other_dimension_from(&mut self, low: i64, cause: Cause) -> Result<i64, At>
+    pub fn decimal_from(&mut self, low: i64, cause: Cause) -> Result<i64, At>
         ensures { Gives result (left_of self.new) (least_left low cause (left_of self.old)) }
     {
         let number = self.number;

@@ -6,7 +6,7 @@ ghost use Rattle.tb_lines.specs.Fields.{IsForm};
 ghost use Rattle.tb_galley.specs.FieldReader.{left_of, Gives};
 ghost use Rattle.tb_lines.specs.FieldReader.{value_left, set_left, word_left, space_left, pen_left, content_left};
 
-use crate::field_reader::{read_header, read_name, read_size};
+use crate::field_reader::{read_decimal, read_header, read_name, read_size};
 use crate::text::Item;
 use crate::words::{Form, Parameter, Word, form_of, parameter_of};
 use tb_galley::{At, Cause, Fields};
@@ -68,9 +68,9 @@ fn read_word(fields: &mut Fields<'_>) -> Result<Item, At>
 fn read_space(fields: &mut Fields<'_>) -> Result<Item, At>
     ensures { Gives result (left_of fields.new) (space_left (left_of fields.old)) }
 {
-    let width = read_size(fields, 0, Cause::Dimension)?;
-    let stretch = read_size(fields, 0, Cause::Dimension)?;
-    let shrink = read_size(fields, 0, Cause::Dimension)?;
+    let width = read_decimal(fields, Cause::Dimension)?;
+    let stretch = read_decimal(fields, Cause::Dimension)?;
+    let shrink = read_decimal(fields, Cause::Dimension)?;
     Ok(Item::Space {
         width,
         stretch,

@@ -17,6 +17,14 @@ pub fn read_size(fields: &mut Fields<'_>, low: i64, cause: Cause) -> Result<u32,
     Ok(fields.dimension_from(low, cause)? as u32)
 }
 
+/// The same of at least 0, for a field that seldom is a few digits alone or with `pt` behind: most have a point.
+#[tactic(auto, unfolding(crate::specs::FieldReader::size_left))]
+pub fn read_decimal(fields: &mut Fields<'_>, cause: Cause) -> Result<u32, At>
+    ensures { Gives result (left_of fields.new) (size_left (pos 0) cause (left_of fields.old)) }
+{
+    Ok(fields.decimal_from(0, cause)? as u32)
+}
+
 /// The next field as the name of a paragraph.
 #[tactic(auto, unfolding(crate::specs::FieldReader::name_left))]
 pub fn read_name(fields: &mut Fields<'_>) -> Result<Name, At>

@@ -5,7 +5,7 @@ use Rattle.tb_galley.specs.Faults.{is_printable}
 use Rattle.tb_galley.specs.FieldReader.{at_fault, least_left}
 use Rattle.tb_galley.proofs.VisibleFields.{dimension_visible}
 use Rattle.tb_galley.proofs.DimensionFields.{not_read}
-use Rattle.tb_galley.proofs.fields.Fields.other_dimension_from.Goals as goal
+use Rattle.tb_galley.proofs.fields.Fields.decimal_from.Goals as goal
 
 pub returns-in-Ok : goal.returns-in-Ok
 unfolding least_left
