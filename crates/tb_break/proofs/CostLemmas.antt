@@ -25,10 +25,6 @@ opened s g t u v e f h = λ j. by_tests s g (e j) (f j) (h j)
 pub under_badness : (s : Sums) (g : ℤ) → int_lt (pos 0) (g -ℤ s.total) ≡ true → stretches_infinitely s.stretch ≡ false → badness_of (g -ℤ s.total) (finite_stretch s.stretch) ≡ page_badness s g
 under_badness s g h i = sym (opened s g true false (int_lt s.shrink (s.total -ℤ g)) (is_under s.total g h) i refl)
 
--- infinite stretch fits each goal
-pub under_infinite : (s : Sums) (g : ℤ) → int_lt (pos 0) (g -ℤ s.total) ≡ true → stretches_infinitely s.stretch ≡ true → pos 0 ≡ page_badness s g
-under_infinite s g h i = sym (opened s g true true (int_lt s.shrink (s.total -ℤ g)) (is_under s.total g h) i refl)
-
 -- what is too much is more than the shrink
 pub over_awful : (s : Sums) (g : ℤ) → int_lt (pos 0) (g -ℤ s.total) ≡ false → int_lt s.shrink (s.total -ℤ g) ≡ true → awful_bad ≡ page_badness s g
 over_awful s g h i = sym (opened s g false (stretches_infinitely s.stretch) true (is_over s.total g h) refl i)

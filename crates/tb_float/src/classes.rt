@@ -36,7 +36,8 @@ impl ClassSet {
 
     /// Whether no class of the list that the set was made for is left: all of its floats are of classes in the set.
     pub fn is_full(&self) -> bool
-        ensures { IsTrue result → (fs all : List Float) → AreClassesOf self.now fs → HasLeft self.now all → AreOfClasses fs all }
+        ensures none_left { self.now.left ≡ 0 → result ≡ true }
+        ensures all { IsTrue result → (fs all : List Float) → AreClassesOf self.now fs → HasLeft self.now all → AreOfClasses fs all }
     {
         self.left == 0
     }

@@ -78,7 +78,7 @@ returns-then-is_full c =
     record {
       way = λ s end h.
           let way = c.loop-entry.invariant.way s end h in
-          double-full from c.args.p.now s w v l end all refl (c.is_full.ensures c.if-is_full.true (take w.count fs) fs way.classes way.left) way;
+          double-full from c.args.p.now s w v l end all refl (c.is_full.ensures.all c.if-is_full.true (take w.count fs) fs way.classes way.left) way;
       within = λ ne. absurd (ne refl);
       place = λ s end f h got. absurd (omega (arith, all, slice_get_within fs v.count f got));
       over = λ e. omega (arith, all);

@@ -79,7 +79,7 @@ returns-then-is_full c =
     record {
       way = λ end h.
           let way = c.loop-entry.invariant.way end h in
-          area-full c.args.p.now c.args.s.now w v l end all refl (c.is_full.ensures c.if-is_full.true (take w.count l.deferred) l.deferred way.classes way.left) way;
+          area-full c.args.p.now c.args.s.now w v l end all refl (c.is_full.ensures.all c.if-is_full.true (take w.count l.deferred) l.deferred way.classes way.left) way;
       within = λ ne. absurd (ne refl);
       place = λ end f h got. absurd (omega (arith, all, slice_get_within l.deferred v.count f got));
       over = λ e. omega (arith, all);

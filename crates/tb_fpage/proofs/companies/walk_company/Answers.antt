@@ -75,7 +75,7 @@ returns-then-is_full c =
     let z = c.args.wanted.now in
     let w = c.loop-entry.walk in
     let way = c.loop-entry.invariant.way in
-    let full = c.is_full.ensures c.if-is_full.true (left_floats way.before) all way.stands.failed c.loop-entry.invariant.classes_left in
+    let full = c.is_full.ensures.all c.if-is_full.true (left_floats way.before) all way.stands.failed c.loop-entry.invariant.classes_left in
     record {
       height = full-height z w all (company_of_place z c.args.place all c.args.f.now) way full;
       last = full-ends z w all (company_of_place z c.args.place all c.args.f.now) way full;
