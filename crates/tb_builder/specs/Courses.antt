@@ -1,10 +1,11 @@
 -- What holds of the page builder between its calls: one running scan and one running account, tied to the whole page.
-use Rattle.std.specs.Prelude.{◌≡◌, ℤ, pos, ◌≤◌, Bool, true, false, ◌||◌, List, [], ◌∷◌, ◌++◌, take, length, Option, Some, None, is_some, IsSome, if◌then◌else◌}
+use Rattle.std.specs.Prelude.{◌≡◌, ℤ, pos, ◌+ℤ◌, ◌≤◌, Bool, true, false, ◌||◌, List, [], ◌∷◌, ◌++◌, take, length, Option, Some, None, is_some, IsSome, if◌then◌else◌}
 use Rattle.std.specs.List.{list_any}
 use Rattle.tb_pool.specs.Lists.{Lists}
 use Rattle.tb_node.specs.declared.Node.{Node}
 use Rattle.tb_node.specs.Shape.{is_box, is_discardable}
 use Rattle.tb_node.specs.PlainNodes.{hbox, rule, skip, kerned, pen, mark, note, whatsit, PlainKind, plain, ins, act, PlainNode, node_shape, shape_of, is_insertion_kind}
+use Rattle.tb_node.specs.Sums.{size_of}
 use Rattle.tb_node.specs.Roles.{act_of_kind}
 use Rattle.tb_break.specs.declared.Best.{Best}
 use Rattle.tb_break.specs.Places.{ends_lasting}
@@ -31,6 +32,7 @@ pub record ChampionIs (o : Option Best) (goal : ℤ) (marked page : List PlainNo
   pub goal_is : goal ≡ b.goal
   pub marked_is : marked ≡ take b.place page
   pub within : b.place ≤ length page
+  pub room : b.sums.total +ℤ b.sums.depth ≡ size_of (page_shapes (take b.place page))
 
 -- the scan and the account are those of the page, and what is kept of the best place is that of the last of these of least cost
 pub record IsCourseOf (z : Frozen) (k : Course) (page : List PlainNode) (bs : List Breakpoint) : Type 0 where

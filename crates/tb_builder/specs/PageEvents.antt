@@ -158,10 +158,11 @@ fired_page c ask = let w = reach_whole c ask in fired_by (labelled (frozen_of c 
 abbrev pub after_fired : Contents → Fired → Contents
 after_fired c f = record { classes = c.classes; boxes = f.boxes; page = []; waiting = f.rest; held = f.held; frozen = None; stopped = false }
 
--- the page is this one, and its list is live
+-- the page is this one, with the height plus depth of its body, and its list is live
 pub record PageIs (p : Page) (f : Fired) (s : Lists Node) : Type 0 where
   pub live : IsLive s p.body
   pub body : plain_list s p.body ≡ f.body
+  pub room : p.room ≡ size_of (map node_shape f.body)
   pub penalty : p.penalty ≡ f.penalty
   pub cost : p.cost ≡ f.cost
   pub size : p.size ≡ f.size

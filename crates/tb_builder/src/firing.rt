@@ -125,6 +125,7 @@ impl Builder {
         self.clear();
         Ok(Page {
             body,
+            room: best.size,
             penalty: at.penalty,
             cost: best.cost,
             size: self.course.best_goal,

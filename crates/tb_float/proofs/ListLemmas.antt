@@ -1,5 +1,5 @@
 -- Lemmas on lists.
-use Rattle.std.proofs.Common.{◌≡◌, ℕ, zero, suc, ◌+◌, ◌<◌, ◌≤◌, List, [], ◌∷◌, ◌++◌, length, take, drop, map, Some, Option, None, IsSome, unwrap_or, slice_get, refl, sym, ap, ◌∙◌, get_or, add-one, arith}
+use Rattle.std.proofs.Common.{◌≡◌, ℕ, zero, suc, ◌+◌, ◌<◌, ◌≤◌, List, [], ◌∷◌, ◌++◌, length, take, drop, map, Some, Option, None, IsSome, unwrap_or, slice_get, slice_set, refl, sym, ap, ◌∙◌, get_or, add-one, arith}
 use Rattle.std.proofs.Math.Seq.{drop-cons, take-suc}
 use Rattle.std.proofs.Math.ListN.{drop_of_length-le}
 use Rattle.std.proofs.lemmas.List.{map-append, append_assoc, length-append, length-drop, length-map, length-take-le}
@@ -32,6 +32,21 @@ module _ {X : Type 0} where
   without_place-parts (suc k) [] = refl
   without_place-parts zero (x ∷ xs) = refl
   without_place-parts (suc k) (x ∷ xs) = ap (λ ys. x ∷ ys) (without_place-parts k xs)
+
+  pub take-drop : (k : ℕ) (xs : List X) → take k xs ++ drop k xs ≡ xs
+  take-drop zero xs = refl
+  take-drop (suc k) [] = refl
+  take-drop (suc k) (x ∷ xs) = ap (λ ys. x ∷ ys) (take-drop k xs)
+
+  pub some-at : (xs : List X) (k : ℕ) → k < length xs → (x : X) × (slice_get xs k ≡ Some x)
+  some-at [] k lt = absurd (omega arith)
+  some-at (x ∷ xs) zero lt = (x, refl)
+  some-at (x ∷ xs) (suc k) lt = some-at xs k (omega arith)
+
+  pub slice_set-parts : (k : ℕ) (xs : List X) (x y : X) → slice_get xs k ≡ Some x → slice_set xs k y ≡ take k xs ++ y ∷ drop (suc k) xs
+  slice_set-parts k [] x y e = cc
+  slice_set-parts zero (z ∷ xs) x y e = refl
+  slice_set-parts (suc k) (z ∷ xs) x y e = ap (λ ys. z ∷ ys) (slice_set-parts k xs x y e)
 
   pub length-without_place : (k : ℕ) (xs : List X) → k < length xs → length (without_place k xs) + 1 ≡ length xs
   length-without_place k [] lt = absurd (omega arith)

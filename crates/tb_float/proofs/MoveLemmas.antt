@@ -5,7 +5,7 @@ use Rattle.std.specs.FinMap.{FinMap, get, insert}
 use Rattle.tb_pool.specs.Lists.{Lists, IsLive, list_at, with_list}
 use Rattle.tb_pool.proofs.MapLemmas.{list_steps, same_from_get, get-insert_same, get-insert_other}
 use Rattle.tb_float.specs.Lists.{without_place}
-use Rattle.tb_float.proofs.ListLemmas.{slice_get-drop, slice_get-front, slice_get-one, without_place-parts, some-list}
+use Rattle.tb_float.proofs.ListLemmas.{slice_get-drop, slice_get-front, slice_get-one, without_place-parts, slice_set-parts, take-drop, some-list}
 
 -- four lists differ
 pub record Differ (from to one rest : ℕ) : Type 0 where
@@ -77,6 +77,10 @@ module _ {V : Type 0} where
       → insert (insert (insert (insert (insert m from front) one (u ∷ back)) one back) from (front ++ back)) one [] ≡ insert m from (front ++ back)
   taken-map m from one front back u apart no_one = same_from_get _ _ (λ q. grind (arith, list_steps))
 
+  changed-map : (m : FinMap nat_cmp (List V)) (from one : ℕ) (front back new : List V) → from ≢ one → get m one ≡ Some []
+      → insert (insert (insert (insert (insert m from front) one back) one new) from (front ++ new)) one [] ≡ insert m from (front ++ new)
+  changed-map m from one front back new apart no_one = same_from_get _ _ (λ q. grind (arith, list_steps))
+
   pub record Taken (s0 s3 : Lists V) (from k : ℕ) (u : V) : Type 0 where
     pub was : slice_get (list_at s0 from) k ≡ Some u
     pub taken : s3.lists ≡ with_list s0 from (without_place k (list_at s0 from))
@@ -106,6 +110,54 @@ module _ {V : Type 0} where
         was = got;
         taken = rw (without_place-parts, f3, f2, f1) (taken-map s0.lists from one front back u apart no_one);
       }
+
+  restored-map : (m : FinMap nat_cmp (List V)) (from one : ℕ) (front back : List V) → from ≢ one → get m one ≡ Some [] → get m from ≡ Some (front ++ back)
+      → insert (insert (insert (insert m from front) one back) from (front ++ back)) one [] ≡ m
+  restored-map m from one front back apart no_one all = same_from_get _ _ (λ q. grind (arith, list_steps))
+
+  -- what was cut off comes back
+  pub restored : (s0 s1 s3 : Lists V) (from k one : ℕ) → from ≢ one → IsLive s0 from → IsLive s0 one → list_at s0 one ≡ []
+      → s1.lists ≡ insert (with_list s0 from (take k (list_at s0 from))) one (drop k (list_at s0 from))
+      → s3.lists ≡ insert (with_list s1 from (list_at s1 from ++ list_at s1 one)) one []
+      → s3.lists ≡ s0.lists
+  restored s0 s1 s3 from k one apart live one_live one_empty e1 e3 =
+      let xs = list_at s0 from in
+      let front = take k xs in
+      let back = drop k xs in
+      let from1 : list_at s1 from ≡ front = grind (arith, list_steps) in
+      let one1 : list_at s1 one ≡ back = list-second _ s1 one _ e1 in
+      let f3 : s3.lists ≡ insert (insert s1.lists from (front ++ back)) one [] = e3 ∙ ap (λ ts. insert (insert s1.lists from ts) one []) (ap (λ ts. ts ++ list_at s1 one) from1 ∙ ap (λ ts. front ++ ts) one1) in
+      let no_one = some-list (get s0.lists one) one_live ∙ ap Some one_empty in
+      let all = some-list (get s0.lists from) live ∙ ap Some (sym (take-drop k xs)) in
+      rw (f3, e1) (restored-map s0.lists from one front back apart no_one all)
+
+  -- what was cut off comes back changed
+  pub changed-behind : (s0 s1 s2 s3 : Lists V) (from k one : ℕ) (new : List V) → from ≢ one → IsLive s0 one → list_at s0 one ≡ []
+      → s1.lists ≡ insert (with_list s0 from (take k (list_at s0 from))) one (drop k (list_at s0 from))
+      → s2.lists ≡ with_list s1 one new
+      → s3.lists ≡ insert (with_list s2 from (list_at s2 from ++ list_at s2 one)) one []
+      → s3.lists ≡ with_list s0 from (take k (list_at s0 from) ++ new)
+  changed-behind s0 s1 s2 s3 from k one new apart one_live one_empty e1 e2 e3 =
+      let front = take k (list_at s0 from) in
+      let back = drop k (list_at s0 from) in
+      let from2 : list_at s2 from ≡ front = grind (arith, list_steps) in
+      let one2 : list_at s2 one ≡ new = grind (arith, list_steps) in
+      let f3 : s3.lists ≡ insert (insert s2.lists from (front ++ new)) one [] = e3 ∙ ap (λ ts. insert (insert s2.lists from ts) one []) (ap (λ ts. ts ++ list_at s2 one) from2 ∙ ap (λ ts. front ++ ts) one2) in
+      let no_one = some-list (get s0.lists one) one_live ∙ ap Some one_empty in
+      rw (f3, e2, e1) (changed-map s0.lists from one front back new apart no_one)
+
+  -- the value at a place is written as the first of what was cut off
+  pub marked-one : (s0 s1 s2 s3 : Lists V) (from k one : ℕ) (u w : V) → from ≢ one → IsLive s0 one → list_at s0 one ≡ [] → slice_get (list_at s0 from) k ≡ Some u
+      → s1.lists ≡ insert (with_list s0 from (take k (list_at s0 from))) one (drop k (list_at s0 from))
+      → (slice_get (list_at s1 one) 0 ≡ Some u → s2.lists ≡ with_list s1 one (slice_set (list_at s1 one) 0 w))
+      → s3.lists ≡ insert (with_list s2 from (list_at s2 from ++ list_at s2 one)) one []
+      → s3.lists ≡ with_list s0 from (slice_set (list_at s0 from) k w)
+  marked-one s0 s1 s2 s3 from k one u w apart one_live one_empty got e1 written e3 =
+      let xs = list_at s0 from in
+      let back = drop (suc k) xs in
+      let one1 : list_at s1 one ≡ u ∷ back = list-second _ s1 one _ e1 ∙ slice_get-drop k xs u got in
+      let e2 = written (ap (λ ts. slice_get ts 0) one1) ∙ ap (λ ts. with_list s1 one (slice_set ts 0 w)) one1 in
+      rw (slice_set-parts k xs u w got) (changed-behind s0 s1 s2 s3 from k one (w ∷ back) apart one_live one_empty e1 e2 e3)
 
   joined-map : (m : FinMap nat_cmp (List V)) (front back : ℕ) (all : List V) → front ≢ back
       → insert (insert (insert (insert m front all) back []) back all) front [] ≡ insert (insert m front []) back all

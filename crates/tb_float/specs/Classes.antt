@@ -1,5 +1,6 @@
 -- Which classes a walk over floats has passed.
-use Rattle.std.specs.Prelude.{◌≡◌, ℕ, ◌<◌, ◌≤◌, ◌+◌, Bool, true, not, ◌&&◌, List, [], ◌∷◌, length, Some, slice_get, if◌then◌else◌}
+use Rattle.std.specs.Prelude.{◌≡◌, ℕ, ◌<◌, ◌≤◌, ◌≤ℤ◌, ◌+◌, ℤ, Bool, true, not, ◌&&◌, List, [], ◌∷◌, length, Some, slice_get, if◌then◌else◌}
+use Rattle.std.specs.List.{AllByRecursion}
 use Rattle.tb_node.specs.declared.Float.{Float}
 use Rattle.tb_float.specs.declared.classes.ClassSet.{ClassSet}
 use Rattle.tb_float.specs.Lists.{has_class, floats_of}
@@ -19,6 +20,10 @@ AreOfClasses fs all = (k : ℕ) → has_class k all ≡ true → has_class k fs 
 abbrev pub AreKnown : List Bool → List Float → Type 0
 AreKnown known [] = Unit {0}
 AreKnown known (f ∷ fs) = (slice_get known f.class ≡ Some true) × AreKnown known fs
+
+-- none of these floats is lower
+abbrev pub AreAtLeast : ℤ → List Float → Type 0
+AreAtLeast least fs = AllByRecursion (λ (f : Float). least ≤ℤ f.height) fs
 
 -- how many flags are set
 abbrev pub set_count : List Bool → ℕ
@@ -42,7 +47,20 @@ pub record HasLeft (s : ClassSet) (all : List Float) : Type 0 where
 abbrev pub chosen_count : FloatPool → ℕ
 chosen_count v = length (marked_floats parts.Deferred v) + length (marked_floats parts.Second v)
 
--- the classes of all floats in the pool are known, and no more of them are chosen than this
-pub record Tracks (known : List Bool) (chosen : ℕ) (v : FloatPool) : Type 0 where
-  pub classes : (p : Part) → AreKnown known (floats_of p v.lists)
+-- the class of a float is known, and the float is not lower than this
+abbrev pub IsTracked : List Bool → ℤ → Float → Type 0
+IsTracked known least f = (slice_get known f.class ≡ Some true) × (least ≤ℤ f.height)
+
+-- this is so of all floats in the pool, and no more of them are chosen than that
+pub record Tracks (Is : Float → Type 0) (chosen : ℕ) (v : FloatPool) : Type 0 where
+  pub floats : (p : Part) → AllByRecursion Is (floats_of p v.lists)
   pub few : chosen_count v ≤ chosen
+
+-- no mark before a place is set
+abbrev pub IsCleanTo : ℕ → List Bool → Type 0
+IsCleanTo clean ms = (k : ℕ) → slice_get ms k ≡ Some true → clean ≤ k
+
+-- in neither list of floats that wait is a float before this place marked
+pub record IsClean (clean : ℕ) (v : FloatPool) : Type 0 where
+  pub deferred : IsCleanTo clean v.marks
+  pub second : IsCleanTo clean v.second_marks

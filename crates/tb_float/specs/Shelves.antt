@@ -1,21 +1,21 @@
 -- How the pool stores its lists. No public clause cites this module.
-use Rattle.std.specs.Prelude.{◌≡◌, ◌≢◌, ℕ, ℤ, ◌+◌, ◌≤◌, Bool, true, false, List, [], ◌∷◌, length, map}
+use Rattle.std.specs.Prelude.{◌≡◌, ◌≢◌, ℕ, ℤ, ◌+◌, ◌≤◌, Bool, true, false, List, [], ◌∷◌, length, map, slice_get, Some}
 use Rattle.tb_node.specs.declared.Float.{Float}
-use Rattle.tb_pool.specs.Lists.{Lists, IsLive, list_at}
+use Rattle.tb_pool.specs.Lists.{Lists, IsLive, list_at, with_list}
 use Rattle.tb_float.specs.declared.Entry.{Entry}
 use Rattle.tb_float.specs.declared.Entry.TheVariants as entries
 use Rattle.tb_float.specs.declared.Part.{Part}
 use Rattle.tb_float.specs.declared.Part.TheVariants as parts
 use Rattle.tb_float.specs.declared.shelves.Shelves.{Shelves}
 use Rattle.tb_float.specs.declared.by_part.ByPart.{ByPart}
-use Rattle.tb_float.specs.Lists.{FloatLists, floats_among, lists_with, sum_of_lists, holds_notes, holds_marks}
-use Rattle.tb_float.specs.Pool.{FloatPool, pool_with}
+use Rattle.tb_float.specs.Lists.{FloatLists, without_place, floats_among, lists_with, sum_of_lists, holds_notes, holds_marks}
+use Rattle.tb_float.specs.Pool.{FloatPool, pool_with, first_marked}
 use Rattle.tb_float.specs.Ranges.{IsSizedEntry}
 use Rattle.tb_float.specs.Rooms.{total_height}
 use Rattle.tb_float.specs.ByPart.{of_part}
 use Rattle.tb_float.specs.Slots.{SlotView}
 use Rattle.tb_float.specs.declared.classes.ClassSet.{ClassSet}
-use Rattle.tb_float.specs.Classes.{Tracks}
+use Rattle.tb_float.specs.Classes.{IsClean, IsTracked, Tracks}
 
 -- the id of the list of a part
 abbrev pub shelf_of : Shelves → Part → ℕ
@@ -39,6 +39,9 @@ pub record AreShelves (store : Lists SlotView) (s : Shelves) : Type 0 where
 
 abbrev pub unmarked_slot : SlotView → SlotView
 unmarked_slot s = record { entry = s.entry; marked = false }
+
+abbrev pub marked_slot : SlotView → SlotView
+marked_slot s = record { entry = s.entry; marked = true }
 
 -- the entries, the floats and the marks of slots
 abbrev pub entries_in : List SlotView → List Entry
@@ -93,6 +96,13 @@ pub record IsStored (store : Lists SlotView) (shelves : Shelves) (heights : ByPa
   pub places : HasPlaces (slots_of store shelves) size store.spare
 
 -- the pool is stored, and what it knows of classes and of marks holds
-pub record IsPooled (store : Lists SlotView) (shelves : Shelves) (heights : ByPart ℤ) (size : ℕ) (known : ClassSet) (chosen : ℕ) : Type 0 where
+pub record IsPooled (store : Lists SlotView) (shelves : Shelves) (heights : ByPart ℤ) (size : ℕ) (known : ClassSet) (chosen : ℕ) (least : ℤ) (clean : ℕ) : Type 0 where
   pub stored : IsStored store shelves heights size
-  pub tracked : Tracks known.flags chosen (seen_pool (slots_of store shelves) size)
+  pub tracked : Tracks (IsTracked known.flags least) chosen (seen_pool (slots_of store shelves) size)
+  pub clean_to : IsClean clean (seen_pool (slots_of store shelves) size)
+
+-- the first marked slot left its list
+pub record HasTaken (s : SlotView) (from : ℕ) (old new : Lists SlotView) : Type 0 where
+  pub was : slice_get (list_at old from) (first_marked (marks_in (list_at old from))) ≡ Some s
+  pub taken : new.lists ≡ with_list old from (without_place (first_marked (marks_in (list_at old from))) (list_at old from))
+  pub spare : new.spare ≡ old.spare + 1

@@ -5,7 +5,7 @@ ghost use Rattle.tb_float.specs.Lists.{entries_of, floats_of, entry_count, HasFl
 ghost use Rattle.tb_float.specs.Pool.{moved_float, joined_before, with_places, with_float_at, with_mark, without_entry, without_marks, HasNoMarks, marks_of, marked_floats, unmarked_floats, first_marked};
 
 use crate::slots::{
-    entry_height, first_marked, float_in, move_slot, slot_at, take_slot, unmark_all,
+    entry_height, float_in, mark_slot, move_slot, slot_at, take_marked, unmark_all,
 };
 use crate::{Entry, Part, Pool, Slot};
 use tb_node::{Float, Places};
@@ -29,6 +29,7 @@ impl Pool {
         let height = entry_height(&slot.entry);
         self.heights.lower(from, height);
         self.heights.raise(to, height);
+        self.clean = 0;
     }
 
     /// All floats of a list go before those of another, by links alone, and lose their marks.
@@ -46,6 +47,7 @@ impl Pool {
         let height = self.heights.of(from);
         self.heights.lower(from, height);
         self.heights.raise(to, height);
+        self.clean = 0;
     }
 
     /// No float of a list is chosen any more.
@@ -64,6 +66,7 @@ impl Pool {
     {
         let list = self.shelves.lists.of(p);
         unmark_all(&mut self.store, list);
+        self.clean = 0;
     }
 
     /// The first entry of a list leaves the pool. None exactly if the list is empty.
@@ -78,6 +81,7 @@ impl Pool {
             return None;
         };
         self.heights.lower(p, entry_height(&slot.entry));
+        self.clean = 0;
         Some(slot.entry)
     }
 
@@ -98,6 +102,7 @@ impl Pool {
                 marked: slot.marked,
             },
         );
+        self.clean = 0;
     }
 
     /// The float at a place of a list in which floats wait is chosen for a column of floats.
@@ -106,16 +111,13 @@ impl Pool {
         requires place { k < length (floats_of from self.old.lists) }
         ensures { self.new ≡ with_mark from k self.old }
     {
-        let list = self.shelves.lists.of(from);
-        let slot = slot_at(&self.store, list, k);
-        self.store.replace(
-            list,
+        mark_slot(
+            &mut self.store,
+            self.shelves.lists.of(from),
             k,
-            Slot {
-                entry: slot.entry,
-                marked: true,
-            },
+            self.shelves.one,
         );
+        self.clean = clean_place(self.chosen, self.clean, k);
         self.chosen = one_more(self.chosen);
     }
 
@@ -133,16 +135,27 @@ impl Pool {
         if self.chosen == 0 {
             return None;
         }
-        let list = self.shelves.lists.of(from);
-        let k = first_marked(&self.store, list);
-        if k == self.store.len(list) {
+        let Some(slot) = take_marked(
+            &mut self.store,
+            self.shelves.lists.of(from),
+            self.clean,
+            self.shelves.one,
+            self.shelves.rest,
+        ) else {
             return None;
-        }
-        let slot = take_slot(&mut self.store, list, k, self.shelves.one);
+        };
         self.chosen -= 1;
         self.heights.lower(from, entry_height(&slot.entry));
         Some(float_in(slot.entry))
     }
+}
+
+// Up to which place no float is marked, once the one at a place is too.
+fn clean_place(chosen: usize, clean: usize, k: usize) -> usize
+    ensures place { result ≤ k }
+    ensures before { 0 < chosen → result ≤ clean }
+{
+    if chosen == 0 || k < clean { k } else { clean }
 }
 
 // A number of floats and one more; no more than 4096 wait.

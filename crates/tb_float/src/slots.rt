@@ -1,12 +1,13 @@
 //! Slots in the lists of the store: moved by their links, taken out, searched.
-ghost use Rattle.std.specs.Prelude.{◌≡◌, ◌≢◌, ◌+◌, ◌<◌, ◌≤◌, [], ◌∷◌, ◌++◌, Some, IsTrue, length, true, map, slice_get, slice_set, take};
+ghost use Rattle.std.specs.Prelude.{ℕ, ◌≡◌, ◌≢◌, ◌+◌, ◌<◌, ◌≤◌, [], ◌∷◌, ◌++◌, Some, IfSome, IfNone, IsTrue, length, true, map, slice_get, slice_set, take};
 ghost use Rattle.std.specs.FinMap.{insert};
 ghost use Rattle.tb_pool.specs.Lists.{IsLive, list_at, with_list};
 ghost use Rattle.tb_float.specs.Slots.{SlotView};
 ghost use Rattle.tb_float.specs.Lists.{without_place, has_class, float_before};
+ghost use Rattle.tb_float.specs.Classes.{IsCleanTo};
 ghost use Rattle.tb_float.specs.Pool.{first_marked};
 ghost use Rattle.tb_float.specs.Rooms.{total_height};
-ghost use Rattle.tb_float.specs.Shelves.{unmarked_slot, floats_in, marks_in, is_float};
+ghost use Rattle.tb_float.specs.Shelves.{HasTaken, marked_slot, unmarked_slot, floats_in, marks_in, is_float};
 
 use crate::{Entry, Slot};
 use tb_node::Float;
@@ -75,6 +76,93 @@ pub(crate) fn slot_at(store: &Lists<Slot>, l: ListId, k: usize) -> Slot
         Some(slot) => *slot,
         None => unreachable!(),
     }
+}
+
+/// Marks the slot at a place of a list.
+#[tactic(auto, using(tb_pool::proofs::MapLemmas::list_steps))]
+pub(crate) fn mark_slot(store: &mut Lists<Slot>, l: ListId, k: usize, one: ListId)
+    requires live { IsLive store.old l }
+    requires one_live { IsLive store.old one }
+    requires apart { l ≢ one }
+    requires one_empty { list_at store.old one ≡ [] }
+    requires within { k < length (list_at store.old l) }
+    ensures marked { (s : SlotView) → slice_get (list_at store.old l) k ≡ Some s → store.new.lists ≡ with_list store.old l (slice_set (list_at store.old l) k (marked_slot s)) }
+    ensures spare { store.new.spare ≡ store.old.spare }
+{
+    store.cut(l, k, one);
+    mark_first(store, one);
+    store.append(l, one);
+}
+
+// Marks the first slot of a list.
+#[tactic(auto, using(tb_pool::proofs::MapLemmas::list_steps))]
+fn mark_first(store: &mut Lists<Slot>, l: ListId)
+    requires live { IsLive store.old l }
+    requires some { 0 < length (list_at store.old l) }
+    ensures marked { (s : SlotView) → slice_get (list_at store.old l) 0 ≡ Some s → store.new.lists ≡ with_list store.old l (slice_set (list_at store.old l) 0 (marked_slot s)) }
+    ensures lists_live { (q : ℕ) → IsLive store.old q → IsLive store.new q }
+    ensures spare { store.new.spare ≡ store.old.spare }
+{
+    let slot = slot_at(store, l, 0);
+    store.replace(l, 0, marked(slot));
+}
+
+// The slot with a mark.
+fn marked(slot: Slot) -> Slot
+    ensures { result ≡ marked_slot slot }
+{
+    Slot {
+        entry: slot.entry,
+        marked: true,
+    }
+}
+
+/// Takes the first marked slot out of a list in which none before a place is marked. None exactly if none is marked.
+#[tactic(auto, using(tb_pool::proofs::MapLemmas::list_steps))]
+pub(crate) fn take_marked(
+    store: &mut Lists<Slot>,
+    from: ListId,
+    clean: usize,
+    one: ListId,
+    rest: ListId,
+) -> Option<Slot>
+    requires from_live { IsLive store.old from }
+    requires one_live { IsLive store.old one }
+    requires rest_live { IsLive store.old rest }
+    requires differ { (from ≢ one) × (from ≢ rest) × (one ≢ rest) }
+    requires one_empty { list_at store.old one ≡ [] }
+    requires rest_empty { list_at store.old rest ≡ [] }
+    requires clean { IsCleanTo clean (marks_in (list_at store.old from)) }
+    ensures taken { IfSome result (λ s. HasTaken s from store.old store.new) }
+    ensures none { IfNone result (first_marked (marks_in (list_at store.old from)) ≡ length (list_at store.old from)) }
+    ensures unchanged { IfNone result (store.new ≡ store.old) }
+{
+    if store.len(from) <= clean {
+        return None;
+    }
+    store.cut(from, clean, one);
+    let taken = take_first_marked(store, one, rest);
+    store.append(from, one);
+    taken
+}
+
+// Takes the first marked slot out of a list.
+#[tactic(auto, using(tb_pool::proofs::MapLemmas::list_steps))]
+fn take_first_marked(store: &mut Lists<Slot>, from: ListId, one: ListId) -> Option<Slot>
+    requires from_live { IsLive store.old from }
+    requires one_live { IsLive store.old one }
+    requires apart { from ≢ one }
+    requires one_empty { list_at store.old one ≡ [] }
+    ensures taken { IfSome result (λ s. HasTaken s from store.old store.new) }
+    ensures none { IfNone result (first_marked (marks_in (list_at store.old from)) ≡ length (list_at store.old from)) }
+    ensures lists_live { (q : ℕ) → IsLive store.old q → IsLive store.new q }
+    ensures unchanged { IfNone result (store.new ≡ store.old) }
+{
+    let k = first_marked(store, from);
+    if k == store.len(from) {
+        return None;
+    }
+    Some(take_slot(store, from, k, one))
 }
 
 /// Takes the slot at a place out of its list.

@@ -1,17 +1,18 @@
--- If no class is left, no later float joins a company, and none is a head.
-use Rattle.std.proofs.Common.{◌≡◌, ℕ, ◌≤◌, Bool, true, false, not, ◌&&◌, List, [], ◌∷◌, ◌++◌, length, take, drop, Some, None, refl, sym, ap, ◌∙◌, subst, arith}
-use Rattle.std.specs.Prelude.{ℤ, int_le, Option, if◌then◌else◌}
+-- If no class is left, or too little room, no later float joins a company; if no class is left, none is a head.
+use Rattle.std.proofs.Common.{◌≡◌, ◌⊎◌, inl, inr, ℕ, zero, suc, ◌≤◌, Bool, true, false, not, ◌&&◌, List, [], ◌∷◌, ◌++◌, length, take, drop, Some, None, refl, sym, ap, ◌∙◌, subst, arith}
+use Rattle.std.specs.Prelude.{ℤ, ◌+ℤ◌, ◌<ℤ◌, ◌≤ℤ◌, int_le, Option, if◌then◌else◌}
+use Rattle.std.proofs.lemmas.Int.{ints}
 use Rattle.std.proofs.lemmas.List.{append-nil, append_assoc, length-append}
 use Rattle.tb_node.specs.declared.Float.{Float}
 use Rattle.tb_float.specs.declared.classes.ClassSet.{ClassSet}
 use Rattle.tb_float.specs.Lists.{has_class}
-use Rattle.tb_float.specs.Classes.{AreOfClasses}
+use Rattle.tb_float.specs.Classes.{AreAtLeast, AreClassesOf, AreOfClasses, HasLeft}
 use Rattle.tb_float.proofs.HasLemmas.{has-first, has-later, has-more, has-drop}
 use Rattle.tb_fpage.specs.declared.Wanted.{Wanted}
 use Rattle.tb_fpage.specs.declared.walk.Walk.{Walk}
-use Rattle.tb_fpage.specs.Company.{Choice, passed_over, company_height, suits, joins, choices_from, left_floats, is_made, company_of_head, company_from, company}
-use Rattle.tb_fpage.specs.Walk.{EndsBy, IsOnWay, AreTried}
-use Rattle.tb_fpage.proofs.WalkLemmas.{all-chosen, left-append, company-passed, ends-passed}
+use Rattle.tb_fpage.specs.Company.{Choice, passed_over, all_chosen, company_height, suits, joins, choices_from, left_floats, is_made, company_of_head, company_from, company}
+use Rattle.tb_fpage.specs.Walk.{has_chosen, EndsBy, IsOnWay, AreTried}
+use Rattle.tb_fpage.proofs.WalkLemmas.{all-chosen, left-append, company-chosen, company-passed, chosen-passed, ends-passed}
 
 -- ---- classes in lists
 
@@ -55,16 +56,58 @@ ends-closed last before (f ∷ fs) le h =
     let c : Choice = record { float = f; chosen = false } in
     subst (EndsBy last) (append_assoc before (c ∷ []) (passed_over fs)) (ends-closed last (before ++ c ∷ []) fs (omega (arith, le, length-append before (c ∷ []))) (ends-passed last before f le h))
 
--- a walk with no class left has the height and the last float of the company
-pub full-height : (z : Wanted) (w : Walk) (all : List Float) (choices : List Choice) (way : IsOnWay w z all choices) → AreOfClasses (left_floats way.before) all → w.height ≡ company_height z.sep choices
-full-height z w all choices way h =
-    way.stands.height ∙ sym (height-closed z.sep way.before (drop w.seen all))
-    ∙ ap (company_height z.sep) (sym (choices-closed z way.before (drop w.seen all) (classes-after (left_floats way.before) all w.seen h)) ∙ way.ends)
+-- ---- what is left is too low
 
-pub full-ends : (z : Wanted) (w : Walk) (all : List Float) (choices : List Choice) (way : IsOnWay w z all choices) → AreOfClasses (left_floats way.before) all → EndsBy w.last choices
-full-ends z w all choices way h =
-    subst (EndsBy w.last) (sym (choices-closed z way.before (drop w.seen all) (classes-after (left_floats way.before) all w.seen h)) ∙ way.ends)
-    (ends-closed w.last way.before (drop w.seen all) way.stands.last_within way.stands.last)
+not-le : (a b : ℤ) → a <ℤ b → int_le b a ≡ false
+not-le a b h = grind (arith, ints, h)
+
+joins-high : (z : Wanted) (least : ℤ) (before : List Choice) (f : Float) → has_chosen before ≡ true → z.height <ℤ (company_height z.sep before +ℤ z.sep +ℤ least) → least ≤ℤ f.height → joins z before f ≡ false
+joins-high z least before f some high low =
+    let above : z.height <ℤ (company_height z.sep before +ℤ z.sep +ℤ f.height) = omega (arith, ints, high, low) in
+    ap (λ b. suits z f && all_chosen f.class before && b) (ap (λ y. int_le y z.height) (company-chosen z.sep before f some) ∙ not-le z.height _ above) ∙ and-false (suits z f) (all_chosen f.class before)
+  where
+    and-false : (a b : Bool) → (a && b && false) ≡ false
+    and-false true true = refl
+    and-false true false = refl
+    and-false false b = refl
+
+choices-high : (z : Wanted) (least : ℤ) (before : List Choice) (fs : List Float) → has_chosen before ≡ true → z.height <ℤ (company_height z.sep before +ℤ z.sep +ℤ least) → AreAtLeast least fs → choices_from z before fs ≡ before ++ passed_over fs
+choices-high z least before [] some high low = sym (append-nil before)
+choices-high z least before (f ∷ fs) some high low =
+    let c : Choice = record { float = f; chosen = false } in
+    ap (λ b. choices_from z (before ++ record { float = f; chosen = b } ∷ []) fs) (joins-high z least before f some high low.0)
+    ∙ choices-high z least (before ++ c ∷ []) fs (chosen-passed before f ∙ some) (subst (λ (y : ℤ). z.height <ℤ (y +ℤ z.sep +ℤ least)) (sym (company-passed z.sep before f)) high) low.1
+    ∙ append_assoc before (c ∷ []) (passed_over fs)
+
+low-drop : (least : ℤ) (n : ℕ) (fs : List Float) → AreAtLeast least fs → AreAtLeast least (drop n fs)
+low-drop least zero fs h = h
+low-drop least (suc n) [] h = tt
+low-drop least (suc n) (f ∷ fs) h = low-drop least n fs h.1
+
+-- ---- the walk is over
+
+-- if no float that is left joins, the walk has the height and the last float of the company
+closed-height : (z : Wanted) (w : Walk) (all : List Float) (choices : List Choice) (way : IsOnWay w z all choices) → choices_from z way.before (drop w.seen all) ≡ way.before ++ passed_over (drop w.seen all) → w.height ≡ company_height z.sep choices
+closed-height z w all choices way h =
+    way.stands.height ∙ sym (height-closed z.sep way.before (drop w.seen all)) ∙ ap (company_height z.sep) (sym h ∙ way.ends)
+
+closed-ends : (z : Wanted) (w : Walk) (all : List Float) (choices : List Choice) (way : IsOnWay w z all choices) → choices_from z way.before (drop w.seen all) ≡ way.before ++ passed_over (drop w.seen all) → EndsBy w.last choices
+closed-ends z w all choices way h =
+    subst (EndsBy w.last) (sym h ∙ way.ends) (ends-closed w.last way.before (drop w.seen all) way.stands.last_within way.stands.last)
+
+-- what the end of a walk knows: it has the height and the last float of the company
+pub record HasEnded (w : Walk) (z : Wanted) (choices : List Choice) : Type 0 where
+  pub height : w.height ≡ company_height z.sep choices
+  pub last : EndsBy w.last choices
+
+-- a walk with no class left, or with too little room for any float
+pub has-ended : (z : Wanted) (w : Walk) (least : ℤ) (all : List Float) (choices : List Choice) → (((fs gs : List Float) → AreClassesOf w.failed fs → HasLeft w.failed gs → AreOfClasses fs gs) ⊎ (z.height <ℤ (w.height +ℤ z.sep +ℤ least))) → HasLeft w.failed all → AreAtLeast least all → IsOnWay w z all choices → HasEnded w z choices
+has-ended z w least all choices over left low way =
+    let closed : choices_from z way.before (drop w.seen all) ≡ way.before ++ passed_over (drop w.seen all) = elim over [
+      | inl full ↦ choices-closed z way.before (drop w.seen all) (classes-after (left_floats way.before) all w.seen (full (left_floats way.before) all way.stands.failed left))
+      | inr high ↦ choices-high z least way.before (drop w.seen all) way.stands.head (subst (λ (y : ℤ). z.height <ℤ (y +ℤ z.sep +ℤ least)) way.stands.height high) (low-drop least w.seen all low)
+    ] in
+    record { height = closed-height z w all choices way closed; last = closed-ends z w all choices way closed }
 
 -- ---- none is a head
 

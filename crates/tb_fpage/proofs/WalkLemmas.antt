@@ -31,7 +31,7 @@ separated-passed : (sep : ℤ) (cs : List Choice) (f : Float) → separated sep 
 separated-passed sep [] f = refl
 separated-passed sep (c ∷ cs) f = ap (λ z. if c.chosen then sep +ℤ c.float.height +ℤ z else z) (separated-passed sep cs f)
 
-company-chosen : (sep : ℤ) (cs : List Choice) (f : Float) → has_chosen cs ≡ true → company_height sep (cs ++ record { float = f; chosen = true } ∷ []) ≡ company_height sep cs +ℤ sep +ℤ f.height
+pub company-chosen : (sep : ℤ) (cs : List Choice) (f : Float) → has_chosen cs ≡ true → company_height sep (cs ++ record { float = f; chosen = true } ∷ []) ≡ company_height sep cs +ℤ sep +ℤ f.height
 company-chosen sep [] f some = cc
 company-chosen sep (c ∷ cs) f some = by_choice c.chosen _ _ _ _ (separated-chosen sep cs f) (λ is. company-chosen sep cs f is) some
   where
@@ -54,7 +54,7 @@ company-first sep (c ∷ cs) f none = by_choice c.chosen _ _ (λ is. company-fir
     by_choice true x v is h = cc
     by_choice false x v is h = is h
 
-chosen-passed : (cs : List Choice) (f : Float) → has_chosen (cs ++ record { float = f; chosen = false } ∷ []) ≡ has_chosen cs
+pub chosen-passed : (cs : List Choice) (f : Float) → has_chosen (cs ++ record { float = f; chosen = false } ∷ []) ≡ has_chosen cs
 chosen-passed [] f = refl
 chosen-passed (d ∷ cs) f = ap (λ b. d.chosen || b) (chosen-passed cs f)
 
@@ -211,7 +211,7 @@ module _ {X : Type 0} where
   next-after zero (y ∷ xs) rest x is = cc
   next-after (suc k) (y ∷ xs) rest x is = next-after k xs rest x is
 
-  within-drop : (k : ℕ) (xs rest : List X) (x : X) → x ∷ rest ≡ drop k xs → k < length xs
+  pub within-drop : (k : ℕ) (xs rest : List X) (x : X) → x ∷ rest ≡ drop k xs → k < length xs
   within-drop zero [] rest x is = cc
   within-drop (suc k) [] rest x is = cc
   within-drop zero (y ∷ xs) rest x is = omega arith
@@ -248,6 +248,14 @@ on-way-room z w all rest f choices few left way =
     let high = way.stands.within.high in
     let less = within-drop w.seen all rest f left in
     (omega arith, record { low = omega (arith, ints); high = omega (arith, ints) })
+
+-- so many floats are not too high for a sum
+pub on-way-within : (z : Wanted) (w : Walk) (all : List Float) (choices : List Choice) → length all ≤ 4096 → w.seen ≤ length all → IsOnWay w z all choices → IsWithin 151115727451828646838272 w.height
+on-way-within z w all choices few some way =
+    let seen = way.stands.seen in
+    let low = way.stands.within.low in
+    let high = way.stands.within.high in
+    record { low = omega (arith, ints); high = omega (arith, ints) }
 
 -- ---- the entries
 

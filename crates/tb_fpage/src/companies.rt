@@ -123,11 +123,17 @@ fn walk_company(
     ensures last { EndsBy result.last (company_of_place wanted.now place (floats_of from pool.now.lists) f.now) }
 {
     let mut walk = Walk::after_head(place, f.height, *earlier);
+    let least = pool.least_height();
     for entry in pool.entries_from(from, walk.seen) {
-        if walk.failed.is_full() {
+        let f = float_in(entry);
+        let had = walk.failed.has(f.class);
+        walk.visit(wanted, f);
+        if had {
+            continue;
+        }
+        if walk.is_over(wanted, least) {
             return walk;
         }
-        walk.visit(wanted, float_in(entry));
     }
     walk
 }
@@ -156,6 +162,9 @@ pub(crate) fn mark_company(pool: &mut Pool, wanted: &Wanted, from: Part, found: 
     let mut walk = found.walk;
     pool.mark(from, walk.seen - 1);
     for _joined in 0..count {
+        if walk.seen == found.last {
+            return;
+        }
         let Some(place) = next_joined(pool, wanted, from, &mut walk, found.last) else {
             return;
         };

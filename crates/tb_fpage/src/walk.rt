@@ -1,7 +1,7 @@
 //! A walk over the floats after a head, which decides on each whether it joins the head's company.
-ghost use Rattle.std.specs.Prelude.{◌≡◌, ◌<◌, ◌+◌, ◌+ℤ◌, ◌∷◌, ◌++◌, [], List, true};
+ghost use Rattle.std.specs.Prelude.{◌≡◌, ◌<◌, ◌<ℤ◌, ◌+◌, ◌+ℤ◌, ◌⊎◌, ◌∷◌, ◌++◌, [], List, IsTrue, true};
 ghost use Rattle.tb_node.specs.declared.Float.{Float as PlainFloat};
-ghost use Rattle.tb_float.specs.Classes.{AreClassesOf, HasLeft};
+ghost use Rattle.tb_float.specs.Classes.{AreClassesOf, AreOfClasses, HasLeft};
 ghost use Rattle.tb_float.specs.Lists.{has_class};
 ghost use Rattle.tb_float.specs.Ranges.{IsWithin};
 ghost use Rattle.tb_fpage.specs.Company.{Choice, suits, joins};
@@ -37,6 +37,17 @@ impl Walk {
             height: i128::from(height),
             failed: earlier,
         }
+    }
+
+    /// Whether no later float joins, if none is lower than this: all classes stay behind, or what is left is too low.
+    pub(crate) fn is_over(&self, wanted: &Wanted, least: i64) -> bool
+        requires { IsWithin 151115727451828646838272 self.now.height }
+        ensures { IsTrue result → ((fs all : List PlainFloat) → AreClassesOf self.now.failed fs → HasLeft self.now.failed all → AreOfClasses fs all) ⊎ (wanted.now.height <ℤ (self.now.height +ℤ wanted.now.sep +ℤ least)) }
+    {
+        if self.failed.is_full() {
+            return true;
+        }
+        i128::from(wanted.height) < higher(self.height, wanted.sep, least)
     }
 
     /// Decides on the next float, and returns whether it joins the company.

@@ -1,11 +1,13 @@
 //! A galley in the making.
 ghost use Rattle.std.specs.Prelude.{◌≡◌, OnOk};
-ghost use Rattle.tb_galley.specs.Grammar.{with_content, with_item, item_kind};
+ghost use Rattle.tb_galley.specs.Grammar.{with_content, with_foot, with_item, item_kind};
 
 use crate::contents::Content;
 use crate::{Classes, Item, ItemKind, Items, Leaf, LeafKind, Leaves};
 use std::alloc::{AllocError, Global};
+use tb_node::Name;
 use tb_param::Params;
+use tb_scaled::Glue;
 
 /// A foot that is open: its line, its class and its leaves so far.
 #[derive(Drop)]
@@ -33,6 +35,83 @@ impl Draft {
         self.items.push(Item { line, kind })
     }
 
+    /// Adds a box.
+    #[inline(always)]
+    pub fn add_box(
+        &mut self,
+        line: u32,
+        name: Name,
+        height: i64,
+        depth: i64,
+    ) -> Result<(), AllocError>
+        ensures { OnOk result (self.new ≡ with_content self.old line (Content.Plain (LeafKind.Hbox name height depth))) }
+    {
+        match &mut self.foot {
+            Some(foot) => foot.leaves.push(Leaf {
+                line,
+                kind: LeafKind::Hbox {
+                    name,
+                    height,
+                    depth,
+                },
+            }),
+            None => self.items.push(Item {
+                line,
+                kind: ItemKind::Hbox {
+                    name,
+                    height,
+                    depth,
+                },
+            }),
+        }
+    }
+
+    /// Adds glue.
+    #[inline(always)]
+    pub fn add_glue(&mut self, line: u32, glue: Glue) -> Result<(), AllocError>
+        ensures { OnOk result (self.new ≡ with_content self.old line (Content.Plain (LeafKind.Skip glue))) }
+    {
+        match &mut self.foot {
+            Some(foot) => foot.leaves.push(Leaf {
+                line,
+                kind: LeafKind::Skip(glue),
+            }),
+            None => self.items.push(Item {
+                line,
+                kind: ItemKind::Skip(glue),
+            }),
+        }
+    }
+
+    /// Begins a foot.
+    #[inline(always)]
+    pub fn begin_foot(&mut self, alloc: Global, line: u32, class: u8)
+        ensures { self.new ≡ with_content self.old line (Content.Foot class) }
+    {
+        self.foot = Some(OpenFoot {
+            line,
+            class,
+            leaves: Leaves::new(alloc),
+        });
+    }
+
+    /// Ends the foot that is open, if there is one.
+    #[inline(always)]
+    pub fn end_foot(&mut self) -> Result<(), AllocError>
+        ensures { OnOk result (self.new ≡ with_foot self.old self.old.foot) }
+    {
+        match self.foot.take() {
+            Some(
+                OpenFoot {
+                    line,
+                    class,
+                    leaves,
+                },
+            ) => self.add_item(line, ItemKind::Foot { class, leaves }),
+            None => Ok(()),
+        }
+    }
+
     /// Adds what a line says.
     pub fn add(&mut self, alloc: Global, line: u32, content: Content) -> Result<(), AllocError>
         ensures { OnOk result (self.new ≡ with_content self.old line content) }
@@ -56,23 +135,10 @@ impl Draft {
             },
             Content::Item(kind) => self.add_item(line, kind),
             Content::Foot { class } => {
-                self.foot = Some(OpenFoot {
-                    line,
-                    class,
-                    leaves: Leaves::new(alloc),
-                });
+                self.begin_foot(alloc, line, class);
                 Ok(())
             }
-            Content::Endfoot => match self.foot.take() {
-                Some(
-                    OpenFoot {
-                        line,
-                        class,
-                        leaves,
-                    },
-                ) => self.add_item(line, ItemKind::Foot { class, leaves }),
-                None => Ok(()),
-            },
+            Content::Endfoot => self.end_foot(),
             Content::End => {
                 self.end_line = line;
                 Ok(())

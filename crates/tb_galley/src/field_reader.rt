@@ -1,5 +1,5 @@
 //! Reads the fields of a line.
-ghost use Rattle.std.specs.Prelude.{◌≡◌, ◌<◌, ◌≤◌, ◌+◌, [], map, ◌≤ℤ◌, ◌∷◌, IfOk, MatchOption, ℤ, nat_abs, not, ◌==◌, codes, false, length, Option, Some, None, if◌then◌else◌};
+ghost use Rattle.std.specs.Prelude.{◌≡◌, ◌<◌, ◌≤◌, ◌+◌, [], map, ◌≤ℤ◌, ◌∷◌, true, IfOk, IfSome, MatchOption, ℤ, nat_abs, not, ◌==◌, codes, false, length, Option, Some, None, if◌then◌else◌, IsTrue};
 ghost use Rattle.std.specs.List.{list_all, list_any};
 ghost use Rattle.tb_galley.specs.Faults.{is_printable};
 ghost use Rattle.tb_galley.specs.Fields.{text_cause, are_places, is_place_byte, is_foot_class, class_slot};
@@ -9,6 +9,7 @@ ghost use Rattle.tb_galley.specs.FieldReader.{left_of, Gives, GivesBy, next_left
 ghost use Rattle.tb_text.specs.Lines.{begins_with, fields_of};
 
 use crate::fields::{At, Fields};
+use crate::glue_words::{after_minus, after_plus};
 use crate::{Cause, ClassLine};
 use tb_node::{FOOTNOTES, Name, Places, name_of};
 use tb_scaled::{Glue, Order};
@@ -19,6 +20,14 @@ pub fn is_printable(field: &[u8]) -> bool
     ensures { result ≡ list_all is_printable field.now }
 {
     field.iter().all(|b| *b >= 33 && *b <= 126)
+}
+
+/// Whether a first field has printable bytes only. If it is a word, it has no others.
+pub fn is_visible(head: &[u8], is_word: bool) -> bool
+    requires { IsTrue is_word → list_all is_printable head.now ≡ true }
+    ensures { result ≡ list_all is_printable head.now }
+{
+    is_word || is_printable(head)
 }
 
 /// Whether a field begins a comment.
@@ -75,6 +84,9 @@ impl<'a> Fields<'a> {
     pub fn end(&mut self) -> Result<(), At>
         ensures { Gives result (left_of self.new) (end_left (left_of self.old)) }
     {
+        if self.rest.is_empty() {
+            return Ok(());
+        }
         let number = self.number;
         let Some((field, _)) = split_field(self.rest) else {
             return Ok(());
@@ -93,6 +105,7 @@ impl<'a> Fields<'a> {
     }
 
     /// The next field as a dimension, in scaled points.
+    #[inline(always)]
     #[tactic(auto, unfolding(crate::specs::FieldReader::dimension_left))]
     pub fn dimension(&mut self) -> Result<i64, At>
         ensures { Gives result (left_of self.new) (dimension_left (left_of self.old)) }
@@ -124,6 +137,7 @@ impl<'a> Fields<'a> {
         }
     }
 
+    #[inline(always)]
     #[tactic(auto, unfolding(crate::specs::FieldReader::stretch_left))]
     fn stretch(&mut self) -> Result<(i64, Order), At>
         ensures { Gives result (left_of self.new) (stretch_left (left_of self.old)) }
@@ -156,6 +170,7 @@ impl<'a> Fields<'a> {
     }
 
     /// A dimension that is at least this.
+    #[inline(always)]
     #[tactic(auto, unfolding(crate::specs::FieldReader::least_left))]
     pub fn dimension_from(&mut self, low: i64, cause: Cause) -> Result<i64, At>
         ensures { Gives result (left_of self.new) (least_left low cause (left_of self.old)) }
@@ -237,14 +252,15 @@ impl<'a> Fields<'a> {
     pub fn is_at_end(&self) -> bool
         ensures { result ≡ is_end (left_of self.now).fields }
     {
-        split_field(self.rest).is_none()
+        self.rest.is_empty() || split_field(self.rest).is_none()
     }
 
+    #[inline(always)]
     #[tactic(auto, unfolding(crate::specs::FieldReader::stretch_part))]
     fn stretch_part(&mut self) -> Result<(i64, Order), At>
         ensures { Gives result (left_of self.new) (stretch_part (left_of self.old)) }
     {
-        match after_word(b"plus", self.rest) {
+        match after_plus(self.rest) {
             Some(rest) => {
                 self.rest = rest;
                 self.number += 1;
@@ -254,11 +270,15 @@ impl<'a> Fields<'a> {
         }
     }
 
+    #[inline(always)]
     #[tactic(auto, unfolding(crate::specs::FieldReader::shrink_part))]
     fn shrink_part(&mut self, cause: Cause) -> Result<i64, At>
         ensures { Gives result (left_of self.new) (shrink_part cause (left_of self.old)) }
     {
-        match after_word(b"minus", self.rest) {
+        if self.rest.is_empty() {
+            return Ok(0);
+        }
+        match after_minus(self.rest) {
             Some(rest) => {
                 self.rest = rest;
                 self.number += 1;
@@ -286,6 +306,7 @@ impl<'a> Fields<'a> {
     }
 
     /// Glue; any other word in it is a fault with this cause.
+    #[inline(always)]
     #[tactic(auto, unfolding(crate::specs::FieldReader::glue_left))]
     pub fn glue(&mut self, cause: Cause) -> Result<Glue, At>
         ensures { Gives result (left_of self.new) (glue_left cause (left_of self.old)) }
@@ -357,6 +378,7 @@ impl<'a> Fields<'a> {
     }
 
     /// The next three fields as a name, a height and a depth, both in scaled points and at least 0.
+    #[inline(always)]
     #[tactic(auto, unfolding(crate::specs::FieldReader::sized_left))]
     pub fn sized(&mut self) -> Result<(Name, i64, i64), At>
         ensures { Gives result (left_of self.new) (sized_left (left_of self.old)) }
@@ -389,17 +411,6 @@ impl<'a> Fields<'a> {
                 cause: cause_in(field, Cause::BadName),
             }),
         }
-    }
-}
-
-// What follows the first field of a line, if that is this word.
-fn after_word<'a>(word: &[u8], line: &'a [u8]) -> Option<&'a [u8]>
-    ensures fields { MatchOption result (next_is_by word.now (fields_of line.now) ≡ false) (λ r. fields_of line.now ≡ word.now ∷ fields_of r.now) }
-    ensures shorter { MatchOption result (0 ≤ length line.now) (λ r. length r.now < length line.now) }
-{
-    match split_field(line) {
-        Some((field, rest)) if field == word => Some(rest),
-        _ => None,
     }
 }
 

@@ -13,7 +13,6 @@ pub mod CauseOrder
 pub mod ReaderRuns
 pub mod FieldReads
 pub mod SameStep
-pub mod VisibleWords
 pub mod AllWays
 pub mod LeastOf
 pub mod SolveSteps

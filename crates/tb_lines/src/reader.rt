@@ -1,9 +1,7 @@
 //! Reads a text of paragraphs line by line.
 ghost use Rattle.std.specs.Prelude.{◌≡◌, ◌<◌, ◌≤◌, ◌+◌, length, OnOk, IfOk, IfSome, Option, None};
-ghost use Rattle.std.specs.List.{fold, list_all};
-ghost use Rattle.tb_lines.specs.Words.{word_of};
+ghost use Rattle.std.specs.List.{fold};
 ghost use Rattle.tb_text.specs.Lines.{lines_of};
-ghost use Rattle.tb_galley.specs.Faults.{is_printable};
 ghost use Rattle.tb_lines.specs.Grammar.{reading, HasRoom};
 ghost use Rattle.tb_lines.specs.Line.{line_left};
 ghost use Rattle.tb_lines.specs.ValidText.{IsValidText};
@@ -15,23 +13,12 @@ use crate::draft::Draft;
 use crate::text::Text;
 use crate::words::{Word, count_with, item_cause, missing_cause, next_phase, place_cause, word_of};
 use std::alloc::{AllocError, Global};
-use tb_galley::{At, Cause, Fault, Fields, Phase, begins_comment, end_cause, is_printable};
+use tb_galley::{At, Cause, Fault, Fields, Phase, begins_comment, end_cause, is_visible};
 use tb_text::{split_field, split_line};
 
 const INPUT_LIMIT: usize = tb_galley::INPUT_LIMIT as usize;
 
 const MAX_LINE: usize = 255;
-
-// Whether a first field has visible characters only, by the word that it is: the known words have no others.
-fn is_visible(head: &[u8], word: Option<Word>) -> bool
-    requires { word ≡ word_of head.now }
-    ensures { result ≡ list_all is_printable head.now }
-{
-    match word {
-        Some(_) => true,
-        None => is_printable(head),
-    }
-}
 
 // The word of a line and what it says, or nothing if the line is skipped.
 #[tactic(auto, unfolding(crate::specs::Line::line_left, crate::specs::Line::content_line))]
@@ -54,7 +41,7 @@ fn read_line(
         return Ok(None);
     }
     let word = word_of(head);
-    if !is_visible(head, word) {
+    if !is_visible(head, word.is_some()) {
         return Err(At::new(1, Cause::NotAscii));
     }
     if let Some(cause) = place_cause(phase, word) {
@@ -122,11 +109,7 @@ impl Reader {
                 self.count = count_with(self.count, word);
             }
             Err(at) => {
-                self.first = Some(Fault {
-                    line: number,
-                    field: at.field,
-                    cause: at.cause,
-                });
+                self.first = Some(at.on_line(number));
             }
         }
         Ok(())
@@ -147,11 +130,7 @@ impl Reader {
             return Err(fault);
         }
         if let Some(cause) = end_cause(phase, Cause::UnclosedPar) {
-            return Err(Fault {
-                line: lines + 1,
-                field: 0,
-                cause,
-            });
+            return Err(At::new(0, cause).on_line(lines + 1));
         }
         let Draft {
             params,

@@ -1,9 +1,10 @@
 -- The output routine's machine as contracts see it.
 use Rattle.std.specs.Prelude.{◌≡◌, ◌≤◌, ℕ, suc, ℤ, pos, ◌≤ℤ◌, Bool, false, List, [], ◌∷◌, ◌++◌, map, Option, Some, None, IsSome}
 use Rattle.std.specs.List.{AllByRecursion}
-use Rattle.tb_pool.specs.Lists.{Lists}
+use Rattle.tb_pool.specs.Lists.{Lists, list_at}
 use Rattle.tb_node.specs.declared.Node.{Node}
-use Rattle.tb_node.specs.PlainNodes.{PlainNode, plain_list}
+use Rattle.tb_node.specs.PlainNodes.{PlainNode, plain_list, shape_of}
+use Rattle.tb_node.specs.Sums.{size_of}
 use Rattle.tb_node.specs.Fit.{IsExtent, IsPenalty}
 use Rattle.tb_param.specs.declared.Params.{Params}
 use Rattle.tb_insert.specs.declared.Class.{Class}
@@ -33,6 +34,7 @@ pub record MachineView : Type 0 where
   pub page : ℕ
   pub dead_cycles : ℕ
   pub held_page : ℕ
+  pub held_room : ℤ
   pub note_bottom : ℤ
   pub suppress : Suppress
   pub two_columns : Bool
@@ -116,6 +118,11 @@ IsPageLeft store (Some c) = IsPageColumn store c
 
 -- ---- what holds between two calls
 
+-- the height plus the depth of these nodes, if there are any
+abbrev pub IsRoomOf : List Node → ℤ → Type 0
+IsRoomOf [] room = Unit {0}
+IsRoomOf (n ∷ ns) room = room ≡ size_of (map shape_of (n ∷ ns))
+
 -- a limit on pages or firings
 pub record IsLimit (z : ℤ) : Type 0 where
   pub low : pos 0 ≤ℤ z
@@ -147,7 +154,7 @@ AreClassesFrom k [] = Unit {0}
 AreClassesFrom k (c ∷ cs) = (k ≤ c.number) × IsSizedGlue c.skip × AreClassesFrom (suc c.number) cs
 
 -- the parameters, the classes and the page's number are in their ranges, the pool is as large as the parameters say and chooses no float,
--- a second column has a first one, and the machine's lists may be on pages, no two of them the same
+-- a second column has a first one, the room of the held page is known, and the machine's lists may be on pages, no two of them the same
 pub record IsMachine (m : MachineView) (store : Lists Node) : Type 0 where
   pub params : AreOutputParams m.params
   pub classes : AreClassesFrom 0 m.classes
@@ -158,6 +165,7 @@ pub record IsMachine (m : MachineView) (store : Lists Node) : Type 0 where
   pub unmarked : HasNoMarks m.pool
   pub left : m.first_column ≡ false → IsSome m.left_column
   pub held_page : IsPageList store m.held_page
+  pub held_room : IsRoomOf (list_at store m.held_page) m.held_room
   pub left_column : IsPageLeft store m.left_column
   pub events : AllByRecursion (IsPageSent store) m.events
   pub apart : AreDistinct (machine_lists m)

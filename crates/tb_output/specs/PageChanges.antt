@@ -1,5 +1,5 @@
 -- How the machine changes when it ships a page, and when a column is done.
-use Rattle.std.specs.Prelude.{◌≡◌, ◌+◌, ℕ, pos, true, false, [], ◌∷◌, ◌++◌, int_lt, Some, None}
+use Rattle.std.specs.Prelude.{◌≡◌, ◌+◌, ℕ, ℤ, pos, true, false, [], ◌∷◌, ◌++◌, int_lt, Some, None}
 use Rattle.tb_float.specs.declared.Part.TheVariants as parts
 use Rattle.tb_float.specs.Lists.{FloatLists, wide_part, wide_waiting}
 use Rattle.tb_float.specs.Pool.{without_entries}
@@ -38,9 +38,9 @@ HasNotShipped (faults.DeadCycles n) m now = ⊥
 HasNotShipped (faults.PageLimit n) m now = IsFull n m now
 HasNotShipped faults.Memory m now = now ≡ m
 
--- this page is held
-abbrev pub with_held : ℕ → MachineView → MachineView
-with_held l m = record m { held_page = l }
+-- this page of this room is held
+abbrev pub with_held : ℕ → ℤ → MachineView → MachineView
+with_held l room m = record m { held_page = l; held_room = room }
 
 -- the first of two columns is kept for the second
 abbrev pub with_left : Column → MachineView → MachineView

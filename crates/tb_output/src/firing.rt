@@ -4,7 +4,9 @@ ghost use Rattle.std.specs.Prelude.{◌≡◌, ◌≢◌, ◌+◌, ◌≤◌, �
 ghost use Rattle.tb_pool.specs.Lists.{list_at};
 ghost use Rattle.tb_pool.specs.Frame.{IsNoneOf, OnlyChanged};
 ghost use Rattle.tb_scaled.specs.Scaled.{eject_penalty};
+ghost use Rattle.tb_node.specs.Fit.{shapes};
 ghost use Rattle.tb_node.specs.PlainNodes.{plain_list};
+ghost use Rattle.tb_node.specs.Sums.{size_of};
 ghost use Rattle.tb_builder.specs.Contents.{contents_of, box_count};
 ghost use Rattle.tb_builder.specs.Contributions.{NoPage};
 ghost use Rattle.tb_builder.specs.Courses.{IsSound};
@@ -135,7 +137,7 @@ impl Machine {
         ensures keeps { KeepsServing page.now.body back self.old self.new b.old b.new store.old store.new }
     {
         if is_signal(page.penalty, HOLD_PENALTY) {
-            self.hold(store, page.body);
+            self.hold(store, page.body, page.room);
             return Ok(());
         }
         let notes = self.take_notes(store, b)?;
@@ -161,25 +163,27 @@ impl Machine {
         take_notes(self.alloc, store, b, &self.classes)
     }
 
-    // Holds the page until the next firing, and drops what was held before.
-    fn hold(&mut self, store: &mut Lists<Node>, body: ListId)
+    // Holds the page of this room until the next firing, and drops what was held before.
+    fn hold(&mut self, store: &mut Lists<Node>, body: ListId, room: i64)
         requires machine { IsMachine self.old store.old }
         requires body { IsPageList store.old body }
+        requires room { room ≡ size_of (shapes store.old body) }
         requires apart { IsNoneOf body (machine_lists self.old) }
         ensures done { Does (shows self.old store.old) (shows self.new store.new) (hold (plain_list store.old body)) }
         ensures keeps { KeepsMachine (body ∷ []) self.old self.new store.old store.new }
     {
-        let before = self.exchange_held(body);
+        let before = self.exchange_held(body, room);
         drop_list(store, before);
     }
 
-    // Holds another page from now on; returns the list of the one before.
-    fn exchange_held(&mut self, body: ListId) -> ListId
+    // Holds another page of this room from now on; returns the list of the one before.
+    fn exchange_held(&mut self, body: ListId, room: i64) -> ListId
         ensures before { result ≡ self.old.held_page }
-        ensures machine { self.new ≡ with_held body self.old }
+        ensures machine { self.new ≡ with_held body room self.old }
     {
         let before = self.held_page;
         self.held_page = body;
+        self.held_room = room;
         before
     }
 

@@ -77,6 +77,7 @@ pub fn new_machine(
         page: 1,
         dead_cycles: 0,
         held_page,
+        held_room: 0,
         note_bottom: 0,
         suppress: no_suppress(),
         two_columns: false,

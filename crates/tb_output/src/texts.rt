@@ -13,7 +13,7 @@ ghost use Rattle.tb_column.specs.Notes.{IsNote, AreRisingFrom, notes_shown, note
 ghost use Rattle.tb_column.specs.Page.{IsPageList};
 ghost use Rattle.tb_column.specs.FloatColumns.{made_node};
 ghost use Rattle.tb_output.specs.Text.{notes_height, list_back, float_or_note, without_firing_box};
-ghost use Rattle.tb_output.specs.Machine.{machine_lists, IsMachine};
+ghost use Rattle.tb_output.specs.Machine.{machine_lists, IsRoomOf, IsMachine};
 ghost use Rattle.tb_output.specs.FiringWork.{shows_back, shows_page, IsCutShort, Does};
 ghost use Rattle.tb_output.specs.MachineFrame.{AreTextLists, HasGrown, IsBack, back_lists, KeepsBack};
 ghost use Rattle.tb_output.specs.BackList.{insertion_of, insertions_again};
@@ -22,10 +22,11 @@ ghost use Rattle.tb_output.specs.Notes.{AreKnownNotes};
 ghost use Rattle.tb_output.specs.FiringParts.{IsTextSize, HasTextBack};
 
 use crate::back_list::{push_made, shorten};
+use crate::extents::text_extent;
 use crate::{Machine, RunFault};
 use std::alloc::AllocError;
 use tb_column::NoteBox;
-use tb_node::{Insertion, Kind, Node, What, Where, list_extent};
+use tb_node::{Insertion, Kind, Node, list_extent};
 use tb_param::Params;
 use tb_pool::{ListId, Lists};
 use tb_scaled::difference;
@@ -85,35 +86,63 @@ impl Machine {
         ensures err { OnErr result (Does (shows_page back notes.now self.now store.old) (IsCutShort RunFault.Memory self.now store.new) (list_back self.now.params (plain_list store.old self.now.held_page ++ without_firing_box (plain_list store.old body)))) }
         ensures keeps { KeepsBack back (body ∷ note_lists notes.now) self.now self.now store.old store.new }
     {
-        self.text_back(store, body, back);
-        let size = text_size(store, back, notes);
+        let room = self.text_back(store, body, back);
+        let size = text_size(store, back, room, notes);
         insertions_back(store, &self.params, notes, back)?;
         Ok(size)
     }
 
-    // The held page and the page go back, without the box and the glue at the end of the page.
-    fn text_back(&self, store: &mut Lists<Node>, body: ListId, back: ListId)
-        requires held { IsLive store.old self.now.held_page }
-        requires body { IsLive store.old body }
+    // The held page and the page go back, without the box and the glue at the end of the page; returns their room.
+    fn text_back(&self, store: &mut Lists<Node>, body: ListId, back: ListId) -> i64
+        requires held { IsPageList store.old self.now.held_page }
+        requires held_room { IsRoomOf (list_at store.old self.now.held_page) self.now.held_room }
+        requires body { IsPageList store.old body }
         requires back { IsLive store.old back }
         requires held_apart { self.now.held_page ≢ body }
         requires back_apart { back ≢ self.now.held_page }
         requires body_apart { back ≢ body }
-        ensures { HasTextBack back self.now.held_page body store.old store.new }
+        ensures lists { HasTextBack back self.now.held_page body store.old store.new }
+        ensures room { list_at store.old back ≡ [] → result ≡ size_of (shapes store.new back) }
     {
         let count = store.len(body);
         shorten(store, body, if count < 2 { 0 } else { count - 2 });
+        let room = self.text_room(store, body);
         store.append(back, self.held_page);
         store.append(back, body);
         store.close(body);
+        room
+    }
+
+    // The height plus the depth of the held page with these nodes behind it.
+    fn text_room(&self, store: &Lists<Node>, body: ListId) -> i64
+        requires held { IsPageList store.now self.now.held_page }
+        requires held_room { IsRoomOf (list_at store.now self.now.held_page) self.now.held_room }
+        requires body { IsPageList store.now body }
+        ensures { result ≡ size_of (shapes store.now self.now.held_page) +ℤ size_of (shapes store.now body) }
+    {
+        sum_of(self.held_height(store), list_height(store, body))
+    }
+
+    // The height plus the depth of the held page, which was told when it fired.
+    fn held_height(&self, store: &Lists<Node>) -> i64
+        requires held { IsPageList store.now self.now.held_page }
+        requires room { IsRoomOf (list_at store.now self.now.held_page) self.now.held_room }
+        ensures value { result ≡ size_of (shapes store.now self.now.held_page) }
+        ensures small { IsAmount result }
+    {
+        if store.len(self.held_page) == 0 {
+            return 0;
+        }
+        self.held_room
     }
 }
 
-// The size of a text with these insertions.
-fn text_size(store: &Lists<Node>, text: ListId, notes: &[NoteBox]) -> TextSize
+// The size of a text of this room with these insertions.
+fn text_size(store: &Lists<Node>, text: ListId, room: i64, notes: &[NoteBox]) -> TextSize
     requires live { IsLive store.now text }
     requires sized { All IsSizedNode (list_at store.now text) }
     requires few { length (list_at store.now text) ≤ 8388608 }
+    requires room { room ≡ size_of (shapes store.now text) }
     requires notes { AllByRecursion (IsNote store.now) notes.now }
     requires rising { AreRisingFrom 0 notes.now }
     requires few_notes { note_count store.now notes.now ≤ 8388608 }
@@ -124,7 +153,7 @@ fn text_size(store: &Lists<Node>, text: ListId, notes: &[NoteBox]) -> TextSize
     ensures small_page { IsAmount result.page }
     ensures extent { IsExtent result.depth }
 {
-    let extent = list_extent(store, text);
+    let extent = text_extent(store, text, room);
     TextSize {
         height: difference(extent.room, extent.depth),
         depth: extent.depth,

@@ -6,11 +6,11 @@ use Rattle.std.specs.FinMap as map
 use Rattle.slab.specs.Slab.{Slab, get, with_value}
 use Rattle.slab.proofs.SlabLemmas.{Updates-with_value}
 use Rattle.tb_pool.specs.Lists.{listed}
-use Rattle.tb_pool.specs.Links.{value_at, next_at, IsChain, IsStack, IsEnds, IsLinked, Shape, IsShaped, IsSound, values_of}
+use Rattle.tb_pool.specs.Links.{value_at, next_at, IsChain, IsEnds, IsLinked, Shape, IsShaped, IsSound, values_of}
 use Rattle.tb_pool.specs.declared.Node.{Node}
 use Rattle.tb_pool.specs.declared.Ends.{Ends}
 use Rattle.tb_pool.proofs.MapLemmas.{total-with_value}
-use Rattle.tb_pool.proofs.ChainLemmas.{IsChain-stays, IsChain-append, IsChain-drop, IsStack-stays, joint_of, get-chain, get-links, IsEnds-append, IsEnds-one}
+use Rattle.tb_pool.proofs.ChainLemmas.{IsChain-stays, IsChain-append, IsChain-drop, joint_of, get-chain, get-links, IsEnds-append, IsEnds-one}
 use Rattle.tb_pool.proofs.ShapeLemmas.{put, put_same, put_other, put_both, listed-two, items-shaped, when_eq, when_ne}
 use Rattle.tb_pool.proofs.JoinLemmas.{last_node, first_node}
 
@@ -18,11 +18,11 @@ use Rattle.tb_pool.proofs.JoinLemmas.{last_node, first_node}
 abbrev pub alone : ℕ → Ends
 alone key = record { first = key; last = key; len = 1 }
 
-module _ {T : Type 0} (nodes : Slab (Node T)) (heads : Slab Ends) (free spare places : ℕ) (s : Shape T) (h : IsShaped nodes heads free spare places s)
+module _ {T : Type 0} (nodes : Slab (Node T)) (heads : Slab Ends) (spare places : ℕ) (s : Shape T) (h : IsShaped nodes heads spare places s)
     (a b : ℕ) (d e : Ends) (apart : a ≢ b) (at_a : get heads a ≡ Some d) (at_b : get heads b ≡ Some e) (has : 0 < d.len)
     (new : Slab (Node T)) (linked : IsLinked nodes new e (alone d.first)) (v : T) (vs : List T) (items_is : s.items a ≡ v ∷ vs) where
   first : (s.owner d.first ≡ a) × (s.rank d.first ≡ 0) × IsSome (value_at (get nodes d.first)) × (d.first ≡ get_or (s.keys a) 0 0)
-  first = first_node nodes heads free spare places s h a d at_a has
+  first = first_node nodes heads spare places s h a d at_a has
 
   value_first : value_at (get nodes d.first) ≡ Some v
   value_first =
@@ -39,7 +39,7 @@ module _ {T : Type 0} (nodes : Slab (Node T)) (heads : Slab Ends) (free spare pl
 
   not_last : (m k i : ℕ) → s.owner k ≡ m → s.rank k ≡ i → (m ≡ b → suc i < length (s.keys b)) → 0 < e.len → k ≢ e.last
   not_last m k i own at more some same =
-      let last = last_node nodes heads free spare places s h b e at_b some in
+      let last = last_node nodes heads spare places s h b e at_b some in
       let mine : m ≡ b = sym own ∙ ap s.owner same ∙ last.0 in
       omega (arith, more mine, ap s.rank same, at, last.1)
 
@@ -64,7 +64,7 @@ module _ {T : Type 0} (nodes : Slab (Node T)) (heads : Slab Ends) (free spare pl
         owner = put_other s.owner d.first b k ne ∙ own;
         rank = put_other (λ k. cond (eqb (s.owner k) a) (s.rank k - 1) (s.rank k)) d.first (length (s.keys b)) k ne ∙ when_eq (s.owner k) a (s.rank k - 1) (s.rank k) own ∙ omega (arith, at);
         value = linked.value k ∙ val;
-        next = λ _. linked.next k (λ some same. apart (sym own ∙ ap s.owner same ∙ (last_node nodes heads free spare places s h b e at_b some).0));
+        next = λ _. linked.next k (λ some same. apart (sym own ∙ ap s.owner same ∙ (last_node nodes heads spare places s h b e at_b some).0));
         prev = λ _. linked.prev k (λ _. ne);
       })
 
@@ -91,19 +91,7 @@ module _ {T : Type 0} (nodes : Slab (Node T)) (heads : Slab Ends) (free spare pl
     items = put (put s.items a (drop 1 (s.items a))) b (s.items b ++ v ∷ []);
     owner = owner';
     rank = rank';
-    stack = s.stack;
-    height = s.height;
   }
-
-  still_free : IsStack new s.height free s.stack
-  still_free = IsStack-stays nodes new s.height s.height free s.stack h.free_nodes (λ k low empty found.
-      let full : (q : ℕ) → IsSome (value_at (get nodes q)) → k ≢ q = λ q some same.
-      let gone : value_at (get nodes q) ≡ None = ap (λ z. value_at (get nodes z)) (sym same) ∙ empty in true≢false (sym some ∙ ap is_some gone) in (
-        linked.others k
-            (λ some. full e.last (last_node nodes heads free spare places s h b e at_b some).2)
-            (λ _. full d.first first.2),
-        refl,
-      ))
 
   shorter_ends : (r : Ends) → r.len + 1 ≡ d.len → r.first ≡ next_at (get nodes d.first) → r.last ≡ d.last → IsEnds r (drop 1 (s.keys a))
   shorter_ends r fewer r_first r_last =
@@ -123,7 +111,7 @@ module _ {T : Type 0} (nodes : Slab (Node T)) (heads : Slab Ends) (free spare pl
   -- after the first node of a list went to the end of another the store is sound, and contracts see just that change
   pub move_done : (r z : Ends) → r.len + 1 ≡ d.len → r.first ≡ next_at (get nodes d.first) → r.last ≡ d.last
       → z.len ≡ e.len + 1 → (0 < e.len → z.first ≡ e.first) → (e.len ≡ 0 → z.first ≡ d.first) → z.last ≡ d.first
-      → IsSound new (with_value (with_value heads a r) b z) free spare places
+      → IsSound new (with_value (with_value heads a r) b z) spare places
       × (listed (values_of new) (with_value (with_value heads a r) b z) ≡ map.insert (map.insert (listed (values_of nodes) heads) a vs) b (unwrap_or (map.get (listed (values_of nodes) heads) b) [] ++ v ∷ []))
   unfolding move_shape
   move_done r z fewer r_first r_last more z_some z_none z_last =
@@ -149,18 +137,17 @@ module _ {T : Type 0} (nodes : Slab (Node T)) (heads : Slab Ends) (free spare pl
           | inr na ↦ rw (put_other s.keys a ks q na) (h.ends q x (sym (t.others q nb ∙ u.others q na) ∙ at_q))
         ])
       ] in
-      let shaped : IsShaped new new_heads free spare places move_shape = record {
+      let shaped : IsShaped new new_heads spare places move_shape = record {
         chains = put_both (λ m is zs. IsChain new owner' rank' m 0 is zs) (put s.keys a ks) (put s.items a xs) b js ys behind
             (put_both (λ m is zs. m ≢ b → IsChain new owner' rank' m 0 is zs) s.keys s.items a ks xs (λ _. rest) (λ m na nb. kept m na));
         ends = ends;
-        free_nodes = still_free;
-        spare_is = h.spare_is;
+        room = linked.room spare h.room;
         places_is = omega (arith, h.places_is, total-with_value w heads a d r at_a, total-with_value w (with_value heads a r) b e z still_b);
       } in
       let items_a : put (put s.items a xs) b ys a ≡ vs = put_other (put s.items a xs) b ys a apart ∙ put_same s.items a xs ∙ ap (drop 1) items_is in
-      let seen = listed-two nodes heads free spare places s h new new_heads free spare places move_shape shaped a b r z apart new_a t.changed (λ q na nb. t.others q nb ∙ u.others q na)
+      let seen = listed-two nodes heads spare places s h new new_heads spare places move_shape shaped a b r z apart new_a t.changed (λ q na nb. t.others q nb ∙ u.others q na)
       (λ m na nb. put_other (put s.items a xs) b ys m nb ∙ put_other s.items a xs m na) in
-      let seen_b = items-shaped nodes heads free spare places s h b e at_b in
+      let seen_b = items-shaped nodes heads spare places s h b e at_b in
       ((move_shape, shaped), rw (seen_b, ← items_a) (seen ∙ ap (map.insert (map.insert (listed (values_of nodes) heads) a (put (put s.items a xs) b ys a)) b) (put_same (put s.items a xs) b ys)))
 
 pub first_of : {T : Type 0} (xs : List T) → 0 < length xs → (v : T) × ((vs : List T) × (xs ≡ v ∷ vs))

@@ -6,30 +6,6 @@ ghost use Rattle.tb_pool.specs.Links.{IsLinked, IsPath, HasPath, IsEnds};
 
 use crate::{Ends, Node};
 use slab::Slab;
-use std::mem;
-
-/// Puts a value where there is none.
-#[inline(always)]
-pub fn fill<T>(place: &mut Option<T>, v: T)
-    requires { place.old ≡ None }
-    ensures { place.new ≡ Some v }
-{
-    match mem::replace(place, Some(v)) {
-        None => {}
-        Some(_) => unreachable!(),
-    }
-}
-
-/// The value in a place that holds one.
-pub fn held_in<T>(place: &Option<T>) -> &T
-    requires { IsSome place.now }
-    ensures { place.now ≡ Some result.now }
-{
-    match place {
-        Some(v) => v,
-        None => unreachable!(),
-    }
-}
 
 /// Links the last node of a list to the first of another, if each has one.
 pub fn link<T>(nodes: &mut Slab<Node<T>>, front: Ends, back: Ends)

@@ -1,5 +1,5 @@
 -- The first field of a line, as an amount of a number that was read.
-use Rattle.std.proofs.Common.{◌≡◌, ℕ, suc, ◌+◌, ◌*◌, ◌<◌, ◌≤◌, pos, Bool, true, false, ◌&&◌, List, [], ◌∷◌, ◌++◌, length, take, drop, get_or, codes, if◌then◌else◌, refl, ap, sym, ◌∙◌, arith, length-drop}
+use Rattle.std.proofs.Common.{◌≡◌, ℕ, suc, ◌+◌, ◌-◌, ◌*◌, ◌<◌, ◌≤◌, pos, Bool, true, false, ◌&&◌, List, [], ◌∷◌, ◌++◌, length, take, drop, get_or, codes, if◌then◌else◌, refl, ap, sym, ◌∙◌, arith, length-drop}
 use Rattle.std.specs.List.{list_all, prefix_len}
 use Rattle.std.proofs.lemmas.List.Sums.{prefix_len_passes, prefix_len-le-length}
 use Rattle.std.proofs.lemmas.List.{length-take, drop-drop}
@@ -7,7 +7,8 @@ use Rattle.std.proofs.Math.Seq.{take-add}
 use Rattle.std.proofs.lemmas.Bool.Decides.{nat_tests}
 use Rattle.tb_text.specs.Lines.{is_blank, is_mark, fields_of}
 use Rattle.tb_text.specs.Parts.{IsFront, IsFirstAmount}
-use Rattle.tb_text.specs.Numbers.{is_digit, digits_at, past_digits, dimension_by, stretch_by}
+use Rattle.tb_text.specs.Numbers.{is_digit, digits_at, past_digits, number_of, dimension_by, stretch_by}
+use Rattle.tb_text.proofs.Digits.{digit_small}
 use Rattle.tb_text.proofs.FirstField.{first_field_is}
 use Rattle.tb_text.proofs.NumberTexts.{IsNumeralOf, plain_part, nothing_more, by_points, by_points_stretch}
 use Rattle.tb_text.proofs.SmallNumbers.{IsRead, few_read}
@@ -98,3 +99,35 @@ module _ (line : List ℕ) (n : ℕ) (rest : List ℕ) (front : IsFront line n r
     stretch = ap stretch_by (plain_part (digits_at line) (codes "pt") (digits_all line) front.some refl) ∙ by_points_stretch n (digits_at line) numeral few;
     shorter = let size : length rest ≡ length (112 ∷ 116 ∷ after) = ap length e in omega (arith, rest_shorter);
   }
+
+-- ---- one digit and `pt`
+
+module _ (d : ℕ) (rest : List ℕ) (digit : is_digit d ≡ true) where
+  abbrev digit_line : List ℕ
+  digit_line = d ∷ 112 ∷ 116 ∷ rest
+
+  one_digit : prefix_len is_digit digit_line ≡ 1
+  one_digit = ap (λ t. if t then 1 + 0 else 0) digit
+
+  digit_front : IsFront digit_line (d - 48) (112 ∷ 116 ∷ rest)
+  digit_front =
+      let front : digits_at digit_line ≡ d ∷ [] = ap (λ n. take n digit_line) one_digit in
+      let small : d - 48 < 10 = digit_small d digit in
+      record {
+        some = let l : length (digits_at digit_line) ≡ 1 = ap length front in omega arith;
+        value = ap number_of front ∙ (let none : 0 + (d - 48) ≡ d - 48 = omega arith in none);
+        past = ap (λ n. drop n digit_line) one_digit;
+        small = omega arith;
+      }
+
+  pub digit_amount : (line : List ℕ) → line ≡ 32 ∷ digit_line → prefix_len is_mark rest ≡ 0 → IsFirstAmount line (pos ((d - 48) * 65536)) rest
+  digit_amount line e marks =
+      let small : d - 48 < 10 = digit_small d digit in
+      let first : IsFirstAmount digit_line (pos ((d - 48) * 65536)) rest = points_amount digit_line (d - 48) (112 ∷ 116 ∷ rest) digit_front (omega arith) rest refl marks in
+      record {
+        field = first.field;
+        fields = ap fields_of e ∙ first.fields;
+        dimension = first.dimension;
+        stretch = first.stretch;
+        shorter = let l : length line ≡ length (32 ∷ digit_line) = ap length e in let shorter : length rest < length digit_line = first.shorter in omega arith;
+      }

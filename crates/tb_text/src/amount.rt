@@ -5,14 +5,51 @@ ghost use Rattle.tb_text.specs.Lines.{is_mark};
 ghost use Rattle.tb_text.specs.Parts.{IsFront, IsFirstAmount};
 
 use crate::line::{is_blank, past_blanks};
-use crate::number::front_number;
+use crate::number::{front_number, is_digit};
 
 // The greatest whole number of points that is no greater than the greatest dimension.
 const MAX_POINTS: u32 = 16_383;
 
 /// The first field of a line as an amount in scaled points, and what follows it, if the field is a few digits alone or
-/// with `pt` behind, as most amounts are; `None` says nothing of other lines.
+/// with `pt` behind, as most amounts are; `None` says nothing of other lines. It is inlined, so that one digit with `pt`
+/// costs no call.
+#[inline(always)]
 pub fn split_amount(line: &[u8]) -> Option<(i64, &[u8])>
+    ensures { IfSome result (λ r. IsFirstAmount line.now r.0 r.1.now) }
+{
+    match digit_points(line) {
+        Some((amount, rest)) => Some((i64::from(amount), rest)),
+        None => split_digits_amount(line),
+    }
+}
+
+// The same of one digit with `pt` behind and a space before it.
+#[inline(always)]
+fn digit_points(line: &[u8]) -> Option<(u32, &[u8])>
+    ensures { IfSome result (λ r. IsFirstAmount line.now (pos r.0) r.1.now) }
+{
+    match byte_of_points(line) {
+        Some((byte, rest)) if is_digit(byte) && ends_field(rest) => {
+            Some((u32::from(byte - b'0') * 65_536, rest))
+        }
+        _ => None,
+    }
+}
+
+// What comes between a space and `pt`, if it is one byte, and what follows them.
+#[inline(always)]
+fn byte_of_points(line: &[u8]) -> Option<(u8, &[u8])>
+    ensures { IfSome result (λ r. line.now ≡ 32 ∷ r.0 ∷ 112 ∷ 116 ∷ r.1.now) }
+{
+    match line {
+        [b' ', byte, b'p', b't', rest @ ..] => Some((*byte, rest)),
+        _ => None,
+    }
+}
+
+// The same of any number of digits.
+#[inline(never)]
+fn split_digits_amount(line: &[u8]) -> Option<(i64, &[u8])>
     ensures { IfSome result (λ r. IsFirstAmount line.now r.0 r.1.now) }
 {
     let line = past_blanks(line);

@@ -5,5 +5,6 @@ pub mod EventCounts
 pub mod TallyLemmas
 pub mod PrintablePages
 pub mod GoingLemmas
+pub mod TurnLemmas
 pub mod FinishLemmas
 pub mod FuelLemmas

@@ -3,7 +3,7 @@ use Rattle.std.specs.Prelude.{List}
 use Rattle.tb_dvi.specs.File.{Page}
 use Rattle.tb_dvi.specs.Progress.{sent_pages}
 use Rattle.tb_run.specs.Run.{Run, RunEvent}
-use Rattle.tb_top.specs.PagesWritten.{sent_among}
+use Rattle.tb_top.specs.Views.{sent_among}
 
 -- the pages that are shipped among events
 abbrev pub event_pages : List RunEvent → List Page

@@ -3,6 +3,8 @@ use Rattle.std.specs.Prelude.{◌≡◌, ◌⊎◌, ℕ, ℤ, Bool, List, ◌++�
 use Rattle.std.specs.Io.KnownBytes.{Appends}
 use Rattle.tb_io.specs.Faults.{Rose}
 use Rattle.tb_io.specs.Sink.{AppendsPrefix}
+use Rattle.tb_io.specs.declared.sink.SinkFault.{SinkFault}
+use Rattle.tb_io.specs.declared.sink.SinkFault.TheVariants as outputs
 use Rattle.tb_dvi.specs.declared.page.DviFault.{DviFault}
 use Rattle.tb_dvi.specs.declared.page.DviFault.TheVariants as unwritten
 use Rattle.tb_dvi.specs.declared.progress.Progress.{Progress}
@@ -14,7 +16,7 @@ use Rattle.tb_top.specs.declared.PageFault.{PageFault}
 use Rattle.tb_top.specs.declared.PageFault.TheVariants as faults
 use Rattle.tb_top.specs.declared.dvi_pages.DviRunFault.{DviRunFault}
 use Rattle.tb_top.specs.declared.dvi_pages.DviRunFault.TheVariants as refused
-use Rattle.tb_top.specs.PagesWritten.{IsRefusalOf}
+use Rattle.tb_top.specs.PagesWritten.{write_fault, IsRefusalOf}
 
 -- the refusal of a page that has no bytes
 abbrev pub page_failure : DviFault → DviRunFault
@@ -47,12 +49,7 @@ SendsPages (Err e) start now w ps = FailsAmong e start now ps
 -- a page is out of range, or writing failed: there was no memory, or the sink failed
 abbrev pub IsWriteFailure : ℕ → ℕ → DviRunFault → Type 0
 IsWriteFailure before now (refused.TooFar page) = Unit {0}
-IsWriteFailure before now (refused.Pages faults.Memory) = Unit {0}
-IsWriteFailure before now (refused.Pages faults.WriteFault) = Rose before now
-IsWriteFailure before now (refused.Pages (faults.PoolFull line live)) = ⊥
-IsWriteFailure before now (refused.Pages (faults.DeadCycles n)) = ⊥
-IsWriteFailure before now (refused.Pages (faults.PageLimit n)) = ⊥
-IsWriteFailure before now (refused.Pages (faults.NodeLimit n)) = ⊥
+IsWriteFailure before now (refused.Pages f) = (fault : SinkFault) × (f ≡ write_fault fault) × (fault ≡ outputs.Failed → Rose before now)
 
 -- the postamble and the end of the file that was written so far
 abbrev pub last_bytes : ℤ → Progress → List ℕ
@@ -65,7 +62,7 @@ EndsFile textheight w ending old new = (ending ≡ endings.Done) × Appends old 
 -- the ending is a refusal, and nothing more is written; or the run ended well, and writing the end of the file failed
 abbrev pub StopsRun : ℤ → Progress → Ending → Option (List ℕ) → Option (List ℕ) → PageFault → Type 0
 StopsRun textheight w ending old new f =
-    (IsRefusalOf ending f × (new ≡ old)) ⊎ ((ending ≡ endings.Done) × ((f ≡ faults.WriteFault) ⊎ (f ≡ faults.Memory)) × AppendsPrefix old new (last_bytes textheight w))
+    (IsRefusalOf ending f × (new ≡ old)) ⊎ ((ending ≡ endings.Done) × ((fault : SinkFault) × (f ≡ write_fault fault)) × AppendsPrefix old new (last_bytes textheight w))
 
 abbrev pub StopsFile : ℤ → Progress → Ending → Option (List ℕ) → Option (List ℕ) → DviRunFault → Type 0
 StopsFile textheight w ending old new (refused.Pages f) = StopsRun textheight w ending old new f

@@ -14,6 +14,7 @@ pub mod ColumnRows
 pub mod VersionRows
 pub mod LinesRows
 pub mod MakeupRows
+pub mod Views
 pub mod PagesWritten
 pub mod DviPages
 pub mod DviRefusal

@@ -1,5 +1,5 @@
 -- The status and the line of each refusal.
-use Rattle.std.specs.Prelude.{◌≡◌, ℕ, List, [], codes, Result, Ok, Err}
+use Rattle.std.specs.Prelude.{◌≡◌, ℕ, List, [], Result, Ok, Err}
 use Rattle.tb_galley.specs.declared.Galley.{Galley}
 use Rattle.tb_galley.specs.declared.GalleyFault.{GalleyFault}
 use Rattle.tb_galley.specs.declared.GalleyFault.TheVariants as unread

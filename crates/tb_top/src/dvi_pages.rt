@@ -14,13 +14,13 @@ ghost use Rattle.tb_top.specs.DviPages.{event_pages};
 ghost use Rattle.tb_top.specs.DviFiles.{WritesFile, RefusesFile};
 ghost use Rattle.tb_top.specs.DviWritten.{HoldsPages, SendsPages, IsWriteFailure, EndsFile, StopsFile};
 
-use crate::pages::{fault_of, show};
-use crate::{PageFault, View};
+use crate::PageFault;
+use crate::pages::fault_of;
 use std::alloc::{AllocError, Global};
 use tb_column::{Sent, Sheet};
 use tb_dvi::{DviFault, Progress, pre_bytes};
 use tb_galley::Galley;
-use tb_io::Sink;
+use tb_io::{Sink, SinkFault, write_all};
 use tb_node::Node;
 use tb_param::Params;
 use tb_pool::Lists;
@@ -46,13 +46,14 @@ impl From<AllocError> for DviRunFault {
     }
 }
 
-impl From<PageFault> for DviRunFault {
+impl From<SinkFault> for DviRunFault {
     ghost use Rattle.tb_top.specs.declared.dvi_pages.DviRunFault.TheVariants.{Pages};
+    ghost use Rattle.tb_top.specs.PagesWritten.{write_fault};
 
-    ghost from_gives = { λ fault e. e ≡ Pages fault };
+    ghost from_gives = { λ fault e. e ≡ Pages (write_fault fault) };
 
-    fn from(fault: PageFault) -> Self {
-        DviRunFault::Pages(fault)
+    fn from(fault: SinkFault) -> Self {
+        DviRunFault::Pages(fault.into())
     }
 }
 
@@ -82,7 +83,7 @@ pub fn paginate_dvi<K: Sink>(alloc: Global, galley: &Galley, out: &mut K) -> Res
     ensures cause { result ≡ Err (DviRunFault.Pages PageFault.WriteFault) → Rose (K.faults out.old) (K.faults out.new) }
 {
     let start = pre_bytes(alloc)?;
-    show(View::Report, &start, out)?;
+    write_all(out, &start)?;
     let mut routine = Routine::new(alloc, galley)?;
     let mut progress = Progress::new();
     let mut happened = Vec::new(alloc);
@@ -175,7 +176,7 @@ fn send_page<K: Sink>(
 {
     text.clear();
     progress.put_next(text, alloc, store, number, sheet)?;
-    show(View::Report, text.as_slice(), out)?;
+    write_all(out, text.as_slice())?;
     Ok(())
 }
 
@@ -199,6 +200,6 @@ fn finish<K: Sink>(
     }
     let mut text = Vec::new(alloc);
     progress.put_end(&mut text, params)?;
-    show(View::Report, &text, out)?;
+    write_all(out, &text)?;
     Ok(())
 }

@@ -16,6 +16,7 @@ mod rows;
 mod status;
 mod summary;
 mod top;
+mod views;
 
 pub use laws::{
     classes_keep_their_order, dead_cycles_are_few, dvi_files_list_their_pages, each_makes_up_once,

@@ -4,27 +4,19 @@ ghost use Rattle.std.specs.Prelude.{◌≡◌, ◌≢◌, ◌≤◌, [], Err, On
 ghost use Rattle.tb_io.specs.Faults.{Rose};
 ghost use Rattle.tb_galley.specs.Valid.{IsValid};
 ghost use Rattle.tb_report.specs.Lines.{end_lines};
-ghost use Rattle.tb_report.specs.RunTotals.{AreCounts};
 ghost use Rattle.tb_plain.specs.Run.{makeup_of};
 ghost use Rattle.tb_plain.specs.Suitability.{IsSuited};
-ghost use Rattle.tb_run.specs.Happenings.{events_of};
-ghost use Rattle.tb_run.specs.Routine.{ArePages};
 ghost use Rattle.tb_top.specs.MakeupLaws.{MakesUpOnce};
 ghost use Rattle.tb_top.specs.MakeupPages.{MakesPages, RefusesPages};
-ghost use Rattle.tb_top.specs.MakeupWritten.{Shows, EndsWell, StopsWith};
-ghost use Rattle.tb_top.specs.Report.{traced_lines, all_lines};
-ghost use Rattle.tb_top.specs.PagesWritten.{with_events};
+ghost use Rattle.tb_top.specs.MakeupWritten.{write_fault, EndsWell, StopsWith};
 
 use crate::View;
-use crate::pages::{count_happened, put_happened};
+use crate::views::{send, show};
 use std::alloc::{AllocError, Global};
 use tb_galley::Galley;
-use tb_io::{Sink, SinkFault, write_all};
+use tb_io::{Sink, SinkFault};
 use tb_makeup::{Makeup, MakeupEnding};
-use tb_node::Node;
-use tb_pool::Lists;
 use tb_report::{HEADER, Totals, put_totals};
-use tb_run::Happening;
 
 /// Why a run under plain TeX's page makeup or its writing stopped.
 #[derive(Clone, Copy, Debug, PartialEq, Eq)]
@@ -46,6 +38,17 @@ impl From<AllocError> for PlainRunFault {
 
     fn from(_: AllocError) -> Self {
         PlainRunFault::Memory
+    }
+}
+
+impl From<SinkFault> for PlainRunFault {
+    ghost from_gives = { λ fault e. e ≡ write_fault fault };
+
+    fn from(fault: SinkFault) -> Self {
+        match fault {
+            SinkFault::Failed => PlainRunFault::WriteFault,
+            SinkFault::Memory => PlainRunFault::Memory,
+        }
     }
 }
 
@@ -90,40 +93,6 @@ pub fn paginate_plain<K: Sink>(
         }
         makeup.done_with(&happened);
     }
-}
-
-// Writes bytes of the report, if the view shows them.
-fn show<K: Sink>(view: View, bytes: &[u8], out: &mut K) -> Result<(), PlainRunFault>
-    ensures { Shows view (K.held out.old) (K.held out.new) (K.faults out.old) (K.faults out.new) bytes.now result }
-{
-    match view {
-        View::Silent => Ok(()),
-        View::Report | View::Trace => match write_all(out, bytes) {
-            Ok(()) => Ok(()),
-            Err(SinkFault::Failed) => Err(PlainRunFault::WriteFault),
-            Err(SinkFault::Memory) => Err(PlainRunFault::Memory),
-        },
-    }
-}
-
-// Counts the page that was sent, and writes its lines, in a text that is used again.
-fn send<K: Sink>(
-    store: &Lists<Node>,
-    happened: &[Happening],
-    view: View,
-    totals: &mut Totals,
-    text: &mut Vec<u8>,
-    out: &mut K,
-) -> Result<(), PlainRunFault>
-    requires pages { ArePages store.now happened.now }
-    requires room { AreCounts (with_events (events_of store.now happened.now) totals.old) }
-    ensures shown { Shows view (K.held out.old) (K.held out.new) (K.faults out.old) (K.faults out.new) (all_lines traced_lines (events_of store.now happened.now)) result }
-    ensures counted { OnOk result (totals.new ≡ with_events (events_of store.now happened.now) totals.old) }
-{
-    count_happened(store, happened, totals);
-    text.clear();
-    put_happened(text, store, happened, view)?;
-    show(view, text.as_slice(), out)
 }
 
 // The line of the totals. Nothing is left of a run that ended well.

@@ -1,32 +1,26 @@
 //! From a galley to the text of its run.
 
-ghost use Rattle.std.specs.Prelude.{◌≡◌, ◌≢◌, ◌≤◌, ◌∷◌, [], ◌++◌, Err, OnOk, IfOk, IfErr, IfNone, IfSome};
+ghost use Rattle.std.specs.Prelude.{◌≡◌, ◌≢◌, ◌≤◌, Err, IfOk, IfErr, IfNone, IfSome};
 ghost use Rattle.tb_io.specs.Faults.{Rose};
 ghost use Rattle.tb_galley.specs.Valid.{IsValid};
 ghost use Rattle.tb_pool.specs.Lists.{IsLive};
-ghost use Rattle.tb_report.specs.RunTotals.{AreCounts};
 ghost use Rattle.tb_run.specs.Run.{run_of};
-ghost use Rattle.tb_run.specs.Happenings.{event_of, events_of};
-ghost use Rattle.tb_run.specs.Routine.{IsPage, ArePages};
 ghost use Rattle.tb_top.specs.Laws.{KeepsLaws, WithinLimits};
 ghost use Rattle.tb_top.specs.DeadCycles.{HasRoomForCycles};
 ghost use Rattle.tb_top.specs.Pages.{Paginates, Refuses, IsNotForCycles};
-ghost use Rattle.tb_top.specs.Report.{traced_lines, all_lines};
-ghost use Rattle.tb_top.specs.PagesWritten.{Shows, viewed, with_events, is_traced, EndsWell, StopsWith, IsRefusalOf, IsFaultRefusal};
+ghost use Rattle.tb_top.specs.PagesWritten.{write_fault, EndsWell, StopsWith, IsRefusalOf, IsFaultRefusal};
 
 #[cfg(test)]
 mod tests;
 
+use crate::views::{is_traced, send, show};
 use crate::{PageFault, View};
 use std::alloc::{AllocError, Global};
 use tb_galley::Galley;
-use tb_io::{Sink, SinkFault, write_all};
-use tb_node::Node;
+use tb_io::{Sink, SinkFault};
 use tb_output::RunFault;
-use tb_pool::Lists;
-use tb_report::{HEADER, Totals, end_text, put_sent};
-use tb_run::{Ending, Happening, Routine};
-use tb_trace::put_try;
+use tb_report::{HEADER, Totals, end_text};
+use tb_run::{Ending, Routine};
 
 impl From<AllocError> for PageFault {
     ghost use Rattle.tb_top.specs.declared.PageFault.TheVariants.{Memory};
@@ -35,6 +29,17 @@ impl From<AllocError> for PageFault {
 
     fn from(_: AllocError) -> Self {
         PageFault::Memory
+    }
+}
+
+impl From<SinkFault> for PageFault {
+    ghost from_gives = { λ fault e. e ≡ write_fault fault };
+
+    fn from(fault: SinkFault) -> Self {
+        match fault {
+            SinkFault::Failed => PageFault::WriteFault,
+            SinkFault::Memory => PageFault::Memory,
+        }
     }
 }
 
@@ -83,117 +88,6 @@ pub fn paginate<K: Sink>(
             return finish(alloc, &routine, view, &totals, ending, out);
         }
         routine.done_with(&happened);
-    }
-}
-
-// Writes bytes of the report, if the view shows them.
-pub(crate) fn show<K: Sink>(view: View, bytes: &[u8], out: &mut K) -> Result<(), PageFault>
-    ensures { Shows view (K.held out.old) (K.held out.new) (K.faults out.old) (K.faults out.new) bytes.now result }
-{
-    match view {
-        View::Silent => Ok(()),
-        View::Report | View::Trace => match write_all(out, bytes) {
-            Ok(()) => Ok(()),
-            Err(SinkFault::Failed) => Err(PageFault::WriteFault),
-            Err(SinkFault::Memory) => Err(PageFault::Memory),
-        },
-    }
-}
-
-// Whether a view shows the places that were tried.
-fn is_traced(view: View) -> bool
-    ensures { result ≡ is_traced view }
-{
-    match view {
-        View::Report => false,
-        View::Trace => true,
-        View::Silent => false,
-    }
-}
-
-// Counts what was sent, and writes the lines of what happened, in a text that is used again.
-fn send<K: Sink>(
-    store: &Lists<Node>,
-    happened: &[Happening],
-    view: View,
-    totals: &mut Totals,
-    text: &mut Vec<u8>,
-    out: &mut K,
-) -> Result<(), PageFault>
-    requires pages { ArePages store.now happened.now }
-    requires room { AreCounts (with_events (events_of store.now happened.now) totals.old) }
-    ensures shown { Shows view (K.held out.old) (K.held out.new) (K.faults out.old) (K.faults out.new) (all_lines traced_lines (events_of store.now happened.now)) result }
-    ensures counted { OnOk result (totals.new ≡ with_events (events_of store.now happened.now) totals.old) }
-{
-    count_happened(store, happened, totals);
-    text.clear();
-    put_happened(text, store, happened, view)?;
-    show(view, text.as_slice(), out)
-}
-
-// Counts the pages and warnings that were sent.
-pub(crate) fn count_happened(store: &Lists<Node>, happened: &[Happening], totals: &mut Totals)
-    requires pages { ArePages store.now happened.now }
-    requires room { AreCounts (with_events (events_of store.now happened.now) totals.old) }
-    ensures { totals.new ≡ with_events (events_of store.now happened.now) totals.old }
-{
-    for happening in happened {
-        count_happening(store, happening, totals);
-    }
-}
-
-fn count_happening(store: &Lists<Node>, happening: &Happening, totals: &mut Totals)
-    requires page { IsPage store.now happening.now }
-    requires room { AreCounts (with_events (event_of store.now happening.now ∷ []) totals.old) }
-    ensures { totals.new ≡ with_events (event_of store.now happening.now ∷ []) totals.old }
-{
-    match happening {
-        Happening::Tried(_) => {}
-        Happening::Sent(event) => totals.count(store, &event.sent),
-    }
-}
-
-// Appends the lines of what happened to a text, unless the view shows nothing.
-pub(crate) fn put_happened(
-    text: &mut Vec<u8>,
-    store: &Lists<Node>,
-    happened: &[Happening],
-    view: View,
-) -> Result<(), AllocError>
-    requires pages { ArePages store.now happened.now }
-    ensures { OnOk result (viewed view text.new.items ≡ viewed view (text.old.items ++ all_lines traced_lines (events_of store.now happened.now))) }
-{
-    match view {
-        View::Silent => Ok(()),
-        View::Report | View::Trace => put_lines(text, store, happened),
-    }
-}
-
-fn put_lines(
-    text: &mut Vec<u8>,
-    store: &Lists<Node>,
-    happened: &[Happening],
-) -> Result<(), AllocError>
-    requires pages { ArePages store.now happened.now }
-    ensures { OnOk result (text.new.items ≡ text.old.items ++ all_lines traced_lines (events_of store.now happened.now)) }
-{
-    for happening in happened {
-        put_happening(text, store, happening)?;
-    }
-    Ok(())
-}
-
-fn put_happening(
-    text: &mut Vec<u8>,
-    store: &Lists<Node>,
-    happening: &Happening,
-) -> Result<(), AllocError>
-    requires { IsPage store.now happening.now }
-    ensures { OnOk result (text.new.items ≡ text.old.items ++ traced_lines (event_of store.now happening.now)) }
-{
-    match happening {
-        Happening::Tried(tried) => put_try(text, tried),
-        Happening::Sent(event) => put_sent(text, store, &event.sent),
     }
 }
 

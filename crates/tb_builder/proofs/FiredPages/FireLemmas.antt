@@ -1,11 +1,13 @@
 -- A page fires: what the builder held before, and what it holds afterwards.
-use Rattle.std.proofs.Common.{◌≡◌, ◌≢◌, refl, sym, subst, ◌∙◌, ap, ℕ, ◌≤◌, ℤ, true, false, List, [], ◌∷◌, ◌++◌, map, length, take, drop, Option, Some, None, is_some, IsSome, append_assoc}
+use Rattle.std.proofs.Common.{◌≡◌, ◌≢◌, refl, sym, subst, ◌∙◌, ap, ℕ, ◌≤◌, ℤ, pos, ◌+ℤ◌, true, false, List, [], ◌∷◌, ◌++◌, map, length, take, drop, Option, Some, None, is_some, IsSome, append_assoc, arith}
 use Rattle.std.specs.FinMap.{get}
 use Rattle.std.proofs.lemmas.Bool.{true≢false}
+use Rattle.std.proofs.lemmas.Int.{ints}
 use Rattle.std.proofs.lemmas.List.{length-map, take-append-drop}
 use Rattle.tb_pool.specs.Lists.{Lists, IsLive, list_at, with_list}
 use Rattle.tb_node.specs.declared.Node.{Node}
-use Rattle.tb_node.specs.PlainNodes.{PlainNode, plain_of, without_insertions, plain_list}
+use Rattle.tb_node.specs.PlainNodes.{PlainKind, plain, ins, act, PlainNode, matter_shape, plain_of, without_insertions, plain_list}
+use Rattle.tb_node.specs.Sums.{room_of, size_of}
 use Rattle.tb_break.specs.declared.Best.{Best}
 use Rattle.tb_break.specs.Best.{Breakpoint, best_or}
 use Rattle.tb_break.specs.Scan.{best_of}
@@ -74,6 +76,20 @@ module _ (b : Builder) (c : Contents) (h : Breaks b c) where
 
     pub break_cost : x.cost ≡ place_of_break.cost
     break_cost = ap (λ (y : Best). y.cost) break_is
+
+    -- the room up to the break
+    pub break_room : x.size ≡ size_of (page_shapes (take place_of_break.place c.page))
+    break_room = ap (λ (y : Best). y.size) break_is ∙ champion.room
+
+-- an insertion takes no room on the page
+pub body_room : (ns : List PlainNode) → size_of (page_shapes (without_insertions ns)) ≡ size_of (page_shapes ns)
+body_room [] = refl
+body_room (n ∷ ns) = by_kind n.kind (body_room ns)
+  where
+    by_kind : (k : PlainKind) → size_of (page_shapes (without_insertions ns)) ≡ size_of (page_shapes ns) → (let x : PlainNode = record { line = n.line; kind = k } in size_of (page_shapes (without_insertions (x ∷ ns))) ≡ size_of (page_shapes (x ∷ ns)))
+    by_kind (plain m) ih = ap (λ z. room_of (matter_shape m) +ℤ z) ih
+    by_kind (ins i) ih = omega (arith, ints, ih)
+    by_kind (act a) ih = ap (λ z. pos 0 +ℤ z) ih
 
 -- there is a best place
 pub some_best : (b : Builder) (c : Contents) → Breaks b c → b.course.scan.best ≡ None → ⊥
@@ -171,7 +187,7 @@ module _ (b : Builder) (s e t : Lists Node) (body : ℕ) (x : Best) (sound : IsS
     module _ (d g : Builder) (u : Lists Node) (p : Page) (sorts : SortsTo b t g u body)
         (sorted : (z : Frozen) (page : List PlainNode) → IsAccountOf b.course.account z page (contents_of b t).page → Sorted z (contents_of b t).boxes (contents_of b t).page (contents_of g u) (plain_list u body) (contents_of b t).page)
         (empty : list_at u b.page ≡ []) (clear : d ≡ record g { frozen = None; opened = false; stopped = false; course = record g.course { lasting = false } })
-        (body_is : p.body ≡ body) (cost : p.cost ≡ x.cost) (size : p.size ≡ b.course.best_goal)
+        (body_is : p.body ≡ body) (room : p.room ≡ x.size) (cost : p.cost ≡ x.cost) (size : p.size ≡ b.course.best_goal)
         (line : p.line ≡ line_at (drop x.index (contents_of b e).page ++ (contents_of b e).waiting))
         (penalty : p.penalty ≡ penalty_at (drop x.index (contents_of b e).page ++ (contents_of b e).waiting))
         (held : p.held ≡ length (list_at u g.held)) where
@@ -257,6 +273,7 @@ module _ (b : Builder) (s e t : Lists Node) (body : ℕ) (x : Best) (sound : IsS
       page_here = record {
         live = subst (IsLive u) (sym body_is) sorts.body_live;
         body = ap (plain_list u) body_is ∙ done.body_is ∙ ap without_insertions cut_page;
+        room = room ∙ break_room b (contents_of b s) at x is ∙ sym (body_room (take there.place (contents_of b s).page));
         penalty = penalty ∙ ap penalty_at behind;
         cost = cost ∙ break_cost b (contents_of b s) at x is;
         size = size ∙ (champion b (contents_of b s) at).goal_is;

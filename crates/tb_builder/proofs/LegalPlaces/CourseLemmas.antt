@@ -1,6 +1,6 @@
 -- The course of a page: a place is tried, a node goes on the page, an insertion comes.
 use Rattle.std.proofs.Common.{◌≡◌, refl, sym, subst, ◌∙◌, ap, ℕ, ◌≤◌, ℤ, pos, Bool, true, false, List, [], ◌∷◌, ◌++◌, length, Option, None, Some, append_assoc, append-nil, length-append, arith}
-use Rattle.std.specs.Prelude.{int_le, not, ◌<ℤ◌, ◌≤ℤ◌, if◌then◌else◌, map}
+use Rattle.std.specs.Prelude.{int_le, ◌+ℤ◌, not, ◌<ℤ◌, ◌≤ℤ◌, if◌then◌else◌, map}
 use Rattle.std.proofs.lemmas.List.{map-append, take-append-le, take_all}
 use Rattle.std.proofs.lemmas.Bool.{true≢false}
 use Rattle.std.proofs.lemmas.Int.{ints}
@@ -13,6 +13,7 @@ use Rattle.tb_node.specs.Shape.{Shape, other, is_discardable}
 use Rattle.tb_node.specs.PlainNodes.{hbox, rule, skip, kerned, pen, mark, note, whatsit, Inserted, PlainKind, plain, ins, act, PlainNode, plain_of, plain_kind, node_shape, shape_of, is_act_kind, is_insertion_kind}
 use Rattle.tb_node.specs.NodeSums.{added_node}
 use Rattle.tb_node.specs.Roles.{act_of_kind, insertion_of_kind}
+use Rattle.tb_node.specs.Sums.{size_of}
 use Rattle.tb_break.specs.declared.Best.{Best}
 use Rattle.tb_break.specs.declared.Offer.{Offer}
 use Rattle.tb_break.specs.Places.{ends_lasting}
@@ -133,7 +134,12 @@ champion_grows o goal marked page more b h = record {
   goal_is = h.goal_is;
   marked_is = h.marked_is ∙ sym (take-append-le b.place page more h.within);
   within = let w : b.place ≤ length page = h.within in omega (arith, length-append page more);
+  room = h.room ∙ ap (λ ns. size_of (page_shapes ns)) (sym (take-append-le b.place page more h.within));
 }
+
+-- the room of a page is the sum of its total and its depth, whatever the depth limit
+room-here : (z : Frozen) (page : List PlainNode) (p : ℤ) → (place_here z page p).sums.total +ℤ (place_here z page p).sums.depth ≡ size_of (page_shapes page)
+room-here z page p = omega (arith, ints)
 
 none-offered : (z : Frozen) (page : List PlainNode) (p : ℤ) (bs : List Breakpoint) → p <ℤ pos 10000 → int_le (place_here z page p).cost (least_cost bs) ≡ false → bs ≡ [] → ⊥
 none-offered z page p bs lt e none =
@@ -169,6 +175,7 @@ module _ (z : Frozen) (k l : Course) (page : List PlainNode) (bs : List Breakpoi
       goal_is = marks.goal_is e ∙ goal_is;
       marked_is = sym (take_all (length page) page (omega arith));
       within = omega arith;
+      room = room-here z page p ∙ ap (λ ns. size_of (page_shapes ns)) (sym (take_all (length page) page (omega arith)));
     });
     lasting_is = lasting ∙ h.lasting_is;
     no_acts = h.no_acts;

@@ -58,6 +58,7 @@ module _ (m now : MachineView) (f : Float) where
     unmarked = free is.unmarked;
     left = is.left;
     held_page = is.held_page;
+    held_room = is.held_room;
     left_column = is.left_column;
     events = all-join (IsPageSent store) m.events (warnings_sent (large_warning m.params f)) is.events (page-warnings store (large_warning m.params f));
     apart = subst AreDistinct float-lists is.apart;

@@ -19,7 +19,7 @@ use Rattle.tb_column.specs.declared.Sent.{Sent}
 use Rattle.tb_column.specs.Notes.{AreDistinct}
 use Rattle.tb_column.specs.Page.{AreLeaves, IsPageList}
 use Rattle.tb_output.specs.State.{first_state, void_boxes, no_suppress}
-use Rattle.tb_output.specs.Machine.{MachineView, state_shown, event_lists, IsPageSent, AreOutputParams, AreClassesFrom, IsMachine}
+use Rattle.tb_output.specs.Machine.{MachineView, state_shown, event_lists, IsPageSent, AreOutputParams, AreClassesFrom, IsRoomOf, IsMachine}
 
 abbrev pub new_view : Params → List Class → ℕ → FloatPool → List Sent → Suppress → MachineView
 new_view p cs l pool es s = record {
@@ -29,6 +29,7 @@ new_view p cs l pool es s = record {
   page = 1;
   dead_cycles = 0;
   held_page = l;
+  held_room = pos 0;
   note_bottom = pos 0;
   suppress = s;
   two_columns = false;
@@ -85,6 +86,7 @@ module _ (p : Params) (given cs : List Class) (store new : Lists Node) (l n : �
     unmarked = subst HasNoMarks (sym floats) (record { deferred = refl; second = refl });
     left = λ e. absurd (true≢false e);
     held_page = empty-list new l (live_same store new l [] opened) empty;
+    held_room = subst (λ (ns : List Node). IsRoomOf ns (pos 0)) (sym empty) tt;
     left_column = tt;
     events = subst (AllByRecursion (IsPageSent new)) (sym none) tt;
     apart = subst (λ (xs : List Sent). AreDistinct (l ∷ event_lists xs)) (sym none) (tt, tt);

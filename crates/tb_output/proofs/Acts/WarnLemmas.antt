@@ -40,6 +40,7 @@ module _ (w : Warn) (m : MachineView) where
     unmarked = is.unmarked;
     left = is.left;
     held_page = is.held_page;
+    held_room = is.held_room;
     left_column = is.left_column;
     events = all-join (IsPageSent store) m.events (events.Warn w ∷ []) is.events (tt, tt);
     apart = subst AreDistinct (sym warned-lists) is.apart;

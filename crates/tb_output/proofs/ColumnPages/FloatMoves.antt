@@ -115,6 +115,7 @@ module _ (v : FloatPool) (m now : MachineView) (is_now : now ≡ record m { pool
     unmarked = unmarked;
     left = is.left;
     held_page = is.held_page;
+    held_room = is.held_room;
     left_column = is.left_column;
     events = is.events;
     apart = is.apart;

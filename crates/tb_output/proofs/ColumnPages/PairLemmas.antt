@@ -156,6 +156,7 @@ module _ (m now : MachineView) (store s : Lists Node) (tops : ℕ) (at : ℤ) (l
       unmarked = record { deferred = is.unmarked.deferred; second = is.unmarked.second };
       left = λ e. absurd cc;
       held_page = same.machine.held_page;
+      held_room = same.machine.held_room;
       left_column = tt;
       events = all-join (IsPageSent s) m.events (events.Ship m.page both ∷ []) same.machine.events ((list, left-page, column-stands store s right stands page), tt);
       apart = subst AreDistinct (sym lists-then) distinct;

@@ -89,6 +89,7 @@ module _ (m : MachineView) (store : Lists Node) (sheet : Sheet) (is : IsMachine 
     unmarked = is.unmarked;
     left = is.left;
     held_page = is.held_page;
+    held_room = is.held_room;
     left_column = is.left_column;
     events = all-join (IsPageSent store) m.events (events.Ship m.page sheet ∷ []) is.events (page, tt);
     apart = subst AreDistinct (sym lists-after) (distinct-join (machine_lists m) (sheet_lists sheet) is.apart distinct (apart-swap (sheet_lists sheet) (machine_lists m) apart));

@@ -17,6 +17,7 @@ machine-beside m store is g small cycles bottom fault = record {
   unmarked = is.unmarked;
   left = is.left;
   held_page = is.held_page;
+  held_room = is.held_room;
   left_column = is.left_column;
   events = is.events;
   apart = is.apart;

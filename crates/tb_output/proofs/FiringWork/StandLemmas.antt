@@ -20,7 +20,7 @@ use Rattle.tb_column.specs.declared.Sent.TheVariants as events
 use Rattle.tb_column.specs.Column.{PlainColumn, one, wide, two, shipped}
 use Rattle.tb_column.specs.StoredColumns.{column_shown, sheet_shown, sent_shown}
 use Rattle.tb_column.specs.Page.{is_leaf_kind, AreLeaves, IsPageList, IsPageColumn}
-use Rattle.tb_output.specs.Machine.{MachineView, state_shown, left_shown, events_shown, sheet_lists, sent_lists, event_lists, left_lists, machine_lists, IsPageSheet, IsPageSent, IsPageLeft, IsMachine}
+use Rattle.tb_output.specs.Machine.{MachineView, state_shown, left_shown, events_shown, sheet_lists, sent_lists, event_lists, left_lists, machine_lists, IsPageSheet, IsPageSent, IsPageLeft, IsRoomOf, IsMachine}
 use Rattle.tb_output.specs.MachineFrame.{AreNoneOf}
 
 -- ---- leaves
@@ -133,6 +133,7 @@ module _ (store new : Lists Node) where
       unmarked = is.unmarked;
       left = is.left;
       held_page = list-stands m.held_page e.0 is.held_page;
+      held_room = subst (λ (ns : List Node). IsRoomOf ns m.held_room) (sym (list-same m.held_page e.0)) is.held_room;
       left_column = left-stands m.left_column left-part is.left_column;
       events = events-stand m.events event-part is.events;
       apart = is.apart;

@@ -95,6 +95,7 @@ module _ (l : ℕ) where
       unmarked = h.unmarked is.unmarked;
       left = is.left;
       held_page = is.held_page;
+      held_room = is.held_room;
       left_column = is.left_column;
       events = is.events;
       apart = is.apart;

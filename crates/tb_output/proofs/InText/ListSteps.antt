@@ -31,7 +31,7 @@ use Rattle.tb_output.specs.State.{State, Work, footnotes}
 use Rattle.tb_output.specs.Columns.{emptied_boxes}
 use Rattle.tb_output.specs.Text.{notes_nodes, notes_height, without_firing_box, list_back, first_goes, float_or_note_in, float_or_note}
 use Rattle.tb_output.specs.BackList.{insertions_again}
-use Rattle.tb_output.specs.Machine.{MachineView, state_shown, events_shown, left_lists, event_lists, machine_lists, IsMachine}
+use Rattle.tb_output.specs.Machine.{MachineView, state_shown, events_shown, left_lists, event_lists, machine_lists, IsRoomOf, IsMachine}
 use Rattle.tb_output.specs.FiringWork.{ShowsBack, HoldsNotes, shows_back, shows_page, IsCutShort, Does}
 use Rattle.tb_output.specs.MachineFrame.{AreNoneOf, HasGrown, back_lists, IsBack, KeepsBack, AreTextLists}
 use Rattle.tb_output.specs.Notes.{AreKnownNotes}
@@ -84,6 +84,7 @@ module _ (m : MachineView) (store new : Lists Node) (is : IsMachine m store) (em
     unmarked = is.unmarked;
     left = is.left;
     held_page = held-page;
+    held_room = subst (λ (ns : List Node). IsRoomOf ns m.held_room) (sym held-empty) tt;
     left_column = left-stands store new m.left_column left-part is.left_column;
     events = events-stand store new m.events event-part is.events;
     apart = is.apart;

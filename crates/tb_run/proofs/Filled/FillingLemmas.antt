@@ -52,6 +52,7 @@ taken-machine m store is = record {
   unmarked = is.unmarked;
   left = is.left;
   held_page = is.held_page;
+  held_room = is.held_room;
   left_column = is.left_column;
   events = tt;
   apart = subst (λ ls. AreDistinct (m.held_page ∷ ls)) (sym (append-nil (left_lists m.left_column))) (distinct-front (m.held_page ∷ left_lists m.left_column) (event_lists m.events) is.apart);

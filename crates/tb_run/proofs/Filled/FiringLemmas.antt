@@ -9,7 +9,8 @@ use Rattle.tb_pool.specs.Lists.{Lists, list_at}
 use Rattle.tb_node.specs.declared.Kind.{Kind}
 use Rattle.tb_node.specs.declared.Kind.TheVariants as kinds
 use Rattle.tb_node.specs.declared.Node.{Node}
-use Rattle.tb_node.specs.PlainNodes.{plain_of, plain_kind, PlainNode}
+use Rattle.tb_node.specs.PlainNodes.{plain_of, plain_kind, PlainNode, node_shape}
+use Rattle.tb_node.specs.Sums.{size_of}
 use Rattle.tb_param.specs.declared.Params.{Params}
 use Rattle.tb_builder.specs.declared.Ask.{Ask}
 use Rattle.tb_builder.specs.declared.Builder.{Builder}
@@ -34,6 +35,7 @@ use Rattle.tb_output.specs.State.{State, ask_of, Recorded}
 use Rattle.tb_output.specs.Output.{hold_penalty, out}
 use Rattle.tb_output.specs.Machine.{MachineView, state_shown, machine_lists}
 use Rattle.tb_output.specs.Firing.{builder_lists, fired_in, IsReach, CanFire}
+use Rattle.tb_output.proofs.Clears.ClearSteps.{shapes-shown}
 use Rattle.tb_output.proofs.FiringWork.ApartLemmas.{fresh-none, lacks-none}
 use Rattle.tb_output.proofs.FiringWork.StandLemmas.{machine-live}
 use Rattle.tb_run.specs.declared.happenings.Happening.{Happening}
@@ -177,6 +179,10 @@ module _ (wanted : Bool) (r q d : Routine) (hs : List Happening) (ready : IsRead
       sized = list-back d.store page.body served-now.body;
       few = let a = body-count in let b = counted in omega (arith, a, b, few);
     };
+    room =
+        fires.page.room
+        ∙ ap (λ (ns : List PlainNode). size_of (map node_shape ns)) (sym fires.page.body)
+        ∙ ap size_of (shapes-shown (list_at d.store) (list_at d.store page.body));
     boxes = recursion_from_All IsSizedBox (held_in d).boxes served-now.boxes;
     few =
         let a = body-count in

@@ -3,7 +3,6 @@ use Rattle.std.proofs.Common.{ℕ, ◌<◌, ◌≤◌, List, [], ◌∷◌, ◌+
 use Rattle.std.specs.Prelude.{nat_lt, IsTrue}
 use Rattle.std.specs.List.{AllByRecursion}
 use Rattle.std.proofs.lemmas.Bool.{and_parts, ltb-true}
-use Rattle.std.proofs.lemmas.Bool.Decides.{nat_tests}
 use Rattle.tb_break.proofs.EachLemmas.{all-map}
 use Rattle.tb_galley.specs.Valid.{rise_from}
 

@@ -20,7 +20,7 @@ use Rattle.tb_builder.proofs.Cutting.CutLemmas.{acted_of, CutAt, AllIns, held-in
 use Rattle.tb_float.specs.declared.Entry.{Entry}
 use Rattle.tb_float.specs.declared.Entry.TheVariants as entries
 use Rattle.tb_float.specs.Lists.{FloatLists, floats_among, live_count}
-use Rattle.tb_column.specs.Column.{PlainColumn, warned, shipped}
+use Rattle.tb_column.specs.Column.{PlainColumn, warned}
 use Rattle.tb_output.specs.State.{State, Work, Recorded, emptied, ask_of}
 use Rattle.tb_output.specs.Act.{Acted, went, full, act_on, lists_with_taken, taken_float}
 use Rattle.tb_output.specs.Output

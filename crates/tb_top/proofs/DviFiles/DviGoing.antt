@@ -1,8 +1,10 @@
 -- A run whose pages are written as a DVI file: what is written, and what is left.
-use Rattle.std.proofs.Common.{◌≡◌, refl, sym, subst, ◌∙◌, ap, ℕ, zero, suc, ◌<◌, ◌≤◌, ◌⊎◌, inl, inr, ℤ, pos, negsuc, FitsSigned, w32, Bool, true, false, List, [], ◌++◌, Option, Some, None, append_assoc, append-nil, arith}
+use Rattle.std.proofs.Common.{◌≡◌, refl, sym, subst, ◌∙◌, ap, ℕ, zero, suc, ◌<◌, ◌≤◌, inl, inr, ℤ, pos, negsuc, FitsSigned, w32, Bool, true, false, List, [], ◌++◌, Option, Some, None, append_assoc, append-nil, arith}
 use Rattle.std.specs.Prelude.{int_lt, if◌then◌else◌}
 use Rattle.std.specs.Io.KnownBytes.{Appends}
 use Rattle.tb_io.specs.Sink.{AppendsPrefix}
+use Rattle.tb_io.specs.declared.sink.SinkFault.{SinkFault}
+use Rattle.tb_io.specs.declared.sink.SinkFault.TheVariants as outputs
 use Rattle.tb_io.proofs.Appended.{Appends-twice, prefix_longer, prefix_on}
 use Rattle.tb_param.specs.declared.Params.{Params}
 use Rattle.tb_galley.specs.declared.Galley.{Galley}
@@ -20,7 +22,7 @@ use Rattle.std.proofs.lemmas.Int.{ints}
 use Rattle.tb_node.specs.Fit.{IsExtent}
 use Rattle.tb_run.specs.ServedStates.{AreRunnable}
 use Rattle.tb_run.specs.Run.{Run, RunEvent, End, done, pool_full, dead_cycles, page_limit, node_limit, Step, ends, goes_on, held_count, step, run_from, firings_left, run_of_state, run_of, classes_of}
-use Rattle.tb_run.specs.Happenings.{events_of, noted, step_events}
+use Rattle.tb_run.specs.Happenings.{events_of, step_events}
 use Rattle.tb_run.specs.Routine.{state_of, held_in, IsEnd, IsFaultEnd, EndsAs, over_limit}
 use Rattle.tb_run.specs.declared.happenings.Happening.{Happening}
 use Rattle.tb_run.specs.declared.routine.Routine.{Routine}
@@ -32,12 +34,12 @@ use Rattle.tb_top.specs.declared.dvi_pages.DviRunFault.{DviRunFault}
 use Rattle.tb_top.specs.declared.dvi_pages.DviRunFault.TheVariants as refused
 use Rattle.tb_top.specs.Answer.{is_done, dvi_file}
 use Rattle.tb_top.specs.Pages.{end_fault}
-use Rattle.tb_top.specs.declared.View.TheVariants as views
-use Rattle.tb_top.specs.PagesWritten.{IsRefusalOf, IsFaultRefusal, IsWriteFault}
+use Rattle.tb_top.specs.PagesWritten.{write_fault, IsRefusalOf, IsFaultRefusal}
 use Rattle.tb_top.specs.DviPages.{event_pages, run_pages}
 use Rattle.tb_top.specs.DviFiles.{Writes, WritesFile, RefusesPages, RefusesFile}
 use Rattle.tb_top.specs.DviWritten.{HoldsPages, StopsShort, FailsAmong, IsWriteFailure, last_bytes, EndsFile, StopsRun, StopsFile}
 use Rattle.tb_top.proofs.Written.GoingLemmas.{Steps, Stops, steps, stops}
+use Rattle.tb_top.proofs.Written.TurnLemmas.{ShowsStep}
 use Rattle.tb_top.proofs.Written.FinishLemmas.{over-some, over-none}
 use Rattle.tb_top.proofs.DviFiles.DviSending.{events-append, noted-pages, holds-short, fails-more}
 
@@ -112,10 +114,9 @@ module _ (p : Params) (start now : Option (List ℕ)) (w : Progress) (whole : Ru
   split s (ends es rs e) is g = split-last s e es g.written g.fuel g.enough g.pages (stops p s e es rs is)
 
 -- a step with what shows it: the routine after it, what happened, and how the run ended
-module _ (p : Params) (s : State) (start now : Option (List ℕ)) (w : Progress) (whole : Run) (going : Going p s start now w whole) (q : Routine) (hs : List Happening) (o : Option Ending) (wanted : Bool)
-    (events : events_of q.store hs ≡ noted wanted (step_events (step p s))) (ended : EndsAs q o (step p s)) where
+module _ (p : Params) (s : State) (start now : Option (List ℕ)) (w : Progress) (whole : Run) (going : Going p s start now w whole) (q : Routine) (hs : List Happening) (o : Option Ending) (wanted : Bool) (shows : ShowsStep p wanted s q hs o) where
   pages-are : event_pages (events_of q.store hs) ≡ event_pages (step_events (step p s))
-  pages-are = ap event_pages events ∙ noted-pages wanted (step_events (step p s))
+  pages-are = ap event_pages shows.events ∙ noted-pages wanted (step_events (step p s))
 
   -- writing its pages failed, or one is out of range
   pub turn-fails : (e : DviRunFault) (new : Option (List ℕ)) → FailsAmong e start new (going.written ++ event_pages (events_of q.store hs)) → FailsAmong e start new (run_pages whole)
@@ -132,7 +133,7 @@ module _ (p : Params) (s : State) (start now : Option (List ℕ)) (w : Progress)
     closes-at ending (ends es rs e) is k b = record { end = e; is = k; closing = closes-by p start now w whole s e es new u going.written going.fuel going.enough going.pages going.end (stops p s e es rs is) b }
 
     pub turn-closing : (ending : Ending) → o ≡ Some ending → ClosesAt q ending start new u whole
-    turn-closing ending some = closes-at ending (step p s) refl (subst (λ x. EndsAs q x (step p s)) some ended) holds
+    turn-closing ending some = closes-at ending (step p s) refl (subst (λ x. EndsAs q x (step p s)) some shows.ended) holds
 
     goes-at : (st : Step) → step p s ≡ st → EndsAs q None st → HoldsPages start new u (going.written ++ event_pages (step_events st)) → Going p (state_of q) start new u whole
     goes-at (ends es rs e) is k b = absurd k
@@ -140,14 +141,7 @@ module _ (p : Params) (s : State) (start now : Option (List ℕ)) (w : Progress)
 
     -- the lists of what was sent were closed since
     pub turn-going : (after : State) → after ≡ state_of q → o ≡ None → Going p after start new u whole
-    turn-going after same none = subst (λ x. Going p x start new u whole) (sym same) (goes-at (step p s) refl (subst (λ x. EndsAs q x (step p s)) none ended) holds)
-
-  fewer-by-step : (st : Step) → step p s ≡ st → EndsAs q None st → firings_left p (state_of q) < firings_left p s
-  fewer-by-step (ends es rs e) is k = absurd k
-  fewer-by-step (goes_on es rs t) is k = subst (λ x. firings_left p x < firings_left p s) (sym k) (steps p s t es rs is going.page).fewer
-
-  pub turn-fewer : o ≡ None → firings_left p (state_of q) < firings_left p s
-  turn-fewer none = fewer-by-step (step p s) refl (subst (λ x. EndsAs q x (step p s)) none ended)
+    turn-going after same none = subst (λ x. Going p x start new u whole) (sym same) (goes-at (step p s) refl (subst (λ x. EndsAs q x (step p s)) none shows.ended) holds)
 
 -- ---- the beginning
 
@@ -195,18 +189,14 @@ height-fits p h = extent-fits p.textheight h.output.columns.floats.textheight
 
 -- ---- what the run comes to
 
--- why writing failed
-pub write-kinds : (f : PageFault) (before after : ℕ) → IsWriteFault views.Report before after f → (f ≡ faults.WriteFault) ⊎ (f ≡ faults.Memory)
-write-kinds faults.WriteFault before after h = inl refl
-write-kinds faults.Memory before after h = inr refl
-write-kinds (faults.PoolFull line live) before after h = absurd h
-write-kinds (faults.DeadCycles n) before after h = absurd h
-write-kinds (faults.PageLimit n) before after h = absurd h
-write-kinds (faults.NodeLimit n) before after h = absurd h
-
 module _ (g : Galley) (start : Option (List ℕ)) where
   all-short : (new : Option (List ℕ)) → StopsShort start new (run_pages (run_of g)) → AppendsPrefix start new (dvi_file g.params.textheight (run_of g))
   all-short new h = subst (λ ps. AppendsPrefix start new (run_bytes g.params.textheight ps (is_done (run_of g).end))) (append-nil (run_pages (run_of g))) (h g.params.textheight [] (is_done (run_of g).end))
+
+  -- writing failed
+  pub refuses-cut : (fault : SinkFault) (new : Option (List ℕ)) → AppendsPrefix start new (dvi_file g.params.textheight (run_of g)) → RefusesFile g start new (refused.Pages (write_fault fault))
+  refuses-cut outputs.Failed new b = b
+  refuses-cut outputs.Memory new b = b
 
   -- writing failed, or a page is out of range
   pub refuses-among : (e : DviRunFault) (before after : ℕ) (new : Option (List ℕ)) → IsWriteFailure before after e → FailsAmong e start new (run_pages (run_of g)) → RefusesFile g start new e
@@ -215,27 +205,13 @@ module _ (g : Galley) (start : Option (List ℕ)) where
         ap (first_too_far 27) (sym (append-nil (run_pages (run_of g)))) ∙ k.0,
         subst (λ ps. Appends start new (run_bytes g.params.textheight ps (is_done (run_of g).end))) (append-nil (run_pages (run_of g))) k.1,
       )
-  refuses-among (refused.Pages faults.WriteFault) before after new c h = all-short new h
-  refuses-among (refused.Pages faults.Memory) before after new c h = all-short new h
-  refuses-among (refused.Pages (faults.PoolFull line live)) before after new c h = absurd c
-  refuses-among (refused.Pages (faults.DeadCycles n)) before after new c h = absurd c
-  refuses-among (refused.Pages (faults.PageLimit n)) before after new c h = absurd c
-  refuses-among (refused.Pages (faults.NodeLimit n)) before after new c h = absurd c
+  refuses-among (refused.Pages f) before after new c h = rw c.1 (refuses-cut c.0 new (all-short new h))
 
   -- a part of the preamble was written, and nothing else
   pub prefix-first : (new : Option (List ℕ)) → AppendsPrefix start new preamble → AppendsPrefix start new (dvi_file g.params.textheight (run_of g))
   prefix-first new b =
       let r = run_begins [] (run_pages (run_of g)) tt g.params.textheight (is_done (run_of g).end) in
       subst (AppendsPrefix start new) (sym r.1) (prefix_longer start new (file_front []) r.0 (subst (AppendsPrefix start new) (sym (append-nil preamble)) b))
-
-  -- writing failed
-  pub refuses-cut : (f : PageFault) (before after : ℕ) (new : Option (List ℕ)) → IsWriteFault views.Report before after f → AppendsPrefix start new (dvi_file g.params.textheight (run_of g)) → RefusesFile g start new (refused.Pages f)
-  refuses-cut faults.Memory before after new c b = b
-  refuses-cut faults.WriteFault before after new c b = b
-  refuses-cut (faults.PoolFull line live) before after new c b = absurd c
-  refuses-cut (faults.DeadCycles n) before after new c b = absurd c
-  refuses-cut (faults.PageLimit n) before after new c b = absurd c
-  refuses-cut (faults.NodeLimit n) before after new c b = absurd c
 
   module _ (now : Option (List ℕ)) (w : Progress) where
     -- nothing more is written
@@ -291,10 +267,6 @@ module _ (g : Galley) (start : Option (List ℕ)) where
     by-ending r (endings.Fault x) e f new is h kept k = by-fault x e f new is h kept k
     by-ending r (endings.NodeLimit n) e f new is h kept k = rw h (stopped-at e (node_limit n) f (faults.NodeLimit n) is h refl refl new kept k)
 
-    cut : (f : PageFault) (new : Option (List ℕ)) → (f ≡ faults.WriteFault) ⊎ (f ≡ faults.Memory) → AppendsPrefix start new (dvi_file g.params.textheight (run_of g)) → RefusesPages g start new f
-    cut f new (inl is) b = rw is b
-    cut f new (inr is) b = rw is b
-
     module _ (r : Routine) (ending : Ending) (c : ClosesAt r ending start now w (run_of g)) where
       at-done : ending ≡ endings.Done → Closing (done (held_in r).page) start now w (run_of g)
       at-done is = let left : c.end ≡ done (held_in r).page = subst (λ x. IsEnd r x c.end) is c.is in subst (λ x. Closing x start now w (run_of g)) left c.closing
@@ -304,7 +276,7 @@ module _ (g : Galley) (start : Option (List ℕ)) where
 
       stops-run : (f : PageFault) (new : Option (List ℕ)) → StopsRun g.params.textheight w ending now new f → RefusesPages g start new f
       stops-run f new (inl h) = by-ending r ending c.end f new c.is h.0 h.1 c.closing
-      stops-run f new (inr h) = cut f new h.1 (done-cut (held_in r).page (at-done h.0) new h.2)
+      stops-run f new (inr h) = rw h.1.1 (refuses-cut h.1.0 new (done-cut (held_in r).page (at-done h.0) new h.2))
 
       pub stops-with : (e : DviRunFault) (new : Option (List ℕ)) → StopsFile g.params.textheight w ending now new e → RefusesFile g start new e
       stops-with (refused.Pages f) new h = stops-run f new h

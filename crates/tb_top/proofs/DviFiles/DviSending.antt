@@ -19,9 +19,8 @@ use Rattle.tb_run.specs.Run.{RunEvent}
 use Rattle.tb_run.specs.declared.happenings.Happening.{Happening}
 use Rattle.tb_run.specs.Happenings.{noted, event_of, events_of}
 use Rattle.tb_run.specs.Routine.{IsPage, ArePages}
-use Rattle.tb_top.specs.PagesWritten.{sent_among}
+use Rattle.tb_top.specs.Views.{sent_among}
 use Rattle.tb_top.specs.DviPages.{event_pages}
-use Rattle.tb_top.specs.declared.PageFault.TheVariants as faults
 use Rattle.tb_top.specs.declared.dvi_pages.DviRunFault.{DviRunFault}
 use Rattle.tb_top.specs.declared.dvi_pages.DviRunFault.TheVariants as refused
 use Rattle.tb_top.specs.DviWritten.{HoldsPages, StopsFar, StopsShort, FailsAmong, IsWriteFailure, page_failure}
@@ -146,9 +145,4 @@ sends-all start now w ps all s = holds-same start now w (ps ++ s.done) s.holds (
 
 pub failure-later : (e : DviRunFault) (a b c : ℕ) → a ≤ b → IsWriteFailure b c e → IsWriteFailure a c e
 failure-later (refused.TooFar page) a b c le h = tt
-failure-later (refused.Pages faults.Memory) a b c le h = tt
-failure-later (refused.Pages faults.WriteFault) a b c le h = omega (arith, le, h)
-failure-later (refused.Pages (faults.PoolFull line live)) a b c le h = absurd h
-failure-later (refused.Pages (faults.DeadCycles n)) a b c le h = absurd h
-failure-later (refused.Pages (faults.PageLimit n)) a b c le h = absurd h
-failure-later (refused.Pages (faults.NodeLimit n)) a b c le h = absurd h
+failure-later (refused.Pages f) a b c le h = (h.0, h.1, λ is. let rose = h.2 is in omega (arith, le, rose))

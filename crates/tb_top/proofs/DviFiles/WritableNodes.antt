@@ -1,6 +1,6 @@
 -- Nodes that have bytes in a DVI file: the label of each is short, and the height of its rule has four bytes. The page
 -- builder and the columns only move nodes of the galley, and make nodes that have bytes.
-use Rattle.std.proofs.Common.{ℕ, zero, suc, ℤ, pos, ◌+ℤ◌, ◌<◌, Bool, true, false, List, [], ◌∷◌, ◌++◌, length, map, filter, take, drop, Option, Some, None, FitsSigned, IfSome, arith}
+use Rattle.std.proofs.Common.{ℕ, ℤ, pos, ◌+ℤ◌, ◌<◌, Bool, true, false, List, [], ◌∷◌, ◌++◌, length, map, filter, take, drop, Option, Some, None, FitsSigned, IfSome, arith}
 use Rattle.std.specs.Prelude.{◌==◌, not, if◌then◌else◌, codes}
 use Rattle.std.specs.Int.{w32}
 use Rattle.std.specs.List.{AllByRecursion}

@@ -1,5 +1,5 @@
 -- Each page that a run of a valid galley ships has bytes in a DVI file.
-use Rattle.std.proofs.Common.{ℕ, zero, suc, ℤ, pos, negsuc, ◌+◌, ◌+ℤ◌, ◌≤◌, ◌<◌, Bool, true, false, List, [], ◌∷◌, ◌++◌, map, length, Option, Some, None, FitsSigned, arith}
+use Rattle.std.proofs.Common.{ℕ, zero, suc, ℤ, pos, negsuc, ◌+ℤ◌, ◌≤◌, ◌<◌, Bool, true, false, List, [], ◌∷◌, ◌++◌, map, length, Option, Some, None, FitsSigned, arith}
 use Rattle.std.specs.Prelude.{pred, ◌&&◌, ◌||◌, ◌==◌, nat_le, int_lt, int_le, IsTrue, codes, decimal, if◌then◌else◌}
 use Rattle.std.specs.Int.{w32}
 use Rattle.std.specs.List.{AllByRecursion, list_all}

@@ -2,6 +2,8 @@
 use Rattle.std.proofs.Common.{◌≡◌, refl, sym, subst, ◌∙◌, ap, ℕ, ◌≤◌, inl, inr, List, [], ◌++◌, append-nil, Option, Some, None, arith}
 use Rattle.std.specs.Io.KnownBytes.{Appends}
 use Rattle.tb_io.specs.Faults.{Rose}
+use Rattle.tb_io.specs.declared.sink.SinkFault.{SinkFault}
+use Rattle.tb_io.specs.declared.sink.SinkFault.TheVariants as outputs
 use Rattle.tb_io.specs.Sink.{AppendsPrefix}
 use Rattle.tb_io.proofs.Appended.{Appends-twice, prefix_on}
 use Rattle.tb_report.specs.declared.Totals.{Totals}
@@ -16,8 +18,8 @@ use Rattle.tb_top.specs.declared.View.TheVariants as views
 use Rattle.tb_top.specs.declared.makeup_pages.PlainRunFault.{PlainRunFault}
 use Rattle.tb_top.specs.declared.makeup_pages.PlainRunFault.TheVariants as faults
 use Rattle.tb_top.specs.MakeupPages.{makeup_text, makeup_fault, MakesPages, StopsRun, RefusesPages}
-use Rattle.tb_top.specs.MakeupWritten.{IsWriteFault, IsRefusalOf, StopsWith, EndsWell}
-use Rattle.tb_top.specs.PagesWritten.{viewed}
+use Rattle.tb_top.specs.MakeupWritten.{write_fault, IsRefusalOf, StopsWith, EndsWell}
+use Rattle.tb_top.specs.Views.{viewed}
 use Rattle.tb_top.proofs.Written.GoingLemmas.{header, viewed-append, silent-shown}
 use Rattle.tb_top.proofs.Plain.MakeupGoing.{Closing, view-text}
 use Rattle.tb_top.proofs.Plain.MakeupTotals.{all-totals}
@@ -29,11 +31,14 @@ ended-done (page_limit n) is = cc
 ended-done (node_limit n) is = cc
 
 -- a failed write or lack of memory, after a prefix
-pub refuses-cut : (v : View) (whole : MakeupRun) (old new : Option (List ℕ)) (before now : ℕ) (f : PlainRunFault) → IsWriteFault v before now f → AppendsPrefix old new (makeup_text v whole) → RefusesPages v whole old new f
-refuses-cut v whole old new before now faults.Memory h b = b
-refuses-cut v whole old new before now faults.WriteFault h b = b
-refuses-cut v whole old new before now (faults.PageLimit n) h b = absurd h
-refuses-cut v whole old new before now (faults.NodeLimit n) h b = absurd h
+pub refuses-cut : (v : View) (whole : MakeupRun) (old new : Option (List ℕ)) (fault : SinkFault) → AppendsPrefix old new (makeup_text v whole) → RefusesPages v whole old new (write_fault fault)
+refuses-cut v whole old new outputs.Failed b = b
+refuses-cut v whole old new outputs.Memory b = b
+
+-- a failed write is that of a failed sink
+pub failed-write : (fault : SinkFault) → faults.WriteFault ≡ write_fault fault → fault ≡ outputs.Failed
+failed-write outputs.Failed is = refl
+failed-write outputs.Memory is = cc
 
 module _ (v : View) (t : Totals) (whole : MakeupRun) (old mid new : Option (List ℕ)) where
   -- the text of a run that is done, with its last line
@@ -77,7 +82,7 @@ module _ (v : View) (t : Totals) (whole : MakeupRun) (old mid new : Option (List
 
   pub stops-with : (e : MakeupEnding) (before now : ℕ) (f : PlainRunFault) → Closing v (end_of e) old mid t whole → StopsWith v t e mid new before now f → RefusesPages v whole old new f
   stops-with e before now f c (inl h) = by-ending e f c h.0 h.1
-  stops-with e before now f c (inr h) = refuses-cut v whole old new before now f h.1 (done-cut (subst (λ x. Closing v (end_of x) old mid t whole) h.0 c) h.2)
+  stops-with e before now f c (inr h) = rw h.1.is (refuses-cut v whole old new h.1.fault (done-cut (subst (λ x. Closing v (end_of x) old mid t whole) h.0 c) h.1.part))
 
 -- ---- a refusal for a failed write
 
@@ -90,9 +95,9 @@ module _ (v : View) (t : Totals) (e : MakeupEnding) (old new : Option (List ℕ)
   -- it comes if the sink's faults rose
   pub stops-cause : (start : ℕ) → start ≤ before → StopsWith v t e old new before now faults.WriteFault → Rose start now
   stops-cause start le (inl h) = absurd (no-write e h.0)
-  stops-cause start le (inr h) = let rose = h.1.0 in omega (arith, rose)
+  stops-cause start le (inr h) = let rose = (h.1.cause (failed-write h.1.fault h.1.is)).0 in omega (arith, rose)
 
   -- and never at a silent view
   pub stops-shown : v ≡ views.Silent → StopsWith v t e old new before now faults.WriteFault → ⊥
   stops-shown silent (inl h) = no-write e h.0
-  stops-shown silent (inr h) = silent-shown v silent h.1.1
+  stops-shown silent (inr h) = silent-shown v silent (h.1.cause (failed-write h.1.fault h.1.is)).1

@@ -1,5 +1,5 @@
 -- A run of the page makeup that goes on: what was written, what was shipped, and what is left.
-use Rattle.std.proofs.Common.{◌≡◌, refl, sym, subst, ◌∙◌, ap, ℕ, ℤ, ◌+◌, ◌<◌, ◌≤◌, pos, Bool, true, false, List, [], ◌∷◌, ◌++◌, map, length, length-append, append_assoc, append-nil, Option, Some, None, arith}
+use Rattle.std.proofs.Common.{◌≡◌, refl, sym, subst, ◌∙◌, ap, ℕ, ℤ, ◌<◌, ◌≤◌, pos, Bool, true, false, List, [], ◌∷◌, ◌++◌, map, length, length-append, append_assoc, append-nil, Option, Some, None, arith}
 use Rattle.std.specs.Prelude.{nat_abs, int_lt, if◌then◌else◌}
 use Rattle.std.specs.Io.KnownBytes.{Appends}
 use Rattle.tb_io.specs.Sink.{AppendsPrefix}
@@ -26,7 +26,7 @@ use Rattle.tb_top.specs.declared.View.{View}
 use Rattle.tb_top.specs.declared.View.TheVariants as views
 use Rattle.tb_top.specs.MakeupPages.{makeup_text}
 use Rattle.tb_top.specs.Report.{traced_lines, all_lines}
-use Rattle.tb_top.specs.PagesWritten.{viewed, with_events}
+use Rattle.tb_top.specs.Views.{viewed, with_events}
 use Rattle.tb_top.proofs.Written.GoingLemmas.{header, viewed-append}
 use Rattle.tb_top.proofs.Written.TallyLemmas.{AreFewNodes}
 use Rattle.tb_top.proofs.Plain.MakeupTotals.{with_all, with-events, all-append, few-append, few-sent, few-counts}

@@ -22,7 +22,7 @@ use Rattle.tb_plain.specs.GalleyNodes.{made_up}
 use Rattle.tb_plain.specs.Firing.{holds_any, makeup_column}
 use Rattle.tb_plain.specs.Report.{sent_totals}
 use Rattle.tb_plain.specs.Run.{MakeupState, MakeupRun, MakeupStep, ends, goes_on, page_limit, node_limit, AtAct, no_act, at_act, first_act, meets_act, makeup_ask, makeup_classes, void_boxes, makeup_reach, act_step, waiting_after, shipping_step, firing_step, last_step, makeup_step, run_by, makeup_from, first_makeup, steps_left, makeup_of, done, ejecting_nodes}
-use Rattle.tb_top.specs.PagesWritten.{with_events}
+use Rattle.tb_top.specs.Views.{with_events}
 use Rattle.tb_top.proofs.Written.EventCounts.{among-sent}
 use Rattle.tb_top.proofs.Written.TallyLemmas.{AreFewNodes, step-few}
 

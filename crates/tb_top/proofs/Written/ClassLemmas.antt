@@ -1,10 +1,9 @@
 -- The classes of a valid galley have different numbers, and each footnote's class is one of them.
-use Rattle.std.proofs.Common.{◌≡◌, refl, ap, subst, ℕ, suc, ◌<◌, ◌≤◌, ℤ, pos, Bool, true, false, ◌&&◌, ◌||◌, ◌==◌, nat_lt, nat_le, List, [], ◌∷◌, ◌++◌, map, arith}
+use Rattle.std.proofs.Common.{◌≡◌, refl, ap, subst, ℕ, suc, ◌≤◌, ℤ, pos, Bool, true, false, ◌||◌, ◌==◌, List, [], ◌∷◌, map, arith}
 use Rattle.std.specs.Prelude.{IsTrue, int_le, neg_ℤ, if◌then◌else◌}
 use Rattle.std.specs.List.{list_all, list_any}
 use Rattle.std.proofs.lemmas.Int.{ints}
 use Rattle.std.proofs.lemmas.Bool.{eqb-true, and_parts}
-use Rattle.std.proofs.lemmas.Bool.Decides.{nat_tests}
 use Rattle.tb_scaled.specs.Scaled.{eject_penalty}
 use Rattle.tb_param.specs.declared.Params.{Params}
 use Rattle.tb_galley.specs.declared.ClassLine.{ClassLine}
@@ -13,15 +12,15 @@ use Rattle.tb_galley.specs.declared.ItemKind.{ItemKind}
 use Rattle.tb_galley.specs.declared.ItemKind.TheVariants as items
 use Rattle.tb_galley.specs.declared.Galley.{Galley}
 use Rattle.tb_galley.specs.Fields.{is_class_among}
-use Rattle.tb_galley.specs.Valid.{is_class, is_size, is_item, do_classes_rise, has_known_class, IsValid}
-use Rattle.tb_param.specs.Table.{is_within, is_glue}
+use Rattle.tb_galley.specs.Valid.{is_class, is_item, do_classes_rise, has_known_class, IsValid}
+use Rattle.tb_param.specs.Table.{is_within}
 use Rattle.tb_insert.specs.declared.Class.{Class}
 use Rattle.tb_builder.proofs.FiredPages.PageWeights.{hits, IsOnce}
 use Rattle.tb_galley.specs.GalleyNodes.{expanded}
-use Rattle.tb_output.specs.State.{foot_class, first_state, void_boxes}
+use Rattle.tb_output.specs.State.{first_state, void_boxes}
 use Rattle.tb_output.proofs.NothingLost.StateWeights.{class_numbers}
 use Rattle.tb_output.proofs.Closed.PutLemmas.{AreAmong}
-use Rattle.tb_run.specs.Run.{class_of, classes_of}
+use Rattle.tb_run.specs.Run.{classes_of}
 use Rattle.tb_run.proofs.FromGalley.GalleyClasses.{AreAbove, rising-above, rising-rest, class-small, with_foot}
 use Rattle.tb_top.proofs.NothingLost.RunWeights.{Kept, fit-among}
 use Rattle.tb_top.proofs.NothingLost.StartLemmas.{start-kept, ItemFits, ItemsFit, NumbersDiffer, void-fit}

@@ -1,19 +1,15 @@
 -- The end of a run of the routine, and the parameters that it asks for.
-use Rattle.std.proofs.Common.{◌≡◌, refl, sym, subst, ◌∙◌, ap, ℕ, zero, suc, ◌<◌, ◌≤◌, inl, inr, ℤ, pos, ◌≤ℤ◌, Bool, true, false, List, [], ◌∷◌, length, slice_get, Option, None, Some, Result, Err, arith}
+use Rattle.std.proofs.Common.{◌≡◌, refl, sym, subst, ◌∙◌, ap, ℕ, ◌<◌, ◌≤◌, inl, inr, ℤ, pos, ◌≤ℤ◌, Bool, true, false, List, [], length, Option, None, Some, arith}
 use Rattle.tb_io.specs.Faults.{Rose}
-use Rattle.std.specs.Prelude.{IfErr, int_lt, if◌then◌else◌, ◌&&◌, IsTrue, IfNone}
-use Rattle.std.specs.List.{list_all}
+use Rattle.std.specs.Prelude.{int_lt, if◌then◌else◌, IsTrue, IfNone}
 use Rattle.std.specs.Io.KnownBytes.{Appends}
 use Rattle.tb_io.specs.Sink.{AppendsPrefix}
 use Rattle.std.proofs.lemmas.Int.{ints}
-use Rattle.std.proofs.lemmas.Bool.{and_parts}
+use Rattle.std.proofs.lemmas.Option.{MatchOption-at_none}
 use Rattle.tb_builder.proofs.Ranges.PageableLemmas.{length_counted}
 use Rattle.tb_float.proofs.ParamLemmas.{in-range}
-use Rattle.tb_node.specs.Fit.{IsExtent}
-use Rattle.tb_node.specs.PlainNodes.{PlainKind, plain, ins, act, PlainNode}
-use Rattle.tb_builder.specs.Contents.{kind_count, node_count}
 use Rattle.tb_param.specs.declared.Params.{Params}
-use Rattle.tb_param.specs.Table.{Row, is_within, out_of_range}
+use Rattle.tb_param.specs.Table.{is_within, out_of_range}
 use Rattle.tb_param.specs.Ranges.{is_no_fault}
 use Rattle.tb_galley.specs.declared.Galley.{Galley}
 use Rattle.tb_galley.specs.GalleyNodes.{expanded}
@@ -28,7 +24,7 @@ use Rattle.tb_run.specs.declared.routine.Routine.{Routine}
 use Rattle.tb_run.specs.declared.routine.Ending.{Ending}
 use Rattle.tb_run.specs.declared.routine.Ending.TheVariants as endings
 use Rattle.tb_run.specs.Run.{Run, End, done, pool_full, dead_cycles, page_limit, node_limit, held_count, Step, ends, goes_on, step, run_of, firings_left, classes_of}
-use Rattle.tb_run.specs.Happenings.{events_of, noted, step_events}
+use Rattle.tb_run.specs.Happenings.{events_of, step_events}
 use Rattle.tb_run.specs.Routine.{held_in, state_of, IsFaultEnd, IsEnd, EndsAs, over_limit, ArePages, IsReady, IsBounded}
 use Rattle.tb_top.specs.declared.View.{View}
 use Rattle.tb_top.specs.declared.View.TheVariants as views
@@ -36,10 +32,12 @@ use Rattle.tb_top.specs.declared.PageFault.{PageFault}
 use Rattle.tb_top.specs.declared.PageFault.TheVariants as faults
 use Rattle.tb_top.specs.Report.{all_lines, traced_lines, closing_lines}
 use Rattle.tb_top.specs.Pages.{view_text, end_fault, Paginates, EndsWith, Refuses}
-use Rattle.tb_top.specs.PagesWritten.{viewed, is_traced, with_events, sent_among, IsFaultRefusal, IsRefusalOf, EndsWell, StopsWith}
+use Rattle.tb_top.specs.PagesWritten.{IsFaultRefusal, IsRefusalOf, EndsWell, StopsWith}
+use Rattle.tb_top.specs.Views.{viewed, is_traced, with_events, sent_among}
 use Rattle.tb_top.proofs.Written.EventCounts.{SendsBy, step-sends}
 use Rattle.tb_top.proofs.Written.TallyLemmas.{IsTally, AreFewFirings, AreFewNodes, tally-first, tally-counts, tally-next, step-few}
-use Rattle.tb_top.proofs.Written.GoingLemmas.{Going, Closing, header, turn_lines, noted-lines, noted-events, begins, begins-over, goes, closes, cut-short, steps, done-well, done-cut, refused-end, refuses-cut, fault-rose, fault-shown}
+use Rattle.tb_top.proofs.Written.TurnLemmas.{ShowsStep, turn-fewer}
+use Rattle.tb_top.proofs.Written.GoingLemmas.{Going, Closing, header, turn_lines, noted-lines, noted-events, begins, begins-over, goes, closes, cut-short, done-well, done-cut, refused-end, refuses-cut, failed-write, silent-shown}
 
 -- ---- the end
 
@@ -67,7 +65,7 @@ module _ (v : View) (r : Routine) (t : Totals) (whole : Run) (old mid new : Opti
   stops-with ending e before now f is c (inl h) = by-ending ending e f is h.0 h.1 c
   stops-with ending e before now f is c (inr h) =
       let left : e ≡ done (held_in r).page = subst (λ x. IsEnd r x e) h.0 is in
-      refuses-cut v whole old new before now f h.1 (done-cut v old mid new t whole (held_in r).page (subst (λ x. Closing v x old mid t whole) left c) h.2)
+      rw h.1.is (refuses-cut v whole old new h.1.fault (done-cut v old mid new t whole (held_in r).page (subst (λ x. Closing v x old mid t whole) left c) h.1.part))
 
 -- ---- a refusal for a failed write
 
@@ -83,16 +81,12 @@ module _ (v : View) (r : Routine) (t : Totals) (e : Ending) (old new : Option (L
   -- it comes only if the sink's faults rose
   pub stops-cause : (start : ℕ) → start ≤ before → StopsWith v r t e old new before now faults.WriteFault → Rose start now
   stops-cause start le (inl h) = absurd (no-write e h.0)
-  stops-cause start le (inr h) = fault-rose v before now start faults.WriteFault h.1 le refl
+  stops-cause start le (inr h) = let rose = (h.1.cause (failed-write h.1.fault h.1.is)).0 in omega (arith, rose)
 
   -- and never at a silent view
   pub stops-shown : v ≡ views.Silent → StopsWith v r t e old new before now faults.WriteFault → ⊥
   stops-shown silent (inl h) = no-write e h.0
-  stops-shown silent (inr h) = fault-shown v before now faults.WriteFault h.1 silent refl
-
--- what holds of an error that was returned
-pub err-at : {T : Type 0} (r : Result T PageFault) (P : PageFault → Type 0) (f : PageFault) → IfErr r P → r ≡ Err f → P f
-err-at r P f h is = subst (λ x. IfErr x P) is h
+  stops-shown silent (inr h) = silent-shown v silent (h.1.cause (failed-write h.1.fault h.1.is)).1
 
 -- ---- the parameters
 
@@ -135,13 +129,12 @@ module _ (v : View) (g : Galley) (r : Routine) (old now : Option (List ℕ)) (t 
 -- ---- a turn
 
 -- a step with what shows it: the routine after it, what happened, and how the run ended
-module _ (p : Params) (v : View) (s : State) (old now : Option (List ℕ)) (t : Totals) (whole : Run) (going : Going p v s old now t whole) (q : Routine) (hs : List Happening) (o : Option Ending)
-    (events : events_of q.store hs ≡ noted (is_traced v) (step_events (step p s))) (ended : EndsAs q o (step p s)) where
+module _ (p : Params) (v : View) (s : State) (old now : Option (List ℕ)) (t : Totals) (whole : Run) (going : Going p v s old now t whole) (q : Routine) (hs : List Happening) (o : Option Ending) (shows : ShowsStep p (is_traced v) s q hs o) where
   lines-are : all_lines traced_lines (events_of q.store hs) ≡ turn_lines v (step_events (step p s))
-  lines-are = ap (all_lines traced_lines) events ∙ noted-lines v (step_events (step p s))
+  lines-are = ap (all_lines traced_lines) shows.events ∙ noted-lines v (step_events (step p s))
 
   totals-are : with_events (events_of q.store hs) t ≡ with_events (step_events (step p s)) t
-  totals-are = ap (λ es. with_events es t) events ∙ noted-events (is_traced v) (step_events (step p s)) t
+  totals-are = ap (λ es. with_events es t) shows.events ∙ noted-events (is_traced v) (step_events (step p s)) t
 
   -- writing what happened was cut short
   pub turn-cut : (mid : Option (List ℕ)) → AppendsPrefix now mid (viewed v (all_lines traced_lines (events_of q.store hs))) → AppendsPrefix old mid (view_text v whole)
@@ -154,7 +147,7 @@ module _ (p : Params) (v : View) (s : State) (old now : Option (List ℕ)) (t : 
   pub turn-closing : (mid : Option (List ℕ)) (u : Totals) (ending : Ending) → o ≡ Some ending → Appends now mid (viewed v (all_lines traced_lines (events_of q.store hs))) → u ≡ with_events (events_of q.store hs) t → ClosesAt v q ending old mid u whole
   turn-closing mid u ending some b counted =
       subst (λ x. ClosesAt v q ending old mid x whole) (sym (counted ∙ totals-are))
-      (closes-by-step mid ending (step p s) refl (subst (λ x. EndsAs q x (step p s)) some ended) (subst (λ ls. Appends now mid (viewed v ls)) lines-are b))
+      (closes-by-step mid ending (step p s) refl (subst (λ x. EndsAs q x (step p s)) some shows.ended) (subst (λ ls. Appends now mid (viewed v ls)) lines-are b))
 
   goes-by-step : (mid : Option (List ℕ)) (st : Step) → step p s ≡ st → EndsAs q None st → Appends now mid (viewed v (turn_lines v (step_events st))) → Going p v (state_of q) old mid (with_events (step_events st) t) whole
   goes-by-step mid (ends es rs e) is h b = absurd h
@@ -165,20 +158,13 @@ module _ (p : Params) (v : View) (s : State) (old now : Option (List ℕ)) (t : 
   turn-going mid u after same none b counted =
       subst (λ x. Going p v x old mid u whole) (sym same)
       (subst (λ x. Going p v (state_of q) old mid x whole) (sym (counted ∙ totals-are))
-      (goes-by-step mid (step p s) refl (subst (λ x. EndsAs q x (step p s)) none ended) (subst (λ ls. Appends now mid (viewed v ls)) lines-are b)))
-
-  fewer-by-step : (st : Step) → step p s ≡ st → EndsAs q None st → firings_left p (state_of q) < firings_left p s
-  fewer-by-step (ends es rs e) is h = absurd h
-  fewer-by-step (goes_on es rs u) is h = subst (λ x. firings_left p x < firings_left p s) (sym h) (steps p s u es rs is going.page).fewer
-
-  pub turn-fewer : o ≡ None → firings_left p (state_of q) < firings_left p s
-  turn-fewer none = fewer-by-step (step p s) refl (subst (λ x. EndsAs q x (step p s)) none ended)
+      (goes-by-step mid (step p s) refl (subst (λ x. EndsAs q x (step p s)) none shows.ended) (subst (λ ls. Appends now mid (viewed v ls)) lines-are b)))
 
   -- ---- what is counted
 
   module _ (few : AreFewFirings p) (tally : IsTally p t s) (waiting : length s.waiting ≤ 4194304) (pages : ArePages q.store hs) where
     nodes : AreFewNodes (sent_among (step_events (step p s)))
-    nodes = step-few q.store hs (is_traced v) (step_events (step p s)) pages events
+    nodes = step-few q.store hs (is_traced v) (step_events (step p s)) pages shows.events
 
     counts-by-step : (st : Step) → SendsBy p s st → AreFewNodes (sent_among (step_events st)) → AreCounts (with_events (step_events st) t)
     counts-by-step (ends es rs e) h ns = tally-counts p t s es few tally h waiting ns
@@ -195,10 +181,7 @@ module _ (p : Params) (v : View) (s : State) (old now : Option (List ℕ)) (t : 
     turn-tally u after same none counted =
         subst (IsTally p u) (sym same)
         (subst (λ x. IsTally p x (state_of q)) (sym (counted ∙ totals-are))
-        (tally-by-step (step p s) (step-sends p s) nodes (subst (λ x. EndsAs q x (step p s)) none ended) (turn-fewer none)))
-
-pub none-at : {A : Type 0} (o : Option Ending) → o ≡ None → IfNone o A → A
-none-at {A} o none h = subst (λ x. IfNone x A) none h
+        (tally-by-step (step p s) (step-sends p s) nodes (subst (λ x. EndsAs q x (step p s)) none shows.ended) (turn-fewer p s q going.page (is_traced v) hs o shows none)))
 
 -- a routine that is ready has not too many nodes that wait
 pub few-wait : (r : Routine) → IsReady r → length (state_of r).waiting ≤ 4194304
@@ -214,7 +197,7 @@ few-within n most h k = grind (arith, ints, h, k)
 -- if no limit is passed, the routine is ready still
 pub limit-ready : (r q : Routine) (o : Option Ending) → IsReady r → q ≡ record r { most = q.most } → IsBounded 8388608 q → IfNone o (pos q.most ≤ℤ r.machine.params.maxnodes) → o ≡ None → IsReady q
 limit-ready r q o ready same bounded within none =
-    subst IsReady (sym same) (again (subst (IsBounded 4194304) same (record { held = bounded.held; few = few-within q.most r.machine.params.maxnodes (none-at o none within) ready.settled.params.maxnodes.high })))
+    subst IsReady (sym same) (again (subst (IsBounded 4194304) same (record { held = bounded.held; few = few-within q.most r.machine.params.maxnodes (MatchOption-at_none _ _ none within) ready.settled.params.maxnodes.high })))
   where
     again : IsBounded 4194304 (record r { most = q.most }) → IsReady (record r { most = q.most })
     again k =

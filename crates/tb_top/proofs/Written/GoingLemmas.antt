@@ -1,8 +1,9 @@
 -- A run that goes on: what was written, what was shipped, and what is left.
 use Rattle.std.proofs.Common.{◌≡◌, refl, sym, subst, ◌∙◌, ap, ℕ, zero, suc, ◌+◌, ◌<◌, ◌≤◌, pos, Bool, true, false, List, [], ◌∷◌, ◌++◌, codes, Option, Some, append_assoc, append-nil, arith}
-use Rattle.std.specs.Prelude.{int_lt, if◌then◌else◌}
+use Rattle.std.specs.Prelude.{int_lt, if◌then◌else◌, Result, Err, IsErrAnd}
 use Rattle.std.specs.Io.KnownBytes.{Appends}
-use Rattle.tb_io.specs.Faults.{Rose}
+use Rattle.tb_io.specs.declared.sink.SinkFault.{SinkFault}
+use Rattle.tb_io.specs.declared.sink.SinkFault.TheVariants as outputs
 use Rattle.tb_io.specs.Sink.{AppendsPrefix}
 use Rattle.tb_io.proofs.Appended.{Appends-twice, prefix_whole, prefix_longer, prefix_on}
 use Rattle.tb_param.specs.declared.Params.{Params}
@@ -22,7 +23,8 @@ use Rattle.tb_run.specs.Run.{Run, RunEvent, offered, sent, End, done, node_limit
 use Rattle.tb_top.specs.Report.{totals_of, event_lines, traced_lines, all_lines, closing_lines, report, trace}
 use Rattle.tb_top.specs.Pages.{view_text, end_fault, Paginates, EndsWith, Refuses}
 use Rattle.tb_run.specs.Happenings.{noted, step_events}
-use Rattle.tb_top.specs.PagesWritten.{viewed, is_traced, with_events, IsShown, IsWriteFault}
+use Rattle.tb_top.specs.PagesWritten.{write_fault}
+use Rattle.tb_top.specs.Views.{viewed, is_traced, with_events, IsShown}
 use Rattle.tb_top.proofs.Written.FuelLemmas.{Turns, step-turns}
 
 -- ---- totals
@@ -303,29 +305,18 @@ module _ (v : View) (old mid new : Option (List ℕ)) (t : Totals) (whole : Run)
   }
 
 -- a failed write, or no memory, after a prefix
-pub refuses-cut : (v : View) (whole : Run) (old new : Option (List ℕ)) (before now : ℕ) (f : PageFault) → IsWriteFault v before now f → AppendsPrefix old new (view_text v whole) → Refuses v whole old new f
-refuses-cut v whole old new before now faults.Memory h b = b
-refuses-cut v whole old new before now faults.WriteFault h b = b
-refuses-cut v whole old new before now (faults.PoolFull line live) h b = absurd h
-refuses-cut v whole old new before now (faults.DeadCycles n) h b = absurd h
-refuses-cut v whole old new before now (faults.PageLimit n) h b = absurd h
-refuses-cut v whole old new before now (faults.NodeLimit n) h b = absurd h
+pub refuses-cut : (v : View) (whole : Run) (old new : Option (List ℕ)) (fault : SinkFault) → AppendsPrefix old new (view_text v whole) → Refuses v whole old new (write_fault fault)
+refuses-cut v whole old new outputs.Failed b = b
+refuses-cut v whole old new outputs.Memory b = b
 
-pub fault-rose : (v : View) (before now start : ℕ) (f : PageFault) → IsWriteFault v before now f → start ≤ before → f ≡ faults.WriteFault → Rose start now
-fault-rose v before now start faults.Memory h le e = cc
-fault-rose v before now start faults.WriteFault h le e = omega (arith, h.0)
-fault-rose v before now start (faults.PoolFull line live) h le e = absurd h
-fault-rose v before now start (faults.DeadCycles n) h le e = absurd h
-fault-rose v before now start (faults.PageLimit n) h le e = absurd h
-fault-rose v before now start (faults.NodeLimit n) h le e = absurd h
+-- a failed write is that of a failed sink
+pub failed-write : (fault : SinkFault) → faults.WriteFault ≡ write_fault fault → fault ≡ outputs.Failed
+failed-write outputs.Failed is = refl
+failed-write outputs.Memory is = cc
+
+-- also if it was returned
+pub failed-at : {T : Type 0} (r : Result T PageFault) (fault : SinkFault) → IsErrAnd r (λ e. e ≡ write_fault fault) → r ≡ Err faults.WriteFault → fault ≡ outputs.Failed
+failed-at r fault from is = failed-write fault (subst (λ x. IsErrAnd x (λ e. e ≡ write_fault fault)) is from)
 
 pub silent-shown : (v : View) → v ≡ views.Silent → IsShown v → ⊥
 silent-shown v s k = subst IsShown s k
-
-pub fault-shown : (v : View) (before now : ℕ) (f : PageFault) → IsWriteFault v before now f → v ≡ views.Silent → f ≡ faults.WriteFault → ⊥
-fault-shown v before now faults.Memory h s e = cc
-fault-shown v before now faults.WriteFault h s e = silent-shown v s h.1
-fault-shown v before now (faults.PoolFull line live) h s e = absurd h
-fault-shown v before now (faults.DeadCycles n) h s e = absurd h
-fault-shown v before now (faults.PageLimit n) h s e = absurd h
-fault-shown v before now (faults.NodeLimit n) h s e = absurd h

@@ -7,11 +7,10 @@ use Rattle.std.proofs.lemmas.Nat.{mul-le}
 use Rattle.tb_report.proofs.CountLemmas.{count_kinds-le}
 use Rattle.tb_pool.specs.Lists.{Lists}
 use Rattle.tb_node.specs.declared.Node.{Node}
-use Rattle.tb_node.specs.PlainNodes.{PlainKind, PlainNode}
 use Rattle.tb_param.specs.declared.Params.{Params}
 use Rattle.tb_column.specs.Column.{PlainSent, warned, shipped}
 use Rattle.tb_report.specs.declared.Totals.{Totals}
-use Rattle.tb_report.specs.RunTotals.{is_item_box, is_float_box, one_if, count_kinds, sheet_nodes, no_totals, with_sent, AreCounts}
+use Rattle.tb_report.specs.RunTotals.{is_item_box, is_float_box, one_if, sheet_nodes, no_totals, with_sent, AreCounts}
 use Rattle.tb_output.specs.State.{State}
 use Rattle.tb_output.proofs.StepLaws.SentCounts.{warning_count, page_count}
 use Rattle.tb_run.specs.declared.happenings.Happening.{Happening}
@@ -19,7 +18,8 @@ use Rattle.tb_run.specs.declared.happenings.Happening.TheVariants as happenings
 use Rattle.tb_run.specs.Run.{RunEvent, offered, sent, firings_left}
 use Rattle.tb_run.specs.Happenings.{event_of, events_of, noted}
 use Rattle.tb_run.specs.Routine.{ArePages}
-use Rattle.tb_top.specs.PagesWritten.{node_total, sent_among, with_events}
+use Rattle.tb_top.specs.PagesWritten.{node_total}
+use Rattle.tb_top.specs.Views.{sent_among, with_events}
 use Rattle.tb_top.proofs.Written.EventCounts.{SendsIn}
 use Rattle.tb_top.proofs.Written.PrintablePages.{few-sent}
 

@@ -10,6 +10,7 @@ use Rattle.tb_float.proofs.SoundLemmas.{sums-are_rooms, floats_of-seen}
 use Rattle.tb_float.proofs.PartLemmas.{part-other}
 use Rattle.tb_float.proofs.PoolLemmas.{joined-front, bare-list, joined-without_marks, sums-moved}
 use Rattle.tb_float.proofs.MarkLemmas.{unmarked-joined_before}
+use Rattle.tb_float.specs.Classes.{IsTracked}
 use Rattle.tb_float.proofs.TrackLemmas.{pooled, tracked-joined}
 use Rattle.tb_float.proofs.Pool.join_front.Goals as goal
 
@@ -64,7 +65,7 @@ invariant_of-self c =
     let raised = simp to_z-of_z at c.raise.ensures in
     let floats = ap (λ fs. with_floats_before c.args.to fs (without_entries c.args.from (seen_pool at i.size))) (sym (floats_of-seen c.args.from at)) in
     let stored = subst (λ (g : ByPart ℤ). IsStored c.append-2.new.self i.shelves g i.size) (sym (sums-moved i.heights c.lower.new.self c.raise.new.self c.args.from c.args.to c.of-height.result (of_part i.heights c.args.from) c.of-height.ensures lowered raised)) made.stored in
-    pooled c.append-2.new.self i.shelves c.raise.new.self i.size i.known i.chosen _ stored (made.seen ∙ floats) (tracked-joined i.known.flags i.chosen c.args.from c.args.to (seen_pool at i.size) c.self.invariant.tracked)
+    pooled c.append-2.new.self i.shelves c.raise.new.self i.size i.known i.chosen i.least _ stored (made.seen ∙ floats) (tracked-joined (IsTracked i.known.flags i.least) i.chosen c.args.from c.args.to (seen_pool at i.size) c.self.invariant.tracked)
 
 pub returns : goal.returns
 returns c =

@@ -14,6 +14,7 @@ use Rattle.tb_float.proofs.PoolLemmas.{float-there, float-is, all-marks, moved-t
 use Rattle.tb_float.proofs.SlotLemmas.{slot-there}
 use Rattle.tb_float.proofs.SoundLemmas.{sums-are_rooms}
 use Rattle.tb_float.proofs.MarkLemmas.{unmarked-moved_float}
+use Rattle.tb_float.specs.Classes.{IsTracked}
 use Rattle.tb_float.proofs.TrackLemmas.{pooled, known-entry, tracked-moved}
 use Rattle.tb_float.proofs.Pool.move_to.Goals as goal
 
@@ -80,9 +81,9 @@ invariant_of-self c =
     let raised = simp to_z-of_z at c.raise.ensures in
     let seen = made.seen ∙ ap (λ d. with_floats_after c.args.to (float_before d []) (without_entry c.args.from c.args.k (seen_pool at i.size))) is in
     let tracked = c.self.invariant.tracked in
-    let known = known-entry i.known.flags c.args.from c.args.k float.0 (seen_pool at i.size).lists (tracked.classes c.args.from) float.1 in
+    let known = known-entry (IsTracked i.known.flags i.least) c.args.from c.args.k float.0 (seen_pool at i.size).lists (tracked.floats c.args.from) float.1 in
     let stored = subst (λ (g : ByPart ℤ). IsStored c.move_slot-slot.new.store i.shelves g i.size) (sym (sums-moved i.heights c.lower.new.self c.raise.new.self c.args.from c.args.to c.entry_height-height.result (total_height (float_before s.entry [])) height_is lowered raised)) made.stored in
-    pooled c.move_slot-slot.new.store i.shelves c.raise.new.self i.size i.known i.chosen _ stored seen (tracked-moved i.known.flags i.chosen c.args.from c.args.k c.args.to float.0 (seen_pool at i.size) (all-marks at i.size c.self.invariant.stored.sound.slots) tracked known)
+    pooled c.move_slot-slot.new.store i.shelves c.raise.new.self i.size i.known i.chosen i.least _ stored seen (tracked-moved (IsTracked i.known.flags i.least) i.chosen c.args.from c.args.k c.args.to float.0 (seen_pool at i.size) (all-marks at i.size c.self.invariant.stored.sound.slots) tracked known)
 
 pub returns-clause-moved : goal.returns-clause-moved
 returns-clause-moved c = λ f e.

@@ -15,6 +15,7 @@ use Rattle.tb_float.proofs.SlotLemmas.{slot-there}
 use Rattle.tb_float.proofs.SoundLemmas.{sums-are_rooms, entries_of-seen, entry_count-seen}
 use Rattle.tb_float.proofs.PoolLemmas.{taken-out, entry-is_room, without-first}
 use Rattle.tb_float.proofs.MarkLemmas.{unmarked-without_entry}
+use Rattle.tb_float.specs.Classes.{IsTracked}
 use Rattle.tb_float.proofs.TrackLemmas.{pooled, tracked-without}
 use Rattle.tb_float.proofs.Pool.retire.Goals as goal
 
@@ -48,7 +49,7 @@ invariant_of-self-2 c =
     let lowered = simp to_z-of_z at c.lower.ensures in
     let heights = lowered ∙ ap (λ z. with_part c.args.p (of_part i.heights c.args.p -ℤ z) i.heights) height_is in
     let stored = subst (λ (g : ByPart ℤ). IsStored c.pop_front.new.self i.shelves g i.size) (sym heights) made.stored in
-    pooled c.pop_front.new.self i.shelves c.lower.new.self i.size i.known i.chosen _ stored made.seen (tracked-without i.known.flags i.chosen c.args.p 0 _ c.self.invariant.tracked)
+    pooled c.pop_front.new.self i.shelves c.lower.new.self i.size i.known i.chosen i.least _ stored made.seen (tracked-without (IsTracked i.known.flags i.least) i.chosen c.args.p 0 _ c.self.invariant.tracked)
 
 pub returns-clause-first : goal.returns-clause-first
 returns-clause-first c =

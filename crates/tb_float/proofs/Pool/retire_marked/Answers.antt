@@ -1,4 +1,4 @@
-use Rattle.std.proofs.Common.{ℤ, ◌-◌, ◌≡◌, [], ◌∷◌, length, slice_get, refl, sym, ap, ◌∙◌, subst, FitsSigned, w64, rules, arith}
+use Rattle.std.proofs.Common.{ℤ, ◌-◌, ◌≡◌, ◌<◌, [], ◌∷◌, length, slice_get, refl, sym, ap, ◌∙◌, subst, FitsSigned, w64, rules, arith}
 use Rattle.std.specs.Prelude.{◌-ℤ◌}
 use Rattle.std.proofs.lemmas.Int.{to_z-of_z}
 use Rattle.std.proofs.lemmas.List.{length-map}
@@ -15,72 +15,75 @@ use Rattle.tb_float.proofs.SlotLemmas.{slot-there, float-at_slot}
 use Rattle.tb_float.proofs.SoundLemmas.{marks_of-seen, sums-are_rooms, floats_of-seen}
 use Rattle.tb_float.proofs.WaitingLemmas.{waiting-floats}
 use Rattle.tb_float.proofs.PoolLemmas.{taken-out, entry-is_room, marks-shown}
-use Rattle.tb_float.proofs.MarkLemmas.{unmarked-all, first-marked, none-marked, first_marked-le, left-over}
-use Rattle.tb_float.specs.Classes.{Tracks}
-use Rattle.tb_float.proofs.TrackLemmas.{pooled, tracked-fewer, all-unmarked}
+use Rattle.tb_float.proofs.MarkLemmas.{unmarked-all, first-marked, none-marked, left-over}
+use Rattle.tb_float.specs.Classes.{IsCleanTo, IsTracked, Tracks}
+use Rattle.tb_float.proofs.TrackLemmas.{pooled-clean, tracked-fewer, all-unmarked}
+use Rattle.std.proofs.lemmas.Option.{slice_get_within}
+use Rattle.tb_float.proofs.CleanLemmas.{clean-of, clean-without}
 use Rattle.tb_float.proofs.Pool.retire_marked.Goals as goal
 
-pub first_marked-k-requires : goal.first_marked-k-requires
-first_marked-k-requires c = rw c.of-list.ensures (c.self.invariant.stored.shelves_are.live c.args.from)
-
-pub len-requires : goal.len-requires
-len-requires c = rw c.of-list.ensures (c.self.invariant.stored.shelves_are.live c.args.from)
+pub take_marked-requires : goal.take_marked-requires
+take_marked-requires c =
+    let i = c.self.inside in
+    let k = c.self.invariant.stored.shelves_are in
+    let p = c.args.from in
+    rw c.of.ensures (record {
+      from_live = k.live p;
+      one_live = k.one_live;
+      rest_live = k.rest_live;
+      differ = (k.one_apart p, k.rest_apart p, k.helpers_apart);
+      one_empty = k.one_empty;
+      rest_empty = k.rest_empty;
+      clean = subst (IsCleanTo i.clean) (marks_of-seen p (slots_of i.store i.shelves) i.size c.requires) (clean-of p i.clean _ c.requires c.self.invariant.clean_to);
+    })
 
 pub returns-then-self-eq0-clause-none : goal.returns-then-self-eq0-clause-none
 returns-then-self-eq0-clause-none c =
     let i = c.self.inside in
     let v = seen_pool (slots_of i.store i.shelves) i.size in
-    let none = all-unmarked c.args.from i.known.flags v c.requires (subst (λ n. Tracks i.known.flags n v) c.if-self-eq0.true c.self.invariant.tracked) in
+    let none = all-unmarked c.args.from (IsTracked i.known.flags i.least) v c.requires (subst (λ n. Tracks (IsTracked i.known.flags i.least) n v) c.if-self-eq0.true c.self.invariant.tracked) in
     (λ e. sym (ap (marked_floats c.args.from) c.self.view_is) ∙ none, λ e. refl)
 
 pub returns-then-self-eq0-clause-all_unmarked : goal.returns-then-self-eq0-clause-all_unmarked
 returns-then-self-eq0-clause-all_unmarked c =
     let i = c.self.inside in
     let v = seen_pool (slots_of i.store i.shelves) i.size in
-    let none = all-unmarked c.args.from i.known.flags v c.requires (subst (λ n. Tracks i.known.flags n v) c.if-self-eq0.true c.self.invariant.tracked) in
+    let none = all-unmarked c.args.from (IsTracked i.known.flags i.least) v c.requires (subst (λ n. Tracks (IsTracked i.known.flags i.least) n v) c.if-self-eq0.true c.self.invariant.tracked) in
     let old = c.args.self.now in
     unmarked-all (marks_of c.args.from old) (floats_of c.args.from old.lists) (sym (ap (marked_floats c.args.from) c.self.view_is) ∙ none)
 
-pub returns-then-k-len-clause-none : goal.returns-then-k-len-clause-none
-returns-then-k-len-clause-none c =
+pub returns-in_default-clause-none : goal.returns-in_default-clause-none
+returns-in_default-clause-none c =
     let i = c.self.inside in
     let at = slots_of i.store i.shelves in
-    let k_first : c.first_marked-k.result ≡ first_marked (marks_in (at c.args.from)) = rw c.of-list.ensures at c.first_marked-k.ensures in
-    let len_is : c.len.result ≡ length (at c.args.from) = rw c.of-list.ensures at c.len.ensures in
+    let first : first_marked (marks_in (at c.args.from)) ≡ length (at c.args.from) = rw c.of.ensures at c.in_default.ensures.none in
     let marks_are : marks_of c.args.from (seen_pool at i.size) ≡ marks_in (at c.args.from) = marks_of-seen c.args.from at i.size c.requires in
     let floats_are : floats_of c.args.from (seen_pool at i.size).lists ≡ floats_in (at c.args.from) = floats_of-seen c.args.from at in
     let slots = c.self.invariant.stored.sound.slots c.args.from in
-    let end = none-marked (marks_in (at c.args.from)) (floats_in (at c.args.from)) (marks-shown c.args.from at (waiting-floats c.args.from c.requires) slots) (omega (arith, k_first, c.if-k-len.true, len_is, length-map (at c.args.from) (λ s. s.marked))) in
+    let end = none-marked (marks_in (at c.args.from)) (floats_in (at c.args.from)) (marks-shown c.args.from at (waiting-floats c.args.from c.requires) slots) (omega (arith, first, length-map (at c.args.from) (λ s. s.marked))) in
     (λ e. sym (ap (marked_floats c.args.from) c.self.view_is) ∙ (λ j. marked_among (marks_are j) (floats_are j)) ∙ end.0, λ e. refl)
 
-pub returns-then-k-len-clause-all_unmarked : goal.returns-then-k-len-clause-all_unmarked
-returns-then-k-len-clause-all_unmarked c =
+pub returns-in_default-clause-all_unmarked : goal.returns-in_default-clause-all_unmarked
+returns-in_default-clause-all_unmarked c =
     let i = c.self.inside in
     let at = slots_of i.store i.shelves in
-    let k_first : c.first_marked-k.result ≡ first_marked (marks_in (at c.args.from)) = rw c.of-list.ensures at c.first_marked-k.ensures in
-    let len_is : c.len.result ≡ length (at c.args.from) = rw c.of-list.ensures at c.len.ensures in
+    let first : first_marked (marks_in (at c.args.from)) ≡ length (at c.args.from) = rw c.of.ensures at c.in_default.ensures.none in
     let marks_are : marks_of c.args.from (seen_pool at i.size) ≡ marks_in (at c.args.from) = marks_of-seen c.args.from at i.size c.requires in
     let floats_are : floats_of c.args.from (seen_pool at i.size).lists ≡ floats_in (at c.args.from) = floats_of-seen c.args.from at in
     let slots = c.self.invariant.stored.sound.slots c.args.from in
-    let end = none-marked (marks_in (at c.args.from)) (floats_in (at c.args.from)) (marks-shown c.args.from at (waiting-floats c.args.from c.requires) slots) (omega (arith, k_first, c.if-k-len.true, len_is, length-map (at c.args.from) (λ s. s.marked))) in
+    let end = none-marked (marks_in (at c.args.from)) (floats_in (at c.args.from)) (marks-shown c.args.from at (waiting-floats c.args.from c.requires) slots) (omega (arith, first, length-map (at c.args.from) (λ s. s.marked))) in
     sym (ap (unmarked_floats c.args.from) c.self.view_is) ∙ (λ j. unmarked_among (marks_are j) (floats_are j)) ∙ end.1 ∙ sym floats_are ∙ ap (λ v. floats_of c.args.from v.lists) c.self.view_is
-
-pub take_slot-slot-requires-clause-within : goal.take_slot-slot-requires-clause-within
-take_slot-slot-requires-clause-within c =
-    let at = slots_of c.self.inside.store c.self.inside.shelves in
-    let k_first : c.first_marked-k.result ≡ first_marked (marks_in (at c.args.from)) = rw c.of-list.ensures at c.first_marked-k.ensures in
-    let len_is : c.len.result ≡ length (at c.args.from) = rw c.of-list.ensures at c.len.ensures in
-    rw c.of-list.ensures (omega (arith, k_first, len_is, first_marked-le (marks_in (at c.args.from)), length-map (at c.args.from) (λ s. s.marked)))
 
 pub lower-requires : goal.lower-requires
 lower-requires c =
     let i = c.self.inside in
     let at = slots_of i.store i.shelves in
     let f : FitsSigned w64 c.entry_height.result = search rules in
-    let s = c.take_slot-slot.result in
+    let s = c.in-Some.slot in
     let height_is : c.entry_height.result ≡ total_height (float_before s.entry []) = c.entry_height.ensures ∙ ap (λ r. total_height (float_before r.entry [])) c.slot.view_is in
-    let was = rw c.of-list.ensures at c.take_slot-slot.ensures.was in
-    let sized = (slot-there c.args.from c.first_marked-k.result (at c.args.from) s (c.self.invariant.stored.sound.slots c.args.from) was).sized in
+    let gone = rw c.of.ensures at c.in-Some.ensures.taken in
+    let was = gone.was in
+    let sized = (slot-there c.args.from (first_marked (marks_in (at c.args.from))) (at c.args.from) s (c.self.invariant.stored.sound.slots c.args.from) was).sized in
     record {
       before = sums-are_rooms at i.heights i.size i.store.spare c.args.from c.self.invariant.stored.sound c.self.invariant.stored.places;
       less = simp to_z-of_z (subst IsRoom (sym height_is) (entry-is_room s.entry sized));
@@ -89,29 +92,32 @@ lower-requires c =
 pub float_in-requires : goal.float_in-requires
 float_in-requires c =
     let at = slots_of c.self.inside.store c.self.inside.shelves in
-    let was = rw c.of-list.ensures at c.take_slot-slot.ensures.was in
-    let there = slot-there c.args.from c.first_marked-k.result (at c.args.from) c.take_slot-slot.result (c.self.invariant.stored.sound.slots c.args.from) was in
+    let gone = rw c.of.ensures at c.in-Some.ensures.taken in
+    let was = gone.was in
+    let there = slot-there c.args.from (first_marked (marks_in (at c.args.from))) (at c.args.from) c.in-Some.slot (c.self.invariant.stored.sound.slots c.args.from) was in
     ap (λ (s : SlotView). is_float s.entry) c.slot.view_is ∙ there.float (waiting-floats c.args.from c.requires)
 
-pub invariant_of-self : goal.invariant_of-self
-invariant_of-self c =
+pub invariant_of-self-2 : goal.invariant_of-self-2
+invariant_of-self-2 c =
     let i = c.self.inside in
+    let at = slots_of i.store i.shelves in
     let f : FitsSigned w64 c.entry_height.result = search rules in
-    let s = c.take_slot-slot.result in
+    let s = c.in-Some.slot in
     let height_is : c.entry_height.result ≡ total_height (float_before s.entry []) = c.entry_height.ensures ∙ ap (λ r. total_height (float_before r.entry [])) c.slot.view_is in
-    let was = rw c.of-list.ensures at c.take_slot-slot.ensures.was in
-    let taken = rw c.of-list.ensures at c.take_slot-slot.ensures.taken in
-    let made = taken-out i.store c.take_slot-slot.new.store i.shelves i.heights i.size c.args.from c.first_marked-k.result s c.self.invariant.stored was taken c.take_slot-slot.ensures.spare in
+    let gone = rw c.of.ensures at c.in-Some.ensures.taken in
+    let was = gone.was in
+    let taken = gone.taken in
+    let made = taken-out i.store c.take_marked.new.store i.shelves i.heights i.size c.args.from (first_marked (marks_in (at c.args.from))) s c.self.invariant.stored was taken gone.spare in
     let lowered = simp to_z-of_z at c.lower.ensures in
     let heights = lowered ∙ ap (λ z. with_part c.args.from (of_part i.heights c.args.from -ℤ z) i.heights) height_is in
-    let stored = subst (λ (g : ByPart ℤ). IsStored c.take_slot-slot.new.store i.shelves g i.size) (sym heights) made.stored in
+    let stored = subst (λ (g : ByPart ℤ). IsStored c.take_marked.new.store i.shelves g i.size) (sym heights) made.stored in
     let at = slots_of i.store i.shelves in
     let ms = marks_in (at c.args.from) in
     let fs = floats_in (at c.args.from) in
-    let k = c.first_marked-k.result in
+    let k = first_marked ms in
     let v = seen_pool at i.size in
     let slots = c.self.invariant.stored.sound.slots c.args.from in
-    let k_is : k ≡ first_marked ms = rw c.of-list.ensures at c.first_marked-k.ensures in
+    let k_is : k ≡ first_marked ms = refl in
     let marks_are : marks_of c.args.from v ≡ ms = marks_of-seen c.args.from at i.size c.requires in
     let floats_are : floats_of c.args.from v.lists ≡ fs = floats_of-seen c.args.from at in
     let is : s.entry ≡ entries.Float c.float_in.result = ap (λ (r : SlotView). r.entry) (sym c.slot.view_is) ∙ c.float_in.ensures in
@@ -119,7 +125,10 @@ invariant_of-self c =
     let left = left-over c.args.from (first_marked ms) v ms fs c.requires marks_are floats_are in
     let first = first-marked ms fs c.float_in.result (marks-shown c.args.from at (waiting-floats c.args.from c.requires) slots) (ap (slice_get fs) (sym k_is) ∙ there) in
     let marked = (λ j. marked_among (marks_are j) (floats_are j)) ∙ first.marked ∙ ap (λ hs. c.float_in.result ∷ hs) (sym left.0) ∙ ap (λ j. c.float_in.result ∷ marked_floats c.args.from (without_entry c.args.from j v)) (sym k_is) in
-    pooled c.take_slot-slot.new.store i.shelves c.lower.new.self i.size i.known (i.chosen - 1) _ stored made.seen (tracked-fewer i.known.flags i.chosen c.args.from k c.float_in.result v c.requires c.self.invariant.tracked marked)
+    let many = length-map (at c.args.from) (λ (r : SlotView). r.marked) in
+    let lt : k < length (marks_of c.args.from v) = omega (arith, ap length marks_are, many, slice_get_within (at c.args.from) k s was) in
+    let clean = clean-without i.clean c.args.from k v c.requires (k_is ∙ ap first_marked (sym marks_are)) lt c.self.invariant.clean_to in
+    pooled-clean c.take_marked.new.store i.shelves c.lower.new.self i.size i.known (i.chosen - 1) i.least i.clean _ stored made.seen (tracked-fewer (IsTracked i.known.flags i.least) i.chosen c.args.from k c.float_in.result v c.requires c.self.invariant.tracked marked) clean
 
 pub returns : goal.returns
 returns c =
@@ -127,16 +136,17 @@ returns c =
     let at = slots_of i.store i.shelves in
     let ms = marks_in (at c.args.from) in
     let fs = floats_in (at c.args.from) in
-    let k = c.first_marked-k.result in
-    let s = c.take_slot-slot.result in
+    let k = first_marked ms in
+    let s = c.in-Some.slot in
     let f = c.float_in.result in
     let slots = c.self.invariant.stored.sound.slots c.args.from in
-    let k_is : k ≡ first_marked ms = rw c.of-list.ensures at c.first_marked-k.ensures in
-    let was = rw c.of-list.ensures at c.take_slot-slot.ensures.was in
-    let taken = rw c.of-list.ensures at c.take_slot-slot.ensures.taken in
+    let k_is : k ≡ first_marked ms = refl in
+    let gone = rw c.of.ensures at c.in-Some.ensures.taken in
+    let was = gone.was in
+    let taken = gone.taken in
     let marks_are : marks_of c.args.from (seen_pool at i.size) ≡ marks_in (at c.args.from) = marks_of-seen c.args.from at i.size c.requires in
     let floats_are : floats_of c.args.from (seen_pool at i.size).lists ≡ floats_in (at c.args.from) = floats_of-seen c.args.from at in
-    let made = taken-out i.store c.take_slot-slot.new.store i.shelves i.heights i.size c.args.from k s c.self.invariant.stored was taken c.take_slot-slot.ensures.spare in
+    let made = taken-out i.store c.take_marked.new.store i.shelves i.heights i.size c.args.from k s c.self.invariant.stored was taken gone.spare in
     let is : s.entry ≡ entries.Float f = ap (λ (r : SlotView). r.entry) (sym c.slot.view_is) ∙ c.float_in.ensures in
     let there = float-at_slot c.args.from k (at c.args.from) s f (waiting-floats c.args.from c.requires) slots was is in
     let left = left-over c.args.from (first_marked ms) (seen_pool at i.size) ms fs c.requires marks_are floats_are in

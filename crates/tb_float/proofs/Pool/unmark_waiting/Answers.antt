@@ -1,6 +1,7 @@
 use Rattle.std.proofs.Common.{ap, ◌∙◌}
 use Rattle.tb_float.specs.Pool.{without_marks}
 use Rattle.tb_float.proofs.PoolLemmas.{unmarked-store}
+use Rattle.tb_float.specs.Classes.{IsTracked}
 use Rattle.tb_float.proofs.TrackLemmas.{pooled, tracked-unmarked}
 use Rattle.tb_float.proofs.Pool.unmark_waiting.Goals as goal
 
@@ -12,7 +13,7 @@ invariant_of-self c =
     let i = c.self.inside in
     let unmarked = rw c.of-list.ensures at c.unmark_all.ensures.unmarked in
     let made = unmarked-store i.store c.unmark_all.new.store i.shelves i.heights i.size c.args.p c.requires c.self.invariant.stored unmarked c.unmark_all.ensures.spare in
-    pooled c.unmark_all.new.store i.shelves i.heights i.size i.known i.chosen _ made.stored made.seen (tracked-unmarked i.known.flags i.chosen c.args.p _ c.self.invariant.tracked)
+    pooled c.unmark_all.new.store i.shelves i.heights i.size i.known i.chosen i.least _ made.stored made.seen (tracked-unmarked (IsTracked i.known.flags i.least) i.chosen c.args.p _ c.self.invariant.tracked)
 
 pub returns : goal.returns
 returns c =

@@ -1,15 +1,16 @@
 use Rattle.std.proofs.Common.{◌≡◌, [], drop, sym, ap, subst, ◌∙◌, FitsSigned, w64, arith, rules}
-use Rattle.std.proofs.lemmas.Int.{ints}
+use Rattle.std.proofs.lemmas.Int.{ints, to_z-of_z}
+use mir.Val.{to_z, of_z}
 use Rattle.tb_float.specs.Lists.{float_entries, floats_of}
 use Rattle.tb_float.proofs.WaitingLemmas.{waiting-entries}
-use Rattle.tb_fpage.specs.Company.{company_height, left_floats}
+use Rattle.tb_fpage.specs.Company.{company_height}
 use Rattle.tb_fpage.specs.Walk.{EndsBy, company_of_place}
 use Rattle.tb_float.proofs.EntryLemmas.{drop-entries, next-is_float}
-use Rattle.tb_fpage.proofs.WalkLemmas.{next-float, no-float, left-next, on-way-next, on-way-end, on-way-room}
+use Rattle.tb_fpage.proofs.WalkLemmas.{next-float, no-float, left-next, on-way-next, on-way-end, on-way-room, on-way-within, within-drop}
 use Rattle.tb_fpage.proofs.CompanyLemmas.{on-way-start}
-use Rattle.tb_float.specs.Classes.{HasLeft}
+use Rattle.tb_float.specs.Classes.{AreAtLeast, HasLeft}
 use Rattle.tb_fpage.specs.declared.walk.Walk.{Walk}
-use Rattle.tb_fpage.proofs.FullLemmas.{has-left, full-height, full-ends}
+use Rattle.tb_fpage.proofs.FullLemmas.{has-left, has-ended}
 use Rattle.tb_fpage.proofs.companies.walk_company.Goals as goal
 
 pub loop-entry-init : goal.loop-entry-init
@@ -27,8 +28,8 @@ loop-entry-init c =
       classes_left = subst (λ s. HasLeft s all) (sym failed) c.requires.left;
     }
 
-pub float_in-requires : goal.float_in-requires
-float_in-requires c =
+pub float_in-f-requires : goal.float_in-f-requires
+float_in-f-requires c =
     let all = floats_of c.args.from c.args.pool.now.lists in
     next-is_float c.in-Some.entry.now c.next.new.self (drop c.loop-entry.walk.seen all) (sym c.in-Some.ensures.steps ∙ c.loop-entry.invariant.left)
 
@@ -36,8 +37,8 @@ pub visit-requires : goal.visit-requires
 visit-requires c =
     let all = floats_of c.args.from c.args.pool.now.lists in
     let w = c.loop-entry.walk in
-    let f = c.float_in.result.now in
-    let next = next-float c.in-Some.entry.now c.next.new.self (drop w.seen all) f (sym c.in-Some.ensures.steps ∙ c.loop-entry.invariant.left) c.float_in.ensures in
+    let f = c.float_in-f.result.now in
+    let next = next-float c.in-Some.entry.now c.next.new.self (drop w.seen all) f (sym c.in-Some.ensures.steps ∙ c.loop-entry.invariant.left) c.float_in-f.ensures in
     let room = on-way-room c.args.wanted.now w all next.0 f _ c.requires.few (sym next.2) c.loop-entry.invariant.way in
     record { room = room.0; height = room.1 }
 
@@ -46,8 +47,23 @@ loop-entry-preserved c =
     let all = floats_of c.args.from c.args.pool.now.lists in
     let w = c.loop-entry.walk in
     let v = c.visit.new.self in
-    let f = c.float_in.result.now in
-    let next = next-float c.in-Some.entry.now c.next.new.self (drop w.seen all) f (sym c.in-Some.ensures.steps ∙ c.loop-entry.invariant.left) c.float_in.ensures in
+    let f = c.float_in-f.result.now in
+    let next = next-float c.in-Some.entry.now c.next.new.self (drop w.seen all) f (sym c.in-Some.ensures.steps ∙ c.loop-entry.invariant.left) c.float_in-f.ensures in
+    record {
+      can_next = tt;
+      is_finite = tt;
+      left = next.1 ∙ ap float_entries (left-next w v all next.0 f c.visit.ensures.seen (sym next.2));
+      way = on-way-next c.args.wanted.now w v all next.0 f c.visit.result _ c.visit.ensures.seen (sym next.2) c.visit.ensures.joins c.visit.ensures.stands c.loop-entry.invariant.way;
+      classes_left = c.visit.ensures.left all (has-left all next.0 w.seen f (sym next.2)) c.loop-entry.invariant.classes_left;
+    }
+
+pub loop-entry-preserved-then-had : goal.loop-entry-preserved-then-had
+loop-entry-preserved-then-had c =
+    let all = floats_of c.args.from c.args.pool.now.lists in
+    let w = c.loop-entry.walk in
+    let v = c.visit.new.self in
+    let f = c.float_in-f.result.now in
+    let next = next-float c.in-Some.entry.now c.next.new.self (drop w.seen all) f (sym c.in-Some.ensures.steps ∙ c.loop-entry.invariant.left) c.float_in-f.ensures in
     record {
       can_next = tt;
       is_finite = tt;
@@ -69,14 +85,30 @@ returns c =
       last = subst (EndsBy w.last) end way.stands.last;
     }
 
-pub returns-then-is_full : goal.returns-then-is_full
-returns-then-is_full c =
+pub is_over-requires : goal.is_over-requires
+is_over-requires c =
     let all = floats_of c.args.from c.args.pool.now.lists in
     let z = c.args.wanted.now in
     let w = c.loop-entry.walk in
-    let way = c.loop-entry.invariant.way in
-    let full = c.is_full.ensures.all c.if-is_full.true (left_floats way.before) all way.stands.failed c.loop-entry.invariant.classes_left in
-    record {
-      height = full-height z w all (company_of_place z c.args.place all c.args.f.now) way full;
-      last = full-ends z w all (company_of_place z c.args.place all c.args.f.now) way full;
-    }
+    let v = c.visit.new.self in
+    let f = c.float_in-f.result.now in
+    let next = next-float c.in-Some.entry.now c.next.new.self (drop w.seen all) f (sym c.in-Some.ensures.steps ∙ c.loop-entry.invariant.left) c.float_in-f.ensures in
+    let way = on-way-next z w v all next.0 f c.visit.result _ c.visit.ensures.seen (sym next.2) c.visit.ensures.joins c.visit.ensures.stands c.loop-entry.invariant.way in
+    let within = within-drop w.seen all next.0 f (sym next.2) in
+    on-way-within z v all _ c.requires.few (omega (arith, c.visit.ensures.seen, within)) way
+
+pub returns-then-is_over : goal.returns-then-is_over
+returns-then-is_over c =
+    let all = floats_of c.args.from c.args.pool.now.lists in
+    let z = c.args.wanted.now in
+    let w = c.loop-entry.walk in
+    let v = c.visit.new.self in
+    let f = c.float_in-f.result.now in
+    let next = next-float c.in-Some.entry.now c.next.new.self (drop w.seen all) f (sym c.in-Some.ensures.steps ∙ c.loop-entry.invariant.left) c.float_in-f.ensures in
+    let way = on-way-next z w v all next.0 f c.visit.result _ c.visit.ensures.seen (sym next.2) c.visit.ensures.joins c.visit.ensures.stands c.loop-entry.invariant.way in
+    let left = c.visit.ensures.left all (has-left all next.0 w.seen f (sym next.2)) c.loop-entry.invariant.classes_left in
+    let least = c.least_height-least.result in
+    let fits : FitsSigned w64 least = search rules in
+    let low = subst (λ y. AreAtLeast y all) (sym (to_z-of_z w64 least fits)) (c.least_height-least.ensures c.args.from) in
+    let ended = has-ended z v (to_z w64 (of_z w64 least)) all (company_of_place z c.args.place all c.args.f.now) (c.is_over.ensures c.if-is_over.true) left low way in
+    record { height = ended.height; last = ended.last }

@@ -1,8 +1,10 @@
-use Rattle.std.proofs.Common.{◌≡◌, ◌≢◌, sym, subst, ap, ◌∙◌, ◌-◌, length, take, arith}
+use Rattle.std.proofs.Common.{◌≡◌, ◌≢◌, sym, subst, ap, ◌∙◌, ◌-◌, length, take, FitsSigned, w64, rules, arith}
+use Rattle.std.proofs.lemmas.Int.{to_z-of_z}
 use Rattle.tb_pool.specs.Lists.{IsLive, list_at, with_list}
 use Rattle.tb_pool.proofs.CallerLemmas.{live_other, live_same}
 use Rattle.tb_output.specs.Machine.{MachineView}
 use Rattle.tb_output.specs.FiringParts.{HasTextBack}
+use Rattle.tb_output.proofs.InText.ExtentLemmas.{page-cut, held-cut, room-cut, room-back}
 use Rattle.tb_output.proofs.InText.BackLemmas.{first-live, second-live, second-empty, other-live, text-joined}
 use Rattle.tb_output.proofs.Machine.text_back.Goals as goal
 use Rattle.tb_output.proofs.Machine.text_back.Goals.{then-count-lt2, else-count-lt2}
@@ -13,7 +15,7 @@ append-requires-clause-first_live c = live_other c.args.store.now c.shorten.new.
 pub append-requires-clause-second_live : goal.append-requires-clause-second_live
 append-requires-clause-second_live c =
     subst (λ (m : MachineView). IsLive c.shorten.new.store m.held_page) (sym c.self.view_is)
-    (live_other c.args.store.now c.shorten.new.store c.args.body _ c.args.self.now.held_page c.requires.held_apart c.shorten.ensures c.requires.held)
+    (live_other c.args.store.now c.shorten.new.store c.args.body _ c.args.self.now.held_page c.requires.held_apart c.shorten.ensures c.requires.held.live)
 
 pub append-requires-2-clause-first_live : goal.append-requires-2-clause-first_live
 append-requires-2-clause-first_live c =
@@ -33,8 +35,17 @@ close-requires-clause-live c = second-live c.append.new.self c.append-2.new.self
 pub close-requires-clause-empty : goal.close-requires-clause-empty
 close-requires-clause-empty c = second-empty c.append.new.self c.append-2.new.self c.args.back c.args.body c.requires.body_apart c.append-2.ensures.joined
 
-pub returns : goal.returns
-returns c =
+pub text_room-room-requires-clause-held : goal.text_room-room-requires-clause-held
+text_room-room-requires-clause-held c = held-cut c.args.store.now c.shorten.new.store c.args.body _ c.shorten.ensures c.args.self.now.held_page c.requires.held_apart c.requires.held
+
+pub text_room-room-requires-clause-held_room : goal.text_room-room-requires-clause-held_room
+text_room-room-requires-clause-held_room c = room-cut c.args.store.now c.shorten.new.store c.args.body _ c.shorten.ensures c.args.self.now.held_page c.args.self.now.held_room c.requires.held_apart c.requires.held_room
+
+pub text_room-room-requires-clause-body : goal.text_room-room-requires-clause-body
+text_room-room-requires-clause-body c = page-cut c.args.store.now c.shorten.new.store c.args.body _ c.shorten.ensures c.requires.body
+
+pub returns-clause-lists : goal.returns-clause-lists
+returns-clause-lists c =
     let a = c.args.store.now in
     let ns = list_at a c.args.body in
     let back_held : c.args.back ≢ c.self.inside.held_page = subst (λ (m : MachineView). c.args.back ≢ m.held_page) (sym c.self.view_is) c.requires.back_apart in
@@ -44,3 +55,14 @@ returns c =
     let joined = text-joined a c.shorten.new.store c.append.new.self c.append-2.new.self c.close.new.self c.args.back c.self.inside.held_page c.args.body (take (length ns - 2) ns)
     held_body back_held c.requires.body_apart cut c.append.ensures.joined c.append-2.ensures.joined c.close.ensures.closed in
     subst (λ (m : MachineView). HasTextBack c.args.back m.held_page c.args.body a c.close.new.self) c.self.view_is (record { list = joined.0; emptied = joined.1; others = joined.2 })
+
+pub returns-clause-room : goal.returns-clause-room
+returns-clause-room c = λ empty.
+    let a = c.args.store.now in
+    let ns = list_at a c.args.body in
+    let gone : HasTextBack c.args.back c.args.self.now.held_page c.args.body a c.close.new.self = returns-clause-lists c in
+    let count : c.if-count-lt2.shorten ≡ length ns - 2 = elim c.if-count-lt2.branch [ then-count-lt2 w ↦ omega (arith, c.len-count.ensures) | else-count-lt2 w ↦ omega (arith, c.len-count.ensures) ] in
+    let cut : c.shorten.new.store.lists ≡ with_list a c.args.body (take (length ns - 2) ns) = c.shorten.ensures ∙ ap (λ k. with_list a c.args.body (take k ns)) count in
+    let fits : FitsSigned w64 c.text_room-room.result = search rules in
+    to_z-of_z w64 c.text_room-room.result fits
+    ∙ room-back a c.shorten.new.store c.args.body (length ns - 2) cut c.close.new.self c.args.self.now.held_page c.args.back c.text_room-room.result c.requires.held_apart c.text_room-room.ensures empty gone.list

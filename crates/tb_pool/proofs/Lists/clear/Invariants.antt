@@ -12,7 +12,7 @@ invariant-loop-dropped g l =
     let i = l.self-inside in
     let heads = with_value i.heads l.l-inside.index (left_of l.key l.ends.last l.ends.len l._dropped) in
     record {
-      sound : IsSound i.nodes heads l.free (i.spare + l._dropped) i.places;
+      sound : IsSound i.nodes heads (i.spare + l._dropped) i.places;
       lists : listed (values_of i.nodes) heads ≡ insert l.fn.self.lists l.l-inside.index (drop l._dropped (list_at l.fn.self l.l-inside.index));
       there : get i.heads l.l-inside.index ≡ Some l.ends;
       spare : i.spare ≡ l.fn.self.spare;

@@ -18,19 +18,19 @@ returns-in_err-put_next-clause-sent g c start ps h =
     let page : Page = sheet_page c.args.number (sheet_shown c.args.store.now c.args.sheet.now) in
     rw (p.1, p.2) (misses-page start _ _ ps h page c.in_err-put_next.field-0.0 c.in_err-put_next.ensures.page)
 
-pub returns-in_err-show-clause-sent : goal.returns-in_err-show-clause-sent
-returns-in_err-show-clause-sent g c start ps h =
-    let p = err_from_is_err_and c.from_residual-in_err-show.result c.from_residual-in_err-show.ensures.1 in
+pub returns-in_err-write_all-clause-sent : goal.returns-in_err-write_all-clause-sent
+returns-in_err-write_all-clause-sent g c start ps h =
+    let p = err_from_is_err_and c.from_residual-in_err-write_all.result c.from_residual-in_err-write_all.ensures.1 in
     let page : Page = sheet_page c.args.number (sheet_shown c.args.store.now c.args.sheet.now) in
     let last = page_bytes c.args.progress.now.last page in
     let text : c.as_slice.result.now ≡ last = c.as_slice.ensures.value ∙ c.in_ok-put_next.ensures.page.0 ∙ ap (λ (t : List ℕ). t ++ last) c.clear.ensures.items in
     rw (p.1, p.2)
-    (short-more start _ _ ps h page c.in_ok-put_next.ensures.page.1 _ (subst (AppendsPrefix (g.K.Sink.held c.args.out.now) (g.K.Sink.held c.show.new.out)) text c.in_err-show.ensures.part))
+    (short-more start _ _ ps h page c.in_ok-put_next.ensures.page.1 _ (subst (AppendsPrefix (g.K.Sink.held c.args.out.now) (g.K.Sink.held c.write_all.new.out)) text c.in_err-write_all.ensures.err))
 
 pub returns-clause-sent : goal.returns-clause-sent
 returns-clause-sent g c start ps h =
     let page : Page = sheet_page c.args.number (sheet_shown c.args.store.now c.args.sheet.now) in
     let last = page_bytes c.args.progress.now.last page in
     let text : c.as_slice.result.now ≡ last = c.as_slice.ensures.value ∙ c.in_ok-put_next.ensures.page.0 ∙ ap (λ (t : List ℕ). t ++ last) c.clear.ensures.items in
-    subst (λ w. HoldsPages start (g.K.Sink.held c.show.new.out) w (ps ++ page ∷ [])) (sym c.in_ok-put_next.ensures.ok)
-    (holds-more start _ _ ps h page c.in_ok-put_next.ensures.page.1 _ (subst (Appends (g.K.Sink.held c.args.out.now) (g.K.Sink.held c.show.new.out)) text c.in_ok-show.ensures.whole))
+    subst (λ w. HoldsPages start (g.K.Sink.held c.write_all.new.out) w (ps ++ page ∷ [])) (sym c.in_ok-put_next.ensures.ok)
+    (holds-more start _ _ ps h page c.in_ok-put_next.ensures.page.1 _ (subst (Appends (g.K.Sink.held c.args.out.now) (g.K.Sink.held c.write_all.new.out)) text c.in_ok-write_all.ensures.ok))

@@ -1,6 +1,6 @@
 use Rattle.std.proofs.Common.{◌<◌, length, arith}
 use Rattle.tb_top.proofs.Written.TallyLemmas.{counts-next}
-use Rattle.tb_top.proofs.pages.count_happened.Goals as goal
+use Rattle.tb_top.proofs.views.count_happened.Goals as goal
 
 pub count_happening-requires-clause-room : goal.count_happening-requires-clause-room
 count_happening-requires-clause-room c =

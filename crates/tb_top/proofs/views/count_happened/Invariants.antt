@@ -1,8 +1,8 @@
 use Rattle.std.proofs.Common.{◌≡◌, drop}
 use Rattle.tb_run.specs.Happenings.{events_of}
 use Rattle.tb_run.specs.Routine.{ArePages}
-use Rattle.tb_top.specs.PagesWritten.{with_events}
-use Rattle.tb_top.proofs.pages.count_happened.Given as goal
+use Rattle.tb_top.specs.Views.{with_events}
+use Rattle.tb_top.proofs.views.count_happened.Given as goal
 
 abbrev pub invariant-loop-happening : goal.invariant-loop-happening
 invariant-loop-happening l = record {

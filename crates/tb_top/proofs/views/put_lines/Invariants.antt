@@ -2,7 +2,7 @@ use Rattle.std.proofs.Common.{◌≡◌, ◌++◌, drop}
 use Rattle.tb_run.specs.Happenings.{events_of}
 use Rattle.tb_run.specs.Routine.{ArePages}
 use Rattle.tb_top.specs.Report.{all_lines, traced_lines}
-use Rattle.tb_top.proofs.pages.put_lines.Given as goal
+use Rattle.tb_top.proofs.views.put_lines.Given as goal
 
 abbrev pub invariant-loop-happening : goal.invariant-loop-happening
 invariant-loop-happening l = record {

@@ -2,7 +2,7 @@ use Rattle.std.proofs.Common.{sym, subst}
 use Rattle.tb_report.specs.Printable.{IsPrintableSent}
 use Rattle.tb_run.specs.Routine.{IsPage}
 use Rattle.tb_top.proofs.Written.PrintablePages.{printable-sent}
-use Rattle.tb_top.proofs.pages.put_happening.Goals as goal
+use Rattle.tb_top.proofs.views.put_happening.Goals as goal
 
 pub put_sent-requires : goal.put_sent-requires
 put_sent-requires c = subst (IsPrintableSent c.args.store.now) (sym c.event.view_is) (printable-sent c.args.store.now c.in-Sent.event (subst (IsPage c.args.store.now) c.in-Sent.is c.requires))

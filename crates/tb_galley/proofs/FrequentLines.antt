@@ -1,0 +1,165 @@
+-- Lines of the most frequent kinds, by their first bytes: boxes, glue, and `foot` and `endfoot` alone.
+use Rattle.std.proofs.Common.{◌≡◌, ◌≤◌, ◌<◌, ℕ, ℤ, ◌+◌, Bool, true, false, nat_lt, nat_le, ◌==◌, codes, List, [], ◌∷◌, length, Option, Some, None, Result, Ok, Err, refl, ap, sym, subst, ◌∙◌, arith, if◌then◌else◌}
+use Rattle.std.specs.Prelude.{is_some}
+use Rattle.std.proofs.lemmas.Bool.{eqb-true}
+use Rattle.std.proofs.lemmas.Bool.Decides.{nat_tests}
+use Rattle.tb_text.specs.Lines.{begins_with}
+use Rattle.std.proofs.Math.Bool.{or-true}
+use Rattle.tb_scaled.specs.declared.Glue.{Glue}
+use Rattle.tb_galley.specs.declared.Cause.{Cause}
+use Rattle.tb_galley.specs.declared.Cause.TheVariants as causes
+use Rattle.tb_galley.specs.declared.Fault.{Fault}
+use Rattle.tb_galley.specs.declared.fields.At.{At}
+use Rattle.tb_galley.specs.declared.LeafKind.{LeafKind}
+use Rattle.tb_galley.specs.declared.LeafKind.TheVariants as leaves
+use Rattle.tb_galley.specs.declared.contents.Content.{Content}
+use Rattle.tb_galley.specs.declared.contents.Content.TheVariants as contents
+use Rattle.tb_galley.specs.Words.{LineWord, hbox, skip, foot, endfoot, is_item_word, Phase, at_start, among_sets, among_items, in_foot, ended, word_of, Known}
+use Rattle.tb_galley.specs.Faults.{place_causes, item_causes, cause_if}
+use Rattle.tb_galley.specs.FieldReader.{Left, ◌>>=◌, mapped, finished, end_left, settled, at_fault, sized_left, glue_left, foot_left, named_class, content_left}
+use Rattle.tb_galley.specs.Line.{Said, said, first_of, content_line, line_left}
+use Rattle.tb_galley.specs.GalleyReader.{State, known_in, item_phase, foot_phase, endfoot_phase, takes_leaf, past_word, IsBoxLine, IsGlueLine, with_leaf, with_foot_begun, with_foot_ended, past_said, said_first, said_unless, take_said}
+
+-- ---- what is read to the end, as something else
+
+ended_as : {X Y : Type 0} (f : X → Y) (y x : X) (e : Result (Unit {0} × Left) At) → (e >>= λ u. Ok y) ≡ Ok x → (e >>= λ u. Ok (f y)) ≡ Ok (f x)
+ended_as f y x (Ok u) h = let same : y ≡ x = cc in ap (λ z. Ok (f z)) same
+ended_as f y x (Err e) h = cc
+
+finished_as : {X Y : Type 0} (f : X → Y) (r : Result (X × Left) At) (x : X) → finished r ≡ Ok x → finished (mapped f r) ≡ Ok (f x)
+finished_as f (Ok y) x h = ended_as f y.0 x (end_left y.1) h
+finished_as f (Err e) x h = cc
+
+-- ---- the place of a box or of glue
+
+many : (count : ℕ) → nat_lt count 100000 ≡ true → nat_le 100000 count ≡ false
+many count h = grind (arith, nat_tests)
+
+items_left : (p : Phase) (count : ℕ) → takes_leaf p count ≡ true → first_of (cause_if (nat_le 100000 count) causes.Items) ≡ None
+items_left at_start count h = cc
+items_left among_sets count h = cc
+items_left among_items count h = ap (λ t. first_of (cause_if t causes.Items)) (many count h)
+items_left in_foot count h = ap (λ t. first_of (cause_if t causes.Items)) (many count h)
+items_left ended count h = cc
+
+same_phase : (p : Phase) (count : ℕ) → takes_leaf p count ≡ true → item_phase p ≡ p
+same_phase at_start count h = cc
+same_phase among_sets count h = cc
+same_phase among_items count h = refl
+same_phase in_foot count h = refl
+same_phase ended count h = cc
+
+box_placed : (p : Phase) (count : ℕ) → takes_leaf p count ≡ true → first_of (place_causes p (Some hbox)) ≡ None
+box_placed at_start count h = cc
+box_placed among_sets count h = cc
+box_placed among_items count h = refl
+box_placed in_foot count h = refl
+box_placed ended count h = cc
+
+glue_placed : (p : Phase) (count : ℕ) → takes_leaf p count ≡ true → first_of (place_causes p (Some skip)) ≡ None
+glue_placed at_start count h = cc
+glue_placed among_sets count h = cc
+glue_placed among_items count h = refl
+glue_placed in_foot count h = refl
+glue_placed ended count h = cc
+
+-- ---- the line
+
+abbrev placed : Option Cause → Option Cause → Result (Option Said) At → Result (Option Said) At
+placed place items read = do
+  _ ← settled 1 place (tt {0})
+  _ ← settled 1 items (tt {0})
+  read
+
+short : (bytes : List ℕ) → length bytes ≤ 255 → nat_lt 255 (length bytes) ≡ false
+short bytes h = grind (arith, nat_tests)
+
+module _ (p : Phase) (k : Known) (count n : ℕ) (rest : List ℕ) (free : takes_leaf p count ≡ true) where
+  worded : (w : LineWord) (c : Content) → first_of (place_causes p (Some w)) ≡ None → finished (content_left k n w (past_word rest)) ≡ Ok c
+      → placed (first_of (place_causes p (Some w))) (first_of (cause_if (nat_le 100000 count) causes.Items)) (said w (finished (content_left k n w (past_word rest)))) ≡ Ok (Some (w, c))
+  worded w c place read =
+      ap (λ o. placed o (first_of (cause_if (nat_le 100000 count) causes.Items)) (said w (finished (content_left k n w (past_word rest))))) place
+      ∙ ap (λ o. placed None o (said w (finished (content_left k n w (past_word rest))))) (items_left p count free)
+      ∙ ap (said w) read
+
+  box_left : length (98 ∷ 111 ∷ 120 ∷ 32 ∷ rest) ≤ 255 → (b : List ℕ × ℤ × ℤ) → finished (sized_left (past_word rest)) ≡ Ok b
+      → line_left p k count n (98 ∷ 111 ∷ 120 ∷ 32 ∷ rest) ≡ Ok (Some (hbox, contents.Plain (leaves.Hbox b.0 b.1 b.2)))
+  unfolding line_left content_line content_left word_of
+  box_left few b read =
+      ap (λ t. if t then at_fault 0 causes.LineLength else placed (first_of (place_causes p (Some hbox))) (first_of (cause_if (nat_le 100000 count) causes.Items)) (said hbox (finished (content_left k n hbox (past_word rest))))) (short (98 ∷ 111 ∷ 120 ∷ 32 ∷ rest) few)
+      ∙ worded hbox (contents.Plain (leaves.Hbox b.0 b.1 b.2)) (box_placed p count free)
+      (finished_as (λ s. contents.Plain (leaves.Hbox s.0 s.1 s.2)) (sized_left (past_word rest)) b read)
+
+  skip_left : length (103 ∷ 108 ∷ 117 ∷ 101 ∷ 32 ∷ rest) ≤ 255 → (g : Glue) → finished (glue_left causes.UnknownWord (past_word rest)) ≡ Ok g
+      → line_left p k count n (103 ∷ 108 ∷ 117 ∷ 101 ∷ 32 ∷ rest) ≡ Ok (Some (skip, contents.Plain (leaves.Skip g)))
+  unfolding line_left content_line content_left word_of
+  skip_left few g read =
+      ap (λ t. if t then at_fault 0 causes.LineLength else placed (first_of (place_causes p (Some skip))) (first_of (cause_if (nat_le 100000 count) causes.Items)) (said skip (finished (content_left k n skip (past_word rest))))) (short (103 ∷ 108 ∷ 117 ∷ 101 ∷ 32 ∷ rest) few)
+      ∙ worded skip (contents.Plain (leaves.Skip g)) (glue_placed p count free)
+      (finished_as (λ g. contents.Plain (leaves.Skip g)) (glue_left causes.UnknownWord (past_word rest)) g read)
+
+-- ---- the state after it
+
+pub no_first : (s : State) → is_some s.first ≡ false → s.first ≡ None
+no_first s h = by s.first h
+  where
+    by : (f : Option Fault) → is_some f ≡ false → f ≡ None
+    by None h = refl
+    by (Some f) h = cc
+
+module _ (s : State) (first : s.first ≡ None) (free : takes_leaf s.phase s.count ≡ true) where
+  stepped : (bytes : List ℕ) (w : LineWord) (kind : LeafKind) → line_left s.phase (known_in s.draft) s.count (s.lines + 1) bytes ≡ Ok (Some (w, contents.Plain kind))
+      → past_said s (Some (w, contents.Plain kind)) ≡ with_leaf s kind → with_leaf s kind ≡ take_said s bytes
+  stepped bytes w kind read past = sym (ap (said_first s bytes) first ∙ ap (said_unless s) read ∙ past)
+
+  pub box_step : (line : List ℕ) → length line ≤ 255 → (b : List ℕ × ℤ × ℤ) → IsBoxLine line b → with_leaf s (leaves.Hbox b.0 b.1 b.2) ≡ take_said s line
+  box_step line few b h =
+      let e : line ≡ 98 ∷ 111 ∷ 120 ∷ 32 ∷ h.rest = h.begins in
+      let short : length (98 ∷ 111 ∷ 120 ∷ 32 ∷ h.rest) ≤ 255 = subst (λ xs. length xs ≤ 255) e few in
+      stepped (98 ∷ 111 ∷ 120 ∷ 32 ∷ h.rest) hbox (leaves.Hbox b.0 b.1 b.2) (box_left s.phase (known_in s.draft) s.count (s.lines + 1) h.rest free short b h.read)
+      (ap (λ q. record (with_leaf s (leaves.Hbox b.0 b.1 b.2)) { phase = q }) (same_phase s.phase s.count free)) ∙ ap (take_said s) (sym e)
+
+  pub glue_step : (line : List ℕ) → length line ≤ 255 → (g : Glue) → IsGlueLine line g → with_leaf s (leaves.Skip g) ≡ take_said s line
+  glue_step line few g h = by h.rest h.begins h.space h.read
+    where
+      by : (rest : List ℕ) → line ≡ 103 ∷ 108 ∷ 117 ∷ 101 ∷ rest → begins_with 32 rest ≡ true → finished (glue_left causes.UnknownWord (past_word rest)) ≡ Ok g → with_leaf s (leaves.Skip g) ≡ take_said s line
+      by [] e space read = cc
+      by (b ∷ bs) e space read =
+          let blank : b ≡ 32 = eqb-true b 32 space in
+          let whole : line ≡ 103 ∷ 108 ∷ 117 ∷ 101 ∷ 32 ∷ bs = e ∙ ap (λ c. 103 ∷ 108 ∷ 117 ∷ 101 ∷ c ∷ bs) blank in
+          let short : length (103 ∷ 108 ∷ 117 ∷ 101 ∷ 32 ∷ bs) ≤ 255 = subst (λ xs. length xs ≤ 255) whole few in
+          let same : finished (glue_left causes.UnknownWord (past_word bs)) ≡ Ok g = subst (λ c. finished (glue_left causes.UnknownWord (past_word (c ∷ bs))) ≡ Ok g) blank read in
+          stepped (103 ∷ 108 ∷ 117 ∷ 101 ∷ 32 ∷ bs) skip (leaves.Skip g) (skip_left s.phase (known_in s.draft) s.count (s.lines + 1) bs free short g same)
+          (ap (λ q. record (with_leaf s (leaves.Skip g)) { phase = q }) (same_phase s.phase s.count free)) ∙ ap (take_said s) (sym whole)
+
+-- ---- `foot` and `endfoot` alone
+
+foot_left_alone : (k : Known) (n count : ℕ) → takes_leaf among_items count ≡ true → line_left among_items k count n (codes "foot") ≡ Ok (Some (foot, contents.Foot 254))
+unfolding line_left content_line content_left foot_left word_of
+foot_left_alone k n count free =
+    ap (λ o. placed None o (said foot (finished (content_left k n foot (past_word []))))) (items_left among_items count free)
+    ∙ ap (λ t. said foot (finished (mapped (λ c. contents.Foot c) (named_class k.classes (past_word []) t)))) (or-true (k.version == 1))
+
+endfoot_left_alone : (k : Known) (n count : ℕ) → takes_leaf in_foot count ≡ true → line_left in_foot k count n (codes "endfoot") ≡ Ok (Some (endfoot, contents.Endfoot))
+unfolding line_left content_line content_left word_of
+endfoot_left_alone k n count free =
+    ap (λ o. placed None o (said endfoot (finished (content_left k n endfoot (past_word []))))) (items_left in_foot count free)
+
+module _ (s : State) (first : s.first ≡ None) (free : takes_leaf s.phase s.count ≡ true) where
+  said_by : (bytes line : List ℕ) (p : Phase) (w : LineWord) (c : Content) → s.phase ≡ p → line ≡ bytes
+      → line_left p (known_in s.draft) s.count (s.lines + 1) bytes ≡ Ok (Some (w, c)) → past_said s (Some (w, c)) ≡ take_said s line
+  said_by bytes line p w c phase e read =
+      sym (ap (take_said s) e ∙ ap (said_first s bytes) first
+      ∙ ap (λ q. said_unless s (line_left q (known_in s.draft) s.count (s.lines + 1) bytes)) phase ∙ ap (said_unless s) read)
+
+  pub foot_step : (line : List ℕ) → s.phase ≡ among_items → line ≡ codes "foot" → with_foot_begun s ≡ take_said s line
+  foot_step line phase e =
+      ap (λ p. record (with_foot_begun s) { phase = foot_phase p }) (sym phase)
+      ∙ said_by (codes "foot") line among_items foot (contents.Foot 254) phase e
+      (foot_left_alone (known_in s.draft) (s.lines + 1) s.count (subst (λ p. takes_leaf p s.count ≡ true) phase free))
+
+  pub endfoot_step : (line : List ℕ) → s.phase ≡ in_foot → line ≡ codes "endfoot" → with_foot_ended s ≡ take_said s line
+  endfoot_step line phase e =
+      ap (λ p. record (with_foot_ended s) { phase = endfoot_phase p }) (sym phase)
+      ∙ said_by (codes "endfoot") line in_foot endfoot contents.Endfoot phase e
+      (endfoot_left_alone (known_in s.draft) (s.lines + 1) s.count (subst (λ p. takes_leaf p s.count ≡ true) phase free))

@@ -1,0 +1,7 @@
+use Rattle.std.proofs.Common.{ap, ◌∙◌}
+use Rattle.tb_text.specs.Lines.{fields_of}
+use Rattle.tb_galley.proofs.NearWords.{plus_is_first}
+use Rattle.tb_galley.proofs.glue_words.after_plus.Goals as goal
+
+pub returns-in-Some-clause-fields : goal.returns-in-Some-clause-fields
+returns-in-Some-clause-fields c = ap fields_of c.in-Some.ensures.0 ∙ plus_is_first c.in-Some.rest.now c.in-Some.ensures.1
