@@ -25,7 +25,8 @@ use Rattle.tb_builder.specs.Leaving.{LeavesOthers}
 use Rattle.tb_builder.specs.Ownership.{Lacks, inner_ids, ids_of, owned, IsOwned}
 use Rattle.tb_builder.specs.declared.Ask.{Ask}
 use Rattle.tb_builder.specs.declared.Page.{Page}
-use Rattle.tb_builder.specs.PageEvents.{NodeFits, FiredIs}
+use Rattle.tb_builder.specs.declared.Event.TheVariants as events
+use Rattle.tb_builder.specs.PageEvents.{NodeFits, FiredIs, TellsRoom}
 use Rattle.tb_builder.specs.Courses.{IsSound}
 
 -- the share of a label: an insertion that is split at its list's end gives all
@@ -226,7 +227,7 @@ pub record Cuts (b : Builder) (s t : Lists Node) (place : ℕ) : Type 0 where
 
 -- ---- a page fired
 
--- the page is the one that fires, with the right nodes waiting after it; its body is a list of its own
+-- the page is the one that fires, with the right nodes waiting after it; its body is a list of its own, whose room the builder tells
 pub record Fires (b : Builder) (s : Lists Node) (d : Builder) (t : Lists Node) (p : Page) : Type 0 where
   pub fired : (ask : Ask) → FiredIs p (contents_of b s) ask (contents_of d t) t
   pub sound : IsSound d t
@@ -235,3 +236,4 @@ pub record Fires (b : Builder) (s : Lists Node) (d : Builder) (t : Lists Node) (
   pub fresh : get s.lists p.body ≡ None
   pub apart : Lacks p.body (owned (ids_of d) t)
   pub body_plain : inner_ids (list_at t p.body) ≡ []
+  pub room : TellsRoom (events.Fired p) d t

@@ -8,7 +8,7 @@ use Rattle.tb_builder.specs.declared.Event.{Event}
 use Rattle.tb_builder.specs.declared.Event.TheVariants as events
 use Rattle.tb_builder.specs.declared.Builder.{Builder}
 use Rattle.tb_builder.specs.Contents.{contents_of}
-use Rattle.tb_builder.specs.PageEvents.{NextIs, IsGivenOut}
+use Rattle.tb_builder.specs.PageEvents.{NextIs, IsGivenOut, TellsRoom}
 use Rattle.tb_builder.specs.Ownership.{ids_of, KeepsOthers}
 use Rattle.tb_builder.specs.PageProgress.{IsNextOfPage}
 use Rattle.tb_builder.specs.PassedNodes.{EventPast}
@@ -22,6 +22,7 @@ pub record IsNext (b : Builder) (s : Lists Node) (ask : Ask) (e : Event) (d : Bu
   pub sound : IsSound d t
   pub keeps : KeepsOthers (ids_of b) s (ids_of d) t
   pub body : IsGivenOut e s (ids_of d) t
+  pub room : TellsRoom e d t
 
 -- a place that was passed over, with the builder and the lists after its call
 pub record PassedOver : Type 0 where

@@ -1,5 +1,5 @@
 -- What the page builder returns, and what it requires of what it is given.
-use Rattle.std.specs.Prelude.{◌≡◌, ℕ, ℤ, pos, neg_ℤ, ◌<ℤ◌, ◌≤ℤ◌, Bool, true, false, List, [], ◌∷◌, ◌++◌, map, take, length, Some, None}
+use Rattle.std.specs.Prelude.{◌≡◌, ℕ, ℤ, pos, neg_ℤ, ◌<ℤ◌, ◌≤ℤ◌, Bool, true, false, List, [], ◌∷◌, ◌++◌, map, take, length, Option, Some, None}
 use Rattle.std.specs.FinMap.{get}
 use Rattle.tb_pool.specs.Lists.{Lists, IsLive, list_at}
 use Rattle.tb_node.specs.declared.Node.{Node}
@@ -9,12 +9,14 @@ use Rattle.tb_node.specs.SmallAmounts.{IsAmount, IsSmallShape}
 use Rattle.tb_node.specs.Shape.{Shape}
 use Rattle.tb_node.specs.Sums.{size_of}
 use Rattle.tb_node.specs.PlainNodes.{leaf_shape, Inserted, PlainKind, plain, ins, act, PlainNode, node_shape, plain_list}
+use Rattle.tb_break.specs.declared.Best.{Best}
 use Rattle.tb_break.specs.Best.{Breakpoint, is_stop, least_cost}
 use Rattle.tb_insert.specs.Account.{Frozen, labelled}
 use Rattle.tb_insert.specs.Arrival.{PageFits}
 use Rattle.tb_builder.specs.declared.Ask.{Ask}
 use Rattle.tb_builder.specs.declared.Try.{Try}
 use Rattle.tb_builder.specs.declared.Page.{Page}
+use Rattle.tb_builder.specs.declared.Builder.{Builder}
 use Rattle.tb_builder.specs.declared.Event.{Event}
 use Rattle.tb_builder.specs.declared.Event.TheVariants as events
 use Rattle.tb_builder.specs.Reach.{acted, tried, Reach, also_reached, try_of, breakpoints}
@@ -158,11 +160,10 @@ fired_page c ask = let w = reach_whole c ask in fired_by (labelled (frozen_of c 
 abbrev pub after_fired : Contents → Fired → Contents
 after_fired c f = record { classes = c.classes; boxes = f.boxes; page = []; waiting = f.rest; held = f.held; frozen = None; stopped = false }
 
--- the page is this one, with the height plus depth of its body, and its list is live
+-- the page is this one, and its list is live
 pub record PageIs (p : Page) (f : Fired) (s : Lists Node) : Type 0 where
   pub live : IsLive s p.body
   pub body : plain_list s p.body ≡ f.body
-  pub room : p.room ≡ size_of (map node_shape f.body)
   pub penalty : p.penalty ≡ f.penalty
   pub cost : p.cost ≡ f.cost
   pub size : p.size ≡ f.size
@@ -180,6 +181,22 @@ FiresWith (events.Try t) c ask d s = ⊥
 FiresWith (events.Act a) c ask d s = ⊥
 FiresWith (events.Fired p) c ask d s = FiredIs p c ask d s
 FiresWith events.Empty c ask d s = ⊥
+
+-- the height plus the depth of the page up to its best place
+abbrev pub best_room : Option Best → ℤ
+best_room None = pos 0
+best_room (Some x) = x.size
+
+-- the height plus the depth of the body of the page that fired last
+abbrev pub fired_room : Builder → ℤ
+fired_room b = best_room b.course.scan.best
+
+-- if the event is a page that fires, the builder tells the height plus the depth of its body
+abbrev pub TellsRoom : Event → Builder → Lists Node → Type 0
+TellsRoom (events.Try t) d s = Unit {0}
+TellsRoom (events.Act a) d s = Unit {0}
+TellsRoom (events.Fired p) d s = fired_room d ≡ size_of (map node_shape (plain_list s p.body))
+TellsRoom events.Empty d s = Unit {0}
 
 -- the body of a page that fires is a list that was opened for it, without insertions, and not the builder's
 abbrev pub IsGivenOut : Event → Lists Node → Ids → Lists Node → Type 0

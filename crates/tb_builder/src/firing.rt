@@ -10,6 +10,7 @@ ghost use Rattle.tb_builder.specs.Ownership.{ids_of, IsOwned};
 ghost use Rattle.tb_builder.specs.FiredPages.{penalty_at, line_at};
 ghost use Rattle.tb_builder.specs.Contents.{contents_of};
 ghost use Rattle.tb_builder.specs.Courses.{IsSound};
+ghost use Rattle.tb_builder.specs.PageEvents.{fired_room};
 ghost use Rattle.tb_builder.specs.Firing.{EachFits, spent_node_kind, spent_nodes, Cuts, Fires};
 
 use crate::front_nodes::first_of;
@@ -125,13 +126,23 @@ impl Builder {
         self.clear();
         Ok(Page {
             body,
-            room: best.size,
             penalty: at.penalty,
             cost: best.cost,
             size: self.course.best_goal,
             line: at.line,
             held: store.len(self.held) as u64,
         })
+    }
+
+    /// The height plus the depth in sp of the body of the page that fired last, until a place of the next page is tried.
+    /// Before the first page fires it says nothing of use.
+    pub fn fired_room(&self) -> i64
+        ensures { result ≡ fired_room self.now }
+    {
+        match self.course.scan.best() {
+            Some(best) => best.size,
+            None => 0,
+        }
     }
 
     // Clears the page: it is empty, and its goal is not frozen.

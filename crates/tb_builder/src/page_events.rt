@@ -17,7 +17,7 @@ ghost use Rattle.tb_builder.specs.LegalPlaces.{page_shapes};
 ghost use Rattle.tb_builder.specs.Reach.{holds_box};
 ghost use Rattle.tb_builder.specs.Contents.{contents_of};
 ghost use Rattle.tb_builder.specs.Courses.{IsSound, IsCourseOf, Underway, AllLoose, kept_frozen, frozen_with};
-ghost use Rattle.tb_builder.specs.PageEvents.{AskFits, NextFits, NextIs, IsGivenOut};
+ghost use Rattle.tb_builder.specs.PageEvents.{AskFits, NextFits, NextIs, IsGivenOut, TellsRoom};
 ghost use Rattle.tb_builder.specs.PageProgress.{IsNextOfPage};
 ghost use Rattle.tb_builder.specs.PassedNodes.{EventPast};
 ghost use Rattle.tb_builder.specs.PageCalls.{ComesAfter, IsNoPlace};
@@ -53,6 +53,7 @@ impl Builder {
         ensures sound { IsSound self.new store.new }
         ensures keeps { KeepsOthers (ids_of self.old) store.old (ids_of self.new) store.new }
         ensures body { IfOk result (λ e. IsGivenOut e store.old (ids_of self.new) store.new) }
+        ensures room { IfOk result (λ e. TellsRoom e self.new store.new) }
         ensures builder { OnErr result (self.new ≡ self.old) }
         ensures lists { OnErr result (store.new.lists ≡ store.old.lists) }
     {

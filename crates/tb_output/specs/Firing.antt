@@ -4,9 +4,8 @@ use Rattle.std.specs.List.{AllByRecursion}
 use Rattle.tb_pool.specs.Lists.{Lists, list_at}
 use Rattle.tb_pool.specs.Frame.{IsNoneOf, OnlyChanged}
 use Rattle.tb_node.specs.declared.Node.{Node}
-use Rattle.tb_node.specs.Fit.{IsSizedLeaf, shapes}
+use Rattle.tb_node.specs.Fit.{IsSizedLeaf}
 use Rattle.tb_node.specs.PlainNodes.{plain_list}
-use Rattle.tb_node.specs.Sums.{size_of}
 use Rattle.tb_param.specs.declared.Params.{Params}
 use Rattle.tb_builder.specs.declared.Builder.{Builder}
 use Rattle.tb_builder.specs.declared.Page.{Page}
@@ -67,14 +66,13 @@ abbrev pub AreSizedBoxes : List Boxed → Type 0
 AreSizedBoxes bs = AllByRecursion (λ b. All IsSizedLeaf (content_of b.content)) bs
 
 -- a page that the builder fired and whose `put_back` it awaits: the builder's classes are the machine's, the penalty is not below those of the routine, the
--- nodes of page, boxes and held page are sized and not too many, the page tells the room of its body, and its list, the machine's and the builder's are apart
+-- nodes of page, boxes and held page are sized and not too many, and its list, the machine's and the builder's are apart
 pub record CanFire (m : MachineView) (b : Builder) (store : Lists Node) (page : Page) : Type 0 where
   pub awaits : NoPage (contents_of b store)
   pub classes : (contents_of b store).classes ≡ m.classes
   pub penalty : hold_penalty ≤ℤ page.penalty
   pub note_bottom : IsReach m.note_bottom
   pub body : IsPageList store page.body
-  pub room : page.room ≡ size_of (shapes store page.body)
   pub boxes : AreSizedBoxes (contents_of b store).boxes
   pub few : length (list_at store page.body) + length (list_at store m.held_page) + box_count (contents_of b store).boxes ≤ 8355839
   pub body_apart : IsNoneOf page.body (machine_lists m)

@@ -24,6 +24,7 @@ ghost use Rattle.tb_output.specs.FiringParts.{page_output, served};
 use crate::back_list::drop_list;
 use crate::goal::is_signal;
 use crate::notes::take_notes;
+use crate::texts::list_height;
 use crate::{Machine, RunFault, Turn};
 use std::alloc::AllocError;
 use tb_builder::{Builder, Page};
@@ -64,11 +65,49 @@ impl Machine {
         ensures again { IfSome self.old.fault (λ e. (result ≡ Err e) × IsUntouched self.old self.new b.old b.new store.old store.new) }
         ensures keeps { KeepsAll page.body self.old self.new b.old b.new store.old store.new }
     {
+        let room = self.page_room(store, page.body);
+        self.fire_measured(store, b, page, room)
+    }
+
+    // The height plus the depth of a page, unless a fault is kept.
+    fn page_room(&self, store: &Lists<Node>, body: ListId) -> i64
+        requires { IfNone self.now.fault (IsPageList store.now body) }
+        ensures { IfNone self.now.fault (result ≡ size_of (shapes store.now body)) }
+    {
+        if self.fault.is_some() {
+            return 0;
+        }
+        list_height(store, body)
+    }
+
+    /// The same as [`Self::fire`] for a page whose body has this height plus depth in sp, as `fired_room` of the builder
+    /// returns it: the page is not measured again.
+    pub fn fire_measured(
+        &mut self,
+        store: &mut Lists<Node>,
+        b: &mut Builder,
+        page: Page,
+        room: i64,
+    ) -> Result<Turn, RunFault>
+        requires machine { IsMachine self.old store.old }
+        requires builder { IsSound b.old store.old }
+        requires page { IfNone self.old.fault (CanFire self.old b.old store.old page) }
+        requires room { IfNone self.old.fault (room ≡ size_of (shapes store.old page.body)) }
+
+        ensures turn { IfOk result (λ t. IsFired t self.old self.new b.new store.old store.new (whole_work self.old b.old store.old page)) }
+        ensures contents { OnOk result (contents_of b.new store.new ≡ record (contents_of b.old store.old) { boxes = (whole_work self.old b.old store.old page).state.boxes }) }
+        ensures put_back { IfOk result (λ t. CanGoBack t.put_back self.new b.new store.new) }
+        ensures goes_on { OnOk result (self.new.fault ≡ None) }
+
+        ensures refused { IfNone self.old.fault (IfErr result (λ e. IsRefusal e self.old self.new b.old b.new store.old store.new (whole_work self.old b.old store.old page))) }
+        ensures again { IfSome self.old.fault (λ e. (result ≡ Err e) × IsUntouched self.old self.new b.old b.new store.old store.new) }
+        ensures keeps { KeepsAll page.body self.old self.new b.old b.new store.old store.new }
+    {
         if let Some(fault) = self.refusal() {
             return Err(fault);
         }
         self.dead_cycles += 1;
-        match self.serve(store, b, page) {
+        match self.serve(store, b, page, room) {
             Ok(put_back) => Ok(Turn { put_back }),
             Err(fault) => {
                 self.fault = Some(fault);
@@ -93,16 +132,18 @@ impl Machine {
         None
     }
 
-    // Serves the page, whose firing is counted already, and returns the list that goes back.
+    // Serves the page of this room, whose firing is counted already, and returns the list that goes back.
     fn serve(
         &mut self,
         store: &mut Lists<Node>,
         b: &mut Builder,
         page: Page,
+        room: i64,
     ) -> Result<ListId, RunFault>
         requires machine { IsMachine self.old store.old }
         requires builder { IsSound b.old store.old }
         requires page { CanFire self.old b.old store.old page }
+        requires room { room ≡ size_of (shapes store.old page.body) }
         ensures ok { IfOk result (λ back. Does (shows_boxes b.old self.old store.old) (shows_all back b.new self.new store.new) (served self.old.params (fired_in b.old store.old page))) }
         ensures err { IfErr result (λ e. Does (shows_boxes b.old self.old store.old) (IsCutShort e self.new store.new) (served self.old.params (fired_in b.old store.old page))) }
         ensures contents { OnOk result (contents_of b.new store.new ≡ record (contents_of b.old store.old) { boxes = (contents_of b.new store.new).boxes }) }
@@ -111,7 +152,7 @@ impl Machine {
         ensures fault { self.new.fault ≡ self.old.fault }
     {
         let back = store.add_list()?;
-        self.output(store, b, &page, back)?;
+        self.output(store, b, &page, room, back)?;
         self.next_goal(store, page.penalty, back)?;
         Ok(back)
     }
@@ -122,11 +163,13 @@ impl Machine {
         store: &mut Lists<Node>,
         b: &mut Builder,
         page: &Page,
+        room: i64,
         back: ListId,
     ) -> Result<(), RunFault>
         requires machine { IsMachine self.old store.old }
         requires builder { IsSound b.old store.old }
         requires page { CanFire self.old b.old store.old page.now }
+        requires room { room ≡ size_of (shapes store.old page.now.body) }
         requires back { IsBack back self.old store.old }
         requires empty { list_at store.old back ≡ [] }
         requires back_body { page.now.body ≢ back }
@@ -137,7 +180,7 @@ impl Machine {
         ensures keeps { KeepsServing page.now.body back self.old self.new b.old b.new store.old store.new }
     {
         if is_signal(page.penalty, HOLD_PENALTY) {
-            self.hold(store, page.body, page.room);
+            self.hold(store, page.body, room);
             return Ok(());
         }
         let notes = self.take_notes(store, b)?;

@@ -181,8 +181,8 @@ fn notes_height(store: &Lists<Node>, notes: &[NoteBox]) -> i64
     height
 }
 
-// The height plus the depth of a list.
-fn list_height(store: &Lists<Node>, l: ListId) -> i64
+/// The height plus the depth of a list, in sp.
+pub(crate) fn list_height(store: &Lists<Node>, l: ListId) -> i64
     requires { IsPageList store.now l }
     ensures value { result ≡ size_of (shapes store.now l) }
     ensures within { IsWithin (2147483646 * length (list_at store.now l)) result }

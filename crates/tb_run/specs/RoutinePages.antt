@@ -4,11 +4,14 @@ use Rattle.tb_pool.specs.Lists.{Lists}
 use Rattle.tb_node.specs.declared.Act.{Act}
 use Rattle.tb_node.specs.declared.Node.{Node}
 use Rattle.tb_node.specs.PlainNodes.{PlainNode}
+use Rattle.tb_node.specs.Fit.{shapes}
+use Rattle.tb_node.specs.Sums.{size_of}
 use Rattle.tb_param.specs.declared.Params.{Params}
 use Rattle.tb_builder.specs.declared.Ask.{Ask}
 use Rattle.tb_builder.specs.declared.Event.{Event}
 use Rattle.tb_builder.specs.declared.Page.{Page}
 use Rattle.tb_builder.specs.PageCalls.{PassedOver, ComesBy}
+use Rattle.tb_builder.specs.PageEvents.{fired_room}
 use Rattle.tb_builder.specs.FiredPages.{Boxed, Fired}
 use Rattle.tb_builder.specs.SizedContents.{fired_count}
 use Rattle.tb_builder.specs.Contents.{node_count}
@@ -101,6 +104,7 @@ pub record IsFiring (wanted : Bool) (r : Routine) (page : Page) (q : Routine) (h
   pub step_is : step r.machine.params (state_of r) ≡ firing_step r.machine.params events records (state_of q) (fired_in q.builder q.store page)
   pub whole : IsConsistent q
   pub can : CanFire q.machine q.builder q.store page
+  pub room : fired_room q.builder ≡ size_of (shapes q.store page.body)
   pub taken : q.machine.events ≡ []
   pub params : q.machine.params ≡ r.machine.params
   pub classes : q.machine.classes ≡ r.machine.classes

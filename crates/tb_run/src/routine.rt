@@ -5,9 +5,11 @@ ghost use Rattle.std.specs.List.{AllByRecursion};
 ghost use Rattle.std.specs.FinMap.{get};
 ghost use Rattle.std.specs.Prelude.{List, None};
 ghost use Rattle.tb_node.specs.PlainNodes.{PlainNode, plain_list};
+ghost use Rattle.tb_node.specs.Fit.{shapes};
+ghost use Rattle.tb_node.specs.Sums.{size_of};
 ghost use Rattle.tb_builder.specs.FiredPages.{Boxed};
 ghost use Rattle.tb_builder.specs.Contents.{contents_of};
-ghost use Rattle.tb_builder.specs.PageEvents.{NextFits};
+ghost use Rattle.tb_builder.specs.PageEvents.{NextFits, fired_room};
 ghost use Rattle.tb_builder.specs.Courses.{IsSound};
 ghost use Rattle.tb_galley.specs.GalleyNodes.{expanded};
 ghost use Rattle.tb_output.specs.State.{first_state};
@@ -236,13 +238,18 @@ impl Routine {
     fn serve(&mut self, page: Page) -> Result<Option<Ending>, AllocError>
         requires whole { IsConsistent self.old }
         requires page { CanFire self.old.machine self.old.builder self.old.store page }
+        requires room { fired_room self.old.builder ≡ size_of (shapes self.old.store page.body) }
         requires bounded { IsBoundedPage page self.old }
         requires params { AreRunnable self.old.machine.params }
         requires classes { AreRunClasses self.old.machine.classes }
         requires served { IsServedPage (state_of self.old) (fired_in self.old.builder self.old.store page) }
         ensures { IfOk result (λ o. Serves page self.old o self.new) }
     {
-        match self.machine.fire(&mut self.store, &mut self.builder, page) {
+        let room = self.builder.fired_room();
+        let turn = self
+            .machine
+            .fire_measured(&mut self.store, &mut self.builder, page, room);
+        match turn {
             Ok(turn) => {
                 self.put_back(turn.put_back);
                 self.most += ADDED_NODES;

@@ -31,7 +31,7 @@ use Rattle.tb_builder.specs.Contents.{Contents, contents_of, laid, reach_ahead, 
 use Rattle.tb_builder.specs.Ownership.{Ids, ids_of, KeepsOthers, IsOwned}
 use Rattle.tb_builder.specs.Courses.{IsSound, IsCourseOf, Underway, kept_frozen, nodes_glue_first}
 use Rattle.tb_builder.specs.CourseOffers.{OfferIs, TermsFit}
-use Rattle.tb_builder.specs.PageEvents.{NextFits, NextIs, FirstIs, IsGivenOut}
+use Rattle.tb_builder.specs.PageEvents.{NextFits, NextIs, FirstIs, IsGivenOut, TellsRoom}
 use Rattle.tb_builder.specs.PageTurns.{Shifted, StepIs, StepFits, TurnIs, places_on}
 use Rattle.tb_builder.specs.PageCalls.{IsNext, PassedOver, ComesBy, ComesAfter}
 use Rattle.tb_builder.specs.declared.Seen.TheVariants as seen
@@ -56,6 +56,13 @@ given_here (events.Act a) c x s t y i ask f = tt
 given_here (events.Fired p) c x s t y i ask f = absurd f
 given_here events.Empty c x s t y i ask f = tt
 
+-- and it tells no room
+pub told_here : (e : Event) (c x : Contents) (b : Builder) (y : Lists Node) (ask : Ask) → FirstIs e (laid c ask) (reach_ahead c ask) (places_of c ask) ask x → TellsRoom e b y
+told_here (events.Try p) c x b y ask f = tt
+told_here (events.Act a) c x b y ask f = tt
+told_here (events.Fired p) c x b y ask f = absurd f
+told_here events.Empty c x b y ask f = tt
+
 -- a turn without an event comes before a call
 next_later : (b d x : Builder) (s t y : Lists Node) (ask : Ask) (e : Event) → b.stopped ≡ false → TurnIs b s ask None d t → IsNext d t ask e x y → IsNext b s ask e x y
 next_later b d x s t y ask e on turn call =
@@ -73,6 +80,7 @@ next_later b d x s t y ask e on turn call =
       sound = call.sound;
       keeps = keeps_then (ids_of b) (ids_of d) (ids_of x) s t y (turn_keeps b d s t ask None turn) call.keeps;
       body = given_here e (contents_of d t) (contents_of x y) s t y (ids_of x) ask at.0;
+      room = told_here e (contents_of d t) (contents_of x y) x y ask at.0;
     }
 
 comes_later : (b d x : Builder) (s t y : Lists Node) (ask : Ask) (e : Event) → b.stopped ≡ false → TurnIs b s ask None d t → (ps : List PassedOver) → ComesBy ps d t ask e x y → ComesBy ps b s ask e x y
@@ -135,6 +143,7 @@ module _ (ask : Ask) where
         sound = turn.sound;
         keeps = turn_keeps b d s t ask (Some (events.Try p)) turn;
         body = tt;
+        room = tt;
       })
 
 -- ---- the lists of a walk

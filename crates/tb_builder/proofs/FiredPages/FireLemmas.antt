@@ -6,7 +6,7 @@ use Rattle.std.proofs.lemmas.Int.{ints}
 use Rattle.std.proofs.lemmas.List.{length-map, take-append-drop}
 use Rattle.tb_pool.specs.Lists.{Lists, IsLive, list_at, with_list}
 use Rattle.tb_node.specs.declared.Node.{Node}
-use Rattle.tb_node.specs.PlainNodes.{PlainKind, plain, ins, act, PlainNode, matter_shape, plain_of, without_insertions, plain_list}
+use Rattle.tb_node.specs.PlainNodes.{PlainKind, plain, ins, act, PlainNode, matter_shape, plain_of, without_insertions, node_shape, plain_list}
 use Rattle.tb_node.specs.Sums.{room_of, size_of}
 use Rattle.tb_break.specs.declared.Best.{Best}
 use Rattle.tb_break.specs.Best.{Breakpoint, best_or}
@@ -23,7 +23,7 @@ use Rattle.tb_builder.specs.Ownership.{Lacks, AllLive, inner_ids, Ids, ids_of, o
 use Rattle.tb_builder.specs.Courses.{ChampionIs, AtStop, places_by, page_frozen, AllLoose, AllLasting, IsPageSoFar, IsSound}
 use Rattle.tb_builder.specs.LegalPlaces.{page_shapes}
 use Rattle.tb_break.specs.Places.{ends_lasting}
-use Rattle.tb_builder.specs.PageEvents.{FiredIs, PageIs, fired_page, after_fired}
+use Rattle.tb_builder.specs.PageEvents.{FiredIs, PageIs, fired_page, after_fired, best_room, fired_room}
 use Rattle.tb_builder.specs.Firing.{SortsTo, Sorted, IsMarkedAt, EachFits, Cuts, Fires}
 use Rattle.tb_builder.proofs.Ownership.OwnedLemmas.{AllSame}
 use Rattle.tb_builder.proofs.Ownership.StoreMoves.{list_got, live_got, list_kept, one_got, one_other}
@@ -187,7 +187,7 @@ module _ (b : Builder) (s e t : Lists Node) (body : ℕ) (x : Best) (sound : IsS
     module _ (d g : Builder) (u : Lists Node) (p : Page) (sorts : SortsTo b t g u body)
         (sorted : (z : Frozen) (page : List PlainNode) → IsAccountOf b.course.account z page (contents_of b t).page → Sorted z (contents_of b t).boxes (contents_of b t).page (contents_of g u) (plain_list u body) (contents_of b t).page)
         (empty : list_at u b.page ≡ []) (clear : d ≡ record g { frozen = None; opened = false; stopped = false; course = record g.course { lasting = false } })
-        (body_is : p.body ≡ body) (room : p.room ≡ x.size) (cost : p.cost ≡ x.cost) (size : p.size ≡ b.course.best_goal)
+        (body_is : p.body ≡ body) (cost : p.cost ≡ x.cost) (size : p.size ≡ b.course.best_goal)
         (line : p.line ≡ line_at (drop x.index (contents_of b e).page ++ (contents_of b e).waiting))
         (penalty : p.penalty ≡ penalty_at (drop x.index (contents_of b e).page ++ (contents_of b e).waiting))
         (held : p.held ≡ length (list_at u g.held)) where
@@ -273,13 +273,19 @@ module _ (b : Builder) (s e t : Lists Node) (body : ℕ) (x : Best) (sound : IsS
       page_here = record {
         live = subst (IsLive u) (sym body_is) sorts.body_live;
         body = ap (plain_list u) body_is ∙ done.body_is ∙ ap without_insertions cut_page;
-        room = room ∙ break_room b (contents_of b s) at x is ∙ sym (body_room (take there.place (contents_of b s).page));
         penalty = penalty ∙ ap penalty_at behind;
         cost = cost ∙ break_cost b (contents_of b s) at x is;
         size = size ∙ (champion b (contents_of b s) at).goal_is;
         line = line ∙ ap line_at behind;
         held = held ∙ sym (length-map (list_at u g.held) (plain_of (list_at u))) ∙ ap length held_are;
       }
+
+      room_told : fired_room d ≡ size_of (map node_shape (plain_list u p.body))
+      room_told =
+          ap fired_room clear ∙ ap (λ (y : Builder). best_room y.course.scan.best) sorts.builder ∙ ap best_room is
+          ∙ break_room b (contents_of b s) at x is
+          ∙ sym (body_room (take there.place (contents_of b s).page))
+          ∙ ap (λ ns. size_of (map node_shape ns)) (sym page_here.body)
 
       fired_is : (ask : Ask) → FiredIs p (contents_of b s) ask (contents_of d u) u
       fired_is ask = record {
@@ -320,4 +326,5 @@ module _ (b : Builder) (s e t : Lists Node) (body : ℕ) (x : Best) (sound : IsS
         fresh = ap (get s.lists) body_is ∙ fresh;
         apart = subst (λ y. Lacks y (owned (ids_of d) u)) (sym body_is) (keeps_then body (body_lacks b s e body sound.own fresh opened));
         body_plain = ap (λ y. inner_ids (list_at u y)) body_is ∙ sorts.body_plain;
+        room = room_told;
       }

@@ -41,7 +41,6 @@ counted-fire m b store page h = record {
   penalty = h.penalty;
   note_bottom = h.note_bottom;
   body = h.body;
-  room = h.room;
   boxes = h.boxes;
   few = h.few;
   body_apart = h.body_apart;

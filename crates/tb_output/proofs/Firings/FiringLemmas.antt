@@ -1,5 +1,5 @@
 -- A firing: a list is opened for what goes back, the routine works, and the goal of the next page is set.
-use Rattle.std.proofs.Common.{◌≡◌, ◌≢◌, refl, sym, subst, ◌∙◌, ap, ℕ, ◌+◌, ◌≤◌, List, [], ◌∷◌, ◌++◌, map, length, Option, Some, None, IsSome, true, arith}
+use Rattle.std.proofs.Common.{◌≡◌, ◌≢◌, refl, sym, subst, ◌∙◌, ap, ℕ, ◌+◌, ◌≤◌, ℤ, List, [], ◌∷◌, ◌++◌, map, length, Option, Some, None, IsSome, true, arith}
 use Rattle.std.specs.Prelude.{All}
 use Rattle.std.specs.List.{AllByRecursion}
 use Rattle.std.specs.FinMap.{get}
@@ -13,7 +13,7 @@ use Rattle.tb_pool.proofs.MapLemmas.{get-insert_same, get-insert_other}
 use Rattle.tb_node.specs.declared.Node.{Node}
 use Rattle.tb_node.specs.declared.Kind.{Kind}
 use Rattle.tb_node.specs.declared.Kind.TheVariants as kinds
-use Rattle.tb_node.specs.Fit.{IsSizedNode}
+use Rattle.tb_node.specs.Fit.{IsSizedNode, shapes}
 use Rattle.tb_node.specs.PlainNodes.{plain_list, shape_of}
 use Rattle.tb_node.specs.Sums.{size_of}
 use Rattle.tb_builder.specs.declared.Builder.{Builder}
@@ -140,6 +140,10 @@ module _ (store opened : Lists Node) (l : ℕ) (fresh : get store.lists l ≡ No
         line = page.line;
       }
 
+      -- the page takes the same room
+      pub opened-room : (room : ℤ) → room ≡ size_of (shapes store page.body) → room ≡ size_of (shapes opened page.body)
+      opened-room room is = is ∙ ap (λ (ns : List Node). size_of (map shape_of ns)) (sym (list-same store opened page.body page-stands))
+
       -- the page can be fired still
       pub opened-fire : CanFire m b opened page
       opened-fire = record {
@@ -148,7 +152,6 @@ module _ (store opened : Lists Node) (l : ℕ) (fresh : get store.lists l ≡ No
         penalty = fire.penalty;
         note_bottom = fire.note_bottom;
         body = list-stands store opened page.body page-stands fire.body;
-        room = fire.room ∙ ap (λ (ns : List Node). size_of (map shape_of ns)) (sym (list-same store opened page.body page-stands));
         boxes = subst AreSizedBoxes (sym (ap (λ (c : Contents). c.boxes) opened-contents)) fire.boxes;
         few = counted (ap length (list-same store opened page.body page-stands)) (ap length (list-same store opened m.held_page (opened-stand m.held_page is.held_page.live))) (ap (λ (c : Contents). box_count c.boxes) opened-contents) fire.few;
         body_apart = fire.body_apart;

@@ -1,5 +1,5 @@
 -- Worked firings: what stays of a scene, and why a page may fire in it.
-use Rattle.std.proofs.Common.{◌≡◌, refl, sym, subst, ◌∙◌, ap, ℕ, ◌+◌, ◌≤◌, ◌<◌, ℤ, pos, Bool, true, false, List, [], ◌∷◌, ◌++◌, map, length, Option, None, Some, IsSome, IfNone, arith}
+use Rattle.std.proofs.Common.{◌≡◌, refl, sym, subst, ◌∙◌, ap, ℕ, ◌+◌, ◌≤◌, ◌<◌, ℤ, pos, Bool, true, false, List, [], ◌∷◌, ◌++◌, length, Option, None, Some, IsSome, IfNone, arith}
 use Rattle.std.specs.Prelude.{All, IsTrue, ◌≤ℤ◌, int_lt, nat_le, if◌then◌else◌}
 use Rattle.std.specs.List.{AllByRecursion}
 use Rattle.std.specs.FinMap.{get}
@@ -15,9 +15,8 @@ use Rattle.tb_node.specs.declared.Node.{Node}
 use Rattle.tb_node.specs.declared.Kind.{Kind}
 use Rattle.tb_node.specs.declared.Act.{Act}
 use Rattle.tb_node.specs.declared.Act.TheVariants as acts
-use Rattle.tb_node.specs.PlainNodes.{PlainNode, shape_of}
-use Rattle.tb_node.specs.Sums.{size_of}
-use Rattle.tb_node.specs.Fit.{IsDimension, IsSizedNode, IsSizedLeaf, shapes}
+use Rattle.tb_node.specs.PlainNodes.{PlainNode}
+use Rattle.tb_node.specs.Fit.{IsDimension, IsSizedNode, IsSizedLeaf}
 use Rattle.tb_builder.specs.declared.Builder.{Builder}
 use Rattle.tb_builder.specs.declared.Page.{Page}
 use Rattle.tb_builder.specs.FiredPages.{Boxed}
@@ -125,14 +124,13 @@ module _ (m : MachineView) (b : Builder) (s t u : Lists Node) (page : Page) (sce
     none-boxed : box_count (contents_of b u).boxes ≡ 0
     none-boxed = ap (λ (c : Contents). box_count c.boxes) nothing
 
-    pub may-fire : IsReady m s page.penalty → IsPageList t page.body → page.room ≡ size_of (shapes t page.body) → length (list_at t page.body) ≤ 201 → get s.lists page.body ≡ None → ((q : ℕ) → IsLive t q → Lacks q (owned (ids_of b) u)) → CanFire m b u page
-    may-fire ready body room few fresh free = record {
+    pub may-fire : IsReady m s page.penalty → IsPageList t page.body → length (list_at t page.body) ≤ 201 → get s.lists page.body ≡ None → ((q : ℕ) → IsLive t q → Lacks q (owned (ids_of b) u)) → CanFire m b u page
+    may-fire ready body few fresh free = record {
       awaits = no-page;
       classes = known;
       penalty = ready.penalty_low;
       note_bottom = ready.note_bottom;
       body = list-stands t u page.body (after page.body body.live) body;
-      room = room ∙ ap (λ (ns : List Node). size_of (map shape_of ns)) (sym (list-same t u page.body (after page.body body.live)));
       boxes = void-sized;
       few = few-nodes _ _ _ _ _ (ap (λ (ns : List Node). length ns) (list-same t u page.body (after page.body body.live))) few held-same ready.held none-boxed;
       body_apart = fresh-none s page.body (machine_lists m) fresh live;

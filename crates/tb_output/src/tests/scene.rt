@@ -4,8 +4,6 @@ ghost use Rattle.std.specs.Prelude.{◌≡◌, ◌≢◌, ◌≤◌, ◌<◌, �
 ghost use Rattle.std.specs.FinMap.{get};
 ghost use Rattle.tb_scaled.specs.Glue.{fixed_glue};
 ghost use Rattle.tb_pool.specs.Lists.{IsLive, list_at};
-ghost use Rattle.tb_node.specs.Fit.{shapes};
-ghost use Rattle.tb_node.specs.Sums.{size_of};
 ghost use Rattle.tb_param.specs.Ranges.{are_params};
 ghost use Rattle.tb_column.specs.Page.{IsPageList};
 ghost use Rattle.tb_builder.specs.Courses.{IsSound};
@@ -21,7 +19,7 @@ use std::alloc::{AllocError, Global};
 use std::marker::Model;
 use tb_builder::{Ask, Builder, Page, new_builder};
 use tb_insert::Class;
-use tb_node::{Act, FOOTNOTES, HOLD_PENALTY, Kind, Node, PAR_PENALTY, What, list_extent};
+use tb_node::{Act, FOOTNOTES, HOLD_PENALTY, Kind, Node, PAR_PENALTY, What};
 use tb_param::Params;
 use tb_pool::{ListId, Lists};
 use tb_scaled::fixed;
@@ -145,9 +143,8 @@ fn fire_text(
         return format!(in alloc; "not ready");
     }
     let body = text_list(store, t)?;
-    let page = page_of(store, body, penalty);
     let mut builder = new_builder(alloc, store, &classes())?;
-    fire_over(alloc, store, machine, &mut builder, page)
+    fire_over(alloc, store, machine, &mut builder, page_of(body, penalty))
 }
 
 // The same of a page of this builder.
@@ -251,15 +248,12 @@ fn box_of(height: u8, depth: u8) -> Kind
     }
 }
 
-fn page_of(store: &Lists<Node>, body: ListId, penalty: i64) -> Page
-    requires { IsPageList store.now body }
+fn page_of(body: ListId, penalty: i64) -> Page
     ensures body { result.body ≡ body }
-    ensures room { result.room ≡ size_of (shapes store.now body) }
     ensures penalty { result.penalty ≡ penalty }
 {
     Page {
         body,
-        room: list_extent(store, body).room,
         penalty,
         cost: 0,
         size: 0,

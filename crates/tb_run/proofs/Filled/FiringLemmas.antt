@@ -9,7 +9,7 @@ use Rattle.tb_pool.specs.Lists.{Lists, list_at}
 use Rattle.tb_node.specs.declared.Kind.{Kind}
 use Rattle.tb_node.specs.declared.Kind.TheVariants as kinds
 use Rattle.tb_node.specs.declared.Node.{Node}
-use Rattle.tb_node.specs.PlainNodes.{plain_of, plain_kind, PlainNode, node_shape}
+use Rattle.tb_node.specs.PlainNodes.{plain_of, plain_kind, PlainNode}
 use Rattle.tb_node.specs.Sums.{size_of}
 use Rattle.tb_param.specs.declared.Params.{Params}
 use Rattle.tb_builder.specs.declared.Ask.{Ask}
@@ -22,7 +22,7 @@ use Rattle.tb_builder.specs.Contents.{Contents, contents_of, node_count, box_cou
 use Rattle.tb_builder.specs.SizedContents.{fired_count, AreBoxesOf}
 use Rattle.tb_pool.specs.Frame.{IsNoneOf}
 use Rattle.tb_builder.specs.Contributions.{NoPage}
-use Rattle.tb_builder.specs.PageEvents.{IsGivenOut}
+use Rattle.tb_builder.specs.PageEvents.{IsGivenOut, TellsRoom}
 use Rattle.tb_builder.specs.PageProgress.{page_fired, ComesToPage, IsNextOfPage}
 use Rattle.tb_builder.specs.Ownership.{ids_of, KeepsOthers}
 use Rattle.tb_builder.specs.Pageable.{IsSizedBox}
@@ -92,7 +92,7 @@ page-same store bs cs ns ms m f h = record { body = h.body; text = h.text; back 
 
 module _ (wanted : Bool) (r q d : Routine) (hs : List Happening) (ready : IsReady r) (h : IsUnderway wanted r q hs) (ask : Ask) (asked : ask ≡ ask_of r.machine.params (state_of r))
     (e : Event) (of_page : IsNextOfPage e (held_in q) ask (held_in d) d.store) (sound : IsSound d.builder d.store) (keeps : KeepsOthers (ids_of q.builder) q.store (ids_of d.builder) d.store) (same : d.machine ≡ q.machine) (most : d.most ≡ q.most)
-    (page : Page) (is : e ≡ events.Fired page) (given : IsGivenOut e q.store (ids_of d.builder) d.store) where
+    (page : Page) (is : e ≡ events.Fired page) (given : IsGivenOut e q.store (ids_of d.builder) d.store) (told : TellsRoom e d.builder d.store) where
   abbrev p : Params
   p = r.machine.params
 
@@ -179,10 +179,6 @@ module _ (wanted : Bool) (r q d : Routine) (hs : List Happening) (ready : IsRead
       sized = list-back d.store page.body served-now.body;
       few = let a = body-count in let b = counted in omega (arith, a, b, few);
     };
-    room =
-        fires.page.room
-        ∙ ap (λ (ns : List PlainNode). size_of (map node_shape ns)) (sym fires.page.body)
-        ∙ ap size_of (shapes-shown (list_at d.store) (list_at d.store page.body));
     boxes = recursion_from_All IsSizedBox (held_in d).boxes served-now.boxes;
     few =
         let a = body-count in
@@ -207,6 +203,7 @@ module _ (wanted : Bool) (r q d : Routine) (hs : List Happening) (ready : IsRead
         ∙ firing-same p (so_far p s h.rs).events (so_far p s h.rs).records d.store s.boxes (held_in d).boxes s.waiting (held_in d).waiting d.machine (fired_in d.builder d.store page);
     whole = whole;
     can = can-fire;
+    room = subst (λ x. TellsRoom x d.builder d.store) is told ∙ ap size_of (shapes-shown (list_at d.store) (list_at d.store page.body));
     taken = next-taken wanted r q d hs ready h ask asked e of_page sound keeps same most;
     params = next-params wanted r q d hs ready h ask asked e of_page sound keeps same most;
     classes = classes-now;

@@ -86,4 +86,4 @@ module _ (wanted : Bool) (r d : Routine) (hs : List Happening) (ready : IsReady 
     come-over is = filled-over wanted r l.before d hs ready l.underway ask asked e l.next.page l.next.sound l.next.keeps l.machine l.most is
 
     pub come-fires : (page : Page) → e ≡ events.Fired page → IsFiring wanted r page d hs
-    come-fires page is = filled-fires wanted r l.before d hs ready l.underway ask asked e l.next.page l.next.sound l.next.keeps l.machine l.most page is l.next.body
+    come-fires page is = filled-fires wanted r l.before d hs ready l.underway ask asked e l.next.page l.next.sound l.next.keeps l.machine l.most page is l.next.body l.next.room

@@ -96,13 +96,11 @@ returns c =
     let opened = c.in_ok-body.ensures.opened ∙ ap (λ m. insert m body []) c.reserve.ensures.lists in
     let penalty_fits : FitsSigned w64 c.cut_page-at.result.penalty = search rules in
     let cost_fits : FitsSigned w64 c.in-Some.best.cost = search rules in
-    let room_fits : FitsSigned w64 c.in-Some.best.size = search rules in
     let size_fits : FitsSigned w64 c.clear.new.self.course.best_goal = search rules in
     record {
       fires = fires_of b s c.add_list.new.self c.cut_page-at.new.store body c.in-Some.best c.requires.sound c.requires.stopped is fresh opened c.cut_page-at.ensures.cuts c.clear.new.self c.sort_page.new.self c.sort_page.new.store
           (record {
             body = body;
-            room = to_z w64 (of_z w64 c.in-Some.best.size);
             penalty = to_z w64 (of_z w64 c.cut_page-at.result.penalty);
             cost = to_z w64 (of_z w64 c.in-Some.best.cost);
             size = to_z w64 (of_z w64 c.clear.new.self.course.best_goal);
@@ -110,7 +108,6 @@ returns c =
             held = c.len.result;
           })
           c.sort_page.ensures.sorts c.sort_page.ensures.sorted c.sort_page.ensures.empty c.clear.ensures refl
-          (to_z-of_z w64 c.in-Some.best.size room_fits)
           (to_z-of_z w64 c.in-Some.best.cost cost_fits)
           (to_z-of_z w64 c.clear.new.self.course.best_goal size_fits ∙ ap (λ (x : Builder). x.course.best_goal) c.clear.ensures ∙ ap (λ (x : Builder). x.course.best_goal) c.sort_page.ensures.sorts.builder)
           c.cut_page-at.ensures.line

@@ -7,6 +7,7 @@ use Rattle.tb_builder.specs.Courses.{IsSound}
 use Rattle.tb_builder.specs.declared.Event.TheVariants as events
 use Rattle.tb_builder.proofs.Events.NextLemmas.{fired_keeps}
 use Rattle.tb_builder.proofs.Events.PagingLemmas.{paging_next}
+use Rattle.tb_builder.proofs.Events.WalkLemmas.{told_here}
 use Rattle.tb_builder.proofs.Ownership.SpareLemmas.{contents_still, sound_still, fits_still, keeps_filled}
 use Rattle.tb_builder.proofs.Builder.next.Goals as goal
 
@@ -53,3 +54,6 @@ returns-then-self-clause-past c = λ on. tt
 
 pub returns-clause-past : goal.returns-clause-past
 returns-clause-past c = λ on. subst (λ (b : Contents). EventPast c.fill.result b (contents_of c.fill.new.self c.fill.new.store) c.args.ask.now) (contents_still c.args.store.now c.make_room.new.store c.make_room.ensures.lists c.args.self.now) c.fill.ensures.past
+
+pub returns-clause-room : goal.returns-clause-room
+returns-clause-room c = told_here c.fill.result (contents_of c.args.self.now c.make_room.new.store) (contents_of c.fill.new.self c.fill.new.store) c.fill.new.self c.fill.new.store c.args.ask.now c.fill.ensures.first

@@ -17,7 +17,7 @@ places-preserved c =
     let t = c.next.new.store in
     let x = c.in-Try.field-0 in
     let e = c.in_ok-next.ensures in
-    let n : IsNext w v ask (events.Try x) d t = subst (λ z. IsNext w v ask z d t) c.in-Try.is (record { page = e.page; event = e.event; past = e.past; sound = e.sound; keeps = e.keeps; body = e.body }) in
+    let n : IsNext w v ask (events.Try x) d t = subst (λ z. IsNext w v ask z d t) c.in-Try.is (record { page = e.page; event = e.event; past = e.past; sound = e.sound; keeps = e.keeps; body = e.body; room = e.room }) in
     let walked = c.pass_nodes.ensures.leads in
     let tried = leads_next ask w d v t x walked.fits n in
     record {
@@ -33,7 +33,7 @@ returns-in-Act-clause-comes c =
     let t = c.next.new.store in
     let e = c.in_ok-next.ensures in
     leads_to c.args.ask.now c.args.self.now c.places.self w d c.args.store.now c.places.store v t (events.Act c.in-Act.act) c.places.invariant.leads c.pass_nodes.ensures.leads
-    (subst (λ z. IsNext w v c.args.ask.now z d t) c.in-Act.is (record { page = e.page; event = e.event; past = e.past; sound = e.sound; keeps = e.keeps; body = e.body }))
+    (subst (λ z. IsNext w v c.args.ask.now z d t) c.in-Act.is (record { page = e.page; event = e.event; past = e.past; sound = e.sound; keeps = e.keeps; body = e.body; room = e.room }))
 
 pub returns-in-Fired-clause-comes : goal.returns-in-Fired-clause-comes
 returns-in-Fired-clause-comes c =
@@ -43,7 +43,7 @@ returns-in-Fired-clause-comes c =
     let t = c.next.new.store in
     let e = c.in_ok-next.ensures in
     leads_to c.args.ask.now c.args.self.now c.places.self w d c.args.store.now c.places.store v t (events.Fired c.in-Fired.page) c.places.invariant.leads c.pass_nodes.ensures.leads
-    (subst (λ z. IsNext w v c.args.ask.now z d t) c.in-Fired.is (record { page = e.page; event = e.event; past = e.past; sound = e.sound; keeps = e.keeps; body = e.body }))
+    (subst (λ z. IsNext w v c.args.ask.now z d t) c.in-Fired.is (record { page = e.page; event = e.event; past = e.past; sound = e.sound; keeps = e.keeps; body = e.body; room = e.room }))
 
 pub returns-in-Empty-clause-comes : goal.returns-in-Empty-clause-comes
 returns-in-Empty-clause-comes c =
@@ -53,4 +53,4 @@ returns-in-Empty-clause-comes c =
     let t = c.next.new.store in
     let e = c.in_ok-next.ensures in
     leads_to c.args.ask.now c.args.self.now c.places.self w d c.args.store.now c.places.store v t events.Empty c.places.invariant.leads c.pass_nodes.ensures.leads
-    (subst (λ z. IsNext w v c.args.ask.now z d t) c.in-Empty.is (record { page = e.page; event = e.event; past = e.past; sound = e.sound; keeps = e.keeps; body = e.body }))
+    (subst (λ z. IsNext w v c.args.ask.now z d t) c.in-Empty.is (record { page = e.page; event = e.event; past = e.past; sound = e.sound; keeps = e.keeps; body = e.body; room = e.room }))

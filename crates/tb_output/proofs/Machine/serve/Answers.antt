@@ -2,7 +2,7 @@ use Rattle.std.proofs.Common.{◌∙◌, FitsSigned, w64, rules}
 use Rattle.std.proofs.lemmas.Int.{to_z-of_z}
 use Rattle.tb_builder.proofs.Events.NextLemmas.{fresh_apart}
 use Rattle.tb_output.specs.Firing.{fired_in}
-use Rattle.tb_output.proofs.Firings.FiringLemmas.{opened-machine, opened-sound, opened-fire, opened-back, opened-empty, opened-free, serving-all, serving-then}
+use Rattle.tb_output.proofs.Firings.FiringLemmas.{opened-machine, opened-sound, opened-fire, opened-room, opened-back, opened-empty, opened-free, serving-all, serving-then}
 use Rattle.tb_output.proofs.Firings.ServeLemmas.{unserved-cut, unserved-keeps, routine-cut, goal-cut, goal-all, all-contents, all-back}
 use Rattle.tb_output.proofs.FiringWork.ResultLemmas.{same-err, memory-err}
 use Rattle.tb_output.proofs.Machine.serve.Goals as goal
@@ -19,6 +19,7 @@ output-requires c =
     record {
       machine = (opened-machine c.args.store.now c.add_list.new.self c.in_ok-back.back c.in_ok-back.ensures.fresh c.in_ok-back.ensures.opened c.args.self.now c.args.b.now c.args.page c.requires.machine c.requires.builder).machine;
       builder = opened-sound c.args.store.now c.add_list.new.self c.in_ok-back.back c.in_ok-back.ensures.fresh c.in_ok-back.ensures.opened c.args.self.now c.args.b.now c.args.page c.requires.machine c.requires.builder;
+      room = opened-room c.args.store.now c.add_list.new.self c.in_ok-back.back c.in_ok-back.ensures.fresh c.in_ok-back.ensures.opened c.args.self.now c.args.b.now c.args.page c.requires.machine c.requires.builder c.requires.page c.args.room c.requires.room;
       page = opened-fire c.args.store.now c.add_list.new.self c.in_ok-back.back c.in_ok-back.ensures.fresh c.in_ok-back.ensures.opened c.args.self.now c.args.b.now c.args.page c.requires.machine c.requires.builder c.requires.page;
       back = opened-back c.args.store.now c.add_list.new.self c.in_ok-back.back c.in_ok-back.ensures.fresh c.in_ok-back.ensures.opened c.args.self.now c.args.b.now c.args.page c.requires.machine c.requires.builder;
       empty = opened-empty c.args.store.now c.add_list.new.self c.in_ok-back.back c.in_ok-back.ensures.fresh c.in_ok-back.ensures.opened;

@@ -4,7 +4,7 @@ use Rattle.tb_output.specs.FiringWork.{shows_boxes, shows_all, IsCutShort, Does}
 use Rattle.tb_output.specs.Firing.{fired_in, whole_work, IsRefusal}
 use Rattle.tb_output.specs.FiringParts.{served}
 use Rattle.tb_output.proofs.Firings.FireLemmas.{counted, faulted, is-begun, count-below, if-none, is-refused, is-fired, fired-contents, fired-refused}
-use Rattle.tb_output.proofs.Machine.fire.Goals as goal
+use Rattle.tb_output.proofs.Machine.fire_measured.Goals as goal
 
 pub returns-in-Some-clause-refused : goal.returns-in-Some-clause-refused
 returns-in-Some-clause-refused c =
