@@ -1,9 +1,9 @@
 use Rattle.std.proofs.Common.{◌<◌, ◌+◌, ap, sym, subst, ◌∙◌, arith}
 use Rattle.tb_output.specs.Machine.{MachineView}
 use Rattle.tb_output.specs.FiringWork.{shows_boxes, shows_all, IsCutShort, Does}
-use Rattle.tb_output.specs.Firing.{fired_in, whole_work, IsRefusal}
+use Rattle.tb_output.specs.Firing.{fired_in, whole_work, IsRefusal, KeepsAll}
 use Rattle.tb_output.specs.FiringParts.{served}
-use Rattle.tb_output.proofs.Firings.FireLemmas.{counted, faulted, is-begun, count-below, if-none, is-refused, is-fired, fired-contents, fired-refused}
+use Rattle.tb_output.proofs.Firings.FireLemmas.{counted, faulted, is-begun, count-below, if-none, keeps-counted, keeps-faulted, is-refused, is-fired, fired-contents, fired-refused}
 use Rattle.tb_output.proofs.Machine.fire_measured.Goals as goal
 
 pub returns-in-Some-clause-refused : goal.returns-in-Some-clause-refused
@@ -36,3 +36,15 @@ returns-in-Err-clause-refused c =
     (subst (λ (v : MachineView). IsRefusal c.in-Err.fault c.args.self.now v c.args.b.now c.serve.new.b c.args.store.now c.serve.new.store (whole_work c.args.self.now c.args.b.now c.args.store.now c.args.page))
     (sym (ap (faulted c.in-Err.fault) c.self-2.view_is))
     (fired-refused c.args.self.now c.args.b.now c.args.store.now c.args.page (is-begun c.args.self.now (sym c.refusal.ensures ∙ c.in_default.is)) c.serve.new.b c.serve.new.self c.serve.new.store c.in-Err.fault cut))
+
+pub returns-in-Ok-clause-keeps : goal.returns-in-Ok-clause-keeps
+returns-in-Ok-clause-keeps c =
+    keeps-counted c.args.page.body c.args.self.now c.serve.new.self c.args.b.now c.serve.new.b c.args.store.now c.serve.new.store
+    (subst (λ (m : MachineView). KeepsAll c.args.page.body m c.serve.new.self c.args.b.now c.serve.new.b c.args.store.now c.serve.new.store) (ap counted c.self.view_is) c.serve.ensures.keeps)
+
+pub returns-in-Err-clause-keeps : goal.returns-in-Err-clause-keeps
+returns-in-Err-clause-keeps c =
+    subst (λ (v : MachineView). KeepsAll c.args.page.body c.args.self.now v c.args.b.now c.serve.new.b c.args.store.now c.serve.new.store)
+    (sym (ap (faulted c.in-Err.fault) c.self-2.view_is))
+    (keeps-faulted c.in-Err.fault c.args.page.body c.args.self.now c.serve.new.self c.args.b.now c.serve.new.b c.args.store.now c.serve.new.store
+    (subst (λ (m : MachineView). KeepsAll c.args.page.body m c.serve.new.self c.args.b.now c.serve.new.b c.args.store.now c.serve.new.store) (ap counted c.self.view_is) c.serve.ensures.keeps))

@@ -16,10 +16,11 @@ returns-in_err-back-clause-keeps c = unserved-keeps c.args.self.now c.args.b.now
 
 pub output-requires : goal.output-requires
 output-requires c =
+    let fits : FitsSigned w64 c.args.room = search rules in
     record {
       machine = (opened-machine c.args.store.now c.add_list.new.self c.in_ok-back.back c.in_ok-back.ensures.fresh c.in_ok-back.ensures.opened c.args.self.now c.args.b.now c.args.page c.requires.machine c.requires.builder).machine;
       builder = opened-sound c.args.store.now c.add_list.new.self c.in_ok-back.back c.in_ok-back.ensures.fresh c.in_ok-back.ensures.opened c.args.self.now c.args.b.now c.args.page c.requires.machine c.requires.builder;
-      room = opened-room c.args.store.now c.add_list.new.self c.in_ok-back.back c.in_ok-back.ensures.fresh c.in_ok-back.ensures.opened c.args.self.now c.args.b.now c.args.page c.requires.machine c.requires.builder c.requires.page c.args.room c.requires.room;
+      room = to_z-of_z w64 c.args.room fits ∙ opened-room c.args.store.now c.add_list.new.self c.in_ok-back.back c.in_ok-back.ensures.fresh c.in_ok-back.ensures.opened c.args.self.now c.args.b.now c.args.page c.requires.machine c.requires.builder c.requires.page c.args.room c.requires.room;
       page = opened-fire c.args.store.now c.add_list.new.self c.in_ok-back.back c.in_ok-back.ensures.fresh c.in_ok-back.ensures.opened c.args.self.now c.args.b.now c.args.page c.requires.machine c.requires.builder c.requires.page;
       back = opened-back c.args.store.now c.add_list.new.self c.in_ok-back.back c.in_ok-back.ensures.fresh c.in_ok-back.ensures.opened c.args.self.now c.args.b.now c.args.page c.requires.machine c.requires.builder;
       empty = opened-empty c.args.store.now c.add_list.new.self c.in_ok-back.back c.in_ok-back.ensures.fresh c.in_ok-back.ensures.opened;
