@@ -3,33 +3,13 @@
 ghost use Rattle.std.specs.Prelude.{◌≡◌};
 ghost use Rattle.tb_pool.specs.Lists.{IsLive};
 ghost use Rattle.tb_node.specs.Fit.{shapes};
-ghost use Rattle.tb_node.specs.PlainNodes.{shape_of};
-ghost use Rattle.tb_node.specs.Sums.{room_of, size_of};
-ghost use Rattle.tb_builder.specs.PageEvents.{SizesFit, IsRoom};
+ghost use Rattle.tb_node.specs.Sums.{size_of};
+ghost use Rattle.tb_builder.specs.PageEvents.{SizesFit};
 ghost use Rattle.tb_builder.specs.Sizes.{RoomFits};
 
-use tb_node::{Kind, Node};
+use tb_node::{Node, room_of};
 use tb_pool::{ListId, Lists};
 use tb_scaled::sum;
-
-// The room that a node takes.
-fn room(n: &Node) -> i64
-    requires { IsRoom (room_of (shape_of n.now)) }
-    ensures { result ≡ room_of (shape_of n.now) }
-{
-    match n.kind {
-        Kind::Hbox { height, depth, .. } => sum(height, depth),
-        Kind::Rule { height, depth, .. } => sum(height, depth),
-        Kind::Skip(g) => g.width,
-        Kind::Kern(w) => w,
-        Kind::Pen(_) => 0,
-        Kind::Mark(_) => 0,
-        Kind::Note(_) => 0,
-        Kind::Whatsit => 0,
-        Kind::Ins(_) => 0,
-        Kind::Act(_) => 0,
-    }
-}
 
 /// The room that a list takes, in sp.
 pub fn list_size(store: &Lists<Node>, l: ListId) -> i64
@@ -48,7 +28,7 @@ pub fn pruned_size(store: &Lists<Node>, l: ListId) -> i64
 {
     let mut total = 0;
     for n in store.iter(l) {
-        total = sum(total, room(n));
+        total = sum(total, room_of(n));
     }
     total
 }

@@ -12,7 +12,7 @@ mod tests;
 pub use names::name_of;
 pub use node_sums::{add, add_box, add_glue, list_sums, stretch_sums};
 pub use signals::{CLEAR_PENALTY, FOOTNOTES, HOLD_PENALTY, PAR_PENALTY, VERT_PENALTY};
-pub use sizes::list_extent;
+pub use sizes::{list_extent, room_of};
 use std::marker::Model;
 use tb_pool::ListId;
 use tb_scaled::Glue;

@@ -1,6 +1,7 @@
-//! The room that a vertical list takes, and its depth, in one short walk.
+//! The room that a node takes, and that of a vertical list with its depth, in one short walk.
 
-ghost use Rattle.std.specs.Prelude.{◌≡◌, ◌≤◌, ◌+ℤ◌, All, length, pos};
+ghost use Rattle.std.specs.Prelude.{◌≡◌, ◌≤◌, ◌+ℤ◌, All, length, pos, FitsSigned};
+ghost use Rattle.std.specs.Int.{w64};
 ghost use Rattle.tb_pool.specs.Lists.{IsLive, list_at};
 ghost use Rattle.tb_node.specs.PlainNodes.{shape_of};
 ghost use Rattle.tb_node.specs.Sums.{room_of, size_of, depth_after, last_depth};
@@ -56,6 +57,26 @@ impl Extent {
             Kind::Ins(_) => self,
             Kind::Act(_) => self,
         }
+    }
+}
+
+/// The room that a node takes in a list, in sp: the height and depth of a box or rule, the width of glue or a kern.
+#[inline]
+pub fn room_of(n: &Node) -> i64
+    requires { FitsSigned w64 (room_of (shape_of n.now)) }
+    ensures { result ≡ room_of (shape_of n.now) }
+{
+    match n.kind {
+        Kind::Hbox { height, depth, .. } => sum(height, depth),
+        Kind::Rule { height, depth, .. } => sum(height, depth),
+        Kind::Skip(g) => g.width,
+        Kind::Kern(w) => w,
+        Kind::Pen(_) => 0,
+        Kind::Mark(_) => 0,
+        Kind::Note(_) => 0,
+        Kind::Whatsit => 0,
+        Kind::Ins(_) => 0,
+        Kind::Act(_) => 0,
     }
 }
 

@@ -7,7 +7,7 @@ ghost use Rattle.tb_scaled.specs.declared.Order.{Order as OrderOf};
 ghost use Rattle.tb_node.specs.PlainNodes.{shape_of};
 ghost use Rattle.tb_node.specs.Shape.{Shape, glue};
 ghost use Rattle.tb_node.specs.SmallAmounts.{IsSmallShape};
-ghost use Rattle.tb_node.specs.Sums.{room_of, amount_at};
+ghost use Rattle.tb_node.specs.Sums.{amount_at};
 ghost use Rattle.tb_pack.specs.declared.Set.{Set as SetOf};
 ghost use Rattle.tb_pack.specs.Pack.{at_of, set_amount, floor_ratio, top_after};
 ghost use Rattle.tb_pack.specs.PositionRange.{IsProduct};
@@ -15,7 +15,7 @@ ghost use Rattle.tb_pack.specs.Position.{walked_past, glue_of, top_of, HasPassed
 
 use crate::{Set, Sign};
 use std::marker::Model;
-use tb_node::{Kind, Node};
+use tb_node::{Kind, Node, room_of};
 use tb_scaled::{Glue, Order, sum};
 
 /// The top, in sp, of a node in a set list. The nodes before it have this natural size and this sum of the stretch of
@@ -122,25 +122,6 @@ impl Tops {
     {
         self.natural = sum(self.natural, room_of(n));
         self.glue = sum(self.glue, glue_of(&self.set, n));
-    }
-}
-
-// The room that a node takes.
-fn room_of(n: &Node) -> i64
-    requires { IsSmallShape (shape_of n.now) }
-    ensures { result ≡ room_of (shape_of n.now) }
-{
-    match n.kind {
-        Kind::Hbox { height, depth, .. } => height + depth,
-        Kind::Rule { height, depth, .. } => height + depth,
-        Kind::Skip(g) => g.width,
-        Kind::Kern(w) => w,
-        Kind::Pen(_) => 0,
-        Kind::Mark(_) => 0,
-        Kind::Note(_) => 0,
-        Kind::Whatsit => 0,
-        Kind::Ins(_) => 0,
-        Kind::Act(_) => 0,
     }
 }
 
