@@ -17,8 +17,6 @@ mod refusal_text;
 mod solution;
 mod sums;
 mod table;
-#[cfg(test)]
-mod tests;
 mod text;
 mod words;
 

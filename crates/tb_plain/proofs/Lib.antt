@@ -10,4 +10,3 @@ pub mod BesideLemmas
 pub mod PutLemmas
 pub mod GrowLemmas
 pub mod FireLemmas
-pub mod WorkedLemmas

@@ -3,8 +3,6 @@
 
 mod firing;
 mod taken_floats;
-#[cfg(test)]
-mod tests;
 
 ghost use Rattle.std.specs.Prelude.{◌≡◌};
 ghost use Rattle.tb_plain.specs.RunSteps.{StepsAgree, EndsHaveReasons};

@@ -57,6 +57,3 @@ pub enum PageFault {
     /// There was no memory.
     Memory,
 }
-
-#[cfg(test)]
-mod tests;

@@ -10,9 +10,6 @@ ghost use Rattle.tb_top.specs.DeadCycles.{HasRoomForCycles};
 ghost use Rattle.tb_top.specs.Pages.{Paginates, Refuses, IsNotForCycles};
 ghost use Rattle.tb_top.specs.PagesWritten.{write_fault, EndsWell, StopsWith, IsRefusalOf, IsFaultRefusal};
 
-#[cfg(test)]
-mod tests;
-
 use crate::views::{is_traced, send, show};
 use crate::{PageFault, View};
 use std::alloc::{AllocError, Global};
