@@ -13,4 +13,3 @@ pub mod ServingLemmas
 pub mod ServeLemmas
 pub mod FiringLemmas
 pub mod FireLemmas
-pub mod SceneLemmas

@@ -1,12 +1,13 @@
 //! A new machine, and what is asked of a machine between two firings.
 
-ghost use Rattle.std.specs.Prelude.{◌≡◌, ◌≤◌, pos, List, [], ◌∷◌, length, None, IfOk, IfSome, IfNone, OnErr};
+ghost use Rattle.std.specs.Prelude.{◌≡◌, ◌≤◌, pos, List, [], ◌∷◌, length, None, IsTrue, IfOk, IfSome, IfNone, OnErr};
 ghost use Rattle.std.specs.FinMap.{get};
 ghost use Rattle.tb_pool.specs.Lists.{Lists as ListMap, IsLive, list_at, with_list};
 ghost use Rattle.tb_node.specs.declared.Node.{Node as NodeValue};
 ghost use Rattle.tb_node.specs.PlainNodes.{PlainNode};
 ghost use Rattle.tb_builder.specs.FiredPages.{Boxed};
 ghost use Rattle.tb_output.specs.State.{first_state, ask_of, no_suppress, void_boxes};
+ghost use Rattle.tb_output.specs.Firing.{IsReach};
 ghost use Rattle.tb_output.specs.Machine.{state_shown, IsMachine, IsPoolSize, AreOutputParams, AreClassesFrom};
 
 use crate::Machine;
@@ -114,6 +115,13 @@ impl Machine {
             },
             top_skip: self.params.topskip,
         }
+    }
+
+    /// Whether the marginal notes of the column reach so little down that a page may fire: less than 1000000sp.
+    pub fn reaches_little(&self) -> bool
+        ensures { IsTrue result → IsReach self.now.note_bottom }
+    {
+        -1_000_000 < self.note_bottom && self.note_bottom < 1_000_000
     }
 
     /// How many nodes may be held.

@@ -11,6 +11,8 @@ mod galley;
 #[cfg(test)]
 mod lines;
 #[cfg(test)]
+mod output;
+#[cfg(test)]
 mod plain;
 #[cfg(test)]
 mod top;

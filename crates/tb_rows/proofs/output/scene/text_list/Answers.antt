@@ -1,6 +1,6 @@
 use Rattle.std.proofs.Common.{arith}
-use Rattle.tb_output.proofs.Firings.SceneLemmas.{opened-empty}
-use Rattle.tb_output.proofs.tests.scene.text_list.Goals as goal
+use Rattle.tb_rows.proofs.SceneLemmas.{opened-empty}
+use Rattle.tb_rows.proofs.output.scene.text_list.Goals as goal
 
 pub loop-height-init : goal.loop-height-init
 loop-height-init c =

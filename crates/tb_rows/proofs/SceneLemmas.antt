@@ -35,7 +35,7 @@ use Rattle.tb_output.specs.Act.{went, full}
 use Rattle.tb_output.specs.ActCalls.{IsActed, acted_in}
 use Rattle.tb_output.specs.Machine.{MachineView, left_lists, sent_lists, event_lists, machine_lists, AreClassesFrom}
 use Rattle.tb_output.specs.Firing.{builder_lists, AreSizedBoxes, CanFire}
-use Rattle.tb_output.specs.Scenes.{scene_classes, IsScene, IsReady, IsTextKind, LeavesAll}
+use Rattle.tb_rows.specs.Scenes.{scene_classes, IsScene, IsReady, IsTextKind, LeavesAll}
 use Rattle.tb_output.proofs.FiringWork.ApartLemmas.{apart-back, distinct-front, distinct-back, distinct-apart, distinct-join, fresh-none, lacks-none}
 use Rattle.tb_output.proofs.FiringWork.StandLemmas.{Stands, list-same, live-same, list-stands, machine-live, stands-shown}
 

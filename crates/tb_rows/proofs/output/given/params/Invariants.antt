@@ -1,6 +1,6 @@
 use Rattle.std.specs.Prelude.{IsTrue}
 use Rattle.tb_param.specs.Ranges.{are_params}
-use Rattle.tb_output.proofs.tests.given.params.Given as goal
+use Rattle.tb_rows.proofs.output.given.params.Given as goal
 
 abbrev pub invariant-loop-name : goal.invariant-loop-name
 invariant-loop-name l = IsTrue (are_params l.p)

@@ -5,9 +5,9 @@ use Rattle.tb_insert.specs.declared.Class.{Class}
 use Rattle.tb_builder.specs.Contents.{contents_of, nothing_yet}
 use Rattle.tb_builder.specs.Ownership.{ClassesFit}
 use Rattle.tb_column.specs.Page.{IsPageList}
-use Rattle.tb_output.specs.Scenes.{scene_classes, IsReady}
-use Rattle.tb_output.proofs.Firings.SceneLemmas.{classes-fit, scene-stays, may-fire}
-use Rattle.tb_output.proofs.tests.scene.fire_text.Goals as goal
+use Rattle.tb_rows.specs.Scenes.{scene_classes, IsReady}
+use Rattle.tb_rows.proofs.SceneLemmas.{classes-fit, scene-stays, may-fire}
+use Rattle.tb_rows.proofs.output.scene.fire_text.Goals as goal
 
 pub new_builder-requires : goal.new_builder-requires
 new_builder-requires c = subst (λ (cs : List Class). ClassesFit cs) (sym c.classes.ensures) classes-fit

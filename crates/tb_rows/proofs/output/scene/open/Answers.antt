@@ -2,8 +2,8 @@ use Rattle.std.proofs.Common.{sym, subst, ◌∙◌, List}
 use Rattle.tb_insert.specs.declared.Class.{Class}
 use Rattle.tb_output.specs.Machine.{AreClassesFrom}
 use Rattle.tb_output.proofs.ColumnPages.ParamLemmas.{output-params}
-use Rattle.tb_output.proofs.Firings.SceneLemmas.{classes-rise}
-use Rattle.tb_output.proofs.tests.scene.open.Goals as goal
+use Rattle.tb_rows.proofs.SceneLemmas.{classes-rise}
+use Rattle.tb_rows.proofs.output.scene.open.Goals as goal
 
 pub new_machine-requires-clause-params : goal.new_machine-requires-clause-params
 new_machine-requires-clause-params c = output-params c.args.p.now c.requires

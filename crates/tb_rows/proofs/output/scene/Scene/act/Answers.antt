@@ -1,8 +1,8 @@
 use Rattle.std.proofs.Common.{[], sym, subst, ◌∙◌}
 use Rattle.tb_output.specs.Machine.{MachineView}
-use Rattle.tb_output.specs.Scenes.{IsScene}
-use Rattle.tb_output.proofs.Firings.SceneLemmas.{acted-classes}
-use Rattle.tb_output.proofs.tests.scene.Scene.act.Goals as goal
+use Rattle.tb_rows.specs.Scenes.{IsScene}
+use Rattle.tb_rows.proofs.SceneLemmas.{acted-classes}
+use Rattle.tb_rows.proofs.output.scene.Scene.act.Goals as goal
 
 pub invariant_of-self : goal.invariant_of-self
 invariant_of-self c = subst (λ (m : MachineView). IsScene m c.self.inside.store) (sym c.in_err-act.ensures.unchanged) c.self.invariant

@@ -4,10 +4,10 @@ ghost use Rattle.tb_pool.specs.Lists.{IsLive};
 ghost use Rattle.tb_column.specs.Page.{IsPageColumn};
 ghost use Rattle.tb_output.specs.Machine.{IsPageSheet, IsPageSent};
 
-use crate::{RunFault, Sent, Sheet, Warn};
 use std::alloc::{AllocError, Global};
 use tb_column::Column;
 use tb_node::{Kind, Node, Side, What, Where};
+use tb_output::{RunFault, Sent, Sheet, Warn};
 use tb_pool::{ListId, Lists};
 
 // Each node of a list: a word, and its height, its width, its penalty or its shift.

@@ -1,9 +1,9 @@
 use Rattle.std.proofs.Common.{sym, subst}
 use Rattle.tb_output.specs.Machine.{MachineView}
-use Rattle.tb_output.specs.Scenes.{IsScene}
-use Rattle.tb_output.proofs.Firings.SceneLemmas.{without-event}
-use Rattle.tb_output.proofs.tests.scene.Scene.next_event.Goals as goal
-use Rattle.tb_output.proofs.tests.scene.Scene.next_event.Goals.{in-Some, in-None}
+use Rattle.tb_rows.specs.Scenes.{IsScene}
+use Rattle.tb_rows.proofs.SceneLemmas.{without-event}
+use Rattle.tb_rows.proofs.output.scene.Scene.next_event.Goals as goal
+use Rattle.tb_rows.proofs.output.scene.Scene.next_event.Goals.{in-Some, in-None}
 
 pub invariant_of-self : goal.invariant_of-self
 invariant_of-self c =

@@ -1,8 +1,8 @@
 use Rattle.std.proofs.Common.{◌≡◌, ◌≤◌, ◌+◌, ◌*◌, length}
 use Rattle.tb_pool.specs.Lists.{list_at}
 use Rattle.tb_column.specs.Page.{IsPageList}
-use Rattle.tb_output.specs.Scenes.{LeavesAll}
-use Rattle.tb_output.proofs.tests.scene.text_list.Given as goal
+use Rattle.tb_rows.specs.Scenes.{LeavesAll}
+use Rattle.tb_rows.proofs.output.scene.text_list.Given as goal
 
 abbrev pub invariant-loop-height : goal.invariant-loop-height
 invariant-loop-height l = record {

@@ -1,6 +1,6 @@
 use Rattle.std.proofs.Common.{◌∙◌}
-use Rattle.tb_output.proofs.Firings.SceneLemmas.{if-none}
-use Rattle.tb_output.proofs.tests.scene.fire_over.Goals as goal
+use Rattle.tb_rows.proofs.SceneLemmas.{if-none}
+use Rattle.tb_rows.proofs.output.scene.fire_over.Goals as goal
 
 pub fire-fired-requires-clause-page : goal.fire-fired-requires-clause-page
 fire-fired-requires-clause-page c = if-none c.args.machine.now.fault _ c.requires.page

@@ -9,17 +9,16 @@ ghost use Rattle.tb_column.specs.Page.{IsPageList};
 ghost use Rattle.tb_builder.specs.Courses.{IsSound};
 ghost use Rattle.tb_output.specs.Machine.{IsMachine};
 ghost use Rattle.tb_output.specs.ActCalls.{IsSizedAct};
-ghost use Rattle.tb_output.specs.Firing.{IsReach, CanFire};
-ghost use Rattle.tb_output.specs.Scenes.{scene_classes, IsScene, IsReady, IsTextKind, LeavesAll};
+ghost use Rattle.tb_output.specs.Firing.{CanFire};
+ghost use Rattle.tb_rows.specs.Scenes.{scene_classes, IsScene, IsReady, IsTextKind, LeavesAll};
 
 use super::telling::{event_text, fault_text, list_text};
-use crate::back_list::push_made;
-use crate::{Full, Machine, RunFault, Turn, new_machine};
 use std::alloc::{AllocError, Global};
 use std::marker::Model;
 use tb_builder::{Ask, Builder, Page, new_builder};
 use tb_insert::Class;
 use tb_node::{Act, FOOTNOTES, HOLD_PENALTY, Kind, Node, PAR_PENALTY, What};
+use tb_output::{Full, Machine, RunFault, Turn, new_machine};
 use tb_param::Params;
 use tb_pool::{ListId, Lists};
 use tb_scaled::fixed;
@@ -34,7 +33,7 @@ pub(super) struct Scene {
 
 impl Model for Scene {
     ghost use Rattle.tb_output.specs.Machine.{MachineView};
-    ghost use Rattle.tb_output.specs.Scenes.{IsScene};
+    ghost use Rattle.tb_rows.specs.Scenes.{IsScene};
 
     ghost Value = { MachineView };
 
@@ -187,16 +186,10 @@ fn is_ready(store: &Lists<Node>, machine: &Machine, penalty: i64) -> bool
     requires { IsScene machine.now store.now }
     ensures { IsTrue result → IsReady machine.now store.now penalty }
 {
-    if penalty < HOLD_PENALTY || !is_reach(machine) {
+    if penalty < HOLD_PENALTY || !machine.reaches_little() {
         return false;
     }
     machine.held_nodes(store) <= 1000
-}
-
-fn is_reach(machine: &Machine) -> bool
-    ensures { IsTrue result → IsReach machine.now.note_bottom }
-{
-    -1_000_000 < machine.note_bottom && machine.note_bottom < 1_000_000
 }
 
 // A new list of these nodes.
@@ -229,7 +222,7 @@ fn push_text(store: &mut Lists<Node>, list: ListId, kind: Kind)
     ensures spare { store.new.spare + 1 ≡ store.old.spare }
     ensures others { (q : ℕ) → q ≢ list → get store.new.lists q ≡ get store.old.lists q }
 {
-    push_made(store, list, kind);
+    store.push_back(list, Node { line: 0, kind });
 }
 
 fn glue_of(width: u8) -> Kind
