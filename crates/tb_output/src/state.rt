@@ -90,6 +90,9 @@ pub fn new_machine(
     })
 }
 
+// How far down or up the marginal notes of a column may reach, in sp.
+const MAX_REACH: i64 = 18_014_394_214_514_688;
+
 impl Machine {
     /// The next event that was not taken yet. None exactly if there is none.
     ///
@@ -117,11 +120,11 @@ impl Machine {
         }
     }
 
-    /// Whether the marginal notes of the column reach so little down that a page may fire: less than 1000000sp.
-    pub fn reaches_little(&self) -> bool
+    /// Whether the marginal notes of the column reach no further than `fire` allows: less than 2^54 - 2^32 sp up or down.
+    pub fn notes_in_reach(&self) -> bool
         ensures { IsTrue result → IsReach self.now.note_bottom }
     {
-        -1_000_000 < self.note_bottom && self.note_bottom < 1_000_000
+        -MAX_REACH < self.note_bottom && self.note_bottom < MAX_REACH
     }
 
     /// How many nodes may be held.

@@ -186,7 +186,7 @@ fn is_ready(store: &Lists<Node>, machine: &Machine, penalty: i64) -> bool
     requires { IsScene machine.now store.now }
     ensures { IsTrue result → IsReady machine.now store.now penalty }
 {
-    if penalty < HOLD_PENALTY || !machine.reaches_little() {
+    if penalty < HOLD_PENALTY || !machine.notes_in_reach() {
         return false;
     }
     machine.held_nodes(store) <= 1000
