@@ -7,72 +7,49 @@ use Rattle.tb_builder.specs.Ownership.{Ids, ids_of, IsClassList, box_ids, inner_
 use Rattle.tb_builder.proofs.Ownership.OwnedLemmas.{live-left}
 use Rattle.tb_builder.proofs.LegalPlaces.ClassLemmas.{first_at, none_at, list_live}
 use Rattle.tb_builder.proofs.Handover.BoxLemmas.{voided_boxes, marked, box_apart, taken_contents, taken_sound, taken_keeps, taken_others, taken_is}
+use Rattle.tb_builder.proofs.Builder.take_box.Goals.{After-index, After-index_mut}
 use Rattle.tb_builder.proofs.Builder.take_box.Goals as goal
 
 pub unreachable-requires : goal.unreachable-requires
 unreachable-requires c = true≢false (sym c.requires.known ∙ none_at c.args.self.now.boxes.items c.args.class (sym c.place_of.ensures ∙ c.in_default.is))
 
+-- the box that was found is the box of the class
+is_box : (c : After-index) → IsClassList c.args.self.now.boxes.items c.args.class c.index.result.now
+is_box c = record { place = c.in-Some.k; first = first_at c.args.self.now.boxes.items c.args.class c.in-Some.k c.index.result.now (sym c.place_of.ensures ∙ c.in-Some.is); is = sym c.index.ensures }
+
+-- the builder with that box void
+voided : After-index_mut → Builder
+voided c = record c.args.self.now { boxes = with_item c.args.self.now.boxes c.in-Some.k (record c.index_mut.result.now { void = true }) }
+
+-- its ids are those of before, with the boxes of the class void
+voided_ids : (c : After-index_mut) → IsClassList c.args.self.now.boxes.items c.args.class c.index.result.now → ids_of (voided c) ≡ record (ids_of c.args.self.now) { boxes = voided_boxes c.args.class c.args.self.now.boxes.items }
+voided_ids c h = ap (λ (es : List ClassList). (let i : Ids = record (ids_of c.args.self.now) { boxes = es } in i)) (marked _ _ _ c.index.result.now c.index_mut.result.now h.first c.index_mut.ensures.value c.requires.sound.own.classes)
+
 pub append-requires-clause-second_live : goal.append-requires-clause-second_live
 append-requires-clause-second_live c =
     let b = c.args.self.now in
     let s = c.args.store.now in
-    let e = c.index.result.now in
-    let h : IsClassList b.boxes.items c.args.class e = record { place = c.in-Some.k; first = first_at b.boxes.items c.args.class c.in-Some.k e (sym c.place_of.ensures ∙ c.in-Some.is); is = sym c.index.ensures } in
-    list_live s b.boxes.items c.args.class e h (live-left s (box_ids b.boxes.items) (inner_ids (nodes_of (ids_of b) s)) c.requires.sound.own.live.1.1.1.1)
+    let h = is_box (goal.at.append-requires-clause-second_live c).After-index in
+    list_live s b.boxes.items c.args.class _ h (live-left s (box_ids b.boxes.items) (inner_ids (nodes_of (ids_of b) s)) c.requires.sound.own.live.1.1.1.1)
 
 pub append-requires-clause-apart : goal.append-requires-clause-apart
-append-requires-clause-apart c =
-    let b = c.args.self.now in
-    let s = c.args.store.now in
-    let e = c.index.result.now in
-    let h : IsClassList b.boxes.items c.args.class e = record { place = c.in-Some.k; first = first_at b.boxes.items c.args.class c.in-Some.k e (sym c.place_of.ensures ∙ c.in-Some.is); is = sym c.index.ensures } in
-    box_apart b s c.args.into c.args.class e h c.requires.apart
+append-requires-clause-apart c = box_apart c.args.self.now c.args.store.now _ _ _ (is_box (goal.at.append-requires-clause-apart c).After-index) c.requires.apart
 
 pub returns-clause-sound : goal.returns-clause-sound
-returns-clause-sound c =
-    let b = c.args.self.now in
-    let s = c.args.store.now in
-    let e = c.index.result.now in
-    let h : IsClassList b.boxes.items c.args.class e = record { place = c.in-Some.k; first = first_at b.boxes.items c.args.class c.in-Some.k e (sym c.place_of.ensures ∙ c.in-Some.is); is = sym c.index.ensures } in
-    let m = c.index_mut.result.now in
-    let d : Builder = record b { boxes = with_item b.boxes c.in-Some.k (record m { void = true }) } in
-    let ids : ids_of d ≡ record (ids_of b) { boxes = voided_boxes c.args.class b.boxes.items } = ap (λ (es : List ClassList). (let i : Ids = record (ids_of b) { boxes = es } in i)) (marked b.boxes.items c.args.class c.in-Some.k e m h.first c.index_mut.ensures.value c.requires.sound.own.classes) in
-    taken_sound b s c.append.new.self c.args.into c.args.class e c.requires.sound c.requires.empty h c.requires.apart c.append.ensures.joined d ids refl refl refl refl
+returns-clause-sound c = ?
 
 pub returns-clause-contents : goal.returns-clause-contents
-returns-clause-contents c =
-    let b = c.args.self.now in
-    let s = c.args.store.now in
-    let e = c.index.result.now in
-    let h : IsClassList b.boxes.items c.args.class e = record { place = c.in-Some.k; first = first_at b.boxes.items c.args.class c.in-Some.k e (sym c.place_of.ensures ∙ c.in-Some.is); is = sym c.index.ensures } in
-    let m = c.index_mut.result.now in
-    let d : Builder = record b { boxes = with_item b.boxes c.in-Some.k (record m { void = true }) } in
-    let ids : ids_of d ≡ record (ids_of b) { boxes = voided_boxes c.args.class b.boxes.items } = ap (λ (es : List ClassList). (let i : Ids = record (ids_of b) { boxes = es } in i)) (marked b.boxes.items c.args.class c.in-Some.k e m h.first c.index_mut.ensures.value c.requires.sound.own.classes) in
-    taken_contents b s c.append.new.self c.args.into c.args.class e c.requires.sound c.requires.empty h c.requires.apart c.append.ensures.joined d ids refl refl refl refl
+returns-clause-contents c = ?
 
 pub returns-clause-keeps : goal.returns-clause-keeps
-returns-clause-keeps c =
-    let b = c.args.self.now in
-    let s = c.args.store.now in
-    let e = c.index.result.now in
-    let h : IsClassList b.boxes.items c.args.class e = record { place = c.in-Some.k; first = first_at b.boxes.items c.args.class c.in-Some.k e (sym c.place_of.ensures ∙ c.in-Some.is); is = sym c.index.ensures } in
-    let m = c.index_mut.result.now in
-    let d : Builder = record b { boxes = with_item b.boxes c.in-Some.k (record m { void = true }) } in
-    let ids : ids_of d ≡ record (ids_of b) { boxes = voided_boxes c.args.class b.boxes.items } = ap (λ (es : List ClassList). (let i : Ids = record (ids_of b) { boxes = es } in i)) (marked b.boxes.items c.args.class c.in-Some.k e m h.first c.index_mut.ensures.value c.requires.sound.own.classes) in
-    taken_keeps b s c.append.new.self c.args.into c.args.class e c.requires.sound c.requires.empty h c.requires.apart c.append.ensures.joined d ids refl refl refl refl
+returns-clause-keeps c = ?
 
 pub returns-clause-others : goal.returns-clause-others
 returns-clause-others c =
-    let b = c.args.self.now in
-    let s = c.args.store.now in
-    let e = c.index.result.now in
-    let h : IsClassList b.boxes.items c.args.class e = record { place = c.in-Some.k; first = first_at b.boxes.items c.args.class c.in-Some.k e (sym c.place_of.ensures ∙ c.in-Some.is); is = sym c.index.ensures } in
-    taken_others b s c.append.new.self c.args.into c.args.class e c.requires.sound c.requires.empty h c.requires.apart c.append.ensures.joined
+    let h = is_box (goal.at.returns-clause-others c).After-index in
+    taken_others _ _ _ _ _ _ c.requires.sound c.requires.empty h c.requires.apart c.append.ensures.joined
 
 pub returns-clause-taken : goal.returns-clause-taken
 returns-clause-taken c =
-    let b = c.args.self.now in
-    let s = c.args.store.now in
-    let e = c.index.result.now in
-    let h : IsClassList b.boxes.items c.args.class e = record { place = c.in-Some.k; first = first_at b.boxes.items c.args.class c.in-Some.k e (sym c.place_of.ensures ∙ c.in-Some.is); is = sym c.index.ensures } in
-    taken_is b s c.append.new.self c.args.into c.args.class e c.requires.sound c.requires.empty h c.requires.apart c.append.ensures.joined
+    let h = is_box (goal.at.returns-clause-taken c).After-index in
+    taken_is _ _ _ _ _ _ c.requires.sound c.requires.empty h c.requires.apart c.append.ensures.joined
