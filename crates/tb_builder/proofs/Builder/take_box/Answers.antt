@@ -7,7 +7,7 @@ use Rattle.tb_builder.specs.Ownership.{Ids, ids_of, IsClassList, box_ids, inner_
 use Rattle.tb_builder.proofs.Ownership.OwnedLemmas.{live-left}
 use Rattle.tb_builder.proofs.LegalPlaces.ClassLemmas.{first_at, none_at, list_live}
 use Rattle.tb_builder.proofs.Handover.BoxLemmas.{voided_boxes, marked, box_apart, taken_contents, taken_sound, taken_keeps, taken_others, taken_is}
-use Rattle.tb_builder.proofs.Builder.take_box.Goals.{After-index, After-index_mut}
+use Rattle.tb_builder.proofs.Builder.take_box.Goals.{After-index, After-append}
 use Rattle.tb_builder.proofs.Builder.take_box.Goals as goal
 
 pub unreachable-requires : goal.unreachable-requires
@@ -18,12 +18,14 @@ is_box : (c : After-index) → IsClassList c.args.self.now.boxes.items c.args.cl
 is_box c = record { place = c.in-Some.k; first = first_at c.args.self.now.boxes.items c.args.class c.in-Some.k c.index.result.now (sym c.place_of.ensures ∙ c.in-Some.is); is = sym c.index.ensures }
 
 -- the builder with that box void
-voided : After-index_mut → Builder
+abbrev voided : After-append → Builder
 voided c = record c.args.self.now { boxes = with_item c.args.self.now.boxes c.in-Some.k (record c.index_mut.result.now { void = true }) }
 
 -- its ids are those of before, with the boxes of the class void
-voided_ids : (c : After-index_mut) → IsClassList c.args.self.now.boxes.items c.args.class c.index.result.now → ids_of (voided c) ≡ record (ids_of c.args.self.now) { boxes = voided_boxes c.args.class c.args.self.now.boxes.items }
-voided_ids c h = ap (λ (es : List ClassList). (let i : Ids = record (ids_of c.args.self.now) { boxes = es } in i)) (marked _ _ _ c.index.result.now c.index_mut.result.now h.first c.index_mut.ensures.value c.requires.sound.own.classes)
+voided_ids : (c : After-append) → ids_of (voided c) ≡ record (ids_of c.args.self.now) { boxes = voided_boxes c.args.class c.args.self.now.boxes.items }
+voided_ids c =
+    let first = first_at c.args.self.now.boxes.items c.args.class c.in-Some.k c.index.result.now (sym c.place_of.ensures ∙ c.in-Some.is) in
+    ap (λ (es : List ClassList). (let i : Ids = record (ids_of c.args.self.now) { boxes = es } in i)) (marked _ _ _ _ c.index_mut.result.now first c.index_mut.ensures.value c.requires.sound.own.classes)
 
 pub append-requires-clause-second_live : goal.append-requires-clause-second_live
 append-requires-clause-second_live c =
@@ -36,20 +38,26 @@ pub append-requires-clause-apart : goal.append-requires-clause-apart
 append-requires-clause-apart c = box_apart c.args.self.now c.args.store.now _ _ _ (is_box (goal.at.append-requires-clause-apart c).After-index) c.requires.apart
 
 pub returns-clause-sound : goal.returns-clause-sound
-returns-clause-sound c = ?
+returns-clause-sound c =
+    let h = is_box (goal.at.returns-clause-sound c).After-index in
+    taken_sound _ _ c.append.new.self _ _ _ c.requires.sound c.requires.empty h c.requires.apart c.append.ensures.joined (voided c) (voided_ids c) refl refl refl refl
 
 pub returns-clause-contents : goal.returns-clause-contents
-returns-clause-contents c = ?
+returns-clause-contents c =
+    let h = is_box (goal.at.returns-clause-contents c).After-index in
+    taken_contents _ _ c.append.new.self _ _ _ c.requires.sound c.requires.empty h c.requires.apart c.append.ensures.joined (voided c) (voided_ids c) refl refl refl refl
 
 pub returns-clause-keeps : goal.returns-clause-keeps
-returns-clause-keeps c = ?
+returns-clause-keeps c =
+    let h = is_box (goal.at.returns-clause-keeps c).After-index in
+    taken_keeps _ _ c.append.new.self _ _ _ c.requires.sound c.requires.empty h c.requires.apart c.append.ensures.joined (voided c) (voided_ids c) refl refl refl refl
 
 pub returns-clause-others : goal.returns-clause-others
 returns-clause-others c =
     let h = is_box (goal.at.returns-clause-others c).After-index in
-    taken_others _ _ _ _ _ _ c.requires.sound c.requires.empty h c.requires.apart c.append.ensures.joined
+    taken_others _ _ c.append.new.self _ _ _ c.requires.sound c.requires.empty h c.requires.apart c.append.ensures.joined
 
 pub returns-clause-taken : goal.returns-clause-taken
 returns-clause-taken c =
     let h = is_box (goal.at.returns-clause-taken c).After-index in
-    taken_is _ _ _ _ _ _ c.requires.sound c.requires.empty h c.requires.apart c.append.ensures.joined
+    taken_is _ _ c.append.new.self _ _ _ c.requires.sound c.requires.empty h c.requires.apart c.append.ensures.joined
