@@ -1,16 +1,19 @@
 -- What the builder holds, after its lists were written.
-use Rattle.std.proofs.Common.{◌≡◌, sym, subst, ◌∙◌, ap, List, [], ◌∷◌, ◌++◌, map, Some}
+use Rattle.std.proofs.Common.{◌≡◌, sym, subst, ◌∙◌, ap, true, List, [], ◌∷◌, ◌++◌, ◌||◌, map, Some}
 use Rattle.std.specs.Prelude.{slice_get}
 use Rattle.std.proofs.lemmas.List.{map-append}
-use Rattle.tb_pool.specs.Lists.{Lists, list_at}
+use Rattle.std.specs.FinMap.{insert}
+use Rattle.tb_pool.specs.Lists.{Lists, list_at, with_list}
 use Rattle.tb_node.specs.declared.Node.{Node}
 use Rattle.tb_node.specs.PlainNodes.{plain_of, plain_list}
 use Rattle.tb_break.proofs.StoreLemmas.{some_first}
 use Rattle.tb_builder.specs.declared.Builder.{Builder}
 use Rattle.tb_builder.specs.Ownership.{Lacks, Ids, ids_of, owned, IsOwned}
 use Rattle.tb_builder.specs.Contents.{contents_of, boxed_of}
+use Rattle.tb_builder.specs.Reach.{holds_box}
 use Rattle.tb_builder.specs.PageTurns.{ChangesPage, Shifted}
-use Rattle.tb_builder.proofs.Turns.MoveLemmas.{Written, written_own, written_others, written_keeps, written_held, written_page, written_waiting, written_boxes}
+use Rattle.tb_builder.proofs.Turns.MoveLemmas.{Written, written_shift, written_own, written_others, written_keeps, written_held, written_page, written_waiting, written_boxes}
+use Rattle.tb_builder.proofs.Turns.PastLemmas.{holds-both}
 
 -- the first node, and what comes after it
 pub first_is : (ns : List Node) (n : Node) → slice_get ns 0 ≡ Some n → (ms : List Node) × (ns ≡ n ∷ ms)
@@ -48,3 +51,25 @@ shifted_from b d s t n ns same own first w frozen stopped = record {
 -- the tail of a list that begins with this node
 pub behind_is : (xs ys zs : List Node) (n : Node) → xs ≡ n ∷ ys → xs ≡ n ∷ zs → ys ≡ zs
 behind_is xs ys zs n e f = let g : (n ∷ ys) ≡ (n ∷ zs) = sym e ∙ f in cc
+
+-- the first waiting node went on the page: what the builder holds then
+pub record Went (b d : Builder) (s t : Lists Node) (n : Node) : Type 0 where
+  pub moves : ChangesPage b s d t
+  pub shifted : Shifted (plain_of (list_at s) n) (contents_of b s) (contents_of d t)
+  pub behind : (m : Node) (ns : List Node) → list_at s b.waiting ≡ m ∷ ns → list_at t b.waiting ≡ ns
+  pub boxed : holds_box (contents_of b s).page ≡ true → holds_box (contents_of d t).page ≡ true
+
+pub went_from : (b d : Builder) (s t : Lists Node) (n : Node) → ids_of d ≡ ids_of b → d.frozen ≡ b.frozen → d.stopped ≡ b.stopped → IsOwned (ids_of b) s → slice_get (list_at s b.waiting) 0 ≡ Some n
+    → ((m : Node) (ns : List Node) → list_at s b.waiting ≡ m ∷ ns → t.lists ≡ insert (with_list s b.waiting ns) b.page (list_at s b.page ++ m ∷ [])) → Went b d s t n
+went_from b d s t n same frozen stopped own first moved =
+    let f = first_is (list_at s b.waiting) n first in
+    let w = written_shift (ids_of b) s t n f.0 own f.1 (moved n f.0 f.1) in
+    let shifted = shifted_from b d s t n f.0 same own f.1 w frozen stopped in
+    record {
+      moves = moves_from b d s t _ _ same own w;
+      shifted = shifted;
+      behind = λ m ns e.
+          let whole : (n ∷ f.0) ≡ (m ∷ ns) = sym f.1 ∙ e in
+          w.waiting_is ∙ cc;
+      boxed = λ holds. ap holds_box shifted.page ∙ holds-both (contents_of b s).page (plain_of (list_at s) n ∷ []) ∙ ap (λ x. x || holds_box (plain_of (list_at s) n ∷ [])) holds;
+    }
