@@ -1,5 +1,5 @@
 -- Turn by turn up to an event.
-use Rattle.std.proofs.Common.{◌≡◌, inl, refl, sym, subst, ◌∙◌, ap, ℕ, ◌<◌, ℤ, Bool, true, false, List, [], ◌∷◌, ◌++◌, length, map, Option, None, Some, append-nil, arith}
+use Rattle.std.proofs.Common.{◌≡◌, inl, refl, sym, subst, ◌∙◌, ap, ℕ, ◌<◌, ◌≤◌, ℤ, Bool, true, false, List, [], ◌∷◌, ◌++◌, length, map, Option, None, Some, append-nil, arith}
 use Rattle.std.specs.Prelude.{slice_get, if◌then◌else◌}
 use Rattle.std.proofs.lemmas.Bool.{true≢false}
 use Rattle.std.proofs.lemmas.List.{length-map}
@@ -151,7 +151,7 @@ fits_after c d ask fits stays turns = record {
 pub first_before : (v : Event) (c d e : Contents) (ask : Ask) → ReachesNothing c d ask → FirstIs v (laid d ask) (reach_ahead d ask) (places_of d ask) ask e → FirstIs v (laid c ask) (reach_ahead c ask) (places_of c ask) ask e
 first_before v c d e ask t h = subst (λ ns. FirstIs v ns (reach_ahead c ask) (places_of c ask) ask e) t.whole (subst (λ r. FirstIs v (laid d ask) r (places_of c ask) ask e) (sym t.reach) (subst (λ bs. FirstIs v (laid d ask) (reach_ahead d ask) bs ask e) t.places h))
 
-pub filled_later : (b d x : Builder) (s t y : Lists Node) (ask : Ask) (e : Event) → TurnIs b s ask None d t → Filled d t ask e x y → Filled b s ask e x y
+filled_later : (b d x : Builder) (s t y : Lists Node) (ask : Ask) (e : Event) → TurnIs b s ask None d t → Filled d t ask e x y → Filled b s ask e x y
 filled_later b d x s t y ask e turn later = record {
   sound = later.sound;
   frame = leaves_then (ids_of b) (ids_of d) (ids_of x) s t y turn.frame later.frame;
@@ -161,7 +161,7 @@ filled_later b d x s t y ask e turn later = record {
 }
 
 -- a turn that ends with an event
-pub filled_now : (b d : Builder) (s t : Lists Node) (ask : Ask) (e : Event) → TurnIs b s ask (Some e) d t → Filled b s ask e d t
+filled_now : (b d : Builder) (s t : Lists Node) (ask : Ask) (e : Event) → TurnIs b s ask (Some e) d t → Filled b s ask e d t
 filled_now b d s t ask e turn = record {
   sound = turn.sound;
   frame = turn.frame;
@@ -169,6 +169,29 @@ filled_now b d s t ask e turn = record {
   first = turn.turned;
   past = turn.past;
 }
+
+-- what a filling keeps: what is reached from here is reached from where it began
+pub record Filling (a : Builder) (q : Lists Node) (ask : Ask) (b : Builder) (s : Lists Node) : Type 0 where
+  pub sound : IsSound b s
+  pub on : b.stopped ≡ false
+  pub fits : NextFits (contents_of b s) ask
+  pub room : b.opened ≡ false → 0 < s.spare
+  pub later : (e : Event) (x : Builder) (y : Lists Node) → Filled b s ask e x y → Filled a q ask e x y
+
+more_room : {m n : ℕ} → m ≤ n → 0 < m → 0 < n
+more_room h k = omega arith
+
+pub filling_goes : (a b d : Builder) (q s t : Lists Node) (ask : Ask) → Filling a q ask b s → TurnIs b s ask None d t → Filling a q ask d t
+filling_goes a b d q s t ask h turn = record {
+  sound = turn.sound;
+  on = turn.turned.stopped;
+  fits = fits_after (contents_of b s) (contents_of d t) ask h.fits turn.stays turn.turned;
+  room = λ closed. more_room (turn.room refl closed).1 (h.room (turn.room refl closed).0);
+  later = λ e x y f. h.later e x y (filled_later b d x s t y ask e turn f);
+}
+
+pub filling_ends : (a b d : Builder) (q s t : Lists Node) (ask : Ask) (e : Event) → Filling a q ask b s → TurnIs b s ask (Some e) d t → Filled a q ask e d t
+filling_ends a b d q s t ask e h turn = h.later e d t (filled_now b d s t ask e turn)
 
 -- ---- a page that is laid out
 
