@@ -181,8 +181,8 @@ pub record Filling (a : Builder) (q : Lists Node) (ask : Ask) (b : Builder) (s :
 more_room : {m n : ℕ} → m ≤ n → 0 < m → 0 < n
 more_room h k = omega arith
 
-pub filling_goes : (a b d : Builder) (q s t : Lists Node) (ask : Ask) → Filling a q ask b s → TurnIs b s ask None d t → Filling a q ask d t
-filling_goes a b d q s t ask h turn = record {
+pub filling_goes : {a b d : Builder} {q s t : Lists Node} {ask : Ask} → Filling a q ask b s → TurnIs b s ask None d t → Filling a q ask d t
+filling_goes {a} {b} {d} {q} {s} {t} {ask} h turn = record {
   sound = turn.sound;
   on = turn.turned.stopped;
   fits = fits_after (contents_of b s) (contents_of d t) ask h.fits turn.stays turn.turned;
@@ -190,8 +190,8 @@ filling_goes a b d q s t ask h turn = record {
   later = λ e x y f. h.later e x y (filled_later b d x s t y ask e turn f);
 }
 
-pub filling_ends : (a b d : Builder) (q s t : Lists Node) (ask : Ask) (e : Event) → Filling a q ask b s → TurnIs b s ask (Some e) d t → Filled a q ask e d t
-filling_ends a b d q s t ask e h turn = h.later e d t (filled_now b d s t ask e turn)
+pub filling_ends : {a b d : Builder} {q s t : Lists Node} {ask : Ask} {e : Event} → Filling a q ask b s → TurnIs b s ask (Some e) d t → Filled a q ask e d t
+filling_ends {a} {b} {d} {q} {s} {t} {ask} {e} h turn = h.later e d t (filled_now b d s t ask e turn)
 
 -- ---- a page that is laid out
 

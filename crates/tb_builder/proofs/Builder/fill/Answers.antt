@@ -1,4 +1,4 @@
-use Rattle.std.proofs.Common.{◌≡◌, refl, sym, subst, ◌∙◌, ap, Bool, true, false, List, ◌∷◌, None, Some}
+use Rattle.std.proofs.Common.{◌≡◌, refl, sym, subst, ◌∙◌, ap, Bool, List, ◌∷◌, None, Some}
 use Rattle.std.specs.Prelude.{slice_get}
 use Rattle.std.specs.Option.{option_copied}
 use Rattle.tb_pool.specs.Lists.{Lists, list_at}
@@ -30,30 +30,20 @@ returns-in-Act c =
     let s = c.loop-n.store in
     let y = c.drop_first-in-Act.new.store in
     let f = rest (goal.at.returns-in-Act c).In-Some in
-    filling_ends _ b b _ s y c.args.ask.now _ c.loop-n.invariant (acted_turn b s y c.args.ask.now c.in-Some.n.now f.0 c.in-Act.act c.loop-n.invariant.sound c.loop-n.invariant.on f.1 (sym c.in-Act.ensures.act) (c.drop_first-in-Act.ensures.rest c.in-Some.n.now f.0 f.1))
+    filling_ends c.loop-n.invariant (acted_turn b s y c.args.ask.now c.in-Some.n.now f.0 c.in-Act.act c.loop-n.invariant.sound c.loop-n.invariant.on f.1 (sym c.in-Act.ensures.act) (c.drop_first-in-Act.ensures.rest c.in-Some.n.now f.0 f.1))
 
 pub loop-n-preserved-in-Insertion : goal.loop-n-preserved-in-Insertion
-loop-n-preserved-in-Insertion c = filling_goes _ c.loop-n.self c.meet.new.self _ c.loop-n.store c.meet.new.store c.args.ask.now c.loop-n.invariant c.meet.ensures
+loop-n-preserved-in-Insertion c = filling_goes c.loop-n.invariant c.meet.ensures
 
 -- a turn that returned whether it tried a place
-turn_to : (b d : Builder) (s y : Lists Node) (ask : Ask) (r x : Bool) → r ≡ x → TurnIs b s ask (event_of r d.tried) d y → TurnIs b s ask (event_of x d.tried) d y
-turn_to b d s y ask r x e = subst (λ v. TurnIs b s ask (event_of v d.tried) d y) e
+turn_to : {b d : Builder} {s y : Lists Node} {ask : Ask} {r x : Bool} → r ≡ x → TurnIs b s ask (event_of r d.tried) d y → TurnIs b s ask (event_of x d.tried) d y
+turn_to {b} {d} {s} {y} {ask} e = subst (λ v. TurnIs b s ask (event_of v d.tried) d y) e
 
 pub returns-then-begin : goal.returns-then-begin
-returns-then-begin c =
-    let b = c.loop-n.self in
-    let s = c.loop-n.store in
-    let d = c.begin.new.self in
-    let y = c.begin.new.store in
-    filling_ends _ b d _ s y c.args.ask.now _ c.loop-n.invariant (turn_to b d s y c.args.ask.now c.begin.result true c.if-begin.true c.begin.ensures)
+returns-then-begin c = filling_ends c.loop-n.invariant (turn_to c.if-begin.true c.begin.ensures)
 
 pub loop-n-preserved-in-Matter : goal.loop-n-preserved-in-Matter
-loop-n-preserved-in-Matter c =
-    let b = c.loop-n.self in
-    let s = c.loop-n.store in
-    let d = c.begin.new.self in
-    let y = c.begin.new.store in
-    filling_goes _ b d _ s y c.args.ask.now c.loop-n.invariant (turn_to b d s y c.args.ask.now c.begin.result false c.if-begin.false c.begin.ensures)
+loop-n-preserved-in-Matter c = filling_goes c.loop-n.invariant (turn_to c.if-begin.false c.begin.ensures)
 
 -- the turn in which the first node vanishes
 gone_turn : (c : After-drop_first) → TurnIs c.loop-n.self c.loop-n.store c.args.ask.now None c.loop-n.self c.drop_first.new.store
@@ -71,7 +61,7 @@ pub loop-n-smaller-then-vanishes : goal.loop-n-smaller-then-vanishes
 loop-n-smaller-then-vanishes c = (gone_turn c).shorter refl
 
 pub loop-n-preserved-then-vanishes : goal.loop-n-preserved-then-vanishes
-loop-n-preserved-then-vanishes c = filling_goes _ c.loop-n.self c.loop-n.self _ c.loop-n.store c.drop_first.new.store c.args.ask.now c.loop-n.invariant (gone_turn c)
+loop-n-preserved-then-vanishes c = filling_goes c.loop-n.invariant (gone_turn c)
 
 pub step-requires-clause-underway : goal.step-requires-clause-underway
 step-requires-clause-underway c =
@@ -102,23 +92,13 @@ step_turn c =
     c.step.ensures.moves c.step.ensures.step c.step.ensures.opened c.step.ensures.frozen c.step.ensures.boxed (c.step.ensures.behind n) (c.goes_on.ensures.no_act go)
 
 pub returns-then-step : goal.returns-then-step
-returns-then-step c =
-    let b = c.loop-n.self in
-    let s = c.loop-n.store in
-    let d = c.step.new.self in
-    let y = c.step.new.store in
-    filling_ends _ b d _ s y c.args.ask.now _ c.loop-n.invariant (turn_to b d s y c.args.ask.now c.step.result true c.if-step.true (step_turn (goal.at.returns-then-step c).After-step))
+returns-then-step c = filling_ends c.loop-n.invariant (turn_to c.if-step.true (step_turn (goal.at.returns-then-step c).After-step))
 
 pub loop-n-smaller : goal.loop-n-smaller
-loop-n-smaller c = (turn_to c.loop-n.self c.step.new.self c.loop-n.store c.step.new.store c.args.ask.now c.step.result false c.if-step.false (step_turn (goal.at.loop-n-smaller c).After-step)).shorter refl
+loop-n-smaller c = (turn_to c.if-step.false (step_turn (goal.at.loop-n-smaller c).After-step)).shorter refl
 
 pub loop-n-preserved : goal.loop-n-preserved
-loop-n-preserved c =
-    let b = c.loop-n.self in
-    let s = c.loop-n.store in
-    let d = c.step.new.self in
-    let y = c.step.new.store in
-    filling_goes _ b d _ s y c.args.ask.now c.loop-n.invariant (turn_to b d s y c.args.ask.now c.step.result false c.if-step.false (step_turn (goal.at.loop-n-preserved c).After-step))
+loop-n-preserved c = filling_goes c.loop-n.invariant (turn_to c.if-step.false (step_turn (goal.at.loop-n-preserved c).After-step))
 
 pub returns : goal.returns
 returns c = c.loop-n.invariant.later _ c.loop-n.self c.loop-n.store (filled_empty c.loop-n.self c.loop-n.store c.args.ask.now c.loop-n.invariant.sound c.loop-n.invariant.on (none_first (list_at c.loop-n.store c.loop-n.self.waiting) (sym c.get.ensures ∙ ap option_copied c.in_default.is)))
