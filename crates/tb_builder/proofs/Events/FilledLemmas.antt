@@ -178,9 +178,11 @@ pub record Filling (a : Builder) (q : Lists Node) (ask : Ask) (b : Builder) (s :
   pub room : b.opened ≡ false → 0 < s.spare
   pub later : (e : Event) (x : Builder) (y : Lists Node) → Filled b s ask e x y → Filled a q ask e x y
 
+-- there is still room where there is no less than before
 more_room : {m n : ℕ} → m ≤ n → 0 < m → 0 < n
 more_room h k = omega arith
 
+-- a turn that returned nothing keeps it
 pub filling_goes : {a b d : Builder} {q s t : Lists Node} {ask : Ask} → Filling a q ask b s → TurnIs b s ask None d t → Filling a q ask d t
 filling_goes {a} {b} {d} {q} {s} {t} {ask} h turn = record {
   sound = turn.sound;
@@ -190,6 +192,7 @@ filling_goes {a} {b} {d} {q} {s} {t} {ask} h turn = record {
   later = λ e x y f. h.later e x y (filled_later b d x s t y ask e turn f);
 }
 
+-- a turn that returned an event ends the filling
 pub filling_ends : {a b d : Builder} {q s t : Lists Node} {ask : Ask} {e : Event} → Filling a q ask b s → TurnIs b s ask (Some e) d t → Filled a q ask e d t
 filling_ends {a} {b} {d} {q} {s} {t} {ask} {e} h turn = h.later e d t (filled_now b d s t ask e turn)
 

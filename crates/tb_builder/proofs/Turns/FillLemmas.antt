@@ -59,6 +59,7 @@ pub record Went (b d : Builder) (s t : Lists Node) (n : Node) : Type 0 where
   pub behind : (m : Node) (ns : List Node) → list_at s b.waiting ≡ m ∷ ns → list_at t b.waiting ≡ ns
   pub boxed : holds_box (contents_of b s).page ≡ true → holds_box (contents_of d t).page ≡ true
 
+-- the store moved the node, and the builder kept its lists, its frozen goal and whether it stopped
 pub went_from : (b d : Builder) (s t : Lists Node) (n : Node) → ids_of d ≡ ids_of b → d.frozen ≡ b.frozen → d.stopped ≡ b.stopped → IsOwned (ids_of b) s → slice_get (list_at s b.waiting) 0 ≡ Some n
     → ((m : Node) (ns : List Node) → list_at s b.waiting ≡ m ∷ ns → t.lists ≡ insert (with_list s b.waiting ns) b.page (list_at s b.page ++ m ∷ [])) → Went b d s t n
 went_from b d s t n same frozen stopped own first moved =

@@ -35,7 +35,7 @@ returns-in-Act c =
 pub loop-n-preserved-in-Insertion : goal.loop-n-preserved-in-Insertion
 loop-n-preserved-in-Insertion c = filling_goes c.loop-n.invariant c.meet.ensures
 
--- a turn that returned whether it tried a place
+-- the same turn, once it is known whether it tried a place
 turn_to : {b d : Builder} {s y : Lists Node} {ask : Ask} {r x : Bool} → r ≡ x → TurnIs b s ask (event_of r d.tried) d y → TurnIs b s ask (event_of x d.tried) d y
 turn_to {b} {d} {s} {y} {ask} e = subst (λ v. TurnIs b s ask (event_of v d.tried) d y) e
 

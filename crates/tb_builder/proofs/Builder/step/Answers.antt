@@ -65,6 +65,7 @@ returns-in_default-penalty_of-clause-boxed c = (went c).boxed
 
 -- ---- the place is tried
 
+-- what the course says of the place
 offered : (c : After-offer-self) → (let before = contents_of c.args.self.now c.args.store.now in OfferIs (kept_frozen before) c.offer-self.new.self before.page (places_on (kept_frozen before) before) c.offer-self.result c.n.inside.line c.in-Some-penalty_of.penalty)
 offered c =
     let before = contents_of c.args.self.now c.args.store.now in
