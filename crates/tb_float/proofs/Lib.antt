@@ -14,4 +14,4 @@ pub mod HasLemmas
 pub mod ClassLemmas
 pub mod EntryLemmas
 pub mod TrackLemmas
-pub mod CleanLemmas
+pub mod PlaceLemmas

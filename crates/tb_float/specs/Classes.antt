@@ -57,10 +57,10 @@ pub record Tracks (Is : Float → Type 0) (chosen : ℕ) (v : FloatPool) : Type 
   pub few : chosen_count v ≤ chosen
 
 -- no mark before a place is set
-abbrev pub IsCleanTo : ℕ → List Bool → Type 0
-IsCleanTo clean ms = (k : ℕ) → slice_get ms k ≡ Some true → clean ≤ k
+abbrev pub AreSetFrom : ℕ → List Bool → Type 0
+AreSetFrom marks_from ms = (k : ℕ) → slice_get ms k ≡ Some true → marks_from ≤ k
 
 -- in neither list of floats that wait is a float before this place marked
-pub record IsClean (clean : ℕ) (v : FloatPool) : Type 0 where
-  pub deferred : IsCleanTo clean v.marks
-  pub second : IsCleanTo clean v.second_marks
+pub record AreMarkedFrom (marks_from : ℕ) (v : FloatPool) : Type 0 where
+  pub deferred : AreSetFrom marks_from v.marks
+  pub second : AreSetFrom marks_from v.second_marks

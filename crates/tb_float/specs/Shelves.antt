@@ -15,7 +15,7 @@ use Rattle.tb_float.specs.Rooms.{total_height}
 use Rattle.tb_float.specs.ByPart.{of_part}
 use Rattle.tb_float.specs.Slots.{SlotView}
 use Rattle.tb_float.specs.declared.classes.ClassSet.{ClassSet}
-use Rattle.tb_float.specs.Classes.{IsClean, IsTracked, Tracks}
+use Rattle.tb_float.specs.Classes.{AreMarkedFrom, IsTracked, Tracks}
 
 -- the id of the list of a part
 abbrev pub shelf_of : Shelves → Part → ℕ
@@ -96,10 +96,10 @@ pub record IsStored (store : Lists SlotView) (shelves : Shelves) (heights : ByPa
   pub places : HasPlaces (slots_of store shelves) size store.spare
 
 -- the pool is stored, and what it knows of classes and of marks holds
-pub record IsPooled (store : Lists SlotView) (shelves : Shelves) (heights : ByPart ℤ) (size : ℕ) (known : ClassSet) (chosen : ℕ) (least : ℤ) (clean : ℕ) : Type 0 where
+pub record IsPooled (store : Lists SlotView) (shelves : Shelves) (heights : ByPart ℤ) (size : ℕ) (known : ClassSet) (chosen : ℕ) (least : ℤ) (marks_from : ℕ) : Type 0 where
   pub stored : IsStored store shelves heights size
   pub tracked : Tracks (IsTracked known.flags least) chosen (seen_pool (slots_of store shelves) size)
-  pub clean_to : IsClean clean (seen_pool (slots_of store shelves) size)
+  pub marked_from : AreMarkedFrom marks_from (seen_pool (slots_of store shelves) size)
 
 -- the first marked slot left its list
 pub record HasTaken (s : SlotView) (from : ℕ) (old new : Lists SlotView) : Type 0 where

@@ -29,7 +29,7 @@ impl Pool {
         let height = entry_height(&slot.entry);
         self.heights.lower(from, height);
         self.heights.raise(to, height);
-        self.clean = 0;
+        self.marks_from = 0;
     }
 
     /// All floats of a list go before those of another, by links alone, and lose their marks.
@@ -47,7 +47,7 @@ impl Pool {
         let height = self.heights.of(from);
         self.heights.lower(from, height);
         self.heights.raise(to, height);
-        self.clean = 0;
+        self.marks_from = 0;
     }
 
     /// No float of a list is chosen any more.
@@ -66,7 +66,7 @@ impl Pool {
     {
         let list = self.shelves.lists.of(p);
         unmark_all(&mut self.store, list);
-        self.clean = 0;
+        self.marks_from = 0;
     }
 
     /// The first entry of a list leaves the pool. None exactly if the list is empty.
@@ -81,7 +81,7 @@ impl Pool {
             return None;
         };
         self.heights.lower(p, entry_height(&slot.entry));
-        self.clean = 0;
+        self.marks_from = 0;
         Some(slot.entry)
     }
 
@@ -102,7 +102,7 @@ impl Pool {
                 marked: slot.marked,
             },
         );
-        self.clean = 0;
+        self.marks_from = 0;
     }
 
     /// The float at a place of a list in which floats wait is chosen for a column of floats.
@@ -117,7 +117,7 @@ impl Pool {
             k,
             self.shelves.one,
         );
-        self.clean = clean_place(self.chosen, self.clean, k);
+        self.marks_from = marks_place(self.chosen, self.marks_from, k);
         self.chosen = one_more(self.chosen);
     }
 
@@ -138,7 +138,7 @@ impl Pool {
         let Some(slot) = take_marked(
             &mut self.store,
             self.shelves.lists.of(from),
-            self.clean,
+            self.marks_from,
             self.shelves.one,
             self.shelves.rest,
         ) else {
@@ -151,11 +151,15 @@ impl Pool {
 }
 
 // Up to which place no float is marked, once the one at a place is too.
-fn clean_place(chosen: usize, clean: usize, k: usize) -> usize
+fn marks_place(chosen: usize, marks_from: usize, k: usize) -> usize
     ensures place { result ≤ k }
-    ensures before { 0 < chosen → result ≤ clean }
+    ensures before { 0 < chosen → result ≤ marks_from }
 {
-    if chosen == 0 || k < clean { k } else { clean }
+    if chosen == 0 || k < marks_from {
+        k
+    } else {
+        marks_from
+    }
 }
 
 // A number of floats and one more; no more than 4096 wait.

@@ -4,7 +4,7 @@ ghost use Rattle.std.specs.FinMap.{insert};
 ghost use Rattle.tb_pool.specs.Lists.{IsLive, list_at, with_list};
 ghost use Rattle.tb_float.specs.Slots.{SlotView};
 ghost use Rattle.tb_float.specs.Lists.{without_place, has_class, float_before};
-ghost use Rattle.tb_float.specs.Classes.{IsCleanTo};
+ghost use Rattle.tb_float.specs.Classes.{AreSetFrom};
 ghost use Rattle.tb_float.specs.Pool.{first_marked};
 ghost use Rattle.tb_float.specs.Rooms.{total_height};
 ghost use Rattle.tb_float.specs.Shelves.{HasTaken, marked_slot, unmarked_slot, floats_in, marks_in, is_float};
@@ -122,7 +122,7 @@ fn marked(slot: Slot) -> Slot
 pub(crate) fn take_marked(
     store: &mut Lists<Slot>,
     from: ListId,
-    clean: usize,
+    marks_from: usize,
     one: ListId,
     rest: ListId,
 ) -> Option<Slot>
@@ -132,15 +132,15 @@ pub(crate) fn take_marked(
     requires differ { (from ≢ one) × (from ≢ rest) × (one ≢ rest) }
     requires one_empty { list_at store.old one ≡ [] }
     requires rest_empty { list_at store.old rest ≡ [] }
-    requires clean { IsCleanTo clean (marks_in (list_at store.old from)) }
+    requires marks_from { AreSetFrom marks_from (marks_in (list_at store.old from)) }
     ensures taken { IfSome result (λ s. HasTaken s from store.old store.new) }
     ensures none { IfNone result (first_marked (marks_in (list_at store.old from)) ≡ length (list_at store.old from)) }
     ensures unchanged { IfNone result (store.new ≡ store.old) }
 {
-    if store.len(from) <= clean {
+    if store.len(from) <= marks_from {
         return None;
     }
-    store.cut(from, clean, one);
+    store.cut(from, marks_from, one);
     let taken = take_first_marked(store, one, rest);
     store.append(from, one);
     taken

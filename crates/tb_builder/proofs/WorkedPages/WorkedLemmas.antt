@@ -381,9 +381,6 @@ module _ (b : Builder) (s t : Lists Node) (l : ℕ) (nodes : List Node) (ask : A
   list_made : list_at t l ≡ nodes
   list_made = ap (λ o. unwrap_or o []) made
 
-  pub note_shapes : length nodes ≤ 8388608 → SizesFit (shapes t l)
-  note_shapes few = subst (λ ns. SizesFit (map shape_of ns)) (sym list_made) (sizes_fit (map shape_of nodes) (All-map IsSized shape_of nodes (matter_sized nodes matter)) (let e = length-map {B = Shape} nodes shape_of in omega arith))
-
   pub note_list_joins : ListJoins (ids_of b) t l
   note_list_joins =
       list_joins (ids_of b) t l note_sound.own (ap is_some made)

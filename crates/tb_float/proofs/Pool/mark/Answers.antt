@@ -8,8 +8,8 @@ use Rattle.tb_float.proofs.ListLemmas.{some-at}
 use Rattle.tb_float.proofs.WaitingLemmas.{waiting-floats}
 use Rattle.tb_float.proofs.PoolLemmas.{mark-set, all-marks}
 use Rattle.tb_float.specs.Classes.{IsTracked}
-use Rattle.tb_float.proofs.TrackLemmas.{pooled-clean, tracked-mark}
-use Rattle.tb_float.proofs.CleanLemmas.{clean-mark}
+use Rattle.tb_float.proofs.TrackLemmas.{pooled-marked, tracked-mark}
+use Rattle.tb_float.proofs.PlaceLemmas.{place-mark}
 use Rattle.tb_float.proofs.Pool.mark.Goals as goal
 
 pub mark_slot-requires : goal.mark_slot-requires
@@ -39,8 +39,8 @@ invariant_of-self c =
     let made = mark-set i.store c.mark_slot.new.store i.shelves i.heights i.size c.args.from c.args.k slot.0 c.requires.waiting c.self.invariant.stored slot.1 (marked slot.0 slot.1) c.mark_slot.ensures.spare in
     let places = c.self.invariant.stored.places in
     let few : live_count (seen_lists at) ≤ 4096 = omega (arith, live_count-seen at c.self.invariant.stored.sound.slots, places.within, places.small) in
-    let clean = clean-mark (IsTracked i.known.flags i.least) i.chosen i.clean c.clean_place-self-inside.result c.args.from c.args.k (seen_pool at i.size) c.requires.waiting (all-marks at i.size c.self.invariant.stored.sound.slots) c.self.invariant.tracked c.clean_place-self-inside.ensures.place c.clean_place-self-inside.ensures.before c.self.invariant.clean_to in
-    pooled-clean c.mark_slot.new.store i.shelves i.heights i.size i.known c.one_more-self-inside.result i.least c.clean_place-self-inside.result _ made.stored made.seen (tracked-mark (IsTracked i.known.flags i.least) i.chosen c.one_more-self-inside.result c.args.from c.args.k _ c.self.invariant.tracked c.one_more-self-inside.ensures few) clean
+    let marks_from = place-mark (IsTracked i.known.flags i.least) i.chosen i.marks_from c.marks_place-self-inside.result c.args.from c.args.k (seen_pool at i.size) c.requires.waiting (all-marks at i.size c.self.invariant.stored.sound.slots) c.self.invariant.tracked c.marks_place-self-inside.ensures.place c.marks_place-self-inside.ensures.before c.self.invariant.marked_from in
+    pooled-marked c.mark_slot.new.store i.shelves i.heights i.size i.known c.one_more-self-inside.result i.least c.marks_place-self-inside.result _ made.stored made.seen (tracked-mark (IsTracked i.known.flags i.least) i.chosen c.one_more-self-inside.result c.args.from c.args.k _ c.self.invariant.tracked c.one_more-self-inside.ensures few) marks_from
 
 pub returns : goal.returns
 returns c =

@@ -16,10 +16,10 @@ use Rattle.tb_float.proofs.SoundLemmas.{marks_of-seen, sums-are_rooms, floats_of
 use Rattle.tb_float.proofs.WaitingLemmas.{waiting-floats}
 use Rattle.tb_float.proofs.PoolLemmas.{taken-out, entry-is_room, marks-shown}
 use Rattle.tb_float.proofs.MarkLemmas.{unmarked-all, first-marked, none-marked, left-over}
-use Rattle.tb_float.specs.Classes.{IsCleanTo, IsTracked, Tracks}
-use Rattle.tb_float.proofs.TrackLemmas.{pooled-clean, tracked-fewer, all-unmarked}
+use Rattle.tb_float.specs.Classes.{AreSetFrom, IsTracked, Tracks}
+use Rattle.tb_float.proofs.TrackLemmas.{pooled-marked, tracked-fewer, all-unmarked}
 use Rattle.std.proofs.lemmas.Option.{slice_get_within}
-use Rattle.tb_float.proofs.CleanLemmas.{clean-of, clean-without}
+use Rattle.tb_float.proofs.PlaceLemmas.{place-of, place-without}
 use Rattle.tb_float.proofs.Pool.retire_marked.Goals as goal
 
 pub take_marked-requires : goal.take_marked-requires
@@ -34,7 +34,7 @@ take_marked-requires c =
       differ = (k.one_apart p, k.rest_apart p, k.helpers_apart);
       one_empty = k.one_empty;
       rest_empty = k.rest_empty;
-      clean = subst (IsCleanTo i.clean) (marks_of-seen p (slots_of i.store i.shelves) i.size c.requires) (clean-of p i.clean _ c.requires c.self.invariant.clean_to);
+      marks_from = subst (AreSetFrom i.marks_from) (marks_of-seen p (slots_of i.store i.shelves) i.size c.requires) (place-of p i.marks_from _ c.requires c.self.invariant.marked_from);
     })
 
 pub returns-then-self-eq0-clause-none : goal.returns-then-self-eq0-clause-none
@@ -127,8 +127,8 @@ invariant_of-self-2 c =
     let marked = (λ j. marked_among (marks_are j) (floats_are j)) ∙ first.marked ∙ ap (λ hs. c.float_in.result ∷ hs) (sym left.0) ∙ ap (λ j. c.float_in.result ∷ marked_floats c.args.from (without_entry c.args.from j v)) (sym k_is) in
     let many = length-map (at c.args.from) (λ (r : SlotView). r.marked) in
     let lt : k < length (marks_of c.args.from v) = omega (arith, ap length marks_are, many, slice_get_within (at c.args.from) k s was) in
-    let clean = clean-without i.clean c.args.from k v c.requires (k_is ∙ ap first_marked (sym marks_are)) lt c.self.invariant.clean_to in
-    pooled-clean c.take_marked.new.store i.shelves c.lower.new.self i.size i.known (i.chosen - 1) i.least i.clean _ stored made.seen (tracked-fewer (IsTracked i.known.flags i.least) i.chosen c.args.from k c.float_in.result v c.requires c.self.invariant.tracked marked) clean
+    let marks_from = place-without i.marks_from c.args.from k v c.requires (k_is ∙ ap first_marked (sym marks_are)) lt c.self.invariant.marked_from in
+    pooled-marked c.take_marked.new.store i.shelves c.lower.new.self i.size i.known (i.chosen - 1) i.least i.marks_from _ stored made.seen (tracked-fewer (IsTracked i.known.flags i.least) i.chosen c.args.from k c.float_in.result v c.requires c.self.invariant.tracked marked) marks_from
 
 pub returns : goal.returns
 returns c =
