@@ -13,7 +13,7 @@ use Rattle.tb_pool.specs.declared.Ends.{Ends}
 use Rattle.tb_pool.proofs.MapLemmas.{total-le, insert_from_get, get-insert_same, get-insert_other}
 use Rattle.tb_pool.proofs.ChainLemmas.{length-chain}
 use Rattle.tb_pool.proofs.ShapeLemmas.{get-shaped, items-shaped}
-use Rattle.tb_pool.proofs.JoinLemmas.{first_node, node_there}
+use Rattle.tb_pool.proofs.JoinLemmas.{first_there}
 use Rattle.tb_pool.proofs.PopLemmas.{IsTaken, pop_front_done, drop_next}
 
 -- the ends of a list of which k values are dropped
@@ -58,8 +58,7 @@ module _ {T : Type 0} (nodes : Slab (Node T)) (heads : Slab Ends) (spare places 
   pub clear_there : IsSome (get nodes first)
   clear_there =
       let has : 0 < len - k = omega arith in
-      node_there nodes (with_value heads l (left_of first last len k)) (spare + k) places sound.0 sound.1 l (left_of first last len k) here first
-      (first_node nodes (with_value heads l (left_of first last len k)) (spare + k) places sound.0 sound.1 l (left_of first last len k) here has).2
+      first_there nodes (with_value heads l (left_of first last len k)) (spare + k) places sound.0 sound.1 l (left_of first last len k) here has
 
   -- one value more is dropped
   pub clear_goes_on : (m : map.FinMap nat_cmp (List T)) (items : List T) → listed (values_of nodes) (with_value heads l (left_of first last len k)) ≡ map.insert m l (drop k items)
