@@ -122,7 +122,8 @@ impl Machine {
 
     /// Whether the marginal notes of the column reach no further than `fire` allows: less than 2^54 - 2^32 sp up or down.
     pub fn notes_in_reach(&self) -> bool
-        ensures { IsTrue result → IsReach self.now.note_bottom }
+        ensures within { IsTrue result → IsReach self.now.note_bottom }
+        ensures beyond { IsReach self.now.note_bottom → IsTrue result }
     {
         -MAX_REACH < self.note_bottom && self.note_bottom < MAX_REACH
     }

@@ -6,6 +6,6 @@ use Rattle.tb_rows.proofs.output.scene.is_ready.Goals as goal
 pub returns : goal.returns
 returns c = λ k. record {
   penalty_low = let f : FitsSigned w64 c.args.penalty = c.ranges.penalty in not-below _ _ (simp to_z-of_z at c.if-penalty-lt-HOLD_PENALTY.false);
-  note_bottom = c.if-not-notes_in_reach.ensures refl;
+  note_bottom = c.if-not-notes_in_reach.ensures.within refl;
   held = few-held _ _ c.held_nodes.ensures k;
 }
