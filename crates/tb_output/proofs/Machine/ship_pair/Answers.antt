@@ -1,9 +1,9 @@
-use Rattle.std.proofs.Common.{sym, subst, ◌∙◌, ap, ◌≤◌, ◌∷◌, [], FitsSigned, w64, rules}
+use Rattle.std.proofs.Common.{sym, subst, ◌∙◌, ◌≤◌, ◌∷◌, [], FitsSigned, w64, rules}
 use Rattle.std.proofs.lemmas.Int.{to_z-of_z}
 use Rattle.tb_column.specs.StoredColumns.{column_shown}
 use Rattle.tb_column.specs.declared.Sheet.TheVariants as sheets
 use Rattle.tb_output.specs.declared.RunFault.TheVariants as faults
-use Rattle.tb_output.specs.Machine.{MachineView, IsMachine}
+use Rattle.tb_output.specs.Machine.{MachineView}
 use Rattle.tb_output.specs.Pages.{ship_pair}
 use Rattle.tb_output.specs.FiringWork.{shows, IsCutShort, Does}
 use Rattle.tb_output.specs.MachineFrame.{KeepsMachine}
@@ -17,7 +17,26 @@ use Rattle.tb_output.proofs.ColumnPages.FloatMoves.{fill_double-does, floats-kee
 use Rattle.tb_output.proofs.ColumnPages.PairLemmas.{pair_shipped, failed-of, pair-does, pair-fails, pair-kept, pair-keeps}
 use Rattle.tb_output.proofs.ColumnPages.ShipLemmas.{unshipped-same}
 use Rattle.tb_output.proofs.ColumnPages.StepsInTurn.{pair-all, pair-cut}
+use Rattle.tb_output.proofs.Machine.ship_pair.Goals.{After-end_pair}
 use Rattle.tb_output.proofs.Machine.ship_pair.Goals as goal
+
+-- the page was shipped
+shipped : (c : After-end_pair) → HasShipped (sheets.Two c.in_ok-tops.tops c.pair_place-at.result c.left-left.result c.args.right) (without_doubles c.args.self.now) c.ship.new.self
+shipped c =
+    let fits : FitsSigned w64 c.pair_place-at.result = search rules in
+    subst (λ n. HasShipped (sheets.Two c.in_ok-tops.tops c.pair_place-at.result c.left-left.result c.args.right) n c.ship.new.self) c.in_ok-tops.ensures.machine (simp to_z-of_z at c.in_ok-ship.ensures.ok)
+
+-- what the pair that was shipped keeps
+kept : (c : After-end_pair) → KeepsMachine (c.args.right.list ∷ []) c.args.self.now c.end_pair.new.self c.args.store.now c.take_tops.new.store
+kept c =
+    subst (λ n. KeepsMachine (c.args.right.list ∷ []) c.args.self.now n c.args.store.now c.take_tops.new.store) (sym c.end_pair.ensures)
+    (pair-keeps c.args.self.now c.ship.new.self _ _ c.in_ok-tops.tops c.pair_place-at.result c.left-left.result c.args.right c.left-left.ensures c.pair_place-at.ensures c.in_ok-tops.ensures.tops c.in_ok-tops.ensures.opened c.requires.machine c.requires.column c.in_ok-tops.ensures.page c.requires.apart (shipped c))
+
+-- what it does
+done : (c : After-end_pair) → Does (shows c.args.self.now c.args.store.now) (shows c.end_pair.new.self c.take_tops.new.store) (pair_shipped c.args.self.now (column_shown c.args.store.now c.args.right))
+done c =
+    subst (λ n. Does (shows c.args.self.now c.args.store.now) (shows n c.take_tops.new.store) (pair_shipped c.args.self.now (column_shown c.args.store.now c.args.right))) (sym c.end_pair.ensures)
+    (pair-does c.args.self.now c.ship.new.self _ _ c.in_ok-tops.tops c.pair_place-at.result c.left-left.result c.args.right c.left-left.ensures c.pair_place-at.ensures c.in_ok-tops.ensures.tops c.in_ok-tops.ensures.opened c.requires.machine c.requires.column (shipped c))
 
 pub left-left-requires : goal.left-left-requires
 left-left-requires c = c.requires.machine.left c.requires.second
@@ -53,44 +72,26 @@ returns-in_err-ship c =
     record {
       ok = search rules;
       err = same-err c.from_residual-in_err-ship.result _ _ c.from_residual-in_err-ship.ensures.1
-          (pair-fails m c.ship.new.self store s c.in_ok-tops.tops c.pair_place-at.result c.left-left.result c.args.right c.left-left.ensures c.pair_place-at.ensures c.in_ok-tops.ensures.tops c.in_ok-tops.ensures.opened c.requires.machine c.requires.column _ (failed-of _ (without_doubles m) c.take_tops.new.self c.ship.new.self c.in_ok-tops.ensures.machine failed));
-      keeps = pair-kept m c.ship.new.self store s c.in_ok-tops.tops c.pair_place-at.result c.left-left.result c.args.right c.left-left.ensures c.pair_place-at.ensures c.in_ok-tops.ensures.tops c.in_ok-tops.ensures.opened c.requires.machine c.requires.column (unshipped-same _ c.take_tops.new.self c.ship.new.self failed ∙ c.in_ok-tops.ensures.machine);
+          (pair-fails m c.ship.new.self _ _ c.in_ok-tops.tops c.pair_place-at.result c.left-left.result c.args.right c.left-left.ensures c.pair_place-at.ensures c.in_ok-tops.ensures.tops c.in_ok-tops.ensures.opened c.requires.machine c.requires.column _ (failed-of _ (without_doubles m) c.take_tops.new.self c.ship.new.self c.in_ok-tops.ensures.machine failed));
+      keeps = pair-kept m c.ship.new.self _ _ c.in_ok-tops.tops c.pair_place-at.result c.left-left.result c.args.right c.left-left.ensures c.pair_place-at.ensures c.in_ok-tops.ensures.tops c.in_ok-tops.ensures.opened c.requires.machine c.requires.column (unshipped-same _ c.take_tops.new.self c.ship.new.self failed ∙ c.in_ok-tops.ensures.machine);
     }
 
 pub wide_pages-requires : goal.wide_pages-requires
-wide_pages-requires c =
-    let m = c.args.self.now in
-    let store = c.args.store.now in
-    let s = c.take_tops.new.store in
-    let lists = c.args.right.list ∷ [] in
-    let fits : FitsSigned w64 c.pair_place-at.result = search rules in
-    let sheet = sheets.Two c.in_ok-tops.tops c.pair_place-at.result c.left-left.result c.args.right in
-    let shipped = subst (λ n. HasShipped sheet n c.ship.new.self) c.in_ok-tops.ensures.machine (simp to_z-of_z at c.in_ok-ship.ensures.ok) in
-    let kept = pair-keeps m c.ship.new.self store s c.in_ok-tops.tops c.pair_place-at.result c.left-left.result c.args.right c.left-left.ensures c.pair_place-at.ensures c.in_ok-tops.ensures.tops c.in_ok-tops.ensures.opened c.requires.machine c.requires.column c.in_ok-tops.ensures.page c.requires.apart shipped in
-    subst (λ n. IsMachine n s) (sym c.end_pair.ensures) kept.machine
+wide_pages-requires c = (kept (goal.at.wide_pages-requires c).After-end_pair).machine
 
 -- a page of wide floats was not
 pub returns-in_err-wide_pages : goal.returns-in_err-wide_pages
 returns-in_err-wide_pages c =
     let m = c.args.self.now in
-    let store = c.args.store.now in
-    let s = c.take_tops.new.store in
-    let lists = c.args.right.list ∷ [] in
-    let fits : FitsSigned w64 c.pair_place-at.result = search rules in
-    let sheet = sheets.Two c.in_ok-tops.tops c.pair_place-at.result c.left-left.result c.args.right in
-    let shipped = subst (λ n. HasShipped sheet n c.ship.new.self) c.in_ok-tops.ensures.machine (simp to_z-of_z at c.in_ok-ship.ensures.ok) in
-    let kept = pair-keeps m c.ship.new.self store s c.in_ok-tops.tops c.pair_place-at.result c.left-left.result c.args.right c.left-left.ensures c.pair_place-at.ensures c.in_ok-tops.ensures.tops c.in_ok-tops.ensures.opened c.requires.machine c.requires.column c.in_ok-tops.ensures.page c.requires.apart shipped in
-    let right = column_shown store c.args.right in
     let one = c.end_pair.new.self in
     let two = c.wide_pages.new.self in
+    let s = c.take_tops.new.store in
     let t = c.wide_pages.new.store in
-    let params = ap (λ (n : MachineView). n.params) c.end_pair.ensures ∙ kept.fields.params in
-    let pair = subst (λ n. Does (shows m store) (shows n s) (pair_shipped m right)) (sym c.end_pair.ensures) (pair-does m c.ship.new.self store s c.in_ok-tops.tops c.pair_place-at.result c.left-left.result c.args.right c.left-left.ensures c.pair_place-at.ensures c.in_ok-tops.ensures.tops c.in_ok-tops.ensures.opened c.requires.machine c.requires.column shipped) in
-    let then = keeps-then lists [] m one two store s t (subst (λ n. KeepsMachine lists m n store s) (sym c.end_pair.ensures) kept) c.wide_pages.ensures.keeps (λ q live none. tt) in
+    let w = (goal.at.returns-in_err-wide_pages c).After-end_pair in
     record {
       ok = search rules;
-      err = same-err c.from_residual-in_err-wide_pages.result _ _ c.from_residual-in_err-wide_pages.ensures.1 (pair-cut m one two m store s t right _ params pair c.in_err-wide_pages.ensures.err);
-      keeps = then;
+      err = same-err c.from_residual-in_err-wide_pages.result _ _ c.from_residual-in_err-wide_pages.ensures.1 (pair-cut m one two m c.args.store.now s t (column_shown c.args.store.now c.args.right) _ (kept w).fields.params (done w) c.in_err-wide_pages.ensures.err);
+      keeps = keeps-then (c.args.right.list ∷ []) [] m one two c.args.store.now s t (kept w) c.wide_pages.ensures.keeps (λ q live none. tt);
     }
 
 pub fill_double-requires : goal.fill_double-requires
@@ -102,20 +103,15 @@ returns c =
     let store = c.args.store.now in
     let s = c.take_tops.new.store in
     let lists = c.args.right.list ∷ [] in
-    let fits : FitsSigned w64 c.pair_place-at.result = search rules in
-    let sheet = sheets.Two c.in_ok-tops.tops c.pair_place-at.result c.left-left.result c.args.right in
-    let shipped = subst (λ n. HasShipped sheet n c.ship.new.self) c.in_ok-tops.ensures.machine (simp to_z-of_z at c.in_ok-ship.ensures.ok) in
-    let kept = pair-keeps m c.ship.new.self store s c.in_ok-tops.tops c.pair_place-at.result c.left-left.result c.args.right c.left-left.ensures c.pair_place-at.ensures c.in_ok-tops.ensures.tops c.in_ok-tops.ensures.opened c.requires.machine c.requires.column c.in_ok-tops.ensures.page c.requires.apart shipped in
-    let right = column_shown store c.args.right in
     let one = c.end_pair.new.self in
     let two = c.wide_pages.new.self in
-    let t = c.wide_pages.new.store in
-    let params = ap (λ (n : MachineView). n.params) c.end_pair.ensures ∙ kept.fields.params in
-    let pair = subst (λ n. Does (shows m store) (shows n s) (pair_shipped m right)) (sym c.end_pair.ensures) (pair-does m c.ship.new.self store s c.in_ok-tops.tops c.pair_place-at.result c.left-left.result c.args.right c.left-left.ensures c.pair_place-at.ensures c.in_ok-tops.ensures.tops c.in_ok-tops.ensures.opened c.requires.machine c.requires.column shipped) in
-    let then = keeps-then lists [] m one two store s t (subst (λ n. KeepsMachine lists m n store s) (sym c.end_pair.ensures) kept) c.wide_pages.ensures.keeps (λ q live none. tt) in
     let three = c.fill_double.new.self in
+    let t = c.wide_pages.new.store in
+    let w = (goal.at.returns c).After-end_pair in
+    let params = (kept w).fields.params in
+    let then = keeps-then lists [] m one two store s t (kept w) c.wide_pages.ensures.keeps (λ q live none. tt) in
     record {
-      ok = pair-all m one two three store s t right params (c.wide_pages.ensures.keeps.fields.params ∙ params) pair c.in_ok-wide_pages.ensures.ok (fill_double-does two three t c.fill_double.ensures);
+      ok = pair-all m one two three store s t (column_shown store c.args.right) params (c.wide_pages.ensures.keeps.fields.params ∙ params) (done w) c.in_ok-wide_pages.ensures.ok (fill_double-does two three t c.fill_double.ensures);
       err = tt;
       keeps = keeps-then lists [] m two three store t t then (floats-keep (doubled_lists two) two three t c.fill_double.ensures c.wide_pages.ensures.keeps.machine) (λ q live none. tt);
     }
