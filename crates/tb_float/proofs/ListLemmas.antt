@@ -5,8 +5,6 @@ use Rattle.std.proofs.Math.ListN.{drop_of_length-le}
 use Rattle.std.proofs.lemmas.List.{map-append, append_assoc, length-append, length-drop, length-map, length-take-le}
 use Rattle.std.proofs.lemmas.Bool.{true≢false}
 use Rattle.std.proofs.lemmas.Option.{same_Some}
-use Rattle.std.specs.Borrow.{Bor}
-use Rattle.std.specs.Iterator.{YieldsFirstRef}
 use Rattle.tb_float.specs.Lists.{without_place}
 
 module _ {X : Type 0} where
@@ -89,26 +87,6 @@ module _ {X : Type 0} where
   pub turned-length : (f : X → X) (k : ℕ) (xs ys : List X) → ys ≡ drop k xs ++ map f (take k xs) → k ≤ length xs → length ys ≡ length xs
   turned-length f k xs ys is le =
       omega (arith, ap length is, length-append (drop k xs) (map f (take k xs)), length-drop k xs, length-map (take k xs) f, length-take-le k xs le)
-
--- ---- the elements from a place on, and those from the next
-
-module _ {X : Type 0} where
-  dropped-next : (k : ℕ) (xs zs : List X) (x : X) → drop k xs ≡ x ∷ zs → drop (suc k) xs ≡ zs
-  dropped-next zero [] zs x is = cc
-  dropped-next (suc k) [] zs x is = cc
-  dropped-next zero (y ∷ xs) zs x is = cc
-  dropped-next (suc k) (y ∷ xs) zs x is = dropped-next k xs zs x is
-
-  dropped-all : (k : ℕ) (xs : List X) → drop k xs ≡ [] → drop (suc k) xs ≡ []
-  dropped-all zero [] is = refl
-  dropped-all (suc k) [] is = refl
-  dropped-all zero (y ∷ xs) is = cc
-  dropped-all (suc k) (y ∷ xs) is = dropped-all k xs is
-
-  -- an iterator over those from a place on, after a step
-  pub next-dropped : (xs : List X) (k : ℕ) (ys zs : List X) (r : Option (Bor X)) → ys ≡ drop k xs → YieldsFirstRef (λ rest. rest) ys r zs → zs ≡ drop (suc k) xs
-  next-dropped xs k ys zs None at none = none.1 ∙ sym (dropped-all k xs (sym at ∙ none.0))
-  next-dropped xs k ys zs (Some x) at next = sym (dropped-next k xs zs x.now (sym at ∙ next))
 
 -- ---- a list before a place, the element there, and the others
 

@@ -31,6 +31,7 @@ fn moves_values_between_lists(rt: HostRuntime) -> Result<(), Fail> {
         sum = sum.wrapping_mul(10).wrapping_add(*v);
     }
     assert_eq!(rt; sum, 45);
+    assert_eq!(rt; lists.iter_from(b, 1).next().copied(), Some(5));
     assert_eq!(rt; lists.pop_back(b), Some(5));
     assert_eq!(rt; lists.pop_back(b), Some(4));
     assert_eq!(rt; lists.pop_back(b), None);
