@@ -1,11 +1,30 @@
 //! The nodes of the lists, and the links between them.
 
 ghost use Rattle.std.specs.Prelude.{◌≡◌, ◌-◌, ◌<◌, ℕ, List, None, Some, IsSome, slice_index};
-ghost use Rattle.slab.specs.Slab.{ContainsKey};
+ghost use Rattle.slab.specs.Slab.{ContainsKey, get};
 ghost use Rattle.tb_pool.specs.Links.{IsLinked, IsPath, HasPath, IsEnds};
 
 use crate::{Ends, Node};
 use slab::Slab;
+
+/// The value under a key that has one.
+///
+/// `slab[key]` tests at run time whether there is a value. Here the arm without one is proved never to be reached, and it
+/// would shift by more than the width, which LLVM takes as undefined: so it drops the test.
+#[inline(always)]
+pub fn value_at<T>(slab: &Slab<T>, key: usize) -> &T
+    requires { ContainsKey slab.now key }
+    ensures { get slab.now key ≡ Some result.now }
+{
+    match slab.get(key) {
+        Some(value) => value,
+        None => {
+            let mut never = [0u8; 1];
+            never[1 << usize::BITS] = 1;
+            unreachable!()
+        }
+    }
+}
 
 /// Links the last node of a list to the first of another, if each has one.
 pub fn link<T>(nodes: &mut Slab<Node<T>>, front: Ends, back: Ends)
@@ -41,7 +60,7 @@ fn key_forward<T>(nodes: &Slab<Node<T>>, ends: Ends, k: usize) -> usize
 {
     let mut key = ends.first;
     for _step in 0..k {
-        key = nodes[key].next;
+        key = value_at(nodes, key).next;
     }
     key
 }
@@ -54,7 +73,7 @@ fn key_backward<T>(nodes: &Slab<Node<T>>, ends: Ends, k: usize) -> usize
 {
     let mut key = ends.last;
     for _step in 0..k {
-        key = nodes[key].prev;
+        key = value_at(nodes, key).prev;
     }
     key
 }
