@@ -1,6 +1,6 @@
 -- Clears, in reading order.
 pub mod NotedSteps
 pub mod JoinLemmas
-pub mod SideLemmas
+pub mod CompanyHeads
 pub mod CompanyLemmas
 pub mod ClearSteps

@@ -8,6 +8,5 @@ pub mod FloatPages
 pub mod FloatTurns
 pub mod FloatMoves
 pub mod FillLemmas
-pub mod SparedLists
 pub mod StepsInTurn
 pub mod TakingText

@@ -5,4 +5,5 @@ pub mod PushLemmas
 pub mod BackLemmas
 pub mod ListSteps
 pub mod MarginSteps
+pub mod CurrentFirst
 pub mod TextSteps

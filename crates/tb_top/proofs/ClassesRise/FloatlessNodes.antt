@@ -7,8 +7,8 @@ use Rattle.tb_node.specs.PlainNodes.{Matter, hbox, rule, skip, kerned, pen, mark
 use Rattle.tb_node.proofs.Weights.{Weight, matter_weight, leaves_weight, kind_weight, nodes_weight}
 use Rattle.tb_column.specs.declared.Warn.{Warn}
 use Rattle.tb_column.specs.Column.{PlainColumn, PlainSent, warned, shipped}
-use Rattle.tb_output.proofs.NothingLost.StateWeights.{left_weight}
-use Rattle.tb_output.proofs.ClassesRise.ClassLines.{FloatKind, kind_lines, class_lines, sheet_lines, sent_lines}
+use Rattle.tb_laws.proofs.NothingLost.StateWeights.{left_weight}
+use Rattle.tb_laws.proofs.ClassesRise.ClassLines.{FloatKind, kind_lines, class_lines, sheet_lines, sent_lines}
 use Rattle.tb_run.specs.Run.{RunEvent, offered, sent}
 use Rattle.tb_top.proofs.NothingLost.RunWeights.{ActFits, ActsFit}
 

@@ -23,13 +23,13 @@ use Rattle.tb_float.specs.Lists.{no_floats}
 use Rattle.tb_output.specs.State.{first_state, void_boxes}
 use Rattle.tb_insert.specs.declared.Class.{Class}
 use Rattle.tb_run.specs.Run.{classes_of}
-use Rattle.tb_output.proofs.ClassesRise.RisingLists.{all-among, all-at, IsAmong, among-back, MayPrecede, Rises}
-use Rattle.tb_output.proofs.ClassesRise.ClassLines.{FloatKind, Side, alike, narrow, wider, PartedBy, is_of, line_if, class_lines, float_lines, lines-append, floats-append, AreFloatless}
-use Rattle.tb_output.proofs.ClassesRise.RecordLines.{IsCarried}
-use Rattle.tb_output.proofs.ClassesRise.FloatlessFeet.{HoldsFloatless, HoldFloatless, BoxesFloatless}
-use Rattle.tb_output.proofs.ClassesRise.PageLines.{deeds, deeds-append, take_lines, takes-append, early-none}
-use Rattle.tb_output.proofs.ClassesRise.ClassOrder.{kind-class, AreInText}
-use Rattle.tb_output.proofs.ClassesRise.OutOrder.{IsOnSide, Suits, InOrder}
+use Rattle.tb_laws.proofs.ClassesRise.RisingLists.{all-among, all-at, IsAmong, among-back, MayPrecede, Rises}
+use Rattle.tb_laws.proofs.ClassesRise.ClassLines.{FloatKind, Side, alike, narrow, wider, PartedBy, is_of, line_if, class_lines, float_lines, lines-append, floats-append, AreFloatless}
+use Rattle.tb_laws.proofs.ClassesRise.RecordLines.{IsCarried}
+use Rattle.tb_laws.proofs.ClassesRise.FloatlessFeet.{HoldsFloatless, HoldFloatless, BoxesFloatless}
+use Rattle.tb_laws.proofs.ClassesRise.PageLines.{deeds, deeds-append, take_lines, takes-append, early-none}
+use Rattle.tb_laws.proofs.ClassesRise.ClassOrder.{kind-class, AreInText}
+use Rattle.tb_laws.proofs.ClassesRise.OutOrder.{IsOnSide, Suits, InOrder}
 use Rattle.tb_top.specs.Laws.{float_of, as_taken, taken_floats, galley_floats}
 use Rattle.tb_top.proofs.ClassesRise.NamedLines.{rise-first, rise-behind}
 

@@ -9,9 +9,9 @@ use Rattle.tb_node.specs.declared.Where.TheVariants as places
 use Rattle.tb_node.specs.PlainNodes.{hbox, rule, skip, kerned, pen, mark, note, whatsit, PlainKind, plain, ins, act, PlainNode}
 use Rattle.tb_column.specs.Column.{PlainColumn}
 use Rattle.tb_output.specs.State.{Recorded, placed, output, emptied}
-use Rattle.tb_output.proofs.ClassesRise.RisingLists.{all-at, IsAmong, among-back, MayPrecede, Rises}
-use Rattle.tb_output.proofs.ClassesRise.ClassLines.{FloatKind, Side, is_of, line_if, kind_lines, class_lines}
-use Rattle.tb_output.proofs.ClassesRise.RecordLines.{IsPlacing, HasOutput, IsLate}
+use Rattle.tb_laws.proofs.ClassesRise.RisingLists.{all-at, IsAmong, among-back, MayPrecede, Rises}
+use Rattle.tb_laws.proofs.ClassesRise.ClassLines.{FloatKind, Side, is_of, line_if, kind_lines, class_lines}
+use Rattle.tb_laws.proofs.ClassesRise.RecordLines.{IsPlacing, HasOutput, IsLate}
 use Rattle.tb_top.specs.Laws.{float_lines_of, node_lines, is_in, holds_float, is_past, is_here, is_carried_from, comes_before}
 use Rattle.tb_top.proofs.ClassesRise.GalleyLines.{of_kind, own-line}
 

@@ -16,15 +16,15 @@ use Rattle.tb_galley.specs.GalleyNodes.{two_after, expanded}
 use Rattle.tb_galley.specs.Valid.{IsValid}
 use Rattle.tb_column.specs.Column.{PlainColumn, PlainSheet, one, wide, two, warned, shipped}
 use Rattle.tb_output.specs.State.{State, Recorded, placed, output, emptied, first_state}
-use Rattle.tb_output.proofs.ClassesRise.RisingLists.{among-back, all-among, all-at, IsAmong, IsMissing, rises-known}
-use Rattle.tb_output.proofs.ClassesRise.ClassLines.{FloatKind, Side, alike, narrow, wider, is_new, is_of, line_if, IsReleased, class_lines, float_lines, sheet_lines, lines-append}
-use Rattle.tb_output.proofs.ClassesRise.RecordLines.{record_lines, records-append, IsCarried}
+use Rattle.tb_laws.proofs.ClassesRise.RisingLists.{among-back, all-among, all-at, IsAmong, IsMissing, rises-known}
+use Rattle.tb_laws.proofs.ClassesRise.ClassLines.{FloatKind, Side, alike, narrow, wider, is_new, is_of, line_if, IsReleased, class_lines, float_lines, sheet_lines, lines-append}
+use Rattle.tb_laws.proofs.ClassesRise.RecordLines.{record_lines, records-append, IsCarried}
 use Rattle.tb_report.specs.RunTotals.{sheet_nodes}
 use Rattle.tb_run.specs.Run.{Run, RunEvent, offered, sent, node_limit, held_count, run_from, firings_left, classes_of, run_of}
 use Rattle.tb_top.specs.Laws.{is_in, float_of, as_taken, taken_floats, same_kind, galley_floats, float_lines as all_lines, shipped_nodes, float_lines_of, node_lines, shipped_floats, holds_float, is_past, is_carried_from, is_carried, comes_before, IsFirstOf, KeepsClassOrder, IsEmptied, EndsDone}
 use Rattle.tb_top.proofs.NothingLost.StartLemmas.{start-kept}
-use Rattle.tb_output.proofs.ClassesRise.PageLines.{deeds}
-use Rattle.tb_output.proofs.ClassesRise.OutOrder.{IsOnSide, Suits}
+use Rattle.tb_laws.proofs.ClassesRise.PageLines.{deeds}
+use Rattle.tb_laws.proofs.ClassesRise.OutOrder.{IsOnSide, Suits}
 use Rattle.tb_top.proofs.NothingLost.ClosingStarts.{start-closing}
 use Rattle.tb_top.proofs.NothingLost.ShippedRuns.{lists-emptied}
 use Rattle.tb_top.proofs.OnceEach.ShippedOnce.{ships-once}

@@ -25,25 +25,25 @@ use Rattle.tb_output.specs.State.{State, Work, Recorded, emptied, ask_of}
 use Rattle.tb_output.specs.Act.{Acted, went, full, act_on, lists_with_taken, taken_float}
 use Rattle.tb_output.specs.Output
 use Rattle.tb_output.specs.Output.{out}
-use Rattle.tb_output.proofs.NothingLost.StateWeights.{ColumnsFit, class_numbers}
-use Rattle.tb_output.proofs.NothingLost.WorkWeights.{Careful}
-use Rattle.tb_output.proofs.StepLaws.BreakSorts.{at-clear}
-use Rattle.tb_output.proofs.Closed.SortLemmas.{Seen, BreakStands, PageStands, pen_sort, page-careful}
-use Rattle.tb_output.proofs.ClassesRise.RisingLists.{IsAmong, IsMissing, IsAbove, Rises, rises-front, rises-more, rises-without}
-use Rattle.tb_output.proofs.ClassesRise.ClassLines.{FloatKind, Side, alike, narrow, wider, waits, PartedBy, Parted, IsReleased, is_new, is_of, line_if, class_lines, float_lines, left_lines, sent_lines, floats-append}
-use Rattle.tb_output.proofs.ClassesRise.RecordLines.{record_lines, placed-more, IsLate, late-more, IsCarried, carried-more}
-use Rattle.tb_output.proofs.StepLaws.QuietLemmas.{AreQuiet, quiet-lines}
-use Rattle.tb_output.proofs.ClassesRise.FloatlessFeet.{BoxesFloatless}
-use Rattle.tb_output.proofs.ClassesRise.PageLines.{deeds, act_lines, acts_lines, take_lines}
-use Rattle.tb_output.proofs.ClassesRise.FiringLines.{all-done, FiredLines, fired-lines, all-taken}
-use Rattle.tb_output.proofs.ClassesRise.SpreadLemmas.{IsBehind, later_lines, IsUnseen, unseen-quiet}
-use Rattle.tb_output.proofs.ClassesRise.ClassOrder.{with-second, IsInText, AreInText, ahead_lines, order_lines, Order}
-use Rattle.tb_output.proofs.ClassesRise.TakenOrder.{first-of}
-use Rattle.tb_output.proofs.ClassesRise.FiringOrder.{AreLight}
-use Rattle.tb_output.proofs.Closed.ClosingStates.{Closing}
+use Rattle.tb_laws.proofs.NothingLost.StateWeights.{ColumnsFit, class_numbers}
+use Rattle.tb_laws.proofs.NothingLost.WorkWeights.{Careful}
+use Rattle.tb_laws.proofs.StepLaws.BreakSorts.{at-clear}
+use Rattle.tb_laws.proofs.Closed.SortLemmas.{Seen, BreakStands, PageStands, pen_sort, page-careful}
+use Rattle.tb_laws.proofs.ClassesRise.RisingLists.{IsAmong, IsMissing, IsAbove, Rises, rises-front, rises-more, rises-without}
+use Rattle.tb_laws.proofs.ClassesRise.ClassLines.{FloatKind, Side, alike, narrow, wider, waits, PartedBy, Parted, IsReleased, is_new, is_of, line_if, class_lines, float_lines, left_lines, sent_lines, floats-append}
+use Rattle.tb_laws.proofs.ClassesRise.RecordLines.{record_lines, placed-more, IsLate, late-more, IsCarried, carried-more}
+use Rattle.tb_laws.proofs.StepLaws.QuietLemmas.{AreQuiet, quiet-lines}
+use Rattle.tb_laws.proofs.ClassesRise.FloatlessFeet.{BoxesFloatless}
+use Rattle.tb_laws.proofs.ClassesRise.PageLines.{deeds, act_lines, acts_lines, take_lines}
+use Rattle.tb_laws.proofs.ClassesRise.FiringLines.{all-done, FiredLines, fired-lines, all-taken}
+use Rattle.tb_laws.proofs.ClassesRise.SpreadLemmas.{IsBehind, later_lines, IsUnseen, unseen-quiet}
+use Rattle.tb_laws.proofs.ClassesRise.ClassOrder.{with-second, IsInText, AreInText, ahead_lines, order_lines, Order}
+use Rattle.tb_laws.proofs.ClassesRise.TakenOrder.{first-of}
+use Rattle.tb_laws.proofs.ClassesRise.FiringOrder.{AreLight}
+use Rattle.tb_laws.proofs.Closed.ClosingStates.{Closing}
 use Rattle.tb_top.proofs.NothingLost.ClosingRuns.{progressed, acts-after, fired_closes, StepCloses, step-closes}
 use Rattle.tb_node.specs.declared.Float.{Float}
-use Rattle.tb_output.proofs.ClassesRise.OutOrder.{IsOnSide, Suits, InOrder, FiresInOrder, out-order}
+use Rattle.tb_laws.proofs.ClassesRise.OutOrder.{IsOnSide, Suits, InOrder, FiresInOrder, out-order}
 use Rattle.tb_run.specs.Run.{Run, sent, done, dead_cycles, page_limit, node_limit, Progress, progress_by, progress, Step, ends, goes_on, held_count, after_firing, fire, after_progress, step, run_by, run_from}
 use Rattle.tb_top.specs.Laws.{IsEmptied, EndsDone}
 use Rattle.tb_top.proofs.NothingLost.RunWeights.{After, progress-adds, Kept, page_of, cut, cut_feet, cut_stands, StepWeighs, step-weighs}

@@ -17,11 +17,11 @@ use Rattle.tb_builder.proofs.Cutting.CutLemmas.{acted_of}
 use Rattle.tb_output.specs.State.{State, Recorded}
 use Rattle.tb_output.specs.Act.{went, full}
 use Rattle.tb_scaled.specs.Scaled.{eject_penalty}
-use Rattle.tb_output.proofs.DeadCycles.ServeOutcomes.{way_floats}
-use Rattle.tb_output.proofs.DeadCycles.CycleStates.{Bounded}
-use Rattle.tb_output.proofs.DeadCycles.HighStates.{BoundedHigh}
-use Rattle.tb_output.proofs.Closed.ClosingPages.{ActsClose}
-use Rattle.tb_output.proofs.Closed.ClosingStates.{Closing}
+use Rattle.tb_laws.proofs.DeadCycles.ServeOutcomes.{way_floats}
+use Rattle.tb_laws.proofs.DeadCycles.CycleStates.{Bounded}
+use Rattle.tb_laws.proofs.DeadCycles.HighStates.{BoundedHigh}
+use Rattle.tb_laws.proofs.Closed.ClosingPages.{ActsClose}
+use Rattle.tb_laws.proofs.Closed.ClosingStates.{Closing}
 use Rattle.tb_run.specs.Run.{Step, ends, goes_on, done, pool_full, dead_cycles, page_limit, node_limit, step, run_of}
 use Rattle.tb_top.specs.DeadCycles.{HasRoomForCycles, IsNotCycles, DeadCyclesAreFew}
 use Rattle.tb_top.proofs.DeadCycles.ValidPenalties.{interline-calm}

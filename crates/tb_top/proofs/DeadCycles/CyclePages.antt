@@ -19,16 +19,16 @@ use Rattle.tb_output.specs.State.{State, ask_of, notes_in, footnotes, has_floats
 use Rattle.tb_output.specs.Text
 use Rattle.tb_output.specs.Clear
 use Rattle.tb_output.specs.Output
-use Rattle.tb_output.proofs.NothingLost.StateWeights.{BoxesFit, class_numbers}
-use Rattle.tb_output.proofs.Closed.Sorts.{Sort, odd, pen_sort, sorts, sorts-calm, none, seen_all}
-use Rattle.tb_output.proofs.Closed.SortLemmas.{sorts-append, take-drop, BreakStands, PageStands, cut-stands, pruned-stands}
-use Rattle.tb_output.proofs.Closed.PlaceLemmas.{body-steady}
-use Rattle.tb_output.proofs.DeadCycles.AgainLemmas.{Again, BreakAgain, again-pruned, again-behind, no-acts, acts-again, break-again}
-use Rattle.tb_output.proofs.DeadCycles.WaitCosts.{AllInserted, all-inserted, sort_cost, wait_cost, acts_cost, cost-append, steady-free, page-cost}
-use Rattle.tb_output.proofs.DeadCycles.EndedLemmas.{Ended, flat_last, ended-pruned, ended-acts, ended-behind, ended-spent}
-use Rattle.tb_output.proofs.Closed.ClearPages.{OneFlat, one-flat, clear-ended, FrontFits, front-fits}
-use Rattle.tb_output.proofs.DeadCycles.CycleStates.{Kind, any, doubled, once, topped, ready, halted, clean, single, closed, Holds, Phase, starting, second, ending, PhaseHolds}
-use Rattle.tb_output.proofs.DeadCycles.CycleBreaks.{clear-sort, FiresWell}
+use Rattle.tb_laws.proofs.NothingLost.StateWeights.{BoxesFit, class_numbers}
+use Rattle.tb_laws.proofs.Closed.Sorts.{Sort, odd, pen_sort, sorts, sorts-calm, none, seen_all}
+use Rattle.tb_laws.proofs.Closed.SortLemmas.{sorts-append, take-drop, BreakStands, PageStands, cut-stands, pruned-stands}
+use Rattle.tb_laws.proofs.Closed.PlaceLemmas.{body-steady}
+use Rattle.tb_laws.proofs.DeadCycles.AgainLemmas.{Again, BreakAgain, again-pruned, again-behind, no-acts, acts-again, break-again}
+use Rattle.tb_laws.proofs.DeadCycles.WaitCosts.{AllInserted, all-inserted, sort_cost, wait_cost, acts_cost, cost-append, steady-free, page-cost}
+use Rattle.tb_laws.proofs.DeadCycles.EndedLemmas.{Ended, flat_last, ended-pruned, ended-acts, ended-behind, ended-spent}
+use Rattle.tb_laws.proofs.Closed.ClearPages.{OneFlat, one-flat, clear-ended, FrontFits, front-fits}
+use Rattle.tb_laws.proofs.DeadCycles.CycleStates.{Kind, any, doubled, once, topped, ready, halted, clean, single, closed, Holds, Phase, starting, second, ending, PhaseHolds}
+use Rattle.tb_laws.proofs.DeadCycles.CycleBreaks.{clear-sort, FiresWell}
 use Rattle.tb_top.proofs.NothingLost.RunWeights.{Kept, page_of}
 use Rattle.tb_top.proofs.NothingLost.ClosingRuns.{void-given}
 

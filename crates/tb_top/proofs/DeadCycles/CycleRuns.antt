@@ -15,10 +15,10 @@ use Rattle.tb_column.specs.Column.{PlainColumn}
 use Rattle.tb_output.specs.State.{State, emptied, ask_of, Work}
 use Rattle.tb_output.specs.Act.{Acted, went, full, act_on}
 use Rattle.tb_output.specs.Output.{out}
-use Rattle.tb_output.proofs.NothingLost.StateWeights.{left_weight}
-use Rattle.tb_output.proofs.DeadCycles.WaitCosts.{act_cost, acts_cost}
-use Rattle.tb_output.proofs.DeadCycles.EndedLemmas.{Ended}
-use Rattle.tb_output.proofs.DeadCycles.ActCosts.{EmptyAt, Acts, no-acts, acts-then, ActActs, act-acts}
+use Rattle.tb_laws.proofs.NothingLost.StateWeights.{left_weight}
+use Rattle.tb_laws.proofs.DeadCycles.WaitCosts.{act_cost, acts_cost}
+use Rattle.tb_laws.proofs.DeadCycles.EndedLemmas.{Ended}
+use Rattle.tb_laws.proofs.DeadCycles.ActCosts.{EmptyAt, Acts, no-acts, acts-then, ActActs, act-acts}
 use Rattle.tb_run.specs.Run.{Run, sent, End, done, pool_full, dead_cycles, page_limit, node_limit, Progress, progress_by, progress, Step, ends, goes_on, held_count, after_firing, fire, after_progress, step, run_by, run_from}
 use Rattle.tb_top.proofs.NothingLost.RunWeights.{Kept, page_of, StepWeighs, step-weighs, ActFits, ActsFit}
 

@@ -14,16 +14,16 @@ use Rattle.tb_galley.specs.declared.ItemKind.TheVariants as items
 use Rattle.tb_galley.specs.declared.Galley.{Galley}
 use Rattle.tb_galley.specs.GalleyNodes.{with_firings, item_kinds, two_after, item_nodes, expanded}
 use Rattle.tb_output.specs.State.{State, first_state}
-use Rattle.tb_output.proofs.NothingLost.StateWeights.{class_numbers}
-use Rattle.tb_output.proofs.Closed.Sorts.{pen_sort}
-use Rattle.tb_output.proofs.DeadCycles.WaitCosts.{sort_cost, wait_cost, cost-append}
-use Rattle.tb_output.proofs.DeadCycles.EndedLemmas.{Ended, ended-both, free-ended}
+use Rattle.tb_laws.proofs.NothingLost.StateWeights.{class_numbers}
+use Rattle.tb_laws.proofs.Closed.Sorts.{pen_sort}
+use Rattle.tb_laws.proofs.DeadCycles.WaitCosts.{sort_cost, wait_cost, cost-append}
+use Rattle.tb_laws.proofs.DeadCycles.EndedLemmas.{Ended, ended-both, free-ended}
 use Rattle.tb_float.specs.Lists.{wide_part}
-use Rattle.tb_output.proofs.Clears.SideLemmas.{no-sides}
-use Rattle.tb_output.proofs.DeadCycles.CycleStates.{closed, starting, FloatsFit, Bounded}
+use Rattle.tb_laws.proofs.StepLaws.SideLemmas.{no-sides}
+use Rattle.tb_laws.proofs.DeadCycles.CycleStates.{closed, starting, FloatsFit, Bounded}
 use Rattle.tb_run.specs.Run.{End, done, pool_full, dead_cycles, page_limit, node_limit, run_from, run_of, firings_left, held_count, step, classes_of}
-use Rattle.tb_output.proofs.DeadCycles.SpacedLemmas.{Spaced, spaced-any, spaced-both, free-alone}
-use Rattle.tb_output.proofs.DeadCycles.HighStates.{cleared, BoundedHigh}
+use Rattle.tb_laws.proofs.DeadCycles.SpacedLemmas.{Spaced, spaced-any, spaced-both, free-alone}
+use Rattle.tb_laws.proofs.DeadCycles.HighStates.{cleared, BoundedHigh}
 use Rattle.tb_top.specs.Firings.{HasReason}
 use Rattle.tb_top.specs.DeadCycles.{is_cycling, cycling_items, HasRoomForCycles, IsNotCycles}
 use Rattle.tb_top.proofs.Written.FuelLemmas.{run-reason}
@@ -31,7 +31,7 @@ use Rattle.tb_top.proofs.NothingLost.StartLemmas.{ItemFits, ItemsFit, NumbersDif
 use Rattle.tb_top.proofs.NothingLost.RunWeights.{page_of, Kept}
 use Rattle.tb_top.proofs.DeadCycles.CycleRuns.{ChangesEmpty, Cycled, StepStays, RunCycles, run-cycles, Goes}
 use Rattle.tb_builder.proofs.Cutting.CutLemmas.{acted_of}
-use Rattle.tb_output.proofs.StepLaws.BreakSorts.{at-ordinary}
+use Rattle.tb_laws.proofs.StepLaws.BreakSorts.{at-ordinary}
 
 -- ---- what the items cost
 

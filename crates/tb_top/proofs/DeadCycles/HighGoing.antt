@@ -8,15 +8,15 @@ use Rattle.tb_builder.specs.FiredPages.{Fired, frozen_for}
 use Rattle.tb_builder.proofs.Cutting.CutLemmas.{acted_of}
 use Rattle.tb_output.specs.State.{State, ask_of, footnotes}
 use Rattle.tb_output.specs.Output
-use Rattle.tb_output.proofs.Closed.Sorts.{pen_sort, sorts}
-use Rattle.tb_output.proofs.DeadCycles.AgainLemmas.{Again}
-use Rattle.tb_output.proofs.DeadCycles.WaitCosts.{sort_cost, wait_cost, acts_cost}
-use Rattle.tb_output.proofs.DeadCycles.EndedLemmas.{Ended}
-use Rattle.tb_output.proofs.DeadCycles.ServeOutcomes.{way_floats}
-use Rattle.tb_output.proofs.DeadCycles.ActCosts.{Acts, again-cost}
-use Rattle.tb_output.proofs.DeadCycles.CycleStates.{ending, IsSecond, any}
-use Rattle.tb_output.proofs.DeadCycles.HighStates.{Stage, loose, guarded, cleared, right, last, stage_cost, StageHolds, phase_of, phase-holds, BoundedHigh}
-use Rattle.tb_output.proofs.DeadCycles.HighFirings.{FiresHigh, out-high, high-ended}
+use Rattle.tb_laws.proofs.Closed.Sorts.{pen_sort, sorts}
+use Rattle.tb_laws.proofs.DeadCycles.AgainLemmas.{Again}
+use Rattle.tb_laws.proofs.DeadCycles.WaitCosts.{sort_cost, wait_cost, acts_cost}
+use Rattle.tb_laws.proofs.DeadCycles.EndedLemmas.{Ended}
+use Rattle.tb_laws.proofs.DeadCycles.ServeOutcomes.{way_floats}
+use Rattle.tb_laws.proofs.DeadCycles.ActCosts.{Acts, again-cost}
+use Rattle.tb_laws.proofs.DeadCycles.CycleStates.{ending, IsSecond, any}
+use Rattle.tb_laws.proofs.DeadCycles.HighStates.{Stage, loose, guarded, cleared, right, last, stage_cost, StageHolds, phase_of, phase-holds, BoundedHigh}
+use Rattle.tb_laws.proofs.DeadCycles.HighFirings.{FiresHigh, out-high, high-ended}
 use Rattle.tb_top.proofs.NothingLost.RunWeights.{Kept, page_of}
 use Rattle.tb_top.proofs.DeadCycles.CyclePages.{rest-ended, none-reached, reached-cost, any-well, phase-well}
 use Rattle.tb_top.proofs.DeadCycles.HighPages.{rest-spaced, behind-spaced, no-clear}

@@ -15,12 +15,12 @@ use Rattle.tb_builder.proofs.ForLaws.FittingFired.{flat_box, break_at}
 use Rattle.tb_builder.proofs.ForLaws.GuardedPages.{HasFirst, TopShape, pruned-shape, high-breaks}
 use Rattle.tb_output.specs.State.{State, ask_of, footnotes}
 use Rattle.tb_output.specs.Output
-use Rattle.tb_output.proofs.Closed.Sorts.{sorts}
-use Rattle.tb_output.proofs.Closed.SortLemmas.{take-drop}
-use Rattle.tb_output.proofs.DeadCycles.AgainLemmas.{Again}
-use Rattle.tb_output.proofs.DeadCycles.EndedLemmas.{Ended}
-use Rattle.tb_output.proofs.DeadCycles.SpacedLemmas.{Spaced, spaced-pruned, spaced-acts, spaced-behind, spaced-spent, spaced-clear}
-use Rattle.tb_output.proofs.Closed.ClearPages.{OneFlat}
+use Rattle.tb_laws.proofs.Closed.Sorts.{sorts}
+use Rattle.tb_laws.proofs.Closed.SortLemmas.{take-drop}
+use Rattle.tb_laws.proofs.DeadCycles.AgainLemmas.{Again}
+use Rattle.tb_laws.proofs.DeadCycles.EndedLemmas.{Ended}
+use Rattle.tb_laws.proofs.DeadCycles.SpacedLemmas.{Spaced, spaced-pruned, spaced-acts, spaced-behind, spaced-spent, spaced-clear}
+use Rattle.tb_laws.proofs.Closed.ClearPages.{OneFlat}
 use Rattle.tb_top.proofs.NothingLost.RunWeights.{Kept}
 use Rattle.tb_top.proofs.DeadCycles.CyclePages.{w, k, cut, none-reached, limit-deep, page, none-there, flat}
 

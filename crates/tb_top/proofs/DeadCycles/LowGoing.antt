@@ -7,15 +7,15 @@ use Rattle.tb_builder.specs.FiredPages.{Fired, frozen_for}
 use Rattle.tb_builder.proofs.Cutting.CutLemmas.{acted_of}
 use Rattle.tb_output.specs.State.{State, ask_of}
 use Rattle.tb_output.specs.Output.{out}
-use Rattle.tb_output.proofs.Closed.Sorts.{pen_sort, sorts}
-use Rattle.tb_output.proofs.DeadCycles.AgainLemmas.{Again}
-use Rattle.tb_output.proofs.DeadCycles.WaitCosts.{sort_cost, wait_cost, acts_cost}
-use Rattle.tb_output.proofs.DeadCycles.EndedLemmas.{Ended}
-use Rattle.tb_output.proofs.DeadCycles.ServeOutcomes.{way_floats}
-use Rattle.tb_output.proofs.DeadCycles.CycleStates.{closed, credit, Phase, starting, second, ending, phase_cost, PhaseHolds, Bounded, IsSecond}
-use Rattle.tb_output.proofs.DeadCycles.CycleVoids.{out-bounded}
-use Rattle.tb_output.proofs.DeadCycles.CycleEnds.{out-ended}
-use Rattle.tb_output.proofs.DeadCycles.ActCosts.{Acts, again-cost}
+use Rattle.tb_laws.proofs.Closed.Sorts.{pen_sort, sorts}
+use Rattle.tb_laws.proofs.DeadCycles.AgainLemmas.{Again}
+use Rattle.tb_laws.proofs.DeadCycles.WaitCosts.{sort_cost, wait_cost, acts_cost}
+use Rattle.tb_laws.proofs.DeadCycles.EndedLemmas.{Ended}
+use Rattle.tb_laws.proofs.DeadCycles.ServeOutcomes.{way_floats}
+use Rattle.tb_laws.proofs.DeadCycles.CycleStates.{closed, credit, Phase, starting, second, ending, phase_cost, PhaseHolds, Bounded, IsSecond}
+use Rattle.tb_laws.proofs.DeadCycles.CycleVoids.{out-bounded}
+use Rattle.tb_laws.proofs.DeadCycles.CycleEnds.{out-ended}
+use Rattle.tb_laws.proofs.DeadCycles.ActCosts.{Acts, again-cost}
 use Rattle.tb_top.proofs.NothingLost.RunWeights.{Kept, page_of}
 use Rattle.tb_top.proofs.DeadCycles.CyclePages.{rest-ended, none-reached, reached-cost, closed-well, open-well}
 use Rattle.tb_top.proofs.DeadCycles.CycleRuns.{page_fired, Goes}

@@ -20,7 +20,7 @@ use Rattle.tb_area.specs.Laws as area
 use Rattle.tb_output.specs.State.{State, Recorded, placed, output, emptied, first_state, ask_of}
 use Rattle.tb_output.specs.Act.{Acted, went, full, act_on}
 use Rattle.tb_output.specs.Output.{out}
-use Rattle.tb_output.proofs.Limits.LimitLemmas.{IsLimited, AreLimited, limited-append, out-keeps}
+use Rattle.tb_laws.proofs.Limits.LimitLemmas.{IsLimited, AreLimited, limited-append, out-keeps}
 use Rattle.tb_run.specs.Run.{Run, Progress, progress_by, progress, Step, ends, goes_on, held_count, after_firing, fire, after_progress, step, run_by, run_from, firings_left, run_of, classes_of}
 use Rattle.tb_top.specs.Laws.{PlacedWithin, KeepsLimits, WithinLimits}
 

@@ -19,13 +19,13 @@ use Rattle.tb_column.specs.declared.Warn.{Warn}
 use Rattle.tb_column.specs.Column.{PlainColumn}
 use Rattle.tb_output.specs.State.{State, Recorded}
 use Rattle.tb_output.specs.Act.{Acted, went, full, act_on, taken_float}
-use Rattle.tb_output.proofs.NothingLost.StateWeights.{left_weight}
+use Rattle.tb_laws.proofs.NothingLost.StateWeights.{left_weight}
 use Rattle.tb_column.proofs.PrintedLines.{left_prints, LeftPlain}
-use Rattle.tb_output.proofs.Closed.Closings.{owed_after, never, Still, act_token}
-use Rattle.tb_output.proofs.Closed.ClosingPages.{ActsClose, owed_acts, ways_acts, AllStill}
-use Rattle.tb_output.proofs.Closed.ClosingStates.{ways_of}
-use Rattle.tb_output.proofs.ColumnPages.SparedLists.{Single}
-use Rattle.tb_output.proofs.Closed.ServedLists.{entry_items}
+use Rattle.tb_laws.proofs.Closed.Closings.{owed_after, never, Still, act_token}
+use Rattle.tb_laws.proofs.Closed.ClosingPages.{ActsClose, owed_acts, ways_acts, AllStill}
+use Rattle.tb_laws.proofs.Closed.ClosingStates.{ways_of}
+use Rattle.tb_laws.proofs.Closed.SparedLists.{Single}
+use Rattle.tb_laws.proofs.Closed.ServedLists.{entry_items}
 use Rattle.tb_top.proofs.NothingLost.RunWeights.{ActFits, ActsFit}
 use Rattle.tb_run.specs.Run.{Progress, progress_by, progress}
 use Rattle.tb_top.specs.Laws.{IsEmptied}

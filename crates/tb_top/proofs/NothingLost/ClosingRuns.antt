@@ -24,19 +24,19 @@ use Rattle.tb_output.specs.State.{State, emptied, ask_of, Work, with_notes, note
 use Rattle.tb_insert.specs.declared.Class.{Class}
 use Rattle.tb_column.specs.Column.{Notes}
 use Rattle.tb_param.specs.Release.{has_second}
-use Rattle.tb_output.proofs.NothingLost.PutOutWeights.{other-box}
+use Rattle.tb_laws.proofs.NothingLost.PutOutWeights.{other-box}
 use Rattle.std.proofs.lemmas.Bool.{eq-eqb, eqb-true}
 use Rattle.tb_output.specs.Output.{out}
-use Rattle.tb_output.proofs.NothingLost.StateWeights.{BoxesFit, class_numbers, Paired, entries_weight, floats_weight, lists_weight, left_weight, state_weight, sent_weight}
-use Rattle.tb_output.proofs.Closed.SortLemmas.{pen_sort, sorts, sorts-append, take-drop}
-use Rattle.tb_output.proofs.Closed.PlaceLemmas.{AllSteady, body-steady}
+use Rattle.tb_laws.proofs.NothingLost.StateWeights.{BoxesFit, class_numbers, Paired, entries_weight, floats_weight, lists_weight, left_weight, state_weight, sent_weight}
+use Rattle.tb_laws.proofs.Closed.SortLemmas.{pen_sort, sorts, sorts-append, take-drop}
+use Rattle.tb_laws.proofs.Closed.PlaceLemmas.{AllSteady, body-steady}
 use Rattle.tb_column.specs.Column.{PlainColumn}
 use Rattle.tb_column.proofs.PrintedLines.{printed, prints, left_prints}
-use Rattle.tb_output.proofs.Closed.Closings.{Closes, Quiet, kind_token, tokens}
-use Rattle.tb_output.proofs.Closed.ClosingPages.{owed_acts, ways_acts, pruned-closes, PageCloses, cut-closes, break-closes, tokens-take}
-use Rattle.tb_output.proofs.DeadCycles.BoxesFirst.{RealFirst, HasReal, BreakReal, pruned-first, acts-first, break-real}
-use Rattle.tb_output.proofs.Closed.ClosingStates.{ways_of, Clean, HereKept, Closing, OutClosed, out-closed}
-use Rattle.tb_output.proofs.Limits.LimitLemmas.{out-records}
+use Rattle.tb_laws.proofs.Closed.Closings.{Closes, Quiet, kind_token, tokens}
+use Rattle.tb_laws.proofs.Closed.ClosingPages.{owed_acts, ways_acts, pruned-closes, PageCloses, cut-closes, break-closes, tokens-take}
+use Rattle.tb_laws.proofs.DeadCycles.BoxesFirst.{RealFirst, HasReal, BreakReal, pruned-first, acts-first, break-real}
+use Rattle.tb_laws.proofs.Closed.ClosingStates.{ways_of, Clean, HereKept, Closing, OutClosed, out-closed}
+use Rattle.tb_laws.proofs.Limits.LimitLemmas.{out-records}
 use Rattle.tb_top.proofs.NothingLost.ClosingActs.{acts-fit, ActsClosed, ProgressClosed, emptied-append, progress-closed, still-weight}
 use Rattle.tb_top.proofs.NothingLost.RunWeights.{ActsFit, After, progress-adds, box-fired, fit-numbers, box_after-number, Kept, page_of, cut, cut_feet, cut_stands, reached, fired-keeps}
 use Rattle.tb_run.specs.Run.{sent, done, pool_full, dead_cycles, page_limit, node_limit, Progress, progress, Step, ends, goes_on, held_count, after_firing, fire, after_progress, step}

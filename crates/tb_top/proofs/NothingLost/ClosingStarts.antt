@@ -17,12 +17,12 @@ use Rattle.tb_galley.specs.declared.ItemKind.TheVariants as items
 use Rattle.tb_galley.specs.declared.Galley.{Galley}
 use Rattle.tb_galley.specs.GalleyNodes.{with_firings, two_after, item_kinds, item_nodes, expanded}
 use Rattle.tb_output.specs.State.{first_state, void_boxes}
-use Rattle.tb_output.proofs.NothingLost.StateWeights.{class_numbers}
+use Rattle.tb_laws.proofs.NothingLost.StateWeights.{class_numbers}
 use Rattle.tb_output.specs.Output.{is_int, clear_penalty, par_penalty, vert_penalty, hold_penalty}
-use Rattle.tb_output.proofs.Closed.SortLemmas.{light, pause, hold, serve, clear, odd, pen_sort}
-use Rattle.tb_output.proofs.Closed.Closings.{Ways, never, Token, Closes, sort_token, tokens, tokens-append}
-use Rattle.tb_output.proofs.Closed.ClearedLists.{tokens-parts}
-use Rattle.tb_output.proofs.Closed.ClosingStates.{Closing}
+use Rattle.tb_laws.proofs.Closed.SortLemmas.{light, pause, hold, serve, clear, odd, pen_sort}
+use Rattle.tb_laws.proofs.Closed.Closings.{Ways, never, Token, Closes, sort_token, tokens, tokens-append}
+use Rattle.tb_laws.proofs.Closed.ClearedLists.{tokens-parts}
+use Rattle.tb_laws.proofs.Closed.ClosingStates.{Closing}
 use Rattle.tb_top.proofs.NothingLost.StartLemmas.{ItemFits, ItemsFit}
 
 -- whether something came before or not, the list closes if nothing is owed

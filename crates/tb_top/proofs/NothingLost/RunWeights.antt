@@ -26,11 +26,11 @@ use Rattle.tb_column.specs.Column.{PlainColumn, PlainSent, warned, shipped}
 use Rattle.tb_output.specs.State.{State, Recorded, emptied, ask_of, Work}
 use Rattle.tb_output.specs.Act.{Acted, went, full, act_on, taken_float, lists_with_taken}
 use Rattle.tb_output.specs.Output.{out}
-use Rattle.tb_output.proofs.NothingLost.StateWeights.{floats_weight, floats-append}
-use Rattle.tb_output.proofs.NothingLost.WorkWeights.{Sound, class_numbers, BoxesFit, Paired, entries_weight, lists_weight, left_weight, state_weight, sheet_weight, sent_weight, out-weight}
-use Rattle.tb_output.proofs.Closed.SortLemmas.{PageStands, cut-stands, pruned-stands, page-careful}
-use Rattle.tb_output.proofs.Closed.PutLemmas.{AreAmong}
-use Rattle.tb_output.proofs.Closed.PlaceLemmas.{AllSteady, WellPlaced, body-steady, body-class, out-placed}
+use Rattle.tb_laws.proofs.NothingLost.StateWeights.{floats_weight, floats-append}
+use Rattle.tb_laws.proofs.NothingLost.WorkWeights.{Sound, class_numbers, BoxesFit, Paired, entries_weight, lists_weight, left_weight, state_weight, sheet_weight, sent_weight, out-weight}
+use Rattle.tb_laws.proofs.Closed.SortLemmas.{PageStands, cut-stands, pruned-stands, page-careful}
+use Rattle.tb_laws.proofs.Closed.PutLemmas.{AreAmong}
+use Rattle.tb_laws.proofs.Closed.PlaceLemmas.{AllSteady, WellPlaced, body-steady, body-class, out-placed}
 use Rattle.tb_run.specs.Run.{RunEvent, offered, sent, done, pool_full, dead_cycles, page_limit, node_limit, Progress, progress_by, progress, Step, ends, goes_on, held_count, after_firing, fire, after_progress, step}
 
 abbrev pub events_weight : Weight → List RunEvent → ℕ

@@ -9,12 +9,12 @@ use Rattle.tb_galley.specs.declared.Galley.{Galley}
 use Rattle.tb_galley.specs.Valid.{IsValid}
 use Rattle.tb_galley.specs.GalleyNodes.{expanded}
 use Rattle.tb_output.specs.State.{State, Recorded, first_state}
-use Rattle.tb_output.proofs.NothingLost.StateWeights.{state_weight, class_numbers}
+use Rattle.tb_laws.proofs.NothingLost.StateWeights.{state_weight, class_numbers}
 use Rattle.tb_run.specs.Run.{Run, RunEvent, End, done, pool_full, dead_cycles, page_limit, node_limit, Step, ends, goes_on, step, run_by, run_from, held_count, firings_left, classes_of, run_of}
 use Rattle.tb_top.specs.Laws.{IsEmptied, EndsDone}
 use Rattle.tb_top.proofs.NothingLost.RunWeights.{events_weight, events-append, Kept, StepWeighs, step-weighs}
 use Rattle.tb_top.proofs.NothingLost.StartLemmas.{ItemsFit, NumbersDiffer, start-kept, items_weight, start-weight}
-use Rattle.tb_output.proofs.Closed.ClosingStates.{Closing}
+use Rattle.tb_laws.proofs.Closed.ClosingStates.{Closing}
 use Rattle.tb_top.proofs.NothingLost.ClosingActs.{emptied-append}
 use Rattle.tb_top.proofs.NothingLost.ClosingRuns.{StepCloses, changes-fit, step-closes}
 use Rattle.tb_top.proofs.DeadCycles.ValidPenalties.{interline-calm}

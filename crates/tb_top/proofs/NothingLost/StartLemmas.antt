@@ -23,9 +23,9 @@ use Rattle.tb_builder.proofs.FiredPages.PageWeights.{hits, IsOnce, boxes_weight}
 use Rattle.tb_run.specs.Run.{classes_of}
 use Rattle.tb_output.specs.State.{first_state, void_boxes}
 use Rattle.tb_output.specs.Output.{is_int, clear_penalty, par_penalty, vert_penalty, hold_penalty}
-use Rattle.tb_output.proofs.NothingLost.WorkWeights.{class_numbers, BoxesFit, state_weight}
-use Rattle.tb_output.proofs.Closed.SortLemmas.{Sort, light, pause, hold, serve, clear, odd, none, many, Stands, pen_sort, sorts, sorts-append, fewer}
-use Rattle.tb_output.proofs.Closed.PutLemmas.{Extends}
+use Rattle.tb_laws.proofs.NothingLost.WorkWeights.{class_numbers, BoxesFit, state_weight}
+use Rattle.tb_laws.proofs.Closed.SortLemmas.{Sort, light, pause, hold, serve, clear, odd, none, many, Stands, pen_sort, sorts, sorts-append, fewer}
+use Rattle.tb_laws.proofs.Closed.PutLemmas.{Extends}
 use Rattle.tb_top.proofs.NothingLost.RunWeights.{Kept}
 
 -- no penalty of an item is below that of a page's end, and the class of a footnote is one of these numbers

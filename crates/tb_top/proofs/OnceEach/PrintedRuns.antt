@@ -17,16 +17,16 @@ use Rattle.tb_galley.specs.Valid.{IsValid}
 use Rattle.tb_output.specs.State.{first_state, State, Recorded, emptied, ask_of, Work}
 use Rattle.tb_output.specs.Act.{Acted, went, full, act_on}
 use Rattle.tb_output.specs.Output.{out}
-use Rattle.tb_output.proofs.NothingLost.StateWeights.{state_weight}
-use Rattle.tb_output.proofs.Closed.Sorts.{Stands, sorts-calm, acts-silent, CalmSort, light, blank, real, silent, pause, hold, serve, clear, odd, seen_after, Sort, Seen}
-use Rattle.tb_output.proofs.Closed.SortLemmas.{none, pruned-stands, sorts, sorts-append, take-drop}
+use Rattle.tb_laws.proofs.NothingLost.StateWeights.{state_weight}
+use Rattle.tb_laws.proofs.Closed.Sorts.{Stands, sorts-calm, acts-silent, CalmSort, light, blank, real, silent, pause, hold, serve, clear, odd, seen_after, Sort, Seen}
+use Rattle.tb_laws.proofs.Closed.SortLemmas.{none, pruned-stands, sorts, sorts-append, take-drop}
 use Rattle.tb_run.specs.Run.{Run, RunEvent, offered, sent, End, done, pool_full, dead_cycles, page_limit, node_limit, Progress, progress_by, progress, Step, ends, goes_on, held_count, after_firing, fire, after_progress, step, run_by, run_from, firings_left, classes_of, run_of}
 use Rattle.tb_top.specs.Laws.{EndsDone}
-use Rattle.tb_output.proofs.DeadCycles.BoxesFirst.{HasReal}
+use Rattle.tb_laws.proofs.DeadCycles.BoxesFirst.{HasReal}
 use Rattle.tb_column.proofs.Within.{Within, itself, within-within, both-within}
 use Rattle.tb_column.proofs.PrintedLines.{prints, sheet_prints, sent_prints, left_prints, prints-append, SheetPlain, SentPlain, LeftPlain}
-use Rattle.tb_output.proofs.InOrder.PrintedOutput.{state_prints, pruned-prints, acts-prints, body-prints, spent-prints, OutReads, out-reads}
-use Rattle.tb_output.proofs.Closed.ClosingStates.{Closing}
+use Rattle.tb_laws.proofs.InOrder.PrintedOutput.{state_prints, pruned-prints, acts-prints, body-prints, spent-prints, OutReads, out-reads}
+use Rattle.tb_laws.proofs.Closed.ClosingStates.{Closing}
 use Rattle.tb_top.proofs.NothingLost.ClosingActs.{ActsClosed}
 use Rattle.tb_top.proofs.NothingLost.ClosingRuns.{ones, weightless-prints, weightless-left, page_cut, progressed, acts-after, changes-fit, step-closes, StepCloses}
 use Rattle.tb_top.proofs.NothingLost.ClosingStarts.{start-closing}

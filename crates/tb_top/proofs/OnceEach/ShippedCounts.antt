@@ -16,7 +16,7 @@ use Rattle.tb_galley.specs.declared.ItemKind.{ItemKind}
 use Rattle.tb_galley.specs.declared.ItemKind.TheVariants as items
 use Rattle.tb_galley.specs.Valid.{is_item, is_margin}
 use Rattle.tb_column.specs.Column.{PlainSheet, one, wide, two, warned, shipped}
-use Rattle.tb_output.proofs.NothingLost.StateWeights.{sheet_weight}
+use Rattle.tb_laws.proofs.NothingLost.StateWeights.{sheet_weight}
 use Rattle.tb_run.specs.Run.{RunEvent, offered, sent}
 use Rattle.tb_top.specs.Report.{sheet_nodes}
 use Rattle.tb_top.specs.Laws.{leaf_boxes, foot_boxes, text_line, foot_line, note_line, lines_by, float_of, galley_floats, float_lines, shipped_nodes, box_lines_of, float_lines_of, note_lines_of, node_lines}

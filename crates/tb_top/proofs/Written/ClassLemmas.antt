@@ -18,8 +18,8 @@ use Rattle.tb_insert.specs.declared.Class.{Class}
 use Rattle.tb_builder.proofs.FiredPages.PageWeights.{hits, IsOnce}
 use Rattle.tb_galley.specs.GalleyNodes.{expanded}
 use Rattle.tb_output.specs.State.{first_state, void_boxes}
-use Rattle.tb_output.proofs.NothingLost.StateWeights.{class_numbers}
-use Rattle.tb_output.proofs.Closed.PutLemmas.{AreAmong}
+use Rattle.tb_laws.proofs.NothingLost.StateWeights.{class_numbers}
+use Rattle.tb_laws.proofs.Closed.PutLemmas.{AreAmong}
 use Rattle.tb_run.specs.Run.{classes_of}
 use Rattle.tb_run.proofs.FromGalley.GalleyClasses.{AreAbove, rising-above, rising-rest, class-small, with_foot}
 use Rattle.tb_top.proofs.NothingLost.RunWeights.{Kept, fit-among}

@@ -21,7 +21,7 @@ use Rattle.tb_float.specs.Lists.{live_count}
 use Rattle.tb_output.specs.State.{State, Work, Recorded, ask_of, begun, emptied}
 use Rattle.tb_output.specs.Act.{Acted, went, full, act_on}
 use Rattle.tb_output.specs.Output.{out, after_page}
-use Rattle.tb_output.proofs.StepLaws.SentCounts.{warning_count, page_count, warnings-append, pages-append, SendsFew, out-few}
+use Rattle.tb_laws.proofs.StepLaws.SentCounts.{warning_count, page_count, warnings-append, pages-append, SendsFew, out-few}
 use Rattle.tb_run.specs.Run.{RunEvent, offered, sent, done, dead_cycles, page_limit, node_limit, Progress, progress_by, progress, Step, ends, goes_on, held_count, after_firing, fire, after_progress, step}
 use Rattle.tb_top.specs.Views.{sent_among}
 use Rattle.tb_top.proofs.Written.FuelLemmas.{SameCounts, progress-counts}

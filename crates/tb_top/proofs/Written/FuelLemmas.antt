@@ -14,7 +14,7 @@ use Rattle.tb_column.specs.declared.Warn.{Warn}
 use Rattle.tb_output.specs.State.{State, Recorded, emptied, ask_of, begun, Work}
 use Rattle.tb_output.specs.Act.{Acted, went, full, act_on}
 use Rattle.tb_output.specs.Output.{out, after_page}
-use Rattle.tb_output.proofs.StepLaws.TurnLemmas.{Turned, out-turned}
+use Rattle.tb_laws.proofs.StepLaws.TurnLemmas.{Turned, out-turned}
 use Rattle.tb_top.specs.Firings.{HasReason}
 use Rattle.tb_run.specs.Run.{Run, RunEvent, done, dead_cycles, page_limit, node_limit, sent, Progress, progress_by, progress, Step, ends, goes_on, held_count, after_firing, fire, after_progress, step, run_by, run_after, run_from, firings_left}
 

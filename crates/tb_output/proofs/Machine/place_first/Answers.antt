@@ -8,7 +8,7 @@ use Rattle.tb_output.specs.FiringParts.{float_decided, note_placed, first_placed
 use Rattle.tb_output.specs.FiringWork.{shows_back, IsCutShort}
 use Rattle.tb_output.proofs.FiringWork.ResultLemmas.{ok-map, err-map}
 use Rattle.tb_output.proofs.FiringWork.WorkingLemmas.{does-same}
-use Rattle.tb_output.proofs.ClassesRise.CurrentFirst.{float-first, note-first, none-first, right-first}
+use Rattle.tb_output.proofs.InText.CurrentFirst.{float-first, note-first, none-first, right-first}
 use Rattle.tb_output.proofs.Machine.place_first.Goals as goal
 
 pub returns-in-Some-Float-clause-ok : goal.returns-in-Some-Float-clause-ok

@@ -9,7 +9,7 @@ use Rattle.tb_output.specs.FiringParts.{float_placed, float_decided}
 use Rattle.tb_output.specs.FiringWork.{shows_back, IsCutShort}
 use Rattle.tb_output.proofs.FiringWork.ResultLemmas.{ok-map, err-map}
 use Rattle.tb_output.proofs.FiringWork.WorkingLemmas.{does-same}
-use Rattle.tb_output.proofs.ClassesRise.CurrentFirst.{decided-same}
+use Rattle.tb_output.proofs.InText.CurrentFirst.{decided-same}
 use Rattle.tb_output.proofs.Machine.place_float.Goals as goal
 
 pub add_current-place-requires-clause-params : goal.add_current-place-requires-clause-params

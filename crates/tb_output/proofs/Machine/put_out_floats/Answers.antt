@@ -7,7 +7,7 @@ use Rattle.tb_output.specs.Machine.{MachineView}
 use Rattle.tb_output.specs.MachineFrame.{KeepsMachine}
 use Rattle.tb_output.specs.FiringParts.{column_done}
 use Rattle.tb_output.specs.FiringWork.{shows, IsCutShort}
-use Rattle.tb_output.proofs.DeadCycles.CompanyHeads.{some-chosen}
+use Rattle.tb_output.proofs.Clears.CompanyHeads.{some-chosen}
 use Rattle.tb_output.proofs.Clears.CompanyLemmas.{continues-column_done}
 use Rattle.tb_output.proofs.ColumnPages.FloatPages.{column-taken, column-machine, column-none, column-out, column-keeps, back-keeps, back-cut}
 use Rattle.tb_output.proofs.FiringWork.KeepLemmas.{keeps-same}

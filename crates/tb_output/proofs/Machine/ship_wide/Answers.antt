@@ -7,7 +7,7 @@ use Rattle.tb_output.specs.Pages.{wide_wanted}
 use Rattle.tb_output.specs.Machine.{MachineView, AreOutputParams}
 use Rattle.tb_output.specs.MachineFrame.{KeepsMachine}
 use Rattle.tb_output.specs.FiringParts.{wide_done}
-use Rattle.tb_output.proofs.DeadCycles.CompanyHeads.{some-chosen}
+use Rattle.tb_output.proofs.Clears.CompanyHeads.{some-chosen}
 use Rattle.tb_output.proofs.Clears.CompanyLemmas.{continues-wide_done}
 use Rattle.tb_output.proofs.ColumnPages.FloatPages.{source-is, wide-taken, page-shipped, page-not, page-keeps, page-kept, wide-keeps, wide-cut, page-machine}
 use Rattle.tb_output.proofs.FiringWork.KeepLemmas.{keeps-same}

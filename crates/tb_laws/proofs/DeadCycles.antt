@@ -1,0 +1,19 @@
+-- Few dead cycles, in reading order.
+pub mod EndedLemmas
+pub mod AgainLemmas
+pub mod SpacedLemmas
+pub mod BoxesFirst
+pub mod WaitCosts
+pub mod ActCosts
+pub mod ColumnOutcomes
+pub mod ServeOutcomes
+pub mod ClearOutcomes
+pub mod ClearCases
+pub mod CycleStates
+pub mod CycleBreaks
+pub mod CycleVoids
+pub mod CycleClears
+pub mod CycleEnds
+pub mod CycleFirings
+pub mod HighStates
+pub mod HighFirings

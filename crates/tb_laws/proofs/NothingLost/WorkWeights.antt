@@ -1,0 +1,189 @@
+-- A firing loses nothing: what is sent, put back and kept weighs as much as what was there.
+use Rattle.std.proofs.Common.{◌≡◌, refl, ◌∙◌, ap, ℕ, pos, ◌+◌, Bool, true, false, List, [], ◌∷◌, ◌++◌, map, drop, length, arith}
+use Rattle.std.specs.Prelude.{◌-◌, ℤ, int_le, not, ◌||◌, ◌&&◌, if◌then◌else◌}
+use Rattle.tb_scaled.specs.Glue.{filling_glue}
+use Rattle.tb_scaled.specs.Scaled.{eject_penalty, max_dimen}
+use Rattle.tb_node.specs.PlainNodes.{PlainNode, node_shape, made, blank_box, skip}
+use Rattle.tb_break.specs.Split.{split_of}
+use Rattle.tb_node.proofs.Weights.{Weight, nodes_weight, weight-append, weight-split}
+use Rattle.tb_param.specs.declared.Params.{Params}
+use Rattle.tb_builder.specs.FiredPages.{Fired}
+use Rattle.tb_builder.proofs.FiredPages.PageWeights.{boxes_weight}
+use Rattle.tb_float.specs.declared.Part.{Part}
+use Rattle.tb_float.specs.declared.Part.TheVariants as parts
+use Rattle.tb_float.specs.Lists.{FloatLists, floats_of, IsWaiting, wide_part, wide_waiting}
+use Rattle.tb_float.proofs.WaitingLemmas.{wide-waits}
+use Rattle.tb_float.specs.Rooms.{column_room_of}
+use Rattle.tb_column.specs.Column.{Notes, warned}
+use Rattle.tb_column.specs.declared.Warn.TheVariants as warnings
+use Rattle.tb_output.specs.State.{State, Work, begun, puts, sends, with_floats, footnotes, has_floats}
+use Rattle.tb_output.specs.Pages
+use Rattle.tb_output.specs.Columns
+use Rattle.tb_output.specs.Text
+use Rattle.tb_output.specs.Clear
+use Rattle.tb_output.specs.Output
+use Rattle.tb_laws.proofs.NothingLost.StateWeights.{floats_weight, lists_weight, left_weight, state_weight, sent_weight, work_weight, floats-append, Sound, Adds, then_kept, adds_if, unchanged, puts-adds, warns-adds}
+use Rattle.tb_laws.proofs.NothingLost.FloatWeights.{lists-adds, paired-with, lists-with}
+use Rattle.tb_laws.proofs.NothingLost.PutOutWeights.{all_wide-adds, put_out_text-adds, float_columns-adds, ordinary-adds}
+use Rattle.tb_laws.proofs.NothingLost.TextWeights.{puts-nothing, float_or_note-adds}
+pub use Rattle.tb_laws.proofs.NothingLost.StateWeights.{Sound, class_numbers, BoxesFit, Paired, entries_weight, lists_weight, left_weight, state_weight, sheet_weight, sent_weight}
+
+-- ---- a clear
+
+again-adds : (v : Weight) (w : Work) → Adds v 0 w (puts Clear.clear_again w)
+again-adds v w = puts-nothing v Clear.clear_again w refl
+
+deferred_again-adds : (v : Weight) (w : Work) → Adds v 0 w (with_floats (Clear.deferred_again w.state.floats) w)
+deferred_again-adds v w =
+    let l = w.state.floats in
+    let a : floats_weight v (l.top ++ l.bottom ++ l.deferred) ≡ floats_weight v (l.top ++ l.bottom) + floats_weight v l.deferred = floats-append v (l.top ++ l.bottom) l.deferred in
+    let b : floats_weight v (l.top ++ l.bottom) ≡ floats_weight v l.top + floats_weight v l.bottom = floats-append v l.top l.bottom in
+    lists-adds v (Clear.deferred_again l) w (λ x. x) (omega arith)
+
+-- the double floats go before those that wait
+double_again-adds : (v : Weight) (p : Params) (w : Work) → Adds v 0 w (with_floats (Clear.double_again p w.state.floats) w)
+double_again-adds v p w =
+    lists-adds v (Clear.double_again p l) w (λ x. paired-with (wide_part p) (wide-waits p) (l.double ++ wide_waiting p l) bare x)
+    (sums (lists_weight v (Clear.double_again p l)) (floats_weight v (floats_of (wide_part p) bare)) (lists_weight v bare) (floats_weight v (l.double ++ wide_waiting p l)) (floats_weight v l.double) (floats_weight v (wide_waiting p l)) (lists_weight v l)
+    (lists-with v (wide_part p) (wide-waits p) (l.double ++ wide_waiting p l) bare) (ap (floats_weight v) (waiting-without (wide_part p) (wide-waits p))) (floats-append v l.double (wide_waiting p l)) lighter)
+  where
+    l : FloatLists
+    l = w.state.floats
+
+    bare : FloatLists
+    bare = record l { double = [] }
+
+    lighter : lists_weight v bare + floats_weight v l.double ≡ lists_weight v l
+    lighter = omega arith
+
+    waiting-without : (from : Part) → IsWaiting from → floats_of from bare ≡ floats_of from l
+    waiting-without parts.Current h = absurd h
+    waiting-without parts.Here h = absurd h
+    waiting-without parts.Top h = absurd h
+    waiting-without parts.Bottom h = absurd h
+    waiting-without parts.Double h = absurd h
+    waiting-without parts.Deferred h = refl
+    waiting-without parts.Second h = refl
+
+    sums : (a y b d x z c : ℕ) → a + y ≡ b + d → y ≡ z → d ≡ x + z → b + x ≡ c → a ≡ c
+    sums a y b d x z c e g i j = omega arith
+
+clear_wide-adds : (v : Weight) (p : Params) (w : Work) → Adds v 0 w (Clear.clear_wide p w)
+clear_wide-adds v p w = by_columns w.state.two_columns w.state.first_column
+  where
+    a : Work
+    a = with_floats (Clear.double_again p w.state.floats) w
+
+    by_columns : (t f : Bool) → Adds v 0 w (if not t then w else (if f then Pages.all_wide_pages p true a else puts (made blank_box ∷ Clear.clear_again) w))
+    by_columns false f = unchanged v w
+    by_columns true true = then_kept v 0 w a (Pages.all_wide_pages p true a) (double_again-adds v p w) (all_wide-adds v p true a)
+    by_columns true false = puts-nothing v (made blank_box ∷ Clear.clear_again) w refl
+
+clear_floats-adds : (v : Weight) (p : Params) (body : List PlainNode) (w : Work) → Adds v (nodes_weight v (Clear.cleared_front p body)) w (Clear.clear_floats p body w)
+clear_floats-adds v p body w =
+    let n = nodes_weight v (Clear.cleared_front p body) in
+    let z = puts (Clear.cleared_front p body) w in
+    let a = with_floats (Clear.deferred_again w.state.floats) z in
+    let b = Columns.all_float_columns p true a in
+    let c = Clear.clear_wide p b in
+    then_kept v n w z (Clear.clear_rest c) (puts-adds v (Clear.cleared_front p body) w)
+    (then_kept v 0 z a (Clear.clear_rest c) (deferred_again-adds v z)
+    (then_kept v 0 a b (Clear.clear_rest c) (float_columns-adds v p true (length a.state.floats.deferred) a)
+    (then_kept v 0 b c (Clear.clear_rest c) (clear_wide-adds v p b) (adds_if v 0 c (has_floats c.state.floats.deferred || has_floats c.state.floats.second) (puts Clear.clear_again c) c (again-adds v c) (unchanged v c)))))
+
+-- the list of the page, if it weighs nothing or there are footnotes
+clear_by-adds : (v : Weight) (p : Params) (body : List PlainNode) (w : Work) (o : List Notes) → nodes_weight v body ≡ 0 → Adds v 0 w (Clear.clear_by p body w o)
+clear_by-adds v p body w [] h =
+    let x : Adds v (nodes_weight v (Clear.cleared_front p body)) w (Clear.clear_floats p body w) = clear_floats-adds v p body w in
+    let s : nodes_weight v (Clear.cleared_front p body) + nodes_weight v (drop (split_of (pos 0) p.splitmaxdepth (map node_shape body)).index body) ≡ nodes_weight v body = weight-split v (split_of (pos 0) p.splitmaxdepth (map node_shape body)).index body in
+    rw (none (nodes_weight v (Clear.cleared_front p body)) (nodes_weight v (drop (split_of (pos 0) p.splitmaxdepth (map node_shape body)).index body)) (s ∙ h)) at x
+  where
+    none : (a b : ℕ) → a + b ≡ 0 → a ≡ 0
+    none a b e = omega arith
+clear_by-adds v p body w (n ∷ notes) h =
+    let ns = body ++ made (skip filling_glue) ∷ [] in
+    let a = Columns.put_out_text p ns w in
+    let e : nodes_weight v ns ≡ nodes_weight v body + 0 = weight-append v body (made (skip filling_glue) ∷ []) in
+    let x : Adds v (nodes_weight v ns) w a = put_out_text-adds v p ns w in
+    then_kept v 0 w a (puts Clear.clear_again a) (rw (none (nodes_weight v body) (nodes_weight v ns) e h) at x) (again-adds v a)
+  where
+    none : (a b : ℕ) → b ≡ a + 0 → a ≡ 0 → b ≡ 0
+    none a b e h = omega arith
+
+-- ---- a firing
+
+goal-adds : (v : Weight) (p : Params) (n : ℤ) (w : Work) → Adds v 0 w (Output.next_goal p n w)
+goal-adds v p n w = adds_if v 0 w (Output.is_int n Output.hold_penalty) (Output.with_goal max_dimen w) (Output.goal_by p room w) (goal max_dimen) (adds_if v 0 w (Output.is_crowded p room) (Output.leave_column w) (Output.with_goal room w) crowded (goal room))
+  where
+    room : ℤ
+    room = column_room_of p w.state.floats
+
+    goal : (g : ℤ) → Adds v 0 w (Output.with_goal g w)
+    goal g = record { waits = refl; classes = refl; goes = λ r. r; by = λ r s. (record { box = s.box; columns = s.columns; entries = s.entries }, omega arith) }
+
+    told : Work
+    told = sends (warned (warnings.Floats w.state.page)) w
+
+    blank : (t : Bool) → nodes_weight v (if t then Output.blank_column ++ Output.blank_column else Output.blank_column) ≡ 0
+    blank true = refl
+    blank false = refl
+
+    crowded : Adds v 0 w (Output.leave_column w)
+    crowded = then_kept v 0 w told (Output.leave_column w) (warns-adds v (warnings.Floats w.state.page) w) (puts-nothing v (if w.state.two_columns && not w.state.first_column then Output.blank_column ++ Output.blank_column else Output.blank_column) told (blank (w.state.two_columns && not w.state.first_column)))
+
+-- the break is that of a clear, of a float or of a note
+abbrev pub is_serving : ℤ → Bool
+is_serving n = Output.is_int n Output.clear_penalty || (Output.is_int n Output.par_penalty || Output.is_int n Output.vert_penalty)
+
+-- what has to weigh nothing at a firing, by the penalty of its break: the page's list at a clear, a float or a note, and the held page if it is replaced
+pub record Careful (v : Weight) (held : List PlainNode) (f : Fired) : Type 0 where
+  pub list : int_le eject_penalty f.penalty ≡ false → is_serving f.penalty ≡ true → nodes_weight v f.body ≡ 0
+  pub page : int_le eject_penalty f.penalty ≡ false → is_serving f.penalty ≡ false → nodes_weight v held ≡ 0
+
+serve-adds : (v : Weight) (p : Params) (vert : Bool) (body : List PlainNode) (w : Work) → nodes_weight v body ≡ 0 → Adds v (nodes_weight v body) w (Text.float_or_note p vert body w)
+serve-adds v p vert body w h =
+    let s : nodes_weight v (Text.without_firing_box body) + nodes_weight v (drop (length body - 2) body) ≡ nodes_weight v body = weight-split v (length body - 2) body in
+    let x : Adds v (nodes_weight v (Text.without_firing_box body)) w (Text.float_or_note p vert body w) = float_or_note-adds v p vert body w in
+    rw (none (nodes_weight v (Text.without_firing_box body)) (nodes_weight v (drop (length body - 2) body)) (nodes_weight v body) s h) at x
+  where
+    none : (a b c : ℕ) → a + b ≡ c → c ≡ 0 → a ≡ c
+    none a b c e h = omega arith
+
+output-adds : (v : Weight) (p : Params) (f : Fired) (w : Work) → Careful v w.state.held_page f → Adds v (nodes_weight v f.body) w (Output.output_by p f w)
+output-adds v p f w h = by_penalty (int_le eject_penalty f.penalty) (Output.is_int f.penalty Output.clear_penalty) (Output.is_int f.penalty Output.par_penalty) (Output.is_int f.penalty Output.vert_penalty) h.list h.page
+  where
+    held : nodes_weight v w.state.held_page ≡ 0 → Adds v (nodes_weight v f.body) w (Output.hold f.body w)
+    held e = record { waits = refl; classes = refl; goes = λ r. r; by = λ r s. (record { box = s.box; columns = s.columns; entries = s.entries }, omega (arith, e)) }
+
+    cleared : nodes_weight v f.body ≡ 0 → Adds v (nodes_weight v f.body) w (Clear.clear p f.body w)
+    cleared e = rw e (clear_by-adds v p f.body w (footnotes w.state) e)
+
+    by_penalty : (t c x y : Bool) → (t ≡ false → (c || (x || y)) ≡ true → nodes_weight v f.body ≡ 0) → (t ≡ false → (c || (x || y)) ≡ false → nodes_weight v w.state.held_page ≡ 0) → Adds v (nodes_weight v f.body) w (if t then Columns.ordinary p f.body w else (if c then Clear.clear p f.body w else (if x then Text.float_or_note p false f.body w else (if y then Text.float_or_note p true f.body w else Output.hold f.body w))))
+    by_penalty true c x y k l = ordinary-adds v p f.body w
+    by_penalty false true x y k l = cleared (k refl refl)
+    by_penalty false false true y k l = serve-adds v p false f.body w (k refl refl)
+    by_penalty false false false true k l = serve-adds v p true f.body w (k refl refl)
+    by_penalty false false false false k l = held (l refl refl)
+
+-- after a firing that no limit stops the state is sound, and with what is sent weighs as the state before it and the page with what is held and left
+pub out-weight : (v : Weight) (p : Params) (s : State) (f : Fired) → Sound (Output.after_page s f) → Careful v s.held_page f → (Output.out p s f).refused ≡ false → Sound (Output.out p s f).state × (state_weight v (Output.out p s f).state + sent_weight v (Output.out p s f).sent ≡ nodes_weight v f.body + boxes_weight v f.boxes + nodes_weight v f.held + nodes_weight v f.rest + (nodes_weight v s.held_page + lists_weight v s.floats + left_weight v s.left_column))
+unfolding Output.out
+out-weight v p s f sound h r = all (Output.next_goal p f.penalty b) x r
+  where
+    a : Work
+    a = begun (Output.after_page s f)
+
+    b : Work
+    b = Output.output_by p f a
+
+    x : Adds v (nodes_weight v f.body) a (Output.next_goal p f.penalty b)
+    x = then_kept v (nodes_weight v f.body) a b (Output.next_goal p f.penalty b) (output-adds v p f a h) (goal-adds v p f.penalty b)
+
+    all : (c : Work) → Adds v (nodes_weight v f.body) a c → c.refused ≡ false → Sound (Output.waiting_again f c).state × (state_weight v (Output.waiting_again f c).state + sent_weight v c.sent ≡ nodes_weight v f.body + boxes_weight v f.boxes + nodes_weight v f.held + nodes_weight v f.rest + (nodes_weight v s.held_page + lists_weight v s.floats + left_weight v s.left_column))
+    all c y r =
+        let k = y.by r sound in
+        let g : work_weight v c ≡ work_weight v (begun (Output.after_page s f)) + nodes_weight v f.body = k.1 in
+        let d : nodes_weight v c.state.waiting ≡ 0 = ap (nodes_weight v) y.waits in
+        let e : nodes_weight v (f.held ++ c.put_back ++ f.rest) ≡ nodes_weight v (f.held ++ c.put_back) + nodes_weight v f.rest = weight-append v (f.held ++ c.put_back) f.rest in
+        let i : nodes_weight v (f.held ++ c.put_back) ≡ nodes_weight v f.held + nodes_weight v c.put_back = weight-append v f.held c.put_back in
+        (record { box = k.0.box; columns = k.0.columns; entries = k.0.entries }, omega arith)
