@@ -1,18 +1,6 @@
-//! The worked rows and the tests of the calls of the crates with long proofs, in one crate, since a crate with tests is
-//! proved twice.
+//! The worked rows and the other tests of whole runs, in one crate above `tb_top`, since a crate with tests is proved
+//! twice.
 #![tactic(auto)]
 
-#[cfg(test)]
-mod builder;
-#[cfg(test)]
-mod float;
-#[cfg(test)]
-mod galley;
-#[cfg(test)]
-mod lines;
-#[cfg(test)]
-mod output;
-#[cfg(test)]
-mod plain;
 #[cfg(test)]
 mod top;
