@@ -9,9 +9,10 @@ use Rattle.tb_output.specs.FiringParts.{column_done}
 use Rattle.tb_output.specs.FiringWork.{shows, IsCutShort}
 use Rattle.tb_output.proofs.Clears.CompanyHeads.{some-chosen}
 use Rattle.tb_output.proofs.Clears.CompanyLemmas.{continues-column_done}
-use Rattle.tb_output.proofs.ColumnPages.FloatPages.{column-taken, column-machine, column-none, column-out, column-keeps, back-keeps, back-cut}
+use Rattle.tb_output.proofs.ColumnPages.FloatPages.{ColumnTaken, column-taken, column-machine, column-none, column-out, column-keeps, back-keeps, back-cut}
 use Rattle.tb_output.proofs.FiringWork.KeepLemmas.{keeps-same}
 use Rattle.tb_output.proofs.FiringWork.ResultLemmas.{memory-err, same-err}
+use Rattle.tb_output.proofs.Machine.put_out_floats.Goals.{In_ok-column}
 use Rattle.tb_output.proofs.Machine.put_out_floats.Goals as goal
 
 -- no floats make a column
@@ -37,56 +38,41 @@ pub returns-in_err-column-clause-err : goal.returns-in_err-column-clause-err
 returns-in_err-column-clause-err c =
     let m = c.args.self.now in
     memory-err c.from_residual.result _ c.from_residual.ensures.1
-    (back-cut (single_wanted m.params m.pool.lists c.args.clearing) parts.Deferred tt m c.choose_column.new.self c.take_floats.new.self c.args.store.now c.take_floats.new.store c.requires (c.choose_column.ensures.chosen c.if-not-choose_column.false) c.choose_column.ensures.rest
+    (back-cut _ parts.Deferred tt _ _ _ _ _ c.requires (c.choose_column.ensures.chosen c.if-not-choose_column.false) c.choose_column.ensures.rest
     c.in_err-column.ensures.unchosen c.in_err-column.ensures.err (column_done m.params c.args.clearing) (continues-column_done m.params c.args.clearing))
 
 pub returns-in_err-column-clause-keeps : goal.returns-in_err-column-clause-keeps
 returns-in_err-column-clause-keeps c =
-    let m = c.args.self.now in
-    back-keeps (single_wanted m.params m.pool.lists c.args.clearing) parts.Deferred tt m c.choose_column.new.self c.take_floats.new.self c.args.store.now c.take_floats.new.store c.requires (c.choose_column.ensures.chosen c.if-not-choose_column.false) c.choose_column.ensures.rest
+    back-keeps _ parts.Deferred tt _ _ _ _ _ c.requires (c.choose_column.ensures.chosen c.if-not-choose_column.false) c.choose_column.ensures.rest
     c.in_err-column.ensures.unchosen c.in_err-column.ensures.err
+
+-- the floats were taken into a column
+taken : (c : In_ok-column) → ColumnTaken c.args.clearing c.args.self.now c.choose_column.new.self c.take_floats.new.self c.args.store.now c.take_floats.new.store c.in_ok-column.column
+taken c =
+    let high : FitsSigned w64 c.column_height-height.result = search rules in
+    column-taken _ _ _ _ _ _ _ c.column_height-height.result c.requires (c.choose_column.ensures.chosen c.if-not-choose_column.false) c.choose_column.ensures.rest
+    c.in_ok-column.ensures.machine c.in_ok-column.ensures.opened (c.column_height-height.ensures.value ∙ ap (λ (v : MachineView). column_height_of v.params v.pool.lists) c.self.view_is) (simp to_z-of_z at c.in_ok-column.ensures.shown)
 
 pub put_out-requires : goal.put_out-requires
 put_out-requires c =
-    let m = c.args.self.now in
-    let mid = c.choose_column.new.self in
-    let now = c.take_floats.new.self in
-    let s = c.args.store.now in
-    let t = c.take_floats.new.store in
-    let high : FitsSigned w64 c.column_height-height.result = search rules in
-    let h = column-taken c.args.clearing m mid now s t c.in_ok-column.column c.column_height-height.result c.requires (c.choose_column.ensures.chosen c.if-not-choose_column.false) c.choose_column.ensures.rest
-    c.in_ok-column.ensures.machine c.in_ok-column.ensures.opened (c.column_height-height.ensures.value ∙ ap (λ (v : MachineView). column_height_of v.params v.pool.lists) c.self.view_is) (simp to_z-of_z at c.in_ok-column.ensures.shown) in
-    record { machine = column-machine c.args.clearing m mid now s t c.in_ok-column.column h; column = c.in_ok-column.ensures.column; apart = column-none c.args.clearing m mid now s t c.in_ok-column.column h }
+    let h = taken (goal.at.put_out-requires c).In_ok-column in
+    record { machine = column-machine _ _ _ _ _ _ _ h; column = c.in_ok-column.ensures.column; apart = column-none _ _ _ _ _ _ _ h }
 
 -- the column was not put out
 pub returns-in_err-put_out : goal.returns-in_err-put_out
 returns-in_err-put_out c =
-    let m = c.args.self.now in
-    let mid = c.choose_column.new.self in
-    let now = c.take_floats.new.self in
-    let s = c.args.store.now in
-    let t = c.take_floats.new.store in
-    let high : FitsSigned w64 c.column_height-height.result = search rules in
-    let h = column-taken c.args.clearing m mid now s t c.in_ok-column.column c.column_height-height.result c.requires (c.choose_column.ensures.chosen c.if-not-choose_column.false) c.choose_column.ensures.rest
-    c.in_ok-column.ensures.machine c.in_ok-column.ensures.opened (c.column_height-height.ensures.value ∙ ap (λ (v : MachineView). column_height_of v.params v.pool.lists) c.self.view_is) (simp to_z-of_z at c.in_ok-column.ensures.shown) in
+    let h = taken (goal.at.returns-in_err-put_out c).In_ok-column in
     record {
       ok = search rules;
-      err = same-err c.from_residual-in_err-put_out.result _ _ c.from_residual-in_err-put_out.ensures.1 (column-out c.args.clearing m mid now s t c.in_ok-column.column h (IsCutShort _ c.put_out.new.self c.put_out.new.store) c.in_err-put_out.ensures.err);
-      keeps = column-keeps c.args.clearing m mid now s t c.in_ok-column.column h c.put_out.new.self c.put_out.new.store c.put_out.ensures.keeps;
+      err = same-err c.from_residual-in_err-put_out.result _ _ c.from_residual-in_err-put_out.ensures.1 (column-out _ _ _ _ _ _ _ h (IsCutShort _ c.put_out.new.self c.put_out.new.store) c.in_err-put_out.ensures.err);
+      keeps = column-keeps _ _ _ _ _ _ _ h _ _ c.put_out.ensures.keeps;
     }
 
 pub returns : goal.returns
 returns c =
-    let m = c.args.self.now in
-    let mid = c.choose_column.new.self in
-    let now = c.take_floats.new.self in
-    let s = c.args.store.now in
-    let t = c.take_floats.new.store in
-    let high : FitsSigned w64 c.column_height-height.result = search rules in
-    let h = column-taken c.args.clearing m mid now s t c.in_ok-column.column c.column_height-height.result c.requires (c.choose_column.ensures.chosen c.if-not-choose_column.false) c.choose_column.ensures.rest
-    c.in_ok-column.ensures.machine c.in_ok-column.ensures.opened (c.column_height-height.ensures.value ∙ ap (λ (v : MachineView). column_height_of v.params v.pool.lists) c.self.view_is) (simp to_z-of_z at c.in_ok-column.ensures.shown) in
+    let h = taken (goal.at.returns c).In_ok-column in
     record {
-      ok = column-out c.args.clearing m mid now s t c.in_ok-column.column h (shows c.put_out.new.self c.put_out.new.store) c.in_ok-put_out.ensures.ok;
+      ok = column-out _ _ _ _ _ _ _ h (shows c.put_out.new.self c.put_out.new.store) c.in_ok-put_out.ensures.ok;
       err = tt;
-      keeps = column-keeps c.args.clearing m mid now s t c.in_ok-column.column h c.put_out.new.self c.put_out.new.store c.put_out.ensures.keeps;
+      keeps = column-keeps _ _ _ _ _ _ _ h _ _ c.put_out.ensures.keeps;
     }
