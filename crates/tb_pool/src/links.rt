@@ -1,18 +1,21 @@
 //! The nodes of the lists, and the links between them.
 
-ghost use Rattle.std.specs.Prelude.{◌≡◌, ◌-◌, ◌<◌, ℕ, List, None, Some, IsSome, slice_index};
-ghost use Rattle.slab.specs.Slab.{ContainsKey, get};
+ghost use Rattle.std.specs.Prelude.{◌≡◌, ◌+◌, ◌-◌, ◌<◌, ℕ, List, None, Some, IsSome, slice_index};
+ghost use Rattle.std.specs.Borrow.{sem};
+ghost use Rattle.slab.specs.Slab.{ContainsKey, get, Updates, slab_len};
+ghost use Rattle.slab.specs.Lends.{lends_value};
 ghost use Rattle.tb_pool.specs.Links.{IsLinked, IsPath, HasPath, IsEnds};
 
 use crate::{Ends, Node};
 use slab::Slab;
+use std::alloc::Allocator;
 
 /// The value under a key that has one.
 ///
 /// `slab[key]` tests at run time whether there is a value. Here the arm without one is proved never to be reached, and it
-/// would shift by more than the width, which LLVM takes as undefined: so it drops the test.
+/// shifts by the whole width, which LLVM takes as undefined: so it drops the test.
 #[inline(always)]
-pub fn value_at<T>(slab: &Slab<T>, key: usize) -> &T
+pub fn get_unchecked<T, A: Allocator>(slab: &Slab<T, A>, key: usize) -> &T
     requires { ContainsKey slab.now key }
     ensures { get slab.now key ≡ Some result.now }
 {
@@ -26,6 +29,30 @@ pub fn value_at<T>(slab: &Slab<T>, key: usize) -> &T
     }
 }
 
+/// The value under a key that has one, for writing. LLVM knows from the read before that it is there, and drops the test.
+#[inline(always)]
+pub fn get_unchecked_mut<T, A: Allocator>(slab: &mut Slab<T, A>, key: usize) -> &mut T
+    requires { ContainsKey slab.old key }
+    ensures* writes_back { sem 𝓛 (lends_value T.row A.row A.Allocator slab.entry key result) }
+    ensures value { get slab.old key ≡ Some result.now }
+{
+    get_unchecked(slab, key);
+    &mut slab[key]
+}
+
+/// Takes out the value under a key that has one, also without the test.
+#[inline(always)]
+pub fn remove_unchecked<T>(slab: &mut Slab<T>, key: usize) -> T
+    requires { ContainsKey slab.old key }
+    ensures value { get slab.old key ≡ Some result }
+    ensures updates { Updates slab.old slab.new key None }
+    ensures len { slab_len slab.new + 1 ≡ slab_len slab.old }
+    ensures capacity { slab.new.capacity ≡ slab.old.capacity }
+{
+    get_unchecked(slab, key);
+    slab.remove(key)
+}
+
 /// Links the last node of a list to the first of another, if each has one.
 pub fn link<T>(nodes: &mut Slab<Node<T>>, front: Ends, back: Ends)
     requires last_there { 0 < front.len → ContainsKey nodes.old front.last }
@@ -35,8 +62,8 @@ pub fn link<T>(nodes: &mut Slab<Node<T>>, front: Ends, back: Ends)
     if front.len == 0 || back.len == 0 {
         return;
     }
-    nodes[front.last].next = back.first;
-    nodes[back.first].prev = front.last;
+    get_unchecked_mut(nodes, front.last).next = back.first;
+    get_unchecked_mut(nodes, back.first).prev = front.last;
 }
 
 /// The key of the node at place k of a list, found from the nearer end.
@@ -60,7 +87,7 @@ fn key_forward<T>(nodes: &Slab<Node<T>>, ends: Ends, k: usize) -> usize
 {
     let mut key = ends.first;
     for _step in 0..k {
-        key = value_at(nodes, key).next;
+        key = get_unchecked(nodes, key).next;
     }
     key
 }
@@ -73,7 +100,7 @@ fn key_backward<T>(nodes: &Slab<Node<T>>, ends: Ends, k: usize) -> usize
 {
     let mut key = ends.last;
     for _step in 0..k {
-        key = value_at(nodes, key).prev;
+        key = get_unchecked(nodes, key).prev;
     }
     key
 }

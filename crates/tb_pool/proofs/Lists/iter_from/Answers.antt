@@ -1,26 +1,26 @@
-use Rattle.std.proofs.Common.{◌≡◌, ◌+◌, ◌-◌, arith, sym, ap}
+use Rattle.std.proofs.Common.{◌≡◌, ◌+◌, ◌-◌, arith, sym}
 use Rattle.std.proofs.lemmas.List.{drop_all}
-use Rattle.tb_pool.specs.Links.{values_of, walk, CanWalk}
+use Rattle.tb_pool.specs.Links.{values_of}
 use Rattle.tb_pool.proofs.MapLemmas.{present}
 use Rattle.tb_pool.proofs.ShapeLemmas.{items-shaped}
 use Rattle.tb_pool.proofs.PlaceLemmas.{HasPath-shaped, len-shaped, key_is, walk_rest}
 use Rattle.tb_pool.proofs.Lists.iter_from.Goals as goal
 
-pub value_at-ends-requires : goal.value_at-ends-requires
-value_at-ends-requires g c = present c.self.inside.heads (values_of c.self.inside.nodes) c.l.inside.index (rw (← c.self.view_is, ← c.l.view_is) at c.requires)
+pub get_unchecked-ends-requires : goal.get_unchecked-ends-requires
+get_unchecked-ends-requires g c = present c.self.inside.heads (values_of c.self.inside.nodes) c.l.inside.index (rw (← c.self.view_is, ← c.l.view_is) at c.requires)
 
 pub returns-then-k-ends : goal.returns-then-k-ends
 returns-then-k-ends g c =
     let i = c.self.inside in
     let s = c.self.invariant.0 in
-    let items = items-shaped i.nodes i.heads i.spare i.places s c.self.invariant.1 c.l.inside.index c.value_at-ends.result.now c.value_at-ends.ensures in
-    let len = len-shaped i.nodes i.heads i.spare i.places s c.self.invariant.1 c.l.inside.index c.value_at-ends.result.now c.value_at-ends.ensures in
+    let items = items-shaped i.nodes i.heads i.spare i.places s c.self.invariant.1 c.l.inside.index c.get_unchecked-ends.result.now c.get_unchecked-ends.ensures in
+    let len = len-shaped i.nodes i.heads i.spare i.places s c.self.invariant.1 c.l.inside.index c.get_unchecked-ends.result.now c.get_unchecked-ends.ensures in
     rw (← c.self.view_is, ← c.l.view_is, items) (sym (drop_all c.args.k (s.items c.l.inside.index) (omega (arith, len))))
 
 pub key_at-requires-clause-path : goal.key_at-requires-clause-path
 key_at-requires-clause-path g c =
     let i = c.self.inside in
-    HasPath-shaped i.nodes i.heads i.spare i.places c.self.invariant.0 c.self.invariant.1 c.l.inside.index c.value_at-ends.result.now c.value_at-ends.ensures
+    HasPath-shaped i.nodes i.heads i.spare i.places c.self.invariant.0 c.self.invariant.1 c.l.inside.index c.get_unchecked-ends.result.now c.get_unchecked-ends.ensures
 
 pub invariant_of-result-2 : goal.invariant_of-result-2
 invariant_of-result-2 g c =
@@ -28,10 +28,10 @@ invariant_of-result-2 g c =
     let s = c.self.invariant.0 in
     let h = c.self.invariant.1 in
     let l = c.l.inside.index in
-    let e = c.value_at-ends.result.now in
+    let e = c.get_unchecked-ends.result.now in
     let remains : e.len - c.args.k + c.args.k ≡ e.len = omega arith in
-    let key = key_is i.nodes i.heads i.spare i.places s h l e c.value_at-ends.ensures c.args.k c.key_at.result (omega arith) c.key_at.ensures in
-    (walk_rest i.nodes i.heads i.spare i.places s h l e c.value_at-ends.ensures c.args.k c.key_at.result key (e.len - c.args.k) remains).1
+    let key = key_is i.nodes i.heads i.spare i.places s h l e c.get_unchecked-ends.ensures c.args.k c.key_at.result (omega arith) c.key_at.ensures in
+    (walk_rest i.nodes i.heads i.spare i.places s h l e c.get_unchecked-ends.ensures c.args.k c.key_at.result key (e.len - c.args.k) remains).1
 
 pub returns : goal.returns
 returns g c =
@@ -39,8 +39,8 @@ returns g c =
     let s = c.self.invariant.0 in
     let h = c.self.invariant.1 in
     let l = c.l.inside.index in
-    let e = c.value_at-ends.result.now in
+    let e = c.get_unchecked-ends.result.now in
     let remains : e.len - c.args.k + c.args.k ≡ e.len = omega arith in
-    let key = key_is i.nodes i.heads i.spare i.places s h l e c.value_at-ends.ensures c.args.k c.key_at.result (omega arith) c.key_at.ensures in
-    let items = items-shaped i.nodes i.heads i.spare i.places s h l e c.value_at-ends.ensures in
-    rw (← c.self.view_is, ← c.l.view_is, items) ((walk_rest i.nodes i.heads i.spare i.places s h l e c.value_at-ends.ensures c.args.k c.key_at.result key (e.len - c.args.k) remains).0)
+    let key = key_is i.nodes i.heads i.spare i.places s h l e c.get_unchecked-ends.ensures c.args.k c.key_at.result (omega arith) c.key_at.ensures in
+    let items = items-shaped i.nodes i.heads i.spare i.places s h l e c.get_unchecked-ends.ensures in
+    rw (← c.self.view_is, ← c.l.view_is, items) ((walk_rest i.nodes i.heads i.spare i.places s h l e c.get_unchecked-ends.ensures c.args.k c.key_at.result key (e.len - c.args.k) remains).0)
