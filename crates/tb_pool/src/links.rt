@@ -72,7 +72,7 @@ pub fn key_at<T>(nodes: &Slab<Node<T>>, ends: Ends, k: usize) -> usize
     requires path { HasPath nodes.now ends }
     ensures { (ks : List ℕ) → IsPath nodes.now ks → IsEnds ends ks → result ≡ slice_index ks k }
 {
-    if k < ends.len / 2 {
+    if k < ends.len - k {
         key_forward(nodes, ends, k)
     } else {
         key_backward(nodes, ends, ends.len - 1 - k)
