@@ -14,7 +14,8 @@ fn moves_values_between_lists(rt: HostRuntime) -> Result<(), Fail> {
     let b = lists.add_list()?;
     assert_ne!(rt; a, b);
     lists.reserve(3)?;
-    assert_eq!(rt; lists.spare(), 3);
+    let room = lists.spare();
+    assert!(rt; room >= 3);
     lists.push_back(a, 2u64);
     lists.push_front(a, 1);
     lists.push_back(b, 3);
@@ -37,10 +38,10 @@ fn moves_values_between_lists(rt: HostRuntime) -> Result<(), Fail> {
     assert_eq!(rt; lists.pop_back(b), None);
     assert_eq!(rt; lists.pop_front(b), None);
     lists.close(b);
-    assert_eq!(rt; lists.spare(), 2);
+    assert_eq!(rt; lists.spare(), room - 1);
     lists.clear(a);
     assert_eq!(rt; lists.len(a), 0);
-    assert_eq!(rt; lists.spare(), 3);
+    assert_eq!(rt; lists.spare(), room);
     Ok(())
 }
 
