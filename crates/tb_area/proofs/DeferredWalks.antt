@@ -117,6 +117,10 @@ is_deferred deferred e = refl
 pub area-stays : (p : Params) (s : Suppress) (l : FloatLists) (f : Float) (before rest : List Float) → Deferred ≡ next_place p l s before f → filled p s before (f ∷ rest) l ≡ filled p s (before ++ f ∷ []) rest l
 area-stays p s l f before rest e = ap (λ a. filled p s (still_before a f before) rest (gone_to a f before rest l)) (is_deferred (next_area_place p l s before f) e)
 
+pub area-kept : (p : Params) (s : Suppress) (w v : Kept) (l end : FloatLists) (f : Float) → v.count ≡ w.count + 1 → slice_get l.deferred w.count ≡ Some f → ((before : List Float) → AreClassesOf w.classes before → AreClassesOf v.classes (before ++ f ∷ [])) → ((all : List Float) → has_class f.class all ≡ true → HasLeft w.classes all → HasLeft v.classes all) → ((before : List Float) → AreClassesOf w.classes before → Deferred ≡ next_place p l s before f) → IsOnWay parts.Deferred (filled p s) w l end → IsOnWay parts.Deferred (filled p s) v l end
+area-kept p s w v l end f more there classes left stays way =
+    way-stays parts.Deferred (filled p s) w v l end f more there classes left (λ before rest are. area-stays p s l f before rest (stays before are)) way
+
 pub area-full : (p : Params) (s : Suppress) (w v : Kept) (l end : FloatLists) → v.count ≡ length l.deferred → v.classes ≡ w.classes → AreOfClasses (take w.count l.deferred) l.deferred → IsOnWay parts.Deferred (filled p s) w l end → IsOnWay parts.Deferred (filled p s) v l end
 area-full p s w v l end all same full way =
     way-full parts.Deferred (filled p s) w v l end all same full (λ before rest f has. area-stays p s l f before rest (entry-closed p s l f before has)) way
@@ -194,6 +198,10 @@ is_single false e = refl
 
 pub double-stays : (from : Part) (p : Params) (s : Suppress) (l : FloatLists) (f : Float) (before rest : List Float) → Deferred ≡ double_place p l s before f → doubled from p s before (f ∷ rest) l ≡ doubled from p s (before ++ f ∷ []) rest l
 double-stays from p s l f before rest e = ap (λ b. doubled from p s (still_single b f before) rest (gone_double from b f before rest l)) (is_single (goes_double p l s before f) e)
+
+pub double-kept : (from : Part) (p : Params) (s : Suppress) (w v : Kept) (l end : FloatLists) (f : Float) → v.count ≡ w.count + 1 → slice_get (floats_of from l) w.count ≡ Some f → ((before : List Float) → AreClassesOf w.classes before → AreClassesOf v.classes (before ++ f ∷ [])) → ((all : List Float) → has_class f.class all ≡ true → HasLeft w.classes all → HasLeft v.classes all) → ((before : List Float) → AreClassesOf w.classes before → Deferred ≡ double_place p l s before f) → IsOnWay from (doubled from p s) w l end → IsOnWay from (doubled from p s) v l end
+double-kept from p s w v l end f more there classes left stays way =
+    way-stays from (doubled from p s) w v l end f more there classes left (λ before rest are. double-stays from p s l f before rest (stays before are)) way
 
 pub double-full : (from : Part) (p : Params) (s : Suppress) (w v : Kept) (l end : FloatLists) → v.count ≡ length (floats_of from l) → v.classes ≡ w.classes → AreOfClasses (take w.count (floats_of from l)) (floats_of from l) → IsOnWay from (doubled from p s) w l end → IsOnWay from (doubled from p s) v l end
 double-full from p s w v l end all same full way =

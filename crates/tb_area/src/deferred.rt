@@ -14,7 +14,6 @@ ghost use Rattle.tb_area.specs.Laws.{column_order, double_order};
 ghost use Rattle.tb_area.specs.DeferredWalk.{IsOnWay};
 
 use crate::areas::{double_place, next_place};
-use crate::tries::float_in;
 use tb_float::{ClassSet, Part, Pool, Suppress};
 use tb_node::{Float, Where};
 use tb_param::Params;
@@ -85,14 +84,18 @@ fn next_moved(pool: &Pool, p: &Params, s: &Suppress, kept: &mut Kept) -> Where
         return Where::Deferred;
     }
     for entry in pool.entries_from(Part::Deferred, kept.count) {
-        if kept.classes.is_full() {
-            kept.count = pool.len(Part::Deferred);
-            return Where::Deferred;
-        }
-        let f = float_in(entry);
+        let f = entry.float();
+        let had = kept.classes.has(f.class);
         match place_behind(pool, p, s, kept, f) {
             Where::Deferred => kept.keep(f),
             place => return place,
+        }
+        if had {
+            continue;
+        }
+        if kept.classes.is_full() {
+            kept.count = pool.len(Part::Deferred);
+            return Where::Deferred;
         }
     }
     Where::Deferred
@@ -145,14 +148,18 @@ fn next_double(pool: &Pool, p: &Params, from: Part, kept: &mut Kept) -> Where
         return Where::Deferred;
     }
     for entry in pool.entries_from(from, kept.count) {
-        if kept.classes.is_full() {
-            kept.count = pool.len(from);
-            return Where::Deferred;
-        }
-        let f = float_in(entry);
+        let f = entry.float();
+        let had = kept.classes.has(f.class);
         match double_behind(pool, p, kept, f) {
             Where::Deferred => kept.keep(f),
             place => return place,
+        }
+        if had {
+            continue;
+        }
+        if kept.classes.is_full() {
+            kept.count = pool.len(from);
+            return Where::Deferred;
         }
     }
     Where::Deferred

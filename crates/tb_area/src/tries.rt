@@ -7,7 +7,6 @@ ghost use Rattle.tb_float.specs.declared.Limit.TheVariants as limits;
 ghost use Rattle.tb_float.specs.declared.Suppress.{Suppress};
 ghost use Rattle.tb_float.specs.Lists.{HasFloatAt, IsWaiting, entries_of, floats_of, has_class};
 ghost use Rattle.tb_float.specs.Ranges.{AreFloatParams, IsDimension, IsExtent, IsRoom, IsWithin};
-ghost use Rattle.tb_float.specs.Shelves.{is_float};
 ghost use Rattle.tb_float.specs.Rooms.{column_height_of, column_room_of, double_room_of};
 ghost use Rattle.tb_area.specs.Area.{may_come, only_page, fits_column, fits_top, fits_bottom, is_above_its_class, tries_top, tries_bottom, text_minimum, next_separator, double_room_for, fits_double, goes_double, may_enter};
 ghost use Rattle.tb_area.specs.RequiredRoom.{IsRequired};
@@ -36,17 +35,6 @@ pub(crate) fn waiting_float(pool: &Pool, from: Part, k: usize) -> Float
     ensures extent { IsExtent result.height }
 {
     float_at(pool, from, k)
-}
-
-/// The float of an entry that is one.
-pub(crate) fn float_in(entry: &Entry) -> &Float
-    requires { is_float entry.now ≡ true }
-    ensures { entry.now ≡ Entry.Float result.now }
-{
-    match entry {
-        Entry::Float(f) => f,
-        _ => unreachable!(),
-    }
 }
 
 /// Whether the count of a limit lets one more float in.

@@ -1,7 +1,8 @@
 -- What lists of slots show.
-use Rattle.std.proofs.Common.{◌≡◌, ◌≢◌, ℕ, zero, suc, ◌-◌, ◌≤◌, Bool, true, false, List, [], ◌∷◌, ◌++◌, length, take, map, Some, slice_get, refl, sym, ap, ◌∙◌, subst, arith, replicate}
+use Rattle.std.proofs.Common.{◌≡◌, ◌≢◌, ℕ, zero, suc, ◌-◌, ◌≤◌, ◌==◌, Bool, true, false, ◌||◌, List, [], ◌∷◌, ◌++◌, length, take, drop, map, Some, slice_get, refl, sym, ap, ◌∙◌, subst, arith, replicate}
 use Rattle.std.specs.Prelude.{◌+ℤ◌, ◌-ℤ◌, slice_set, All}
 use Rattle.std.proofs.lemmas.Int.{ints}
+use Rattle.std.proofs.Math.Bool.{or-true, or-false}
 use Rattle.std.proofs.lemmas.List.{map-append}
 use Rattle.std.proofs.lemmas.List.Elements.{All-nil, All-cons}
 use Rattle.std.proofs.lemmas.Option.{same_Some}
@@ -25,6 +26,21 @@ class-passed k (suc n) s ss ne another = by_entry s.entry another ∙ ap (λ m. 
     by_entry (entries.Float f) not = grind arith
     by_entry (entries.Left m) not = refl
     by_entry (entries.Right m) not = refl
+
+-- a float of the class is in a list if it is there from a place on or before it
+pub class-parts : (k n : ℕ) (ss : List SlotView) → (has_class k (floats_in (drop n ss)) || has_class k (floats_in (take n ss))) ≡ has_class k (floats_in ss)
+class-parts k zero ss = or-false (has_class k (floats_in ss))
+class-parts k (suc n) [] = refl
+class-parts k (suc n) (s ∷ ss) = by_entry s.entry (class-parts k n ss)
+  where
+    by_entry : (e : Entry) → (has_class k (floats_in (drop n ss)) || has_class k (floats_in (take n ss))) ≡ has_class k (floats_in ss) → (has_class k (floats_in (drop n ss)) || has_class k (float_before e (floats_in (take n ss)))) ≡ has_class k (float_before e (floats_in ss))
+    by_entry (entries.Float f) parts = by_test (f.class == k)
+      where
+        by_test : (t : Bool) → (has_class k (floats_in (drop n ss)) || (t || has_class k (floats_in (take n ss)))) ≡ (t || has_class k (floats_in ss))
+        by_test true = or-true (has_class k (floats_in (drop n ss)))
+        by_test false = parts
+    by_entry (entries.Left m) parts = parts
+    by_entry (entries.Right m) parts = parts
 
 -- ---- joined lists
 

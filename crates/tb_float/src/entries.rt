@@ -1,9 +1,33 @@
-//! The entries of a list in order.
+//! Entries, and those of a list in order.
+ghost use Rattle.std.specs.Prelude.{◌≡◌, true};
 ghost use Rattle.std.specs.Iterator.{YieldsFirstRef, item_count};
+ghost use Rattle.tb_float.specs.Shelves.{is_float};
 
 use crate::{Entry, Slot};
 use std::marker::Model;
+use tb_node::Float;
 use tb_pool::Iter;
+
+impl Entry {
+    /// The float of an entry that is one, as each entry is in which lists floats wait or are on a page.
+    ///
+    /// The arm of a note is proved never to be reached. It shifts by the width, which LLVM takes as undefined, so that a
+    /// walk over floats makes no test for notes.
+    #[inline(always)]
+    pub fn float(&self) -> &Float
+        requires { is_float self.now ≡ true }
+        ensures { self.now ≡ Entry.Float result.now }
+    {
+        match self {
+            Entry::Float(f) => f,
+            Entry::Left(_) | Entry::Right(_) => {
+                let mut never = [0u8; 1];
+                never[1 << usize::BITS] = 1;
+                unreachable!()
+            }
+        }
+    }
+}
 
 /// The entries of a list in order, seen as the list of those that are left.
 #[derive(Drop)]

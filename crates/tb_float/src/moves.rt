@@ -4,9 +4,7 @@ ghost use Rattle.tb_node.specs.declared.Float.{Float};
 ghost use Rattle.tb_float.specs.Lists.{entries_of, floats_of, entry_count, HasFloatAt, IsWaiting, float_entries};
 ghost use Rattle.tb_float.specs.Pool.{moved_float, joined_before, with_places, with_float_at, with_mark, without_entry, without_marks, HasNoMarks, marks_of, marked_floats, unmarked_floats, first_marked};
 
-use crate::slots::{
-    entry_height, float_in, mark_slot, move_slot, slot_at, take_marked, unmark_all,
-};
+use crate::slots::{entry_height, mark_slot, move_slot, slot_at, take_marked, unmark_all};
 use crate::{Entry, Part, Pool, Slot};
 use tb_node::{Float, Places};
 
@@ -93,7 +91,7 @@ impl Pool {
     {
         let list = self.shelves.lists.of(p);
         let slot = slot_at(&self.store, list, k);
-        let float = float_in(slot.entry);
+        let float = *slot.entry.float();
         self.store.replace(
             list,
             k,
@@ -146,7 +144,7 @@ impl Pool {
         };
         self.chosen -= 1;
         self.heights.lower(from, entry_height(&slot.entry));
-        Some(float_in(slot.entry))
+        Some(*slot.entry.float())
     }
 }
 

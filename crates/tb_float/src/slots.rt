@@ -1,5 +1,5 @@
 //! Slots in the lists of the store: moved by their links, taken out, searched.
-ghost use Rattle.std.specs.Prelude.{ℕ, ◌≡◌, ◌≢◌, ◌+◌, ◌<◌, ◌≤◌, [], ◌∷◌, ◌++◌, Some, IfSome, IfNone, IsTrue, length, true, map, slice_get, slice_set, take};
+ghost use Rattle.std.specs.Prelude.{ℕ, ◌≡◌, ◌≢◌, ◌+◌, ◌<◌, ◌≤◌, [], ◌∷◌, ◌++◌, Some, IfSome, IfNone, IsTrue, length, true, map, slice_get, slice_set, take, drop};
 ghost use Rattle.std.specs.FinMap.{insert};
 ghost use Rattle.tb_pool.specs.Lists.{IsLive, list_at, with_list};
 ghost use Rattle.tb_float.specs.Slots.{SlotView};
@@ -7,10 +7,9 @@ ghost use Rattle.tb_float.specs.Lists.{without_place, has_class, float_before};
 ghost use Rattle.tb_float.specs.Classes.{AreSetFrom};
 ghost use Rattle.tb_float.specs.Pool.{first_marked};
 ghost use Rattle.tb_float.specs.Rooms.{total_height};
-ghost use Rattle.tb_float.specs.Shelves.{HasTaken, marked_slot, unmarked_slot, floats_in, marks_in, is_float};
+ghost use Rattle.tb_float.specs.Shelves.{HasTaken, marked_slot, unmarked_slot, floats_in, marks_in};
 
 use crate::{Entry, Slot};
-use tb_node::Float;
 use tb_pool::{ListId, Lists};
 
 /// The slot at a place goes to the end of another list, without its mark, by links alone; returns it as it was.
@@ -217,17 +216,37 @@ pub(crate) fn first_marked(store: &Lists<Slot>, l: ListId) -> usize
     count
 }
 
-/// Whether a float of this class is among the first entries of a list.
-pub(crate) fn class_stands(store: &Lists<Slot>, l: ListId, count: usize, class: u8) -> bool
+// So many entries of a list are looked at first, the last ones.
+const LATE: usize = 64;
+
+/// Whether a float of this class is in a list. If many floats wait, one of each class mostly came late, so the last ones are
+/// looked at first.
+pub(crate) fn is_class_in(store: &Lists<Slot>, l: ListId, class: u8) -> bool
     requires { IsLive store.now l }
-    ensures { result ≡ has_class class (floats_in (take count (list_at store.now l))) }
+    ensures { result ≡ has_class class (floats_in (list_at store.now l)) }
+{
+    let count = store.len(l);
+    let before = if count < LATE { 0 } else { count - LATE };
+    class_stands(store, l, before, count, class) || class_stands(store, l, 0, before, class)
+}
+
+/// Whether a float of this class is among so many entries of a list from a place on.
+pub(crate) fn class_stands(
+    store: &Lists<Slot>,
+    l: ListId,
+    place: usize,
+    count: usize,
+    class: u8,
+) -> bool
+    requires { IsLive store.now l }
+    ensures { result ≡ has_class class (floats_in (take count (drop place (list_at store.now l)))) }
 {
     let mut left = count;
-    for slot in store.iter(l) {
+    for slot in store.iter_from(l, place) {
         if left == 0 {
             return false;
         }
-        if is_of_class(slot.entry, class) {
+        if is_of_class(&slot.entry, class) {
             return true;
         }
         left -= 1;
@@ -235,8 +254,8 @@ pub(crate) fn class_stands(store: &Lists<Slot>, l: ListId, count: usize, class: 
     false
 }
 
-fn is_of_class(entry: Entry, class: u8) -> bool
-    ensures { result ≡ has_class class (float_before entry []) }
+fn is_of_class(entry: &Entry, class: u8) -> bool
+    ensures { result ≡ has_class class (float_before entry.now []) }
 {
     match entry {
         Entry::Float(f) => f.class == class,
@@ -253,16 +272,5 @@ pub(crate) fn entry_height(entry: &Entry) -> i64
         Entry::Float(f) => f.height,
         Entry::Left(_) => 0,
         Entry::Right(_) => 0,
-    }
-}
-
-/// The float of an entry that is one.
-pub(crate) fn float_in(entry: Entry) -> Float
-    requires { is_float entry ≡ true }
-    ensures { entry ≡ Entry.Float result }
-{
-    match entry {
-        Entry::Float(f) => f,
-        _ => unreachable!(),
     }
 }

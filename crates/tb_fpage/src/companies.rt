@@ -5,13 +5,12 @@ ghost use Rattle.tb_node.specs.declared.Float.{Float as PlainFloat};
 ghost use Rattle.tb_float.specs.Classes.{AreClassesOf, AreOfClasses, HasLeft};
 ghost use Rattle.tb_float.specs.Lists.{IsWaiting, floats_of, has_class};
 ghost use Rattle.tb_float.specs.Pool.{marked_floats, marks_of, with_marks_of};
-ghost use Rattle.tb_float.specs.Shelves.{is_float};
-ghost use Rattle.tb_fpage.specs.Company.{Choice, company, company_height, is_head};
+ghost use Rattle.tb_fpage.specs.Company.{Choice, company, company_height, is_head, is_made};
 ghost use Rattle.tb_fpage.specs.Walk.{EndsBy, CompanyEndsBy, IsAfterHead, IsMarking, company_of_place, is_made_at};
 
 use crate::Wanted;
 use crate::walk::{Walk, suits};
-use tb_float::{ClassSet, Entry, Part, Pool};
+use tb_float::{ClassSet, Part, Pool};
 use tb_node::Float;
 
 /// A company that is made.
@@ -34,7 +33,7 @@ pub(crate) fn first_company(pool: &Pool, wanted: &Wanted, from: Part) -> Option<
     let mut earlier = pool.no_classes();
     let mut place = 0;
     for entry in pool.entries(from) {
-        let f = float_in(entry);
+        let f = entry.float();
         if let Some(last) = made_at(pool, wanted, from, place, &earlier, f) {
             return Some(Company {
                 walk: Walk::after_head(place, f.height, earlier),
@@ -83,6 +82,28 @@ fn made_at(
     if !is_head(wanted, earlier, f) {
         return None;
     }
+    company_end(pool, wanted, from, place, earlier, f)
+}
+
+// The same of a head. Few floats are heads, so this stays out of the walk that looks for them.
+#[inline(never)]
+fn company_end(
+    pool: &Pool,
+    wanted: &Wanted,
+    from: Part,
+    place: usize,
+    earlier: &ClassSet,
+    f: &Float,
+) -> Option<usize>
+    requires waiting { IsWaiting from }
+    requires few { length (floats_of from pool.now.lists) ≤ 4096 }
+    requires there { slice_get (floats_of from pool.now.lists) place ≡ Some f.now }
+    requires classes { AreClassesOf earlier.now (take place (floats_of from pool.now.lists)) }
+    requires left { HasLeft earlier.now (floats_of from pool.now.lists) }
+    ensures made { OnSome result (is_made wanted.now (company_of_place wanted.now place (floats_of from pool.now.lists) f.now) ≡ true) }
+    ensures last { IfSome result (λ last. EndsBy last (company_of_place wanted.now place (floats_of from pool.now.lists) f.now)) }
+    ensures none { IfNone result (is_made wanted.now (company_of_place wanted.now place (floats_of from pool.now.lists) f.now) ≡ false) }
+{
     let company = walk_company(pool, wanted, from, place, earlier, f);
     if is_made(wanted, company.height) {
         Some(company.last)
@@ -125,7 +146,7 @@ fn walk_company(
     let mut walk = Walk::after_head(place, f.height, *earlier);
     let least = pool.least_height();
     for entry in pool.entries_from(from, walk.seen) {
-        let f = float_in(entry);
+        let f = entry.float();
         let had = walk.failed.has(f.class);
         walk.visit(wanted, f);
         if had {
@@ -136,17 +157,6 @@ fn walk_company(
         }
     }
     walk
-}
-
-// The float of an entry that is one.
-fn float_in(entry: &Entry) -> &Float
-    requires { is_float entry.now ≡ true }
-    ensures { entry.now ≡ Entry.Float result.now }
-{
-    match entry {
-        Entry::Float(f) => f,
-        _ => unreachable!(),
-    }
 }
 
 /// Marks the floats of a company that is made: its head, which a walk has passed last, and those after it that join.
@@ -194,7 +204,7 @@ fn next_joined(
         if walk.seen == last {
             return None;
         }
-        if walk.visit(wanted, float_in(entry)) {
+        if walk.visit(wanted, entry.float()) {
             return Some(walk.seen - 1);
         }
     }

@@ -5,8 +5,7 @@ use Rattle.tb_float.proofs.EntryLemmas.{drop-entries, next-is_float, next-entry,
 use Rattle.tb_float.proofs.WaitingLemmas.{waiting-entries, waiting-count}
 use Rattle.tb_area.specs.declared.deferred.Kept.{Kept}
 use Rattle.tb_area.specs.Area.{double_place}
-use Rattle.tb_area.specs.Deferred.{doubled}
-use Rattle.tb_area.proofs.DeferredWalks.{way-stays, double-stays, double-full}
+use Rattle.tb_area.proofs.DeferredWalks.{double-kept, double-full}
 use Rattle.tb_area.proofs.deferred.next_double.Goals as goal
 
 pub loop-entry-init : goal.loop-entry-init
@@ -20,8 +19,8 @@ loop-entry-init c =
       way = λ s end h. h;
     }
 
-pub float_in-f-requires : goal.float_in-f-requires
-float_in-f-requires c =
+pub float-f-requires : goal.float-f-requires
+float-f-requires c =
     let fs = floats_of c.args.from c.args.pool.now.lists in
     next-is_float c.in-Some.entry.now c.next.new.self (drop c.loop-entry.kept.count fs) (sym c.in-Some.ensures.steps ∙ c.loop-entry.invariant.left)
 
@@ -33,14 +32,32 @@ loop-entry-preserved c =
     let fs = floats_of from l in
     let w = c.loop-entry.kept in
     let v = c.keep.new.self in
-    let f = c.float_in-f.result.now in
-    let next = next-entry fs w.count c.in-Some.entry.now c.next.new.self f (sym c.in-Some.ensures.steps ∙ c.loop-entry.invariant.left) c.float_in-f.ensures in
+    let f = c.float-f.result.now in
+    let next = next-entry fs w.count c.in-Some.entry.now c.next.new.self f (sym c.in-Some.ensures.steps ∙ c.loop-entry.invariant.left) c.float-f.ensures in
     let one : suc w.count ≡ v.count = omega (arith, c.keep.ensures.count) in
     record {
       can_next = tt;
       is_finite = tt;
       left = next.1 ∙ ap (λ n. float_entries (drop n fs)) one;
-      way = λ s end h. way-stays from (doubled from p s) w v l end f c.keep.ensures.count next.0 c.keep.ensures.classes c.keep.ensures.left (λ before rest classes. double-stays from p s l f before rest (c.in-Deferred.ensures s before classes)) (c.loop-entry.invariant.way s end h);
+      way = λ s end h. double-kept from p s w v l end f c.keep.ensures.count next.0 c.keep.ensures.classes c.keep.ensures.left (c.in-Deferred.ensures s) (c.loop-entry.invariant.way s end h);
+    }
+
+pub loop-entry-preserved-then-had : goal.loop-entry-preserved-then-had
+loop-entry-preserved-then-had c =
+    let p = c.args.p.now in
+    let from = c.args.from in
+    let l = c.args.pool.now.lists in
+    let fs = floats_of from l in
+    let w = c.loop-entry.kept in
+    let v = c.keep.new.self in
+    let f = c.float-f.result.now in
+    let next = next-entry fs w.count c.in-Some.entry.now c.next.new.self f (sym c.in-Some.ensures.steps ∙ c.loop-entry.invariant.left) c.float-f.ensures in
+    let one : suc w.count ≡ v.count = omega (arith, c.keep.ensures.count) in
+    record {
+      can_next = tt;
+      is_finite = tt;
+      left = next.1 ∙ ap (λ n. float_entries (drop n fs)) one;
+      way = λ s end h. double-kept from p s w v l end f c.keep.ensures.count next.0 c.keep.ensures.classes c.keep.ensures.left (c.in-Deferred.ensures s) (c.loop-entry.invariant.way s end h);
     }
 
 pub returns-in_default : goal.returns-in_default
@@ -49,8 +66,8 @@ returns-in_default c =
     let l = c.args.pool.now.lists in
     let fs = floats_of c.args.from l in
     let w = c.loop-entry.kept in
-    let f = c.float_in-f.result.now in
-    let next = next-entry fs w.count c.in-Some.entry.now c.next.new.self f (sym c.in-Some.ensures.steps ∙ c.loop-entry.invariant.left) c.float_in-f.ensures in
+    let f = c.float-f.result.now in
+    let next = next-entry fs w.count c.in-Some.entry.now c.next.new.self f (sym c.in-Some.ensures.steps ∙ c.loop-entry.invariant.left) c.float-f.ensures in
     record {
       way = c.loop-entry.invariant.way;
       within = λ ne. slice_get_within fs w.count f next.0;
@@ -69,17 +86,21 @@ returns-clause-over c = λ e. no-entry (floats_of c.args.from c.args.pool.now.li
 
 pub returns-then-is_full : goal.returns-then-is_full
 returns-then-is_full c =
+    let p = c.args.p.now in
     let from = c.args.from in
     let l = c.args.pool.now.lists in
     let fs = floats_of from l in
     let w = c.loop-entry.kept in
-    let v : Kept = record w { count = c.len-kept.result } in
+    let u = c.keep.new.self in
+    let v : Kept = record u { count = c.len-kept.result } in
+    let f = c.float-f.result.now in
+    let next = next-entry fs w.count c.in-Some.entry.now c.next.new.self f (sym c.in-Some.ensures.steps ∙ c.loop-entry.invariant.left) c.float-f.ensures in
     let all = c.len-kept.ensures.value ∙ waiting-count from c.requires.waiting l in
     record {
       way = λ s end h.
-          let way = c.loop-entry.invariant.way s end h in
-          double-full from c.args.p.now s w v l end all refl (c.is_full.ensures.all c.if-is_full.true (take w.count fs) fs way.classes way.left) way;
+          let way = double-kept from p s w u l end f c.keep.ensures.count next.0 c.keep.ensures.classes c.keep.ensures.left (c.in-Deferred.ensures s) (c.loop-entry.invariant.way s end h) in
+          double-full from p s u v l end all refl (c.is_full.ensures.all c.if-is_full.true (take u.count fs) fs way.classes way.left) way;
       within = λ ne. absurd (ne refl);
-      place = λ s end f h got. absurd (omega (arith, all, slice_get_within fs v.count f got));
+      place = λ s end g h got. absurd (omega (arith, all, slice_get_within fs v.count g got));
       over = λ e. omega (arith, all);
     }

@@ -89,8 +89,8 @@ lower-requires c =
       less = simp to_z-of_z (subst IsRoom (sym height_is) (entry-is_room s.entry sized));
     }
 
-pub float_in-requires : goal.float_in-requires
-float_in-requires c =
+pub float-requires : goal.float-requires
+float-requires c =
     let at = slots_of c.self.inside.store c.self.inside.shelves in
     let gone = rw c.of.ensures at c.in-Some.ensures.taken in
     let was = gone.was in
@@ -120,15 +120,15 @@ invariant_of-self-2 c =
     let k_is : k ≡ first_marked ms = refl in
     let marks_are : marks_of c.args.from v ≡ ms = marks_of-seen c.args.from at i.size c.requires in
     let floats_are : floats_of c.args.from v.lists ≡ fs = floats_of-seen c.args.from at in
-    let is : s.entry ≡ entries.Float c.float_in.result = ap (λ (r : SlotView). r.entry) (sym c.slot.view_is) ∙ c.float_in.ensures in
-    let there = float-at_slot c.args.from k (at c.args.from) s c.float_in.result (waiting-floats c.args.from c.requires) slots was is in
+    let is : s.entry ≡ entries.Float c.float.result.now = ap (λ (r : SlotView). r.entry) (sym c.slot.view_is) ∙ c.float.ensures in
+    let there = float-at_slot c.args.from k (at c.args.from) s c.float.result.now (waiting-floats c.args.from c.requires) slots was is in
     let left = left-over c.args.from (first_marked ms) v ms fs c.requires marks_are floats_are in
-    let first = first-marked ms fs c.float_in.result (marks-shown c.args.from at (waiting-floats c.args.from c.requires) slots) (ap (slice_get fs) (sym k_is) ∙ there) in
-    let marked = (λ j. marked_among (marks_are j) (floats_are j)) ∙ first.marked ∙ ap (λ hs. c.float_in.result ∷ hs) (sym left.0) ∙ ap (λ j. c.float_in.result ∷ marked_floats c.args.from (without_entry c.args.from j v)) (sym k_is) in
+    let first = first-marked ms fs c.float.result.now (marks-shown c.args.from at (waiting-floats c.args.from c.requires) slots) (ap (slice_get fs) (sym k_is) ∙ there) in
+    let marked = (λ j. marked_among (marks_are j) (floats_are j)) ∙ first.marked ∙ ap (λ hs. c.float.result.now ∷ hs) (sym left.0) ∙ ap (λ j. c.float.result.now ∷ marked_floats c.args.from (without_entry c.args.from j v)) (sym k_is) in
     let many = length-map (at c.args.from) (λ (r : SlotView). r.marked) in
     let lt : k < length (marks_of c.args.from v) = omega (arith, ap length marks_are, many, slice_get_within (at c.args.from) k s was) in
     let marks_from = place-without i.marks_from c.args.from k v c.requires (k_is ∙ ap first_marked (sym marks_are)) lt c.self.invariant.marked_from in
-    pooled-marked c.take_marked.new.store i.shelves c.lower.new.self i.size i.known (i.chosen - 1) i.least i.marks_from _ stored made.seen (tracked-fewer (IsTracked i.known.flags i.least) i.chosen c.args.from k c.float_in.result v c.requires c.self.invariant.tracked marked) marks_from
+    pooled-marked c.take_marked.new.store i.shelves c.lower.new.self i.size i.known (i.chosen - 1) i.least i.marks_from _ stored made.seen (tracked-fewer (IsTracked i.known.flags i.least) i.chosen c.args.from k c.float.result.now v c.requires c.self.invariant.tracked marked) marks_from
 
 pub returns : goal.returns
 returns c =
@@ -138,7 +138,7 @@ returns c =
     let fs = floats_in (at c.args.from) in
     let k = first_marked ms in
     let s = c.in-Some.slot in
-    let f = c.float_in.result in
+    let f = c.float.result.now in
     let slots = c.self.invariant.stored.sound.slots c.args.from in
     let k_is : k ≡ first_marked ms = refl in
     let gone = rw c.of.ensures at c.in-Some.ensures.taken in
@@ -147,7 +147,7 @@ returns c =
     let marks_are : marks_of c.args.from (seen_pool at i.size) ≡ marks_in (at c.args.from) = marks_of-seen c.args.from at i.size c.requires in
     let floats_are : floats_of c.args.from (seen_pool at i.size).lists ≡ floats_in (at c.args.from) = floats_of-seen c.args.from at in
     let made = taken-out i.store c.take_marked.new.store i.shelves i.heights i.size c.args.from k s c.self.invariant.stored was taken gone.spare in
-    let is : s.entry ≡ entries.Float f = ap (λ (r : SlotView). r.entry) (sym c.slot.view_is) ∙ c.float_in.ensures in
+    let is : s.entry ≡ entries.Float f = ap (λ (r : SlotView). r.entry) (sym c.slot.view_is) ∙ c.float.ensures in
     let there = float-at_slot c.args.from k (at c.args.from) s f (waiting-floats c.args.from c.requires) slots was is in
     let left = left-over c.args.from (first_marked ms) (seen_pool at i.size) ms fs c.requires marks_are floats_are in
     let first = first-marked ms fs f (marks-shown c.args.from at (waiting-floats c.args.from c.requires) slots) (ap (slice_get fs) (sym k_is) ∙ there) in

@@ -30,8 +30,8 @@ replace-requires-clause-within c =
     let there = float-there at c.args.p c.args.k float.0 (c.self.invariant.stored.sound.slots c.args.p) float.1 in
     rw c.of-list.ensures (slice_get_within (at c.args.p) c.args.k there.0 there.1)
 
-pub float_in-float-requires : goal.float_in-float-requires
-float_in-float-requires c =
+pub float-float-requires : goal.float-float-requires
+float-float-requires c =
     let i = c.self.inside in
     let at = slots_of i.store i.shelves in
     let float = rw (← c.self.view_is) at c.requires in
@@ -44,9 +44,9 @@ invariant_of-self c =
     let i = c.self.inside in
     let at = slots_of i.store i.shelves in
     let s = c.slot_at-slot.result in
-    let f = c.float_in-float.result in
+    let f = c.float-float.result.now in
     let got : slice_get (at c.args.p) c.args.k ≡ Some s = rw c.of-list.ensures at c.slot_at-slot.ensures in
-    let is : s.entry ≡ entries.Float f = ap (λ (r : SlotView). r.entry) (sym c.slot.view_is) ∙ c.float_in-float.ensures in
+    let is : s.entry ≡ entries.Float f = ap (λ (r : SlotView). r.entry) (sym c.slot.view_is) ∙ c.float-float.ensures in
     let after = rw (c.of-list.ensures, c.with_places.ensures) at c.replace.ensures.after in
     let written = after ∙ ap (λ (r : SlotView). with_list i.store (shelf_of i.shelves c.args.p) (slice_set (at c.args.p) c.args.k (record { entry = entries.Float (with_places c.args.places f); marked = r.marked }))) c.slot.view_is in
     let made = places-set i.store c.replace.new.self i.shelves i.heights i.size c.args.p c.args.k s f (with_places c.args.places f) c.self.invariant.stored got is refl written c.replace.ensures.spare in
@@ -61,9 +61,9 @@ returns-clause-set c = λ g e.
     let i = c.self.inside in
     let at = slots_of i.store i.shelves in
     let s = c.slot_at-slot.result in
-    let f = c.float_in-float.result in
+    let f = c.float-float.result.now in
     let got : slice_get (at c.args.p) c.args.k ≡ Some s = rw c.of-list.ensures at c.slot_at-slot.ensures in
-    let is : s.entry ≡ entries.Float f = ap (λ (r : SlotView). r.entry) (sym c.slot.view_is) ∙ c.float_in-float.ensures in
+    let is : s.entry ≡ entries.Float f = ap (λ (r : SlotView). r.entry) (sym c.slot.view_is) ∙ c.float-float.ensures in
     let after = rw (c.of-list.ensures, c.with_places.ensures) at c.replace.ensures.after in
     let written = after ∙ ap (λ (r : SlotView). with_list i.store (shelf_of i.shelves c.args.p) (slice_set (at c.args.p) c.args.k (record { entry = entries.Float (with_places c.args.places f); marked = r.marked }))) c.slot.view_is in
     let made = places-set i.store c.replace.new.self i.shelves i.heights i.size c.args.p c.args.k s f (with_places c.args.places f) c.self.invariant.stored got is refl written c.replace.ensures.spare in
@@ -76,9 +76,9 @@ returns-clause-unmarked c = λ none.
     let i = c.self.inside in
     let at = slots_of i.store i.shelves in
     let s = c.slot_at-slot.result in
-    let f = c.float_in-float.result in
+    let f = c.float-float.result.now in
     let got : slice_get (at c.args.p) c.args.k ≡ Some s = rw c.of-list.ensures at c.slot_at-slot.ensures in
-    let is : s.entry ≡ entries.Float f = ap (λ (r : SlotView). r.entry) (sym c.slot.view_is) ∙ c.float_in-float.ensures in
+    let is : s.entry ≡ entries.Float f = ap (λ (r : SlotView). r.entry) (sym c.slot.view_is) ∙ c.float-float.ensures in
     let after = rw (c.of-list.ensures, c.with_places.ensures) at c.replace.ensures.after in
     let written = after ∙ ap (λ (r : SlotView). with_list i.store (shelf_of i.shelves c.args.p) (slice_set (at c.args.p) c.args.k (record { entry = entries.Float (with_places c.args.places f); marked = r.marked }))) c.slot.view_is in
     let made = places-set i.store c.replace.new.self i.shelves i.heights i.size c.args.p c.args.k s f (with_places c.args.places f) c.self.invariant.stored got is refl written c.replace.ensures.spare in

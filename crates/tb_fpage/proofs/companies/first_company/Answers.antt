@@ -11,8 +11,8 @@ use Rattle.tb_float.proofs.HasLemmas.{has-there}
 use Rattle.tb_fpage.proofs.FullLemmas.{tried-full}
 use Rattle.tb_fpage.proofs.companies.first_company.Goals as goal
 
-pub float_in-f-requires : goal.float_in-f-requires
-float_in-f-requires c =
+pub float-f-requires : goal.float-f-requires
+float-f-requires c =
     let way = c.loop-entry.invariant.tried in
     next-is_float c.in-Some.entry.now c.next.new.self way.0 (sym c.in-Some.ensures.steps ∙ way.1)
 
@@ -20,9 +20,9 @@ pub made_at-requires-clause-there : goal.made_at-requires-clause-there
 made_at-requires-clause-there c =
     let way = c.loop-entry.invariant.tried in
     let z = c.args.wanted.now in
-    let f = c.float_in-f.result.now in
+    let f = c.float-f.result.now in
     let all = floats_of c.args.from c.args.pool.now.lists in
-    let next = next-float c.in-Some.entry.now c.next.new.self way.0 f (sym c.in-Some.ensures.steps ∙ way.1) c.float_in-f.ensures in
+    let next = next-float c.in-Some.entry.now c.next.new.self way.0 f (sym c.in-Some.ensures.steps ∙ way.1) c.float-f.ensures in
     let t = subst (λ (fs : List Float). AreTried z c.loop-entry.earlier c.loop-entry.place all fs) next.2 way.2 in
     tried-there z c.loop-entry.earlier c.loop-entry.place all next.0 f t
 
@@ -30,10 +30,10 @@ pub returns-in-Some-made_at : goal.returns-in-Some-made_at
 returns-in-Some-made_at c =
     let way = c.loop-entry.invariant.tried in
     let z = c.args.wanted.now in
-    let f = c.float_in-f.result.now in
+    let f = c.float-f.result.now in
     let place = c.loop-entry.place in
     let all = floats_of c.args.from c.args.pool.now.lists in
-    let next = next-float c.in-Some.entry.now c.next.new.self way.0 f (sym c.in-Some.ensures.steps ∙ way.1) c.float_in-f.ensures in
+    let next = next-float c.in-Some.entry.now c.next.new.self way.0 f (sym c.in-Some.ensures.steps ∙ way.1) c.float-f.ensures in
     let t = subst (λ (fs : List Float). AreTried z c.loop-entry.earlier place all fs) next.2 way.2 in
     let made : is_made_at z place all f ≡ true = c.in-Some-made_at.ensures.made in
     let fits : FitsSigned w64 f.height = search rules in
@@ -47,10 +47,10 @@ pub loop-entry-preserved : goal.loop-entry-preserved
 loop-entry-preserved c =
     let way = c.loop-entry.invariant.tried in
     let z = c.args.wanted.now in
-    let f = c.float_in-f.result.now in
+    let f = c.float-f.result.now in
     let place = c.loop-entry.place in
     let all = floats_of c.args.from c.args.pool.now.lists in
-    let next = next-float c.in-Some.entry.now c.next.new.self way.0 f (sym c.in-Some.ensures.steps ∙ way.1) c.float_in-f.ensures in
+    let next = next-float c.in-Some.entry.now c.next.new.self way.0 f (sym c.in-Some.ensures.steps ∙ way.1) c.float-f.ensures in
     let t = subst (λ (fs : List Float). AreTried z c.loop-entry.earlier place all fs) next.2 way.2 in
     let none : is_made_at z place all f ≡ false = c.in_default.ensures.none in
     record {
@@ -71,10 +71,10 @@ pub returns-then-fills-clause-none : goal.returns-then-fills-clause-none
 returns-then-fills-clause-none c =
     let way = c.loop-entry.invariant.tried in
     let z = c.args.wanted.now in
-    let f = c.float_in-f.result.now in
+    let f = c.float-f.result.now in
     let place = c.loop-entry.place in
     let all = floats_of c.args.from c.args.pool.now.lists in
-    let next = next-float c.in-Some.entry.now c.next.new.self way.0 f (sym c.in-Some.ensures.steps ∙ way.1) c.float_in-f.ensures in
+    let next = next-float c.in-Some.entry.now c.next.new.self way.0 f (sym c.in-Some.ensures.steps ∙ way.1) c.float-f.ensures in
     let t = subst (λ (fs : List Float). AreTried z c.loop-entry.earlier place all fs) next.2 way.2 in
     let none : is_made_at z place all f ≡ false = c.in_default.ensures.none in
     let after = tried-next z c.loop-entry.earlier c.fills.new.set place all next.0 f t none (c.fills.ensures.classes (take place all) f refl t.classes) in

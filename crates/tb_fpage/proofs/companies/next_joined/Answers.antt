@@ -21,8 +21,8 @@ loop-entry-init c =
       further = omega arith;
     }
 
-pub float_in-requires : goal.float_in-requires
-float_in-requires c =
+pub float-requires : goal.float-requires
+float-requires c =
     let all = floats_of c.args.from c.args.pool.now.lists in
     next-is_float c.in-Some.entry.now c.next.new.self (drop c.loop-entry.walk.seen all) (sym c.in-Some.ensures.steps ∙ c.loop-entry.invariant.left)
 
@@ -30,8 +30,8 @@ pub visit-requires : goal.visit-requires
 visit-requires c =
     let all = floats_of c.args.from c.args.pool.now.lists in
     let w = c.loop-entry.walk in
-    let f = c.float_in.result.now in
-    let next = next-float c.in-Some.entry.now c.next.new.self (drop w.seen all) f (sym c.in-Some.ensures.steps ∙ c.loop-entry.invariant.left) c.float_in.ensures in
+    let f = c.float.result.now in
+    let next = next-float c.in-Some.entry.now c.next.new.self (drop w.seen all) f (sym c.in-Some.ensures.steps ∙ c.loop-entry.invariant.left) c.float.ensures in
     let room = on-way-room c.args.wanted.now w all next.0 f _ c.requires.few (sym next.2) c.loop-entry.invariant.marking.way in
     record { room = room.0; height = room.1 }
 
@@ -42,8 +42,8 @@ returns-then-visit-clause-marking c =
     let z = c.args.wanted.now in
     let w = c.loop-entry.walk in
     let v = c.visit.new.self in
-    let f = c.float_in.result.now in
-    let next = next-float c.in-Some.entry.now c.next.new.self (drop w.seen all) f (sym c.in-Some.ensures.steps ∙ c.loop-entry.invariant.left) c.float_in.ensures in
+    let f = c.float.result.now in
+    let next = next-float c.in-Some.entry.now c.next.new.self (drop w.seen all) f (sym c.in-Some.ensures.steps ∙ c.loop-entry.invariant.left) c.float.ensures in
     let place : w.seen ≡ v.seen - 1 = omega (arith, c.visit.ensures.seen) in
     subst (λ n. IsMarking v z all (slice_set marks n true)) place (marking-joined z w v all next.0 f c.visit.result marks c.visit.ensures.seen (sym next.2) c.visit.ensures.joins c.visit.ensures.stands c.loop-entry.invariant.marking c.if-visit.true)
 
@@ -53,8 +53,8 @@ loop-entry-preserved c =
     let z = c.args.wanted.now in
     let w = c.loop-entry.walk in
     let v = c.visit.new.self in
-    let f = c.float_in.result.now in
-    let next = next-float c.in-Some.entry.now c.next.new.self (drop w.seen all) f (sym c.in-Some.ensures.steps ∙ c.loop-entry.invariant.left) c.float_in.ensures in
+    let f = c.float.result.now in
+    let next = next-float c.in-Some.entry.now c.next.new.self (drop w.seen all) f (sym c.in-Some.ensures.steps ∙ c.loop-entry.invariant.left) c.float.ensures in
     record {
       can_next = tt;
       is_finite = tt;

@@ -28,8 +28,8 @@ loop-entry-init c =
       classes_left = subst (λ s. HasLeft s all) (sym failed) c.requires.left;
     }
 
-pub float_in-f-requires : goal.float_in-f-requires
-float_in-f-requires c =
+pub float-f-requires : goal.float-f-requires
+float-f-requires c =
     let all = floats_of c.args.from c.args.pool.now.lists in
     next-is_float c.in-Some.entry.now c.next.new.self (drop c.loop-entry.walk.seen all) (sym c.in-Some.ensures.steps ∙ c.loop-entry.invariant.left)
 
@@ -37,8 +37,8 @@ pub visit-requires : goal.visit-requires
 visit-requires c =
     let all = floats_of c.args.from c.args.pool.now.lists in
     let w = c.loop-entry.walk in
-    let f = c.float_in-f.result.now in
-    let next = next-float c.in-Some.entry.now c.next.new.self (drop w.seen all) f (sym c.in-Some.ensures.steps ∙ c.loop-entry.invariant.left) c.float_in-f.ensures in
+    let f = c.float-f.result.now in
+    let next = next-float c.in-Some.entry.now c.next.new.self (drop w.seen all) f (sym c.in-Some.ensures.steps ∙ c.loop-entry.invariant.left) c.float-f.ensures in
     let room = on-way-room c.args.wanted.now w all next.0 f _ c.requires.few (sym next.2) c.loop-entry.invariant.way in
     record { room = room.0; height = room.1 }
 
@@ -47,8 +47,8 @@ loop-entry-preserved c =
     let all = floats_of c.args.from c.args.pool.now.lists in
     let w = c.loop-entry.walk in
     let v = c.visit.new.self in
-    let f = c.float_in-f.result.now in
-    let next = next-float c.in-Some.entry.now c.next.new.self (drop w.seen all) f (sym c.in-Some.ensures.steps ∙ c.loop-entry.invariant.left) c.float_in-f.ensures in
+    let f = c.float-f.result.now in
+    let next = next-float c.in-Some.entry.now c.next.new.self (drop w.seen all) f (sym c.in-Some.ensures.steps ∙ c.loop-entry.invariant.left) c.float-f.ensures in
     record {
       can_next = tt;
       is_finite = tt;
@@ -62,8 +62,8 @@ loop-entry-preserved-then-had c =
     let all = floats_of c.args.from c.args.pool.now.lists in
     let w = c.loop-entry.walk in
     let v = c.visit.new.self in
-    let f = c.float_in-f.result.now in
-    let next = next-float c.in-Some.entry.now c.next.new.self (drop w.seen all) f (sym c.in-Some.ensures.steps ∙ c.loop-entry.invariant.left) c.float_in-f.ensures in
+    let f = c.float-f.result.now in
+    let next = next-float c.in-Some.entry.now c.next.new.self (drop w.seen all) f (sym c.in-Some.ensures.steps ∙ c.loop-entry.invariant.left) c.float-f.ensures in
     record {
       can_next = tt;
       is_finite = tt;
@@ -91,8 +91,8 @@ is_over-requires c =
     let z = c.args.wanted.now in
     let w = c.loop-entry.walk in
     let v = c.visit.new.self in
-    let f = c.float_in-f.result.now in
-    let next = next-float c.in-Some.entry.now c.next.new.self (drop w.seen all) f (sym c.in-Some.ensures.steps ∙ c.loop-entry.invariant.left) c.float_in-f.ensures in
+    let f = c.float-f.result.now in
+    let next = next-float c.in-Some.entry.now c.next.new.self (drop w.seen all) f (sym c.in-Some.ensures.steps ∙ c.loop-entry.invariant.left) c.float-f.ensures in
     let way = on-way-next z w v all next.0 f c.visit.result _ c.visit.ensures.seen (sym next.2) c.visit.ensures.joins c.visit.ensures.stands c.loop-entry.invariant.way in
     let within = within-drop w.seen all next.0 f (sym next.2) in
     on-way-within z v all _ c.requires.few (omega (arith, c.visit.ensures.seen, within)) way
@@ -103,8 +103,8 @@ returns-then-is_over c =
     let z = c.args.wanted.now in
     let w = c.loop-entry.walk in
     let v = c.visit.new.self in
-    let f = c.float_in-f.result.now in
-    let next = next-float c.in-Some.entry.now c.next.new.self (drop w.seen all) f (sym c.in-Some.ensures.steps ∙ c.loop-entry.invariant.left) c.float_in-f.ensures in
+    let f = c.float-f.result.now in
+    let next = next-float c.in-Some.entry.now c.next.new.self (drop w.seen all) f (sym c.in-Some.ensures.steps ∙ c.loop-entry.invariant.left) c.float-f.ensures in
     let way = on-way-next z w v all next.0 f c.visit.result _ c.visit.ensures.seen (sym next.2) c.visit.ensures.joins c.visit.ensures.stands c.loop-entry.invariant.way in
     let left = c.visit.ensures.left all (has-left all next.0 w.seen f (sym next.2)) c.loop-entry.invariant.classes_left in
     let least = c.least_height-least.result in
