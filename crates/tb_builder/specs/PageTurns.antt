@@ -1,6 +1,7 @@
 -- One more node: what a turn of the page builder changes.
-use Rattle.std.specs.Prelude.{◌≡◌, ℕ, ◌<◌, ◌≤◌, Bool, true, false, List, [], ◌∷◌, ◌++◌, length, Option, Some, None}
+use Rattle.std.specs.Prelude.{◌≡◌, ℕ, ◌<◌, ◌≤◌, Bool, true, false, List, [], ◌∷◌, ◌++◌, length, slice_get, Option, Some, None}
 use Rattle.tb_pool.specs.Lists.{Lists}
+use Rattle.tb_node.specs.declared.Insertion.{Insertion}
 use Rattle.tb_node.specs.declared.Node.{Node}
 use Rattle.tb_node.specs.PlainNodes.{PlainNode, plain_of, shape_of}
 use Rattle.tb_node.specs.SmallAmounts.{IsSmallShape}
@@ -12,6 +13,8 @@ use Rattle.tb_builder.specs.declared.Ask.{Ask}
 use Rattle.tb_builder.specs.declared.Try.{Try}
 use Rattle.tb_builder.specs.declared.Event.{Event}
 use Rattle.tb_builder.specs.declared.Event.TheVariants as events
+use Rattle.tb_builder.specs.declared.Turn.{Turn}
+use Rattle.tb_builder.specs.declared.Turn.TheVariants as turns
 use Rattle.tb_builder.specs.declared.Course.{Course}
 use Rattle.tb_builder.specs.declared.Builder.{Builder}
 use Rattle.tb_builder.specs.Reach.{tried, Reach, also_reached, reach_from, try_of, breakpoints}
@@ -89,6 +92,19 @@ StepIs (Some events.Empty) z k c d = ⊥
 abbrev pub event_of : Bool → Try → Option Event
 event_of false t = None
 event_of true t = Some (events.Try t)
+
+-- the event of a turn, t being what was tried last
+abbrev pub turned : Turn → Try → Option Event
+turned turns.Goes t = None
+turned turns.Tried t = Some (events.Try t)
+turned (turns.Acts a) t = Some (events.Act a)
+turned turns.Ends t = Some events.Empty
+
+-- the list begins with this insertion
+pub record IsFirst (i : Insertion) (ns : List Node) : Type 0 where
+  pub node : Node
+  pub first : slice_get ns 0 ≡ Some node
+  pub is : insertion_of_kind node.kind ≡ Some i
 
 -- what a step requires of the node: all that is added up with it fits
 pub record StepFits (z : Frozen) (page : List PlainNode) (held : ℕ → List Node) (n : Node) : Type 0 where

@@ -23,17 +23,25 @@ ghost use Rattle.tb_builder.specs.PassedNodes.{EventPast};
 ghost use Rattle.tb_builder.specs.PageCalls.{ComesAfter, IsNoPlace};
 ghost use Rattle.tb_builder.specs.PageWalks.{moved, LeadsOn, seen_of};
 ghost use Rattle.tb_builder.specs.declared.Seen.TheVariants.{Space};
-ghost use Rattle.tb_builder.specs.PageTurns.{ChangesPage, Shifted, StepIs, StepFits, event_of, TurnIs, Filled};
+ghost use Rattle.tb_builder.specs.declared.Try.{Try as TryOf};
+ghost use Rattle.tb_builder.specs.PageTurns.{ChangesPage, Shifted, StepIs, StepFits, event_of, turned, IsFirst, TurnIs, Filled};
 
 use crate::courses::stops;
 use crate::front_nodes::{drop_first, glue_in, is_walked, penalty_of, seen_in};
 use crate::fronts::move_front;
 use crate::sizes::list_size;
-use crate::{Ask, Builder, Event, Seen};
+use crate::{Ask, Builder, Event, Seen, Turn};
 use std::alloc::AllocError;
 use tb_break::{is_box, place_penalty, top_node};
 use tb_node::{Insertion, Kind, Node, Role};
 use tb_pool::Lists;
+
+// The turn of a node that is no event of its own, by whether a place was tried.
+fn turn_by(tried: bool) -> Turn
+    ensures { (t : TryOf) → turned result t ≡ event_of tried t }
+{
+    if tried { Turn::Tried } else { Turn::Goes }
+}
 
 impl Builder {
     /// The next event: the next legal place or act among the waiting nodes. The nodes before it are on the page then.
@@ -84,11 +92,15 @@ impl Builder {
     {
         'places: loop {
             self.pass_nodes(store, ask);
-            match self.next(store, ask)? {
-                Event::Try(_) => {}
-                Event::Act(act) => return Ok(Event::Act(act)),
-                Event::Fired(page) => return Ok(Event::Fired(page)),
-                Event::Empty => return Ok(Event::Empty),
+            if self.stopped {
+                return self.next(store, ask);
+            }
+            self.make_room(store)?;
+            match self.turn(store, ask) {
+                Turn::Goes => {}
+                Turn::Tried => {}
+                Turn::Acts(act) => return Ok(Event::Act(act)),
+                Turn::Ends => return Ok(Event::Empty),
             }
         }
     }
@@ -259,8 +271,7 @@ impl Builder {
         store.reserve(1)
     }
 
-    // The waiting nodes go on the page, up to the next event. Most of them are no event and go on a page that is laid
-    // out: such a node is not copied.
+    // The waiting nodes go on the page, up to the next event.
     #[inline(always)]
     fn fill(&mut self, store: &mut Lists<Node>, ask: &Ask) -> Event
         requires sound { IsSound self.old store.old }
@@ -269,35 +280,50 @@ impl Builder {
         requires room { self.old.opened ≡ false → 0 < store.old.spare }
         ensures { Filled self.old store.old ask.now result self.new store.new }
     {
-        while let Some(n) = store.get(self.waiting, 0) {
-            if !self.goes_on(n) {
-                if self.vanishes(n) {
-                    drop_first(store, self.waiting);
-                    continue;
-                }
-                let n = *n;
-                match n.role() {
-                    Role::Act(act) => {
-                        drop_first(store, self.waiting);
-                        return Event::Act(act);
-                    }
-                    Role::Insertion(i) => {
-                        self.meet(store, ask, &n, &i);
-                        continue;
-                    }
-                    Role::Matter => {
-                        if self.begin(store, ask, &n) {
-                            return Event::Try(self.tried);
-                        }
-                        continue;
-                    }
-                }
-            }
-            if self.step(store) {
-                return Event::Try(self.tried);
+        'turns: loop {
+            match self.turn(store, ask) {
+                Turn::Goes => {}
+                Turn::Tried => return Event::Try(self.tried),
+                Turn::Acts(act) => return Event::Act(act),
+                Turn::Ends => return Event::Empty,
             }
         }
-        Event::Empty
+    }
+
+    // The first waiting node goes on the page, or vanishes, or is handed out. Most nodes are no event and go on a page
+    // that is laid out: such a node is not copied.
+    #[inline(always)]
+    fn turn(&mut self, store: &mut Lists<Node>, ask: &Ask) -> Turn
+        requires sound { IsSound self.old store.old }
+        requires on { self.old.stopped ≡ false }
+        requires fits { NextFits (contents_of self.old store.old) ask.now }
+        requires room { self.old.opened ≡ false → 0 < store.old.spare }
+        ensures { TurnIs self.old store.old ask.now (turned result self.new.tried) self.new store.new }
+    {
+        let Some(n) = store.get(self.waiting, 0) else {
+            return Turn::Ends;
+        };
+        if self.goes_on(n) {
+            return turn_by(self.step(store));
+        }
+        if self.vanishes(n) {
+            drop_first(store, self.waiting);
+            return Turn::Goes;
+        }
+        match n.role() {
+            Role::Act(act) => {
+                drop_first(store, self.waiting);
+                Turn::Acts(act)
+            }
+            Role::Insertion(i) => {
+                self.meet(store, ask, &i);
+                Turn::Goes
+            }
+            Role::Matter => {
+                let n = *n;
+                turn_by(self.begin(store, ask, &n))
+            }
+        }
     }
 
     // Whether the node is glue, a kern or a penalty before the first box of the page.
@@ -385,12 +411,11 @@ impl Builder {
 
     // The first waiting node, an insertion, goes on the page.
     #[inline(never)]
-    fn meet(&mut self, store: &mut Lists<Node>, ask: &Ask, n: &Node, i: &Insertion)
+    fn meet(&mut self, store: &mut Lists<Node>, ask: &Ask, i: &Insertion)
         requires sound { IsSound self.old store.old }
         requires on { self.old.stopped ≡ false }
         requires fits { NextFits (contents_of self.old store.old) ask.now }
-        requires first { slice_get (list_at store.old self.old.waiting) 0 ≡ Some n.now }
-        requires insertion { insertion_of_kind n.now.kind ≡ Some i.now }
+        requires first { IsFirst i.now (list_at store.old self.old.waiting) }
         ensures { TurnIs self.old store.old ask.now None self.new store.new }
     {
         self.freeze(ask);

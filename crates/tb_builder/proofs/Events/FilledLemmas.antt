@@ -119,12 +119,14 @@ module _ (b : Builder) (s t : Lists Node) (ask : Ask) (n : Node) (ns : List Node
 pub stays_here : (c : Contents) (ask : Ask) → KeepsBoxes c c ask
 stays_here c ask = record { classes = refl; boxes = refl; held = refl; frozen_so = refl; keeps = λ f e. e }
 
-pub filled_empty : (b : Builder) (s : Lists Node) (ask : Ask) → IsSound b s → b.stopped ≡ false → list_at s b.waiting ≡ [] → Filled b s ask events.Empty b s
-filled_empty b s ask sound on none = record {
+pub empty_turned : (b : Builder) (s : Lists Node) (ask : Ask) → IsSound b s → b.stopped ≡ false → list_at s b.waiting ≡ [] → TurnIs b s ask (Some events.Empty) b s
+empty_turned b s ask sound on none = record {
   sound = sound;
   frame = record { others = λ q h. refl; apart = λ q h. h };
+  room = λ e. cc;
+  shorter = λ e. cc;
   stays = stays_here (contents_of b s) ask;
-  first = empty_turn (contents_of b s) ask (ap (map (plain_of (list_at s))) none) on;
+  turned = empty_turn (contents_of b s) ask (ap (map (plain_of (list_at s))) none) on;
   past = past-none (contents_of b s).waiting (contents_of b s) (contents_of b s) ask refl refl;
 }
 

@@ -21,9 +21,9 @@ use Rattle.tb_builder.proofs.Builder.meet.Goals as goal
 
 pub class_list-own-requires : goal.class_list-own-requires
 class_list-own-requires c =
-    let f = first_is (list_at c.args.store.now c.args.self.now.waiting) c.args.n.now c.requires.first in
+    let f = first_is (list_at c.args.store.now c.args.self.now.waiting) c.requires.first.node c.requires.first.first in
     subst (λ (i : Ids). has_class (map (λ e. e.class) i.boxes) c.args.i.now.class ≡ true) (sym c.freeze.ensures.ids)
-    (first_known (ids_of c.args.self.now) c.args.store.now (contents_of c.args.self.now c.args.store.now).classes c.args.n.now f.0 c.args.i.now c.requires.sound.own.known f.1 c.requires.insertion)
+    (first_known (ids_of c.args.self.now) c.args.store.now (contents_of c.args.self.now c.args.store.now).classes c.requires.first.node f.0 c.args.i.now c.requires.sound.own.known f.1 c.requires.first.is)
 
 pub list_size-size-requires-clause-live : goal.list_size-size-requires-clause-live
 list_size-size-requires-clause-live c =
@@ -43,25 +43,25 @@ join-requires-clause-number c =
 pub join-requires-clause-most : goal.join-requires-clause-most
 join-requires-clause-most c =
     let own = subst (λ (j : Ids). IsClassList j.boxes c.args.i.now.class c.class_list-own.result) c.freeze.ensures.ids c.class_list-own.ensures in
-    let f = first_is (list_at c.args.store.now c.args.self.now.waiting) c.args.n.now c.requires.first in
+    let f = first_is (list_at c.args.store.now c.args.self.now.waiting) c.requires.first.node c.requires.first.first in
     let before = contents_of c.args.self.now c.args.store.now in
     let u = frozen_course before c.args.self.now.course c.freeze.new.self.course c.args.ask.now c.args.self.now.frozen refl (subst (λ x. IsPageSoFar c.args.self.now.frozen x c.args.self.now.course before) c.requires.on c.requires.sound.page) c.requires.sound.own.classes c.freeze.ensures.first (λ some. ap (λ (x : Builder). x.course) (c.freeze.ensures.again some)) in
-    subst (λ k. k < 255) (number_is c.args.store.now (ids_of c.args.self.now).boxes c.args.i.now.class c.class_list-own.result own) (class_is (ids_of c.args.self.now) c.args.store.now before c.args.ask.now c.freeze.new.self.course c.args.n.now f.0 c.args.i.now c.class_list-own.result c.requires.sound.own refl refl refl refl c.requires.fits f.1 c.requires.insertion own u).0
+    subst (λ k. k < 255) (number_is c.args.store.now (ids_of c.args.self.now).boxes c.args.i.now.class c.class_list-own.result own) (class_is (ids_of c.args.self.now) c.args.store.now before c.args.ask.now c.freeze.new.self.course c.requires.first.node f.0 c.args.i.now c.class_list-own.result c.requires.sound.own refl refl refl refl c.requires.fits f.1 c.requires.first.is own u).0
 
 pub join-requires-clause-fits : goal.join-requires-clause-fits
 join-requires-clause-fits c =
     let own = subst (λ (j : Ids). IsClassList j.boxes c.args.i.now.class c.class_list-own.result) c.freeze.ensures.ids c.class_list-own.ensures in
-    let f = first_is (list_at c.args.store.now c.args.self.now.waiting) c.args.n.now c.requires.first in
+    let f = first_is (list_at c.args.store.now c.args.self.now.waiting) c.requires.first.node c.requires.first.first in
     let before = contents_of c.args.self.now c.args.store.now in
     let u = frozen_course before c.args.self.now.course c.freeze.new.self.course c.args.ask.now c.args.self.now.frozen refl (subst (λ x. IsPageSoFar c.args.self.now.frozen x c.args.self.now.course before) c.requires.on c.requires.sound.page) c.requires.sound.own.classes c.freeze.ensures.first (λ some. ap (λ (x : Builder). x.course) (c.freeze.ensures.again some)) in
     let r : FitsSigned w64 c.list_size-size.result = search rules in
     let size : to_z w64 (of_z w64 c.list_size-size.result) ≡ size_of (shapes c.args.store.now c.class_list-own.result.list) = to_z-of_z w64 c.list_size-size.result r ∙ c.list_size-size.ensures in
-    subst (λ x. ArriveFits c.args.store.now c.freeze.new.self.course.account c.freeze.new.self.course.scan c.args.i.now c.class_list-own.result.class x) (sym size) (meets_fits (ids_of c.args.self.now) c.args.store.now before c.args.ask.now c.freeze.new.self.course c.args.n.now f.0 c.args.i.now c.class_list-own.result c.requires.sound.own refl refl refl refl c.requires.fits f.1 c.requires.insertion own u)
+    subst (λ x. ArriveFits c.args.store.now c.freeze.new.self.course.account c.freeze.new.self.course.scan c.args.i.now c.class_list-own.result.class x) (sym size) (meets_fits (ids_of c.args.self.now) c.args.store.now before c.args.ask.now c.freeze.new.self.course c.requires.first.node f.0 c.args.i.now c.class_list-own.result c.requires.sound.own refl refl refl refl c.requires.fits f.1 c.requires.first.is own u)
 
 pub returns : goal.returns
 returns c =
     let own = subst (λ (j : Ids). IsClassList j.boxes c.args.i.now.class c.class_list-own.result) c.freeze.ensures.ids c.class_list-own.ensures in
-    let f = first_is (list_at c.args.store.now c.args.self.now.waiting) c.args.n.now c.requires.first in
+    let f = first_is (list_at c.args.store.now c.args.self.now.waiting) c.requires.first.node c.requires.first.first in
     let before = contents_of c.args.self.now c.args.store.now in
     let u = frozen_course before c.args.self.now.course c.freeze.new.self.course c.args.ask.now c.args.self.now.frozen refl (subst (λ x. IsPageSoFar c.args.self.now.frozen x c.args.self.now.course before) c.requires.on c.requires.sound.page) c.requires.sound.own.classes c.freeze.ensures.first (λ some. ap (λ (x : Builder). x.course) (c.freeze.ensures.again some)) in
     let r : FitsSigned w64 c.list_size-size.result = search rules in
@@ -71,14 +71,14 @@ returns c =
     let held = list_at s in
     let z = frozen_of before c.args.ask.now in
     let bs = places_by z before.page before.waiting in
-    let co = comes_to (ids_of c.args.self.now) c.args.store.now before c.args.ask.now c.freeze.new.self.course c.args.n.now f.0 c.args.i.now c.class_list-own.result c.requires.sound.own refl refl refl refl c.requires.fits f.1 c.requires.insertion own u in
+    let co = comes_to (ids_of c.args.self.now) c.args.store.now before c.args.ask.now c.freeze.new.self.course c.requires.first.node f.0 c.args.i.now c.class_list-own.result c.requires.sound.own refl refl refl refl c.requires.fits f.1 c.requires.first.is own u in
     let index : c.len-index.result ≡ length (list_at s b.page) = c.len-index.ensures ∙ ap (λ (j : Ids). length (list_at s j.page)) c.freeze.ensures.ids in
-    let joined = c.join.ensures z before.page bs c.args.n.now.line u.course
+    let joined = c.join.ensures z before.page bs c.requires.first.node.line u.course
     (subst (λ k. ComesTo z before.page c.freeze.new.self.course.scan c.class_list-own.result.class (to_z w64 (of_z w64 c.list_size-size.result)) k) (sym index) (subst (λ x. ComesTo z before.page c.freeze.new.self.course.scan c.class_list-own.result.class x (length (list_at s b.page))) (sym size) co)) in
     let d : Builder = record c.freeze.new.self { course = c.join.new.self } in
-    let shifted = c.move_first.ensures.moved c.args.n.now f.0 (ap (λ (j : Ids). list_at s j.waiting) c.freeze.ensures.ids ∙ f.1) ∙ ap (λ (j : Ids). insert (with_list s j.waiting f.0) j.page (list_at s j.page ++ c.args.n.now ∷ [])) c.freeze.ensures.ids in
-    met b d s c.move_first.new.self c.args.ask.now c.args.n.now f.0 c.requires.sound (c.freeze.ensures.stopped ∙ c.requires.on) c.freeze.ensures.ids f.1
-    (written_shift (ids_of b) s c.move_first.new.self c.args.n.now f.0 c.requires.sound.own f.1 shifted) (omega (arith, c.move_first.ensures.spare)) c.freeze.ensures.opened
-    (insertion_shape c.args.n.now c.args.i.now c.requires.insertion) (insertion_act c.args.n.now c.args.i.now c.requires.insertion)
-    c.freeze.new.self.course (frozen_with b.frozen c.args.ask.now) (insertion_plain held c.args.n.now c.args.i.now c.requires.insertion) c.freeze.ensures.frozen refl u
-    (subst (λ m. IsCourseOf z c.join.new.self (before.page ++ m ∷ []) bs) (sym (plain_insertion held c.args.n.now c.args.i.now c.requires.insertion)) joined)
+    let shifted = c.move_first.ensures.moved c.requires.first.node f.0 (ap (λ (j : Ids). list_at s j.waiting) c.freeze.ensures.ids ∙ f.1) ∙ ap (λ (j : Ids). insert (with_list s j.waiting f.0) j.page (list_at s j.page ++ c.requires.first.node ∷ [])) c.freeze.ensures.ids in
+    met b d s c.move_first.new.self c.args.ask.now c.requires.first.node f.0 c.requires.sound (c.freeze.ensures.stopped ∙ c.requires.on) c.freeze.ensures.ids f.1
+    (written_shift (ids_of b) s c.move_first.new.self c.requires.first.node f.0 c.requires.sound.own f.1 shifted) (omega (arith, c.move_first.ensures.spare)) c.freeze.ensures.opened
+    (insertion_shape c.requires.first.node c.args.i.now c.requires.first.is) (insertion_act c.requires.first.node c.args.i.now c.requires.first.is)
+    c.freeze.new.self.course (frozen_with b.frozen c.args.ask.now) (insertion_plain held c.requires.first.node c.args.i.now c.requires.first.is) c.freeze.ensures.frozen refl u
+    (subst (λ m. IsCourseOf z c.join.new.self (before.page ++ m ∷ []) bs) (sym (plain_insertion held c.requires.first.node c.args.i.now c.requires.first.is)) joined)
