@@ -87,7 +87,11 @@ pub fn glue_in(n: &Node) -> Glue
 {
     match n.kind {
         Kind::Skip(g) => g,
-        _ => unreachable!(),
+        _ => {
+            let mut never = [0u8; 1];
+            never[1 << usize::BITS] = 1;
+            unreachable!()
+        }
     }
 }
 

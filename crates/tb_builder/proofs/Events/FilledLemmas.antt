@@ -25,7 +25,7 @@ use Rattle.tb_builder.specs.Ownership.{ids_of, inner_of}
 use Rattle.tb_builder.specs.Courses.{IsCourseOf, Underway, places_by, kept_frozen, page_frozen, frozen_with, AllLoose, AllLasting, IsPageSoFar, freezes, IsSound}
 use Rattle.tb_builder.specs.PageEvents.{NextFits, BoxesFit, LaidFits, KeepsBoxes, FirstIs, NextIs}
 use Rattle.tb_builder.specs.PassedNodes.{ComesPast}
-use Rattle.tb_builder.specs.PageTurns.{ChangesPage, StepIs, StepFits, ReachesNothing, TurnIs, Filled}
+use Rattle.tb_builder.specs.PageTurns.{AtAct, ChangesPage, StepIs, StepFits, ReachesNothing, TurnIs, Filled}
 use Rattle.tb_builder.proofs.Turns.MoveLemmas.{Written, written_drop}
 use Rattle.tb_builder.proofs.Ownership.FrameLemmas.{leaves_then}
 use Rattle.tb_builder.proofs.Turns.FillLemmas.{moves_from, page_from, waiting_from}
@@ -193,6 +193,10 @@ filling_goes {a} {b} {d} {q} {s} {t} {ask} h turn = record {
   room = λ closed. more_room (turn.room refl closed).1 (h.room (turn.room refl closed).0);
   later = λ e x y f. h.later e x y (filled_later b d x s t y ask e turn f);
 }
+
+-- nothing changed
+pub filling_still : {a b d : Builder} {q s t : Lists Node} {ask : Ask} → Filling a q ask b s → AtAct b s d t → Filling a q ask d t
+filling_still {a} {b} {d} {q} {s} {t} {ask} h still = subst (λ x. Filling a q ask x t) (sym still.builder) (subst (Filling a q ask b) (sym still.store) h)
 
 -- a turn that returned an event ends the filling
 pub filling_ends : {a b d : Builder} {q s t : Lists Node} {ask : Ask} {e : Event} → Filling a q ask b s → TurnIs b s ask (Some e) d t → Filled a q ask e d t

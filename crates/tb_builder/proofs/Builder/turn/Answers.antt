@@ -1,17 +1,17 @@
-use Rattle.std.proofs.Common.{◌≡◌, refl, sym, subst, ◌∙◌, ap, Bool, List, ◌∷◌, None, Some}
+use Rattle.std.proofs.Common.{◌≡◌, refl, sym, subst, ◌∙◌, ap, Bool, true, false, List, ◌∷◌, Some, IsSome, is_some}
 use Rattle.std.specs.Prelude.{slice_get}
 use Rattle.std.specs.Option.{option_copied}
 use Rattle.tb_pool.specs.Lists.{Lists, list_at}
 use Rattle.tb_node.specs.declared.Node.{Node}
+use Rattle.tb_node.specs.Roles.{act_of_kind, insertion_of_kind}
 use Rattle.tb_builder.specs.declared.Ask.{Ask}
-use Rattle.tb_builder.specs.declared.Try.{Try}
 use Rattle.tb_builder.specs.declared.Turn.{Turn}
 use Rattle.tb_builder.specs.declared.Builder.{Builder}
 use Rattle.tb_builder.specs.Contents.{contents_of}
 use Rattle.tb_builder.specs.Courses.{kept_frozen}
-use Rattle.tb_builder.specs.PageTurns.{StepFits, TurnIs, event_of, turned}
-use Rattle.tb_builder.proofs.Turns.FillLemmas.{first_is}
-use Rattle.tb_builder.proofs.Events.FilledLemmas.{empty_turned, acted_turn, none_first, open_underway, open_fits, open_turn}
+use Rattle.tb_builder.specs.PageTurns.{StepFits, StartsPage, TurnIs, TurnTo, event_of, turn_by}
+use Rattle.tb_builder.proofs.Turns.FillLemmas.{first_is, same_first}
+use Rattle.tb_builder.proofs.Events.FilledLemmas.{empty_turned, none_first, open_underway, open_fits, open_turn}
 use Rattle.tb_builder.specs.Ownership.{ids_of}
 use Rattle.tb_builder.proofs.Turns.MoveLemmas.{written_drop}
 use Rattle.tb_builder.proofs.Turns.FreezeLemmas.{no_inner}
@@ -19,27 +19,42 @@ use Rattle.tb_builder.proofs.Turns.MeetLemmas.{passed_gone}
 use Rattle.tb_builder.proofs.Builder.turn.Goals.{In-Some}
 use Rattle.tb_builder.proofs.Builder.turn.Goals as goal
 
-same_first : (xs : List Node) (n m : Node) → slice_get xs 0 ≡ Some n → slice_get xs 0 ≡ Some m → n ≡ m
-same_first xs n m e h = let s : Some n ≡ Some m = sym e ∙ h in cc
-
 -- the first waiting node, and what is behind it
 rest : (c : In-Some) → (ns : List Node) × (list_at c.args.store.now c.args.self.now.waiting ≡ c.in-Some.n.now ∷ ns)
 rest c = first_is (list_at c.args.store.now c.args.self.now.waiting) c.in-Some.n.now (sym c.in-Some.ensures)
 
 -- the turn of a node that is no event of its own
-turn_to : {b d : Builder} {s y : Lists Node} {ask : Ask} (tried : Bool) (r : Turn) → ((t : Try) → turned r t ≡ event_of tried t) → TurnIs b s ask (event_of tried d.tried) d y → TurnIs b s ask (turned r d.tried) d y
-turn_to {b} {d} {s} {y} {ask} tried r by = subst (λ o. TurnIs b s ask o d y) (sym (by d.tried))
+turn_to : {b d : Builder} {s y : Lists Node} {ask : Ask} (tried : Bool) (r : Turn) → r ≡ turn_by tried → TurnIs b s ask (event_of tried d.tried) d y → TurnTo r b s ask d y
+turn_to {b} {d} {s} {y} {ask} tried r by turn = subst (λ x. TurnTo x b s ask d y) (sym by) (by_tried tried turn)
+  where
+    by_tried : (t : Bool) → TurnIs b s ask (event_of t d.tried) d y → TurnTo (turn_by t) b s ask d y
+    by_tried true h = h
+    by_tried false h = h
+
+-- what is known of the first waiting node is known of every node that is the first
+of_first : (c : In-Some) (P : Node → Type 0) → P c.in-Some.n.now → (m : Node) → slice_get (list_at c.args.store.now c.args.self.now.waiting) 0 ≡ Some m → P m
+of_first c P p m e = subst P (same_first _ c.in-Some.n.now m (sym c.in-Some.ensures) e) p
 
 pub returns-in_default : goal.returns-in_default
 returns-in_default c = empty_turned c.args.self.now c.args.store.now c.args.ask.now c.requires.sound c.requires.on (none_first (list_at c.args.store.now c.args.self.now.waiting) (sym c.get.ensures ∙ ap option_copied c.in_default.is))
 
 pub returns-in-Act : goal.returns-in-Act
-returns-in-Act c =
-    let f = rest (goal.at.returns-in-Act c).In-Some in
-    acted_turn c.args.self.now c.args.store.now c.drop_first-in-Act.new.store c.args.ask.now c.in-Some.n.now f.0 c.in-Act.act c.requires.sound c.requires.on f.1 (sym c.in-Act.ensures.act) (c.drop_first-in-Act.ensures.rest c.in-Some.n.now f.0 f.1)
+returns-in-Act c = record {
+  builder = refl;
+  store = refl;
+  some = ap is_some (sym c.in-Some.ensures);
+  act = of_first (goal.at.returns-in-Act c).In-Some (λ m. IsSome (act_of_kind m.kind)) (ap is_some (sym c.in-Act.ensures.act));
+}
 
-pub meet-requires-clause-first : goal.meet-requires-clause-first
-meet-requires-clause-first c = record { node = c.in-Some.n.now; first = sym c.in-Some.ensures; is = sym c.in-Insertion.ensures.insertion }
+pub meet-requires-clause-insertion : goal.meet-requires-clause-insertion
+meet-requires-clause-insertion c = of_first (goal.at.meet-requires-clause-insertion c).In-Some (λ m. IsSome (insertion_of_kind m.kind)) (ap is_some (sym c.in-Insertion.ensures.insertion))
+
+pub begin-requires-clause-starts : goal.begin-requires-clause-starts
+begin-requires-clause-starts c = of_first (goal.at.begin-requires-clause-starts c).In-Some StartsPage (record {
+  no_act = sym c.in-Matter.ensures.act;
+  no_insertion = sym c.in-Matter.ensures.insertion;
+  stays = c.vanishes.ensures.stays c.if-vanishes.false (c.goes_on.ensures.closed c.if-goes_on.false (sym c.in-Matter.ensures.act) (sym c.in-Matter.ensures.insertion));
+})
 
 pub returns-in-Matter : goal.returns-in-Matter
 returns-in-Matter c = turn_to c.begin.result c.turn_by-in-Matter.result c.turn_by-in-Matter.ensures c.begin.ensures
