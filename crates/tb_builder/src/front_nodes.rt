@@ -60,11 +60,22 @@ pub fn is_walked(n: &Node) -> bool
     !matches!(n.kind, Kind::Kern(_) | Kind::Ins(_) | Kind::Act(_))
 }
 
-/// What a walk sees of a node.
+// Whether a node is glue.
+#[inline(always)]
+fn is_space(n: &Node) -> bool
+    ensures { result ≡ true → seen_of n.now.kind ≡ Space }
+{
+    matches!(n.kind, Kind::Skip(_))
+}
+
+/// What a walk sees of a node. Glue is tested for first, so that no table of jumps is made of the kinds.
 #[inline(always)]
 pub fn seen_in(n: &Node) -> Seen
     ensures { result ≡ seen_of n.now.kind }
 {
+    if is_space(n) {
+        return Seen::Space;
+    }
     match n.kind {
         Kind::Hbox { height, depth, .. } => Seen::Solid { height, depth },
         Kind::Rule { .. } => Seen::Other,

@@ -356,7 +356,8 @@ impl Builder {
         self.opened && matches!(n.role(), Role::Matter)
     }
 
-    // On a page without a box, the first waiting node is no act and no insertion, and does not vanish.
+    // On a page without a box, the first waiting node is no act and no insertion, and does not vanish: it goes on the
+    // page. A box or rule comes after the top glue, unless the place before that glue is a stop.
     #[inline(never)]
     fn begin(&mut self, store: &mut Lists<Node>, ask: &Ask) -> bool
         requires sound { IsSound self.old store.old }
@@ -371,29 +372,11 @@ impl Builder {
         let Some(n) = store.get(self.waiting, 0) else {
             unreachable!()
         };
-        if is_box(n) {
-            return self.open_page(store, ask);
+        if !is_box(n) {
+            self.course.lasting = true;
+            store.move_first(self.waiting, self.page);
+            return false;
         }
-        self.course.lasting = true;
-        store.move_first(self.waiting, self.page);
-        false
-    }
-
-    // The first box or rule of the page is the first waiting node: it goes on the page after the top glue, unless the
-    // place before that glue is a stop.
-    fn open_page(&mut self, store: &mut Lists<Node>, ask: &Ask) -> bool
-        requires sound { IsSound self.old store.old }
-        requires on { self.old.stopped ≡ false }
-        requires closed { self.old.opened ≡ false }
-        requires fits { NextFits (contents_of self.old store.old) ask.now }
-        requires room { 0 < store.old.spare }
-        requires some { IsSome (slice_get (list_at store.old self.old.waiting) 0) }
-        requires boxed { (n : NodeOf) → slice_get (list_at store.old self.old.waiting) 0 ≡ Some n → is_box (shape_of n) ≡ true }
-        ensures { TurnIs self.old store.old ask.now (event_of result self.new.tried) self.new store.new }
-    {
-        let Some(n) = store.get(self.waiting, 0) else {
-            unreachable!()
-        };
         let glue = top_node(n, ask.top_skip);
         self.freeze(ask);
         store.push_front(self.waiting, glue);
