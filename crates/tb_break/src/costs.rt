@@ -75,7 +75,8 @@ pub fn cost_of_badness(badness: i64, penalty: i64, insert_penalties: i64) -> i64
 fn is_infinite(stretch: &[i64; 4]) -> bool
     ensures { result ≡ stretches_infinitely stretch.now }
 {
-    stretch[1] != 0 || stretch[2] != 0 || stretch[3] != 0
+    let [_, fil, fill, filll] = *stretch;
+    fil != 0 || fill != 0 || filll != 0
 }
 
 // The finite stretch.

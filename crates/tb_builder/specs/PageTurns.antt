@@ -1,9 +1,11 @@
 -- One more node: what a turn of the page builder changes.
-use Rattle.std.specs.Prelude.{◌≡◌, ℕ, ◌<◌, ◌≤◌, Bool, true, false, List, [], ◌∷◌, ◌++◌, length, Option, Some, None}
-use Rattle.tb_pool.specs.Lists.{Lists}
+use Rattle.std.specs.Prelude.{◌≡◌, ℕ, ◌<◌, ◌≤◌, Bool, true, false, List, [], ◌∷◌, ◌++◌, length, not, slice_get, Option, Some, None, IsSome}
+use Rattle.tb_pool.specs.Lists.{Lists, list_at}
 use Rattle.tb_node.specs.declared.Node.{Node}
 use Rattle.tb_node.specs.PlainNodes.{PlainNode, plain_of, shape_of}
-use Rattle.tb_node.specs.SmallAmounts.{IsSmallShape}
+use Rattle.tb_node.specs.Shape.{is_discardable}
+use Rattle.tb_node.specs.NodeSums.{added_node}
+use Rattle.tb_node.specs.SmallAmounts.{IsSmall, IsSmallShape}
 use Rattle.tb_node.specs.Roles.{act_of_kind, insertion_of_kind}
 use Rattle.tb_break.specs.Best.{Breakpoint, is_stop, least_cost}
 use Rattle.tb_insert.specs.Account.{Frozen, terms_after}
@@ -12,6 +14,8 @@ use Rattle.tb_builder.specs.declared.Ask.{Ask}
 use Rattle.tb_builder.specs.declared.Try.{Try}
 use Rattle.tb_builder.specs.declared.Event.{Event}
 use Rattle.tb_builder.specs.declared.Event.TheVariants as events
+use Rattle.tb_builder.specs.declared.Turn.{Turn}
+use Rattle.tb_builder.specs.declared.Turn.TheVariants as turns
 use Rattle.tb_builder.specs.declared.Course.{Course}
 use Rattle.tb_builder.specs.declared.Builder.{Builder}
 use Rattle.tb_builder.specs.Reach.{tried, Reach, also_reached, reach_from, try_of, breakpoints}
@@ -98,6 +102,19 @@ pub record StepFits (z : Frozen) (page : List PlainNode) (held : ℕ → List No
   pub no_act : act_of_kind n.kind ≡ None
   pub no_insertion : insertion_of_kind n.kind ≡ None
 
+-- what it requires of a node that goes on the page at once
+pub record PutFits (k : Course) (n : Node) : Type 0 where
+  pub small : IsSmallShape (shape_of n)
+  pub sums : IsSmall (added_node k.scan.max_depth k.scan.sums (shape_of n))
+  pub no_act : act_of_kind n.kind ≡ None
+  pub no_insertion : insertion_of_kind n.kind ≡ None
+
+-- the node comes to a page without a box, and is no act and no insertion; it does not vanish there
+pub record StartsPage (n : Node) : Type 0 where
+  pub no_act : act_of_kind n.kind ≡ None
+  pub no_insertion : insertion_of_kind n.kind ≡ None
+  pub stays : not (is_discardable (shape_of n)) ≡ true
+
 -- ---- a turn
 
 -- nothing was reached in the turn
@@ -121,6 +138,25 @@ pub record TurnIs (b : Builder) (s : Lists Node) (ask : Ask) (o : Option Event) 
   pub stays : KeepsBoxes (contents_of b s) (contents_of d t) ask
   pub turned : TurnBy o (contents_of b s) (contents_of d t) ask
   pub past : TurnPast o (contents_of b s) (contents_of d t) ask
+
+-- nothing changed, and the first waiting node is an act
+pub record AtAct (b : Builder) (s : Lists Node) (d : Builder) (t : Lists Node) : Type 0 where
+  pub builder : d ≡ b
+  pub store : t ≡ s
+  pub some : IsSome (slice_get (list_at t d.waiting) 0)
+  pub act : (n : Node) → slice_get (list_at t d.waiting) 0 ≡ Some n → IsSome (act_of_kind n.kind)
+
+-- what a turn comes to
+abbrev pub TurnTo : Turn → Builder → Lists Node → Ask → Builder → Lists Node → Type 0
+TurnTo turns.Goes b s ask d t = TurnIs b s ask None d t
+TurnTo turns.Tried b s ask d t = TurnIs b s ask (Some (events.Try d.tried)) d t
+TurnTo turns.Acts b s ask d t = AtAct b s d t
+TurnTo turns.Ends b s ask d t = TurnIs b s ask (Some events.Empty) d t
+
+-- the turn of a node that is no event of its own, by whether a place was tried
+abbrev pub turn_by : Bool → Turn
+turn_by true = turns.Tried
+turn_by false = turns.Goes
 
 -- the page was filled up to an event
 pub record Filled (b : Builder) (s : Lists Node) (ask : Ask) (e : Event) (d : Builder) (t : Lists Node) : Type 0 where

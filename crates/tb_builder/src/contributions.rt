@@ -25,6 +25,9 @@ fn put_in_front(store: &mut Lists<Node>, a: ListId, b: ListId, c: ListId)
     ensures front { InFront store.old store.new a b c }
     ensures spare { store.new.spare ≡ store.old.spare }
 {
+    if store.len(a) == 0 && store.len(b) == 0 {
+        return;
+    }
     store.append(a, b);
     store.append(a, c);
     store.append(c, a);

@@ -87,6 +87,9 @@ impl Builder {
         ensures turned { store.new.lists ≡ insert (with_list store.old self.now.page (take place (list_at store.old self.now.page))) self.now.waiting (drop place (list_at store.old self.now.page) ++ list_at store.old self.now.waiting) }
         ensures spare { store.new.spare ≡ store.old.spare }
     {
+        if place == store.len(self.page) {
+            return;
+        }
         store.cut(self.page, place, self.rest);
         store.append(self.rest, self.waiting);
         store.append(self.waiting, self.rest);

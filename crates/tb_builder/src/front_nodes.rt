@@ -60,11 +60,22 @@ pub fn is_walked(n: &Node) -> bool
     !matches!(n.kind, Kind::Kern(_) | Kind::Ins(_) | Kind::Act(_))
 }
 
-/// What a walk sees of a node.
+// Whether a node is glue.
+#[inline(always)]
+fn is_space(n: &Node) -> bool
+    ensures { result ≡ true → seen_of n.now.kind ≡ Space }
+{
+    matches!(n.kind, Kind::Skip(_))
+}
+
+/// What a walk sees of a node. Glue is tested for first, so that no table of jumps is made of the kinds.
 #[inline(always)]
 pub fn seen_in(n: &Node) -> Seen
     ensures { result ≡ seen_of n.now.kind }
 {
+    if is_space(n) {
+        return Seen::Space;
+    }
     match n.kind {
         Kind::Hbox { height, depth, .. } => Seen::Solid { height, depth },
         Kind::Rule { .. } => Seen::Other,
@@ -87,7 +98,11 @@ pub fn glue_in(n: &Node) -> Glue
 {
     match n.kind {
         Kind::Skip(g) => g,
-        _ => unreachable!(),
+        _ => {
+            let mut never = [0u8; 1];
+            never[1 << usize::BITS] = 1;
+            unreachable!()
+        }
     }
 }
 

@@ -23,17 +23,26 @@ ghost use Rattle.tb_builder.specs.PassedNodes.{EventPast};
 ghost use Rattle.tb_builder.specs.PageCalls.{ComesAfter, IsNoPlace};
 ghost use Rattle.tb_builder.specs.PageWalks.{moved, LeadsOn, seen_of};
 ghost use Rattle.tb_builder.specs.declared.Seen.TheVariants.{Space};
-ghost use Rattle.tb_builder.specs.PageTurns.{ChangesPage, Shifted, StepIs, StepFits, event_of, TurnIs, Filled};
+ghost use Rattle.tb_builder.specs.declared.Ask.{Ask as AskOf};
+ghost use Rattle.tb_builder.specs.declared.Event.TheVariants.{Act as an_act};
+ghost use Rattle.tb_builder.specs.PageTurns.{ChangesPage, Shifted, StepIs, StepFits, StartsPage, PutFits, event_of, turn_by, TurnIs, TurnTo, Filled};
 
 use crate::courses::stops;
 use crate::front_nodes::{drop_first, glue_in, is_walked, penalty_of, seen_in};
 use crate::fronts::move_front;
 use crate::sizes::list_size;
-use crate::{Ask, Builder, Event, Seen};
+use crate::{Ask, Builder, Event, Seen, Turn};
 use std::alloc::AllocError;
 use tb_break::{is_box, place_penalty, top_node};
-use tb_node::{Insertion, Kind, Node, Role};
+use tb_node::{Act, Kind, Node, Role};
 use tb_pool::Lists;
+
+// The turn of a node that is no event of its own, by whether a place was tried.
+fn turn_by(tried: bool) -> Turn
+    ensures { result ≡ turn_by tried }
+{
+    if tried { Turn::Tried } else { Turn::Goes }
+}
 
 impl Builder {
     /// The next event: the next legal place or act among the waiting nodes. The nodes before it are on the page then.
@@ -84,11 +93,15 @@ impl Builder {
     {
         'places: loop {
             self.pass_nodes(store, ask);
-            match self.next(store, ask)? {
-                Event::Try(_) => {}
-                Event::Act(act) => return Ok(Event::Act(act)),
-                Event::Fired(page) => return Ok(Event::Fired(page)),
-                Event::Empty => return Ok(Event::Empty),
+            if self.stopped {
+                return self.next(store, ask);
+            }
+            self.make_room(store)?;
+            match self.turn(store, ask) {
+                Turn::Goes => {}
+                Turn::Tried => {}
+                Turn::Acts => return Ok(Event::Act(self.hand_out(store))),
+                Turn::Ends => return Ok(Event::Empty),
             }
         }
     }
@@ -124,24 +137,27 @@ impl Builder {
     {
         let before = store.len(self.page);
         let all = store.len(self.waiting);
-        let mut passed = 0;
+        let Some(end) = before.checked_add(all) else {
+            return 0;
+        };
+        let mut left = all;
         for n in store.iter(self.waiting) {
-            if !self.passes(store, ask, n, before, passed) {
-                return passed;
+            if !self.passes(store, ask, n, end - left, all - left) {
+                return all - left;
             }
-            passed += 1;
+            left -= 1;
         }
         all
     }
 
-    // Whether the next node goes on the page, which had `before` nodes before those that the walk passed.
+    // Whether the next node goes on the page, which has `index` nodes with those that the walk passed.
     #[inline(always)]
     fn passes(
         &mut self,
         store: &Lists<Node>,
         ask: &Ask,
         n: &Node,
-        before: usize,
+        index: usize,
         passed: usize,
     ) -> bool
         requires sound { IsSound self.old (moved (ids_of self.old) store.now passed) }
@@ -149,7 +165,7 @@ impl Builder {
         requires opened { self.old.opened ≡ true }
         requires fits { NextFits (contents_of self.old (moved (ids_of self.old) store.now passed)) ask.now }
         requires first { drop passed (list_at store.now self.old.waiting) ≡ n.now ∷ drop (passed + 1) (list_at store.now self.old.waiting) }
-        requires before { before ≡ length (list_at store.now self.old.page) }
+        requires index { index ≡ length (list_at store.now self.old.page) + passed }
         ensures goes { result ≡ true → LeadsOn self.old (moved (ids_of self.old) store.now passed) ask.now self.new (moved (ids_of self.old) store.now (passed + 1)) }
         ensures on { result ≡ true → self.new.stopped ≡ false }
         ensures ends { result ≡ false → LeadsOn self.old (moved (ids_of self.old) store.now passed) ask.now self.new (moved (ids_of self.old) store.now passed) }
@@ -161,8 +177,8 @@ impl Builder {
                 self.course.put_box(height, depth);
                 true
             }
-            Seen::Space => self.passes_glue(store, ask, n, before, passed),
-            Seen::Other => self.passes_other(store, ask, n, before, passed),
+            Seen::Space => self.passes_glue(store, ask, n, index, passed),
+            Seen::Other => self.passes_other(store, ask, n, index, passed),
         }
     }
 
@@ -173,7 +189,7 @@ impl Builder {
         store: &Lists<Node>,
         ask: &Ask,
         n: &Node,
-        before: usize,
+        index: usize,
         passed: usize,
     ) -> bool
         requires sound { IsSound self.old (moved (ids_of self.old) store.now passed) }
@@ -181,7 +197,7 @@ impl Builder {
         requires opened { self.old.opened ≡ true }
         requires fits { NextFits (contents_of self.old (moved (ids_of self.old) store.now passed)) ask.now }
         requires first { drop passed (list_at store.now self.old.waiting) ≡ n.now ∷ drop (passed + 1) (list_at store.now self.old.waiting) }
-        requires before { before ≡ length (list_at store.now self.old.page) }
+        requires index { index ≡ length (list_at store.now self.old.page) + passed }
         requires glue { seen_of n.now.kind ≡ Space }
         ensures goes { result ≡ true → LeadsOn self.old (moved (ids_of self.old) store.now passed) ask.now self.new (moved (ids_of self.old) store.now (passed + 1)) }
         ensures on { result ≡ true → self.new.stopped ≡ false }
@@ -193,9 +209,6 @@ impl Builder {
             self.course.put_glue(glue_in(n));
             return true;
         }
-        let Some(index) = before.checked_add(passed) else {
-            return false;
-        };
         let tried = self.course.offer(index, n.line, 0);
         if stops(&tried) {
             self.stopped = true;
@@ -214,7 +227,7 @@ impl Builder {
         store: &Lists<Node>,
         ask: &Ask,
         n: &Node,
-        before: usize,
+        index: usize,
         passed: usize,
     ) -> bool
         requires sound { IsSound self.old (moved (ids_of self.old) store.now passed) }
@@ -222,7 +235,7 @@ impl Builder {
         requires opened { self.old.opened ≡ true }
         requires fits { NextFits (contents_of self.old (moved (ids_of self.old) store.now passed)) ask.now }
         requires first { drop passed (list_at store.now self.old.waiting) ≡ n.now ∷ drop (passed + 1) (list_at store.now self.old.waiting) }
-        requires before { before ≡ length (list_at store.now self.old.page) }
+        requires index { index ≡ length (list_at store.now self.old.page) + passed }
         ensures goes { result ≡ true → LeadsOn self.old (moved (ids_of self.old) store.now passed) ask.now self.new (moved (ids_of self.old) store.now (passed + 1)) }
         ensures on { result ≡ true → self.new.stopped ≡ false }
         ensures ends { result ≡ false → LeadsOn self.old (moved (ids_of self.old) store.now passed) ask.now self.new (moved (ids_of self.old) store.now passed) }
@@ -235,9 +248,6 @@ impl Builder {
         let Some(penalty) = place_penalty(n, self.course.lasting, false) else {
             self.course.put(n);
             return true;
-        };
-        let Some(index) = before.checked_add(passed) else {
-            return false;
         };
         let tried = self.course.offer(index, n.line, penalty);
         if stops(&tried) {
@@ -259,8 +269,7 @@ impl Builder {
         store.reserve(1)
     }
 
-    // The waiting nodes go on the page, up to the next event. Most of them are no event and go on a page that is laid
-    // out: such a node is not copied.
+    // The waiting nodes go on the page, up to the next event.
     #[inline(always)]
     fn fill(&mut self, store: &mut Lists<Node>, ask: &Ask) -> Event
         requires sound { IsSound self.old store.old }
@@ -269,35 +278,62 @@ impl Builder {
         requires room { self.old.opened ≡ false → 0 < store.old.spare }
         ensures { Filled self.old store.old ask.now result self.new store.new }
     {
-        while let Some(n) = store.get(self.waiting, 0) {
-            if !self.goes_on(n) {
-                if self.vanishes(n) {
-                    drop_first(store, self.waiting);
-                    continue;
-                }
-                let n = *n;
-                match n.role() {
-                    Role::Act(act) => {
-                        drop_first(store, self.waiting);
-                        return Event::Act(act);
-                    }
-                    Role::Insertion(i) => {
-                        self.meet(store, ask, &n, &i);
-                        continue;
-                    }
-                    Role::Matter => {
-                        if self.begin(store, ask, &n) {
-                            return Event::Try(self.tried);
-                        }
-                        continue;
-                    }
-                }
-            }
-            if self.step(store) {
-                return Event::Try(self.tried);
+        'turns: loop {
+            match self.turn(store, ask) {
+                Turn::Goes => {}
+                Turn::Tried => return Event::Try(self.tried),
+                Turn::Acts => return Event::Act(self.hand_out(store)),
+                Turn::Ends => return Event::Empty,
             }
         }
-        Event::Empty
+    }
+
+    // The first waiting node goes on the page, or vanishes, or is handed out. Most nodes are no event and go on a page
+    // that is laid out: such a node is not copied.
+    #[inline(always)]
+    fn turn(&mut self, store: &mut Lists<Node>, ask: &Ask) -> Turn
+        requires sound { IsSound self.old store.old }
+        requires on { self.old.stopped ≡ false }
+        requires fits { NextFits (contents_of self.old store.old) ask.now }
+        requires room { self.old.opened ≡ false → 0 < store.old.spare }
+        ensures { TurnTo result self.old store.old ask.now self.new store.new }
+    {
+        let Some(n) = store.get(self.waiting, 0) else {
+            return Turn::Ends;
+        };
+        if self.goes_on(n) {
+            return turn_by(self.step(store));
+        }
+        if self.vanishes(n) {
+            drop_first(store, self.waiting);
+            return Turn::Goes;
+        }
+        match n.role() {
+            Role::Act(_) => Turn::Acts,
+            Role::Insertion(_) => {
+                self.meet(store, ask);
+                Turn::Goes
+            }
+            Role::Matter => turn_by(self.begin(store, ask)),
+        }
+    }
+
+    // The first waiting node, an act, is handed out.
+    fn hand_out(&self, store: &mut Lists<Node>) -> Act
+        requires sound { IsSound self.now store.old }
+        requires on { self.now.stopped ≡ false }
+        requires some { IsSome (slice_get (list_at store.old self.now.waiting) 0) }
+        requires act { (n : NodeOf) → slice_get (list_at store.old self.now.waiting) 0 ≡ Some n → IsSome (act_of_kind n.kind) }
+        ensures { (ask : AskOf) → TurnIs self.now store.old ask (Some (an_act result)) self.now store.new }
+    {
+        let Some(n) = store.get(self.waiting, 0) else {
+            unreachable!()
+        };
+        let Role::Act(act) = n.role() else {
+            unreachable!()
+        };
+        drop_first(store, self.waiting);
+        act
     }
 
     // Whether the node is glue, a kern or a penalty before the first box of the page.
@@ -320,47 +356,35 @@ impl Builder {
         self.opened && matches!(n.role(), Role::Matter)
     }
 
-    // On a page without a box, the first waiting node is no act and no insertion, and does not vanish.
+    // On a page without a box, the first waiting node is no act and no insertion, and does not vanish: it goes on the
+    // page. A box or rule comes after the top glue, unless the place before that glue is a stop.
     #[inline(never)]
-    fn begin(&mut self, store: &mut Lists<Node>, ask: &Ask, n: &Node) -> bool
+    fn begin(&mut self, store: &mut Lists<Node>, ask: &Ask) -> bool
         requires sound { IsSound self.old store.old }
         requires on { self.old.stopped ≡ false }
         requires closed { self.old.opened ≡ false }
         requires fits { NextFits (contents_of self.old store.old) ask.now }
         requires room { 0 < store.old.spare }
-        requires first { slice_get (list_at store.old self.old.waiting) 0 ≡ Some n.now }
-        requires no_act { act_of_kind n.now.kind ≡ None }
-        requires no_insertion { insertion_of_kind n.now.kind ≡ None }
-        requires stays { not (is_discardable (shape_of n.now)) ≡ true }
+        requires some { IsSome (slice_get (list_at store.old self.old.waiting) 0) }
+        requires starts { (n : NodeOf) → slice_get (list_at store.old self.old.waiting) 0 ≡ Some n → StartsPage n }
         ensures { TurnIs self.old store.old ask.now (event_of result self.new.tried) self.new store.new }
     {
-        if is_box(n) {
-            return self.open_page(store, ask, n);
+        let Some(n) = store.get(self.waiting, 0) else {
+            unreachable!()
+        };
+        if !is_box(n) {
+            self.course.lasting = true;
+            store.move_first(self.waiting, self.page);
+            return false;
         }
-        self.pass(store, ask, n);
-        false
-    }
-
-    // The first box or rule of the page is the first waiting node: it goes on the page after the top glue, unless the
-    // place before that glue is a stop.
-    fn open_page(&mut self, store: &mut Lists<Node>, ask: &Ask, n: &Node) -> bool
-        requires sound { IsSound self.old store.old }
-        requires on { self.old.stopped ≡ false }
-        requires closed { self.old.opened ≡ false }
-        requires fits { NextFits (contents_of self.old store.old) ask.now }
-        requires room { 0 < store.old.spare }
-        requires first { slice_get (list_at store.old self.old.waiting) 0 ≡ Some n.now }
-        requires boxed { is_box (shape_of n.now) ≡ true }
-        ensures { TurnIs self.old store.old ask.now (event_of result self.new.tried) self.new store.new }
-    {
-        self.freeze(ask);
         let glue = top_node(n, ask.top_skip);
+        self.freeze(ask);
         store.push_front(self.waiting, glue);
         let tried = self.step(store);
         if self.stopped {
             return tried;
         }
-        self.put(store, n);
+        self.put(store);
         self.opened = true;
         tried
     }
@@ -385,35 +409,25 @@ impl Builder {
 
     // The first waiting node, an insertion, goes on the page.
     #[inline(never)]
-    fn meet(&mut self, store: &mut Lists<Node>, ask: &Ask, n: &Node, i: &Insertion)
+    fn meet(&mut self, store: &mut Lists<Node>, ask: &Ask)
         requires sound { IsSound self.old store.old }
         requires on { self.old.stopped ≡ false }
         requires fits { NextFits (contents_of self.old store.old) ask.now }
-        requires first { slice_get (list_at store.old self.old.waiting) 0 ≡ Some n.now }
-        requires insertion { insertion_of_kind n.now.kind ≡ Some i.now }
+        requires some { IsSome (slice_get (list_at store.old self.old.waiting) 0) }
+        requires insertion { (n : NodeOf) → slice_get (list_at store.old self.old.waiting) 0 ≡ Some n → IsSome (insertion_of_kind n.kind) }
         ensures { TurnIs self.old store.old ask.now None self.new store.new }
     {
+        let Some(n) = store.get(self.waiting, 0) else {
+            unreachable!()
+        };
+        let Role::Insertion(i) = n.role() else {
+            unreachable!()
+        };
         self.freeze(ask);
         let own = self.class_list(i.class);
         let size = list_size(store, own.list);
         let index = store.len(self.page);
-        self.course.join(store, i, index, &own.class, size);
-        store.move_first(self.waiting, self.page);
-    }
-
-    // On a page without a box, the first waiting node is a mark, a note or a whatsit: it goes on the page.
-    fn pass(&mut self, store: &mut Lists<Node>, ask: &Ask, n: &Node)
-        requires sound { IsSound self.old store.old }
-        requires on { self.old.stopped ≡ false }
-        requires closed { self.old.opened ≡ false }
-        requires first { slice_get (list_at store.old self.old.waiting) 0 ≡ Some n.now }
-        requires no_act { act_of_kind n.now.kind ≡ None }
-        requires no_insertion { insertion_of_kind n.now.kind ≡ None }
-        requires no_box { is_box (shape_of n.now) ≡ false }
-        requires stays { not (is_discardable (shape_of n.now)) ≡ true }
-        ensures { TurnIs self.old store.old ask.now None self.new store.new }
-    {
-        self.course.lasting = true;
+        self.course.join(store, &i, index, &own.class, size);
         store.move_first(self.waiting, self.page);
     }
 
@@ -452,23 +466,23 @@ impl Builder {
         true
     }
 
-    // The first waiting node, which is no insertion, goes on the page.
-    fn put(&mut self, store: &mut Lists<Node>, n: &Node)
+    // The first waiting node, which is no act and no insertion, goes on the page.
+    fn put(&mut self, store: &mut Lists<Node>)
         requires own { IsOwned (ids_of self.old) store.old }
-        requires first { slice_get (list_at store.old self.old.waiting) 0 ≡ Some n.now }
-        requires node { IsSmallShape (shape_of n.now) }
-        requires fits { IsSmall (added_node self.old.course.scan.max_depth self.old.course.scan.sums (shape_of n.now)) }
-        requires no_act { act_of_kind n.now.kind ≡ None }
-        requires no_insertion { insertion_of_kind n.now.kind ≡ None }
+        requires some { IsSome (slice_get (list_at store.old self.old.waiting) 0) }
+        requires node { (n : NodeOf) → slice_get (list_at store.old self.old.waiting) 0 ≡ Some n → PutFits self.old.course n }
         ensures moves { ChangesPage self.old store.old self.new store.new }
-        ensures shifted { Shifted (plain_of (list_at store.old) n.now) (contents_of self.old store.old) (contents_of self.new store.new) }
-        ensures course { (z : Frozen) (bs : List Breakpoint) → IsCourseOf z self.old.course (contents_of self.old store.old).page bs
-            → IsCourseOf z self.new.course ((contents_of self.old store.old).page ++ plain_of (list_at store.old) n.now ∷ []) bs }
-        ensures behind { (ns : List NodeOf) → list_at store.old self.old.waiting ≡ n.now ∷ ns → list_at store.new self.new.waiting ≡ ns }
+        ensures shifted { (n : NodeOf) → slice_get (list_at store.old self.old.waiting) 0 ≡ Some n → Shifted (plain_of (list_at store.old) n) (contents_of self.old store.old) (contents_of self.new store.new) }
+        ensures course { (n : NodeOf) → slice_get (list_at store.old self.old.waiting) 0 ≡ Some n → (z : Frozen) (bs : List Breakpoint) → IsCourseOf z self.old.course (contents_of self.old store.old).page bs
+            → IsCourseOf z self.new.course ((contents_of self.old store.old).page ++ plain_of (list_at store.old) n ∷ []) bs }
+        ensures behind { (n : NodeOf) (ns : List NodeOf) → list_at store.old self.old.waiting ≡ n ∷ ns → list_at store.new self.new.waiting ≡ ns }
         ensures opened { self.new.opened ≡ self.old.opened }
         ensures ids { ids_of self.new ≡ ids_of self.old }
         ensures tried { self.new.tried ≡ self.old.tried }
     {
+        let Some(n) = store.get(self.waiting, 0) else {
+            unreachable!()
+        };
         self.course.put(n);
         store.move_first(self.waiting, self.page);
     }

@@ -1,9 +1,9 @@
 -- The page is cut at its break, and what comes after it goes back.
-use Rattle.std.proofs.Common.{◌≡◌, ◌≢◌, inl, inr, refl, sym, subst, ◌∙◌, ap, ℕ, true, List, [], ◌∷◌, ◌++◌, map, take, drop, Some, append_assoc}
+use Rattle.std.proofs.Common.{◌≡◌, ◌≢◌, inl, inr, refl, sym, subst, ◌∙◌, ap, ℕ, true, List, [], ◌∷◌, ◌++◌, map, length, take, drop, Some, append_assoc, arith}
 use Rattle.std.specs.Prelude.{option_to_list, slice_set}
 use Rattle.std.specs.FinMap.{get, insert}
 use Rattle.std.proofs.lemmas.Bool.{cases_eq}
-use Rattle.std.proofs.lemmas.List.{map-append, take-map, drop-map, take-append-drop}
+use Rattle.std.proofs.lemmas.List.{map-append, take-map, drop-map, take-append-drop, take_all, drop_all}
 use Rattle.tb_pool.specs.Lists.{Lists, IsLive, list_at, with_list}
 use Rattle.tb_pool.proofs.MapLemmas.{insert_twice_from_get}
 use Rattle.tb_node.specs.declared.Node.{Node}
@@ -75,6 +75,16 @@ spent_plain held [] = refl
 spent_plain held (n ∷ ns) = ap (λ m. m ∷ map (plain_of held) ns) (spent_one held n.line n.kind)
 
 -- ---- what comes after the break goes back
+
+-- nothing comes after it
+pub turned_none : (b : Ids) (s : Lists Node) (place : ℕ) → IsOwned b s → place ≡ length (list_at s b.page)
+    → s.lists ≡ insert (with_list s b.page (take place (list_at s b.page))) b.waiting (drop place (list_at s b.page) ++ list_at s b.waiting)
+turned_none b s place own all =
+    let page = list_at s b.page in
+    let taken = ap (λ k. take k page) all ∙ take_all (length page) page (omega arith) in
+    let left = ap (λ k. drop k page) all ∙ drop_all (length page) page (omega arith) in
+    insert_twice_from_get s.lists s.lists b.page b.waiting (take place page) (drop place page ++ list_at s b.waiting) own.differ.0.0
+    (live_has s b.page own.live.0 ∙ ap Some (sym taken)) (live_has s b.waiting own.live.1.0 ∙ ap (λ xs. Some (xs ++ list_at s b.waiting)) (sym left)) (λ q p w. refl)
 
 module _ (b : Ids) (s a c t : Lists Node) (place : ℕ) (own : IsOwned b s)
     (cut : a.lists ≡ insert (with_list s b.page (take place (list_at s b.page))) b.rest (drop place (list_at s b.page))) where

@@ -25,7 +25,7 @@ use Rattle.tb_builder.specs.Ownership.{ids_of, inner_of}
 use Rattle.tb_builder.specs.Courses.{IsCourseOf, Underway, places_by, kept_frozen, page_frozen, frozen_with, AllLoose, AllLasting, IsPageSoFar, freezes, IsSound}
 use Rattle.tb_builder.specs.PageEvents.{NextFits, BoxesFit, LaidFits, KeepsBoxes, FirstIs, NextIs}
 use Rattle.tb_builder.specs.PassedNodes.{ComesPast}
-use Rattle.tb_builder.specs.PageTurns.{ChangesPage, StepIs, StepFits, ReachesNothing, TurnIs, Filled}
+use Rattle.tb_builder.specs.PageTurns.{AtAct, ChangesPage, StepIs, StepFits, ReachesNothing, TurnIs, Filled}
 use Rattle.tb_builder.proofs.Turns.MoveLemmas.{Written, written_drop}
 use Rattle.tb_builder.proofs.Ownership.FrameLemmas.{leaves_then}
 use Rattle.tb_builder.proofs.Turns.FillLemmas.{moves_from, page_from, waiting_from}
@@ -119,12 +119,14 @@ module _ (b : Builder) (s t : Lists Node) (ask : Ask) (n : Node) (ns : List Node
 pub stays_here : (c : Contents) (ask : Ask) → KeepsBoxes c c ask
 stays_here c ask = record { classes = refl; boxes = refl; held = refl; frozen_so = refl; keeps = λ f e. e }
 
-pub filled_empty : (b : Builder) (s : Lists Node) (ask : Ask) → IsSound b s → b.stopped ≡ false → list_at s b.waiting ≡ [] → Filled b s ask events.Empty b s
-filled_empty b s ask sound on none = record {
+pub empty_turned : (b : Builder) (s : Lists Node) (ask : Ask) → IsSound b s → b.stopped ≡ false → list_at s b.waiting ≡ [] → TurnIs b s ask (Some events.Empty) b s
+empty_turned b s ask sound on none = record {
   sound = sound;
   frame = record { others = λ q h. refl; apart = λ q h. h };
+  room = λ e. cc;
+  shorter = λ e. cc;
   stays = stays_here (contents_of b s) ask;
-  first = empty_turn (contents_of b s) ask (ap (map (plain_of (list_at s))) none) on;
+  turned = empty_turn (contents_of b s) ask (ap (map (plain_of (list_at s))) none) on;
   past = past-none (contents_of b s).waiting (contents_of b s) (contents_of b s) ask refl refl;
 }
 
@@ -191,6 +193,10 @@ filling_goes {a} {b} {d} {q} {s} {t} {ask} h turn = record {
   room = λ closed. more_room (turn.room refl closed).1 (h.room (turn.room refl closed).0);
   later = λ e x y f. h.later e x y (filled_later b d x s t y ask e turn f);
 }
+
+-- nothing changed
+pub filling_still : {a b d : Builder} {q s t : Lists Node} {ask : Ask} → Filling a q ask b s → AtAct b s d t → Filling a q ask d t
+filling_still {a} {b} {d} {q} {s} {t} {ask} h still = subst (λ x. Filling a q ask x t) (sym still.builder) (subst (Filling a q ask b) (sym still.store) h)
 
 -- a turn that returned an event ends the filling
 pub filling_ends : {a b d : Builder} {q s t : Lists Node} {ask : Ask} {e : Event} → Filling a q ask b s → TurnIs b s ask (Some e) d t → Filled a q ask e d t

@@ -43,6 +43,9 @@ use Rattle.tb_builder.proofs.Events.FilledLemmas.{stays_after, fits_after, first
 use Rattle.tb_builder.proofs.Events.PagingLemmas.{paging_next}
 use Rattle.tb_builder.proofs.Events.PassedLemmas.{keeps_then, passed_fits, passed_same, passed_later}
 use Rattle.tb_builder.proofs.Turns.PastLemmas.{event-after, holds-both}
+use Rattle.tb_builder.proofs.Ownership.SpareLemmas.{one_same, contents_still, sound_still, fits_still, keeps_room}
+use Rattle.tb_builder.specs.PassedNodes.{EventPast}
+use Rattle.tb_builder.specs.PageProgress.{IsNextOfPage}
 
 -- ---- calls of `next`
 
@@ -86,6 +89,30 @@ next_later b d x s t y ask e on turn call =
 comes_later : (b d x : Builder) (s t y : Lists Node) (ask : Ask) (e : Event) → b.stopped ≡ false → TurnIs b s ask None d t → (ps : List PassedOver) → ComesBy ps d t ask e x y → ComesBy ps b s ask e x y
 comes_later b d x s t y ask e on turn [] h = next_later b d x s t y ask e on turn h
 comes_later b d x s t y ask e on turn (p ∷ ps) h = (next_later b d p.builder s t p.store ask (events.Try p.place) on turn h.0, h.1)
+
+-- a call after memory was taken
+given_room : (e : Event) (s t y : Lists Node) (i : Ids) → t.lists ≡ s.lists → IsGivenOut e t i y → IsGivenOut e s i y
+given_room (events.Try p) s t y i same h = tt
+given_room (events.Act a) s t y i same h = tt
+given_room (events.Fired p) s t y i same h = (sym (one_same s t same p.body) ∙ h.0, h.1, h.2)
+given_room events.Empty s t y i same h = tt
+
+next_room : (b x : Builder) (s t y : Lists Node) (ask : Ask) (e : Event) → t.lists ≡ s.lists → IsNext b t ask e x y → IsNext b s ask e x y
+next_room b x s t y ask e same h =
+    let still = contents_still s t same b in
+    record {
+      page = subst (λ c. IsNextOfPage e c ask (contents_of x y) y) still h.page;
+      event = subst (λ c. NextIs b.stopped e c ask (contents_of x y) y) still h.event;
+      past = λ on. subst (λ c. EventPast e c (contents_of x y) ask) still (h.past on);
+      sound = h.sound;
+      keeps = keeps_then (ids_of b) (ids_of b) (ids_of x) s t y (keeps_room s t same b) h.keeps;
+      body = given_room e s t y (ids_of x) same h.body;
+      room = h.room;
+    }
+
+comes_room : (b x : Builder) (s t y : Lists Node) (ask : Ask) (e : Event) → t.lists ≡ s.lists → (ps : List PassedOver) → ComesBy ps b t ask e x y → ComesBy ps b s ask e x y
+comes_room b x s t y ask e same [] h = next_room b x s t y ask e same h
+comes_room b x s t y ask e same (p ∷ ps) h = (next_room b p.builder s t p.store ask (events.Try p.place) same h.0, h.1)
 
 -- ---- what leads on
 
@@ -132,19 +159,33 @@ module _ (ask : Ask) where
   pub leads_to : (b l w d : Builder) (s m v t : Lists Node) (e : Event) → LeadsOn b s ask l m → LeadsOn l m ask w v → IsNext w v ask e d t → ComesAfter b s ask e d t
   leads_to b l w d s m v t e h k n = h.later e d t (k.later e d t (record { passed = []; comes = n }))
 
-  -- a turn that tried a place
-  pub leads_try : (b d : Builder) (s t : Lists Node) (p : Try) → b.stopped ≡ false → NextFits (contents_of b s) ask → TurnIs b s ask (Some (events.Try p)) d t → LeadsOn b s ask d t
-  leads_try b d s t p on fits turn =
-      let event : NextIs b.stopped (events.Try p) (contents_of b s) ask (contents_of d t) t = subst (λ st. NextIs st (events.Try p) (contents_of b s) ask (contents_of d t) t) (sym on) (turn.turned, turn.stays) in
-      leads_next b d s t p fits (record {
-        page = paging_next (events.Try p) (contents_of b s) (contents_of d t) ask t event;
+  -- memory was taken
+  pub leads_room : (b : Builder) (s t : Lists Node) → t.lists ≡ s.lists → IsSound b s → NextFits (contents_of b s) ask → LeadsOn b s ask b t
+  leads_room b s t same sound fits = record {
+    sound = sound_still s t same b sound;
+    fits = fits_still s t same b ask fits;
+    held = ap (λ (c : Contents). c.held) (contents_still s t same b);
+    keeps = keeps_room s t same b;
+    later = λ e x y h. record { passed = h.passed; comes = comes_room b x s t y ask e same h.passed h.comes };
+  }
+
+  -- a turn with an event is a call
+  pub next_turn : (b d : Builder) (s t : Lists Node) (e : Event) → b.stopped ≡ false → TurnIs b s ask (Some e) d t → IsNext b s ask e d t
+  next_turn b d s t e on turn =
+      let event : NextIs b.stopped e (contents_of b s) ask (contents_of d t) t = subst (λ st. NextIs st e (contents_of b s) ask (contents_of d t) t) (sym on) (turn.turned, turn.stays) in
+      record {
+        page = paging_next e (contents_of b s) (contents_of d t) ask t event;
         event = event;
         past = λ go. turn.past;
         sound = turn.sound;
-        keeps = turn_keeps b d s t ask (Some (events.Try p)) turn;
-        body = tt;
-        room = tt;
-      })
+        keeps = turn_keeps b d s t ask (Some e) turn;
+        body = given_here e (contents_of b s) (contents_of d t) s t t (ids_of d) ask turn.turned;
+        room = told_here e (contents_of b s) (contents_of d t) d t ask turn.turned;
+      }
+
+  -- a turn that tried a place
+  pub leads_try : (b d : Builder) (s t : Lists Node) (p : Try) → b.stopped ≡ false → NextFits (contents_of b s) ask → TurnIs b s ask (Some (events.Try p)) d t → LeadsOn b s ask d t
+  leads_try b d s t p on fits turn = leads_next b d s t p fits (next_turn b d s t (events.Try p) on turn)
 
 -- ---- the lists of a walk
 

@@ -1,5 +1,5 @@
 -- Lists come before others, and what the output routine puts back comes before what waits.
-use Rattle.std.proofs.Common.{◌≡◌, ◌≢◌, refl, sym, subst, ◌∙◌, ap, ℕ, true, List, [], ◌∷◌, ◌++◌, map, Option, None, Some, is_some, unwrap_or, append_assoc}
+use Rattle.std.proofs.Common.{◌≡◌, ◌≢◌, refl, sym, subst, ◌∙◌, ap, ℕ, true, List, [], ◌∷◌, ◌++◌, length, map, Option, None, Some, is_some, unwrap_or, append_assoc}
 use Rattle.std.specs.FinMap.{get, insert}
 use Rattle.std.proofs.lemmas.List.{map-append}
 use Rattle.tb_pool.specs.Lists.{Lists, IsLive, list_at, with_list}
@@ -52,6 +52,22 @@ module _ (s r u t : Lists Node) (a b c : ℕ) (apart : a ≢ b) (first_apart : a
     joined = some_list t c (list_at s a ++ (list_at s b ++ list_at s c)) three.first_live (three.first ∙ all_three);
     others = λ q na nb nc. three.others q nc na ∙ two.others q na nc ∙ one.others q na nb;
   }
+
+-- nothing goes to the front
+none_long : (xs : List Node) → length xs ≡ 0 → xs ≡ []
+none_long [] e = refl
+none_long (x ∷ xs) e = cc
+
+pub none_in_front : (s : Lists Node) (a b c : ℕ) → IsLive s a → IsLive s b → IsLive s c → length (list_at s a) ≡ 0 → length (list_at s b) ≡ 0 → InFront s s a b c
+none_in_front s a b c first second third none none_too =
+    let no_first = none_long (list_at s a) none in
+    let no_second = none_long (list_at s b) none_too in
+    record {
+      first = some_list s a [] first no_first;
+      second = some_list s b [] second no_second;
+      joined = some_list s c (list_at s a ++ (list_at s b ++ list_at s c)) third (sym (λ i. no_first i ++ (no_second i ++ list_at s c)));
+      others = λ q na nb nc. refl;
+    }
 
 -- ---- what is put back
 

@@ -15,10 +15,10 @@ use Rattle.tb_builder.proofs.Ownership.OwnedLemmas.{known-right}
 use Rattle.tb_builder.proofs.Turns.MoveLemmas.{written_own}
 
 module _ (s t : Lists Node) (same : t.lists ≡ s.lists) where
-  one_same : (q : ℕ) → get t.lists q ≡ get s.lists q
+  pub one_same : (q : ℕ) → get t.lists q ≡ get s.lists q
   one_same q = ap (λ m. get m q) same
 
-  live_still : (q : ℕ) → IsLive s q → IsLive t q
+  pub live_still : (q : ℕ) → IsLive s q → IsLive t q
   live_still q live = ap is_some (one_same q) ∙ live
 
   list_still : (q : ℕ) → list_at t q ≡ list_at s q
@@ -64,4 +64,11 @@ module _ (s t : Lists Node) (same : t.lists ≡ s.lists) where
   keeps_filled b d r others keeps = record {
     others = λ q live h. others q (subst (Lacks q) (sym (owned_still (ids_of b))) h) ∙ one_same q;
     apart = λ q live h. keeps q (subst (Lacks q) (sym (owned_still (ids_of b))) h);
+  }
+
+  -- other lists stay while memory is taken
+  pub keeps_room : (b : Builder) → KeepsOthers (ids_of b) s (ids_of b) t
+  keeps_room b = record {
+    others = λ q live h. one_same q;
+    apart = λ q live h. subst (Lacks q) (sym (owned_still (ids_of b))) h;
   }

@@ -19,6 +19,10 @@ use Rattle.tb_builder.proofs.Turns.PastLemmas.{holds-both}
 pub first_is : (ns : List Node) (n : Node) → slice_get ns 0 ≡ Some n → (ms : List Node) × (ns ≡ n ∷ ms)
 first_is ns n e = some_first ns n (sym e)
 
+-- a list has one first node
+pub same_first : (xs : List Node) (n m : Node) → slice_get xs 0 ≡ Some n → slice_get xs 0 ≡ Some m → n ≡ m
+same_first xs n m e h = let s : Some n ≡ Some m = sym e ∙ h in cc
+
 module _ (b d : Builder) (s t : Lists Node) (xs ys : List Node) (same : ids_of d ≡ ids_of b) (own : IsOwned (ids_of b) s) (w : Written (ids_of b) s t xs ys) where
   pub moves_from : ChangesPage b s d t
   moves_from = record {

@@ -1,4 +1,9 @@
-use Rattle.std.proofs.Common.{◌≡◌, refl, sym, subst, ◌∙◌, ap, ◌<◌, true, length, map, arith, FitsSigned, w64, to_z, of_z, ◌++◌, ◌∷◌, [], rules}
+use Rattle.std.proofs.lemmas.Bool.{true≢false}
+use Rattle.tb_node.specs.declared.Insertion.{Insertion}
+use Rattle.tb_node.specs.declared.Role.{Role}
+use Rattle.tb_node.specs.declared.Role.TheVariants as roles
+use Rattle.tb_node.specs.Roles.{insertion_of_role}
+use Rattle.std.proofs.Common.{is_some, None, ◌≡◌, refl, sym, subst, ◌∙◌, ap, ◌<◌, true, length, map, arith, FitsSigned, w64, to_z, of_z, ◌++◌, ◌∷◌, [], rules}
 use Rattle.std.specs.FinMap.{insert}
 use Rattle.std.proofs.lemmas.Int.{to_z-of_z}
 use Rattle.tb_pool.specs.Lists.{list_at, with_list}
@@ -19,49 +24,60 @@ use Rattle.tb_builder.proofs.LegalPlaces.ClassLemmas.{number_is}
 use Rattle.tb_builder.proofs.Turns.MeetLemmas.{met}
 use Rattle.tb_builder.proofs.Builder.meet.Goals as goal
 
+-- a role that is not that of an insertion has none
+no_insertion_role : (r : Role) → ((i : Insertion) → r ≡ roles.Insertion i → ⊥) → insertion_of_role r ≡ None
+no_insertion_role roles.Matter h = refl
+no_insertion_role (roles.Insertion i) h = absurd (h i refl)
+no_insertion_role (roles.Act a) h = refl
+
+pub unreachable-requires-in_default-role : goal.unreachable-requires-in_default-role
+unreachable-requires-in_default-role c =
+    let is = c.requires.insertion c.in-Some.n.now (sym c.in-Some.ensures) in
+    true≢false (sym is ∙ ap is_some (sym c.role.ensures.insertion ∙ no_insertion_role c.role.result c.in_default-role.not-Insertion))
+
 pub class_list-own-requires : goal.class_list-own-requires
 class_list-own-requires c =
-    let f = first_is (list_at c.args.store.now c.args.self.now.waiting) c.args.n.now c.requires.first in
-    subst (λ (i : Ids). has_class (map (λ e. e.class) i.boxes) c.args.i.now.class ≡ true) (sym c.freeze.ensures.ids)
-    (first_known (ids_of c.args.self.now) c.args.store.now (contents_of c.args.self.now c.args.store.now).classes c.args.n.now f.0 c.args.i.now c.requires.sound.own.known f.1 c.requires.insertion)
+    let f = first_is (list_at c.args.store.now c.args.self.now.waiting) c.in-Some.n.now (sym c.in-Some.ensures) in
+    subst (λ (i : Ids). has_class (map (λ e. e.class) i.boxes) c.in-Insertion.i.class ≡ true) (sym c.freeze.ensures.ids)
+    (first_known (ids_of c.args.self.now) c.args.store.now (contents_of c.args.self.now c.args.store.now).classes c.in-Some.n.now f.0 c.in-Insertion.i c.requires.sound.own.known f.1 (sym c.in-Insertion.ensures.insertion))
 
 pub list_size-size-requires-clause-live : goal.list_size-size-requires-clause-live
 list_size-size-requires-clause-live c =
-    let own = subst (λ (j : Ids). IsClassList j.boxes c.args.i.now.class c.class_list-own.result) c.freeze.ensures.ids c.class_list-own.ensures in
-    list_live c.args.store.now (ids_of c.args.self.now).boxes c.args.i.now.class c.class_list-own.result own (live-left c.args.store.now (box_ids (ids_of c.args.self.now).boxes) (inner_ids (nodes_of (ids_of c.args.self.now) c.args.store.now)) c.requires.sound.own.live.1.1.1.1)
+    let own = subst (λ (j : Ids). IsClassList j.boxes c.in-Insertion.i.class c.class_list-own.result) c.freeze.ensures.ids c.class_list-own.ensures in
+    list_live c.args.store.now (ids_of c.args.self.now).boxes c.in-Insertion.i.class c.class_list-own.result own (live-left c.args.store.now (box_ids (ids_of c.args.self.now).boxes) (inner_ids (nodes_of (ids_of c.args.self.now) c.args.store.now)) c.requires.sound.own.live.1.1.1.1)
 
 pub list_size-size-requires-clause-fits : goal.list_size-size-requires-clause-fits
 list_size-size-requires-clause-fits c =
-    let own = subst (λ (j : Ids). IsClassList j.boxes c.args.i.now.class c.class_list-own.result) c.freeze.ensures.ids c.class_list-own.ensures in
-    list_fits c.args.store.now (ids_of c.args.self.now).boxes c.args.i.now.class c.class_list-own.result own c.requires.sound.own.void_empty c.requires.fits.boxes
+    let own = subst (λ (j : Ids). IsClassList j.boxes c.in-Insertion.i.class c.class_list-own.result) c.freeze.ensures.ids c.class_list-own.ensures in
+    list_fits c.args.store.now (ids_of c.args.self.now).boxes c.in-Insertion.i.class c.class_list-own.result own c.requires.sound.own.void_empty c.requires.fits.boxes
 
 pub join-requires-clause-number : goal.join-requires-clause-number
 join-requires-clause-number c =
-    let own = subst (λ (j : Ids). IsClassList j.boxes c.args.i.now.class c.class_list-own.result) c.freeze.ensures.ids c.class_list-own.ensures in
-    number_is c.args.store.now (ids_of c.args.self.now).boxes c.args.i.now.class c.class_list-own.result own
+    let own = subst (λ (j : Ids). IsClassList j.boxes c.in-Insertion.i.class c.class_list-own.result) c.freeze.ensures.ids c.class_list-own.ensures in
+    number_is c.args.store.now (ids_of c.args.self.now).boxes c.in-Insertion.i.class c.class_list-own.result own
 
 pub join-requires-clause-most : goal.join-requires-clause-most
 join-requires-clause-most c =
-    let own = subst (λ (j : Ids). IsClassList j.boxes c.args.i.now.class c.class_list-own.result) c.freeze.ensures.ids c.class_list-own.ensures in
-    let f = first_is (list_at c.args.store.now c.args.self.now.waiting) c.args.n.now c.requires.first in
+    let own = subst (λ (j : Ids). IsClassList j.boxes c.in-Insertion.i.class c.class_list-own.result) c.freeze.ensures.ids c.class_list-own.ensures in
+    let f = first_is (list_at c.args.store.now c.args.self.now.waiting) c.in-Some.n.now (sym c.in-Some.ensures) in
     let before = contents_of c.args.self.now c.args.store.now in
     let u = frozen_course before c.args.self.now.course c.freeze.new.self.course c.args.ask.now c.args.self.now.frozen refl (subst (λ x. IsPageSoFar c.args.self.now.frozen x c.args.self.now.course before) c.requires.on c.requires.sound.page) c.requires.sound.own.classes c.freeze.ensures.first (λ some. ap (λ (x : Builder). x.course) (c.freeze.ensures.again some)) in
-    subst (λ k. k < 255) (number_is c.args.store.now (ids_of c.args.self.now).boxes c.args.i.now.class c.class_list-own.result own) (class_is (ids_of c.args.self.now) c.args.store.now before c.args.ask.now c.freeze.new.self.course c.args.n.now f.0 c.args.i.now c.class_list-own.result c.requires.sound.own refl refl refl refl c.requires.fits f.1 c.requires.insertion own u).0
+    subst (λ k. k < 255) (number_is c.args.store.now (ids_of c.args.self.now).boxes c.in-Insertion.i.class c.class_list-own.result own) (class_is (ids_of c.args.self.now) c.args.store.now before c.args.ask.now c.freeze.new.self.course c.in-Some.n.now f.0 c.in-Insertion.i c.class_list-own.result c.requires.sound.own refl refl refl refl c.requires.fits f.1 (sym c.in-Insertion.ensures.insertion) own u).0
 
 pub join-requires-clause-fits : goal.join-requires-clause-fits
 join-requires-clause-fits c =
-    let own = subst (λ (j : Ids). IsClassList j.boxes c.args.i.now.class c.class_list-own.result) c.freeze.ensures.ids c.class_list-own.ensures in
-    let f = first_is (list_at c.args.store.now c.args.self.now.waiting) c.args.n.now c.requires.first in
+    let own = subst (λ (j : Ids). IsClassList j.boxes c.in-Insertion.i.class c.class_list-own.result) c.freeze.ensures.ids c.class_list-own.ensures in
+    let f = first_is (list_at c.args.store.now c.args.self.now.waiting) c.in-Some.n.now (sym c.in-Some.ensures) in
     let before = contents_of c.args.self.now c.args.store.now in
     let u = frozen_course before c.args.self.now.course c.freeze.new.self.course c.args.ask.now c.args.self.now.frozen refl (subst (λ x. IsPageSoFar c.args.self.now.frozen x c.args.self.now.course before) c.requires.on c.requires.sound.page) c.requires.sound.own.classes c.freeze.ensures.first (λ some. ap (λ (x : Builder). x.course) (c.freeze.ensures.again some)) in
     let r : FitsSigned w64 c.list_size-size.result = search rules in
     let size : to_z w64 (of_z w64 c.list_size-size.result) ≡ size_of (shapes c.args.store.now c.class_list-own.result.list) = to_z-of_z w64 c.list_size-size.result r ∙ c.list_size-size.ensures in
-    subst (λ x. ArriveFits c.args.store.now c.freeze.new.self.course.account c.freeze.new.self.course.scan c.args.i.now c.class_list-own.result.class x) (sym size) (meets_fits (ids_of c.args.self.now) c.args.store.now before c.args.ask.now c.freeze.new.self.course c.args.n.now f.0 c.args.i.now c.class_list-own.result c.requires.sound.own refl refl refl refl c.requires.fits f.1 c.requires.insertion own u)
+    subst (λ x. ArriveFits c.args.store.now c.freeze.new.self.course.account c.freeze.new.self.course.scan c.in-Insertion.i c.class_list-own.result.class x) (sym size) (meets_fits (ids_of c.args.self.now) c.args.store.now before c.args.ask.now c.freeze.new.self.course c.in-Some.n.now f.0 c.in-Insertion.i c.class_list-own.result c.requires.sound.own refl refl refl refl c.requires.fits f.1 (sym c.in-Insertion.ensures.insertion) own u)
 
 pub returns : goal.returns
 returns c =
-    let own = subst (λ (j : Ids). IsClassList j.boxes c.args.i.now.class c.class_list-own.result) c.freeze.ensures.ids c.class_list-own.ensures in
-    let f = first_is (list_at c.args.store.now c.args.self.now.waiting) c.args.n.now c.requires.first in
+    let own = subst (λ (j : Ids). IsClassList j.boxes c.in-Insertion.i.class c.class_list-own.result) c.freeze.ensures.ids c.class_list-own.ensures in
+    let f = first_is (list_at c.args.store.now c.args.self.now.waiting) c.in-Some.n.now (sym c.in-Some.ensures) in
     let before = contents_of c.args.self.now c.args.store.now in
     let u = frozen_course before c.args.self.now.course c.freeze.new.self.course c.args.ask.now c.args.self.now.frozen refl (subst (λ x. IsPageSoFar c.args.self.now.frozen x c.args.self.now.course before) c.requires.on c.requires.sound.page) c.requires.sound.own.classes c.freeze.ensures.first (λ some. ap (λ (x : Builder). x.course) (c.freeze.ensures.again some)) in
     let r : FitsSigned w64 c.list_size-size.result = search rules in
@@ -71,14 +87,14 @@ returns c =
     let held = list_at s in
     let z = frozen_of before c.args.ask.now in
     let bs = places_by z before.page before.waiting in
-    let co = comes_to (ids_of c.args.self.now) c.args.store.now before c.args.ask.now c.freeze.new.self.course c.args.n.now f.0 c.args.i.now c.class_list-own.result c.requires.sound.own refl refl refl refl c.requires.fits f.1 c.requires.insertion own u in
+    let co = comes_to (ids_of c.args.self.now) c.args.store.now before c.args.ask.now c.freeze.new.self.course c.in-Some.n.now f.0 c.in-Insertion.i c.class_list-own.result c.requires.sound.own refl refl refl refl c.requires.fits f.1 (sym c.in-Insertion.ensures.insertion) own u in
     let index : c.len-index.result ≡ length (list_at s b.page) = c.len-index.ensures ∙ ap (λ (j : Ids). length (list_at s j.page)) c.freeze.ensures.ids in
-    let joined = c.join.ensures z before.page bs c.args.n.now.line u.course
+    let joined = c.join.ensures z before.page bs c.in-Some.n.now.line u.course
     (subst (λ k. ComesTo z before.page c.freeze.new.self.course.scan c.class_list-own.result.class (to_z w64 (of_z w64 c.list_size-size.result)) k) (sym index) (subst (λ x. ComesTo z before.page c.freeze.new.self.course.scan c.class_list-own.result.class x (length (list_at s b.page))) (sym size) co)) in
     let d : Builder = record c.freeze.new.self { course = c.join.new.self } in
-    let shifted = c.move_first.ensures.moved c.args.n.now f.0 (ap (λ (j : Ids). list_at s j.waiting) c.freeze.ensures.ids ∙ f.1) ∙ ap (λ (j : Ids). insert (with_list s j.waiting f.0) j.page (list_at s j.page ++ c.args.n.now ∷ [])) c.freeze.ensures.ids in
-    met b d s c.move_first.new.self c.args.ask.now c.args.n.now f.0 c.requires.sound (c.freeze.ensures.stopped ∙ c.requires.on) c.freeze.ensures.ids f.1
-    (written_shift (ids_of b) s c.move_first.new.self c.args.n.now f.0 c.requires.sound.own f.1 shifted) (omega (arith, c.move_first.ensures.spare)) c.freeze.ensures.opened
-    (insertion_shape c.args.n.now c.args.i.now c.requires.insertion) (insertion_act c.args.n.now c.args.i.now c.requires.insertion)
-    c.freeze.new.self.course (frozen_with b.frozen c.args.ask.now) (insertion_plain held c.args.n.now c.args.i.now c.requires.insertion) c.freeze.ensures.frozen refl u
-    (subst (λ m. IsCourseOf z c.join.new.self (before.page ++ m ∷ []) bs) (sym (plain_insertion held c.args.n.now c.args.i.now c.requires.insertion)) joined)
+    let shifted = c.move_first.ensures.moved c.in-Some.n.now f.0 (ap (λ (j : Ids). list_at s j.waiting) c.freeze.ensures.ids ∙ f.1) ∙ ap (λ (j : Ids). insert (with_list s j.waiting f.0) j.page (list_at s j.page ++ c.in-Some.n.now ∷ [])) c.freeze.ensures.ids in
+    met b d s c.move_first.new.self c.args.ask.now c.in-Some.n.now f.0 c.requires.sound (c.freeze.ensures.stopped ∙ c.requires.on) c.freeze.ensures.ids f.1
+    (written_shift (ids_of b) s c.move_first.new.self c.in-Some.n.now f.0 c.requires.sound.own f.1 shifted) (omega (arith, c.move_first.ensures.spare)) c.freeze.ensures.opened
+    (insertion_shape c.in-Some.n.now c.in-Insertion.i (sym c.in-Insertion.ensures.insertion)) (insertion_act c.in-Some.n.now c.in-Insertion.i (sym c.in-Insertion.ensures.insertion))
+    c.freeze.new.self.course (frozen_with b.frozen c.args.ask.now) (insertion_plain held c.in-Some.n.now c.in-Insertion.i (sym c.in-Insertion.ensures.insertion)) c.freeze.ensures.frozen refl u
+    (subst (λ m. IsCourseOf z c.join.new.self (before.page ++ m ∷ []) bs) (sym (plain_insertion held c.in-Some.n.now c.in-Insertion.i (sym c.in-Insertion.ensures.insertion))) joined)

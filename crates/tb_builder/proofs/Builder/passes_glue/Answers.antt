@@ -1,5 +1,5 @@
-use Rattle.std.proofs.Common.{◌≡◌, pos, Bool, true, false, None, refl, sym, subst, ◌∙◌, ap, ◌+◌, Option, Some, ℕ, ◌<◌, ◌^◌}
-use Rattle.std.specs.Prelude.{SomeIff, if◌then◌else◌}
+use Rattle.std.proofs.Common.{◌≡◌, pos, Bool, true, false, None, refl, sym, subst, ◌∙◌, ap, Some, ℕ}
+use Rattle.std.specs.Prelude.{if◌then◌else◌}
 use Rattle.tb_pool.specs.Lists.{Lists, list_at}
 use Rattle.tb_node.specs.declared.Node.{Node}
 use Rattle.tb_node.specs.PlainNodes.{shape_of}
@@ -18,11 +18,6 @@ use Rattle.tb_builder.specs.PageWalks.{moved}
 use Rattle.tb_builder.proofs.Events.WalkLemmas.{SeenSpace, seen_space, walks_shape, Walks, walk_fits, walk_sums, walk_course, walk_terms, walk_passes, walk_tries, walk_stops, page_length}
 use Rattle.tb_builder.proofs.Builder.passes_glue.Goals.{Start, After-offer-tried}
 use Rattle.tb_builder.proofs.Builder.passes_glue.Goals as goal
-
-index_is : (o : Option ℕ) (i before k m len : ℕ) → SomeIff o (before + k < 2 ^ 64) (before + k) → o ≡ Some i → before ≡ m → m + k ≡ len → i ≡ len
-index_is o i before k m len h is e f =
-    let there : SomeIff (Some i) (before + k < 2 ^ 64) (before + k) = subst (λ x. SomeIff x (before + k < 2 ^ 64) (before + k)) is h in
-    there.1 ∙ ap (λ x. x + k) e ∙ f
 
 space : (c : Start) → SeenSpace c.args.n.now
 space c = seen_space c.args.n.now c.requires.glue
@@ -50,7 +45,7 @@ offered c w =
     let k = c.args.passed in
     let here = page_at b s k in
     let z = kept_frozen here in
-    let index = index_is c.checked_add.result c.in-Some.index c.args.before k _ _ c.checked_add.ensures c.in-Some.is c.requires.before (page_length b s k c.args.n.now _ w.sound w.next) in
+    let index = c.requires.index ∙ page_length b s k c.args.n.now _ w.sound w.next in
     c.offer-tried.ensures z here.page (places_on z here) (walk_course _ _ _ _ _ w) index
 
 pub put_glue-requires-clause-node : goal.put_glue-requires-clause-node

@@ -1,6 +1,5 @@
-use Rattle.std.proofs.Common.{◌≡◌, refl, sym, subst, ◌∙◌, ap, ◌+◌, Option, Some, ℕ, ◌<◌, ◌^◌, FitsSigned, w64, rules}
+use Rattle.std.proofs.Common.{refl, sym, ◌∙◌, ap, ℕ, FitsSigned, w64, rules}
 use Rattle.std.proofs.lemmas.Int.{to_z-of_z}
-use Rattle.std.specs.Prelude.{SomeIff}
 use Rattle.tb_pool.specs.Lists.{Lists, list_at}
 use Rattle.tb_node.specs.declared.Node.{Node}
 use Rattle.tb_node.specs.NodeView.{NodeView}
@@ -14,11 +13,6 @@ use Rattle.tb_builder.specs.PageWalks.{moved}
 use Rattle.tb_builder.proofs.Events.WalkLemmas.{Walks, walk_fits, walk_sums, walk_course, walk_terms, walk_passes, walk_tries, walk_stops, page_length}
 use Rattle.tb_builder.proofs.Builder.passes_other.Goals.{Else-not-is_walked, After-offer-tried}
 use Rattle.tb_builder.proofs.Builder.passes_other.Goals as goal
-
-index_is : (o : Option ℕ) (i before k m len : ℕ) → SomeIff o (before + k < 2 ^ 64) (before + k) → o ≡ Some i → before ≡ m → m + k ≡ len → i ≡ len
-index_is o i before k m len h is e f =
-    let there : SomeIff (Some i) (before + k < 2 ^ 64) (before + k) = subst (λ x. SomeIff x (before + k < 2 ^ 64) (before + k)) is h in
-    there.1 ∙ ap (λ x. x + k) e ∙ f
 
 -- the node is the next of the walk
 walks : (c : Else-not-is_walked) → Walks c.args.self.now c.args.store.now c.args.ask.now c.args.n.now c.args.passed
@@ -48,7 +42,7 @@ offered c w =
     let z = kept_frozen here in
     let p : FitsSigned w64 c.in-Some.penalty = search rules in
     let told = simp to_z-of_z at c.offer-tried.ensures in
-    let index = index_is c.checked_add.result c.in-Some-checked_add.index c.args.before k _ _ c.checked_add.ensures c.in-Some-checked_add.is c.requires.before (page_length b s k c.args.n.now _ w.sound w.next) in
+    let index = c.requires.index ∙ page_length b s k c.args.n.now _ w.sound w.next in
     told z here.page (places_on z here) (walk_course _ _ _ _ _ w) index
 
 pub place_penalty-requires : goal.place_penalty-requires

@@ -1,7 +1,10 @@
 use Rattle.std.proofs.Common.{◌∙◌, sym}
 use Rattle.tb_builder.specs.Ownership.{ids_of}
-use Rattle.tb_builder.proofs.Cutting.CutPageLemmas.{back_lives, again_lives, turned_lists}
+use Rattle.tb_builder.proofs.Cutting.CutPageLemmas.{turned_none, back_lives, again_lives, turned_lists}
 use Rattle.tb_builder.proofs.Builder.turn_back.Goals as goal
+
+pub returns-then-place-len-clause-turned : goal.returns-then-place-len-clause-turned
+returns-then-place-len-clause-turned c = turned_none (ids_of c.args.self.now) c.args.store.now c.args.place c.requires.own (c.if-place-len.true ∙ c.len.ensures)
 
 pub append-requires : goal.append-requires
 append-requires c =

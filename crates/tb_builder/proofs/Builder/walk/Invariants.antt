@@ -1,4 +1,4 @@
-use Rattle.std.proofs.Common.{◌≡◌, ◌+◌, true, false, length, drop}
+use Rattle.std.proofs.Common.{◌≡◌, ◌-◌, ◌≤◌, true, false, length, drop}
 use Rattle.tb_pool.specs.Lists.{list_at}
 use Rattle.tb_builder.specs.Ownership.{ids_of}
 use Rattle.tb_builder.specs.PageWalks.{moved, LeadsOn}
@@ -8,10 +8,11 @@ abbrev pub invariant-loop-n : goal.invariant-loop-n
 invariant-loop-n l = record {
   can_next : (goal.iterator-loop-n).can_next l.n-iterator;
   is_finite : (goal.iterator-loop-n).is_finite l.n-iterator;
-  rest : drop l.passed (list_at l.fn.store l.self.waiting) ≡ l.n-iterator;
-  few : l.passed + length l.n-iterator ≡ length (list_at l.fn.store l.self.waiting);
+  within : l.left ≤ l.all;
+  rest : drop (l.all - l.left) (list_at l.fn.store l.self.waiting) ≡ l.n-iterator;
+  few : l.left ≡ length l.n-iterator;
   on : l.self.stopped ≡ false;
   opened : l.self.opened ≡ true;
   ids : ids_of l.self ≡ ids_of l.fn.self;
-  leads : LeadsOn l.fn.self l.fn.store l.fn.ask l.self (moved (ids_of l.self) l.fn.store l.passed);
+  leads : LeadsOn l.fn.self l.fn.store l.fn.ask l.self (moved (ids_of l.self) l.fn.store (l.all - l.left));
 }

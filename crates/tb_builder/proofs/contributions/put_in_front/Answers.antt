@@ -1,7 +1,10 @@
 use Rattle.std.proofs.Common.{sym, ap, ◌∙◌, is_some, []}
 use Rattle.tb_builder.proofs.Turns.MoveLemmas.{wrote_two}
-use Rattle.tb_builder.proofs.Handover.FrontLemmas.{in_front}
+use Rattle.tb_builder.proofs.Handover.FrontLemmas.{none_in_front, in_front}
 use Rattle.tb_builder.proofs.contributions.put_in_front.Goals as goal
+
+pub returns-then-len-eq0-2-clause-front : goal.returns-then-len-eq0-2-clause-front
+returns-then-len-eq0-2-clause-front c = none_in_front c.args.store.now c.args.a c.args.b c.args.c c.requires.first_live c.requires.second_live c.requires.third_live (sym c.len.ensures ∙ c.if-len-eq0.true) (sym c.len-then-len-eq0.ensures ∙ c.if-len-eq0-2.true)
 
 pub append-requires-2-clause-first_live : goal.append-requires-2-clause-first_live
 append-requires-2-clause-first_live c = (wrote_two c.args.store.now c.append.new.self c.args.a c.args.b _ [] c.requires.apart c.append.ensures.joined).first_live
