@@ -1,9 +1,9 @@
 //! Generated galleys: large valid inputs, each made from a number.
 #![tactic(auto)]
 
-ghost use Rattle.std.specs.Prelude.{◌≡◌, ◌<◌, ◌≤◌, ◌∷◌, ◌++◌, [], true, IfOk, OnOk};
+ghost use Rattle.std.specs.Prelude.{◌≡◌, ◌<◌, ◌≤◌, ◌∷◌, ◌++◌, [], true, drop, IfOk, OnOk};
 ghost use Rattle.tb_param.specs.Defaults.{glue_points};
-ghost use Rattle.tb_node.specs.Names.{is_alphanumeric};
+ghost use Rattle.tb_node.specs.Names.{is_alphanumeric, is_name};
 ghost use Rattle.tb_galley.specs.Valid.{IsValid};
 ghost use Rattle.tb_generator.specs.GeneratedGalleys.{next_seed, letter_number, made_box, made_foot, made_float, made_by, made_item, made_params, generated};
 
@@ -129,7 +129,42 @@ fn push_box(items: &mut Items, k: u32) -> Result<(), AllocError>
     requires { k ≤ 40000 }
     ensures { OnOk result (items.new ≡ items.old ++ record { line = k; kind = made_box k } ∷ []) }
 {
-    push(items, k, made_box(k))
+    let mut text = [0; 6];
+    let start = write_led(b'b', k, &mut text);
+    push_led(items, k, &text, start)
+}
+
+// Almost all names have five or six bytes: there the compiler sees their number, and makes the item in place.
+#[inline(always)]
+fn push_led(items: &mut Items, k: u32, text: &[u8; 6], start: usize) -> Result<(), AllocError>
+    requires few { k ≤ 40000 }
+    requires within { start ≤ 5 }
+    requires name { drop start text.now ≡ letter_number 98 k }
+    ensures { OnOk result (items.new ≡ items.old ++ record { line = k; kind = made_box k } ∷ []) }
+{
+    match start {
+        0 => push_named(items, k, text),
+        1 => push_named(items, k, &text[1..]),
+        _ => push_named(items, k, &text[start..]),
+    }
+}
+
+// A box with the name in these bytes.
+#[inline(always)]
+fn push_named(items: &mut Items, k: u32, name: &[u8]) -> Result<(), AllocError>
+    requires few { k ≤ 40000 }
+    requires name { name.now ≡ letter_number 98 k }
+    ensures { OnOk result (items.new ≡ items.old ++ record { line = k; kind = made_box k } ∷ []) }
+{
+    push(
+        items,
+        k,
+        ItemKind::Hbox {
+            name: sure_name(name),
+            height: HEIGHT,
+            depth: DEPTH,
+        },
+    )
 }
 
 #[inline(never)]
@@ -165,18 +200,6 @@ fn glue() -> Glue
         stretch: POINT,
         order: Order::Normal,
         shrink: 0,
-    }
-}
-
-#[inline(always)]
-fn made_box(k: u32) -> ItemKind
-    requires { k ≤ 40000 }
-    ensures { result ≡ made_box k }
-{
-    ItemKind::Hbox {
-        name: letter_number(b'b', k),
-        height: HEIGHT,
-        depth: DEPTH,
     }
 }
 
@@ -229,11 +252,36 @@ fn letter_number(letter: u8, k: u32) -> Name
     ensures { result ≡ letter_number letter k }
 {
     let mut text = [0; 6];
-    let start = write_digits(u64::from(k), &mut text, 6);
-    text[start - 1] = letter;
-    match name_of(&text[start - 1..]) {
+    let start = write_led(letter, k, &mut text);
+    sure_name(&text[start..])
+}
+
+// Writes a letter, and a number after it, at the end of a text; returns where the letter is.
+#[inline(always)]
+fn write_led(letter: u8, k: u32, text: &mut [u8; 6]) -> usize
+    requires { k ≤ 40000 }
+    ensures within { result ≤ 5 }
+    ensures written { drop result text.new ≡ letter_number letter k }
+{
+    let start = write_digits(u64::from(k), text, 6) - 1;
+    text[start] = letter;
+    start
+}
+
+// The name in these bytes. The arm without one is proved never to be reached, and it would shift by more than the width,
+// which LLVM takes as undefined: so it drops the tests of the bytes.
+#[inline(always)]
+fn sure_name(bytes: &[u8]) -> Name
+    requires { is_name bytes.now ≡ true }
+    ensures { result ≡ bytes.now }
+{
+    match name_of(bytes) {
         Some(name) => name,
-        None => unreachable!(),
+        None => {
+            let mut never = [0u8; 1];
+            never[1 << usize::BITS] = 1;
+            unreachable!()
+        }
     }
 }
 
