@@ -85,6 +85,7 @@ pub fn add_box(s: &mut Sums, height: i64, depth: i64, max_depth: i64)
 
 /// Adds a node to the sums of the list before it, under the depth limit of those sums (TeX: The Program §1002 to
 /// §1004).
+#[inline(always)]
 pub fn add(s: &mut Sums, n: &Node, max_depth: i64)
     requires small { IsSmall s.old }
     requires node { IsSmallShape (shape_of n.now) }
