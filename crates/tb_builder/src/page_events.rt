@@ -288,8 +288,7 @@ impl Builder {
         }
     }
 
-    // The first waiting node goes on the page, or vanishes, or is handed out. Most nodes are no event and go on a page
-    // that is laid out: such a node is not copied.
+    // One turn: the first waiting node goes on the page or vanishes, unless it is an act. No node is copied.
     #[inline(always)]
     fn turn(&mut self, store: &mut Lists<Node>, ask: &Ask) -> Turn
         requires sound { IsSound self.old store.old }
