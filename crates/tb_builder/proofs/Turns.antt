@@ -10,3 +10,4 @@ pub mod SteppedLemmas
 pub mod FillLemmas
 pub mod TurnLemmas
 pub mod PastLemmas
+pub mod TopLemmas

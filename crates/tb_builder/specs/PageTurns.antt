@@ -1,6 +1,6 @@
 -- One more node: what a turn of the page builder changes.
-use Rattle.std.specs.Prelude.{◌≡◌, ℕ, ◌<◌, ◌≤◌, Bool, true, false, List, [], ◌∷◌, ◌++◌, length, not, slice_get, Option, Some, None, IsSome}
-use Rattle.tb_pool.specs.Lists.{Lists, list_at}
+use Rattle.std.specs.Prelude.{◌≡◌, ℕ, ◌-◌, ◌<◌, ◌≤◌, Bool, true, false, List, [], ◌∷◌, ◌++◌, length, not, slice_get, Option, Some, None, IsSome}
+use Rattle.tb_pool.specs.Lists.{Lists, list_at, with_list}
 use Rattle.tb_node.specs.declared.Node.{Node}
 use Rattle.tb_node.specs.PlainNodes.{PlainNode, plain_of, shape_of}
 use Rattle.tb_node.specs.Shape.{is_discardable}
@@ -22,7 +22,7 @@ use Rattle.tb_builder.specs.Reach.{tried, Reach, also_reached, reach_from, try_o
 use Rattle.tb_builder.specs.Contents.{Contents, contents_of, laid, reach_ahead, places_of}
 use Rattle.tb_builder.specs.Ownership.{ids_of, IsOwned}
 use Rattle.tb_builder.specs.Leaving.{LeavesOthers}
-use Rattle.tb_builder.specs.Courses.{IsCourseOf, Underway, places_by, IsSound}
+use Rattle.tb_builder.specs.Courses.{IsCourseOf, Underway, places_by, kept_frozen, IsSound}
 use Rattle.tb_builder.specs.PageEvents.{FirstIs, KeepsBoxes, stopped_with}
 use Rattle.tb_builder.specs.PassedNodes.{EventPast, TurnPast}
 
@@ -101,6 +101,17 @@ pub record StepFits (z : Frozen) (page : List PlainNode) (held : ℕ → List No
   pub there : PageFits z (page ++ plain_of held n ∷ [])
   pub no_act : act_of_kind n.kind ≡ None
   pub no_insertion : insertion_of_kind n.kind ≡ None
+
+-- the lists, once this node is before the first of a list
+abbrev pub with_top : Lists Node → ℕ → Node → Lists Node
+with_top s l g = record { lists = with_list s l (g ∷ list_at s l); spare = s.spare - 1 }
+
+-- the node waits first, and it can be stepped over
+pub record TopWaits (b : Builder) (t : Lists Node) (g : Node) : Type 0 where
+  pub own : IsOwned (ids_of b) t
+  pub first : slice_get (list_at t b.waiting) 0 ≡ Some g
+  pub underway : Underway (kept_frozen (contents_of b t)) b.course (contents_of b t).page (contents_of b t).waiting
+  pub fits : StepFits (kept_frozen (contents_of b t)) (contents_of b t).page (list_at t) g
 
 -- what it requires of a node that goes on the page at once
 pub record PutFits (k : Course) (n : Node) : Type 0 where

@@ -13,7 +13,6 @@ ghost use Rattle.tb_builder.specs.Courses.{IsSound};
 ghost use Rattle.tb_builder.specs.PageEvents.{fired_room};
 ghost use Rattle.tb_builder.specs.Firing.{EachFits, spent_node_kind, spent_nodes, Cuts, Fires};
 
-use crate::front_nodes::first_of;
 use crate::{Builder, Page};
 use std::alloc::AllocError;
 use tb_node::{Kind, Node};
@@ -38,6 +37,13 @@ fn spent(n: &Node) -> Node
         },
         _ => *n,
     }
+}
+
+// Whether a node is a penalty. No other is changed by a break.
+fn is_penalty(n: &Node) -> bool
+    ensures { result ≡ false → spent_node_kind n.now.kind ≡ n.now.kind }
+{
+    matches!(n.kind, Kind::Pen(_))
 }
 
 // The penalty of the node at which a page breaks.
@@ -69,14 +75,18 @@ fn spend_break(store: &mut Lists<Node>, l: ListId) -> Break
     ensures penalty { (held : ℕ → List NodeOf) → result.penalty ≡ penalty_at (map (plain_of held) (list_at store.old l)) }
     ensures spare { store.new.spare ≡ store.old.spare }
 {
-    let Some(n) = first_of(store, l) else {
+    let Some(n) = store.get(l, 0) else {
         return Break {
             line: 0,
             penalty: INF_PENALTY,
         };
     };
-    store.replace(l, 0, spent(&n));
-    break_at(&n)
+    let at = break_at(n);
+    if is_penalty(n) {
+        let spent = spent(n);
+        store.replace(l, 0, spent);
+    }
+    at
 }
 
 impl Builder {

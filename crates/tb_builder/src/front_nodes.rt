@@ -106,14 +106,6 @@ pub fn glue_in(n: &Node) -> Glue
     }
 }
 
-/// The first node of a list.
-pub fn first_of(store: &Lists<Node>, l: ListId) -> Option<Node>
-    requires { IsLive store.now l }
-    ensures { result ≡ slice_get (list_at store.now l) 0 }
-{
-    store.get(l, 0).copied()
-}
-
 // Whether a node is a kern.
 fn is_kern(n: &Node) -> bool
     ensures { result ≡ false → (lasting follows : Bool) → penalty_by lasting follows (shape_of n.now) ≡ penalty_by lasting false (shape_of n.now) }

@@ -25,7 +25,7 @@ ghost use Rattle.tb_builder.specs.PageWalks.{moved, LeadsOn, seen_of};
 ghost use Rattle.tb_builder.specs.declared.Seen.TheVariants.{Space};
 ghost use Rattle.tb_builder.specs.declared.Ask.{Ask as AskOf};
 ghost use Rattle.tb_builder.specs.declared.Event.TheVariants.{Act as an_act};
-ghost use Rattle.tb_builder.specs.PageTurns.{ChangesPage, Shifted, StepIs, StepFits, StartsPage, PutFits, event_of, turn_by, TurnIs, TurnTo, Filled};
+ghost use Rattle.tb_builder.specs.PageTurns.{TopWaits, with_top, ChangesPage, Shifted, StepIs, StepFits, StartsPage, PutFits, event_of, turn_by, TurnIs, TurnTo, Filled};
 
 use crate::courses::stops;
 use crate::front_nodes::{drop_first, glue_in, is_walked, penalty_of, seen_in};
@@ -288,8 +288,7 @@ impl Builder {
         }
     }
 
-    // The first waiting node goes on the page, or vanishes, or is handed out. Most nodes are no event and go on a page
-    // that is laid out: such a node is not copied.
+    // One turn: the first waiting node goes on the page or vanishes, unless it is an act. No node is copied.
     #[inline(always)]
     fn turn(&mut self, store: &mut Lists<Node>, ask: &Ask) -> Turn
         requires sound { IsSound self.old store.old }
@@ -379,14 +378,38 @@ impl Builder {
         }
         let glue = top_node(n, ask.top_skip);
         self.freeze(ask);
-        store.push_front(self.waiting, glue);
-        let tried = self.step(store);
+        let tried = self.lay_top(store, glue);
         if self.stopped {
             return tried;
         }
         self.put(store);
         self.opened = true;
         tried
+    }
+
+    // The top glue goes on the page as if it waited first: the place before it is legal only after a mark, a note or a
+    // whatsit. Returns whether it was tried, as `step`.
+    #[inline(always)]
+    fn lay_top(&mut self, store: &mut Lists<Node>, glue: Node) -> bool
+        requires own { IsOwned (ids_of self.old) store.old }
+        requires room { 0 < store.old.spare }
+        requires on { self.old.stopped ≡ false }
+        requires space { seen_of glue.kind ≡ Space }
+        requires waits { TopWaits self.old (with_top store.old self.old.waiting glue) glue }
+        ensures moves { ChangesPage self.old (with_top store.old self.old.waiting glue) self.new store.new }
+        ensures step { StepIs (event_of result self.new.tried) (kept_frozen (contents_of self.old (with_top store.old self.old.waiting glue))) self.new.course (contents_of self.old (with_top store.old self.old.waiting glue)) (contents_of self.new store.new) }
+        ensures behind { (n : NodeOf) (ns : List NodeOf) → self.new.stopped ≡ false → list_at (with_top store.old self.old.waiting glue) self.old.waiting ≡ n ∷ ns → list_at store.new self.new.waiting ≡ ns }
+        ensures opened { self.new.opened ≡ self.old.opened }
+        ensures frozen { self.new.frozen ≡ self.old.frozen }
+        ensures ids { ids_of self.new ≡ ids_of self.old }
+    {
+        if self.course.lasting {
+            store.push_front(self.waiting, glue);
+            return self.step(store);
+        }
+        self.course.put_glue(glue_in(&glue));
+        store.push_back(self.page, glue);
+        false
     }
 
     // Freezes the goal and the depth limit of the page, unless they are frozen already.
