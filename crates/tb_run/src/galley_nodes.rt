@@ -1,6 +1,6 @@
 //! The nodes of a galley's items, as they wait at the page builder.
 
-ghost use Rattle.std.specs.Prelude.{◌≡◌, ◌≤◌, ◌∷◌, ◌++◌, ◌+ℤ◌, [], true, false, pos, neg_ℤ, map, length, Some, None, All, OnOk};
+ghost use Rattle.std.specs.Prelude.{◌≡◌, ◌≤◌, ◌∷◌, ◌++◌, ◌+ℤ◌, [], true, false, pos, neg_ℤ, map, length, Some, None, All, OnOk, IfOk};
 ghost use Rattle.tb_pool.specs.Lists.{IsLive, list_at, with_list};
 ghost use Rattle.tb_node.specs.Fit.{shapes, IsSizedNode};
 ghost use Rattle.tb_node.specs.Sums.{size_of};
@@ -47,14 +47,49 @@ fn expand_items(
     requires items { AreItems (contents_of builder.old store.old).classes items.now }
     ensures { OnOk result (Waits (item_nodes p.now false items.now) builder.old store.old builder.new store.new) }
 {
-    // Most items have one node.
-    store.reserve(items.len())?;
+    // Most items have one node, and few have more.
+    store.reserve(items.len() + items.len() / 8)?;
     let mut two = false;
     for item in items {
-        put_item(store, builder, p, two, item.line, &item.kind)?;
-        two = two_after(two, &item.kind);
+        two = put_next(store, builder, p, two, item.line, &item.kind)?;
     }
     Ok(())
+}
+
+// Hands over the nodes of an item, and returns whether there are two columns after it. Most items are boxes or glue: their
+// nodes are made here, with no call.
+#[inline(always)]
+fn put_next(
+    store: &mut Lists<Node>,
+    builder: &mut Builder,
+    p: &Params,
+    two: bool,
+    line: u32,
+    kind: &ItemKind,
+) -> Result<bool, AllocError>
+    requires can { CanTake builder.old store.old }
+    requires item { IsItem (contents_of builder.old store.old).classes kind.now }
+    ensures two { IfOk result (λ after. after ≡ two_after two kind.now) }
+    ensures waits { OnOk result (Waits (on_line line (item_kinds p.now two kind.now)) builder.old store.old builder.new store.new) }
+{
+    match kind {
+        ItemKind::Hbox {
+            name,
+            height,
+            depth,
+        } => {
+            put_text(store, builder, line, name, *height, *depth)?;
+            Ok(two)
+        }
+        ItemKind::Skip(glue) => {
+            put_glue(store, builder, line, glue)?;
+            Ok(two)
+        }
+        _ => {
+            put_item(store, builder, p, two, line, kind)?;
+            Ok(two_after(two, kind))
+        }
+    }
 }
 
 // Whether there are two columns after an item.
@@ -69,6 +104,7 @@ fn two_after(two: bool, kind: &ItemKind) -> bool
 }
 
 /// Hands over the nodes of an item; `two` says whether there are two columns before it.
+#[inline(never)]
 pub fn put_item(
     store: &mut Lists<Node>,
     builder: &mut Builder,
