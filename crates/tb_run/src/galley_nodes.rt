@@ -178,7 +178,20 @@ fn put_glue(
     requires can { CanTake builder.old store.old }
     ensures { OnOk result (Waits (lone line (Kind.Skip glue.now) ∷ []) builder.old store.old builder.new store.new) }
 {
-    put(store, builder, line, Kind::Skip(*glue))
+    put(store, builder, line, Kind::Skip(by_fields(glue)))
+}
+
+// The same glue, copied field by field: then the compiler need not keep it in memory while there is room to be made.
+#[inline(always)]
+fn by_fields(glue: &Glue) -> Glue
+    ensures { result ≡ glue.now }
+{
+    Glue {
+        width: glue.width,
+        stretch: glue.stretch,
+        order: glue.order,
+        shrink: glue.shrink,
+    }
 }
 
 #[inline(never)]
