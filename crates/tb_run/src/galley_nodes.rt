@@ -1,24 +1,22 @@
 //! The nodes of a galley's items, as they wait at the page builder.
 
-ghost use Rattle.std.specs.Prelude.{◌≡◌, ◌≤◌, ◌∷◌, ◌++◌, ◌+ℤ◌, [], true, false, pos, neg_ℤ, map, length, Some, None, All, OnOk};
-ghost use Rattle.tb_pool.specs.Lists.{IsLive, list_at, with_list};
-ghost use Rattle.tb_node.specs.Fit.{shapes, IsSizedNode};
-ghost use Rattle.tb_node.specs.Sums.{size_of};
+ghost use Rattle.std.specs.Prelude.{◌≡◌, ◌∷◌, ◌++◌, ◌+ℤ◌, [], true, false, pos, neg_ℤ, Some, None, OnOk, IfOk};
 ghost use Rattle.tb_node.specs.PlainNodes.{act, on_line, newpage_kinds, clearpage_kinds};
 ghost use Rattle.tb_builder.specs.Contents.{contents_of};
-ghost use Rattle.tb_builder.specs.Ownership.{has_class, inner_of};
-ghost use Rattle.tb_galley.specs.GalleyNodes.{break_strength, plain_leaf, foot_insertion, with_firings, float_kinds, item_kinds, two_after, item_nodes, expanded};
-ghost use Rattle.tb_run.specs.WaitingNodes.{CanTake, Waits, lone, leaf_kind, leaf_list, IsItem, AreItems};
+ghost use Rattle.tb_builder.specs.Ownership.{inner_of};
+ghost use Rattle.tb_galley.specs.GalleyNodes.{break_strength, with_firings, float_kinds, item_kinds, two_after, item_nodes, expanded};
+ghost use Rattle.tb_run.specs.WaitingNodes.{CanTake, Waits, lone, IsItem, AreItems};
 
+use crate::foot_nodes::put_foot;
 use std::alloc::AllocError;
 use tb_builder::Builder;
-use tb_galley::{Galley, Item, ItemKind, Leaf, LeafKind};
+use tb_galley::{Galley, Item, ItemKind};
 use tb_node::{
-    Act, Area, CLEAR_PENALTY, Float, HOLD_PENALTY, Insertion, Kind, Margin, Name, Node,
-    PAR_PENALTY, VERT_PENALTY, What, list_extent,
+    Act, Area, CLEAR_PENALTY, Float, HOLD_PENALTY, Kind, Margin, Name, Node, PAR_PENALTY,
+    VERT_PENALTY, What,
 };
 use tb_param::Params;
-use tb_pool::{ListId, Lists};
+use tb_pool::Lists;
 use tb_scaled::{EJECT_PENALTY, Glue, INF_PENALTY, filling_glue};
 
 /// Hands over the nodes of a galley: those of its items in order, and those of a clear with the line of its end. The page
@@ -47,14 +45,49 @@ fn expand_items(
     requires items { AreItems (contents_of builder.old store.old).classes items.now }
     ensures { OnOk result (Waits (item_nodes p.now false items.now) builder.old store.old builder.new store.new) }
 {
-    // Most items have one node.
-    store.reserve(items.len())?;
+    // Most items have one node, and few have more.
+    store.reserve(items.len() + items.len() / 8)?;
     let mut two = false;
     for item in items {
-        put_item(store, builder, p, two, item.line, &item.kind)?;
-        two = two_after(two, &item.kind);
+        two = put_next(store, builder, p, two, item.line, &item.kind)?;
     }
     Ok(())
+}
+
+// Hands over the nodes of an item, and returns whether there are two columns after it. Most items are boxes or glue: their
+// nodes are made here, with no call.
+#[inline(always)]
+fn put_next(
+    store: &mut Lists<Node>,
+    builder: &mut Builder,
+    p: &Params,
+    two: bool,
+    line: u32,
+    kind: &ItemKind,
+) -> Result<bool, AllocError>
+    requires can { CanTake builder.old store.old }
+    requires item { IsItem (contents_of builder.old store.old).classes kind.now }
+    ensures two { IfOk result (λ after. after ≡ two_after two kind.now) }
+    ensures waits { OnOk result (Waits (on_line line (item_kinds p.now two kind.now)) builder.old store.old builder.new store.new) }
+{
+    match kind {
+        ItemKind::Hbox {
+            name,
+            height,
+            depth,
+        } => {
+            put_text(store, builder, line, name, *height, *depth)?;
+            Ok(two)
+        }
+        ItemKind::Skip(glue) => {
+            put_glue(store, builder, line, glue)?;
+            Ok(two)
+        }
+        _ => {
+            put_item(store, builder, p, two, line, kind)?;
+            Ok(two_after(two, kind))
+        }
+    }
 }
 
 // Whether there are two columns after an item.
@@ -69,6 +102,7 @@ fn two_after(two: bool, kind: &ItemKind) -> bool
 }
 
 /// Hands over the nodes of an item; `two` says whether there are two columns before it.
+#[inline(never)]
 pub fn put_item(
     store: &mut Lists<Node>,
     builder: &mut Builder,
@@ -142,7 +176,20 @@ fn put_glue(
     requires can { CanTake builder.old store.old }
     ensures { OnOk result (Waits (lone line (Kind.Skip glue.now) ∷ []) builder.old store.old builder.new store.new) }
 {
-    put(store, builder, line, Kind::Skip(*glue))
+    put(store, builder, line, Kind::Skip(by_fields(glue)))
+}
+
+// The same glue, copied field by field: then the compiler need not keep it in memory while there is room to be made.
+#[inline(always)]
+fn by_fields(glue: &Glue) -> Glue
+    ensures { result ≡ glue.now }
+{
+    Glue {
+        width: glue.width,
+        stretch: glue.stretch,
+        order: glue.order,
+        shrink: glue.shrink,
+    }
 }
 
 #[inline(never)]
@@ -382,98 +429,6 @@ fn put_with_firings(
     put(store, builder, line, Kind::Pen(HOLD_PENALTY))?;
     put_box(store, builder, line, What::Blank, 0, 0)?;
     put(store, builder, line, Kind::Pen(penalty))
-}
-
-// A node of a footnote.
-fn leaf_kind(kind: &LeafKind) -> Kind
-    ensures { result ≡ leaf_kind kind.now }
-{
-    match kind {
-        LeafKind::Hbox {
-            name,
-            height,
-            depth,
-        } => Kind::Hbox {
-            what: What::Text(*name),
-            height: *height,
-            depth: *depth,
-        },
-        LeafKind::Rule {
-            name,
-            height,
-            depth,
-        } => Kind::Rule {
-            name: Some(*name),
-            height: *height,
-            depth: *depth,
-        },
-        LeafKind::Skip(glue) => Kind::Skip(*glue),
-        LeafKind::Kern(width) => Kind::Kern(*width),
-        LeafKind::Penalty(penalty) => Kind::Pen(*penalty),
-    }
-}
-
-// Puts the nodes of a footnote at the end of a list.
-fn put_leaves(store: &mut Lists<Node>, l: ListId, leaves: &[Leaf]) -> Result<(), AllocError>
-    requires { IsLive store.old l }
-    ensures { OnOk result (store.new.lists ≡ with_list store.old l (list_at store.old l ++ leaf_list leaves.now)) }
-{
-    store.reserve(leaves.len())?;
-    for leaf in leaves {
-        store.push_back(
-            l,
-            Node {
-                line: leaf.line,
-                kind: leaf_kind(&leaf.kind),
-            },
-        );
-    }
-    Ok(())
-}
-
-// The height plus the depth of a footnote's list.
-fn list_height(store: &Lists<Node>, l: ListId) -> i64
-    requires live { IsLive store.now l }
-    requires sized { All IsSizedNode (list_at store.now l) }
-    requires few { length (list_at store.now l) ≤ 8388608 }
-    ensures { result ≡ size_of (shapes store.now l) }
-{
-    list_extent(store, l).room
-}
-
-// A footnote: an insertion of its class with a list of its own.
-#[inline(never)]
-fn put_foot(
-    store: &mut Lists<Node>,
-    builder: &mut Builder,
-    p: &Params,
-    line: u32,
-    class: u8,
-    leaves: &[Leaf],
-) -> Result<(), AllocError>
-    requires can { CanTake builder.old store.old }
-    requires known { has_class (contents_of builder.old store.old).classes class ≡ true }
-    requires sized { All IsSizedNode (leaf_list leaves.now) }
-    requires few { length (leaf_list leaves.now) ≤ 8388608 }
-    ensures { OnOk result (Waits (on_line line (foot_insertion p.now class (map plain_leaf leaves.now) ∷ [])) builder.old store.old builder.new store.new) }
-{
-    let list = store.add_list()?;
-    put_leaves(store, list, leaves)?;
-    let height = list_height(store, list);
-    builder.contribute(
-        store,
-        Node {
-            line,
-            kind: Kind::Ins(Insertion {
-                class,
-                list,
-                height,
-                split_depth: p.footsplitdepth,
-                split_top: p.footsplittop,
-                floating: p.footfloating,
-            }),
-        },
-    )
 }
 
 // The penalty of a strength from 0 to 4 (LaTeX, \@getpen).

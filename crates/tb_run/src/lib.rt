@@ -3,6 +3,7 @@
 #![tactic(auto)]
 
 mod classes;
+mod foot_nodes;
 mod galley_nodes;
 mod happenings;
 mod routine;

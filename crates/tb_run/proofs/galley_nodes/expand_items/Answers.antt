@@ -8,6 +8,6 @@ loop-item-init c = (refl, waits-nothing c.args.builder.now c.args.store.now c.re
 
 pub loop-item-preserved : goal.loop-item-preserved
 loop-item-preserved c = (
-  c.two_after-two.ensures ∙ columns-more c.args.p.now false c.args.items.now c.loop-item.item-index c.item-item.result (omega arith) c.item-item.is c.loop-item.two c.loop-item.invariant.0,
-  item-more c.args.p.now false c.args.items.now c.loop-item.item-index c.item-item.result (omega arith) c.item-item.is c.loop-item.two c.loop-item.invariant.0 c.args.builder.now c.args.store.now c.loop-item.builder c.loop-item.store c.put_item.new.builder c.put_item.new.store c.loop-item.invariant.1 c.in_ok-put_item.ensures,
+  c.in_ok-two.ensures.two ∙ columns-more c.args.p.now false c.args.items.now c.loop-item.item-index c.item-item.result (omega arith) c.item-item.is c.loop-item.two c.loop-item.invariant.0,
+  item-more c.args.p.now false c.args.items.now c.loop-item.item-index c.item-item.result (omega arith) c.item-item.is c.loop-item.two c.loop-item.invariant.0 c.args.builder.now c.args.store.now c.loop-item.builder c.loop-item.store c.put_next.new.builder c.put_next.new.store c.loop-item.invariant.1 c.in_ok-two.ensures.waits,
 )

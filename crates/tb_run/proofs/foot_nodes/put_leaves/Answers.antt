@@ -3,7 +3,7 @@ use Rattle.tb_pool.specs.Lists.{list_at, with_list}
 use Rattle.tb_node.specs.declared.Kind.{Kind}
 use Rattle.tb_pool.proofs.CallerLemmas.{live_same}
 use Rattle.tb_run.proofs.FromGalley.FootLemmas.{leaf-added, no-leaf}
-use Rattle.tb_run.proofs.galley_nodes.put_leaves.Goals as goal
+use Rattle.tb_run.proofs.foot_nodes.put_leaves.Goals as goal
 
 pub loop-leaf-init : goal.loop-leaf-init
 loop-leaf-init c = record {

@@ -1,7 +1,7 @@
 use Rattle.std.proofs.Common.{◌≡◌, ◌≤◌, ◌+◌, ◌++◌, length, take}
 use Rattle.tb_pool.specs.Lists.{list_at, with_list}
 use Rattle.tb_run.specs.WaitingNodes.{leaf_list}
-use Rattle.tb_run.proofs.galley_nodes.put_leaves.Given as goal
+use Rattle.tb_run.proofs.foot_nodes.put_leaves.Given as goal
 
 -- the leaves before are at the end of the list, and there is room for the others
 abbrev pub invariant-loop-leaf : goal.invariant-loop-leaf

@@ -9,7 +9,7 @@ use Rattle.tb_node.specs.PlainNodes.{shape_of}
 use Rattle.tb_node.specs.Sums.{size_of}
 use Rattle.tb_run.proofs.FromGalley.FootLemmas.{foot-list, foot-live, foot-sound, foot-joins, foot-may, foot-waits}
 use Rattle.tb_run.proofs.FromGalley.WaitsLemmas.{on-ok}
-use Rattle.tb_run.proofs.galley_nodes.put_foot.Goals as goal
+use Rattle.tb_run.proofs.foot_nodes.put_foot.Goals as goal
 
 pub put_leaves-requires : goal.put_leaves-requires
 put_leaves-requires c = live_same c.args.store.now c.add_list.new.self c.in_ok-list.list _ c.in_ok-list.ensures.opened

@@ -5,7 +5,7 @@ use Rattle.tb_node.specs.SmallAmounts.{IsAmount}
 use Rattle.tb_node.specs.Fit.{shapes}
 use Rattle.tb_node.proofs.FitLemmas.{summable}
 use Rattle.tb_run.proofs.FromGalley.FootLemmas.{room-small}
-use Rattle.tb_run.proofs.galley_nodes.list_height.Goals as goal
+use Rattle.tb_run.proofs.foot_nodes.list_height.Goals as goal
 
 pub returns : goal.returns
 returns c =
