@@ -79,16 +79,6 @@ pub fn key_at<T>(nodes: &Slab<Node<T>>, ends: Ends, k: usize) -> usize
     }
 }
 
-/// The same by a call of its own, so that a walk from there on has the caller's registers.
-#[inline(never)]
-pub fn far_key_at<T>(nodes: &Slab<Node<T>>, ends: Ends, k: usize) -> usize
-    requires within { k < ends.len }
-    requires path { HasPath nodes.now ends }
-    ensures { (ks : List ℕ) → IsPath nodes.now ks → IsEnds ends ks → result ≡ slice_index ks k }
-{
-    key_at(nodes, ends, k)
-}
-
 // The key of the node `k` places after the first.
 fn key_forward<T>(nodes: &Slab<Node<T>>, ends: Ends, k: usize) -> usize
     requires within { k < ends.len }

@@ -17,8 +17,8 @@ returns-then-k-ends g c =
     let len = len-shaped i.nodes i.heads i.spare i.places s c.self.invariant.1 c.l.inside.index c.get_unchecked-ends.result.now c.get_unchecked-ends.ensures in
     rw (← c.self.view_is, ← c.l.view_is, items) (sym (drop_all c.args.k (s.items c.l.inside.index) (omega (arith, len))))
 
-pub far_key_at-requires-clause-path : goal.far_key_at-requires-clause-path
-far_key_at-requires-clause-path g c =
+pub key_at-requires-clause-path : goal.key_at-requires-clause-path
+key_at-requires-clause-path g c =
     let i = c.self.inside in
     HasPath-shaped i.nodes i.heads i.spare i.places c.self.invariant.0 c.self.invariant.1 c.l.inside.index c.get_unchecked-ends.result.now c.get_unchecked-ends.ensures
 
@@ -30,8 +30,8 @@ invariant_of-result-2 g c =
     let l = c.l.inside.index in
     let e = c.get_unchecked-ends.result.now in
     let remains : e.len - c.args.k + c.args.k ≡ e.len = omega arith in
-    let key = key_is i.nodes i.heads i.spare i.places s h l e c.get_unchecked-ends.ensures c.args.k c.far_key_at.result (omega arith) c.far_key_at.ensures in
-    (walk_rest i.nodes i.heads i.spare i.places s h l e c.get_unchecked-ends.ensures c.args.k c.far_key_at.result key (e.len - c.args.k) remains).1
+    let key = key_is i.nodes i.heads i.spare i.places s h l e c.get_unchecked-ends.ensures c.args.k c.key_at.result (omega arith) c.key_at.ensures in
+    (walk_rest i.nodes i.heads i.spare i.places s h l e c.get_unchecked-ends.ensures c.args.k c.key_at.result key (e.len - c.args.k) remains).1
 
 pub returns : goal.returns
 returns g c =
@@ -41,6 +41,6 @@ returns g c =
     let l = c.l.inside.index in
     let e = c.get_unchecked-ends.result.now in
     let remains : e.len - c.args.k + c.args.k ≡ e.len = omega arith in
-    let key = key_is i.nodes i.heads i.spare i.places s h l e c.get_unchecked-ends.ensures c.args.k c.far_key_at.result (omega arith) c.far_key_at.ensures in
+    let key = key_is i.nodes i.heads i.spare i.places s h l e c.get_unchecked-ends.ensures c.args.k c.key_at.result (omega arith) c.key_at.ensures in
     let items = items-shaped i.nodes i.heads i.spare i.places s h l e c.get_unchecked-ends.ensures in
-    rw (← c.self.view_is, ← c.l.view_is, items) ((walk_rest i.nodes i.heads i.spare i.places s h l e c.get_unchecked-ends.ensures c.args.k c.far_key_at.result key (e.len - c.args.k) remains).0)
+    rw (← c.self.view_is, ← c.l.view_is, items) ((walk_rest i.nodes i.heads i.spare i.places s h l e c.get_unchecked-ends.ensures c.args.k c.key_at.result key (e.len - c.args.k) remains).0)
