@@ -13,6 +13,7 @@ ghost use Rattle.tb_builder.specs.Courses.{IsSound};
 ghost use Rattle.tb_builder.specs.PageEvents.{fired_room};
 ghost use Rattle.tb_builder.specs.Firing.{EachFits, spent_node_kind, spent_nodes, Cuts, Fires};
 
+use crate::front_nodes::first_in;
 use crate::{Builder, Page};
 use std::alloc::AllocError;
 use tb_node::{Kind, Node};
@@ -75,7 +76,7 @@ fn spend_break(store: &mut Lists<Node>, l: ListId) -> Break
     ensures penalty { (held : ℕ → List NodeOf) → result.penalty ≡ penalty_at (map (plain_of held) (list_at store.old l)) }
     ensures spare { store.new.spare ≡ store.old.spare }
 {
-    let Some(n) = store.get(l, 0) else {
+    let Some(n) = first_in(store, l) else {
         return Break {
             line: 0,
             penalty: INF_PENALTY,

@@ -1,6 +1,6 @@
 //! Nodes at the front of a list: what they are, and how they go from one list to another.
 
-ghost use Rattle.std.specs.Prelude.{◌≡◌, ◌<◌, ◌≤◌, ◌<ℤ◌, pos, Bool, true, false, None, IfSome, IfNone, List, ◌∷◌, slice_get, drop};
+ghost use Rattle.std.specs.Prelude.{option_copied, ◌≡◌, ◌<◌, ◌≤◌, ◌<ℤ◌, pos, Bool, true, false, None, IfSome, IfNone, List, ◌∷◌, slice_get, drop};
 ghost use Rattle.tb_pool.specs.Lists.{IsLive, list_at, with_list};
 ghost use Rattle.tb_node.specs.declared.Node.{Node as NodeOf};
 ghost use Rattle.tb_node.specs.PlainNodes.{shape_of};
@@ -104,6 +104,15 @@ pub fn glue_in(n: &Node) -> Glue
             unreachable!()
         }
     }
+}
+
+/// The first node of a list. A walk begins there: `get` would ask first which end is nearer.
+#[inline(always)]
+pub fn first_in(store: &Lists<Node>, l: ListId) -> Option<&Node>
+    requires { IsLive store.now l }
+    ensures { option_copied result ≡ slice_get (list_at store.now l) 0 }
+{
+    store.iter(l).next()
 }
 
 // Whether a node is a kern.

@@ -28,7 +28,7 @@ ghost use Rattle.tb_builder.specs.declared.Event.TheVariants.{Act as an_act};
 ghost use Rattle.tb_builder.specs.PageTurns.{TopWaits, with_top, ChangesPage, Shifted, StepIs, StepFits, StartsPage, PutFits, event_of, turn_by, TurnIs, TurnTo, Filled};
 
 use crate::courses::stops;
-use crate::front_nodes::{drop_first, glue_in, is_walked, penalty_of, seen_in};
+use crate::front_nodes::{drop_first, first_in, glue_in, is_walked, penalty_of, seen_in};
 use crate::fronts::move_front;
 use crate::sizes::list_size;
 use crate::{Ask, Builder, Event, Seen, Turn};
@@ -297,7 +297,7 @@ impl Builder {
         requires room { self.old.opened ≡ false → 0 < store.old.spare }
         ensures { TurnTo result self.old store.old ask.now self.new store.new }
     {
-        let Some(n) = store.get(self.waiting, 0) else {
+        let Some(n) = first_in(store, self.waiting) else {
             return Turn::Ends;
         };
         if self.goes_on(n) {
@@ -325,7 +325,7 @@ impl Builder {
         requires act { (n : NodeOf) → slice_get (list_at store.old self.now.waiting) 0 ≡ Some n → IsSome (act_of_kind n.kind) }
         ensures { (ask : AskOf) → TurnIs self.now store.old ask (Some (an_act result)) self.now store.new }
     {
-        let Some(n) = store.get(self.waiting, 0) else {
+        let Some(n) = first_in(store, self.waiting) else {
             unreachable!()
         };
         let Role::Act(act) = n.role() else {
@@ -368,7 +368,7 @@ impl Builder {
         requires starts { (n : NodeOf) → slice_get (list_at store.old self.old.waiting) 0 ≡ Some n → StartsPage n }
         ensures { TurnIs self.old store.old ask.now (event_of result self.new.tried) self.new store.new }
     {
-        let Some(n) = store.get(self.waiting, 0) else {
+        let Some(n) = first_in(store, self.waiting) else {
             unreachable!()
         };
         if !is_box(n) {
@@ -440,7 +440,7 @@ impl Builder {
         requires insertion { (n : NodeOf) → slice_get (list_at store.old self.old.waiting) 0 ≡ Some n → IsSome (insertion_of_kind n.kind) }
         ensures { TurnIs self.old store.old ask.now None self.new store.new }
     {
-        let Some(n) = store.get(self.waiting, 0) else {
+        let Some(n) = first_in(store, self.waiting) else {
             unreachable!()
         };
         let Role::Insertion(i) = n.role() else {
@@ -471,7 +471,7 @@ impl Builder {
         ensures frozen { self.new.frozen ≡ self.old.frozen }
         ensures ids { ids_of self.new ≡ ids_of self.old }
     {
-        let Some(n) = store.get(self.waiting, 0) else {
+        let Some(n) = first_in(store, self.waiting) else {
             unreachable!()
         };
         let Some(penalty) = penalty_of(store, self.waiting, n, self.course.lasting) else {
@@ -503,7 +503,7 @@ impl Builder {
         ensures ids { ids_of self.new ≡ ids_of self.old }
         ensures tried { self.new.tried ≡ self.old.tried }
     {
-        let Some(n) = store.get(self.waiting, 0) else {
+        let Some(n) = first_in(store, self.waiting) else {
             unreachable!()
         };
         self.course.put(n);

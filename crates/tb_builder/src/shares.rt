@@ -17,7 +17,7 @@ ghost use Rattle.tb_builder.specs.PageEvents.{SizesFit};
 ghost use Rattle.tb_builder.specs.Sizes.{RoomFits};
 ghost use Rattle.tb_builder.specs.Firing.{share_up_to, share_told, opened, box_list, BeginsVanishing, IsShareWithin, GivesToBox, LeavesPage, SharesOut, SortsTo, Sorted, IsMarkedAt, EachFits, NoInsertions, begins_with_insertion, IsBody};
 
-use crate::front_nodes::{drop_first, insertion_place};
+use crate::front_nodes::{drop_first, first_in, insertion_place};
 use crate::fronts::{give_front, move_front, pass_on};
 use crate::sizes::pruned_size;
 use crate::{Builder, Course, Share};
@@ -211,7 +211,7 @@ impl Builder {
         ensures left { length (list_at store.new self.old.page) + 1 ≡ length (list_at store.old self.old.page) }
         ensures spare { store.old.spare ≤ store.new.spare }
     {
-        let Some(n) = store.get(self.page, 0) else {
+        let Some(n) = first_in(store, self.page) else {
             unreachable!();
         };
         let Role::Insertion(i) = n.role() else {

@@ -24,7 +24,7 @@ no_insertion_role (roles.Act a) h = refl
 pub unreachable-requires : goal.unreachable-requires
 unreachable-requires c =
     let ns = list_at c.args.store.now c.args.self.now.page in
-    never_empty ns (none_first ns (sym c.get.ensures ∙ ap option_copied c.in_default.is)) c.requires.first
+    never_empty ns (none_first ns (sym c.first_in.ensures ∙ ap option_copied c.in_default.is)) c.requires.first
 
 pub unreachable-requires-in_default-role : goal.unreachable-requires-in_default-role
 unreachable-requires-in_default-role c =

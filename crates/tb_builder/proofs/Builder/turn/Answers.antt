@@ -36,7 +36,7 @@ of_first : (c : In-Some) (P : Node → Type 0) → P c.in-Some.n.now → (m : No
 of_first c P p m e = subst P (same_first _ c.in-Some.n.now m (sym c.in-Some.ensures) e) p
 
 pub returns-in_default : goal.returns-in_default
-returns-in_default c = empty_turned c.args.self.now c.args.store.now c.args.ask.now c.requires.sound c.requires.on (none_first (list_at c.args.store.now c.args.self.now.waiting) (sym c.get.ensures ∙ ap option_copied c.in_default.is))
+returns-in_default c = empty_turned c.args.self.now c.args.store.now c.args.ask.now c.requires.sound c.requires.on (none_first (list_at c.args.store.now c.args.self.now.waiting) (sym c.first_in.ensures ∙ ap option_copied c.in_default.is))
 
 pub returns-in-Act : goal.returns-in-Act
 returns-in-Act c = record {

@@ -13,16 +13,16 @@ use Rattle.tb_builder.proofs.firing.spend_break.Goals as goal
 pub returns-in_default-clause-spent : goal.returns-in_default-clause-spent
 returns-in_default-clause-spent c =
     let s = c.args.store.now in
-    let empty = none_first (list_at s c.args.l) (ap option_copied (sym c.in_default.is) ∙ c.get.ensures) in
+    let empty = none_first (list_at s c.args.l) (ap option_copied (sym c.in_default.is) ∙ c.first_in.ensures) in
     with_list-same s s c.args.l c.requires refl ∙ ap (with_list s c.args.l) (empty ∙ sym (ap spent_nodes empty))
 
 pub returns-in_default-clause-line : goal.returns-in_default-clause-line
 returns-in_default-clause-line c = λ held.
-    sym (ap (λ ns. line_at (map (plain_of held) ns)) (none_first (list_at c.args.store.now c.args.l) (ap option_copied (sym c.in_default.is) ∙ c.get.ensures)))
+    sym (ap (λ ns. line_at (map (plain_of held) ns)) (none_first (list_at c.args.store.now c.args.l) (ap option_copied (sym c.in_default.is) ∙ c.first_in.ensures)))
 
 pub returns-in_default-clause-penalty : goal.returns-in_default-clause-penalty
 returns-in_default-clause-penalty c = λ held.
-    sym (ap (λ ns. penalty_at (map (plain_of held) ns)) (none_first (list_at c.args.store.now c.args.l) (ap option_copied (sym c.in_default.is) ∙ c.get.ensures)))
+    sym (ap (λ ns. penalty_at (map (plain_of held) ns)) (none_first (list_at c.args.store.now c.args.l) (ap option_copied (sym c.in_default.is) ∙ c.first_in.ensures)))
 
 pub returns-then-is_penalty-clause-spent : goal.returns-then-is_penalty-clause-spent
 returns-then-is_penalty-clause-spent c =
