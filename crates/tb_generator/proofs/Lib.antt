@@ -1,3 +1,4 @@
+pub mod LastDigit
 pub mod LedDigits
 pub mod NameLemmas
 pub mod ValidLemmas

@@ -1,1 +1,2 @@
+pub mod BoxNames
 pub mod GeneratedGalleys

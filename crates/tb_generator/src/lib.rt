@@ -6,6 +6,7 @@ ghost use Rattle.tb_param.specs.Defaults.{glue_points};
 ghost use Rattle.tb_node.specs.Names.{is_alphanumeric, is_name};
 ghost use Rattle.tb_galley.specs.Valid.{IsValid};
 ghost use Rattle.tb_generator.specs.GeneratedGalleys.{next_seed, letter_number, made_box, made_foot, made_float, made_by, made_item, made_params, generated};
+ghost use Rattle.tb_generator.specs.BoxNames.{IsBoxName};
 
 use itoa::write_digits;
 use std::alloc::{AllocError, Global};
@@ -36,6 +37,25 @@ const HTP: Places = Places {
     p: true,
 };
 
+// The name of a box, from a place in the text to its end, and the tens of its number.
+#[derive(Clone, Copy)]
+struct BoxName {
+    text: [u8; 6],
+    start: usize,
+    tens: u32,
+}
+
+// The name of a box with the number 0.
+fn box_zero() -> BoxName
+    ensures { IsBoxName result }
+{
+    BoxName {
+        text: *b"\0\0\0\0b0",
+        start: 4,
+        tens: 0,
+    }
+}
+
 /// The galley of version 1 with `n` items, 1 to 40000. Item k has line k: a box if k is odd, else glue, a footnote or a
 /// float, chosen by a sequence of numbers that begins with `n`.
 ///
@@ -48,9 +68,10 @@ pub fn generate(alloc: Global, n: u32) -> Result<Galley, AllocError>
 {
     let mut items = Items::new(alloc);
     let mut seed = u64::from(n);
+    let mut last = box_zero();
     for k in 1..n + 1 {
         seed = next_seed(seed);
-        push_made(&mut items, alloc, k, seed)?;
+        push_made(&mut items, alloc, k, seed, &mut last)?;
     }
     Ok(Galley {
         params: made_params(),
@@ -83,12 +104,21 @@ fn made_params() -> Params
 }
 
 // Appends the item in a place, by the number of the sequence there. Most are boxes or glue: they are made in place.
-fn push_made(items: &mut Items, alloc: Global, k: u32, seed: u64) -> Result<(), AllocError>
-    requires { k ≤ 40000 }
-    ensures { OnOk result (items.new ≡ items.old ++ record { line = k; kind = made_item k seed } ∷ []) }
+#[inline(always)]
+fn push_made(
+    items: &mut Items,
+    alloc: Global,
+    k: u32,
+    seed: u64,
+    last: &mut BoxName,
+) -> Result<(), AllocError>
+    requires few { k ≤ 40000 }
+    requires last { IsBoxName last.old }
+    ensures pushed { OnOk result (items.new ≡ items.old ++ record { line = k; kind = made_item k seed } ∷ []) }
+    ensures last { IsBoxName last.new }
 {
     if k % 2 == 1 {
-        return push_box(items, k);
+        return push_box(items, k, last);
     }
     push_by(items, alloc, k, seed, seed / 65_536 % 32)
 }
@@ -125,13 +155,30 @@ fn push_glue(items: &mut Items, k: u32) -> Result<(), AllocError>
 }
 
 #[inline(always)]
-fn push_box(items: &mut Items, k: u32) -> Result<(), AllocError>
-    requires { k ≤ 40000 }
-    ensures { OnOk result (items.new ≡ items.old ++ record { line = k; kind = made_box k } ∷ []) }
+fn push_box(items: &mut Items, k: u32, last: &mut BoxName) -> Result<(), AllocError>
+    requires few { k ≤ 40000 }
+    requires last { IsBoxName last.old }
+    ensures pushed { OnOk result (items.new ≡ items.old ++ record { line = k; kind = made_box k } ∷ []) }
+    ensures last { IsBoxName last.new }
 {
-    let mut text = [0; 6];
-    let start = write_led(b'b', k, &mut text);
-    push_led(items, k, &text, start)
+    name_box(last, k);
+    push_led(items, k, &last.text, last.start)
+}
+
+// Makes this the name of a box. The box before most often has the same tens: then only the last digit changes.
+#[inline(always)]
+fn name_box(last: &mut BoxName, k: u32)
+    requires last { IsBoxName last.old }
+    requires few { k ≤ 40000 }
+    ensures last { IsBoxName last.new }
+    ensures name { drop last.new.start last.new.text ≡ letter_number 98 k }
+{
+    if k / 10 == last.tens {
+        last.text[5] = b'0' + (k % 10) as u8;
+    } else {
+        last.start = write_led(b'b', k, &mut last.text);
+        last.tens = k / 10;
+    }
 }
 
 // Almost all names have five or six bytes: there the compiler sees their number, and makes the item in place.

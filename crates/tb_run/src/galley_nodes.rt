@@ -283,7 +283,7 @@ pub fn put(
     builder.contribute(store, Node { line, kind })
 }
 
-#[inline(never)]
+#[inline(always)]
 fn put_act(
     store: &mut Lists<Node>,
     builder: &mut Builder,
@@ -413,7 +413,7 @@ fn put_suppressing(
 
 // The act of a float or a marginal note, and the two firings that place it: at the first the page so far is held, and the
 // second says whether the item is between paragraphs (ltoutput.dtx, \end@float).
-#[inline(never)]
+#[inline(always)]
 fn put_with_firings(
     store: &mut Lists<Node>,
     builder: &mut Builder,

@@ -19,7 +19,8 @@ loop-k-preserved c =
     let left : c.args.n + 1 - c.loop-k.k ≡ suc (c.args.n + 1 - (c.loop-k.k + 1)) = omega arith in
     record {
       small = c.next_seed-seed.ensures.small;
-      made = made-more c.loop-k.items c.push_made.new.items _ _ _ c.loop-k.k c.loop-k.seed c.next_seed-seed.result left c.loop-k.invariant.made c.in_ok-push_made.ensures c.next_seed-seed.ensures.next;
+      named = c.push_made.ensures.last;
+      made = made-more c.loop-k.items c.push_made.new.items _ _ _ c.loop-k.k c.loop-k.seed c.next_seed-seed.result left c.loop-k.invariant.made c.in_ok-push_made.ensures.pushed c.next_seed-seed.ensures.next;
     }
 
 pub returns-clause-valid : goal.returns-clause-valid
