@@ -1,23 +1,16 @@
 //! A page is filled: the waiting nodes go on it one by one, up to the next event.
 
-ghost use Rattle.std.specs.Prelude.{◌≡◌, ◌<◌, ◌≤◌, ◌+◌, List, [], ◌∷◌, ◌++◌, true, false, not, Some, None, IsSome, IfOk, OnOk, OnErr, slice_get, length, drop};
+ghost use Rattle.std.specs.Prelude.{◌≡◌, ◌<◌, ◌≤◌, ◌+◌, List, [], ◌∷◌, true, false, not, Some, None, IsSome, IfOk, OnOk, OnErr, slice_get, length, drop};
 ghost use Rattle.tb_pool.specs.Lists.{list_at};
 ghost use Rattle.tb_node.specs.declared.Node.{Node as NodeOf};
-ghost use Rattle.tb_node.specs.Shape.{is_box, is_discardable};
-ghost use Rattle.tb_node.specs.SmallAmounts.{IsSmall, IsSmallShape};
-ghost use Rattle.tb_node.specs.PlainNodes.{shape_of, plain_of, PlainNode};
-ghost use Rattle.tb_node.specs.NodeSums.{added_node};
+ghost use Rattle.tb_node.specs.Shape.{is_discardable};
+ghost use Rattle.tb_node.specs.PlainNodes.{shape_of};
 ghost use Rattle.tb_node.specs.Roles.{act_of_kind, insertion_of_kind};
-ghost use Rattle.tb_break.specs.Best.{Breakpoint};
-ghost use Rattle.tb_break.specs.Places.{ends_lasting};
-ghost use Rattle.tb_insert.specs.Account.{Frozen};
-ghost use Rattle.tb_insert.specs.AccountEntries.{Differ};
 ghost use Rattle.tb_builder.specs.Ownership.{ids_of, IsOwned, KeepsOthers};
-ghost use Rattle.tb_builder.specs.LegalPlaces.{page_shapes};
 ghost use Rattle.tb_builder.specs.Reach.{holds_box};
 ghost use Rattle.tb_builder.specs.Contents.{contents_of};
-ghost use Rattle.tb_builder.specs.Courses.{IsSound, IsCourseOf, Underway, AllLoose, kept_frozen, frozen_with};
-ghost use Rattle.tb_builder.specs.PageEvents.{AskFits, NextFits, NextIs, IsGivenOut, TellsRoom};
+ghost use Rattle.tb_builder.specs.Courses.{IsSound, Underway, kept_frozen};
+ghost use Rattle.tb_builder.specs.PageEvents.{NextFits, NextIs, IsGivenOut, TellsRoom};
 ghost use Rattle.tb_builder.specs.PageProgress.{IsNextOfPage};
 ghost use Rattle.tb_builder.specs.PassedNodes.{EventPast};
 ghost use Rattle.tb_builder.specs.PageCalls.{ComesAfter, IsNoPlace};
@@ -25,7 +18,7 @@ ghost use Rattle.tb_builder.specs.PageWalks.{moved, LeadsOn, seen_of};
 ghost use Rattle.tb_builder.specs.declared.Seen.TheVariants.{Space};
 ghost use Rattle.tb_builder.specs.declared.Ask.{Ask as AskOf};
 ghost use Rattle.tb_builder.specs.declared.Event.TheVariants.{Act as an_act};
-ghost use Rattle.tb_builder.specs.PageTurns.{TopWaits, with_top, ChangesPage, Shifted, StepIs, StepFits, StartsPage, PutFits, event_of, turn_by, TurnIs, TurnTo, Filled};
+ghost use Rattle.tb_builder.specs.PageTurns.{ChangesPage, StepIs, StepFits, event_of, turn_by, TurnIs, TurnTo, Filled};
 
 use crate::courses::stops;
 use crate::front_nodes::{drop_first, first_in, glue_in, is_walked, penalty_of, seen_in};
@@ -33,7 +26,7 @@ use crate::fronts::move_front;
 use crate::sizes::list_size;
 use crate::{Ask, Builder, Event, Seen, Turn};
 use std::alloc::AllocError;
-use tb_break::{is_box, place_penalty, top_node};
+use tb_break::place_penalty;
 use tb_node::{Act, Kind, Node, Role};
 use tb_pool::Lists;
 
@@ -355,81 +348,6 @@ impl Builder {
         self.opened && matches!(n.role(), Role::Matter)
     }
 
-    // On a page without a box, the first waiting node is no act and no insertion, and does not vanish: it goes on the
-    // page. A box or rule comes after the top glue, unless the place before that glue is a stop.
-    #[inline(never)]
-    fn begin(&mut self, store: &mut Lists<Node>, ask: &Ask) -> bool
-        requires sound { IsSound self.old store.old }
-        requires on { self.old.stopped ≡ false }
-        requires closed { self.old.opened ≡ false }
-        requires fits { NextFits (contents_of self.old store.old) ask.now }
-        requires room { 0 < store.old.spare }
-        requires some { IsSome (slice_get (list_at store.old self.old.waiting) 0) }
-        requires starts { (n : NodeOf) → slice_get (list_at store.old self.old.waiting) 0 ≡ Some n → StartsPage n }
-        ensures { TurnIs self.old store.old ask.now (event_of result self.new.tried) self.new store.new }
-    {
-        let Some(n) = first_in(store, self.waiting) else {
-            unreachable!()
-        };
-        if !is_box(n) {
-            self.course.lasting = true;
-            store.move_first(self.waiting, self.page);
-            return false;
-        }
-        let glue = top_node(n, ask.top_skip);
-        self.freeze(ask);
-        let tried = self.lay_top(store, glue);
-        if self.stopped {
-            return tried;
-        }
-        self.put(store);
-        self.opened = true;
-        tried
-    }
-
-    // The top glue goes on the page as if it waited first: the place before it is legal only after a mark, a note or a
-    // whatsit. Returns whether it was tried, as `step`.
-    #[inline(always)]
-    fn lay_top(&mut self, store: &mut Lists<Node>, glue: Node) -> bool
-        requires own { IsOwned (ids_of self.old) store.old }
-        requires room { 0 < store.old.spare }
-        requires on { self.old.stopped ≡ false }
-        requires space { seen_of glue.kind ≡ Space }
-        requires waits { TopWaits self.old (with_top store.old self.old.waiting glue) glue }
-        ensures moves { ChangesPage self.old (with_top store.old self.old.waiting glue) self.new store.new }
-        ensures step { StepIs (event_of result self.new.tried) (kept_frozen (contents_of self.old (with_top store.old self.old.waiting glue))) self.new.course (contents_of self.old (with_top store.old self.old.waiting glue)) (contents_of self.new store.new) }
-        ensures behind { (n : NodeOf) (ns : List NodeOf) → self.new.stopped ≡ false → list_at (with_top store.old self.old.waiting glue) self.old.waiting ≡ n ∷ ns → list_at store.new self.new.waiting ≡ ns }
-        ensures opened { self.new.opened ≡ self.old.opened }
-        ensures frozen { self.new.frozen ≡ self.old.frozen }
-        ensures ids { ids_of self.new ≡ ids_of self.old }
-    {
-        if self.course.lasting {
-            store.push_front(self.waiting, glue);
-            return self.step(store);
-        }
-        self.course.put_glue(glue_in(&glue));
-        store.push_back(self.page, glue);
-        false
-    }
-
-    // Freezes the goal and the depth limit of the page, unless they are frozen already.
-    fn freeze(&mut self, ask: &Ask)
-        requires asked { AskFits ask.now }
-        ensures first { self.old.frozen ≡ None → (z : Frozen) (page : List PlainNode) → z.goal ≡ ask.now.goal → z.limit ≡ ask.now.max_depth → Differ z.classes → AllLoose page
-            → self.old.course.lasting ≡ ends_lasting (page_shapes page) → IsCourseOf z self.new.course page [] }
-        ensures again { IsSome self.old.frozen → self.new ≡ self.old }
-        ensures frozen { self.new.frozen ≡ Some (frozen_with self.old.frozen ask.now) }
-        ensures ids { ids_of self.new ≡ ids_of self.old }
-        ensures opened { self.new.opened ≡ self.old.opened }
-        ensures stopped { self.new.stopped ≡ self.old.stopped }
-    {
-        if self.frozen.is_some() {
-            return;
-        }
-        self.frozen = Some((ask.goal, ask.max_depth));
-        self.course.restart(ask.goal, ask.max_depth);
-    }
-
     // The first waiting node, an insertion, goes on the page.
     #[inline(never)]
     fn meet(&mut self, store: &mut Lists<Node>, ask: &Ask)
@@ -457,7 +375,7 @@ impl Builder {
     // The first waiting node on a page that is laid out, no act and no insertion: its place is tried if it is legal,
     // and the node goes on the page unless that is a stop. Returns whether it was tried; `tried` has the result.
     #[inline(always)]
-    fn step(&mut self, store: &mut Lists<Node>) -> bool
+    pub(crate) fn step(&mut self, store: &mut Lists<Node>) -> bool
         requires own { IsOwned (ids_of self.old) store.old }
         requires some { IsSome (slice_get (list_at store.old self.old.waiting) 0) }
         requires on { self.old.stopped ≡ false }
@@ -487,26 +405,5 @@ impl Builder {
         self.course.put(n);
         store.move_first(self.waiting, self.page);
         true
-    }
-
-    // The first waiting node, which is no act and no insertion, goes on the page.
-    fn put(&mut self, store: &mut Lists<Node>)
-        requires own { IsOwned (ids_of self.old) store.old }
-        requires some { IsSome (slice_get (list_at store.old self.old.waiting) 0) }
-        requires node { (n : NodeOf) → slice_get (list_at store.old self.old.waiting) 0 ≡ Some n → PutFits self.old.course n }
-        ensures moves { ChangesPage self.old store.old self.new store.new }
-        ensures shifted { (n : NodeOf) → slice_get (list_at store.old self.old.waiting) 0 ≡ Some n → Shifted (plain_of (list_at store.old) n) (contents_of self.old store.old) (contents_of self.new store.new) }
-        ensures course { (n : NodeOf) → slice_get (list_at store.old self.old.waiting) 0 ≡ Some n → (z : Frozen) (bs : List Breakpoint) → IsCourseOf z self.old.course (contents_of self.old store.old).page bs
-            → IsCourseOf z self.new.course ((contents_of self.old store.old).page ++ plain_of (list_at store.old) n ∷ []) bs }
-        ensures behind { (n : NodeOf) (ns : List NodeOf) → list_at store.old self.old.waiting ≡ n ∷ ns → list_at store.new self.new.waiting ≡ ns }
-        ensures opened { self.new.opened ≡ self.old.opened }
-        ensures ids { ids_of self.new ≡ ids_of self.old }
-        ensures tried { self.new.tried ≡ self.old.tried }
-    {
-        let Some(n) = first_in(store, self.waiting) else {
-            unreachable!()
-        };
-        self.course.put(n);
-        store.move_first(self.waiting, self.page);
     }
 }
