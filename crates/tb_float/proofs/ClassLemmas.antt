@@ -31,11 +31,11 @@ set-again [] i x e = refl
 set-again (y ∷ xs) zero x e = let same : y ≡ x = cc in ap (λ z. z ∷ xs) (sym same)
 set-again (y ∷ xs) (suc i) x e = ap (λ zs. y ∷ zs) (set-again xs i x e)
 
-has-same : (fs : List Float) (f : Float) (k : ℕ) → (f.class == k) ≡ true → has_class k (fs ++ f ∷ []) ≡ true
+pub has-same : (fs : List Float) (f : Float) (k : ℕ) → (f.class == k) ≡ true → has_class k (fs ++ f ∷ []) ≡ true
 has-same [] f k e = ap (λ b. b || false) e
 has-same (g ∷ fs) f k e = ap (λ b. (g.class == k) || b) (has-same fs f k e) ∙ or-true (g.class == k)
 
-has-other : (fs : List Float) (f : Float) (k : ℕ) → (f.class == k) ≡ false → has_class k (fs ++ f ∷ []) ≡ has_class k fs
+pub has-other : (fs : List Float) (f : Float) (k : ℕ) → (f.class == k) ≡ false → has_class k (fs ++ f ∷ []) ≡ has_class k fs
 has-other [] f k e = ap (λ b. b || false) e
 has-other (g ∷ fs) f k e = ap (λ b. (g.class == k) || b) (has-other fs f k e)
 

@@ -13,5 +13,6 @@ pub mod WaitingLemmas
 pub mod HasLemmas
 pub mod ClassLemmas
 pub mod EntryLemmas
+pub mod FirstLemmas
 pub mod TrackLemmas
 pub mod PlaceLemmas

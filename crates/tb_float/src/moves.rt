@@ -28,6 +28,8 @@ impl Pool {
         self.heights.lower(from, height);
         self.heights.raise(to, height);
         self.marks_from = 0;
+        self.firsts.lose(from);
+        self.firsts.gain(to, &slot.entry);
     }
 
     /// All floats of a list go before those of another, by links alone, and lose their marks.
@@ -46,6 +48,8 @@ impl Pool {
         self.heights.lower(from, height);
         self.heights.raise(to, height);
         self.marks_from = 0;
+        self.firsts.lose(from);
+        self.firsts.lose(to);
     }
 
     /// No float of a list is chosen any more.
@@ -80,6 +84,7 @@ impl Pool {
         };
         self.heights.lower(p, entry_height(&slot.entry));
         self.marks_from = 0;
+        self.firsts.lose(p);
         Some(slot.entry)
     }
 
@@ -101,6 +106,7 @@ impl Pool {
             },
         );
         self.marks_from = 0;
+        self.firsts.lose(p);
     }
 
     /// The float at a place of a list in which floats wait is chosen for a column of floats.
@@ -143,6 +149,7 @@ impl Pool {
             return None;
         };
         self.chosen -= 1;
+        self.firsts.lose(from);
         self.heights.lower(from, entry_height(&slot.entry));
         Some(*slot.entry.float())
     }
