@@ -1,5 +1,5 @@
 -- The floats that are the first of their class in a list.
-use Rattle.std.proofs.Common.{◌≡◌, ℕ, zero, suc, ◌+◌, ◌<◌, ◌≤◌, ◌==◌, ◌||◌, Bool, true, false, List, [], ◌∷◌, ◌++◌, length, take, drop, Some, slice_get, refl, sym, ap, ◌∙◌, subst, arith}
+use Rattle.std.proofs.Common.{◌≡◌, ℕ, zero, suc, ◌≤◌, ◌==◌, ◌||◌, Bool, true, false, List, [], ◌∷◌, ◌++◌, length, take, drop, Some, slice_get, refl, sym, ap, ◌∙◌, subst, arith}
 use Rattle.std.specs.Prelude.{if◌then◌else◌}
 use Rattle.std.proofs.lemmas.Bool.{eqb-true}
 use Rattle.std.proofs.lemmas.List.{length-take-le}
@@ -47,10 +47,13 @@ next-first all k (f ∷ fs) x xs at e = by_test (has_class f.class (take k all))
   where
     got : slice_get all k ≡ Some f
     got = get-at all k f fs at
+
     taken : take (suc k) all ≡ take k all ++ f ∷ []
     taken = take-at all k f got
+
     many : length (take k all) ≡ k
     many = length-take-le k all (omega (arith, slice_get_within all k f got))
+
     by_test : (t : Bool) → has_class f.class (take k all) ≡ t
         → (if t then firsts_from (take k all ++ f ∷ []) fs else record { place = length (take k all); float = f } ∷ firsts_from (take k all ++ f ∷ []) fs) ≡ x ∷ xs
         → (firsts_from (take (suc k) all) fs ≡ x ∷ xs → NextFirst all (suc k) x xs) → NextFirst all k x xs
@@ -82,6 +85,7 @@ no-first before (f ∷ fs) e k h = by_test (has_class f.class before) refl e (λ
     by_class : has_class f.class before ≡ true → (has_class k fs ≡ true → has_class k (before ++ f ∷ []) ≡ true) → (t : Bool) → (f.class == k) ≡ t → (t || has_class k fs) ≡ true → has_class k before ≡ true
     by_class has later true same o = subst (λ j. has_class j before ≡ true) (eqb-true f.class k same) has
     by_class has later false other o = one-of before f has k (later o)
+
     by_test : (t : Bool) → has_class f.class before ≡ t
         → (if t then firsts_from (before ++ f ∷ []) fs else record { place = length before; float = f } ∷ firsts_from (before ++ f ∷ []) fs) ≡ []
         → (firsts_from (before ++ f ∷ []) fs ≡ [] → has_class k fs ≡ true → has_class k (before ++ f ∷ []) ≡ true) → has_class k before ≡ true

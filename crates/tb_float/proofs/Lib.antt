@@ -14,5 +14,7 @@ pub mod HasLemmas
 pub mod ClassLemmas
 pub mod EntryLemmas
 pub mod FirstLemmas
+pub mod KnownLemmas
+pub mod FindLemmas
 pub mod TrackLemmas
 pub mod PlaceLemmas

@@ -16,6 +16,8 @@ use Rattle.tb_float.specs.declared.classes.ClassSet.{ClassSet}
 use Rattle.tb_float.specs.Slots.{SlotView}
 use Rattle.tb_float.specs.Lists.{FloatLists, entries_of, live_count, floats_of, floats_among, float_before, float_entries, without_place, no_floats, IsWaiting}
 use Rattle.tb_float.specs.Classes.{AreAtLeast, AreKnown, AreMarkedFrom, IsTracked, Tracks, chosen_count}
+use Rattle.tb_float.specs.declared.firsts.Firsts.{Firsts}
+use Rattle.tb_float.specs.Firsts.{KnowsFirsts}
 use Rattle.tb_float.specs.Shelves.{seen_pool, slots_of, IsStored, IsPooled}
 use Rattle.tb_float.specs.Pool.{FloatPool, marks_of, marked_among, marked_floats, with_contents, with_current, with_floats_after, without_entry, without_entries, without_marks, moved_float, joined_before, with_float_at, with_mark, with_marks_of}
 use Rattle.tb_float.proofs.WaitingLemmas.{HasAllMarks, marks-count, lists-marked}
@@ -299,10 +301,10 @@ tracked-more known more least low grows le fs h =
 
 -- ---- a pool that is stored
 
-pub pooled-marked : (store : Lists SlotView) (sh : Shelves) (h : ByPart ℤ) (size : ℕ) (known : ClassSet) (chosen : ℕ) (least : ℤ) (marks_from : ℕ) (v : FloatPool) → IsStored store sh h size → seen_pool (slots_of store sh) size ≡ v → Tracks (IsTracked known.flags least) chosen v → AreMarkedFrom marks_from v → IsPooled store sh h size known chosen least marks_from
-pooled-marked store sh h size known chosen least marks_from v s e t m =
-    record { stored = s; tracked = subst (Tracks (IsTracked known.flags least) chosen) (sym e) t; marked_from = subst (AreMarkedFrom marks_from) (sym e) m }
+pub pooled-marked : (store : Lists SlotView) (sh : Shelves) (h : ByPart ℤ) (size : ℕ) (known : ClassSet) (chosen : ℕ) (least : ℤ) (marks_from : ℕ) (firsts : Firsts) (v : FloatPool) → IsStored store sh h size → seen_pool (slots_of store sh) size ≡ v → Tracks (IsTracked known.flags least) chosen v → AreMarkedFrom marks_from v → KnowsFirsts firsts v.lists → IsPooled store sh h size known chosen least marks_from firsts
+pooled-marked store sh h size known chosen least marks_from firsts v s e t m k =
+    record { stored = s; tracked = subst (Tracks (IsTracked known.flags least) chosen) (sym e) t; marked_from = subst (AreMarkedFrom marks_from) (sym e) m; firsts_known = subst (λ (u : FloatPool). KnowsFirsts firsts u.lists) (sym e) k }
 
-pub pooled : (store : Lists SlotView) (sh : Shelves) (h : ByPart ℤ) (size : ℕ) (known : ClassSet) (chosen : ℕ) (least : ℤ) (v : FloatPool) → IsStored store sh h size → seen_pool (slots_of store sh) size ≡ v → Tracks (IsTracked known.flags least) chosen v → IsPooled store sh h size known chosen least 0
-pooled store sh h size known chosen least v s e t =
-    pooled-marked store sh h size known chosen least 0 v s e t (record { deferred = λ k at. omega arith; second = λ k at. omega arith })
+pub pooled : (store : Lists SlotView) (sh : Shelves) (h : ByPart ℤ) (size : ℕ) (known : ClassSet) (chosen : ℕ) (least : ℤ) (firsts : Firsts) (v : FloatPool) → IsStored store sh h size → seen_pool (slots_of store sh) size ≡ v → Tracks (IsTracked known.flags least) chosen v → KnowsFirsts firsts v.lists → IsPooled store sh h size known chosen least 0 firsts
+pooled store sh h size known chosen least firsts v s e t k =
+    pooled-marked store sh h size known chosen least 0 firsts v s e t (record { deferred = λ k at. omega arith; second = λ k at. omega arith }) k

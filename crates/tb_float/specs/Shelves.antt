@@ -16,6 +16,8 @@ use Rattle.tb_float.specs.ByPart.{of_part}
 use Rattle.tb_float.specs.Slots.{SlotView}
 use Rattle.tb_float.specs.declared.classes.ClassSet.{ClassSet}
 use Rattle.tb_float.specs.Classes.{AreMarkedFrom, IsTracked, Tracks}
+use Rattle.tb_float.specs.declared.firsts.Firsts.{Firsts}
+use Rattle.tb_float.specs.Firsts.{KnowsFirsts}
 
 -- the id of the list of a part
 abbrev pub shelf_of : Shelves → Part → ℕ
@@ -95,11 +97,12 @@ pub record IsStored (store : Lists SlotView) (shelves : Shelves) (heights : ByPa
   pub sound : AreSound (slots_of store shelves) heights
   pub places : HasPlaces (slots_of store shelves) size store.spare
 
--- the pool is stored, and what it knows of classes and of marks holds
-pub record IsPooled (store : Lists SlotView) (shelves : Shelves) (heights : ByPart ℤ) (size : ℕ) (known : ClassSet) (chosen : ℕ) (least : ℤ) (marks_from : ℕ) : Type 0 where
+-- the pool is stored, and what it knows of classes, of marks and of first floats holds
+pub record IsPooled (store : Lists SlotView) (shelves : Shelves) (heights : ByPart ℤ) (size : ℕ) (known : ClassSet) (chosen : ℕ) (least : ℤ) (marks_from : ℕ) (firsts : Firsts) : Type 0 where
   pub stored : IsStored store shelves heights size
   pub tracked : Tracks (IsTracked known.flags least) chosen (seen_pool (slots_of store shelves) size)
   pub marked_from : AreMarkedFrom marks_from (seen_pool (slots_of store shelves) size)
+  pub firsts_known : KnowsFirsts firsts (seen_lists (slots_of store shelves))
 
 -- the first marked slot left its list
 pub record HasTaken (s : SlotView) (from : ℕ) (old new : Lists SlotView) : Type 0 where

@@ -1,11 +1,11 @@
 //! The floats of a list that are the first of their class there, kept until the list changes.
-ghost use Rattle.std.specs.Prelude.{◌≡◌, ◌≢◌, ◌×◌, IsTrue, List, [], None, Some, true, false};
+ghost use Rattle.std.specs.Prelude.{◌≡◌, ◌≤◌, ◌++◌, ◌∷◌, List, [], IfOk, length};
 ghost use Rattle.tb_pool.specs.Lists.{IsLive, list_at};
 ghost use Rattle.tb_node.specs.declared.Float.{Float as FloatValue};
 ghost use Rattle.tb_float.specs.Classes.{AreClassesOf, HasLeft};
-ghost use Rattle.tb_float.specs.Lists.{IsWaiting};
-ghost use Rattle.tb_float.specs.Shelves.{floats_in, is_float};
-ghost use Rattle.tb_float.specs.Firsts.{firsts_of};
+ghost use Rattle.tb_float.specs.Lists.{FloatLists, IsWaiting, float_entries, floats_of, has_class};
+ghost use Rattle.tb_float.specs.Shelves.{AreSlotsOf, entries_in, floats_in};
+ghost use Rattle.tb_float.specs.Firsts.{ChangesOnly, KnowsFirsts, firsts_of, is_of};
 
 use crate::{ClassSet, Entry, Part, Slot};
 use std::alloc::{AllocError, Global};
@@ -31,7 +31,9 @@ pub(crate) struct Firsts {
 
 impl Firsts {
     // They are not known.
-    pub(crate) fn unknown(alloc: Global) -> Firsts {
+    pub(crate) fn unknown(alloc: Global) -> Firsts
+        ensures { (l : FloatLists) → KnowsFirsts result l }
+    {
         Firsts {
             of: None,
             items: Vec::new(alloc),
@@ -40,7 +42,9 @@ impl Firsts {
     }
 
     // Whether they are known of a list.
-    pub(crate) fn are_of(&self, p: Part) -> bool {
+    pub(crate) fn are_of(&self, p: Part) -> bool
+        ensures { result ≡ is_of self.now.of p }
+    {
         match (self.of, p) {
             (Some(Part::Deferred), Part::Deferred) => true,
             (Some(Part::Second), Part::Second) => true,
@@ -49,24 +53,33 @@ impl Firsts {
     }
 
     // A list is no longer as it was.
-    pub(crate) fn lose(&mut self, p: Part) {
+    pub(crate) fn lose(&mut self, p: Part)
+        ensures { (l m : FloatLists) → ChangesOnly p l m → KnowsFirsts self.old l → KnowsFirsts self.new m }
+    {
         if self.are_of(p) {
             self.of = None;
         }
     }
 
     // An entry came to the end of a list: they are the same if a float of its class is among them.
-    pub(crate) fn gain(&mut self, p: Part, entry: &Entry) {
-        if !self.are_of(p) {
-            return;
-        }
-        if !self.classes.has(entry.float().class) {
+    pub(crate) fn gain(&mut self, p: Part, entry: &Entry)
+        ensures { (l m : FloatLists) (f : FloatValue) → entry.now ≡ Entry.Float f → ChangesOnly p l m → (IsWaiting p → floats_of p m ≡ floats_of p l ++ f ∷ []) → KnowsFirsts self.old l → KnowsFirsts self.new m }
+    {
+        if self.are_of(p) && !has_class_of(&self.classes, entry) {
             self.of = None;
         }
     }
 
     // Finds those of a list. If there is no memory, they are not known.
-    pub(crate) fn find(&mut self, store: &Lists<Slot>, list: ListId, none: ClassSet, p: Part) {
+    pub(crate) fn find(&mut self, store: &Lists<Slot>, list: ListId, none: ClassSet, p: Part)
+        requires live { IsLive store.now list }
+        requires slots { AreSlotsOf p (list_at store.now list) }
+        requires few { length (list_at store.now list) ≤ 4096 }
+        requires waiting { IsWaiting p }
+        requires classes { AreClassesOf none [] }
+        requires left { HasLeft none (floats_in (list_at store.now list)) }
+        ensures { (l : FloatLists) → floats_of p l ≡ floats_in (list_at store.now list) → KnowsFirsts self.new l }
+    {
         self.of = None;
         self.items.clear();
         if let Ok(classes) = push_firsts(&mut self.items, store, list, none) {
@@ -76,13 +89,33 @@ impl Firsts {
     }
 }
 
+// Whether the class of an entry that is a float is in a set.
+fn has_class_of(classes: &ClassSet, entry: &Entry) -> bool
+    ensures { (fs : List FloatValue) (f : FloatValue) → entry.now ≡ Entry.Float f → AreClassesOf classes.now fs → result ≡ has_class f.class fs }
+{
+    match entry {
+        Entry::Float(f) => classes.has(f.class),
+        Entry::Left(_) => false,
+        Entry::Right(_) => false,
+    }
+}
+
 // Appends the first floats of their class in a list, and returns the classes.
 fn push_firsts(
     items: &mut Vec<First>,
     store: &Lists<Slot>,
     list: ListId,
     none: ClassSet,
-) -> Result<ClassSet, AllocError> {
+) -> Result<ClassSet, AllocError>
+    requires live { IsLive store.now list }
+    requires floats { entries_in (list_at store.now list) ≡ float_entries (floats_in (list_at store.now list)) }
+    requires few { length (list_at store.now list) ≤ 4096 }
+    requires classes { AreClassesOf none [] }
+    requires left { HasLeft none (floats_in (list_at store.now list)) }
+    requires empty { items.old.items ≡ [] }
+    ensures items { IfOk result (λ s. items.new.items ≡ firsts_of (floats_in (list_at store.now list))) }
+    ensures classes { IfOk result (λ s. AreClassesOf s (floats_in (list_at store.now list))) }
+{
     let mut classes = none;
     let mut place = 0;
     for slot in store.iter(list) {

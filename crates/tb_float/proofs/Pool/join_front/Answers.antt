@@ -1,6 +1,7 @@
 use Rattle.std.proofs.Common.{ℤ, sym, ap, ◌∙◌, subst, FitsSigned, w64, rules}
 use Rattle.std.proofs.lemmas.Int.{to_z-of_z}
 use Rattle.tb_float.specs.declared.by_part.ByPart.{ByPart}
+use Rattle.tb_float.specs.Lists.{floats_of}
 use Rattle.tb_float.specs.Pool.{HasNoMarks, joined_before, with_floats_before, without_entries}
 use Rattle.tb_float.specs.Ranges.{IsRoom}
 use Rattle.tb_float.specs.ByPart.{of_part}
@@ -11,6 +12,7 @@ use Rattle.tb_float.proofs.PartLemmas.{part-other}
 use Rattle.tb_float.proofs.PoolLemmas.{joined-front, bare-list, joined-without_marks, sums-moved}
 use Rattle.tb_float.proofs.MarkLemmas.{unmarked-joined_before}
 use Rattle.tb_float.specs.Classes.{IsTracked}
+use Rattle.tb_float.proofs.KnownLemmas.{before-only, emptied-only}
 use Rattle.tb_float.proofs.TrackLemmas.{pooled, tracked-joined}
 use Rattle.tb_float.proofs.Pool.join_front.Goals as goal
 
@@ -65,7 +67,10 @@ invariant_of-self c =
     let raised = simp to_z-of_z at c.raise.ensures in
     let floats = ap (λ fs. with_floats_before c.args.to fs (without_entries c.args.from (seen_pool at i.size))) (sym (floats_of-seen c.args.from at)) in
     let stored = subst (λ (g : ByPart ℤ). IsStored c.append-2.new.self i.shelves g i.size) (sym (sums-moved i.heights c.lower.new.self c.raise.new.self c.args.from c.args.to c.of-height.result (of_part i.heights c.args.from) c.of-height.ensures lowered raised)) made.stored in
-    pooled c.append-2.new.self i.shelves c.raise.new.self i.size i.known i.chosen i.least _ stored (made.seen ∙ floats) (tracked-joined (IsTracked i.known.flags i.least) i.chosen c.args.from c.args.to (seen_pool at i.size) c.self.invariant.tracked)
+    let v = seen_pool at i.size in
+    let emptied = without_entries c.args.from v in
+    pooled c.append-2.new.self i.shelves c.raise.new.self i.size i.known i.chosen i.least c.lose-2.new.self _ stored (made.seen ∙ floats) (tracked-joined (IsTracked i.known.flags i.least) i.chosen c.args.from c.args.to v c.self.invariant.tracked)
+    (c.lose-2.ensures emptied.lists (joined_before c.args.from c.args.to v).lists (before-only c.args.to (floats_of c.args.from v.lists) emptied) (c.lose.ensures v.lists emptied.lists (emptied-only c.args.from v) c.self.invariant.firsts_known))
 
 pub returns : goal.returns
 returns c =

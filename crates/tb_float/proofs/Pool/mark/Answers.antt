@@ -1,6 +1,7 @@
-use Rattle.std.proofs.Common.{◌<◌, ◌≤◌, length, ap, ◌∙◌, arith}
+use Rattle.std.proofs.Common.{◌<◌, ◌≤◌, true, length, ap, ◌∙◌, arith}
+use Rattle.std.specs.Prelude.{slice_set}
 use Rattle.tb_float.specs.Lists.{floats_of, live_count}
-use Rattle.tb_float.specs.Pool.{with_mark}
+use Rattle.tb_float.specs.Pool.{marks_of, with_mark}
 use Rattle.tb_float.specs.Shelves.{slots_of, seen_lists, seen_pool}
 use Rattle.tb_float.proofs.SlotLemmas.{length-floats_in}
 use Rattle.tb_float.proofs.SoundLemmas.{floats_of-seen, live_count-seen}
@@ -8,6 +9,7 @@ use Rattle.tb_float.proofs.ListLemmas.{some-at}
 use Rattle.tb_float.proofs.WaitingLemmas.{waiting-floats}
 use Rattle.tb_float.proofs.PoolLemmas.{mark-set, all-marks}
 use Rattle.tb_float.specs.Classes.{IsTracked}
+use Rattle.tb_float.proofs.KnownLemmas.{known-marked}
 use Rattle.tb_float.proofs.TrackLemmas.{pooled-marked, tracked-mark}
 use Rattle.tb_float.proofs.PlaceLemmas.{place-mark}
 use Rattle.tb_float.proofs.Pool.mark.Goals as goal
@@ -40,7 +42,9 @@ invariant_of-self c =
     let places = c.self.invariant.stored.places in
     let few : live_count (seen_lists at) ≤ 4096 = omega (arith, live_count-seen at c.self.invariant.stored.sound.slots, places.within, places.small) in
     let marks_from = place-mark (IsTracked i.known.flags i.least) i.chosen i.marks_from c.marks_place-self-inside.result c.args.from c.args.k (seen_pool at i.size) c.requires.waiting (all-marks at i.size c.self.invariant.stored.sound.slots) c.self.invariant.tracked c.marks_place-self-inside.ensures.place c.marks_place-self-inside.ensures.before c.self.invariant.marked_from in
-    pooled-marked c.mark_slot.new.store i.shelves i.heights i.size i.known c.one_more-self-inside.result i.least c.marks_place-self-inside.result _ made.stored made.seen (tracked-mark (IsTracked i.known.flags i.least) i.chosen c.one_more-self-inside.result c.args.from c.args.k _ c.self.invariant.tracked c.one_more-self-inside.ensures few) marks_from
+    let v = seen_pool at i.size in
+    pooled-marked c.mark_slot.new.store i.shelves i.heights i.size i.known c.one_more-self-inside.result i.least c.marks_place-self-inside.result i.firsts _ made.stored made.seen (tracked-mark (IsTracked i.known.flags i.least) i.chosen c.one_more-self-inside.result c.args.from c.args.k _ c.self.invariant.tracked c.one_more-self-inside.ensures few) marks_from
+    (known-marked i.firsts c.args.from (slice_set (marks_of c.args.from v) c.args.k true) v c.self.invariant.firsts_known)
 
 pub returns : goal.returns
 returns c =

@@ -1,9 +1,10 @@
-use Rattle.std.proofs.Common.{ℤ, ◌≡◌, [], Some, slice_get, sym, ap, ◌∙◌, subst, FitsSigned, w64, rules}
+use Rattle.std.proofs.Common.{ℤ, ◌≡◌, [], ◌∷◌, Some, slice_get, sym, ap, ◌∙◌, subst, FitsSigned, w64, rules}
 use Rattle.std.proofs.lemmas.Int.{to_z-of_z}
 use Rattle.std.proofs.lemmas.Option.{slice_get_within}
 use Rattle.tb_pool.specs.Lists.{list_at}
 use Rattle.tb_float.specs.declared.by_part.ByPart.{ByPart}
 use Rattle.tb_float.specs.Lists.{float_before}
+use Rattle.tb_float.specs.Slots.{SlotView}
 use Rattle.tb_float.specs.Pool.{HasNoMarks, moved_float, with_floats_after, without_entry}
 use Rattle.tb_float.specs.Ranges.{IsRoom}
 use Rattle.tb_float.specs.Rooms.{total_height}
@@ -15,6 +16,7 @@ use Rattle.tb_float.proofs.SlotLemmas.{slot-there}
 use Rattle.tb_float.proofs.SoundLemmas.{sums-are_rooms}
 use Rattle.tb_float.proofs.MarkLemmas.{unmarked-moved_float}
 use Rattle.tb_float.specs.Classes.{IsTracked}
+use Rattle.tb_float.proofs.KnownLemmas.{after-floats, after-only, without-only}
 use Rattle.tb_float.proofs.TrackLemmas.{pooled, known-entry, tracked-moved}
 use Rattle.tb_float.proofs.Pool.move_to.Goals as goal
 
@@ -83,7 +85,11 @@ invariant_of-self c =
     let tracked = c.self.invariant.tracked in
     let known = known-entry (IsTracked i.known.flags i.least) c.args.from c.args.k float.0 (seen_pool at i.size).lists (tracked.floats c.args.from) float.1 in
     let stored = subst (λ (g : ByPart ℤ). IsStored c.move_slot-slot.new.store i.shelves g i.size) (sym (sums-moved i.heights c.lower.new.self c.raise.new.self c.args.from c.args.to c.entry_height-height.result (total_height (float_before s.entry [])) height_is lowered raised)) made.stored in
-    pooled c.move_slot-slot.new.store i.shelves c.raise.new.self i.size i.known i.chosen i.least _ stored seen (tracked-moved (IsTracked i.known.flags i.least) i.chosen c.args.from c.args.k c.args.to float.0 (seen_pool at i.size) (all-marks at i.size c.self.invariant.stored.sound.slots) tracked known)
+    let v = seen_pool at i.size in
+    let left = without_entry c.args.from c.args.k v in
+    let entry = ap (λ (r : SlotView). r.entry) c.slot.view_is ∙ is in
+    pooled c.move_slot-slot.new.store i.shelves c.raise.new.self i.size i.known i.chosen i.least c.gain.new.self _ stored seen (tracked-moved (IsTracked i.known.flags i.least) i.chosen c.args.from c.args.k c.args.to float.0 v (all-marks at i.size c.self.invariant.stored.sound.slots) tracked known)
+    (c.gain.ensures left.lists (with_floats_after c.args.to (float.0 ∷ []) left).lists float.0 entry (after-only c.args.to (float.0 ∷ []) left) (after-floats c.args.to (float.0 ∷ []) left) (c.lose.ensures v.lists left.lists (without-only c.args.from c.args.k v) c.self.invariant.firsts_known))
 
 pub returns-clause-moved : goal.returns-clause-moved
 returns-clause-moved c = λ f e.

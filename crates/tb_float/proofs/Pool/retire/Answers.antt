@@ -3,19 +3,21 @@ use Rattle.std.specs.Prelude.{◌-ℤ◌}
 use Rattle.std.specs.Option.{option_map}
 use Rattle.std.proofs.lemmas.Int.{to_z-of_z}
 use Rattle.std.proofs.lemmas.Option.{slice_get-map}
-use Rattle.tb_pool.specs.Lists.{with_list}
+use Rattle.tb_pool.specs.Lists.{Lists, with_list}
 use Rattle.tb_float.specs.declared.by_part.ByPart.{ByPart}
+use Rattle.tb_float.specs.Slots.{SlotView}
 use Rattle.tb_float.specs.Lists.{entries_of, entry_count, float_before}
 use Rattle.tb_float.specs.Pool.{HasNoMarks, without_entry}
 use Rattle.tb_float.specs.Ranges.{IsRoom}
 use Rattle.tb_float.specs.Rooms.{total_height}
 use Rattle.tb_float.specs.ByPart.{of_part, with_part}
-use Rattle.tb_float.specs.Shelves.{slots_of, shelf_of, IsStored}
+use Rattle.tb_float.specs.Shelves.{slots_of, seen_pool, shelf_of, IsPooled, IsStored}
 use Rattle.tb_float.proofs.SlotLemmas.{slot-there}
 use Rattle.tb_float.proofs.SoundLemmas.{sums-are_rooms, entries_of-seen, entry_count-seen}
 use Rattle.tb_float.proofs.PoolLemmas.{taken-out, entry-is_room, without-first}
 use Rattle.tb_float.proofs.MarkLemmas.{unmarked-without_entry}
 use Rattle.tb_float.specs.Classes.{IsTracked}
+use Rattle.tb_float.proofs.KnownLemmas.{without-only}
 use Rattle.tb_float.proofs.TrackLemmas.{pooled, tracked-without}
 use Rattle.tb_float.proofs.Pool.retire.Goals as goal
 
@@ -34,6 +36,11 @@ lower-requires c =
       less = simp to_z-of_z (subst IsRoom (sym height_is) (entry-is_room s.entry sized));
     }
 
+pub invariant_of-self : goal.invariant_of-self
+invariant_of-self c =
+    let i = c.self.inside in
+    subst (λ (store : Lists SlotView). IsPooled store i.shelves i.heights i.size i.known i.chosen i.least i.marks_from i.firsts) (sym c.in_default.ensures.none) c.self.invariant
+
 pub invariant_of-self-2 : goal.invariant_of-self-2
 invariant_of-self-2 c =
     let i = c.self.inside in
@@ -49,7 +56,9 @@ invariant_of-self-2 c =
     let lowered = simp to_z-of_z at c.lower.ensures in
     let heights = lowered ∙ ap (λ z. with_part c.args.p (of_part i.heights c.args.p -ℤ z) i.heights) height_is in
     let stored = subst (λ (g : ByPart ℤ). IsStored c.pop_front.new.self i.shelves g i.size) (sym heights) made.stored in
-    pooled c.pop_front.new.self i.shelves c.lower.new.self i.size i.known i.chosen i.least _ stored made.seen (tracked-without (IsTracked i.known.flags i.least) i.chosen c.args.p 0 _ c.self.invariant.tracked)
+    let v = seen_pool at i.size in
+    pooled c.pop_front.new.self i.shelves c.lower.new.self i.size i.known i.chosen i.least c.lose.new.self _ stored made.seen (tracked-without (IsTracked i.known.flags i.least) i.chosen c.args.p 0 v c.self.invariant.tracked)
+    (c.lose.ensures v.lists (without_entry c.args.p 0 v).lists (without-only c.args.p 0 v) c.self.invariant.firsts_known)
 
 pub returns-clause-first : goal.returns-clause-first
 returns-clause-first c =

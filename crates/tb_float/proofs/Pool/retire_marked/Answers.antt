@@ -2,6 +2,7 @@ use Rattle.std.proofs.Common.{ℤ, ◌-◌, ◌≡◌, ◌<◌, [], ◌∷◌, l
 use Rattle.std.specs.Prelude.{◌-ℤ◌}
 use Rattle.std.proofs.lemmas.Int.{to_z-of_z}
 use Rattle.std.proofs.lemmas.List.{length-map}
+use Rattle.tb_pool.specs.Lists.{Lists}
 use Rattle.tb_float.specs.declared.Entry.TheVariants as entries
 use Rattle.tb_float.specs.declared.by_part.ByPart.{ByPart}
 use Rattle.tb_float.specs.Slots.{SlotView}
@@ -10,13 +11,14 @@ use Rattle.tb_float.specs.Pool.{marks_of, marked_among, unmarked_among, marked_f
 use Rattle.tb_float.specs.Ranges.{IsRoom}
 use Rattle.tb_float.specs.Rooms.{total_height}
 use Rattle.tb_float.specs.ByPart.{of_part, with_part}
-use Rattle.tb_float.specs.Shelves.{slots_of, seen_pool, floats_in, marks_in, is_float, IsStored}
+use Rattle.tb_float.specs.Shelves.{slots_of, seen_pool, floats_in, marks_in, is_float, IsPooled, IsStored}
 use Rattle.tb_float.proofs.SlotLemmas.{slot-there, float-at_slot}
 use Rattle.tb_float.proofs.SoundLemmas.{marks_of-seen, sums-are_rooms, floats_of-seen}
 use Rattle.tb_float.proofs.WaitingLemmas.{waiting-floats}
 use Rattle.tb_float.proofs.PoolLemmas.{taken-out, entry-is_room, marks-shown}
 use Rattle.tb_float.proofs.MarkLemmas.{unmarked-all, first-marked, none-marked, left-over}
 use Rattle.tb_float.specs.Classes.{AreSetFrom, IsTracked, Tracks}
+use Rattle.tb_float.proofs.KnownLemmas.{without-only}
 use Rattle.tb_float.proofs.TrackLemmas.{pooled-marked, tracked-fewer, all-unmarked}
 use Rattle.std.proofs.lemmas.Option.{slice_get_within}
 use Rattle.tb_float.proofs.PlaceLemmas.{place-of, place-without}
@@ -97,6 +99,11 @@ float-requires c =
     let there = slot-there c.args.from (first_marked (marks_in (at c.args.from))) (at c.args.from) c.in-Some.slot (c.self.invariant.stored.sound.slots c.args.from) was in
     ap (λ (s : SlotView). is_float s.entry) c.slot.view_is ∙ there.float (waiting-floats c.args.from c.requires)
 
+pub invariant_of-self : goal.invariant_of-self
+invariant_of-self c =
+    let i = c.self.inside in
+    subst (λ (store : Lists SlotView). IsPooled store i.shelves i.heights i.size i.known i.chosen i.least i.marks_from i.firsts) (sym c.in_default.ensures.unchanged) c.self.invariant
+
 pub invariant_of-self-2 : goal.invariant_of-self-2
 invariant_of-self-2 c =
     let i = c.self.inside in
@@ -128,7 +135,8 @@ invariant_of-self-2 c =
     let many = length-map (at c.args.from) (λ (r : SlotView). r.marked) in
     let lt : k < length (marks_of c.args.from v) = omega (arith, ap length marks_are, many, slice_get_within (at c.args.from) k s was) in
     let marks_from = place-without i.marks_from c.args.from k v c.requires (k_is ∙ ap first_marked (sym marks_are)) lt c.self.invariant.marked_from in
-    pooled-marked c.take_marked.new.store i.shelves c.lower.new.self i.size i.known (i.chosen - 1) i.least i.marks_from _ stored made.seen (tracked-fewer (IsTracked i.known.flags i.least) i.chosen c.args.from k c.float.result.now v c.requires c.self.invariant.tracked marked) marks_from
+    pooled-marked c.take_marked.new.store i.shelves c.lower.new.self i.size i.known (i.chosen - 1) i.least i.marks_from c.lose.new.self _ stored made.seen (tracked-fewer (IsTracked i.known.flags i.least) i.chosen c.args.from k c.float.result.now v c.requires c.self.invariant.tracked marked) marks_from
+    (c.lose.ensures v.lists (without_entry c.args.from k v).lists (without-only c.args.from k v) c.self.invariant.firsts_known)
 
 pub returns : goal.returns
 returns c =

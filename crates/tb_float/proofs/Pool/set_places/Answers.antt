@@ -9,6 +9,7 @@ use Rattle.tb_float.specs.Pool.{HasNoMarks, with_float_at, with_places}
 use Rattle.tb_float.specs.Shelves.{seen_pool, slots_of, shelf_of, is_float}
 use Rattle.tb_float.proofs.PoolLemmas.{float-there, float-is, places-set, same-float}
 use Rattle.tb_float.proofs.MarkLemmas.{unmarked-with_float_at}
+use Rattle.tb_float.proofs.KnownLemmas.{set-only}
 use Rattle.tb_float.proofs.TrackLemmas.{pooled, known-entry, tracked-set}
 use Rattle.std.specs.List.{AllByRecursion}
 use Rattle.tb_float.specs.Classes.{IsTracked}
@@ -54,7 +55,10 @@ invariant_of-self c =
     let same : f ≡ float.0 = same-float f float.0 (sym is ∙ float-is at c.args.p c.args.k float.0 s (c.self.invariant.stored.sound.slots c.args.p) float.1 got) in
     let tracked = c.self.invariant.tracked in
     let known = subst (λ (g : Float). AllByRecursion (IsTracked i.known.flags i.least) (g ∷ [])) (sym same) (known-entry (IsTracked i.known.flags i.least) c.args.p c.args.k float.0 (seen_pool at i.size).lists (tracked.floats c.args.p) float.1) in
-    pooled c.replace.new.self i.shelves i.heights i.size i.known i.chosen i.least _ made.stored made.seen (tracked-set (IsTracked i.known.flags i.least) i.chosen c.args.p c.args.k (with_places c.args.places f) (seen_pool at i.size) tracked known)
+    let v = seen_pool at i.size in
+    let placed = with_places c.args.places f in
+    pooled c.replace.new.self i.shelves i.heights i.size i.known i.chosen i.least c.lose.new.self _ made.stored made.seen (tracked-set (IsTracked i.known.flags i.least) i.chosen c.args.p c.args.k placed v tracked known)
+    (c.lose.ensures v.lists (with_float_at c.args.p c.args.k placed v).lists (set-only c.args.p c.args.k placed v) c.self.invariant.firsts_known)
 
 pub returns-clause-set : goal.returns-clause-set
 returns-clause-set c = λ g e.
