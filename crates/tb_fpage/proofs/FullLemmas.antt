@@ -111,7 +111,7 @@ has-ended z w least all choices over left low way =
 
 -- ---- none is a head
 
-company-closed : (z : Wanted) (before fs : List Float) → AreOfClasses before fs → company_from z before fs ≡ None
+pub company-closed : (z : Wanted) (before fs : List Float) → AreOfClasses before fs → company_from z before fs ≡ None
 company-closed z before [] h = refl
 company-closed z before (f ∷ fs) h =
     let cs = company_of_head z before f fs in

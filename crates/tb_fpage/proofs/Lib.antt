@@ -5,3 +5,4 @@ pub mod FirstLemmas
 pub mod ChoiceLemmas
 pub mod MarkingLemmas
 pub mod FullLemmas
+pub mod FirstHeads

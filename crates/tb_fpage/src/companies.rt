@@ -3,6 +3,7 @@
 ghost use Rattle.std.specs.Prelude.{◌≡◌, ◌≤◌, ◌<◌, ◌∷◌, ◌++◌, IsTrue, List, [], length, map, take, slice_get, slice_set, Some, None, IfSome, IfNone, OnSome, true, false, ◌||◌, int_lt};
 ghost use Rattle.tb_node.specs.declared.Float.{Float as PlainFloat};
 ghost use Rattle.tb_float.specs.Classes.{AreClassesOf, AreOfClasses, HasLeft};
+ghost use Rattle.tb_float.specs.Firsts.{firsts_of};
 ghost use Rattle.tb_float.specs.Lists.{IsWaiting, floats_of, has_class};
 ghost use Rattle.tb_float.specs.Pool.{marked_floats, marks_of, with_marks_of};
 ghost use Rattle.tb_fpage.specs.Company.{Choice, company, company_height, is_head, is_made};
@@ -10,7 +11,7 @@ ghost use Rattle.tb_fpage.specs.Walk.{EndsBy, CompanyEndsBy, IsAfterHead, IsMark
 
 use crate::Wanted;
 use crate::walk::{Walk, suits};
-use tb_float::{ClassSet, Part, Pool};
+use tb_float::{ClassSet, First, Part, Pool};
 use tb_node::Float;
 
 /// A company that is made.
@@ -24,6 +25,43 @@ pub(crate) struct Company {
 
 /// The company of the first head whose company is made.
 pub(crate) fn first_company(pool: &Pool, wanted: &Wanted, from: Part) -> Option<Company>
+    requires waiting { IsWaiting from }
+    requires few { length (floats_of from pool.now.lists) ≤ 4096 }
+    ensures made { IfSome result (λ c. IsAfterHead c.walk wanted.now (floats_of from pool.now.lists)) }
+    ensures last { IfSome result (λ c. CompanyEndsBy c.last wanted.now (floats_of from pool.now.lists)) }
+    ensures none { IfNone result (company wanted.now (floats_of from pool.now.lists) ≡ None) }
+{
+    match pool.firsts(from) {
+        Some(firsts) => try_firsts(pool, wanted, from, firsts),
+        None => try_all(pool, wanted, from),
+    }
+}
+
+// Tries the floats that are the first of their class: no other is a head.
+fn try_firsts(pool: &Pool, wanted: &Wanted, from: Part, firsts: &[First]) -> Option<Company>
+    requires waiting { IsWaiting from }
+    requires few { length (floats_of from pool.now.lists) ≤ 4096 }
+    requires firsts { firsts.now ≡ firsts_of (floats_of from pool.now.lists) }
+    ensures made { IfSome result (λ c. IsAfterHead c.walk wanted.now (floats_of from pool.now.lists)) }
+    ensures last { IfSome result (λ c. CompanyEndsBy c.last wanted.now (floats_of from pool.now.lists)) }
+    ensures none { IfNone result (company wanted.now (floats_of from pool.now.lists) ≡ None) }
+{
+    let mut earlier = pool.no_classes();
+    for first in firsts {
+        let f = &first.float;
+        if let Some(last) = made_at(pool, wanted, from, first.place, &earlier, f) {
+            return Some(Company {
+                walk: Walk::after_head(first.place, f.height, earlier),
+                last,
+            });
+        }
+        earlier.add(f.class);
+    }
+    None
+}
+
+// Tries all floats that wait, where it is not known which are the first of their class.
+fn try_all(pool: &Pool, wanted: &Wanted, from: Part) -> Option<Company>
     requires waiting { IsWaiting from }
     requires few { length (floats_of from pool.now.lists) ≤ 4096 }
     ensures made { IfSome result (λ c. IsAfterHead c.walk wanted.now (floats_of from pool.now.lists)) }

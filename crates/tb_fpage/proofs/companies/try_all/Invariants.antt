@@ -3,7 +3,7 @@ use Rattle.tb_node.specs.declared.Float.{Float}
 use Rattle.tb_float.specs.Lists.{float_entries, floats_of}
 use Rattle.tb_float.specs.Classes.{HasLeft}
 use Rattle.tb_fpage.specs.Walk.{AreTried}
-use Rattle.tb_fpage.proofs.companies.first_company.Given as goal
+use Rattle.tb_fpage.proofs.companies.try_all.Given as goal
 
 abbrev pub invariant-loop-entry : goal.invariant-loop-entry
 invariant-loop-entry l = record {

@@ -9,7 +9,7 @@ use Rattle.tb_fpage.proofs.WalkLemmas.{next-float, no-float}
 use Rattle.tb_fpage.proofs.CompanyLemmas.{tried-there, tried-head, tried-ends, tried-next, tried-end}
 use Rattle.tb_float.proofs.HasLemmas.{has-there}
 use Rattle.tb_fpage.proofs.FullLemmas.{tried-full}
-use Rattle.tb_fpage.proofs.companies.first_company.Goals as goal
+use Rattle.tb_fpage.proofs.companies.try_all.Goals as goal
 
 pub float-f-requires : goal.float-f-requires
 float-f-requires c =
