@@ -23,10 +23,7 @@ use Rattle.tb_area.specs.Deferred.{gone_to, still_before, filled, gone_double, s
 use Rattle.tb_area.specs.DeferredWalk.{IsOnWay}
 use Rattle.tb_area.proofs.OrderLemmas.{gone-deferred, gone_double-waiting}
 use Rattle.tb_float.proofs.HasLemmas.{has-there}
-use Rattle.tb_area.proofs.FullLemmas.{left-without, all-classes, walk-closed, entry-closed, double-closed}
-
-abbrev Walk : Type 0
-Walk = List Float → List Float → FloatLists → FloatLists
+use Rattle.tb_area.proofs.FullLemmas.{Walk, Stays, left-without, all-classes, walk-passed, entry-closed, double-closed}
 
 -- ---- start and end
 
@@ -60,21 +57,25 @@ way-stays from walk w v l end f more there classes left stays way =
           ∙ ap (λ left. walk (take k fs) left l) (sym (slice_get-drop k fs f there)) ∙ way.ends;
     }
 
--- ---- all others stay
+-- ---- those of classes that stay
 
--- if each float is of the class of one that stays, and one of such a class always stays, all others stay
-way-full : (from : Part) (walk : Walk) (w v : Kept) (l end : FloatLists) → v.count ≡ length (floats_of from l) → v.classes ≡ w.classes → AreOfClasses (take w.count (floats_of from l)) (floats_of from l) → ((before rest : List Float) (f : Float) → has_class f.class before ≡ true → walk before (f ∷ rest) l ≡ walk (before ++ f ∷ []) rest l) → IsOnWay from walk w l end → IsOnWay from walk v l end
-way-full from walk w v l end all same full stays way =
+-- if one of a class that stays always stays, those up to a later place stay where no other class is between
+pub way-passed : (from : Part) (walk : Walk) (w v : Kept) (l end : FloatLists) → Stays walk l → w.count ≤ v.count → v.count ≤ length (floats_of from l) → v.classes ≡ w.classes → AreOfClasses (take w.count (floats_of from l)) (take v.count (floats_of from l)) → IsOnWay from walk w l end → IsOnWay from walk v l end
+way-passed from walk w v l end stays later within same passed way =
+    let fs = floats_of from l in
+    record {
+      within = within;
+      classes = subst (λ s. AreClassesOf s (take v.count fs)) (sym same) (all-classes w.classes w.count v.count fs later way.classes passed);
+      left = subst (λ s. HasLeft s fs) (sym same) way.left;
+      ends = sym (walk-passed walk l w.count v.count fs later stays passed) ∙ way.ends;
+    }
+
+-- if each float is of such a class, all others stay
+way-full : (from : Part) (walk : Walk) (w v : Kept) (l end : FloatLists) → Stays walk l → v.count ≡ length (floats_of from l) → v.classes ≡ w.classes → AreOfClasses (take w.count (floats_of from l)) (floats_of from l) → IsOnWay from walk w l end → IsOnWay from walk v l end
+way-full from walk w v l end stays all same full way =
     let fs = floats_of from l in
     let taken : take v.count fs ≡ fs = ap (λ n. take n fs) all ∙ take-length fs in
-    record {
-      within = omega (arith, all);
-      classes = subst (λ s. AreClassesOf s (take v.count fs)) (sym same) (subst (AreClassesOf w.classes) (sym taken) (all-classes w.classes w.count fs way.classes full));
-      left = subst (λ s. HasLeft s fs) (sym same) way.left;
-      ends =
-          ap (λ b. walk b (drop v.count fs) l) taken ∙ ap (λ left. walk fs left l) (drop_of_length-le fs (omega (arith, all)))
-          ∙ sym (walk-closed walk l w.count fs stays full) ∙ way.ends;
-    }
+    way-passed from walk w v l end stays (omega (arith, all, way.within)) (omega (arith, all)) same (subst (AreOfClasses (take w.count fs)) (sym taken) full) way
 
 -- ---- the next float goes
 
@@ -117,13 +118,17 @@ is_deferred deferred e = refl
 pub area-stays : (p : Params) (s : Suppress) (l : FloatLists) (f : Float) (before rest : List Float) → Deferred ≡ next_place p l s before f → filled p s before (f ∷ rest) l ≡ filled p s (before ++ f ∷ []) rest l
 area-stays p s l f before rest e = ap (λ a. filled p s (still_before a f before) rest (gone_to a f before rest l)) (is_deferred (next_area_place p l s before f) e)
 
+-- one of a class that stays always stays
+pub area-closed : (p : Params) (s : Suppress) (l : FloatLists) → Stays (filled p s) l
+area-closed p s l before rest f has = area-stays p s l f before rest (entry-closed p s l f before has)
+
 pub area-kept : (p : Params) (s : Suppress) (w v : Kept) (l end : FloatLists) (f : Float) → v.count ≡ w.count + 1 → slice_get l.deferred w.count ≡ Some f → ((before : List Float) → AreClassesOf w.classes before → AreClassesOf v.classes (before ++ f ∷ [])) → ((all : List Float) → has_class f.class all ≡ true → HasLeft w.classes all → HasLeft v.classes all) → ((before : List Float) → AreClassesOf w.classes before → Deferred ≡ next_place p l s before f) → IsOnWay parts.Deferred (filled p s) w l end → IsOnWay parts.Deferred (filled p s) v l end
 area-kept p s w v l end f more there classes left stays way =
     way-stays parts.Deferred (filled p s) w v l end f more there classes left (λ before rest are. area-stays p s l f before rest (stays before are)) way
 
 pub area-full : (p : Params) (s : Suppress) (w v : Kept) (l end : FloatLists) → v.count ≡ length l.deferred → v.classes ≡ w.classes → AreOfClasses (take w.count l.deferred) l.deferred → IsOnWay parts.Deferred (filled p s) w l end → IsOnWay parts.Deferred (filled p s) v l end
 area-full p s w v l end all same full way =
-    way-full parts.Deferred (filled p s) w v l end all same full (λ before rest f has. area-stays p s l f before rest (entry-closed p s l f before has)) way
+    way-full parts.Deferred (filled p s) w v l end (area-closed p s l) all same full way
 
 pub area-goes : (p : Params) (s : Suppress) (w : Kept) (l m end : FloatLists) (f : Float) (a : AreaPlace) → ((before : List Float) → still_before a f before ≡ before) → slice_get l.deferred w.count ≡ Some f → next_area_place p l s (take w.count l.deferred) f ≡ a → m ≡ gone_to a f (take w.count l.deferred) (drop (suc w.count) l.deferred) l → IsOnWay parts.Deferred (filled p s) w l end → IsOnWay parts.Deferred (filled p s) w m end
 area-goes p s w l m end f a still there decided moved way =
@@ -199,13 +204,16 @@ is_single false e = refl
 pub double-stays : (from : Part) (p : Params) (s : Suppress) (l : FloatLists) (f : Float) (before rest : List Float) → Deferred ≡ double_place p l s before f → doubled from p s before (f ∷ rest) l ≡ doubled from p s (before ++ f ∷ []) rest l
 double-stays from p s l f before rest e = ap (λ b. doubled from p s (still_single b f before) rest (gone_double from b f before rest l)) (is_single (goes_double p l s before f) e)
 
+pub double-closes : (from : Part) (p : Params) (s : Suppress) (l : FloatLists) → Stays (doubled from p s) l
+double-closes from p s l before rest f has = double-stays from p s l f before rest (double-closed p s l f before has)
+
 pub double-kept : (from : Part) (p : Params) (s : Suppress) (w v : Kept) (l end : FloatLists) (f : Float) → v.count ≡ w.count + 1 → slice_get (floats_of from l) w.count ≡ Some f → ((before : List Float) → AreClassesOf w.classes before → AreClassesOf v.classes (before ++ f ∷ [])) → ((all : List Float) → has_class f.class all ≡ true → HasLeft w.classes all → HasLeft v.classes all) → ((before : List Float) → AreClassesOf w.classes before → Deferred ≡ double_place p l s before f) → IsOnWay from (doubled from p s) w l end → IsOnWay from (doubled from p s) v l end
 double-kept from p s w v l end f more there classes left stays way =
     way-stays from (doubled from p s) w v l end f more there classes left (λ before rest are. double-stays from p s l f before rest (stays before are)) way
 
 pub double-full : (from : Part) (p : Params) (s : Suppress) (w v : Kept) (l end : FloatLists) → v.count ≡ length (floats_of from l) → v.classes ≡ w.classes → AreOfClasses (take w.count (floats_of from l)) (floats_of from l) → IsOnWay from (doubled from p s) w l end → IsOnWay from (doubled from p s) v l end
 double-full from p s w v l end all same full way =
-    way-full from (doubled from p s) w v l end all same full (λ before rest f has. double-stays from p s l f before rest (double-closed p s l f before has)) way
+    way-full from (doubled from p s) w v l end (double-closes from p s l) all same full way
 
 pub double-goes : (from : Part) → IsWaiting from → (p : Params) (s : Suppress) (w : Kept) (l m end : FloatLists) (f : Float) → slice_get (floats_of from l) w.count ≡ Some f → goes_double p l s (take w.count (floats_of from l)) f ≡ true → m ≡ gone_double from true f (take w.count (floats_of from l)) (drop (suc w.count) (floats_of from l)) l → IsOnWay from (doubled from p s) w l end → IsOnWay from (doubled from p s) w m end
 double-goes from waits p s w l m end f there decided moved way =

@@ -4,3 +4,4 @@ pub mod LawLemmas
 pub mod DeferredWalks
 pub mod OrderLemmas
 pub mod FullLemmas
+pub mod FirstWalks

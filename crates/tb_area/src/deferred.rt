@@ -1,10 +1,11 @@
 //! The floats that wait go to the next column, or above both columns of the next page: one walk over their list, which
 //! reads until a float has a place, moves it, and goes on behind those that stay. It ends once floats of all classes stay,
-//! since no later one can go then.
+//! since no later one can go then. If it is known which floats are the first of their class, it begins with those alone.
 ghost use Rattle.std.specs.Prelude.{ℕ, ◌≡◌, ◌≢◌, ◌<◌, ◌≤◌, ◌+◌, [], ◌∷◌, ◌++◌, List, length, take, slice_get, Some, true};
 ghost use Rattle.tb_node.specs.declared.Float.{Float as PlainFloat};
 ghost use Rattle.tb_float.specs.declared.Suppress.{Suppress};
 ghost use Rattle.tb_float.specs.Classes.{AreClassesOf, HasLeft};
+ghost use Rattle.tb_float.specs.Firsts.{firsts_of};
 ghost use Rattle.tb_float.specs.Lists.{FloatLists, IsWaiting, floats_of, has_class};
 ghost use Rattle.tb_float.specs.Pool.{HasNoMarks};
 ghost use Rattle.tb_float.specs.Ranges.{AreFloatParams, IsExtent};
@@ -14,7 +15,7 @@ ghost use Rattle.tb_area.specs.Laws.{column_order, double_order};
 ghost use Rattle.tb_area.specs.DeferredWalk.{IsOnWay};
 
 use crate::areas::{double_place, next_place};
-use tb_float::{ClassSet, Part, Pool, Suppress};
+use tb_float::{ClassSet, First, Part, Pool, Suppress};
 use tb_node::{Float, Where};
 use tb_param::Params;
 
@@ -83,6 +84,11 @@ fn next_moved(pool: &Pool, p: &Params, s: &Suppress, kept: &mut Kept) -> Where
     if kept.count >= pool.len(Part::Deferred) {
         return Where::Deferred;
     }
+    if kept.count == 0 {
+        if let Some(firsts) = pool.firsts(Part::Deferred) {
+            return first_moved(pool, p, s, kept, firsts);
+        }
+    }
     for entry in pool.entries_from(Part::Deferred, kept.count) {
         let f = entry.float();
         let had = kept.classes.has(f.class);
@@ -98,6 +104,31 @@ fn next_moved(pool: &Pool, p: &Params, s: &Suppress, kept: &mut Kept) -> Where
             return Where::Deferred;
         }
     }
+    Where::Deferred
+}
+
+// As `next_moved` from the start of the list, given the floats that are the first of their class there: a later one has no
+// place while an earlier one of its class stays.
+fn first_moved(pool: &Pool, p: &Params, s: &Suppress, kept: &mut Kept, firsts: &[First]) -> Where
+    requires params { AreFloatParams p.now }
+    requires firsts { firsts.now ≡ firsts_of pool.now.lists.deferred }
+    requires start { kept.old.count ≡ 0 }
+    ensures way { (end : FloatLists) → IsOnWay Part.Deferred (filled p.now s.now) kept.old pool.now.lists end → IsOnWay Part.Deferred (filled p.now s.now) kept.new pool.now.lists end }
+    ensures within { result ≢ Where.Deferred → kept.new.count < length pool.now.lists.deferred }
+    ensures place { (end : FloatLists) (f : PlainFloat) → IsOnWay Part.Deferred (filled p.now s.now) kept.old pool.now.lists end → slice_get pool.now.lists.deferred kept.new.count ≡ Some f → result ≡ next_place p.now pool.now.lists s.now (take kept.new.count pool.now.lists.deferred) f }
+    ensures over { result ≡ Where.Deferred → length pool.now.lists.deferred ≤ kept.new.count }
+{
+    let all = pool.len(Part::Deferred);
+    for first in firsts {
+        let f = &first.float;
+        // Those between are of classes that stay.
+        kept.count = first.place;
+        match place_behind(pool, p, s, kept, f) {
+            Where::Deferred => kept.keep(f),
+            place => return place,
+        }
+    }
+    kept.count = all;
     Where::Deferred
 }
 
@@ -147,6 +178,11 @@ fn next_double(pool: &Pool, p: &Params, from: Part, kept: &mut Kept) -> Where
     if kept.count >= pool.len(from) {
         return Where::Deferred;
     }
+    if kept.count == 0 {
+        if let Some(firsts) = pool.firsts(from) {
+            return first_double(pool, p, from, kept, firsts);
+        }
+    }
     for entry in pool.entries_from(from, kept.count) {
         let f = entry.float();
         let had = kept.classes.has(f.class);
@@ -162,6 +198,31 @@ fn next_double(pool: &Pool, p: &Params, from: Part, kept: &mut Kept) -> Where
             return Where::Deferred;
         }
     }
+    Where::Deferred
+}
+
+// As `next_double` from the start of the list, given the floats that are the first of their class there.
+fn first_double(pool: &Pool, p: &Params, from: Part, kept: &mut Kept, firsts: &[First]) -> Where
+    requires params { AreFloatParams p.now }
+    requires waiting { IsWaiting from }
+    requires firsts { firsts.now ≡ firsts_of (floats_of from pool.now.lists) }
+    requires start { kept.old.count ≡ 0 }
+    ensures way { (s : Suppress) (end : FloatLists) → IsOnWay from (doubled from p.now s) kept.old pool.now.lists end → IsOnWay from (doubled from p.now s) kept.new pool.now.lists end }
+    ensures within { result ≢ Where.Deferred → kept.new.count < length (floats_of from pool.now.lists) }
+    ensures place { (s : Suppress) (end : FloatLists) (f : PlainFloat) → IsOnWay from (doubled from p.now s) kept.old pool.now.lists end → slice_get (floats_of from pool.now.lists) kept.new.count ≡ Some f → result ≡ double_place p.now pool.now.lists s (take kept.new.count (floats_of from pool.now.lists)) f }
+    ensures over { result ≡ Where.Deferred → length (floats_of from pool.now.lists) ≤ kept.new.count }
+{
+    let all = pool.len(from);
+    for first in firsts {
+        let f = &first.float;
+        // Those between are of classes that stay.
+        kept.count = first.place;
+        match double_behind(pool, p, kept, f) {
+            Where::Deferred => kept.keep(f),
+            place => return place,
+        }
+    }
+    kept.count = all;
     Where::Deferred
 }
 

@@ -22,7 +22,7 @@ loop-entry-init c =
 pub float-f-requires : goal.float-f-requires
 float-f-requires c =
     let fs = floats_of c.args.from c.args.pool.now.lists in
-    next-is_float c.in-Some.entry.now c.next.new.self (drop c.loop-entry.kept.count fs) (sym c.in-Some.ensures.steps ∙ c.loop-entry.invariant.left)
+    next-is_float c.in-Some-entry.entry.now c.next.new.self (drop c.loop-entry.kept.count fs) (sym c.in-Some-entry.ensures.steps ∙ c.loop-entry.invariant.left)
 
 pub loop-entry-preserved : goal.loop-entry-preserved
 loop-entry-preserved c =
@@ -33,7 +33,7 @@ loop-entry-preserved c =
     let w = c.loop-entry.kept in
     let v = c.keep.new.self in
     let f = c.float-f.result.now in
-    let next = next-entry fs w.count c.in-Some.entry.now c.next.new.self f (sym c.in-Some.ensures.steps ∙ c.loop-entry.invariant.left) c.float-f.ensures in
+    let next = next-entry fs w.count c.in-Some-entry.entry.now c.next.new.self f (sym c.in-Some-entry.ensures.steps ∙ c.loop-entry.invariant.left) c.float-f.ensures in
     let one : suc w.count ≡ v.count = omega (arith, c.keep.ensures.count) in
     record {
       can_next = tt;
@@ -51,7 +51,7 @@ loop-entry-preserved-then-had c =
     let w = c.loop-entry.kept in
     let v = c.keep.new.self in
     let f = c.float-f.result.now in
-    let next = next-entry fs w.count c.in-Some.entry.now c.next.new.self f (sym c.in-Some.ensures.steps ∙ c.loop-entry.invariant.left) c.float-f.ensures in
+    let next = next-entry fs w.count c.in-Some-entry.entry.now c.next.new.self f (sym c.in-Some-entry.ensures.steps ∙ c.loop-entry.invariant.left) c.float-f.ensures in
     let one : suc w.count ≡ v.count = omega (arith, c.keep.ensures.count) in
     record {
       can_next = tt;
@@ -60,19 +60,19 @@ loop-entry-preserved-then-had c =
       way = λ s end h. double-kept from p s w v l end f c.keep.ensures.count next.0 c.keep.ensures.classes c.keep.ensures.left (c.in-Deferred.ensures s) (c.loop-entry.invariant.way s end h);
     }
 
-pub returns-in_default : goal.returns-in_default
-returns-in_default c =
+pub returns-in_default-double_behind : goal.returns-in_default-double_behind
+returns-in_default-double_behind c =
     let p = c.args.p.now in
     let l = c.args.pool.now.lists in
     let fs = floats_of c.args.from l in
     let w = c.loop-entry.kept in
     let f = c.float-f.result.now in
-    let next = next-entry fs w.count c.in-Some.entry.now c.next.new.self f (sym c.in-Some.ensures.steps ∙ c.loop-entry.invariant.left) c.float-f.ensures in
+    let next = next-entry fs w.count c.in-Some-entry.entry.now c.next.new.self f (sym c.in-Some-entry.ensures.steps ∙ c.loop-entry.invariant.left) c.float-f.ensures in
     record {
       way = c.loop-entry.invariant.way;
       within = λ ne. slice_get_within fs w.count f next.0;
       place = λ s end g h got. c.double_behind.ensures s (take w.count fs) (c.loop-entry.invariant.way s end h).classes ∙ ap (double_place p l s (take w.count fs)) (same_Some f g (sym next.0 ∙ got));
-      over = λ e. absurd (c.in_default.not-Deferred e);
+      over = λ e. absurd (c.in_default-double_behind.not-Deferred e);
     }
 
 pub returns-clause-place : goal.returns-clause-place
@@ -94,7 +94,7 @@ returns-then-is_full c =
     let u = c.keep.new.self in
     let v : Kept = record u { count = c.len-kept.result } in
     let f = c.float-f.result.now in
-    let next = next-entry fs w.count c.in-Some.entry.now c.next.new.self f (sym c.in-Some.ensures.steps ∙ c.loop-entry.invariant.left) c.float-f.ensures in
+    let next = next-entry fs w.count c.in-Some-entry.entry.now c.next.new.self f (sym c.in-Some-entry.ensures.steps ∙ c.loop-entry.invariant.left) c.float-f.ensures in
     let all = c.len-kept.ensures.value ∙ waiting-count from c.requires.waiting l in
     record {
       way = λ s end h.

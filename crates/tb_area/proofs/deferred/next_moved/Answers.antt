@@ -1,6 +1,5 @@
 use Rattle.std.proofs.Common.{◌≡◌, suc, take, drop, refl, sym, ap, ◌∙◌, arith}
 use Rattle.std.proofs.lemmas.Option.{same_Some, slice_get_within}
-use Rattle.tb_float.specs.declared.Part.TheVariants as parts
 use Rattle.tb_float.specs.Lists.{float_entries}
 use Rattle.tb_float.proofs.EntryLemmas.{drop-entries, next-is_float, next-entry, no-entry}
 use Rattle.tb_area.specs.declared.deferred.Kept.{Kept}
@@ -18,14 +17,14 @@ loop-entry-init c = record {
 
 pub float-f-requires : goal.float-f-requires
 float-f-requires c =
-    next-is_float c.in-Some.entry.now c.next.new.self (drop c.loop-entry.kept.count c.args.pool.now.lists.deferred) (sym c.in-Some.ensures.steps ∙ c.loop-entry.invariant.left)
+    next-is_float c.in-Some-entry.entry.now c.next.new.self (drop c.loop-entry.kept.count c.args.pool.now.lists.deferred) (sym c.in-Some-entry.ensures.steps ∙ c.loop-entry.invariant.left)
 
 pub place_behind-requires-clause-extent : goal.place_behind-requires-clause-extent
 place_behind-requires-clause-extent c =
     let fs = c.args.pool.now.lists.deferred in
     let w = c.loop-entry.kept in
     let f = c.float-f.result.now in
-    let next = next-entry fs w.count c.in-Some.entry.now c.next.new.self f (sym c.in-Some.ensures.steps ∙ c.loop-entry.invariant.left) c.float-f.ensures in
+    let next = next-entry fs w.count c.in-Some-entry.entry.now c.next.new.self f (sym c.in-Some-entry.ensures.steps ∙ c.loop-entry.invariant.left) c.float-f.ensures in
     sized-at fs w.count f c.len.ensures.sized next.0
 
 pub loop-entry-preserved : goal.loop-entry-preserved
@@ -36,7 +35,7 @@ loop-entry-preserved c =
     let w = c.loop-entry.kept in
     let v = c.keep.new.self in
     let f = c.float-f.result.now in
-    let next = next-entry l.deferred w.count c.in-Some.entry.now c.next.new.self f (sym c.in-Some.ensures.steps ∙ c.loop-entry.invariant.left) c.float-f.ensures in
+    let next = next-entry l.deferred w.count c.in-Some-entry.entry.now c.next.new.self f (sym c.in-Some-entry.ensures.steps ∙ c.loop-entry.invariant.left) c.float-f.ensures in
     let one : suc w.count ≡ v.count = omega (arith, c.keep.ensures.count) in
     record {
       can_next = tt;
@@ -53,7 +52,7 @@ loop-entry-preserved-then-had c =
     let w = c.loop-entry.kept in
     let v = c.keep.new.self in
     let f = c.float-f.result.now in
-    let next = next-entry l.deferred w.count c.in-Some.entry.now c.next.new.self f (sym c.in-Some.ensures.steps ∙ c.loop-entry.invariant.left) c.float-f.ensures in
+    let next = next-entry l.deferred w.count c.in-Some-entry.entry.now c.next.new.self f (sym c.in-Some-entry.ensures.steps ∙ c.loop-entry.invariant.left) c.float-f.ensures in
     let one : suc w.count ≡ v.count = omega (arith, c.keep.ensures.count) in
     record {
       can_next = tt;
@@ -62,19 +61,19 @@ loop-entry-preserved-then-had c =
       way = λ end h. area-kept p s w v l end f c.keep.ensures.count next.0 c.keep.ensures.classes c.keep.ensures.left c.in-Deferred.ensures (c.loop-entry.invariant.way end h);
     }
 
-pub returns-in_default : goal.returns-in_default
-returns-in_default c =
+pub returns-in_default-place_behind : goal.returns-in_default-place_behind
+returns-in_default-place_behind c =
     let p = c.args.p.now in
     let s = c.args.s.now in
     let l = c.args.pool.now.lists in
     let w = c.loop-entry.kept in
     let f = c.float-f.result.now in
-    let next = next-entry l.deferred w.count c.in-Some.entry.now c.next.new.self f (sym c.in-Some.ensures.steps ∙ c.loop-entry.invariant.left) c.float-f.ensures in
+    let next = next-entry l.deferred w.count c.in-Some-entry.entry.now c.next.new.self f (sym c.in-Some-entry.ensures.steps ∙ c.loop-entry.invariant.left) c.float-f.ensures in
     record {
       way = c.loop-entry.invariant.way;
       within = λ ne. slice_get_within l.deferred w.count f next.0;
       place = λ end g h got. c.place_behind.ensures (take w.count l.deferred) (c.loop-entry.invariant.way end h).classes ∙ ap (next_place p l s (take w.count l.deferred)) (same_Some f g (sym next.0 ∙ got));
-      over = λ e. absurd (c.in_default.not-Deferred e);
+      over = λ e. absurd (c.in_default-place_behind.not-Deferred e);
     }
 
 pub returns-clause-place : goal.returns-clause-place
@@ -95,7 +94,7 @@ returns-then-is_full c =
     let u = c.keep.new.self in
     let v : Kept = record u { count = c.len-kept.result } in
     let f = c.float-f.result.now in
-    let next = next-entry l.deferred w.count c.in-Some.entry.now c.next.new.self f (sym c.in-Some.ensures.steps ∙ c.loop-entry.invariant.left) c.float-f.ensures in
+    let next = next-entry l.deferred w.count c.in-Some-entry.entry.now c.next.new.self f (sym c.in-Some-entry.ensures.steps ∙ c.loop-entry.invariant.left) c.float-f.ensures in
     let all = c.len-kept.ensures.value in
     record {
       way = λ end h.
