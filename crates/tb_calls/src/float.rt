@@ -135,6 +135,44 @@ fn places_are_used_again(rt: HostRuntime) -> Result<(), Fail> {
     Ok(())
 }
 
+// A float of this class goes to the deferred ones.
+fn defer(pool: &mut Pool, name: Name, class: u8) -> bool {
+    pool.take(float_of(name, class, 5)).is_ok() && move_first(pool, Part::Current, Part::Deferred)
+}
+
+// The places of the deferred floats that are the first of their class, read as digits, if they are known.
+fn first_places(pool: &Pool) -> Option<usize> {
+    let Some(firsts) = pool.firsts(Part::Deferred) else {
+        return None;
+    };
+    let mut digits = 0usize;
+    for first in firsts {
+        digits = digits.wrapping_mul(10).wrapping_add(first.place);
+    }
+    Some(digits)
+}
+
+#[test]
+fn first_floats_are_known_until_one_leaves(rt: HostRuntime) -> Result<(), Fail> {
+    let name = name_of(b"F").ok_or("name")?;
+    let mut pool = new_pool(rt.alloc(), 18)?;
+    assert!(rt; defer(&mut pool, name, 1) && defer(&mut pool, name, 1));
+    assert!(rt; defer(&mut pool, name, 2) && defer(&mut pool, name, 1));
+    assert!(rt; defer(&mut pool, name, 3));
+    assert_eq!(rt; first_places(&pool), None);
+    pool.find_firsts(Part::Deferred);
+    assert_eq!(rt; first_places(&pool), Some(24));
+    assert!(rt; defer(&mut pool, name, 2));
+    assert_eq!(rt; first_places(&pool), Some(24));
+    assert!(rt; move_first(&mut pool, Part::Deferred, Part::Top));
+    assert_eq!(rt; first_places(&pool), None);
+    pool.find_firsts(Part::Deferred);
+    assert_eq!(rt; first_places(&pool), Some(13));
+    assert!(rt; defer(&mut pool, name, 4));
+    assert_eq!(rt; first_places(&pool), None);
+    Ok(())
+}
+
 // A pool whose deferred floats have these heights, of a class each.
 fn deferred(rt: &HostRuntime, name: Name) -> Result<Pool, Fail> {
     let mut pool = new_pool(rt.alloc(), 18)?;
