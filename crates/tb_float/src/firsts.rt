@@ -1,5 +1,5 @@
 //! The floats of a list that are the first of their class there, kept until the list changes.
-ghost use Rattle.std.specs.Prelude.{◌≡◌, ◌≤◌, ◌++◌, ◌∷◌, List, [], IfOk, length};
+ghost use Rattle.std.specs.Prelude.{◌≡◌, ◌≤◌, ◌++◌, ◌∷◌, List, [], IfOk, OnOk, length};
 ghost use Rattle.tb_pool.specs.Lists.{IsLive, list_at};
 ghost use Rattle.tb_node.specs.declared.Float.{Float as FloatValue};
 ghost use Rattle.tb_float.specs.Classes.{AreClassesOf, HasLeft};
@@ -11,6 +11,9 @@ use crate::{ClassSet, Entry, Part, Slot};
 use std::alloc::{AllocError, Global};
 use tb_node::Float;
 use tb_pool::{ListId, Lists};
+
+// A class is a byte.
+const CLASSES: usize = 256;
 
 /// A float that waits, and its place in its list, counted from 0: no float of its class comes before it.
 #[derive(Clone, Copy)]
@@ -30,15 +33,15 @@ pub(crate) struct Firsts {
 }
 
 impl Firsts {
-    // They are not known.
-    pub(crate) fn unknown(alloc: Global) -> Firsts
-        ensures { (l : FloatLists) → KnowsFirsts result l }
+    // They are not known. Room for one of each class is made here.
+    pub(crate) fn unknown(alloc: Global) -> Result<Firsts, AllocError>
+        ensures { IfOk result (λ k. (l : FloatLists) → KnowsFirsts k l) }
     {
-        Firsts {
+        Ok(Firsts {
             of: None,
-            items: Vec::new(alloc),
+            items: Vec::with_capacity(alloc, CLASSES)?,
             classes: ClassSet::none(),
-        }
+        })
     }
 
     // Whether they are known of a list.
@@ -70,7 +73,7 @@ impl Firsts {
         }
     }
 
-    // Finds those of a list. If there is no memory, they are not known.
+    // Finds those of a list. If there was no room for them, they would not be known.
     pub(crate) fn find(&mut self, store: &Lists<Slot>, list: ListId, none: ClassSet, p: Part)
         requires live { IsLive store.now list }
         requires slots { AreSlotsOf p (list_at store.now list) }
@@ -100,6 +103,17 @@ fn has_class_of(classes: &ClassSet, entry: &Entry) -> bool
     }
 }
 
+// Appends a float where there is room, and takes no memory.
+fn push(items: &mut Vec<First>, first: First) -> Result<(), AllocError>
+    ensures items { OnOk result (items.new.items ≡ items.old.items ++ first ∷ []) }
+{
+    if items.len() < items.capacity() {
+        items.push_reserved(first);
+        return Ok(());
+    }
+    Err(AllocError)
+}
+
 // Appends the first floats of their class in a list, and returns the classes.
 fn push_firsts(
     items: &mut Vec<First>,
@@ -121,7 +135,7 @@ fn push_firsts(
     for slot in store.iter(list) {
         let f = slot.entry.float();
         if !classes.has(f.class) {
-            items.push(First { place, float: *f })?;
+            push(items, First { place, float: *f })?;
             classes.add(f.class);
             if classes.is_full() {
                 return Ok(classes);
