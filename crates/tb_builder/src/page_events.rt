@@ -71,6 +71,7 @@ impl Builder {
     /// [`Self::next`] would return; the places in between are tried here too, but their tries are not returned.
     ///
     /// If there is no memory, some of those places may have been tried already.
+    #[inline(always)]
     pub fn next_without_tries(
         &mut self,
         store: &mut Lists<Node>,

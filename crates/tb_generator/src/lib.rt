@@ -66,7 +66,7 @@ pub fn generate(alloc: Global, n: u32) -> Result<Galley, AllocError>
     ensures generated { IfOk result (λ g. g ≡ generated n) }
     ensures valid { IfOk result IsValid }
 {
-    let mut items = Items::new(alloc);
+    let mut items = Items::with_capacity(alloc, n as usize)?;
     let mut seed = u64::from(n);
     let mut last = box_zero();
     for k in 1..n + 1 {
@@ -315,8 +315,8 @@ fn write_led(letter: u8, k: u32, text: &mut [u8; 6]) -> usize
     start
 }
 
-// The name in these bytes. The arm without one is proved never to be reached, and it would shift by more than the width,
-// which LLVM takes as undefined: so it drops the tests of the bytes.
+// The name in these bytes. The arm without one is proved never to be reached, and it would shift by the whole width, which
+// LLVM takes as undefined: so it drops the tests of the bytes.
 #[inline(always)]
 fn sure_name(bytes: &[u8]) -> Name
     requires { is_name bytes.now ≡ true }

@@ -2,6 +2,7 @@
 ghost use Rattle.std.specs.Prelude.{◌≡◌, ◌+◌, ◌<◌, ◌^◌, ◌∷◌, [], map, true, false};
 ghost use Rattle.tb_pool.specs.Lists.{IsLive, list_at};
 ghost use Rattle.tb_node.specs.PlainNodes.{plain, matter_of};
+ghost use Rattle.tb_report.specs.RunTotals.{is_item_box, is_float_box};
 
 use crate::Totals;
 use tb_column::{Sent, Sheet};
@@ -74,22 +75,43 @@ impl Totals {
         }
     }
 
-    // Counts a box or a rule that came from an item, or the box of a float.
+    // Counts a box or a rule that came from an item, or the box of a float. The kinds are tested one by one, so that no
+    // table of jumps is made of them.
     fn count_node(&mut self, node: &Node)
         requires room { AreCounts (with_kind (plain (matter_of node.now.kind)) self.old) }
         ensures { self.new ≡ with_kind (plain (matter_of node.now.kind)) self.old }
     {
-        match &node.kind {
-            Kind::Hbox {
-                what: What::Text(_),
-                ..
-            } => self.boxes += 1,
-            Kind::Hbox {
-                what: What::Float { .. },
-                ..
-            } => self.floats += 1,
-            Kind::Rule { name: Some(_), .. } => self.boxes += 1,
-            _ => {}
+        if is_item(node) {
+            self.boxes += 1;
+        } else if is_float(node) {
+            self.floats += 1;
         }
     }
+}
+
+// Whether a node is a box or a rule that came from an item.
+fn is_item(node: &Node) -> bool
+    ensures item { result ≡ is_item_box (plain (matter_of node.now.kind)) }
+    ensures no_float { result ≡ true → is_float_box (plain (matter_of node.now.kind)) ≡ false }
+{
+    matches!(
+        node.kind,
+        Kind::Hbox {
+            what: What::Text(_),
+            ..
+        } | Kind::Rule { name: Some(_), .. }
+    )
+}
+
+// Whether a node is the box of a float.
+fn is_float(node: &Node) -> bool
+    ensures { result ≡ is_float_box (plain (matter_of node.now.kind)) }
+{
+    matches!(
+        node.kind,
+        Kind::Hbox {
+            what: What::Float { .. },
+            ..
+        }
+    )
 }

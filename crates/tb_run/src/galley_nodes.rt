@@ -428,7 +428,7 @@ fn put_with_firings(
     put_act(store, builder, line, act)?;
     put(store, builder, line, Kind::Pen(HOLD_PENALTY))?;
     put_box(store, builder, line, What::Blank, 0, 0)?;
-    put(store, builder, line, Kind::Pen(penalty))
+    put_penalty(store, builder, line, penalty)
 }
 
 // The penalty of a strength from 0 to 4 (LaTeX, \@getpen).

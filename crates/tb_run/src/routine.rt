@@ -56,6 +56,9 @@ const MOST_NODES: u64 = 600_005;
 // nodes of floats, notes, blank columns and clears.
 const ADDED_NODES: u64 = 300;
 
+// With fewer spare places the lists of a page that was written are closed: the next firing may need them.
+const FEW_PLACES: usize = 600;
+
 /// How a run ends.
 #[derive(Clone, Copy)]
 pub enum Ending {
@@ -166,6 +169,24 @@ impl Routine {
         let ending = self.serve(page)?;
         self.hand_over(happened)?;
         Ok(ending)
+    }
+
+    /// Sees that places are spare for the next turn, once what the last one sent was written: if few are, the lists of it
+    /// are closed.
+    ///
+    /// Else they stay: the nodes of the galley have been in the store since the start, and to take them out one by one
+    /// would only cost time.
+    pub fn make_room(&mut self, written: &[Happening])
+        requires ready { IsReady self.old }
+        requires lists { AreHappened self.old written.now }
+
+        ensures ready { IsReady self.new }
+        ensures state { state_of self.new ≡ state_of self.old }
+        ensures machine { self.new.machine ≡ self.old.machine }
+    {
+        if self.store.spare() < FEW_PLACES {
+            self.done_with(written);
+        }
     }
 
     /// Closes the lists of what a turn sent, once it was written: their places in the store are free then.
