@@ -1,6 +1,6 @@
 //! Nodes at the front of a list: what they are, and how they go from one list to another.
 
-ghost use Rattle.std.specs.Prelude.{option_copied, ◌≡◌, ◌<◌, ◌≤◌, ◌<ℤ◌, pos, Bool, true, false, None, IfSome, IfNone, List, ◌∷◌, slice_get, drop};
+ghost use Rattle.std.specs.Prelude.{option_copied, ◌≡◌, ◌<◌, ◌≤◌, ◌<ℤ◌, pos, Bool, true, false, None, IfSome, List, ◌∷◌, slice_get, drop};
 ghost use Rattle.tb_pool.specs.Lists.{IsLive, list_at, with_list};
 ghost use Rattle.tb_node.specs.declared.Node.{Node as NodeOf};
 ghost use Rattle.tb_node.specs.PlainNodes.{shape_of};
