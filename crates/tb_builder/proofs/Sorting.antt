@@ -6,4 +6,5 @@ pub mod GiveLemmas
 pub mod RestLemmas
 pub mod SettleLemmas
 pub mod SortLemmas
+pub mod LastLemmas
 pub mod SortingLemmas

@@ -2,6 +2,7 @@
 -- on the way.
 use Rattle.std.specs.Prelude.{◌≡◌, ◌≢◌, ◌≤◌, map, ℕ, ◌==◌, Bool, true, false, List, [], ◌∷◌, ◌++◌, length, take, drop, nat_lt, nat_le, Option, Some, None, is_some, if◌then◌else◌}
 use Rattle.std.specs.FinMap.{get}
+use Rattle.std.specs.List.{list_any}
 use Rattle.tb_pool.specs.Lists.{Lists, IsLive, list_at}
 use Rattle.tb_node.specs.declared.Node.{Node}
 use Rattle.tb_node.specs.declared.Insertion.{Insertion}
@@ -138,6 +139,10 @@ pub record SharesOut (b : Builder) (s : Lists Node) (d : Builder) (t : Lists Nod
 -- the node is an insertion
 abbrev pub is_insertion : Node → Bool
 is_insertion n = is_some (insertion_of_kind n.kind)
+
+-- one of the nodes is an insertion
+abbrev pub has_insertion : List Node → Bool
+has_insertion ns = list_any is_insertion ns
 
 -- none of the nodes is an insertion
 abbrev pub NoInsertions : List Node → Type 0

@@ -1,6 +1,6 @@
 //! Nodes at the front of a list: what they are, and how they go from one list to another.
 
-ghost use Rattle.std.specs.Prelude.{option_copied, ◌≡◌, ◌<◌, ◌≤◌, ◌<ℤ◌, pos, Bool, true, false, None, IfSome, IfNone, List, ◌∷◌, slice_get, drop};
+ghost use Rattle.std.specs.Prelude.{option_copied, ◌≡◌, ◌<◌, ◌≤◌, ◌<ℤ◌, pos, Bool, true, false, None, IfSome, List, ◌∷◌, slice_get, drop};
 ghost use Rattle.tb_pool.specs.Lists.{IsLive, list_at, with_list};
 ghost use Rattle.tb_node.specs.declared.Node.{Node as NodeOf};
 ghost use Rattle.tb_node.specs.PlainNodes.{shape_of};
@@ -11,7 +11,7 @@ ghost use Rattle.tb_builder.specs.Courses.{is_act, nodes_glue_first};
 ghost use Rattle.tb_node.specs.Shape.{glue};
 ghost use Rattle.tb_builder.specs.declared.Seen.TheVariants.{Space};
 ghost use Rattle.tb_builder.specs.PageWalks.{seen_of};
-ghost use Rattle.tb_builder.specs.Firing.{is_insertion, NoInsertions, InsertionAt};
+ghost use Rattle.tb_builder.specs.Firing.{is_insertion, has_insertion, InsertionAt};
 
 use crate::Seen;
 use tb_break::{is_glue, place_penalty};
@@ -33,22 +33,27 @@ fn is_insertion(n: &Node) -> bool
     matches!(n.kind, Kind::Ins(_))
 }
 
-/// The place of the first insertion of a list.
+/// The place of the first insertion of a list that has one.
+///
+/// The walk does not test for the end of the list: what comes after it is proved never to be reached, and it shifts by
+/// the whole width, which LLVM takes as undefined.
 #[inline(never)]
-pub fn insertion_place(store: &Lists<Node>, l: ListId) -> Option<usize>
-    requires { IsLive store.now l }
-    ensures some { IfSome result (λ k. InsertionAt (list_at store.now l) k) }
-    ensures none { IfNone result (NoInsertions (list_at store.now l)) }
+pub fn insertion_place(store: &Lists<Node>, l: ListId) -> usize
+    requires live { IsLive store.now l }
+    requires some { has_insertion (list_at store.now l) ≡ true }
+    ensures { InsertionAt (list_at store.now l) result }
 {
     let count = store.len(l);
     let mut left = count;
     for n in store.iter(l) {
         if is_insertion(n) {
-            return Some(count - left);
+            return count - left;
         }
         left -= 1;
     }
-    None
+    let mut never = [0u8; 1];
+    never[1 << usize::BITS] = 1;
+    unreachable!()
 }
 
 /// Whether a node is neither an act nor an insertion, nor a kern, whose place depends on the nodes after it.

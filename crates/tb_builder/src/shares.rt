@@ -237,14 +237,19 @@ impl Builder {
             → Sorted z (contents_of self.old store.old).boxes (contents_of self.old store.old).page (contents_of self.new store.new) (plain_list store.new body) (contents_of self.old store.old).page }
         ensures empty { list_at store.new self.old.page ≡ [] }
     {
-        if !self.course.account.has_insertion() {
+        let Some(last) = self.course.account.last_insertion() else {
             store.append(body, self.page);
             return;
-        }
-        let count = store.len(self.page);
-        'insertions: while let Some(ahead) = insertion_place(store, self.page) {
+        };
+        // What is sorted is no more than the page has, and so can be counted.
+        let _count = store.len(self.page);
+        let mut sorted = 0;
+        'insertions: while sorted <= last {
+            let ahead = insertion_place(store, self.page);
             self.sort_run(store, body, ahead);
-            self.sort_first(store, count - store.len(self.page));
+            sorted += ahead;
+            self.sort_first(store, sorted);
+            sorted += 1;
         }
         store.append(body, self.page);
     }

@@ -38,8 +38,8 @@ marked_here a z page marked h = record {
   entries = λ k lt. marked_entry (entry_of a k) z a.newest a.mark (labelled z page) (labelled z marked) k (h.entries k lt);
   newest = h.newest;
   mark = λ i r. r;
-  has_newest = h.has_newest;
-  has_mark = h.has_newest;
+  newest_is = h.newest_is;
+  mark_is = h.newest_is;
 }
 
 reached : (i : ℕ) → nat_le i i ≡ true

@@ -1,7 +1,6 @@
 -- What an account keeps of a class and of a page.
 use Rattle.std.specs.Prelude.{◌≡◌, ℕ, ℤ, pos, ◌<◌, ◌+ℤ◌, ◌-ℤ◌, ◌==◌, Bool, true, false, ◌&&◌, List, [], ◌∷◌, map, length, Option, None, Some, nat_lt, nat_le, int_le, ◌||◌, slice_index_or, if◌then◌else◌}
 use Rattle.std.specs.List.{list_any}
-use Rattle.std.specs.Option.{is_some}
 use Rattle.tb_node.specs.PlainNodes.{Inserted, PlainNode, node_shape}
 use Rattle.tb_node.specs.Sums.{sums_of}
 use Rattle.tb_node.specs.declared.Sums.{Sums}
@@ -85,10 +84,10 @@ abbrev pub cut_up_to : Option ℕ → Option (ℕ × ℕ) → Option (ℕ × ℕ
 cut_up_to mark None = None
 cut_up_to mark (Some c) = if reaches mark c.0 then Some c else None
 
--- there is an insertion
-abbrev pub has_insertion : List Labelled → Bool
-has_insertion [] = false
-has_insertion (l ∷ ls) = true
+-- the place of the last of these insertions
+abbrev pub last_place : List Labelled → Option ℕ
+last_place [] = None
+last_place (l ∷ ls) = or_else (last_place ls) (Some l.index)
 
 -- the place, if there is one, is at most that of the newest
 abbrev pub IsUpTo : Option ℕ → Option ℕ → Type 0
@@ -128,8 +127,8 @@ pub record IsAccountOf (a : Account) (z : Frozen) (page marked : List PlainNode)
   pub entries : (k : ℕ) → k < 255 → EntryStands (entry_of a k) z a.newest a.mark (labelled z page) (labelled z marked) k
   pub newest : (i : ℕ) → reaches a.newest i ≡ true → i < length page
   pub mark : (i : ℕ) → reaches a.mark i ≡ true → reaches a.newest i ≡ true
-  pub has_newest : is_some a.newest ≡ has_insertion (labelled z page)
-  pub has_mark : is_some a.mark ≡ has_insertion (labelled z marked)
+  pub newest_is : a.newest ≡ last_place (labelled z page)
+  pub mark_is : a.mark ≡ last_place (labelled z marked)
 
 -- the goal and the penalties that an account has
 abbrev pub goal_of : Account → ℤ

@@ -1,9 +1,18 @@
 -- The search for the first insertion of a list.
 use Rattle.std.proofs.Common.{◌≡◌, refl, sym, subst, ◌∙◌, ap, ℕ, ◌-◌, ◌≤◌, ◌<◌, false, true, List, [], ◌∷◌, ◌++◌, length, take, drop, append_assoc, append-nil, length-append, arith}
-use Rattle.std.proofs.lemmas.Bool.{true≢false}
+use Rattle.std.specs.Prelude.{◌||◌}
+use Rattle.std.proofs.lemmas.Bool.{true≢false, or_parts}
 use Rattle.std.proofs.Math.Seq.{take-append_seam, drop-append_seam}
 use Rattle.tb_node.specs.declared.Node.{Node}
-use Rattle.tb_builder.specs.Firing.{is_insertion, NoInsertions, begins_with_insertion, InsertionAt}
+use Rattle.tb_builder.specs.Firing.{is_insertion, has_insertion, NoInsertions, begins_with_insertion, InsertionAt}
+
+pub none_has : (ns : List Node) → has_insertion ns ≡ false → NoInsertions ns
+none_has [] h = tt
+none_has (n ∷ ns) h = let parts = or_parts (is_insertion n) (has_insertion ns) h in (parts.0, none_has ns parts.1)
+
+has_none : (ns : List Node) → NoInsertions ns → has_insertion ns ≡ false
+has_none [] h = refl
+has_none (n ∷ ns) h = ap (λ b. b || has_insertion ns) h.0 ∙ has_none ns h.1
 
 -- this many nodes are left, and none before them is an insertion
 pub record Looking (ns rest : List Node) (left : ℕ) : Type 0 where
@@ -41,8 +50,10 @@ module _ (ns : List Node) (n : Node) (rest : List Node) (left : ℕ) (h : Lookin
     first = e;
   }
 
-pub looking_none : (ns : List Node) (left : ℕ) → Looking ns [] left → NoInsertions ns
-looking_none ns left h = subst NoInsertions (sym (h.parts ∙ append-nil h.ahead)) h.plain
+-- a list that has an insertion does not end without one
+pub looking_ends : (ns rest : List Node) (left : ℕ) → Looking ns rest left → rest ≡ [] → has_insertion ns ≡ true → ⊥
+looking_ends ns rest left h e some =
+    true≢false (sym some ∙ has_none ns (subst NoInsertions (sym (h.parts ∙ ap (λ ms. h.ahead ++ ms) e ∙ append-nil h.ahead)) h.plain))
 
 -- facts about the first insertion
 module _ (ns : List Node) (place : ℕ) (h : InsertionAt ns place) where

@@ -19,8 +19,8 @@ use Rattle.tb_node.specs.SmallAmounts.{IsAmount}
 use Rattle.tb_node.specs.PlainNodes.{leaf_shape, node_shape, Inserted, inserted_of, PlainKind, plain, ins, act, PlainNode, plain_of, on_line, is_insertion_kind, without_insertions, plain_list}
 use Rattle.tb_node.specs.Roles.{insertion_of_kind}
 use Rattle.tb_insert.specs.declared.Class.{Class}
-use Rattle.tb_insert.specs.Account.{ClassBox, class_box, insertions, goal_after, class_height, skip_shapes, met_classes, scaled_by, clamped, unscaled_room, has_split, Frozen, Label, whole, split, late, Labelled, label_of, labelled, labelled_from, labelled_with}
-use Rattle.tb_insert.specs.AccountEntries.{cut_in, last_let_in, has_insertion}
+use Rattle.tb_insert.specs.Account.{ClassBox, class_box, insertions, goal_after, class_height, skip_shapes, met_classes, scaled_by, clamped, unscaled_room, has_split, Frozen, Label, whole, split, late, Labelled, label_of, labelled, labelled_with}
+use Rattle.tb_insert.specs.AccountEntries.{cut_in, last_let_in}
 use Rattle.tb_insert.proofs.AccountLemmas.{leaf_shapes, labelled-append}
 use Rattle.tb_builder.specs.declared.Share.{Share}
 use Rattle.tb_builder.specs.declared.Share.TheVariants.{All, Front}
@@ -184,7 +184,7 @@ module _ (b d : Builder) (s t : Lists Node) (n : Node) (i : Insertion) (share : 
 
 -- ---- a node that is no insertion goes to the body
 
-plain_labels : (z : Frozen) (ls : List Labelled) (before : List PlainNode) (line : ℕ) (k : PlainKind) → is_insertion_kind k ≡ false → labelled_with z ls before line k ≡ ls
+pub plain_labels : (z : Frozen) (ls : List Labelled) (before : List PlainNode) (line : ℕ) (k : PlainKind) → is_insertion_kind k ≡ false → labelled_with z ls before line k ≡ ls
 plain_labels z ls before line (plain m) e = refl
 plain_labels z ls before line (ins i) e = absurd (true≢false e)
 plain_labels z ls before line (act a) e = refl
@@ -204,35 +204,13 @@ without-none held (n ∷ ns) h =
     ap (λ t. if t then plain_of held n ∷ without_insertions (map (plain_of held) ns) else without_insertions (map (plain_of held) ns)) (ap not (no_insertion held n.kind (none_there (insertion_of_kind n.kind) h.0)))
     ∙ ap (λ ms. plain_of held n ∷ ms) (without-none held ns h.1)
 
-labels-none : (z : Frozen) (held : ℕ → List Node) (before : List PlainNode) (ns : List Node) → NoInsertions ns → labelled z (before ++ map (plain_of held) ns) ≡ labelled z before
+pub labels-none : (z : Frozen) (held : ℕ → List Node) (before : List PlainNode) (ns : List Node) → NoInsertions ns → labelled z (before ++ map (plain_of held) ns) ≡ labelled z before
 labels-none z held before [] h = ap (labelled z) (append-nil before)
 labels-none z held before (n ∷ ns) h =
     let m : PlainNode = plain_of held n in
     ap (labelled z) (sym (append_assoc before (m ∷ []) (map (plain_of held) ns)))
     ∙ labels-none z held (before ++ m ∷ []) ns h.1
     ∙ labelled-append z before m ∙ plain_labels z (labelled z before) before n.line m.kind (no_insertion held n.kind (none_there (insertion_of_kind n.kind) h.0))
-
--- once there is a label, there is one later
-labels_stay : (z : Frozen) (l : Labelled) (ls : List Labelled) (before ns : List PlainNode) → has_insertion (labelled_from z (l ∷ ls) before ns) ≡ true
-labels_stay z l ls before [] = refl
-labels_stay z l ls before (n ∷ ns) = by_kind n.kind (λ ms. labels_stay z l ms (before ++ n ∷ []) ns)
-  where
-    by_kind : (k : PlainKind) → ((ms : List Labelled) → has_insertion (labelled_from z (l ∷ ms) (before ++ n ∷ []) ns) ≡ true) → has_insertion (labelled_from z (labelled_with z (l ∷ ls) before n.line k) (before ++ n ∷ []) ns) ≡ true
-    by_kind (plain m) later = later ls
-    by_kind (ins i) later = later (ls ++ record { index = length before; line = n.line; inserted = i; label = label_of z (l ∷ ls) before i } ∷ [])
-    by_kind (act a) later = later ls
-
--- if no node has a label, none is an insertion
-pub none_labelled : (z : Frozen) (held : ℕ → List Node) (before : List PlainNode) (ns : List Node) → has_insertion (labelled_from z [] before (map (plain_of held) ns)) ≡ false → NoInsertions ns
-none_labelled z held before [] h = tt
-none_labelled z held before (n ∷ ns) h = by_insertion (insertion_of_kind n.kind) refl (none_labelled z held (before ++ plain_of held n ∷ []) ns)
-  where
-    by_insertion : (o : Option Insertion) → insertion_of_kind n.kind ≡ o → (has_insertion (labelled_from z [] (before ++ plain_of held n ∷ []) (map (plain_of held) ns)) ≡ false → NoInsertions ns) → NoInsertions (n ∷ ns)
-    by_insertion None e later =
-        (ap is_some e, later (ap (λ ls. has_insertion (labelled_from z ls (before ++ plain_of held n ∷ []) (map (plain_of held) ns))) (sym (plain_labels z [] before n.line (plain_of held n).kind (no_insertion held n.kind e))) ∙ h))
-    by_insertion (Some i) e later =
-        absurd (true≢false (sym (labels_stay z (record { index = length before; line = n.line; inserted = inserted_of held i; label = label_of z [] before (inserted_of held i) }) [] (before ++ plain_of held n ∷ []) (map (plain_of held) ns))
-        ∙ ap (λ (p : PlainNode). has_insertion (labelled_from z (labelled_with z [] before n.line p.kind) (before ++ plain_of held n ∷ []) (map (plain_of held) ns))) (sym (plain_insertion held n i e)) ∙ h))
 
 -- a list that begins with an insertion is not empty
 pub never_empty : (ns : List Node) → ns ≡ [] → begins_with_insertion ns ≡ true → ⊥

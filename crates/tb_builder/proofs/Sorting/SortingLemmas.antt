@@ -1,6 +1,7 @@
 -- The page that fires is sorted from its front: what holds after some of its nodes.
-use Rattle.std.proofs.Common.{◌≡◌, refl, sym, subst, ◌∙◌, ap, ℕ, zero, suc, ◌+◌, ◌-◌, ◌<◌, ◌≤◌, List, [], ◌∷◌, ◌++◌, map, length, take, drop, append_assoc, append-nil, Bool, false, arith}
+use Rattle.std.proofs.Common.{◌≡◌, refl, sym, subst, ◌∙◌, ap, ℕ, zero, suc, ◌+◌, ◌<◌, ◌≤◌, List, [], ◌∷◌, ◌++◌, map, length, take, drop, append_assoc, append-nil, true, false, Option, Some, None, arith}
 use Rattle.std.specs.FinMap.{insert}
+use Rattle.std.proofs.lemmas.Bool.Decides.{nat_tests}
 use Rattle.std.proofs.lemmas.List.{map-id, length-map, nil_from_length, length-take-le, length-drop}
 use Rattle.std.proofs.Math.Seq.{take-length}
 use Rattle.tb_pool.specs.Lists.{Lists, IsLive, list_at, with_list}
@@ -8,15 +9,16 @@ use Rattle.tb_pool.proofs.MapLemmas.{insert_twice_from_get}
 use Rattle.tb_node.specs.declared.Node.{Node}
 use Rattle.tb_node.specs.PlainNodes.{PlainNode, plain_of, plain_list}
 use Rattle.tb_insert.specs.Account.{Frozen, labelled}
-use Rattle.tb_insert.specs.AccountEntries.{IsAccountOf, has_insertion}
+use Rattle.tb_insert.specs.AccountEntries.{IsAccountOf, last_place, reaches}
 use Rattle.tb_builder.specs.declared.Builder.{Builder}
 use Rattle.tb_builder.specs.Ownership.{Lacks, inner_ids, ids_of, owned, IsOwned}
 use Rattle.tb_builder.specs.FiredPages.{Boxed}
 use Rattle.tb_builder.specs.Contents.{contents_of}
-use Rattle.tb_builder.specs.Firing.{SortsTo, Sorted, IsMarkedAt, EachFits, NoInsertions, InsertionAt, IsBody}
+use Rattle.tb_builder.specs.Firing.{SortsTo, Sorted, IsMarkedAt, EachFits, NoInsertions, has_insertion, InsertionAt, IsBody}
 use Rattle.tb_builder.proofs.Ownership.StoreMoves.{Got, got_two}
 use Rattle.tb_builder.proofs.Sorting.PlaceLemmas.{place_within}
-use Rattle.tb_builder.proofs.Sorting.SortLemmas.{none_labelled, run_sorts, run_left, run_sorted}
+use Rattle.tb_builder.proofs.Sorting.SortLemmas.{run_sorts, run_left, run_sorted}
+use Rattle.tb_builder.proofs.Sorting.LastLemmas.{none_behind, some_ahead}
 
 -- this many nodes were sorted, since the builder was b in the store s
 pub record Sorting (b : Builder) (s : Lists Node) (d : Builder) (t : Lists Node) (body : ℕ) : Type 0 where
@@ -77,6 +79,10 @@ module _ (b d : Builder) (s t : Lists Node) (body : ℕ) (h : Sorting b s d t bo
   pub page_left : length (list_at t d.page) + h.index ≡ length (list_at s b.page)
   page_left = ap (λ x. length (list_at t x) + h.index) page_id ∙ h.left
 
+  -- so many nodes went, if they and those of the page are all
+  pub index_by : (done count : ℕ) → count ≡ length (list_at s b.page) → length (list_at t d.page) + done ≡ count → done ≡ h.index
+  index_by done count all e = omega (arith, all, e, page_left)
+
   length_all : length page_all ≡ length (list_at s b.page)
   length_all = length-map (list_at s b.page) (plain_of (list_at s))
 
@@ -109,6 +115,29 @@ module _ (b d : Builder) (s t : Lists Node) (body : ℕ) (h : Sorting b s d t bo
     pub still_fits : EachFits page_all → EachFits (contents_of d t).page
     still_fits fit before n rest e = fit (take h.index page_all ++ before) n rest (append_assoc (take h.index page_all) before (n ∷ rest) ∙ ap (λ ps. take h.index page_all ++ ps) e ∙ whole)
 
+    -- the place of the account's last insertion, and how many nodes went, tell whether one is left
+    module _ (o : Option ℕ) (told : (z : Frozen) (page marked : List PlainNode) → IsAccountOf b.course.account z page marked → o ≡ last_place (labelled z marked)) where
+      reaches_is : (done : ℕ) → done ≡ h.index → reaches o done ≡ reaches (last_place (labelled marked.z (take h.index page_all ++ (contents_of d t).page))) (length (take h.index page_all))
+      reaches_is done so = λ j. reaches ((told marked.z marked.page page_all stands ∙ ap (λ ps. last_place (labelled marked.z ps)) (sym whole)) j) ((so ∙ index_taken) j)
+
+      none_later : (done : ℕ) → done ≡ h.index → reaches o done ≡ false → NoInsertions (list_at t d.page)
+      none_later done so over = none_behind marked.z (list_at t) (take h.index page_all) (list_at t d.page) (sym (reaches_is done so) ∙ over)
+
+      pub no_insertion_there : o ≡ None → NoInsertions (list_at t d.page)
+      no_insertion_there e = none_later h.index refl (ap (λ x. reaches x h.index) e)
+
+      pub none_remains : (last done : ℕ) → o ≡ Some last → done ≡ h.index → last < done → NoInsertions (list_at t d.page)
+      none_remains last done e so over = none_later done so (ap (λ x. reaches x done) e ∙ not_up_to)
+        where
+          not_up_to : reaches (Some last) done ≡ false
+          not_up_to = grind (arith, nat_tests)
+
+      pub some_remains : (last done : ℕ) → o ≡ Some last → done ≡ h.index → done ≤ last → has_insertion (list_at t d.page) ≡ true
+      some_remains last done e so within = some_ahead marked.z (list_at t) (take h.index page_all) (list_at t d.page) (sym (reaches_is done so) ∙ ap (λ x. reaches x done) e ∙ up_to)
+        where
+          up_to : reaches (Some last) done ≡ true
+          up_to = grind (arith, nat_tests)
+
   -- this many more nodes were sorted
   module _ (e : Builder) (u : Lists Node) (more : ℕ) (step : SortsTo d t e u body) (left : length (list_at u d.page) + more ≡ length (list_at t d.page)) (spare : t.spare ≤ u.spare)
       (sorted : (z : Frozen) (page marked before : List PlainNode) (boxes : List Boxed) → IsAccountOf d.course.account z page marked → h.index ≡ length before
@@ -138,32 +167,37 @@ module _ (b d : Builder) (s t : Lists Node) (body : ℕ) (h : Sorting b s d t bo
         same = omega (arith, h.left, ap length none_left, length_all)
 
 -- the nodes before the first insertion went to the body, and then the insertion goes
-module _ (b d : Builder) (s t u : Lists Node) (body place count left : ℕ) (h : Sorting b s d t body) (at : InsertionAt (list_at t d.page) place) (sorts : SortsTo d t d u body)
+module _ (b d : Builder) (s t u : Lists Node) (body place done : ℕ) (h : Sorting b s d t body) (so : done ≡ h.index) (at : InsertionAt (list_at t d.page) place) (sorts : SortsTo d t d u body)
     (sorted : (z : Frozen) (marked before : List PlainNode) (boxes : List Boxed) → Sorted z boxes marked (contents_of d t) (plain_list t body) before → Sorted z boxes marked (contents_of d u) (plain_list u body) (before ++ take place (contents_of d t).page))
-    (page : list_at u d.page ≡ drop place (list_at t d.page)) (spare : u.spare ≡ t.spare) (count_is : count ≡ length (list_at s b.page)) (left_is : left ≡ length (list_at u d.page)) where
+    (page : list_at u d.page ≡ drop place (list_at t d.page)) (spare : u.spare ≡ t.spare) where
   fewer : length (list_at u d.page) + place ≡ length (list_at t d.page)
   fewer = omega (arith, ap length page, length-drop place (list_at t d.page), place_within (list_at t d.page) place at)
 
   run : Sorting b s d u body
   run = sorting_next b d s t body h d u place sorts fewer (omega (arith, spare)) (λ z page marked before boxes a at was. sorted z marked before boxes was)
 
-  index_is : count - left ≡ run.index
-  index_is = omega (arith, count_is, left_is, page_left b d s u body run)
+  index_is : done + place ≡ run.index
+  index_is = omega (arith, so, fewer, page_left b d s t body h, page_left b d s u body run)
 
-  pub run_marked : IsMarkedAt b.course.account 0 (plain_list s b.page) → IsMarkedAt d.course.account (count - left) (plain_list u d.page)
+  pub run_marked : IsMarkedAt b.course.account 0 (plain_list s b.page) → IsMarkedAt d.course.account (done + place) (plain_list u d.page)
   run_marked marked = subst (λ k. IsMarkedAt d.course.account k (plain_list u d.page)) (sym index_is) (still_marked b d s u body run marked)
 
   pub run_fits : IsMarkedAt b.course.account 0 (plain_list s b.page) → EachFits (plain_list s b.page) → EachFits (plain_list u d.page)
   run_fits marked fits = still_fits b d s u body run marked fits
 
   module _ (apart : Lacks body (owned (ids_of b) s)) (e : Builder) (v : Lists Node) (went : (x : ℕ) → IsBody d u x → SortsTo d u e v x) (shorter : length (list_at v d.page) + 1 ≡ length (list_at u d.page)) (no_less : u.spare ≤ v.spare)
-      (goes : (x : ℕ) → IsBody d u x → (z : Frozen) (page marked before : List PlainNode) (boxes : List Boxed) → IsAccountOf d.course.account z page marked → count - left ≡ length before
+      (goes : (x : ℕ) → IsBody d u x → (z : Frozen) (page marked before : List PlainNode) (boxes : List Boxed) → IsAccountOf d.course.account z page marked → done + place ≡ length before
       → Sorted z boxes marked (contents_of d u) (plain_list u x) before → Sorted z boxes marked (contents_of e v) (plain_list v x) (before ++ take 1 (contents_of d u).page)) where
     run_body : IsBody d u body
     run_body = still_body b d s u body run apart
 
     pub insertion_went : Sorting b s e v body
     insertion_went = sorting_next b d s u body run e v 1 (went body run_body) shorter no_less (λ z page marked before boxes a i was. goes body run_body z page marked before boxes a (index_is ∙ i) was)
+
+    pub insertion_counted : (count : ℕ) → length (list_at t d.page) + done ≡ count → length (list_at v e.page) + (done + place + 1) ≡ count
+    insertion_counted count all =
+        let same : e.page ≡ d.page = ap (λ (x : Builder). x.page) (went body run_body).builder in
+        omega (arith, all, ap (λ x. length (list_at v x)) same, shorter, fewer)
 
     pub insertion_fewer : length (list_at v e.page) < length (list_at t d.page)
     insertion_fewer =
@@ -204,10 +238,3 @@ module _ (b d : Builder) (s t u : Lists Node) (body : ℕ) (h : Sorting b s d t 
 
   pub rest_empty : list_at u b.page ≡ []
   rest_empty = none_left b d s u body ended empty
-
--- the account has no insertion on the page
-pub none_told : (b : Builder) (s : Lists Node) (some : Bool) → IsMarkedAt b.course.account 0 (plain_list s b.page) → some ≡ false
-    → ((z : Frozen) (page marked : List PlainNode) → IsAccountOf b.course.account z page marked → some ≡ has_insertion (labelled z marked)) → NoInsertions (list_at s b.page)
-none_told b s some marked not_some told =
-    none_labelled marked.z (list_at s) [] (list_at s b.page)
-    (sym (told marked.z marked.page (plain_list s b.page) (subst (λ ps. IsAccountOf b.course.account marked.z marked.page (ps ++ plain_list s b.page)) (nil_from_length marked.before (sym marked.index_is)) marked.stands)) ∙ not_some)
