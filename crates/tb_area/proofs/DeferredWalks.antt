@@ -4,7 +4,7 @@ use Rattle.std.specs.Prelude.{if◌then◌else◌, All}
 use Rattle.std.proofs.Math.ListN.{drop_of_length-le}
 use Rattle.std.proofs.Math.Seq.{take-length}
 use Rattle.std.proofs.lemmas.List.{length-append, length-take-le}
-use Rattle.std.proofs.lemmas.Option.{slice_get_within, get_or_from_slice_get}
+use Rattle.std.proofs.lemmas.Option.{same_Some, slice_get_within, get_or_from_slice_get}
 use Rattle.tb_node.specs.declared.Float.{Float}
 use Rattle.tb_node.specs.declared.Where.{Where}
 use Rattle.tb_node.specs.declared.Where.TheVariants.{Top, Bottom, Double, Deferred}
@@ -20,7 +20,7 @@ use Rattle.tb_float.proofs.ListLemmas.{slice_get-drop, without_place-parts, leng
 use Rattle.tb_area.specs.declared.deferred.Kept.{Kept}
 use Rattle.tb_area.specs.Area.{AreaPlace, at_top, at_bottom, deferred, where_of, next_area_place, next_place, goes_double, double_place}
 use Rattle.tb_area.specs.Deferred.{gone_to, still_before, filled, gone_double, still_single, doubled}
-use Rattle.tb_area.specs.DeferredWalk.{IsOnWay}
+use Rattle.tb_area.specs.DeferredWalk.{IsOnWay, GoesOn, FindsNext}
 use Rattle.tb_area.proofs.OrderLemmas.{gone-deferred, gone_double-waiting}
 use Rattle.tb_float.proofs.HasLemmas.{has-there}
 use Rattle.tb_area.proofs.FullLemmas.{Walk, Stays, left-without, all-classes, walk-passed, entry-closed, double-closed}
@@ -40,6 +40,28 @@ pub way-over : (from : Part) (walk : Walk) (w : Kept) (l end : FloatLists) → (
 way-over from walk w l end stops over way =
     let fs = floats_of from l in
     sym (stops (take w.count fs) l) ∙ ap (λ left. walk (take w.count fs) left l) (sym (drop_of_length-le fs over)) ∙ way.ends
+
+-- ---- what it finds
+
+-- the float where it has come has a place
+pub finds-place : (from : Part) (walk : Walk) (place_of : List Float → Float → Where) (l : FloatLists) (u w : Kept) (f : Float) (found : Where) → GoesOn from walk l u w → slice_get (floats_of from l) w.count ≡ Some f → found ≢ Deferred → ((before : List Float) → AreClassesOf w.classes before → found ≡ place_of before f) → FindsNext from walk place_of l u w found
+finds-place from walk place_of l u w f found way there goes is =
+    let before = take w.count (floats_of from l) in
+    record {
+      way = way;
+      within = λ ne. slice_get_within (floats_of from l) w.count f there;
+      place = λ end g h got. is before (way end h).classes ∙ ap (place_of before) (same_Some f g (sym there ∙ got));
+      over = λ e. absurd (goes e);
+    }
+
+-- none is left
+pub finds-none : (from : Part) (walk : Walk) (place_of : List Float → Float → Where) (l : FloatLists) (u w : Kept) → GoesOn from walk l u w → length (floats_of from l) ≤ w.count → FindsNext from walk place_of l u w Deferred
+finds-none from walk place_of l u w way past = record {
+  way = way;
+  within = λ ne. absurd (ne refl);
+  place = λ end f h got. absurd (omega (arith, past, slice_get_within (floats_of from l) w.count f got));
+  over = λ e. past;
+}
 
 -- ---- the next float stays
 
