@@ -65,8 +65,8 @@ finds-none from walk place_of l u w way past = record {
 
 -- ---- the next float stays
 
-pub way-stays : (from : Part) (walk : Walk) (w v : Kept) (l end : FloatLists) (f : Float) → v.count ≡ w.count + 1 → slice_get (floats_of from l) w.count ≡ Some f → ((before : List Float) → AreClassesOf w.classes before → AreClassesOf v.classes (before ++ f ∷ [])) → ((all : List Float) → has_class f.class all ≡ true → HasLeft w.classes all → HasLeft v.classes all) → ((before rest : List Float) → AreClassesOf w.classes before → walk before (f ∷ rest) l ≡ walk (before ++ f ∷ []) rest l) → IsOnWay from walk w l end → IsOnWay from walk v l end
-way-stays from walk w v l end f more there classes left stays way =
+pub way-stays : (from : Part) (walk : Walk) (w v : Kept) (l : FloatLists) (f : Float) → v.count ≡ w.count + 1 → slice_get (floats_of from l) w.count ≡ Some f → ((before : List Float) → AreClassesOf w.classes before → AreClassesOf v.classes (before ++ f ∷ [])) → ((all : List Float) → has_class f.class all ≡ true → HasLeft w.classes all → HasLeft v.classes all) → ((before rest : List Float) → AreClassesOf w.classes before → walk before (f ∷ rest) l ≡ walk (before ++ f ∷ []) rest l) → GoesOn from walk l w v
+way-stays from walk w v l f more there classes left stays end way =
     let fs = floats_of from l in
     let k = w.count in
     let at : v.count ≡ suc k = omega (arith, more) in
@@ -82,8 +82,8 @@ way-stays from walk w v l end f more there classes left stays way =
 -- ---- those of classes that stay
 
 -- if one of a class that stays always stays, those up to a later place stay where no other class is between
-pub way-passed : (from : Part) (walk : Walk) (w v : Kept) (l end : FloatLists) → Stays walk l → w.count ≤ v.count → v.count ≤ length (floats_of from l) → v.classes ≡ w.classes → AreOfClasses (take w.count (floats_of from l)) (take v.count (floats_of from l)) → IsOnWay from walk w l end → IsOnWay from walk v l end
-way-passed from walk w v l end stays later within same passed way =
+pub way-passed : (from : Part) (walk : Walk) (w v : Kept) (l : FloatLists) → Stays walk l → w.count ≤ v.count → v.count ≤ length (floats_of from l) → v.classes ≡ w.classes → AreOfClasses (take w.count (floats_of from l)) (take v.count (floats_of from l)) → GoesOn from walk l w v
+way-passed from walk w v l stays later within same passed end way =
     let fs = floats_of from l in
     record {
       within = within;
@@ -92,12 +92,14 @@ way-passed from walk w v l end stays later within same passed way =
       ends = sym (walk-passed walk l w.count v.count fs later stays passed) ∙ way.ends;
     }
 
--- if each float is of such a class, all others stay
-way-full : (from : Part) (walk : Walk) (w v : Kept) (l end : FloatLists) → Stays walk l → v.count ≡ length (floats_of from l) → v.classes ≡ w.classes → AreOfClasses (take w.count (floats_of from l)) (floats_of from l) → IsOnWay from walk w l end → IsOnWay from walk v l end
-way-full from walk w v l end stays all same full way =
+-- if each float is of such a class, none is left
+pub finds-full : (from : Part) (walk : Walk) (place_of : List Float → Float → Where) (l : FloatLists) (u w : Kept) (n : ℕ) → Stays walk l → n ≡ length (floats_of from l) → GoesOn from walk l u w → ((end : FloatLists) → IsOnWay from walk w l end → AreOfClasses (take w.count (floats_of from l)) (floats_of from l)) → FindsNext from walk place_of l u (record w { count = n }) Deferred
+finds-full from walk place_of l u w n stays all way full =
     let fs = floats_of from l in
-    let taken : take v.count fs ≡ fs = ap (λ n. take n fs) all ∙ take-length fs in
-    way-passed from walk w v l end stays (omega (arith, all, way.within)) (omega (arith, all)) same (subst (AreOfClasses (take w.count fs)) (sym taken) full) way
+    let v : Kept = record w { count = n } in
+    let taken : take n fs ≡ fs = ap (λ k. take k fs) all ∙ take-length fs in
+    let to_end : GoesOn from walk l w v = λ end h. way-passed from walk w v l stays (omega (arith, all, h.within)) (omega (arith, all)) refl (subst (AreOfClasses (take w.count fs)) (sym taken) (full end h)) end h in
+    finds-none from walk place_of l u v (λ end h. to_end end (way end h)) (omega (arith, all))
 
 -- ---- the next float goes
 
@@ -144,13 +146,9 @@ area-stays p s l f before rest e = ap (λ a. filled p s (still_before a f before
 pub area-closed : (p : Params) (s : Suppress) (l : FloatLists) → Stays (filled p s) l
 area-closed p s l before rest f has = area-stays p s l f before rest (entry-closed p s l f before has)
 
-pub area-kept : (p : Params) (s : Suppress) (w v : Kept) (l end : FloatLists) (f : Float) → v.count ≡ w.count + 1 → slice_get l.deferred w.count ≡ Some f → ((before : List Float) → AreClassesOf w.classes before → AreClassesOf v.classes (before ++ f ∷ [])) → ((all : List Float) → has_class f.class all ≡ true → HasLeft w.classes all → HasLeft v.classes all) → ((before : List Float) → AreClassesOf w.classes before → Deferred ≡ next_place p l s before f) → IsOnWay parts.Deferred (filled p s) w l end → IsOnWay parts.Deferred (filled p s) v l end
-area-kept p s w v l end f more there classes left stays way =
-    way-stays parts.Deferred (filled p s) w v l end f more there classes left (λ before rest are. area-stays p s l f before rest (stays before are)) way
-
-pub area-full : (p : Params) (s : Suppress) (w v : Kept) (l end : FloatLists) → v.count ≡ length l.deferred → v.classes ≡ w.classes → AreOfClasses (take w.count l.deferred) l.deferred → IsOnWay parts.Deferred (filled p s) w l end → IsOnWay parts.Deferred (filled p s) v l end
-area-full p s w v l end all same full way =
-    way-full parts.Deferred (filled p s) w v l end (area-closed p s l) all same full way
+pub area-kept : (p : Params) (s : Suppress) (w v : Kept) (l : FloatLists) (f : Float) → v.count ≡ w.count + 1 → slice_get l.deferred w.count ≡ Some f → ((before : List Float) → AreClassesOf w.classes before → AreClassesOf v.classes (before ++ f ∷ [])) → ((all : List Float) → has_class f.class all ≡ true → HasLeft w.classes all → HasLeft v.classes all) → ((before : List Float) → AreClassesOf w.classes before → Deferred ≡ next_place p l s before f) → GoesOn parts.Deferred (filled p s) l w v
+area-kept p s w v l f more there classes left stays =
+    way-stays parts.Deferred (filled p s) w v l f more there classes left (λ before rest are. area-stays p s l f before rest (stays before are))
 
 pub area-goes : (p : Params) (s : Suppress) (w : Kept) (l m end : FloatLists) (f : Float) (a : AreaPlace) → ((before : List Float) → still_before a f before ≡ before) → slice_get l.deferred w.count ≡ Some f → next_area_place p l s (take w.count l.deferred) f ≡ a → m ≡ gone_to a f (take w.count l.deferred) (drop (suc w.count) l.deferred) l → IsOnWay parts.Deferred (filled p s) w l end → IsOnWay parts.Deferred (filled p s) w m end
 area-goes p s w l m end f a still there decided moved way =
@@ -229,13 +227,9 @@ double-stays from p s l f before rest e = ap (λ b. doubled from p s (still_sing
 pub double-closes : (from : Part) (p : Params) (s : Suppress) (l : FloatLists) → Stays (doubled from p s) l
 double-closes from p s l before rest f has = double-stays from p s l f before rest (double-closed p s l f before has)
 
-pub double-kept : (from : Part) (p : Params) (s : Suppress) (w v : Kept) (l end : FloatLists) (f : Float) → v.count ≡ w.count + 1 → slice_get (floats_of from l) w.count ≡ Some f → ((before : List Float) → AreClassesOf w.classes before → AreClassesOf v.classes (before ++ f ∷ [])) → ((all : List Float) → has_class f.class all ≡ true → HasLeft w.classes all → HasLeft v.classes all) → ((before : List Float) → AreClassesOf w.classes before → Deferred ≡ double_place p l s before f) → IsOnWay from (doubled from p s) w l end → IsOnWay from (doubled from p s) v l end
-double-kept from p s w v l end f more there classes left stays way =
-    way-stays from (doubled from p s) w v l end f more there classes left (λ before rest are. double-stays from p s l f before rest (stays before are)) way
-
-pub double-full : (from : Part) (p : Params) (s : Suppress) (w v : Kept) (l end : FloatLists) → v.count ≡ length (floats_of from l) → v.classes ≡ w.classes → AreOfClasses (take w.count (floats_of from l)) (floats_of from l) → IsOnWay from (doubled from p s) w l end → IsOnWay from (doubled from p s) v l end
-double-full from p s w v l end all same full way =
-    way-full from (doubled from p s) w v l end (double-closes from p s l) all same full way
+pub double-kept : (from : Part) (p : Params) (s : Suppress) (w v : Kept) (l : FloatLists) (f : Float) → v.count ≡ w.count + 1 → slice_get (floats_of from l) w.count ≡ Some f → ((before : List Float) → AreClassesOf w.classes before → AreClassesOf v.classes (before ++ f ∷ [])) → ((all : List Float) → has_class f.class all ≡ true → HasLeft w.classes all → HasLeft v.classes all) → ((before : List Float) → AreClassesOf w.classes before → Deferred ≡ double_place p l s before f) → GoesOn from (doubled from p s) l w v
+double-kept from p s w v l f more there classes left stays =
+    way-stays from (doubled from p s) w v l f more there classes left (λ before rest are. double-stays from p s l f before rest (stays before are))
 
 pub double-goes : (from : Part) → IsWaiting from → (p : Params) (s : Suppress) (w : Kept) (l m end : FloatLists) (f : Float) → slice_get (floats_of from l) w.count ≡ Some f → goes_double p l s (take w.count (floats_of from l)) f ≡ true → m ≡ gone_double from true f (take w.count (floats_of from l)) (drop (suc w.count) (floats_of from l)) l → IsOnWay from (doubled from p s) w l end → IsOnWay from (doubled from p s) w m end
 double-goes from waits p s w l m end f there decided moved way =

@@ -1,4 +1,4 @@
-use Rattle.std.proofs.Common.{◌+◌, drop, refl, ◌∙◌, arith}
+use Rattle.std.proofs.Common.{◌+◌, drop, ◌∙◌, arith}
 use Rattle.std.proofs.lemmas.Option.{slice_get_within}
 use Rattle.tb_float.specs.declared.Suppress.{Suppress}
 use Rattle.tb_float.specs.Lists.{floats_of}
@@ -6,7 +6,7 @@ use Rattle.tb_float.proofs.FirstLemmas.{NextFirst}
 use Rattle.tb_float.proofs.WaitingLemmas.{waiting-count}
 use Rattle.tb_area.specs.Deferred.{doubled}
 use Rattle.tb_area.specs.DeferredWalk.{GoesOn}
-use Rattle.tb_area.proofs.DeferredWalks.{finds-place, finds-none, double-closes, double-kept, double-full}
+use Rattle.tb_area.proofs.DeferredWalks.{finds-place, finds-full, double-closes, double-kept}
 use Rattle.tb_area.proofs.FirstWalks.{behind-start, first-at, behind-next, behind-last, way-first}
 use Rattle.tb_area.proofs.deferred.first_double.Goals.{After-first-item}
 use Rattle.tb_area.proofs.deferred.first_double.Goals as goal
@@ -47,13 +47,12 @@ loop-first-preserved c =
     let next = next_is w in
     record {
       behind = behind-next c.args.firsts.now c.loop-first.first-index _ _ _ _ c.keep.ensures.count next;
-      way = λ s end h. double-kept c.args.from c.args.p.now s _ c.keep.new.self _ end c.first-item.result.float c.keep.ensures.count next.there c.keep.ensures.classes c.keep.ensures.left (c.in-Deferred.ensures s) (way_is w s end h);
+      way = λ s end h. double-kept c.args.from c.args.p.now s _ c.keep.new.self _ c.first-item.result.float c.keep.ensures.count next.there c.keep.ensures.classes c.keep.ensures.left (c.in-Deferred.ensures s) end (way_is w s end h);
     }
 
 pub returns : goal.returns
 returns c = λ s.
     let from = c.args.from in
     let l = c.args.pool.now.lists in
-    let all = c.len-all.ensures.value ∙ waiting-count from c.requires.waiting l in
-    let full = behind-last c.args.firsts.now c.loop-first.first-index (floats_of from l) c.loop-first.kept.count c.loop-first-test.false c.loop-first.invariant.behind in
-    finds-none _ _ _ _ _ _ (λ end h. double-full from c.args.p.now s c.loop-first.kept _ l end all refl full (c.loop-first.invariant.way s end h)) (omega (arith, all))
+    let w = c.loop-first.kept in
+    finds-full _ _ _ _ _ w _ (double-closes from c.args.p.now s l) (c.len-all.ensures.value ∙ waiting-count from c.requires.waiting l) (c.loop-first.invariant.way s) (λ end way. behind-last c.args.firsts.now c.loop-first.first-index (floats_of from l) w.count c.loop-first-test.false c.loop-first.invariant.behind)

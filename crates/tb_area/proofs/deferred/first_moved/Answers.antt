@@ -1,10 +1,10 @@
-use Rattle.std.proofs.Common.{◌+◌, drop, refl, arith}
+use Rattle.std.proofs.Common.{◌+◌, drop, arith}
 use Rattle.std.proofs.lemmas.Option.{slice_get_within}
 use Rattle.tb_float.specs.declared.Part.TheVariants as parts
 use Rattle.tb_float.proofs.FirstLemmas.{NextFirst}
 use Rattle.tb_area.specs.Deferred.{filled}
 use Rattle.tb_area.specs.DeferredWalk.{GoesOn}
-use Rattle.tb_area.proofs.DeferredWalks.{finds-place, finds-none, area-closed, area-kept, area-full, sized-at}
+use Rattle.tb_area.proofs.DeferredWalks.{finds-place, finds-full, area-closed, area-kept, sized-at}
 use Rattle.tb_area.proofs.FirstWalks.{behind-start, first-at, behind-next, behind-last, way-first}
 use Rattle.tb_area.proofs.deferred.first_moved.Goals.{After-first-item}
 use Rattle.tb_area.proofs.deferred.first_moved.Goals as goal
@@ -49,12 +49,11 @@ loop-first-preserved c =
     let next = next_is w in
     record {
       behind = behind-next c.args.firsts.now c.loop-first.first-index _ _ _ _ c.keep.ensures.count next;
-      way = λ end h. area-kept c.args.p.now c.args.s.now _ c.keep.new.self _ end c.first-item.result.float c.keep.ensures.count next.there c.keep.ensures.classes c.keep.ensures.left c.in-Deferred.ensures (way_is w end h);
+      way = λ end h. area-kept c.args.p.now c.args.s.now _ c.keep.new.self _ c.first-item.result.float c.keep.ensures.count next.there c.keep.ensures.classes c.keep.ensures.left c.in-Deferred.ensures end (way_is w end h);
     }
 
 pub returns : goal.returns
 returns c =
     let l = c.args.pool.now.lists in
-    let all = c.len-all.ensures.value in
-    let full = behind-last c.args.firsts.now c.loop-first.first-index l.deferred c.loop-first.kept.count c.loop-first-test.false c.loop-first.invariant.behind in
-    finds-none _ _ _ _ _ _ (λ end h. area-full c.args.p.now c.args.s.now c.loop-first.kept _ l end all refl full (c.loop-first.invariant.way end h)) (omega (arith, all))
+    let w = c.loop-first.kept in
+    finds-full _ _ _ _ _ w _ (area-closed c.args.p.now c.args.s.now l) c.len-all.ensures.value c.loop-first.invariant.way (λ end way. behind-last c.args.firsts.now c.loop-first.first-index l.deferred w.count c.loop-first-test.false c.loop-first.invariant.behind)

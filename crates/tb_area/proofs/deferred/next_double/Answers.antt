@@ -1,11 +1,11 @@
-use Rattle.std.proofs.Common.{◌≡◌, suc, take, drop, Some, slice_get, add-one, refl, sym, ap, ◌∙◌, arith}
+use Rattle.std.proofs.Common.{◌≡◌, suc, take, drop, Some, slice_get, add-one, sym, ap, ◌∙◌, arith}
 use Rattle.tb_float.specs.declared.Suppress.{Suppress}
-use Rattle.tb_float.specs.Lists.{FloatLists, float_entries, floats_of}
+use Rattle.tb_float.specs.Lists.{float_entries, floats_of}
 use Rattle.tb_float.proofs.EntryLemmas.{drop-entries, next-is_float, next-entry, no-entry}
 use Rattle.tb_float.proofs.WaitingLemmas.{waiting-entries, waiting-count}
 use Rattle.tb_area.specs.Deferred.{doubled}
-use Rattle.tb_area.specs.DeferredWalk.{IsOnWay, GoesOn}
-use Rattle.tb_area.proofs.DeferredWalks.{finds-place, finds-none, double-kept, double-full}
+use Rattle.tb_area.specs.DeferredWalk.{GoesOn}
+use Rattle.tb_area.proofs.DeferredWalks.{finds-place, finds-none, finds-full, double-closes, double-kept}
 use Rattle.tb_area.proofs.deferred.next_double.Goals.{After-float-f, After-keep}
 use Rattle.tb_area.proofs.deferred.next_double.Goals as goal
 
@@ -33,7 +33,7 @@ next_is c =
 -- the float there stays
 way_is : (c : After-keep) → slice_get (floats_of c.args.from c.args.pool.now.lists) c.loop-entry.kept.count ≡ Some c.float-f.result.now → (s : Suppress) → GoesOn c.args.from (doubled c.args.from c.args.p.now s) c.args.pool.now.lists c.args.kept.now c.keep.new.self
 way_is c there s end h =
-    double-kept c.args.from c.args.p.now s c.loop-entry.kept c.keep.new.self _ end c.float-f.result.now c.keep.ensures.count there c.keep.ensures.classes c.keep.ensures.left (c.in-Deferred.ensures s) (c.loop-entry.invariant.way s end h)
+    double-kept c.args.from c.args.p.now s c.loop-entry.kept c.keep.new.self _ c.float-f.result.now c.keep.ensures.count there c.keep.ensures.classes c.keep.ensures.left (c.in-Deferred.ensures s) end (c.loop-entry.invariant.way s end h)
 
 pub loop-entry-preserved : goal.loop-entry-preserved
 loop-entry-preserved c =
@@ -65,8 +65,4 @@ returns-then-is_full c = λ s.
     let from = c.args.from in
     let l = c.args.pool.now.lists in
     let u = c.keep.new.self in
-    let all = c.len-kept.ensures.value ∙ waiting-count from c.requires.waiting l in
-    let full = λ (end : FloatLists) (h : IsOnWay from (doubled from c.args.p.now s) c.args.kept.now l end).
-    let way = way_is w.After-keep (next_is w.After-float-f).0 s end h in
-    double-full from c.args.p.now s u (record u { count = c.len-kept.result }) l end all refl (c.is_full.ensures.all c.if-is_full.true (take u.count (floats_of from l)) (floats_of from l) way.classes way.left) way in
-    finds-none _ _ _ _ _ _ full (omega (arith, all))
+    finds-full _ _ _ _ _ u _ (double-closes from c.args.p.now s l) (c.len-kept.ensures.value ∙ waiting-count from c.requires.waiting l) (way_is w.After-keep (next_is w.After-float-f).0 s) (λ end way. c.is_full.ensures.all c.if-is_full.true (take u.count (floats_of from l)) (floats_of from l) way.classes way.left)

@@ -1,10 +1,10 @@
-use Rattle.std.proofs.Common.{◌≡◌, suc, take, drop, Some, slice_get, add-one, refl, sym, ◌∙◌, arith}
+use Rattle.std.proofs.Common.{◌≡◌, suc, take, drop, Some, slice_get, add-one, sym, ◌∙◌, arith}
 use Rattle.tb_float.specs.declared.Part.TheVariants as parts
-use Rattle.tb_float.specs.Lists.{FloatLists, float_entries}
+use Rattle.tb_float.specs.Lists.{float_entries}
 use Rattle.tb_float.proofs.EntryLemmas.{drop-entries, next-is_float, next-entry, no-entry}
 use Rattle.tb_area.specs.Deferred.{filled}
-use Rattle.tb_area.specs.DeferredWalk.{IsOnWay, GoesOn}
-use Rattle.tb_area.proofs.DeferredWalks.{finds-place, finds-none, area-kept, area-full, sized-at}
+use Rattle.tb_area.specs.DeferredWalk.{GoesOn}
+use Rattle.tb_area.proofs.DeferredWalks.{finds-place, finds-none, finds-full, area-closed, area-kept, sized-at}
 use Rattle.tb_area.proofs.deferred.next_moved.Goals.{After-float-f, After-keep}
 use Rattle.tb_area.proofs.deferred.next_moved.Goals as goal
 
@@ -28,7 +28,7 @@ next_is c =
 -- the float there stays
 way_is : (c : After-keep) → slice_get c.args.pool.now.lists.deferred c.loop-entry.kept.count ≡ Some c.float-f.result.now → GoesOn parts.Deferred (filled c.args.p.now c.args.s.now) c.args.pool.now.lists c.args.kept.now c.keep.new.self
 way_is c there end h =
-    area-kept c.args.p.now c.args.s.now c.loop-entry.kept c.keep.new.self _ end c.float-f.result.now c.keep.ensures.count there c.keep.ensures.classes c.keep.ensures.left c.in-Deferred.ensures (c.loop-entry.invariant.way end h)
+    area-kept c.args.p.now c.args.s.now c.loop-entry.kept c.keep.new.self _ c.float-f.result.now c.keep.ensures.count there c.keep.ensures.classes c.keep.ensures.left c.in-Deferred.ensures end (c.loop-entry.invariant.way end h)
 
 pub place_behind-requires-clause-extent : goal.place_behind-requires-clause-extent
 place_behind-requires-clause-extent c =
@@ -64,8 +64,4 @@ returns-then-is_full c =
     let w = goal.at.returns-then-is_full c in
     let l = c.args.pool.now.lists in
     let u = c.keep.new.self in
-    let all = c.len-kept.ensures.value in
-    let full = λ (end : FloatLists) (h : IsOnWay parts.Deferred (filled c.args.p.now c.args.s.now) c.args.kept.now l end).
-    let way = way_is w.After-keep (next_is w.After-float-f).0 end h in
-    area-full c.args.p.now c.args.s.now u (record u { count = c.len-kept.result }) l end all refl (c.is_full.ensures.all c.if-is_full.true (take u.count l.deferred) l.deferred way.classes way.left) way in
-    finds-none _ _ _ _ _ _ full (omega (arith, all))
+    finds-full _ _ _ _ _ u _ (area-closed c.args.p.now c.args.s.now l) c.len-kept.ensures.value (way_is w.After-keep (next_is w.After-float-f).0) (λ end way. c.is_full.ensures.all c.if-is_full.true (take u.count l.deferred) l.deferred way.classes way.left)
