@@ -4,7 +4,7 @@ use Rattle.std.specs.Prelude.{ℤ, ◌+ℤ◌, ◌&&◌, if◌then◌else◌}
 use Rattle.tb_scaled.specs.Scaled.{max_ℤ}
 use Rattle.tb_node.specs.declared.Float.{Float}
 use Rattle.tb_node.specs.declared.Where.{Where}
-use Rattle.tb_node.specs.declared.Where.TheVariants.{Here, Top, Bottom, Double, Deferred}
+use Rattle.tb_node.specs.declared.Where.TheVariants.{Here, Bottom, Double, Deferred}
 use Rattle.tb_param.specs.declared.params.Params.{Params}
 use Rattle.tb_float.specs.declared.Suppress.{Suppress}
 use Rattle.tb_float.specs.declared.Limit.TheVariants as limits
@@ -27,12 +27,8 @@ pub top_tried : (p : Params) (l : FloatLists) (s : Suppress) (r above : ℤ) (f 
 top_tried p l s r above f e is =
     ap (λ b. where_of (if b then (if fits_above p l (r +ℤ next_separator p l.top) f then at_top else bottom_or_deferred p l s (r +ℤ next_separator p l.top) f) else bottom_or_deferred p l s r f)) e ∙ ap (λ a. where_of (if fits_above p l a f then at_top else bottom_or_deferred p l s a f)) (sym is)
 
-pub top_goes : (p : Params) (l : FloatLists) (s : Suppress) (r above : ℤ) (f : Float) → tries_top p l s f ≡ true → above ≡ r +ℤ next_separator p l.top → fits_above p l above f ≡ true → Top ≡ where_of (top_or_bottom p l s r f)
-top_goes p l s r above f e is fits =
-    sym (top_tried p l s r above f e is ∙ ap (λ b. where_of (if b then at_top else bottom_or_deferred p l s above f)) fits)
-
-pub top_fails : (p : Params) (l : FloatLists) (s : Suppress) (r above : ℤ) (f : Float) (w : Where) → tries_top p l s f ≡ true → above ≡ r +ℤ next_separator p l.top → fits_above p l above f ≡ false → w ≡ where_of (bottom_or_deferred p l s above f) → w ≡ where_of (top_or_bottom p l s r f)
-top_fails p l s r above f w e is fits goes =
+pub top_by : (p : Params) (l : FloatLists) (s : Suppress) (r above : ℤ) (f : Float) (b : Bool) (w : Where) → tries_top p l s f ≡ true → above ≡ r +ℤ next_separator p l.top → fits_above p l above f ≡ b → w ≡ where_of (if b then at_top else bottom_or_deferred p l s above f) → w ≡ where_of (top_or_bottom p l s r f)
+top_by p l s r above f b w e is fits goes =
     goes ∙ sym (top_tried p l s r above f e is ∙ ap (λ b. where_of (if b then at_top else bottom_or_deferred p l s above f)) fits)
 
 pub not_here : (p : Params) (l : FloatLists) (s : Suppress) (r : ℤ) (f : Float) (w : Where) → f.places.h ≡ false → w ≡ where_of (top_or_bottom p l s r f) → w ≡ here_or_area p l s r f

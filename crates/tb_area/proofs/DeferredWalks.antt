@@ -4,7 +4,7 @@ use Rattle.std.specs.Prelude.{if◌then◌else◌, All}
 use Rattle.std.proofs.Math.ListN.{drop_of_length-le}
 use Rattle.std.proofs.Math.Seq.{take-length}
 use Rattle.std.proofs.lemmas.List.{length-append, length-take-le}
-use Rattle.std.proofs.lemmas.Option.{slice_get_within, get_or_from_slice_get}
+use Rattle.std.proofs.lemmas.Option.{same_Some, slice_get_within, get_or_from_slice_get}
 use Rattle.tb_node.specs.declared.Float.{Float}
 use Rattle.tb_node.specs.declared.Where.{Where}
 use Rattle.tb_node.specs.declared.Where.TheVariants.{Top, Bottom, Double, Deferred}
@@ -20,7 +20,7 @@ use Rattle.tb_float.proofs.ListLemmas.{slice_get-drop, without_place-parts, leng
 use Rattle.tb_area.specs.declared.deferred.Kept.{Kept}
 use Rattle.tb_area.specs.Area.{AreaPlace, at_top, at_bottom, deferred, where_of, next_area_place, next_place, goes_double, double_place}
 use Rattle.tb_area.specs.Deferred.{gone_to, still_before, filled, gone_double, still_single, doubled}
-use Rattle.tb_area.specs.DeferredWalk.{IsOnWay}
+use Rattle.tb_area.specs.DeferredWalk.{IsOnWay, GoesOn, FindsNext}
 use Rattle.tb_area.proofs.OrderLemmas.{gone-deferred, gone_double-waiting}
 use Rattle.tb_float.proofs.HasLemmas.{has-there}
 use Rattle.tb_area.proofs.FullLemmas.{Walk, Stays, left-without, all-classes, walk-passed, entry-closed, double-closed}
@@ -41,10 +41,32 @@ way-over from walk w l end stops over way =
     let fs = floats_of from l in
     sym (stops (take w.count fs) l) ∙ ap (λ left. walk (take w.count fs) left l) (sym (drop_of_length-le fs over)) ∙ way.ends
 
+-- ---- what it finds
+
+-- the float where it has come has a place
+pub finds-place : (from : Part) (walk : Walk) (place_of : List Float → Float → Where) (l : FloatLists) (u w : Kept) (f : Float) (found : Where) → GoesOn from walk l u w → slice_get (floats_of from l) w.count ≡ Some f → found ≢ Deferred → ((before : List Float) → AreClassesOf w.classes before → found ≡ place_of before f) → FindsNext from walk place_of l u w found
+finds-place from walk place_of l u w f found way there goes is =
+    let before = take w.count (floats_of from l) in
+    record {
+      way = way;
+      within = λ ne. slice_get_within (floats_of from l) w.count f there;
+      place = λ end g h got. is before (way end h).classes ∙ ap (place_of before) (same_Some f g (sym there ∙ got));
+      over = λ e. absurd (goes e);
+    }
+
+-- none is left
+pub finds-none : (from : Part) (walk : Walk) (place_of : List Float → Float → Where) (l : FloatLists) (u w : Kept) → GoesOn from walk l u w → length (floats_of from l) ≤ w.count → FindsNext from walk place_of l u w Deferred
+finds-none from walk place_of l u w way past = record {
+  way = way;
+  within = λ ne. absurd (ne refl);
+  place = λ end f h got. absurd (omega (arith, past, slice_get_within (floats_of from l) w.count f got));
+  over = λ e. past;
+}
+
 -- ---- the next float stays
 
-pub way-stays : (from : Part) (walk : Walk) (w v : Kept) (l end : FloatLists) (f : Float) → v.count ≡ w.count + 1 → slice_get (floats_of from l) w.count ≡ Some f → ((before : List Float) → AreClassesOf w.classes before → AreClassesOf v.classes (before ++ f ∷ [])) → ((all : List Float) → has_class f.class all ≡ true → HasLeft w.classes all → HasLeft v.classes all) → ((before rest : List Float) → AreClassesOf w.classes before → walk before (f ∷ rest) l ≡ walk (before ++ f ∷ []) rest l) → IsOnWay from walk w l end → IsOnWay from walk v l end
-way-stays from walk w v l end f more there classes left stays way =
+pub way-stays : (from : Part) (walk : Walk) (w v : Kept) (l : FloatLists) (f : Float) → v.count ≡ w.count + 1 → slice_get (floats_of from l) w.count ≡ Some f → ((before : List Float) → AreClassesOf w.classes before → AreClassesOf v.classes (before ++ f ∷ [])) → ((all : List Float) → has_class f.class all ≡ true → HasLeft w.classes all → HasLeft v.classes all) → ((before rest : List Float) → AreClassesOf w.classes before → walk before (f ∷ rest) l ≡ walk (before ++ f ∷ []) rest l) → GoesOn from walk l w v
+way-stays from walk w v l f more there classes left stays end way =
     let fs = floats_of from l in
     let k = w.count in
     let at : v.count ≡ suc k = omega (arith, more) in
@@ -60,8 +82,8 @@ way-stays from walk w v l end f more there classes left stays way =
 -- ---- those of classes that stay
 
 -- if one of a class that stays always stays, those up to a later place stay where no other class is between
-pub way-passed : (from : Part) (walk : Walk) (w v : Kept) (l end : FloatLists) → Stays walk l → w.count ≤ v.count → v.count ≤ length (floats_of from l) → v.classes ≡ w.classes → AreOfClasses (take w.count (floats_of from l)) (take v.count (floats_of from l)) → IsOnWay from walk w l end → IsOnWay from walk v l end
-way-passed from walk w v l end stays later within same passed way =
+pub way-passed : (from : Part) (walk : Walk) (w v : Kept) (l : FloatLists) → Stays walk l → w.count ≤ v.count → v.count ≤ length (floats_of from l) → v.classes ≡ w.classes → AreOfClasses (take w.count (floats_of from l)) (take v.count (floats_of from l)) → GoesOn from walk l w v
+way-passed from walk w v l stays later within same passed end way =
     let fs = floats_of from l in
     record {
       within = within;
@@ -70,12 +92,14 @@ way-passed from walk w v l end stays later within same passed way =
       ends = sym (walk-passed walk l w.count v.count fs later stays passed) ∙ way.ends;
     }
 
--- if each float is of such a class, all others stay
-way-full : (from : Part) (walk : Walk) (w v : Kept) (l end : FloatLists) → Stays walk l → v.count ≡ length (floats_of from l) → v.classes ≡ w.classes → AreOfClasses (take w.count (floats_of from l)) (floats_of from l) → IsOnWay from walk w l end → IsOnWay from walk v l end
-way-full from walk w v l end stays all same full way =
+-- if each float is of such a class, none is left
+pub finds-full : (from : Part) (walk : Walk) (place_of : List Float → Float → Where) (l : FloatLists) (u w : Kept) (n : ℕ) → Stays walk l → n ≡ length (floats_of from l) → GoesOn from walk l u w → ((end : FloatLists) → IsOnWay from walk w l end → AreOfClasses (take w.count (floats_of from l)) (floats_of from l)) → FindsNext from walk place_of l u (record w { count = n }) Deferred
+finds-full from walk place_of l u w n stays all way full =
     let fs = floats_of from l in
-    let taken : take v.count fs ≡ fs = ap (λ n. take n fs) all ∙ take-length fs in
-    way-passed from walk w v l end stays (omega (arith, all, way.within)) (omega (arith, all)) same (subst (AreOfClasses (take w.count fs)) (sym taken) full) way
+    let v : Kept = record w { count = n } in
+    let taken : take n fs ≡ fs = ap (λ k. take k fs) all ∙ take-length fs in
+    let to_end : GoesOn from walk l w v = λ end h. way-passed from walk w v l stays (omega (arith, all, h.within)) (omega (arith, all)) refl (subst (AreOfClasses (take w.count fs)) (sym taken) (full end h)) end h in
+    finds-none from walk place_of l u v (λ end h. to_end end (way end h)) (omega (arith, all))
 
 -- ---- the next float goes
 
@@ -122,13 +146,9 @@ area-stays p s l f before rest e = ap (λ a. filled p s (still_before a f before
 pub area-closed : (p : Params) (s : Suppress) (l : FloatLists) → Stays (filled p s) l
 area-closed p s l before rest f has = area-stays p s l f before rest (entry-closed p s l f before has)
 
-pub area-kept : (p : Params) (s : Suppress) (w v : Kept) (l end : FloatLists) (f : Float) → v.count ≡ w.count + 1 → slice_get l.deferred w.count ≡ Some f → ((before : List Float) → AreClassesOf w.classes before → AreClassesOf v.classes (before ++ f ∷ [])) → ((all : List Float) → has_class f.class all ≡ true → HasLeft w.classes all → HasLeft v.classes all) → ((before : List Float) → AreClassesOf w.classes before → Deferred ≡ next_place p l s before f) → IsOnWay parts.Deferred (filled p s) w l end → IsOnWay parts.Deferred (filled p s) v l end
-area-kept p s w v l end f more there classes left stays way =
-    way-stays parts.Deferred (filled p s) w v l end f more there classes left (λ before rest are. area-stays p s l f before rest (stays before are)) way
-
-pub area-full : (p : Params) (s : Suppress) (w v : Kept) (l end : FloatLists) → v.count ≡ length l.deferred → v.classes ≡ w.classes → AreOfClasses (take w.count l.deferred) l.deferred → IsOnWay parts.Deferred (filled p s) w l end → IsOnWay parts.Deferred (filled p s) v l end
-area-full p s w v l end all same full way =
-    way-full parts.Deferred (filled p s) w v l end (area-closed p s l) all same full way
+pub area-kept : (p : Params) (s : Suppress) (w v : Kept) (l : FloatLists) (f : Float) → v.count ≡ w.count + 1 → slice_get l.deferred w.count ≡ Some f → ((before : List Float) → AreClassesOf w.classes before → AreClassesOf v.classes (before ++ f ∷ [])) → ((all : List Float) → has_class f.class all ≡ true → HasLeft w.classes all → HasLeft v.classes all) → ((before : List Float) → AreClassesOf w.classes before → Deferred ≡ next_place p l s before f) → GoesOn parts.Deferred (filled p s) l w v
+area-kept p s w v l f more there classes left stays =
+    way-stays parts.Deferred (filled p s) w v l f more there classes left (λ before rest are. area-stays p s l f before rest (stays before are))
 
 pub area-goes : (p : Params) (s : Suppress) (w : Kept) (l m end : FloatLists) (f : Float) (a : AreaPlace) → ((before : List Float) → still_before a f before ≡ before) → slice_get l.deferred w.count ≡ Some f → next_area_place p l s (take w.count l.deferred) f ≡ a → m ≡ gone_to a f (take w.count l.deferred) (drop (suc w.count) l.deferred) l → IsOnWay parts.Deferred (filled p s) w l end → IsOnWay parts.Deferred (filled p s) w m end
 area-goes p s w l m end f a still there decided moved way =
@@ -207,13 +227,9 @@ double-stays from p s l f before rest e = ap (λ b. doubled from p s (still_sing
 pub double-closes : (from : Part) (p : Params) (s : Suppress) (l : FloatLists) → Stays (doubled from p s) l
 double-closes from p s l before rest f has = double-stays from p s l f before rest (double-closed p s l f before has)
 
-pub double-kept : (from : Part) (p : Params) (s : Suppress) (w v : Kept) (l end : FloatLists) (f : Float) → v.count ≡ w.count + 1 → slice_get (floats_of from l) w.count ≡ Some f → ((before : List Float) → AreClassesOf w.classes before → AreClassesOf v.classes (before ++ f ∷ [])) → ((all : List Float) → has_class f.class all ≡ true → HasLeft w.classes all → HasLeft v.classes all) → ((before : List Float) → AreClassesOf w.classes before → Deferred ≡ double_place p l s before f) → IsOnWay from (doubled from p s) w l end → IsOnWay from (doubled from p s) v l end
-double-kept from p s w v l end f more there classes left stays way =
-    way-stays from (doubled from p s) w v l end f more there classes left (λ before rest are. double-stays from p s l f before rest (stays before are)) way
-
-pub double-full : (from : Part) (p : Params) (s : Suppress) (w v : Kept) (l end : FloatLists) → v.count ≡ length (floats_of from l) → v.classes ≡ w.classes → AreOfClasses (take w.count (floats_of from l)) (floats_of from l) → IsOnWay from (doubled from p s) w l end → IsOnWay from (doubled from p s) v l end
-double-full from p s w v l end all same full way =
-    way-full from (doubled from p s) w v l end (double-closes from p s l) all same full way
+pub double-kept : (from : Part) (p : Params) (s : Suppress) (w v : Kept) (l : FloatLists) (f : Float) → v.count ≡ w.count + 1 → slice_get (floats_of from l) w.count ≡ Some f → ((before : List Float) → AreClassesOf w.classes before → AreClassesOf v.classes (before ++ f ∷ [])) → ((all : List Float) → has_class f.class all ≡ true → HasLeft w.classes all → HasLeft v.classes all) → ((before : List Float) → AreClassesOf w.classes before → Deferred ≡ double_place p l s before f) → GoesOn from (doubled from p s) l w v
+double-kept from p s w v l f more there classes left stays =
+    way-stays from (doubled from p s) w v l f more there classes left (λ before rest are. double-stays from p s l f before rest (stays before are))
 
 pub double-goes : (from : Part) → IsWaiting from → (p : Params) (s : Suppress) (w : Kept) (l m end : FloatLists) (f : Float) → slice_get (floats_of from l) w.count ≡ Some f → goes_double p l s (take w.count (floats_of from l)) f ≡ true → m ≡ gone_double from true f (take w.count (floats_of from l)) (drop (suc w.count) (floats_of from l)) l → IsOnWay from (doubled from p s) w l end → IsOnWay from (doubled from p s) w m end
 double-goes from waits p s w l m end f there decided moved way =

@@ -10,7 +10,7 @@ use Rattle.tb_float.specs.Firsts.{firsts_of, firsts_from}
 use Rattle.tb_float.specs.Lists.{FloatLists, floats_of}
 use Rattle.tb_float.proofs.FirstLemmas.{NextFirst, next-first, no-first}
 use Rattle.tb_area.specs.declared.deferred.Kept.{Kept}
-use Rattle.tb_area.specs.DeferredWalk.{IsOnWay}
+use Rattle.tb_area.specs.DeferredWalk.{GoesOn}
 use Rattle.tb_area.proofs.FullLemmas.{Walk, Stays, all-behind}
 use Rattle.tb_area.proofs.DeferredWalks.{way-passed}
 
@@ -36,6 +36,6 @@ pub behind-last : (firsts : List First) (i : ℕ) (fs : List Float) (k : ℕ) �
 behind-last firsts i fs k past behind = all-behind k fs (no-first (take k fs) (drop k fs) (sym behind ∙ drop_all i firsts past))
 
 -- the walk goes on there
-pub way-first : (from : Part) (walk : Walk) (w : Kept) (l : FloatLists) (x : First) (xs : List First) → Stays walk l → NextFirst (floats_of from l) w.count x xs → (end : FloatLists) → IsOnWay from walk w l end → IsOnWay from walk (record w { count = x.place }) l end
-way-first from walk w l x xs stays next end way =
-    way-passed from walk w (record w { count = x.place }) l end stays next.within (omega (arith, slice_get_within (floats_of from l) x.place x.float next.there)) refl next.passed way
+pub way-first : (from : Part) (walk : Walk) (w : Kept) (l : FloatLists) (x : First) (xs : List First) → Stays walk l → NextFirst (floats_of from l) w.count x xs → GoesOn from walk l w (record w { count = x.place })
+way-first from walk w l x xs stays next =
+    way-passed from walk w (record w { count = x.place }) l stays next.within (omega (arith, slice_get_within (floats_of from l) x.place x.float next.there)) refl next.passed

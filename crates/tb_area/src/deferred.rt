@@ -1,18 +1,18 @@
 //! The floats that wait go to the next column, or above both columns of the next page: one walk over their list, which
 //! reads until a float has a place, moves it, and goes on behind those that stay. It ends once floats of all classes stay,
 //! since no later one can go then. If it is known which floats are the first of their class, it begins with those alone.
-ghost use Rattle.std.specs.Prelude.{ℕ, ◌≡◌, ◌≢◌, ◌<◌, ◌≤◌, ◌+◌, [], ◌∷◌, ◌++◌, List, length, take, slice_get, Some, true};
+ghost use Rattle.std.specs.Prelude.{ℕ, ◌≡◌, ◌<◌, ◌+◌, [], ◌∷◌, ◌++◌, List, true};
 ghost use Rattle.tb_node.specs.declared.Float.{Float as PlainFloat};
 ghost use Rattle.tb_float.specs.declared.Suppress.{Suppress};
 ghost use Rattle.tb_float.specs.Classes.{AreClassesOf, HasLeft};
 ghost use Rattle.tb_float.specs.Firsts.{firsts_of};
-ghost use Rattle.tb_float.specs.Lists.{FloatLists, IsWaiting, floats_of, has_class};
+ghost use Rattle.tb_float.specs.Lists.{IsWaiting, floats_of, has_class};
 ghost use Rattle.tb_float.specs.Pool.{HasNoMarks};
 ghost use Rattle.tb_float.specs.Ranges.{AreFloatParams, IsExtent};
 ghost use Rattle.tb_area.specs.Area.{next_place, double_place};
 ghost use Rattle.tb_area.specs.Deferred.{filled, doubled};
 ghost use Rattle.tb_area.specs.Laws.{column_order, double_order};
-ghost use Rattle.tb_area.specs.DeferredWalk.{IsOnWay};
+ghost use Rattle.tb_area.specs.DeferredWalk.{FindsNext};
 
 use crate::areas::{double_place, next_place};
 use tb_float::{ClassSet, First, Part, Pool, Suppress};
@@ -76,10 +76,7 @@ pub fn fill_column(pool: &mut Pool, p: &Params, s: &Suppress)
 // deferred exactly if none of those that are left has a place.
 fn next_moved(pool: &Pool, p: &Params, s: &Suppress, kept: &mut Kept) -> Where
     requires { AreFloatParams p.now }
-    ensures way { (end : FloatLists) → IsOnWay Part.Deferred (filled p.now s.now) kept.old pool.now.lists end → IsOnWay Part.Deferred (filled p.now s.now) kept.new pool.now.lists end }
-    ensures within { result ≢ Where.Deferred → kept.new.count < length pool.now.lists.deferred }
-    ensures place { (end : FloatLists) (f : PlainFloat) → IsOnWay Part.Deferred (filled p.now s.now) kept.old pool.now.lists end → slice_get pool.now.lists.deferred kept.new.count ≡ Some f → result ≡ next_place p.now pool.now.lists s.now (take kept.new.count pool.now.lists.deferred) f }
-    ensures over { result ≡ Where.Deferred → length pool.now.lists.deferred ≤ kept.new.count }
+    ensures { FindsNext Part.Deferred (filled p.now s.now) (next_place p.now pool.now.lists s.now) pool.now.lists kept.old kept.new result }
 {
     if kept.count >= pool.len(Part::Deferred) {
         return Where::Deferred;
@@ -113,10 +110,7 @@ fn first_moved(pool: &Pool, p: &Params, s: &Suppress, kept: &mut Kept, firsts: &
     requires params { AreFloatParams p.now }
     requires firsts { firsts.now ≡ firsts_of pool.now.lists.deferred }
     requires start { kept.old.count ≡ 0 }
-    ensures way { (end : FloatLists) → IsOnWay Part.Deferred (filled p.now s.now) kept.old pool.now.lists end → IsOnWay Part.Deferred (filled p.now s.now) kept.new pool.now.lists end }
-    ensures within { result ≢ Where.Deferred → kept.new.count < length pool.now.lists.deferred }
-    ensures place { (end : FloatLists) (f : PlainFloat) → IsOnWay Part.Deferred (filled p.now s.now) kept.old pool.now.lists end → slice_get pool.now.lists.deferred kept.new.count ≡ Some f → result ≡ next_place p.now pool.now.lists s.now (take kept.new.count pool.now.lists.deferred) f }
-    ensures over { result ≡ Where.Deferred → length pool.now.lists.deferred ≤ kept.new.count }
+    ensures { FindsNext Part.Deferred (filled p.now s.now) (next_place p.now pool.now.lists s.now) pool.now.lists kept.old kept.new result }
 {
     let all = pool.len(Part::Deferred);
     for first in firsts {
@@ -170,10 +164,7 @@ pub fn fill_double(pool: &mut Pool, p: &Params, from: Part)
 fn next_double(pool: &Pool, p: &Params, from: Part, kept: &mut Kept) -> Where
     requires params { AreFloatParams p.now }
     requires waiting { IsWaiting from }
-    ensures way { (s : Suppress) (end : FloatLists) → IsOnWay from (doubled from p.now s) kept.old pool.now.lists end → IsOnWay from (doubled from p.now s) kept.new pool.now.lists end }
-    ensures within { result ≢ Where.Deferred → kept.new.count < length (floats_of from pool.now.lists) }
-    ensures place { (s : Suppress) (end : FloatLists) (f : PlainFloat) → IsOnWay from (doubled from p.now s) kept.old pool.now.lists end → slice_get (floats_of from pool.now.lists) kept.new.count ≡ Some f → result ≡ double_place p.now pool.now.lists s (take kept.new.count (floats_of from pool.now.lists)) f }
-    ensures over { result ≡ Where.Deferred → length (floats_of from pool.now.lists) ≤ kept.new.count }
+    ensures { (s : Suppress) → FindsNext from (doubled from p.now s) (double_place p.now pool.now.lists s) pool.now.lists kept.old kept.new result }
 {
     if kept.count >= pool.len(from) {
         return Where::Deferred;
@@ -207,10 +198,7 @@ fn first_double(pool: &Pool, p: &Params, from: Part, kept: &mut Kept, firsts: &[
     requires waiting { IsWaiting from }
     requires firsts { firsts.now ≡ firsts_of (floats_of from pool.now.lists) }
     requires start { kept.old.count ≡ 0 }
-    ensures way { (s : Suppress) (end : FloatLists) → IsOnWay from (doubled from p.now s) kept.old pool.now.lists end → IsOnWay from (doubled from p.now s) kept.new pool.now.lists end }
-    ensures within { result ≢ Where.Deferred → kept.new.count < length (floats_of from pool.now.lists) }
-    ensures place { (s : Suppress) (end : FloatLists) (f : PlainFloat) → IsOnWay from (doubled from p.now s) kept.old pool.now.lists end → slice_get (floats_of from pool.now.lists) kept.new.count ≡ Some f → result ≡ double_place p.now pool.now.lists s (take kept.new.count (floats_of from pool.now.lists)) f }
-    ensures over { result ≡ Where.Deferred → length (floats_of from pool.now.lists) ≤ kept.new.count }
+    ensures { (s : Suppress) → FindsNext from (doubled from p.now s) (double_place p.now pool.now.lists s) pool.now.lists kept.old kept.new result }
 {
     let all = pool.len(from);
     for first in firsts {

@@ -11,6 +11,10 @@ use Rattle.tb_area.proofs.OrderLemmas.{double-order}
 use Rattle.tb_area.proofs.DeferredWalks.{is_double, way-start, way-over, double-goes, double-parts, gone-double, size-double, double-over, fewer-left}
 use Rattle.tb_area.proofs.deferred.fill_double.Goals as goal
 
+-- the lists do not depend on what is suppressed
+abbrev any : Suppress
+any = record { all = false; top = false; bottom = false }
+
 pub loop-turn-init : goal.loop-turn-init
 loop-turn-init c =
     let v = c.args.pool.now in
@@ -24,7 +28,7 @@ loop-turn-init c =
     }
 
 pub move_to-requires-clause-float : goal.move_to-requires-clause-float
-move_to-requires-clause-float c = waiting_stands c.args.from c.requires.waiting c.loop-turn.pool.lists c.next_double.new.kept.count (c.in-Double.ensures.within (λ e. absurd cc))
+move_to-requires-clause-float c = waiting_stands c.args.from c.requires.waiting c.loop-turn.pool.lists c.next_double.new.kept.count ((c.in-Double.ensures any).within (λ e. absurd cc))
 
 pub loop-turn-preserved : goal.loop-turn-preserved
 loop-turn-preserved c =
@@ -36,12 +40,12 @@ loop-turn-preserved c =
     let fs = floats_of from v.lists in
     let w = c.next_double.new.kept in
     let so_far = c.loop-turn.invariant in
-    let lt : w.count < length fs = c.in-Double.ensures.within (λ e. absurd cc) in
+    let lt : w.count < length fs = (c.in-Double.ensures any).within (λ e. absurd cc) in
     let at = there_some fs w.count lt in
     let moved = c.move_to.ensures.moved at.0 (waiting_entry from waits v.lists w.count at.0 at.1) in
     let lists = ap (λ (t : FloatPool). t.lists) moved ∙ gone-double from waits w.count at.0 v in
     record {
-      way = λ s. double-goes from waits p s w v.lists u.lists _ at.0 at.1 (is_double _ (c.in-Double.ensures.place s _ at.0 (so_far.way s) at.1)) lists (c.in-Double.ensures.way s _ (so_far.way s));
+      way = λ s. double-goes from waits p s w v.lists u.lists _ at.0 at.1 (is_double _ ((c.in-Double.ensures s).place _ at.0 (so_far.way s) at.1)) lists ((c.in-Double.ensures s).way _ (so_far.way s));
       fewer = fewer-left fs (floats_of from u.lists) w.count c.loop-turn._turn _ (ap (λ (t : FloatPool). floats_of from t.lists) moved ∙ double-parts from waits w.count at.0 v) lt so_far.fewer;
       size = ap (λ (t : FloatPool). t.size) moved ∙ size-double from waits w.count at.0 v ∙ so_far.size;
       unmarked = λ h. c.move_to.ensures.unmarked (so_far.unmarked h);
@@ -55,9 +59,8 @@ returns-in_default c =
     let fs = floats_of from l in
     let w = c.next_double.new.kept in
     let so_far = c.loop-turn.invariant in
-    let any : Suppress = record { all = false; top = false; bottom = false } in
-    let over : length fs ≤ w.count = double-over fs w.count c.next_double.result (λ f. goes_double p l any (take w.count fs) f) (λ f got. c.next_double.ensures.place any _ f (so_far.way any) got) c.in_default.not-Double c.next_double.ensures.over in
-    let lists : (s : Suppress) → l ≡ doubled from p s [] (floats_of from c.args.pool.now.lists) c.args.pool.now.lists = λ s. way-over from (doubled from p s) w l _ (λ before m. refl) over (c.next_double.ensures.way s _ (so_far.way s)) in
+    let over : length fs ≤ w.count = double-over fs w.count c.next_double.result (λ f. goes_double p l any (take w.count fs) f) (λ f got. (c.next_double.ensures any).place _ f (so_far.way any) got) c.in_default.not-Double (c.next_double.ensures any).over in
+    let lists : (s : Suppress) → l ≡ doubled from p s [] (floats_of from c.args.pool.now.lists) c.args.pool.now.lists = λ s. way-over from (doubled from p s) w l _ (λ before m. refl) over ((c.next_double.ensures s).way _ (so_far.way s)) in
     record {
       lists = lists;
       order = λ k. ap (λ m. double_order from k m) (lists any) ∙ double-order from c.requires.waiting k p any c.args.pool.now.lists;
@@ -76,5 +79,4 @@ returns-clause-lists c = λ s.
 
 pub returns-clause-order : goal.returns-clause-order
 returns-clause-order c = λ k.
-    let s : Suppress = record { all = false; top = false; bottom = false } in
-    ap (λ l. double_order c.args.from k l) (returns-clause-lists c s) ∙ double-order c.args.from c.requires.waiting k c.args.p.now s c.args.pool.now.lists
+    ap (λ l. double_order c.args.from k l) (returns-clause-lists c any) ∙ double-order c.args.from c.requires.waiting k c.args.p.now any c.args.pool.now.lists

@@ -1,12 +1,11 @@
 use Rattle.tb_float.specs.declared.Part.TheVariants as parts
-use Rattle.tb_float.specs.Lists.{FloatLists}
 use Rattle.tb_area.specs.Deferred.{filled}
-use Rattle.tb_area.specs.DeferredWalk.{IsOnWay}
+use Rattle.tb_area.specs.DeferredWalk.{GoesOn}
 use Rattle.tb_area.proofs.FirstWalks.{AreBehind}
 use Rattle.tb_area.proofs.deferred.first_moved.Given as goal
 
 abbrev pub invariant-loop-first : goal.invariant-loop-first
 invariant-loop-first l = record {
   behind : AreBehind l.fn.firsts l.first-index l.fn.pool.lists.deferred l.kept.count;
-  way : (end : FloatLists) → IsOnWay parts.Deferred (filled l.fn.p l.fn.s) l.initial.kept l.fn.pool.lists end → IsOnWay parts.Deferred (filled l.fn.p l.fn.s) l.kept l.fn.pool.lists end;
+  way : GoesOn parts.Deferred (filled l.fn.p l.fn.s) l.fn.pool.lists l.initial.kept l.kept;
 }

@@ -1,10 +1,11 @@
-use Rattle.std.proofs.Common.{◌≡◌, suc, take, drop, refl, sym, ap, ◌∙◌, arith}
-use Rattle.std.proofs.lemmas.Option.{same_Some, slice_get_within}
+use Rattle.std.proofs.Common.{◌≡◌, suc, take, drop, Some, slice_get, add-one, sym, ◌∙◌, arith}
+use Rattle.tb_float.specs.declared.Part.TheVariants as parts
 use Rattle.tb_float.specs.Lists.{float_entries}
 use Rattle.tb_float.proofs.EntryLemmas.{drop-entries, next-is_float, next-entry, no-entry}
-use Rattle.tb_area.specs.declared.deferred.Kept.{Kept}
-use Rattle.tb_area.specs.Area.{next_place}
-use Rattle.tb_area.proofs.DeferredWalks.{area-kept, area-full, sized-at}
+use Rattle.tb_area.specs.Deferred.{filled}
+use Rattle.tb_area.specs.DeferredWalk.{GoesOn}
+use Rattle.tb_area.proofs.DeferredWalks.{finds-place, finds-none, finds-full, area-closed, area-kept, sized-at}
+use Rattle.tb_area.proofs.deferred.next_moved.Goals.{After-float-f, After-keep}
 use Rattle.tb_area.proofs.deferred.next_moved.Goals as goal
 
 pub loop-entry-init : goal.loop-entry-init
@@ -19,88 +20,48 @@ pub float-f-requires : goal.float-f-requires
 float-f-requires c =
     next-is_float c.in-Some-entry.entry.now c.next.new.self (drop c.loop-entry.kept.count c.args.pool.now.lists.deferred) (sym c.in-Some-entry.ensures.steps ∙ c.loop-entry.invariant.left)
 
+-- the entry is that of the next float, and the others come behind it
+next_is : (c : After-float-f) → (slice_get c.args.pool.now.lists.deferred c.loop-entry.kept.count ≡ Some c.float-f.result.now) × (c.next.new.self ≡ float_entries (drop (suc c.loop-entry.kept.count) c.args.pool.now.lists.deferred))
+next_is c =
+    next-entry c.args.pool.now.lists.deferred c.loop-entry.kept.count _ _ _ (sym c.in-Some-entry.ensures.steps ∙ c.loop-entry.invariant.left) c.float-f.ensures
+
+-- the float there stays
+way_is : (c : After-keep) → slice_get c.args.pool.now.lists.deferred c.loop-entry.kept.count ≡ Some c.float-f.result.now → GoesOn parts.Deferred (filled c.args.p.now c.args.s.now) c.args.pool.now.lists c.args.kept.now c.keep.new.self
+way_is c there end h =
+    area-kept c.args.p.now c.args.s.now c.loop-entry.kept c.keep.new.self _ c.float-f.result.now c.keep.ensures.count there c.keep.ensures.classes c.keep.ensures.left c.in-Deferred.ensures end (c.loop-entry.invariant.way end h)
+
 pub place_behind-requires-clause-extent : goal.place_behind-requires-clause-extent
 place_behind-requires-clause-extent c =
-    let fs = c.args.pool.now.lists.deferred in
-    let w = c.loop-entry.kept in
-    let f = c.float-f.result.now in
-    let next = next-entry fs w.count c.in-Some-entry.entry.now c.next.new.self f (sym c.in-Some-entry.ensures.steps ∙ c.loop-entry.invariant.left) c.float-f.ensures in
-    sized-at fs w.count f c.len.ensures.sized next.0
+    let next = next_is (goal.at.place_behind-requires-clause-extent c).After-float-f in
+    sized-at c.args.pool.now.lists.deferred c.loop-entry.kept.count _ c.len.ensures.sized next.0
 
 pub loop-entry-preserved : goal.loop-entry-preserved
 loop-entry-preserved c =
-    let p = c.args.p.now in
-    let s = c.args.s.now in
-    let l = c.args.pool.now.lists in
-    let w = c.loop-entry.kept in
-    let v = c.keep.new.self in
-    let f = c.float-f.result.now in
-    let next = next-entry l.deferred w.count c.in-Some-entry.entry.now c.next.new.self f (sym c.in-Some-entry.ensures.steps ∙ c.loop-entry.invariant.left) c.float-f.ensures in
-    let one : suc w.count ≡ v.count = omega (arith, c.keep.ensures.count) in
-    record {
-      can_next = tt;
-      is_finite = tt;
-      left = next.1 ∙ ap (λ n. float_entries (drop n l.deferred)) one;
-      way = λ end h. area-kept p s w v l end f c.keep.ensures.count next.0 c.keep.ensures.classes c.keep.ensures.left c.in-Deferred.ensures (c.loop-entry.invariant.way end h);
-    }
+    let w = goal.at.loop-entry-preserved c in
+    let next = next_is w.After-float-f in
+    record { can_next = tt; is_finite = tt; left = rw (c.keep.ensures.count, add-one) next.1; way = way_is w.After-keep next.0 }
 
 pub loop-entry-preserved-then-had : goal.loop-entry-preserved-then-had
 loop-entry-preserved-then-had c =
-    let p = c.args.p.now in
-    let s = c.args.s.now in
-    let l = c.args.pool.now.lists in
-    let w = c.loop-entry.kept in
-    let v = c.keep.new.self in
-    let f = c.float-f.result.now in
-    let next = next-entry l.deferred w.count c.in-Some-entry.entry.now c.next.new.self f (sym c.in-Some-entry.ensures.steps ∙ c.loop-entry.invariant.left) c.float-f.ensures in
-    let one : suc w.count ≡ v.count = omega (arith, c.keep.ensures.count) in
-    record {
-      can_next = tt;
-      is_finite = tt;
-      left = next.1 ∙ ap (λ n. float_entries (drop n l.deferred)) one;
-      way = λ end h. area-kept p s w v l end f c.keep.ensures.count next.0 c.keep.ensures.classes c.keep.ensures.left c.in-Deferred.ensures (c.loop-entry.invariant.way end h);
-    }
+    let w = goal.at.loop-entry-preserved-then-had c in
+    let next = next_is w.After-float-f in
+    record { can_next = tt; is_finite = tt; left = rw (c.keep.ensures.count, add-one) next.1; way = way_is w.After-keep next.0 }
+
+pub returns-then-kept-len : goal.returns-then-kept-len
+returns-then-kept-len c = finds-none _ _ _ _ _ _ (λ end h. h) (omega (arith, c.len.ensures.value))
 
 pub returns-in_default-place_behind : goal.returns-in_default-place_behind
 returns-in_default-place_behind c =
-    let p = c.args.p.now in
-    let s = c.args.s.now in
-    let l = c.args.pool.now.lists in
-    let w = c.loop-entry.kept in
-    let f = c.float-f.result.now in
-    let next = next-entry l.deferred w.count c.in-Some-entry.entry.now c.next.new.self f (sym c.in-Some-entry.ensures.steps ∙ c.loop-entry.invariant.left) c.float-f.ensures in
-    record {
-      way = c.loop-entry.invariant.way;
-      within = λ ne. slice_get_within l.deferred w.count f next.0;
-      place = λ end g h got. c.place_behind.ensures (take w.count l.deferred) (c.loop-entry.invariant.way end h).classes ∙ ap (next_place p l s (take w.count l.deferred)) (same_Some f g (sym next.0 ∙ got));
-      over = λ e. absurd (c.in_default-place_behind.not-Deferred e);
-    }
+    let next = next_is (goal.at.returns-in_default-place_behind c).After-float-f in
+    finds-place _ _ _ _ _ _ _ _ c.loop-entry.invariant.way next.0 c.in_default-place_behind.not-Deferred c.place_behind.ensures
 
-pub returns-clause-place : goal.returns-clause-place
-returns-clause-place c = λ end f h got.
-    let fs = c.args.pool.now.lists.deferred in
-    let w = c.loop-entry.kept in
-    absurd (omega (arith, no-entry fs w.count (sym c.in-None.ensures.steps.0 ∙ c.loop-entry.invariant.left), slice_get_within fs w.count f got))
-
-pub returns-clause-over : goal.returns-clause-over
-returns-clause-over c = λ e. no-entry c.args.pool.now.lists.deferred c.loop-entry.kept.count (sym c.in-None.ensures.steps.0 ∙ c.loop-entry.invariant.left)
+pub returns : goal.returns
+returns c =
+    finds-none _ _ _ _ _ _ c.loop-entry.invariant.way (no-entry c.args.pool.now.lists.deferred c.loop-entry.kept.count (sym c.in-None.ensures.steps.0 ∙ c.loop-entry.invariant.left))
 
 pub returns-then-is_full : goal.returns-then-is_full
 returns-then-is_full c =
-    let p = c.args.p.now in
-    let s = c.args.s.now in
+    let w = goal.at.returns-then-is_full c in
     let l = c.args.pool.now.lists in
-    let w = c.loop-entry.kept in
     let u = c.keep.new.self in
-    let v : Kept = record u { count = c.len-kept.result } in
-    let f = c.float-f.result.now in
-    let next = next-entry l.deferred w.count c.in-Some-entry.entry.now c.next.new.self f (sym c.in-Some-entry.ensures.steps ∙ c.loop-entry.invariant.left) c.float-f.ensures in
-    let all = c.len-kept.ensures.value in
-    record {
-      way = λ end h.
-          let way = area-kept p s w u l end f c.keep.ensures.count next.0 c.keep.ensures.classes c.keep.ensures.left c.in-Deferred.ensures (c.loop-entry.invariant.way end h) in
-          area-full p s u v l end all refl (c.is_full.ensures.all c.if-is_full.true (take u.count l.deferred) l.deferred way.classes way.left) way;
-      within = λ ne. absurd (ne refl);
-      place = λ end g h got. absurd (omega (arith, all, slice_get_within l.deferred v.count g got));
-      over = λ e. omega (arith, all);
-    }
+    finds-full _ _ _ _ _ u _ (area-closed c.args.p.now c.args.s.now l) c.len-kept.ensures.value (way_is w.After-keep (next_is w.After-float-f).0) (λ end way. c.is_full.ensures.all c.if-is_full.true (take u.count l.deferred) l.deferred way.classes way.left)
