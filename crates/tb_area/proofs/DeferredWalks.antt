@@ -9,11 +9,12 @@ use Rattle.tb_node.specs.declared.Float.{Float}
 use Rattle.tb_node.specs.declared.Where.{Where}
 use Rattle.tb_node.specs.declared.Where.TheVariants.{Top, Bottom, Double, Deferred}
 use Rattle.tb_param.specs.declared.params.Params.{Params}
+use Rattle.tb_float.specs.declared.Entry.{Entry}
 use Rattle.tb_float.specs.declared.Part.{Part}
 use Rattle.tb_float.specs.declared.Part.TheVariants as parts
 use Rattle.tb_float.specs.declared.Suppress.{Suppress}
 use Rattle.tb_float.specs.Classes.{AreClassesOf, AreOfClasses, HasLeft}
-use Rattle.tb_float.specs.Lists.{FloatLists, floats_of, has_class, without_place, IsWaiting}
+use Rattle.tb_float.specs.Lists.{FloatLists, float_entries, floats_of, has_class, without_place, IsWaiting}
 use Rattle.tb_float.specs.Pool.{FloatPool, HasNoMarks, moved_float}
 use Rattle.tb_float.specs.Ranges.{IsSizedFloat, IsExtent}
 use Rattle.tb_float.proofs.ListLemmas.{slice_get-drop, without_place-parts, length-without_place, take-at, whole-at, take-front, drop-front}
@@ -40,6 +41,10 @@ pub way-over : (from : Part) (walk : Walk) (w : Kept) (l end : FloatLists) → (
 way-over from walk w l end stops over way =
     let fs = floats_of from l in
     sym (stops (take w.count fs) l) ∙ ap (λ left. walk (take w.count fs) left l) (sym (drop_of_length-le fs over)) ∙ way.ends
+
+-- the next entry is that of the float at this place, and the others come behind it
+abbrev pub IsNextEntry : List Float → ℕ → Float → List Entry → Type 0
+IsNextEntry fs k f es = (slice_get fs k ≡ Some f) × (es ≡ float_entries (drop (suc k) fs))
 
 -- ---- what it finds
 
@@ -189,27 +194,24 @@ pub record IsMoved (p : Params) (s : Suppress) (k : ℕ) (f : Float) (a : AreaPl
   pub size : u.size ≡ v.size
   pub unmarked : HasNoMarks v → HasNoMarks u
 
-pub moved-top : (p : Params) (s : Suppress) (k : ℕ) (f : Float) (v u : FloatPool) → slice_get v.lists.deferred k ≡ Some f → Top ≡ next_place p v.lists s (take k v.lists.deferred) f → u ≡ moved_float parts.Deferred k parts.Top f v → (HasNoMarks v → HasNoMarks u) → IsMoved p s k f at_top v u
-moved-top p s k f v u there goes is unmarked = record {
+moved-to : (p : Params) (s : Suppress) (k : ℕ) (f : Float) (a : AreaPlace) (v u m : FloatPool) → slice_get v.lists.deferred k ≡ Some f → next_area_place p v.lists s (take k v.lists.deferred) f ≡ a → ((before : List Float) → still_before a f before ≡ before) → m.lists ≡ gone_to a f (take k v.lists.deferred) (drop (suc k) v.lists.deferred) v.lists → m.lists.deferred ≡ without_place k v.lists.deferred → m.size ≡ v.size → u ≡ m → (HasNoMarks v → HasNoMarks u) → IsMoved p s k f a v u
+moved-to p s k f a v u m there decided still lists fewer size is unmarked = record {
   there = there;
-  decided = is_top _ goes;
-  still = λ before. refl;
-  lists = ap (λ (t : FloatPool). t.lists) is ∙ gone-top k f v;
-  fewer = ap (λ (t : FloatPool). t.lists.deferred) is;
-  size = ap (λ (t : FloatPool). t.size) is;
+  decided = decided;
+  still = still;
+  lists = ap (λ (t : FloatPool). t.lists) is ∙ lists;
+  fewer = ap (λ (t : FloatPool). t.lists.deferred) is ∙ fewer;
+  size = ap (λ (t : FloatPool). t.size) is ∙ size;
   unmarked = unmarked;
 }
 
+pub moved-top : (p : Params) (s : Suppress) (k : ℕ) (f : Float) (v u : FloatPool) → slice_get v.lists.deferred k ≡ Some f → Top ≡ next_place p v.lists s (take k v.lists.deferred) f → u ≡ moved_float parts.Deferred k parts.Top f v → (HasNoMarks v → HasNoMarks u) → IsMoved p s k f at_top v u
+moved-top p s k f v u there goes is unmarked =
+    moved-to p s k f at_top v u _ there (is_top _ goes) (λ before. refl) (gone-top k f v) refl refl is unmarked
+
 pub moved-bottom : (p : Params) (s : Suppress) (k : ℕ) (f : Float) (v u : FloatPool) → slice_get v.lists.deferred k ≡ Some f → Bottom ≡ next_place p v.lists s (take k v.lists.deferred) f → u ≡ moved_float parts.Deferred k parts.Bottom f v → (HasNoMarks v → HasNoMarks u) → IsMoved p s k f at_bottom v u
-moved-bottom p s k f v u there goes is unmarked = record {
-  there = there;
-  decided = is_bottom _ goes;
-  still = λ before. refl;
-  lists = ap (λ (t : FloatPool). t.lists) is ∙ gone-bottom k f v;
-  fewer = ap (λ (t : FloatPool). t.lists.deferred) is;
-  size = ap (λ (t : FloatPool). t.size) is;
-  unmarked = unmarked;
-}
+moved-bottom p s k f v u there goes is unmarked =
+    moved-to p s k f at_bottom v u _ there (is_bottom _ goes) (λ before. refl) (gone-bottom k f v) refl refl is unmarked
 
 -- ---- above both columns
 
