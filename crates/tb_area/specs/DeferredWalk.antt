@@ -15,7 +15,7 @@ pub record IsOnWay (from : Part) (walk : List Float → List Float → FloatList
   pub left : HasLeft kept.classes (floats_of from lists)
   pub ends : walk (take kept.count (floats_of from lists)) (drop kept.count (floats_of from lists)) lists ≡ end
 
--- the walk is still on its way with later ones that stay
+-- a walk that is on its way with some floats that stay is so with these later ones too
 abbrev pub GoesOn : Part → (List Float → List Float → FloatLists → FloatLists) → FloatLists → Kept → Kept → Type 0
 GoesOn from walk lists kept later = (end : FloatLists) → IsOnWay from walk kept lists end → IsOnWay from walk later lists end
 
