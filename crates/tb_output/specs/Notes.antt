@@ -13,10 +13,18 @@ use Rattle.tb_builder.specs.Ownership.{has_class}
 use Rattle.tb_column.specs.declared.NoteBox.{NoteBox}
 use Rattle.tb_column.specs.Notes.{notes_shown, note_lists, note_count, AreDistinct, AreRisingFrom, IsNote}
 use Rattle.tb_column.specs.Page.{AreLeaves}
+use Rattle.tb_output.specs.declared.notes.TakenNotes.{TakenNotes}
+use Rattle.tb_output.specs.declared.notes.TakenNotes.TheVariants.{Empty, One, Many}
 use Rattle.tb_output.specs.State.{notes_in}
 use Rattle.tb_output.specs.Columns.{emptied_boxes}
 use Rattle.tb_output.specs.Firing.{builder_lists}
 use Rattle.tb_output.specs.MachineFrame.{AreNoneOf}
+
+-- the boxes that were taken
+abbrev pub boxes_held : TakenNotes → List NoteBox
+boxes_held Empty = []
+boxes_held (One n) = n ∷ []
+boxes_held (Many ns) = ns.items
 
 -- the boxes, with those of these classes void
 abbrev pub with_voids : List Class → List Boxed → List Boxed

@@ -15,7 +15,7 @@ ghost use Rattle.tb_column.specs.Page.{IsPageList};
 ghost use Rattle.tb_output.specs.Output.{hold_penalty, hold, output_by};
 ghost use Rattle.tb_output.specs.Machine.{machine_lists, AreOutputParams, AreClassesFrom, IsMachine};
 ghost use Rattle.tb_output.specs.PageChanges.{with_held};
-ghost use Rattle.tb_output.specs.Notes.{AreKnownNotes, NotesTaken};
+ghost use Rattle.tb_output.specs.Notes.{boxes_held, AreKnownNotes, NotesTaken};
 ghost use Rattle.tb_output.specs.FiringWork.{shows, shows_back, shows_boxes, shows_page, shows_all, IsCutShort, Does};
 ghost use Rattle.tb_output.specs.MachineFrame.{AreTextLists, IsBack, back_lists, KeepsMachine, KeepsBack};
 ghost use Rattle.tb_output.specs.Firing.{whole_work, fired_in, builder_lists, refusal_of, IsReach, AreSizedBoxes, CanFire, CanGoBack, IsFired, IsRefusal, IsUntouched, KeepsAll, KeepsServing};
@@ -23,7 +23,7 @@ ghost use Rattle.tb_output.specs.FiringParts.{page_output, served};
 
 use crate::back_list::drop_list;
 use crate::goal::is_signal;
-use crate::notes::take_notes;
+use crate::notes::{TakenNotes, take_notes};
 use crate::texts::list_height;
 use crate::{Machine, RunFault, Turn};
 use std::alloc::AllocError;
@@ -183,8 +183,9 @@ impl Machine {
             self.hold(store, page.body, room);
             return Ok(());
         }
-        let notes = self.take_notes(store, b)?;
-        self.output_page(store, page, &notes, back)
+        let mut notes = TakenNotes::Empty;
+        self.take_notes(store, b, &mut notes)?;
+        self.output_page(store, page, notes.as_slice(), back)
     }
 
     // Takes the insertions of the page out of the boxes of their classes.
@@ -192,18 +193,20 @@ impl Machine {
         &self,
         store: &mut Lists<Node>,
         b: &mut Builder,
-    ) -> Result<Vec<NoteBox>, AllocError>
+        notes: &mut TakenNotes,
+    ) -> Result<(), AllocError>
         requires sound { IsSound b.old store.old }
         requires awaits { NoPage (contents_of b.old store.old) }
         requires classes { AreClassesFrom 0 self.now.classes }
         requires known { (contents_of b.old store.old).classes ≡ self.now.classes }
         requires sized { AreSizedBoxes (contents_of b.old store.old).boxes }
         requires few { box_count (contents_of b.old store.old).boxes ≤ 8388608 }
-        ensures taken { IfOk result (λ notes. NotesTaken self.now.classes notes.items b.old b.new store.old store.new) }
+        requires none { boxes_held notes.old ≡ [] }
+        ensures taken { OnOk result (NotesTaken self.now.classes (boxes_held notes.new) b.old b.new store.old store.new) }
         ensures sound { IsSound b.new store.new }
         ensures frame { OnlyChanged (builder_lists b.old store.old) (builder_lists b.new store.new) store.old store.new }
     {
-        take_notes(self.alloc, store, b, &self.classes)
+        take_notes(self.alloc, store, b, &self.classes, notes)
     }
 
     // Holds the page of this room until the next firing, and drops what was held before.

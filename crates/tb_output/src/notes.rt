@@ -1,6 +1,6 @@
 //! The insertions of a page are taken out of the boxes of their classes.
 
-ghost use Rattle.std.specs.Prelude.{◌≡◌, ◌≤◌, true, [], ◌∷◌, IfOk, option_to_list};
+ghost use Rattle.std.specs.Prelude.{◌≡◌, ◌≤◌, true, [], ◌∷◌, ◌++◌, IfOk, OnOk, option_to_list};
 ghost use Rattle.tb_pool.specs.Frame.{OnlyChanged};
 ghost use Rattle.tb_builder.specs.Contents.{contents_of, box_count};
 ghost use Rattle.tb_builder.specs.Courses.{IsSound};
@@ -8,18 +8,66 @@ ghost use Rattle.tb_builder.specs.Contributions.{NoPage};
 ghost use Rattle.tb_builder.specs.Ownership.{has_class};
 ghost use Rattle.tb_output.specs.Machine.{AreClassesFrom};
 ghost use Rattle.tb_output.specs.Firing.{builder_lists, AreSizedBoxes};
-ghost use Rattle.tb_output.specs.Notes.{BoxesTaken, NotesTaken};
+ghost use Rattle.tb_output.specs.Notes.{boxes_held, BoxesTaken, NotesTaken};
 
 use crate::classes::Classes;
 use std::alloc::{AllocError, Global};
+use std::slice;
 use tb_builder::Builder;
 use tb_column::NoteBox;
 use tb_insert::Class;
 use tb_node::Node;
 use tb_pool::Lists;
 
-/// Takes the insertions of the page that fired into lists that are opened for them, by rising class. A class with a
-/// void box has no list; one whose box was given an empty list has an empty one.
+/// The boxes of the insertions of a page, by rising class. Few pages have insertions of more than one class, and only
+/// those take memory.
+#[derive(Drop)]
+pub(crate) enum TakenNotes {
+    Empty,
+    One(NoteBox),
+    Many(Vec<NoteBox>),
+}
+
+impl TakenNotes {
+    /// The boxes.
+    #[inline]
+    pub(crate) fn as_slice(&self) -> &[NoteBox]
+        ensures { result.now ≡ boxes_held self.now }
+    {
+        match self {
+            TakenNotes::Empty => &[],
+            TakenNotes::One(note) => slice::from_ref(note),
+            TakenNotes::Many(notes) => notes,
+        }
+    }
+
+    // Puts a box behind the others.
+    #[inline]
+    fn push(&mut self, alloc: Global, note: NoteBox) -> Result<(), AllocError>
+        ensures { OnOk result (boxes_held self.new ≡ boxes_held self.old ++ note ∷ []) }
+    {
+        match self {
+            TakenNotes::Empty => *self = TakenNotes::One(note),
+            TakenNotes::One(first) => *self = TakenNotes::Many(pair(alloc, *first, note)?),
+            TakenNotes::Many(notes) => notes.push(note)?,
+        }
+        Ok(())
+    }
+}
+
+// A vector of two boxes.
+fn pair(alloc: Global, first: NoteBox, second: NoteBox) -> Result<Vec<NoteBox>, AllocError>
+    ensures { IfOk result (λ notes. notes.items ≡ first ∷ second ∷ []) }
+{
+    let mut notes = Vec::new(alloc);
+    notes.push(first)?;
+    notes.push(second)?;
+    Ok(notes)
+}
+
+/// Takes the insertions of the page that fired into lists that are opened for them, by rising class, and puts their boxes
+/// into `notes`, which holds none before. A class with a void box has no list; one whose box was given an empty list has
+/// an empty one.
 ///
 /// If there is no memory, some boxes may be void already.
 pub(crate) fn take_notes(
@@ -27,24 +75,25 @@ pub(crate) fn take_notes(
     store: &mut Lists<Node>,
     b: &mut Builder,
     classes: &Classes,
-) -> Result<Vec<NoteBox>, AllocError>
+    notes: &mut TakenNotes,
+) -> Result<(), AllocError>
     requires sound { IsSound b.old store.old }
     requires awaits { NoPage (contents_of b.old store.old) }
     requires classes { AreClassesFrom 0 classes.now }
     requires known { (contents_of b.old store.old).classes ≡ classes.now }
     requires sized { AreSizedBoxes (contents_of b.old store.old).boxes }
     requires few { box_count (contents_of b.old store.old).boxes ≤ 8388608 }
-    ensures taken { IfOk result (λ notes. NotesTaken classes.now notes.items b.old b.new store.old store.new) }
+    requires none { boxes_held notes.old ≡ [] }
+    ensures taken { OnOk result (NotesTaken classes.now (boxes_held notes.new) b.old b.new store.old store.new) }
     ensures sound { IsSound b.new store.new }
     ensures frame { OnlyChanged (builder_lists b.old store.old) (builder_lists b.new store.new) store.old store.new }
 {
-    let mut notes = Vec::new(alloc);
     for class in &classes.items {
         if let Some(note) = take_class(store, b, class)? {
-            notes.push(note)?;
+            notes.push(alloc, note)?;
         }
     }
-    Ok(notes)
+    Ok(())
 }
 
 // Takes the box of one class into a list that is opened for it. None if the box is void.

@@ -6,7 +6,7 @@ use Rattle.tb_output.specs.Notes.{NotesTaken}
 use Rattle.tb_output.proofs.Firings.GoalLemmas.{int-is}
 use Rattle.tb_output.proofs.Firings.OutputLemmas.{held-alone, held-serving, held-all, middle-shown, middle-back, middle-empty, untaken-cut, untaken-serving, page-few, page-lists, page-serving, page-contents, page-all, page-cut}
 use Rattle.tb_output.proofs.FiringWork.ResultLemmas.{memory-err, ok-map, err-map}
-use Rattle.tb_output.proofs.Machine.output.Goals.{After-deref}
+use Rattle.tb_output.proofs.Machine.output.Goals.{After-as_slice}
 use Rattle.tb_output.proofs.Machine.output.Goals as goal
 
 -- a page that is not held has a higher penalty
@@ -14,11 +14,11 @@ above-hold : (n : ℤ) → hold_penalty ≤ℤ n → is_int n hold_penalty ≡ f
 above-hold n low e = let differ : n ≡ hold_penalty → ⊥ = λ same. (let both : false ≡ true = sym e ∙ int-is n hold_penalty same in cc) in grind (arith, ints, low, differ)
 
 -- the insertions of the page are taken
-taken : (c : After-deref) → NotesTaken c.args.self.now.classes c.deref.result.now c.args.b.now c.take_notes.new.b c.args.store.now c.take_notes.new.store
-taken c = subst (λ ns. NotesTaken c.args.self.now.classes ns c.args.b.now c.take_notes.new.b c.args.store.now c.take_notes.new.store) (sym c.deref.ensures.value) c.in_ok-notes.ensures.taken
+taken : (c : After-as_slice) → NotesTaken c.args.self.now.classes c.as_slice.result.now c.args.b.now c.take_notes.new.b c.args.store.now c.take_notes.new.store
+taken c = subst (λ ns. NotesTaken c.args.self.now.classes ns c.args.b.now c.take_notes.new.b c.args.store.now c.take_notes.new.store) (sym c.as_slice.ensures) c.in_ok-take_notes.ensures.taken
 
 -- the page is not held
-above : (c : After-deref) → hold_penalty <ℤ c.args.page.now.penalty
+above : (c : After-as_slice) → hold_penalty <ℤ c.args.page.now.penalty
 above c =
     let fits : FitsSigned w64 c.args.page.now.penalty = search rules in
     above-hold _ c.requires.page.penalty (sym (simp to_z-of_z at c.is_signal.ensures) ∙ c.if-is_signal.false)
@@ -38,17 +38,17 @@ returns-then-is_signal-clause-keeps c = held-serving _ _ _ _ _ c.requires.machin
 pub take_notes-requires-clause-few : goal.take_notes-requires-clause-few
 take_notes-requires-clause-few c = let few = c.requires.page.few in omega (arith, few)
 
-pub returns-in_err-notes-clause-err : goal.returns-in_err-notes-clause-err
-returns-in_err-notes-clause-err c =
+pub returns-in_err-take_notes-clause-err : goal.returns-in_err-take_notes-clause-err
+returns-in_err-take_notes-clause-err c =
     memory-err c.from_residual.result _ c.from_residual.ensures.1
     (untaken-cut _ _ _ _ _ c.requires.machine c.requires.builder c.requires.page c.requires.back c.requires.empty c.requires.back_body c.requires.back_free _ _ c.take_notes.ensures.sound c.take_notes.ensures.frame)
 
-pub returns-in_err-notes-clause-keeps : goal.returns-in_err-notes-clause-keeps
-returns-in_err-notes-clause-keeps c = untaken-serving _ _ _ _ _ c.requires.machine c.requires.builder c.requires.page c.requires.back c.requires.empty c.requires.back_body c.requires.back_free _ _ c.take_notes.ensures.sound c.take_notes.ensures.frame
+pub returns-in_err-take_notes-clause-keeps : goal.returns-in_err-take_notes-clause-keeps
+returns-in_err-take_notes-clause-keeps c = untaken-serving _ _ _ _ _ c.requires.machine c.requires.builder c.requires.page c.requires.back c.requires.empty c.requires.back_body c.requires.back_free _ _ c.take_notes.ensures.sound c.take_notes.ensures.frame
 
 pub output_page-requires : goal.output_page-requires
 output_page-requires c =
-    let w = (goal.at.output_page-requires c).After-deref in
+    let w = (goal.at.output_page-requires c).After-as_slice in
     record {
       machine = (middle-shown _ _ _ _ _ c.requires.machine c.requires.builder c.requires.page c.requires.back c.requires.empty c.requires.back_body c.requires.back_free _ _ c.take_notes.ensures.sound c.take_notes.ensures.frame).machine;
       back = middle-back _ _ _ _ _ c.requires.machine c.requires.builder c.requires.page c.requires.back c.requires.empty c.requires.back_body c.requires.back_free _ _ c.take_notes.ensures.sound c.take_notes.ensures.frame;
@@ -62,26 +62,26 @@ output_page-requires c =
 
 pub returns-clause-ok : goal.returns-clause-ok
 returns-clause-ok c =
-    let w = (goal.at.returns-clause-ok c).After-deref in
+    let w = (goal.at.returns-clause-ok c).After-as_slice in
     ok-map c.output_page.result _ _
     (page-all _ _ _ _ _ c.requires.machine c.requires.builder c.requires.page c.requires.back c.requires.empty c.requires.back_body c.requires.back_free _ _ c.take_notes.ensures.sound c.take_notes.ensures.frame _ (taken w) _ _ c.output_page.ensures.keeps (above w))
     c.output_page.ensures.ok
 
 pub returns-clause-err : goal.returns-clause-err
 returns-clause-err c =
-    let w = (goal.at.returns-clause-err c).After-deref in
+    let w = (goal.at.returns-clause-err c).After-as_slice in
     err-map c.output_page.result _ _
     (λ e. page-cut _ _ _ _ _ c.requires.machine c.requires.builder c.requires.page c.requires.back c.requires.empty c.requires.back_body c.requires.back_free _ _ c.take_notes.ensures.sound c.take_notes.ensures.frame _ (taken w) _ _ c.output_page.ensures.keeps e (above w))
     c.output_page.ensures.err
 
 pub returns-clause-contents : goal.returns-clause-contents
 returns-clause-contents c =
-    let w = (goal.at.returns-clause-contents c).After-deref in
+    let w = (goal.at.returns-clause-contents c).After-as_slice in
     ok-map c.output_page.result _ _
     (λ done. page-contents _ _ _ _ _ c.requires.machine c.requires.builder c.requires.page c.requires.back c.requires.empty c.requires.back_body c.requires.back_free _ _ c.take_notes.ensures.sound c.take_notes.ensures.frame _ (taken w) _ _ c.output_page.ensures.keeps)
     c.output_page.ensures.ok
 
 pub returns-clause-keeps : goal.returns-clause-keeps
 returns-clause-keeps c =
-    let w = (goal.at.returns-clause-keeps c).After-deref in
+    let w = (goal.at.returns-clause-keeps c).After-as_slice in
     page-serving _ _ _ _ _ c.requires.machine c.requires.builder c.requires.page c.requires.back c.requires.empty c.requires.back_body c.requires.back_free _ _ c.take_notes.ensures.sound c.take_notes.ensures.frame _ (taken w) _ _ c.output_page.ensures.keeps
