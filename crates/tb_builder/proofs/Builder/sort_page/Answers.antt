@@ -35,7 +35,7 @@ insertion_place-ahead-requires-clause-some c =
     let t = c.insertions.store in
     let h = c.insertions.invariant.sorting in
     let so = index_by b d s t c.args.body h c.insertions.sorted c.len-count.result c.len-count.ensures c.insertions.invariant.sorted_is in
-    some_remains b d s t c.args.body h c.requires.marked c.last_insertion.result c.last_insertion.ensures c.in-Some.last c.insertions.sorted c.in-Some.is so c.insertions-test.true
+    some_remains b d s t c.args.body h c.requires.marked c.last_insertion.result c.last_insertion.ensures c.in-Some.last c.insertions.sorted c.in-Some.is so (omega (arith, c.insertions-test.true))
 
 pub sort_run-requires-clause-body : goal.sort_run-requires-clause-body
 sort_run-requires-clause-body c = still_body c.args.self.now c.insertions.self c.args.store.now c.insertions.store c.args.body c.insertions.invariant.sorting c.requires.body_apart
