@@ -4,10 +4,7 @@ ghost use Rattle.std.specs.Prelude.{◌≡◌, ◌≢◌, ◌≤◌, Err, IfOk, 
 ghost use Rattle.tb_io.specs.Faults.{Rose};
 ghost use Rattle.tb_galley.specs.Valid.{IsValid};
 ghost use Rattle.tb_pool.specs.Lists.{IsLive};
-ghost use Rattle.tb_galley.specs.GalleyNodes.{expanded};
-ghost use Rattle.tb_output.specs.State.{first_state};
-ghost use Rattle.tb_run.specs.Run.{run_of, classes_of};
-ghost use Rattle.tb_run.specs.Routine.{state_of, IsReady};
+ghost use Rattle.tb_run.specs.Run.{run_of};
 ghost use Rattle.tb_top.specs.Laws.{KeepsLaws, WithinLimits};
 ghost use Rattle.tb_top.specs.DeadCycles.{HasRoomForCycles};
 ghost use Rattle.tb_top.specs.Pages.{Paginates, Refuses, IsNotForCycles};
@@ -73,49 +70,19 @@ pub fn paginate<K: Sink>(
     ensures silent { view ≡ View.Silent → result ≢ Err PageFault.WriteFault }
     ensures later { K.faults out.old ≤ K.faults out.new }
 {
-    // The routine is large: it stays where it was made.
-    let mut made = Routine::new(alloc, galley);
-    match &mut made {
-        Ok(routine) => paginate_waiting(alloc, galley, routine, view, out),
-        Err(_) => Err(PageFault::Memory),
-    }
-}
-
-// The same, once the nodes of the galley wait for its first page.
-fn paginate_waiting<K: Sink>(
-    alloc: Global,
-    galley: &Galley,
-    routine: &mut Routine,
-    view: View,
-    out: &mut K,
-) -> Result<Totals, PageFault>
-    requires valid { IsValid galley.now }
-    requires state { state_of routine.old ≡ first_state galley.now.params (classes_of galley.now) (expanded galley.now) }
-    requires params { routine.old.machine.params ≡ galley.now.params }
-    requires ready { IsReady routine.old }
-
-    ensures done { IfOk result (Paginates view (run_of galley.now) (K.held out.old) (K.held out.new)) }
-    ensures laws { IfOk result (KeepsLaws galley.now) }
-    ensures limits { WithinLimits galley.now.params (run_of galley.now) }
-    ensures cycles { HasRoomForCycles galley.now → IfErr result IsNotForCycles }
-    ensures refused { IfErr result (Refuses view (run_of galley.now) (K.held out.old) (K.held out.new)) }
-
-    ensures cause { result ≡ Err PageFault.WriteFault → Rose (K.faults out.old) (K.faults out.new) }
-    ensures silent { view ≡ View.Silent → result ≢ Err PageFault.WriteFault }
-    ensures later { K.faults out.old ≤ K.faults out.new }
-{
     show(view, HEADER, out)?;
+    let mut routine = Routine::new(alloc, galley)?;
     let mut totals = Totals::new();
     let mut happened = Vec::new(alloc);
     let mut text = Vec::new(alloc);
     if let Some(ending) = routine.node_limit() {
-        return finish(alloc, routine, view, &totals, ending, out);
+        return finish(alloc, &routine, view, &totals, ending, out);
     }
     'firing: loop {
         let ending = routine.turn(is_traced(view), &mut happened)?;
         send(&routine.store, &happened, view, &mut totals, &mut text, out)?;
         if let Some(ending) = ending {
-            return finish(alloc, routine, view, &totals, ending, out);
+            return finish(alloc, &routine, view, &totals, ending, out);
         }
         routine.make_room(&happened);
     }

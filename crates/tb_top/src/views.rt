@@ -37,8 +37,7 @@ pub(crate) fn show<K: Sink>(view: View, bytes: &[u8], out: &mut K) -> Result<(),
     }
 }
 
-// Counts what was sent, and writes the lines of what happened, in a text that is used again. Most firings send nothing.
-#[inline(always)]
+// Counts what was sent, and writes the lines of what happened, in a text that is used again.
 pub(crate) fn send<K: Sink>(
     store: &Lists<Node>,
     happened: &[Happening],
@@ -52,9 +51,6 @@ pub(crate) fn send<K: Sink>(
     ensures shown { Shows view (K.held out.old) (K.held out.new) (K.faults out.old) (K.faults out.new) (all_lines traced_lines (events_of store.now happened.now)) result }
     ensures counted { OnOk result (totals.new ≡ with_events (events_of store.now happened.now) totals.old) }
 {
-    if happened.is_empty() {
-        return Ok(());
-    }
     count_happened(store, happened, totals);
     text.clear();
     put_happened(text, store, happened, view)?;

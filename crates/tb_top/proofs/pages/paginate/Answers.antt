@@ -23,20 +23,25 @@ use Rattle.tb_top.proofs.Ends.CycleAnswers.{not-for-cycles}
 use Rattle.tb_run.proofs.FromGalley.GalleyRuns.{galley-classes}
 use Rattle.tb_run.proofs.FromGalley.GalleyItems.{galley-items}
 use Rattle.tb_run.proofs.FromGalley.GalleyNodeLemmas.{galley-nodes}
-use Rattle.tb_top.proofs.pages.paginate_waiting.Given.{Over}
-use Rattle.tb_top.proofs.pages.paginate_waiting.Goals.{In-Some, In_ok-ending, In_ok-send}
-use Rattle.tb_top.proofs.pages.paginate_waiting.Goals as goal
+use Rattle.tb_top.proofs.pages.paginate.Given.{Over}
+use Rattle.tb_top.proofs.pages.paginate.Goals.{In-Some, In_ok-ending, In_ok-send}
+use Rattle.tb_top.proofs.pages.paginate.Goals as goal
 
 pub returns-in_err-show-clause-refused : goal.returns-in_err-show-clause-refused
 returns-in_err-show-clause-refused g c =
     let p = err_from_is_err_and c.from_residual.result c.from_residual.ensures.1 in
     rw (p.1, p.2) (refuses-cut c.args.view (run_of c.args.galley.now) _ _ c.in_err-show.field-0.0 (prefix-first c.args.view c.args.galley.now _ _ c.in_err-show.ensures.part))
 
+pub returns-in_err-routine-clause-refused : goal.returns-in_err-routine-clause-refused
+returns-in_err-routine-clause-refused g c =
+    let p = err_from_is_err_and c.from_residual-in_err-routine.result c.from_residual-in_err-routine.ensures.1 in
+    rw (p.1, p.2) (prefix-first c.args.view c.args.galley.now _ _ (prefix_whole _ _ _ c.in_ok-show.ensures.whole))
+
 -- ---- more nodes wait at the start than may be
 
 -- nothing but the end of the run is left
 ends-at-start : (g : Over) (c : In-Some g) → ClosesAt c.args.view c.node_limit.new.self c.in-Some.ending (g.K.Sink.held c.args.out.now) (g.K.Sink.held c.show.new.out) c.new-totals.result (run_of c.args.galley.now)
-ends-at-start g c = start-closing c.args.view c.args.galley.now c.node_limit.new.self _ _ c.new-totals.result c.node_limit.result (ap state_of c.node_limit.ensures.same ∙ c.requires.state) c.in_ok-show.ensures.whole c.new-totals.ensures (c.node_limit.ensures.limit ∙ (λ i. over_limit (c.requires.params i) (held_count (sym (ap state_of c.node_limit.ensures.same) i)))) c.in-Some.ending c.in-Some.is
+ends-at-start g c = start-closing c.args.view c.args.galley.now c.node_limit.new.self _ _ c.new-totals.result c.node_limit.result (ap state_of c.node_limit.ensures.same ∙ c.in_ok-routine.ensures.state) c.in_ok-show.ensures.whole c.new-totals.ensures (c.node_limit.ensures.limit ∙ (λ i. over_limit (c.in_ok-routine.ensures.params i) (held_count (sym (ap state_of c.node_limit.ensures.same) i)))) c.in-Some.ending c.in-Some.is
 
 pub returns-in-Some-clause-done : goal.returns-in-Some-clause-done
 returns-in-Some-clause-done g c =
@@ -53,11 +58,11 @@ returns-in-Some-clause-refused g c =
 
 pub firing-init : goal.firing-init
 firing-init g c =
-    let is = ap state_of c.node_limit.ensures.same ∙ c.requires.state in
-    let over = c.node_limit.ensures.limit ∙ (λ i. over_limit (c.requires.params i) (held_count (sym (ap state_of c.node_limit.ensures.same) i))) in
+    let is = ap state_of c.node_limit.ensures.same ∙ c.in_ok-routine.ensures.state in
+    let over = c.node_limit.ensures.limit ∙ (λ i. over_limit (c.in_ok-routine.ensures.params i) (held_count (sym (ap state_of c.node_limit.ensures.same) i))) in
     record {
-      ready = limit-ready c.args.routine.now c.node_limit.new.self c.node_limit.result c.requires.ready c.node_limit.ensures.same c.node_limit.ensures.bounded c.node_limit.ensures.within c.in_default.is;
-      params = ap (λ (r : Routine). r.machine.params) c.node_limit.ensures.same ∙ c.requires.params;
+      ready = limit-ready c.in_ok-routine.routine c.node_limit.new.self c.node_limit.result c.in_ok-routine.ensures.ready c.node_limit.ensures.same c.node_limit.ensures.bounded c.node_limit.ensures.within c.in_default.is;
+      params = ap (λ (r : Routine). r.machine.params) c.node_limit.ensures.same ∙ c.in_ok-routine.ensures.params;
       going = start-going c.args.view c.args.galley.now c.node_limit.new.self _ _ c.new-totals.result c.node_limit.result is c.in_ok-show.ensures.whole c.new-totals.ensures over c.in_default.is;
       tally = start-tally c.args.view c.args.galley.now c.node_limit.new.self _ _ c.new-totals.result c.node_limit.result is c.in_ok-show.ensures.whole c.new-totals.ensures over (few-firings c.args.galley.now.params c.requires.valid.params);
       later = c.in_ok-show.ensures.later;
@@ -157,8 +162,23 @@ firing-preserved g c =
       later = omega (arith, start, later);
     }
 
+pub new-requires-clause-params : goal.new-requires-clause-params
+new-requires-clause-params g c = params-runnable c.args.galley.now.params c.requires.valid.params
+
+pub new-requires-clause-items : goal.new-requires-clause-items
+new-requires-clause-items g c = galley-items c.args.galley.now c.requires.valid
+
+pub new-requires-clause-classes : goal.new-requires-clause-classes
+new-requires-clause-classes g c = galley-classes c.args.galley.now (params-runnable c.args.galley.now.params c.requires.valid.params) c.requires.valid
+
+pub new-requires-clause-nodes : goal.new-requires-clause-nodes
+new-requires-clause-nodes g c = galley-nodes c.args.galley.now (params-runnable c.args.galley.now.params c.requires.valid.params).foot c.requires.valid
+
 pub returns-in_err-show-clause-limits : goal.returns-in_err-show-clause-limits
 returns-in_err-show-clause-limits g c = run-within c.args.galley.now
+
+pub returns-in_err-routine-clause-limits : goal.returns-in_err-routine-clause-limits
+returns-in_err-routine-clause-limits g c = run-within c.args.galley.now
 
 pub returns-in-Some-clause-limits : goal.returns-in-Some-clause-limits
 returns-in-Some-clause-limits g c = run-within c.args.galley.now
@@ -174,6 +194,9 @@ returns-in-Some-ending-clause-limits g c = run-within c.args.galley.now
 
 pub returns-in_err-show-clause-cycles : goal.returns-in_err-show-clause-cycles
 returns-in_err-show-clause-cycles g c = λ room. IfErr-weaker c.from_residual.result _ _ (not-for-cycles c.args.galley.now c.requires.valid room c.args.view _ _) (returns-in_err-show-clause-refused g c)
+
+pub returns-in_err-routine-clause-cycles : goal.returns-in_err-routine-clause-cycles
+returns-in_err-routine-clause-cycles g c = λ room. IfErr-weaker c.from_residual-in_err-routine.result _ _ (not-for-cycles c.args.galley.now c.requires.valid room c.args.view _ _) (returns-in_err-routine-clause-refused g c)
 
 pub returns-in-Some-clause-cycles : goal.returns-in-Some-clause-cycles
 returns-in-Some-clause-cycles g c = λ room. IfErr-weaker c.finish.result _ _ (not-for-cycles c.args.galley.now c.requires.valid room c.args.view _ _) (returns-in-Some-clause-refused g c)

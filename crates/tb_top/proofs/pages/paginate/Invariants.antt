@@ -3,7 +3,7 @@ use Rattle.tb_run.specs.Run.{run_of, firings_left}
 use Rattle.tb_run.specs.Routine.{IsReady, state_of}
 use Rattle.tb_top.proofs.Written.GoingLemmas.{Going}
 use Rattle.tb_top.proofs.Written.TallyLemmas.{IsTally}
-use Rattle.tb_top.proofs.pages.paginate_waiting.Given as goal
+use Rattle.tb_top.proofs.pages.paginate.Given as goal
 
 abbrev pub invariant-firing : goal.invariant-firing
 invariant-firing g l = record {
