@@ -14,7 +14,7 @@ use Rattle.tb_node.specs.SmallAmounts.{IsSmallShape}
 use Rattle.tb_break.specs.SplitPlace.{NodesFit}
 use Rattle.tb_break.specs.PageTop.{pruned_at, pruned_by, pruned_list, pruned_leaves, pruned_nodes, glue_before, top_glue}
 use Rattle.tb_break.specs.PageTopTurns.{kept_at, before_box, boxed_at, from_box, turned_at, turned, moved_at, moved, top_at, with_front, topped}
-use Rattle.tb_break.proofs.StoreLemmas.{list-with_list, with_list-twice}
+use Rattle.tb_pool.proofs.CallerLemmas.{list_same, with_list-twice}
 
 -- ---- the definition under a map of the nodes
 
@@ -182,7 +182,7 @@ module _ (old now new : Lists Node) (l turn all count : ℕ) where
   turns k lt g e m p = by_rest g.rest refl
     where
       at : list_at now l ≡ g.rest ++ g.aside
-      at = list-with_list old now l (g.rest ++ g.aside) g.lists
+      at = list_same old now l (g.rest ++ g.aside) g.lists
 
       by_rest : (rest : List Node) → g.rest ≡ rest → Turning old new l (turn + 1) all (count + k)
       by_rest [] r = absurd (omega (arith, g.left_is, ap length r))
@@ -217,7 +217,7 @@ module _ (old now new : Lists Node) (l turn all count : ℕ) where
   stops lt g e m = by_rest g.rest refl
     where
       at : list_at now l ≡ g.rest ++ g.aside
-      at = list-with_list old now l (g.rest ++ g.aside) g.lists
+      at = list_same old now l (g.rest ++ g.aside) g.lists
 
       by_rest : (rest : List Node) → g.rest ≡ rest → Stopped
       by_rest [] r = absurd (omega (arith, g.left_is, ap length r))
@@ -273,7 +273,7 @@ pub comes_back : (old now mid new : Lists Node) (l : ℕ) (front aside : List No
 comes_back old now mid new l front aside turn n init lt g last popped pushed =
     let apart = last_apart g.left (omega (arith, ap length g.whole, length-append g.left g.back, g.back_is)) in
     let all : init ++ n ∷ [] ≡ (g.back ++ (front ++ apart.0)) ++ apart.1 ∷ [] =
-    sym last ∙ list-with_list old now l (g.back ++ (front ++ g.left)) g.lists ∙ ap (λ ns. g.back ++ (front ++ ns)) apart.2
+    sym last ∙ list_same old now l (g.back ++ (front ++ g.left)) g.lists ∙ ap (λ ns. g.back ++ (front ++ ns)) apart.2
     ∙ ap (λ ns. g.back ++ ns) (sym (append_assoc front apart.0 (apart.1 ∷ []))) ∙ sym (append_assoc g.back (front ++ apart.0) (apart.1 ∷ [])) in
     let same = same_from_push init (g.back ++ (front ++ apart.0)) n apart.1 all in
     record {
@@ -282,7 +282,7 @@ comes_back old now mid new l front aside turn n init lt g last popped pushed =
       whole = g.whole ∙ ap (λ ns. ns ++ g.back) apart.2 ∙ append_assoc apart.0 (apart.1 ∷ []) g.back ∙ ap (λ v. apart.0 ++ v ∷ g.back) (sym same.1);
       back_is = omega (arith, g.back_is);
       lists = with_list-twice old mid new l init (n ∷ list_at mid l) (with_list-twice old now mid l (g.back ++ (front ++ g.left)) init g.lists popped) pushed
-          ∙ ap (λ ns. with_list old l (n ∷ ns)) (list-with_list now mid l init popped ∙ same.0);
+          ∙ ap (λ ns. with_list old l (n ∷ ns)) (list_same now mid l init popped ∙ same.0);
     }
 
 pub all_back : (old now : Lists Node) (l : ℕ) (front aside : List Node) (turn : ℕ) → length aside ≤ turn → Returned old now l front aside turn → now.lists ≡ with_list old l (aside ++ front)
@@ -293,7 +293,7 @@ all_back old now l front aside turn le g =
 -- until all are back, the list is not empty
 pub some_left : (old now : Lists Node) (l : ℕ) (front aside : List Node) (turn : ℕ) → turn < length aside → Returned old now l front aside turn → list_at now l ≡ [] → ⊥
 some_left old now l front aside turn lt g none =
-    let is : [] ≡ g.back ++ (front ++ g.left) = sym none ∙ list-with_list old now l (g.back ++ (front ++ g.left)) g.lists in
+    let is : [] ≡ g.back ++ (front ++ g.left) = sym none ∙ list_same old now l (g.back ++ (front ++ g.left)) g.lists in
     omega (arith, ap length is, ap length g.whole, length-append g.left g.back, length-append g.back (front ++ g.left), length-append front g.left, g.back_is)
 
 -- ---- the whole
@@ -377,11 +377,11 @@ module _ (a b c d : Lists Node) (l : ℕ) (t : ℤ) (count : ℕ) where
   prunes e count_is p f q h s =
       let kept = before_box (list_at a l) in
       let boxes = from_box (list_at a l) in
-      let at_b : list_at b l ≡ boxes ++ kept = list-with_list a b l (boxes ++ kept) e in
-      let at_c : list_at c l ≡ topped t boxes ++ kept = list-with_list b c l (topped t (list_at b l)) f ∙ ap (topped t) at_b ∙ topped-parts t (list_at a l) boxes in
+      let at_b : list_at b l ≡ boxes ++ kept = list_same a b l (boxes ++ kept) e in
+      let at_c : list_at c l ≡ topped t boxes ++ kept = list_same b c l (topped t (list_at b l)) f ∙ ap (topped t) at_b ∙ topped-parts t (list_at a l) boxes in
       let from_c : d.lists ≡ with_list c l (kept ++ topped t boxes) = h (topped t boxes) kept at_c (sym count_is) in
       let from_a : d.lists ≡ with_list a l (kept ++ topped t boxes) = with_list-twice a b d l (boxes ++ kept) (kept ++ topped t boxes) e (with_list-twice b c d l (topped t (list_at b l)) (kept ++ topped t boxes) f from_c) in
-      let at_d : list_at d l ≡ kept ++ topped t boxes = list-with_list a d l (kept ++ topped t boxes) from_a in
+      let at_d : list_at d l ≡ kept ++ topped t boxes = list_same a d l (kept ++ topped t boxes) from_a in
       let places : d.spare + length (list_at d l) ≡ a.spare + length (list_at a l) =
       omega (arith, s, p, q, ap length at_d, ap length at_c, length-append (topped t boxes) kept, length-append kept (topped t boxes)) in
       record {

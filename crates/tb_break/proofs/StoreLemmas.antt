@@ -4,30 +4,9 @@ use Rattle.std.proofs.lemmas.Bool.{true≢false, cases_eq}
 use Rattle.std.specs.FinMap.{FinMap, get, insert}
 use Rattle.std.specs.Ordering.{nat_cmp}
 use Rattle.tb_pool.specs.Lists.{Lists, IsLive, list_at, with_list}
-use Rattle.tb_pool.proofs.MapLemmas.{get-insert_same, get-insert_other, insert_from_get}
+use Rattle.tb_pool.proofs.MapLemmas.{get-insert_same, get-insert_other}
 
 module _ {T : Type 0} where
-  pub list-with_list : (old now : Lists T) (l : ℕ) (xs : List T) → now.lists ≡ with_list old l xs → list_at now l ≡ xs
-  list-with_list old now l xs e = ap (λ (m : FinMap nat_cmp (List T)). unwrap_or (get m l) []) e ∙ ap (λ (o : Option (List T)). unwrap_or o []) (get-insert_same old.lists l xs)
-
-  pub live-with_list : (old now : Lists T) (l : ℕ) (xs : List T) → now.lists ≡ with_list old l xs → IsLive now l
-  live-with_list old now l xs e = ap (λ (m : FinMap nat_cmp (List T)). is_some (get m l)) e ∙ ap (λ (o : Option (List T)). is_some o) (get-insert_same old.lists l xs)
-
-  insert-twice : (m : FinMap nat_cmp (List T)) (l : ℕ) (xs ys : List T) → insert (insert m l xs) l ys ≡ insert m l ys
-  insert-twice m l xs ys = insert_from_get m (insert (insert m l xs) l ys) l ys (get-insert_same (insert m l xs) l ys) (λ q ne. get-insert_other (insert m l xs) l ys q ne ∙ get-insert_other m l xs q ne)
-
-  -- the list was changed twice
-  pub with_list-twice : (a b c : Lists T) (l : ℕ) (xs ys : List T) → b.lists ≡ with_list a l xs → c.lists ≡ with_list b l ys → c.lists ≡ with_list a l ys
-  with_list-twice a b c l xs ys e f = f ∙ ap (λ m. insert m l ys) e ∙ insert-twice a.lists l xs ys
-
-  -- nothing was changed
-  pub with_list-same : (old now : Lists T) (l : ℕ) → IsLive old l → now.lists ≡ old.lists → now.lists ≡ with_list old l (list_at old l)
-  with_list-same old now l live e = e ∙ insert_from_get old.lists old.lists l (list_at old l) (there (get old.lists l) live) (λ q ne. refl)
-    where
-      there : (o : Option (List T)) → IsSome o → o ≡ Some (unwrap_or o [])
-      there None some = absurd (true≢false (sym some))
-      there (Some xs) some = refl
-
   -- the first of a list, if it has one
   pub none_first : (xs : List T) → None ≡ slice_get xs 0 → xs ≡ []
   none_first [] e = refl

@@ -2,7 +2,7 @@
 use Rattle.std.proofs.Common.{◌≡◌, ◌≢◌, refl, sym, ap, ◌∙◌, ℕ, suc, ◌+◌, ◌*◌, ◌<◌, List, [], ◌∷◌, ◌++◌, length, append_assoc, append-nil, Some, slice_get, true, arith}
 use Rattle.std.proofs.lemmas.List.{nil_from_length}
 use Rattle.tb_pool.specs.Lists.{Lists, IsLive, list_at, with_list}
-use Rattle.tb_pool.proofs.CallerLemmas.{list_same}
+use Rattle.tb_pool.proofs.CallerLemmas.{list_same, with_list-twice, with_list-same}
 use Rattle.tb_scaled.specs.declared.Glue.{Glue}
 use Rattle.tb_scaled.specs.Glue.{negated_glue}
 use Rattle.tb_node.specs.declared.Node.{Node}
@@ -24,7 +24,7 @@ use Rattle.tb_float.proofs.MarkLemmas.{first_marked-le, none-marked}
 use Rattle.tb_float.proofs.RetireLemmas.{one-left, all-left}
 use Rattle.tb_column.specs.declared.float_columns.PageGlue.{PageGlue}
 use Rattle.tb_column.specs.FloatColumns.{made_node, float_box, boxes_with, boxes_above, boxes_below, boxes_after, page_list}
-use Rattle.tb_column.proofs.StoreLemmas.{with_list-twice, with_list-added, with_list-same}
+use Rattle.tb_column.proofs.StoreLemmas.{with_list-added}
 
 -- two nodes were put at the end of a list that was changed before, and what is to come after them
 module _ (s0 s s1 s2 : Lists Node) (l : ℕ) (a b : Node) (changed : s.lists ≡ with_list s0 l (list_at s l)) (one : s1.lists ≡ with_list s l (list_at s l ++ a ∷ [])) (two : s2.lists ≡ with_list s1 l (list_at s1 l ++ b ∷ [])) where

@@ -5,7 +5,7 @@ use Rattle.std.proofs.lemmas.Bool.{true≢false}
 use Rattle.std.specs.FinMap.{get, insert}
 use Rattle.tb_pool.specs.Lists.{Lists, IsLive, list_at, with_list}
 use Rattle.tb_pool.specs.Frame.{OnlyChanged}
-use Rattle.tb_pool.proofs.CallerLemmas.{list_same, live_same, get_other}
+use Rattle.tb_pool.proofs.CallerLemmas.{list_same, live_same, get_other, with_list-twice}
 use Rattle.tb_scaled.specs.Glue.{negated_glue}
 use Rattle.tb_node.specs.declared.Node.{Node}
 use Rattle.tb_node.specs.declared.Float.{Float}
@@ -30,7 +30,6 @@ use Rattle.tb_column.specs.Page.{AreLeaves, IsPageList}
 use Rattle.tb_column.specs.Ranges.{AreColumnParams}
 use Rattle.tb_column.specs.ColumnChanges.{IsOpened}
 use Rattle.tb_column.specs.FloatColumns.{boxes_above, page_list, page_glue}
-use Rattle.tb_column.proofs.StoreLemmas.{with_list-twice}
 use Rattle.tb_column.proofs.ShownLemmas.{shapes-held}
 use Rattle.tb_column.proofs.FloatLemmas.{page_glue-sized, page_list-held, page_list-leaves, page_list-sized, page_list-length, boxes_above-held, boxes_above-leaves, boxes_above-sized, boxes_above-length}
 

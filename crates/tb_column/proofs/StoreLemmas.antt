@@ -4,33 +4,17 @@ use Rattle.std.proofs.lemmas.Bool.{true≢false}
 use Rattle.std.specs.FinMap.{FinMap, get, insert, remove}
 use Rattle.std.specs.Ordering.{nat_cmp}
 use Rattle.tb_pool.specs.Lists.{Lists, IsLive, list_at, with_list}
-use Rattle.tb_pool.proofs.CallerLemmas.{list_same, list_other}
+use Rattle.tb_pool.proofs.CallerLemmas.{list_same, list_other, insert-twice, with_list-twice}
 use Rattle.tb_pool.proofs.MapLemmas.{get-insert_same, get-insert_other, insert_from_get, same_from_get, list_steps}
 use Rattle.tb_float.proofs.MoveLemmas.{joined-lists}
 
 module _ {T : Type 0} where
-  -- a list is changed twice
-  pub insert-twice : (m : FinMap nat_cmp (List T)) (l : ℕ) (xs ys : List T) → insert (insert m l xs) l ys ≡ insert m l ys
-  insert-twice m l xs ys = insert_from_get m (insert (insert m l xs) l ys) l ys (get-insert_same (insert m l xs) l ys) (λ q ne. get-insert_other (insert m l xs) l ys q ne ∙ get-insert_other m l xs q ne)
-
-  -- the list was changed twice
-  pub with_list-twice : (a b c : Lists T) (l : ℕ) (xs ys : List T) → b.lists ≡ with_list a l xs → c.lists ≡ with_list b l ys → c.lists ≡ with_list a l ys
-  with_list-twice a b c l xs ys e f = f ∙ ap (λ m. insert m l ys) e ∙ insert-twice a.lists l xs ys
-
   -- values were added at its end twice
   pub with_list-added : (a b c : Lists T) (l : ℕ) (xs ys : List T) → b.lists ≡ with_list a l (list_at a l ++ xs) → c.lists ≡ with_list b l (list_at b l ++ ys) → c.lists ≡ with_list a l (list_at a l ++ (xs ++ ys))
   with_list-added a b c l xs ys e f =
       with_list-twice a b c l (list_at a l ++ xs) (list_at b l ++ ys) e f
       ∙ ap (λ t. with_list a l (t ++ ys)) (list_same a b l (list_at a l ++ xs) e)
       ∙ ap (with_list a l) (append_assoc (list_at a l) xs ys)
-
-  -- nothing was changed
-  pub with_list-same : (old now : Lists T) (l : ℕ) → IsLive old l → now.lists ≡ old.lists → now.lists ≡ with_list old l (list_at old l)
-  with_list-same old now l live e = e ∙ insert_from_get old.lists old.lists l (list_at old l) (there (get old.lists l) live) (λ q ne. refl)
-    where
-      there : (o : Option (List T)) → IsSome o → o ≡ Some (unwrap_or o [])
-      there None some = absurd (true≢false (sym some))
-      there (Some xs) some = refl
 
   -- what a list of the same store holds
   pub list-get : (old now : Lists T) (q : ℕ) → get now.lists q ≡ get old.lists q → list_at now q ≡ list_at old q

@@ -1,5 +1,6 @@
 -- What holds of every company: it has each float once, keeps the order of each class, fits, and is high enough.
 use Rattle.std.proofs.Common.{◌≡◌, ℕ, ◌==◌, Bool, true, false, not, ◌||◌, ◌&&◌, List, [], ◌∷◌, ◌++◌, map, Some, refl, sym, ap, ◌∙◌, subst, inl, inr, arith}
+use Rattle.std.specs.Cmp.{second_so}
 use Rattle.std.specs.Prelude.{ℤ, pos, ◌+ℤ◌, ◌≤ℤ◌, int_le, int_lt, IsTrue, if◌then◌else◌}
 use Rattle.std.specs.Bool.{beq}
 use Rattle.std.proofs.lemmas.Int.{ints}
@@ -70,16 +71,12 @@ none-left : (k : ℕ) (cs : List Choice) → all_chosen k cs ≡ true → of_cla
 none-left k [] all = refl
 none-left k (c ∷ cs) all = by_choice c.chosen (c.float.class == k) refl (λ h. none-left k cs h) all
   where
-    rest : (a b : Bool) → (a && b) ≡ true → b ≡ true
-    rest true b h = h
-    rest false b h = cc
-
     by_test : (t : Bool) → (c.float.class == k) ≡ t → (all_chosen k cs ≡ true → of_class k (left_floats cs) ≡ []) → ((not t || false) && all_chosen k cs) ≡ true → of_class k (c.float ∷ left_floats cs) ≡ []
     by_test true e ih h = cc
     by_test false e ih h = ap (λ t. if t then c.float ∷ of_class k (left_floats cs) else of_class k (left_floats cs)) e ∙ ih h
 
     by_choice : (b t : Bool) → (c.float.class == k) ≡ t → (all_chosen k cs ≡ true → of_class k (left_floats cs) ≡ []) → ((not t || b) && all_chosen k cs) ≡ true → of_class k (if b then left_floats cs else c.float ∷ left_floats cs) ≡ []
-    by_choice true t e ih h = ih (rest (not t || true) (all_chosen k cs) h)
+    by_choice true t e ih h = ih (second_so (not t || true) (all_chosen k cs) h)
     by_choice false t e ih h = by_test t e ih h
 
 floats-more : (k : ℕ) (before : List Choice) (f : Float) (b : Bool) → InOrder before

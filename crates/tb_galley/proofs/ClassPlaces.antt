@@ -1,5 +1,7 @@
 -- The place of a class among those of rising numbers, and what a write, an insert or a push there gives.
 use Rattle.std.proofs.Common.{◌≡◌, ℕ, zero, suc, ◌<◌, ◌≤◌, true, false, ◌==◌, nat_lt, List, [], ◌∷◌, ◌++◌, length, get_or, set, Result, Ok, Err, IfOk, IfErr, OnOk, OnErr, if◌then◌else◌, refl, ap, sym, ◌∙◌, arith}
+use Rattle.std.specs.Cmp.{first_so}
+use Rattle.std.proofs.lemmas.Bool.{and_from}
 use Rattle.std.specs.List.{All, insert}
 use Rattle.std.specs.List.Sorted.{IsSearchInRange, IsBinarySearchResult, IsNonDecreasingBy}
 use Rattle.std.specs.Ordering.{nat_cmp, ordering_index}
@@ -8,7 +10,6 @@ use Rattle.std.proofs.lemmas.List.Elements.{All-tail}
 use Rattle.std.proofs.lemmas.Bool.Decides.{nat_tests}
 use Rattle.tb_galley.specs.declared.classes.ClassLine.{ClassLine}
 use Rattle.tb_galley.specs.Classes.{do_classes_rise, with_class, IsAt, IsGapFor}
-use Rattle.tb_galley.proofs.Conjunctions.{both, left_of}
 use Rattle.tb_galley.proofs.WithClass.{rise-rest, rise-with}
 
 -- the number of the class at a place
@@ -21,9 +22,9 @@ less a b h = grind (arith, nat_tests)
 -- the first number is below all after it
 first-below : (c : ClassLine) (cs : List ClassLine) → do_classes_rise (c ∷ cs) ≡ true → (k : ℕ) (d : ClassLine) → k < length cs → c.number < number_at cs k d
 first-below c [] rise k d h = absurd (omega arith)
-first-below c (e ∷ es) rise zero d h = less c.number e.number (left_of (nat_lt c.number e.number) (do_classes_rise (e ∷ es)) rise)
+first-below c (e ∷ es) rise zero d h = less c.number e.number (first_so (nat_lt c.number e.number) (do_classes_rise (e ∷ es)) rise)
 first-below c (e ∷ es) rise (suc k) d h =
-    let step : c.number < e.number = less c.number e.number (left_of (nat_lt c.number e.number) (do_classes_rise (e ∷ es)) rise) in
+    let step : c.number < e.number = less c.number e.number (first_so (nat_lt c.number e.number) (do_classes_rise (e ∷ es)) rise) in
     let more : e.number < number_at es k d = first-below e es (rise-rest c (e ∷ es) rise) k d (omega arith) in
     omega arith
 
@@ -103,9 +104,9 @@ insert-at (d ∷ ds) c (suc k) gap =
 -- a class of a greater number than all before goes to the end
 pub rise-last : (cs : List ClassLine) (c : ClassLine) → do_classes_rise cs ≡ true → All (λ (d : ClassLine). d.number < c.number) cs → do_classes_rise (cs ++ c ∷ []) ≡ true
 rise-last [] c rise below = refl
-rise-last (d ∷ []) c rise below = both (nat_lt d.number c.number) true (less-test d.number c.number (below 0 d (omega arith))) refl
+rise-last (d ∷ []) c rise below = and_from (nat_lt d.number c.number) true (less-test d.number c.number (below 0 d (omega arith))) refl
 rise-last (d ∷ e ∷ es) c rise below =
-    both (nat_lt d.number e.number) (do_classes_rise (e ∷ es ++ c ∷ [])) (left_of (nat_lt d.number e.number) (do_classes_rise (e ∷ es)) rise)
+    and_from (nat_lt d.number e.number) (do_classes_rise (e ∷ es ++ c ∷ [])) (first_so (nat_lt d.number e.number) (do_classes_rise (e ∷ es)) rise)
     (rise-last (e ∷ es) c (rise-rest d (e ∷ es) rise) (All-tail (λ (x : ClassLine). x.number < c.number) d (e ∷ es) below))
 
 -- they rise after each of these

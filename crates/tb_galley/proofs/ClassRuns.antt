@@ -1,5 +1,7 @@
 -- The class lines of the canonical text take the reader to the classes of the galley.
 use Rattle.std.proofs.Common.{◌≡◌, ℕ, ◌+◌, Bool, true, false, ◌&&◌, ◌==◌, nat_lt, List, [], ◌∷◌, ◌++◌, length, map, Some, None, if◌then◌else◌, refl, ap, sym, ◌∙◌, arith, append_assoc}
+use Rattle.std.specs.Cmp.{first_so, second_so}
+use Rattle.std.proofs.lemmas.Bool.{and_from}
 use Rattle.std.specs.List.{list_all}
 use Rattle.std.proofs.lemmas.Bool.Decides.{nat_tests}
 use Rattle.std.proofs.lemmas.List.Folds.{list_all-append}
@@ -17,7 +19,6 @@ use Rattle.tb_galley.proofs.SlotTexts.{spelling}
 use Rattle.tb_galley.proofs.ClassTexts.{numbers_of, known_by, line_fields, class_back}
 use Rattle.tb_galley.proofs.PrintRuns.{Runs, no_lines, then_lines, to_state, word_runs}
 use Rattle.tb_galley.proofs.WithClass.{rise-rest}
-use Rattle.tb_galley.proofs.Conjunctions.{both, left_of, right_of}
 
 -- the classes with the numbers of their lines in the canonical text
 abbrev pub numbered_classes : ℕ → List ClassLine → List ClassLine
@@ -38,8 +39,8 @@ same_classes n (c ∷ cs) = ap (λ ds. unnumbered_class c ∷ ds) (same_classes 
 pub still_classes : (n : ℕ) (cs : List ClassLine) → list_all is_class cs ≡ true → list_all is_class (numbered_classes n cs) ≡ true
 still_classes n [] h = refl
 still_classes n (c ∷ cs) h =
-    both (is_class c) (list_all is_class (numbered_classes (n + 1) cs)) (left_of (is_class c) (list_all is_class cs) h)
-    (still_classes (n + 1) cs (right_of (is_class c) (list_all is_class cs) h))
+    and_from (is_class c) (list_all is_class (numbered_classes (n + 1) cs)) (first_so (is_class c) (list_all is_class cs) h)
+    (still_classes (n + 1) cs (second_so (is_class c) (list_all is_class cs) h))
 
 -- all numbers are below this one
 abbrev are_under : ℕ → List ClassLine → Bool
@@ -54,10 +55,10 @@ are_over before (c ∷ cs) = are_under c.number before
 with-last : (c : ClassLine) (cs : List ClassLine) → are_under c.number cs ≡ true → with_class c cs ≡ cs ++ c ∷ []
 with-last c [] h = refl
 with-last c (d ∷ ds) h =
-    let below : nat_lt d.number c.number ≡ true = left_of (nat_lt d.number c.number) (are_under c.number ds) h in
+    let below : nat_lt d.number c.number ≡ true = first_so (nat_lt d.number c.number) (are_under c.number ds) h in
     ap (λ t. if t then c ∷ ds else (if nat_lt c.number d.number then c ∷ d ∷ ds else d ∷ with_class c ds)) (unlike c.number d.number below)
     ∙ ap (λ t. if t then c ∷ d ∷ ds else d ∷ with_class c ds) (not_less c.number d.number below)
-    ∙ ap (λ es. d ∷ es) (with-last c ds (right_of (nat_lt d.number c.number) (are_under c.number ds) h))
+    ∙ ap (λ es. d ∷ es) (with-last c ds (second_so (nat_lt d.number c.number) (are_under c.number ds) h))
   where
     unlike : (a b : ℕ) → nat_lt b a ≡ true → (a == b) ≡ false
     unlike a b h = grind (arith, nat_tests)
@@ -68,7 +69,7 @@ with-last c (d ∷ ds) h =
 under-more : (m n : ℕ) (cs : List ClassLine) → nat_lt m n ≡ true → are_under m cs ≡ true → are_under n cs ≡ true
 under-more m n [] h k = refl
 under-more m n (c ∷ cs) h k =
-    both (nat_lt c.number n) (are_under n cs) (later c.number m n (left_of (nat_lt c.number m) (are_under m cs) k) h) (under-more m n cs h (right_of (nat_lt c.number m) (are_under m cs) k))
+    and_from (nat_lt c.number n) (are_under n cs) (later c.number m n (first_so (nat_lt c.number m) (are_under m cs) k) h) (under-more m n cs h (second_so (nat_lt c.number m) (are_under m cs) k))
   where
     later : (a m n : ℕ) → nat_lt a m ≡ true → nat_lt m n ≡ true → nat_lt a n ≡ true
     later a m n h k = grind (arith, nat_tests)
@@ -76,9 +77,9 @@ under-more m n (c ∷ cs) h k =
 over-next : (before : List ClassLine) (c : ClassLine) (cs : List ClassLine) (n : ℕ) → do_classes_rise (c ∷ cs) ≡ true → are_under c.number before ≡ true → are_over (before ++ record c { line = n } ∷ []) cs ≡ true
 over-next before c [] n rise under = refl
 over-next before c (d ∷ ds) n rise under =
-    let less : nat_lt c.number d.number ≡ true = left_of (nat_lt c.number d.number) (do_classes_rise (d ∷ ds)) rise in
+    let less : nat_lt c.number d.number ≡ true = first_so (nat_lt c.number d.number) (do_classes_rise (d ∷ ds)) rise in
     list_all-append (λ (e : ClassLine). nat_lt e.number d.number) before (record c { line = n } ∷ [])
-    ∙ both (are_under d.number before) (nat_lt c.number d.number && true) (under-more c.number d.number before less under) (both (nat_lt c.number d.number) true less refl)
+    ∙ and_from (are_under d.number before) (nat_lt c.number d.number && true) (under-more c.number d.number before less under) (and_from (nat_lt c.number d.number) true less refl)
 
 abbrev class_state : ℕ → Params → ℕ → List ClassLine → State
 class_state n ps v cs = state n among_sets 0 (drafted ps v cs [] None 0)
@@ -110,11 +111,11 @@ classes_from ps v n before (c ∷ cs) later good rise over =
     let first : ClassLine = record c { line = n + 1 } in
     then_lines (class_state n ps v before) (class_state (n + 1) ps v (before ++ first ∷ [])) (class_state (n + length (c ∷ cs)) ps v (before ++ first ∷ numbered_classes (n + 1 + 1) cs))
     ((spelling class_line ++ tail_text (line_fields c)) ∷ []) (class_texts cs)
-    (class_run ps v n before c later (left_of (is_class c) (list_all is_class cs) good) over)
+    (class_run ps v n before c later (first_so (is_class c) (list_all is_class cs) good) over)
     (to_state (class_state (n + 1) ps v (before ++ first ∷ [])) (class_state (n + 1 + length cs) ps v ((before ++ first ∷ []) ++ numbered_classes (n + 1 + 1) cs))
     (class_state (n + length (c ∷ cs)) ps v (before ++ first ∷ numbered_classes (n + 1 + 1) cs)) (class_texts cs)
     (λ i. class_state (counted i) ps v (append_assoc before (first ∷ []) (numbered_classes (n + 1 + 1) cs) i))
-    (classes_from ps v (n + 1) (before ++ first ∷ []) cs later (right_of (is_class c) (list_all is_class cs) good) (rise-rest c cs rise) (over-next before c cs (n + 1) rise over)))
+    (classes_from ps v (n + 1) (before ++ first ∷ []) cs later (second_so (is_class c) (list_all is_class cs) good) (rise-rest c cs rise) (over-next before c cs (n + 1) rise over)))
   where
     counted : n + 1 + length cs ≡ n + length (c ∷ cs)
     counted = omega arith

@@ -1,9 +1,10 @@
 -- The line of a class, and the class that a footnote names, are read back.
 use Rattle.std.proofs.Common.{◌≡◌, ℕ, ◌≤◌, pos, nat_abs, Bool, true, false, not, ◌&&◌, ◌||◌, ◌==◌, nat_le, List, [], ◌∷◌, ◌++◌, length, map, Ok, if◌then◌else◌, refl, ap, sym, subst, ◌∙◌, arith, append_assoc}
+use Rattle.std.specs.Cmp.{first_so, second_so}
 use Rattle.std.specs.Prelude.{codes, decimal, int_lt}
 use Rattle.std.specs.Fmt.{signed_decimal}
 use Rattle.std.specs.List.{list_all, list_any}
-use Rattle.std.proofs.lemmas.Bool.{eqb-true}
+use Rattle.std.proofs.lemmas.Bool.{eqb-true, and_from}
 use Rattle.std.proofs.lemmas.Bool.Decides.{nat_tests}
 use Rattle.tb_text.specs.Numbers.{integer_of}
 use Rattle.tb_text.proofs.NumberTexts.{integer_back}
@@ -18,7 +19,6 @@ use Rattle.tb_text.specs.Fields.{and_number, and_count}
 use Rattle.tb_galley.specs.Valid.{is_size, is_class}
 use Rattle.tb_galley.proofs.FieldTexts.{IsFit, AllFit, tail_text}
 use Rattle.tb_galley.proofs.SlotTexts.{ReadsAs, range_fit, size_fit, glue_fields, glue_is, glue_fit, glue_short, glue_back, dimension_read, integer_read, size_small, dimen_length, within_small, read_none}
-use Rattle.tb_galley.proofs.Conjunctions.{both, left_of, right_of}
 
 -- ---- the line of a class
 
@@ -41,12 +41,12 @@ number_within n h = grind (arith, nat_tests)
 
 pub class_back : (k : Known) (c : ClassLine) → is_class c ≡ true → ReadsAs k class_line (line_fields c) (λ n. contents.Class (record c { line = n }))
 class_back k c good =
-    let front : (nat_le c.number 253 && is_within (pos 0) (pos 10000) c.factor && is_size c.limit) ≡ true = left_of (nat_le c.number 253 && is_within (pos 0) (pos 10000) c.factor && is_size c.limit) (is_glue c.skip) good in
-    let glue : is_glue c.skip ≡ true = right_of (nat_le c.number 253 && is_within (pos 0) (pos 10000) c.factor && is_size c.limit) (is_glue c.skip) good in
-    let first : (nat_le c.number 253 && is_within (pos 0) (pos 10000) c.factor) ≡ true = left_of (nat_le c.number 253 && is_within (pos 0) (pos 10000) c.factor) (is_size c.limit) front in
-    let high : is_size c.limit ≡ true = right_of (nat_le c.number 253 && is_within (pos 0) (pos 10000) c.factor) (is_size c.limit) front in
-    let numbered : is_within (pos 0) (pos 253) (pos c.number) ≡ true = number_within c.number (left_of (nat_le c.number 253) (is_within (pos 0) (pos 10000) c.factor) first) in
-    let factored : is_within (pos 0) (pos 10000) c.factor ≡ true = right_of (nat_le c.number 253) (is_within (pos 0) (pos 10000) c.factor) first in
+    let front : (nat_le c.number 253 && is_within (pos 0) (pos 10000) c.factor && is_size c.limit) ≡ true = first_so (nat_le c.number 253 && is_within (pos 0) (pos 10000) c.factor && is_size c.limit) (is_glue c.skip) good in
+    let glue : is_glue c.skip ≡ true = second_so (nat_le c.number 253 && is_within (pos 0) (pos 10000) c.factor && is_size c.limit) (is_glue c.skip) good in
+    let first : (nat_le c.number 253 && is_within (pos 0) (pos 10000) c.factor) ≡ true = first_so (nat_le c.number 253 && is_within (pos 0) (pos 10000) c.factor) (is_size c.limit) front in
+    let high : is_size c.limit ≡ true = second_so (nat_le c.number 253 && is_within (pos 0) (pos 10000) c.factor) (is_size c.limit) front in
+    let numbered : is_within (pos 0) (pos 253) (pos c.number) ≡ true = number_within c.number (first_so (nat_le c.number 253) (is_within (pos 0) (pos 10000) c.factor) first) in
+    let factored : is_within (pos 0) (pos 10000) c.factor ≡ true = second_so (nat_le c.number 253) (is_within (pos 0) (pos 10000) c.factor) first in
     let small : nat_abs (pos c.number) ≤ 253 = within_small (pos 0) (pos 253) (pos c.number) 253 (omega arith) (omega arith) numbered in
     let few : nat_abs c.factor ≤ 10000 = within_small (pos 0) (pos 10000) c.factor 10000 (omega arith) (omega arith) factored in
     let a : length (signed_decimal (pos c.number)) ≤ 11 = dimen_length (pos c.number) (omega arith) in
@@ -88,8 +88,8 @@ class_fields false class = decimal class ∷ []
 any_small : (cs : List ClassLine) (n : ℕ) → list_all is_class cs ≡ true → list_any (λ (k : ℕ). k == n) (numbers_of cs) ≡ true → n ≤ 253
 any_small [] n good h = cc
 any_small (c ∷ cs) n good h =
-    by_test (c.number == n) (list_any (λ (k : ℕ). k == n) (numbers_of cs)) (λ e. small_number c.number n (eqb-true c.number n e) (number_of c (left_of (is_class c) (list_all is_class cs) good)))
-    (λ e. any_small cs n (right_of (is_class c) (list_all is_class cs) good) e) h
+    by_test (c.number == n) (list_any (λ (k : ℕ). k == n) (numbers_of cs)) (λ e. small_number c.number n (eqb-true c.number n e) (number_of c (first_so (is_class c) (list_all is_class cs) good)))
+    (λ e. any_small cs n (second_so (is_class c) (list_all is_class cs) good) e) h
   where
     by_test : (a b : Bool) → (a ≡ true → n ≤ 253) → (b ≡ true → n ≤ 253) → (a || b) ≡ true → n ≤ 253
     by_test true b f g h = f refl
@@ -100,8 +100,8 @@ any_small (c ∷ cs) n good h =
 
     number_of : (c : ClassLine) → is_class c ≡ true → nat_le c.number 253 ≡ true
     number_of c h =
-        left_of (nat_le c.number 253) (is_within (pos 0) (pos 10000) c.factor)
-        (left_of (nat_le c.number 253 && is_within (pos 0) (pos 10000) c.factor) (is_size c.limit) (left_of (nat_le c.number 253 && is_within (pos 0) (pos 10000) c.factor && is_size c.limit) (is_glue c.skip) h))
+        first_so (nat_le c.number 253) (is_within (pos 0) (pos 10000) c.factor)
+        (first_so (nat_le c.number 253 && is_within (pos 0) (pos 10000) c.factor) (is_size c.limit) (first_so (nat_le c.number 253 && is_within (pos 0) (pos 10000) c.factor && is_size c.limit) (is_glue c.skip) h))
 
 -- the number of a class is at most 254
 among_small : (cs : List ClassLine) (n : ℕ) → list_all is_class cs ≡ true → is_class_among (numbers_of cs) n ≡ true → n ≤ 254
@@ -138,7 +138,7 @@ foot_back v cs class good known first = by_version (v == 1) refl first
         let short : length (signed_decimal (pos class)) ≤ 11 = dimen_length (pos class) (omega (arith, small)) in
         record {
           fit = subst (λ t. AllFit (if t then [] else class_slot (numbers_of cs) ∷ []) (decimal class ∷ [])) (sym e)
-              (record { text = text.text; slot = read_none (is_foot_class (numbers_of cs)) causes.Class (integer_of (decimal class)) (pos class) number (both (not (int_lt (pos class) (pos 0))) (is_class_among (numbers_of cs) class) (not_below class) known) }, tt);
+              (record { text = text.text; slot = read_none (is_foot_class (numbers_of cs)) causes.Class (integer_of (decimal class)) (pos class) number (and_from (not (int_lt (pos class) (pos 0))) (is_class_among (numbers_of cs) class) (not_below class) known) }, tt);
           short = omega arith;
           content = λ n. ap (λ r. contents.Foot (number_or r)) number;
         }

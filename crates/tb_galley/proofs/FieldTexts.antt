@@ -1,10 +1,12 @@
 -- A line that is made of fields is read back.
 use Rattle.std.proofs.Common.{◌≡◌, ℕ, ◌+◌, ◌<◌, ◌≤◌, Bool, true, false, not, ◌&&◌, nat_lt, List, [], ◌∷◌, ◌++◌, length, Option, Some, None, Ok, if◌then◌else◌, refl, ap, ◌∙◌, arith, length-append}
+use Rattle.std.proofs.lemmas.Bool.{and_from}
 use Rattle.std.specs.List.{list_all}
 use Rattle.std.proofs.lemmas.Bool.Decides.{nat_tests}
 use Rattle.std.proofs.lemmas.List.Folds.{list_all-append}
 use Rattle.tb_text.specs.Lines.{fields_of, is_skipped, is_mark, begins_with}
 use Rattle.tb_text.proofs.LineTexts.{fields_of-first, fields_of-last, is_line_byte}
+use Rattle.tb_text.proofs.NumberTexts.{all_more}
 use Rattle.tb_galley.specs.declared.Cause.{Cause}
 use Rattle.tb_galley.specs.declared.Cause.TheVariants as causes
 use Rattle.tb_galley.specs.Words.{LineWord, Phase, line_at, content_at, word_of, Known, word_here}
@@ -15,7 +17,6 @@ use Rattle.tb_galley.specs.FieldReader.{◌>>=◌, at_fault, settled}
 use Rattle.tb_galley.specs.Line.{first_of, said, worded_left, content_line, content_lines, line_left}
 use Rattle.tb_galley.specs.GalleyReader.{State, known_in, next_phase, count_with, said_unless, take_said}
 use Rattle.tb_galley.proofs.FieldReads.{first_at, settle, reads}
-use Rattle.tb_galley.proofs.Conjunctions.{both}
 
 -- ---- fields and lines
 
@@ -43,18 +44,9 @@ abbrev pub tail_length : List (List ℕ) → ℕ
 tail_length [] = 0
 tail_length (f ∷ fs) = 1 + length f + tail_length fs
 
-length-tail_text : (fs : List (List ℕ)) → length (tail_text fs) ≡ tail_length fs
+pub length-tail_text : (fs : List (List ℕ)) → length (tail_text fs) ≡ tail_length fs
 length-tail_text [] = refl
 length-tail_text (f ∷ fs) = let more : length (tail_text fs) ≡ tail_length fs = length-tail_text fs in omega (arith, length-append f (tail_text fs))
-
-all_more : (p q : ℕ → Bool) → ((b : ℕ) → p b ≡ true → q b ≡ true) → (bs : List ℕ) → list_all p bs ≡ true → list_all q bs ≡ true
-all_more p q good [] h = refl
-all_more p q good (b ∷ bs) h = pass (p b) (list_all p bs) (q b) (list_all q bs) h (good b) (λ (m : list_all p bs ≡ true). all_more p q good bs m)
-  where
-    pass : (a b c d : Bool) → (a && b) ≡ true → (a ≡ true → c ≡ true) → (b ≡ true → d ≡ true) → (c && d) ≡ true
-    pass true true c d h f g = ap (λ t. t && d) (f refl) ∙ g refl
-    pass true false c d h f g = cc
-    pass false b c d h f g = cc
 
 printable_mark : (b : ℕ) → is_printable b ≡ true → is_mark b ≡ true
 printable_mark b h = grind (arith, nat_tests)
@@ -80,12 +72,12 @@ tail_clean [] (g ∷ gs) fit = absurd fit
 tail_clean (s ∷ ss) [] fit = absurd fit
 tail_clean (s ∷ ss) (g ∷ gs) fit =
     list_all-append is_line_byte g (tail_text gs)
-    ∙ both (list_all is_line_byte g) (list_all is_line_byte (tail_text gs)) (all_more is_printable is_line_byte printable_line_byte g fit.0.text.printable) (tail_clean ss gs fit.1)
+    ∙ and_from (list_all is_line_byte g) (list_all is_line_byte (tail_text gs)) (all_more is_printable is_line_byte printable_line_byte g fit.0.text.printable) (tail_clean ss gs fit.1)
 
 pub line_clean : (f : List ℕ) (ss : List Slot) (fs : List (List ℕ)) → IsText f → AllFit ss fs → list_all is_line_byte (f ++ tail_text fs) ≡ true
 line_clean f ss fs text fit =
     list_all-append is_line_byte f (tail_text fs)
-    ∙ both (list_all is_line_byte f) (list_all is_line_byte (tail_text fs)) (all_more is_printable is_line_byte printable_line_byte f text.printable) (tail_clean ss fs fit)
+    ∙ and_from (list_all is_line_byte f) (list_all is_line_byte (tail_text fs)) (all_more is_printable is_line_byte printable_line_byte f text.printable) (tail_clean ss fs fit)
 
 -- ---- fields in their slots have no cause
 

@@ -1,10 +1,11 @@
 -- What a line says is in its ranges: the test of each field implies its range.
 use Rattle.std.proofs.Common.{◌≡◌, ℕ, ◌≤◌, ℤ, pos, negsuc, Bool, true, false, not, ◌||◌, ◌&&◌, ◌==◌, nat_lt, nat_le, nat_abs, List, [], ◌∷◌, Option, Some, None, Result, Ok, Err, IfOk, if◌then◌else◌, refl, arith}
+use Rattle.std.specs.Cmp.{first_so, second_so}
 use Rattle.std.specs.Prelude.{int_lt, codes}
 use Rattle.std.specs.List.{list_all, list_any}
 use Rattle.std.proofs.lemmas.Bool.Decides.{nat_tests}
 use Rattle.std.proofs.lemmas.Int.{ints}
-use Rattle.std.proofs.lemmas.Bool.{or_left, or_right}
+use Rattle.std.proofs.lemmas.Bool.{or_left, or_right, and_from}
 use Rattle.tb_scaled.specs.declared.Order.{Order}
 use Rattle.tb_scaled.specs.declared.Order.TheVariants.{Normal}
 use Rattle.tb_node.specs.Names.{is_name, is_between}
@@ -30,7 +31,6 @@ use Rattle.tb_param.specs.declared.Choice.TheVariants.{Flush, Ragged, On, Off, R
 use Rattle.tb_param.specs.Table.{out_of_range}
 use Rattle.tb_param.specs.Ranges.{is_no_fault}
 use Rattle.tb_param.proofs.RangeLemmas.{fits}
-use Rattle.tb_galley.proofs.Conjunctions.{both, left_of, right_of}
 
 -- ---- what holds of each value that is read
 
@@ -173,17 +173,17 @@ places_some : (bs : List ℕ) → list_all is_place_byte bs ≡ true → list_an
 places_some [] h k = cc
 places_some (b ∷ bs) h k =
     some_place (b == 104) (b == 116) (b == 98) (b == 112) (b == 33) (has_byte 104 bs) (has_byte 116 bs) (has_byte 98 bs) (has_byte 112 bs) (list_any (λ c. not (c == 33)) bs)
-    (left_of (is_place_byte b) (list_all is_place_byte bs) h) k (λ (m : list_any (λ c. not (c == 33)) bs ≡ true). places_some bs (right_of (is_place_byte b) (list_all is_place_byte bs) h) m)
+    (first_so (is_place_byte b) (list_all is_place_byte bs) h) k (λ (m : list_any (λ c. not (c == 33)) bs ≡ true). places_some bs (second_so (is_place_byte b) (list_all is_place_byte bs) h) m)
 
 places_has : (l : Left) → IfOk (places_left l) (λ x. has_place x.0.0 ≡ true)
 unfolding places_left
 places_has l = field_has (λ v. has_place v.0 ≡ true) places_slot (λ f. (places_at f, has_byte 33 f))
-    (λ f h. places_some f (left_of (list_all is_place_byte f) _ (unless_none (are_places f) causes.BadPlace h)) (right_of (list_all is_place_byte f) _ (unless_none (are_places f) causes.BadPlace h))) l
+    (λ f h. places_some f (first_so (list_all is_place_byte f) _ (unless_none (are_places f) causes.BadPlace h)) (second_so (list_all is_place_byte f) _ (unless_none (are_places f) causes.BadPlace h))) l
 
 -- ---- glue and boxes
 
 glue_dimens : (w s z : ℤ) → is_dimen w ≡ true → is_dimen s ≡ true → is_dimen z ≡ true → (is_dimen w && is_dimen s && is_dimen z) ≡ true
-glue_dimens w s z h k m = both (is_dimen w && is_dimen s) (is_dimen z) (both (is_dimen w) (is_dimen s) h k) m
+glue_dimens w s z h k m = and_from (is_dimen w && is_dimen s) (is_dimen z) (and_from (is_dimen w) (is_dimen s) h k) m
 
 plus_has : (l : Left) (t : Bool) → IfOk (plus_part l t) (λ x. is_dimen x.0.0 ≡ true)
 plus_has l true = bind_has (λ x. is_dimen x.0.0 ≡ true) (next_left l) (λ x. stretch_left x.1) (λ x. stretch_has x.1)
@@ -214,7 +214,7 @@ sized_has l =
     then_has (λ n. is_name n.0 ≡ true) (λ x. is_sized x.0 ≡ true) (name_left l) _ (name_has l)
     (λ n in_n. then_has (λ h. is_size h.0 ≡ true) (λ x. is_sized x.0 ≡ true) (least_left (pos 0) causes.Dimension n.1) _ (least_has (pos 0) causes.Dimension n.1)
     (λ h in_h. then_has (λ d. is_size d.0 ≡ true) (λ x. is_sized x.0 ≡ true) (least_left (pos 0) causes.Dimension h.1) _ (least_has (pos 0) causes.Dimension h.1)
-    (λ d in_d. both (is_name n.0 && is_size h.0) (is_size d.0) (both (is_name n.0) (is_size h.0) in_n in_h) in_d)))
+    (λ d in_d. and_from (is_name n.0 && is_size h.0) (is_size d.0) (and_from (is_name n.0) (is_size h.0) in_n in_h) in_d)))
 
 -- ---- floats and marginal notes
 
@@ -241,9 +241,9 @@ float_has line l =
     (λ w. then_has (λ p. has_place p.0.0 ≡ true) (λ x. is_float_at line x.0 ≡ true) (places_left w.1) _ (places_has w.1)
     (λ p in_p. then_has (λ h. is_size h.0 ≡ true) (λ x. is_float_at line x.0 ≡ true) (least_left (pos 0) causes.Dimension p.1) _ (least_has (pos 0) causes.Dimension p.1)
     (λ h in_h. bind_has (λ x. is_float_at line x.0 ≡ true) (choice_left (codes "par") (codes "vert") causes.UnknownWord h.1) _
-    (λ v. both (line == line) _ (same_number line)
-    (both (is_name n.0 && is_between 1 26 (nat_abs c.0) && has_place p.0.0) (is_size h.0)
-    (both (is_name n.0 && is_between 1 26 (nat_abs c.0)) (has_place p.0.0) (both (is_name n.0) (is_between 1 26 (nat_abs c.0)) in_n (class_between c.0 in_c)) in_p) in_h)))))))
+    (λ v. and_from (line == line) _ (same_number line)
+    (and_from (is_name n.0 && is_between 1 26 (nat_abs c.0) && has_place p.0.0) (is_size h.0)
+    (and_from (is_name n.0 && is_between 1 26 (nat_abs c.0)) (has_place p.0.0) (and_from (is_name n.0) (is_between 1 26 (nat_abs c.0)) in_n (class_between c.0 in_c)) in_p) in_h)))))))
 
 abbrev pub is_margin_at : ℕ → Margin × Bool → Bool
 is_margin_at line m = (m.0.line == line) && is_margin m.0
@@ -255,7 +255,7 @@ margin_has line l =
     (λ s in_s. then_has (λ h. is_size h.0 ≡ true) (λ x. is_margin_at line x.0 ≡ true) (least_left (pos 0) causes.Dimension s.1) _ (least_has (pos 0) causes.Dimension s.1)
     (λ h in_h. then_has (λ d. is_size d.0 ≡ true) (λ x. is_margin_at line x.0 ≡ true) (least_left (pos 0) causes.Dimension h.1) _ (least_has (pos 0) causes.Dimension h.1)
     (λ d in_d. bind_has (λ x. is_margin_at line x.0 ≡ true) (choice_left (codes "par") (codes "vert") causes.UnknownWord d.1) _
-    (λ v. both (line == line) _ (same_number line) (both (is_sized s.0 && is_size h.0) (is_size d.0) (both (is_sized s.0) (is_size h.0) in_s in_h) in_d)))))
+    (λ v. and_from (line == line) _ (same_number line) (and_from (is_sized s.0 && is_size h.0) (is_size d.0) (and_from (is_sized s.0) (is_size h.0) in_s in_h) in_d)))))
 
 -- ---- values of parameters
 
@@ -312,12 +312,12 @@ class_has line l =
     (λ n in_n. then_has (λ f. is_within (pos 0) (pos 10000) f.0 ≡ true) (λ x. is_class x.0 ≡ true) (range_left (pos 0) (pos 10000) causes.Parameter n.1) _ (range_has (pos 0) (pos 10000) causes.Parameter n.1)
     (λ f in_f. then_has (λ m. is_size m.0 ≡ true) (λ x. is_class x.0 ≡ true) (least_left (pos 0) causes.Dimension f.1) _ (least_has (pos 0) causes.Dimension f.1)
     (λ m in_m. then_has (λ g. is_glue g.0 ≡ true) (λ x. is_class x.0 ≡ true) (glue_left causes.UnknownWord m.1) _ (glue_has causes.UnknownWord m.1)
-    (λ g in_g. both (nat_le (nat_abs n.0) 253 && is_within (pos 0) (pos 10000) f.0 && is_size m.0) (is_glue g.0)
-    (both (nat_le (nat_abs n.0) 253 && is_within (pos 0) (pos 10000) f.0) (is_size m.0) (both (nat_le (nat_abs n.0) 253) (is_within (pos 0) (pos 10000) f.0) (number_at_most n.0 in_n) in_f) in_m) in_g))))
+    (λ g in_g. and_from (nat_le (nat_abs n.0) 253 && is_within (pos 0) (pos 10000) f.0 && is_size m.0) (is_glue g.0)
+    (and_from (nat_le (nat_abs n.0) 253 && is_within (pos 0) (pos 10000) f.0) (is_size m.0) (and_from (nat_le (nat_abs n.0) 253) (is_within (pos 0) (pos 10000) f.0) (number_at_most n.0 in_n) in_f) in_m) in_g))))
 
 number_among : (ks : List ℕ) (r : Result ℤ TextFault) → is_foot_class ks (read_or (pos 0) r) ≡ true → is_class_among ks (number_or r) ≡ true
-number_among ks (Ok v) h = right_of (not (int_lt v (pos 0))) (is_class_among ks (nat_abs v)) h
-number_among ks (Err e) h = right_of (not (int_lt (pos 0) (pos 0))) (is_class_among ks 0) h
+number_among ks (Ok v) h = second_so (not (int_lt v (pos 0))) (is_class_among ks (nat_abs v)) h
+number_among ks (Err e) h = second_so (not (int_lt (pos 0) (pos 0))) (is_class_among ks 0) h
 
 named_has : (ks : List ℕ) (l : Left) (t : Bool) → IfOk (named_class ks l t) (λ x. is_class_among ks x.0 ≡ true)
 named_has ks l true = refl

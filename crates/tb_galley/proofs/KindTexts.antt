@@ -1,5 +1,6 @@
 -- Each kind of line of the canonical text is read back.
 use Rattle.std.proofs.Common.{◌≡◌, ℕ, ◌<◌, ◌≤◌, ℤ, pos, negsuc, nat_abs, Bool, true, false, ◌&&◌, ◌||◌, ◌==◌, nat_le, List, [], ◌∷◌, ◌++◌, length, Some, None, if◌then◌else◌, refl, ap, sym, ◌∙◌, arith, append_assoc}
+use Rattle.std.specs.Cmp.{first_so, second_so}
 use Rattle.std.specs.Prelude.{codes, decimal, bytes_eq}
 use Rattle.std.specs.Fmt.{signed_decimal}
 use Rattle.std.specs.List.{list_all}
@@ -27,7 +28,6 @@ use Rattle.tb_text.specs.Fields.{and_number, and_text, line, and_count}
 use Rattle.tb_galley.specs.Valid.{is_size, is_leaf, is_float, is_margin, is_item}
 use Rattle.tb_galley.proofs.FieldTexts.{IsFit, AllFit, tail_text, tail_length, nothing_more}
 use Rattle.tb_galley.proofs.SlotTexts.{ReadsAs, within_small, dimen_small, dimension_fit, size_fit, range_fit, name_text, name_fit, spelling, dimension_read, integer_read, size_small, dimen_length, glue_fields, glue_is, word_text, glue_fit, glue_short, glue_back}
-use Rattle.tb_galley.proofs.Conjunctions.{left_of, right_of}
 
 -- ---- boxes, rules, glue, kerns and penalties
 
@@ -66,10 +66,10 @@ record SizedBack (name : List ℕ) (h d : ℤ) : Type 0 where
 
 sized_back : (name : List ℕ) (h d : ℤ) → (is_name name && is_size h && is_size d) ≡ true → SizedBack name h d
 sized_back name h d good =
-    let front : (is_name name && is_size h) ≡ true = left_of (is_name name && is_size h) (is_size d) good in
-    let named : is_name name ≡ true = left_of (is_name name) (is_size h) front in
-    let high : is_size h ≡ true = right_of (is_name name) (is_size h) front in
-    let deep : is_size d ≡ true = right_of (is_name name && is_size h) (is_size d) good in
+    let front : (is_name name && is_size h) ≡ true = first_so (is_name name && is_size h) (is_size d) good in
+    let named : is_name name ≡ true = first_so (is_name name) (is_size h) front in
+    let high : is_size h ≡ true = second_so (is_name name) (is_size h) front in
+    let deep : is_size d ≡ true = second_so (is_name name && is_size h) (is_size d) good in
     let a : length (signed_decimal h) ≤ 11 = dimen_length h (size_small h high) in
     let b : length (signed_decimal d) ≤ 11 = dimen_length d (size_small d deep) in
     record {
@@ -330,11 +330,11 @@ degree_within k h = grind (arith, nat_tests)
 
 float_back : (known : Known) (f : Float) (vert : Bool) → is_float f ≡ true → ReadsAs known float (float_fields f vert) (λ n. contents.Item (items.Float (record f { line = n }) vert))
 float_back known f vert good =
-    let placing : (f.places.h || f.places.t || f.places.b || f.places.p) ≡ true = right_of (is_name f.name && is_between 1 26 f.class) (f.places.h || f.places.t || f.places.b || f.places.p) (left_of (is_name f.name && is_between 1 26 f.class && (f.places.h || f.places.t || f.places.b || f.places.p)) (is_size f.height) good) in
-    let front : (is_name f.name && is_between 1 26 f.class) ≡ true = left_of (is_name f.name && is_between 1 26 f.class) (f.places.h || f.places.t || f.places.b || f.places.p) (left_of (is_name f.name && is_between 1 26 f.class && (f.places.h || f.places.t || f.places.b || f.places.p)) (is_size f.height) good) in
-    let named : is_name f.name ≡ true = left_of (is_name f.name) (is_between 1 26 f.class) front in
-    let classed : is_within (pos 1) (pos 26) (pos f.class) ≡ true = class_within f.class (right_of (is_name f.name) (is_between 1 26 f.class) front) in
-    let high : is_size f.height ≡ true = right_of (is_name f.name && is_between 1 26 f.class && (f.places.h || f.places.t || f.places.b || f.places.p)) (is_size f.height) good in
+    let placing : (f.places.h || f.places.t || f.places.b || f.places.p) ≡ true = second_so (is_name f.name && is_between 1 26 f.class) (f.places.h || f.places.t || f.places.b || f.places.p) (first_so (is_name f.name && is_between 1 26 f.class && (f.places.h || f.places.t || f.places.b || f.places.p)) (is_size f.height) good) in
+    let front : (is_name f.name && is_between 1 26 f.class) ≡ true = first_so (is_name f.name && is_between 1 26 f.class) (f.places.h || f.places.t || f.places.b || f.places.p) (first_so (is_name f.name && is_between 1 26 f.class && (f.places.h || f.places.t || f.places.b || f.places.p)) (is_size f.height) good) in
+    let named : is_name f.name ≡ true = first_so (is_name f.name) (is_between 1 26 f.class) front in
+    let classed : is_within (pos 1) (pos 26) (pos f.class) ≡ true = class_within f.class (second_so (is_name f.name) (is_between 1 26 f.class) front) in
+    let high : is_size f.height ≡ true = second_so (is_name f.name && is_between 1 26 f.class && (f.places.h || f.places.t || f.places.b || f.places.p)) (is_size f.height) good in
     let places : PlacesBack f.bang f.places = places_back f.bang f.places.h f.places.t f.places.b f.places.p placing in
     let wide : ChoiceBack (codes "single") (codes "double") f.wide (wide_field f.wide) = wide_back f.wide in
     let paragraph : ChoiceBack (codes "par") (codes "vert") vert (paragraph_field vert) = paragraph_back vert in
@@ -372,14 +372,14 @@ float_back known f vert good =
 
 margin_back : (known : Known) (m : Margin) (vert : Bool) → is_margin m ≡ true → ReadsAs known margin (margin_fields m vert) (λ n. contents.Item (items.Margin (record m { line = n }) vert))
 margin_back known m vert good =
-    let front : (is_name m.name && is_size m.left_height && is_size m.left_depth && is_size m.right_height) ≡ true = left_of (is_name m.name && is_size m.left_height && is_size m.left_depth && is_size m.right_height) (is_size m.right_depth) good in
-    let fourth : is_size m.right_depth ≡ true = right_of (is_name m.name && is_size m.left_height && is_size m.left_depth && is_size m.right_height) (is_size m.right_depth) good in
-    let third : is_size m.right_height ≡ true = right_of (is_name m.name && is_size m.left_height && is_size m.left_depth) (is_size m.right_height) front in
+    let front : (is_name m.name && is_size m.left_height && is_size m.left_depth && is_size m.right_height) ≡ true = first_so (is_name m.name && is_size m.left_height && is_size m.left_depth && is_size m.right_height) (is_size m.right_depth) good in
+    let fourth : is_size m.right_depth ≡ true = second_so (is_name m.name && is_size m.left_height && is_size m.left_depth && is_size m.right_height) (is_size m.right_depth) good in
+    let third : is_size m.right_height ≡ true = second_so (is_name m.name && is_size m.left_height && is_size m.left_depth) (is_size m.right_height) front in
     let named : is_name m.name ≡ true =
-    left_of (is_name m.name) (is_size m.left_height)
-    (left_of (is_name m.name && is_size m.left_height) (is_size m.left_depth) (left_of (is_name m.name && is_size m.left_height && is_size m.left_depth) (is_size m.right_height) front)) in
+    first_so (is_name m.name) (is_size m.left_height)
+    (first_so (is_name m.name && is_size m.left_height) (is_size m.left_depth) (first_so (is_name m.name && is_size m.left_height && is_size m.left_depth) (is_size m.right_height) front)) in
     let sized : SizedBack m.name m.left_height m.left_depth =
-    sized_back m.name m.left_height m.left_depth (left_of (is_name m.name && is_size m.left_height && is_size m.left_depth) (is_size m.right_height) front) in
+    sized_back m.name m.left_height m.left_depth (first_so (is_name m.name && is_size m.left_height && is_size m.left_depth) (is_size m.right_height) front) in
     let paragraph : ChoiceBack (codes "par") (codes "vert") vert (paragraph_field vert) = paragraph_back vert in
     let a : length (signed_decimal m.right_height) ≤ 11 = dimen_length m.right_height (size_small m.right_height third) in
     let b : length (signed_decimal m.right_depth) ≤ 11 = dimen_length m.right_depth (size_small m.right_depth fourth) in
@@ -420,8 +420,8 @@ item_back known m (items.Penalty p) single good = cc
 item_back known m (items.Mark name) single good = named_back known mark (λ t. items.Mark t) name good (name_fit name good, tt) (λ n. refl)
 item_back known m (items.Note name) single good = named_back known note (λ t. items.Note t) name good (name_fit name good, tt) (λ n. refl)
 item_back known m (items.Foot class ls) single good = cc
-item_back known m (items.Float f vert) single good = float_back known f vert (right_of (f.line == m) (is_float f) good)
-item_back known m (items.Margin a vert) single good = margin_back known a vert (right_of (a.line == m) (is_margin a) good)
+item_back known m (items.Float f vert) single good = float_back known f vert (second_so (f.line == m) (is_float f) good)
+item_back known m (items.Margin a vert) single good = margin_back known a vert (second_so (a.line == m) (is_margin a) good)
 item_back known m items.NewPage single good = record { fit = tt; short = omega arith; content = λ n. refl }
 item_back known m items.ClearPage single good = record { fit = tt; short = omega arith; content = λ n. refl }
 item_back known m (items.PageBreak k) single good = degree_back known pagebreak (λ d. items.PageBreak d) k good (degree_fit k good) (λ n. refl)

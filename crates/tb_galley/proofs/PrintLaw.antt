@@ -1,8 +1,10 @@
 -- The canonical text of a valid galley is read as the galley itself, but for its line numbers.
 use Rattle.std.proofs.Common.{◌≡◌, ℕ, zero, suc, ◌+◌, ◌≤◌, Bool, true, false, not, ◌&&◌, ◌||◌, ◌==◌, nat_lt, nat_le, List, [], ◌∷◌, ◌++◌, length, map, filter, Some, None, Ok, Err, if◌then◌else◌, refl, ap, sym, subst, ◌∙◌, ◌⊎◌, inl, inr, arith, append_assoc}
+use Rattle.std.proofs.Math.Bool.{or-false}
+use Rattle.std.specs.Cmp.{first_so, second_so}
 use Rattle.std.specs.Prelude.{codes, decimal}
 use Rattle.std.specs.List.{list_all}
-use Rattle.std.proofs.lemmas.Bool.{eqb-true}
+use Rattle.std.proofs.lemmas.Bool.{eqb-true, and_from}
 use Rattle.std.proofs.lemmas.Bool.Decides.{nat_tests}
 use Rattle.tb_text.specs.Lines.{lines_of}
 use Rattle.tb_text.proofs.LineTexts.{joined_lines, lines_of-joined}
@@ -40,7 +42,6 @@ use Rattle.tb_galley.specs.ReadBack.{unnumbered_leaf, unnumbered_kind, unnumbere
 use Rattle.tb_galley.proofs.SoundLines.{drafted}
 use Rattle.tb_galley.proofs.SameStep.{left_exact}
 use Rattle.tb_galley.proofs.FieldTexts.{tail_text, nothing_more}
-use Rattle.tb_galley.proofs.Conjunctions.{both, left_of, right_of}
 use Rattle.tb_galley.proofs.SlotTexts.{spelling}
 use Rattle.tb_galley.proofs.KindTexts.{leaf_word, leaf_fields, leaf_is, item_is}
 use Rattle.tb_galley.proofs.ValueTexts.{value_fields, value_is, is_plain_row}
@@ -79,10 +80,6 @@ foot_is v class = by_version (v == 1)
     by_version : (t : Bool) → (if t then codes "foot\n" else line (codes "foot" ++ and_count class)) ≡ joined_lines ((codes "foot" ++ tail_text (class_fields t class)) ∷ [])
     by_version true = refl
     by_version false = ap (λ d. line (codes "foot " ++ d)) (sym (nothing_more (decimal class)))
-
-joined_lines-append : (xs ys : List (List ℕ)) → joined_lines (xs ++ ys) ≡ joined_lines xs ++ joined_lines ys
-joined_lines-append [] ys = refl
-joined_lines-append (x ∷ xs) ys = ap (λ t. x ++ 10 ∷ t) (joined_lines-append xs ys) ∙ sym (append_assoc x (10 ∷ joined_lines xs) (joined_lines ys))
 
 ended_first : (t rest : List ℕ) → line t ++ rest ≡ t ++ 10 ∷ rest
 ended_first t rest = append_assoc t (10 ∷ []) rest
@@ -198,10 +195,10 @@ params_in_range p h = h
 
 all_kept : (p q : Row → Bool) (rs : List Row) → list_all p rs ≡ true → list_all p (filter q rs) ≡ true
 all_kept p q [] h = refl
-all_kept p q (r ∷ rs) h = keep (q r) (all_kept p q rs (right_of (p r) (list_all p rs) h))
+all_kept p q (r ∷ rs) h = keep (q r) (all_kept p q rs (second_so (p r) (list_all p rs) h))
   where
     keep : (t : Bool) → list_all p (filter q rs) ≡ true → list_all p (if t then r ∷ filter q rs else filter q rs) ≡ true
-    keep true k = both (p r) (list_all p (filter q rs)) (left_of (p r) (list_all p rs) h) k
+    keep true k = and_from (p r) (list_all p (filter q rs)) (first_so (p r) (list_all p rs) h) k
     keep false k = k
 
 named_kept : (q : Row → Bool) (rs : List Row) → AllRows (λ (r : Row). row_of r.name ≡ Some r) rs → AllRows (λ (r : Row). row_of r.name ≡ Some r) (filter q rs)
@@ -217,7 +214,7 @@ all_known q [] = refl
 all_known q (r ∷ rs) = keep (q r) refl (all_known q rs)
   where
     keep : (t : Bool) → q r ≡ t → list_all q (filter q rs) ≡ true → list_all q (if t then r ∷ filter q rs else filter q rs) ≡ true
-    keep true e k = both (q r) (list_all q (filter q rs)) e k
+    keep true e k = and_from (q r) (list_all q (filter q rs)) e k
     keep false e k = k
 
 past : ℕ → List Row → List Row
@@ -229,7 +226,7 @@ all_past : (p : Row → Bool) (n : ℕ) (rs : List Row) → list_all p rs ≡ tr
 unfolding past
 all_past p zero rs h = h
 all_past p (suc n) [] h = refl
-all_past p (suc n) (r ∷ rs) h = all_past p n rs (right_of (p r) (list_all p rs) h)
+all_past p (suc n) (r ∷ rs) h = all_past p n rs (second_so (p r) (list_all p rs) h)
 
 release_is : (c : Choice) → (is_no_fault (value_fault forms.Release (values.Word c)) && true) ≡ true → is_2014 c ≡ false → c ≡ choices.R2015
 release_is choices.R2015 good not_2014 = refl
@@ -249,10 +246,13 @@ each_set : (v : ℕ) (g : Params) → are_params g ≡ true → ((v ≡ 1) × (h
 each_set v g good (inl e) = subst (λ n. set_all g default_params (rows_for n) ≡ g) (sym e.0) (first_set g (release_of g good e.1))
 each_set v g good (inr e) = subst (λ n. set_all g default_params (rows_for n) ≡ g) (sym e) (all_set g default_params)
 
+pub not_long : (k : ℕ) → k ≤ 8388608 → nat_lt 8388608 k ≡ false
+not_long k h = grind (arith, nat_tests)
+
 few_items : (k : ℕ) → nat_le k 100000 ≡ true → 0 + k ≤ 100000
 few_items k h = grind (arith, nat_tests)
 
-still_takes : (is : List Item) → takes_items (phase_past_items among_sets is) ≡ true
+pub still_takes : (is : List Item) → takes_items (phase_past_items among_sets is) ≡ true
 still_takes [] = refl
 still_takes (i ∷ is) = refl
 
@@ -265,16 +265,12 @@ first_version v (c ∷ cs) ps h one = unlike v h one
     unlike v h k = absurd (let two : v ≡ 2 = eqb-true v 2 h in let one : v ≡ 1 = eqb-true v 1 k in omega arith)
 
 only_last : (cs : List ClassLine) (class : ℕ) → cs ≡ [] → is_class_among (numbers_of cs) class ≡ true → class ≡ 254
-only_last [] class none h = eqb-true class 254 (or_none (class == 254) h)
-  where
-    or_none : (a : Bool) → (a || false) ≡ true → a ≡ true
-    or_none true h = refl
-    or_none false h = h
+only_last [] class none h = eqb-true class 254 (sym (or-false (class == 254)) ∙ h)
 only_last (c ∷ cs) class none h = cc
 
 has_classes : (g : Galley) → IsValid g → HasClasses g.version (classes_in g)
 has_classes g valid = record {
-  good = still_classes (sets_end g + 1) g.classes (left_of (list_all is_class g.classes) (do_classes_rise g.classes) valid.classes);
+  good = still_classes (sets_end g + 1) g.classes (first_so (list_all is_class g.classes) (do_classes_rise g.classes) valid.classes);
   first = λ class one h. only_last g.classes class (first_version g.version g.classes g.params valid.version one) (subst (λ ks. is_class_among ks class ≡ true) (same_numbers (sets_end g + 1) g.classes) h);
 }
 
@@ -297,7 +293,7 @@ galley_runs g valid =
     (sets_run g.params default_params g.version 1 (rows_for g.version) (named_kept (is_known_row g.version) rows rows_found) (all_known (is_known_row g.version) rows) (all_kept is_plain_row (is_known_row g.version) rows plain_rows)
     (all_kept (is_in_range g.params) (is_known_row g.version) rows (params_in_range g.params valid.params))) in
     let classes : Runs set (class_texts g.classes) declared =
-    classes_run g.params g.version (sets_end g) g.classes (first_version g.version g.classes g.params valid.version) (left_of (list_all is_class g.classes) (do_classes_rise g.classes) valid.classes) (right_of (list_all is_class g.classes) (do_classes_rise g.classes) valid.classes) in
+    classes_run g.params g.version (sets_end g) g.classes (first_version g.version g.classes g.params valid.version) (first_so (list_all is_class g.classes) (do_classes_rise g.classes) valid.classes) (second_so (list_all is_class g.classes) (do_classes_rise g.classes) valid.classes) in
     let known : list_all (λ (i : Item). has_known_class (numbers_of (classes_in g)) i.kind) g.items ≡ true =
     subst (λ ks. list_all (λ (i : Item). has_known_class ks i.kind) g.items ≡ true) (sym (same_numbers (sets_end g + 1) g.classes)) valid.feet in
     let inner : Runs declared (item_texts g.version g.items) written =
@@ -340,9 +336,6 @@ is_read g valid short =
     ∙ ap spelled (ap lines_of (canonical_text g) ∙ lines_of-joined (canonical_lines g) runs.clean)
     ∙ sym (left_exact (canonical_lines g))
     ∙ ap verdict runs.ends
-  where
-    not_long : (k : ℕ) → k ≤ 8388608 → nat_lt 8388608 k ≡ false
-    not_long k h = grind (arith, nat_tests)
 
 pub print_law : (g : Galley) → IsValid g → length (printed g) ≤ input_limit → ReadsBack g
 print_law g valid short = record { galley = renumbered g; read = is_read g valid short; same = same_galley g }

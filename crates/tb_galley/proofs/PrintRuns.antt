@@ -1,5 +1,8 @@
 -- The lines of the canonical text take the reader to the galley.
 use Rattle.std.proofs.Common.{◌≡◌, ℕ, ◌+◌, ◌≤◌, Bool, true, false, ◌&&◌, nat_le, ◌==◌, List, [], ◌∷◌, ◌++◌, length, map, Some, None, refl, ap, sym, ◌∙◌, arith, append_assoc, append-nil}
+use Rattle.std.proofs.Math.Bool.{and-false}
+use Rattle.std.specs.Cmp.{first_so, second_so}
+use Rattle.std.proofs.lemmas.Bool.{and_from}
 use Rattle.std.specs.Prelude.{codes}
 use Rattle.std.specs.List.{list_all, fold}
 use Rattle.std.proofs.lemmas.Bool.Decides.{nat_tests}
@@ -35,7 +38,6 @@ use Rattle.tb_galley.proofs.SlotTexts.{ReadsAs, spelling}
 use Rattle.tb_galley.proofs.KindTexts.{leaf_word, leaf_fields, leaf_back, is_single, item_word, item_fields, item_line, on_line_kind, item_back}
 use Rattle.tb_galley.proofs.ClassTexts.{numbers_of, known_by, class_fields, foot_back}
 use Rattle.tb_galley.proofs.ValueTexts.{value_fields, is_plain_row, set_back}
-use Rattle.tb_galley.proofs.Conjunctions.{both, left_of, right_of}
 
 -- ---- words are read
 
@@ -74,7 +76,7 @@ then_lines s t u xs ys front back = record {
   ends = fold-append take_said s xs ys ∙ ap (λ r. fold take_said r ys) front.ends ∙ back.ends;
   clean =
       list_all-append (λ l. list_all is_line_byte l) xs ys
-      ∙ both (list_all (λ l. list_all is_line_byte l) xs) (list_all (λ l. list_all is_line_byte l) ys) front.clean back.clean;
+      ∙ and_from (list_all (λ l. list_all is_line_byte l) xs) (list_all (λ l. list_all is_line_byte l) ys) front.clean back.clean;
 }
 
 pub to_state : (s t u : State) (ls : List (List ℕ)) → t ≡ u → Runs s ls t → Runs s ls u
@@ -115,14 +117,14 @@ unfolding set_text
 sets_run g p v n [] named known plain good = to_state (state n among_sets 0 (drafted p v [] [] None 0)) (state n among_sets 0 (drafted p v [] [] None 0)) (state (n + 0) among_sets 0 (drafted p v [] [] None 0)) [] (ap (λ m. state m among_sets 0 (drafted p v [] [] None 0)) (omega arith)) (no_lines (state n among_sets 0 (drafted p v [] [] None 0)))
 sets_run g p v n (r ∷ rs) named known plain good =
     let reads : ReadsAs (known_in (drafted p v [] [] None 0)) setting (r.name ∷ value_fields (value_of r.field g)) (λ m. contents.Set r.field (value_of r.field g)) =
-    set_back (known_in (drafted p v [] [] None 0)) r (value_of r.field g) named.0 (left_of (is_known_row v r) (list_all (is_known_row v) rs) known) (left_of (is_plain_row r) (list_all is_plain_row rs) plain) (left_of (is_in_range g r) (list_all (is_in_range g) rs) good) in
+    set_back (known_in (drafted p v [] [] None 0)) r (value_of r.field g) named.0 (first_so (is_known_row v r) (list_all (is_known_row v) rs) known) (first_so (is_plain_row r) (list_all is_plain_row rs) plain) (first_so (is_in_range g r) (list_all (is_in_range g) rs) good) in
     let q : Params = with_value r.field (value_of r.field g) p in
     then_lines (state n among_sets 0 (drafted p v [] [] None 0)) (state (n + 1) among_sets 0 (drafted q v [] [] None 0)) (state (n + length (r ∷ rs)) among_sets 0 (drafted (set_all g p (r ∷ rs)) v [] [] None 0))
     (set_text g r ∷ []) (map (set_text g) rs)
     (word_runs n among_sets 0 (drafted p v [] [] None 0) setting (r.name ∷ value_fields (value_of r.field g)) (λ m. contents.Set r.field (value_of r.field g)) refl reads refl refl)
     (to_state (state (n + 1) among_sets 0 (drafted q v [] [] None 0)) (state (n + 1 + length rs) among_sets 0 (drafted (set_all g q rs) v [] [] None 0)) (state (n + length (r ∷ rs)) among_sets 0 (drafted (set_all g p (r ∷ rs)) v [] [] None 0)) (map (set_text g) rs)
     (ap (λ m. state m among_sets 0 (drafted (set_all g q rs) v [] [] None 0)) (omega arith))
-    (sets_run g q v (n + 1) rs named.1 (right_of (is_known_row v r) (list_all (is_known_row v) rs) known) (right_of (is_plain_row r) (list_all is_plain_row rs) plain) (right_of (is_in_range g r) (list_all (is_in_range g) rs) good)))
+    (sets_run g q v (n + 1) rs named.1 (second_so (is_known_row v r) (list_all (is_known_row v) rs) known) (second_so (is_plain_row r) (list_all is_plain_row rs) plain) (second_so (is_in_range g r) (list_all (is_in_range g) rs) good)))
 
 -- ---- items
 
@@ -161,11 +163,7 @@ takes_items ended = false
 count_fits : (c : ℕ) (w : LineWord) → c + 1 ≤ 100000 → first_of (item_causes c (Some w)) ≡ None
 count_fits c w h =
     let few : nat_le 100000 c ≡ false = grind (arith, nat_tests) in
-    ap (λ t. first_of (cause_if (is_item_word w && t) causes.Items)) few ∙ ap (λ t. first_of (cause_if t causes.Items)) (and_false (is_item_word w))
-  where
-    and_false : (t : Bool) → (t && false) ≡ false
-    and_false true = refl
-    and_false false = refl
+    ap (λ t. first_of (cause_if (is_item_word w && t) causes.Items)) few ∙ ap (λ t. first_of (cause_if t causes.Items)) (and-false (is_item_word w))
 
 record GoesOn (p q : Phase) (c : ℕ) (w : LineWord) : Type 0 where
   place : first_of (place_causes p (Some w)) ≡ None
@@ -261,13 +259,13 @@ leaves_run n c ps v cs before e class line so_far (l ∷ ls) few good =
     let leaf : Leaf = record { line = n + 1; kind = l.kind } in
     then_lines (foot_state n c ps v cs before e class line so_far) (foot_state (n + 1) (c + 1) ps v cs before e class line (so_far ++ leaf ∷ []))
     (foot_state (n + length (l ∷ ls)) (c + length (l ∷ ls)) ps v cs before e class line (so_far ++ leaf ∷ numbered_leaves (n + 1 + 1) ls)) (leaf_line l.kind ∷ []) (leaf_texts ls)
-    (leaf_run n c ps v cs before e class line so_far l.kind (omega arith) (left_of (is_leaf l.kind) (list_all (λ (m : Leaf). is_leaf m.kind) ls) good))
+    (leaf_run n c ps v cs before e class line so_far l.kind (omega arith) (first_so (is_leaf l.kind) (list_all (λ (m : Leaf). is_leaf m.kind) ls) good))
     (to_state (foot_state (n + 1) (c + 1) ps v cs before e class line (so_far ++ leaf ∷ []))
     (foot_state (n + 1 + length ls) (c + 1 + length ls) ps v cs before e class line ((so_far ++ leaf ∷ []) ++ numbered_leaves (n + 1 + 1) ls))
     (foot_state (n + length (l ∷ ls)) (c + length (l ∷ ls)) ps v cs before e class line (so_far ++ leaf ∷ numbered_leaves (n + 1 + 1) ls)) (leaf_texts ls)
     (same_foot (n + 1 + length ls) (n + length (l ∷ ls)) (c + 1 + length ls) (c + length (l ∷ ls)) ps v cs before e class line ((so_far ++ leaf ∷ []) ++ numbered_leaves (n + 1 + 1) ls) (so_far ++ leaf ∷ numbered_leaves (n + 1 + 1) ls)
     (omega arith) (omega arith) (append_assoc so_far (leaf ∷ []) (numbered_leaves (n + 1 + 1) ls)))
-    (leaves_run (n + 1) (c + 1) ps v cs before e class line (so_far ++ leaf ∷ []) ls (omega arith) (right_of (is_leaf l.kind) (list_all (λ (m : Leaf). is_leaf m.kind) ls) good)))
+    (leaves_run (n + 1) (c + 1) ps v cs before e class line (so_far ++ leaf ∷ []) ls (omega arith) (second_so (is_leaf l.kind) (list_all (λ (m : Leaf). is_leaf m.kind) ls) good)))
 
 foot_run : (n : ℕ) (p : Phase) (c : ℕ) (ps : Params) (v : ℕ) (cs : List ClassLine) (e : ℕ) (before : List Item) (class : ℕ) (ls : List Leaf) → HasClasses v cs → is_class_among (numbers_of cs) class ≡ true → takes_items p ≡ true → c + (length ls + 2) ≤ 100000 → list_all (λ (l : Leaf). is_leaf l.kind) ls ≡ true
     → Runs (item_state n p c ps v cs e before) (kind_lines v (items.Foot class ls)) (item_state (n + (length ls + 2)) among_items (c + (length ls + 2)) ps v cs e (before ++ record { line = n + 1; kind = numbered_kind (n + 1) (items.Foot class ls) } ∷ []))
@@ -334,8 +332,8 @@ items_run n p c ps v cs e before (i ∷ is) has takes few good known =
     let item : Item = record { line = n + 1; kind = numbered_kind (n + 1) i.kind } in
     then_lines (item_state n p c ps v cs e before) (item_state (n + weight_of i.kind) among_items (c + weight_of i.kind) ps v cs e (before ++ item ∷ []))
     (item_state (n + weight (i ∷ is)) among_items (c + weight (i ∷ is)) ps v cs e (before ++ item ∷ numbered_items (n + 1 + weight_of i.kind) is)) (kind_lines v i.kind) (item_texts v is)
-    (item_run n p c ps v cs e before i.line i.kind has (left_of (has_known_class (numbers_of cs) i.kind) (list_all (λ (j : Item). has_known_class (numbers_of cs) j.kind) is) known) takes (omega arith)
-    (left_of (is_item i.line i.kind) (list_all (λ (j : Item). is_item j.line j.kind) is) good))
+    (item_run n p c ps v cs e before i.line i.kind has (first_so (has_known_class (numbers_of cs) i.kind) (list_all (λ (j : Item). has_known_class (numbers_of cs) j.kind) is) known) takes (omega arith)
+    (first_so (is_item i.line i.kind) (list_all (λ (j : Item). is_item j.line j.kind) is) good))
     (to_state (item_state (n + weight_of i.kind) among_items (c + weight_of i.kind) ps v cs e (before ++ item ∷ []))
     (item_state (n + weight_of i.kind + weight is) (phase_past_items among_items is) (c + weight_of i.kind + weight is) ps v cs e ((before ++ item ∷ []) ++ numbered_items (n + weight_of i.kind + 1) is))
     (item_state (n + weight (i ∷ is)) among_items (c + weight (i ∷ is)) ps v cs e (before ++ item ∷ numbered_items (n + 1 + weight_of i.kind) is)) (item_texts v is)
@@ -343,7 +341,7 @@ items_run n p c ps v cs e before (i ∷ is) has takes few good known =
     ∙ same_items (n + weight_of i.kind + weight is) (n + weight (i ∷ is)) among_items (c + weight_of i.kind + weight is) (c + weight (i ∷ is)) ps v cs e ((before ++ item ∷ []) ++ numbered_items (n + weight_of i.kind + 1) is) (before ++ item ∷ numbered_items (n + 1 + weight_of i.kind) is)
     (omega arith) (omega arith) (append_assoc before (item ∷ []) (numbered_items (n + weight_of i.kind + 1) is) ∙ ap (λ m. before ++ item ∷ numbered_items m is) (omega arith)))
     (items_run (n + weight_of i.kind) among_items (c + weight_of i.kind) ps v cs e (before ++ item ∷ []) is has refl (omega arith)
-    (right_of (is_item i.line i.kind) (list_all (λ (j : Item). is_item j.line j.kind) is) good) (right_of (has_known_class (numbers_of cs) i.kind) (list_all (λ (j : Item). has_known_class (numbers_of cs) j.kind) is) known)))
+    (second_so (is_item i.line i.kind) (list_all (λ (j : Item). is_item j.line j.kind) is) good) (second_so (has_known_class (numbers_of cs) i.kind) (list_all (λ (j : Item). has_known_class (numbers_of cs) j.kind) is) known)))
   where
     still_items : (is : List Item) → phase_past_items among_items is ≡ among_items
     still_items [] = refl

@@ -1,5 +1,6 @@
 -- What is written of numbers, names and glue fits its slots and is read back.
 use Rattle.std.proofs.Common.{◌≡◌, ℕ, suc, ◌<◌, ◌≤◌, ℤ, pos, negsuc, nat_abs, Bool, true, false, not, ◌&&◌, ◌||◌, nat_le, List, [], ◌∷◌, ◌++◌, length, Some, None, Result, Ok, if◌then◌else◌, refl, ap, sym, ◌∙◌, arith, append_assoc, length-append}
+use Rattle.std.specs.Cmp.{first_so, second_so}
 use Rattle.std.specs.Prelude.{codes, int_lt}
 use Rattle.std.specs.Fmt.{signed_decimal}
 use Rattle.std.specs.List.{list_all}
@@ -22,16 +23,13 @@ use Rattle.tb_galley.specs.Grammar.{read_or, content_of, glue_from}
 use Rattle.tb_galley.specs.CanonicalText.{unit_text, minus_text, glue_text}
 use Rattle.tb_text.specs.Fields.{and_number}
 use Rattle.tb_galley.specs.Valid.{is_size}
+use Rattle.tb_galley.proofs.VisibleFields.{digit_visible}
 use Rattle.tb_galley.proofs.FieldTexts.{IsText, IsFit, AllFit, tail_text, tail_length, nothing_more}
-use Rattle.tb_galley.proofs.Conjunctions.{left_of, right_of}
 
 -- ---- numbers in their slots
 
-digit_printable : (d : ℕ) → is_digit d ≡ true → is_printable d ≡ true
-digit_printable d h = grind (arith, nat_tests)
-
 number_text : (z : ℤ) → nat_abs z ≤ 4611686018427387904 → IsText (signed_decimal z)
-number_text z h = record { printable = number_passes is_printable digit_printable refl z (omega arith); some = number_some z (omega arith) }
+number_text z h = record { printable = number_passes is_printable digit_visible refl z (omega arith); some = number_some z (omega arith) }
 
 -- between two numbers of which neither is greater than this
 pub within_small : (low high z : ℤ) (m : ℕ) → nat_abs low ≤ m → nat_abs high ≤ m → is_within low high z ≡ true → nat_abs z ≤ m
@@ -90,8 +88,8 @@ range_fit low high c z k l h =
 all_append : (xs ys : List ℕ) → list_all is_printable xs ≡ true → list_all is_printable ys ≡ true → list_all is_printable (xs ++ ys) ≡ true
 all_append [] ys h k = k
 all_append (x ∷ xs) ys h k =
-    ap (λ t. t && list_all is_printable (xs ++ ys)) (left_of (is_printable x) (list_all is_printable xs) h)
-    ∙ all_append xs ys (right_of (is_printable x) (list_all is_printable xs) h) k
+    ap (λ t. t && list_all is_printable (xs ++ ys)) (first_so (is_printable x) (list_all is_printable xs) h)
+    ∙ all_append xs ys (second_so (is_printable x) (list_all is_printable xs) h) k
 
 pub joined_text : (z : ℤ) (unit : List ℕ) → nat_abs z ≤ 4611686018427387904 → list_all is_printable unit ≡ true → IsText (signed_decimal z ++ unit)
 joined_text z unit h k =
@@ -121,8 +119,8 @@ name_byte_printable b h = grind (arith, nat_tests)
 names_printable : (bs : List ℕ) → list_all is_name_byte bs ≡ true → list_all is_printable bs ≡ true
 names_printable [] h = refl
 names_printable (b ∷ bs) h =
-    ap (λ t. t && list_all is_printable bs) (name_byte_printable b (left_of (is_name_byte b) (list_all is_name_byte bs) h))
-    ∙ names_printable bs (right_of (is_name_byte b) (list_all is_name_byte bs) h)
+    ap (λ t. t && list_all is_printable bs) (name_byte_printable b (first_so (is_name_byte b) (list_all is_name_byte bs) h))
+    ∙ names_printable bs (second_so (is_name_byte b) (list_all is_name_byte bs) h)
 
 first_printable : (b : ℕ) → is_alphanumeric b ≡ true → is_printable b ≡ true
 first_printable b h = grind (arith, nat_tests)
@@ -134,13 +132,13 @@ pub record IsNameText (f : List ℕ) : Type 0 where
 pub name_text : (f : List ℕ) → is_name f ≡ true → IsNameText f
 name_text [] h = cc
 name_text (b ∷ bs) h =
-    let front : (is_alphanumeric b && list_all is_name_byte bs) ≡ true = left_of (is_alphanumeric b && list_all is_name_byte bs) (nat_le (length bs) 62) h in
-    let few : nat_le (length bs) 62 ≡ true = right_of (is_alphanumeric b && list_all is_name_byte bs) (nat_le (length bs) 62) h in
+    let front : (is_alphanumeric b && list_all is_name_byte bs) ≡ true = first_so (is_alphanumeric b && list_all is_name_byte bs) (nat_le (length bs) 62) h in
+    let few : nat_le (length bs) 62 ≡ true = second_so (is_alphanumeric b && list_all is_name_byte bs) (nat_le (length bs) 62) h in
     record {
       text = record {
         printable =
-            ap (λ t. t && list_all is_printable bs) (first_printable b (left_of (is_alphanumeric b) (list_all is_name_byte bs) front))
-            ∙ names_printable bs (right_of (is_alphanumeric b) (list_all is_name_byte bs) front);
+            ap (λ t. t && list_all is_printable bs) (first_printable b (first_so (is_alphanumeric b) (list_all is_name_byte bs) front))
+            ∙ names_printable bs (second_so (is_alphanumeric b) (list_all is_name_byte bs) front);
         some = omega arith;
       };
       short = short_name (length bs) few;
@@ -225,15 +223,15 @@ word_text f h k = record { printable = h; some = k }
 
 pub glue_fit : (g : Glue) → is_glue g ≡ true → AllFit (dimension_slot ∷ seen_slot ∷ stretch_slot ∷ seen_slot ∷ dimension_slot ∷ []) (glue_fields g)
 glue_fit g h =
-    let front : (is_dimen g.width && is_dimen g.stretch) ≡ true = left_of (is_dimen g.width && is_dimen g.stretch) (is_dimen g.shrink) h in (
-      dimension_fit g.width (left_of (is_dimen g.width) (is_dimen g.stretch) front),
+    let front : (is_dimen g.width && is_dimen g.stretch) ≡ true = first_so (is_dimen g.width && is_dimen g.stretch) (is_dimen g.shrink) h in (
+      dimension_fit g.width (first_so (is_dimen g.width) (is_dimen g.stretch) front),
       (
         record { text = word_text (codes "plus") refl (omega arith); slot = refl },
         (
-          stretch_fit g.stretch g.order (right_of (is_dimen g.width) (is_dimen g.stretch) front),
+          stretch_fit g.stretch g.order (second_so (is_dimen g.width) (is_dimen g.stretch) front),
           (
             record { text = word_text (codes "minus") refl (omega arith); slot = refl },
-            (dimension_fit g.shrink (right_of (is_dimen g.width && is_dimen g.stretch) (is_dimen g.shrink) h), tt),
+            (dimension_fit g.shrink (second_so (is_dimen g.width && is_dimen g.stretch) (is_dimen g.shrink) h), tt),
           ),
         ),
       ),
@@ -241,18 +239,18 @@ glue_fit g h =
 
 pub glue_short : (g : Glue) → is_glue g ≡ true → tail_length (glue_fields g) ≤ 60
 glue_short g h =
-    let front : (is_dimen g.width && is_dimen g.stretch) ≡ true = left_of (is_dimen g.width && is_dimen g.stretch) (is_dimen g.shrink) h in
-    let w : length (signed_decimal g.width) ≤ 11 = dimen_length g.width (dimen_small g.width (left_of (is_dimen g.width) (is_dimen g.stretch) front)) in
-    let s : length (signed_decimal g.stretch) ≤ 11 = dimen_length g.stretch (dimen_small g.stretch (right_of (is_dimen g.width) (is_dimen g.stretch) front)) in
-    let z : length (signed_decimal g.shrink) ≤ 11 = dimen_length g.shrink (dimen_small g.shrink (right_of (is_dimen g.width && is_dimen g.stretch) (is_dimen g.shrink) h)) in
+    let front : (is_dimen g.width && is_dimen g.stretch) ≡ true = first_so (is_dimen g.width && is_dimen g.stretch) (is_dimen g.shrink) h in
+    let w : length (signed_decimal g.width) ≤ 11 = dimen_length g.width (dimen_small g.width (first_so (is_dimen g.width) (is_dimen g.stretch) front)) in
+    let s : length (signed_decimal g.stretch) ≤ 11 = dimen_length g.stretch (dimen_small g.stretch (second_so (is_dimen g.width) (is_dimen g.stretch) front)) in
+    let z : length (signed_decimal g.shrink) ≤ 11 = dimen_length g.shrink (dimen_small g.shrink (second_so (is_dimen g.width && is_dimen g.stretch) (is_dimen g.shrink) h)) in
     omega (arith, length-append (signed_decimal g.stretch) (unit_of g.order), unit_length g.order)
 
 pub glue_back : (g : Glue) → is_glue g ≡ true
     → glue_from (read_or (pos 0) (dimension_of (signed_decimal g.width))) (read_or (pos 0, orders.Normal) (stretch_of (signed_decimal g.stretch ++ unit_of g.order))) (read_or (pos 0) (dimension_of (signed_decimal g.shrink))) ≡ g
 glue_back g h =
-    let front : (is_dimen g.width && is_dimen g.stretch) ≡ true = left_of (is_dimen g.width && is_dimen g.stretch) (is_dimen g.shrink) h in
-    let w : read_or (pos 0) (dimension_of (signed_decimal g.width)) ≡ g.width = dimension_read g.width (dimen_small g.width (left_of (is_dimen g.width) (is_dimen g.stretch) front)) in
+    let front : (is_dimen g.width && is_dimen g.stretch) ≡ true = first_so (is_dimen g.width && is_dimen g.stretch) (is_dimen g.shrink) h in
+    let w : read_or (pos 0) (dimension_of (signed_decimal g.width)) ≡ g.width = dimension_read g.width (dimen_small g.width (first_so (is_dimen g.width) (is_dimen g.stretch) front)) in
     let s : read_or (pos 0, orders.Normal) (stretch_of (signed_decimal g.stretch ++ unit_of g.order)) ≡ (g.stretch, g.order) =
-    read_back (pos 0, orders.Normal) (stretch_of (signed_decimal g.stretch ++ unit_of g.order)) (g.stretch, g.order) (stretch_back g.stretch g.order (dimen_small g.stretch (right_of (is_dimen g.width) (is_dimen g.stretch) front))) in
-    let z : read_or (pos 0) (dimension_of (signed_decimal g.shrink)) ≡ g.shrink = dimension_read g.shrink (dimen_small g.shrink (right_of (is_dimen g.width && is_dimen g.stretch) (is_dimen g.shrink) h)) in
+    read_back (pos 0, orders.Normal) (stretch_of (signed_decimal g.stretch ++ unit_of g.order)) (g.stretch, g.order) (stretch_back g.stretch g.order (dimen_small g.stretch (second_so (is_dimen g.width) (is_dimen g.stretch) front))) in
+    let z : read_or (pos 0) (dimension_of (signed_decimal g.shrink)) ≡ g.shrink = dimension_read g.shrink (dimen_small g.shrink (second_so (is_dimen g.width && is_dimen g.stretch) (is_dimen g.shrink) h)) in
     (λ i. glue_from (w i) (s i) (z i))

@@ -1,5 +1,7 @@
 -- The reader's galley stays valid, line by line.
 use Rattle.std.proofs.Common.{◌≡◌, ℕ, ◌+◌, ◌≤◌, Bool, true, false, ◌&&◌, not, ◌||◌, ◌==◌, nat_le, List, [], ◌∷◌, Option, Some, None, Result, Ok, Err, IfOk, refl, sym, subst, ◌⊎◌, inl, inr, arith, if◌then◌else◌, append-nil}
+use Rattle.std.specs.Cmp.{first_so, second_so}
+use Rattle.std.proofs.lemmas.Bool.{and_from}
 use Rattle.std.specs.List.{list_all, fold}
 use Rattle.std.proofs.lemmas.Bool.Decides.{nat_tests}
 use Rattle.tb_param.specs.declared.params.Params.{Params}
@@ -26,7 +28,6 @@ use Rattle.tb_galley.specs.Line.{first_of, Said, line_left}
 use Rattle.tb_galley.specs.GalleyReader.{State, next_phase, item_phase, known_in, count_with, start, past_said, said_unless, said_first, take_said, end_by, verdict_by, verdict}
 use Rattle.tb_galley.specs.Valid.{is_leaf, is_item, weight_of, weight, lines_of_item, named_lines, is_class, do_classes_rise, has_known_class, fits_version, IsValid}
 use Rattle.tb_galley.proofs.SuitedLines.{is_single_word, LeafSaid, ItemSaid, Suits, SaidSuits, IfSaid, line_suits}
-use Rattle.tb_galley.proofs.Conjunctions.{both, left_of, right_of}
 use Rattle.tb_galley.proofs.WithClass.{rise-with, all-with, among-with}
 use Rattle.tb_galley.proofs.SoundLines.{Rises, numbers, Sound, drafted, past_line, fits_two, header_line, set_line, items_left, item_line, leaf_line, foot_line, endfoot_line, end_line}
 
@@ -177,9 +178,9 @@ still_known line cs k h = refl
 all_known : (line : ClassLine) (cs : List ClassLine) (is : List Item) → list_all (λ (i : Item). has_known_class (numbers cs) i.kind) is ≡ true → list_all (λ (i : Item). has_known_class (numbers (with_class line cs)) i.kind) is ≡ true
 all_known line cs [] h = refl
 all_known line cs (i ∷ is) h =
-    both (has_known_class (numbers (with_class line cs)) i.kind) (list_all (λ (j : Item). has_known_class (numbers (with_class line cs)) j.kind) is)
-    (still_known line cs i.kind (left_of (has_known_class (numbers cs) i.kind) (list_all (λ (j : Item). has_known_class (numbers cs) j.kind) is) h))
-    (all_known line cs is (right_of (has_known_class (numbers cs) i.kind) (list_all (λ (j : Item). has_known_class (numbers cs) j.kind) is) h))
+    and_from (has_known_class (numbers (with_class line cs)) i.kind) (list_all (λ (j : Item). has_known_class (numbers (with_class line cs)) j.kind) is)
+    (still_known line cs i.kind (first_so (has_known_class (numbers cs) i.kind) (list_all (λ (j : Item). has_known_class (numbers cs) j.kind) is) h))
+    (all_known line cs is (second_so (has_known_class (numbers cs) i.kind) (list_all (λ (j : Item). has_known_class (numbers cs) j.kind) is) h))
 
 class_steps : (n c : ℕ) (ps : Params) (v : ℕ) (cs : List ClassLine) (is : List Item) (e : ℕ) (line : ClassLine) → (v == 1) ≡ false → is_class line ≡ true → (p : Phase) (ft : Option OpenFoot)
     → first_of (place_causes p (Some class_line)) ≡ None → Sound n p c (drafted ps v cs is ft e) → Steps n p c class_line (drafted ps v (with_class line cs) is ft e)
@@ -193,8 +194,8 @@ class_steps n c ps v cs is e line later good among_sets None place s =
         version = fits_two v (with_class line cs) ps (second_version v cs ps later s.classed.version);
         fresh = refl;
         classes =
-            both (list_all is_class (with_class line cs)) (do_classes_rise (with_class line cs)) (all-with line cs good (left_of (list_all is_class cs) (do_classes_rise cs) s.classed.classes))
-            (rise-with line cs (right_of (list_all is_class cs) (do_classes_rise cs) s.classed.classes));
+            and_from (list_all is_class (with_class line cs)) (do_classes_rise (with_class line cs)) (all-with line cs good (first_so (list_all is_class cs) (do_classes_rise cs) s.classed.classes))
+            (rise-with line cs (second_so (list_all is_class cs) (do_classes_rise cs) s.classed.classes));
         feet = all_known line cs is s.classed.feet;
         foot = refl;
       };

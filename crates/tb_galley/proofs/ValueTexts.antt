@@ -1,5 +1,6 @@
 -- The value of a parameter is read back.
 use Rattle.std.proofs.Common.{◌≡◌, ℕ, ◌<◌, ◌≤◌, ℤ, pos, negsuc, nat_abs, Bool, true, false, not, ◌&&◌, ◌||◌, nat_lt, nat_le, List, [], ◌∷◌, ◌++◌, length, Some, Ok, refl, ap, sym, subst, ◌∙◌, arith, length-append, if◌then◌else◌, None}
+use Rattle.std.specs.Cmp.{first_so, second_so}
 use Rattle.std.specs.Prelude.{codes, int_lt}
 use Rattle.std.specs.Fmt.{signed_decimal}
 use Rattle.std.specs.List.{list_all}
@@ -24,7 +25,6 @@ use Rattle.tb_galley.specs.Grammar.{value_by, set_content}
 use Rattle.tb_galley.specs.CanonicalText.{value_text}
 use Rattle.tb_galley.proofs.FieldTexts.{IsText, AllFit, tail_text, tail_length, nothing_more}
 use Rattle.tb_galley.proofs.SlotTexts.{ReadsAs, glue_fields, glue_is, glue_fit, glue_short, glue_back, least_fit, range_fit, joined_text, dimension_read, integer_read, dimen_length, within_small, read_none, read_back}
-use Rattle.tb_galley.proofs.Conjunctions.{left_of, right_of}
 
 choice_field : Choice → List ℕ
 choice_field choices.Flush = codes "flush"
@@ -79,8 +79,8 @@ pub record FormBack (form : Form) (v : Value) : Type 0 where
 int_back : (low high n : ℤ) → is_plain_form (forms.Int low high) ≡ true → is_within low high n ≡ true → FormBack (forms.Int low high) (values.Int n)
 unfolding value_fields
 int_back low high n plain good =
-    let k : nat_abs low ≤ 1073741823 = at_most (nat_abs low) 1073741823 (left_of (nat_le (nat_abs low) 1073741823) (nat_le (nat_abs high) 1073741823) plain) in
-    let l : nat_abs high ≤ 1073741823 = at_most (nat_abs high) 1073741823 (right_of (nat_le (nat_abs low) 1073741823) (nat_le (nat_abs high) 1073741823) plain) in
+    let k : nat_abs low ≤ 1073741823 = at_most (nat_abs low) 1073741823 (first_so (nat_le (nat_abs low) 1073741823) (nat_le (nat_abs high) 1073741823) plain) in
+    let l : nat_abs high ≤ 1073741823 = at_most (nat_abs high) 1073741823 (second_so (nat_le (nat_abs low) 1073741823) (nat_le (nat_abs high) 1073741823) plain) in
     let small : nat_abs n ≤ 1073741823 = within_small low high n 1073741823 k l good in
     let a : length (signed_decimal n) ≤ 11 = dimen_length n small in
     record { fit = (range_fit low high causes.Parameter n k l good, tt); short = omega arith; read = λ name. ap (λ z. values.Int z) (integer_read n small) }
@@ -139,13 +139,13 @@ some_bytes k h = grind (arith, nat_tests)
 pub set_back : (k : Known) (r : Row) (v : Value) → row_of r.name ≡ Some r → is_known_in k.version r.field ≡ true → is_plain_row r ≡ true → fits r.form v ≡ true → ReadsAs k setting (r.name ∷ value_fields v) (λ n. contents.Set r.field v)
 set_back k r v found known plain good =
     let found_here : row_for k.version r.name ≡ Some r = ap (λ o. row_known k.version o) found ∙ ap (λ t. if t then Some r else None) known in
-    let named : (list_all is_printable r.name && nat_lt 0 (length r.name)) ≡ true = left_of (list_all is_printable r.name && nat_lt 0 (length r.name)) (nat_le (length r.name) 30 && is_plain_form r.form) plain in
-    let formed : (nat_le (length r.name) 30 && is_plain_form r.form) ≡ true = right_of (list_all is_printable r.name && nat_lt 0 (length r.name)) (nat_le (length r.name) 30 && is_plain_form r.form) plain in
-    let short : length r.name ≤ 30 = at_most (length r.name) 30 (left_of (nat_le (length r.name) 30) (is_plain_form r.form) formed) in
-    let back : FormBack r.form v = value_back r.form v (right_of (nat_le (length r.name) 30) (is_plain_form r.form) formed) good in
+    let named : (list_all is_printable r.name && nat_lt 0 (length r.name)) ≡ true = first_so (list_all is_printable r.name && nat_lt 0 (length r.name)) (nat_le (length r.name) 30 && is_plain_form r.form) plain in
+    let formed : (nat_le (length r.name) 30 && is_plain_form r.form) ≡ true = second_so (list_all is_printable r.name && nat_lt 0 (length r.name)) (nat_le (length r.name) 30 && is_plain_form r.form) plain in
+    let short : length r.name ≤ 30 = at_most (length r.name) 30 (first_so (nat_le (length r.name) 30) (is_plain_form r.form) formed) in
+    let back : FormBack r.form v = value_back r.form v (second_so (nat_le (length r.name) 30) (is_plain_form r.form) formed) good in
     let text : IsText r.name = record {
-      printable = left_of (list_all is_printable r.name) (nat_lt 0 (length r.name)) named;
-      some = some_bytes (length r.name) (right_of (list_all is_printable r.name) (nat_lt 0 (length r.name)) named);
+      printable = first_so (list_all is_printable r.name) (nat_lt 0 (length r.name)) named;
+      some = some_bytes (length r.name) (second_so (list_all is_printable r.name) (nat_lt 0 (length r.name)) named);
     } in
     record {
       fit = subst (λ o. AllFit (parameter_slot k.version ∷ row_slots (value_fields v) o) (r.name ∷ value_fields v)) (sym found_here) (record { text = text; slot = ap row_cause found_here }, back.fit);

@@ -11,7 +11,7 @@ use Rattle.tb_galley.specs.Faults.{is_printable}
 abbrev are_visible : List ℕ → Bool
 are_visible bs = list_all is_printable bs
 
-digit_visible : (b : ℕ) → is_digit b ≡ true → is_printable b ≡ true
+pub digit_visible : (b : ℕ) → is_digit b ≡ true → is_printable b ≡ true
 digit_visible b h = grind (arith, nat_tests)
 
 equal_visible : (b n : ℕ) → (b == n) ≡ true → is_printable n ≡ true → is_printable b ≡ true

@@ -1,13 +1,13 @@
 -- One more class among those that were declared: they stay in their ranges, they rise, and none is lost.
 use Rattle.std.proofs.Common.{◌≡◌, ℕ, Bool, true, false, ◌||◌, ◌==◌, nat_lt, List, [], ◌∷◌, map, if◌then◌else◌, refl, ap, sym, subst, ◌∙◌, arith}
+use Rattle.std.specs.Cmp.{first_so, second_so}
 use Rattle.std.specs.List.{list_all, list_any}
-use Rattle.std.proofs.lemmas.Bool.{eqb-true, or_right}
+use Rattle.std.proofs.lemmas.Bool.{eqb-true, or_right, and_from}
 use Rattle.std.proofs.lemmas.Bool.Decides.{nat_tests}
 use Rattle.tb_galley.specs.declared.classes.ClassLine.{ClassLine}
 use Rattle.tb_galley.specs.Fields.{is_class_among}
 use Rattle.tb_galley.specs.Grammar.{with_class}
 use Rattle.tb_galley.specs.Valid.{is_class, do_classes_rise}
-use Rattle.tb_galley.proofs.Conjunctions.{both, left_of, right_of}
 
 -- the first class has a greater number
 abbrev is_over : ℕ → List ClassLine → Bool
@@ -16,16 +16,16 @@ is_over n (c ∷ cs) = nat_lt n c.number
 
 rise-cons : (c : ClassLine) (cs : List ClassLine) → is_over c.number cs ≡ true → do_classes_rise cs ≡ true → do_classes_rise (c ∷ cs) ≡ true
 rise-cons c [] over rise = refl
-rise-cons c (d ∷ ds) over rise = both (nat_lt c.number d.number) (do_classes_rise (d ∷ ds)) over rise
+rise-cons c (d ∷ ds) over rise = and_from (nat_lt c.number d.number) (do_classes_rise (d ∷ ds)) over rise
 
 rise-over : (c : ClassLine) (cs : List ClassLine) → do_classes_rise (c ∷ cs) ≡ true → is_over c.number cs ≡ true
 rise-over c [] rise = refl
-rise-over c (d ∷ ds) rise = left_of (nat_lt c.number d.number) (do_classes_rise (d ∷ ds)) rise
+rise-over c (d ∷ ds) rise = first_so (nat_lt c.number d.number) (do_classes_rise (d ∷ ds)) rise
 
 -- so do those after the first
 pub rise-rest : (c : ClassLine) (cs : List ClassLine) → do_classes_rise (c ∷ cs) ≡ true → do_classes_rise cs ≡ true
 rise-rest c [] rise = refl
-rise-rest c (d ∷ ds) rise = right_of (nat_lt c.number d.number) (do_classes_rise (d ∷ ds)) rise
+rise-rest c (d ∷ ds) rise = second_so (nat_lt c.number d.number) (do_classes_rise (d ∷ ds)) rise
 
 over-with : (n : ℕ) (c : ClassLine) (cs : List ClassLine) → nat_lt n c.number ≡ true → is_over n cs ≡ true → is_over n (with_class c cs) ≡ true
 over-with n c [] first over = first
@@ -52,13 +52,13 @@ rise-with c (d ∷ ds) rise = by_number (c.number == d.number) (nat_lt c.number 
 
 -- they are in their ranges
 pub all-with : (c : ClassLine) (cs : List ClassLine) → is_class c ≡ true → list_all is_class cs ≡ true → list_all is_class (with_class c cs) ≡ true
-all-with c [] good all = both (is_class c) true good refl
-all-with c (d ∷ ds) good all = by_number (c.number == d.number) (nat_lt c.number d.number) (all-with c ds good (right_of (is_class d) (list_all is_class ds) all))
+all-with c [] good all = and_from (is_class c) true good refl
+all-with c (d ∷ ds) good all = by_number (c.number == d.number) (nat_lt c.number d.number) (all-with c ds good (second_so (is_class d) (list_all is_class ds) all))
   where
     by_number : (same less : Bool) → list_all is_class (with_class c ds) ≡ true → list_all is_class (if same then c ∷ ds else (if less then c ∷ d ∷ ds else d ∷ with_class c ds)) ≡ true
-    by_number true less more = both (is_class c) (list_all is_class ds) good (right_of (is_class d) (list_all is_class ds) all)
-    by_number false true more = both (is_class c) (list_all is_class (d ∷ ds)) good all
-    by_number false false more = both (is_class d) (list_all is_class (with_class c ds)) (left_of (is_class d) (list_all is_class ds) all) more
+    by_number true less more = and_from (is_class c) (list_all is_class ds) good (second_so (is_class d) (list_all is_class ds) all)
+    by_number false true more = and_from (is_class c) (list_all is_class (d ∷ ds)) good all
+    by_number false false more = and_from (is_class d) (list_all is_class (with_class c ds)) (first_so (is_class d) (list_all is_class ds) all) more
 
 abbrev numbers : List ClassLine → List ℕ
 numbers cs = map (λ (c : ClassLine). c.number) cs

@@ -1,12 +1,13 @@
 -- The galley's grammar accepts the text of the lines.
 use Rattle.std.proofs.Common.{◌≡◌, refl, sym, ◌∙◌, ap, subst, ℕ, zero, suc, ◌+◌, ◌<◌, ◌≤◌, pos, Bool, true, false, nat_lt, ◌==◌, ◌||◌, List, [], ◌∷◌, ◌++◌, length, take, drop, codes, Option, Some, None, Result, Ok, Err, if◌then◌else◌, arith, append_assoc, length-append}
+use Rattle.std.proofs.Math.Bool.{or-false}
 use Rattle.std.specs.Prelude.{slice_get, reverse}
 use Rattle.std.specs.List.{AllByRecursion}
 use Rattle.std.proofs.lemmas.List.{length-reverse}
 use Rattle.std.proofs.lemmas.Bool.{true≢false, eqb-true}
 use Rattle.std.proofs.lemmas.Bool.Decides.{nat_tests}
 use Rattle.tb_text.specs.Lines.{lines_of}
-use Rattle.tb_text.proofs.LineTexts.{joined_lines, lines_of-joined}
+use Rattle.tb_text.proofs.LineTexts.{joined_lines, joined_lines-append, lines_of-joined}
 use Rattle.tb_param.specs.declared.params.Params.{Params}
 use Rattle.tb_param.specs.Defaults.{default_params}
 use Rattle.tb_galley.specs.declared.Cause.TheVariants as causes
@@ -23,6 +24,7 @@ use Rattle.tb_galley.specs.GalleyReader.{start, verdict}
 use Rattle.tb_galley.specs.Valid.{weight}
 use Rattle.tb_galley.proofs.SoundLines.{drafted}
 use Rattle.tb_galley.proofs.SameStep.{left_exact}
+use Rattle.tb_galley.proofs.PrintLaw.{still_takes, not_long}
 use Rattle.tb_galley.proofs.PrintRuns.{Runs, then_lines, word_runs, HasClasses, numbered_items, takes_items, item_state, item_texts, phase_past_items, items_run}
 use Rattle.tb_lines.specs.declared.text.Item.{Item as ParItem}
 use Rattle.tb_lines.specs.declared.text.Item.TheVariants.{Word as word, Space as space, Penalty as penalty}
@@ -56,28 +58,16 @@ end_runs n among_sets c ps e is takes = word_runs n among_sets c (drafted ps 1 [
 end_runs n among_items c ps e is takes = word_runs n among_items c (drafted ps 1 [] is None e) end [] (λ m. contents.End) refl (record { fit = tt; short = omega arith; content = λ m. refl }) refl refl
 end_runs n p c ps e is takes = cc
 
-still_takes : (is : List Item) → takes_items (phase_past_items among_sets is) ≡ true
-still_takes [] = refl
-still_takes (i ∷ is) = refl
-
 -- a galley of version 1 has no class but that of its footnotes
 no_classes : HasClasses 1 []
-no_classes = record { good = refl; first = λ class one h. eqb-true class 254 (or_none (class == 254) h) }
-  where
-    or_none : (a : Bool) → (a || false) ≡ true → a ≡ true
-    or_none true h = refl
-    or_none false h = h
+no_classes = record { good = refl; first = λ class one h. eqb-true class 254 (sym (or-false (class == 254)) ∙ h) }
 
 -- the lines of a galley of these items alone
 abbrev bare_lines : List ItemKind → List (List ℕ)
 bare_lines ks = codes "galley 1" ∷ (item_texts 1 (items_of ks) ++ codes "end" ∷ [])
 
-joined-append : (xs ys : List (List ℕ)) → joined_lines (xs ++ ys) ≡ joined_lines xs ++ joined_lines ys
-joined-append [] ys = refl
-joined-append (x ∷ xs) ys = ap (λ t. x ++ 10 ∷ t) (joined-append xs ys) ∙ sym (append_assoc x (10 ∷ joined_lines xs) (joined_lines ys))
-
 bare_text : (ks : List ItemKind) → codes "galley 1\n" ++ text_of_items ks ++ codes "end\n" ≡ joined_lines (bare_lines ks)
-bare_text ks = ap (λ t. codes "galley 1\n" ++ t) (sym (joined-append (item_texts 1 (items_of ks)) (codes "end" ∷ [])))
+bare_text ks = ap (λ t. codes "galley 1\n" ++ t) (sym (joined_lines-append (item_texts 1 (items_of ks)) (codes "end" ∷ [])))
 
 bare_read : (ks : List ItemKind) → AllByRecursion IsPlain ks → length ks ≤ 75000 → (g : Galley) × (grammar (codes "galley 1\n" ++ text_of_items ks ++ codes "end\n") ≡ Ok g)
 unfolding grammar
@@ -102,9 +92,6 @@ bare_read ks plain few =
           ∙ sym (left_exact (bare_lines ks))
           ∙ ap verdict runs.ends,
     )
-  where
-    not_long : (k : ℕ) → k ≤ 8388608 → nat_lt 8388608 k ≡ false
-    not_long k h = grind (arith, nat_tests)
 
 -- ---- a paragraph has no more lines than items and one
 

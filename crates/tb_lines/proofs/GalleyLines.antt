@@ -17,7 +17,7 @@ use Rattle.tb_galley.specs.declared.Item.{Item}
 use Rattle.tb_galley.specs.declared.ItemKind.{ItemKind}
 use Rattle.tb_galley.specs.declared.ItemKind.TheVariants as items
 use Rattle.tb_galley.specs.Valid.{is_size, is_item, weight_of, weight, has_known_class}
-use Rattle.tb_galley.proofs.FieldTexts.{tail_text, tail_length}
+use Rattle.tb_galley.proofs.FieldTexts.{tail_text, tail_length, length-tail_text}
 use Rattle.tb_galley.proofs.SlotTexts.{dimen_length}
 use Rattle.tb_galley.proofs.PrintRuns.{kind_lines, item_texts}
 use Rattle.tb_lines.specs.declared.text.LineParams.{LineParams}
@@ -74,16 +74,12 @@ text_of_items ks = joined_lines (item_texts 1 (items_of ks))
 
 -- ---- their text
 
-joined-append : (xs ys : List (List ℕ)) → joined_lines (xs ++ ys) ≡ joined_lines xs ++ joined_lines ys
-joined-append [] ys = refl
-joined-append (x ∷ xs) ys = ap (λ t. x ++ 10 ∷ t) (joined-append xs ys) ∙ sym (append_assoc x (10 ∷ joined_lines xs) (joined_lines ys))
-
 texts-append : (ks ls : List ItemKind) → item_texts 1 (items_of (ks ++ ls)) ≡ item_texts 1 (items_of ks) ++ item_texts 1 (items_of ls)
 texts-append [] ls = refl
 texts-append (k ∷ ks) ls = ap (λ t. kind_lines 1 k ++ t) (texts-append ks ls) ∙ sym (append_assoc (kind_lines 1 k) (item_texts 1 (items_of ks)) (item_texts 1 (items_of ls)))
 
 text-append : (ks ls : List ItemKind) → text_of_items (ks ++ ls) ≡ text_of_items ks ++ text_of_items ls
-text-append ks ls = ap joined_lines (texts-append ks ls) ∙ joined-append (item_texts 1 (items_of ks)) (item_texts 1 (items_of ls))
+text-append ks ls = ap joined_lines (texts-append ks ls) ∙ joined_lines-append (item_texts 1 (items_of ks)) (item_texts 1 (items_of ls))
 
 glue_text : (w : ℕ) → glue_line w ≡ text_of_items (fixed_glue w ∷ [])
 unfolding kind_lines digits
@@ -146,15 +142,11 @@ pub record IsPlain (k : ItemKind) : Type 0 where
   pub one : weight_of k ≡ 1
   pub short : length (text_of_items (k ∷ [])) ≤ 100
 
-length-tail : (fs : List (List ℕ)) → length (tail_text fs) ≡ tail_length fs
-length-tail [] = refl
-length-tail (f ∷ fs) = let more : length (tail_text fs) ≡ tail_length fs = length-tail fs in omega (arith, length-append f (tail_text fs))
-
 -- the text of one item on one line
 one_length : (k : ItemKind) (head : List ℕ) (fs : List (List ℕ)) (n : ℕ) → kind_lines 1 k ≡ (head ++ tail_text fs) ∷ [] → length head + tail_length fs + 1 ≤ n → length (text_of_items (k ∷ [])) ≤ n
 one_length k head fs n e h =
     let whole : text_of_items (k ∷ []) ≡ (head ++ tail_text fs) ++ 10 ∷ [] = ap (λ ls. joined_lines (ls ++ [])) e in
-    subst (λ (t : List ℕ). length t ≤ n) (sym whole) (omega (arith, length-append (head ++ tail_text fs) (10 ∷ []), length-append head (tail_text fs), length-tail fs))
+    subst (λ (t : List ℕ). length t ≤ n) (sym whole) (omega (arith, length-append (head ++ tail_text fs) (10 ∷ []), length-append head (tail_text fs), length-tail_text fs))
 
 within : (w : ℕ) → w ≤ 1073741823 → is_dimen (pos w) ≡ true
 within w h = grind (arith, nat_tests, ints)

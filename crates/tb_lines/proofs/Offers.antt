@@ -1,5 +1,6 @@
 -- What the code offers is what the table's definition offers.
 use Rattle.std.proofs.Common.{◌≡◌, refl, sym, ◌∙◌, ap, subst, ℕ, zero, suc, ◌<◌, ◌≤◌, ◌+◌, ℤ, Bool, true, false, List, [], ◌∷◌, length, get_or, Option, None, Some, IfSome, ◌++◌, ◌⊎◌, inl, inr, arith}
+use Rattle.std.proofs.Math.Bool.{and-false}
 use Rattle.std.specs.Prelude.{nat_lt, nat_le, ◌&&◌, unwrap_or, if◌then◌else◌}
 use Rattle.std.proofs.lemmas.Bool.Decides.{nat_tests}
 use Rattle.std.proofs.lemmas.Option.{slice_get-get_or}
@@ -80,11 +81,7 @@ none_before_forced ps es j None e i lt = absurd (omega arith)
 none_before_forced ps es j (Some k) e i lt =
     ap (λ t. if (is_legal es j && nat_lt i j) && t then line_demerits ps es (Some i) j else None)
     (ap (λ f. is_up_to f (Some i)) (sym e) ∙ (let no : nat_le k i ≡ false = grind (arith, nat_tests) in no))
-    ∙ ap (λ t. if t then line_demerits ps es (Some i) j else None) (and_false (is_legal es j && nat_lt i j))
-  where
-    and_false : (a : Bool) → (a && false) ≡ false
-    and_false true = refl
-    and_false false = refl
+    ∙ ap (λ t. if t then line_demerits ps es (Some i) j else None) (and-false (is_legal es j && nat_lt i j))
 
 -- one more row
 row_cases : (rows : List (Option Best)) (r : Option Best) (k : ℕ) (b : Best) → row_at (rows ++ r ∷ []) k ≡ Some b → (row_at rows k ≡ Some b) ⊎ ((k ≡ length rows) × (r ≡ Some b))

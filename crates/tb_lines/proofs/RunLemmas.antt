@@ -1,5 +1,5 @@
 -- Running sums and first words, with one more entry.
-use Rattle.std.proofs.Common.{◌≡◌, refl, sym, ◌∙◌, ap, subst, inl, inr, ℕ, zero, suc, ◌<◌, ◌≤◌, ◌+◌, ℤ, true, List, [], ◌∷◌, ◌++◌, length, take, set, get_or, ◌-◌, min, Option, Some, arith, length-append, replicate}
+use Rattle.std.proofs.Common.{◌≡◌, refl, sym, ◌∙◌, ap, subst, inl, inr, ℕ, zero, suc, ◌<◌, ◌≤◌, ◌+◌, ℤ, true, List, [], ◌∷◌, ◌++◌, length, take, set, get_or, ◌-◌, min, Option, Some, arith, length-append, replicate, length-set}
 use Rattle.std.specs.Prelude.{slice_get, if◌then◌else◌}
 use Rattle.std.proofs.lemmas.Bool.{cases_eq}
 use Rattle.std.proofs.lemmas.Option.{slice_get-get_or, get_or_from_slice_get}
@@ -66,11 +66,6 @@ get_set_other (x ∷ xs) zero (suc i) v ne = refl
 get_set_other (x ∷ xs) (suc k) zero v ne = refl
 get_set_other (x ∷ xs) (suc k) (suc i) v ne = get_set_other xs k i v (λ e. ne (ap suc e))
 
-length_set : {X : Type 0} (xs : List X) (k : ℕ) (v : X) → length (set xs k v) ≡ length xs
-length_set [] k v = refl
-length_set (x ∷ xs) zero v = refl
-length_set (x ∷ xs) (suc k) v = ap suc (length_set xs k v)
-
 get_replicate : {X : Type 0} (n k : ℕ) (x : X) → k < n → slice_get (replicate n x) k ≡ Some x
 get_replicate zero k x lt = absurd (omega arith)
 get_replicate (suc n) zero x lt = refl
@@ -91,7 +86,7 @@ words_start es starts e = record {
 
 pub words_more : (es : List Entry) (starts : List ℕ) (k : ℕ) (v : ℕ) → k < length es → WordsFrom es starts (k + 1) → v ≡ first_word es k → WordsFrom es (set starts k v) k
 words_more es starts k v lt w e = record {
-  long = length_set starts k v ∙ w.long;
+  long = length-set starts k v ∙ w.long;
   each = λ i le le'. elim (cases_eq k i) [
     | inl same ↦ ap (slice_get (set starts k v)) (sym same) ∙ get_set_same starts k v (let l : length starts ≡ length es + 1 = w.long in omega arith) ∙ ap Some (e ∙ ap (first_word es) same)
     | inr ne ↦ get_set_other starts k i v ne ∙ w.each i (omega arith) le'

@@ -1,5 +1,6 @@
 -- The table of the bytes that may be in a name, and bytes tested one after the other.
 use Rattle.std.proofs.Common.{◌≡◌, ℕ, zero, suc, ◌<◌, Bool, true, false, ◌&&◌, List, [], ◌∷◌, slice_index_or, refl, ◌∙◌, arith, ⊎_elim}
+use Rattle.std.specs.Cmp.{first_so, second_so}
 use Rattle.std.specs.List.{fold, list_all}
 use Rattle.std.proofs.Math.Nat.{eq-or-lt_of_le}
 use Rattle.tb_node.specs.declared.names.TheConstants.{NAME_BYTES}
@@ -25,20 +26,12 @@ are_same true false h = cc
 are_same false true h = cc
 are_same false false h = refl
 
-front : (a b : Bool) → (a && b) ≡ true → a ≡ true
-front true b h = refl
-front false b h = cc
-
-back : (a b : Bool) → (a && b) ≡ true → b ≡ true
-back true b h = h
-back false b h = cc
-
 agrees_at : (n b : ℕ) → agrees n ≡ true → b < n → slice_index_or NAME_BYTES b false ≡ is_name_byte b
 unfolding agrees
 agrees_at zero b h lt = absurd (omega arith)
 agrees_at (suc n) b h lt =
-    let here : same (slice_index_or NAME_BYTES n false) (is_name_byte n) ≡ true = front (same (slice_index_or NAME_BYTES n false) (is_name_byte n)) (agrees n) h in
-    let below : agrees n ≡ true = back (same (slice_index_or NAME_BYTES n false) (is_name_byte n)) (agrees n) h in
+    let here : same (slice_index_or NAME_BYTES n false) (is_name_byte n) ≡ true = first_so (same (slice_index_or NAME_BYTES n false) (is_name_byte n)) (agrees n) h in
+    let below : agrees n ≡ true = second_so (same (slice_index_or NAME_BYTES n false) (is_name_byte n)) (agrees n) h in
     ⊎_elim (λ (e : b ≡ n). rw e (are_same (slice_index_or NAME_BYTES n false) (is_name_byte n) here)) (λ (m : b < n). agrees_at n b below m) (eq-or-lt_of_le (omega (arith, lt)))
 
 pub table_is : (b : ℕ) → b < 256 → slice_index_or NAME_BYTES b false ≡ is_name_byte b

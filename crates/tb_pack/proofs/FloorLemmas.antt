@@ -24,12 +24,9 @@ product_small (negsuc a) (negsuc b) f g =
     let most : suc a * suc b ≤ 85070591730234615865843651857942052864 = product_most (suc a) (suc b) (omega (arith, ints)) (omega (arith, ints)) in
     record { low = omega (arith, ints); high = omega (arith, ints) }
 
-quotient_least : (n d : ℕ) → n / d ≤ n
-quotient_least n d = div-le_self n d
-
 floor_div_small : (n : ℤ) (d : ℕ) → IsProduct n → IsProduct (floor_div n d)
-floor_div_small (pos n) d h = let least : n / d ≤ n = quotient_least n d in record { low = omega (arith, ints); high = omega (arith, ints) }
-floor_div_small (negsuc n) d h = let least : n / d ≤ n = quotient_least n d in record { low = omega (arith, ints); high = omega (arith, ints) }
+floor_div_small (pos n) d h = let least : n / d ≤ n = div-le_self n d in record { low = omega (arith, ints); high = omega (arith, ints) }
+floor_div_small (negsuc n) d h = let least : n / d ≤ n = div-le_self n d in record { low = omega (arith, ints); high = omega (arith, ints) }
 
 -- a share of such a product is no greater
 pub floor_small : (n d : ℤ) → IsProduct n → IsProduct (floor_ratio n d)

@@ -3,6 +3,7 @@ use Rattle.std.proofs.Common.{◌≡◌, ◌∙◌, ap, sym, subst, ℤ, ◌+ℤ
 use Rattle.std.proofs.lemmas.Int.{ints}
 use Rattle.tb_scaled.specs.declared.Order.{Order}
 use Rattle.tb_scaled.specs.declared.Order.TheVariants.{Normal, Fil, Fill, Filll}
+use Rattle.tb_scaled.proofs.AmountLemmas.{amount_fits}
 use Rattle.tb_node.specs.Shape.{Shape}
 use Rattle.tb_node.specs.Sums.{room_of, size_of, sums_of, limited_depth, list_stretch}
 use Rattle.tb_node.specs.SmallAmounts.{IsAmount, IsSmall}
@@ -38,9 +39,6 @@ passed_small limit ns before n rest fits e = fits (before ++ n ∷ []) rest (app
 
 size_fits : (size depth : ℤ) → IsAmount (size -ℤ depth) → IsAmount depth → FitsSigned w64 size
 size_fits size depth a b = omega (arith, ints)
-
-amount_fits : (z : ℤ) → IsAmount z → FitsSigned w64 z
-amount_fits z h = omega (arith, ints)
 
 order_fits : (o : Order) (limit : ℤ) (ns : List Shape) → IsSmall (sums_of limit ns) → FitsSigned w64 (list_stretch o ns)
 order_fits Normal limit ns h = amount_fits _ h.stretch.0

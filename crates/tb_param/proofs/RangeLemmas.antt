@@ -1,5 +1,7 @@
 -- Parameters stay in their ranges if one is set to a value in its row's range.
 use Rattle.std.proofs.Common.{◌≡◌, ℕ, zero, suc, ℤ, pos, negsuc, Bool, true, false, ◌&&◌, List, [], ◌∷◌, map, set, Option, Some, None, Ok, bytes_eq, if◌then◌else◌, refl, ap, subst, sym, ◌∙◌}
+use Rattle.std.specs.Cmp.{first_so, second_so}
+use Rattle.std.proofs.lemmas.Bool.{and_from}
 use Rattle.tb_param.specs.declared.params.Params.{Params}
 use Rattle.tb_param.specs.declared.ParamFault.{ParamFault}
 use Rattle.tb_param.specs.declared.Value.{Value}
@@ -28,24 +30,12 @@ fits_at [] k v = true
 fits_at (f ∷ fs) zero v = fits f v
 fits_at (f ∷ fs) (suc k) v = fits_at fs k v
 
-both : (a b : Bool) → a ≡ true → b ≡ true → (a && b) ≡ true
-both true b h k = k
-both false b h k = h
-
-right_of : (a b : Bool) → (a && b) ≡ true → b ≡ true
-right_of true b h = h
-right_of false b h = cc
-
-left_of : (a b : Bool) → (a && b) ≡ true → a ≡ true
-left_of true b h = refl
-left_of false b h = h
-
 set_fits : (fs : List Form) (vs : List Value) (k : ℕ) (v : Value) → fits_at fs k v ≡ true → fits_all fs vs ≡ true → fits_all fs (set vs k v) ≡ true
 set_fits [] vs k v h all = refl
 set_fits (f ∷ fs) [] k v h all = refl
-set_fits (f ∷ fs) (w ∷ vs) zero v h all = both (fits f v) (fits_all fs vs) h (right_of (fits f w) (fits_all fs vs) all)
+set_fits (f ∷ fs) (w ∷ vs) zero v h all = and_from (fits f v) (fits_all fs vs) h (second_so (fits f w) (fits_all fs vs) all)
 set_fits (f ∷ fs) (w ∷ vs) (suc k) v h all =
-    both (fits f w) (fits_all fs (set vs k v)) (left_of (fits f w) (fits_all fs vs) all) (set_fits fs vs k v h (right_of (fits f w) (fits_all fs vs) all))
+    and_from (fits f w) (fits_all fs (set vs k v)) (first_so (fits f w) (fits_all fs vs) all) (set_fits fs vs k v h (second_so (fits f w) (fits_all fs vs) all))
 
 abbrev row_forms : List Form
 row_forms = map (λ (r : Row). r.form) rows

@@ -6,7 +6,7 @@ use Rattle.std.proofs.lemmas.Bool.Decides.{nat_tests}
 use Rattle.std.proofs.lemmas.List.{map-append}
 use Rattle.tb_pool.specs.Lists.{Lists, IsLive, list_at, with_list}
 use Rattle.tb_pool.proofs.MapLemmas.{get-insert_same, get-insert_other}
-use Rattle.tb_pool.proofs.CallerLemmas.{list_same, live_same, get_other}
+use Rattle.tb_pool.proofs.CallerLemmas.{list_same, live_same, get_other, with_list-same}
 use Rattle.tb_node.specs.declared.Node.{Node}
 use Rattle.tb_node.specs.PlainNodes.{Leaf, leaf_node, PlainNode, plain_of, plain_list}
 use Rattle.tb_param.specs.declared.Params.{Params}
@@ -19,7 +19,6 @@ use Rattle.tb_builder.specs.Contributions.{NoPage, with_void, Taken}
 use Rattle.tb_builder.proofs.Ownership.OwnedLemmas.{AllSame}
 use Rattle.tb_builder.proofs.Ownership.FrameLemmas.{frame_owned, frame_contents, frame_sound}
 use Rattle.tb_column.specs.Page.{AreLeaves}
-use Rattle.tb_column.proofs.StoreLemmas.{with_list-same}
 use Rattle.tb_column.proofs.FloatLemmas.{leaves-append}
 use Rattle.tb_column.proofs.ShownLemmas.{leaves-held}
 use Rattle.tb_plain.specs.Firing.{feet_below}

@@ -1,10 +1,12 @@
 -- What callers use of a store of lists after a call: the list that changed, and each other list.
-use Rattle.std.proofs.Common.{◌≡◌, ◌≢◌, refl, sym, ap, subst, ◌∙◌, ℕ, ◌+◌, List, [], ◌∷◌, ◌++◌, length, length-append, unwrap_or, IsSome}
+use Rattle.std.proofs.Common.{◌≡◌, ◌≢◌, refl, sym, ap, subst, ◌∙◌, ℕ, ◌+◌, List, [], ◌∷◌, ◌++◌, length, length-append, Option, None, Some, unwrap_or, IsSome}
 use Rattle.std.specs.Prelude.{All}
-use Rattle.std.specs.FinMap.{get}
+use Rattle.std.specs.FinMap.{FinMap, get, insert}
+use Rattle.std.specs.Ordering.{nat_cmp}
+use Rattle.std.proofs.lemmas.Bool.{true≢false}
 use Rattle.std.proofs.lemmas.List.Elements.{All-push}
 use Rattle.tb_pool.specs.Lists.{Lists, IsLive, list_at, with_list}
-use Rattle.tb_pool.proofs.MapLemmas.{get-insert_same, get-insert_other}
+use Rattle.tb_pool.proofs.MapLemmas.{get-insert_same, get-insert_other, insert_from_get}
 
 -- one list changed: it has its new values and is live, and every other id has what it had
 module _ {T : Type 0} (s t : Lists T) (l : ℕ) (xs : List T) where
@@ -22,6 +24,22 @@ module _ {T : Type 0} (s t : Lists T) (l : ℕ) (xs : List T) where
 
   pub live_other : (q : ℕ) → q ≢ l → t.lists ≡ with_list s l xs → IsLive s q → IsLive t q
   live_other q ne e live = subst IsSome (sym (get_other q ne e)) live
+
+module _ {T : Type 0} where
+  -- a list changed twice
+  pub insert-twice : (m : FinMap nat_cmp (List T)) (l : ℕ) (xs ys : List T) → insert (insert m l xs) l ys ≡ insert m l ys
+  insert-twice m l xs ys = insert_from_get m (insert (insert m l xs) l ys) l ys (get-insert_same (insert m l xs) l ys) (λ q ne. get-insert_other (insert m l xs) l ys q ne ∙ get-insert_other m l xs q ne)
+
+  pub with_list-twice : (a b c : Lists T) (l : ℕ) (xs ys : List T) → b.lists ≡ with_list a l xs → c.lists ≡ with_list b l ys → c.lists ≡ with_list a l ys
+  with_list-twice a b c l xs ys e f = f ∙ ap (λ m. insert m l ys) e ∙ insert-twice a.lists l xs ys
+
+  -- nothing changed
+  pub with_list-same : (old now : Lists T) (l : ℕ) → IsLive old l → now.lists ≡ old.lists → now.lists ≡ with_list old l (list_at old l)
+  with_list-same old now l live e = e ∙ insert_from_get old.lists old.lists l (list_at old l) (there (get old.lists l) live) (λ q ne. refl)
+    where
+      there : (o : Option (List T)) → IsSome o → o ≡ Some (unwrap_or o [])
+      there None some = absurd (true≢false (sym some))
+      there (Some xs) some = refl
 
 -- a value was put at the end of a list
 module _ {T : Type 0} (s t : Lists T) (l : ℕ) (x : T) where

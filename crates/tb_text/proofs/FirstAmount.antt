@@ -1,5 +1,5 @@
 -- The first field of a line, as an amount of a number that was read.
-use Rattle.std.proofs.Common.{◌≡◌, ℕ, suc, ◌+◌, ◌-◌, ◌*◌, ◌<◌, ◌≤◌, pos, Bool, true, false, ◌&&◌, List, [], ◌∷◌, ◌++◌, length, take, drop, get_or, codes, if◌then◌else◌, refl, ap, sym, ◌∙◌, arith, length-drop}
+use Rattle.std.proofs.Common.{◌≡◌, ℕ, suc, ◌+◌, ◌-◌, ◌*◌, ◌<◌, ◌≤◌, pos, Bool, true, false, ◌&&◌, List, [], ◌∷◌, ◌++◌, length, take, drop, get_or, codes, if◌then◌else◌, refl, ap, sym, ◌∙◌, arith, length-drop, one-add}
 use Rattle.std.specs.List.{list_all, prefix_len}
 use Rattle.std.proofs.lemmas.List.Sums.{prefix_len_passes, prefix_len-le-length}
 use Rattle.std.proofs.lemmas.List.{length-take, drop-drop}
@@ -21,9 +21,6 @@ digit_marks b h = grind (arith, nat_tests)
 digit_is_none : (b : ℕ) → is_digit b ≡ true → is_blank b ≡ false
 digit_is_none b h = grind (arith, nat_tests)
 
-one_more : (n : ℕ) → 1 + n ≡ suc n
-one_more n = omega arith
-
 nothing_before : (n : ℕ) → n ≡ 0 + n
 nothing_before n = omega arith
 
@@ -31,7 +28,7 @@ marks_after : (t : Bool) (b : ℕ) (bs : List ℕ) (d : ℕ) → is_digit b ≡ 
     → prefix_len is_mark (b ∷ bs) ≡ (if t then 1 + d else 0) + prefix_len is_mark (drop (if t then 1 + d else 0) (b ∷ bs))
 marks_after true b bs d e h =
     let mark : prefix_len is_mark (b ∷ bs) ≡ 1 + prefix_len is_mark bs = ap (λ u. if u then 1 + prefix_len is_mark bs else 0) (digit_marks b e) in
-    let same : prefix_len is_mark (drop (1 + d) (b ∷ bs)) ≡ prefix_len is_mark (drop d bs) = ap (λ n. prefix_len is_mark (drop n (b ∷ bs))) (one_more d) in
+    let same : prefix_len is_mark (drop (1 + d) (b ∷ bs)) ≡ prefix_len is_mark (drop d bs) = ap (λ n. prefix_len is_mark (drop n (b ∷ bs))) (one-add d) in
     omega arith
 marks_after false b bs d e h = nothing_before (prefix_len is_mark (b ∷ bs))
 
@@ -41,7 +38,7 @@ marks_from (b ∷ bs) = marks_after (is_digit b) b bs (prefix_len is_digit bs) r
 
 digits_by : (t : Bool) (b : ℕ) (bs : List ℕ) (d : ℕ) → is_digit b ≡ t → list_all is_digit (take d bs) ≡ true → list_all is_digit (take (if t then 1 + d else 0) (b ∷ bs)) ≡ true
 digits_by true b bs d e h =
-    ap (λ n. list_all is_digit (take n (b ∷ bs))) (one_more d) ∙ ap (λ u. u && list_all is_digit (take d bs)) e ∙ h
+    ap (λ n. list_all is_digit (take n (b ∷ bs))) (one-add d) ∙ ap (λ u. u && list_all is_digit (take d bs)) e ∙ h
 digits_by false b bs d e h = refl
 
 digits_all : (bs : List ℕ) → list_all is_digit (digits_at bs) ≡ true

@@ -1,5 +1,7 @@
 -- A number that is written in decimal is read back.
 use Rattle.std.proofs.Common.{◌≡◌, ℕ, suc, ◌+◌, ◌-◌, ◌*◌, ◌/◌, ◌%◌, ◌^◌, ◌<◌, ◌≤◌, min, ℤ, pos, negsuc, nat_abs, Bool, true, false, ◌&&◌, ◌||◌, ◌==◌, nat_lt, List, [], ◌∷◌, ◌++◌, length, take, drop, Ok, Err, if◌then◌else◌, refl, ap, sym, ◌∙◌, arith}
+use Rattle.std.proofs.lemmas.Bool.{and_from}
+use Rattle.std.specs.Cmp.{first_so, second_so}
 use Rattle.std.specs.Prelude.{codes, decimal}
 use Rattle.std.specs.Fmt.{signed_decimal}
 use Rattle.std.specs.List.{list_all, prefix_len}
@@ -198,21 +200,18 @@ fraction_back n h =
 
 -- ---- the bytes of a number
 
-passing : (p : ℕ → Bool) → ((d : ℕ) → is_digit d ≡ true → p d ≡ true) → (ds : List ℕ) → list_all is_digit ds ≡ true → list_all p ds ≡ true
-passing p good [] h = refl
-passing p good (d ∷ ds) h = pass (is_digit d) (list_all is_digit ds) (p d) (list_all p ds) h (good d) (λ (m : list_all is_digit ds ≡ true). passing p good ds m)
-  where
-    pass : (a b c d : Bool) → (a && b) ≡ true → (a ≡ true → c ≡ true) → (b ≡ true → d ≡ true) → (c && d) ≡ true
-    pass true true c d h f g = ap (λ t. t && d) (f refl) ∙ g refl
-    pass true false c d h f g = cc
-    pass false b c d h f g = cc
+-- bytes that pass a test pass a weaker one
+pub all_more : (p q : ℕ → Bool) → ((b : ℕ) → p b ≡ true → q b ≡ true) → (bs : List ℕ) → list_all p bs ≡ true → list_all q bs ≡ true
+all_more p q good [] h = refl
+all_more p q good (b ∷ bs) h =
+    and_from (q b) (list_all q bs) (good b (first_so (p b) (list_all p bs) h)) (all_more p q good bs (second_so (p b) (list_all p bs) h))
 
 -- a number has digits and maybe a sign
 pub number_passes : (p : ℕ → Bool) → ((d : ℕ) → is_digit d ≡ true → p d ≡ true) → p 45 ≡ true → (z : ℤ) → in_64_bits z → list_all p (signed_decimal z) ≡ true
-number_passes p good sign (pos n) h = let numeral : IsNumeralOf n (decimal n) = decimal_numeral n h in passing p good (decimal n) numeral.digits
+number_passes p good sign (pos n) h = let numeral : IsNumeralOf n (decimal n) = decimal_numeral n h in all_more is_digit p good (decimal n) numeral.digits
 number_passes p good sign (negsuc n) h =
     let numeral : IsNumeralOf (suc n) (decimal (suc n)) = decimal_numeral (suc n) h in
-    ap (λ t. t && list_all p (decimal (suc n))) sign ∙ passing p good (decimal (suc n)) numeral.digits
+    ap (λ t. t && list_all p (decimal (suc n))) sign ∙ all_more is_digit p good (decimal (suc n)) numeral.digits
 
 pub number_some : (z : ℤ) → in_64_bits z → 0 < length (signed_decimal z)
 number_some (pos n) h = let numeral : IsNumeralOf n (decimal n) = decimal_numeral n h in numeral.some

@@ -1,5 +1,6 @@
 -- A field of a few digits and nothing else.
 use Rattle.std.proofs.Common.{◌≡◌, ℕ, ◌+◌, ◌-◌, ◌*◌, ◌^◌, ◌<◌, ◌≤◌, pos, ℤ, Bool, true, false, ◌&&◌, List, [], ◌∷◌, length, take, drop, get_or, zero, suc, if◌then◌else◌, Ok, refl, ap, sym, ◌∙◌, arith}
+use Rattle.std.proofs.lemmas.Bool.{and_parts}
 use Rattle.std.specs.List.{list_all, prefix_len}
 use Rattle.std.specs.Int.Digits.{number_from_digits, AllBelowBase}
 use Rattle.std.proofs.lemmas.Int.Digits.{number_lt, number_push}
@@ -24,14 +25,10 @@ value_more bs k n h e =
 
 -- ---- few digits stay small
 
-halves : (a b : Bool) → (a && b) ≡ true → (a ≡ true) × (b ≡ true)
-halves true b h = (refl, h)
-halves false b h = cc
-
 below_ten : (ds : List ℕ) → list_all is_digit ds ≡ true → AllBelowBase 10 (digit_values ds)
 below_ten [] h = tt
 below_ten (d ∷ ds) h =
-    let both : (is_digit d ≡ true) × (list_all is_digit ds ≡ true) = halves (is_digit d) (list_all is_digit ds) h in
+    let both : (is_digit d ≡ true) × (list_all is_digit ds ≡ true) = and_parts (is_digit d) (list_all is_digit ds) h in
     (digit_small d both.0, below_ten ds both.1)
 
 below_power : (ds : List ℕ) (k : ℕ) → list_all is_digit ds ≡ true → length ds ≤ k → number_of ds < 10 ^ k
@@ -87,7 +84,7 @@ pub digits_end : (bs : List ℕ) (k : ℕ) → k < length bs → list_all is_dig
 digits_end [] k h digits last = absurd (omega arith)
 digits_end (b ∷ bs) zero h digits last = ap (λ t. if t then 1 + prefix_len is_digit bs else 0) last
 digits_end (b ∷ bs) (suc k) h digits last =
-    let both : (is_digit b ≡ true) × (list_all is_digit (take k bs) ≡ true) = halves (is_digit b) (list_all is_digit (take k bs)) digits in
+    let both : (is_digit b ≡ true) × (list_all is_digit (take k bs) ≡ true) = and_parts (is_digit b) (list_all is_digit (take k bs)) digits in
     let rest : prefix_len is_digit bs ≡ k = digits_end bs k (omega arith) both.1 last in
     ap (λ t. if t then 1 + prefix_len is_digit bs else 0) both.0 ∙ (let e : 1 + prefix_len is_digit bs ≡ suc k = omega arith in e)
 
@@ -133,6 +130,6 @@ whole_front bs k n m rest h few digits e some same after =
     all_digits : (bs : List ℕ) → list_all is_digit bs ≡ true → prefix_len is_digit bs ≡ length bs
     all_digits [] h = refl
     all_digits (b ∷ bs) h =
-        let both : (is_digit b ≡ true) × (list_all is_digit bs ≡ true) = halves (is_digit b) (list_all is_digit bs) h in
+        let both : (is_digit b ≡ true) × (list_all is_digit bs ≡ true) = and_parts (is_digit b) (list_all is_digit bs) h in
         let rest : prefix_len is_digit bs ≡ length bs = all_digits bs both.1 in
         ap (λ t. if t then 1 + prefix_len is_digit bs else 0) both.0 ∙ (let e : 1 + prefix_len is_digit bs ≡ suc (length bs) = omega arith in e)

@@ -4,7 +4,7 @@ use Rattle.std.specs.Prelude.{IsNone, ◌↔◌, OnSome}
 use Rattle.std.proofs.lemmas.List.{take_min, length-take-le}
 use Rattle.std.proofs.Math.Seq.{take-length}
 use Rattle.tb_pool.specs.Lists.{Lists, IsLive, list_at, with_list}
-use Rattle.tb_break.proofs.StoreLemmas.{list-with_list, live-with_list, with_list-twice, with_list-same}
+use Rattle.tb_pool.proofs.CallerLemmas.{list_same, live_same, with_list-twice, with_list-same}
 
 module _ {T : Type 0} where
   -- a list is never shortened to fewer than so many
@@ -34,14 +34,14 @@ module _ {T : Type 0} where
   one-off a s t l k None h more empty rest = absurd (let none : list_at s l ≡ [] = empty.0 refl in let e = ap length none in omega arith)
   one-off a s t l k (Some x) h more empty rest =
       let n = length (list_at s l) in
-      let at_s : list_at s l ≡ take n (list_at a l) = list-with_list a s l (take n (list_at a l)) h.lists in
-      let at_t : list_at t l ≡ take (n - 1) (list_at s l) = list-with_list s t l (take (n - 1) (list_at s l)) rest in
+      let at_s : list_at s l ≡ take n (list_at a l) = list_same a s l (take n (list_at a l)) h.lists in
+      let at_t : list_at t l ≡ take (n - 1) (list_at s l) = list_same s t l (take (n - 1) (list_at s l)) rest in
       let front : take (n - 1) (list_at s l) ≡ take (n - 1) (list_at a l) = ap (take (n - 1)) at_s ∙ take-take-less (n - 1) n (list_at a l) (omega arith) in
       let count : length (list_at t l) ≡ n - 1 = ap length at_t ∙ length-take-le (n - 1) (list_at s l) (omega arith) in
       let most = h.most in
       let enough = h.enough in (
         record {
-          live = live-with_list s t l (take (n - 1) (list_at s l)) rest;
+          live = live_same s t l (take (n - 1) (list_at s l)) rest;
           lists = with_list-twice a s t l (take n (list_at a l)) (take (n - 1) (list_at s l)) h.lists rest ∙ ap (with_list a l) (front ∙ ap (λ i. take i (list_at a l)) (sym count));
           most = omega arith;
           enough = omega arith;

@@ -4,8 +4,7 @@ use Rattle.std.specs.FinMap.{get}
 use Rattle.std.proofs.lemmas.Int.{ints}
 use Rattle.std.proofs.lemmas.List.{map-append, take_more}
 use Rattle.tb_pool.specs.Lists.{Lists, IsLive, list_at, with_list}
-use Rattle.tb_pool.proofs.CallerLemmas.{list_same, live_same, get_other}
-use Rattle.tb_break.proofs.StoreLemmas.{with_list-same}
+use Rattle.tb_pool.proofs.CallerLemmas.{list_same, live_same, get_other, with_list-same}
 use Rattle.tb_column.proofs.StoreLemmas.{with_list-added}
 use Rattle.tb_node.specs.declared.Node.{Node}
 use Rattle.tb_node.specs.declared.Insertion.{Insertion}

@@ -1,5 +1,6 @@
 -- The classes of a valid galley: their numbers rise, and their amounts fit.
 use Rattle.std.proofs.Common.{◌≡◌, refl, ap, ℕ, ◌<◌, ◌≤◌, ℤ, pos, Bool, true, false, ◌&&◌, ◌||◌, ◌==◌, nat_lt, nat_le, List, [], ◌∷◌, ◌++◌, map, arith}
+use Rattle.std.specs.Cmp.{first_so, second_so}
 use Rattle.std.specs.Prelude.{IsTrue}
 use Rattle.std.specs.List.{list_all}
 use Rattle.std.proofs.lemmas.Int.{ints}
@@ -14,7 +15,6 @@ use Rattle.tb_builder.specs.Ownership.{has_class, ClassesFit}
 use Rattle.tb_galley.specs.declared.ClassLine.{ClassLine}
 use Rattle.tb_galley.specs.declared.Galley.{Galley}
 use Rattle.tb_galley.specs.Valid.{is_class, is_size, do_classes_rise, IsValid}
-use Rattle.tb_galley.proofs.Conjunctions.{left_of, right_of}
 use Rattle.tb_output.specs.State.{foot_class}
 use Rattle.tb_run.specs.Run.{class_of, classes_of}
 
@@ -32,12 +32,12 @@ above-more n m (c ∷ cs) h a = (omega (arith, h, a.0), above-more n m cs h a.1)
 pub rising-above : (c : ClassLine) (cs : List ClassLine) → IsTrue (do_classes_rise (c ∷ cs)) → AreAbove c.number cs
 rising-above c [] h = tt
 rising-above c (d ∷ ds) h =
-    let n = ltb-true c.number d.number (left_of (nat_lt c.number d.number) (do_classes_rise (d ∷ ds)) h) in
-    (n, above-more c.number d.number ds n (rising-above d ds (right_of (nat_lt c.number d.number) (do_classes_rise (d ∷ ds)) h)))
+    let n = ltb-true c.number d.number (first_so (nat_lt c.number d.number) (do_classes_rise (d ∷ ds)) h) in
+    (n, above-more c.number d.number ds n (rising-above d ds (second_so (nat_lt c.number d.number) (do_classes_rise (d ∷ ds)) h)))
 
 pub rising-rest : (c : ClassLine) (cs : List ClassLine) → IsTrue (do_classes_rise (c ∷ cs)) → IsTrue (do_classes_rise cs)
 rising-rest c [] h = refl
-rising-rest c (d ∷ ds) h = right_of (nat_lt c.number d.number) (do_classes_rise (d ∷ ds)) h
+rising-rest c (d ∷ ds) h = second_so (nat_lt c.number d.number) (do_classes_rise (d ∷ ds)) h
 
 -- ---- a class in its ranges
 
@@ -58,16 +58,16 @@ in-range : (c : ClassLine) → IsTrue (is_class c) → IsInRange c
 in-range c h =
     let most = nat_le c.number 253 in
     let factor = is_within (pos 0) (pos 10000) c.factor in
-    let three = left_of (most && factor && is_size c.limit) (is_glue c.skip) h in
-    let two = left_of (most && factor) (is_size c.limit) three in
-    let glue = right_of (most && factor && is_size c.limit) (is_glue c.skip) h in
-    let first = left_of (is_dimen c.skip.width && is_dimen c.skip.stretch) (is_dimen c.skip.shrink) glue in
+    let three = first_so (most && factor && is_size c.limit) (is_glue c.skip) h in
+    let two = first_so (most && factor) (is_size c.limit) three in
+    let glue = second_so (most && factor && is_size c.limit) (is_glue c.skip) h in
+    let first = first_so (is_dimen c.skip.width && is_dimen c.skip.stretch) (is_dimen c.skip.shrink) glue in
     record {
-      small = at_most c.number (left_of most factor two);
+      small = at_most c.number (first_so most factor two);
       fits = record {
-        factor = factor-amount c.factor (right_of most factor two);
-        stretch = dimension-amount c.skip.stretch (right_of (is_dimen c.skip.width) (is_dimen c.skip.stretch) first);
-        shrink = dimension-amount c.skip.shrink (right_of (is_dimen c.skip.width && is_dimen c.skip.stretch) (is_dimen c.skip.shrink) glue);
+        factor = factor-amount c.factor (second_so most factor two);
+        stretch = dimension-amount c.skip.stretch (second_so (is_dimen c.skip.width) (is_dimen c.skip.stretch) first);
+        shrink = dimension-amount c.skip.shrink (second_so (is_dimen c.skip.width && is_dimen c.skip.stretch) (is_dimen c.skip.shrink) glue);
       };
     }
 
@@ -95,15 +95,15 @@ module _ (p : Params) (foot : ClassFits (foot_class p)) where
   lines-fit : (cs : List ClassLine) → IsTrue (list_all is_class cs) → IsTrue (do_classes_rise cs) → ClassesFit (with_foot p cs)
   lines-fit [] v r = (refl, omega arith, foot, tt)
   lines-fit (c ∷ cs) v r =
-      let one = in-range c (left_of (is_class c) (list_all is_class cs) v) in
+      let one = in-range c (first_so (is_class c) (list_all is_class cs) v) in
       let small = one.small in (
         none-has p c.number cs small (rising-above c cs r),
         omega (arith, small),
         one.fits,
-        lines-fit cs (right_of (is_class c) (list_all is_class cs) v) (rising-rest c cs r),
+        lines-fit cs (second_so (is_class c) (list_all is_class cs) v) (rising-rest c cs r),
       )
 
 -- a builder can have the classes of a valid galley
 pub classes-fit : (g : Galley) → IsValid g → ClassFits (foot_class g.params) → ClassesFit (classes_of g)
 classes-fit g v foot =
-    lines-fit g.params foot g.classes (left_of (list_all is_class g.classes) (do_classes_rise g.classes) v.classes) (right_of (list_all is_class g.classes) (do_classes_rise g.classes) v.classes)
+    lines-fit g.params foot g.classes (first_so (list_all is_class g.classes) (do_classes_rise g.classes) v.classes) (second_so (list_all is_class g.classes) (do_classes_rise g.classes) v.classes)

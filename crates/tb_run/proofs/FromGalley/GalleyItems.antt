@@ -1,5 +1,6 @@
 -- The items of a valid galley can be handed over.
 use Rattle.std.proofs.Common.{◌≡◌, refl, ℕ, ◌≤◌, Bool, true, false, List, [], ◌∷◌, ◌++◌, map, arith}
+use Rattle.std.specs.Cmp.{first_so, second_so}
 use Rattle.std.specs.Prelude.{All, IsTrue, ◌||◌, ◌==◌, nat_le}
 use Rattle.std.specs.List.{list_all, list_any}
 use Rattle.std.proofs.lemmas.Bool.Decides.{nat_tests}
@@ -22,7 +23,6 @@ use Rattle.tb_galley.specs.Valid.{is_leaf, is_item, weight_of, weight, has_known
 use Rattle.tb_output.specs.State.{foot_class}
 use Rattle.tb_run.specs.Run.{class_of, classes_of}
 use Rattle.tb_run.specs.WaitingNodes.{leaf_kind, leaf_list, IsItem, AreItems}
-use Rattle.tb_galley.proofs.Conjunctions.{left_of, right_of}
 use Rattle.tb_run.proofs.FromGalley.ItemAmounts.{dimen-dimension, both-extents, glue-sized, penalty-served}
 
 -- ---- footnotes
@@ -40,8 +40,8 @@ leaf-node-sized l v = by_kind l.kind v
 nodes-sized : (ls : List Leaf) → IsTrue (list_all (λ (l : Leaf). is_leaf l.kind) ls) → All IsSizedNode (leaf_list ls)
 nodes-sized [] v = All-nil IsSizedNode
 nodes-sized (l ∷ ls) v =
-    All-cons IsSizedNode _ (leaf_list ls) (leaf-node-sized l (left_of (is_leaf l.kind) (list_all (λ (m : Leaf). is_leaf m.kind) ls) v))
-    (nodes-sized ls (right_of (is_leaf l.kind) (list_all (λ (m : Leaf). is_leaf m.kind) ls) v))
+    All-cons IsSizedNode _ (leaf_list ls) (leaf-node-sized l (first_so (is_leaf l.kind) (list_all (λ (m : Leaf). is_leaf m.kind) ls) v))
+    (nodes-sized ls (second_so (is_leaf l.kind) (list_all (λ (m : Leaf). is_leaf m.kind) ls) v))
 
 -- ---- classes
 
@@ -92,8 +92,8 @@ module _ (g : Galley) where
   all-items [] v known w = All-nil (λ (n : Item). IsItem (classes_of g) n.kind)
   all-items (n ∷ ns) v known w =
       All-cons (λ (m : Item). IsItem (classes_of g) m.kind) n ns
-      (one-item n.line n.kind (left_of (is_item n.line n.kind) _ v) (left_of (known_item n) _ known) (omega (arith, w)))
-      (all-items ns (right_of (is_item n.line n.kind) _ v) (right_of (known_item n) _ known) (omega (arith, w)))
+      (one-item n.line n.kind (first_so (is_item n.line n.kind) _ v) (first_so (known_item n) _ known) (omega (arith, w)))
+      (all-items ns (second_so (is_item n.line n.kind) _ v) (second_so (known_item n) _ known) (omega (arith, w)))
 
   pub galley-items : IsValid g → AreItems (classes_of g) g.items
   galley-items v = all-items g.items v.items v.feet (most (weight g.items) v.count)

@@ -1,5 +1,6 @@
 -- The nodes of a valid galley, of all its items: their amounts are in their ranges, the output routine can serve them, and they are not too many.
 use Rattle.std.proofs.Common.{refl, subst, ℕ, ◌*◌, ◌≤◌, pos, Bool, true, false, List, [], ◌∷◌, ◌++◌, arith}
+use Rattle.std.specs.Cmp.{first_so, second_so}
 use Rattle.std.specs.Prelude.{All, IsTrue, ◌&&◌, ◌||◌, ◌==◌, nat_le, if◌then◌else◌}
 use Rattle.std.specs.List.{list_all, AllByRecursion}
 use Rattle.std.proofs.lemmas.Int.{ints}
@@ -26,7 +27,6 @@ use Rattle.tb_galley.specs.declared.ItemKind.TheVariants as items
 use Rattle.tb_galley.specs.declared.Galley.{Galley}
 use Rattle.tb_galley.specs.GalleyNodes.{plain_leaf, with_firings, item_kinds, item_nodes, two_after, expanded}
 use Rattle.tb_galley.specs.Valid.{is_size, is_float, is_margin, is_item, weight_of, weight, IsValid}
-use Rattle.tb_galley.proofs.Conjunctions.{left_of, right_of}
 use Rattle.tb_output.specs.ActCalls.{IsSizedAct}
 use Rattle.tb_run.specs.Run.{classes_of}
 use Rattle.tb_run.specs.WaitingNodes.{IsItem, AreItems}
@@ -93,11 +93,11 @@ module _ (cs : List Class) where
     item-are two l (items.Note name) v i = ((tt, tt, tt), tt)
     item-are two l (items.Foot class ls) v i =
         ((tt, record { inner = leaves-sized ls v; height = refl; split_depth = foot.split_depth; split_top = foot.split_top; floating = foot.floating }, i.0), tt)
-    item-are two l (items.Float f vert) v i = float-are (has_second p && two && f.wide) f vert (float-extent f (right_of (f.line == l) (is_float f) v))
+    item-are two l (items.Float f vert) v i = float-are (has_second p && two && f.wide) f vert (float-extent f (second_so (f.line == l) (is_float f) v))
       where
         float-extent : (f : Float) → IsTrue (is_float f) → IsExtent f.height
-        float-extent f v = size-extent f.height (right_of (is_name f.name && is_between 1 26 f.class && (f.places.h || f.places.t || f.places.b || f.places.p)) (is_size f.height) v)
-    item-are two l (items.Margin m vert) v i = firings-are (acts.TakeMargin m) vert (margin-sized m (right_of (m.line == l) (is_margin m) v))
+        float-extent f v = size-extent f.height (second_so (is_name f.name && is_between 1 26 f.class && (f.places.h || f.places.t || f.places.b || f.places.p)) (is_size f.height) v)
+    item-are two l (items.Margin m vert) v i = firings-are (acts.TakeMargin m) vert (margin-sized m (second_so (m.line == l) (is_margin m) v))
     item-are two l items.NewPage v i = newpage-are
     item-are two l items.ClearPage v i = clear-then [] tt
     item-are two l (items.PageBreak n) v i = let s = asked-served n in ((s.sized, tt, s.high), tt)
@@ -112,8 +112,8 @@ module _ (cs : List Class) where
         let rest = list_all (λ (m : Item). is_item m.line m.kind) ns in
         let after = two_after two n.kind in
         All-append (IsGalleyNode cs) (on_line n.line (item_kinds p two n.kind)) (item_nodes p after ns)
-        (from-kinds n.line (item_kinds p two n.kind) (item-are two n.line n.kind (left_of (is_item n.line n.kind) rest v) (All-head (λ (m : Item). IsItem cs m.kind) n ns i)))
-        (items-are after ns (right_of (is_item n.line n.kind) rest v) (All-tail (λ (m : Item). IsItem cs m.kind) n ns i))
+        (from-kinds n.line (item_kinds p two n.kind) (item-are two n.line n.kind (first_so (is_item n.line n.kind) rest v) (All-head (λ (m : Item). IsItem cs m.kind) n ns i)))
+        (items-are after ns (second_so (is_item n.line n.kind) rest v) (All-tail (λ (m : Item). IsItem cs m.kind) n ns i))
 
 -- ---- how many there are
 

@@ -1,5 +1,6 @@
 -- A page builder and an output routine take the classes of a valid galley.
 use Rattle.std.proofs.Common.{ℕ, suc, ◌≤◌, ℤ, pos, ◌&&◌, nat_le, List, [], ◌∷◌, arith}
+use Rattle.std.specs.Cmp.{first_so, second_so}
 use Rattle.std.specs.Prelude.{IsTrue}
 use Rattle.std.specs.List.{list_all, AllByRecursion}
 use Rattle.std.proofs.lemmas.Int.{ints}
@@ -14,7 +15,6 @@ use Rattle.tb_column.specs.Ranges.{IsSizedGlue}
 use Rattle.tb_galley.specs.declared.ClassLine.{ClassLine}
 use Rattle.tb_galley.specs.declared.Galley.{Galley}
 use Rattle.tb_galley.specs.Valid.{is_class, is_size, do_classes_rise, IsValid}
-use Rattle.tb_galley.proofs.Conjunctions.{left_of, right_of}
 use Rattle.tb_output.specs.State.{foot_class}
 use Rattle.tb_output.specs.Machine.{AreClassesFrom}
 use Rattle.tb_run.specs.Run.{classes_of}
@@ -33,21 +33,21 @@ factor-is v h = record { low = grind (arith, ints, h); high = grind (arith, ints
 
 skip-sized : (g : Glue) → IsTrue (is_glue g) → IsSizedGlue g
 skip-sized g h =
-    let two = left_of (is_dimen g.width && is_dimen g.stretch) (is_dimen g.shrink) h in
+    let two = first_so (is_dimen g.width && is_dimen g.stretch) (is_dimen g.shrink) h in
     record {
-      width = dimen-dimension g.width (left_of (is_dimen g.width) (is_dimen g.stretch) two);
-      stretch = dimen-dimension g.stretch (right_of (is_dimen g.width) (is_dimen g.stretch) two);
-      shrink = dimen-dimension g.shrink (right_of (is_dimen g.width && is_dimen g.stretch) (is_dimen g.shrink) h);
+      width = dimen-dimension g.width (first_so (is_dimen g.width) (is_dimen g.stretch) two);
+      stretch = dimen-dimension g.stretch (second_so (is_dimen g.width) (is_dimen g.stretch) two);
+      shrink = dimen-dimension g.shrink (second_so (is_dimen g.width && is_dimen g.stretch) (is_dimen g.shrink) h);
     }
 
 line-sized : (c : ClassLine) → IsTrue (is_class c) → IsSizedLine c
 line-sized c h =
     let most = nat_le c.number 253 in
     let factor = is_within (pos 0) (pos 10000) c.factor in
-    let three = left_of (most && factor && is_size c.limit) (is_glue c.skip) h in
+    let three = first_so (most && factor && is_size c.limit) (is_glue c.skip) h in
     record {
-      factor = factor-is c.factor (right_of most factor (left_of (most && factor) (is_size c.limit) three));
-      skip = skip-sized c.skip (right_of (most && factor && is_size c.limit) (is_glue c.skip) h);
+      factor = factor-is c.factor (second_so most factor (first_so (most && factor) (is_size c.limit) three));
+      skip = skip-sized c.skip (second_so (most && factor && is_size c.limit) (is_glue c.skip) h);
     }
 
 -- ---- all of them
@@ -56,26 +56,26 @@ module _ (p : Params) (foot : IsSizedGlue p.skipfootins) where
   rising-from : (n : ℕ) (cs : List ClassLine) → n ≤ 253 → AreAbove n cs → IsTrue (list_all is_class cs) → IsTrue (do_classes_rise cs) → AreClassesFrom (suc n) (with_foot p cs)
   rising-from n [] small above v r = (omega (arith, small), foot, tt)
   rising-from n (c ∷ cs) small above v r =
-      let here = left_of (is_class c) (list_all is_class cs) v in (
+      let here = first_so (is_class c) (list_all is_class cs) v in (
         above.0,
         (line-sized c here).skip,
-        rising-from c.number cs (class-small c here) (rising-above c cs r) (right_of (is_class c) (list_all is_class cs) v) (rising-rest c cs r),
+        rising-from c.number cs (class-small c here) (rising-above c cs r) (second_so (is_class c) (list_all is_class cs) v) (rising-rest c cs r),
       )
 
   rising : (cs : List ClassLine) → IsTrue (list_all is_class cs) → IsTrue (do_classes_rise cs) → AreClassesFrom 0 (with_foot p cs)
   rising [] v r = (omega arith, foot, tt)
   rising (c ∷ cs) v r =
-      let here = left_of (is_class c) (list_all is_class cs) v in (
+      let here = first_so (is_class c) (list_all is_class cs) v in (
         omega arith,
         (line-sized c here).skip,
-        rising-from c.number cs (class-small c here) (rising-above c cs r) (right_of (is_class c) (list_all is_class cs) v) (rising-rest c cs r),
+        rising-from c.number cs (class-small c here) (rising-above c cs r) (second_so (is_class c) (list_all is_class cs) v) (rising-rest c cs r),
       )
 
   all-sized : (cs : List ClassLine) → IsTrue (list_all is_class cs) → AllByRecursion IsSizedClass (with_foot p cs)
   all-sized [] v = (record { factor = record { low = omega (arith, ints); high = omega (arith, ints) }; width = foot.width; stretch = foot.stretch; shrink = foot.shrink }, tt)
   all-sized (c ∷ cs) v =
-      let one = line-sized c (left_of (is_class c) (list_all is_class cs) v) in
-      (record { factor = one.factor; width = one.skip.width; stretch = one.skip.stretch; shrink = one.skip.shrink }, all-sized cs (right_of (is_class c) (list_all is_class cs) v))
+      let one = line-sized c (first_so (is_class c) (list_all is_class cs) v) in
+      (record { factor = one.factor; width = one.skip.width; stretch = one.skip.stretch; shrink = one.skip.shrink }, all-sized cs (second_so (is_class c) (list_all is_class cs) v))
 
 foot-fits : (p : Params) → IsSizedGlue p.skipfootins → ClassFits (foot_class p)
 foot-fits p h = record { factor = record { low = omega (arith, ints); high = omega (arith, ints) }; stretch = dimension_small p.skipfootins.stretch h.stretch; shrink = dimension_small p.skipfootins.shrink h.shrink }
@@ -83,8 +83,8 @@ foot-fits p h = record { factor = record { low = omega (arith, ints); high = ome
 pub galley-classes : (g : Galley) → AreRunnable g.params → IsValid g → AreRunClasses (classes_of g)
 galley-classes g runs v =
     let foot = runs.output.columns.skipfootins in
-    let each = left_of (list_all is_class g.classes) (do_classes_rise g.classes) v.classes in
-    let rise = right_of (list_all is_class g.classes) (do_classes_rise g.classes) v.classes in
+    let each = first_so (list_all is_class g.classes) (do_classes_rise g.classes) v.classes in
+    let rise = second_so (list_all is_class g.classes) (do_classes_rise g.classes) v.classes in
     record {
       rising = rising g.params foot g.classes each rise;
       fit = classes-fit g v (foot-fits g.params foot);

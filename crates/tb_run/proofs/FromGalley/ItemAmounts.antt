@@ -1,5 +1,6 @@
 -- The amounts of a valid galley's items are in the ranges of their nodes.
 use Rattle.std.proofs.Common.{ℕ, zero, suc, ℤ, pos, neg_ℤ, ◌≤ℤ◌, Bool, ◌&&◌, List, [], ◌∷◌, map, arith}
+use Rattle.std.specs.Cmp.{first_so, second_so}
 use Rattle.std.specs.Prelude.{All, IsTrue}
 use Rattle.std.specs.List.{list_all}
 use Rattle.std.proofs.lemmas.Int.{ints}
@@ -16,7 +17,6 @@ use Rattle.tb_galley.specs.declared.LeafKind.{LeafKind}
 use Rattle.tb_galley.specs.declared.LeafKind.TheVariants as leaves
 use Rattle.tb_galley.specs.GalleyNodes.{break_strength, plain_leaf}
 use Rattle.tb_galley.specs.Valid.{is_size, is_leaf, is_margin}
-use Rattle.tb_galley.proofs.Conjunctions.{left_of, right_of}
 use Rattle.tb_output.specs.Output.{hold_penalty}
 
 pub size-extent : (v : ℤ) → IsTrue (is_size v) → IsExtent v
@@ -27,26 +27,26 @@ dimen-dimension v h = record { low = grind (arith, ints, h); high = grind (arith
 
 -- the height and depth after another test
 pub both-extents : (t : Bool) (h d : ℤ) → IsTrue (t && is_size h && is_size d) → IsExtent h × IsExtent d
-both-extents t h d v = (size-extent h (right_of t (is_size h) (left_of (t && is_size h) (is_size d) v)), size-extent d (right_of (t && is_size h) (is_size d) v))
+both-extents t h d v = (size-extent h (second_so t (is_size h) (first_so (t && is_size h) (is_size d) v)), size-extent d (second_so (t && is_size h) (is_size d) v))
 
 pub glue-sized : (g : Glue) → IsTrue (is_glue g) → IsSized (glue g)
 glue-sized g v =
-    let two = left_of (is_dimen g.width && is_dimen g.stretch) (is_dimen g.shrink) v in (
-      dimen-dimension g.width (left_of (is_dimen g.width) (is_dimen g.stretch) two),
-      dimen-dimension g.stretch (right_of (is_dimen g.width) (is_dimen g.stretch) two),
-      dimen-dimension g.shrink (right_of (is_dimen g.width && is_dimen g.stretch) (is_dimen g.shrink) v),
+    let two = first_so (is_dimen g.width && is_dimen g.stretch) (is_dimen g.shrink) v in (
+      dimen-dimension g.width (first_so (is_dimen g.width) (is_dimen g.stretch) two),
+      dimen-dimension g.stretch (second_so (is_dimen g.width) (is_dimen g.stretch) two),
+      dimen-dimension g.shrink (second_so (is_dimen g.width && is_dimen g.stretch) (is_dimen g.shrink) v),
     )
 
 pub margin-sized : (m : Margin) → IsTrue (is_margin m) → IsSizedMargin m
 margin-sized m v =
     let left = is_name m.name && is_size m.left_height && is_size m.left_depth in
-    let four = left_of (left && is_size m.right_height) (is_size m.right_depth) v in
-    let on_left = both-extents (is_name m.name) m.left_height m.left_depth (left_of left (is_size m.right_height) four) in
+    let four = first_so (left && is_size m.right_height) (is_size m.right_depth) v in
+    let on_left = both-extents (is_name m.name) m.left_height m.left_depth (first_so left (is_size m.right_height) four) in
     record {
       left_height = on_left.0;
       left_depth = on_left.1;
-      right_height = size-extent m.right_height (right_of left (is_size m.right_height) four);
-      right_depth = size-extent m.right_depth (right_of (left && is_size m.right_height) (is_size m.right_depth) v);
+      right_height = size-extent m.right_height (second_so left (is_size m.right_height) four);
+      right_depth = size-extent m.right_depth (second_so (left && is_size m.right_height) (is_size m.right_depth) v);
     }
 
 -- ---- penalties
@@ -88,5 +88,5 @@ leaf-sized l v = by_kind l.kind v
 pub leaves-sized : (ls : List Leaf) → IsTrue (list_all (λ (l : Leaf). is_leaf l.kind) ls) → All IsSizedLeaf (map plain_leaf ls)
 leaves-sized [] v = All-nil IsSizedLeaf
 leaves-sized (l ∷ ls) v =
-    All-cons IsSizedLeaf (plain_leaf l) (map plain_leaf ls) (leaf-sized l (left_of (is_leaf l.kind) (list_all (λ (m : Leaf). is_leaf m.kind) ls) v))
-    (leaves-sized ls (right_of (is_leaf l.kind) (list_all (λ (m : Leaf). is_leaf m.kind) ls) v))
+    All-cons IsSizedLeaf (plain_leaf l) (map plain_leaf ls) (leaf-sized l (first_so (is_leaf l.kind) (list_all (λ (m : Leaf). is_leaf m.kind) ls) v))
+    (leaves-sized ls (second_so (is_leaf l.kind) (list_all (λ (m : Leaf). is_leaf m.kind) ls) v))

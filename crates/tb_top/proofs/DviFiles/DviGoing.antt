@@ -5,7 +5,8 @@ use Rattle.std.specs.Io.KnownBytes.{Appends}
 use Rattle.tb_io.specs.Sink.{AppendsPrefix}
 use Rattle.tb_io.specs.declared.sink.SinkFault.{SinkFault}
 use Rattle.tb_io.specs.declared.sink.SinkFault.TheVariants as outputs
-use Rattle.tb_io.proofs.Appended.{Appends-twice, prefix_longer, prefix_on}
+use Rattle.std.proofs.KnownBytes.{Appends-trans}
+use Rattle.tb_io.proofs.Appended.{prefix_longer, prefix_on}
 use Rattle.tb_param.specs.declared.Params.{Params}
 use Rattle.tb_galley.specs.declared.Galley.{Galley}
 use Rattle.tb_galley.specs.GalleyNodes.{expanded}
@@ -238,7 +239,7 @@ module _ (g : Galley) (start : Option (List ℕ)) where
     done-well left k new b = record {
       ended = ap end_fault k.end;
       near = near (done left) k;
-      written = subst (Appends start new) (sym (done-file (done left) k refl)) (Appends-twice start now new (file_front k.written) (last_bytes g.params.textheight w) k.holds.held b);
+      written = subst (Appends start new) (sym (done-file (done left) k refl)) (Appends-trans start now new (file_front k.written) (last_bytes g.params.textheight w) k.holds.held b);
     }
 
     done-cut : (left : List PlainNode) → Closing (done left) start now w (run_of g) → (new : Option (List ℕ)) → AppendsPrefix now new (last_bytes g.params.textheight w) → AppendsPrefix start new (dvi_file g.params.textheight (run_of g))

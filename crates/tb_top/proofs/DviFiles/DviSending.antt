@@ -5,7 +5,8 @@ use Rattle.tb_pool.specs.Lists.{Lists}
 use Rattle.tb_node.specs.declared.Node.{Node}
 use Rattle.std.specs.Io.KnownBytes.{Appends}
 use Rattle.tb_io.specs.Sink.{AppendsPrefix}
-use Rattle.tb_io.proofs.Appended.{Appends-twice, prefix_whole, prefix_longer, prefix_on}
+use Rattle.std.proofs.KnownBytes.{Appends-trans}
+use Rattle.tb_io.proofs.Appended.{prefix_whole, prefix_longer, prefix_on}
 use Rattle.tb_column.specs.Column.{PlainSent, warned, shipped}
 use Rattle.tb_dvi.specs.declared.progress.Progress.{Progress}
 use Rattle.tb_dvi.specs.File.{Page, page_bytes, file_front, is_too_far, first_too_far}
@@ -74,7 +75,7 @@ module _ (start now : Option (List ℕ)) (w : Progress) (ps : List Page) (h : Ho
     pub holds-more : is_too_far w.place p ≡ false → (new : Option (List ℕ)) → Appends now new (page_bytes w.last p) → HoldsPages start new (with_page p w) (ps ++ p ∷ [])
     holds-more near new b = record {
       progress = written-more w ps p h.progress near;
-      held = subst (Appends start new) (sym (front-more w ps p h.progress)) (Appends-twice start now new (file_front ps) (page_bytes w.last p) h.held b);
+      held = subst (Appends start new) (sym (front-more w ps p h.progress)) (Appends-trans start now new (file_front ps) (page_bytes w.last p) h.held b);
     }
 
     -- writing a page in range was cut short

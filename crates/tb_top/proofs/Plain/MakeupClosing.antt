@@ -5,7 +5,8 @@ use Rattle.tb_io.specs.Faults.{Rose}
 use Rattle.tb_io.specs.declared.sink.SinkFault.{SinkFault}
 use Rattle.tb_io.specs.declared.sink.SinkFault.TheVariants as outputs
 use Rattle.tb_io.specs.Sink.{AppendsPrefix}
-use Rattle.tb_io.proofs.Appended.{Appends-twice, prefix_on}
+use Rattle.std.proofs.KnownBytes.{Appends-trans}
+use Rattle.tb_io.proofs.Appended.{prefix_on}
 use Rattle.tb_report.specs.declared.Totals.{Totals}
 use Rattle.tb_report.specs.Lines.{end_lines}
 use Rattle.tb_plain.specs.Run.{MakeupRun, MakeupEnd, done, page_limit, node_limit}
@@ -57,7 +58,7 @@ module _ (v : View) (t : Totals) (whole : MakeupRun) (old mid new : Option (List
   done-well u c is b = record {
     ended = ap (λ (r : MakeupRun). makeup_fault r.end) c.run;
     totals = is ∙ c.totals ∙ all-totals c.shipped ∙ sym (ap (λ (r : MakeupRun). sent_totals r.sent) c.run);
-    written = subst (Appends old new) (sym (done-text c)) (Appends-twice old mid new (viewed v (header ++ page_lines c.shipped)) (viewed v (end_lines [] t)) c.appended b);
+    written = subst (Appends old new) (sym (done-text c)) (Appends-trans old mid new (viewed v (header ++ page_lines c.shipped)) (viewed v (end_lines [] t)) c.appended b);
   }
 
   done-cut : Closing v done old mid t whole → AppendsPrefix mid new (viewed v (end_lines [] t)) → AppendsPrefix old new (makeup_text v whole)

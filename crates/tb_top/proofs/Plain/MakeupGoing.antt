@@ -3,7 +3,8 @@ use Rattle.std.proofs.Common.{◌≡◌, refl, sym, subst, ◌∙◌, ap, ℕ, �
 use Rattle.std.specs.Prelude.{nat_abs, int_lt, if◌then◌else◌}
 use Rattle.std.specs.Io.KnownBytes.{Appends}
 use Rattle.tb_io.specs.Sink.{AppendsPrefix}
-use Rattle.tb_io.proofs.Appended.{Appends-twice, prefix_whole, prefix_longer, prefix_on}
+use Rattle.std.proofs.KnownBytes.{Appends-trans}
+use Rattle.tb_io.proofs.Appended.{prefix_whole, prefix_longer, prefix_on}
 use Rattle.tb_param.specs.declared.Params.{Params}
 use Rattle.tb_builder.specs.Contents.{node_count}
 use Rattle.tb_column.specs.Column.{PlainSent}
@@ -142,7 +143,7 @@ module _ (p : Params) (v : View) (s : MakeupState) (old now : Option (List ℕ))
       let first = header ++ page_lines going.shipped in
       let text : header ++ page_lines (going.shipped ++ es) ≡ first ++ page_lines es = ap (λ ls. header ++ ls) (lines-append going.shipped es) ∙ sym (append_assoc header (page_lines going.shipped) (page_lines es)) in
       subst (Appends old mid) (sym (ap (viewed v) text ∙ viewed-append v first (page_lines es)))
-      (Appends-twice old now mid (viewed v first) (viewed v (page_lines es)) going.appended (subst (λ ls. Appends now mid (viewed v ls)) lines-are b))
+      (Appends-trans old now mid (viewed v first) (viewed v (page_lines es)) going.appended (subst (λ ls. Appends now mid (viewed v ls)) lines-are b))
 
   sent-are : (rest : List PlainSent) → (run_at p s).sent ≡ es ++ rest → whole.sent ≡ going.shipped ++ (es ++ rest)
   sent-are rest is = ap (λ (r : MakeupRun). r.sent) going.run ∙ ap (λ xs. going.shipped ++ xs) is

@@ -5,7 +5,8 @@ use Rattle.std.specs.Io.KnownBytes.{Appends}
 use Rattle.tb_io.specs.declared.sink.SinkFault.{SinkFault}
 use Rattle.tb_io.specs.declared.sink.SinkFault.TheVariants as outputs
 use Rattle.tb_io.specs.Sink.{AppendsPrefix}
-use Rattle.tb_io.proofs.Appended.{Appends-twice, prefix_whole, prefix_longer, prefix_on}
+use Rattle.std.proofs.KnownBytes.{Appends-trans}
+use Rattle.tb_io.proofs.Appended.{prefix_whole, prefix_longer, prefix_on}
 use Rattle.tb_param.specs.declared.Params.{Params}
 use Rattle.tb_node.specs.PlainNodes.{PlainNode}
 use Rattle.tb_column.specs.Column.{PlainSent, warned, shipped}
@@ -183,7 +184,7 @@ tail-last v all r es e a b = λ i. all_lines (event_text v) (a i) ++ closing_lin
 
 module _ (p : Params) (v : View) (old now new : Option (List ℕ)) (t : Totals) (whole : Run) where
   appended-on : (written more : List ℕ) → Appends old now (viewed v written) → Appends now new (viewed v more) → Appends old new (viewed v (written ++ more))
-  appended-on written more a b = subst (Appends old new) (sym (viewed-append v written more)) (Appends-twice old now new (viewed v written) (viewed v more) a b)
+  appended-on written more a b = subst (Appends old new) (sym (viewed-append v written more)) (Appends-trans old now new (viewed v written) (viewed v more) a b)
 
   goes-by : (s s' : State) (es : List RunEvent) (written : List ℕ) (fuel : ℕ) → Appends old now (viewed v written) → firings_left p s < fuel → whole_text v whole ≡ written ++ tail_lines v whole.events (run_from p fuel s)
       → whole.end ≡ (run_from p fuel s).end → totals_of whole.events ≡ joined t (totals_of (run_from p fuel s).events) → Steps p s s' es → Appends now new (viewed v (turn_lines v es))
@@ -291,7 +292,7 @@ module _ (v : View) (old mid new : Option (List ℕ)) (t : Totals) (whole : Run)
   done-well left u c is b = record {
     ended = ap end_fault c.end;
     totals = is ∙ sym c.totals;
-    written = subst (Appends old new) (sym (last-text left c)) (Appends-twice old mid new (viewed v c.written) (viewed v (end_lines left t)) c.appended b);
+    written = subst (Appends old new) (sym (last-text left c)) (Appends-trans old mid new (viewed v c.written) (viewed v (end_lines left t)) c.appended b);
   }
 
   pub done-cut : (left : List PlainNode) → Closing v (done left) old mid t whole → AppendsPrefix mid new (viewed v (end_lines left t)) → AppendsPrefix old new (view_text v whole)

@@ -1,5 +1,5 @@
 use Rattle.std.proofs.Common.{◌<◌, refl, length, arith}
-use Rattle.tb_break.proofs.StoreLemmas.{live-with_list, with_list-same}
+use Rattle.tb_pool.proofs.CallerLemmas.{live_same, with_list-same}
 use Rattle.tb_break.proofs.PageTopLemmas.{starts_back, comes_back, all_back, some_left}
 use Rattle.tb_break.proofs.page_top.bring_back.Goals as goal
 
@@ -16,11 +16,11 @@ returns-in_default-clause-moved c = λ front aside is len.
     absurd (some_left c.args.store.now c.loop-turn.store c.args.l front aside c.loop-turn._turn lt (c.loop-turn.invariant.back front aside is len) (c.in_default.ensures.empty.0 refl))
 
 pub push_front-requires-clause-live : goal.push_front-requires-clause-live
-push_front-requires-clause-live c = live-with_list c.loop-turn.store c.pop_back.new.self c.args.l _ c.in-Some.ensures.rest
+push_front-requires-clause-live c = live_same c.loop-turn.store c.pop_back.new.self c.args.l _ c.in-Some.ensures.rest
 
 pub loop-turn-preserved : goal.loop-turn-preserved
 loop-turn-preserved c = record {
-  live = live-with_list c.pop_back.new.self c.push_front.new.self c.args.l _ c.push_front.ensures.pushed;
+  live = live_same c.pop_back.new.self c.push_front.new.self c.args.l _ c.push_front.ensures.pushed;
   spare = omega (arith, c.loop-turn.invariant.spare, c.in-Some.ensures.spare, c.push_front.ensures.spare);
   back = λ front aside is len.
       let lt : c.loop-turn._turn < length aside = omega arith in

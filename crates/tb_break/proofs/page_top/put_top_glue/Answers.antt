@@ -2,7 +2,8 @@ use Rattle.std.proofs.Common.{◌∙◌, ap, sym, refl, length, arith, ◌∷◌
 use Rattle.tb_pool.specs.Lists.{list_at, with_list}
 use Rattle.tb_node.specs.PlainNodes.{shape_of}
 use Rattle.tb_break.specs.PageTopTurns.{topped, with_front}
-use Rattle.tb_break.proofs.StoreLemmas.{list-with_list, with_list-same, none_first, some_first}
+use Rattle.tb_break.proofs.StoreLemmas.{none_first, some_first}
+use Rattle.tb_pool.proofs.CallerLemmas.{list_same, with_list-same}
 use Rattle.tb_break.proofs.PageTopLemmas.{untopped}
 use Rattle.tb_break.proofs.page_top.put_top_glue.Goals as goal
 
@@ -25,5 +26,5 @@ top_node-glue-requires-clause-node c =
 
 pub returns-clause-places : goal.returns-clause-places
 returns-clause-places c =
-    let now = list-with_list c.args.store.now c.push_front.new.self c.args.l _ c.push_front.ensures.pushed in
+    let now = list_same c.args.store.now c.push_front.new.self c.args.l _ c.push_front.ensures.pushed in
     omega (arith, ap length now, c.push_front.ensures.spare)

@@ -1,6 +1,6 @@
 use Rattle.std.proofs.Common.{◌∙◌, ◌+◌, ◌<◌, sym, refl, length, arith}
 use Rattle.tb_pool.specs.Lists.{list_at}
-use Rattle.tb_break.proofs.StoreLemmas.{live-with_list, with_list-same}
+use Rattle.tb_pool.proofs.CallerLemmas.{live_same, with_list-same}
 use Rattle.tb_break.proofs.PageTopLemmas.{Turning, begins, turns, stops, ends}
 use Rattle.tb_break.proofs.page_top.set_aside.Goals as goal
 
@@ -8,7 +8,7 @@ pub loop-turn-init : goal.loop-turn-init
 loop-turn-init c = begins c.args.store.now c.args.store.now c.args.l _ refl (with_list-same c.args.store.now c.args.store.now c.args.l c.requires refl) refl
 
 pub turn-requires : goal.turn-requires
-turn-requires c = live-with_list c.args.store.now c.loop-turn.store c.args.l _ c.loop-turn.invariant.lists
+turn-requires c = live_same c.args.store.now c.loop-turn.store c.args.l _ c.loop-turn.invariant.lists
 
 pub returns-in_default-clause-turned : goal.returns-in_default-clause-turned
 returns-in_default-clause-turned c =

@@ -2,7 +2,8 @@ use Rattle.std.proofs.Common.{option_copied, ◌≡◌, ℕ, List, ◌∙◌, re
 use Rattle.std.specs.Prelude.{slice_set}
 use Rattle.tb_pool.specs.Lists.{list_at, with_list}
 use Rattle.tb_node.specs.PlainNodes.{plain_of}
-use Rattle.tb_break.proofs.StoreLemmas.{none_first, with_list-same}
+use Rattle.tb_break.proofs.StoreLemmas.{none_first}
+use Rattle.tb_pool.proofs.CallerLemmas.{with_list-same}
 use Rattle.tb_builder.specs.FiredPages.{line_at, penalty_at}
 use Rattle.tb_builder.specs.Firing.{spent_nodes}
 use Rattle.tb_builder.proofs.Turns.FillLemmas.{first_is}

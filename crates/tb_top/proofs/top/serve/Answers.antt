@@ -1,7 +1,7 @@
 use Rattle.std.proofs.Common.{ap, subst, Err}
 use Rattle.tb_words.specs.Words.{IsServed}
 use Rattle.std.proofs.lemmas.Result.{err_from_is_err_and}
-use Rattle.tb_io.proofs.Appended.{Keeps-refl}
+use Rattle.std.proofs.KnownBytes.{Keeps-refl}
 use Rattle.tb_top.proofs.Ends.Outcomes.{left_by_words}
 use Rattle.tb_top.proofs.top.serve.Goals as goal
 

@@ -1,7 +1,7 @@
 use Rattle.std.proofs.Common.{◌∙◌, refl, subst, inl}
 use Rattle.std.proofs.lemmas.Result.{err_from_is_err_and}
 use Rattle.std.specs.Io.KnownBytes.{Appends}
-use Rattle.tb_io.proofs.Appended.{Keeps-refl}
+use Rattle.std.proofs.KnownBytes.{Keeps-refl}
 use Rattle.tb_words.specs.declared.Mode.TheVariants.{Print}
 use Rattle.tb_top.proofs.Ends.Outcomes.{text_well, replies_to, print_reads}
 use Rattle.tb_top.proofs.top.write_canonical.Goals as goal

@@ -1,7 +1,7 @@
 use Rattle.std.proofs.Common.{◌∙◌, ap, sym, subst, Err}
 use Rattle.std.proofs.lemmas.Result.{err_from_is_err_and}
 use Rattle.std.specs.Io.KnownBytes.{Appends}
-use Rattle.tb_io.proofs.Appended.{Keeps-refl}
+use Rattle.std.proofs.KnownBytes.{Keeps-refl}
 use Rattle.tb_io.specs.Sink.{AppendsPrefix}
 use Rattle.tb_lines.specs.Galley.{lines_galley, GivesGalley as GivesLines}
 use Rattle.tb_words.specs.declared.Mode.TheVariants.{Lines}

@@ -1,6 +1,6 @@
 use Rattle.std.proofs.Common.{◌∙◌, ap, sym, Err}
 use Rattle.std.proofs.lemmas.Result.{err_from_is_err_and}
-use Rattle.tb_io.proofs.Appended.{Keeps-refl}
+use Rattle.std.proofs.KnownBytes.{Keeps-refl}
 use Rattle.tb_words.specs.declared.Mode.TheVariants.{Plain}
 use Rattle.tb_top.proofs.Ends.Outcomes.{left_by_reading, makeup_reads}
 use Rattle.tb_top.proofs.Plain.MakeupOutcomes.{left_unsuited, left_by_makeup, makeup_well}

@@ -1,6 +1,6 @@
 use Rattle.std.proofs.Common.{ap, Err}
 use Rattle.std.proofs.lemmas.Result.{err_from_is_err_and}
-use Rattle.tb_io.proofs.Appended.{Keeps-refl}
+use Rattle.std.proofs.KnownBytes.{Keeps-refl}
 use Rattle.tb_words.specs.declared.Mode.TheVariants.{Report}
 use Rattle.tb_top.specs.declared.View.TheVariants as views
 use Rattle.tb_top.proofs.Ends.Outcomes.{left_by_reading, left_by_pages, pages_well, galley_with, replies_to, report_reads}

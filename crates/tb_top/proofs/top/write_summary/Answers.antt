@@ -3,7 +3,8 @@ use Rattle.std.proofs.lemmas.Result.{err_from_is_err_and}
 use Rattle.std.specs.Io.KnownBytes.{Appends}
 use Rattle.tb_io.specs.Faults.{Rose}
 use Rattle.tb_io.specs.Sink.{AppendsPrefix}
-use Rattle.tb_io.proofs.Appended.{Appends-twice, prefix_on, Keeps-refl, Keeps-nothing}
+use Rattle.std.proofs.KnownBytes.{Appends-trans, Keeps-refl}
+use Rattle.tb_io.proofs.Appended.{prefix_on, Keeps-nothing}
 use Rattle.tb_run.specs.Run.{run_of}
 use Rattle.tb_top.specs.declared.View.TheVariants as views
 use Rattle.tb_galley.specs.Valid.{IsValid}
@@ -62,4 +63,4 @@ returns g c source left =
     let text = c.deref.ensures.value ∙ c.in_ok-line.ensures ∙ ap (summary_line n) paged.totals in
     let whole = subst (Appends (g.K.Sink.held c.paginate.new.out) (g.K.Sink.held c.write_all.new.out)) text c.in_ok-write_all.ensures.ok in
     let laws : HasLawfulRun (generated n) = subst (KeepsLaws (generated n)) paged.totals (subst (λ h. KeepsLaws h c.in_ok-totals.totals) galley c.in_ok-totals.ensures.laws) in
-    summary_well n source _ left paged.ended laws (Appends-twice _ _ _ [] (summary_line n (totals_of (run_of (generated n)).events)) paged.written whole)
+    summary_well n source _ left paged.ended laws (Appends-trans _ _ _ [] (summary_line n (totals_of (run_of (generated n)).events)) paged.written whole)
