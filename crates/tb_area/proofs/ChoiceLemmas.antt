@@ -59,15 +59,16 @@ class_not_at_bottom p l s r f w e goes =
 pub entered : (p : Params) (l : FloatLists) (s : Suppress) (r : ℤ) (f : Float) (b : Bool) (w : Where) → may_enter p l s [] r f ≡ b → w ≡ (if b then by_class p l s r f else Deferred) → w ≡ (if may_enter p l s [] r f then by_class p l s r f else Deferred)
 entered p l s r f b w e goes = goes ∙ ap (λ a. if a then by_class p l s r f else Deferred) (sym e)
 
+-- the third test fails
+pub barred : (a b c d : Bool) → (a && b && false && c && d) ≡ false
+barred true true c d = refl
+barred true false c d = refl
+barred false b c d = refl
+
 -- if a float of its class waits, a float may not enter its column; else none counts as waiting
 behind : (p : Params) (l : FloatLists) (s : Suppress) (r : ℤ) (f : Float) (waits : Bool) → has_class f.class l.deferred ≡ waits → (if waits then Deferred else (if may_enter p l s [] r f then by_class p l s r f else Deferred)) ≡ (if may_enter p l s l.deferred r f then by_class p l s r f else Deferred)
 behind p l s r f true e =
     sym (ap (λ h. if (not (only_page f) && not f.wide && not h && may_come p l s limits.Total f && fits_column p l r) then by_class p l s r f else Deferred) e ∙ ap (λ b. if b then by_class p l s r f else Deferred) (barred (not (only_page f)) (not f.wide) (may_come p l s limits.Total f) (fits_column p l r)))
-  where
-    barred : (a b c d : Bool) → (a && b && false && c && d) ≡ false
-    barred true true c d = refl
-    barred true false c d = refl
-    barred false b c d = refl
 behind p l s r f false e =
     ap (λ h. if (not (only_page f) && not f.wide && not h && may_come p l s limits.Total f && fits_column p l r) then by_class p l s r f else Deferred) (sym e)
 

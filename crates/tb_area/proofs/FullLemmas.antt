@@ -13,6 +13,7 @@ use Rattle.tb_float.specs.Lists.{FloatLists, has_class}
 use Rattle.tb_float.specs.Classes.{AreClassesOf, AreKnown, AreOfClasses, HasLeft}
 use Rattle.tb_float.proofs.HasLemmas.{has-first, has-later, has-more, has-drop}
 use Rattle.tb_area.specs.Area.{only_page, may_come, fits_column, fits_double, text_minimum, top_or_bottom, deferred, where_of, next_place, double_place}
+use Rattle.tb_area.proofs.ChoiceLemmas.{barred}
 
 -- ---- the first floats, and those between them and a later place
 
@@ -95,12 +96,7 @@ pub entry-closed : (p : Params) (s : Suppress) (l : FloatLists) (f : Float) (bef
 entry-closed p s l f before has =
     let required = f.height +ℤ text_minimum p l f in
     sym (ap (λ b. where_of (if not (only_page f) && not f.wide && not b && may_come p l s limits.Total f && fits_column p l required then top_or_bottom p l s required f else deferred)) has
-    ∙ ap (λ b. where_of (if b then top_or_bottom p l s required f else deferred)) (no-entry (not (only_page f)) (not f.wide) (may_come p l s limits.Total f) (fits_column p l required)))
-  where
-    no-entry : (a b c d : Bool) → (a && b && false && c && d) ≡ false
-    no-entry true true c d = refl
-    no-entry true false c d = refl
-    no-entry false b c d = refl
+    ∙ ap (λ b. where_of (if b then top_or_bottom p l s required f else deferred)) (barred (not (only_page f)) (not f.wide) (may_come p l s limits.Total f) (fits_column p l required)))
 
 pub double-closed : (p : Params) (s : Suppress) (l : FloatLists) (f : Float) (before : List Float) → has_class f.class before ≡ true → Deferred ≡ double_place p l s before f
 double-closed p s l f before has =

@@ -3,19 +3,19 @@ use Rattle.std.proofs.Common.{◌≡◌, ℕ, Bool, true, false, cond, List, [],
 use Rattle.std.specs.Prelude.{◌==◌, if◌then◌else◌}
 use Rattle.std.proofs.lemmas.Bool.{eqb-true, or_parts}
 use Rattle.std.proofs.lemmas.List.{append-nil}
-use Rattle.std.proofs.lemmas.List.Elements.{filter-append}
 use Rattle.tb_node.specs.declared.Float.{Float}
 use Rattle.tb_node.specs.declared.Where.TheVariants as places
 use Rattle.tb_param.specs.declared.params.Params.{Params}
 use Rattle.tb_float.specs.declared.Suppress.{Suppress}
 use Rattle.tb_float.specs.declared.Part.{Part}
 use Rattle.tb_float.specs.declared.Part.TheVariants as parts
-use Rattle.tb_float.specs.Lists.{FloatLists, has_class, floats_of, IsWaiting}
+use Rattle.tb_float.specs.Lists.{FloatLists, has_class, of_class, floats_of, IsWaiting}
 use Rattle.tb_float.proofs.WaitingLemmas.{floats-with}
 use Rattle.tb_area.specs.Area.{AreaPlace, at_top, at_bottom, deferred, where_of, next_area_place, goes_double}
 use Rattle.tb_area.specs.Deferred.{gone_to, still_before, filled, gone_double, still_single, doubled}
-use Rattle.tb_area.specs.Laws.{HasNone, PassesNone, of_class, column_order, double_order}
+use Rattle.tb_area.specs.Laws.{HasNone, PassesNone, column_order, double_order}
 use Rattle.tb_area.proofs.LawLemmas.{next-laws, double-laws}
+use Rattle.tb_float.proofs.ClassLemmas.{of_class-append}
 
 -- ---- the floats of a class
 
@@ -24,9 +24,6 @@ none-of k [] e = refl
 none-of k (f ∷ fs) e =
     let both = or_parts (f.class == k) (has_class k fs) e in
     ap (λ t. cond t (f ∷ of_class k fs) (of_class k fs)) both.0 ∙ none-of k fs both.1
-
-of-append : (k : ℕ) (xs ys : List Float) → of_class k (xs ++ ys) ≡ of_class k xs ++ of_class k ys
-of-append k xs ys = filter-append (λ f. f.class == k) xs ys
 
 -- the float is of the class and none comes before, or it is of another one
 past : (k : ℕ) (f : Float) (before : List Float) → HasNone f before → of_class k (f ∷ []) ++ of_class k before ≡ of_class k before ++ of_class k (f ∷ [])
@@ -53,36 +50,36 @@ over-none : (a x c e : List Float) → x ++ c ≡ c ++ x → (a ++ x) ++ (c ++ e
 over-none a x c e hc = simp append_assoc (ap (λ l. a ++ l) (swap x c e hc))
 
 three : (k : ℕ) (xs ys zs : List Float) → of_class k (xs ++ ys ++ zs) ≡ (of_class k xs ++ of_class k ys) ++ of_class k zs
-three k xs ys zs = of-append k (xs ++ ys) zs ∙ ap (λ l. l ++ of_class k zs) (of-append k xs ys)
+three k xs ys zs = of_class-append k (xs ++ ys) zs ∙ ap (λ l. l ++ of_class k zs) (of_class-append k xs ys)
 
 with-float : (k : ℕ) (f : Float) (before rest : List Float) → of_class k (before ++ f ∷ rest) ≡ of_class k before ++ (of_class k (f ∷ []) ++ of_class k rest)
-with-float k f before rest = of-append k before (f ∷ rest) ∙ ap (λ l. of_class k before ++ l) (of-append k (f ∷ []) rest)
+with-float k f before rest = of_class-append k before (f ∷ rest) ∙ ap (λ l. of_class k before ++ l) (of_class-append k (f ∷ []) rest)
 
 -- ---- a turn
 
 top-order : (k : ℕ) (f : Float) (top bottom before rest : List Float) → HasNone f bottom → HasNone f before → of_class k ((top ++ f ∷ []) ++ bottom ++ (before ++ rest)) ≡ of_class k (top ++ bottom ++ (before ++ f ∷ rest))
 top-order k f top bottom before rest below first =
     three k (top ++ f ∷ []) bottom (before ++ rest)
-    ∙ ap (λ l. (l ++ of_class k bottom) ++ of_class k (before ++ rest)) (of-append k top (f ∷ []))
-    ∙ ap (λ l. ((of_class k top ++ of_class k (f ∷ [])) ++ of_class k bottom) ++ l) (of-append k before rest)
+    ∙ ap (λ l. (l ++ of_class k bottom) ++ of_class k (before ++ rest)) (of_class-append k top (f ∷ []))
+    ∙ ap (λ l. ((of_class k top ++ of_class k (f ∷ [])) ++ of_class k bottom) ++ l) (of_class-append k before rest)
     ∙ over-two (of_class k top) (of_class k (f ∷ [])) (of_class k bottom) (of_class k before) (of_class k rest) (past k f bottom below) (past k f before first)
     ∙ sym (three k top bottom (before ++ f ∷ rest) ∙ ap (λ l. (of_class k top ++ of_class k bottom) ++ l) (with-float k f before rest))
 
 bottom-order : (k : ℕ) (f : Float) (top bottom before rest : List Float) → HasNone f before → of_class k (top ++ (bottom ++ f ∷ []) ++ (before ++ rest)) ≡ of_class k (top ++ bottom ++ (before ++ f ∷ rest))
 bottom-order k f top bottom before rest first =
     three k top (bottom ++ f ∷ []) (before ++ rest)
-    ∙ ap (λ l. (of_class k top ++ l) ++ of_class k (before ++ rest)) (of-append k bottom (f ∷ []))
-    ∙ ap (λ l. (of_class k top ++ (of_class k bottom ++ of_class k (f ∷ []))) ++ l) (of-append k before rest)
+    ∙ ap (λ l. (of_class k top ++ l) ++ of_class k (before ++ rest)) (of_class-append k bottom (f ∷ []))
+    ∙ ap (λ l. (of_class k top ++ (of_class k bottom ++ of_class k (f ∷ []))) ++ l) (of_class-append k before rest)
     ∙ over-one (of_class k top) (of_class k bottom) (of_class k (f ∷ [])) (of_class k before) (of_class k rest) (past k f before first)
     ∙ sym (three k top bottom (before ++ f ∷ rest) ∙ ap (λ l. (of_class k top ++ of_class k bottom) ++ l) (with-float k f before rest))
 
 two-order : (k : ℕ) (f : Float) (double before rest : List Float) → HasNone f before → of_class k ((double ++ f ∷ []) ++ (before ++ rest)) ≡ of_class k (double ++ (before ++ f ∷ rest))
 two-order k f double before rest first =
-    of-append k (double ++ f ∷ []) (before ++ rest)
-    ∙ ap (λ l. l ++ of_class k (before ++ rest)) (of-append k double (f ∷ []))
-    ∙ ap (λ l. (of_class k double ++ of_class k (f ∷ [])) ++ l) (of-append k before rest)
+    of_class-append k (double ++ f ∷ []) (before ++ rest)
+    ∙ ap (λ l. l ++ of_class k (before ++ rest)) (of_class-append k double (f ∷ []))
+    ∙ ap (λ l. (of_class k double ++ of_class k (f ∷ [])) ++ l) (of_class-append k before rest)
     ∙ over-none (of_class k double) (of_class k (f ∷ [])) (of_class k before) (of_class k rest) (past k f before first)
-    ∙ sym (of-append k double (before ++ f ∷ rest) ∙ ap (λ l. of_class k double ++ l) (with-float k f before rest))
+    ∙ sym (of_class-append k double (before ++ f ∷ rest) ∙ ap (λ l. of_class k double ++ l) (with-float k f before rest))
 
 gone-order : (k : ℕ) (a : AreaPlace) (f : Float) (before rest : List Float) (l : FloatLists) → l.deferred ≡ before ++ f ∷ rest → PassesNone l before f (where_of a) → column_order k (gone_to a f before rest l) ≡ column_order k l
 gone-order k at_top f before rest l e order = top-order k f l.top l.bottom before rest order.2 order.0 ∙ ap (λ d. of_class k (l.top ++ l.bottom ++ d)) (sym e)

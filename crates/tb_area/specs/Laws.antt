@@ -1,5 +1,5 @@
 -- What holds of a float and the place to which it goes: its own places, the order of its class, and the limits.
-use Rattle.std.specs.Prelude.{◌≡◌, ◌<ℤ◌, ℕ, ℤ, pos, ◌+ℤ◌, ◌==◌, true, false, List, ◌++◌, filter}
+use Rattle.std.specs.Prelude.{◌≡◌, ◌<ℤ◌, ℕ, ℤ, pos, ◌+ℤ◌, true, false, List, ◌++◌}
 use Rattle.tb_scaled.specs.Scaled.{fraction_of}
 use Rattle.tb_node.specs.declared.Float.{Float}
 use Rattle.tb_node.specs.declared.Where.{Where}
@@ -8,7 +8,7 @@ use Rattle.tb_param.specs.declared.Params.{Params}
 use Rattle.tb_float.specs.declared.Limit.{Limit}
 use Rattle.tb_float.specs.declared.Limit.TheVariants as limits
 use Rattle.tb_float.specs.declared.Part.{Part}
-use Rattle.tb_float.specs.Lists.{FloatLists, has_class, floats_of}
+use Rattle.tb_float.specs.Lists.{FloatLists, has_class, of_class, floats_of}
 use Rattle.tb_float.specs.Rooms.{area_taken, double_taken, column_height_of, limit_number, limit_used}
 
 -- a float goes where it may, wide ones above both columns; none goes on a page of floats by a decision
@@ -58,10 +58,6 @@ pub record KeepsLaws (p : Params) (l : FloatLists) (before : List Float) (f : Fl
   pub allowed : IsAllowed f place
   pub order : PassesNone l before f place
   pub limits : f.bang ≡ false → KeepsLimits p l f place
-
--- the floats of a class
-abbrev pub of_class : ℕ → List Float → List Float
-of_class k fs = filter (λ f. f.class == k) fs
 
 -- the floats of a class at the top, at the bottom and among the deferred ones, in the order in which they ship
 abbrev pub column_order : ℕ → FloatLists → List Float

@@ -18,6 +18,7 @@ use Rattle.tb_break.specs.Scan.{Offered, best_of, least_so_far}
 use Rattle.tb_break.specs.LastLeast.{IsLastLeast, IsLastOfLeast}
 use Rattle.tb_break.proofs.ScanLemmas.{cost_at_most}
 use Rattle.tb_break.proofs.LegalLemmas.{le_true}
+use Rattle.tb_break.proofs.FindLemmas.{forced}
 
 -- ---- the last of least cost in any list of places
 
@@ -298,9 +299,6 @@ module _ (h d : ℤ) (ns : List Shape) where
   places-cover before [] e =
       subst (λ b. Covers (length before) (up_to_stop (b ∷ []))) (sym (place-cut before [] e eject_penalty))
       (stop-tested (length before) eject_penalty (is_stop (place (length before) eject_penalty)) [] (legal-cut ns before [] e) refl (λ go. absurd (true≢false (sym (forced (place (length before) eject_penalty).cost) ∙ go))))
-    where
-      forced : (c : ℤ) → (int_le awful_bad c || int_le eject_penalty eject_penalty) ≡ true
-      forced c = grind (arith, ints)
   places-cover before (n ∷ rest) e =
       place-tested (length before) (split_penalty before (n ∷ rest)) _ (split_places h d (before ++ n ∷ []) rest) (legal-cut ns before (n ∷ rest) e) (place-cut before (n ∷ rest) e)
       (subst (λ m. Covers m (up_to_stop (split_places h d (before ++ n ∷ []) rest))) (longer before n) (places-cover (before ++ n ∷ []) rest (append_assoc before (n ∷ []) rest ∙ e)))

@@ -166,8 +166,3 @@ marked-all P (m ∷ ms) [] h = All-nil P
 marked-all P (true ∷ ms) (f ∷ fs) h = All-cons P f (marked_among ms fs) (All-head P f fs h) (marked-all P ms fs (All-tail P f fs h))
 marked-all P (false ∷ ms) (f ∷ fs) h = marked-all P ms fs (All-tail P f fs h)
 
-pub marked-few : (ms : List Bool) (fs : List Float) → length (marked_among ms fs) ≤ length fs
-marked-few [] fs = omega arith
-marked-few (m ∷ ms) [] = omega arith
-marked-few (true ∷ ms) (f ∷ fs) = omega (arith, marked-few ms fs)
-marked-few (false ∷ ms) (f ∷ fs) = omega (arith, marked-few ms fs)

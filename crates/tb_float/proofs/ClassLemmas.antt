@@ -4,10 +4,14 @@ use Rattle.std.specs.Prelude.{slice_set, if◌then◌else◌}
 use Rattle.std.proofs.lemmas.Option.{slice_get_within, same_Some}
 use Rattle.std.proofs.lemmas.Bool.{cases_eq, eq-eqb, ne_eqb, eqb-true}
 use Rattle.std.proofs.Math.Bool.{or-true}
+use Rattle.std.proofs.lemmas.List.Elements.{filter-append}
 use Rattle.tb_node.specs.declared.Float.{Float}
 use Rattle.tb_float.specs.declared.classes.ClassSet.{ClassSet}
-use Rattle.tb_float.specs.Lists.{has_class}
+use Rattle.tb_float.specs.Lists.{has_class, of_class}
 use Rattle.tb_float.specs.Classes.{AreClassesOf, AreKnown, AreOfClasses, HasLeft, set_count, open_count}
+
+pub of_class-append : (k : ℕ) (fs gs : List Float) → of_class k (fs ++ gs) ≡ of_class k fs ++ of_class k gs
+of_class-append k fs gs = filter-append (λ f. f.class == k) fs gs
 
 pub get-replicate : {X : Type 0} (n k : ℕ) (x : X) → k < n → slice_get (replicate n x) k ≡ Some x
 get-replicate zero k x lt = absurd (omega arith)

@@ -3,7 +3,7 @@ use Rattle.std.proofs.Common.{◌≡◌, ℕ, zero, suc, ◌+◌, ◌-◌, ◌�
 use Rattle.std.specs.Prelude.{ℤ, ◌≤ℤ◌, slice_set}
 use Rattle.std.proofs.lemmas.Int.{ints}
 use Rattle.std.specs.List.{AllByRecursion}
-use Rattle.std.proofs.lemmas.List.{append-nil}
+use Rattle.std.proofs.lemmas.List.{append-nil, nil_from_length}
 use Rattle.tb_node.specs.declared.Float.{Float}
 use Rattle.tb_pool.specs.Lists.{Lists}
 use Rattle.tb_float.specs.declared.Part.{Part}
@@ -124,28 +124,20 @@ count-mark zero (false ∷ ms) (f ∷ fs) = omega arith
 count-mark (suc n) (true ∷ ms) (f ∷ fs) = omega (arith, count-mark n ms fs)
 count-mark (suc n) (false ∷ ms) (f ∷ fs) = count-mark n ms fs
 
-count-most : (ms : List Bool) (fs : List Float) → length (marked_among ms fs) ≤ length fs
-count-most [] fs = omega arith
-count-most (m ∷ ms) [] = omega arith
-count-most (true ∷ ms) (f ∷ fs) = omega (arith, count-most ms fs)
-count-most (false ∷ ms) (f ∷ fs) = omega (arith, count-most ms fs)
+pub marked-few : (ms : List Bool) (fs : List Float) → length (marked_among ms fs) ≤ length fs
+marked-few [] fs = omega arith
+marked-few (m ∷ ms) [] = omega arith
+marked-few (true ∷ ms) (f ∷ fs) = omega (arith, marked-few ms fs)
+marked-few (false ∷ ms) (f ∷ fs) = omega (arith, marked-few ms fs)
 
 -- no more than live in the pool
 pub few-chosen : (v : FloatPool) → chosen_count v ≤ live_count v.lists
-few-chosen v = omega (arith, count-most v.marks v.lists.deferred, count-most v.second_marks v.lists.second)
+few-chosen v = omega (arith, marked-few v.marks v.lists.deferred, marked-few v.second_marks v.lists.second)
 
 -- if none is chosen, none is marked
 pub all-unmarked : (p : Part) (P : Float → Type 0) (v : FloatPool) → IsWaiting p → Tracks P 0 v → marked_floats p v ≡ []
-all-unmarked parts.Deferred P v w t = by_length (marked_floats parts.Deferred v) (omega (arith, t.few))
-  where
-    by_length : (fs : List Float) → length fs ≡ 0 → fs ≡ []
-    by_length [] e = refl
-    by_length (f ∷ fs) e = absurd (omega (arith, e))
-all-unmarked parts.Second P v w t = by_length (marked_floats parts.Second v) (omega (arith, t.few))
-  where
-    by_length : (fs : List Float) → length fs ≡ 0 → fs ≡ []
-    by_length [] e = refl
-    by_length (f ∷ fs) e = absurd (omega (arith, e))
+all-unmarked parts.Deferred P v w t = nil_from_length (marked_floats parts.Deferred v) (omega (arith, t.few))
+all-unmarked parts.Second P v w t = nil_from_length (marked_floats parts.Second v) (omega (arith, t.few))
 all-unmarked p P v w t = absurd w
 
 -- ---- what one list holds is written

@@ -16,11 +16,6 @@ use Rattle.tb_fpage.proofs.WalkLemmas.{head-stands}
 -- ---- places of lists
 
 module _ {X : Type 0} where
-  pub get-some : (xs : List X) (k : ℕ) → k < length xs → (x : X) × (slice_get xs k ≡ Some x)
-  get-some [] k lt = absurd (omega arith)
-  get-some (x ∷ xs) zero lt = (x, refl)
-  get-some (x ∷ xs) (suc k) lt = get-some xs k (omega arith)
-
   get-within : (xs : List X) (k : ℕ) (x : X) → slice_get xs k ≡ Some x → k < length xs
   get-within [] k x got = cc
   get-within (y ∷ xs) zero x got = omega arith

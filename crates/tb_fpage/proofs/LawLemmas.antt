@@ -8,12 +8,14 @@ use Rattle.std.proofs.lemmas.List.{map-append, append_assoc, append-nil}
 use Rattle.std.proofs.lemmas.Bool.{cases_eq, ne_eqb, and_parts, not-true}
 use Rattle.std.proofs.lemmas.Option.{same_Some}
 use Rattle.tb_node.specs.declared.Float.{Float}
-use Rattle.tb_float.specs.Lists.{has_class}
+use Rattle.tb_float.specs.Lists.{has_class, of_class}
 use Rattle.tb_float.specs.Pool.{marked_among, unmarked_among}
 use Rattle.tb_float.specs.Rooms.{floats_room, later_room}
 use Rattle.tb_fpage.specs.declared.Wanted.{Wanted}
-use Rattle.tb_fpage.specs.Company.{Choice, suits, passed_over, all_chosen, separated, company_height, joins, choices_from, company_of_head, is_head, is_made, company_from, company, chosen_floats, left_floats, of_class}
+use Rattle.tb_fpage.specs.Company.{Choice, suits, passed_over, all_chosen, separated, company_height, joins, choices_from, company_of_head, is_head, is_made, company_from, company, chosen_floats, left_floats}
 use Rattle.tb_fpage.proofs.WalkLemmas.{left-append, company-passed, company-first, passed-left, passed-none}
+use Rattle.tb_float.proofs.ClassLemmas.{of_class-append}
+use Rattle.tb_float.proofs.MarkLemmas.{unmarked-all}
 
 abbrev floats_of : List Choice → List Float
 floats_of cs = map (λ c. c.float) cs
@@ -54,14 +56,6 @@ height-room sep (c ∷ cs) = by_choice c.chosen _ _ (chosen_floats cs) (later-se
     by_choice false x v fs is at = at
 
 -- ---- the order of a class
-
-of_class-append : (k : ℕ) (fs gs : List Float) → of_class k (fs ++ gs) ≡ of_class k fs ++ of_class k gs
-of_class-append k [] gs = refl
-of_class-append k (f ∷ fs) gs = by_test (f.class == k) _ _ _ (of_class-append k fs gs)
-  where
-    by_test : (b : Bool) (x y z : List Float) → x ≡ y ++ z → (if b then f ∷ x else x) ≡ (if b then f ∷ y else y) ++ z
-    by_test true x y z is = ap (λ hs. f ∷ hs) is
-    by_test false x y z is = is
 
 -- of each class, the chosen floats come before those that are left
 abbrev InOrder : List Choice → Type 0
@@ -215,15 +209,6 @@ pub high-company : (z : Wanted) (fs : List Float) (cs : List Choice) (marked : L
 high-company z fs cs marked is chosen = ap (λ y. z.clearing || int_lt z.minimum y) (sym (height-room z.sep cs ∙ ap (floats_room (pos 0) z.sep) (sym chosen))) ∙ (company-is-lawful z fs cs is).made
 
 -- if nothing is marked, all floats stay
-pub unmarked-all : (ms : List Bool) (fs : List Float) → marked_among ms fs ≡ [] → unmarked_among ms fs ≡ fs
-unmarked-all [] fs none = refl
-unmarked-all (m ∷ ms) [] none = refl
-unmarked-all (m ∷ ms) (f ∷ fs) none = by_mark m (λ h. unmarked-all ms fs h) none
-  where
-    by_mark : (b : Bool) → (marked_among ms fs ≡ [] → unmarked_among ms fs ≡ fs) → (if b then f ∷ marked_among ms fs else marked_among ms fs) ≡ [] → (if b then unmarked_among ms fs else f ∷ unmarked_among ms fs) ≡ f ∷ fs
-    by_mark true ih h = cc
-    by_mark false ih h = ap (λ gs. f ∷ gs) (ih h)
-
 pub order-unmarked : (ms : List Bool) (fs : List Float) → marked_among ms fs ≡ [] → (k : ℕ) → of_class k fs ≡ of_class k (marked_among ms fs) ++ of_class k (unmarked_among ms fs)
 order-unmarked ms fs none = λ k.
     ap (of_class k) (sym (unmarked-all ms fs none)) ∙ ap (λ gs. of_class k gs ++ of_class k (unmarked_among ms fs)) (sym none)

@@ -16,7 +16,7 @@ use Rattle.tb_node.specs.Shape.{Shape, box, glue, kern, penalty, other}
 use Rattle.tb_node.specs.PlainNodes.{PlainKind, plain, ins, act, PlainNode, node_shape, inserted_of, Inserted, is_insertion_kind}
 use Rattle.tb_node.specs.Sums.{sums_of, size_of, list_stretch, stretch_of, list_shrink}
 use Rattle.tb_node.specs.NodeSums.{added_node, stretched_sums, more_at, order_index, stretch_with, shrink_with}
-use Rattle.tb_node.proofs.AddLemmas.{sums-append, added_stretches, size-append, depth-append, stretch-append, shrink-append}
+use Rattle.tb_node.proofs.AddLemmas.{sums-append, added_stretches, size-append, depth-append, stretch-append, shrink-append, four}
 use Rattle.tb_break.specs.Scan.{Scanned}
 use Rattle.tb_insert.specs.declared.Class.{Class}
 use Rattle.tb_insert.specs.declared.Account.{Account}
@@ -24,7 +24,7 @@ use Rattle.tb_insert.specs.Terms.{Terms, sums_with, added_amounts}
 use Rattle.tb_insert.specs.Account.{Frozen, Labelled, labelled, labelled_with, label_of, terms_after, terms_of_labels, is_met, insertions, class_box}
 use Rattle.tb_insert.specs.AccountEntries.{Differ, numbered, boxed, IsAccountOf, EntryStands, IsScanOfPage, ComesTo, entry_of, met_scan}
 use Rattle.tb_insert.specs.Arrival.{InnerFits, ClassFits, ArriveFits, PageFits}
-use Rattle.tb_insert.proofs.AccountLemmas.{TermsNext, terms_next, labelled-append, new_skip}
+use Rattle.tb_insert.proofs.AccountLemmas.{TermsNext, terms_next, labelled-append, new_skip, labelled-plain}
 use Rattle.tb_insert.proofs.StandsLemmas.{goal_next, height_next, penalties_next}
 
 swap : (x v t : ℤ) → (x +ℤ v) +ℤ t ≡ (x +ℤ t) +ℤ v
@@ -81,9 +81,6 @@ amounts_more Fil v p q r s a b c d = ap (λ x. (p +ℤ a) ∷ x ∷ (r +ℤ c) �
 amounts_more Fill v p q r s a b c d = ap (λ x. (p +ℤ a) ∷ (q +ℤ b) ∷ x ∷ (s +ℤ d) ∷ []) (assoc r c v)
 amounts_more Filll v p q r s a b c d = ap (λ x. (p +ℤ a) ∷ (q +ℤ b) ∷ (r +ℤ c) ∷ x ∷ []) (assoc s d v)
 
-four : {a a' b b' c c' d d' : ℤ} → a ≡ a' → b ≡ b' → c ≡ c' → d ≡ d' → (a ∷ b ∷ c ∷ d ∷ []) ≡ (a' ∷ b' ∷ c' ∷ d' ∷ [])
-four p q r s = λ i. p i ∷ q i ∷ r i ∷ s i ∷ []
-
 -- the sums with the skip of a class, if that is new
 abbrev pub with_skip : Bool → Glue → Sums → Sums
 with_skip m g s = if m then s else stretched_sums s g
@@ -133,7 +130,7 @@ met_sums : (m : Bool) (s : Scanned) (class : Class) → (met_scan m s class).sum
 met_sums true s class = refl
 met_sums false s class = refl
 
-met_depth : (m : Bool) (s : Scanned) (class : Class) → (met_scan m s class).max_depth ≡ s.max_depth
+pub met_depth : (m : Bool) (s : Scanned) (class : Class) → (met_scan m s class).max_depth ≡ s.max_depth
 met_depth true s class = refl
 met_depth false s class = refl
 
@@ -169,15 +166,6 @@ module _ (z : Frozen) (page : List PlainNode) (s : Scanned) (line : ℕ) (i : In
       whole : sums_with (sums_of z.limit (map node_shape (page ++ record { line = line; kind = ins i } ∷ []))) (terms_after z (page ++ record { line = line; kind = ins i } ∷ [])) ≡ added_node z.limit (sums_with (sums_of z.limit (map node_shape page)) (terms_after z (page ++ record { line = line; kind = ins i } ∷ []))) other
       whole = ap (λ ss. sums_with (sums_of z.limit ss) (terms_after z (page ++ record { line = line; kind = ins i } ∷ []))) (map-append node_shape page (record { line = line; kind = ins i } ∷ []))
           ∙ with_terms z.limit (map node_shape page) other (terms_after z (page ++ record { line = line; kind = ins i } ∷ [])) _ _ _ _ refl
-
--- a node without an insertion leaves the labels as they are
-pub labelled-plain : (z : Frozen) (page : List PlainNode) (n : PlainNode) → is_insertion_kind n.kind ≡ false → labelled z (page ++ n ∷ []) ≡ labelled z page
-labelled-plain z page n h = labelled-append z page n ∙ by_kind n.line n.kind h
-  where
-    by_kind : (line : ℕ) (k : PlainKind) → is_insertion_kind k ≡ false → labelled_with z (labelled z page) page line k ≡ labelled z page
-    by_kind line (plain m) e = refl
-    by_kind line (ins i) e = cc
-    by_kind line (act x) e = refl
 
 -- a node that is no insertion goes on the page
 pub scan_plain : (z : Frozen) (page : List PlainNode) (s t : Scanned) (n : PlainNode) → is_insertion_kind n.kind ≡ false → IsScanOfPage s z page → t ≡ record s { sums = added_node s.max_depth s.sums (node_shape n) } → IsScanOfPage t z (page ++ n ∷ [])

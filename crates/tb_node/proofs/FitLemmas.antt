@@ -20,10 +20,10 @@ pub record IsWithin (b : ℕ) (z : ℤ) : Type 0 where
   pub low : neg_ℤ (pos b) ≤ℤ z
   pub high : z ≤ℤ pos b
 
-amount_small : (z : ℤ) → IsDimension z → IsAmount z
-amount_small z h = record { low = omega (arith, ints); high = omega (arith, ints) }
+pub dimension_small : (z : ℤ) → IsDimension z → IsAmount z
+dimension_small z h = record { low = omega (arith, ints); high = omega (arith, ints) }
 
-extent_small : (z : ℤ) → IsExtent z → IsAmount z
+pub extent_small : (z : ℤ) → IsExtent z → IsAmount z
 extent_small z h = record { low = omega (arith, ints); high = omega (arith, ints) }
 
 penalty_small : (z : ℤ) → IsPenalty z → IsAmount z
@@ -35,8 +35,8 @@ both_small h d p q = record { low = omega (arith, ints); high = omega (arith, in
 -- the amounts of a sized node fit
 pub sized-fits : (n : Shape) → IsSized n → IsSmallShape n
 sized-fits (box h d) s = (extent_small h s.0, extent_small d s.1, both_small h d s.0 s.1)
-sized-fits (glue g) s = (amount_small g.width s.0, amount_small g.stretch s.1, amount_small g.shrink s.2)
-sized-fits (kern w) s = amount_small w s
+sized-fits (glue g) s = (dimension_small g.width s.0, dimension_small g.stretch s.1, dimension_small g.shrink s.2)
+sized-fits (kern w) s = dimension_small w s
 sized-fits (penalty p) s = penalty_small p s
 sized-fits other s = tt
 

@@ -33,13 +33,17 @@ module _ {T : Type 0} where
   pub with_list-twice : (a b c : Lists T) (l : ℕ) (xs ys : List T) → b.lists ≡ with_list a l xs → c.lists ≡ with_list b l ys → c.lists ≡ with_list a l ys
   with_list-twice a b c l xs ys e f = f ∙ ap (λ m. insert m l ys) e ∙ insert-twice a.lists l xs ys
 
+  -- a live list is in the map
+  pub some_list : (s : Lists T) (l : ℕ) (xs : List T) → IsLive s l → list_at s l ≡ xs → get s.lists l ≡ Some xs
+  some_list s l xs live e = by_option (get s.lists l) live e
+    where
+      by_option : (o : Option (List T)) → IsSome o → unwrap_or o [] ≡ xs → o ≡ Some xs
+      by_option None live e = absurd (true≢false (sym live))
+      by_option (Some ys) live e = ap Some e
+
   -- nothing changed
   pub with_list-same : (old now : Lists T) (l : ℕ) → IsLive old l → now.lists ≡ old.lists → now.lists ≡ with_list old l (list_at old l)
-  with_list-same old now l live e = e ∙ insert_from_get old.lists old.lists l (list_at old l) (there (get old.lists l) live) (λ q ne. refl)
-    where
-      there : (o : Option (List T)) → IsSome o → o ≡ Some (unwrap_or o [])
-      there None some = absurd (true≢false (sym some))
-      there (Some xs) some = refl
+  with_list-same old now l live e = e ∙ insert_from_get old.lists old.lists l (list_at old l) (some_list old l (list_at old l) live refl) (λ q ne. refl)
 
 -- a value was put at the end of a list
 module _ {T : Type 0} (s t : Lists T) (l : ℕ) (x : T) where

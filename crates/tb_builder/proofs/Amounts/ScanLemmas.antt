@@ -15,25 +15,9 @@ use Rattle.tb_insert.specs.declared.Class.{Class}
 use Rattle.tb_insert.specs.Terms.{Terms, sums_with}
 use Rattle.tb_insert.specs.Account.{ClassBox, Frozen, labelled, terms_after, terms_of_labels, is_met, insertions, class_box, met_classes, skip_shapes}
 use Rattle.tb_insert.specs.AccountEntries.{Differ, numbered, boxed, IsScanOfPage, met_scan}
-use Rattle.tb_insert.proofs.TermLemmas.{skipped, labelled-plain}
-
-nothing : (a : ℤ) → a +ℤ pos 0 ≡ a
-nothing a = omega (arith, ints)
-
-four : {a a' b b' c c' d d' : ℤ} → a ≡ a' → b ≡ b' → c ≡ c' → d ≡ d' → (a ∷ b ∷ c ∷ d ∷ []) ≡ (a' ∷ b' ∷ c' ∷ d' ∷ [])
-four p q r s = λ i. p i ∷ q i ∷ r i ∷ s i ∷ []
-
--- a node that takes no room changes no sum
-sums-other : (limit : ℤ) (ns : List Shape) → sums_of limit (ns ++ other ∷ []) ≡ sums_of limit ns
-sums-other limit ns = λ i. record {
-  total = ((size-append ns other ∙ nothing (size_of ns)) i) -ℤ min_ℤ (depth-append (pos 0) ns other i) limit;
-  depth = min_ℤ (depth-append (pos 0) ns other i) limit;
-  stretch = four (by_order Normal) (by_order Fil) (by_order Fill) (by_order Filll) i;
-  shrink = (shrink-append ns other ∙ nothing (list_shrink ns)) i;
-}
-  where
-    by_order : (o : Order) → list_stretch o (ns ++ other ∷ []) ≡ list_stretch o ns
-    by_order o = stretch-append o ns other ∙ nothing (list_stretch o ns)
+use Rattle.tb_insert.proofs.TermLemmas.{skipped, sums-other, met_depth}
+use Rattle.tb_insert.proofs.AccountLemmas.{labelled-plain}
+use Rattle.tb_insert.proofs.StandsLemmas.{none_met}
 
 -- a node that takes no room and is no insertion goes on the page
 pub scan_loose : (z : Frozen) (page : List PlainNode) (s : Scanned) (n : PlainNode) → is_insertion_kind n.kind ≡ false → node_shape n ≡ other → IsScanOfPage s z page → IsScanOfPage s z (page ++ n ∷ [])
@@ -43,10 +27,6 @@ scan_loose z page s n h e scan = record {
       ∙ ap (λ x. sums_with x (terms_after z page)) (ap (sums_of z.limit) (map-append node_shape page (n ∷ []) ∙ ap (λ x. map node_shape page ++ x ∷ []) e) ∙ sums-other z.limit (map node_shape page)));
 }
 
-met_depth : (m : Bool) (s : Scanned) (class : Class) → (met_scan m s class).max_depth ≡ s.max_depth
-met_depth true s class = refl
-met_depth false s class = refl
-
 -- an insertion of a class goes on the page, and the skip of the class joins the sums if it is the first of it
 pub scan_meets : (z : Frozen) (page : List PlainNode) (s : Scanned) (line : ℕ) (i : Inserted) (m : Bool) (class : Class) (size : ℤ) → Differ z.classes → numbered z.classes i.class ≡ true → class_box z.classes i.class ≡ boxed class size → m ≡ is_met (insertions (labelled z page)) i.class → IsScanOfPage s z page
     → IsScanOfPage (met_scan m s class) z (page ++ record { line = line; kind = ins i } ∷ [])
@@ -55,10 +35,6 @@ scan_meets z page s line i m class size differ known own met scan = record {
   sums = skipped z page s line i m class size differ known own met scan
       ∙ sym (ap (λ x. sums_with x (terms_after z (page ++ record { line = line; kind = ins i } ∷ []))) (ap (sums_of z.limit) (map-append node_shape page (record { line = line; kind = ins i } ∷ [])) ∙ sums-other z.limit (map node_shape page)));
 }
-
-pub none_met : (cs : List ClassBox) → met_classes cs [] ≡ []
-none_met [] = refl
-none_met (c ∷ cs) = none_met cs
 
 -- a new scan has the sums of the empty page
 pub scan_new : (z : Frozen) (limit : ℤ) (s : Scanned) → s ≡ empty_scan limit → z.limit ≡ limit → IsScanOfPage s z []

@@ -1,5 +1,5 @@
 -- At the break of a page or of an insertion's list, the rest begins with a node that vanishes at the top of a page.
-use Rattle.std.proofs.Common.{◌≡◌, refl, sym, subst, ◌∙◌, ap, ℕ, ℤ, pos, Bool, true, false, List, [], ◌∷◌, ◌++◌, length, drop, filter, cond, map, None, Some, append_assoc, append-nil, arith}
+use Rattle.std.proofs.Common.{◌≡◌, refl, sym, subst, ◌∙◌, ap, ℕ, ℤ, pos, Bool, true, false, List, [], ◌∷◌, ◌++◌, length, drop, filter, cond, map, None, Some, append_assoc, append-nil, arith, drop_at}
 use Rattle.std.specs.Prelude.{if◌then◌else◌, int_lt, int_le, ◌<ℤ◌, ◌≤ℤ◌, ◌-ℤ◌, ◌+ℤ◌, ◌||◌, ◌&&◌}
 use Rattle.std.specs.List.{AllByRecursion}
 use Rattle.std.proofs.lemmas.Int.{ints}
@@ -22,10 +22,6 @@ use Rattle.tb_builder.specs.FiredPages.{from_break, no_place}
 
 -- ---- lists
 
-drop-front : {X : Type 0} (xs ys : List X) → drop (length xs) (xs ++ ys) ≡ ys
-drop-front [] ys = refl
-drop-front (x ∷ xs) ys = drop-front xs ys
-
 -- the list is empty, or its first node is glue, a kern or a penalty
 abbrev pub BeginsVanishing : List Shape → Type 0
 BeginsVanishing [] = Unit {0}
@@ -46,7 +42,7 @@ module _ (h d : ℤ) (ns : List Shape) where
   SplitsAt b = BeginsVanishing (drop b.place ns)
 
   at_cut : (before rest : List Shape) → before ++ rest ≡ ns → (p : ℤ) → BeginsVanishing rest → SplitsAt (breakpoint_at (length before) (sums_of d before) h p (pos 0))
-  at_cut before rest e p v = subst (λ xs. BeginsVanishing (drop (length before) xs)) e (subst BeginsVanishing (sym (drop-front before rest)) v)
+  at_cut before rest e p v = subst (λ xs. BeginsVanishing (drop (length before) xs)) e (subst BeginsVanishing (sym (drop_at before rest (length before) refl)) v)
 
   cut_where : (t : Bool) (before rest : List Shape) (p : ℤ) (later : List Breakpoint) → before ++ rest ≡ ns → BeginsVanishing rest → AllByRecursion SplitsAt later
       → AllByRecursion SplitsAt (with_place (if t then Some p else None) (λ q. breakpoint_at (length before) (sums_of d before) h q (pos 0)) later)
@@ -155,14 +151,14 @@ longer before after n w e = e ∙ append_assoc before (n ∷ []) after
 -- a place before a node that vanishes
 here : (before after beyond passed : List PlainNode) (n : PlainNode) (b : Breakpoint) → b.place ≡ length before → passed ≡ before ++ n ∷ after → is_discardable (node_shape n) ≡ true → BeginsVanishing (map node_shape (drop b.place passed ++ beyond))
 here before after beyond passed n b p e v =
-    subst (λ ns. BeginsVanishing (map node_shape (ns ++ beyond))) (sym ((λ i. drop (p i) (e i)) ∙ drop-front before (n ∷ after))) v
+    subst (λ ns. BeginsVanishing (map node_shape (ns ++ beyond))) (sym ((λ i. drop (p i) (e i)) ∙ drop_at before (n ∷ after) (length before) refl)) v
 
 module _ (limit : ℤ) (terms : List PlainNode → Terms) where
   at_stop : (before : List PlainNode) (n : PlainNode) (rest : List PlainNode) (b : Breakpoint) → b.place ≡ length before → b.cost ≤ℤ awful_bad → is_discardable (node_shape n) ≡ true → Vanishing before (stopped_at before n rest b)
   at_stop before n rest b p c v = record {
     after = [];
     passed = sym (append-nil before);
-    places = (record { vanishes = subst (λ ns. BeginsVanishing (map node_shape (ns ++ n ∷ rest))) (sym (ap (λ k. drop k before) p ∙ ap (drop (length before)) (sym (append-nil before)) ∙ drop-front before [])) v; cheap = c }, tt);
+    places = (record { vanishes = subst (λ ns. BeginsVanishing (map node_shape (ns ++ n ∷ rest))) (sym (ap (λ k. drop k before) p ∙ ap (drop (length before)) (sym (append-nil before)) ∙ drop_at before [] (length before) refl)) v; cheap = c }, tt);
   }
 
   at_place : (before : List PlainNode) (n : PlainNode) (rest : List PlainNode) (later : Reach) (b : Breakpoint) → b.place ≡ length before → b.cost ≤ℤ awful_bad → is_discardable (node_shape n) ≡ true → Vanishing (before ++ n ∷ []) later → Vanishing before (reach_at_place before n rest later b)

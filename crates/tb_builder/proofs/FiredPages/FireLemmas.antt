@@ -28,6 +28,7 @@ use Rattle.tb_builder.specs.Firing.{SortsTo, Sorted, IsMarkedAt, EachFits, Cuts,
 use Rattle.tb_builder.proofs.Ownership.OwnedLemmas.{AllSame}
 use Rattle.tb_builder.proofs.Ownership.StoreMoves.{list_got, live_got, list_kept, one_got, one_other}
 use Rattle.tb_builder.proofs.Ownership.RelistLemmas.{frame_own, frame_owned, frame_page, frame_waiting, frame_boxes, same_lacking}
+use Rattle.tb_builder.proofs.Ownership.NewLemmas.{fresh_lacks}
 
 -- ---- where the page breaks
 
@@ -97,13 +98,9 @@ some_best b c h e = let f : None ≡ Some (best_of (place_of_break b c h)) = sym
 
 -- ---- a list is opened for the body
 
-pub lacks_dead : (s : Lists Node) (x : ℕ) (ids : List ℕ) → get s.lists x ≡ None → AllLive s ids → Lacks x ids
-lacks_dead s x [] none live = tt
-lacks_dead s x (y ∷ ids) none live = ((λ e. true≢false (sym live.0 ∙ ap (λ q. is_some (get s.lists q)) (sym e) ∙ ap is_some none)), lacks_dead s x ids none live.1)
-
 module _ (b : Builder) (s e : Lists Node) (body : ℕ) (own : IsOwned (ids_of b) s) (fresh : get s.lists body ≡ None) (opened : e.lists ≡ with_list s body []) where
   pub body_lacks : Lacks body (owned (ids_of b) s)
-  body_lacks = lacks_dead s body (owned (ids_of b) s) fresh own.live
+  body_lacks = fresh_lacks s body (owned (ids_of b) s) fresh own.live
 
   same : AllSame s e (owned (ids_of b) s)
   same = same_lacking s e body (owned (ids_of b) s) (λ q ne. one_other s e body q [] ne opened) body_lacks

@@ -5,7 +5,6 @@ use Rattle.std.specs.List.{AllByRecursion}
 use Rattle.std.proofs.lemmas.Int.{ints}
 use Rattle.std.proofs.lemmas.List.{append_assoc}
 use Rattle.std.proofs.Math.Seq.{take-length, drop-length}
-use Rattle.tb_builder.proofs.Amounts.ScanLemmas.{none_met}
 use Rattle.tb_scaled.specs.Scaled.{eject_penalty, inf_penalty, max_ℤ}
 use Rattle.tb_node.specs.declared.What.{What}
 use Rattle.tb_node.specs.PlainNodes.{hbox, rule, skip, kerned, pen, mark, note, whatsit, PlainKind, plain, ins, act, PlainNode, node_shape}
@@ -17,6 +16,7 @@ use Rattle.tb_insert.specs.Account.{ClassBox, class_charge, skip_shapes, Frozen,
 use Rattle.tb_builder.specs.Reach.{Reach, reach_from, breakpoints}
 use Rattle.tb_builder.specs.FiredPages.{Boxed, Fired, page_break, from_break, fired_by, box_after, no_place, penalty_at, with_spent_break, held_insertions}
 use Rattle.tb_builder.proofs.ForLaws.FittingPages.{Slim, AllSlim, slim-both, size-both, best-last, BreaksAt, breaks-at}
+use Rattle.tb_insert.proofs.StandsLemmas.{none_met}
 
 -- a node that vanishes at the top of a page, or stays there and takes no height
 abbrev pub Topmost : PlainKind → Type 0

@@ -16,8 +16,9 @@ use Rattle.tb_builder.specs.Ownership.{ClassesFit}
 use Rattle.tb_builder.specs.Contributions.{voided, with_void}
 use Rattle.tb_builder.specs.Pageable.{IsSizedOnPage, IsFactor, IsSizedClass, IsSizedBox}
 use Rattle.tb_builder.specs.SizedContents.{laid_by, IsSizedContents, whole_count, AreBoxesOf}
-use Rattle.tb_builder.proofs.Ranges.PageableLemmas.{count-append, pruned_sized}
-use Rattle.tb_builder.proofs.Ranges.PrunedLemmas.{no_skip, pruned_nodes_longer, pruned_more, pruned_more-sized, front-sized, back-sized, whole_by, whole_by-is}
+use Rattle.tb_builder.proofs.Ranges.PageableLemmas.{count-append, pruned_sized, pruned_nodes_longer}
+use Rattle.tb_builder.proofs.Ranges.PrunedLemmas.{no_skip, pruned_more, pruned_more-sized, front-sized, back-sized, whole_by, whole_by-is}
+use Rattle.tb_node.proofs.FitLemmas.{dimension_small}
 
 -- ---- a builder is made
 
@@ -36,8 +37,6 @@ void_count (c ∷ cs) = let h : box_count (map void_box cs) ≡ 0 = void_count c
 pub nothing-sized : (cs : List Class) → All IsSizedClass cs → ClassesFit cs → IsSizedContents (nothing_yet cs)
 nothing-sized cs h fit = record { nodes = All-nil IsSizedOnPage; held = All-nil IsSizedOnPage; boxes = void_sized cs; classes = h; classes_fit = fit; frozen = tt }
 
-pub dimension_small : (z : ℤ) → IsDimension z → IsAmount z
-dimension_small z h = record { low = omega (arith, ints); high = omega (arith, ints) }
 
 factor_small : (z : ℤ) → IsFactor z → IsAmount z
 factor_small z h = record { low = omega (arith, ints); high = omega (arith, ints) }

@@ -14,16 +14,9 @@ use Rattle.tb_builder.proofs.Ownership.OwnedLemmas.{AllSame, live-append, live-l
 use Rattle.tb_builder.proofs.Turns.MoveLemmas.{Wrote, wrote_two}
 use Rattle.tb_builder.proofs.Handover.WaitLemmas.{page_free}
 use Rattle.tb_builder.proofs.Handover.JoinLemmas.{apart_cons, apart_none, lacks_swap, differ_swap, Holds, nodes_are, holds_own, sound_from}
+use Rattle.tb_pool.proofs.CallerLemmas.{some_list}
 
 -- ---- three lists
-
--- a live list with these items holds them
-some_list : (s : Lists Node) (l : ℕ) (xs : List Node) → IsLive s l → list_at s l ≡ xs → get s.lists l ≡ Some xs
-some_list s l xs live e = by_option (get s.lists l) live e
-  where
-    by_option : (o : Option (List Node)) → is_some o ≡ true → unwrap_or o [] ≡ xs → o ≡ Some xs
-    by_option None live e = cc
-    by_option (Some ys) live e = ap Some e
 
 -- one list was appended to another, three times
 module _ (s r u t : Lists Node) (a b c : ℕ) (apart : a ≢ b) (first_apart : a ≢ c) (second_apart : b ≢ c)

@@ -13,8 +13,8 @@ use Rattle.tb_builder.specs.Contents.{Contents, contents_of}
 use Rattle.tb_builder.specs.Courses.{AllLasting, IsPageSoFar, freezes, IsSound}
 use Rattle.tb_builder.specs.Contributions.{NodesJoin, MayWait}
 use Rattle.tb_builder.proofs.Ownership.OwnedLemmas.{Apart, AllSame, lacks-append, lacks-left, lacks-right, differ-left, differ-right, differ-apart, differ-append, live-append, live-left, live-right, plain-append, plain-left, plain-right, known-append, same_from, lists_same, live_same, plain_same, void_same, boxes_same, view_same, inner-append, same-left, same-right}
-use Rattle.tb_builder.proofs.Turns.MoveLemmas.{list_same, list_other, get_other, live_same_one, live_other}
 use Rattle.tb_builder.proofs.Handover.WaitLemmas.{page_grows}
+use Rattle.tb_pool.proofs.CallerLemmas.{list_same, list_other, get_other, live_same, live_other}
 
 -- ---- ids in another order
 
@@ -114,7 +114,7 @@ module _ (b : Ids) (s t : Lists Node) (n : Node) (own : IsOwned b s) (j : NodesJ
   beside = b.rest ∷ ((box_ids b.boxes ++ inner_before) ++ inner_new)
 
   same_beside : AllSame s t beside
-  same_beside = same_from s t (b.waiting ∷ []) beside (λ q h. get_other s t b.waiting q (list_at s b.waiting ++ n ∷ []) h.0 e) (apart_cons b.waiting beside [] j.differ.1.0.1 (apart_none beside))
+  same_beside = same_from s t (b.waiting ∷ []) beside (λ q h. get_other s t b.waiting (list_at s b.waiting ++ n ∷ []) q h.0 e) (apart_cons b.waiting beside [] j.differ.1.0.1 (apart_none beside))
 
   pub grown_boxes : AllSame s t (box_ids b.boxes)
   grown_boxes = same-left s t (box_ids b.boxes) inner_before (same-left s t (box_ids b.boxes ++ inner_before) inner_new same_beside.1)
@@ -136,12 +136,12 @@ module _ (b : Ids) (s t : Lists Node) (n : Node) (own : IsOwned b s) (j : NodesJ
 
   pub grown_holds : Holds b s t (list_at s b.held) (list_at s b.page) (list_at s b.waiting ++ n ∷ [])
   grown_holds = record {
-    held_is = list_other s t b.waiting b.held (list_at s b.waiting ++ n ∷ []) held_apart e;
-    page_is = list_other s t b.waiting b.page (list_at s b.waiting ++ n ∷ []) own.differ.0.0 e;
+    held_is = list_other s t b.waiting (list_at s b.waiting ++ n ∷ []) b.held held_apart e;
+    page_is = list_other s t b.waiting (list_at s b.waiting ++ n ∷ []) b.page own.differ.0.0 e;
     waiting_is = list_same s t b.waiting (list_at s b.waiting ++ n ∷ []) e;
-    held_live = live_other s t b.waiting b.held (list_at s b.waiting ++ n ∷ []) held_apart e own.live.1.1.0;
-    page_live = live_other s t b.waiting b.page (list_at s b.waiting ++ n ∷ []) own.differ.0.0 e own.live.0;
-    waiting_live = live_same_one s t b.waiting (list_at s b.waiting ++ n ∷ []) e;
+    held_live = live_other s t b.waiting (list_at s b.waiting ++ n ∷ []) b.held held_apart e own.live.1.1.0;
+    page_live = live_other s t b.waiting (list_at s b.waiting ++ n ∷ []) b.page own.differ.0.0 e own.live.0;
+    waiting_live = live_same s t b.waiting (list_at s b.waiting ++ n ∷ []) e;
     beside = (same_beside.0, grown_boxes);
     inner_live = subst (AllLive t) (sym inner_now) (live-append t inner_before inner_new (live_same s t inner_before same_before (live-right s (box_ids b.boxes) inner_before own.live.1.1.1.1)) (live_same s t inner_new same_new j.live));
     inner_differ = subst AllDiffer (sym owned_now) j.differ;
@@ -162,7 +162,7 @@ module _ (b : Ids) (s t : Lists Node) (n : Node) (own : IsOwned b s) (j : NodesJ
       ∙ (λ i. view_same s t (list_at s b.waiting) (same-right s t (inner_ids (list_at s b.page)) (inner_ids (list_at s b.waiting)) same_two) i ++ view_same s t (n ∷ []) same_new i)
 
   pub grown_others : (q : ℕ) → Lacks q (owned b s) → get t.lists q ≡ get s.lists q
-  grown_others q h = get_other s t b.waiting q (list_at s b.waiting ++ n ∷ []) h.1.0 e
+  grown_others q h = get_other s t b.waiting (list_at s b.waiting ++ n ∷ []) q h.1.0 e
 
   pub grown_keeps : (q : ℕ) → Lacks q (owned b s ++ inner_new) → Lacks q (owned b t)
   grown_keeps q h = subst (λ ns. Lacks q (own_ids b ++ inner_ids ns)) (sym (nodes_are b s t (list_at s b.held) (list_at s b.page) (list_at s b.waiting ++ n ∷ []) own grown_holds)) (subst (Lacks q) (sym owned_now) h)

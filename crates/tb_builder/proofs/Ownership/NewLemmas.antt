@@ -21,7 +21,7 @@ use Rattle.tb_builder.specs.Ownership.{Lacks, AllDiffer, AllLive, inner_ids, ids
 use Rattle.tb_builder.specs.Courses.{IsCourseOf, AllLoose, AllLasting, Unfrozen, IsPageSoFar, IsSound}
 use Rattle.tb_builder.specs.NewLists.{AllEmpty, Opened, AllVoid, VoidBoxes}
 use Rattle.tb_builder.proofs.Ownership.OwnedLemmas.{lacks-append, live-append}
-use Rattle.tb_builder.proofs.Turns.MoveLemmas.{list_same, list_other, get_other, live_same_one, live_other}
+use Rattle.tb_pool.proofs.CallerLemmas.{list_same, list_other, get_other, live_same, live_other}
 
 -- ---- one more list
 
@@ -33,11 +33,11 @@ fresh_lacks t l (x ∷ xs) none live = ((λ e. true≢false (sym (ap (λ q. is_s
 module _ (t u : Lists Node) (l : ℕ) (e : u.lists ≡ with_list t l []) where
   live_more : (ids : List ℕ) → Lacks l ids → AllLive t ids → AllLive u ids
   live_more [] h live = tt
-  live_more (x ∷ xs) h live = (live_other t u l x [] (λ y. h.0 (sym y)) e live.0, live_more xs h.1 live.1)
+  live_more (x ∷ xs) h live = (live_other t u l [] x (λ y. h.0 (sym y)) e live.0, live_more xs h.1 live.1)
 
   empty_more : (ids : List ℕ) → Lacks l ids → AllEmpty t ids → AllEmpty u ids
   empty_more [] h empty = tt
-  empty_more (x ∷ xs) h empty = (list_other t u l x [] (λ y. h.0 (sym y)) e ∙ empty.0, empty_more xs h.1 empty.1)
+  empty_more (x ∷ xs) h empty = (list_other t u l [] x (λ y. h.0 (sym y)) e ∙ empty.0, empty_more xs h.1 empty.1)
 
 empty-append : (t : Lists Node) (xs ys : List ℕ) → AllEmpty t xs → AllEmpty t ys → AllEmpty t (xs ++ ys)
 empty-append t [] ys a b = b
@@ -55,11 +55,11 @@ module _ (s t u : Lists Node) (ids : List ℕ) (l : ℕ) (o : Opened s t ids) (n
   is_other q live x = true≢false (sym live ∙ ap is_some (sym (o.others q live)) ∙ ap (λ k. is_some (get t.lists k)) x ∙ ap is_some none)
 
   others_more : (q : ℕ) → IsLive s q → get u.lists q ≡ get s.lists q
-  others_more q live = get_other t u l q [] (is_other q live) e ∙ o.others q live
+  others_more q live = get_other t u l [] q (is_other q live) e ∙ o.others q live
 
   pub opened_first : Opened s u (l ∷ ids)
   opened_first = record {
-    live = (live_same_one t u l [] e, live_more t u l e ids lacks_new o.live);
+    live = (live_same t u l [] e, live_more t u l e ids lacks_new o.live);
     differ = (lacks_new, o.differ);
     empty = (list_same t u l [] e, empty_more t u l e ids lacks_new o.empty);
     fresh = λ q live. (is_other q live, o.fresh q live);
@@ -68,7 +68,7 @@ module _ (s t u : Lists Node) (ids : List ℕ) (l : ℕ) (o : Opened s t ids) (n
 
   pub opened_last : Opened s u (ids ++ l ∷ [])
   opened_last = record {
-    live = live-append u ids (l ∷ []) (live_more t u l e ids lacks_new o.live) (live_same_one t u l [] e, tt);
+    live = live-append u ids (l ∷ []) (live_more t u l e ids lacks_new o.live) (live_same t u l [] e, tt);
     differ = differ_last ids l o.differ lacks_new;
     empty = empty-append u ids (l ∷ []) (empty_more t u l e ids lacks_new o.empty) (list_same t u l [] e, tt);
     fresh = λ q live. lacks-append q ids (l ∷ []) (o.fresh q live) (is_other q live, tt);

@@ -24,11 +24,12 @@ use Rattle.tb_builder.specs.PageEvents.{AskFits, NextFits, KeepsBoxes, Without, 
 use Rattle.tb_builder.specs.Pageable.{IsSizedOnPage, IsSizedClass, IsSizedBox, IsGoal}
 use Rattle.tb_builder.specs.SizedContents.{IsSizedAsk, IsSizedFreeze, laid_by, whole_list, IsSizedContents, whole_count, AreBoxesOf, fired_count}
 use Rattle.tb_builder.proofs.LegalPlaces.ChargeLemmas.{few_classes}
-use Rattle.tb_builder.proofs.Ranges.PageableLemmas.{count-append, IsSizedClassBox, size_total, IsSizedFrozen, class_boxes_sized, class_boxes_total, boxes_fit, laid_fits, pruned_sized, extent_amount}
+use Rattle.tb_builder.proofs.Ranges.PageableLemmas.{count-append, IsSizedClassBox, size_total, IsSizedFrozen, class_boxes_sized, class_boxes_total, boxes_fit, laid_fits, pruned_sized, pruned_nodes_longer, goal_amount}
 use Rattle.tb_builder.proofs.Cutting.VanishLemmas.{BeginsVanishing, break_vanishes}
-use Rattle.tb_builder.proofs.Ranges.PrunedLemmas.{no_skip, pruned_nodes_longer, pruned_again, pruned_same, nodes_no_longer, front-sized, back-sized, laid_with, whole_by, whole_by-is}
+use Rattle.tb_builder.proofs.Ranges.PrunedLemmas.{no_skip, pruned_again, pruned_same, nodes_no_longer, front-sized, back-sized, laid_with, whole_by, whole_by-is}
 use Rattle.tb_builder.proofs.Ranges.SizedLemmas.{FiredSized, fired_sized}
 use Rattle.tb_builder.proofs.FiredPages.FiredCounts.{fired_fewer}
+use Rattle.tb_node.proofs.FitLemmas.{extent_small}
 
 -- ---- what `next` requires
 
@@ -47,11 +48,8 @@ laid_again false false top page waiting d h =
     let l = pruned_same (pos 0) top waiting in
     (All-append IsSizedOnPage page (pruned_nodes top waiting) (front-sized page (pruned_nodes (pos 0) waiting) h) (pruned_again (pos 0) top d waiting (back-sized page (pruned_nodes (pos 0) waiting) h)), omega (arith, c, e, l))
 
-goal_small : (z : ℤ) → IsGoal z → IsAmount z
-goal_small z h = record { low = omega (arith, ints); high = omega (arith, ints) }
-
 asked_fits : (ask : Ask) → IsSizedAsk ask → AskFits ask
-asked_fits ask h = record { goal = goal_small ask.goal h.goal; depth = extent_amount ask.max_depth h.depth; depth_low = h.depth.low; top_skip = extent_amount ask.top_skip h.top_skip }
+asked_fits ask h = record { goal = goal_amount ask.goal h.goal; depth = extent_small ask.max_depth h.depth; depth_low = h.depth.low; top_skip = extent_small ask.top_skip h.top_skip }
 
 limits_by : (o : Option (ℤ × ℤ)) (ask : Ask) (cs : List Class) (bs : List Boxed) → IsSizedAsk ask → IsSizedFreeze o → IsGoal (frozen_or o ask cs bs).goal × IsExtent (frozen_or o ask cs bs).limit
 limits_by None ask cs bs a h = (a.goal, a.depth)

@@ -13,7 +13,7 @@ use Rattle.tb_node.specs.SmallAmounts.{IsAmount}
 use Rattle.tb_node.specs.Shape.{Shape, box, glue, kern, penalty, other}
 use Rattle.tb_node.specs.PlainNodes.{Leaf, leaf_shape, Inserted, PlainKind, plain, ins, act, PlainNode, node_shape, skip}
 use Rattle.tb_node.specs.Sums.{sums_of, size_of, limited_depth, list_stretch, list_shrink}
-use Rattle.tb_node.proofs.FitLemmas.{IsWithin, sized-fits, nodes_fit, size_within, list_stretch_within, list_shrink_within, summed-fits, sums_fit}
+use Rattle.tb_node.proofs.FitLemmas.{IsWithin, sized-fits, nodes_fit, size_within, list_stretch_within, list_shrink_within, summed-fits, sums_fit, extent_small}
 use Rattle.tb_break.specs.Places.{ends_lasting, begins_with_glue, split_penalty}
 use Rattle.tb_break.specs.Split.{split_of}
 use Rattle.tb_break.specs.PageTop.{pruned_nodes, pruned_at, top_glue}
@@ -56,16 +56,14 @@ length_counted (n ∷ ns) = let one = one_at_least n.kind in let rest = length_c
 
 -- ---- amounts
 
-pub extent_amount : (z : ℤ) → IsExtent z → IsAmount z
-extent_amount z h = record { low = omega (arith, ints); high = omega (arith, ints) }
 
 pub extent_goal : (z : ℤ) → IsExtent z → IsGoal z
 extent_goal z h = record { low = let a = h.low in grind (arith, ints, a); high = let a = h.high in grind (arith, ints, a) }
 
-goal_amount : (z : ℤ) → IsGoal z → IsAmount z
+pub goal_amount : (z : ℤ) → IsGoal z → IsAmount z
 goal_amount z h = record { low = omega (arith, ints); high = omega (arith, ints) }
 
-size_amount : (k : ℕ) (z : ℤ) → k ≤ 8388608 → IsWithin (2147483646 * k) z → IsAmount z
+pub size_amount : (k : ℕ) (z : ℤ) → k ≤ 8388608 → IsWithin (2147483646 * k) z → IsAmount z
 size_amount k z few h = record { low = omega (arith, ints); high = omega (arith, ints) }
 
 pub wider : (a b : ℕ) (z : ℤ) → a ≤ b → IsWithin a z → IsWithin b z
@@ -89,9 +87,9 @@ inserted_fits i s few =
       nodes = nodes_fit (map leaf_shape i.inner) sized;
       sums = sums_fit i.split_depth (map leaf_shape i.inner) s.split_depth.low (record { sized = sized; few = short });
       sizes = sizes_fit (map leaf_shape i.inner) sized short;
-      depth = extent_amount i.split_depth s.split_depth;
+      depth = extent_small i.split_depth s.split_depth;
       depth_low = s.split_depth.low;
-      top = extent_amount i.split_top s.split_top;
+      top = extent_small i.split_top s.split_top;
     }
 
 kind_fits : (k : PlainKind) → IsSizedKind k → kind_count k ≤ 8388608 → KindFits k
@@ -401,9 +399,9 @@ at_count t (kern w) n ns pruned le = omega arith
 at_count t (penalty p) n ns pruned le = omega arith
 at_count t other n ns pruned le = omega arith
 
-pruned_count : (t : ℤ) (ns : List PlainNode) → node_count (pruned_nodes t ns) ≤ node_count ns + 1
-pruned_count t [] = omega arith
-pruned_count t (n ∷ ns) = at_count t (node_shape n) n ns (pruned_nodes t ns) (pruned_count t ns)
+pub pruned_nodes_longer : (t : ℤ) (ns : List PlainNode) → node_count (pruned_nodes t ns) ≤ node_count ns + 1
+pruned_nodes_longer t [] = omega arith
+pruned_nodes_longer t (n ∷ ns) = at_count t (node_shape n) n ns (pruned_nodes t ns) (pruned_nodes_longer t ns)
 
 -- ---- the class boxes
 
@@ -457,7 +455,7 @@ class_boxes_total cs bs c b few = let a = boxes_total cs bs b in let once = boxe
 
 pub contents_fit : (c : Contents) (ask : Ask) → IsPageable c ask → NextFits c ask
 contents_fit c ask p = record {
-  asked = record { goal = goal_amount ask.goal p.asked_goal; depth = extent_amount ask.max_depth p.asked_depth; depth_low = p.asked_depth.low; top_skip = extent_amount ask.top_skip p.top_skip };
+  asked = record { goal = goal_amount ask.goal p.asked_goal; depth = extent_small ask.max_depth p.asked_depth; depth_low = p.asked_depth.low; top_skip = extent_small ask.top_skip p.top_skip };
   boxes = boxes_fit c.boxes p.boxes (let a = p.few in omega arith);
   laid_fits = laid_fits (frozen_of c ask) (laid c ask) frozen (All-append IsSizedOnPage c.page (ahead_of c ask) p.page ahead) (let a = p.few in let b = ahead_count in omega (arith, count-append c.page (ahead_of c ask)));
 }
@@ -474,7 +472,7 @@ contents_fit c ask p = record {
       where
         by_box : (b : Bool) → node_count (if b then c.waiting else pruned_nodes ask.top_skip c.waiting) ≤ node_count c.waiting + 1
         by_box true = omega arith
-        by_box false = pruned_count ask.top_skip c.waiting
+        by_box false = pruned_nodes_longer ask.top_skip c.waiting
 
     classes : (frozen_of c ask).classes ≡ class_boxes c.classes c.boxes
     classes = by_frozen c.frozen

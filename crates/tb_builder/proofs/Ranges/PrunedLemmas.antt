@@ -11,7 +11,7 @@ use Rattle.tb_builder.specs.Reach.{holds_box}
 use Rattle.tb_builder.specs.Contents.{kind_count, node_count}
 use Rattle.tb_builder.specs.Pageable.{IsSizedOnPage}
 use Rattle.tb_builder.specs.SizedContents.{laid_by}
-use Rattle.tb_builder.proofs.Ranges.PageableLemmas.{count-append, glue_sized, pruned_sized}
+use Rattle.tb_builder.proofs.Ranges.PageableLemmas.{count-append, glue_sized, pruned_sized, pruned_nodes_longer}
 use Rattle.tb_builder.proofs.Cutting.VanishLemmas.{BeginsVanishing}
 
 pub no_skip : IsExtent (pos 0)
@@ -47,22 +47,6 @@ vanished t n whatsit ls v = let no : ⊥ = grind (arith, v) in absurd no
 pub pruned_no_longer : (t : ℤ) (ls : List Leaf) → BeginsVanishing (map leaf_shape ls) → length (pruned_leaves t ls) ≤ length ls
 pruned_no_longer t [] v = omega arith
 pruned_no_longer t (l ∷ ls) v = vanished t l.line l.matter ls v
-
-node_longer : (t : ℤ) (n : ℕ) (k : PlainKind) (ns : List PlainNode) → node_count (pruned_nodes t ns) ≤ node_count ns + 1 → node_count (pruned_nodes t (record { line = n; kind = k } ∷ ns)) ≤ (kind_count k + node_count ns) + 1
-node_longer t n (plain (hbox w a b)) ns h = omega arith
-node_longer t n (plain (rule w a b)) ns h = omega arith
-node_longer t n (plain (skip g)) ns h = omega (arith, h)
-node_longer t n (plain (kerned w)) ns h = omega (arith, h)
-node_longer t n (plain (pen p)) ns h = omega (arith, h)
-node_longer t n (plain (mark w)) ns h = omega (arith, h)
-node_longer t n (plain (note w)) ns h = omega (arith, h)
-node_longer t n (plain whatsit) ns h = omega (arith, h)
-node_longer t n (ins i) ns h = omega (arith, h)
-node_longer t n (act a) ns h = omega (arith, h)
-
-pub pruned_nodes_longer : (t : ℤ) (ns : List PlainNode) → node_count (pruned_nodes t ns) ≤ node_count ns + 1
-pruned_nodes_longer t [] = omega arith
-pruned_nodes_longer t (n ∷ ns) = node_longer t n.line n.kind ns (pruned_nodes_longer t ns)
 
 -- ---- sized nodes
 

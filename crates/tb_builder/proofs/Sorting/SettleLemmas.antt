@@ -24,10 +24,7 @@ use Rattle.tb_builder.proofs.Ownership.RelistLemmas.{relisted_own, relisted_othe
 use Rattle.tb_builder.proofs.Turns.FreezeLemmas.{plain_insertion}
 use Rattle.tb_builder.proofs.Sorting.OpenLemmas.{opened-classes}
 use Rattle.tb_builder.proofs.Sorting.GiveLemmas.{given_own, given_others, given_keeps, given_boxes, given_held, given_behind, given_waiting, given_page, given_left, gone_own, gone_others, gone_keeps, gone_boxes, gone_held, gone_rest, gone_waiting, relisted_hold}
-
--- two tails of a list that begins with this node
-same_tail : (xs ys zs : List Node) (n : Node) → xs ≡ n ∷ ys → xs ≡ n ∷ zs → ys ≡ zs
-same_tail xs ys zs n e f = let g : (n ∷ ys) ≡ (n ∷ zs) = sym e ∙ f in cc
+use Rattle.tb_builder.proofs.Turns.FillLemmas.{behind_is}
 
 module _ (b d : Builder) (s t : Lists Node) (n : Node) (ns : List Node) (i : Insertion) (own : IsOwned (ids_of b) s) (first : list_at s b.page ≡ n ∷ ns) (is : insertion_of_kind n.kind ≡ Some i) where
   -- nodes went to the box
@@ -42,7 +39,7 @@ module _ (b d : Builder) (s t : Lists Node) (n : Node) (ns : List Node) (i : Ins
       waiting = ap (λ (j : Ids). plain_list t j.waiting) ids ∙ given_waiting (ids_of b) s n ns i own first is t gave kept e p q;
     };
     page = given_page (ids_of b) s n ns i own first is t gave kept e p q;
-    behind = λ ms f. subst (λ xs. map (plain_of (list_at t)) xs ≡ map (plain_of (list_at s)) xs) (same_tail (list_at s b.page) ns ms n first f) (given_behind (ids_of b) s n ns i own first is t gave kept e p q);
+    behind = λ ms f. subst (λ xs. map (plain_of (list_at t)) xs ≡ map (plain_of (list_at s)) xs) (behind_is (list_at s b.page) ns ms n first f) (given_behind (ids_of b) s n ns i own first is t gave kept e p q);
     held = ap (λ (j : Ids). plain_list t j.held) ids ∙ given_held (ids_of b) s n ns i own first is t gave kept e p q;
     boxes = ap (λ (j : Ids). map (boxed_of t) j.boxes) ids ∙ given_boxes (ids_of b) s n ns i own first is t gave kept e p q;
     left = given_left (ids_of b) s n ns i own first is t gave kept e p q;
@@ -63,7 +60,7 @@ module _ (b : Builder) (s t : Lists Node) (n : Node) (ns : List Node) (i : Inser
         classes = refl;
         waiting = gone_waiting (ids_of b) s n ns i own first is t e;
       };
-      page = λ ms f. gone_rest (ids_of b) s n ns i own first is t e ∙ ap (map (plain_of (list_at s))) (same_tail (list_at s b.page) ns ms n first f);
+      page = λ ms f. gone_rest (ids_of b) s n ns i own first is t e ∙ ap (map (plain_of (list_at s))) (behind_is (list_at s b.page) ns ms n first f);
       held = gone_held (ids_of b) s n ns i own first is t e ∙ sym (append-nil (plain_list s b.held));
     };
     boxes = gone_boxes (ids_of b) s n ns i own first is t e;
@@ -82,7 +79,7 @@ module _ (b : Builder) (s t : Lists Node) (n : Node) (ns : List Node) (i : Inser
             classes = refl;
             waiting = relisted_waiting (ids_of b) s t (list_at s b.held ++ m ∷ []) ns (list_at s b.waiting) own w;
           };
-          page = λ ms f. relisted_page (ids_of b) s t (list_at s b.held ++ m ∷ []) ns (list_at s b.waiting) own w ∙ ap (map (plain_of (list_at s))) (same_tail (list_at s b.page) ns ms n first f);
+          page = λ ms f. relisted_page (ids_of b) s t (list_at s b.held ++ m ∷ []) ns (list_at s b.waiting) own w ∙ ap (map (plain_of (list_at s))) (behind_is (list_at s b.page) ns ms n first f);
           held = relisted_held (ids_of b) s t (list_at s b.held ++ m ∷ []) ns (list_at s b.waiting) own w ∙ map-append (plain_of (list_at s)) (list_at s b.held) (m ∷ []);
         };
         boxes = relisted_boxes (ids_of b) s t (list_at s b.held ++ m ∷ []) ns (list_at s b.waiting) own w;

@@ -5,7 +5,7 @@ use Rattle.std.proofs.lemmas.Bool.{eq-eqb}
 use Rattle.std.proofs.lemmas.Bool.Decides.{nat_tests}
 use Rattle.std.proofs.lemmas.Grind.{common_steps}
 use Rattle.tb_builder.proofs.LegalPlaces.WithoutLemmas.{from_append}
-use Rattle.tb_insert.proofs.ArriveLemmas.{last-append, cut-append}
+use Rattle.tb_insert.proofs.ArriveLemmas.{last-append, cut-append, or_else-none, or_else-assoc}
 use Rattle.tb_break.specs.declared.Found.{Found}
 use Rattle.tb_node.specs.declared.Sums.{Sums}
 use Rattle.tb_node.specs.PlainNodes.{Leaf, leaf_shape, Inserted, PlainKind, plain, ins, act, PlainNode, node_shape, on_line}
@@ -19,16 +19,6 @@ use Rattle.tb_insert.proofs.AccountLemmas.{split-append}
 use Rattle.tb_builder.specs.declared.Share.TheVariants.{All, Front, Nothing}
 use Rattle.tb_builder.specs.FiredPages.{Boxed, content_of, given_by, given_to, gives, is_given, box_after, held_of, held_insertions, unless_empty}
 use Rattle.tb_builder.specs.Firing.{share_of, share_up_to, share_told, share_given, share_gives, share_held, box_shared}
-
--- ---- one more label
-
-or_else-none : {X : Type 0} (o : Option X) → or_else o None ≡ o
-or_else-none None = refl
-or_else-none (Some x) = refl
-
-or_else-assoc : {X : Type 0} (a b c : Option X) → or_else a (or_else b c) ≡ or_else (or_else a b) c
-or_else-assoc None b c = refl
-or_else-assoc (Some x) b c = refl
 
 -- ---- the places of the insertions
 

@@ -1,9 +1,13 @@
 -- What the builder holds, after its lists were written.
-use Rattle.std.proofs.Common.{◌≡◌, sym, subst, ◌∙◌, ap, true, List, [], ◌∷◌, ◌++◌, ◌||◌, map, Some}
+use Rattle.std.proofs.Common.{◌≡◌, sym, subst, ◌∙◌, ap, true, List, [], ◌∷◌, ◌++◌, ◌||◌, map, Some, None}
 use Rattle.std.specs.Prelude.{slice_get}
 use Rattle.std.proofs.lemmas.List.{map-append}
 use Rattle.std.specs.FinMap.{insert}
 use Rattle.tb_pool.specs.Lists.{Lists, list_at, with_list}
+use Rattle.tb_node.specs.Roles.{insertion_of_role}
+use Rattle.tb_node.specs.declared.Role.TheVariants as roles
+use Rattle.tb_node.specs.declared.Role.{Role}
+use Rattle.tb_node.specs.declared.Insertion.{Insertion}
 use Rattle.tb_node.specs.declared.Node.{Node}
 use Rattle.tb_node.specs.PlainNodes.{plain_of, plain_list}
 use Rattle.tb_break.proofs.StoreLemmas.{some_first}
@@ -51,6 +55,12 @@ shifted_from b d s t n ns same own first w frozen stopped = record {
   frozen = frozen;
   stopped = stopped;
 }
+
+-- a role that is not that of an insertion has none
+pub no_insertion_role : (r : Role) → ((i : Insertion) → r ≡ roles.Insertion i → ⊥) → insertion_of_role r ≡ None
+no_insertion_role roles.Matter h = refl
+no_insertion_role (roles.Insertion i) h = absurd (h i refl)
+no_insertion_role (roles.Act a) h = refl
 
 -- the tail of a list that begins with this node
 pub behind_is : (xs ys zs : List Node) (n : Node) → xs ≡ n ∷ ys → xs ≡ n ∷ zs → ys ≡ zs

@@ -4,6 +4,7 @@ use Rattle.std.specs.Prelude.{option_to_list}
 use Rattle.std.specs.FinMap.{get, insert}
 use Rattle.tb_pool.specs.Lists.{Lists, IsLive, list_at, with_list}
 use Rattle.tb_pool.proofs.MapLemmas.{get-insert_same, get-insert_other}
+use Rattle.tb_pool.proofs.CallerLemmas.{list_same, list_other, get_other, live_same as live_same_in, live_other}
 use Rattle.tb_node.specs.declared.Node.{Node}
 use Rattle.tb_node.specs.PlainNodes.{plain_of, plain_list}
 use Rattle.tb_builder.specs.Ownership.{Lacks, AllDiffer, AllLive, inner_of, inner_ids, Ids, nodes_of, box_ids, own_ids, owned, HoldPlain, is_known, AllKnown, classes_of, IsOwned}
@@ -11,21 +12,6 @@ use Rattle.tb_builder.specs.Contents.{boxed_of}
 use Rattle.tb_builder.proofs.Ownership.OwnedLemmas.{Apart, AllSame, same_from, lists_same, live_same, plain_same, void_same, boxes_same, view_same, inner-append, same-left, same-right, known-append, known-left, known-right}
 
 module _ {T : Type 0} where
-  pub list_same : (s t : Lists T) (l : ℕ) (xs : List T) → t.lists ≡ with_list s l xs → list_at t l ≡ xs
-  list_same s t l xs e = ap (λ m. unwrap_or (get m l) []) e ∙ ap (λ o. unwrap_or o []) (get-insert_same s.lists l xs)
-
-  pub list_other : (s t : Lists T) (l q : ℕ) (xs : List T) → q ≢ l → t.lists ≡ with_list s l xs → list_at t q ≡ list_at s q
-  list_other s t l q xs ne e = ap (λ m. unwrap_or (get m q) []) e ∙ ap (λ o. unwrap_or o []) (get-insert_other s.lists l xs q ne)
-
-  pub get_other : (s t : Lists T) (l q : ℕ) (xs : List T) → q ≢ l → t.lists ≡ with_list s l xs → get t.lists q ≡ get s.lists q
-  get_other s t l q xs ne e = ap (λ m. get m q) e ∙ get-insert_other s.lists l xs q ne
-
-  pub live_same_one : (s t : Lists T) (l : ℕ) (xs : List T) → t.lists ≡ with_list s l xs → IsLive t l
-  live_same_one s t l xs e = ap is_some (ap (λ m. get m l) e ∙ get-insert_same s.lists l xs)
-
-  pub live_other : (s t : Lists T) (l q : ℕ) (xs : List T) → q ≢ l → t.lists ≡ with_list s l xs → IsLive s q → IsLive t q
-  live_other s t l q xs ne e live = ap is_some (get_other s t l q xs ne e) ∙ live
-
   -- two lists were written
   pub record Wrote (s t : Lists T) (a b : ℕ) (xs ys : List T) : Type 0 where
     pub first : list_at t a ≡ xs
@@ -148,11 +134,11 @@ module _ (b : Ids) (s t : Lists Node) (n : Node) (ns : List Node) (own : IsOwned
   -- the first waiting node, which is no insertion, vanishes
   pub written_drop : inner_of n.kind ≡ None → t.lists ≡ with_list s b.waiting ns → Written b s t (list_at s b.page) ns
   written_drop none e = record {
-    page_is = list_other s t b.waiting b.page ns (λ x. apart (sym x)) e;
+    page_is = list_other s t b.waiting ns b.page (λ x. apart (sym x)) e;
     waiting_is = list_same s t b.waiting ns e;
-    page_live = live_other s t b.waiting b.page ns (λ x. apart (sym x)) e own.live.0;
-    waiting_live = live_same_one s t b.waiting ns e;
-    others = λ q p a. get_other s t b.waiting q ns a e;
+    page_live = live_other s t b.waiting ns b.page (λ x. apart (sym x)) e own.live.0;
+    waiting_live = live_same_in s t b.waiting ns e;
+    others = λ q p a. get_other s t b.waiting ns q a e;
     inner_is = inner-append (list_at s b.page) ns ∙ ap (λ o. inner_ids (list_at s b.page) ++ (option_to_list o ++ inner_ids ns)) (sym none) ∙ sym (inner-append (list_at s b.page) (n ∷ ns)) ∙ ap (λ xs. inner_ids (list_at s b.page ++ xs)) (sym first);
     known_is = known-append (classes_of b) (list_at s b.page) ns (known-left (classes_of b) (list_at s b.page) (n ∷ ns) known_first) (known-right (classes_of b) (list_at s b.page) (n ∷ ns) known_first).1;
   }
@@ -160,11 +146,11 @@ module _ (b : Ids) (s t : Lists Node) (n : Node) (ns : List Node) (own : IsOwned
   -- a node that is no insertion comes before the first waiting node
   pub written_front : (m : Node) → inner_of m.kind ≡ None → is_known (classes_of b) m.kind ≡ true → t.lists ≡ with_list s b.waiting (m ∷ n ∷ ns) → Written b s t (list_at s b.page) (m ∷ n ∷ ns)
   written_front m none known e = record {
-    page_is = list_other s t b.waiting b.page (m ∷ n ∷ ns) (λ x. apart (sym x)) e;
+    page_is = list_other s t b.waiting (m ∷ n ∷ ns) b.page (λ x. apart (sym x)) e;
     waiting_is = list_same s t b.waiting (m ∷ n ∷ ns) e;
-    page_live = live_other s t b.waiting b.page (m ∷ n ∷ ns) (λ x. apart (sym x)) e own.live.0;
-    waiting_live = live_same_one s t b.waiting (m ∷ n ∷ ns) e;
-    others = λ q p a. get_other s t b.waiting q (m ∷ n ∷ ns) a e;
+    page_live = live_other s t b.waiting (m ∷ n ∷ ns) b.page (λ x. apart (sym x)) e own.live.0;
+    waiting_live = live_same_in s t b.waiting (m ∷ n ∷ ns) e;
+    others = λ q p a. get_other s t b.waiting (m ∷ n ∷ ns) q a e;
     inner_is = inner-append (list_at s b.page) (m ∷ n ∷ ns) ∙ ap (λ o. inner_ids (list_at s b.page) ++ (option_to_list o ++ inner_ids (n ∷ ns))) none ∙ sym (inner-append (list_at s b.page) (n ∷ ns)) ∙ ap (λ xs. inner_ids (list_at s b.page ++ xs)) (sym first);
     known_is = known-append (classes_of b) (list_at s b.page) (m ∷ n ∷ ns) (known-left (classes_of b) (list_at s b.page) (n ∷ ns) known_first) (known, known-right (classes_of b) (list_at s b.page) (n ∷ ns) known_first);
   }

@@ -19,16 +19,13 @@ use Rattle.tb_builder.specs.LegalPlaces.{NoActs}
 use Rattle.tb_builder.specs.Contents.{Contents}
 use Rattle.tb_builder.specs.PageTurns.{StepIs}
 use Rattle.tb_builder.specs.PassedNodes.{ComesPast, TriesPast, EventPast, TurnPast}
+use Rattle.std.proofs.Math.Bool.{or_assoc}
 
 -- ---- what is laid out
 
 pub holds-both : (xs ys : List PlainNode) → holds_box (xs ++ ys) ≡ (holds_box xs || holds_box ys)
 holds-both [] ys = refl
-holds-both (x ∷ xs) ys = ap (λ b. is_box (node_shape x) || b) (holds-both xs ys) ∙ assoc (is_box (node_shape x)) (holds_box xs) (holds_box ys)
-  where
-    assoc : (a b c : Bool) → (a || (b || c)) ≡ ((a || b) || c)
-    assoc true b c = refl
-    assoc false b c = refl
+holds-both (x ∷ xs) ys = ap (λ b. is_box (node_shape x) || b) (holds-both xs ys) ∙ sym (or_assoc (is_box (node_shape x)) (holds_box xs) (holds_box ys))
 
 -- the rest is pruned with the nodes, unless a box is among them
 pruned-kind : (t : ℤ) (xs ys : List PlainNode) → pruned_nodes t (xs ++ ys) ≡ pruned_nodes t xs ++ (if holds_box xs then ys else pruned_nodes t ys) → (l : ℕ) (k : PlainKind)

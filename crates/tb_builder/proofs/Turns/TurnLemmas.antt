@@ -2,7 +2,7 @@
 use Rattle.std.proofs.Common.{◌≡◌, ◌⊎◌, inl, inr, refl, sym, ◌∙◌, ap, ℕ, ℤ, Bool, true, false, List, [], ◌∷◌, ◌++◌, Option, None, Some, append_assoc, append-nil}
 use Rattle.std.specs.Prelude.{◌||◌, if◌then◌else◌}
 use Rattle.std.proofs.lemmas.Bool.{true≢false}
-use Rattle.std.proofs.Math.Bool.{or-false, or-true}
+use Rattle.std.proofs.Math.Bool.{or-false, or-true, or_assoc}
 use Rattle.tb_node.specs.declared.Act.{Act}
 use Rattle.tb_node.specs.Shape.{other, is_box, is_discardable}
 use Rattle.tb_node.specs.PlainNodes.{hbox, rule, skip, kerned, pen, mark, note, whatsit, PlainKind, plain, ins, act, PlainNode, node_shape, is_act_kind}
@@ -30,11 +30,7 @@ use Rattle.tb_builder.proofs.LegalPlaces.PageLemmas.{places_pass, reach_pass, re
 
 pub holds-append : (page : List PlainNode) (n : PlainNode) → holds_box (page ++ n ∷ []) ≡ (holds_box page || is_box (node_shape n))
 holds-append [] n = or-false (is_box (node_shape n))
-holds-append (m ∷ ms) n = ap (λ b. is_box (node_shape m) || b) (holds-append ms n) ∙ shift (is_box (node_shape m)) (holds_box ms) (is_box (node_shape n))
-  where
-    shift : (a b c : Bool) → (a || (b || c)) ≡ ((a || b) || c)
-    shift true b c = refl
-    shift false b c = refl
+holds-append (m ∷ ms) n = ap (λ b. is_box (node_shape m) || b) (holds-append ms n) ∙ sym (or_assoc (is_box (node_shape m)) (holds_box ms) (is_box (node_shape n)))
 
 -- a node that is no box leaves a page with or without a box; a box makes it a page with a box
 pub holds_same : (page : List PlainNode) (n : PlainNode) → is_box (node_shape n) ≡ false → holds_box (page ++ n ∷ []) ≡ holds_box page

@@ -19,9 +19,9 @@ use Rattle.tb_builder.specs.PageEvents.{NextFits}
 use Rattle.tb_builder.specs.Ownership.{ClassesFit}
 use Rattle.tb_builder.specs.Pageable.{IsSizedOnPage, IsSizedClass, IsSizedBox}
 use Rattle.tb_builder.specs.LegalPlaces.{NoActs}
-use Rattle.tb_builder.proofs.Ranges.PageableLemmas.{count-append, IsSizedFrozen, boxes_fit, class_boxes_sized, class_boxes_total, laid_fits, pruned_sized, extent_amount, extent_goal}
+use Rattle.tb_builder.proofs.Ranges.PageableLemmas.{count-append, IsSizedFrozen, boxes_fit, class_boxes_sized, class_boxes_total, laid_fits, pruned_sized, extent_goal, pruned_nodes_longer}
 use Rattle.tb_builder.proofs.Handover.CallLemmas.{class-fits}
-use Rattle.tb_builder.proofs.Ranges.PrunedLemmas.{pruned_nodes_longer, front-sized, back-sized}
+use Rattle.tb_builder.proofs.Ranges.PrunedLemmas.{front-sized, back-sized}
 use Rattle.tb_builder.specs.declared.PageSums.{PageSums}
 use Rattle.tb_plain.specs.TakenFloats.{top_class, with_float, taken_nodes, act_nodes, here_nodes, top_leaves, page_leaves, top_insertion}
 use Rattle.tb_plain.specs.Run.{MakeupState, builder_holds, makeup_ask, makeup_classes, void_boxes, act_count}
@@ -31,6 +31,7 @@ use Rattle.tb_makeup.specs.LedActs.{ActsAreLed}
 use Rattle.tb_makeup.specs.Makeup.{AreRunNodes, node_total}
 use Rattle.tb_builder.specs.PageProgress.{KeepsStart}
 use Rattle.tb_makeup.proofs.Filled.LedLemmas.{led-both, led-none, led-takes}
+use Rattle.tb_node.proofs.FitLemmas.{extent_small}
 
 -- ---- what is laid out
 
@@ -106,7 +107,7 @@ module _ (p : Params) (h : AreMakeupParams p) where
 
   pub run-fits : (s : MakeupState) (c : Contents) → AreRunNodes s → KeepsStart (builder_holds p s) c (makeup_ask p) → laid c (makeup_ask p) ≡ laid_out p.topskip s.page s.waiting → NextFits c (makeup_ask p)
   run-fits s c nodes holds all = record {
-    asked = record { goal = extent_amount p.textheight h.textheight; depth = extent_amount p.maxdepth h.maxdepth; depth_low = h.maxdepth.low; top_skip = extent_amount p.topskip h.topskip };
+    asked = record { goal = extent_small p.textheight h.textheight; depth = extent_small p.maxdepth h.maxdepth; depth_low = h.maxdepth.low; top_skip = extent_small p.topskip h.topskip };
     boxes = boxes_fit c.boxes (subst (All IsSizedBox) (sym holds.boxes) boxes-sized) (let e = ap box_count holds.boxes in omega (arith, e));
     laid_fits =
         laid_fits (frozen_of c (makeup_ask p)) (laid c (makeup_ask p)) (subst IsSizedFrozen (sym holds.frozen) frozen-sized)

@@ -4,7 +4,6 @@ use Rattle.std.specs.Prelude.{All, neg_ℤ}
 use Rattle.std.proofs.lemmas.Int.{ints}
 use Rattle.std.proofs.lemmas.List.{length-map}
 use Rattle.tb_insert.proofs.AccountLemmas.{leaf_shapes}
-use Rattle.tb_builder.proofs.Handover.CallLemmas.{dimension_small}
 use Rattle.tb_scaled.specs.Amount.{IsAmount}
 use Rattle.tb_pool.specs.Lists.{Lists, list_at}
 use Rattle.tb_node.specs.declared.Kind.{Kind}
@@ -18,6 +17,7 @@ use Rattle.tb_float.specs.Ranges.{IsWithin}
 use Rattle.tb_column.specs.declared.NoteBox.{NoteBox}
 use Rattle.tb_column.specs.Notes.{IsNote, notes_shown, note_count}
 use Rattle.tb_output.specs.Text.{notes_height}
+use Rattle.tb_node.proofs.FitLemmas.{dimension_small}
 
 -- ---- one list
 

@@ -14,8 +14,7 @@ use Rattle.tb_builder.specs.FiredPages.{fired_of}
 use Rattle.tb_builder.specs.Contents.{Contents, laid, reach_ahead, node_count}
 use Rattle.tb_builder.specs.PageProgress.{page_reach, page_fired, HasCome, StopsAt, ComesToTry, ComesToAct, ComesToEnd}
 use Rattle.tb_builder.proofs.Events.PagingLemmas.{paging_begins}
-use Rattle.tb_builder.proofs.Ranges.PageableLemmas.{pruned_sized}
-use Rattle.tb_builder.proofs.Ranges.PrunedLemmas.{pruned_nodes_longer}
+use Rattle.tb_builder.proofs.Ranges.PageableLemmas.{pruned_sized, pruned_nodes_longer}
 use Rattle.tb_column.specs.Column.{warned}
 use Rattle.tb_column.specs.declared.Warn.{Warn}
 use Rattle.tb_output.specs.State.{State, ask_of, Recorded, emptied}

@@ -5,7 +5,6 @@ use Rattle.std.specs.Prelude.{IsTrue}
 use Rattle.std.specs.List.{list_all, AllByRecursion}
 use Rattle.std.proofs.lemmas.Int.{ints}
 use Rattle.std.proofs.lemmas.List.Elements.{All-from_recursion}
-use Rattle.tb_builder.proofs.Handover.CallLemmas.{dimension_small}
 use Rattle.tb_scaled.specs.declared.Glue.{Glue}
 use Rattle.tb_param.specs.declared.Params.{Params}
 use Rattle.tb_param.specs.Table.{is_within, is_dimen, is_glue}
@@ -21,6 +20,7 @@ use Rattle.tb_run.specs.Run.{classes_of}
 use Rattle.tb_run.specs.ServedStates.{AreRunnable, AreRunClasses}
 use Rattle.tb_run.proofs.FromGalley.ItemAmounts.{dimen-dimension}
 use Rattle.tb_run.proofs.FromGalley.GalleyClasses.{AreAbove, rising-above, rising-rest, class-small, with_foot, classes-fit}
+use Rattle.tb_node.proofs.FitLemmas.{dimension_small}
 
 -- ---- a class
 

@@ -1,8 +1,5 @@
 use Rattle.std.proofs.lemmas.Bool.{true≢false}
 use Rattle.tb_node.specs.declared.Insertion.{Insertion}
-use Rattle.tb_node.specs.declared.Role.{Role}
-use Rattle.tb_node.specs.declared.Role.TheVariants as roles
-use Rattle.tb_node.specs.Roles.{insertion_of_role}
 use Rattle.std.proofs.Common.{is_some, None, ◌≡◌, refl, sym, subst, ◌∙◌, ap, ◌<◌, true, length, map, arith, FitsSigned, w64, to_z, of_z, ◌++◌, ◌∷◌, [], rules}
 use Rattle.std.specs.FinMap.{insert}
 use Rattle.std.proofs.lemmas.Int.{to_z-of_z}
@@ -18,17 +15,11 @@ use Rattle.tb_builder.specs.Courses.{IsCourseOf, places_by, frozen_with, IsPageS
 use Rattle.tb_builder.proofs.Ownership.OwnedLemmas.{live-left}
 use Rattle.tb_builder.proofs.LegalPlaces.ClassLemmas.{list_live, list_fits}
 use Rattle.tb_builder.proofs.Turns.MoveLemmas.{written_shift}
-use Rattle.tb_builder.proofs.Turns.FillLemmas.{first_is}
+use Rattle.tb_builder.proofs.Turns.FillLemmas.{first_is, no_insertion_role}
 use Rattle.tb_builder.proofs.Turns.FreezeLemmas.{frozen_course, first_known, comes_to, class_is, meets_fits, plain_insertion, insertion_plain, insertion_shape, insertion_act}
 use Rattle.tb_builder.proofs.LegalPlaces.ClassLemmas.{number_is}
 use Rattle.tb_builder.proofs.Turns.MeetLemmas.{met}
 use Rattle.tb_builder.proofs.Builder.meet.Goals as goal
-
--- a role that is not that of an insertion has none
-no_insertion_role : (r : Role) → ((i : Insertion) → r ≡ roles.Insertion i → ⊥) → insertion_of_role r ≡ None
-no_insertion_role roles.Matter h = refl
-no_insertion_role (roles.Insertion i) h = absurd (h i refl)
-no_insertion_role (roles.Act a) h = refl
 
 pub unreachable-requires-in_default-role : goal.unreachable-requires-in_default-role
 unreachable-requires-in_default-role c =

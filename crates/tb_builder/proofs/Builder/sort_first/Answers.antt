@@ -2,24 +2,15 @@ use Rattle.std.proofs.Common.{◌≡◌, ◌∙◌, sym, ap, refl, ◌++◌, Non
 use Rattle.std.specs.Option.{option_copied}
 use Rattle.tb_pool.specs.Lists.{list_at}
 use Rattle.tb_node.specs.declared.Insertion.{Insertion}
-use Rattle.tb_node.specs.declared.Role.{Role}
-use Rattle.tb_node.specs.declared.Role.TheVariants as roles
 use Rattle.tb_node.specs.PlainNodes.{plain_list}
-use Rattle.tb_node.specs.Roles.{insertion_of_role}
 use Rattle.tb_insert.specs.Account.{labelled}
 use Rattle.tb_insert.specs.AccountEntries.{cut_in, last_let_in}
 use Rattle.tb_builder.specs.Firing.{share_told}
 use Rattle.tb_builder.specs.Contents.{contents_of}
-use Rattle.tb_builder.proofs.Turns.FillLemmas.{first_is}
+use Rattle.tb_builder.proofs.Turns.FillLemmas.{first_is, no_insertion_role}
 use Rattle.tb_builder.proofs.Events.FilledLemmas.{none_first}
 use Rattle.tb_builder.proofs.Sorting.SortLemmas.{first_class, first_nodes, first_sizes, first_top, marked_within, sorted_insertion, settled_sorts, settled_body, settled_left, never_empty, first_insertion}
 use Rattle.tb_builder.proofs.Builder.sort_first.Goals as goal
-
--- a role that is not that of an insertion has none
-no_insertion_role : (r : Role) → ((i : Insertion) → r ≡ roles.Insertion i → ⊥) → insertion_of_role r ≡ None
-no_insertion_role roles.Matter h = refl
-no_insertion_role (roles.Insertion i) h = absurd (h i refl)
-no_insertion_role (roles.Act a) h = refl
 
 pub unreachable-requires : goal.unreachable-requires
 unreachable-requires c =

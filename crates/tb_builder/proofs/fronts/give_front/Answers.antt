@@ -6,9 +6,9 @@ use Rattle.tb_pool.specs.Lists.{list_at, with_list}
 use Rattle.tb_node.specs.PlainNodes.{shape_of}
 use Rattle.tb_node.specs.Fit.{NodesFit}
 use Rattle.tb_builder.proofs.Sorting.RestLemmas.{nodes-dropped, rest-fewer}
-use Rattle.tb_builder.proofs.Turns.MoveLemmas.{list_same}
 use Rattle.tb_builder.proofs.Ownership.StoreMoves.{moved_live, moved_left, given_lists}
 use Rattle.tb_builder.proofs.fronts.give_front.Goals as goal
+use Rattle.tb_pool.proofs.CallerLemmas.{list_same}
 
 pub prune-requires : goal.prune-requires
 prune-requires c =

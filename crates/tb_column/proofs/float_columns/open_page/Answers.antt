@@ -6,9 +6,10 @@ use Rattle.tb_float.specs.Lists.{floats_of}
 use Rattle.tb_float.specs.Pool.{marks_of, marked_floats}
 use Rattle.tb_column.specs.Page.{IsPageList}
 use Rattle.tb_column.specs.FloatColumns.{page_list, page_glue}
-use Rattle.tb_column.proofs.FloatLemmas.{marked-few, marked-all}
+use Rattle.tb_column.proofs.FloatLemmas.{marked-all}
 use Rattle.tb_column.proofs.PageLemmas.{waiting-count, list-opened, fresh-before, page-list}
 use Rattle.tb_column.proofs.float_columns.open_page.Goals as goal
+use Rattle.tb_float.proofs.TrackLemmas.{marked-few}
 
 pub push_page-requires-clause-live : goal.push_page-requires-clause-live
 push_page-requires-clause-live c = live_same c.reserve.new.self c.add_list.new.self c.in_ok-list.list _ c.in_ok-list.ensures.opened

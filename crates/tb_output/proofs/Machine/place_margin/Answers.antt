@@ -1,6 +1,5 @@
 use Rattle.std.proofs.Common.{◌≡◌, refl, sym, subst, [], FitsSigned, w64, to_z, of_z, rules}
 use Rattle.std.proofs.lemmas.Int.{to_z-of_z}
-use Rattle.tb_builder.proofs.Ranges.PageableLemmas.{extent_amount}
 use Rattle.tb_scaled.specs.Amount.{IsAmount}
 use Rattle.tb_margin.specs.Margin.{placed_note}
 use Rattle.tb_output.specs.contracts.Machine.{the_view}
@@ -14,6 +13,7 @@ use Rattle.tb_output.proofs.InText.TextSteps.{continues-note_placed}
 use Rattle.tb_output.proofs.InText.MarginSteps.{reach-amount, note-place, warning-memory, told-keeps, note-memory, stands-keeps, note-whole, note-cut}
 use Rattle.tb_output.proofs.Machine.place_margin.Goals.{After-set_note_bottom, In_ok-push_note}
 use Rattle.tb_output.proofs.Machine.place_margin.Goals as goal
+use Rattle.tb_node.proofs.FitLemmas.{extent_small}
 
 pub place_note-at-requires-clause-bottom : goal.place_note-at-requires-clause-bottom
 place_note-at-requires-clause-bottom c =
@@ -39,7 +39,7 @@ set_is c = let fits : FitsSigned w64 c.place_note-at.result.bottom = search rule
 -- the note goes back
 grown_is : (c : In_ok-push_note) → HasGrown c.args.back (note_list c.args.size.now.depth c.args.m.now c.place_note-at.result) [] c.args.store.now c.push_note.new.store
 grown_is c =
-    subst (λ d. HasGrown c.args.back (note_list d c.args.m.now c.place_note-at.result) [] c.args.store.now c.push_note.new.store) (amount-cast c.args.size.now.depth (extent_amount c.args.size.now.depth c.requires.depth)) c.in_ok-push_note.ensures.ok
+    subst (λ d. HasGrown c.args.back (note_list d c.args.m.now c.place_note-at.result) [] c.args.store.now c.push_note.new.store) (amount-cast c.args.size.now.depth (extent_small c.args.size.now.depth c.requires.depth)) c.in_ok-push_note.ensures.ok
 
 pub returns-in_err-warn_moved-clause-err : goal.returns-in_err-warn_moved-clause-err
 returns-in_err-warn_moved-clause-err c =

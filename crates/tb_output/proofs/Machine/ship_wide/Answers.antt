@@ -1,6 +1,5 @@
 use Rattle.std.proofs.Common.{◌≡◌, refl, sym, subst, ◌∙◌, ap, [], FitsSigned, w64, rules}
 use Rattle.std.proofs.lemmas.Int.{to_z-of_z}
-use Rattle.tb_builder.proofs.Ranges.PageableLemmas.{extent_amount}
 use Rattle.tb_float.specs.Lists.{wide_part, wide_waiting}
 use Rattle.tb_float.specs.Pool.{marked_floats}
 use Rattle.tb_output.specs.Pages.{wide_wanted}
@@ -14,6 +13,7 @@ use Rattle.tb_output.proofs.FiringWork.KeepLemmas.{keeps-same}
 use Rattle.tb_output.proofs.FiringWork.ResultLemmas.{memory-err, same-err}
 use Rattle.tb_output.proofs.Machine.ship_wide.Goals.{After-wide_part-from, In_ok-column}
 use Rattle.tb_output.proofs.Machine.ship_wide.Goals as goal
+use Rattle.tb_node.proofs.FitLemmas.{extent_small}
 
 -- no floats make a page
 pub returns-then-not-choose_wide-clause-ok : goal.returns-then-not-choose_wide-clause-ok
@@ -31,7 +31,7 @@ take_floats-requires-clause-height c =
     let i = c.self.inside in
     let params : AreOutputParams i.params = subst AreOutputParams (ap (λ (v : MachineView). v.params) (sym (c.self.view_is ∙ c.choose_wide.ensures.rest))) c.requires.params in
     let high : FitsSigned w64 i.params.textheight = search rules in
-    rw to_z-of_z (extent_amount i.params.textheight params.columns.floats.textheight)
+    rw to_z-of_z (extent_small i.params.textheight params.columns.floats.textheight)
 
 -- the floats wait where wide ones do
 from_is : (c : After-wide_part-from) → c.wide_part-from.result ≡ wide_part c.choose_wide.new.self.params

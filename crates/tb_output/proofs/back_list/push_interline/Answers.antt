@@ -1,6 +1,5 @@
 use Rattle.std.proofs.Common.{◌≡◌, sym, ap, ◌∙◌, ◌∷◌, [], ◌++◌, Some, FitsSigned, w64, rules}
 use Rattle.std.proofs.lemmas.Int.{to_z-of_z}
-use Rattle.tb_builder.proofs.Handover.CallLemmas.{dimension_small}
 use Rattle.tb_scaled.specs.declared.Glue.{Glue}
 use Rattle.tb_pool.specs.Lists.{list_at, with_list}
 use Rattle.tb_node.specs.declared.Kind.TheVariants as kinds
@@ -9,6 +8,7 @@ use Rattle.tb_column.proofs.StoreLemmas.{with_list-added}
 use Rattle.tb_output.specs.BackList.{last_glue, interline_by}
 use Rattle.tb_output.proofs.InText.PushLemmas.{pushed-first, list-reserved, last-sized}
 use Rattle.tb_output.proofs.back_list.push_interline.Goals as goal
+use Rattle.tb_node.proofs.FitLemmas.{dimension_small}
 
 pub negate-requires-clause-width : goal.negate-requires-clause-width
 negate-requires-clause-width c =

@@ -1,5 +1,4 @@
 use Rattle.std.proofs.Common.{ap, ◌∙◌, ◌∷◌, [], ◌++◌, true, false}
-use Rattle.tb_builder.proofs.Handover.CallLemmas.{dimension_small}
 use Rattle.tb_scaled.specs.declared.Glue.{Glue}
 use Rattle.tb_pool.specs.Lists.{list_at, with_list}
 use Rattle.tb_node.specs.declared.Node.{Node}
@@ -9,6 +8,7 @@ use Rattle.tb_column.proofs.StoreLemmas.{with_list-added}
 use Rattle.tb_output.specs.BackList.{here_list}
 use Rattle.tb_output.proofs.InText.PushLemmas.{pushed-first, grown-of}
 use Rattle.tb_output.proofs.text_floats.push_here.Goals as goal
+use Rattle.tb_node.proofs.FitLemmas.{dimension_small}
 
 pub negate-requires-clause-width : goal.negate-requires-clause-width
 negate-requires-clause-width c = dimension_small _ c.requires.parskip.width
