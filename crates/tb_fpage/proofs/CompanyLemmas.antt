@@ -2,9 +2,9 @@
 use Rattle.std.proofs.Common.{◌≡◌, ℕ, zero, suc, ◌+◌, ◌<◌, ◌≤◌, Bool, true, false, List, [], ◌∷◌, ◌++◌, length, take, drop, Some, None, slice_get, refl, sym, ap, subst, ◌∙◌, add-one, arith, FitsSigned, w64}
 use Rattle.std.specs.Prelude.{ℤ, if◌then◌else◌}
 use Rattle.std.proofs.lemmas.List.{length-append, length-take-le}
-use Rattle.std.proofs.lemmas.Option.{same_Some}
+use Rattle.std.proofs.lemmas.Option.{slice_get_within}
 use Rattle.tb_node.specs.declared.Float.{Float}
-use Rattle.tb_float.proofs.ListLemmas.{take-at}
+use Rattle.tb_float.proofs.ListLemmas.{slice_get-drop, take-at}
 use Rattle.tb_float.specs.declared.classes.ClassSet.{ClassSet}
 use Rattle.tb_float.specs.Classes.{AreClassesOf}
 use Rattle.tb_fpage.specs.declared.Wanted.{Wanted}
@@ -12,19 +12,6 @@ use Rattle.tb_fpage.specs.Company.{Choice, wanted_of, choices_from, company, com
 use Rattle.tb_fpage.specs.Walk.{company_of_place, is_made_at, after_head, head_choices, EndsBy, CompanyEndsBy, IsWalkOf, IsOnWay, AreTried, IsAfterHead}
 use Rattle.tb_fpage.specs.declared.walk.Walk.{Walk}
 use Rattle.tb_fpage.proofs.WalkLemmas.{head-stands}
-
--- ---- places of lists
-
-module _ {X : Type 0} where
-  get-within : (xs : List X) (k : ℕ) (x : X) → slice_get xs k ≡ Some x → k < length xs
-  get-within [] k x got = cc
-  get-within (y ∷ xs) zero x got = omega arith
-  get-within (y ∷ xs) (suc k) x got = omega (arith, get-within xs k x got)
-
-  pub drop-at : (xs : List X) (k : ℕ) (x : X) → slice_get xs k ≡ Some x → drop k xs ≡ x ∷ drop (suc k) xs
-  drop-at [] k x got = cc
-  drop-at (y ∷ xs) zero x got = ap (λ z. z ∷ xs) (same_Some y x got)
-  drop-at (y ∷ xs) (suc k) x got = drop-at xs k x got
 
 -- ---- the company
 
@@ -38,7 +25,7 @@ length-choices z before (f ∷ fs) =
 company-step : (z : Wanted) (place : ℕ) (fs : List Float) (f : Float) → slice_get fs place ≡ Some f
     → company_from z (take place fs) (drop place fs) ≡ (if is_made_at z place fs f then Some (company_of_place z place fs f) else company_from z (take (suc place) fs) (drop (suc place) fs))
 company-step z place fs f got =
-    ap (company_from z (take place fs)) (drop-at fs place f got) ∙ ap (λ t. if is_made_at z place fs f then Some (company_of_place z place fs f) else company_from z t (drop (suc place) fs)) (sym (take-at fs place f got))
+    ap (company_from z (take place fs)) (slice_get-drop place fs f got) ∙ ap (λ t. if is_made_at z place fs f then Some (company_of_place z place fs f) else company_from z t (drop (suc place) fs)) (sym (take-at fs place f got))
 
 company-here : (z : Wanted) (place : ℕ) (fs : List Float) (f : Float) → slice_get fs place ≡ Some f → is_made_at z place fs f ≡ true → company_from z (take place fs) (drop place fs) ≡ Some (company_of_place z place fs f)
 company-here z place fs f got made =
@@ -80,13 +67,13 @@ tried-ends z earlier place all rest f last t made ends = λ choices is.
 pub tried-next : (z : Wanted) (earlier next : ClassSet) (place : ℕ) (all rest : List Float) (f : Float) → AreTried z earlier place all (f ∷ rest) → is_made_at z place all f ≡ false → AreClassesOf next (take place all ++ f ∷ []) → AreTried z next (place + 1) all rest
 tried-next z earlier next place all rest f t none classes =
     let got = tried-there z earlier place all rest f t in
-    let dropped : f ∷ rest ≡ f ∷ drop (suc place) all = t.left_are ∙ drop-at all place f got in
+    let dropped : f ∷ rest ≡ f ∷ drop (suc place) all = t.left_are ∙ slice_get-drop place all f got in
     let behind : rest ≡ drop (suc place) all = cc in
     let one : suc place ≡ place + 1 = omega arith in
     let left = behind ∙ ap (λ n. drop n all) one in
     record {
       left_are = left;
-      within = omega (arith, get-within all place f got);
+      within = omega (arith, slice_get_within all place f got);
       classes = subst (AreClassesOf next) (sym (take-at all place f got) ∙ ap (λ n. take n all) one) classes;
       later = ap (company_from z (take (place + 1) all)) left ∙ company-later z place all f got none ∙ ap (company_from z (take place all)) (sym t.left_are) ∙ t.later;
     }
@@ -98,7 +85,7 @@ tried-end z earlier place all t = sym t.later
 
 pub on-way-start : (z : Wanted) (w : Walk) (earlier : ClassSet) (place : ℕ) (all : List Float) (f : Float) (height : ℤ) → w ≡ after_head place height earlier → slice_get all place ≡ Some f → height ≡ f.height → FitsSigned w64 f.height → AreClassesOf earlier (take place all) → IsOnWay w z all (company_of_place z place all f)
 on-way-start z w earlier place all f height new there is fits classes =
-    let within : place ≤ length all = omega (arith, get-within all place f there) in
+    let within : place ≤ length all = omega (arith, slice_get_within all place f there) in
     let one : place + 1 ≡ suc place = omega arith in
     record {
       before = head_choices (take place all) f;

@@ -13,11 +13,11 @@ use Rattle.tb_float.specs.Lists.{has_class}
 use Rattle.tb_float.proofs.ClassLemmas.{has-same, has-other}
 use Rattle.tb_float.proofs.FirstLemmas.{NextFirst, next-first, no-first}
 use Rattle.tb_float.proofs.HasLemmas.{has-more, has-there}
-use Rattle.tb_float.proofs.ListLemmas.{some-at, take-at}
+use Rattle.tb_float.proofs.ListLemmas.{slice_get-drop, some-at, take-at}
 use Rattle.tb_fpage.specs.declared.Wanted.{Wanted}
 use Rattle.tb_fpage.specs.Company.{company, suits, is_made}
 use Rattle.tb_fpage.specs.Walk.{AreTried, company_of_place, is_made_at}
-use Rattle.tb_fpage.proofs.CompanyLemmas.{drop-at, tried-next}
+use Rattle.tb_fpage.proofs.CompanyLemmas.{tried-next}
 use Rattle.tb_fpage.proofs.FullLemmas.{company-closed}
 
 -- ---- floats of classes that come before
@@ -42,7 +42,7 @@ no-head z place all f has =
 
 passed-one : (z : Wanted) (earlier : ClassSet) (place : ℕ) (all : List Float) (f : Float) → AreTried z earlier place all (drop place all) → slice_get all place ≡ Some f → has_class f.class (take place all) ≡ true → AreTried z earlier (suc place) all (drop (suc place) all)
 passed-one z earlier place all f t there has =
-    let here = subst (λ (fs : List Float). AreTried z earlier place all fs) (drop-at all place f there) t in
+    let here = subst (λ (fs : List Float). AreTried z earlier place all fs) (slice_get-drop place all f there) t in
     let next = tried-next z earlier earlier place all (drop (suc place) all) f here (no-head z place all f has) (λ k lt. t.classes k lt ∙ ap Some (sym (same-classes (take place all) f k has))) in
     let one : place + 1 ≡ suc place = omega arith in
     subst (λ n. AreTried z earlier n all (drop (suc place) all)) one next
@@ -89,7 +89,7 @@ module _ (z : Wanted) (earlier : ClassSet) (all : List Float) (xs : List First) 
   pub first-tried : AreTried z earlier x.place all (x.float ∷ drop (suc x.place) all)
   first-tried =
       let within : x.place ≤ length all = omega (arith, slice_get_within all x.place x.float next.there) in
-      subst (λ (fs : List Float). AreTried z earlier x.place all fs) (drop-at all x.place x.float next.there)
+      subst (λ (fs : List Float). AreTried z earlier x.place all fs) (slice_get-drop x.place all x.float next.there)
       (passed-many (x.place - t.place) z earlier t.place x.place all (omega (arith, next.within)) within t.tried next.passed)
 
   pub first-there : slice_get all x.place ≡ Some x.float
