@@ -35,16 +35,6 @@ waiting_there from w l k f e = float_there (floats_of from l) k f (e ∙ ap (λ 
 pub waiting_entry : (from : Part) → IsWaiting from → (l : FloatLists) (k : ℕ) (f : Float) → slice_get (floats_of from l) k ≡ Some f → slice_get (entries_of from l) k ≡ Some (entries.Float f)
 waiting_entry from w l k f e = ap (λ es. slice_get es k) (waiting-entries from w l) ∙ entry_there (floats_of from l) k f e
 
--- a list in which floats wait is not the one of the floats above both columns
-pub waits_apart : (from : Part) → IsWaiting from → from ≢ parts.Double
-waits_apart parts.Current w = absurd w
-waits_apart parts.Here w = absurd w
-waits_apart parts.Top w = absurd w
-waits_apart parts.Bottom w = absurd w
-waits_apart parts.Double w = absurd w
-waits_apart parts.Deferred w = λ e. absurd cc
-waits_apart parts.Second w = λ e. absurd cc
-
 -- the float at a place
 pub there_some : (fs : List Float) (k : ℕ) → k < length fs → (f : Float) × (slice_get fs k ≡ Some f)
 there_some [] k lt = absurd (omega arith)

@@ -57,10 +57,6 @@ matter_shape-of kinds.Whatsit = refl
 matter_shape-of (kinds.Ins i) = refl
 matter_shape-of (kinds.Act a) = refl
 
--- a pruned list of a store, in plain nodes
-pub plain-pruned_list : (held : ListId → List Node) (t : ℤ) (ns : List Node) → map (plain_of held) (pruned_list t ns) ≡ pruned_nodes t (map (plain_of held) ns)
-plain-pruned_list held t ns = pruned_by-map (plain_of held) shape_of node_shape glue_before (λ n g. record { line = n.line; kind = plain (skip g) }) t (λ n. plain_shape held n.kind) (λ n g. refl) ns
-
 -- a pruned list of a store, in leaves
 pub leaf-pruned_list : (t : ℤ) (ns : List Node) → map leaf_of (pruned_list t ns) ≡ pruned_leaves t (map leaf_of ns)
 leaf-pruned_list t ns = pruned_by-map leaf_of shape_of leaf_shape glue_before (λ n g. record { line = n.line; matter = skip g }) t (λ n. matter_shape-of n.kind) (λ n g. refl) ns

@@ -28,13 +28,3 @@ module _ {T : Type 0} where
   -- a list was cut, and the rest went to another: what each list is then
   pub live-parted : (old now : Lists T) (l rest : ℕ) (xs ys : List T) → now.lists ≡ insert (with_list old l xs) rest ys → (q : ℕ) → IsLive old q → IsLive now q
   live-parted old now l rest xs ys e q live = ap (λ (m : FinMap nat_cmp (List T)). is_some (get m q)) e ∙ live-insert (with_list old l xs) rest ys q (live-insert old.lists l xs q live)
-
-  pub front-parted : (old now : Lists T) (l rest : ℕ) (xs ys : List T) → l ≢ rest → now.lists ≡ insert (with_list old l xs) rest ys → list_at now l ≡ xs
-  front-parted old now l rest xs ys apart e =
-      ap (λ (m : FinMap nat_cmp (List T)). unwrap_or (get m l) []) e
-      ∙ ap (λ (o : Option (List T)). unwrap_or o []) (get-insert_other (with_list old l xs) rest ys l apart ∙ get-insert_same old.lists l xs)
-
-  pub rest-parted : (old now : Lists T) (l rest : ℕ) (xs ys : List T) → now.lists ≡ insert (with_list old l xs) rest ys → list_at now rest ≡ ys
-  rest-parted old now l rest xs ys e =
-      ap (λ (m : FinMap nat_cmp (List T)). unwrap_or (get m rest) []) e
-      ∙ ap (λ (o : Option (List T)). unwrap_or o []) (get-insert_same (with_list old l xs) rest ys)

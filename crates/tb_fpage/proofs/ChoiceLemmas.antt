@@ -18,10 +18,6 @@ marked-with from w ms v = ap (λ ns. marked_among ns (floats_of from (with_marks
 unmarked-with : (from : Part) → IsWaiting from → (ms : List Bool) (v : FloatPool) → unmarked_floats from (with_marks_of from ms v) ≡ unmarked_among ms (floats_of from v.lists)
 unmarked-with from w ms v = ap (λ ns. unmarked_among ns (floats_of from (with_marks_of from ms v).lists)) (marks-with from w ms v) ∙ ap (λ l. unmarked_among ms (floats_of from l)) (lists-marked from ms v)
 
--- a company has a choice for each float
-pub length-company : (z : Wanted) (fs : List Float) (cs : List Choice) → company z fs ≡ Some cs → length cs ≡ length fs
-length-company z fs cs is = sym (length-map cs (λ c. c.float)) ∙ ap length (company-is-lawful z fs cs is).floats
-
 pub is-chosen : (z : Wanted) (from : Part) (v w : FloatPool) (cs : List Choice) → IsWaiting from → company z (floats_of from v.lists) ≡ Some cs → w ≡ with_marks_of from (map (λ c. c.chosen) cs) v → IsChosen z from v w
 is-chosen z from v w cs waits is set =
     let ms = map (λ (c : Choice). c.chosen) cs in

@@ -186,10 +186,6 @@ late_word k fs twocolumn = refl
 late_word k fs suppressfloats = late_suppress fs
 late_word k fs end = refl
 
-late_missing : (w : LineWord) → is_late (missing_cause w) ≡ true
-late_missing header = refl
-late_missing _ = refl
-
 led_ascii : (a : Bool) → is_led (cause_if a causes.NotAscii) ≡ true
 led_ascii true = refl
 led_ascii false = refl

@@ -87,16 +87,6 @@ progress_by bytes piece true false h = cc (h refl)
 longer : (n m : ℕ) → nat_lt input_limit (count_after 0 n) ≡ true → nat_lt input_limit (count_after (count_after 0 n) m) ≡ true
 longer n m h = grind (arith, nat_tests)
 
--- wherever a text is cut, its pieces give what it gives whole
-pub fed-append : (bytes piece : List ℕ) → fed_more (fed bytes) piece ≡ fed (bytes ++ piece)
-fed-append bytes piece =
-    let n = length bytes in
-    let m = length piece in
-    let sums : count_after (count_after 0 n) m ≡ count_after 0 (length (bytes ++ piece)) = same_sum n m ∙ ap (λ k. count_after 0 k) (sym (length-append bytes piece)) in
-    let steps = progress_by bytes piece (nat_lt input_limit (count_after 0 n)) (nat_lt input_limit (count_after (count_after 0 n) m)) (longer n m)
-    ∙ ap (λ k. if nat_lt input_limit k then TooLong else fold take_byte (Lines start []) (bytes ++ piece)) sums in
-    λ i. record { taken = sums i; progress = steps i }
-
 -- ---- what a reader keeps of this many bytes
 
 -- one more line at most, and one more item
@@ -148,11 +138,6 @@ reached_more n m p q piece e fits h read =
 
 pub reached_too_long : (m : ℕ) (q : Progress) → q ≡ TooLong → IsReached m q
 reached_too_long m q e = subst (IsReached m) (sym e) tt
-
-pub room_for : (n more : ℕ) (p : Progress) → n + more ≤ 8388608 → IsReached n p → HasRoom p more
-room_for n more (Lines s line) fits h = (omega (arith, h.lines), omega (arith, h.count))
-room_for n more TooLong fits h = tt
-room_for n more OutOfMemory fits h = tt
 
 -- ---- a galley that is given is valid
 

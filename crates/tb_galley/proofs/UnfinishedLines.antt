@@ -22,10 +22,6 @@ kept_short a h = take_all 257 a h
 pub kept_nothing : kept_line [] ≡ []
 kept_nothing = kept_short [] (omega arith)
 
-pub kept_kept : (a : List ℕ) → kept_line (kept_line a) ≡ kept_line a
-unfolding kept_line
-kept_kept a = take_all 257 (take 257 a) (omega (arith, length-take 257 a))
-
 pub length-kept : (a : List ℕ) → length (kept_line a) ≡ min 257 (length a)
 unfolding kept_line
 length-kept a = length-take 257 a

@@ -153,20 +153,6 @@ module _ (z : Frozen) (page : List PlainNode) (s : Scanned) (line : ℕ) (i : In
       ∙ sym (skip_sums z.limit (map node_shape page) (terms_after z page) (terms_of_labels z (labelled z page ++ l ∷ [])) (class_box z.classes i.class).class.skip m _ _ _ _ _ _ _ _ refl refl (next.stretch Normal) (next.stretch Fil) (next.stretch Fill) (next.stretch Filll) next.shrink)
       ∙ sym (ap (λ ls. sums_with (sums_of z.limit (map node_shape page)) (terms_of_labels z ls)) (labelled-append z page (record { line = line; kind = ins i })))
 
-  -- the insertion goes on the page
-  pub scan_arrives : (t : Scanned) → t ≡ record (met_scan m s class) { sums = added_node (met_scan m s class).max_depth (met_scan m s class).sums other } → IsScanOfPage t z (page ++ record { line = line; kind = ins i } ∷ [])
-  scan_arrives t add = record {
-    under = ap (λ (x : Scanned). x.max_depth) add ∙ depth;
-    sums = ap (λ (x : Scanned). x.sums) add ∙ (λ j. added_node (depth j) (skipped j) other) ∙ sym whole;
-  }
-    where
-      depth : (met_scan m s class).max_depth ≡ z.limit
-      depth = met_depth m s class ∙ scan.under
-
-      whole : sums_with (sums_of z.limit (map node_shape (page ++ record { line = line; kind = ins i } ∷ []))) (terms_after z (page ++ record { line = line; kind = ins i } ∷ [])) ≡ added_node z.limit (sums_with (sums_of z.limit (map node_shape page)) (terms_after z (page ++ record { line = line; kind = ins i } ∷ []))) other
-      whole = ap (λ ss. sums_with (sums_of z.limit ss) (terms_after z (page ++ record { line = line; kind = ins i } ∷ []))) (map-append node_shape page (record { line = line; kind = ins i } ∷ []))
-          ∙ with_terms z.limit (map node_shape page) other (terms_after z (page ++ record { line = line; kind = ins i } ∷ [])) _ _ _ _ refl
-
 -- a node that is no insertion goes on the page
 pub scan_plain : (z : Frozen) (page : List PlainNode) (s t : Scanned) (n : PlainNode) → is_insertion_kind n.kind ≡ false → IsScanOfPage s z page → t ≡ record s { sums = added_node s.max_depth s.sums (node_shape n) } → IsScanOfPage t z (page ++ n ∷ [])
 scan_plain z page s t n h scan add = record {

@@ -97,14 +97,6 @@ best_of_active ps es rows j low passed b h = h ∙ sym (skipped (offer (step_dem
 abbrev pub with_low : Active → ℕ → Active
 with_low a n = record a { low = n }
 
-pub active_start : (ps : LineParams) (es : List Entry) (a : Active) → a.forced ≡ None → a.low ≡ 0 → IsActive ps es 0 a
-active_start ps es a f l = record {
-  forced = f;
-  up_to = ap (λ x. is_up_to x (Some a.low)) f;
-  within = omega arith;
-  passed = λ i lt. absurd (omega arith);
-}
-
 further : (forced : Option ℕ) (low more : ℕ) → low ≤ more → is_up_to forced (Some low) ≡ true → is_up_to forced (Some more) ≡ true
 further None low more le h = refl
 further (Some k) low more le h = grind (arith, nat_tests)

@@ -141,13 +141,6 @@ least_by_table ps es last e b h js f = least_solution ps es (row_at (table_of ps
 pub none_by_table : (ps : LineParams) (es : List Entry) (last : ℕ) → last + 1 ≡ length es → row_at (table_of ps es (length es)) last ≡ None → HasNone ps es
 none_by_table ps es last e h = no_solution ps es (row_at (table_of ps es (length es))) last e (row_way ps es last e None h)
 
--- the break that a row names comes earlier
-pub row_falls : (ps : LineParams) (es : List Entry) (n k : ℕ) (b : Best) → k < n → row_at (table_of ps es n) k ≡ Some b → IsBefore b.from k
-row_falls ps es n k b lt h =
-    let P : Option Best → Type 0 = λ x. Chosen (step_demerits ps es) (row_at (table_of ps es n)) k x in
-    let c = subst P h (chosen_row ps es n k lt) in
-    offer_before ps es (row_at (table_of ps es n)) k b.from b.total c.0
-
 -- the rows that the rows of a table name come earlier
 pub table_linked : (ps : LineParams) (es : List Entry) (n k : ℕ) (b : Best) (i : ℕ) → k < n → row_at (table_of ps es n) k ≡ Some b → b.from ≡ Some i → (i < k) × ((c : Best) × (row_at (table_of ps es n) i ≡ Some c))
 table_linked ps es n k b i lt h e =

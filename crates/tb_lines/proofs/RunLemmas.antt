@@ -29,13 +29,6 @@ pub record RunTo (es : List Entry) (sums : List Sums) (k : ℕ) : Type 0 where
   pub each : (i : ℕ) → i ≤ k → slice_get sums i ≡ Some (sums_of (take i es))
   pub small : (i : ℕ) → i ≤ k → AreSmall i (sums_of (take i es))
 
-pub run_start : (es : List Entry) (s : Sums) → s ≡ sums_of [] → RunTo es (s ∷ []) 0
-run_start es s e = record {
-  long = refl;
-  each = λ i le. let z : i ≡ 0 = omega arith in rw z (ap Some e);
-  small = λ i le. let z : i ≡ 0 = omega arith in rw z (record { width = omega arith; stretch = omega arith; shrink = omega arith; fills = omega arith });
-}
-
 pub run_more : (es : List Entry) (sums : List Sums) (k : ℕ) (t : Sums) → RunTo es sums k → t ≡ sums_of (take (k + 1) es) → AreSmall (k + 1) t → RunTo es (sums ++ t ∷ []) (k + 1)
 run_more es sums k t r e s = record {
   long = length-append sums (t ∷ []) ∙ (let l : length sums ≡ k + 1 = r.long in omega arith);
@@ -50,9 +43,6 @@ run_more es sums k t r e s = record {
     | inr ne ↦ r.small i (omega arith)
   ];
 }
-
-pub run_done : (es : List Entry) (sums : List Sums) → RunTo es sums (length es) → AreRunning es sums
-run_done es sums r = record { long = r.long; each = r.each; small = r.small }
 
 get_set_same : {X : Type 0} (xs : List X) (k : ℕ) (v : X) → k < length xs → slice_get (set xs k v) k ≡ Some v
 get_set_same [] k v lt = absurd (omega arith)
@@ -111,10 +101,6 @@ word_step es starts n k d next v dn pos e le w h g =
 
 pub read_sum : (es : List Entry) (sums : List Sums) (k : ℕ) (d s : Sums) → AreRunning es sums → k ≤ length es → s ≡ get_or sums k d → s ≡ sums_of (take k es)
 read_sum es sums k d s r le h = h ∙ get_or_from_slice_get sums k (sums_of (take k es)) d (r.each k le)
-
--- the place at which the code finds a line's start
-pub start_read : (es : List Entry) (starts : List ℕ) (i j d a : ℕ) → AreFirstWords es starts → i < j → j ≤ length es → a ≡ get_or starts (i + 1) d → min a j ≡ line_start es (Some i) j
-start_read es starts i j d a w lt le h = ap (λ n. min n j) (h ∙ get_or_from_slice_get starts (i + 1) (first_word es (i + 1)) d (w.each (i + 1) (omega arith)))
 
 -- what is known of the two running sums of a line
 pub record LineBounds (es : List Entry) (q : Option ℕ) (j : ℕ) (a b : Sums) : Type 0 where

@@ -15,9 +15,6 @@ abbrev pub place_height : Option ℕ → ℕ
 place_height None = 0
 place_height (Some k) = k + 1
 
-pub back_start : (rows : List (Option Best)) (last : ℕ) (from : Option ℕ) (items : List ℕ) → items ≡ last ∷ [] → ((i : ℕ) → from ≡ Some i → (c : Best) × (row_at rows i ≡ Some c)) → IsBack rows last from items from
-back_start rows last from items e inside = record { tail = []; all = e; run = λ js f. f; inside = inside }
-
 pub back_more : (rows : List (Option Best)) (last : ℕ) (from : Option ℕ) (items : List ℕ) (at : Option ℕ) (place : ℕ) (new : List ℕ) (next : Option ℕ) → AreLinked rows
     → IsBack rows last from items at → at ≡ Some place → new ≡ items ++ place ∷ [] → next ≡ from_in (row_at rows place) → IsBack rows last from new next
 back_more rows last from items at place new next linked b is n e =

@@ -28,11 +28,6 @@ has_passed-more w n s before h = record {
   glue = ap (λ x. x +ℤ glue_of w.set.sign w.set.order n) h.glue ∙ ap (λ t. glue_by_sign s.sign s.order before +ℤ glue_of t.sign t.order n) h.same_set ∙ sym (glue-append s.sign s.order before n);
 }
 
--- the top of the next node
-pub top-passed : (w : Walked) (s : Set) (before : List Shape) → HasPassed w s before → top_of w ≡ top_after s before
-top-passed w s before h =
-    ap (λ t. at_of t w.natural w.glue) h.same_set ∙ ap (λ x. at_of s x w.glue) h.natural ∙ ap (at_of s (size_of before)) h.glue
-
 -- what is passed of a list whose sums fit, with one node more: its size, and its glue of each kind
 passed_small : (limit : ℤ) (ns before : List Shape) (n : Shape) (rest : List Shape) → SumsFit limit ns → before ++ n ∷ rest ≡ ns → IsSmall (sums_of limit (before ++ n ∷ []))
 passed_small limit ns before n rest fits e = fits (before ++ n ∷ []) rest (append_assoc before (n ∷ []) rest ∙ e)

@@ -18,16 +18,8 @@ none-join q [] ys h k = k
 none-join q (x ∷ xs) ys h k = (h.0, none-join q xs ys h.1 k)
 
 module _ {T : Type 0} where
-  -- another list holds what it held, and stays live
-  pub frame-list : (mine ours : List ℕ) (store new : Lists T) → OnlyChanged mine ours store new → (q : ℕ) → IsLive store q → IsNoneOf q mine → list_at new q ≡ list_at store q
-  frame-list mine ours store new frame q live none = let same = (frame q live none).0 in rw same refl
-
   pub frame-live : (mine ours : List ℕ) (store new : Lists T) → OnlyChanged mine ours store new → (q : ℕ) → IsLive store q → IsNoneOf q mine → IsLive new q
   frame-live mine ours store new frame q live none = subst (λ o. IsSome o) (sym (frame q live none).0) live
-
-  -- nothing changed
-  pub frame-same : (mine ours : List ℕ) (store : Lists T) → ((q : ℕ) → IsNoneOf q mine → IsNoneOf q ours) → OnlyChanged mine ours store store
-  frame-same mine ours store fewer q live none = (refl, fewer q none)
 
   -- one call after another
   pub frame-then : (mine between ours : List ℕ) (store middle new : Lists T) → OnlyChanged mine between store middle → OnlyChanged between ours middle new → OnlyChanged mine ours store new
@@ -35,11 +27,3 @@ module _ {T : Type 0} where
       let first = one q live none in
       let second = two q (frame-live mine between store middle one q live none) first.1 in
       (second.0 ∙ first.0, second.1)
-
-  -- a call that gets some of our lists leaves the others
-  pub frame-among : (mine ours more left : List ℕ) (store new : Lists T) → OnlyChanged mine ours store new
-      → ((q : ℕ) → IsNoneOf q more → IsNoneOf q mine) → ((q : ℕ) → IsNoneOf q more → IsNoneOf q ours → IsNoneOf q left)
-      → OnlyChanged more left store new
-  frame-among mine ours more left store new frame inside outside q live none =
-      let step = frame q live (inside q none) in
-      (step.0, outside q none step.1)
