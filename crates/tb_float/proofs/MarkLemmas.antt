@@ -1,5 +1,5 @@
 -- The marks of floats that wait.
-use Rattle.std.proofs.Common.{◌≡◌, ℕ, zero, suc, ◌≤◌, Bool, true, false, List, [], ◌∷◌, ◌++◌, length, Some, slice_get, replicate, refl, ap, ◌∙◌, arith}
+use Rattle.std.proofs.Common.{◌≡◌, ℕ, zero, suc, ◌≤◌, Bool, true, false, List, [], ◌∷◌, ◌++◌, length, Some, slice_get, replicate, refl, sym, ap, ◌∙◌, arith}
 use Rattle.std.specs.Prelude.{slice_set}
 use Rattle.tb_node.specs.declared.Float.{Float}
 use Rattle.tb_float.specs.declared.Part.{Part}
@@ -103,11 +103,11 @@ unmarked-with_float_at p k f v e =
 -- ---- the first marked float
 
 -- the first mark that is set splits the floats: that float is the first marked one, and without it the others stay
-pub record FirstMarked (ms : List Bool) (fs : List Float) (f : Float) : Type 0 where
+record FirstMarked (ms : List Bool) (fs : List Float) (f : Float) : Type 0 where
   pub marked : marked_among ms fs ≡ f ∷ marked_among (without_place (first_marked ms) ms) (without_place (first_marked ms) fs)
   pub others : unmarked_among (without_place (first_marked ms) ms) (without_place (first_marked ms) fs) ≡ unmarked_among ms fs
 
-pub first-marked : (ms : List Bool) (fs : List Float) (f : Float) → length ms ≡ length fs → slice_get fs (first_marked ms) ≡ Some f → FirstMarked ms fs f
+first-marked : (ms : List Bool) (fs : List Float) (f : Float) → length ms ≡ length fs → slice_get fs (first_marked ms) ≡ Some f → FirstMarked ms fs f
 first-marked [] [] f same e = cc
 first-marked [] (g ∷ fs) f same e = absurd (omega arith)
 first-marked (m ∷ ms) [] f same e = cc
@@ -136,11 +136,15 @@ first_marked-le [] = omega arith
 first_marked-le (true ∷ ms) = omega arith
 first_marked-le (false ∷ ms) = omega (arith, first_marked-le ms)
 
--- the marked and the unmarked floats of a list in which floats wait, once one has left
-pub left-over : (p : Part) (k : ℕ) (v : FloatPool) (ms : List Bool) (fs : List Float) → IsWaiting p → marks_of p v ≡ ms → floats_of p v.lists ≡ fs
-    → (marked_floats p (without_entry p k v) ≡ marked_among (without_place k ms) (without_place k fs)) × (unmarked_floats p (without_entry p k v) ≡ unmarked_among (without_place k ms) (without_place k fs))
-left-over p k v ms fs is e f =
+-- the first marked float of a list in which floats wait has left: the other marked ones and the unmarked ones stay
+pub first-left : (p : Part) (v : FloatPool) (f : Float) → IsWaiting p → length (marks_of p v) ≡ length (floats_of p v.lists) → slice_get (floats_of p v.lists) (first_marked (marks_of p v)) ≡ Some f
+    → (marked_floats p v ≡ f ∷ marked_floats p (without_entry p (first_marked (marks_of p v)) v)) × (unmarked_floats p (without_entry p (first_marked (marks_of p v)) v) ≡ unmarked_floats p v)
+first-left p v f waits many there =
+    let k = first_marked (marks_of p v) in
     let es = without_place k v.lists.current in
-    let now_marks = marks-contents p is es (without_place k (floats_of p v.lists)) (without_place k (marks_of p v)) v ∙ ap (without_place k) e in
-    let now_floats = floats-contents p is es (without_place k (floats_of p v.lists)) (without_place k (marks_of p v)) v ∙ ap (without_place k) f in
-    ((λ i. marked_among (now_marks i) (now_floats i)), (λ i. unmarked_among (now_marks i) (now_floats i)))
+    let fs = without_place k (floats_of p v.lists) in
+    let ms = without_place k (marks_of p v) in
+    let marks = marks-contents p waits es fs ms v in
+    let floats = floats-contents p waits es fs ms v in
+    let first = first-marked (marks_of p v) (floats_of p v.lists) f many there in
+    (first.marked ∙ sym (λ i. f ∷ marked_among (marks i) (floats i)), (λ i. unmarked_among (marks i) (floats i)) ∙ first.others)

@@ -15,8 +15,8 @@ use Rattle.tb_node.specs.declared.Float.{Float}
 use Rattle.tb_float.specs.declared.shelves.Shelves.{Shelves}
 use Rattle.tb_float.specs.declared.by_part.ByPart.{ByPart}
 use Rattle.tb_float.specs.Slots.{SlotView}
-use Rattle.tb_float.specs.Lists.{IsWaiting, live_count, entries_of, floats_of, float_entries, float_before, floats_among, without_place, holds_notes}
-use Rattle.tb_float.specs.Pool.{FloatPool, marks_of, with_marks_of, without_marks, joined_before, with_float_at, with_mark, with_current, with_floats_after, with_floats_before, without_entry, without_entries}
+use Rattle.tb_float.specs.Lists.{IsWaiting, live_count, entries_of, floats_of, float_entries, float_before, floats_among, without_place}
+use Rattle.tb_float.specs.Pool.{FloatPool, marks_of, with_marks_of, without_marks, joined_before, moved_float, with_float_at, with_mark, with_current, with_floats_after, with_floats_before, without_entry, without_entries}
 use Rattle.tb_float.specs.Ranges.{IsSizedEntry, IsRoom, IsExtent}
 use Rattle.tb_float.specs.Rooms.{total_height}
 use Rattle.tb_float.specs.ByPart.{of_part, with_part}
@@ -56,16 +56,24 @@ put-in store new sh h size e k sized room pushed spare =
 bare-slot : (p q : Part) (s : SlotView) → IsSlotOf p s → is_float s.entry ≡ true → IsSlotOf q (unmarked_slot s)
 bare-slot p q s h is = record { sized = h.sized; float = λ n. is; unmarked = λ n. refl }
 
--- a float went from its place to the end of another list
-pub moved-to : (store new : Lists SlotView) (sh : Shelves) (h : ByPart ℤ) (size : ℕ) (from to : Part) (k : ℕ) (s : SlotView) → IsStored store sh h size → from ≢ to
-    → slice_get (slots_of store sh from) k ≡ Some s → is_float s.entry ≡ true
+-- the sums after one fell and another rose
+pub sums-moved : (h h1 h2 : ByPart ℤ) (from to : Part) (r z : ℤ) → r ≡ z → h1 ≡ with_part from (of_part h from -ℤ r) h → h2 ≡ with_part to (of_part h1 to +ℤ r) h1
+    → h2 ≡ with_part to (of_part (with_part from (of_part h from -ℤ z) h) to +ℤ z) (with_part from (of_part h from -ℤ z) h)
+sums-moved h h1 h2 from to r z same e1 e2 =
+    e2 ∙ ap (λ g. with_part to (of_part g to +ℤ r) g) e1
+    ∙ ap (λ w. with_part to (of_part (with_part from (of_part h from -ℤ w) h) to +ℤ w) (with_part from (of_part h from -ℤ w) h)) same
+
+-- a float went from its place to the end of another list, and its height from one sum to the other
+pub moved-to : (store new : Lists SlotView) (sh : Shelves) (h g1 g2 : ByPart ℤ) (size : ℕ) (from to : Part) (k : ℕ) (s shown : SlotView) (f : Float) (r : ℤ) → IsStored store sh h size → from ≢ to
+    → slice_get (slots_of store sh from) k ≡ Some s → s.entry ≡ entries.Float f
     → new.lists ≡ insert (with_list store (shelf_of sh from) (without_place k (slots_of store sh from))) (shelf_of sh to) (slots_of store sh to ++ unmarked_slot s ∷ []) → new.spare ≡ store.spare
-    → IsPool new sh (with_part to (of_part (with_part from (of_part h from -ℤ total_height (float_before s.entry [])) h) to +ℤ total_height (float_before s.entry [])) (with_part from (of_part h from -ℤ total_height (float_before s.entry [])) h)) size
-    (with_floats_after to (float_before s.entry []) (without_entry from k (seen_pool (slots_of store sh) size)))
-moved-to store new sh h size from to k s stored apart there is e spare =
+    → r ≡ total_height (float_before shown.entry []) → shown ≡ s → g1 ≡ with_part from (of_part h from -ℤ r) h → g2 ≡ with_part to (of_part g1 to +ℤ r) g1
+    → IsPool new sh g2 size (moved_float from k to f (seen_pool (slots_of store sh) size))
+moved-to store new sh h g1 g2 size from to k s shown f r stored apart there it e spare height same lowered raised =
     let at = slots_of store sh in
     let xs = without_place k (at from) in
     let u = unmarked_slot s in
+    let is = ap is_float it in
     let z = total_height (float_before s.entry []) in
     let h1 = with_part from (of_part h from -ℤ z) h in
     let t : Lists SlotView = record { lists = with_list store (shelf_of sh from) xs; spare = store.spare + 1 } in
@@ -88,10 +96,11 @@ moved-to store new sh h size from to k s stored apart there is e spare =
     let w2 = written t new sh h1 size to ys (of_part h1 to +ℤ z) w1.stored e slots2 sum2 (omega arith) (omega arith) in
     let after : slots_of new sh ≡ put to (at1 to ++ u ∷ []) at1 = w2.slots ∙ ap (put to ys) w1.slots ∙ ap (λ ss. put to (ss ++ u ∷ []) at1) (sym (put-other from to xs at (λ q. apart (sym q)))) in
     record {
-      stored = w2.stored;
+      stored = subst (λ (g : ByPart ℤ). IsStored new sh g size) (sym (sums-moved h g1 g2 from to r z (height ∙ ap (λ u. total_height (float_before u.entry [])) same) lowered raised)) w2.stored;
       seen = ap (λ a. seen_pool a size) after
           ∙ seen-after to at1 (u ∷ []) size (entries-bare (u ∷ []) (is, refl, tt)) (marks-bare (u ∷ []) (is, refl, tt))
-          ∙ ap (with_floats_after to (float_before s.entry [])) (seen-without from at k size (stored.sound.slots from));
+          ∙ ap (with_floats_after to (float_before s.entry [])) (seen-without from at k size (stored.sound.slots from))
+          ∙ ap (λ d. with_floats_after to (float_before d []) (without_entry from k (seen_pool at size))) it;
     }
 
 -- all floats of a list went before those of another
@@ -126,11 +135,11 @@ joined-front store new sh h size from to stored apart bare e spare =
           ∙ ap (with_floats_before to (floats_in (at from))) (seen-emptied from at size);
     }
 
--- the entry at a place has left the pool
-pub taken-out : (store new : Lists SlotView) (sh : Shelves) (h : ByPart ℤ) (size : ℕ) (p : Part) (k : ℕ) (s : SlotView) → IsStored store sh h size
+-- the entry at a place has left the pool, and its height the sum of its list
+pub taken-out : (store new : Lists SlotView) (sh : Shelves) (h g : ByPart ℤ) (size : ℕ) (p : Part) (k : ℕ) (s shown : SlotView) (r : ℤ) → IsStored store sh h size
     → slice_get (slots_of store sh p) k ≡ Some s → new.lists ≡ with_list store (shelf_of sh p) (without_place k (slots_of store sh p)) → new.spare ≡ store.spare + 1
-    → IsPool new sh (with_part p (of_part h p -ℤ total_height (float_before s.entry [])) h) size (without_entry p k (seen_pool (slots_of store sh) size))
-taken-out store new sh h size p k s stored there e spare =
+    → r ≡ total_height (float_before shown.entry []) → shown ≡ s → g ≡ with_part p (of_part h p -ℤ r) h → IsPool new sh g size (without_entry p k (seen_pool (slots_of store sh) size))
+taken-out store new sh h g size p k s shown r stored there e spare height same lowered =
     let at = slots_of store sh in
     let xs = without_place k (at p) in
     let z = total_height (float_before s.entry []) in
@@ -140,7 +149,7 @@ taken-out store new sh h size p k s stored there e spare =
     let places = stored.places in
     let w = written store new sh h size p xs (of_part h p -ℤ z) stored e (slots-without p k (at p) (stored.sound.slots p)) sum (omega arith) (omega arith) in
     record {
-      stored = w.stored;
+      stored = subst (λ (f : ByPart ℤ). IsStored new sh f size) (sym (lowered ∙ ap (λ y. with_part p (of_part h p -ℤ y) h) (height ∙ ap (λ u. total_height (float_before u.entry [])) same))) w.stored;
       seen = ap (λ a. seen_pool a size) w.slots ∙ seen-without p at k size (stored.sound.slots p);
     }
 
@@ -159,17 +168,15 @@ pub float-there : (at : Part → List SlotView) (p : Part) (k : ℕ) (f : Float)
 float-there at p k f h e = slot-of_entry (at p) k (entries.Float f) (sym (ap (λ es. slice_get es k) (entries_of-seen p at h)) ∙ e)
 
 -- an entry adds a room to a sum
-pub entry-is_room : (e : Entry) → IsSizedEntry e → IsRoom (total_height (float_before e []))
+entry-is_room : (e : Entry) → IsSizedEntry e → IsRoom (total_height (float_before e []))
 entry-is_room (entries.Float f) h = let low = h.low in let high = h.high in record { low = omega (arith, ints); high = omega (arith, ints) }
 entry-is_room (entries.Left m) h = record { low = omega (arith, ints); high = omega (arith, ints) }
 entry-is_room (entries.Right m) h = record { low = omega (arith, ints); high = omega (arith, ints) }
 
--- the sums after one fell and another rose
-pub sums-moved : (h h1 h2 : ByPart ℤ) (from to : Part) (r z : ℤ) → r ≡ z → h1 ≡ with_part from (of_part h from -ℤ r) h → h2 ≡ with_part to (of_part h1 to +ℤ r) h1
-    → h2 ≡ with_part to (of_part (with_part from (of_part h from -ℤ z) h) to +ℤ z) (with_part from (of_part h from -ℤ z) h)
-sums-moved h h1 h2 from to r z same e1 e2 =
-    e2 ∙ ap (λ g. with_part to (of_part g to +ℤ r) g) e1
-    ∙ ap (λ w. with_part to (of_part (with_part from (of_part h from -ℤ w) h) to +ℤ w) (with_part from (of_part h from -ℤ w) h)) same
+-- so does the one at a place of a list
+pub room-there : (store : Lists SlotView) (sh : Shelves) (h : ByPart ℤ) (size : ℕ) (p : Part) (k : ℕ) (s shown : SlotView) (r : ℤ) → IsStored store sh h size → slice_get (slots_of store sh p) k ≡ Some s
+    → r ≡ total_height (float_before shown.entry []) → shown ≡ s → IsRoom r
+room-there store sh h size p k s shown r stored there height same = subst IsRoom (sym (height ∙ ap (λ u. total_height (float_before u.entry [])) same)) (entry-is_room s.entry (slot-there p k (slots_of store sh p) s (stored.sound.slots p) there).sized)
 
 -- the slot at a place holds the float that is seen there
 pub float-is : (at : Part → List SlotView) (p : Part) (k : ℕ) (f : Float) (s : SlotView) → AreSlotsOf p (at p) → slice_get (entries_of p (seen_lists at)) k ≡ Some (entries.Float f) → slice_get (at p) k ≡ Some s → s.entry ≡ entries.Float f
@@ -178,11 +185,12 @@ float-is at p k f s h e got =
     ap (λ r. r.entry) (same_Some s there.0 (sym got ∙ there.1)) ∙ there.2
 
 -- each float that waits has its mark
-pub marks-shown : (p : Part) (at : Part → List SlotView) → holds_notes p ≡ false → AreSlotsOf p (at p) → length (marks_in (at p)) ≡ length (floats_in (at p))
-marks-shown p at no_notes h = length-map (at p) (λ s. s.marked) ∙ sym (length-floats_in p (at p) no_notes h)
+pub marks-shown : (p : Part) (at : Part → List SlotView) (n : ℕ) → IsWaiting p → AreSlotsOf p (at p) → length (marks_of p (seen_pool at n)) ≡ length (floats_of p (seen_lists at))
+marks-shown p at n waits h =
+    ap length (marks_of-seen p at n waits) ∙ length-map (at p) (λ s. s.marked) ∙ sym (length-floats_in p (at p) (waiting-floats p waits) h) ∙ ap length (sym (floats_of-seen p at))
 
 pub all-marks : (at : Part → List SlotView) (n : ℕ) → ((p : Part) → AreSlotsOf p (at p)) → HasAllMarks (seen_pool at n)
-all-marks at n h = all-marked (seen_pool at n) (λ p waits. ap length (marks_of-seen p at n waits) ∙ marks-shown p at (waiting-floats p waits) (h p) ∙ ap length (sym (floats_of-seen p at)))
+all-marks at n h = all-marked (seen_pool at n) (λ p waits. marks-shown p at n waits (h p))
 
 -- ---- marks that were taken away
 
