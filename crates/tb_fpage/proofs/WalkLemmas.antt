@@ -259,8 +259,11 @@ on-way-within z w all choices few some way =
 
 -- ---- the entries
 
--- the next entry, and those that are left after it
-pub next-float : (e : Entry) (es : List Entry) (left : List Float) (f : Float) → e ∷ es ≡ float_entries left → e ≡ entries.Float f → (fs : List Float) × (es ≡ float_entries fs) × (left ≡ f ∷ fs)
+-- the float is the next of those that are left, and these are the entries of the others
+abbrev pub IsNextFloat : List Float → Float → List Entry → Type 0
+IsNextFloat left f es = (fs : List Float) × (es ≡ float_entries fs) × (left ≡ f ∷ fs)
+
+pub next-float : (e : Entry) (es : List Entry) (left : List Float) (f : Float) → e ∷ es ≡ float_entries left → e ≡ entries.Float f → IsNextFloat left f es
 next-float e es [] f is it = cc
 next-float e es (g ∷ fs) f is it = (fs, cc, cc)
 

@@ -4,13 +4,14 @@ use mir.Val.{to_z, of_z}
 use Rattle.tb_float.specs.Lists.{float_entries, floats_of}
 use Rattle.tb_float.proofs.WaitingLemmas.{waiting-entries}
 use Rattle.tb_fpage.specs.Company.{company_height}
-use Rattle.tb_fpage.specs.Walk.{EndsBy, company_of_place}
+use Rattle.tb_fpage.specs.Walk.{EndsBy, IsOnWay, company_of_place}
 use Rattle.tb_float.proofs.EntryLemmas.{drop-entries, next-is_float}
-use Rattle.tb_fpage.proofs.WalkLemmas.{next-float, no-float, left-next, on-way-next, on-way-end, on-way-room, on-way-within, within-drop}
+use Rattle.tb_fpage.proofs.WalkLemmas.{IsNextFloat, next-float, no-float, left-next, on-way-next, on-way-end, on-way-room, on-way-within, within-drop}
 use Rattle.tb_fpage.proofs.CompanyLemmas.{on-way-start}
 use Rattle.tb_float.specs.Classes.{AreAtLeast, HasLeft}
 use Rattle.tb_fpage.specs.declared.walk.Walk.{Walk}
 use Rattle.tb_fpage.proofs.FullLemmas.{has-left, has-ended}
+use Rattle.tb_fpage.proofs.companies.walk_company.Goals.{After-float-f, After-visit}
 use Rattle.tb_fpage.proofs.companies.walk_company.Goals as goal
 
 pub loop-entry-init : goal.loop-entry-init
@@ -33,44 +34,49 @@ float-f-requires c =
     let all = floats_of c.args.from c.args.pool.now.lists in
     next-is_float c.in-Some.entry.now c.next.new.self (drop c.loop-entry.walk.seen all) (sym c.in-Some.ensures.steps ∙ c.loop-entry.invariant.left)
 
+-- the float that came is the next of those that are left
+next_is : (c : After-float-f) → IsNextFloat (drop c.loop-entry.walk.seen (floats_of c.args.from c.args.pool.now.lists)) c.float-f.result.now c.next.new.self
+next_is c =
+    next-float c.in-Some.entry.now c.next.new.self (drop c.loop-entry.walk.seen (floats_of c.args.from c.args.pool.now.lists)) c.float-f.result.now (sym c.in-Some.ensures.steps ∙ c.loop-entry.invariant.left) c.float-f.ensures
+
 pub visit-requires : goal.visit-requires
 visit-requires c =
     let all = floats_of c.args.from c.args.pool.now.lists in
-    let w = c.loop-entry.walk in
-    let f = c.float-f.result.now in
-    let next = next-float c.in-Some.entry.now c.next.new.self (drop w.seen all) f (sym c.in-Some.ensures.steps ∙ c.loop-entry.invariant.left) c.float-f.ensures in
-    let room = on-way-room c.args.wanted.now w all next.0 f _ c.requires.few (sym next.2) c.loop-entry.invariant.way in
+    let next = next_is (goal.at.visit-requires c).After-float-f in
+    let room = on-way-room c.args.wanted.now c.loop-entry.walk all next.0 c.float-f.result.now _ c.requires.few (sym next.2) c.loop-entry.invariant.way in
     record { room = room.0; height = room.1 }
+
+-- the walk has passed it, and goes on behind it
+goes_on : (c : After-visit) → (let all = floats_of c.args.from c.args.pool.now.lists in let v = c.visit.new.self in
+    IsNextFloat (drop c.loop-entry.walk.seen all) c.float-f.result.now c.next.new.self → record {
+      can_next : Unit {0};
+      is_finite : Unit {0};
+      left : c.next.new.self ≡ float_entries (drop v.seen all);
+      way : IsOnWay v c.args.wanted.now all (company_of_place c.args.wanted.now c.args.place all c.args.f.now);
+      classes_left : HasLeft v.failed all;
+    })
+goes_on c next =
+    let all = floats_of c.args.from c.args.pool.now.lists in
+    let w = c.loop-entry.walk in
+    let v = c.visit.new.self in
+    let f = c.float-f.result.now in
+    record {
+      can_next = tt;
+      is_finite = tt;
+      left = next.1 ∙ ap float_entries (left-next w v all next.0 f c.visit.ensures.seen (sym next.2));
+      way = on-way-next c.args.wanted.now w v all next.0 f c.visit.result _ c.visit.ensures.seen (sym next.2) c.visit.ensures.joins c.visit.ensures.stands c.loop-entry.invariant.way;
+      classes_left = c.visit.ensures.left all (has-left all next.0 w.seen f (sym next.2)) c.loop-entry.invariant.classes_left;
+    }
 
 pub loop-entry-preserved : goal.loop-entry-preserved
 loop-entry-preserved c =
-    let all = floats_of c.args.from c.args.pool.now.lists in
-    let w = c.loop-entry.walk in
-    let v = c.visit.new.self in
-    let f = c.float-f.result.now in
-    let next = next-float c.in-Some.entry.now c.next.new.self (drop w.seen all) f (sym c.in-Some.ensures.steps ∙ c.loop-entry.invariant.left) c.float-f.ensures in
-    record {
-      can_next = tt;
-      is_finite = tt;
-      left = next.1 ∙ ap float_entries (left-next w v all next.0 f c.visit.ensures.seen (sym next.2));
-      way = on-way-next c.args.wanted.now w v all next.0 f c.visit.result _ c.visit.ensures.seen (sym next.2) c.visit.ensures.joins c.visit.ensures.stands c.loop-entry.invariant.way;
-      classes_left = c.visit.ensures.left all (has-left all next.0 w.seen f (sym next.2)) c.loop-entry.invariant.classes_left;
-    }
+    let at = goal.at.loop-entry-preserved c in
+    goes_on at.After-visit (next_is at.After-float-f)
 
 pub loop-entry-preserved-then-had : goal.loop-entry-preserved-then-had
 loop-entry-preserved-then-had c =
-    let all = floats_of c.args.from c.args.pool.now.lists in
-    let w = c.loop-entry.walk in
-    let v = c.visit.new.self in
-    let f = c.float-f.result.now in
-    let next = next-float c.in-Some.entry.now c.next.new.self (drop w.seen all) f (sym c.in-Some.ensures.steps ∙ c.loop-entry.invariant.left) c.float-f.ensures in
-    record {
-      can_next = tt;
-      is_finite = tt;
-      left = next.1 ∙ ap float_entries (left-next w v all next.0 f c.visit.ensures.seen (sym next.2));
-      way = on-way-next c.args.wanted.now w v all next.0 f c.visit.result _ c.visit.ensures.seen (sym next.2) c.visit.ensures.joins c.visit.ensures.stands c.loop-entry.invariant.way;
-      classes_left = c.visit.ensures.left all (has-left all next.0 w.seen f (sym next.2)) c.loop-entry.invariant.classes_left;
-    }
+    let at = goal.at.loop-entry-preserved-then-had c in
+    goes_on at.After-visit (next_is at.After-float-f)
 
 pub returns : goal.returns
 returns c =
@@ -87,28 +93,20 @@ returns c =
 
 pub is_over-requires : goal.is_over-requires
 is_over-requires c =
+    let at = goal.at.is_over-requires c in
     let all = floats_of c.args.from c.args.pool.now.lists in
-    let z = c.args.wanted.now in
-    let w = c.loop-entry.walk in
-    let v = c.visit.new.self in
-    let f = c.float-f.result.now in
-    let next = next-float c.in-Some.entry.now c.next.new.self (drop w.seen all) f (sym c.in-Some.ensures.steps ∙ c.loop-entry.invariant.left) c.float-f.ensures in
-    let way = on-way-next z w v all next.0 f c.visit.result _ c.visit.ensures.seen (sym next.2) c.visit.ensures.joins c.visit.ensures.stands c.loop-entry.invariant.way in
-    let within = within-drop w.seen all next.0 f (sym next.2) in
-    on-way-within z v all _ c.requires.few (omega (arith, c.visit.ensures.seen, within)) way
+    let next = next_is at.After-float-f in
+    let within = within-drop c.loop-entry.walk.seen all next.0 c.float-f.result.now (sym next.2) in
+    on-way-within c.args.wanted.now c.visit.new.self all _ c.requires.few (omega (arith, c.visit.ensures.seen, within)) (goes_on at.After-visit next).way
 
 pub returns-then-is_over : goal.returns-then-is_over
 returns-then-is_over c =
+    let at = goal.at.returns-then-is_over c in
     let all = floats_of c.args.from c.args.pool.now.lists in
     let z = c.args.wanted.now in
-    let w = c.loop-entry.walk in
-    let v = c.visit.new.self in
-    let f = c.float-f.result.now in
-    let next = next-float c.in-Some.entry.now c.next.new.self (drop w.seen all) f (sym c.in-Some.ensures.steps ∙ c.loop-entry.invariant.left) c.float-f.ensures in
-    let way = on-way-next z w v all next.0 f c.visit.result _ c.visit.ensures.seen (sym next.2) c.visit.ensures.joins c.visit.ensures.stands c.loop-entry.invariant.way in
-    let left = c.visit.ensures.left all (has-left all next.0 w.seen f (sym next.2)) c.loop-entry.invariant.classes_left in
+    let on = goes_on at.After-visit (next_is at.After-float-f) in
     let least = c.least_height-least.result in
     let fits : FitsSigned w64 least = search rules in
     let low = subst (λ y. AreAtLeast y all) (sym (to_z-of_z w64 least fits)) (c.least_height-least.ensures c.args.from) in
-    let ended = has-ended z v (to_z w64 (of_z w64 least)) all (company_of_place z c.args.place all c.args.f.now) (c.is_over.ensures c.if-is_over.true) left low way in
+    let ended = has-ended z c.visit.new.self (to_z w64 (of_z w64 least)) all (company_of_place z c.args.place all c.args.f.now) (c.is_over.ensures c.if-is_over.true) on.classes_left low on.way in
     record { height = ended.height; last = ended.last }
