@@ -166,6 +166,12 @@ module _ (b d : Builder) (s t : Lists Node) (body : ℕ) (h : Sorting b s d t bo
         same : h.index ≡ length page_all
         same = omega (arith, h.left, ap length none_left, length_all)
 
+-- `done` nodes were sorted before; now the insertion after the first `passed` nodes is, too
+pub record InsertionWent (b d : Builder) (s t : Lists Node) (body : ℕ) (e : Builder) (v : Lists Node) (passed done : ℕ) : Type 0 where
+  pub sorting : Sorting b s e v body
+  pub counted : (count : ℕ) → length (list_at t d.page) + done ≡ count → length (list_at v e.page) + (passed + 1) ≡ count
+  pub fewer : length (list_at v e.page) < length (list_at t d.page)
+
 -- the nodes before the first insertion went to the body, and then the insertion goes
 module _ (b d : Builder) (s t u : Lists Node) (body place done : ℕ) (h : Sorting b s d t body) (so : done ≡ h.index) (at : InsertionAt (list_at t d.page) place) (sorts : SortsTo d t d u body)
     (sorted : (z : Frozen) (marked before : List PlainNode) (boxes : List Boxed) → Sorted z boxes marked (contents_of d t) (plain_list t body) before → Sorted z boxes marked (contents_of d u) (plain_list u body) (before ++ take place (contents_of d t).page))
@@ -191,18 +197,14 @@ module _ (b d : Builder) (s t u : Lists Node) (body place done : ℕ) (h : Sorti
     run_body : IsBody d u body
     run_body = still_body b d s u body run apart
 
-    pub insertion_went : Sorting b s e v body
-    insertion_went = sorting_next b d s u body run e v 1 (went body run_body) shorter no_less (λ z page marked before boxes a i was. goes body run_body z page marked before boxes a (index_is ∙ i) was)
-
-    pub insertion_counted : (count : ℕ) → length (list_at t d.page) + done ≡ count → length (list_at v e.page) + (done + place + 1) ≡ count
-    insertion_counted count all =
+    pub insertion_went : InsertionWent b d s t body e v (done + place) done
+    insertion_went =
         let same : e.page ≡ d.page = ap (λ (x : Builder). x.page) (went body run_body).builder in
-        omega (arith, all, ap (λ x. length (list_at v x)) same, shorter, fewer)
-
-    pub insertion_fewer : length (list_at v e.page) < length (list_at t d.page)
-    insertion_fewer =
-        let same : e.page ≡ d.page = ap (λ (x : Builder). x.page) (went body run_body).builder in
-        omega (arith, ap (λ x. length (list_at v x)) same, shorter, fewer)
+        record {
+          sorting = sorting_next b d s u body run e v 1 (went body run_body) shorter no_less (λ z page marked before boxes a i was. goes body run_body z page marked before boxes a (index_is ∙ i) was);
+          counted = λ count all. omega (arith, all, ap (λ x. length (list_at v x)) same, shorter, fewer);
+          fewer = omega (arith, ap (λ x. length (list_at v x)) same, shorter, fewer);
+        }
 
 -- no insertion is left on the page, and the rest goes to the body
 module _ (b d : Builder) (s t u : Lists Node) (body : ℕ) (h : Sorting b s d t body) (none : NoInsertions (list_at t d.page)) (apart : Lacks body (owned (ids_of b) s)) (spare : u.spare ≡ t.spare)

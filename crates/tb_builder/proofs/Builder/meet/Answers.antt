@@ -11,7 +11,7 @@ use Rattle.tb_node.specs.Fit.{shapes}
 use Rattle.tb_builder.specs.declared.Builder.{Builder}
 use Rattle.tb_builder.specs.Ownership.{Ids, ids_of, has_class, box_ids, inner_ids, nodes_of, IsClassList}
 use Rattle.tb_builder.specs.Contents.{contents_of, frozen_of}
-use Rattle.tb_builder.specs.Courses.{IsCourseOf, places_by, frozen_with, IsPageSoFar}
+use Rattle.tb_builder.specs.Courses.{Underway, IsCourseOf, places_by, frozen_with, IsPageSoFar}
 use Rattle.tb_builder.proofs.Ownership.OwnedLemmas.{live-left}
 use Rattle.tb_builder.proofs.LegalPlaces.ClassLemmas.{list_live, list_fits}
 use Rattle.tb_builder.proofs.Turns.MoveLemmas.{written_shift}
@@ -19,6 +19,7 @@ use Rattle.tb_builder.proofs.Turns.FillLemmas.{first_is, no_insertion_role}
 use Rattle.tb_builder.proofs.Turns.FreezeLemmas.{frozen_course, first_known, comes_to, class_is, meets_fits, plain_insertion, insertion_plain, insertion_shape, insertion_act}
 use Rattle.tb_builder.proofs.LegalPlaces.ClassLemmas.{number_is}
 use Rattle.tb_builder.proofs.Turns.MeetLemmas.{met}
+use Rattle.tb_builder.proofs.Builder.meet.Goals.{After-freeze, After-class_list-own, After-list_size-size}
 use Rattle.tb_builder.proofs.Builder.meet.Goals as goal
 
 pub unreachable-requires-in_default-role : goal.unreachable-requires-in_default-role
@@ -32,47 +33,64 @@ class_list-own-requires c =
     subst (λ (i : Ids). has_class (map (λ e. e.class) i.boxes) c.in-Insertion.i.class ≡ true) (sym c.freeze.ensures.ids)
     (first_known (ids_of c.args.self.now) c.args.store.now (contents_of c.args.self.now c.args.store.now).classes c.in-Some.n.now f.0 c.in-Insertion.i c.requires.sound.own.known f.1 (sym c.in-Insertion.ensures.insertion))
 
+-- the course of the page, once its goal is frozen
+course_is : (c : After-freeze) → (let before = contents_of c.args.self.now c.args.store.now in Underway (frozen_of before c.args.ask.now) c.freeze.new.self.course before.page before.waiting)
+course_is c =
+    let before = contents_of c.args.self.now c.args.store.now in
+    frozen_course before c.args.self.now.course c.freeze.new.self.course c.args.ask.now c.args.self.now.frozen refl (subst (λ x. IsPageSoFar c.args.self.now.frozen x c.args.self.now.course before) c.requires.on c.requires.sound.page) c.requires.sound.own.classes c.freeze.ensures.first (λ some. ap (λ (x : Builder). x.course) (c.freeze.ensures.again some))
+
+-- the list of the insertion's class
+own_list : (c : After-class_list-own) → IsClassList (ids_of c.args.self.now).boxes c.in-Insertion.i.class c.class_list-own.result
+own_list c = subst (λ (j : Ids). IsClassList j.boxes c.in-Insertion.i.class c.class_list-own.result) c.freeze.ensures.ids c.class_list-own.ensures
+
+-- the size of that list
+size_is : (c : After-list_size-size) → to_z w64 (of_z w64 c.list_size-size.result) ≡ size_of (shapes c.args.store.now c.class_list-own.result.list)
+size_is c =
+    let r : FitsSigned w64 c.list_size-size.result = search rules in
+    to_z-of_z w64 c.list_size-size.result r ∙ c.list_size-size.ensures
+
 pub list_size-size-requires-clause-live : goal.list_size-size-requires-clause-live
 list_size-size-requires-clause-live c =
-    let own = subst (λ (j : Ids). IsClassList j.boxes c.in-Insertion.i.class c.class_list-own.result) c.freeze.ensures.ids c.class_list-own.ensures in
+    let own = own_list (goal.at.list_size-size-requires-clause-live c).After-class_list-own in
     list_live c.args.store.now (ids_of c.args.self.now).boxes c.in-Insertion.i.class c.class_list-own.result own (live-left c.args.store.now (box_ids (ids_of c.args.self.now).boxes) (inner_ids (nodes_of (ids_of c.args.self.now) c.args.store.now)) c.requires.sound.own.live.1.1.1.1)
 
 pub list_size-size-requires-clause-fits : goal.list_size-size-requires-clause-fits
 list_size-size-requires-clause-fits c =
-    let own = subst (λ (j : Ids). IsClassList j.boxes c.in-Insertion.i.class c.class_list-own.result) c.freeze.ensures.ids c.class_list-own.ensures in
+    let own = own_list (goal.at.list_size-size-requires-clause-fits c).After-class_list-own in
     list_fits c.args.store.now (ids_of c.args.self.now).boxes c.in-Insertion.i.class c.class_list-own.result own c.requires.sound.own.void_empty c.requires.fits.boxes
 
 pub join-requires-clause-number : goal.join-requires-clause-number
 join-requires-clause-number c =
-    let own = subst (λ (j : Ids). IsClassList j.boxes c.in-Insertion.i.class c.class_list-own.result) c.freeze.ensures.ids c.class_list-own.ensures in
+    let own = own_list (goal.at.join-requires-clause-number c).After-class_list-own in
     number_is c.args.store.now (ids_of c.args.self.now).boxes c.in-Insertion.i.class c.class_list-own.result own
 
 pub join-requires-clause-most : goal.join-requires-clause-most
 join-requires-clause-most c =
-    let own = subst (λ (j : Ids). IsClassList j.boxes c.in-Insertion.i.class c.class_list-own.result) c.freeze.ensures.ids c.class_list-own.ensures in
+    let at = goal.at.join-requires-clause-most c in
+    let own = own_list at.After-class_list-own in
     let f = first_is (list_at c.args.store.now c.args.self.now.waiting) c.in-Some.n.now (sym c.in-Some.ensures) in
     let before = contents_of c.args.self.now c.args.store.now in
-    let u = frozen_course before c.args.self.now.course c.freeze.new.self.course c.args.ask.now c.args.self.now.frozen refl (subst (λ x. IsPageSoFar c.args.self.now.frozen x c.args.self.now.course before) c.requires.on c.requires.sound.page) c.requires.sound.own.classes c.freeze.ensures.first (λ some. ap (λ (x : Builder). x.course) (c.freeze.ensures.again some)) in
+    let u = course_is at.After-freeze in
     subst (λ k. k < 255) (number_is c.args.store.now (ids_of c.args.self.now).boxes c.in-Insertion.i.class c.class_list-own.result own) (class_is (ids_of c.args.self.now) c.args.store.now before c.args.ask.now c.freeze.new.self.course c.in-Some.n.now f.0 c.in-Insertion.i c.class_list-own.result c.requires.sound.own refl refl refl refl c.requires.fits f.1 (sym c.in-Insertion.ensures.insertion) own u).0
 
 pub join-requires-clause-fits : goal.join-requires-clause-fits
 join-requires-clause-fits c =
-    let own = subst (λ (j : Ids). IsClassList j.boxes c.in-Insertion.i.class c.class_list-own.result) c.freeze.ensures.ids c.class_list-own.ensures in
+    let at = goal.at.join-requires-clause-fits c in
+    let own = own_list at.After-class_list-own in
     let f = first_is (list_at c.args.store.now c.args.self.now.waiting) c.in-Some.n.now (sym c.in-Some.ensures) in
     let before = contents_of c.args.self.now c.args.store.now in
-    let u = frozen_course before c.args.self.now.course c.freeze.new.self.course c.args.ask.now c.args.self.now.frozen refl (subst (λ x. IsPageSoFar c.args.self.now.frozen x c.args.self.now.course before) c.requires.on c.requires.sound.page) c.requires.sound.own.classes c.freeze.ensures.first (λ some. ap (λ (x : Builder). x.course) (c.freeze.ensures.again some)) in
-    let r : FitsSigned w64 c.list_size-size.result = search rules in
-    let size : to_z w64 (of_z w64 c.list_size-size.result) ≡ size_of (shapes c.args.store.now c.class_list-own.result.list) = to_z-of_z w64 c.list_size-size.result r ∙ c.list_size-size.ensures in
+    let u = course_is at.After-freeze in
+    let size = size_is at.After-list_size-size in
     subst (λ x. ArriveFits c.args.store.now c.freeze.new.self.course.account c.freeze.new.self.course.scan c.in-Insertion.i c.class_list-own.result.class x) (sym size) (meets_fits (ids_of c.args.self.now) c.args.store.now before c.args.ask.now c.freeze.new.self.course c.in-Some.n.now f.0 c.in-Insertion.i c.class_list-own.result c.requires.sound.own refl refl refl refl c.requires.fits f.1 (sym c.in-Insertion.ensures.insertion) own u)
 
 pub returns : goal.returns
 returns c =
-    let own = subst (λ (j : Ids). IsClassList j.boxes c.in-Insertion.i.class c.class_list-own.result) c.freeze.ensures.ids c.class_list-own.ensures in
+    let at = goal.at.returns c in
+    let own = own_list at.After-class_list-own in
     let f = first_is (list_at c.args.store.now c.args.self.now.waiting) c.in-Some.n.now (sym c.in-Some.ensures) in
     let before = contents_of c.args.self.now c.args.store.now in
-    let u = frozen_course before c.args.self.now.course c.freeze.new.self.course c.args.ask.now c.args.self.now.frozen refl (subst (λ x. IsPageSoFar c.args.self.now.frozen x c.args.self.now.course before) c.requires.on c.requires.sound.page) c.requires.sound.own.classes c.freeze.ensures.first (λ some. ap (λ (x : Builder). x.course) (c.freeze.ensures.again some)) in
-    let r : FitsSigned w64 c.list_size-size.result = search rules in
-    let size : to_z w64 (of_z w64 c.list_size-size.result) ≡ size_of (shapes c.args.store.now c.class_list-own.result.list) = to_z-of_z w64 c.list_size-size.result r ∙ c.list_size-size.ensures in
+    let u = course_is at.After-freeze in
+    let size = size_is at.After-list_size-size in
     let b = c.args.self.now in
     let s = c.args.store.now in
     let held = list_at s in
