@@ -124,7 +124,7 @@ pub record Takes (b : Builder) (s : Lists Node) (d : Builder) (t : Lists Node) (
   pub page : (ns : List Node) → list_at s b.page ≡ n ∷ ns → (contents_of d t).page ≡ map (plain_of (list_at s)) ns
   pub held : (contents_of d t).held ≡ (contents_of b s).held ++ more
 
--- the same, and the boxes stay
+-- the first node of the page went, these are held of it, and the boxes stay
 pub record LeavesPage (b : Builder) (s : Lists Node) (d : Builder) (t : Lists Node) (n : Node) (more : List PlainNode) : Type 0 where
   pub takes : Takes b s d t n more
   pub boxes : (contents_of d t).boxes ≡ (contents_of b s).boxes
