@@ -86,7 +86,7 @@ marked_among [] fs = []
 marked_among (m ∷ ms) [] = []
 marked_among (m ∷ ms) (f ∷ fs) = if m then f ∷ marked_among ms fs else marked_among ms fs
 
--- the other floats
+-- the floats whose marks are not set, those without a mark among them
 abbrev pub unmarked_among : List Bool → List Float → List Float
 unmarked_among [] fs = fs
 unmarked_among (m ∷ ms) [] = []
