@@ -61,7 +61,7 @@ abbrev pub cut_there : ℕ → Option ℕ → Option (ℕ × ℕ)
 cut_there index None = None
 cut_there index (Some p) = Some (index, p)
 
--- the same for a labelled insertion; none if it is of another class
+-- a labelled insertion of class k with its break, if it has one; none if it is of another class
 abbrev pub cut_of_one : Labelled → ℕ → Option (ℕ × ℕ)
 cut_of_one l k = if l.inserted.class == k then cut_there l.index (split_before_end l.label l.inserted) else None
 
