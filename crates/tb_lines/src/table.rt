@@ -29,7 +29,7 @@ pub struct Best {
 pub struct Active {
     /// The place of the last forced break, if there is one.
     pub forced: Option<usize>,
-    /// The first place that can still begin a line.
+    /// No break before this place can begin a line any more.
     pub low: usize,
 }
 
