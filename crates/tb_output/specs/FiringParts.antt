@@ -95,7 +95,7 @@ IsColumnPart parts.Deferred = Unit {0}
 IsColumnPart parts.Double = ⊥
 IsColumnPart parts.Second = ⊥
 
--- they are at its top or at its bottom
+-- the floats of the list are at the top or at the bottom of a column
 abbrev pub IsAreaPart : Part → Type 0
 IsAreaPart parts.Current = ⊥
 IsAreaPart parts.Here = ⊥
