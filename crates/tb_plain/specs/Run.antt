@@ -70,7 +70,7 @@ pub data AtAct : Type 0 where
   no_act : AtAct
   at_act : List PlainNode → Act → List PlainNode → AtAct
 
--- the same with one node before
+-- the first act, with one more node before it
 abbrev pub after_node : PlainNode → AtAct → AtAct
 after_node n no_act = no_act
 after_node n (at_act before a after) = at_act (n ∷ before) a after
