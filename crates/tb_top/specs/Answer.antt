@@ -85,7 +85,7 @@ line_at (dead_cycles n) = err_line (dead_cycles_text n)
 line_at (page_limit n) = err_line (page_limit_text n)
 line_at (node_limit n) = err_line (node_limit_text n)
 
--- the same of a run of the page makeup
+-- the line for a run of the page makeup that ends so; a run that ends well has none
 abbrev pub makeup_line : MakeupEnd → List ℕ
 makeup_line made = []
 makeup_line (at_pages n) = err_line (page_limit_text n)
