@@ -1,4 +1,4 @@
--- Where the floats that wait go, one after another.
+-- Where the floats that wait go, one after another (ltoutput.dtx, \@startcolumn and \@startdblcolumn).
 use Rattle.std.specs.Prelude.{Bool, List, [], ◌∷◌, ◌++◌, if◌then◌else◌}
 use Rattle.tb_node.specs.declared.Float.{Float}
 use Rattle.tb_param.specs.declared.Params.{Params}
@@ -30,6 +30,7 @@ filled p s before (f ∷ rest) l =
 abbrev pub gone_double : Part → Bool → Float → List Float → List Float → FloatLists → FloatLists
 gone_double from goes f before rest l = if goes then with_floats_of from (before ++ rest) (record l { double = l.double ++ f ∷ [] }) else l
 
+-- what stays in the list before the next float
 abbrev pub still_single : Bool → Float → List Float → List Float
 still_single goes f before = if goes then before else before ++ f ∷ []
 

@@ -63,6 +63,6 @@ pub record KeepsLaws (p : Params) (l : FloatLists) (before : List Float) (f : Fl
 abbrev pub column_order : ℕ → FloatLists → List Float
 column_order k l = of_class k (l.top ++ l.bottom ++ l.deferred)
 
--- the same above both columns and in the list where wide floats wait
+-- the same above both columns and in the list in which wide floats wait
 abbrev pub double_order : Part → ℕ → FloatLists → List Float
 double_order from k l = of_class k (l.double ++ floats_of from l)

@@ -1,4 +1,4 @@
--- The last place of least cost, by places; a place is the number of nodes before it.
+-- The last place of least cost, by places (TeX: The Program §974, §1005); a place is the number of nodes before it.
 use Rattle.std.specs.Prelude.{◌≡◌, ℕ, ◌<◌, ℤ, pos, ◌+ℤ◌, ◌<ℤ◌, ◌≤ℤ◌, Bool, false, ◌||◌, List, ◌∷◌, ◌++◌, take, drop, int_le, Some, All}
 use Rattle.tb_scaled.specs.Scaled.{awful_bad, eject_penalty}
 use Rattle.tb_node.specs.Shape.{Shape}

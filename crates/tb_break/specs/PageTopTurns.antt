@@ -1,5 +1,5 @@
--- Pruning in place. The nodes before the first box or rule are taken off the list's front one by one, and those that
--- stay wait at its end until the top glue is put in.
+-- Pruning in place (TeX: The Program §968). The nodes before the first box or rule are taken off the list's front one by
+-- one, and those that stay wait at its end until the top glue is put in.
 use Rattle.std.specs.Prelude.{ℕ, ℤ, List, [], ◌∷◌, ◌++◌, Option, None, Some}
 use Rattle.tb_node.specs.declared.Node.{Node}
 use Rattle.tb_node.specs.Shape.{Shape, box, glue, kern, penalty, other}

@@ -1,4 +1,4 @@
--- Finding the split place in one pass: what a node says of the place before it.
+-- Finding the split place in one pass (TeX: The Program §970 to §977): what a node says of the place before it.
 use Rattle.std.specs.Prelude.{ℕ, ℤ, pos, ◌+ℤ◌, Bool, false, true, Option, None, Some, int_le, int_lt, if◌then◌else◌}
 use Rattle.tb_scaled.specs.Scaled.{inf_penalty}
 use Rattle.tb_node.specs.Shape.{Shape, box, glue, kern, penalty, other}

@@ -62,12 +62,12 @@ contents_of b store = record {
 
 -- ---- what is reached
 
--- the goal, the depth limit and the class boxes of the page: the frozen ones, or those asked for
+-- the goal, the depth limit and the class boxes of the page: the frozen ones, or those asked for (TeX: The Program §987)
 abbrev pub frozen_or : Option (ℤ × ℤ) → Ask → List Class → List Boxed → Frozen
 frozen_or None ask cs boxes = record { goal = ask.goal; limit = ask.max_depth; classes = class_boxes cs boxes }
 frozen_or (Some f) ask cs boxes = record { goal = f.0; limit = f.1; classes = class_boxes cs boxes }
 
--- the same of these contents
+-- the goal, the depth limit and the class boxes of the page that a builder holds, frozen or asked for
 abbrev pub frozen_of : Contents → Ask → Frozen
 frozen_of c ask = frozen_or c.frozen ask c.classes c.boxes
 

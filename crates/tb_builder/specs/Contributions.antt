@@ -27,6 +27,7 @@ pub record ListJoins (b : Ids) (s : Lists Node) (l : ℕ) : Type 0 where
   pub apart : Lacks l (owned b s ++ inner_ids (list_at s l))
   pub nodes : NodesJoin b s (list_at s l)
 
+-- the node is a kern
 abbrev pub is_kern : Shape → Bool
 is_kern (box h d) = false
 is_kern (glue g) = false
@@ -59,6 +60,7 @@ pub record NoPage (c : Contents) : Type 0 where
 
 -- ---- a box is taken
 
+-- the box, void if it is that of class k
 abbrev pub voided : ℕ → Boxed → Boxed
 voided k b = if b.number == k then record b { content = None } else b
 

@@ -1,4 +1,4 @@
--- The course of a page after a place was tried.
+-- The course of a page after a place was tried (TeX: The Program §1005).
 use Rattle.std.specs.Prelude.{◌≡◌, ℕ, ℤ, Bool, true, false, List, [], ◌∷◌, ◌++◌}
 use Rattle.tb_node.specs.SmallAmounts.{IsAmount}
 use Rattle.tb_node.specs.PlainNodes.{PlainNode}

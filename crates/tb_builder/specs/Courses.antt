@@ -93,12 +93,12 @@ pub record Unfrozen (k : Course) (page : List PlainNode) : Type 0 where
 abbrev pub page_frozen : ℤ × ℤ → List Class → List Boxed → Frozen
 page_frozen f cs boxes = record { goal = f.0; limit = f.1; classes = class_boxes cs boxes }
 
--- the same of what a builder holds, if the goal is frozen
+-- the frozen goal and depth limit, with the classes; both are 0 if none are frozen
 abbrev pub frozen_at : Option (ℤ × ℤ) → List Class → List Boxed → Frozen
 frozen_at None cs boxes = page_frozen (pos 0, pos 0) cs boxes
 frozen_at (Some f) cs boxes = page_frozen f cs boxes
 
--- the same of these contents
+-- the frozen goal and depth limit of what a builder holds, with its classes
 abbrev pub kept_frozen : Contents → Frozen
 kept_frozen c = frozen_at c.frozen c.classes c.boxes
 

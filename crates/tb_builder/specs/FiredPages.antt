@@ -1,4 +1,4 @@
--- The page that fires.
+-- The page that fires (TeX: The Program §1012 to §1022), and what waits after it (§1026).
 use Rattle.std.specs.Prelude.{ℕ, ℤ, pos, ◌==◌, Bool, true, false, List, [], ◌∷◌, ◌++◌, map, take, drop, Option, Some, None, if◌then◌else◌}
 use Rattle.std.specs.List.{list_any}
 use Rattle.tb_scaled.specs.Scaled.{inf_penalty}

@@ -1,5 +1,5 @@
--- A page fires: what becomes of the insertions before its break, by the account of the page, and what the builder holds
--- on the way.
+-- A page fires (TeX: The Program §1012 to §1022): what becomes of the insertions before its break, by the account of the
+-- page, and what the builder holds on the way.
 use Rattle.std.specs.Prelude.{◌≡◌, ◌≢◌, ◌≤◌, map, ℕ, ◌==◌, Bool, true, false, List, [], ◌∷◌, ◌++◌, length, take, drop, nat_lt, nat_le, Option, Some, None, is_some, if◌then◌else◌}
 use Rattle.std.specs.FinMap.{get}
 use Rattle.std.specs.List.{list_any}
@@ -124,7 +124,7 @@ pub record Takes (b : Builder) (s : Lists Node) (d : Builder) (t : Lists Node) (
   pub page : (ns : List Node) → list_at s b.page ≡ n ∷ ns → (contents_of d t).page ≡ map (plain_of (list_at s)) ns
   pub held : (contents_of d t).held ≡ (contents_of b s).held ++ more
 
--- the same, and the boxes stay
+-- the first node of the page went, these are held of it, and the boxes stay
 pub record LeavesPage (b : Builder) (s : Lists Node) (d : Builder) (t : Lists Node) (n : Node) (more : List PlainNode) : Type 0 where
   pub takes : Takes b s d t n more
   pub boxes : (contents_of d t).boxes ≡ (contents_of b s).boxes
@@ -232,7 +232,7 @@ pub record Cuts (b : Builder) (s t : Lists Node) (place : ℕ) : Type 0 where
 
 -- ---- a page fired
 
--- the page is the one that fires, with the right nodes waiting after it; its body is a list of its own, whose room the builder tells
+-- the page is the one that fires, with the right nodes waiting after it; its body is a list of its own, whose room the builder keeps
 pub record Fires (b : Builder) (s : Lists Node) (d : Builder) (t : Lists Node) (p : Page) : Type 0 where
   pub fired : (ask : Ask) → FiredIs p (contents_of b s) ask (contents_of d t) t
   pub sound : IsSound d t

@@ -1,4 +1,4 @@
--- The legal places of a page so far.
+-- The legal places of a page so far (TeX: The Program §1000).
 use Rattle.std.specs.Prelude.{◌≡◌, ℤ, Bool, false, List, [], ◌∷◌, ◌++◌, map, Option, None}
 use Rattle.tb_node.specs.Shape.{Shape}
 use Rattle.tb_node.specs.PlainNodes.{PlainKind, plain, ins, act, PlainNode, node_shape, without_acts, is_act_kind}

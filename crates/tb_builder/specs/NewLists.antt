@@ -20,6 +20,7 @@ pub record Opened (s t : Lists Node) (ids : List ℕ) : Type 0 where
   pub fresh : (q : ℕ) → IsLive s q → Lacks q ids
   pub others : (q : ℕ) → IsLive s q → get t.lists q ≡ get s.lists q
 
+-- each of these boxes is void
 abbrev pub AllVoid : List ClassList → Type 0
 AllVoid [] = Unit {0}
 AllVoid (e ∷ es) = (e.void ≡ true) × AllVoid es

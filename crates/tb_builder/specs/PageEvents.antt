@@ -191,7 +191,7 @@ best_room (Some x) = x.size
 abbrev pub fired_room : Builder → ℤ
 fired_room b = best_room b.course.scan.best
 
--- if the event is a page that fires, the builder tells the height plus the depth of its body
+-- if the event is a page that fires, the builder keeps the height plus the depth of its body
 abbrev pub TellsRoom : Event → Builder → Lists Node → Type 0
 TellsRoom (events.Try t) d s = Unit {0}
 TellsRoom (events.Act a) d s = Unit {0}

@@ -1,4 +1,4 @@
--- The sums of the page so far, and its goal.
+-- The sums of the page so far, and its goal (TeX: The Program §982).
 use Rattle.std.specs.Prelude.{ℤ, pos, List, Option, Some, None}
 use Rattle.tb_node.specs.declared.Sums.{Sums}
 use Rattle.tb_node.specs.PlainNodes.{PlainNode}
@@ -10,10 +10,11 @@ use Rattle.tb_builder.specs.LegalPlaces.{page_shapes}
 use Rattle.tb_builder.specs.Contents.{Contents}
 use Rattle.tb_builder.specs.Courses.{page_frozen}
 
--- the goal while none is frozen: no page exceeds it
+-- the goal while none is frozen, the greatest dimension: no page exceeds it (TeX: The Program §421)
 abbrev pub no_goal : ℤ
 no_goal = pos 1073741823
 
+-- the total and the shrink of these sums, with this goal
 abbrev pub made_sums : Sums → ℤ → PageSums
 made_sums s goal = record { total = s.total; shrink = s.shrink; goal = goal }
 
@@ -21,9 +22,11 @@ made_sums s goal = record { total = s.total; shrink = s.shrink; goal = goal }
 abbrev pub sums_frozen : Frozen → List PlainNode → PageSums
 sums_frozen z page = made_sums (sums_with (sums_of z.limit (page_shapes page)) (terms_after z page)) (terms_after z page).goal
 
+-- the sums and the goal, by the goal and the depth limit if they are frozen
 abbrev pub sums_by : Option (ℤ × ℤ) → Contents → PageSums
 sums_by None c = made_sums (sums_of (pos 0) (page_shapes c.page)) no_goal
 sums_by (Some f) c = sums_frozen (page_frozen f c.classes c.boxes) c.page
 
+-- the sums and the goal of the page so far of a builder that holds this
 abbrev pub page_sums_of : Contents → PageSums
 page_sums_of c = sums_by c.frozen c

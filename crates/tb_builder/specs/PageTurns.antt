@@ -62,7 +62,8 @@ pub record GoesOn (z : Frozen) (line : ℕ) (b : Breakpoint) (c d : Contents) : 
   pub whole : d.page ++ d.waiting ≡ c.page ++ c.waiting
   pub stopped : d.stopped ≡ false
 
--- the place is a stop
+-- the place before the first waiting node was tried and is a stop: the page and the waiting nodes stay, and the course
+-- counts the place with those before it
 pub record StopsThere (z : Frozen) (line : ℕ) (b : Breakpoint) (k : Course) (c d : Contents) : Type 0 where
   pub reach : reach_on z c ≡ stopped_with d.page d.waiting line b
   pub page : d.page ≡ c.page
@@ -157,7 +158,7 @@ pub record AtAct (b : Builder) (s : Lists Node) (d : Builder) (t : Lists Node) :
   pub some : IsSome (slice_get (list_at t d.waiting) 0)
   pub act : (n : Node) → slice_get (list_at t d.waiting) 0 ≡ Some n → IsSome (act_of_kind n.kind)
 
--- what a turn comes to
+-- a turn by what it returned: it goes on without an event, a place was tried, an act waits first, or nothing waits any more
 abbrev pub TurnTo : Turn → Builder → Lists Node → Ask → Builder → Lists Node → Type 0
 TurnTo turns.Goes b s ask d t = TurnIs b s ask None d t
 TurnTo turns.Tried b s ask d t = TurnIs b s ask (Some (events.Try d.tried)) d t

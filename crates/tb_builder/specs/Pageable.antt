@@ -17,7 +17,7 @@ pub record IsSizedInserted (i : Inserted) : Type 0 where
   pub split_top : IsExtent i.split_top
   pub floating : IsPenalty i.floating
 
--- the same of an insertion; other kinds have no list
+-- an insertion is sized, and so is its list; other kinds have no list
 abbrev pub IsSizedKind : PlainKind → Type 0
 IsSizedKind (plain m) = Unit {0}
 IsSizedKind (ins i) = IsSizedInserted i

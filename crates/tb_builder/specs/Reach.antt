@@ -1,4 +1,5 @@
--- What the page builder reaches of the waiting nodes: acts, and legal places up to the first stop.
+-- What the page builder reaches of the waiting nodes: acts, and legal places up to the first stop (TeX: The Program §997,
+-- §1000, §1001, §1005).
 use Rattle.std.specs.Prelude.{ℕ, ℤ, Bool, true, false, List, [], ◌∷◌, ◌++◌, map, length, Option, Some, None, int_le, if◌then◌else◌}
 use Rattle.std.specs.List.{list_any}
 use Rattle.tb_scaled.specs.Scaled.{min_ℤ}

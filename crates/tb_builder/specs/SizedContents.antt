@@ -30,7 +30,7 @@ abbrev pub laid_by : Bool → List PlainNode → List PlainNode → List PlainNo
 laid_by true page waiting = page ++ waiting
 laid_by false page waiting = laid_out (pos 0) page waiting
 
--- that list, for what a builder holds
+-- the page so far and what waits as one list, for what a builder holds
 abbrev pub whole_list : Contents → List PlainNode
 whole_list c = laid_by c.stopped c.page c.waiting
 

@@ -67,7 +67,7 @@ impl Course {
 }
 
 impl Builder {
-    // The box of a class is given something from now on. Returns its list.
+    // Marks the box of a class as not void, and returns its list.
     fn open_box(&mut self, number: u8) -> ListId
         requires { has_class (map (λ e. e.class) self.old.boxes.items) number ≡ true }
         ensures boxes { self.new.boxes.items ≡ opened number self.old.boxes.items }

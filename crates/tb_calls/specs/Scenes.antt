@@ -24,7 +24,7 @@ pub record IsScene (m : MachineView) (store : Lists Node) : Type 0 where
   pub machine : IsMachine m store
   pub classes : m.classes ≡ scene_classes
 
--- a page of this penalty and of so many nodes at most may fire
+-- a page of this penalty and of at most this many nodes may fire
 pub record IsReady (m : MachineView) (store : Lists Node) (penalty : ℤ) : Type 0 where
   pub penalty_low : hold_penalty ≤ℤ penalty
   pub note_bottom : IsReach m.note_bottom

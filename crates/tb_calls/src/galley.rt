@@ -251,7 +251,7 @@ fn finds_faults_of_versions(rt: HostRuntime) -> Result<(), Fail> {
     Ok(())
 }
 
-// So many copies of a text.
+// This many copies of a text.
 fn repeated(alloc: Global, text: &[u8], count: usize) -> Result<Vec<u8>, Fail> {
     let mut all = Vec::new(alloc);
     for _ in 0..count {

@@ -1,4 +1,4 @@
--- The nodes of floats as a store holds them.
+-- The nodes of floats as a store holds them (ltoutput.dtx, \@cflt, \@cflb and \@vtryfc).
 use Rattle.std.specs.Prelude.{pos, Bool, true, false, List, [], ◌∷◌, ◌++◌}
 use Rattle.tb_scaled.specs.declared.Glue.{Glue}
 use Rattle.tb_scaled.specs.Glue.{negated_glue}

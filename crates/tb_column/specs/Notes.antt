@@ -14,6 +14,7 @@ use Rattle.tb_column.specs.Ranges.{IsSizedGlue}
 abbrev pub note_shown : Lists Node → NoteBox → Notes
 note_shown store n = record { class = n.class; skip = n.skip; inner = map leaf_of (list_at store n.list) }
 
+-- the same of each of the boxes
 abbrev pub notes_shown : Lists Node → List NoteBox → List Notes
 notes_shown store ns = map (note_shown store) ns
 

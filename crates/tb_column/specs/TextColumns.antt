@@ -1,4 +1,4 @@
--- The nodes of a text column as a store holds them.
+-- The nodes of a text column as a store holds them (ltoutput.dtx, \@makecol and \@combinefloats).
 use Rattle.std.specs.Prelude.{ℕ, ℤ, pos, negsuc, neg_ℤ, ◌+◌, ◌==◌, List, [], ◌∷◌, ◌++◌, map, None, if◌then◌else◌}
 use Rattle.tb_pool.specs.Lists.{Lists, list_at}
 use Rattle.tb_scaled.specs.declared.Glue.{Glue}
@@ -25,10 +25,11 @@ rule_above g = made_node (kinds.Skip g) ∷ made_node (kinds.Kern (negsuc 196607
 abbrev pub class_above : Params → NoteBox → List Node
 class_above p n = if n.class == 254 then rule_above p.skipfootins else made_node (kinds.Skip n.skip) ∷ []
 
--- how many nodes are above the insertions of a class, and of all
+-- how many nodes are above the insertions of a class
 abbrev pub above_length : ℕ → ℕ
 above_length class = if class == 254 then 4 else 1
 
+-- how many nodes are above the insertions of all classes
 abbrev pub above_count : List NoteBox → ℕ
 above_count [] = 0
 above_count (n ∷ ns) = above_length n.class + above_count ns
@@ -51,10 +52,11 @@ closing_by bottom depth = record {
 abbrev pub closed_list : Params → List Node → List Node
 closed_list p ns = ns ++ made_node (kinds.Skip (closing_by p.bottom (limited_depth p.maxdepth (map shape_of ns)))) ∷ []
 
--- the floats at the top and at the bottom of a column
+-- the floats at the top of a column, with their glue
 abbrev pub top_list : Params → FloatLists → List Node
 top_list p l = boxes_above places.Top p.floatsep p.textfloatsep l.top
 
+-- the floats at the bottom of a column, with their glue
 abbrev pub bottom_list : Params → FloatLists → List Node
 bottom_list p l = boxes_below places.Bottom p.floatsep p.textfloatsep l.bottom
 

@@ -112,7 +112,7 @@ pub(crate) fn op_of(byte: u8) -> Op
     }
 }
 
-// Whether a command may come where the lister is.
+// Whether a command may come at this point of the file.
 fn is_due(op: &Op, mode: &Mode) -> bool
     ensures { result ≡ is_due op.now mode.now }
 {

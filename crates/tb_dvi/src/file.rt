@@ -99,7 +99,7 @@ fn put_end(out: &mut Vec<u8>, place: u32) -> Result<(), AllocError>
     put_filling(out, 7 - (place + 34) % 4)
 }
 
-// So many bytes 223: at most seven.
+// Appends `count` bytes 223, at most seven.
 #[tactic(auto, using(crate::proofs::ByteLemmas::fills))]
 fn put_filling(out: &mut Vec<u8>, count: u32) -> Result<(), AllocError>
     requires { count ≤ 7 }

@@ -167,7 +167,7 @@ impl Lister {
         Ok(())
     }
 
-    // A command that is whole and may come where the lister is.
+    // A command that is whole and may come at this point of the file.
     fn whole_step(&mut self, place: usize, op: Op, args: &[u8]) -> Result<Next, ListFault>
         requires short { IsShort op }
         requires whole { op_size op args.now ≤ length args.now }

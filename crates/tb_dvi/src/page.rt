@@ -23,8 +23,11 @@ use tb_text::put;
 pub struct Part {
     /// 0, or 300pt (19660800) in the second of two columns.
     pub h: i64,
+    /// How far below the page's top it begins, in sp.
     pub at: i64,
+    /// The list.
     pub list: ListId,
+    /// How its glue is set.
     pub set: Set,
 }
 

@@ -8,12 +8,12 @@ use Rattle.tb_float.specs.declared.firsts.Firsts.{Firsts}
 use Rattle.tb_float.specs.Lists.{FloatLists, has_class, floats_of, IsWaiting}
 use Rattle.tb_float.specs.Classes.{AreClassesOf}
 
--- those of floats that come behind others
+-- of floats that come after others: each before which none of its class comes, with its place
 abbrev pub firsts_from : List Float → List Float → List First
 firsts_from before [] = []
 firsts_from before (f ∷ fs) = if has_class f.class before then firsts_from (before ++ f ∷ []) fs else record { place = length before; float = f } ∷ firsts_from (before ++ f ∷ []) fs
 
--- those of a list: each float before which none of its class comes, with its place
+-- the first floats of a list: each before which none of its class comes, with its place
 abbrev pub firsts_of : List Float → List First
 firsts_of fs = firsts_from [] fs
 

@@ -80,21 +80,23 @@ with_float_at p k f v = with_contents p (slice_set v.lists.current k (entries.Fl
 abbrev pub with_mark : Part → ℕ → FloatPool → FloatPool
 with_mark from k v = with_marks_of from (slice_set (marks_of from v) k true) v
 
--- the floats whose marks are set, and the others; a float without a mark counts as not marked
+-- the floats whose marks are set; a float without a mark counts as not marked
 abbrev pub marked_among : List Bool → List Float → List Float
 marked_among [] fs = []
 marked_among (m ∷ ms) [] = []
 marked_among (m ∷ ms) (f ∷ fs) = if m then f ∷ marked_among ms fs else marked_among ms fs
 
+-- the floats whose marks are not set, those without a mark among them
 abbrev pub unmarked_among : List Bool → List Float → List Float
 unmarked_among [] fs = fs
 unmarked_among (m ∷ ms) [] = []
 unmarked_among (m ∷ ms) (f ∷ fs) = if m then unmarked_among ms fs else f ∷ unmarked_among ms fs
 
--- the floats of a list that are chosen for a column of floats, and those that are not
+-- the floats of a list that are chosen for a column of floats
 abbrev pub marked_floats : Part → FloatPool → List Float
 marked_floats from v = marked_among (marks_of from v) (floats_of from v.lists)
 
+-- the floats of a list that are not chosen
 abbrev pub unmarked_floats : Part → FloatPool → List Float
 unmarked_floats from v = unmarked_among (marks_of from v) (floats_of from v.lists)
 

@@ -39,19 +39,23 @@ pub record AreShelves (store : Lists SlotView) (s : Shelves) : Type 0 where
   pub one_empty : list_at store s.one ≡ []
   pub rest_empty : list_at store s.rest ≡ []
 
+-- the slot, not marked
 abbrev pub unmarked_slot : SlotView → SlotView
 unmarked_slot s = record { entry = s.entry; marked = false }
 
+-- the slot, marked
 abbrev pub marked_slot : SlotView → SlotView
 marked_slot s = record { entry = s.entry; marked = true }
 
--- the entries, the floats and the marks of slots
+-- the entries of slots
 abbrev pub entries_in : List SlotView → List Entry
 entries_in ss = map (λ s. s.entry) ss
 
+-- the floats of slots; boxes of notes are left out
 abbrev pub floats_in : List SlotView → List Float
 floats_in ss = floats_among (entries_in ss)
 
+-- for each slot, whether it is marked
 abbrev pub marks_in : List SlotView → List Bool
 marks_in ss = map (λ s. s.marked) ss
 
@@ -59,20 +63,24 @@ marks_in ss = map (λ s. s.marked) ss
 abbrev pub seen_lists : (Part → List SlotView) → FloatLists
 seen_lists at = lists_with (entries_in (at parts.Current)) (λ p. floats_in (at p))
 
+-- what contracts see of a pool with these lists of slots, for `size` boxes
 abbrev pub seen_pool : (Part → List SlotView) → ℕ → FloatPool
 seen_pool at size = pool_with (seen_lists at) (λ p. marks_in (at p)) size
 
+-- the entry is a float, and no box of a note
 abbrev pub is_float : Entry → Bool
 is_float (entries.Float f) = true
 is_float (entries.Left m) = false
 is_float (entries.Right m) = false
 
--- the slot may be in the list
+-- the slot may be in the list: its sizes are in range, only the current list holds boxes of notes, and only lists in which
+-- floats wait hold marks
 pub record IsSlotOf (p : Part) (s : SlotView) : Type 0 where
   pub sized : IsSizedEntry s.entry
   pub float : holds_notes p ≡ false → is_float s.entry ≡ true
   pub unmarked : holds_marks p ≡ false → s.marked ≡ false
 
+-- each of these slots may be in the list
 abbrev pub AreSlotsOf : Part → List SlotView → Type 0
 AreSlotsOf p [] = Unit {0}
 AreSlotsOf p (s ∷ ss) = IsSlotOf p s × AreSlotsOf p ss
@@ -81,17 +89,19 @@ AreSlotsOf p (s ∷ ss) = IsSlotOf p s × AreSlotsOf p ss
 abbrev pub slot_count : (Part → List SlotView) → ℕ
 slot_count at = sum_of_lists (λ p. length (at p))
 
--- each slot may be where it is, and the sums are those of the lists
+-- each slot may be in its list, and the sums of heights are those of the lists
 pub record AreSound (at : Part → List SlotView) (heights : ByPart ℤ) : Type 0 where
   pub slots : (p : Part) → AreSlotsOf p (at p)
   pub heights_are : (p : Part) → of_part heights p ≡ total_height (floats_in (at p))
 
--- no more boxes live than may, and there is a place for each that may live
+-- at most `size` boxes are in the pool, and there is a spare place for each that may still come
 pub record HasPlaces (at : Part → List SlotView) (size spare : ℕ) : Type 0 where
   pub within : slot_count at ≤ size
   pub room : size ≤ slot_count at + spare
   pub small : size ≤ 4096
 
+-- the store holds the pool: its lists are live and apart, each slot may be in its list, the sums of heights are right, and
+-- there are places for `size` boxes
 pub record IsStored (store : Lists SlotView) (shelves : Shelves) (heights : ByPart ℤ) (size : ℕ) : Type 0 where
   pub shelves_are : AreShelves store shelves
   pub sound : AreSound (slots_of store shelves) heights

@@ -8,7 +8,7 @@ ghost use Rattle.tb_float.specs.Lists.{has_class};
 #[derive(Clone, Copy)]
 pub struct ClassSet {
     flags: [bool; 256],
-    // If the set was made for a list: no more than this many of its classes are not in the set.
+    // If the set was made for a list: a bound on the classes of the list that are not in the set.
     left: usize,
 }
 

@@ -9,7 +9,7 @@ use tb_node::Float;
 use tb_pool::Iter;
 
 impl Entry {
-    /// The float of an entry that is one, as each entry is in which lists floats wait or are on a page.
+    /// The float that an entry holds. In a list in which floats wait or are on a page every entry holds one.
     ///
     /// The arm of a note is proved never to be reached. It shifts by the width, which LLVM takes as undefined, so that a
     /// walk over floats makes no test for notes.

@@ -24,7 +24,7 @@ pub struct First {
     pub float: Float,
 }
 
-// The first floats of their class in a list in which floats wait, and the classes; of no list, if they are not known.
+// The floats of one list that are the first of their class there, with their classes; of no list if they are not known.
 #[derive(Drop)]
 pub(crate) struct Firsts {
     of: Option<Part>,
@@ -73,7 +73,7 @@ impl Firsts {
         }
     }
 
-    // Finds those of a list. If there was no room for them, they would not be known.
+    // Finds the first floats of a list. Nothing is known afterwards if there is no room for them.
     pub(crate) fn find(&mut self, store: &Lists<Slot>, list: ListId, none: ClassSet, p: Part)
         requires live { IsLive store.now list }
         requires slots { AreSlotsOf p (list_at store.now list) }
@@ -103,7 +103,7 @@ fn has_class_of(classes: &ClassSet, entry: &Entry) -> bool
     }
 }
 
-// Appends a float where there is room, and takes no memory.
+// Appends a float if there is room for it, and takes no memory.
 fn push(items: &mut Vec<First>, first: First) -> Result<(), AllocError>
     ensures items { OnOk result (items.new.items ≡ items.old.items ++ first ∷ []) }
 {

@@ -6,7 +6,7 @@ ghost use Rattle.tb_float.specs.ByPart.{of_part, with_part};
 use crate::Part;
 use crate::by_part::ByPart;
 
-// Of the sums of the heights of each list's floats.
+// For each list, the sum of the heights of its floats.
 impl ByPart<i64> {
     // A float of this height, or floats of this height together, came into the list.
     pub(crate) fn raise(&mut self, part: Part, by: i64)

@@ -160,7 +160,7 @@ fn taken(first: i64, between: i64, heights: i64, count: usize) -> i64
     sum_of(sum_of(heights, first), times(between, count - 1))
 }
 
-// So many separators.
+// The width of this many separators.
 fn times(width: i64, count: usize) -> i64
     requires width { IsDimension width }
     requires few { count ≤ 8192 }

@@ -216,7 +216,7 @@ pub(crate) fn first_marked(store: &Lists<Slot>, l: ListId) -> usize
     count
 }
 
-// So many entries of a list are looked at first, the last ones.
+// How many of the last entries are looked at first.
 const LATE: usize = 64;
 
 /// Whether a float of this class is in a list. If many floats wait, one of each class mostly came late, so the last ones are
@@ -230,7 +230,7 @@ pub(crate) fn is_class_in(store: &Lists<Slot>, l: ListId, class: u8) -> bool
     class_stands(store, l, before, count, class) || class_stands(store, l, 0, before, class)
 }
 
-/// Whether a float of this class is among so many entries of a list from a place on.
+/// Whether a float of this class is among the `count` entries of a list from `place` on.
 pub(crate) fn class_stands(
     store: &Lists<Slot>,
     l: ListId,

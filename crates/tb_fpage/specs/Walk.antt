@@ -29,7 +29,7 @@ after_head place height earlier = record { seen = place + 1; last = place + 1; h
 abbrev pub head_choices : List Float → Float → List Choice
 head_choices before f = passed_over before ++ record { float = f; chosen = true } ∷ []
 
--- the next float is in the company, which is so high with it
+-- the next float is in the company, which has this height with it
 abbrev pub taken : ℤ → Walk → Walk
 taken height w = record w { seen = w.seen + 1; last = w.seen + 1; height = height }
 

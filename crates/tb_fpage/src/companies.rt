@@ -60,7 +60,7 @@ fn try_firsts(pool: &Pool, wanted: &Wanted, from: Part, firsts: &[First]) -> Opt
     None
 }
 
-// Tries all floats that wait, where it is not known which are the first of their class.
+// Tries all floats that wait, if it is not known which are the first of their class.
 fn try_all(pool: &Pool, wanted: &Wanted, from: Part) -> Option<Company>
     requires waiting { IsWaiting from }
     requires few { length (floats_of from pool.now.lists) ≤ 4096 }
@@ -157,7 +157,7 @@ fn is_head(wanted: &Wanted, earlier: &ClassSet, f: &Float) -> bool
     !earlier.has(f.class) && suits(wanted, f)
 }
 
-// Whether a company that is so high is made.
+// Whether a company of this height is made.
 fn is_made(wanted: &Wanted, height: i128) -> bool
     ensures { result ≡ (wanted.now.clearing || int_lt wanted.now.minimum height) }
 {

@@ -25,8 +25,8 @@ pub(crate) struct Walk {
 }
 
 impl Walk {
-    /// A walk that has passed the head, which is at a place and is so high; the floats before it, which have these classes,
-    /// stay behind.
+    /// A walk that has passed the head, which has this place and this height; the floats before it, which have these
+    /// classes, stay behind.
     pub(crate) fn after_head(place: usize, height: i64, earlier: ClassSet) -> Walk
         requires { place < 4096 }
         ensures { result ≡ after_head place height earlier }
@@ -78,7 +78,7 @@ impl Walk {
             && higher(self.height, wanted.sep, f.height) <= i128::from(wanted.height)
     }
 
-    // The next float is in the company, which is so high with it.
+    // The next float is in the company, which has this height with it.
     fn take(&mut self, height: i128)
         requires { self.old.seen < 4096 }
         ensures { self.new ≡ taken height self.old }

@@ -5,15 +5,18 @@ use std::alloc::{AllocError, Global};
 use std::marker::Model;
 use tb_scaled::Glue;
 
-/// A class of insertions that a galley of version 2 declares, with the number of its line: its own number, 1000 times the
-/// share of a page that its insertions take, the greatest height of them on a page, and the glue above them. Heights are in
-/// scaled points.
+/// A class of insertions that a galley of version 2 declares.
 #[derive(Clone, Copy)]
 pub struct ClassLine {
+    /// The number of its line, from 1.
     pub line: u32,
+    /// The number of the class, from 0 to 253.
     pub number: u8,
+    /// 1000 times the share of a page that its insertions take, from 0 to 10000.
     pub factor: i64,
+    /// The greatest height of its insertions on a page, in sp; from 0 to 1073741823.
     pub limit: i64,
+    /// The glue above its insertions.
     pub skip: Glue,
 }
 

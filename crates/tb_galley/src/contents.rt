@@ -11,13 +11,21 @@ use tb_param::{Choice, Field, Form, Value, row_for};
 /// What a content line says.
 #[derive(Drop)]
 pub enum Content {
+    /// The header, with the version, 1 or 2.
     Header { version: u8 },
+    /// `set`: a parameter and its value.
     Set { field: Field, value: Value },
+    /// `class`: a class of insertions.
     Class(ClassLine),
+    /// A line that may be in a footnote too.
     Plain(LeafKind),
+    /// Any other item, of one line.
     Item(ItemKind),
+    /// `foot`: a footnote of this class begins.
     Foot { class: u8 },
+    /// `endfoot`: the footnote ends.
     Endfoot,
+    /// `end`: the galley ends.
     End,
 }
 

@@ -12,19 +12,28 @@ use tb_scaled::Glue;
 /// A foot that is open: its line, its class and its leaves so far.
 #[derive(Drop)]
 pub struct OpenFoot {
+    /// The number of the line of its `foot`.
     pub line: u32,
+    /// The class of its insertion.
     pub class: u8,
+    /// What is in it so far.
     pub leaves: Leaves,
 }
 
 /// What the content lines so far give.
 #[derive(Drop)]
 pub struct Draft {
+    /// The parameters, as they were set so far.
     pub params: Params,
+    /// The version, 1 or 2.
     pub version: u8,
+    /// The classes of insertions that were declared.
     pub classes: Classes,
+    /// The items that are whole.
     pub items: Items,
+    /// The footnote that is open, if one is.
     pub foot: Option<OpenFoot>,
+    /// The number of the line of `end`; 0 before it.
     pub end_line: u32,
 }
 

@@ -23,7 +23,9 @@ pub const INPUT_LIMIT: u64 = 8_388_608;
 pub enum Progress {
     /// The lines that ended, and the line that has no end yet.
     Lines {
+        /// The reader of the lines that ended.
         lines: LineReader,
+        /// The line that has no end yet.
         unfinished: Unfinished,
     },
     /// They are more than an input may have.

@@ -1,4 +1,4 @@
--- What an account keeps of a class and of a page.
+-- What an account keeps of a class and of a page (TeX: The Program §1008 to §1010).
 use Rattle.std.specs.Prelude.{◌≡◌, ℕ, ℤ, pos, ◌<◌, ◌+ℤ◌, ◌-ℤ◌, ◌==◌, Bool, true, false, ◌&&◌, List, [], ◌∷◌, map, length, Option, None, Some, nat_lt, nat_le, int_le, ◌||◌, slice_index_or, if◌then◌else◌}
 use Rattle.std.specs.List.{list_any}
 use Rattle.tb_node.specs.PlainNodes.{Inserted, PlainNode, node_shape}
@@ -47,9 +47,11 @@ abbrev pub last_from : Option ℕ → List Labelled → ℕ → Option ℕ
 last_from o [] k = o
 last_from o (l ∷ ls) k = last_from (if (l.inserted.class == k) && is_let_in l.label then Some l.index else o) ls k
 
+-- the place of the last insertion of the class that was let in among these, if there is one
 abbrev pub last_let_in : List Labelled → ℕ → Option ℕ
 last_let_in ls k = last_from None ls k
 
+-- the first of the two that is some
 abbrev pub or_else : {X : Type 0} → Option X → Option X → Option X
 or_else None o = o
 or_else (Some x) o = Some x
@@ -59,6 +61,7 @@ abbrev pub cut_there : ℕ → Option ℕ → Option (ℕ × ℕ)
 cut_there index None = None
 cut_there index (Some p) = Some (index, p)
 
+-- a labelled insertion of class k with its break, if it has one; none if it is of another class
 abbrev pub cut_of_one : Labelled → ℕ → Option (ℕ × ℕ)
 cut_of_one l k = if l.inserted.class == k then cut_there l.index (split_before_end l.label l.inserted) else None
 
@@ -69,7 +72,7 @@ cut_in (l ∷ ls) k = or_else (cut_of_one l k) (cut_in ls k)
 
 -- ---- what is kept
 
--- there is an insertion, and the place is at most its
+-- there is such an insertion, and the place is not after it
 abbrev pub reaches : Option ℕ → ℕ → Bool
 reaches None i = false
 reaches (Some m) i = nat_le i m
@@ -94,6 +97,7 @@ abbrev pub IsUpTo : Option ℕ → Option ℕ → Type 0
 IsUpTo newest None = Unit {0}
 IsUpTo newest (Some i) = reaches newest i ≡ true
 
+-- the split insertion, if there is one, is not after the newest
 abbrev pub IsCutUpTo : Option ℕ → Option (ℕ × ℕ) → Type 0
 IsCutUpTo newest None = Unit {0}
 IsCutUpTo newest (Some c) = reaches newest c.0 ≡ true
@@ -130,10 +134,11 @@ pub record IsAccountOf (a : Account) (z : Frozen) (page marked : List PlainNode)
   pub newest_is : a.newest ≡ last_place (labelled z page)
   pub mark_is : a.mark ≡ last_place (labelled z marked)
 
--- the goal and the penalties that an account has
+-- the goal that an account has
 abbrev pub goal_of : Account → ℤ
 goal_of a = a.goal
 
+-- the insert penalties that an account has
 abbrev pub penalties_in : Account → ℤ
 penalties_in a = a.penalties
 
@@ -159,13 +164,16 @@ goes_whole scaled room shrink height v limit = (int_le scaled (pos 0) || int_le 
 abbrev pub split_height : ℤ → ℤ → ℤ → ℤ
 split_height factor room left = clamped (min_ℤ (unscaled_room factor room) left)
 
--- the goal and the scan once the class of an insertion is met; it may be met already
+-- the goal once the class of an insertion is met: what its box holds, scaled, and the width of its skip are taken off,
+-- unless the class was met before
 abbrev pub met_goal : Bool → ℤ → Class → ℤ → ℤ
 met_goal met goal class size = if met then goal else goal -ℤ (scaled_by class.factor size +ℤ class.skip.width)
 
+-- the scan then: the stretch and shrink of the skip are added, unless the class was met before
 abbrev pub met_scan : Bool → Scanned → Class → Scanned
 met_scan met s class = if met then s else record s { sums = stretched_sums s.sums class.skip }
 
+-- the height of the class then: the size of its box, unless the class was met before
 abbrev pub met_height : Bool → ℤ → ℤ → ℤ
 met_height met height size = if met then height else size
 

@@ -1,4 +1,4 @@
--- What the arrival of an insertion changes.
+-- What the arrival of an insertion changes (TeX: The Program §1008 to §1010).
 use Rattle.std.specs.Prelude.{◌≡◌, ℕ, ℤ, pos, ◌≤ℤ◌, ◌+ℤ◌, ◌-ℤ◌, ◌||◌, true, Some, List, map, if◌then◌else◌}
 use Rattle.tb_pool.specs.Lists.{Lists, IsLive, list_at}
 use Rattle.tb_node.specs.declared.Node.{Node}
@@ -23,16 +23,19 @@ label_part Whole = whole
 label_part (Split f) = split f
 label_part Late = late
 
--- the label that an insertion gets, and the goal, the class height and the penalties after it
+-- the label that an insertion gets
 abbrev pub label_here : Account → Scanned → Entry → Inserted → Class → ℤ → Label
 label_here a s e i class size = label_by e.split class (met_goal e.met a.goal class size) (met_height e.met e.height size) (met_scan e.met s class).sums i
 
+-- the goal after it: what it takes is taken off, scaled
 abbrev pub goal_here : Account → Scanned → Entry → Inserted → Class → ℤ → ℤ
 goal_here a s e i class size = met_goal e.met a.goal class size -ℤ scaled_by class.factor (taken_by (label_here a s e i class size) i)
 
+-- the height of its class after it
 abbrev pub height_here : Account → Scanned → Entry → Inserted → Class → ℤ → ℤ
 height_here a s e i class size = met_height e.met e.height size +ℤ taken_by (label_here a s e i class size) i
 
+-- the insert penalties after it
 abbrev pub penalties_here : Account → Scanned → Entry → Inserted → Class → ℤ → ℤ
 penalties_here a s e i class size = a.penalties +ℤ penalty_of (label_here a s e i class size) i
 
@@ -66,6 +69,7 @@ pub record FitsWith (e : Entry) (store : Lists Node) (a : Account) (s : Scanned)
   pub height : IsAmount (height_here a s e (inserted_of (list_at store) i) class size)
   pub penalties : IsAmount (penalties_here a s e (inserted_of (list_at store) i) class size)
 
+-- all that is added up when the insertion arrives fits, by the entry that its class has
 abbrev pub ArriveFits : Lists Node → Account → Scanned → Insertion → Class → ℤ → Type 0
 ArriveFits store a s i class size = FitsWith (entry_of a i.class) store a s i class size
 

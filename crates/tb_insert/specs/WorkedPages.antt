@@ -15,10 +15,11 @@ use Rattle.tb_insert.specs.declared.Account.{Account}
 use Rattle.tb_insert.specs.Account.{ClassBox, Frozen}
 use Rattle.tb_insert.specs.AccountEntries.{boxed, IsAccountOf, IsScanOfPage}
 
--- a box of this height, and glue of width 0
+-- a box of this height
 abbrev pub worked_box : ℤ → Node
 worked_box h = record { line = 7; kind = Hbox Blank h (pos 0) }
 
+-- glue of width 0
 abbrev pub worked_glue : Node
 worked_glue = record { line = 7; kind = Skip (fixed_glue (pos 0)) }
 

@@ -135,7 +135,7 @@ pub fn left_of(limit: i64, height: i64) -> i128
     wide(limit) - wide(height)
 }
 
-/// The goal once the class is met; it may be met already.
+/// The goal with the class's box and skip taken off, unless the class was met before.
 pub fn met_goal(met: bool, goal: i64, class: &Class, size: i64) -> i128
     requires factor { IsAmount class.now.factor }
     ensures value { result ≡ met_goal met goal class.now size }

@@ -25,7 +25,7 @@ pub record AreFirstWords (es : List Entry) (starts : List ℕ) : Type 0 where
   pub long : length starts ≡ length es + 1
   pub each : (k : ℕ) → k ≤ length es → slice_get starts k ≡ Some (first_word es k)
 
--- how narrow what has these sums can be: its width with all its shrink taken off, counted from 2 to the 48th below 0
+-- the width with all shrink taken off, in sp, plus 2^48, so that it is never below 0
 abbrev pub least_width : Sums → ℕ
 least_width s = s.width + (281474976710656 - s.shrink)
 

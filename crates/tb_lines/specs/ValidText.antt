@@ -40,6 +40,7 @@ abbrev pub text_weight : List Paragraph → ℕ
 text_weight [] = 0
 text_weight (p ∷ pars) = length p.items + 1 + text_weight pars
 
+-- a text with valid parameters and paragraphs, and at most 25000 lines that count
 pub record IsValidText (t : Text) : Type 0 where
   pub params : IsValidParams t.params
   pub paragraphs : AllByRecursion IsValidParagraph t.paragraphs

@@ -46,7 +46,7 @@ abbrev pub counts_word : LineWord → Bool
 counts_word par = true
 counts_word w = is_inner_word w
 
--- the end is never left
+-- the phase after a line; once the end came, it stays
 abbrev pub later_phase : Phase → Phase → Phase
 later_phase ended next = ended
 later_phase _ next = next

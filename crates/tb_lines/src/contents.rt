@@ -15,11 +15,17 @@ use tb_node::Name;
 /// What a content line says.
 #[derive(Drop)]
 pub enum Content {
+    /// The header.
     Header,
+    /// `set`: a parameter and its value.
     Set { parameter: Parameter, value: u32 },
+    /// `par`: a paragraph of this name begins.
     Par(Name),
+    /// `word`, `space` or `pen`: an item of the paragraph.
     Item(Item),
+    /// `endpar`: the paragraph ends.
     Endpar,
+    /// `end`: the text ends.
     End,
 }
 

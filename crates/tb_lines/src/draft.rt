@@ -11,8 +11,11 @@ use std::alloc::{AllocError, Global};
 /// What the content lines so far say: the parameters, the paragraphs, and the paragraph that is open.
 #[derive(Drop)]
 pub struct Draft {
+    /// The parameters, as they were set so far.
     pub params: LineParams,
+    /// The paragraphs that ended.
     pub paragraphs: Paragraphs,
+    /// The paragraph that is open, if one is.
     pub current: Option<Paragraph>,
 }
 

@@ -14,7 +14,9 @@ const FORBIDDEN: i16 = 10_000;
 /// What a paragraph's list has: its items, and the glue that fills its last line.
 #[derive(Clone, Copy)]
 pub enum Entry {
+    /// An item of the paragraph.
     Item(Item),
+    /// The glue 0 plus 1fil that fills the last line.
     Fill,
 }
 

@@ -35,8 +35,11 @@ pub enum LinesFault {
     /// The text's first fault. What is wrong with a line as a whole is at its field 0, what is wrong with the whole text
     /// at field 0 of the line after its last, and `InputSize` at line 0.
     At {
+        /// The number of the line.
         line: u32,
+        /// The number of the field.
         field: u32,
+        /// What is wrong.
         cause: LinesCause,
     },
     /// There was not enough memory; nothing is said of the text.
@@ -48,12 +51,16 @@ pub enum LinesFault {
 pub enum LinesRefusal {
     /// The text's first fault, as in [`LinesFault`].
     At {
+        /// The number of the line.
         line: u32,
+        /// The number of the field.
         field: u32,
+        /// What is wrong.
         cause: LinesCause,
     },
     /// No way to break this paragraph, counted from 1, is feasible; each one before it has a feasible way.
     NoBreaks {
+        /// The number of the paragraph, from 1.
         paragraph: usize,
     },
     /// There was not enough memory; nothing is said of the text.

@@ -16,7 +16,9 @@ const FIXED: &[u8] = b" plus 0 minus 0\n";
 /// The height and the depth of a line, in sp.
 #[derive(Clone, Copy)]
 pub struct Size {
+    /// The height, in sp.
     pub height: u32,
+    /// The depth, in sp.
     pub depth: u32,
 }
 

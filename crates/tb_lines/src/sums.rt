@@ -11,8 +11,11 @@ use std::alloc::{AllocError, Global};
 /// The sums of what is between two places of a paragraph's list, in sp.
 #[derive(Clone, Copy)]
 pub struct Sums {
+    /// The widths of words and spaces.
     pub width: u64,
+    /// The stretch of spaces.
     pub stretch: u64,
+    /// The shrink of spaces.
     pub shrink: u64,
     /// How many glues of the last line there are.
     pub fills: u64,
@@ -133,8 +136,7 @@ pub fn word_starts(alloc: Global, entries: &[Entry]) -> Result<Vec<usize>, Alloc
 // No sums have more shrink.
 const MAX_SHRINK: u64 = 281_474_976_710_656;
 
-/// How narrow what has these sums can be, in sp: its width with all its shrink taken off. To be no less than 0, it is counted
-/// from 2 to the 48th below 0.
+/// The width with all shrink taken off, in sp, plus 2^48, so that it is never below 0.
 pub fn least_width(s: &Sums) -> u64
     requires width { s.now.width ≤ 281474976710656 }
     requires shrink { s.now.shrink ≤ 281474976710656 }

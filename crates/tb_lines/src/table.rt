@@ -18,14 +18,18 @@ use std::alloc::{AllocError, Global};
 /// The best way to a break: its demerits, and the break before it; `None` if the paragraph begins before it.
 #[derive(Clone, Copy)]
 pub struct Best {
+    /// The demerits of the way.
     pub total: i64,
+    /// The place of the break before it.
     pub from: Option<usize>,
 }
 
 /// Which breaks can still begin a line: none before the last forced break, and none before `low`.
 #[derive(Clone, Copy)]
 pub struct Active {
+    /// The place of the last forced break, if there is one.
     pub forced: Option<usize>,
+    /// No break before this place can begin a line any more.
     pub low: usize,
 }
 

@@ -10,14 +10,20 @@ use tb_node::Name;
 pub enum Item {
     /// A word, which is never broken.
     Word {
+        /// The width, in sp.
         width: u32,
+        /// The height, in sp.
         height: u32,
+        /// The depth, in sp.
         depth: u32,
     },
     /// A space: after a word a line may end there.
     Space {
+        /// The natural width, in sp.
         width: u32,
+        /// The stretch, in sp.
         stretch: u32,
+        /// The shrink, in sp.
         shrink: u32,
     },
     /// A penalty, from -10000 to 10000. A line may end there if it is below 10000, and must at -10000.
@@ -102,7 +108,9 @@ impl Items {
 /// A paragraph: its name, which has at most 58 bytes, and its items.
 #[derive(Drop)]
 pub struct Paragraph {
+    /// The name, of at most 58 bytes.
     pub name: Name,
+    /// The items, at most 5000.
     pub items: Items,
 }
 
@@ -159,7 +167,9 @@ impl Paragraphs {
 /// What a text says: its parameters and its paragraphs.
 #[derive(Drop)]
 pub struct Text {
+    /// The parameters.
     pub params: LineParams,
+    /// The paragraphs, in order.
     pub paragraphs: Paragraphs,
 }
 

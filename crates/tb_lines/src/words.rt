@@ -201,7 +201,7 @@ pub fn item_cause(count: u32, inside: Option<usize>, word: Word) -> Option<Cause
     }
 }
 
-// The end is never left.
+// The phase after a line; once the end came, it stays.
 fn later_phase(phase: Phase, next: Phase) -> Phase
     ensures { result ≡ later_phase phase next }
 {

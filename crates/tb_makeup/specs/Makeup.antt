@@ -27,7 +27,7 @@ use Rattle.tb_makeup.specs.LedActs.{ActsAreLed}
 abbrev pub held_in : Makeup → Contents
 held_in r = contents_of r.builder r.store
 
--- the state that the makeup stands for
+-- the state that the makeup shows
 abbrev pub state_of : Makeup → MakeupState
 state_of r = record { page = (held_in r).page; waiting = (held_in r).waiting; number = r.plain.page }
 
@@ -64,7 +64,7 @@ pub data Phase (s : MakeupState) : Type 0 where
   begins : s.page ≡ [] → node_total s + 10 ≤ 7500000 → Phase s
   ejects : s.waiting ≡ ejecting_nodes → Phase s
 
--- a state has at most the nodes and acts of the bound, and so many nodes more; the bound is in range
+-- a state has at most the nodes and acts of the bound, and `more` nodes besides; the bound is in range
 pub record IsBounded (more : ℕ) (s : MakeupState) (b : NodeBound) : Type 0 where
   pub total : node_total s ≤ b.most + more
   pub acts : act_count s.waiting ≤ b.acts
@@ -93,7 +93,7 @@ pub record IsReady (r : Makeup) : Type 0 where
 abbrev pub run_at : Params → MakeupState → MakeupRun
 run_at p s = makeup_from p (suc (steps_left p s)) s
 
--- the ending where more than so many nodes wait
+-- the ending if the number of nodes that wait is more than the limit
 abbrev pub over_limit : ℤ → ℕ → Option MakeupEnding
 over_limit limit n = if int_lt limit (pos n) then Some (endings.NodeLimit n) else None
 
@@ -107,7 +107,7 @@ end_of (endings.NodeLimit n) = node_limit n
 abbrev pub turns_left : Params → MakeupState → ℕ
 turns_left p s = 2 * (nat_abs p.maxpages - pred s.number) + (if holds_any s.page then 0 else 1)
 
--- the run goes on from the state that the makeup stands for, or it has ended; where it is done, nothing is on the page
+-- the run goes on from the state that the makeup shows, with fewer turns left, or it has ended after these events
 abbrev pub GoesTo : Makeup → Option MakeupEnding → Params → List PlainSent → MakeupState → Type 0
 GoesTo q None p es s = (run_at p s ≡ run_after es (run_at p (state_of q))) × (turns_left p (state_of q) < turns_left p s)
 GoesTo q (Some e) p es s = run_at p s ≡ record { sent = es; end = end_of e }

@@ -38,7 +38,7 @@ pub record HasGrown (r : Makeup) (waiting : List PlainNode) : Type 0 where
   pub total : node_count waiting + 5 * act_count waiting ≤ node_total (state_of r) + 6
   pub acts : act_count waiting ≤ act_count (state_of r).waiting
 
--- the page fires
+-- once acts were done, the page fires, and the step of the run is that of this firing
 pub record IsFiring (r : Makeup) (page : Page) (q : Makeup) : Type 0 where
   pub s : MakeupState
   pub takes : Takes r s
@@ -51,7 +51,7 @@ pub record IsFiring (r : Makeup) (page : Page) (q : Makeup) : Type 0 where
   pub void : with_void 254 (with_void 253 (held_in q).boxes) ≡ void_boxes
   pub same : Continues r q
 
--- nothing waits any more
+-- once acts were done, nothing waits any more, and the step of the run is the last of the page
 pub record IsOver (r q : Makeup) : Type 0 where
   pub s : MakeupState
   pub takes : Takes r s
@@ -63,7 +63,7 @@ pub record IsOver (r q : Makeup) : Type 0 where
   pub grown : node_total (record s { page = (held_in q).page; waiting = ejecting_nodes }) ≤ node_total (state_of r) + 4
   pub same : Continues r q
 
--- what the page comes to
+-- the page that was filled fires; or, if there is none, nothing waits any more
 abbrev pub Fills : Makeup → Option Page → Makeup → Type 0
 Fills r (Some page) q = IsFiring r page q
 Fills r None q = IsOver r q
@@ -85,7 +85,7 @@ pub record HasShipped (page : Page) (r q : Makeup) (hs : List Happening) : Type 
   pub ask : q.ask ≡ r.ask
   pub limit : q.limit ≡ r.limit
 
--- as many pages as may be were shipped
+-- n pages were shipped, and `maxpages` allows no more; nothing was sent
 pub record IsAtLimit (n : ℕ) (r q : Makeup) (hs : List Happening) : Type 0 where
   pub over : r.plain.params.maxpages <ℤ pos r.plain.page
   pub pages : n + 1 ≡ r.plain.page
@@ -93,7 +93,7 @@ pub record IsAtLimit (n : ℕ) (r q : Makeup) (hs : List Happening) : Type 0 whe
   pub sound : IsSound q.builder q.store
   pub plain : q.plain ≡ r.plain
 
--- what the page that fires comes to
+-- the page that fires ships and the run goes on, or it ends: at the page limit, or, once the page has shipped, at the node limit
 abbrev pub Ships : Page → Makeup → Option MakeupEnding → Makeup → List Happening → Type 0
 Ships page r None q hs = HasShipped page r q hs × (over_limit r.limit (node_count (waiting_after r.plain.params (fired_with r.builder r.store page))) ≡ None) × IsBounded 0 (state_of q) q.bound
 Ships page r (Some endings.Done) q hs = ⊥
@@ -114,7 +114,7 @@ pub record Ejects (r q : Makeup) : Type 0 where
   pub contents : held_in q ≡ record (held_in r) { waiting = ejecting_nodes }
   pub same : Continues r q
 
--- the run is done, or something stands on the page, which is ended
+-- the run is done, and nothing is on the page; or something is on the page, and what ends it waits
 abbrev pub Finishes : Makeup → Option MakeupEnding → Makeup → Type 0
 Finishes r None q = (holds_any (held_in r).page ≡ true) × Ejects r q
 Finishes r (Some endings.Done) q = (holds_any (held_in r).page ≡ false) × (q ≡ r)

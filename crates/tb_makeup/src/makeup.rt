@@ -71,9 +71,9 @@ const ACT_NODES: u64 = 5;
 pub enum MakeupEnding {
     /// Nothing waits any more, and the page is empty.
     Done,
-    /// A page was to be shipped after so many pages.
+    /// A page was to be shipped after this many pages.
     PageLimit { pages: u64 },
-    /// More nodes than `maxnodes` waited: so many.
+    /// `count` nodes waited, more than `maxnodes`.
     NodeLimit { count: u64 },
 }
 
@@ -100,7 +100,7 @@ fn makeup_classes(alloc: Global, p: &Params) -> Result<Vec<Class>, AllocError>
     Ok(classes)
 }
 
-// Each page is made for the same.
+// All pages have the same goal, depth limit and top skip.
 fn makeup_ask(p: &Params) -> Ask
     ensures { result ≡ makeup_ask p.now }
 {
@@ -140,7 +140,7 @@ impl Makeup {
         })
     }
 
-    /// The ending where more nodes wait than `maxnodes`, those of insertions too.
+    /// The ending if more nodes wait than `maxnodes`; those in insertions count too.
     pub fn node_limit(&self) -> Option<MakeupEnding>
         requires sound { IsSound self.now.builder self.now.store }
         requires few { node_count (held_in self.now).waiting ≤ 8388608 }
@@ -150,11 +150,11 @@ impl Makeup {
         over_limit(self.builder.nodes(&self.store), self.limit)
     }
 
-    /// Makes the next page of what waits, and ships it; or, where nothing waits any more, ends the last page or the run.
+    /// Makes the next page of what waits, and ships it; or, if nothing waits any more, ends the last page or the run.
     /// Returns how the run ends with it, if it does.
     ///
     /// `happened` holds the page that shipped, if one did; its list is the caller's until [`Self::done_with`]. What
-    /// `happened` held before is gone. Where memory is lacking, the run can not go on.
+    /// `happened` held before is gone. If memory runs out, the run cannot go on.
     pub fn turn(
         &mut self,
         happened: &mut Vec<Happening>,
@@ -229,8 +229,8 @@ impl Makeup {
         }
     }
 
-    // The ending if more nodes wait than `maxnodes` after a page. They are counted only if the bound on them passes
-    // `maxnodes`; the bound is their number then, and what their acts can add.
+    // The ending if more nodes wait than `maxnodes` after a page. They are counted only if the bound on them is more than
+    // `maxnodes`. The bound is then their number and what their acts can add.
     fn limit_after_page(&mut self) -> Option<MakeupEnding>
         requires sound { IsSound self.old.builder self.old.store }
         requires few { node_count (held_in self.old).waiting ≤ 8388608 }
@@ -272,7 +272,7 @@ impl Makeup {
         self.store.close(list);
     }
 
-    // Nothing waits: the run is done, unless something stands on the page, which is ended then.
+    // Nothing waits: the run is done, unless the page has a node; then the page is ended.
     fn finish(&mut self) -> Result<Option<MakeupEnding>, AllocError>
         requires sound { IsSound self.old.builder self.old.store }
         requires over { (held_in self.old).waiting ≡ [] }
@@ -285,7 +285,7 @@ impl Makeup {
         Ok(None)
     }
 
-    // What ends a page on which something stands waits (plain.tex, \bye).
+    // Appends what ends a page that has a node to the waiting nodes (plain.tex, \bye).
     fn eject(&mut self) -> Result<(), AllocError>
         requires sound { IsSound self.old.builder self.old.store }
         requires over { (held_in self.old).waiting ≡ [] }
@@ -301,7 +301,7 @@ impl Makeup {
         self.contribute(Kind::Pen(LAST_PENALTY))
     }
 
-    // A node that no item gives goes to the end of what waits.
+    // Appends a node that no item gives (line 0) to the waiting nodes.
     fn contribute(&mut self, kind: Kind) -> Result<(), AllocError>
         requires sound { IsSound self.old.builder self.old.store }
         requires lone { inner_of kind ≡ None }
@@ -313,7 +313,7 @@ impl Makeup {
     }
 }
 
-// The ending if so many nodes are more than the limit.
+// The ending if this many nodes are more than the limit.
 fn over_limit(count: u64, limit: i64) -> Option<MakeupEnding>
     ensures { result ≡ over_limit limit count }
 {

@@ -1,4 +1,4 @@
--- The nodes that go back, as a store holds them.
+-- The nodes that go back, as a store holds them (LaTeX, \clearpage, \@specialoutput, \@addtocurcol and \@addmarginpar).
 use Rattle.std.specs.Prelude.{ℤ, pos, negsuc, neg_ℤ, Bool, List, [], ◌∷◌, map, Option, Some, None, if◌then◌else◌}
 use Rattle.tb_scaled.specs.declared.Glue.{Glue}
 use Rattle.tb_scaled.specs.Glue.{filling_glue, negated_glue}
@@ -25,7 +25,7 @@ abbrev pub clear_list : List Node
 clear_list =
     made_node (kinds.Skip filling_glue) ∷ made_node (kinds.Pen (negsuc 9999)) ∷ made_node kinds.Whatsit ∷ made_node (kinds.Hbox what.Blank (pos 0) (pos 0)) ∷ made_node (kinds.Pen (negsuc 10000)) ∷ []
 
--- a blank box before them
+-- a blank box, and the nodes of a further clear
 abbrev pub blank_clear_list : List Node
 blank_clear_list = made_node (kinds.Hbox what.Blank (pos 0) (pos 0)) ∷ clear_list
 
@@ -38,14 +38,16 @@ abbrev pub glue_of_kind : Kind → Option Glue
 glue_of_kind (kinds.Skip g) = wide_glue g
 glue_of_kind _ = None
 
+-- the glue of the list's last node, if that is glue of some width
 abbrev pub last_glue : List Node → Option Glue
 last_glue ns = last_or None (map (λ n. glue_of_kind n.kind) ns)
 
--- a penalty at the end of a list; after glue it acts as if before that glue
+-- a penalty as if before this glue: the glue negated, the penalty, the glue; the penalty alone if there is no glue
 abbrev pub interline_by : ℤ → Option Glue → List Node
 interline_by n None = made_node (kinds.Pen n) ∷ []
 interline_by n (Some g) = made_node (kinds.Skip (negated_glue g)) ∷ made_node (kinds.Pen n) ∷ made_node (kinds.Skip g) ∷ []
 
+-- a penalty at the end of a list; after glue it acts as if before that glue (ltoutput.dtx, \@specialoutput)
 abbrev pub interline_list : ℤ → List Node → List Node
 interline_list n ns = interline_by n (last_glue ns)
 

@@ -1,4 +1,4 @@
--- The firing of a builder's page, against the definition of a firing.
+-- The firing of a builder's page, against the definition of a firing (ltoutput.dtx, \output).
 use Rattle.std.specs.Prelude.{◌≡◌, ◌+◌, ◌≤◌, ℕ, ℤ, pos, neg_ℤ, ◌≤ℤ◌, ◌<ℤ◌, true, false, List, ◌∷◌, ◌++◌, length, take, All, Option, Some, None, int_lt, if◌then◌else◌}
 use Rattle.std.specs.List.{AllByRecursion}
 use Rattle.tb_pool.specs.Lists.{Lists, list_at}
@@ -96,7 +96,7 @@ pub record CanGoBack (l : ℕ) (m : MachineView) (b : Builder) (store : Lists No
   pub joins : ListJoins (ids_of b) store l
   pub machine_free : AreNoneOf (machine_lists m) (builder_lists b store)
 
--- the fault of a machine, or that as many firings were without a page as are allowed
+-- the fault of a machine; without one, that `maxdeadcycles` allows no more firings without a page
 abbrev pub fault_or_cycles : MachineView → Option RunFault → Option RunFault
 fault_or_cycles m None = if int_lt (pos m.dead_cycles) m.params.maxdeadcycles then None else Some (faults.DeadCycles m.dead_cycles)
 fault_or_cycles m (Some e) = Some e
@@ -111,13 +111,13 @@ pub record IsUntouched (m now : MachineView) (b later : Builder) (store new : Li
   pub builder : later ≡ b
   pub lists : new ≡ store
 
--- as many firings were without a page as are allowed; nothing changed
+-- n firings in a row shipped no page, and `maxdeadcycles` allows no more; nothing changed
 pub record AtDeadCycles (n : ℕ) (m now : MachineView) (b later : Builder) (store new : Lists Node) : Type 0 where
   pub count : n ≡ m.dead_cycles
   pub reached : m.params.maxdeadcycles ≤ℤ pos m.dead_cycles
   pub untouched : IsUntouched m now b later store new
 
--- the firing was to ship a page when as many were shipped as are allowed; what it sent before can be taken
+-- n pages were shipped, `maxpages` allows no more, and the firing was to ship one; what it sent before can be taken
 pub record AtLastPage (n : ℕ) (m now : MachineView) (store new : Lists Node) (w : Work) : Type 0 where
   pub alive : pos m.dead_cycles <ℤ m.params.maxdeadcycles
   pub refused : w.refused ≡ true

@@ -1,4 +1,4 @@
--- What the parts of a firing do.
+-- What the parts of a firing do (ltoutput.dtx, \output and \@specialoutput).
 use Rattle.std.specs.Prelude.{◌≡◌, ◌≢◌, ℕ, ◌-◌, ℤ, ◌+ℤ◌, ◌-ℤ◌, Bool, true, false, int_le, if◌then◌else◌, Some, None, List, [], ◌∷◌, ◌++◌, map, length, take, drop}
 use Rattle.std.specs.FinMap.{get}
 use Rattle.tb_pool.specs.Lists.{Lists, list_at}
@@ -95,7 +95,7 @@ IsColumnPart parts.Deferred = Unit {0}
 IsColumnPart parts.Double = ⊥
 IsColumnPart parts.Second = ⊥
 
--- they are at its top or at its bottom
+-- the floats of the list are at the top or at the bottom of a column
 abbrev pub IsAreaPart : Part → Type 0
 IsAreaPart parts.Current = ⊥
 IsAreaPart parts.Here = ⊥
@@ -115,10 +115,11 @@ place_of parts.Deferred = places.Deferred
 place_of parts.Double = places.Double
 place_of parts.Second = places.Deferred
 
--- the lists without the first of the current ones, and without the two boxes of a note
+-- the lists without the first entry of the current list
 abbrev pub without_first : FloatLists → FloatLists
 without_first l = record l { current = drop 1 l.current }
 
+-- the lists without the two boxes of a note, which are the first entries of the current list
 abbrev pub without_note : FloatLists → FloatLists
 without_note l = record l { current = drop 2 l.current }
 

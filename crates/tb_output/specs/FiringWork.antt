@@ -62,7 +62,7 @@ shows_all back b m store before w = ShowsWork before m store w × ShowsBack back
 
 -- ---- a work that was cut short
 
--- a page was to be shipped when as many were shipped as are allowed; what the work sent before can be taken
+-- n pages were shipped, `maxpages` allows no more, and the work was to ship one; what it sent before can be taken
 pub record AtPageLimit (n : ℕ) (before : List PlainSent) (m : MachineView) (store : Lists Node) (w : Work) : Type 0 where
   pub refused : w.refused ≡ true
   pub pages : n + 1 ≡ w.state.page

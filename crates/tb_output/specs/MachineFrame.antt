@@ -68,7 +68,7 @@ pub record KeepsBack (l : ℕ) (args : List ℕ) (m now : MachineView) (store ne
 
 -- ---- a page
 
--- the lists of a text column: they may be on a page, are apart from each other and from these lists, and have at most so many nodes
+-- the lists of a text column: they may be on a page, are apart from each other and from these lists, and have at most this many nodes
 pub record AreTextLists (most : ℕ) (others : List ℕ) (store : Lists Node) (l : ℕ) (ns : List NoteBox) : Type 0 where
   pub text : IsPageList store l
   pub notes : AreNotes store l ns

@@ -1,4 +1,4 @@
--- What the output routine does at a firing.
+-- What the output routine does at a firing (ltoutput.dtx, \output and \@specialoutput; TeX: The Program §1012).
 use Rattle.std.specs.Prelude.{ℤ, pos, negsuc, ◌+◌, ◌+ℤ◌, ◌-ℤ◌, Bool, true, false, not, ◌&&◌, List, [], ◌∷◌, ◌++◌, int_le, int_lt, int_div, if◌then◌else◌}
 use Rattle.tb_scaled.specs.Scaled.{is_zero, eject_penalty, max_dimen}
 use Rattle.tb_node.specs.PlainNodes.{PlainNode, pen, made, blank_box}
@@ -12,7 +12,7 @@ use Rattle.tb_output.specs.Columns.{ordinary}
 use Rattle.tb_output.specs.Text.{float_or_note}
 use Rattle.tb_output.specs.Clear.{clear}
 
--- the penalties at which the routine does something special: a clear, a float or note in a paragraph and between paragraphs, and the page before it
+-- the penalty of a clear
 abbrev pub clear_penalty : ℤ
 clear_penalty = negsuc 10000
 
@@ -36,7 +36,7 @@ is_int a b = is_zero (a -ℤ b)
 abbrev pub hold : List PlainNode → Work → Work
 hold body w = record w { state = record w.state { held_page = body } }
 
--- the output, by the penalty of the break
+-- by the penalty of the break: an ordinary page, a clear, a float or note in the text, or a page that is held
 abbrev pub output_by : Params → Fired → Work → Work
 output_by p f w =
     if int_le eject_penalty f.penalty then ordinary p f.body w
@@ -55,7 +55,7 @@ with_goal g w = record w { state = record w.state { goal = g } }
 abbrev pub blank_column : List PlainNode
 blank_column = made blank_box ∷ made (pen eject_penalty) ∷ []
 
--- too little room is left in the column
+-- the room of the column is less than a line and a half (1.5 `baselineskip`) and less than `textheight`
 abbrev pub is_crowded : Params → ℤ → Bool
 is_crowded p room = int_lt room (p.baselineskip +ℤ int_div p.baselineskip (pos 2)) && int_lt room p.textheight
 
@@ -64,11 +64,11 @@ abbrev pub leave_column : Work → Work
 leave_column w =
     puts (if w.state.two_columns && not w.state.first_column then blank_column ++ blank_column else blank_column) (sends (warned (warnings.Floats w.state.page)) w)
 
--- the goal, by the room that is left in the column
+-- the goal is the room of the column, unless that is too little; then the column stays blank, and the goal as it was
 abbrev pub goal_by : Params → ℤ → Work → Work
 goal_by p room w = if is_crowded p room then leave_column w else with_goal room w
 
--- the goal after a firing of this penalty
+-- the goal after a firing of this penalty: the greatest after a held page, else by the room of the column
 abbrev pub next_goal : Params → ℤ → Work → Work
 next_goal p n w = if is_int n hold_penalty then with_goal max_dimen w else goal_by p (column_room_of p w.state.floats) w
 

@@ -1,4 +1,5 @@
--- How the machine changes when it ships a page, and when a column is done.
+-- How the machine changes when it ships a page, and when a column is done (ltoutput.dtx, \@outputpage, \@opcol and
+-- \@outputdblcol).
 use Rattle.std.specs.Prelude.{◌≡◌, ◌+◌, ℕ, ℤ, pos, true, false, [], ◌∷◌, ◌++◌, int_lt, Some, None}
 use Rattle.tb_float.specs.declared.Part.TheVariants as parts
 use Rattle.tb_float.specs.Lists.{FloatLists, wide_part, wide_waiting}
@@ -21,18 +22,18 @@ with_warning w m = record m { events = m.events ++ events.Warn w ∷ [] }
 abbrev pub shipped_machine : Sheet → MachineView → MachineView
 shipped_machine sheet m = record m { events = m.events ++ events.Ship m.page sheet ∷ []; page = m.page + 1; dead_cycles = 0 }
 
--- fewer pages were shipped than are allowed, and this one was
+-- fewer than `maxpages` pages were shipped before, and this one was shipped
 pub record HasShipped (sheet : Sheet) (m now : MachineView) : Type 0 where
   pub room : int_lt m.params.maxpages (pos m.page) ≡ false
   pub machine : now ≡ shipped_machine sheet m
 
--- as many pages were shipped as are allowed, which is this many; nothing changed
+-- n pages were shipped, and `maxpages` allows no more; nothing changed
 pub record IsFull (n : ℕ) (m now : MachineView) : Type 0 where
   pub full : int_lt m.params.maxpages (pos m.page) ≡ true
   pub pages : n + 1 ≡ m.page
   pub machine : now ≡ m
 
--- no page was shipped: as many were as are allowed, or there was no memory
+-- no page was shipped: `maxpages` allows no more, or there was no memory
 abbrev pub HasNotShipped : RunFault → MachineView → MachineView → Type 0
 HasNotShipped (faults.DeadCycles n) m now = ⊥
 HasNotShipped (faults.PageLimit n) m now = IsFull n m now
@@ -54,10 +55,11 @@ without_left m = record m { left_column = None; first_column = true }
 abbrev pub without_doubles : MachineView → MachineView
 without_doubles m = record m { pool = without_entries parts.Double m.pool }
 
--- the lists once wide floats that wait were tried for the top of the next two columns, and deferred ones for the next column
+-- the lists once the wide floats that wait were tried for the top of the next two columns
 abbrev pub doubled_lists : MachineView → FloatLists
 doubled_lists m = doubled (wide_part m.params) m.params m.suppress [] (wide_waiting m.params m.pool.lists) m.pool.lists
 
+-- the lists once the deferred floats were tried for the next column
 abbrev pub filled_lists : MachineView → FloatLists
 filled_lists m = filled m.params m.suppress [] m.pool.lists.deferred m.pool.lists
 

@@ -1,4 +1,4 @@
--- Shipping pages and putting out columns.
+-- Shipping pages and putting out columns (ltoutput.dtx, \@outputpage, \@opcol, \@outputdblcol and \@combinedblfloats).
 use Rattle.std.specs.Prelude.{ℕ, zero, suc, pos, ◌+◌, Bool, true, false, not, List, [], length, Option, Some, None, int_lt, if◌then◌else◌}
 use Rattle.tb_scaled.specs.Scaled.{fraction_of}
 use Rattle.tb_node.specs.declared.Float.{Float}
@@ -19,7 +19,7 @@ ship_now sheet w =
 abbrev pub ship : Params → PlainSheet → Work → Work
 ship p sheet w = unless_refused (if int_lt p.maxpages (pos w.state.page) then record w { refused = true } else ship_now sheet w) w
 
--- a wide page of floats
+-- what a page of wide floats is made for: `textheight`, the share `dblfloatpagefraction`, and `dblfpsep`
 abbrev pub wide_wanted : Params → Bool → Wanted
 wide_wanted p clearing = record {
   height = p.textheight;
@@ -52,7 +52,7 @@ wide_pages p clearing (suc n) w = wide_pages_by (λ w'. wide_pages p clearing n 
 abbrev pub all_wide_pages : Params → Bool → Work → Work
 all_wide_pages p clearing w = wide_pages p clearing (length (wide_waiting p w.state.floats)) w
 
--- after every column
+-- after every column: marginal notes reach down to 0, and no area is suppressed
 abbrev pub after_column : Work → Work
 after_column w = record w { state = record w.state { note_bottom = pos 0; suppress = no_suppress } }
 
@@ -78,12 +78,12 @@ abbrev pub ship_pair : Params → PlainColumn → Work → Work
 ship_pair p c w =
     fill_double p (all_wide_pages p false (without_double (ship p (pair_sheet p w.state.floats (left_or c w.state.left_column) c) w)))
 
--- a text column takes its floats with it
+-- in one column the column ships as a page; of two, the first is kept, and the second ships with it
 abbrev pub put_out_by : Params → PlainColumn → Work → Work
 put_out_by p c w =
     if not w.state.two_columns then ship p (one c) w
     else (if w.state.first_column then keep_left c w else ship_pair p c w)
 
--- a column is put out: it is a page, the left column of one, or the right one
+-- a column is put out, and the column after it begins (ltoutput.dtx, \@opcol)
 abbrev pub put_out : Params → PlainColumn → Work → Work
 put_out p c w = after_column (put_out_by p c (records_also (output c) w))

@@ -56,7 +56,7 @@ impl Events {
         }
     }
 
-    /// Keeps room for so many more events. If there is no memory, all is as before.
+    /// Keeps room for `count` more events. If there is no memory, all is as before.
     pub fn keep_room(&mut self, count: usize) -> Result<(), AllocError>
         requires { count ≤ 4096 }
         ensures sent { self.new.sent ≡ self.old.sent }

@@ -116,7 +116,7 @@ impl Machine {
         }
     }
 
-    // Why no firing begins: an earlier fault, or as many firings without a page as are allowed.
+    // Why no firing begins: an earlier fault, or `maxdeadcycles` allows no more firings without a page.
     fn refusal(&self) -> Option<RunFault>
         requires { AreOutputParams self.now.params }
         ensures { result ≡ refusal_of self.now }

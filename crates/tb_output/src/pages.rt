@@ -43,7 +43,7 @@ pub(crate) fn wide_part(p: &Params) -> Part
 }
 
 impl Machine {
-    /// Ships a page, unless as many were shipped as are allowed.
+    /// Ships a page, unless `maxpages` allows no more.
     pub(crate) fn ship(&mut self, sheet: Sheet) -> Result<(), RunFault>
         requires first { 1 ≤ self.old.page }
         requires last { self.old.page ≤ 4194305 }

@@ -123,7 +123,7 @@ impl Machine {
         sum_of(self.held_height(store), list_height(store, body))
     }
 
-    // The height plus the depth of the held page, which was told when it fired.
+    // The height plus the depth of the held page, which was noted when it fired.
     fn held_height(&self, store: &Lists<Node>) -> i64
         requires held { IsPageList store.now self.now.held_page }
         requires room { IsRoomOf (list_at store.now self.now.held_page) self.now.held_room }

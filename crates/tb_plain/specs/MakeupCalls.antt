@@ -117,7 +117,7 @@ pub record HasFired (r : PlainPage) (m now : Plain) (b : Builder) (s : Lists Nod
   pub others : (q : ℕ) → q ≢ r.column.list → q ≢ page.body → Lacks q (owned (ids_of b) s) → get t.lists q ≡ get s.lists q
   pub apart : (q : ℕ) → Lacks q (owned (ids_of b) s) → Lacks q (owned (ids_of d) t)
 
--- why no page ships: as many as may be were shipped, or there is no memory
+-- why no page ships: `maxpages` pages were shipped, or there is no memory
 abbrev pub IsRefused : PlainFault → Plain → Type 0
 IsRefused (faults.PageLimit n) m = (n + 1 ≡ m.page) × (m.params.maxpages <ℤ pos m.page)
 IsRefused faults.Memory m = pos m.page ≤ℤ m.params.maxpages

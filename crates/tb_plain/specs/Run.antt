@@ -16,7 +16,7 @@ use Rattle.tb_plain.specs.GalleyNodes.{clearing_glue, made_up}
 use Rattle.tb_plain.specs.TakenFloats.{top_class, act_nodes}
 use Rattle.tb_plain.specs.Firing.{holds_any, makeup_column, put_back_after}
 
--- how a run ends: with nothing left, or with as many pages as may be, or at too many nodes
+-- how a run ends: with nothing left, after `maxpages` pages, or with more nodes than `maxnodes`
 pub data MakeupEnd : Type 0 where
   done : MakeupEnd
   page_limit : ℕ → MakeupEnd
@@ -43,7 +43,7 @@ makeup_classes p = top_class ∷ record { number = 254; factor = pos 1000; limit
 abbrev pub void_boxes : List Boxed
 void_boxes = record { number = 253; content = None } ∷ record { number = 254; content = None } ∷ []
 
--- each page is made for the same
+-- all pages have the same goal, depth limit and top skip
 abbrev pub makeup_ask : Params → Ask
 makeup_ask p = record { goal = p.textheight; max_depth = p.maxdepth; top_skip = p.topskip }
 
@@ -70,12 +70,12 @@ pub data AtAct : Type 0 where
   no_act : AtAct
   at_act : List PlainNode → Act → List PlainNode → AtAct
 
--- the same with one node before
+-- the first act, with one more node before it
 abbrev pub after_node : PlainNode → AtAct → AtAct
 after_node n no_act = no_act
 after_node n (at_act before a after) = at_act (n ∷ before) a after
 
--- the same by the kind of the first node
+-- the first act of a list, by the kind of its first node
 abbrev pub first_act_by : PlainNode → List PlainNode → AtAct → PlainKind → AtAct
 first_act_by n ns later (plain m) = after_node n later
 first_act_by n ns later (ins i) = after_node n later
@@ -111,7 +111,7 @@ act_step p s (at_act before a after) =
 abbrev pub waiting_after : Params → Fired → List PlainNode
 waiting_after p f = f.held ++ (put_back_after p f ++ f.rest)
 
--- the page is shipped, and the run ends there if more nodes wait than may be
+-- the page is shipped, and the run ends there if more nodes wait than `maxnodes`
 abbrev pub shipping_step : Params → ℕ → Fired → MakeupStep
 shipping_step p number f =
     let sent = shipped number (one (makeup_column p f)) ∷ [] in
@@ -119,7 +119,7 @@ shipping_step p number f =
     let count = node_count (waiting_after p f) in
     if int_lt p.maxnodes (pos count) then ends sent (node_limit count) else goes_on sent next
 
--- a page fires: if as many pages as may be are shipped, the run ends
+-- a page fires: if `maxpages` pages were shipped, the run ends
 abbrev pub firing_step : Params → ℕ → Fired → MakeupStep
 firing_step p number f =
     let ships = shipping_step p number f in
@@ -156,12 +156,12 @@ abbrev pub run_by : (MakeupState → MakeupRun) → MakeupStep → MakeupRun
 run_by later (ends es e) = record { sent = es; end = e }
 run_by later (goes_on es s) = run_after es (later s)
 
--- the run from a state; each step lowers the fuel, and a run that has enough never comes to its end
+-- the run from a state; each step lowers the fuel, and a run that has enough never uses it up
 unfoldable pub makeup_from : Params → ℕ → MakeupState → MakeupRun
 makeup_from p zero s = record { sent = []; end = page_limit (pred s.number) }
 makeup_from p (suc fuel) s = run_by (λ s'. makeup_from p fuel s') (makeup_step p s)
 
--- acts of a node, and of a list
+-- how many acts a node is
 abbrev pub one_act : PlainKind → ℕ
 one_act (plain m) = 0
 one_act (ins i) = 0
@@ -176,7 +176,7 @@ act_count (n ∷ ns) = one_act n.kind + act_count ns
 abbrev pub steps_left : Params → MakeupState → ℕ
 steps_left p s = act_count s.page + act_count s.waiting + 2 * (nat_abs p.maxpages - pred s.number) + 1
 
--- the run from a state, which ends at once if more nodes wait than may be
+-- the run from a state, which ends at once if more nodes wait than `maxnodes`
 abbrev pub makeup_of_state : Params → MakeupState → MakeupRun
 makeup_of_state p s =
     let run = makeup_from p (suc (steps_left p s)) s in

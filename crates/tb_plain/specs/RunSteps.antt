@@ -9,7 +9,7 @@ use Rattle.tb_plain.specs.Run.{MakeupState, MakeupEnd, done, page_limit, node_li
 abbrev pub StepsAgree : Type 0
 StepsAgree = (p : Params) (k m : ℕ) (s : MakeupState) → 1 ≤ s.number → steps_left p s < k → steps_left p s < m → makeup_from p k s ≡ makeup_from p m s
 
--- a run that shipped these pages ended because it is done, because they are as many as may be, or because more nodes wait than may be
+-- a run that shipped these pages ended because it is done, because they are `maxpages` pages, or because more nodes wait than `maxnodes`
 abbrev pub HasReason : Params → List PlainSent → MakeupEnd → Type 0
 HasReason p es done = Unit {0}
 HasReason p es (page_limit n) = (length es ≡ n) × (p.maxpages ≤ℤ pos n)

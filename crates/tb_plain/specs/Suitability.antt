@@ -20,7 +20,7 @@ abbrev pub unsuited_among : List Item → Option ℕ
 unsuited_among [] = None
 unsuited_among (n ∷ ns) = if is_suited n.kind then unsuited_among ns else Some n.line
 
--- that of a galley
+-- the line of the first item of a galley that is not served
 abbrev pub first_unsuited : Galley → Option ℕ
 first_unsuited g = unsuited_among g.items
 

@@ -256,7 +256,7 @@ fn push_page_for_held(store: &mut Lists<Node>, p: &Params, l: ListId)
     push_made(store, l, Kind::Pen(CLEARING_PENALTY));
 }
 
-// A kern that backs up by so much.
+// A kern that backs up by this room.
 fn kern_back(room: i64) -> Kind
     requires { IsExtent room }
     ensures { result ≡ Kind.Kern (neg_ℤ room) }

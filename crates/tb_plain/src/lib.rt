@@ -23,12 +23,14 @@ pub struct Plain {
     page: u64,
 }
 
-/// A page that ships: its number, its column, and the list of the nodes that go back before what waits. Both lists are the
-/// caller's.
+/// A page that ships, and the nodes that go back.
 #[derive(Clone, Copy)]
 pub struct PlainPage {
+    /// The number of the page, from 1.
     pub page: u64,
+    /// The column, whose list is the caller's.
     pub column: Column,
+    /// The list of the nodes that go back before what waits; it is the caller's.
     pub put_back: ListId,
 }
 
@@ -65,8 +67,8 @@ pub fn new_plain(p: &Params) -> Plain
 }
 
 /// The run of a galley is defined: each step takes an act, ships a page or ends the last page, so the bound on the steps,
-/// with which a run starts, is never met. A run ends because it is done, because as many pages as may be were shipped, or
-/// because more nodes wait than may be.
+/// with which a run starts, is never met. It ends because it is done, because `maxpages` pages were shipped, or because
+/// more nodes wait than `maxnodes`.
 pub fn makeup_runs_are_defined()
     ensures bounds { StepsAgree }
     ensures reasons { EndsHaveReasons }

@@ -18,7 +18,7 @@ event_of store (happenings.Sent e) = sent (sent_shown store e)
 abbrev pub events_of : Lists Node → List Happening → List RunEvent
 events_of store hs = map (event_of store) hs
 
--- a place that was tried, if it is wanted
+-- a place that was tried, if the caller asks for tries
 abbrev pub noted_try : Bool → Try → List Happening
 noted_try wanted t = if wanted then happenings.Tried t ∷ [] else []
 
@@ -27,7 +27,7 @@ abbrev pub noted_event : Bool → RunEvent → List RunEvent
 noted_event wanted (offered t) = if wanted then offered t ∷ [] else []
 noted_event wanted (sent e) = sent e ∷ []
 
--- all that is sent, and the tries if they are wanted
+-- all that is sent, and the tries if the caller asks for them
 abbrev pub noted : Bool → List RunEvent → List RunEvent
 noted wanted [] = []
 noted wanted (e ∷ es) = noted_event wanted e ++ noted wanted es

@@ -62,7 +62,7 @@ pub record IsBetweenFirings (r : Routine) : Type 0 where
   pub served : IsServed (held_in r).waiting (state_of r)
   pub bounded : IsBounded 4194304 r
 
--- the same, and each event was taken
+-- a page can be filled and served, and the machine's queue of events is empty
 pub record IsReady (r : Routine) : Type 0 where
   pub settled : IsBetweenFirings r
   pub events : r.machine.events ≡ []

@@ -42,7 +42,7 @@ sent_happenings es = map (λ e. happenings.Sent e) es
 
 -- ---- the next event
 
--- the builder came to this event; if places are wanted none was passed over before it
+-- the builder came to this event; if the caller asks for tries, no place was passed over before it
 pub record HasComeTo (wanted : Bool) (e : Event) (ask : Ask) (r q : Routine) : Type 0 where
   pub passed : List PassedOver
   pub comes : ComesBy passed r.builder r.store ask e q.builder q.store
@@ -113,7 +113,7 @@ pub record IsFiring (wanted : Bool) (r : Routine) (page : Page) (q : Routine) (h
   pub bounded : IsBoundedPage page q
   pub most : q.most ≡ r.most
 
--- what the page comes to
+-- the page that was filled fires, or the run ends before it does
 abbrev pub Fills : Bool → Routine → Filled → Routine → List Happening → Type 0
 Fills wanted r (filled.Fires page) q hs = IsFiring wanted r page q hs
 Fills wanted r (filled.Ends e) q hs = IsFilledLast wanted r e q hs
@@ -148,7 +148,7 @@ pub record IsLimited (n : ℕ) (page : Page) (r q : Routine) : Type 0 where
   pub pages : n + 1 ≡ (whole_work r.machine r.builder r.store page).state.page
   pub sent : events_shown q.store q.machine.events ≡ events_shown r.store r.machine.events ++ (whole_work r.machine r.builder r.store page).sent
 
--- as many firings as may be were without a page, and nothing changed
+-- n firings in a row shipped no page, and `maxdeadcycles` allows no more; nothing changed
 pub record IsDead (n : ℕ) (r q : Routine) : Type 0 where
   pub count : n ≡ r.machine.dead_cycles
   pub reached : r.machine.params.maxdeadcycles ≤ℤ pos r.machine.dead_cycles

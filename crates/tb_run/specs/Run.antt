@@ -109,7 +109,7 @@ abbrev pub run_by : (State → Run) → Step → Run
 run_by later (ends es rs e) = record { events = es; records = rs; end = e }
 run_by later (goes_on es rs s) = run_after es rs (later s)
 
--- the run from a state; each firing lowers the fuel, and a run that has enough never comes to its end
+-- the run from a state; each firing lowers the fuel, and a run that has enough never uses it up
 unfoldable pub run_from : Params → ℕ → State → Run
 run_from p zero s = record { events = []; records = []; end = dead_cycles s.dead_cycles }
 run_from p (suc fuel) s = run_by (λ s'. run_from p fuel s') (step p s)

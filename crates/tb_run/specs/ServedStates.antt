@@ -52,7 +52,7 @@ kind_notes (plain m) = 0
 kind_notes (ins i) = 0
 kind_notes (act a) = act_notes a
 
--- those among the nodes that wait
+-- how many marginal notes the nodes that wait take
 abbrev pub notes_waiting : List PlainNode → ℕ
 notes_waiting [] = 0
 notes_waiting (n ∷ ns) = kind_notes n.kind + notes_waiting ns
@@ -63,12 +63,12 @@ entry_notes (entries.Float f) = 0
 entry_notes (entries.Left m) = 1
 entry_notes (entries.Right m) = 0
 
--- those that were taken
+-- how many marginal notes were taken
 abbrev pub notes_taken : List Entry → ℕ
 notes_taken [] = 0
 notes_taken (e ∷ es) = entry_notes e + notes_taken es
 
--- those of a state in which these nodes wait
+-- how many marginal notes have no place yet in a state in which these nodes wait
 abbrev pub notes_left : List PlainNode → State → ℕ
 notes_left ns s = notes_waiting ns + notes_taken s.floats.current
 

@@ -12,6 +12,7 @@ use tb_column::Sent;
 /// holds when it fills in a type parameter. It is seen as that [`Sent`].
 #[derive(Clone, Copy)]
 pub struct Event {
+    /// What was sent.
     pub sent: Sent,
 }
 
@@ -28,11 +29,13 @@ impl Model for Event {
 /// A place that was tried, or what the output routine sent.
 #[derive(Clone, Copy)]
 pub enum Happening {
+    /// A legal place was tried.
     Tried(Try),
+    /// The output routine sent a warning or a page.
     Sent(Event),
 }
 
-/// Appends a place that was tried, if it is wanted.
+/// Appends a place that was tried, if `wanted` is set.
 pub(crate) fn note_try(
     happened: &mut Vec<Happening>,
     wanted: bool,

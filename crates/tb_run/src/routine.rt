@@ -44,6 +44,7 @@ pub struct Routine {
     pub store: Lists<Node>,
     /// Holds what waits.
     pub builder: Builder,
+    /// The output routine: its floats, columns, counts, and the events that it has not handed over.
     pub machine: Machine,
     /// A bound on the nodes that are held, so that they need not be counted after each firing.
     pub most: u64,
@@ -120,7 +121,7 @@ impl Routine {
     /// The ending if more nodes are held than `maxnodes`: those that wait, those of the held page and those of
     /// insertions, in their boxes too.
     ///
-    /// They are counted only if the bound on them passes `maxnodes`; their number is the bound then.
+    /// They are counted only if the bound on them is more than `maxnodes`; the bound is then their number.
     pub fn node_limit(&mut self) -> Option<Ending>
         requires whole { IsConsistent self.old }
         requires bounded { IsBounded 8388608 self.old }
@@ -144,8 +145,8 @@ impl Routine {
     /// Makes the next page of what waits, and fires it: it is shipped, or its penalty asks for something else (TeX: The
     /// Program §994, §1012; ltoutput.dtx, \output). Returns how the run ends with it, if it does.
     ///
-    /// It is the step of the run: `happened` holds what the output routine sent in the step, and the places that were tried
-    /// if they are wanted, all in their order. The lists of the pages that were sent are the caller's until
+    /// It is the step of the run: `happened` holds what the output routine sent in the step and, if `wanted` is set, the
+    /// places that were tried, all in their order. The lists of the pages that were sent are the caller's until
     /// [`Self::done_with`]. What `happened` held before is gone. If memory runs out, the run cannot go on.
     pub fn turn(
         &mut self,
@@ -171,11 +172,8 @@ impl Routine {
         Ok(ending)
     }
 
-    /// Sees that places are spare for the next turn, once what the last one sent was written: if few are, the lists of it
-    /// are closed.
-    ///
-    /// Else they stay: the nodes of the galley have been in the store since the start, and to take them out one by one
-    /// would only cost time.
+    /// Closes the lists of `written`, which the last turn sent and which was written, if few places are spare. Else they
+    /// stay, which saves time: they would leave the store node by node.
     pub fn make_room(&mut self, written: &[Happening])
         requires ready { IsReady self.old }
         requires lists { AreHappened self.old written.now }
@@ -227,7 +225,7 @@ impl Routine {
         }
     }
 
-    // The next event of the builder. Places are passed over unless they are wanted.
+    // The next event of the builder. Places that were tried are passed over unless `wanted` is set.
     fn next_event(&mut self, wanted: bool, ask: &Ask) -> Result<Event, AllocError>
         requires sound { IsSound self.old.builder self.old.store }
         requires fits { NextFits (held_in self.old) ask.now }

@@ -85,7 +85,7 @@ line_at (dead_cycles n) = err_line (dead_cycles_text n)
 line_at (page_limit n) = err_line (page_limit_text n)
 line_at (node_limit n) = err_line (node_limit_text n)
 
--- the same of a run of the page makeup
+-- the line for a run of the page makeup that ends so; a run that ends well has none
 abbrev pub makeup_line : MakeupEnd → List ℕ
 makeup_line made = []
 makeup_line (at_pages n) = err_line (page_limit_text n)
@@ -118,22 +118,22 @@ memory_line = err_line (bare_text answers.Memory)
 
 -- ---- what a mode makes of what it reads
 
--- the status, what is written, the line on err, and whether it comes to writing
+-- the status, what is written, the line on standard error, and whether anything is to be written
 pub record Reply : Type 0 where
   pub answer : Status
   pub written : List ℕ
   pub line : List ℕ
   pub writes : Bool
 
--- a galley with this first fault
+-- the reply to a galley with this first fault
 abbrev pub fault_reply : Fault → Reply
 fault_reply f = record { answer = answer_for_cause f.cause; written = []; line = err_line (fault_text f); writes = false }
 
--- a run, with what is written of it
+-- the reply of a run, with what is written of it
 abbrev pub run_reply : List ℕ → Run → Reply
 run_reply text r = record { answer = answer_at r.end; written = text; line = line_at r.end; writes = true }
 
--- a galley that is not run
+-- the reply that writes this text and shows no run
 abbrev pub text_reply : List ℕ → Reply
 text_reply text = record { answer = answers.Done; written = text; line = []; writes = true }
 
@@ -151,20 +151,20 @@ abbrev pub is_done : End → Bool
 is_done (done left) = true
 is_done _ = false
 
--- the run of a generated galley
+-- the reply of the run of a generated galley
 abbrev pub summary_reply : ℕ → Run → Reply
 summary_reply n r = record { answer = answer_at r.end; written = summary_at n (totals_of r.events) r.end; line = line_at r.end; writes = is_done r.end }
 
--- of a galley, or of its fault
+-- the reply to a galley, or to the first fault of what is none
 abbrev pub galley_reply : (Galley → Reply) → Result Galley Fault → Reply
 galley_reply reply (Ok g) = reply g
 galley_reply reply (Err f) = fault_reply f
 
--- a text without a galley of lines
+-- the reply to a text without a galley of lines
 abbrev pub no_lines_reply : NoGalley → Reply
 no_lines_reply why = record { answer = answer_without why; written = []; line = err_line (no_galley_text why); writes = false }
 
--- of the galley of a text's lines, or of why there is none
+-- the reply that writes the galley of a text's lines, or says why there is none
 abbrev pub lines_reply : Result (List ℕ) NoGalley → Reply
 lines_reply (Ok galley) = text_reply galley
 lines_reply (Err why) = no_lines_reply why
@@ -173,46 +173,46 @@ lines_reply (Err why) = no_lines_reply why
 abbrev pub dvi_file : ℤ → Run → List ℕ
 dvi_file textheight r = run_bytes textheight (run_pages r) (is_done r.end)
 
--- of a run whose first page out of range is this one, if there is one
+-- the reply of a run whose first page out of range is this one, if there is one
 abbrev pub dvi_reply_by : Option ℕ → ℤ → Run → Reply
 dvi_reply_by None textheight r = run_reply (dvi_file textheight r) r
 dvi_reply_by (Some page) textheight r = record { answer = answers.TooFar; written = dvi_file textheight r; line = err_line (far_line page); writes = true }
 
--- of a run whose pages are written as a DVI file
+-- the reply of a run whose pages are written as a DVI file
 abbrev pub dvi_reply : ℤ → Run → Reply
 dvi_reply textheight r = dvi_reply_by (first_too_far 27 (run_pages r)) textheight r
 
--- a DVI file whose first command that fails is at this byte
+-- the reply to a DVI file whose first command that fails is at this byte
 abbrev pub cause_reply : ℕ → DviCause → Reply
 cause_reply byte cause = record { answer = answers.Dvi; written = []; line = err_line (cause_line byte cause); writes = false }
 
--- of what is listed of a file, or of its first command that fails
+-- the reply that writes what is listed of a file, or names its first command that fails
 abbrev pub listed_reply : Result (List Item) Failure → Reply
 listed_reply (Ok items) = text_reply (listing items)
 listed_reply (Err e) = cause_reply e.byte e.cause
 
--- of a DVI file, unless it is too long
+-- the reply to a DVI file, by whether it is too long
 abbrev pub listing_reply : List ℕ → Reply
 listing_reply input = if nat_lt input_limit (length input) then fault_reply (fault 0 0 causes.InputSize) else listed_reply (listed input)
 
--- a run of the page makeup, with its report
+-- the reply of a run of the page makeup, with its report
 abbrev pub makeup_run_reply : MakeupRun → Reply
 makeup_run_reply r = record { answer = makeup_answer r.end; written = makeup_report r; line = makeup_line r.end; writes = true }
 
--- a galley whose first item that the page makeup does not serve is on this line
+-- the reply to a galley whose first item that the page makeup does not serve is on this line
 abbrev pub unsuited_reply : ℕ → Reply
 unsuited_reply n = record { answer = answers.Unsuited; written = []; line = err_line (unsuited_text n); writes = false }
 
--- of a galley by its first item that is not served, if there is one
+-- the reply to a galley by its first item that is not served, if there is one
 abbrev pub makeup_reply_by : Option ℕ → Galley → Reply
 makeup_reply_by None g = makeup_run_reply (makeup_of g)
 makeup_reply_by (Some n) g = unsuited_reply n
 
--- of a galley whose pages the page makeup makes
+-- the reply to a galley whose pages the page makeup makes
 abbrev pub makeup_reply : Galley → Reply
 makeup_reply g = makeup_reply_by (first_unsuited g) g
 
--- by the mode; an input that is no galley has the reply of its first fault
+-- the reply to an input, by the mode; to one that is no galley it is that of its first fault
 abbrev pub reply_to : Mode → List ℕ → Reply
 reply_to modes.Report input = galley_reply (λ g. run_reply (report (run_of g)) (run_of g)) (grammar input)
 reply_to modes.Trace input = galley_reply (λ g. run_reply (trace (run_of g)) (run_of g)) (grammar input)

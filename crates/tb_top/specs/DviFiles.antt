@@ -33,7 +33,7 @@ pub record Writes (g : Galley) (old new : Option (List ℕ)) (end : Option PageF
   pub near : far_page g ≡ None
   pub written : Appends old new (galley_file g)
 
--- it ended well
+-- the run ended well, each page is in range, and its file is written
 abbrev pub WritesFile : Galley → Option (List ℕ) → Option (List ℕ) → Type 0
 WritesFile g old new = Writes g old new None
 
@@ -46,7 +46,7 @@ RefusesPages g old new (faults.NodeLimit n) = Writes g old new (Some (faults.Nod
 RefusesPages g old new faults.WriteFault = AppendsPrefix old new (galley_file g)
 RefusesPages g old new faults.Memory = AppendsPrefix old new (galley_file g)
 
--- after each refusal; this page may be the first that is out of range
+-- after each refusal: that of the run, or this page is the first out of range, and the pages before it are written
 abbrev pub RefusesFile : Galley → Option (List ℕ) → Option (List ℕ) → DviRunFault → Type 0
 RefusesFile g old new (refused.Pages f) = RefusesPages g old new f
 RefusesFile g old new (refused.TooFar page) = (far_page g ≡ Some page) × Appends old new (galley_file g)

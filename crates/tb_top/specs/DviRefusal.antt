@@ -13,12 +13,12 @@ use Rattle.tb_top.specs.declared.status.Status.{Status}
 use Rattle.tb_top.specs.declared.status.Status.TheVariants as answers
 use Rattle.tb_top.specs.Answer.{Reply, fault_reply, cause_reply}
 
--- the status
+-- the status of the refusal of a DVI file or of a listing
 abbrev pub dvi_status : DviRefusal → Status
 dvi_status (dvi.TooFar page) = answers.TooFar
 dvi_status (dvi.At byte cause) = answers.Dvi
 
--- what the line on err shows
+-- what its line on standard error shows
 abbrev pub dvi_text : DviRefusal → List ℕ
 dvi_text (dvi.TooFar page) = far_line page
 dvi_text (dvi.At byte cause) = cause_line byte cause

@@ -64,6 +64,7 @@ abbrev pub StopsRun : ℤ → Progress → Ending → Option (List ℕ) → Opti
 StopsRun textheight w ending old new f =
     (IsRefusalOf ending f × (new ≡ old)) ⊎ ((ending ≡ endings.Done) × ((fault : SinkFault) × (f ≡ write_fault fault)) × AppendsPrefix old new (last_bytes textheight w))
 
+-- the end of the file fails as the run or its writing does; no page is out of range any more
 abbrev pub StopsFile : ℤ → Progress → Ending → Option (List ℕ) → Option (List ℕ) → DviRunFault → Type 0
 StopsFile textheight w ending old new (refused.Pages f) = StopsRun textheight w ending old new f
 StopsFile textheight w ending old new (refused.TooFar page) = ⊥

@@ -4,7 +4,7 @@ use Rattle.tb_param.specs.declared.Params.{Params}
 use Rattle.tb_output.specs.State.{State}
 use Rattle.tb_run.specs.Run.{End, done, pool_full, dead_cycles, page_limit, node_limit, run_from, firings_left}
 
--- a run that ends for its dead cycles has as many as there may be, and so was not cut off
+-- a run that ends for its dead cycles has at least `maxdeadcycles` of them, and so was not cut off
 abbrev pub HasReason : Params → End → Type 0
 HasReason p (done left) = Unit {0}
 HasReason p (pool_full line live) = Unit {0}

@@ -32,12 +32,12 @@ use Rattle.tb_top.specs.Answer.{answer_for_cause, err_line, bare_text, pool_full
 
 -- ---- the status
 
--- if there is no galley
+-- the status if there is no galley
 abbrev pub galley_status : GalleyFault → Status
 galley_status (unread.At f) = answer_for_cause f.cause
 galley_status unread.Memory = answers.Memory
 
--- if the pages stopped
+-- the status if the pages stopped
 abbrev pub page_status : PageFault → Status
 page_status (pages.PoolFull line live) = answers.PoolFull
 page_status (pages.DeadCycles n) = answers.DeadCycles
@@ -46,28 +46,28 @@ page_status (pages.NodeLimit n) = answers.NodeLimit
 page_status pages.WriteFault = answers.WriteFault
 page_status pages.Memory = answers.Memory
 
--- if the input was not read
+-- the status if the input was not read
 abbrev pub input_status : InputFault → Status
 input_status inputs.Failed = answers.ReadFault
 input_status inputs.Memory = answers.Memory
 
--- if no mode was asked for
+-- the status if no mode was asked for
 abbrev pub words_status : WordsFault → Status
 words_status asked.Refused = answers.Words
 words_status asked.Memory = answers.Memory
 
--- if a text was not written
+-- the status if a text was not written
 abbrev pub output_status : SinkFault → Status
 output_status outputs.Failed = answers.WriteFault
 output_status outputs.Memory = answers.Memory
 
--- if a text has no galley of lines
+-- the status if a text has no galley of lines
 abbrev pub lines_status : LinesRefusal → Status
 lines_status (unbroken.At line field cause) = answer_for_cause cause
 lines_status (unbroken.NoBreaks n) = answers.NoBreaks
 lines_status unbroken.Memory = answers.Memory
 
--- by the step that refused
+-- the status of a refusal, by the step that refused
 abbrev pub refusal_status : Refusal → Status
 refusal_status (refusals.Words f) = words_status f
 refusal_status (refusals.Output f) = output_status f
@@ -81,12 +81,12 @@ refusal_status (refusals.Unsuited n) = answers.Unsuited
 
 -- ---- the line on err
 
--- if there is no galley
+-- the text if there is no galley
 abbrev pub galley_text : GalleyFault → List ℕ
 galley_text (unread.At f) = fault_text f
 galley_text unread.Memory = bare_text answers.Memory
 
--- if the pages stopped
+-- the text if the pages stopped
 abbrev pub page_text : PageFault → List ℕ
 page_text (pages.PoolFull line live) = pool_full_text line live
 page_text (pages.DeadCycles n) = dead_cycles_text n
@@ -95,7 +95,7 @@ page_text (pages.NodeLimit n) = node_limit_text n
 page_text pages.WriteFault = bare_text answers.WriteFault
 page_text pages.Memory = bare_text answers.Memory
 
--- by the step that refused
+-- the text of a refusal, by the step that refused
 abbrev pub refusal_text : Refusal → List ℕ
 refusal_text (refusals.Words f) = bare_text (words_status f)
 refusal_text (refusals.Output f) = bare_text (output_status f)
@@ -107,7 +107,7 @@ refusal_text (refusals.Lines f) = lines_text f
 refusal_text (refusals.Dvi f) = dvi_text f
 refusal_text (refusals.Unsuited n) = unsuited_text n
 
--- its whole line
+-- the whole line of a refusal on standard error
 abbrev pub refusal_line : Refusal → List ℕ
 refusal_line r = err_line (refusal_text r)
 
@@ -130,7 +130,7 @@ abbrev pub served_status : {T : Type 0} → Result T Refusal → Status
 served_status (Ok v) = answers.Done
 served_status (Err r) = refusal_status r
 
--- its line; a run that was served has none
+-- the line of a run that was refused; one that was served has none
 abbrev pub served_line : {T : Type 0} → Result T Refusal → List ℕ
 served_line (Ok v) = []
 served_line (Err r) = refusal_line r

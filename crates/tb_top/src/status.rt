@@ -15,7 +15,7 @@ pub enum Status {
     Range,
     /// A float or marginal note was taken while the float pool was full.
     PoolFull,
-    /// The page fired after as many firings without a page as `maxdeadcycles` allows.
+    /// The page fired, but `maxdeadcycles` allows no more firings without a page.
     DeadCycles,
     /// A page was to be shipped after `maxpages` pages.
     PageLimit,
