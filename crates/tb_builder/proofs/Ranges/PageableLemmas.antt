@@ -65,7 +65,7 @@ extent_goal z h = record { low = let a = h.low in grind (arith, ints, a); high =
 goal_amount : (z : ℤ) → IsGoal z → IsAmount z
 goal_amount z h = record { low = omega (arith, ints); high = omega (arith, ints) }
 
-size_amount : (k : ℕ) (z : ℤ) → k ≤ 8388608 → IsWithin (2147483646 * k) z → IsAmount z
+pub size_amount : (k : ℕ) (z : ℤ) → k ≤ 8388608 → IsWithin (2147483646 * k) z → IsAmount z
 size_amount k z few h = record { low = omega (arith, ints); high = omega (arith, ints) }
 
 pub wider : (a b : ℕ) (z : ℤ) → a ≤ b → IsWithin a z → IsWithin b z
