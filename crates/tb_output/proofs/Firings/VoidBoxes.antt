@@ -5,7 +5,7 @@ use Rattle.std.specs.List.{AllByRecursion}
 use Rattle.std.proofs.lemmas.Bool.{or_parts}
 use Rattle.std.proofs.lemmas.Bool.Decides.{nat_tests}
 use Rattle.std.proofs.Math.Bool.{or-true}
-use Rattle.tb_builder.proofs.Handover.CallLemmas.{voids_boxed}
+use Rattle.tb_builder.proofs.Handover.CallLemmas.{voided_number, voids_boxed}
 use Rattle.tb_node.specs.PlainNodes.{Leaf}
 use Rattle.tb_insert.specs.declared.Class.{Class}
 use Rattle.tb_builder.specs.FiredPages.{Boxed, box_content}
@@ -24,16 +24,9 @@ void n = record { number = n; content = None }
 
 -- ---- one class
 
-by-class : (t : Bool) (b : Boxed) → (if t then void b.number else b).number ≡ b.number
-by-class true b = refl
-by-class false b = refl
-
-voided-number : (k : ℕ) (b : Boxed) → (voided k b).number ≡ b.number
-voided-number k b = by-class (b.number == k) b
-
 emptied-void : (k : ℕ) (bs : List Boxed) → emptied_boxes (with_void k bs) ≡ emptied_boxes bs
 emptied-void k [] = refl
-emptied-void k (b ∷ bs) = λ i. void (voided-number k b i) ∷ emptied-void k bs i
+emptied-void k (b ∷ bs) = λ i. void (voided_number k b i) ∷ emptied-void k bs i
 
 voided-own : (k : ℕ) (b : Boxed) → b.number ≡ k → voided k b ≡ void b.number
 voided-own k b e = let same : (b.number == k) ≡ true = grind (arith, nat_tests, e) in ap (λ t. if t then void b.number else b) same

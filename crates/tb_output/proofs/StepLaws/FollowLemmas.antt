@@ -74,6 +74,33 @@ part-joined parts.Second q places.Page f gs l v = refl
 part-joined parts.Second q places.Double f gs l v = refl
 part-joined parts.Second q places.Deferred f gs l v = absurd v
 
+-- what is recorded leaves the state as it is
+pub records-state : (r : Recorded) (w : Work) → (records_also r w).state ≡ w.state
+records-state r w = by_refused w.refused
+  where
+    by_refused : (t : Bool) → (if t then w else record w { records = w.records ++ r ∷ [] }).state ≡ w.state
+    by_refused true = refl
+    by_refused false = refl
+
+-- the current list stays when a float joins a list
+pub joined-current : (place : Where) (f : Float) (l : FloatLists) → (FloatMoves.joined_to place f l).current ≡ l.current
+joined-current places.Here f l = refl
+joined-current places.Top f l = refl
+joined-current places.Bottom f l = refl
+joined-current places.Page f l = refl
+joined-current places.Double f l = refl
+joined-current places.Deferred f l = refl
+
+-- the current list stays when other floats wait
+pub part-current : (from : Part) → IsWaiting from → (gs : List Float) (l : FloatLists) → (with_floats_of from gs l).current ≡ l.current
+part-current parts.Current q gs l = absurd q
+part-current parts.Here q gs l = absurd q
+part-current parts.Top q gs l = absurd q
+part-current parts.Bottom q gs l = absurd q
+part-current parts.Deferred q gs l = refl
+part-current parts.Double q gs l = absurd q
+part-current parts.Second q gs l = refl
+
 module _ (P : Float → Type 0) where
   pub follows-same : (a : Work) → Follows P a a
   follows-same a = record { goes = λ h. h; columns = refl; boxes = refl; back = refl; page = refl; current = refl; floats = omega arith; all = λ h. h; cycles = λ h. inl refl }
@@ -141,14 +168,6 @@ module _ (P : Float → Type 0) where
   joined-all places.Double f l k h = record { top = h.top; bottom = h.bottom; deferred = h.deferred; double = all-push P l.double f h.double k; second = h.second }
   joined-all places.Deferred f l k h = record { top = h.top; bottom = h.bottom; deferred = all-push P l.deferred f h.deferred k; double = h.double; second = h.second }
 
-  pub joined-current : (place : Where) (f : Float) (l : FloatLists) → (FloatMoves.joined_to place f l).current ≡ l.current
-  joined-current places.Here f l = refl
-  joined-current places.Top f l = refl
-  joined-current places.Bottom f l = refl
-  joined-current places.Page f l = refl
-  joined-current places.Double f l = refl
-  joined-current places.Deferred f l = refl
-
   -- the lists change, and nothing else
   with-lists : (l : FloatLists) (w : Work) → l.current ≡ w.state.floats.current → waiting_floats l ≤ waiting_floats w.state.floats → (AllWait P w.state.floats → AllWait P l) → Follows P w (with_floats l w)
   with-lists l w c h k = record { goes = λ r. r; columns = refl; boxes = refl; back = refl; page = refl; current = c; floats = h; all = k; cycles = λ r. inl refl }
@@ -172,12 +191,8 @@ module _ (P : Float → Type 0) where
       here : (a : Work) → a.state ≡ w.state → Follows P a (with_floats l a)
       here a e = with-lists l a (joined-current place f left ∙ c ∙ sym (ap (λ s. s.floats.current) e)) (subst (λ (s : State). waiting_floats l ≤ waiting_floats s.floats) (sym e) counted) (λ x. kept (subst (λ (s : State). AllWait P s.floats) e x))
 
-      recorded : (t : Bool) → (if t then w else record w { records = w.records ++ r ∷ [] }).state ≡ w.state
-      recorded true = refl
-      recorded false = refl
-
       by_record : (t : Bool) → Follows P w (with_floats l (if t then records_also r w else w))
-      by_record true = follows-then w (records_also r w) (with_floats l (records_also r w)) (follows-records r w) (here (records_also r w) (recorded w.refused))
+      by_record true = follows-then w (records_also r w) (with_floats l (records_also r w)) (follows-records r w) (here (records_also r w) (records-state r w))
       by_record false = here w refl
 
   pub both-long : (fs gs : List Float) → length (fs ++ gs) ≡ length fs + length gs
@@ -195,15 +210,6 @@ module _ (P : Float → Type 0) where
   part-count parts.Deferred q gs l = omega arith
   part-count parts.Double q gs l = absurd q
   part-count parts.Second q gs l = omega arith
-
-  pub part-current : (from : Part) → IsWaiting from → (gs : List Float) (l : FloatLists) → (with_floats_of from gs l).current ≡ l.current
-  part-current parts.Current q gs l = absurd q
-  part-current parts.Here q gs l = absurd q
-  part-current parts.Top q gs l = absurd q
-  part-current parts.Bottom q gs l = absurd q
-  part-current parts.Deferred q gs l = refl
-  part-current parts.Double q gs l = absurd q
-  part-current parts.Second q gs l = refl
 
   pub part-all : (from : Part) → IsWaiting from → (l : FloatLists) → AllWait P l → AllByRecursion P (floats_of from l)
   part-all parts.Current q l h = absurd q
