@@ -1,6 +1,6 @@
 -- A file that grows page by page.
 use Rattle.std.proofs.Common.{◌≡◌, refl, ◌∙◌, ap, sym, ℕ, zero, suc, ◌+◌, ℤ, pos, negsuc, Bool, true, false, cond, ◌||◌, nat_lt, List, [], ◌∷◌, ◌++◌, length, flat_map, Some, None, append_assoc, append-nil, length-append, arith, lt-ltb}
-use Rattle.std.proofs.Math.Bool.{or-false}
+use Rattle.std.proofs.Math.Bool.{or-false, or_assoc}
 use Rattle.tb_dvi.specs.Placement.{Placement}
 use Rattle.tb_dvi.specs.declared.progress.Progress.{Progress}
 use Rattle.tb_dvi.specs.File.{Page, preamble, placement_bytes, page_bytes, pages_bytes, last_begin, has_any, post_bytes, file_front, file_bytes, is_too_far, first_too_far, pages_in_range}
@@ -26,11 +26,7 @@ last-append (q ∷ qs) p last place =
 any-append : (ps : List Page) (p : Page) → has_any (ps ++ p ∷ []) ≡ (has_any ps || nat_lt 0 (length p.placed))
 any-append [] p = or-false (nat_lt 0 (length p.placed))
 any-append (q ∷ qs) p =
-    ap (λ t. nat_lt 0 (length q.placed) || t) (any-append qs p) ∙ or-assoc (nat_lt 0 (length q.placed)) (has_any qs) (nat_lt 0 (length p.placed))
-  where
-    or-assoc : (a b c : Bool) → (a || (b || c)) ≡ ((a || b) || c)
-    or-assoc true b c = refl
-    or-assoc false b c = refl
+    ap (λ t. nat_lt 0 (length q.placed) || t) (any-append qs p) ∙ sym (or_assoc (nat_lt 0 (length q.placed)) (has_any qs) (nat_lt 0 (length p.placed)))
 
 length-more : (ps : List Page) (p : Page) → length (ps ++ p ∷ []) ≡ length ps + 1
 length-more ps p = length-append ps (p ∷ [])
