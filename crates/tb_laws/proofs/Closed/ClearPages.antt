@@ -16,6 +16,7 @@ use Rattle.tb_builder.proofs.ForLaws.FittingFired.{Topmost, AllTopmost, flat_box
 use Rattle.tb_builder.proofs.ForLaws.PausedPages.{Paused, calm-both}
 use Rattle.tb_output.specs.Clear
 use Rattle.tb_output.specs.Output
+use Rattle.tb_output.proofs.Firings.GoalLemmas.{zero-is}
 use Rattle.tb_laws.proofs.Closed.Sorts.{kind_sort, sorts, sorts-calm, none, one, seen_all}
 use Rattle.tb_laws.proofs.Closed.SortLemmas.{never-one, behind-one}
 use Rattle.tb_laws.proofs.DeadCycles.AgainLemmas.{Idle}
@@ -33,13 +34,10 @@ pub record OneFlat (ns : List PlainNode) : Type 0 where
 one-more : (n : PlainNode) (ns : List PlainNode) → Topmost n.kind → Calm n.kind → OneFlat ns → OneFlat (n ∷ ns)
 one-more n ns t c h = record { front = n ∷ h.front; line = h.line; whole = ap (λ xs. n ∷ xs) h.whole; topmost = (t, h.topmost); calm = (c, h.calm) }
 
-zero-of : (z : ℤ) → is_zero z ≡ true → z ≡ pos 0
-zero-of z h = grind (arith, ints, h)
-
 flat-node : (l : ℕ) (h d : ℤ) (ns : List PlainNode) → ns ≡ [] → flat_last (is_flat (plain (hbox what.Blank h d))) ns ≡ true → OneFlat (record { line = l; kind = plain (hbox what.Blank h d) } ∷ without_insertions ns)
 flat-node l h d [] e z =
-    let a : h ≡ pos 0 = zero-of h (and_parts (is_zero h) (is_zero d) z).0 in
-    let b : d ≡ pos 0 = zero-of d (and_parts (is_zero h) (is_zero d) z).1 in
+    let a : h ≡ pos 0 = zero-is h (and_parts (is_zero h) (is_zero d) z).0 in
+    let b : d ≡ pos 0 = zero-is d (and_parts (is_zero h) (is_zero d) z).1 in
     record { front = []; line = l; whole = ap (λ x. record { line = l; kind = plain (hbox what.Blank x d) } ∷ []) a ∙ ap (λ x. record { line = l; kind = plain (hbox what.Blank (pos 0) x) } ∷ []) b; topmost = tt; calm = tt }
 flat-node l h d (n ∷ ns) e z = cc
 

@@ -190,7 +190,7 @@ module _ (P : Float → Type 0) (p : Params) where
       sums x a u b c d y h k m n = omega arith
 
   pub double-follows : (a : Work) → Follows P a (with_floats (Clear.double_again p a.state.floats) a)
-  double-follows a = record { goes = λ r. r; columns = refl; boxes = refl; back = refl; page = refl; current = part-current P (wide_part p) (wide-waits p) (a.state.floats.double ++ wide_waiting p a.state.floats) (undouble a.state.floats); floats = double-count a.state.floats; all = λ h. double-all a.state.floats h; cycles = λ r. inl refl }
+  double-follows a = record { goes = λ r. r; columns = refl; boxes = refl; back = refl; page = refl; current = part-current (wide_part p) (wide-waits p) (a.state.floats.double ++ wide_waiting p a.state.floats) (undouble a.state.floats); floats = double-count a.state.floats; all = λ h. double-all a.state.floats h; cycles = λ r. inl refl }
 
   -- ---- wide pages of a clear
 

@@ -1,18 +1,18 @@
 -- Each float that a firing places keeps the limits of its list.
-use Rattle.std.proofs.Common.{◌≡◌, refl, sym, ap, subst, pos, ◌+◌, Bool, true, false, List, [], ◌∷◌, ◌++◌}
+use Rattle.std.proofs.Common.{◌≡◌, refl, sym, ap, subst, ℕ, pos, ◌+◌, Bool, true, false, List, [], ◌∷◌, ◌++◌}
 use Rattle.std.specs.Prelude.{int_lt, if◌then◌else◌}
 use Rattle.std.specs.List.{AllByRecursion}
 use Rattle.tb_param.specs.declared.Params.{Params}
 use Rattle.tb_builder.specs.FiredPages.{Fired}
 use Rattle.tb_float.specs.Rooms.{column_height_of}
 use Rattle.tb_area.specs.Laws.{KeepsLimits}
-use Rattle.tb_column.specs.Column.{PlainSheet, PlainSent, shipped}
+use Rattle.tb_column.specs.Column.{PlainSheet, PlainSent, warned, shipped}
 use Rattle.tb_output.specs.State.{State, Work, Recorded, placed, output, emptied, sends, records_also}
 use Rattle.tb_output.specs.Pages
 use Rattle.tb_output.specs.Output
 use Rattle.tb_output.specs.Firing.{page_work}
 use Rattle.tb_output.proofs.StepLaws.ColumnSteps.{RecordLaw, ColumnStep, still, in_turn, records_one, ships_one}
-use Rattle.tb_output.proofs.StepLaws.FiringSteps.{FiringStep, by_columns, sends_one, changes, afterwards, page_work-step}
+use Rattle.tb_output.proofs.StepLaws.FiringSteps.{FiringStep, by_columns, warns_one, changes, fewer, afterwards, page_work-step}
 
 -- the float that was placed had the mark `!`, or kept the limits with the lists and the column height just before
 abbrev pub IsLimited : Params → Recorded → Type 0
@@ -69,10 +69,11 @@ module _ (p : Params) (law : RecordLaw p) where
   column-lawful (records_one r w k) h = also-lawful r w k h
   column-lawful (ships_one sheet w) h = same w.records (Pages.ship p sheet w).records (ship-records p sheet w) h
 
-  firing-lawful : {a b : Work} → FiringStep p law a b → AllLawful a.records → AllLawful b.records
+  firing-lawful : {k : ℕ} {a b : Work} → FiringStep p law k a b → AllLawful a.records → AllLawful b.records
   firing-lawful (by_columns x) h = column-lawful x h
-  firing-lawful (sends_one e w) h = same w.records (sends e w).records (sends-records e w) h
+  firing-lawful (warns_one e w) h = same w.records (sends (warned e) w).records (sends-records (warned e) w) h
   firing-lawful {a} {b} (changes c) h = same a.records b.records (ap (λ x. x.records) c) h
+  firing-lawful (fewer h x) k = firing-lawful x k
   firing-lawful (afterwards x y) h = firing-lawful y (firing-lawful x h)
 
 -- what is so of placements within the limits and of columns is so of all that a firing records
