@@ -15,7 +15,7 @@ use Rattle.tb_node.specs.declared.Kind.TheVariants as node_kinds
 use Rattle.tb_node.specs.PlainNodes.{rule, skip, kerned, Leaf, leaf_node, PlainNode, plain_of, node_shape, shape_of, made, plain_list}
 use Rattle.tb_node.specs.Sums.{last_depth, limited_depth}
 use Rattle.tb_node.specs.Fit.{IsDimension, IsExtent, IsSized, IsSizedNode, IsSizedPlain, IsSizedLeaf, shapes}
-use Rattle.tb_node.proofs.FitLemmas.{last_depth_extent}
+use Rattle.tb_node.proofs.FitLemmas.{last_depth_extent, limited_extent}
 use Rattle.tb_param.specs.declared.Params.{Params}
 use Rattle.tb_pack.specs.declared.Set.{Set}
 use Rattle.tb_pack.specs.Pack.{packed}
@@ -81,10 +81,7 @@ end-shown p s body depth held e = by_test (is_ragged p.bottom)
 
 -- the depth of a text, limited as that of a page
 pub body-extent : (p : Params) (ns : List Node) → IsExtent p.maxdepth → All IsSizedNode ns → IsExtent (limited_depth p.maxdepth (map shape_of ns))
-body-extent p ns limit sized = least (last_depth (map shape_of ns)) p.maxdepth (last_depth_extent (map shape_of ns) (All-map IsSized shape_of ns sized)) limit
-  where
-    least : (a b : ℤ) → IsExtent a → IsExtent b → IsExtent (min_ℤ a b)
-    least a b h k = record { low = grind (arith, ints); high = grind (arith, ints) }
+body-extent p ns limit sized = limited_extent p.maxdepth (last_depth (map shape_of ns)) limit.low (last_depth_extent (map shape_of ns) (All-map IsSized shape_of ns sized))
 
 -- ---- all that the column holds, step by step
 

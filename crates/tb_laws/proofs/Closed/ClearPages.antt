@@ -4,6 +4,7 @@ use Rattle.std.specs.List.{AllByRecursion}
 use Rattle.std.proofs.lemmas.Int.{ints}
 use Rattle.std.proofs.lemmas.List.{append_assoc}
 use Rattle.std.proofs.lemmas.Bool.{and_parts}
+use Rattle.tb_break.proofs.EachLemmas.{all-take}
 use Rattle.tb_scaled.specs.Scaled.{is_zero, eject_penalty}
 use Rattle.tb_scaled.specs.Glue.{filling_glue}
 use Rattle.tb_node.specs.declared.What.TheVariants as what
@@ -96,16 +97,6 @@ take-last (suc i) (x ∷ xs) n = more (take-last i xs n)
     more (inl h) = inl (ap (λ ys. x ∷ ys) h)
     more (inr h) = inr (ap (λ ys. x ∷ ys) h)
 
-take-topmost : (i : ℕ) (xs : List PlainNode) → AllTopmost xs → AllTopmost (take i xs)
-take-topmost zero xs h = tt
-take-topmost (suc i) [] h = tt
-take-topmost (suc i) (x ∷ xs) h = (h.0, take-topmost i xs h.1)
-
-take-calm : (i : ℕ) (xs : List PlainNode) → AllCalm xs → AllCalm (take i xs)
-take-calm zero xs h = tt
-take-calm (suc i) [] h = tt
-take-calm (suc i) (x ∷ xs) h = (h.0, take-calm i xs h.1)
-
 kind-idle : (k : PlainKind) → Topmost k → Calm k → Idle (kind_sort k) × (kind_cost k ≡ 0)
 kind-idle (plain (hbox w h d)) t c = absurd t
 kind-idle (plain (rule name h d)) t c = absurd t
@@ -167,5 +158,5 @@ front-fits p body h = by_take (take-last i h.front (flat_box h.line what.Blank))
     same = ap (take (split_of (pos 0) p.splitmaxdepth (map node_shape body)).index) h.whole
 
     by_take : (take i (h.front ++ flat_box h.line what.Blank ∷ []) ≡ take i h.front) ⊎ (take i (h.front ++ flat_box h.line what.Blank ∷ []) ≡ h.front ++ flat_box h.line what.Blank ∷ []) → FrontFits (take (split_of (pos 0) p.splitmaxdepth (map node_shape body)).index body)
-    by_take (inl e) = subst FrontFits (sym (same ∙ e)) (record { fits = λ rest. (front-fitted (take i h.front) rest (take-topmost i h.front h.topmost), front-paused (take i h.front) rest (take-calm i h.front h.calm)); idle = (all-idle (take i h.front) (take-topmost i h.front h.topmost) (take-calm i h.front h.calm)).0; cost = (all-idle (take i h.front) (take-topmost i h.front h.topmost) (take-calm i h.front h.calm)).1 })
+    by_take (inl e) = subst FrontFits (sym (same ∙ e)) (record { fits = λ rest. (front-fitted (take i h.front) rest (all-take (λ (n : PlainNode). Topmost n.kind) i h.front h.topmost), front-paused (take i h.front) rest (all-take (λ (n : PlainNode). Calm n.kind) i h.front h.calm)); idle = (all-idle (take i h.front) (all-take (λ (n : PlainNode). Topmost n.kind) i h.front h.topmost) (all-take (λ (n : PlainNode). Calm n.kind) i h.front h.calm)).0; cost = (all-idle (take i h.front) (all-take (λ (n : PlainNode). Topmost n.kind) i h.front h.topmost) (all-take (λ (n : PlainNode). Calm n.kind) i h.front h.calm)).1 })
     by_take (inr e) = subst FrontFits (sym (same ∙ e)) (record { fits = λ rest. (flat-fitted h.front rest h.line h.topmost, front-paused (h.front ++ flat_box h.line what.Blank ∷ []) rest (calm-both h.front (flat_box h.line what.Blank ∷ []) h.calm (tt, tt))); idle = (flat-idle h.front h.line h.topmost h.calm).0; cost = (flat-idle h.front h.line h.topmost h.calm).1 })

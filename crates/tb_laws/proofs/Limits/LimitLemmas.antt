@@ -2,6 +2,7 @@
 use Rattle.std.proofs.Common.{◌≡◌, refl, sym, ap, subst, ℕ, pos, ◌+◌, Bool, true, false, List, [], ◌∷◌, ◌++◌}
 use Rattle.std.specs.Prelude.{int_lt, if◌then◌else◌}
 use Rattle.std.specs.List.{AllByRecursion}
+use Rattle.tb_break.proofs.EachLemmas.{all-join, all-push}
 use Rattle.tb_param.specs.declared.Params.{Params}
 use Rattle.tb_builder.specs.FiredPages.{Fired}
 use Rattle.tb_float.specs.Rooms.{column_height_of}
@@ -24,8 +25,7 @@ abbrev pub AreLimited : Params → List Recorded → Type 0
 AreLimited p rs = AllByRecursion (IsLimited p) rs
 
 pub limited-append : (p : Params) (rs qs : List Recorded) → AreLimited p rs → AreLimited p qs → AreLimited p (rs ++ qs)
-limited-append p [] qs a b = b
-limited-append p (r ∷ rs) qs a b = (a.0, limited-append p rs qs a.1 b)
+limited-append p rs qs a b = all-join (IsLimited p) rs qs a b
 
 -- ---- what a firing records
 
@@ -51,16 +51,12 @@ module _ (p : Params) (law : RecordLaw p) where
   same : (rs qs : List Recorded) → qs ≡ rs → AllLawful rs → AllLawful qs
   same rs qs e h = subst AllLawful (sym e) h
 
-  one-more : (r : Recorded) (rs : List Recorded) → law.holds r → AllLawful rs → AllLawful (rs ++ r ∷ [])
-  one-more r [] k h = (k, tt)
-  one-more r (q ∷ rs) k h = (h.0, one-more r rs k h.1)
-
   also-lawful : (r : Recorded) (w : Work) → law.holds r → AllLawful w.records → AllLawful (records_also r w).records
   also-lawful r w k h = by_refused w.refused
     where
       by_refused : (t : Bool) → AllLawful (if t then w else record w { records = w.records ++ r ∷ [] }).records
       by_refused true = h
-      by_refused false = one-more r w.records k h
+      by_refused false = all-push law.holds w.records r h k
 
   -- if all that the first records is lawful, all that the second records is
   column-lawful : {a b : Work} → ColumnStep p law a b → AllLawful a.records → AllLawful b.records

@@ -1,7 +1,6 @@
 -- What the parts of a state weigh, and by how much a step of a firing adds to it.
-use Rattle.std.proofs.Common.{◌≡◌, refl, ◌∙◌, ℕ, pos, ◌+◌, Bool, true, false, List, [], ◌∷◌, ◌++◌, map, Option, Some, None, arith}
+use Rattle.std.proofs.Common.{◌≡◌, refl, ◌∙◌, ℕ, pos, ◌+◌, Bool, true, false, List, [], ◌∷◌, ◌++◌, map, Option, Some, None, add-zero, zero-add, arith}
 use Rattle.std.specs.Prelude.{int_lt, if◌then◌else◌}
-use Rattle.std.proofs.Math.Nat.{add-zero, zero-add}
 use Rattle.tb_node.specs.declared.Float.{Float}
 use Rattle.tb_node.specs.PlainNodes.{PlainNode}
 use Rattle.tb_node.proofs.Weights.{Weight, nodes_weight, weight-append}
@@ -69,6 +68,15 @@ ColumnsFit t true (Some c) = ⊥
 ColumnsFit true false None = ⊥
 ColumnsFit true false (Some c) = Unit {0}
 ColumnsFit false false o = ⊥
+
+-- before the first of two columns, and in one column, none is kept
+pub first-left : (t : Bool) (o : Option PlainColumn) → ColumnsFit t true o → o ≡ None
+first-left t None h = refl
+first-left t (Some c) h = absurd h
+
+pub one-left : (f : Bool) (o : Option PlainColumn) → ColumnsFit false f o → o ≡ None
+one-left true o h = first-left false o h
+one-left false o h = absurd h
 
 -- the two boxes of a note are side by side
 abbrev pub Paired : List Entry → Type 0

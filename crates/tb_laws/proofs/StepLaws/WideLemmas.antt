@@ -2,6 +2,7 @@
 use Rattle.std.proofs.Common.{◌≡◌, refl, sym, ◌∙◌, ap, subst, ℕ, zero, suc, Bool, true, false, List, [], ◌∷◌, ◌++◌, length, Option, Some, None, arith}
 use Rattle.std.specs.Prelude.{not, ◌&&◌, ◌||◌, if◌then◌else◌}
 use Rattle.std.specs.List.{AllByRecursion}
+use Rattle.tb_break.proofs.EachLemmas.{all-push}
 use Rattle.tb_node.specs.declared.Float.{Float}
 use Rattle.tb_node.specs.declared.Where.TheVariants as places
 use Rattle.tb_scaled.specs.Glue.{filling_glue}
@@ -58,16 +59,12 @@ two-columns a b t e h = record { by = λ k. record { wide = h k.wide; none = λ 
 wide-of : (a b c d e : Bool) → (a && b && c && d && e) ≡ true → b ≡ true
 wide-of a b c d e h = grind (arith, h)
 
-one-wide : (fs : List Float) (f : Float) → AllByRecursion Wide fs → Wide f → AllByRecursion Wide (fs ++ f ∷ [])
-one-wide [] f h k = (k, tt)
-one-wide (g ∷ fs) f h k = (h.0, one-wide fs f h.1 k)
-
 -- a float that goes to the double list is wide
 double-step : (from : Part) → IsWaiting from → (p : Params) (f : Float) (before rest : List Float) (w : Work) → AllWide w → AllWide (FloatMoves.place_waiting from p (Area.double_place p w.state.floats w.state.suppress before f) f before rest w)
 double-step from q p f before rest w h = by_place (Area.goes_double p w.state.floats w.state.suppress before f) refl
   where
     by_place : (t : Bool) → Area.goes_double p w.state.floats w.state.suppress before f ≡ t → AllWide (FloatMoves.place_waiting from p (if t then places.Double else places.Deferred) f before rest w)
-    by_place true e = one-wide (with_floats_of from (before ++ rest) w.state.floats).double f (subst (AllByRecursion Wide) (sym (waiting-double from q (before ++ rest) w.state.floats)) h) (wide-of f.places.t f.wide _ _ _ e)
+    by_place true e = all-push Wide (with_floats_of from (before ++ rest) w.state.floats).double f (subst (AllByRecursion Wide) (sym (waiting-double from q (before ++ rest) w.state.floats)) h) (wide-of f.places.t f.wide _ _ _ e)
     by_place false e = h
 
 double-wide : (from : Part) → IsWaiting from → (p : Params) (before fs : List Float) (w : Work) → AllWide w → AllWide (FloatMoves.place_double from p before fs w)

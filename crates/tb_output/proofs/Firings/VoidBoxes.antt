@@ -69,7 +69,7 @@ pick-same false x y z f = refl
 content-other : (n k : ℕ) → n ≢ k → (bs : List Boxed) → box_content (with_void n bs) k ≡ box_content bs k
 content-other n k differ [] = refl
 content-other n k differ (b ∷ bs) =
-    (λ i. if voided-number n b i == k then (voided n b).content else content-other n k differ bs i)
+    (λ i. if voided_number n b i == k then (voided n b).content else content-other n k differ bs i)
     ∙ pick-same (b.number == k) (voided n b).content b.content (box_content bs k) (λ e. let other : (b.number == n) ≡ false = grind (arith, nat_tests, e, differ) in ap (λ (x : Boxed). x.content) (voided-other n b other))
 
 pub contents-other : (cs : List Class) (k : ℕ) → AllByRecursion (λ c. c.number ≢ k) cs → (bs : List Boxed) → box_content (with_voids cs bs) k ≡ box_content bs k

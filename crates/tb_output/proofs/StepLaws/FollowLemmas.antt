@@ -1,5 +1,5 @@
 -- What the steps of a column do to the lists of floats, the columns and the dead cycles.
-use Rattle.std.proofs.Common.{◌≡◌, refl, sym, ◌∙◌, ap, subst, ℕ, zero, suc, pos, ◌+◌, ◌≤◌, inl, inr, ◌⊎◌, Bool, true, false, List, [], ◌∷◌, ◌++◌, length, Option, Some, None, arith}
+use Rattle.std.proofs.Common.{◌≡◌, refl, sym, ◌∙◌, ap, subst, ℕ, zero, suc, pos, ◌+◌, ◌≤◌, inl, inr, ◌⊎◌, Bool, true, false, List, [], ◌∷◌, ◌++◌, length, Option, Some, None, length-append, arith}
 use Rattle.std.specs.Prelude.{int_lt, not, if◌then◌else◌}
 use Rattle.std.specs.List.{AllByRecursion}
 use Rattle.tb_break.proofs.EachLemmas.{all-front, all-back, all-join, all-push}
@@ -148,17 +148,13 @@ module _ (P : Float → Type 0) where
 
   -- ---- floats
 
-  one-longer : (fs : List Float) (f : Float) → length (fs ++ f ∷ []) ≡ length fs + 1
-  one-longer [] f = refl
-  one-longer (g ∷ fs) f = let h : length (fs ++ f ∷ []) ≡ length fs + 1 = one-longer fs f in omega arith
-
   pub joined-count : (place : Where) (f : Float) (l : FloatLists) → waiting_floats (FloatMoves.joined_to place f l) ≤ waiting_floats l + 1
   joined-count places.Here f l = omega arith
-  joined-count places.Top f l = let h : length (l.top ++ f ∷ []) ≡ length l.top + 1 = one-longer l.top f in omega arith
-  joined-count places.Bottom f l = let h : length (l.bottom ++ f ∷ []) ≡ length l.bottom + 1 = one-longer l.bottom f in omega arith
+  joined-count places.Top f l = let h : length (l.top ++ f ∷ []) ≡ length l.top + 1 = length-append l.top (f ∷ []) in omega arith
+  joined-count places.Bottom f l = let h : length (l.bottom ++ f ∷ []) ≡ length l.bottom + 1 = length-append l.bottom (f ∷ []) in omega arith
   joined-count places.Page f l = omega arith
-  joined-count places.Double f l = let h : length (l.double ++ f ∷ []) ≡ length l.double + 1 = one-longer l.double f in omega arith
-  joined-count places.Deferred f l = let h : length (l.deferred ++ f ∷ []) ≡ length l.deferred + 1 = one-longer l.deferred f in omega arith
+  joined-count places.Double f l = let h : length (l.double ++ f ∷ []) ≡ length l.double + 1 = length-append l.double (f ∷ []) in omega arith
+  joined-count places.Deferred f l = let h : length (l.deferred ++ f ∷ []) ≡ length l.deferred + 1 = length-append l.deferred (f ∷ []) in omega arith
 
   pub joined-all : (place : Where) (f : Float) (l : FloatLists) → P f → AllWait P l → AllWait P (FloatMoves.joined_to place f l)
   joined-all places.Here f l k h = record { top = h.top; bottom = h.bottom; deferred = h.deferred; double = h.double; second = h.second }
@@ -194,10 +190,6 @@ module _ (P : Float → Type 0) where
       by_record : (t : Bool) → Follows P w (with_floats l (if t then records_also r w else w))
       by_record true = follows-then w (records_also r w) (with_floats l (records_also r w)) (follows-records r w) (here (records_also r w) (records-state r w))
       by_record false = here w refl
-
-  pub both-long : (fs gs : List Float) → length (fs ++ gs) ≡ length fs + length gs
-  both-long [] gs = omega arith
-  both-long (f ∷ fs) gs = let h : length (fs ++ gs) ≡ length fs + length gs = both-long fs gs in omega arith
 
   -- ---- the list in which floats wait
 
@@ -239,7 +231,7 @@ module _ (P : Float → Type 0) where
       fewer : waiting_floats l + 1 ≤ waiting_floats w.state.floats
       fewer =
           let c : waiting_floats (with_floats_of from (before ++ rest) w.state.floats) + length (floats_of from w.state.floats) ≡ waiting_floats w.state.floats + length (before ++ rest) = part-count from q (before ++ rest) w.state.floats in
-          sums (waiting_floats (with_floats_of from (before ++ rest) w.state.floats)) (waiting_floats w.state.floats) (length (floats_of from w.state.floats)) (length (before ++ rest)) (length (before ++ f ∷ rest)) (length before) (length rest) (length (f ∷ rest)) c (ap length e) (both-long before rest) (both-long before (f ∷ rest)) refl
+          sums (waiting_floats (with_floats_of from (before ++ rest) w.state.floats)) (waiting_floats w.state.floats) (length (floats_of from w.state.floats)) (length (before ++ rest)) (length (before ++ f ∷ rest)) (length before) (length rest) (length (f ∷ rest)) c (ap length e) (length-append before rest) (length-append before (f ∷ rest)) refl
         where
           sums : (x y a b c i j d : ℕ) → x + a ≡ y + b → a ≡ c → b ≡ i + j → c ≡ i + d → d ≡ suc j → x + 1 ≤ y
           sums x y a b c i j d h k m n o = omega arith

@@ -1,9 +1,8 @@
 -- A turn of the routine is a step of the run.
-use Rattle.std.proofs.Common.{◌≡◌, refl, sym, subst, ◌∙◌, ap, ℕ, ◌+◌, ◌-◌, ◌≤◌, ℤ, pos, ◌≤ℤ◌, Bool, true, false, List, [], ◌∷◌, ◌++◌, map, Option, Some, None, append-nil, arith}
+use Rattle.std.proofs.Common.{◌≡◌, refl, sym, subst, ◌∙◌, ap, ℕ, ◌+◌, ◌-◌, ◌≤◌, ℤ, pos, ◌≤ℤ◌, Bool, true, false, List, [], ◌∷◌, ◌++◌, map, Option, Some, None, append-nil, sub-one, arith}
 use Rattle.std.specs.Prelude.{int_lt, pred, IfNone, ◌<ℤ◌, if◌then◌else◌}
 use Rattle.std.proofs.lemmas.Int.{ints}
 use Rattle.std.proofs.lemmas.Bool.{true≢false}
-use Rattle.std.proofs.Math.Numerals.{sub-one}
 use Rattle.tb_break.proofs.EachLemmas.{all-back, all-join}
 use Rattle.tb_pool.specs.Lists.{Lists}
 use Rattle.tb_pool.specs.Frame.{IsNoneOf}

@@ -1,8 +1,7 @@
 -- A run that goes on: what was written, what was shipped, and what is left.
-use Rattle.std.proofs.Common.{◌≡◌, refl, sym, subst, ◌∙◌, ap, ℕ, zero, suc, ◌+◌, ◌<◌, ◌≤◌, pos, Bool, true, false, List, [], ◌∷◌, ◌++◌, codes, Option, Some, append_assoc, append-nil, arith}
+use Rattle.std.proofs.Common.{◌≡◌, refl, sym, subst, ◌∙◌, ap, ℕ, zero, suc, ◌+◌, ◌<◌, ◌≤◌, pos, Bool, true, false, List, [], ◌∷◌, ◌++◌, codes, Option, Some, append_assoc, append-nil, add-zero, zero-add, arith}
 use Rattle.std.specs.Prelude.{int_lt, if◌then◌else◌, Result, Err, IsErrAnd}
 use Rattle.std.specs.Io.KnownBytes.{Appends}
-use Rattle.std.proofs.Math.Nat.{add-zero, zero-add}
 use Rattle.tb_io.specs.declared.sink.SinkFault.{SinkFault}
 use Rattle.tb_io.specs.declared.sink.SinkFault.TheVariants as outputs
 use Rattle.tb_io.specs.Sink.{AppendsPrefix}
