@@ -23,6 +23,7 @@ use Rattle.tb_column.specs.Notes.{AreDistinct, IsNote, notes_shown, note_lists, 
 use Rattle.tb_column.specs.Page.{AreLeaves, IsPageList}
 use Rattle.tb_column.proofs.FloatLemmas.{leaves-append}
 use Rattle.tb_column.specs.Column.{PlainSent}
+use Rattle.tb_column.proofs.ShownLemmas.{shapes-held}
 use Rattle.tb_output.specs.declared.texts.TextSize.{TextSize}
 use Rattle.tb_output.specs.declared.RunFault.{RunFault}
 use Rattle.tb_output.specs.declared.RunFault.TheVariants as faults
@@ -41,7 +42,7 @@ use Rattle.tb_output.proofs.FiringWork.KeepLemmas.{fields-same, keeps-back_then,
 use Rattle.tb_output.proofs.InText.PushLemmas.{grown-none}
 use Rattle.tb_output.proofs.FiringWork.WorkingLemmas.{does-then, does-same, cut-on, does-shown_with, no-memory_given}
 use Rattle.tb_output.proofs.StepLaws.WorkSteps.{continues-list_back, continues-first_goes}
-use Rattle.tb_output.proofs.Clears.ClearSteps.{shapes-shown, leaves-take}
+use Rattle.tb_output.proofs.Clears.ClearSteps.{leaves-take}
 use Rattle.tb_output.proofs.InText.BackLemmas.{live-some, again-inner, again-known, again-sized, again-shown}
 
 -- ---- a list is read after a call
@@ -291,7 +292,7 @@ module _ (back body : ℕ) (notes : List NoteBox) (m : MachineView) (store one :
 
   text-shapes : map shape_of (list_at one back) ≡ map node_shape all-nodes
   text-shapes =
-      sym (shapes-shown (list_at one) (list_at one back))
+      sym (shapes-held (list_at one) (list_at one back))
       ∙ ap (map node_shape)
       (follows-shown m.params back body [] m store one one is go empty lists.text lists.apart.0 may-none text nothing-yet ∙ append-nil all-nodes)
 
