@@ -1,6 +1,6 @@
 -- Worked firings: what stays of a scene, and why a page may fire in it.
 use Rattle.std.proofs.Common.{◌≡◌, refl, sym, subst, ◌∙◌, ap, ℕ, ◌+◌, ◌≤◌, ◌<◌, ℤ, pos, Bool, true, false, List, [], ◌∷◌, ◌++◌, length, Option, None, Some, IsSome, IfNone, arith}
-use Rattle.std.specs.Prelude.{All, IsTrue, ◌≤ℤ◌, int_lt, nat_le, if◌then◌else◌}
+use Rattle.std.specs.Prelude.{All, IsTrue, nat_le, if◌then◌else◌}
 use Rattle.std.specs.List.{AllByRecursion}
 use Rattle.std.specs.FinMap.{get}
 use Rattle.std.proofs.lemmas.Int.{ints}
@@ -194,9 +194,6 @@ if-none None P p = p
 if-none (Some e) P p = tt
 
 -- ---- a page that may fire
-
-pub not-below : (a b : ℤ) → int_lt a b ≡ false → b ≤ℤ a
-not-below a b h = grind (arith, ints, h)
 
 pub few-held : (n k : ℕ) → n ≡ k → IsTrue (nat_le n 1000) → k ≤ 1000
 few-held n k e h = grind (arith, e, h)

@@ -25,7 +25,7 @@ use Rattle.tb_column.specs.Page.{AreLeaves, IsPageList}
 use Rattle.tb_column.specs.TextColumns.{made_node, closing_by, closed_list}
 use Rattle.tb_column.proofs.FloatLemmas.{leaves-append}
 
-kept_width : (limit d : ℤ) → pos 0 ≤ℤ limit → IsExtent d → IsDimension (neg_ℤ (min_ℤ d limit))
+pub kept_width : (limit d : ℤ) → pos 0 ≤ℤ limit → IsExtent d → IsDimension (neg_ℤ (min_ℤ d limit))
 kept_width limit d low h = record { low = grind (arith, ints); high = grind (arith, ints) }
 
 small_stretch : (ragged : Bool) → IsDimension (if ragged then pos 7 else pos 0)

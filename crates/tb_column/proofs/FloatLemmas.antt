@@ -83,7 +83,7 @@ page_list-leaves g fs = (tt, (tt, leaves-append (boxes_after g.between fs) (made
 pub glue_sized : (g : Glue) → IsSizedGlue g → IsSized (glue g)
 glue_sized g h = (h.width, h.stretch, h.shrink)
 
-negated_dimension : (z : ℤ) → IsDimension z → IsDimension (neg_ℤ z)
+pub negated_dimension : (z : ℤ) → IsDimension z → IsDimension (neg_ℤ z)
 negated_dimension z h = record { low = omega (arith, ints, h.high); high = omega (arith, ints, h.low) }
 
 negated_sized : (g : Glue) → IsSizedGlue g → IsSized (glue (negated_glue g))

@@ -11,7 +11,7 @@ use Rattle.tb_param.specs.Ranges.{is_no_fault, are_params}
 use Rattle.tb_float.proofs.ParamLemmas.{all-at, dim-extent, float-params}
 use Rattle.tb_column.specs.Ranges.{IsSizedGlue, AreColumnParams}
 
-dimension : (z : ℤ) → IsTrue (is_dimen z) → IsDimension z
+pub dimension : (z : ℤ) → IsTrue (is_dimen z) → IsDimension z
 dimension z h = record { low = grind (arith, ints, h); high = grind (arith, ints, h) }
 
 dimensions : (g : Glue) → (a b d : Bool) → is_dimen g.width ≡ a → is_dimen g.stretch ≡ b → is_dimen g.shrink ≡ d → IsTrue (is_no_fault (out_of_range (a && b && d))) → IsSizedGlue g

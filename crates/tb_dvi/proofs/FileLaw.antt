@@ -1,10 +1,11 @@
 -- The lister's machine on a whole file lists exactly the placements.
-use Rattle.std.proofs.Common.{◌≡◌, refl, ◌∙◌, ap, sym, subst, ℕ, zero, suc, ◌+◌, ◌%◌, ◌^◌, ◌<◌, ℤ, pos, negsuc, FitsSigned, IfSome, All, Bool, true, false, cond, nat_lt, ◌==◌, ◌&&◌, List, [], ◌∷◌, ◌++◌, length, take, replicate, flat_map, append_assoc, append-nil, length-append, Option, Some, None, Ok, Err, arith, le-ltb, lt-ltb, eq-eqb, not-suc-le-zero, true≢false, is_some}
+use Rattle.std.proofs.Common.{◌≡◌, refl, ◌∙◌, ap, sym, subst, ℕ, zero, suc, ◌+◌, ◌%◌, ◌^◌, ◌<◌, ℤ, pos, negsuc, FitsSigned, IfSome, All, Bool, true, false, cond, nat_lt, ◌==◌, ◌&&◌, List, [], ◌∷◌, ◌++◌, length, take, replicate, flat_map, append_assoc, append-nil, length-append, Option, Some, None, Ok, Err, arith, le-ltb, lt-ltb, eq-eqb, true≢false, is_some}
 use Rattle.std.proofs.lemmas.Int.{ints}
 use Rattle.std.specs.Prelude.{codes}
 use Rattle.std.specs.Int.{w32}
 use Rattle.std.specs.List.{list_all, list_any}
 use Rattle.std.proofs.lemmas.Bool.{or_parts}
+use Rattle.std.proofs.lemmas.List.Elements.{All-nil, All-cons}
 use Rattle.tb_dvi.specs.declared.command.Mode.TheVariants as modes
 use Rattle.tb_dvi.specs.declared.command.Op.TheVariants as ops
 use Rattle.tb_dvi.specs.Placement.{Placement}
@@ -230,30 +231,23 @@ near-fits : (v : ℤ) → is_far_down v ≡ false → FitsSigned w32 v
 near-fits (pos m) near = record { sfits = grind (arith, ints) }
 near-fits (negsuc m) near = record { sfits = grind (arith, ints) }
 
-all-cons : {X : Type 0} (P : X → Type 0) (x : X) (xs : List X) → P x → All P xs → All P (x ∷ xs)
-all-cons P x xs p ps zero d h = p
-all-cons P x xs p ps (suc k) d h = ps k d (omega (arith, h))
-
-all-none : {X : Type 0} (P : X → Type 0) → All P []
-all-none P = λ k d h. absurd (not-suc-le-zero h)
-
 none_far : (ps : List Placement) → list_any (λ x. is_far_down x.v) ps ≡ false → All (λ x. FitsSigned w32 x.v) ps
-none_far [] e = all-none (λ x. FitsSigned w32 x.v)
+none_far [] e = All-nil (λ x. FitsSigned w32 x.v)
 none_far (p ∷ ps) e =
     let both = or_parts (is_far_down p.v) (list_any (λ x. is_far_down x.v) ps) e in
-    all-cons (λ x. FitsSigned w32 x.v) p ps (near-fits p.v both.0) (none_far ps both.1)
+    All-cons (λ x. FitsSigned w32 x.v) p ps (near-fits p.v both.0) (none_far ps both.1)
 
 not-first : (b : Bool) (n : ℕ) (r : Option ℕ) → cond b (Some n) r ≡ None → (b ≡ false) × (r ≡ None)
 not-first true n r e = absurd (true≢false (ap is_some e))
 not-first false n r e = (refl, e)
 
 pub in_range_fits : (place : ℕ) (ps : List Page) → first_too_far place ps ≡ None → All FitDown ps
-in_range_fits place [] none = all-none FitDown
+in_range_fits place [] none = All-nil FitDown
 in_range_fits place (p ∷ ps) none =
     let later = place + length (page_bytes (pos 0) p) in
     let split = not-first (is_too_far place p) p.number (first_too_far later ps) none in
     let near = or_parts (list_any (λ x. is_far_down x.v) p.placed) (nat_lt 2147483000 (place + length (page_bytes (pos 0) p))) split.0 in
-    all-cons FitDown p ps (none_far p.placed near.0) (in_range_fits later ps split.1)
+    All-cons FitDown p ps (none_far p.placed near.0) (in_range_fits later ps split.1)
 
 pub lists_its_pages : (textheight : ℤ) (ps : List Page) → ListsItsPages textheight ps
 lists_its_pages textheight ps fits range size =

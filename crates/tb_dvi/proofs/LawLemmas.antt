@@ -1,5 +1,5 @@
 -- What the lister's machine makes of the bytes of a file.
-use Rattle.std.proofs.Common.{◌≡◌, refl, ◌∙◌, ap, sym, ℕ, suc, ◌+◌, ◌-◌, ◌/◌, ◌%◌, ◌^◌, ◌<◌, ◌≤◌, ℤ, pos, negsuc, FitsSigned, true, false, cond, nat_lt, List, [], ◌∷◌, ◌++◌, length, take, append_assoc, length-append, Result, Ok, Err, arith, zero-add, le-ltb, lt-ltb, ◌+ℤ◌, ◌-ℤ◌}
+use Rattle.std.proofs.Common.{◌≡◌, refl, ◌∙◌, ap, sym, ℕ, suc, ◌+◌, ◌-◌, ◌/◌, ◌%◌, ◌^◌, ◌<◌, ◌≤◌, ℤ, pos, negsuc, FitsSigned, true, false, cond, nat_lt, List, [], ◌∷◌, ◌++◌, length, take, append_assoc, length-append, Result, Ok, Err, take_at, arith, zero-add, le-ltb, lt-ltb, ◌+ℤ◌, ◌-ℤ◌}
 use Rattle.std.specs.Int.{w32}
 use Rattle.std.proofs.lemmas.Int.{ints}
 use Rattle.tb_dvi.specs.declared.command.Registers.{Registers}
@@ -103,10 +103,6 @@ right h v rest place pages fits =
     command 146 (signed_4 h) rest place (inside (pos 0) v pages) (inside h v pages) [] refl refl refl
     (ap (λ z. goes 4 [] (inside z v pages)) (zero-plus (signed_number (take 4 (signed_4 h ++ rest))) ∙ signed-4 h rest fits))
 
-pub take-length : (a b : List ℕ) → take (length a) (a ++ b) ≡ a
-take-length [] b = refl
-take-length (x ∷ xs) b = ap (λ t. x ∷ t) (take-length xs b)
-
 -- a special whose text has this length
 says_so : (h v : ℤ) (label rest : List ℕ) (place pages : ℕ)
     → run 0 place (inside h v pages) (239 ∷ (length label ∷ label) ++ rest) ≡ before (special h v label ∷ []) (run 0 (suc (length label) + suc place) (inside h v pages) rest)
@@ -116,7 +112,7 @@ says_so h v label rest place pages =
     command 239 (length label ∷ label) rest place (inside h v pages) (inside h v pages) (special h v label ∷ []) refl refl more
     (ap (λ n. goes n (special h v (take (unsigned_number (length label ∷ [])) (label ++ rest)) ∷ []) (inside h v pages)) more
     ∙ ap (λ n. goes (suc (length label)) (special h v (take n (label ++ rest)) ∷ []) (inside h v pages)) size
-    ∙ ap (λ t. goes (suc (length label)) (special h v t ∷ []) (inside h v pages)) (take-length label rest))
+    ∙ ap (λ t. goes (suc (length label)) (special h v t ∷ []) (inside h v pages)) (take_at label rest (length label) refl))
 
 pub says : (h v : ℤ) (label rest : List ℕ) (place pages : ℕ) → length label < 256
     → run 0 place (inside h v pages) (239 ∷ (length label % 256 ∷ label) ++ rest) ≡ before (special h v label ∷ []) (run 0 (suc (length label) + suc place) (inside h v pages) rest)

@@ -117,10 +117,10 @@ pub last_depth_extent : (ns : List Shape) → All IsSized ns → IsExtent (last_
 last_depth_extent ns h = depth_from_extent (pos 0) ns (record { low = omega (arith, ints); high = omega (arith, ints) }) h
 
 -- so is the depth up to a limit that is not below 0
-limited_extent : (limit d : ℤ) → pos 0 ≤ℤ limit → IsExtent d → IsExtent (min_ℤ d limit)
+pub limited_extent : (limit d : ℤ) → pos 0 ≤ℤ limit → IsExtent d → IsExtent (min_ℤ d limit)
 limited_extent limit d l p = record { low = grind (arith, ints); high = grind (arith, ints) }
 
-total_small : (k : ℕ) (size depth : ℤ) → k ≤ 8388608 → IsWithin (2147483646 * k) size → IsExtent depth → IsAmount (size -ℤ depth)
+pub total_small : (k : ℕ) (size depth : ℤ) → k ≤ 8388608 → IsWithin (2147483646 * k) size → IsExtent depth → IsAmount (size -ℤ depth)
 total_small k size depth few s d = record { low = omega (arith, ints); high = omega (arith, ints) }
 
 sum_small : (k : ℕ) (z : ℤ) → k ≤ 8388608 → IsWithin (1073741823 * k) z → IsAmount z

@@ -15,7 +15,7 @@ use Rattle.tb_node.specs.declared.Kind.TheVariants as node_kinds
 use Rattle.tb_node.specs.PlainNodes.{rule, skip, kerned, Leaf, leaf_node, PlainNode, plain_of, node_shape, shape_of, made, plain_list}
 use Rattle.tb_node.specs.Sums.{last_depth, limited_depth}
 use Rattle.tb_node.specs.Fit.{IsDimension, IsExtent, IsSized, IsSizedNode, IsSizedPlain, IsSizedLeaf, shapes}
-use Rattle.tb_node.proofs.FitLemmas.{last_depth_extent}
+use Rattle.tb_node.proofs.FitLemmas.{last_depth_extent, limited_extent}
 use Rattle.tb_param.specs.declared.Params.{Params}
 use Rattle.tb_pack.specs.declared.Set.{Set}
 use Rattle.tb_pack.specs.Pack.{packed}
@@ -39,6 +39,7 @@ use Rattle.tb_column.specs.StoredColumns.{column_shown}
 use Rattle.tb_column.specs.Page.{AreLeaves, IsPageList, IsPageColumn}
 use Rattle.tb_column.specs.FloatColumns.{made_node}
 use Rattle.tb_column.specs.Ranges.{IsSizedGlue}
+use Rattle.tb_column.proofs.ClosingLemmas.{kept_width}
 use Rattle.tb_column.proofs.ShownLemmas.{shapes-held}
 use Rattle.tb_plain.specs.declared.Plain.{Plain}
 use Rattle.tb_plain.specs.declared.PlainPage.{PlainPage}
@@ -80,10 +81,7 @@ end-shown p s body depth held e = by_test (is_ragged p.bottom)
 
 -- the depth of a text, limited as that of a page
 pub body-extent : (p : Params) (ns : List Node) → IsExtent p.maxdepth → All IsSizedNode ns → IsExtent (limited_depth p.maxdepth (map shape_of ns))
-body-extent p ns limit sized = least (last_depth (map shape_of ns)) p.maxdepth (last_depth_extent (map shape_of ns) (All-map IsSized shape_of ns sized)) limit
-  where
-    least : (a b : ℤ) → IsExtent a → IsExtent b → IsExtent (min_ℤ a b)
-    least a b h k = record { low = grind (arith, ints); high = grind (arith, ints) }
+body-extent p ns limit sized = limited_extent p.maxdepth (last_depth (map shape_of ns)) limit.low (last_depth_extent (map shape_of ns) (All-map IsSized shape_of ns sized))
 
 -- ---- all that the column holds, step by step
 
@@ -151,9 +149,6 @@ leaves-sized ls h = All-map IsSizedPlain leaf_node ls h
 shown-sized : (s : Lists Node) (l : ℕ) → All IsSizedNode (list_at s l) → AreSized (plain_list s l)
 shown-sized s l h = unmap IsSized node_shape (plain_list s l) (subst (All IsSized) (sym (shapes-held (list_at s) (list_at s l))) (All-map IsSized shape_of (list_at s l) h))
 
-kept : (limit d : ℤ) → pos 0 ≤ℤ limit → IsExtent d → IsDimension (neg_ℤ (min_ℤ d limit))
-kept limit d low h = record { low = grind (arith, ints); high = grind (arith, ints) }
-
 number : (z : ℤ) → neg_ℤ (pos 1073741823) ≤ℤ z → z ≤ℤ pos 1073741823 → IsDimension z
 number z low high = record { low = low; high = high }
 
@@ -173,7 +168,7 @@ end-sized p ns limit sized = by_test (is_ragged p.bottom)
   where
     by_test : (x : Bool) → AreSized (if x then ragged_end p ns else [])
     by_test true =
-        All-cons IsSizedPlain (made (kerned (neg_ℤ (min_ℤ (last_depth (map node_shape ns)) p.maxdepth)))) (made (skip filling_glue) ∷ []) (kept p.maxdepth (last_depth (map node_shape ns)) limit.low (last_depth_extent (map node_shape ns) (All-map IsSized node_shape ns sized)))
+        All-cons IsSizedPlain (made (kerned (neg_ℤ (min_ℤ (last_depth (map node_shape ns)) p.maxdepth)))) (made (skip filling_glue) ∷ []) (kept_width p.maxdepth (last_depth (map node_shape ns)) limit.low (last_depth_extent (map node_shape ns) (All-map IsSized node_shape ns sized)))
         (All-cons IsSizedPlain (made (skip filling_glue)) [] (number (pos 0) (omega (arith, ints)) (omega (arith, ints)), number (pos 65536) (omega (arith, ints)) (omega (arith, ints)), number (pos 0) (omega (arith, ints)) (omega (arith, ints))) (All-nil IsSizedPlain))
     by_test false = All-nil IsSizedPlain
 
@@ -305,8 +300,9 @@ back-shown p f held lists e =
 
 -- ---- the number of the page
 
-pub is-within : (limit : ℤ) (n : ℕ) → int_lt limit (pos n) ≡ false → pos n ≤ℤ limit
-is-within limit n e = grind (arith, ints, e)
+-- a number that is not less than another
+pub not-below : (a b : ℤ) → int_lt a b ≡ false → b ≤ℤ a
+not-below a b h = grind (arith, ints, h)
 
 -- ---- a list is opened for the column
 

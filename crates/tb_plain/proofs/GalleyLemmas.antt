@@ -16,9 +16,9 @@ use Rattle.tb_plain.specs.Run.{done, node_limit, MakeupRun, steps_left, first_ma
 use Rattle.tb_builder.proofs.FiredPages.PageWeights.{IsOnce}
 use Rattle.tb_builder.proofs.Cutting.CutLemmas.{class-both}
 use Rattle.tb_plain.proofs.OurLemmas.{ours, AllOurs}
-use Rattle.tb_plain.proofs.WeightLemmas.{NoMargin, sent_weight, run-keeps}
+use Rattle.tb_plain.proofs.WeightLemmas.{NoMargin, run-keeps}
 use Rattle.tb_column.proofs.Within.{Within}
-use Rattle.tb_column.proofs.PrintedLines.{prints, sent_prints}
+use Rattle.tb_column.proofs.PrintedLines.{prints, sent_prints, sent_weight}
 use Rattle.tb_plain.proofs.OrderLemmas.{run-shows}
 
 -- ---- the nodes of a galley

@@ -4,7 +4,7 @@ use Rattle.std.specs.Prelude.{pred, ◌||◌, ◌&&◌, int_lt, int_le, if◌the
 use Rattle.tb_node.specs.declared.Act.{Act}
 use Rattle.tb_node.specs.declared.Act.TheVariants as acts
 use Rattle.tb_node.specs.declared.Float.{Float}
-use Rattle.tb_node.specs.PlainNodes.{hbox, rule, skip, kerned, pen, mark, note, whatsit, Leaf, Inserted, leaf_node, PlainKind, plain, ins, act, PlainNode, without_acts, without_insertions, on_line}
+use Rattle.tb_node.specs.PlainNodes.{hbox, rule, skip, kerned, pen, mark, note, whatsit, Leaf, Inserted, leaf_node, PlainKind, plain, ins, act, PlainNode, on_line}
 use Rattle.tb_param.specs.declared.Params.{Params}
 use Rattle.tb_break.specs.PageTop.{pruned_nodes}
 use Rattle.tb_insert.specs.Account.{Labelled, Label, whole, split, late, labelled}
@@ -19,7 +19,7 @@ use Rattle.tb_plain.specs.GalleyNodes.{clearing_penalty}
 use Rattle.tb_plain.specs.TakenFloats.{top_insertion, top_leaves, page_leaves, here_nodes, with_float, taken_nodes, act_nodes}
 use Rattle.tb_plain.specs.Firing.{feet_below, holds_any, ragged_end, makeup_column_nodes, makeup_column, page_for_held, put_back_after}
 use Rattle.tb_plain.specs.Run.{MakeupState, done, page_limit, node_limit, MakeupRun, MakeupStep, ends, goes_on, makeup_ask, makeup_classes, void_boxes, builder_holds, makeup_reach, AtAct, no_act, at_act, after_node, first_act_by, first_act, meets_act, act_step, waiting_after, firing_step, last_step, makeup_step, run_by, makeup_from}
-use Rattle.tb_column.proofs.PrintedLines.{printed, prints, sent_prints, prints-append, sent-append}
+use Rattle.tb_column.proofs.PrintedLines.{printed, prints, sent_prints, prints-append, prints-acts, prints-insertions, sent-append}
 use Rattle.tb_column.proofs.Within.{Within, within-same, both-within, before-within, within-front, within-within}
 use Rattle.tb_plain.proofs.ReachLemmas.{fired_here, makeup-cut}
 
@@ -47,24 +47,6 @@ prints-laid t page waiting = by_box (holds_box page)
     by_box : (b : Bool) → prints (page ++ (if b then waiting else pruned_nodes t waiting)) ≡ prints page ++ prints waiting
     by_box true = prints-append page waiting
     by_box false = prints-append page (pruned_nodes t waiting) ∙ ap (λ l. prints page ++ l) (prints-pruned t waiting)
-
-acts-node : (n : ℕ) (k : PlainKind) (ns : List PlainNode) → prints (without_acts ns) ≡ prints ns → prints (without_acts (record { line = n; kind = k } ∷ ns)) ≡ printed n k ++ prints ns
-acts-node n (plain m) ns h = ap (λ l. printed n (plain m) ++ l) h
-acts-node n (ins i) ns h = h
-acts-node n (act a) ns h = h
-
-prints-acts : (ns : List PlainNode) → prints (without_acts ns) ≡ prints ns
-prints-acts [] = refl
-prints-acts (n ∷ ns) = acts-node n.line n.kind ns (prints-acts ns)
-
-insertions-node : (n : ℕ) (k : PlainKind) (ns : List PlainNode) → prints (without_insertions ns) ≡ prints ns → prints (without_insertions (record { line = n; kind = k } ∷ ns)) ≡ printed n k ++ prints ns
-insertions-node n (plain m) ns h = ap (λ l. printed n (plain m) ++ l) h
-insertions-node n (ins i) ns h = h
-insertions-node n (act a) ns h = h
-
-prints-insertions : (ns : List PlainNode) → prints (without_insertions ns) ≡ prints ns
-prints-insertions [] = refl
-prints-insertions (n ∷ ns) = insertions-node n.line n.kind ns (prints-insertions ns)
 
 prints-split : (k : ℕ) (ns : List PlainNode) → prints ns ≡ prints (take k ns) ++ prints (drop k ns)
 prints-split zero ns = refl

@@ -1,7 +1,8 @@
 -- What the page makeup ships has no insertions and no acts.
 use Rattle.std.proofs.Common.{sym, subst, ℕ, zero, suc, pos, ◌+◌, Bool, true, false, List, [], ◌∷◌, ◌++◌, map, take, Option, Some, None}
 use Rattle.std.specs.Prelude.{pred, int_lt, if◌then◌else◌}
-use Rattle.tb_node.specs.PlainNodes.{Leaf, leaf_node, PlainKind, plain, ins, act, PlainNode, without_insertions}
+use Rattle.tb_break.proofs.EachLemmas.{all-take}
+use Rattle.tb_node.specs.PlainNodes.{Leaf, leaf_node, PlainNode}
 use Rattle.tb_param.specs.declared.Params.{Params}
 use Rattle.tb_galley.specs.declared.Galley.{Galley}
 use Rattle.tb_builder.specs.Reach.{Reach, laid_out}
@@ -9,27 +10,11 @@ use Rattle.tb_builder.specs.FiredPages.{Fired, page_break, box_content, content_
 use Rattle.tb_builder.specs.Contents.{node_count}
 use Rattle.tb_builder.proofs.Cutting.CutLemmas.{ActFree, AllFree, acts-free, CutAt}
 use Rattle.tb_column.specs.Column.{PlainSent, one, shipped, is_ragged}
-use Rattle.tb_column.proofs.PrintedLines.{AllPlain, SentPlain, plain-both, sent-plain, leaves-plain}
+use Rattle.tb_column.proofs.PrintedLines.{AllPlain, SentPlain, body-plain, plain-both, sent-plain, leaves-plain}
 use Rattle.tb_plain.specs.GalleyNodes.{made_up}
 use Rattle.tb_plain.specs.Firing.{feet_below, ragged_end, makeup_column_nodes, makeup_column}
 use Rattle.tb_plain.specs.Run.{MakeupState, MakeupRun, MakeupStep, ends, goes_on, page_limit, node_limit, makeup_reach, AtAct, no_act, at_act, first_act, meets_act, act_step, waiting_after, firing_step, last_step, makeup_step, run_by, makeup_from, steps_left, first_makeup, makeup_of}
 use Rattle.tb_plain.proofs.ReachLemmas.{fired_here, makeup-cut}
-
--- ---- lists without acts
-
-take-free : (k : ℕ) (ns : List PlainNode) → AllFree ns → AllFree (take k ns)
-take-free zero ns h = tt
-take-free (suc k) [] h = tt
-take-free (suc k) (n ∷ ns) h = (h.0, take-free k ns h.1)
-
-node-plain : (l : ℕ) (k : PlainKind) (ns : List PlainNode) → ActFree k → AllPlain (without_insertions ns) → AllPlain (without_insertions (record { line = l; kind = k } ∷ ns))
-node-plain l (plain m) ns f h = (tt, h)
-node-plain l (ins i) ns f h = h
-node-plain l (act a) ns f h = absurd f
-
-body-plain : (ns : List PlainNode) → AllFree ns → AllPlain (without_insertions ns)
-body-plain [] h = tt
-body-plain (n ∷ ns) h = node-plain n.line n.kind ns h.0 (body-plain ns h.1)
 
 -- ---- the column
 
@@ -98,7 +83,7 @@ step-plain p s = by_step (meets_act w.reached) w.fires
     cut = makeup-cut p s
 
     body : AllPlain f.body
-    body = body-plain (take (page_break w).place w.passed) (take-free (page_break w).place w.passed (subst AllFree (sym cut.passed) (acts-free cut.front)))
+    body = body-plain ActFree (λ a h. h) (take (page_break w).place w.passed) (all-take (λ (n : PlainNode). ActFree n.kind) (page_break w).place w.passed (subst AllFree (sym cut.passed) (acts-free cut.front)))
 
     by_step : (t u : Bool) → StepPlain (if t then act_step p s (first_act s.waiting) else (if u then firing_step p s.number f else last_step s w.passed))
     by_step true u = act-plain p s (first_act s.waiting)

@@ -1,5 +1,5 @@
 -- A run of the page makeup ends because it is done, for its pages or for its nodes, and never for its steps.
-use Rattle.std.proofs.Common.{◌≡◌, refl, sym, ◌∙◌, ap, ℕ, ℤ, zero, suc, pos, ◌+◌, ◌≤◌, inl, Bool, true, false, List, [], ◌∷◌, ◌++◌, length, Option, Some, None, arith, length-append}
+use Rattle.std.proofs.Common.{◌≡◌, refl, sym, ◌∙◌, ap, ℕ, ℤ, zero, suc, pos, ◌+◌, ◌≤◌, inl, Bool, true, false, List, [], ◌∷◌, ◌++◌, length, Option, Some, None, add-zero, arith, length-append}
 use Rattle.std.specs.Prelude.{pred, int_lt, ◌<ℤ◌, ◌≤ℤ◌, if◌then◌else◌}
 use Rattle.std.proofs.lemmas.Int.{ints}
 use Rattle.std.proofs.lemmas.Bool.{true≢false}
@@ -83,14 +83,11 @@ abbrev StepReason : Params → MakeupState → MakeupStep → Type 0
 StepReason p s (ends es e) = RunReason p s es e
 StepReason p s (goes_on es t) = (pred s.number + length es ≡ pred t.number) × (act_count t.page ≡ 0)
 
-nothing-more : (n : ℕ) → n + 0 ≡ n
-nothing-more n = omega arith
-
 act-reason : (p : Params) (s : MakeupState) (x : AtAct) → act_count s.page ≡ 0 → (act_count s.waiting ≡ 0 → ⊥) → NoneBefore x s.waiting → StepReason p s (act_step p s x)
 act-reason p s no_act e some h = absurd (some h)
 act-reason p s (at_act before a after) e some h =
     let laid : act_count (laid_out p.topskip s.page before) ≡ act_count s.page + act_count before = acts-laid p.topskip s.page before in
-    (nothing-more (pred s.number), omega (arith, laid, e, h))
+    (add-zero (pred s.number), omega (arith, laid, e, h))
 
 next-number : (n : ℕ) → 1 ≤ n → pred n + 1 ≡ pred (n + 1)
 next-number zero h = let no : ⊥ = omega arith in absurd no
@@ -113,13 +110,13 @@ firing-reason p s f n = by_pages (int_lt p.maxpages (pos s.number)) (int_lt p.ma
     after = record { page = []; waiting = waiting_after p f; number = s.number + 1 }
 
     by_pages : (t u : Bool) → int_lt p.maxpages (pos s.number) ≡ t → int_lt p.maxnodes (pos (node_count (waiting_after p f))) ≡ u → StepReason p s (if t then ends [] (page_limit (pred s.number)) else (if u then ends sent (node_limit (node_count (waiting_after p f))) else goes_on sent after))
-    by_pages true u e g = (nothing-more (pred s.number), at-limit p.maxpages s.number n e)
+    by_pages true u e g = (add-zero (pred s.number), at-limit p.maxpages s.number n e)
     by_pages false true e g = above p.maxnodes (node_count (waiting_after p f)) g
     by_pages false false e g = (next-number s.number n, refl)
 
 last-reason : (p : Params) (s : MakeupState) (page : List PlainNode) → act_count page ≡ 0 → StepReason p s (last_step s page)
 last-reason p s [] h = tt
-last-reason p s (n ∷ ns) h = (nothing-more (pred s.number), h)
+last-reason p s (n ∷ ns) h = (add-zero (pred s.number), h)
 
 step-reason : (p : Params) (s : MakeupState) → 1 ≤ s.number → act_count s.page ≡ 0 → StepReason p s (makeup_step p s)
 unfolding makeup_step

@@ -16,8 +16,8 @@ use Rattle.tb_builder.specs.Contents.{node_count}
 use Rattle.tb_builder.specs.PageSums.{page_sums_of}
 use Rattle.tb_builder.proofs.FiredPages.PageWeights.{laid_out-weight, acted_weight, reach-weight, boxes_weight, fired-weight, labelled-class}
 use Rattle.tb_builder.proofs.Cutting.CutLemmas.{CutAt, class-both, class-take, class-drop, class-passed, spent-class}
-use Rattle.tb_column.specs.Column.{one, PlainSent, warned, shipped, is_ragged}
-use Rattle.tb_report.specs.RunTotals.{sheet_nodes}
+use Rattle.tb_column.specs.Column.{one, PlainSent, shipped, is_ragged}
+use Rattle.tb_column.proofs.PrintedLines.{sent_weight, sent_weight-append}
 use Rattle.tb_plain.specs.GalleyNodes.{clearing_penalty}
 use Rattle.tb_plain.specs.TakenFloats.{top_insertion, top_leaves, page_leaves, here_nodes, with_float, taken_nodes, act_nodes}
 use Rattle.tb_plain.specs.Firing.{feet_below, holds_any, ragged_end, makeup_column_nodes, makeup_column, page_for_held, put_back_after}
@@ -154,11 +154,6 @@ first-weighs v (n ∷ ns) = node-weighs v n.line n.kind ns (first-weighs v ns)
 
 -- ---- a step
 
-abbrev pub sent_weight : Weight → List PlainSent → ℕ
-sent_weight v [] = 0
-sent_weight v (warned w ∷ es) = sent_weight v es
-sent_weight v (shipped number sheet ∷ es) = nodes_weight v (sheet_nodes sheet) + sent_weight v es
-
 abbrev pub state_weight : Weight → MakeupState → ℕ
 state_weight v s = nodes_weight v s.page + nodes_weight v s.waiting
 
@@ -243,15 +238,10 @@ step-keeps v p s none all = by_act (meets_act w.reached) refl
 
 -- ---- the run
 
-sent-append : (v : Weight) (xs ys : List PlainSent) → sent_weight v (xs ++ ys) ≡ sent_weight v xs + sent_weight v ys
-sent-append v [] ys = omega arith
-sent-append v (warned w ∷ xs) ys = sent-append v xs ys
-sent-append v (shipped n sheet ∷ xs) ys = let h : sent_weight v (xs ++ ys) ≡ sent_weight v xs + sent_weight v ys = sent-append v xs ys in omega arith
-
 by-keeps : (v : Weight) (s : MakeupState) (later : MakeupState → MakeupRun) → ((t : MakeupState) → StateOurs t → (later t).end ≡ done → sent_weight v (later t).sent ≡ state_weight v t) → (x : MakeupStep) → StepKeeps v s x → (run_by later x).end ≡ done → sent_weight v (run_by later x).sent ≡ state_weight v s
 by-keeps v s later h (ends es e) k d = k d
 by-keeps v s later h (goes_on es t) k d =
-    let a : sent_weight v (es ++ (later t).sent) ≡ sent_weight v es + sent_weight v (later t).sent = sent-append v es (later t).sent in
+    let a : sent_weight v (es ++ (later t).sent) ≡ sent_weight v es + sent_weight v (later t).sent = sent_weight-append v es (later t).sent in
     let b : sent_weight v (later t).sent ≡ state_weight v t = h t k.1 d in
     let c = k.0 in
     omega arith

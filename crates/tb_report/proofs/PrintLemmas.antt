@@ -1,5 +1,6 @@
 -- A walk of a list that prints each node at its top.
 use Rattle.std.proofs.Common.{◌≡◌, refl, ◌∙◌, ap, sym, subst, ℕ, ℤ, pos, ◌≢◌, FitsSigned, w64, List, [], ◌∷◌, ◌++◌, map, append_assoc, append-nil}
+use Rattle.std.proofs.lemmas.List.{map-append}
 use Rattle.tb_node.specs.declared.Node.{Node}
 use Rattle.tb_node.specs.declared.Kind.{Kind}
 use Rattle.tb_node.specs.declared.Kind.TheVariants as kinds
@@ -13,6 +14,20 @@ use Rattle.tb_pack.specs.Position.{Walked, walked_past, HasPassed}
 use Rattle.tb_pack.proofs.WalkLemmas.{next_natural_fits, next_glue_fits}
 use Rattle.tb_column.proofs.ShownLemmas.{shapes-held}
 use Rattle.tb_report.specs.Lines.{matter_line, node_line, item_lines}
+
+-- the next node of a walk fits, and so does what the walk comes to after it
+module _ (s : Set) (ns : List Node) (w : Walked) (before : List Node) (n : Node) (rest : List Node) (whole : before ++ n ∷ rest ≡ ns) (passed : HasPassed w s (map shape_of before)) where
+  shapes_whole : map shape_of before ++ shape_of n ∷ map shape_of rest ≡ map shape_of ns
+  shapes_whole = sym (map-append shape_of before (n ∷ rest)) ∙ ap (map shape_of) whole
+
+  pub node_fits : NodesFit (map shape_of ns) → IsSmallShape (shape_of n)
+  node_fits fits = fits (map shape_of before) (shape_of n) (map shape_of rest) shapes_whole
+
+  pub natural_fits : (limit : ℤ) → SumsFit limit (map shape_of ns) → FitsSigned w64 (walked_past w (shape_of n)).natural
+  natural_fits limit fits = next_natural_fits limit (map shape_of ns) w s (map shape_of before) (shape_of n) (map shape_of rest) fits shapes_whole passed
+
+  pub glue_fits : (limit : ℤ) → SumsFit limit (map shape_of ns) → FitsSigned w64 (walked_past w (shape_of n)).glue
+  glue_fits limit fits = next_glue_fits limit (map shape_of ns) w s (map shape_of before) (shape_of n) (map shape_of rest) fits shapes_whole passed
 
 module _ (held : ℕ → List Node) where
   -- a node's line and its shape do not depend on the lists of insertions
@@ -28,18 +43,6 @@ module _ (held : ℕ → List Node) where
   node_line-held (kinds.Note name) top = refl
   node_line-held kinds.Whatsit top = refl
 
-  pub map-end : (ns : List Node) (n : Node) → map (plain_of held) (ns ++ n ∷ []) ≡ map (plain_of held) ns ++ plain_of held n ∷ []
-  map-end [] n = refl
-  map-end (m ∷ ms) n = ap (λ t. plain_of held m ∷ t) (map-end ms n)
-
-  pub shapes-end : (ns : List Node) (n : Node) → map shape_of (ns ++ n ∷ []) ≡ map shape_of ns ++ shape_of n ∷ []
-  shapes-end [] n = refl
-  shapes-end (m ∷ ms) n = ap (λ t. shape_of m ∷ t) (shapes-end ms n)
-
-  pub shapes-cut : (ns : List Node) (n : Node) (rest : List Node) → map shape_of (ns ++ n ∷ rest) ≡ map shape_of ns ++ shape_of n ∷ map shape_of rest
-  shapes-cut [] n rest = refl
-  shapes-cut (m ∷ ms) n rest = ap (λ t. shape_of m ∷ t) (shapes-cut ms n rest)
-
   -- the nodes before are printed, and these are left
   pub record Printing (s : Set) (ns : List Node) (w : Walked) (old now : List ℕ) (rest : List Node) : Type 0 where
     pub before : List Node
@@ -53,19 +56,6 @@ module _ (held : ℕ → List Node) where
   -- the share of the walk's glue has a value
   pub shares : (s : Set) (ns : List Node) (w : Walked) (old now : List ℕ) (rest : List Node) → Printing s ns w old now rest → s.den ≢ pos 0 → w.set.den ≢ pos 0
   shares s ns w old now rest p h e = h (sym (ap (λ t. t.den) p.passed.same_set) ∙ e)
-
-  module _ (s : Set) (ns : List Node) (w : Walked) (old now : List ℕ) (n : Node) (rest : List Node) (p : Printing s ns w old now (n ∷ rest)) where
-    shapes_whole : map shape_of p.before ++ shape_of n ∷ map shape_of rest ≡ map shape_of ns
-    shapes_whole = sym (shapes-cut p.before n rest) ∙ ap (map shape_of) p.whole
-
-    pub node_fits : NodesFit (map shape_of ns) → IsSmallShape (shape_of n)
-    node_fits fits = fits (map shape_of p.before) (shape_of n) (map shape_of rest) shapes_whole
-
-    pub natural_fits : (limit : ℤ) → SumsFit limit (map shape_of ns) → FitsSigned w64 (walked_past w (shape_of n)).natural
-    natural_fits limit fits = next_natural_fits limit (map shape_of ns) w s (map shape_of p.before) (shape_of n) (map shape_of rest) fits shapes_whole p.passed
-
-    pub glue_fits : (limit : ℤ) → SumsFit limit (map shape_of ns) → FitsSigned w64 (walked_past w (shape_of n)).glue
-    glue_fits limit fits = next_glue_fits limit (map shape_of ns) w s (map shape_of p.before) (shape_of n) (map shape_of rest) fits shapes_whole p.passed
 
   pub goes_on : (s : Set) (ns : List Node) (w w' : Walked) (old now now' : List ℕ) (n : Node) (rest : List Node) (p : Printing s ns w old now (n ∷ rest))
       → ((set : Set) (passed : List Shape) → HasPassed w set passed → now' ≡ now ++ matter_line (matter_of n.kind) (top_after set passed))
@@ -82,9 +72,9 @@ module _ (held : ℕ → List Node) where
       record {
         before = p.before ++ n ∷ [];
         whole = append_assoc p.before (n ∷ []) rest ∙ p.whole;
-        passed = subst (HasPassed w' s) (sym (shapes-end p.before n)) passed;
+        passed = subst (HasPassed w' s) (sym (map-append shape_of p.before (n ∷ []))) passed;
         text =
-            (λ i. wrote i ++ item_lines s (map-end p.before n i) left)
+            (λ i. wrote i ++ item_lines s (map-append (plain_of held) p.before (n ∷ []) i) left)
             ∙ append_assoc now (matter_line (matter_of n.kind) (top_after s (map shape_of p.before))) (item_lines s (plains ++ plain_of held n ∷ []) left)
             ∙ (λ i. now ++ (sym its_line i ++ item_lines s (plains ++ plain_of held n ∷ []) left))
             ∙ p.text;

@@ -139,7 +139,7 @@ voided_sized k b h = by_test (b.number == k)
     by_test true = All-nil IsSizedLeaf
     by_test false = h
 
-voided_number : (k : ℕ) (b : Boxed) → (voided k b).number ≡ b.number
+pub voided_number : (k : ℕ) (b : Boxed) → (voided k b).number ≡ b.number
 voided_number k b = by_test (b.number == k)
   where
     by_test : (t : Bool) → (if t then record b { content = None } else b).number ≡ b.number

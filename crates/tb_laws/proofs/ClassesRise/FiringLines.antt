@@ -1,7 +1,7 @@
 -- The floats' lines of a class in a page that fires, and in what waits after it.
 use Rattle.std.proofs.Common.{◌≡◌, sym, ◌∙◌, ap, subst, ℕ, ℤ, true, List, [], ◌++◌, take, drop, append_assoc}
 use Rattle.std.specs.Prelude.{int_lt}
-use Rattle.tb_break.proofs.EachLemmas.{all-front, all-back, all-join}
+use Rattle.tb_break.proofs.EachLemmas.{all-front, all-back, all-join, all-take, all-drop}
 use Rattle.tb_scaled.specs.Scaled.{eject_penalty}
 use Rattle.tb_node.specs.PlainNodes.{PlainNode, without_insertions}
 use Rattle.tb_break.specs.PageTop.{pruned_nodes}
@@ -9,7 +9,7 @@ use Rattle.tb_insert.specs.Account.{Frozen, labelled}
 use Rattle.tb_builder.specs.Reach.{Reach}
 use Rattle.tb_builder.specs.FiredPages.{Boxed, Fired, page_break, from_break, with_spent_break, held_insertions, fired_by}
 use Rattle.tb_builder.proofs.Cutting.CutLemmas.{acted_of, CutAt, AllIns}
-use Rattle.tb_laws.proofs.ClassesRise.FloatlessFeet.{HoldsFloatless, HoldFloatless, BoxesFloatless, labelled-floatless, take-floatless, boxes-floatless, spent-floatless, drop-floatless, held-floatless, pruned-floatless, acts-floatless, no-insertions-floatless}
+use Rattle.tb_laws.proofs.ClassesRise.FloatlessFeet.{HoldsFloatless, HoldFloatless, BoxesFloatless, labelled-floatless, boxes-floatless, spent-floatless, held-floatless, pruned-floatless, acts-floatless, no-insertions-floatless}
 use Rattle.tb_laws.proofs.ClassesRise.ClassLines.{FloatKind, class_lines, lines-append}
 use Rattle.tb_laws.proofs.ClassesRise.PageLines.{acts_lines, take_lines, deeds, takes-append, deeds-append, pruned-lines, pruned-takes, pruned-deeds, spent-lines, spent-takes, spent-deeds, lines-split, takes-split, deeds-split, without-acts-lines, without-acts-takes, without-acts-deeds, acts-of-lines, deeds-of, without-insertions-lines, without-insertions-takes, without-insertions-deeds, ins-lines, ins-takes, ins-deeds, AreEarly, AreEndless, append-none, none-front, early-back, early-join, early-pruned, ended-lines, early-spent, calm-endless, endless-take, endless-drop, endless-insertions, ins-endless}
 
@@ -96,7 +96,7 @@ module _ (k : FloatKind) (t : ℤ) (waiting : List PlainNode) (w : Reach) (cut :
   pub fired-lines : (c : List ℕ) (z : Frozen) (boxes : List Boxed) → BoxesFloatless k boxes → AllIns c (held_insertions (labelled z (take (page_break w).place w.passed))) → FiredLines k waiting w (fired_by (labelled z (take (page_break w).place w.passed)) boxes w)
   fired-lines c z boxes b i =
       let before = take (page_break w).place w.passed in
-      let labels = labelled-floatless k z [] [] before tt (take-floatless k (page_break w).place w.passed feet_passed.0) in
+      let labels = labelled-floatless k z [] [] before tt (all-take (λ (n : PlainNode). HoldsFloatless k n.kind) (page_break w).place w.passed feet_passed.0) in
       record {
         text = text_is;
         takes = takes_are;
@@ -108,7 +108,7 @@ module _ (k : FloatKind) (t : ℤ) (waiting : List PlainNode) (w : Reach) (cut :
         body_takes = without-insertions-takes k before ∙ front_takes;
         body_does = without-insertions-deeds before ∙ front_deeds;
         boxes = boxes-floatless k (labelled z before) boxes labels b;
-        feet = spent-floatless k (from_break w) (all-join (λ (n : PlainNode). HoldsFloatless k n.kind) (drop (page_break w).place w.passed) w.beyond (drop-floatless k (page_break w).place w.passed feet_passed.0) feet_passed.1);
+        feet = spent-floatless k (from_break w) (all-join (λ (n : PlainNode). HoldsFloatless k n.kind) (drop (page_break w).place w.passed) w.beyond (all-drop (λ (n : PlainNode). HoldsFloatless k n.kind) (page_break w).place w.passed feet_passed.0) feet_passed.1);
         held = held-floatless k (labelled z before) labels;
         held_text = ins-lines k c (held_insertions (labelled z before)) i;
         held_takes = ins-takes k c (held_insertions (labelled z before)) i;

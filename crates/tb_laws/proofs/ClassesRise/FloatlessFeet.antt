@@ -1,8 +1,8 @@
 -- Insertions hold no floats: neither those that wait, nor the footnotes in a box, nor those that are held.
-use Rattle.std.proofs.Common.{◌≡◌, refl, ℕ, zero, suc, ◌==◌, ℤ, Bool, true, false, List, [], ◌∷◌, ◌++◌, map, take, drop, length, Some}
+use Rattle.std.proofs.Common.{◌≡◌, refl, ℕ, ◌==◌, ℤ, Bool, true, false, List, [], ◌∷◌, ◌++◌, map, drop, length, Some}
 use Rattle.std.specs.Prelude.{if◌then◌else◌}
 use Rattle.std.specs.List.{AllByRecursion}
-use Rattle.tb_break.proofs.EachLemmas.{all-join}
+use Rattle.tb_break.proofs.EachLemmas.{all-join, all-take, all-drop}
 use Rattle.tb_node.specs.PlainNodes.{Matter, hbox, rule, skip, kerned, pen, mark, note, whatsit, Leaf, Inserted, PlainKind, plain, ins, act, PlainNode, without_acts, without_insertions, on_line}
 use Rattle.tb_break.specs.PageTop.{pruned_leaves, pruned_nodes}
 use Rattle.tb_insert.specs.Account.{Frozen, Labelled, Label, whole, split, late, label_of, labelled_with, labelled_from}
@@ -22,16 +22,6 @@ BoxesFloatless k = AllByRecursion (λ b. AreFloatless k (content_of b.content))
 
 abbrev pub LabelsFloatless : FloatKind → List Labelled → Type 0
 LabelsFloatless k = AllByRecursion (λ l. AreFloatless k l.inserted.inner)
-
-leaves-take : (k : FloatKind) (i : ℕ) (ls : List Leaf) → AreFloatless k ls → AreFloatless k (take i ls)
-leaves-take k zero ls h = tt
-leaves-take k (suc i) [] h = tt
-leaves-take k (suc i) (l ∷ ls) h = (h.0, leaves-take k i ls h.1)
-
-leaves-drop : (k : FloatKind) (i : ℕ) (ls : List Leaf) → AreFloatless k ls → AreFloatless k (drop i ls)
-leaves-drop k zero ls h = h
-leaves-drop k (suc i) [] h = tt
-leaves-drop k (suc i) (l ∷ ls) h = leaves-drop k i ls h.1
 
 leaf-pruned : (k : FloatKind) (t : ℤ) (ls : List Leaf) → AreFloatless k ls → AreFloatless k (pruned_leaves t ls) → (n : ℕ) (m : Matter) → kind_lines k (plain m) ≡ [] → AreFloatless k (pruned_leaves t (record { line = n; matter = m } ∷ ls))
 leaf-pruned k t ls h i n (hbox w a d) e = (refl, (e, h))
@@ -58,7 +48,7 @@ labelled-floatless k z ls before (n ∷ ns) h c = labelled-floatless k z (labell
 
 given-floatless : (k : FloatKind) (t : Label) (i : Inserted) → AreFloatless k i.inner → AreFloatless k (given_by t i)
 given-floatless k whole i h = h
-given-floatless k (split f) i h = leaves-take k f.index i.inner h
+given-floatless k (split f) i h = all-take (IsFloatless k) f.index i.inner h
 given-floatless k late i h = tt
 
 given-to-floatless : (k : FloatKind) (c : ℕ) (ls : List Labelled) → LabelsFloatless k ls → AreFloatless k (given_to c ls)
@@ -86,7 +76,7 @@ unless-floatless k line i (l ∷ ls) h = (h, tt)
 
 held-of-floatless : (k : FloatKind) (line : ℕ) (t : Label) (i : Inserted) → AreFloatless k i.inner → HoldFloatless k (on_line line (held_of t i))
 held-of-floatless k line whole i h = tt
-held-of-floatless k line (split f) i h = unless-floatless k line i _ (leaves-pruned k i.split_top (drop f.index i.inner) (leaves-drop k f.index i.inner h))
+held-of-floatless k line (split f) i h = unless-floatless k line i _ (leaves-pruned k i.split_top (drop f.index i.inner) (all-drop (IsFloatless k) f.index i.inner h))
 held-of-floatless k line late i h = (h, tt)
 
 pub held-floatless : (k : FloatKind) (ls : List Labelled) → LabelsFloatless k ls → HoldFloatless k (held_insertions ls)
@@ -117,16 +107,6 @@ acts-floatless-more k l (act a) ns c h = h
 pub acts-floatless : (k : FloatKind) (ns : List PlainNode) → HoldFloatless k ns → HoldFloatless k (without_acts ns)
 acts-floatless k [] h = tt
 acts-floatless k (n ∷ ns) h = acts-floatless-more k n.line n.kind ns h.0 (acts-floatless k ns h.1)
-
-pub take-floatless : (k : FloatKind) (i : ℕ) (ns : List PlainNode) → HoldFloatless k ns → HoldFloatless k (take i ns)
-take-floatless k zero ns h = tt
-take-floatless k (suc i) [] h = tt
-take-floatless k (suc i) (n ∷ ns) h = (h.0, take-floatless k i ns h.1)
-
-pub drop-floatless : (k : FloatKind) (i : ℕ) (ns : List PlainNode) → HoldFloatless k ns → HoldFloatless k (drop i ns)
-drop-floatless k zero ns h = h
-drop-floatless k (suc i) [] h = tt
-drop-floatless k (suc i) (n ∷ ns) h = drop-floatless k i ns h.1
 
 pub spent-floatless : (k : FloatKind) (ns : List PlainNode) → HoldFloatless k ns → HoldFloatless k (with_spent_break ns)
 spent-floatless k [] h = tt

@@ -4,6 +4,7 @@ use Rattle.std.specs.List.{AllByRecursion}
 use Rattle.std.proofs.lemmas.Int.{ints}
 use Rattle.std.proofs.lemmas.List.{append_assoc}
 use Rattle.std.proofs.lemmas.Bool.{and_parts}
+use Rattle.tb_break.proofs.EachLemmas.{all-take}
 use Rattle.tb_scaled.specs.Scaled.{is_zero, eject_penalty}
 use Rattle.tb_scaled.specs.Glue.{filling_glue}
 use Rattle.tb_node.specs.declared.What.TheVariants as what
@@ -16,6 +17,7 @@ use Rattle.tb_builder.proofs.ForLaws.FittingFired.{Topmost, AllTopmost, flat_box
 use Rattle.tb_builder.proofs.ForLaws.PausedPages.{Paused, calm-both}
 use Rattle.tb_output.specs.Clear
 use Rattle.tb_output.specs.Output
+use Rattle.tb_output.proofs.Firings.GoalLemmas.{zero-is}
 use Rattle.tb_laws.proofs.Closed.Sorts.{kind_sort, sorts, sorts-calm, none, one, seen_all}
 use Rattle.tb_laws.proofs.Closed.SortLemmas.{never-one, behind-one}
 use Rattle.tb_laws.proofs.DeadCycles.AgainLemmas.{Idle}
@@ -33,13 +35,10 @@ pub record OneFlat (ns : List PlainNode) : Type 0 where
 one-more : (n : PlainNode) (ns : List PlainNode) → Topmost n.kind → Calm n.kind → OneFlat ns → OneFlat (n ∷ ns)
 one-more n ns t c h = record { front = n ∷ h.front; line = h.line; whole = ap (λ xs. n ∷ xs) h.whole; topmost = (t, h.topmost); calm = (c, h.calm) }
 
-zero-of : (z : ℤ) → is_zero z ≡ true → z ≡ pos 0
-zero-of z h = grind (arith, ints, h)
-
 flat-node : (l : ℕ) (h d : ℤ) (ns : List PlainNode) → ns ≡ [] → flat_last (is_flat (plain (hbox what.Blank h d))) ns ≡ true → OneFlat (record { line = l; kind = plain (hbox what.Blank h d) } ∷ without_insertions ns)
 flat-node l h d [] e z =
-    let a : h ≡ pos 0 = zero-of h (and_parts (is_zero h) (is_zero d) z).0 in
-    let b : d ≡ pos 0 = zero-of d (and_parts (is_zero h) (is_zero d) z).1 in
+    let a : h ≡ pos 0 = zero-is h (and_parts (is_zero h) (is_zero d) z).0 in
+    let b : d ≡ pos 0 = zero-is d (and_parts (is_zero h) (is_zero d) z).1 in
     record { front = []; line = l; whole = ap (λ x. record { line = l; kind = plain (hbox what.Blank x d) } ∷ []) a ∙ ap (λ x. record { line = l; kind = plain (hbox what.Blank (pos 0) x) } ∷ []) b; topmost = tt; calm = tt }
 flat-node l h d (n ∷ ns) e z = cc
 
@@ -97,16 +96,6 @@ take-last (suc i) (x ∷ xs) n = more (take-last i xs n)
     more : (take i (xs ++ n ∷ []) ≡ take i xs) ⊎ (take i (xs ++ n ∷ []) ≡ xs ++ n ∷ []) → (x ∷ take i (xs ++ n ∷ []) ≡ x ∷ take i xs) ⊎ (x ∷ take i (xs ++ n ∷ []) ≡ x ∷ (xs ++ n ∷ []))
     more (inl h) = inl (ap (λ ys. x ∷ ys) h)
     more (inr h) = inr (ap (λ ys. x ∷ ys) h)
-
-take-topmost : (i : ℕ) (xs : List PlainNode) → AllTopmost xs → AllTopmost (take i xs)
-take-topmost zero xs h = tt
-take-topmost (suc i) [] h = tt
-take-topmost (suc i) (x ∷ xs) h = (h.0, take-topmost i xs h.1)
-
-take-calm : (i : ℕ) (xs : List PlainNode) → AllCalm xs → AllCalm (take i xs)
-take-calm zero xs h = tt
-take-calm (suc i) [] h = tt
-take-calm (suc i) (x ∷ xs) h = (h.0, take-calm i xs h.1)
 
 kind-idle : (k : PlainKind) → Topmost k → Calm k → Idle (kind_sort k) × (kind_cost k ≡ 0)
 kind-idle (plain (hbox w h d)) t c = absurd t
@@ -169,5 +158,5 @@ front-fits p body h = by_take (take-last i h.front (flat_box h.line what.Blank))
     same = ap (take (split_of (pos 0) p.splitmaxdepth (map node_shape body)).index) h.whole
 
     by_take : (take i (h.front ++ flat_box h.line what.Blank ∷ []) ≡ take i h.front) ⊎ (take i (h.front ++ flat_box h.line what.Blank ∷ []) ≡ h.front ++ flat_box h.line what.Blank ∷ []) → FrontFits (take (split_of (pos 0) p.splitmaxdepth (map node_shape body)).index body)
-    by_take (inl e) = subst FrontFits (sym (same ∙ e)) (record { fits = λ rest. (front-fitted (take i h.front) rest (take-topmost i h.front h.topmost), front-paused (take i h.front) rest (take-calm i h.front h.calm)); idle = (all-idle (take i h.front) (take-topmost i h.front h.topmost) (take-calm i h.front h.calm)).0; cost = (all-idle (take i h.front) (take-topmost i h.front h.topmost) (take-calm i h.front h.calm)).1 })
+    by_take (inl e) = subst FrontFits (sym (same ∙ e)) (record { fits = λ rest. (front-fitted (take i h.front) rest (all-take (λ (n : PlainNode). Topmost n.kind) i h.front h.topmost), front-paused (take i h.front) rest (all-take (λ (n : PlainNode). Calm n.kind) i h.front h.calm)); idle = (all-idle (take i h.front) (all-take (λ (n : PlainNode). Topmost n.kind) i h.front h.topmost) (all-take (λ (n : PlainNode). Calm n.kind) i h.front h.calm)).0; cost = (all-idle (take i h.front) (all-take (λ (n : PlainNode). Topmost n.kind) i h.front h.topmost) (all-take (λ (n : PlainNode). Calm n.kind) i h.front h.calm)).1 })
     by_take (inr e) = subst FrontFits (sym (same ∙ e)) (record { fits = λ rest. (flat-fitted h.front rest h.line h.topmost, front-paused (h.front ++ flat_box h.line what.Blank ∷ []) rest (calm-both h.front (flat_box h.line what.Blank ∷ []) h.calm (tt, tt))); idle = (flat-idle h.front h.line h.topmost h.calm).0; cost = (flat-idle h.front h.line h.topmost h.calm).1 })

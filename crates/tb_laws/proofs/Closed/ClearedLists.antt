@@ -1,5 +1,5 @@
 -- A clear without footnotes puts back a further clear, or leaves all lists empty.
-use Rattle.std.proofs.Common.{◌≡◌, refl, sym, ◌∙◌, ap, subst, ◌⊎◌, inl, inr, Bool, true, false, List, [], ◌∷◌, ◌++◌, Option, Some, None, arith, append_assoc}
+use Rattle.std.proofs.Common.{◌≡◌, refl, sym, ◌∙◌, ap, subst, ◌⊎◌, inl, inr, Bool, true, false, List, [], ◌∷◌, ◌++◌, None, arith, append_assoc}
 use Rattle.std.specs.Prelude.{not, ◌||◌, if◌then◌else◌}
 use Rattle.std.specs.List.{AllByRecursion}
 use Rattle.tb_node.specs.declared.Float.{Float}
@@ -7,12 +7,11 @@ use Rattle.tb_node.specs.PlainNodes.{PlainNode, made, blank_box}
 use Rattle.tb_param.specs.declared.Params.{Params}
 use Rattle.tb_float.specs.Lists.{FloatLists, no_floats, wide_part, wide_waiting}
 use Rattle.tb_float.proofs.WaitingLemmas.{wide-waits}
-use Rattle.tb_column.specs.Column.{PlainColumn}
 use Rattle.tb_output.specs.State.{Work, puts, with_floats, has_floats}
 use Rattle.tb_output.specs.Pages
 use Rattle.tb_output.specs.Columns
 use Rattle.tb_output.specs.Clear
-use Rattle.tb_laws.proofs.NothingLost.StateWeights.{ColumnsFit}
+use Rattle.tb_laws.proofs.NothingLost.StateWeights.{ColumnsFit, first-left, one-left}
 use Rattle.tb_laws.proofs.Closed.Closings.{Ways, never, Token, Closes, Quiet, quiet-between, tokens, tokens-append}
 use Rattle.tb_laws.proofs.Closed.SparedLists.{Single, Spares, spared, waiting-spares, all_columns-spares, all_wide-spares, waiting-double, all_wide-double}
 
@@ -50,7 +49,8 @@ pub record Emptied (w c : Work) : Type 0 where
 empty-lists : (l : FloatLists) → l.current ≡ [] → l.here ≡ [] → l.top ≡ [] → l.bottom ≡ [] → l.deferred ≡ [] → l.double ≡ [] → l.second ≡ [] → l ≡ no_floats
 empty-lists l a b c d e f g = λ i. record { current = a i; here = b i; top = c i; bottom = d i; deferred = e i; double = f i; second = g i }
 
-no-float : (fs : List Float) → has_floats fs ≡ false → fs ≡ []
+-- a list that is tested and has no floats
+pub no-float : (fs : List Float) → has_floats fs ≡ false → fs ≡ []
 no-float [] e = refl
 no-float (f ∷ fs) e = let no : ⊥ = grind (arith, e) in absurd no
 
@@ -81,14 +81,6 @@ pub record Cleared (w c : Work) (front : List PlainNode) : Type 0 where
   pub columns : c.state.two_columns ≡ w.state.two_columns
   pub single : Single c.state
   pub outcome : Pending c.put_back ⊎ ((c.put_back ≡ front) × Emptied w c)
-
-no-left : (t : Bool) (o : Option PlainColumn) → ColumnsFit t true o → o ≡ None
-no-left t None h = refl
-no-left t (Some c) h = absurd h
-
-one-left : (f : Bool) (o : Option PlainColumn) → ColumnsFit false f o → o ≡ None
-one-left true o h = no-left false o h
-one-left false o h = absurd h
 
 module _ (p : Params) (front : List PlainNode) (quiet_front : AllByRecursion Quiet (tokens front)) (w : Work) (current : w.state.floats.current ≡ []) (here : w.state.floats.here ≡ []) (back : w.put_back ≡ []) (single : Single w.state) (fit : ColumnsFit w.state.two_columns w.state.first_column w.state.left_column) where
   module _ (b : Work) (x : Spares (with_floats (Clear.deferred_again w.state.floats) (puts front w)) b) where
@@ -122,7 +114,7 @@ module _ (p : Params) (front : List PlainNode) (quiet_front : AllByRecursion Qui
       where
         by_columns : (t f : Bool) → b.state.two_columns ≡ t → b.state.first_column ≡ f → Half w (if not t then b else (if f then Pages.all_wide_pages p true (with_floats (Clear.double_again p b.state.floats) b) else puts (made blank_box ∷ Clear.clear_again) b)) front
         by_columns false f e g = settled (doubled e) (one-left b.state.first_column b.state.left_column (subst (λ t. ColumnsFit t b.state.first_column b.state.left_column) e fits))
-        by_columns true true e g = at_first (no-left b.state.two_columns b.state.left_column (subst (λ f. ColumnsFit b.state.two_columns f b.state.left_column) g fits))
+        by_columns true true e g = at_first (first-left b.state.two_columns b.state.left_column (subst (λ f. ColumnsFit b.state.two_columns f b.state.left_column) g fits))
         by_columns true false e g = at_second e
 
   rest-cleared : (c : Work) → Half w c front → Cleared w (Clear.clear_rest c) front

@@ -1,5 +1,5 @@
 -- What shipping pages and putting out columns of floats leaves as it is.
-use Rattle.std.proofs.Common.{◌≡◌, refl, sym, ◌∙◌, subst, ℕ, zero, suc, pos, ◌+◌, Bool, true, false, List, [], ◌∷◌, ◌++◌, length, Option, Some, None}
+use Rattle.std.proofs.Common.{◌≡◌, refl, sym, ◌∙◌, ap, subst, ℕ, zero, suc, pos, ◌+◌, Bool, true, false, List, [], ◌∷◌, ◌++◌, length, Option, Some, None}
 use Rattle.std.specs.Prelude.{int_lt, not, if◌then◌else◌}
 use Rattle.tb_node.specs.declared.Float.{Float}
 use Rattle.tb_node.specs.declared.Where.{Where}
@@ -20,6 +20,7 @@ use Rattle.tb_output.specs.FloatMoves
 use Rattle.tb_output.specs.Pages
 use Rattle.tb_output.specs.Columns
 use Rattle.tb_laws.proofs.NothingLost.StateWeights.{ColumnsFit}
+use Rattle.tb_laws.proofs.NothingLost.PutOutWeights.{ship-keeps}
 
 -- in one column no float waits for the top of two
 abbrev pub Single : State → Type 0
@@ -105,17 +106,11 @@ all_wide-spares p clearing w = wide_pages-spares p clearing (length (wide_waitin
 SameDouble : Work → Work → Type 0
 SameDouble a c = (c.state.floats.double ≡ a.state.floats.double) × (c.state.left_column ≡ a.state.left_column)
 
-double_if : (a : Work) (t : Bool) (c d : Work) → SameDouble a c → SameDouble a d → SameDouble a (if t then c else d)
-double_if a true c d x y = x
-double_if a false c d x y = y
-
 ship-double : (p : Params) (sheet : PlainSheet) (w : Work) → SameDouble w (Pages.ship p sheet w)
 unfolding SameDouble
-ship-double p sheet w =
-    double_if w w.refused w _ (refl, refl)
-    (double_if w (int_lt p.maxpages (pos w.state.page)) (record w { refused = true }) (Pages.ship_now sheet w) (refl, refl)
-    (double_if w w.refused (record w { state = record w.state { page = w.state.page + 1; dead_cycles = 0 } }) _ (refl, refl) (refl, refl)))
+ship-double p sheet w = (ap (λ l. l.double) (ship-keeps p sheet w).0, (ship-keeps p sheet w).1)
 
+-- so do other floats that wait
 pub waiting-double : (from : Part) → IsWaiting from → (fs : List Float) (l : FloatLists) → (with_floats_of from fs l).double ≡ l.double
 waiting-double parts.Current i fs l = absurd i
 waiting-double parts.Here i fs l = absurd i

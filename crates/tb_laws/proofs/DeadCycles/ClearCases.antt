@@ -52,7 +52,7 @@ module _ (p : Params) (body : List PlainNode) (w : Work) (good : WaitsWell p w.s
   -- nothing waited
   emptied : waiting_floats w.state.floats ≡ 0 → t.half ≡ false → (w.state.two_columns ≡ false) ⊎ (w.state.first_column ≡ true) → How P p w b t.half t.rest
   emptied h k c =
-      let n : NoneWait b.state.floats = none-left P p b.state.floats (sums (waiting_floats w.state.floats) (waiting_floats a0.state.floats) (waiting_floats a.state.floats) (waiting_floats b.state.floats) h same x.floats (tail-floats P p a b t)) in
+      let n : NoneWait b.state.floats = none-left b.state.floats (sums (waiting_floats w.state.floats) (waiting_floats a0.state.floats) (waiting_floats a.state.floats) (waiting_floats b.state.floats) h same x.floats (tail-floats P p a b t)) in
       inl (k, nothing-rest P p a b t n, n, c)
     where
       sums : (w g a b : ℕ) → w ≡ 0 → g ≡ w → a ≤ g → b ≤ a → b ≤ 0

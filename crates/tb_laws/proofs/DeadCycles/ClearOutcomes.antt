@@ -1,5 +1,5 @@
 -- What a clear without footnotes leads to: empty lists, a page, or a blank second column and a further clear.
-use Rattle.std.proofs.Common.{◌≡◌, refl, sym, ◌∙◌, ap, subst, ℕ, zero, suc, ℤ, ◌+◌, ◌≤◌, inl, inr, ◌⊎◌, Bool, true, false, List, [], ◌∷◌, ◌++◌, length, Option, Some, None, arith}
+use Rattle.std.proofs.Common.{◌≡◌, refl, sym, ◌∙◌, ap, subst, ℕ, zero, suc, ℤ, ◌+◌, ◌≤◌, inl, inr, ◌⊎◌, Bool, true, false, List, [], ◌∷◌, ◌++◌, length, Option, Some, None, length-append, arith}
 use Rattle.std.specs.Prelude.{int_le, not, ◌&&◌, ◌||◌, if◌then◌else◌}
 use Rattle.std.specs.Bool.{beq}
 use Rattle.std.specs.List.{AllByRecursion}
@@ -22,7 +22,7 @@ use Rattle.tb_output.specs.State.{State, Work, puts, with_floats, has_floats}
 use Rattle.tb_output.specs.Pages
 use Rattle.tb_output.specs.Columns
 use Rattle.tb_output.specs.Clear
-use Rattle.tb_output.proofs.StepLaws.FollowLemmas.{waiting_floats, AllWait, Follows, follows-same, follows-then, follows-wide_pages, follows-float_columns, both-long, part-count, part-current, part-all, all-part}
+use Rattle.tb_output.proofs.StepLaws.FollowLemmas.{waiting_floats, AllWait, Follows, follows-same, follows-then, follows-wide_pages, follows-float_columns, part-count, part-current, part-all, all-part}
 use Rattle.tb_laws.proofs.DeadCycles.ColumnOutcomes.{ship-cycles, stays-zero}
 
 -- no float waits
@@ -32,6 +32,14 @@ pub record NoneWait (l : FloatLists) : Type 0 where
   pub deferred : l.deferred ≡ []
   pub double : l.double ≡ []
   pub second : l.second ≡ []
+
+no-length : (fs : List Float) → length fs ≤ 0 → fs ≡ []
+no-length [] h = refl
+no-length (f ∷ fs) h = let no : ⊥ = omega arith in absurd no
+
+-- none, if there are at most 0
+pub none-left : (l : FloatLists) → waiting_floats l ≤ 0 → NoneWait l
+none-left l h = record { top = no-length l.top (omega arith); bottom = no-length l.bottom (omega arith); deferred = no-length l.deferred (omega arith); double = no-length l.double (omega arith); second = no-length l.second (omega arith) }
 
 -- no float is higher than a page
 abbrev pub Fits : Params → Float → Type 0
@@ -182,7 +190,7 @@ module _ (P : Float → Type 0) (p : Params) where
   double-count l =
       let c : waiting_floats (Clear.double_again p l) + length (wide_waiting p (undouble l)) ≡ waiting_floats (undouble l) + length (l.double ++ wide_waiting p l) = part-count P (wide_part p) (wide-waits p) (l.double ++ wide_waiting p l) (undouble l) in
       let e : length (wide_waiting p (undouble l)) ≡ length (wide_waiting p l) = ap length (undoubled (wide_part p) (wide-waits p) l) in
-      let h : length (l.double ++ wide_waiting p l) ≡ length l.double + length (wide_waiting p l) = both-long P l.double (wide_waiting p l) in
+      let h : length (l.double ++ wide_waiting p l) ≡ length l.double + length (wide_waiting p l) = length-append l.double (wide_waiting p l) in
       let i : waiting_floats (undouble l) + length l.double ≡ waiting_floats l = omega arith in
       sums (waiting_floats (Clear.double_again p l)) (length (wide_waiting p (undouble l))) (waiting_floats (undouble l)) (length (l.double ++ wide_waiting p l)) (length (wide_waiting p l)) (length l.double) (waiting_floats l) c e h i
     where
@@ -190,7 +198,7 @@ module _ (P : Float → Type 0) (p : Params) where
       sums x a u b c d y h k m n = omega arith
 
   pub double-follows : (a : Work) → Follows P a (with_floats (Clear.double_again p a.state.floats) a)
-  double-follows a = record { goes = λ r. r; columns = refl; boxes = refl; back = refl; page = refl; current = part-current P (wide_part p) (wide-waits p) (a.state.floats.double ++ wide_waiting p a.state.floats) (undouble a.state.floats); floats = double-count a.state.floats; all = λ h. double-all a.state.floats h; cycles = λ r. inl refl }
+  double-follows a = record { goes = λ r. r; columns = refl; boxes = refl; back = refl; page = refl; current = part-current (wide_part p) (wide-waits p) (a.state.floats.double ++ wide_waiting p a.state.floats) (undouble a.state.floats); floats = double-count a.state.floats; all = λ h. double-all a.state.floats h; cycles = λ r. inl refl }
 
   -- ---- wide pages of a clear
 
@@ -276,16 +284,9 @@ module _ (P : Float → Type 0) (p : Params) where
 
   pub gathered-count : (body : List PlainNode) (w : Work) → waiting_floats (gathered p body w).state.floats ≡ waiting_floats w.state.floats
   gathered-count body w =
-      let h : length (w.state.floats.top ++ w.state.floats.bottom ++ w.state.floats.deferred) ≡ length (w.state.floats.top ++ w.state.floats.bottom) + length w.state.floats.deferred = both-long P (w.state.floats.top ++ w.state.floats.bottom) w.state.floats.deferred in
-      let k : length (w.state.floats.top ++ w.state.floats.bottom) ≡ length w.state.floats.top + length w.state.floats.bottom = both-long P w.state.floats.top w.state.floats.bottom in
+      let h : length (w.state.floats.top ++ w.state.floats.bottom ++ w.state.floats.deferred) ≡ length (w.state.floats.top ++ w.state.floats.bottom) + length w.state.floats.deferred = length-append (w.state.floats.top ++ w.state.floats.bottom) w.state.floats.deferred in
+      let k : length (w.state.floats.top ++ w.state.floats.bottom) ≡ length w.state.floats.top + length w.state.floats.bottom = length-append w.state.floats.top w.state.floats.bottom in
       omega arith
-
-  no-length : (fs : List Float) → length fs ≤ 0 → fs ≡ []
-  no-length [] h = refl
-  no-length (f ∷ fs) h = let no : ⊥ = omega arith in absurd no
-
-  pub none-left : (l : FloatLists) → waiting_floats l ≤ 0 → NoneWait l
-  none-left l h = record { top = no-length l.top (omega arith); bottom = no-length l.bottom (omega arith); deferred = no-length l.deferred (omega arith); double = no-length l.double (omega arith); second = no-length l.second (omega arith) }
 
   pub halved-state : (t u : Bool) (a : Work) → (more t (halves u a)).state ≡ a.state
   halved-state true true a = refl

@@ -25,6 +25,7 @@ use Rattle.tb_laws.proofs.DeadCycles.AgainLemmas.{Again, Idle, BreakAgain, again
 use Rattle.tb_laws.proofs.DeadCycles.WaitCosts.{sort_cost, wait_cost, cost-append, IsInserted, AllInserted, ins-free}
 use Rattle.tb_output.proofs.StepLaws.FollowLemmas.{waiting_floats, AllWait}
 use Rattle.tb_laws.proofs.DeadCycles.ClearOutcomes.{NoneWait, Fits, Single, Wide}
+pub use Rattle.tb_laws.proofs.DeadCycles.ClearOutcomes.{none-left}
 use Rattle.tb_laws.proofs.StepLaws.SideLemmas.{Sides}
 use Rattle.tb_laws.proofs.DeadCycles.ServeOutcomes.{AllCurrent, way_floats}
 use Rattle.tb_laws.proofs.DeadCycles.CycleStates.{Kind, once, ready, halted, credit, Holds, Phase, starting, ending, phase_cost, PhaseHolds, FloatsFit, Bounded, GoalOut, goal-out}
@@ -173,13 +174,6 @@ module _ (p : Params) (m : ℕ) (f : Fired) (held : AllInserted f.held) (w : Wor
 
 pub none-count : (l : FloatLists) → NoneWait l → waiting_floats l ≡ 0
 none-count l h = rw (h.top, h.bottom, h.deferred, h.double, h.second) refl
-
-no-length : (fs : List Float) → length fs ≤ 0 → fs ≡ []
-no-length [] h = refl
-no-length (f ∷ fs) h = let no : ⊥ = omega arith in absurd no
-
-pub none-left : (l : FloatLists) → waiting_floats l ≤ 0 → NoneWait l
-none-left l h = record { top = no-length l.top (omega arith); bottom = no-length l.bottom (omega arith); deferred = no-length l.deferred (omega arith); double = no-length l.double (omega arith); second = no-length l.second (omega arith) }
 
 pub true-false : {X : Type 0} (t : Bool) → t ≡ true → t ≡ false → X
 true-false t h k = let no : true ≡ false = sym h ∙ k in cc

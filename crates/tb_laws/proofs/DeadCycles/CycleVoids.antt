@@ -5,7 +5,6 @@ use Rattle.std.specs.List.{AllByRecursion}
 use Rattle.std.proofs.lemmas.List.{append_assoc, append-nil}
 use Rattle.std.proofs.lemmas.Bool.{or_parts, or_from}
 use Rattle.tb_scaled.specs.Scaled.{eject_penalty}
-use Rattle.tb_node.specs.declared.Float.{Float}
 use Rattle.tb_node.specs.PlainNodes.{PlainNode, made, blank_box, whatsit, pen}
 use Rattle.tb_param.specs.declared.Params.{Params}
 use Rattle.tb_builder.specs.FiredPages.{Fired}
@@ -18,6 +17,7 @@ use Rattle.tb_output.specs.Clear
 use Rattle.tb_output.specs.Output
 use Rattle.tb_laws.proofs.Closed.Sorts.{Sort, clear, sorts}
 use Rattle.tb_laws.proofs.Closed.SortLemmas.{sorts-append}
+use Rattle.tb_laws.proofs.Closed.ClearedLists.{no-float}
 use Rattle.tb_laws.proofs.DeadCycles.AgainLemmas.{Again, Idle, left_after, again-idle, again-clear}
 use Rattle.tb_laws.proofs.DeadCycles.WaitCosts.{wait_cost, cost-append}
 use Rattle.tb_output.proofs.StepLaws.FollowLemmas.{waiting_floats}
@@ -308,13 +308,9 @@ module _ (p : Params) (m : ℕ) (s : State) (total a : ℕ) (kind : Kind) (phase
     kind_left (nothing e r) = clean
     kind_left (deferred e r) = once
 
-    no-floats : (fs : List Float) → has_floats fs ≡ false → fs ≡ []
-    no-floats [] h = refl
-    no-floats (x ∷ fs) h = let no : ⊥ = grind (arith, h) in absurd no
-
     left-holds : (l : Left) → Holds p v-done later (kind_left l)
     left-holds (above h) = (is_second, paused, subst (λ (x : FloatLists). 1 ≤ length x.double) (sym v-goal.floats) h)
-    left-holds (nothing e r) = subst NoneWait (sym v-goal.floats) (record { top = top; bottom = bottom; deferred = no-floats v.state.floats.deferred (or_parts (has_floats v.state.floats.deferred) (has_floats v.state.floats.second) (c.left ∙ r)).0; double = e; second = no-floats v.state.floats.second (or_parts (has_floats v.state.floats.deferred) (has_floats v.state.floats.second) (c.left ∙ r)).1 })
+    left-holds (nothing e r) = subst NoneWait (sym v-goal.floats) (record { top = top; bottom = bottom; deferred = no-float v.state.floats.deferred (or_parts (has_floats v.state.floats.deferred) (has_floats v.state.floats.second) (c.left ∙ r)).0; double = e; second = no-float v.state.floats.second (or_parts (has_floats v.state.floats.deferred) (has_floats v.state.floats.second) (c.left ∙ r)).1 })
     left-holds (deferred e r) = once-holds e
 
     is-left : Left

@@ -139,7 +139,7 @@ module _ (P : Float → Type 0) (topped : (f : Float) → P f → P (Text.with_t
       counted : way_floats l ≤ way_floats w.state.floats
       counted =
           let j : waiting_floats (FloatMoves.joined_to place f left) ≤ waiting_floats left + 1 = joined-count P place f left in
-          let c : (FloatMoves.joined_to place f left).current ≡ left.current = joined-current P place f left in
+          let c : (FloatMoves.joined_to place f left).current ≡ left.current = joined-current place f left in
           sums (way_floats w.state.floats) (waiting_floats left) (waiting_floats l) (current_floats left.current) (current_floats l.current) (ap current_floats c) j h
         where
           sums : (w a b x y : ℕ) → y ≡ x → b ≤ a + 1 → a + x + 1 ≤ w → b + y ≤ w
@@ -148,12 +148,12 @@ module _ (P : Float → Type 0) (topped : (f : Float) → P f → P (Text.with_t
       kept : AllWait P w.state.floats → AllCurrent P w.state.floats.current → AllWait P l × AllCurrent P l.current
       kept a b =
           let x : P f × AllWait P left × AllCurrent P left.current = k a b in
-          (joined-all P place f left x.0 x.1, subst (AllCurrent P) (sym (joined-current P place f left)) x.2)
+          (joined-all P place f left x.0 x.1, subst (AllCurrent P) (sym (joined-current place f left)) x.2)
 
       narrowed : NarrowWait P w.state.floats → AllCurrent P w.state.floats.current → NarrowWait P l × AllCurrent P l.current
       narrowed a b =
           let x : P f × NarrowWait P left × AllCurrent P left.current = k2 a b in
-          (joined-narrow place f left x.0 x.1, subst (AllCurrent P) (sym (joined-current P place f left)) x.2)
+          (joined-narrow place f left x.0 x.1, subst (AllCurrent P) (sym (joined-current place f left)) x.2)
 
       here : (a : Work) → a.state ≡ w.state → a.refused ≡ w.refused → a.put_back ≡ w.put_back → Served P w (with_floats l a)
       here a s g b = record {

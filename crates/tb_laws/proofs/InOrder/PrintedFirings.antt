@@ -24,7 +24,7 @@ use Rattle.tb_output.specs.FloatMoves
 use Rattle.tb_output.specs.Pages
 use Rattle.tb_output.specs.Columns
 use Rattle.tb_output.specs.Text
-use Rattle.tb_laws.proofs.NothingLost.StateWeights.{ColumnsFit}
+use Rattle.tb_laws.proofs.NothingLost.StateWeights.{ColumnsFit, first-left, one-left}
 use Rattle.tb_laws.proofs.Closed.Closings.{never}
 use Rattle.tb_column.proofs.Within.{Within, itself, within-same, within-within, both-within, within-front, within-end}
 use Rattle.tb_column.proofs.PrintedLines.{prints, sheet_prints, sent_prints, left_prints, sent-append, AllPlain, SheetPlain, SentPlain, LeftPlain, sent-plain, above-plain, text-plain, text-prints, floats-plain}
@@ -199,13 +199,8 @@ one-prints c w d s t x = record {
   plain = λ h. (x.plain s h.0, subst LeftPlain (sym x.left) h.1);
 }
   where
-    by_columns : (f : Bool) (o : Option PlainColumn) → ColumnsFit false f o → o ≡ None
-    by_columns true None h = refl
-    by_columns true (Some c) h = absurd h
-    by_columns false o h = absurd h
-
     no-left : Fits w → w.state.left_column ≡ None
-    no-left h = by_columns w.state.first_column w.state.left_column (subst (λ z. ColumnsFit z w.state.first_column w.state.left_column) t h)
+    no-left h = one-left w.state.first_column w.state.left_column (subst (λ z. ColumnsFit z w.state.first_column w.state.left_column) t h)
 
     all : d.refused ≡ false → w.state.left_column ≡ None → shown w ++ prints c.nodes ≡ shown d
     all r e = ap (λ o. (sent_prints w.sent ++ left_prints o) ++ prints c.nodes) e ∙ ap (λ l. l ++ prints c.nodes) (append-nil (sent_prints w.sent))
@@ -220,12 +215,8 @@ keep-prints c w s t f = record {
   plain = λ h. (h.0, s);
 }
   where
-    by_columns : (t : Bool) (o : Option PlainColumn) → ColumnsFit t true o → o ≡ None
-    by_columns t None h = refl
-    by_columns t (Some c) h = absurd h
-
     no-left : Fits w → w.state.left_column ≡ None
-    no-left h = by_columns w.state.two_columns w.state.left_column (subst (λ z. ColumnsFit w.state.two_columns z w.state.left_column) f h)
+    no-left h = first-left w.state.two_columns w.state.left_column (subst (λ z. ColumnsFit w.state.two_columns z w.state.left_column) f h)
 
 -- a pair of columns
 pair-prints : (p : Params) (c : PlainColumn) (w d : Work) → AllPlain c.nodes → w.state.two_columns ≡ true → w.state.first_column ≡ false → Fits w → Shipped (pair_sheet p w.state.floats (Pages.left_or c w.state.left_column) c) w d → Prints (prints c.nodes) w (Pages.without_double d)

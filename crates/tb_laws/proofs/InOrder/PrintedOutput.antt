@@ -5,7 +5,7 @@ use Rattle.std.specs.List.{AllByRecursion}
 use Rattle.tb_scaled.specs.Scaled.{eject_penalty, max_dimen}
 use Rattle.tb_scaled.specs.Glue.{filling_glue}
 use Rattle.tb_node.specs.declared.What.TheVariants as what
-use Rattle.tb_node.specs.PlainNodes.{hbox, rule, pen, skip, kerned, mark, note, whatsit, PlainKind, plain, ins, act, PlainNode, made, blank_box, without_acts, without_insertions}
+use Rattle.tb_node.specs.PlainNodes.{hbox, rule, pen, skip, kerned, mark, note, whatsit, PlainKind, plain, ins, act, PlainNode, made, blank_box, without_insertions}
 use Rattle.tb_param.specs.declared.Params.{Params}
 use Rattle.tb_break.specs.PageTop.{pruned_nodes}
 use Rattle.tb_builder.specs.FiredPages.{Fired, spent_kind, with_spent_break}
@@ -28,7 +28,7 @@ use Rattle.tb_laws.proofs.DeadCycles.BoxesFirst.{HasReal, one-unreal, unreal-qui
 use Rattle.tb_laws.proofs.Closed.SparedLists.{ordinary-takes}
 use Rattle.tb_laws.proofs.Closed.ServedLists.{float_or_note-serves}
 use Rattle.tb_column.proofs.Within.{Within, itself, within-same, within-within, both-within, within-front, before-within}
-use Rattle.tb_column.proofs.PrintedLines.{printed, prints, left_prints, sent_prints, prints-append, AllPlain, plain-both}
+use Rattle.tb_column.proofs.PrintedLines.{printed, prints, left_prints, sent_prints, prints-append, AllPlain, body-plain, plain-both}
 use Rattle.tb_laws.proofs.InOrder.PrintedFirings.{shown, Fits, WorkPlain, Prints, then_kept, fewer, prints_if, same, unchanged, warns-prints, all_wide-prints, put_out_text-prints, float_columns-prints, ordinary-prints, float_or_note-prints}
 
 -- ---- what the steps of a page show
@@ -70,25 +70,6 @@ pub pruned-prints : (t : ℤ) (ns : List PlainNode) → prints (pruned_nodes t n
 pruned-prints t [] = refl
 pruned-prints t (n ∷ ns) = node-pruned t ns (pruned-prints t ns) n.line n.kind
 
--- acts and insertions show nothing
-acts-more : (l : ℕ) (k : PlainKind) (ns : List PlainNode) → prints (without_acts ns) ≡ prints ns → prints (without_acts (record { line = l; kind = k } ∷ ns)) ≡ printed l k ++ prints ns
-acts-more l (plain m) ns h = ap (λ z. printed l (plain m) ++ z) h
-acts-more l (ins i) ns h = h
-acts-more l (act a) ns h = h
-
-pub acts-prints : (ns : List PlainNode) → prints (without_acts ns) ≡ prints ns
-acts-prints [] = refl
-acts-prints (n ∷ ns) = acts-more n.line n.kind ns (acts-prints ns)
-
-body-more : (l : ℕ) (k : PlainKind) (ns : List PlainNode) → prints (without_insertions ns) ≡ prints ns → prints (without_insertions (record { line = l; kind = k } ∷ ns)) ≡ printed l k ++ prints ns
-body-more l (plain m) ns h = ap (λ z. printed l (plain m) ++ z) h
-body-more l (ins i) ns h = h
-body-more l (act a) ns h = h
-
-pub body-prints : (ns : List PlainNode) → prints (without_insertions ns) ≡ prints ns
-body-prints [] = refl
-body-prints (n ∷ ns) = body-more n.line n.kind ns (body-prints ns)
-
 spent-kind : (l : ℕ) (k : PlainKind) → printed l (spent_kind k) ≡ printed l k
 spent-kind l (plain (hbox w a d)) = refl
 spent-kind l (plain (rule name a d)) = refl
@@ -104,16 +85,6 @@ spent-kind l (act a) = refl
 pub spent-prints : (ns : List PlainNode) → prints (with_spent_break ns) ≡ prints ns
 spent-prints [] = refl
 spent-prints (n ∷ ns) = ap (λ z. z ++ prints ns) (spent-kind n.line n.kind)
-
--- the page's list has no acts and no insertions
-body-kept : (l : ℕ) (k : PlainKind) (ns : List PlainNode) → ActFree k → AllPlain (without_insertions ns) → AllPlain (without_insertions (record { line = l; kind = k } ∷ ns))
-body-kept l (plain m) ns f h = (tt, h)
-body-kept l (ins i) ns f h = h
-body-kept l (act a) ns f h = absurd f
-
-pub body-plain : (ns : List PlainNode) → AllFree ns → AllPlain (without_insertions ns)
-body-plain [] f = tt
-body-plain (n ∷ ns) f = body-kept n.line n.kind ns f.0 (body-plain ns f.1)
 
 -- ---- a clear
 
@@ -158,7 +129,7 @@ three a b c x y z h k l = both-within (a ++ b) (x ++ y) c z (both-within a x b y
 
 module _ (p : Params) (calm : int_le p.interlinepenalty eject_penalty ≡ false) (f : Fired) (before : List PlainNode) (is_body : f.body ≡ without_insertions before) (calm_before : AllCalm before) (free_before : AllFree before) (b : Bool) (stands : BreakStands b (seen_all none (sorts before)) f.rest (pen_sort f.penalty)) (unreal : b ≡ true → HasReal (sorts before) → ⊥) (w : Work) (begun : w.put_back ≡ []) (free : b ≡ false → w.state.held_page ≡ []) (paired : Paired w.state.floats.current) (fits : Fits w) where
   plain_body : AllPlain f.body
-  plain_body = subst AllPlain (sym is_body) (body-plain before free_before)
+  plain_body = subst AllPlain (sym is_body) (body-plain ActFree (λ a h. h) before free_before)
 
   no-body : (HasReal (sorts before) → ⊥) → prints f.body ≡ []
   no-body n = ap prints is_body ∙ quiet-prints (without_insertions before) (unreal-quiet before (sorts-calm before calm_before) free_before n)

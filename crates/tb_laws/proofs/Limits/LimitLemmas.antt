@@ -1,18 +1,19 @@
 -- Each float that a firing places keeps the limits of its list.
-use Rattle.std.proofs.Common.{◌≡◌, refl, sym, ap, subst, pos, ◌+◌, Bool, true, false, List, [], ◌∷◌, ◌++◌}
+use Rattle.std.proofs.Common.{◌≡◌, refl, sym, ap, subst, ℕ, pos, ◌+◌, Bool, true, false, List, [], ◌∷◌, ◌++◌}
 use Rattle.std.specs.Prelude.{int_lt, if◌then◌else◌}
 use Rattle.std.specs.List.{AllByRecursion}
+use Rattle.tb_break.proofs.EachLemmas.{all-join, all-push}
 use Rattle.tb_param.specs.declared.Params.{Params}
 use Rattle.tb_builder.specs.FiredPages.{Fired}
 use Rattle.tb_float.specs.Rooms.{column_height_of}
 use Rattle.tb_area.specs.Laws.{KeepsLimits}
-use Rattle.tb_column.specs.Column.{PlainSheet, PlainSent, shipped}
+use Rattle.tb_column.specs.Column.{PlainSheet, PlainSent, warned, shipped}
 use Rattle.tb_output.specs.State.{State, Work, Recorded, placed, output, emptied, sends, records_also}
 use Rattle.tb_output.specs.Pages
 use Rattle.tb_output.specs.Output
 use Rattle.tb_output.specs.Firing.{page_work}
 use Rattle.tb_output.proofs.StepLaws.ColumnSteps.{RecordLaw, ColumnStep, still, in_turn, records_one, ships_one}
-use Rattle.tb_output.proofs.StepLaws.FiringSteps.{FiringStep, by_columns, sends_one, changes, afterwards, page_work-step}
+use Rattle.tb_output.proofs.StepLaws.FiringSteps.{FiringStep, by_columns, warns_one, changes, fewer, afterwards, page_work-step}
 
 -- the float that was placed had the mark `!`, or kept the limits with the lists and the column height just before
 abbrev pub IsLimited : Params → Recorded → Type 0
@@ -24,8 +25,7 @@ abbrev pub AreLimited : Params → List Recorded → Type 0
 AreLimited p rs = AllByRecursion (IsLimited p) rs
 
 pub limited-append : (p : Params) (rs qs : List Recorded) → AreLimited p rs → AreLimited p qs → AreLimited p (rs ++ qs)
-limited-append p [] qs a b = b
-limited-append p (r ∷ rs) qs a b = (a.0, limited-append p rs qs a.1 b)
+limited-append p rs qs a b = all-join (IsLimited p) rs qs a b
 
 -- ---- what a firing records
 
@@ -51,16 +51,12 @@ module _ (p : Params) (law : RecordLaw p) where
   same : (rs qs : List Recorded) → qs ≡ rs → AllLawful rs → AllLawful qs
   same rs qs e h = subst AllLawful (sym e) h
 
-  one-more : (r : Recorded) (rs : List Recorded) → law.holds r → AllLawful rs → AllLawful (rs ++ r ∷ [])
-  one-more r [] k h = (k, tt)
-  one-more r (q ∷ rs) k h = (h.0, one-more r rs k h.1)
-
   also-lawful : (r : Recorded) (w : Work) → law.holds r → AllLawful w.records → AllLawful (records_also r w).records
   also-lawful r w k h = by_refused w.refused
     where
       by_refused : (t : Bool) → AllLawful (if t then w else record w { records = w.records ++ r ∷ [] }).records
       by_refused true = h
-      by_refused false = one-more r w.records k h
+      by_refused false = all-push law.holds w.records r h k
 
   -- if all that the first records is lawful, all that the second records is
   column-lawful : {a b : Work} → ColumnStep p law a b → AllLawful a.records → AllLawful b.records
@@ -69,10 +65,11 @@ module _ (p : Params) (law : RecordLaw p) where
   column-lawful (records_one r w k) h = also-lawful r w k h
   column-lawful (ships_one sheet w) h = same w.records (Pages.ship p sheet w).records (ship-records p sheet w) h
 
-  firing-lawful : {a b : Work} → FiringStep p law a b → AllLawful a.records → AllLawful b.records
+  firing-lawful : {k : ℕ} {a b : Work} → FiringStep p law k a b → AllLawful a.records → AllLawful b.records
   firing-lawful (by_columns x) h = column-lawful x h
-  firing-lawful (sends_one e w) h = same w.records (sends e w).records (sends-records e w) h
+  firing-lawful (warns_one e w) h = same w.records (sends (warned e) w).records (sends-records (warned e) w) h
   firing-lawful {a} {b} (changes c) h = same a.records b.records (ap (λ x. x.records) c) h
+  firing-lawful (fewer h x) k = firing-lawful x k
   firing-lawful (afterwards x y) h = firing-lawful y (firing-lawful x h)
 
 -- what is so of placements within the limits and of columns is so of all that a firing records

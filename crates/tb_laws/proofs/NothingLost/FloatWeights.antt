@@ -15,7 +15,7 @@ use Rattle.tb_float.specs.Rooms.{column_height_of}
 use Rattle.tb_area.specs.Area
 use Rattle.tb_output.specs.State.{Work, Recorded, placed, records_also, with_floats}
 use Rattle.tb_output.specs.FloatMoves
-use Rattle.tb_output.proofs.StepLaws.FollowLemmas.{LeavesList, part-joined}
+use Rattle.tb_output.proofs.StepLaws.FollowLemmas.{records-state, joined-current, part-current, LeavesList, part-joined}
 use Rattle.tb_laws.proofs.NothingLost.StateWeights.{floats_weight, lists_weight, left_weight, sent_weight, floats-append, Paired, Adds, then_kept, unchanged, records-adds}
 
 -- ---- moving floats
@@ -46,14 +46,6 @@ joined-weight v places.Page f l j = absurd j
 joined-weight v places.Double f l j = let e : floats_weight v (l.double ++ f ∷ []) ≡ floats_weight v l.double + v.float f.line = one-more v l.double f in omega arith
 joined-weight v places.Deferred f l j = let e : floats_weight v (l.deferred ++ f ∷ []) ≡ floats_weight v l.deferred + v.float f.line = one-more v l.deferred f in omega arith
 
-joined-current : (place : Where) (f : Float) (l : FloatLists) → (FloatMoves.joined_to place f l).current ≡ l.current
-joined-current places.Here f l = refl
-joined-current places.Top f l = refl
-joined-current places.Bottom f l = refl
-joined-current places.Page f l = refl
-joined-current places.Double f l = refl
-joined-current places.Deferred f l = refl
-
 -- a float that the lists had goes to a list
 pub placed-adds : (v : Weight) (p : Params) (place : Where) (f : Float) (left : FloatLists) (w : Work) → Joins place → (Paired w.state.floats.current → Paired left.current) → lists_weight v w.state.floats ≡ lists_weight v left + v.float f.line → Adds v 0 w (FloatMoves.place_float p place f left w)
 placed-adds v p place f left w j h e = by_record (FloatMoves.is_placed place)
@@ -70,12 +62,8 @@ placed-adds v p place f left w j h e = by_record (FloatMoves.is_placed place)
     here : (a : Work) → a.state ≡ w.state → Adds v 0 a (with_floats l a)
     here a q = lists-adds v l a (λ x. paired (subst (λ s. Paired s.floats.current) q x)) (joined-weight v place f left j ∙ sym e ∙ sym (ap (λ s. lists_weight v s.floats) q))
 
-    recorded : (t : Bool) → (if t then w else record w { records = w.records ++ r ∷ [] }).state ≡ w.state
-    recorded true = refl
-    recorded false = refl
-
     by_record : (t : Bool) → Adds v 0 w (with_floats l (if t then records_also r w else w))
-    by_record true = then_kept v 0 w (records_also r w) (with_floats l (records_also r w)) (records-adds v r w) (here (records_also r w) (recorded w.refused))
+    by_record true = then_kept v 0 w (records_also r w) (with_floats l (records_also r w)) (records-adds v r w) (here (records_also r w) (records-state r w))
     by_record false = here w refl
 
 abbrev pub NotHere : Where → Type 0
@@ -107,18 +95,9 @@ double-joins p l s before f = if_both StaysOrJoins _ places.Double places.Deferr
 
 -- ---- the lists in which floats wait
 
--- the current list stays when another one changes
-current-with : (from : Part) → IsWaiting from → (fs : List Float) (l : FloatLists) → (with_floats_of from fs l).current ≡ l.current
-current-with parts.Current h fs l = absurd h
-current-with parts.Here h fs l = absurd h
-current-with parts.Top h fs l = absurd h
-current-with parts.Bottom h fs l = absurd h
-current-with parts.Double h fs l = absurd h
-current-with parts.Deferred h fs l = refl
-current-with parts.Second h fs l = refl
-
+-- the two boxes of a note stay side by side when another list changes
 pub paired-with : (from : Part) → IsWaiting from → (fs : List Float) (l : FloatLists) → Paired l.current → Paired (with_floats_of from fs l).current
-paired-with from h fs l x = subst Paired (sym (current-with from h fs l)) x
+paired-with from h fs l x = subst Paired (sym (part-current from h fs l)) x
 
 -- the lists with other floats in one of them
 pub lists-with : (v : Weight) (from : Part) → IsWaiting from → (fs : List Float) (l : FloatLists) → lists_weight v (with_floats_of from fs l) + floats_weight v (floats_of from l) ≡ lists_weight v l + floats_weight v fs

@@ -63,11 +63,8 @@ wide_pages-adds v p clearing (suc n) w =
 pub all_wide-adds : (v : Weight) (p : Params) (clearing : Bool) (w : Work) → Adds v 0 w (Pages.all_wide_pages p clearing w)
 all_wide-adds v p clearing w = wide_pages-adds v p clearing (length (wide_waiting p w.state.floats)) w
 
-same_sum : (n : ℕ) → n + 0 ≡ n
-same_sum n = omega arith
-
 -- a page is shipped beside the lists and the left column
-ship-keeps : (p : Params) (sheet : PlainSheet) (w : Work) → ((Pages.ship p sheet w).state.floats ≡ w.state.floats) × ((Pages.ship p sheet w).state.left_column ≡ w.state.left_column)
+pub ship-keeps : (p : Params) (sheet : PlainSheet) (w : Work) → ((Pages.ship p sheet w).state.floats ≡ w.state.floats) × ((Pages.ship p sheet w).state.left_column ≡ w.state.left_column)
 ship-keeps p sheet w = by_refused w.refused (int_lt p.maxpages (pos w.state.page)) w.refused
   where
     turned : Work

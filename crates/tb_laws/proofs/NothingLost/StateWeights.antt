@@ -1,5 +1,5 @@
 -- What the parts of a state weigh, and by how much a step of a firing adds to it.
-use Rattle.std.proofs.Common.{◌≡◌, refl, ◌∙◌, ℕ, pos, ◌+◌, Bool, true, false, List, [], ◌∷◌, ◌++◌, map, Option, Some, None, arith}
+use Rattle.std.proofs.Common.{◌≡◌, refl, ◌∙◌, ℕ, pos, ◌+◌, Bool, true, false, List, [], ◌∷◌, ◌++◌, map, Option, Some, None, add-zero, zero-add, arith}
 use Rattle.std.specs.Prelude.{int_lt, if◌then◌else◌}
 use Rattle.tb_node.specs.declared.Float.{Float}
 use Rattle.tb_node.specs.PlainNodes.{PlainNode}
@@ -11,8 +11,10 @@ use Rattle.tb_builder.proofs.FiredPages.PageWeights.{boxes_weight, hits}
 use Rattle.tb_float.specs.declared.Entry.{Entry}
 use Rattle.tb_float.specs.declared.Entry.TheVariants as entries
 use Rattle.tb_float.specs.Lists.{FloatLists}
-use Rattle.tb_column.specs.Column.{PlainColumn, PlainSheet, PlainSent, warned, shipped, one, wide, two}
+use Rattle.tb_column.specs.Column.{PlainColumn, PlainSheet, warned, shipped}
 use Rattle.tb_column.specs.declared.Warn.{Warn}
+pub use Rattle.tb_column.proofs.PrintedLines.{sheet_weight, sent_weight}
+use Rattle.tb_column.proofs.PrintedLines.{sent_weight-append}
 use Rattle.tb_output.specs.State.{State, Work, Recorded, puts, sends, records_also}
 use Rattle.tb_output.specs.Pages
 
@@ -39,27 +41,12 @@ left_weight v (Some c) = nodes_weight v c.nodes
 abbrev pub state_weight : Weight → State → ℕ
 state_weight v s = nodes_weight v s.waiting + boxes_weight v s.boxes + nodes_weight v s.held_page + lists_weight v s.floats + left_weight v s.left_column
 
-abbrev pub sheet_weight : Weight → PlainSheet → ℕ
-sheet_weight v (one c) = nodes_weight v c.nodes
-sheet_weight v (wide c) = nodes_weight v c.nodes
-sheet_weight v (two tops at left right) = nodes_weight v tops + nodes_weight v left.nodes + nodes_weight v right.nodes
-
-abbrev pub sent_weight : Weight → List PlainSent → ℕ
-sent_weight v [] = 0
-sent_weight v (warned w ∷ es) = sent_weight v es
-sent_weight v (shipped page sheet ∷ es) = sheet_weight v sheet + sent_weight v es
-
 abbrev pub work_weight : Weight → Work → ℕ
 work_weight v w = state_weight v w.state + nodes_weight v w.put_back + sent_weight v w.sent
 
 pub floats-append : (v : Weight) (xs ys : List Float) → floats_weight v (xs ++ ys) ≡ floats_weight v xs + floats_weight v ys
 floats-append v [] ys = omega arith
 floats-append v (x ∷ xs) ys = let h : floats_weight v (xs ++ ys) ≡ floats_weight v xs + floats_weight v ys = floats-append v xs ys in omega arith
-
-sent-append : (v : Weight) (xs ys : List PlainSent) → sent_weight v (xs ++ ys) ≡ sent_weight v xs + sent_weight v ys
-sent-append v [] ys = omega arith
-sent-append v (warned w ∷ xs) ys = sent-append v xs ys
-sent-append v (shipped page sheet ∷ xs) ys = let h : sent_weight v (xs ++ ys) ≡ sent_weight v xs + sent_weight v ys = sent-append v xs ys in omega arith
 
 -- ---- the invariant of a state
 
@@ -81,6 +68,15 @@ ColumnsFit t true (Some c) = ⊥
 ColumnsFit true false None = ⊥
 ColumnsFit true false (Some c) = Unit {0}
 ColumnsFit false false o = ⊥
+
+-- before the first of two columns, and in one column, none is kept
+pub first-left : (t : Bool) (o : Option PlainColumn) → ColumnsFit t true o → o ≡ None
+first-left t None h = refl
+first-left t (Some c) h = absurd h
+
+pub one-left : (f : Bool) (o : Option PlainColumn) → ColumnsFit false f o → o ≡ None
+one-left true o h = first-left false o h
+one-left false o h = absurd h
 
 -- the two boxes of a note are side by side
 abbrev pub Paired : List Entry → Type 0
@@ -119,16 +115,10 @@ added v i j a b c x y = record { waits = y.waits ∙ x.waits; classes = y.classe
 
 -- the same, if one of the two adds nothing
 pub then_kept : (v : Weight) (n : ℕ) (a b c : Work) → Adds v n a b → Adds v 0 b c → Adds v n a c
-then_kept v n a b c x y = let h : Adds v (n + 0) a c = added v n 0 a b c x y in rw (same-sum n) at h
-  where
-    same-sum : (n : ℕ) → n + 0 ≡ n
-    same-sum n = omega arith
+then_kept v n a b c x y = let h : Adds v (n + 0) a c = added v n 0 a b c x y in rw (add-zero n) at h
 
 pub kept_then : (v : Weight) (n : ℕ) (a b c : Work) → Adds v 0 a b → Adds v n b c → Adds v n a c
-kept_then v n a b c x y = let h : Adds v (0 + n) a c = added v 0 n a b c x y in rw (same-sum n) at h
-  where
-    same-sum : (n : ℕ) → 0 + n ≡ n
-    same-sum n = omega arith
+kept_then v n a b c x y = let h : Adds v (0 + n) a c = added v 0 n a b c x y in rw (zero-add n) at h
 
 pub adds_if : (v : Weight) (n : ℕ) (a : Work) (t : Bool) (b c : Work) → Adds v n a b → Adds v n a c → Adds v n a (if t then b else c)
 adds_if v n a true b c x y = x
@@ -151,7 +141,7 @@ pub records-adds : (v : Weight) (r : Recorded) (w : Work) → Adds v 0 w (record
 records-adds v r w = adds_if v 0 w w.refused w (record w { records = w.records ++ r ∷ [] }) (unchanged v w) (record { waits = refl; classes = refl; goes = λ k. k; by = λ k s. (s, omega arith) })
 
 pub warns-adds : (v : Weight) (e : Warn) (w : Work) → Adds v 0 w (sends (warned e) w)
-warns-adds v e w = adds_if v 0 w w.refused w (record w { sent = w.sent ++ warned e ∷ [] }) (unchanged v w) (record { waits = refl; classes = refl; goes = λ k. k; by = λ k s. (s, sums (state_weight v w.state + nodes_weight v w.put_back) (sent_weight v w.sent) (sent_weight v (w.sent ++ warned e ∷ [])) (sent-append v w.sent (warned e ∷ []))) })
+warns-adds v e w = adds_if v 0 w w.refused w (record w { sent = w.sent ++ warned e ∷ [] }) (unchanged v w) (record { waits = refl; classes = refl; goes = λ k. k; by = λ k s. (s, sums (state_weight v w.state + nodes_weight v w.put_back) (sent_weight v w.sent) (sent_weight v (w.sent ++ warned e ∷ [])) (sent_weight-append v w.sent (warned e ∷ []))) })
   where
     sums : (x y z : ℕ) → z ≡ y + 0 → x + z ≡ x + y + 0
     sums x y z e = omega arith
@@ -167,7 +157,7 @@ shipped-adds v p sheet w = by_refused w.refused refl
     turned = record w { state = record w.state { page = w.state.page + 1; dead_cycles = 0 } }
 
     sent_now : Adds v (sheet_weight v sheet) w (record turned { sent = w.sent ++ shipped w.state.page sheet ∷ [] })
-    sent_now = record { waits = refl; classes = refl; goes = λ k. k; by = λ k s. (record { box = s.box; columns = s.columns; entries = s.entries }, sums (state_weight v w.state + nodes_weight v w.put_back) (sent_weight v w.sent) (sent_weight v (w.sent ++ shipped w.state.page sheet ∷ [])) (sheet_weight v sheet) (sent-append v w.sent (shipped w.state.page sheet ∷ []))) }
+    sent_now = record { waits = refl; classes = refl; goes = λ k. k; by = λ k s. (record { box = s.box; columns = s.columns; entries = s.entries }, sums (state_weight v w.state + nodes_weight v w.put_back) (sent_weight v w.sent) (sent_weight v (w.sent ++ shipped w.state.page sheet ∷ [])) (sheet_weight v sheet) (sent_weight-append v w.sent (shipped w.state.page sheet ∷ []))) }
 
     now : (t : Bool) → w.refused ≡ t → t ≡ false → Adds v (sheet_weight v sheet) w (if t then turned else record turned { sent = w.sent ++ shipped w.state.page sheet ∷ [] })
     now true r h = let no : ⊥ = grind (arith, h) in absurd no

@@ -1,16 +1,16 @@
 -- A firing ships a page, or leaves the page number and the dead cycles as they were.
-use Rattle.std.proofs.Common.{◌≡◌, refl, sym, ◌∙◌, ap, pos, ◌+◌, ◌<◌, ◌≤◌, inl, inr, ◌⊎◌, Bool, true, false, arith}
+use Rattle.std.proofs.Common.{◌≡◌, refl, sym, ◌∙◌, ap, ℕ, pos, ◌+◌, ◌<◌, ◌≤◌, inl, inr, ◌⊎◌, Bool, true, false, arith}
 use Rattle.std.specs.Prelude.{nat_abs, int_lt, if◌then◌else◌}
 use Rattle.std.proofs.lemmas.Int.{ints}
 use Rattle.tb_param.specs.declared.Params.{Params}
 use Rattle.tb_builder.specs.FiredPages.{Fired}
-use Rattle.tb_column.specs.Column.{PlainSheet, PlainSent, shipped}
+use Rattle.tb_column.specs.Column.{PlainSheet, PlainSent, warned, shipped}
 use Rattle.tb_output.specs.State.{State, Work, Recorded, begun, sends, records_also}
 use Rattle.tb_output.specs.Pages
 use Rattle.tb_output.specs.Output
 use Rattle.tb_output.specs.Firing.{page_work}
 use Rattle.tb_output.proofs.StepLaws.ColumnSteps.{RecordLaw, no_law, course, ColumnStep, still, in_turn, records_one, ships_one}
-use Rattle.tb_output.proofs.StepLaws.FiringSteps.{FiringStep, by_columns, sends_one, changes, afterwards, page_work-step}
+use Rattle.tb_output.proofs.StepLaws.FiringSteps.{FiringStep, by_columns, warns_one, changes, fewer, afterwards, page_work-step}
 
 -- the page number and the dead cycles are as before; or the page number rose, to at most one more than the pages allowed, and there are no dead cycles
 abbrev pub Counts : Params → State → State → Type 0
@@ -63,10 +63,11 @@ column-turned (in_turn x y) = joined (column-turned x) (column-turned y)
 column-turned (records_one r w h) = records-turned r w
 column-turned {p} (ships_one sheet w) = ship-turned p sheet w
 
-firing-turned : {p : Params} {law : RecordLaw p} {a b : Work} → FiringStep p law a b → Turned p a b
+firing-turned : {p : Params} {law : RecordLaw p} {k : ℕ} {a b : Work} → FiringStep p law k a b → Turned p a b
 firing-turned (by_columns x) = column-turned x
-firing-turned (sends_one e w) = sends-turned e w
+firing-turned (warns_one e w) = sends-turned (warned e) w
 firing-turned (changes c) = course-turned c
+firing-turned (fewer h x) = firing-turned x
 firing-turned (afterwards x y) = joined (firing-turned x) (firing-turned y)
 
 -- what a firing does to the page number and the dead cycles

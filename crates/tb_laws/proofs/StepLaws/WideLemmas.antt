@@ -2,25 +2,26 @@
 use Rattle.std.proofs.Common.{◌≡◌, refl, sym, ◌∙◌, ap, subst, ℕ, zero, suc, Bool, true, false, List, [], ◌∷◌, ◌++◌, length, Option, Some, None, arith}
 use Rattle.std.specs.Prelude.{not, ◌&&◌, ◌||◌, if◌then◌else◌}
 use Rattle.std.specs.List.{AllByRecursion}
+use Rattle.tb_break.proofs.EachLemmas.{all-push}
 use Rattle.tb_node.specs.declared.Float.{Float}
 use Rattle.tb_node.specs.declared.Where.TheVariants as places
 use Rattle.tb_scaled.specs.Glue.{filling_glue}
 use Rattle.tb_node.specs.PlainNodes.{PlainNode, made, blank_box, skip}
 use Rattle.tb_param.specs.declared.Params.{Params}
 use Rattle.tb_float.specs.declared.Part.{Part}
-use Rattle.tb_float.specs.declared.Part.TheVariants as parts
-use Rattle.tb_float.specs.Lists.{FloatLists, with_floats_of, IsWaiting, wide_part, wide_waiting, with_wide_waiting}
+use Rattle.tb_float.specs.Lists.{with_floats_of, IsWaiting, wide_part, wide_waiting}
 use Rattle.tb_float.specs.Rooms.{column_height_of}
 use Rattle.tb_float.proofs.WaitingLemmas.{wide-waits}
 use Rattle.tb_fpage.specs.Company.{Choice, company, chosen_floats, left_floats}
 use Rattle.tb_area.specs.Area
-use Rattle.tb_column.specs.Column.{Notes, PlainColumn, PlainSheet, one, pair_sheet, text_column, single_floats_column, wide, wide_floats_column}
-use Rattle.tb_output.specs.State.{State, Work, Recorded, output, records_also, with_floats, footnotes, puts, has_floats}
+use Rattle.tb_column.specs.Column.{Notes, PlainColumn, one, pair_sheet, text_column, single_floats_column, wide}
+use Rattle.tb_output.specs.State.{State, Work, output, records_also, with_floats, footnotes, puts, has_floats}
 use Rattle.tb_output.specs.FloatMoves
 use Rattle.tb_output.specs.Pages
 use Rattle.tb_output.specs.Columns
 use Rattle.tb_output.specs.Clear
-use Rattle.tb_output.proofs.StepLaws.FollowLemmas.{follows-put_out, follows-next, follows-wide_pages}
+use Rattle.tb_output.proofs.StepLaws.FollowLemmas.{records-state, follows-put_out, follows-next, follows-wide_pages}
+use Rattle.tb_laws.proofs.Closed.SparedLists.{waiting-double, all_wide-double}
 use Rattle.tb_laws.proofs.DeadCycles.ColumnOutcomes.{ship-lists, next-single}
 use Rattle.tb_laws.proofs.DeadCycles.ClearOutcomes.{Wide}
 
@@ -58,33 +59,12 @@ two-columns a b t e h = record { by = λ k. record { wide = h k.wide; none = λ 
 wide-of : (a b c d e : Bool) → (a && b && c && d && e) ≡ true → b ≡ true
 wide-of a b c d e h = grind (arith, h)
 
-one-wide : (fs : List Float) (f : Float) → AllByRecursion Wide fs → Wide f → AllByRecursion Wide (fs ++ f ∷ [])
-one-wide [] f h k = (k, tt)
-one-wide (g ∷ fs) f h k = (h.0, one-wide fs f h.1 k)
-
-records-state : (r : Recorded) (w : Work) → (records_also r w).state ≡ w.state
-records-state r w = by_refused w.refused
-  where
-    by_refused : (t : Bool) → (if t then w else record w { records = w.records ++ r ∷ [] }).state ≡ w.state
-    by_refused true = refl
-    by_refused false = refl
-
--- other floats in a list of those that wait leave the double ones alone
-part-double : (from : Part) → IsWaiting from → (gs : List Float) (l : FloatLists) → (with_floats_of from gs l).double ≡ l.double
-part-double parts.Current q gs l = absurd q
-part-double parts.Here q gs l = absurd q
-part-double parts.Top q gs l = absurd q
-part-double parts.Bottom q gs l = absurd q
-part-double parts.Deferred q gs l = refl
-part-double parts.Double q gs l = absurd q
-part-double parts.Second q gs l = refl
-
 -- a float that goes to the double list is wide
 double-step : (from : Part) → IsWaiting from → (p : Params) (f : Float) (before rest : List Float) (w : Work) → AllWide w → AllWide (FloatMoves.place_waiting from p (Area.double_place p w.state.floats w.state.suppress before f) f before rest w)
 double-step from q p f before rest w h = by_place (Area.goes_double p w.state.floats w.state.suppress before f) refl
   where
     by_place : (t : Bool) → Area.goes_double p w.state.floats w.state.suppress before f ≡ t → AllWide (FloatMoves.place_waiting from p (if t then places.Double else places.Deferred) f before rest w)
-    by_place true e = one-wide (with_floats_of from (before ++ rest) w.state.floats).double f (subst (AllByRecursion Wide) (sym (part-double from q (before ++ rest) w.state.floats)) h) (wide-of f.places.t f.wide _ _ _ e)
+    by_place true e = all-push Wide (with_floats_of from (before ++ rest) w.state.floats).double f (subst (AllByRecursion Wide) (sym (waiting-double from q (before ++ rest) w.state.floats)) h) (wide-of f.places.t f.wide _ _ _ e)
     by_place false e = h
 
 double-wide : (from : Part) → IsWaiting from → (p : Params) (before fs : List Float) (w : Work) → AllWide w → AllWide (FloatMoves.place_double from p before fs w)
@@ -94,23 +74,12 @@ double-wide from q p before (f ∷ rest) w h =
     let w' = FloatMoves.place_waiting from p place f before rest w in
     double-wide from q p (FloatMoves.still_deferred place f before) rest w' (double-step from q p f before rest w h)
 
-ship-double : (p : Params) (sheet : PlainSheet) (w : Work) → (Pages.ship p sheet w).state.floats.double ≡ w.state.floats.double
-ship-double p sheet w = ap (λ l. l.double) (ship-lists p sheet w).0
-
-wide_by-double : (p : Params) (again : Work → Work) → ((w : Work) → (again w).state.floats.double ≡ w.state.floats.double) → (w : Work) (o : Option (List Choice)) → (Pages.wide_pages_by again p w o).state.floats.double ≡ w.state.floats.double
-wide_by-double p again h w None = refl
-wide_by-double p again h w (Some cs) = h (Pages.ship_wide p cs w) ∙ ship-double p (wide (wide_floats_column p p.textheight (chosen_floats cs))) (with_floats (with_wide_waiting p (left_floats cs) w.state.floats) w) ∙ part-double (wide_part p) (wide-waits p) (left_floats cs) w.state.floats
-
-wide-double : (p : Params) (clearing : Bool) (n : ℕ) (w : Work) → (Pages.wide_pages p clearing n w).state.floats.double ≡ w.state.floats.double
-wide-double p clearing zero w = refl
-wide-double p clearing (suc n) w = wide_by-double p (λ w'. Pages.wide_pages p clearing n w') (λ w'. wide-double p clearing n w') w (company (Pages.wide_wanted p clearing) (wide_waiting p w.state.floats))
-
 -- after a pair the double floats are new ones
 pair-wide : (p : Params) (c : PlainColumn) (w : Work) → AllWide (Pages.ship_pair p c w)
 pair-wide p c w =
     let b = Pages.without_double (Pages.ship p (pair_sheet p w.state.floats (Pages.left_or c w.state.left_column) c) w) in
     let d = Pages.all_wide_pages p false b in
-    double-wide (wide_part p) (wide-waits p) p [] (wide_waiting p d.state.floats) d (subst (AllByRecursion Wide) (sym (wide-double p false (length (wide_waiting p b.state.floats)) b)) tt)
+    double-wide (wide_part p) (wide-waits p) p [] (wide_waiting p d.state.floats) d (subst (AllByRecursion Wide) (sym (all_wide-double p false b).0) tt)
 
 -- ---- columns; that their number stays is known
 
@@ -119,7 +88,7 @@ module _ (p : Params) where
   put_by-double c w k = by_columns w.state.two_columns w.state.first_column refl k
     where
       by_columns : (t f : Bool) → w.state.two_columns ≡ t → (if not t then Pages.ship p (one c) w else (if f then Pages.keep_left c w else Pages.ship_pair p c w)).state.two_columns ≡ w.state.two_columns → KeepsDouble w (if not t then Pages.ship p (one c) w else (if f then Pages.keep_left c w else Pages.ship_pair p c w))
-      by_columns false f e k = same-double w (Pages.ship p (one c) w) (ship-double p (one c) w) k
+      by_columns false f e k = same-double w (Pages.ship p (one c) w) (ap (λ l. l.double) (ship-lists p (one c) w).0) k
       by_columns true true e k = same-double w (Pages.keep_left c w) refl refl
       by_columns true false e k = two-columns w (Pages.ship_pair p c w) e k (λ h. pair-wide p c w)
 
@@ -166,7 +135,7 @@ module _ (p : Params) where
 
       by_columns : (t f : Bool) → KeepsDouble w (if not t then w else (if f then Pages.all_wide_pages p true d else puts (made blank_box ∷ Clear.clear_again) w))
       by_columns false f = same-double w w refl refl
-      by_columns true true = no-double w (Pages.all_wide_pages p true d) (wide-double p true (length (wide_waiting p d.state.floats)) d ∙ part-double (wide_part p) (wide-waits p) (w.state.floats.double ++ wide_waiting p w.state.floats) (record w.state.floats { double = [] })) (follows-wide_pages Any p true (length (wide_waiting p d.state.floats)) d).columns
+      by_columns true true = no-double w (Pages.all_wide_pages p true d) ((all_wide-double p true d).0 ∙ waiting-double (wide_part p) (wide-waits p) (w.state.floats.double ++ wide_waiting p w.state.floats) (record w.state.floats { double = [] })) (follows-wide_pages Any p true (length (wide_waiting p d.state.floats)) d).columns
       by_columns true false = same-double w (puts (made blank_box ∷ Clear.clear_again) w) refl refl
 
   clear_floats-double : (body : List PlainNode) (w : Work) → KeepsDouble w (Clear.clear_floats p body w)

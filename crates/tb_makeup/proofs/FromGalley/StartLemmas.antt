@@ -1,7 +1,7 @@
 -- The nodes of a valid galley that the page makeup serves, as they wait before its first page: their amounts are in their ranges, each act stands
 -- behind a whatsit, and they are not too many.
 use Rattle.std.proofs.Common.{◌≡◌, refl, sym, subst, ℕ, ◌+◌, ◌*◌, ◌≤◌, Bool, true, false, List, [], ◌∷◌, ◌++◌, Option, Some, None, arith}
-use Rattle.std.specs.Prelude.{All, IsTrue, ◌&&◌, ◌==◌, nat_le, if◌then◌else◌}
+use Rattle.std.specs.Prelude.{All, ◌&&◌, ◌==◌, if◌then◌else◌}
 use Rattle.std.proofs.lemmas.Int.{ints}
 use Rattle.std.proofs.lemmas.Bool.{true≢false}
 use Rattle.std.proofs.lemmas.Bool.Decides.{nat_tests}
@@ -27,7 +27,7 @@ use Rattle.tb_galley.specs.Valid.{weight_of, weight, IsValid}
 use Rattle.tb_run.specs.WaitingNodes.{IsItem, AreItems}
 use Rattle.tb_run.specs.GalleyNodes.{IsGalleyNode, AreFootParams}
 use Rattle.tb_run.specs.Run.{classes_of}
-use Rattle.tb_run.proofs.FromGalley.GalleyItems.{galley-items}
+use Rattle.tb_run.proofs.FromGalley.GalleyItems.{galley-items, most}
 use Rattle.tb_run.proofs.FromGalley.GalleyNodeLemmas.{galley-nodes}
 use Rattle.tb_run.proofs.FromGalley.ItemLemmas.{expanded-is}
 use Rattle.tb_plain.specs.GalleyNodes.{clearing_kinds, makeup_kinds, makeup_nodes, made_up}
@@ -170,9 +170,6 @@ module _ (p : Params) where
       omega (arith, one, more, e)
 
 -- ---- a galley
-
-most : (n : ℕ) → IsTrue (nat_le n 100000) → n ≤ 100000
-most n h = grind (arith, nat_tests, h)
 
 galley-few : (g : Galley) → IsValid g → weigh (made_up g) ≤ 2000020
 galley-few g v =

@@ -1,10 +1,9 @@
 -- What goes back before what waits, and the lists of its insertions: it has none.
-use Rattle.std.proofs.Common.{◌≡◌, ◌≢◌, refl, sym, subst, ◌∙◌, ap, ℕ, Bool, true, false, List, [], ◌∷◌, ◌++◌, map, None, negsuc}
+use Rattle.std.proofs.Common.{◌≡◌, ◌≢◌, refl, sym, subst, ◌∙◌, ℕ, Bool, true, false, List, [], ◌∷◌, ◌++◌, map, None, negsuc}
 use Rattle.std.specs.Prelude.{◌&&◌, int_le, option_to_list, if◌then◌else◌}
 use Rattle.std.specs.FinMap.{get, remove}
 use Rattle.std.proofs.lemmas.Bool.{true≢false}
 use Rattle.tb_pool.specs.Lists.{Lists, list_at}
-use Rattle.tb_pool.proofs.MapLemmas.{get-remove_other}
 use Rattle.tb_node.specs.declared.Kind.{Kind}
 use Rattle.tb_node.specs.declared.Kind.TheVariants as kinds
 use Rattle.tb_node.specs.declared.Node.{Node}
@@ -18,6 +17,7 @@ use Rattle.tb_builder.specs.Courses.{IsSound}
 use Rattle.tb_builder.specs.Contributions.{ListJoins}
 use Rattle.tb_builder.proofs.Ownership.FrameLemmas.{frame_owned, frame_contents, frame_sound}
 use Rattle.tb_builder.proofs.Ownership.OwnedLemmas.{AllSame}
+use Rattle.tb_run.proofs.Turns.WholeLemmas.{closed-other, all-other}
 use Rattle.tb_plain.specs.Firing.{holds_any, page_for_held, put_back_after}
 
 -- ---- no insertions
@@ -58,15 +58,8 @@ back-inner p f held ns e = list-inner held ns (subst AreNoInsertions (sym e) (ba
 
 module _ (s t u : Lists Node) (b d : Builder) (l : ℕ) (joins : ListJoins (ids_of b) s l) (sound : IsSound d t) (others : (q : ℕ) → q ≢ l → Lacks q (owned (ids_of b) s) → get t.lists q ≡ get s.lists q)
     (keeps : (q : ℕ) → Lacks q (owned (ids_of b) s ++ inner_ids (list_at s l)) → Lacks q (owned (ids_of d) t)) (closed : u.lists ≡ remove t.lists l) where
-  closed-other : (q : ℕ) → q ≢ l → get u.lists q ≡ get t.lists q
-  closed-other q ne = ap (λ m. get m q) closed ∙ get-remove_other t.lists l q ne
-
-  all-other : (xs : List ℕ) → Lacks l xs → AllSame t u xs
-  all-other [] h = tt
-  all-other (x ∷ xs) h = (closed-other x (λ e. h.0 (sym e)), all-other xs h.1)
-
   same-kept : AllSame t u (owned (ids_of d) t)
-  same-kept = all-other (owned (ids_of d) t) (keeps l joins.apart)
+  same-kept = all-other t u l closed (owned (ids_of d) t) (keeps l joins.apart)
 
   pub back-sound : IsSound d u
   back-sound = frame_sound d t u sound same-kept
@@ -75,7 +68,7 @@ module _ (s t u : Lists Node) (b d : Builder) (l : ℕ) (joins : ListJoins (ids_
   back-contents = frame_contents d t u sound same-kept
 
   pub back-others : (q : ℕ) → q ≢ l → Lacks q (owned (ids_of b) s) → get u.lists q ≡ get s.lists q
-  back-others q ne lacks = closed-other q ne ∙ others q ne lacks
+  back-others q ne lacks = closed-other t u l closed q ne ∙ others q ne lacks
 
   pub back-keeps : (q : ℕ) → Lacks q (owned (ids_of b) s ++ inner_ids (list_at s l)) → Lacks q (owned (ids_of d) u)
   back-keeps q lacks = subst (Lacks q) (sym (frame_owned d t u sound same-kept)) (keeps q lacks)

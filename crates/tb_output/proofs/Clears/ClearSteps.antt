@@ -10,14 +10,13 @@ use Rattle.tb_pool.specs.Lists.{Lists, IsLive, list_at, with_list}
 use Rattle.tb_pool.proofs.CallerLemmas.{list_same, list_other}
 use Rattle.tb_pool.proofs.MapLemmas.{get-insert_same, get-insert_other, get-remove_other}
 use Rattle.tb_node.specs.declared.Node.{Node}
-use Rattle.tb_node.specs.PlainNodes.{PlainNode, plain_of, node_shape, shape_of, made, blank_box, plain_list}
+use Rattle.tb_node.specs.PlainNodes.{PlainNode, plain_of, made, blank_box, plain_list}
 use Rattle.tb_node.specs.Fit.{IsSizedNode, shapes}
-use Rattle.tb_pool.specs.declared.ListId.{ListId}
 use Rattle.tb_break.specs.Split.{split_of}
 use Rattle.tb_builder.specs.Ownership.{inner_ids}
-use Rattle.tb_builder.proofs.LegalPlaces.CourseLemmas.{shape_is}
 use Rattle.tb_column.specs.Page.{AreLeaves, IsPageList}
 use Rattle.tb_param.specs.declared.Params.{Params}
+use Rattle.tb_column.proofs.ShownLemmas.{shapes-held}
 use Rattle.tb_output.specs.declared.RunFault.{RunFault}
 use Rattle.tb_output.specs.declared.RunFault.TheVariants as faults
 use Rattle.tb_output.specs.State.{Work, puts, with_floats, has_floats}
@@ -163,10 +162,6 @@ leaves-take zero ns h = tt
 leaves-take (suc n) [] h = tt
 leaves-take (suc n) (x ∷ ns) h = (h.0, leaves-take n ns h.1)
 
-pub shapes-shown : (held : ListId → List Node) (ns : List Node) → map node_shape (map (plain_of held) ns) ≡ map shape_of ns
-shapes-shown held [] = refl
-shapes-shown held (n ∷ ns) = λ i. shape_is held n i ∷ shapes-shown held ns i
-
 -- the front of the page goes back, and the rest is dropped
 module _ (l body : ℕ) (m : MachineView) (store new : Lists Node) (is : IsMachine m store) (back : IsBack l m store) (page : IsPageList store body) (apart : AreNoneOf (body ∷ []) (back_lists store l ++ machine_lists m)) where
   abbrev front : List Node
@@ -188,7 +183,7 @@ module _ (l body : ℕ) (m : MachineView) (store new : Lists Node) (is : IsMachi
     front-shown : map (plain_of (list_at store)) front ≡ cleared_front m.params (plain_list store body)
     front-shown =
         sym (take-map (plain_of (list_at store)) (split_of (pos 0) m.params.splitmaxdepth (shapes store body)).index (list_at store body))
-        ∙ ap (λ ss. take (split_of (pos 0) m.params.splitmaxdepth ss).index (plain_list store body)) (sym (shapes-shown (list_at store) (list_at store body)))
+        ∙ ap (λ ss. take (split_of (pos 0) m.params.splitmaxdepth ss).index (plain_list store body)) (sym (shapes-held (list_at store) (list_at store body)))
 
     pub front-done : Does (shows_back l m store) (shows_back l m new) (puts (cleared_front m.params (plain_list store body)))
     front-done before w h = does-shown_with (ShowsBack l store) (shows_back l m new) m store (puts (cleared_front m.params (plain_list store body)))

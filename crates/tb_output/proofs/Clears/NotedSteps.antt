@@ -14,13 +14,13 @@ use Rattle.tb_pool.specs.Frame.{IsNoneOf}
 use Rattle.tb_pool.proofs.FrameLemmas.{none-back}
 use Rattle.tb_node.specs.declared.Kind.TheVariants as kinds
 use Rattle.tb_node.specs.declared.Node.{Node}
-use Rattle.tb_node.specs.PlainNodes.{PlainNode, plain_of, leaf_of, made, skip, plain_list}
+use Rattle.tb_node.specs.PlainNodes.{PlainNode, plain_of, made, skip, plain_list}
 use Rattle.tb_node.specs.Fit.{IsSizedNode}
 use Rattle.tb_param.specs.declared.Params.{Params}
 use Rattle.tb_column.specs.declared.NoteBox.{NoteBox}
 use Rattle.tb_column.specs.Column.{text_column}
 use Rattle.tb_column.specs.FloatColumns.{made_node}
-use Rattle.tb_column.specs.Notes.{IsNote, AreNotes, notes_shown, note_lists, note_count}
+use Rattle.tb_column.specs.Notes.{AreNotes, notes_shown, note_lists}
 use Rattle.tb_column.specs.Page.{AreLeaves, IsPageList}
 use Rattle.tb_column.proofs.FloatLemmas.{leaves-append}
 use Rattle.tb_output.specs.declared.RunFault.{RunFault}
@@ -34,7 +34,7 @@ use Rattle.tb_output.specs.Machine.{MachineView, machine_lists, IsMachine}
 use Rattle.tb_output.specs.FiringWork.{shows, shows_back, shows_notes, shows_page, IsCutShort, Does}
 use Rattle.tb_output.specs.MachineFrame.{AreNoneOf, AreTextLists, HasGrown, IsBack, back_lists, KeepsMachine, KeepsBack}
 use Rattle.tb_output.proofs.FiringWork.ApartLemmas.{apart-back, apart-swap}
-use Rattle.tb_output.proofs.FiringWork.StandLemmas.{Stands, list-same, list-stands, leaves-shown, IsShownBy, stands-shown, lists-shown}
+use Rattle.tb_output.proofs.FiringWork.StandLemmas.{Stands, notes-same, count-same, notes-stay, leaves-shown, IsShownBy, stands-shown, lists-shown}
 use Rattle.tb_output.proofs.FiringWork.KeepLemmas.{fields-same, keeps-then, keeps-more, keeps-beside, beside-shows, keeps-back_same, keeps-back_then}
 use Rattle.tb_output.proofs.InText.PushLemmas.{pushed-first, grown-of}
 use Rattle.tb_output.proofs.FiringWork.WorkingLemmas.{Fact, does-then, shows-moved, cut-then, no-memory_given}
@@ -43,23 +43,9 @@ use Rattle.tb_output.proofs.StepLaws.ColumnSteps.{no_law, stays, put_out-step}
 use Rattle.tb_output.proofs.FiringWork.StepLemmas.{Done, Cut, no-room}
 use Rattle.tb_output.proofs.Clears.ClearSteps.{clear-done}
 
--- ---- the lists of insertions that are as they were
-
-module _ (store new : Lists Node) where
-  pub notes-same : (ns : List NoteBox) → AllByRecursion (Stands store new) (note_lists ns) → notes_shown new ns ≡ notes_shown store ns
-  notes-same [] h = refl
-  notes-same (n ∷ ns) h = λ i. record { class = n.class; skip = n.skip; inner = map leaf_of (list-same store new n.list h.0 i) } ∷ notes-same ns h.1 i
-
-  pub count-same : (ns : List NoteBox) → AllByRecursion (Stands store new) (note_lists ns) → note_count new ns ≡ note_count store ns
-  count-same [] h = refl
-  count-same (n ∷ ns) h = λ i. length (list-same store new n.list h.0 i) + count-same ns h.1 i
-
-  each-stand : (ns : List NoteBox) → AllByRecursion (Stands store new) (note_lists ns) → AllByRecursion (IsNote store) ns → AllByRecursion (IsNote new) ns
-  each-stand [] h k = tt
-  each-stand (n ∷ ns) h k = (record { list = list-stands store new n.list h.0 k.0.list; skip = k.0.skip }, each-stand ns h.1 k.1)
-
-  pub notes-stand : (body : ℕ) (ns : List NoteBox) → AllByRecursion (Stands store new) (note_lists ns) → AreNotes store body ns → AreNotes new body ns
-  notes-stand body ns h k = record { rising = k.rising; apart = k.apart; each = each-stand ns h k.each }
+-- the lists of insertions that are as they were
+notes-stand : (store new : Lists Node) (body : ℕ) (ns : List NoteBox) → AllByRecursion (Stands store new) (note_lists ns) → AreNotes store body ns → AreNotes new body ns
+notes-stand store new body ns h k = record { rising = k.rising; apart = k.apart; each = notes-stay store new ns h k.each }
 
 -- a page that is put out puts nothing back
 pub put_out_text-stays : (p : Params) (body : List PlainNode) (w : Work) → (put_out_text p body w).put_back ≡ w.put_back

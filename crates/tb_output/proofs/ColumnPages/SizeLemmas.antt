@@ -1,15 +1,13 @@
 -- The sizes of lists that may be on a page, and of the insertions of a page.
-use Rattle.std.proofs.Common.{◌≡◌, refl, sym, subst, ◌∙◌, ap, ℕ, ℤ, pos, ◌+◌, ◌*◌, ◌≤◌, ◌+ℤ◌, ◌-ℤ◌, ◌≤ℤ◌, List, [], ◌∷◌, map, length, w64, to_z, of_z, arith}
+use Rattle.std.proofs.Common.{◌≡◌, sym, subst, ◌∙◌, ap, ℕ, ℤ, pos, ◌+◌, ◌*◌, ◌≤◌, ◌+ℤ◌, ◌-ℤ◌, ◌≤ℤ◌, List, [], ◌∷◌, map, length, w64, to_z, of_z, arith}
 use Rattle.std.specs.Prelude.{All, neg_ℤ}
 use Rattle.std.proofs.lemmas.Int.{ints}
 use Rattle.std.proofs.lemmas.List.{length-map}
 use Rattle.tb_insert.proofs.AccountLemmas.{leaf_shapes}
 use Rattle.tb_scaled.specs.Amount.{IsAmount}
 use Rattle.tb_pool.specs.Lists.{Lists, list_at}
-use Rattle.tb_node.specs.declared.Kind.{Kind}
-use Rattle.tb_node.specs.declared.Kind.TheVariants as kinds
 use Rattle.tb_node.specs.declared.Node.{Node}
-use Rattle.tb_node.specs.PlainNodes.{leaf_of, leaf_shape, shape_of, matter_of, matter_shape, shape_of_kind}
+use Rattle.tb_node.specs.PlainNodes.{leaf_of, leaf_shape, shape_of}
 use Rattle.tb_node.specs.Fit.{IsDimension, IsExtent, IsSizedNode}
 use Rattle.tb_node.specs.Sums.{size_of, last_depth}
 use Rattle.tb_node.proofs.FitLemmas as fits
@@ -33,11 +31,9 @@ within-length ns h =
     let n : length (map shape_of ns) ≡ length ns = length-map ns shape_of in
     record { low = subst (λ k. neg_ℤ (pos (2147483646 * k)) ≤ℤ size_of (map shape_of ns)) n h.low; high = subst (λ k. size_of (map shape_of ns) ≤ℤ pos (2147483646 * k)) n h.high }
 
-room-amount : (k : ℕ) (z : ℤ) → k ≤ 8388608 → IsWithin (2147483646 * k) z → IsAmount z
-room-amount k z few h = record { low = omega (arith, ints, few, h.low); high = omega (arith, ints, few, h.high) }
-
-height-amount : (k : ℕ) (z d : ℤ) → k ≤ 8388608 → IsWithin (2147483646 * k) z → IsExtent d → IsAmount (z -ℤ d)
-height-amount k z d few h e = record { low = omega (arith, ints, few, h.low, e.high); high = omega (arith, ints, few, h.high, e.low) }
+-- an amount, if its bound is one
+pub within-amount : (most : ℕ) (z : ℤ) → most ≤ 36029896531181568 → IsWithin most z → IsAmount z
+within-amount most z few h = record { low = omega (arith, ints, few, h.low); high = omega (arith, ints, few, h.high) }
 
 pub taken : (ns : List Node) (room depth : ℤ) → All IsSizedNode ns → length ns ≤ 8388608 → room ≡ size_of (map shape_of ns) → depth ≡ last_depth (map shape_of ns) → IsTaken ns room depth
 taken ns room depth sized few r d =
@@ -45,10 +41,10 @@ taken ns room depth sized few r d =
     let within : IsWithin (2147483646 * length ns) room = subst (IsWithin (2147483646 * length ns)) (sym r) (within-length ns (fits.size_within (map shape_of ns) can.sized)) in
     let extent : IsExtent depth = subst IsExtent (sym d) (fits.last_depth_extent (map shape_of ns) can.sized) in
     record {
-      small = room-amount (length ns) room few within;
+      small = within-amount (2147483646 * length ns) room (omega (arith, few)) within;
       within = within;
       extent = extent;
-      height = height-amount (length ns) room depth few within extent;
+      height = fits.total_small (length ns) room depth few (record { low = within.low; high = within.high }) extent;
     }
 
 -- ---- numbers that are passed on
@@ -59,24 +55,6 @@ amount-cast z h = omega (arith, ints, h.low, h.high)
 
 pub amount-passed : (z : ℤ) → IsAmount z → IsAmount (to_z w64 (of_z w64 z))
 amount-passed z h = subst IsAmount (sym (amount-cast z h)) h
-
-pub within-amount : (most : ℕ) (z : ℤ) → most ≤ 36029896531181568 → IsWithin most z → IsAmount z
-within-amount most z few h = record { low = omega (arith, ints, few, h.low); high = omega (arith, ints, few, h.high) }
-
--- ---- the insertions of a class
-
--- what sums see of the nodes of an insertion's list is what they see of it on a page
-leaf-shape : (k : Kind) → matter_shape (matter_of k) ≡ shape_of_kind k
-leaf-shape (kinds.Hbox what h d) = refl
-leaf-shape (kinds.Rule name h d) = refl
-leaf-shape (kinds.Skip w) = refl
-leaf-shape (kinds.Kern w) = refl
-leaf-shape (kinds.Pen q) = refl
-leaf-shape (kinds.Mark name) = refl
-leaf-shape (kinds.Note name) = refl
-leaf-shape kinds.Whatsit = refl
-leaf-shape (kinds.Ins i) = refl
-leaf-shape (kinds.Act a) = refl
 
 -- ---- the insertions of a page
 

@@ -1,5 +1,5 @@
 -- What a machine shows depends on its own lists alone.
-use Rattle.std.proofs.Common.{◌≡◌, refl, sym, subst, ◌∙◌, ap, ℕ, ◌≤◌, List, [], ◌∷◌, length, map, Option, None, Some, IsSome}
+use Rattle.std.proofs.Common.{◌≡◌, refl, sym, subst, ◌∙◌, ap, ℕ, ◌+◌, ◌≤◌, List, [], ◌∷◌, length, map, Option, None, Some, IsSome}
 use Rattle.std.specs.Prelude.{All}
 use Rattle.std.specs.List.{AllByRecursion}
 use Rattle.std.specs.FinMap.{get}
@@ -9,16 +9,18 @@ use Rattle.tb_pool.specs.Frame.{OnlyChanged}
 use Rattle.tb_node.specs.declared.Kind.{Kind}
 use Rattle.tb_node.specs.declared.Kind.TheVariants as kinds
 use Rattle.tb_node.specs.declared.Node.{Node}
-use Rattle.tb_node.specs.PlainNodes.{PlainNode, plain_of, plain_kind, plain_list}
+use Rattle.tb_node.specs.PlainNodes.{PlainNode, leaf_of, plain_of, plain_kind, plain_list}
 use Rattle.tb_node.specs.Fit.{IsSizedNode}
 use Rattle.tb_builder.specs.FiredPages.{Boxed}
 use Rattle.tb_column.specs.declared.Column.{Column}
+use Rattle.tb_column.specs.declared.NoteBox.{NoteBox}
 use Rattle.tb_column.specs.declared.Sheet.{Sheet}
 use Rattle.tb_column.specs.declared.Sheet.TheVariants as sheets
 use Rattle.tb_column.specs.declared.Sent.{Sent}
 use Rattle.tb_column.specs.declared.Sent.TheVariants as events
 use Rattle.tb_column.specs.Column.{PlainColumn, one, wide, two, shipped}
 use Rattle.tb_column.specs.StoredColumns.{column_shown, sheet_shown, sent_shown}
+use Rattle.tb_column.specs.Notes.{IsNote, notes_shown, note_lists, note_count}
 use Rattle.tb_column.specs.Page.{is_leaf_kind, AreLeaves, IsPageList, IsPageColumn}
 use Rattle.tb_output.specs.Machine.{MachineView, state_shown, left_shown, events_shown, sheet_lists, sent_lists, event_lists, left_lists, machine_lists, IsPageSheet, IsPageSent, IsPageLeft, IsRoomOf, IsMachine}
 use Rattle.tb_output.specs.MachineFrame.{AreNoneOf}
@@ -71,6 +73,19 @@ module _ (store new : Lists Node) where
     where
       same : list_at new q ≡ list_at store q
       same = list-same q e
+
+  -- the insertions show the same, are as many, and may still be put below a text
+  pub notes-same : (ns : List NoteBox) → AllByRecursion Stands (note_lists ns) → notes_shown new ns ≡ notes_shown store ns
+  notes-same [] h = refl
+  notes-same (n ∷ ns) h = λ i. record { class = n.class; skip = n.skip; inner = map leaf_of (list-same n.list h.0 i) } ∷ notes-same ns h.1 i
+
+  pub count-same : (ns : List NoteBox) → AllByRecursion Stands (note_lists ns) → note_count new ns ≡ note_count store ns
+  count-same [] h = refl
+  count-same (n ∷ ns) h = λ i. length (list-same n.list h.0 i) + count-same ns h.1 i
+
+  pub notes-stay : (ns : List NoteBox) → AllByRecursion Stands (note_lists ns) → AllByRecursion (IsNote store) ns → AllByRecursion (IsNote new) ns
+  notes-stay [] e h = tt
+  notes-stay (n ∷ ns) e h = (record { list = list-stands n.list e.0 h.0.list; skip = h.0.skip }, notes-stay ns e.1 h.1)
 
   pub column-stands : (c : Column) → Stands c.list → IsPageColumn store c → IsPageColumn new c
   column-stands c e h = record { list = list-stands c.list e h.list; share = h.share }

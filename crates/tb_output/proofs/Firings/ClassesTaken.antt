@@ -1,8 +1,8 @@
 -- The boxes of classes are taken one after another, and in the end all of them were.
-use Rattle.std.proofs.Common.{◌≡◌, ◌≢◌, refl, sym, subst, ◌∙◌, ap, ℕ, suc, ◌+◌, ◌<◌, ◌≤◌, Bool, true, false, List, [], ◌∷◌, ◌++◌, length, map, take, get_or, Option, Some, None, arith}
+use Rattle.std.proofs.Common.{◌≡◌, ◌≢◌, refl, sym, subst, ◌∙◌, ap, ℕ, suc, ◌+◌, ◌<◌, ◌≤◌, Bool, true, false, List, [], ◌∷◌, ◌++◌, length, take, get_or, Option, Some, None, arith}
 use Rattle.std.specs.Prelude.{◌==◌, ◌||◌, All, if◌then◌else◌}
 use Rattle.std.specs.List.{AllByRecursion}
-use Rattle.std.proofs.lemmas.List.{length-map, take_all, take_more}
+use Rattle.std.proofs.lemmas.List.{length-map, map-append, take_all, take_more}
 use Rattle.std.proofs.lemmas.List.Elements.{All-nil}
 use Rattle.std.proofs.Math.Bool.{or-true}
 use Rattle.tb_break.proofs.EachLemmas.{all-join, all-map}
@@ -30,26 +30,14 @@ use Rattle.tb_output.specs.State.{with_notes, notes_in}
 use Rattle.tb_output.specs.Machine.{AreClassesFrom}
 use Rattle.tb_output.specs.Firing.{builder_lists, AreSizedBoxes}
 use Rattle.tb_output.specs.Notes.{IsLeafList, AreOwnLists, BoxesTaken, AreKnownNotes, NotesTaken}
-use Rattle.tb_output.proofs.FiringWork.StandLemmas.{Stands, list-same, live-same, frame-stands, frame-free}
+use Rattle.tb_output.proofs.FiringWork.StandLemmas.{Stands, list-same, live-same, notes-same, frame-stands, frame-free}
 use Rattle.tb_output.proofs.FiringWork.ApartLemmas.{distinct-join, live-apart}
 use Rattle.tb_output.proofs.StepLaws.ClassBoxes.{own-content, later-notes}
 use Rattle.tb_output.proofs.Firings.VoidBoxes.{all-voids, voids-after, contents-other, notes-after, differ-before, known-at}
 
 -- ---- one class after others
 
-lists-joined : (xs ys : List NoteBox) → note_lists (xs ++ ys) ≡ note_lists xs ++ note_lists ys
-lists-joined [] ys = refl
-lists-joined (x ∷ xs) ys = ap (λ ls. x.list ∷ ls) (lists-joined xs ys)
-
-shown-joined : (store : Lists Node) (xs ys : List NoteBox) → notes_shown store (xs ++ ys) ≡ notes_shown store xs ++ notes_shown store ys
-shown-joined store [] ys = refl
-shown-joined store (x ∷ xs) ys = ap (λ ns. note_shown store x ∷ ns) (shown-joined store xs ys)
-
 module _ (store new : Lists Node) where
-  notes-stand : (ns : List NoteBox) → AllByRecursion (Stands store new) (note_lists ns) → notes_shown new ns ≡ notes_shown store ns
-  notes-stand [] h = refl
-  notes-stand (n ∷ ns) h = λ i. record { class = n.class; skip = n.skip; inner = map leaf_of (list-same store new n.list h.0 i) } ∷ notes-stand ns h.1 i
-
   leaves-stand : (ls : List ℕ) → AllByRecursion (Stands store new) ls → AllByRecursion (IsLeafList store) ls → AllByRecursion (IsLeafList new) ls
   leaves-stand [] e h = tt
   leaves-stand (l ∷ ls) e h = (record { live = live-same store new l e.0 h.0.live; leaves = subst AreLeaves (sym (list-same store new l e.0)) h.0.leaves }, leaves-stand ls e.1 h.1)
@@ -84,11 +72,11 @@ module _ (b mid now : Builder) (store middle new : Lists Node) (frame : OnlyChan
           second.contents ∙ (λ i. record (first.contents i) { boxes = with_void c.number (first.contents i).boxes })
           ∙ ap (λ bs. record (contents_of b store) { boxes = bs }) (sym (voids-after cs c (contents_of b store).boxes));
       shown =
-          shown-joined new xs ys
-          ∙ (λ i. (notes-stand middle new xs stand-first ∙ first.shown) i ++ (second.shown ∙ one-more) i)
+          map-append (note_shown new) xs ys
+          ∙ (λ i. (notes-same middle new xs stand-first ∙ first.shown) i ++ (second.shown ∙ one-more) i)
           ∙ sym (notes-after cs c (contents_of b store).boxes);
-      lists = subst (AllByRecursion (IsLeafList new)) (sym (lists-joined xs ys)) (all-join (IsLeafList new) (note_lists xs) (note_lists ys) (leaves-stand middle new (note_lists xs) stand-first first.lists) second.lists);
-      own = subst (λ ls. AreOwnLists ls b now store new) (sym (lists-joined xs ys)) (record {
+      lists = subst (AllByRecursion (IsLeafList new)) (sym (map-append (λ (n : NoteBox). n.list) xs ys)) (all-join (IsLeafList new) (note_lists xs) (note_lists ys) (leaves-stand middle new (note_lists xs) stand-first first.lists) second.lists);
+      own = subst (λ ls. AreOwnLists ls b now store new) (sym (map-append (λ (n : NoteBox). n.list) xs ys)) (record {
         apart = distinct-join (note_lists xs) (note_lists ys) first.own.apart second.own.apart (live-apart middle (builder_lists mid middle) (note_lists xs) (note_lists ys) live-first first.own.free second.own.fresh);
         fresh = fresh-lists (note_lists xs) (note_lists ys) first.own.fresh second.own.fresh;
         free = all-join (λ l. IsNoneOf l (builder_lists now new)) (note_lists xs) (note_lists ys)

@@ -96,7 +96,7 @@ module _ (l : ℕ) (m : MachineView) (store : Lists Node) (is : IsMachine m stor
 
 -- ---- by the penalty
 
-zero-is : (z : ℤ) → is_zero z ≡ true → z ≡ pos 0
+pub zero-is : (z : ℤ) → is_zero z ≡ true → z ≡ pos 0
 zero-is (pos n) e = let zero : n ≡ 0 = grind (arith, nat_tests, e) in ap pos zero
 zero-is (negsuc n) e = cc
 

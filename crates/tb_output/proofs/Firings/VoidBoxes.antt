@@ -5,7 +5,7 @@ use Rattle.std.specs.List.{AllByRecursion}
 use Rattle.std.proofs.lemmas.Bool.{or_parts}
 use Rattle.std.proofs.lemmas.Bool.Decides.{nat_tests}
 use Rattle.std.proofs.Math.Bool.{or-true}
-use Rattle.tb_builder.proofs.Handover.CallLemmas.{voids_boxed}
+use Rattle.tb_builder.proofs.Handover.CallLemmas.{voided_number, voids_boxed}
 use Rattle.tb_node.specs.PlainNodes.{Leaf}
 use Rattle.tb_insert.specs.declared.Class.{Class}
 use Rattle.tb_builder.specs.FiredPages.{Boxed, box_content}
@@ -24,16 +24,9 @@ void n = record { number = n; content = None }
 
 -- ---- one class
 
-by-class : (t : Bool) (b : Boxed) → (if t then void b.number else b).number ≡ b.number
-by-class true b = refl
-by-class false b = refl
-
-voided-number : (k : ℕ) (b : Boxed) → (voided k b).number ≡ b.number
-voided-number k b = by-class (b.number == k) b
-
 emptied-void : (k : ℕ) (bs : List Boxed) → emptied_boxes (with_void k bs) ≡ emptied_boxes bs
 emptied-void k [] = refl
-emptied-void k (b ∷ bs) = λ i. void (voided-number k b i) ∷ emptied-void k bs i
+emptied-void k (b ∷ bs) = λ i. void (voided_number k b i) ∷ emptied-void k bs i
 
 voided-own : (k : ℕ) (b : Boxed) → b.number ≡ k → voided k b ≡ void b.number
 voided-own k b e = let same : (b.number == k) ≡ true = grind (arith, nat_tests, e) in ap (λ t. if t then void b.number else b) same
@@ -76,7 +69,7 @@ pick-same false x y z f = refl
 content-other : (n k : ℕ) → n ≢ k → (bs : List Boxed) → box_content (with_void n bs) k ≡ box_content bs k
 content-other n k differ [] = refl
 content-other n k differ (b ∷ bs) =
-    (λ i. if voided-number n b i == k then (voided n b).content else content-other n k differ bs i)
+    (λ i. if voided_number n b i == k then (voided n b).content else content-other n k differ bs i)
     ∙ pick-same (b.number == k) (voided n b).content b.content (box_content bs k) (λ e. let other : (b.number == n) ≡ false = grind (arith, nat_tests, e, differ) in ap (λ (x : Boxed). x.content) (voided-other n b other))
 
 pub contents-other : (cs : List Class) (k : ℕ) → AllByRecursion (λ c. c.number ≢ k) cs → (bs : List Boxed) → box_content (with_voids cs bs) k ≡ box_content bs k

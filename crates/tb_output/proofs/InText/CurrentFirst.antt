@@ -20,9 +20,6 @@ use Rattle.tb_area.specs.Area.{current_place}
 
 -- ---- the first of the current list
 
-entry-same : (f g : Float) → entries.Float f ≡ entries.Float g → f ≡ g
-entry-same f g e = cc
-
 -- a float goes where the routine decides
 pub decided-same : (l : ℕ) (m : MachineView) (store : Lists Node) (vert : Bool) (f : Float) (height : ℤ) (place : Where) → place ≡ current_place m.params m.pool.lists m.suppress height f
     → (before : List PlainSent) (w : Work) → shows_back l m store before w → float_placed m.params vert f place w ≡ float_decided m.params vert f height w

@@ -11,7 +11,7 @@ use Rattle.tb_pool.specs.Lists.{Lists, IsLive, list_at}
 use Rattle.tb_pool.specs.Frame.{IsNoneOf}
 use Rattle.tb_pool.proofs.FrameLemmas.{none-front, none-back, none-join}
 use Rattle.tb_node.specs.declared.Node.{Node}
-use Rattle.tb_node.specs.PlainNodes.{PlainNode, node_shape, leaf_of, shape_of, plain_of, plain_list}
+use Rattle.tb_node.specs.PlainNodes.{PlainNode, node_shape, shape_of, plain_of, plain_list}
 use Rattle.tb_node.specs.Fit.{IsExtent, IsSizedNode}
 use Rattle.tb_node.specs.Sums.{size_of, last_depth}
 use Rattle.tb_param.specs.declared.Params.{Params}
@@ -22,8 +22,8 @@ use Rattle.tb_column.specs.declared.NoteBox.{NoteBox}
 use Rattle.tb_column.specs.Notes.{AreDistinct, IsNote, notes_shown, note_lists, note_count}
 use Rattle.tb_column.specs.Page.{AreLeaves, IsPageList}
 use Rattle.tb_column.proofs.FloatLemmas.{leaves-append}
-use Rattle.tb_column.proofs.StoreLemmas.{list-get}
 use Rattle.tb_column.specs.Column.{PlainSent}
+use Rattle.tb_column.proofs.ShownLemmas.{shapes-held}
 use Rattle.tb_output.specs.declared.texts.TextSize.{TextSize}
 use Rattle.tb_output.specs.declared.RunFault.{RunFault}
 use Rattle.tb_output.specs.declared.RunFault.TheVariants as faults
@@ -37,12 +37,12 @@ use Rattle.tb_output.specs.MachineFrame.{AreNoneOf, HasGrown, back_lists, IsBack
 use Rattle.tb_output.specs.Notes.{AreKnownNotes}
 use Rattle.tb_output.specs.FiringParts.{IsTextSize, HasTextBack, first_placed}
 use Rattle.tb_output.proofs.FiringWork.ApartLemmas.{apart-back, apart-swap, distinct-join}
-use Rattle.tb_output.proofs.FiringWork.StandLemmas.{Stands, list-stands, leaves-shown, events-stand, events-show, left-stands, left-shows}
+use Rattle.tb_output.proofs.FiringWork.StandLemmas.{Stands, notes-same, count-same, notes-stay, leaves-shown, events-stand, events-show, left-stands, left-shows}
 use Rattle.tb_output.proofs.FiringWork.KeepLemmas.{fields-same, keeps-back_then, pages-stand, leaves-inner, leaves-known}
 use Rattle.tb_output.proofs.InText.PushLemmas.{grown-none}
 use Rattle.tb_output.proofs.FiringWork.WorkingLemmas.{does-then, does-same, cut-on, does-shown_with, no-memory_given}
 use Rattle.tb_output.proofs.StepLaws.WorkSteps.{continues-list_back, continues-first_goes}
-use Rattle.tb_output.proofs.Clears.ClearSteps.{shapes-shown, leaves-take}
+use Rattle.tb_output.proofs.Clears.ClearSteps.{leaves-take}
 use Rattle.tb_output.proofs.InText.BackLemmas.{live-some, again-inner, again-known, again-sized, again-shown}
 
 -- ---- a list is read after a call
@@ -113,20 +113,6 @@ record MayFollow (back body : ℕ) (m : MachineView) (store : Lists Node) (ns : 
 note-pages : (store : Lists Node) (ns : List NoteBox) → AllByRecursion (IsNote store) ns → AllByRecursion (IsPageList store) (note_lists ns)
 note-pages store [] h = tt
 note-pages store (n ∷ ns) h = (h.0.list, note-pages store ns h.1)
-
-notes-same : (store new : Lists Node) (ns : List NoteBox) → AllByRecursion (Stands store new) (note_lists ns) → notes_shown new ns ≡ notes_shown store ns
-notes-same store new [] h = refl
-notes-same store new (n ∷ ns) h =
-    let same : list_at new n.list ≡ list_at store n.list = list-get store new n.list h.0 in
-    λ i. record { class = n.class; skip = n.skip; inner = map leaf_of (same i) } ∷ notes-same store new ns h.1 i
-
-notes-stay : (store new : Lists Node) (ns : List NoteBox) → AllByRecursion (Stands store new) (note_lists ns) → AllByRecursion (IsNote store) ns → AllByRecursion (IsNote new) ns
-notes-stay store new [] e h = tt
-notes-stay store new (n ∷ ns) e h = (record { list = list-stands store new n.list e.0 h.0.list; skip = h.0.skip }, notes-stay store new ns e.1 h.1)
-
-count-same : (store new : Lists Node) (ns : List NoteBox) → AllByRecursion (Stands store new) (note_lists ns) → note_count new ns ≡ note_count store ns
-count-same store new [] h = refl
-count-same store new (n ∷ ns) h = λ i. length (list-get store new n.list h.0 i) + count-same store new ns h.1 i
 
 module _ (p : Params) (back body : ℕ) (ns : List NoteBox) (m : MachineView) (store one new : Lists Node) (is : IsMachine m store) (go : IsBack back m store) (empty : list_at store back ≡ []) (page : IsPageList store body) (apart : IsNoneOf body (back_lists store back ++ machine_lists m)) (may : MayFollow back body m store ns) (text : HasTextBack back m.held_page body store one) (grown : HasGrown back (insertions_again p one ns) [] one new) where
   body-machine : IsNoneOf body (machine_lists m)
@@ -306,7 +292,7 @@ module _ (back body : ℕ) (notes : List NoteBox) (m : MachineView) (store one :
 
   text-shapes : map shape_of (list_at one back) ≡ map node_shape all-nodes
   text-shapes =
-      sym (shapes-shown (list_at one) (list_at one back))
+      sym (shapes-held (list_at one) (list_at one back))
       ∙ ap (map node_shape)
       (follows-shown m.params back body [] m store one one is go empty lists.text lists.apart.0 may-none text nothing-yet ∙ append-nil all-nodes)
 

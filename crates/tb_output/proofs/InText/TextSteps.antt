@@ -1,6 +1,6 @@
 -- The first float or marginal note gets its place: the steps of the work.
 use Rattle.std.proofs.Common.{◌≡◌, refl, sym, subst, ◌∙◌, ap, ℕ, suc, ℤ, Bool, true, false, List, [], ◌∷◌, ◌++◌, map, drop, length, length-append, Option, Some, None, arith}
-use Rattle.std.specs.Prelude.{neg_ℤ, if◌then◌else◌, OnSome, IfNone}
+use Rattle.std.specs.Prelude.{if◌then◌else◌, OnSome, IfNone}
 use Rattle.std.specs.List.{slice_get, slice_set}
 use Rattle.std.proofs.lemmas.Int.{ints}
 use Rattle.std.proofs.lemmas.List.{length-set}
@@ -16,7 +16,7 @@ use Rattle.tb_node.specs.declared.Node.{Node}
 use Rattle.tb_node.specs.declared.Where.{Where}
 use Rattle.tb_node.specs.declared.Where.TheVariants as places
 use Rattle.tb_node.specs.PlainNodes.{PlainKind, plain, pen, PlainNode, plain_kind, plain_of, plain_list}
-use Rattle.tb_node.specs.Fit.{IsDimension, IsExtent, IsPenalty, IsSizedNode}
+use Rattle.tb_node.specs.Fit.{IsExtent, IsPenalty, IsSizedNode}
 use Rattle.tb_param.specs.declared.Params.{Params}
 use Rattle.tb_break.specs.Places.{last_or}
 use Rattle.tb_float.specs.declared.Entry.{Entry}
@@ -32,6 +32,7 @@ use Rattle.tb_column.specs.declared.Warn.TheVariants as warnings
 use Rattle.tb_column.specs.declared.Sent.TheVariants as events
 use Rattle.tb_column.specs.Column.{PlainSent, warned}
 use Rattle.tb_column.specs.Ranges.{IsSizedGlue}
+use Rattle.tb_column.proofs.FloatLemmas.{negated_dimension}
 use Rattle.tb_output.specs.declared.texts.TextSize.{TextSize}
 use Rattle.tb_output.specs.State.{Work, puts, sends, with_floats}
 use Rattle.tb_output.specs.FloatMoves.{joined_to, place_float}
@@ -55,9 +56,6 @@ use Rattle.tb_output.proofs.StepLaws.WorkSteps.{continues-same, continues-puts, 
 use Rattle.tb_output.proofs.FiringWork.StepLemmas.{Done, Cut, keeps-on, done-then, then-cut, cut-short, no-room, done-same, done-puts, done-warned, moved-keeps, moved-shows}
 
 -- ---- the interline penalty
-
-negated-dimension : (z : ℤ) → IsDimension z → IsDimension (neg_ℤ z)
-negated-dimension z h = record { low = omega (arith, ints, h.high); high = omega (arith, ints, h.low) }
 
 module _ (held : ListId → List Node) where
   glue-kind : (k : Kind) → glue_at_end (plain_kind held k) ≡ glue_of_kind k
@@ -93,7 +91,7 @@ interline-may n (Some g) small glue =
     record {
       leaves = (tt, (tt, (tt, tt)));
       sized = All-from_recursion IsSizedNode (interline_by n (Some g))
-          ((negated-dimension g.width h.width, negated-dimension g.stretch h.stretch, negated-dimension g.shrink h.shrink), (small, ((h.width, h.stretch, h.shrink), tt)));
+          ((negated_dimension g.width h.width, negated_dimension g.stretch h.stretch, negated_dimension g.shrink h.shrink), (small, ((h.width, h.stretch, h.shrink), tt)));
     }
 
 pub interline-done : (l : ℕ) (m : MachineView) (store new : Lists Node) → IsMachine m store → IsBack l m store → HasGrown l (interline_list m.params.interlinepenalty (list_at store l)) [] store new → Done l m m store new (puts_interline m.params)
@@ -118,7 +116,7 @@ here-may p true f h extent = record {
         h.interlinepenalty,
         (
           (h.intextsep.width, h.intextsep.stretch, h.intextsep.shrink),
-          ((negated-dimension p.parskip.width h.parskip.width, negated-dimension p.parskip.stretch h.parskip.stretch, negated-dimension p.parskip.shrink h.parskip.shrink), tt),
+          ((negated_dimension p.parskip.width h.parskip.width, negated_dimension p.parskip.stretch h.parskip.stretch, negated_dimension p.parskip.shrink h.parskip.shrink), tt),
         ),
       ),
     ),

@@ -1,5 +1,5 @@
 -- What the steps of a column do to the lists of floats, the columns and the dead cycles.
-use Rattle.std.proofs.Common.{◌≡◌, refl, sym, ◌∙◌, ap, subst, ℕ, zero, suc, pos, ◌+◌, ◌≤◌, inl, inr, ◌⊎◌, Bool, true, false, List, [], ◌∷◌, ◌++◌, length, Option, Some, None, arith}
+use Rattle.std.proofs.Common.{◌≡◌, refl, sym, ◌∙◌, ap, subst, ℕ, zero, suc, pos, ◌+◌, ◌≤◌, inl, inr, ◌⊎◌, Bool, true, false, List, [], ◌∷◌, ◌++◌, length, Option, Some, None, length-append, arith}
 use Rattle.std.specs.Prelude.{int_lt, not, if◌then◌else◌}
 use Rattle.std.specs.List.{AllByRecursion}
 use Rattle.tb_break.proofs.EachLemmas.{all-front, all-back, all-join, all-push}
@@ -74,6 +74,33 @@ part-joined parts.Second q places.Page f gs l v = refl
 part-joined parts.Second q places.Double f gs l v = refl
 part-joined parts.Second q places.Deferred f gs l v = absurd v
 
+-- what is recorded leaves the state as it is
+pub records-state : (r : Recorded) (w : Work) → (records_also r w).state ≡ w.state
+records-state r w = by_refused w.refused
+  where
+    by_refused : (t : Bool) → (if t then w else record w { records = w.records ++ r ∷ [] }).state ≡ w.state
+    by_refused true = refl
+    by_refused false = refl
+
+-- the current list stays when a float joins a list
+pub joined-current : (place : Where) (f : Float) (l : FloatLists) → (FloatMoves.joined_to place f l).current ≡ l.current
+joined-current places.Here f l = refl
+joined-current places.Top f l = refl
+joined-current places.Bottom f l = refl
+joined-current places.Page f l = refl
+joined-current places.Double f l = refl
+joined-current places.Deferred f l = refl
+
+-- the current list stays when other floats wait
+pub part-current : (from : Part) → IsWaiting from → (gs : List Float) (l : FloatLists) → (with_floats_of from gs l).current ≡ l.current
+part-current parts.Current q gs l = absurd q
+part-current parts.Here q gs l = absurd q
+part-current parts.Top q gs l = absurd q
+part-current parts.Bottom q gs l = absurd q
+part-current parts.Deferred q gs l = refl
+part-current parts.Double q gs l = absurd q
+part-current parts.Second q gs l = refl
+
 module _ (P : Float → Type 0) where
   pub follows-same : (a : Work) → Follows P a a
   follows-same a = record { goes = λ h. h; columns = refl; boxes = refl; back = refl; page = refl; current = refl; floats = omega arith; all = λ h. h; cycles = λ h. inl refl }
@@ -121,17 +148,13 @@ module _ (P : Float → Type 0) where
 
   -- ---- floats
 
-  one-longer : (fs : List Float) (f : Float) → length (fs ++ f ∷ []) ≡ length fs + 1
-  one-longer [] f = refl
-  one-longer (g ∷ fs) f = let h : length (fs ++ f ∷ []) ≡ length fs + 1 = one-longer fs f in omega arith
-
   pub joined-count : (place : Where) (f : Float) (l : FloatLists) → waiting_floats (FloatMoves.joined_to place f l) ≤ waiting_floats l + 1
   joined-count places.Here f l = omega arith
-  joined-count places.Top f l = let h : length (l.top ++ f ∷ []) ≡ length l.top + 1 = one-longer l.top f in omega arith
-  joined-count places.Bottom f l = let h : length (l.bottom ++ f ∷ []) ≡ length l.bottom + 1 = one-longer l.bottom f in omega arith
+  joined-count places.Top f l = let h : length (l.top ++ f ∷ []) ≡ length l.top + 1 = length-append l.top (f ∷ []) in omega arith
+  joined-count places.Bottom f l = let h : length (l.bottom ++ f ∷ []) ≡ length l.bottom + 1 = length-append l.bottom (f ∷ []) in omega arith
   joined-count places.Page f l = omega arith
-  joined-count places.Double f l = let h : length (l.double ++ f ∷ []) ≡ length l.double + 1 = one-longer l.double f in omega arith
-  joined-count places.Deferred f l = let h : length (l.deferred ++ f ∷ []) ≡ length l.deferred + 1 = one-longer l.deferred f in omega arith
+  joined-count places.Double f l = let h : length (l.double ++ f ∷ []) ≡ length l.double + 1 = length-append l.double (f ∷ []) in omega arith
+  joined-count places.Deferred f l = let h : length (l.deferred ++ f ∷ []) ≡ length l.deferred + 1 = length-append l.deferred (f ∷ []) in omega arith
 
   pub joined-all : (place : Where) (f : Float) (l : FloatLists) → P f → AllWait P l → AllWait P (FloatMoves.joined_to place f l)
   joined-all places.Here f l k h = record { top = h.top; bottom = h.bottom; deferred = h.deferred; double = h.double; second = h.second }
@@ -140,14 +163,6 @@ module _ (P : Float → Type 0) where
   joined-all places.Page f l k h = h
   joined-all places.Double f l k h = record { top = h.top; bottom = h.bottom; deferred = h.deferred; double = all-push P l.double f h.double k; second = h.second }
   joined-all places.Deferred f l k h = record { top = h.top; bottom = h.bottom; deferred = all-push P l.deferred f h.deferred k; double = h.double; second = h.second }
-
-  pub joined-current : (place : Where) (f : Float) (l : FloatLists) → (FloatMoves.joined_to place f l).current ≡ l.current
-  joined-current places.Here f l = refl
-  joined-current places.Top f l = refl
-  joined-current places.Bottom f l = refl
-  joined-current places.Page f l = refl
-  joined-current places.Double f l = refl
-  joined-current places.Deferred f l = refl
 
   -- the lists change, and nothing else
   with-lists : (l : FloatLists) (w : Work) → l.current ≡ w.state.floats.current → waiting_floats l ≤ waiting_floats w.state.floats → (AllWait P w.state.floats → AllWait P l) → Follows P w (with_floats l w)
@@ -172,17 +187,9 @@ module _ (P : Float → Type 0) where
       here : (a : Work) → a.state ≡ w.state → Follows P a (with_floats l a)
       here a e = with-lists l a (joined-current place f left ∙ c ∙ sym (ap (λ s. s.floats.current) e)) (subst (λ (s : State). waiting_floats l ≤ waiting_floats s.floats) (sym e) counted) (λ x. kept (subst (λ (s : State). AllWait P s.floats) e x))
 
-      recorded : (t : Bool) → (if t then w else record w { records = w.records ++ r ∷ [] }).state ≡ w.state
-      recorded true = refl
-      recorded false = refl
-
       by_record : (t : Bool) → Follows P w (with_floats l (if t then records_also r w else w))
-      by_record true = follows-then w (records_also r w) (with_floats l (records_also r w)) (follows-records r w) (here (records_also r w) (recorded w.refused))
+      by_record true = follows-then w (records_also r w) (with_floats l (records_also r w)) (follows-records r w) (here (records_also r w) (records-state r w))
       by_record false = here w refl
-
-  pub both-long : (fs gs : List Float) → length (fs ++ gs) ≡ length fs + length gs
-  both-long [] gs = omega arith
-  both-long (f ∷ fs) gs = let h : length (fs ++ gs) ≡ length fs + length gs = both-long fs gs in omega arith
 
   -- ---- the list in which floats wait
 
@@ -195,15 +202,6 @@ module _ (P : Float → Type 0) where
   part-count parts.Deferred q gs l = omega arith
   part-count parts.Double q gs l = absurd q
   part-count parts.Second q gs l = omega arith
-
-  pub part-current : (from : Part) → IsWaiting from → (gs : List Float) (l : FloatLists) → (with_floats_of from gs l).current ≡ l.current
-  part-current parts.Current q gs l = absurd q
-  part-current parts.Here q gs l = absurd q
-  part-current parts.Top q gs l = absurd q
-  part-current parts.Bottom q gs l = absurd q
-  part-current parts.Deferred q gs l = refl
-  part-current parts.Double q gs l = absurd q
-  part-current parts.Second q gs l = refl
 
   pub part-all : (from : Part) → IsWaiting from → (l : FloatLists) → AllWait P l → AllByRecursion P (floats_of from l)
   part-all parts.Current q l h = absurd q
@@ -233,7 +231,7 @@ module _ (P : Float → Type 0) where
       fewer : waiting_floats l + 1 ≤ waiting_floats w.state.floats
       fewer =
           let c : waiting_floats (with_floats_of from (before ++ rest) w.state.floats) + length (floats_of from w.state.floats) ≡ waiting_floats w.state.floats + length (before ++ rest) = part-count from q (before ++ rest) w.state.floats in
-          sums (waiting_floats (with_floats_of from (before ++ rest) w.state.floats)) (waiting_floats w.state.floats) (length (floats_of from w.state.floats)) (length (before ++ rest)) (length (before ++ f ∷ rest)) (length before) (length rest) (length (f ∷ rest)) c (ap length e) (both-long before rest) (both-long before (f ∷ rest)) refl
+          sums (waiting_floats (with_floats_of from (before ++ rest) w.state.floats)) (waiting_floats w.state.floats) (length (floats_of from w.state.floats)) (length (before ++ rest)) (length (before ++ f ∷ rest)) (length before) (length rest) (length (f ∷ rest)) c (ap length e) (length-append before rest) (length-append before (f ∷ rest)) refl
         where
           sums : (x y a b c i j d : ℕ) → x + a ≡ y + b → a ≡ c → b ≡ i + j → c ≡ i + d → d ≡ suc j → x + 1 ≤ y
           sums x y a b c i j d h k m n o = omega arith

@@ -24,7 +24,7 @@ use Rattle.tb_output.specs.Output
 use Rattle.tb_output.specs.Firing.{page_work}
 use Rattle.tb_output.specs.FiringWork.{Continues}
 use Rattle.tb_output.proofs.StepLaws.ColumnSteps.{RecordLaw, no_law, course, ColumnStep, still, in_turn, records_one, ships_one, place_float-step, place_waiting-step, place_next-step, place_double-step, ship_wide-step, wide_pages-step, all_wide_pages-step, ship_pair-step, put_out_by-step, put_out-step, put_out_company-step, float_columns-step}
-use Rattle.tb_output.proofs.StepLaws.FiringSteps.{FiringStep, by_columns, sends_one, changes, afterwards, put_out_text-step, ordinary-step, defer-step, float_goes-step, note_goes-step, first_goes-step, float_or_note-step, clear_wide-step, clear_floats-step, clear_by-step, output_by-step, next_goal-step, page_work-step}
+use Rattle.tb_output.proofs.StepLaws.FiringSteps.{FiringStep, by_columns, warns_one, changes, fewer, afterwards, put_out_text-step, ordinary-step, defer-step, float_goes-step, note_goes-step, first_goes-step, float_or_note-step, clear_wide-step, clear_floats-step, clear_by-step, output_by-step, next_goal-step, page_work-step}
 
 -- what is sent, the refusal, the page, the classes and what waits are as they were
 pub continues-same : {w next : Work} → next.sent ≡ w.sent → next.refused ≡ w.refused → next.state.page ≡ w.state.page → next.state.classes ≡ w.state.classes → next.state.waiting ≡ w.state.waiting → Continues w next
@@ -89,10 +89,11 @@ column-continues (in_turn x y) = continues-then (column-continues x) (column-con
 column-continues (records_one r w h) = continues-records r w
 column-continues {p} (ships_one sheet w) = continues-ship p sheet w
 
-pub continues : {p : Params} {law : RecordLaw p} {a b : Work} → FiringStep p law a b → Continues a b
+pub continues : {p : Params} {law : RecordLaw p} {k : ℕ} {a b : Work} → FiringStep p law k a b → Continues a b
 continues (by_columns x) = column-continues x
-continues (sends_one e w) = continues-sends e w
+continues (warns_one e w) = continues-sends (warned e) w
 continues (changes c) = continues-course c
+continues (fewer h x) = continues x
 continues (afterwards x y) = continues-then (continues x) (continues y)
 
 -- a step that is not refused comes after no refusal
@@ -106,7 +107,7 @@ unrefused-before {a} {b} x h = by_refused a.refused refl
 pub column-unrefused : {p : Params} {law : RecordLaw p} {a b : Work} → ColumnStep p law a b → b.refused ≡ false → a.refused ≡ false
 column-unrefused x h = unrefused-before (column-continues x) h
 
-pub firing-unrefused : {p : Params} {law : RecordLaw p} {a b : Work} → FiringStep p law a b → b.refused ≡ false → a.refused ≡ false
+pub firing-unrefused : {p : Params} {law : RecordLaw p} {k : ℕ} {a b : Work} → FiringStep p law k a b → b.refused ≡ false → a.refused ≡ false
 firing-unrefused x h = unrefused-before (continues x) h
 
 -- ---- floats

@@ -1,15 +1,14 @@
 -- An act leaves a state that can be served.
-use Rattle.std.proofs.Common.{◌≡◌, refl, sym, subst, ◌∙◌, ap, ℕ, ◌+◌, ◌≤◌, ℤ, pos, Bool, true, false, List, [], ◌∷◌, ◌++◌, arith}
+use Rattle.std.proofs.Common.{◌≡◌, refl, sym, subst, ◌∙◌, ap, ℕ, ◌+◌, ◌≤◌, pos, Bool, true, false, List, [], ◌∷◌, ◌++◌, arith}
 use Rattle.std.specs.Prelude.{All, ◌&&◌, int_le, int_lt, if◌then◌else◌}
 use Rattle.std.specs.List.{AllByRecursion}
-use Rattle.std.proofs.lemmas.Int.{ints}
 use Rattle.std.proofs.lemmas.List.Elements.{All-from_recursion, recursion_from_All}
 use Rattle.tb_break.proofs.EachLemmas.{all-join, all-front, all-back}
-use Rattle.tb_scaled.specs.Scaled.{min_ℤ}
 use Rattle.tb_node.specs.declared.Act.{Act}
 use Rattle.tb_node.specs.declared.Act.TheVariants as acts
 use Rattle.tb_node.specs.declared.Float.{Float}
 use Rattle.tb_node.specs.Fit.{IsExtent}
+use Rattle.tb_node.proofs.FitLemmas.{limited_extent}
 use Rattle.tb_node.specs.PlainNodes.{act, PlainNode}
 use Rattle.tb_param.specs.declared.Params.{Params}
 use Rattle.tb_param.specs.Release.{has_second}
@@ -76,9 +75,6 @@ went-state s t ws vs rs qs e = ap of e
 full-went : (l n : ℕ) (t : State) (ws : List Warn) (rs : List Recorded) → full l n ≡ went t ws rs → ⊥
 full-went l n t ws rs e = cc
 
-least-extent : (a b : ℤ) → IsExtent a → IsExtent b → IsExtent (min_ℤ a b)
-least-extent a b h k = let al = h.low in let ah = h.high in let bl = k.low in let bh = k.high in record { low = grind (arith, ints, al, bl); high = grind (arith, ints, ah, bh) }
-
 module _ (p : Params) (s : State) (runs : AreRunnable p) (sized : AllByRecursion IsSizedEntry s.floats.current) where
   taken-goes : (f : Float) (b : Bool) → IsExtent f.height
       → Goes p 0 s (record s { floats = if b then record s.floats { second = s.floats.second ++ f ∷ [] } else record s.floats { current = s.floats.current ++ entries.Float f ∷ [] } })
@@ -100,7 +96,7 @@ module _ (p : Params) (s : State) (runs : AreRunnable p) (sized : AllByRecursion
       by_room true e = absurd (full-went f.line (live_count s.floats) t ws rs e)
       by_room false e =
           goes-is 0 (with_taken p s (taken_float p s f)) t (went-state (with_taken p s (taken_float p s f)) t (large_warning p f) ws [] rs e)
-          (taken-goes (taken_float p s f) (has_second p && (f.wide && s.two_columns)) (least-extent f.height p.textheight h runs.output.columns.floats.textheight))
+          (taken-goes (taken_float p s f) (has_second p && (f.wide && s.two_columns)) (limited_extent p.textheight f.height runs.output.columns.floats.textheight.low h))
   acted-goes (acts.TakeMargin m) t ws rs h e = by_room (int_lt p.pool (pos (live_count s.floats + 2))) e
     where
       next : State

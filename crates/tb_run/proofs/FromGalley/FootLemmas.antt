@@ -1,7 +1,6 @@
 -- The list of a footnote.
-use Rattle.std.proofs.Common.{◌≡◌, ◌≢◌, refl, sym, subst, ◌∙◌, ap, ℕ, ◌+◌, ◌*◌, ◌<◌, ◌≤◌, ℤ, true, List, [], ◌∷◌, ◌++◌, length, map, take, get_or, None, Some, append-nil, arith}
+use Rattle.std.proofs.Common.{◌≡◌, ◌≢◌, refl, sym, subst, ◌∙◌, ap, ℕ, ◌+◌, ◌<◌, true, List, [], ◌∷◌, ◌++◌, length, map, take, get_or, None, Some, append-nil}
 use Rattle.std.specs.FinMap.{get}
-use Rattle.std.proofs.lemmas.Int.{ints}
 use Rattle.std.proofs.lemmas.List.{map-append, take_more}
 use Rattle.tb_pool.specs.Lists.{Lists, IsLive, list_at, with_list}
 use Rattle.tb_pool.proofs.CallerLemmas.{list_same, live_same, get_other, with_list-same}
@@ -14,7 +13,7 @@ use Rattle.tb_node.specs.Sums.{size_of}
 use Rattle.tb_node.specs.Shape.{Shape}
 use Rattle.tb_node.specs.SmallAmounts.{IsAmount}
 use Rattle.tb_node.specs.Fit.{IsSummable}
-use Rattle.tb_node.proofs.FitLemmas.{IsWithin, size_within}
+use Rattle.tb_node.proofs.FitLemmas.{size_within}
 use Rattle.tb_param.specs.declared.Params.{Params}
 use Rattle.tb_builder.specs.declared.Builder.{Builder}
 use Rattle.tb_builder.specs.Contents.{contents_of}
@@ -24,6 +23,7 @@ use Rattle.tb_builder.specs.Contributions.{NodesJoin, MayWait, NoPage}
 use Rattle.tb_builder.proofs.Ownership.FrameLemmas.{live_all_same, frame_owned, frame_contents, frame_sound, insertion_joins, fresh_apart, empty_may_wait}
 use Rattle.tb_builder.proofs.Ownership.OwnedLemmas.{AllSame, lacks-append}
 use Rattle.tb_builder.proofs.Ownership.NewLemmas.{fresh_lacks}
+use Rattle.tb_builder.proofs.Ranges.PageableLemmas.{size_amount}
 use Rattle.tb_galley.specs.declared.Leaf.{Leaf}
 use Rattle.tb_galley.specs.declared.LeafKind.{LeafKind}
 use Rattle.tb_galley.specs.declared.LeafKind.TheVariants as leaves
@@ -42,10 +42,7 @@ no-leaf s l live = with_list-same s s l live refl ∙ ap (with_list s l) (sym (a
 
 -- the room of a list that can be summed is an amount
 pub room-small : (ns : List Shape) → IsSummable ns → IsAmount (size_of ns)
-room-small ns can = small (length ns) (size_of ns) can.few (size_within ns can.sized)
-  where
-    small : (k : ℕ) (z : ℤ) → k ≤ 8388608 → IsWithin (2147483646 * k) z → IsAmount z
-    small k z few h = record { low = omega (arith, ints, few, h.low); high = omega (arith, ints, few, h.high) }
+room-small ns can = size_amount (length ns) (size_of ns) can.few (size_within ns can.sized)
 
 -- ---- the nodes of the list
 

@@ -23,7 +23,8 @@ use Rattle.tb_galley.specs.Valid.{is_leaf, is_item, weight_of, weight, has_known
 use Rattle.tb_output.specs.State.{foot_class}
 use Rattle.tb_run.specs.Run.{class_of, classes_of}
 use Rattle.tb_run.specs.WaitingNodes.{leaf_kind, leaf_list, IsItem, AreItems}
-use Rattle.tb_run.proofs.FromGalley.ItemAmounts.{dimen-dimension, both-extents, glue-sized, penalty-served}
+use Rattle.tb_column.proofs.RangeLemmas.{dimension}
+use Rattle.tb_run.proofs.FromGalley.ItemAmounts.{both-extents, glue-sized, penalty-served}
 
 -- ---- footnotes
 
@@ -34,7 +35,7 @@ leaf-node-sized l v = by_kind l.kind v
     by_kind (leaves.Hbox name h d) v = both-extents _ h d v
     by_kind (leaves.Rule name h d) v = both-extents _ h d v
     by_kind (leaves.Skip g) v = glue-sized g v
-    by_kind (leaves.Kern w) v = dimen-dimension w v
+    by_kind (leaves.Kern w) v = dimension w v
     by_kind (leaves.Penalty q) v = (penalty-served q v).sized
 
 nodes-sized : (ls : List Leaf) → IsTrue (list_all (λ (l : Leaf). is_leaf l.kind) ls) → All IsSizedNode (leaf_list ls)
@@ -62,7 +63,8 @@ class-known p (c ∷ cs) n h = passed-by (n == 254) (c.number == n) (list_any (�
 
 -- ---- items
 
-most : (n : ℕ) → IsTrue (nat_le n 100000) → n ≤ 100000
+-- a number that passes the test of the most lines
+pub most : (n : ℕ) → IsTrue (nat_le n 100000) → n ≤ 100000
 most n h = grind (arith, nat_tests, h)
 
 module _ (g : Galley) where

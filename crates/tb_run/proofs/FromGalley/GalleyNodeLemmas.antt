@@ -1,10 +1,9 @@
 -- The nodes of a valid galley, of all its items: their amounts are in their ranges, the output routine can serve them, and they are not too many.
 use Rattle.std.proofs.Common.{refl, subst, ℕ, ◌*◌, ◌≤◌, pos, Bool, true, false, List, [], ◌∷◌, ◌++◌, arith}
 use Rattle.std.specs.Cmp.{first_so, second_so}
-use Rattle.std.specs.Prelude.{All, IsTrue, ◌&&◌, ◌||◌, ◌==◌, nat_le, if◌then◌else◌}
+use Rattle.std.specs.Prelude.{All, IsTrue, ◌&&◌, ◌||◌, ◌==◌, if◌then◌else◌}
 use Rattle.std.specs.List.{list_all, AllByRecursion}
 use Rattle.std.proofs.lemmas.Int.{ints}
-use Rattle.std.proofs.lemmas.Bool.Decides.{nat_tests}
 use Rattle.std.proofs.lemmas.List.{length-map}
 use Rattle.std.proofs.lemmas.List.Elements.{All-nil, All-head, All-tail, All-append, All-from_recursion}
 use Rattle.tb_scaled.specs.Glue.{filling_glue}
@@ -31,8 +30,9 @@ use Rattle.tb_output.specs.ActCalls.{IsSizedAct}
 use Rattle.tb_run.specs.Run.{classes_of}
 use Rattle.tb_run.specs.WaitingNodes.{IsItem, AreItems}
 use Rattle.tb_run.specs.GalleyNodes.{IsServable, IsGalleyNode, AreGalleyNodes, AreFootParams}
-use Rattle.tb_run.proofs.FromGalley.ItemAmounts.{size-extent, dimen-dimension, both-extents, glue-sized, margin-sized, penalty-served, strength-served, asked-served, leaves-sized}
-use Rattle.tb_run.proofs.FromGalley.GalleyItems.{galley-items}
+use Rattle.tb_column.proofs.RangeLemmas.{dimension}
+use Rattle.tb_run.proofs.FromGalley.ItemAmounts.{size-extent, both-extents, glue-sized, margin-sized, penalty-served, strength-served, asked-served, leaves-sized}
+use Rattle.tb_run.proofs.FromGalley.GalleyItems.{galley-items, most}
 use Rattle.tb_run.proofs.FromGalley.ItemLemmas.{expanded-is}
 
 -- ---- what every galley has
@@ -87,7 +87,7 @@ module _ (cs : List Class) where
     item-are two l (items.Hbox name h d) v i = ((both-extents _ h d v, tt, tt), tt)
     item-are two l (items.Rule name h d) v i = ((both-extents _ h d v, tt, tt), tt)
     item-are two l (items.Skip g) v i = ((glue-sized g v, tt, tt), tt)
-    item-are two l (items.Kern w) v i = ((dimen-dimension w v, tt, tt), tt)
+    item-are two l (items.Kern w) v i = ((dimension w v, tt, tt), tt)
     item-are two l (items.Penalty q) v i = let s = penalty-served q v in ((s.sized, tt, s.high), tt)
     item-are two l (items.Mark name) v i = ((tt, tt, tt), tt)
     item-are two l (items.Note name) v i = ((tt, tt, tt), tt)
@@ -152,9 +152,6 @@ module _ (p : Params) where
       omega (arith, one, more, e)
 
 -- ---- a galley
-
-most : (n : ℕ) → IsTrue (nat_le n 100000) → n ≤ 100000
-most n h = grind (arith, nat_tests, h)
 
 -- the nodes of a valid galley, as they wait before its first page
 pub galley-nodes : (g : Galley) → AreFootParams g.params → IsValid g → AreGalleyNodes (classes_of g) (expanded g)

@@ -18,7 +18,7 @@ use Rattle.tb_output.specs.State.{foot_class}
 use Rattle.tb_output.specs.Machine.{AreClassesFrom}
 use Rattle.tb_run.specs.Run.{classes_of}
 use Rattle.tb_run.specs.ServedStates.{AreRunnable, AreRunClasses}
-use Rattle.tb_run.proofs.FromGalley.ItemAmounts.{dimen-dimension}
+use Rattle.tb_column.proofs.RangeLemmas.{dimension}
 use Rattle.tb_run.proofs.FromGalley.GalleyClasses.{AreAbove, rising-above, rising-rest, class-small, with_foot, classes-fit}
 use Rattle.tb_node.proofs.FitLemmas.{dimension_small}
 
@@ -35,9 +35,9 @@ skip-sized : (g : Glue) → IsTrue (is_glue g) → IsSizedGlue g
 skip-sized g h =
     let two = first_so (is_dimen g.width && is_dimen g.stretch) (is_dimen g.shrink) h in
     record {
-      width = dimen-dimension g.width (first_so (is_dimen g.width) (is_dimen g.stretch) two);
-      stretch = dimen-dimension g.stretch (second_so (is_dimen g.width) (is_dimen g.stretch) two);
-      shrink = dimen-dimension g.shrink (second_so (is_dimen g.width && is_dimen g.stretch) (is_dimen g.shrink) h);
+      width = dimension g.width (first_so (is_dimen g.width) (is_dimen g.stretch) two);
+      stretch = dimension g.stretch (second_so (is_dimen g.width) (is_dimen g.stretch) two);
+      shrink = dimension g.shrink (second_so (is_dimen g.width && is_dimen g.stretch) (is_dimen g.shrink) h);
     }
 
 line-sized : (c : ClassLine) → IsTrue (is_class c) → IsSizedLine c

@@ -9,7 +9,7 @@ use Rattle.tb_scaled.specs.declared.Glue.{Glue}
 use Rattle.tb_node.specs.declared.Margin.{Margin}
 use Rattle.tb_node.specs.Shape.{glue}
 use Rattle.tb_node.specs.Names.{is_name}
-use Rattle.tb_node.specs.Fit.{IsDimension, IsExtent, IsPenalty, IsSized, IsSizedLeaf}
+use Rattle.tb_node.specs.Fit.{IsExtent, IsPenalty, IsSized, IsSizedLeaf}
 use Rattle.tb_param.specs.Table.{is_within, is_dimen, is_glue}
 use Rattle.tb_float.specs.Ranges.{IsSizedMargin}
 use Rattle.tb_galley.specs.declared.Leaf.{Leaf}
@@ -17,13 +17,11 @@ use Rattle.tb_galley.specs.declared.LeafKind.{LeafKind}
 use Rattle.tb_galley.specs.declared.LeafKind.TheVariants as leaves
 use Rattle.tb_galley.specs.GalleyNodes.{break_strength, plain_leaf}
 use Rattle.tb_galley.specs.Valid.{is_size, is_leaf, is_margin}
+use Rattle.tb_column.proofs.RangeLemmas.{dimension}
 use Rattle.tb_output.specs.Output.{hold_penalty}
 
 pub size-extent : (v : ℤ) → IsTrue (is_size v) → IsExtent v
 size-extent v h = record { low = grind (arith, ints, h); high = grind (arith, ints, h) }
-
-pub dimen-dimension : (v : ℤ) → IsTrue (is_dimen v) → IsDimension v
-dimen-dimension v h = record { low = grind (arith, ints, h); high = grind (arith, ints, h) }
 
 -- the height and depth after another test
 pub both-extents : (t : Bool) (h d : ℤ) → IsTrue (t && is_size h && is_size d) → IsExtent h × IsExtent d
@@ -32,9 +30,9 @@ both-extents t h d v = (size-extent h (second_so t (is_size h) (first_so (t && i
 pub glue-sized : (g : Glue) → IsTrue (is_glue g) → IsSized (glue g)
 glue-sized g v =
     let two = first_so (is_dimen g.width && is_dimen g.stretch) (is_dimen g.shrink) v in (
-      dimen-dimension g.width (first_so (is_dimen g.width) (is_dimen g.stretch) two),
-      dimen-dimension g.stretch (second_so (is_dimen g.width) (is_dimen g.stretch) two),
-      dimen-dimension g.shrink (second_so (is_dimen g.width && is_dimen g.stretch) (is_dimen g.shrink) v),
+      dimension g.width (first_so (is_dimen g.width) (is_dimen g.stretch) two),
+      dimension g.stretch (second_so (is_dimen g.width) (is_dimen g.stretch) two),
+      dimension g.shrink (second_so (is_dimen g.width && is_dimen g.stretch) (is_dimen g.shrink) v),
     )
 
 pub margin-sized : (m : Margin) → IsTrue (is_margin m) → IsSizedMargin m
@@ -82,7 +80,7 @@ leaf-sized l v = by_kind l.kind v
     by_kind (leaves.Hbox name h d) v = both-extents _ h d v
     by_kind (leaves.Rule name h d) v = both-extents _ h d v
     by_kind (leaves.Skip g) v = glue-sized g v
-    by_kind (leaves.Kern w) v = dimen-dimension w v
+    by_kind (leaves.Kern w) v = dimension w v
     by_kind (leaves.Penalty q) v = (penalty-served q v).sized
 
 pub leaves-sized : (ls : List Leaf) → IsTrue (list_all (λ (l : Leaf). is_leaf l.kind) ls) → All IsSizedLeaf (map plain_leaf ls)

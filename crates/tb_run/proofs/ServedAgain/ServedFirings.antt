@@ -156,7 +156,7 @@ module _ (cs : List Class) (left : ℕ) where
       (kept-if (n + 6) w.state.first_column (Pages.all_wide_pages p true a) (puts (made blank_box ∷ Clear.clear_again) w)
       (kept-more n (n + 6) (Pages.all_wide_pages p true a) (omega arith)
       (kept-follows n a (Pages.all_wide_pages p true a)
-      (kept-step n w a k refl refl refl (part-current AnyFloat (wide_part p) (wide-waits p) (w.state.floats.double ++ wide_waiting p w.state.floats) (record w.state.floats { double = [] })) (record { classes = refl; bottom = inl refl }))
+      (kept-step n w a k refl refl refl (part-current (wide_part p) (wide-waits p) (w.state.floats.double ++ wide_waiting p w.state.floats) (record w.state.floats { double = [] })) (record { classes = refl; bottom = inl refl }))
       (follows-wide_pages AnyFloat p true (length (wide_waiting p a.state.floats)) a) (all_wide-eases p true a)))
       (kept-puts n (made blank_box ∷ Clear.clear_again) w (tt, clear-back cs) k))
 

@@ -42,7 +42,7 @@ use Rattle.tb_output.proofs.StepLaws.FollowLemmas.{joined-current}
 use Rattle.tb_run.specs.ServedStates.{AreRunnable, notes_taken}
 use Rattle.tb_run.proofs.ServedAgain.BackNodes.{AreBack, AreText, back-append, text-back, interline-back, interline-few, here-back, here-few, note-back, count-take, notes-back, notes-few, emptied-sized, emptied-count}
 use Rattle.tb_run.proofs.ServedAgain.EasedWorks.{placed-eases}
-use Rattle.tb_run.proofs.ServedAgain.ServedFirings.{reach_where, Kept, AnyFloat, kept-more, kept-if, kept-with, kept-sends, kept-puts, kept-puts_few, within-more}
+use Rattle.tb_run.proofs.ServedAgain.ServedFirings.{reach_where, Kept, kept-more, kept-if, kept-with, kept-sends, kept-puts, kept-puts_few, within-more}
 
 -- ---- how far notes reach
 
@@ -119,7 +119,7 @@ module _ (cs : List Class) (left : ℕ) where
       let rest : FloatLists = record w.state.floats { current = es } in
       let c = FloatMoves.place_float p place g rest w in
       let h = placed-bare p place g rest w in
-      let now : c.state.floats.current ≡ es = joined-current AnyFloat place g rest in
+      let now : c.state.floats.current ≡ es = joined-current place g rest in
       kept-with cs left n w c k h.back h.held h.boxes (placed-eases p place g rest w)
       (subst (AllByRecursion IsSizedEntry) (sym now) ((subst (AllByRecursion IsSizedEntry) e k.entries).1))
       (let a = ap notes_taken now in let b = ap notes_taken e in omega (arith, a, b))

@@ -1,6 +1,6 @@
 -- The nodes that are held, against the limit on them.
 use Rattle.std.proofs.Common.{◌≡◌, refl, sym, subst, ap, ℕ, ◌+◌, ◌≤◌, ℤ, pos, true, false, List, [], ◌∷◌, length, map, None, Some, arith}
-use Rattle.std.specs.Prelude.{All, int_lt, min, ◌≤ℤ◌, if◌then◌else◌}
+use Rattle.std.specs.Prelude.{All, int_lt, min, if◌then◌else◌}
 use Rattle.std.specs.List.{AllByRecursion}
 use Rattle.std.proofs.lemmas.Int.{ints}
 use Rattle.std.proofs.lemmas.List.Elements.{recursion_from_All}
@@ -72,9 +72,6 @@ none-over p a b less e = sym (ap (λ t. if t then Some (endings.NodeLimit a) els
 -- a number that is over it
 pub some-over : (p : Params) (a b : ℕ) → b ≡ a → int_lt p.maxnodes (pos b) ≡ true → Some (endings.NodeLimit b) ≡ over_limit p a
 some-over p a b same e = subst (λ n. Some (endings.NodeLimit b) ≡ over_limit p n) same (sym (ap (λ t. if t then Some (endings.NodeLimit b) else None) e))
-
-pub at-most : (z : ℤ) (n : ℕ) → int_lt z (pos n) ≡ false → pos n ≤ℤ z
-at-most z n e = grind (arith, ints, e)
 
 -- the nodes that are counted are those that are held
 pub counted-all : (r : Routine) → IsConsistent r → IsBounded 8388608 r → (nodes held : ℕ) → nodes ≡ contents_count (held_in r) → held ≡ length (list_at r.store r.machine.held_page) → nodes + held ≡ held_count (state_of r)

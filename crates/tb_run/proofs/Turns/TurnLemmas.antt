@@ -1,5 +1,5 @@
 -- A turn of the routine is a step of the run.
-use Rattle.std.proofs.Common.{◌≡◌, refl, sym, subst, ◌∙◌, ap, ℕ, zero, suc, ◌+◌, ◌-◌, ◌≤◌, ℤ, pos, ◌≤ℤ◌, Bool, true, false, List, [], ◌∷◌, ◌++◌, map, Option, Some, None, append-nil, arith}
+use Rattle.std.proofs.Common.{◌≡◌, refl, sym, subst, ◌∙◌, ap, ℕ, ◌+◌, ◌-◌, ◌≤◌, ℤ, pos, ◌≤ℤ◌, Bool, true, false, List, [], ◌∷◌, ◌++◌, map, Option, Some, None, append-nil, sub-one, arith}
 use Rattle.std.specs.Prelude.{int_lt, pred, IfNone, ◌<ℤ◌, if◌then◌else◌}
 use Rattle.std.proofs.lemmas.Int.{ints}
 use Rattle.std.proofs.lemmas.Bool.{true≢false}
@@ -75,14 +75,11 @@ below-test n z h = grind (arith, ints, h)
 not-below : (n : ℕ) (z : ℤ) → z ≤ℤ pos n → int_lt (pos n) z ≡ false
 not-below n z h = grind (arith, ints, h)
 
-pred-minus : (n : ℕ) → n - 1 ≡ pred n
-pred-minus zero = refl
-pred-minus (suc n) = omega arith
-
 pub pred-is : (a b : ℕ) → a + 1 ≡ b → pred b ≡ a
-pred-is a b e = sym (pred-minus b) ∙ omega (arith, e)
+pred-is a b e = sym (sub-one b) ∙ omega (arith, e)
 
-within-limit : (k : ℕ) (m : ℤ) → pos k ≤ℤ m → m ≤ℤ pos 4194304 → k ≤ 4194304
+-- a number within a limit is at most the greatest one
+pub within-limit : (k : ℕ) (m : ℤ) → pos k ≤ℤ m → m ≤ℤ pos 4194304 → k ≤ 4194304
 within-limit k m a b = omega (arith, ints, a, b)
 
 -- the step has these events and what the machine sent, and ends as the routine that it left

@@ -73,18 +73,20 @@ closed-shown m store new closed is others free = stands-shown m store new is (st
 
 -- ---- what goes back before what waits
 
-module _ (r : Routine) (t u : Lists Node) (d : Builder) (l : ℕ) (whole : IsConsistent r) (back : CanGoBack l r.machine r.builder r.store) (sound : IsSound d t)
-    (others : (q : ℕ) → q ≢ l → Lacks q (owned (ids_of r.builder) r.store) → get t.lists q ≡ get r.store.lists q) (keeps : (q : ℕ) → Lacks q (owned (ids_of r.builder) r.store ++ inner_ids (list_at r.store l)) → Lacks q (owned (ids_of d) t))
-    (closed : u.lists ≡ remove t.lists l) where
-  closed-other : (q : ℕ) → q ≢ l → get u.lists q ≡ get t.lists q
+-- every other list is as it was
+module _ (t u : Lists Node) (l : ℕ) (closed : u.lists ≡ remove t.lists l) where
+  pub closed-other : (q : ℕ) → q ≢ l → get u.lists q ≡ get t.lists q
   closed-other q ne = ap (λ m. get m q) closed ∙ get-remove_other t.lists l q ne
 
-  all-other : (xs : List ℕ) → Lacks l xs → AllSame t u xs
+  pub all-other : (xs : List ℕ) → Lacks l xs → AllSame t u xs
   all-other [] h = tt
   all-other (x ∷ xs) h = (closed-other x (λ e. h.0 (sym e)), all-other xs h.1)
 
+module _ (r : Routine) (t u : Lists Node) (d : Builder) (l : ℕ) (whole : IsConsistent r) (back : CanGoBack l r.machine r.builder r.store) (sound : IsSound d t)
+    (others : (q : ℕ) → q ≢ l → Lacks q (owned (ids_of r.builder) r.store) → get t.lists q ≡ get r.store.lists q) (keeps : (q : ℕ) → Lacks q (owned (ids_of r.builder) r.store ++ inner_ids (list_at r.store l)) → Lacks q (owned (ids_of d) t))
+    (closed : u.lists ≡ remove t.lists l) where
   same-kept : AllSame t u (owned (ids_of d) t)
-  same-kept = all-other (owned (ids_of d) t) (keeps l back.joins.apart)
+  same-kept = all-other t u l closed (owned (ids_of d) t) (keeps l back.joins.apart)
 
   abbrev after : Routine
   after = record { store = u; builder = d; machine = r.machine; most = r.most }
@@ -101,7 +103,7 @@ module _ (r : Routine) (t u : Lists Node) (d : Builder) (l : ℕ) (whole : IsCon
       let rest = lists-stand ls h.1 k.1 in
       let ne : q ≢ l = (λ e. h.0.0 (sym e)) in
       let lacks = none-lacks q (builder_lists r.builder r.store) k.0 in (
-        (closed-other q ne ∙ others q ne lacks, rest.0),
+        (closed-other t u l closed q ne ∙ others q ne lacks, rest.0),
         (
           lacks-none q (builder_lists d u)
               (subst (Lacks q) (sym (frame_owned d t u sound same-kept)) (keeps q (lacks-append q (owned (ids_of r.builder) r.store) (inner_ids (list_at r.store l)) lacks (none-lacks q (inner_ids (list_at r.store l)) h.0.1)))),

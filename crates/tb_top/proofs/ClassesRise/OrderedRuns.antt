@@ -41,6 +41,7 @@ use Rattle.tb_laws.proofs.ClassesRise.ClassOrder.{with-second, IsInText, AreInTe
 use Rattle.tb_laws.proofs.ClassesRise.TakenOrder.{first-of}
 use Rattle.tb_laws.proofs.ClassesRise.FiringOrder.{AreLight}
 use Rattle.tb_laws.proofs.Closed.ClosingStates.{Closing}
+use Rattle.tb_laws.proofs.DeadCycles.CycleBreaks.{true-false}
 use Rattle.tb_top.proofs.NothingLost.ClosingRuns.{progressed, acts-after, fired_closes, StepCloses, step-closes}
 use Rattle.tb_node.specs.declared.Float.{Float}
 use Rattle.tb_laws.proofs.ClassesRise.OutOrder.{IsOnSide, Suits, InOrder, FiresInOrder, out-order}
@@ -141,10 +142,6 @@ module _ (k : FloatKind) (Known : ℕ → Type 0) (text before : List ℕ) where
       either n (inl late) = inl late
       either n (inr fresh) = inr (fresh.0, without n fresh.1)
 
-no-bool : {X : Type 0} (t : Bool) → t ≡ true → t ≡ false → X
-no-bool true a b = cc
-no-bool false a b = cc
-
 -- a float of the kind goes to the list of its side
 stays-first : (r w : Bool) (d : Side) → r ≡ is_new d → (r && w) ≡ false → IsOnSide d w → d ≡ wider → ⊥
 stays-first r w alike e n o q = cc
@@ -220,7 +217,7 @@ module _ (k : FloatKind) (Known : ℕ → Type 0) (p : Params) (r : IsReleased k
     past_current wider q x = ap (λ y. y ++ line_if (is_of k f.class f.line) f.line) x.0 ∙ sym (append-nil (line_if (is_of k f.class f.line) f.line)) ∙ ap (λ y. line_if (is_of k f.class f.line) f.line ++ y) (sym x.0)
 
     parted_now : (d : Side) → k.side ≡ d → has_second p ≡ is_new d → PartedBy d k l → PartedBy d k (record l { second = l.second ++ g ∷ [] })
-    parted_now alike q e x = no-bool (has_second p) new e
+    parted_now alike q e x = true-false (has_second p) new e
     parted_now narrow q e x = (x.0, second_lines ∙ (λ i. x.1 i ++ none-this (λ z. differ (sym q ∙ z)) i))
       where
         differ : narrow ≡ wider → ⊥

@@ -1,5 +1,5 @@
 -- What is known of the page that fires if the top skip is higher than a page: before a clear it breaks at its top glue, if a mark, note or whatsit comes first.
-use Rattle.std.proofs.Common.{◌≡◌, refl, sym, ◌∙◌, ap, subst, ℕ, zero, suc, ℤ, pos, ◌+◌, ◌≤◌, Bool, true, false, List, [], ◌∷◌, ◌++◌, take, drop, length, arith}
+use Rattle.std.proofs.Common.{◌≡◌, refl, sym, ◌∙◌, ap, subst, ℕ, zero, suc, ℤ, pos, ◌+◌, ◌≤◌, Bool, true, false, List, [], ◌∷◌, ◌++◌, take, drop, length, length-append, arith}
 use Rattle.std.specs.Prelude.{◌≤ℤ◌, ◌<ℤ◌}
 use Rattle.std.proofs.lemmas.Int.{ints}
 use Rattle.std.proofs.lemmas.List.{append_assoc}
@@ -85,10 +85,6 @@ take-most zero xs = omega arith
 take-most (suc i) [] = omega arith
 take-most (suc i) (x ∷ xs) = let h : length (take i xs) ≤ i = take-most i xs in omega arith
 
-long : {X : Type 0} (xs ys : List X) → length (xs ++ ys) ≡ length xs + length ys
-long [] ys = omega arith
-long (x ∷ xs) ys = let h : length (xs ++ ys) ≡ length xs + length ys = long xs ys in omega arith
-
 -- ---- the page
 
 module _ (p : Params) (s : State) (kept : Kept s) (ended : Ended false s.waiting) where
@@ -161,7 +157,7 @@ module _ (p : Params) (s : State) (kept : Kept s) (ended : Ended false s.waiting
     place = high-breaks s.goal (ask_of p s).max_depth p.topskip Output.clear_penalty _ (limit-deep p s kept ended deep) refl (subst (λ (x : ℤ). pos 0 ≤ℤ x) (sym goal) base) (subst (λ (x : ℤ). x <ℤ p.topskip) (sym goal) high) s.waiting top.lasting top.line one.line what.Blank at.line at.tail top.all has-first shaped
 
     longer : length before ≡ length top.lasting + 2
-    longer = ap length (body ∙ ap (λ ns. ns ++ flat_box one.line what.Blank ∷ []) top.whole ∙ append_assoc top.lasting (record { line = top.line; kind = plain (skip (top_glue p.topskip (pos 0))) } ∷ []) (flat_box one.line what.Blank ∷ [])) ∙ long top.lasting (record { line = top.line; kind = plain (skip (top_glue p.topskip (pos 0))) } ∷ flat_box one.line what.Blank ∷ [])
+    longer = ap length (body ∙ ap (λ ns. ns ++ flat_box one.line what.Blank ∷ []) top.whole ∙ append_assoc top.lasting (record { line = top.line; kind = plain (skip (top_glue p.topskip (pos 0))) } ∷ []) (flat_box one.line what.Blank ∷ [])) ∙ length-append top.lasting (record { line = top.line; kind = plain (skip (top_glue p.topskip (pos 0))) } ∷ flat_box one.line what.Blank ∷ [])
 
     pub no-clear : ⊥
     no-clear = sums (length before) (length top.lasting) i (take-most i r.passed) longer place

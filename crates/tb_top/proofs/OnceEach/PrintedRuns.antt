@@ -24,8 +24,8 @@ use Rattle.tb_run.specs.Run.{Run, RunEvent, offered, sent, End, done, pool_full,
 use Rattle.tb_top.specs.Laws.{EndsDone}
 use Rattle.tb_laws.proofs.DeadCycles.BoxesFirst.{HasReal}
 use Rattle.tb_column.proofs.Within.{Within, itself, within-within, both-within}
-use Rattle.tb_column.proofs.PrintedLines.{prints, sheet_prints, sent_prints, left_prints, prints-append, SheetPlain, SentPlain, LeftPlain}
-use Rattle.tb_laws.proofs.InOrder.PrintedOutput.{state_prints, pruned-prints, acts-prints, body-prints, spent-prints, OutReads, out-reads}
+use Rattle.tb_column.proofs.PrintedLines.{prints, sheet_prints, sent_prints, left_prints, prints-append, prints-acts, prints-insertions, SheetPlain, SentPlain, LeftPlain}
+use Rattle.tb_laws.proofs.InOrder.PrintedOutput.{state_prints, pruned-prints, spent-prints, OutReads, out-reads}
 use Rattle.tb_laws.proofs.Closed.ClosingStates.{Closing}
 use Rattle.tb_top.proofs.NothingLost.ClosingActs.{ActsClosed}
 use Rattle.tb_top.proofs.NothingLost.ClosingRuns.{ones, weightless-prints, weightless-left, page_cut, progressed, acts-after, changes-fit, step-closes, StepCloses}
@@ -128,12 +128,12 @@ module _ (p : Params) (calm : int_le p.interlinepenalty eject_penalty ≡ false)
       let w = page_of p s in
       let k = (page_break w).place in
       let c = page_cut p calm s kept closing in
-      (λ i. body-prints (take k w.passed) i ++ spent-prints (drop k w.passed ++ w.beyond) i)
+      (λ i. prints-insertions (take k w.passed) i ++ spent-prints (drop k w.passed ++ w.beyond) i)
       ∙ sym (prints-append (take k w.passed) (drop k w.passed ++ w.beyond))
       ∙ ap prints (sym (take-drop k w.passed w.beyond))
       ∙ ap (λ l. prints (l ++ w.beyond)) c.passed
       ∙ prints-append (without_acts c.front) w.beyond
-      ∙ ap (λ l. l ++ prints w.beyond) (acts-prints c.front)
+      ∙ ap (λ l. l ++ prints w.beyond) (prints-acts c.front)
       ∙ sym (prints-append c.front w.beyond)
       ∙ ap prints (sym c.whole)
       ∙ pruned-prints p.topskip s.waiting

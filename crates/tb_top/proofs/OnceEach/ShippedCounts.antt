@@ -27,7 +27,7 @@ use Rattle.tb_top.proofs.NothingLost.StartLemmas.{leaf_line, foot_weight, item_w
 
 -- ---- what is shipped, as a list of nodes
 
-sheet-nodes : (v : Weight) (s : PlainSheet) → sheet_weight v s ≡ nodes_weight v (sheet_nodes s)
+pub sheet-nodes : (v : Weight) (s : PlainSheet) → sheet_weight v s ≡ nodes_weight v (sheet_nodes s)
 sheet-nodes v (one c) = refl
 sheet-nodes v (wide c) = refl
 sheet-nodes v (two tops at left right) = sym (weight-append v (tops ++ left.nodes) right.nodes ∙ ap (λ n. n + nodes_weight v right.nodes) (weight-append v tops left.nodes))

@@ -10,20 +10,20 @@ use Rattle.tb_galley.specs.declared.Galley.{Galley}
 use Rattle.tb_galley.specs.Valid.{IsValid}
 use Rattle.tb_column.specs.Column.{PlainSent, warned, shipped}
 use Rattle.tb_column.proofs.Within.{Within}
-use Rattle.tb_column.proofs.PrintedLines.{prints, sent_prints, prints-append, AllPlain, SentPlain, plain-both}
+use Rattle.tb_column.proofs.PrintedLines.{prints, sent_prints, prints-append, sheet_weight, sent_weight, AllPlain, SentPlain, plain-both}
 use Rattle.tb_report.specs.RunTotals.{is_item_box, is_float_box, count_kinds, sheet_nodes}
 use Rattle.tb_plain.specs.GalleyNodes.{clearing_kinds, makeup_kinds, makeup_nodes, made_up}
 use Rattle.tb_plain.specs.Suitability.{IsSuited}
 use Rattle.tb_plain.specs.Run.{done, makeup_of}
 use Rattle.tb_plain.specs.Report.{sent_totals}
-use Rattle.tb_plain.proofs.WeightLemmas.{NoMargin, sent_weight}
+use Rattle.tb_plain.proofs.WeightLemmas.{NoMargin}
 use Rattle.tb_plain.proofs.GalleyLemmas.{ships-all}
 use Rattle.tb_plain.proofs.PlainPages.{makeup-plain}
 use Rattle.tb_top.specs.Laws.{text_line, foot_line, lines_by, galley_floats, float_lines, box_lines_of, float_lines_of, node_lines}
 use Rattle.tb_top.specs.MakeupLaws.{sent_nodes, MakesUpOnce}
 use Rattle.tb_top.proofs.NothingLost.StartLemmas.{item_weight, items_weight, item-expanded}
 use Rattle.tb_top.proofs.OnceEach.CountLemmas.{permutation-from-counts}
-use Rattle.tb_top.proofs.OnceEach.ShippedCounts.{Measure, of_boxes, of_floats, boxes-measure, floats-measure, galley-boxes, galley-has-floats, sheet-plain, sheet-lines, box-lines}
+use Rattle.tb_top.proofs.OnceEach.ShippedCounts.{Measure, of_boxes, of_floats, boxes-measure, floats-measure, galley-boxes, galley-has-floats, sheet-nodes, sheet-plain, sheet-lines, box-lines}
 use Rattle.tb_top.proofs.OnceEach.ShippedLines.{AllOut, text-out}
 use Rattle.tb_top.proofs.OnceEach.OnceLemmas.{counted, text-once, feet-once}
 use Rattle.tb_top.proofs.OnceEach.ShippedOnce.{item-prints}
@@ -98,6 +98,7 @@ sent-weighs : (v : Weight) (es : List PlainSent) → sent_weight v es ≡ nodes_
 sent-weighs v [] = refl
 sent-weighs v (warned w ∷ es) = sent-weighs v es
 sent-weighs v (shipped page sheet ∷ es) =
+    let d : sheet_weight v sheet ≡ nodes_weight v (sheet_nodes sheet) = sheet-nodes v sheet in
     let h : sent_weight v es ≡ nodes_weight v (sent_nodes es) = sent-weighs v es in
     let e : nodes_weight v (sheet_nodes sheet ++ sent_nodes es) ≡ nodes_weight v (sheet_nodes sheet) + nodes_weight v (sent_nodes es) = weight-append v (sheet_nodes sheet) (sent_nodes es) in
     omega arith

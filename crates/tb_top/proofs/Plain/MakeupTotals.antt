@@ -1,7 +1,7 @@
 -- What a run of the page makeup counts stays in the range of the counts: pages by their limit, boxes and floats by the nodes of a page.
 use Rattle.std.proofs.Common.{◌≡◌, refl, subst, ◌∙◌, ap, ℕ, zero, suc, pos, ◌+◌, ◌*◌, ◌-◌, ◌≤◌, Bool, true, false, List, [], ◌∷◌, ◌++◌, map, length, length-append, arith}
-use Rattle.std.specs.Prelude.{ℤ, pred, nat_abs, int_lt, if◌then◌else◌}
-use Rattle.std.proofs.lemmas.Int.{ints}
+use Rattle.std.specs.Prelude.{pred, nat_abs, int_lt, if◌then◌else◌}
+use Rattle.std.proofs.Math.Nat.{add_right_comm}
 use Rattle.tb_report.proofs.CountLemmas.{count_kinds-le}
 use Rattle.tb_pool.specs.Lists.{Lists}
 use Rattle.tb_node.specs.declared.Node.{Node}
@@ -22,6 +22,7 @@ use Rattle.tb_plain.specs.GalleyNodes.{made_up}
 use Rattle.tb_plain.specs.Firing.{holds_any, makeup_column}
 use Rattle.tb_plain.specs.Report.{sent_totals}
 use Rattle.tb_plain.specs.Run.{MakeupState, MakeupRun, MakeupStep, ends, goes_on, page_limit, node_limit, AtAct, no_act, at_act, first_act, meets_act, makeup_ask, makeup_classes, void_boxes, makeup_reach, act_step, waiting_after, shipping_step, firing_step, last_step, makeup_step, run_by, makeup_from, first_makeup, steps_left, makeup_of, done, ejecting_nodes}
+use Rattle.tb_plain.proofs.StepLemmas.{page-less, within}
 use Rattle.tb_top.specs.Views.{with_events}
 use Rattle.tb_top.proofs.Written.EventCounts.{among-sent}
 use Rattle.tb_top.proofs.Written.TallyLemmas.{AreFewNodes, step-few}
@@ -41,17 +42,14 @@ pub all-append : (es rest : List PlainSent) (t : Totals) → with_all (es ++ res
 all-append [] rest t = refl
 all-append (e ∷ es) rest t = all-append es rest (with_sent e t)
 
-swapped : (a b c : ℕ) → a + b + c ≡ a + c + b
-swapped a b c = omega arith
-
 sent-swap : (e f : PlainSent) (t : Totals) → with_sent e (with_sent f t) ≡ with_sent f (with_sent e t)
 sent-swap (warned v) (warned w) t = refl
 sent-swap (warned w) (shipped n x) t = refl
 sent-swap (shipped n x) (warned w) t = refl
 sent-swap (shipped n x) (shipped m y) t = λ i. record {
   pages = t.pages + 1 + 1;
-  boxes = swapped t.boxes (count_kinds is_item_box (sheet_nodes y)) (count_kinds is_item_box (sheet_nodes x)) i;
-  floats = swapped t.floats (count_kinds is_float_box (sheet_nodes y)) (count_kinds is_float_box (sheet_nodes x)) i;
+  boxes = add_right_comm t.boxes (count_kinds is_item_box (sheet_nodes y)) (count_kinds is_item_box (sheet_nodes x)) i;
+  floats = add_right_comm t.floats (count_kinds is_float_box (sheet_nodes y)) (count_kinds is_float_box (sheet_nodes x)) i;
   warnings = t.warnings;
 }
 
@@ -111,16 +109,9 @@ abbrev ShipsFew : Params → MakeupState → MakeupStep → Type 0
 ShipsFew p s (ends es e) = length es ≤ nat_abs p.maxpages - pred s.number
 ShipsFew p s (goes_on es u) = (1 ≤ u.number) × (length es + (nat_abs p.maxpages - pred u.number) ≤ nat_abs p.maxpages - pred s.number)
 
-page-less : (m n : ℕ) → 1 ≤ n → n ≤ m → 1 + (m - pred (n + 1)) ≤ m - pred n
-page-less m zero h k = let no : ⊥ = omega arith in absurd no
-page-less m (suc n) h k = omega arith
-
 page-left : (m n : ℕ) → 1 ≤ n → n ≤ m → 1 ≤ m - pred n
 page-left m zero h k = let no : ⊥ = omega arith in absurd no
 page-left m (suc n) h k = omega arith
-
-within : (m : ℤ) (n : ℕ) → int_lt m (pos n) ≡ false → n ≤ nat_abs m
-within m n h = grind (arith, ints, h)
 
 act-few : (p : Params) (s : MakeupState) (a : AtAct) → 1 ≤ s.number → ShipsFew p s (act_step p s a)
 act-few p s no_act n = omega arith
@@ -137,7 +128,7 @@ firing-few p s f n = by_pages (int_lt p.maxpages (pos s.number)) refl
 
     by_nodes : (t : Bool) → s.number ≤ nat_abs p.maxpages → ShipsFew p s (if t then ends sends (node_limit (node_count (waiting_after p f))) else goes_on sends after)
     by_nodes true k = page-left (nat_abs p.maxpages) s.number n k
-    by_nodes false k = (omega arith, page-less (nat_abs p.maxpages) s.number n k)
+    by_nodes false k = let e = page-less (nat_abs p.maxpages) s.number n k in (omega arith, omega (arith, e))
 
     by_pages : (t : Bool) → int_lt p.maxpages (pos s.number) ≡ t → ShipsFew p s (if t then ends [] (page_limit (pred s.number)) else shipping_step p s.number f)
     by_pages true e = omega arith

@@ -13,7 +13,6 @@ use Rattle.tb_galley.specs.Faults.{fault}
 use Rattle.tb_galley.specs.Grammar.{grammar}
 use Rattle.tb_galley.specs.GalleyNodes.{expanded}
 use Rattle.tb_galley.specs.CanonicalText.{printed}
-use Rattle.tb_galley.specs.Valid.{are_params}
 use Rattle.tb_break.specs.Cost.{page_badness, cost_of_badness}
 use Rattle.tb_output.specs.Output.{out}
 use Rattle.tb_run.specs.Run.{End, pool_full, dead_cycles, run_of, run_from, step}
@@ -143,10 +142,6 @@ first_float_was_carried = refl
 second_float_was_not : carried 22 (codes "galley 1\nset textheight 100\nset topskip 10\nset maxdepth 0\nset baselineskip 0\nset bottom flush\nset skipfootins 0\nset footsplittop 10\nset intextsep 0\nset textfloatsep 0\nset floatsep 0\nset fptop 0\nset fpsep 0\nset fpbot 0\nset dbltextfloatsep 0\nbox a 40 0\nglue 0 plus 60\npenalty -9999\nbox b 10 0\nfloat F 1 single h 20 par\nbox c 10 0\nfloat G 1 single b 10 par\nbox d 20 0\nend\n") ≡ false
 unfolding carried
 second_float_was_not = refl
-
-valid_defaults : are_params default_params ≡ true
-unfolding are_params default_params
-valid_defaults = refl
 
 -- the canonical text
 abbrev printed_text : List ℕ → List ℕ

@@ -26,6 +26,7 @@ use Rattle.tb_run.specs.declared.routine.Ending.TheVariants as endings
 use Rattle.tb_run.specs.Run.{Run, End, done, pool_full, dead_cycles, page_limit, node_limit, held_count, Step, ends, goes_on, step, run_of, firings_left, classes_of}
 use Rattle.tb_run.specs.Happenings.{events_of, step_events}
 use Rattle.tb_run.specs.Routine.{held_in, state_of, IsFaultEnd, IsEnd, EndsAs, over_limit, ArePages, IsReady, IsBounded}
+use Rattle.tb_run.proofs.Turns.TurnLemmas.{within-limit}
 use Rattle.tb_top.specs.declared.View.{View}
 use Rattle.tb_top.specs.declared.View.TheVariants as views
 use Rattle.tb_top.specs.declared.PageFault.{PageFault}
@@ -191,13 +192,10 @@ few-wait r ready =
     let c = ready.settled.bounded.few in
     omega (arith, a, b, c)
 
-few-within : (n : ℕ) (most : ℤ) → pos n ≤ℤ most → most ≤ℤ pos 4194304 → n ≤ 4194304
-few-within n most h k = grind (arith, ints, h, k)
-
 -- if no limit is passed, the routine is ready still
 pub limit-ready : (r q : Routine) (o : Option Ending) → IsReady r → q ≡ record r { most = q.most } → IsBounded 8388608 q → IfNone o (pos q.most ≤ℤ r.machine.params.maxnodes) → o ≡ None → IsReady q
 limit-ready r q o ready same bounded within none =
-    subst IsReady (sym same) (again (subst (IsBounded 4194304) same (record { held = bounded.held; few = few-within q.most r.machine.params.maxnodes (MatchOption-at_none _ _ none within) ready.settled.params.maxnodes.high })))
+    subst IsReady (sym same) (again (subst (IsBounded 4194304) same (record { held = bounded.held; few = within-limit q.most r.machine.params.maxnodes (MatchOption-at_none _ _ none within) ready.settled.params.maxnodes.high })))
   where
     again : IsBounded 4194304 (record r { most = q.most }) → IsReady (record r { most = q.most })
     again k =

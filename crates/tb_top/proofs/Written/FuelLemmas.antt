@@ -1,6 +1,6 @@
 -- Each firing that goes on lowers what is left of the firings, so the fuel of a run is never used up.
 use Rattle.std.proofs.Common.{◌≡◌, refl, ◌∙◌, ap, ℕ, zero, suc, pos, ◌+◌, ◌*◌, ◌-◌, ◌<◌, ◌≤◌, inl, inr, ◌⊎◌, Bool, true, false, List, [], ◌∷◌, ◌++◌, map, Option, Some, None, arith}
-use Rattle.std.specs.Prelude.{ℤ, pred, nat_abs, int_lt, int_le, if◌then◌else◌, ◌≤ℤ◌}
+use Rattle.std.specs.Prelude.{ℤ, pred, nat_abs, int_lt, int_le, if◌then◌else◌}
 use Rattle.std.proofs.lemmas.Int.{ints}
 use Rattle.std.proofs.lemmas.Nat.{mul-le}
 use Rattle.tb_scaled.specs.Scaled.{awful_bad, min_ℤ}
@@ -15,6 +15,7 @@ use Rattle.tb_output.specs.State.{State, Recorded, emptied, ask_of, begun, Work}
 use Rattle.tb_output.specs.Act.{Acted, went, full, act_on}
 use Rattle.tb_output.specs.Output.{out, after_page}
 use Rattle.tb_laws.proofs.StepLaws.TurnLemmas.{Turned, out-turned}
+use Rattle.tb_plain.proofs.FireLemmas.{not-below}
 use Rattle.tb_top.specs.Firings.{HasReason}
 use Rattle.tb_run.specs.Run.{Run, RunEvent, done, dead_cycles, page_limit, node_limit, sent, Progress, progress_by, progress, Step, ends, goes_on, held_count, after_firing, fire, after_progress, step, run_by, run_after, run_from, firings_left}
 
@@ -142,9 +143,6 @@ same-run p (suc k) (suc m) s h a b =
 abbrev pub StepHasReason : Params → Step → Type 0
 StepHasReason p (ends es rs e) = HasReason p e
 StepHasReason p (goes_on es rs s) = Unit {0}
-
-not-below : (a : ℤ) (d : ℤ) → int_lt a d ≡ false → d ≤ℤ a
-not-below a d h = grind (arith, ints, h)
 
 after-reason : (p : Params) (es : List RunEvent) (rs : List Recorded) (w : Work) → StepHasReason p (after_firing p es rs w)
 after-reason p es rs w = by_refused w.refused (int_lt p.maxnodes (pos (held_count w.state)))

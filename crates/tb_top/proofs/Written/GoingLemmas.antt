@@ -1,5 +1,5 @@
 -- A run that goes on: what was written, what was shipped, and what is left.
-use Rattle.std.proofs.Common.{◌≡◌, refl, sym, subst, ◌∙◌, ap, ℕ, zero, suc, ◌+◌, ◌<◌, ◌≤◌, pos, Bool, true, false, List, [], ◌∷◌, ◌++◌, codes, Option, Some, append_assoc, append-nil, arith}
+use Rattle.std.proofs.Common.{◌≡◌, refl, sym, subst, ◌∙◌, ap, ℕ, zero, suc, ◌+◌, ◌<◌, ◌≤◌, pos, Bool, true, false, List, [], ◌∷◌, ◌++◌, codes, Option, Some, append_assoc, append-nil, add-zero, zero-add, arith}
 use Rattle.std.specs.Prelude.{int_lt, if◌then◌else◌, Result, Err, IsErrAnd}
 use Rattle.std.specs.Io.KnownBytes.{Appends}
 use Rattle.tb_io.specs.declared.sink.SinkFault.{SinkFault}
@@ -34,16 +34,10 @@ abbrev pub joined : Totals → Totals → Totals
 joined t u = record { pages = t.pages + u.pages; boxes = t.boxes + u.boxes; floats = t.floats + u.floats; warnings = t.warnings + u.warnings }
 
 joined-nothing : (t : Totals) → joined t no_totals ≡ t
-joined-nothing t = λ i. record { pages = same t.pages i; boxes = same t.boxes i; floats = same t.floats i; warnings = same t.warnings i }
-  where
-    same : (n : ℕ) → n + 0 ≡ n
-    same n = omega arith
+joined-nothing t = λ i. record { pages = add-zero t.pages i; boxes = add-zero t.boxes i; floats = add-zero t.floats i; warnings = add-zero t.warnings i }
 
 nothing-joined : (t : Totals) → joined no_totals t ≡ t
-nothing-joined t = λ i. record { pages = same t.pages i; boxes = same t.boxes i; floats = same t.floats i; warnings = same t.warnings i }
-  where
-    same : (n : ℕ) → 0 + n ≡ n
-    same n = omega arith
+nothing-joined t = λ i. record { pages = zero-add t.pages i; boxes = zero-add t.boxes i; floats = zero-add t.floats i; warnings = zero-add t.warnings i }
 
 past : (a b c : ℕ) → a + (b + c) ≡ (a + c) + b
 past a b c = omega arith

@@ -1,8 +1,8 @@
-use Rattle.std.proofs.Common.{◌≡◌, ℕ, ℤ, Bool, List, sym, ap, ◌∙◌, Some, FitsSigned, w64, to_z, of_z, rules}
-use Rattle.std.proofs.lemmas.Int.{to_z-of_z, ints}
+use Rattle.std.proofs.Common.{◌≡◌, ℕ, Bool, List, sym, ap, ◌∙◌, Some, w64, to_z, of_z}
+use Rattle.std.proofs.lemmas.Int.{to_z-of_z}
+use Rattle.tb_scaled.proofs.AmountLemmas.{amount_fits}
 use Rattle.tb_pool.specs.Lists.{Lists}
 use Rattle.tb_node.specs.declared.Node.{Node}
-use Rattle.tb_node.specs.SmallAmounts.{IsAmount}
 use Rattle.tb_float.specs.declared.Entry.{Entry}
 use Rattle.tb_column.specs.Column.{PlainSent}
 use Rattle.tb_output.specs.declared.texts.TextSize.{TextSize}
@@ -16,10 +16,6 @@ use Rattle.tb_output.proofs.FiringWork.WorkingLemmas.{does-same}
 use Rattle.tb_output.proofs.InText.CurrentFirst.{float-first, note-first, none-first, right-first}
 use Rattle.tb_output.proofs.Machine.place_first.Goals.{In-Some-Float, In-Some-Left, In-Some-Right, In-None}
 use Rattle.tb_output.proofs.Machine.place_first.Goals as goal
-
--- an amount fits a word
-amount_fits : (z : ℤ) → IsAmount z → FitsSigned w64 z
-amount_fits z small = search (rules, ints)
 
 -- of a work that the machine shows, this step places what comes first
 abbrev PlacesFirst : ℕ → MachineView → Lists Node → Bool → TextSize → (Work → Work) → Type 0

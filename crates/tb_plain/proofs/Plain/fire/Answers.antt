@@ -1,7 +1,7 @@
-use Rattle.std.proofs.Common.{sym, ◌∙◌, rules, FitsSigned, w64}
+use Rattle.std.proofs.Common.{pos, sym, ◌∙◌, rules, FitsSigned, w64}
 use Rattle.std.proofs.lemmas.Int.{to_z-of_z}
 use Rattle.tb_pool.proofs.CallerLemmas.{list_same, live_same}
-use Rattle.tb_plain.proofs.FireLemmas.{open-can, open-free, has-fired, is-within}
+use Rattle.tb_plain.proofs.FireLemmas.{open-can, open-free, has-fired, not-below}
 use Rattle.tb_plain.proofs.Plain.fire.Goals as goal
 
 pub make_column-column-requires-clause-page : goal.make_column-column-requires-clause-page
@@ -23,4 +23,4 @@ returns-clause-fires c =
     has-fired c.args.b.now c.args.store.now c.open_list.new.store c.args.page c.in_ok-list.list c.requires.page c.in_ok-list.ensures.fresh c.in_ok-list.ensures.opened
     c.args.self.now c.ship.new.self c.make_column-column.new.b c.make_column-column.new.store c.fill_back.new.store c.make_column-column.result c.ship.result
     c.make_column-column.ensures.grows c.make_column-column.ensures.column c.make_column-column.ensures.sized c.make_column-column.ensures.list c.make_column-column.ensures.emptied
-    c.fill_back.ensures (is-within c.args.self.now.params.maxpages c.args.self.now.page (sym exceeds ∙ c.if-exceeds.false)) c.ship.ensures.page c.ship.ensures.next
+    c.fill_back.ensures (not-below c.args.self.now.params.maxpages (pos c.args.self.now.page) (sym exceeds ∙ c.if-exceeds.false)) c.ship.ensures.page c.ship.ensures.next

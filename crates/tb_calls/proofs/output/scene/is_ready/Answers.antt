@@ -1,6 +1,7 @@
 use Rattle.std.proofs.Common.{refl, FitsSigned, w64}
 use Rattle.std.proofs.lemmas.Int.{to_z-of_z}
-use Rattle.tb_calls.proofs.SceneLemmas.{not-below, few-held}
+use Rattle.tb_plain.proofs.FireLemmas.{not-below}
+use Rattle.tb_calls.proofs.SceneLemmas.{few-held}
 use Rattle.tb_calls.proofs.output.scene.is_ready.Goals as goal
 
 pub returns : goal.returns
