@@ -7,8 +7,9 @@ use std::alloc::AllocError;
 use tb_galley::{Fault, put_fault};
 use tb_text::put_number;
 
-// Some words, and a number after them.
-fn put_counted(out: &mut Vec<u8>, words: &[u8], number: u64) -> Result<(), AllocError>
+/// Appends some words, and a number after them. `Err` comes only if memory runs out; a part of the text may be in `out`
+/// then.
+pub fn put_counted(out: &mut Vec<u8>, words: &[u8], number: u64) -> Result<(), AllocError>
     ensures { OnOk result (out.new.items ≡ out.old.items ++ (words.now ++ decimal number)) }
 {
     out.extend_from_slice(words)?;

@@ -4,7 +4,7 @@ ghost use Rattle.std.specs.Prelude.{◌≡◌, ◌≤◌, ℕ, ◌∷◌, [], On
 ghost use Rattle.tb_node.specs.PlainNodes.{whatsit, plain, act, on_line};
 ghost use Rattle.tb_builder.specs.Contents.{contents_of};
 ghost use Rattle.tb_run.specs.WaitingNodes.{CanTake, Waits, IsItem, AreItems};
-ghost use Rattle.tb_plain.specs.GalleyNodes.{clearing_glue, clearing_kinds, makeup_kinds, makeup_nodes, made_up};
+ghost use Rattle.tb_plain.specs.GalleyNodes.{clearing_kinds, makeup_kinds, makeup_nodes, made_up};
 ghost use Rattle.tb_param.specs.declared.Params.{Params};
 ghost use Rattle.tb_plain.specs.Run.{act_count};
 
@@ -13,12 +13,9 @@ use tb_builder::Builder;
 use tb_galley::{Galley, Item, ItemKind};
 use tb_node::{Act, Float, Kind, Node};
 use tb_param::Params;
+use tb_plain::{CLEARING_PENALTY, clearing_glue};
 use tb_pool::Lists;
 use tb_run::{put, put_item};
-use tb_scaled::{Glue, Order};
-
-// The penalty of a clear: a page that breaks there asks for the insertions that are held.
-const CLEARING_PENALTY: i64 = -20_000;
 
 /// Hands over the nodes of a galley: those of its items in order, and those of a clear with the line of its end. The page
 /// is empty, and the builder has the class of each footnote.
@@ -116,17 +113,5 @@ fn acts_of(kind: &ItemKind) -> u64
         ItemKind::TwoColumn => 1,
         ItemKind::Suppress(_) => 1,
         _ => 0,
-    }
-}
-
-// Glue that fills what is left of a page, also beside glue whose stretch is fil.
-pub(crate) fn clearing_glue() -> Glue
-    ensures { result ≡ clearing_glue }
-{
-    Glue {
-        width: 0,
-        stretch: 65_536,
-        order: Order::Fill,
-        shrink: 0,
     }
 }

@@ -18,7 +18,7 @@ ghost use Rattle.tb_plain.specs.Run.{makeup_ask, makeup_classes, first_makeup, w
 ghost use Rattle.tb_makeup.specs.Makeup.{held_in, state_of, over_limit, node_total, AreRunParams, AreRunNodes, IsBounded, IsReady, IsTurned, AreHappened};
 ghost use Rattle.tb_makeup.specs.MakeupPages.{Fills, IsBoundedPage, Ships, Contributes, Ejects, Finishes};
 
-use crate::galley_nodes::{act_count, clearing_glue, expand};
+use crate::galley_nodes::{act_count, expand};
 use std::alloc::{AllocError, Global};
 use tb_builder::{Ask, Builder, Event, Page, new_builder};
 use tb_column::{Sent, Sheet};
@@ -26,7 +26,7 @@ use tb_galley::Galley;
 use tb_insert::Class;
 use tb_node::{FOOTNOTES, Kind, Node, What};
 use tb_param::{Params, exceeds};
-use tb_plain::{Plain, PlainFault, PlainPage, TOP_FLOATS, new_plain};
+use tb_plain::{Plain, PlainFault, PlainPage, TOP_FLOATS, clearing_glue, new_plain};
 use tb_pool::{ListId, Lists};
 use tb_run::{Happening, close_happened, note_sent};
 use tb_scaled::{MAX_DIMEN, fixed};

@@ -1,14 +1,14 @@
 //! What is put at the end of the list that goes back.
 
-ghost use Rattle.std.specs.Prelude.{◌≡◌, ◌≤◌, ◌<◌, ◌+◌, [], ◌∷◌, ◌++◌, take, length, if◌then◌else◌, OnOk, OnErr};
+ghost use Rattle.std.specs.Prelude.{◌≡◌, ◌≤◌, ◌+◌, ◌++◌, take, length, if◌then◌else◌, OnOk, OnErr};
 ghost use Rattle.std.specs.FinMap.{remove};
 ghost use Rattle.tb_pool.specs.Lists.{IsLive, list_at, with_list};
 ghost use Rattle.tb_node.specs.Fit.{IsSizedNode};
 ghost use Rattle.std.specs.Prelude.{All};
-ghost use Rattle.tb_column.specs.FloatColumns.{made_node};
 ghost use Rattle.tb_output.specs.BackList.{clear_list, blank_clear_list, blank_list, interline_list, last_glue, glue_of_kind};
 
 use std::alloc::AllocError;
+use tb_column::push_made;
 use tb_node::{CLEAR_PENALTY, Kind, Node, What};
 use tb_pool::{ListId, Lists};
 use tb_scaled::{EJECT_PENALTY, Glue, filling_glue, negate};
@@ -38,17 +38,6 @@ pub(crate) fn drop_list(store: &mut Lists<Node>, l: ListId)
 {
     store.clear(l);
     store.close(l);
-}
-
-/// Puts a node that comes from no galley item at the end of a list.
-pub(crate) fn push_made(store: &mut Lists<Node>, l: ListId, kind: Kind)
-    requires live { IsLive store.old l }
-    requires room { 0 < store.old.spare }
-    ensures lists { store.new.lists ≡ with_list store.old l (list_at store.old l ++ made_node kind ∷ []) }
-    ensures live { IsLive store.new l }
-    ensures spare { store.new.spare + 1 ≡ store.old.spare }
-{
-    store.push_back(l, Node { line: 0, kind });
 }
 
 /// Puts the nodes of a further clear at the end of a list: the end of the page, and on the next one a blank box and the

@@ -15,12 +15,12 @@ ghost use Rattle.tb_output.specs.MachineFrame.{AreTextLists, AreNoneOf, HasFloat
 ghost use Rattle.tb_output.specs.BackList.{clear_list};
 ghost use Rattle.tb_output.specs.FiringParts.{clear_noted};
 
-use crate::back_list::{push_blank_clear, push_clear, push_made, shorten};
+use crate::back_list::{push_blank_clear, push_clear, shorten};
 use crate::pages::wide_part;
 use crate::{Machine, RunFault};
 use std::alloc::AllocError;
 use tb_break::find;
-use tb_column::NoteBox;
+use tb_column::{NoteBox, push_made};
 use tb_float::Part;
 use tb_node::{Kind, Node};
 use tb_pool::{ListId, Lists};

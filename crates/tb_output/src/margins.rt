@@ -15,12 +15,11 @@ ghost use Rattle.tb_output.specs.Firing.{IsReach};
 ghost use Rattle.tb_output.specs.PageChanges.{with_warning};
 ghost use Rattle.tb_output.specs.FiringParts.{note_placed, without_note};
 
-use crate::back_list::push_made;
 use crate::state::pool_size;
 use crate::texts::TextSize;
 use crate::{Machine, RunFault};
 use std::alloc::AllocError;
-use tb_column::Warn;
+use tb_column::{Warn, push_made};
 use tb_float::{Entry, Part};
 use tb_margin::{Placed, place_note};
 use tb_node::{Kind, Margin, Name, Node, Side, What, Where};

@@ -19,12 +19,12 @@ ghost use Rattle.tb_output.specs.Firing.{IsReach};
 ghost use Rattle.tb_output.specs.FloatMoves.{joined_to};
 ghost use Rattle.tb_output.specs.FiringParts.{IsColumnPart, IsAreaPart, HasDeferred, place_of, without_first, first_placed, float_placed, float_decided};
 
-use crate::back_list::{push_interline, push_made};
+use crate::back_list::push_interline;
 use crate::texts::TextSize;
 use crate::{Machine, RunFault};
 use std::alloc::AllocError;
 use tb_area::add_current;
-use tb_column::Warn;
+use tb_column::{Warn, push_made};
 use tb_float::{Entry, Part};
 use tb_node::{Float, Kind, Node, Places, What, Where};
 use tb_param::Params;

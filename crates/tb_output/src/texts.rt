@@ -21,11 +21,11 @@ ghost use Rattle.tb_output.specs.Firing.{IsReach};
 ghost use Rattle.tb_output.specs.Notes.{AreKnownNotes};
 ghost use Rattle.tb_output.specs.FiringParts.{IsTextSize, HasTextBack};
 
-use crate::back_list::{push_made, shorten};
+use crate::back_list::shorten;
 use crate::extents::text_extent;
 use crate::{Machine, RunFault};
 use std::alloc::AllocError;
-use tb_column::NoteBox;
+use tb_column::{NoteBox, push_made};
 use tb_node::{Insertion, Kind, Node, list_extent};
 use tb_param::Params;
 use tb_pool::{ListId, Lists};

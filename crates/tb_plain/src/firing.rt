@@ -28,8 +28,8 @@ use tb_param::{Params, exceeds};
 use tb_pool::{ListId, Lists};
 use tb_scaled::{Glue, INF_PENALTY, Order, filling_glue};
 
-// The penalty of a clear (plain.tex, \supereject).
-const CLEARING_PENALTY: i64 = -20_000;
+/// The penalty of a clear: a page that breaks there asks for the insertions that are held (plain.tex, \supereject).
+pub const CLEARING_PENALTY: i64 = -20_000;
 
 impl Plain {
     /// A page fires, which awaits its `put_back`: it ships as one column, with the top floats above its text and the
@@ -264,8 +264,8 @@ fn kern_back(room: i64) -> Kind
     Kind::Kern(-room)
 }
 
-// Glue that fills what is left of a page, also beside glue whose stretch is fil.
-fn clearing_glue() -> Glue
+/// The glue of a clear. It fills what is left of a page, also beside glue whose stretch is fil.
+pub fn clearing_glue() -> Glue
     ensures { result ≡ clearing_glue }
 {
     Glue {

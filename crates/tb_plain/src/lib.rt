@@ -8,6 +8,7 @@ ghost use Rattle.std.specs.Prelude.{◌≡◌};
 ghost use Rattle.tb_plain.specs.RunSteps.{StepsAgree, EndsHaveReasons};
 ghost use Rattle.tb_plain.specs.MakeupCalls.{AreMakeupParams, IsPlain};
 
+pub use firing::{CLEARING_PENALTY, clearing_glue};
 use std::alloc::AllocError;
 use tb_column::Column;
 use tb_param::Params;

@@ -1,5 +1,5 @@
 //! Why a run was refused, until its line is written.
-ghost use Rattle.std.specs.Prelude.{◌≡◌, ◌++◌, decimal, IfOk, OnOk};
+ghost use Rattle.std.specs.Prelude.{◌≡◌, ◌++◌, IfOk, OnOk};
 ghost use Rattle.tb_plain.specs.Report.{unsuited_text};
 ghost use Rattle.tb_top.specs.Answer.{answer_for_cause, bare_text, pool_full_text};
 ghost use Rattle.tb_top.specs.Refusal.{refusal_status, page_status, lines_status, input_status, words_status, output_status, refusal_text, page_text, refusal_line, dvi_fault, makeup_refusal};
@@ -13,8 +13,7 @@ use crate::{PageFault, Status};
 use std::alloc::{AllocError, Global};
 use tb_galley::{Cause, GalleyFault, is_range_cause, put_fault};
 use tb_io::SinkFault;
-use tb_lines::{LinesRefusal, put_refusal};
-use tb_text::put_number;
+use tb_lines::{LinesRefusal, put_counted, put_refusal};
 use tb_words::WordsFault;
 
 /// Why a run was refused, with what its line on `err` shows.
@@ -243,14 +242,6 @@ fn page_status(fault: PageFault) -> Status
         PageFault::WriteFault => Status::WriteFault,
         PageFault::Memory => Status::Memory,
     }
-}
-
-// Some words, and a number after them.
-fn put_counted(line: &mut Vec<u8>, words: &[u8], number: u64) -> Result<(), AllocError>
-    ensures { OnOk result (line.new.items ≡ line.old.items ++ (words.now ++ decimal number)) }
-{
-    line.extend_from_slice(words)?;
-    put_number(line, i128::from(number))
 }
 
 fn put_pool_full(line: &mut Vec<u8>, at: u32, live: u64) -> Result<(), AllocError>
