@@ -14,7 +14,7 @@ use Rattle.tb_builder.specs.Courses.{AllLasting, IsPageSoFar, freezes, IsSound}
 use Rattle.tb_builder.specs.Contributions.{NodesJoin, MayWait}
 use Rattle.tb_builder.proofs.Ownership.OwnedLemmas.{Apart, AllSame, lacks-append, lacks-left, lacks-right, differ-left, differ-right, differ-apart, differ-append, live-append, live-left, live-right, plain-append, plain-left, plain-right, known-append, same_from, lists_same, live_same, plain_same, void_same, boxes_same, view_same, inner-append, same-left, same-right}
 use Rattle.tb_builder.proofs.Handover.WaitLemmas.{page_grows}
-use Rattle.tb_pool.proofs.CallerLemmas.{list_same, list_other, get_other, live_same, live_other}
+use Rattle.tb_pool.proofs.CallerLemmas.{list_same, list_other, get_other, live_same as live_same_in, live_other}
 
 -- ---- ids in another order
 
@@ -141,7 +141,7 @@ module _ (b : Ids) (s t : Lists Node) (n : Node) (own : IsOwned b s) (j : NodesJ
     waiting_is = list_same s t b.waiting (list_at s b.waiting ++ n ∷ []) e;
     held_live = live_other s t b.waiting (list_at s b.waiting ++ n ∷ []) b.held held_apart e own.live.1.1.0;
     page_live = live_other s t b.waiting (list_at s b.waiting ++ n ∷ []) b.page own.differ.0.0 e own.live.0;
-    waiting_live = live_same s t b.waiting (list_at s b.waiting ++ n ∷ []) e;
+    waiting_live = live_same_in s t b.waiting (list_at s b.waiting ++ n ∷ []) e;
     beside = (same_beside.0, grown_boxes);
     inner_live = subst (AllLive t) (sym inner_now) (live-append t inner_before inner_new (live_same s t inner_before same_before (live-right s (box_ids b.boxes) inner_before own.live.1.1.1.1)) (live_same s t inner_new same_new j.live));
     inner_differ = subst AllDiffer (sym owned_now) j.differ;

@@ -1,9 +1,9 @@
 use Rattle.std.proofs.Common.{◌≡◌, ℕ, List, ◌++◌, map, Some, sym, ap, subst, ◌∙◌, arith, w64}
 use Rattle.std.proofs.lemmas.Int.{ints}
 use mir.Val.{to_z, of_z}
-use Rattle.tb_float.specs.Lists.{floats_of}
+use Rattle.tb_float.specs.Lists.{floats_of, of_class}
 use Rattle.tb_float.specs.Pool.{FloatPool, marks_of, with_marks_of, marked_floats, unmarked_floats}
-use Rattle.tb_fpage.specs.Company.{Choice, wanted_of, company, of_class}
+use Rattle.tb_fpage.specs.Company.{Choice, wanted_of, company}
 use Rattle.tb_fpage.proofs.CompanyLemmas.{wanted-is}
 use Rattle.tb_fpage.proofs.ChoiceLemmas.{is-chosen}
 use Rattle.tb_fpage.proofs.LawLemmas.{order-unmarked, order-company, fits-company, high-company}

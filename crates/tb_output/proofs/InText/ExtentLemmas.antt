@@ -16,7 +16,7 @@ use Rattle.tb_node.specs.Fit.{IsSizedNode}
 use Rattle.tb_node.specs.Sums.{size_of, depth_after, depth_from, last_depth}
 use Rattle.tb_scaled.specs.Amount.{IsAmount}
 use Rattle.tb_float.proofs.ListLemmas.{take-at}
-use Rattle.tb_fpage.proofs.CompanyLemmas.{get-some}
+use Rattle.tb_float.proofs.ListLemmas.{some-at}
 use Rattle.tb_column.specs.Page.{AreLeaves, IsPageList}
 use Rattle.tb_output.specs.Extents.{kind_depth, depth_there}
 use Rattle.tb_output.specs.Machine.{IsRoomOf}
@@ -137,7 +137,7 @@ looked-at ns k n (Some d) within same is = record {
 pub look-on : (ns : List Node) (left k : ℕ) (o next : Option ℤ) → IsLooked ns left o → o ≡ None → left ≡ k + 1 → next ≡ depth_there (slice_get ns k) → IsLooked ns k next
 look-on ns left k o next h none is e =
     let within : left ≤ length ns = h.within in
-    let there = get-some ns k (omega (arith, is, within)) in
+    let there = some-at ns k (omega (arith, is, within)) in
     let left_is : left ≡ suc k = omega (arith, is) in
     let still : last_depth (map shape_of (take left ns)) ≡ last_depth (map shape_of ns) = subst (λ (x : Option ℤ). IfNone x (last_depth (map shape_of (take left ns)) ≡ last_depth (map shape_of ns))) none h.still in
     looked-at ns k there.0 next (omega (arith, is, within))
