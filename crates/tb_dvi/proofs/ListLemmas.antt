@@ -98,10 +98,6 @@ module _ (bytes : List ℕ) (place : ℕ) (l : Lister) (now : Reading bytes plac
       bounds = p.bounds;
     }
 
-  -- the file ends where a command is due
-  pub ends_early : length bytes ≤ place → listed bytes ≡ Err (record { byte = place; cause = causes.Truncated })
-  ends_early h = now.goes_on ∙ ap (λ t. before now.items (run 0 place (state_of l) t)) (drop_all place bytes h)
-
 -- after the preamble
 pub begins : (bytes : List ℕ) (n : ℕ) (l : Lister) → pre_length bytes ≡ Ok n → n ≤ length bytes → state_of l ≡ at_start → l.out.items ≡ listing [] → IsInBounds n l → Reading bytes n l
 begins bytes n l pre within start text bounds = record {

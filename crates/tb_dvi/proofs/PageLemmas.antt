@@ -17,23 +17,6 @@ in_range place last p near ends =
     ap (λ b. b || nat_lt 2147483000 (place + length (page_bytes (pos 0) p))) near
     ∙ le-ltb 2147483000 (place + length (page_bytes (pos 0) p)) (omega (arith, same-length last (pos 0) p, ends))
 
--- a page with an item too far up or down
-pub far_off : (place : ℕ) (p : Page) → has_far p.placed ≡ true → is_too_far place p ≡ true
-far_off place p far = ap (λ b. b || nat_lt 2147483000 (place + length (page_bytes (pos 0) p))) far
-
--- a page that ends past the last place
-pub ends_late : (place : ℕ) (last : ℤ) (p : Page) → 2147483000 < place + length (page_bytes last p) → is_too_far place p ≡ true
-ends_late place last p late =
-    or_right (has_far p.placed) (nat_lt 2147483000 (place + length (page_bytes (pos 0) p)))
-    (lt-ltb 2147483000 (place + length (page_bytes (pos 0) p)) (omega (arith, same-length last (pos 0) p, late)))
-
--- a page in range ends in time
-pub ends_in_time : (place : ℕ) (last : ℤ) (p : Page) → is_too_far place p ≡ false → place + length (page_bytes last p) ≤ 2147483000
-ends_in_time place last p near =
-    let test : nat_lt 2147483000 (place + length (page_bytes (pos 0) p)) ≡ false = (or_parts (has_far p.placed) (nat_lt 2147483000 (place + length (page_bytes (pos 0) p))) near).1 in
-    let ends : place + length (page_bytes (pos 0) p) ≤ 2147483000 = grind (arith, nat_tests) in
-    omega (arith, same-length last (pos 0) p, ends)
-
 -- how many bytes were appended
 pub appended : (old new page : List ℕ) → new ≡ old ++ page → length new - length old ≡ length page
 appended old new page e = omega (arith, length-append old page, ap length e)

@@ -65,12 +65,6 @@ first-cut (q ∷ qs) more p place all e =
     ap (λ b. cond b (Some q.number) (first_too_far (place + length (page_bytes (pos 0) q)) (qs ++ p ∷ more))) all.0
     ∙ first-cut qs more p (place + length (page_bytes (pos 0) q)) all.1 (ap (λ n. is_too_far n p) (span-first q qs place) ∙ e)
 
-range-all : (ps : List Page) (place : ℕ) → AreInRange place ps → pages_in_range place ps ≡ ps
-range-all [] place all = refl
-range-all (q ∷ qs) place all =
-    ap (λ b. cond b [] (q ∷ pages_in_range (place + length (page_bytes (pos 0) q)) qs)) all.0
-    ∙ ap (λ t. q ∷ t) (range-all qs (place + length (page_bytes (pos 0) q)) all.1)
-
 none-far : (ps : List Page) (place : ℕ) → AreInRange place ps → first_too_far place ps ≡ None
 none-far [] place all = refl
 none-far (q ∷ qs) place all =
@@ -120,9 +114,6 @@ module _ (w : Progress) (ps : List Page) (p : Page) (so_far : HasWritten w ps) w
 module _ (w : Progress) (ps : List Page) (so_far : HasWritten w ps) where
   pub ends_whole : (textheight : ℤ) → file_front ps ++ post_bytes textheight w.pages w.any w.last w.place ≡ file_bytes textheight ps
   ends_whole textheight = λ i. file_front ps ++ post_bytes textheight (so_far.pages i) (so_far.any i) (so_far.last i) (so_far.place i)
-
-  pub all_in_range : pages_in_range 27 ps ≡ ps
-  all_in_range = range-all ps 27 so_far.in_range
 
   pub none_far : first_too_far 27 ps ≡ None
   none_far = none-far ps 27 so_far.in_range

@@ -6,10 +6,6 @@ use Rattle.tb_dvi.specs.Listing.{item_line}
 use Rattle.tb_dvi.specs.Lister.{IsInBounds, Takes, CommandPasses}
 use Rattle.tb_dvi.proofs.BoundLemmas.{more}
 
--- nothing is listed
-pub no_line : (old : List ℕ) → old ≡ old ++ flat_map item_line []
-no_line old = sym (append-nil old)
-
 -- one line is listed
 pub one_line : (item : Item) (old new : List ℕ) → new ≡ old ++ item_line item → new ≡ old ++ flat_map item_line (item ∷ [])
 one_line item old new e = e ∙ ap (λ t. old ++ t) (sym (append-nil (item_line item)))

@@ -131,11 +131,6 @@ left-added s t k all got flags left has h =
 
 -- ---- flags are counted
 
-pub count-drop : (bs : List Bool) (i : ℕ) (b : Bool) → slice_get bs i ≡ Some b → set_count (drop i bs) ≡ (if b then 1 else 0) + set_count (drop (suc i) bs)
-count-drop [] i b e = cc
-count-drop (c ∷ bs) zero b e = let same : c ≡ b = cc in ap (λ t. (if t then 1 else 0) + set_count bs) same
-count-drop (c ∷ bs) (suc i) b e = count-drop bs i b e
-
 pub count-few : (bs : List Bool) → set_count bs ≤ length bs
 count-few [] = omega arith
 count-few (true ∷ bs) = omega (arith, count-few bs)

@@ -76,10 +76,5 @@ found-all all place items s found full = record {
   classes = same-classes s (take place all) all full (λ k h. subst (λ fs. has_class k fs ≡ true) (take-drop place all) (has-more k (take place all) (drop place all) h)) found.classes;
 }
 
--- no float is left
-pub found-end : (all : List Float) (place : ℕ) (items : List First) (s : ClassSet) → AreFound all place items s → length all ≤ place → AllFound all items s
-found-end all place items s found le =
-    found-all all place items s found (λ k h. subst (λ fs. has_class k fs ≡ true) (sym (take-drop place all) ∙ ap (λ gs. take place all ++ gs) (drop_of_length-le all le) ∙ append-nil (take place all)) h)
-
 pub found-same : (all : List Float) (place : ℕ) (xs ys : List First) (s t : ClassSet) → xs ≡ ys → s ≡ t → AreFound all place ys t → AreFound all place xs s
 found-same all place xs ys s t items classes found = subst (λ zs. AreFound all place zs s) (sym items) (subst (AreFound all place ys) (sym classes) found)

@@ -57,9 +57,6 @@ pub known-of-others : (k : Firsts) (p : Part) (l m : FloatLists) → ChangesOnly
 known-of-others k p l m only other knows =
     still-known k p l m only (λ waits e. true≢false (sym (is_of-waiting k.of p waits e) ∙ other)) knows
 
-pub known-of-none : (k : Firsts) (l : FloatLists) → k.of ≡ None → KnowsFirsts k l
-known-of-none k l none = λ p e. cc
-
 -- ---- a list gains a float
 
 firsts-more : (before fs : List Float) (f : Float) → has_class f.class (before ++ fs) ≡ true → firsts_from before (fs ++ f ∷ []) ≡ firsts_from before fs

@@ -23,13 +23,6 @@ module _ {V : Type 0} where
       ≡ insert (insert m from (front ++ back)) to (ys ++ u ∷ [])
   moved-map m from to one rest front back ys s u d no_one no_rest = same_from_get _ _ (λ q. grind (arith, list_steps))
 
-  -- a list that was just written, and another
-  list-written : (s t : Lists V) (l : ℕ) (xs : List V) → t.lists ≡ with_list s l xs → list_at t l ≡ xs
-  list-written s t l xs e = ap (λ m. unwrap_or (get m l) []) e ∙ ap (λ o. unwrap_or o []) (get-insert_same s.lists l xs)
-
-  list-other : (m : FinMap nat_cmp (List V)) (t : Lists V) (l q : ℕ) (xs : List V) → t.lists ≡ insert m l xs → q ≢ l → list_at t q ≡ unwrap_or (get m q) []
-  list-other m t l q xs e ne = ap (λ n. unwrap_or (get n q) []) e ∙ ap (λ o. unwrap_or o []) (get-insert_other m l xs q ne)
-
   list-second : (m : FinMap nat_cmp (List V)) (t : Lists V) (l : ℕ) (xs : List V) → t.lists ≡ insert m l xs → list_at t l ≡ xs
   list-second m t l xs e = ap (λ n. unwrap_or (get n l) []) e ∙ ap (λ o. unwrap_or o []) (get-insert_same m l xs)
 

@@ -28,10 +28,6 @@ floats_room-sum first sep n (f ∷ fs) e =
     let same : length fs ≡ n = omega arith in
     omega (arith, ints, later_room-sum sep fs, ap (λ m. sep *ℤ pos m) same)
 
-pub floats_room-none : (first sep : ℤ) (fs : List Float) → length fs ≡ 0 → floats_room first sep fs ≡ pos 0
-floats_room-none first sep [] e = refl
-floats_room-none first sep (f ∷ fs) e = absurd (omega arith)
-
 pub text_float_room-sum : (sep : ℤ) (fs : List Float) → text_float_room sep fs ≡ total_height fs +ℤ sep *ℤ pos (2 * length fs)
 text_float_room-sum sep [] = omega (arith, ints, times-zero sep)
 text_float_room-sum sep (f ∷ fs) =

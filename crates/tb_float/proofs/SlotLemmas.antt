@@ -212,10 +212,6 @@ pub slots-unmarked : (p : Part) (ss : List SlotView) → AreSlotsOf p ss → Are
 slots-unmarked p [] h = tt
 slots-unmarked p (s ∷ ss) h = (record { sized = h.0.sized; float = h.0.float; unmarked = λ n. refl }, slots-unmarked p ss h.1)
 
-pub entries-unmarked : (ss : List SlotView) → entries_in (map unmarked_slot ss) ≡ entries_in ss
-entries-unmarked [] = refl
-entries-unmarked (s ∷ ss) = ap (λ es. s.entry ∷ es) (entries-unmarked ss)
-
 pub marks-unmarked : (ss : List SlotView) → marks_in (map unmarked_slot ss) ≡ replicate (length (marks_in ss)) false
 marks-unmarked [] = refl
 marks-unmarked (s ∷ ss) = ap (λ ms. false ∷ ms) (marks-unmarked ss)

@@ -177,11 +177,6 @@ floats_in-set p k [] f m no_notes h = refl
 floats_in-set p zero (s ∷ ss) f m no_notes h = float_before-other s.entry (floats_in ss) f (h.0.float no_notes)
 floats_in-set p (suc k) (s ∷ ss) f m no_notes h = ap (float_before s.entry) (floats_in-set p k ss f m no_notes h.1) ∙ float_before-set s.entry k (floats_in ss) f (h.0.float no_notes)
 
-pub set-same : {X : Type 0} (k : ℕ) (xs : List X) (x : X) → slice_get xs k ≡ Some x → slice_set xs k x ≡ xs
-set-same k [] x e = cc
-set-same zero (y ∷ xs) x e = let same : y ≡ x = grind arith in ap (λ z. z ∷ xs) (sym same)
-set-same (suc k) (y ∷ xs) x e = ap (λ zs. y ∷ zs) (set-same k xs x e)
-
 pub marks_in-set : (k : ℕ) (ss : List SlotView) (s : SlotView) (e : Entry) → slice_get ss k ≡ Some s → marks_in (slice_set ss k (record { entry = e; marked = s.marked })) ≡ marks_in ss
 marks_in-set k [] s e was = refl
 marks_in-set zero (t ∷ ss) s e was = let same : t ≡ s = grind arith in ap (λ r. r.marked ∷ marks_in ss) (sym same)

@@ -15,10 +15,6 @@ pub floats-with : (from : Part) → IsWaiting from → (fs : List Float) (l : Fl
 floats-with parts.Current w fs l = absurd w
 floats-with from w fs l = refl
 
-pub with-floats-again : (from : Part) (fs gs : List Float) (l : FloatLists) → with_floats_of from fs (with_floats_of from gs l) ≡ with_floats_of from fs l
-with-floats-again parts.Current fs gs l = refl
-with-floats-again from fs gs l = refl
-
 pub with-floats-same : (from : Part) → IsWaiting from → (l : FloatLists) → with_floats_of from (floats_of from l) l ≡ l
 with-floats-same parts.Current w l = absurd w
 with-floats-same from w l = refl

@@ -110,9 +110,6 @@ module _ (p : Params) (b c d : Builder) (s r t u : Lists Node) (page : Page) (l 
       grows-then l (l ∷ page.body ∷ []) text_nodes (feet_below p (box_content boxes 254)) (with_void 253 boxes) (with_void 254 (with_void 253 boxes)) b c d s r t text
       (grows-among l (l ∷ []) (l ∷ page.body ∷ []) (feet_below p (box_content boxes 254)) (with_void 254 (with_void 253 boxes)) c d r t among feet-are)
 
-  pub list-free : Lacks l (owned (ids_of c) r)
-  list-free = text.keeps l free
-
   body-free : Lacks page.body (owned (ids_of c) r)
   body-free = text.keeps page.body can.free
 

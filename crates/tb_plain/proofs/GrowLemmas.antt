@@ -170,12 +170,6 @@ feet-shown : (p : Params) (o : Option (List Leaf)) (held : ℕ → List Node) �
 feet-shown p None held = refl
 feet-shown p (Some ls) held = refl
 
-pub no-page-boxes : (c d : Contents) (bs : List Boxed) → d ≡ record c { boxes = bs } → NoPage c → NoPage d
-no-page-boxes c d bs e h = record { page = ap (λ (x : Contents). x.page) e ∙ h.page; frozen = ap (λ (x : Contents). x.frozen) e ∙ h.frozen }
-
-pub class-boxes : (c d : Contents) (bs : List Boxed) (k : ℕ) → d ≡ record c { boxes = bs } → has_class c.classes k ≡ true → has_class d.classes k ≡ true
-class-boxes c d bs k e h = ap (λ (x : Contents). has_class x.classes k) e ∙ h
-
 module _ (p : Params) (b d : Builder) (s m t : Lists Node) (l : ℕ) (void : Bool) (sound : IsSound b s) (free : Lacks l (owned (ids_of b) s)) (put : m.lists ≡ with_list s l (list_at s l ++ above_feet p void))
     (is : void ≡ is_none (box_content (contents_of b s).boxes 254)) where
   pub feet-grow : Grows l (l ∷ []) (map leaf_node (content_of (box_content (contents_of b m).boxes 254))) (with_void 254 (contents_of b m).boxes) b m d t

@@ -156,9 +156,6 @@ module _ (b : Builder) (s o m t : Lists Node) (l inner : ℕ) (xs : List Node) (
   top-beside : (q : ℕ) → q ≢ l → q ≢ inner → get t.lists q ≡ get s.lists q
   top-beside q n k = get_other m t l one q n put ∙ get_other o m inner all q k filled ∙ opened.others q n k
 
-  pub top-live : IsLive m l
-  top-live = live_other o m inner all l opened.apart filled (ap is_some opened.list)
-
   top-is : list_at t l ≡ top_node inner height ∷ []
   top-is = list_same m t l one put ∙ ap (λ (ns : List Node). ns ++ top_node inner height ∷ []) (list_other o m inner all l opened.apart filled ∙ ap (λ x. unwrap_or x []) opened.list)
 

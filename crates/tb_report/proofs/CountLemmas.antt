@@ -30,9 +30,6 @@ pub count_kinds-le : (test : PlainKind → Bool) (ns : List PlainNode) → count
 count_kinds-le test [] = omega arith
 count_kinds-le test (n ∷ ns) = omega (arith, one_if-le (test n.kind), count_kinds-le test ns)
 
-pub count_shown-le : (test : PlainKind → Bool) (store : Lists Node) (l : ℕ) → count_kinds test (plain_list store l) ≤ length (list_at store l)
-count_shown-le test store l = omega (arith, count_kinds-le test (plain_list store l), length-map {B = PlainNode} (list_at store l))
-
 -- a page of one column can be counted
 pub page_counts : (t : Totals) (page : ℕ) (c : PlainColumn) → t.pages + 1 < 2 ^ 64 → t.boxes + length c.nodes < 2 ^ 64 → t.floats + length c.nodes < 2 ^ 64 → t.warnings < 2 ^ 64 → AreCounts (with_sent (shipped page (one c)) t)
 page_counts t page c pages boxes floats warnings = record {

@@ -111,10 +111,3 @@ waiting_live b s own =
     (subst (AllLive s) (inner-append (list_at s b.page) (list_at s b.waiting))
     (live-right s (inner_ids (list_at s b.held)) (inner_ids (list_at s b.page ++ list_at s b.waiting))
     (subst (AllLive s) (inner-append (list_at s b.held) (list_at s b.page ++ list_at s b.waiting)) (live-right s (box_ids b.boxes) (inner_ids (nodes_of b s)) own.live.1.1.1.1))))
-
--- the count of contents of which a page can be made does not saturate
-pub counted_whole : (c : Contents) (ask : Ask) → IsPageable c ask → contents_count c ≡ node_count c.waiting + box_count c.boxes
-counted_whole c ask p = let f = p.few in whole_below (node_count c.page) (node_count c.waiting) (box_count c.boxes) f
-  where
-    whole_below : (x y z : ℕ) → x + y + z ≤ 4194304 → min (y + z) 18446744073709551615 ≡ y + z
-    whole_below x y z few = grind arith

@@ -22,9 +22,6 @@ use Rattle.tb_builder.proofs.Ownership.RelistLemmas.{Relisted, relisted_own, rel
 
 -- ---- the break node
 
-pub spent_first : (n : Node) (ns : List Node) → slice_set (n ∷ ns) 0 (record { line = n.line; kind = spent_node_kind n.kind }) ≡ spent_nodes (n ∷ ns)
-spent_first n ns = refl
-
 pub spent_inner : (k : Kind) → inner_of (spent_node_kind k) ≡ inner_of k
 spent_inner (kinds.Hbox what h d) = refl
 spent_inner (kinds.Rule name h d) = refl

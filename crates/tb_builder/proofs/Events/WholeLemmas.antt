@@ -57,13 +57,6 @@ module _ (ask : Ask) (cs : List Class) (bs : List Boxed) (page waiting : List Pl
   abbrev terms : List PlainNode → Terms
   terms = terms_after (frozen_for ask cs bs)
 
-  -- what is passed of the page, and what is beyond
-  pub reach_of-sized : EndSized (reach_of ask cs bs page waiting)
-  reach_of-sized = reach_sized ask.max_depth terms [] (laid_out ask.top_skip page waiting) (All-nil IsSizedOnPage) list.0
-
-  pub reach_of-fewer : node_count (reach_of ask cs bs page waiting).passed + node_count (reach_of ask cs bs page waiting).beyond ≤ node_count page + node_count waiting + 1
-  reach_of-fewer = let h = reached_fewer ask.max_depth terms (laid_out ask.top_skip page waiting) in omega (arith, h, list.1)
-
   -- the page that fires
   pub fired_of-sized : All IsSizedBox bs → FiredSized (fired_of ask cs bs (reach_of ask cs bs page waiting))
   fired_of-sized boxes = fired_by_sized ask.max_depth terms (frozen_for ask cs bs) bs (laid_out ask.top_skip page waiting) list.0 boxes

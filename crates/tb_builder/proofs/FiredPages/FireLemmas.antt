@@ -92,10 +92,6 @@ body_room (n ∷ ns) = by_kind n.kind (body_room ns)
     by_kind (ins i) ih = omega (arith, ints, ih)
     by_kind (act a) ih = ap (λ z. pos 0 +ℤ z) ih
 
--- there is a best place
-pub some_best : (b : Builder) (c : Contents) → Breaks b c → b.course.scan.best ≡ None → ⊥
-some_best b c h e = let f : None ≡ Some (best_of (place_of_break b c h)) = sym e ∙ (champion b c h).best in cc
-
 -- ---- a list is opened for the body
 
 module _ (b : Builder) (s e : Lists Node) (body : ℕ) (own : IsOwned (ids_of b) s) (fresh : get s.lists body ≡ None) (opened : e.lists ≡ with_list s body []) where

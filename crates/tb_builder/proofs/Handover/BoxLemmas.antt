@@ -59,36 +59,6 @@ module _ (s : Lists Node) (es : List ClassList) (number : ℕ) (e : ClassList) (
   pub size_is : VoidEmpty s es → box_size (box_content (map (boxed_of s) es) number) ≡ box_size (content_by e.void (leaf_list s e.list))
   size_is v = ap box_size content_is
 
--- the sizes of one box fit if those of all do
-pub one_fits : (bs : List Boxed) (k : ℕ) → BoxesFit bs → SizesFit (map leaf_shape (content_of (box_content bs k)))
-one_fits [] k h = nothing_fits
-  where
-    nothing_fits : SizesFit []
-    nothing_fits [] rest e = record { low = omega (arith, ints); high = omega (arith, ints) }
-    nothing_fits (x ∷ xs) rest e = cc
-one_fits (b ∷ bs) k h = by_test (b.number == k) (one_fits bs k h.1)
-  where
-    by_test : (t : Bool) → SizesFit (map leaf_shape (content_of (box_content bs k))) → SizesFit (map leaf_shape (content_of (if t then b.content else box_content bs k)))
-    by_test true later = h.0
-    by_test false later = later
-
--- plain nodes of a list, as the definitions see them
-pub plain_leaves : (held : ℕ → List Node) (ns : List Node) → AllPlain ns → map (plain_of held) ns ≡ map leaf_node (map leaf_of ns)
-plain_leaves held [] h = refl
-plain_leaves held (n ∷ ns) h = λ i. by_kind n.line n.kind h.0 i ∷ plain_leaves held ns h.1 i
-  where
-    by_kind : (line : ℕ) (k : Kind) → is_plain k ≡ true → (let x : Node = record { line = line; kind = k } in plain_of held x ≡ leaf_node (leaf_of x))
-    by_kind line (kinds.Hbox what h d) e = refl
-    by_kind line (kinds.Rule name h d) e = refl
-    by_kind line (kinds.Skip g) e = refl
-    by_kind line (kinds.Kern w) e = refl
-    by_kind line (kinds.Pen p) e = refl
-    by_kind line (kinds.Mark name) e = refl
-    by_kind line (kinds.Note name) e = refl
-    by_kind line kinds.Whatsit e = refl
-    by_kind line (kinds.Ins j) e = cc
-    by_kind line (kinds.Act a) e = cc
-
 -- ---- the classes, with the box of one void
 
 abbrev pub with_void_box : ℕ → ClassList → ClassList

@@ -22,31 +22,12 @@ use Rattle.tb_node.proofs.FitLemmas.{dimension_small}
 
 -- ---- a builder is made
 
-pub void_boxed : (cs : List Class) → AreBoxesOf cs (map void_box cs)
-void_boxed [] = tt
-void_boxed (c ∷ cs) = (refl, void_boxed cs)
-
-void_sized : (cs : List Class) → All IsSizedBox (map void_box cs)
-void_sized [] = All-nil IsSizedBox
-void_sized (c ∷ cs) = All-cons IsSizedBox (void_box c) (map void_box cs) (All-nil IsSizedLeaf) (void_sized cs)
-
-void_count : (cs : List Class) → box_count (map void_box cs) ≡ 0
-void_count [] = refl
-void_count (c ∷ cs) = let h : box_count (map void_box cs) ≡ 0 = void_count cs in omega arith
-
-pub nothing-sized : (cs : List Class) → All IsSizedClass cs → ClassesFit cs → IsSizedContents (nothing_yet cs)
-nothing-sized cs h fit = record { nodes = All-nil IsSizedOnPage; held = All-nil IsSizedOnPage; boxes = void_sized cs; classes = h; classes_fit = fit; frozen = tt }
-
-
 factor_small : (z : ℤ) → IsFactor z → IsAmount z
 factor_small z h = record { low = omega (arith, ints); high = omega (arith, ints) }
 
 -- a sized class fits
 pub class-fits : (c : Class) → IsSizedClass c → ClassFits c
 class-fits c h = record { factor = factor_small c.factor h.factor; stretch = dimension_small c.skip.stretch h.stretch; shrink = dimension_small c.skip.shrink h.shrink }
-
-pub nothing-count : (cs : List Class) → whole_count (nothing_yet cs) ≡ 0
-nothing-count cs = let h = void_count cs in omega (arith, h)
 
 -- ---- what waits is known
 
@@ -84,52 +65,6 @@ module _ (ms : List PlainNode) where
   more_count false true page waiting = let a = count-append page (waiting ++ ms) in let b = count-append waiting ms in let c = count-append page waiting in omega (arith, a, b, c)
   more_count false false page waiting = let a = count-append page (pruned_nodes (pos 0) (waiting ++ ms)) in let b = pruned_more (pos 0) ms waiting in let c = count-append page (pruned_nodes (pos 0) waiting) in omega (arith, a, b, c)
 
-  -- sized nodes come to the end of the waiting nodes
-  pub more-sized : (c : Contents) → All IsSizedOnPage ms → IsSizedContents c → IsSizedContents (record c { waiting = c.waiting ++ ms })
-  more-sized c r h = record {
-    nodes = subst (All IsSizedOnPage) (whole_by-is c.stopped c.page (c.waiting ++ ms)) (more_by c.stopped (holds_box c.page) c.page c.waiting r (subst (All IsSizedOnPage) (sym (whole_by-is c.stopped c.page c.waiting)) h.nodes));
-    held = h.held;
-    boxes = h.boxes;
-    classes = h.classes;
-    classes_fit = h.classes_fit;
-    frozen = h.frozen;
-  }
-
-  pub more-count : (c : Contents) → whole_count (record c { waiting = c.waiting ++ ms }) ≤ whole_count c + node_count ms + 1
-  more-count c =
-      let a = more_count c.stopped (holds_box c.page) c.page c.waiting in
-      let b = ap node_count (whole_by-is c.stopped c.page c.waiting) in
-      let e = ap node_count (whole_by-is c.stopped c.page (c.waiting ++ ms)) in
-      omega (arith, a, b, e)
-
--- a sized node is contributed
-pub contributed-sized : (c : Contents) (n : PlainNode) → IsSizedOnPage n → IsSizedContents c → IsSizedContents (record c { waiting = c.waiting ++ n ∷ [] })
-contributed-sized c n r h = more-sized (n ∷ []) c (All-cons IsSizedOnPage n [] r (All-nil IsSizedOnPage)) h
-
-pub contributed-count : (c : Contents) (n : PlainNode) → whole_count (record c { waiting = c.waiting ++ n ∷ [] }) ≤ whole_count c + kind_count n.kind + 1
-contributed-count c n = let h = more-count (n ∷ []) c in omega (arith, h)
-
--- ---- nodes are put back
-
--- on an empty page what is held and sized nodes come before what waits
-pub put_back-sized : (c : Contents) (ns : List PlainNode) → c.page ≡ [] → All IsSizedOnPage c.waiting → All IsSizedOnPage ns → IsSizedContents c → IsSizedContents (record c { waiting = c.held ++ (ns ++ c.waiting); held = [] })
-put_back-sized c ns e w r h = record {
-  nodes = list-sized c.stopped c.page (c.held ++ (ns ++ c.waiting)) (subst (All IsSizedOnPage) (sym e) (All-nil IsSizedOnPage)) (All-append IsSizedOnPage c.held (ns ++ c.waiting) h.held (All-append IsSizedOnPage ns c.waiting r w));
-  held = All-nil IsSizedOnPage;
-  boxes = h.boxes;
-  classes = h.classes;
-  classes_fit = h.classes_fit;
-  frozen = h.frozen;
-}
-
-pub put_back-count : (c : Contents) (ns : List PlainNode) → c.page ≡ [] → whole_count (record c { waiting = c.held ++ (ns ++ c.waiting); held = [] }) ≤ node_count c.held + node_count ns + node_count c.waiting + box_count c.boxes + 1
-put_back-count c ns e =
-    let a = list-count c.stopped c.page (c.held ++ (ns ++ c.waiting)) in
-    let b = count-append c.held (ns ++ c.waiting) in
-    let d = count-append ns c.waiting in
-    let f = ap node_count e in
-    omega (arith, a, b, d, f)
-
 -- ---- a box is taken
 
 voided_sized : (k : ℕ) (b : Boxed) → IsSizedBox b → IsSizedBox (voided k b)
@@ -156,28 +91,6 @@ voids_boxed k [] [] h = tt
 voids_boxed k [] (b ∷ bs) h = absurd h
 voids_boxed k (c ∷ cs) [] h = absurd h
 voids_boxed k (c ∷ cs) (b ∷ bs) h = (voided_number k b ∙ h.0, voids_boxed k cs bs h.1)
-
-voids_fewer : (k : ℕ) (bs : List Boxed) → box_count (with_void k bs) ≤ box_count bs
-voids_fewer k [] = omega arith
-voids_fewer k (b ∷ bs) = by_test (b.number == k) (voids_fewer k bs)
-  where
-    by_test : (t : Bool) → box_count (with_void k bs) ≤ box_count bs → length (content_of (if t then record b { content = None } else b).content) + box_count (with_void k bs) ≤ length (content_of b.content) + box_count bs
-    by_test true h = omega (arith, h)
-    by_test false h = omega (arith, h)
-
--- how many nodes the box with a number has
-abbrev pub held_length : List Boxed → ℕ → ℕ
-held_length bs k = length (content_of (box_content bs k))
-
--- the nodes that are taken are no longer counted
-pub taken-fewer : (k : ℕ) (bs : List Boxed) → box_count (with_void k bs) + held_length bs k ≤ box_count bs
-taken-fewer k [] = omega arith
-taken-fewer k (b ∷ bs) = by_test (b.number == k) (taken-fewer k bs) (voids_fewer k bs)
-  where
-    by_test : (t : Bool) → box_count (with_void k bs) + held_length bs k ≤ box_count bs → box_count (with_void k bs) ≤ box_count bs
-        → (length (content_of (if t then record b { content = None } else b).content) + box_count (with_void k bs)) + length (content_of (if t then b.content else box_content bs k)) ≤ length (content_of b.content) + box_count bs
-    by_test true h l = omega (arith, l)
-    by_test false h l = omega (arith, h)
 
 pub taken-sized : (c : Contents) (k : ℕ) → IsSizedContents c → IsSizedContents (record c { boxes = with_void k c.boxes })
 taken-sized c k h = record {

@@ -49,18 +49,6 @@ pub differ-append : (xs ys : List ℕ) → AllDiffer xs → AllDiffer ys → Apa
 differ-append [] ys a b h = b
 differ-append (x ∷ xs) ys a b h = (lacks-append x xs ys a.0 h.0, differ-append xs ys a.1 b h.1)
 
-pub apart-left : (xs ys zs : List ℕ) → Apart xs (ys ++ zs) → Apart xs ys
-apart-left [] ys zs h = tt
-apart-left (x ∷ xs) ys zs h = (lacks-left x ys zs h.0, apart-left xs ys zs h.1)
-
-pub apart-right : (xs ys zs : List ℕ) → Apart xs (ys ++ zs) → Apart xs zs
-apart-right [] ys zs h = tt
-apart-right (x ∷ xs) ys zs h = (lacks-right x ys zs h.0, apart-right xs ys zs h.1)
-
-pub apart-both : (xs ys zs : List ℕ) → Apart xs ys → Apart xs zs → Apart xs (ys ++ zs)
-apart-both [] ys zs a b = tt
-apart-both (x ∷ xs) ys zs a b = (lacks-append x ys zs a.0 b.0, apart-both xs ys zs a.1 b.1)
-
 -- ---- lists of the store
 
 pub live-append : (s : Lists Node) (xs ys : List ℕ) → AllLive s xs → AllLive s ys → AllLive s (xs ++ ys)
@@ -175,7 +163,3 @@ same-left s t (x ∷ xs) ys h = (h.0, same-left s t xs ys h.1)
 pub same-right : (s t : Lists Node) (xs ys : List ℕ) → AllSame s t (xs ++ ys) → AllSame s t ys
 same-right s t [] ys h = h
 same-right s t (x ∷ xs) ys h = same-right s t xs ys h.1
-
-pub same-append : (s t : Lists Node) (xs ys : List ℕ) → AllSame s t xs → AllSame s t ys → AllSame s t (xs ++ ys)
-same-append s t [] ys a b = b
-same-append s t (x ∷ xs) ys a b = (a.0, same-append s t xs ys a.1 b)

@@ -17,9 +17,6 @@ pub record Sized (all rest : List Node) (total : ℤ) : Type 0 where
   pub whole : before ++ rest ≡ all
   pub total_is : total ≡ size_of (map shape_of before)
 
-pub sized_begins : (all : List Node) → Sized all all (pos 0)
-sized_begins all = record { before = []; whole = refl; total_is = refl }
-
 module _ (all : List Node) (n : Node) (rest : List Node) (total : ℤ) (s : Sized all (n ∷ rest) total) where
   with_it : size_of (map shape_of (s.before ++ n ∷ [])) ≡ size_of (map shape_of s.before) +ℤ room_of (shape_of n)
   with_it = ap size_of (map-append shape_of s.before (n ∷ [])) ∙ size-append (map shape_of s.before) (shape_of n)
@@ -38,9 +35,6 @@ module _ (all : List Node) (n : Node) (rest : List Node) (total : ℤ) (s : Size
     whole = append_assoc s.before (n ∷ []) rest ∙ s.whole;
     total_is = ap (λ t. t +ℤ room_of (shape_of n)) s.total_is ∙ sym with_it;
   }
-
-pub sized_ends : (all : List Node) (total : ℤ) → Sized all [] total → total ≡ size_of (map shape_of all)
-sized_ends all total s = s.total_is ∙ ap (λ ns. size_of (map shape_of ns)) (sym (append-nil s.before) ∙ s.whole)
 
 -- ---- lists whose prefixes are all amounts
 

@@ -62,42 +62,9 @@ leaves_back (n ∷ ns) h = (sized_leaf n.kind h.0, leaves_back ns h.1)
 pub leaves-back : (ns : List Node) → All IsSizedLeaf (map leaf_of ns) → All IsSizedNode ns
 leaves-back ns h = All-from_recursion IsSizedNode ns (leaves_back ns (recursion_from_All IsSizedLeaf (map leaf_of ns) h))
 
--- an insertion whose list has sized nodes, and whose height is that of the list
-pub insertion-sized : (held : ℕ → List Node) (i : Insertion) → All IsSizedNode (held i.list) → i.height ≡ size_of (map shape_of (held i.list)) → IsExtent i.split_depth → IsExtent i.split_top → IsPenalty i.floating → IsSizedInserted (inserted_of held i)
-insertion-sized held i h size depth top floating = record {
-  inner = leaves-sized (held i.list) h;
-  height = size ∙ sym (ap size_of (leaf_shapes (held i.list)));
-  split_depth = depth;
-  split_top = top;
-  floating = floating;
-}
-
 -- ---- nodes of a page
 
 module _ (held : ℕ → List Node) where
-  plain_kind_sized : (line : ℕ) (k : Kind) → is_plain k ≡ true → IsSized (shape_of_kind k) → IsSizedOnPage (record { line = line; kind = plain_kind held k })
-  plain_kind_sized line (kinds.Hbox what h d) p s = record { shape = s; kind = tt }
-  plain_kind_sized line (kinds.Rule name h d) p s = record { shape = s; kind = tt }
-  plain_kind_sized line (kinds.Skip g) p s = record { shape = s; kind = tt }
-  plain_kind_sized line (kinds.Kern w) p s = record { shape = s; kind = tt }
-  plain_kind_sized line (kinds.Pen q) p s = record { shape = s; kind = tt }
-  plain_kind_sized line (kinds.Mark name) p s = record { shape = s; kind = tt }
-  plain_kind_sized line (kinds.Note name) p s = record { shape = s; kind = tt }
-  plain_kind_sized line kinds.Whatsit p s = record { shape = s; kind = tt }
-  plain_kind_sized line (kinds.Ins i) p s = absurd (true≢false (sym p))
-  plain_kind_sized line (kinds.Act a) p s = record { shape = tt; kind = tt }
-
-  -- a sized node that is neither an insertion nor an act
-  pub node-sized : (n : Node) → is_plain n.kind ≡ true → IsSizedNode n → IsSizedOnPage (plain_of held n)
-  node-sized n p s = plain_kind_sized n.line n.kind p s
-
-  plain_by : (ns : List Node) → AllPlain ns → AllByRecursion IsSizedNode ns → AllByRecursion IsSizedOnPage (map (plain_of held) ns)
-  plain_by [] p s = tt
-  plain_by (n ∷ ns) p s = (node-sized n p.0 s.0, plain_by ns p.1 s.1)
-
-  pub plain-sized : (ns : List Node) → AllPlain ns → All IsSizedNode ns → All IsSizedOnPage (map (plain_of held) ns)
-  plain-sized ns p s = All-from_recursion IsSizedOnPage (map (plain_of held) ns) (plain_by ns p (recursion_from_All IsSizedNode ns s))
-
   kind_back : (k : Kind) → IsSized (kind_shape (plain_kind held k)) → IsSized (shape_of_kind k)
   kind_back (kinds.Hbox what h d) s = s
   kind_back (kinds.Rule name h d) s = s

@@ -208,17 +208,6 @@ module _ (c : Contents) (ask : Ask) (r : IsSizedContents c) (stopped : c.stopped
   pub stopped-sized : FiredSized (fired_page c ask)
   stopped-sized = fired_sized c ask (front-sized c.page c.waiting stands) (back-sized c.page c.waiting stands) r.boxes
 
-  -- what the builder holds then
-  pub after-sized : IsSizedContents (after_fired c (fired_page c ask))
-  after-sized = record {
-    nodes = pruned_sized (pos 0) (fired_page c ask).rest no_skip stopped-sized.rest;
-    held = stopped-sized.held;
-    boxes = stopped-sized.boxes;
-    classes = r.classes;
-    classes_fit = r.classes_fit;
-    frozen = tt;
-  }
-
   module _ (classes : ClassesFit c.classes) (boxed : AreBoxesOf c.classes c.boxes) where
     pub stopped-fewer : fired_count (fired_page c ask) + node_count c.held ≤ whole_count c
     stopped-fewer =

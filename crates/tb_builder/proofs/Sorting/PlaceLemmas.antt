@@ -21,33 +21,17 @@ pub record Looking (ns rest : List Node) (left : ℕ) : Type 0 where
   pub left_is : left ≡ length rest
   pub plain : NoInsertions ahead
 
-pub looking_begins : (ns : List Node) → Looking ns ns (length ns)
-looking_begins ns = record { ahead = []; parts = refl; left_is = refl; plain = tt }
-
 plain_more : (ns : List Node) (n : Node) → NoInsertions ns → is_insertion n ≡ false → NoInsertions (ns ++ n ∷ [])
 plain_more [] n h e = (e, tt)
 plain_more (m ∷ ns) n h e = (h.0, plain_more ns n h.1 e)
 
 module _ (ns : List Node) (n : Node) (rest : List Node) (left : ℕ) (h : Looking ns (n ∷ rest) left) where
-  pub looking_some : 1 ≤ left
-  looking_some = omega (arith, h.left_is)
-
   pub looking_next : is_insertion n ≡ false → Looking ns rest (left - 1)
   looking_next e = record {
     ahead = h.ahead ++ n ∷ [];
     parts = h.parts ∙ sym (append_assoc h.ahead (n ∷ []) rest);
     left_is = omega (arith, h.left_is);
     plain = plain_more h.ahead n h.plain e;
-  }
-
-  pub looking_found : (count : ℕ) → count ≡ length ns → is_insertion n ≡ true → InsertionAt ns (count - left)
-  looking_found count c e = record {
-    ahead = h.ahead;
-    behind = n ∷ rest;
-    parts = h.parts;
-    place_is = omega (arith, c, h.left_is, ap length h.parts, length-append h.ahead (n ∷ rest));
-    plain = h.plain;
-    first = e;
   }
 
 -- a list that has an insertion does not end without one
@@ -63,9 +47,6 @@ module _ (ns : List Node) (place : ℕ) (h : InsertionAt ns place) where
       by_rest : (rest : List Node) → ns ≡ h.ahead ++ rest → begins_with_insertion rest ≡ true → place < length ns
       by_rest [] e first = absurd (true≢false (sym first))
       by_rest (n ∷ rest) e first = omega (arith, h.place_is, ap length e, length-append h.ahead (n ∷ rest))
-
-  pub place_plain : NoInsertions (take place ns)
-  place_plain = subst NoInsertions (sym ((λ j. take (h.place_is j) (h.parts j)) ∙ take-append_seam h.ahead h.behind)) h.plain
 
   pub place_first : begins_with_insertion (drop place ns) ≡ true
   place_first = ap begins_with_insertion ((λ j. drop (h.place_is j) (h.parts j)) ∙ drop-append_seam h.ahead h.behind) ∙ h.first

@@ -51,9 +51,6 @@ nodes-behind ms ns fit before n rest e = fit (ms ++ before) n rest (append_assoc
 zero_wide : IsWide (pos 0)
 zero_wide = record { low = omega (arith, ints); high = omega (arith, ints) }
 
-room_wide : (z : ℤ) → IsRoom z → IsWide z
-room_wide z h = record { low = omega (arith, ints); high = omega (arith, ints) }
-
 more_wide : (z : ℤ) → IsWide z → IsWide (pos 0 +ℤ z)
 more_wide z h = record { low = omega (arith, ints, h.low); high = omega (arith, ints, h.high) }
 

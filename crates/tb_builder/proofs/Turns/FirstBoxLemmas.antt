@@ -149,9 +149,6 @@ module _ (b d : Builder) (s t : Lists Node) (ask : Ask) (n g : Node) (ns : List 
   pub topped_lays : Lays z ask before now
   topped_lays = lays_closed z ask before now refl no_box (sound.closed closed) topped_page (topped_waiting ∙ sym pruned)
 
-  pub topped_frozen : frozen_of now ask ≡ z
-  topped_frozen = (stays_from b d s t ask topped_moves (inr frozen)).frozen_so
-
   pub topped_kept : kept_frozen now ≡ z
   topped_kept = kept_is_frozen now b.frozen ask frozen ∙ (λ i. frozen_or b.frozen ask (topped_moves.classes i) (topped_moves.boxes i))
 

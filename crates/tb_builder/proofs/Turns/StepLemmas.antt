@@ -30,9 +30,6 @@ use Rattle.tb_builder.proofs.LegalPlaces.ReachLemmas.{whole_places, whole_end}
 -- ---- what is added up fits
 
 module _ (z : Frozen) (k : Course) (page : List PlainNode) (bs : List Breakpoint) (held : ℕ → List Node) (n : Node) (h : IsCourseOf z k page bs) (f : StepFits z page held n) where
-  added_node_of : Scanned → Scanned
-  added_node_of s = record s { sums = added_node s.max_depth s.sums (node_shape (plain_of held n)) }
-
   pub step_sums : IsSmall (added_node k.scan.max_depth k.scan.sums (shape_of n))
   step_sums = subst (λ x. IsSmall (added_node k.scan.max_depth k.scan.sums x)) (shape_is held n)
       (subst IsSmall (sym (scan_plain z page k.scan (record k.scan { sums = added_node k.scan.max_depth k.scan.sums (node_shape (plain_of held n)) }) (plain_of held n) (no_insertion held n.kind f.no_insertion) h.scan refl).sums) f.there.sums)

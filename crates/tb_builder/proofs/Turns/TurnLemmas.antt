@@ -36,9 +36,6 @@ holds-append (m ∷ ms) n = ap (λ b. is_box (node_shape m) || b) (holds-append 
 pub holds_same : (page : List PlainNode) (n : PlainNode) → is_box (node_shape n) ≡ false → holds_box (page ++ n ∷ []) ≡ holds_box page
 holds_same page n e = holds-append page n ∙ ap (λ b. holds_box page || b) e ∙ or-false (holds_box page)
 
-pub holds_more : (page : List PlainNode) (n : PlainNode) → holds_box page ≡ true → holds_box (page ++ n ∷ []) ≡ true
-holds_more page n e = holds-append page n ∙ ap (λ b. b || is_box (node_shape n)) e
-
 pub holds_now : (page : List PlainNode) (n : PlainNode) → is_box (node_shape n) ≡ true → holds_box (page ++ n ∷ []) ≡ true
 holds_now page n e = holds-append page n ∙ ap (λ b. holds_box page || b) e ∙ or-true (holds_box page)
 
@@ -111,9 +108,6 @@ same_keeps c d ask s f e = by_frozen s.frozen
     by_frozen (inr h) = h ∙ ap (λ o. Some (frozen_with o ask)) e
 
 -- ---- what is ahead
-
-ahead_by : Bool → Ask → List PlainNode → List PlainNode
-ahead_by = λ b ask w. if b then w else pruned_nodes ask.top_skip w
 
 pub ahead_open : (c : Contents) (ask : Ask) → holds_box c.page ≡ true → ahead_of c ask ≡ c.waiting
 ahead_open c ask e = ap (λ b. if b then c.waiting else pruned_nodes ask.top_skip c.waiting) e

@@ -80,13 +80,6 @@ ways_acts z (acts.Columns two ∷ ds) = ways_acts (turned z two) ds
 abbrev pub AllStill : List Act → Type 0
 AllStill = AllByRecursion (λ a. Still (act_token a))
 
-pub owed-still : (z : Ways) (n : ℕ) (ds : List Act) → AllStill ds → owed_acts z n ds ≡ n
-owed-still z n [] h = refl
-owed-still z n (acts.Take f ∷ ds) h = absurd h.0
-owed-still z n (acts.TakeMargin m ∷ ds) h = absurd h.0
-owed-still z n (acts.Suppress area ∷ ds) h = owed-still z n ds h.1
-owed-still z n (acts.Columns two ∷ ds) h = owed-still (turned z two) n ds h.1
-
 sort-owed : (s : Sort) (z : Ways) (n : ℕ) (xs : List Token) → owed_all z n (sort_token s ∷ xs) ≡ owed_all z n xs
 sort-owed light z n xs = refl
 sort-owed blank z n xs = refl

@@ -104,11 +104,6 @@ Begins none = Unit {0}
 Begins one = ⊥
 Begins many = Unit {0}
 
-begun-stands : (t : Seen) (b : Bool) (ys : List Sort) → Begins t → Stands t b ys → Stands none b ys
-begun-stands none b ys k h = h
-begun-stands one b ys k h = absurd k
-begun-stands many b ys k h = fewer none b ys h
-
 blank-extends : (ks : List ℕ) (t : Seen) (b : Bool) → Begins t → Extends ks t b Output.blank_column
 blank-extends ks none b k = record { by = λ ys h. (tt, (tt, h)); feet = (tt, (tt, tt)) }
 blank-extends ks one b k = absurd k

@@ -204,9 +204,6 @@ pen-pruned xs p = pen-sorts (λ x. (b : Bool) → Stands none b (x ∷ xs) → S
     at_hold true h = absurd h.0
     at_hold false h = unheld none xs h.1
 
-box-pruned : (b : Bool) (w : What) (xs : List Sort) → Stands none b (box_sort w ∷ xs) → Stands none b (light ∷ box_sort w ∷ xs)
-box-pruned b w xs h = (tt, h)
-
 node-pruned : (t : ℤ) (ns : List PlainNode) → ((b : Bool) → Stands none b (sorts ns) → Stands none b (sorts (pruned_nodes t ns))) → (l : ℕ) (k : PlainKind) (b : Bool) → Stands none b (kind_sort k ∷ sorts ns) → Stands none b (sorts (pruned_nodes t (record { line = l; kind = k } ∷ ns)))
 node-pruned t ns h l (plain (hbox w a d)) b s = (tt, s)
 node-pruned t ns h l (plain (rule name a d)) b s = (tt, s)

@@ -98,9 +98,6 @@ module _ (P : Float → Type 0) (topped : (f : Float) → P f → P (Text.with_t
   served-sends : (e : PlainSent) (w : Work) → Served P w (sends e w)
   served-sends e w = served_if w w.refused w (record w { sent = w.sent ++ e ∷ [] }) (same w) (record { goes = refl; columns = refl; first = refl; cycles = refl; boxes = refl; double = refl; second = refl; narrow = λ h k. (h, k); floats = omega arith; all = λ h k. (h, k); cost = refl })
 
-  served-records : (r : Recorded) (w : Work) → Served P w (records_also r w)
-  served-records r w = served_if w w.refused w (record w { records = w.records ++ r ∷ [] }) (same w) (record { goes = refl; columns = refl; first = refl; cycles = refl; boxes = refl; double = refl; second = refl; narrow = λ h k. (h, k); floats = omega arith; all = λ h k. (h, k); cost = refl })
-
   penalty-free : (o : Option Glue) → wait_cost (Text.penalty_nodes p.interlinepenalty o) ≡ 0
   penalty-free None = rw calm refl
   penalty-free (Some g) = rw calm refl

@@ -149,10 +149,6 @@ pub led-takes : (b : Bool) (xs : List PlainNode) (l : ℕ) (a : Act) (ys : List 
 led-takes b [] l a ys h = (h.0.1, h.1)
 led-takes b (x ∷ xs) l a ys h = led-takes (is_whatsit x.kind) xs l a ys h.1
 
-last-front : (d : Bool) (xs : List Bool) (y : Bool) → last_or d (xs ++ y ∷ []) ≡ y
-last-front d [] y = refl
-last-front d (x ∷ xs) y = last-front x xs y
-
 kern-front : (d : Bool) (xs : List PlainNode) (l : ℕ) → last_or d (map (λ n. is_kern (node_shape n)) (xs ++ record { line = l; kind = plain whatsit } ∷ [])) ≡ false
 kern-front d [] l = refl
 kern-front d (x ∷ xs) l = kern-front (is_kern (node_shape x)) xs l

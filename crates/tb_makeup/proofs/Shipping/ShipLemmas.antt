@@ -49,12 +49,6 @@ counted w b n few void e = grind (arith, few, void, e)
 pub some-over : (limit : ℤ) (n w : ℕ) → n ≡ w → int_lt limit (pos n) ≡ true → Some (endings.NodeLimit n) ≡ over_limit limit w
 some-over limit n w same e = subst (λ x. Some (endings.NodeLimit n) ≡ over_limit limit x) same (sym (ap (λ t. if t then Some (endings.NodeLimit n) else None) e))
 
--- the bound does not pass the limit
-pub bounded-none : (limit : ℤ) (w t m : ℕ) → w ≤ t → t ≤ m → int_lt limit (pos m) ≡ false → None ≡ over_limit limit w
-bounded-none limit w t m a b e =
-    let f : int_lt limit (pos w) ≡ false = grind (arith, ints, a, b, e) in
-    sym (ap (λ x. if x then Some (endings.NodeLimit w) else None) f)
-
 -- no more nodes wait than the limit
 pub within-limit : (limit : ℤ) (w m : ℕ) → limit ≤ℤ pos m → None ≡ over_limit limit w → w ≤ m
 within-limit limit w m few e = by_test (int_lt limit (pos w)) refl e

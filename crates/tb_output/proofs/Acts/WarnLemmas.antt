@@ -51,8 +51,3 @@ module _ (w : Warn) (m : MachineView) where
 
   pub warned-back : (l : ℕ) (store : Lists Node) → IsMachine m store → IsBack l m store → KeepsBack l [] m (with_warning w m) store store
   warned-back l store is back = keeps-back_alone l m (with_warning w m) store (warned-machine store is) warned-fields warned-lists back
-
-  -- it was sent
-  pub warned-sends : (store : Lists Node) → Does (shows m store) (shows (with_warning w m) store) (sends (warned w))
-  warned-sends store = does-shown (shows (with_warning w m) store) m store (sends (warned w))
-      (λ before v sent. record { served = refl; sent = shown-joined store m.events (events.Warn w) before v.sent sent; state = refl })

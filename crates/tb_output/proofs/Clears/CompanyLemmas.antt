@@ -65,16 +65,6 @@ module _ (z : Wanted) (v w : FloatPool) where
   left-unmarked parts.Double q h none = absurd q
   left-unmarked parts.Second q h none = record { deferred = deferred-free h none; second = marked-false (length (unmarked_floats parts.Second w)) (unmarked_floats parts.Second w) }
 
-  -- there was no memory: the marks are taken back
-  pub back-lists : (from : Part) → IsWaiting from → IsChosen z from v w → (without_marks from w).lists ≡ v.lists
-  back-lists parts.Current q h = absurd q
-  back-lists parts.Here q h = absurd q
-  back-lists parts.Top q h = absurd q
-  back-lists parts.Bottom q h = absurd q
-  back-lists parts.Deferred q h = h.lists
-  back-lists parts.Double q h = absurd q
-  back-lists parts.Second q h = h.lists
-
   pub back-size : (from : Part) → IsWaiting from → IsChosen z from v w → (without_marks from w).size ≡ v.size
   back-size parts.Current q h = absurd q
   back-size parts.Here q h = absurd q

@@ -74,10 +74,6 @@ doubled-count from q p s before (f ∷ rest) l e =
 pub room-stays : (v w : FloatPool) (room : ℕ) → w.size ≡ v.size → live_count w.lists ≡ live_count v.lists → HasRoomFor v room → HasRoomFor w room
 room-stays v w room size count h = omega (arith, size, count, h)
 
--- there is a warning's room for each box that the pool may hold
-pub room-full : (v : FloatPool) (n : ℕ) (z : ℤ) → pos n ≡ z → pos v.size ≡ z → HasRoomFor v n
-room-full v n z most size = let e : n ≡ v.size = cc in omega (arith, e)
-
 -- what is chosen takes no room
 pub marks-room : (from : Part) (v : FloatPool) (room : ℕ) → HasRoomFor v room → HasRoomFor (without_marks from v) room
 marks-room parts.Current v room h = h

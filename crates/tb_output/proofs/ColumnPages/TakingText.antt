@@ -57,9 +57,6 @@ module _ (m now : MachineView) (store mid new : Lists Node) (body : ℕ) (notes 
     fields = pooled-fields (without_text_floats m.pool) m now is_now;
   }
 
-  pub text-apart : IsNoneOf body (machine_lists now)
-  text-apart = subst (IsNoneOf body) (sym (pooled-lists (without_text_floats m.pool) m now is_now)) lists.apart.0
-
   module _ (c : Column) (list : c.list ≡ body) (page : IsPageColumn mid c) where
     column-same : get new.lists c.list ≡ get mid.lists c.list
     column-same = subst (λ q. get new.lists q ≡ get mid.lists q) (sym list) (closed body lists.notes.apart.0)

@@ -18,10 +18,6 @@ pub live-all : (s : Lists Node) (xs : List ℕ) → AllLive s xs → AllByRecurs
 live-all s [] h = tt
 live-all s (x ∷ xs) h = (h.0, live-all s xs h.1)
 
-pub all-live : (s : Lists Node) (xs : List ℕ) → AllByRecursion (IsLive s) xs → AllLive s xs
-all-live s [] h = tt
-all-live s (x ∷ xs) h = (h.0, all-live s xs h.1)
-
 pub stand-same : (s t : Lists Node) (xs : List ℕ) → AllByRecursion (Stands s t) xs → AllSame s t xs
 stand-same s t [] h = tt
 stand-same s t (x ∷ xs) h = (h.0, stand-same s t xs h.1)

@@ -43,14 +43,6 @@ keeps-same args m store new is same = record {
   fields = fields-same m;
 }
 
--- the machine changed alone, and owns no other list
-pub keeps-alone : (args : List ℕ) (m now : MachineView) (store : Lists Node) → IsMachine now store → KeepsFields m now → ((q : ℕ) → IsNoneOf q (machine_lists m) → IsNoneOf q (machine_lists now)) → KeepsMachine args m now store store
-keeps-alone args m now store is fields fewer = record {
-  machine = is;
-  frame = λ q live none. (refl, fewer q (none-back q args (machine_lists m) none));
-  fields = fields;
-}
-
 -- one call after another, whose arguments are those of the first or lists that were opened
 pub keeps-then : (args more : List ℕ) (m mid now : MachineView) (store middle new : Lists Node) → KeepsMachine args m mid store middle → KeepsMachine more mid now middle new → ((q : ℕ) → IsLive store q → IsNoneOf q args → IsNoneOf q more) → KeepsMachine args m now store new
 keeps-then args more m mid now store middle new x y among = record {
@@ -127,9 +119,6 @@ module _ (args : List ℕ) (m now : MachineView) (store new : Lists Node) (l : �
   pub beside-shows : plain_list new l ≡ plain_list store l
   beside-shows = back-shows store new l beside-stand
 
-  pub beside-list : list_at new l ≡ list_at store l
-  beside-list = back-list store new l beside-stand
-
   pub keeps-beside : KeepsBack l args m now store new
   keeps-beside = record {
     machine = k.machine;
@@ -158,15 +147,6 @@ keeps-back_then l args more m mid now store middle new x y among = record {
       let second = y.frame q still (none-join q more (back_lists middle l ++ machine_lists mid) (among q live (none-front q args (back_lists store l ++ machine_lists m) none)) first.1) in
       (second.0 ∙ first.0, second.1);
   fields = fields-then m mid now x.fields y.fields;
-}
-
--- more arguments
-pub keeps-back_more : (l : ℕ) (args more : List ℕ) (m now : MachineView) (store new : Lists Node) → KeepsBack l args m now store new → ((q : ℕ) → IsNoneOf q more → IsNoneOf q args) → KeepsBack l more m now store new
-keeps-back_more l args more m now store new x fewer = record {
-  machine = x.machine;
-  back = x.back;
-  frame = λ q live none. x.frame q live (none-join q args (back_lists store l ++ machine_lists m) (fewer q (none-front q more (back_lists store l ++ machine_lists m) none)) (none-back q more (back_lists store l ++ machine_lists m) none));
-  fields = x.fields;
 }
 
 -- the machine changed alone, and owns the same lists

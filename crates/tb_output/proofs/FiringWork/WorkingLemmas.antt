@@ -34,9 +34,6 @@ leads-does from to next f rest leads does before w h =
     let l = leads before w h in
     subst (λ v. next before v) (sym l.2) (does before l.0 l.1)
 
-pub leads-all : (from : Fact) (f : Work → Work) → Leads from from f f
-leads-all from f before w h = (w, h, refl)
-
 -- a part of what is left is done
 pub leads-on : (from to next : Fact) (f rest one left : Work → Work) → Leads from to f rest → Does to next one → ((before : List PlainSent) (w : Work) → to before w → rest w ≡ left (one w)) → Leads from next f left
 leads-on from to next f rest one left leads does split before w h =
@@ -79,12 +76,6 @@ no-memory m now store new f same goes before w h =
 -- the same with more that is given
 pub no-memory_given : (from : Fact) (m now : MachineView) (store new : Lists Node) (f : Work → Work) → ((before : List PlainSent) (w : Work) → from before w → ShowsWork before m store w) → events_shown new now.events ≡ events_shown store m.events → ((w : Work) → Continues w (f w)) → Does from (IsCutShort faults.Memory now new) f
 no-memory_given from m now store new f given same goes before w h = no-memory m now store new f same goes before w (given before w h)
-
--- a work that another machine and store show as well
-pub cut-moved : (e : RunFault) (before : List PlainSent) (m now : MachineView) (store new : Lists Node) (w : Work) → events_shown new now.events ≡ events_shown store m.events → IsCutShort e m store before w → IsCutShort e now new before w
-cut-moved (faults.DeadCycles n) before m now store new w same h = absurd h
-cut-moved (faults.PageLimit n) before m now store new w same h = record { refused = h.refused; pages = h.pages; sent = same ∙ h.sent }
-cut-moved faults.Memory before m now store new w same h = record { count = h.count; sent = same ∙ h.sent }
 
 -- ---- the work in terms of the machine
 

@@ -28,34 +28,14 @@ faulted e m = record m { fault = Some e }
 
 -- ---- what a fault and a count do not change
 
-pub counted-machine : (m : MachineView) (store : Lists Node) → IsMachine m store → IsMachine (counted m) store
-counted-machine m store is = machine-beside m store is m.goal is.goal (m.dead_cycles + 1) m.note_bottom m.fault
-
 pub faulted-machine : (e : RunFault) (m : MachineView) (store : Lists Node) → IsMachine m store → IsMachine (faulted e m) store
 faulted-machine e m store is = machine-beside m store is m.goal is.goal m.dead_cycles m.note_bottom (Some e)
-
-pub counted-fire : (m : MachineView) (b : Builder) (store : Lists Node) (page : Page) → CanFire m b store page → CanFire (counted m) b store page
-counted-fire m b store page h = record {
-  awaits = h.awaits;
-  classes = h.classes;
-  penalty = h.penalty;
-  note_bottom = h.note_bottom;
-  body = h.body;
-  boxes = h.boxes;
-  few = h.few;
-  body_apart = h.body_apart;
-  body_free = h.body_free;
-  machine_free = h.machine_free;
-}
 
 pub keeps-counted : (body : ℕ) (m now : MachineView) (b later : Builder) (store new : Lists Node) → KeepsAll body (counted m) now b later store new → KeepsAll body m now b later store new
 keeps-counted body m now b later store new h = record { machine = h.machine; builder = h.builder; frame = h.frame; params = h.params; classes = h.classes }
 
 pub keeps-faulted : (e : RunFault) (body : ℕ) (m now : MachineView) (b later : Builder) (store new : Lists Node) → KeepsAll body (counted m) now b later store new → KeepsAll body m (faulted e now) b later store new
 keeps-faulted e body m now b later store new h = record { machine = faulted-machine e now new h.machine; builder = h.builder; frame = h.frame; params = h.params; classes = h.classes }
-
-pub keeps-untouched : (body : ℕ) (m : MachineView) (b : Builder) (store : Lists Node) → IsMachine m store → IsSound b store → KeepsAll body m m b b store store
-keeps-untouched body m b store is sound = record { machine = is; builder = sound; frame = λ q live none. (refl, none.1); params = refl; classes = refl }
 
 -- ---- why no firing begins
 

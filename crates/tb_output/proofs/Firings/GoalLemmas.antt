@@ -106,13 +106,6 @@ int-same a b e = let zero = zero-is (a -ℤ b) e in omega (arith, ints)
 pub int-is : (a b : ℤ) → a ≡ b → is_int a b ≡ true
 int-is a b e = let zero : a -ℤ b ≡ pos 0 = omega (arith, ints) in ap is_zero zero
 
-pub int-is_not : (a b : ℤ) → (a ≡ b → ⊥) → is_int a b ≡ false
-int-is_not a b differ = by_test (is_int a b) refl
-  where
-    by_test : (t : Bool) → is_int a b ≡ t → t ≡ false
-    by_test true e = absurd (differ (int-same a b e))
-    by_test false e = refl
-
 -- after a page that is held
 pub goal-held : (p : Params) (n : ℤ) (w : Work) → is_int n hold_penalty ≡ true → with_goal max_dimen w ≡ next_goal p n w
 goal-held p n w e = sym (ap (λ t. if t then with_goal max_dimen w else goal_by p (column_room_of p w.state.floats) w) e)

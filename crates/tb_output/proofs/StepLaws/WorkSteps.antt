@@ -112,20 +112,8 @@ firing-unrefused x h = unrefused-before (continues x) h
 
 -- ---- floats
 
-pub continues-lists : (l : FloatLists) (w : Work) → Continues w (with_floats l w)
-continues-lists l w = continues-same refl refl refl refl refl
-
-pub continues-place_float : (p : Params) (place : Where) (f : Float) (left : FloatLists) (w : Work) → Continues w (FloatMoves.place_float p place f left w)
-continues-place_float p place f left w = column-continues (place_float-step p (no_law p) place f left w tt)
-
-pub continues-place_waiting : (from : Part) (p : Params) (place : Where) (f : Float) (before rest : List Float) (w : Work) → Continues w (FloatMoves.place_waiting from p place f before rest w)
-continues-place_waiting from p place f before rest w = column-continues (place_waiting-step p (no_law p) from place f before rest w tt)
-
 pub continues-place_next : (p : Params) (before fs : List Float) (w : Work) → Continues w (FloatMoves.place_next p before fs w)
 continues-place_next p before fs w = column-continues (place_next-step p (no_law p) before fs w)
-
-pub continues-place_double : (from : Part) (p : Params) (before fs : List Float) (w : Work) → Continues w (FloatMoves.place_double from p before fs w)
-continues-place_double from p before fs w = column-continues (place_double-step p (no_law p) from before fs w)
 
 -- ---- pages and columns
 
@@ -144,14 +132,8 @@ continues-fill_double p w = column-continues (place_double-step p (no_law p) (wi
 pub continues-ship_pair : (p : Params) (c : PlainColumn) (w : Work) → Continues w (Pages.ship_pair p c w)
 continues-ship_pair p c w = column-continues (ship_pair-step p (no_law p) c w)
 
-pub continues-put_out_by : (p : Params) (c : PlainColumn) (w : Work) → Continues w (Pages.put_out_by p c w)
-continues-put_out_by p c w = column-continues (put_out_by-step p (no_law p) c w)
-
 pub continues-after_column : (w : Work) → Continues w (Pages.after_column w)
 continues-after_column w = continues-same refl refl refl refl refl
-
-pub continues-put_out : (p : Params) (c : PlainColumn) (w : Work) → Continues w (Pages.put_out p c w)
-continues-put_out p c w = column-continues (put_out-step p (no_law p) c w)
 
 pub continues-put_out_text : (p : Params) (body : List PlainNode) (w : Work) → Continues w (Columns.put_out_text p body w)
 continues-put_out_text p body w = continues (put_out_text-step p (no_law p) body w)
@@ -167,9 +149,6 @@ continues-all_float_columns p clearing w = continues-float_columns p clearing (l
 
 pub continues-fill_column : (p : Params) (w : Work) → Continues w (Columns.fill_column p w)
 continues-fill_column p w = continues-place_next p [] w.state.floats.deferred w
-
-pub continues-ordinary : (p : Params) (body : List PlainNode) (w : Work) → Continues w (Columns.ordinary p body w)
-continues-ordinary p body w = continues (ordinary-step p (no_law p) body w)
 
 -- ---- floats and notes in the text
 
@@ -191,9 +170,6 @@ continues-note_goes p depth m left w at = continues (note_goes-step p (no_law p)
 pub continues-first_goes : (p : Params) (vert : Bool) (height depth page_height : ℤ) (es : List Entry) (w : Work) → Continues w (Text.first_goes p vert height depth page_height es w)
 continues-first_goes p vert height depth page_height es w = continues (first_goes-step p (no_law p) vert height depth page_height es w)
 
-pub continues-float_or_note : (p : Params) (vert : Bool) (body : List PlainNode) (w : Work) → Continues w (Text.float_or_note p vert body w)
-continues-float_or_note p vert body w = continues (float_or_note-step p (no_law p) vert body w)
-
 -- ---- a clear
 
 pub continues-clear_wide : (p : Params) (w : Work) → Continues w (Clear.clear_wide p w)
@@ -202,22 +178,10 @@ continues-clear_wide p w = continues (clear_wide-step p (no_law p) w)
 pub continues-clear_rest : (w : Work) → Continues w (Clear.clear_rest w)
 continues-clear_rest w = continues_if w (has_floats w.state.floats.deferred || has_floats w.state.floats.second) (puts Clear.clear_again w) w (continues-puts Clear.clear_again w) (continues-same refl refl refl refl refl)
 
-pub continues-clear_floats : (p : Params) (body : List PlainNode) (w : Work) → Continues w (Clear.clear_floats p body w)
-continues-clear_floats p body w = continues (clear_floats-step p (no_law p) body w)
-
-pub continues-clear : (p : Params) (body : List PlainNode) (w : Work) → Continues w (Clear.clear p body w)
-continues-clear p body w = continues (clear_by-step p (no_law p) body w (footnotes w.state))
-
 -- ---- a firing
-
-pub continues-hold : (body : List PlainNode) (w : Work) → Continues w (Output.hold body w)
-continues-hold body w = continues-same refl refl refl refl refl
 
 pub continues-output_by : (p : Params) (f : Fired) (w : Work) → Continues w (Output.output_by p f w)
 continues-output_by p f w = continues (output_by-step p (no_law p) f w)
-
-pub continues-with_goal : (g : ℤ) (w : Work) → Continues w (Output.with_goal g w)
-continues-with_goal g w = continues-same refl refl refl refl refl
 
 pub continues-leave_column : (w : Work) → Continues w (Output.leave_column w)
 continues-leave_column w =
@@ -225,17 +189,3 @@ continues-leave_column w =
 
 pub continues-next_goal : (p : Params) (n : ℤ) (w : Work) → Continues w (Output.next_goal p n w)
 continues-next_goal p n w = continues (next_goal-step p (no_law p) n w)
-
--- a firing without what waits after it
-pub continues-page_work : (p : Params) (s : State) (f : Fired) → Continues (begun (Output.after_page s f)) (page_work p s f)
-continues-page_work p s f = continues (page_work-step p (no_law p) s f)
-
--- a whole firing
-pub out-is : (p : Params) (s : State) (f : Fired) → Output.out p s f ≡ Output.waiting_again f (page_work p s f)
-unfolding page_work Output.out
-out-is p s f = refl
-
--- a firing sends what its work sends, is refused if that is, and keeps the classes
-pub continues-out : (p : Params) (s : State) (f : Fired) → ((Output.out p s f).sent ≡ (page_work p s f).sent) × ((Output.out p s f).refused ≡ (page_work p s f).refused) × ((Output.out p s f).state.page ≡ (page_work p s f).state.page) × ((Output.out p s f).state.classes ≡ s.classes)
-unfolding page_work Output.out
-continues-out p s f = (refl, refl, refl, (continues-page_work p s f).classes)

@@ -52,9 +52,6 @@ keeps-then p s t u h k = record {
   asks = k.asks ∙ h.asks;
 }
 
-keeps-is : (p : Params) (s t u : State) → t ≡ u → ActKeeps p s t → ActKeeps p s u
-keeps-is p s t u e h = subst (ActKeeps p s) e h
-
 pub taken-append : (xs ys : List Entry) → notes_taken (xs ++ ys) ≡ notes_taken xs + notes_taken ys
 taken-append [] ys = omega arith
 taken-append (x ∷ xs) ys = let e = taken-append xs ys in omega (arith, e)

@@ -18,13 +18,6 @@ use Rattle.tb_builder.proofs.Ownership.FrameLemmas.{plain_joins, empty_may_wait}
 use Rattle.tb_builder.proofs.Ownership.SpareLemmas.{contents_still, owned_still, sound_still}
 use Rattle.tb_run.specs.WaitingNodes.{CanTake, Waits, lone}
 
--- more can be taken afterwards
-pub waits-can : (ns : List PlainNode) (b : Builder) (s : Lists Node) (d : Builder) (t : Lists Node) → CanTake b s → Waits ns b s d t → CanTake d t
-waits-can ns b s d t h w = record {
-  sound = w.sound;
-  empty = record { page = ap (λ (c : Contents). c.page) w.contents ∙ h.empty.page; frozen = ap (λ (c : Contents). c.frozen) w.contents ∙ h.empty.frozen };
-}
-
 -- one after the other
 pub waits-then : (ns ms : List PlainNode) (b : Builder) (s : Lists Node) (d : Builder) (t : Lists Node) (e : Builder) (u : Lists Node) → Waits ns b s d t → Waits ms d t e u → Waits (ns ++ ms) b s e u
 waits-then ns ms b s d t e u w x = record {

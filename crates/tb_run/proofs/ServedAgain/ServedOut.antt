@@ -105,10 +105,6 @@ module _ (p : Params) (s : State) (f : Fired) (runs : AreRunnable p) (classes : 
   unfolding out
   back-is = refl
 
-  -- of the same classes
-  pub out-classes : (out p s f).state.classes ≡ s.classes
-  out-classes = ap (λ (t : State). t.classes) state-is ∙ kept-work.classes
-
   -- not many more nodes are held
   pub out-count : held_count (out p s f).state ≤ fired_count f + node_count s.held_page + 270
   out-count =

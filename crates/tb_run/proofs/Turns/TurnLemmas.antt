@@ -53,9 +53,6 @@ module _ (wanted : Bool) (r q : Routine) (e : Ending) (hs : List Happening) (h :
   pub last-turned : IsTurned wanted r hs (Some e) q
   last-turned = record { events = h.quiet.events q.store; ended = h.ended }
 
-  pub last-ended : IsEnded q
-  last-ended = sound-ended q h.whole.builder h.whole.machine
-
   pub last-pages : ArePages q.store hs
   last-pages = quiet-pages q.store hs h.quiet.lists
 
@@ -190,9 +187,6 @@ module _ (wanted : Bool) (r q d : Routine) (page : Page) (o : Option Ending) (hs
 
   pub served-ready : IfNone o (IsReady end)
   served-ready = settled-by o k.served
-
-  pub served-ended : IsEnded end
-  served-ended = record { machine = taken-machine d.machine d.store k.ended.machine; page = k.ended.page }
 
   pub served-pages : ArePages d.store new
   served-pages = subst (ArePages d.store) (sym handed) (all-join (IsPage d.store) hs (sent_happenings d.machine.events) (quiet-pages d.store hs h.quiet.lists) (sent-pages d.store d.machine.events k.ended.machine.events))

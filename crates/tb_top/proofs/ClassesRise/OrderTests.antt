@@ -43,10 +43,6 @@ abbrev pub StandsBefore : ℕ → ℕ → List ℕ → Type 0
 StandsBefore a b [] = ⊥
 StandsBefore a b (x ∷ xs) = ((x ≡ a) × IsAmong b xs) ⊎ StandsBefore a b xs
 
-before-back : (a b : ℕ) (xs ys : List ℕ) → StandsBefore a b ys → StandsBefore a b (xs ++ ys)
-before-back a b [] ys h = h
-before-back a b (x ∷ xs) ys h = inr (before-back a b xs ys h)
-
 -- what holds of the lines of a class holds of those of all floats
 module _ (c : FloatKind) where
   kind-among : (n l : ℕ) (d : PlainKind) (ys zs : List ℕ) → (IsAmong n ys → IsAmong n zs) → IsAmong n (kind_lines c d ++ ys) → IsAmong n (float_lines_of l d ++ zs)

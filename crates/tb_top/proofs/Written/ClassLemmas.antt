@@ -107,7 +107,3 @@ items-fit g v (n ∷ ns) i c =
 
 pub valid-fit : (g : Galley) → IsValid g → ItemsFit (class_numbers (classes_of g)) g.items
 valid-fit g v = items-fit g v g.items v.items v.feet
-
--- a run of a valid galley begins with a state that keeps what runs keep
-pub valid-kept : (g : Galley) → IsValid g → Kept (first_state g.params (classes_of g) (expanded g))
-valid-kept g v = start-kept g (valid-differ g v) (valid-fit g v)

@@ -93,11 +93,6 @@ viewed-append views.Report a b = refl
 viewed-append views.Trace a b = refl
 viewed-append views.Silent a b = refl
 
-viewed-nothing : (v : View) → viewed v [] ≡ []
-viewed-nothing views.Report = refl
-viewed-nothing views.Trace = refl
-viewed-nothing views.Silent = refl
-
 -- ---- the run from here
 
 -- the lines of a part of the run, if the whole run has these events

@@ -69,14 +69,6 @@ few-sent store (events.Ship page sheet) h = sheet-few store sheet h
 
 -- the same of what a turn sends, if it sends anything
 module _ (store : Lists Node) where
-  pub printable-some : (o : Option Sent) → IfSome o (IsPageSent store) → IfSome o (IsPrintableSent store)
-  printable-some None h = tt
-  printable-some (Some e) h = printable-sent store e h
-
   pub live-some : (o : Option Sent) → IfSome o (IsPageSent store) → IfSome o (IsLiveSent store)
   live-some None h = tt
   live-some (Some e) h = live-sent store e h
-
-  pub few-some : (o : Option Sent) → IfSome o (IsPageSent store) → IfSome o (λ s. node_total (sent_shown store s) ≤ 25165824)
-  few-some None h = tt
-  few-some (Some e) h = few-sent store e h

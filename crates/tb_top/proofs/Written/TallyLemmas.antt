@@ -25,10 +25,6 @@ use Rattle.tb_top.proofs.Written.PrintablePages.{few-sent}
 
 -- ---- the totals of events
 
-one-most : (t : Bool) → one_if t ≤ 1
-one-most true = omega arith
-one-most false = omega arith
-
 -- each page has at most 3 · 2^23 nodes
 abbrev pub AreFewNodes : List PlainSent → Type 0
 AreFewNodes es = AllByRecursion (λ e. node_total e ≤ 25165824) es
