@@ -7,7 +7,7 @@ use Rattle.std.specs.List.{list_all}
 use Rattle.std.proofs.lemmas.Bool.{eqb-true, and_from}
 use Rattle.std.proofs.lemmas.Bool.Decides.{nat_tests}
 use Rattle.tb_text.specs.Lines.{lines_of}
-use Rattle.tb_text.proofs.LineTexts.{joined_lines, lines_of-joined}
+use Rattle.tb_text.proofs.LineTexts.{joined_lines, joined_lines-append, lines_of-joined}
 use Rattle.tb_param.specs.declared.params.Params.{Params}
 use Rattle.tb_param.specs.Fields.{value_of}
 use Rattle.tb_param.specs.Defaults.{default_params}

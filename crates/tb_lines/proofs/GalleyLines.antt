@@ -11,7 +11,7 @@ use Rattle.tb_scaled.specs.declared.Order.TheVariants.{Normal}
 use Rattle.tb_node.specs.Names.{is_name, is_name_byte, is_alphanumeric}
 use Rattle.tb_text.specs.Numbers.{is_digit}
 use Rattle.tb_text.proofs.NumberTexts.{number_passes}
-use Rattle.tb_text.proofs.LineTexts.{joined_lines}
+use Rattle.tb_text.proofs.LineTexts.{joined_lines, joined_lines-append}
 use Rattle.tb_param.specs.Table.{is_dimen}
 use Rattle.tb_galley.specs.declared.Item.{Item}
 use Rattle.tb_galley.specs.declared.ItemKind.{ItemKind}
