@@ -107,7 +107,7 @@ fn give(p: &mut Paged, nodes: &[Node]) -> Result<(), AllocError>
 }
 
 // A list of these nodes.
-fn make_list(store: &mut Lists<Node>, nodes: &[Node]) -> Result<ListId, AllocError>
+pub(crate) fn make_list(store: &mut Lists<Node>, nodes: &[Node]) -> Result<ListId, AllocError>
     ensures fresh { IfOk result (λ l. get store.old.lists l ≡ None) }
     ensures made { IfOk result (λ l. get store.new.lists l ≡ Some nodes.now) }
     ensures others { (q : ℕ) → IsLive store.old q → get store.new.lists q ≡ get store.old.lists q }
