@@ -249,6 +249,19 @@ fn put_nothing_back(alloc: Global, p: &mut Paged) -> Result<Vec<(char, i64)>, Al
     told_list(alloc, &p.store, p.builder.waiting())
 }
 
+// What is in the list of the insertion that waits first; nothing, if none does.
+fn first_note(alloc: Global, p: &Paged) -> Result<Vec<(char, i64)>, AllocError>
+    requires { IsSound p.now.builder p.now.store }
+{
+    let Some(n) = p.store.get(p.builder.waiting(), 0) else {
+        return Ok(Vec::new(alloc));
+    };
+    let Kind::Ins(i) = n.kind else {
+        return Ok(Vec::new(alloc));
+    };
+    told_list(alloc, &p.store, i.list)
+}
+
 // What waits after these nodes were put first.
 fn put_before_all(
     alloc: Global,
@@ -323,6 +336,10 @@ fn an_insertion_that_is_split(rt: HostRuntime) -> Result<(), Fail> {
     );
     let waiting = put_nothing_back(rt.alloc(), &mut p)?;
     assert_eq!(rt; waiting.as_slice(), [('i', 11), ('p', 10000)].as_slice());
+    assert_eq!(rt;
+        first_note(rt.alloc(), &p)?.as_slice(),
+        [('g', 0), ('b', 11)].as_slice()
+    );
     assert_eq!(rt; p.builder.nodes(&p.store), 4);
     Ok(())
 }
