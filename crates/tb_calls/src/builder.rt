@@ -107,7 +107,7 @@ fn give(p: &mut Paged, nodes: &[Node]) -> Result<(), AllocError>
 }
 
 // A list of these nodes.
-fn make_list(store: &mut Lists<Node>, nodes: &[Node]) -> Result<ListId, AllocError>
+pub(crate) fn make_list(store: &mut Lists<Node>, nodes: &[Node]) -> Result<ListId, AllocError>
     ensures fresh { IfOk result (λ l. get store.old.lists l ≡ None) }
     ensures made { IfOk result (λ l. get store.new.lists l ≡ Some nodes.now) }
     ensures others { (q : ℕ) → IsLive store.old q → get store.new.lists q ≡ get store.old.lists q }
@@ -249,6 +249,19 @@ fn put_nothing_back(alloc: Global, p: &mut Paged) -> Result<Vec<(char, i64)>, Al
     told_list(alloc, &p.store, p.builder.waiting())
 }
 
+// What is in the list of the insertion that waits first; nothing, if none does.
+fn first_note(alloc: Global, p: &Paged) -> Result<Vec<(char, i64)>, AllocError>
+    requires { IsSound p.now.builder p.now.store }
+{
+    let Some(n) = p.store.get(p.builder.waiting(), 0) else {
+        return Ok(Vec::new(alloc));
+    };
+    let Kind::Ins(i) = n.kind else {
+        return Ok(Vec::new(alloc));
+    };
+    told_list(alloc, &p.store, i.list)
+}
+
 // What waits after these nodes were put first.
 fn put_before_all(
     alloc: Global,
@@ -323,6 +336,10 @@ fn an_insertion_that_is_split(rt: HostRuntime) -> Result<(), Fail> {
     );
     let waiting = put_nothing_back(rt.alloc(), &mut p)?;
     assert_eq!(rt; waiting.as_slice(), [('i', 11), ('p', 10000)].as_slice());
+    assert_eq!(rt;
+        first_note(rt.alloc(), &p)?.as_slice(),
+        [('g', 0), ('b', 11)].as_slice()
+    );
     assert_eq!(rt; p.builder.nodes(&p.store), 4);
     Ok(())
 }
