@@ -35,7 +35,7 @@ use Rattle.tb_output.specs.State.{State, ask_of, Recorded}
 use Rattle.tb_output.specs.Output.{hold_penalty, out}
 use Rattle.tb_output.specs.Machine.{MachineView, state_shown, machine_lists}
 use Rattle.tb_output.specs.Firing.{builder_lists, fired_in, IsReach, CanFire}
-use Rattle.tb_output.proofs.Clears.ClearSteps.{shapes-shown}
+use Rattle.tb_column.proofs.ShownLemmas.{shapes-held}
 use Rattle.tb_output.proofs.FiringWork.ApartLemmas.{fresh-none, lacks-none}
 use Rattle.tb_output.proofs.FiringWork.StandLemmas.{machine-live}
 use Rattle.tb_run.specs.declared.happenings.Happening.{Happening}
@@ -203,7 +203,7 @@ module _ (wanted : Bool) (r q d : Routine) (hs : List Happening) (ready : IsRead
         ∙ firing-same p (so_far p s h.rs).events (so_far p s h.rs).records d.store s.boxes (held_in d).boxes s.waiting (held_in d).waiting d.machine (fired_in d.builder d.store page);
     whole = whole;
     can = can-fire;
-    room = subst (λ x. TellsRoom x d.builder d.store) is told ∙ ap size_of (shapes-shown (list_at d.store) (list_at d.store page.body));
+    room = subst (λ x. TellsRoom x d.builder d.store) is told ∙ ap size_of (shapes-held (list_at d.store) (list_at d.store page.body));
     taken = next-taken wanted r q d hs ready h ask asked e of_page sound keeps same most;
     params = next-params wanted r q d hs ready h ask asked e of_page sound keeps same most;
     classes = classes-now;
