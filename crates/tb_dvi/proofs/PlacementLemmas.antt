@@ -1,5 +1,5 @@
 -- A walk of a list that writes each node at its top.
-use Rattle.std.proofs.Common.{◌≡◌, refl, ◌∙◌, ap, sym, subst, ℕ, suc, ◌+◌, ◌<◌, ◌≤◌, length, drop, get_or, drop-cons, arith, ℤ, pos, ◌≢◌, ◌+ℤ◌, true, false, ◌||◌, FitsSigned, w32, List, [], ◌∷◌, ◌++◌, map, flat_map, Ok, Err, append_assoc, append-nil}
+use Rattle.std.proofs.Common.{◌≡◌, refl, ◌∙◌, ap, sym, subst, ℕ, suc, ◌+◌, ◌<◌, ◌≤◌, length, drop, get_or, drop-cons, arith, ℤ, pos, ◌≢◌, ◌+ℤ◌, true, false, ◌||◌, FitsSigned, w32, w64, List, [], ◌∷◌, ◌++◌, map, flat_map, Ok, Err, append_assoc, append-nil}
 use Rattle.std.proofs.lemmas.List.{drop_all, map-append}
 use Rattle.std.proofs.lemmas.List.Concat.{flat_map-append}
 use Rattle.std.proofs.lemmas.List.Folds.{list_any-append}
@@ -8,10 +8,13 @@ use Rattle.tb_node.specs.declared.Node.{Node}
 use Rattle.tb_node.specs.declared.Kind.{Kind}
 use Rattle.tb_node.specs.declared.Kind.TheVariants as kinds
 use Rattle.tb_node.specs.Shape.{Shape}
+use Rattle.tb_node.specs.SmallAmounts.{IsSmallShape}
+use Rattle.tb_node.specs.Fit.{NodesFit, SumsFit}
 use Rattle.tb_node.specs.PlainNodes.{plain_kind, node_shape, shape_of, plain_of, matter_of}
 use Rattle.tb_pack.specs.declared.Set.{Set}
 use Rattle.tb_pack.specs.Pack.{top_after}
-use Rattle.tb_pack.specs.Position.{Walked, HasPassed}
+use Rattle.tb_pack.specs.Position.{Walked, walked_past, HasPassed}
+use Rattle.tb_pack.proofs.WalkLemmas.{next_natural_fits, next_glue_fits}
 use Rattle.tb_column.proofs.ShownLemmas.{shapes-held}
 use Rattle.tb_column.specs.declared.Column.{Column}
 use Rattle.tb_report.specs.Printable.{IsPrintable}
@@ -102,34 +105,47 @@ module _ (held : ℕ → List Node) (h at : ℤ) (s : Set) where
     pub ends : Placing ns w old now [] → Writes (Ok tt) old now (placed [] ns)
     ends p = none_left (placed [] ns) old now p.left
 
-    module _ (n : Node) (rest : List Node) (p : Placing ns w old now (n ∷ rest)) (top : ℤ) (at_top : (set : Set) (passed : List Shape) → HasPassed w set passed → top ≡ top_after set passed) where
-      -- the placements of the node
-      abbrev its : List Placement
-      its = spot_placed h (at +ℤ top) (matter_spot (matter_of n.kind))
+    module _ (n : Node) (rest : List Node) (p : Placing ns w old now (n ∷ rest)) where
+      shapes_whole : map shape_of p.before ++ shape_of n ∷ map shape_of rest ≡ map shape_of ns
+      shapes_whole = sym (map-append shape_of p.before (n ∷ rest)) ∙ ap (map shape_of) p.whole
 
-      its_place : spot_placed h (at +ℤ top_after s (map node_shape (map (plain_of held) p.before))) (kind_spot (plain_kind held n.kind)) ≡ its
-      its_place =
-          ap (λ k. spot_placed h (at +ℤ top_after s (map node_shape (map (plain_of held) p.before))) k) (kind_spot-held n.kind)
-          ∙ ap (λ x. spot_placed h (at +ℤ x) (matter_spot (matter_of n.kind))) (ap (top_after s) (shapes-held held p.before) ∙ sym (at_top s (map shape_of p.before) p.passed))
+      pub node_fits : NodesFit (map shape_of ns) → IsSmallShape (shape_of n)
+      node_fits fits = fits (map shape_of p.before) (shape_of n) (map shape_of rest) shapes_whole
 
-      its_first : placed p.before (n ∷ rest) ≡ its ++ placed (p.before ++ n ∷ []) rest
-      its_first = λ i. its_place i ++ placed_after h at s (sym (map-append (plain_of held) p.before (n ∷ [])) i) (map (plain_of held) rest)
+      pub natural_fits : (limit : ℤ) → SumsFit limit (map shape_of ns) → FitsSigned w64 (walked_past w (shape_of n)).natural
+      natural_fits limit fits = next_natural_fits limit (map shape_of ns) w s (map shape_of p.before) (shape_of n) (map shape_of rest) fits shapes_whole p.passed
 
-      left_now : Left (placed [] ns) old now (its ++ placed (p.before ++ n ∷ []) rest)
-      left_now = subst (Left (placed [] ns) old now) its_first p.left
+      pub glue_fits : (limit : ℤ) → SumsFit limit (map shape_of ns) → FitsSigned w64 (walked_past w (shape_of n)).glue
+      glue_fits limit fits = next_glue_fits limit (map shape_of ns) w s (map shape_of p.before) (shape_of n) (map shape_of rest) fits shapes_whole p.passed
 
-      pub stops : (e : PlaceFault) (new : List ℕ) → Writes (Err e) now new its → Writes (Err e) old new (placed [] ns)
-      stops e new wrote = fault_left e (placed [] ns) old now new its (placed (p.before ++ n ∷ []) rest) left_now wrote
+      module _ (top : ℤ) (at_top : (set : Set) (passed : List Shape) → HasPassed w set passed → top ≡ top_after set passed) where
+        -- the placements of the node
+        abbrev its : List Placement
+        its = spot_placed h (at +ℤ top) (matter_spot (matter_of n.kind))
 
-      pub goes_on : (w' : Walked) (new : List ℕ) → Writes (Ok tt) now new its
-          → ((set : Set) (passed : List Shape) → HasPassed w set passed → HasPassed w' set (passed ++ shape_of n ∷ []))
-          → Placing ns w' old new rest
-      goes_on w' new wrote passes = record {
-        before = p.before ++ n ∷ [];
-        whole = append_assoc p.before (n ∷ []) rest ∙ p.whole;
-        passed = subst (HasPassed w' s) (sym (map-append shape_of p.before (n ∷ []))) (passes s (map shape_of p.before) p.passed);
-        left = fewer_left (placed [] ns) old now new its (placed (p.before ++ n ∷ []) rest) left_now wrote.0 wrote.1;
-      }
+        its_place : spot_placed h (at +ℤ top_after s (map node_shape (map (plain_of held) p.before))) (kind_spot (plain_kind held n.kind)) ≡ its
+        its_place =
+            ap (λ k. spot_placed h (at +ℤ top_after s (map node_shape (map (plain_of held) p.before))) k) (kind_spot-held n.kind)
+            ∙ ap (λ x. spot_placed h (at +ℤ x) (matter_spot (matter_of n.kind))) (ap (top_after s) (shapes-held held p.before) ∙ sym (at_top s (map shape_of p.before) p.passed))
+
+        its_first : placed p.before (n ∷ rest) ≡ its ++ placed (p.before ++ n ∷ []) rest
+        its_first = λ i. its_place i ++ placed_after h at s (sym (map-append (plain_of held) p.before (n ∷ [])) i) (map (plain_of held) rest)
+
+        left_now : Left (placed [] ns) old now (its ++ placed (p.before ++ n ∷ []) rest)
+        left_now = subst (Left (placed [] ns) old now) its_first p.left
+
+        pub stops : (e : PlaceFault) (new : List ℕ) → Writes (Err e) now new its → Writes (Err e) old new (placed [] ns)
+        stops e new wrote = fault_left e (placed [] ns) old now new its (placed (p.before ++ n ∷ []) rest) left_now wrote
+
+        pub goes_on : (w' : Walked) (new : List ℕ) → Writes (Ok tt) now new its
+            → ((set : Set) (passed : List Shape) → HasPassed w set passed → HasPassed w' set (passed ++ shape_of n ∷ []))
+            → Placing ns w' old new rest
+        goes_on w' new wrote passes = record {
+          before = p.before ++ n ∷ [];
+          whole = append_assoc p.before (n ∷ []) rest ∙ p.whole;
+          passed = subst (HasPassed w' s) (sym (map-append shape_of p.before (n ∷ []))) (passes s (map shape_of p.before) p.passed);
+          left = fewer_left (placed [] ns) old now new its (placed (p.before ++ n ∷ []) rest) left_now wrote.0 wrote.1;
+        }
 
 -- ---- the parts of a page
 

@@ -15,20 +15,6 @@ use Rattle.tb_pack.proofs.WalkLemmas.{next_natural_fits, next_glue_fits}
 use Rattle.tb_column.proofs.ShownLemmas.{shapes-held}
 use Rattle.tb_report.specs.Lines.{matter_line, node_line, item_lines}
 
--- the next node of a walk fits, and so does what the walk comes to after it
-module _ (s : Set) (ns : List Node) (w : Walked) (before : List Node) (n : Node) (rest : List Node) (whole : before ++ n ∷ rest ≡ ns) (passed : HasPassed w s (map shape_of before)) where
-  shapes_whole : map shape_of before ++ shape_of n ∷ map shape_of rest ≡ map shape_of ns
-  shapes_whole = sym (map-append shape_of before (n ∷ rest)) ∙ ap (map shape_of) whole
-
-  pub node_fits : NodesFit (map shape_of ns) → IsSmallShape (shape_of n)
-  node_fits fits = fits (map shape_of before) (shape_of n) (map shape_of rest) shapes_whole
-
-  pub natural_fits : (limit : ℤ) → SumsFit limit (map shape_of ns) → FitsSigned w64 (walked_past w (shape_of n)).natural
-  natural_fits limit fits = next_natural_fits limit (map shape_of ns) w s (map shape_of before) (shape_of n) (map shape_of rest) fits shapes_whole passed
-
-  pub glue_fits : (limit : ℤ) → SumsFit limit (map shape_of ns) → FitsSigned w64 (walked_past w (shape_of n)).glue
-  glue_fits limit fits = next_glue_fits limit (map shape_of ns) w s (map shape_of before) (shape_of n) (map shape_of rest) fits shapes_whole passed
-
 module _ (held : ℕ → List Node) where
   -- a node's line and its shape do not depend on the lists of insertions
   node_line-held : (k : Kind) (top : ℤ) → node_line (plain_kind held k) top ≡ matter_line (matter_of k) top
@@ -56,6 +42,19 @@ module _ (held : ℕ → List Node) where
   -- the share of the walk's glue has a value
   pub shares : (s : Set) (ns : List Node) (w : Walked) (old now : List ℕ) (rest : List Node) → Printing s ns w old now rest → s.den ≢ pos 0 → w.set.den ≢ pos 0
   shares s ns w old now rest p h e = h (sym (ap (λ t. t.den) p.passed.same_set) ∙ e)
+
+  module _ (s : Set) (ns : List Node) (w : Walked) (old now : List ℕ) (n : Node) (rest : List Node) (p : Printing s ns w old now (n ∷ rest)) where
+    shapes_whole : map shape_of p.before ++ shape_of n ∷ map shape_of rest ≡ map shape_of ns
+    shapes_whole = sym (map-append shape_of p.before (n ∷ rest)) ∙ ap (map shape_of) p.whole
+
+    pub node_fits : NodesFit (map shape_of ns) → IsSmallShape (shape_of n)
+    node_fits fits = fits (map shape_of p.before) (shape_of n) (map shape_of rest) shapes_whole
+
+    pub natural_fits : (limit : ℤ) → SumsFit limit (map shape_of ns) → FitsSigned w64 (walked_past w (shape_of n)).natural
+    natural_fits limit fits = next_natural_fits limit (map shape_of ns) w s (map shape_of p.before) (shape_of n) (map shape_of rest) fits shapes_whole p.passed
+
+    pub glue_fits : (limit : ℤ) → SumsFit limit (map shape_of ns) → FitsSigned w64 (walked_past w (shape_of n)).glue
+    glue_fits limit fits = next_glue_fits limit (map shape_of ns) w s (map shape_of p.before) (shape_of n) (map shape_of rest) fits shapes_whole p.passed
 
   pub goes_on : (s : Set) (ns : List Node) (w w' : Walked) (old now now' : List ℕ) (n : Node) (rest : List Node) (p : Printing s ns w old now (n ∷ rest))
       → ((set : Set) (passed : List Shape) → HasPassed w set passed → now' ≡ now ++ matter_line (matter_of n.kind) (top_after set passed))

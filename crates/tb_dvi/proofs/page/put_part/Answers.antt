@@ -3,8 +3,7 @@ use Rattle.std.specs.Int.{w128}
 use Rattle.std.proofs.lemmas.Int.{to_z-of_z}
 use Rattle.std.proofs.lemmas.Result.{err_from_is_err_and}
 use Rattle.tb_pool.specs.Lists.{list_at}
-use Rattle.tb_report.proofs.PrintLemmas.{node_fits, natural_fits, glue_fits}
-use Rattle.tb_dvi.proofs.PlacementLemmas.{begins, shares, goes_on, stops, ends}
+use Rattle.tb_dvi.proofs.PlacementLemmas.{begins, shares, node_fits, natural_fits, glue_fits, goes_on, stops, ends}
 use Rattle.tb_dvi.proofs.page.put_part.Goals as goal
 
 pub loop-node-init : goal.loop-node-init
@@ -27,13 +26,13 @@ returns-in_err-put_node c =
     rw (p.1, p.2) (stops _ _ _ _ _ _ _ _ _ _ so_far c.top.result c.top.ensures.after _ _ wrote)
 
 pub pass-requires-clause-node : goal.pass-requires-clause-node
-pass-requires-clause-node c = let p = rw c.in-Some.ensures.steps at c.loop-node.invariant.placing in node_fits _ _ _ _ _ _ p.whole p.passed c.requires.list.nodes
+pass-requires-clause-node c = node_fits _ _ _ _ _ _ _ _ _ _ (rw c.in-Some.ensures.steps at c.loop-node.invariant.placing) c.requires.list.nodes
 
 pub pass-requires-clause-natural : goal.pass-requires-clause-natural
-pass-requires-clause-natural c = let p = rw c.in-Some.ensures.steps at c.loop-node.invariant.placing in natural_fits _ _ _ _ _ _ p.whole p.passed c.requires.list.limit c.requires.list.sums
+pass-requires-clause-natural c = natural_fits _ _ _ _ _ _ _ _ _ _ (rw c.in-Some.ensures.steps at c.loop-node.invariant.placing) c.requires.list.limit c.requires.list.sums
 
 pub pass-requires-clause-glue : goal.pass-requires-clause-glue
-pass-requires-clause-glue c = let p = rw c.in-Some.ensures.steps at c.loop-node.invariant.placing in glue_fits _ _ _ _ _ _ p.whole p.passed c.requires.list.limit c.requires.list.sums
+pass-requires-clause-glue c = glue_fits _ _ _ _ _ _ _ _ _ _ (rw c.in-Some.ensures.steps at c.loop-node.invariant.placing) c.requires.list.limit c.requires.list.sums
 
 pub loop-node-preserved : goal.loop-node-preserved
 loop-node-preserved c =

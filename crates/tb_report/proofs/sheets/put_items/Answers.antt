@@ -12,13 +12,13 @@ pub put_next-requires : goal.put_next-requires
 put_next-requires c = shares _ _ _ _ _ _ _ c.loop-node.invariant.printing c.requires.share
 
 pub pass-requires-clause-node : goal.pass-requires-clause-node
-pass-requires-clause-node c = let p = rw c.in-Some.ensures.steps at c.loop-node.invariant.printing in node_fits _ _ _ _ _ _ p.whole p.passed c.requires.list.nodes
+pass-requires-clause-node c = node_fits _ _ _ _ _ _ _ _ (rw c.in-Some.ensures.steps at c.loop-node.invariant.printing) c.requires.list.nodes
 
 pub pass-requires-clause-natural : goal.pass-requires-clause-natural
-pass-requires-clause-natural c = let p = rw c.in-Some.ensures.steps at c.loop-node.invariant.printing in natural_fits _ _ _ _ _ _ p.whole p.passed c.requires.list.limit c.requires.list.sums
+pass-requires-clause-natural c = natural_fits _ _ _ _ _ _ _ _ (rw c.in-Some.ensures.steps at c.loop-node.invariant.printing) c.requires.list.limit c.requires.list.sums
 
 pub pass-requires-clause-glue : goal.pass-requires-clause-glue
-pass-requires-clause-glue c = let p = rw c.in-Some.ensures.steps at c.loop-node.invariant.printing in glue_fits _ _ _ _ _ _ p.whole p.passed c.requires.list.limit c.requires.list.sums
+pass-requires-clause-glue c = glue_fits _ _ _ _ _ _ _ _ (rw c.in-Some.ensures.steps at c.loop-node.invariant.printing) c.requires.list.limit c.requires.list.sums
 
 pub loop-node-preserved : goal.loop-node-preserved
 loop-node-preserved c =
