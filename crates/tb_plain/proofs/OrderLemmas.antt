@@ -1,6 +1,6 @@
 -- The page makeup ships the boxes and rules of the text in their order.
-use Rattle.std.proofs.Common.{◌≡◌, refl, sym, subst, ◌∙◌, ap, ℕ, ℤ, zero, suc, pos, ◌+◌, Bool, true, false, List, [], ◌∷◌, ◌++◌, map, take, drop, append_assoc, append-nil}
-use Rattle.std.specs.Prelude.{pred, ◌||◌, ◌&&◌, int_lt, int_le, if◌then◌else◌}
+use Rattle.std.proofs.Common.{◌≡◌, refl, sym, subst, ◌∙◌, ap, ℕ, ℤ, zero, suc, ◌+◌, Bool, true, false, List, [], ◌∷◌, ◌++◌, map, take, drop, append_assoc, append-nil}
+use Rattle.std.specs.Prelude.{◌||◌, ◌&&◌, int_lt, int_le, if◌then◌else◌}
 use Rattle.tb_node.specs.declared.Act.{Act}
 use Rattle.tb_node.specs.declared.Act.TheVariants as acts
 use Rattle.tb_node.specs.declared.Float.{Float}
@@ -11,17 +11,16 @@ use Rattle.tb_insert.specs.Account.{Labelled, Label, whole, split, late, labelle
 use Rattle.tb_builder.specs.declared.PageSums.{PageSums}
 use Rattle.tb_builder.specs.Reach.{Reach, holds_box, laid_out}
 use Rattle.tb_builder.specs.FiredPages.{Fired, page_break, spent_kind, with_spent_break, unless_empty, held_of, held_insertions, box_content, content_of, frozen_for}
-use Rattle.tb_builder.specs.Contents.{node_count}
 use Rattle.tb_builder.specs.PageSums.{page_sums_of}
 use Rattle.tb_builder.proofs.Cutting.CutLemmas.{CutAt}
-use Rattle.tb_column.specs.Column.{PlainSent, one, shipped, is_ragged}
+use Rattle.tb_column.specs.Column.{shipped, is_ragged}
 use Rattle.tb_plain.specs.GalleyNodes.{clearing_penalty}
 use Rattle.tb_plain.specs.TakenFloats.{top_insertion, top_leaves, page_leaves, here_nodes, with_float, taken_nodes, act_nodes}
-use Rattle.tb_plain.specs.Firing.{feet_below, holds_any, ragged_end, makeup_column_nodes, makeup_column, page_for_held, put_back_after}
-use Rattle.tb_plain.specs.Run.{MakeupState, done, page_limit, node_limit, MakeupRun, MakeupStep, ends, goes_on, makeup_ask, makeup_classes, void_boxes, builder_holds, makeup_reach, AtAct, no_act, at_act, after_node, first_act_by, first_act, meets_act, act_step, waiting_after, firing_step, last_step, makeup_step, run_by, makeup_from}
+use Rattle.tb_plain.specs.Firing.{feet_below, holds_any, ragged_end, makeup_column_nodes, page_for_held, put_back_after}
+use Rattle.tb_plain.specs.Run.{MakeupState, done, MakeupRun, MakeupStep, ends, goes_on, makeup_ask, makeup_classes, void_boxes, builder_holds, makeup_reach, AtAct, no_act, at_act, after_node, first_act_by, first_act, act_step, waiting_after, firing_step, last_step, makeup_step, run_by, makeup_from}
 use Rattle.tb_column.proofs.PrintedLines.{printed, prints, sent_prints, prints-append, prints-acts, prints-insertions, sent-append}
 use Rattle.tb_column.proofs.Within.{Within, within-same, both-within, before-within, within-front, within-within}
-use Rattle.tb_plain.proofs.ReachLemmas.{fired_here, makeup-cut}
+use Rattle.tb_plain.proofs.ReachLemmas.{fired_here, makeup-cut, firing-cases, step-cases}
 
 -- ---- what nodes show
 
@@ -174,43 +173,27 @@ act-shows p s (at_act before a after) h = λ zs w. subst (λ l. Within l zs) (sy
         ∙ (λ i. sym (prints-laid p.topskip s.page before) i ++ sym (put-prints p (page_sums_of (builder_holds p come)) a after) i)
 
 firing-shows : (p : Params) (s : MakeupState) (w : Reach) → state_prints s ≡ prints w.passed ++ prints w.beyond → StepShows s (firing_step p s.number (fired_here p w))
-firing-shows p s w h = by_pages (int_lt p.maxpages (pos s.number)) (int_lt p.maxnodes (pos (node_count (waiting_after p f))))
+firing-shows p s w h = firing-cases (StepShows s) p s.number f (λ t e. cc) (λ t u e. cc) (λ t zs k.
+    subst (λ l. Within l ((prints (makeup_column_nodes p f) ++ []) ++ zs)) (sym (h ∙ fired-prints p w))
+    (subst (λ l. Within (prints f.body ++ prints (waiting_after p f)) (l ++ zs)) (sym (append-nil (prints (makeup_column_nodes p f))))
+    (both-within (prints f.body) (prints (makeup_column_nodes p f)) (prints (waiting_after p f)) zs (body-within p f) k)))
   where
     f : Fired
     f = fired_here p w
-
-    sent : List PlainSent
-    sent = shipped s.number (one (makeup_column p f)) ∷ []
-
-    after : MakeupState
-    after = record { page = []; waiting = waiting_after p f; number = s.number + 1 }
-
-    shows : (zs : List ℕ) → Within (prints (waiting_after p f)) zs → Within (state_prints s) ((prints (makeup_column_nodes p f) ++ []) ++ zs)
-    shows zs k =
-        subst (λ l. Within l ((prints (makeup_column_nodes p f) ++ []) ++ zs)) (sym (h ∙ fired-prints p w))
-        (subst (λ l. Within (prints f.body ++ prints (waiting_after p f)) (l ++ zs)) (sym (append-nil (prints (makeup_column_nodes p f))))
-        (both-within (prints f.body) (prints (makeup_column_nodes p f)) (prints (waiting_after p f)) zs (body-within p f) k))
-
-    by_pages : (t u : Bool) → StepShows s (if t then ends [] (page_limit (pred s.number)) else (if u then ends sent (node_limit (node_count (waiting_after p f))) else goes_on sent after))
-    by_pages true u = λ e. cc
-    by_pages false true = λ e. cc
-    by_pages false false = shows
 
 last-shows : (s : MakeupState) (page : List PlainNode) → state_prints s ≡ prints page → StepShows s (last_step s page)
 last-shows s [] h = λ e. subst (λ l. Within l []) (sym h) tt
 last-shows s (n ∷ ns) h = λ zs w. subst (λ l. Within l zs) (sym (h ∙ sym (append-nil (prints (n ∷ ns))))) w
 
 step-shows : (p : Params) (s : MakeupState) → StepShows s (makeup_step p s)
-unfolding makeup_step
-step-shows p s = by_act (meets_act w.reached)
+step-shows p s =
+    step-cases (StepShows s) p s (λ m. act-shows p s (first_act s.waiting) (first-shows s.waiting)) (λ m. firing-shows p s w parts)
+    (λ m e. last-shows s w.passed (parts ∙ ap (λ l. prints w.passed ++ prints l) (cut.ended e) ∙ append-nil (prints w.passed)))
   where
-    ns : List PlainNode
-    ns = laid_out p.topskip s.page s.waiting
-
     w : Reach
     w = makeup_reach p s
 
-    cut : CutAt [] ns w
+    cut : CutAt [] (laid_out p.topskip s.page s.waiting) w
     cut = makeup-cut p s
 
     parts : state_prints s ≡ prints w.passed ++ prints w.beyond
@@ -219,14 +202,6 @@ step-shows p s = by_act (meets_act w.reached)
         ∙ ap prints cut.whole
         ∙ prints-append cut.front w.beyond
         ∙ ap (λ l. l ++ prints w.beyond) (sym (prints-acts cut.front) ∙ sym (ap prints cut.passed))
-
-    by_fires : (t : Bool) → w.fires ≡ t → StepShows s (if t then firing_step p s.number (fired_here p w) else last_step s w.passed)
-    by_fires true e = firing-shows p s w parts
-    by_fires false e = last-shows s w.passed (parts ∙ ap (λ l. prints w.passed ++ prints l) (cut.ended e) ∙ append-nil (prints w.passed))
-
-    by_act : (t : Bool) → StepShows s (if t then act_step p s (first_act s.waiting) else (if w.fires then firing_step p s.number (fired_here p w) else last_step s w.passed))
-    by_act true = act-shows p s (first_act s.waiting) (first-shows s.waiting)
-    by_act false = by_fires w.fires refl
 
 -- ---- the run
 

@@ -11,14 +11,12 @@ use Rattle.tb_insert.specs.Account.{terms_after}
 use Rattle.tb_builder.specs.Reach.{tried, Reach, also_reached, laid_out, page_place, stopped_at, reach_at_place, reach_at, reach_node, reach_from}
 use Rattle.tb_builder.specs.FiredPages.{Fired, frozen_for}
 use Rattle.tb_builder.specs.Contents.{node_count}
-use Rattle.tb_builder.proofs.Cutting.CutLemmas.{CutAt}
-use Rattle.tb_column.specs.Column.{PlainSent, shipped, one}
+use Rattle.tb_column.specs.Column.{PlainSent}
 use Rattle.tb_plain.specs.GalleyNodes.{made_up}
-use Rattle.tb_plain.specs.Firing.{makeup_column}
 use Rattle.tb_plain.specs.Run.{MakeupState, MakeupEnd, done, page_limit, node_limit, MakeupRun, MakeupStep, ends, goes_on, makeup_ask, makeup_classes, void_boxes, makeup_reach, AtAct, no_act, at_act, after_node, first_act_by, first_act, meets_act, act_step, waiting_after, firing_step, last_step, makeup_step, run_by, makeup_from, one_act, act_count, steps_left, first_makeup, makeup_of}
 use Rattle.tb_plain.specs.RunSteps.{HasReason, EndsHaveReasons}
 use Rattle.tb_plain.proofs.StepLemmas.{acts-laid, Enough, Falls, step-falls, not-enough}
-use Rattle.tb_plain.proofs.ReachLemmas.{fired_here, makeup-cut}
+use Rattle.tb_plain.proofs.ReachLemmas.{fired_here, makeup-cut, firing-cases, step-cases}
 
 -- ---- an act that is reached waits
 
@@ -101,51 +99,26 @@ above : (a : ℤ) (n : ℕ) → int_lt a (pos n) ≡ true → a <ℤ pos n
 above a n e = grind (arith, ints, e)
 
 firing-reason : (p : Params) (s : MakeupState) (f : Fired) → 1 ≤ s.number → StepReason p s (firing_step p s.number f)
-firing-reason p s f n = by_pages (int_lt p.maxpages (pos s.number)) (int_lt p.maxnodes (pos (node_count (waiting_after p f)))) refl refl
-  where
-    sent : List PlainSent
-    sent = shipped s.number (one (makeup_column p f)) ∷ []
-
-    after : MakeupState
-    after = record { page = []; waiting = waiting_after p f; number = s.number + 1 }
-
-    by_pages : (t u : Bool) → int_lt p.maxpages (pos s.number) ≡ t → int_lt p.maxnodes (pos (node_count (waiting_after p f))) ≡ u → StepReason p s (if t then ends [] (page_limit (pred s.number)) else (if u then ends sent (node_limit (node_count (waiting_after p f))) else goes_on sent after))
-    by_pages true u e g = (add-zero (pred s.number), at-limit p.maxpages s.number n e)
-    by_pages false true e g = above p.maxnodes (node_count (waiting_after p f)) g
-    by_pages false false e g = (next-number s.number n, refl)
+firing-reason p s f n =
+    firing-cases (StepReason p s) p s.number f (λ e. (add-zero (pred s.number), at-limit p.maxpages s.number n e)) (λ t e. above p.maxnodes (node_count (waiting_after p f)) e) (λ t. (next-number s.number n, refl))
 
 last-reason : (p : Params) (s : MakeupState) (page : List PlainNode) → act_count page ≡ 0 → StepReason p s (last_step s page)
 last-reason p s [] h = tt
 last-reason p s (n ∷ ns) h = (add-zero (pred s.number), h)
 
 step-reason : (p : Params) (s : MakeupState) → 1 ≤ s.number → act_count s.page ≡ 0 → StepReason p s (makeup_step p s)
-unfolding makeup_step
-step-reason p s n none = by_act (meets_act w.reached) refl
+step-reason p s n none = step-cases (StepReason p s) p s (λ m. act-reason p s (first_act s.waiting) none (some m) (first-none s.waiting)) (λ m. firing-reason p s (fired_here p w) n) (λ m e. last-reason p s w.passed passed)
   where
-    ns : List PlainNode
-    ns = laid_out p.topskip s.page s.waiting
-
     w : Reach
     w = makeup_reach p s
 
-    cut : CutAt [] ns w
-    cut = makeup-cut p s
-
     passed : act_count w.passed ≡ 0
-    passed = ap act_count cut.passed ∙ none-left cut.front
+    passed = ap act_count (makeup-cut p s).passed ∙ none-left (makeup-cut p s).front
 
     some : meets_act w.reached ≡ true → act_count s.waiting ≡ 0 → ⊥
     some m e =
-        let laid : act_count ns ≡ act_count s.page + act_count s.waiting = acts-laid p.topskip s.page s.waiting in
-        true≢false (sym m ∙ none-met p.maxdepth (terms_after (frozen_for (makeup_ask p) (makeup_classes p) void_boxes)) [] ns (omega (arith, laid, none, e)))
-
-    by_fires : (t : Bool) → StepReason p s (if t then firing_step p s.number (fired_here p w) else last_step s w.passed)
-    by_fires true = firing-reason p s (fired_here p w) n
-    by_fires false = last-reason p s w.passed passed
-
-    by_act : (t : Bool) → meets_act w.reached ≡ t → StepReason p s (if t then act_step p s (first_act s.waiting) else (if w.fires then firing_step p s.number (fired_here p w) else last_step s w.passed))
-    by_act true m = act-reason p s (first_act s.waiting) none (some m) (first-none s.waiting)
-    by_act false m = by_fires w.fires
+        let laid : act_count (laid_out p.topskip s.page s.waiting) ≡ act_count s.page + act_count s.waiting = acts-laid p.topskip s.page s.waiting in
+        true≢false (sym m ∙ none-met p.maxdepth (terms_after (frozen_for (makeup_ask p) (makeup_classes p) void_boxes)) [] (laid_out p.topskip s.page s.waiting) (omega (arith, laid, none, e)))
 
 -- ---- the run
 

@@ -1,6 +1,6 @@
 -- The page makeup loses nothing: what is shipped and what is left weigh as much as what was there.
-use Rattle.std.proofs.Common.{◌≡◌, refl, sym, ◌∙◌, ap, ℕ, zero, suc, pos, ◌+◌, Bool, true, false, List, [], ◌∷◌, ◌++◌, map, take, drop, Option, Some, None, arith}
-use Rattle.std.specs.Prelude.{pred, ◌||◌, ◌&&◌, int_lt, int_le, if◌then◌else◌}
+use Rattle.std.proofs.Common.{◌≡◌, refl, sym, ◌∙◌, ap, ℕ, zero, suc, ◌+◌, Bool, true, false, List, [], ◌∷◌, ◌++◌, map, take, drop, Option, Some, None, arith}
+use Rattle.std.specs.Prelude.{◌||◌, ◌&&◌, int_lt, int_le, if◌then◌else◌}
 use Rattle.std.proofs.lemmas.Bool.{true≢false}
 use Rattle.tb_node.specs.declared.Act.{Act}
 use Rattle.tb_node.specs.declared.Act.TheVariants as acts
@@ -12,7 +12,6 @@ use Rattle.tb_insert.specs.Account.{Labelled, labelled, terms_after}
 use Rattle.tb_builder.specs.declared.PageSums.{PageSums}
 use Rattle.tb_builder.specs.Reach.{Reached, acted, tried, Reach, laid_out}
 use Rattle.tb_builder.specs.FiredPages.{Fired, page_break, given_to, is_given, content_of, box_content, box_after, frozen_for}
-use Rattle.tb_builder.specs.Contents.{node_count}
 use Rattle.tb_builder.specs.PageSums.{page_sums_of}
 use Rattle.tb_builder.proofs.FiredPages.PageWeights.{laid_out-weight, acted_weight, reach-weight, boxes_weight, fired-weight, labelled-class}
 use Rattle.tb_builder.proofs.Cutting.CutLemmas.{CutAt, class-both, class-take, class-drop, class-passed, spent-class}
@@ -20,10 +19,10 @@ use Rattle.tb_column.specs.Column.{one, PlainSent, shipped, is_ragged}
 use Rattle.tb_column.proofs.PrintedLines.{sent_weight, sent_weight-append}
 use Rattle.tb_plain.specs.GalleyNodes.{clearing_penalty}
 use Rattle.tb_plain.specs.TakenFloats.{top_insertion, top_leaves, page_leaves, here_nodes, with_float, taken_nodes, act_nodes}
-use Rattle.tb_plain.specs.Firing.{feet_below, holds_any, ragged_end, makeup_column_nodes, makeup_column, page_for_held, put_back_after}
-use Rattle.tb_plain.specs.Run.{MakeupState, done, page_limit, node_limit, MakeupRun, MakeupStep, ends, goes_on, makeup_ask, makeup_classes, void_boxes, builder_holds, makeup_reach, AtAct, no_act, at_act, after_node, first_act_by, first_act, meets_act, act_step, waiting_after, firing_step, last_step, makeup_step, run_by, makeup_from}
+use Rattle.tb_plain.specs.Firing.{feet_below, holds_any, ragged_end, makeup_column_nodes, page_for_held, put_back_after}
+use Rattle.tb_plain.specs.Run.{MakeupState, done, MakeupRun, MakeupStep, ends, goes_on, makeup_ask, makeup_classes, void_boxes, builder_holds, makeup_reach, AtAct, no_act, at_act, after_node, first_act_by, first_act, meets_act, act_step, waiting_after, firing_step, last_step, makeup_step, run_by, makeup_from}
 use Rattle.tb_plain.proofs.OurLemmas.{ours, AllOurs, ours-laid, held-ours}
-use Rattle.tb_plain.proofs.ReachLemmas.{fired_here, makeup-cut}
+use Rattle.tb_plain.proofs.ReachLemmas.{fired_here, makeup-cut, firing-cases, step-cases}
 
 -- ---- the boxes
 
@@ -177,24 +176,9 @@ act-keeps v p s (at_act before a after) none all h =
     (omega arith, (ours-laid p.topskip s.page before all.0 o.0, class-both ours put after (put-ours p (page_sums_of (builder_holds p come)) a) o.1))
 
 firing-keeps : (v : Weight) (p : Params) (s : MakeupState) (w : Reach) → AllOurs w.passed → AllOurs w.beyond → nodes_weight v w.passed + nodes_weight v w.beyond ≡ state_weight v s → StepKeeps v s (firing_step p s.number (fired_here p w))
-firing-keeps v p s w a b h = by_pages (int_lt p.maxpages (pos s.number)) (int_lt p.maxnodes (pos (node_count (waiting_after p f))))
-  where
-    f : Fired
-    f = fired_here p w
-
-    sent : List PlainSent
-    sent = shipped s.number (one (makeup_column p f)) ∷ []
-
-    after : MakeupState
-    after = record { page = []; waiting = waiting_after p f; number = s.number + 1 }
-
-    keeps : sent_weight v sent + state_weight v after ≡ state_weight v s
-    keeps = let e : nodes_weight v (makeup_column_nodes p f) + nodes_weight v (waiting_after p f) ≡ nodes_weight v w.passed + nodes_weight v w.beyond = makes-weight v p w a in omega arith
-
-    by_pages : (t u : Bool) → StepKeeps v s (if t then ends [] (page_limit (pred s.number)) else (if u then ends sent (node_limit (node_count (waiting_after p f))) else goes_on sent after))
-    by_pages true u = λ e. cc
-    by_pages false true = λ e. cc
-    by_pages false false = (keeps, (tt, fired-ours p w a b))
+firing-keeps v p s w a b h =
+    let e : nodes_weight v (makeup_column_nodes p (fired_here p w)) + nodes_weight v (waiting_after p (fired_here p w)) ≡ nodes_weight v w.passed + nodes_weight v w.beyond = makes-weight v p w a in
+    firing-cases (StepKeeps v s) p s.number (fired_here p w) (λ t e. cc) (λ t u e. cc) (λ t. (omega arith, (tt, fired-ours p w a b)))
 
 last-keeps : (v : Weight) (s : MakeupState) (page : List PlainNode) → AllOurs page → nodes_weight v page ≡ state_weight v s → StepKeeps v s (last_step s page)
 last-keeps v s [] a h = λ e. h
@@ -206,8 +190,9 @@ no-acts v (acted a ∷ rs) e = absurd (true≢false e)
 no-acts v (tried line b ∷ rs) e = no-acts v rs e
 
 step-keeps : (v : Weight) (p : Params) (s : MakeupState) → NoMargin v → StateOurs s → StepKeeps v s (makeup_step p s)
-unfolding makeup_step
-step-keeps v p s none all = by_act (meets_act w.reached) refl
+step-keeps v p s none all =
+    step-cases (StepKeeps v s) p s (λ m. act-keeps v p s (first_act s.waiting) none all (first-weighs v s.waiting)) (λ m. firing-keeps v p s w both.0 both.1 (weighs m))
+    (λ m e. last-keeps v s w.passed both.0 (let a = weighs m in let b : nodes_weight v w.beyond ≡ 0 = ap (nodes_weight v) (cut.ended e) in omega arith))
   where
     ns : List PlainNode
     ns = laid_out p.topskip s.page s.waiting
@@ -227,14 +212,6 @@ step-keeps v p s none all = by_act (meets_act w.reached) refl
         let b : nodes_weight v ns ≡ nodes_weight v s.page + nodes_weight v s.waiting = laid_out-weight v p.topskip s.page s.waiting in
         let c : acted_weight v w.reached ≡ 0 = no-acts v w.reached e in
         omega arith
-
-    by_fires : (t : Bool) → meets_act w.reached ≡ false → w.fires ≡ t → StepKeeps v s (if t then firing_step p s.number (fired_here p w) else last_step s w.passed)
-    by_fires true m e = firing-keeps v p s w both.0 both.1 (weighs m)
-    by_fires false m e = last-keeps v s w.passed both.0 (let a = weighs m in let b : nodes_weight v w.beyond ≡ 0 = ap (nodes_weight v) (cut.ended e) in omega arith)
-
-    by_act : (t : Bool) → meets_act w.reached ≡ t → StepKeeps v s (if t then act_step p s (first_act s.waiting) else (if w.fires then firing_step p s.number (fired_here p w) else last_step s w.passed))
-    by_act true m = act-keeps v p s (first_act s.waiting) none all (first-weighs v s.waiting)
-    by_act false m = by_fires w.fires m refl
 
 -- ---- the run
 
