@@ -102,53 +102,34 @@ pub pruned-deeds : (t : ℤ) (ns : List PlainNode) → deeds (pruned_nodes t ns)
 pruned-deeds t [] = refl
 pruned-deeds t (n ∷ ns) = deed-pruned t ns (pruned-deeds t ns) n.line n.kind
 
+-- a break that is spent changes a penalty alone
+spent-cases : (P : PlainKind → PlainKind → Type 0) → ((p : ℤ) → P (spent_kind (plain (pen p))) (plain (pen p))) → ((d : PlainKind) → P d d) → (d : PlainKind) → P (spent_kind d) d
+spent-cases P spent same (plain (hbox w a d)) = same (plain (hbox w a d))
+spent-cases P spent same (plain (rule name a d)) = same (plain (rule name a d))
+spent-cases P spent same (plain (skip g)) = same (plain (skip g))
+spent-cases P spent same (plain (kerned w)) = same (plain (kerned w))
+spent-cases P spent same (plain (pen p)) = spent p
+spent-cases P spent same (plain (mark name)) = same (plain (mark name))
+spent-cases P spent same (plain (note name)) = same (plain (note name))
+spent-cases P spent same (plain whatsit) = same (plain whatsit)
+spent-cases P spent same (ins i) = same (ins i)
+spent-cases P spent same (act a) = same (act a)
+
+-- so a list by kinds is the same, if it is the same for all penalties
+spent-same : {X : Type 0} (f : PlainKind → List X) → ((p : ℤ) → f (spent_kind (plain (pen p))) ≡ f (plain (pen p))) → (ls : List X) (d : PlainKind) → f (spent_kind d) ++ ls ≡ f d ++ ls
+spent-same f spent ls = spent-cases (λ a b. f a ++ ls ≡ f b ++ ls) (λ p. ap (λ l. l ++ ls) (spent p)) (λ d. refl)
+
 pub spent-lines : (k : FloatKind) (ns : List PlainNode) → class_lines k (with_spent_break ns) ≡ class_lines k ns
 spent-lines k [] = refl
-spent-lines k (n ∷ ns) = ap (λ l. l ++ class_lines k ns) (by_kind n.kind)
-  where
-    by_kind : (d : PlainKind) → kind_lines k (spent_kind d) ≡ kind_lines k d
-    by_kind (plain (hbox w a d)) = refl
-    by_kind (plain (rule name a d)) = refl
-    by_kind (plain (skip g)) = refl
-    by_kind (plain (kerned w)) = refl
-    by_kind (plain (pen p)) = refl
-    by_kind (plain (mark name)) = refl
-    by_kind (plain (note name)) = refl
-    by_kind (plain whatsit) = refl
-    by_kind (ins i) = refl
-    by_kind (act a) = refl
+spent-lines k (n ∷ ns) = spent-same (kind_lines k) (λ p. refl) (class_lines k ns) n.kind
 
 pub spent-takes : (k : FloatKind) (ns : List PlainNode) → take_lines k (with_spent_break ns) ≡ take_lines k ns
 spent-takes k [] = refl
-spent-takes k (n ∷ ns) = ap (λ l. l ++ take_lines k ns) (by_kind n.kind)
-  where
-    by_kind : (d : PlainKind) → kind_takes k (spent_kind d) ≡ kind_takes k d
-    by_kind (plain (hbox w a d)) = refl
-    by_kind (plain (rule name a d)) = refl
-    by_kind (plain (skip g)) = refl
-    by_kind (plain (kerned w)) = refl
-    by_kind (plain (pen p)) = refl
-    by_kind (plain (mark name)) = refl
-    by_kind (plain (note name)) = refl
-    by_kind (plain whatsit) = refl
-    by_kind (ins i) = refl
-    by_kind (act a) = refl
+spent-takes k (n ∷ ns) = spent-same (kind_takes k) (λ p. refl) (take_lines k ns) n.kind
 
 pub spent-deeds : (ns : List PlainNode) → deeds (with_spent_break ns) ≡ deeds ns
 spent-deeds [] = refl
-spent-deeds (n ∷ ns) = ap (λ l. l ++ deeds ns) (by_kind n.kind)
-  where
-    by_kind : (d : PlainKind) → kind_deeds (spent_kind d) ≡ kind_deeds d
-    by_kind (plain (hbox w a d)) = refl
-    by_kind (plain (rule name a d)) = refl
-    by_kind (plain (skip g)) = refl
-    by_kind (plain (kerned w)) = refl
-    by_kind (plain (pen p)) = refl
-    by_kind (plain (mark name)) = refl
-    by_kind (plain (note name)) = refl
-    by_kind (plain whatsit) = refl
-    by_kind (ins i) = refl
-    by_kind (act a) = refl
+spent-deeds (n ∷ ns) = spent-same kind_deeds (λ p. refl) (deeds ns) n.kind
 
 -- ---- parts of a list
 
@@ -338,19 +319,7 @@ ended-lines k (n ∷ ns) h e = by_kind n.line n.kind h.0 e
 
 pub early-spent : (k : FloatKind) (ns : List PlainNode) → AreEarly k ns → AreEarly k (with_spent_break ns)
 early-spent k [] h = tt
-early-spent k (n ∷ ns) h = (by_kind n.kind h.0, h.1)
-  where
-    by_kind : (d : PlainKind) → (is_ending d ≡ true → class_lines k ns ≡ []) → is_ending (spent_kind d) ≡ true → class_lines k ns ≡ []
-    by_kind (plain (hbox w a d)) h e = absurd (both_ways false refl e)
-    by_kind (plain (rule name a d)) h e = absurd (both_ways false refl e)
-    by_kind (plain (skip g)) h e = absurd (both_ways false refl e)
-    by_kind (plain (kerned w)) h e = absurd (both_ways false refl e)
-    by_kind (plain (pen p)) h e = absurd (both_ways false refl e)
-    by_kind (plain (mark name)) h e = absurd (both_ways false refl e)
-    by_kind (plain (note name)) h e = absurd (both_ways false refl e)
-    by_kind (plain whatsit) h e = absurd (both_ways false refl e)
-    by_kind (ins i) h e = absurd (both_ways false refl e)
-    by_kind (act a) h e = absurd (both_ways false refl e)
+early-spent k (n ∷ ns) h = (spent-cases (λ a b. (is_ending b ≡ true → class_lines k ns ≡ []) → is_ending a ≡ true → class_lines k ns ≡ []) (λ p g e. absurd (both_ways false refl e)) (λ d g. g) n.kind h.0, h.1)
 
 acts-endless-more : (ns : List PlainNode) → AreEndless (without_acts ns) → (l : ℕ) (d : PlainKind) → Calm d → AreEndless (without_acts (record { line = l; kind = d } ∷ ns))
 acts-endless-more ns h l (plain (hbox w a d)) c = (refl, h)

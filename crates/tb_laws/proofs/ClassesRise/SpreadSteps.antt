@@ -3,6 +3,7 @@ use Rattle.std.proofs.Common.{◌≡◌, refl, sym, ◌∙◌, ap, subst, ℕ, B
 use Rattle.std.specs.List.{AllByRecursion}
 use Rattle.std.proofs.lemmas.Bool.{both_ways}
 use Rattle.tb_break.proofs.EachLemmas.{all-front, all-back, all-join}
+use Rattle.tb_node.specs.declared.Float.{Float}
 use Rattle.tb_param.specs.declared.Params.{Params}
 use Rattle.tb_float.specs.declared.Part.{Part}
 use Rattle.tb_float.specs.declared.Part.TheVariants as parts
@@ -73,58 +74,44 @@ module _ (k : FloatKind) (Known : ℕ → Type 0) (text takes : List ℕ) where
     bottom = h.bottom;
   }
 
+  -- other floats wait or stand above the columns, and other columns are made, but all is in the same order
+  moved : {after held : List ℕ} {double deferred second : List Float} {next : Bool} {left : Option PlainColumn} (before mid : List ℕ) (rs : List Recorded) (l : FloatLists) (two first : Bool) (o : Option PlainColumn)
+      → (let m : FloatLists = record l { double = double; deferred = deferred; second = second } in spread_lines k takes before mid l o ≡ spread_lines k takes after held m left → AllByRecursion (IsBehind k text) (deferred ++ second) → Parted k m
+      → ColumnsFit two next left → (two ≡ false → double ≡ []) → Spread k Known text takes before rs mid l two first o → Spread k Known text takes after rs held m two next left)
+  moved before mid rs l two first o same behind parted columns single h = record {
+    order = subst (Rises Known (λ n. IsCarried k n rs)) same h.order;
+    left = h.left;
+    behind = behind;
+    later = h.later;
+    unseen = h.unseen;
+    known = h.known;
+    parted = parted;
+    columns = columns;
+    single = single;
+    top = h.top;
+    bottom = h.bottom;
+  }
+
   -- ---- where a column goes
 
   module _ (before mid : List ℕ) (rs : List Recorded) (l : FloatLists) (first : Bool) (o : Option PlainColumn) where
     -- a page alone, if nothing is above the columns or in a left one
     pub shipped_alone : (two : Bool) → l.double ≡ [] → left_lines k o ≡ [] → Spread k Known text takes before rs mid l two first o → Spread k Known text takes (before ++ mid) rs [] l two first o
-    shipped_alone two d e h = record {
-      order = subst (Rises Known (λ n. IsCarried k n rs)) (alone before (float_lines k l.double) (left_lines k o) mid (float_lines k (waits l) ++ later_lines k takes l) (ap (float_lines k) d) e) h.order;
-      left = h.left;
-      behind = h.behind;
-      later = h.later;
-      unseen = h.unseen;
-      known = h.known;
-      parted = h.parted;
-      columns = h.columns;
-      single = h.single;
-      top = h.top;
-      bottom = h.bottom;
-    }
+    shipped_alone two d e h =
+        moved before mid rs l two first o (alone before (float_lines k l.double) (left_lines k o) mid (float_lines k (waits l) ++ later_lines k takes l) (ap (float_lines k) d) e) h.behind h.parted h.columns h.single h
 
   -- the left column of a page
   pub kept_left : (before : List ℕ) (rs : List Recorded) (c : PlainColumn) (l : FloatLists) (two first : Bool) (o : Option PlainColumn) → two ≡ true → first ≡ true
       → Spread k Known text takes before rs (class_lines k c.nodes) l two first o → Spread k Known text takes before rs [] l two false (Some c)
-  kept_left before rs c l two first o t f h = record {
-    order = subst (Rises Known (λ n. IsCarried k n rs)) (kept before (float_lines k l.double) (left_lines k o) (class_lines k c.nodes) (float_lines k (waits l) ++ later_lines k takes l) (no-first k two first o f h.columns)) h.order;
-    left = h.left;
-    behind = h.behind;
-    later = h.later;
-    unseen = h.unseen;
-    known = h.known;
-    parted = h.parted;
-    columns = subst (λ x. ColumnsFit x false (Some c)) (sym t) tt;
-    single = h.single;
-    top = h.top;
-    bottom = h.bottom;
-  }
+  kept_left before rs c l two first o t f h =
+      moved before (class_lines k c.nodes) rs l two first o (kept before (float_lines k l.double) (left_lines k o) (class_lines k c.nodes) (float_lines k (waits l) ++ later_lines k takes l) (no-first k two first o f h.columns)) h.behind h.parted
+      (subst (λ x. ColumnsFit x false (Some c)) (sym t) tt) h.single h
 
   -- a page of two columns with the floats above them
   pub shipped_pair : (before mid : List ℕ) (rs : List Recorded) (l : FloatLists) (two first : Bool) (o : Option PlainColumn)
       → Spread k Known text takes before rs mid l two first o → Spread k Known text takes (before ++ (float_lines k l.double ++ (left_lines k o ++ mid))) rs [] (record l { double = [] }) two true None
-  shipped_pair before mid rs l two first o h = record {
-    order = subst (Rises Known (λ n. IsCarried k n rs)) (paired before (float_lines k l.double) (left_lines k o) mid (float_lines k (waits l) ++ later_lines k takes l)) h.order;
-    left = h.left;
-    behind = h.behind;
-    later = h.later;
-    unseen = h.unseen;
-    known = h.known;
-    parted = pair-parted k l k.side h.parted;
-    columns = fits two;
-    single = λ e. refl;
-    top = h.top;
-    bottom = h.bottom;
-  }
+  shipped_pair before mid rs l two first o h =
+      moved before mid rs l two first o (paired before (float_lines k l.double) (left_lines k o) mid (float_lines k (waits l) ++ later_lines k takes l)) h.behind (pair-parted k l k.side h.parted) (fits two) (λ e. refl) h
     where
       fits : (t : Bool) → ColumnsFit t true None
       fits true = tt
@@ -135,19 +122,10 @@ module _ (k : FloatKind) (Known : ℕ → Type 0) (text takes : List ℕ) where
   -- a company is in hand
   pub chosen : (before : List ℕ) (rs : List Recorded) (z : Wanted) (cs : List Choice) (l : FloatLists) (two first : Bool) (o : Option PlainColumn) → company z l.deferred ≡ Some cs
       → Spread k Known text takes before rs [] l two first o → Spread k Known text takes before rs (float_lines k (chosen_floats cs)) (record l { deferred = left_floats cs }) two first o
-  chosen before rs z cs l two first o is h = record {
-    order = subst (Rises Known (λ n. IsCarried k n rs)) (ap (λ y. before ++ (float_lines k l.double ++ (left_lines k o ++ y))) (ap (λ y. y ++ later_lines k takes l) waits_are ∙ append_assoc (float_lines k (chosen_floats cs)) (float_lines k (left_floats cs ++ l.second)) (later_lines k takes l))) h.order;
-    left = h.left;
-    behind = all-join (IsBehind k text) (left_floats cs) l.second (company-all (IsBehind k text) z l.deferred cs is (all-front (IsBehind k text) l.deferred l.second h.behind)).1 (all-back (IsBehind k text) l.deferred l.second h.behind);
-    parted = chosen-parted k l (chosen_floats cs) (left_floats cs) (company-lines k z l.deferred cs is) k.side h.parted;
-    later = h.later;
-    unseen = h.unseen;
-    known = h.known;
-    columns = h.columns;
-    single = h.single;
-    top = h.top;
-    bottom = h.bottom;
-  }
+  chosen before rs z cs l two first o is h =
+      moved before [] rs l two first o (ap (λ y. before ++ (float_lines k l.double ++ (left_lines k o ++ y))) (ap (λ y. y ++ later_lines k takes l) waits_are ∙ append_assoc (float_lines k (chosen_floats cs)) (float_lines k (left_floats cs ++ l.second)) (later_lines k takes l)))
+      (all-join (IsBehind k text) (left_floats cs) l.second (company-all (IsBehind k text) z l.deferred cs is (all-front (IsBehind k text) l.deferred l.second h.behind)).1 (all-back (IsBehind k text) l.deferred l.second h.behind))
+      (chosen-parted k l (chosen_floats cs) (left_floats cs) (company-lines k z l.deferred cs is) k.side h.parted) h.columns h.single h
     where
       waits_are : float_lines k (waits l) ≡ float_lines k (chosen_floats cs) ++ float_lines k (left_floats cs ++ l.second)
       waits_are =
@@ -158,19 +136,10 @@ module _ (k : FloatKind) (Known : ℕ → Type 0) (text takes : List ℕ) where
   -- one of the second list
   chosen_second : (before : List ℕ) (rs : List Recorded) (z : Wanted) (cs : List Choice) (l : FloatLists) (two first : Bool) (o : Option PlainColumn) → WideFrom k.side parts.Second → company z l.second ≡ Some cs
       → Spread k Known text takes before rs [] l two first o → Spread k Known text takes before rs (float_lines k (chosen_floats cs)) (record l { second = left_floats cs }) two first o
-  chosen_second before rs z cs l two first o w is h = record {
-    order = subst (Rises Known (λ n. IsCarried k n rs)) (ap (λ y. before ++ (float_lines k l.double ++ (left_lines k o ++ y))) (ap (λ y. y ++ later_lines k takes l) (second-waits k l (chosen_floats cs) (left_floats cs) (company-lines k z l.second cs is) k.side w h.parted) ∙ append_assoc (float_lines k (chosen_floats cs)) (float_lines k (l.deferred ++ left_floats cs)) (later_lines k takes l))) h.order;
-    left = h.left;
-    behind = all-join (IsBehind k text) l.deferred (left_floats cs) (all-front (IsBehind k text) l.deferred l.second h.behind) (company-all (IsBehind k text) z l.second cs is (all-back (IsBehind k text) l.deferred l.second h.behind)).1;
-    parted = second-parted k l (chosen_floats cs) (left_floats cs) (company-lines k z l.second cs is) k.side w h.parted;
-    later = h.later;
-    unseen = h.unseen;
-    known = h.known;
-    columns = h.columns;
-    single = h.single;
-    top = h.top;
-    bottom = h.bottom;
-  }
+  chosen_second before rs z cs l two first o w is h =
+      moved before [] rs l two first o (ap (λ y. before ++ (float_lines k l.double ++ (left_lines k o ++ y))) (ap (λ y. y ++ later_lines k takes l) (second-waits k l (chosen_floats cs) (left_floats cs) (company-lines k z l.second cs is) k.side w h.parted) ∙ append_assoc (float_lines k (chosen_floats cs)) (float_lines k (l.deferred ++ left_floats cs)) (later_lines k takes l)))
+      (all-join (IsBehind k text) l.deferred (left_floats cs) (all-front (IsBehind k text) l.deferred l.second h.behind) (company-all (IsBehind k text) z l.second cs is (all-back (IsBehind k text) l.deferred l.second h.behind)).1)
+      (second-parted k l (chosen_floats cs) (left_floats cs) (company-lines k z l.second cs is) k.side w h.parted) h.columns h.single h
 
   -- one of the list from which wide floats go
   pub chosen_wide : (from : Part) → IsWaiting from → WideFrom k.side from → (before : List ℕ) (rs : List Recorded) (z : Wanted) (cs : List Choice) (l : FloatLists) (two first : Bool) (o : Option PlainColumn) → company z (floats_of from l) ≡ Some cs

@@ -1,5 +1,5 @@
 -- What the acts of a page do to the floats: each that is taken costs what it was to cost, and a change of columns comes when no float is left.
-use Rattle.std.proofs.Common.{◌≡◌, refl, sym, ◌∙◌, subst, ℕ, zero, suc, ℤ, pos, ◌+◌, ◌*◌, ◌≤◌, inl, inr, ◌⊎◌, Bool, true, false, List, [], ◌∷◌, ◌++◌, length, arith}
+use Rattle.std.proofs.Common.{◌≡◌, refl, sym, ◌∙◌, subst, ℕ, zero, suc, ℤ, pos, ◌+◌, ◌*◌, ◌≤◌, inl, inr, ◌⊎◌, Bool, true, false, List, [], ◌∷◌, ◌++◌, length, Option, arith}
 use Rattle.std.specs.Prelude.{int_le, int_lt, ◌&&◌, if◌then◌else◌}
 use Rattle.std.specs.List.{AllByRecursion}
 use Rattle.std.proofs.lemmas.Int.{ints}
@@ -16,10 +16,12 @@ use Rattle.tb_param.specs.declared.Params.{Params}
 use Rattle.tb_float.specs.declared.Entry.{Entry}
 use Rattle.tb_float.specs.declared.Entry.TheVariants as entries
 use Rattle.tb_param.specs.Release.{has_second}
+use Rattle.tb_float.specs.declared.Suppress.{Suppress}
 use Rattle.tb_float.specs.declared.Part.{Part}
 use Rattle.tb_float.specs.declared.Part.TheVariants as parts
 use Rattle.tb_float.specs.Lists.{FloatLists, live_count, wide_part}
 use Rattle.tb_column.specs.declared.Warn.{Warn}
+use Rattle.tb_column.specs.Column.{PlainColumn}
 use Rattle.tb_output.specs.State.{State, Recorded}
 use Rattle.tb_output.specs.Act.{Acted, went, full, act_on, taken_float}
 use Rattle.tb_laws.proofs.Closed.Sorts.{Sort, light, blank, real, silent, pause, hold, serve, clear, odd, pen_sort, box_sort, kind_sort, sorts}
@@ -65,6 +67,11 @@ pub record Acts (p : Params) (n : ℕ) (s t : State) : Type 0 where
 
 pub no-acts : (p : Params) (s : State) → Acts p 0 s s
 no-acts p s = record { waiting = refl; held = refl; boxes = refl; classes = refl; cycles = refl; goal = refl; floats = λ h. h; way = omega arith; second = λ h. inl h }
+
+-- an act changes the floats, the columns and what is suppressed, and nothing beside
+acts-of : {fl : FloatLists} {two first : Bool} {left : Option PlainColumn} {x : Suppress} (p : Params) (n : ℕ) (s : State)
+    → (let t : State = record s { floats = fl; two_columns = two; first_column = first; left_column = left; suppress = x } in (FloatsFit p s → FloatsFit p t) → 2 * way_floats fl ≤ 2 * way_floats s.floats + n → (IsSecond s → IsSecond t ⊎ (2 * way_floats fl + 1 ≤ 2 * way_floats s.floats + n)) → Acts p n s t)
+acts-of p n s floats way second = record { waiting = refl; held = refl; boxes = refl; classes = refl; cycles = refl; goal = refl; floats = floats; way = way; second = second }
 
 pub acts-then : (p : Params) (i j : ℕ) (s t u : State) → Acts p i s t → Acts p j t u → Acts p (i + j) s u
 acts-then p i j s t u x y = record {
@@ -157,96 +164,46 @@ act-acts p s (acts.Take f) h = by_room p 2 s (int_le p.pool (pos (live_count s.f
     taken : (u : Bool) → (has_second p && t.wide) ≡ u → Acts p 2 s (record s { floats = if u then record s.floats { second = s.floats.second ++ t ∷ [] } else record s.floats { current = s.floats.current ++ entries.Float t ∷ [] } })
     taken false e =
         let k : current_floats (s.floats.current ++ entries.Float (taken_float p s f) ∷ []) ≡ current_floats s.floats.current + 1 = current-append s.floats.current es in
-        record {
-          waiting = refl;
-          held = refl;
-          boxes = refl;
-          classes = refl;
-          cycles = refl;
-          goal = refl;
-          floats = λ x. record {
-            fit = record { top = x.fit.top; bottom = x.fit.bottom; deferred = x.fit.deferred; double = x.fit.double; second = x.fit.second };
-            current = all-append (Fits p) s.floats.current es x.current (low f.height p.textheight, tt);
-            single = λ c. let y = x.single c in (record { top = y.0.top; bottom = y.0.bottom; deferred = y.0.deferred; double = y.0.double; second = y.0.second }, all-append Single s.floats.current es y.1 (and_right f.wide s.two_columns c, tt));
-            double = record { wide = x.double.wide; none = x.double.none };
-            sides = current-sides (wide_part p) (s.floats.current ++ es) s.floats x.sides;
-            narrow = λ r. all-append Single s.floats.current es (x.narrow r) (not-wide (has_second p) t.wide e r, tt);
-          };
-          way = omega arith;
-          second = λ x. inl (record { columns = x.columns; first = x.first });
-        }
+        acts-of p 2 s (λ x. record {
+          fit = record { top = x.fit.top; bottom = x.fit.bottom; deferred = x.fit.deferred; double = x.fit.double; second = x.fit.second };
+          current = all-append (Fits p) s.floats.current es x.current (low f.height p.textheight, tt);
+          single = λ c. let y = x.single c in (record { top = y.0.top; bottom = y.0.bottom; deferred = y.0.deferred; double = y.0.double; second = y.0.second }, all-append Single s.floats.current es y.1 (and_right f.wide s.two_columns c, tt));
+          double = record { wide = x.double.wide; none = x.double.none };
+          sides = current-sides (wide_part p) (s.floats.current ++ es) s.floats x.sides;
+          narrow = λ r. all-append Single s.floats.current es (x.narrow r) (not-wide (has_second p) t.wide e r, tt);
+        }) (omega arith) (λ x. inl (record { columns = x.columns; first = x.first }))
     taken true e =
         let k : length (s.floats.second ++ taken_float p s f ∷ []) ≡ length s.floats.second + 1 = waits-long s.floats.second in
-        record {
-          waiting = refl;
-          held = refl;
-          boxes = refl;
-          classes = refl;
-          cycles = refl;
-          goal = refl;
-          floats = λ x. record {
-            fit = record { top = x.fit.top; bottom = x.fit.bottom; deferred = x.fit.deferred; double = x.fit.double; second = all-push (Fits p) s.floats.second (taken_float p s f) x.fit.second (low f.height p.textheight) };
-            current = x.current;
-            single = λ c. absurd (both_ways t.wide (and_right f.wide s.two_columns c) (and_parts (has_second p) t.wide e).1);
-            double = record { wide = x.double.wide; none = x.double.none };
-            sides = second-sides e x.sides;
-            narrow = x.narrow;
-          };
-          way = omega arith;
-          second = λ x. inl (record { columns = x.columns; first = x.first });
-        }
+        acts-of p 2 s (λ x. record {
+          fit = record { top = x.fit.top; bottom = x.fit.bottom; deferred = x.fit.deferred; double = x.fit.double; second = all-push (Fits p) s.floats.second (taken_float p s f) x.fit.second (low f.height p.textheight) };
+          current = x.current;
+          single = λ c. absurd (both_ways t.wide (and_right f.wide s.two_columns c) (and_parts (has_second p) t.wide e).1);
+          double = record { wide = x.double.wide; none = x.double.none };
+          sides = second-sides e x.sides;
+          narrow = x.narrow;
+        }) (omega arith) (λ x. inl (record { columns = x.columns; first = x.first }))
 act-acts p s (acts.TakeMargin m) h =
     let es = entries.Left m ∷ entries.Right m ∷ [] in
     let k : current_floats (s.floats.current ++ entries.Left m ∷ entries.Right m ∷ []) ≡ current_floats s.floats.current + 0 = current-append s.floats.current es in
-    by_room p 0 s (int_lt p.pool (pos (live_count s.floats + 2))) _ _ _ _ _ (record {
-      waiting = refl;
-      held = refl;
-      boxes = refl;
-      classes = refl;
-      cycles = refl;
-      goal = refl;
-      floats = λ x. record {
-        fit = record { top = x.fit.top; bottom = x.fit.bottom; deferred = x.fit.deferred; double = x.fit.double; second = x.fit.second };
-        current = all-append (Fits p) s.floats.current es x.current tt;
-        sides = current-sides (wide_part p) (s.floats.current ++ es) s.floats x.sides;
-        narrow = λ r. all-append Single s.floats.current es (x.narrow r) tt;
-        single = λ t. let y = x.single t in (record { top = y.0.top; bottom = y.0.bottom; deferred = y.0.deferred; double = y.0.double; second = y.0.second }, all-append Single s.floats.current es y.1 tt);
-        double = record { wide = x.double.wide; none = x.double.none };
-      };
-      way = omega arith;
-      second = λ x. inl (record { columns = x.columns; first = x.first });
-    })
-act-acts p s (acts.Suppress area) h = record {
-  waiting = refl;
-  held = refl;
-  boxes = refl;
-  classes = refl;
-  cycles = refl;
-  goal = refl;
-  floats = λ x. record { fit = x.fit; current = x.current; single = x.single; double = record { wide = x.double.wide; none = x.double.none }; sides = x.sides; narrow = x.narrow };
-  way = omega arith;
-  second = λ x. inl (record { columns = x.columns; first = x.first });
-}
+    by_room p 0 s (int_lt p.pool (pos (live_count s.floats + 2))) _ _ _ _ _ (acts-of p 0 s (λ x. record {
+      fit = record { top = x.fit.top; bottom = x.fit.bottom; deferred = x.fit.deferred; double = x.fit.double; second = x.fit.second };
+      current = all-append (Fits p) s.floats.current es x.current tt;
+      sides = current-sides (wide_part p) (s.floats.current ++ es) s.floats x.sides;
+      narrow = λ r. all-append Single s.floats.current es (x.narrow r) tt;
+      single = λ t. let y = x.single t in (record { top = y.0.top; bottom = y.0.bottom; deferred = y.0.deferred; double = y.0.double; second = y.0.second }, all-append Single s.floats.current es y.1 tt);
+      double = record { wide = x.double.wide; none = x.double.none };
+    }) (omega arith) (λ x. inl (record { columns = x.columns; first = x.first })))
+act-acts p s (acts.Suppress area) h = acts-of p 0 s (λ x. record { fit = x.fit; current = x.current; single = x.single; double = record { wide = x.double.wide; none = x.double.none }; sides = x.sides; narrow = x.narrow }) (omega arith) (λ x. inl (record { columns = x.columns; first = x.first }))
 act-acts p s (acts.Columns two) h =
     let none : NoneWait s.floats = none-left s.floats (waits (waiting_floats s.floats) (current_floats s.floats.current) h) in
-    record {
-      waiting = refl;
-      held = refl;
-      boxes = refl;
-      classes = refl;
-      cycles = refl;
-      goal = refl;
-      floats = λ x. record {
-        fit = x.fit;
-        current = x.current;
-        single = λ t. (record { top = subst (AllByRecursion Single) (sym none.top) tt; bottom = subst (AllByRecursion Single) (sym none.bottom) tt; deferred = subst (AllByRecursion Single) (sym none.deferred) tt; double = subst (AllByRecursion Single) (sym none.double) tt; second = subst (AllByRecursion Single) (sym none.second) tt }, none-current Single s.floats.current (currents (waiting_floats s.floats) (current_floats s.floats.current) h));
-        double = record { wide = x.double.wide; none = λ t. none.double };
-        sides = x.sides;
-        narrow = x.narrow;
-      };
-      way = omega arith;
-      second = λ x. inr (omega arith);
-    }
+    acts-of p 1 s (λ x. record {
+      fit = x.fit;
+      current = x.current;
+      single = λ t. (record { top = subst (AllByRecursion Single) (sym none.top) tt; bottom = subst (AllByRecursion Single) (sym none.bottom) tt; deferred = subst (AllByRecursion Single) (sym none.deferred) tt; double = subst (AllByRecursion Single) (sym none.double) tt; second = subst (AllByRecursion Single) (sym none.second) tt }, none-current Single s.floats.current (currents (waiting_floats s.floats) (current_floats s.floats.current) h));
+      double = record { wide = x.double.wide; none = λ t. none.double };
+      sides = x.sides;
+      narrow = x.narrow;
+    }) (omega arith) (λ x. inr (omega arith))
   where
     waits : (x y : ℕ) → x + y ≡ 0 → x ≤ 0
     waits x y h = omega arith

@@ -352,107 +352,94 @@ module _ (P : Float → Type 0) (p : Params) where
   counted-less : (w v a b c n : ℕ) → v + n ≡ w → a ≤ v → b + 1 ≤ a → c ≤ b → c + 1 ≤ w
   counted-less w v a b c n h k i j = omega arith
 
-  pub last-out : (body : List PlainNode) (w : Work) → IsLast w.state → LastOut w (Columns.ordinary p body w)
-  last-out body w l =
-      record {
-        goes = λ h. x.goes (y.goes h);
-        cycles = λ h. stays-zero a.state.dead_cycles b.state.dead_cycles (last-ships c v l (y.goes h)) (y.cycles h);
-        fewer = by_columns (columned false (length a.state.floats.deferred) a);
-      }
-    where
-      v : Work
-      v = Columns.without_column_floats w
+  -- the steps of an ordinary firing
+  module _ (body : List PlainNode) (w : Work) where
+    -- the floats of the areas are taken away
+    abbrev bare : Work
+    bare = Columns.without_column_floats w
 
-      c : PlainColumn
-      c = text_column p w.state.floats body (footnotes w.state)
+    abbrev text : PlainColumn
+    text = text_column p w.state.floats body (footnotes w.state)
 
-      a : Work
-      a = Columns.put_out_text p body w
+    -- the text column with them is out
+    abbrev out : Work
+    out = Columns.put_out_text p body w
 
-      d : Work
-      d = Columns.all_float_columns p false a
+    -- columns of floats are out
+    abbrev columns_out : Work
+    columns_out = Columns.all_float_columns p false out
 
-      b : Work
-      b = Columns.ordinary p body w
+    -- floats are placed for the next column
+    abbrev fired : Work
+    fired = Columns.ordinary p body w
 
-      x : Follows P v a
-      x = follows-put_out P p c v
+    -- how many floats the areas held
+    abbrev areas : ℕ
+    areas = length w.state.floats.top + length w.state.floats.bottom
 
-      y : Follows P a b
-      y = ordinary-rest body w
+    -- what follows what
+    goes-out : Follows P bare out
+    goes-out = follows-put_out P p text bare
 
-      n : Follows P d b
-      n = follows-next P p [] d.state.floats.deferred d refl
+    rest-goes : Follows P out fired
+    rest-goes = ordinary-rest body w
 
-      e : waiting_floats v.state.floats + (length w.state.floats.top + length w.state.floats.bottom) ≡ waiting_floats w.state.floats
-      e = text-follows w
+    floats-placed : Follows P columns_out fired
+    floats-placed = follows-next P p [] columns_out.state.floats.deferred columns_out refl
 
-      first : (f : Bool) → w.state.first_column ≡ f → d ≡ a → w.state.two_columns ≡ true → b.state.first_column ≡ true
-      first true f h t = by_last l
-        where
-          by_last : IsLast w.state → b.state.first_column ≡ true
-          by_last (inl k) = let no : ⊥ = grind (arith, k, t) in absurd no
-          by_last (inr k) = let no : ⊥ = grind (arith, k, f) in absurd no
-      first false f h t = next-column p [] d.state.floats.deferred d ∙ ap (λ (z : Work). z.state.first_column) h ∙ (second-pairs c v t f).first
+    firing-goes : fired.refused ≡ false → w.refused ≡ false
+    firing-goes h = goes-out.goes (rest-goes.goes h)
 
-      with_double : (f : Bool) → w.state.first_column ≡ f → w.state.two_columns ≡ true → waiting_floats b.state.floats + (length w.state.floats.top + length w.state.floats.bottom + length w.state.floats.double) ≤ waiting_floats w.state.floats
-      with_double true f t = by_last l
-        where
-          by_last : IsLast w.state → waiting_floats b.state.floats + (length w.state.floats.top + length w.state.floats.bottom + length w.state.floats.double) ≤ waiting_floats w.state.floats
-          by_last (inl k) = let no : ⊥ = grind (arith, k, t) in absurd no
-          by_last (inr k) = let no : ⊥ = grind (arith, k, f) in absurd no
-      with_double false f t = counted-more (waiting_floats w.state.floats) (waiting_floats v.state.floats) (waiting_floats a.state.floats) (waiting_floats b.state.floats) (length w.state.floats.top + length w.state.floats.bottom) (length w.state.floats.double) e (second-pairs c v t f).floats y.floats
+    -- the floats of the areas no longer wait
+    areas-go : waiting_floats fired.state.floats + areas ≤ waiting_floats w.state.floats
+    areas-go = counted (waiting_floats w.state.floats) (waiting_floats bare.state.floats) (waiting_floats out.state.floats) (waiting_floats fired.state.floats) areas (text-follows w) goes-out.floats rest-goes.floats
 
-      by_columns : Columned false a d → (waiting_floats b.state.floats + 1 ≤ waiting_floats w.state.floats) ⊎ ((w.state.two_columns ≡ true → b.state.first_column ≡ true) × (waiting_floats b.state.floats + (length w.state.floats.top + length w.state.floats.bottom) ≤ waiting_floats w.state.floats) × (w.state.two_columns ≡ true → waiting_floats b.state.floats + (length w.state.floats.top + length w.state.floats.bottom + length w.state.floats.double) ≤ waiting_floats w.state.floats))
-      by_columns (inl h) = inr (first w.state.first_column refl h, counted (waiting_floats w.state.floats) (waiting_floats v.state.floats) (waiting_floats a.state.floats) (waiting_floats b.state.floats) (length w.state.floats.top + length w.state.floats.bottom) e x.floats y.floats, with_double w.state.first_column refl)
-      by_columns (inr h) = inl (counted-less (waiting_floats w.state.floats) (waiting_floats v.state.floats) (waiting_floats a.state.floats) (waiting_floats (Columns.put_out_company p h.0 a).state.floats) (waiting_floats b.state.floats) (length w.state.floats.top + length w.state.floats.bottom) e x.floats (follows-company P p false a h.0 h.1).1 (follows-then P (Columns.put_out_company p h.0 a) d b h.2 n).floats)
+    -- nor does one more, if a column of floats came
+    one-goes : (cs : List Choice) → company (Columns.single_wanted p out.state.floats false) out.state.floats.deferred ≡ Some cs → Follows P (Columns.put_out_company p cs out) columns_out → waiting_floats fired.state.floats + 1 ≤ waiting_floats w.state.floats
+    one-goes cs is g = counted-less (waiting_floats w.state.floats) (waiting_floats bare.state.floats) (waiting_floats out.state.floats) (waiting_floats (Columns.put_out_company p cs out).state.floats) (waiting_floats fired.state.floats) areas (text-follows w) goes-out.floats (follows-company P p false out cs is).1 (follows-then P (Columns.put_out_company p cs out) columns_out fired g floats-placed).floats
 
-  pub first-out : (body : List PlainNode) (w : Work) → w.state.two_columns ≡ true → w.state.first_column ≡ true → FirstOut w (Columns.ordinary p body w)
-  first-out body w t f = record { goes = λ h. x.goes (y.goes h); by = λ h. by_columns h (columned false (length a.state.floats.deferred) a) }
-    where
-      v : Work
-      v = Columns.without_column_floats w
+    -- without such a column the next one is that after the text
+    same-column : columns_out ≡ out → fired.state.first_column ≡ out.state.first_column
+    same-column h = next-column p [] columns_out.state.floats.deferred columns_out ∙ ap (λ (z : Work). z.state.first_column) h
 
-      c : PlainColumn
-      c = text_column p w.state.floats body (footnotes w.state)
+    pub last-out : IsLast w.state → LastOut w fired
+    last-out l =
+        record {
+          goes = firing-goes;
+          cycles = λ h. stays-zero out.state.dead_cycles fired.state.dead_cycles (last-ships text bare l (rest-goes.goes h)) (rest-goes.cycles h);
+          fewer = by_columns (columned false (length out.state.floats.deferred) out);
+        }
+      where
+        second : w.state.two_columns ≡ true → w.state.first_column ≡ false
+        second t = by_last l
+          where
+            by_last : IsLast w.state → w.state.first_column ≡ false
+            by_last (inl k) = let no : ⊥ = grind (arith, k, t) in absurd no
+            by_last (inr k) = k
 
-      a : Work
-      a = Columns.put_out_text p body w
+        with_double : w.state.two_columns ≡ true → waiting_floats fired.state.floats + (areas + length w.state.floats.double) ≤ waiting_floats w.state.floats
+        with_double t = counted-more (waiting_floats w.state.floats) (waiting_floats bare.state.floats) (waiting_floats out.state.floats) (waiting_floats fired.state.floats) areas (length w.state.floats.double) (text-follows w) (second-pairs text bare t (second t)).floats rest-goes.floats
 
-      d : Work
-      d = Columns.all_float_columns p false a
+        by_columns : Columned false out columns_out → (waiting_floats fired.state.floats + 1 ≤ waiting_floats w.state.floats) ⊎ ((w.state.two_columns ≡ true → fired.state.first_column ≡ true) × (waiting_floats fired.state.floats + areas ≤ waiting_floats w.state.floats) × (w.state.two_columns ≡ true → waiting_floats fired.state.floats + (areas + length w.state.floats.double) ≤ waiting_floats w.state.floats))
+        by_columns (inl h) = inr (λ t. same-column h ∙ (second-pairs text bare t (second t)).first, areas-go, with_double)
+        by_columns (inr h) = inl (one-goes h.0 h.1 h.2)
 
-      b : Work
-      b = Columns.ordinary p body w
+    pub first-out : w.state.two_columns ≡ true → w.state.first_column ≡ true → FirstOut w fired
+    first-out t f = record { goes = firing-goes; by = λ h. by_columns h (columned false (length out.state.floats.deferred) out) }
+      where
+        k : IsKept bare out
+        k = first-kept text bare t f
 
-      x : Follows P v a
-      x = follows-put_out P p c v
+        ships : (cs : List Choice) → Follows P (Columns.put_out_company p cs out) columns_out → fired.refused ≡ false → fired.state.dead_cycles ≡ 0
+        ships cs g h =
+            let z : Follows P (Columns.put_out_company p cs out) fired = follows-then P (Columns.put_out_company p cs out) columns_out fired g floats-placed in
+            stays-zero (Columns.put_out_company p cs out).state.dead_cycles fired.state.dead_cycles (last-ships (single_floats_column p (column_height_of p out.state.floats) (chosen_floats cs)) (Pages.with_deferred (left_floats cs) out) (inr k.first) (z.goes h)) (z.cycles h)
 
-      y : Follows P a b
-      y = ordinary-rest body w
-
-      n : Follows P d b
-      n = follows-next P p [] d.state.floats.deferred d refl
-
-      k : IsKept v a
-      k = first-kept c v t f
-
-      e : waiting_floats v.state.floats + (length w.state.floats.top + length w.state.floats.bottom) ≡ waiting_floats w.state.floats
-      e = text-follows w
-
-      ships : (cs : List Choice) → Follows P (Columns.put_out_company p cs a) d → b.refused ≡ false → b.state.dead_cycles ≡ 0
-      ships cs g h =
-          let z : Follows P (Columns.put_out_company p cs a) b = follows-then P (Columns.put_out_company p cs a) d b g n in
-          stays-zero (Columns.put_out_company p cs a).state.dead_cycles b.state.dead_cycles (last-ships (single_floats_column p (column_height_of p a.state.floats) (chosen_floats cs)) (Pages.with_deferred (left_floats cs) a) (inr k.first) (z.goes h)) (z.cycles h)
-
-      same_cycles : d ≡ a → b.state.dead_cycles ≡ w.state.dead_cycles
-      same_cycles h = next-cycles p [] d.state.floats.deferred d ∙ ap (λ (z : Work). z.state.dead_cycles) h ∙ k.cycles
-
-      by_columns : b.refused ≡ false → Columned false a d → ((b.state.dead_cycles ≡ 0) × (waiting_floats b.state.floats + 1 ≤ waiting_floats w.state.floats)) ⊎ ((b.state.first_column ≡ false) × (b.state.floats.double ≡ w.state.floats.double) × (waiting_floats b.state.floats + (length w.state.floats.top + length w.state.floats.bottom) ≤ waiting_floats w.state.floats) × (b.state.dead_cycles ≡ w.state.dead_cycles))
-      by_columns r (inl h) = inr (
-        next-column p [] d.state.floats.deferred d ∙ ap (λ (z : Work). z.state.first_column) h ∙ k.first,
-        next-single p [] d.state.floats.deferred d ∙ ap (λ (z : Work). z.state.floats.double) h ∙ ap (λ (l : FloatLists). l.double) k.floats,
-        counted (waiting_floats w.state.floats) (waiting_floats v.state.floats) (waiting_floats a.state.floats) (waiting_floats b.state.floats) (length w.state.floats.top + length w.state.floats.bottom) e x.floats y.floats,
-        same_cycles h,
-      )
-      by_columns r (inr h) = inl (ships h.0 h.2 r, counted-less (waiting_floats w.state.floats) (waiting_floats v.state.floats) (waiting_floats a.state.floats) (waiting_floats (Columns.put_out_company p h.0 a).state.floats) (waiting_floats b.state.floats) (length w.state.floats.top + length w.state.floats.bottom) e x.floats (follows-company P p false a h.0 h.1).1 (follows-then P (Columns.put_out_company p h.0 a) d b h.2 n).floats)
+        by_columns : fired.refused ≡ false → Columned false out columns_out → ((fired.state.dead_cycles ≡ 0) × (waiting_floats fired.state.floats + 1 ≤ waiting_floats w.state.floats)) ⊎ ((fired.state.first_column ≡ false) × (fired.state.floats.double ≡ w.state.floats.double) × (waiting_floats fired.state.floats + areas ≤ waiting_floats w.state.floats) × (fired.state.dead_cycles ≡ w.state.dead_cycles))
+        by_columns r (inl h) = inr (
+          same-column h ∙ k.first,
+          next-single p [] columns_out.state.floats.deferred columns_out ∙ ap (λ (z : Work). z.state.floats.double) h ∙ ap (λ (l : FloatLists). l.double) k.floats,
+          areas-go,
+          next-cycles p [] columns_out.state.floats.deferred columns_out ∙ ap (λ (z : Work). z.state.dead_cycles) h ∙ k.cycles,
+        )
+        by_columns r (inr h) = inl (ships h.0 h.2 r, one-goes h.0 h.1 h.2)

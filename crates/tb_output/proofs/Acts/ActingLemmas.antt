@@ -19,6 +19,7 @@ use Rattle.tb_output.specs.ActCalls.{warnings_sent, TakesNoList, clipped, taken_
 use Rattle.tb_output.specs.MachineFrame.{AreNoneOf}
 use Rattle.tb_pool.proofs.FrameLemmas.{none-front}
 use Rattle.tb_output.proofs.FiringWork.ApartLemmas.{apart-cons, distinct-apart}
+use Rattle.tb_output.proofs.FiringWork.BesideLemmas.{machine-with}
 use Rattle.tb_output.proofs.FiringWork.ResultLemmas.{either-way}
 
 -- ---- warnings have no lists
@@ -48,21 +49,7 @@ module _ (m now : MachineView) (f : Float) where
   float-lists = ap (λ ls. m.held_page ∷ left_lists m.left_column ++ ls) (lists-warned m.events (large_warning m.params f))
 
   machine-float : (store : Lists Node) → (HasNoMarks m.pool → HasNoMarks (with_float f m).pool) → IsMachine m store → IsMachine (with_float f m) store
-  machine-float store free is = record {
-    params = is.params;
-    classes = is.classes;
-    goal = is.goal;
-    first = is.first;
-    last = is.last;
-    pool = is.pool;
-    unmarked = free is.unmarked;
-    left = is.left;
-    held_page = is.held_page;
-    held_room = is.held_room;
-    left_column = is.left_column;
-    events = all-join (IsPageSent store) m.events (warnings_sent (large_warning m.params f)) is.events (page-warnings store (large_warning m.params f));
-    apart = subst AreDistinct float-lists is.apart;
-  }
+  machine-float store free is = machine-with m store is is.goal refl (free is.unmarked) (all-join (IsPageSent store) m.events (warnings_sent (large_warning m.params f)) is.events (page-warnings store (large_warning m.params f))) (subst AreDistinct float-lists is.apart)
 
   module _ {T : Type 0} (r : Result T Full) (ok : OnOk r (HasTaken 1 m (with_float f m) now)) (err : IfErr r (λ e. HasNoRoom 1 e.live m now)) where
     -- what holds between two calls holds whether there was room or not

@@ -16,6 +16,7 @@ use Rattle.tb_output.specs.PageChanges.{with_warning}
 use Rattle.tb_output.specs.FiringWork.{shows, Does}
 use Rattle.tb_output.specs.MachineFrame.{KeepsFields, IsBack, KeepsBack}
 use Rattle.tb_output.proofs.FiringWork.KeepLemmas.{keeps-back_alone}
+use Rattle.tb_output.proofs.FiringWork.BesideLemmas.{machine-with}
 use Rattle.tb_output.proofs.FiringWork.WorkingLemmas.{does-shown}
 
 pub lists-joined : (es fs : List Sent) → event_lists (es ++ fs) ≡ event_lists es ++ event_lists fs
@@ -30,21 +31,7 @@ module _ (w : Warn) (m : MachineView) where
   warned-lists = ap (λ ls. m.held_page ∷ left_lists m.left_column ++ ls) (lists-joined m.events (events.Warn w ∷ []) ∙ append-nil (event_lists m.events))
 
   pub warned-machine : (store : Lists Node) → IsMachine m store → IsMachine (with_warning w m) store
-  warned-machine store is = record {
-    params = is.params;
-    classes = is.classes;
-    goal = is.goal;
-    first = is.first;
-    last = is.last;
-    pool = is.pool;
-    unmarked = is.unmarked;
-    left = is.left;
-    held_page = is.held_page;
-    held_room = is.held_room;
-    left_column = is.left_column;
-    events = all-join (IsPageSent store) m.events (events.Warn w ∷ []) is.events (tt, tt);
-    apart = subst AreDistinct (sym warned-lists) is.apart;
-  }
+  warned-machine store is = machine-with m store is is.goal refl is.unmarked (all-join (IsPageSent store) m.events (events.Warn w ∷ []) is.events (tt, tt)) (subst AreDistinct (sym warned-lists) is.apart)
 
   pub warned-fields : KeepsFields m (with_warning w m)
   warned-fields = record { params = refl; classes = refl; fault = refl }

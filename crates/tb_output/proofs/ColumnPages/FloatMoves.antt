@@ -31,6 +31,7 @@ use Rattle.tb_output.specs.Pages
 use Rattle.tb_output.proofs.ColumnPages.FillLemmas.{HasLists, fill_column-lists, fill_double-lists}
 use Rattle.tb_output.proofs.FiringWork.StandLemmas.{Stands, machine-live, IsShownBy, stands-shown}
 use Rattle.tb_output.proofs.FiringWork.ApartLemmas.{fresh-none}
+use Rattle.tb_output.proofs.FiringWork.BesideLemmas.{machine-with}
 
 -- ---- as many boxes are live as before
 
@@ -101,21 +102,7 @@ module _ (v : FloatPool) (m now : MachineView) (is_now : now ≡ record m { pool
   pooled-state store boxes waiting = ap (state_shown store boxes waiting) is_now
 
   pub pooled-machine : (store : Lists Node) → v.size ≡ m.pool.size → HasNoMarks v → IsMachine m store → IsMachine now store
-  pooled-machine store size unmarked is = subst (λ n. IsMachine n store) (sym is_now) (record {
-    params = is.params;
-    classes = is.classes;
-    goal = is.goal;
-    first = is.first;
-    last = is.last;
-    pool = ap pos size ∙ is.pool;
-    unmarked = unmarked;
-    left = is.left;
-    held_page = is.held_page;
-    held_room = is.held_room;
-    left_column = is.left_column;
-    events = is.events;
-    apart = is.apart;
-  })
+  pooled-machine store size unmarked is = subst (λ n. IsMachine n store) (sym is_now) (machine-with m store is is.goal size unmarked is.events is.apart)
 
   -- a list was opened, and the others are as they were
   module _ (l : ℕ) (store new : Lists Node) (opened : IsOpened l store new) (is : IsMachine m store) where

@@ -19,6 +19,7 @@ use Rattle.tb_output.specs.Pages
 use Rattle.tb_output.proofs.StepLaws.WorkSteps.{continues-after_column}
 use Rattle.tb_output.proofs.FiringWork.WorkingLemmas.{Fact, cut-then, shows-moved}
 use Rattle.tb_output.proofs.FiringWork.StandLemmas.{IsShownBy}
+use Rattle.tb_output.proofs.FiringWork.BesideLemmas.{machine-with}
 use Rattle.tb_output.proofs.FiringWork.ApartLemmas.{distinct-back}
 
 -- ---- the work
@@ -76,21 +77,7 @@ put_out-fails e m mid store new c does before w h =
 
 pub done-keeps : (args : List ℕ) (m mid : MachineView) (store new : Lists Node) → KeepsMachine args m mid store new → KeepsMachine args m (with_column_done mid) store new
 done-keeps args m mid store new k = record {
-  machine = record {
-    params = k.machine.params;
-    classes = k.machine.classes;
-    goal = k.machine.goal;
-    first = k.machine.first;
-    last = k.machine.last;
-    pool = k.machine.pool;
-    unmarked = k.machine.unmarked;
-    left = k.machine.left;
-    held_page = k.machine.held_page;
-    held_room = k.machine.held_room;
-    left_column = k.machine.left_column;
-    events = k.machine.events;
-    apart = k.machine.apart;
-  };
+  machine = machine-with mid new k.machine k.machine.goal refl k.machine.unmarked k.machine.events k.machine.apart;
   frame = k.frame;
   fields = record { params = k.fields.params; classes = k.fields.classes; fault = k.fields.fault };
 }

@@ -1,5 +1,5 @@
 -- Calls of a firing one after another: what they do to the work, and what they keep.
-use Rattle.std.proofs.Common.{◌≡◌, refl, sym, subst, ◌∙◌, ap, ℕ, pos, false, List, [], ◌++◌, map}
+use Rattle.std.proofs.Common.{◌≡◌, refl, sym, subst, ◌∙◌, ℕ, false, List, [], ◌++◌, map}
 use Rattle.tb_pool.specs.Lists.{Lists, list_at}
 use Rattle.tb_node.specs.declared.Node.{Node}
 use Rattle.tb_node.specs.PlainNodes.{PlainNode, plain_of}
@@ -16,6 +16,7 @@ use Rattle.tb_output.specs.PageChanges.{with_warning}
 use Rattle.tb_output.specs.FiringWork.{ShowsWork, ShowsBack, shows_back, IsCutShort, Does, Continues}
 use Rattle.tb_output.specs.MachineFrame.{HasFloats, HasGrown, IsBack, back_lists, KeepsBack}
 use Rattle.tb_output.proofs.FiringWork.ApartLemmas.{apart-none}
+use Rattle.tb_output.proofs.FiringWork.BesideLemmas.{machine-with}
 use Rattle.tb_output.proofs.FiringWork.StandLemmas.{IsShownBy, lists-shown}
 use Rattle.tb_output.proofs.FiringWork.KeepLemmas.{MayGoBack, grown-machine, grown-shows, grown-keeps, keeps-back_then, keeps-back_alone, keeps-back_same}
 use Rattle.tb_output.proofs.Acts.WarnLemmas.{shown-joined, warned-back}
@@ -85,21 +86,7 @@ module _ (l : ℕ) where
   -- floats moved
   module _ (fl : FloatLists) (m now : MachineView) (store : Lists Node) (is : IsMachine m store) (back : IsBack l m store) (h : HasFloats fl m now) where
     moved-machine : IsMachine (record m { pool = now.pool }) store
-    moved-machine = record {
-      params = is.params;
-      classes = is.classes;
-      goal = is.goal;
-      first = is.first;
-      last = is.last;
-      pool = ap (λ n. pos n) h.size ∙ is.pool;
-      unmarked = h.unmarked is.unmarked;
-      left = is.left;
-      held_page = is.held_page;
-      held_room = is.held_room;
-      left_column = is.left_column;
-      events = is.events;
-      apart = is.apart;
-    }
+    moved-machine = machine-with m store is is.goal h.size (h.unmarked is.unmarked) is.events is.apart
 
     pub moved-keeps : KeepsBack l [] m now store store
     moved-keeps = subst (λ x. KeepsBack l [] m x store store) (sym h.rest)

@@ -27,6 +27,7 @@ use Rattle.tb_output.specs.ActCalls.{IsSizedAct, line_of, warnings_sent}
 use Rattle.tb_output.specs.Machine.{MachineView, state_shown, left_lists, event_lists, machine_lists, IsMachine}
 use Rattle.tb_output.specs.Firing.{builder_lists}
 use Rattle.tb_output.proofs.FiringWork.ApartLemmas.{distinct-front}
+use Rattle.tb_output.proofs.FiringWork.BesideLemmas.{machine-with}
 use Rattle.tb_run.specs.declared.happenings.Happening.{Happening}
 use Rattle.tb_run.specs.declared.routine.Routine.{Routine}
 use Rattle.tb_run.specs.declared.routine.Ending.TheVariants as endings
@@ -42,21 +43,7 @@ use Rattle.tb_run.proofs.Filled.ComingPages.{coming-fits}
 -- ---- events that were taken
 
 pub taken-machine : (m : MachineView) (store : Lists Node) → IsMachine m store → IsMachine (record m { events = [] }) store
-taken-machine m store is = record {
-  params = is.params;
-  classes = is.classes;
-  goal = is.goal;
-  first = is.first;
-  last = is.last;
-  pool = is.pool;
-  unmarked = is.unmarked;
-  left = is.left;
-  held_page = is.held_page;
-  held_room = is.held_room;
-  left_column = is.left_column;
-  events = tt;
-  apart = subst (λ ls. AreDistinct (m.held_page ∷ ls)) (sym (append-nil (left_lists m.left_column))) (distinct-front (m.held_page ∷ left_lists m.left_column) (event_lists m.events) is.apart);
-}
+taken-machine m store is = machine-with m store is is.goal refl is.unmarked tt (subst (λ ls. AreDistinct (m.held_page ∷ ls)) (sym (append-nil (left_lists m.left_column))) (distinct-front (m.held_page ∷ left_lists m.left_column) (event_lists m.events) is.apart))
 
 pub taken-all : (P : ℕ → Type 0) (m : MachineView) → AllByRecursion P (machine_lists m) → AllByRecursion P (machine_lists (record m { events = [] }))
 taken-all P m h = (h.0, subst (AllByRecursion P) (sym (append-nil (left_lists m.left_column))) (all-front P (left_lists m.left_column) (event_lists m.events) h.1))

@@ -47,7 +47,7 @@ next-here hs k h lt is =
     let one : suc k ≡ k + 1 = omega arith in
     drop-cons hs k h lt ∙ (λ i. sym is i ∷ drop (one i) hs)
 
-pub next-pages : (store : Lists Node) (hs : List Happening) (k : ℕ) (h : Happening) → k < length hs → h ≡ get_or hs k h
+next-pages : (store : Lists Node) (hs : List Happening) (k : ℕ) (h : Happening) → k < length hs → h ≡ get_or hs k h
     → event_pages (events_of store (drop k hs)) ≡ event_pages (event_of store h ∷ []) ++ event_pages (events_of store (drop (k + 1) hs))
 next-pages store hs k h lt is =
     ap (λ xs. event_pages (events_of store xs)) (next-here hs k h lt is) ∙ events-append (event_of store h ∷ []) (events_of store (drop (k + 1) hs))
@@ -122,6 +122,11 @@ pub record Sending (start now : Option (List ℕ)) (w : Progress) (ps all left :
 
 pub sends-none : (start now : Option (List ℕ)) (w : Progress) (ps all : List Page) → HoldsPages start now w ps → Sending start now w ps all all
 sends-none start now w ps all h = record { done = []; split = refl; holds = holds-same start now w ps h (ps ++ []) (append-nil ps) }
+
+-- those of the next that happened are the first of them
+pub sending-here : (start now : Option (List ℕ)) (w : Progress) (ps all : List Page) (store : Lists Node) (hs : List Happening) (k : ℕ) (h : Happening) → k < length hs → h ≡ get_or hs k h
+    → Sending start now w ps all (event_pages (events_of store (drop k hs))) → Sending start now w ps all (event_pages (event_of store h ∷ []) ++ event_pages (events_of store (drop (k + 1) hs)))
+sending-here start now w ps all store hs k h lt is s = subst (Sending start now w ps all) (next-pages store hs k h lt is) s
 
 module _ (start now new : Option (List ℕ)) (w u : Progress) (ps all next left : List Page) (s : Sending start now w ps all (next ++ left)) where
   together : (ps ++ s.done) ++ next ≡ ps ++ (s.done ++ next)
