@@ -165,4 +165,3 @@ marked-all P [] fs h = All-nil P
 marked-all P (m ∷ ms) [] h = All-nil P
 marked-all P (true ∷ ms) (f ∷ fs) h = All-cons P f (marked_among ms fs) (All-head P f fs h) (marked-all P ms fs (All-tail P f fs h))
 marked-all P (false ∷ ms) (f ∷ fs) h = marked-all P ms fs (All-tail P f fs h)
-

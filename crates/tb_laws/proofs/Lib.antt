@@ -1,3 +1,4 @@
+pub mod PageBreaks
 pub mod StepLaws
 pub mod NothingLost
 pub mod Closed

@@ -56,7 +56,6 @@ length_counted (n ∷ ns) = let one = one_at_least n.kind in let rest = length_c
 
 -- ---- amounts
 
-
 pub extent_goal : (z : ℤ) → IsExtent z → IsGoal z
 extent_goal z h = record { low = let a = h.low in grind (arith, ints, a); high = let a = h.high in grind (arith, ints, a) }
 

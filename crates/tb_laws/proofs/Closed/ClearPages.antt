@@ -13,8 +13,8 @@ use Rattle.tb_break.specs.Split.{split_of}
 use Rattle.tb_param.specs.declared.Params.{Params}
 use Rattle.tb_builder.specs.FiredPages.{penalty_at}
 use Rattle.tb_builder.proofs.Cutting.CutLemmas.{Calm, AllCalm, ActFree, AllFree}
-use Rattle.tb_builder.proofs.ForLaws.FittingFired.{Topmost, AllTopmost, flat_box, Fitted}
-use Rattle.tb_builder.proofs.ForLaws.PausedPages.{Paused, calm-both}
+use Rattle.tb_laws.proofs.PageBreaks.FittingFired.{Topmost, AllTopmost, flat_box, Fitted}
+use Rattle.tb_laws.proofs.PageBreaks.PausedPages.{Paused, calm-both}
 use Rattle.tb_output.specs.Clear
 use Rattle.tb_output.specs.Output
 use Rattle.tb_output.proofs.Firings.GoalLemmas.{zero-is}

@@ -12,7 +12,7 @@ use Rattle.tb_builder.proofs.Cutting.CutLemmas.{AllCalm, ActFree, FirstFree, All
 use Rattle.tb_laws.proofs.Closed.Sorts.{Sort, kind_sort, sorts, pen_sort, pen-sorts, Stands, none, light, blank, real, silent, pause, hold, serve, clear, odd}
 use Rattle.tb_laws.proofs.Closed.SortLemmas.{free-drop}
 use Rattle.tb_laws.proofs.Closed.Closings.{Ways, turned, owed_after, ways_all, never, Token, quiet, heavy, taking, changing, serving, clearing, Closes, closes-any, Quiet, Harmless, quiet-between, harmless-between, Passed, owed_all, done_all, closes-after, Still, nothing-came, sort_token, act_token, kind_token, tokens, tokens-append, calm-passed, free-harmless, still-quiet}
-use Rattle.tb_builder.proofs.ForLaws.PausedPages.{calm-acts}
+use Rattle.tb_laws.proofs.PageBreaks.PausedPages.{calm-acts}
 
 -- ---- the top of a page
 

@@ -16,7 +16,7 @@ use Rattle.tb_builder.proofs.Cutting.CutLemmas.{Calm, AllCalm, ActFree, FirstFre
 use Rattle.tb_output.specs.Output.{is_int, clear_penalty, par_penalty, vert_penalty, hold_penalty}
 use Rattle.tb_laws.proofs.NothingLost.WorkWeights.{is_serving, Careful}
 use Rattle.tb_laws.proofs.Closed.Sorts.{Sort, pen_sort, box_sort, kind_sort, sorts, Seen, Stands, pen-sorts, CalmSort, sorts-calm, seen_all, stands-after, acts-silent, from-none, box-steady, light, blank, real, silent, pause, hold, serve, clear, odd, none, one, many}
-use Rattle.tb_builder.proofs.ForLaws.PausedPages.{calm-acts}
+use Rattle.tb_laws.proofs.PageBreaks.PausedPages.{calm-acts}
 pub use Rattle.tb_laws.proofs.Closed.Sorts.{Sort, light, blank, real, silent, pause, hold, serve, clear, odd, Seen, none, one, many, Stands, Steady, pen_sort, kind_sort, sorts, kind-steady, fewer, pruned-stands}
 
 -- ---- the break

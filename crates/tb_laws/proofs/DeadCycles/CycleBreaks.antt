@@ -10,8 +10,8 @@ use Rattle.tb_node.specs.declared.Float.{Float}
 use Rattle.tb_node.specs.PlainNodes.{PlainKind, plain, ins, act, PlainNode, made, blank_box, whatsit, pen}
 use Rattle.tb_param.specs.declared.Params.{Params}
 use Rattle.tb_builder.specs.FiredPages.{Boxed, Fired, box_content}
-use Rattle.tb_builder.proofs.ForLaws.FittingFired.{Fitted}
-use Rattle.tb_builder.proofs.ForLaws.PausedPages.{Paused}
+use Rattle.tb_laws.proofs.PageBreaks.FittingFired.{Fitted}
+use Rattle.tb_laws.proofs.PageBreaks.PausedPages.{Paused}
 use Rattle.tb_insert.specs.declared.Class.{Class}
 use Rattle.tb_float.specs.Lists.{FloatLists, wide_part}
 use Rattle.tb_output.specs.State.{State, Work, footnotes, notes_in, with_notes}

@@ -7,7 +7,7 @@ use Rattle.tb_node.specs.declared.Float.{Float}
 use Rattle.tb_node.specs.PlainNodes.{PlainNode}
 use Rattle.tb_param.specs.declared.Params.{Params}
 use Rattle.tb_builder.specs.FiredPages.{Fired}
-use Rattle.tb_builder.proofs.ForLaws.FittingFired.{Fitted}
+use Rattle.tb_laws.proofs.PageBreaks.FittingFired.{Fitted}
 use Rattle.tb_param.specs.Release.{has_second}
 use Rattle.tb_float.specs.declared.Part.TheVariants as parts
 use Rattle.tb_float.specs.Lists.{FloatLists, wide_part}

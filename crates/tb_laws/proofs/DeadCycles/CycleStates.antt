@@ -13,8 +13,8 @@ use Rattle.tb_float.specs.Lists.{FloatLists, wide_part}
 use Rattle.tb_float.specs.Rooms.{column_room_of}
 use Rattle.tb_column.specs.Column.{warned}
 use Rattle.tb_column.specs.declared.Warn.TheVariants as warnings
-use Rattle.tb_builder.proofs.ForLaws.FittingFired.{Fitted}
-use Rattle.tb_builder.proofs.ForLaws.PausedPages.{Paused}
+use Rattle.tb_laws.proofs.PageBreaks.FittingFired.{Fitted}
+use Rattle.tb_laws.proofs.PageBreaks.PausedPages.{Paused}
 use Rattle.tb_output.specs.State.{State, Work, footnotes}
 use Rattle.tb_output.specs.Output
 use Rattle.tb_laws.proofs.Closed.Sorts.{sorts}

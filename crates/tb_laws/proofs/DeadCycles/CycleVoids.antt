@@ -8,8 +8,8 @@ use Rattle.tb_scaled.specs.Scaled.{eject_penalty}
 use Rattle.tb_node.specs.PlainNodes.{PlainNode, made, blank_box, whatsit, pen}
 use Rattle.tb_param.specs.declared.Params.{Params}
 use Rattle.tb_builder.specs.FiredPages.{Fired}
-use Rattle.tb_builder.proofs.ForLaws.FittingFired.{Fitted}
-use Rattle.tb_builder.proofs.ForLaws.PausedPages.{Paused}
+use Rattle.tb_laws.proofs.PageBreaks.FittingFired.{Fitted}
+use Rattle.tb_laws.proofs.PageBreaks.PausedPages.{Paused}
 use Rattle.tb_float.specs.Lists.{FloatLists}
 use Rattle.tb_column.specs.Column.{Notes}
 use Rattle.tb_output.specs.State.{State, Work, begun, footnotes, has_floats}

@@ -4,7 +4,7 @@ use Rattle.std.specs.List.{AllByRecursion}
 use Rattle.tb_node.specs.PlainNodes.{PlainNode}
 use Rattle.tb_param.specs.declared.Params.{Params}
 use Rattle.tb_builder.specs.FiredPages.{Fired}
-use Rattle.tb_builder.proofs.ForLaws.PausedPages.{Paused}
+use Rattle.tb_laws.proofs.PageBreaks.PausedPages.{Paused}
 use Rattle.tb_output.specs.State.{State, Work}
 use Rattle.tb_laws.proofs.Closed.Sorts.{sorts}
 use Rattle.tb_laws.proofs.DeadCycles.AgainLemmas.{Again, Idle}

@@ -13,8 +13,8 @@ use Rattle.tb_builder.specs.FiredPages.{Fired, page_break, fired_by, fired_of, f
 use Rattle.tb_builder.proofs.FiredPages.PageWeights.{AllOfClass, labelled-class}
 use Rattle.tb_builder.proofs.Cutting.CutLemmas.{acted_of, CutAt, reach-cut, cut-class, class-pruned, held-ins}
 use Rattle.tb_builder.proofs.FiredPages.HeldLemmas.{GivesNone, none-labelled}
-use Rattle.tb_builder.proofs.ForLaws.FittingFired.{Fitted, FiresAt, fitted-fires, break_at}
-use Rattle.tb_builder.proofs.ForLaws.PausedPages.{Paused, paused-ordinary}
+use Rattle.tb_laws.proofs.PageBreaks.FittingFired.{Fitted, FiresAt, fitted-fires, break_at}
+use Rattle.tb_laws.proofs.PageBreaks.PausedPages.{Paused, paused-ordinary}
 use Rattle.tb_output.specs.State.{State, ask_of, notes_in, footnotes, has_floats}
 use Rattle.tb_output.specs.Text
 use Rattle.tb_output.specs.Clear

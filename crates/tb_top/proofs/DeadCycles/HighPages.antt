@@ -11,8 +11,8 @@ use Rattle.tb_insert.specs.Account.{Frozen, Labelled, labelled_from, labelled_wi
 use Rattle.tb_builder.specs.Reach.{Reach}
 use Rattle.tb_builder.specs.FiredPages.{penalty_at, with_spent_break}
 use Rattle.tb_builder.proofs.Cutting.CutLemmas.{acts_of}
-use Rattle.tb_builder.proofs.ForLaws.FittingFired.{flat_box, break_at}
-use Rattle.tb_builder.proofs.ForLaws.GuardedPages.{HasFirst, TopShape, pruned-shape, high-breaks}
+use Rattle.tb_laws.proofs.PageBreaks.FittingFired.{flat_box, break_at}
+use Rattle.tb_laws.proofs.PageBreaks.GuardedPages.{HasFirst, TopShape, pruned-shape, high-breaks}
 use Rattle.tb_output.specs.State.{State, ask_of, footnotes}
 use Rattle.tb_output.specs.Output
 use Rattle.tb_laws.proofs.Closed.Sorts.{sorts}

@@ -1,4 +1,4 @@
--- For laws of runs, in reading order.
+-- Where pages break that laws speak of, in reading order.
 pub mod FittingPages
 pub mod FittingFired
 pub mod PausedPages

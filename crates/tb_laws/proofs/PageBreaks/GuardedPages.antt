@@ -20,8 +20,8 @@ use Rattle.tb_insert.specs.Terms.{Terms, bare_terms, sums_with}
 use Rattle.tb_insert.specs.Account.{ClassBox, Frozen, terms_after}
 use Rattle.tb_builder.specs.Reach.{Reach, tried, also_reached, page_place, stopped_at, reach_at, reach_from, breakpoints}
 use Rattle.tb_builder.specs.FiredPages.{no_place, page_break}
-use Rattle.tb_builder.proofs.ForLaws.FittingPages.{AllSlim, slim-both, size-both, slim-sums, slim-depth, free-place}
-use Rattle.tb_builder.proofs.ForLaws.FittingFired.{Topmost, AllTopmost, flat_box, break_at, bare-page}
+use Rattle.tb_laws.proofs.PageBreaks.FittingPages.{AllSlim, slim-both, size-both, slim-sums, slim-depth, free-place}
+use Rattle.tb_laws.proofs.PageBreaks.FittingFired.{Topmost, AllTopmost, flat_box, break_at, bare-page}
 
 -- ---- the cost of an overfull place
 

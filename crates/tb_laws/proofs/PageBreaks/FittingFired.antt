@@ -15,7 +15,7 @@ use Rattle.tb_insert.specs.Terms.{bare_terms}
 use Rattle.tb_insert.specs.Account.{ClassBox, class_charge, skip_shapes, Frozen, Labelled, labelled, labelled_from, terms_after, terms_of_labels}
 use Rattle.tb_builder.specs.Reach.{Reach, reach_from, breakpoints}
 use Rattle.tb_builder.specs.FiredPages.{Boxed, Fired, page_break, from_break, fired_by, box_after, no_place, penalty_at, with_spent_break, held_insertions}
-use Rattle.tb_builder.proofs.ForLaws.FittingPages.{Slim, AllSlim, slim-both, size-both, best-last, BreaksAt, breaks-at}
+use Rattle.tb_laws.proofs.PageBreaks.FittingPages.{Slim, AllSlim, slim-both, size-both, best-last, BreaksAt, breaks-at}
 use Rattle.tb_insert.proofs.StandsLemmas.{none_met}
 
 -- a node that vanishes at the top of a page, or stays there and takes no height
