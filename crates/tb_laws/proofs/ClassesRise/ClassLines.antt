@@ -13,13 +13,11 @@ use Rattle.tb_param.specs.Release.{has_second}
 use Rattle.tb_float.specs.declared.Suppress.{Suppress}
 use Rattle.tb_float.specs.declared.Part.{Part}
 use Rattle.tb_float.specs.declared.Part.TheVariants as parts
-use Rattle.tb_float.specs.Lists.{FloatLists, floats_among, IsWaiting, floats_of, wide_part}
-use Rattle.tb_area.specs.Laws as area
+use Rattle.tb_float.specs.Lists.{FloatLists, floats_among, IsWaiting, floats_of, wide_part, of_class}
 use Rattle.tb_area.specs.Deferred.{filled, doubled}
 use Rattle.tb_area.proofs.OrderLemmas.{fill-order, double-order}
 use Rattle.tb_fpage.specs.declared.Wanted.{Wanted}
 use Rattle.tb_fpage.specs.Company.{Choice, company, chosen_floats, left_floats}
-use Rattle.tb_fpage.specs.Company as fpage
 use Rattle.tb_fpage.proofs.LawLemmas.{order-company}
 use Rattle.tb_column.specs.Column.{Notes, notes_under_rule, class_below, PlainColumn, PlainSheet, PlainSent, warned, shipped, one, wide, two, floats_with, floats_above, floats_below, notes_below, text_nodes, text_column, floats_after, floats_column}
 
@@ -148,24 +146,16 @@ sent-append k (shipped page sheet ∷ xs) ys = ap (λ l. sheet_lines k sheet ++ 
 
 -- ---- the floats of a class
 
-filtered-lines : (k : FloatKind) (fs : List Float) → float_lines k fs ≡ float_lines k (area.of_class k.class fs)
+filtered-lines : (k : FloatKind) (fs : List Float) → float_lines k fs ≡ float_lines k (of_class k.class fs)
 filtered-lines k [] = refl
 filtered-lines k (f ∷ fs) = by_test (f.class == k.class) refl (filtered-lines k fs)
   where
-    by_test : (t : Bool) → (f.class == k.class) ≡ t → float_lines k fs ≡ float_lines k (area.of_class k.class fs) → line_if ((f.class == k.class) && k.has f.line) f.line ++ float_lines k fs ≡ float_lines k (cond t (f ∷ area.of_class k.class fs) (area.of_class k.class fs))
-    by_test true e h = ap (λ l. line_if ((f.class == k.class) && k.has f.line) f.line ++ l) h
-    by_test false e h = ap (λ t. line_if (t && k.has f.line) f.line ++ float_lines k fs) e ∙ h
-
-picked-lines : (k : FloatKind) (fs : List Float) → float_lines k fs ≡ float_lines k (fpage.of_class k.class fs)
-picked-lines k [] = refl
-picked-lines k (f ∷ fs) = by_test (f.class == k.class) refl (picked-lines k fs)
-  where
-    by_test : (t : Bool) → (f.class == k.class) ≡ t → float_lines k fs ≡ float_lines k (fpage.of_class k.class fs) → line_if ((f.class == k.class) && k.has f.line) f.line ++ float_lines k fs ≡ float_lines k (if t then f ∷ fpage.of_class k.class fs else fpage.of_class k.class fs)
+    by_test : (t : Bool) → (f.class == k.class) ≡ t → float_lines k fs ≡ float_lines k (of_class k.class fs) → line_if ((f.class == k.class) && k.has f.line) f.line ++ float_lines k fs ≡ float_lines k (cond t (f ∷ of_class k.class fs) (of_class k.class fs))
     by_test true e h = ap (λ l. line_if ((f.class == k.class) && k.has f.line) f.line ++ l) h
     by_test false e h = ap (λ t. line_if (t && k.has f.line) f.line ++ float_lines k fs) e ∙ h
 
 -- floats in the same order of a class have the same lines
-pub ordered-lines : (k : FloatKind) (fs gs : List Float) → area.of_class k.class fs ≡ area.of_class k.class gs → float_lines k fs ≡ float_lines k gs
+pub ordered-lines : (k : FloatKind) (fs gs : List Float) → of_class k.class fs ≡ of_class k.class gs → float_lines k fs ≡ float_lines k gs
 ordered-lines k fs gs e = filtered-lines k fs ∙ ap (float_lines k) e ∙ sym (filtered-lines k gs)
 
 -- the floats at the top, at the bottom and deferred keep their order when a column is filled
@@ -179,11 +169,11 @@ doubled-lines from i k p s l = ordered-lines k _ _ (double-order from i k.class 
 -- a company comes before the floats that are left
 pub company-lines : (k : FloatKind) (z : Wanted) (fs : List Float) (cs : List Choice) → company z fs ≡ Some cs → float_lines k fs ≡ float_lines k (chosen_floats cs) ++ float_lines k (left_floats cs)
 company-lines k z fs cs is =
-    picked-lines k fs
+    filtered-lines k fs
     ∙ ap (float_lines k) (order-company z fs cs (chosen_floats cs) (left_floats cs) is refl refl k.class)
-    ∙ floats-append k (fpage.of_class k.class (chosen_floats cs)) (fpage.of_class k.class (left_floats cs))
-    ∙ ap (λ l. l ++ float_lines k (fpage.of_class k.class (left_floats cs))) (sym (picked-lines k (chosen_floats cs)))
-    ∙ ap (λ l. float_lines k (chosen_floats cs) ++ l) (sym (picked-lines k (left_floats cs)))
+    ∙ floats-append k (of_class k.class (chosen_floats cs)) (of_class k.class (left_floats cs))
+    ∙ ap (λ l. l ++ float_lines k (of_class k.class (left_floats cs))) (sym (filtered-lines k (chosen_floats cs)))
+    ∙ ap (λ l. float_lines k (chosen_floats cs) ++ l) (sym (filtered-lines k (left_floats cs)))
 
 -- ---- columns
 
