@@ -1,7 +1,7 @@
-use Rattle.std.proofs.Common.{List, ◌++◌, subst, arith}
+use Rattle.std.proofs.Common.{◌+◌, List, [], ◌∷◌, ◌++◌, drop, subst, arith}
 use Rattle.std.proofs.lemmas.Result.{err_from_is_err_and}
 use Rattle.tb_dvi.specs.File.{Page}
-use Rattle.tb_run.specs.Happenings.{events_of}
+use Rattle.tb_run.specs.Happenings.{event_of, events_of}
 use Rattle.tb_top.specs.DviPages.{event_pages}
 use Rattle.tb_top.proofs.DviFiles.DviSending.{Sending, sends-none, sending-here, sends-next, sends-fails, sends-all, next-page, no-pages, failure-later}
 use Rattle.tb_top.proofs.dvi_pages.send.Goals as goal
@@ -21,8 +21,13 @@ returns-in_err-send_happening-clause-in_file g c = c.in_err-send_happening.ensur
 pub returns-in_err-send_happening-clause-sent : goal.returns-in_err-send_happening-clause-sent
 returns-in_err-send_happening-clause-sent g c start ps h =
     let p = err_from_is_err_and c.from_residual.result c.from_residual.ensures.1 in
-    let s = sending-here start _ _ ps _ c.args.store.now c.args.happened.now c.loop-happening.happening-index c.happening-item.result c.loop-happening-test.true c.happening-item.is (c.loop-happening.invariant.sent start ps h) in
-    rw (p.1, p.2) (sends-fails start _ _ _ c.send_happening.new.progress ps _ _ _ s c.in_err-send_happening.field-0.0 (c.in_err-send_happening.ensures.sent start (ps ++ s.done) s.holds))
+    let store = c.args.store.now in
+    let hs = c.args.happened.now in
+    let k = c.loop-happening.happening-index in
+    let s = sending-here start _ _ ps _ store hs k c.happening-item.result c.loop-happening-test.true c.happening-item.is (c.loop-happening.invariant.sent start ps h) in
+    let next : List Page = event_pages (event_of store c.happening-item.result ∷ []) in
+    let left : List Page = event_pages (events_of store (drop (k + 1) hs)) in
+    rw (p.1, p.2) (sends-fails start _ _ _ c.send_happening.new.progress ps _ next left s c.in_err-send_happening.field-0.0 (c.in_err-send_happening.ensures.sent start (ps ++ s.done) s.holds))
 
 pub returns-in_err-send_happening-clause-cause : goal.returns-in_err-send_happening-clause-cause
 returns-in_err-send_happening-clause-cause g c =
