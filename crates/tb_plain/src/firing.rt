@@ -264,7 +264,8 @@ fn kern_back(room: i64) -> Kind
     Kind::Kern(-room)
 }
 
-/// The glue of a clear. It fills what is left of a page, also beside glue whose stretch is fil.
+/// The glue of a clear, TeX's \vfill: width 0sp, stretch 1fill (65536), no shrink. It fills what is left of a page, also
+/// beside glue whose stretch is fil (plain.tex, \bye and \dosupereject).
 pub fn clearing_glue() -> Glue
     ensures { result ≡ clearing_glue }
 {
