@@ -1,6 +1,6 @@
 #!/usr/bin/env bash
 # Runs the program over ends that fail: a pipe that nobody reads, a full device, a directory, ends that are closed. Prints the
-# status of each run, and fails where a status, the line on standard error or what was written is not what docs/FORMATS.md says.
+# status of each run, and fails if a status, the line on standard error or what was written is not what docs/FORMATS.md says.
 # bench/failing_ends.sh [PROGRAM]   default crates/galley_pages/out/galley_pages, as `rt run` leaves it
 set -eu
 top=$(cd "$(dirname "$0")/.." && pwd)
@@ -38,7 +38,7 @@ expect() {
   fi
 }
 
-# whole INPUT WORDS..: what the mode writes where nothing fails. run WORDS..: a run whose status is kept.
+# whole INPUT WORDS..: what the mode writes if nothing fails. run WORDS..: a run whose status is kept.
 whole() {
   local input=$1
   shift
@@ -74,11 +74,11 @@ fail_input() {
 
 "$program" --mode dvi < "$galley" > "$work/dvi"
 
-for mode in report trace print dvi; do fail_output "$mode" "$galley"; done
+for mode in report trace print dvi plain; do fail_output "$mode" "$galley"; done
 fail_output lines "$text"
 fail_output dvilist "$work/dvi"
 fail_output gen /dev/null
-for mode in report trace print lines dvi dvilist; do fail_input "$mode"; done
+for mode in report trace print lines dvi dvilist plain; do fail_input "$mode"; done
 
 whole /dev/null --mode gen
 run --mode gen <&- > "$work/out" 2> "$work/err"
@@ -88,7 +88,7 @@ whole "$work/long"
 { run < "$work/long" 2> "$work/err"; } | head -c 100 > "$work/out"
 expect 'report into a pipe whose reader stops' 9 'write fault'
 
-# Where standard error fails the status stays.
+# If standard error fails the status stays.
 whole "$work/no-galley"
 run < "$work/no-galley" > "$work/out" 2>&-
 expect 'no galley with a closed error' 3 ''

@@ -1,30 +1,23 @@
 #!/usr/bin/env bash
 # Makes each allocation of a whole run of the program fail in turn, for galleys with footnotes, double floats, marginal
-# notes and floats, and in each mode, and prints how many of these runs ended as they may, as 'N of M': Done with all that
-# is written if none fails, or Memory (10) with a prefix of that, and on standard error the line that says so. Fails if N
-# is less than M. Nothing is proved.
+# notes and floats, and in each mode but dvilist, and prints how many of these runs ended as they may, as 'N of M': Done
+# with all that is written if none fails, or Memory (10) with a prefix of that, and on standard error the line that says so,
+# which is missing only while the words of the command line are collected. Fails if N is less than M. Nothing is proved.
 #
 # usage: bench/failing_memory.sh
-#
-# `rt try --fail-alloc N` builds the program for one N. So the program that it builds is kept by a link, and N is changed in
-# it for each run.
 set -euo pipefail
 
-crate=$(cd "$(dirname "${BASH_SOURCE[0]}")/../crates/galley_pages" && pwd)
+bench=$(cd "$(dirname "${BASH_SOURCE[0]}")" && pwd)
+crate=$(cd "$bench/../crates/galley_pages" && pwd)
 work=$(mktemp -d)
 trap 'rm -rf "$work"' EXIT
 
-python3 - "$crate" "$work" <<'PY'
-import glob
-import os
-import subprocess
+PYTHONDONTWRITEBYTECODE=1 PYTHONPATH=$bench python3 - "$crate" "$work" <<'PY'
 import sys
-import time
+
+from fail_alloc import ENDED, NUMBER, Build
 
 crate, work = sys.argv[1:]
-NUMBER = 0x7A5B3C1D  # no run makes as many allocations
-IN_CODE = NUMBER.to_bytes(4, "little")
-ENDED = 10  # so many runs without a failure: no allocation is left
 LINE = b"galley_pages: out of memory\n"
 
 PRELUDE = """galley 1
@@ -102,55 +95,27 @@ RUNS = [
 ]
 
 
-def program():
-    """Returns the bytes of the program, built so that allocation NUMBER fails."""
-    room, kept = f"{work}/build", f"{work}/kept"
-    os.mkdir(room)
-    words = ["rt", "try", "--fail-alloc", str(NUMBER)]
-    with open(f"{work}/said", "wb") as said, open(f"{crate}/stdin", "rb") as read:
-        built = subprocess.Popen(words, cwd=crate, env={**os.environ, "TMPDIR": room}, stdin=read, stdout=said, stderr=said)
-        while built.poll() is None:
-            for file in glob.glob(f"{room}/*/**/program*", recursive=True):
-                if not os.path.exists(kept) and os.path.isfile(file):
-                    os.link(file, kept)
-            time.sleep(0.02)
-    if not os.path.exists(kept):
-        sys.exit(open(f"{work}/said").read() + "the program was not built")
-    text = open(kept, "rb").read()
-    if IN_CODE not in text:
-        sys.exit("the number of the allocation is not found in the program")
-    return text
-
-
-def run(text, number, words, read):
-    """Runs the program on these words with its allocation of this number failing. Returns its status and what it wrote."""
-    file = f"{work}/program"
-    with open(file, "wb") as out:
-        out.write(text.replace(IN_CODE, number.to_bytes(4, "little")))
-    os.chmod(file, 0o700)
-    ran = subprocess.run([file, *words.split()], input=read.encode(), capture_output=True, timeout=60)
-    return ran.returncode, ran.stdout, ran.stderr
-
-
 def told(line):
     """Returns the lines of the program on standard error, to which the checked build adds its own."""
     return b"".join(it for it in line.splitlines(True) if it.startswith(b"galley_pages"))
 
 
-text = program()
+built = Build(crate, work, [], f"{crate}/stdin")
 failed = 0
 for name, words, read in RUNS:
-    status, report, line = run(text, NUMBER, words, read)
+    words, read = words.split(), read.encode()
+    status, report, line = built.run(NUMBER, words, read)
     if status or told(line):
-        sys.exit(f"{name}: status {status} where no allocation fails: {line.decode()}")
-    number, last, wrong = 0, 0, 0
+        sys.exit(f"{name}: status {status} if no allocation fails: {line.decode()}")
+    number, last, wrong, has_words = 0, 0, 0, False
     while number < last + ENDED:
         number += 1
-        status, out, line = run(text, number, words, read)
+        status, out, line = built.run(number, words, read)
         if status == 0 and out == report and not told(line):
             continue
         last = number
-        if status != 10 or not report.startswith(out) or told(line) not in (LINE, b""):
+        has_words = has_words or told(line) == LINE
+        if status != 10 or not report.startswith(out) or told(line) != (LINE if has_words else b""):
             wrong += 1
             print(f"{name}, allocation {number}: status {status}: {line.decode(errors='replace').strip()}")
     failed += wrong

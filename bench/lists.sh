@@ -2,9 +2,9 @@
 # Prints nanoseconds a node of what is done to each of a million nodes (push, iterate, find, pop), and nanoseconds a
 # call of what moves half of them to another list and back (cut in the middle, append).
 #
-# The program stands in bench/lists/, each file of the crate with .txt after its name: the gate refuses .rt and .antt
+# The program is in bench/lists/, each file of the crate with .txt after its name: the gate refuses .rt and .antt
 # files that are no part of a crate in crates/. So it is made in a repository of its own, over copies of the crates that
-# it measures. `rt run` builds what it proved and nothing else: the proof takes some minutes where `rt check` kept
+# it measures. `rt run` builds what it proved and nothing else: the proof takes some minutes if `rt check` kept
 # nothing, then the program runs for a second.
 set -euo pipefail
 
@@ -29,7 +29,7 @@ find . -name '*.txt' | while read -r file; do
   install -D -m 644 "$file" "$work/crates/bench_lists/${file%.txt}"
 done
 
-# rt tells of its proofs on standard error: that is shown only where there is no figure.
+# rt tells of its proofs on standard error: that is shown only if there is no figure.
 cd "$work/crates/bench_lists"
 if ! rt run > "$work/figures" 2> "$work/messages"; then
   cat "$work/messages" >&2

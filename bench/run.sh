@@ -1,7 +1,7 @@
 #!/usr/bin/env bash
 # Runs the program on the inputs of make_inputs.py and prints a table: the instructions (by valgrind), what a program without
 # proofs takes, the most memory (by GNU time), and how many times the instructions of half the input the whole takes. The
-# program is proved and built by LLVM first.
+# program is proved and built by LLVM first. It stops at a run that is refused.
 # bench/run.sh            all inputs
 # bench/run.sh text       one of them as a report, with the functions that cost most
 set -eu
@@ -17,7 +17,7 @@ program=$PWD/out/galley_pages
 million() {
   local input=$1
   shift
-  valgrind --tool=callgrind --callgrind-out-file="$work/calls" "$program" "$@" < "$input" 2> "$work/log" > "$work/out" || true
+  valgrind --tool=callgrind --callgrind-out-file="$work/calls" "$program" "$@" < "$input" 2> "$work/log" > "$work/out" || return
   awk '/refs:/ {gsub(",", "", $NF); printf "%.1f", $NF / 1e6}' "$work/log"
 }
 
@@ -25,17 +25,21 @@ million() {
 memory() {
   local input=$1
   shift
-  /usr/bin/time -f %M -o "$work/memory" "$@" < "$input" > "$work/out" 2> "$work/log" || true
+  /usr/bin/time -f %M -o "$work/memory" "$@" < "$input" > "$work/out" 2> "$work/log" || return
   awk '{printf "%.1f", $1 / 1024}' "$work/memory"
 }
 
 # row LABEL WITHOUT_PROOFS INPUT HALF WORDS..: a line of the table; a dash for no half
 row() {
-  local label=$1 without=$2 input=$3 half=$4 whole growth=-
+  local label=$1 without=$2 input=$3 half=$4 whole most growth=-
   shift 4
   whole=$(million "$input" "$@")
-  [ "$half" = - ] || growth=$(awk "BEGIN {printf \"%.2f\", $whole / $(million "$half" "$@")}")
-  printf '| %-32s | %8s | %6s | %5s | %8s | %6s |\n' "$label" "$whole" "$without" "$(awk "BEGIN {printf \"%.1f\", $whole / $without}")" "$(memory "$input" "$program" "$@")" "$growth"
+  most=$(memory "$input" "$program" "$@")
+  if [ "$half" != - ]; then
+    half=$(million "$half" "$@")
+    growth=$(awk "BEGIN {printf \"%.2f\", $whole / $half}")
+  fi
+  printf '| %-32s | %8s | %6s | %5s | %8s | %6s |\n' "$label" "$whole" "$without" "$(awk "BEGIN {printf \"%.1f\", $whole / $without}")" "$most" "$growth"
 }
 
 if [ $# -gt 0 ]; then

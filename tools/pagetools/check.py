@@ -13,7 +13,7 @@ from . import tries
 
 USAGE = """Runs tools/paginate on the paper in examples/document and on the documents of tools/documents that are
 installed, and prints how many of their pages are the same as LaTeX's: a table for tools/README.md. The exit status is 0
-where every page of the paper is the same, its stored report is what the program writes, and every document was
+if every page of the paper is the same, its stored report is what the program writes, and every document was
 paginated, without a change to what LaTeX weighs (one more run, without the exporter, shows that)."""
 
 TOOLS = os.path.dirname(os.path.dirname(os.path.abspath(__file__)))
@@ -51,7 +51,7 @@ def tree():
 
 
 def unpacked(document, root, folder):
-    """A copy of the document in the folder, with what stands beside it, since Debian packs sources; None where it is not
+    """A copy of the document in the folder, with what stands beside it, since Debian packs sources; None if it is not
     installed."""
     source = os.path.join(root, document.path)
     if not os.path.exists(source) and not os.path.exists(source + '.gz'):
@@ -109,7 +109,7 @@ def is_untouched(source, out, code, scratch, seconds):
 
 
 def stored_difference(program):
-    """'' where the program's report on the stored galley of the paper is the stored one, else what differs."""
+    """'' if the program's report on the stored galley of the paper is the stored one, else what differs."""
     with open(os.path.join(EXAMPLE, 'paper.galley'), 'rb') as galley:
         report = subprocess.run([program], stdin=galley, stdout=subprocess.PIPE, check=False).stdout
     with open(os.path.join(EXAMPLE, 'paper.report'), 'rb') as stored:
@@ -117,7 +117,7 @@ def stored_difference(program):
 
 
 def row(name, said):
-    """The cells of a document's row, None where it was not paginated."""
+    """The cells of a document's row, None if it was not paginated."""
     pages, places = PAGES.search(said), PLACES.search(said)
     if not pages or not places:
         return None

@@ -12,7 +12,7 @@ USAGE = """Compares the pages that LaTeX made of a document (NAME.pages, by gall
 galleys. A line for each page tells whether it agrees in its contents (the same boxes, rules, footnotes, floats and
 notes in the same order and column, floats in the same area), in the natural height and glue set of each column, and in
 every place; then come the totals and the first difference. Pages that the exporter put in are left out. The exit status
-is 0 where all agrees, 1 where anything differs, 2 where a file can't be read."""
+is 0 if all agrees, 1 if anything differs, 2 if a file can't be read."""
 
 # What no galley says and LaTeX's pages have otherwise: it takes no part in the comparison of contents and places.
 APART = ('mark', 'note', 'footrule')
@@ -75,7 +75,7 @@ def contents_difference(a, b):
 
 
 def place_difference(page, other):
-    """The first item that stands in another place, '' where none does."""
+    """The first item that is in another place, '' if none is."""
     for (number, item), (_, twin) in zip(
             (x for x in page.items() if x[1].kind not in APART), (x for x in other.items() if x[1].kind not in APART)):
         if (item.top, item.height, item.depth, item.number) != (twin.top, twin.height, twin.depth, twin.number):
@@ -180,7 +180,7 @@ def summary(name, comparison, columns, theirs):
 
 
 def warnings_line(log, warnings):
-    """The four warnings of the output routine, counted in LaTeX's log and in the reports; '' where they agree."""
+    """The four warnings of the output routine, counted in LaTeX's log and in the reports; '' if they agree."""
     with open(log, encoding='latin-1') as file:
         text = file.read()
     ours = Counter(warning.split()[0] for warning in warnings)

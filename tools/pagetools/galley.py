@@ -19,7 +19,7 @@ class Galley:
     entries: dict = field(default_factory=dict)     # (word, name) -> its entries in order
 
     def take(self, kind, name):
-        """The entry of the next item with this word and name, None where there is none left."""
+        """The entry of the next item with this word and name, None if there is none left."""
         found = self.entries.get((kind, name))
         return found.pop(0) if found else None
 

@@ -8,8 +8,8 @@ from . import report
 
 USAGE = """Compares every place that TeX's page builder weighed, as \\tracingpages writes it to the log (package option
 `trace'), with the `try' lines of the program's trace: total, stretch of each order, shrink, goal, badness, penalty, cost,
-and whether the place was the best so far; page by page, in order. The exit status is 0 where all agree, 1 where any
-differs, 2 where a file can't be read. TeX must not break the lines of its log (max_print_line=100000)."""
+and whether the place was the best so far; page by page, in order. The exit status is 0 if all agree, 1 if any
+differs, 2 if a file can't be read. TeX must not break the lines of its log (max_print_line=100000)."""
 
 # What galleyexport writes to the log: where \tracingpages begins, and each page.
 BEGIN, PAGE = 'galleyexport: trace', 'galleyexport: page '
@@ -81,7 +81,7 @@ def program_pages(paths):
 
 
 class Comparison:
-    """How many places agree, and the first page and place where they do not."""
+    """How many places agree, and the first page and place at which they do not."""
 
     def __init__(self, latex, program):
         self.rows = []                               # number of the page, TeX's places, agreeing ones, whether all do
