@@ -28,10 +28,15 @@ pub(crate) enum Op {
     Unknown,
     /// A rule; the place moves past it or stays.
     Rule { moves: bool },
+    /// It does nothing (nop).
     Idle,
+    /// A page begins (bop).
     Opens,
+    /// The page ends (eop).
     Closes,
+    /// The registers are pushed on the stack.
     Pushes,
+    /// The registers are popped from the stack.
     Pops,
     /// A move by the number in this many bytes, or by the register if there are none.
     Moves { slot: Slot, size: u8 },

@@ -40,7 +40,7 @@ pub(crate) struct Extent {
     pub rule: Option<i128>,
 }
 
-// A place down the page, if it has four bytes.
+// A place down the page, if it fits in four bytes.
 fn near(v: i128) -> Option<i32>
     ensures { result ≡ near v }
 {
@@ -67,7 +67,7 @@ fn sum_of_three(a: i64, b: i64, c: i64) -> i128
     i128::from(a) + i128::from(b) + i128::from(c)
 }
 
-// A place and a size below it, if that has four bytes. Past the bound no size brings it back.
+// A place and a size below it, if that fits in four bytes. Past the bound no size brings it back.
 #[tactic(auto, using(crate::proofs::NearLemmas::near_bounds))]
 fn near_by(top: i128, size: i128) -> Option<i32>
     requires low { negsuc 36893488147419103231 ≤ℤ size }

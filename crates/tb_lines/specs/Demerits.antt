@@ -13,7 +13,7 @@ use Rattle.tb_lines.specs.Entries.{line_between, penalty_at}
 abbrev pub no_sums : Sums
 no_sums = record { width = 0; stretch = 0; shrink = 0; fills = 0 }
 
--- the sums of one entry
+-- the sums of one item
 abbrev pub item_sums : Item → Sums
 item_sums (word w h d) = record { width = w; stretch = 0; shrink = 0; fills = 0 }
 item_sums (space w st sh) = record { width = w; stretch = st; shrink = sh; fills = 0 }

@@ -10,7 +10,7 @@ use Rattle.tb_lines.specs.declared.entries.Entry.TheVariants.{Item as item, Fill
 abbrev pub list_of : List Item → List Entry
 list_of items = map item items ++ item (penalty (pos 10000)) ∷ fill ∷ item (penalty (negsuc 9999)) ∷ []
 
--- the entry is a word
+-- the item is a word
 abbrev pub is_word_item : Item → Bool
 is_word_item (word w h d) = true
 is_word_item (space w st sh) = false

@@ -27,7 +27,7 @@ form_of parameters.BaselineSkip = forms.Dimension (pos 0)
 form_of parameters.LineSkip = forms.Dimension (pos 0)
 form_of parameters.ParSkip = forms.Dimension (pos 0)
 
--- no value of the form is below 0 or greater than 10000, if it is an integer
+-- the least dimension of the form is at least 0, or its greatest integer at most 10000
 abbrev pub IsForm : Form → Type 0
 IsForm (forms.Dimension low) = pos 0 ≤ℤ low
 IsForm (forms.Integer high) = high ≤ℤ pos 10000

@@ -6,7 +6,7 @@ use Rattle.tb_lines.specs.declared.table.Best.{Best}
 use Rattle.tb_lines.specs.LeastSolution.{sum_of_both}
 use Rattle.tb_lines.specs.SolutionLines.{step_demerits}
 
--- the total of a break; the start has 0
+-- the total of the best way to a break, if there is a way
 abbrev pub total_in : Option Best → Option ℤ
 total_in None = None
 total_in (Some b) = Some b.total

@@ -1,4 +1,4 @@
-//! The badness and the demerits of a line.
+//! The badness and the demerits of a line (TeX: The Program §851 to §859).
 ghost use Rattle.std.specs.Prelude.{◌≡◌, ◌≤◌, ◌≤ℤ◌, pos, IfSome, negsuc, Option};
 ghost use Rattle.tb_lines.specs.Demerits.{line_badness, badness_demerits, penalty_demerits, feasible_demerits, sums_demerits};
 

@@ -6,6 +6,7 @@ ghost use Rattle.tb_lines.specs.FieldReader.{size_left, name_left, header_left};
 use tb_galley::{At, Cause, Fields};
 use tb_node::{Name, name_of};
 
+// With a point and the number of a line it is still the name of a box, of at most 63 bytes.
 const MAX_NAME: usize = 58;
 
 /// The next field as a dimension in sp of at least `low`, which is not below 0; a lesser one has this cause.

@@ -61,7 +61,8 @@ fn refusal_of(fault: LinesFault) -> LinesRefusal
 }
 
 /// Reads a text, breaks its paragraphs into lines of least demerits, and writes the galley of the lines, which the grammar
-/// of galleys accepts. `At` and `NoBreaks` come exactly if the text has a fault, or a paragraph that no way breaks.
+/// of galleys accepts. `At` and `NoBreaks` come exactly if the text has a fault, or a paragraph that no way breaks; `Memory`
+/// comes if memory runs out.
 pub fn lines_galley(alloc: Global, bytes: &[u8]) -> Result<Vec<u8>, LinesRefusal>
     ensures galley { GivesGalley result (lines_galley bytes.now) }
     ensures accepted { IfOk result (λ galley. IsAccepted galley.items) }

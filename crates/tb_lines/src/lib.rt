@@ -32,8 +32,9 @@ pub use text::{Item, Items, LineParams, Paragraph, Paragraphs, Text};
 /// Why a text was not read.
 #[derive(Drop)]
 pub enum LinesFault {
-    /// The text's first fault. What is wrong with a line as a whole is at its field 0, what is wrong with the whole text
-    /// at field 0 of the line after its last, and `InputSize` at line 0.
+    /// The text's first fault. `LineLength` is at field 0, what is wrong with a line's word or its place among the lines at
+    /// field 1, what is wrong with the end of the text at field 0 of the line after its last, and `InputSize` at line 0,
+    /// field 0.
     At {
         /// The number of the line.
         line: u32,

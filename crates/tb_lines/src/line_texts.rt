@@ -48,7 +48,7 @@ fn put_glue(out: &mut Vec<u8>, width: u32) -> Result<(), AllocError>
     put(out, FIXED)
 }
 
-// The glue between a line and the one before it.
+// The glue between a line and the one before it, in sp (TeX: The Program §679).
 fn interline(params: &LineParams, above: u32, height: u32) -> u32
     ensures { result ≡ interline params.now above height }
 {
@@ -60,7 +60,7 @@ fn interline(params: &LineParams, above: u32, height: u32) -> u32
     }
 }
 
-// The penalty after a line.
+// The penalty after a line (TeX: The Program §890).
 fn penalty_after(params: &LineParams, number: usize, count: usize) -> u64
     requires { number < 2 ^ 63 }
     ensures { result ≡ penalty_after params.now number count }
@@ -268,7 +268,8 @@ fn put_paragraphs(
     Ok(())
 }
 
-/// The galley of the lines of a text, given the least solution of each paragraph, in order.
+/// The galley of the lines of a text, given the least solution of each paragraph, in order. It fails only if memory runs
+/// out.
 #[tactic(auto, unfolding(crate::specs::LineText::line_text))]
 pub fn line_text(alloc: Global, text: &Text, solutions: &[Solution]) -> Result<Vec<u8>, AllocError>
     requires { AreLeast text.now.params text.now.paragraphs solutions.now }

@@ -145,7 +145,7 @@ fn break_items(
 
 /// The least solution of a text's paragraph, counted from 0: of all ways to break it into feasible lines the one of least
 /// total demerits, and of several such ways the one whose breaks, read from the last, are lexicographically greatest.
-/// `None` exactly if no way is feasible.
+/// `None` exactly if no way is feasible. It fails only if memory runs out.
 pub fn break_par(alloc: Global, text: &Text, n: usize) -> Result<Option<Solution>, AllocError>
     requires inside { n < length text.now.paragraphs }
     ensures { (p : ParagraphOf) → slice_get text.now.paragraphs n ≡ Option.Some p → IfOk result (λ o. MatchOption o (HasNone text.now.params (list_of p.items)) (λ s. IsLeastOf text.now.params p.items s)) }

@@ -37,7 +37,7 @@ pub struct LineParams {
     pub hsize: u32,
     /// The greatest badness of a line, at most 10000.
     pub tolerance: u32,
-    /// What each line costs at least, at most 10000.
+    /// What is added to the badness of each line before it is squared, at most 10000 (TeX: The Program §859).
     pub line_penalty: u32,
     /// The penalty after a paragraph's first line, at most 5000.
     pub club_penalty: u32,

@@ -77,7 +77,7 @@ pub enum MakeupEnding {
     NodeLimit { count: u64 },
 }
 
-// The penalty that ends the last page (plain.tex, \bye).
+// The penalty that ends the last page (TeX: The Program §1054).
 const LAST_PENALTY: i64 = -1_073_741_824;
 
 // The class of top floats and that of the footnotes.
@@ -112,7 +112,7 @@ fn makeup_ask(p: &Params) -> Ask
 }
 
 impl Makeup {
-    /// All nodes of a galley wait for its first page.
+    /// All nodes of a galley wait for its first page. It fails only if memory runs out.
     pub fn new(alloc: Global, galley: &Galley) -> Result<Self, AllocError>
         requires params { AreRunParams galley.now.params }
         requires items { AreItems (makeup_classes galley.now.params) galley.now.items }
@@ -285,7 +285,7 @@ impl Makeup {
         Ok(None)
     }
 
-    // Appends what ends a page that has a node to the waiting nodes (plain.tex, \bye).
+    // Appends what ends a page that has a node to the waiting nodes (TeX: The Program §1054).
     fn eject(&mut self) -> Result<(), AllocError>
         requires sound { IsSound self.old.builder self.old.store }
         requires over { (held_in self.old).waiting ≡ [] }

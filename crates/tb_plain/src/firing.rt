@@ -198,7 +198,7 @@ fn push_above_feet(store: &mut Lists<Node>, p: &Params, list: ListId, void: bool
     push_rule(store, list, p.skipfootins);
 }
 
-// At a ragged bottom a kern backs up over the depth of the text, and glue stretches (plain.tex, \raggedbottom).
+// At a ragged bottom a kern backs up over the depth of the text, and glue stretches (plain.tex, \pagecontents).
 fn push_end(store: &mut Lists<Node>, p: &Params, list: ListId, depth: i64)
     requires live { IsLive store.old list }
     requires room { 2 ≤ store.old.spare }

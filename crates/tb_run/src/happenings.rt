@@ -49,7 +49,7 @@ pub(crate) fn note_try(
     Ok(())
 }
 
-/// Appends what the output routine sent.
+/// Appends what the output routine sent. It fails only if memory runs out.
 pub fn note_sent(happened: &mut Vec<Happening>, sent: Sent) -> Result<(), AllocError>
     ensures { OnOk result (happened.new.items ≡ happened.old.items ++ Happening.Sent sent ∷ []) }
 {

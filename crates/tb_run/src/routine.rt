@@ -93,7 +93,7 @@ fn line_of(act: &Act) -> u32
 }
 
 impl Routine {
-    /// All nodes of a galley wait for its first page.
+    /// All nodes of a galley wait for its first page. It fails only if memory runs out.
     pub fn new(alloc: Global, galley: &Galley) -> Result<Self, AllocError>
         requires params { AreRunnable galley.now.params }
         requires classes { AreRunClasses (classes_of galley.now) }

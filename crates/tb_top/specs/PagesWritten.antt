@@ -27,7 +27,7 @@ write_fault outputs.Memory = faults.Memory
 abbrev pub last_lines : Routine → Totals → List ℕ
 last_lines r t = end_lines (plain_list r.store r.builder.page) t
 
--- the refusal of a fault of the output routine's machine; it is none if memory ran out
+-- the refusal of a fault of the output routine's machine
 abbrev pub IsFaultRefusal : RunFault → PageFault → Type 0
 IsFaultRefusal (refused.DeadCycles n) f = f ≡ faults.DeadCycles n
 IsFaultRefusal (refused.PageLimit n) f = f ≡ faults.PageLimit n

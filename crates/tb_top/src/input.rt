@@ -65,8 +65,9 @@ impl Input for Vec<u8> {
 
 const PIECE: usize = 4096;
 
-/// Reads into an empty input, to the end or until more bytes than an input may have were taken, and not a piece later.
-/// Whatever it returns, no more was taken.
+/// Reads pieces of at most 4096 bytes into an empty input, to the end of the source or up to the piece with which more than
+/// 8388608 bytes were taken; whatever it returns, no more was taken. It fails if the source fails or memory runs out, and
+/// what `input` holds is open then.
 pub fn read_input<S: Source, I: Input>(source: &mut S, input: &mut I) -> Result<(), InputFault>
     requires { I.holds input.old [] }
     ensures read { OnOk result (HasRead I.holds (S.left source.old) (S.left source.new) input.new) }

@@ -12,14 +12,16 @@ pub fn runs_are_defined()
     ensures reasons { EndsHaveReasons }
 {}
 
-/// Floats keep the limits: when a float without the mark `!` is placed, the floats of its area and its own height are less
-/// than the area's share, and its area, and the text with both areas, hold fewer floats than they may.
+/// Floats keep the limits, however the run of a valid galley ends. When a float without the mark `!` is placed at the top,
+/// at the bottom or above both columns, fewer floats are there than may be, and these with their separators and its height
+/// are less than the area's share. When one is placed in the text, at the top or at the bottom, these three together have
+/// fewer floats than `totalnumber`.
 pub fn floats_keep_the_limits()
     ensures { LimitsHold }
 {}
 
-/// The float lists are emptied: at each change of columns and at the end of a run all seven lists of floats are empty, for
-/// every valid galley and every end.
+/// The float lists are emptied: all seven are empty at each change of columns, however the run of a valid galley ends, and
+/// at its end if it ends well.
 pub fn lists_are_emptied()
     ensures { ListsAreEmptied }
 {}

@@ -1,7 +1,8 @@
-//! From words and a galley to its report, its trace or its canonical text.
+//! From words and an input to what is written: a report, a trace, a canonical text, a galley of lines, a DVI file or its
+//! listing, or a line of totals.
 //!
-//! [`run`] is the whole program over any ends: it reads the words and a galley, makes its pages by
-//! [`paginate`] and writes what the mode asks for, or says on `err` why not.
+//! [`run`] is the whole program over any ends: it reads the words and the input, makes the pages of a galley by [`paginate`]
+//! or [`paginate_plain`] and writes what the mode asks for, or says on `err` why not.
 #![tactic(auto)]
 
 mod dvi_listing;
@@ -35,7 +36,7 @@ pub use top::run;
 pub enum View {
     /// The report: the header, the warnings and the pages, and what is left at the end.
     Report,
-    /// The report, and before what it causes a line for each place that was tried.
+    /// The report, with a line for each place that was tried before what that place causes.
     Trace,
     /// Nothing, for callers that want the totals alone.
     Silent,
@@ -44,7 +45,7 @@ pub enum View {
 /// Why a run or its writing stopped.
 #[derive(Clone, Copy, Debug, PartialEq, Eq)]
 pub enum PageFault {
-    /// A float or marginal note of this line was taken while this many boxes were live.
+    /// The float or marginal note of this line was to be taken, and this many boxes were live, as many as may be.
     PoolFull { line: u32, live: u64 },
     /// The page fired after this many firings without a page.
     DeadCycles { count: u64 },

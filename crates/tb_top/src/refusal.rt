@@ -23,7 +23,7 @@ pub enum Refusal {
     Words(WordsFault),
     /// The input was not read.
     Input(InputFault),
-    /// What was read is no galley.
+    /// What was read is no galley, or is a DVI file that is too long.
     Galley(GalleyFault),
     /// The pages stopped before their end.
     Pages(PageFault),

@@ -5,15 +5,15 @@ ghost use Rattle.tb_top.specs.Status.{code_of};
 /// How a run ended. Each status but `Done` has one line on `err`.
 #[derive(Clone, Copy, Debug, PartialEq, Eq)]
 pub enum Status {
-    /// The input was read to its end, is a galley, and its report was written.
+    /// What the words ask for was done: the input was read to its end (in gen mode none is), and all was written.
     Done,
     /// The words after the program's name are refused. Nothing was read.
     Words,
-    /// The galley's first fault is one of syntax.
+    /// The first fault of the galley or text is one of syntax.
     Syntax,
-    /// The galley's first fault is one of range, or the input is too long.
+    /// The first fault of the galley or text is one of range, or the input is too long.
     Range,
-    /// A float or marginal note was taken while the float pool was full.
+    /// A float or marginal note was to be taken, and the float pool was full.
     PoolFull,
     /// The page fired, but `maxdeadcycles` allows no more firings without a page.
     DeadCycles,
@@ -21,7 +21,7 @@ pub enum Status {
     PageLimit,
     /// The source failed.
     ReadFault,
-    /// The sink of the report failed.
+    /// The sink of what is written failed.
     WriteFault,
     /// There was no memory.
     Memory,

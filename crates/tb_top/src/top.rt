@@ -21,9 +21,9 @@ use tb_lines::lines_galley;
 use tb_words::{Mode, read_words};
 
 /// Does what the words ask for: reads a galley from `source` and writes its report, its report with the places that were
-/// tried, its report under plain TeX's page makeup, its canonical text or the DVI file of its pages to `out`, or reads a
-/// text of paragraphs and writes the galley of their lines, or reads a DVI file and writes what its pages show, or says on
-/// `err` why not.
+/// tried, its report under plain TeX's page makeup, its canonical text or the DVI file of its pages to `out`; or reads a text
+/// of paragraphs and writes the galley of their lines; or reads a DVI file and writes what its pages show; or runs a
+/// generated galley and writes its totals. If it cannot, it says on `err` why not.
 ///
 /// `words` are the program's name and the words after it; an empty list is read as the name alone. They are read by one
 /// command of `clap`, as [`tb_words`] says. The whole galley is read and parsed before anything is written, in pieces of at
@@ -31,12 +31,12 @@ use tb_words::{Mode, read_words};
 /// whatever is returned. Each status but `Done` writes one line to `err`, after all else; if `err` fails the status stays,
 /// and if there is no memory for the line it becomes `Memory`.
 ///
-/// After `Done` in report, trace or dvi mode the run of the galley kept the laws of whole runs: each box, rule, float and note
+/// After `Done` in report, trace, dvi or gen mode the run of the galley kept the laws of whole runs: each box, rule, float and note
 /// shipped once, the text in its order, and the floats of each class (in release 2014 of each class and width) in theirs, but
 /// for those that a break carried; no float without `!` was placed past the limits of its area, and all float lists were
 /// empty at each change of columns and at the end. The DVI file of the run, if each page is in range and it has at most
 /// 8388608 bytes, lists exactly the placements of the run, page by page. `DeadCycles` comes only if `maxdeadcycles` is less
-/// than sixteen and four for each float, marginal note, clearpage, onecolumn and twocolumn.
+/// than 16 plus 4 for each float, marginal note, clearpage, onecolumn and twocolumn.
 /// After `Done` in plain mode each box, rule and float shipped once, and the text in its order; `Unsuited` comes exactly if an
 /// item of the galley is not served there.
 pub fn run<S: Source, K: Sink, E: Sink>(

@@ -58,7 +58,7 @@ fn writes_tries(rt: HostRuntime) -> Result<(), Fail> {
             (10, 10, none, 10_000, -10_001, -10_001, true),
             b"try 10 t 10 s 0 0 0 0 z 0 g 30 b 10000 p -10001 c -10001 #\n",
         ),
-        // A place past the goal.
+        // A place before the goal, and one past it.
         (
             (19, 24, none, 10_000, 0, 100_000, true),
             b"try 19 t 24 s 0 0 0 0 z 0 g 30 b 10000 p 0 c 100000 #\n",

@@ -205,7 +205,7 @@ fn checksum(sum: u64, text: &[u8]) -> u64 {
 #[test]
 fn lists_each_changed_byte(rt: HostRuntime) -> Result<(), Fail> {
     let alloc = rt.alloc();
-    // Another program computed the sum; it reads a file in one loop over all that it may hold.
+    // The lister of bench/dvi_changes.py, which shares no code with this one, gives this sum for the same changes.
     let mut file = Vec::from_slice(alloc, THREE_BOXES)?;
     let mut sum = 0;
     for place in 0..file.len() {

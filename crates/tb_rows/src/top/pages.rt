@@ -1,4 +1,4 @@
-// Both views of one run.
+// Two views of one run.
 use std::test::Fail;
 use tb_galley::parse;
 use tb_io::SureSink;
